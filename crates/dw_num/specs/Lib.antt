@@ -1,0 +1,10 @@
+pub mod Codes
+pub mod Target
+pub mod Input
+pub mod Fixed
+pub mod Leb
+pub mod Reading
+pub mod Scan
+pub mod Writing
+pub mod Span
+pub mod Shortest

@@ -1,0 +1,331 @@
+//! Reading numbers from a slice, from its front on.
+
+ghost use Rattle.std.specs.Prelude.{◌≡◌, ℕ, ℤ, ◌+◌, ◌<◌, ◌≤◌, ◌^◌, List, [], ◌∷◌, ◌++◌, length, IfOk};
+ghost use Rattle.byteorder.specs.Endian.{big_number, little_number};
+ghost use Rattle.dw_num.specs.Input.{Input, AreBytes, Takes, behind};
+ghost use Rattle.dw_num.specs.Fixed.{Address, Fixed, IsWidth, SpellsLength, fixed_number};
+ghost use Rattle.dw_num.specs.Leb.{Register, Sleb, Uleb};
+ghost use Rattle.dw_num.specs.Reading.{Reads, fixed_at, take_at, register_at, uleb_at, sleb_at, address_at, unit_length_at};
+
+use crate::leb::{SlebScan, UlebScan, scan_sleb, scan_uleb};
+use crate::refusal::{Code, Refusal};
+use crate::target::{Form, Order, Size, Target, UnitLength};
+use byteorder::{BigEndian, ByteOrder, LittleEndian};
+use std::marker::Model;
+
+// The greatest number of a register.
+const LAST_REGISTER: u64 = 65_535;
+
+/// A law: the items of a slice of bytes are below 256, which a contract does not see of a list.
+pub fn are_bytes(bytes: &[u8])
+    ensures { AreBytes bytes.now }
+{
+    let _ = bytes;
+}
+
+fn little_in(bytes: &[u8], n: usize) -> u64
+    requires some { 1 ≤ n }
+    requires most { n ≤ 8 }
+    requires room { n ≤ length bytes.now }
+    ensures { result ≡ little_number n bytes.now }
+{
+    match n {
+        4 => u64::from(LittleEndian::read_u32(bytes)),
+        8 => LittleEndian::read_u64(bytes),
+        _ => LittleEndian::read_uint(bytes, n),
+    }
+}
+
+fn big_in(bytes: &[u8], n: usize) -> u64
+    requires some { 1 ≤ n }
+    requires most { n ≤ 8 }
+    requires room { n ≤ length bytes.now }
+    ensures { result ≡ big_number n bytes.now }
+{
+    match n {
+        4 => u64::from(BigEndian::read_u32(bytes)),
+        8 => BigEndian::read_u64(bytes),
+        _ => BigEndian::read_uint(bytes, n),
+    }
+}
+
+// The number that the first n bytes spell.
+fn number_in(order: Order, bytes: &[u8], n: usize) -> u64
+    requires some { 1 ≤ n }
+    requires most { n ≤ 8 }
+    requires room { n ≤ length bytes.now }
+    ensures { result ≡ fixed_number order n bytes.now }
+{
+    match order {
+        Order::Little => little_in(bytes, n),
+        Order::Big => big_in(bytes, n),
+    }
+}
+
+/// A slice of a section that is read from its front on. A contract sees the bytes that are left, where in the
+/// section they begin, and the target.
+///
+/// A read that is refused leaves the cursor as it was. No call takes memory.
+#[derive(Drop)]
+pub struct Cursor<'a> {
+    bytes: &'a [u8],
+    at: u64,
+    target: Target,
+}
+
+impl<'a> Model for Cursor<'a> {
+    ghost use Rattle.std.specs.Prelude.{◌+◌, ◌<◌, ◌^◌, length};
+    ghost use Rattle.dw_num.specs.Input.{Input};
+
+    ghost Value = { Input };
+
+    ghost view = { λ c. record { at = c.at; bytes = c.bytes.now; target = c.target } };
+
+    ghost invariant = { λ c. c.at + length c.bytes.now < 2 ^ 63 };
+}
+
+impl<'a> Cursor<'a> {
+    /// A cursor at the front of a slice that stands at `base` in the section. Their sum is below 2^63.
+    pub fn new(bytes: &'a [u8], base: u64, target: Target) -> Cursor<'a>
+        requires { base + length bytes.now < 2 ^ 63 }
+        ensures { result ≡ record { at = base; bytes = bytes.entry.now; target = target } }
+    {
+        Cursor {
+            bytes,
+            at: base,
+            target,
+        }
+    }
+
+    /// The place of the next byte: the base, and what was read.
+    pub fn at(&self) -> u64
+        ensures place { result ≡ self.now.at }
+        ensures bounded { self.now.at + length self.now.bytes < 2 ^ 63 }
+    {
+        self.at
+    }
+
+    /// How many bytes are left.
+    pub fn left(&self) -> usize
+        ensures { result ≡ length self.now.bytes }
+    {
+        self.bytes.len()
+    }
+
+    /// What the section is for.
+    pub fn target(&self) -> Target
+        ensures { result ≡ self.now.target }
+    {
+        self.target
+    }
+
+    /// All that is left.
+    pub fn rest(&self) -> &'a [u8]
+        ensures { result.now ≡ self.now.bytes }
+    {
+        self.bytes
+    }
+
+    /// The next `n` bytes. `Truncated` at the first of them where fewer are left.
+    #[tactic(auto, unfolding(crate::specs::Reading::take_at))]
+    pub fn take(&mut self, n: usize) -> Result<&'a [u8], Refusal>
+        ensures found { IfOk result (λ s. (length s.now ≡ n) × Takes self.old s.now self.new) }
+        ensures exact { Reads (λ s. s.now) result self.old (take_at n self.old) self.new }
+    {
+        if self.bytes.len() < n {
+            return Err(self.refuse(Code::Truncated));
+        }
+        let (front, rest) = self.bytes.split_at(n);
+        self.bytes = rest;
+        self.at += n as u64;
+        Ok(front)
+    }
+
+    #[tactic(auto, unfolding(crate::specs::Reading::fixed_at))]
+    fn read_fixed(&mut self, n: usize) -> Result<u64, Refusal>
+        requires { IsWidth n }
+        ensures { Reads (λ v. v) result self.old (fixed_at n self.old) self.new }
+    {
+        if self.bytes.len() < n {
+            return Err(self.refuse(Code::Truncated));
+        }
+        let number = number_in(self.target.order, self.bytes, n);
+        self.pass(n);
+        Ok(number)
+    }
+
+    /// The next byte. `Truncated` at its place where there is none.
+    #[tactic(auto, using(crate::proofs::FixedLaws::one_byte), unfolding(crate::specs::Reading::fixed_at, crate::specs::Reading::take_at))]
+    pub fn byte(&mut self) -> Result<u8, Refusal>
+        ensures found { IfOk result (λ b. Takes self.old (b ∷ []) self.new) }
+        ensures exact { Reads (λ b. b) result self.old (fixed_at 1 self.old) self.new }
+    {
+        let byte = self.take(1)?;
+        Ok(byte[0])
+    }
+
+    /// The number that the next `n` bytes are, 1, 2, 4 or 8 of them, in the target's order (7.5). `Truncated`
+    /// at the first of them where fewer are left.
+    pub fn fixed(&mut self, n: usize) -> Result<u64, Refusal>
+        requires { IsWidth n }
+        ensures found { IfOk result (λ v. (b : List ℕ) × Fixed self.old.target.order n v b × Takes self.old b self.new) }
+        ensures only { (v : ℕ) (b rest : List ℕ) → Fixed self.old.target.order n v b → self.old.bytes ≡ b ++ rest → result ≡ Ok v }
+        ensures exact { Reads (λ v. v) result self.old (fixed_at n self.old) self.new }
+    {
+        are_bytes(self.bytes);
+        self.read_fixed(n)
+    }
+
+    // Goes on by bytes that are there.
+    fn pass(&mut self, n: usize)
+        requires { n ≤ length self.old.bytes }
+        ensures { self.new ≡ behind n self.old }
+    {
+        self.bytes = &self.bytes[n..];
+        self.at += n as u64;
+    }
+
+    #[tactic(auto, unfolding(crate::specs::Reading::uleb_at))]
+    fn read_uleb(&mut self) -> Result<u64, Refusal>
+        ensures { Reads (λ v. v) result self.old (uleb_at self.old) self.new }
+    {
+        match scan_uleb(self.bytes) {
+            UlebScan::Number(value, len) => {
+                self.pass(len);
+                Ok(value)
+            }
+            UlebScan::TooLarge => Err(self.refuse(Code::NumberTooLarge)),
+            UlebScan::Endless => Err(self.refuse(Code::Truncated)),
+        }
+    }
+
+    #[tactic(auto, unfolding(crate::specs::Reading::address_at))]
+    fn read_address(&mut self) -> Result<u64, Refusal>
+        ensures { Reads (λ v. v) result self.old (address_at self.old) self.new }
+    {
+        match self.target.size {
+            Size::Four => self.read_fixed(4),
+            Size::Eight => self.read_fixed(8),
+        }
+    }
+
+    /// An address, as wide as the target's. `Truncated` at its first byte where fewer bytes are left.
+    pub fn address(&mut self) -> Result<u64, Refusal>
+        ensures found { IfOk result (λ v. (b : List ℕ) × Address self.old.target v b × Takes self.old b self.new) }
+        ensures only { (v : ℕ) (b rest : List ℕ) → Address self.old.target v b → self.old.bytes ≡ b ++ rest → result ≡ Ok v }
+        ensures exact { Reads (λ v. v) result self.old (address_at self.old) self.new }
+    {
+        are_bytes(self.bytes);
+        self.read_address()
+    }
+
+    fn refuse(&self, code: Code) -> Refusal
+        ensures { result ≡ record { code = code; at = self.now.at } }
+    {
+        Refusal { code, at: self.at }
+    }
+
+    #[tactic(auto, unfolding(crate::specs::Reading::unit_length_at))]
+    fn read_unit_length(&mut self) -> Result<UnitLength, Refusal>
+        ensures { Reads (λ v. v) result self.old (unit_length_at self.old) self.new }
+    {
+        if self.bytes.len() < 4 {
+            return Err(self.refuse(Code::Truncated));
+        }
+        let length = number_in(self.target.order, self.bytes, 4);
+        if length < 0xffff_fff0 {
+            self.pass(4);
+            return Ok(UnitLength {
+                form: Form::Dwarf32,
+                length,
+            });
+        }
+        if length != 0xffff_ffff {
+            return Err(self.refuse(Code::ReservedLength));
+        }
+        if self.bytes.len() < 12 {
+            return Err(self.refuse(Code::Truncated));
+        }
+        let length = number_in(self.target.order, &self.bytes[4..], 8);
+        self.pass(12);
+        Ok(UnitLength {
+            form: Form::Dwarf64,
+            length,
+        })
+    }
+
+    /// The length at the front of an entry (7.4). `Truncated` at its first byte where it runs out, also behind
+    /// the four bytes that announce the 64-bit form; `ReservedLength` there from 0xfffffff0 to 0xfffffffe.
+    pub fn unit_length(&mut self) -> Result<UnitLength, Refusal>
+        ensures found { IfOk result (λ u. (b : List ℕ) × SpellsLength self.old.target.order u b × Takes self.old b self.new) }
+        ensures only { (u : UnitLength) (b rest : List ℕ) → SpellsLength self.old.target.order u b → self.old.bytes ≡ b ++ rest → result ≡ Ok u }
+        ensures exact { Reads (λ v. v) result self.old (unit_length_at self.old) self.new }
+    {
+        are_bytes(self.bytes);
+        self.read_unit_length()
+    }
+
+    /// An unsigned LEB128 number, of any number of bytes (7.6). `Truncated` at its first byte where it does
+    /// not end, `NumberTooLarge` there where it does not fit 64 bits.
+    pub fn uleb(&mut self) -> Result<u64, Refusal>
+        ensures found { IfOk result (λ v. (b : List ℕ) × Uleb v b × Takes self.old b self.new) }
+        ensures only { (v : ℕ) (b rest : List ℕ) → Uleb v b → self.old.bytes ≡ b ++ rest → result ≡ Ok v }
+        ensures exact { Reads (λ v. v) result self.old (uleb_at self.old) self.new }
+    {
+        are_bytes(self.bytes);
+        self.read_uleb()
+    }
+
+    #[tactic(auto, unfolding(crate::specs::Reading::register_at, crate::specs::Reading::uleb_at))]
+    fn read_register(&mut self) -> Result<u16, Refusal>
+        ensures { Reads (λ r. r) result self.old (register_at self.old) self.new }
+    {
+        match scan_uleb(self.bytes) {
+            UlebScan::Number(value, len) => {
+                if value > LAST_REGISTER {
+                    return Err(self.refuse(Code::RegisterTooLarge));
+                }
+                self.pass(len);
+                Ok(value as u16)
+            }
+            UlebScan::TooLarge => Err(self.refuse(Code::NumberTooLarge)),
+            UlebScan::Endless => Err(self.refuse(Code::Truncated)),
+        }
+    }
+
+    /// The number of a register, 0 to 65,535, as an unsigned LEB128 number. `RegisterTooLarge` at its first
+    /// byte above that, and the faults of `uleb`.
+    pub fn register(&mut self) -> Result<u16, Refusal>
+        ensures found { IfOk result (λ r. (b : List ℕ) × Register r b × Takes self.old b self.new) }
+        ensures only { (r : ℕ) (b rest : List ℕ) → Register r b → self.old.bytes ≡ b ++ rest → result ≡ Ok r }
+        ensures exact { Reads (λ r. r) result self.old (register_at self.old) self.new }
+    {
+        are_bytes(self.bytes);
+        self.read_register()
+    }
+
+    #[tactic(auto, unfolding(crate::specs::Reading::sleb_at))]
+    fn read_sleb(&mut self) -> Result<i64, Refusal>
+        ensures { Reads (λ v. v) result self.old (sleb_at self.old) self.new }
+    {
+        match scan_sleb(self.bytes) {
+            SlebScan::Number(value, len) => {
+                self.pass(len);
+                Ok(value)
+            }
+            SlebScan::TooLarge => Err(self.refuse(Code::NumberTooLarge)),
+            SlebScan::Endless => Err(self.refuse(Code::Truncated)),
+        }
+    }
+
+    /// A signed LEB128 number, of any number of bytes (7.6). `Truncated` at its first byte where it does not
+    /// end, `NumberTooLarge` there where it does not fit 64 signed bits.
+    pub fn sleb(&mut self) -> Result<i64, Refusal>
+        ensures found { IfOk result (λ v. (b : List ℕ) × Sleb v b × Takes self.old b self.new) }
+        ensures only { (v : ℤ) (b rest : List ℕ) → Sleb v b → self.old.bytes ≡ b ++ rest → result ≡ Ok v }
+        ensures exact { Reads (λ v. v) result self.old (sleb_at self.old) self.new }
+    {
+        are_bytes(self.bytes);
+        self.read_sleb()
+    }
+}

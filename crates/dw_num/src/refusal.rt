@@ -1,0 +1,142 @@
+//! Why a section is refused, and where.
+
+ghost use Rattle.std.specs.Prelude.{◌≡◌};
+ghost use Rattle.dw_num.specs.Codes.{number_of, name_of};
+
+/// What is wrong.
+#[derive(Clone, Copy, Debug, PartialEq, Eq)]
+pub enum Code {
+    /// A field runs out of its container; the place is the field's first byte.
+    Truncated,
+    /// A unit length from 0xfffffff0 to 0xfffffffe; the place is the length (7.4).
+    ReservedLength,
+    /// An entry's length passes the section's end; the place is the entry.
+    EntryPastEnd,
+    /// A CIE's version is none of 1, 3 and 4; the place is the version byte.
+    BadVersion,
+    /// A CIE's augmentation string is not empty; the place is the string.
+    Augmentation,
+    /// A CIE's address size is not the target's; the place is its byte.
+    AddressSize,
+    /// A CIE's segment selector size is not 0; the place is its byte.
+    SegmentSelector,
+    /// A LEB128 number ends but does not fit 64 bits; the place is its first byte (7.6).
+    NumberTooLarge,
+    /// A register above 65,535; the place is the operand.
+    RegisterTooLarge,
+    /// A CIE pointer names no CIE; the place is the pointer.
+    NoSuchCie,
+    /// An FDE's range passes the address space; the place is the range.
+    RangeTooLarge,
+    /// An opcode that is no call frame instruction's (7.24).
+    UnknownInstruction,
+    /// An instruction that a CIE's program may not hold; the place is its opcode.
+    NotInCie,
+    /// A set_loc below the current location; the place is its opcode.
+    LocationBackwards,
+    /// A location above the address space; the place is the opcode.
+    LocationTooLarge,
+    /// A restore_state with no remembered state; the place is its opcode.
+    EmptyStateStack,
+    /// The 65th state remembered at once; the place is its opcode.
+    StateStackFull,
+    /// Half a CFA rule where the CFA is not register and offset; the place is the opcode.
+    CfaNotRegister,
+    /// An offset outside -(2^63-1) to 2^63-1; the place is the instruction's opcode.
+    OffsetTooLarge,
+    /// An opcode that is no operation's (7.7.1).
+    UnknownOperation,
+    /// An operation that call frame expressions may not hold; the place is its opcode (6.4.2).
+    NotInFrame,
+    /// A branch that leads to no operation of its block; the place is its opcode.
+    BadBranch,
+    /// A deref_size of 0 or above the address size; the place is its operand.
+    BadDerefSize,
+    /// An FDE has a covered address without a CFA rule; the place is the FDE.
+    NoCfaRule,
+    /// Two FDEs cover one address; the place is the later FDE.
+    Overlap,
+    /// A section above 2,147,483,647 bytes; the place is 0.
+    SectionTooLarge,
+    /// A normal form above its cap; the place is 0.
+    NormalTooLong,
+}
+
+impl Code {
+    /// The refusal's number, 1 to 27.
+    pub fn number(self) -> u8
+        ensures { result ≡ number_of self }
+    {
+        match self {
+            Code::Truncated => 1,
+            Code::ReservedLength => 2,
+            Code::EntryPastEnd => 3,
+            Code::BadVersion => 4,
+            Code::Augmentation => 5,
+            Code::AddressSize => 6,
+            Code::SegmentSelector => 7,
+            Code::NumberTooLarge => 8,
+            Code::RegisterTooLarge => 9,
+            Code::NoSuchCie => 10,
+            Code::RangeTooLarge => 11,
+            Code::UnknownInstruction => 12,
+            Code::NotInCie => 13,
+            Code::LocationBackwards => 14,
+            Code::LocationTooLarge => 15,
+            Code::EmptyStateStack => 16,
+            Code::StateStackFull => 17,
+            Code::CfaNotRegister => 18,
+            Code::OffsetTooLarge => 19,
+            Code::UnknownOperation => 20,
+            Code::NotInFrame => 21,
+            Code::BadBranch => 22,
+            Code::BadDerefSize => 23,
+            Code::NoCfaRule => 24,
+            Code::Overlap => 25,
+            Code::SectionTooLarge => 26,
+            Code::NormalTooLong => 27,
+        }
+    }
+
+    /// The refusal's name, as the variant is written.
+    pub fn name(self) -> &'static str
+        ensures { result.now ≡ name_of self }
+    {
+        match self {
+            Code::Truncated => "Truncated",
+            Code::ReservedLength => "ReservedLength",
+            Code::EntryPastEnd => "EntryPastEnd",
+            Code::BadVersion => "BadVersion",
+            Code::Augmentation => "Augmentation",
+            Code::AddressSize => "AddressSize",
+            Code::SegmentSelector => "SegmentSelector",
+            Code::NumberTooLarge => "NumberTooLarge",
+            Code::RegisterTooLarge => "RegisterTooLarge",
+            Code::NoSuchCie => "NoSuchCie",
+            Code::RangeTooLarge => "RangeTooLarge",
+            Code::UnknownInstruction => "UnknownInstruction",
+            Code::NotInCie => "NotInCie",
+            Code::LocationBackwards => "LocationBackwards",
+            Code::LocationTooLarge => "LocationTooLarge",
+            Code::EmptyStateStack => "EmptyStateStack",
+            Code::StateStackFull => "StateStackFull",
+            Code::CfaNotRegister => "CfaNotRegister",
+            Code::OffsetTooLarge => "OffsetTooLarge",
+            Code::UnknownOperation => "UnknownOperation",
+            Code::NotInFrame => "NotInFrame",
+            Code::BadBranch => "BadBranch",
+            Code::BadDerefSize => "BadDerefSize",
+            Code::NoCfaRule => "NoCfaRule",
+            Code::Overlap => "Overlap",
+            Code::SectionTooLarge => "SectionTooLarge",
+            Code::NormalTooLong => "NormalTooLong",
+        }
+    }
+}
+
+/// A fault, and the byte that it is found at: a place in the section.
+#[derive(Clone, Copy, Debug, PartialEq, Eq)]
+pub struct Refusal {
+    pub code: Code,
+    pub at: u64,
+}

@@ -1,0 +1,158 @@
+-- Headers are read as they are spelled, and a section has at most one list of them.
+use Rattle.std.proofs.Common.{◌≡◌, ℕ, ◌+◌, List, [], ◌∷◌, ◌++◌, length, Result, Ok, Err, inl, inr, refl, sym, ap, subst, ◌∙◌, append_assoc, arith}
+use Rattle.std.specs.Prelude.{IfOk, IfErr, MatchResult}
+use Rattle.std.specs.List.{AllByRecursion, AllZip}
+use Rattle.std.proofs.lemmas.List.{append-nil, length-append}
+use Rattle.std.proofs.lemmas.List.Elements.{filter_map-append}
+use Rattle.dw_num.specs.declared.target.Target.{Target}
+use Rattle.dw_num.specs.declared.refusal.Refusal.{Refusal}
+use Rattle.dw_num.specs.Input.{Input, AreBytes, Takes}
+use Rattle.dw_num.specs.Span.{Span}
+use Rattle.dw_num.proofs.LebLaws.{done, ok_is}
+use Rattle.dw_num.proofs.FixedLaws.{taken_bytes}
+use Rattle.dw_section.specs.declared.cutting.Kind.TheVariants as kind
+use Rattle.dw_section.specs.declared.error.SectionError.{SectionError}
+use Rattle.dw_section.specs.declared.error.SectionError.TheVariants.{Refused, OutOfMemory}
+use Rattle.dw_section.specs.declared.fields.CieFields.{CieFields}
+use Rattle.dw_section.specs.declared.fields.FdeFields.{FdeFields}
+use Rattle.dw_section.specs.Cut.{Piece, id_width}
+use Rattle.dw_section.specs.Faults.{Refuses}
+use Rattle.dw_section.specs.Pieces.{Pieces}
+use Rattle.dw_section.specs.Places.{cie_places, Rises}
+use Rattle.dw_section.specs.Stage.{FirstStuck, Answers}
+use Rattle.dw_section.specs.Fields.{cie_fields_at, fde_fields_at}
+use Rattle.dw_section.specs.CieFields.{SpellsCie}
+use Rattle.dw_section.specs.Headers.{Head, cie_head, fde_head, IsCie, IsFde, Has, Headers, contents_of, program_of, cie_at, fde_at, CieHolds, CieStuck, FdeHolds, FdeStuck, HeadersFault}
+use Rattle.dw_section.proofs.FieldLaws.{cie_again, cie_found, fde_again, fde_found}
+use Rattle.dw_num.proofs.Steps.{Takes-then, take_again}
+use Rattle.dw_section.proofs.Items.{one_pieces, cut_or_pieces}
+use Rattle.dw_section.proofs.Places.{places_rise}
+use Rattle.dw_section.proofs.Stages.{none_stuck, all_push, all_from_zip, one_zip}
+
+-- ---- what is read has that header
+
+pub cie_reads : (target : Target) (p : Piece) (id : List ℕ) (i j : Input) (f : CieFields) → AreBytes p.contents.bytes → p.kind ≡ kind.Cie → length id ≡ id_width p.form
+    → Takes (contents_of target p) id i → cie_fields_at i ≡ done (f, j) → IsCie target p f (program_of j)
+cie_reads target p id i j f h is len t e =
+    let q = cie_found i j f (taken_bytes (contents_of target p) i id t h) e in
+    let all = Takes-then (contents_of target p) i j id q.0 t q.2 in
+    let spells = subst (λ (g : Target). SpellsCie g.size f q.0) t.target q.1 in
+    record { id = id; spelling = q.0; is_cie = is; id_is = len; spells = spells; whole = all.bytes ∙ append_assoc id q.0 j.bytes; place = all.at }
+
+pub cie_end : (target : Target) (p : Piece) (f : CieFields) (program : Span) → IsCie target p f program → program.at + length program.bytes ≡ p.contents.at + length p.contents.bytes
+cie_end target p f program is = omega (arith, is.place, ap length is.whole, length-append is.id (is.spelling ++ program.bytes), length-append is.spelling program.bytes, length-append is.id is.spelling)
+
+pub fde_reads : (target : Target) (places : List ℕ) (p : Piece) (j : Input) (f : FdeFields) → AreBytes p.contents.bytes → p.kind ≡ kind.Fde
+    → fde_fields_at places p.form (contents_of target p) ≡ done (f, j) → IsFde target places p f (program_of j)
+fde_reads target places p j f h is e =
+    let q = fde_found places p.form (contents_of target p) j f h e in
+    record { spelling = q.0; is_fde = is; spells = q.1; whole = q.2.bytes; place = q.2.at }
+
+pub fde_end : (target : Target) (places : List ℕ) (p : Piece) (f : FdeFields) (program : Span) → IsFde target places p f program → program.at + length program.bytes ≡ p.contents.at + length p.contents.bytes
+fde_end target places p f program is = omega (arith, is.place, ap length is.whole, length-append is.spelling program.bytes)
+
+-- ---- what has a header is read
+
+pub cie_at_again : (target : Target) (p : Piece) (f : CieFields) (program : Span) → IsCie target p f program → cie_at target p ≡ done (cie_head p f program)
+unfolding cie_at
+cie_at_again target p f program is =
+    let first = take_again (id_width p.form) p.contents.at target is.id (is.spelling ++ program.bytes) is.id_is in
+    let second = cie_again target f is.spelling is.spells (p.contents.at + length is.id) program.bytes in
+    let place : (p.contents.at + length is.id) + length is.spelling ≡ program.at = omega (arith, is.place, length-append is.id is.spelling) in
+    rw (is.whole, first, second, place) refl
+
+pub fde_at_again : (target : Target) (places : List ℕ) (p : Piece) (f : FdeFields) (program : Span) → IsFde target places p f program → fde_at target places p ≡ done (fde_head p f program)
+unfolding fde_at
+fde_at_again target places p f program is = rw (is.whole, fde_again target places p.form f is.spelling is.spells p.contents.at program.bytes, ← is.place) refl
+
+pub cie_apart : (target : Target) (p : Piece) (r : Refusal) → CieHolds target p → CieStuck target p r → ⊥
+cie_apart target p r h s = let q = h s.0 in let a = cie_at_again target p q.0 q.1 q.2 in let b = sym a ∙ s.1 in cc
+
+pub fde_apart : (target : Target) (places : List ℕ) (p : Piece) (r : Refusal) → FdeHolds target places p → FdeStuck target places p r → ⊥
+fde_apart target places p r h s = let q = h s.0 in let a = fde_at_again target places p q.0 q.1 q.2 in let b = sym a ∙ s.1 in cc
+
+pub has_cie : (target : Target) (places : List ℕ) (p : Piece) (h : Head) → Has target places p h → CieHolds target p
+has_cie target places p h (inl c) is = (c.0, c.1, c.2)
+has_cie target places p h (inr f) is = let a = f.2.is_fde in absurd cc
+
+pub has_fde : (target : Target) (places : List ℕ) (p : Piece) (h : Head) → Has target places p h → FdeHolds target places p
+has_fde target places p h (inl c) is = let a = c.2.is_cie in absurd cc
+has_fde target places p h (inr f) is = (f.0, f.1, f.2)
+
+pub has_one : (target : Target) (places : List ℕ) (p : Piece) (h k : Head) → Has target places p h → Has target places p k → h ≡ k
+has_one target places p h k (inl c) (inl d) = c.3 ∙ ok_is (cie_head p c.0 c.1) (cie_head p d.0 d.1) (sym (cie_at_again target p c.0 c.1 c.2) ∙ cie_at_again target p d.0 d.1 d.2) ∙ sym d.3
+has_one target places p h k (inl c) (inr d) = let a = c.2.is_cie in let b = d.2.is_fde in absurd cc
+has_one target places p h k (inr c) (inl d) = let a = c.2.is_fde in let b = d.2.is_cie in absurd cc
+has_one target places p h k (inr c) (inr d) = c.3 ∙ ok_is (fde_head p c.0 c.1) (fde_head p d.0 d.1) (sym (fde_at_again target places p c.0 c.1 c.2) ∙ fde_at_again target places p d.0 d.1 d.2) ∙ sym d.3
+
+-- ---- of a whole section
+
+pub one_headers : (target : Target) (s : List ℕ) (hs ks : List Head) → Headers target s hs → Headers target s ks → hs ≡ ks
+one_headers target s hs ks p q =
+    let same = one_pieces target s q.entries p.entries q.cut p.cut in
+    one_zip (Has target (cie_places p.entries)) (has_one target (cie_places p.entries)) p.entries hs ks p.each (subst (λ (ps : List Piece). AllZip (Has target (cie_places ps)) ps ks) same q.each)
+
+pub headers_hold : (target : Target) (s : List ℕ) (hs : List Head) (p : Headers target s hs) → AllByRecursion (CieHolds target) p.entries × AllByRecursion (FdeHolds target (cie_places p.entries)) p.entries
+headers_hold target s hs p =
+    let places = cie_places p.entries in (
+      all_from_zip (Has target places) (CieHolds target) (has_cie target places) p.entries hs p.each,
+      all_from_zip (Has target places) (FdeHolds target places) (has_fde target places) p.entries hs p.each,
+    )
+
+-- headers and a fault exclude each other
+pub fault_or_headers : (target : Target) (s : List ℕ) (r : Refusal) (hs : List Head) → HeadersFault target s r → Headers target s hs → ⊥
+fault_or_headers target s r hs (inl (inl cut)) p = cut_or_pieces target s r p.entries cut p.cut
+fault_or_headers target s r hs (inl (inr cies)) p =
+    let same = one_pieces target s cies.0 p.entries cies.1 p.cut in
+    none_stuck (CieHolds target) (CieStuck target) (cie_apart target) p.entries r (headers_hold target s hs p).0 (subst (λ (ps : List Piece). FirstStuck (CieHolds target) (CieStuck target) ps r) same cies.2)
+fault_or_headers target s r hs (inr fdes) p =
+    let same = one_pieces target s fdes.0 p.entries fdes.1.0 p.cut in
+    let places = cie_places p.entries in
+    none_stuck (FdeHolds target places) (FdeStuck target places) (fde_apart target places) p.entries r (headers_hold target s hs p).1
+    (subst (λ (ps : List Piece). FirstStuck (FdeHolds target (cie_places ps)) (FdeStuck target (cie_places ps)) ps r) same fdes.2)
+
+pub only_headers : {V : Type 0} (view : V → List Head) (target : Target) (s : List ℕ) (r : Result V SectionError) → IfOk r (λ v. Headers target s (view v)) → IfErr r (Refuses (HeadersFault target s))
+    → (hs : List Head) → Headers target s hs → MatchResult r (λ v. view v ≡ hs) (λ e. e ≡ OutOfMemory)
+only_headers view target s (Ok v) found first hs p = one_headers target s (view v) hs found p
+only_headers view target s (Err OutOfMemory) found first hs p = refl
+only_headers view target s (Err (Refused r)) found first hs p = absurd (fault_or_headers target s r hs first p)
+
+-- the places of a section's CIEs rise
+pub pieces_rise : (target : Target) (s : List ℕ) (ps : List Piece) → Pieces target s ps → Rises 0 (cie_places ps)
+pieces_rise target s ps p = subst (λ (qs : List Piece). Rises 0 (cie_places qs)) (sym p.are) (places_rise target.order 0 p.items)
+
+-- ---- the walk over CIEs
+
+-- what it knows: the CIEs so far hold, and these are their places
+pub record AreCies (target : Target) (ps : List Piece) (places : List ℕ) : Type 0 where
+  pub hold : AllByRecursion (CieHolds target) ps
+  pub are : places ≡ cie_places ps
+
+pub cies_more : (target : Target) (ps : List Piece) (places : List ℕ) (p : Piece) (h : Head) → AreCies target ps places → p.kind ≡ kind.Cie → Has target [] p h → AreCies target (ps ++ p ∷ []) (places ++ p.at ∷ [])
+cies_more target ps places p h w is has = record {
+  hold = all_push (CieHolds target) ps p w.hold (has_cie target [] p h has);
+  are = rw (filter_map-append, w.are, is) refl;
+}
+
+pub fdes_more : (target : Target) (ps : List Piece) (places : List ℕ) (p : Piece) → AreCies target ps places → p.kind ≡ kind.Fde → AreCies target (ps ++ p ∷ []) places
+fdes_more target ps places p w is = record {
+  hold = all_push (CieHolds target) ps p w.hold (λ e. absurd cc);
+  are = rw (filter_map-append, w.are, is) (sym (append-nil (cie_places ps)));
+}
+
+-- a CIE that holds is not refused
+pub cie_never : {X : Type 0} (view : X → Head) (target : Target) (p : Piece) (r : Result X Refusal) (Q : Refusal → Type 0) → CieHolds target p → p.kind ≡ kind.Cie → Answers view r (cie_at target p) → IfErr r Q
+cie_never view target p (Ok x) Q h is a = tt
+cie_never view target p (Err e) Q h is a = absurd (cie_apart target p e h (is, a))
+
+pub fdes_first : {V : Type 0} (target : Target) (s : List ℕ) (r : Result V SectionError) (ps qs rs : List Piece) (vs places : List ℕ) → Pieces target s ps → AllByRecursion (CieHolds target) qs → vs ≡ cie_places qs → qs ≡ ps → rs ≡ ps → places ≡ vs
+    → IfErr r (Refuses (FirstStuck (FdeHolds target places) (FdeStuck target places) rs)) → IfErr r (Refuses (HeadersFault target s))
+fdes_first target s (Ok v) ps qs rs vs places cut hold are q-is r-is p-is first = tt
+fdes_first target s (Err OutOfMemory) ps qs rs vs places cut hold are q-is r-is p-is first = tt
+fdes_first target s (Err (Refused e)) ps qs rs vs places cut hold are q-is r-is p-is first =
+    let places-is : places ≡ cie_places ps = p-is ∙ are ∙ ap cie_places q-is in
+    inr (
+      ps,
+      (cut, subst (AllByRecursion (CieHolds target)) q-is hold),
+      subst (λ (l : List ℕ). FirstStuck (FdeHolds target l) (FdeStuck target l) ps e) places-is (subst (λ (l : List Piece). FirstStuck (FdeHolds target places) (FdeStuck target places) l e) r-is first),
+    )

@@ -1,0 +1,241 @@
+-- An item at the front, and items in a row.
+use Rattle.std.proofs.Common.{eqb, false, inl, inr, ◌≡◌, ℕ, ◌+◌, add-zero, zero-add, ◌<◌, ◌≤◌, Result, Ok, Err, List, [], ◌∷◌, ◌++◌, length, map, Option, Some, None, refl, sym, ap, subst, ◌∙◌, append_assoc, arith}
+use Rattle.std.specs.List.{AllByRecursion}
+use Rattle.std.proofs.lemmas.List.{length-append, append-nil, map-append, nil_from_length, take_at, drop_at}
+use Rattle.std.proofs.lemmas.Bool.{le-ltb}
+use Rattle.std.proofs.lemmas.Bool.Decides.{eqb_tells}
+use Rattle.dw_num.proofs.FixedLaws.{length-fixed, unit_length_only}
+use Rattle.dw_num.specs.Fixed.{fixed_bytes}
+use Rattle.dw_num.proofs.LebLaws.{ok_is}
+use Rattle.dw_num.proofs.Steps.{Takes-then}
+use Rattle.dw_num.specs.declared.target.Form.{Form}
+use Rattle.dw_num.specs.declared.target.Target.{Target}
+use Rattle.dw_num.specs.declared.refusal.Refusal.{Refusal}
+use Rattle.std.specs.Prelude.{IfOk, IfErr, MatchResult}
+use Rattle.dw_section.specs.Pieces.{Pieces, Entries, entry_of}
+use Rattle.dw_section.specs.declared.cutting.Entry.{Entry}
+use Rattle.dw_section.specs.declared.error.SectionError.{SectionError}
+use Rattle.dw_section.specs.declared.error.SectionError.TheVariants.{Refused, OutOfMemory}
+use Rattle.dw_section.specs.declared.cutting.Kind.{Kind}
+use Rattle.dw_section.specs.Faults.{item_at, IsStuck, CutFault, Refuses}
+use Rattle.dw_num.specs.declared.target.Size.TheVariants.{Four}
+use Rattle.dw_num.specs.declared.target.Order.{Order}
+use Rattle.dw_num.specs.declared.target.Order.TheVariants.{Little, Big}
+use Rattle.dw_num.specs.declared.target.Form.TheVariants.{Dwarf32, Dwarf64}
+use Rattle.dw_num.specs.declared.target.UnitLength.{UnitLength}
+use Rattle.dw_num.specs.Input.{Input, Takes}
+use Rattle.dw_num.specs.Fixed.{SpellsLength, length_bytes}
+use Rattle.dw_section.specs.Cut.{Item, gap, entry, IsItem, item_bytes, is_cie, id_width, all_bytes, Piece, piece_of, with_some, pieces, Cut}
+
+gap_bytes : (order : Order) → length_bytes order Dwarf32 0 ≡ 0 ∷ 0 ∷ 0 ∷ 0 ∷ []
+gap_bytes Little = refl
+gap_bytes Big = refl
+
+pub gap_takes : (i j : Input) (u : UnitLength) (b : List ℕ) → SpellsLength i.target.order u b → Takes i b j → u.length ≡ 0 → u.form ≡ Dwarf32 → Takes i (item_bytes i.target.order gap) j
+gap_takes i j u b s t none is = subst (λ (c : List ℕ). Takes i c j) (s.bytes ∙ rw (is, none) (gap_bytes i.target.order)) t
+
+pub entry_takes : (i j k : Input) (u : UnitLength) (b body : List ℕ) → SpellsLength i.target.order u b → Takes i b j → length body ≡ u.length → Takes j body k → id_width u.form ≤ u.length
+    → IsItem (entry u.form body) × Takes i (item_bytes i.target.order (entry u.form body)) k
+entry_takes i j k u b body s t len q wide =
+    (rw len (s.fits, wide), rw (len, ← s.bytes) (Takes-then i j k b body t q))
+
+-- where the contents of an entry stand
+pub entry_placed : (i j : Input) (u : UnitLength) (b body : List ℕ) → SpellsLength i.target.order u b → Takes i b j → length body ≡ u.length → j.at ≡ i.at + length (length_bytes i.target.order u.form (length body))
+entry_placed i j u b body s t len = t.at ∙ rw (len, ← s.bytes) refl
+
+-- ---- items in a row
+
+-- what a walk knows: the items so far, and the entries among them
+pub record IsWalked (target : Target) (s : List ℕ) (now : Input) (found : List Piece) : Type 0 where
+  pub items : List Item
+  pub each : AllByRecursion IsItem items
+  pub whole : s ≡ all_bytes target.order items ++ now.bytes
+  pub place : now.at ≡ length (all_bytes target.order items)
+  pub same : now.target ≡ target
+  pub are : found ≡ pieces target.order 0 items
+
+all_bytes-push : (order : Order) (xs : List Item) (x : Item) → all_bytes order (xs ++ x ∷ []) ≡ all_bytes order xs ++ item_bytes order x
+all_bytes-push order [] x = append-nil (item_bytes order x)
+all_bytes-push order (y ∷ xs) x = rw (all_bytes-push order xs x) (sym (append_assoc (item_bytes order y) (all_bytes order xs) (item_bytes order x)))
+
+each-push : (xs : List Item) (x : Item) → AllByRecursion IsItem xs → IsItem x → AllByRecursion IsItem (xs ++ x ∷ [])
+each-push [] x h k = (k, tt)
+each-push (y ∷ xs) x h k = (h.0, each-push xs x h.1 k)
+
+with_some-append : (o : Option Piece) (es fs : List Piece) → with_some o (es ++ fs) ≡ with_some o es ++ fs
+with_some-append None es fs = refl
+with_some-append (Some e) es fs = refl
+
+pieces-push : (order : Order) (at : ℕ) (xs : List Item) (x : Item) → pieces order at (xs ++ x ∷ []) ≡ pieces order at xs ++ with_some (piece_of order (at + length (all_bytes order xs)) x) []
+pieces-push order at [] x = rw add-zero refl
+pieces-push order at (y ∷ xs) x =
+    let b = item_bytes order y in
+    let e : at + length (b ++ all_bytes order xs) ≡ (at + length b) + length (all_bytes order xs) = omega (arith, length-append b (all_bytes order xs)) in
+    rw (e, pieces-push order (at + length b) xs x) (with_some-append (piece_of order at y) (pieces order (at + length b) xs) (with_some (piece_of order ((at + length b) + length (all_bytes order xs)) x) []))
+
+pub walked_more : (target : Target) (s : List ℕ) (old new : Input) (found : List Piece) (item : Item) → IsWalked target s old found → IsItem item → Takes old (item_bytes old.target.order item) new → IsWalked target s new (found ++ with_some (piece_of old.target.order old.at item) [])
+walked_more target s old new found item w is t =
+    let order = target.order in
+    let t' : Takes old (item_bytes order item) new = subst (λ (g : Target). Takes old (item_bytes g.order item) new) w.same t in
+    let grown = all_bytes-push order w.items item in
+    record {
+      items = w.items ++ item ∷ [];
+      each = each-push w.items item w.each is;
+      whole = w.whole ∙ ap (λ (r : List ℕ). all_bytes order w.items ++ r) t'.bytes ∙ sym (append_assoc (all_bytes order w.items) (item_bytes order item) new.bytes) ∙ ap (λ (b : List ℕ). b ++ new.bytes) (sym grown);
+      place = t'.at ∙ ap (λ (n : ℕ). n + length (item_bytes order item)) w.place ∙ sym (length-append (all_bytes order w.items) (item_bytes order item)) ∙ ap length (sym grown);
+      same = t'.target ∙ w.same;
+      are = ap (λ (g : Target). found ++ with_some (piece_of g.order old.at item) []) w.same ∙ ap (λ (es : List Piece). es ++ with_some (piece_of order old.at item) []) w.are ∙ ap (λ (n : ℕ). pieces order 0 w.items ++ with_some (piece_of order n item) []) (w.place ∙ sym (zero-add _)) ∙ sym (pieces-push order 0 w.items item);
+    }
+
+pub walked_entry : (target : Target) (s : List ℕ) (old new : Input) (found : List Piece) (form : Form) (kind : Kind) (at place : ℕ) (body : List ℕ) → IsWalked target s old found
+    → IsItem (entry form body) → Takes old (item_bytes old.target.order (entry form body)) new → at ≡ old.at → kind ≡ is_cie form body → place ≡ old.at + length (length_bytes old.target.order form (length body))
+    → IsWalked target s new (found ++ record { at = at; form = form; kind = kind; contents = record { at = place; bytes = body } } ∷ [])
+walked_entry target s old new found form kind at place body w is t at-is kind-is place-is = rw (at-is, kind-is, place-is) (walked_more target s old new found (entry form body) w is t)
+
+pub walked_start : (target : Target) (s : List ℕ) → IsWalked target s (record { at = 0; bytes = s; target = target }) []
+walked_start target s = record { items = []; each = tt; whole = refl; place = refl; same = refl; are = refl }
+
+-- an item has bytes
+pub item_some : (order : Order) (item : Item) → 4 ≤ length (item_bytes order item)
+item_some order gap = omega arith
+item_some order (entry Dwarf32 body) = omega (arith, length-append (length_bytes order Dwarf32 (length body)) body, length-fixed order 4 (length body))
+item_some order (entry Dwarf64 body) = omega (arith, length-append (length_bytes order Dwarf64 (length body)) body, length-append (fixed_bytes order 4 0xffffffff) (fixed_bytes order 8 (length body)), length-fixed order 4 0xffffffff)
+
+pub walked_end : (target : Target) (s : List ℕ) (now : Input) (found : List Piece) → length s ≤ 2147483647 → length now.bytes ≤ 0 → IsWalked target s now found → Pieces target s found
+walked_end target s now found small none w =
+    let e : now.bytes ≡ [] = nil_from_length now.bytes (omega arith) in
+    record { small = small; items = w.items; cut = record { each = w.each; whole = w.whole ∙ ap (λ (b : List ℕ). all_bytes target.order w.items ++ b) e ∙ append-nil _ }; are = w.are }
+
+pub walked_stuck : (target : Target) (s : List ℕ) (now : Input) (found : List Piece) (r : Refusal) → 0 < length now.bytes → item_at now ≡ Err r → IsWalked target s now found → IsStuck target s r
+walked_stuck target s now found r some e w = record {
+  items = w.items;
+  rest = now.bytes;
+  each = w.each;
+  whole = w.whole;
+  some = some;
+  stuck = subst (λ (g : Target). item_at (record { at = length (all_bytes target.order w.items); bytes = now.bytes; target = g }) ≡ Err r) w.same
+      (subst (λ (n : ℕ). item_at (record { at = n; bytes = now.bytes; target = now.target }) ≡ Err r) w.place e);
+}
+
+-- ---- a section has at most one cut
+
+wide_some : (form : Form) (n : ℕ) → id_width form ≤ n → 4 ≤ n
+wide_some Dwarf32 n h = h
+wide_some Dwarf64 n h = omega arith
+
+not_zero : (n : ℕ) → 4 ≤ n → eqb n 0 ≡ false
+not_zero n h = elim (eqb_tells n 0) [ inl is ↦ absurd (omega (arith, is.1)) | inr not ↦ not.0 ]
+
+pub item_again : (at : ℕ) (target : Target) (item : Item) (rest : List ℕ) → IsItem item
+    → item_at (record { at = at; bytes = item_bytes target.order item ++ rest; target = target }) ≡ Ok (item, record { at = at + length (item_bytes target.order item); bytes = rest; target = target })
+unfolding item_at
+item_again at target gap rest is =
+    let i : Input = record { at = at; bytes = 0 ∷ 0 ∷ 0 ∷ 0 ∷ rest; target = target } in
+    rw (unit_length_only i (record { form = Dwarf32; length = 0 }) (0 ∷ 0 ∷ 0 ∷ 0 ∷ []) rest (record { bytes = sym (gap_bytes target.order); fits = omega arith }) refl) refl
+item_again at target (entry form body) rest is =
+    let front = length_bytes target.order form (length body) in
+    let i : Input = record { at = at; bytes = (front ++ body) ++ rest; target = target } in
+    let read = unit_length_only i (record { form = form; length = length body }) front (body ++ rest) (record { bytes = refl; fits = is.0 }) (append_assoc front body rest) in
+    let place : at + length (front ++ body) ≡ (at + length front) + length body = omega (arith, length-append front body) in
+    rw (
+      read,
+      not_zero (length body) (wide_some form (length body) is.1),
+      le-ltb (length (body ++ rest)) (length body) (omega (arith, length-append body rest)),
+      le-ltb (length body) (id_width form) is.1,
+      take_at body rest (length body) refl,
+      drop_at body rest (length body) refl,
+      place,
+    ) refl
+
+pub front_item : (order : Order) (a b : Item) (x y : List ℕ) → IsItem a → IsItem b → item_bytes order a ++ x ≡ item_bytes order b ++ y → (a ≡ b) × (x ≡ y)
+front_item order a b x y h k e =
+    let target : Target = record { size = Four; order = order } in
+    let at : (s : List ℕ) → Result (Item × Input) Refusal = λ s. item_at (record { at = 0; bytes = s; target = target }) in
+    let same = ok_is _ _ (sym (item_again 0 target a x h) ∙ ap at e ∙ item_again 0 target b y k) in
+    (ap (λ (p : Item × Input). p.0) same, ap (λ (p : Item × Input). p.1.bytes) same)
+
+-- items that spell the front of what others spell, are the front of these
+pub aligned : (order : Order) (xs ys : List Item) (rest : List ℕ) → AllByRecursion IsItem xs → AllByRecursion IsItem ys → all_bytes order xs ≡ all_bytes order ys ++ rest
+    → (more : List Item) × (xs ≡ ys ++ more) × AllByRecursion IsItem more × (rest ≡ all_bytes order more)
+aligned order xs [] rest h k e = (xs, refl, h, sym e)
+aligned order [] (y ∷ ys) rest h k e =
+    absurd (omega (arith, ap length e, length-append (item_bytes order y ++ all_bytes order ys) rest, length-append (item_bytes order y) (all_bytes order ys), item_some order y))
+aligned order (x ∷ xs) (y ∷ ys) rest h k e =
+    let p = front_item order x y (all_bytes order xs) (all_bytes order ys ++ rest) h.0 k.0 (e ∙ append_assoc (item_bytes order y) (all_bytes order ys) rest) in
+    let q = aligned order xs ys rest h.1 k.1 p.1 in
+    (q.0, ap (λ (z : Item). z ∷ xs) p.0 ∙ ap (λ (zs : List Item). y ∷ zs) q.1, q.2, q.3)
+
+no_items : (order : Order) (more : List Item) → [] ≡ all_bytes order more → more ≡ []
+no_items order [] e = refl
+no_items order (x ∷ more) e = absurd (omega (arith, ap length e, length-append (item_bytes order x) (all_bytes order more), item_some order x))
+
+pub one_cut : (order : Order) (s : List ℕ) (xs ys : List Item) → Cut order s xs → Cut order s ys → xs ≡ ys
+one_cut order s xs ys p q =
+    let a = aligned order xs ys [] p.each q.each (sym p.whole ∙ q.whole ∙ sym (append-nil (all_bytes order ys))) in
+    a.1 ∙ ap (λ (m : List Item). ys ++ m) (no_items order a.0 a.3) ∙ append-nil ys
+
+-- where a walk is stuck there is no cut
+pub stuck_before : (target : Target) (at : ℕ) (more : List Item) (rest : List ℕ) (r : Refusal) → AllByRecursion IsItem more → rest ≡ all_bytes target.order more → 0 < length rest → item_at (record { at = at; bytes = rest; target = target }) ≡ Err r → ⊥
+stuck_before target at [] rest r h e some stuck = omega (arith, ap length e)
+stuck_before target at (x ∷ more) rest r h e some stuck =
+    let read = item_again at target x (all_bytes target.order more) h.0 in
+    let k = subst (λ (b : List ℕ). item_at (record { at = at; bytes = b; target = target }) ≡ Err r) e stuck in
+    let bad = sym read ∙ k in cc
+
+-- an item at the front is no fault
+pub not_stuck : (target : Target) (at : ℕ) (item : Item) (rest bytes : List ℕ) (r : Refusal) → IsItem item → bytes ≡ item_bytes target.order item ++ rest → item_at (record { at = at; bytes = bytes; target = target }) ≡ Err r → ⊥
+not_stuck target at item rest bytes r is e stuck =
+    let read = item_again at target item rest is in
+    let k = subst (λ (b : List ℕ). item_at (record { at = at; bytes = b; target = target }) ≡ Err r) e stuck in
+    let bad = sym read ∙ k in cc
+
+pub stuck_or_cut : (target : Target) (s : List ℕ) (items : List Item) (r : Refusal) → Cut target.order s items → IsStuck target s r → ⊥
+stuck_or_cut target s items r p w =
+    let a = aligned target.order items w.items w.rest p.each w.each (sym p.whole ∙ w.whole) in
+    stuck_before target _ a.0 w.rest r a.2 a.3 w.some w.stuck
+
+-- a section has one list of pieces
+pub one_pieces : (target : Target) (s : List ℕ) (ps qs : List Piece) → Pieces target s ps → Pieces target s qs → ps ≡ qs
+one_pieces target s ps qs p q = p.are ∙ ap (pieces target.order 0) (one_cut target.order s p.items q.items p.cut q.cut) ∙ sym q.are
+
+-- a fault of the cut and pieces exclude each other
+pub cut_or_pieces : (target : Target) (s : List ℕ) (r : Refusal) (ps : List Piece) → CutFault target s r → Pieces target s ps → ⊥
+cut_or_pieces target s r ps fault p = elim fault [ inl large ↦ omega (arith, large.0, p.small) | inr stuck ↦ stuck_or_cut target s p.items r p.cut stuck.1 ]
+
+-- ---- entries
+
+-- a walk that lists entries
+pub record IsListed (target : Target) (s : List ℕ) (now : Input) (found : List Entry) : Type 0 where
+  pub parts : List Piece
+  pub walked : IsWalked target s now parts
+  pub are : found ≡ map entry_of parts
+
+pub listed_start : (target : Target) (s : List ℕ) → IsListed target s (record { at = 0; bytes = s; target = target }) []
+listed_start target s = record { parts = []; walked = walked_start target s; are = refl }
+
+pub listed_entry : (target : Target) (s : List ℕ) (old new : Input) (found : List Entry) (form : Form) (kind : Kind) (at place : ℕ) (body : List ℕ) → IsListed target s old found
+    → IsItem (entry form body) → Takes old (item_bytes old.target.order (entry form body)) new → at ≡ old.at → kind ≡ is_cie form body → place ≡ old.at + length (length_bytes old.target.order form (length body))
+    → IsListed target s new (found ++ record { at = at; kind = kind; form = form; length = length body } ∷ [])
+listed_entry target s old new found form kind at place body w is t at-is kind-is place-is =
+    let part : Piece = record { at = at; form = form; kind = kind; contents = record { at = place; bytes = body } } in
+    record {
+      parts = w.parts ++ part ∷ [];
+      walked = walked_entry target s old new w.parts form kind at place body w.walked is t at-is kind-is place-is;
+      are = ap (λ (es : List Entry). es ++ entry_of part ∷ []) w.are ∙ sym (map-append entry_of w.parts (part ∷ []));
+    }
+
+pub listed_gap : (target : Target) (s : List ℕ) (old new : Input) (found : List Entry) → IsListed target s old found → Takes old (item_bytes old.target.order gap) new → IsListed target s new found
+listed_gap target s old new found w t = record { parts = w.parts; walked = rw append-nil at (walked_more target s old new w.parts gap w.walked tt t); are = w.are }
+
+pub listed_end : (target : Target) (s : List ℕ) (now : Input) (found : List Entry) → length s ≤ 2147483647 → length now.bytes ≤ 0 → IsListed target s now found → Entries target s found
+listed_end target s now found small none w = record { parts = w.parts; cut = walked_end target s now w.parts small none w.walked; are = w.are }
+
+-- a section has one list of entries
+pub one_entries : (target : Target) (s : List ℕ) (es fs : List Entry) → Entries target s es → Entries target s fs → es ≡ fs
+one_entries target s es fs p q = p.are ∙ ap (map entry_of) (one_pieces target s p.parts q.parts p.cut q.cut) ∙ sym q.are
+
+pub only_entries : {V : Type 0} (items : V → List Entry) (target : Target) (s : List ℕ) (result : Result V SectionError) → IfOk result (λ v. Entries target s (items v)) → IfErr result (Refuses (CutFault target s))
+    → (es : List Entry) → Entries target s es → MatchResult result (λ v. items v ≡ es) (λ e. e ≡ OutOfMemory)
+only_entries items target s (Ok v) found first es p = one_entries target s (items v) es found p
+only_entries items target s (Err (Refused r)) found first es p = absurd (cut_or_pieces target s r p.parts first p.cut)
+only_entries items target s (Err OutOfMemory) found first es p = refl

@@ -1,0 +1,36 @@
+-- The entries of a section with their contents.
+use Rattle.std.specs.Prelude.{◌≡◌, ℕ, ◌+◌, ◌≤◌, List, length, map}
+use Rattle.dw_num.specs.declared.target.Target.{Target}
+use Rattle.dw_num.specs.Fixed.{length_bytes}
+use Rattle.dw_num.specs.Input.{Input}
+use Rattle.dw_num.specs.Span.{span_of}
+use Rattle.dw_section.specs.declared.cutting.Entry.{Entry}
+use Rattle.dw_section.specs.declared.cutting.Placed.{Placed}
+use Rattle.dw_section.specs.declared.cutting.Part.{Part}
+use Rattle.dw_section.specs.declared.cutting.Part.TheVariants as parts
+use Rattle.dw_section.specs.Cut.{Item, Piece, pieces, Cut}
+
+-- these are the pieces of the section
+pub record Pieces (target : Target) (s : List ℕ) (ps : List Piece) : Type 0 where
+  pub small : length s ≤ 2147483647
+  pub items : List Item
+  pub cut : Cut target.order s items
+  pub are : ps ≡ pieces target.order 0 items
+
+-- a piece without its contents
+abbrev pub entry_of : Piece → Entry
+entry_of p = record { at = p.at; kind = p.kind; form = p.form; length = length p.contents.bytes }
+
+-- these are the entries of the section, in order
+pub record Entries (target : Target) (s : List ℕ) (es : List Entry) : Type 0 where
+  pub parts : List Piece
+  pub cut : Pieces target s parts
+  pub are : es ≡ map entry_of parts
+
+abbrev pub piece_in : Placed → Piece
+piece_in p = record { at = p.at; form = p.form; kind = p.kind; contents = span_of p.contents }
+
+-- the contents of a part stand behind its length
+abbrev pub IsPlaced : Input → Part → Type 0
+IsPlaced old parts.Gap = Unit {0}
+IsPlaced old (parts.Entry form contents) = contents.at ≡ old.at + length (length_bytes old.target.order form (length contents.bytes.now))

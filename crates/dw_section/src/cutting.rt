@@ -1,0 +1,204 @@
+//! Cutting a section into its entries (6.4.1, 7.4).
+
+ghost use Rattle.std.specs.Prelude.{◌≡◌, ℕ, ◌+◌, map, ◌<◌, ◌≤◌, ◌==◌, List, length, MatchResult, IfOk, IfErr};
+ghost use Rattle.std.specs.List.{list_all};
+ghost use Rattle.dw_num.specs.declared.target.Order.{Order};
+ghost use Rattle.dw_num.specs.declared.target.Target.{Target};
+ghost use Rattle.dw_num.specs.declared.refusal.Refusal.{Refusal};
+ghost use Rattle.dw_num.specs.declared.refusal.Code.TheVariants.{SectionTooLarge};
+ghost use Rattle.dw_num.specs.Input.{Takes};
+ghost use Rattle.dw_num.specs.Reading.{Gives};
+ghost use Rattle.dw_section.specs.Cut.{Cut, Item, IsItem, item_bytes, is_cie, id_width};
+ghost use Rattle.dw_section.specs.Pieces.{Pieces, Entries, piece_in, IsPlaced};
+ghost use Rattle.dw_section.specs.Faults.{item_at, item_of, CutFault, Refuses};
+ghost use Rattle.dw_section.specs.declared.cutting.Entry.{Entry};
+ghost use Rattle.dw_section.specs.declared.error.SectionError.TheVariants.{OutOfMemory};
+
+use crate::error::SectionError;
+use dw_num::{Code, Cursor, Form, Program, Refusal, Target};
+use std::alloc::Global;
+
+/// What an entry is.
+#[derive(Clone, Copy, Debug, PartialEq, Eq)]
+pub enum Kind {
+    /// A common information entry: its first field is all ones.
+    Cie,
+    /// A frame description entry: its first field names a CIE.
+    Fde,
+}
+
+/// An entry of a section: a CIE or an FDE (6.4.1).
+#[derive(Clone, Copy, Debug, PartialEq, Eq)]
+pub struct Entry {
+    /// The place of its first byte.
+    pub at: u64,
+    pub kind: Kind,
+    pub form: Form,
+    /// How many bytes follow its length field.
+    pub length: u64,
+}
+
+// The longest section that is read.
+const MOST: usize = 2_147_483_647;
+
+// The width of the first field.
+pub(crate) fn width_of(form: Form) -> usize
+    ensures { result ≡ id_width form }
+{
+    match form {
+        Form::Dwarf32 => 4,
+        Form::Dwarf64 => 8,
+    }
+}
+
+fn all_ones(bytes: &[u8]) -> bool
+    ensures { result ≡ list_all (λ b. b == 255) bytes.now }
+{
+    bytes.iter().all(|b| *b == 0xff)
+}
+
+fn kind_in(form: Form, body: &[u8]) -> Kind
+    requires { id_width form ≤ length body.now }
+    ensures { result ≡ is_cie form body.now }
+{
+    if all_ones(&body[..width_of(form)]) {
+        Kind::Cie
+    } else {
+        Kind::Fde
+    }
+}
+
+/// What stands in a section: a gap, or an entry.
+#[derive(Clone, Copy)]
+pub(crate) enum Part<'a> {
+    Gap,
+    Entry(Form, Program<'a>),
+}
+
+/// An entry with its place, and its contents with theirs.
+#[derive(Clone, Copy)]
+pub(crate) struct Placed<'a> {
+    pub(crate) at: u64,
+    pub(crate) form: Form,
+    pub(crate) kind: Kind,
+    pub(crate) contents: Program<'a>,
+}
+
+// The item at the front.
+#[tactic(auto, unfolding(crate::specs::Faults::item_at, dw_num::specs::Reading::take_at))]
+fn next_part<'a>(cursor: &mut Cursor<'a>) -> Result<Part<'a>, Refusal>
+    requires { cursor.old.at + length cursor.old.bytes ≤ 2147483647 }
+    ensures found { IfOk result (λ p. IsItem (item_of p) × Takes cursor.old (item_bytes cursor.old.target.order (item_of p)) cursor.new) }
+    ensures placed { IfOk result (IsPlaced cursor.old) }
+    ensures exact { Gives item_of result (item_at cursor.old) cursor.new }
+{
+    let at = cursor.at();
+    let unit = cursor.unit_length()?;
+    if unit.length == 0 && unit.form == Form::Dwarf32 {
+        return Ok(Part::Gap);
+    }
+    if (cursor.left() as u64) < unit.length {
+        return Err(Refusal {
+            code: Code::EntryPastEnd,
+            at,
+        });
+    }
+    if unit.length < width_of(unit.form) as u64 {
+        return Err(Refusal {
+            code: Code::Truncated,
+            at: cursor.at(),
+        });
+    }
+    let at = cursor.at();
+    let bytes = cursor.take(unit.length as usize)?;
+    Ok(Part::Entry(unit.form, Program { bytes, at }))
+}
+
+// A cursor over a section that is not too long.
+fn start<'a>(bytes: &'a [u8], target: Target) -> Result<Cursor<'a>, Refusal>
+    ensures found { IfOk result (λ c. (c ≡ record { at = 0; bytes = bytes.now; target = target }) × (length bytes.now ≤ 2147483647)) }
+    ensures stuck { IfErr result (λ r. (2147483647 < length bytes.now) × (r ≡ record { code = SectionTooLarge; at = 0 })) }
+{
+    if bytes.len() > MOST {
+        return Err(Refusal {
+            code: Code::SectionTooLarge,
+            at: 0,
+        });
+    }
+    Ok(Cursor::new(bytes, 0, target))
+}
+
+// The entries of a section with their contents, in order.
+pub(crate) fn all_pieces<'a>(
+    alloc: Global,
+    bytes: &'a [u8],
+    target: Target,
+) -> Result<Vec<Placed<'a>>, SectionError>
+    ensures found { IfOk result (λ v. Pieces target bytes.now (map piece_in v.items)) }
+    ensures first { IfErr result (Refuses (CutFault target bytes.now)) }
+{
+    let mut cursor = start(bytes, target)?;
+    let mut found = Vec::new(alloc);
+    'items: while cursor.left() > 0 {
+        let at = cursor.at();
+        match next_part(&mut cursor)? {
+            Part::Gap => {}
+            Part::Entry(form, contents) => found.push(Placed {
+                at,
+                form,
+                kind: kind_in(form, contents.bytes),
+                contents,
+            })?,
+        }
+    }
+    Ok(found)
+}
+
+fn all_entries(alloc: Global, bytes: &[u8], target: Target) -> Result<Vec<Entry>, SectionError>
+    ensures found { IfOk result (λ v. Entries target bytes.now v.items) }
+    ensures first { IfErr result (Refuses (CutFault target bytes.now)) }
+{
+    let mut cursor = start(bytes, target)?;
+    let mut found = Vec::new(alloc);
+    'items: while cursor.left() > 0 {
+        let at = cursor.at();
+        match next_part(&mut cursor)? {
+            Part::Gap => {}
+            Part::Entry(form, contents) => found.push(Entry {
+                at,
+                kind: kind_in(form, contents.bytes),
+                form,
+                length: contents.bytes.len() as u64,
+            })?,
+        }
+    }
+    Ok(found)
+}
+
+/// The entries of a section in order of place, CIEs and FDEs of both forms, gaps left out. Their fields and
+/// programs are not looked at.
+///
+/// A refusal is the first fault of the cut: `SectionTooLarge` above 2,147,483,647 bytes, then by place
+/// `Truncated` or `ReservedLength` in a length, `EntryPastEnd`, and `Truncated` for an entry that is too short
+/// for its first field. The one memory that it takes is the list's.
+pub fn entries(alloc: Global, bytes: &[u8], target: Target) -> Result<Vec<Entry>, SectionError>
+    // They are the entries of the section's cut.
+    ensures found { IfOk result (λ v. Entries target bytes.now v.items) }
+    // A section that has a cut is not refused.
+    ensures only { (es : List Entry) → Entries target bytes.now es → MatchResult result (λ v. v.items ≡ es) (λ e. e ≡ OutOfMemory) }
+    // A refusal is the first fault.
+    ensures first { IfErr result (Refuses (CutFault target bytes.now)) }
+{
+    all_entries(alloc, bytes, target)
+}
+
+/// A section has at most one cut.
+pub fn one_cut()
+    ensures { (order : Order) (s : List ℕ) (items others : List Item) → Cut order s items → Cut order s others → items ≡ others }
+{}
+
+/// A section has at most one first fault of its cut, and none where it has entries.
+pub fn one_cut_fault()
+    ensures one { (target : Target) (s : List ℕ) (r q : Refusal) → CutFault target s r → CutFault target s q → r ≡ q }
+    ensures apart { (target : Target) (s : List ℕ) (r : Refusal) (es : List Entry) → CutFault target s r → Entries target s es → ⊥ }
+{}

@@ -1,0 +1,191 @@
+//! The headers of a section: the fields of its entries.
+
+ghost use Rattle.std.specs.Prelude.{◌≡◌, ℕ, ◌+◌, ◌≤◌, List, length, map, IfOk, IfErr, MatchResult};
+ghost use Rattle.std.specs.List.{AllByRecursion, AllZip};
+ghost use Rattle.dw_num.specs.Span.{span_of};
+ghost use Rattle.dw_section.specs.declared.cutting.Kind.TheVariants as kind;
+ghost use Rattle.dw_section.specs.declared.error.SectionError.TheVariants.{OutOfMemory};
+ghost use Rattle.dw_num.specs.declared.target.Target.{Target};
+ghost use Rattle.dw_num.specs.declared.refusal.Refusal.{Refusal};
+ghost use Rattle.dw_section.specs.Overlap.{Range, IsIndex};
+ghost use Rattle.dw_section.specs.Stage.{FirstStuck, Answers};
+ghost use Rattle.dw_section.specs.Faults.{Refuses};
+ghost use Rattle.dw_section.specs.Pieces.{piece_in};
+ghost use Rattle.dw_section.specs.Places.{cie_places, Rises};
+ghost use Rattle.dw_section.specs.Headers.{Head, Has, Headers, cie_at, fde_at, program_of, head_in, CieHolds, CieStuck, FdeHolds, FdeStuck, HeadersFault};
+
+use crate::cutting::{Kind, Placed, all_pieces, width_of};
+use crate::error::SectionError;
+use crate::fields::{read_cie, read_fde};
+use dw_num::{Cursor, Form, Program, Refusal, Target, are_bytes};
+use std::alloc::Global;
+
+/// The fields of an entry (6.4.1). Its program is the rest of the entry's contents, nops among it. `at` is the
+/// place of the entry's first byte, `cie_at` that of the CIE that an FDE names; `begin` and `range` are in
+/// addresses, and their sum is at most 2^N.
+#[derive(Clone, Copy, Debug)]
+pub enum Header<'a> {
+    Cie {
+        at: u64,
+        form: Form,
+        code_factor: u64,
+        data_factor: i64,
+        return_register: u16,
+        program: Program<'a>,
+    },
+    Fde {
+        at: u64,
+        form: Form,
+        cie_at: u64,
+        begin: u64,
+        range: u64,
+        program: Program<'a>,
+    },
+}
+
+// What is left, as a program.
+fn rest_of<'a>(cursor: &Cursor<'a>) -> Program<'a>
+    requires { cursor.now.at + length cursor.now.bytes ≤ 2147483647 }
+    ensures { span_of result ≡ program_of cursor.now }
+{
+    Program {
+        bytes: cursor.rest(),
+        at: cursor.at(),
+    }
+}
+
+#[tactic(auto, unfolding(crate::specs::Headers::cie_at))]
+fn cie_header<'a>(piece: &Placed<'a>, target: Target) -> Result<Header<'a>, Refusal>
+    requires { piece.now.kind ≡ kind.Cie }
+    ensures exact { Answers head_in result (cie_at target (piece_in piece.now)) }
+    ensures found { (places : List ℕ) → IfOk result (λ h. Has target places (piece_in piece.now) (head_in h)) }
+{
+    let contents = piece.contents;
+    are_bytes(contents.bytes);
+    let mut cursor = Cursor::new(contents.bytes, contents.at, target);
+    let _ = cursor.take(width_of(piece.form))?;
+    let fields = read_cie(&mut cursor)?;
+    Ok(Header::Cie {
+        at: piece.at,
+        form: piece.form,
+        code_factor: fields.code_factor,
+        data_factor: fields.data_factor,
+        return_register: fields.return_register,
+        program: rest_of(&cursor),
+    })
+}
+
+#[tactic(auto, unfolding(crate::specs::Headers::fde_at))]
+fn fde_header<'a>(piece: &Placed<'a>, places: &[u64], target: Target) -> Result<Header<'a>, Refusal>
+    requires kind { piece.now.kind ≡ kind.Fde }
+    requires ascending { Rises 0 places.now }
+    ensures exact { Answers head_in result (fde_at target places.now (piece_in piece.now)) }
+    ensures found { IfOk result (λ h. Has target places.now (piece_in piece.now) (head_in h)) }
+{
+    let contents = piece.contents;
+    are_bytes(contents.bytes);
+    let mut cursor = Cursor::new(contents.bytes, contents.at, target);
+    let fields = read_fde(&mut cursor, places, piece.form)?;
+    Ok(Header::Fde {
+        at: piece.at,
+        form: piece.form,
+        cie_at: fields.cie_at,
+        begin: fields.begin,
+        range: fields.range,
+        program: rest_of(&cursor),
+    })
+}
+
+// Reads the fields of all CIEs, and tells where these stand.
+fn places_of(alloc: Global, pieces: &[Placed<'_>], target: Target) -> Result<Vec<u64>, SectionError>
+    ensures found { IfOk result (λ v. AllByRecursion (CieHolds target) (map piece_in pieces.now) × (v.items ≡ cie_places (map piece_in pieces.now))) }
+    ensures first { IfErr result (Refuses (FirstStuck (CieHolds target) (CieStuck target) (map piece_in pieces.now))) }
+{
+    let mut places = Vec::new(alloc);
+    for piece in pieces {
+        match piece.kind {
+            Kind::Cie => {
+                let _ = cie_header(piece, target)?;
+                places.push(piece.at)?;
+            }
+            Kind::Fde => {}
+        }
+    }
+    Ok(places)
+}
+
+// The header of an entry whose fields hold if it is a CIE.
+fn header_of<'a>(piece: &Placed<'a>, places: &[u64], target: Target) -> Result<Header<'a>, Refusal>
+    requires holds { CieHolds target (piece_in piece.now) }
+    requires ascending { Rises 0 places.now }
+    ensures found { IfOk result (λ h. Has target places.now (piece_in piece.now) (head_in h)) }
+    ensures stuck { IfErr result (FdeStuck target places.now (piece_in piece.now)) }
+{
+    match piece.kind {
+        Kind::Cie => cie_header(piece, target),
+        Kind::Fde => fde_header(piece, places, target),
+    }
+}
+
+fn headers_of<'a>(
+    alloc: Global,
+    pieces: &[Placed<'a>],
+    places: &[u64],
+    target: Target,
+) -> Result<Vec<Header<'a>>, SectionError>
+    requires hold { AllByRecursion (CieHolds target) (map piece_in pieces.now) }
+    requires ascending { Rises 0 places.now }
+    ensures found { IfOk result (λ v. AllZip (Has target places.now) (map piece_in pieces.now) (map head_in v.items)) }
+    ensures first { IfErr result (Refuses (FirstStuck (FdeHolds target places.now) (FdeStuck target places.now) (map piece_in pieces.now))) }
+{
+    let mut headers = Vec::new(alloc);
+    for piece in pieces {
+        headers.push(header_of(piece, places, target)?)?;
+    }
+    Ok(headers)
+}
+
+fn all_headers<'a>(
+    alloc: Global,
+    bytes: &'a [u8],
+    target: Target,
+) -> Result<Vec<Header<'a>>, SectionError>
+    ensures found { IfOk result (λ v. Headers target bytes.now (map head_in v.items)) }
+    ensures first { IfErr result (Refuses (HeadersFault target bytes.now)) }
+{
+    let pieces = all_pieces(alloc, bytes, target)?;
+    let places = places_of(alloc, &pieces, target)?;
+    headers_of(alloc, &pieces, &places, target)
+}
+
+/// The headers of a section in order of place: the fields of each entry, CIEs of versions 1, 3 and 4 in both
+/// forms, and FDEs. Programs are not looked at.
+///
+/// A refusal is the first fault of size and cut, as `entries` has it, then of the fields of CIEs by place (each
+/// from left to right: `Truncated`, `BadVersion`, `Augmentation`, `AddressSize`, `SegmentSelector`,
+/// `NumberTooLarge`, `RegisterTooLarge`), then of the fields of FDEs by place (`Truncated`, `NoSuchCie`,
+/// `RangeTooLarge`). It takes memory for three lists; a pointer is looked up by halving.
+pub fn headers<'a>(
+    alloc: Global,
+    bytes: &'a [u8],
+    target: Target,
+) -> Result<Vec<Header<'a>>, SectionError>
+    // They are the headers of the section.
+    ensures found { IfOk result (λ v. Headers target bytes.now (map head_in v.items)) }
+    // A section that has headers is not refused.
+    ensures only { (hs : List Head) → Headers target bytes.now hs → MatchResult result (λ v. map head_in v.items ≡ hs) (λ e. e ≡ OutOfMemory) }
+    // A refusal is the first fault.
+    ensures first { IfErr result (Refuses (HeadersFault target bytes.now)) }
+{
+    all_headers(alloc, bytes, target)
+}
+
+/// A section has at most one first fault.
+pub fn one_first_fault()
+    ensures { (target : Target) (s : List ℕ) (r q : Refusal) → HeadersFault target s r → HeadersFault target s q → r ≡ q }
+{}
+
+/// The nonempty FDEs of a section have one order.
+pub fn one_order()
+    ensures { (hs : List Head) (index other : List Range) → IsIndex hs index → IsIndex hs other → index ≡ other }
+{}

@@ -1,0 +1,18 @@
+//! Sections of call frame information (6.4.1): their entries, and the fields of each.
+//!
+//! Every answer is exact: a list where the section has one, else the first fault by stages and places. The
+//! stages are the size, the cut, the fields of CIEs and the fields of FDEs, each by place.
+//! Read `specs/Cut.antt` first, which says what a division of a section is, and then `specs/Headers.antt`.
+#![tactic(auto)]
+
+mod cutting;
+mod error;
+mod fields;
+mod heading;
+
+pub use cutting::{Entry, Kind, entries, one_cut, one_cut_fault};
+pub use error::SectionError;
+pub use heading::{Header, headers, one_first_fault, one_order};
+
+#[cfg(test)]
+mod tests;

@@ -1,0 +1,66 @@
+//! Why a run ends without its answer.
+
+ghost use Rattle.std.specs.Prelude.{◌≤◌};
+
+use crate::files::LoadError;
+use dw_num::Refusal;
+use dw_section::SectionError;
+use std::alloc::AllocError;
+use thiserror::Error;
+
+/// Why a run ends without its answer. Its text is the line that the command prints.
+#[derive(Debug, Drop, Error)]
+pub enum Failure<'a> {
+    #[error("refused: {} at {:#x}", .0.code.name(), .0.at)]
+    Refused(Refusal),
+    #[error("bad value for {0}")]
+    BadValue(&'static str),
+    #[error("cannot read {0}")]
+    CannotRead(&'a str),
+    #[error("cannot write")]
+    CannotWrite,
+    #[error("out of memory")]
+    OutOfMemory,
+    /// What is wrong with the words, or the help that they ask for.
+    #[error("{0}")]
+    Words(clap::Error),
+}
+
+impl From<AllocError> for Failure<'_> {
+    fn from(_error: AllocError) -> Self {
+        Failure::OutOfMemory
+    }
+}
+
+impl From<SectionError> for Failure<'_> {
+    fn from(error: SectionError) -> Self {
+        match error {
+            SectionError::Refused(refusal) => Failure::Refused(refusal),
+            SectionError::OutOfMemory => Failure::OutOfMemory,
+        }
+    }
+}
+
+impl<'a> Failure<'a> {
+    /// Why the file of this path has no bytes.
+    pub fn from_load(path: &'a str, error: LoadError) -> Failure<'a> {
+        match error {
+            LoadError::CannotRead => Failure::CannotRead(path),
+            LoadError::OutOfMemory => Failure::OutOfMemory,
+        }
+    }
+
+    /// The exit status: 0 where the words ask for help, else 2 to 5.
+    pub fn status(&self) -> u8
+        ensures { result ≤ 5 }
+    {
+        match self {
+            Failure::Refused(_) => 2,
+            Failure::BadValue(_) => 3,
+            Failure::Words(error) if error.use_stderr() => 3,
+            Failure::Words(_) => 0,
+            Failure::CannotRead(_) | Failure::CannotWrite => 4,
+            Failure::OutOfMemory => 5,
+        }
+    }
+}
