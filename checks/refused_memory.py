@@ -1,10 +1,11 @@
 #!/usr/bin/env python3
-"""Refuses each request for memory of a run of dwframe once, and compares what the run then answers.
+"""Refuses each request for memory of a run once, and compares what the run then answers.
 
-    refused_memory.py PROGRAM
+    refused_memory.py DWFRAME REQUESTS
 
-The answer must be the ordinary one, or status 5, `out of memory` and nothing on standard output. Ends with a
-line 'N runs, M wrong'.
+DWFRAME's answer must be the ordinary one, or status 5, `out of memory` and nothing on standard output. REQUESTS makes one
+call a run: its answer must be the ordinary one or tell of want of memory, and the calls on borrowed expressions may make
+no request at all. Ends with a line 'N runs, M wrong'.
 """
 import os
 import pathlib
@@ -17,8 +18,21 @@ EXAMPLES = HERE.parent / "examples"
 RUNS = [
     ["entries", "--size", "8", "--order", "little", "plain.bin"],
     ["entries", "--size", "4", "--order", "big", "sum-clang-powerpc.bin"],
+    ["expr", "--size", "8", "--order", "little", "2f12000e05000000000000000e060000000000000037"],
 ]
+CALLS = ["entries", "headers", "decode", "encode", "ops", "put_least", "numbers"]
 OUT_OF_MEMORY = (5, b"", b"out of memory\n")
+
+
+class Tally:
+    def __init__(self):
+        self.runs = self.wrong = 0
+
+    def tell(self, good, what, answer):
+        self.runs += 1
+        if not good:
+            self.wrong += 1
+            print(f"{what}: {answer}")
 
 
 def run(program, words, folder, refused):
@@ -29,23 +43,51 @@ def run(program, words, folder, refused):
     return (done.returncode, done.stdout, done.stderr), int(count.read_text())
 
 
+def is_command_answer(answer, ordinary):
+    return answer in (ordinary, OUT_OF_MEMORY)
+
+
+def is_call_answer(answer, ordinary):
+    """Each line is an ordinary one in its order, or tells of want of memory, which may end the run too."""
+    status, out, err = answer
+    if answer == ordinary:
+        return True
+    rest = iter(ordinary[1].splitlines())
+    told = b"OutOfMemory" in err
+    for line in out.splitlines():
+        if line == b"out of memory":
+            told = True
+        elif line not in rest:
+            return False
+    return told and (status == 0 or b"OutOfMemory" in err)
+
+
+def each_request(program, words, folder, is_answer, tally):
+    ordinary, requests = run(program, words, folder, 0)
+    tally.tell(ordinary[0] == 0, f"{words}", ordinary)
+    for refused in range(1, requests + 1):
+        answer, _ = run(program, words, folder, refused)
+        tally.tell(is_answer(answer, ordinary), f"{words}: request {refused} refused", answer)
+    answer, _ = run(program, words, folder, requests + 1)
+    tally.tell(answer == ordinary, f"{words}: nothing refused", answer)
+
+
 def main():
-    program = str(pathlib.Path(sys.argv[1]).resolve())
-    runs = wrong = 0
+    dwframe, requests = (str(pathlib.Path(path).resolve()) for path in sys.argv[1:3])
+    tally = Tally()
     with tempfile.TemporaryDirectory() as name:
         folder = pathlib.Path(name)
-        subprocess.run(["gcc", "-shared", "-fPIC", "-O2", "-o", folder / "refuse.so", HERE / "refuse.c", "-ldl"], check=True)
+        shim = ["gcc", "-shared", "-fPIC", "-O2", "-o", folder / "refuse.so", HERE / "refuse.c", "-ldl"]
+        subprocess.run(shim, check=True)
         for words in RUNS:
-            ordinary, requests = run(program, words, folder, 0)
-            for refused in range(1, requests + 2):
-                answer, _ = run(program, words, folder, refused)
-                runs += 1
-                wanted = [ordinary] if refused > requests else [ordinary, OUT_OF_MEMORY]
-                if answer not in wanted:
-                    wrong += 1
-                    print(f"{' '.join(words)}: request {refused} refused: {answer}")
-    print(f"{runs} runs, {wrong} wrong")
-    return 1 if wrong else 0
+            each_request(dwframe, words, folder, is_command_answer, tally)
+        for call in CALLS:
+            each_request(requests, [call], folder, is_call_answer, tally)
+        _, none = run(requests, ["none"], folder, 0)
+        answer, borrowed = run(requests, ["borrowed"], folder, 0)
+        tally.tell(borrowed == none, "calls on borrowed expressions", f"{borrowed - none} requests")
+    print(f"{tally.runs} runs, {tally.wrong} wrong")
+    return 1 if tally.wrong else 0
 
 
 if __name__ == "__main__":

@@ -1,5 +1,5 @@
 -- Numbers of a fixed width, and lengths, read as they are spelled.
-use Rattle.std.proofs.Common.{◌≡◌, ℕ, ◌+◌, ◌^◌, ◌<◌, ◌≤◌, List, [], ◌∷◌, ◌++◌, length, take, drop, Ok, refl, sym, ap, subst, ◌∙◌, append_assoc, arith, inl, inr, get_or, Result, Err}
+use Rattle.std.proofs.Common.{◌≡◌, ℕ, ◌+◌, ◌^◌, ◌<◌, ◌≤◌, List, [], ◌∷◌, ◌++◌, length, take, drop, Ok, refl, sym, ap, subst, ◌∙◌, append_assoc, arith, inl, inr, get_or}
 use Rattle.std.proofs.lemmas.Bool.{cases_lt, lt-ltb, le-ltb}
 use Rattle.std.proofs.lemmas.Bool.Decides.{eqb_tells}
 use Rattle.std.proofs.Math.Seq.{take-add}
@@ -15,7 +15,6 @@ use Rattle.dw_num.specs.declared.target.Size.TheVariants.{Four, Eight}
 use Rattle.dw_num.specs.declared.target.Form.{Form}
 use Rattle.dw_num.specs.Target.{byte_count}
 use Rattle.dw_num.specs.declared.target.Form.TheVariants.{Dwarf32, Dwarf64}
-use Rattle.dw_num.specs.declared.refusal.Refusal.{Refusal}
 use Rattle.dw_num.specs.declared.refusal.Code.TheVariants.{Truncated, ReservedLength}
 use Rattle.dw_num.specs.Input.{Input, AreBytes, Takes, behind}
 use Rattle.dw_num.specs.Fixed.{Address, Fixed, IsWidth, fixed_bytes, fixed_number, length_bytes, LengthFits, SpellsLength}
@@ -59,7 +58,7 @@ length-fixed Big n v = length-bytes_high_first n v
 
 -- ---- lengths
 
-took : (i : Input) (n : ℕ) → n ≤ length i.bytes → Takes i (take n i.bytes) (behind n i)
+pub took : (i : Input) (n : ℕ) → n ≤ length i.bytes → Takes i (take n i.bytes) (behind n i)
 took i n len = record { bytes = sym (take-append-drop n i.bytes); at = ap (λ (m : ℕ). i.at + m) (omega (arith, length-take n i.bytes)); target = refl }
 
 long_found_at : (i new : Input) (u : UnitLength) → fixed_number i.target.order 4 i.bytes ≡ 0xffffffff → AreBytes i.bytes → long_length_at i ≡ Ok (u, new) → (b : List ℕ) × SpellsLength i.target.order u b × Takes i b new
@@ -142,7 +141,8 @@ pub fixed_below : (order : Order) (n : ℕ) (bytes : List ℕ) → AreBytes byte
 fixed_below Little n bytes h = little_from-lt 0 n bytes h
 fixed_below Big n bytes h = big_from-lt 0 n bytes h
 
-is_fixed : (order : Order) (n : ℕ) (bytes : List ℕ) → IsWidth n → n ≤ length bytes → AreBytes bytes → Fixed order n (fixed_number order n bytes) (take n bytes)
+-- the first n bytes spell their number
+pub is_fixed : (order : Order) (n : ℕ) (bytes : List ℕ) → IsWidth n → n ≤ length bytes → AreBytes bytes → Fixed order n (fixed_number order n bytes) (take n bytes)
 is_fixed order n bytes width len h = record { bytes = sym (fixed_back order n bytes width len h); fits = fixed_below order n bytes h }
 
 pub fixed_found : (n : ℕ) (i new : Input) (v : ℕ) → IsWidth n → AreBytes i.bytes → fixed_at n i ≡ Ok (v, new) → (b : List ℕ) × Fixed i.target.order n v b × Takes i b new
@@ -193,9 +193,9 @@ pub front_byte : (bytes : List ℕ) → 1 ≤ length bytes → bytes ≡ (get_or
 front_byte [] h = absurd (omega arith)
 front_byte (b ∷ bytes) h = refl
 
-pub byte_again : (at : ℕ) (target : Target) (v : ℕ) (rest : List ℕ) → fixed_at 1 (record { at = at; bytes = v ∷ rest; target = target }) ≡ Ok (v, record { at = at + 1; bytes = rest; target = target })
+pub byte_at_again : (at : ℕ) (target : Target) (v : ℕ) (rest : List ℕ) → fixed_at 1 (record { at = at; bytes = v ∷ rest; target = target }) ≡ Ok (v, record { at = at + 1; bytes = rest; target = target })
 unfolding fixed_at
-byte_again at target v rest = rw (le-ltb (length (v ∷ rest)) 1 (omega arith), one_byte target.order (v ∷ rest)) refl
+byte_at_again at target v rest = rw (le-ltb (length (v ∷ rest)) 1 (omega arith), one_byte target.order (v ∷ rest)) refl
 
 pub byte_found : (i new : Input) (v : ℕ) → fixed_at 1 i ≡ Ok (v, new) → Takes i (v ∷ []) new
 unfolding fixed_at
@@ -206,3 +206,10 @@ byte_found i new v e = elim (cases_lt (length i.bytes) 1) [
       subst (λ (p : ℕ × Input). Takes i (p.0 ∷ []) p.1) (ok_is (fixed_number i.target.order 1 i.bytes, behind 1 i) (v, new) k)
       (record { bytes = rw (one_byte i.target.order i.bytes) (front_byte i.bytes long); at = refl; target = refl })
 ]
+
+one_byte_bytes : (order : Order) (v : ℕ) → v < 256 → fixed_bytes order 1 v ≡ v ∷ []
+one_byte_bytes Little v lt = grind arith
+one_byte_bytes Big v lt = grind arith
+
+pub byte_is_fixed : (order : Order) (v : ℕ) → v < 256 → Fixed order 1 v (v ∷ [])
+byte_is_fixed order v lt = record { bytes = sym (one_byte_bytes order v lt); fits = omega arith }

@@ -1,11 +1,11 @@
 -- The shortest LEB128 spelling of a number, and that no other is as short.
-use Rattle.std.proofs.Common.{◌≡◌, ℕ, zero, suc, ◌+◌, ◌-◌, ◌*◌, ◌/◌, ◌%◌, ◌^◌, ◌<◌, ◌≤◌, Bool, true, false, cond, ltb, leb, List, [], ◌∷◌, ◌++◌, length, refl, sym, ap, subst, ◌∙◌, inl, inr, lit<, arith, ℤ, pos, negsuc}
+use Rattle.std.proofs.Common.{◌≡◌, ℕ, zero, suc, ◌+◌, ◌*◌, ◌/◌, ◌%◌, ◌^◌, ◌<◌, ◌≤◌, Bool, true, false, leb, List, [], ◌∷◌, ◌++◌, length, refl, sym, ap, ◌∙◌, inl, inr, lit<, arith, ℤ, pos, negsuc}
 use Rattle.std.specs.Prelude.{FitsSigned}
 use Rattle.std.specs.Int.{w64}
 use Rattle.std.proofs.Math.Nat.{pow-succ', pow-le-pow_right}
 use Rattle.std.proofs.lemmas.Int.{ints}
 use Rattle.std.proofs.lemmas.Bool.{cases_lt, lt-ltb, le-ltb, leb-true, leb-false, le-leb, lt-leb}
-use Rattle.dw_num.specs.Leb.{IsLeb, groups_from, groups, last_byte, is_negative, signed_groups, Uleb, Sleb}
+use Rattle.dw_num.specs.Leb.{IsLeb, groups_from, groups, is_negative, Uleb, Sleb}
 use Rattle.dw_num.specs.Shortest.{leb_of, turned_leb, shortest_uleb, shortest_sleb}
 use Rattle.dw_num.specs.Writing.{PutsUleb, PutsSleb}
 use Rattle.dw_num.specs.Scan.{turned, turned_from, as_signed}
@@ -83,7 +83,7 @@ leb_shortest n v other shape value = by_length (length (leb_of n v)) refl
         elim (cases_lt (suc k) (length other)) [
           | inl lt ↦ omega arith
           | inr ge ↦ let low = leb_least n v k e in let high = groups_below other in
-            let mono : 128 ^ length other ≤ 128 ^ suc k = pow-le-pow_right (lit< tt) ge in absurd (omega arith)
+              let mono : 128 ^ length other ≤ 128 ^ suc k = pow-le-pow_right (lit< tt) ge in absurd (omega arith)
         ]
 
 -- two LEBs of one length and one sum are one
@@ -202,7 +202,7 @@ turned_shortest t n m other s = by_length (length (turned_leb t n m)) (length ot
         elim (cases_lt k j) [
           | inl lt ↦ omega arith
           | inr ge ↦ let low = turned_least t n m k e in let high = turned_within t other j f s.sign in let is = s.sum in
-            let mono : 128 ^ j ≤ 128 ^ k = pow-le-pow_right (lit< tt) ge in absurd (omega arith)
+              let mono : 128 ^ j ≤ 128 ^ k = pow-le-pow_right (lit< tt) ge in absurd (omega arith)
         ]
 
 turned_byte : (t : Bool) (x y : ℕ) → turned t x ≡ turned t y → x % 128 ≡ y % 128

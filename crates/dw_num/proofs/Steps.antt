@@ -1,13 +1,17 @@
 -- One read after another: what is read is spelled, and what is spelled is read.
-use Rattle.std.proofs.Common.{◌≡◌, ℕ, ◌+◌, Bool, true, false, List, ◌++◌, length, Result, Ok, Err, refl, sym, ap, ◌∙◌, append_assoc, arith}
+use Rattle.std.proofs.Common.{◌≡◌, ℕ, ◌+◌, Bool, true, false, List, [], ◌∷◌, ◌++◌, length, take, Result, Ok, Err, refl, sym, ap, subst, ◌∙◌, append_assoc, arith, inl, inr}
 use Rattle.std.specs.Prelude.{cond}
-use Rattle.std.proofs.lemmas.Bool.{le-ltb}
-use Rattle.std.proofs.lemmas.List.{length-append, take_at as taken_at, drop_at}
+use Rattle.std.proofs.lemmas.Bool.{cases_lt, le-ltb, lt-ltb}
+use Rattle.std.proofs.lemmas.List.{length-append, length-take, take_at as taken_at, drop_at}
 use Rattle.dw_num.specs.declared.target.Target.{Target}
 use Rattle.dw_num.specs.declared.refusal.Refusal.{Refusal}
-use Rattle.dw_num.specs.Input.{Input, Takes}
-use Rattle.dw_num.specs.Reading.{Read, take_at, ◌>>=◌}
-use Rattle.dw_num.proofs.LebLaws.{done}
+use Rattle.dw_num.specs.Input.{Input, Takes, behind}
+use Rattle.dw_num.specs.Reading.{Read, fault, address_at, fixed_at, take_at, ◌>>=◌}
+use Rattle.dw_num.specs.Target.{byte_count}
+use Rattle.dw_num.specs.Fixed.{Address}
+use Rattle.dw_num.specs.declared.refusal.Code.TheVariants.{Truncated}
+use Rattle.dw_num.proofs.LebLaws.{done, ok_is}
+use Rattle.dw_num.proofs.FixedLaws.{byte_at_again, fixed_at_again, took}
 
 -- two takes, one after the other, are one
 pub Takes-then : (i j k : Input) (x y : List ℕ) → Takes i x j → Takes j y k → Takes i (x ++ y) k
@@ -36,7 +40,27 @@ pub cond_ok : {A : Type 0} (b : Bool) (x : Result A Refusal) (r : Refusal) (y : 
 cond_ok true x r y e = (refl, e)
 cond_ok false x r y e = absurd cc
 
--- n bytes are taken again, whatever follows
-pub take_again : (n : ℕ) (at : ℕ) (target : Target) (b rest : List ℕ) → length b ≡ n → take_at n (record { at = at; bytes = b ++ rest; target = target }) ≡ done (b, record { at = at + length b; bytes = rest; target = target })
+-- ---- bytes as they are
+
+pub take_again : (target : Target) (n : ℕ) (b : List ℕ) → length b ≡ n → Again target (take_at n) b b
 unfolding take_at
-take_again n at target b rest len = rw (le-ltb (length (b ++ rest)) n (omega (arith, length-append b rest)), taken_at b rest n len, drop_at b rest n len, len) refl
+take_again target n b len at rest = rw (le-ltb (length (b ++ rest)) n (omega (arith, length-append b rest)), taken_at b rest n len, drop_at b rest n len, len) refl
+
+pub take_found : (n : ℕ) (i new : Input) (b : List ℕ) → take_at n i ≡ done (b, new) → Takes i b new × (length b ≡ n)
+unfolding take_at
+take_found n i new b e = elim (cases_lt (length i.bytes) n) [
+  | inl short ↦ let k : fault {A = List ℕ × Input} Truncated i.at ≡ done (b, new) = rw (lt-ltb (length i.bytes) n short) at e in absurd cc
+  | inr long ↦
+      let k : done (take n i.bytes, behind n i) ≡ done (b, new) = rw (le-ltb (length i.bytes) n long) at e in
+      subst (λ (p : List ℕ × Input). Takes i p.0 p.1 × (length p.0 ≡ n)) (ok_is (take n i.bytes, behind n i) (b, new) k)
+      (took i n long, omega (arith, length-take n i.bytes))
+]
+
+pub byte_again : (target : Target) (v : ℕ) → Again target (fixed_at 1) v (v ∷ [])
+byte_again target v at rest = byte_at_again at target v rest
+
+-- ---- numbers
+
+pub address_again : (target : Target) (v : ℕ) (b : List ℕ) → Address target v b → Again target address_at v b
+unfolding address_at
+address_again target v b f at rest = fixed_at_again (byte_count target.size) at target v b rest f

@@ -1,11 +1,11 @@
 -- Fields are read as they are spelled, and spelled as they are read.
-use Rattle.std.proofs.Common.{◌≡◌, ℕ, zero, suc, ◌+◌, ◌<◌, ◌≤◌, ◌==◌, true, false, List, [], ◌∷◌, ◌++◌, length, drop, get_or, Option, Some, None, refl, sym, ap, subst, ◌∙◌, arith, inl, inr}
+use Rattle.std.proofs.Common.{◌≡◌, ℕ, zero, suc, ◌+◌, ◌≤◌, ◌==◌, true, false, List, [], ◌∷◌, ◌++◌, length, drop, get_or, Option, Some, None, refl, sym, ap, subst, ◌∙◌, arith, inl, inr}
 use Rattle.std.specs.Prelude.{position, nat_le}
-use Rattle.std.proofs.lemmas.Bool.{cases_lt, lt-ltb, le-ltb, le-leb, leb-true}
+use Rattle.std.proofs.lemmas.Bool.{lt-ltb, le-leb, leb-true}
 use Rattle.std.proofs.lemmas.Bool.Decides.{eqb_tells}
 use Rattle.std.proofs.lemmas.List.Quantifiers.{position-Some}
 use Rattle.dw_num.specs.declared.refusal.Code.{Code}
-use Rattle.dw_num.specs.declared.refusal.Code.TheVariants.{Truncated, AddressSize, SegmentSelector, RegisterTooLarge, NoSuchCie, RangeTooLarge}
+use Rattle.dw_num.specs.declared.refusal.Code.TheVariants.{AddressSize, SegmentSelector, NoSuchCie, RangeTooLarge}
 use Rattle.dw_num.specs.declared.target.Target.{Target}
 use Rattle.dw_num.specs.declared.target.Form.{Form}
 use Rattle.dw_num.specs.declared.target.Form.TheVariants.{Dwarf32, Dwarf64}
@@ -13,29 +13,26 @@ use Rattle.dw_section.specs.declared.fields.FdeFields.{FdeFields}
 use Rattle.dw_section.specs.Cut.{id_width}
 use Rattle.dw_section.specs.FdeFields.{is_among, SpellsFde}
 use Rattle.dw_num.specs.Input.{Input, AreBytes, Takes, behind}
-use Rattle.dw_num.specs.Fixed.{Fixed, IsWidth, fixed_number}
+use Rattle.dw_num.specs.Fixed.{Fixed, IsWidth}
 use Rattle.dw_num.specs.Target.{address_limit, byte_count}
 use Rattle.dw_num.specs.Leb.{Uleb, Sleb}
 use Rattle.dw_num.specs.Reading.{fault, fixed_at, uleb_at, sleb_at, address_at}
 use Rattle.dw_num.proofs.LebLaws.{done, ok_is, uleb_again, uleb_found, register_again, register_found}
 use Rattle.dw_num.proofs.SlebLaws.{sleb_again, sleb_found}
-use Rattle.dw_num.proofs.FixedLaws.{address_found, byte_again, byte_found, front_byte, fixed_found, fixed_at_again, taken_bytes}
+use Rattle.dw_num.proofs.FixedLaws.{address_found, byte_found, front_byte, fixed_found, fixed_at_again, taken_bytes}
 use Rattle.dw_section.specs.declared.fields.Version.{Version}
 use Rattle.dw_section.specs.declared.fields.Version.TheVariants.{One, Three, Four}
 use Rattle.dw_section.specs.declared.fields.CieFields.{CieFields}
 use Rattle.dw_section.specs.CieFields.{version_byte, size_bytes, IsRegister, SpellsCie}
 use Rattle.dw_section.specs.Fields.{wanted_of, wanted_at, version_of, known, version_in, version_at, empty_of, empty_string_at, selector_of, sizes_at, return_register_at, cie_of, after_data, after_code, factors_at, after_sizes, after_string, after_version, cie_fields_at, named_of, pointer_at, fde_of, after_begin, range_at, after_pointer, fde_fields_at}
-use Rattle.dw_num.proofs.Steps.{Takes-then, Again, again-then, bind_ok, cond_ok}
+use Rattle.dw_num.proofs.Steps.{address_again, byte_again, Takes-then, Again, again-then, bind_ok, cond_ok}
 
 -- ---- single bytes
-
-byte_read : (target : Target) (v : ℕ) → Again target (fixed_at 1) v (v ∷ [])
-byte_read target v at rest = byte_again at target v rest
 
 wanted_again : (target : Target) (n : ℕ) (code : Code) → Again target (wanted_at n code) tt (n ∷ [])
 unfolding wanted_at
 wanted_again target n code at rest = elim (eqb_tells n n) [
-  | inl is ↦ rw (byte_read target n at rest, is.0) refl
+  | inl is ↦ rw (byte_again target n at rest, is.0) refl
   | inr not ↦ absurd (not.1 refl)
 ]
 
@@ -56,9 +53,9 @@ wanted_found n code i new u e =
 
 version_again : (target : Target) (v : Version) → Again target version_at v (version_byte v ∷ [])
 unfolding version_at
-version_again target One at rest = rw (byte_read target 1 at rest) refl
-version_again target Three at rest = rw (byte_read target 3 at rest) refl
-version_again target Four at rest = rw (byte_read target 4 at rest) refl
+version_again target One at rest = rw (byte_again target 1 at rest) refl
+version_again target Three at rest = rw (byte_again target 3 at rest) refl
+version_again target Four at rest = rw (byte_again target 4 at rest) refl
 
 version_is : (n : ℕ) (v : Version) → version_of n ≡ Some v → n ≡ version_byte v
 version_is n v e = elim (eqb_tells n 1) [
@@ -124,7 +121,7 @@ sizes_found Four i new u e =
 
 return_register_again : (target : Target) (v : Version) (r : ℕ) (b : List ℕ) → IsRegister v r b → Again target (return_register_at v) r b
 unfolding return_register_at
-return_register_again target One r b h = subst (λ (c : List ℕ). Again target (fixed_at 1) r c) (sym h.0) (byte_read target r)
+return_register_again target One r b h = subst (λ (c : List ℕ). Again target (fixed_at 1) r c) (sym h.0) (byte_again target r)
 return_register_again target Three r b h = λ at rest. register_again at target r b rest h
 return_register_again target Four r b h = λ at rest. register_again at target r b rest h
 
@@ -214,10 +211,6 @@ pointer_found places form i new n h e =
     let q = fixed_found (id_width form) i p.0.1 p.0.0 (id_is_width form) h p.1 in
     let k = cond_ok (is_among p.0.0 places) (done p.0) (record { code = NoSuchCie; at = i.at }) (n, new) p.2 in
     subst (λ (z : ℕ × Input). (b : List ℕ) × (Fixed i.target.order (id_width form) z.0 b × (is_among z.0 places ≡ true)) × Takes i b z.1) (ok_is p.0 (n, new) k.1) (q.0, (q.1, k.0), q.2)
-
-address_again : (target : Target) (n : ℕ) (b : List ℕ) → Fixed target.order (byte_count target.size) n b → Again target address_at n b
-unfolding address_at
-address_again target n b f at rest = fixed_at_again (byte_count target.size) at target n b rest f
 
 pub fde_again : (target : Target) (places : List ℕ) (form : Form) (f : FdeFields) (b : List ℕ) → SpellsFde target places form f b → Again target (fde_fields_at places form) f b
 unfolding fde_fields_at range_at

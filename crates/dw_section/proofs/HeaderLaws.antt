@@ -56,7 +56,7 @@ fde_end target places p f program is = omega (arith, is.place, ap length is.whol
 pub cie_at_again : (target : Target) (p : Piece) (f : CieFields) (program : Span) → IsCie target p f program → cie_at target p ≡ done (cie_head p f program)
 unfolding cie_at
 cie_at_again target p f program is =
-    let first = take_again (id_width p.form) p.contents.at target is.id (is.spelling ++ program.bytes) is.id_is in
+    let first = take_again target (id_width p.form) is.id is.id_is p.contents.at (is.spelling ++ program.bytes) in
     let second = cie_again target f is.spelling is.spells (p.contents.at + length is.id) program.bytes in
     let place : (p.contents.at + length is.id) + length is.spelling ≡ program.at = omega (arith, is.place, length-append is.id is.spelling) in
     rw (is.whole, first, second, place) refl

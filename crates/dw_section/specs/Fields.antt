@@ -1,7 +1,7 @@
 -- Reading fields from the front of an entry's contents, with the fault of what can't be read.
-use Rattle.std.specs.Prelude.{ℕ, zero, suc, ◌+◌, ◌==◌, List, Option, Some, None, Ok, nat_lt, nat_le, ℤ, position, if◌then◌else◌}
+use Rattle.std.specs.Prelude.{ℕ, zero, suc, ◌+◌, ◌==◌, List, Option, Some, None, Ok, nat_le, ℤ, position, if◌then◌else◌}
 use Rattle.dw_num.specs.declared.refusal.Code.{Code}
-use Rattle.dw_num.specs.declared.refusal.Code.TheVariants.{Truncated, BadVersion, Augmentation, AddressSize, SegmentSelector, RegisterTooLarge, NoSuchCie, RangeTooLarge}
+use Rattle.dw_num.specs.declared.refusal.Code.TheVariants.{Truncated, BadVersion, Augmentation, AddressSize, SegmentSelector, NoSuchCie, RangeTooLarge}
 use Rattle.dw_num.specs.declared.target.Form.{Form}
 use Rattle.dw_num.specs.Input.{Input, behind}
 use Rattle.dw_num.specs.Reading.{Read, fault, fixed_at, uleb_at, sleb_at, address_at, register_at, ◌>>=◌}

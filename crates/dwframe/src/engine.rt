@@ -3,6 +3,7 @@
 ghost use Rattle.std.specs.Prelude.{◌≤◌};
 
 use crate::entries::run_entries;
+use crate::expr::run_expr;
 use crate::failure::Failure;
 use crate::files::Load;
 use crate::plan::{Job, Task, plan};
@@ -18,6 +19,7 @@ fn run<'a, L: Load, W: Write>(
     let Job { target, task } = plan(alloc, words)?;
     match task {
         Task::Entries { path } => run_entries(alloc, target, path, files, out),
+        Task::Expr { profile, block } => run_expr(alloc, target, profile, &block, out),
     }
 }
 

@@ -4,6 +4,7 @@ ghost use Rattle.std.specs.Prelude.{◌≤◌};
 
 use crate::files::LoadError;
 use dw_num::Refusal;
+use dw_op::DecodeError;
 use dw_section::SectionError;
 use std::alloc::AllocError;
 use thiserror::Error;
@@ -37,6 +38,15 @@ impl From<SectionError> for Failure<'_> {
         match error {
             SectionError::Refused(refusal) => Failure::Refused(refusal),
             SectionError::OutOfMemory => Failure::OutOfMemory,
+        }
+    }
+}
+
+impl From<DecodeError> for Failure<'_> {
+    fn from(error: DecodeError) -> Self {
+        match error {
+            DecodeError::Refused(refusal) => Failure::Refused(refusal),
+            DecodeError::OutOfMemory => Failure::OutOfMemory,
         }
     }
 }

@@ -6,9 +6,11 @@
 
 mod engine;
 mod entries;
+mod expr;
 mod failure;
 mod files;
 mod plan;
+mod texts;
 
 use engine::engine;
 use files::Disk;

@@ -4,6 +4,8 @@ use crate::failure::Failure;
 use clap::error::ErrorKind;
 use clap::{Arg, ArgAction, ArgMatches, Command};
 use dw_num::{Order, Size, Target};
+use dw_op::Profile;
+use hex::FromHexError;
 use std::alloc::{AllocError, Global};
 
 /// A run that is asked for.
@@ -15,6 +17,7 @@ pub struct Job<'a> {
 /// A subcommand with its own options and operands.
 pub enum Task<'a> {
     Entries { path: &'a str },
+    Expr { profile: Profile, block: Vec<u8> },
 }
 
 fn option<'a>(alloc: Global, name: &'a str) -> Arg<'a> {
@@ -35,11 +38,19 @@ fn subcommand<'a>(alloc: Global, name: &'a str) -> Result<Command<'a>, AllocErro
         .arg(option(alloc, "order"))
 }
 
+fn flag<'a>(alloc: Global, name: &'a str) -> Arg<'a> {
+    Arg::new(alloc, name).long(name).action(ArgAction::SetTrue)
+}
+
 fn command<'a>(alloc: Global) -> Result<Command<'a>, AllocError> {
     let entries = subcommand(alloc, "entries")?.arg(operand(alloc, "FILE"))?;
+    let expr = subcommand(alloc, "expr")?
+        .arg(flag(alloc, "frame"))?
+        .arg(operand(alloc, "HEX"))?;
     Command::new(alloc, "dwframe")
         .subcommand_required(true)
-        .subcommand(entries)
+        .subcommand(entries)?
+        .subcommand(expr)
 }
 
 fn size_of_text(text: &str) -> Option<Size> {
@@ -68,8 +79,28 @@ fn target_of<'a>(matches: &ArgMatches<'_>) -> Result<Target, Failure<'a>> {
     Ok(Target { size, order })
 }
 
+fn entries_task<'a>(matches: &ArgMatches<'a>) -> Result<Task<'a>, Failure<'a>> {
+    let path = matches.get_str("FILE").ok_or(Failure::BadValue("FILE"))?;
+    Ok(Task::Entries { path })
+}
+
+fn expr_task<'a>(alloc: Global, matches: &ArgMatches<'a>) -> Result<Task<'a>, Failure<'a>> {
+    let text = matches.get_str("HEX").ok_or(Failure::BadValue("HEX"))?;
+    let block = match hex::decode(alloc, text) {
+        Ok(block) => block,
+        Err(FromHexError::OutOfMemory) => return Err(Failure::OutOfMemory),
+        Err(_) => return Err(Failure::BadValue("HEX")),
+    };
+    let profile = if matches.get_flag("frame") {
+        Profile::Frame
+    } else {
+        Profile::Location
+    };
+    Ok(Task::Expr { profile, block })
+}
+
 /// The run that the words ask for, before any file is read. The values are judged in the order `--size`,
-/// `--order`, whatever the order of the words.
+/// `--order`, `HEX`, whatever the order of the words.
 pub fn plan<'a>(alloc: Global, words: &'a [String]) -> Result<Job<'a>, Failure<'a>> {
     let command = command(alloc)?;
     let matches = match command.try_get_matches_from(words) {
@@ -77,13 +108,13 @@ pub fn plan<'a>(alloc: Global, words: &'a [String]) -> Result<Job<'a>, Failure<'
         Err(error) if error.kind() == ErrorKind::OutOfMemory => return Err(Failure::OutOfMemory),
         Err(error) => return Err(Failure::Words(error)),
     };
-    let Some((_, matches)) = matches.subcommand() else {
+    let Some((name, matches)) = matches.subcommand() else {
         return Err(Failure::BadValue("the subcommand"));
     };
     let target = target_of(matches)?;
-    let path = matches.get_str("FILE").ok_or(Failure::BadValue("FILE"))?;
-    Ok(Job {
-        target,
-        task: Task::Entries { path },
-    })
+    let task = match name {
+        "entries" => entries_task(matches)?,
+        _ => expr_task(alloc, matches)?,
+    };
+    Ok(Job { target, task })
 }

@@ -63,10 +63,11 @@ impl Write for Failing {
     }
 }
 
-// The words of a line, which are apart by spaces.
+// The words of a line, which are apart by spaces. Two quotes are an empty word.
 fn words_of(alloc: Global, line: &str) -> Result<Vec<String>, AllocError> {
     let mut list = Vec::new(alloc);
     for word in line.split_whitespace() {
+        let word = if word == "''" { "" } else { word };
         list.push(String::from_str(alloc, word)?)?;
     }
     Ok(list)
@@ -234,6 +235,82 @@ fn tells_wrong_words(rt: HostRuntime) -> Result<(), Fail> {
     Ok(())
 }
 
+#[test]
+fn prints_operations(rt: HostRuntime) -> Result<(), Fail> {
+    let rows = [
+        ("''", "least\n"),
+        ("0cffffffff", "0 const 4294967295\nleast 0cffffffff\n"),
+        ("09ff", "0 const 18446744073709551615\nleast 09ff\n"),
+        ("0E0500000000000000", "0 const 5\nleast 35\n"),
+        (
+            "2f12000e05000000000000000e060000000000000037",
+            "0 skip 3\n1 const 5\n2 const 6\n3 const 7\nleast 2f0200353637\n",
+        ),
+        ("2f010030", "0 skip 2\n1 const 0\nleast 2f010030\n"),
+        (
+            "0e05000000000000002ff4ff",
+            "0 const 5\n1 skip 0\nleast 352ffcff\n",
+        ),
+        ("920308", "0 breg 3 8\nleast 7308\n"),
+        ("9278a47f", "0 breg 120 -92\nleast 9278a47f\n"),
+        ("9e00", "0 implicit_value -\nleast 9e00\n"),
+        ("9e02aabb", "0 implicit_value aabb\nleast 9e02aabb\n"),
+        (
+            "03efcdab8967452301069f",
+            "0 addr 0x123456789abcdef\n1 deref\n2 stack_value\nleast 03efcdab8967452301069f\n",
+        ),
+        (
+            "9d080393059404",
+            "0 bit_piece 8 3\n1 piece 5\n2 deref_size 4\nleast 9d080393059404\n",
+        ),
+    ];
+    for (hex, wanted) in rows {
+        let mut line = String::from_str(rt.alloc(), "dwframe expr --size 8 --order little ")?;
+        line.push_str(hex)?;
+        let answer = answers(rt.alloc(), &line, b"".as_slice(), wanted, "")?;
+        assert_eq!(rt; answer, (0, true, true), "{hex}");
+    }
+    Ok(())
+}
+
+#[test]
+fn reduces_constants_to_the_size(rt: HostRuntime) -> Result<(), Fail> {
+    let wanted = "0 const 4294967295\nleast 09ff\n";
+    for line in [
+        "dwframe expr --size 4 --order little 0cffffffff",
+        "dwframe expr --size 4 --order little 09ff",
+        "dwframe expr --size 4 --order big 0cffffffff",
+    ] {
+        let answer = answers(rt.alloc(), line, b"".as_slice(), wanted, "")?;
+        assert_eq!(rt; answer, (0, true, true), "{line}");
+    }
+    Ok(())
+}
+
+#[test]
+fn refuses_blocks(rt: HostRuntime) -> Result<(), Fail> {
+    let rows = [
+        ("9e03aabb", "refused: Truncated at 0x2\n"),
+        ("2f050008", "refused: Truncated at 0x4\n"),
+        ("2f01000805", "refused: BadBranch at 0x0\n"),
+        ("--frame 9f", "refused: NotInFrame at 0x0\n"),
+        ("--frame 309f18", "refused: NotInFrame at 0x1\n"),
+        ("18", "refused: UnknownOperation at 0x0\n"),
+        ("9409", "refused: BadDerefSize at 0x1\n"),
+        ("9400", "refused: BadDerefSize at 0x1\n"),
+        ("94", "refused: Truncated at 0x1\n"),
+        ("90808004", "refused: RegisterTooLarge at 0x1\n"),
+        ("10ffffffffffffffffff02", "refused: NumberTooLarge at 0x1\n"),
+    ];
+    for (hex, wanted) in rows {
+        let mut line = String::from_str(rt.alloc(), "dwframe expr --size 8 --order little ")?;
+        line.push_str(hex)?;
+        let answer = answers(rt.alloc(), &line, b"".as_slice(), "", wanted)?;
+        assert_eq!(rt; answer, (2, true, true), "{hex}");
+    }
+    Ok(())
+}
+
 // The status of a run over an output that takes so many writes and flushes, and whether it tells that it failed.
 fn status_over(
     alloc: Global,
@@ -268,6 +345,9 @@ fn tells_the_write_that_fails(rt: HostRuntime) -> Result<(), Fail> {
 #[test]
 fn tells_other_outputs_that_fail(rt: HostRuntime) -> Result<(), Fail> {
     assert_eq!(rt; status_over(rt.alloc(), ENTRIES, 100, 0)?, (4, true));
+    let expr = "dwframe expr --size 8 --order little 9e02aabb";
+    assert_eq!(rt; status_over(rt.alloc(), expr, 100, 0)?, (4, true));
+    assert_eq!(rt; status_over(rt.alloc(), expr, 0, 1)?, (4, true));
     assert_eq!(rt; status_over(rt.alloc(), "dwframe --help", 0, 1)?, (4, true));
     assert_eq!(rt;
         status_over(rt.alloc(), "dwframe --help", 100, 0)?,

@@ -1,0 +1,77 @@
+-- Where the two bytes of a branch lead, and its displacement.
+use Rattle.std.proofs.Common.{◌≡◌, ℕ, zero, suc, ◌+◌, ◌-◌, ◌%◌, ◌/◌, ◌<◌, ◌≤◌, List, [], ◌∷◌, length, Some, None, sym, ap, subst, ◌∙◌, inl, inr, arith, refl}
+use Rattle.std.specs.Prelude.{ℤ, pos, ◌-ℤ◌, FitsSigned}
+use Rattle.std.specs.Int.{w16, cast_unsigned}
+use Rattle.std.proofs.lemmas.Int.{ints}
+use Rattle.std.proofs.lemmas.Bool.{cases_lt, lt-ltb, le-ltb}
+use Rattle.dw_num.specs.declared.target.Order.{Order}
+use Rattle.dw_num.specs.declared.target.Order.TheVariants.{Little, Big}
+use Rattle.dw_num.specs.Input.{AreBytes}
+use Rattle.dw_num.specs.Fixed.{Fixed, FixedSigned, fixed_bytes, fixed_number}
+use Rattle.dw_num.proofs.FixedLaws.{length-fixed, is_fixed}
+use Rattle.dw_op.specs.OpSpells.{AnyTwo}
+use Rattle.dw_op.specs.Walk.{goes_to}
+
+some_is : (a b : ℕ) → Some a ≡ Some b → a ≡ b
+some_is a b e = cc
+
+none_is : (b : ℕ) → None ≡ Some b → ⊥
+none_is b e = cc
+
+-- a displacement in two bytes leads where the number says
+pub goes_displaced : (end number place : ℕ) → number < 65536 → goes_to end number ≡ Some place
+    → FitsSigned w16 (pos place -ℤ pos end) × (cast_unsigned w16 (pos place -ℤ pos end) ≡ number)
+goes_displaced end number place small e = elim (cases_lt number 32768) [
+  | inl lt ↦
+      let is : end + number ≡ place = some_is (end + number) place (rw (lt-ltb number 32768 lt) at e) in
+      (omega (arith, ints), omega (arith, ints))
+  | inr ge ↦ let e1 = rw (le-ltb number 32768 ge) at e in elim (cases_lt (end + number) 65536) [
+    | inl lt ↦ absurd (none_is place (rw (lt-ltb (end + number) 65536 lt) at e1))
+    | inr far ↦
+        let is : end + number - 65536 ≡ place = some_is (end + number - 65536) place (rw (le-ltb (end + number) 65536 far) at e1) in
+        (omega (arith, ints), omega (arith, ints))
+  ]
+]
+
+-- and back
+pub displaced_goes : (end number place : ℕ) → FitsSigned w16 (pos place -ℤ pos end) → cast_unsigned w16 (pos place -ℤ pos end) ≡ number → goes_to end number ≡ Some place
+displaced_goes end number place fits is = elim (cases_lt place end) [
+  | inl back ↦
+      let n-is : number + end ≡ 65536 + place = omega (arith, ints) in
+      let near : end ≤ place + 32768 = omega (arith, ints) in
+      rw (le-ltb number 32768 (omega arith), le-ltb (end + number) 65536 (omega arith)) (ap (λ (k : ℕ). Some k) (omega arith))
+  | inr ahead ↦
+      let n-is : end + number ≡ place = omega (arith, ints) in
+      let near : place < end + 32768 = omega (arith, ints) in
+      rw (lt-ltb number 32768 (omega arith)) (ap (λ (k : ℕ). Some k) (omega arith))
+]
+
+cast_small : (z : ℤ) → FitsSigned w16 z → cast_unsigned w16 z < 65536
+cast_small z h = omega (arith, ints)
+
+-- the two bytes of a displacement are those of its number
+pub displaced_fixed : (order : Order) (z : ℤ) (b : List ℕ) → FixedSigned order w16 z b → Fixed order 2 (cast_unsigned w16 z) b
+displaced_fixed order z b f = record { bytes = f.bytes; fits = omega (arith, cast_small z f.fits) }
+
+pub fixed_displaced : (order : Order) (number : ℕ) (z : ℤ) (b : List ℕ) → Fixed order 2 number b → FitsSigned w16 z → cast_unsigned w16 z ≡ number → FixedSigned order w16 z b
+fixed_displaced order number z b f fits is = record { bytes = f.bytes ∙ ap (λ (n : ℕ). fixed_bytes order 2 n) (sym is); fits = fits }
+
+bytes_of_two : (order : Order) (n : ℕ) → AnyTwo (fixed_bytes order 2 n)
+bytes_of_two Little n = (n % 256, n / 256 % 256, omega arith, omega arith, grind arith)
+bytes_of_two Big n = (n / 256 % 256, n % 256, omega arith, omega arith, grind arith)
+
+pub fixed_any : (order : Order) (n : ℕ) (b : List ℕ) → Fixed order 2 n b → AnyTwo b
+fixed_any order n b f = subst AnyTwo (sym f.bytes) (bytes_of_two order n)
+
+pair_bytes : (a b : ℕ) → a < 256 → b < 256 → AreBytes (a ∷ b ∷ [])
+pair_bytes a b ha hb zero = ha
+pair_bytes a b ha hb (suc zero) = hb
+pair_bytes a b ha hb (suc (suc k)) = omega arith
+
+pub any_fixed : (order : Order) (b : List ℕ) → AnyTwo b → Fixed order 2 (fixed_number order 2 b) b
+any_fixed order b h =
+    subst (λ (l : List ℕ). Fixed order 2 (fixed_number order 2 l) l) (sym h.4)
+    (is_fixed order 2 (h.0 ∷ h.1 ∷ []) (inr (inl refl)) (omega arith) (pair_bytes h.0 h.1 h.2 h.3))
+
+pub length-two : (order : Order) (n : ℕ) (b : List ℕ) → Fixed order 2 n b → length b ≡ 2
+length-two order n b f = ap length f.bytes ∙ length-fixed order 2 n

@@ -1,0 +1,216 @@
+-- Reading a block to its end, and once more for its branches.
+use Rattle.std.proofs.Common.{◌≡◌, ℕ, suc, ◌+◌, ◌<◌, List, [], ◌∷◌, ◌++◌, length, Option, Some, None, Result, Ok, Err, refl, sym, ap, subst, ◌∙◌, append_assoc, inl, inr, arith, ◌⊎◌}
+use Rattle.std.specs.List.{AllByRecursion}
+use Rattle.std.proofs.lemmas.List.{length-append, append-nil}
+use mathlib.Core.Path.{fun_ext}
+use Rattle.dw_num.specs.declared.refusal.Code.TheVariants.{BadBranch}
+use Rattle.dw_num.specs.declared.refusal.Refusal.{Refusal}
+use Rattle.dw_num.specs.declared.target.Target.{Target}
+use Rattle.dw_num.specs.Input.{Input, AreBytes}
+use Rattle.dw_num.proofs.LebLaws.{done}
+use Rattle.dw_num.proofs.FixedLaws.{taken_bytes}
+use Rattle.dw_op.specs.declared.op.Op.{Op}
+use Rattle.dw_op.specs.declared.profile.Profile.{Profile}
+use Rattle.dw_op.specs.declared.reading.Step.{Step}
+use Rattle.dw_op.specs.Reading.{step_at}
+use Rattle.dw_op.specs.Block.{branch_target, Displaced, Stands, EachPart, Block}
+use Rattle.dw_op.specs.Ranges.{TargetWithin, InRange, AllInRange}
+use Rattle.dw_op.specs.Walk.{Walk, walk, end_of, index_at, starts_of, place_index, op_of, put_first, resolve, unless, block_input, decode_at}
+use Rattle.dw_op.specs.declared.decoding.DecodeError.{DecodeError}
+use Rattle.dw_op.specs.declared.decoding.DecodeError.TheVariants.{Refused, OutOfMemory}
+use Rattle.dw_op.specs.Faults.{IsBlock, BlockFault, Refuses}
+use Rattle.dw_op.proofs.ReadingLaws.{step_found}
+use Rattle.dw_op.proofs.Splits.{walk_step, walk_stuck, walk_end}
+use Rattle.dw_op.proofs.Blocks.{block_found, block_only, fault_found, fault_only, is_block}
+use Rattle.dw_op.proofs.Search.{place_index_is}
+
+-- ---- one operation further
+
+-- a place in the input i
+pub record Within (i j : Input) : Type 0 where
+  pub bytes : AreBytes j.bytes
+  pub end : end_of j ≡ end_of i
+  pub target : j.target ≡ i.target
+
+pub within_all : (i : Input) → AreBytes i.bytes → Within i i
+within_all i h = record { bytes = h; end = refl; target = refl }
+
+pub within_more : (profile : Profile) (i j : Input) (x : Step × Input) → Within i j → step_at profile j ≡ done x → Within i x.1
+within_more profile i j x h e =
+    let found = step_found profile j x.1 x.0 h.bytes e in
+    let len : length j.bytes ≡ length found.part + length x.1.bytes = ap length found.taken.bytes ∙ length-append found.part x.1.bytes in
+    record {
+      bytes = taken_bytes j x.1 found.part found.taken h.bytes;
+      end = omega (arith, found.taken.at, h.end);
+      target = found.taken.target ∙ h.target;
+    }
+
+pub step_shorter : (profile : Profile) (j : Input) (x : Step × Input) → AreBytes j.bytes → step_at profile j ≡ done x → length x.1.bytes < length j.bytes
+step_shorter profile j x h e =
+    let found = step_found profile j x.1 x.0 h e in
+    let len : length j.bytes ≡ length found.part + length x.1.bytes = ap length found.taken.bytes ∙ length-append found.part x.1.bytes in
+    omega (arith, found.some)
+
+-- ---- the starts so far
+
+pub record StartsSo (profile : Profile) (i j : Input) (end : ℕ) (starts : List ℕ) : Type 0 where
+  pub within : Within i j
+  pub fault : (walk profile j).fault ≡ (walk profile i).fault
+  pub found : starts ++ starts_of (walk profile j).items end ≡ starts_of (walk profile i).items end
+
+pub starts_none : (profile : Profile) (i : Input) (end : ℕ) → AreBytes i.bytes → StartsSo profile i i end []
+starts_none profile i end h = record { within = within_all i h; fault = refl; found = refl }
+
+pub starts_more : (profile : Profile) (i j : Input) (end : ℕ) (starts : List ℕ) (x : Step × Input) → StartsSo profile i j end starts → step_at profile j ≡ done x → StartsSo profile i x.1 end (starts ++ j.at ∷ [])
+starts_more profile i j end starts x h e =
+    let w = walk_step profile j x h.within.bytes e in
+    record {
+      within = within_more profile i j x h.within e;
+      fault = sym (ap (λ (y : Walk). y.fault) w) ∙ h.fault;
+      found = append_assoc {A = ℕ} starts (j.at ∷ []) (starts_of (walk profile x.1).items end) ∙ ap (λ (y : Walk). starts ++ starts_of y.items end) (sym w) ∙ h.found;
+    }
+
+pub starts_end : (profile : Profile) (i j : Input) (end : ℕ) (starts : List ℕ) → StartsSo profile i j end starts → end_of i ≡ end → length j.bytes ≡ 0
+    → ((walk profile i).fault ≡ None) × (starts ++ j.at ∷ [] ≡ starts_of (walk profile i).items end)
+starts_end profile i j end starts h at_end e =
+    let w = walk_end profile j e in
+    let at : j.at ≡ end = omega (arith, h.within.end) in
+    (sym h.fault ∙ ap (λ (y : Walk). y.fault) w, ap (λ (n : ℕ). starts ++ n ∷ []) at ∙ ap (λ (y : Walk). starts ++ starts_of y.items end) (sym w) ∙ h.found)
+
+pub starts_stuck : (profile : Profile) (i j : Input) (end : ℕ) (starts : List ℕ) (r : Refusal) → StartsSo profile i j end starts → 0 < length j.bytes → step_at profile j ≡ Err r → (walk profile i).fault ≡ Some r
+starts_stuck profile i j end starts r h some e = sym h.fault ∙ ap (λ (y : Walk). y.fault) (walk_stuck profile j r some e)
+
+-- ---- the operations so far
+
+abbrev pub put_before : List Op → Result (List Op) Refusal → Result (List Op) Refusal
+put_before ops (Ok more) = Ok (ops ++ more)
+put_before ops (Err r) = Err r
+
+pub record OpsSo (profile : Profile) (i j : Input) (find : ℕ → Option ℕ) (ops : List Op) : Type 0 where
+  pub within : Within i j
+  pub fault : (walk profile j).fault ≡ (walk profile i).fault
+  pub found : put_before ops (resolve find (walk profile j).items) ≡ resolve find (walk profile i).items
+
+none_before : (r : Result (List Op) Refusal) → put_before [] r ≡ r
+none_before (Ok ops) = refl
+none_before (Err r) = refl
+
+pub ops_none : (profile : Profile) (i : Input) (find : ℕ → Option ℕ) → AreBytes i.bytes → OpsSo profile i i find []
+ops_none profile i find h = record { within = within_all i h; fault = refl; found = none_before (resolve find (walk profile i).items) }
+
+one_more : (at : ℕ) (ops : List Op) (op : Op) (r : Result (List Op) Refusal) → put_before (ops ++ op ∷ []) r ≡ put_before ops (put_first (Some op) at r)
+one_more at ops op (Ok more) = ap (λ (l : List Op). Ok l) (append_assoc {A = Op} ops (op ∷ []) more)
+one_more at ops op (Err r) = refl
+
+pub ops_more : (profile : Profile) (i j : Input) (find : ℕ → Option ℕ) (ops : List Op) (x : Step × Input) (op : Op) → OpsSo profile i j find ops → step_at profile j ≡ done x → op_of find j.at x.0 ≡ Some op
+    → OpsSo profile i x.1 find (ops ++ op ∷ [])
+ops_more profile i j find ops x op h e is =
+    let w = walk_step profile j x h.within.bytes e in
+    let more = resolve find (walk profile x.1).items in
+    record {
+      within = within_more profile i j x h.within e;
+      fault = sym (ap (λ (y : Walk). y.fault) w) ∙ h.fault;
+      found = one_more j.at ops op more ∙ ap (λ (o : Option Op). put_before ops (put_first o j.at more)) (sym is) ∙ ap (λ (y : Walk). put_before ops (resolve find y.items)) (sym w) ∙ h.found;
+    }
+
+abbrev pub bad_branch : ℕ → Refusal
+bad_branch at = record { code = BadBranch; at = at }
+
+pub ops_bad : (profile : Profile) (i j : Input) (find : ℕ → Option ℕ) (ops : List Op) (x : Step × Input) → OpsSo profile i j find ops → step_at profile j ≡ done x → op_of find j.at x.0 ≡ None
+    → resolve find (walk profile i).items ≡ Err (bad_branch j.at)
+ops_bad profile i j find ops x h e is =
+    let w = walk_step profile j x h.within.bytes e in
+    let more = resolve find (walk profile x.1).items in
+    sym h.found ∙ ap (λ (y : Walk). put_before ops (resolve find y.items)) w ∙ ap (λ (o : Option Op). put_before ops (put_first o j.at more)) is
+
+pub ops_all : (profile : Profile) (i j : Input) (find : ℕ → Option ℕ) (ops : List Op) → OpsSo profile i j find ops → length j.bytes ≡ 0 → resolve find (walk profile i).items ≡ Ok ops
+ops_all profile i j find ops h e =
+    sym h.found ∙ ap (λ (y : Walk). put_before ops (resolve find y.items)) (walk_end profile j e) ∙ ap (λ (l : List Op). Ok l) (append-nil ops)
+
+-- ---- what is decoded
+
+abbrev listed : Walk → (ℕ → Option ℕ) → Result (List Op) Refusal
+listed w find = unless w.fault (resolve find w.items)
+
+pub decoded_is : (profile : Profile) (i : Input) (end : ℕ) (places : List ℕ) (r : Result (List Op) Refusal) → end_of i ≡ end → (walk profile i).fault ≡ None → places ≡ starts_of (walk profile i).items end
+    → resolve (place_index places) (walk profile i).items ≡ r → decode_at profile i ≡ r
+unfolding decode_at
+decoded_is profile i end places r at_end none are e =
+    let w = walk profile i in
+    let here : (place : ℕ) → index_at w.items (end_of i) place ≡ place_index places place =
+    λ place. ap (λ (n : ℕ). index_at w.items n place) at_end ∙ sym (place_index_is w.items end place) ∙ ap (λ (l : List ℕ). place_index l place) (sym are) in
+    let finds : ℕ → Option ℕ = λ place. index_at w.items (end_of i) place in
+    let same : finds ≡ (λ place. place_index places place) = fun_ext here in
+    let a : listed w finds ≡ listed w (λ place. place_index places place) = ap (λ (find : ℕ → Option ℕ). listed w find) same in
+    a ∙ ap (λ (o : Option Refusal). unless o (resolve (λ place. place_index places place) w.items)) none ∙ e
+
+pub decoded_fault : (profile : Profile) (i : Input) (r : Refusal) → (walk profile i).fault ≡ Some r → decode_at profile i ≡ Err r
+unfolding decode_at
+decoded_fault profile i r e = ap (λ (o : Option Refusal). unless o (resolve (index_at (walk profile i).items (end_of i)) (walk profile i).items)) e
+
+-- ---- the operations of a block are in range
+
+part_within : (t : Target) (parts : List (List ℕ)) (k : ℕ) (o : Option ℕ) (part : List ℕ) → Displaced t.order parts k o part → TargetWithin (length parts) o
+part_within t parts k None part d = tt
+part_within t parts k (Some i) part d = d.0
+
+parts_in_range : (t : Target) (all : List (List ℕ)) (k : ℕ) (ops : List Op) (parts : List (List ℕ)) → EachPart (Stands t all) k ops parts → AllByRecursion (InRange t (length all)) ops × (length ops ≡ length parts)
+parts_in_range t all k [] [] h = (tt, refl)
+parts_in_range t all k [] (part ∷ parts) h = absurd h
+parts_in_range t all k (op ∷ ops) [] h = absurd h
+parts_in_range t all k (op ∷ ops) (part ∷ parts) h =
+    let more = parts_in_range t all (suc k) ops parts h.1 in
+    ((record { bytes = part; spelled = h.0.spells; within_list = part_within t all k (branch_target op) part h.0.displaced }, more.0), omega (arith, more.1))
+
+pub block_in_range : (t : Target) (ops : List Op) (bytes : List ℕ) → Block t ops bytes → AllInRange t ops
+block_in_range t ops bytes b =
+    let r = parts_in_range t b.parts 0 ops b.parts b.each in
+    subst (λ (n : ℕ). AllByRecursion (InRange t n) ops) (sym r.1) r.0
+
+pub decoded_in_range : (profile : Profile) (t : Target) (bytes : List ℕ) (ops : List Op) → AreBytes bytes → decode_at profile (block_input t bytes) ≡ Ok ops → AllInRange t ops
+decoded_in_range profile t bytes ops h e = block_in_range t ops bytes (is_block profile t ops bytes (block_found profile t bytes ops h e))
+
+-- ---- one answer
+
+abbrev pub answered : List Op → Result (List Op) Refusal
+answered ops = Ok ops
+
+abbrev pub refused : Refusal → Result (List Op) Refusal
+refused r = Err r
+
+pub same_ops : (a b : List Op) → answered a ≡ answered b → a ≡ b
+same_ops a b e = cc
+
+same_refusal : (a b : Refusal) → refused a ≡ refused b → a ≡ b
+same_refusal a b e = cc
+
+pub one_fault : (profile : Profile) (t : Target) (bytes : List ℕ) (r q : Refusal) → BlockFault profile t bytes r → BlockFault profile t bytes q → r ≡ q
+one_fault profile t bytes r q h k = same_refusal r q (sym (fault_only profile t bytes r h) ∙ fault_only profile t bytes q k)
+
+pub no_fault : (profile : Profile) (t : Target) (bytes : List ℕ) (ops : List Op) (r : Refusal) → IsBlock profile t ops bytes → BlockFault profile t bytes r → ⊥
+no_fault profile t bytes ops r h k = let e : answered ops ≡ refused r = sym (block_only profile t bytes ops h) ∙ fault_only profile t bytes r k in cc
+
+pub one_list : (profile : Profile) (t : Target) (bytes : List ℕ) (ops others : List Op) → IsBlock profile t ops bytes → IsBlock profile t others bytes → ops ≡ others
+one_list profile t bytes ops others h k = same_ops ops others (sym (block_only profile t bytes ops h) ∙ block_only profile t bytes others k)
+
+abbrev Answer : Profile → Target → List ℕ → Type 0
+Answer profile t bytes = ((ops : List Op) × IsBlock profile t ops bytes) ⊎ ((r : Refusal) × BlockFault profile t bytes r)
+
+pub some_answer : (profile : Profile) (t : Target) (bytes : List ℕ) → AreBytes bytes → Answer profile t bytes
+some_answer profile t bytes h = go (decode_at profile (block_input t bytes)) refl
+  where
+    go : (r : Result (List Op) Refusal) → decode_at profile (block_input t bytes) ≡ r → Answer profile t bytes
+    go (Ok ops) e = inl (ops, block_found profile t bytes ops h e)
+    go (Err r) e = inr (r, fault_found profile t bytes r h e)
+
+pub refuses_so : (P Q : Refusal → Type 0) (e : DecodeError) → ((r : Refusal) → P r → Q r) → Refuses P e → Refuses Q e
+refuses_so P Q (Refused r) h k = h r k
+refuses_so P Q OutOfMemory h k = k
+
+-- an error where there are operations is want of memory
+pub only_memory : (profile : Profile) (t : Target) (bytes : List ℕ) (ops : List Op) (e : DecodeError) → IsBlock profile t ops bytes → Refuses (λ r. decode_at profile (block_input t bytes) ≡ Err r) e → e ≡ OutOfMemory
+only_memory profile t bytes ops (Refused r) h k = let e : answered ops ≡ refused r = sym (block_only profile t bytes ops h) ∙ k in absurd cc
+only_memory profile t bytes ops OutOfMemory h k = refl
+
+pub ops_stuck : (profile : Profile) (i j : Input) (find : ℕ → Option ℕ) (ops : List Op) (r : Refusal) → OpsSo profile i j find ops → 0 < length j.bytes → step_at profile j ≡ Err r → decode_at profile i ≡ Err r
+ops_stuck profile i j find ops r h some e = decoded_fault profile i r (sym h.fault ∙ ap (λ (y : Walk). y.fault) (walk_stuck profile j r some e))

@@ -1,0 +1,214 @@
+-- An operation comes back from its line, so that equal lines are of equal operations.
+use Rattle.std.proofs.Common.{◌≡◌, ℕ, Bool, true, false, List, [], ◌∷◌, map, refl, sym, ap, ◌∙◌}
+use Rattle.std.specs.Prelude.{ℤ, pos, negsuc, nat_eq, if◌then◌else◌, IsTrue, ◌↔◌}
+use Rattle.std.specs.Bool.{Decides, one_answer}
+use Rattle.dw_op.specs.ComparingLaws.{lines_decide}
+use Rattle.dw_num.specs.declared.target.Target.{Target}
+use Rattle.dw_num.specs.declared.target.Size.{Size}
+use Rattle.dw_num.specs.declared.target.Size.TheVariants.{Four, Eight}
+use Rattle.dw_num.specs.declared.target.Order.{Order}
+use Rattle.dw_num.specs.declared.target.Order.TheVariants.{Little, Big}
+use Rattle.dw_op.specs.declared.op.Op.{Op}
+use Rattle.dw_op.specs.declared.op.Op.TheVariants.{Addr, Deref, Const, Dup, Drop, Over, Pick, Swap, Rot, Abs, And, Div, Minus, Mod, Mul, Neg, Not, Or, Plus, PlusUconst, Shl, Shr, Shra, Xor, Bra, Eq, Ge, Gt, Le, Lt, Ne, Skip, Reg, Breg, Fbreg, Piece, DerefSize, Nop, PushObjectAddress, CallFrameCfa, BitPiece, Implicit, StackValue}
+use Rattle.dw_op.specs.Expression.{Expression, bare}
+use Rattle.dw_op.specs.Block.{FrameBlock}
+use Rattle.dw_op.specs.Profile.{in_frame, InFrame}
+use Rattle.dw_op.specs.Comparing.{sign_of, size_of, line, op_line, target_line, expression_lines, same_expression}
+
+-- a signed number from its sign and number
+abbrev signed_with : ℕ → ℕ → ℤ
+signed_with sign number = if nat_eq sign 0 then pos number else negsuc number
+
+abbrev op_with : List ℕ → Op
+op_with (kind ∷ first ∷ second ∷ sign ∷ number ∷ bytes) =
+    if nat_eq kind 0x06 then Deref else
+    if nat_eq kind 0x12 then Dup else
+    if nat_eq kind 0x13 then Drop else
+    if nat_eq kind 0x14 then Over else
+    if nat_eq kind 0x16 then Swap else
+    if nat_eq kind 0x17 then Rot else
+    if nat_eq kind 0x19 then Abs else
+    if nat_eq kind 0x1a then And else
+    if nat_eq kind 0x1b then Div else
+    if nat_eq kind 0x1c then Minus else
+    if nat_eq kind 0x1d then Mod else
+    if nat_eq kind 0x1e then Mul else
+    if nat_eq kind 0x1f then Neg else
+    if nat_eq kind 0x20 then Not else
+    if nat_eq kind 0x21 then Or else
+    if nat_eq kind 0x22 then Plus else
+    if nat_eq kind 0x24 then Shl else
+    if nat_eq kind 0x25 then Shr else
+    if nat_eq kind 0x26 then Shra else
+    if nat_eq kind 0x27 then Xor else
+    if nat_eq kind 0x29 then Eq else
+    if nat_eq kind 0x2a then Ge else
+    if nat_eq kind 0x2b then Gt else
+    if nat_eq kind 0x2c then Le else
+    if nat_eq kind 0x2d then Lt else
+    if nat_eq kind 0x2e then Ne else
+    if nat_eq kind 0x96 then Nop else
+    if nat_eq kind 0x97 then PushObjectAddress else
+    if nat_eq kind 0x9c then CallFrameCfa else
+    if nat_eq kind 0x9f then StackValue else
+    if nat_eq kind 0x03 then Addr first else
+    if nat_eq kind 0x08 then Const first else
+    if nat_eq kind 0x15 then Pick first else
+    if nat_eq kind 0x23 then PlusUconst first else
+    if nat_eq kind 0x28 then Bra first else
+    if nat_eq kind 0x2f then Skip first else
+    if nat_eq kind 0x50 then Reg first else
+    if nat_eq kind 0x70 then Breg first (signed_with sign number) else
+    if nat_eq kind 0x91 then Fbreg (signed_with sign number) else
+    if nat_eq kind 0x93 then Piece first else
+    if nat_eq kind 0x94 then DerefSize first else
+    if nat_eq kind 0x9d then BitPiece first second else
+    Implicit (record { ref_ptr = (0, 0); now = bytes })
+op_with other = Nop
+
+op_back : (op : Op) → op_with (op_line op) ≡ bare op
+op_back Deref = refl
+op_back Dup = refl
+op_back Drop = refl
+op_back Over = refl
+op_back Swap = refl
+op_back Rot = refl
+op_back Abs = refl
+op_back And = refl
+op_back Div = refl
+op_back Minus = refl
+op_back Mod = refl
+op_back Mul = refl
+op_back Neg = refl
+op_back Not = refl
+op_back Or = refl
+op_back Plus = refl
+op_back Shl = refl
+op_back Shr = refl
+op_back Shra = refl
+op_back Xor = refl
+op_back Eq = refl
+op_back Ge = refl
+op_back Gt = refl
+op_back Le = refl
+op_back Lt = refl
+op_back Ne = refl
+op_back Nop = refl
+op_back PushObjectAddress = refl
+op_back CallFrameCfa = refl
+op_back StackValue = refl
+op_back (Addr a) = refl
+op_back (Const v) = refl
+op_back (Pick i) = refl
+op_back (PlusUconst n) = refl
+op_back (Bra i) = refl
+op_back (Skip i) = refl
+op_back (Reg r) = refl
+op_back (Breg r (pos n)) = refl
+op_back (Breg r (negsuc n)) = refl
+op_back (Fbreg (pos n)) = refl
+op_back (Fbreg (negsuc n)) = refl
+op_back (Piece n) = refl
+op_back (DerefSize k) = refl
+op_back (BitPiece size offset) = refl
+op_back (Implicit block) = refl
+
+signed_back : (z : ℤ) → signed_with (sign_of z) (size_of z) ≡ z
+signed_back (pos n) = refl
+signed_back (negsuc n) = refl
+
+-- equal parts, equal lines
+abbrev pub SameParts : ℕ → ℕ → ℕ → ℤ → List ℕ → ℕ → ℕ → ℕ → ℤ → List ℕ → Type 0
+SameParts k f s z b k2 f2 s2 z2 b2 = (k ≡ k2) × (f ≡ f2) × (s ≡ s2) × (z ≡ z2) × (b ≡ b2)
+
+pub parts_line : (k f s : ℕ) (z : ℤ) (b : List ℕ) (k2 f2 s2 : ℕ) (z2 : ℤ) (b2 : List ℕ) → SameParts k f s z b k2 f2 s2 z2 b2 → line k f s z b ≡ line k2 f2 s2 z2 b2
+parts_line k f s z b k2 f2 s2 z2 b2 h = rw (h.0, h.1, h.2, h.3, h.4) refl
+
+pub line_parts : (k f s : ℕ) (z : ℤ) (b : List ℕ) (k2 f2 s2 : ℕ) (z2 : ℤ) (b2 : List ℕ) → line k f s z b ≡ line k2 f2 s2 z2 b2 → SameParts k f s z b k2 f2 s2 z2 b2
+line_parts k f s z b k2 f2 s2 z2 b2 e =
+    let kind : k ≡ k2 = cc in
+    let first : f ≡ f2 = cc in
+    let second : s ≡ s2 = cc in
+    let sign : sign_of z ≡ sign_of z2 = cc in
+    let size : size_of z ≡ size_of z2 = cc in
+    let bytes : b ≡ b2 = cc in
+    let signed : z ≡ z2 = sym (signed_back z) ∙ ap (λ (n : ℕ). signed_with n (size_of z)) sign ∙ ap (λ (n : ℕ). signed_with (sign_of z2) n) size ∙ signed_back z2 in
+    (kind, first, second, signed, bytes)
+
+pub line_of_bare : (op : Op) → op_line (bare op) ≡ op_line op
+line_of_bare (Implicit block) = refl
+line_of_bare op = refl
+
+-- equal lines, equal operations
+pub same_op : (a b : Op) → op_line a ≡ op_line b → bare a ≡ bare b
+same_op a b e = sym (op_back a) ∙ ap op_with e ∙ op_back b
+
+pub op_same : (a b : Op) → bare a ≡ bare b → op_line a ≡ op_line b
+op_same a b e = sym (line_of_bare a) ∙ ap op_line e ∙ line_of_bare b
+
+-- an operation of a frame has no bytes
+bare_frame : (op : Op) → in_frame op ≡ true → bare op ≡ op
+bare_frame (Implicit block) h = let k : false ≡ true = h in absurd cc
+bare_frame op h = refl
+
+head_is : (a b : List ℕ) (x y : List (List ℕ)) → a ∷ x ≡ b ∷ y → a ≡ b
+head_is a b x y e = cc
+
+tail_is : (a b : List ℕ) (x y : List (List ℕ)) → a ∷ x ≡ b ∷ y → x ≡ y
+tail_is a b x y e = cc
+
+same_list : (a b : List Op) → InFrame a → InFrame b → map op_line a ≡ map op_line b → a ≡ b
+same_list [] [] h k e = refl
+same_list [] (y ∷ b) h k e = absurd cc
+same_list (x ∷ a) [] h k e = absurd cc
+same_list (x ∷ a) (y ∷ b) h k e =
+    let first : x ≡ y = sym (bare_frame x h.0) ∙ same_op x y (head_is (op_line x) (op_line y) (map op_line a) (map op_line b) e) ∙ bare_frame y k.0 in
+    let more = same_list a b h.1 k.1 (tail_is (op_line x) (op_line y) (map op_line a) (map op_line b) e) in
+    cc
+
+target_with : List ℕ → Target
+target_with [] = record { size = Four; order = Little }
+target_with (size ∷ []) = record { size = Four; order = Little }
+target_with (size ∷ order ∷ more) = record { size = if nat_eq size 4 then Four else Eight; order = if nat_eq order 0 then Little else Big }
+
+target_back_of : (size : Size) (order : Order) → target_with (target_line (record { size = size; order = order })) ≡ record { size = size; order = order }
+unfolding target_with
+target_back_of Four Little = refl
+target_back_of Four Big = refl
+target_back_of Eight Little = refl
+target_back_of Eight Big = refl
+
+target_back : (t : Target) → target_with (target_line t) ≡ t
+target_back t = target_back_of t.size t.order
+
+pub same_target : (a b : Target) → target_line a ≡ target_line b → a ≡ b
+same_target a b e = sym (target_back a) ∙ ap target_with e ∙ target_back b
+
+-- ---- the test
+
+abbrev expression : Target → List Op → Expression
+expression t ops = record { target = t; ops = ops }
+
+expression_is : (a b : Expression) → a.target ≡ b.target → a.ops ≡ b.ops → a ≡ b
+expression_is a b target ops =
+    ap (λ (t : Target). expression t a.ops) target ∙ ap (λ (l : List Op). expression b.target l) ops
+
+-- the test tells equal expressions
+pub tells : (a b : Expression) → InFrame a.ops → InFrame b.ops → Decides (same_expression a b) (a ≡ b)
+tells a b h k =
+    let d = lines_decide (expression_lines a) (expression_lines b) in (
+      λ e.
+          let lines = d.0 e in
+          expression_is a b
+          (same_target a.target b.target (head_is (target_line a.target) (target_line b.target) (map op_line a.ops) (map op_line b.ops) lines))
+          (same_list a.ops b.ops h k (tail_is (target_line a.target) (target_line b.target) (map op_line a.ops) (map op_line b.ops) lines)),
+      λ e. d.1 (ap expression_lines e),
+    )
+
+-- what tells equal expressions is the test
+pub is_test : (a b : Expression) (r : Bool) → InFrame a.ops → InFrame b.ops → (IsTrue r ↔ a ≡ b) → r ≡ same_expression a b
+is_test a b r h k e = one_answer r (same_expression a b) e (tells a b h k)
+
+-- the test, of expressions that have blocks
+pub is_test_of : (a b : Expression) (r : Bool) → ((bytes : List ℕ) × FrameBlock a.target a.ops bytes) → ((bytes : List ℕ) × FrameBlock b.target b.ops bytes) → (IsTrue r ↔ a ≡ b) → r ≡ same_expression a b
+is_test_of a b r h k e = is_test a b r h.1.1 k.1.1 e

@@ -1,0 +1,214 @@
+-- A walk over a block, and the parts that it reads.
+use Rattle.std.proofs.Common.{◌≡◌, ℕ, zero, suc, ◌+◌, ◌<◌, ◌≤◌, true, List, [], ◌∷◌, ◌++◌, length, Option, Some, None, Ok, Err, refl, sym, ap, subst, ◌∙◌, append_assoc, arith}
+use Rattle.std.proofs.lemmas.List.{length-append}
+use Rattle.dw_num.specs.declared.refusal.Refusal.{Refusal}
+use Rattle.dw_num.specs.declared.target.Target.{Target}
+use Rattle.dw_num.specs.Input.{Input, AreBytes, Takes}
+use Rattle.dw_num.specs.Reading.{Read, fixed_at}
+use Rattle.dw_num.proofs.LebLaws.{done}
+use Rattle.dw_num.proofs.FixedLaws.{taken_bytes}
+use Rattle.dw_op.specs.declared.profile.Profile.{Profile}
+use Rattle.dw_op.specs.declared.reading.Step.{Step}
+use Rattle.dw_op.specs.Block.{joined}
+use Rattle.dw_op.specs.Reading.{step_at}
+use Rattle.dw_op.specs.Steps.{StepSpells, step_allowed}
+use Rattle.dw_op.specs.Walk.{Item, Walk, ended, after_item, on_read, on_left, walk_by, walk}
+use Rattle.dw_op.proofs.ReadingLaws.{step_found}
+use Rattle.dw_op.proofs.ReadingAgain.{step_again}
+
+-- a part spells this step, which the profile has
+pub record Spelled (profile : Profile) (t : Target) (step : Step) (part : List ℕ) : Type 0 where
+  pub spells : StepSpells t step part
+  pub allowed : step_allowed profile step ≡ true
+  pub some : 0 < length part
+
+pub spelled : (profile : Profile) (t : Target) (step : Step) (part : List ℕ) → StepSpells t step part → step_allowed profile step ≡ true → Spelled profile t step part
+unfolding step_at fixed_at
+spelled profile t step [] h allowed = let e = step_again t profile step [] h allowed 0 [] in absurd cc
+spelled profile t step (b ∷ part) h allowed = record { spells = h; allowed = allowed; some = omega arith }
+
+-- each part spells its step
+abbrev pub EachSpells : Profile → Target → List Step → List (List ℕ) → Type 0
+EachSpells profile t [] [] = Unit {0}
+EachSpells profile t [] (part ∷ parts) = ⊥
+EachSpells profile t (step ∷ steps) [] = ⊥
+EachSpells profile t (step ∷ steps) (part ∷ parts) = Spelled profile t step part × EachSpells profile t steps parts
+
+abbrev pub item : ℕ → Step → Item
+item at step = record { at = at; step = step }
+
+-- the items of steps that these parts spell, from a place on
+abbrev pub items_from : ℕ → List Step → List (List ℕ) → List Item
+items_from at [] parts = []
+items_from at (step ∷ steps) [] = []
+items_from at (step ∷ steps) (part ∷ parts) = item at step ∷ items_from (at + length part) steps parts
+
+abbrev pub input : ℕ → List ℕ → Target → Input
+input at bytes t = record { at = at; bytes = bytes; target = t }
+
+-- what follows is nothing, or is read as no operation
+abbrev pub Ends : Profile → Input → Option Refusal → Type 0
+Ends profile i None = i.bytes ≡ []
+Ends profile i (Some r) = (0 < length i.bytes) × (step_at profile i ≡ Err r)
+
+pub record Split (profile : Profile) (i : Input) (w : Walk) : Type 0 where
+  pub steps : List Step
+  pub parts : List (List ℕ)
+  pub rest : List ℕ
+  pub each : EachSpells profile i.target steps parts
+  pub items : w.items ≡ items_from i.at steps parts
+  pub whole : i.bytes ≡ joined parts ++ rest
+  pub ends : Ends profile (input (i.at + length (joined parts)) rest i.target) w.fault
+
+pub new_is : (i new : Input) (b : List ℕ) → Takes i b new → new ≡ input (i.at + length b) new.bytes i.target
+new_is i new b t =
+    ap (λ (n : ℕ). input n new.bytes new.target) t.at ∙ ap (λ (g : Target). input (i.at + length b) new.bytes g) t.target
+
+nothing : (l : List ℕ) → length l ≤ 0 → l ≡ []
+nothing [] le = refl
+nothing (x ∷ l) le = absurd (omega arith)
+
+same_place : (i : Input) → i ≡ input (i.at + 0) i.bytes i.target
+same_place i = ap (λ (n : ℕ). input n i.bytes i.target) (omega arith)
+
+-- one part more in front
+more_split : (profile : Profile) (i : Input) (step : Step) (part bytes : List ℕ) (w : Walk) → Spelled profile i.target step part → i.bytes ≡ part ++ bytes
+    → Split profile (input (i.at + length part) bytes i.target) w → Split profile i (after_item i.at step w)
+more_split profile i step part bytes w h e s = record {
+  steps = step ∷ s.steps;
+  parts = part ∷ s.parts;
+  rest = s.rest;
+  each = (h, s.each);
+  items = ap (λ (l : List Item). item i.at step ∷ l) s.items;
+  whole = e ∙ ap (λ (l : List ℕ). part ++ l) s.whole ∙ sym (append_assoc part (joined s.parts) s.rest);
+  ends = subst (λ (n : ℕ). Ends profile (input n s.rest i.target) w.fault) (omega (arith, length-append part (joined s.parts))) s.ends;
+}
+
+abbrev SplitBelow : Profile → ℕ → Type 0
+SplitBelow profile n = (i : Input) → length i.bytes ≤ n → AreBytes i.bytes → Split profile i (walk_by profile n i)
+
+read_split : (profile : Profile) (n : ℕ) (i : Input) (r : Read Step) → SplitBelow profile n → length i.bytes ≤ suc n → 0 < length i.bytes → AreBytes i.bytes → step_at profile i ≡ r
+    → Split profile i (on_read r (λ e. ended (Some e)) (λ x. after_item i.at x.0 (walk_by profile n x.1)))
+read_split profile n i (Err r) more le some h e = record {
+  steps = [];
+  parts = [];
+  rest = i.bytes;
+  each = tt;
+  items = refl;
+  whole = refl;
+  ends = subst (λ (j : Input). (0 < length j.bytes) × (step_at profile j ≡ Err r)) (same_place i) (some, e);
+}
+read_split profile n i (Ok x) more le some h e =
+    let found = step_found profile i x.1 x.0 h e in
+    let is = new_is i x.1 found.part found.taken in
+    let shorter : length i.bytes ≡ length found.part + length x.1.bytes = ap length found.taken.bytes ∙ length-append found.part x.1.bytes in
+    let rest = more (input (i.at + length found.part) x.1.bytes i.target) (omega (arith, found.some)) (taken_bytes i x.1 found.part found.taken h) in
+    subst (λ (j : Input). Split profile i (after_item i.at x.0 (walk_by profile n j))) (sym is)
+    (more_split profile i x.0 found.part x.1.bytes (walk_by profile n (input (i.at + length found.part) x.1.bytes i.target)) (record { spells = found.spells; allowed = found.allowed; some = found.some }) found.taken.bytes rest)
+
+left_split : (profile : Profile) (n : ℕ) (i : Input) (bytes : List ℕ) → SplitBelow profile n → length i.bytes ≤ suc n → AreBytes i.bytes → i.bytes ≡ bytes
+    → Split profile i (on_left bytes (on_read (step_at profile i) (λ e. ended (Some e)) (λ x. after_item i.at x.0 (walk_by profile n x.1))))
+left_split profile n i [] more le h e = record { steps = []; parts = []; rest = []; each = tt; items = refl; whole = e; ends = refl }
+left_split profile n i (b ∷ bytes) more le h e =
+    let some : 0 < length i.bytes = omega (arith, ap length e) in
+    read_split profile n i (step_at profile i) more le some h refl
+
+pub split_by : (profile : Profile) (n : ℕ) (i : Input) → length i.bytes ≤ n → AreBytes i.bytes → Split profile i (walk_by profile n i)
+unfolding walk_by
+split_by profile zero i le h = record { steps = []; parts = []; rest = []; each = tt; items = refl; whole = nothing i.bytes le; ends = refl }
+split_by profile (suc n) i le h = left_split profile n i i.bytes (λ j l k. split_by profile n j l k) le h refl
+
+-- the parts that a walk reads
+pub split_of : (profile : Profile) (i : Input) → AreBytes i.bytes → Split profile i (walk profile i)
+unfolding walk
+split_of profile i h = split_by profile (length i.bytes) i (omega arith) h
+
+-- ---- parts that are walked
+
+on_some : (bytes : List ℕ) (w : Walk) → 0 < length bytes → on_left bytes w ≡ w
+on_some [] w h = absurd (omega arith)
+on_some (b ∷ bytes) w h = refl
+
+step_walk_by : (profile : Profile) (n : ℕ) (i : Input) (x : Step × Input) → 0 < length i.bytes → step_at profile i ≡ done x → walk_by profile (suc n) i ≡ after_item i.at x.0 (walk_by profile n x.1)
+unfolding walk_by
+step_walk_by profile n i x some e = rw (on_some i.bytes _ some, e) refl
+
+stuck_walk_by : (profile : Profile) (n : ℕ) (i : Input) (r : Refusal) → 0 < length i.bytes → step_at profile i ≡ Err r → walk_by profile (suc n) i ≡ ended (Some r)
+unfolding walk_by
+stuck_walk_by profile n i r some e = rw (on_some i.bytes _ some, e) refl
+
+end_walk_by : (profile : Profile) (n at : ℕ) (t : Target) → walk_by profile n (input at [] t) ≡ ended None
+unfolding walk_by
+end_walk_by profile zero at t = refl
+end_walk_by profile (suc n) at t = refl
+
+ends_walk_by : (profile : Profile) (n at : ℕ) (rest : List ℕ) (t : Target) (f : Option Refusal) → length rest ≤ n → Ends profile (input (at + 0) rest t) f → walk_by profile n (input at rest t) ≡ ended f
+ends_walk_by profile n at rest t None le h = subst (λ (l : List ℕ). walk_by profile n (input at l t) ≡ ended None) (sym h) (end_walk_by profile n at t)
+ends_walk_by profile zero at rest t (Some r) le h = absurd (omega (arith, h.0))
+ends_walk_by profile (suc n) at rest t (Some r) le h =
+    stuck_walk_by profile n (input at rest t) r h.0 (subst (λ (j : Input). step_at profile j ≡ Err r) (sym (same_place (input at rest t))) h.1)
+
+pub joined_walk_by : (profile : Profile) (t : Target) (steps : List Step) (parts : List (List ℕ)) (n at : ℕ) (rest : List ℕ) (f : Option Refusal) → EachSpells profile t steps parts
+    → length (joined parts ++ rest) ≤ n → Ends profile (input (at + length (joined parts)) rest t) f
+    → walk_by profile n (input at (joined parts ++ rest) t) ≡ record { items = items_from at steps parts; fault = f }
+joined_walk_by profile t [] [] n at rest f h le ends = ends_walk_by profile n at rest t f le ends
+joined_walk_by profile t [] (part ∷ parts) n at rest f h le ends = absurd h
+joined_walk_by profile t (step ∷ steps) [] n at rest f h le ends = absurd h
+joined_walk_by profile t (step ∷ steps) (part ∷ parts) zero at rest f h le ends =
+    absurd (omega (arith, h.0.some, length-append (part ++ joined parts) rest, length-append part (joined parts)))
+joined_walk_by profile t (step ∷ steps) (part ∷ parts) (suc n) at rest f h le ends =
+    let more = joined parts ++ rest in
+    let same : (part ++ joined parts) ++ rest ≡ part ++ more = append_assoc part (joined parts) rest in
+    let len : length ((part ++ joined parts) ++ rest) ≡ length part + length more = ap length same ∙ length-append part more in
+    let read = step_again t profile step part h.0.spells h.0.allowed at more in
+    let place : at + length (part ++ joined parts) ≡ (at + length part) + length (joined parts) = omega (arith, length-append part (joined parts)) in
+    let later = joined_walk_by profile t steps parts n (at + length part) rest f h.1 (omega (arith, h.0.some)) (subst (λ (m : ℕ). Ends profile (input m rest t) f) place ends) in
+    ap (λ (l : List ℕ). walk_by profile (suc n) (input at l t)) same
+    ∙ step_walk_by profile n (input at (part ++ more) t) (step, input (at + length part) more t) (omega (arith, h.0.some, length-append part more)) read
+    ∙ ap (λ (w : Walk). after_item at step w) later
+
+pub joined_walk : (profile : Profile) (t : Target) (steps : List Step) (parts : List (List ℕ)) (at : ℕ) (rest : List ℕ) (f : Option Refusal) → EachSpells profile t steps parts
+    → Ends profile (input (at + length (joined parts)) rest t) f
+    → walk profile (input at (joined parts ++ rest) t) ≡ record { items = items_from at steps parts; fault = f }
+unfolding walk
+joined_walk profile t steps parts at rest f h ends = joined_walk_by profile t steps parts (length (joined parts ++ rest)) at rest f h (omega arith) ends
+
+-- ---- one operation further
+
+-- enough steps are as good as more
+walk_enough : (profile : Profile) (n : ℕ) (i : Input) → length i.bytes ≤ n → AreBytes i.bytes → walk_by profile n i ≡ walk profile i
+walk_enough profile n i le h =
+    let s = split_of profile i h in
+    let w = walk profile i in
+    let is : i ≡ input i.at (joined s.parts ++ s.rest) i.target = ap (λ (l : List ℕ). input i.at l i.target) s.whole in
+    let a = joined_walk_by profile i.target s.steps s.parts n i.at s.rest w.fault s.each (omega (arith, ap length s.whole)) s.ends in
+    ap (λ (j : Input). walk_by profile n j) is ∙ a ∙ ap (λ (l : List Item). record { items = l; fault = w.fault }) (sym s.items)
+
+some_read : (profile : Profile) (i : Input) (x : Step × Input) → AreBytes i.bytes → step_at profile i ≡ done x → length x.1.bytes < length i.bytes
+some_read profile i x h e =
+    let found = step_found profile i x.1 x.0 h e in
+    let len : length i.bytes ≡ length found.part + length x.1.bytes = ap length found.taken.bytes ∙ length-append found.part x.1.bytes in
+    omega (arith, found.some)
+
+pub walk_step : (profile : Profile) (i : Input) (x : Step × Input) → AreBytes i.bytes → step_at profile i ≡ done x → walk profile i ≡ after_item i.at x.0 (walk profile x.1)
+unfolding walk
+walk_step profile i x h e = go (length i.bytes) refl (some_read profile i x h e)
+  where
+    go : (n : ℕ) → length i.bytes ≡ n → length x.1.bytes < n → walk_by profile n i ≡ after_item i.at x.0 (walk profile x.1)
+    go zero is lt = absurd (omega arith)
+    go (suc n) is lt =
+        let found = step_found profile i x.1 x.0 h e in
+        step_walk_by profile n i x (omega arith) e
+        ∙ ap (λ (w : Walk). after_item i.at x.0 w) (walk_enough profile n x.1 (omega arith) (taken_bytes i x.1 found.part found.taken h))
+
+pub walk_stuck : (profile : Profile) (i : Input) (r : Refusal) → 0 < length i.bytes → step_at profile i ≡ Err r → walk profile i ≡ ended (Some r)
+unfolding walk
+walk_stuck profile i r some e = go (length i.bytes) some
+  where
+    go : (n : ℕ) → 0 < n → walk_by profile n i ≡ ended (Some r)
+    go zero lt = absurd (omega arith)
+    go (suc n) lt = stuck_walk_by profile n i r some e
+
+pub walk_end : (profile : Profile) (i : Input) → length i.bytes ≡ 0 → walk profile i ≡ ended None
+unfolding walk
+walk_end profile i e = ap (λ (l : List ℕ). walk_by profile (length l) (input i.at l i.target)) (nothing i.bytes (omega arith)) ∙ end_walk_by profile 0 i.at i.target

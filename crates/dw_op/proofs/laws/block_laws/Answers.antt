@@ -1,0 +1,15 @@
+use Rattle.dw_op.specs.Encoding.{least_block}
+use Rattle.dw_op.proofs.LeastBlocks.{in_range_of_block, least_block_exists, block_of_least, least_no_longer}
+use Rattle.dw_op.proofs.LeastOne.{least_is_one}
+use Rattle.dw_op.proofs.EncodeLaws.{far_has_no_block}
+use Rattle.dw_op.proofs.laws.block_laws.Goals as goal
+
+pub returns : goal.returns
+returns c = record {
+  in_range = in_range_of_block;
+  least_exists = λ t ops bytes b. (least_block t ops, least_block_exists t ops bytes b);
+  least_is_block = block_of_least;
+  least_is_shortest = least_no_longer;
+  least_is_one = least_is_one;
+  far = far_has_no_block;
+}

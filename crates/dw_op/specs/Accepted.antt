@@ -1,0 +1,31 @@
+-- Blocks of the frame profile that are kept as bytes.
+use Rattle.std.specs.Prelude.{◌≡◌, ℕ, List, [], Result, Ok, Err}
+use Rattle.dw_num.specs.declared.refusal.Refusal.{Refusal}
+use Rattle.dw_num.specs.declared.target.Target.{Target}
+use Rattle.dw_op.specs.declared.op.Op.{Op}
+use Rattle.dw_op.specs.declared.profile.Profile.TheVariants.{Frame}
+use Rattle.dw_op.specs.declared.walking.Walker.{Walker}
+use Rattle.dw_op.specs.Walk.{walk, index_in, resolve, block_input, decode_at}
+use Rattle.dw_op.specs.Windows.{block_of, WalkSo}
+
+-- the bytes are a block of the frame profile
+abbrev pub IsAccepted : Target → List ℕ → Type 0
+IsAccepted t bytes = (ops : List Op) × (decode_at Frame (block_input t bytes) ≡ Ok ops)
+
+abbrev pub ok_ops : Result (List Op) Refusal → List Op
+ok_ops (Ok ops) = ops
+ok_ops (Err r) = []
+
+-- the operations that such a block stands for
+unfoldable pub ops_of : Target → List ℕ → List Op
+ops_of t bytes = ok_ops (decode_at Frame (block_input t bytes))
+
+-- the operations from a walker on
+unfoldable pub left_of : Walker → List Op
+left_of w = ok_ops (resolve (index_in Frame (block_of w)) (walk Frame w.here).items)
+
+-- a walker in a block whose branches lead to its operations
+pub record StepsSo (w : Walker) : Type 0 where
+  pub so : WalkSo w
+  pub ops : List Op
+  pub good : resolve (index_in Frame (block_of w)) (walk Frame w.here).items ≡ Ok ops

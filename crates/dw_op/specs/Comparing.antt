@@ -1,0 +1,110 @@
+-- When two expressions are equal, and what they feed a hasher.
+use Rattle.std.specs.Prelude.{ℕ, ℤ, pos, negsuc, List, [], ◌∷◌, ◌++◌, length, map, nat_eq, Bool}
+use Rattle.std.specs.List.{flat_map}
+use Rattle.std.specs.Cmp.Lexicographic.{pointwise}
+use Rattle.std.specs.Hash as fed
+use Rattle.dw_num.specs.declared.target.Target.{Target}
+use Rattle.dw_num.specs.declared.target.Order.{Order}
+use Rattle.dw_num.specs.declared.target.Order.TheVariants.{Little, Big}
+use Rattle.dw_num.specs.Target.{byte_count}
+use Rattle.dw_op.specs.declared.op.Op.{Op}
+use Rattle.dw_op.specs.declared.op.Op.TheVariants.{Addr, Deref, Const, Dup, Drop, Over, Pick, Swap, Rot, Abs, And, Div, Minus, Mod, Mul, Neg, Not, Or, Plus, PlusUconst, Shl, Shr, Shra, Xor, Bra, Eq, Ge, Gt, Le, Lt, Ne, Skip, Reg, Breg, Fbreg, Piece, DerefSize, Nop, PushObjectAddress, CallFrameCfa, BitPiece, Implicit, StackValue}
+use Rattle.dw_op.specs.declared.comparing.Line.{Line}
+use Rattle.dw_op.specs.Expression.{Expression}
+
+-- a signed number as a sign and a number
+abbrev pub sign_of : ℤ → ℕ
+sign_of (pos n) = 0
+sign_of (negsuc n) = 1
+
+abbrev pub size_of : ℤ → ℕ
+size_of (pos n) = n
+size_of (negsuc n) = n
+
+-- an operation in a line: its kind, two numbers, a sign and a number, and bytes
+abbrev pub line : ℕ → ℕ → ℕ → ℤ → List ℕ → List ℕ
+line kind first second signed bytes = kind ∷ first ∷ second ∷ sign_of signed ∷ size_of signed ∷ bytes
+
+abbrev pub alone : ℕ → List ℕ
+alone kind = line kind 0 0 (pos 0) []
+
+-- the kinds are the operations' codes, the first where there are several
+abbrev pub op_line : Op → List ℕ
+op_line (Addr a) = line 0x03 a 0 (pos 0) []
+op_line Deref = alone 0x06
+op_line (Const v) = line 0x08 v 0 (pos 0) []
+op_line Dup = alone 0x12
+op_line Drop = alone 0x13
+op_line Over = alone 0x14
+op_line (Pick i) = line 0x15 i 0 (pos 0) []
+op_line Swap = alone 0x16
+op_line Rot = alone 0x17
+op_line Abs = alone 0x19
+op_line And = alone 0x1a
+op_line Div = alone 0x1b
+op_line Minus = alone 0x1c
+op_line Mod = alone 0x1d
+op_line Mul = alone 0x1e
+op_line Neg = alone 0x1f
+op_line Not = alone 0x20
+op_line Or = alone 0x21
+op_line Plus = alone 0x22
+op_line (PlusUconst n) = line 0x23 n 0 (pos 0) []
+op_line Shl = alone 0x24
+op_line Shr = alone 0x25
+op_line Shra = alone 0x26
+op_line Xor = alone 0x27
+op_line (Bra i) = line 0x28 i 0 (pos 0) []
+op_line Eq = alone 0x29
+op_line Ge = alone 0x2a
+op_line Gt = alone 0x2b
+op_line Le = alone 0x2c
+op_line Lt = alone 0x2d
+op_line Ne = alone 0x2e
+op_line (Skip i) = line 0x2f i 0 (pos 0) []
+op_line (Reg r) = line 0x50 r 0 (pos 0) []
+op_line (Breg r n) = line 0x70 r 0 n []
+op_line (Fbreg n) = line 0x91 0 0 n []
+op_line (Piece n) = line 0x93 n 0 (pos 0) []
+op_line (DerefSize k) = line 0x94 k 0 (pos 0) []
+op_line Nop = alone 0x96
+op_line PushObjectAddress = alone 0x97
+op_line CallFrameCfa = alone 0x9c
+op_line (BitPiece size offset) = line 0x9d size offset (pos 0) []
+op_line (Implicit block) = line 0x9e 0 0 (pos 0) block.now
+op_line StackValue = alone 0x9f
+
+abbrev pub order_number : Order → ℕ
+order_number Little = 0
+order_number Big = 1
+
+abbrev pub target_line : Target → List ℕ
+target_line t = byte_count t.size ∷ order_number t.order ∷ []
+
+abbrev pub expression_lines : Expression → List (List ℕ)
+expression_lines e = target_line e.target ∷ map op_line e.ops
+
+-- the test for equality
+abbrev pub same_lines : List (List ℕ) → List (List ℕ) → Bool
+same_lines a b = pointwise (pointwise nat_eq) a b
+
+abbrev pub same_expression : Expression → Expression → Bool
+same_expression a b = same_lines (expression_lines a) (expression_lines b)
+
+-- what a line feeds a hasher
+abbrev pub line_fed : List ℕ → List (List ℕ)
+line_fed (size ∷ order ∷ []) = fed.u8 size ++ fed.u8 order
+line_fed (kind ∷ first ∷ second ∷ sign ∷ number ∷ bytes) =
+    fed.u8 kind ++ fed.u64 first ++ fed.u64 second ++ fed.u8 sign ++ fed.u64 number ++ fed.usize (length bytes) ++ (bytes ∷ [])
+line_fed other = []
+
+abbrev pub lines_fed : List (List ℕ) → List (List ℕ)
+lines_fed lines = flat_map line_fed lines
+
+-- what an expression feeds a hasher: its target and its operations
+abbrev pub expression_fed : Expression → List (List ℕ)
+expression_fed e = lines_fed (expression_lines e)
+
+-- the line that the code has
+abbrev pub line_of : Line → List ℕ
+line_of l = line l.kind l.first l.second l.signed l.bytes.now

@@ -1,0 +1,32 @@
+-- What holds of blocks and of least blocks.
+use Rattle.std.specs.Prelude.{◌≡◌, ℕ, ◌≤◌, List, length}
+use Rattle.dw_num.specs.declared.target.Target.{Target}
+use Rattle.dw_op.specs.declared.op.Op.{Op}
+use Rattle.dw_op.specs.Block.{Block}
+use Rattle.dw_op.specs.Least.{LeastBlock}
+use Rattle.dw_op.specs.Ranges.{AllInRange}
+use Rattle.dw_op.specs.Encoding.{TooFar}
+
+-- the operations of a block are in range
+abbrev pub BlockInRange : Type 0
+BlockInRange = (t : Target) (ops : List Op) (bytes : List ℕ) → Block t ops bytes → AllInRange t ops
+
+-- operations that have a block have a least block
+abbrev pub LeastExists : Type 0
+LeastExists = (t : Target) (ops : List Op) (bytes : List ℕ) → Block t ops bytes → (least : List ℕ) × LeastBlock t ops least
+
+-- which is a block of the operations
+abbrev pub LeastIsBlock : Type 0
+LeastIsBlock = (t : Target) (ops : List Op) (least : List ℕ) → LeastBlock t ops least → Block t ops least
+
+-- and no longer than any other
+abbrev pub LeastIsShortest : Type 0
+LeastIsShortest = (t : Target) (ops : List Op) (least other : List ℕ) → LeastBlock t ops least → Block t ops other → length least ≤ length other
+
+-- there is only one
+abbrev pub LeastIsOne : Type 0
+LeastIsOne = (t : Target) (ops : List Op) (a b : List ℕ) → LeastBlock t ops a → LeastBlock t ops b → a ≡ b
+
+-- operations with a branch too far have no block
+abbrev pub FarHasNoBlock : Type 0
+FarHasNoBlock = (t : Target) (ops : List Op) (k : ℕ) (bytes : List ℕ) → TooFar t ops k → Block t ops bytes → ⊥

@@ -1,0 +1,17 @@
+pub mod Expression
+pub mod Profile
+pub mod OpSpells
+pub mod Block
+pub mod Least
+pub mod Ranges
+pub mod LeastOf
+pub mod Encoding
+pub mod Laws
+pub mod Reading
+pub mod Steps
+pub mod Walk
+pub mod Faults
+pub mod Windows
+pub mod Accepted
+pub mod Comparing
+pub mod ComparingLaws

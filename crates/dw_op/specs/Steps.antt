@@ -1,0 +1,31 @@
+-- What spells a step of a block.
+use Rattle.std.specs.Prelude.{◌≡◌, ℕ, List, Bool, true, None}
+use Rattle.dw_num.specs.declared.target.Target.{Target}
+use Rattle.dw_num.specs.Fixed.{Fixed}
+use Rattle.dw_op.specs.declared.profile.Profile.{Profile}
+use Rattle.dw_op.specs.declared.profile.Profile.TheVariants.{Frame, Location}
+use Rattle.dw_op.specs.declared.reading.Branch.{Branch}
+use Rattle.dw_op.specs.declared.reading.Branch.TheVariants.{Bra, Skip}
+use Rattle.dw_op.specs.declared.reading.Step.{Step}
+use Rattle.dw_op.specs.declared.reading.Step.TheVariants.{Plain, Jump}
+use Rattle.dw_op.specs.OpSpells.{OpSpells, Code}
+use Rattle.dw_op.specs.Block.{branch_target}
+use Rattle.dw_op.specs.Profile.{in_frame}
+
+abbrev pub branch_code : Branch → ℕ
+branch_code Bra = 0x28
+branch_code Skip = 0x2f
+
+-- an operation that is no branch, or a branch's code and the two bytes of its number
+abbrev pub StepSpells : Target → Step → List ℕ → Type 0
+StepSpells t (Plain op) part = OpSpells t op part × (branch_target op ≡ None)
+StepSpells t (Jump branch number) part = Code (branch_code branch) (Fixed t.order 2 number) part
+
+-- whether a rule of a frame may use it
+abbrev pub step_in_frame : Step → Bool
+step_in_frame (Plain op) = in_frame op
+step_in_frame (Jump branch number) = true
+
+abbrev pub step_allowed : Profile → Step → Bool
+step_allowed Frame step = step_in_frame step
+step_allowed Location step = true

@@ -1,0 +1,125 @@
+-- The operations of a block one after another, and what its branches name.
+use Rattle.std.specs.Prelude.{ℕ, zero, suc, ◌+◌, ◌-◌, List, [], ◌∷◌, length, Option, Some, None, Result, Ok, Err, nat_eq, nat_lt, if◌then◌else◌}
+use Rattle.dw_num.specs.declared.refusal.Code.TheVariants.{BadBranch}
+use Rattle.dw_num.specs.declared.refusal.Refusal.{Refusal}
+use Rattle.dw_num.specs.declared.target.Target.{Target}
+use Rattle.dw_num.specs.Input.{Input}
+use Rattle.dw_num.specs.Reading.{Read}
+use Rattle.dw_op.specs.declared.op.Op.{Op}
+use Rattle.dw_op.specs.declared.op.Op.TheVariants as ops
+use Rattle.dw_op.specs.declared.profile.Profile.{Profile}
+use Rattle.dw_op.specs.declared.reading.Branch.{Branch}
+use Rattle.dw_op.specs.declared.reading.Branch.TheVariants.{Bra, Skip}
+use Rattle.dw_op.specs.declared.reading.Step.{Step}
+use Rattle.dw_op.specs.declared.reading.Step.TheVariants.{Plain, Jump}
+use Rattle.dw_op.specs.Reading.{step_at}
+
+-- an operation and the place of its code
+pub record Item : Type 0 where
+  pub at : ℕ
+  pub step : Step
+
+-- the longest beginning of operations, and the fault of what follows it
+pub record Walk : Type 0 where
+  pub items : List Item
+  pub fault : Option Refusal
+
+abbrev pub ended : Option Refusal → Walk
+ended fault = record { items = []; fault = fault }
+
+abbrev pub after_item : ℕ → Step → Walk → Walk
+after_item at step walk = record { items = record { at = at; step = step } ∷ walk.items; fault = walk.fault }
+
+abbrev pub on_read : Read Step → (Refusal → Walk) → (Step × Input → Walk) → Walk
+on_read (Ok x) stuck go = go x
+on_read (Err e) stuck go = stuck e
+
+abbrev pub on_left : List ℕ → Walk → Walk
+on_left [] walk = ended None
+on_left (b ∷ bytes) walk = walk
+
+-- the same in at most n steps
+unfoldable pub walk_by : Profile → ℕ → Input → Walk
+walk_by profile zero i = ended None
+walk_by profile (suc n) i =
+    on_left i.bytes (on_read (step_at profile i) (λ e. ended (Some e)) (λ x. after_item i.at x.0 (walk_by profile n x.1)))
+
+unfoldable pub walk : Profile → Input → Walk
+walk profile i = walk_by profile (length i.bytes) i
+
+-- the place behind all of it
+abbrev pub end_of : Input → ℕ
+end_of i = i.at + length i.bytes
+
+abbrev pub plus : ℕ → Option ℕ → Option ℕ
+plus n None = None
+plus n (Some m) = Some (n + m)
+
+-- what the operations before this place weigh together, if one starts there or it is the end
+abbrev pub passed : (Step → ℕ) → List Item → ℕ → ℕ → Option ℕ
+passed weight [] end place = if nat_eq place end then Some 0 else None
+passed weight (item ∷ items) end place = if nat_eq place item.at then Some 0 else plus (weight item.step) (passed weight items end place)
+
+abbrev pub one : Step → ℕ
+one step = 1
+
+-- the number of the operation that starts there
+abbrev pub index_at : List Item → ℕ → ℕ → Option ℕ
+index_at items end place = passed one items end place
+
+-- where a branch that ends here goes to: the number behind its code is signed
+abbrev pub goes_to : ℕ → ℕ → Option ℕ
+goes_to end number =
+    if nat_lt number 32768 then Some (end + number)
+    else if nat_lt (end + number) 65536 then None
+    else Some (end + number - 65536)
+
+abbrev pub find_at : (ℕ → Option ℕ) → Option ℕ → Option ℕ
+find_at find None = None
+find_at find (Some place) = find place
+
+abbrev pub branch_to : Branch → Option ℕ → Option Op
+branch_to branch None = None
+branch_to Bra (Some i) = Some (ops.Bra i)
+branch_to Skip (Some i) = Some (ops.Skip i)
+
+-- the operation, its branch by the number of the operation that it names
+abbrev pub op_of : (ℕ → Option ℕ) → ℕ → Step → Option Op
+op_of find at (Plain op) = Some op
+op_of find at (Jump branch number) = branch_to branch (find_at find (goes_to (at + 3) number))
+
+abbrev pub put_first : Option Op → ℕ → Result (List Op) Refusal → Result (List Op) Refusal
+put_first None at rest = Err (record { code = BadBranch; at = at })
+put_first (Some op) at (Ok ops) = Ok (op ∷ ops)
+put_first (Some op) at (Err e) = Err e
+
+-- the operations, or the first bad branch
+abbrev pub resolve : (ℕ → Option ℕ) → List Item → Result (List Op) Refusal
+resolve find [] = Ok []
+resolve find (item ∷ items) = put_first (op_of find item.at item.step) item.at (resolve find items)
+
+abbrev pub unless : Option Refusal → Result (List Op) Refusal → Result (List Op) Refusal
+unless None r = r
+unless (Some fault) r = Err fault
+
+-- a block, at place 0
+abbrev pub block_input : Target → List ℕ → Input
+block_input target bytes = record { at = 0; bytes = bytes; target = target }
+
+-- the number of the block's operation that starts at a place
+abbrev pub index_in : Profile → Input → ℕ → Option ℕ
+index_in profile i place = index_at (walk profile i).items (end_of i) place
+
+-- the operations of a block, or its first fault
+unfoldable pub decode_at : Profile → Input → Result (List Op) Refusal
+decode_at profile i = unless (walk profile i).fault (resolve (index_in profile i) (walk profile i).items)
+
+-- the starts of the operations, and the end
+abbrev pub starts_of : List Item → ℕ → List ℕ
+starts_of [] end = end ∷ []
+starts_of (item ∷ items) end = item.at ∷ starts_of items end
+
+-- which of the places it is
+abbrev pub place_index : List ℕ → ℕ → Option ℕ
+place_index [] place = None
+place_index (p ∷ ps) place = if nat_eq place p then Some 0 else plus 1 (place_index ps place)

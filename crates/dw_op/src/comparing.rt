@@ -1,0 +1,224 @@
+//! Equality of expressions, and their hash.
+
+ghost use Rattle.std.specs.Prelude.{◌≡◌, ℕ, List, ◌∷◌, ◌++◌, [], pos, length, IsTrue, ◌↔◌, map};
+ghost use Rattle.std.specs.List.{fold};
+ghost use Rattle.std.specs.Hash as fed;
+ghost use Rattle.dw_op.specs.Expression.{bare};
+ghost use Rattle.dw_op.specs.Comparing.{line, alone, op_line, order_number, target_line, line_fed, lines_fed, line_of, sign_of, size_of};
+
+use crate::expression::OpSteps;
+use crate::op::Op;
+use dw_num::{Order, Size, Target};
+use std::hash::Hasher;
+
+/// What tells an operation from every other.
+#[derive(Clone, Copy)]
+pub(crate) struct Line<'a> {
+    pub(crate) kind: u8,
+    pub(crate) first: u64,
+    pub(crate) second: u64,
+    pub(crate) signed: i64,
+    pub(crate) bytes: &'a [u8],
+}
+
+fn with_number<'a>(kind: u8, first: u64) -> Line<'a>
+    ensures { line_of result ≡ line kind first 0 (pos 0) [] }
+{
+    Line {
+        kind,
+        first,
+        second: 0,
+        signed: 0,
+        bytes: &[],
+    }
+}
+
+fn alone<'a>(kind: u8) -> Line<'a>
+    ensures { line_of result ≡ alone kind }
+{
+    with_number(kind, 0)
+}
+
+fn with_offset<'a>(kind: u8, first: u64, signed: i64) -> Line<'a>
+    ensures { line_of result ≡ line kind first 0 signed [] }
+{
+    Line {
+        kind,
+        first,
+        second: 0,
+        signed,
+        bytes: &[],
+    }
+}
+
+fn in_line<'a>(op: Op<'a>) -> Line<'a>
+    ensures { line_of result ≡ op_line op.entry }
+{
+    match op {
+        Op::Addr(address) => with_number(0x03, address),
+        Op::Deref => alone(0x06),
+        Op::Const(value) => with_number(0x08, value),
+        Op::Dup => alone(0x12),
+        Op::Drop => alone(0x13),
+        Op::Over => alone(0x14),
+        Op::Pick(index) => with_number(0x15, u64::from(index)),
+        Op::Swap => alone(0x16),
+        Op::Rot => alone(0x17),
+        Op::Abs => alone(0x19),
+        Op::And => alone(0x1a),
+        Op::Div => alone(0x1b),
+        Op::Minus => alone(0x1c),
+        Op::Mod => alone(0x1d),
+        Op::Mul => alone(0x1e),
+        Op::Neg => alone(0x1f),
+        Op::Not => alone(0x20),
+        Op::Or => alone(0x21),
+        Op::Plus => alone(0x22),
+        Op::PlusUconst(number) => with_number(0x23, number),
+        Op::Shl => alone(0x24),
+        Op::Shr => alone(0x25),
+        Op::Shra => alone(0x26),
+        Op::Xor => alone(0x27),
+        Op::Bra(index) => with_number(0x28, index as u64),
+        Op::Eq => alone(0x29),
+        Op::Ge => alone(0x2a),
+        Op::Gt => alone(0x2b),
+        Op::Le => alone(0x2c),
+        Op::Lt => alone(0x2d),
+        Op::Ne => alone(0x2e),
+        Op::Skip(index) => with_number(0x2f, index as u64),
+        Op::Reg(register) => with_number(0x50, u64::from(register)),
+        Op::Breg(register, offset) => with_offset(0x70, u64::from(register), offset),
+        Op::Fbreg(offset) => with_offset(0x91, 0, offset),
+        Op::Piece(size) => with_number(0x93, size),
+        Op::DerefSize(size) => with_number(0x94, u64::from(size)),
+        Op::Nop => alone(0x96),
+        Op::PushObjectAddress => alone(0x97),
+        Op::CallFrameCfa => alone(0x9c),
+        Op::BitPiece(size, offset) => Line {
+            kind: 0x9d,
+            first: size,
+            second: offset,
+            signed: 0,
+            bytes: &[],
+        },
+        Op::Implicit(bytes) => Line {
+            kind: 0x9e,
+            first: 0,
+            second: 0,
+            signed: 0,
+            bytes,
+        },
+        Op::StackValue => alone(0x9f),
+    }
+}
+
+fn same_bytes(a: &[u8], b: &[u8]) -> bool
+    ensures { IsTrue result ↔ a.now ≡ b.now }
+{
+    a == b
+}
+
+fn same_line(a: Line<'_>, b: Line<'_>) -> bool
+    ensures { IsTrue result ↔ (a.entry.kind ≡ b.entry.kind) × (a.entry.first ≡ b.entry.first) × (a.entry.second ≡ b.entry.second) × (a.entry.signed ≡ b.entry.signed) × (a.entry.bytes.now ≡ b.entry.bytes.now) }
+{
+    if a.kind != b.kind {
+        return false;
+    }
+    if a.first != b.first {
+        return false;
+    }
+    if a.second != b.second {
+        return false;
+    }
+    if a.signed != b.signed {
+        return false;
+    }
+    same_bytes(a.bytes, b.bytes)
+}
+
+fn same_op(a: Op<'_>, b: Op<'_>) -> bool
+    ensures { IsTrue result ↔ bare a.entry ≡ bare b.entry }
+{
+    same_line(in_line(a), in_line(b))
+}
+
+/// Whether two walks have the same operations before them.
+pub(crate) fn same_steps(mut a: OpSteps<'_>, mut b: OpSteps<'_>) -> bool
+    ensures { IsTrue result ↔ a.entry ≡ b.entry }
+{
+    'ops: loop {
+        match a.step() {
+            None => match b.step() {
+                None => return true,
+                Some(_) => return false,
+            },
+            Some(x) => match b.step() {
+                None => return false,
+                Some(y) => {
+                    if !same_op(x, y) {
+                        return false;
+                    }
+                }
+            },
+        }
+    }
+}
+
+fn order_in(order: Order) -> u8
+    ensures { result ≡ order_number order }
+{
+    match order {
+        Order::Little => 0,
+        Order::Big => 1,
+    }
+}
+
+pub(crate) fn feed_target<H: Hasher>(target: Target, state: &mut H)
+    ensures { state.new ≡ fold H.write state.old (line_fed (target_line target)) }
+{
+    match target.size {
+        Size::Four => state.write_u8(4),
+        Size::Eight => state.write_u8(8),
+    }
+    state.write_u8(order_in(target.order));
+}
+
+// A sign and a number.
+fn feed_signed<H: Hasher>(signed: i64, state: &mut H)
+    ensures { state.new ≡ fold H.write state.old (fed.u8 (sign_of signed) ++ fed.u64 (size_of signed)) }
+{
+    if signed < 0 {
+        state.write_u8(1);
+        state.write_u64((-1 - signed) as u64);
+    } else {
+        state.write_u8(0);
+        state.write_u64(signed as u64);
+    }
+}
+
+fn feed_line<H: Hasher>(line: Line<'_>, state: &mut H)
+    ensures { state.new ≡ fold H.write state.old (line_fed (line_of line.entry)) }
+{
+    state.write_u8(line.kind);
+    state.write_u64(line.first);
+    state.write_u64(line.second);
+    feed_signed(line.signed, state);
+    state.write_usize(line.bytes.len());
+    state.write(line.bytes);
+}
+
+fn feed_op<H: Hasher>(op: Op<'_>, state: &mut H)
+    ensures { state.new ≡ fold H.write state.old (line_fed (op_line (bare op.entry))) }
+{
+    feed_line(in_line(op), state);
+}
+
+/// Feeds the operations of a walk.
+pub(crate) fn feed_steps<H: Hasher>(mut steps: OpSteps<'_>, state: &mut H)
+    ensures { state.new ≡ fold H.write state.old (lines_fed (map op_line steps.entry)) }
+{
+    'ops: while let Some(op) = steps.step() {
+        feed_op(op, state);
+    }
+}

@@ -1,0 +1,249 @@
+//! Expressions that are borrowed from a section.
+
+ghost use Rattle.std.specs.Prelude.{◌≡◌, ℕ, List, [], ◌∷◌, IfOk, IfErr, MatchOption, MatchResult, OnOk, OnErr, IsTrue, ◌↔◌, length};
+ghost use Rattle.std.specs.Iterator.{YieldsFirstBy, item_count};
+ghost use Rattle.dw_op.specs.declared.op.Op.{Op};
+ghost use Rattle.dw_op.specs.declared.profile.Profile.TheVariants.{Frame};
+ghost use Rattle.dw_op.specs.Expression.{bare};
+ghost use Rattle.dw_op.specs.Block.{FrameBlock};
+ghost use Rattle.dw_op.specs.Least.{LeastBlock};
+ghost use Rattle.dw_op.specs.Faults.{BlockFault};
+ghost use Rattle.dw_op.specs.Walk.{block_input};
+ghost use Rattle.dw_op.specs.Encoding.{IsAppended};
+ghost use Rattle.dw_op.specs.Accepted.{IsAccepted, ops_of};
+
+use crate::accepting::judge;
+use crate::comparing::{feed_steps, feed_target, same_steps};
+use crate::decoding::decode;
+use crate::encoding::put_list;
+use crate::list::OpList;
+use crate::op::Op;
+use crate::profile::Profile;
+use crate::rewriting::{put_plain, steps_len};
+use crate::walking::Walker;
+use dw_num::{Refusal, Target, are_bytes};
+use std::alloc::{AllocError, Global};
+use std::hash::{Hash, Hasher};
+use std::marker::Model;
+
+/// A block of the frame profile, borrowed, with its target. It stands for the list of its operations.
+#[derive(Debug, Drop)]
+pub struct ExprRef<'a> {
+    target: Target,
+    bytes: &'a [u8],
+}
+
+impl<'a> Model for ExprRef<'a> {
+    ghost use Rattle.dw_op.specs.Expression.{Expression};
+
+    ghost Value = { Expression };
+
+    ghost use Rattle.dw_num.specs.Input.{AreBytes};
+    ghost use Rattle.dw_op.specs.Accepted.{IsAccepted, ops_of};
+
+    ghost view = { λ e. record { target = e.target; ops = ops_of e.target e.bytes.now } };
+
+    ghost invariant = { λ e. IsAccepted e.target e.bytes.now × AreBytes e.bytes.now };
+}
+
+/// An iterator over the operations of an expression. A branch names the operation that it goes to. Takes
+/// no memory.
+#[derive(Drop)]
+pub struct OpSteps<'a> {
+    walker: Walker<'a>,
+}
+
+impl<'a> Model for OpSteps<'a> {
+    ghost use Rattle.std.specs.Prelude.{List};
+    ghost use Rattle.dw_op.specs.declared.op.Op.{Op};
+
+    ghost Value = { List Op };
+
+    ghost use Rattle.dw_op.specs.Accepted.{StepsSo, left_of};
+
+    ghost view = { λ s. left_of s.walker };
+
+    ghost invariant = { λ s. StepsSo s.walker };
+}
+
+impl<'a> OpSteps<'a> {
+    fn new(bytes: &'a [u8], target: Target) -> OpSteps<'a>
+        requires { IsAccepted target bytes.now }
+        ensures { result ≡ ops_of target bytes.entry.now }
+    {
+        OpSteps {
+            walker: Walker::new(bytes, target),
+        }
+    }
+
+    // The next operation, or none at the end.
+    pub(crate) fn step(&mut self) -> Option<Op<'a>>
+        ensures { MatchOption result ((self.old ≡ []) × (self.new ≡ [])) (λ op. self.old ≡ bare op ∷ self.new) }
+    {
+        match self.walker.next_op() {
+            Ok(Some(op)) => Some(op),
+            Ok(None) => None,
+            Err(_) => None,
+        }
+    }
+}
+
+impl<'a> Iterator for OpSteps<'a> {
+    type Item = Op<'a>;
+
+    ghost next_gives = { YieldsFirstBy bare (λ ops. ops) };
+
+    ghost remaining = { item_count (λ ops. ops) };
+
+    fn next(&mut self) -> Option<Op<'a>> {
+        self.step()
+    }
+}
+
+impl<'a> ExprRef<'a> {
+    /// The expression whose block these bytes are for a target, or their first fault: the refusals of
+    /// `decode` in the frame profile, at places that count from the block's first byte. Takes no memory.
+    pub fn accept(bytes: &'a [u8], target: Target) -> Result<ExprRef<'a>, Refusal>
+        // What is answered stands for operations that have this block.
+        ensures found { IfOk result (λ e. (e.target ≡ target) × FrameBlock target e.ops bytes.now) }
+        // Operations that have this block are answered.
+        ensures only { (ops : List Op) → FrameBlock target ops bytes.now → MatchResult result (λ e. e.ops ≡ ops) (λ _. ⊥) }
+        // A refusal is the first fault.
+        ensures first { IfErr result (BlockFault Frame target bytes.now) }
+    {
+        are_bytes(bytes);
+        judge(bytes, target)?;
+        Ok(ExprRef { target, bytes })
+    }
+
+    /// The target that the expression is for.
+    pub fn target(&self) -> Target
+        ensures value { result ≡ self.now.target }
+        ensures block { (bytes : List ℕ) × FrameBlock self.now.target self.now.ops bytes }
+    {
+        self.target
+    }
+
+    /// The same expression once more.
+    pub fn copied(&self) -> ExprRef<'a>
+        ensures { result ≡ self.now }
+    {
+        ExprRef {
+            target: self.target,
+            bytes: self.bytes,
+        }
+    }
+
+    /// A walk over the operations. Takes no memory.
+    pub fn steps(&self) -> OpSteps<'a>
+        ensures { result ≡ self.now.ops }
+    {
+        OpSteps::new(self.bytes, self.target)
+    }
+
+    /// The operations as a list, or want of memory.
+    pub fn ops(&self, alloc: Global) -> Result<OpList<'a>, AllocError>
+        ensures { IfOk result (λ list. list ≡ self.now) }
+    {
+        match decode(alloc, self.bytes, self.target, Profile::Frame) {
+            Ok(list) => Ok(list),
+            Err(_) => Err(AllocError),
+        }
+    }
+}
+
+impl<'a> ExprRef<'a> {
+    /// Whether two expressions have equal targets and equal lists of operations, which blocks of
+    /// different bytes may have. Blocks of equal bytes are told without a walk. Takes no memory.
+    pub fn is_same(&self, other: &ExprRef<'_>) -> bool
+        ensures { IsTrue result ↔ self.now ≡ other.now }
+    {
+        if self.target != other.target {
+            return false;
+        }
+        if self.bytes == other.bytes {
+            return true;
+        }
+        same_steps(self.steps(), other.steps())
+    }
+}
+
+impl<'a> ExprRef<'a> {
+    /// The length of the block of the operations' least spellings. Takes no memory.
+    pub fn least_len(&self) -> usize
+        ensures { (least : List ℕ) × LeastBlock self.now.target self.now.ops least × (result ≡ length least) }
+    {
+        steps_len(self.steps(), self.target)
+    }
+
+    // Appends the block of least spellings by way of the list of operations.
+    fn put_branches(&self, out: &mut Vec<u8>) -> Result<(), AllocError>
+        ensures ok { OnOk result (IsAppended (LeastBlock self.now.target self.now.ops) out.old.items out.new.items) }
+        ensures err { OnErr result (out.new.items ≡ out.old.items) }
+    {
+        let list = self.ops(*out.allocator())?;
+        match put_list(out, &list) {
+            Ok(()) => Ok(()),
+            Err(_) => Err(AllocError),
+        }
+    }
+
+    /// Appends the block of the operations' least spellings, or appends nothing where memory runs out.
+    /// Where there is a branch, memory is taken for the list of operations too.
+    pub fn put_least(&self, out: &mut Vec<u8>) -> Result<(), AllocError>
+        ensures ok { OnOk result (IsAppended (LeastBlock self.now.target self.now.ops) out.old.items out.new.items) }
+        ensures err { OnErr result (out.new.items ≡ out.old.items) }
+    {
+        let start = out.len();
+        match put_plain(self.steps(), self.target, out) {
+            Ok(true) => Ok(()),
+            Ok(false) => {
+                out.truncate(start);
+                self.put_branches(out)
+            }
+            Err(error) => {
+                out.truncate(start);
+                Err(error)
+            }
+        }
+    }
+}
+
+impl<'a> PartialEq for ExprRef<'a> {
+    ghost use Rattle.std.specs.Prelude.{◌≡◌, IsTrue, ◌↔◌};
+    ghost use Rattle.dw_op.specs.Comparing.{same_expression};
+    ghost use Rattle.dw_op.specs.ComparingLaws.{same_laws};
+
+    ghost eq = { same_expression };
+
+    ghost laws = { same_laws };
+
+    fn eq(&self, other: &ExprRef<'a>) -> bool
+        ensures test { result ≡ same_expression self.now other.now }
+        ensures equal { IsTrue result ↔ self.now ≡ other.now }
+    {
+        let _ = self.target();
+        let _ = other.target();
+        self.is_same(other)
+    }
+}
+
+impl<'a> Eq for ExprRef<'a> {
+    ghost use Rattle.dw_op.specs.ComparingLaws.{equal_laws};
+
+    ghost laws = { equal_laws };
+}
+
+impl<'a> Hash for ExprRef<'a> {
+    ghost use Rattle.dw_op.specs.Comparing.{expression_fed};
+    ghost use Rattle.dw_op.specs.ComparingLaws.{fed_alike};
+
+    ghost hash_input = { expression_fed };
+
+    ghost respects_eq = { fed_alike };
+
+    fn hash<H: Hasher>(&self, state: &mut H) {
+        feed_target(self.target, state);
+        feed_steps(self.steps(), state);
+    }
+}

@@ -1,0 +1,344 @@
+//! The least spelling of an operation.
+
+ghost use Rattle.std.specs.Prelude.{◌≡◌, Bool, List, ◌++◌, OnOk, OnErr, take, ℕ, ◌+◌, ◌-◌, ◌<◌, ◌≤◌, ◌^◌, negsuc, length};
+ghost use Rattle.dw_num.specs.Target.{address_limit};
+ghost use Rattle.dw_num.specs.declared.target.Order.{Order};
+ghost use Rattle.dw_num.specs.Scan.{as_signed};
+ghost use Rattle.dw_num.specs.Shortest.{shortest_uleb, shortest_sleb};
+ghost use Rattle.dw_op.specs.Expression.{bare};
+ghost use Rattle.dw_op.specs.LeastOf.{spelling, address, operand_bytes, spelling_bytes, least_bytes, constant, long_constant, longest_constant, register_form, register_offset, least_spelling};
+
+use crate::op::Op;
+use dw_num::{Order, Size, Target, put_fixed, put_sleb, put_uleb};
+use std::alloc::AllocError;
+
+/// What follows an opcode.
+#[derive(Clone, Copy)]
+pub(crate) enum Operand<'a> {
+    Nothing,
+    /// A number of one, two, four or eight bytes.
+    Byte(u8),
+    Half(u16),
+    Word(u32),
+    Double(u64),
+    /// An unsigned LEB128 number.
+    Unsigned(u64),
+    /// A signed LEB128 number.
+    Signed(i64),
+    /// A register and an offset.
+    Offset(u16, i64),
+    /// Two unsigned LEB128 numbers.
+    Pair(u64, u64),
+    /// A length, and so many bytes.
+    Block(&'a [u8]),
+}
+
+/// A spelling of an operation.
+#[derive(Clone, Copy)]
+pub(crate) struct Spelling<'a> {
+    code: u8,
+    operand: Operand<'a>,
+}
+
+fn spell<'a>(code: u8, operand: Operand<'a>) -> Spelling<'a>
+    ensures { result ≡ spelling code operand.entry }
+{
+    Spelling { code, operand }
+}
+
+// The number that is this far below zero, less one.
+fn below_zero(under: u64) -> i64
+    requires { under < 2 ^ 63 }
+    ensures { result ≡ negsuc under }
+{
+    -1 - under as i64
+}
+
+// A constant that needs six bytes or more.
+fn longest_constant<'a>(value: u64, under: u64) -> Spelling<'a>
+    ensures { result ≡ longest_constant value under }
+{
+    if value < 1 << 35 {
+        spell(0x10, Operand::Unsigned(value))
+    } else if under < 1 << 34 {
+        spell(0x11, Operand::Signed(below_zero(under)))
+    } else if value < 1 << 42 {
+        spell(0x10, Operand::Unsigned(value))
+    } else if under < 1 << 41 {
+        spell(0x11, Operand::Signed(below_zero(under)))
+    } else if value < 1 << 49 {
+        spell(0x10, Operand::Unsigned(value))
+    } else if under < 1 << 48 {
+        spell(0x11, Operand::Signed(below_zero(under)))
+    } else {
+        spell(0x0e, Operand::Double(value))
+    }
+}
+
+// A constant that needs four bytes or more.
+fn long_constant<'a>(value: u64, under: u64) -> Spelling<'a>
+    ensures { result ≡ long_constant value under }
+{
+    if value < 1 << 21 {
+        spell(0x10, Operand::Unsigned(value))
+    } else if under < 1 << 20 {
+        spell(0x11, Operand::Signed(below_zero(under)))
+    } else if value < 1 << 32 {
+        spell(0x0c, Operand::Word(value as u32))
+    } else if under < 1 << 31 {
+        spell(0x0d, Operand::Word((value % (1 << 32)) as u32))
+    } else {
+        longest_constant(value, under)
+    }
+}
+
+// A constant, which is by `under` below the greatest one.
+fn constant<'a>(value: u64, under: u64) -> Spelling<'a>
+    ensures { result ≡ constant value under }
+{
+    if value < 32 {
+        spell(0x30 + value as u8, Operand::Nothing)
+    } else if value < 1 << 8 {
+        spell(0x08, Operand::Byte(value as u8))
+    } else if under < 1 << 7 {
+        spell(0x09, Operand::Byte((value % (1 << 8)) as u8))
+    } else if value < 1 << 16 {
+        spell(0x0a, Operand::Half(value as u16))
+    } else if under < 1 << 15 {
+        spell(0x0b, Operand::Half((value % (1 << 16)) as u16))
+    } else {
+        long_constant(value, under)
+    }
+}
+
+// How far a constant is below the greatest one.
+fn under_limit(value: u64, size: Size) -> u64
+    ensures { result ≡ address_limit size - 1 - value }
+{
+    match size {
+        Size::Four => 0xffff_ffff_u64.saturating_sub(value),
+        Size::Eight => 0xffff_ffff_ffff_ffff_u64.saturating_sub(value),
+    }
+}
+
+fn address<'a>(value: u64, size: Size) -> Spelling<'a>
+    ensures { result ≡ address size value }
+{
+    match size {
+        Size::Four => spell(0x03, Operand::Word((value % (1 << 32)) as u32)),
+        Size::Eight => spell(0x03, Operand::Double(value)),
+    }
+}
+
+fn register<'a>(register: u16) -> Spelling<'a>
+    ensures { result ≡ register_form register }
+{
+    if register < 32 {
+        spell(0x50 + register as u8, Operand::Nothing)
+    } else {
+        spell(0x90, Operand::Unsigned(u64::from(register)))
+    }
+}
+
+fn register_offset<'a>(register: u16, offset: i64) -> Spelling<'a>
+    ensures { result ≡ register_offset register offset }
+{
+    if register < 32 {
+        spell(0x70 + register as u8, Operand::Signed(offset))
+    } else {
+        spell(0x92, Operand::Offset(register, offset))
+    }
+}
+
+/// The least spelling of an operation, with these sixteen bits for a branch's displacement
+/// (DWARF 5, 7.7.1).
+#[tactic(auto, unfolding(crate::specs::LeastOf::least_spelling))]
+pub(crate) fn least_spelling<'a>(op: &Op<'a>, displacement: u16, target: Target) -> Spelling<'a>
+    ensures { result ≡ least_spelling target displacement op.now }
+{
+    match *op {
+        Op::Addr(value) => address(value, target.size),
+        Op::Deref => spell(0x06, Operand::Nothing),
+        Op::Const(value) => constant(value, under_limit(value, target.size)),
+        Op::Dup => spell(0x12, Operand::Nothing),
+        Op::Drop => spell(0x13, Operand::Nothing),
+        Op::Over => spell(0x14, Operand::Nothing),
+        Op::Pick(index) => spell(0x15, Operand::Byte(index)),
+        Op::Swap => spell(0x16, Operand::Nothing),
+        Op::Rot => spell(0x17, Operand::Nothing),
+        Op::Abs => spell(0x19, Operand::Nothing),
+        Op::And => spell(0x1a, Operand::Nothing),
+        Op::Div => spell(0x1b, Operand::Nothing),
+        Op::Minus => spell(0x1c, Operand::Nothing),
+        Op::Mod => spell(0x1d, Operand::Nothing),
+        Op::Mul => spell(0x1e, Operand::Nothing),
+        Op::Neg => spell(0x1f, Operand::Nothing),
+        Op::Not => spell(0x20, Operand::Nothing),
+        Op::Or => spell(0x21, Operand::Nothing),
+        Op::Plus => spell(0x22, Operand::Nothing),
+        Op::PlusUconst(number) => spell(0x23, Operand::Unsigned(number)),
+        Op::Shl => spell(0x24, Operand::Nothing),
+        Op::Shr => spell(0x25, Operand::Nothing),
+        Op::Shra => spell(0x26, Operand::Nothing),
+        Op::Xor => spell(0x27, Operand::Nothing),
+        Op::Bra(_) => spell(0x28, Operand::Half(displacement)),
+        Op::Eq => spell(0x29, Operand::Nothing),
+        Op::Ge => spell(0x2a, Operand::Nothing),
+        Op::Gt => spell(0x2b, Operand::Nothing),
+        Op::Le => spell(0x2c, Operand::Nothing),
+        Op::Lt => spell(0x2d, Operand::Nothing),
+        Op::Ne => spell(0x2e, Operand::Nothing),
+        Op::Skip(_) => spell(0x2f, Operand::Half(displacement)),
+        Op::Reg(number) => register(number),
+        Op::Breg(number, offset) => register_offset(number, offset),
+        Op::Fbreg(offset) => spell(0x91, Operand::Signed(offset)),
+        Op::Piece(size) => spell(0x93, Operand::Unsigned(size)),
+        Op::DerefSize(size) => spell(0x94, Operand::Byte(size)),
+        Op::Nop => spell(0x96, Operand::Nothing),
+        Op::PushObjectAddress => spell(0x97, Operand::Nothing),
+        Op::CallFrameCfa => spell(0x9c, Operand::Nothing),
+        Op::BitPiece(size, offset) => spell(0x9d, Operand::Pair(size, offset)),
+        Op::Implicit(bytes) => spell(0x9e, Operand::Block(bytes)),
+        Op::StackValue => spell(0x9f, Operand::Nothing),
+    }
+}
+
+// ---- its length
+
+// How many bytes the shortest LEB128 spelling of an unsigned number has (7.6).
+fn uleb_len(value: u64) -> usize
+    ensures len { result ≡ length (shortest_uleb value) }
+    ensures most { result ≤ 10 }
+{
+    let mut rest = value;
+    let mut len = 1;
+    'groups: while rest > 127 {
+        rest /= 128;
+        len += 1;
+    }
+    len
+}
+
+// The same of a signed number, given how far it is from zero, or from -1 if it is negative.
+fn signed_len(magnitude: u64) -> usize
+    requires { magnitude < 2 ^ 63 }
+    ensures len { (is_negative : Bool) → result ≡ length (shortest_sleb (as_signed is_negative magnitude)) }
+    ensures most { result ≤ 10 }
+{
+    let mut rest = magnitude;
+    let mut len = 1;
+    'groups: while rest > 63 {
+        rest /= 128;
+        len += 1;
+    }
+    len
+}
+
+fn sleb_len(value: i64) -> usize
+    ensures len { result ≡ length (shortest_sleb value) }
+    ensures most { result ≤ 10 }
+{
+    if value < 0 {
+        signed_len((-1 - value) as u64)
+    } else {
+        signed_len(value as u64)
+    }
+}
+
+fn operand_len(operand: Operand<'_>) -> usize
+    ensures len { (order : Order) → result ≡ length (operand_bytes order operand.entry) }
+    ensures most { result < 2 ^ 64 - 1 }
+{
+    match operand {
+        Operand::Nothing => 0,
+        Operand::Byte(_) => 1,
+        Operand::Half(_) => 2,
+        Operand::Word(_) => 4,
+        Operand::Double(_) => 8,
+        Operand::Unsigned(value) => uleb_len(value),
+        Operand::Signed(value) => sleb_len(value),
+        Operand::Offset(register, offset) => uleb_len(u64::from(register)) + sleb_len(offset),
+        Operand::Pair(first, second) => uleb_len(first) + uleb_len(second),
+        Operand::Block(bytes) => uleb_len(bytes.len() as u64) + bytes.len(),
+    }
+}
+
+/// How many bytes the least spelling of an operation has.
+pub(crate) fn op_least_len(op: &Op<'_>, target: Target) -> usize
+    ensures { (bits : ℕ) → result ≡ length (least_bytes target bits (bare op.now)) }
+{
+    1 + operand_len(least_spelling(op, 0, target).operand)
+}
+
+// ---- writing it
+
+#[tactic(auto, using(dw_num::proofs::Shortest::puts_uleb))]
+fn push_uleb(out: &mut Vec<u8>, value: u64) -> Result<(), AllocError>
+    ensures ok { OnOk result (out.new.items ≡ out.old.items ++ shortest_uleb value) }
+    ensures err { OnErr result (out.new.items ≡ out.old.items) }
+{
+    put_uleb(out, value)
+}
+
+#[tactic(auto, using(dw_num::proofs::Shortest::puts_sleb))]
+fn push_sleb(out: &mut Vec<u8>, value: i64) -> Result<(), AllocError>
+    ensures ok { OnOk result (out.new.items ≡ out.old.items ++ shortest_sleb value) }
+    ensures err { OnErr result (out.new.items ≡ out.old.items) }
+{
+    put_sleb(out, value)
+}
+
+// Appends an operand, and may leave some of it where memory runs out.
+fn push_operand(out: &mut Vec<u8>, order: Order, operand: Operand<'_>) -> Result<(), AllocError>
+    ensures ok { OnOk result (out.new.items ≡ out.old.items ++ operand_bytes order operand.entry) }
+    ensures front { take (length out.old.items) out.new.items ≡ out.old.items }
+{
+    match operand {
+        Operand::Nothing => Ok(()),
+        Operand::Byte(value) => put_fixed(out, order, 1, u64::from(value)),
+        Operand::Half(value) => put_fixed(out, order, 2, u64::from(value)),
+        Operand::Word(value) => put_fixed(out, order, 4, u64::from(value)),
+        Operand::Double(value) => put_fixed(out, order, 8, value),
+        Operand::Unsigned(value) => push_uleb(out, value),
+        Operand::Signed(value) => push_sleb(out, value),
+        Operand::Offset(register, offset) => {
+            push_uleb(out, u64::from(register))?;
+            push_sleb(out, offset)
+        }
+        Operand::Pair(first, second) => {
+            push_uleb(out, first)?;
+            push_uleb(out, second)
+        }
+        Operand::Block(bytes) => {
+            push_uleb(out, bytes.len() as u64)?;
+            out.extend_from_slice(bytes)
+        }
+    }
+}
+
+fn push_spelling(out: &mut Vec<u8>, order: Order, spelling: Spelling<'_>) -> Result<(), AllocError>
+    ensures ok { OnOk result (out.new.items ≡ out.old.items ++ spelling_bytes order spelling.entry) }
+    ensures front { take (length out.old.items) out.new.items ≡ out.old.items }
+{
+    out.push(spelling.code)?;
+    push_operand(out, order, spelling.operand)
+}
+
+/// Appends the least spelling of an operation, with these sixteen bits for a branch's displacement.
+/// Where memory runs out nothing is appended.
+pub(crate) fn put_op(
+    out: &mut Vec<u8>,
+    op: &Op<'_>,
+    displacement: u16,
+    target: Target,
+) -> Result<(), AllocError>
+    ensures ok { OnOk result (out.new.items ≡ out.old.items ++ least_bytes target displacement (bare op.now)) }
+    ensures err { OnErr result (out.new.items ≡ out.old.items) }
+{
+    let start = out.len();
+    let result = push_spelling(out, target.order, least_spelling(op, displacement, target));
+    if result.is_err() {
+        out.truncate(start);
+    }
+    result
+}

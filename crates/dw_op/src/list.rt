@@ -1,0 +1,145 @@
+//! Lists of operations that a target has.
+
+ghost use Rattle.std.specs.Prelude.{◌≡◌, ℕ, ◌≤◌, length, map, ◌<◌, IsTrue, ◌↔◌, MatchOption, IfOk, IfErr, IsOk, []};
+ghost use Rattle.dw_num.specs.Target.{byte_count, address_limit};
+ghost use Rattle.dw_op.specs.Expression.{Expression, bare};
+ghost use Rattle.dw_op.specs.Ranges.{Fits, InRange, AllInRange, FirstBadOperand};
+
+use crate::op::{Op, are_typed};
+use dw_num::{Size, Target};
+use std::marker::Model;
+
+/// Operations for a target, which are in range for it: constants and addresses below 2^N, where an
+/// address has N bits; the sizes of `DerefSize` from 1 to N/8; branches to an operation of the list
+/// or to its end.
+#[derive(Drop)]
+pub struct OpList<'a> {
+    target: Target,
+    ops: Vec<Op<'a>>,
+}
+
+impl<'a> Model for OpList<'a> {
+    ghost use Rattle.dw_op.specs.Expression.{Expression, bare};
+    ghost use Rattle.std.specs.Prelude.{map};
+    ghost use Rattle.dw_op.specs.Ranges.{Fits, AllInRange};
+
+    ghost Value = { Expression };
+
+    ghost view = { λ l. record { target = l.target; ops = map bare l.ops.items } };
+
+    ghost invariant = { λ l. AllInRange l.target (map bare l.ops.items) };
+}
+
+/// The first operation of a list that is out of range.
+#[derive(Clone, Copy, Debug, PartialEq, Eq)]
+pub struct BadOperand {
+    pub index: usize,
+}
+
+// Whether a number is an address.
+fn is_address(number: u64, size: Size) -> bool
+    ensures { IsTrue result ↔ number < address_limit size }
+{
+    match size {
+        Size::Four => number < 0x1_0000_0000,
+        Size::Eight => true,
+    }
+}
+
+fn is_access_size(bytes: u8, size: Size) -> bool
+    ensures { IsTrue result ↔ (1 ≤ bytes) × (bytes ≤ byte_count size) }
+{
+    match size {
+        Size::Four => 1 <= bytes && bytes <= 4,
+        Size::Eight => 1 <= bytes && bytes <= 8,
+    }
+}
+
+// Whether what the types leave open is in range.
+fn fits(op: &Op<'_>, target: Target, len: usize) -> bool
+    ensures { IsTrue result ↔ Fits target len op.now }
+{
+    match *op {
+        Op::Addr(number) => is_address(number, target.size),
+        Op::Const(number) => is_address(number, target.size),
+        Op::Bra(index) => index <= len,
+        Op::Skip(index) => index <= len,
+        Op::DerefSize(bytes) => is_access_size(bytes, target.size),
+        _ => true,
+    }
+}
+
+// Whether an operation of a list of this length is in range.
+fn is_in_range(op: &Op<'_>, target: Target, len: usize) -> bool
+    ensures { IsTrue result ↔ InRange target len (bare op.now) }
+{
+    are_typed(op);
+    fits(op, target, len)
+}
+
+// The first operation that is out of range.
+fn first_bad(ops: &[Op<'_>], target: Target) -> Option<usize>
+    ensures { MatchOption result (AllInRange target (map bare ops.now)) (FirstBadOperand target (map bare ops.now)) }
+{
+    for (index, op) in ops.iter().enumerate() {
+        if !is_in_range(op, target, ops.len()) {
+            return Some(index);
+        }
+    }
+    None
+}
+
+impl<'a> OpList<'a> {
+    /// A list of these operations, or the first one that is out of range for the target. A list that
+    /// is refused is dropped. Takes no memory.
+    pub fn from_ops(ops: Vec<Op<'a>>, target: Target) -> Result<OpList<'a>, BadOperand>
+        // What is answered is the list, and it is in range.
+        ensures found { IfOk result (λ list. (list ≡ record { target = target; ops = map bare ops.entry.items }) × AllInRange target (map bare ops.entry.items)) }
+        // A list in range is not refused.
+        ensures only { AllInRange target (map bare ops.entry.items) → IsOk result }
+        // A refusal names the first operation out of range.
+        ensures first { IfErr result (λ error. FirstBadOperand target (map bare ops.entry.items) error.index) }
+    {
+        match first_bad(&ops, target) {
+            Some(index) => Err(BadOperand { index }),
+            None => Ok(OpList { target, ops }),
+        }
+    }
+
+    // A list that is known to be in range.
+    pub(crate) fn of_range(ops: Vec<Op<'a>>, target: Target) -> OpList<'a>
+        requires { AllInRange target (map bare ops.items) }
+        ensures { result ≡ record { target = target; ops = map bare ops.entry.items } }
+    {
+        OpList { target, ops }
+    }
+
+    /// The target that the operations are for.
+    pub fn target(&self) -> Target
+        ensures { result ≡ self.now.target }
+    {
+        self.target
+    }
+
+    /// How many operations there are.
+    pub fn len(&self) -> usize
+        ensures { result ≡ length self.now.ops }
+    {
+        self.ops.len()
+    }
+
+    /// Whether there is no operation.
+    pub fn is_empty(&self) -> bool
+        ensures { IsTrue result ↔ self.now.ops ≡ [] }
+    {
+        self.ops.is_empty()
+    }
+
+    /// The operations in order, which are in range for the target.
+    pub fn ops(&self) -> &[Op<'a>]
+        ensures same { map bare result.now ≡ self.now.ops }
+        ensures in_range { AllInRange self.now.target self.now.ops }
+    {
+        self.ops.as_slice()
+    }
+}

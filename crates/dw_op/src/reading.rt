@@ -1,0 +1,437 @@
+//! The operation at the front of what is left of a block.
+
+ghost use Rattle.std.specs.Prelude.{◌≡◌, ◌+◌, ◌%◌, length};
+ghost use Rattle.dw_num.specs.Reading.{Gives};
+ghost use Rattle.dw_num.specs.Target.{address_limit, byte_count};
+ghost use Rattle.dw_num.specs.Fixed.{IsWidth, fixed_number};
+ghost use Rattle.dw_op.specs.OpSpells.{modulo};
+ghost use Rattle.dw_op.specs.Reading.{bare_step, width_of, half_of, top_of, signed_of, plain_op, opcode_of, allows, address_step, unsigned_step, signed_step, uconst_step, sconst_step, pick_step, plus_step, jump_step, breg_step, long_reg_step, long_breg_step, fbreg_step, piece_step, deref_size_step, bit_piece_step, implicit_step, operands_at, step_at};
+
+use crate::op::Op;
+use crate::profile::{Profile, is_in_frame};
+use dw_num::{Code, Cursor, Order, Refusal, Size};
+
+/// Which of the two branches.
+#[derive(Clone, Copy, Debug)]
+pub(crate) enum Branch {
+    Bra,
+    Skip,
+}
+
+/// An operation as its bytes have it: a branch with the two bytes behind its code as a number.
+#[derive(Clone, Copy, Debug)]
+pub(crate) enum Step<'a> {
+    Plain(Op<'a>),
+    Jump(Branch, u16),
+}
+
+/// How many bytes a constant has.
+#[derive(Clone, Copy)]
+pub(crate) enum ByteCount {
+    One,
+    Two,
+    Four,
+    Eight,
+}
+
+/// What a code says of the operands behind it.
+#[derive(Clone, Copy)]
+pub(crate) enum Opcode<'a> {
+    Alone(Op<'a>),
+    Addr,
+    Unsigned(ByteCount),
+    Signed(ByteCount),
+    Uconst,
+    Sconst,
+    Pick,
+    PlusUconst,
+    Jump(Branch),
+    Breg(u16),
+    LongReg,
+    LongBreg,
+    Fbreg,
+    Piece,
+    DerefSize,
+    BitPiece,
+    Implicit,
+}
+
+// The operation of a code without operands.
+#[tactic(auto, unfolding(crate::specs::Reading::plain_op))]
+fn plain<'a>(code: u8) -> Option<Op<'a>>
+    ensures { result ≡ plain_op code }
+{
+    let op = match code {
+        0x06 => Op::Deref,
+        0x12 => Op::Dup,
+        0x13 => Op::Drop,
+        0x14 => Op::Over,
+        0x16 => Op::Swap,
+        0x17 => Op::Rot,
+        0x19 => Op::Abs,
+        0x1a => Op::And,
+        0x1b => Op::Div,
+        0x1c => Op::Minus,
+        0x1d => Op::Mod,
+        0x1e => Op::Mul,
+        0x1f => Op::Neg,
+        0x20 => Op::Not,
+        0x21 => Op::Or,
+        0x22 => Op::Plus,
+        0x24 => Op::Shl,
+        0x25 => Op::Shr,
+        0x26 => Op::Shra,
+        0x27 => Op::Xor,
+        0x29 => Op::Eq,
+        0x2a => Op::Ge,
+        0x2b => Op::Gt,
+        0x2c => Op::Le,
+        0x2d => Op::Lt,
+        0x2e => Op::Ne,
+        0x96 => Op::Nop,
+        0x97 => Op::PushObjectAddress,
+        0x9c => Op::CallFrameCfa,
+        0x9f => Op::StackValue,
+        _ => return None,
+    };
+    Some(op)
+}
+
+// What a code says: DWARF 5, 7.7.1.
+#[tactic(auto, unfolding(crate::specs::Reading::opcode_of))]
+fn known_opcode<'a>(code: u8) -> Option<Opcode<'a>>
+    ensures { result ≡ opcode_of code }
+{
+    match code {
+        0x03 => Some(Opcode::Addr),
+        0x08 => Some(Opcode::Unsigned(ByteCount::One)),
+        0x09 => Some(Opcode::Signed(ByteCount::One)),
+        0x0a => Some(Opcode::Unsigned(ByteCount::Two)),
+        0x0b => Some(Opcode::Signed(ByteCount::Two)),
+        0x0c => Some(Opcode::Unsigned(ByteCount::Four)),
+        0x0d => Some(Opcode::Signed(ByteCount::Four)),
+        0x0e => Some(Opcode::Unsigned(ByteCount::Eight)),
+        0x0f => Some(Opcode::Signed(ByteCount::Eight)),
+        0x10 => Some(Opcode::Uconst),
+        0x11 => Some(Opcode::Sconst),
+        0x15 => Some(Opcode::Pick),
+        0x23 => Some(Opcode::PlusUconst),
+        0x28 => Some(Opcode::Jump(Branch::Bra)),
+        0x2f => Some(Opcode::Jump(Branch::Skip)),
+        0x90 => Some(Opcode::LongReg),
+        0x91 => Some(Opcode::Fbreg),
+        0x92 => Some(Opcode::LongBreg),
+        0x93 => Some(Opcode::Piece),
+        0x94 => Some(Opcode::DerefSize),
+        0x9d => Some(Opcode::BitPiece),
+        0x9e => Some(Opcode::Implicit),
+        0x30..=0x4f => Some(Opcode::Alone(Op::Const(u64::from(code - 0x30)))),
+        0x50..=0x6f => Some(Opcode::Alone(Op::Reg(u16::from(code - 0x50)))),
+        0x70..=0x8f => Some(Opcode::Breg(u16::from(code - 0x70))),
+        _ => match plain(code) {
+            Some(op) => Some(Opcode::Alone(op)),
+            None => None,
+        },
+    }
+}
+
+// Whether a profile takes the operations of a code.
+fn is_taken(profile: Profile, opcode: Opcode<'_>) -> bool
+    ensures { result ≡ allows profile opcode.entry }
+{
+    match profile {
+        Profile::Location => true,
+        Profile::Frame => match opcode {
+            Opcode::Alone(op) => is_in_frame(op),
+            Opcode::LongReg | Opcode::Fbreg | Opcode::Piece | Opcode::BitPiece | Opcode::Implicit =>
+                false,
+            _ => true,
+        },
+    }
+}
+
+// ---- numbers
+
+// A number modulo 2^N.
+fn reduced(size: Size, number: u64) -> u64
+    ensures { result ≡ number % address_limit size }
+{
+    match size {
+        Size::Four => number % 0x1_0000_0000,
+        Size::Eight => number,
+    }
+}
+
+// The last number that is an address.
+fn last_address(size: Size) -> u64
+    ensures { result + 1 ≡ address_limit size }
+{
+    match size {
+        Size::Four => 0xffff_ffff,
+        Size::Eight => 0xffff_ffff_ffff_ffff,
+    }
+}
+
+// A signed number modulo 2^N.
+fn wrapped(size: Size, number: i64) -> u64
+    ensures { result ≡ modulo (address_limit size) number }
+{
+    if number < 0 {
+        last_address(size) - reduced(size, (-1 - number) as u64)
+    } else {
+        reduced(size, number as u64)
+    }
+}
+
+fn width(count: ByteCount) -> usize
+    ensures value { result ≡ width_of count }
+    ensures known { IsWidth result }
+{
+    match count {
+        ByteCount::One => 1,
+        ByteCount::Two => 2,
+        ByteCount::Four => 4,
+        ByteCount::Eight => 8,
+    }
+}
+
+// The first number whose sign bit is set.
+fn half(count: ByteCount) -> u64
+    ensures { result ≡ half_of count }
+{
+    match count {
+        ByteCount::One => 0x80,
+        ByteCount::Two => 0x8000,
+        ByteCount::Four => 0x8000_0000,
+        ByteCount::Eight => 0x8000_0000_0000_0000,
+    }
+}
+
+// The last number of this width.
+fn top(count: ByteCount) -> u64
+    ensures { result ≡ top_of count }
+{
+    match count {
+        ByteCount::One => 0xff,
+        ByteCount::Two => 0xffff,
+        ByteCount::Four => 0xffff_ffff,
+        ByteCount::Eight => 0xffff_ffff_ffff_ffff,
+    }
+}
+
+// A number of this width as two's complement.
+fn signed(count: ByteCount, number: u64) -> i64
+    ensures { result ≡ signed_of count number }
+{
+    if number < half(count) {
+        number as i64
+    } else {
+        -1 - (top(count).saturating_sub(number) as i64)
+    }
+}
+
+// The number that two bytes spell.
+fn two_bytes(order: Order, bytes: &[u8]) -> u16
+    requires { length bytes.now ≡ 2 }
+    ensures { result ≡ fixed_number order 2 bytes.now }
+{
+    let first = u16::from(bytes[0]);
+    let second = u16::from(bytes[1]);
+    match order {
+        Order::Little => first + 256 * second,
+        Order::Big => 256 * first + second,
+    }
+}
+
+// ---- operands
+
+#[tactic(auto, unfolding(crate::specs::Reading::address_step))]
+fn read_address<'a>(cursor: &mut Cursor<'a>) -> Result<Step<'a>, Refusal>
+    ensures { Gives bare_step result (address_step cursor.old) cursor.new }
+{
+    let address = cursor.address()?;
+    Ok(Step::Plain(Op::Addr(address)))
+}
+
+#[tactic(auto, unfolding(crate::specs::Reading::unsigned_step))]
+fn read_unsigned<'a>(cursor: &mut Cursor<'a>, count: ByteCount) -> Result<Step<'a>, Refusal>
+    ensures { Gives bare_step result (unsigned_step count cursor.old) cursor.new }
+{
+    let size = cursor.target().size;
+    let number = cursor.fixed(width(count))?;
+    Ok(Step::Plain(Op::Const(reduced(size, number))))
+}
+
+#[tactic(auto, unfolding(crate::specs::Reading::signed_step))]
+fn read_signed<'a>(cursor: &mut Cursor<'a>, count: ByteCount) -> Result<Step<'a>, Refusal>
+    ensures { Gives bare_step result (signed_step count cursor.old) cursor.new }
+{
+    let size = cursor.target().size;
+    let number = cursor.fixed(width(count))?;
+    Ok(Step::Plain(Op::Const(wrapped(size, signed(count, number)))))
+}
+
+#[tactic(auto, unfolding(crate::specs::Reading::uconst_step))]
+fn read_uconst<'a>(cursor: &mut Cursor<'a>) -> Result<Step<'a>, Refusal>
+    ensures { Gives bare_step result (uconst_step cursor.old) cursor.new }
+{
+    let size = cursor.target().size;
+    let number = cursor.uleb()?;
+    Ok(Step::Plain(Op::Const(reduced(size, number))))
+}
+
+#[tactic(auto, unfolding(crate::specs::Reading::sconst_step))]
+fn read_sconst<'a>(cursor: &mut Cursor<'a>) -> Result<Step<'a>, Refusal>
+    ensures { Gives bare_step result (sconst_step cursor.old) cursor.new }
+{
+    let size = cursor.target().size;
+    let number = cursor.sleb()?;
+    Ok(Step::Plain(Op::Const(wrapped(size, number))))
+}
+
+#[tactic(auto, unfolding(crate::specs::Reading::pick_step))]
+fn read_pick<'a>(cursor: &mut Cursor<'a>) -> Result<Step<'a>, Refusal>
+    ensures { Gives bare_step result (pick_step cursor.old) cursor.new }
+{
+    let entry = cursor.byte()?;
+    Ok(Step::Plain(Op::Pick(entry)))
+}
+
+#[tactic(auto, unfolding(crate::specs::Reading::plus_step))]
+fn read_plus<'a>(cursor: &mut Cursor<'a>) -> Result<Step<'a>, Refusal>
+    ensures { Gives bare_step result (plus_step cursor.old) cursor.new }
+{
+    let number = cursor.uleb()?;
+    Ok(Step::Plain(Op::PlusUconst(number)))
+}
+
+#[tactic(auto, unfolding(crate::specs::Reading::jump_step))]
+fn read_jump<'a>(cursor: &mut Cursor<'a>, branch: Branch) -> Result<Step<'a>, Refusal>
+    ensures { Gives bare_step result (jump_step branch cursor.old) cursor.new }
+{
+    let order = cursor.target().order;
+    let bytes = cursor.take(2)?;
+    Ok(Step::Jump(branch, two_bytes(order, bytes)))
+}
+
+#[tactic(auto, unfolding(crate::specs::Reading::breg_step))]
+fn read_breg<'a>(cursor: &mut Cursor<'a>, register: u16) -> Result<Step<'a>, Refusal>
+    ensures { Gives bare_step result (breg_step register cursor.old) cursor.new }
+{
+    let offset = cursor.sleb()?;
+    Ok(Step::Plain(Op::Breg(register, offset)))
+}
+
+#[tactic(auto, unfolding(crate::specs::Reading::long_reg_step))]
+fn read_long_reg<'a>(cursor: &mut Cursor<'a>) -> Result<Step<'a>, Refusal>
+    ensures { Gives bare_step result (long_reg_step cursor.old) cursor.new }
+{
+    let register = cursor.register()?;
+    Ok(Step::Plain(Op::Reg(register)))
+}
+
+#[tactic(auto, unfolding(crate::specs::Reading::long_breg_step))]
+fn read_long_breg<'a>(cursor: &mut Cursor<'a>) -> Result<Step<'a>, Refusal>
+    ensures { Gives bare_step result (long_breg_step cursor.old) cursor.new }
+{
+    let register = cursor.register()?;
+    read_breg(cursor, register)
+}
+
+#[tactic(auto, unfolding(crate::specs::Reading::fbreg_step))]
+fn read_fbreg<'a>(cursor: &mut Cursor<'a>) -> Result<Step<'a>, Refusal>
+    ensures { Gives bare_step result (fbreg_step cursor.old) cursor.new }
+{
+    let offset = cursor.sleb()?;
+    Ok(Step::Plain(Op::Fbreg(offset)))
+}
+
+#[tactic(auto, unfolding(crate::specs::Reading::piece_step))]
+fn read_piece<'a>(cursor: &mut Cursor<'a>) -> Result<Step<'a>, Refusal>
+    ensures { Gives bare_step result (piece_step cursor.old) cursor.new }
+{
+    let size = cursor.uleb()?;
+    Ok(Step::Plain(Op::Piece(size)))
+}
+
+#[tactic(auto, unfolding(crate::specs::Reading::deref_size_step))]
+fn read_deref_size<'a>(cursor: &mut Cursor<'a>) -> Result<Step<'a>, Refusal>
+    ensures { Gives bare_step result (deref_size_step cursor.old) cursor.new }
+{
+    let at = cursor.at();
+    let most = cursor.target().size.byte_count();
+    let size = cursor.byte()?;
+    if 1 <= size && size <= most {
+        Ok(Step::Plain(Op::DerefSize(size)))
+    } else {
+        Err(Refusal {
+            code: Code::BadDerefSize,
+            at,
+        })
+    }
+}
+
+#[tactic(auto, unfolding(crate::specs::Reading::bit_piece_step))]
+fn read_bit_piece<'a>(cursor: &mut Cursor<'a>) -> Result<Step<'a>, Refusal>
+    ensures { Gives bare_step result (bit_piece_step cursor.old) cursor.new }
+{
+    let size = cursor.uleb()?;
+    let offset = cursor.uleb()?;
+    Ok(Step::Plain(Op::BitPiece(size, offset)))
+}
+
+#[tactic(auto, unfolding(crate::specs::Reading::implicit_step))]
+fn read_implicit<'a>(cursor: &mut Cursor<'a>) -> Result<Step<'a>, Refusal>
+    ensures { Gives bare_step result (implicit_step cursor.old) cursor.new }
+{
+    let len = cursor.uleb()?;
+    let block = cursor.take(len as usize)?;
+    Ok(Step::Plain(Op::Implicit(block)))
+}
+
+#[tactic(auto, unfolding(crate::specs::Reading::operands_at))]
+fn operands<'a>(cursor: &mut Cursor<'a>, opcode: Opcode<'a>) -> Result<Step<'a>, Refusal>
+    ensures { Gives bare_step result (operands_at opcode.entry cursor.old) cursor.new }
+{
+    match opcode {
+        Opcode::Alone(op) => Ok(Step::Plain(op)),
+        Opcode::Addr => read_address(cursor),
+        Opcode::Unsigned(count) => read_unsigned(cursor, count),
+        Opcode::Signed(count) => read_signed(cursor, count),
+        Opcode::Uconst => read_uconst(cursor),
+        Opcode::Sconst => read_sconst(cursor),
+        Opcode::Pick => read_pick(cursor),
+        Opcode::PlusUconst => read_plus(cursor),
+        Opcode::Jump(branch) => read_jump(cursor, branch),
+        Opcode::Breg(register) => read_breg(cursor, register),
+        Opcode::LongReg => read_long_reg(cursor),
+        Opcode::LongBreg => read_long_breg(cursor),
+        Opcode::Fbreg => read_fbreg(cursor),
+        Opcode::Piece => read_piece(cursor),
+        Opcode::DerefSize => read_deref_size(cursor),
+        Opcode::BitPiece => read_bit_piece(cursor),
+        Opcode::Implicit => read_implicit(cursor),
+    }
+}
+
+#[tactic(auto, unfolding(crate::specs::Reading::step_at))]
+pub(crate) fn next_step<'a>(cursor: &mut Cursor<'a>, profile: Profile) -> Result<Step<'a>, Refusal>
+    ensures { Gives bare_step result (step_at profile cursor.old) cursor.new }
+{
+    let at = cursor.at();
+    let code = cursor.byte()?;
+    let Some(opcode) = known_opcode(code) else {
+        return Err(Refusal {
+            code: Code::UnknownOperation,
+            at,
+        });
+    };
+    if is_taken(profile, opcode) {
+        operands(cursor, opcode)
+    } else {
+        Err(Refusal {
+            code: Code::NotInFrame,
+            at,
+        })
+    }
+}

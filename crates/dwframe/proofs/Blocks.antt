@@ -1,0 +1,23 @@
+-- What has a block in a profile has a block, and is not too far.
+use Rattle.std.proofs.Common.{◌≡◌, ℕ, List, Result, Ok, Err, sym, subst, ◌∙◌, ap}
+use Rattle.std.specs.Prelude.{IfErr}
+use Rattle.dw_num.specs.declared.target.Target.{Target}
+use Rattle.dw_op.specs.declared.op.Op.{Op}
+use Rattle.dw_op.specs.declared.encoding.EncodeError.{EncodeError}
+use Rattle.dw_op.specs.declared.encoding.EncodeError.TheVariants.{BranchTooFar, OutOfMemory}
+use Rattle.dw_op.specs.declared.profile.Profile.{Profile}
+use Rattle.dw_op.specs.declared.profile.Profile.TheVariants.{Frame, Location}
+use Rattle.dw_op.specs.Block.{Block}
+use Rattle.dw_op.specs.Faults.{IsBlock}
+
+pub is_block : (profile : Profile) (t : Target) (ops : List Op) (bytes : List ℕ) → IsBlock profile t ops bytes → Block t ops bytes
+is_block Frame t ops bytes h = h.0
+is_block Location t ops bytes h = h
+
+pub same_target : (s t : Target) (ops : List Op) (bytes : List ℕ) → s ≡ t → Block t ops bytes → Block s ops bytes
+same_target s t ops bytes e h = subst (λ (u : Target). Block u ops bytes) (sym e) h
+
+-- an answer that can only be want of memory is no branch too far
+pub not_memory : {V : Type 0} (r : Result V EncodeError) (e : EncodeError) (index : ℕ) → r ≡ Err e → e ≡ BranchTooFar index → IfErr r (λ error. error ≡ OutOfMemory) → ⊥
+not_memory (Ok v) e index is far h = absurd cc
+not_memory (Err d) e index is far h = absurd cc

@@ -1,0 +1,54 @@
+//! The calls on borrowed expressions that take no memory.
+
+use dw_num::{Order, Size, Target};
+use dw_op::ExprRef;
+use std::hash::{DefaultHasher, Hash, Hasher};
+use std::io;
+
+const TARGET: Target = Target {
+    size: Size::Eight,
+    order: Order::Little,
+};
+
+const BLOCKS: [&[u8]; 6] = [
+    b"\x2f\x12\x00\x0e\x05\0\0\0\0\0\0\0\x0e\x06\0\0\0\0\0\0\0\x37",
+    b"\x2f\x02\x00\x35\x36\x37",
+    b"\x92\x07\x08\x06",
+    b"\x12",
+    b"\x2f\x01\x00\x08\x05",
+    b"\x9f",
+];
+
+fn hash_of(expression: &ExprRef<'_>) -> u64 {
+    let mut state = DefaultHasher::new();
+    expression.hash(&mut state);
+    state.finish()
+}
+
+fn pair(rt: &impl Print, a: &[u8], b: &[u8]) -> io::Result<()> {
+    let first = match ExprRef::accept(a, TARGET) {
+        Ok(expression) => expression,
+        Err(refusal) => return println!(rt; "{} at {}", refusal.code.name(), refusal.at),
+    };
+    let second = match ExprRef::accept(b, TARGET) {
+        Ok(expression) => expression,
+        Err(refusal) => return println!(rt; "{} at {}", refusal.code.name(), refusal.at),
+    };
+    let equal = first == second;
+    let alike = hash_of(&first) == hash_of(&second);
+    println!(rt;
+        "{equal} {alike} {} {}",
+        first.least_len(),
+        second.least_len()
+    )
+}
+
+/// Accepts, compares and hashes each pair of blocks.
+pub fn all(rt: &impl Print) -> io::Result<()> {
+    for a in BLOCKS {
+        for b in BLOCKS {
+            pair(rt, a, b)?;
+        }
+    }
+    Ok(())
+}
