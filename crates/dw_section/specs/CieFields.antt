@@ -1,4 +1,4 @@
--- How the fields of a CIE are spelled behind its id.
+-- How the fields of a CIE are spelled behind its id: DWARF 5, 6.4.1, and versions 1 and 3 before it.
 use Rattle.std.specs.Prelude.{◌≡◌, ℕ, ◌<◌, List, [], ◌∷◌, ◌++◌}
 use Rattle.dw_num.specs.declared.target.Size.{Size}
 use Rattle.dw_num.specs.Leb.{Uleb, Sleb}

@@ -1,4 +1,4 @@
--- How the fields of an FDE are spelled.
+-- How the fields of an FDE are spelled: DWARF 5, 6.4.1.
 use Rattle.std.specs.Prelude.{◌≡◌, ℕ, ◌+◌, ◌≤◌, ◌==◌, true, Bool, List, ◌++◌}
 use Rattle.std.specs.List.{list_any}
 use Rattle.dw_num.specs.declared.target.Target.{Target}

@@ -271,6 +271,12 @@ fn judges_the_fields_of_an_fde(rt: HostRuntime) -> Result<(), Fail> {
             b"\0\x01".as_slice(),
             Err((Code::NoSuchCie, 0x1c)),
         ),
+        (
+            "an empty FDE of no CIE",
+            4,
+            b"\x04\0\0\0\0\x10\0\0\0\0\0\0\0".as_slice(),
+            Err((Code::NoSuchCie, 0x1c)),
+        ),
         ("range at the top", 8, top, Ok(())),
         (
             "range past the top",
@@ -297,6 +303,12 @@ fn judges_stage_by_stage(rt: HostRuntime) -> Result<(), Fail> {
         (
             "CIE fields first",
             stray.as_slice(),
+            version_2.as_slice(),
+            Err((Code::BadVersion, 0x20)),
+        ),
+        (
+            "a CIE that no FDE names",
+            CIE,
             version_2.as_slice(),
             Err((Code::BadVersion, 0x20)),
         ),
