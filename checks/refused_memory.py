@@ -20,7 +20,7 @@ RUNS = [
     ["entries", "--size", "4", "--order", "big", "sum-clang-powerpc.bin"],
     ["expr", "--size", "8", "--order", "little", "2f12000e05000000000000000e060000000000000037"],
 ]
-CALLS = ["entries", "headers", "decode", "encode", "ops", "put_least", "numbers"]
+CALLS = ["entries", "headers", "decode", "encode", "ops", "put_least", "run", "row_steps", "numbers"]
 OUT_OF_MEMORY = (5, b"", b"out of memory\n")
 
 

@@ -7,3 +7,4 @@ pub mod Turned
 pub mod SlebLaws
 pub mod Steps
 pub mod Shortest
+pub mod Stays

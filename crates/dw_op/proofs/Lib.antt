@@ -22,3 +22,4 @@ pub mod Walkers
 pub mod Judging
 pub mod Lines
 pub mod PlainBlocks
+pub mod FaultPlaces

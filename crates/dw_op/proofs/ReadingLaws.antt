@@ -69,15 +69,15 @@ CodeOf t opcodes.DerefSize code = code ≡ 0x94
 CodeOf t opcodes.BitPiece code = code ≡ 0x9d
 CodeOf t opcodes.Implicit code = code ≡ 0x9e
 
-some_is : {A : Type 0} (a b : A) → Some a ≡ Some b → a ≡ b
+pub some_is : {A : Type 0} (a b : A) → Some a ≡ Some b → a ≡ b
 some_is a b e = cc
 
 -- P of each entry of a table
-abbrev EachEntry : {A : Type 0} → (A → ℕ → Type 0) → List (ℕ × A) → Type 0
+abbrev pub EachEntry : {A : Type 0} → (A → ℕ → Type 0) → List (ℕ × A) → Type 0
 EachEntry P [] = Unit {0}
 EachEntry P (entry ∷ table) = P entry.1 entry.0 × EachEntry P table
 
-looked_up : {A : Type 0} (P : A → ℕ → Type 0) (table : List (ℕ × A)) (code : ℕ) (a : A) → EachEntry P table → look_up table code ≡ Some a → P a code
+pub looked_up : {A : Type 0} (P : A → ℕ → Type 0) (table : List (ℕ × A)) (code : ℕ) (a : A) → EachEntry P table → look_up table code ≡ Some a → P a code
 looked_up P [] code a h e = absurd cc
 looked_up {A} P (entry ∷ table) code a h e = elim (cases_Bool (eqb code entry.0)) [
   | inl y ↦
@@ -95,7 +95,7 @@ plain_entries t = ((refl, refl), ((refl, refl), ((refl, refl), ((refl, refl), ((
 operand_entries : (t : Target) → EachEntry (CodeOf t) operand_table
 operand_entries t = (refl, (refl, (refl, (refl, (refl, (refl, (refl, (refl, (refl, (refl, (refl, (refl, (refl, (refl, (refl, (refl, (refl, (refl, (refl, (refl, (refl, (refl, tt))))))))))))))))))))))
 
-range_is : (low high code : ℕ) → in_range low high code ≡ true → (low ≤ code) × (code < high)
+pub range_is : (low high code : ℕ) → in_range low high code ≡ true → (low ≤ code) × (code < high)
 range_is low high code e = elim (cases_Bool (nat_le low code)) [
   | inl y ↦ let k : nat_lt code high ≡ true = rw y at e in (leb-true low code y, ltb-true code high k)
   | inr n ↦ let k : false ≡ true = rw n at e in absurd cc

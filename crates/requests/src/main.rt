@@ -4,6 +4,7 @@
 
 mod borrowing;
 mod calls;
+mod programs;
 
 use std::{env, io};
 
@@ -24,6 +25,8 @@ fn run(rt: &HostRuntime) -> io::Result<()> {
         "encode" => calls::encoded(rt),
         "ops" => calls::listed(rt),
         "put_least" => calls::put(rt),
+        "run" => programs::all_rows(rt),
+        "row_steps" => programs::each_row(rt),
         _ => calls::numbers(rt),
     }
 }

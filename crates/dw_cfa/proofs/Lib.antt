@@ -1,0 +1,16 @@
+pub mod Products
+pub mod Expressions
+pub mod InstrLaws
+pub mod InstrAgain
+pub mod Listings
+pub mod RowLists
+pub mod Placings
+pub mod RunSteps
+pub mod Forward
+pub mod Match
+pub mod RowsAt
+pub mod Initial
+pub mod RunLaws
+pub mod KeptRuns
+pub mod KeptLaws
+pub mod InstrPlaces

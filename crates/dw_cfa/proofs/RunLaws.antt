@@ -1,0 +1,132 @@
+-- The laws of rows.
+use Rattle.std.proofs.Common.{◌≡◌, ℕ, zero, suc, ◌+◌, ◌<◌, ◌≤◌, Bool, true, false, cond, List, [], ◌∷◌, length, Option, Some, None, Result, Ok, Err, refl, sym, ap, ◌∙◌, subst, arith}
+use Rattle.dw_num.specs.declared.refusal.Refusal.{Refusal}
+use Rattle.dw_num.specs.Target.{address_limit}
+use Rattle.dw_num.specs.Input.{Input, AreBytes}
+use Rattle.dw_num.specs.Reading.{Read}
+use Rattle.dw_cfa.specs.declared.instr.Factors.{Factors}
+use Rattle.dw_cfa.specs.declared.instr.Instr.{Instr}
+use Rattle.dw_cfa.specs.declared.rule.CfaRule.{CfaRule}
+use Rattle.dw_cfa.specs.declared.rule.RegRule.{RegRule}
+use Rattle.dw_cfa.specs.declared.running.LocatedRow.{LocatedRow}
+use Rattle.dw_cfa.specs.InstrSpells.{Program}
+use Rattle.dw_num.specs.declared.refusal.Code.{Code}
+use Rattle.dw_cfa.specs.Location.{Counts, onto, back_from, moves_location}
+use Rattle.dw_cfa.specs.Column.{cfa_after, rule_after, look_back, cfa_change, rule_change}
+use Rattle.dw_cfa.specs.Rows.{Rules, rule, blank}
+use Rattle.dw_cfa.specs.Listing as plain
+use Rattle.dw_cfa.specs.Machine.{State, begun, after, fde_fault}
+use Rattle.dw_cfa.specs.Reading.{instr_at}
+use Rattle.dw_cfa.specs.Runs.{Placed, Placing, Outcome, finished, fails, placed, placed_by, cie_run, initial_row, on_initial, fde_rows, run_rows, last_row, fault_or, row_if, row_then, here, ended, after_item, on_read, on_left}
+use Rattle.dw_cfa.specs.Laws.{initial_cfa, initial_rule, HoldsAfter, RowsOf, GivenPrograms, NoneFalls, LastHolds}
+use Rattle.dw_cfa.specs.RuleAt.{last_at, NeverFalls, CountsFrom}
+use Rattle.dw_cfa.proofs.Listings.{program_listed}
+use Rattle.dw_cfa.proofs.Forward.{Follows, Holds, begun_follows}
+use Rattle.dw_cfa.proofs.Initial.{cie_follows}
+use Rattle.dw_cfa.proofs.RowsAt.{instrs_of, Gives, rows_at, never_falls}
+
+-- ---- the instructions without their places
+
+abbrev pub plain_of : Placing → plain.Listing
+plain_of p = record { instrs = instrs_of p.items; fault = p.fault }
+
+same_read : (f : Factors) (n : ℕ) (i : Input) (bytes : List ℕ) (r : Read Instr) → ((x : Instr × Input) → plain.listing_by f n x.1 ≡ plain_of (placed_by f n x.1))
+    → plain.on_left bytes (plain.on_read r (λ e. plain.ended (Some e)) (λ x. plain.after_instr x.0 (plain.listing_by f n x.1)))
+    ≡ plain_of (on_left bytes (on_read r (λ e. ended (Some e)) (λ x. after_item i.at x.0 (placed_by f n x.1))))
+same_read f n i [] r h = refl
+same_read f n i (b ∷ bytes) (Ok x) h = rw (h x) refl
+same_read f n i (b ∷ bytes) (Err e) h = refl
+
+same_by : (f : Factors) (n : ℕ) (i : Input) → plain.listing_by f n i ≡ plain_of (placed_by f n i)
+unfolding plain.listing_by placed_by
+same_by f zero i = refl
+same_by f (suc n) i = same_read f n i i.bytes (instr_at f i) (λ x. same_by f n x.1)
+
+pub same_listing : (f : Factors) (i : Input) → plain.listing f i ≡ plain_of (placed f i)
+unfolding plain.listing placed
+same_listing f i = same_by f (length i.bytes) i
+
+-- a program is read to its end, and what is read to its end is a program
+pub placed_program : (f : Factors) (i : Input) → AreBytes i.bytes → (placed f i).fault ≡ None → Program i.target f (instrs_of (placed f i).items) i.bytes
+placed_program f i h none =
+    (program_listed f i (instrs_of (placed f i).items) h).1 (same_listing f i ∙ ap (λ (o : Option Refusal). let l : plain.Listing = record { instrs = instrs_of (placed f i).items; fault = o } in l) none)
+
+pub program_placed : (f : Factors) (i : Input) (instrs : List Instr) → AreBytes i.bytes → Program i.target f instrs i.bytes → (instrs_of (placed f i).items ≡ instrs) × ((placed f i).fault ≡ None)
+program_placed f i instrs h p =
+    let same = sym (same_listing f i) ∙ (program_listed f i instrs h).0 p in
+    (ap (λ (l : plain.Listing). l.instrs) same, ap (λ (l : plain.Listing). l.fault) same)
+
+-- ---- a run that gives rows and no refusal
+
+on_initial_ok : (r : Result Rules Refusal) (go : Rules → Outcome) (rows : List LocatedRow) → on_initial r go ≡ record { rows = rows; fault = None }
+    → (initial : Rules) × (r ≡ Ok initial) × (go initial ≡ record { rows = rows; fault = None })
+on_initial_ok (Ok initial) go rows e = (initial, refl, e)
+on_initial_ok (Err r) go rows e = let none = ap (λ (o : Outcome). o.fault) e in absurd cc
+
+last_none : (fault : Option Refusal) (s : State) → (last_row fault s).fault ≡ None → fault ≡ None
+last_none None s e = refl
+last_none (Some r) s e = absurd cc
+
+next_none : (at : ℕ) (code : Option Code) (moves : Bool) (s : State) (next : Outcome) → (fault_or at code (row_if moves s next)).fault ≡ None → next.fault ≡ None
+next_none at None true s next e = e
+next_none at None false s next e = e
+next_none at (Some code) moves s next e = absurd cc
+
+no_fault : (limit : ℕ) (initial : Rules) (items : List Placed) (fault : Option Refusal) (s : State) → (fde_rows limit initial items fault s).fault ≡ None → fault ≡ None
+unfolding fde_rows
+no_fault limit initial [] fault s e = last_none fault s e
+no_fault limit initial (item ∷ items) fault s e =
+    no_fault limit initial items fault (after initial item.instr s) (next_none item.at (fde_fault limit item.instr s) (moves_location item.instr) s (fde_rows limit initial items fault (after initial item.instr s)) e)
+
+-- the initial row, and the run of the FDE's program behind it
+pub record Given (f : Factors) (cie fde : Input) (begin : ℕ) (rows : List LocatedRow) : Type 0 where
+  pub initial : Rules
+  pub run : initial_row (placed f cie) blank ≡ Ok initial
+  pub cie_end : (placed f cie).fault ≡ None
+  pub fde_end : (placed f fde).fault ≡ None
+  pub follows : Follows blank 0 (onto [] (instrs_of (placed f cie).items) (length (instrs_of (placed f cie).items))) (begun initial 0)
+  pub gives : Gives (address_limit fde.target.size) initial (placed f fde).items (begun initial begin) rows
+
+pub given : (f : Factors) (cie fde : Input) (begin : ℕ) (rows : List LocatedRow) → run_rows f cie fde begin ≡ record { rows = rows; fault = None } → Given f cie fde begin rows
+unfolding run_rows
+given f cie fde begin rows e =
+    let p = on_initial_ok (initial_row (placed f cie) blank) (λ initial. fde_rows (address_limit fde.target.size) initial (placed f fde).items (placed f fde).fault (begun initial begin)) rows e in
+    let c = cie_follows (placed f cie).items (placed f cie).fault [] blank p.0 (begun_follows blank 0 tt) p.1 in
+    let none = no_fault (address_limit fde.target.size) p.0 (placed f fde).items (placed f fde).fault (begun p.0 begin) (ap (λ (o : Outcome). o.fault) p.2) in
+    record {
+      initial = p.0;
+      run = p.1;
+      cie_end = c.1;
+      fde_end = none;
+      follows = c.0;
+      gives = subst (λ (o : Option Refusal). fde_rows (address_limit fde.target.size) p.0 (placed f fde).items o (begun p.0 begin) ≡ record { rows = rows; fault = None }) none p.2;
+    }
+
+pub given_programs : GivenPrograms
+given_programs f cie fde begin rows h =
+    let g = given f cie fde begin rows h.given in
+    (instrs_of (placed f cie).items, instrs_of (placed f fde).items, placed_program f cie h.cie_bytes g.cie_end, placed_program f fde h.fde_bytes g.fde_end)
+
+pub none_falls : NoneFalls
+none_falls f cie fde begin rows h =
+    let g = given f cie fde begin rows h.given in
+    never_falls (address_limit fde.target.size) g.initial (placed f fde).items (begun g.initial begin) rows begin (omega arith) g.gives
+
+-- the columns of the row of an address
+held : (cie fde : List Instr) (k : ℕ) (initial row : Rules) → Follows blank 0 (onto [] cie (length cie)) (begun initial 0) → Holds initial (onto [] fde k) 0 row → HoldsAfter cie fde k row
+held cie fde k initial row from h = record {
+  cfa = h.cfa ∙ ap (λ (c : CfaRule). cfa_after c fde k) from.row.cfa;
+  rules = λ r. h.rules r ∙ ap (λ (x : RegRule). rule_after x fde r k) (from.row.rules r);
+}
+
+pub last_holds : LastHolds
+last_holds f cie fde begin rows h ci fi cie_is fde_is a k le counts =
+    let g = given f cie fde begin rows h.given in
+    let c = (program_placed f cie ci h.cie_bytes cie_is).0 in
+    let d = (program_placed f fde fi h.fde_bytes fde_is).0 in
+    let from = subst (λ (l : List Instr). Follows blank 0 (onto [] l (length l)) (begun g.initial 0)) c g.follows in
+    let so : CountsFrom begin [] fi a k = record { in_program = counts.in_program; stays = counts.stays; greatest = counts.greatest } in
+    let found = rows_at g.initial begin a (address_limit fde.target.size) (placed f fde).items [] (begun g.initial begin) k rows (begun_follows g.initial begin g.follows.row.listed) le
+    (subst (λ (l : List Instr). CountsFrom begin [] l a k) (sym d) so) g.gives in
+    let holds = subst (λ (l : List Instr). Holds g.initial (onto [] l k) 0 found.0) d found.2 in
+    (found.0, found.1, held ci fi k g.initial found.0 from holds)

@@ -1,0 +1,118 @@
+-- One instruction of a program, in the rows still to come.
+use Rattle.std.proofs.Common.{◌≡◌, ℕ, zero, suc, ◌+◌, ◌<◌, ◌≤◌, Bool, true, false, cond, List, [], ◌∷◌, length, Option, Some, None, Result, Ok, Err, refl, sym, ap, ◌∙◌, subst, arith, inl, inr}
+use Rattle.std.specs.Prelude.{IsTrue}
+use Rattle.dw_num.specs.declared.refusal.Code.{Code}
+use Rattle.dw_num.specs.declared.refusal.Code.TheVariants.{NotInCie}
+use Rattle.dw_num.specs.declared.refusal.Refusal.{Refusal}
+use Rattle.dw_num.specs.Input.{Input, AreBytes}
+use Rattle.dw_num.specs.Target.{address_limit}
+use Rattle.dw_cfa.specs.declared.instr.Factors.{Factors}
+use Rattle.dw_cfa.specs.declared.instr.Instr.{Instr}
+use Rattle.dw_cfa.specs.declared.instr.Instr.TheVariants.{Nop, SetLoc, Advance, DefCfa, DefCfaRegister, DefCfaOffset, DefCfaExpression, Set, Restore, RememberState, RestoreState}
+use Rattle.dw_cfa.specs.declared.machine.Machine.{Machine}
+use Rattle.dw_cfa.specs.declared.machine.StepError.{StepError}
+use Rattle.dw_cfa.specs.declared.machine.StepError.TheVariants as step
+use Rattle.dw_cfa.specs.declared.running.RunError.{RunError}
+use Rattle.dw_cfa.specs.declared.running.RunError.TheVariants.{Refused, OutOfMemory}
+use Rattle.dw_cfa.specs.Location.{moves_location}
+use Rattle.dw_cfa.specs.Kept.{in_cie}
+use Rattle.dw_cfa.specs.Reading.{instr_at}
+use Rattle.dw_cfa.specs.Rows.{Rules, blank}
+use Rattle.dw_cfa.specs.Stepping.{begun_rows}
+use Rattle.dw_cfa.specs.Machine.{State, written, after, half_fault, cie_fault, fde_fault, FaultIs}
+use Rattle.dw_cfa.specs.Steps.{state_of, InLimit, IsAfter}
+use Rattle.dw_cfa.specs.Runs.{Placing, ended, after_item, placed, cie_run, initial_row, Outcome, fails, finished, row_then, here, row_if, fault_or, fde_rows, rows_left, rows_behind, run_rows, RunsSo, RefusalIs, run_error, RanTo, WroteTo}
+use Rattle.dw_cfa.proofs.Placings.{reads, placed_end, placed_step, placed_stuck}
+
+rows_of : ℕ → Rules → Placing → State → Outcome
+rows_of limit initial l s = fde_rows limit initial l.items l.fault s
+
+pub rows_end : (f : Factors) (i : Input) (m : Machine) → length i.bytes ≡ 0 → rows_left f i m ≡ row_then (here (state_of m)) finished
+unfolding rows_left fde_rows
+rows_end f i m none = rw (placed_end f i none) refl
+
+pub rows_stuck : (f : Factors) (i : Input) (m : Machine) (r : Refusal) → 0 < length i.bytes → instr_at f i ≡ Err r → rows_left f i m ≡ fails r
+unfolding rows_left fde_rows
+rows_stuck f i m r some e = rw (placed_stuck f i r some e) refl
+
+module _ (f : Factors) (i : Input) (m : Machine) (x : Instr × Input) (h : AreBytes i.bytes) (some : 0 < length i.bytes) (e : instr_at f i ≡ Ok x) where
+  rows_then : rows_left f i m ≡ fault_or i.at (fde_fault m.limit x.0 (state_of m)) (row_if (moves_location x.0) (state_of m) (fde_rows m.limit m.initial (placed f x.1).items (placed f x.1).fault (after m.initial x.0 (state_of m))))
+  unfolding rows_left fde_rows
+  rows_then = rw (placed_step f i x h some e) refl
+
+  pub rows_fault : (error : StepError) → FaultIs error (fde_fault m.limit x.0 (state_of m)) → RefusalIs (run_error i.at error) (λ r. rows_left f i m ≡ fails r)
+  rows_fault (step.Fault code) is = rw (rows_then, is) refl
+  rows_fault step.OutOfMemory is = tt
+
+  same_row : (i : Instr) (s t : Machine) → state_of t ≡ after s.initial i (state_of s) → IsTrue (moves_location i) → t.row ≡ s.row
+  same_row (SetLoc a) s t is moves = ap (λ (u : State). u.row) is
+  same_row (Advance d) s t is moves = ap (λ (u : State). u.row) is
+  same_row Nop s t is moves = absurd cc
+  same_row (DefCfa r n) s t is moves = absurd cc
+  same_row (DefCfaRegister r) s t is moves = absurd cc
+  same_row (DefCfaOffset n) s t is moves = absurd cc
+  same_row (DefCfaExpression n) s t is moves = absurd cc
+  same_row (Set r rule) s t is moves = absurd cc
+  same_row (Restore r) s t is moves = absurd cc
+  same_row RememberState s t is moves = absurd cc
+  same_row RestoreState s t is moves = absurd cc
+
+  pub rows_ran : (m' : Machine) → RunsSo m i → IsAfter m x.0 m' → RanTo f i m (moves_location x.0) x.1 m'
+  unfolding rows_left
+  rows_ran m' so behind =
+      let read = reads f i x h e in
+      record {
+        so = record { limit = behind.limit ∙ so.limit ∙ ap (λ t. address_limit t.size) (sym read.target); within = behind.within };
+        shorter = read.shorter;
+        rows = rows_then ∙ rw (behind.allowed, behind.limit, behind.initial, behind.state) refl;
+        same_row = same_row x.0 m m' behind.state;
+      }
+
+-- ---- a CIE's program
+
+pub initial_end : (f : Factors) (i : Input) (row : Rules) → length i.bytes ≡ 0 → initial_row (placed f i) row ≡ Ok row
+unfolding cie_run
+initial_end f i row none = rw (placed_end f i none) refl
+
+pub initial_stuck : (f : Factors) (i : Input) (row : Rules) (r : Refusal) → 0 < length i.bytes → instr_at f i ≡ Err r → initial_row (placed f i) row ≡ Err r
+unfolding cie_run
+initial_stuck f i row r some e = rw (placed_stuck f i r some e) refl
+
+module _ (f : Factors) (i : Input) (row : Rules) (x : Instr × Input) (h : AreBytes i.bytes) (some : 0 < length i.bytes) (e : instr_at f i ≡ Ok x) where
+  pub initial_not : in_cie x.0 ≡ false → initial_row (placed f i) row ≡ Err (record { code = NotInCie; at = i.at })
+  unfolding cie_run
+  initial_not not = rw (placed_step f i x h some e, not) refl
+
+  pub initial_fault : (error : StepError) → in_cie x.0 ≡ true → FaultIs error (half_fault x.0 row.cfa) → RefusalIs (run_error i.at error) (λ r. initial_row (placed f i) row ≡ Err r)
+  unfolding cie_run
+  initial_fault (step.Fault code) is fault = rw (placed_step f i x h some e, is, fault) refl
+  initial_fault step.OutOfMemory is fault = tt
+
+  pub initial_wrote : (row' : Rules) → in_cie x.0 ≡ true → half_fault x.0 row.cfa ≡ None → row' ≡ written x.0 row → WroteTo f i row x.1 row'
+  unfolding cie_run
+  initial_wrote row' is none new = record {
+    shorter = (reads f i x h e).shorter;
+    initial = rw (placed_step f i x h some e, is, none, new) refl;
+  }
+
+-- ---- a CIE's program, and then an FDE's
+
+pub begun_is_run : (f : Factors) (cie fde cie' fde' : Input) (m : Machine) (begin : ℕ) → cie ≡ cie' → fde ≡ fde' → m.initial ≡ blank → m.location ≡ begin
+    → m.limit ≡ address_limit fde'.target.size → begun_rows f cie fde m ≡ run_rows f cie' fde' begin
+unfolding begun_rows run_rows
+begun_is_run f cie fde cie' fde' m begin a b i l n = rw (a, b, i, l, n) refl
+
+pub begun_refused : (f : Factors) (cie fde : Input) (m : Machine) (e : RunError) → RefusalIs e (λ r. initial_row (placed f cie) m.initial ≡ Err r) → RefusalIs e (λ r. begun_rows f cie fde m ≡ fails r)
+unfolding begun_rows
+begun_refused f cie fde m (Refused r) is = rw is refl
+begun_refused f cie fde m OutOfMemory is = tt
+
+pub begun_ran : (f : Factors) (cie fde : Input) (m : Machine) (initial row : Rules) → initial_row (placed f cie) m.initial ≡ Ok initial → row ≡ initial → m.remembered.items ≡ []
+    → rows_left f fde (record { initial = initial; row = row; remembered = m.remembered; location = m.location; limit = m.limit }) ≡ begun_rows f cie fde m
+unfolding begun_rows rows_left
+begun_ran f cie fde m initial row is same none = rw (is, same, none) refl
+
+pub started : (f : Factors) (fde fde' : Input) (m : Machine) (initial : Rules) (begin : ℕ) → fde ≡ fde' → m.initial ≡ initial → m.row ≡ initial → m.remembered.items ≡ [] → m.location ≡ begin
+    → m.limit ≡ address_limit fde'.target.size → rows_left f fde m ≡ rows_behind f initial fde' begin
+unfolding rows_left rows_behind
+started f fde fde' m initial begin a i r none l n = rw (a, i, r, none, l, n) refl

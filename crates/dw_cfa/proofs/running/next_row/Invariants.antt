@@ -1,0 +1,9 @@
+use Rattle.std.proofs.Common.{◌≡◌, length}
+use Rattle.dw_cfa.specs.Runs.{RunsSo, rows_left}
+use Rattle.dw_cfa.proofs.running.next_row.Given as goal
+
+abbrev pub invariant-instrs : goal.invariant-instrs
+invariant-instrs l = RunsSo l.machine l.cursor × (rows_left l.factors l.initial.cursor l.initial.machine ≡ rows_left l.factors l.cursor l.machine)
+
+abbrev pub decreases-instrs : goal.decreases-instrs
+decreases-instrs l = length l.cursor.bytes

@@ -1,0 +1,9 @@
+use Rattle.std.proofs.Common.{◌≡◌, length}
+use Rattle.dw_cfa.specs.Runs.{initial_row, placed}
+use Rattle.dw_cfa.proofs.running.run_initial.Given as goal
+
+abbrev pub invariant-instrs : goal.invariant-instrs
+invariant-instrs l = initial_row (placed l.factors l.initial.cursor) l.initial.row ≡ initial_row (placed l.factors l.cursor) l.row
+
+abbrev pub decreases-instrs : goal.decreases-instrs
+decreases-instrs l = length l.cursor.bytes

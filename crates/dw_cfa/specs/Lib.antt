@@ -1,0 +1,13 @@
+pub mod InstrSpells
+pub mod Reading
+pub mod Listing
+pub mod Location
+pub mod Column
+pub mod Kept
+pub mod Rows
+pub mod Machine
+pub mod Steps
+pub mod Runs
+pub mod Stepping
+pub mod RuleAt
+pub mod Laws

@@ -1,0 +1,82 @@
+-- The machine that runs call frame instructions: DWARF 5, 6.4.2 and 6.4.3. It goes forwards, with whole rows and a stack of remembered ones.
+use Rattle.std.specs.Prelude.{◌≡◌, ℕ, ◌+◌, ◌<◌, List, [], ◌∷◌, length, Bool, true, false, Option, Some, None, nat_lt, if◌then◌else◌}
+use Rattle.dw_num.specs.declared.refusal.Code.{Code}
+use Rattle.dw_num.specs.declared.refusal.Code.TheVariants.{NotInCie, LocationBackwards, LocationTooLarge, EmptyStateStack, StateStackFull, CfaNotRegister}
+use Rattle.dw_cfa.specs.declared.instr.Instr.{Instr}
+use Rattle.dw_cfa.specs.declared.instr.Instr.TheVariants.{SetLoc, Advance, Set, Restore, RememberState, RestoreState}
+use Rattle.dw_cfa.specs.declared.rule.CfaRule.{CfaRule}
+use Rattle.dw_cfa.specs.declared.rule.CfaRule.TheVariants as cfa
+use Rattle.dw_cfa.specs.declared.machine.StepError.{StepError}
+use Rattle.dw_cfa.specs.declared.machine.StepError.TheVariants.{Fault, OutOfMemory}
+use Rattle.dw_cfa.specs.Column.{cfa_change}
+use Rattle.dw_cfa.specs.Kept.{in_cie, keeps_half}
+use Rattle.dw_cfa.specs.Rows.{Rules, rule, with_cfa, with_rule, blank}
+
+-- the current row, the remembered ones, the last first, and the location
+pub record State : Type 0 where
+  pub row : Rules
+  pub stack : List Rules
+  pub location : ℕ
+
+-- an FDE's program begins with the initial row at its begin
+abbrev pub begun : Rules → ℕ → State
+begun initial begin = record { row = initial; stack = []; location = begin }
+
+-- the row after an instruction that writes a rule into it
+abbrev pub written : Instr → Rules → Rules
+written (Set r given) row = with_rule r given row
+written i row = with_cfa (cfa_change i row.cfa) row
+
+-- the row after an instruction
+abbrev pub changed : Rules → Instr → Rules → Rules
+changed initial (Restore r) row = with_rule r (rule initial r) row
+changed initial i row = written i row
+
+-- the location after an instruction
+abbrev pub moved : Instr → ℕ → ℕ
+moved (SetLoc a) location = a
+moved (Advance distance) location = location + distance
+moved i location = location
+
+abbrev pub popped : State → List Rules → State
+popped s [] = s
+popped s (row ∷ stack) = record { row = row; stack = stack; location = s.location }
+
+-- the state after an instruction
+abbrev pub after : Rules → Instr → State → State
+after initial RememberState s = record { row = s.row; stack = s.row ∷ s.stack; location = s.location }
+after initial RestoreState s = popped s s.stack
+after initial i s = record { row = changed initial i s.row; stack = s.stack; location = moved i s.location }
+
+-- ---- faults
+
+-- half of the CFA's rule is kept of a register and an offset alone
+abbrev pub half_fault : Instr → CfaRule → Option Code
+half_fault i (cfa.Register r n) = None
+half_fault i other = if keeps_half i then Some CfaNotRegister else None
+
+-- the rule is no register and offset
+abbrev pub NoHalves : CfaRule → Type 0
+NoHalves (cfa.Register r n) = ⊥
+NoHalves other = Unit {0}
+
+-- what stands against an instruction of a CIE's program
+abbrev pub cie_fault : Instr → Rules → Option Code
+cie_fault i row = if in_cie i then half_fault i row.cfa else Some NotInCie
+
+abbrev pub empty_fault : List Rules → Option Code
+empty_fault [] = Some EmptyStateStack
+empty_fault (row ∷ stack) = None
+
+-- what stands against an instruction of an FDE's program. No location is above the limit.
+abbrev pub fde_fault : ℕ → Instr → State → Option Code
+fde_fault limit (SetLoc a) s = if nat_lt a s.location then Some LocationBackwards else None
+fde_fault limit (Advance distance) s = if nat_lt limit (s.location + distance) then Some LocationTooLarge else None
+fde_fault limit RememberState s = if nat_lt (length s.stack) 64 then None else Some StateStackFull
+fde_fault limit RestoreState s = empty_fault s.stack
+fde_fault limit i s = half_fault i s.row.cfa
+
+-- an error is such a fault, unless memory ran out
+abbrev pub FaultIs : StepError → Option Code → Type 0
+FaultIs (Fault code) fault = fault ≡ Some code
+FaultIs OutOfMemory fault = Unit {0}

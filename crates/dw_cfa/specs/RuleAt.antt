@@ -1,0 +1,27 @@
+-- The row of an address among the rows of a run: DWARF 5, 6.4.3.
+use Rattle.std.specs.Prelude.{◌≡◌, ℕ, suc, ◌≤◌, ◌<◌, List, [], ◌∷◌, length, Option, Some, None, nat_le, if◌then◌else◌}
+use Rattle.dw_cfa.specs.declared.instr.Instr.{Instr}
+use Rattle.dw_cfa.specs.declared.running.LocatedRow.{LocatedRow}
+use Rattle.dw_cfa.specs.Location.{onto, location_back}
+use Rattle.dw_cfa.specs.Column.{cfa_after, rule_after}
+use Rattle.dw_cfa.specs.Rows.{Rules, rule}
+
+abbrev pub or_here : ℕ → LocatedRow → Option Rules → Option Rules
+or_here a first (Some row) = Some row
+or_here a first None = if nat_le first.location a then Some first.row else None
+
+-- the last row that starts at or below a
+abbrev pub last_at : ℕ → List LocatedRow → Option Rules
+last_at a [] = None
+last_at a (first ∷ rows) = or_here a first (last_at a rows)
+
+-- locations that never fall, from `low` on
+abbrev pub NeverFalls : ℕ → List LocatedRow → Type 0
+NeverFalls low [] = Unit {0}
+NeverFalls low (row ∷ rows) = (low ≤ row.location) × NeverFalls row.location rows
+
+-- the instructions that count at address a, behind those that came earlier, are the next k
+pub record CountsFrom (begin : ℕ) (earlier instrs : List Instr) (a k : ℕ) : Type 0 where
+  pub in_program : k ≤ length instrs
+  pub stays : (j : ℕ) → j ≤ k → location_back begin (onto earlier instrs j) ≤ a
+  pub greatest : (n : ℕ) → n ≤ length instrs → ((j : ℕ) → j ≤ n → location_back begin (onto earlier instrs j) ≤ a) → n ≤ k

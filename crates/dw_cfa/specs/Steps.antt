@@ -1,0 +1,28 @@
+-- How the code runs an instruction of an FDE's program.
+use Rattle.std.specs.Prelude.{◌≡◌, ℕ, ◌≤◌, None, Result, Ok, Err, reverse}
+use Rattle.dw_cfa.specs.declared.instr.Instr.{Instr}
+use Rattle.dw_cfa.specs.declared.instr.Instr.TheVariants.{SetLoc}
+use Rattle.dw_cfa.specs.declared.machine.Machine.{Machine}
+use Rattle.dw_cfa.specs.declared.machine.StepError.{StepError}
+use Rattle.dw_cfa.specs.Machine.{State, after, fde_fault, FaultIs}
+
+abbrev pub state_of : Machine → State
+state_of m = record { row = m.row; stack = reverse m.remembered.items; location = m.location }
+
+-- an address is within the limit
+abbrev pub InLimit : ℕ → Instr → Type 0
+InLimit limit (SetLoc a) = a ≤ limit
+InLimit limit i = Unit {0}
+
+-- the machine is behind an instruction
+pub record IsAfter (old : Machine) (i : Instr) (new : Machine) : Type 0 where
+  pub allowed : fde_fault old.limit i (state_of old) ≡ None
+  pub state : state_of new ≡ after old.initial i (state_of old)
+  pub initial : new.initial ≡ old.initial
+  pub limit : new.limit ≡ old.limit
+  pub within : new.location ≤ new.limit
+
+-- the machine ran an instruction, or answered its fault
+abbrev pub Steps : {X : Type 0} → Machine → Instr → Result X StepError → Machine → Type 0
+Steps old i (Ok x) new = IsAfter old i new
+Steps old i (Err e) new = FaultIs e (fde_fault old.limit i (state_of old))

@@ -1,0 +1,38 @@
+//! All rows of an FDE (6.4.3).
+
+ghost use Rattle.std.specs.Prelude.{◌≡◌, ◌<◌, Some, None, IfOk, IfErr};
+ghost use Rattle.dw_num.specs.Target.{address_limit};
+ghost use Rattle.dw_cfa.specs.Runs.{RefusalIs, run_rows};
+ghost use Rattle.dw_cfa.specs.Stepping.{program_input};
+
+use crate::instr::Factors;
+use crate::running::{LocatedRow, RunError};
+use crate::steps::RowSteps;
+use dw_num::{Program, Target};
+use std::alloc::Global;
+
+/// Rows with the locations that they start at, which never fall.
+pub type Rows<'a> = Vec<LocatedRow<'a>>;
+
+/// The rows that a CIE's and an FDE's program give, from an address `begin` of the target on: one before each
+/// instruction that moves the location, and one at the end. Otherwise the first refusal, the CIE's program
+/// first, or want of memory.
+pub fn run<'a>(
+    alloc: Global,
+    cie_program: Program<'a>,
+    fde_program: Program<'a>,
+    begin: u64,
+    factors: Factors,
+    target: Target,
+) -> Result<Rows<'a>, RunError>
+    requires { begin < address_limit target.size }
+    ensures rows { IfOk result (λ rows. run_rows factors (program_input cie_program.entry target) (program_input fde_program.entry target) begin ≡ record { rows = rows.items; fault = None }) }
+    ensures refused { IfErr result (λ e. RefusalIs e (λ r. (run_rows factors (program_input cie_program.entry target) (program_input fde_program.entry target) begin).fault ≡ Some r)) }
+{
+    let mut steps = RowSteps::new(alloc, cie_program, fde_program, begin, factors, target);
+    let mut rows = Vec::new(alloc);
+    'rows: while let Some(row) = steps.next()? {
+        rows.push(row)?;
+    }
+    Ok(rows)
+}

@@ -1,0 +1,87 @@
+//! The instructions of a program, one after another.
+
+ghost use Rattle.std.specs.Prelude.{◌≡◌, ◌+◌, ◌≤◌, ◌↔◌, IfSome, List, length};
+ghost use Rattle.std.specs.Iterator.{YieldsFirst, item_count};
+ghost use Rattle.dw_num.specs.declared.refusal.Refusal.{Refusal};
+ghost use Rattle.dw_cfa.specs.declared.instr.Instr.{Instr};
+ghost use Rattle.dw_cfa.specs.InstrSpells.{Program as ProgramSpells};
+ghost use Rattle.dw_cfa.specs.Listing.{ProgramFault, Yields, complete, faulty, answers, listing, left_of};
+
+use crate::instr::{Factors, Instr};
+use crate::reading::read_instr;
+use dw_num::{Cursor, Program, Refusal, Target, are_bytes};
+use std::marker::Model;
+
+/// An iterator over the instructions of a program (6.4.2, 7.24), which ends after its first fault. A contract
+/// sees the instructions that are still to come, and the fault that comes behind them. Takes no memory.
+///
+/// The faults of an instruction, in this order: `UnknownInstruction` at its opcode; of each operand from left
+/// to right, at its first byte, `Truncated`, `NumberTooLarge`, and `RegisterTooLarge` of a register; of a block
+/// `Truncated` at the first byte of its contents where they pass the program's end, else the block's own first
+/// fault; `OffsetTooLarge` at the opcode.
+#[derive(Drop)]
+pub struct Instructions<'a> {
+    cursor: Cursor<'a>,
+    factors: Factors,
+    has_ended: bool,
+}
+
+impl<'a> Model for Instructions<'a> {
+    ghost use Rattle.dw_cfa.specs.Listing.{Listing};
+
+    ghost Value = { Listing };
+
+    ghost use Rattle.dw_cfa.specs.Listing.{left_of};
+
+    ghost view = { λ s. left_of s.has_ended s.factors s.cursor };
+}
+
+impl<'a> Instructions<'a> {
+    /// The instructions of a program, with the factors of a CIE multiplied out. A fault's place is one of the
+    /// section: the program's place, and what was passed.
+    pub fn new(program: Program<'a>, factors: Factors, target: Target) -> Instructions<'a>
+        // The bytes are a program of these instructions, and of no others.
+        ensures program { (instrs : List Instr) → ProgramSpells target factors instrs program.entry.bytes.now ↔ result ≡ complete instrs }
+        // Behind these instructions stands this fault, and no other.
+        ensures fault { (instrs : List Instr) (r : Refusal) → ProgramFault target factors program.entry.at program.entry.bytes.now instrs r ↔ result ≡ faulty instrs r }
+        // Its place is in the program, or the program's end.
+        ensures place { IfSome result.fault (λ r. (program.entry.at ≤ r.at) × (r.at ≤ program.entry.at + length program.entry.bytes.now)) }
+    {
+        are_bytes(program.bytes);
+        Instructions {
+            cursor: Cursor::new(program.bytes, program.at, target),
+            factors,
+            has_ended: false,
+        }
+    }
+
+    // The next answer, or none behind the last one.
+    #[tactic(auto, using(crate::proofs::Listings::yields_end, crate::proofs::Listings::yields_instr, crate::proofs::Listings::yields_fault), unfolding(crate::specs::Listing::left_of))]
+    fn step(&mut self) -> Option<Result<Instr<'a>, Refusal>>
+        ensures { Yields self.old result self.new }
+    {
+        if self.has_ended || self.cursor.left() == 0 {
+            return None;
+        }
+        are_bytes(self.cursor.rest());
+        match read_instr(&mut self.cursor, self.factors) {
+            Ok(instr) => Some(Ok(instr)),
+            Err(refusal) => {
+                self.has_ended = true;
+                Some(Err(refusal))
+            }
+        }
+    }
+}
+
+impl<'a> Iterator for Instructions<'a> {
+    type Item = Result<Instr<'a>, Refusal>;
+
+    ghost next_gives = { YieldsFirst answers };
+
+    ghost remaining = { item_count answers };
+
+    fn next(&mut self) -> Option<Result<Instr<'a>, Refusal>> {
+        self.step()
+    }
+}

@@ -1,0 +1,27 @@
+//! Call frame instructions, and the machine that runs them (6.4.2, 6.4.3).
+#![tactic(auto)]
+
+mod collecting;
+mod instr;
+mod instructions;
+mod laws;
+mod machine;
+mod reading;
+mod row;
+mod rule;
+mod running;
+mod steps;
+
+pub use collecting::{Rows, run};
+pub use instr::{Factors, Instr};
+pub use instructions::Instructions;
+pub use laws::row_laws;
+pub use row::{Row, Specified};
+pub use rule::{CfaRule, RegRule};
+pub use running::{LocatedRow, RunError};
+pub use steps::{RowSteps, initial_row};
+
+#[cfg(test)]
+mod tests_instructions;
+#[cfg(test)]
+mod tests_run;

@@ -1,0 +1,424 @@
+//! The instruction at the front of what is left of a program.
+
+ghost use Rattle.std.specs.Prelude.{◌≡◌, ℕ, ◌+◌, ◌*◌, ◌<◌, ◌^◌, ◌≤◌, ◌*ℤ◌, length, unsigned_abs};
+ghost use Rattle.dw_num.specs.Fixed.{IsWidth};
+ghost use Rattle.dw_num.specs.Reading.{Gives};
+ghost use Rattle.dw_cfa.specs.Reading.{opcode_of, offset_in, plain_at, factored_at, signed_at, expression_in, block_at, set_loc_at, advance_at, def_cfa_at, def_cfa_sf_at, def_cfa_register_at, def_cfa_offset_at, def_cfa_offset_sf_at, def_cfa_expression_at, offset_at, offset_extended_at, offset_extended_sf_at, val_offset_at, val_offset_sf_at, restore_at, undefined_at, same_value_at, register_rule_at, expression_at, val_expression_at, operands_at, instr_at};
+
+use crate::instr::{Factors, Instr};
+use crate::rule::RegRule;
+use dw_num::{Code, Cursor, Refusal, Target};
+use dw_op::ExprRef;
+
+// The greatest offset. The least one is its negative.
+const LAST_OFFSET: i128 = 0x7fff_ffff_ffff_ffff;
+
+/// What a code says of the operands behind it. Three codes hold one in their low six bits.
+#[derive(Clone, Copy)]
+pub(crate) enum Opcode {
+    Nop,
+    SetLoc,
+    AdvanceLoc(u8),
+    AdvanceLoc1,
+    AdvanceLoc2,
+    AdvanceLoc4,
+    Offset(u16),
+    OffsetExtended,
+    OffsetExtendedSf,
+    Restore(u16),
+    RestoreExtended,
+    Undefined,
+    SameValue,
+    Register,
+    RememberState,
+    RestoreState,
+    DefCfa,
+    DefCfaSf,
+    DefCfaRegister,
+    DefCfaOffset,
+    DefCfaOffsetSf,
+    DefCfaExpression,
+    Expression,
+    ValOffset,
+    ValOffsetSf,
+    ValExpression,
+}
+
+// What a code says: DWARF 5, 7.24.
+#[tactic(auto, unfolding(crate::specs::Reading::opcode_of))]
+fn known_opcode(code: u8) -> Option<Opcode>
+    ensures { result ≡ opcode_of code }
+{
+    let opcode = match code {
+        0x40..=0x7f => Opcode::AdvanceLoc(code - 0x40),
+        0x80..=0xbf => Opcode::Offset(u16::from(code - 0x80)),
+        0xc0..=0xff => Opcode::Restore(u16::from(code - 0xc0)),
+        0x00 => Opcode::Nop,
+        0x01 => Opcode::SetLoc,
+        0x02 => Opcode::AdvanceLoc1,
+        0x03 => Opcode::AdvanceLoc2,
+        0x04 => Opcode::AdvanceLoc4,
+        0x05 => Opcode::OffsetExtended,
+        0x06 => Opcode::RestoreExtended,
+        0x07 => Opcode::Undefined,
+        0x08 => Opcode::SameValue,
+        0x09 => Opcode::Register,
+        0x0a => Opcode::RememberState,
+        0x0b => Opcode::RestoreState,
+        0x0c => Opcode::DefCfa,
+        0x0d => Opcode::DefCfaRegister,
+        0x0e => Opcode::DefCfaOffset,
+        0x0f => Opcode::DefCfaExpression,
+        0x10 => Opcode::Expression,
+        0x11 => Opcode::OffsetExtendedSf,
+        0x12 => Opcode::DefCfaSf,
+        0x13 => Opcode::DefCfaOffsetSf,
+        0x14 => Opcode::ValOffset,
+        0x15 => Opcode::ValOffsetSf,
+        0x16 => Opcode::ValExpression,
+        _ => return None,
+    };
+    Some(opcode)
+}
+
+// ---- operands
+
+// A product as an offset of the instruction at this place.
+#[tactic(auto, unfolding(crate::specs::Reading::offset_in))]
+fn checked_offset(offset: i128, at: u64) -> Result<i64, Refusal>
+    ensures { result ≡ offset_in at offset }
+{
+    if -LAST_OFFSET <= offset && offset <= LAST_OFFSET {
+        Ok(offset as i64)
+    } else {
+        Err(Refusal {
+            code: Code::OffsetTooLarge,
+            at,
+        })
+    }
+}
+
+#[tactic(auto, using(crate::proofs::Products::product_fits))]
+fn times(operand: i128, factor: i64) -> i128
+    requires { unsigned_abs operand < 2 ^ 64 }
+    ensures { result ≡ operand *ℤ factor }
+{
+    operand * i128::from(factor)
+}
+
+#[tactic(auto, unfolding(crate::specs::Reading::plain_at))]
+fn plain(cursor: &mut Cursor<'_>, at: u64) -> Result<i64, Refusal>
+    ensures { Gives (λ z. z) result (plain_at at cursor.old) cursor.new }
+{
+    let operand = cursor.uleb()?;
+    checked_offset(i128::from(operand), at)
+}
+
+#[tactic(auto, unfolding(crate::specs::Reading::factored_at))]
+fn factored(cursor: &mut Cursor<'_>, factors: Factors, at: u64) -> Result<i64, Refusal>
+    ensures { Gives (λ z. z) result (factored_at factors at cursor.old) cursor.new }
+{
+    let operand = cursor.uleb()?;
+    checked_offset(times(i128::from(operand), factors.data_factor), at)
+}
+
+#[tactic(auto, unfolding(crate::specs::Reading::signed_at))]
+fn signed(cursor: &mut Cursor<'_>, factors: Factors, at: u64) -> Result<i64, Refusal>
+    ensures { Gives (λ z. z) result (signed_at factors at cursor.old) cursor.new }
+{
+    let operand = cursor.sleb()?;
+    checked_offset(times(i128::from(operand), factors.data_factor), at)
+}
+
+// The expression of a block that stands at this place, with its faults at places of the section.
+#[tactic(auto, using(dw_op::proofs::FaultPlaces::fault_within, crate::proofs::Expressions::expression_found, crate::proofs::Expressions::expression_refused))]
+fn accept_at<'a>(block: &'a [u8], at: u64, target: Target) -> Result<ExprRef<'a>, Refusal>
+    requires { at + length block.now < 2 ^ 63 }
+    ensures { result ≡ expression_in at target block.now }
+{
+    match ExprRef::accept(block, target) {
+        Ok(expression) => Ok(expression),
+        Err(fault) => Err(Refusal {
+            code: fault.code,
+            at: at + fault.at,
+        }),
+    }
+}
+
+#[tactic(auto, unfolding(crate::specs::Reading::block_at))]
+fn block<'a>(cursor: &mut Cursor<'a>) -> Result<ExprRef<'a>, Refusal>
+    ensures { Gives (λ e. e) result (block_at cursor.old) cursor.new }
+{
+    let target = cursor.target();
+    let len = cursor.uleb()?;
+    let at = cursor.at();
+    let block = cursor.take(len as usize)?;
+    accept_at(block, at, target)
+}
+
+// ---- instructions with operands
+
+#[tactic(auto, unfolding(crate::specs::Reading::set_loc_at))]
+fn read_set_loc<'a>(cursor: &mut Cursor<'a>) -> Result<Instr<'a>, Refusal>
+    ensures { Gives (λ i. i) result (set_loc_at cursor.old) cursor.new }
+{
+    let address = cursor.address()?;
+    Ok(Instr::SetLoc(address))
+}
+
+#[tactic(auto, using(crate::proofs::Products::distance_fits))]
+fn distance(delta: u64, factors: Factors) -> u128
+    ensures { result ≡ delta * factors.code_factor }
+{
+    u128::from(delta) * u128::from(factors.code_factor)
+}
+
+#[tactic(auto, unfolding(crate::specs::Reading::advance_at))]
+fn read_advance<'a>(
+    cursor: &mut Cursor<'a>,
+    factors: Factors,
+    width: usize,
+) -> Result<Instr<'a>, Refusal>
+    requires { IsWidth width }
+    ensures { Gives (λ i. i) result (advance_at factors width cursor.old) cursor.new }
+{
+    let delta = cursor.fixed(width)?;
+    Ok(Instr::Advance(distance(delta, factors)))
+}
+
+#[tactic(auto, unfolding(crate::specs::Reading::def_cfa_at))]
+fn read_def_cfa<'a>(cursor: &mut Cursor<'a>, at: u64) -> Result<Instr<'a>, Refusal>
+    ensures { Gives (λ i. i) result (def_cfa_at at cursor.old) cursor.new }
+{
+    let register = cursor.register()?;
+    let offset = plain(cursor, at)?;
+    Ok(Instr::DefCfa { register, offset })
+}
+
+#[tactic(auto, unfolding(crate::specs::Reading::def_cfa_sf_at))]
+fn read_def_cfa_sf<'a>(
+    cursor: &mut Cursor<'a>,
+    factors: Factors,
+    at: u64,
+) -> Result<Instr<'a>, Refusal>
+    ensures { Gives (λ i. i) result (def_cfa_sf_at factors at cursor.old) cursor.new }
+{
+    let register = cursor.register()?;
+    let offset = signed(cursor, factors, at)?;
+    Ok(Instr::DefCfa { register, offset })
+}
+
+#[tactic(auto, unfolding(crate::specs::Reading::def_cfa_register_at))]
+fn read_def_cfa_register<'a>(cursor: &mut Cursor<'a>) -> Result<Instr<'a>, Refusal>
+    ensures { Gives (λ i. i) result (def_cfa_register_at cursor.old) cursor.new }
+{
+    let register = cursor.register()?;
+    Ok(Instr::DefCfaRegister(register))
+}
+
+#[tactic(auto, unfolding(crate::specs::Reading::def_cfa_offset_at))]
+fn read_def_cfa_offset<'a>(cursor: &mut Cursor<'a>, at: u64) -> Result<Instr<'a>, Refusal>
+    ensures { Gives (λ i. i) result (def_cfa_offset_at at cursor.old) cursor.new }
+{
+    let offset = plain(cursor, at)?;
+    Ok(Instr::DefCfaOffset(offset))
+}
+
+#[tactic(auto, unfolding(crate::specs::Reading::def_cfa_offset_sf_at))]
+fn read_def_cfa_offset_sf<'a>(
+    cursor: &mut Cursor<'a>,
+    factors: Factors,
+    at: u64,
+) -> Result<Instr<'a>, Refusal>
+    ensures { Gives (λ i. i) result (def_cfa_offset_sf_at factors at cursor.old) cursor.new }
+{
+    let offset = signed(cursor, factors, at)?;
+    Ok(Instr::DefCfaOffset(offset))
+}
+
+#[tactic(auto, unfolding(crate::specs::Reading::def_cfa_expression_at))]
+fn read_def_cfa_expression<'a>(cursor: &mut Cursor<'a>) -> Result<Instr<'a>, Refusal>
+    ensures { Gives (λ i. i) result (def_cfa_expression_at cursor.old) cursor.new }
+{
+    let expression = block(cursor)?;
+    Ok(Instr::DefCfaExpression(expression))
+}
+
+#[tactic(auto, unfolding(crate::specs::Reading::restore_at))]
+fn read_restore<'a>(cursor: &mut Cursor<'a>) -> Result<Instr<'a>, Refusal>
+    ensures { Gives (λ i. i) result (restore_at cursor.old) cursor.new }
+{
+    let register = cursor.register()?;
+    Ok(Instr::Restore(register))
+}
+
+// ---- rules of registers
+
+#[tactic(auto, unfolding(crate::specs::Reading::undefined_at))]
+fn read_undefined<'a>(cursor: &mut Cursor<'a>) -> Result<Instr<'a>, Refusal>
+    ensures { Gives (λ i. i) result (undefined_at cursor.old) cursor.new }
+{
+    let register = cursor.register()?;
+    Ok(Instr::Set(register, RegRule::Undefined))
+}
+
+#[tactic(auto, unfolding(crate::specs::Reading::same_value_at))]
+fn read_same_value<'a>(cursor: &mut Cursor<'a>) -> Result<Instr<'a>, Refusal>
+    ensures { Gives (λ i. i) result (same_value_at cursor.old) cursor.new }
+{
+    let register = cursor.register()?;
+    Ok(Instr::Set(register, RegRule::SameValue))
+}
+
+#[tactic(auto, unfolding(crate::specs::Reading::offset_at))]
+fn read_offset<'a>(
+    cursor: &mut Cursor<'a>,
+    factors: Factors,
+    at: u64,
+    register: u16,
+) -> Result<Instr<'a>, Refusal>
+    ensures { Gives (λ i. i) result (offset_at factors at register cursor.old) cursor.new }
+{
+    let offset = factored(cursor, factors, at)?;
+    Ok(Instr::Set(register, RegRule::Offset(offset)))
+}
+
+#[tactic(auto, unfolding(crate::specs::Reading::offset_extended_at))]
+fn read_offset_extended<'a>(
+    cursor: &mut Cursor<'a>,
+    factors: Factors,
+    at: u64,
+) -> Result<Instr<'a>, Refusal>
+    ensures { Gives (λ i. i) result (offset_extended_at factors at cursor.old) cursor.new }
+{
+    let register = cursor.register()?;
+    read_offset(cursor, factors, at, register)
+}
+
+#[tactic(auto, unfolding(crate::specs::Reading::offset_extended_sf_at))]
+fn read_offset_extended_sf<'a>(
+    cursor: &mut Cursor<'a>,
+    factors: Factors,
+    at: u64,
+) -> Result<Instr<'a>, Refusal>
+    ensures { Gives (λ i. i) result (offset_extended_sf_at factors at cursor.old) cursor.new }
+{
+    let register = cursor.register()?;
+    let offset = signed(cursor, factors, at)?;
+    Ok(Instr::Set(register, RegRule::Offset(offset)))
+}
+
+#[tactic(auto, unfolding(crate::specs::Reading::val_offset_at))]
+fn read_val_offset<'a>(
+    cursor: &mut Cursor<'a>,
+    factors: Factors,
+    at: u64,
+) -> Result<Instr<'a>, Refusal>
+    ensures { Gives (λ i. i) result (val_offset_at factors at cursor.old) cursor.new }
+{
+    let register = cursor.register()?;
+    let offset = factored(cursor, factors, at)?;
+    Ok(Instr::Set(register, RegRule::ValOffset(offset)))
+}
+
+#[tactic(auto, unfolding(crate::specs::Reading::val_offset_sf_at))]
+fn read_val_offset_sf<'a>(
+    cursor: &mut Cursor<'a>,
+    factors: Factors,
+    at: u64,
+) -> Result<Instr<'a>, Refusal>
+    ensures { Gives (λ i. i) result (val_offset_sf_at factors at cursor.old) cursor.new }
+{
+    let register = cursor.register()?;
+    let offset = signed(cursor, factors, at)?;
+    Ok(Instr::Set(register, RegRule::ValOffset(offset)))
+}
+
+#[tactic(auto, unfolding(crate::specs::Reading::register_rule_at))]
+fn read_register_rule<'a>(cursor: &mut Cursor<'a>) -> Result<Instr<'a>, Refusal>
+    ensures { Gives (λ i. i) result (register_rule_at cursor.old) cursor.new }
+{
+    let register = cursor.register()?;
+    let other = cursor.register()?;
+    Ok(Instr::Set(register, RegRule::Register(other)))
+}
+
+#[tactic(auto, unfolding(crate::specs::Reading::expression_at))]
+fn read_expression<'a>(cursor: &mut Cursor<'a>) -> Result<Instr<'a>, Refusal>
+    ensures { Gives (λ i. i) result (expression_at cursor.old) cursor.new }
+{
+    let register = cursor.register()?;
+    let expression = block(cursor)?;
+    Ok(Instr::Set(register, RegRule::Expression(expression)))
+}
+
+#[tactic(auto, unfolding(crate::specs::Reading::val_expression_at))]
+fn read_val_expression<'a>(cursor: &mut Cursor<'a>) -> Result<Instr<'a>, Refusal>
+    ensures { Gives (λ i. i) result (val_expression_at cursor.old) cursor.new }
+{
+    let register = cursor.register()?;
+    let expression = block(cursor)?;
+    Ok(Instr::Set(register, RegRule::ValExpression(expression)))
+}
+
+// ---- an instruction
+
+// The instruction of a code that stands at this place.
+#[tactic(auto, unfolding(crate::specs::Reading::operands_at))]
+fn operands<'a>(
+    cursor: &mut Cursor<'a>,
+    factors: Factors,
+    at: u64,
+    opcode: Opcode,
+) -> Result<Instr<'a>, Refusal>
+    ensures { Gives (λ i. i) result (operands_at factors at opcode cursor.old) cursor.new }
+{
+    match opcode {
+        Opcode::Nop => Ok(Instr::Nop),
+        Opcode::SetLoc => read_set_loc(cursor),
+        Opcode::AdvanceLoc(delta) => Ok(Instr::Advance(distance(u64::from(delta), factors))),
+        Opcode::AdvanceLoc1 => read_advance(cursor, factors, 1),
+        Opcode::AdvanceLoc2 => read_advance(cursor, factors, 2),
+        Opcode::AdvanceLoc4 => read_advance(cursor, factors, 4),
+        Opcode::Offset(register) => read_offset(cursor, factors, at, register),
+        Opcode::OffsetExtended => read_offset_extended(cursor, factors, at),
+        Opcode::OffsetExtendedSf => read_offset_extended_sf(cursor, factors, at),
+        Opcode::Restore(register) => Ok(Instr::Restore(register)),
+        Opcode::RestoreExtended => read_restore(cursor),
+        Opcode::Undefined => read_undefined(cursor),
+        Opcode::SameValue => read_same_value(cursor),
+        Opcode::Register => read_register_rule(cursor),
+        Opcode::RememberState => Ok(Instr::RememberState),
+        Opcode::RestoreState => Ok(Instr::RestoreState),
+        Opcode::DefCfa => read_def_cfa(cursor, at),
+        Opcode::DefCfaSf => read_def_cfa_sf(cursor, factors, at),
+        Opcode::DefCfaRegister => read_def_cfa_register(cursor),
+        Opcode::DefCfaOffset => read_def_cfa_offset(cursor, at),
+        Opcode::DefCfaOffsetSf => read_def_cfa_offset_sf(cursor, factors, at),
+        Opcode::DefCfaExpression => read_def_cfa_expression(cursor),
+        Opcode::Expression => read_expression(cursor),
+        Opcode::ValOffset => read_val_offset(cursor, factors, at),
+        Opcode::ValOffsetSf => read_val_offset_sf(cursor, factors, at),
+        Opcode::ValExpression => read_val_expression(cursor),
+    }
+}
+
+/// The instruction at the front of a program, its factors multiplied out, or its first fault: an opcode that
+/// is no instruction's, then its operands' from left to right, then an offset that is too large.
+#[tactic(auto, unfolding(crate::specs::Reading::instr_at))]
+pub(crate) fn read_instr<'a>(
+    cursor: &mut Cursor<'a>,
+    factors: Factors,
+) -> Result<Instr<'a>, Refusal>
+    ensures exact { Gives (λ i. i) result (instr_at factors cursor.old) cursor.new }
+{
+    let at = cursor.at();
+    let code = cursor.byte()?;
+    match known_opcode(code) {
+        Some(opcode) => operands(cursor, factors, at, opcode),
+        None => Err(Refusal {
+            code: Code::UnknownInstruction,
+            at,
+        }),
+    }
+}

@@ -1,0 +1,174 @@
+//! Programs that are run instruction by instruction (6.4.3).
+
+ghost use Rattle.std.specs.Prelude.{◌≡◌, ℕ, ◌<◌, ◌≤◌, Some, None, Ok, Err, length, OnOk, IfOk, IfErr};
+ghost use Rattle.dw_cfa.specs.Location.{moves_location};
+ghost use Rattle.dw_cfa.specs.Kept.{in_cie};
+ghost use Rattle.dw_cfa.specs.Runs.{RefusalIs, RunsSo, Ran, GivesRow, Wrote, rows_left, initial_row, placed, run_error};
+
+use crate::instr::{Factors, Instr};
+use crate::machine::{Machine, StepError, write_rule};
+use crate::reading::read_instr;
+use crate::row::Row;
+use dw_num::{Code, Cursor, Refusal, are_bytes};
+use std::alloc::{AllocError, AllocFailed};
+
+/// Why programs give no rows, or no more.
+#[derive(Clone, Copy, Debug, PartialEq, Eq)]
+pub enum RunError {
+    /// An instruction is refused: the first fault of the programs, the CIE's first.
+    Refused(Refusal),
+    /// Memory ran out.
+    OutOfMemory,
+}
+
+impl From<Refusal> for RunError {
+    ghost use Rattle.std.specs.Prelude.{◌≡◌};
+    ghost use Rattle.dw_cfa.specs.declared.running.RunError.TheVariants.{Refused};
+
+    ghost from_gives = { λ r e. e ≡ Refused r };
+
+    fn from(refusal: Refusal) -> RunError {
+        RunError::Refused(refusal)
+    }
+}
+
+impl From<AllocError> for RunError {
+    ghost use Rattle.std.specs.Prelude.{◌≡◌};
+    ghost use Rattle.dw_cfa.specs.declared.running.RunError.TheVariants.{OutOfMemory};
+
+    ghost from_gives = { λ _ e. e ≡ OutOfMemory };
+
+    fn from(_error: AllocError) -> RunError {
+        RunError::OutOfMemory
+    }
+}
+
+impl<T: Drop> From<AllocFailed<T>> for RunError {
+    ghost use Rattle.std.specs.Prelude.{◌≡◌};
+    ghost use Rattle.dw_cfa.specs.declared.running.RunError.TheVariants.{OutOfMemory};
+
+    ghost from_gives = { λ _ e. e ≡ OutOfMemory };
+
+    fn from(_error: AllocFailed<T>) -> RunError {
+        RunError::OutOfMemory
+    }
+}
+
+/// A row, and the location that it starts at. It holds up to the location of the next row.
+#[derive(Drop)]
+pub struct LocatedRow<'a> {
+    pub location: u128,
+    pub row: Row<'a>,
+}
+
+// The error of the instruction at a place.
+fn run_error(at: u64, error: StepError) -> RunError
+    ensures { result ≡ run_error at error }
+{
+    match error {
+        StepError::Fault(code) => RunError::Refused(Refusal { code, at }),
+        StepError::OutOfMemory => RunError::OutOfMemory,
+    }
+}
+
+// Whether an instruction moves the location.
+fn moves_location(instr: &Instr<'_>) -> bool
+    ensures { result ≡ moves_location instr.now }
+{
+    matches!(instr, Instr::SetLoc(_) | Instr::Advance(_))
+}
+
+// Whether a CIE's program may hold an instruction.
+fn is_in_cie(instr: &Instr<'_>) -> bool
+    ensures { result ≡ in_cie instr.now }
+{
+    match instr {
+        Instr::Nop => true,
+        Instr::DefCfa { .. } => true,
+        Instr::DefCfaRegister(_) => true,
+        Instr::DefCfaOffset(_) => true,
+        Instr::DefCfaExpression(_) => true,
+        Instr::Set(_, _) => true,
+        _ => false,
+    }
+}
+
+// Reads an instruction and runs it, and says whether it moves the location.
+fn run_one<'a>(
+    cursor: &mut Cursor<'a>,
+    factors: Factors,
+    machine: &mut Machine<'a>,
+) -> Result<bool, RunError>
+    requires some { 0 < length cursor.old.bytes }
+    requires so { RunsSo machine.old cursor.old }
+    ensures { Ran factors cursor.old machine.old result cursor.new machine.new }
+{
+    are_bytes(cursor.rest());
+    let at = cursor.at();
+    let instr = read_instr(cursor, factors)?;
+    let moves = moves_location(&instr);
+    match machine.step(instr) {
+        Ok(()) => Ok(moves),
+        Err(error) => Err(run_error(at, error)),
+    }
+}
+
+/// Runs a program up to the next row, and says whether it goes on behind it.
+pub(crate) fn next_row<'a>(
+    cursor: &mut Cursor<'a>,
+    factors: Factors,
+    machine: &mut Machine<'a>,
+) -> Result<(LocatedRow<'a>, bool), RunError>
+    requires { RunsSo machine.old cursor.old }
+    ensures { GivesRow (rows_left factors cursor.old machine.old) factors cursor.new machine.new result }
+{
+    'instrs: while cursor.left() > 0 {
+        let location = machine.location;
+        if run_one(cursor, factors, machine)? {
+            let row = machine.row.copied()?;
+            return Ok((LocatedRow { location, row }, true));
+        }
+    }
+    let row = machine.row.copied()?;
+    let location = machine.location;
+    Ok((LocatedRow { location, row }, false))
+}
+
+// Reads an instruction of a CIE's program, and writes its rule into the row.
+fn write_one<'a>(
+    cursor: &mut Cursor<'a>,
+    factors: Factors,
+    row: &mut Row<'a>,
+) -> Result<(), RunError>
+    requires { 0 < length cursor.old.bytes }
+    ensures { Wrote factors cursor.old row.old result cursor.new row.new }
+{
+    are_bytes(cursor.rest());
+    let at = cursor.at();
+    let instr = read_instr(cursor, factors)?;
+    if !is_in_cie(&instr) {
+        return Err(RunError::Refused(Refusal {
+            code: Code::NotInCie,
+            at,
+        }));
+    }
+    match write_rule(row, instr) {
+        Ok(()) => Ok(()),
+        Err(error) => Err(run_error(at, error)),
+    }
+}
+
+/// Runs a CIE's program on a row.
+pub(crate) fn run_initial<'a>(
+    cursor: &mut Cursor<'a>,
+    factors: Factors,
+    row: &mut Row<'a>,
+) -> Result<(), RunError>
+    ensures ok { OnOk result (initial_row (placed factors cursor.old) row.old ≡ Ok row.new) }
+    ensures err { IfErr result (λ e. RefusalIs e (λ r. initial_row (placed factors cursor.old) row.old ≡ Err r)) }
+{
+    'instrs: while cursor.left() > 0 {
+        write_one(cursor, factors, row)?;
+    }
+    Ok(())
+}

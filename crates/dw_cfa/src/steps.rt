@@ -1,0 +1,172 @@
+//! Rows one at a time (6.4.3).
+
+ghost use Rattle.std.specs.Prelude.{◌≡◌, ℕ, ◌<◌, ◌≤◌, Some, None, Ok, Err, [], length, IfOk, IfErr};
+ghost use Rattle.dw_num.specs.Target.{address_limit};
+ghost use Rattle.dw_num.specs.declared.refusal.Refusal.{Refusal};
+ghost use Rattle.dw_cfa.specs.Runs.{RunsSo, GivesRow, RefusalIs, placed, initial_row, rows_behind, run_rows};
+ghost use Rattle.dw_cfa.specs.Rows.{blank};
+ghost use Rattle.dw_cfa.specs.Stepping.{Answers, begun_rows, stepping, program_input};
+
+use crate::instr::Factors;
+use crate::machine::Machine;
+use crate::row::Row;
+use crate::running::{LocatedRow, RunError, next_row, run_initial};
+use dw_num::{Cursor, Program, Target};
+use smallvec::SmallVec;
+use std::alloc::{AllocError, Global};
+use std::marker::Model;
+
+/// How far the programs were run.
+#[derive(Clone, Copy)]
+enum Progress {
+    Begun,
+    Running,
+    Finished,
+    Failed(RunError),
+}
+
+// Runs a CIE's program, and an FDE's up to its first row.
+fn first_row<'a>(
+    cie: &mut Cursor<'a>,
+    fde: &mut Cursor<'a>,
+    factors: Factors,
+    machine: &mut Machine<'a>,
+) -> Result<(LocatedRow<'a>, bool), RunError>
+    requires so { RunsSo machine.old fde.old }
+    requires none { machine.old.remembered.items ≡ [] }
+    ensures { GivesRow (begun_rows factors cie.old fde.old machine.old) factors fde.new machine.new result }
+{
+    run_initial(cie, factors, &mut machine.initial)?;
+    machine.row = machine.initial.copied()?;
+    next_row(fde, factors, machine)
+}
+
+/// The row that a CIE's program leaves, or its first refusal, or want of memory.
+pub fn initial_row<'a>(
+    alloc: Global,
+    cie_program: Program<'a>,
+    factors: Factors,
+    target: Target,
+) -> Result<Row<'a>, RunError>
+    ensures ok { IfOk result (λ row. initial_row (placed factors (program_input cie_program.entry target)) blank ≡ Ok row) }
+    ensures err { IfErr result (λ e. RefusalIs e (λ r. initial_row (placed factors (program_input cie_program.entry target)) blank ≡ Err r)) }
+{
+    let mut row = Row::blank(alloc);
+    let mut cursor = Cursor::new(cie_program.bytes, cie_program.at, target);
+    run_initial(&mut cursor, factors, &mut row)?;
+    Ok(row)
+}
+
+/// The rows that a CIE's and an FDE's program give, one at a time: one before each instruction that moves the
+/// location, and one at the end. A contract sees the rows still to come, the refusal behind them, and the
+/// error that was answered.
+#[derive(Drop)]
+pub struct RowSteps<'a> {
+    progress: Progress,
+    factors: Factors,
+    cie: Cursor<'a>,
+    fde: Cursor<'a>,
+    machine: Machine<'a>,
+}
+
+impl<'a> Model for RowSteps<'a> {
+    ghost use Rattle.dw_cfa.specs.Stepping.{Stepping, left_of, StandsSo};
+
+    ghost Value = { Stepping };
+
+    ghost view = { λ s. left_of s.progress s.factors s.cie s.fde s.machine };
+
+    ghost invariant = { λ s. StandsSo s.progress s.fde s.machine };
+}
+
+impl<'a> RowSteps<'a> {
+    /// The rows of two programs, from an address `begin` of the target on. Takes no memory: the CIE's program
+    /// is run at the first `next`.
+    pub fn new(
+        alloc: Global,
+        cie_program: Program<'a>,
+        fde_program: Program<'a>,
+        begin: u64,
+        factors: Factors,
+        target: Target,
+    ) -> RowSteps<'a>
+        requires { begin < address_limit target.size }
+        ensures { result ≡ stepping (run_rows factors (program_input cie_program.entry target) (program_input fde_program.entry target) begin) }
+    {
+        RowSteps {
+            progress: Progress::Begun,
+            factors,
+            cie: Cursor::new(cie_program.bytes, cie_program.at, target),
+            fde: Cursor::new(fde_program.bytes, fde_program.at, target),
+            machine: Machine {
+                initial: Row::blank(alloc),
+                row: Row::blank(alloc),
+                remembered: SmallVec::new(alloc),
+                location: u128::from(begin),
+                limit: target.size.address_limit(),
+            },
+        }
+    }
+
+    /// The rows of an FDE's program behind the initial row that `initial_row` gives, from an address `begin` of
+    /// the target on, or want of memory.
+    pub fn from_initial(
+        alloc: Global,
+        initial: Row<'a>,
+        fde_program: Program<'a>,
+        begin: u64,
+        factors: Factors,
+        target: Target,
+    ) -> Result<RowSteps<'a>, AllocError>
+        requires { begin < address_limit target.size }
+        ensures { IfOk result (λ s. s ≡ stepping (rows_behind factors initial.entry (program_input fde_program.entry target) begin)) }
+    {
+        let row = initial.copied()?;
+        let limit = target.size.address_limit();
+        Ok(RowSteps {
+            progress: Progress::Running,
+            factors,
+            cie: Cursor::new(&[], 0, target),
+            fde: Cursor::new(fde_program.bytes, fde_program.at, target),
+            machine: Machine {
+                initial,
+                row,
+                remembered: SmallVec::new(alloc),
+                location: u128::from(begin),
+                limit,
+            },
+        })
+    }
+
+    /// The next row, or none behind the last one. A refusal, or want of memory, which is answered from then on.
+    pub fn next(&mut self) -> Result<Option<LocatedRow<'a>>, RunError>
+        ensures answers { Answers self.old result self.new }
+        ensures again { (e : RunError) → self.old.error ≡ Some e → result ≡ Err e }
+    {
+        let answer = match self.progress {
+            Progress::Begun => first_row(
+                &mut self.cie,
+                &mut self.fde,
+                self.factors,
+                &mut self.machine,
+            ),
+            Progress::Running => next_row(&mut self.fde, self.factors, &mut self.machine),
+            Progress::Finished => return Ok(None),
+            Progress::Failed(error) => return Err(error),
+        };
+        match answer {
+            Ok((row, true)) => {
+                self.progress = Progress::Running;
+                Ok(Some(row))
+            }
+            Ok((row, false)) => {
+                self.progress = Progress::Finished;
+                Ok(Some(row))
+            }
+            Err(error) => {
+                self.progress = Progress::Failed(error);
+                Err(error)
+            }
+        }
+    }
+}
