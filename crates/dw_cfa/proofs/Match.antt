@@ -2,22 +2,8 @@
 use Rattle.std.proofs.Common.{◌≡◌, ◌≢◌, ℕ, zero, suc, ◌+◌, ◌<◌, ◌≤◌, Bool, true, false, cond, List, [], ◌∷◌, ◌++◌, refl, sym, ap, ◌∙◌, arith}
 use Rattle.dw_cfa.specs.declared.instr.Instr.{Instr}
 use Rattle.dw_cfa.specs.declared.instr.Instr.TheVariants.{RememberState, RestoreState}
-use Rattle.dw_cfa.specs.Column.{look_back}
-
-abbrev pub remembered : List Instr → ℕ
-remembered [] = 0
-remembered (RememberState ∷ instrs) = suc (remembered instrs)
-remembered (i ∷ instrs) = remembered instrs
-
-abbrev pub restored : List Instr → ℕ
-restored [] = 0
-restored (RestoreState ∷ instrs) = suc (restored instrs)
-restored (i ∷ instrs) = restored instrs
-
--- `between` stands, the last first, between a restore_state, with `inner` more to be passed, and its remember_state
-pub record IsBetween (inner : ℕ) (between : List Instr) : Type 0 where
-  pub equal : restored between + inner ≡ remembered between
-  pub nearest : (near far : List Instr) → between ≡ near ++ (RememberState ∷ far) → restored near + inner ≢ remembered near
+use Rattle.dw_cfa.specs.Column.{look_back, cfa_change, rule_change}
+use Rattle.dw_cfa.specs.Matching.{IsBetween, remembered, restored, RestoresMatched}
 
 -- one instruction less
 rest_between : (i : Instr) (inner inner' : ℕ) (between : List Instr) → (restored between + inner' ≡ remembered between)
@@ -38,6 +24,10 @@ module _ {Rule : Type 0} (change : Instr → Rule → Rule) (initial : Rule) whe
   passed (i ∷ between) before inner h =
       passed between before inner (rest_between i inner inner between h.equal (λ near e. e) h)
 
-  pub restore_law : (between before : List Instr) → IsBetween 0 between
+  restore_law : (between before : List Instr) → IsBetween 0 between
       → look_back change initial 0 (RestoreState ∷ (between ++ (RememberState ∷ before))) ≡ look_back change initial 0 before
   restore_law between before h = passed between before 0 h
+
+pub restores_matched : RestoresMatched
+restores_matched between before h =
+    ((λ initial. restore_law cfa_change initial between before h), (λ initial r. restore_law (rule_change r initial) initial between before h))

@@ -11,3 +11,4 @@ pub mod Runs
 pub mod Stepping
 pub mod RuleAt
 pub mod Laws
+pub mod Matching

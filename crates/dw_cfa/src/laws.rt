@@ -1,5 +1,6 @@
 //! Laws of rows, for the layers above. The functions do nothing: their contracts are proved.
 
+ghost use Rattle.dw_cfa.specs.Matching.{RestoresMatched};
 ghost use Rattle.dw_cfa.specs.Laws.{GivenPrograms, NoneFalls, LastHolds, RowsWhereKept};
 
 /// What holds of the rows that two programs give.
@@ -8,4 +9,5 @@ pub fn row_laws()
     ensures forwards { NoneFalls }
     ensures holds { LastHolds }
     ensures kept { RowsWhereKept }
+    ensures matched { RestoresMatched }
 {}

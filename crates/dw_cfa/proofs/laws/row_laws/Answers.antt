@@ -1,4 +1,5 @@
 use Rattle.dw_cfa.proofs.RunLaws.{given_programs, none_falls, last_holds}
+use Rattle.dw_cfa.proofs.Match.{restores_matched}
 use Rattle.dw_cfa.proofs.KeptLaws.{rows_where_kept}
 use Rattle.dw_cfa.proofs.laws.row_laws.Goals as goal
 
@@ -8,4 +9,5 @@ returns c = record {
   forwards = none_falls;
   holds = last_holds;
   kept = rows_where_kept;
+  matched = restores_matched;
 }

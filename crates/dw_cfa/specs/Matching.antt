@@ -1,0 +1,28 @@
+-- What a restore_state restores: DWARF 5, 6.4.2.4. Lists of instructions are given with the last of them first.
+use Rattle.std.specs.Prelude.{◌≡◌, ◌≢◌, ℕ, zero, suc, ◌+◌, List, [], ◌∷◌, ◌++◌}
+use Rattle.dw_cfa.specs.declared.instr.Instr.{Instr}
+use Rattle.dw_cfa.specs.declared.instr.Instr.TheVariants.{RememberState, RestoreState}
+use Rattle.dw_cfa.specs.declared.rule.CfaRule.{CfaRule}
+use Rattle.dw_cfa.specs.declared.rule.RegRule.{RegRule}
+use Rattle.dw_cfa.specs.Column.{look_back, cfa_change, rule_change}
+
+abbrev pub remembered : List Instr → ℕ
+remembered [] = 0
+remembered (RememberState ∷ instrs) = suc (remembered instrs)
+remembered (i ∷ instrs) = remembered instrs
+
+abbrev pub restored : List Instr → ℕ
+restored [] = 0
+restored (RestoreState ∷ instrs) = suc (restored instrs)
+restored (i ∷ instrs) = restored instrs
+
+-- `between` stands, the last first, between a restore_state, with `inner` more to be passed, and its remember_state
+pub record IsBetween (inner : ℕ) (between : List Instr) : Type 0 where
+  pub equal : restored between + inner ≡ remembered between
+  pub nearest : (near far : List Instr) → between ≡ near ++ (RememberState ∷ far) → restored near + inner ≢ remembered near
+
+-- in every column a restore_state, behind its remember_state and what stands between, leaves what was there before that
+abbrev pub RestoresMatched : Type 0
+RestoresMatched = (between before : List Instr) → IsBetween 0 between
+    → ((initial : CfaRule) → look_back cfa_change initial 0 (RestoreState ∷ (between ++ (RememberState ∷ before))) ≡ look_back cfa_change initial 0 before)
+    × ((initial : RegRule) (r : ℕ) → look_back (rule_change r initial) initial 0 (RestoreState ∷ (between ++ (RememberState ∷ before))) ≡ look_back (rule_change r initial) initial 0 before)
