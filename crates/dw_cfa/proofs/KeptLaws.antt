@@ -77,7 +77,7 @@ cie_kept_gives (item ∷ items) earlier row h k =
 
 -- ---- an FDE's program
 
-counted : (p : Instr → Bool) (earlier instrs : List Instr) (k : ℕ) → count_by p (onto earlier instrs k) ≡ count_by p (take k instrs) + count_by p earlier
+pub counted : (p : Instr → Bool) (earlier instrs : List Instr) (k : ℕ) → count_by p (onto earlier instrs k) ≡ count_by p (take k instrs) + count_by p earlier
 counted p earlier instrs zero = omega arith
 counted p earlier [] (suc k) = omega arith
 counted p earlier (i ∷ instrs) (suc k) =

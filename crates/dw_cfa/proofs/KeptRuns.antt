@@ -112,7 +112,7 @@ halves_kept limit (Restore r) s e keeps = absurd cc
 -- ---- a run that gives rows keeps the rules
 
 -- where no fault stands against an instruction, the rest of the run gives rows
-next_gives : (limit : ℕ) (initial : Rules) (item : Placed) (items : List Placed) (s : State) (rows : List LocatedRow) → Gives limit initial (item ∷ items) s rows
+pub next_gives : (limit : ℕ) (initial : Rules) (item : Placed) (items : List Placed) (s : State) (rows : List LocatedRow) → Gives limit initial (item ∷ items) s rows
     → (fde_fault limit item.instr s ≡ None) × ((rest : List LocatedRow) × Gives limit initial items (after initial item.instr s) rest)
 next_gives limit initial item items s rows e =
     let first = gives_first limit initial item items s rows e in (
@@ -230,7 +230,7 @@ rest_kept limit begin initial i earlier instrs h = record {
   room = λ k le. h.room (suc k) (omega arith);
 }
 
-put_first : (limit : ℕ) (initial : Rules) (item : Placed) (items : List Placed) (s : State) (rest : List LocatedRow) → fde_fault limit item.instr s ≡ None
+pub put_first : (limit : ℕ) (initial : Rules) (item : Placed) (items : List Placed) (s : State) (rest : List LocatedRow) → fde_fault limit item.instr s ≡ None
     → Gives limit initial items (after initial item.instr s) rest → (rows : List LocatedRow) × Gives limit initial (item ∷ items) s rows
 unfolding fde_rows
 put_first limit initial item items s rest none e = put (moves_location item.instr) refl

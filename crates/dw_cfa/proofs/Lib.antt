@@ -14,3 +14,7 @@ pub mod RunLaws
 pub mod KeptRuns
 pub mod KeptLaws
 pub mod InstrPlaces
+pub mod Divided
+pub mod Stops
+pub mod FaultLaws
+pub mod BehindLaws

@@ -175,3 +175,44 @@ module _ (initial : Rules) (begin a : ℕ) where
             by_count item.instr earlier (instrs_of items) rows k (first_counts item.instr earlier (instrs_of items) k start (omega arith) counts) counts
             (λ m c. rows_at limit items (item.instr ∷ earlier) (after initial item.instr s) m rows next (omega arith) (counts_rest item.instr earlier (instrs_of items) m start c) on)
       ]
+
+-- ---- where the first row starts
+
+fault_none : (at : ℕ) (code : Option Code) (next : Outcome) (row : LocatedRow) (rows : List LocatedRow) → (fault_or at code next).rows ≡ row ∷ rows → next.rows ≡ row ∷ rows
+fault_none at None next row rows e = e
+fault_none at (Some code) next row rows e = absurd cc
+
+last_starts : (fault : Option Refusal) (s : State) (row : LocatedRow) (rows : List LocatedRow) → (last_row fault s).rows ≡ row ∷ rows → row.location ≡ s.location
+last_starts None s row rows e = let same : here s ≡ row = cc in sym (ap (λ (r : LocatedRow). r.location) same)
+last_starts (Some r) s row rows e = absurd cc
+
+moves_starts : (moves : Bool) (s : State) (next : Outcome) (row : LocatedRow) (rows : List LocatedRow) → (row_if moves s next).rows ≡ row ∷ rows
+    → ((moves ≡ false) → next.rows ≡ row ∷ rows → row.location ≡ s.location) → row.location ≡ s.location
+moves_starts true s next row rows e rest = let same : here s ≡ row = cc in sym (ap (λ (r : LocatedRow). r.location) same)
+moves_starts false s next row rows e rest = rest refl e
+
+pub first_starts : (limit : ℕ) (initial : Rules) (items : List Placed) (fault : Option Refusal) (s : State) (row : LocatedRow) (rows : List LocatedRow) → (fde_rows limit initial items fault s).rows ≡ row ∷ rows → row.location ≡ s.location
+unfolding fde_rows
+first_starts limit initial [] fault s row rows e = last_starts fault s row rows e
+first_starts limit initial (item ∷ items) fault s row rows e =
+    let next = fde_rows limit initial items fault (after initial item.instr s) in
+    let some = fault_none item.at (fde_fault limit item.instr s) (row_if (moves_location item.instr) s next) row rows e in
+    moves_starts (moves_location item.instr) s next row rows some (λ still more.
+    first_starts limit initial items fault (after initial item.instr s) row rows more ∙ stays initial item.instr s still)
+
+-- a run has a row to come, or a fault
+last_some : (fault : Option Refusal) (s : State) → last_row fault s ≡ finished → ⊥
+last_some None s e = let rows = ap (λ (o : Outcome). o.rows) e in absurd cc
+last_some (Some r) s e = let fault = ap (λ (o : Outcome). o.fault) e in absurd cc
+
+some_behind : (at : ℕ) (code : Option Code) (moves : Bool) (s : State) (next : Outcome) → (next ≡ finished → ⊥) → fault_or at code (row_if moves s next) ≡ finished → ⊥
+some_behind at None true s next some e = let rows = ap (λ (o : Outcome). o.rows) e in absurd cc
+some_behind at None false s next some e = some e
+some_behind at (Some code) moves s next some e = let fault = ap (λ (o : Outcome). o.fault) e in absurd cc
+
+pub some_left : (limit : ℕ) (initial : Rules) (items : List Placed) (fault : Option Refusal) (s : State) → fde_rows limit initial items fault s ≡ finished → ⊥
+unfolding fde_rows
+some_left limit initial [] fault s e = last_some fault s e
+some_left limit initial (item ∷ items) fault s e =
+    some_behind item.at (fde_fault limit item.instr s) (moves_location item.instr) s (fde_rows limit initial items fault (after initial item.instr s))
+    (some_left limit initial items fault (after initial item.instr s)) e

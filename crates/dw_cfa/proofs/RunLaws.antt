@@ -1,5 +1,5 @@
 -- The laws of rows.
-use Rattle.std.proofs.Common.{◌≡◌, ℕ, zero, suc, ◌+◌, ◌<◌, ◌≤◌, Bool, true, false, cond, List, [], ◌∷◌, length, Option, Some, None, Result, Ok, Err, refl, sym, ap, ◌∙◌, subst, arith}
+use Rattle.std.proofs.Common.{◌≡◌, ◌⊎◌, ℕ, zero, suc, ◌+◌, ◌<◌, ◌≤◌, Bool, true, false, cond, List, [], ◌∷◌, length, Option, Some, None, Result, Ok, Err, refl, sym, ap, ◌∙◌, subst, inl, inr, arith}
 use Rattle.dw_num.specs.declared.refusal.Refusal.{Refusal}
 use Rattle.dw_num.specs.Target.{address_limit}
 use Rattle.dw_num.specs.Input.{Input, AreBytes}
@@ -17,13 +17,18 @@ use Rattle.dw_cfa.specs.Rows.{Rules, rule, blank}
 use Rattle.dw_cfa.specs.Listing as plain
 use Rattle.dw_cfa.specs.Machine.{State, begun, after, fde_fault}
 use Rattle.dw_cfa.specs.Reading.{instr_at}
-use Rattle.dw_cfa.specs.Runs.{Placed, Placing, Outcome, finished, fails, placed, placed_by, cie_run, initial_row, on_initial, fde_rows, run_rows, last_row, fault_or, row_if, row_then, here, ended, after_item, on_read, on_left}
+use Rattle.dw_cfa.specs.Runs.{Placed, Placing, Outcome, finished, fails, placed, placed_by, cie_run, initial_row, on_initial, fde_rows, rows_left, run_rows, last_row, fault_or, row_if, row_then, here, ended, after_item, on_read, on_left}
+use Rattle.dw_cfa.specs.declared.machine.Machine.{Machine}
+use Rattle.dw_cfa.specs.Steps.{state_of}
+use Rattle.dw_cfa.specs.declared.steps.Progress.{Progress}
+use Rattle.dw_cfa.specs.declared.steps.Progress.TheVariants as progress
+use Rattle.dw_cfa.specs.Stepping.{Stepping, begun_rows, left_of}
 use Rattle.dw_cfa.specs.Laws.{initial_cfa, initial_rule, HoldsAfter, RowsOf, GivenPrograms, NoneFalls, LastHolds}
 use Rattle.dw_cfa.specs.RuleAt.{last_at, NeverFalls, CountsFrom}
 use Rattle.dw_cfa.proofs.Listings.{program_listed}
 use Rattle.dw_cfa.proofs.Forward.{Follows, Holds, begun_follows}
 use Rattle.dw_cfa.proofs.Initial.{cie_follows}
-use Rattle.dw_cfa.proofs.RowsAt.{instrs_of, Gives, rows_at, never_falls}
+use Rattle.dw_cfa.proofs.RowsAt.{instrs_of, Gives, rows_at, never_falls, first_starts, some_left}
 
 -- ---- the instructions without their places
 
@@ -72,7 +77,7 @@ next_none at None true s next e = e
 next_none at None false s next e = e
 next_none at (Some code) moves s next e = absurd cc
 
-no_fault : (limit : ℕ) (initial : Rules) (items : List Placed) (fault : Option Refusal) (s : State) → (fde_rows limit initial items fault s).fault ≡ None → fault ≡ None
+pub no_fault : (limit : ℕ) (initial : Rules) (items : List Placed) (fault : Option Refusal) (s : State) → (fde_rows limit initial items fault s).fault ≡ None → fault ≡ None
 unfolding fde_rows
 no_fault limit initial [] fault s e = last_none fault s e
 no_fault limit initial (item ∷ items) fault s e =
@@ -130,3 +135,48 @@ last_holds f cie fde begin rows h ci fi cie_is fde_is a k le counts =
     (subst (λ (l : List Instr). CountsFrom begin [] l a k) (sym d) so) g.gives in
     let holds = subst (λ (l : List Instr). Holds g.initial (onto [] l k) 0 found.0) d found.2 in
     (found.0, found.1, held ci fi k g.initial found.0 from holds)
+
+-- ---- where the next row of a machine starts
+
+next_begun : (res : Result Rules Refusal) (go : Rules → Outcome) (row : LocatedRow) (rows : List LocatedRow) → (on_initial res go).rows ≡ row ∷ rows → (initial : Rules) × ((go initial).rows ≡ row ∷ rows)
+next_begun (Ok initial) go row rows e = (initial, e)
+next_begun (Err r) go row rows e = absurd cc
+
+some_begun : (res : Result Rules Refusal) (go : Rules → Outcome) → ((initial : Rules) → go initial ≡ finished → ⊥) → on_initial res go ≡ finished → ⊥
+some_begun (Ok initial) go some e = some initial e
+some_begun (Err r) go some e = let fault = ap (λ (o : Outcome). o.fault) e in absurd cc
+
+module _ (f : Factors) (cie fde : Input) (m : Machine) where
+  pub begun_starts : (row : LocatedRow) (rows : List LocatedRow) → (begun_rows f cie fde m).rows ≡ row ∷ rows → row.location ≡ m.location
+  unfolding begun_rows
+  begun_starts row rows e =
+      let some = next_begun (initial_row (placed f cie) m.initial) (λ initial. fde_rows m.limit initial (placed f fde).items (placed f fde).fault (begun initial m.location)) row rows e in
+      first_starts m.limit some.0 (placed f fde).items (placed f fde).fault (begun some.0 m.location) row rows some.1
+
+  pub left_starts : (row : LocatedRow) (rows : List LocatedRow) → (rows_left f fde m).rows ≡ row ∷ rows → row.location ≡ m.location
+  unfolding rows_left
+  left_starts row rows e = first_starts m.limit m.initial (placed f fde).items (placed f fde).fault (state_of m) row rows e
+
+  pub some_begun_left : begun_rows f cie fde m ≡ finished → ⊥
+  unfolding begun_rows
+  some_begun_left e =
+      some_begun (initial_row (placed f cie) m.initial) (λ initial. fde_rows m.limit initial (placed f fde).items (placed f fde).fault (begun initial m.location))
+      (λ initial. some_left m.limit initial (placed f fde).items (placed f fde).fault (begun initial m.location)) e
+
+  pub some_rows_left : rows_left f fde m ≡ finished → ⊥
+  unfolding rows_left
+  some_rows_left e = some_left m.limit m.initial (placed f fde).items (placed f fde).fault (state_of m) e
+
+-- what is left begins where the machine stands
+pub next_starts : (p : Progress) (f : Factors) (cie fde : Input) (m : Machine) (s : Stepping) → (p ≡ progress.Begun) ⊎ (p ≡ progress.Running) → left_of p f cie fde m ≡ s
+    → (row : LocatedRow) (rows : List LocatedRow) → s.outcome.rows ≡ row ∷ rows → row.location ≡ m.location
+next_starts p f cie fde m s (inl is) e row rows some =
+    begun_starts f cie fde m row rows (ap (λ (x : Progress). (left_of x f cie fde m).outcome.rows) (sym is) ∙ ap (λ (x : Stepping). x.outcome.rows) e ∙ some)
+next_starts p f cie fde m s (inr is) e row rows some =
+    left_starts f cie fde m row rows (ap (λ (x : Progress). (left_of x f cie fde m).outcome.rows) (sym is) ∙ ap (λ (x : Stepping). x.outcome.rows) e ∙ some)
+
+pub next_some : (p : Progress) (f : Factors) (cie fde : Input) (m : Machine) (s : Stepping) → (p ≡ progress.Begun) ⊎ (p ≡ progress.Running) → left_of p f cie fde m ≡ s → s.outcome ≡ finished → ⊥
+next_some p f cie fde m s (inl is) e none =
+    some_begun_left f cie fde m (ap (λ (x : Progress). (left_of x f cie fde m).outcome) (sym is) ∙ ap (λ (x : Stepping). x.outcome) e ∙ none)
+next_some p f cie fde m s (inr is) e none =
+    some_rows_left f cie fde m (ap (λ (x : Progress). (left_of x f cie fde m).outcome) (sym is) ∙ ap (λ (x : Stepping). x.outcome) e ∙ none)

@@ -12,3 +12,5 @@ pub mod Stepping
 pub mod RuleAt
 pub mod Laws
 pub mod Matching
+pub mod Faults
+pub mod Behind

@@ -151,9 +151,9 @@ abbrev pub Ran : Factors → Input → Machine → Result Bool RunError → Inpu
 Ran f i m (Ok moves) i' m' = RanTo f i m moves i' m'
 Ran f i m (Err e) i' m' = RefusalIs e (λ r. rows_left f i m ≡ fails r)
 
--- a row was given and more are left, or it is the last, or the refusal was answered
-abbrev pub GivesRow : Outcome → Factors → Input → Machine → Result (LocatedRow × Bool) RunError → Type 0
-GivesRow old f i m (Ok x) = RunsSo m i × (old ≡ row_then x.0 (if x.1 then rows_left f i m else finished))
+-- the machine has a row and more are left, or it is the last, or the refusal was answered
+abbrev pub GivesRow : Outcome → Factors → Input → Machine → Result (ℕ × Bool) RunError → Type 0
+GivesRow old f i m (Ok x) = RunsSo m i × (old ≡ row_then (record { location = x.0; row = m.row }) (if x.1 then rows_left f i m else finished))
 GivesRow old f i m (Err e) = RefusalIs e (λ r. old ≡ fails r)
 
 -- the same for an instruction of a CIE's program

@@ -9,28 +9,45 @@ use Rattle.dw_cfa.specs.declared.machine.Machine.{Machine}
 use Rattle.dw_cfa.specs.declared.running.LocatedRow.{LocatedRow}
 use Rattle.dw_cfa.specs.declared.running.RunError.{RunError}
 use Rattle.dw_cfa.specs.declared.steps.Progress.{Progress}
-use Rattle.dw_cfa.specs.declared.steps.Progress.TheVariants.{Begun, Running, Finished, Failed}
+use Rattle.dw_cfa.specs.declared.steps.Progress.TheVariants as progress
 use Rattle.dw_cfa.specs.Machine.{begun}
+use Rattle.dw_cfa.specs.Rows.{Rules}
 use Rattle.dw_cfa.specs.Runs.{Outcome, finished, fails, row_then, placed, initial_row, on_initial, fde_rows, rows_left, run_rows, RunsSo, RefusalIs}
 
--- the rows still to come, and the error that was answered, after which it is answered again
+-- the rows still to come, the row that is lent, and the error that was answered, after which it is answered again
 pub record Stepping : Type 0 where
   pub outcome : Outcome
+  pub current : Rules
   pub error : Option RunError
 
 -- no error was answered yet
-abbrev pub stepping : Outcome → Stepping
-stepping outcome = record { outcome = outcome; error = None }
+abbrev pub stepping : Rules → Outcome → Stepping
+stepping current outcome = record { outcome = outcome; current = current; error = None }
 
 -- where a program stands
 abbrev pub program_input : Program → Target → Input
 program_input p t = record { at = p.at; bytes = p.bytes.now; target = t }
 
--- what a call answers, and what is still to come then
+-- an error was answered, now or before
+abbrev pub Failed : Stepping → RunError → Stepping → Type 0
+Failed old e new = (new.error ≡ Some e) × ((old ≡ new) ⊎ (old.error ≡ None) × RefusalIs e (λ r. old.outcome ≡ fails r))
+
+-- there is no row any more
+abbrev pub Ended : Stepping → Stepping → Type 0
+Ended old new = (old ≡ stepping old.current finished) × (new ≡ old)
+
+-- what a call answers that goes on to the next row: the location that it starts at
+abbrev pub Advances : Stepping → Result (Option ℕ) RunError → Stepping → Type 0
+Advances old (Ok None) new = Ended old new
+Advances old (Ok (Some location)) new =
+    (old.error ≡ None) × (new.error ≡ None) × (old.outcome ≡ row_then (record { location = location; row = new.current }) new.outcome)
+Advances old (Err e) new = Failed old e new
+
+-- what a call answers that gives the next row away
 abbrev pub Answers : Stepping → Result (Option LocatedRow) RunError → Stepping → Type 0
-Answers old (Ok None) new = (old ≡ stepping finished) × (new ≡ stepping finished)
-Answers old (Ok (Some row)) new = (old.error ≡ None) × (new.error ≡ None) × (old.outcome ≡ row_then row new.outcome)
-Answers old (Err e) new = (new.error ≡ Some e) × ((old ≡ new) ⊎ (old.error ≡ None) × RefusalIs e (λ r. old.outcome ≡ fails r))
+Answers old (Ok None) new = Ended old new
+Answers old (Ok (Some row)) new = (old.error ≡ None) × (new.error ≡ None) × (old.outcome ≡ row_then row new.outcome) × (new.current ≡ row.row)
+Answers old (Err e) new = Failed old e new
 
 -- ---- how the code keeps it
 
@@ -40,15 +57,15 @@ begun_rows f cie fde m =
     on_initial (initial_row (placed f cie) m.initial) (λ initial. fde_rows m.limit initial (placed f fde).items (placed f fde).fault (begun initial m.location))
 
 abbrev pub left_of : Progress → Factors → Input → Input → Machine → Stepping
-left_of Begun f cie fde m = stepping (begun_rows f cie fde m)
-left_of Running f cie fde m = stepping (rows_left f fde m)
-left_of Finished f cie fde m = stepping finished
-left_of (Failed e) f cie fde m = record { outcome = finished; error = Some e }
+left_of progress.Begun f cie fde m = stepping m.row (begun_rows f cie fde m)
+left_of progress.Running f cie fde m = stepping m.row (rows_left f fde m)
+left_of progress.Finished f cie fde m = stepping m.row finished
+left_of (progress.Failed e) f cie fde m = record { outcome = finished; current = m.row; error = Some e }
 
 abbrev pub StandsSo : Progress → Input → Machine → Type 0
-StandsSo Begun fde m = RunsSo m fde × (m.remembered.items ≡ [])
-StandsSo Running fde m = RunsSo m fde
-StandsSo progress fde m = Unit {0}
+StandsSo progress.Begun fde m = RunsSo m fde × (m.remembered.items ≡ [])
+StandsSo progress.Running fde m = RunsSo m fde
+StandsSo other fde m = Unit {0}
 
 -- rows that come first
 abbrev pub rows_before : List LocatedRow → Outcome → Outcome

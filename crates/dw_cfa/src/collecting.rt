@@ -2,13 +2,14 @@
 
 ghost use Rattle.std.specs.Prelude.{◌≡◌, ◌<◌, Some, None, IfOk, IfErr};
 ghost use Rattle.dw_num.specs.Target.{address_limit};
+ghost use Rattle.dw_cfa.specs.Faults.{RunFault};
 ghost use Rattle.dw_cfa.specs.Runs.{RefusalIs, run_rows};
 ghost use Rattle.dw_cfa.specs.Stepping.{program_input};
 
 use crate::instr::Factors;
 use crate::running::{LocatedRow, RunError};
 use crate::steps::RowSteps;
-use dw_num::{Program, Target};
+use dw_num::{Program, Target, are_bytes};
 use std::alloc::Global;
 
 /// Rows with the locations that they start at, which never fall.
@@ -27,8 +28,10 @@ pub fn run<'a>(
 ) -> Result<Rows<'a>, RunError>
     requires { begin < address_limit target.size }
     ensures rows { IfOk result (λ rows. run_rows factors (program_input cie_program.entry target) (program_input fde_program.entry target) begin ≡ record { rows = rows.items; fault = None }) }
-    ensures refused { IfErr result (λ e. RefusalIs e (λ r. (run_rows factors (program_input cie_program.entry target) (program_input fde_program.entry target) begin).fault ≡ Some r)) }
+    ensures refused { IfErr result (λ e. RefusalIs e (RunFault factors (program_input cie_program.entry target) (program_input fde_program.entry target) begin)) }
 {
+    are_bytes(cie_program.bytes);
+    are_bytes(fde_program.bytes);
     let mut steps = RowSteps::new(alloc, cie_program, fde_program, begin, factors, target);
     let mut rows = Vec::new(alloc);
     'rows: while let Some(row) = steps.next()? {

@@ -15,7 +15,7 @@ mod steps;
 pub use collecting::{Rows, run};
 pub use instr::{Factors, Instr};
 pub use instructions::Instructions;
-pub use laws::row_laws;
+pub use laws::{behind_laws, initial_laws, row_laws};
 pub use row::{Row, Specified};
 pub use rule::{CfaRule, RegRule};
 pub use running::{LocatedRow, RunError};

@@ -1,6 +1,6 @@
 //! Rows of rules (6.4.1).
 
-ghost use Rattle.std.specs.Prelude.{◌≡◌, ℕ, ◌<◌, ◌≤◌, List, [], ◌∷◌, ◌++◌, length, suc, take, drop, IfOk, OnOk, OnErr, MatchOption};
+ghost use Rattle.std.specs.Prelude.{◌≡◌, ℕ, ◌<◌, ◌≤◌, List, [], ◌∷◌, ◌++◌, length, suc, take, drop, IfOk, OnOk, OnErr, MatchOption, IsTrue, ◌↔◌};
 ghost use Rattle.std.specs.Iterator.{YieldsFirst, item_count};
 ghost use Rattle.dw_cfa.specs.Rows.{Rules, AreSpecified, rule, begins, put, place, rule_in, with_cfa, with_rule, blank};
 
@@ -88,6 +88,21 @@ fn copied_entries<'a>(
         copy.push((entry.0, entry.1.copied()))?;
     }
     Ok(copy)
+}
+
+// Whether two lists have the same entries.
+fn same_entries(entries: &[(u16, RegRule<'_>)], others: &[(u16, RegRule<'_>)]) -> bool
+    ensures { IsTrue result ↔ (entries.now ≡ others.now) }
+{
+    if entries.len() != others.len() {
+        return false;
+    }
+    'entries: for (entry, other) in entries.iter().zip(others) {
+        if entry.0 != other.0 || !entry.1.is_same(&other.1) {
+            return false;
+        }
+    }
+    true
 }
 
 /// The rules at an address: how the canonical frame address and the registers of the caller are found. A
@@ -188,6 +203,14 @@ impl<'a> Row<'a> {
         ensures { result ≡ rule self.now register }
     {
         rule_of(self.entries.as_slice(), register)
+    }
+
+    /// Whether both rows have the same rule in every column. Expressions are compared by their operations.
+    pub fn is_same(&self, other: &Row<'_>) -> bool
+        ensures { IsTrue result ↔ (self.now ≡ other.now) }
+    {
+        self.cfa.is_same(&other.cfa)
+            && same_entries(self.entries.as_slice(), other.entries.as_slice())
     }
 
     /// The registers that are not Unspecified, ascending, with their rules. Takes no memory.

@@ -1,6 +1,6 @@
 //! Rules: how the canonical frame address and the caller's registers are found (6.4.1).
 
-ghost use Rattle.std.specs.Prelude.{◌≡◌};
+ghost use Rattle.std.specs.Prelude.{◌≡◌, IsTrue, ◌↔◌};
 ghost use Rattle.dw_cfa.specs.Rows.{is_specified};
 
 use dw_op::ExprRef;
@@ -28,6 +28,24 @@ impl<'a> CfaRule<'a> {
                 offset: *offset,
             },
             CfaRule::Expression(expression) => CfaRule::Expression(expression.copied()),
+        }
+    }
+
+    /// Whether both are one rule. Expressions are compared by their operations.
+    pub fn is_same(&self, other: &CfaRule<'_>) -> bool
+        ensures { IsTrue result ↔ (self.now ≡ other.now) }
+    {
+        match (self, other) {
+            (CfaRule::Unset, CfaRule::Unset) => true,
+            (
+                CfaRule::Register { register, offset },
+                CfaRule::Register {
+                    register: r,
+                    offset: n,
+                },
+            ) => *register == *r && *offset == *n,
+            (CfaRule::Expression(expression), CfaRule::Expression(e)) => *expression == *e,
+            _ => false,
         }
     }
 }
@@ -75,6 +93,23 @@ impl<'a> RegRule<'a> {
             RegRule::Register(register) => RegRule::Register(*register),
             RegRule::Expression(expression) => RegRule::Expression(expression.copied()),
             RegRule::ValExpression(expression) => RegRule::ValExpression(expression.copied()),
+        }
+    }
+
+    /// Whether both are one rule. Expressions are compared by their operations.
+    pub fn is_same(&self, other: &RegRule<'_>) -> bool
+        ensures { IsTrue result ↔ (self.now ≡ other.now) }
+    {
+        match (self, other) {
+            (RegRule::Unspecified, RegRule::Unspecified) => true,
+            (RegRule::Undefined, RegRule::Undefined) => true,
+            (RegRule::SameValue, RegRule::SameValue) => true,
+            (RegRule::Offset(offset), RegRule::Offset(n)) => *offset == *n,
+            (RegRule::ValOffset(offset), RegRule::ValOffset(n)) => *offset == *n,
+            (RegRule::Register(register), RegRule::Register(r)) => *register == *r,
+            (RegRule::Expression(expression), RegRule::Expression(e)) => *expression == *e,
+            (RegRule::ValExpression(expression), RegRule::ValExpression(e)) => *expression == *e,
+            _ => false,
         }
     }
 }

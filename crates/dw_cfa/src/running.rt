@@ -113,25 +113,23 @@ fn run_one<'a>(
     }
 }
 
-/// Runs a program up to the next row, and says whether it goes on behind it.
+/// Runs a program up to the end of a row, which the machine has then. Answers where the row starts, and whether
+/// the program goes on behind it.
 pub(crate) fn next_row<'a>(
     cursor: &mut Cursor<'a>,
     factors: Factors,
     machine: &mut Machine<'a>,
-) -> Result<(LocatedRow<'a>, bool), RunError>
+) -> Result<(u128, bool), RunError>
     requires { RunsSo machine.old cursor.old }
     ensures { GivesRow (rows_left factors cursor.old machine.old) factors cursor.new machine.new result }
 {
     'instrs: while cursor.left() > 0 {
         let location = machine.location;
         if run_one(cursor, factors, machine)? {
-            let row = machine.row.copied()?;
-            return Ok((LocatedRow { location, row }, true));
+            return Ok((location, true));
         }
     }
-    let row = machine.row.copied()?;
-    let location = machine.location;
-    Ok((LocatedRow { location, row }, false))
+    Ok((machine.location, false))
 }
 
 // Reads an instruction of a CIE's program, and writes its rule into the row.

@@ -1,11 +1,12 @@
 //! Rows one at a time (6.4.3).
 
-ghost use Rattle.std.specs.Prelude.{◌≡◌, ℕ, ◌<◌, ◌≤◌, Some, None, Ok, Err, [], length, IfOk, IfErr};
+ghost use Rattle.std.specs.Prelude.{◌≡◌, ℕ, ◌<◌, ◌≤◌, Some, None, Ok, Err, List, [], ◌∷◌, length, IfOk, IfErr};
 ghost use Rattle.dw_num.specs.Target.{address_limit};
 ghost use Rattle.dw_num.specs.declared.refusal.Refusal.{Refusal};
-ghost use Rattle.dw_cfa.specs.Runs.{RunsSo, GivesRow, RefusalIs, placed, initial_row, rows_behind, run_rows};
+ghost use Rattle.dw_cfa.specs.declared.running.LocatedRow.{LocatedRow};
+ghost use Rattle.dw_cfa.specs.Runs.{finished, RunsSo, GivesRow, RefusalIs, placed, initial_row, rows_behind, run_rows};
 ghost use Rattle.dw_cfa.specs.Rows.{blank};
-ghost use Rattle.dw_cfa.specs.Stepping.{Answers, begun_rows, stepping, program_input};
+ghost use Rattle.dw_cfa.specs.Stepping.{Advances, Answers, begun_rows, stepping, program_input};
 
 use crate::instr::Factors;
 use crate::machine::Machine;
@@ -25,13 +26,13 @@ enum Progress {
     Failed(RunError),
 }
 
-// Runs a CIE's program, and an FDE's up to its first row.
+// Runs a CIE's program, and an FDE's up to the end of its first row.
 fn first_row<'a>(
     cie: &mut Cursor<'a>,
     fde: &mut Cursor<'a>,
     factors: Factors,
     machine: &mut Machine<'a>,
-) -> Result<(LocatedRow<'a>, bool), RunError>
+) -> Result<(u128, bool), RunError>
     requires so { RunsSo machine.old fde.old }
     requires none { machine.old.remembered.items ≡ [] }
     ensures { GivesRow (begun_rows factors cie.old fde.old machine.old) factors fde.new machine.new result }
@@ -58,8 +59,8 @@ pub fn initial_row<'a>(
 }
 
 /// The rows that a CIE's and an FDE's program give, one at a time: one before each instruction that moves the
-/// location, and one at the end. A contract sees the rows still to come, the refusal behind them, and the
-/// error that was answered.
+/// location, and one at the end. A contract sees the rows still to come, the refusal behind them, the row that is
+/// lent, and the error that was answered.
 #[derive(Drop)]
 pub struct RowSteps<'a> {
     progress: Progress,
@@ -91,7 +92,7 @@ impl<'a> RowSteps<'a> {
         target: Target,
     ) -> RowSteps<'a>
         requires { begin < address_limit target.size }
-        ensures { result ≡ stepping (run_rows factors (program_input cie_program.entry target) (program_input fde_program.entry target) begin) }
+        ensures { result ≡ stepping blank (run_rows factors (program_input cie_program.entry target) (program_input fde_program.entry target) begin) }
     {
         RowSteps {
             progress: Progress::Begun,
@@ -119,7 +120,7 @@ impl<'a> RowSteps<'a> {
         target: Target,
     ) -> Result<RowSteps<'a>, AllocError>
         requires { begin < address_limit target.size }
-        ensures { IfOk result (λ s. s ≡ stepping (rows_behind factors initial.entry (program_input fde_program.entry target) begin)) }
+        ensures { IfOk result (λ s. s ≡ stepping initial.entry (rows_behind factors initial.entry (program_input fde_program.entry target) begin)) }
     {
         let row = initial.copied()?;
         let limit = target.size.address_limit();
@@ -138,9 +139,10 @@ impl<'a> RowSteps<'a> {
         })
     }
 
-    /// The next row, or none behind the last one. A refusal, or want of memory, which is answered from then on.
-    pub fn next(&mut self) -> Result<Option<LocatedRow<'a>>, RunError>
-        ensures answers { Answers self.old result self.new }
+    /// Goes on to the next row, which `row` lends then, and answers the location that it starts at, or none behind
+    /// the last row. No row is copied. A refusal, or want of memory, is answered from then on.
+    pub fn advance(&mut self) -> Result<Option<u128>, RunError>
+        ensures advances { Advances self.old result self.new }
         ensures again { (e : RunError) → self.old.error ≡ Some e → result ≡ Err e }
     {
         let answer = match self.progress {
@@ -155,17 +157,53 @@ impl<'a> RowSteps<'a> {
             Progress::Failed(error) => return Err(error),
         };
         match answer {
-            Ok((row, true)) => {
+            Ok((location, true)) => {
                 self.progress = Progress::Running;
-                Ok(Some(row))
+                Ok(Some(location))
             }
-            Ok((row, false)) => {
+            Ok((location, false)) => {
                 self.progress = Progress::Finished;
-                Ok(Some(row))
+                Ok(Some(location))
             }
             Err(error) => {
                 self.progress = Progress::Failed(error);
                 Err(error)
+            }
+        }
+    }
+
+    /// The row that `advance` or `next` went on to, and before the first one a row of no meaning.
+    pub fn row(&self) -> &Row<'a>
+        ensures { result.now ≡ self.now.current }
+    {
+        &self.machine.row
+    }
+
+    /// The location that the next row starts at, which is where the row that is lent ends. None behind the last row, and
+    /// after an error.
+    pub fn next_start(&self) -> Option<u128>
+        ensures next { (row : LocatedRow) (rows : List LocatedRow) → self.now.outcome.rows ≡ row ∷ rows → result ≡ Some row.location }
+        ensures last { self.now.outcome ≡ finished → result ≡ None }
+    {
+        match self.progress {
+            Progress::Begun | Progress::Running => Some(self.machine.location),
+            Progress::Finished | Progress::Failed(_) => None,
+        }
+    }
+
+    /// The next row, or none behind the last one. A refusal, or want of memory, which is answered from then on.
+    pub fn next(&mut self) -> Result<Option<LocatedRow<'a>>, RunError>
+        ensures answers { Answers self.old result self.new }
+        ensures again { (e : RunError) → self.old.error ≡ Some e → result ≡ Err e }
+    {
+        let Some(location) = self.advance()? else {
+            return Ok(None);
+        };
+        match self.machine.row.copied() {
+            Ok(row) => Ok(Some(LocatedRow { location, row })),
+            Err(_) => {
+                self.progress = Progress::Failed(RunError::OutOfMemory);
+                Err(RunError::OutOfMemory)
             }
         }
     }

@@ -1,8 +1,7 @@
-use Rattle.std.proofs.Common.{◌≡◌, ◌∙◌, arith}
+use Rattle.std.proofs.Common.{◌∙◌, arith}
 use Rattle.dw_cfa.proofs.RunSteps.{rows_end}
 use Rattle.dw_cfa.proofs.running.next_row.Goals as goal
 
 pub returns : goal.returns
 returns c =
-    let row : c.in_ok-row-2.row ≡ c.instrs.machine.row = c.in_ok-row-2.ensures in
-    (c.instrs.invariant.0, rw row (c.instrs.invariant.1 ∙ rows_end c.args.factors c.instrs.cursor c.instrs.machine (omega arith)))
+    (c.instrs.invariant.0, (c.instrs.invariant.1 ∙ rows_end c.args.factors c.instrs.cursor c.instrs.machine (omega arith)))

@@ -1,10 +1,13 @@
-use Rattle.std.proofs.Common.{ap}
+use Rattle.std.proofs.Common.{ap, ◌∙◌}
+use Rattle.dw_cfa.specs.Rows.{Rules}
+use Rattle.dw_cfa.specs.Runs.{run_rows}
 use Rattle.dw_cfa.specs.Stepping.{program_input, stepping}
 use Rattle.dw_cfa.proofs.RunSteps.{begun_is_run}
 use Rattle.dw_cfa.proofs.steps.RowSteps.new.Goals as goal
 
 pub returns : goal.returns
 returns c =
-    ap stepping (begun_is_run c.args.factors c.new.result c.new-2.result (program_input c.args.cie_program c.args.target) (program_input c.args.fde_program c.args.target)
+    ap (stepping c.blank-2.result) (begun_is_run c.args.factors c.new.result c.new-2.result (program_input c.args.cie_program c.args.target) (program_input c.args.fde_program c.args.target)
     (record { initial = c.blank.result; row = c.blank-2.result; remembered = c.new-3.result; location = c.from.result; limit = c.address_limit.result })
     c.args.begin c.new.ensures c.new-2.ensures c.blank.ensures c.from.ensures c.address_limit.ensures)
+    ∙ ap (λ (row : Rules). stepping row (run_rows c.args.factors (program_input c.args.cie_program c.args.target) (program_input c.args.fde_program c.args.target) c.args.begin)) c.blank-2.ensures

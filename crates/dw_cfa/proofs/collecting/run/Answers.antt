@@ -1,0 +1,12 @@
+use Rattle.std.proofs.Common.{ap, arith}
+use Rattle.std.proofs.lemmas.Result.{err_from_is_err_and}
+use Rattle.dw_cfa.specs.Stepping.{Stepping, program_input}
+use Rattle.dw_cfa.proofs.FaultLaws.{run_failed}
+use Rattle.dw_cfa.proofs.collecting.run.Goals as goal
+
+pub returns-in_err-row-clause-refused : goal.returns-in_err-row-clause-refused
+returns-in_err-row-clause-refused c =
+    let p = err_from_is_err_and c.from_residual.result c.from_residual.ensures.1 in
+    rw (p.1, p.2) (run_failed c.args.factors (program_input c.args.cie_program c.args.target) (program_input c.args.fde_program c.args.target) c.args.begin
+    c.new-steps.result c.rows.steps c.next.new.self c.rows.rows.items c.in_err-row.field-0.0 c.are_bytes.ensures c.are_bytes-2.ensures (omega (arith, c.requires))
+    (ap (λ (s : Stepping). s.outcome) c.new-steps.ensures) c.rows.invariant.1 c.rows.invariant.0 c.in_err-row.ensures.answers)

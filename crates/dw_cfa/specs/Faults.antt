@@ -1,0 +1,71 @@
+-- The first fault of two programs: DWARF 5, 6.4.2 and 6.4.3. The CIE's program is judged first, each from its front: the
+-- longest beginning of instructions that keep the rules, and the fault of what follows it.
+use Rattle.std.specs.Prelude.{◌≡◌, ◌⊎◌, ℕ, ◌+◌, ◌<◌, List, ◌++◌, length, IsTrue, not, Some, ◌≤◌, ◌↔◌}
+use Rattle.dw_num.specs.declared.refusal.Code.{Code}
+use Rattle.dw_num.specs.declared.refusal.Code.TheVariants.{NotInCie, LocationBackwards, LocationTooLarge, EmptyStateStack, StateStackFull, CfaNotRegister}
+use Rattle.dw_num.specs.declared.refusal.Refusal.{Refusal}
+use Rattle.dw_num.specs.Input.{Input, AreBytes}
+use Rattle.dw_num.specs.Target.{address_limit}
+use Rattle.dw_cfa.specs.declared.instr.Factors.{Factors}
+use Rattle.dw_cfa.specs.declared.instr.Instr.{Instr}
+use Rattle.dw_cfa.specs.declared.instr.Instr.TheVariants.{SetLoc, Advance, RememberState, RestoreState}
+use Rattle.dw_cfa.specs.declared.rule.CfaRule.{CfaRule}
+use Rattle.dw_cfa.specs.declared.rule.CfaRule.TheVariants.{Unset}
+use Rattle.dw_cfa.specs.InstrSpells.{InstrSpells, Program}
+use Rattle.dw_cfa.specs.Listing.{ProgramFault}
+use Rattle.dw_cfa.specs.Location.{location}
+use Rattle.dw_cfa.specs.Column.{cfa_after}
+use Rattle.dw_cfa.specs.Kept.{in_cie, keeps_half, IsRegisterRule, remembers, restores, CieKept, FdeKept}
+use Rattle.dw_cfa.specs.Laws.{initial_cfa}
+use Rattle.dw_cfa.specs.Runs.{run_rows}
+
+-- half of the CFA's rule is kept, and that rule is no register and offset
+abbrev pub BreaksHalf : CfaRule → Instr → Code → Type 0
+BreaksHalf rule i code = (code ≡ CfaNotRegister) × IsTrue (keeps_half i) × (IsRegisterRule rule → ⊥)
+
+-- what an instruction of a CIE's program breaks, behind instructions that keep the rules
+abbrev pub CieBreaks : List Instr → Instr → Code → Type 0
+CieBreaks instrs i code = ((code ≡ NotInCie) × IsTrue (not (in_cie i))) ⊎ (IsTrue (in_cie i) × BreaksHalf (cfa_after Unset instrs (length instrs)) i code)
+
+-- what an instruction of an FDE's program breaks, behind instructions that keep the rules
+abbrev pub FdeBreaks : ℕ → ℕ → CfaRule → List Instr → Instr → Code → Type 0
+FdeBreaks limit begin initial instrs (SetLoc a) code = (code ≡ LocationBackwards) × (a < location begin instrs (length instrs))
+FdeBreaks limit begin initial instrs (Advance delta) code = (code ≡ LocationTooLarge) × (limit < location begin instrs (length instrs) + delta)
+FdeBreaks limit begin initial instrs RememberState code = (code ≡ StateStackFull) × (remembers instrs (length instrs) ≡ restores instrs (length instrs) + 64)
+FdeBreaks limit begin initial instrs RestoreState code = (code ≡ EmptyStateStack) × (remembers instrs (length instrs) ≡ restores instrs (length instrs))
+FdeBreaks limit begin initial instrs i code = BreaksHalf (cfa_after initial instrs (length instrs)) i code
+
+-- behind the instructions stands one that breaks a rule; the refusal names the place of its opcode
+pub record BrokenBehind (f : Factors) (i : Input) (instrs : List Instr) (Breaks : Instr → Code → Type 0) (r : Refusal) : Type 0 where
+  pub front : List ℕ
+  pub spelling : List ℕ
+  pub rest : List ℕ
+  pub instr : Instr
+  pub whole : i.bytes ≡ front ++ (spelling ++ rest)
+  pub read : Program i.target f instrs front
+  pub next : InstrSpells i.target f instr spelling
+  pub breaks : Breaks instr r.code
+  pub place : r.at ≡ i.at + length front
+
+-- behind the instructions stands what is no instruction, or one that breaks a rule
+abbrev pub FaultBehind : Factors → Input → List Instr → (Instr → Code → Type 0) → Refusal → Type 0
+FaultBehind f i instrs Breaks r = ProgramFault i.target f i.at i.bytes instrs r ⊎ BrokenBehind f i instrs Breaks r
+
+-- the first fault of a CIE's program
+abbrev pub CieFault : Factors → Input → Refusal → Type 0
+CieFault f cie r = (instrs : List Instr) × CieKept instrs × FaultBehind f cie instrs (CieBreaks instrs) r
+
+-- the first fault of an FDE's program that begins with this rule of the CFA
+abbrev pub FdeFault : Factors → CfaRule → Input → ℕ → Refusal → Type 0
+FdeFault f initial fde begin r =
+    (instrs : List Instr) × FdeKept (address_limit fde.target.size) begin initial instrs × FaultBehind f fde instrs (FdeBreaks (address_limit fde.target.size) begin initial instrs) r
+
+-- the first fault of both: that of the CIE's program, or where it has none, that of the FDE's behind its initial rules
+abbrev pub RunFault : Factors → Input → Input → ℕ → Refusal → Type 0
+RunFault f cie fde begin r =
+    CieFault f cie r ⊎ ((instrs : List Instr) × Program cie.target f instrs cie.bytes × CieKept instrs × FdeFault f (initial_cfa instrs) fde begin r)
+
+-- a run is refused exactly with the first fault
+abbrev pub RefusedWhereFault : Type 0
+RefusedWhereFault = (f : Factors) (cie fde : Input) (begin : ℕ) (r : Refusal) → AreBytes cie.bytes → AreBytes fde.bytes → begin ≤ address_limit fde.target.size
+    → ((run_rows f cie fde begin).fault ≡ Some r) ↔ RunFault f cie fde begin r
