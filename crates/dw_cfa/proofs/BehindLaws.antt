@@ -58,7 +58,7 @@ module _ (f : Factors) (initial : Rules) (fde : Input) (begin : ℕ) (rows : Lis
         holds = λ a k from counts.
             let so : CountsFrom begin [] (instrs_of items) a k = record { in_program = counts.in_program; stays = counts.stays; greatest = counts.greatest } in
             let found = rows_at initial begin a limit items [] (begun initial begin) k rows (begun_follows initial begin listed) from so gives in
-            (found.0, found.1, record { cfa = found.2.cfa; rules = found.2.rules });
+            (found.0, found.1, record { cfa = found.2.cfa; rules = found.2.rules; listed = found.2.listed });
       }
 
 pub behind_gives : BehindGives

@@ -345,8 +345,8 @@ refused_where_fault f cie fde begin r cb fb le = (run_refused f cie fde begin r 
 pub run_failed : (f : Factors) (cie fde : Input) (begin : ℕ) (first old new : Stepping) (rows : List LocatedRow) (e : RunError) → AreBytes cie.bytes → AreBytes fde.bytes → begin ≤ address_limit fde.target.size
     → first.outcome ≡ run_rows f cie fde begin → first.outcome ≡ rows_before rows old.outcome → old.error ≡ None → Failed old e new → RefusalIs e (RunFault f cie fde begin)
 run_failed f cie fde begin first old new rows OutOfMemory cb fb le begun before none failed = tt
-run_failed f cie fde begin first old new rows (Refused r) cb fb le begun before none (is, inl same) =
+run_failed f cie fde begin first old new rows (Refused r) cb fb le begun before none (is, over, inl same) =
     let error : None ≡ Some (Refused r) = sym none ∙ ap (λ (s : Stepping). s.error) same ∙ is in absurd cc
-run_failed f cie fde begin first old new rows (Refused r) cb fb le begun before none (is, inr at) =
+run_failed f cie fde begin first old new rows (Refused r) cb fb le begun before none (is, over, inr at) =
     let all : run_rows f cie fde begin ≡ rows_before rows (fails r) = sym begun ∙ before ∙ ap (rows_before rows) at.1 in
     run_refused f cie fde begin r cb fb le (ap (λ (o : Outcome). o.fault) all)

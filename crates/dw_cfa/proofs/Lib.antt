@@ -18,3 +18,5 @@ pub mod Divided
 pub mod Stops
 pub mod FaultLaws
 pub mod BehindLaws
+pub mod SameRows
+pub mod Counting

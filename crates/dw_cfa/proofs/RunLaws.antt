@@ -17,7 +17,7 @@ use Rattle.dw_cfa.specs.Rows.{Rules, rule, blank}
 use Rattle.dw_cfa.specs.Listing as plain
 use Rattle.dw_cfa.specs.Machine.{State, begun, after, fde_fault}
 use Rattle.dw_cfa.specs.Reading.{instr_at}
-use Rattle.dw_cfa.specs.Runs.{Placed, Placing, Outcome, finished, fails, placed, placed_by, cie_run, initial_row, on_initial, fde_rows, rows_left, run_rows, last_row, fault_or, row_if, row_then, here, ended, after_item, on_read, on_left}
+use Rattle.dw_cfa.specs.Runs.{Placed, Placing, Outcome, finished, fails, placed, placed_by, cie_run, initial_row, on_initial, fde_rows, rows_left, rows_behind, run_rows, last_row, fault_or, row_if, row_then, here, ended, after_item, on_read, on_left}
 use Rattle.dw_cfa.specs.declared.machine.Machine.{Machine}
 use Rattle.dw_cfa.specs.Steps.{state_of}
 use Rattle.dw_cfa.specs.declared.steps.Progress.{Progress}
@@ -106,6 +106,13 @@ given f cie fde begin rows e =
       follows = c.0;
       gives = subst (λ (o : Option Refusal). fde_rows (address_limit fde.target.size) p.0 (placed f fde).items o (begun p.0 begin) ≡ record { rows = rows; fault = None }) none p.2;
     }
+
+-- the two halves of a run that gives rows
+pub run_halves : (f : Factors) (cie fde : Input) (begin : ℕ) (rows : List LocatedRow) → run_rows f cie fde begin ≡ record { rows = rows; fault = None }
+    → (initial : Rules) × (initial_row (placed f cie) blank ≡ Ok initial) × (rows_behind f initial fde begin ≡ record { rows = rows; fault = None })
+unfolding run_rows rows_behind
+run_halves f cie fde begin rows e =
+    on_initial_ok (initial_row (placed f cie) blank) (λ initial. fde_rows (address_limit fde.target.size) initial (placed f fde).items (placed f fde).fault (begun initial begin)) rows e
 
 pub given_programs : GivenPrograms
 given_programs f cie fde begin rows h =

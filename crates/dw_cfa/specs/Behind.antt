@@ -29,6 +29,7 @@ pub record Leaves (f : Factors) (cie : Input) (instrs : List Instr) (row : Rules
 pub record HoldsBehind (initial : Rules) (instrs : List Instr) (k : ℕ) (row : Rules) : Type 0 where
   pub cfa : row.cfa ≡ cfa_after initial.cfa instrs k
   pub rules : (r : ℕ) → rule row r ≡ rule_after (rule initial r) instrs r k
+  pub listed : AreSpecified 0 row.registers
 
 -- a program of an FDE that keeps its rules, and the rows that it gives
 pub record GivesBehind (f : Factors) (initial : Rules) (fde : Input) (begin : ℕ) (instrs : List Instr) (rows : List LocatedRow) : Type 0 where

@@ -28,9 +28,9 @@ stepping current outcome = record { outcome = outcome; current = current; error 
 abbrev pub program_input : Program → Target → Input
 program_input p t = record { at = p.at; bytes = p.bytes.now; target = t }
 
--- an error was answered, now or before
+-- an error was answered, now or before, and no row is to come
 abbrev pub Failed : Stepping → RunError → Stepping → Type 0
-Failed old e new = (new.error ≡ Some e) × ((old ≡ new) ⊎ (old.error ≡ None) × RefusalIs e (λ r. old.outcome ≡ fails r))
+Failed old e new = (new.error ≡ Some e) × (new.outcome ≡ finished) × ((old ≡ new) ⊎ (old.error ≡ None) × RefusalIs e (λ r. old.outcome ≡ fails r))
 
 -- there is no row any more
 abbrev pub Ended : Stepping → Stepping → Type 0

@@ -24,4 +24,10 @@ pub use steps::{RowSteps, initial_row};
 #[cfg(test)]
 mod tests_instructions;
 #[cfg(test)]
+mod tests_lent;
+#[cfg(test)]
+mod tests_limits;
+#[cfg(test)]
+mod tests_machine;
+#[cfg(test)]
 mod tests_run;

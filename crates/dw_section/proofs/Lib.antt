@@ -5,3 +5,14 @@ pub mod Stages
 pub mod HeaderLaws
 pub mod FirstFault
 pub mod Index
+pub mod Cfa
+pub mod Heads
+pub mod Covered
+pub mod CheckFirst
+pub mod Judged
+pub mod Ordered
+pub mod Tables
+pub mod Lookups
+pub mod RowLookup
+pub mod ChangeLaws
+pub mod Counts

@@ -145,7 +145,7 @@ fn headers_of<'a>(
     Ok(headers)
 }
 
-fn all_headers<'a>(
+pub(crate) fn all_headers<'a>(
     alloc: Global,
     bytes: &'a [u8],
     target: Target,

@@ -5,14 +5,25 @@
 //! Read `specs/Cut.antt` first, which says what a division of a section is, and then `specs/Headers.antt`.
 #![tactic(auto)]
 
+mod changing;
+mod counting;
 mod cutting;
 mod error;
 mod fields;
 mod heading;
+mod indexing;
+mod judging;
+mod lookup;
+mod table;
 
+pub use changing::Changes;
 pub use cutting::{Entry, Kind, entries, one_cut, one_cut_fault};
 pub use error::SectionError;
 pub use heading::{Header, headers, one_first_fault, one_order};
+pub use lookup::{Fde, FdeRef, Fdes};
+pub use table::{Table, check, one_check_fault};
 
 #[cfg(test)]
 mod tests;
+#[cfg(test)]
+mod tests_check;

@@ -2,11 +2,13 @@
 
 ghost use Rattle.std.specs.Prelude.{◌≤◌};
 
+use crate::check::run_check;
 use crate::entries::run_entries;
 use crate::expr::run_expr;
 use crate::failure::Failure;
 use crate::files::Load;
 use crate::plan::{Job, Task, plan};
+use crate::rows::run_rows;
 use std::alloc::Global;
 use std::io::Write;
 
@@ -18,8 +20,10 @@ fn run<'a, L: Load, W: Write>(
 ) -> Result<(), Failure<'a>> {
     let Job { target, task } = plan(alloc, words)?;
     match task {
+        Task::Check { path } => run_check(alloc, target, path, files, out),
         Task::Entries { path } => run_entries(alloc, target, path, files, out),
         Task::Expr { profile, block } => run_expr(alloc, target, profile, &block, out),
+        Task::Rows { path } => run_rows(alloc, target, path, files, out),
     }
 }
 

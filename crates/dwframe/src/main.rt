@@ -4,12 +4,15 @@
 //! ones. Read `plan.rt` for what the words may say, and then the file of a subcommand.
 #![tactic(auto)]
 
+mod check;
 mod engine;
 mod entries;
 mod expr;
 mod failure;
 mod files;
 mod plan;
+mod row_text;
+mod rows;
 mod texts;
 
 use engine::engine;
@@ -47,3 +50,5 @@ fn main(rt: HostRuntime) -> ExitCode {
 
 #[cfg(test)]
 mod tests;
+#[cfg(test)]
+mod tests_rows;

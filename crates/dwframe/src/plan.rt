@@ -16,8 +16,10 @@ pub struct Job<'a> {
 
 /// A subcommand with its own options and operands.
 pub enum Task<'a> {
+    Check { path: &'a str },
     Entries { path: &'a str },
     Expr { profile: Profile, block: Vec<u8> },
+    Rows { path: &'a str },
 }
 
 fn option<'a>(alloc: Global, name: &'a str) -> Arg<'a> {
@@ -43,14 +45,18 @@ fn flag<'a>(alloc: Global, name: &'a str) -> Arg<'a> {
 }
 
 fn command<'a>(alloc: Global) -> Result<Command<'a>, AllocError> {
+    let check = subcommand(alloc, "check")?.arg(operand(alloc, "FILE"))?;
     let entries = subcommand(alloc, "entries")?.arg(operand(alloc, "FILE"))?;
     let expr = subcommand(alloc, "expr")?
         .arg(flag(alloc, "frame"))?
         .arg(operand(alloc, "HEX"))?;
+    let rows = subcommand(alloc, "rows")?.arg(operand(alloc, "FILE"))?;
     Command::new(alloc, "dwframe")
         .subcommand_required(true)
+        .subcommand(check)?
         .subcommand(entries)?
-        .subcommand(expr)
+        .subcommand(expr)?
+        .subcommand(rows)
 }
 
 fn size_of_text(text: &str) -> Option<Size> {
@@ -79,9 +85,8 @@ fn target_of<'a>(matches: &ArgMatches<'_>) -> Result<Target, Failure<'a>> {
     Ok(Target { size, order })
 }
 
-fn entries_task<'a>(matches: &ArgMatches<'a>) -> Result<Task<'a>, Failure<'a>> {
-    let path = matches.get_str("FILE").ok_or(Failure::BadValue("FILE"))?;
-    Ok(Task::Entries { path })
+fn file_of<'a>(matches: &ArgMatches<'a>) -> Result<&'a str, Failure<'a>> {
+    matches.get_str("FILE").ok_or(Failure::BadValue("FILE"))
 }
 
 fn expr_task<'a>(alloc: Global, matches: &ArgMatches<'a>) -> Result<Task<'a>, Failure<'a>> {
@@ -113,7 +118,15 @@ pub fn plan<'a>(alloc: Global, words: &'a [String]) -> Result<Job<'a>, Failure<'
     };
     let target = target_of(matches)?;
     let task = match name {
-        "entries" => entries_task(matches)?,
+        "check" => Task::Check {
+            path: file_of(matches)?,
+        },
+        "entries" => Task::Entries {
+            path: file_of(matches)?,
+        },
+        "rows" => Task::Rows {
+            path: file_of(matches)?,
+        },
         _ => expr_task(alloc, matches)?,
     };
     Ok(Job { target, task })

@@ -1,0 +1,130 @@
+#!/usr/bin/env python3
+"""Writes small sections that cost a careless reader time or memory that grows faster than their bytes.
+
+    bombs.py DIR [SCALE]
+
+They are DIR/bomb-NAME.bin, of size 8, little. SCALE multiplies their counts. All but `remember`, which is refused with
+StateStackFull, are accepted.
+"""
+import argparse
+import pathlib
+import struct
+
+from synth import Writer, uleb
+
+WRITER = Writer(8, "little")
+CIE = WRITER.cie()
+
+
+def fde(program, begin=0x1000, length=0x10000, cie_at=0):
+    return WRITER.fde(cie_at, begin, length, program)
+
+
+def offset(register, factored):
+    """The rule of a register: CFA plus so many times the data factor."""
+    return b"\x05" + uleb(register) + uleb(factored)
+
+
+def block(operations):
+    return uleb(len(operations)) + operations
+
+
+def remember(scale):
+    """One FDE of 200,000 remember_state."""
+    return CIE + fde(b"\x0a" * scale(200_000))
+
+
+def long_cie(scale):
+    """A CIE program of 200,000 nops under 20,000 FDEs: 4e9 steps, if it is run again for each."""
+    fdes = [fde(b"", 0x1000 + 16 * i, 16) for i in range(scale(20_000))]
+    return WRITER.cie(b"\0" * scale(200_000)) + b"".join(fdes)
+
+
+def wide_rows(scale):
+    """60,000 registers, and then 1,000 rows that change one each."""
+    registers = [offset(register, 1) for register in range(100, 100 + scale(60_000))]
+    changes = [b"\x41" + offset(100 + i, 2) for i in range(scale(1_000))]
+    return CIE + fde(b"".join(registers + changes))
+
+
+def push_pop(scale):
+    """20,000 registers, and then 50,000 pairs of remember_state and restore_state."""
+    registers = [offset(register, 1) for register in range(100, 100 + scale(20_000))]
+    return CIE + fde(b"".join(registers) + b"\x0a\x0b" * scale(50_000))
+
+
+def descending_registers(scale):
+    """60,000 registers, the last one first."""
+    registers = [offset(register, 1) for register in range(100 + scale(60_000), 100, -1)]
+    return CIE + fde(b"".join(registers))
+
+
+def many_cies(scale):
+    """50,000 CIEs, and 50,000 FDEs that name late ones."""
+    count = scale(50_000)
+    last = (count - 1) * len(CIE)
+    near = min(count, 1_000)
+    fdes = [fde(b"", 0x1000 + 16 * i, 16, last - i % near * len(CIE)) for i in range(count)]
+    return CIE * count + b"".join(fdes)
+
+
+def padded_number(scale):
+    """An operand that is padded to 2,000,000 bytes."""
+    return CIE + fde(b"\x0e\x90" + b"\x80" * scale(2_000_000) + b"\0")
+
+
+def long_expression(scale):
+    """An expression of 400,001 operations, of which 100,000 are branches."""
+    return CIE + fde(b"\x0f" + block(b"\x30" + b"\x30\x28\x00\x00\x96\x96" * scale(100_000)))
+
+
+def far_branches(scale):
+    """8,000 branches that each go back to the first operation."""
+    branches = [b"\x30\x28" + struct.pack("<h", -4 * i - 4) for i in range(scale(8_000))]
+    return CIE + fde(b"\x16\x03" + block(b"\x30" + b"".join(branches)))
+
+
+def rows_of_expressions(scale):
+    """500 registers of 51 operations each, and then 2,000 rows."""
+    expression = block(b"\x70\x00" * 50 + b"\x96")
+    registers = [b"\x10" + uleb(100 + i) + expression for i in range(scale(500))]
+    changes = [b"\x41" + offset(3, 1 + i % 2) for i in range(scale(2_000))]
+    return CIE + fde(b"".join(registers + changes))
+
+
+BOMBS = [
+    remember,
+    long_cie,
+    wide_rows,
+    push_pop,
+    descending_registers,
+    many_cies,
+    padded_number,
+    long_expression,
+    far_branches,
+    rows_of_expressions,
+]
+
+
+def write_bombs(folder, scale):
+    """Writes each bomb, and answers their names and paths."""
+    paths = {}
+    for bomb in BOMBS:
+        name = bomb.__name__.replace("_", "-")
+        paths[name] = pathlib.Path(folder) / f"bomb-{name}-{scale:g}.bin"
+        paths[name].write_bytes(bomb(lambda count: max(1, int(count * scale))))
+    return paths
+
+
+def main():
+    words = argparse.ArgumentParser(description=__doc__, formatter_class=argparse.RawDescriptionHelpFormatter)
+    words.add_argument("folder")
+    words.add_argument("scale", type=float, nargs="?", default=1)
+    asked = words.parse_args()
+    pathlib.Path(asked.folder).mkdir(parents=True, exist_ok=True)
+    for name, path in write_bombs(asked.folder, asked.scale).items():
+        print(f"{path}: {path.stat().st_size} bytes")
+
+
+if __name__ == "__main__":
+    main()

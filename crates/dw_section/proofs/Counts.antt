@@ -1,0 +1,87 @@
+-- The rows that programs start.
+use Rattle.std.proofs.Common.{◌≡◌, ℕ, zero, suc, ◌+◌, ◌<◌, ◌≤◌, cond, List, [], ◌∷◌, ◌++◌, length, take, get_or, refl, sym, ap, ◌∙◌, arith}
+use Rattle.std.specs.Prelude.{count_by}
+use Rattle.std.specs.List.{AllZip}
+use Rattle.std.proofs.lemmas.List.{length-append, take_more}
+use Rattle.std.proofs.lemmas.List.Sums.{sum_by-cons}
+use Rattle.dw_num.specs.declared.target.Order.{Order}
+use Rattle.dw_num.specs.declared.target.Target.{Target}
+use Rattle.dw_cfa.specs.declared.instr.Factors.{Factors}
+use Rattle.dw_cfa.specs.declared.instr.Instr.{Instr}
+use Rattle.dw_cfa.specs.InstrSpells.{Program}
+use Rattle.dw_cfa.specs.Listing.{Listing, answers, complete}
+use Rattle.dw_cfa.specs.Location.{moves_location, row_starts}
+use Rattle.dw_cfa.proofs.Listings.{some_spelled}
+use Rattle.dw_section.specs.Counted.{moves_in}
+use Rattle.dw_section.specs.Cut.{Item, gap, entry, Piece, pieces, item_bytes, all_bytes}
+use Rattle.dw_section.specs.Headers.{Head, cie, fde, Has, Headers}
+use Rattle.dw_section.specs.Meaning.{total}
+use Rattle.dw_section.specs.Overlap.{nonempty}
+use Rattle.dw_section.specs.Places.{cie_places}
+use Rattle.dw_section.proofs.Items.{item_some}
+
+-- ---- one program
+
+moves_complete : (instrs : List Instr) → moves_in (answers (complete instrs)) ≡ count_by moves_location instrs
+moves_complete [] = refl
+moves_complete (i ∷ instrs) = ap (λ (n : ℕ). cond (moves_location i) 1 0 + n) (moves_complete instrs) ∙ sym (sum_by-cons (λ (x : Instr). cond (moves_location x) 1 0) i instrs)
+
+length_complete : (instrs : List Instr) → length (answers (complete instrs)) ≡ length instrs
+length_complete [] = refl
+length_complete (i ∷ instrs) = ap suc (length_complete instrs)
+
+program_few : (t : Target) (f : Factors) (instrs : List Instr) (bytes : List ℕ) → Program t f instrs bytes → length instrs ≤ length bytes
+program_few t f [] bytes p = omega arith
+program_few t f (i ∷ instrs) bytes p =
+    let first = some_spelled t f i p.front p.first in
+    let rest = program_few t f instrs p.back p.second in
+    let all = ap length p.whole ∙ length-append p.front p.back in
+    omega arith
+
+pub answers_few : (t : Target) (f : Factors) (instrs : List Instr) (bytes : List ℕ) (l : Listing) → Program t f instrs bytes → l ≡ complete instrs → length bytes ≤ 2147483647 → length (answers l) ≤ 2147483647
+answers_few t f instrs bytes l p e le = let few = program_few t f instrs bytes p in let same : length (answers l) ≡ length instrs = ap (λ (x : Listing). length (answers x)) e ∙ length_complete instrs in omega arith
+
+pub starts_so : (instrs : List Instr) (l : Listing) (n : ℕ) → l ≡ complete instrs → n ≡ 1 + moves_in (answers l) → n ≡ row_starts instrs
+starts_so instrs l n e is = is ∙ ap (λ (x : Listing). 1 + moves_in (answers x)) e ∙ ap (λ (m : ℕ). 1 + m) (moves_complete instrs)
+
+-- ---- sums
+
+pub total_push : (ns : List ℕ) (n : ℕ) → total (ns ++ n ∷ []) ≡ total ns + n
+total_push [] n = omega arith
+total_push (m ∷ ns) n = let rest = total_push ns n in omega arith
+
+-- ---- a section has few entries
+
+pieces_few : (order : Order) (at : ℕ) (items : List Item) → length (pieces order at items) ≤ length (all_bytes order items)
+pieces_few order at [] = omega arith
+pieces_few order at (gap ∷ items) = let rest = pieces_few order (at + 4) items in let all = length-append (item_bytes order gap) (all_bytes order items) in omega arith
+pieces_few order at (entry form body ∷ items) =
+    let item = entry form body in
+    let rest = pieces_few order (at + length (item_bytes order item)) items in
+    let all = length-append (item_bytes order item) (all_bytes order items) in
+    let some = item_some order item in
+    omega arith
+
+same_length : (target : Target) (places : List ℕ) (ps : List Piece) (hs : List Head) → AllZip (Has target places) ps hs → length hs ≡ length ps
+same_length target places [] [] z = refl
+same_length target places [] (h ∷ hs) z = absurd z
+same_length target places (p ∷ ps) [] z = absurd z
+same_length target places (p ∷ ps) (h ∷ hs) z = ap suc (same_length target places ps hs z.1)
+
+nonempty_few : (hs : List Head) → length (nonempty hs) ≤ length hs
+nonempty_few [] = omega arith
+nonempty_few (cie at form c d register program ∷ hs) = let p = nonempty_few hs in omega arith
+nonempty_few (fde at form cie_at begin zero program ∷ hs) = let p = nonempty_few hs in omega arith
+nonempty_few (fde at form cie_at begin (suc n) program ∷ hs) = let p = nonempty_few hs in omega arith
+
+pub few_ranges : (target : Target) (s : List ℕ) (hs : List Head) → Headers target s hs → length (nonempty hs) ≤ 2147483647
+few_ranges target s hs p =
+    let a = nonempty_few hs in
+    let b = same_length target (cie_places p.entries) p.entries hs p.each in
+    let c = pieces_few target.order 0 p.cut.items in
+    let d = ap length p.cut.are in
+    let e = ap length p.cut.cut.whole in
+    omega (arith, p.cut.small)
+
+pub take_next : {X : Type 0} (xs : List X) (i : ℕ) (x : X) → i < length xs → x ≡ get_or xs i x → take (i + 1) xs ≡ take i xs ++ x ∷ []
+take_next xs i x lt is = take_more xs i x lt ∙ ap (λ y. take i xs ++ y ∷ []) (sym is)

@@ -1,0 +1,140 @@
+-- Which instructions count at an address, and where rows leave one without a rule for the CFA.
+use Rattle.std.proofs.Common.{◌≡◌, ℕ, zero, suc, ◌<◌, ◌≤◌, ◌⊎◌, Bool, true, false, List, [], ◌∷◌, length, Option, Some, None, refl, sym, subst, ◌∙◌, arith, inl, inr}
+use Rattle.std.specs.Prelude.{nat_lt, nat_le, ◌&&◌, ◌||◌}
+use Rattle.std.proofs.lemmas.Bool.{cases_lt, le-leb, lt-ltb, le-ltb}
+use Rattle.std.proofs.lemmas.Bool.Decides.{leb_tells}
+use Rattle.dw_cfa.specs.declared.instr.Instr.{Instr}
+use Rattle.dw_cfa.specs.declared.rule.CfaRule.{CfaRule}
+use Rattle.dw_cfa.specs.declared.rule.CfaRule.TheVariants as cfa
+use Rattle.dw_cfa.specs.declared.rule.CfaRule.TheVariants.{Unset}
+use Rattle.dw_cfa.specs.declared.running.LocatedRow.{LocatedRow}
+use Rattle.dw_cfa.specs.Location.{location, StaysAt, Counts}
+use Rattle.dw_cfa.specs.RuleAt.{or_here, last_at, NeverFalls}
+use Rattle.dw_cfa.specs.Rows.{Rules}
+use Rattle.dw_section.specs.Covered.{is_unset, leaves_one, lacks_from}
+
+lt_tells : (m n : ℕ) → ((nat_lt m n ≡ true) × (m < n)) ⊎ ((nat_lt m n ≡ false) × (n ≤ m))
+lt_tells m n = elim (cases_lt m n) [ inl lt ↦ inl (lt-ltb m n lt, lt) | inr le ↦ inr (le-ltb m n le, le) ]
+
+-- ---- what counts
+
+-- the location stays up to n, or passes a behind a first k
+scan : (begin : ℕ) (instrs : List Instr) (a n : ℕ) → begin ≤ a → StaysAt begin instrs a n ⊎ ((k : ℕ) × (k < n) × StaysAt begin instrs a k × (a < location begin instrs (suc k)))
+scan begin instrs a zero le = inl first
+  where
+    first : (j : ℕ) → j ≤ 0 → location begin instrs j ≤ a
+    first zero lt = le
+    first (suc j) lt = absurd (omega arith)
+scan begin instrs a (suc n) le = elim (scan begin instrs a n le) [
+  | inl stays ↦ elim (cases_lt a (location begin instrs (suc n))) [
+    | inl past ↦ inr (n, omega arith, stays, past)
+    | inr within ↦ inl (λ j lt. elim (cases_lt j (suc n)) [
+      | inl less ↦ stays j (omega arith)
+      | inr more ↦ let e : j ≡ suc n = omega arith in subst (λ (m : ℕ). location begin instrs m ≤ a) (sym e) within
+    ])
+  ]
+  | inr found ↦ inr (found.0, omega (arith, found.1), found.2, found.3)
+]
+
+-- at each address from begin on some instructions count
+pub counts_exists : (begin : ℕ) (instrs : List Instr) (a : ℕ) → begin ≤ a → (k : ℕ) × Counts begin instrs a k
+counts_exists begin instrs a le = elim (scan begin instrs a (length instrs) le) [
+  | inl stays ↦ (length instrs, record { in_program = omega arith; stays = stays; greatest = λ n lt all. lt })
+  | inr found ↦ (
+    found.0,
+    record {
+      in_program = omega (arith, found.1);
+      stays = found.2;
+      greatest = λ n lt all. elim (cases_lt found.0 n) [
+        | inl more ↦ let within : location begin instrs (suc found.0) ≤ a = all (suc found.0) (omega arith) in absurd (omega (arith, found.3))
+        | inr less ↦ less
+      ];
+    },
+  )
+]
+
+-- ---- the row of an address
+
+-- whether the row of an address has no rule for the CFA; before the first row it is the one before
+abbrev pub unset_in : Bool → Option Rules → Bool
+unset_in unset None = unset
+unset_in unset (Some row) = is_unset row.cfa
+
+or_below : (a : ℕ) (first : LocatedRow) (unset : Bool) (rest : Option Rules) → first.location ≤ a → unset_in unset (or_here a first rest) ≡ unset_in (is_unset first.row.cfa) rest
+or_below a first unset None le = rw (le-leb first.location a le) refl
+or_below a first unset (Some row) le = refl
+
+above : (m n : ℕ) → n < m → nat_le m n ≡ false
+above m n lt = elim (leb_tells m n) [ inl p ↦ absurd (omega (arith, p.1)) | inr p ↦ p.0 ]
+
+pub none_before : (a low : ℕ) (rows : List LocatedRow) → a < low → NeverFalls low rows → last_at a rows ≡ None
+none_before a low [] past up = refl
+none_before a low (row ∷ rows) past up =
+    let first : low ≤ row.location = up.0 in
+    let none = none_before a row.location rows (omega arith) up.1 in
+    rw (none, above row.location a (omega arith)) refl
+
+or_true : (x y : Bool) → (x || y) ≡ true → (x ≡ true) ⊎ (y ≡ true)
+or_true true y e = inl refl
+or_true false y e = inr e
+
+or_false : (x y : Bool) → (x || y) ≡ false → (x ≡ false) × (y ≡ false)
+or_false true y e = absurd cc
+or_false false y e = (refl, e)
+
+left_true : (end low location : ℕ) (unset : Bool) → leaves_one end low unset location ≡ true → (unset ≡ true) × (low < location) × (low < end)
+left_true end low location false e = absurd cc
+left_true end low location true e = elim (lt_tells low location) [
+  | inl p ↦ elim (lt_tells low end) [
+    | inl q ↦ (refl, p.1, q.1)
+    | inr q ↦ absurd (let z = rw (p.0, q.0) at e in cc)
+  ]
+  | inr p ↦ absurd (let z = rw (p.0) at e in cc)
+]
+
+left_false : (end low location : ℕ) (unset : Bool) → low < location → low < end → leaves_one end low unset location ≡ false → unset ≡ false
+left_false end low location false lt le e = refl
+left_false end low location true lt le e = absurd (let z = rw (lt-ltb low location lt, lt-ltb low end le) at e in cc)
+
+last_true : (end low : ℕ) (unset : Bool) → (unset && nat_lt low end) ≡ true → (unset ≡ true) × (low < end)
+last_true end low false e = absurd cc
+last_true end low true e = elim (lt_tells low end) [ inl p ↦ (refl, p.1) | inr p ↦ absurd (let z = rw (p.0) at e in cc) ]
+
+last_false : (end low : ℕ) (unset : Bool) → low < end → (unset && nat_lt low end) ≡ false → unset ≡ false
+last_false end low false lt e = refl
+last_false end low true lt e = absurd (let z = rw (lt-ltb low end lt) at e in cc)
+
+-- where rows leave an address without a rule, its row has none
+pub lacks_found : (end low : ℕ) (unset : Bool) (rows : List LocatedRow) → NeverFalls low rows → lacks_from end low unset rows ≡ true
+    → (a : ℕ) × (low ≤ a) × (a < end) × (unset_in unset (last_at a rows) ≡ true)
+lacks_found end low unset [] up e = let p = last_true end low unset e in (low, omega arith, p.1, p.0)
+lacks_found end low unset (row ∷ rows) up e = elim (or_true (leaves_one end low unset row.location) (lacks_from end row.location (is_unset row.row.cfa) rows) e) [
+  | inl here ↦
+      let p = left_true end low row.location unset here in
+      let none = none_before low row.location rows p.1 up.1 in
+      (low, omega arith, p.2, rw (none, above row.location low p.1) p.0)
+  | inr later ↦
+      let q = lacks_found end row.location (is_unset row.row.cfa) rows up.1 later in
+      (q.0, omega (arith, up.0, q.1), q.2, or_below q.0 row unset (last_at q.0 rows) q.1 ∙ q.3)
+]
+
+-- where they leave none, each has one
+pub lacks_none : (end low : ℕ) (unset : Bool) (rows : List LocatedRow) → NeverFalls low rows → lacks_from end low unset rows ≡ false
+    → (a : ℕ) → low ≤ a → a < end → unset_in unset (last_at a rows) ≡ false
+lacks_none end low unset [] up e a le lt = last_false end low unset (omega arith) e
+lacks_none end low unset (row ∷ rows) up e a le lt =
+    let p = or_false (leaves_one end low unset row.location) (lacks_from end row.location (is_unset row.row.cfa) rows) e in
+    elim (cases_lt a row.location) [
+      | inl before ↦
+          let none = none_before a row.location rows before up.1 in
+          rw (none, above row.location a before) (left_false end low row.location unset (omega arith) (omega arith) p.0)
+      | inr behind ↦ or_below a row unset (last_at a rows) behind ∙ lacks_none end row.location (is_unset row.row.cfa) rows up.1 p.1 a behind lt
+    ]
+
+pub unset_is : (c : CfaRule) → is_unset c ≡ true → c ≡ Unset
+unset_is Unset e = refl
+unset_is (cfa.Register r n) e = absurd cc
+unset_is (cfa.Expression x) e = absurd cc
+
+pub is_unset_of : (c : CfaRule) → c ≡ Unset → is_unset c ≡ true
+is_unset_of c e = rw e refl

@@ -1,0 +1,188 @@
+-- What running programs tells of headers.
+use Rattle.std.proofs.Common.{◌≡◌, ℕ, zero, suc, ◌+◌, ◌<◌, ◌≤◌, Bool, true, false, List, [], ◌∷◌, ◌++◌, map, length, get_or, take, drop, Option, Some, None, refl, sym, ap, subst, ◌∙◌, append_assoc, arith, inl, inr}
+use Rattle.std.specs.Prelude.{nat_lt}
+use Rattle.std.specs.List.{AllByRecursion}
+use Rattle.std.specs.List.Sorted.{IsNonDecreasingBy}
+use Rattle.std.proofs.lemmas.Bool.{ltb-true, ltb-false}
+use Rattle.std.proofs.lemmas.Bool.Decides.{eqb_tells}
+use Rattle.std.proofs.lemmas.List.{append-nil, map-append}
+use Rattle.std.proofs.lemmas.List.Elements.{filter_map-append}
+use Rattle.dw_num.specs.declared.refusal.Refusal.{Refusal}
+use Rattle.dw_num.specs.declared.target.Target.{Target}
+use Rattle.dw_cfa.specs.declared.running.RunError.{RunError}
+use Rattle.dw_cfa.specs.declared.running.RunError.TheVariants as run
+use Rattle.dw_num.specs.declared.refusal.Code.TheVariants.{NoCfaRule}
+use Rattle.dw_num.specs.declared.target.Form.{Form}
+use Rattle.dw_num.specs.Input.{Input}
+use Rattle.dw_num.specs.Span.{Span, span_of}
+use Rattle.dw_num.specs.Target.{address_limit}
+use Rattle.dw_cfa.specs.declared.instr.Instr.{Instr}
+use Rattle.dw_cfa.specs.declared.rule.CfaRule.{CfaRule}
+use Rattle.dw_cfa.specs.declared.rule.CfaRule.TheVariants.{Unset}
+use Rattle.dw_cfa.specs.declared.running.LocatedRow.{LocatedRow}
+use Rattle.dw_cfa.specs.Behind.{GivesBehind}
+use Rattle.dw_cfa.specs.Column.{cfa_after}
+use Rattle.dw_cfa.specs.Faults.{FdeFault}
+use Rattle.dw_cfa.specs.Kept.{FdeKept}
+use Rattle.dw_cfa.specs.Laws.{initial_cfa}
+use Rattle.dw_cfa.specs.Location.{Counts}
+use Rattle.dw_section.specs.Covered.{is_unset, lacks_from}
+use Rattle.dw_cfa.specs.declared.instr.Factors.{Factors}
+use Rattle.dw_cfa.specs.Rows.{Rules}
+use Rattle.dw_cfa.specs.Runs.{RefusalIs, Outcome, rows_behind}
+use Rattle.dw_cfa.specs.Stepping.{Stepping, stepping}
+use Rattle.dw_section.specs.declared.error.SectionError.{SectionError}
+use Rattle.dw_section.specs.declared.error.SectionError.TheVariants.{Refused, OutOfMemory}
+use Rattle.dw_section.specs.declared.judging.Initial.{Initial}
+use Rattle.dw_section.specs.FdeFields.{is_among}
+use Rattle.dw_section.specs.Faults.{Refuses}
+use Rattle.dw_section.specs.declared.heading.Header.{Header}
+use Rattle.dw_section.specs.Headers.{Head, cie, fde, head_in}
+use Rattle.dw_section.specs.Heads.{head_at, cie_at_of, cie_ats}
+use Rattle.dw_section.specs.Initials.{of_run, or_place, place_of, IsInitial, AreInitials, HasOrLacks, FirstLacking}
+use Rattle.dw_section.specs.Places.{Rises}
+use Rattle.dw_section.specs.Programs.{input_of, IsAmong, Begins, Instrs, CieRuns, FdeRuns, FdeBroken, HasRules, LacksRule}
+use Rattle.dw_section.proofs.Covered.{counts_exists, lacks_found, lacks_none, unset_is, is_unset_of}
+use Rattle.dw_section.proofs.Heads.{is_among_head}
+use Rattle.dw_section.proofs.Stages.{all_push, parts}
+
+-- ---- errors
+
+pub refused_by : (e : RunError) (P Q : Refusal → Type 0) → ((r : Refusal) → P r → Q r) → RefusalIs e P → Refuses Q (of_run e)
+refused_by (run.Refused r) P Q to h = to r h
+refused_by run.OutOfMemory P Q to h = tt
+
+pub refuses_by : (e : SectionError) (P Q : Refusal → Type 0) → ((r : Refusal) → P r → Q r) → Refuses P e → Refuses Q e
+refuses_by (Refused r) P Q to h = to r h
+refuses_by OutOfMemory P Q to h = tt
+
+-- ---- what is kept of CIEs
+
+pub initials_cie : (target : Target) (hs front : List Head) (cs : List Initial) (h : Head) (c : Initial) → AreInitials target hs front cs → CieRuns target h → cie_at_of h ≡ Some c.at → IsInitial target hs c
+    → AreInitials target hs (front ++ h ∷ []) (cs ++ c ∷ [])
+initials_cie target hs front cs h c w runs place is = record {
+  run = all_push (CieRuns target) front h w.run runs;
+  places = rw (map-append, filter_map-append, w.places, place) refl;
+  each = all_push (IsInitial target hs) cs c w.each is;
+}
+
+pub initials_fde : (target : Target) (hs front : List Head) (cs : List Initial) (h : Head) → AreInitials target hs front cs → CieRuns target h → cie_at_of h ≡ None → AreInitials target hs (front ++ h ∷ []) cs
+initials_fde target hs front cs h w runs place = record {
+  run = all_push (CieRuns target) front h w.run runs;
+  places = rw (filter_map-append, w.places, place) (sym (append-nil (cie_ats front)));
+  each = w.each;
+}
+
+-- ---- the search among them
+
+low_among : (low n : ℕ) (xs : List ℕ) → Rises low xs → is_among n xs ≡ true → low ≤ n
+low_among low n [] up e = absurd cc
+low_among low n (x ∷ xs) up e = elim (eqb_tells x n) [
+  | inl is ↦ omega (arith, up.0, is.1)
+  | inr not ↦ let rest : is_among n xs ≡ true = rw (not.0) at e in let p = low_among x n xs up.1 rest in omega (arith, up.0)
+]
+
+from_low : (low : ℕ) (cs : List Initial) (j : ℕ) (d : Initial) → Rises low (map place_of cs) → j < length cs → low ≤ (get_or cs j d).at
+from_low low [] j d up lt = absurd (omega arith)
+from_low low (c ∷ cs) zero d up lt = up.0
+from_low low (c ∷ cs) (suc j) d up lt = let p = from_low c.at cs j d up.1 (omega arith) in omega (arith, up.0)
+
+pub initials_ascend : (low : ℕ) (cs : List Initial) → Rises low (map place_of cs) → IsNonDecreasingBy place_of cs
+initials_ascend low [] up i j d le lt = absurd (omega arith)
+initials_ascend low (c ∷ cs) up zero zero d le lt = omega arith
+initials_ascend low (c ∷ cs) up zero (suc j) d le lt = from_low c.at cs j d up.1 (omega arith)
+initials_ascend low (c ∷ cs) up (suc i) zero d le lt = absurd (omega arith)
+initials_ascend low (c ∷ cs) up (suc i) (suc j) d le lt = initials_ascend c.at cs up.1 i j d (omega arith) (omega arith)
+
+pub found_initial : (place low : ℕ) (cs : List Initial) (i : ℕ) → Rises low (map place_of cs) → is_among place (map place_of cs) ≡ true
+    → ((k : ℕ) (d : Initial) → k < i → nat_lt (get_or cs k d).at place ≡ true) → ((k : ℕ) (d : Initial) → i ≤ k → k < length cs → nat_lt (get_or cs k d).at place ≡ false)
+    → (i < length cs) × ((d : Initial) → (get_or cs i d).at ≡ place)
+found_initial place low [] i up among below above = absurd cc
+found_initial place low (c ∷ cs) zero up among below above =
+    let at = ltb-false c.at place (above 0 c (omega arith) (omega arith)) in
+    let same : c.at ≡ place = elim (eqb_tells c.at place) [
+      | inl is ↦ is.1
+      | inr not ↦ let rest : is_among place (map place_of cs) ≡ true = rw (not.0) at among in let p = low_among c.at place (map place_of cs) up.1 rest in omega arith
+    ] in
+    (omega arith, λ d. same)
+found_initial place low (c ∷ cs) (suc i) up among below above =
+    let at = ltb-true c.at place (below 0 c (omega arith)) in
+    let rest : is_among place (map place_of cs) ≡ true = elim (eqb_tells c.at place) [
+      | inl is ↦ let e = is.1 in absurd (omega arith)
+      | inr not ↦ rw (not.0) at among
+    ] in
+    let q = found_initial place c.at cs i up.1 rest (λ k d lt. below (suc k) d (omega arith)) (λ k d le lt. above (suc k) d (omega arith) (omega arith)) in
+    (omega (arith, q.0), q.1)
+
+pub all_get : {X : Type 0} (P : X → Type 0) (xs : List X) (i : ℕ) (d : X) → AllByRecursion P xs → i < length xs → P (get_or xs i d)
+all_get P [] i d h lt = absurd (omega arith)
+all_get P (x ∷ xs) zero d h lt = h.0
+all_get P (x ∷ xs) (suc i) d h lt = all_get P xs i d h.1 (omega arith)
+
+-- ---- a header of a list is among them
+
+pub item_among : (xs : List Header) (i : ℕ) (x : Header) → i < length xs → x ≡ get_or xs i x → IsAmong (head_in x) (map head_in xs)
+item_among xs i x lt is = subst (IsAmong (head_in x)) (sym (parts head_in xs i x lt is)) (is_among_head (map head_in (take i xs)) (head_in x) (map head_in (drop (i + 1) xs)))
+
+-- ---- the rows of an FDE's program
+
+pub steps_fault : (steps : Stepping) (row initial : Rules) (f : Factors) (i : Input) (begin : ℕ) (r : Refusal) → steps ≡ stepping row (rows_behind f row i begin) → row ≡ initial
+    → steps.outcome.fault ≡ Some r → (rows_behind f initial i begin).fault ≡ Some r
+steps_fault steps row initial f i begin r e same h = ap (λ (x : Rules). (rows_behind f x i begin).fault) (sym same) ∙ ap (λ (s : Stepping). s.outcome.fault) (sym e) ∙ h
+
+pub steps_rows : (steps : Stepping) (row initial : Rules) (f : Factors) (i : Input) (begin : ℕ) → steps ≡ stepping row (rows_behind f row i begin) → row ≡ initial
+    → steps.outcome.fault ≡ None → rows_behind f initial i begin ≡ record { rows = steps.outcome.rows; fault = None }
+steps_rows steps row initial f i begin e same h =
+    ap (λ (x : Rules). rows_behind f x i begin) (sym same) ∙ ap (λ (s : Stepping). s.outcome) (sym e)
+    ∙ ap (λ (fault : Option Refusal). let o : Outcome = record { rows = steps.outcome.rows; fault = fault } in o) h
+
+-- ---- an FDE whose CIE is kept
+
+module _ (target : Target) (hs : List Head) (c : Initial) (is : IsInitial target hs c) (at : ℕ) (form : Form) (cie_at begin range : ℕ) (program : Span) (place : c.at ≡ cie_at) where
+  begins_so : Begins target hs cie_at c.factors c.return_register is.1
+  begins_so = record {
+    form = is.0;
+    program = span_of c.program;
+    among = subst (λ (n : ℕ). IsAmong (cie n is.0 c.factors.code_factor c.factors.data_factor c.return_register (span_of c.program)) hs) place is.2;
+    spelled = is.3.program;
+  }
+
+  pub fde_broken : (r : Refusal) → FdeFault c.factors c.row.cfa (input_of target program) begin r → FdeBroken target hs (fde at form cie_at begin range program) r
+  fde_broken r fault = (c.factors, c.return_register, is.1, begins_so, subst (λ (x : CfaRule). FdeFault c.factors x (input_of target program) begin r) is.3.cfa fault)
+
+  module _ (instrs : List Instr) (rows : List LocatedRow) (given : GivesBehind c.factors c.row (input_of target program) begin instrs rows) where
+    instrs_so : Instrs target hs cie_at program is.1 instrs
+    instrs_so = record { factors = c.factors; register = c.return_register; begins = begins_so; spelled = given.program }
+
+    pub fde_runs : FdeRuns target hs (fde at form cie_at begin range program)
+    fde_runs = (is.1, instrs, instrs_so, subst (λ (x : CfaRule). FdeKept (address_limit target.size) begin x instrs) is.3.cfa given.kept)
+
+    lacks_so : lacks_from (begin + range) begin false rows ≡ true → LacksRule target hs (fde at form cie_at begin range program) (record { code = NoCfaRule; at = at })
+    lacks_so e =
+        let found = lacks_found (begin + range) begin false rows given.never_falls e in
+        let counts = counts_exists begin instrs found.0 found.1 in
+        let row = given.holds found.0 counts.0 found.1 counts.1 in
+        let unset = unset_is row.0.cfa (rw row.1 at found.3) in
+        let here : cfa_after (initial_cfa is.1) instrs counts.0 ≡ Unset = ap (λ (x : CfaRule). cfa_after x instrs counts.0) (sym is.3.cfa) ∙ sym row.2.cfa ∙ unset in
+        (refl, (is.1, instrs, instrs_so, (found.0, found.1, found.2, (counts.0, counts.1, here))))
+
+    has_at : lacks_from (begin + range) begin false rows ≡ false → (a : ℕ) → begin ≤ a → a < begin + range → (k : ℕ) → Counts begin instrs a k → cfa_after (initial_cfa is.1) instrs k ≡ Unset → ⊥
+    has_at e a le lt k counts unset =
+        let row = given.holds a k le counts in
+        let none = lacks_none (begin + range) begin false rows given.never_falls e a le lt in
+        let no : is_unset row.0.cfa ≡ false = rw row.1 at none in
+        let yes = is_unset_of row.0.cfa (row.2.cfa ∙ ap (λ (x : CfaRule). cfa_after x instrs k) is.3.cfa ∙ unset) in
+        let e = sym no ∙ yes in cc
+
+    pub has_or_lacks : (lacks : Bool) → lacks ≡ lacks_from (begin + range) begin false rows → HasOrLacks target hs (fde at form cie_at begin range program) lacks
+    has_or_lacks true e = lacks_so (sym e)
+    has_or_lacks false e = (is.1, instrs, instrs_so, has_at (sym e))
+
+-- ---- the first that lacks one
+
+pub lacking_more : (target : Target) (hs front : List Head) (h : Head) (lacking : Option ℕ) (lacks : Bool) → FirstLacking target hs front lacking → HasOrLacks target hs h lacks
+    → FirstLacking target hs (front ++ h ∷ []) (or_place lacking lacks (head_at h))
+lacking_more target hs front h (Some place) lacks w l =
+    record { before = w.before; it = w.it; after = w.after ++ h ∷ []; whole = ap (λ (xs : List Head). xs ++ h ∷ []) w.whole ∙ append_assoc w.before (w.it ∷ w.after) (h ∷ []); hold = w.hold; stuck = w.stuck }
+lacking_more target hs front h None true w l = record { before = front; it = h; after = []; whole = refl; hold = w; stuck = l }
+lacking_more target hs front h None false w l = all_push (HasRules target hs) front h w l

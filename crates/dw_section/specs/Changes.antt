@@ -1,0 +1,108 @@
+-- The addresses of an FDE at which its rules change, and the rules there: DWARF 5, 6.4.1 and 6.4.3. An FDE is given by the
+-- instructions of its CIE and of its own program, and by its range.
+use Rattle.std.specs.Prelude.{◌≡◌, ◌⊎◌, ℕ, suc, ◌<◌, ◌≤◌, length, List, [], ◌∷◌, Option, Some, None, Bool, true, false, Result, Ok, Err}
+use Rattle.dw_cfa.specs.declared.instr.Instr.{Instr}
+use Rattle.dw_cfa.specs.declared.running.LocatedRow.{LocatedRow}
+use Rattle.dw_cfa.specs.Location.{Counts}
+use Rattle.dw_cfa.specs.Column.{cfa_after, rule_after}
+use Rattle.dw_cfa.specs.Laws.{initial_cfa, initial_rule, HoldsAfter}
+use Rattle.dw_cfa.specs.Rows.{Rules}
+use Rattle.dw_cfa.specs.Stepping.{Stepping}
+use Rattle.dw_cfa.specs.declared.row.Row.{Row}
+
+-- after j and after k instructions each column has the same rule
+pub record SameRules (initial instrs : List Instr) (j k : ℕ) : Type 0 where
+  pub cfa : cfa_after (initial_cfa initial) instrs j ≡ cfa_after (initial_cfa initial) instrs k
+  pub rules : (r : ℕ) → rule_after (initial_rule initial r) instrs r j ≡ rule_after (initial_rule initial r) instrs r k
+
+-- at two addresses each column has the same rule
+abbrev pub Stays : List Instr → List Instr → ℕ → ℕ → ℕ → Type 0
+Stays initial instrs begin a b = (j k : ℕ) → Counts begin instrs a j → Counts begin instrs b k → SameRules initial instrs j k
+
+-- at two addresses some column has another rule
+pub record Differs (initial instrs : List Instr) (begin a b : ℕ) : Type 0 where
+  pub j : ℕ
+  pub k : ℕ
+  pub before : Counts begin instrs a j
+  pub after : Counts begin instrs b k
+  pub other : SameRules initial instrs j k → ⊥
+
+-- from one address up to another, which is no more, the rules are those one address before
+abbrev pub StayFrom : List Instr → List Instr → ℕ → ℕ → ℕ → Type 0
+StayFrom initial instrs begin low high = (a : ℕ) → low ≤ a → suc a < high → Stays initial instrs begin a (suc a)
+
+-- a row has the rules at an address
+abbrev pub HoldsAt : List Instr → List Instr → ℕ → ℕ → Rules → Type 0
+HoldsAt initial instrs begin a row = (k : ℕ) → Counts begin instrs a k → HoldsAfter initial instrs k row
+
+-- behind an address and below the end the rules change at these addresses, each with its row
+abbrev pub ChangesBehind : List Instr → List Instr → ℕ → ℕ → ℕ → List (ℕ × Rules) → Type 0
+ChangesBehind initial instrs begin end low [] = StayFrom initial instrs begin low end
+ChangesBehind initial instrs begin end low (change ∷ changes) =
+    (a : ℕ) × (change.0 ≡ suc a) × (low ≤ a) × (suc a < end) × StayFrom initial instrs begin low (suc a) × Differs initial instrs begin a (suc a)
+    × HoldsAt initial instrs begin (suc a) change.1 × ChangesBehind initial instrs begin end (suc a) changes
+
+-- the changes of an FDE: its begin, and each address below its end at which a rule is not that one address before
+abbrev pub AreChanges : List Instr → List Instr → ℕ → ℕ → List (ℕ × Rules) → Type 0
+AreChanges initial instrs begin end [] = ⊥
+AreChanges initial instrs begin end (first ∷ changes) =
+    (first.0 ≡ begin) × HoldsAt initial instrs begin begin first.1 × ChangesBehind initial instrs begin end begin changes
+
+-- ---- how the code finds them: among rows
+
+-- an address below the end and before the row that comes next
+abbrev pub Before : ℕ → ℕ → List LocatedRow → Type 0
+Before end a [] = a < end
+Before end a (next ∷ rows) = (a < next.location) × (a < end)
+
+-- no address below the end shows the row, or it repeats the one that was shown
+abbrev pub Passed : ℕ → Option Rules → LocatedRow → List LocatedRow → Type 0
+Passed end shown row rows = (Before end row.location rows → ⊥) ⊎ (shown ≡ Some row.row)
+
+-- an address shows the row, and it is not the one that was shown
+abbrev pub Shows : ℕ → Option Rules → LocatedRow → List LocatedRow → Type 0
+Shows end shown row rows = Before end row.location rows × (shown ≡ Some row.row → ⊥)
+
+-- the changes among rows, where this row was shown before
+abbrev pub Among : ℕ → Option Rules → List LocatedRow → List (ℕ × Rules) → Type 0
+Among end shown [] changes = changes ≡ []
+Among end shown (row ∷ rows) changes =
+    (Passed end shown row rows × Among end shown rows changes)
+    ⊎ (Shows end shown row rows × ((more : List (ℕ × Rules)) × (changes ≡ (row.location, row.row) ∷ more) × Among end (Some row.row) rows more))
+
+-- ---- changes given one at a time
+
+-- the rows still to come, the row that was shown, the end, and whether memory ran out
+pub record Changing : Type 0 where
+  pub rows : List LocatedRow
+  pub shown : Option Rules
+  pub end : ℕ
+  pub failed : Bool
+
+-- nothing was shown yet
+abbrev pub changing : List LocatedRow → ℕ → Changing
+changing rows end = record { rows = rows; shown = None; end = end; failed = false }
+
+-- these are the changes still to come
+abbrev pub ToCome : Changing → List (ℕ × Rules) → Type 0
+ToCome c changes = Among c.end c.shown c.rows changes
+
+-- what a call answers, and what is still to come then
+abbrev pub GivesChange : {E : Type 0} → Changing → Result (Option (ℕ × Rules)) E → Changing → Type 0
+GivesChange old (Ok None) new = (new.failed ≡ false) × ToCome old [] × (new.rows ≡ [])
+GivesChange old (Ok (Some change)) new =
+    (new.failed ≡ false) × (length new.rows < length old.rows) × ((changes : List (ℕ × Rules)) → ToCome new changes → ToCome old (change ∷ changes))
+GivesChange old (Err e) new = new.failed ≡ true
+
+-- ---- how the code finds them
+
+abbrev pub now_of : Option Row → Option Rules
+now_of None = None
+now_of (Some row) = Some row
+
+abbrev pub FindsChange : {E : Type 0} → ℕ → Stepping → Option Row → Result (Option (ℕ × Rules)) E → Stepping → Option Row → Type 0
+FindsChange end old shown (Ok None) new shown' = (new.outcome.fault ≡ None) × Among end (now_of shown) old.outcome.rows [] × (new.outcome.rows ≡ [])
+FindsChange end old shown (Ok (Some change)) new shown' =
+    (new.outcome.fault ≡ None) × (length new.outcome.rows < length old.outcome.rows)
+    × ((changes : List (ℕ × Rules)) → Among end (now_of shown') new.outcome.rows changes → Among end (now_of shown) old.outcome.rows (change ∷ changes))
+FindsChange end old shown (Err e) new shown' = new.outcome.fault ≡ None

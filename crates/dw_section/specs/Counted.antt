@@ -1,0 +1,24 @@
+-- How the code counts the rows that programs start.
+use Rattle.std.specs.Prelude.{◌≡◌, ℕ, ◌+◌, Bool, false, cond, List, [], ◌∷◌, Result, Ok, Err}
+use Rattle.dw_num.specs.declared.refusal.Refusal.{Refusal}
+use Rattle.dw_num.specs.declared.target.Target.{Target}
+use Rattle.dw_cfa.specs.declared.instr.Instr.{Instr}
+use Rattle.dw_cfa.specs.InstrSpells.{Program}
+use Rattle.dw_cfa.specs.Location.{moves_location, row_starts}
+use Rattle.dw_section.specs.declared.indexing.Ranged.{Ranged}
+
+abbrev pub starts_row : Result Instr Refusal → Bool
+starts_row (Ok instr) = moves_location instr
+starts_row (Err r) = false
+
+abbrev pub moves_in : List (Result Instr Refusal) → ℕ
+moves_in [] = 0
+moves_in (x ∷ xs) = cond (starts_row x) 1 0 + moves_in xs
+
+-- the bytes of an FDE's program are instructions
+abbrev pub IsProgram : Target → Ranged → Type 0
+IsProgram target e = (instrs : List Instr) × Program target e.factors instrs e.program.bytes.now
+
+-- they start n rows
+abbrev pub StartsOf : Target → Ranged → ℕ → Type 0
+StartsOf target e n = (instrs : List Instr) → Program target e.factors instrs e.program.bytes.now → n ≡ row_starts instrs

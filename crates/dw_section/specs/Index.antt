@@ -1,0 +1,32 @@
+-- What the code keeps of nonempty FDEs.
+use Rattle.std.specs.Prelude.{◌≡◌, ℕ, suc, ◌≤◌, ◌⊎◌, List, [], ◌∷◌}
+use Rattle.std.specs.List.{AllByRecursion}
+use Rattle.dw_num.specs.declared.target.Form.{Form}
+use Rattle.dw_num.specs.Span.{span_of}
+use Rattle.dw_section.specs.declared.indexing.Ranged.{Ranged}
+use Rattle.dw_section.specs.Headers.{Head, cie, fde}
+use Rattle.dw_section.specs.Overlap.{Range, IsIn, end_of}
+use Rattle.dw_section.specs.Programs.{IsAmong}
+
+abbrev pub range_in : Ranged → Range
+range_in e = record { at = e.at; begin = e.begin; range = e.range }
+
+-- it is of an FDE among the headers, and of the CIE that this names
+abbrev pub IsRanged : List Head → Ranged → Type 0
+IsRanged hs e =
+    (form : Form) × (cie_form : Form) × (cie_at : ℕ) × IsAmong (fde e.at form cie_at e.begin e.range (span_of e.program)) hs
+    × IsAmong (cie cie_at cie_form e.factors.code_factor e.factors.data_factor e.return_register (span_of e.cie_program)) hs
+
+-- places from low on, ascending
+abbrev pub PlacesRise : ℕ → List Range → Type 0
+PlacesRise low [] = Unit {0}
+PlacesRise low (a ∷ rs) = (low ≤ a.at) × PlacesRise (suc a.at) rs
+
+-- two lists have the same members
+abbrev pub SameMembers : List Range → List Range → Type 0
+SameMembers rs ss = AllByRecursion (λ a. IsIn a rs) ss × AllByRecursion (λ a. IsIn a ss) rs
+
+-- no range ends behind a number, and one ends there unless it is 0
+abbrev pub EndsAt : List Range → ℕ → Type 0
+EndsAt rs greatest =
+    AllByRecursion (λ a. end_of a ≤ greatest) rs × ((greatest ≡ 0) ⊎ ((other : Range) × IsIn other rs × (end_of other ≡ greatest)))

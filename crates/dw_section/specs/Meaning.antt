@@ -1,0 +1,118 @@
+-- What a section says: DWARF 5, 6.4.1. Its nonempty FDEs, and the rules at each address that they cover.
+use Rattle.std.specs.Prelude.{◌≡◌, ℕ, ℤ, ◌+◌, ◌<◌, ◌≤◌, List, [], ◌∷◌}
+use Rattle.std.specs.List.{AllByRecursion, AllZip}
+use Rattle.dw_num.specs.declared.target.Form.{Form}
+use Rattle.dw_num.specs.declared.target.Target.{Target}
+use Rattle.dw_num.specs.Span.{Span}
+use Rattle.dw_cfa.specs.declared.instr.Instr.{Instr}
+use Rattle.dw_cfa.specs.Laws.{HoldsAfter}
+use Rattle.dw_cfa.specs.Location.{Counts, row_starts}
+use Rattle.dw_cfa.specs.Rows.{Rules}
+use Rattle.dw_section.specs.declared.lookup.Fde.{Fde}
+use Rattle.dw_section.specs.Changes.{AreChanges}
+use Rattle.dw_section.specs.Headers.{Head, cie, fde, Headers}
+use Rattle.dw_section.specs.Overlap.{Range, IsIndex, end_of}
+use Rattle.dw_section.specs.Programs.{IsAmong, Instrs}
+
+-- ---- the FDEs
+
+-- the FDE of a range names a CIE of this return register
+pub record Returns (hs : List Head) (a : Range) (register : ℕ) : Type 0 where
+  pub form : Form
+  pub cie_at : ℕ
+  pub program : Span
+  pub cie_form : Form
+  pub code_factor : ℕ
+  pub data_factor : ℤ
+  pub cie_program : Span
+  pub fde_among : IsAmong (fde a.at form cie_at a.begin a.range program) hs
+  pub cie_among : IsAmong (cie cie_at cie_form code_factor data_factor register cie_program) hs
+
+-- an FDE as it is listed
+pub record Lists (hs : List Head) (a : Range) (f : Fde) : Type 0 where
+  pub begin : f.begin ≡ a.begin
+  pub end : f.end ≡ end_of a
+  pub returns : Returns hs a f.return_register
+
+-- these are the nonempty FDEs of a section by begin
+pub record AreFdes (target : Target) (s : List ℕ) (fs : List Fde) : Type 0 where
+  pub headers : List Head
+  pub are : Headers target s headers
+  pub index : List Range
+  pub is_index : IsIndex headers index
+  pub each : AllZip (Lists headers) index fs
+
+-- an FDE covers an address
+abbrev pub Covers : ℕ → Fde → Type 0
+Covers a f = (f.begin ≤ a) × (a < f.end)
+
+-- none does
+abbrev pub NoneCovers : ℕ → List Fde → Type 0
+NoneCovers a fs = AllByRecursion (λ f. Covers a f → ⊥) fs
+
+-- ---- the rules at an address
+
+-- an FDE covers a, and a row has in each column the rule after the instructions that count there
+pub record RulesAt (target : Target) (s : List ℕ) (a : ℕ) (row : Rules) : Type 0 where
+  pub headers : List Head
+  pub are : Headers target s headers
+  pub at : ℕ
+  pub form : Form
+  pub cie_at : ℕ
+  pub begin : ℕ
+  pub range : ℕ
+  pub program : Span
+  pub among : IsAmong (fde at form cie_at begin range program) headers
+  pub from : begin ≤ a
+  pub below : a < begin + range
+  pub initial : List Instr
+  pub instrs : List Instr
+  pub spelled : Instrs target headers cie_at program initial instrs
+  pub k : ℕ
+  pub counts : Counts begin instrs a k
+  pub holds : HoldsAfter initial instrs k row
+
+-- ---- the rows
+
+-- the program of the FDE of a range starts n rows
+pub record Starts (target : Target) (hs : List Head) (a : Range) (n : ℕ) : Type 0 where
+  pub form : Form
+  pub cie_at : ℕ
+  pub program : Span
+  pub among : IsAmong (fde a.at form cie_at a.begin a.range program) hs
+  pub initial : List Instr
+  pub instrs : List Instr
+  pub spelled : Instrs target hs cie_at program initial instrs
+  pub are : n ≡ row_starts instrs
+
+abbrev pub total : List ℕ → ℕ
+total [] = 0
+total (n ∷ ns) = n + total ns
+
+-- the programs of all nonempty FDEs together start n rows
+pub record RowStarts (target : Target) (s : List ℕ) (n : ℕ) : Type 0 where
+  pub headers : List Head
+  pub are : Headers target s headers
+  pub index : List Range
+  pub is_index : IsIndex headers index
+  pub counts : List ℕ
+  pub each : AllZip (Starts target headers) index counts
+  pub sum : n ≡ total counts
+
+-- ---- the changes
+
+-- at these addresses the rules of an FDE change, each with the rules there
+pub record ChangesOf (target : Target) (s : List ℕ) (f : Fde) (changes : List (ℕ × Rules)) : Type 0 where
+  pub headers : List Head
+  pub are : Headers target s headers
+  pub at : ℕ
+  pub form : Form
+  pub cie_at : ℕ
+  pub range : ℕ
+  pub program : Span
+  pub among : IsAmong (fde at form cie_at f.begin range program) headers
+  pub end : f.end ≡ f.begin + range
+  pub initial : List Instr
+  pub instrs : List Instr
+  pub spelled : Instrs target headers cie_at program initial instrs
+  pub change : AreChanges initial instrs f.begin f.end changes

@@ -1,0 +1,93 @@
+-- Entries whose programs are judged too: DWARF 5, 6.4.2 and 6.4.3.
+use Rattle.std.specs.Prelude.{◌≡◌, ◌⊎◌, ℕ, ◌+◌, ◌<◌, ◌≤◌, List, [], ◌∷◌}
+use Rattle.dw_num.specs.declared.target.Form.{Form}
+use Rattle.dw_num.specs.declared.target.Target.{Target}
+use Rattle.dw_num.specs.declared.refusal.Code.TheVariants.{NoCfaRule}
+use Rattle.dw_num.specs.declared.refusal.Refusal.{Refusal}
+use Rattle.dw_num.specs.Input.{Input}
+use Rattle.dw_num.specs.Span.{Span}
+use Rattle.dw_num.specs.Target.{address_limit}
+use Rattle.dw_cfa.specs.declared.instr.Factors.{Factors}
+use Rattle.dw_cfa.specs.declared.instr.Instr.{Instr}
+use Rattle.dw_cfa.specs.declared.rule.CfaRule.TheVariants.{Unset}
+use Rattle.dw_cfa.specs.InstrSpells.{Program}
+use Rattle.dw_cfa.specs.Location.{Counts}
+use Rattle.dw_cfa.specs.Column.{cfa_after}
+use Rattle.dw_cfa.specs.Kept.{CieKept, FdeKept}
+use Rattle.dw_cfa.specs.Faults.{CieFault, FdeFault}
+use Rattle.dw_cfa.specs.Laws.{initial_cfa}
+use Rattle.dw_section.specs.Headers.{Head, cie, fde}
+
+-- where a program stands
+abbrev pub input_of : Target → Span → Input
+input_of target program = record { at = program.at; bytes = program.bytes; target = target }
+
+abbrev pub IsAmong : Head → List Head → Type 0
+IsAmong h [] = ⊥
+IsAmong h (other ∷ hs) = (h ≡ other) ⊎ IsAmong h hs
+
+-- ---- programs of CIEs
+
+-- a CIE's program keeps what it has to
+abbrev pub CieRuns : Target → Head → Type 0
+CieRuns target (cie at form code_factor data_factor register program) =
+    (instrs : List Instr) × Program target (record { code_factor = code_factor; data_factor = data_factor }) instrs program.bytes × CieKept instrs
+CieRuns target (fde at form cie_at begin range program) = Unit {0}
+
+-- a CIE's program has this first fault
+abbrev pub CieBroken : Target → Head → Refusal → Type 0
+CieBroken target (cie at form code_factor data_factor register program) r =
+    CieFault (record { code_factor = code_factor; data_factor = data_factor }) (input_of target program) r
+CieBroken target (fde at form cie_at begin range program) r = ⊥
+
+-- ---- programs of FDEs
+
+-- at this place stands a CIE of these factors, this return register and these instructions
+pub record Begins (target : Target) (hs : List Head) (place : ℕ) (f : Factors) (register : ℕ) (initial : List Instr) : Type 0 where
+  pub form : Form
+  pub program : Span
+  pub among : IsAmong (cie place form f.code_factor f.data_factor register program) hs
+  pub spelled : Program target f initial program.bytes
+
+-- the instructions of the CIE at this place, and those of an FDE's program
+pub record Instrs (target : Target) (hs : List Head) (place : ℕ) (program : Span) (initial instrs : List Instr) : Type 0 where
+  pub factors : Factors
+  pub register : ℕ
+  pub begins : Begins target hs place factors register initial
+  pub spelled : Program target factors instrs program.bytes
+
+-- an FDE's program keeps what it has to, behind the initial rules of its CIE
+abbrev pub FdeRuns : Target → List Head → Head → Type 0
+FdeRuns target hs (cie at form code_factor data_factor register program) = Unit {0}
+FdeRuns target hs (fde at form cie_at begin range program) =
+    (initial : List Instr) × (instrs : List Instr) × Instrs target hs cie_at program initial instrs × FdeKept (address_limit target.size) begin (initial_cfa initial) instrs
+
+-- an FDE's program has this first fault, behind the initial rules of its CIE
+abbrev pub FdeBroken : Target → List Head → Head → Refusal → Type 0
+FdeBroken target hs (cie at form code_factor data_factor register program) r = ⊥
+FdeBroken target hs (fde at form cie_at begin range program) r =
+    (f : Factors) × (register : ℕ) × (initial : List Instr) × Begins target hs cie_at f register initial × FdeFault f (initial_cfa initial) (input_of target program) begin r
+
+-- ---- the CFA
+
+-- the CFA has a rule at address a
+abbrev pub HasCfa : List Instr → List Instr → ℕ → ℕ → Type 0
+HasCfa initial instrs begin a = (k : ℕ) → Counts begin instrs a k → cfa_after (initial_cfa initial) instrs k ≡ Unset → ⊥
+
+-- the CFA has no rule at address a
+abbrev pub LacksCfa : List Instr → List Instr → ℕ → ℕ → Type 0
+LacksCfa initial instrs begin a = (k : ℕ) × Counts begin instrs a k × (cfa_after (initial_cfa initial) instrs k ≡ Unset)
+
+-- the CFA has a rule at each address of an FDE
+abbrev pub HasRules : Target → List Head → Head → Type 0
+HasRules target hs (cie at form code_factor data_factor register program) = Unit {0}
+HasRules target hs (fde at form cie_at begin range program) =
+    (initial : List Instr) × (instrs : List Instr) × Instrs target hs cie_at program initial instrs × ((a : ℕ) → begin ≤ a → a < begin + range → HasCfa initial instrs begin a)
+
+-- the CFA has no rule at an address of an FDE
+abbrev pub LacksRule : Target → List Head → Head → Refusal → Type 0
+LacksRule target hs (cie at form code_factor data_factor register program) r = ⊥
+LacksRule target hs (fde at form cie_at begin range program) r =
+    (r ≡ record { code = NoCfaRule; at = at })
+    × ((initial : List Instr) × (instrs : List Instr) × Instrs target hs cie_at program initial instrs
+    × ((a : ℕ) × (begin ≤ a) × (a < begin + range) × LacksCfa initial instrs begin a))
