@@ -2,9 +2,10 @@
 # Runs dwframe on the examples, and compares what it prints with the files beside them.
 set -eu
 cd "$(dirname "$0")/../examples"
-for wanted in *.entries; do
-    name=${wanted%.entries}
+for wanted in *.entries *.check *.rows; do
+    name=${wanted%.*}
+    subcommand=${wanted##*.}
     read -r size order <"$name.target"
-    ../dwframe entries --size "$size" --order "$order" "$name.bin" | cmp - "$wanted"
-    echo "entries $name.bin: as wanted"
+    ../dwframe "$subcommand" --size "$size" --order "$order" "$name.bin" | cmp - "$wanted"
+    echo "$subcommand $name.bin: as wanted"
 done

@@ -3,9 +3,9 @@
 
     refused_memory.py DWFRAME REQUESTS
 
-DWFRAME's answer must be the ordinary one, or status 5, `out of memory` and nothing on standard output. REQUESTS makes one
-call a run: its answer must be the ordinary one or tell of want of memory, and the calls on borrowed expressions may make
-no request at all. Ends with a line 'N runs, M wrong'.
+DWFRAME's answer must be the ordinary one, or status 5, `out of memory` and nothing on standard output; under `rows`, a
+beginning of what is ordinarily there. REQUESTS makes one call a run: its answer must be the ordinary one or tell of want of
+memory, and the calls on borrowed expressions may make no request at all. Ends with a line 'N runs, M wrong'.
 """
 import os
 import pathlib
@@ -18,9 +18,17 @@ EXAMPLES = HERE.parent / "examples"
 RUNS = [
     ["entries", "--size", "8", "--order", "little", "plain.bin"],
     ["entries", "--size", "4", "--order", "big", "sum-clang-powerpc.bin"],
+    ["check", "--size", "8", "--order", "little", "plain.bin"],
+    ["check", "--size", "8", "--order", "little", "many.bin"],
+    ["check", "--size", "4", "--order", "big", "sum-clang-powerpc.bin"],
+    ["rows", "--size", "8", "--order", "little", "plain.bin"],
+    ["rows", "--size", "8", "--order", "little", "many.bin"],
+    ["rows", "--size", "8", "--order", "little", "sum-clang-x86_64.bin"],
+    ["rows", "--size", "4", "--order", "big", "sum-clang-powerpc.bin"],
     ["expr", "--size", "8", "--order", "little", "2f12000e05000000000000000e060000000000000037"],
 ]
-CALLS = ["entries", "headers", "decode", "encode", "ops", "put_least", "run", "row_steps", "numbers"]
+CALLS = ["entries", "headers", "check", "row_at", "changes", "decode", "encode", "ops", "put_least",
+         "run", "row_steps", "initial_row", "from_initial", "numbers"]
 OUT_OF_MEMORY = (5, b"", b"out of memory\n")
 
 
@@ -45,6 +53,12 @@ def run(program, words, folder, refused):
 
 def is_command_answer(answer, ordinary):
     return answer in (ordinary, OUT_OF_MEMORY)
+
+
+def is_rows_answer(answer, ordinary):
+    """Memory may run out in the midst of what is printed."""
+    status, out, err = answer
+    return answer == ordinary or (status, b"", err) == OUT_OF_MEMORY and ordinary[1].startswith(out)
 
 
 def is_call_answer(answer, ordinary):
@@ -80,7 +94,8 @@ def main():
         shim = ["gcc", "-shared", "-fPIC", "-O2", "-o", folder / "refuse.so", HERE / "refuse.c", "-ldl"]
         subprocess.run(shim, check=True)
         for words in RUNS:
-            each_request(dwframe, words, folder, is_command_answer, tally)
+            is_answer = is_rows_answer if words[0] == "rows" else is_command_answer
+            each_request(dwframe, words, folder, is_answer, tally)
         for call in CALLS:
             each_request(requests, [call], folder, is_call_answer, tally)
         _, none = run(requests, ["none"], folder, 0)

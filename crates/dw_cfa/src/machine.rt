@@ -66,7 +66,7 @@ pub(crate) fn write_rule<'a>(row: &mut Row<'a>, instr: Instr<'a>) -> Result<(), 
 pub(crate) struct Machine<'a> {
     pub(crate) initial: Row<'a>,
     pub(crate) row: Row<'a>,
-    pub(crate) remembered: SmallVec<Row<'a>, 4>,
+    pub(crate) remembered: SmallVec<Row<'a>, 1>,
     pub(crate) location: u128,
     pub(crate) limit: u128,
 }

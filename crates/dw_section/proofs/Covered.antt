@@ -8,50 +8,12 @@ use Rattle.dw_cfa.specs.declared.rule.CfaRule.{CfaRule}
 use Rattle.dw_cfa.specs.declared.rule.CfaRule.TheVariants as cfa
 use Rattle.dw_cfa.specs.declared.rule.CfaRule.TheVariants.{Unset}
 use Rattle.dw_cfa.specs.declared.running.LocatedRow.{LocatedRow}
-use Rattle.dw_cfa.specs.Location.{location, StaysAt, Counts}
 use Rattle.dw_cfa.specs.RuleAt.{or_here, last_at, NeverFalls}
 use Rattle.dw_cfa.specs.Rows.{Rules}
 use Rattle.dw_section.specs.Covered.{is_unset, leaves_one, lacks_from}
 
 lt_tells : (m n : ℕ) → ((nat_lt m n ≡ true) × (m < n)) ⊎ ((nat_lt m n ≡ false) × (n ≤ m))
 lt_tells m n = elim (cases_lt m n) [ inl lt ↦ inl (lt-ltb m n lt, lt) | inr le ↦ inr (le-ltb m n le, le) ]
-
--- ---- what counts
-
--- the location stays up to n, or passes a behind a first k
-scan : (begin : ℕ) (instrs : List Instr) (a n : ℕ) → begin ≤ a → StaysAt begin instrs a n ⊎ ((k : ℕ) × (k < n) × StaysAt begin instrs a k × (a < location begin instrs (suc k)))
-scan begin instrs a zero le = inl first
-  where
-    first : (j : ℕ) → j ≤ 0 → location begin instrs j ≤ a
-    first zero lt = le
-    first (suc j) lt = absurd (omega arith)
-scan begin instrs a (suc n) le = elim (scan begin instrs a n le) [
-  | inl stays ↦ elim (cases_lt a (location begin instrs (suc n))) [
-    | inl past ↦ inr (n, omega arith, stays, past)
-    | inr within ↦ inl (λ j lt. elim (cases_lt j (suc n)) [
-      | inl less ↦ stays j (omega arith)
-      | inr more ↦ let e : j ≡ suc n = omega arith in subst (λ (m : ℕ). location begin instrs m ≤ a) (sym e) within
-    ])
-  ]
-  | inr found ↦ inr (found.0, omega (arith, found.1), found.2, found.3)
-]
-
--- at each address from begin on some instructions count
-pub counts_exists : (begin : ℕ) (instrs : List Instr) (a : ℕ) → begin ≤ a → (k : ℕ) × Counts begin instrs a k
-counts_exists begin instrs a le = elim (scan begin instrs a (length instrs) le) [
-  | inl stays ↦ (length instrs, record { in_program = omega arith; stays = stays; greatest = λ n lt all. lt })
-  | inr found ↦ (
-    found.0,
-    record {
-      in_program = omega (arith, found.1);
-      stays = found.2;
-      greatest = λ n lt all. elim (cases_lt found.0 n) [
-        | inl more ↦ let within : location begin instrs (suc found.0) ≤ a = all (suc found.0) (omega arith) in absurd (omega (arith, found.3))
-        | inr less ↦ less
-      ];
-    },
-  )
-]
 
 -- ---- the row of an address
 

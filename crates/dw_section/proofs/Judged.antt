@@ -42,7 +42,8 @@ use Rattle.dw_section.specs.Heads.{head_at, cie_at_of, cie_ats}
 use Rattle.dw_section.specs.Initials.{of_run, or_place, place_of, IsInitial, AreInitials, HasOrLacks, FirstLacking}
 use Rattle.dw_section.specs.Places.{Rises}
 use Rattle.dw_section.specs.Programs.{input_of, IsAmong, Begins, Instrs, CieRuns, FdeRuns, FdeBroken, HasRules, LacksRule}
-use Rattle.dw_section.proofs.Covered.{counts_exists, lacks_found, lacks_none, unset_is, is_unset_of}
+use Rattle.dw_cfa.proofs.Counting.{counts_exists}
+use Rattle.dw_section.proofs.Covered.{lacks_found, lacks_none, unset_is, is_unset_of}
 use Rattle.dw_section.proofs.Heads.{is_among_head}
 use Rattle.dw_section.proofs.Stages.{all_push, parts}
 

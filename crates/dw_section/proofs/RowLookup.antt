@@ -30,7 +30,8 @@ use Rattle.dw_section.specs.Programs.{input_of, Begins, Instrs, CieRuns, FdeRuns
 use Rattle.dw_section.specs.Table.{IsTable}
 use Rattle.dw_section.proofs.ChangeLaws.{run_changes}
 use Rattle.dw_section.proofs.Judged.{all_get}
-use Rattle.dw_section.proofs.Covered.{counts_exists, none_before}
+use Rattle.dw_cfa.proofs.Counting.{counts_exists}
+use Rattle.dw_section.proofs.Covered.{none_before}
 use Rattle.dw_section.proofs.Heads.{all_in, heads_rise, heads_bytes, heads_fit, one_begin}
 
 -- no row starts at or below an address that the next one starts above

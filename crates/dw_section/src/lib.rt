@@ -1,8 +1,9 @@
-//! Sections of call frame information (6.4.1): their entries, and the fields of each.
+//! Sections of call frame information (6.4.1): their entries, the fields of each, and what a whole section says.
 //!
-//! Every answer is exact: a list where the section has one, else the first fault by stages and places. The
-//! stages are the size, the cut, the fields of CIEs and the fields of FDEs, each by place.
-//! Read `specs/Cut.antt` first, which says what a division of a section is, and then `specs/Headers.antt`.
+//! Every answer is exact: a list or a table where the section has one, else the first fault by stages and places. The
+//! stages are the size, the cut, the fields of CIEs and of FDEs, the programs of CIEs and of FDEs, a CFA rule at each
+//! covered address, and ranges that are apart. Read `specs/Cut.antt` first, which says what a division of a section is,
+//! then `specs/Headers.antt`, `specs/Accepted.antt`, and `specs/Meaning.antt`.
 #![tactic(auto)]
 
 mod changing;

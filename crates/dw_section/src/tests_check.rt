@@ -292,3 +292,25 @@ fn gives_the_row_of_an_address(rt: HostRuntime) -> Result<(), Fail> {
     }
     Ok(())
 }
+
+// The first value that, in place of the byte at a place of the plain section, gives neither a table nor a refusal with
+// a place in it.
+fn astray(alloc: Global, at: usize) -> Result<Option<u8>, AllocError> {
+    for value in 0..=255u8 {
+        let section = changed(alloc, PLAIN, at, [value].as_slice())?;
+        if let Err(refusal) = answer_of(alloc, &section) {
+            if refusal.at > 64 || refusal.code == Code::NormalTooLong {
+                return Ok(Some(value));
+            }
+        }
+    }
+    Ok(None)
+}
+
+#[test]
+fn checks_every_changed_byte(rt: HostRuntime) -> Result<(), Fail> {
+    for at in 0..64 {
+        assert_eq!(rt; astray(rt.alloc(), at)?, None, "byte {at}");
+    }
+    Ok(())
+}

@@ -52,3 +52,5 @@ fn main(rt: HostRuntime) -> ExitCode {
 mod tests;
 #[cfg(test)]
 mod tests_rows;
+#[cfg(test)]
+mod tests_table;

@@ -5,17 +5,17 @@ use std::io::{self, ErrorKind, Write};
 use std::test::Fail;
 
 // One CIE, and one FDE of four rows.
-const PLAIN: &[u8] =
+pub(crate) const PLAIN: &[u8] =
     b"\x14\0\0\0\xff\xff\xff\xff\x04\0\x08\0\x01\x78\x10\x0c\x07\x08\x90\x01\0\0\0\0\
 \x24\0\0\0\0\0\0\0\0\x10\x40\0\0\0\0\0\x10\0\0\0\0\0\0\0\x41\x0e\x10\x86\x02\x43\x0d\x06\x4b\x0c\x07\x08\0\0\0\0";
 
 // The same FDE, with a padded number, before its CIE of the 64-bit form.
-const SCRAMBLED: &[u8] =
+pub(crate) const SCRAMBLED: &[u8] =
     b"\x24\0\0\0\x28\0\0\0\0\x10\x40\0\0\0\0\0\x10\0\0\0\0\0\0\0\x41\x0e\x90\0\x86\x02\x43\x0d\x06\x4b\x0c\x07\x08\0\0\0\
 \xff\xff\xff\xff\x14\0\0\0\0\0\0\0\xff\xff\xff\xff\xff\xff\xff\xff\x04\0\x08\0\x01\x78\x10\x0c\x07\x08\x90\x01";
 
 // Two CIEs, a gap, and two FDEs, of which one is empty.
-const LEFTOVERS: &[u8] =
+pub(crate) const LEFTOVERS: &[u8] =
     b"\x14\0\0\0\xff\xff\xff\xff\x04\0\x08\0\x01\x78\x10\x0c\x07\x08\x90\x01\0\0\0\0\
 \x14\0\0\0\xff\xff\xff\xff\x04\0\x08\0\x01\x78\x05\x0c\x07\x08\x90\x01\0\0\0\0\0\0\0\0\
 \x24\0\0\0\0\0\0\0\0\x10\x40\0\0\0\0\0\x10\0\0\0\0\0\0\0\x41\x0e\x10\x86\x02\x43\x0d\x06\x4b\x0c\x07\x08\0\0\0\0\
@@ -74,7 +74,7 @@ fn words_of(alloc: Global, line: &str) -> Result<Vec<String>, AllocError> {
 }
 
 // What a run over memory answers: its status, and whether it printed these texts.
-fn answers(
+pub(crate) fn answers(
     alloc: Global,
     line: &str,
     bytes: &[u8],
@@ -312,7 +312,7 @@ fn refuses_blocks(rt: HostRuntime) -> Result<(), Fail> {
 }
 
 // The status of a run over an output that takes so many writes and flushes, and whether it tells that it failed.
-fn status_over(
+pub(crate) fn status_over(
     alloc: Global,
     line: &str,
     writes: usize,

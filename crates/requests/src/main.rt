@@ -5,6 +5,7 @@
 mod borrowing;
 mod calls;
 mod programs;
+mod tables;
 
 use std::{env, io};
 
@@ -27,6 +28,11 @@ fn run(rt: &HostRuntime) -> io::Result<()> {
         "put_least" => calls::put(rt),
         "run" => programs::all_rows(rt),
         "row_steps" => programs::each_row(rt),
+        "initial_row" => programs::first_row(rt),
+        "from_initial" => programs::rows_behind(rt),
+        "check" => tables::checked(rt),
+        "row_at" => tables::rows_of_addresses(rt),
+        "changes" => tables::all_changes(rt),
         _ => calls::numbers(rt),
     }
 }

@@ -1,5 +1,3 @@
-use Rattle.dw_cfa.proofs.SameRows.{same_rows}
-use Rattle.dw_cfa.proofs.Counting.{one_count}
 use Rattle.dw_cfa.proofs.BehindLaws.{behind_gives, gives_rows}
 use Rattle.dw_cfa.proofs.FaultLaws.{behind_refused}
 use Rattle.dw_cfa.proofs.laws.behind_laws.Goals as goal
