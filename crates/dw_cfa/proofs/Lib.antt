@@ -4,6 +4,7 @@ pub mod InstrLaws
 pub mod InstrAgain
 pub mod Listings
 pub mod RowLists
+pub mod WideRows
 pub mod Placings
 pub mod RunSteps
 pub mod Forward
@@ -20,3 +21,4 @@ pub mod FaultLaws
 pub mod BehindLaws
 pub mod SameRows
 pub mod Counting
+pub mod StatesLaws

@@ -157,7 +157,7 @@ module _ (f : Factors) (cie fde : Input) (m : Machine) where
   pub begun_starts : (row : LocatedRow) (rows : List LocatedRow) → (begun_rows f cie fde m).rows ≡ row ∷ rows → row.location ≡ m.location
   unfolding begun_rows
   begun_starts row rows e =
-      let some = next_begun (initial_row (placed f cie) m.initial) (λ initial. fde_rows m.limit initial (placed f fde).items (placed f fde).fault (begun initial m.location)) row rows e in
+      let some = next_begun (initial_row (placed f cie) m.states.row) (λ initial. fde_rows m.limit initial (placed f fde).items (placed f fde).fault (begun initial m.location)) row rows e in
       first_starts m.limit some.0 (placed f fde).items (placed f fde).fault (begun some.0 m.location) row rows some.1
 
   pub left_starts : (row : LocatedRow) (rows : List LocatedRow) → (rows_left f fde m).rows ≡ row ∷ rows → row.location ≡ m.location
@@ -167,7 +167,7 @@ module _ (f : Factors) (cie fde : Input) (m : Machine) where
   pub some_begun_left : begun_rows f cie fde m ≡ finished → ⊥
   unfolding begun_rows
   some_begun_left e =
-      some_begun (initial_row (placed f cie) m.initial) (λ initial. fde_rows m.limit initial (placed f fde).items (placed f fde).fault (begun initial m.location))
+      some_begun (initial_row (placed f cie) m.states.row) (λ initial. fde_rows m.limit initial (placed f fde).items (placed f fde).fault (begun initial m.location))
       (λ initial. some_left m.limit initial (placed f fde).items (placed f fde).fault (begun initial m.location)) e
 
   pub some_rows_left : rows_left f fde m ≡ finished → ⊥

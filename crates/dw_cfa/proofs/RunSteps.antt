@@ -18,8 +18,10 @@ use Rattle.dw_cfa.specs.Location.{moves_location}
 use Rattle.dw_cfa.specs.Kept.{in_cie}
 use Rattle.dw_cfa.specs.Reading.{instr_at}
 use Rattle.dw_cfa.specs.Rows.{Rules, blank}
+use Rattle.dw_cfa.specs.declared.rule.RegRule.{RegRule}
 use Rattle.dw_cfa.specs.Stepping.{begun_rows}
 use Rattle.dw_cfa.specs.Machine.{State, written, after, half_fault, cie_fault, fde_fault, FaultIs}
+use Rattle.dw_cfa.specs.States.{Held, BeganWith}
 use Rattle.dw_cfa.specs.Steps.{state_of, InLimit, IsAfter}
 use Rattle.dw_cfa.specs.Runs.{Placing, ended, after_item, placed, cie_run, initial_row, Outcome, fails, finished, row_then, here, row_if, fault_or, fde_rows, rows_left, rows_behind, run_rows, RunsSo, RefusalIs, run_error, RanTo, WroteTo}
 use Rattle.dw_cfa.proofs.Placings.{reads, placed_end, placed_step, placed_stuck}
@@ -44,7 +46,7 @@ module _ (f : Factors) (i : Input) (m : Machine) (x : Instr × Input) (h : AreBy
   rows_fault (step.Fault code) is = rw (rows_then, is) refl
   rows_fault step.OutOfMemory is = tt
 
-  same_row : (i : Instr) (s t : Machine) → state_of t ≡ after s.initial i (state_of s) → IsTrue (moves_location i) → t.row ≡ s.row
+  same_row : (i : Instr) (s t : Machine) → state_of t ≡ after s.initial i (state_of s) → IsTrue (moves_location i) → t.states.row ≡ s.states.row
   same_row (SetLoc a) s t is moves = ap (λ (u : State). u.row) is
   same_row (Advance d) s t is moves = ap (λ (u : State). u.row) is
   same_row Nop s t is moves = absurd cc
@@ -62,7 +64,7 @@ module _ (f : Factors) (i : Input) (m : Machine) (x : Instr × Input) (h : AreBy
   rows_ran m' so behind =
       let read = reads f i x h e in
       record {
-        so = record { limit = behind.limit ∙ so.limit ∙ ap (λ t. address_limit t.size) (sym read.target); within = behind.within };
+        so = record { limit = behind.limit ∙ so.limit ∙ ap (λ t. address_limit t.size) (sym read.target); within = behind.within; first = subst (λ (initial : Rules). BeganWith initial m'.states.first) (sym behind.initial) (subst (λ (first : Option (List (ℕ × RegRule))). BeganWith m.initial first) (sym behind.first) so.first) };
         shorter = read.shorter;
         rows = rows_then ∙ rw (behind.allowed, behind.limit, behind.initial, behind.state) refl;
         same_row = same_row x.0 m m' behind.state;
@@ -97,22 +99,22 @@ module _ (f : Factors) (i : Input) (row : Rules) (x : Instr × Input) (h : AreBy
 
 -- ---- a CIE's program, and then an FDE's
 
-pub begun_is_run : (f : Factors) (cie fde cie' fde' : Input) (m : Machine) (begin : ℕ) → cie ≡ cie' → fde ≡ fde' → m.initial ≡ blank → m.location ≡ begin
+pub begun_is_run : (f : Factors) (cie fde cie' fde' : Input) (m : Machine) (begin : ℕ) → cie ≡ cie' → fde ≡ fde' → m.states.row ≡ blank → m.location ≡ begin
     → m.limit ≡ address_limit fde'.target.size → begun_rows f cie fde m ≡ run_rows f cie' fde' begin
 unfolding begun_rows run_rows
 begun_is_run f cie fde cie' fde' m begin a b i l n = rw (a, b, i, l, n) refl
 
-pub begun_refused : (f : Factors) (cie fde : Input) (m : Machine) (e : RunError) → RefusalIs e (λ r. initial_row (placed f cie) m.initial ≡ Err r) → RefusalIs e (λ r. begun_rows f cie fde m ≡ fails r)
+pub begun_refused : (f : Factors) (cie fde : Input) (m : Machine) (e : RunError) → RefusalIs e (λ r. initial_row (placed f cie) m.states.row ≡ Err r) → RefusalIs e (λ r. begun_rows f cie fde m ≡ fails r)
 unfolding begun_rows
 begun_refused f cie fde m (Refused r) is = rw is refl
 begun_refused f cie fde m OutOfMemory is = tt
 
-pub begun_ran : (f : Factors) (cie fde : Input) (m : Machine) (initial row : Rules) → initial_row (placed f cie) m.initial ≡ Ok initial → row ≡ initial → m.remembered.items ≡ []
-    → rows_left f fde (record { initial = initial; row = row; remembered = m.remembered; location = m.location; limit = m.limit }) ≡ begun_rows f cie fde m
+pub begun_ran : (f : Factors) (cie fde : Input) (m : Machine) (initial : Rules) (states : Held) → initial_row (placed f cie) m.states.row ≡ Ok states.row → initial ≡ states.row → states.stack ≡ []
+    → rows_left f fde (record { initial = initial; states = states; location = m.location; limit = m.limit }) ≡ begun_rows f cie fde m
 unfolding begun_rows rows_left
-begun_ran f cie fde m initial row is same none = rw (is, same, none) refl
+begun_ran f cie fde m initial states is same none = rw (is, same, none) refl
 
-pub started : (f : Factors) (fde fde' : Input) (m : Machine) (initial : Rules) (begin : ℕ) → fde ≡ fde' → m.initial ≡ initial → m.row ≡ initial → m.remembered.items ≡ [] → m.location ≡ begin
+pub started : (f : Factors) (fde fde' : Input) (m : Machine) (initial : Rules) (begin : ℕ) → fde ≡ fde' → m.initial ≡ initial → m.states.row ≡ initial → m.states.stack ≡ [] → m.location ≡ begin
     → m.limit ≡ address_limit fde'.target.size → rows_left f fde m ≡ rows_behind f initial fde' begin
 unfolding rows_left rows_behind
 started f fde fde' m initial begin a i r none l n = rw (a, i, r, none, l, n) refl

@@ -5,10 +5,13 @@ pub mod Location
 pub mod Column
 pub mod Kept
 pub mod Rows
+pub mod Entries
+pub mod States
 pub mod Machine
 pub mod Steps
 pub mod Runs
 pub mod Stepping
+pub mod Following
 pub mod RuleAt
 pub mod Laws
 pub mod Matching

@@ -17,6 +17,7 @@ use Rattle.dw_cfa.specs.Location.{moves_location}
 use Rattle.dw_cfa.specs.Reading.{instr_at}
 use Rattle.dw_cfa.specs.Rows.{Rules, blank}
 use Rattle.dw_cfa.specs.Machine.{State, begun, written, after, cie_fault, fde_fault}
+use Rattle.dw_cfa.specs.States.{Held, BeganWith}
 use Rattle.dw_cfa.specs.Steps.{state_of}
 
 -- an instruction and the place of its opcode
@@ -126,10 +127,11 @@ rows_behind f initial fde begin = fde_rows (address_limit fde.target.size) initi
 
 -- ---- how the code runs
 
--- a machine at an FDE's program: no location is above 2 ^ N
+-- a machine at an FDE's program: no location is above 2 ^ N, and the initial row is the one that can be brought back
 pub record RunsSo (m : Machine) (i : Input) : Type 0 where
   pub limit : m.limit ≡ address_limit i.target.size
   pub within : m.location ≤ m.limit
+  pub first : BeganWith m.initial m.states.first
 
 -- an error is such a refusal, unless memory ran out
 abbrev pub RefusalIs : RunError → (Refusal → Type 0) → Type 0
@@ -145,7 +147,7 @@ pub record RanTo (f : Factors) (i : Input) (m : Machine) (moves : Bool) (i' : In
   pub so : RunsSo m' i'
   pub shorter : length i'.bytes < length i.bytes
   pub rows : rows_left f i m ≡ row_if moves (state_of m) (rows_left f i' m')
-  pub same_row : IsTrue moves → m'.row ≡ m.row
+  pub same_row : IsTrue moves → m'.states.row ≡ m.states.row
 
 abbrev pub Ran : Factors → Input → Machine → Result Bool RunError → Input → Machine → Type 0
 Ran f i m (Ok moves) i' m' = RanTo f i m moves i' m'
@@ -153,7 +155,7 @@ Ran f i m (Err e) i' m' = RefusalIs e (λ r. rows_left f i m ≡ fails r)
 
 -- the machine has a row and more are left, or it is the last, or the refusal was answered
 abbrev pub GivesRow : Outcome → Factors → Input → Machine → Result (ℕ × Bool) RunError → Type 0
-GivesRow old f i m (Ok x) = RunsSo m i × (old ≡ row_then (record { location = x.0; row = m.row }) (if x.1 then rows_left f i m else finished))
+GivesRow old f i m (Ok x) = RunsSo m i × (old ≡ row_then (record { location = x.0; row = m.states.row }) (if x.1 then rows_left f i m else finished))
 GivesRow old f i m (Err e) = RefusalIs e (λ r. old ≡ fails r)
 
 -- the same for an instruction of a CIE's program
@@ -161,6 +163,6 @@ pub record WroteTo (f : Factors) (i : Input) (row : Rules) (i' : Input) (row' : 
   pub shorter : length i'.bytes < length i.bytes
   pub initial : initial_row (placed f i) row ≡ initial_row (placed f i') row'
 
-abbrev pub Wrote : {X : Type 0} → Factors → Input → Rules → Result X RunError → Input → Rules → Type 0
-Wrote f i row (Ok x) i' row' = WroteTo f i row i' row'
-Wrote f i row (Err e) i' row' = RefusalIs e (λ r. initial_row (placed f i) row ≡ Err r)
+abbrev pub Wrote : {X : Type 0} → Factors → Input → Held → Result X RunError → Input → Held → Type 0
+Wrote f i s (Ok x) i' s' = WroteTo f i s.row i' s'.row × (s'.stack ≡ s.stack) × (s'.first ≡ s.first)
+Wrote f i s (Err e) i' s' = RefusalIs e (λ r. initial_row (placed f i) s.row ≡ Err r)

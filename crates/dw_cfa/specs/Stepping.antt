@@ -1,5 +1,5 @@
 -- Rows given one at a time.
-use Rattle.std.specs.Prelude.{◌≡◌, ◌⊎◌, ℕ, ◌+◌, ◌≤◌, List, [], ◌∷◌, ◌++◌, Option, Some, None, Result, Ok, Err}
+use Rattle.std.specs.Prelude.{◌≡◌, ◌⊎◌, ℕ, ◌+◌, ◌≤◌, List, [], ◌∷◌, ◌++◌, Option, Some, None, Result, Ok, Err, Bool, if◌then◌else◌}
 use Rattle.dw_num.specs.declared.program.Program.{Program}
 use Rattle.dw_num.specs.declared.refusal.Refusal.{Refusal}
 use Rattle.dw_num.specs.declared.target.Target.{Target}
@@ -54,18 +54,23 @@ Answers old (Err e) new = Failed old e new
 -- the rows of a machine whose CIE's program is still to run
 unfoldable pub begun_rows : Factors → Input → Input → Machine → Outcome
 begun_rows f cie fde m =
-    on_initial (initial_row (placed f cie) m.initial) (λ initial. fde_rows m.limit initial (placed f fde).items (placed f fde).fault (begun initial m.location))
+    on_initial (initial_row (placed f cie) m.states.row) (λ initial. fde_rows m.limit initial (placed f fde).items (placed f fde).fault (begun initial m.location))
 
 abbrev pub left_of : Progress → Factors → Input → Input → Machine → Stepping
-left_of progress.Begun f cie fde m = stepping m.row (begun_rows f cie fde m)
-left_of progress.Running f cie fde m = stepping m.row (rows_left f fde m)
-left_of progress.Finished f cie fde m = stepping m.row finished
-left_of (progress.Failed e) f cie fde m = record { outcome = finished; current = m.row; error = Some e }
+left_of progress.Begun f cie fde m = stepping m.states.row (begun_rows f cie fde m)
+left_of progress.Running f cie fde m = stepping m.states.row (rows_left f fde m)
+left_of progress.Finished f cie fde m = stepping m.states.row finished
+left_of (progress.Failed e) f cie fde m = record { outcome = finished; current = m.states.row; error = Some e }
 
 abbrev pub StandsSo : Progress → Input → Machine → Type 0
-StandsSo progress.Begun fde m = RunsSo m fde × (m.remembered.items ≡ [])
+StandsSo progress.Begun fde m = RunsSo m fde × (m.states.stack ≡ []) × (m.states.first ≡ None)
 StandsSo progress.Running fde m = RunsSo m fde
 StandsSo other fde m = Unit {0}
+
+-- where a program stands behind the answer of a run up to the next row
+abbrev pub progress_after : Result (ℕ × Bool) RunError → Progress
+progress_after (Ok x) = if x.1 then progress.Running else progress.Finished
+progress_after (Err e) = progress.Failed e
 
 -- rows that come first
 abbrev pub rows_before : List LocatedRow → Outcome → Outcome

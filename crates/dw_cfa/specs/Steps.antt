@@ -1,5 +1,5 @@
 -- How the code runs an instruction of an FDE's program.
-use Rattle.std.specs.Prelude.{◌≡◌, ℕ, ◌≤◌, None, Result, Ok, Err, reverse}
+use Rattle.std.specs.Prelude.{◌≡◌, ℕ, ◌≤◌, None, Result, Ok, Err}
 use Rattle.dw_cfa.specs.declared.instr.Instr.{Instr}
 use Rattle.dw_cfa.specs.declared.instr.Instr.TheVariants.{SetLoc}
 use Rattle.dw_cfa.specs.declared.machine.Machine.{Machine}
@@ -7,7 +7,7 @@ use Rattle.dw_cfa.specs.declared.machine.StepError.{StepError}
 use Rattle.dw_cfa.specs.Machine.{State, after, fde_fault, FaultIs}
 
 abbrev pub state_of : Machine → State
-state_of m = record { row = m.row; stack = reverse m.remembered.items; location = m.location }
+state_of m = record { row = m.states.row; stack = m.states.stack; location = m.location }
 
 -- an address is within the limit
 abbrev pub InLimit : ℕ → Instr → Type 0
@@ -20,6 +20,7 @@ pub record IsAfter (old : Machine) (i : Instr) (new : Machine) : Type 0 where
   pub state : state_of new ≡ after old.initial i (state_of old)
   pub initial : new.initial ≡ old.initial
   pub limit : new.limit ≡ old.limit
+  pub first : new.states.first ≡ old.states.first
   pub within : new.location ≤ new.limit
 
 -- the machine ran an instruction, or answered its fault

@@ -2,6 +2,7 @@
 #![tactic(auto)]
 
 mod collecting;
+mod following;
 mod instr;
 mod instructions;
 mod laws;
@@ -10,9 +11,11 @@ mod reading;
 mod row;
 mod rule;
 mod running;
+mod states;
 mod steps;
 
 pub use collecting::{Rows, run};
+pub use following::CieMachine;
 pub use instr::{Factors, Instr};
 pub use instructions::Instructions;
 pub use laws::{behind_laws, initial_laws, row_laws};
@@ -31,3 +34,5 @@ mod tests_limits;
 mod tests_machine;
 #[cfg(test)]
 mod tests_run;
+#[cfg(test)]
+mod tests_wide;

@@ -10,8 +10,8 @@ ghost use Rattle.dw_cfa.specs.declared.instr.Instr.TheVariants.{SetLoc, Advance,
 use crate::instr::Instr;
 use crate::row::Row;
 use crate::rule::CfaRule;
+use crate::states::States;
 use dw_num::Code;
-use smallvec::SmallVec;
 
 // How many states can be remembered at once.
 const MOST_REMEMBERED: usize = 64;
@@ -35,23 +35,25 @@ fn halves(row: &Row<'_>) -> Result<(u16, i64), StepError>
 }
 
 /// Writes the rule of an instruction that holds one into the row. Others leave it.
-pub(crate) fn write_rule<'a>(row: &mut Row<'a>, instr: Instr<'a>) -> Result<(), StepError>
-    ensures ok { OnOk result ((half_fault instr.entry row.old.cfa ≡ None) × (row.new ≡ written instr.entry row.old)) }
-    ensures err { IfErr result (λ e. FaultIs e (half_fault instr.entry row.old.cfa)) }
+pub(crate) fn write_rule<'a>(states: &mut States<'a>, instr: Instr<'a>) -> Result<(), StepError>
+    ensures ok { OnOk result ((half_fault instr.entry states.old.row.cfa ≡ None) × (states.new ≡ record { row = written instr.entry states.old.row; stack = states.old.stack; first = states.old.first })) }
+    ensures err { IfErr result (λ e. FaultIs e (half_fault instr.entry states.old.row.cfa)) }
 {
     match instr {
-        Instr::DefCfa { register, offset } => row.set_cfa(CfaRule::Register { register, offset }),
+        Instr::DefCfa { register, offset } => {
+            states.set_cfa(CfaRule::Register { register, offset });
+        }
         Instr::DefCfaRegister(register) => {
-            let (_, offset) = halves(row)?;
-            row.set_cfa(CfaRule::Register { register, offset });
+            let (_, offset) = halves(states.row())?;
+            states.set_cfa(CfaRule::Register { register, offset });
         }
         Instr::DefCfaOffset(offset) => {
-            let (register, _) = halves(row)?;
-            row.set_cfa(CfaRule::Register { register, offset });
+            let (register, _) = halves(states.row())?;
+            states.set_cfa(CfaRule::Register { register, offset });
         }
-        Instr::DefCfaExpression(expression) => row.set_cfa(CfaRule::Expression(expression)),
+        Instr::DefCfaExpression(expression) => states.set_cfa(CfaRule::Expression(expression)),
         Instr::Set(register, rule) => {
-            if row.set(register, rule).is_err() {
+            if states.set(register, rule).is_err() {
                 return Err(StepError::OutOfMemory);
             }
         }
@@ -60,13 +62,12 @@ pub(crate) fn write_rule<'a>(row: &mut Row<'a>, instr: Instr<'a>) -> Result<(), 
     Ok(())
 }
 
-/// The state of the machine in an FDE's program: the initial row, the current one, the remembered ones, the
-/// last of them last, and the location, which is at most the limit.
+/// The state of the machine in an FDE's program: the initial row, the current one with the remembered ones, and
+/// the location, which is at most the limit.
 #[derive(Drop)]
 pub(crate) struct Machine<'a> {
     pub(crate) initial: Row<'a>,
-    pub(crate) row: Row<'a>,
-    pub(crate) remembered: SmallVec<Row<'a>, 1>,
+    pub(crate) states: States<'a>,
     pub(crate) location: u128,
     pub(crate) limit: u128,
 }
@@ -74,7 +75,8 @@ pub(crate) struct Machine<'a> {
 impl<'a> Machine<'a> {
     fn set_location(&mut self, address: u64) -> Result<(), StepError>
         requires { address ≤ self.old.limit }
-        ensures { Steps self.old (SetLoc address) result self.new }
+        ensures step { Steps self.old (SetLoc address) result self.new }
+        ensures same { self.new.initial ≡ self.old.initial }
     {
         let address = u128::from(address);
         if address < self.location {
@@ -86,7 +88,8 @@ impl<'a> Machine<'a> {
 
     fn advance(&mut self, distance: u128) -> Result<(), StepError>
         requires { self.old.location ≤ self.old.limit }
-        ensures { Steps self.old (Advance distance) result self.new }
+        ensures step { Steps self.old (Advance distance) result self.new }
+        ensures same { self.new.initial ≡ self.old.initial }
     {
         if distance > self.limit - self.location {
             return Err(StepError::Fault(Code::LocationTooLarge));
@@ -97,15 +100,13 @@ impl<'a> Machine<'a> {
 
     fn remember(&mut self) -> Result<(), StepError>
         requires { self.old.location ≤ self.old.limit }
-        ensures { Steps self.old RememberState result self.new }
+        ensures step { Steps self.old RememberState result self.new }
+        ensures same { self.new.initial ≡ self.old.initial }
     {
-        if self.remembered.len() >= MOST_REMEMBERED {
+        if self.states.depth() >= MOST_REMEMBERED {
             return Err(StepError::Fault(Code::StateStackFull));
         }
-        let Ok(row) = self.row.copied() else {
-            return Err(StepError::OutOfMemory);
-        };
-        if self.remembered.push(row).is_err() {
+        if self.states.remember().is_err() {
             return Err(StepError::OutOfMemory);
         }
         Ok(())
@@ -113,23 +114,23 @@ impl<'a> Machine<'a> {
 
     fn restore(&mut self) -> Result<(), StepError>
         requires { self.old.location ≤ self.old.limit }
-        ensures { Steps self.old RestoreState result self.new }
+        ensures step { Steps self.old RestoreState result self.new }
+        ensures same { self.new.initial ≡ self.old.initial }
     {
-        match self.remembered.pop() {
-            Some(row) => {
-                self.row = row;
-                Ok(())
-            }
-            None => Err(StepError::Fault(Code::EmptyStateStack)),
+        match self.states.restore() {
+            Ok(true) => Ok(()),
+            Ok(false) => Err(StepError::Fault(Code::EmptyStateStack)),
+            Err(_) => Err(StepError::OutOfMemory),
         }
     }
 
     fn restore_register(&mut self, register: u16) -> Result<(), StepError>
         requires { self.old.location ≤ self.old.limit }
-        ensures { Steps self.old (Restore register) result self.new }
+        ensures step { Steps self.old (Restore register) result self.new }
+        ensures same { self.new.initial ≡ self.old.initial }
     {
         let rule = self.initial.rule(register);
-        if self.row.set(register, rule).is_err() {
+        if self.states.set(register, rule).is_err() {
             return Err(StepError::OutOfMemory);
         }
         Ok(())
@@ -139,7 +140,8 @@ impl<'a> Machine<'a> {
     pub(crate) fn step(&mut self, instr: Instr<'a>) -> Result<(), StepError>
         requires address { InLimit self.old.limit instr }
         requires location { self.old.location ≤ self.old.limit }
-        ensures { Steps self.old instr.entry result self.new }
+        ensures step { Steps self.old instr.entry result self.new }
+        ensures same { self.new.initial ≡ self.old.initial }
     {
         match instr {
             Instr::SetLoc(address) => self.set_location(address),
@@ -147,7 +149,7 @@ impl<'a> Machine<'a> {
             Instr::RememberState => self.remember(),
             Instr::RestoreState => self.restore(),
             Instr::Restore(register) => self.restore_register(register),
-            instr => write_rule(&mut self.row, instr),
+            instr => write_rule(&mut self.states, instr),
         }
     }
 }

@@ -1,14 +1,27 @@
 //! Rows of rules (6.4.1).
 
 ghost use Rattle.std.specs.Prelude.{◌≡◌, ℕ, ◌<◌, ◌≤◌, List, [], ◌∷◌, ◌++◌, length, suc, take, drop, IfOk, OnOk, OnErr, MatchOption, IsTrue, ◌↔◌};
+ghost use Rattle.std.specs.List.{HoldsAt};
 ghost use Rattle.std.specs.Iterator.{YieldsFirst, item_count};
 ghost use Rattle.dw_cfa.specs.Rows.{Rules, AreSpecified, rule, begins, put, place, rule_in, with_cfa, with_rule, blank};
+ghost use Rattle.dw_cfa.specs.Entries.{entries_of, unseen_of};
 
 use crate::rule::{CfaRule, RegRule};
 use smallvec::SmallVec;
 use std::alloc::{AllocError, Global};
+use std::collections::{BTreeMap, btree_map};
 use std::default::MadeWith;
 use std::marker::Model;
+
+// So many registers stay in a list: to put one before them moves them all.
+const MOST_IN_LIST: usize = 64;
+
+// The registers that are not Unspecified, ascending, with their rules.
+#[derive(Drop)]
+enum Entries<'a> {
+    Few(SmallVec<(u16, RegRule<'a>), 8>),
+    Many(BTreeMap<u16, RegRule<'a>>),
+}
 
 // The place of the first entry whose register is not below this one.
 fn place_of(entries: &[(u16, RegRule<'_>)], register: u16) -> usize
@@ -29,7 +42,7 @@ fn is_at(entries: &[(u16, RegRule<'_>)], place: usize, register: u16) -> bool
 }
 
 // The rule of a register in an ascending list.
-fn rule_of<'a>(entries: &[(u16, RegRule<'a>)], register: u16) -> RegRule<'a>
+fn rule_in_list<'a>(entries: &[(u16, RegRule<'a>)], register: u16) -> RegRule<'a>
     requires { AreSpecified 0 entries.now }
     ensures { result ≡ rule_in entries.now register }
 {
@@ -41,25 +54,30 @@ fn rule_of<'a>(entries: &[(u16, RegRule<'a>)], register: u16) -> RegRule<'a>
     }
 }
 
-// Writes another entry in place of one.
+// Writes another rule in place of one, which it answers.
 fn replace<'a>(
     entries: &mut SmallVec<(u16, RegRule<'a>), 8>,
     place: usize,
     entry: (u16, RegRule<'a>),
-)
+) -> RegRule<'a>
     requires { place < length entries.old.items }
-    ensures { entries.new.items ≡ take place entries.old.items ++ entry.entry ∷ drop (suc place) entries.old.items }
+    ensures older { HoldsAt (λ older. result ≡ older.1) entries.old.items place }
+    ensures entries { entries.new.items ≡ take place entries.old.items ++ entry.entry ∷ drop (suc place) entries.old.items }
 {
+    let older = entries[place].1.copied();
     entries[place] = entry;
+    older
 }
 
-// Gives a register a rule in an ascending list. Unspecified takes it out of the list.
-fn set_entry<'a>(
+// Gives a register a rule in an ascending list, and answers the one that it had. Unspecified takes it out
+// of the list.
+fn exchange_in_list<'a>(
     entries: &mut SmallVec<(u16, RegRule<'a>), 8>,
     register: u16,
     rule: RegRule<'a>,
-) -> Result<(), AllocError>
+) -> Result<RegRule<'a>, AllocError>
     requires { AreSpecified 0 entries.old.items }
+    ensures older { IfOk result (λ older. older ≡ rule_in entries.old.items register) }
     ensures ok { OnOk result (entries.new.items ≡ put register rule.entry entries.old.items) }
     ensures err { OnErr result (entries.new ≡ entries.old) }
 {
@@ -67,27 +85,75 @@ fn set_entry<'a>(
     let present = is_at(entries.as_slice(), place, register);
     if rule.is_specified() {
         if present {
-            replace(entries, place, (register, rule));
-        } else {
-            entries.insert(place, (register, rule))?;
+            return Ok(replace(entries, place, (register, rule)));
         }
-    } else if present {
-        entries.remove(place);
+        entries.insert(place, (register, rule))?;
+        return Ok(RegRule::Unspecified);
     }
-    Ok(())
+    if present {
+        return Ok(entries.remove(place).1);
+    }
+    Ok(RegRule::Unspecified)
 }
 
-// The same entries once more.
-fn copied_entries<'a>(
-    entries: &SmallVec<(u16, RegRule<'a>), 8>,
-) -> Result<SmallVec<(u16, RegRule<'a>), 8>, AllocError>
-    ensures { IfOk result (λ copy. copy.items ≡ entries.now.items) }
+// The same in a tree.
+fn exchange_in_tree<'a>(
+    entries: &mut BTreeMap<u16, RegRule<'a>>,
+    register: u16,
+    rule: RegRule<'a>,
+) -> Result<RegRule<'a>, AllocError>
+    requires { AreSpecified 0 entries.old.entries }
+    ensures older { IfOk result (λ older. older ≡ rule_in entries.old.entries register) }
+    ensures ok { OnOk result (entries.new.entries ≡ put register rule.entry entries.old.entries) }
+    ensures err { OnErr result (entries.new.entries ≡ entries.old.entries) }
 {
-    let mut copy = SmallVec::new(*entries.allocator());
-    for entry in entries.as_slice() {
-        copy.push((entry.0, entry.1.copied()))?;
+    if rule.is_specified() {
+        let older = entries.insert(register, rule)?;
+        return Ok(older.unwrap_or(RegRule::Unspecified));
     }
-    Ok(copy)
+    let older = entries.remove(&register);
+    Ok(older.unwrap_or(RegRule::Unspecified))
+}
+
+// The rule of a register in a tree.
+fn rule_in_tree<'a>(entries: &BTreeMap<u16, RegRule<'a>>, register: u16) -> RegRule<'a>
+    ensures { result ≡ rule_in entries.now.entries register }
+{
+    match entries.get(&register) {
+        Some(rule) => rule.copied(),
+        None => RegRule::Unspecified,
+    }
+}
+
+// A tree of ascending entries.
+fn tree_of<'a>(
+    entries: Specified<'_, 'a>,
+    alloc: Global,
+) -> Result<BTreeMap<u16, RegRule<'a>>, AllocError>
+    requires { AreSpecified 0 entries }
+    ensures { IfOk result (λ tree. tree.entries ≡ entries.entry) }
+{
+    let mut tree = BTreeMap::new(alloc);
+    for (register, rule) in entries {
+        tree.insert(register, rule)?;
+    }
+    Ok(tree)
+}
+
+// Makes a list that of others, in the room that is there.
+fn refill<'a>(
+    entries: &mut SmallVec<(u16, RegRule<'a>), 8>,
+    others: &[(u16, RegRule<'a>)],
+) -> Result<(), AllocError>
+    requires { AreSpecified 0 others.now }
+    ensures ok { OnOk result (entries.new.items ≡ others.now) }
+    ensures ascending { AreSpecified 0 entries.new.items }
+{
+    entries.clear();
+    for entry in others {
+        entries.push((entry.0, entry.1.copied()))?;
+    }
+    Ok(())
 }
 
 // Whether two lists have the same entries.
@@ -105,50 +171,186 @@ fn same_entries(entries: &[(u16, RegRule<'_>)], others: &[(u16, RegRule<'_>)]) -
     true
 }
 
+// Whether both give the same entries.
+fn give_same(entries: Specified<'_, '_>, others: Specified<'_, '_>) -> bool
+    ensures { IsTrue result ↔ (entries.entry ≡ others.entry) }
+{
+    let mut others = others;
+    for (register, rule) in entries {
+        let Some((other_register, other)) = others.step() else {
+            return false;
+        };
+        if register != other_register || !rule.is_same(&other) {
+            return false;
+        }
+    }
+    others.step().is_none()
+}
+
+impl<'a> Entries<'a> {
+    fn is_full(&self) -> bool {
+        match self {
+            Entries::Few(few) => few.len() >= MOST_IN_LIST,
+            Entries::Many(_) => false,
+        }
+    }
+
+    fn rule(&self, register: u16) -> RegRule<'a>
+        requires { AreSpecified 0 (entries_of self.now) }
+        ensures { result ≡ rule_in (entries_of self.now) register }
+    {
+        match self {
+            Entries::Few(few) => rule_in_list(few.as_slice(), register),
+            Entries::Many(many) => rule_in_tree(many, register),
+        }
+    }
+
+    fn all(&self) -> Specified<'_, 'a>
+        ensures { result ≡ entries_of self.now }
+    {
+        Specified {
+            unseen: match self {
+                Entries::Few(few) => Unseen::Few(few.as_slice()),
+                Entries::Many(many) => Unseen::Many(many.iter()),
+            },
+        }
+    }
+
+    fn is_same(&self, others: &Entries<'_>) -> bool
+        ensures { IsTrue result ↔ (entries_of self.now ≡ entries_of others.now) }
+    {
+        match (self, others) {
+            (Entries::Few(few), Entries::Few(others)) => {
+                same_entries(few.as_slice(), others.as_slice())
+            }
+            _ => give_same(self.all(), others.all()),
+        }
+    }
+
+    fn copied(&self, alloc: Global) -> Result<Entries<'a>, AllocError>
+        requires { AreSpecified 0 (entries_of self.now) }
+        ensures { IfOk result (λ copy. entries_of copy ≡ entries_of self.now) }
+    {
+        match self {
+            Entries::Few(few) => {
+                let mut copy = SmallVec::new(alloc);
+                refill(&mut copy, few.as_slice())?;
+                Ok(Entries::Few(copy))
+            }
+            Entries::Many(_) => Ok(Entries::Many(tree_of(self.all(), alloc)?)),
+        }
+    }
+
+    // Makes them a copy of others. Few among few stay in their room.
+    fn become_copy(&mut self, others: &Entries<'a>, alloc: Global) -> Result<(), AllocError>
+        requires before { AreSpecified 0 (entries_of self.old) }
+        requires others { AreSpecified 0 (entries_of others.now) }
+        ensures ok { OnOk result (entries_of self.new ≡ entries_of others.now) }
+        ensures ascending { AreSpecified 0 (entries_of self.new) }
+    {
+        if let Entries::Few(few) = self {
+            if let Entries::Few(others) = others {
+                return refill(few, others.as_slice());
+            }
+        }
+        *self = others.copied(alloc)?;
+        Ok(())
+    }
+
+    // Puts them into a tree where they are a full list and the register comes in.
+    fn make_place(&mut self, register: u16, alloc: Global) -> Result<(), AllocError>
+        requires { AreSpecified 0 (entries_of self.old) }
+        ensures { entries_of self.new ≡ entries_of self.old }
+    {
+        if self.is_full() && !self.rule(register).is_specified() {
+            let tree = tree_of(self.all(), alloc)?;
+            *self = Entries::Many(tree);
+        }
+        Ok(())
+    }
+
+    // Gives a register a rule, and answers the one that it had.
+    fn exchange(
+        &mut self,
+        register: u16,
+        rule: RegRule<'a>,
+        alloc: Global,
+    ) -> Result<RegRule<'a>, AllocError>
+        requires { AreSpecified 0 (entries_of self.old) }
+        ensures older { IfOk result (λ older. older ≡ rule_in (entries_of self.old) register) }
+        ensures ok { OnOk result (entries_of self.new ≡ put register rule.entry (entries_of self.old)) }
+        ensures err { OnErr result (entries_of self.new ≡ entries_of self.old) }
+    {
+        if rule.is_specified() {
+            self.make_place(register, alloc)?;
+        }
+        match self {
+            Entries::Few(few) => exchange_in_list(few, register, rule),
+            Entries::Many(many) => exchange_in_tree(many, register, rule),
+        }
+    }
+}
+
 /// The rules at an address: how the canonical frame address and the registers of the caller are found. A
 /// contract sees the CFA's rule and the registers that are not Unspecified, ascending, with theirs.
 #[derive(Drop)]
 pub struct Row<'a> {
     cfa: CfaRule<'a>,
-    entries: SmallVec<(u16, RegRule<'a>), 8>,
+    entries: Entries<'a>,
+    alloc: Global,
 }
 
 impl<'a> Model for Row<'a> {
     ghost use Rattle.dw_cfa.specs.Rows.{Rules, AreSpecified};
+    ghost use Rattle.dw_cfa.specs.Entries.{entries_of};
 
     ghost Value = { Rules };
 
-    ghost view = { λ r. record { cfa = r.cfa; registers = r.entries.items } };
+    ghost view = { λ r. record { cfa = r.cfa; registers = entries_of r.entries } };
 
-    ghost invariant = { λ r. AreSpecified 0 r.entries.items };
+    ghost invariant = { λ r. AreSpecified 0 (entries_of r.entries) };
+}
+
+// What an iterator over the registers of a row has not shown.
+#[derive(Drop)]
+enum Unseen<'r, 'a> {
+    Few(&'r [(u16, RegRule<'a>)]),
+    Many(btree_map::Iter<'r, u16, RegRule<'a>>),
 }
 
 /// An iterator over the registers that a row specifies, ascending, with their rules. Takes no memory.
 #[derive(Drop)]
 pub struct Specified<'r, 'a> {
-    entries: &'r [(u16, RegRule<'a>)],
+    unseen: Unseen<'r, 'a>,
 }
 
 impl<'r, 'a> Model for Specified<'r, 'a> {
     ghost use Rattle.std.specs.Prelude.{List, ℕ};
     ghost use Rattle.dw_cfa.specs.declared.rule.RegRule.{RegRule as Rule};
+    ghost use Rattle.dw_cfa.specs.Entries.{unseen_of};
 
     ghost Value = { List (ℕ × Rule) };
 
-    ghost view = { λ s. s.entries.now };
+    ghost view = { λ s. unseen_of s.unseen };
 }
 
 impl<'r, 'a> Specified<'r, 'a> {
     fn step(&mut self) -> Option<(u16, RegRule<'a>)>
         ensures { MatchOption result ((self.old ≡ []) × (self.new ≡ [])) (λ entry. self.old ≡ entry ∷ self.new) }
     {
-        if self.entries.is_empty() {
-            return None;
+        if let Unseen::Few(few) = self.unseen {
+            if few.is_empty() {
+                return None;
+            }
+            let first = &few[0];
+            self.unseen = Unseen::Few(&few[1..]);
+            return Some((first.0, first.1.copied()));
         }
-        let first = &self.entries[0];
-        let entry = (first.0, first.1.copied());
-        self.entries = &self.entries[1..];
-        Some(entry)
+        let Unseen::Many(many) = &mut self.unseen else {
+            return None;
+        };
+        let (register, rule) = many.next()?;
+        Some((*register, rule.copied()))
     }
 }
 
@@ -177,7 +379,8 @@ impl<'a> Row<'a> {
     {
         Row {
             cfa: CfaRule::Unset,
-            entries: SmallVec::new(alloc),
+            entries: Entries::Few(SmallVec::new(alloc)),
+            alloc,
         }
     }
 
@@ -187,7 +390,8 @@ impl<'a> Row<'a> {
     {
         Ok(Row {
             cfa: self.cfa.copied(),
-            entries: copied_entries(&self.entries)?,
+            entries: self.entries.copied(self.alloc)?,
+            alloc: self.alloc,
         })
     }
 
@@ -202,15 +406,14 @@ impl<'a> Row<'a> {
     pub fn rule(&self, register: u16) -> RegRule<'a>
         ensures { result ≡ rule self.now register }
     {
-        rule_of(self.entries.as_slice(), register)
+        self.entries.rule(register)
     }
 
     /// Whether both rows have the same rule in every column. Expressions are compared by their operations.
     pub fn is_same(&self, other: &Row<'_>) -> bool
         ensures { IsTrue result ↔ (self.now ≡ other.now) }
     {
-        self.cfa.is_same(&other.cfa)
-            && same_entries(self.entries.as_slice(), other.entries.as_slice())
+        self.cfa.is_same(&other.cfa) && self.entries.is_same(&other.entries)
     }
 
     /// The registers that are not Unspecified, ascending, with their rules. Takes no memory.
@@ -218,9 +421,7 @@ impl<'a> Row<'a> {
         ensures all { result ≡ self.now.registers }
         ensures ascending { AreSpecified 0 self.now.registers }
     {
-        Specified {
-            entries: self.entries.as_slice(),
-        }
+        self.entries.all()
     }
 
     pub(crate) fn set_cfa(&mut self, cfa: CfaRule<'a>)
@@ -234,6 +435,34 @@ impl<'a> Row<'a> {
         ensures ok { OnOk result (self.new ≡ with_rule register rule.entry self.old) }
         ensures err { OnErr result (self.new ≡ self.old) }
     {
-        set_entry(&mut self.entries, register, rule)
+        self.exchange(register, rule)?;
+        Ok(())
+    }
+
+    // Gives a register a rule and answers the one that it had, or want of memory.
+    pub(crate) fn exchange(
+        &mut self,
+        register: u16,
+        rule: RegRule<'a>,
+    ) -> Result<RegRule<'a>, AllocError>
+        ensures ok { IfOk result (λ older. (older ≡ rule_in self.old.registers register) × (self.new ≡ with_rule register rule.entry self.old)) }
+        ensures back { IfOk result (λ older. with_rule register older self.new ≡ self.old) }
+        ensures err { OnErr result (self.new ≡ self.old) }
+    {
+        self.entries.exchange(register, rule, self.alloc)
+    }
+
+    // Makes it a copy of another row, in the room that is there, or answers want of memory.
+    pub(crate) fn become_copy(&mut self, other: &Row<'a>) -> Result<(), AllocError>
+        ensures { OnOk result (self.new ≡ other.now) }
+    {
+        self.entries.become_copy(&other.entries, self.alloc)?;
+        self.cfa = other.cfa.copied();
+        Ok(())
+    }
+
+    // Whether the registers are in a tree.
+    pub(crate) fn is_wide(&self) -> bool {
+        matches!(self.entries, Entries::Many(_))
     }
 }

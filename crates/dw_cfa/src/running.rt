@@ -9,6 +9,7 @@ use crate::instr::{Factors, Instr};
 use crate::machine::{Machine, StepError, write_rule};
 use crate::reading::read_instr;
 use crate::row::Row;
+use crate::states::States;
 use dw_num::{Code, Cursor, Refusal, are_bytes};
 use std::alloc::{AllocError, AllocFailed};
 
@@ -101,7 +102,8 @@ fn run_one<'a>(
 ) -> Result<bool, RunError>
     requires some { 0 < length cursor.old.bytes }
     requires so { RunsSo machine.old cursor.old }
-    ensures { Ran factors cursor.old machine.old result cursor.new machine.new }
+    ensures ran { Ran factors cursor.old machine.old result cursor.new machine.new }
+    ensures initial { machine.new.initial ≡ machine.old.initial }
 {
     are_bytes(cursor.rest());
     let at = cursor.at();
@@ -121,7 +123,8 @@ pub(crate) fn next_row<'a>(
     machine: &mut Machine<'a>,
 ) -> Result<(u128, bool), RunError>
     requires { RunsSo machine.old cursor.old }
-    ensures { GivesRow (rows_left factors cursor.old machine.old) factors cursor.new machine.new result }
+    ensures row { GivesRow (rows_left factors cursor.old machine.old) factors cursor.new machine.new result }
+    ensures initial { machine.new.initial ≡ machine.old.initial }
 {
     'instrs: while cursor.left() > 0 {
         let location = machine.location;
@@ -136,10 +139,10 @@ pub(crate) fn next_row<'a>(
 fn write_one<'a>(
     cursor: &mut Cursor<'a>,
     factors: Factors,
-    row: &mut Row<'a>,
+    states: &mut States<'a>,
 ) -> Result<(), RunError>
     requires { 0 < length cursor.old.bytes }
-    ensures { Wrote factors cursor.old row.old result cursor.new row.new }
+    ensures { Wrote factors cursor.old states.old result cursor.new states.new }
 {
     are_bytes(cursor.rest());
     let at = cursor.at();
@@ -150,7 +153,7 @@ fn write_one<'a>(
             at,
         }));
     }
-    match write_rule(row, instr) {
+    match write_rule(states, instr) {
         Ok(()) => Ok(()),
         Err(error) => Err(run_error(at, error)),
     }
@@ -160,13 +163,14 @@ fn write_one<'a>(
 pub(crate) fn run_initial<'a>(
     cursor: &mut Cursor<'a>,
     factors: Factors,
-    row: &mut Row<'a>,
+    states: &mut States<'a>,
 ) -> Result<(), RunError>
-    ensures ok { OnOk result (initial_row (placed factors cursor.old) row.old ≡ Ok row.new) }
-    ensures err { IfErr result (λ e. RefusalIs e (λ r. initial_row (placed factors cursor.old) row.old ≡ Err r)) }
+    ensures ok { OnOk result (initial_row (placed factors cursor.old) states.old.row ≡ Ok states.new.row) }
+    ensures same { OnOk result ((states.new.stack ≡ states.old.stack) × (states.new.first ≡ states.old.first)) }
+    ensures err { IfErr result (λ e. RefusalIs e (λ r. initial_row (placed factors cursor.old) states.old.row ≡ Err r)) }
 {
     'instrs: while cursor.left() > 0 {
-        write_one(cursor, factors, row)?;
+        write_one(cursor, factors, states)?;
     }
     Ok(())
 }

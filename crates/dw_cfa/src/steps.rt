@@ -4,26 +4,37 @@ ghost use Rattle.std.specs.Prelude.{◌≡◌, ℕ, ◌<◌, ◌≤◌, Some, No
 ghost use Rattle.dw_num.specs.Target.{address_limit};
 ghost use Rattle.dw_num.specs.declared.refusal.Refusal.{Refusal};
 ghost use Rattle.dw_cfa.specs.declared.running.LocatedRow.{LocatedRow};
-ghost use Rattle.dw_cfa.specs.Runs.{finished, RunsSo, GivesRow, RefusalIs, placed, initial_row, rows_behind, run_rows};
+ghost use Rattle.dw_cfa.specs.Runs.{finished, RunsSo, GivesRow, RefusalIs, placed, initial_row, run_rows};
 ghost use Rattle.dw_cfa.specs.Rows.{blank};
-ghost use Rattle.dw_cfa.specs.Stepping.{Advances, Answers, begun_rows, stepping, program_input};
+ghost use Rattle.dw_cfa.specs.Stepping.{Advances, Answers, begun_rows, stepping, program_input, progress_after};
 
 use crate::instr::Factors;
 use crate::machine::Machine;
 use crate::row::Row;
 use crate::running::{LocatedRow, RunError, next_row, run_initial};
+use crate::states::States;
 use dw_num::{Cursor, Program, Target};
-use smallvec::SmallVec;
-use std::alloc::{AllocError, Global};
+use std::alloc::Global;
 use std::marker::Model;
 
 /// How far the programs were run.
 #[derive(Clone, Copy)]
-enum Progress {
+pub(crate) enum Progress {
     Begun,
     Running,
     Finished,
     Failed(RunError),
+}
+
+// Where a program stands behind an answer: a row starts at a location, and more may follow.
+pub(crate) fn progress_after(answer: Result<(u128, bool), RunError>) -> Progress
+    ensures { result ≡ progress_after answer }
+{
+    match answer {
+        Ok((_, true)) => Progress::Running,
+        Ok((_, false)) => Progress::Finished,
+        Err(error) => Progress::Failed(error),
+    }
 }
 
 // Runs a CIE's program, and an FDE's up to the end of its first row.
@@ -34,11 +45,12 @@ fn first_row<'a>(
     machine: &mut Machine<'a>,
 ) -> Result<(u128, bool), RunError>
     requires so { RunsSo machine.old fde.old }
-    requires none { machine.old.remembered.items ≡ [] }
+    requires none { machine.old.states.stack ≡ [] }
+    requires first { machine.old.states.first ≡ None }
     ensures { GivesRow (begun_rows factors cie.old fde.old machine.old) factors fde.new machine.new result }
 {
-    run_initial(cie, factors, &mut machine.initial)?;
-    machine.row = machine.initial.copied()?;
+    run_initial(cie, factors, &mut machine.states)?;
+    machine.initial = machine.states.row().copied()?;
     next_row(fde, factors, machine)
 }
 
@@ -52,10 +64,10 @@ pub fn initial_row<'a>(
     ensures ok { IfOk result (λ row. initial_row (placed factors (program_input cie_program.entry target)) blank ≡ Ok row) }
     ensures err { IfErr result (λ e. RefusalIs e (λ r. initial_row (placed factors (program_input cie_program.entry target)) blank ≡ Err r)) }
 {
-    let mut row = Row::blank(alloc);
+    let mut states = States::new(alloc, Row::blank(alloc), false);
     let mut cursor = Cursor::new(cie_program.bytes, cie_program.at, target);
-    run_initial(&mut cursor, factors, &mut row)?;
-    Ok(row)
+    run_initial(&mut cursor, factors, &mut states)?;
+    Ok(states.into_row())
 }
 
 /// The rows that a CIE's and an FDE's program give, one at a time: one before each instruction that moves the
@@ -101,42 +113,11 @@ impl<'a> RowSteps<'a> {
             fde: Cursor::new(fde_program.bytes, fde_program.at, target),
             machine: Machine {
                 initial: Row::blank(alloc),
-                row: Row::blank(alloc),
-                remembered: SmallVec::new(alloc),
+                states: States::new(alloc, Row::blank(alloc), false),
                 location: u128::from(begin),
                 limit: target.size.address_limit(),
             },
         }
-    }
-
-    /// The rows of an FDE's program behind the initial row that `initial_row` gives, from an address `begin` of
-    /// the target on, or want of memory.
-    pub fn from_initial(
-        alloc: Global,
-        initial: Row<'a>,
-        fde_program: Program<'a>,
-        begin: u64,
-        factors: Factors,
-        target: Target,
-    ) -> Result<RowSteps<'a>, AllocError>
-        requires { begin < address_limit target.size }
-        ensures { IfOk result (λ s. s ≡ stepping initial.entry (rows_behind factors initial.entry (program_input fde_program.entry target) begin)) }
-    {
-        let row = initial.copied()?;
-        let limit = target.size.address_limit();
-        Ok(RowSteps {
-            progress: Progress::Running,
-            factors,
-            cie: Cursor::new(&[], 0, target),
-            fde: Cursor::new(fde_program.bytes, fde_program.at, target),
-            machine: Machine {
-                initial,
-                row,
-                remembered: SmallVec::new(alloc),
-                location: u128::from(begin),
-                limit,
-            },
-        })
     }
 
     /// Goes on to the next row, which `row` lends then, and answers the location that it starts at, or none behind
@@ -156,27 +137,15 @@ impl<'a> RowSteps<'a> {
             Progress::Finished => return Ok(None),
             Progress::Failed(error) => return Err(error),
         };
-        match answer {
-            Ok((location, true)) => {
-                self.progress = Progress::Running;
-                Ok(Some(location))
-            }
-            Ok((location, false)) => {
-                self.progress = Progress::Finished;
-                Ok(Some(location))
-            }
-            Err(error) => {
-                self.progress = Progress::Failed(error);
-                Err(error)
-            }
-        }
+        self.progress = progress_after(answer);
+        Ok(Some(answer?.0))
     }
 
     /// The row that `advance` or `next` went on to, and before the first one a row of no meaning.
     pub fn row(&self) -> &Row<'a>
         ensures { result.now ≡ self.now.current }
     {
-        &self.machine.row
+        self.machine.states.row()
     }
 
     /// The location that the next row starts at, which is where the row that is lent ends. None behind the last row, and
@@ -199,7 +168,7 @@ impl<'a> RowSteps<'a> {
         let Some(location) = self.advance()? else {
             return Ok(None);
         };
-        match self.machine.row.copied() {
+        match self.machine.states.row().copied() {
             Ok(row) => Ok(Some(LocatedRow { location, row })),
             Err(_) => {
                 self.progress = Progress::Failed(RunError::OutOfMemory);

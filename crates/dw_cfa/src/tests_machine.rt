@@ -4,7 +4,7 @@
 ghost use Rattle.std.specs.Prelude.{◌<◌};
 ghost use Rattle.dw_num.specs.Target.{address_limit};
 
-use crate::{CfaRule, Factors, LocatedRow, RegRule, Row, RowSteps, RunError, initial_row, run};
+use crate::{CfaRule, CieMachine, Factors, LocatedRow, RegRule, Row, RowSteps, RunError, initial_row, run};
 use dw_num::{Order, Program, Size, Target};
 use dw_op::ExprRef;
 use std::alloc::Global;
@@ -155,6 +155,21 @@ fn one_by_one(alloc: Global, mut steps: RowSteps<'_>) -> Result<String, Fail> {
     Err(Fail::new("no last row"))
 }
 
+// The rows that are left of an FDE, or the refusal alone.
+fn lent_rows(alloc: Global, machine: &mut CieMachine<'_>) -> Result<String, Fail> {
+    let mut text = String::new(alloc);
+    for _ in 0..100 {
+        let location = match machine.advance() {
+            Ok(Some(location)) => location,
+            Ok(None) => return Ok(text),
+            Err(error) => return error_text(alloc, error),
+        };
+        let row = row_text(alloc, machine.row())?;
+        text.push_str(&format!(in alloc; "{location:#x} {row};")?)?;
+    }
+    Err(Fail::new("no last row"))
+}
+
 fn behind_initial(
     alloc: Global,
     cie: &[u8],
@@ -165,11 +180,10 @@ fn behind_initial(
 ) -> Result<String, Fail>
     requires { begin < address_limit target.size }
 {
-    match initial_row(alloc, cie_program(cie), factors, target) {
-        Ok(initial) => {
-            let fde = fde_program(fde);
-            let steps = RowSteps::from_initial(alloc, initial, fde, begin, factors, target)?;
-            one_by_one(alloc, steps)
+    match CieMachine::new(alloc, cie_program(cie), factors, target) {
+        Ok(mut machine) => {
+            machine.begin(fde_program(fde), begin)?;
+            lent_rows(alloc, &mut machine)
         }
         Err(error) => error_text(alloc, error),
     }
@@ -477,19 +491,24 @@ fn copies_rows(rt: HostRuntime) -> Result<(), Fail> {
 #[test]
 fn starts_two_fdes_from_one_row(rt: HostRuntime) -> Result<(), Fail> {
     let alloc = rt.alloc();
-    let initial = initial_row(alloc, cie_program(CIE), PLAIN, LITTLE)?;
-    let fde = fde_program(b"\x0e\x10\x07\x10\x44\xd0");
-    let first = RowSteps::from_initial(alloc, initial.copied()?, fde, 0x1000, PLAIN, LITTLE)?;
+    let mut machine = CieMachine::new(alloc, cie_program(CIE), PLAIN, LITTLE)?;
+    assert_eq!(rt; machine.advance(), Ok(None));
+    machine.begin(fde_program(b"\x0e\x10\x07\x10\x0a\x44\xd0"), 0x1000)?;
     assert_eq!(rt;
-        one_by_one(alloc, first)?.as_str(),
+        lent_rows(alloc, &mut machine)?.as_str(),
         "0x1000 cfa=r7+16 r16=u;0x1004 cfa=r7+16 r16=[cfa-8];"
     );
-    let fde = fde_program(b"");
-    let second = RowSteps::from_initial(alloc, initial, fde, 0x2000, PLAIN, LITTLE)?;
+    machine.begin(fde_program(b"\x83\x02\x0b"), 0x1000)?;
     assert_eq!(rt;
-        one_by_one(alloc, second)?.as_str(),
+        lent_rows(alloc, &mut machine)?.as_str(),
+        "EmptyStateStack at 0x32"
+    );
+    machine.begin(fde_program(b""), 0x2000)?;
+    assert_eq!(rt;
+        lent_rows(alloc, &mut machine)?.as_str(),
         "0x2000 cfa=r7+8 r16=[cfa-8];"
     );
+    assert_eq!(rt; row_text(alloc, machine.initial())?.as_str(), "cfa=r7+8 r16=[cfa-8]");
     Ok(())
 }
 
@@ -497,8 +516,7 @@ fn starts_two_fdes_from_one_row(rt: HostRuntime) -> Result<(), Fail> {
 fn gives_the_rows_before_a_fault(rt: HostRuntime) -> Result<(), Fail> {
     let alloc = rt.alloc();
     let fde = fde_program(b"\x41\x0e\x10\x44\x0b");
-    let initial = initial_row(alloc, cie_program(CIE), PLAIN, LITTLE)?;
-    let mut steps = RowSteps::from_initial(alloc, initial, fde, 0x1000, PLAIN, LITTLE)?;
+    let mut steps = RowSteps::new(alloc, cie_program(CIE), fde, 0x1000, PLAIN, LITTLE);
     let first = steps.next()?.ok_or("a row at 0x1000")?;
     assert_eq!(rt;
         located_text(alloc, &first)?.as_str(),

@@ -1,5 +1,5 @@
 -- What running programs tells of headers.
-use Rattle.std.proofs.Common.{◌≡◌, ℕ, zero, suc, ◌+◌, ◌<◌, ◌≤◌, Bool, true, false, List, [], ◌∷◌, ◌++◌, map, length, get_or, take, drop, Option, Some, None, refl, sym, ap, subst, ◌∙◌, append_assoc, arith, inl, inr}
+use Rattle.std.proofs.Common.{◌≡◌, ℕ, zero, suc, ◌+◌, ◌<◌, ◌≤◌, Bool, true, false, List, [], ◌∷◌, ◌++◌, map, length, get_or, set, take, drop, Option, Some, None, refl, sym, ap, subst, ◌∙◌, append_assoc, arith, inl, inr}
 use Rattle.std.specs.Prelude.{nat_lt}
 use Rattle.std.specs.List.{AllByRecursion}
 use Rattle.std.specs.List.Sorted.{IsNonDecreasingBy}
@@ -23,6 +23,7 @@ use Rattle.dw_cfa.specs.declared.running.LocatedRow.{LocatedRow}
 use Rattle.dw_cfa.specs.Behind.{GivesBehind}
 use Rattle.dw_cfa.specs.Column.{cfa_after}
 use Rattle.dw_cfa.specs.Faults.{FdeFault}
+use Rattle.dw_cfa.specs.Following.{Following, with_steps}
 use Rattle.dw_cfa.specs.Kept.{FdeKept}
 use Rattle.dw_cfa.specs.Laws.{initial_cfa}
 use Rattle.dw_cfa.specs.Location.{Counts}
@@ -137,6 +138,22 @@ steps_rows steps row initial f i begin e same h =
     ap (λ (x : Rules). rows_behind f x i begin) (sym same) ∙ ap (λ (s : Stepping). s.outcome) (sym e)
     ∙ ap (λ (fault : Option Refusal). let o : Outcome = record { rows = steps.outcome.rows; fault = fault } in o) h
 
+-- ---- a machine that ran an FDE's program
+
+pub same_again : (m n o : Following) → n ≡ with_steps m n.steps → o ≡ with_steps n o.steps → o ≡ with_steps m o.steps
+same_again m n o first next = next ∙ ap (λ (x : Following). with_steps x o.steps) first
+
+pub all_set : {X : Type 0} (P : X → Type 0) (xs : List X) (i : ℕ) (y : X) → AllByRecursion P xs → P y → AllByRecursion P (set xs i y)
+all_set P [] i y h is = tt
+all_set P (x ∷ xs) zero y h is = (is, h.1)
+all_set P (x ∷ xs) (suc i) y h is = (h.0, all_set P xs i y h.1 is)
+
+abbrev pub with_machine : Initial → Following → Initial
+with_machine c m = record { at = c.at; factors = c.factors; return_register = c.return_register; program = c.program; machine = m }
+
+pub initial_stays : (target : Target) (hs : List Head) (c : Initial) (m : Following) → m ≡ with_steps c.machine m.steps → IsInitial target hs c → IsInitial target hs (with_machine c m)
+initial_stays target hs c m same is = subst (λ (x : Following). IsInitial target hs (with_machine c x)) (sym same) is
+
 -- ---- an FDE whose CIE is kept
 
 module _ (target : Target) (hs : List Head) (c : Initial) (is : IsInitial target hs c) (at : ℕ) (form : Form) (cie_at begin range : ℕ) (program : Span) (place : c.at ≡ cie_at) where
@@ -148,10 +165,10 @@ module _ (target : Target) (hs : List Head) (c : Initial) (is : IsInitial target
     spelled = is.3.program;
   }
 
-  pub fde_broken : (r : Refusal) → FdeFault c.factors c.row.cfa (input_of target program) begin r → FdeBroken target hs (fde at form cie_at begin range program) r
+  pub fde_broken : (r : Refusal) → FdeFault c.factors c.machine.initial.cfa (input_of target program) begin r → FdeBroken target hs (fde at form cie_at begin range program) r
   fde_broken r fault = (c.factors, c.return_register, is.1, begins_so, subst (λ (x : CfaRule). FdeFault c.factors x (input_of target program) begin r) is.3.cfa fault)
 
-  module _ (instrs : List Instr) (rows : List LocatedRow) (given : GivesBehind c.factors c.row (input_of target program) begin instrs rows) where
+  module _ (instrs : List Instr) (rows : List LocatedRow) (given : GivesBehind c.factors c.machine.initial (input_of target program) begin instrs rows) where
     instrs_so : Instrs target hs cie_at program is.1 instrs
     instrs_so = record { factors = c.factors; register = c.return_register; begins = begins_so; spelled = given.program }
 
@@ -178,6 +195,23 @@ module _ (target : Target) (hs : List Head) (c : Initial) (is : IsInitial target
     pub has_or_lacks : (lacks : Bool) → lacks ≡ lacks_from (begin + range) begin false rows → HasOrLacks target hs (fde at form cie_at begin range program) lacks
     has_or_lacks true e = lacks_so (sym e)
     has_or_lacks false e = (is.1, instrs, instrs_so, has_at (sym e))
+
+-- what a run behind a CIE's machine tells
+module _ (target : Target) (hs : List Head) (c : Initial) (is : IsInitial target hs c) (at : ℕ) (form : Form) (cie_at begin range : ℕ) (program : Span) (place : c.at ≡ cie_at) where
+  abbrev Ran : Factors → Target → Bool → Type 0
+  Ran f t lacks = (instrs : List Instr) × (rows : List LocatedRow) × GivesBehind f c.machine.initial (input_of t program) begin instrs rows × (lacks ≡ lacks_from (begin + range) begin false rows)
+
+  pub behind_found : (lacks : Bool) → Ran c.machine.factors c.machine.target lacks
+      → FdeRuns target hs (fde at form cie_at begin range program) × HasOrLacks target hs (fde at form cie_at begin range program) lacks
+  behind_found lacks ran =
+      let y : Ran c.factors target lacks = subst (λ (t : Target). Ran c.factors t lacks) is.5 (subst (λ (f : Factors). Ran f c.machine.target lacks) is.4 ran) in
+      (fde_runs target hs c is at form cie_at begin range program place y.0 y.1 y.2, has_or_lacks target hs c is at form cie_at begin range program place y.0 y.1 y.2 lacks y.3)
+
+  pub behind_broken : (r : Refusal) → FdeFault c.machine.factors c.machine.initial.cfa (input_of c.machine.target program) begin r → FdeBroken target hs (fde at form cie_at begin range program) r
+  behind_broken r fault =
+      fde_broken target hs c is at form cie_at begin range program place r
+      (subst (λ (t : Target). FdeFault c.factors c.machine.initial.cfa (input_of t program) begin r) is.5
+      (subst (λ (f : Factors). FdeFault f c.machine.initial.cfa (input_of c.machine.target program) begin r) is.4 fault))
 
 -- ---- the first that lacks one
 

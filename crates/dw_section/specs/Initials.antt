@@ -24,11 +24,11 @@ of_run run.OutOfMemory = OutOfMemory
 abbrev pub place_of : Initial → ℕ
 place_of c = c.at
 
--- it is of a CIE among the headers, and has the row that its program leaves
+-- it is of a CIE among the headers, and its machine has the row that the CIE's program leaves
 abbrev pub IsInitial : Target → List Head → Initial → Type 0
 IsInitial target hs c =
     (form : Form) × (instrs : List Instr) × IsAmong (cie c.at form c.factors.code_factor c.factors.data_factor c.return_register (span_of c.program)) hs
-    × Leaves c.factors (input_of target (span_of c.program)) instrs c.row
+    × Leaves c.factors (input_of target (span_of c.program)) instrs c.machine.initial × (c.machine.factors ≡ c.factors) × (c.machine.target ≡ target)
 
 -- the programs of these run, and this is kept of the CIEs among them
 pub record AreInitials (target : Target) (hs front : List Head) (cs : List Initial) : Type 0 where

@@ -11,11 +11,12 @@ ghost use Rattle.dw_cfa.specs.declared.instr.Instr.{Instr};
 ghost use Rattle.dw_cfa.specs.declared.running.LocatedRow.{LocatedRow};
 ghost use Rattle.dw_cfa.specs.Behind.{GivesBehind};
 ghost use Rattle.dw_cfa.specs.Faults.{CieFault, FdeFault};
+ghost use Rattle.dw_cfa.specs.Following.{with_steps};
 ghost use Rattle.dw_cfa.specs.Runs.{RefusalIs};
 ghost use Rattle.dw_section.specs.Covered.{is_unset, leaves_one, lacks_from};
 ghost use Rattle.dw_section.specs.FdeFields.{is_among};
 ghost use Rattle.dw_section.specs.Faults.{Refuses};
-ghost use Rattle.dw_section.specs.Headers.{Head, cie, head_in};
+ghost use Rattle.dw_section.specs.Headers.{Head, cie, fde, head_in};
 ghost use Rattle.dw_section.specs.Heads.{FdeFits, head_at, IsTyped};
 ghost use Rattle.std.specs.Prelude.{FitsSigned};
 ghost use Rattle.std.specs.Int.{w64};
@@ -26,18 +27,18 @@ ghost use Rattle.dw_section.specs.Stage.{FirstStuck};
 
 use crate::error::SectionError;
 use crate::heading::Header;
-use dw_cfa::{CfaRule, Factors, Row, RowSteps, RunError, behind_laws, initial_laws, initial_row};
+use dw_cfa::{CfaRule, CieMachine, Factors, Row, RunError, behind_laws, initial_laws};
 use dw_num::{Program, Target, are_bytes};
 use std::alloc::Global;
 
-/// What the FDEs of a CIE begin with: its fields, and the row that its program leaves.
+/// What the FDEs of a CIE begin with: its fields, and the machine behind its program.
 #[derive(Drop)]
 pub(crate) struct Initial<'a> {
     pub(crate) at: u64,
     pub(crate) factors: Factors,
     pub(crate) return_register: u16,
     pub(crate) program: Program<'a>,
-    pub(crate) row: Row<'a>,
+    pub(crate) machine: CieMachine<'a>,
 }
 
 // Runs a CIE's program.
@@ -56,13 +57,13 @@ fn run_cie<'a>(
 {
     are_bytes(program.bytes);
     initial_laws();
-    let row = initial_row(alloc, program, factors, target)?;
+    let machine = CieMachine::new(alloc, program, factors, target)?;
     Ok(Initial {
         at,
         factors,
         return_register,
         program,
-        row,
+        machine,
     })
 }
 
@@ -150,17 +151,18 @@ fn leaves_one(end: u128, low: u128, unset: bool, location: u128) -> bool
 }
 
 // Goes over all rows, and says whether an address from `begin` up to the end has no rule for the CFA.
-fn lacks_rule(steps: &mut RowSteps<'_>, begin: u128, end: u128) -> Result<bool, RunError>
-    requires { steps.old.error ≡ None }
-    ensures found { IfOk result (λ lacks. (steps.old.outcome.fault ≡ None) × (lacks ≡ lacks_from end begin false steps.old.outcome.rows)) }
-    ensures refused { IfErr result (λ e. RefusalIs e (λ r. steps.old.outcome.fault ≡ Some r)) }
+fn lacks_rule(machine: &mut CieMachine<'_>, begin: u128, end: u128) -> Result<bool, RunError>
+    requires { machine.old.steps.error ≡ None }
+    ensures found { IfOk result (λ lacks. (machine.old.steps.outcome.fault ≡ None) × (lacks ≡ lacks_from end begin false machine.old.steps.outcome.rows)) }
+    ensures refused { IfErr result (λ e. RefusalIs e (λ r. machine.old.steps.outcome.fault ≡ Some r)) }
+    ensures same { machine.new ≡ with_steps machine.old machine.new.steps }
 {
     let mut lacks = false;
     let mut unset = false;
     let mut low = begin;
-    'rows: while let Some(location) = steps.advance()? {
+    'rows: while let Some(location) = machine.advance()? {
         lacks = lacks || leaves_one(end, low, unset, location);
-        unset = is_unset(steps.row());
+        unset = is_unset(machine.row());
         low = location;
     }
     Ok(lacks || unset && low < end)
@@ -168,38 +170,62 @@ fn lacks_rule(steps: &mut RowSteps<'_>, begin: u128, end: u128) -> Result<bool, 
 
 // Runs an FDE's program, and says whether one of its addresses has no rule for the CFA.
 fn run_fde<'a>(
-    alloc: Global,
-    initial: &Initial<'a>,
+    machine: &mut CieMachine<'a>,
+    program: Program<'a>,
+    begin: u64,
+    range: u64,
+) -> Result<bool, SectionError>
+    requires { begin < address_limit machine.old.target.size }
+    ensures found { IfOk result (λ lacks. (instrs : List Instr) × (rows : List LocatedRow) × GivesBehind machine.old.factors machine.old.initial (input_of machine.old.target (span_of program.entry)) begin instrs rows × (lacks ≡ lacks_from (begin + range) begin false rows)) }
+    ensures stuck { IfErr result (Refuses (FdeFault machine.old.factors machine.old.initial.cfa (input_of machine.old.target (span_of program.entry)) begin)) }
+    ensures same { machine.new ≡ with_steps machine.old machine.new.steps }
+{
+    are_bytes(program.bytes);
+    behind_laws();
+    let _ = machine.initial().specified();
+    machine.begin(program, begin)?;
+    let begin = u128::from(begin);
+    let lacks = lacks_rule(machine, begin, begin + u128::from(range))?;
+    Ok(lacks)
+}
+
+// Runs an FDE's program on the machine of the CIE at a place, and says whether one of its addresses has no rule for
+// the CFA.
+fn run_behind<'a>(
+    initials: &mut [Initial<'a>],
+    place: u64,
     program: Program<'a>,
     begin: u64,
     range: u64,
     target: Target,
 ) -> Result<bool, SectionError>
-    requires { begin < address_limit target.size }
-    ensures found { IfOk result (λ lacks. (instrs : List Instr) × (rows : List LocatedRow) × GivesBehind initial.now.factors initial.now.row (input_of target (span_of program.entry)) begin instrs rows × (lacks ≡ lacks_from (begin + range) begin false rows)) }
-    ensures stuck { IfErr result (Refuses (FdeFault initial.now.factors initial.now.row.cfa (input_of target (span_of program.entry)) begin)) }
+    requires ascending { Rises 0 (map place_of initials.old) }
+    requires among { is_among place (map place_of initials.old) ≡ true }
+    requires begin { begin < address_limit target.size }
+    requires each { (hs : List Head) × AllByRecursion (IsInitial target hs) initials.old }
+    ensures found { (hs : List Head) (at : ℕ) (form : TheForm) → AllByRecursion (IsInitial target hs) initials.old → IfOk result (λ lacks. FdeRuns target hs (fde at form place begin range (span_of program.entry)) × HasOrLacks target hs (fde at form place begin range (span_of program.entry)) lacks) }
+    ensures stuck { (hs : List Head) (at : ℕ) (form : TheForm) → AllByRecursion (IsInitial target hs) initials.old → IfErr result (Refuses (FdeBroken target hs (fde at form place begin range (span_of program.entry)))) }
+    ensures places { map place_of initials.new ≡ map place_of initials.old }
+    ensures each { (hs : List Head) → AllByRecursion (IsInitial target hs) initials.old → AllByRecursion (IsInitial target hs) initials.new }
 {
-    are_bytes(program.bytes);
-    behind_laws();
-    let _ = initial.row.specified();
-    let row = initial.row.copied()?;
-    let mut steps = RowSteps::from_initial(alloc, row, program, begin, initial.factors, target)?;
-    let begin = u128::from(begin);
-    let lacks = lacks_rule(&mut steps, begin, begin + u128::from(range))?;
-    Ok(lacks)
+    let index = index_of(initials, place);
+    let initial = &mut initials[index];
+    run_fde(&mut initial.machine, program, begin, range)
 }
 
 // Runs the program of an FDE, and says whether one of its addresses has no rule for the CFA.
 fn judge<'a>(
-    alloc: Global,
     header: &Header<'a>,
-    initials: &[Initial<'a>],
+    initials: &mut [Initial<'a>],
     target: Target,
 ) -> Result<bool, SectionError>
-    requires ascending { Rises 0 (map place_of initials.now) }
-    requires fits { FdeFits target (map place_of initials.now) (head_in header.now) }
-    ensures found { (hs : List Head) → AllByRecursion (IsInitial target hs) initials.now → IfOk result (λ lacks. FdeRuns target hs (head_in header.now) × HasOrLacks target hs (head_in header.now) lacks) }
-    ensures stuck { (hs : List Head) → AllByRecursion (IsInitial target hs) initials.now → IfErr result (Refuses (FdeBroken target hs (head_in header.now))) }
+    requires ascending { Rises 0 (map place_of initials.old) }
+    requires fits { FdeFits target (map place_of initials.old) (head_in header.now) }
+    requires each { (hs : List Head) × AllByRecursion (IsInitial target hs) initials.old }
+    ensures found { (hs : List Head) → AllByRecursion (IsInitial target hs) initials.old → IfOk result (λ lacks. FdeRuns target hs (head_in header.now) × HasOrLacks target hs (head_in header.now) lacks) }
+    ensures stuck { (hs : List Head) → AllByRecursion (IsInitial target hs) initials.old → IfErr result (Refuses (FdeBroken target hs (head_in header.now))) }
+    ensures places { map place_of initials.new ≡ map place_of initials.old }
+    ensures each { (hs : List Head) → AllByRecursion (IsInitial target hs) initials.old → AllByRecursion (IsInitial target hs) initials.new }
 {
     match *header {
         Header::Cie { .. } => Ok(false),
@@ -210,14 +236,7 @@ fn judge<'a>(
             begin,
             range,
             program,
-        } => run_fde(
-            alloc,
-            initial_at(initials, cie_at),
-            program,
-            begin,
-            range,
-            target,
-        ),
+        } => run_behind(initials, cie_at, program, begin, range, target),
     }
 }
 
@@ -245,20 +264,21 @@ fn or_place(place: Option<u64>, lacks: bool, at: u64) -> Option<u64>
 /// Runs the programs of all FDEs, and tells the place of the first one with an address that has no rule for
 /// the CFA.
 pub(crate) fn run_fdes<'a>(
-    alloc: Global,
     headers: &[Header<'a>],
-    initials: &[Initial<'a>],
+    initials: &mut [Initial<'a>],
     target: Target,
 ) -> Result<Option<u64>, SectionError>
-    requires ascending { Rises 0 (map place_of initials.now) }
-    requires fit { AllByRecursion (FdeFits target (map place_of initials.now)) (map head_in headers.now) }
-    requires each { AllByRecursion (IsInitial target (map head_in headers.now)) initials.now }
+    requires ascending { Rises 0 (map place_of initials.old) }
+    requires fit { AllByRecursion (FdeFits target (map place_of initials.old)) (map head_in headers.now) }
+    requires each { AllByRecursion (IsInitial target (map head_in headers.now)) initials.old }
     ensures found { IfOk result (λ lacking. AllByRecursion (FdeRuns target (map head_in headers.now)) (map head_in headers.now) × FirstLacking target (map head_in headers.now) (map head_in headers.now) lacking) }
     ensures first { IfErr result (Refuses (FirstStuck (FdeRuns target (map head_in headers.now)) (FdeBroken target (map head_in headers.now)) (map head_in headers.now))) }
+    ensures places { map place_of initials.new ≡ map place_of initials.old }
+    ensures each { AllByRecursion (IsInitial target (map head_in headers.now)) initials.new }
 {
     let mut lacking = None;
     for header in headers {
-        let lacks = judge(alloc, header, initials, target)?;
+        let lacks = judge(header, initials, target)?;
         lacking = or_place(lacking, lacks, entry_at(header));
     }
     Ok(lacking)

@@ -62,8 +62,8 @@ fn judged<'a>(
     ensures first { IfErr result (Refuses (RulesFault target bytes.now)) }
 {
     let headers = all_headers(alloc, bytes, target)?;
-    let initials = run_cies(alloc, &headers, target)?;
-    match run_fdes(alloc, &headers, &initials, target)? {
+    let mut initials = run_cies(alloc, &headers, target)?;
+    match run_fdes(&headers, &mut initials, target)? {
         Some(at) => Err(refused(Code::NoCfaRule, at)),
         None => ranges_of(alloc, &headers, &initials),
     }

@@ -1,4 +1,4 @@
-use Rattle.std.proofs.Common.{ℕ, rules, arith, Bool, true, false, length, ◌<◌, ◌≤◌, get_or}
+use Rattle.std.proofs.Common.{rules, arith}
 use Rattle.std.specs.Prelude.{nat_lt}
 use Rattle.std.proofs.lemmas.List.Sorted.{IsPartitionPoint-from_clause, IsPartitionedBy-ltb}
 use Rattle.dw_cfa.proofs.RowLists.{Entry, ascending, place_is}

@@ -1,4 +1,4 @@
-use Rattle.std.proofs.Common.{◌≡◌, subst, sym}
+use Rattle.std.proofs.Common.{◌≡◌, subst, sym, ◌∙◌}
 use Rattle.std.proofs.lemmas.Result.{err_from_is_err_and}
 use Rattle.dw_cfa.specs.Runs.{Outcome, GivesRow}
 use Rattle.dw_cfa.proofs.RunSteps.{begun_refused, begun_ran}
@@ -12,5 +12,5 @@ returns-in_err-run_initial c =
 pub returns : goal.returns
 returns c =
     subst (λ (o : Outcome). GivesRow o c.args.factors c.next_row.new.cursor c.next_row.new.machine c.next_row.result)
-    (begun_ran c.args.factors c.args.cie.now c.args.fde.now c.args.machine.now c.run_initial.new.row c.in_ok-machine.field-0 c.in_ok-run_initial.ensures.ok c.in_ok-machine.ensures c.requires.none)
-    c.next_row.ensures
+    (begun_ran c.args.factors c.args.cie.now c.args.fde.now c.args.machine.now c.in_ok-machine.field-0 c.run_initial.new.states c.in_ok-run_initial.ensures.ok (c.in_ok-machine.ensures ∙ c.row.ensures) (c.in_ok-run_initial.ensures.same.0 ∙ c.requires.none))
+    c.next_row.ensures.row

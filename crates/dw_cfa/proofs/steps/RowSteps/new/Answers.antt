@@ -1,5 +1,6 @@
 use Rattle.std.proofs.Common.{ap, ◌∙◌}
 use Rattle.dw_cfa.specs.Rows.{Rules}
+use Rattle.dw_cfa.specs.States.{Held}
 use Rattle.dw_cfa.specs.Runs.{run_rows}
 use Rattle.dw_cfa.specs.Stepping.{program_input, stepping}
 use Rattle.dw_cfa.proofs.RunSteps.{begun_is_run}
@@ -7,7 +8,7 @@ use Rattle.dw_cfa.proofs.steps.RowSteps.new.Goals as goal
 
 pub returns : goal.returns
 returns c =
-    ap (stepping c.blank-2.result) (begun_is_run c.args.factors c.new.result c.new-2.result (program_input c.args.cie_program c.args.target) (program_input c.args.fde_program c.args.target)
-    (record { initial = c.blank.result; row = c.blank-2.result; remembered = c.new-3.result; location = c.from.result; limit = c.address_limit.result })
-    c.args.begin c.new.ensures c.new-2.ensures c.blank.ensures c.from.ensures c.address_limit.ensures)
-    ∙ ap (λ (row : Rules). stepping row (run_rows c.args.factors (program_input c.args.cie_program c.args.target) (program_input c.args.fde_program c.args.target) c.args.begin)) c.blank-2.ensures
+    ap (stepping c.new-3.result.row) (begun_is_run c.args.factors c.new.result c.new-2.result (program_input c.args.cie_program c.args.target) (program_input c.args.fde_program c.args.target)
+    (record { initial = c.blank.result; states = c.new-3.result; location = c.from.result; limit = c.address_limit.result })
+    c.args.begin c.new.ensures c.new-2.ensures (ap (λ (h : Held). h.row) c.new-3.ensures ∙ c.blank-2.ensures) c.from.ensures c.address_limit.ensures)
+    ∙ ap (λ (row : Rules). stepping row (run_rows c.args.factors (program_input c.args.cie_program c.args.target) (program_input c.args.fde_program c.args.target) c.args.begin)) (ap (λ (h : Held). h.row) c.new-3.ensures ∙ c.blank-2.ensures)

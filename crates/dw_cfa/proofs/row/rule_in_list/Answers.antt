@@ -1,6 +1,5 @@
-use Rattle.std.proofs.Common.{◌≡◌, ℕ, true, false, List, refl, sym, ap, ◌∙◌, arith}
-use Rattle.dw_cfa.proofs.RowLists.{Entry, rule_none, rule_some, begins_lt}
-use Rattle.dw_cfa.proofs.row.rule_of.Goals as goal
+use Rattle.dw_cfa.proofs.RowLists.{rule_none, rule_some, begins_lt}
+use Rattle.dw_cfa.proofs.row.rule_in_list.Goals as goal
 
 pub bounds-entries-place : goal.bounds-entries-place
 bounds-entries-place c = begins_lt c.args.register c.place_of-place.result c.args.entries.now (cc)

@@ -1,0 +1,9 @@
+use Rattle.std.proofs.Common.{length, reverse}
+use Rattle.dw_cfa.specs.States.{SameBehind}
+use Rattle.dw_cfa.proofs.states.take_back.Given as goal
+
+abbrev pub invariant-changes : goal.invariant-changes
+invariant-changes l = SameBehind l.initial.row (reverse l.initial.undo.items) l.row (reverse l.undo.items)
+
+abbrev pub decreases-changes : goal.decreases-changes
+decreases-changes l = length l.undo.items

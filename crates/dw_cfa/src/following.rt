@@ -1,0 +1,123 @@
+//! FDEs' programs, one after another behind the initial row of their CIE (6.4.1).
+
+ghost use Rattle.std.specs.Prelude.{◌≡◌, ◌<◌, None, Ok, Err, OnOk, IfOk, IfErr};
+ghost use Rattle.dw_num.specs.Target.{address_limit};
+ghost use Rattle.dw_cfa.specs.Following.{Following, with_steps};
+ghost use Rattle.dw_cfa.specs.Rows.{blank};
+ghost use Rattle.dw_cfa.specs.Runs.{RefusalIs, finished, initial_row, placed, rows_behind};
+ghost use Rattle.dw_cfa.specs.Stepping.{Advances, program_input, stepping};
+
+use crate::instr::Factors;
+use crate::machine::Machine;
+use crate::row::Row;
+use crate::running::{RunError, next_row};
+use crate::states::States;
+use crate::steps::{Progress, initial_row, progress_after};
+use dw_num::{Cursor, Program, Target};
+use std::alloc::{AllocError, Global};
+use std::marker::Model;
+
+/// The machine behind a CIE's program: it runs the programs of the CIE's FDEs one after another, and runs the CIE's
+/// own once. A contract sees the initial row, the factors and the target, and of the FDE that is run what `RowSteps`
+/// shows: the rows still to come, the refusal behind them, the row that is lent, and the error that was answered.
+#[derive(Drop)]
+pub struct CieMachine<'a> {
+    progress: Progress,
+    factors: Factors,
+    target: Target,
+    fde: Cursor<'a>,
+    machine: Machine<'a>,
+}
+
+impl<'a> Model for CieMachine<'a> {
+    ghost use Rattle.dw_cfa.specs.Following.{Following, following_of, FollowsSo};
+
+    ghost Value = { Following };
+
+    ghost view = { λ c. following_of c.progress c.factors c.target c.fde c.machine };
+
+    ghost invariant = { λ c. FollowsSo c.progress c.fde c.machine };
+}
+
+impl<'a> CieMachine<'a> {
+    /// Runs a CIE's program. No row is to come until an FDE's program begins. Otherwise the first refusal, or want of
+    /// memory.
+    pub fn new(
+        alloc: Global,
+        cie_program: Program<'a>,
+        factors: Factors,
+        target: Target,
+    ) -> Result<CieMachine<'a>, RunError>
+        ensures ok { IfOk result (λ c. (initial_row (placed factors (program_input cie_program.entry target)) blank ≡ Ok c.initial) × (c.factors ≡ factors) × (c.target ≡ target) × (c.steps ≡ stepping c.initial finished)) }
+        ensures err { IfErr result (λ e. RefusalIs e (λ r. initial_row (placed factors (program_input cie_program.entry target)) blank ≡ Err r)) }
+    {
+        let initial = initial_row(alloc, cie_program, factors, target)?;
+        let row = initial.copied()?;
+        let tracked = initial.is_wide();
+        Ok(CieMachine {
+            progress: Progress::Finished,
+            factors,
+            target,
+            fde: Cursor::new(&[], 0, target),
+            machine: Machine {
+                initial,
+                states: States::new(alloc, row, tracked),
+                location: 0,
+                limit: target.size.address_limit(),
+            },
+        })
+    }
+
+    /// The row that the CIE's program leaves.
+    pub fn initial(&self) -> &Row<'a>
+        ensures { result.now ≡ self.now.initial }
+    {
+        &self.machine.initial
+    }
+
+    /// Begins an FDE's program at an address `begin` of the target, or answers want of memory. What an FDE before it
+    /// changed is taken back first.
+    pub fn begin(&mut self, fde_program: Program<'a>, begin: u64) -> Result<(), AllocError>
+        requires { begin < address_limit self.old.target.size }
+        ensures ok { OnOk result (self.new ≡ with_steps self.old (stepping self.old.initial (rows_behind self.old.factors self.old.initial (program_input fde_program.entry self.old.target) begin))) }
+        ensures same { self.new ≡ with_steps self.old self.new.steps }
+    {
+        let machine = &mut self.machine;
+        if let Err(error) = machine.states.rewind(&machine.initial) {
+            machine.states.untrack();
+            self.progress = Progress::Failed(RunError::OutOfMemory);
+            return Err(error);
+        }
+        machine.location = u128::from(begin);
+        machine.limit = self.target.size.address_limit();
+        self.fde = Cursor::new(fde_program.bytes, fde_program.at, self.target);
+        self.progress = Progress::Running;
+        Ok(())
+    }
+
+    /// Goes on to the next row of the FDE, which `row` lends then, and answers the location that it starts at, or none
+    /// behind the last row. No row is copied. A refusal, or want of memory, is answered from then on.
+    pub fn advance(&mut self) -> Result<Option<u128>, RunError>
+        ensures advances { Advances self.old.steps result self.new.steps }
+        ensures same { self.new ≡ with_steps self.old self.new.steps }
+    {
+        match self.progress {
+            Progress::Running => {}
+            Progress::Begun | Progress::Finished => return Ok(None),
+            Progress::Failed(error) => return Err(error),
+        }
+        let answer = next_row(&mut self.fde, self.factors, &mut self.machine);
+        if answer.is_err() {
+            self.machine.states.untrack();
+        }
+        self.progress = progress_after(answer);
+        Ok(Some(answer?.0))
+    }
+
+    /// The row that `advance` went on to.
+    pub fn row(&self) -> &Row<'a>
+        ensures { result.now ≡ self.now.steps.current }
+    {
+        self.machine.states.row()
+    }
+}

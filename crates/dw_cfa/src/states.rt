@@ -1,0 +1,214 @@
+//! The current row and the remembered ones (6.4.2.4).
+
+ghost use Rattle.std.specs.Prelude.{◌≡◌, ℕ, ◌+◌, ◌<◌, ◌≤◌, [], ◌∷◌, length, reverse, Some, None, OnOk, OnErr, IfOk, true, false};
+ghost use Rattle.dw_cfa.specs.Rows.{Rules, with_cfa, with_rule};
+ghost use Rattle.dw_cfa.specs.States.{Held, first_if, BeganWith, Restored, TakenBack, count_remembered, first_registers};
+
+use crate::row::Row;
+use crate::rule::{CfaRule, RegRule};
+use smallvec::SmallVec;
+use std::alloc::{AllocError, Global};
+use std::marker::Model;
+
+/// What takes back a change of the current row.
+#[derive(Drop)]
+pub(crate) enum Undo<'a> {
+    /// A row was remembered, with this rule for the CFA.
+    Remembered(CfaRule<'a>),
+    /// A register had this rule.
+    Register(u16, RegRule<'a>),
+}
+
+impl<'a> Default for Undo<'a> {
+    fn default() -> Undo<'a> {
+        Undo::Remembered(CfaRule::Unset)
+    }
+}
+
+/// The current row and the remembered ones. A remembered row is not copied: what was changed since is kept, and
+/// taken back. So is what was changed since the beginning, where that is tracked.
+#[derive(Drop)]
+pub(crate) struct States<'a> {
+    row: Row<'a>,
+    undo: SmallVec<Undo<'a>, 4>,
+    depth: usize,
+    tracked: bool,
+}
+
+impl<'a> Model for States<'a> {
+    ghost use Rattle.std.specs.Prelude.{◌≡◌, reverse};
+    ghost use Rattle.dw_cfa.specs.States.{Held, held, count_remembered};
+
+    ghost Value = { Held };
+
+    ghost view = { λ s. held s.tracked s.row s.undo.items };
+
+    ghost invariant = { λ s. s.depth ≡ count_remembered (reverse s.undo.items) };
+}
+
+// Takes changes back up to the row that was remembered last, and answers the rule that the CFA had there.
+fn take_back<'a>(
+    row: &mut Row<'a>,
+    undo: &mut SmallVec<Undo<'a>, 4>,
+) -> Result<Option<CfaRule<'a>>, AllocError>
+    ensures ok { IfOk result (λ found. TakenBack found row.old (reverse undo.old.items) row.new (reverse undo.new.items)) }
+    ensures err { OnErr result (count_remembered (reverse undo.new.items) ≡ count_remembered (reverse undo.old.items)) }
+{
+    'changes: while let Some(change) = undo.pop() {
+        match change {
+            Undo::Remembered(cfa) => return Ok(Some(cfa)),
+            Undo::Register(register, rule) => match row.set(register, rule) {
+                Ok(()) => {}
+                Err(error) => return Err(error),
+            },
+        }
+    }
+    Ok(None)
+}
+
+// Takes all changes of registers back.
+fn take_all_back<'a>(
+    row: &mut Row<'a>,
+    undo: &mut SmallVec<Undo<'a>, 4>,
+) -> Result<(), AllocError>
+    ensures { OnOk result (row.new.registers ≡ first_registers row.old (reverse undo.old.items)) }
+{
+    'changes: while let Some(change) = undo.pop() {
+        match change {
+            Undo::Remembered(_) => {}
+            Undo::Register(register, rule) => row.set(register, rule)?,
+        }
+    }
+    Ok(())
+}
+
+// Brings the registers of the initial row back.
+fn first_again<'a>(
+    tracked: bool,
+    row: &mut Row<'a>,
+    undo: &mut SmallVec<Undo<'a>, 4>,
+    initial: &Row<'a>,
+) -> Result<(), AllocError>
+    requires { BeganWith initial.now (first_if tracked row.old (reverse undo.old.items)) }
+    ensures { OnOk result (row.new.registers ≡ initial.now.registers) }
+{
+    if tracked {
+        take_all_back(row, undo)?;
+        return Ok(());
+    }
+    row.become_copy(initial)?;
+    Ok(())
+}
+
+impl<'a> States<'a> {
+    /// The row alone. Where changes are tracked, `rewind` brings it back in as many steps as it was changed.
+    pub(crate) fn new(alloc: Global, row: Row<'a>, tracked: bool) -> States<'a>
+        ensures { result ≡ record { row = row.entry; stack = []; first = first_if tracked row.entry [] } }
+    {
+        States {
+            row,
+            undo: SmallVec::new(alloc),
+            depth: 0,
+            tracked,
+        }
+    }
+
+    /// The current row.
+    pub(crate) fn row(&self) -> &Row<'a>
+        ensures { result.now ≡ self.now.row }
+    {
+        &self.row
+    }
+
+    /// The current row alone.
+    pub(crate) fn into_row(self) -> Row<'a>
+        ensures { result ≡ self.entry.row }
+    {
+        self.row
+    }
+
+    /// Tracks changes no more: the first row is copied then, where `rewind` goes back to it.
+    pub(crate) fn untrack(&mut self)
+        ensures { self.new ≡ record { row = self.old.row; stack = self.old.stack; first = None } }
+    {
+        self.tracked = false;
+    }
+
+    /// How many rows are remembered.
+    pub(crate) fn depth(&self) -> usize
+        ensures { result ≡ length self.now.stack }
+    {
+        self.depth
+    }
+
+    pub(crate) fn set_cfa(&mut self, cfa: CfaRule<'a>)
+        ensures { self.new ≡ record { row = with_cfa cfa.entry self.old.row; stack = self.old.stack; first = self.old.first } }
+    {
+        self.row.set_cfa(cfa);
+    }
+
+    // Gives a register a rule, and keeps the one that it had.
+    fn change(&mut self, register: u16, rule: RegRule<'a>) -> Result<(), AllocError>
+        ensures { OnOk result (self.new ≡ record { row = with_rule register rule.entry self.old.row; stack = self.old.stack; first = self.old.first }) }
+    {
+        let older = self.row.exchange(register, rule)?;
+        self.undo.push(Undo::Register(register, older))?;
+        Ok(())
+    }
+
+    // Whether changes have to be taken back later.
+    fn is_kept(&self) -> bool
+        ensures { result ≡ false → (self.now.stack ≡ []) × (self.now.first ≡ None) }
+    {
+        self.tracked || self.depth > 0
+    }
+
+    /// Gives a register a rule, or answers want of memory.
+    pub(crate) fn set(&mut self, register: u16, rule: RegRule<'a>) -> Result<(), AllocError>
+        ensures { OnOk result (self.new ≡ record { row = with_rule register rule.entry self.old.row; stack = self.old.stack; first = self.old.first }) }
+    {
+        if self.is_kept() {
+            return self.change(register, rule);
+        }
+        self.row.set(register, rule)?;
+        Ok(())
+    }
+
+    /// Remembers the current row.
+    pub(crate) fn remember(&mut self) -> Result<(), AllocError>
+        requires { length self.old.stack < 64 }
+        ensures { OnOk result (self.new ≡ record { row = self.old.row; stack = self.old.row ∷ self.old.stack; first = self.old.first }) }
+    {
+        let cfa = self.row.cfa();
+        self.undo.push(Undo::Remembered(cfa))?;
+        self.depth += 1;
+        Ok(())
+    }
+
+    /// Goes back to the row that was remembered last, and tells whether there was one.
+    pub(crate) fn restore(&mut self) -> Result<bool, AllocError>
+        ensures { IfOk result (λ found. Restored found self.old self.new) }
+    {
+        match take_back(&mut self.row, &mut self.undo)? {
+            Some(cfa) => {
+                self.row.set_cfa(cfa);
+                self.depth -= 1;
+                Ok(true)
+            }
+            None => Ok(false),
+        }
+    }
+
+    /// Goes back to the initial row, which was the first, and remembers none.
+    pub(crate) fn rewind(&mut self, initial: &Row<'a>) -> Result<(), AllocError>
+        requires { BeganWith initial.now self.old.first }
+        ensures { OnOk result ((self.new.row ≡ initial.now) × (self.new.stack ≡ []) × BeganWith initial.now self.new.first) }
+    {
+        let taken = first_again(self.tracked, &mut self.row, &mut self.undo, initial);
+        self.undo.clear();
+        self.depth = 0;
+        taken?;
+        self.row.set_cfa(initial.cfa());
+        Ok(())
+    }
+}
