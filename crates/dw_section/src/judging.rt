@@ -192,21 +192,21 @@ fn run_fde<'a>(
 // Runs an FDE's program on the machine of the CIE at a place, and says whether one of its addresses has no rule for
 // the CFA.
 fn run_behind<'a>(
-    initials: &mut [Initial<'a>],
+    initials: &mut Vec<Initial<'a>>,
     place: u64,
     program: Program<'a>,
     begin: u64,
     range: u64,
     target: Target,
 ) -> Result<bool, SectionError>
-    requires ascending { Rises 0 (map place_of initials.old) }
-    requires among { is_among place (map place_of initials.old) ≡ true }
+    requires ascending { Rises 0 (map place_of initials.old.items) }
+    requires among { is_among place (map place_of initials.old.items) ≡ true }
     requires begin { begin < address_limit target.size }
-    requires each { (hs : List Head) × AllByRecursion (IsInitial target hs) initials.old }
-    ensures found { (hs : List Head) (at : ℕ) (form : TheForm) → AllByRecursion (IsInitial target hs) initials.old → IfOk result (λ lacks. FdeRuns target hs (fde at form place begin range (span_of program.entry)) × HasOrLacks target hs (fde at form place begin range (span_of program.entry)) lacks) }
-    ensures stuck { (hs : List Head) (at : ℕ) (form : TheForm) → AllByRecursion (IsInitial target hs) initials.old → IfErr result (Refuses (FdeBroken target hs (fde at form place begin range (span_of program.entry)))) }
-    ensures places { map place_of initials.new ≡ map place_of initials.old }
-    ensures each { (hs : List Head) → AllByRecursion (IsInitial target hs) initials.old → AllByRecursion (IsInitial target hs) initials.new }
+    requires each { (hs : List Head) × AllByRecursion (IsInitial target hs) initials.old.items }
+    ensures found { (hs : List Head) (at : ℕ) (form : TheForm) → AllByRecursion (IsInitial target hs) initials.old.items → IfOk result (λ lacks. FdeRuns target hs (fde at form place begin range (span_of program.entry)) × HasOrLacks target hs (fde at form place begin range (span_of program.entry)) lacks) }
+    ensures stuck { (hs : List Head) (at : ℕ) (form : TheForm) → AllByRecursion (IsInitial target hs) initials.old.items → IfErr result (Refuses (FdeBroken target hs (fde at form place begin range (span_of program.entry)))) }
+    ensures places { map place_of initials.new.items ≡ map place_of initials.old.items }
+    ensures each { (hs : List Head) → AllByRecursion (IsInitial target hs) initials.old.items → AllByRecursion (IsInitial target hs) initials.new.items }
 {
     let index = index_of(initials, place);
     let initial = &mut initials[index];
@@ -216,16 +216,16 @@ fn run_behind<'a>(
 // Runs the program of an FDE, and says whether one of its addresses has no rule for the CFA.
 fn judge<'a>(
     header: &Header<'a>,
-    initials: &mut [Initial<'a>],
+    initials: &mut Vec<Initial<'a>>,
     target: Target,
 ) -> Result<bool, SectionError>
-    requires ascending { Rises 0 (map place_of initials.old) }
-    requires fits { FdeFits target (map place_of initials.old) (head_in header.now) }
-    requires each { (hs : List Head) × AllByRecursion (IsInitial target hs) initials.old }
-    ensures found { (hs : List Head) → AllByRecursion (IsInitial target hs) initials.old → IfOk result (λ lacks. FdeRuns target hs (head_in header.now) × HasOrLacks target hs (head_in header.now) lacks) }
-    ensures stuck { (hs : List Head) → AllByRecursion (IsInitial target hs) initials.old → IfErr result (Refuses (FdeBroken target hs (head_in header.now))) }
-    ensures places { map place_of initials.new ≡ map place_of initials.old }
-    ensures each { (hs : List Head) → AllByRecursion (IsInitial target hs) initials.old → AllByRecursion (IsInitial target hs) initials.new }
+    requires ascending { Rises 0 (map place_of initials.old.items) }
+    requires fits { FdeFits target (map place_of initials.old.items) (head_in header.now) }
+    requires each { (hs : List Head) × AllByRecursion (IsInitial target hs) initials.old.items }
+    ensures found { (hs : List Head) → AllByRecursion (IsInitial target hs) initials.old.items → IfOk result (λ lacks. FdeRuns target hs (head_in header.now) × HasOrLacks target hs (head_in header.now) lacks) }
+    ensures stuck { (hs : List Head) → AllByRecursion (IsInitial target hs) initials.old.items → IfErr result (Refuses (FdeBroken target hs (head_in header.now))) }
+    ensures places { map place_of initials.new.items ≡ map place_of initials.old.items }
+    ensures each { (hs : List Head) → AllByRecursion (IsInitial target hs) initials.old.items → AllByRecursion (IsInitial target hs) initials.new.items }
 {
     match *header {
         Header::Cie { .. } => Ok(false),
@@ -265,16 +265,16 @@ fn or_place(place: Option<u64>, lacks: bool, at: u64) -> Option<u64>
 /// the CFA.
 pub(crate) fn run_fdes<'a>(
     headers: &[Header<'a>],
-    initials: &mut [Initial<'a>],
+    initials: &mut Vec<Initial<'a>>,
     target: Target,
 ) -> Result<Option<u64>, SectionError>
-    requires ascending { Rises 0 (map place_of initials.old) }
-    requires fit { AllByRecursion (FdeFits target (map place_of initials.old)) (map head_in headers.now) }
-    requires each { AllByRecursion (IsInitial target (map head_in headers.now)) initials.old }
+    requires ascending { Rises 0 (map place_of initials.old.items) }
+    requires fit { AllByRecursion (FdeFits target (map place_of initials.old.items)) (map head_in headers.now) }
+    requires each { AllByRecursion (IsInitial target (map head_in headers.now)) initials.old.items }
     ensures found { IfOk result (λ lacking. AllByRecursion (FdeRuns target (map head_in headers.now)) (map head_in headers.now) × FirstLacking target (map head_in headers.now) (map head_in headers.now) lacking) }
     ensures first { IfErr result (Refuses (FirstStuck (FdeRuns target (map head_in headers.now)) (FdeBroken target (map head_in headers.now)) (map head_in headers.now))) }
-    ensures places { map place_of initials.new ≡ map place_of initials.old }
-    ensures each { AllByRecursion (IsInitial target (map head_in headers.now)) initials.new }
+    ensures places { map place_of initials.new.items ≡ map place_of initials.old.items }
+    ensures each { AllByRecursion (IsInitial target (map head_in headers.now)) initials.new.items }
 {
     let mut lacking = None;
     for header in headers {

@@ -9,5 +9,5 @@ abbrev pub invariant-loop-header : goal.invariant-loop-header
 invariant-loop-header l =
     AllByRecursion (FdeRuns l.fn.target (map head_in l.headers)) (map head_in (take l.header-index l.headers))
     × FirstLacking l.fn.target (map head_in l.headers) (map head_in (take l.header-index l.headers)) l.lacking
-    × (map place_of l.initials ≡ map place_of l.initial.initials)
-    × AllByRecursion (IsInitial l.fn.target (map head_in l.headers)) l.initials
+    × (map place_of l.initials.items ≡ map place_of l.initial.initials.items)
+    × AllByRecursion (IsInitial l.fn.target (map head_in l.headers)) l.initials.items

@@ -9,12 +9,12 @@ use Rattle.dw_section.proofs.table.judged.Goals as goal
 pub run_fdes-requires-clause-ascending : goal.run_fdes-requires-clause-ascending
 run_fdes-requires-clause-ascending c =
     let cies = rw c.deref.ensures.value at c.in_ok-initials.ensures.found in
-    rw c.deref-3.ensures.value (places_so c.args.target c.args.bytes.now (map head_in c.in_ok-headers.headers.items) c.in_ok-initials.initials.items c.in_ok-headers.ensures.found cies).0
+    (places_so c.args.target c.args.bytes.now (map head_in c.in_ok-headers.headers.items) c.in_ok-initials.initials.items c.in_ok-headers.ensures.found cies).0
 
 pub run_fdes-requires-clause-fit : goal.run_fdes-requires-clause-fit
 run_fdes-requires-clause-fit c =
     let cies = rw c.deref.ensures.value at c.in_ok-initials.ensures.found in
-    rw (c.deref-3.ensures.value, c.deref-2.ensures.value) (places_so c.args.target c.args.bytes.now (map head_in c.in_ok-headers.headers.items) c.in_ok-initials.initials.items c.in_ok-headers.ensures.found cies).1
+    rw c.deref-2.ensures.value (places_so c.args.target c.args.bytes.now (map head_in c.in_ok-headers.headers.items) c.in_ok-initials.initials.items c.in_ok-headers.ensures.found cies).1
 
 pub returns-in_err-at-clause-first : goal.returns-in_err-at-clause-first
 returns-in_err-at-clause-first c =
@@ -32,12 +32,12 @@ returns-in-Some-clause-first c =
 pub ranges_of-requires-clause-ascending : goal.ranges_of-requires-clause-ascending
 ranges_of-requires-clause-ascending c =
     let cies = rw c.deref.ensures.value at c.in_ok-initials.ensures.found in
-    rw c.deref-in-None-2.ensures.value (places_so c.args.target c.args.bytes.now (map head_in c.in_ok-headers.headers.items) c.in_ok-initials.initials.items c.in_ok-headers.ensures.found cies).0
+    rw (c.deref-in-None-2.ensures.value, c.run_fdes.ensures.places) (places_so c.args.target c.args.bytes.now (map head_in c.in_ok-headers.headers.items) c.in_ok-initials.initials.items c.in_ok-headers.ensures.found cies).0
 
 pub ranges_of-requires-clause-fit : goal.ranges_of-requires-clause-fit
 ranges_of-requires-clause-fit c =
     let cies = rw c.deref.ensures.value at c.in_ok-initials.ensures.found in
-    (c.args.target, rw (c.deref-in-None-2.ensures.value, c.deref-in-None.ensures.value) (places_so c.args.target c.args.bytes.now (map head_in c.in_ok-headers.headers.items) c.in_ok-initials.initials.items c.in_ok-headers.ensures.found cies).1)
+    (c.args.target, rw (c.deref-in-None-2.ensures.value, c.deref-in-None.ensures.value, c.run_fdes.ensures.places) (places_so c.args.target c.args.bytes.now (map head_in c.in_ok-headers.headers.items) c.in_ok-initials.initials.items c.in_ok-headers.ensures.found cies).1)
 
 pub returns-clause-found : goal.returns-clause-found
 returns-clause-found c =
@@ -54,4 +54,4 @@ returns-clause-found c =
       are = a;
       rise = rw a (nonempty_rise 0 hs (heads_rise target c.args.bytes.now hs headers));
       each = e;
-    }) c.ranges_of.result are (each target cies.each)
+    }) c.ranges_of.result are (each target (rw c.deref-2.ensures.value at c.run_fdes.ensures.each))
