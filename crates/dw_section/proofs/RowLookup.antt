@@ -1,6 +1,7 @@
 -- The rules at an address, by the rows of its FDE.
 use Rattle.std.proofs.Common.{◌≡◌, ℕ, zero, suc, ◌+◌, ◌<◌, ◌≤◌, List, [], ◌∷◌, length, get_or, map, Some, None, refl, sym, ap, subst, ◌∙◌, arith, inl, inr}
 use Rattle.std.specs.List.{AllByRecursion, AllZip}
+use Rattle.std.proofs.lemmas.Bool.Decides.{leb_tells}
 use Rattle.dw_num.specs.declared.target.Target.{Target}
 use Rattle.dw_num.specs.Input.{Input, AreBytes}
 use Rattle.dw_num.specs.Span.{span_of}
@@ -13,7 +14,6 @@ use Rattle.dw_cfa.specs.Kept.{CieKept}
 use Rattle.dw_cfa.specs.Laws.{RowsOf}
 use Rattle.dw_cfa.specs.RuleAt.{last_at, NeverFalls}
 use Rattle.dw_cfa.specs.Rows.{Rules}
-use Rattle.dw_cfa.specs.Runs.{Outcome, row_then}
 use Rattle.dw_cfa.proofs.KeptLaws.{rows_where_kept}
 use Rattle.dw_cfa.proofs.RunLaws.{last_holds, none_falls}
 use Rattle.dw_section.specs.declared.indexing.Ranged.{Ranged}
@@ -35,11 +35,12 @@ use Rattle.dw_section.proofs.Covered.{none_before}
 use Rattle.dw_section.proofs.Heads.{all_in, heads_rise, heads_bytes, heads_fit, one_begin}
 
 -- no row starts at or below an address that the next one starts above
-pub none_next : (a low : ℕ) (o rest : Outcome) (r : LocatedRow) → o ≡ row_then r rest → a < r.location → NeverFalls low o.rows → last_at a o.rows ≡ None
-none_next a low o rest r e lt up =
-    let rows : o.rows ≡ r ∷ rest.rows = ap (λ (x : Outcome). x.rows) e in
-    let behind = subst (NeverFalls low) rows up in
-    ap (last_at a) rows ∙ none_before a r.location (r ∷ rest.rows) lt (omega arith, behind.1)
+pub none_from : (a low : ℕ) (rows : List LocatedRow) → ((r : LocatedRow) (rest : List LocatedRow) → rows ≡ r ∷ rest → r.location ≤ a → ⊥) → NeverFalls low rows → last_at a rows ≡ None
+none_from a low [] above up = refl
+none_from a low (r ∷ rest) above up = elim (leb_tells r.location a) [
+  | inl is ↦ absurd (above r rest refl is.1)
+  | inr not ↦ none_before a r.location (r ∷ rest) (omega (arith, not.1)) (omega arith, up.1)
+]
 
 -- ---- the rows of an FDE of a table
 

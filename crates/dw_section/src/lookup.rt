@@ -1,8 +1,9 @@
 //! Looking up what a table says of an address (6.4.1).
 
-ghost use Rattle.std.specs.Prelude.{◌≡◌, ◌+◌, ◌<◌, ◌≤◌, ℕ, false, List, [], ◌∷◌, length, map, slice_index_or, Some, None, IfOk, IfErr, MatchOption};
+ghost use Rattle.std.specs.Prelude.{◌≡◌, ◌↔◌, ◌+◌, ◌<◌, ◌≤◌, ℕ, false, IsTrue, List, [], ◌∷◌, length, map, slice_index_or, Some, None, IfOk, IfErr, MatchOption};
 ghost use Rattle.std.specs.Bool.{MatchBool};
 ghost use Rattle.dw_section.specs.declared.indexing.Ranged.{Ranged as TheRanged};
+ghost use Rattle.dw_cfa.specs.declared.running.LocatedRow.{LocatedRow};
 ghost use Rattle.dw_cfa.specs.declared.running.RunError.TheVariants.{OutOfMemory};
 ghost use Rattle.dw_cfa.specs.RuleAt.{last_at, NeverFalls};
 ghost use Rattle.dw_cfa.specs.Rows.{Rules};
@@ -123,23 +124,27 @@ impl<'t, 'a> Iterator for Fdes<'t, 'a> {
     }
 }
 
-// The last row that starts at or below an address. `ahead` gives the same rows as `steps`, and is one before it.
-fn last_row<'a>(
-    steps: &mut RowSteps<'a>,
-    ahead: &mut RowSteps<'a>,
-    address: u64,
-) -> Result<Row<'a>, RunError>
-    requires no_error { (steps.old.error ≡ None) × (ahead.old.error ≡ None) }
-    requires same { ahead.old.outcome ≡ steps.old.outcome }
+// Whether the next row starts at or below an address.
+fn starts_by(steps: &RowSteps<'_>, address: u64) -> bool
+    requires { steps.now.outcome.fault ≡ None }
+    ensures next { (row : LocatedRow) (rows : List LocatedRow) → steps.now.outcome.rows ≡ row ∷ rows → IsTrue result ↔ (row.location ≤ address) }
+    ensures none { steps.now.outcome.rows ≡ [] → result ≡ false }
+{
+    match steps.next_start() {
+        Some(start) => start <= u128::from(address),
+        None => false,
+    }
+}
+
+// The last row that starts at or below an address.
+fn last_row<'a>(steps: &mut RowSteps<'a>, address: u64) -> Result<Row<'a>, RunError>
+    requires no_error { steps.old.error ≡ None }
     requires no_fault { steps.old.outcome.fault ≡ None }
     requires never_falls { (low : ℕ) × NeverFalls low steps.old.outcome.rows }
     ensures found { (row : Rules) → last_at address steps.old.outcome.rows ≡ Some row → IfOk result (λ r. r ≡ row) }
     ensures err { IfErr result (λ e. e ≡ OutOfMemory) }
 {
-    'rows: while let Some(location) = ahead.advance()? {
-        if location > u128::from(address) {
-            return Ok(steps.row().copied()?);
-        }
+    'rows: while starts_by(steps, address) {
         let _ = steps.advance()?;
     }
     Ok(steps.row().copied()?)
@@ -160,8 +165,7 @@ fn row_in<'a>(
 {
     let (cie, program) = (fde.cie_program, fde.program);
     let mut steps = RowSteps::new(alloc, cie, program, fde.begin, fde.factors, target);
-    let mut ahead = RowSteps::new(alloc, cie, program, fde.begin, fde.factors, target);
-    last_row(&mut steps, &mut ahead, address)
+    last_row(&mut steps, address)
 }
 
 // The changes of an FDE.

@@ -6,9 +6,8 @@ use Rattle.dw_section.proofs.lookup.last_row.Given as goal
 
 abbrev pub invariant-rows : goal.invariant-rows
 invariant-rows l =
-    (l.steps.error ≡ None) × (l.ahead.error ≡ None) × (l.ahead.outcome ≡ l.steps.outcome) × (l.steps.outcome.fault ≡ None)
-    × ((low : ℕ) × NeverFalls low l.steps.outcome.rows)
+    (l.steps.error ≡ None) × (l.steps.outcome.fault ≡ None) × ((low : ℕ) × NeverFalls low l.steps.outcome.rows)
     × ((row : Rules) → last_at l.address l.initial.steps.outcome.rows ≡ Some row → or_row l.steps.current (last_at l.address l.steps.outcome.rows) ≡ row)
 
 abbrev pub decreases-rows : goal.decreases-rows
-decreases-rows l = length l.ahead.outcome.rows
+decreases-rows l = length l.steps.outcome.rows
