@@ -3,9 +3,10 @@
 
     refused_memory.py DWFRAME REQUESTS
 
-DWFRAME's answer must be the ordinary one, or status 5, `out of memory` and nothing on standard output; under `rows`, a
-beginning of what is ordinarily there. REQUESTS makes one call a run: its answer must be the ordinary one or tell of want of
-memory, and the calls on borrowed expressions may make no request at all. Ends with a line 'N runs, M wrong'.
+Both run over each section of the examples, and over some worked blocks and programs. DWFRAME's answer must be the
+ordinary one, or status 5, `out of memory` and nothing on standard output; under `rows`, a beginning of what is
+ordinarily there. REQUESTS makes one call a run: its answer must be the ordinary one or tell of want of memory, and the
+calls on borrowed expressions may make no request at all. Ends with a line 'N runs, M wrong'.
 """
 import os
 import pathlib
@@ -15,20 +16,12 @@ import tempfile
 
 HERE = pathlib.Path(__file__).resolve().parent
 EXAMPLES = HERE.parent / "examples"
-RUNS = [
-    ["entries", "--size", "8", "--order", "little", "plain.bin"],
-    ["entries", "--size", "4", "--order", "big", "sum-clang-powerpc.bin"],
-    ["check", "--size", "8", "--order", "little", "plain.bin"],
-    ["check", "--size", "8", "--order", "little", "many.bin"],
-    ["check", "--size", "4", "--order", "big", "sum-clang-powerpc.bin"],
-    ["rows", "--size", "8", "--order", "little", "plain.bin"],
-    ["rows", "--size", "8", "--order", "little", "many.bin"],
-    ["rows", "--size", "8", "--order", "little", "sum-clang-x86_64.bin"],
-    ["rows", "--size", "4", "--order", "big", "sum-clang-powerpc.bin"],
-    ["expr", "--size", "8", "--order", "little", "2f12000e05000000000000000e060000000000000037"],
-]
-CALLS = ["entries", "headers", "check", "row_at", "changes", "decode", "encode", "ops", "put_least",
-         "run", "row_steps", "initial_row", "from_initial", "numbers"]
+SUBCOMMANDS = ["entries", "check", "rows"]
+BLOCKS = ["2f12000e05000000000000000e060000000000000037", "92070806", "770806"]
+PROGRAM_CALLS = ["run", "row_steps", "initial_row", "copied", "from_initial"]
+EXPRESSION_CALLS = ["decode", "encode", "ops", "put_least"]
+SECTION_CALLS = ["entries", "headers", "check", "row_at", "changes", *PROGRAM_CALLS, *EXPRESSION_CALLS]
+WORKED_CALLS = [*PROGRAM_CALLS, *EXPRESSION_CALLS, "numbers"]
 OUT_OF_MEMORY = (5, b"", b"out of memory\n")
 
 
@@ -49,6 +42,30 @@ def run(program, words, folder, refused):
     names = {"LD_PRELOAD": str(folder / "refuse.so"), "REFUSE": str(refused), "COUNT": str(count)}
     done = subprocess.run([program, *words], cwd=EXAMPLES, env={**os.environ, **names}, capture_output=True, timeout=60)
     return (done.returncode, done.stdout, done.stderr), int(count.read_text())
+
+
+def sections():
+    """The files of the examples with the words for their targets."""
+    for path in sorted(EXAMPLES.glob("*.target")):
+        yield path.with_suffix(".bin").name, path.read_text().split()
+
+
+def command_runs():
+    """The words of the runs of DWFRAME."""
+    for name, (size, order) in sections():
+        for subcommand in SUBCOMMANDS:
+            yield [subcommand, "--size", size, "--order", order, name]
+    for block in BLOCKS:
+        yield ["expr", "--size", "8", "--order", "little", block]
+
+
+def call_runs():
+    """The words of the runs of REQUESTS."""
+    for call in WORKED_CALLS:
+        yield [call]
+    for name, target in sections():
+        for call in SECTION_CALLS:
+            yield [call, *target, name]
 
 
 def is_command_answer(answer, ordinary):
@@ -93,11 +110,11 @@ def main():
         folder = pathlib.Path(name)
         shim = ["gcc", "-shared", "-fPIC", "-O2", "-o", folder / "refuse.so", HERE / "refuse.c", "-ldl"]
         subprocess.run(shim, check=True)
-        for words in RUNS:
+        for words in command_runs():
             is_answer = is_rows_answer if words[0] == "rows" else is_command_answer
             each_request(dwframe, words, folder, is_answer, tally)
-        for call in CALLS:
-            each_request(requests, [call], folder, is_call_answer, tally)
+        for words in call_runs():
+            each_request(requests, words, folder, is_call_answer, tally)
         _, none = run(requests, ["none"], folder, 0)
         answer, borrowed = run(requests, ["borrowed"], folder, 0)
         tally.tell(borrowed == none, "calls on borrowed expressions", f"{borrowed - none} requests")

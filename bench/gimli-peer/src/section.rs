@@ -27,12 +27,7 @@ pub enum Entry<'a> {
 }
 
 impl<'a> Section<'a> {
-    pub fn new(bytes: &'a [u8], size: u8, is_big: bool) -> Self {
-        let order = if is_big {
-            RunTimeEndian::Big
-        } else {
-            RunTimeEndian::Little
-        };
+    pub fn new(bytes: &'a [u8], size: u8, order: RunTimeEndian) -> Self {
         let mut frame = DebugFrame::from(EndianSlice::new(bytes, order));
         frame.set_address_size(size);
         Section {

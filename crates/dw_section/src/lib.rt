@@ -28,3 +28,5 @@ pub use table::{Table, check, one_check_fault};
 mod tests;
 #[cfg(test)]
 mod tests_check;
+#[cfg(test)]
+mod tests_lookup;

@@ -10,10 +10,11 @@ const TARGET: Target = Target {
     order: Order::Little,
 };
 
-const BLOCKS: [&[u8]; 6] = [
+const BLOCKS: [&[u8]; 7] = [
     b"\x2f\x12\x00\x0e\x05\0\0\0\0\0\0\0\x0e\x06\0\0\0\0\0\0\0\x37",
     b"\x2f\x02\x00\x35\x36\x37",
     b"\x92\x07\x08\x06",
+    b"\x77\x08\x06",
     b"\x12",
     b"\x2f\x01\x00\x08\x05",
     b"\x9f",

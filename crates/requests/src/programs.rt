@@ -1,9 +1,13 @@
 //! The calls on programs: rows all at once, and rows one at a time.
 
-use crate::OUT_OF_MEMORY;
-use crate::calls::Calls;
-use dw_cfa::{Factors, LocatedRow, Row, RowSteps, RunError, initial_row, run};
+ghost use Rattle.std.specs.Prelude.{◌<◌};
+ghost use Rattle.dw_num.specs.Target.{address_limit};
+
+use crate::sections::headers_of;
+use crate::{Calls, OUT_OF_MEMORY};
+use dw_cfa::{CfaRule, Factors, LocatedRow, RegRule, Row, RowSteps, RunError, initial_row, run};
 use dw_num::{Order, Program, Size, Target};
+use dw_section::Header;
 use std::alloc::AllocError;
 use std::io;
 
@@ -17,32 +21,75 @@ const FACTORS: Factors = Factors {
     data_factor: -8,
 };
 
-const CIE: &[u8] = b"\x0c\x07\x08\x90\x01";
-
-// Gives a rule to the CFA, and to twelve registers.
-const MANY: &[u8] =
-    b"\x0c\x07\x08\x80\x01\x81\x01\x82\x01\x83\x01\x84\x01\x85\x01\x86\x01\x87\x01\x88\x01\x89\x01\x8a\x01\x90\x01";
+// One gives a rule to the CFA, and to one register; the other to twelve.
+const CIES: [&[u8]; 2] = [
+    b"\x0c\x07\x08\x90\x01",
+    b"\x0c\x07\x08\x80\x01\x81\x01\x82\x01\x83\x01\x84\x01\x85\x01\x86\x01\x87\x01\x88\x01\x89\x01\x8a\x01\x90\x01",
+];
 
 // Gives twelve registers rules, remembers a state, and restores it.
 const FDE: &[u8] =
     b"\x41\x80\x01\x81\x01\x82\x01\x83\x01\x84\x01\x85\x01\x86\x01\x87\x01\x88\x01\x89\x01\x8a\x01\x44\x0a\x07\x03\x42\x0b\x43";
 
-fn print_row(rt: &impl Calls, row: &LocatedRow<'_>) -> io::Result<()> {
-    println!(rt; "{} {}", row.location, row.row.specified().count())
+// The programs of a CIE and of an FDE from `begin` on.
+#[derive(Clone, Copy)]
+struct Pair<'a> {
+    cie: Program<'a>,
+    fde: Program<'a>,
+    begin: u64,
+    factors: Factors,
+    target: Target,
+    ghost in_space: { begin < address_limit target.size },
 }
 
-pub fn all_rows(rt: &impl Calls) -> io::Result<()> {
-    let cie = Program { bytes: CIE, at: 0 };
-    let fde = Program { bytes: FDE, at: 32 };
-    match run(rt.alloc(), cie, fde, 0x1000, FACTORS, TARGET) {
+fn print_rule(rt: &impl Calls, register: u16, rule: &RegRule<'_>) -> io::Result<()> {
+    match rule {
+        RegRule::Unspecified => println!(rt; "  r{register} unspecified"),
+        RegRule::Undefined => println!(rt; "  r{register} undefined"),
+        RegRule::SameValue => println!(rt; "  r{register} same"),
+        RegRule::Offset(offset) => println!(rt; "  r{register} at {offset}"),
+        RegRule::ValOffset(offset) => println!(rt; "  r{register} is {offset}"),
+        RegRule::Register(other) => println!(rt; "  r{register} in r{other}"),
+        RegRule::Expression(e) => println!(rt; "  r{register} at {}", e.least_len()),
+        RegRule::ValExpression(e) => println!(rt; "  r{register} is {}", e.least_len()),
+    }
+}
+
+/// Prints a row: where it is, the CFA's rule, and those of the registers that have one. Of an expression its least
+/// length is printed.
+pub fn print_row(rt: &impl Calls, at: u128, row: &Row<'_>) -> io::Result<()> {
+    match row.cfa() {
+        CfaRule::Unset => println!(rt; "{at} unset")?,
+        CfaRule::Register { register, offset } => println!(rt; "{at} r{register} {offset}")?,
+        CfaRule::Expression(e) => println!(rt; "{at} expression {}", e.least_len())?,
+    }
+    for (register, rule) in row.specified() {
+        print_rule(rt, register, &rule)?;
+    }
+    Ok(())
+}
+
+fn print_error(rt: &impl Calls, error: RunError) -> io::Result<()> {
+    match error {
+        RunError::Refused(refusal) => println!(rt; "{refusal:?}"),
+        RunError::OutOfMemory => println!(rt; "{OUT_OF_MEMORY}"),
+    }
+}
+
+fn print_located(rt: &impl Calls, row: &LocatedRow<'_>) -> io::Result<()> {
+    print_row(rt, row.location, &row.row)
+}
+
+fn all_rows(rt: &impl Calls, pair: Pair<'_>) -> io::Result<()> {
+    let Pair { cie, fde, .. } = pair;
+    match run(rt.alloc(), cie, fde, pair.begin, pair.factors, pair.target) {
         Ok(rows) => {
             for row in rows.iter() {
-                print_row(rt, row)?;
+                print_located(rt, row)?;
             }
             Ok(())
         }
-        Err(RunError::Refused(refusal)) => println!(rt; "{refusal:?}"),
-        Err(RunError::OutOfMemory) => println!(rt; "{OUT_OF_MEMORY}"),
+        Err(error) => print_error(rt, error),
     }
 }
 
@@ -52,59 +99,163 @@ fn each_step(rt: &impl Calls, mut steps: RowSteps<'_>) -> io::Result<()> {
     for _ in 0..9 {
         match steps.next() {
             Ok(_) if failed => println!(rt; "an answer behind an error")?,
-            Ok(Some(row)) => print_row(rt, &row)?,
+            Ok(Some(row)) => print_located(rt, &row)?,
             Ok(None) => println!(rt; "end")?,
-            Err(RunError::Refused(refusal)) => println!(rt; "{refusal:?}")?,
-            Err(RunError::OutOfMemory) => {
+            Err(error) => {
                 failed = true;
-                println!(rt; "{OUT_OF_MEMORY}")?
+                print_error(rt, error)?
             }
         }
     }
     Ok(())
 }
 
-pub fn each_row(rt: &impl Calls) -> io::Result<()> {
-    let cie = Program { bytes: CIE, at: 0 };
-    let fde = Program { bytes: FDE, at: 32 };
-    let steps = RowSteps::new(rt.alloc(), cie, fde, 0x1000, FACTORS, TARGET);
+fn each_row(rt: &impl Calls, pair: Pair<'_>) -> io::Result<()> {
+    let Pair { cie, fde, .. } = pair;
+    let steps = RowSteps::new(rt.alloc(), cie, fde, pair.begin, pair.factors, pair.target);
     each_step(rt, steps)
 }
 
 // The row that a CIE's program leaves. Where it leaves none, why is printed.
-fn row_of<'a>(rt: &impl Calls, cie: Program<'a>) -> io::Result<Option<Row<'a>>> {
-    match initial_row(rt.alloc(), cie, FACTORS, TARGET) {
+fn row_of<'a>(rt: &impl Calls, pair: Pair<'a>) -> io::Result<Option<Row<'a>>> {
+    match initial_row(rt.alloc(), pair.cie, pair.factors, pair.target) {
         Ok(row) => return Ok(Some(row)),
-        Err(RunError::Refused(refusal)) => println!(rt; "{refusal:?}")?,
-        Err(RunError::OutOfMemory) => println!(rt; "{OUT_OF_MEMORY}")?,
+        Err(error) => print_error(rt, error)?,
     }
     Ok(None)
 }
 
-fn count_rules(rt: &impl Calls, cie: Program<'_>) -> io::Result<()> {
-    match row_of(rt, cie)? {
-        Some(row) => println!(rt; "{}", row.specified().count()),
+fn first_row(rt: &impl Calls, pair: Pair<'_>) -> io::Result<()> {
+    match row_of(rt, pair)? {
+        Some(row) => print_row(rt, 0, &row),
         None => Ok(()),
     }
 }
 
-pub fn first_row(rt: &impl Calls) -> io::Result<()> {
-    count_rules(rt, Program { bytes: CIE, at: 0 })?;
-    count_rules(rt, Program { bytes: MANY, at: 0 })
-}
-
-fn each_row_behind(rt: &impl Calls, cie: Program<'_>) -> io::Result<()> {
-    let Some(initial) = row_of(rt, cie)? else {
+fn copied_row(rt: &impl Calls, pair: Pair<'_>) -> io::Result<()> {
+    let Some(row) = row_of(rt, pair)? else {
         return Ok(());
     };
-    let fde = Program { bytes: FDE, at: 32 };
-    match RowSteps::from_initial(rt.alloc(), initial, fde, 0x1000, FACTORS, TARGET) {
+    match row.copied() {
+        Ok(copy) => print_row(rt, 0, &copy),
+        Err(AllocError) => println!(rt; "{OUT_OF_MEMORY}"),
+    }
+}
+
+fn rows_behind(rt: &impl Calls, pair: Pair<'_>) -> io::Result<()> {
+    let Some(initial) = row_of(rt, pair)? else {
+        return Ok(());
+    };
+    let Pair { fde, begin, .. } = pair;
+    match RowSteps::from_initial(rt.alloc(), initial, fde, begin, pair.factors, pair.target) {
         Ok(steps) => each_step(rt, steps),
         Err(AllocError) => println!(rt; "{OUT_OF_MEMORY}"),
     }
 }
 
-pub fn rows_behind(rt: &impl Calls) -> io::Result<()> {
-    each_row_behind(rt, Program { bytes: CIE, at: 0 })?;
-    each_row_behind(rt, Program { bytes: MANY, at: 0 })
+fn on_pair(rt: &impl Calls, call: &str, pair: Pair<'_>) -> io::Result<()> {
+    match call {
+        "run" => all_rows(rt, pair),
+        "row_steps" => each_row(rt, pair),
+        "initial_row" => first_row(rt, pair),
+        "copied" => copied_row(rt, pair),
+        _ => rows_behind(rt, pair),
+    }
+}
+
+fn on_programs(rt: &impl Calls, call: &str, cie: Program<'_>, fde: Program<'_>) -> io::Result<()> {
+    let pair = Pair {
+        cie,
+        fde,
+        begin: 0x1000,
+        factors: FACTORS,
+        target: TARGET,
+    };
+    on_pair(rt, call, pair)
+}
+
+pub fn over_worked_data(rt: &impl Calls, call: &str) -> io::Result<()> {
+    let fde = Program { bytes: FDE, at: 32 };
+    for bytes in CIES {
+        let cie = Program {
+            bytes: &bytes[..bytes.len().min(32)],
+            at: 0,
+        };
+        on_programs(rt, call, cie, fde)?;
+    }
+    Ok(())
+}
+
+// The factors and the program of the CIE at a place.
+fn cie_at<'a>(list: &[Header<'a>], place: u64) -> Option<(Factors, Program<'a>)> {
+    for header in list {
+        if let Header::Cie {
+            at,
+            code_factor,
+            data_factor,
+            program,
+            ..
+        } = *header
+        {
+            if at == place {
+                let factors = Factors {
+                    code_factor,
+                    data_factor,
+                };
+                return Some((factors, program));
+            }
+        }
+    }
+    None
+}
+
+/// The program of an entry, and the factors that it is read by.
+pub fn factors_of<'a>(list: &[Header<'a>], header: &Header<'a>) -> Option<(Factors, Program<'a>)> {
+    match *header {
+        Header::Cie { at, .. } => cie_at(list, at),
+        Header::Fde {
+            cie_at: place,
+            program,
+            ..
+        } => {
+            let (factors, _) = cie_at(list, place)?;
+            Some((factors, program))
+        }
+    }
+}
+
+// The programs of an FDE and of its CIE.
+fn pair_of<'a>(list: &[Header<'a>], header: &Header<'a>, target: Target) -> Option<Pair<'a>> {
+    let Header::Fde {
+        cie_at: place,
+        begin,
+        program,
+        ..
+    } = *header
+    else {
+        return None;
+    };
+    let (factors, cie) = cie_at(list, place)?;
+    if u128::from(begin) >= target.size.address_limit() {
+        return None;
+    }
+    Some(Pair {
+        cie,
+        fde: program,
+        begin,
+        factors,
+        target,
+    })
+}
+
+pub fn over_section(rt: &impl Calls, call: &str, bytes: &[u8], target: Target) -> io::Result<()> {
+    let Some(list) = headers_of(rt, bytes, target)? else {
+        return Ok(());
+    };
+    for header in list.iter() {
+        if let Some(pair) = pair_of(&list, header, target) {
+            on_pair(rt, call, pair)?;
+        }
+    }
+    Ok(())
 }

@@ -1,63 +1,44 @@
-//! The calls on tables of sections: one of few registers, and one of many with expressions.
+//! The calls on the table of a section.
 
-use crate::OUT_OF_MEMORY;
-use crate::calls::{Calls, PLAIN};
-use dw_num::{Order, Size, Target};
-use dw_section::{Changes, FdeRef, SectionError, Table, check};
+use crate::programs::print_row;
+use crate::sections::print_error;
+use crate::{Calls, OUT_OF_MEMORY};
+use dw_num::Target;
+use dw_section::{Changes, FdeRef, Table, check};
 use std::alloc::AllocError;
 use std::io;
 
-const TARGET: Target = Target {
-    size: Size::Eight,
-    order: Order::Little,
-};
-
-// The section of examples/many.bin: the plain CIE, an FDE from 0x2000 on that gives ten more registers rules, remembers a
-// state and restores it, and an FDE from 0x1000 on.
-const MANY: &[u8] =
-    b"\x14\0\0\0\xff\xff\xff\xff\x04\0\x08\0\x01\x78\x10\x0c\x07\x08\x90\x01\0\0\0\0\
-\x44\0\0\0\0\0\0\0\0\x20\0\0\0\0\0\0\x40\0\0\0\0\0\0\0\
-\x41\x0e\x60\x80\x02\x81\x03\x82\x04\x83\x05\x84\x06\x85\x07\x86\x08\x88\x09\x89\x0a\x8a\x0b\
-\x44\x0a\x10\x03\x06\x2f\x02\0\x35\x36\x37\x42\x0b\x43\x0f\x03\x77\x08\x06\0\0\0\0\0\0\
-\x1c\0\0\0\0\0\0\0\0\x10\0\0\0\0\0\0\x10\0\0\0\0\0\0\0\x0e\x10\0\0\0\0\0\0";
-
-// In the FDEs of both, before and behind them.
-const ADDRESSES: [u64; 8] = [
-    0xfff, 0x1000, 0x2000, 0x2001, 0x2006, 0x203f, 0x2040, 0x40_1004,
-];
-
 // The table of a section. Where it has none, why is printed.
-fn table_of<'a>(rt: &impl Calls, bytes: &'a [u8]) -> io::Result<Option<Table<'a>>> {
-    match check(rt.alloc(), bytes, TARGET) {
+fn table_of<'a>(rt: &impl Calls, bytes: &'a [u8], target: Target) -> io::Result<Option<Table<'a>>> {
+    match check(rt.alloc(), bytes, target) {
         Ok(table) => return Ok(Some(table)),
-        Err(SectionError::Refused(refusal)) => println!(rt; "{refusal:?}")?,
-        Err(SectionError::OutOfMemory) => println!(rt; "{OUT_OF_MEMORY}")?,
+        Err(error) => print_error(rt, error)?,
     }
     Ok(None)
 }
 
-fn list(rt: &impl Calls, bytes: &[u8]) -> io::Result<()> {
-    let Some(table) = table_of(rt, bytes)? else {
+/// The table, and the calls on it that take no memory.
+pub fn checked(rt: &impl Calls, bytes: &[u8], target: Target) -> io::Result<()> {
+    let Some(table) = table_of(rt, bytes, target)? else {
         return Ok(());
     };
+    println!(rt;
+        "{:?} {} {}",
+        table.target(),
+        table.fde_count(),
+        table.row_starts()
+    )?;
     for fde in table.fdes() {
-        println!(rt; "{fde:?}")?;
+        println!(rt; "{fde:?} {:?}", table.fde_at(fde.begin))?;
     }
     Ok(())
 }
 
-pub fn checked(rt: &impl Calls) -> io::Result<()> {
-    list(rt, PLAIN)?;
-    list(rt, MANY)
-}
-
-fn look_up(rt: &impl Calls, bytes: &[u8]) -> io::Result<()> {
-    let Some(table) = table_of(rt, bytes)? else {
-        return Ok(());
-    };
-    for address in ADDRESSES {
+// The rows at and behind an address, past the end of a short FDE.
+fn rows_from(rt: &impl Calls, table: &Table<'_>, begin: u64) -> io::Result<()> {
+    for address in begin..begin.saturating_add(17) {
         match table.row_at(address) {
-            Ok(Some(row)) => println!(rt; "{address} {}", row.specified().count())?,
+            Ok(Some(row)) => print_row(rt, u128::from(address), &row)?,
             Ok(None) => println!(rt; "{address} none")?,
             Err(AllocError) => println!(rt; "{OUT_OF_MEMORY}")?,
         }
@@ -65,9 +46,14 @@ fn look_up(rt: &impl Calls, bytes: &[u8]) -> io::Result<()> {
     Ok(())
 }
 
-pub fn rows_of_addresses(rt: &impl Calls) -> io::Result<()> {
-    look_up(rt, PLAIN)?;
-    look_up(rt, MANY)
+pub fn rows_of_addresses(rt: &impl Calls, bytes: &[u8], target: Target) -> io::Result<()> {
+    let Some(table) = table_of(rt, bytes, target)? else {
+        return Ok(());
+    };
+    for fde in table.fdes() {
+        rows_from(rt, &table, fde.begin)?;
+    }
+    Ok(())
 }
 
 // More answers than there are changes, for want of memory is answered from then on.
@@ -76,7 +62,7 @@ fn each_change(rt: &impl Calls, mut changes: Changes<'_>) -> io::Result<()> {
     for _ in 0..9 {
         match changes.next() {
             Ok(_) if failed => println!(rt; "an answer behind want of memory")?,
-            Ok(Some((address, row))) => println!(rt; "{address} {}", row.specified().count())?,
+            Ok(Some((address, row))) => print_row(rt, address, &row)?,
             Ok(None) => println!(rt; "end")?,
             Err(AllocError) => {
                 failed = true;
@@ -87,8 +73,8 @@ fn each_change(rt: &impl Calls, mut changes: Changes<'_>) -> io::Result<()> {
     Ok(())
 }
 
-fn change(rt: &impl Calls, bytes: &[u8]) -> io::Result<()> {
-    let Some(table) = table_of(rt, bytes)? else {
+pub fn all_changes(rt: &impl Calls, bytes: &[u8], target: Target) -> io::Result<()> {
+    let Some(table) = table_of(rt, bytes, target)? else {
         return Ok(());
     };
     for place in 0..table.fde_count() {
@@ -96,9 +82,4 @@ fn change(rt: &impl Calls, bytes: &[u8]) -> io::Result<()> {
         each_change(rt, table.changes(fde))?;
     }
     Ok(())
-}
-
-pub fn all_changes(rt: &impl Calls) -> io::Result<()> {
-    change(rt, PLAIN)?;
-    change(rt, MANY)
 }

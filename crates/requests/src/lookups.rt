@@ -1,0 +1,73 @@
+//! Look-ups of addresses one after another, to be counted beside those of another reader (`bench/run`).
+
+use crate::Calls;
+use crate::sections::print_error;
+use dw_cfa::CfaRule;
+use dw_num::Target;
+use dw_section::{Fde, Table, check};
+use std::io;
+
+/// Numbers that are the same at each run (xorshift64*).
+#[derive(Clone, Copy)]
+struct Numbers {
+    state: u64,
+}
+
+impl Numbers {
+    fn next(&mut self) -> u64 {
+        self.state ^= self.state >> 12;
+        self.state ^= self.state << 25;
+        self.state ^= self.state >> 27;
+        self.state.wrapping_mul(0x2545_f491_4f6c_dd1d)
+    }
+
+    // A number below a limit, 0 where there is none.
+    fn below(&mut self, limit: u64) -> u64 {
+        self.next().checked_rem(limit).unwrap_or(0)
+    }
+}
+
+fn range_of(fde: &Fde) -> u64 {
+    let range = fde.end.saturating_sub(u128::from(fde.begin));
+    u64::try_from(range).unwrap_or(u64::MAX)
+}
+
+// A number that tells the rule of the CFA at an address: 0 for none, 1 for an expression.
+fn found_at(table: &Table<'_>, address: u64) -> io::Result<u64> {
+    let Some(row) = table.row_at(address)? else {
+        return Ok(0);
+    };
+    Ok(match row.cfa() {
+        CfaRule::Unset => 0,
+        CfaRule::Register { register, offset } => u64::from(register) ^ offset.unsigned_abs(),
+        CfaRule::Expression(_) => 1,
+    })
+}
+
+fn sum_of(table: &Table<'_>, fdes: &[Fde], count: u64) -> io::Result<u64> {
+    let mut numbers = Numbers {
+        state: 0x9e37_79b9_7f4a_7c15,
+    };
+    let mut sum: u64 = 0;
+    for _ in 0..count {
+        let place = numbers.below(fdes.len() as u64);
+        if let Some(fde) = fdes.get(place as usize) {
+            let address = fde.begin.wrapping_add(numbers.below(range_of(fde)));
+            let found = found_at(table, address)?;
+            sum = sum.wrapping_mul(31).wrapping_add(address ^ found << 32);
+        }
+    }
+    Ok(sum)
+}
+
+/// Makes so many look-ups of covered addresses, and prints a sum of what they found. Those of no look-up are the cost of
+/// the table and of the list of FDEs.
+pub fn all(rt: &impl Calls, bytes: &[u8], target: Target, count: u64) -> io::Result<()> {
+    let table = match check(rt.alloc(), bytes, target) {
+        Ok(table) => table,
+        Err(error) => return print_error(rt, error),
+    };
+    let fdes: Vec<Fde> = table.fdes().collect(rt.alloc())?;
+    let sum = sum_of(&table, &fdes, count)?;
+    println!(rt; "lookups={count} sum={sum:016x}")
+}
