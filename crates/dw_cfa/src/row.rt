@@ -452,8 +452,8 @@ impl<'a> Row<'a> {
         self.entries.exchange(register, rule, self.alloc)
     }
 
-    // Makes it a copy of another row, in the room that is there, or answers want of memory.
-    pub(crate) fn become_copy(&mut self, other: &Row<'a>) -> Result<(), AllocError>
+    /// Makes it a copy of another row, in the room that is there, or answers want of memory. It is some row then.
+    pub fn become_copy(&mut self, other: &Row<'a>) -> Result<(), AllocError>
         ensures { OnOk result (self.new ≡ other.now) }
     {
         self.entries.become_copy(&other.entries, self.alloc)?;

@@ -3,7 +3,7 @@
 ghost use Rattle.std.specs.Prelude.{◌<◌};
 
 use crate::{RegRule, Row};
-use std::alloc::Global;
+use std::alloc::{AllocError, Global};
 use std::test::Fail;
 
 // So many registers has the widest row here.
@@ -16,18 +16,43 @@ fn register(place: u16) -> u16
     place * 300 + 7
 }
 
-fn set_offset(row: &mut Row<'_>, place: u16) -> Result<(), Fail>
-    requires { place < 200 }
+fn offset<'a>(place: u16) -> RegRule<'a> {
+    RegRule::Offset(place as i64)
+}
+
+// A row of the first registers of the widest row, set one behind another.
+fn ascending<'a>(alloc: Global, many: u16) -> Result<Row<'a>, AllocError>
+    requires { many < 201 }
 {
-    row.set(register(place), RegRule::Offset(place as i64))?;
+    let mut row = Row::blank(alloc);
+    for place in 0..many {
+        row.set(register(place), offset(place))?;
+    }
+    Ok(row)
+}
+
+// The widest row, its last register set first.
+fn descending<'a>(alloc: Global) -> Result<Row<'a>, AllocError> {
+    let mut row = Row::blank(alloc);
+    for place in (0..WIDE).rev() {
+        row.set(register(place), offset(place))?;
+    }
+    Ok(row)
+}
+
+// Takes every second register out of a row.
+fn remove_half(row: &mut Row<'_>) -> Result<(), AllocError> {
+    for half in 0..100 {
+        row.set(register(half * 2), RegRule::Unspecified)?;
+    }
     Ok(())
 }
 
-fn has_offset(row: &Row<'_>, place: u16) -> bool
-    requires { place < 200 }
-{
-    row.rule(register(place))
-        .is_same(&RegRule::Offset(place as i64))
+fn restore_half(row: &mut Row<'_>) -> Result<(), AllocError> {
+    for half in 0..100 {
+        row.set(register(half * 2), offset(half * 2))?;
+    }
+    Ok(())
 }
 
 // Whether a row shows each register of the widest row, ascending, with its offset, and none beside.
@@ -37,124 +62,114 @@ fn shows_all(row: &Row<'_>) -> bool {
         let Some((found, rule)) = entries.next() else {
             return false;
         };
-        if found != register(place) || !rule.is_same(&RegRule::Offset(place as i64)) {
+        if found != register(place) || !rule.is_same(&offset(place)) {
             return false;
         }
     }
     entries.next().is_none()
 }
 
-fn count(row: &Row<'_>) -> usize {
-    row.specified().count()
+// Whether a row has a rule for every second register of the widest row alone.
+fn has_half(row: &Row<'_>) -> bool {
+    for half in 0..100 {
+        if row.rule(register(half * 2)).is_specified() {
+            return false;
+        }
+        if !row
+            .rule(register(half * 2 + 1))
+            .is_same(&offset(half * 2 + 1))
+        {
+            return false;
+        }
+    }
+    row.specified().count() == 100
 }
 
-// A row of the first registers of the widest row, set one behind another.
-fn first_registers<'a>(alloc: Global, many: u16) -> Result<Row<'a>, Fail>
+// Whether rules are exchanged for the older ones, there and back.
+fn exchanges(row: &mut Row<'_>) -> Result<bool, AllocError> {
+    let first = row.exchange(307, RegRule::SameValue)?;
+    let second = row.exchange(307, RegRule::Unspecified)?;
+    let third = row.exchange(307, offset(1))?;
+    Ok(
+        first.is_same(&offset(1))
+            && second.is_same(&RegRule::SameValue)
+            && third.is_same(&RegRule::Unspecified),
+    )
+}
+
+// Whether a row becomes another, in the same way of keeping it.
+fn becomes(row: &mut Row<'_>, alloc: Global, many: u16) -> Result<bool, AllocError>
     requires { many < 201 }
 {
-    let mut row = Row::blank(alloc);
-    for place in 0..many {
-        set_offset(&mut row, place)?;
-    }
-    Ok(row)
+    let other = ascending(alloc, many)?;
+    row.become_copy(&other)?;
+    Ok(row.is_same(&other) && row.is_wide() == other.is_wide())
 }
 
 #[test]
 fn sets_descending(rt: HostRuntime) -> Result<(), Fail> {
-    let mut row = Row::blank(rt.alloc());
-    for place in (0..WIDE).rev() {
-        set_offset(&mut row, place)?;
-    }
+    let row = descending(rt.alloc())?;
     assert!(rt; row.is_wide());
     assert!(rt; shows_all(&row));
-    let ascending = first_registers(rt.alloc(), WIDE)?;
-    assert!(rt; shows_all(&ascending));
-    assert!(rt; row.is_same(&ascending));
-    assert!(rt; row.rule(6).is_same(&RegRule::Unspecified));
-    assert!(rt; row.rule(65535).is_same(&RegRule::Unspecified));
+    assert!(rt; !row.rule(6).is_specified());
+    let other = ascending(rt.alloc(), WIDE)?;
+    assert!(rt; row.is_same(&other));
     Ok(())
 }
 
 #[test]
 fn removes_and_restores(rt: HostRuntime) -> Result<(), Fail> {
-    let mut row = first_registers(rt.alloc(), WIDE)?;
+    let mut row = descending(rt.alloc())?;
     let whole = row.copied()?;
-    for place in 0..100 {
-        row.set(register(place * 2), RegRule::Unspecified)?;
-    }
-    assert_eq!(rt; count(&row), 100);
-    for place in 0..100 {
-        assert!(rt; row.rule(register(place * 2)).is_same(&RegRule::Unspecified));
-        assert!(rt; has_offset(&row, place * 2 + 1));
-    }
+    remove_half(&mut row)?;
+    assert!(rt; has_half(&row));
     assert!(rt; !row.is_same(&whole));
+    restore_half(&mut row)?;
+    assert!(rt; shows_all(&row));
     assert!(rt; shows_all(&whole));
-    for place in 0..100 {
-        set_offset(&mut row, place * 2)?;
-    }
-    assert!(rt; row.is_same(&whole));
     Ok(())
 }
 
 #[test]
 fn goes_over_at_the_65th_register(rt: HostRuntime) -> Result<(), Fail> {
-    let mut row = first_registers(rt.alloc(), 64)?;
+    let mut row = ascending(rt.alloc(), 64)?;
+    row.set(7, offset(0))?;
     assert!(rt; !row.is_wide());
-    set_offset(&mut row, 63)?;
-    row.set(register(64), RegRule::Unspecified)?;
-    assert!(rt; !row.is_wide());
-    set_offset(&mut row, 64)?;
+    row.set(8, RegRule::Undefined)?;
     assert!(rt; row.is_wide());
-    assert_eq!(rt; count(&row), 65);
-    row.set(register(64), RegRule::Unspecified)?;
+    row.set(8, RegRule::Unspecified)?;
     assert!(rt; row.is_wide());
-    let narrow = first_registers(rt.alloc(), 64)?;
-    assert!(rt; row.is_same(&narrow));
-    assert!(rt; narrow.is_same(&row));
-    row.set(register(63), RegRule::SameValue)?;
-    assert!(rt; !row.is_same(&narrow));
-    row.set(register(63), RegRule::Unspecified)?;
-    assert!(rt; !row.is_same(&narrow));
-    assert!(rt; !narrow.is_same(&row));
     Ok(())
 }
 
 #[test]
-fn exchanges(rt: HostRuntime) -> Result<(), Fail> {
-    let mut narrow = first_registers(rt.alloc(), 3)?;
-    let mut wide = first_registers(rt.alloc(), WIDE)?;
-    for row in [&mut narrow, &mut wide] {
-        let older = row.exchange(register(1), RegRule::SameValue)?;
-        assert!(rt; older.is_same(&RegRule::Offset(1)));
-        assert!(rt; row.rule(register(1)).is_same(&RegRule::SameValue));
-        let older = row.exchange(register(1), RegRule::Unspecified)?;
-        assert!(rt; older.is_same(&RegRule::SameValue));
-        let older = row.exchange(register(1), RegRule::Offset(1))?;
-        assert!(rt; older.is_same(&RegRule::Unspecified));
-        assert!(rt; has_offset(row, 1));
-    }
-    assert_eq!(rt; count(&narrow), 3);
+fn compares_wide_with_narrow(rt: HostRuntime) -> Result<(), Fail> {
+    let narrow = ascending(rt.alloc(), 64)?;
+    let mut row = ascending(rt.alloc(), 65)?;
+    assert!(rt; !row.is_same(&narrow));
+    assert!(rt; !narrow.is_same(&row));
+    row.set(register(64), RegRule::Unspecified)?;
+    assert!(rt; row.is_same(&narrow));
+    assert!(rt; narrow.is_same(&row));
+    Ok(())
+}
+
+#[test]
+fn exchanges_rules(rt: HostRuntime) -> Result<(), Fail> {
+    let mut narrow = ascending(rt.alloc(), 3)?;
+    assert!(rt; exchanges(&mut narrow)?);
+    let mut wide = descending(rt.alloc())?;
+    assert!(rt; exchanges(&mut wide)?);
     assert!(rt; shows_all(&wide));
     Ok(())
 }
 
 #[test]
-fn becomes_a_copy(rt: HostRuntime) -> Result<(), Fail> {
-    let narrow = first_registers(rt.alloc(), 3)?;
-    let broad = first_registers(rt.alloc(), 64)?;
-    let wide = first_registers(rt.alloc(), WIDE)?;
+fn becomes_copies(rt: HostRuntime) -> Result<(), Fail> {
     let mut row = Row::blank(rt.alloc());
-    row.become_copy(&narrow)?;
-    assert!(rt; row.is_same(&narrow));
-    row.become_copy(&broad)?;
-    assert!(rt; row.is_same(&broad));
-    row.become_copy(&narrow)?;
-    assert!(rt; row.is_same(&narrow));
-    row.become_copy(&wide)?;
-    assert!(rt; row.is_wide());
-    assert!(rt; row.is_same(&wide));
-    row.become_copy(&broad)?;
-    assert!(rt; !row.is_wide());
-    assert!(rt; row.is_same(&broad));
+    assert!(rt; becomes(&mut row, rt.alloc(), 64)?);
+    assert!(rt; becomes(&mut row, rt.alloc(), 3)?);
+    assert!(rt; becomes(&mut row, rt.alloc(), 200)?);
+    assert!(rt; becomes(&mut row, rt.alloc(), 64)?);
     Ok(())
 }

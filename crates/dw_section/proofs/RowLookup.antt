@@ -14,6 +14,7 @@ use Rattle.dw_cfa.specs.Kept.{CieKept}
 use Rattle.dw_cfa.specs.Laws.{RowsOf}
 use Rattle.dw_cfa.specs.RuleAt.{last_at, NeverFalls}
 use Rattle.dw_cfa.specs.Rows.{Rules}
+use Rattle.dw_cfa.specs.Runs.{Outcome}
 use Rattle.dw_cfa.proofs.KeptLaws.{rows_where_kept}
 use Rattle.dw_cfa.proofs.RunLaws.{last_holds, none_falls}
 use Rattle.dw_section.specs.declared.indexing.Ranged.{Ranged}

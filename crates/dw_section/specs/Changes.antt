@@ -94,15 +94,23 @@ GivesChange old (Ok (Some change)) new =
     (new.failed ≡ false) × (length new.rows < length old.rows) × ((changes : List (ℕ × Rules)) → ToCome new changes → ToCome old (change ∷ changes))
 GivesChange old (Err e) new = new.failed ≡ true
 
+-- the same of a call that answers the address alone: the row there is the one that was shown then
+abbrev pub GivesAddress : {E : Type 0} → Changing → Result (Option ℕ) E → Changing → Type 0
+GivesAddress old (Ok None) new = (new.failed ≡ false) × ToCome old [] × (new.rows ≡ [])
+GivesAddress old (Ok (Some address)) new =
+    (new.failed ≡ false) × (length new.rows < length old.rows)
+    × ((row : Rules) × (new.shown ≡ Some row) × ((changes : List (ℕ × Rules)) → ToCome new changes → ToCome old ((address, row) ∷ changes)))
+GivesAddress old (Err e) new = new.failed ≡ true
+
 -- ---- how the code finds them
 
 abbrev pub now_of : Option Row → Option Rules
 now_of None = None
 now_of (Some row) = Some row
 
-abbrev pub FindsChange : {E : Type 0} → ℕ → Stepping → Option Row → Result (Option (ℕ × Rules)) E → Stepping → Option Row → Type 0
+abbrev pub FindsChange : {E : Type 0} → ℕ → Stepping → Option Row → Result (Option ℕ) E → Stepping → Option Row → Type 0
 FindsChange end old shown (Ok None) new shown' = (new.outcome.fault ≡ None) × Among end (now_of shown) old.outcome.rows [] × (new.outcome.rows ≡ [])
-FindsChange end old shown (Ok (Some change)) new shown' =
+FindsChange end old shown (Ok (Some start)) new shown' =
     (new.outcome.fault ≡ None) × (length new.outcome.rows < length old.outcome.rows)
-    × ((changes : List (ℕ × Rules)) → Among end (now_of shown') new.outcome.rows changes → Among end (now_of shown) old.outcome.rows (change ∷ changes))
+    × ((row : Rules) × (now_of shown' ≡ Some row) × ((changes : List (ℕ × Rules)) → Among end (Some row) new.outcome.rows changes → Among end (now_of shown) old.outcome.rows ((start, row) ∷ changes)))
 FindsChange end old shown (Err e) new shown' = new.outcome.fault ≡ None

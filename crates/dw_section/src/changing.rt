@@ -1,7 +1,8 @@
 //! The addresses at which the rules of an FDE change (6.4.3), one at a time.
 
-ghost use Rattle.std.specs.Prelude.{◌≡◌, ◌↔◌, IsTrue, Some, None, true, IsErr};
-ghost use Rattle.dw_section.specs.Changes.{Before, GivesChange, Shows, FindsChange, changing, now_of};
+ghost use Rattle.std.specs.Prelude.{◌≡◌, ◌↔◌, IsTrue, Some, None, true, IsErr, IfOk, OnOk, MatchOption};
+ghost use Rattle.dw_cfa.specs.Rows.{Rules};
+ghost use Rattle.dw_section.specs.Changes.{Before, GivesAddress, GivesChange, Shows, FindsChange, changing, now_of};
 
 use dw_cfa::{Row, RowSteps};
 use std::alloc::AllocError;
@@ -28,12 +29,33 @@ fn is_repeated(shown: &Option<Row<'_>>, row: &Row<'_>) -> bool
     }
 }
 
+// Keeps a row as the one that was shown.
+fn keep<'a>(shown: &mut Option<Row<'a>>, row: &Row<'a>) -> Result<(), AllocError>
+    ensures { OnOk result (now_of shown.new ≡ Some row.now) }
+{
+    match shown {
+        Some(shown) => shown.become_copy(row)?,
+        None => *shown = Some(row.copied()?),
+    }
+    Ok(())
+}
+
+// The row that was shown once more.
+fn copied<'a>(shown: &Option<Row<'a>>) -> Result<Row<'a>, AllocError>
+    ensures { (shows : Rules) → now_of shown.now ≡ Some shows → IfOk result (λ row. row ≡ shows) }
+{
+    match shown {
+        Some(row) => row.copied(),
+        None => Err(AllocError),
+    }
+}
+
 // Goes on to the next row that an address shows and that is not the one that was shown before.
 fn find_change<'a>(
     steps: &mut RowSteps<'a>,
     shown: &mut Option<Row<'a>>,
     end: u128,
-) -> Result<Option<(u128, Row<'a>)>, AllocError>
+) -> Result<Option<u128>, AllocError>
     requires { steps.old.outcome.fault ≡ None }
     ensures { FindsChange end steps.old shown.old result steps.new shown.new }
 {
@@ -44,9 +66,8 @@ fn find_change<'a>(
             Err(_) => return Err(AllocError),
         };
         if is_visible(steps, start, end) && !is_repeated(shown, steps.row()) {
-            let row = steps.row().copied()?;
-            *shown = Some(steps.row().copied()?);
-            return Ok(Some((start, row)));
+            keep(shown, steps.row())?;
+            return Ok(Some(start));
         }
     }
 }
@@ -86,9 +107,10 @@ impl<'a> Changes<'a> {
         }
     }
 
-    /// The next change, or none behind the last one. Want of memory is answered from then on.
-    pub fn next(&mut self) -> Result<Option<(u128, Row<'a>)>, AllocError>
-        ensures gives { GivesChange self.old result self.new }
+    /// Goes on to the next change, whose row `row` lends then, and answers its address, or none behind the last one. Want
+    /// of memory is answered from then on.
+    pub fn advance(&mut self) -> Result<Option<u128>, AllocError>
+        ensures gives { GivesAddress self.old result self.new }
         ensures again { self.old.failed ≡ true → IsErr result }
     {
         if self.failed {
@@ -97,5 +119,29 @@ impl<'a> Changes<'a> {
         let change = find_change(&mut self.steps, &mut self.shown, self.end);
         self.failed = change.is_err();
         change
+    }
+
+    /// The row of the change that `advance` or `next` went on to, and none before the first one.
+    pub fn row(&self) -> Option<&Row<'a>>
+        ensures { MatchOption result (self.now.shown ≡ None) (λ row. self.now.shown ≡ Some row.now) }
+    {
+        self.shown.as_ref()
+    }
+
+    /// The next change with its row, or none behind the last one. Want of memory is answered from then on.
+    pub fn next(&mut self) -> Result<Option<(u128, Row<'a>)>, AllocError>
+        ensures gives { GivesChange self.old result self.new }
+        ensures again { self.old.failed ≡ true → IsErr result }
+    {
+        let Some(address) = self.advance()? else {
+            return Ok(None);
+        };
+        match copied(&self.shown) {
+            Ok(row) => Ok(Some((address, row))),
+            Err(error) => {
+                self.failed = true;
+                Err(error)
+            }
+        }
     }
 }

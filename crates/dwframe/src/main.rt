@@ -10,6 +10,7 @@ mod entries;
 mod expr;
 mod failure;
 mod files;
+mod line;
 mod plan;
 mod row_text;
 mod rows;

@@ -2,29 +2,43 @@
 
 use crate::failure::Failure;
 use crate::files::Load;
-use crate::row_text::{print_fde, print_row};
+use crate::line::Line;
+use crate::row_text::{put_fde, put_row};
 use dw_num::Target;
 use dw_section::{Changes, FdeRef, Table, check};
 use std::alloc::Global;
 use std::io::Write;
 
-// Prints a line for each address at which the rules of an FDE change.
-fn print_changes<W: Write>(out: &mut W, mut changes: Changes<'_>) -> Result<(), Failure<'static>> {
-    'changes: while let Some((address, row)) = changes.next()? {
-        if print_row(out, address, &row).is_err() {
+// Prints a line for each address at which the rules of an FDE change. Each is put together first.
+fn print_changes<W: Write>(
+    out: &mut W,
+    line: &mut Line,
+    mut changes: Changes<'_>,
+) -> Result<(), Failure<'static>> {
+    'changes: while let Some(address) = changes.advance()? {
+        if let Some(row) = changes.row() {
+            put_row(line, address, row)?;
+        }
+        if line.print(out).is_err() {
             return Err(Failure::CannotWrite);
         }
     }
     Ok(())
 }
 
-fn print_table<W: Write>(out: &mut W, table: &Table<'_>) -> Result<(), Failure<'static>> {
+fn print_table<W: Write>(
+    alloc: Global,
+    out: &mut W,
+    table: &Table<'_>,
+) -> Result<(), Failure<'static>> {
+    let mut line = Line::new(alloc);
     for place in 0..table.fde_count() {
         let fde = FdeRef { place };
-        if print_fde(out, &table.fde(fde)).is_err() {
+        put_fde(&mut line, &table.fde(fde))?;
+        if line.print(out).is_err() {
             return Err(Failure::CannotWrite);
         }
-        print_changes(out, table.changes(fde))?;
+        print_changes(out, &mut line, table.changes(fde))?;
     }
     if out.flush().is_err() {
         return Err(Failure::CannotWrite);
@@ -45,5 +59,5 @@ pub fn run_rows<'a, L: Load, W: Write>(
         .load(path)
         .map_err(|error| Failure::from_load(path, error))?;
     let table = check(alloc, bytes.as_slice(), target)?;
-    print_table(out, &table)
+    print_table(alloc, out, &table)
 }

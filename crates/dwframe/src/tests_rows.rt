@@ -1,6 +1,7 @@
 //! The texts of rows, of worked programs.
 
-use crate::row_text::{print_fde, print_row};
+use crate::line::Line;
+use crate::row_text::{put_fde, put_row};
 use dw_cfa::{Factors, run};
 use dw_num::{Order, Program, Size, Target};
 use dw_section::Fde;
@@ -57,9 +58,11 @@ fn lines(
 ) -> Result<Vec<u8>, Fail> {
     let (cie, fde) = (program(cie), program(fde));
     let mut out: Vec<u8> = Vec::new(alloc);
+    let mut line = Line::new(alloc);
     for located in &run(alloc, cie, fde, u64::from(begin), factors, target)? {
-        print_row(&mut out, located.location, &located.row)?;
+        put_row(&mut line, located.location, &located.row)?;
     }
+    line.print(&mut out)?;
     Ok(out)
 }
 
@@ -106,8 +109,10 @@ fn prints_big_rows_of_size_4(rt: HostRuntime) -> Result<(), Fail> {
 #[test]
 fn prints_fdes(rt: HostRuntime) -> Result<(), Fail> {
     let mut out: Vec<u8> = Vec::new(rt.alloc());
-    print_fde(&mut out, &fde(0x40_1000, 0x40_1010, 16))?;
-    print_fde(&mut out, &fde(0xffff_ffff_ffff_fff0, 1 << 64, 65_535))?;
+    let mut line = Line::new(rt.alloc());
+    put_fde(&mut line, &fde(0x40_1000, 0x40_1010, 16))?;
+    put_fde(&mut line, &fde(0xffff_ffff_ffff_fff0, 1 << 64, 65_535))?;
+    line.print(&mut out)?;
     let wanted =
         "fde 0x401000 0x401010 ra=r16\nfde 0xfffffffffffffff0 0x10000000000000000 ra=r65535\n";
     assert_eq!(rt; out.as_slice(), wanted.as_bytes());

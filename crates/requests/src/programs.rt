@@ -5,7 +5,9 @@ ghost use Rattle.dw_num.specs.Target.{address_limit};
 
 use crate::sections::headers_of;
 use crate::{Calls, OUT_OF_MEMORY};
-use dw_cfa::{CfaRule, Factors, LocatedRow, RegRule, Row, RowSteps, RunError, initial_row, run};
+use dw_cfa::{
+    CfaRule, CieMachine, Factors, LocatedRow, RegRule, Row, RowSteps, RunError, initial_row, run,
+};
 use dw_num::{Order, Program, Size, Target};
 use dw_section::Header;
 use std::alloc::AllocError;
@@ -94,7 +96,9 @@ fn all_rows(rt: &impl Calls, pair: Pair<'_>) -> io::Result<()> {
 }
 
 // More answers than there are rows, for an error is answered from then on.
-fn each_step(rt: &impl Calls, mut steps: RowSteps<'_>) -> io::Result<()> {
+fn each_row(rt: &impl Calls, pair: Pair<'_>) -> io::Result<()> {
+    let Pair { cie, fde, .. } = pair;
+    let mut steps = RowSteps::new(rt.alloc(), cie, fde, pair.begin, pair.factors, pair.target);
     let mut failed = false;
     for _ in 0..9 {
         match steps.next() {
@@ -108,12 +112,6 @@ fn each_step(rt: &impl Calls, mut steps: RowSteps<'_>) -> io::Result<()> {
         }
     }
     Ok(())
-}
-
-fn each_row(rt: &impl Calls, pair: Pair<'_>) -> io::Result<()> {
-    let Pair { cie, fde, .. } = pair;
-    let steps = RowSteps::new(rt.alloc(), cie, fde, pair.begin, pair.factors, pair.target);
-    each_step(rt, steps)
 }
 
 // The row that a CIE's program leaves. Where it leaves none, why is printed.
@@ -142,13 +140,35 @@ fn copied_row(rt: &impl Calls, pair: Pair<'_>) -> io::Result<()> {
     }
 }
 
+// Each row that a machine lends, and more answers than there are rows.
+fn each_lent(rt: &impl Calls, machine: &mut CieMachine<'_>) -> io::Result<()> {
+    let mut failed = false;
+    for _ in 0..9 {
+        match machine.advance() {
+            Ok(_) if failed => println!(rt; "an answer behind an error")?,
+            Ok(Some(at)) => print_row(rt, at, machine.row())?,
+            Ok(None) => println!(rt; "end")?,
+            Err(error) => {
+                failed = true;
+                print_error(rt, error)?
+            }
+        }
+    }
+    Ok(())
+}
+
+// The FDE's program is begun twice, so that what it changed is taken back.
 fn rows_behind(rt: &impl Calls, pair: Pair<'_>) -> io::Result<()> {
-    let Some(initial) = row_of(rt, pair)? else {
-        return Ok(());
+    let Pair { cie, fde, begin, .. } = pair;
+    let mut machine = match CieMachine::new(rt.alloc(), cie, pair.factors, pair.target) {
+        Ok(machine) => machine,
+        Err(error) => return print_error(rt, error),
     };
-    let Pair { fde, begin, .. } = pair;
-    match RowSteps::from_initial(rt.alloc(), initial, fde, begin, pair.factors, pair.target) {
-        Ok(steps) => each_step(rt, steps),
+    if machine.begin(fde, begin).is_err() || machine.advance() == Err(RunError::OutOfMemory) {
+        return println!(rt; "{OUT_OF_MEMORY}");
+    }
+    match machine.begin(fde, begin) {
+        Ok(()) => each_lent(rt, &mut machine),
         Err(AllocError) => println!(rt; "{OUT_OF_MEMORY}"),
     }
 }

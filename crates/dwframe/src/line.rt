@@ -1,0 +1,54 @@
+//! A line of text that is put together before it is printed.
+
+use crate::texts::print_op;
+use dw_op::Op;
+use hex::encode_to_slice;
+use itoa::{Buffer, Integer};
+use std::alloc::{AllocError, Global};
+use std::io::{self, Write};
+
+/// Text that is to be printed at once. Its room is used again for the next line.
+#[derive(Drop)]
+pub struct Line {
+    text: Vec<u8>,
+}
+
+impl Line {
+    pub fn new(alloc: Global) -> Line {
+        Line {
+            text: Vec::new(alloc),
+        }
+    }
+
+    pub fn text(&mut self, text: &[u8]) -> Result<(), AllocError> {
+        self.text.extend_from_slice(text)
+    }
+
+    pub fn decimal<I: Integer>(&mut self, number: I) -> Result<(), AllocError> {
+        let mut digits = Buffer::new();
+        self.text(digits.format(number).as_bytes())
+    }
+
+    /// A number in hexadecimal digits, without leading zeros.
+    pub fn hex(&mut self, number: u128) -> Result<(), AllocError> {
+        let mut digits = [0; 32];
+        let _ = encode_to_slice(number.to_be_bytes(), &mut digits);
+        let zeros = digits.iter().take_while(|digit| **digit == b'0').count();
+        self.text(&digits[zeros.min(31)..])
+    }
+
+    pub fn operation(&mut self, op: &Op<'_>) -> Result<(), AllocError> {
+        match print_op(&mut self.text, op) {
+            Ok(()) => Ok(()),
+            // A vector refuses nothing but for want of memory.
+            Err(_) => Err(AllocError),
+        }
+    }
+
+    /// Prints the text, which is empty then.
+    pub fn print<W: Write>(&mut self, out: &mut W) -> io::Result<()> {
+        out.write_all(&self.text)?;
+        self.text.clear();
+        Ok(())
+    }
+}
