@@ -149,10 +149,11 @@ impl<'a> RowSteps<'a> {
     }
 
     /// The location that the next row starts at, which is where the row that is lent ends. None behind the last row, and
-    /// after an error.
+    /// after an error. Where a refusal comes next it is where the program stands.
     pub fn next_start(&self) -> Option<u128>
         ensures next { (row : LocatedRow) (rows : List LocatedRow) → self.now.outcome.rows ≡ row ∷ rows → result ≡ Some row.location }
         ensures last { self.now.outcome ≡ finished → result ≡ None }
+        ensures none { result ≡ None → self.now.outcome ≡ finished }
     {
         match self.progress {
             Progress::Begun | Progress::Running => Some(self.machine.location),

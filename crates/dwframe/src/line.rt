@@ -31,10 +31,19 @@ impl Line {
 
     /// A number in hexadecimal digits, without leading zeros.
     pub fn hex(&mut self, number: u128) -> Result<(), AllocError> {
-        let mut digits = [0; 32];
-        let _ = encode_to_slice(number.to_be_bytes(), &mut digits);
+        let Ok(number) = u64::try_from(number) else {
+            return self.hex_digits(&number.to_be_bytes());
+        };
+        self.hex_digits(&number.to_be_bytes())
+    }
+
+    // The digits of up to 16 bytes behind the leading zeros, of which the last one stays.
+    fn hex_digits(&mut self, bytes: &[u8]) -> Result<(), AllocError> {
+        let mut room = [0; 32];
+        let digits = &mut room[..2 * bytes.len().min(16)];
+        let _ = encode_to_slice(bytes, digits);
         let zeros = digits.iter().take_while(|digit| **digit == b'0').count();
-        self.text(&digits[zeros.min(31)..])
+        self.text(&digits[zeros.min(digits.len().saturating_sub(1))..])
     }
 
     pub fn operation(&mut self, op: &Op<'_>) -> Result<(), AllocError> {

@@ -88,8 +88,8 @@ pub fn put_row(line: &mut Line, address: u128, row: &Row<'_>) -> Result<(), Allo
     line.text(b" cfa=")?;
     put_cfa(line, &row.cfa())?;
     for (register, rule) in row.specified() {
-        line.text(b" ")?;
-        put_register(line, register)?;
+        line.text(b" r")?;
+        line.decimal(register)?;
         line.text(b"=")?;
         put_rule(line, &rule)?;
     }

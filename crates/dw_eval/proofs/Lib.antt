@@ -1,0 +1,9 @@
+pub mod Worked
+pub mod RunLaws
+pub mod Effects
+pub mod Results
+pub mod Signed
+pub mod Steps
+pub mod ValueLoop
+pub mod PlaceSteps
+pub mod PlaceLoop

@@ -1,0 +1,81 @@
+-- What one operation of the code tells of a run.
+use Rattle.std.proofs.Common.{◌≡◌, ◌⊎◌, ℕ, ◌+◌, ◌<◌, ◌≤◌, List, length, Option, Some, None, Result, Ok, Err, refl, sym, ◌∙◌, ap, subst, inl, inr, arith}
+use Rattle.std.specs.Prelude.{slice_get}
+use Rattle.std.proofs.Math.Numerals.{suc-eq-add-one}
+use Rattle.dw_num.specs.declared.target.Size.{Size}
+use Rattle.dw_op.specs.declared.op.Op.{Op}
+use Rattle.dw_op.specs.declared.op.Op.TheVariants.{Implicit}
+use Rattle.dw_op.specs.Expression.{bare}
+use Rattle.dw_eval.specs.declared.error.EvalError.{EvalError}
+use Rattle.dw_eval.specs.declared.error.EvalError.TheVariants.{Fault, OutOfMemory}
+use Rattle.dw_eval.specs.declared.error.Kind.{Kind}
+use Rattle.dw_eval.specs.declared.error.Kind.TheVariants.{Device, StepLimit}
+use Rattle.dw_eval.specs.Context.{Context}
+use Rattle.dw_eval.specs.Evaluation.{State, led, value_turn}
+use Rattle.dw_eval.specs.Runs.{Runs, Answers, MayFail, Answered, Right, Short, Failed}
+use Rattle.dw_eval.specs.declared.stack.Flow.{Flow}
+use Rattle.dw_eval.specs.declared.stack.Flow.TheVariants as flow
+use Rattle.dw_eval.specs.declared.stack.Stop.{Stop}
+use Rattle.dw_eval.specs.declared.stack.Stop.TheVariants as stop
+use Rattle.dw_eval.specs.Effect.{Outcome, effect, Reads, bytes_read}
+use Rattle.dw_eval.specs.Stepping.{Does, Acts, reached, StepsTo}
+
+-- an operation without memory is one over a memory that stays
+pub acts_so : (outcome : Outcome) (Read : Type 0) (before : ℕ) (result : Result Flow Stop) (stack : List ℕ) (after : ℕ) → Does outcome result stack → after ≡ before → Acts outcome Read before result stack after
+acts_so outcome Read before (Ok flow.Next) stack after d e = (d, e)
+acts_so outcome Read before (Ok (flow.Jump i)) stack after d e = (d, e)
+acts_so outcome Read before (Err (stop.Fault kind)) stack after d e = (d, e)
+acts_so outcome Read before (Err stop.Device) stack after d e = absurd d
+acts_so outcome Read before (Err stop.OutOfMemory) stack after d e = e
+
+-- an operation without its bytes' places in memory does the same
+pub effect_bare : (c : Context) (op : Op) (stack : List ℕ) → effect c (bare op) stack ≡ effect c op stack
+effect_bare c (Implicit block) stack = refl
+effect_bare c op stack = refl
+
+bytes_bare : (size : Size) (op : Op) → bytes_read size (bare op) ≡ bytes_read size op
+bytes_bare size (Implicit block) = refl
+bytes_bare size op = refl
+
+pub reads_bare : (c : Context) (op : Op) (stack : List ℕ) → Reads c op stack → Reads c (bare op) stack
+reads_bare c op stack r = record { count = r.count; bytes = bytes_bare c.target.size op ∙ r.bytes; made = r.made }
+
+-- an operation's answer leads the machine of values on
+pub value_step : (c : Context) (op : Op) (i : ℕ) (old new : List ℕ) (before after : ℕ) (answer : Result Flow Stop) → Acts (effect c op old) (Reads c op old) before answer new after
+    → StepsTo (value_turn c (bare op) (record { index = i; stack = old })) (Reads c (bare op) old) i before (λ next. record { index = next; stack = new }) (reached i answer) after
+value_step c op i old new before after (Ok flow.Next) a = (ap (led i) (effect_bare c op old ∙ a.0), a.1)
+value_step c op i old new before after (Ok (flow.Jump j)) a = (ap (led i) (effect_bare c op old ∙ a.0), a.1)
+value_step c op i old new before after (Err (stop.Fault kind)) a = (refl, inl (ap (led i) (effect_bare c op old ∙ a.0), a.1))
+value_step c op i old new before after (Err stop.Device) a = (refl, inr (refl, a.1, reads_bare c op old a.0))
+value_step c op i old new before after (Err stop.OutOfMemory) a = a
+
+-- ---- a loop of steps, whatever the machine
+module _ {S A : Type 0} (index : S → ℕ) (turn : Op → S → Result S Kind) (ops : List Op) (start : S) (reads : Op → S → Type 0) (ending : S → Result A EvalError) where
+  -- one step more
+  pub runs_more : (n : ℕ) (before : S) (op : Op) (s : S) → Runs index turn ops start n before → slice_get ops (index before) ≡ Some op → turn op before ≡ Ok s → Runs index turn ops start (n + 1) s
+  runs_more n before op s r stands goes = let P : ℕ → Type 0 = λ k. Runs index turn ops start k s in subst P (suc-eq-add-one n) (before, op, r, stands, goes)
+
+  -- a step that leads to an error ends the run
+  pub answered_stop : (limit n i before mid after : ℕ) (s : S) (op : Op) (state : ℕ → S) (e : EvalError) → Runs index turn ops start n s → n < limit → index s ≡ i → slice_get ops i ≡ Some op → mid ≡ before
+      → StepsTo (turn op s) (reads op s) i mid state (Err e) after → Answered index turn ops start reads ending limit before (Err e) after
+  answered_stop limit n i before mid after s op state OutOfMemory r lt at stands same h = Short (h ∙ same) refl
+  answered_stop limit n i before mid after s op state (Fault kind j) r lt at stands same h = elim h.1 [
+    | inl w ↦ Right (w.1 ∙ same) (inr (inl (record {
+      steps = n;
+      state = s;
+      op = op;
+      kind = kind;
+      few = lt;
+      runs = r;
+      stands = ap (slice_get ops) at ∙ stands;
+      faults = w.0;
+      is = ap (λ k. Err (Fault kind k)) (h.0 ∙ sym at);
+    })))
+    | inr w ↦ Failed (omega (arith, w.1, same)) i (ap (λ k. Err (Fault k j)) w.0 ∙ ap (λ k. Err (Fault Device k)) h.0)
+        (record { steps = n; state = s; op = op; few = lt; runs = r; at = at; stands = stands; made = w.2 })
+  ]
+
+  -- the limit
+  pub answered_limit : (limit before after : ℕ) (s : S) (i : ℕ) → Runs index turn ops start limit s → index s ≡ i → i < length ops → after ≡ before → Answered index turn ops start reads ending limit before (Err (Fault StepLimit i)) after
+  answered_limit limit before after s i r at inside same =
+      Right same (inr (inr (record { state = s; runs = r; inside = omega (arith, at, inside); is = ap (λ k. Err (Fault StepLimit k)) (sym at) })))

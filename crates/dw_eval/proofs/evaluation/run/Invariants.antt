@@ -1,0 +1,13 @@
+use Rattle.std.proofs.Common.{◌≡◌, ◌≤◌, length, map}
+use Rattle.dw_op.specs.Expression.{bare}
+use Rattle.dw_eval.specs.Context.{context}
+use Rattle.dw_eval.specs.Evaluation.{ValueRuns}
+use Rattle.dw_eval.proofs.evaluation.run.Given as goal
+
+abbrev pub invariant-steps : goal.invariant-steps
+invariant-steps g l = record {
+  runs : ValueRuns (map bare l.ops) (context l.env (g.M.Memory.byte l.initial.memory)) l.initial.stack l.taken (record { index = l.index; stack = l.stack });
+  within : l.index ≤ length l.ops;
+  same : g.M.Memory.byte l.memory ≡ g.M.Memory.byte l.initial.memory;
+  count : g.M.Memory.failures l.memory ≡ g.M.Memory.failures l.initial.memory;
+}

@@ -1,0 +1,5 @@
+use Rattle.dw_eval.proofs.Results.{one_result, one_location}
+use Rattle.dw_eval.proofs.laws.evaluation_laws.Goals as goal
+
+pub returns : goal.returns
+returns c = record { value = one_result; pieces = one_location }

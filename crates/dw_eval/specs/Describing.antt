@@ -1,0 +1,40 @@
+-- How the code keeps a description.
+use Rattle.std.specs.Prelude.{◌≡◌, ℕ, List, map, Option, option_map, Result, Ok, Err}
+use Rattle.dw_eval.specs.declared.error.EvalError.{EvalError}
+use Rattle.dw_eval.specs.declared.error.EvalError.TheVariants.{Fault, OutOfMemory}
+use Rattle.dw_eval.specs.declared.error.Kind.{Kind}
+use Rattle.dw_eval.specs.declared.describing.Description.{Description}
+use Rattle.dw_eval.specs.declared.place.Piece.{Piece}
+use Rattle.dw_eval.specs.declared.place.Place.{Place}
+use Rattle.dw_eval.specs.declared.place.Place.TheVariants.{Empty, Memory, Register, Value, Bytes}
+use Rattle.dw_eval.specs.declared.place.Role.{Role}
+use Rattle.dw_eval.specs.declared.place.Role.TheVariants.{SetsPlace, SetsValue, AddsPiece, Waits, Computes}
+use Rattle.dw_eval.specs.Location.{PlaceState}
+
+-- a place without where its bytes lie in memory
+abbrev pub bare_place : Place → Place
+bare_place Empty = Empty
+bare_place (Memory a) = Memory a
+bare_place (Register r) = Register r
+bare_place (Value v) = Value v
+bare_place (Bytes block) = Bytes (record { ref_ptr = (0, 0); now = block.now })
+
+abbrev pub bare_piece : Piece → Piece
+bare_piece p = record { place = bare_place p.place; part = p.part }
+
+abbrev pub bare_role : Role → Role
+bare_role (SetsPlace place) = SetsPlace (bare_place place)
+bare_role SetsValue = SetsValue
+bare_role (AddsPiece part) = AddsPiece part
+bare_role Waits = Waits
+bare_role (Computes entries) = Computes entries
+
+-- the state that a description stands for before an operation
+abbrev pub state_of : ℕ → Description → PlaceState
+state_of i d = record { index = i; stack = d.stack; pending = option_map bare_place d.pending; pieces = map bare_piece d.pieces.items }
+
+-- a step from operation i without memory: it leads to a state, given its index, or to an error
+abbrev pub Turns : Result PlaceState Kind → ℕ → (ℕ → PlaceState) → Result ℕ EvalError → Type 0
+Turns turn i state (Ok next) = turn ≡ Ok (state next)
+Turns turn i state (Err OutOfMemory) = Unit {0}
+Turns turn i state (Err (Fault kind j)) = (turn ≡ Err kind) × (j ≡ i)

@@ -1,0 +1,174 @@
+-- What one operation does: DWARF 5, 2.5.1.
+use Rattle.std.specs.Prelude.{◌≡◌, ◌≤◌, ℕ, ◌+◌, ◌-◌, ◌*◌, ◌/◌, ◌%◌, ◌^◌, List, [], ◌∷◌, slice_get, Option, Some, None, ℤ, pos, ◌+ℤ◌, ◌-ℤ◌, Bool, true, false, not, nat_le, nat_eq, if◌then◌else◌, int_lt, int_le, int_div, unsigned_abs, bit_and, bit_or, bit_xor, min}
+use Rattle.std.specs.Int.{int_shr}
+use Rattle.dw_num.specs.declared.target.Size.{Size}
+use Rattle.dw_num.specs.Target.{address_limit, byte_count}
+use Rattle.dw_op.specs.declared.op.Op.{Op}
+use Rattle.dw_op.specs.declared.op.Op.TheVariants.{Addr, Deref, Const, Dup, Drop, Over, Pick, Swap, Rot, Abs, And, Div, Minus, Mod, Mul, Neg, Not, Or, Plus, PlusUconst, Shl, Shr, Shra, Xor, Bra, Eq, Ge, Gt, Le, Lt, Ne, Skip, Reg, Breg, Fbreg, Piece, DerefSize, Nop, PushObjectAddress, CallFrameCfa, BitPiece, Implicit, StackValue}
+use Rattle.dw_op.specs.OpSpells.{modulo}
+use Rattle.dw_eval.specs.declared.error.Kind.{Kind}
+use Rattle.dw_eval.specs.declared.error.Kind.TheVariants.{StackUnderflow, DivideByZero, NoRegister, Unreadable, NotAValue, NoFrameBase, NoCfa, NoObject}
+use Rattle.dw_eval.specs.Context.{Context, signed, read_at}
+
+-- on to the next operation, or to this one, with a stack whose top is first; or a fault
+pub data Outcome : Type 0 where
+  Next : List ℕ → Outcome
+  Jump : ℕ → List ℕ → Outcome
+  Faults : Kind → Outcome
+
+-- of the top and what is below
+abbrev pub on_top : List ℕ → (ℕ → List ℕ → Outcome) → Outcome
+on_top [] f = Faults StackUnderflow
+on_top (t ∷ below) f = f t below
+
+-- of the second, the top and what is below
+abbrev pub on_two : List ℕ → (ℕ → ℕ → List ℕ → Outcome) → Outcome
+on_two [] f = Faults StackUnderflow
+on_two (t ∷ []) f = Faults StackUnderflow
+on_two (t ∷ s ∷ below) f = f s t below
+
+-- of the third, the second, the top and what is below
+abbrev pub on_three : List ℕ → (ℕ → ℕ → ℕ → List ℕ → Outcome) → Outcome
+on_three [] f = Faults StackUnderflow
+on_three (t ∷ []) f = Faults StackUnderflow
+on_three (t ∷ s ∷ []) f = Faults StackUnderflow
+on_three (t ∷ s ∷ third ∷ below) f = f third s t below
+
+-- of a value that may be missing
+abbrev pub known : Kind → Option ℕ → (ℕ → Outcome) → Outcome
+known kind None f = Faults kind
+known kind (Some v) f = f v
+
+-- on with a number, modulo 2 ^ N, on the stack
+abbrev pub push : Size → ℕ → List ℕ → Outcome
+push size v stack = Next (v % address_limit size ∷ stack)
+
+abbrev pub push_signed : Size → ℤ → List ℕ → Outcome
+push_signed size z stack = Next (modulo (address_limit size) z ∷ stack)
+
+-- on with 1 or 0
+abbrev pub tell : Bool → List ℕ → Outcome
+tell true stack = Next (1 ∷ stack)
+tell false stack = Next (0 ∷ stack)
+
+-- how many bits an address has
+abbrev pub bit_count : Size → ℕ
+bit_count size = 8 * byte_count size
+
+-- s and t shifted, by any number of bits
+abbrev pub shifted_left : Size → ℕ → ℕ → ℕ
+shifted_left size s t = if nat_le (bit_count size) t then 0 else s * 2 ^ t
+
+abbrev pub shifted_right : Size → ℕ → ℕ → ℕ
+shifted_right size s t = if nat_le (bit_count size) t then 0 else s / 2 ^ t
+
+abbrev pub shifted_signed : Size → ℕ → ℕ → ℤ
+shifted_signed size s t = int_shr (signed size s) (min t (bit_count size))
+
+-- how many bytes an operation reads from memory
+abbrev pub bytes_read : Size → Op → Option ℕ
+bytes_read size Deref = Some (byte_count size)
+bytes_read size (DerefSize k) = Some k
+bytes_read size (Addr a) = None
+bytes_read size (Const v) = None
+bytes_read size Dup = None
+bytes_read size Drop = None
+bytes_read size Over = None
+bytes_read size (Pick i) = None
+bytes_read size Swap = None
+bytes_read size Rot = None
+bytes_read size Abs = None
+bytes_read size And = None
+bytes_read size Div = None
+bytes_read size Minus = None
+bytes_read size Mod = None
+bytes_read size Mul = None
+bytes_read size Neg = None
+bytes_read size Not = None
+bytes_read size Or = None
+bytes_read size Plus = None
+bytes_read size (PlusUconst n) = None
+bytes_read size Shl = None
+bytes_read size Shr = None
+bytes_read size Shra = None
+bytes_read size Xor = None
+bytes_read size (Bra i) = None
+bytes_read size Eq = None
+bytes_read size Ge = None
+bytes_read size Gt = None
+bytes_read size Le = None
+bytes_read size Lt = None
+bytes_read size Ne = None
+bytes_read size (Skip i) = None
+bytes_read size (Reg r) = None
+bytes_read size (Breg r n) = None
+bytes_read size (Fbreg n) = None
+bytes_read size (Piece n) = None
+bytes_read size Nop = None
+bytes_read size PushObjectAddress = None
+bytes_read size CallFrameCfa = None
+bytes_read size (BitPiece bits offset) = None
+bytes_read size (Implicit block) = None
+bytes_read size StackValue = None
+
+module _ (c : Context) where
+  -- the effect of an operation on the stack
+  abbrev pub effect : Op → List ℕ → Outcome
+  effect (Addr a) stack = push c.target.size a stack
+  effect Deref stack = on_top stack (λ t below. known Unreadable (read_at c t (byte_count c.target.size)) (λ v. push c.target.size v below))
+  effect (Const v) stack = push c.target.size v stack
+  effect Dup stack = on_top stack (λ t below. Next (t ∷ t ∷ below))
+  effect Drop stack = on_top stack (λ t below. Next below)
+  effect Over stack = on_two stack (λ s t below. Next (s ∷ t ∷ s ∷ below))
+  effect (Pick i) stack = known StackUnderflow (slice_get stack i) (λ v. Next (v ∷ stack))
+  effect Swap stack = on_two stack (λ s t below. Next (s ∷ t ∷ below))
+  effect Rot stack = on_three stack (λ third s t below. Next (s ∷ third ∷ t ∷ below))
+  effect Abs stack = on_top stack (λ t below. push c.target.size (unsigned_abs (signed c.target.size t)) below)
+  effect And stack = on_two stack (λ s t below. push c.target.size (bit_and s t) below)
+  effect Div stack = on_two stack (λ s t below. if nat_eq (t % address_limit c.target.size) 0 then Faults DivideByZero else push_signed c.target.size (int_div (signed c.target.size s) (signed c.target.size t)) below)
+  effect Minus stack = on_two stack (λ s t below. push_signed c.target.size (pos s -ℤ pos t) below)
+  effect Mod stack = on_two stack (λ s t below. if nat_eq t 0 then Faults DivideByZero else push c.target.size (s % t) below)
+  effect Mul stack = on_two stack (λ s t below. push c.target.size (s * t) below)
+  effect Neg stack = on_top stack (λ t below. push_signed c.target.size (pos 0 -ℤ pos t) below)
+  -- all bits turned: -1 - t
+  effect Not stack = on_top stack (λ t below. push_signed c.target.size (pos 0 -ℤ pos (t + 1)) below)
+  effect Or stack = on_two stack (λ s t below. push c.target.size (bit_or s t) below)
+  effect Plus stack = on_two stack (λ s t below. push c.target.size (s + t) below)
+  effect (PlusUconst n) stack = on_top stack (λ t below. push c.target.size (t + n) below)
+  effect Shl stack = on_two stack (λ s t below. push c.target.size (shifted_left c.target.size s t) below)
+  effect Shr stack = on_two stack (λ s t below. push c.target.size (shifted_right c.target.size s t) below)
+  effect Shra stack = on_two stack (λ s t below. push_signed c.target.size (shifted_signed c.target.size s t) below)
+  effect Xor stack = on_two stack (λ s t below. push c.target.size (bit_xor s t) below)
+  effect (Bra i) stack = on_top stack (λ t below. if nat_eq t 0 then Next below else Jump i below)
+  effect Eq stack = on_two stack (λ s t below. tell (nat_eq s t) below)
+  effect Ge stack = on_two stack (λ s t below. tell (int_le (signed c.target.size t) (signed c.target.size s)) below)
+  effect Gt stack = on_two stack (λ s t below. tell (int_lt (signed c.target.size t) (signed c.target.size s)) below)
+  effect Le stack = on_two stack (λ s t below. tell (int_le (signed c.target.size s) (signed c.target.size t)) below)
+  effect Lt stack = on_two stack (λ s t below. tell (int_lt (signed c.target.size s) (signed c.target.size t)) below)
+  effect Ne stack = on_two stack (λ s t below. tell (not (nat_eq s t)) below)
+  effect (Skip i) stack = Jump i stack
+  effect (Breg r n) stack = known NoRegister (c.register r) (λ v. push_signed c.target.size (pos v +ℤ n) stack)
+  effect (Fbreg n) stack = known NoFrameBase c.frame_base (λ v. push_signed c.target.size (pos v +ℤ n) stack)
+  effect (DerefSize k) stack = on_top stack (λ t below. known Unreadable (read_at c t k) (λ v. push c.target.size v below))
+  effect Nop stack = Next stack
+  effect PushObjectAddress stack = known NoObject c.object (λ v. push c.target.size v stack)
+  effect CallFrameCfa stack = known NoCfa c.cfa (λ v. push c.target.size v stack)
+  -- a place is no value
+  effect (Reg r) stack = Faults NotAValue
+  effect (Piece n) stack = Faults NotAValue
+  effect (BitPiece size offset) stack = Faults NotAValue
+  effect (Implicit block) stack = Faults NotAValue
+  effect StackValue stack = on_top stack (λ t below. Faults NotAValue)
+
+  -- k bytes are read from memory: at the top's address, and they end at 2 ^ N or before
+  pub record ReadsAt (k : ℕ) (stack : List ℕ) : Type 0 where
+    pub address : ℕ
+    pub below : List ℕ
+    pub top : stack ≡ address ∷ below
+    pub in_space : address + k ≤ address_limit c.target.size
+
+  -- an operation reads from memory
+  pub record Reads (op : Op) (stack : List ℕ) : Type 0 where
+    pub count : ℕ
+    pub bytes : bytes_read c.target.size op ≡ Some count
+    pub made : ReadsAt count stack

@@ -1,0 +1,11 @@
+pub mod Kinds
+pub mod Bytes
+pub mod Registers
+pub mod Context
+pub mod Effect
+pub mod Runs
+pub mod Evaluation
+pub mod Stepping
+pub mod Location
+pub mod Describing
+pub mod Laws

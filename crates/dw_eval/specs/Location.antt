@@ -1,0 +1,163 @@
+-- Location descriptions: DWARF 5, 2.6.1.
+use Rattle.std.specs.Prelude.{◌≡◌, ℕ, ◌+◌, ◌<◌, List, [], ◌∷◌, ◌++◌, length, map, Option, Some, None, Result, Ok, Err, nat_lt, if◌then◌else◌}
+use Rattle.dw_op.specs.declared.op.Op.{Op}
+use Rattle.dw_op.specs.declared.op.Op.TheVariants.{Addr, Deref, Const, Dup, Drop, Over, Pick, Swap, Rot, Abs, And, Div, Minus, Mod, Mul, Neg, Not, Or, Plus, PlusUconst, Shl, Shr, Shra, Xor, Bra, Eq, Ge, Gt, Le, Lt, Ne, Skip, Reg, Breg, Fbreg, DerefSize, Nop, PushObjectAddress, CallFrameCfa, BitPiece, Implicit, StackValue}
+use Rattle.dw_op.specs.declared.op.Op.TheVariants as op
+use Rattle.dw_eval.specs.declared.error.EvalError.{EvalError}
+use Rattle.dw_eval.specs.declared.error.EvalError.TheVariants.{Fault}
+use Rattle.dw_eval.specs.declared.error.Kind.{Kind}
+use Rattle.dw_eval.specs.declared.error.Kind.TheVariants.{StackUnderflow, MissingPiece}
+use Rattle.dw_eval.specs.declared.place.Part.{Part}
+use Rattle.dw_eval.specs.declared.place.Part.TheVariants as part
+use Rattle.dw_eval.specs.declared.place.Part.TheVariants.{Whole, Bits}
+use Rattle.dw_eval.specs.declared.place.Piece.{Piece}
+use Rattle.dw_eval.specs.declared.place.Place.{Place}
+use Rattle.dw_eval.specs.declared.place.Place.TheVariants.{Empty, Memory, Register, Value, Bytes}
+use Rattle.dw_eval.specs.declared.place.Role.{Role}
+use Rattle.dw_eval.specs.declared.place.Role.TheVariants.{SetsPlace, SetsValue, AddsPiece, Waits, Computes}
+use Rattle.dw_eval.specs.Context.{Context}
+use Rattle.dw_eval.specs.Effect.{Outcome, Next, Jump, Faults, effect, Reads}
+use Rattle.dw_eval.specs.Runs.{Runs, Answers, MayFail, Answered}
+
+-- what each operation does in a description; a computation names so many entries of the stack
+abbrev pub role : Op → Role
+role (Addr a) = Computes 0
+role Deref = Computes 1
+role (Const v) = Computes 0
+role Dup = Computes 1
+role Drop = Computes 1
+role Over = Computes 2
+role (Pick i) = Computes (i + 1)
+role Swap = Computes 2
+role Rot = Computes 3
+role Abs = Computes 1
+role And = Computes 2
+role Div = Computes 2
+role Minus = Computes 2
+role Mod = Computes 2
+role Mul = Computes 2
+role Neg = Computes 1
+role Not = Computes 1
+role Or = Computes 2
+role Plus = Computes 2
+role (PlusUconst n) = Computes 1
+role Shl = Computes 2
+role Shr = Computes 2
+role Shra = Computes 2
+role Xor = Computes 2
+role (Bra i) = Computes 1
+role Eq = Computes 2
+role Ge = Computes 2
+role Gt = Computes 2
+role Le = Computes 2
+role Lt = Computes 2
+role Ne = Computes 2
+role (Skip i) = Computes 0
+role (Reg r) = SetsPlace (Register r)
+role (Breg r n) = Computes 0
+role (Fbreg n) = Computes 0
+role (op.Piece n) = AddsPiece (part.Bytes n)
+role (DerefSize k) = Computes 1
+role Nop = Waits
+role PushObjectAddress = Computes 0
+role CallFrameCfa = Computes 0
+role (BitPiece size offset) = AddsPiece (Bits size offset)
+role (Implicit block) = SetsPlace (Bytes block)
+role StackValue = SetsValue
+
+-- before an operation: its index, the stack, the place that waits for its piece, and the pieces so far
+pub record PlaceState : Type 0 where
+  pub index : ℕ
+  pub stack : List ℕ
+  pub pending : Option Place
+  pub pieces : List Piece
+
+abbrev pub place_index : PlaceState → ℕ
+place_index s = s.index
+
+-- the pending place, else memory at the top, else nothing
+abbrev pub place_here : Option Place → List ℕ → Place
+place_here (Some place) stack = place
+place_here None [] = Empty
+place_here None (t ∷ below) = Memory t
+
+-- on with a piece more: the stack and the pending place are emptied
+abbrev pub with_piece : Part → PlaceState → PlaceState
+with_piece part s =
+    record { index = s.index + 1; stack = []; pending = None; pieces = s.pieces ++ record { place = place_here s.pending s.stack; part = part } ∷ [] }
+
+-- on with a pending place
+abbrev pub with_place : Place → List ℕ → PlaceState → PlaceState
+with_place place stack s = record { index = s.index + 1; stack = stack; pending = Some place; pieces = s.pieces }
+
+-- on with a stack
+abbrev pub with_stack : ℕ → List ℕ → PlaceState → PlaceState
+with_stack i stack s = record { index = i; stack = stack; pending = s.pending; pieces = s.pieces }
+
+abbrev pub place_led : PlaceState → Outcome → Result PlaceState Kind
+place_led s (Next stack) = Ok (with_stack (s.index + 1) stack s)
+place_led s (Jump j stack) = Ok (with_stack j stack s)
+place_led s (Faults kind) = Err kind
+
+-- the value on the top is a place
+abbrev pub with_value : List ℕ → PlaceState → Result PlaceState Kind
+with_value [] s = Err StackUnderflow
+with_value (t ∷ below) s = Ok (with_place (Value t) below s)
+
+-- while no place is pending
+abbrev pub free_turn : Context → Op → Role → PlaceState → Result PlaceState Kind
+free_turn c op (SetsPlace place) s = Ok (with_place place s.stack s)
+free_turn c op SetsValue s = with_value s.stack s
+free_turn c op (AddsPiece part) s = Ok (with_piece part s)
+free_turn c op Waits s = Ok (with_stack (s.index + 1) s.stack s)
+free_turn c op (Computes entries) s = place_led s (effect c op s.stack)
+
+-- a piece has to follow: the stack is too short, or the piece is missing
+abbrev pub refused : ℕ → List ℕ → Result PlaceState Kind
+refused entries stack = if nat_lt (length stack) entries then Err StackUnderflow else Err MissingPiece
+
+-- while a place is pending
+abbrev pub held_turn : Role → PlaceState → Result PlaceState Kind
+held_turn (SetsPlace place) s = refused 0 s.stack
+held_turn SetsValue s = refused 1 s.stack
+held_turn (AddsPiece part) s = Ok (with_piece part s)
+held_turn Waits s = Ok (with_stack (s.index + 1) s.stack s)
+held_turn (Computes entries) s = refused entries s.stack
+
+abbrev pub turn_by : Context → Op → Option Place → PlaceState → Result PlaceState Kind
+turn_by c op None s = free_turn c op (role op) s
+turn_by c op (Some place) s = held_turn (role op) s
+
+abbrev pub place_turn : Context → Op → PlaceState → Result PlaceState Kind
+place_turn c op s = turn_by c op s.pending s
+
+abbrev pub place_start : PlaceState
+place_start = record { index = 0; stack = []; pending = None; pieces = [] }
+
+-- at the end of a list of this length: one whole piece where there is none yet, and nothing is left behind pieces
+abbrev pub pieces_of : ℕ → Option Place → List ℕ → List Piece → Result (List Piece) EvalError
+pieces_of len pending stack [] = Ok (record { place = place_here pending stack; part = Whole } ∷ [])
+pieces_of len None [] (piece ∷ pieces) = Ok (piece ∷ pieces)
+pieces_of len None (t ∷ below) (piece ∷ pieces) = Err (Fault MissingPiece len)
+pieces_of len (Some place) stack (piece ∷ pieces) = Err (Fault MissingPiece len)
+
+-- an operation reads from memory, where it is not refused
+abbrev pub place_reads : Context → Op → PlaceState → Type 0
+place_reads c op s = (s.pending ≡ None) × Reads c op s.stack
+
+module _ (ops : List Op) (c : Context) where
+  -- n steps lead to a state
+  abbrev pub PlaceRuns : ℕ → PlaceState → Type 0
+  PlaceRuns = Runs place_index (place_turn c) ops place_start
+
+  -- the pieces, or the kind of the fault and the operation's index
+  abbrev pub Located : ℕ → Result (List Piece) EvalError → Type 0
+  Located = Answers place_index (place_turn c) ops place_start (λ s. pieces_of (length ops) s.pending s.stack s.pieces)
+
+  -- operation i is reached before the limit, and reads from memory
+  abbrev pub PlaceMayFailAt : ℕ → ℕ → Type 0
+  PlaceMayFailAt = MayFail place_index (place_turn c) ops place_start (place_reads c)
+
+  -- what the code answers, with its memory's count of failures before and after
+  abbrev pub LocatesOver : ℕ → ℕ → Result (List Piece) EvalError → ℕ → Type 0
+  LocatesOver = Answered place_index (place_turn c) ops place_start (place_reads c) (λ s. pieces_of (length ops) s.pending s.stack s.pieces)

@@ -1,0 +1,42 @@
+-- How the code keeps a step.
+use Rattle.std.specs.Prelude.{◌≡◌, ◌⊎◌, ℕ, ◌+◌, ◌<◌, List, Result, Ok, Err}
+use Rattle.dw_eval.specs.declared.error.EvalError.{EvalError}
+use Rattle.dw_eval.specs.declared.error.EvalError.TheVariants.{Fault, OutOfMemory}
+use Rattle.dw_eval.specs.declared.error.Kind.{Kind}
+use Rattle.dw_eval.specs.declared.error.Kind.TheVariants.{Device}
+use Rattle.dw_eval.specs.declared.stack.Flow.{Flow}
+use Rattle.dw_eval.specs.declared.stack.Flow.TheVariants as flow
+use Rattle.dw_eval.specs.declared.stack.Stop.{Stop}
+use Rattle.dw_eval.specs.declared.stack.Stop.TheVariants as stop
+use Rattle.dw_eval.specs.Effect.{Outcome, Next, Jump, Faults}
+
+-- an operation without memory answers its outcome, or want of memory
+abbrev pub Does : Outcome → Result Flow Stop → List ℕ → Type 0
+Does outcome (Ok flow.Next) stack = outcome ≡ Next stack
+Does outcome (Ok (flow.Jump i)) stack = outcome ≡ Jump i stack
+Does outcome (Err (stop.Fault kind)) stack = outcome ≡ Faults kind
+Does outcome (Err stop.Device) stack = ⊥
+Does outcome (Err stop.OutOfMemory) stack = Unit {0}
+
+-- so does one over a memory, while the count of failures stays; where it grew, this was read
+abbrev pub Acts : Outcome → Type 0 → ℕ → Result Flow Stop → List ℕ → ℕ → Type 0
+Acts outcome Read before (Ok flow.Next) stack after = (outcome ≡ Next stack) × (after ≡ before)
+Acts outcome Read before (Ok (flow.Jump i)) stack after = (outcome ≡ Jump i stack) × (after ≡ before)
+Acts outcome Read before (Err (stop.Fault kind)) stack after = (outcome ≡ Faults kind) × (after ≡ before)
+Acts outcome Read before (Err stop.Device) stack after = Read × (before < after)
+Acts outcome Read before (Err stop.OutOfMemory) stack after = after ≡ before
+
+-- where an answer leads that an operation at an index gives, or the error
+abbrev pub reached : ℕ → Result Flow Stop → Result ℕ EvalError
+reached i (Ok flow.Next) = Ok (i + 1)
+reached i (Ok (flow.Jump j)) = Ok j
+reached i (Err (stop.Fault kind)) = Err (Fault kind i)
+reached i (Err stop.Device) = Err (Fault Device i)
+reached i (Err stop.OutOfMemory) = Err OutOfMemory
+
+-- a step of the code from operation i: it leads to a state, given its index, or to an error
+abbrev pub StepsTo : {S : Type 0} → Result S Kind → Type 0 → ℕ → ℕ → (ℕ → S) → Result ℕ EvalError → ℕ → Type 0
+StepsTo turn Read i before state (Ok next) after = (turn ≡ Ok (state next)) × (after ≡ before)
+StepsTo turn Read i before state (Err OutOfMemory) after = after ≡ before
+StepsTo turn Read i before state (Err (Fault kind j)) after =
+    (j ≡ i) × ((turn ≡ Err kind) × (after ≡ before) ⊎ (kind ≡ Device) × (before < after) × Read)

@@ -1,0 +1,114 @@
+//! One operation (2.5.1).
+
+ghost use Rattle.std.specs.Prelude.{◌≡◌, ℕ, ◌+◌, ◌-◌, ◌^◌, ◌<◌, ◌≤◌, IsTrue, ◌↔◌};
+ghost use Rattle.dw_num.specs.Target.{address_limit, byte_count};
+ghost use Rattle.dw_op.specs.declared.op.Op.TheVariants.{DerefSize};
+ghost use Rattle.dw_eval.specs.declared.error.Kind.TheVariants.{Unreadable};
+ghost use Rattle.dw_eval.specs.Context.{context, read_at};
+ghost use Rattle.dw_eval.specs.Effect.{on_top, known, push, effect, ReadsAt, Reads};
+ghost use Rattle.dw_eval.specs.Stepping.{Acts};
+
+use crate::env::Env;
+use crate::error::Kind;
+use crate::memory::{Memory, ReadFault};
+use crate::stack::{Answer, Flow, Stack, Stop};
+use dw_num::Size;
+use dw_op::Op;
+
+// Whether the bytes from an address on end at 2^N or before.
+fn is_in_space(address: u64, len: usize, size: Size) -> bool
+    requires some { 1 ≤ len }
+    requires most { len ≤ 8 }
+    ensures { IsTrue result ↔ address + len ≤ address_limit size }
+{
+    match size {
+        Size::Four => address <= 0x1_0000_0000 - len as u64,
+        Size::Eight => address <= u64::MAX - (len as u64 - 1),
+    }
+}
+
+// Reads the bytes at the top's address.
+#[tactic(auto, using(crate::proofs::Steps::acts_so))]
+fn read<M: Memory>(stack: &mut Stack, len: usize, env: &Env<'_>, memory: &mut M) -> Answer
+    requires some { 1 ≤ len }
+    requires most { len ≤ byte_count env.now.target.size }
+    requires room { M.failures memory.old < 2 ^ 64 - 1 }
+    ensures same { M.byte memory.new ≡ M.byte memory.old }
+    ensures acts { let c = context env.now (M.byte memory.old) in Acts (on_top stack.old (λ t below. known Unreadable (read_at c t len) (λ v. push env.now.target.size v below))) (ReadsAt c len stack.old) (M.failures memory.old) result stack.new (M.failures memory.new) }
+{
+    let target = env.target;
+    let address = stack.take()?;
+    if !is_in_space(address, len, target.size) {
+        return Err(Stop::Fault(Kind::Unreadable));
+    }
+    match memory.read(address, len, target.order) {
+        Ok(number) => stack.put_number(number, target.size),
+        Err(ReadFault::Unreadable) => Err(Stop::Fault(Kind::Unreadable)),
+        Err(ReadFault::Device) => Err(Stop::Device),
+    }
+}
+
+/// Executes an operation.
+#[tactic(auto, using(crate::proofs::Steps::acts_so))]
+pub(crate) fn act<M: Memory>(
+    op: &Op<'_>,
+    stack: &mut Stack,
+    env: &Env<'_>,
+    memory: &mut M,
+) -> Answer
+    requires access { (len : ℕ) → op.now ≡ DerefSize len → (1 ≤ len) × (len ≤ byte_count env.now.target.size) }
+    requires room { M.failures memory.old < 2 ^ 64 - 1 }
+    ensures same { M.byte memory.new ≡ M.byte memory.old }
+    ensures acts { let c = context env.now (M.byte memory.old) in Acts (effect c op.now stack.old) (Reads c op.now stack.old) (M.failures memory.old) result stack.new (M.failures memory.new) }
+{
+    let size = env.target.size;
+    match *op {
+        Op::Addr(number) => stack.put_number(number, size),
+        Op::Deref => read(stack, usize::from(size.byte_count()), env, memory),
+        Op::Const(number) => stack.put_number(number, size),
+        Op::Dup => stack.dup(),
+        Op::Drop => stack.drop_top(),
+        Op::Over => stack.over(),
+        Op::Pick(index) => stack.pick(index),
+        Op::Swap => stack.swap(),
+        Op::Rot => stack.rot(),
+        Op::Abs => stack.abs(size),
+        Op::And => stack.and(size),
+        Op::Div => stack.div(size),
+        Op::Minus => stack.minus(size),
+        Op::Mod => stack.modulus(size),
+        Op::Mul => stack.mul(size),
+        Op::Neg => stack.neg(size),
+        Op::Not => stack.turn(size),
+        Op::Or => stack.or(size),
+        Op::Plus => stack.plus(size),
+        Op::PlusUconst(number) => stack.plus_uconst(number, size),
+        Op::Shl => stack.shl(size),
+        Op::Shr => stack.shr(size),
+        Op::Shra => stack.shra(size),
+        Op::Xor => stack.xor(size),
+        Op::Bra(target) => stack.bra(target),
+        Op::Eq => stack.eq(),
+        Op::Ge => stack.ge(size),
+        Op::Gt => stack.gt(size),
+        Op::Le => stack.le(size),
+        Op::Lt => stack.lt(size),
+        Op::Ne => stack.ne(),
+        Op::Skip(target) => Ok(Flow::Jump(target)),
+        Op::Breg(register, by) => stack.put_offset(
+            env.registers.get(register),
+            by,
+            Kind::NoRegister,
+            size,
+        ),
+        Op::Fbreg(by) => stack.put_offset(env.frame_base, by, Kind::NoFrameBase, size),
+        Op::DerefSize(len) => read(stack, usize::from(len), env, memory),
+        Op::Nop => Ok(Flow::Next),
+        Op::PushObjectAddress => stack.put_known(env.object, Kind::NoObject, size),
+        Op::CallFrameCfa => stack.put_known(env.cfa, Kind::NoCfa, size),
+        Op::Reg(_) | Op::Piece(_) | Op::BitPiece(_, _) | Op::Implicit(_) => Err(Stop::Fault(
+            Kind::NotAValue,
+        )),
+        Op::StackValue => stack.refuse_value(),
+    }
+}

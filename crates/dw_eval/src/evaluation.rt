@@ -1,0 +1,144 @@
+//! Evaluation of an expression (2.5).
+
+ghost use Rattle.std.specs.Prelude.{◌≡◌, ◌⊎◌, ℕ, ◌+◌, ◌-◌, ◌^◌, ◌<◌, ◌≤◌, length, map, slice_get, Some, Ok, Err, MatchResult};
+ghost use Rattle.dw_num.specs.Target.{byte_count};
+ghost use Rattle.dw_op.specs.declared.op.Op.TheVariants.{DerefSize};
+ghost use Rattle.dw_op.specs.Expression.{bare};
+ghost use Rattle.dw_op.specs.Ranges.{AllInRange};
+ghost use Rattle.dw_eval.specs.declared.error.EvalError.TheVariants.{Fault, OutOfMemory};
+ghost use Rattle.dw_eval.specs.declared.error.Kind.TheVariants.{Device};
+ghost use Rattle.dw_eval.specs.Context.{context};
+ghost use Rattle.dw_eval.specs.Effect.{Reads};
+ghost use Rattle.dw_eval.specs.Evaluation.{State, value_turn, first_stack, top_of, Evaluates, EvaluatesOver, MayFailAt};
+ghost use Rattle.dw_eval.specs.Stepping.{reached, StepsTo};
+
+use crate::acting::act;
+use crate::env::Env;
+use crate::error::{EvalError, Kind};
+use crate::memory::Memory;
+use crate::stack::{Answer, Flow, Stack, Stop};
+use dw_num::Size;
+use dw_op::{Op, OpList};
+use std::alloc::Global;
+
+/// Where an operation's answer leads, or the error.
+pub(crate) fn reached(answer: Answer, index: usize) -> Result<usize, EvalError>
+    requires { index < 2 ^ 64 - 1 }
+    ensures { result ≡ reached index answer }
+{
+    match answer {
+        Ok(Flow::Next) => Ok(index + 1),
+        Ok(Flow::Jump(target)) => Ok(target),
+        Err(Stop::Fault(kind)) => Err(EvalError::Fault { kind, index }),
+        Err(Stop::Device) => Err(EvalError::Fault {
+            kind: Kind::Device,
+            index,
+        }),
+        Err(Stop::OutOfMemory) => Err(EvalError::OutOfMemory),
+    }
+}
+
+// The stack at the start.
+fn begin(alloc: Global, start: Option<u64>, size: Size) -> Result<Stack, EvalError>
+    ensures { MatchResult result (λ s. s ≡ first_stack size start) (λ e. e ≡ OutOfMemory) }
+{
+    let mut stack = Stack::new(alloc);
+    match start {
+        Some(value) => match stack.put_number(value, size) {
+            Ok(_) => Ok(stack),
+            Err(_) => Err(EvalError::OutOfMemory),
+        },
+        None => Ok(stack),
+    }
+}
+
+// The top at the end of a list of this length.
+fn top(stack: &Stack, len: usize) -> Result<u64, EvalError>
+    ensures { result ≡ top_of len stack.now }
+{
+    match stack.get(0) {
+        Some(value) => Ok(value),
+        None => Err(EvalError::Fault {
+            kind: Kind::EmptyResult,
+            index: len,
+        }),
+    }
+}
+
+// Executes the operation at an index, and says which one is next.
+fn step<M: Memory>(
+    op: &Op<'_>,
+    index: usize,
+    stack: &mut Stack,
+    env: &Env<'_>,
+    memory: &mut M,
+) -> Result<usize, EvalError>
+    requires inside { index < 2 ^ 64 - 1 }
+    requires access { (len : ℕ) → op.now ≡ DerefSize len → (1 ≤ len) × (len ≤ byte_count env.now.target.size) }
+    requires room { M.failures memory.old < 2 ^ 64 - 1 }
+    ensures same { M.byte memory.new ≡ M.byte memory.old }
+    ensures so { let c = context env.now (M.byte memory.old) in StepsTo (value_turn c (bare op.now) (record { index = index; stack = stack.old })) (Reads c (bare op.now) stack.old) index (M.failures memory.old) (λ next. record { index = next; stack = stack.new }) result (M.failures memory.new) }
+{
+    let answer = act(op, stack, env, memory);
+    reached(answer, index)
+}
+
+// Runs the operations from the first one on.
+fn run<M: Memory>(
+    ops: &[Op<'_>],
+    stack: &mut Stack,
+    env: &Env<'_>,
+    memory: &mut M,
+    steps: u64,
+) -> Result<u64, EvalError>
+    requires range { AllInRange env.now.target (map bare ops.now) }
+    requires room { M.failures memory.old < 2 ^ 64 - 1 }
+    ensures same { M.byte memory.new ≡ M.byte memory.old }
+    ensures so { EvaluatesOver (map bare ops.now) (context env.now (M.byte memory.old)) stack.old steps (M.failures memory.old) result (M.failures memory.new) }
+{
+    let mut index = 0;
+    'steps: for taken in 0..steps {
+        if index >= ops.len() {
+            return top(stack, ops.len());
+        }
+        index = step(&ops[index], index, stack, env, memory)?;
+    }
+    if index < ops.len() {
+        return Err(EvalError::Fault {
+            kind: Kind::StepLimit,
+            index,
+        });
+    }
+    top(stack, ops.len())
+}
+
+/// The value of an expression (2.5): the top of the stack when the end is reached. The stack begins with
+/// `start` alone, or empty; the list's target has to be that of the environment. Takes memory
+/// where the stack grows.
+///
+/// A fault names the operation that it comes from: `StepLimit` the one that is not executed since so many
+/// steps were taken, `EmptyResult` the end. `Device` is answered exactly where the memory's count of failures grew.
+pub fn evaluate<M: Memory>(
+    alloc: Global,
+    list: &OpList<'_>,
+    start: Option<u64>,
+    env: &Env<'_>,
+    memory: &mut M,
+    steps: u64,
+) -> Result<u64, EvalError>
+    requires target { list.now.target ≡ env.now.target }
+    requires room { M.failures memory.old < 2 ^ 64 - 1 }
+    // No byte of the memory changes.
+    ensures same { M.byte memory.new ≡ M.byte memory.old }
+    // The count of failures stays or grows.
+    ensures counted { M.failures memory.old ≤ M.failures memory.new }
+    // Where it stays, the answer is the expression's, or want of memory.
+    ensures answered { M.failures memory.new ≡ M.failures memory.old → (result ≡ Err OutOfMemory) ⊎ Evaluates list.now.ops (context env.now (M.byte memory.old)) (first_stack env.now.target.size start) steps result }
+    // Where it grows, a read of an operation that is reached has failed.
+    ensures failed { M.failures memory.old < M.failures memory.new → (i : ℕ) × (result ≡ Err (Fault Device i)) × MayFailAt list.now.ops (context env.now (M.byte memory.old)) (first_stack env.now.target.size start) steps i }
+    // No other failure is named.
+    ensures device { (i : ℕ) → result ≡ Err (Fault Device i) → M.failures memory.old < M.failures memory.new }
+{
+    let mut stack = begin(alloc, start, env.target.size)?;
+    run(list.ops(), &mut stack, env, memory, steps)
+}

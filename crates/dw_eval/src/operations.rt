@@ -1,0 +1,262 @@
+//! What operations do to the stack: stack operations (2.5.1.3), arithmetic and logic (2.5.1.4), comparisons and
+//! branches (2.5.1.5).
+
+ghost use Rattle.std.specs.Prelude.{◌≡◌, ℕ, ◌+◌, ◌*◌, ◌%◌, Some, None, ◌∷◌, slice_get, not, nat_eq, int_le, int_lt, if◌then◌else◌, pos, ◌+ℤ◌, ◌-ℤ◌, int_div, unsigned_abs, bit_and, bit_or, bit_xor};
+ghost use Rattle.dw_num.specs.Target.{address_limit};
+ghost use Rattle.dw_eval.specs.declared.error.Kind.TheVariants.{StackUnderflow, DivideByZero, NotAValue};
+ghost use Rattle.dw_eval.specs.Context.{signed};
+ghost use Rattle.dw_eval.specs.Effect.{Next, Jump, Faults, on_top, on_two, on_three, known, push, push_signed, tell, shifted_left, shifted_right, shifted_signed};
+ghost use Rattle.dw_eval.specs.Stepping.{Does};
+
+use crate::arithmetic;
+use crate::error::Kind;
+use crate::stack::{Answer, Flow, Stack, Stop};
+use dw_num::Size;
+
+impl Stack {
+    pub(crate) fn dup(&mut self) -> Answer
+        ensures { Does (on_top self.old (λ t below. Next (t ∷ t ∷ below))) result self.new }
+    {
+        self.pick(0)
+    }
+
+    pub(crate) fn drop_top(&mut self) -> Answer
+        ensures { Does (on_top self.old (λ t below. Next below)) result self.new }
+    {
+        self.take()?;
+        Ok(Flow::Next)
+    }
+
+    pub(crate) fn over(&mut self) -> Answer
+        ensures { Does (on_two self.old (λ s t below. Next (s ∷ t ∷ s ∷ below))) result self.new }
+    {
+        self.pick(1)
+    }
+
+    pub(crate) fn pick(&mut self, index: u8) -> Answer
+        ensures { Does (known StackUnderflow (slice_get self.old index) (λ v. Next (v ∷ self.old))) result self.new }
+    {
+        match self.get(usize::from(index)) {
+            Some(value) => self.put(value),
+            None => Err(Stop::Fault(Kind::StackUnderflow)),
+        }
+    }
+
+    pub(crate) fn swap(&mut self) -> Answer
+        ensures { Does (on_two self.old (λ s t below. Next (s ∷ t ∷ below))) result self.new }
+    {
+        let (s, t) = self.take_two()?;
+        self.put_two(t, s)
+    }
+
+    pub(crate) fn rot(&mut self) -> Answer
+        ensures { Does (on_three self.old (λ third s t below. Next (s ∷ third ∷ t ∷ below))) result self.new }
+    {
+        let (third, s, t) = self.take_three()?;
+        self.put_three(t, third, s)
+    }
+
+    pub(crate) fn abs(&mut self, size: Size) -> Answer
+        ensures { Does (on_top self.old (λ t below. push size (unsigned_abs (signed size t)) below)) result self.new }
+    {
+        let t = self.take()?;
+        self.put(arithmetic::magnitude(t, size))
+    }
+
+    pub(crate) fn and(&mut self, size: Size) -> Answer
+        ensures { Does (on_two self.old (λ s t below. push size (bit_and s t) below)) result self.new }
+    {
+        let (s, t) = self.take_two()?;
+        self.put(arithmetic::reduced(s & t, size))
+    }
+
+    pub(crate) fn div(&mut self, size: Size) -> Answer
+        ensures { Does (on_two self.old (λ s t below. if nat_eq (t % address_limit size) 0 then Faults DivideByZero else push_signed size (int_div (signed size s) (signed size t)) below)) result self.new }
+    {
+        let (s, t) = self.take_two()?;
+        if arithmetic::reduced(t, size) == 0 {
+            return Err(Stop::Fault(Kind::DivideByZero));
+        }
+        self.put(arithmetic::quotient(s, t, size))
+    }
+
+    pub(crate) fn minus(&mut self, size: Size) -> Answer
+        ensures { Does (on_two self.old (λ s t below. push_signed size (pos s -ℤ pos t) below)) result self.new }
+    {
+        let (s, t) = self.take_two()?;
+        self.put(arithmetic::minus(s, t, size))
+    }
+
+    pub(crate) fn modulus(&mut self, size: Size) -> Answer
+        ensures { Does (on_two self.old (λ s t below. if nat_eq t 0 then Faults DivideByZero else push size (s % t) below)) result self.new }
+    {
+        let (s, t) = self.take_two()?;
+        if t == 0 {
+            return Err(Stop::Fault(Kind::DivideByZero));
+        }
+        self.put(arithmetic::reduced(s % t, size))
+    }
+
+    pub(crate) fn mul(&mut self, size: Size) -> Answer
+        ensures { Does (on_two self.old (λ s t below. push size (s * t) below)) result self.new }
+    {
+        let (s, t) = self.take_two()?;
+        self.put(arithmetic::times(s, t, size))
+    }
+
+    pub(crate) fn neg(&mut self, size: Size) -> Answer
+        ensures { Does (on_top self.old (λ t below. push_signed size (pos 0 -ℤ pos t) below)) result self.new }
+    {
+        let t = self.take()?;
+        self.put(arithmetic::minus(0, t, size))
+    }
+
+    pub(crate) fn turn(&mut self, size: Size) -> Answer
+        ensures { Does (on_top self.old (λ t below. push_signed size (pos 0 -ℤ pos (t + 1)) below)) result self.new }
+    {
+        let t = self.take()?;
+        self.put(arithmetic::turned(t, size))
+    }
+
+    pub(crate) fn or(&mut self, size: Size) -> Answer
+        ensures { Does (on_two self.old (λ s t below. push size (bit_or s t) below)) result self.new }
+    {
+        let (s, t) = self.take_two()?;
+        self.put(arithmetic::reduced(s | t, size))
+    }
+
+    pub(crate) fn plus(&mut self, size: Size) -> Answer
+        ensures { Does (on_two self.old (λ s t below. push size (s + t) below)) result self.new }
+    {
+        let (s, t) = self.take_two()?;
+        self.put(arithmetic::plus(s, t, size))
+    }
+
+    pub(crate) fn plus_uconst(&mut self, n: u64, size: Size) -> Answer
+        ensures { Does (on_top self.old (λ t below. push size (t + n) below)) result self.new }
+    {
+        let t = self.take()?;
+        self.put(arithmetic::plus(t, n, size))
+    }
+
+    pub(crate) fn shl(&mut self, size: Size) -> Answer
+        ensures { Does (on_two self.old (λ s t below. push size (shifted_left size s t) below)) result self.new }
+    {
+        let (s, t) = self.take_two()?;
+        self.put(arithmetic::shifted_left(s, t, size))
+    }
+
+    pub(crate) fn shr(&mut self, size: Size) -> Answer
+        ensures { Does (on_two self.old (λ s t below. push size (shifted_right size s t) below)) result self.new }
+    {
+        let (s, t) = self.take_two()?;
+        self.put(arithmetic::shifted_right(s, t, size))
+    }
+
+    pub(crate) fn shra(&mut self, size: Size) -> Answer
+        ensures { Does (on_two self.old (λ s t below. push_signed size (shifted_signed size s t) below)) result self.new }
+    {
+        let (s, t) = self.take_two()?;
+        self.put(arithmetic::shifted_signed(s, t, size))
+    }
+
+    pub(crate) fn xor(&mut self, size: Size) -> Answer
+        ensures { Does (on_two self.old (λ s t below. push size (bit_xor s t) below)) result self.new }
+    {
+        let (s, t) = self.take_two()?;
+        self.put(arithmetic::reduced(s ^ t, size))
+    }
+
+    pub(crate) fn bra(&mut self, target: usize) -> Answer
+        ensures { Does (on_top self.old (λ t below. if nat_eq t 0 then Next below else Jump target below)) result self.new }
+    {
+        let t = self.take()?;
+        if t != 0 {
+            return Ok(Flow::Jump(target));
+        }
+        Ok(Flow::Next)
+    }
+
+    pub(crate) fn eq(&mut self) -> Answer
+        ensures { Does (on_two self.old (λ s t below. tell (nat_eq s t) below)) result self.new }
+    {
+        let (s, t) = self.take_two()?;
+        self.put(u64::from(s == t))
+    }
+
+    pub(crate) fn ge(&mut self, size: Size) -> Answer
+        ensures { Does (on_two self.old (λ s t below. tell (int_le (signed size t) (signed size s)) below)) result self.new }
+    {
+        let (s, t) = self.take_two()?;
+        self.put(u64::from(arithmetic::signed(s, size) >= arithmetic::signed(t, size)))
+    }
+
+    pub(crate) fn gt(&mut self, size: Size) -> Answer
+        ensures { Does (on_two self.old (λ s t below. tell (int_lt (signed size t) (signed size s)) below)) result self.new }
+    {
+        let (s, t) = self.take_two()?;
+        self.put(u64::from(arithmetic::signed(s, size) > arithmetic::signed(t, size)))
+    }
+
+    pub(crate) fn le(&mut self, size: Size) -> Answer
+        ensures { Does (on_two self.old (λ s t below. tell (int_le (signed size s) (signed size t)) below)) result self.new }
+    {
+        let (s, t) = self.take_two()?;
+        self.put(u64::from(arithmetic::signed(s, size) <= arithmetic::signed(t, size)))
+    }
+
+    pub(crate) fn lt(&mut self, size: Size) -> Answer
+        ensures { Does (on_two self.old (λ s t below. tell (int_lt (signed size s) (signed size t)) below)) result self.new }
+    {
+        let (s, t) = self.take_two()?;
+        self.put(u64::from(arithmetic::signed(s, size) < arithmetic::signed(t, size)))
+    }
+
+    pub(crate) fn ne(&mut self) -> Answer
+        ensures { Does (on_two self.old (λ s t below. tell (not (nat_eq s t)) below)) result self.new }
+    {
+        let (s, t) = self.take_two()?;
+        self.put(u64::from(s != t))
+    }
+
+    /// Puts a value on the stack, or faults where there is none.
+    pub(crate) fn put_known(&mut self, value: Option<u64>, missing: Kind, size: Size) -> Answer
+        ensures { Does (known missing value (λ v. push size v self.old)) result self.new }
+    {
+        match value {
+            Some(value) => self.put(arithmetic::reduced(value, size)),
+            None => Err(Stop::Fault(missing)),
+        }
+    }
+
+    /// Puts the sum of a value and an offset on the stack, or faults where there is none.
+    pub(crate) fn put_offset(
+        &mut self,
+        value: Option<u64>,
+        by: i64,
+        missing: Kind,
+        size: Size,
+    ) -> Answer
+        ensures { Does (known missing value (λ v. push_signed size (pos v +ℤ by) self.old)) result self.new }
+    {
+        match value {
+            Some(value) => self.put(arithmetic::offset(value, by, size)),
+            None => Err(Stop::Fault(missing)),
+        }
+    }
+
+    /// Puts a number on the stack.
+    pub(crate) fn put_number(&mut self, number: u64, size: Size) -> Answer
+        ensures { Does (push size number self.old) result self.new }
+    {
+        self.put(arithmetic::reduced(number, size))
+    }
+
+    /// Takes a value that should be a place.
+    pub(crate) fn refuse_value(&mut self) -> Answer
+        ensures { Does (on_top self.old (λ t below. Faults NotAValue)) result self.new }
+    {
+        self.take()?;
+        Err(Stop::Fault(Kind::NotAValue))
+    }
+}
