@@ -21,7 +21,8 @@ BLOCKS = ["2f12000e05000000000000000e060000000000000037", "92070806", "770806"]
 PROGRAM_CALLS = ["run", "row_steps", "initial_row", "copied", "cie_machine"]
 EXPRESSION_CALLS = ["decode", "encode", "ops", "put_least"]
 SECTION_CALLS = ["entries", "headers", "check", "row_at", "changes", *PROGRAM_CALLS, *EXPRESSION_CALLS]
-WORKED_CALLS = [*PROGRAM_CALLS, *EXPRESSION_CALLS, "numbers"]
+WORKED_CALLS = [*PROGRAM_CALLS, *EXPRESSION_CALLS, "numbers", "dumps", "registers", "evaluate", "locate"]
+EVALUATIONS = [["770806", "registers.dump"], ["3a311c1228faff"]]
 OUT_OF_MEMORY = (5, b"", b"out of memory\n")
 
 
@@ -57,6 +58,8 @@ def command_runs():
             yield [subcommand, "--size", size, "--order", order, name]
     for block in BLOCKS:
         yield ["expr", "--size", "8", "--order", "little", block]
+    for words in EVALUATIONS:
+        yield ["eval", "--size", "8", "--order", "little", *words]
 
 
 def call_runs():

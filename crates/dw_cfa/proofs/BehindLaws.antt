@@ -1,5 +1,5 @@
 -- The rows of an FDE's program behind an initial row.
-use Rattle.std.proofs.Common.{◌≡◌, ℕ, zero, suc, ◌+◌, ◌<◌, ◌≤◌, Bool, true, false, cond, List, [], ◌∷◌, length, Option, Some, None, refl, sym, ap, ◌∙◌, subst, arith}
+use Rattle.std.proofs.Common.{◌≡◌, ℕ, ◌+◌, ◌≤◌, Bool, true, false, cond, List, [], ◌∷◌, length, Option, None, refl, sym, ap, ◌∙◌, subst, arith}
 use Rattle.std.specs.Prelude.{count_by}
 use Rattle.std.proofs.lemmas.List.Sums.{sum_by-cons}
 use Rattle.dw_num.specs.declared.refusal.Refusal.{Refusal}
@@ -8,16 +8,14 @@ use Rattle.dw_num.specs.Input.{Input, AreBytes}
 use Rattle.dw_cfa.specs.declared.instr.Factors.{Factors}
 use Rattle.dw_cfa.specs.declared.instr.Instr.{Instr}
 use Rattle.dw_cfa.specs.declared.running.LocatedRow.{LocatedRow}
-use Rattle.dw_cfa.specs.Behind.{HoldsBehind, GivesBehind, BehindGives, GivesRows}
-use Rattle.dw_cfa.specs.InstrSpells.{Program}
-use Rattle.dw_cfa.specs.Kept.{FdeKept}
-use Rattle.dw_cfa.specs.Location.{Counts, onto, moves_location, row_starts}
+use Rattle.dw_cfa.specs.Behind.{GivesBehind, BehindGives, GivesRows}
+use Rattle.dw_cfa.specs.Location.{moves_location}
 use Rattle.dw_cfa.specs.Rows.{Rules, AreSpecified}
-use Rattle.dw_cfa.specs.RuleAt.{last_at, CountsFrom}
-use Rattle.dw_cfa.specs.Machine.{State, begun, after, fde_fault}
-use Rattle.dw_cfa.specs.Runs.{Placed, Outcome, placed, here, row_if, fault_or, row_then, fde_rows, rows_behind}
+use Rattle.dw_cfa.specs.RuleAt.{CountsFrom}
+use Rattle.dw_cfa.specs.Machine.{State, begun, after}
+use Rattle.dw_cfa.specs.Runs.{Placed, Outcome, placed, row_if, fde_rows, rows_behind}
 use Rattle.dw_cfa.proofs.FaultLaws.{begun_stands}
-use Rattle.dw_cfa.proofs.Forward.{Holds, begun_follows}
+use Rattle.dw_cfa.proofs.Forward.{begun_follows}
 use Rattle.dw_cfa.proofs.KeptLaws.{fde_kept, kept_fde, all_in_limit}
 use Rattle.dw_cfa.proofs.KeptRuns.{KeptFrom, AllInLimit, kept_from, kept_gives}
 use Rattle.dw_cfa.proofs.RowsAt.{instrs_of, Gives, gives_first, row_if_moves, row_if_stays, rows_at, never_falls}

@@ -1,8 +1,7 @@
 -- A program that is divided before one of its instructions: its bytes, and the list of its instructions with their places.
-use Rattle.std.proofs.Common.{◌≡◌, ℕ, zero, suc, ◌+◌, ◌<◌, ◌≤◌, List, [], ◌∷◌, ◌++◌, length, Option, Some, None, Result, Ok, Err, refl, sym, ap, ◌∙◌, subst, append_assoc, arith, inl, inr}
+use Rattle.std.proofs.Common.{◌≡◌, ℕ, ◌+◌, ◌<◌, List, [], ◌∷◌, ◌++◌, length, Ok, Err, refl, sym, ap, ◌∙◌, subst, append_assoc, arith, inl, inr}
 use Rattle.std.proofs.lemmas.Bool.{cases_lt}
 use Rattle.std.proofs.lemmas.List.{length-append}
-use Rattle.dw_num.specs.declared.refusal.Refusal.{Refusal}
 use Rattle.dw_num.specs.declared.target.Target.{Target}
 use Rattle.dw_num.specs.Input.{Input, AreBytes}
 use Rattle.dw_num.specs.Reading.{Read}
@@ -11,7 +10,7 @@ use Rattle.dw_cfa.specs.declared.instr.Factors.{Factors}
 use Rattle.dw_cfa.specs.declared.instr.Instr.{Instr}
 use Rattle.dw_cfa.specs.InstrSpells.{InstrSpells, Program}
 use Rattle.dw_cfa.specs.Reading.{instr_at}
-use Rattle.dw_cfa.specs.Runs.{Placed, Placing, placed, ended, after_item}
+use Rattle.dw_cfa.specs.Runs.{Placed, Placing, placed}
 use Rattle.dw_cfa.proofs.InstrLaws.{instr_found}
 use Rattle.dw_cfa.proofs.InstrAgain.{instr_again}
 use Rattle.dw_cfa.proofs.Listings.{some_spelled, instr_bytes}

@@ -1,16 +1,15 @@
 -- A run is refused exactly with the first fault of its programs.
-use Rattle.std.proofs.Common.{◌≡◌, ◌⊎◌, ℕ, zero, suc, ◌+◌, ◌<◌, ◌≤◌, Bool, true, false, cond, List, [], ◌∷◌, ◌++◌, length, take, Option, Some, None, Result, Ok, Err, refl, sym, ap, ◌∙◌, subst, inl, inr, arith}
-use Rattle.std.specs.Prelude.{IsTrue, not, nat_lt, count_by, ◌↔◌}
+use Rattle.std.proofs.Common.{◌≡◌, ◌⊎◌, ℕ, ◌+◌, ◌<◌, ◌≤◌, Bool, true, false, cond, List, [], ◌∷◌, length, take, Option, Some, None, Result, Ok, Err, refl, sym, ap, ◌∙◌, subst, inl, inr, arith}
+use Rattle.std.specs.Prelude.{IsTrue, not, nat_lt, count_by}
 use Rattle.std.proofs.lemmas.Bool.{lt-ltb, ltb-true, ltb-false, le-ltb}
 use Rattle.dw_num.specs.declared.refusal.Code.{Code}
 use Rattle.dw_num.specs.declared.refusal.Code.TheVariants.{NotInCie, LocationBackwards, LocationTooLarge, EmptyStateStack, StateStackFull, CfaNotRegister}
 use Rattle.dw_num.specs.declared.refusal.Refusal.{Refusal}
-use Rattle.dw_num.specs.declared.target.Target.{Target}
 use Rattle.dw_num.specs.Target.{address_limit}
 use Rattle.dw_num.specs.Input.{Input, AreBytes}
 use Rattle.dw_cfa.specs.declared.instr.Factors.{Factors}
 use Rattle.dw_cfa.specs.declared.instr.Instr.{Instr}
-use Rattle.dw_cfa.specs.declared.instr.Instr.TheVariants.{Nop, SetLoc, Advance, DefCfa, DefCfaRegister, DefCfaOffset, DefCfaExpression, Set, Restore, RememberState, RestoreState}
+use Rattle.dw_cfa.specs.declared.instr.Instr.TheVariants.{SetLoc, Advance, RememberState, RestoreState}
 use Rattle.dw_cfa.specs.declared.rule.CfaRule.{CfaRule}
 use Rattle.dw_cfa.specs.declared.rule.CfaRule.TheVariants as cfa
 use Rattle.dw_cfa.specs.declared.running.LocatedRow.{LocatedRow}
@@ -21,18 +20,18 @@ use Rattle.dw_cfa.specs.Column.{look_back, cfa_change}
 use Rattle.dw_cfa.specs.Kept.{is_remember, is_restore, in_cie, keeps_half, IsRegisterRule, CieKept, FdeKept}
 use Rattle.dw_cfa.specs.Laws.{initial_cfa}
 use Rattle.dw_cfa.specs.Behind.{Leaves, InitialLeaves, LeavesInitial, InitialRefused, BehindRefused}
-use Rattle.dw_cfa.specs.Faults.{RefusedWhereFault, BreaksHalf, CieBreaks, FdeBreaks, BrokenBehind, FaultBehind, CieFault, FdeFault, RunFault}
+use Rattle.dw_cfa.specs.Faults.{RefusedWhereFault, BreaksHalf, CieBreaks, FdeBreaks, CieFault, FdeFault, RunFault}
 use Rattle.dw_cfa.specs.declared.running.RunError.{RunError}
 use Rattle.dw_cfa.specs.declared.running.RunError.TheVariants.{Refused, OutOfMemory}
 use Rattle.dw_cfa.specs.Stepping.{Stepping, Failed, rows_before}
 use Rattle.dw_cfa.specs.Rows.{Rules, AreSpecified, blank}
-use Rattle.dw_cfa.specs.Machine.{State, begun, half_fault, empty_fault, cie_fault, fde_fault}
-use Rattle.dw_cfa.specs.Runs.{Placed, Placing, Outcome, placed, cie_run, initial_row, on_initial, fde_rows, rows_behind, run_rows, fails, RefusalIs}
-use Rattle.dw_cfa.proofs.Divided.{Divided, Joined, divided, joined}
+use Rattle.dw_cfa.specs.Machine.{begun, half_fault, cie_fault, fde_fault}
+use Rattle.dw_cfa.specs.Runs.{Placed, Outcome, placed, cie_run, initial_row, on_initial, fde_rows, rows_behind, run_rows, fails, RefusalIs}
+use Rattle.dw_cfa.proofs.Divided.{divided, joined}
 use Rattle.dw_cfa.proofs.Forward.{Follows, begun_follows}
 use Rattle.dw_cfa.proofs.Initial.{cie_follows}
 use Rattle.dw_cfa.proofs.KeptLaws.{CieKeptFrom, cie_kept_from, cie_kept_gives, counted, fde_kept, kept_fde, all_in_limit}
-use Rattle.dw_cfa.proofs.KeptRuns.{Stands, KeptFrom, AllInLimit, remembered, restored, kept_from, kept_gives}
+use Rattle.dw_cfa.proofs.KeptRuns.{Stands, remembered, restored, kept_from, kept_gives}
 use Rattle.dw_cfa.proofs.Listings.{fault_listed}
 use Rattle.dw_cfa.proofs.RowsAt.{instrs_of, Gives}
 use Rattle.dw_cfa.proofs.RunLaws.{same_listing, placed_program, program_placed}

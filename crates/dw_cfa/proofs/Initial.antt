@@ -1,15 +1,14 @@
 -- The row that a CIE's program leaves.
-use Rattle.std.proofs.Common.{◌≡◌, ℕ, zero, suc, ◌+◌, ◌<◌, ◌≤◌, Bool, true, false, cond, List, [], ◌∷◌, length, Option, Some, None, Result, Ok, Err, refl, sym, ap, ◌∙◌, subst, arith}
+use Rattle.std.proofs.Common.{◌≡◌, ℕ, List, [], ◌∷◌, length, Option, Some, None, Result, Ok, refl, subst}
 use Rattle.dw_num.specs.declared.refusal.Code.{Code}
 use Rattle.dw_num.specs.declared.refusal.Refusal.{Refusal}
 use Rattle.dw_cfa.specs.declared.instr.Instr.{Instr}
 use Rattle.dw_cfa.specs.declared.instr.Instr.TheVariants.{Nop, SetLoc, Advance, DefCfa, DefCfaRegister, DefCfaOffset, DefCfaExpression, Set, Restore, RememberState, RestoreState}
-use Rattle.dw_cfa.specs.Kept.{in_cie}
 use Rattle.dw_cfa.specs.Location.{onto}
 use Rattle.dw_cfa.specs.Rows.{Rules, blank}
-use Rattle.dw_cfa.specs.Machine.{State, begun, written, after, half_fault, cie_fault, fde_fault}
+use Rattle.dw_cfa.specs.Machine.{begun, written, after, cie_fault, fde_fault}
 use Rattle.dw_cfa.specs.Runs.{Placed, at_end, refused_at, cie_run}
-use Rattle.dw_cfa.proofs.Forward.{Follows, Holds, after_follows, begun_follows}
+use Rattle.dw_cfa.proofs.Forward.{Follows, after_follows}
 use Rattle.dw_cfa.proofs.RowsAt.{instrs_of}
 
 -- an instruction that a CIE may hold has the same effect in an FDE

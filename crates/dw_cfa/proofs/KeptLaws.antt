@@ -1,9 +1,8 @@
 -- Two programs give rows exactly where both keep their rules.
-use Rattle.std.proofs.Common.{◌≡◌, ℕ, zero, suc, ◌+◌, ◌<◌, ◌≤◌, Bool, true, false, cond, List, [], ◌∷◌, length, take, Option, Some, None, Result, Ok, Err, refl, sym, ap, ◌∙◌, subst, inl, inr, arith, add-one}
-use Rattle.std.specs.Prelude.{IsTrue, count_by, slice_get, ◌↔◌}
+use Rattle.std.proofs.Common.{◌≡◌, ℕ, zero, suc, ◌+◌, ◌≤◌, Bool, true, false, cond, List, [], ◌∷◌, length, take, Option, Some, None, Ok, refl, sym, subst, arith, add-one}
+use Rattle.std.specs.Prelude.{IsTrue, count_by, slice_get}
 use Rattle.std.specs.List.{AllByRecursion}
 use Rattle.std.proofs.lemmas.List.Sums.{sum_by-cons}
-use Rattle.dw_num.specs.declared.refusal.Code.{Code}
 use Rattle.dw_num.specs.declared.refusal.Code.TheVariants.{NotInCie}
 use Rattle.dw_num.specs.declared.refusal.Refusal.{Refusal}
 use Rattle.dw_num.specs.declared.target.Target.{Target}
@@ -11,24 +10,23 @@ use Rattle.dw_num.specs.Target.{address_limit}
 use Rattle.dw_num.specs.Input.{Input, AreBytes}
 use Rattle.dw_cfa.specs.declared.instr.Factors.{Factors}
 use Rattle.dw_cfa.specs.declared.instr.Instr.{Instr}
-use Rattle.dw_cfa.specs.declared.instr.Instr.TheVariants.{Nop, SetLoc, Advance, DefCfa, DefCfaRegister, DefCfaOffset, DefCfaExpression, Set, Restore, RememberState, RestoreState}
 use Rattle.dw_cfa.specs.declared.rule.CfaRule.{CfaRule}
 use Rattle.dw_cfa.specs.declared.rule.CfaRule.TheVariants as cfa
 use Rattle.dw_cfa.specs.declared.running.LocatedRow.{LocatedRow}
 use Rattle.dw_cfa.specs.InstrSpells.{Program}
-use Rattle.dw_cfa.specs.Location.{onto, location_back}
+use Rattle.dw_cfa.specs.Location.{onto}
 use Rattle.dw_cfa.specs.Column.{look_back, cfa_change}
 use Rattle.dw_cfa.specs.Kept.{is_remember, is_restore, in_cie, keeps_half, IsRegisterRule, CieKept, FdeKept}
-use Rattle.dw_cfa.specs.Laws.{initial_cfa, RowsOf, RowsWhereKept}
+use Rattle.dw_cfa.specs.Laws.{initial_cfa, RowsWhereKept}
 use Rattle.dw_cfa.specs.Rows.{Rules, blank}
-use Rattle.dw_cfa.specs.Machine.{State, begun, written, after, half_fault, cie_fault, fde_fault}
-use Rattle.dw_cfa.specs.Runs.{Placed, Outcome, placed, at_end, refused_at, cie_run, initial_row, on_initial, fde_rows, run_rows}
+use Rattle.dw_cfa.specs.Machine.{begun, written, half_fault, cie_fault}
+use Rattle.dw_cfa.specs.Runs.{Placed, placed, cie_run, run_rows}
 use Rattle.dw_cfa.proofs.Forward.{Follows, after_follows, begun_follows}
-use Rattle.dw_cfa.proofs.Initial.{cie_step, cie_follows, refused_none, end_none}
+use Rattle.dw_cfa.proofs.Initial.{cie_step, cie_follows, refused_none}
 use Rattle.dw_cfa.proofs.KeptRuns.{Stands, KeptFrom, AllInLimit, kept_from, kept_gives, keeps_fault, half_kept}
 use Rattle.dw_cfa.proofs.Placings.{spells_in_limit}
-use Rattle.dw_cfa.proofs.RowsAt.{instrs_of, Gives}
-use Rattle.dw_cfa.proofs.RunLaws.{Given, given, program_placed}
+use Rattle.dw_cfa.proofs.RowsAt.{instrs_of}
+use Rattle.dw_cfa.proofs.RunLaws.{given, program_placed}
 
 -- ---- a CIE's program
 

@@ -1,5 +1,5 @@
 -- A restore_state gives what stood before its remember_state: the nearest one with as many remember_states as restore_states between.
-use Rattle.std.proofs.Common.{◌≡◌, ◌≢◌, ℕ, zero, suc, ◌+◌, ◌<◌, ◌≤◌, Bool, true, false, cond, List, [], ◌∷◌, ◌++◌, refl, sym, ap, ◌∙◌, arith}
+use Rattle.std.proofs.Common.{◌≡◌, ℕ, zero, suc, ◌+◌, List, [], ◌∷◌, ◌++◌, refl, ap, arith}
 use Rattle.dw_cfa.specs.declared.instr.Instr.{Instr}
 use Rattle.dw_cfa.specs.declared.instr.Instr.TheVariants.{RememberState, RestoreState}
 use Rattle.dw_cfa.specs.Column.{look_back, cfa_change, rule_change}

@@ -1,5 +1,5 @@
 -- What is left of a program, instruction by instruction.
-use Rattle.std.proofs.Common.{◌≡◌, ℕ, zero, suc, ◌+◌, ◌<◌, ◌≤◌, List, [], ◌∷◌, ◌++◌, length, Option, Some, None, Result, Ok, Err, refl, sym, ap, ◌∙◌, subst, arith, inl, inr}
+use Rattle.std.proofs.Common.{◌≡◌, ℕ, zero, suc, ◌+◌, ◌<◌, ◌≤◌, List, [], ◌∷◌, ◌++◌, length, Some, None, Ok, Err, refl, sym, ap, ◌∙◌, subst, arith, inl, inr}
 use Rattle.std.proofs.lemmas.List.{length-append, get_or-append-add}
 use Rattle.std.proofs.lemmas.Bool.{cases_lt}
 use Rattle.std.specs.Prelude.{◌⊎◌, ◌^◌}
@@ -9,7 +9,7 @@ use Rattle.dw_num.specs.Reading.{Read}
 use Rattle.dw_op.specs.OpSpells.{Code, Alone}
 use Rattle.dw_num.specs.declared.refusal.Refusal.{Refusal}
 use Rattle.dw_num.specs.declared.target.Target.{Target}
-use Rattle.dw_num.specs.Input.{Input, Takes, AreBytes}
+use Rattle.dw_num.specs.Input.{Input, AreBytes}
 use Rattle.dw_num.specs.Target.{address_limit, byte_count}
 use Rattle.dw_cfa.specs.declared.instr.Factors.{Factors}
 use Rattle.dw_cfa.specs.declared.instr.Instr.{Instr}
@@ -19,7 +19,7 @@ use Rattle.dw_cfa.specs.declared.rule.RegRule.TheVariants as rules
 use Rattle.dw_cfa.specs.InstrSpells.{InstrSpells, RuleSpells}
 use Rattle.dw_cfa.specs.Reading.{instr_at}
 use Rattle.dw_cfa.specs.Steps.{InLimit}
-use Rattle.dw_cfa.specs.Runs.{Placed, Placing, ended, after_item, on_read, on_left, placed_by, placed}
+use Rattle.dw_cfa.specs.Runs.{Placing, ended, after_item, on_left, placed_by, placed}
 use Rattle.dw_cfa.proofs.InstrLaws.{instr_found}
 
 -- what is read is shorter by its spelling, and an address is below 2 ^ N

@@ -1,19 +1,19 @@
 -- Of the rows that a run gives, the last one that starts at or below an address holds the rules at that address.
-use Rattle.std.proofs.Common.{◌≡◌, ℕ, zero, suc, ◌+◌, ◌<◌, ◌≤◌, Bool, true, false, cond, List, [], ◌∷◌, length, Option, Some, None, refl, sym, ap, ◌∙◌, subst, inl, inr, arith}
-use Rattle.std.proofs.lemmas.Bool.{cases_lt, cases_Bool, le-leb, lt-ltb, ltb-false}
+use Rattle.std.proofs.Common.{◌≡◌, ℕ, zero, suc, ◌<◌, ◌≤◌, Bool, true, false, cond, List, [], ◌∷◌, Option, Some, None, refl, sym, ap, ◌∙◌, subst, inl, inr, arith}
+use Rattle.std.proofs.lemmas.Bool.{cases_lt, cases_Bool, le-leb, ltb-false}
 use Rattle.std.proofs.lemmas.Bool.Decides.{leb_tells}
 use Rattle.std.specs.Prelude.{nat_le, nat_lt, map}
 use Rattle.dw_num.specs.declared.refusal.Code.{Code}
 use Rattle.dw_num.specs.declared.refusal.Code.TheVariants.{LocationBackwards}
 use Rattle.dw_num.specs.declared.refusal.Refusal.{Refusal}
 use Rattle.dw_cfa.specs.declared.instr.Instr.{Instr}
-use Rattle.dw_cfa.specs.declared.instr.Instr.TheVariants.{Nop, SetLoc, Advance, DefCfa, DefCfaRegister, DefCfaOffset, DefCfaExpression, Set, Restore, RememberState, RestoreState}
+use Rattle.dw_cfa.specs.declared.instr.Instr.TheVariants.{SetLoc, Advance, RestoreState}
 use Rattle.dw_cfa.specs.declared.running.LocatedRow.{LocatedRow}
 use Rattle.dw_cfa.specs.Location.{onto, location_back, moves_location}
 use Rattle.dw_cfa.specs.Rows.{Rules}
-use Rattle.dw_cfa.specs.Machine.{State, after, moved, popped, fde_fault}
-use Rattle.dw_cfa.specs.Runs.{Placed, Outcome, finished, fails, row_then, here, row_if, fault_or, last_row, fde_rows}
-use Rattle.dw_cfa.specs.RuleAt.{or_here, last_at, NeverFalls, CountsFrom}
+use Rattle.dw_cfa.specs.Machine.{State, after, popped, fde_fault}
+use Rattle.dw_cfa.specs.Runs.{Placed, Outcome, finished, here, row_if, fault_or, last_row, fde_rows}
+use Rattle.dw_cfa.specs.RuleAt.{last_at, NeverFalls, CountsFrom}
 use Rattle.dw_cfa.proofs.Forward.{Follows, Holds, after_follows}
 
 abbrev pub instrs_of : List Placed → List Instr

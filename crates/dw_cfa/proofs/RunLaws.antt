@@ -1,5 +1,5 @@
 -- The laws of rows.
-use Rattle.std.proofs.Common.{◌≡◌, ◌⊎◌, ℕ, zero, suc, ◌+◌, ◌<◌, ◌≤◌, Bool, true, false, cond, List, [], ◌∷◌, length, Option, Some, None, Result, Ok, Err, refl, sym, ap, ◌∙◌, subst, inl, inr, arith}
+use Rattle.std.proofs.Common.{◌≡◌, ◌⊎◌, ℕ, zero, suc, Bool, true, false, List, [], ◌∷◌, length, Option, Some, None, Result, Ok, Err, refl, sym, ap, ◌∙◌, subst, inl, inr, arith}
 use Rattle.dw_num.specs.declared.refusal.Refusal.{Refusal}
 use Rattle.dw_num.specs.Target.{address_limit}
 use Rattle.dw_num.specs.Input.{Input, AreBytes}
@@ -11,20 +11,20 @@ use Rattle.dw_cfa.specs.declared.rule.RegRule.{RegRule}
 use Rattle.dw_cfa.specs.declared.running.LocatedRow.{LocatedRow}
 use Rattle.dw_cfa.specs.InstrSpells.{Program}
 use Rattle.dw_num.specs.declared.refusal.Code.{Code}
-use Rattle.dw_cfa.specs.Location.{Counts, onto, back_from, moves_location}
-use Rattle.dw_cfa.specs.Column.{cfa_after, rule_after, look_back, cfa_change, rule_change}
-use Rattle.dw_cfa.specs.Rows.{Rules, rule, blank}
+use Rattle.dw_cfa.specs.Location.{onto, moves_location}
+use Rattle.dw_cfa.specs.Column.{cfa_after, rule_after}
+use Rattle.dw_cfa.specs.Rows.{Rules, blank}
 use Rattle.dw_cfa.specs.Listing as plain
 use Rattle.dw_cfa.specs.Machine.{State, begun, after, fde_fault}
 use Rattle.dw_cfa.specs.Reading.{instr_at}
-use Rattle.dw_cfa.specs.Runs.{Placed, Placing, Outcome, finished, fails, placed, placed_by, cie_run, initial_row, on_initial, fde_rows, rows_left, rows_behind, run_rows, last_row, fault_or, row_if, row_then, here, ended, after_item, on_read, on_left}
+use Rattle.dw_cfa.specs.Runs.{Placed, Placing, Outcome, finished, placed, placed_by, initial_row, on_initial, fde_rows, rows_left, rows_behind, run_rows, last_row, fault_or, row_if, ended, after_item, on_read, on_left}
 use Rattle.dw_cfa.specs.declared.machine.Machine.{Machine}
 use Rattle.dw_cfa.specs.Steps.{state_of}
 use Rattle.dw_cfa.specs.declared.steps.Progress.{Progress}
 use Rattle.dw_cfa.specs.declared.steps.Progress.TheVariants as progress
 use Rattle.dw_cfa.specs.Stepping.{Stepping, begun_rows, left_of}
-use Rattle.dw_cfa.specs.Laws.{initial_cfa, initial_rule, HoldsAfter, RowsOf, GivenPrograms, NoneFalls, LastHolds}
-use Rattle.dw_cfa.specs.RuleAt.{last_at, NeverFalls, CountsFrom}
+use Rattle.dw_cfa.specs.Laws.{HoldsAfter, GivenPrograms, NoneFalls, LastHolds}
+use Rattle.dw_cfa.specs.RuleAt.{CountsFrom}
 use Rattle.dw_cfa.proofs.Listings.{program_listed}
 use Rattle.dw_cfa.proofs.Forward.{Follows, Holds, begun_follows}
 use Rattle.dw_cfa.proofs.Initial.{cie_follows}

@@ -1,7 +1,6 @@
 -- One instruction of a program, in the rows still to come.
-use Rattle.std.proofs.Common.{◌≡◌, ℕ, zero, suc, ◌+◌, ◌<◌, ◌≤◌, Bool, true, false, cond, List, [], ◌∷◌, length, Option, Some, None, Result, Ok, Err, refl, sym, ap, ◌∙◌, subst, arith, inl, inr}
+use Rattle.std.proofs.Common.{◌≡◌, ℕ, ◌<◌, true, false, List, [], length, Option, None, Ok, Err, refl, sym, ap, ◌∙◌, subst}
 use Rattle.std.specs.Prelude.{IsTrue}
-use Rattle.dw_num.specs.declared.refusal.Code.{Code}
 use Rattle.dw_num.specs.declared.refusal.Code.TheVariants.{NotInCie}
 use Rattle.dw_num.specs.declared.refusal.Refusal.{Refusal}
 use Rattle.dw_num.specs.Input.{Input, AreBytes}
@@ -20,10 +19,10 @@ use Rattle.dw_cfa.specs.Reading.{instr_at}
 use Rattle.dw_cfa.specs.Rows.{Rules, blank}
 use Rattle.dw_cfa.specs.declared.rule.RegRule.{RegRule}
 use Rattle.dw_cfa.specs.Stepping.{begun_rows}
-use Rattle.dw_cfa.specs.Machine.{State, written, after, half_fault, cie_fault, fde_fault, FaultIs}
+use Rattle.dw_cfa.specs.Machine.{State, written, after, half_fault, fde_fault, FaultIs}
 use Rattle.dw_cfa.specs.States.{Held, BeganWith}
-use Rattle.dw_cfa.specs.Steps.{state_of, InLimit, IsAfter}
-use Rattle.dw_cfa.specs.Runs.{Placing, ended, after_item, placed, cie_run, initial_row, Outcome, fails, finished, row_then, here, row_if, fault_or, fde_rows, rows_left, rows_behind, run_rows, RunsSo, RefusalIs, run_error, RanTo, WroteTo}
+use Rattle.dw_cfa.specs.Steps.{state_of, IsAfter}
+use Rattle.dw_cfa.specs.Runs.{Placing, placed, cie_run, initial_row, Outcome, fails, finished, row_then, here, row_if, fault_or, fde_rows, rows_left, rows_behind, run_rows, RunsSo, RefusalIs, run_error, RanTo, WroteTo}
 use Rattle.dw_cfa.proofs.Placings.{reads, placed_end, placed_step, placed_stuck}
 
 rows_of : ℕ → Rules → Placing → State → Outcome

@@ -1,5 +1,5 @@
 -- Remembered rows, kept by what was changed since.
-use Rattle.std.proofs.Common.{◌≡◌, ℕ, zero, suc, ◌+◌, ◌-◌, ◌<◌, ◌≤◌, Bool, true, false, nat_lt, List, [], ◌∷◌, ◌++◌, length, reverse, Option, Some, None, refl, sym, ap, ◌∙◌, subst, arith}
+use Rattle.std.proofs.Common.{◌≡◌, ℕ, suc, ◌+◌, ◌-◌, ◌<◌, ◌≤◌, Bool, true, false, nat_lt, List, [], ◌∷◌, ◌++◌, length, reverse, Option, Some, None, refl, sym, ap, ◌∙◌, subst, arith}
 use Rattle.std.proofs.lemmas.List.{reverse-append, append-nil}
 use Rattle.std.proofs.lemmas.Bool.{ltb-false}
 use Rattle.dw_cfa.specs.declared.rule.CfaRule.{CfaRule}
@@ -85,7 +85,7 @@ module _ (tracked : Bool) (row : Rules) (items : List Undo) (now : Held) (is : h
   cfa_held cfa row' new =
       ap (λ (r : Rules). held tracked r items) new
       ∙ parts (with_cfa cfa row) (with_cfa cfa now.row) (remembered_rows (with_cfa cfa row) (reverse items)) now.stack (first_if tracked (with_cfa cfa row) (reverse items)) now.first
-        (ap (with_cfa cfa) row_is) (cfa_left cfa row (reverse items) ∙ stack_is) (first_cfa tracked cfa ∙ first_is)
+      (ap (with_cfa cfa) row_is) (cfa_left cfa row (reverse items) ∙ stack_is) (first_cfa tracked cfa ∙ first_is)
 
   first_change : (t : Bool) (r : ℕ) (older : RegRule) (row' : Rules) → with_rule r older row' ≡ row → first_if t row' (Register r older ∷ reverse items) ≡ first_if t row (reverse items)
   unfolding first_registers
@@ -175,9 +175,10 @@ no_items (u ∷ items) items' none same = let e : false ≡ true = none (omega a
 
 pub taken_none : (row row' : Rules) (changes : List Undo) (items items' : List Undo) → SameBehind row changes row' (reverse items) → items ≡ [] → items' ≡ [] → TakenBack None row changes row' (reverse items')
 taken_none row row' changes items items' same none none' =
-    let c : reverse items ≡ [] = ap (λ (l : List Undo). reverse l) none in
-    (record { stack = same.stack ∙ ap (remembered_rows row') c; first = same.first ∙ ap (first_registers row') c; count = same.count ∙ ap count_remembered c },
-    ap (λ (l : List Undo). reverse l) none')
+    let c : reverse items ≡ [] = ap (λ (l : List Undo). reverse l) none in (
+      record { stack = same.stack ∙ ap (remembered_rows row') c; first = same.first ∙ ap (first_registers row') c; count = same.count ∙ ap count_remembered c },
+      ap (λ (l : List Undo). reverse l) none',
+    )
 
 -- a change of a register is no mark
 pub taken_count : (row row' : Rules) (changes : List Undo) (items items' : List Undo) (r : ℕ) (older : RegRule) → SameBehind row changes row' (reverse items)
@@ -206,9 +207,10 @@ module _ (tracked : Bool) (row : Rules) (items : List Undo) (now : Held) (is : h
   pub restored : (cfa : CfaRule) (row'' : Rules) (new : Held) → TakenBack (Some cfa) row (reverse items) row' (reverse items') → row'' ≡ with_cfa cfa row'
       → held tracked row'' items' ≡ new → Restored true now new
   unfolding remembered_rows first_registers
-  restored cfa row'' new taken at is' =
-      (sym (ap (λ (h : Held). h.stack) is) ∙ taken.stack ∙ ap (λ (x : Rules). x ∷ remembered_rows x (reverse items')) (sym at) ∙ ap (λ (h : Held). h.row ∷ h.stack) is',
-      sym (ap (λ (h : Held). h.first) is') ∙ ap (λ (x : Rules). first_if tracked x (reverse items')) at ∙ sym (firsts tracked) ∙ ap (λ (h : Held). h.first) is)
+  restored cfa row'' new taken at is' = (
+    sym (ap (λ (h : Held). h.stack) is) ∙ taken.stack ∙ ap (λ (x : Rules). x ∷ remembered_rows x (reverse items')) (sym at) ∙ ap (λ (h : Held). h.row ∷ h.stack) is',
+    sym (ap (λ (h : Held). h.first) is') ∙ ap (λ (x : Rules). first_if tracked x (reverse items')) at ∙ sym (firsts tracked) ∙ ap (λ (h : Held). h.first) is,
+  )
     where
       firsts : (t : Bool) → first_if t row (reverse items) ≡ first_if t (with_cfa cfa row') (reverse items')
       firsts true = ap Some (taken.first ∙ sym (first_left cfa row' (reverse items')))

@@ -1,5 +1,5 @@
 -- Where the run of a program stops with a refusal: at an instruction, or behind all that can be read.
-use Rattle.std.proofs.Common.{◌≡◌, ◌⊎◌, ℕ, zero, suc, ◌+◌, ◌<◌, ◌≤◌, Bool, true, false, cond, List, [], ◌∷◌, ◌++◌, length, Option, Some, None, Result, Ok, Err, refl, sym, ap, ◌∙◌, subst, inl, inr, arith}
+use Rattle.std.proofs.Common.{◌≡◌, ◌⊎◌, ℕ, Bool, true, false, List, [], ◌∷◌, ◌++◌, length, Option, Some, None, Result, Ok, Err, refl, sym, ap, ◌∙◌, inl, inr}
 use Rattle.dw_num.specs.declared.refusal.Code.{Code}
 use Rattle.dw_num.specs.declared.refusal.Refusal.{Refusal}
 use Rattle.dw_cfa.specs.declared.instr.Instr.{Instr}
@@ -7,7 +7,7 @@ use Rattle.dw_cfa.specs.declared.running.LocatedRow.{LocatedRow}
 use Rattle.dw_cfa.specs.Location.{onto, moves_location}
 use Rattle.dw_cfa.specs.Rows.{Rules}
 use Rattle.dw_cfa.specs.Machine.{State, after, written, cie_fault, fde_fault}
-use Rattle.dw_cfa.specs.Runs.{Placed, Outcome, here, last_row, row_if, fault_or, fde_rows, at_end, refused_at, cie_run}
+use Rattle.dw_cfa.specs.Runs.{Placed, Outcome, here, row_if, fault_or, fde_rows, refused_at, cie_run}
 use Rattle.dw_cfa.proofs.Initial.{refused_none, end_none}
 use Rattle.dw_cfa.proofs.KeptRuns.{Stands, AllInLimit, stands_after, next_gives, put_first}
 use Rattle.dw_cfa.proofs.RowsAt.{instrs_of, Gives}

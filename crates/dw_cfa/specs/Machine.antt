@@ -1,5 +1,5 @@
 -- The machine that runs call frame instructions: DWARF 5, 6.4.2 and 6.4.3. It goes forwards, with whole rows and a stack of remembered ones.
-use Rattle.std.specs.Prelude.{◌≡◌, ℕ, ◌+◌, ◌<◌, List, [], ◌∷◌, length, Bool, true, false, Option, Some, None, nat_lt, if◌then◌else◌}
+use Rattle.std.specs.Prelude.{◌≡◌, ℕ, ◌+◌, List, [], ◌∷◌, length, Option, Some, None, nat_lt, if◌then◌else◌}
 use Rattle.dw_num.specs.declared.refusal.Code.{Code}
 use Rattle.dw_num.specs.declared.refusal.Code.TheVariants.{NotInCie, LocationBackwards, LocationTooLarge, EmptyStateStack, StateStackFull, CfaNotRegister}
 use Rattle.dw_cfa.specs.declared.instr.Instr.{Instr}
@@ -10,7 +10,7 @@ use Rattle.dw_cfa.specs.declared.machine.StepError.{StepError}
 use Rattle.dw_cfa.specs.declared.machine.StepError.TheVariants.{Fault, OutOfMemory}
 use Rattle.dw_cfa.specs.Column.{cfa_change}
 use Rattle.dw_cfa.specs.Kept.{in_cie, keeps_half}
-use Rattle.dw_cfa.specs.Rows.{Rules, rule, with_cfa, with_rule, blank}
+use Rattle.dw_cfa.specs.Rows.{Rules, rule, with_cfa, with_rule}
 
 -- the current row, the remembered ones, the last first, and the location
 pub record State : Type 0 where

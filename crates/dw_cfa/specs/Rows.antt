@@ -1,5 +1,5 @@
 -- Rows of rules: DWARF 5, 6.4.1. A row says how to find the canonical frame address and each register.
-use Rattle.std.specs.Prelude.{◌≡◌, ℕ, zero, suc, ◌≤◌, List, [], ◌∷◌, Bool, true, false, IsTrue, nat_eq, nat_lt, if◌then◌else◌}
+use Rattle.std.specs.Prelude.{ℕ, suc, ◌≤◌, List, [], ◌∷◌, Bool, true, false, IsTrue, nat_eq, nat_lt, if◌then◌else◌}
 use Rattle.dw_cfa.specs.declared.rule.CfaRule.{CfaRule}
 use Rattle.dw_cfa.specs.declared.rule.CfaRule.TheVariants.{Unset}
 use Rattle.dw_cfa.specs.declared.rule.RegRule.{RegRule}

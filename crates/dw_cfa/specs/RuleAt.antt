@@ -1,10 +1,9 @@
 -- The row of an address among the rows of a run: DWARF 5, 6.4.3.
-use Rattle.std.specs.Prelude.{◌≡◌, ℕ, suc, ◌≤◌, ◌<◌, List, [], ◌∷◌, length, Option, Some, None, nat_le, if◌then◌else◌}
+use Rattle.std.specs.Prelude.{ℕ, ◌≤◌, List, [], ◌∷◌, length, Option, Some, None, nat_le, if◌then◌else◌}
 use Rattle.dw_cfa.specs.declared.instr.Instr.{Instr}
 use Rattle.dw_cfa.specs.declared.running.LocatedRow.{LocatedRow}
 use Rattle.dw_cfa.specs.Location.{onto, location_back}
-use Rattle.dw_cfa.specs.Column.{cfa_after, rule_after}
-use Rattle.dw_cfa.specs.Rows.{Rules, rule}
+use Rattle.dw_cfa.specs.Rows.{Rules}
 
 abbrev pub or_here : ℕ → LocatedRow → Option Rules → Option Rules
 or_here a first (Some row) = Some row

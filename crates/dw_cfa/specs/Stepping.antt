@@ -1,7 +1,6 @@
 -- Rows given one at a time.
-use Rattle.std.specs.Prelude.{◌≡◌, ◌⊎◌, ℕ, ◌+◌, ◌≤◌, List, [], ◌∷◌, ◌++◌, Option, Some, None, Result, Ok, Err, Bool, if◌then◌else◌}
+use Rattle.std.specs.Prelude.{◌≡◌, ◌⊎◌, ℕ, List, [], ◌++◌, Option, Some, None, Result, Ok, Err, Bool, if◌then◌else◌}
 use Rattle.dw_num.specs.declared.program.Program.{Program}
-use Rattle.dw_num.specs.declared.refusal.Refusal.{Refusal}
 use Rattle.dw_num.specs.declared.target.Target.{Target}
 use Rattle.dw_num.specs.Input.{Input}
 use Rattle.dw_cfa.specs.declared.instr.Factors.{Factors}
@@ -12,7 +11,7 @@ use Rattle.dw_cfa.specs.declared.steps.Progress.{Progress}
 use Rattle.dw_cfa.specs.declared.steps.Progress.TheVariants as progress
 use Rattle.dw_cfa.specs.Machine.{begun}
 use Rattle.dw_cfa.specs.Rows.{Rules}
-use Rattle.dw_cfa.specs.Runs.{Outcome, finished, fails, row_then, placed, initial_row, on_initial, fde_rows, rows_left, run_rows, RunsSo, RefusalIs}
+use Rattle.dw_cfa.specs.Runs.{Outcome, finished, fails, row_then, placed, initial_row, on_initial, fde_rows, rows_left, RunsSo, RefusalIs}
 
 -- the rows still to come, the row that is lent, and the error that was answered, after which it is answered again
 pub record Stepping : Type 0 where

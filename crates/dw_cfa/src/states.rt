@@ -67,10 +67,7 @@ fn take_back<'a>(
 }
 
 // Takes all changes of registers back.
-fn take_all_back<'a>(
-    row: &mut Row<'a>,
-    undo: &mut SmallVec<Undo<'a>, 4>,
-) -> Result<(), AllocError>
+fn take_all_back<'a>(row: &mut Row<'a>, undo: &mut SmallVec<Undo<'a>, 4>) -> Result<(), AllocError>
     ensures { OnOk result (row.new.registers ≡ first_registers row.old (reverse undo.old.items)) }
 {
     'changes: while let Some(change) = undo.pop() {

@@ -4,7 +4,9 @@
 ghost use Rattle.std.specs.Prelude.{◌<◌};
 ghost use Rattle.dw_num.specs.Target.{address_limit};
 
-use crate::{CfaRule, CieMachine, Factors, LocatedRow, RegRule, Row, RowSteps, RunError, initial_row, run};
+use crate::{
+    CfaRule, CieMachine, Factors, LocatedRow, RegRule, Row, RowSteps, RunError, initial_row, run,
+};
 use dw_num::{Order, Program, Size, Target};
 use dw_op::ExprRef;
 use std::alloc::Global;
@@ -508,7 +510,10 @@ fn starts_two_fdes_from_one_row(rt: HostRuntime) -> Result<(), Fail> {
         lent_rows(alloc, &mut machine)?.as_str(),
         "0x2000 cfa=r7+8 r16=[cfa-8];"
     );
-    assert_eq!(rt; row_text(alloc, machine.initial())?.as_str(), "cfa=r7+8 r16=[cfa-8]");
+    assert_eq!(rt;
+        row_text(alloc, machine.initial())?.as_str(),
+        "cfa=r7+8 r16=[cfa-8]"
+    );
     Ok(())
 }
 

@@ -11,7 +11,7 @@ use Rattle.dw_op.specs.declared.op.Op.TheVariants.{Addr, Deref, Const, Dup, Drop
 use Rattle.dw_op.specs.Block.{branch_target}
 use Rattle.dw_op.specs.Ranges.{InRange, AllInRange, TargetWithin}
 use Rattle.dw_eval.specs.declared.error.Kind.{Kind}
-use Rattle.dw_eval.specs.declared.error.Kind.TheVariants.{StackUnderflow, DivideByZero, NoRegister, Unreadable, Device, NotAValue, NoFrameBase, NoCfa, NoObject}
+use Rattle.dw_eval.specs.declared.error.Kind.TheVariants.{StackUnderflow, DivideByZero, NoRegister, Unreadable, Device, NoFrameBase, NoCfa, NoObject}
 use Rattle.dw_eval.specs.Context.{Context, read_at}
 use Rattle.dw_eval.specs.Effect.{Outcome, Next, Jump, Faults, on_top, on_two, on_three, known, push, tell, effect}
 use Rattle.dw_eval.specs.Evaluation.{State, led, value_turn}

@@ -1,5 +1,5 @@
 -- The loop over the operations of a description.
-use Rattle.std.proofs.Common.{◌≡◌, ◌⊎◌, ℕ, ◌+◌, ◌<◌, ◌≤◌, List, [], ◌∷◌, length, map, get_or, Option, Some, None, Result, Ok, Err, refl, sym, ◌∙◌, ap, subst, arith, inl, inr}
+use Rattle.std.proofs.Common.{◌≡◌, ℕ, ◌+◌, ◌<◌, ◌≤◌, List, [], ◌∷◌, length, map, get_or, Option, Result, Ok, Err, ◌∙◌, ap, subst, arith}
 use Rattle.std.specs.Prelude.{slice_get}
 use Rattle.std.proofs.Math.ListN.{length-map}
 use Rattle.dw_op.specs.declared.op.Op.{Op}
@@ -7,14 +7,13 @@ use Rattle.dw_op.specs.Expression.{bare}
 use Rattle.dw_op.specs.Ranges.{AllInRange}
 use Rattle.dw_op.proofs.EncodeLaws.{bare_at}
 use Rattle.dw_eval.specs.declared.error.EvalError.{EvalError}
-use Rattle.dw_eval.specs.declared.error.EvalError.TheVariants.{Fault, OutOfMemory}
+use Rattle.dw_eval.specs.declared.error.EvalError.TheVariants.{Fault}
 use Rattle.dw_eval.specs.declared.error.Kind.TheVariants.{StepLimit}
 use Rattle.dw_eval.specs.declared.place.Piece.{Piece}
 use Rattle.dw_eval.specs.declared.place.Place.{Place}
 use Rattle.dw_eval.specs.Context.{Context}
 use Rattle.dw_eval.specs.Describing.{bare_piece}
 use Rattle.dw_eval.specs.Location.{PlaceState, place_index, place_turn, place_start, place_reads, pieces_of, PlaceRuns, LocatesOver}
-use Rattle.dw_eval.specs.Runs.{Answered, Short}
 use Rattle.dw_eval.specs.Stepping.{StepsTo}
 use Rattle.dw_eval.proofs.PlaceSteps.{place_stays}
 use Rattle.dw_eval.proofs.Steps.{runs_more, answered_stop, answered_limit}

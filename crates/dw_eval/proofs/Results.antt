@@ -1,11 +1,8 @@
 -- Expressions and descriptions have exactly one answer.
-use Rattle.std.proofs.Common.{◌≡◌, ◌≤◌, ℕ, List, length, Result, arith}
-use Rattle.dw_op.specs.declared.op.Op.{Op}
-use Rattle.dw_op.specs.Ranges.{AllInRange}
-use Rattle.dw_eval.specs.Context.{Context}
-use Rattle.dw_eval.specs.Evaluation.{Evaluates, index_of, value_turn, value_start, top_of}
+use Rattle.std.proofs.Common.{length, arith}
+use Rattle.dw_eval.specs.Evaluation.{index_of, value_turn, value_start, top_of}
 use Rattle.dw_eval.specs.Location.{place_index, place_turn, place_start, pieces_of}
-use Rattle.dw_eval.specs.Laws.{HoldsOfOne, OneResult, OneLocation}
+use Rattle.dw_eval.specs.Laws.{OneResult, OneLocation}
 use Rattle.dw_eval.proofs.Effects.{value_stays}
 use Rattle.dw_eval.proofs.PlaceSteps.{place_stays}
 use Rattle.dw_eval.proofs.RunLaws.{one_answer}

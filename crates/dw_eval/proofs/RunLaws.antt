@@ -1,5 +1,5 @@
 -- A run has exactly one answer, whatever the machine.
-use Rattle.std.proofs.Common.{◌≡◌, ◌⊎◌, ℕ, zero, suc, ◌+◌, ◌-◌, ◌<◌, ◌≤◌, List, length, Option, Some, None, Result, Ok, Err, refl, sym, ◌∙◌, ap, subst, inl, inr, arith}
+use Rattle.std.proofs.Common.{◌≡◌, ℕ, zero, suc, ◌+◌, ◌-◌, ◌<◌, ◌≤◌, List, length, Option, Some, None, Result, Ok, Err, refl, sym, ◌∙◌, ap, subst, inl, inr, arith}
 use Rattle.std.specs.Prelude.{slice_get}
 use Rattle.std.proofs.lemmas.Option.{slice_get_past, slice_get_within, slice_get_cases}
 use Rattle.dw_op.specs.declared.op.Op.{Op}
@@ -7,7 +7,7 @@ use Rattle.dw_eval.specs.declared.error.EvalError.{EvalError}
 use Rattle.dw_eval.specs.declared.error.EvalError.TheVariants.{Fault}
 use Rattle.dw_eval.specs.declared.error.Kind.{Kind}
 use Rattle.dw_eval.specs.declared.error.Kind.TheVariants.{StepLimit}
-use Rattle.dw_eval.specs.Runs.{Runs, Ends, Stops, Expires, Answers}
+use Rattle.dw_eval.specs.Runs.{Runs, Answers}
 use Rattle.dw_eval.specs.Laws.{HoldsOfOne}
 
 module _ {S A : Type 0} (index : S → ℕ) (turn : Op → S → Result S Kind) (ops : List Op) (ending : S → Result A EvalError) where

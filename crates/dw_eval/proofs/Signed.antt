@@ -1,7 +1,7 @@
 -- Signed readings of numbers.
-use Rattle.std.proofs.Common.{◌≡◌, true, false, ℕ, zero, suc, ◌+◌, ◌-◌, ◌/◌, ◌%◌, ◌^◌, ◌<◌, ◌≤◌, ℤ, pos, negsuc, ◌-ℤ◌, ◌<ℤ◌, ◌≤ℤ◌, to_z, of_z, w32, w64, FitsSigned, unsigned_abs, refl, sym, ◌∙◌, ap, arith, rules}
-use Rattle.std.specs.Prelude.{min}
-use Rattle.std.specs.Int.{cast_signed, cast_unsigned, IsNonZero, int_shr}
+use Rattle.std.proofs.Common.{◌≡◌, Bool, true, false, ℕ, zero, suc, ◌%◌, ◌^◌, ◌<◌, ◌≤◌, ℤ, pos, negsuc, ◌<ℤ◌, ◌≤ℤ◌, to_z, of_z, w32, w64, FitsSigned, refl, sym, ◌∙◌, ap, arith}
+use Rattle.std.specs.Prelude.{min, if◌then◌else◌}
+use Rattle.std.specs.Int.{cast_signed, IsNonZero}
 use Rattle.std.proofs.Math.Facts.{sfits_to_z}
 use Rattle.std.specs.Int.Signed.{shr_z, mag, lt_z}
 use Rattle.std.proofs.lemmas.Int.{ints, to_z-of_z, of_z-to_z}
@@ -9,7 +9,7 @@ use Rattle.dw_num.specs.declared.target.Size.{Size}
 use Rattle.dw_num.specs.declared.target.Size.TheVariants.{Four, Eight}
 use Rattle.dw_num.specs.Target.{address_limit}
 use Rattle.dw_op.specs.OpSpells.{modulo}
-use Rattle.dw_eval.specs.Context.{signed, width}
+use Rattle.dw_eval.specs.Context.{signed}
 use Rattle.dw_eval.specs.Effect.{bit_count, shifted_signed}
 
 pub signed_whole : (size : Size) (n : ℕ) (r : ℤ) → size ≡ Eight → n < 2 ^ 64 → r ≡ cast_signed w64 n → to_z w64 (of_z w64 r) ≡ signed size n
@@ -75,7 +75,13 @@ half_mag x h = let f : FitsSigned w32 (to_z w32 x) = sfits_to_z {w = w32} {n = x
 whole_mag : (x : ℕ) → x < 2 ^ 64 → mag (to_z w64 x) < 18446744073709551616
 whole_mag x h = let f : FitsSigned w64 (to_z w64 x) = sfits_to_z {w = w64} {n = x} (record { fits = h }) in omega (arith, f.sfits)
 
-pub shifted_out : (size : Size) (s t : ℕ) → bit_count size ≤ t → signed size s <ℤ pos 0 → shifted_signed size s t ≡ negsuc 0
+below_zero : (z : ℤ) → lt_z z (pos 0) ≡ true → z <ℤ pos 0
+below_zero z e = grind (arith, ints)
+
+from_zero : (z : ℤ) → lt_z z (pos 0) ≡ false → pos 0 ≤ℤ z
+from_zero z e = grind (arith, ints)
+
+shifted_out : (size : Size) (s t : ℕ) → bit_count size ≤ t → signed size s <ℤ pos 0 → shifted_signed size s t ≡ negsuc 0
 unfolding signed
 shifted_out Four s t h w =
     let all : min t 32 ≡ 32 = omega arith in
@@ -84,7 +90,7 @@ shifted_out Eight s t h w =
     let all : min t 64 ≡ 64 = omega arith in
     ap (λ k. shr_z (to_z w64 (s % 18446744073709551616)) (2 ^ k)) all ∙ whole_out (to_z w64 (s % 18446744073709551616)) (whole_mag (s % 18446744073709551616) (omega arith)) w
 
-pub shifted_in : (size : Size) (s t : ℕ) → bit_count size ≤ t → pos 0 ≤ℤ signed size s → shifted_signed size s t ≡ pos 0
+shifted_in : (size : Size) (s t : ℕ) → bit_count size ≤ t → pos 0 ≤ℤ signed size s → shifted_signed size s t ≡ pos 0
 unfolding signed
 shifted_in Four s t h w =
     let all : min t 32 ≡ 32 = omega arith in
@@ -93,25 +99,11 @@ shifted_in Eight s t h w =
     let all : min t 64 ≡ 64 = omega arith in
     ap (λ k. shr_z (to_z w64 (s % 18446744073709551616)) (2 ^ k)) all ∙ whole_in (to_z w64 (s % 18446744073709551616)) (whole_mag (s % 18446744073709551616) (omega arith)) w
 
-pub shifted_out_gives : (size : Size) (s t r : ℕ) → bit_count size ≤ t → signed size s <ℤ pos 0 → r ≡ modulo (address_limit size) (negsuc 0) → r ≡ modulo (address_limit size) (shifted_signed size s t)
-shifted_out_gives size s t r h w is = is ∙ sym (ap (modulo (address_limit size)) (shifted_out size s t h w))
-
-zero_left : (size : Size) → 0 ≡ modulo (address_limit size) (pos 0)
-zero_left Four = refl
-zero_left Eight = refl
-
-pub shifted_in_gives : (size : Size) (s t : ℕ) → bit_count size ≤ t → pos 0 ≤ℤ signed size s → 0 ≡ modulo (address_limit size) (shifted_signed size s t)
-shifted_in_gives size s t h w = zero_left size ∙ sym (ap (modulo (address_limit size)) (shifted_in size s t h w))
-
 -- what a test of the sign tells
-pub below_zero : (r z : ℤ) → mag r < 9223372036854775808 → r ≡ z → lt_z (to_z w64 (of_z w64 r)) (pos 0) ≡ true → z <ℤ pos 0
-below_zero r z f e h =
-    let same : to_z w64 (of_z w64 r) ≡ r = to_z-of_z w64 r (record { sfits = f }) in
-    let test : lt_z z (pos 0) ≡ true = cc (same, e, h) in
-    grind (arith, ints)
+far_by : (size : Size) (s t : ℕ) (b : Bool) → bit_count size ≤ t → lt_z (signed size s) (pos 0) ≡ b → shifted_signed size s t ≡ (if b then negsuc 0 else pos 0)
+far_by size s t true h e = let z : ℤ = signed size s in let low : z <ℤ pos 0 = below_zero z e in shifted_out size s t h low
+far_by size s t false h e = let z : ℤ = signed size s in let high : pos 0 ≤ℤ z = from_zero z e in shifted_in size s t h high
 
-pub from_zero : (r z : ℤ) → mag r < 9223372036854775808 → r ≡ z → lt_z (to_z w64 (of_z w64 r)) (pos 0) ≡ false → pos 0 ≤ℤ z
-from_zero r z f e h =
-    let same : to_z w64 (of_z w64 r) ≡ r = to_z-of_z w64 r (record { sfits = f }) in
-    let test : lt_z z (pos 0) ≡ false = cc (same, e, h) in
-    grind (arith, ints)
+pub shifted_far : (size : Size) (s t r : ℕ) (z : ℤ) → bit_count size ≤ t → z ≡ signed size s → r ≡ modulo (address_limit size) (if lt_z z (pos 0) then negsuc 0 else pos 0) → r ≡ modulo (address_limit size) (shifted_signed size s t)
+shifted_far size s t r z h e is =
+    is ∙ (ap (λ x. modulo (address_limit size) (if lt_z x (pos 0) then negsuc 0 else pos 0)) e ∙ sym (ap (modulo (address_limit size)) (far_by size s t (lt_z (signed size s) (pos 0)) h refl)))

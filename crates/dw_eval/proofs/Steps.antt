@@ -1,5 +1,5 @@
 -- What one operation of the code tells of a run.
-use Rattle.std.proofs.Common.{◌≡◌, ◌⊎◌, ℕ, ◌+◌, ◌<◌, ◌≤◌, List, length, Option, Some, None, Result, Ok, Err, refl, sym, ◌∙◌, ap, subst, inl, inr, arith}
+use Rattle.std.proofs.Common.{◌≡◌, ℕ, ◌+◌, ◌<◌, List, length, Some, Result, Ok, Err, refl, sym, ◌∙◌, ap, subst, inl, inr, arith}
 use Rattle.std.specs.Prelude.{slice_get}
 use Rattle.std.proofs.Math.Numerals.{suc-eq-add-one}
 use Rattle.dw_num.specs.declared.target.Size.{Size}
@@ -11,8 +11,8 @@ use Rattle.dw_eval.specs.declared.error.EvalError.TheVariants.{Fault, OutOfMemor
 use Rattle.dw_eval.specs.declared.error.Kind.{Kind}
 use Rattle.dw_eval.specs.declared.error.Kind.TheVariants.{Device, StepLimit}
 use Rattle.dw_eval.specs.Context.{Context}
-use Rattle.dw_eval.specs.Evaluation.{State, led, value_turn}
-use Rattle.dw_eval.specs.Runs.{Runs, Answers, MayFail, Answered, Right, Short, Failed}
+use Rattle.dw_eval.specs.Evaluation.{led, value_turn}
+use Rattle.dw_eval.specs.Runs.{Runs, Answered, Right, Short, Failed}
 use Rattle.dw_eval.specs.declared.stack.Flow.{Flow}
 use Rattle.dw_eval.specs.declared.stack.Flow.TheVariants as flow
 use Rattle.dw_eval.specs.declared.stack.Stop.{Stop}

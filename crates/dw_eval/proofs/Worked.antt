@@ -1,15 +1,21 @@
 -- Worked effects and runs.
-use Rattle.std.proofs.Common.{◌≡◌, ℕ, zero, suc, ◌<◌, ◌≤◌, List, [], ◌∷◌, Option, Some, None, Ok, Err, refl, lit<, lit≤, inl, inr}
-use Rattle.dw_num.specs.declared.target.Target.{Target}
+use Rattle.std.proofs.Common.{◌≡◌, ℕ, zero, suc, List, [], ◌∷◌, Option, Some, None, Ok, Err, refl, lit<, lit≤, inl, inr}
 use Rattle.dw_num.specs.declared.target.Size.TheVariants.{Four, Eight}
 use Rattle.dw_num.specs.declared.target.Order.TheVariants.{Little}
 use Rattle.dw_op.specs.declared.op.Op.{Op}
-use Rattle.dw_op.specs.declared.op.Op.TheVariants.{Const, Div, Shl, Shra, Rot, Skip, Deref, Not, Minus, Mod, Pick, Bra, Ge, Abs}
+use Rattle.dw_op.specs.declared.op.Op.TheVariants.{Const, Div, Shl, Shra, Rot, Skip, Deref, Not, Minus, Pick, Bra, Ge, Abs, Reg, Drop, Nop, StackValue}
+use Rattle.dw_op.specs.declared.op.Op.TheVariants as op
 use Rattle.dw_eval.specs.declared.error.EvalError.TheVariants.{Fault}
-use Rattle.dw_eval.specs.declared.error.Kind.TheVariants.{DivideByZero, StepLimit, Unreadable, StackUnderflow}
+use Rattle.dw_eval.specs.declared.error.Kind.TheVariants.{DivideByZero, StepLimit, Unreadable, StackUnderflow, EmptyResult, MissingPiece}
 use Rattle.dw_eval.specs.Context.{Context, signed}
-use Rattle.dw_eval.specs.Effect.{Outcome, Next, Jump, Faults, effect}
-use Rattle.dw_eval.specs.Evaluation.{ValueRuns, Evaluates}
+use Rattle.dw_eval.specs.Effect.{Next, Jump, Faults, effect}
+use Rattle.dw_eval.specs.Evaluation.{State, ValueRuns, Evaluates}
+use Rattle.dw_eval.specs.Location.{PlaceState, place_turn, pieces_of, Located}
+use Rattle.dw_eval.specs.declared.place.Part.TheVariants as part
+use Rattle.dw_eval.specs.declared.place.Part.TheVariants.{Whole}
+use Rattle.dw_eval.specs.declared.place.Piece.{Piece}
+use Rattle.dw_eval.specs.declared.place.Place.{Place}
+use Rattle.dw_eval.specs.declared.place.Place.TheVariants.{Empty, Memory, Register, Value}
 
 abbrev nothing : Context
 nothing = record { target = record { size = Eight; order = Little }; register = λ r. None; byte = λ a. None; frame_base = None; cfa = None; object = None }
@@ -86,3 +92,77 @@ runs (suc n) = (record { index = 0; stack = [] }, Skip 0, runs n, refl, refl)
 
 limit : Evaluates loop nothing [] 1000 (Err (Fault StepLimit 0))
 limit = inr (inr (record { state = record { index = 0; stack = [] }; runs = runs 1000; inside = lit< tt; is = refl }))
+
+-- one step is enough for one operation, and none is not
+abbrev at : ℕ → List ℕ → State
+at i stack = record { index = i; stack = stack }
+
+one : Evaluates (Const 1 ∷ []) nothing [] 1 (Ok 1)
+one = inl (record { steps = 1; state = at 1 (1 ∷ []); few = lit≤ tt; runs = (at 0 [], Const 1, refl, refl, refl); at_end = refl; is = refl })
+
+no_step : Evaluates (Const 1 ∷ []) nothing [] 0 (Err (Fault StepLimit 0))
+no_step = inr (inr (record { state = at 0 []; runs = refl; inside = lit< tt; is = refl }))
+
+start : Evaluates [] nothing (5 ∷ []) 0 (Ok 5)
+start = inl (record { steps = 0; state = at 0 (5 ∷ []); few = lit≤ tt; runs = refl; at_end = refl; is = refl })
+
+nothing_at_all : Evaluates [] nothing [] 0 (Err (Fault EmptyResult 0))
+nothing_at_all = inl (record { steps = 0; state = at 0 []; few = lit≤ tt; runs = refl; at_end = refl; is = refl })
+
+by_zero : Evaluates (Const 8 ∷ Const 0 ∷ Div ∷ []) nothing [] 9 (Err (Fault DivideByZero 2))
+by_zero = inr (inl (record {
+  steps = 2;
+  state = at 2 (0 ∷ 8 ∷ []);
+  op = Div;
+  kind = DivideByZero;
+  few = lit< tt;
+  runs = (at 1 (8 ∷ []), Const 0, (at 0 [], Const 8, refl, refl, refl), refl, refl);
+  stands = refl;
+  faults = refl;
+  is = refl;
+}))
+
+-- ---- places
+
+abbrev in_place : ℕ → List ℕ → Option Place → List Piece → PlaceState
+in_place i stack pending pieces = record { index = i; stack = stack; pending = pending; pieces = pieces }
+
+-- a piece empties the stack
+memory_piece : place_turn nothing (op.Piece 2) (in_place 2 (1 ∷ 0 ∷ []) None []) ≡ Ok (in_place 3 [] None (record { place = Memory 1; part = part.Bytes 2 } ∷ []))
+memory_piece = refl
+
+empty_piece : place_turn nothing (op.Piece 3) (in_place 0 [] None []) ≡ Ok (in_place 1 [] None (record { place = Empty; part = part.Bytes 3 } ∷ []))
+empty_piece = refl
+
+-- behind a place: the stack is judged first, then the piece is missing
+second_place : place_turn nothing (Reg 3) (in_place 1 [] (Some (Register 0)) []) ≡ Err MissingPiece
+second_place = refl
+
+short : place_turn nothing Drop (in_place 1 [] (Some (Register 0)) []) ≡ Err StackUnderflow
+short = refl
+
+long : place_turn nothing Drop (in_place 2 (8 ∷ []) (Some (Register 0)) []) ≡ Err MissingPiece
+long = refl
+
+waits : place_turn nothing Nop (in_place 1 [] (Some (Register 0)) []) ≡ Ok (in_place 2 [] (Some (Register 0)) [])
+waits = refl
+
+value : Located (Const 1 ∷ StackValue ∷ []) nothing 9 (Ok (record { place = Value 1; part = Whole } ∷ []))
+value = inl (record {
+  steps = 2;
+  state = in_place 2 [] (Some (Value 1)) [];
+  few = lit≤ tt;
+  runs = (in_place 1 (1 ∷ []) None [], StackValue, (in_place 0 [] None [], Const 1, refl, refl, refl), refl, refl);
+  at_end = refl;
+  is = refl;
+})
+
+whole : Located [] nothing 0 (Ok (record { place = Empty; part = Whole } ∷ []))
+whole = inl (record { steps = 0; state = in_place 0 [] None []; few = lit≤ tt; runs = refl; at_end = refl; is = refl })
+
+-- nothing may be left behind pieces
+left : pieces_of 3 None (1 ∷ []) (record { place = Empty; part = part.Bytes 3 } ∷ []) ≡ Err (Fault MissingPiece 3)
+left = refl
+
+pending : pieces_of 3 (Some (Register 0)) [] (record { place = Empty; part = part.Bytes 3 } ∷ []) ≡ Err (Fault MissingPiece 3)
+pending = refl

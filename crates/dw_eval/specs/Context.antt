@@ -1,5 +1,5 @@
 -- What an expression is evaluated in: DWARF 5, 2.5.1.
-use Rattle.std.specs.Prelude.{ℕ, ◌+◌, ◌%◌, Option, Some, None, ℤ, nat_le, if◌then◌else◌}
+use Rattle.std.specs.Prelude.{ℕ, ◌+◌, ◌%◌, Option, None, ℤ, nat_le, if◌then◌else◌}
 use Rattle.std.specs.Int.{Width, w32, w64, cast_signed}
 use Rattle.dw_num.specs.declared.target.Size.{Size}
 use Rattle.dw_num.specs.declared.target.Size.TheVariants.{Four, Eight}

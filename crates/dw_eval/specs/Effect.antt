@@ -1,5 +1,5 @@
 -- What one operation does: DWARF 5, 2.5.1.
-use Rattle.std.specs.Prelude.{◌≡◌, ◌≤◌, ℕ, ◌+◌, ◌-◌, ◌*◌, ◌/◌, ◌%◌, ◌^◌, List, [], ◌∷◌, slice_get, Option, Some, None, ℤ, pos, ◌+ℤ◌, ◌-ℤ◌, Bool, true, false, not, nat_le, nat_eq, if◌then◌else◌, int_lt, int_le, int_div, unsigned_abs, bit_and, bit_or, bit_xor, min}
+use Rattle.std.specs.Prelude.{◌≡◌, ◌≤◌, ℕ, ◌+◌, ◌*◌, ◌/◌, ◌%◌, ◌^◌, List, [], ◌∷◌, slice_get, Option, Some, None, ℤ, pos, ◌+ℤ◌, ◌-ℤ◌, Bool, true, false, not, nat_le, nat_eq, if◌then◌else◌, int_lt, int_le, int_div, unsigned_abs, bit_and, bit_or, bit_xor, min}
 use Rattle.std.specs.Int.{int_shr}
 use Rattle.dw_num.specs.declared.target.Size.{Size}
 use Rattle.dw_num.specs.Target.{address_limit, byte_count}

@@ -1,8 +1,7 @@
 -- What holds of evaluations, for the layers above.
-use Rattle.std.specs.Prelude.{◌≡◌, ℕ, List, Result}
+use Rattle.std.specs.Prelude.{◌≡◌, ℕ, List}
 use Rattle.dw_op.specs.declared.op.Op.{Op}
 use Rattle.dw_op.specs.Ranges.{AllInRange}
-use Rattle.dw_eval.specs.declared.error.EvalError.{EvalError}
 use Rattle.dw_eval.specs.Context.{Context}
 use Rattle.dw_eval.specs.Evaluation.{Evaluates}
 use Rattle.dw_eval.specs.Location.{Located}

@@ -1,5 +1,5 @@
 -- A machine that goes through a list of operations: its runs, and what each of them answers.
-use Rattle.std.specs.Prelude.{◌≡◌, ◌⊎◌, ℕ, zero, suc, ◌<◌, ◌≤◌, List, length, slice_get, Option, Some, None, Result, Ok, Err}
+use Rattle.std.specs.Prelude.{◌≡◌, ◌⊎◌, ℕ, zero, suc, ◌<◌, ◌≤◌, List, length, slice_get, Some, Result, Ok, Err}
 use Rattle.dw_op.specs.declared.op.Op.{Op}
 use Rattle.dw_eval.specs.declared.error.EvalError.{EvalError}
 use Rattle.dw_eval.specs.declared.error.EvalError.TheVariants.{Fault, OutOfMemory}

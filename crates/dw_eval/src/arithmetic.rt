@@ -1,6 +1,6 @@
 //! Arithmetic on values: numbers modulo 2^N, where an address has N bits (2.5.1.4).
 
-ghost use Rattle.std.specs.Prelude.{◌≡◌, ℕ, ◌+◌, ◌-◌, ◌*◌, ◌%◌, ◌^◌, ◌<◌, pos, ◌+ℤ◌, ◌-ℤ◌, int_div, unsigned_abs};
+ghost use Rattle.std.specs.Prelude.{◌≡◌, ℕ, ◌+◌, ◌-◌, ◌*◌, ◌%◌, ◌^◌, ◌<◌, pos, ◌+ℤ◌, ◌-ℤ◌, int_div, int_lt, if◌then◌else◌, negsuc, unsigned_abs};
 ghost use Rattle.dw_num.specs.Target.{address_limit};
 ghost use Rattle.dw_op.specs.OpSpells.{modulo};
 ghost use Rattle.dw_eval.specs.Context.{signed};
@@ -75,7 +75,8 @@ pub(crate) fn quotient(s: u64, t: u64, size: Size) -> u64
     requires { 0 < t % address_limit size }
     ensures { result ≡ modulo (address_limit size) (int_div (signed size s) (signed size t)) }
 {
-    unsigned(signed(s, size).wrapping_div(signed(t, size)), size)
+    let divided = signed(s, size).wrapping_div(signed(t, size));
+    unsigned(divided, size)
 }
 
 pub(crate) fn magnitude(t: u64, size: Size) -> u64
@@ -116,6 +117,13 @@ pub(crate) fn shifted_right(s: u64, t: u64, size: Size) -> u64
     }
 }
 
+// What is left of a signed number whose bits are all shifted out.
+fn sign_bits(number: i64, size: Size) -> u64
+    ensures { result ≡ modulo (address_limit size) (if int_lt number (pos 0) then negsuc 0 else pos 0) }
+{
+    if number < 0 { unsigned(-1, size) } else { 0 }
+}
+
 /// A signed number shifted to the right by any number of bits.
 pub(crate) fn shifted_signed(s: u64, t: u64, size: Size) -> u64
     ensures { result ≡ modulo (address_limit size) (shifted_signed size s t) }
@@ -123,9 +131,7 @@ pub(crate) fn shifted_signed(s: u64, t: u64, size: Size) -> u64
     let number = signed(s, size);
     if t < bit_count(size) {
         unsigned(number >> t, size)
-    } else if number < 0 {
-        unsigned(-1, size)
     } else {
-        0
+        sign_bits(number, size)
     }
 }

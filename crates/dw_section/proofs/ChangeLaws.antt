@@ -1,5 +1,5 @@
 -- What changes among the rows of an FDE are the changes of the FDE.
-use Rattle.std.proofs.Common.{◌≡◌, ◌⊎◌, ℕ, zero, suc, ◌+◌, ◌-◌, ◌<◌, ◌≤◌, Bool, true, false, List, [], ◌∷◌, length, Option, Some, None, refl, sym, ap, subst, ◌∙◌, arith, inl, inr}
+use Rattle.std.proofs.Common.{◌≡◌, ℕ, zero, suc, ◌<◌, ◌≤◌, false, List, [], ◌∷◌, Option, Some, None, refl, sym, ap, subst, ◌∙◌, arith, inl, inr}
 use Rattle.std.specs.Prelude.{nat_le}
 use Rattle.std.proofs.lemmas.Bool.{cases_lt, le-leb}
 use Rattle.std.proofs.lemmas.Bool.Decides.{leb_tells}
@@ -23,7 +23,7 @@ use Rattle.dw_cfa.proofs.FaultLaws.{initial_leaves}
 use Rattle.dw_cfa.proofs.RunLaws.{run_halves, program_placed}
 use Rattle.dw_cfa.proofs.Counting.{one_count, counts_exists}
 use Rattle.dw_cfa.proofs.SameRows.{same_rows}
-use Rattle.dw_section.specs.Changes.{SameRules, Stays, Differs, StayFrom, HoldsAt, ChangesBehind, AreChanges, Before, Passed, Shows, Among}
+use Rattle.dw_section.specs.Changes.{Stays, Differs, StayFrom, HoldsAt, ChangesBehind, AreChanges, Before, Passed, Among}
 
 -- ---- the last row at an address
 

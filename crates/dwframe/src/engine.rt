@@ -4,6 +4,7 @@ ghost use Rattle.std.specs.Prelude.{◌≤◌};
 
 use crate::check::run_check;
 use crate::entries::run_entries;
+use crate::eval::run_eval;
 use crate::expr::run_expr;
 use crate::failure::Failure;
 use crate::files::Load;
@@ -22,6 +23,7 @@ fn run<'a, L: Load, W: Write>(
     match task {
         Task::Check { path } => run_check(alloc, target, path, files, out),
         Task::Entries { path } => run_entries(alloc, target, path, files, out),
+        Task::Eval(evaluation) => run_eval(alloc, target, &evaluation, files, out),
         Task::Expr { profile, block } => run_expr(alloc, target, profile, &block, out),
         Task::Rows { path } => run_rows(alloc, target, path, files, out),
     }
@@ -32,7 +34,7 @@ fn help<W: Write>(failure: &Failure<'_>, out: &mut W) -> bool {
     write!(out, "{failure}").is_ok() && out.flush().is_ok()
 }
 
-/// Runs the command and answers its exit status: 0 done, 2 a refusal, 3 wrong words, 4 a file or an output
+/// Runs the command and answers its exit status: 0 done, 2 a refusal or a fault, 3 wrong words, 4 a file or an output
 /// that fails, 5 want of memory. The answer goes to `out`, which is flushed, and a status from 2 on puts one
 /// line on `err`. The first word is the program's own name.
 pub fn engine<L: Load, W: Write, E: Write>(

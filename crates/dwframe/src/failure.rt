@@ -3,9 +3,11 @@
 ghost use Rattle.std.specs.Prelude.{◌≤◌};
 
 use crate::files::LoadError;
+use dw_eval::{EvalError, Kind};
 use dw_num::Refusal;
 use dw_op::DecodeError;
 use dw_section::SectionError;
+use dw_unwind::{DumpError, DumpFault};
 use std::alloc::AllocError;
 use thiserror::Error;
 
@@ -14,6 +16,11 @@ use thiserror::Error;
 pub enum Failure<'a> {
     #[error("refused: {} at {:#x}", .0.code.name(), .0.at)]
     Refused(Refusal),
+    #[error("refused: {} at line {}", .0.code.name(), .0.line)]
+    Dump(DumpFault),
+    /// What an expression ends with, and the operation's index.
+    #[error("fault: {} at {}", .0.name(), .1)]
+    Evaluation(Kind, usize),
     #[error("bad value for {0}")]
     BadValue(&'static str),
     #[error("cannot read {0}")]
@@ -51,6 +58,24 @@ impl From<DecodeError> for Failure<'_> {
     }
 }
 
+impl From<DumpError> for Failure<'_> {
+    fn from(error: DumpError) -> Self {
+        match error {
+            DumpError::Fault(fault) => Failure::Dump(fault),
+            DumpError::OutOfMemory => Failure::OutOfMemory,
+        }
+    }
+}
+
+impl From<EvalError> for Failure<'_> {
+    fn from(error: EvalError) -> Self {
+        match error {
+            EvalError::Fault { kind, index } => Failure::Evaluation(kind, index),
+            EvalError::OutOfMemory => Failure::OutOfMemory,
+        }
+    }
+}
+
 impl<'a> Failure<'a> {
     /// Why the file of this path has no bytes.
     pub fn from_load(path: &'a str, error: LoadError) -> Failure<'a> {
@@ -65,7 +90,7 @@ impl<'a> Failure<'a> {
         ensures { result ≤ 5 }
     {
         match self {
-            Failure::Refused(_) => 2,
+            Failure::Refused(_) | Failure::Dump(_) | Failure::Evaluation(..) => 2,
             Failure::BadValue(_) => 3,
             Failure::Words(error) if error.use_stderr() => 3,
             Failure::Words(_) => 0,

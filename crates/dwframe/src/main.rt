@@ -7,6 +7,7 @@
 mod check;
 mod engine;
 mod entries;
+mod eval;
 mod expr;
 mod failure;
 mod files;
@@ -51,6 +52,8 @@ fn main(rt: HostRuntime) -> ExitCode {
 
 #[cfg(test)]
 mod tests;
+#[cfg(test)]
+mod tests_eval;
 #[cfg(test)]
 mod tests_rows;
 #[cfg(test)]

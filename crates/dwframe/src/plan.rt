@@ -18,15 +18,32 @@ pub struct Job<'a> {
 pub enum Task<'a> {
     Check { path: &'a str },
     Entries { path: &'a str },
+    Eval(Evaluation<'a>),
     Expr { profile: Profile, block: Vec<u8> },
     Rows { path: &'a str },
 }
+
+/// An expression with what it is evaluated over.
+#[derive(Drop)]
+pub struct Evaluation<'a> {
+    pub steps: u64,
+    pub start: Option<u64>,
+    pub block: Vec<u8>,
+    pub dump: Option<&'a str>,
+}
+
+// How many steps are taken where the words do not say.
+const STEPS: u64 = 10_000;
 
 fn option<'a>(alloc: Global, name: &'a str) -> Arg<'a> {
     Arg::new(alloc, name)
         .long(name)
         .required(true)
         .action(ArgAction::Set)
+}
+
+fn choice<'a>(alloc: Global, name: &'a str) -> Arg<'a> {
+    Arg::new(alloc, name).long(name).action(ArgAction::Set)
 }
 
 fn operand<'a>(alloc: Global, name: &'a str) -> Arg<'a> {
@@ -47,6 +64,11 @@ fn flag<'a>(alloc: Global, name: &'a str) -> Arg<'a> {
 fn command<'a>(alloc: Global) -> Result<Command<'a>, AllocError> {
     let check = subcommand(alloc, "check")?.arg(operand(alloc, "FILE"))?;
     let entries = subcommand(alloc, "entries")?.arg(operand(alloc, "FILE"))?;
+    let eval = subcommand(alloc, "eval")?
+        .arg(choice(alloc, "steps"))?
+        .arg(choice(alloc, "start"))?
+        .arg(operand(alloc, "HEX"))?
+        .arg(Arg::new(alloc, "DUMP").action(ArgAction::Set))?;
     let expr = subcommand(alloc, "expr")?
         .arg(flag(alloc, "frame"))?
         .arg(operand(alloc, "HEX"))?;
@@ -55,6 +77,7 @@ fn command<'a>(alloc: Global) -> Result<Command<'a>, AllocError> {
         .subcommand_required(true)
         .subcommand(check)?
         .subcommand(entries)?
+        .subcommand(eval)?
         .subcommand(expr)?
         .subcommand(rows)
 }
@@ -89,13 +112,92 @@ fn file_of<'a>(matches: &ArgMatches<'a>) -> Result<&'a str, Failure<'a>> {
     matches.get_str("FILE").ok_or(Failure::BadValue("FILE"))
 }
 
-fn expr_task<'a>(alloc: Global, matches: &ArgMatches<'a>) -> Result<Task<'a>, Failure<'a>> {
-    let text = matches.get_str("HEX").ok_or(Failure::BadValue("HEX"))?;
-    let block = match hex::decode(alloc, text) {
-        Ok(block) => block,
-        Err(FromHexError::OutOfMemory) => return Err(Failure::OutOfMemory),
-        Err(_) => return Err(Failure::BadValue("HEX")),
+// The number of decimal digits, unless it passes 64 bits.
+fn decimal(text: &str) -> Option<u64> {
+    if text.is_empty() {
+        return None;
+    }
+    let mut number = 0u64;
+    for byte in text.bytes() {
+        if !byte.is_ascii_digit() {
+            return None;
+        }
+        number = number.checked_mul(10)?.checked_add(u64::from(byte - b'0'))?;
+    }
+    Some(number)
+}
+
+// The value of a hexadecimal digit of either case.
+fn digit(byte: u8) -> Option<u64> {
+    match byte {
+        b'0'..=b'9' => Some(u64::from(byte - b'0')),
+        b'a'..=b'f' => Some(u64::from(byte - b'a') + 10),
+        b'A'..=b'F' => Some(u64::from(byte - b'A') + 10),
+        _ => None,
+    }
+}
+
+// The number of `0x` and 1 to 16 hexadecimal digits, where it is an address of the target.
+fn address(text: &str, size: Size) -> Option<u64> {
+    let digits = text.strip_prefix("0x")?;
+    if digits.is_empty() || digits.len() > 16 {
+        return None;
+    }
+    let mut number = 0u64;
+    for byte in digits.bytes() {
+        number = number.checked_mul(16)?.checked_add(digit(byte)?)?;
+    }
+    if u128::from(number) < size.address_limit() {
+        Some(number)
+    } else {
+        None
+    }
+}
+
+fn steps_of<'a>(matches: &ArgMatches<'_>) -> Result<u64, Failure<'a>> {
+    match matches.get_str("steps") {
+        Some(text) => decimal(text).ok_or(Failure::BadValue("--steps")),
+        None => Ok(STEPS),
+    }
+}
+
+fn start_of<'a>(matches: &ArgMatches<'_>, size: Size) -> Result<Option<u64>, Failure<'a>> {
+    let Some(text) = matches.get_str("start") else {
+        return Ok(None);
     };
+    match address(text, size) {
+        Some(value) => Ok(Some(value)),
+        None => Err(Failure::BadValue("--start")),
+    }
+}
+
+fn block_of<'a>(alloc: Global, matches: &ArgMatches<'_>) -> Result<Vec<u8>, Failure<'a>> {
+    let text = matches.get_str("HEX").ok_or(Failure::BadValue("HEX"))?;
+    match hex::decode(alloc, text) {
+        Ok(block) => Ok(block),
+        Err(FromHexError::OutOfMemory) => Err(Failure::OutOfMemory),
+        Err(_) => Err(Failure::BadValue("HEX")),
+    }
+}
+
+fn eval_task<'a>(
+    alloc: Global,
+    matches: &ArgMatches<'a>,
+    size: Size,
+) -> Result<Task<'a>, Failure<'a>> {
+    let steps = steps_of(matches)?;
+    let start = start_of(matches, size)?;
+    let block = block_of(alloc, matches)?;
+    Ok(Task::Eval(Evaluation {
+        steps,
+        start,
+        block,
+        dump: matches.get_str("DUMP"),
+    }))
+}
+
+fn expr_task<'a>(alloc: Global, matches: &ArgMatches<'a>) -> Result<Task<'a>, Failure<'a>> {
+    let block = block_of(alloc, matches)?;
     let profile = if matches.get_flag("frame") {
         Profile::Frame
     } else {
@@ -105,7 +207,7 @@ fn expr_task<'a>(alloc: Global, matches: &ArgMatches<'a>) -> Result<Task<'a>, Fa
 }
 
 /// The run that the words ask for, before any file is read. The values are judged in the order `--size`,
-/// `--order`, `HEX`, whatever the order of the words.
+/// `--order`, `--steps`, `--start`, `HEX`, whatever the order of the words.
 pub fn plan<'a>(alloc: Global, words: &'a [String]) -> Result<Job<'a>, Failure<'a>> {
     let command = command(alloc)?;
     let matches = match command.try_get_matches_from(words) {
@@ -124,6 +226,7 @@ pub fn plan<'a>(alloc: Global, words: &'a [String]) -> Result<Job<'a>, Failure<'
         "entries" => Task::Entries {
             path: file_of(matches)?,
         },
+        "eval" => eval_task(alloc, matches, target.size)?,
         "rows" => Task::Rows {
             path: file_of(matches)?,
         },

@@ -10,6 +10,7 @@
 #![tactic(auto)]
 
 mod borrowing;
+mod evaluations;
 mod expressions;
 mod lookups;
 mod numbers;
@@ -58,6 +59,10 @@ fn over_worked_data(rt: &HostRuntime, call: &str) -> io::Result<()> {
         "none" => Ok(()),
         "borrowed" => borrowing::all(rt),
         "numbers" => numbers::all(rt),
+        "dumps" => evaluations::dumps(rt),
+        "registers" => evaluations::registers(rt),
+        "evaluate" => evaluations::evaluations(rt),
+        "locate" => evaluations::locations(rt),
         "decode" | "encode" | "ops" | "put_least" => expressions::over_worked_data(rt, call),
         _ => programs::over_worked_data(rt, call),
     }

@@ -159,7 +159,12 @@ fn each_lent(rt: &impl Calls, machine: &mut CieMachine<'_>) -> io::Result<()> {
 
 // The FDE's program is begun twice, so that what it changed is taken back.
 fn rows_behind(rt: &impl Calls, pair: Pair<'_>) -> io::Result<()> {
-    let Pair { cie, fde, begin, .. } = pair;
+    let Pair {
+        cie,
+        fde,
+        begin,
+        ..
+    } = pair;
     let mut machine = match CieMachine::new(rt.alloc(), cie, pair.factors, pair.target) {
         Ok(machine) => machine,
         Err(error) => return print_error(rt, error),

@@ -1,6 +1,5 @@
 use Rattle.std.proofs.Common.{◌≡◌, None, length}
-use Rattle.dw_cfa.specs.Runs.{run_rows}
-use Rattle.dw_cfa.specs.Stepping.{program_input, rows_before}
+use Rattle.dw_cfa.specs.Stepping.{rows_before}
 use Rattle.dw_cfa.proofs.collecting.run.Given as goal
 
 abbrev pub invariant-rows : goal.invariant-rows

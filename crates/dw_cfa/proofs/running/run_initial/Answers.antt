@@ -1,4 +1,4 @@
-use Rattle.std.proofs.Common.{◌≡◌, ◌∙◌, arith}
+use Rattle.std.proofs.Common.{◌∙◌, arith}
 use Rattle.dw_cfa.proofs.RunSteps.{initial_end}
 use Rattle.dw_cfa.proofs.running.run_initial.Goals as goal
 

@@ -1,12 +1,9 @@
-use Rattle.std.proofs.Common.{◌≡◌, ℕ, ◌<◌, ◌≤◌, Ok, Err, length, List, refl, sym, ap, ◌∙◌, subst, arith}
+use Rattle.std.proofs.Common.{◌≡◌, ℕ, sym, ap, ◌∙◌, subst}
 use Rattle.std.proofs.lemmas.Result.{err_from_is_err_and}
-use Rattle.dw_num.specs.Input.{Input, AreBytes}
-use Rattle.dw_num.specs.Target.{address_limit}
-use Rattle.dw_cfa.specs.declared.instr.Instr.{Instr}
+use Rattle.dw_num.specs.Input.{AreBytes}
 use Rattle.dw_cfa.specs.declared.running.RunError.{RunError}
-use Rattle.dw_cfa.specs.declared.running.RunError.TheVariants.{Refused}
 use Rattle.dw_cfa.specs.Steps.{InLimit}
-use Rattle.dw_cfa.specs.Runs.{RefusalIs, Ran, RanTo, rows_left, fails, run_error}
+use Rattle.dw_cfa.specs.Runs.{RefusalIs, rows_left, fails, run_error}
 use Rattle.dw_cfa.proofs.Placings.{reads}
 use Rattle.dw_cfa.proofs.RunSteps.{rows_stuck, rows_fault, rows_ran}
 use Rattle.dw_cfa.proofs.running.run_one.Goals as goal

@@ -1,8 +1,7 @@
-use Rattle.std.proofs.Common.{◌≡◌, ℕ, ◌<◌, ◌≤◌, Ok, Err, true, false, length, List, refl, sym, ap, ◌∙◌, subst, arith}
+use Rattle.std.proofs.Common.{◌≡◌, ℕ, Err, sym, ap, ◌∙◌, subst}
 use Rattle.std.proofs.lemmas.Result.{err_from_is_err_and}
-use Rattle.dw_num.specs.Input.{Input, AreBytes}
+use Rattle.dw_num.specs.Input.{AreBytes}
 use Rattle.dw_cfa.specs.declared.running.RunError.{RunError}
-use Rattle.dw_cfa.specs.Kept.{in_cie}
 use Rattle.dw_cfa.specs.States.{Held}
 use Rattle.dw_cfa.specs.Runs.{RefusalIs, initial_row, placed, run_error}
 use Rattle.dw_cfa.proofs.RunSteps.{initial_stuck, initial_not, initial_fault, initial_wrote}
@@ -23,10 +22,12 @@ returns-then-not-is_in_cie c =
 pub returns-in-Ok : goal.returns-in-Ok
 returns-in-Ok c =
     let i = c.args.cursor.now in
-    let h : AreBytes i.bytes = subst AreBytes c.rest.ensures c.are_bytes.ensures in
-    (initial_wrote c.args.factors i c.args.states.now.row (c.in_ok-instr.instr, c.read_instr.new.cursor) h c.requires c.in_ok-instr.ensures.exact c.write_rule.new.states.row
-    (sym c.if-not-is_in_cie.ensures) c.in-Ok.ensures.ok.0 (ap (λ (s : Held). s.row) c.in-Ok.ensures.ok.1),
-    ap (λ (s : Held). s.stack) c.in-Ok.ensures.ok.1, ap (λ (s : Held). s.first) c.in-Ok.ensures.ok.1)
+    let h : AreBytes i.bytes = subst AreBytes c.rest.ensures c.are_bytes.ensures in (
+      initial_wrote c.args.factors i c.args.states.now.row (c.in_ok-instr.instr, c.read_instr.new.cursor) h c.requires c.in_ok-instr.ensures.exact c.write_rule.new.states.row
+          (sym c.if-not-is_in_cie.ensures) c.in-Ok.ensures.ok.0 (ap (λ (s : Held). s.row) c.in-Ok.ensures.ok.1),
+      ap (λ (s : Held). s.stack) c.in-Ok.ensures.ok.1,
+      ap (λ (s : Held). s.first) c.in-Ok.ensures.ok.1,
+    )
 
 pub returns-in-Err : goal.returns-in-Err
 returns-in-Err c =

@@ -1,4 +1,4 @@
-use Rattle.std.proofs.Common.{◌∷◌, [], ◌++◌, List, reverse, ap, ◌∙◌}
+use Rattle.std.proofs.Common.{◌∷◌, [], ◌++◌, reverse, ap, ◌∙◌}
 use Rattle.dw_cfa.specs.declared.states.Undo.{Undo}
 use Rattle.dw_cfa.proofs.StatesLaws.{same_behind, taken_register, taken_mark, taken_none, taken_count, no_items}
 use Rattle.dw_cfa.proofs.states.take_back.Goals as goal

@@ -1,4 +1,4 @@
-use Rattle.std.proofs.Common.{◌≡◌, subst, sym, ◌∙◌}
+use Rattle.std.proofs.Common.{subst, ◌∙◌}
 use Rattle.std.proofs.lemmas.Result.{err_from_is_err_and}
 use Rattle.dw_cfa.specs.Runs.{Outcome, GivesRow}
 use Rattle.dw_cfa.proofs.RunSteps.{begun_refused, begun_ran}

@@ -1,9 +1,7 @@
-use Rattle.std.proofs.Common.{◌≡◌, ℕ, List, get_or, sym, ap, subst, ◌∙◌}
-use Rattle.std.specs.List.{AllByRecursion}
+use Rattle.std.proofs.Common.{sym, ap, subst, ◌∙◌}
 use Rattle.std.proofs.Math.Seq.{map-set_same}
 use Rattle.std.proofs.lemmas.Result.{IfOk-weaker, IfErr-weaker}
 use Rattle.dw_num.specs.Span.{span_of}
-use Rattle.dw_section.specs.declared.judging.Initial.{Initial}
 use Rattle.dw_section.specs.Initials.{place_of, IsInitial}
 use Rattle.dw_section.proofs.Judged.{refuses_by, all_get, all_set, with_machine, initial_stays, behind_found, behind_broken}
 use Rattle.dw_section.proofs.judging.run_behind.Goals as goal

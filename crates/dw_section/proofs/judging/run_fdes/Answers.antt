@@ -29,9 +29,12 @@ loop-header-preserved c =
     let front = map head_in (take c.loop-header.header-index c.args.headers.now) in
     let h = head_in c.header-item.result in
     let found = c.in_ok-lacks.ensures.found hs c.loop-header.invariant.3 in
-    rw (front_more head_in c.args.headers.now c.loop-header.header-index c.header-item.result c.loop-header-test.true c.header-item.is, c.or_place-lacking.ensures, c.entry_at.ensures)
-    (all_push (FdeRuns target hs) front h c.loop-header.invariant.0 found.0, lacking_more target hs front h c.loop-header.lacking c.in_ok-lacks.lacks c.loop-header.invariant.1 found.1,
-    c.in_ok-lacks.ensures.places ∙ c.loop-header.invariant.2, c.in_ok-lacks.ensures.each hs c.loop-header.invariant.3)
+    rw (front_more head_in c.args.headers.now c.loop-header.header-index c.header-item.result c.loop-header-test.true c.header-item.is, c.or_place-lacking.ensures, c.entry_at.ensures) (
+      all_push (FdeRuns target hs) front h c.loop-header.invariant.0 found.0,
+      lacking_more target hs front h c.loop-header.lacking c.in_ok-lacks.lacks c.loop-header.invariant.1 found.1,
+      c.in_ok-lacks.ensures.places ∙ c.loop-header.invariant.2,
+      c.in_ok-lacks.ensures.each hs c.loop-header.invariant.3,
+    )
 
 pub returns-in_err-lacks-clause-each : goal.returns-in_err-lacks-clause-each
 returns-in_err-lacks-clause-each c = c.judge.ensures.each (map head_in c.args.headers.now) c.loop-header.invariant.3

@@ -1,4 +1,4 @@
-use Rattle.std.proofs.Common.{◌+◌, ◌<◌, arith, sym}
+use Rattle.std.proofs.Common.{arith}
 use Rattle.dw_cfa.proofs.StatesLaws.{depth_is, mark_held, mark_count}
 use Rattle.dw_cfa.proofs.states.States.remember.Goals as goal
 

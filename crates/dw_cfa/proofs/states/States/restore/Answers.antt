@@ -1,4 +1,4 @@
-use Rattle.std.proofs.Common.{◌≡◌, reverse, Option, refl, sym, subst}
+use Rattle.std.proofs.Common.{reverse, Option, refl, subst}
 use Rattle.dw_cfa.specs.declared.rule.CfaRule.{CfaRule}
 use Rattle.dw_cfa.specs.States.{held, TakenBack}
 use Rattle.dw_cfa.proofs.StatesLaws.{restored_count, restored, restored_none}

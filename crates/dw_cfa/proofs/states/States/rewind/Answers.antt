@@ -1,4 +1,4 @@
-use Rattle.std.proofs.Common.{reverse, sym, ap, subst, ◌∙◌}
+use Rattle.std.proofs.Common.{ap, ◌∙◌}
 use Rattle.dw_cfa.specs.Rows.{with_cfa}
 use Rattle.dw_cfa.specs.declared.rule.CfaRule.{CfaRule}
 use Rattle.dw_cfa.proofs.StatesLaws.{begun_count, rewound}

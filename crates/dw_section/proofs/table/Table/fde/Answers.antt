@@ -1,4 +1,4 @@
-use Rattle.std.proofs.Common.{◌≡◌, length, map, get_or, ap, sym, ◌∙◌, arith}
+use Rattle.std.proofs.Common.{length, map, get_or, ap, sym, ◌∙◌, arith}
 use Rattle.dw_section.specs.Lookup.{fde_in}
 use Rattle.dw_section.proofs.Lookups.{are_fdes, one_fdes, listed_place, listed_fde}
 use Rattle.dw_section.proofs.table.Table.fde.Goals as goal

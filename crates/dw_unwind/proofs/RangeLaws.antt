@@ -1,0 +1,244 @@
+-- Ranges that rise, that are apart, and that meet.
+use Rattle.std.proofs.Common.{◌≡◌, ◌⊎◌, ℕ, zero, suc, ◌+◌, ◌-◌, ◌<◌, ◌≤◌, Bool, true, false, cond, List, [], ◌∷◌, length, get_or, Option, Some, None, refl, sym, ap, ◌∙◌, arith, add-one, add-zero, inl, inr}
+use Rattle.std.specs.List.{AllByRecursion, sum_by}
+use Rattle.std.specs.List.Sorted.{IsPermutation, IsNonDecreasingBy}
+use Rattle.std.proofs.lemmas.Bool.{cases_lt}
+use Rattle.std.proofs.lemmas.Bool.Decides.{leb_tells}
+use Rattle.std.proofs.lemmas.List.Sorted.{sum_by-IsPermutation, IsPermutation-sym, All-permutation}
+use Rattle.std.proofs.lemmas.List.{get_or_default}
+use Rattle.std.proofs.lemmas.List.Elements.{recursion_from_All, All-from_recursion}
+use Rattle.std.specs.Bool.{MatchBool}
+use Rattle.std.proofs.lemmas.List.Sums.{sum_by-cons}
+use Rattle.std.proofs.lemmas.Option.{slice_get-get_or}
+use Rattle.dw_eval.specs.Bytes.{with_byte, bytes_from}
+use Rattle.dw_unwind.specs.declared.ranges.Range.{Range}
+use Rattle.dw_unwind.specs.Ranges.{end_of, covers, byte_of, byte_among, cover_count, AreApart, Meet, Rise, IsWithin}
+
+-- ---- whether a range covers an address
+
+pub covers_tells : (a : ℕ) (r : Range) → ((covers a r ≡ true) × (r.address ≤ a) × (a < end_of r)) ⊎ ((covers a r ≡ false) × ((a < r.address) ⊎ (end_of r ≤ a)))
+covers_tells a r = elim (leb_tells r.address a) [
+  | inl low ↦ elim (leb_tells (suc a) (end_of r)) [
+    | inl high ↦ inl (rw (low.0, high.0) refl, low.1, omega (arith, high.1))
+    | inr high ↦ inr (rw (low.0, high.0) refl, inr (omega (arith, high.1)))
+  ]
+  | inr low ↦ inr (rw (low.0) refl, inl low.1)
+]
+
+count_of : (a : ℕ) (r : Range) (rs : List Range) → cover_count a (r ∷ rs) ≡ cond (covers a r) 1 0 + cover_count a rs
+count_of a r rs = sum_by-cons (λ (q : Range). cond (covers a q) 1 0) r rs
+
+pub count_yes : (a : ℕ) (r : Range) (rs : List Range) → covers a r ≡ true → cover_count a (r ∷ rs) ≡ 1 + cover_count a rs
+count_yes a r rs is = count_of a r rs ∙ rw is refl
+
+pub count_no : (a : ℕ) (r : Range) (rs : List Range) → covers a r ≡ false → cover_count a (r ∷ rs) ≡ cover_count a rs
+count_no a r rs is = count_of a r rs ∙ rw is (omega arith)
+
+count_behind : (a : ℕ) (rs : List Range) → AllByRecursion (λ q. a < q.address) rs → cover_count a rs ≡ 0
+count_behind a [] h = refl
+count_behind a (r ∷ rs) h = elim (covers_tells a r) [
+  | inl held ↦ absurd (omega (arith, h.0, held.1))
+  | inr off ↦ count_no a r rs off.0 ∙ count_behind a rs h.1
+]
+
+all_from : (low high : ℕ) (rs : List Range) → low ≤ high → AllByRecursion (λ q. high ≤ q.address) rs → AllByRecursion (λ q. low ≤ q.address) rs
+all_from low high [] le h = tt
+all_from low high (r ∷ rs) le h = (omega (arith, h.0), all_from low high rs le h.1)
+
+all_past : (a end : ℕ) (rs : List Range) → a < end → AllByRecursion (λ q. end ≤ q.address) rs → AllByRecursion (λ q. a < q.address) rs
+all_past a end [] lt h = tt
+all_past a end (r ∷ rs) lt h = (omega (arith, h.0), all_past a end rs lt h.1)
+
+-- ---- rising ranges are apart
+
+pub rise_apart : (rs : List Range) → Rise rs → AreApart rs
+rise_apart [] h a = omega arith
+rise_apart (r ∷ rs) h a = elim (covers_tells a r) [
+  | inl held ↦ let none = count_behind a rs (all_past a (end_of r) rs held.2 h.0) in let all = count_yes a r rs held.0 in omega arith
+  | inr off ↦ let rest = rise_apart rs h.1 a in let all = count_no a r rs off.0 in omega arith
+]
+
+pub rise_from : (rs : List Range) → ((k : ℕ) (d : Range) → k + 1 < length rs → end_of (get_or rs k d) ≤ (get_or rs (k + 1) d).address) → Rise rs
+rise_from [] h = tt
+rise_from (r ∷ []) h = (tt, tt)
+rise_from (r ∷ q ∷ rs) h =
+    let next : end_of r ≤ q.address = h 0 r (omega arith) in
+    let rest = rise_from (q ∷ rs) (λ k d lt. rw add-one (rw add-one at (h (suc k) d (omega arith)))) in
+    ((next, all_from (end_of r) (end_of q) rs (omega arith) rest.0), rest)
+
+-- ---- neighbours that meet
+
+counts_two : (a : ℕ) (rs : List Range) (k : ℕ) (d : Range) → suc k < length rs → covers a (get_or rs k d) ≡ true → covers a (get_or rs (suc k) d) ≡ true → 1 < cover_count a rs
+counts_two a [] k d lt e f = absurd (omega arith)
+counts_two a (r ∷ []) k d lt e f = absurd (omega arith)
+counts_two a (r ∷ q ∷ rs) zero d lt e f = let one = count_yes a r (q ∷ rs) e in let two = count_yes a q rs f in omega arith
+counts_two a (r ∷ q ∷ rs) (suc k) d lt e f = let rest = counts_two a (q ∷ rs) k d (omega arith) e f in let all = count_of a r (q ∷ rs) in omega arith
+
+all_at : (P : Range → Type 0) (rs : List Range) (k : ℕ) (d : Range) → AllByRecursion P rs → k < length rs → P (get_or rs k d)
+all_at P [] k d h lt = absurd (omega arith)
+all_at P (r ∷ rs) zero d h lt = h.0
+all_at P (r ∷ rs) (suc k) d h lt = all_at P rs k d h.1 (omega arith)
+
+covered : (a : ℕ) (r : Range) → r.address ≤ a → a < end_of r → covers a r ≡ true
+covered a r low high = elim (covers_tells a r) [
+  | inl held ↦ held.0
+  | inr off ↦ elim off.1 [ inl p ↦ absurd (omega arith) | inr p ↦ absurd (omega arith) ]
+]
+
+pub meet_at : (rs : List Range) (k : ℕ) (d : Range) → AllByRecursion (λ (r : Range). 0 < r.len) rs → IsNonDecreasingBy (λ (r : Range). r.address) rs → suc k < length rs → (get_or rs (suc k) d).address < end_of (get_or rs k d) → Meet rs
+meet_at rs k d some up lt below =
+    let a = (get_or rs (suc k) d).address in
+    let low : (get_or rs k d).address ≤ a = up k (suc k) d (omega arith) lt in
+    let len = all_at (λ (r : Range). 0 < r.len) rs (suc k) d some lt in
+    (a, counts_two a rs k d lt (covered a (get_or rs k d) low below) (covered a (get_or rs (suc k) d) (omega arith) (omega arith)))
+
+-- ranges that are apart and in order rise
+pub apart_rise : (rs : List Range) → AllByRecursion (λ (r : Range). 0 < r.len) rs → IsNonDecreasingBy (λ (r : Range). r.address) rs → AreApart rs → Rise rs
+apart_rise rs some up apart = rise_from rs (λ k d lt. elim (cases_lt (get_or rs (k + 1) d).address (end_of (get_or rs k d))) [
+  | inl below ↦ let meet = meet_at rs k d some up (omega arith) (rw add-one at below) in let one = apart meet.0 in absurd (omega (arith, meet.1))
+  | inr over ↦ over
+])
+
+-- ---- the order of ranges is no matter
+
+pub apart_permuted : (xs ys : List Range) → IsPermutation xs ys → AreApart xs → AreApart ys
+apart_permuted xs ys p apart a = let same = sum_by-IsPermutation (λ (q : Range). cond (covers a q) 1 0) xs ys p in let one = apart a in omega arith
+
+pub meet_permuted : (xs ys : List Range) → IsPermutation xs ys → Meet ys → Meet xs
+meet_permuted xs ys p meet = (meet.0, let same = sum_by-IsPermutation (λ (q : Range). cond (covers meet.0 q) 1 0) xs ys p in omega (arith, meet.1))
+
+coded : Option ℕ → ℕ
+coded None = 0
+coded (Some b) = suc b
+
+coded_same : (x y : Option ℕ) → coded x ≡ coded y → x ≡ y
+unfolding coded
+coded_same None None e = refl
+coded_same None (Some b) e = absurd (omega arith)
+coded_same (Some b) None e = absurd (omega arith)
+coded_same (Some b) (Some c) e = ap Some (omega arith)
+
+weight : List ℕ → ℕ → Range → ℕ
+weight bytes a r = cond (covers a r) (coded (byte_of bytes a r)) 0
+
+no_weight : (bytes : List ℕ) (a : ℕ) (rs : List Range) → cover_count a rs ≡ 0 → sum_by (weight bytes a) rs ≡ 0
+unfolding weight
+no_weight bytes a [] h = refl
+no_weight bytes a (r ∷ rs) h = elim (covers_tells a r) [
+  | inl held ↦ let one = count_yes a r rs held.0 in absurd (omega arith)
+  | inr off ↦ let none = count_no a r rs off.0 in let rest = no_weight bytes a rs (omega arith) in sum_by-cons (weight bytes a) r rs ∙ rw (off.0) (omega arith)
+]
+
+held_weight : (bytes : List ℕ) (a : ℕ) (rs : List Range) → cover_count a rs ≤ 1 → sum_by (weight bytes a) rs ≡ coded (byte_among bytes a rs)
+unfolding weight coded
+held_weight bytes a [] h = refl
+held_weight bytes a (r ∷ rs) h = elim (covers_tells a r) [
+  | inl held ↦
+      let one = count_yes a r rs held.0 in
+      let none = no_weight bytes a rs (omega arith) in
+      sum_by-cons (weight bytes a) r rs ∙ rw (held.0) (omega arith)
+  | inr off ↦ let none = count_no a r rs off.0 in let rest = held_weight bytes a rs (omega arith) in sum_by-cons (weight bytes a) r rs ∙ rw (off.0) (omega arith)
+]
+
+pub byte_permuted : (bytes : List ℕ) (a : ℕ) (xs ys : List Range) → IsPermutation xs ys → AreApart xs → byte_among bytes a ys ≡ byte_among bytes a xs
+byte_permuted bytes a xs ys p apart =
+    coded_same (byte_among bytes a ys) (byte_among bytes a xs)
+    (sym (held_weight bytes a ys (apart_permuted xs ys p apart a)) ∙ sum_by-IsPermutation (weight bytes a) xs ys p ∙ held_weight bytes a xs (apart a))
+
+pub all_permuted : (P : Range → Type 0) (xs ys : List Range) → IsPermutation xs ys → AllByRecursion P xs → AllByRecursion P ys
+all_permuted P xs ys p h = recursion_from_All P ys (All-permutation P xs ys p (All-from_recursion P xs h))
+
+-- ends that rise in order or not tell whether ranges are apart
+pub sorted_tells : (xs ys : List Range) (rise : Bool) → AllByRecursion (λ (r : Range). 0 < r.len) xs → IsPermutation xs ys → IsNonDecreasingBy (λ (r : Range). r.address) ys
+    → MatchBool rise ((k : ℕ) (d : Range) → k + 1 < length ys → end_of (get_or ys k d) ≤ (get_or ys (k + 1) d).address) ((k : ℕ) × (k + 1 < length ys) × ((d : Range) → (get_or ys (k + 1) d).address < end_of (get_or ys k d)))
+    → MatchBool rise (AreApart xs) (Meet xs)
+sorted_tells xs ys true some p up h = apart_permuted ys xs (IsPermutation-sym xs ys p) (rise_apart ys (rise_from ys h))
+sorted_tells xs [] false some p up h = absurd (omega (arith, h.1))
+sorted_tells xs (y ∷ ys) false some p up h = meet_permuted xs (y ∷ ys) p (meet_at (y ∷ ys) h.0 y (all_permuted (λ (r : Range). 0 < r.len) xs (y ∷ ys) p some) up (omega (arith, h.1)) (rw add-one at (h.2 y)))
+
+-- what is read at places of a list, whatever stands past its end
+pub neighbours_at : (rs : List Range) (i : ℕ) (d e : Range) → 1 ≤ i → i < length rs → (get_or rs i e).address < end_of (get_or rs (i - 1) e) → (get_or rs (i - 1 + 1) d).address < end_of (get_or rs (i - 1) d)
+neighbours_at rs i d e low lt below =
+    let same : i - 1 + 1 ≡ i = omega arith in
+    let here = get_or_default rs i d e lt in
+    let before = get_or_default rs (i - 1) d e (omega arith) in
+    rw (same, here, before) below
+
+-- ---- the byte at an address, by the last range that begins at or below it
+
+begins_rise : (rs : List Range) → Rise rs → IsNonDecreasingBy (λ (r : Range). r.address) rs
+begins_rise [] h i j d le lt = absurd (omega arith)
+begins_rise (r ∷ rs) h zero zero d le lt = omega arith
+begins_rise (r ∷ rs) h zero (suc j) d le lt = let past = all_at (λ (q : Range). end_of r ≤ q.address) rs j d h.0 (omega arith) in omega arith
+begins_rise (r ∷ rs) h (suc i) zero d le lt = absurd (omega arith)
+begins_rise (r ∷ rs) h (suc i) (suc j) d le lt = begins_rise rs h.1 i j d (omega arith) (omega arith)
+
+pub rising_begins : (rs : List Range) → Rise rs → IsNonDecreasingBy (λ (r : Range). r.address) rs
+rising_begins rs h = begins_rise rs h
+
+uncovered : (a : ℕ) (r : Range) → (a < r.address) ⊎ (end_of r ≤ a) → covers a r ≡ false
+uncovered a r h = elim (covers_tells a r) [
+  | inl held ↦ elim h [ inl p ↦ absurd (omega (arith, held.1)) | inr p ↦ absurd (omega (arith, held.2)) ]
+  | inr off ↦ off.0
+]
+
+pub none_begun : (bytes : List ℕ) (a : ℕ) (rs : List Range) → ((k : ℕ) (d : Range) → k < length rs → a < (get_or rs k d).address) → byte_among bytes a rs ≡ None
+none_begun bytes a [] h = refl
+none_begun bytes a (r ∷ rs) h = rw (uncovered a r (inl (h 0 r (omega arith)))) (none_begun bytes a rs (λ k d lt. h (suc k) d (omega arith)))
+
+pub byte_found : (bytes : List ℕ) (a : ℕ) (rs : List Range) (i : ℕ) (d : Range) → Rise rs → i < length rs → (get_or rs i d).address ≤ a → a < end_of (get_or rs i d) → byte_among bytes a rs ≡ byte_of bytes a (get_or rs i d)
+byte_found bytes a [] i d h lt low high = absurd (omega arith)
+byte_found bytes a (r ∷ rs) zero d h lt low high = rw (covered a r low high) refl
+byte_found bytes a (r ∷ rs) (suc i) d h lt low high =
+    let past = all_at (λ (q : Range). end_of r ≤ q.address) rs i d h.0 (omega arith) in
+    rw (uncovered a r (inr (omega arith))) (byte_found bytes a rs i d h.1 (omega arith) low high)
+
+pub byte_missing : (bytes : List ℕ) (a : ℕ) (rs : List Range) (i : ℕ) (d : Range) → Rise rs → i < length rs → (get_or rs i d).address ≤ a → end_of (get_or rs i d) ≤ a
+    → ((k : ℕ) (e : Range) → i < k → k < length rs → a < (get_or rs k e).address) → byte_among bytes a rs ≡ None
+byte_missing bytes a [] i d h lt low high above = absurd (omega arith)
+byte_missing bytes a (r ∷ rs) zero d h lt low high above = rw (uncovered a r (inr high)) (none_begun bytes a rs (λ k e l. above (suc k) e (omega arith) (omega arith)))
+byte_missing bytes a (r ∷ rs) (suc i) d h lt low high above =
+    let past = all_at (λ (q : Range). end_of r ≤ q.address) rs i d h.0 (omega arith) in
+    rw (uncovered a r (inr (omega arith))) (byte_missing bytes a rs i d h.1 (omega arith) low high (λ k e l m. above (suc k) e (omega arith) (omega arith)))
+
+pub range_at : (P : Range → Type 0) (rs : List Range) (k : ℕ) (d : Range) → AllByRecursion P rs → k < length rs → P (get_or rs k d)
+range_at P rs k d h lt = all_at P rs k d h lt
+
+-- an address past all of them has no byte
+pub byte_past : (bytes : List ℕ) (a limit : ℕ) (rs : List Range) → AllByRecursion (λ (r : Range). end_of r ≤ limit) rs → limit ≤ a → byte_among bytes a rs ≡ None
+byte_past bytes a limit [] h le = refl
+byte_past bytes a limit (r ∷ rs) h le = rw (uncovered a r (inr (omega (arith, h.0)))) (byte_past bytes a limit rs h.1 le)
+
+pub have_bytes : (limit room : ℕ) (rs : List Range) → AllByRecursion (IsWithin limit room) rs → AllByRecursion (λ (r : Range). 0 < r.len) rs
+have_bytes limit room [] h = tt
+have_bytes limit room (r ∷ rs) h = (h.0.some, have_bytes limit room rs h.1)
+
+pub end_below : (limit room : ℕ) (rs : List Range) → AllByRecursion (IsWithin limit room) rs → AllByRecursion (λ (r : Range). end_of r ≤ limit) rs
+end_below limit room [] h = tt
+end_below limit room (r ∷ rs) h = (h.0.addresses, end_below limit room rs h.1)
+
+pub byte_here : (limit : ℕ) (bytes : List ℕ) (a : ℕ) (rs : List Range) (i : ℕ) (d : Range) → Rise rs → AllByRecursion (IsWithin limit (length bytes)) rs → i < length rs → (get_or rs i d).address ≤ a → a < end_of (get_or rs i d)
+    → Some (get_or bytes ((get_or rs i d).place + (a - (get_or rs i d).address)) 0) ≡ byte_among bytes a rs
+byte_here limit bytes a rs i d h within lt low high =
+    let places = (all_at (IsWithin limit (length bytes)) rs i d within lt).places in
+    sym (byte_found bytes a rs i d h lt low high ∙ slice_get-get_or bytes ((get_or rs i d).place + (a - (get_or rs i d).address)) 0 (omega arith))
+
+-- ---- bytes in a row
+
+with_none : (o : Option ℕ) → with_byte o None ≡ None
+with_none None = refl
+with_none (Some b) = refl
+
+pub bytes_missing : (byte : ℕ → Option ℕ) (address n k : ℕ) → k < n → byte (address + k) ≡ None → bytes_from byte address n ≡ None
+bytes_missing byte address zero k lt none = absurd (omega arith)
+bytes_missing byte address (suc n) zero lt none = ap (λ o. with_byte o (bytes_from byte (address + 1) n)) (rw add-zero at none)
+bytes_missing byte address (suc n) (suc k) lt none =
+    let same : address + suc k ≡ address + 1 + k = omega arith in
+    rw (bytes_missing byte (address + 1) n k (omega arith) (rw same at none)) (with_none (byte address))
+
+pub bytes_all : (byte : ℕ → Option ℕ) (address : ℕ) (buffer : List ℕ) → ((k : ℕ) → k < length buffer → byte (address + k) ≡ Some (get_or buffer k 0)) → bytes_from byte address (length buffer) ≡ Some buffer
+bytes_all byte address [] h = refl
+bytes_all byte address (b ∷ bs) h =
+    let first = rw add-zero at (h 0 (omega arith)) in
+    let rest = bytes_all byte (address + 1) bs (λ k lt. let same : address + 1 + k ≡ address + suc k = omega arith in rw same (h (suc k) (omega arith))) in
+    rw (first, rest) refl

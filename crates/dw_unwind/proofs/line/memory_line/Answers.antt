@@ -1,0 +1,15 @@
+use Rattle.std.proofs.Common.{subst, sym}
+use Rattle.dw_unwind.specs.Spelling.{HexPairs}
+use Rattle.dw_unwind.proofs.Words.{digits_lack_space, memory_parts}
+use Rattle.dw_unwind.proofs.line.memory_line.Goals as goal
+
+pub returns-in_default : goal.returns-in_default
+returns-in_default c = λ v bytes said. c.in_default.ensures v said.1 (said.0, said.2, said.4)
+
+pub returns-in-None : goal.returns-in-None
+returns-in-None c = λ v bytes said.
+    let mine = c.in-Some.ensures in
+    let parts = memory_parts c.args.line.now mine.0 c.in-Some.text.now (digits_lack_space 16 0 c.in-Some.start mine.0 mine.1.number) mine.2 v said.1 (said.0, said.2, said.4) in
+    let told = c.in_ok-bytes.ensures {u = tt} in
+    let none = rw c.in-None.is at told in
+    none bytes (subst (HexPairs bytes) (sym parts.behind) said.3)

@@ -1,0 +1,24 @@
+use Rattle.std.proofs.Common.{◌∷◌, sym, ◌∙◌, subst}
+use Rattle.std.specs.Prelude.{codes}
+use Rattle.std.proofs.lemmas.List.{append_cancel_left}
+use Rattle.dw_unwind.specs.Spelling.{Hexadecimal}
+use Rattle.dw_unwind.proofs.Words.{digits_lack_space, register_parts}
+use Rattle.dw_unwind.proofs.line.register_line.Goals as goal
+
+pub returns-in_err-name : goal.returns-in_err-name
+returns-in_err-name c = rw c.from_residual.ensures (λ r v said. c.in_err-name.ensures said.0 (48 ∷ 120 ∷ said.1) (digits_lack_space 10 0 r said.0 said.2.number) said.4)
+
+pub returns-in_err-digits : goal.returns-in_err-digits
+returns-in_err-digits c = rw c.from_residual-in_err-digits.ensures (λ r v said.
+    let parts = register_parts c.args.line.now c.in_ok-name.name.now c.in_ok-name.text.now c.in_ok-name.ensures.0 c.in_ok-name.ensures.1 r v said in
+    c.in_err-digits.ensures parts.digits parts.behind)
+
+pub returns-in_err-register : goal.returns-in_err-register
+returns-in_err-register c = rw c.from_residual-in_err-register.ensures (λ r v said.
+    let parts = register_parts c.args.line.now c.in_ok-name.name.now c.in_ok-name.text.now c.in_ok-name.ensures.0 c.in_ok-name.ensures.1 r v said in
+    c.in_err-register.ensures r parts.is_name)
+
+pub returns-in_err-value : goal.returns-in_err-value
+returns-in_err-value c = rw c.from_residual-in_err-value.ensures (λ r v said.
+    let parts = register_parts c.args.line.now c.in_ok-name.name.now c.in_ok-name.text.now c.in_ok-name.ensures.0 c.in_ok-name.ensures.1 r v said in
+    c.in_err-value.ensures v (subst (Hexadecimal v) (append_cancel_left (codes "0x") _ _ (sym parts.behind ∙ c.in_ok-digits.ensures)) parts.is_value))

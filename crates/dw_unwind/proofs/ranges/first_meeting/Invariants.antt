@@ -1,0 +1,14 @@
+use Rattle.std.proofs.Common.{◌-◌, ◌<◌, ◌≤◌, length, take}
+use Rattle.dw_unwind.specs.Ranges.{AreApart, Meet}
+use Rattle.dw_unwind.proofs.ranges.first_meeting.Given as goal
+
+abbrev pub invariant-loop-meet : goal.invariant-loop-meet
+invariant-loop-meet l = record {
+  order : l.apart < l.meet;
+  within : l.meet ≤ length l.ranges;
+  apart : AreApart (take l.apart l.ranges);
+  meet : Meet (take l.meet l.ranges);
+}
+
+abbrev pub decreases-loop-meet : goal.decreases-loop-meet
+decreases-loop-meet l = l.meet - l.apart

@@ -1,0 +1,20 @@
+-- A dump of what lines say.
+use Rattle.std.specs.Prelude.{◌≡◌, ℕ, List, ⊤}
+use Rattle.dw_eval.specs.Registers.{held}
+use Rattle.dw_unwind.specs.declared.dump.Dump.{Dump}
+use Rattle.dw_unwind.specs.declared.fault.DumpError.{DumpError}
+use Rattle.dw_unwind.specs.declared.fault.DumpError.TheVariants.{Fault, OutOfMemory}
+use Rattle.dw_unwind.specs.Dump.{FirstFault}
+use Rattle.dw_unwind.specs.Ranges.{byte_in}
+use Rattle.dw_unwind.specs.Statement.{Statement, counter, register, byte, given}
+
+-- it holds the values that statements tell, and no others
+pub record Describes (dump : Dump) (statements : List Statement) : Type 0 where
+  pub pc : dump.pc ≡ given statements counter
+  pub registers : (r : ℕ) → held dump.registers r ≡ given statements (register r)
+  pub memory : (a : ℕ) → byte_in dump.memory a ≡ given statements (byte a)
+
+-- there is no dump: the fault is the first one, or memory ran out
+abbrev pub Refuses : ℕ → List (List ℕ) → DumpError → Type 0
+Refuses limit lines (Fault fault) = FirstFault limit lines fault
+Refuses limit lines OutOfMemory = ⊤

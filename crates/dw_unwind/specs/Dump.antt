@@ -1,0 +1,40 @@
+-- What a dump says, or its first fault.
+use Rattle.std.specs.Prelude.{◌≡◌, ℕ, ◌+◌, ◌<◌, ◌≤◌, List, [], ◌∷◌, ◌++◌, length}
+use Rattle.std.specs.List.{AllZip}
+use Rattle.dw_unwind.specs.declared.fault.DumpCode.{DumpCode}
+use Rattle.dw_unwind.specs.declared.fault.DumpCode.TheVariants.{BadLine, ValueTooLarge, Repeated}
+use Rattle.dw_unwind.specs.declared.fault.DumpFault.{DumpFault}
+use Rattle.dw_unwind.specs.Spelling.{Says}
+use Rattle.dw_unwind.specs.Statement.{Statement, Item, Fits, times}
+
+-- a line says this, and its values are below the limit of addresses
+abbrev pub SaysWithin : ℕ → List ℕ → Statement → Type 0
+SaysWithin limit line s = Says line s × Fits limit s
+
+-- what lines say one by one, and nothing twice
+pub record Say (limit : ℕ) (lines : List (List ℕ)) (statements : List Statement) : Type 0 where
+  pub each : AllZip (SaysWithin limit) lines statements
+  pub once : (item : Item) → times statements item ≤ 1
+
+-- the fault of a line behind statements
+abbrev pub IsFaulty : ℕ → List Statement → List ℕ → DumpCode → Type 0
+IsFaulty limit before line BadLine = (s : Statement) → Says line s → ⊥
+IsFaulty limit before line ValueTooLarge = (s : Statement) × Says line s × (Fits limit s → ⊥)
+IsFaulty limit before line Repeated = (s : Statement) × SaysWithin limit line s × ((item : Item) × (1 < times (before ++ s ∷ []) item))
+
+-- the fault of a statement behind others
+abbrev pub IsWrong : ℕ → List Statement → Statement → DumpCode → Type 0
+IsWrong limit before s BadLine = ⊥
+IsWrong limit before s ValueTooLarge = Fits limit s → ⊥
+IsWrong limit before s Repeated = Fits limit s × ((item : Item) × (1 < times (before ++ s ∷ []) item))
+
+-- the first line at fault, counted from 1, and its fault
+pub record FirstFault (limit : ℕ) (lines : List (List ℕ)) (fault : DumpFault) : Type 0 where
+  pub before : List (List ℕ)
+  pub line : List ℕ
+  pub after : List (List ℕ)
+  pub statements : List Statement
+  pub whole : lines ≡ before ++ line ∷ after
+  pub say : Say limit before statements
+  pub faulty : IsFaulty limit statements line fault.code
+  pub number : fault.line ≡ length before + 1

@@ -1,0 +1,75 @@
+-- How lines are spelled.
+use Rattle.std.specs.Prelude.{◌≡◌, ◌≢◌, ◌⊎◌, ℕ, suc, ◌+◌, ◌*◌, ◌<◌, ◌≤◌, ◌==◌, nat_lt, if◌then◌else◌, List, [], ◌∷◌, ◌++◌, length, slice_index, codes, Option, Some, None, Ok, option_and_then}
+use Rattle.std.specs.List.{AllByRecursion}
+use Rattle.hex.specs.Hex.{decode_of, hex_digit_value}
+use Rattle.dw_unwind.specs.Statement.{Statement, nothing, counter_is, register_is, memory_is}
+
+-- a number, if it is below a limit
+abbrev pub below : ℕ → ℕ → Option ℕ
+below limit n = if nat_lt n limit then Some n else None
+
+-- the digit that a character is in a base of at most 16, letters of either case
+abbrev pub digit : ℕ → ℕ → Option ℕ
+digit base c = option_and_then (below base) (hex_digit_value c)
+
+-- the number of digits that follow others of the number before, the highest first
+abbrev pub number_behind : ℕ → ℕ → List ℕ → Option ℕ
+number_behind base before [] = Some before
+number_behind base before (c ∷ cs) = option_and_then (λ d. number_behind base (before * base + d) cs) (digit base c)
+
+-- 1 to 16 hexadecimal digits of the number v
+pub record Hexadecimal (v : ℕ) (text : List ℕ) : Type 0 where
+  pub some : 0 < length text
+  pub most : length text ≤ 16
+  pub number : number_behind 16 0 text ≡ Some v
+
+-- the number r of a register, 0 to 65,535, in decimal without leading zeros
+pub record RegisterName (r : ℕ) (text : List ℕ) : Type 0 where
+  pub some : 0 < length text
+  pub most : length text ≤ 5
+  pub number : number_behind 10 0 text ≡ Some r
+  pub plain : 1 < length text → slice_index text 0 ≢ 48
+  pub small : r < 65536
+
+-- an even number of hexadecimal digits, at least two, each pair a byte
+pub record HexPairs (bytes text : List ℕ) : Type 0 where
+  pub some : 0 < length bytes
+  pub pairs : decode_of text ≡ Ok bytes
+
+-- `pc 0x<hex>`
+abbrev pub CounterLine : ℕ → List ℕ → Type 0
+CounterLine v line = (digits : List ℕ) × Hexadecimal v digits × (line ≡ codes "pc 0x" ++ digits)
+
+-- `r<n> 0x<hex>`
+abbrev pub RegisterLine : ℕ → ℕ → List ℕ → Type 0
+RegisterLine r v line = (name digits : List ℕ) × RegisterName r name × Hexadecimal v digits × (line ≡ codes "r" ++ (name ++ (codes " 0x" ++ digits)))
+
+-- `mem 0x<hex> <bytes>`
+abbrev pub MemoryLine : ℕ → List ℕ → List ℕ → Type 0
+MemoryLine start bytes line = (digits pairs : List ℕ) × Hexadecimal start digits × HexPairs bytes pairs × (line ≡ codes "mem 0x" ++ (digits ++ (codes " " ++ pairs)))
+
+-- a line without characters, or a comment
+abbrev pub SkippedLine : List ℕ → Type 0
+SkippedLine line = (line ≡ []) ⊎ ((text : List ℕ) × (line ≡ codes "#" ++ text))
+
+-- the line says this
+abbrev pub Says : List ℕ → Statement → Type 0
+Says line nothing = SkippedLine line
+Says line (counter_is v) = CounterLine v line
+Says line (register_is r v) = RegisterLine r v line
+Says line (memory_is start bytes) = MemoryLine start bytes line
+
+-- ---- parts of lines
+
+-- the front of a line of memory
+abbrev pub MemoryHead : ℕ → List ℕ → List ℕ → Type 0
+MemoryHead start pairs line = (digits : List ℕ) × Hexadecimal start digits × (line ≡ codes "mem 0x" ++ (digits ++ (codes " " ++ pairs)))
+
+-- no character of a text is this one
+abbrev pub Lacks : ℕ → List ℕ → Type 0
+Lacks kind text = AllByRecursion (λ c. c ≢ kind) text
+
+-- how many characters stand before the first of a kind, or all of them
+abbrev pub len_until : ℕ → List ℕ → ℕ
+len_until kind [] = 0
+len_until kind (c ∷ cs) = if c == kind then 0 else suc (len_until kind cs)

@@ -1,0 +1,10 @@
+-- What the code's statements say.
+use Rattle.dw_unwind.specs.declared.line.Statement.{Statement as Line}
+use Rattle.dw_unwind.specs.declared.line.Statement.TheVariants.{Nothing, Counter, Register, Memory}
+use Rattle.dw_unwind.specs.Statement.{Statement, nothing, counter_is, register_is, memory_is}
+
+abbrev pub stated : Line → Statement
+stated Nothing = nothing
+stated (Counter v) = counter_is v
+stated (Register r v) = register_is r v
+stated (Memory start bytes) = memory_is start bytes.items

@@ -1,0 +1,49 @@
+-- What the lines of a dump tell.
+use Rattle.std.specs.Prelude.{ℕ, ◌+◌, ◌-◌, ◌<◌, ◌≤◌, ◌==◌, nat_le, if◌then◌else◌, List, [], ◌∷◌, length, Option, Some, None, is_some, slice_get, count_by, ⊤}
+
+-- what a line says
+pub data Statement : Type 0 where
+  nothing : Statement
+  counter_is : ℕ → Statement
+  register_is : ℕ → ℕ → Statement
+  memory_is : ℕ → List ℕ → Statement
+
+-- what has a value: the program counter, a register, a byte of memory
+pub data Item : Type 0 where
+  counter : Item
+  register : ℕ → Item
+  byte : ℕ → Item
+
+-- the value that a statement tells of an item
+abbrev pub told : Statement → Item → Option ℕ
+told nothing item = None
+told (counter_is v) counter = Some v
+told (counter_is v) (register r) = None
+told (counter_is v) (byte a) = None
+told (register_is q v) counter = None
+told (register_is q v) (register r) = if r == q then Some v else None
+told (register_is q v) (byte a) = None
+told (memory_is start bytes) counter = None
+told (memory_is start bytes) (register r) = None
+told (memory_is start bytes) (byte a) = if nat_le start a then slice_get bytes (a - start) else None
+
+-- a value, or else another
+abbrev pub or_else : Option ℕ → Option ℕ → Option ℕ
+or_else None other = other
+or_else (Some v) other = Some v
+
+-- the value that statements tell of an item
+abbrev pub given : List Statement → Item → Option ℕ
+given [] item = None
+given (s ∷ ss) item = or_else (told s item) (given ss item)
+
+-- how many statements tell a value of an item
+abbrev pub times : List Statement → Item → ℕ
+times ss item = count_by (λ s. is_some (told s item)) ss
+
+-- whether its values are addresses: they are below the limit, and no byte stands past it
+abbrev pub Fits : ℕ → Statement → Type 0
+Fits limit nothing = ⊤
+Fits limit (counter_is v) = v < limit
+Fits limit (register_is r v) = v < limit
+Fits limit (memory_is start bytes) = start + length bytes ≤ limit

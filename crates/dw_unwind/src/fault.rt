@@ -1,0 +1,82 @@
+//! Why a dump is refused, and where.
+
+ghost use Rattle.std.specs.Prelude.{◌≡◌};
+ghost use Rattle.dw_unwind.specs.Codes.{number_of, name_of};
+ghost use Rattle.dw_unwind.specs.declared.fault.DumpError.TheVariants.{Fault, OutOfMemory};
+
+use std::alloc::{AllocError, AllocFailed};
+
+/// What is wrong with a line of a dump. A line is judged in this order.
+#[derive(Clone, Copy, Debug, PartialEq, Eq)]
+pub enum DumpCode {
+    /// The line has none of the forms of a dump.
+    BadLine,
+    /// A number of 2^N or more, or memory that passes 2^N.
+    ValueTooLarge,
+    /// A second program counter, a second value of a register, or a byte of memory given twice.
+    Repeated,
+}
+
+impl DumpCode {
+    /// The fault's number, 1 to 3.
+    pub fn number(self) -> u8
+        ensures { result ≡ number_of self }
+    {
+        match self {
+            DumpCode::BadLine => 1,
+            DumpCode::ValueTooLarge => 2,
+            DumpCode::Repeated => 3,
+        }
+    }
+
+    /// The fault's name, as the variant is written.
+    pub fn name(self) -> &'static str
+        ensures { result.now ≡ name_of self }
+    {
+        match self {
+            DumpCode::BadLine => "BadLine",
+            DumpCode::ValueTooLarge => "ValueTooLarge",
+            DumpCode::Repeated => "Repeated",
+        }
+    }
+}
+
+/// A fault, and the line that it is found at, counted from 1.
+#[derive(Clone, Copy, Debug, PartialEq, Eq)]
+pub struct DumpFault {
+    pub code: DumpCode,
+    pub line: u64,
+}
+
+/// Why there is no dump.
+#[derive(Debug, Drop)]
+pub enum DumpError {
+    /// The first fault of the text.
+    Fault(DumpFault),
+    /// A request for memory was refused.
+    OutOfMemory,
+}
+
+impl From<DumpFault> for DumpError {
+    ghost from_gives = { λ f e. e ≡ Fault f };
+
+    fn from(fault: DumpFault) -> DumpError {
+        DumpError::Fault(fault)
+    }
+}
+
+impl From<AllocError> for DumpError {
+    ghost from_gives = { λ _ e. e ≡ OutOfMemory };
+
+    fn from(_e: AllocError) -> DumpError {
+        DumpError::OutOfMemory
+    }
+}
+
+impl<T: Drop> From<AllocFailed<T>> for DumpError {
+    ghost from_gives = { λ _ e. e ≡ OutOfMemory };
+
+    fn from(_e: AllocFailed<T>) -> DumpError {
+        DumpError::OutOfMemory
+    }
+}
