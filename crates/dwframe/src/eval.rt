@@ -35,11 +35,10 @@ fn value_of<'a>(
     list: &OpList<'_>,
     start: Option<u64>,
     dump: &mut Dump,
-    target: Target,
     steps: u64,
 ) -> Result<u64, Failure<'a>> {
     let env = Env {
-        target,
+        target: list.target(),
         registers: &dump.registers,
         frame_base: None,
         cfa: None,
@@ -59,14 +58,7 @@ pub fn run_eval<'a, L: Load, W: Write>(
     let text = dump_text(alloc, evaluation.dump, files)?;
     let list = decode(alloc, &evaluation.block, target, Profile::Location)?;
     let mut dump = Dump::parse(alloc, &text, target)?;
-    let value = value_of(
-        alloc,
-        &list,
-        evaluation.start,
-        &mut dump,
-        target,
-        evaluation.steps,
-    )?;
+    let value = value_of(alloc, &list, evaluation.start, &mut dump, evaluation.steps)?;
     if print_value(out, value).is_err() {
         return Err(Failure::CannotWrite);
     }

@@ -7,7 +7,7 @@ use crate::{Calls, OUT_OF_MEMORY};
 use dw_eval::{Env, EvalError, Memory, Registers, evaluate, locate};
 use dw_num::{Order, Size, Target};
 use dw_op::{Profile, decode};
-use dw_unwind::{Dump, DumpError};
+use dw_unwind::{Dump, DumpError, DumpMemory};
 use std::io;
 
 const TARGET: Target = Target {
@@ -43,7 +43,7 @@ const LOCATIONS: [&[u8]; 4] = [
 
 const STEPS: u64 = 100;
 
-fn read(rt: &impl Calls, memory: &mut impl Memory) -> io::Result<()> {
+fn read(rt: &impl Calls, memory: &mut DumpMemory) -> io::Result<()> {
     println!(rt; "{:?}", memory.read(0x1008, 8, Order::Little))
 }
 
@@ -99,11 +99,11 @@ pub fn registers(rt: &impl Calls) -> io::Result<()> {
 }
 
 // Without a frame base, a CFA or an object.
-fn env_of(registers: &Registers) -> Env<'_>
-    ensures { result.target ≡ TARGET }
+fn env_of(registers: &Registers, target: Target) -> Env<'_>
+    ensures { result.target ≡ target }
 {
     Env {
-        target: TARGET,
+        target,
         registers,
         frame_base: None,
         cfa: None,
@@ -116,7 +116,7 @@ fn evaluated(rt: &impl Calls, dump: &mut Dump, block: &[u8]) -> io::Result<()> {
         Ok(list) => list,
         Err(_) => return println!(rt; "{OUT_OF_MEMORY}"),
     };
-    let env = env_of(&dump.registers);
+    let env = env_of(&dump.registers, list.target());
     match evaluate(rt.alloc(), &list, Some(1), &env, &mut dump.memory, STEPS) {
         Ok(value) => println!(rt; "{value}")?,
         Err(EvalError::Fault { kind, index }) => println!(rt; "{kind:?} at {index}")?,
@@ -140,7 +140,7 @@ fn located(rt: &impl Calls, dump: &mut Dump, block: &[u8]) -> io::Result<()> {
         Ok(list) => list,
         Err(_) => return println!(rt; "{OUT_OF_MEMORY}"),
     };
-    let env = env_of(&dump.registers);
+    let env = env_of(&dump.registers, list.target());
     match locate(rt.alloc(), &list, &env, &mut dump.memory, STEPS) {
         Ok(pieces) => println!(rt; "{pieces:?}")?,
         Err(EvalError::Fault { kind, index }) => println!(rt; "{kind:?} at {index}")?,
