@@ -34,7 +34,8 @@ impl Line {
         let Ok(number) = u64::try_from(number) else {
             return self.hex_digits(&number.to_be_bytes());
         };
-        self.hex_digits(&number.to_be_bytes())
+        let zeros = (number.leading_zeros() / 8) as usize;
+        self.hex_digits(&number.to_be_bytes()[zeros.min(7)..])
     }
 
     // The digits of up to 16 bytes behind the leading zeros, of which the last one stays.

@@ -6,11 +6,6 @@ use dw_op::ExprRef;
 use dw_section::Fde;
 use std::alloc::AllocError;
 
-fn put_register(line: &mut Line, register: u16) -> Result<(), AllocError> {
-    line.text(b"r")?;
-    line.decimal(register)
-}
-
 // An offset with its sign.
 fn put_offset(line: &mut Line, offset: i64) -> Result<(), AllocError> {
     if offset >= 0 {
@@ -35,38 +30,48 @@ fn put_expression(line: &mut Line, expression: &ExprRef<'_>) -> Result<(), Alloc
 fn put_cfa(line: &mut Line, rule: &CfaRule<'_>) -> Result<(), AllocError> {
     match rule {
         // No row that is printed is without it.
-        CfaRule::Unset => Ok(()),
+        CfaRule::Unset => line.text(b" cfa="),
         CfaRule::Register { register, offset } => {
-            put_register(line, *register)?;
+            line.text(b" cfa=r")?;
+            line.decimal(*register)?;
             put_offset(line, *offset)
         }
-        CfaRule::Expression(expression) => put_expression(line, expression),
+        CfaRule::Expression(expression) => {
+            line.text(b" cfa=")?;
+            put_expression(line, expression)
+        }
     }
 }
 
-// A rule that reads memory stands in brackets.
+// A rule behind its equals sign. One that reads memory stands in brackets.
 fn put_rule(line: &mut Line, rule: &RegRule<'_>) -> Result<(), AllocError> {
     match rule {
         // It is not listed.
         RegRule::Unspecified => Ok(()),
-        RegRule::Undefined => line.text(b"u"),
-        RegRule::SameValue => line.text(b"s"),
+        RegRule::Undefined => line.text(b"=u"),
+        RegRule::SameValue => line.text(b"=s"),
         RegRule::Offset(offset) => {
-            line.text(b"[cfa")?;
+            line.text(b"=[cfa")?;
             put_offset(line, *offset)?;
             line.text(b"]")
         }
         RegRule::ValOffset(offset) => {
-            line.text(b"cfa")?;
+            line.text(b"=cfa")?;
             put_offset(line, *offset)
         }
-        RegRule::Register(other) => put_register(line, *other),
+        RegRule::Register(other) => {
+            line.text(b"=r")?;
+            line.decimal(*other)
+        }
         RegRule::Expression(expression) => {
-            line.text(b"[")?;
+            line.text(b"=[")?;
             put_expression(line, expression)?;
             line.text(b"]")
         }
-        RegRule::ValExpression(expression) => put_expression(line, expression),
+        RegRule::ValExpression(expression) => {
+            line.text(b"=")?;
+            put_expression(line, expression)
+        }
     }
 }
 
@@ -76,8 +81,8 @@ pub fn put_fde(line: &mut Line, fde: &Fde) -> Result<(), AllocError> {
     line.hex(u128::from(fde.begin))?;
     line.text(b" 0x")?;
     line.hex(fde.end)?;
-    line.text(b" ra=")?;
-    put_register(line, fde.return_register)?;
+    line.text(b" ra=r")?;
+    line.decimal(fde.return_register)?;
     line.text(b"\n")
 }
 
@@ -85,12 +90,10 @@ pub fn put_fde(line: &mut Line, fde: &Fde) -> Result<(), AllocError> {
 pub fn put_row(line: &mut Line, address: u128, row: &Row<'_>) -> Result<(), AllocError> {
     line.text(b" 0x")?;
     line.hex(address)?;
-    line.text(b" cfa=")?;
     put_cfa(line, &row.cfa())?;
     for (register, rule) in row.specified() {
         line.text(b" r")?;
         line.decimal(register)?;
-        line.text(b"=")?;
         put_rule(line, &rule)?;
     }
     line.text(b"\n")
