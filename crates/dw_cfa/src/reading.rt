@@ -157,8 +157,12 @@ fn block<'a>(cursor: &mut Cursor<'a>) -> Result<ExprRef<'a>, Refusal>
 }
 
 // ---- instructions with operands
+//
+// None of these is inlined: where all of them meet in one function, each instruction is put together of its parts once
+// more.
 
 #[tactic(auto, unfolding(crate::specs::Reading::set_loc_at))]
+#[inline(never)]
 fn read_set_loc<'a>(cursor: &mut Cursor<'a>) -> Result<Instr<'a>, Refusal>
     ensures { Gives (λ i. i) result (set_loc_at cursor.old) cursor.new }
 {
@@ -174,6 +178,7 @@ fn distance(delta: u64, factors: Factors) -> u128
 }
 
 #[tactic(auto, unfolding(crate::specs::Reading::advance_at))]
+#[inline(never)]
 fn read_advance<'a>(
     cursor: &mut Cursor<'a>,
     factors: Factors,
@@ -187,6 +192,7 @@ fn read_advance<'a>(
 }
 
 #[tactic(auto, unfolding(crate::specs::Reading::def_cfa_at))]
+#[inline(never)]
 fn read_def_cfa<'a>(cursor: &mut Cursor<'a>, at: u64) -> Result<Instr<'a>, Refusal>
     ensures { Gives (λ i. i) result (def_cfa_at at cursor.old) cursor.new }
 {
@@ -196,6 +202,7 @@ fn read_def_cfa<'a>(cursor: &mut Cursor<'a>, at: u64) -> Result<Instr<'a>, Refus
 }
 
 #[tactic(auto, unfolding(crate::specs::Reading::def_cfa_sf_at))]
+#[inline(never)]
 fn read_def_cfa_sf<'a>(
     cursor: &mut Cursor<'a>,
     factors: Factors,
@@ -209,6 +216,7 @@ fn read_def_cfa_sf<'a>(
 }
 
 #[tactic(auto, unfolding(crate::specs::Reading::def_cfa_register_at))]
+#[inline(never)]
 fn read_def_cfa_register<'a>(cursor: &mut Cursor<'a>) -> Result<Instr<'a>, Refusal>
     ensures { Gives (λ i. i) result (def_cfa_register_at cursor.old) cursor.new }
 {
@@ -217,6 +225,7 @@ fn read_def_cfa_register<'a>(cursor: &mut Cursor<'a>) -> Result<Instr<'a>, Refus
 }
 
 #[tactic(auto, unfolding(crate::specs::Reading::def_cfa_offset_at))]
+#[inline(never)]
 fn read_def_cfa_offset<'a>(cursor: &mut Cursor<'a>, at: u64) -> Result<Instr<'a>, Refusal>
     ensures { Gives (λ i. i) result (def_cfa_offset_at at cursor.old) cursor.new }
 {
@@ -225,6 +234,7 @@ fn read_def_cfa_offset<'a>(cursor: &mut Cursor<'a>, at: u64) -> Result<Instr<'a>
 }
 
 #[tactic(auto, unfolding(crate::specs::Reading::def_cfa_offset_sf_at))]
+#[inline(never)]
 fn read_def_cfa_offset_sf<'a>(
     cursor: &mut Cursor<'a>,
     factors: Factors,
@@ -237,6 +247,7 @@ fn read_def_cfa_offset_sf<'a>(
 }
 
 #[tactic(auto, unfolding(crate::specs::Reading::def_cfa_expression_at))]
+#[inline(never)]
 fn read_def_cfa_expression<'a>(cursor: &mut Cursor<'a>) -> Result<Instr<'a>, Refusal>
     ensures { Gives (λ i. i) result (def_cfa_expression_at cursor.old) cursor.new }
 {
@@ -245,6 +256,7 @@ fn read_def_cfa_expression<'a>(cursor: &mut Cursor<'a>) -> Result<Instr<'a>, Ref
 }
 
 #[tactic(auto, unfolding(crate::specs::Reading::restore_at))]
+#[inline(never)]
 fn read_restore<'a>(cursor: &mut Cursor<'a>) -> Result<Instr<'a>, Refusal>
     ensures { Gives (λ i. i) result (restore_at cursor.old) cursor.new }
 {
@@ -255,6 +267,7 @@ fn read_restore<'a>(cursor: &mut Cursor<'a>) -> Result<Instr<'a>, Refusal>
 // ---- rules of registers
 
 #[tactic(auto, unfolding(crate::specs::Reading::undefined_at))]
+#[inline(never)]
 fn read_undefined<'a>(cursor: &mut Cursor<'a>) -> Result<Instr<'a>, Refusal>
     ensures { Gives (λ i. i) result (undefined_at cursor.old) cursor.new }
 {
@@ -263,6 +276,7 @@ fn read_undefined<'a>(cursor: &mut Cursor<'a>) -> Result<Instr<'a>, Refusal>
 }
 
 #[tactic(auto, unfolding(crate::specs::Reading::same_value_at))]
+#[inline(never)]
 fn read_same_value<'a>(cursor: &mut Cursor<'a>) -> Result<Instr<'a>, Refusal>
     ensures { Gives (λ i. i) result (same_value_at cursor.old) cursor.new }
 {
@@ -271,6 +285,7 @@ fn read_same_value<'a>(cursor: &mut Cursor<'a>) -> Result<Instr<'a>, Refusal>
 }
 
 #[tactic(auto, unfolding(crate::specs::Reading::offset_at))]
+#[inline(never)]
 fn read_offset<'a>(
     cursor: &mut Cursor<'a>,
     factors: Factors,
@@ -284,6 +299,7 @@ fn read_offset<'a>(
 }
 
 #[tactic(auto, unfolding(crate::specs::Reading::offset_extended_at))]
+#[inline(never)]
 fn read_offset_extended<'a>(
     cursor: &mut Cursor<'a>,
     factors: Factors,
@@ -296,6 +312,7 @@ fn read_offset_extended<'a>(
 }
 
 #[tactic(auto, unfolding(crate::specs::Reading::offset_extended_sf_at))]
+#[inline(never)]
 fn read_offset_extended_sf<'a>(
     cursor: &mut Cursor<'a>,
     factors: Factors,
@@ -309,6 +326,7 @@ fn read_offset_extended_sf<'a>(
 }
 
 #[tactic(auto, unfolding(crate::specs::Reading::val_offset_at))]
+#[inline(never)]
 fn read_val_offset<'a>(
     cursor: &mut Cursor<'a>,
     factors: Factors,
@@ -322,6 +340,7 @@ fn read_val_offset<'a>(
 }
 
 #[tactic(auto, unfolding(crate::specs::Reading::val_offset_sf_at))]
+#[inline(never)]
 fn read_val_offset_sf<'a>(
     cursor: &mut Cursor<'a>,
     factors: Factors,
@@ -335,6 +354,7 @@ fn read_val_offset_sf<'a>(
 }
 
 #[tactic(auto, unfolding(crate::specs::Reading::register_rule_at))]
+#[inline(never)]
 fn read_register_rule<'a>(cursor: &mut Cursor<'a>) -> Result<Instr<'a>, Refusal>
     ensures { Gives (λ i. i) result (register_rule_at cursor.old) cursor.new }
 {
@@ -344,6 +364,7 @@ fn read_register_rule<'a>(cursor: &mut Cursor<'a>) -> Result<Instr<'a>, Refusal>
 }
 
 #[tactic(auto, unfolding(crate::specs::Reading::expression_at))]
+#[inline(never)]
 fn read_expression<'a>(cursor: &mut Cursor<'a>) -> Result<Instr<'a>, Refusal>
     ensures { Gives (λ i. i) result (expression_at cursor.old) cursor.new }
 {
@@ -353,6 +374,7 @@ fn read_expression<'a>(cursor: &mut Cursor<'a>) -> Result<Instr<'a>, Refusal>
 }
 
 #[tactic(auto, unfolding(crate::specs::Reading::val_expression_at))]
+#[inline(never)]
 fn read_val_expression<'a>(cursor: &mut Cursor<'a>) -> Result<Instr<'a>, Refusal>
     ensures { Gives (λ i. i) result (val_expression_at cursor.old) cursor.new }
 {
