@@ -6,10 +6,9 @@
 They are DIR/bomb-NAME.bin, of size 8, little. SCALE multiplies their counts. All but `remember`, which is refused with
 StateStackFull, are accepted.
 """
-import argparse
-import pathlib
 import struct
 
+from made import main, write_each
 from synth import Writer, uleb
 
 WRITER = Writer(8, "little")
@@ -108,23 +107,8 @@ BOMBS = [
 
 def write_bombs(folder, scale):
     """Writes each bomb, and answers their names and paths."""
-    paths = {}
-    for bomb in BOMBS:
-        name = bomb.__name__.replace("_", "-")
-        paths[name] = pathlib.Path(folder) / f"bomb-{name}-{scale:g}.bin"
-        paths[name].write_bytes(bomb(lambda count: max(1, int(count * scale))))
-    return paths
-
-
-def main():
-    words = argparse.ArgumentParser(description=__doc__, formatter_class=argparse.RawDescriptionHelpFormatter)
-    words.add_argument("folder")
-    words.add_argument("scale", type=float, nargs="?", default=1)
-    asked = words.parse_args()
-    pathlib.Path(asked.folder).mkdir(parents=True, exist_ok=True)
-    for name, path in write_bombs(asked.folder, asked.scale).items():
-        print(f"{path}: {path.stat().st_size} bytes")
+    return write_each(BOMBS, folder, "bomb", "bin", scale)
 
 
 if __name__ == "__main__":
-    main()
+    main(__doc__, write_bombs)

@@ -6,9 +6,9 @@
 They are DIR/dump-NAME.txt, for addresses of size 8. SCALE multiplies their counts. The overlaps are refused with
 Repeated at the last line, all others are accepted.
 """
-import argparse
-import pathlib
 import random
+
+from made import main, write_each
 
 FIRST_ADDRESS = 0x7FFE_0000_0000
 REGISTERS = 65_536
@@ -100,23 +100,8 @@ DUMPS = [
 
 def write_dumps(folder, scale):
     """Writes each dump, and answers their names and paths."""
-    paths = {}
-    for dump in DUMPS:
-        name = dump.__name__.replace("_", "-")
-        paths[name] = pathlib.Path(folder) / f"dump-{name}-{scale:g}.txt"
-        paths[name].write_text(dump(lambda count: max(1, int(count * scale))))
-    return paths
-
-
-def main():
-    words = argparse.ArgumentParser(description=__doc__, formatter_class=argparse.RawDescriptionHelpFormatter)
-    words.add_argument("folder")
-    words.add_argument("scale", type=float, nargs="?", default=1)
-    asked = words.parse_args()
-    pathlib.Path(asked.folder).mkdir(parents=True, exist_ok=True)
-    for name, path in write_dumps(asked.folder, asked.scale).items():
-        print(f"{path}: {path.stat().st_size} bytes")
+    return write_each(DUMPS, folder, "dump", "txt", scale)
 
 
 if __name__ == "__main__":
-    main()
+    main(__doc__, write_dumps)
