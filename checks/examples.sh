@@ -9,3 +9,9 @@ for wanted in *.entries *.check *.rows; do
     ../dwframe "$subcommand" --size "$size" --order "$order" "$name.bin" | cmp - "$wanted"
     echo "$subcommand $name.bin: as wanted"
 done
+for wanted in *.unwind; do
+    name=${wanted%.*}
+    read -r size order <"$name.target"
+    ../dwframe unwind --size "$size" --order "$order" --default same "$name.bin" "$name.dump" | cmp - "$wanted"
+    echo "unwind $name.bin: as wanted"
+done

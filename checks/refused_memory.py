@@ -3,9 +3,10 @@
 
     refused_memory.py DWFRAME REQUESTS
 
-Both run over each section of the examples, and over some worked blocks and programs. DWFRAME's answer must be the
-ordinary one, or status 5, `out of memory` and nothing on standard output; under `rows`, a beginning of what is
-ordinarily there. REQUESTS makes one call a run: its answer must be the ordinary one or tell of want of memory, and the
+Both run over each section of the examples, and over some worked blocks and programs. With nothing refused both must
+answer what `answers.py` has, which is of a second reader and worked cases: that is the ordinary answer. Else DWFRAME's answer must be
+the ordinary one, or status 5, `out of memory` and nothing on standard output; under `rows` and `normal`, a beginning of
+what is ordinarily there. REQUESTS makes one call a run: its answer must be the ordinary one or tell that memory ran out, and the
 calls on borrowed expressions may make no request at all. Ends with a line 'N runs, M wrong'.
 """
 import os
@@ -14,14 +15,13 @@ import subprocess
 import sys
 import tempfile
 
+from answers import BLOCKS, EXAMPLES, EXPRESSION_CALLS, FRAMES, NORMALS, PROGRAM_CALLS, of_call, of_command
+
 HERE = pathlib.Path(__file__).resolve().parent
-EXAMPLES = HERE.parent / "examples"
 SUBCOMMANDS = ["entries", "check", "rows"]
-BLOCKS = ["2f12000e05000000000000000e060000000000000037", "92070806", "770806"]
-PROGRAM_CALLS = ["run", "row_steps", "initial_row", "copied", "cie_machine"]
-EXPRESSION_CALLS = ["decode", "encode", "ops", "put_least"]
 SECTION_CALLS = ["entries", "headers", "check", "row_at", "changes", *PROGRAM_CALLS, *EXPRESSION_CALLS]
 WORKED_CALLS = [*PROGRAM_CALLS, *EXPRESSION_CALLS, "numbers", "dumps", "registers", "evaluate", "locate"]
+NORMAL_CALLS = ["normalise", "normalise_to", "normal_length", "same"]
 EVALUATIONS = [["770806", "registers.dump"], ["3a311c1228faff"]]
 OUT_OF_MEMORY = (5, b"", b"out of memory\n")
 
@@ -56,10 +56,23 @@ def command_runs():
     for name, (size, order) in sections():
         for subcommand in SUBCOMMANDS:
             yield [subcommand, "--size", size, "--order", order, name]
+        if name in NORMALS:
+            yield ["normal", "--size", size, "--order", order, name]
+            yield ["same", "--size", size, "--order", order, name, name]
+            yield ["cost", "--size", size, "--order", order, name]
     for block in BLOCKS:
         yield ["expr", "--size", "8", "--order", "little", block]
     for words in EVALUATIONS:
         yield ["eval", "--size", "8", "--order", "little", *words]
+
+
+def frame_runs(folder):
+    """The words of DWFRAME's runs over a section and a dump, which are written into a folder, and their answers."""
+    for number, (section, default, dump, ordinary) in enumerate(FRAMES):
+        paths = [folder / f"{number}.bin", folder / f"{number}.dump"]
+        paths[0].write_bytes(section)
+        paths[1].write_text(dump)
+        yield ["unwind", "--size", "8", "--order", "little", "--default", default, *map(str, paths)], ordinary
 
 
 def call_runs():
@@ -69,6 +82,9 @@ def call_runs():
     for name, target in sections():
         for call in SECTION_CALLS:
             yield [call, *target, name]
+        if name in NORMALS:
+            for call in NORMAL_CALLS:
+                yield [call, *target, name]
 
 
 def is_command_answer(answer, ordinary):
@@ -96,9 +112,9 @@ def is_call_answer(answer, ordinary):
     return told and (status == 0 or b"OutOfMemory" in err)
 
 
-def each_request(program, words, folder, is_answer, tally):
-    ordinary, requests = run(program, words, folder, 0)
-    tally.tell(ordinary[0] == 0, f"{words}", ordinary)
+def each_request(program, words, folder, is_answer, ordinary, tally):
+    answer, requests = run(program, words, folder, 0)
+    tally.tell(answer == ordinary, f"{words}: with ample memory", answer)
     for refused in range(1, requests + 1):
         answer, _ = run(program, words, folder, refused)
         tally.tell(is_answer(answer, ordinary), f"{words}: request {refused} refused", answer)
@@ -114,10 +130,12 @@ def main():
         shim = ["gcc", "-shared", "-fPIC", "-O2", "-o", folder / "refuse.so", HERE / "refuse.c", "-ldl"]
         subprocess.run(shim, check=True)
         for words in command_runs():
-            is_answer = is_rows_answer if words[0] == "rows" else is_command_answer
-            each_request(dwframe, words, folder, is_answer, tally)
+            is_answer = is_rows_answer if words[0] in ("rows", "normal") else is_command_answer
+            each_request(dwframe, words, folder, is_answer, (0, of_command(words), b""), tally)
+        for words, ordinary in frame_runs(folder):
+            each_request(dwframe, words, folder, is_command_answer, ordinary, tally)
         for words in call_runs():
-            each_request(requests, words, folder, is_call_answer, tally)
+            each_request(requests, words, folder, is_call_answer, (0, of_call(words), b""), tally)
         _, none = run(requests, ["none"], folder, 0)
         answer, borrowed = run(requests, ["borrowed"], folder, 0)
         tally.tell(borrowed == none, "calls on borrowed expressions", f"{borrowed - none} requests")

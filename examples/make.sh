@@ -1,6 +1,7 @@
 #!/bin/sh
 # Makes the sections of the examples anew: a small program, linked by three toolchains, and its .debug_frame.
-# It needs gcc, clang, lld and binutils. The sections that do not begin with sum- are written by hand.
+# It needs gcc, clang, lld and binutils. The sections that do not begin with sum- are written by hand. The answers beside
+# a section (NAME.entries, NAME.check, NAME.rows) are compared with a second reader by checks/answers.py.
 set -eu
 cd "$(dirname "$0")"
 folder=$(mktemp -d)

@@ -64,12 +64,6 @@ begins_at r n [] d lt = absurd (omega arith)
 begins_at r zero (x ∷ xs) d lt = refl
 begins_at r (suc n) (x ∷ xs) d lt = begins_at r n xs d (omega arith)
 
-pub begins_past : (r n : ℕ) (xs : List Entry) → length xs ≤ n → begins r (drop n xs) ≡ false
-begins_past r zero [] le = refl
-begins_past r zero (x ∷ xs) le = absurd (omega arith)
-begins_past r (suc n) [] le = refl
-begins_past r (suc n) (x ∷ xs) le = begins_past r n xs (omega arith)
-
 listed_is : (r : ℕ) (rule : RegRule) (rest : List Entry) → is_specified rule ≡ true → listed r rule rest ≡ (r, rule) ∷ rest
 listed_is r Unspecified rest e = absurd cc
 listed_is r rule rest e = refl
@@ -119,12 +113,6 @@ rule_is r low (x ∷ xs) up = elim (cases_Bool (nat_lt x.0 r)) [
         | inr other ↦ let rest = unlisted r (suc x.0) xs up.2 (omega arith) in rw (e, other, rest) refl
       ]
 ]
-
-pub rule_past : (r n : ℕ) (xs : List Entry) → length xs ≤ n → rule_first r (drop n xs) ≡ Unspecified
-rule_past r zero [] le = refl
-rule_past r zero (x ∷ xs) le = absurd (omega arith)
-rule_past r (suc n) [] le = refl
-rule_past r (suc n) (x ∷ xs) le = rule_past r n xs (omega arith)
 
 pub rule_here : (r n : ℕ) (xs : List Entry) (d : Entry) → n < length xs → rule_first r (drop n xs) ≡ cond (nat_eq (get_or xs n d).0 r) (get_or xs n d).1 Unspecified
 rule_here r n [] d lt = absurd (omega arith)
@@ -222,8 +210,3 @@ refill_set xs p x lt =
     let len = length-set xs p x in
     let none : drop (length (set xs p x)) xs ≡ [] = rw (len, drop-length xs) refl in
     rw (none, append-nil, take_all (length xs) (set xs p x) (omega arith)) (set_split xs p x lt)
-
-pub entries_kept : {A E : Type 0} (o : Result A E) (r : ℕ) (rule : RegRule) (old new : SmallVec Entry)
-    → OnOk o (new.items ≡ put r rule old.items) → OnErr o (new ≡ old) → AreSpecified 0 old.items → AreSpecified 0 new.items
-entries_kept (Ok x) r rule old new ok err up = subst (AreSpecified 0) (sym ok) (put_keeps r rule 0 old.items up (omega arith))
-entries_kept (Err x) r rule old new ok err up = subst (λ (v : SmallVec Entry). AreSpecified 0 v.items) (sym err) up

@@ -36,10 +36,6 @@ pub row_if_stays : (moves : Bool) (s : State) (next : Outcome) (o : Outcome) →
 row_if_stays true s next o is e = absurd cc
 row_if_stays false s next o is e = e
 
--- the location behind an instruction
-moved_location : (initial : Rules) (begin : ℕ) (i : Instr) (earlier : List Instr) (s : State) → Follows initial begin (i ∷ earlier) (after initial i s) → (after initial i s).location ≡ location_back begin (i ∷ earlier)
-moved_location initial begin i earlier s h = h.location
-
 not_le : (m n : ℕ) → n < m → nat_le m n ≡ false
 not_le m n lt = elim (leb_tells m n) [ inl p ↦ absurd (omega arith) | inr p ↦ p.0 ]
 

@@ -5,7 +5,7 @@ ghost use Rattle.std.specs.Iterator.{YieldsFirst, item_count};
 ghost use Rattle.dw_num.specs.declared.refusal.Refusal.{Refusal};
 ghost use Rattle.dw_cfa.specs.declared.instr.Instr.{Instr};
 ghost use Rattle.dw_cfa.specs.InstrSpells.{Program as ProgramSpells};
-ghost use Rattle.dw_cfa.specs.Listing.{ProgramFault, Yields, complete, faulty, answers, listing, left_of};
+ghost use Rattle.dw_cfa.specs.Listing.{ProgramFault, Yields, complete, faulty, answers, left_of};
 
 use crate::instr::{Factors, Instr};
 use crate::reading::read_instr;

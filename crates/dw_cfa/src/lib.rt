@@ -23,16 +23,3 @@ pub use row::{Row, Specified};
 pub use rule::{CfaRule, RegRule};
 pub use running::{LocatedRow, RunError};
 pub use steps::{RowSteps, initial_row};
-
-#[cfg(test)]
-mod tests_instructions;
-#[cfg(test)]
-mod tests_lent;
-#[cfg(test)]
-mod tests_limits;
-#[cfg(test)]
-mod tests_machine;
-#[cfg(test)]
-mod tests_run;
-#[cfg(test)]
-mod tests_wide;

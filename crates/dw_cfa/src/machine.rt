@@ -1,6 +1,6 @@
 //! The machine that runs call frame instructions (6.4.2), one after another.
 
-ghost use Rattle.std.specs.Prelude.{◌≡◌, ℕ, ◌<◌, ◌≤◌, Some, None, OnOk, IfOk, IfErr};
+ghost use Rattle.std.specs.Prelude.{◌≡◌, ◌<◌, ◌≤◌, None, OnOk, IfOk, IfErr};
 ghost use Rattle.dw_cfa.specs.declared.rule.CfaRule.TheVariants.{Register};
 ghost use Rattle.dw_num.specs.declared.refusal.Code.TheVariants.{CfaNotRegister};
 ghost use Rattle.dw_cfa.specs.Machine.{FaultIs, NoHalves, written, half_fault};

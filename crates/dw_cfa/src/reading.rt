@@ -1,6 +1,6 @@
 //! The instruction at the front of what is left of a program.
 
-ghost use Rattle.std.specs.Prelude.{◌≡◌, ℕ, ◌+◌, ◌*◌, ◌<◌, ◌^◌, ◌≤◌, ◌*ℤ◌, length, unsigned_abs};
+ghost use Rattle.std.specs.Prelude.{◌≡◌, ◌+◌, ◌*◌, ◌<◌, ◌^◌, ◌*ℤ◌, length, unsigned_abs};
 ghost use Rattle.dw_num.specs.Fixed.{IsWidth};
 ghost use Rattle.dw_num.specs.Reading.{Gives};
 ghost use Rattle.dw_cfa.specs.Reading.{opcode_of, offset_in, plain_at, factored_at, signed_at, expression_in, block_at, set_loc_at, advance_at, def_cfa_at, def_cfa_sf_at, def_cfa_register_at, def_cfa_offset_at, def_cfa_offset_sf_at, def_cfa_expression_at, offset_at, offset_extended_at, offset_extended_sf_at, val_offset_at, val_offset_sf_at, restore_at, undefined_at, same_value_at, register_rule_at, expression_at, val_expression_at, operands_at, instr_at};

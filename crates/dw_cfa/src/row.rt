@@ -1,16 +1,16 @@
 //! Rows of rules (6.4.1).
 
-ghost use Rattle.std.specs.Prelude.{◌≡◌, ℕ, ◌<◌, ◌≤◌, List, [], ◌∷◌, ◌++◌, length, suc, take, drop, IfOk, OnOk, OnErr, MatchOption, IsTrue, ◌↔◌};
-ghost use Rattle.std.specs.List.{HoldsAt};
+ghost use Rattle.std.specs.Prelude.{◌≡◌, ℕ, ◌<◌, List, [], ◌∷◌, ◌++◌, length, suc, take, drop, IfOk, OnOk, OnErr, MatchOption, IsTrue, ◌↔◌};
+ghost use Rattle.std.specs.List.{HoldsAt, filter};
 ghost use Rattle.std.specs.Iterator.{YieldsFirst, item_count};
 ghost use Rattle.dw_cfa.specs.Rows.{Rules, AreSpecified, rule, begins, put, place, rule_in, with_cfa, with_rule, blank};
 ghost use Rattle.dw_cfa.specs.Entries.{entries_of, unseen_of};
+ghost use Rattle.dw_cfa.specs.Narrowing.{is_agreed, is_kept, agreed, kept};
 
 use crate::rule::{CfaRule, RegRule};
 use smallvec::SmallVec;
 use std::alloc::{AllocError, Global};
 use std::collections::{BTreeMap, btree_map};
-use std::default::MadeWith;
 use std::marker::Model;
 
 // So many registers stay in a list: to put one before them moves them all.
@@ -257,6 +257,32 @@ impl<'a> Entries<'a> {
         Ok(())
     }
 
+    // Drops the entries to which others give another rule.
+    fn agree(&mut self, others: &Entries<'_>)
+        requires { AreSpecified 0 (entries_of others.now) }
+        ensures { entries_of self.new ≡ filter (is_agreed (entries_of others.now)) (entries_of self.old) }
+    {
+        match self {
+            Entries::Few(few) => few.retain(|entry| entry.1.is_same(&others.rule(entry.0))),
+            Entries::Many(many) => {
+                many.retain(|register, rule| rule.is_same(&others.rule(*register)));
+            }
+        }
+    }
+
+    // Drops the entries that others do not have.
+    fn keep(&mut self, others: &Entries<'_>)
+        requires { AreSpecified 0 (entries_of others.now) }
+        ensures { entries_of self.new ≡ filter (is_kept (entries_of others.now)) (entries_of self.old) }
+    {
+        match self {
+            Entries::Few(few) => few.retain(|entry| others.rule(entry.0).is_specified()),
+            Entries::Many(many) => {
+                many.retain(|register, _| others.rule(*register).is_specified());
+            }
+        }
+    }
+
     // Puts them into a tree where they are a full list and the register comes in.
     fn make_place(&mut self, register: u16, alloc: Global) -> Result<(), AllocError>
         requires { AreSpecified 0 (entries_of self.old) }
@@ -366,12 +392,6 @@ impl<'r, 'a> Iterator for Specified<'r, 'a> {
     }
 }
 
-impl<'a> MadeWith<Global> for Row<'a> {
-    fn made_with(alloc: Global) -> Row<'a> {
-        Row::blank(alloc)
-    }
-}
-
 impl<'a> Row<'a> {
     /// A row in which nothing is set. Takes no memory.
     pub fn blank(alloc: Global) -> Row<'a>
@@ -459,6 +479,23 @@ impl<'a> Row<'a> {
         self.entries.become_copy(&other.entries, self.alloc)?;
         self.cfa = other.cfa.copied();
         Ok(())
+    }
+
+    /// Keeps what another row has too: the CFA's rule, and the registers with their rules. Takes no memory.
+    pub fn agree(&mut self, other: &Row<'_>)
+        ensures { self.new ≡ agreed self.old other.now }
+    {
+        self.entries.agree(&other.entries);
+        if !self.cfa.is_same(&other.cfa) {
+            self.cfa = CfaRule::Unset;
+        }
+    }
+
+    /// Drops the registers that another row leaves Unspecified. Takes no memory.
+    pub fn keep(&mut self, other: &Row<'_>)
+        ensures { self.new ≡ kept self.old other.now }
+    {
+        self.entries.keep(&other.entries);
     }
 
     // Whether the registers are in a tree.

@@ -1,6 +1,6 @@
 //! Programs that are run instruction by instruction (6.4.3).
 
-ghost use Rattle.std.specs.Prelude.{◌≡◌, ℕ, ◌<◌, ◌≤◌, Some, None, Ok, Err, length, OnOk, IfOk, IfErr};
+ghost use Rattle.std.specs.Prelude.{◌≡◌, ◌<◌, Ok, Err, length, OnOk, IfErr};
 ghost use Rattle.dw_cfa.specs.Location.{moves_location};
 ghost use Rattle.dw_cfa.specs.Kept.{in_cie};
 ghost use Rattle.dw_cfa.specs.Runs.{RefusalIs, RunsSo, Ran, GivesRow, Wrote, rows_left, initial_row, placed, run_error};

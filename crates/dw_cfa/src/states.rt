@@ -1,7 +1,7 @@
 //! The current row and the remembered ones (6.4.2.4).
 
-ghost use Rattle.std.specs.Prelude.{◌≡◌, ℕ, ◌+◌, ◌<◌, ◌≤◌, [], ◌∷◌, length, reverse, Some, None, OnOk, OnErr, IfOk, true, false};
-ghost use Rattle.dw_cfa.specs.Rows.{Rules, with_cfa, with_rule};
+ghost use Rattle.std.specs.Prelude.{◌≡◌, ◌+◌, ◌<◌, [], ◌∷◌, length, reverse, Some, None, OnOk, OnErr, IfOk, true, false};
+ghost use Rattle.dw_cfa.specs.Rows.{with_cfa, with_rule};
 ghost use Rattle.dw_cfa.specs.States.{Held, first_if, BeganWith, Restored, TakenBack, count_remembered, first_registers};
 
 use crate::row::Row;

@@ -1,8 +1,7 @@
 //! Rows one at a time (6.4.3).
 
-ghost use Rattle.std.specs.Prelude.{◌≡◌, ℕ, ◌<◌, ◌≤◌, Some, None, Ok, Err, List, [], ◌∷◌, length, IfOk, IfErr};
+ghost use Rattle.std.specs.Prelude.{◌≡◌, ◌<◌, Some, None, Ok, Err, List, [], ◌∷◌, IfOk, IfErr};
 ghost use Rattle.dw_num.specs.Target.{address_limit};
-ghost use Rattle.dw_num.specs.declared.refusal.Refusal.{Refusal};
 ghost use Rattle.dw_cfa.specs.declared.running.LocatedRow.{LocatedRow};
 ghost use Rattle.dw_cfa.specs.Runs.{finished, RunsSo, GivesRow, RefusalIs, placed, initial_row, run_rows};
 ghost use Rattle.dw_cfa.specs.Rows.{blank};

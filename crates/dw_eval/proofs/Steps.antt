@@ -2,23 +2,18 @@
 use Rattle.std.proofs.Common.{◌≡◌, ℕ, ◌+◌, ◌<◌, List, length, Some, Result, Ok, Err, refl, sym, ◌∙◌, ap, subst, inl, inr, arith}
 use Rattle.std.specs.Prelude.{slice_get}
 use Rattle.std.proofs.Math.Numerals.{suc-eq-add-one}
-use Rattle.dw_num.specs.declared.target.Size.{Size}
 use Rattle.dw_op.specs.declared.op.Op.{Op}
-use Rattle.dw_op.specs.declared.op.Op.TheVariants.{Implicit}
-use Rattle.dw_op.specs.Expression.{bare}
 use Rattle.dw_eval.specs.declared.error.EvalError.{EvalError}
 use Rattle.dw_eval.specs.declared.error.EvalError.TheVariants.{Fault, OutOfMemory}
 use Rattle.dw_eval.specs.declared.error.Kind.{Kind}
 use Rattle.dw_eval.specs.declared.error.Kind.TheVariants.{Device, StepLimit}
-use Rattle.dw_eval.specs.Context.{Context}
-use Rattle.dw_eval.specs.Evaluation.{led, value_turn}
 use Rattle.dw_eval.specs.Runs.{Runs, Answered, Right, Short, Failed}
 use Rattle.dw_eval.specs.declared.stack.Flow.{Flow}
 use Rattle.dw_eval.specs.declared.stack.Flow.TheVariants as flow
 use Rattle.dw_eval.specs.declared.stack.Stop.{Stop}
 use Rattle.dw_eval.specs.declared.stack.Stop.TheVariants as stop
-use Rattle.dw_eval.specs.Effect.{Outcome, effect, Reads, bytes_read}
-use Rattle.dw_eval.specs.Stepping.{Does, Acts, reached, StepsTo}
+use Rattle.dw_eval.specs.Effect.{Outcome}
+use Rattle.dw_eval.specs.Stepping.{Does, Acts, StepsTo}
 
 -- an operation without memory is one over a memory that stays
 pub acts_so : (outcome : Outcome) (Read : Type 0) (before : ℕ) (result : Result Flow Stop) (stack : List ℕ) (after : ℕ) → Does outcome result stack → after ≡ before → Acts outcome Read before result stack after
@@ -27,27 +22,6 @@ acts_so outcome Read before (Ok (flow.Jump i)) stack after d e = (d, e)
 acts_so outcome Read before (Err (stop.Fault kind)) stack after d e = (d, e)
 acts_so outcome Read before (Err stop.Device) stack after d e = absurd d
 acts_so outcome Read before (Err stop.OutOfMemory) stack after d e = e
-
--- an operation without its bytes' places in memory does the same
-pub effect_bare : (c : Context) (op : Op) (stack : List ℕ) → effect c (bare op) stack ≡ effect c op stack
-effect_bare c (Implicit block) stack = refl
-effect_bare c op stack = refl
-
-bytes_bare : (size : Size) (op : Op) → bytes_read size (bare op) ≡ bytes_read size op
-bytes_bare size (Implicit block) = refl
-bytes_bare size op = refl
-
-pub reads_bare : (c : Context) (op : Op) (stack : List ℕ) → Reads c op stack → Reads c (bare op) stack
-reads_bare c op stack r = record { count = r.count; bytes = bytes_bare c.target.size op ∙ r.bytes; made = r.made }
-
--- an operation's answer leads the machine of values on
-pub value_step : (c : Context) (op : Op) (i : ℕ) (old new : List ℕ) (before after : ℕ) (answer : Result Flow Stop) → Acts (effect c op old) (Reads c op old) before answer new after
-    → StepsTo (value_turn c (bare op) (record { index = i; stack = old })) (Reads c (bare op) old) i before (λ next. record { index = next; stack = new }) (reached i answer) after
-value_step c op i old new before after (Ok flow.Next) a = (ap (led i) (effect_bare c op old ∙ a.0), a.1)
-value_step c op i old new before after (Ok (flow.Jump j)) a = (ap (led i) (effect_bare c op old ∙ a.0), a.1)
-value_step c op i old new before after (Err (stop.Fault kind)) a = (refl, inl (ap (led i) (effect_bare c op old ∙ a.0), a.1))
-value_step c op i old new before after (Err stop.Device) a = (refl, inr (refl, a.1, reads_bare c op old a.0))
-value_step c op i old new before after (Err stop.OutOfMemory) a = a
 
 -- ---- a loop of steps, whatever the machine
 module _ {S A : Type 0} (index : S → ℕ) (turn : Op → S → Result S Kind) (ops : List Op) (start : S) (reads : Op → S → Type 0) (ending : S → Result A EvalError) where

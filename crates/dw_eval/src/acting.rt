@@ -15,8 +15,8 @@ use crate::stack::{Answer, Flow, Stack, Stop};
 use dw_num::Size;
 use dw_op::Op;
 
-// Whether the bytes from an address on end at 2^N or before.
-fn is_in_space(address: u64, len: usize, size: Size) -> bool
+/// Whether so many bytes, 1 to 8, from an address on end at 2^N or before.
+pub fn is_in_space(address: u64, len: usize, size: Size) -> bool
     requires some { 1 ≤ len }
     requires most { len ≤ 8 }
     ensures { IsTrue result ↔ address + len ≤ address_limit size }

@@ -1,6 +1,6 @@
 //! Arithmetic on values: numbers modulo 2^N, where an address has N bits (2.5.1.4).
 
-ghost use Rattle.std.specs.Prelude.{◌≡◌, ℕ, ◌+◌, ◌-◌, ◌*◌, ◌%◌, ◌^◌, ◌<◌, pos, ◌+ℤ◌, ◌-ℤ◌, int_div, int_lt, if◌then◌else◌, negsuc, unsigned_abs};
+ghost use Rattle.std.specs.Prelude.{◌≡◌, ◌+◌, ◌-◌, ◌*◌, ◌%◌, ◌<◌, pos, ◌+ℤ◌, ◌-ℤ◌, int_div, int_lt, if◌then◌else◌, negsuc, unsigned_abs};
 ghost use Rattle.dw_num.specs.Target.{address_limit};
 ghost use Rattle.dw_op.specs.OpSpells.{modulo};
 ghost use Rattle.dw_eval.specs.Context.{signed};
@@ -8,8 +8,8 @@ ghost use Rattle.dw_eval.specs.Effect.{bit_count, shifted_left, shifted_right, s
 
 use dw_num::Size;
 
-/// A number modulo 2^N.
-pub(crate) fn reduced(number: u64, size: Size) -> u64
+/// A number modulo 2^N, where an address has N bits.
+pub fn reduced(number: u64, size: Size) -> u64
     ensures { result ≡ number % address_limit size }
 {
     match size {
@@ -38,8 +38,8 @@ pub(crate) fn unsigned(number: i64, size: Size) -> u64
     reduced(number.cast_unsigned(), size)
 }
 
-/// The sum of a number and a signed one.
-pub(crate) fn offset(number: u64, by: i64, size: Size) -> u64
+/// The sum of a number and a signed one, modulo 2^N.
+pub fn offset_by(number: u64, by: i64, size: Size) -> u64
     ensures { result ≡ modulo (address_limit size) (pos number +ℤ by) }
 {
     reduced(number.wrapping_add_signed(by), size)

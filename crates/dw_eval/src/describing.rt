@@ -1,6 +1,6 @@
 //! A location description on the way (2.6).
 
-ghost use Rattle.std.specs.Prelude.{◌≡◌, ◌⊎◌, ℕ, ◌+◌, ◌-◌, ◌^◌, ◌<◌, ◌≤◌, length, map, option_map, Ok, Err, List, [], ◌∷◌, None, MatchResult, IsTrue, false};
+ghost use Rattle.std.specs.Prelude.{◌≡◌, ◌⊎◌, ℕ, ◌+◌, ◌-◌, ◌^◌, ◌<◌, ◌≤◌, map, option_map, Ok, Err, List, [], ◌∷◌, None, MatchResult, IsTrue, false};
 ghost use Rattle.dw_num.specs.Target.{byte_count};
 ghost use Rattle.dw_op.specs.declared.op.Op.TheVariants.{DerefSize};
 ghost use Rattle.dw_op.specs.Expression.{bare};

@@ -1,6 +1,6 @@
 //! Evaluation of an expression (2.5).
 
-ghost use Rattle.std.specs.Prelude.{◌≡◌, ◌⊎◌, ℕ, ◌+◌, ◌-◌, ◌^◌, ◌<◌, ◌≤◌, length, map, slice_get, Some, Ok, Err, MatchResult};
+ghost use Rattle.std.specs.Prelude.{◌≡◌, ◌⊎◌, ℕ, ◌+◌, ◌-◌, ◌^◌, ◌<◌, ◌≤◌, map, Some, Ok, Err, MatchResult};
 ghost use Rattle.dw_num.specs.Target.{byte_count};
 ghost use Rattle.dw_op.specs.declared.op.Op.TheVariants.{DerefSize};
 ghost use Rattle.dw_op.specs.Expression.{bare};
@@ -9,7 +9,7 @@ ghost use Rattle.dw_eval.specs.declared.error.EvalError.TheVariants.{Fault, OutO
 ghost use Rattle.dw_eval.specs.declared.error.Kind.TheVariants.{Device};
 ghost use Rattle.dw_eval.specs.Context.{context};
 ghost use Rattle.dw_eval.specs.Effect.{Reads};
-ghost use Rattle.dw_eval.specs.Evaluation.{State, value_turn, first_stack, top_of, Evaluates, EvaluatesOver, MayFailAt};
+ghost use Rattle.dw_eval.specs.Evaluation.{value_turn, first_stack, top_of, Evaluates, EvaluatesOver, MayFailAt};
 ghost use Rattle.dw_eval.specs.Stepping.{reached, StepsTo};
 
 use crate::acting::act;

@@ -20,6 +20,8 @@ mod place;
 mod registers;
 mod stack;
 
+pub use acting::is_in_space;
+pub use arithmetic::{offset_by, reduced};
 pub use env::Env;
 pub use error::{EvalError, Kind};
 pub use evaluation::evaluate;
@@ -28,6 +30,3 @@ pub use locating::locate;
 pub use memory::{Memory, ReadFault};
 pub use place::{Part, Piece, Place};
 pub use registers::Registers;
-
-#[cfg(test)]
-mod tests;

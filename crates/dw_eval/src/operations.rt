@@ -1,7 +1,7 @@
 //! What operations do to the stack: stack operations (2.5.1.3), arithmetic and logic (2.5.1.4), comparisons and
 //! branches (2.5.1.5).
 
-ghost use Rattle.std.specs.Prelude.{◌≡◌, ℕ, ◌+◌, ◌*◌, ◌%◌, Some, None, ◌∷◌, slice_get, not, nat_eq, int_le, int_lt, if◌then◌else◌, pos, ◌+ℤ◌, ◌-ℤ◌, int_div, unsigned_abs, bit_and, bit_or, bit_xor};
+ghost use Rattle.std.specs.Prelude.{◌+◌, ◌*◌, ◌%◌, Some, None, ◌∷◌, slice_get, not, nat_eq, int_le, int_lt, if◌then◌else◌, pos, ◌+ℤ◌, ◌-ℤ◌, int_div, unsigned_abs, bit_and, bit_or, bit_xor};
 ghost use Rattle.dw_num.specs.Target.{address_limit};
 ghost use Rattle.dw_eval.specs.declared.error.Kind.TheVariants.{StackUnderflow, DivideByZero, NotAValue};
 ghost use Rattle.dw_eval.specs.Context.{signed};
@@ -240,7 +240,7 @@ impl Stack {
         ensures { Does (known missing value (λ v. push_signed size (pos v +ℤ by) self.old)) result self.new }
     {
         match value {
-            Some(value) => self.put(arithmetic::offset(value, by, size)),
+            Some(value) => self.put(arithmetic::offset_by(value, by, size)),
             None => Err(Stop::Fault(missing)),
         }
     }

@@ -206,10 +206,3 @@ byte_found i new v e = elim (cases_lt (length i.bytes) 1) [
       subst (λ (p : ℕ × Input). Takes i (p.0 ∷ []) p.1) (ok_is (fixed_number i.target.order 1 i.bytes, behind 1 i) (v, new) k)
       (record { bytes = rw (one_byte i.target.order i.bytes) (front_byte i.bytes long); at = refl; target = refl })
 ]
-
-one_byte_bytes : (order : Order) (v : ℕ) → v < 256 → fixed_bytes order 1 v ≡ v ∷ []
-one_byte_bytes Little v lt = grind arith
-one_byte_bytes Big v lt = grind arith
-
-pub byte_is_fixed : (order : Order) (v : ℕ) → v < 256 → Fixed order 1 v (v ∷ [])
-byte_is_fixed order v lt = record { bytes = sym (one_byte_bytes order v lt); fits = omega arith }

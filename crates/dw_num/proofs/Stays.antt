@@ -1,13 +1,12 @@
 -- What is read ends where the input ends, and a fault has a place in the input or at its end.
-use Rattle.std.proofs.Common.{◌≡◌, ℕ, suc, ◌+◌, ◌<◌, ◌≤◌, Bool, true, false, List, [], ◌∷◌, length, take, Option, Some, None, Result, Ok, Err, refl, ◌∙◌, arith, inl, inr}
+use Rattle.std.proofs.Common.{◌≡◌, ℕ, suc, ◌+◌, ◌≤◌, Bool, true, false, List, [], ◌∷◌, length, take, Option, Some, None, Ok, Err, refl, ◌∙◌, arith, inl, inr}
 use Rattle.std.specs.Prelude.{cond, nat_lt, ◌^◌}
 use Rattle.std.proofs.lemmas.Bool.{cases_lt, cases_Bool, lt-ltb, le-ltb}
 use Rattle.std.proofs.lemmas.List.{length-drop}
-use Rattle.dw_num.specs.declared.refusal.Refusal.{Refusal}
 use Rattle.dw_num.specs.Input.{Input, behind}
 use Rattle.dw_num.specs.Leb.{groups, signed_groups}
 use Rattle.dw_num.specs.Target.{byte_count}
-use Rattle.dw_num.specs.Reading.{Read, fault, fixed_at, take_at, leb_len, further, uleb_of, uleb_at, sleb_of, sleb_at, address_at, fits_signed, register_of, register_at, ◌>>=◌}
+use Rattle.dw_num.specs.Reading.{Read, fixed_at, take_at, leb_len, further, uleb_of, uleb_at, sleb_of, sleb_at, address_at, fits_signed, register_of, register_at, ◌>>=◌}
 use Rattle.dw_num.proofs.LebLaws.{done}
 
 -- j begins in i or at its end, and both end at one place

@@ -8,16 +8,15 @@
 
 mod cursor;
 mod leb;
+mod length;
 mod program;
 mod refusal;
 mod target;
 mod write;
 
 pub use cursor::{Cursor, are_bytes};
+pub use length::{sleb_len, uleb_len};
 pub use program::Program;
 pub use refusal::{Code, Refusal};
 pub use target::{Form, Order, Size, Target, UnitLength};
 pub use write::{put_fixed, put_sleb, put_uleb};
-
-#[cfg(test)]
-mod tests;

@@ -28,7 +28,7 @@ pub enum Code {
     NoSuchCie,
     /// An FDE's range passes the address space; the place is the range.
     RangeTooLarge,
-    /// An opcode that is no call frame instruction's (7.24).
+    /// An opcode that is no call frame instruction's; the place is the opcode (7.24).
     UnknownInstruction,
     /// An instruction that a CIE's program may not hold; the place is its opcode.
     NotInCie,
@@ -44,7 +44,7 @@ pub enum Code {
     CfaNotRegister,
     /// An offset outside -(2^63-1) to 2^63-1; the place is the instruction's opcode.
     OffsetTooLarge,
-    /// An opcode that is no operation's (7.7.1).
+    /// An opcode that is no operation's; the place is the opcode (7.7.1).
     UnknownOperation,
     /// An operation that call frame expressions may not hold; the place is its opcode (6.4.2).
     NotInFrame,

@@ -1,6 +1,6 @@
 -- Where least spellings begin, and how the encoder goes over them.
 use Rattle.std.proofs.Common.{◌≡◌, ℕ, zero, suc, ◌+◌, ◌-◌, ◌<◌, ◌≤◌, List, [], ◌∷◌, ◌++◌, length, map, take, drop, get_or, Option, Some, None, refl, sym, ap, subst, ◌∙◌, inl, inr, append_assoc, arith}
-use Rattle.std.specs.Prelude.{slice_get, Result, Ok, Err, IfOk, IfErr, OnOk}
+use Rattle.std.specs.Prelude.{slice_get, Result, Ok, Err, OnOk}
 use Rattle.std.specs.List.{AllByRecursion}
 use Rattle.std.proofs.lemmas.Bool.{cases_lt}
 use Rattle.std.proofs.lemmas.List.{length-append, length-map, append-nil, get_or_append_left, get_or-append_right, length-take, take-append-le}
@@ -150,14 +150,6 @@ drop-all (op ∷ ops) (suc k) le = drop-all ops k (omega arith)
 pub encode_error : (t : Target) (ops : List Op) (bytes : List ℕ) (error : EncodeError) → Block t ops bytes → IsEncodeError t ops error → error ≡ OutOfMemory
 encode_error t ops bytes (BranchTooFar k) b e = absurd (far_has_no_block t ops k bytes e b)
 encode_error t ops bytes OutOfMemory b e = refl
-
-pub if_ok : {A E : Type 0} (P Q : A → Type 0) (r : Result A E) → ((x : A) → P x → Q x) → IfOk r P → IfOk r Q
-if_ok P Q (Ok x) f h = f x h
-if_ok P Q (Err e) f h = tt
-
-pub if_err : {A E : Type 0} (P Q : E → Type 0) (r : Result A E) → ((e : E) → P e → Q e) → IfErr r P → IfErr r Q
-if_err P Q (Ok x) f h = tt
-if_err P Q (Err e) f h = f e h
 
 pub on_ok : {A E : Type 0} (P Q : Type 0) (r : Result A E) → (P → Q) → OnOk r P → OnOk r Q
 on_ok P Q (Ok x) f h = f h

@@ -17,7 +17,7 @@ use Rattle.dw_op.specs.Windows.{block_of, WalkSo, Walked, WalkedBad, Walks}
 use Rattle.dw_op.specs.Accepted.{IsAccepted, ok_ops, ops_of, left_of, StepsSo}
 use Rattle.dw_op.proofs.Splits.{walk_step, walk_stuck, walk_end}
 use Rattle.dw_op.proofs.Blocks.{block_found, block_only}
-use Rattle.dw_op.proofs.Decoded.{Within, within_all, within_more, OpsSo, ops_none, ops_more, ops_bad, ops_all, answered, same_ops, bad_branch, step_shorter}
+use Rattle.dw_op.proofs.Decoded.{Within, within_all, within_more, OpsSo, ops_more, ops_bad, ops_all, answered, same_ops, bad_branch, step_shorter}
 
 -- a block without fault in its reading is decoded as its branches are resolved
 resolved_is : (i : Input) (r : Result (List Op) Refusal) → (walk Frame i).fault ≡ None → resolve (index_in Frame i) (walk Frame i).items ≡ r → decode_at Frame i ≡ r
@@ -38,9 +38,6 @@ pub record ReadSo (i j : Input) (found : Bool) : Type 0 where
   pub within : Within i j
   pub fault : (walk Frame j).fault ≡ (walk Frame i).fault
   pub plain : found ≡ false → SoFar i j
-
-pub read_none : (i : Input) → AreBytes i.bytes → ReadSo i i false
-read_none i h = record { within = within_all i h; fault = refl; plain = λ e. ([], ops_none Frame i (index_in Frame i) h) }
 
 read_fault : (i j : Input) (x : Step × Input) → Within i j → (walk Frame j).fault ≡ (walk Frame i).fault → step_at Frame j ≡ done x → (walk Frame x.1).fault ≡ (walk Frame i).fault
 read_fault i j x w h e = sym (ap (λ (y : Walk). y.fault) (walk_step Frame j x w.bytes e)) ∙ h
@@ -80,13 +77,6 @@ pub record CheckSo (i : Input) (w : Walker) : Type 0 where
   pub so : WalkSo w
   pub block : block_of w ≡ i
   pub far : SoFar i w.here
-
-pub check_none : (i : Input) (w : Walker) → WalkSo w → block_of w ≡ i → w.here ≡ i → CheckSo i w
-check_none i w so block here = record {
-  so = so;
-  block = block;
-  far = ([], subst (λ (j : Input). OpsSo Frame i j (index_in Frame i) []) (sym here) (ops_none Frame i (index_in Frame i) (subst (λ (j : Input). AreBytes j.bytes) block so.bytes)));
-}
 
 pub check_more : (i : Input) (w v : Walker) (op : Op) → CheckSo i w → Walked w v op → CheckSo i v
 check_more i w v op h s =

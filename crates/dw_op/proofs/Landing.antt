@@ -1,6 +1,6 @@
 -- Walks from an operation on, and what they know of the block's starts.
-use Rattle.std.proofs.Common.{◌≡◌, ℕ, ◌+◌, ◌-◌, ◌<◌, ◌≤◌, List, [], ◌∷◌, length, Option, Some, None, Result, Ok, Err, refl, sym, ap, ◌∙◌, inl, inr, arith}
-use Rattle.std.proofs.lemmas.Bool.{cases_lt, eq-eqb, ne_eqb, lt-ltb, le-ltb}
+use Rattle.std.proofs.Common.{◌≡◌, ℕ, ◌+◌, ◌<◌, ◌≤◌, List, [], ◌∷◌, length, Option, Some, None, Result, Ok, Err, refl, sym, ap, ◌∙◌, arith}
+use Rattle.std.proofs.lemmas.Bool.{eq-eqb, ne_eqb}
 use Rattle.std.proofs.lemmas.List.{length-append}
 use Rattle.dw_num.specs.declared.refusal.Refusal.{Refusal}
 use Rattle.dw_num.specs.declared.target.Target.{Target}
@@ -10,7 +10,7 @@ use Rattle.dw_op.specs.declared.profile.Profile.TheVariants.{Frame}
 use Rattle.dw_op.specs.declared.reading.Step.{Step}
 use Rattle.dw_op.specs.Block.{joined}
 use Rattle.dw_op.specs.Reading.{step_at}
-use Rattle.dw_op.specs.Walk.{Item, Walk, walk, end_of, plus, passed, one, goes_to}
+use Rattle.dw_op.specs.Walk.{Item, Walk, walk, end_of, plus, passed, one}
 use Rattle.dw_op.specs.Windows.{Shifted}
 use Rattle.dw_op.proofs.Splits.{EachSpells, items_from, split_of, walk_step, walk_stuck, walk_end}
 use Rattle.dw_op.proofs.Decoded.{Within, within_all, within_more, step_shorter}
@@ -75,7 +75,7 @@ plus_zero None = refl
 plus_zero (Some k) = ap (λ (j : ℕ). Some j) (omega arith)
 
 -- the walk over what is left is without fault
-read_on : (i j : Input) (x : Step × Input) → Within i j → (walk Frame j).fault ≡ None → step_at Frame j ≡ done x → (walk Frame x.1).fault ≡ None
+pub read_on : (i j : Input) (x : Step × Input) → Within i j → (walk Frame j).fault ≡ None → step_at Frame j ≡ done x → (walk Frame x.1).fault ≡ None
 read_on i j x h read e = sym (ap (λ (w : Walk). w.fault) (walk_step Frame j x h.bytes e)) ∙ read
 
 -- a walk without fault does not stop before the end
@@ -129,9 +129,6 @@ count_past i j place count h lt =
 pub shifted_within : (i : Input) (low count : ℕ) (j : Input) → Shifted i low count j → Within i j
 shifted_within i low count j h = record { bytes = h.bytes; end = h.end; target = h.target }
 
-pub shifted_all : (i : Input) (low : ℕ) → AreBytes i.bytes → (walk Frame i).fault ≡ None → Shifted i low 0 i
-shifted_all i low h read = record { bytes = h; end = refl; target = refl; read = read; few = omega arith; same = λ place le. plus_zero (starts_at (end_of i) i place) }
-
 -- one operation further, where it begins below low
 pub shifted_more : (i : Input) (low count : ℕ) (j : Input) (x : Step × Input) → Shifted i low count j → step_at Frame j ≡ done x → j.at < low → Shifted i low (count + 1) x.1
 shifted_more i low count j x h e lt =
@@ -163,16 +160,3 @@ shifted_on i low n m j k h q = record {
       ∙ ap (λ (o : Option ℕ). plus n o) (ap (λ (e : ℕ). plus m (starts_at e k place)) (sym h.end) ∙ q.same place le ∙ ap (λ (e : ℕ). starts_at e j place) h.end)
       ∙ h.same place le;
 }
-
--- a branch leads at most 32,768 bytes back
-some_is : (a b : ℕ) → Some a ≡ Some b → a ≡ b
-some_is a b e = cc
-
-pub goes_low : (end number place : ℕ) → goes_to end number ≡ Some place → end - 32768 ≤ place
-goes_low end number place e = elim (cases_lt number 32768) [
-  | inl lt ↦ let is : end + number ≡ place = some_is (end + number) place (rw (lt-ltb number 32768 lt) at e) in omega arith
-  | inr ge ↦ let e1 = rw (le-ltb number 32768 ge) at e in elim (cases_lt (end + number) 65536) [
-    | inl lt ↦ let none : Option ℕ = None in let k : none ≡ Some place = rw (lt-ltb (end + number) 65536 lt) at e1 in absurd cc
-    | inr far ↦ let is : end + number - 65536 ≡ place = some_is (end + number - 65536) place (rw (le-ltb (end + number) 65536 far) at e1) in omega arith
-  ]
-]

@@ -29,19 +29,6 @@ Reach limit Consts v code len =
 abbrev pub Beats : ℕ → ℕ → ℕ → ℕ → Type 0
 Beats len code len' code' = len * 256 + code ≤ len' * 256 + code'
 
-pub line_lit : (limit v code len : ℕ) (form : ConstForm) → v < limit → 2 ^ 32 ≤ limit → (v < 32) → Reach limit form v code len → 1 ≤ len
-line_lit limit v code len Lit small wide here h = omega arith
-line_lit limit v code len Const1u small wide here h = omega arith
-line_lit limit v code len Const1s small wide here h = omega arith
-line_lit limit v code len Const2u small wide here h = omega arith
-line_lit limit v code len Const2s small wide here h = omega arith
-line_lit limit v code len Const4u small wide here h = omega arith
-line_lit limit v code len Const4s small wide here h = omega arith
-line_lit limit v code len Const8u small wide here h = omega arith
-line_lit limit v code len Const8s small wide here h = omega arith
-line_lit limit v code len Constu small wide here h = omega arith
-line_lit limit v code len Consts small wide here h = omega arith
-
 pub line_1u : (limit v code len : ℕ) (form : ConstForm) → v < limit → 2 ^ 32 ≤ limit → (32 ≤ v) × (v < 256) → Reach limit form v code len → Beats 2 (0x08) len code
 line_1u limit v code len Lit small wide here h = omega arith
 line_1u limit v code len Const1u small wide here h = omega arith

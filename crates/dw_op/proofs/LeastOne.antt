@@ -58,10 +58,6 @@ pub least_block_length : (t : Target) (ops : List Op) → length (least_block t 
 unfolding least_block
 least_block_length t ops = from_length t (blank_parts t ops) 0 ops
 
--- the length of a least block is the sum of its operations' least lengths
-pub least_length_is : (t : Target) (ops : List Op) (bytes : List ℕ) → LeastBlock t ops bytes → length bytes ≡ least_len t ops
-least_length_is t ops bytes b = ap length (least_block_only t ops bytes b) ∙ least_block_length t ops
-
 -- and no block of the operations is shorter than that
 pub least_len_within : (t : Target) (ops : List Op) (bytes : List ℕ) → Block t ops bytes → least_len t ops ≤ length bytes
 least_len_within t ops bytes b =

@@ -23,3 +23,5 @@ pub mod Judging
 pub mod Lines
 pub mod PlainBlocks
 pub mod FaultPlaces
+pub mod Starts
+pub mod Putting

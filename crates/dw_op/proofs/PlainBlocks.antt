@@ -1,7 +1,7 @@
 -- Operations without branches in their least spelling.
 use Rattle.std.proofs.Common.{◌≡◌, ℕ, suc, ◌<◌, ◌≤◌, ◌^◌, List, [], ◌∷◌, ◌++◌, length, take, Option, Some, None, refl, sym, ap, ◌∙◌, append_assoc, arith}
 use Rattle.std.specs.Prelude.{is_some, false}
-use Rattle.std.proofs.lemmas.List.{append-nil, length-append, take_at}
+use Rattle.std.proofs.lemmas.List.{append-nil, length-append}
 use Rattle.dw_num.specs.declared.target.Target.{Target}
 use Rattle.dw_op.specs.declared.op.Op.{Op}
 use Rattle.dw_op.specs.Block.{branch_target, joined, FrameBlock}
@@ -44,12 +44,6 @@ pub record PlainSo (t : Target) (all ops : List Op) (old out : List ℕ) : Type 
   pub front : take (length old) out ≡ old
   pub long : length old ≤ length out
   pub plain : NoBranch ops → NoBranch all
-
-pub plain_start : (t : Target) (all : List Op) (old : List ℕ) → PlainSo t all all old old
-plain_start t all old = record { appended = refl; front = whole old; long = omega arith; plain = λ h. h }
-  where
-    whole : (l : List ℕ) → take (length l) l ≡ l
-    whole l = ap (λ (x : List ℕ). take (length l) x) (sym (append-nil l)) ∙ take_at l [] (length l) refl
 
 front_of : (old out more : List ℕ) → length old ≤ length out → take (length old) out ≡ old → take (length old) (out ++ more) ≡ old
 front_of [] out more le e = refl

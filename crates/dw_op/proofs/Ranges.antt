@@ -1,6 +1,6 @@
 -- What it takes for an operation to have a spelling.
-use Rattle.std.proofs.Common.{◌≡◌, ℕ, zero, suc, map, get_or, subst, ◌%◌, ◌^◌, ◌<◌, List, [], ◌∷◌, ◌++◌, length, refl, inr, arith, ℤ, pos, negsuc}
-use Rattle.std.specs.Prelude.{Some, slice_get}
+use Rattle.std.proofs.Common.{◌≡◌, ℕ, suc, map, get_or, subst, ◌%◌, ◌^◌, ◌<◌, List, [], ◌∷◌, ◌++◌, length, refl, inr, arith, ℤ, pos, negsuc}
+use Rattle.std.specs.Prelude.{Some}
 use Rattle.std.proofs.lemmas.List.{length-map}
 use Rattle.std.proofs.lemmas.Option.{slice_get-map, slice_get-get_or}
 use Rattle.std.proofs.Math.Nat.{mod-eq_of_lt, mod-lt}
@@ -17,7 +17,7 @@ use Rattle.dw_op.specs.declared.op.Op.{Op}
 use Rattle.dw_op.specs.declared.op.Op.TheVariants.{Addr, Deref, Const, Dup, Drop, Over, Pick, Swap, Rot, Abs, And, Div, Minus, Mod, Mul, Neg, Not, Or, Plus, PlusUconst, Shl, Shr, Shra, Xor, Bra, Eq, Ge, Gt, Le, Lt, Ne, Skip, Reg, Breg, Fbreg, Piece, DerefSize, Nop, PushObjectAddress, CallFrameCfa, BitPiece, Implicit, StackValue}
 use Rattle.dw_op.specs.Expression.{bare}
 use Rattle.dw_op.specs.OpSpells.{Const8u, modulo, Code, Unsigned, Both, Counted}
-use Rattle.dw_op.specs.Ranges.{IsTyped, Fits, InRange, AllInRange, FirstBadOperand}
+use Rattle.dw_op.specs.Ranges.{IsTyped, Fits, InRange, FirstBadOperand}
 
 -- ---- one spelling of each operation
 
@@ -120,13 +120,3 @@ first_bad t ops k d lt bad earlier =
           let is : bare (get_or ops j d) ≡ other = cc in
           subst (λ (o : Op). InRange t (length ops) o) is (earlier j before));
     }
-
--- a list in range has no bad operand
-pub none_bad : (t : Target) (ops : List Op) (k : ℕ) → AllInRange t ops → FirstBadOperand t ops k → ⊥
-none_bad t ops k all f = f.bad (at_place (InRange t (length ops)) ops k f.op all f.is)
-  where
-    at_place : (P : Op → Type 0) (ops : List Op) (k : ℕ) (op : Op) → AllByRecursion P ops → slice_get ops k ≡ Some op → P op
-    at_place P [] zero op h e = absurd cc
-    at_place P [] (suc k) op h e = absurd cc
-    at_place P (o ∷ ops) zero op h e = let is : o ≡ op = cc in subst P is h.0
-    at_place P (o ∷ ops) (suc k) op h e = at_place P ops k op h.1 e

@@ -11,10 +11,10 @@ use Rattle.dw_op.specs.declared.reading.Step.TheVariants.{Jump}
 use Rattle.dw_op.specs.declared.reading.Branch.{Branch}
 use Rattle.dw_op.specs.declared.walking.Walker.{Walker}
 use Rattle.dw_op.specs.Reading.{step_at}
-use Rattle.dw_op.specs.Walk.{walk, end_of, plus, passed, one, index_in, goes_to, find_at, branch_to, op_of, block_input}
+use Rattle.dw_op.specs.Walk.{walk, index_in, goes_to, find_at, branch_to, op_of, block_input}
 use Rattle.dw_op.specs.Windows.{Shifted, block_of, WalkSo, SoughtSo, Walked, WalkedBad}
 use Rattle.dw_op.proofs.Decoded.{step_shorter}
-use Rattle.dw_op.proofs.Landing.{shifted_more, shifted_later, shifted_on}
+use Rattle.dw_op.proofs.Landing.{shifted_more, shifted_later}
 
 module _ (w : Walker) (x : Step × Input) (h : WalkSo w) (e : step_at Frame w.here ≡ done x) where
   -- what is behind the operation
@@ -102,13 +102,3 @@ module _ (w : Walker) (x : Step × Input) (h : WalkSo w) (e : step_at Frame w.he
       bad = resolved None (ap (λ (p : Option ℕ). branch_to branch p) none);
       is = refl;
     }
-
--- ---- the answer of a search
-
--- a window that was moved on
-pub window_moved : (w : Walker) (end n : ℕ) (v : Input) → SoughtSo end w → Shifted w.window (end - 32768) n v → Shifted (block_of w) (end - 32768) (w.window_count + n) v
-window_moved w end n v h q = shifted_on (block_of w) (end - 32768) w.window_count n w.window v h.before q
-
--- what is found from a place on
-pub found_from : (i : Input) (low count place : ℕ) (j : Input) → Shifted i low count j → low ≤ place → plus count (passed one (walk Frame j).items (end_of j) place) ≡ index_in Frame i place
-found_from i low count place j h le = ap (λ (n : ℕ). plus count (passed one (walk Frame j).items n place)) h.end ∙ h.same place le

@@ -15,3 +15,5 @@ pub mod Windows
 pub mod Accepted
 pub mod Comparing
 pub mod ComparingLaws
+pub mod Lengths
+pub mod Points

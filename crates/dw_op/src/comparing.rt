@@ -1,6 +1,6 @@
 //! Equality of expressions, and their hash.
 
-ghost use Rattle.std.specs.Prelude.{◌≡◌, ℕ, List, ◌∷◌, ◌++◌, [], pos, length, IsTrue, ◌↔◌, map};
+ghost use Rattle.std.specs.Prelude.{◌≡◌, ◌++◌, [], pos, IsTrue, ◌↔◌, map};
 ghost use Rattle.std.specs.List.{fold};
 ghost use Rattle.std.specs.Hash as fed;
 ghost use Rattle.dw_op.specs.Expression.{bare};

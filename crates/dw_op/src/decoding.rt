@@ -1,6 +1,6 @@
 //! Blocks as lists of operations.
 
-ghost use Rattle.std.specs.Prelude.{◌≡◌, ◌<◌, ◌+◌, ◌^◌, ℕ, List, map, length, Some, None, MatchOption, MatchResult, IfOk, IfErr, ◌-◌, ◌⊎◌, Ok, Err};
+ghost use Rattle.std.specs.Prelude.{◌≡◌, ◌<◌, ◌+◌, ◌^◌, List, map, length, Some, None, MatchOption, MatchResult, IfOk, IfErr, ◌-◌, ◌⊎◌, Ok, Err};
 ghost use Rattle.dw_num.specs.declared.refusal.Refusal.{Refusal};
 ghost use Rattle.dw_op.specs.declared.op.Op.{Op};
 ghost use Rattle.dw_op.specs.Expression.{bare};

@@ -1,6 +1,6 @@
 //! Writing lists of operations.
 
-ghost use Rattle.std.specs.Prelude.{◌≡◌, ℕ, ◌+◌, ◌-◌, ◌-ℤ◌, ◌<◌, ◌≤◌, List, length, map, pos, FitsSigned, ◌++◌, take, MatchOption, IfOk, IfErr, OnOk, OnErr};
+ghost use Rattle.std.specs.Prelude.{◌≡◌, ℕ, ◌+◌, ◌-◌, ◌-ℤ◌, ◌<◌, List, length, map, pos, FitsSigned, ◌++◌, take, MatchOption, IfOk, IfErr, OnOk, OnErr};
 ghost use Rattle.std.specs.Int.{w16, cast_unsigned};
 ghost use Rattle.dw_op.specs.declared.encoding.EncodeError.TheVariants.{OutOfMemory};
 ghost use Rattle.dw_op.specs.Expression.{bare};
@@ -44,7 +44,7 @@ impl From<AllocError> for EncodeError {
     }
 }
 
-fn branch_target(op: &Op<'_>) -> Option<usize>
+pub(crate) fn branch_target(op: &Op<'_>) -> Option<usize>
     ensures { result ≡ branch_target (bare op.now) }
 {
     match *op {
@@ -135,20 +135,6 @@ fn push_list(out: &mut Vec<u8>, list: &OpList<'_>) -> Result<(), EncodeError>
     let ops = list.ops();
     let starts = least_starts(*out.allocator(), ops, target)?;
     push_ops(out, ops, target, &starts)
-}
-
-/// Appends the block that `encode` answers. Where it answers an error nothing is appended.
-pub(crate) fn put_list(out: &mut Vec<u8>, list: &OpList<'_>) -> Result<(), EncodeError>
-    ensures ok { OnOk result (IsAppended (LeastBlock list.now.target list.now.ops) out.old.items out.new.items) }
-    ensures far { IfErr result (IsEncodeError list.now.target list.now.ops) }
-    ensures err { OnErr result (out.new.items ≡ out.old.items) }
-{
-    let start = out.len();
-    let result = push_list(out, list);
-    if result.is_err() {
-        out.truncate(start);
-    }
-    result
 }
 
 /// The block of the operations' least spellings: no block of the same operations is shorter.

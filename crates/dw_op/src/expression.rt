@@ -1,6 +1,6 @@
 //! Expressions that are borrowed from a section.
 
-ghost use Rattle.std.specs.Prelude.{◌≡◌, ℕ, List, [], ◌∷◌, IfOk, IfErr, MatchOption, MatchResult, OnOk, OnErr, IsTrue, ◌↔◌, length};
+ghost use Rattle.std.specs.Prelude.{◌≡◌, ℕ, List, [], ◌∷◌, IfOk, IfErr, MatchOption, MatchResult, OnOk, OnErr, IsTrue, ◌↔◌, length, take};
 ghost use Rattle.std.specs.Iterator.{YieldsFirstBy, item_count};
 ghost use Rattle.dw_op.specs.declared.op.Op.{Op};
 ghost use Rattle.dw_op.specs.declared.profile.Profile.TheVariants.{Frame};
@@ -8,18 +8,17 @@ ghost use Rattle.dw_op.specs.Expression.{bare};
 ghost use Rattle.dw_op.specs.Block.{FrameBlock};
 ghost use Rattle.dw_op.specs.Least.{LeastBlock};
 ghost use Rattle.dw_op.specs.Faults.{BlockFault};
-ghost use Rattle.dw_op.specs.Walk.{block_input};
 ghost use Rattle.dw_op.specs.Encoding.{IsAppended};
 ghost use Rattle.dw_op.specs.Accepted.{IsAccepted, ops_of};
 
 use crate::accepting::judge;
 use crate::comparing::{feed_steps, feed_target, same_steps};
 use crate::decoding::decode;
-use crate::encoding::put_list;
 use crate::list::OpList;
+use crate::measuring::Lengths;
 use crate::op::Op;
 use crate::profile::Profile;
-use crate::rewriting::{put_plain, steps_len};
+use crate::rewriting::{put_plain, put_steps, steps_len};
 use crate::walking::Walker;
 use dw_num::{Refusal, Target, are_bytes};
 use std::alloc::{AllocError, Global};
@@ -176,36 +175,32 @@ impl<'a> ExprRef<'a> {
         steps_len(self.steps(), self.target)
     }
 
-    // Appends the block of least spellings by way of the list of operations.
-    fn put_branches(&self, out: &mut Vec<u8>) -> Result<(), AllocError>
+    // Appends the block of least spellings, and may leave some of it where memory runs out.
+    fn push_least(&self, out: &mut Vec<u8>) -> Result<(), AllocError>
         ensures ok { OnOk result (IsAppended (LeastBlock self.now.target self.now.ops) out.old.items out.new.items) }
-        ensures err { OnErr result (out.new.items ≡ out.old.items) }
+        ensures front { take (length out.old.items) out.new.items ≡ out.old.items }
     {
-        let list = self.ops(*out.allocator())?;
-        match put_list(out, &list) {
-            Ok(()) => Ok(()),
-            Err(_) => Err(AllocError),
+        let start = out.len();
+        if put_plain(self.steps(), self.target, out)? {
+            return Ok(());
         }
+        out.truncate(start);
+        let lengths = Lengths::new(self.bytes, self.target);
+        put_steps(self.steps(), lengths, self.target, out)
     }
 
-    /// Appends the block of the operations' least spellings, or appends nothing where memory runs out.
-    /// Where there is a branch, memory is taken for the list of operations too.
+    /// Appends the block of the operations' least spellings, or appends nothing where memory runs out. No
+    /// other memory is taken. A branch costs a walk to where it leads.
     pub fn put_least(&self, out: &mut Vec<u8>) -> Result<(), AllocError>
         ensures ok { OnOk result (IsAppended (LeastBlock self.now.target self.now.ops) out.old.items out.new.items) }
         ensures err { OnErr result (out.new.items ≡ out.old.items) }
     {
         let start = out.len();
-        match put_plain(self.steps(), self.target, out) {
-            Ok(true) => Ok(()),
-            Ok(false) => {
-                out.truncate(start);
-                self.put_branches(out)
-            }
-            Err(error) => {
-                out.truncate(start);
-                Err(error)
-            }
+        let result = self.push_least(out);
+        if result.is_err() {
+            out.truncate(start);
         }
+        result
     }
 }
 

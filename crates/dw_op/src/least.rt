@@ -1,15 +1,14 @@
 //! The least spelling of an operation.
 
-ghost use Rattle.std.specs.Prelude.{◌≡◌, Bool, List, ◌++◌, OnOk, OnErr, take, ℕ, ◌+◌, ◌-◌, ◌<◌, ◌≤◌, ◌^◌, negsuc, length};
+ghost use Rattle.std.specs.Prelude.{◌≡◌, ◌++◌, OnOk, OnErr, take, ℕ, ◌+◌, ◌-◌, ◌<◌, ◌^◌, negsuc, length};
 ghost use Rattle.dw_num.specs.Target.{address_limit};
 ghost use Rattle.dw_num.specs.declared.target.Order.{Order};
-ghost use Rattle.dw_num.specs.Scan.{as_signed};
 ghost use Rattle.dw_num.specs.Shortest.{shortest_uleb, shortest_sleb};
 ghost use Rattle.dw_op.specs.Expression.{bare};
 ghost use Rattle.dw_op.specs.LeastOf.{spelling, address, operand_bytes, spelling_bytes, least_bytes, constant, long_constant, longest_constant, register_form, register_offset, least_spelling};
 
 use crate::op::Op;
-use dw_num::{Order, Size, Target, put_fixed, put_sleb, put_uleb};
+use dw_num::{Order, Size, Target, put_fixed, put_sleb, put_uleb, sleb_len, uleb_len};
 use std::alloc::AllocError;
 
 /// What follows an opcode.
@@ -204,46 +203,6 @@ pub(crate) fn least_spelling<'a>(op: &Op<'a>, displacement: u16, target: Target)
 }
 
 // ---- its length
-
-// How many bytes the shortest LEB128 spelling of an unsigned number has (7.6).
-fn uleb_len(value: u64) -> usize
-    ensures len { result ≡ length (shortest_uleb value) }
-    ensures most { result ≤ 10 }
-{
-    let mut rest = value;
-    let mut len = 1;
-    'groups: while rest > 127 {
-        rest /= 128;
-        len += 1;
-    }
-    len
-}
-
-// The same of a signed number, given how far it is from zero, or from -1 if it is negative.
-fn signed_len(magnitude: u64) -> usize
-    requires { magnitude < 2 ^ 63 }
-    ensures len { (is_negative : Bool) → result ≡ length (shortest_sleb (as_signed is_negative magnitude)) }
-    ensures most { result ≤ 10 }
-{
-    let mut rest = magnitude;
-    let mut len = 1;
-    'groups: while rest > 63 {
-        rest /= 128;
-        len += 1;
-    }
-    len
-}
-
-fn sleb_len(value: i64) -> usize
-    ensures len { result ≡ length (shortest_sleb value) }
-    ensures most { result ≤ 10 }
-{
-    if value < 0 {
-        signed_len((-1 - value) as u64)
-    } else {
-        signed_len(value as u64)
-    }
-}
 
 fn operand_len(operand: Operand<'_>) -> usize
     ensures len { (order : Order) → result ≡ length (operand_bytes order operand.entry) }

@@ -9,6 +9,7 @@ mod expression;
 mod laws;
 mod least;
 mod list;
+mod measuring;
 mod op;
 mod profile;
 mod reading;
@@ -22,8 +23,3 @@ pub use laws::block_laws;
 pub use list::{BadOperand, OpList};
 pub use op::Op;
 pub use profile::Profile;
-
-#[cfg(test)]
-mod tests;
-#[cfg(test)]
-mod tests_writing;

@@ -1,6 +1,6 @@
-//! Lists of operations that a target has.
+//! Lists of operations that are in range for a target.
 
-ghost use Rattle.std.specs.Prelude.{◌≡◌, ℕ, ◌≤◌, length, map, ◌<◌, IsTrue, ◌↔◌, MatchOption, IfOk, IfErr, IsOk, []};
+ghost use Rattle.std.specs.Prelude.{◌≡◌, ◌≤◌, length, map, ◌<◌, IsTrue, ◌↔◌, MatchOption, IfOk, IfErr, IsOk, []};
 ghost use Rattle.dw_num.specs.Target.{byte_count, address_limit};
 ghost use Rattle.dw_op.specs.Expression.{Expression, bare};
 ghost use Rattle.dw_op.specs.Ranges.{Fits, InRange, AllInRange, FirstBadOperand};

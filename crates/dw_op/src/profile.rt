@@ -1,4 +1,4 @@
-//! Where a block stands.
+//! What a block is for.
 
 ghost use Rattle.std.specs.Prelude.{◌≡◌};
 ghost use Rattle.dw_op.specs.Profile.{in_frame};

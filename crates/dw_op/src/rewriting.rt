@@ -1,12 +1,16 @@
 //! Expressions in their least spelling.
 
-ghost use Rattle.std.specs.Prelude.{◌≡◌, ◌<◌, ◌^◌, ◌++◌, true, length, take, IfOk, is_some};
+ghost use Rattle.std.specs.Prelude.{◌≡◌, ℕ, ◌<◌, ◌^◌, ◌++◌, List, true, length, take, IfOk, OnOk, is_some};
 ghost use Rattle.dw_op.specs.Block.{branch_target};
 ghost use Rattle.dw_op.specs.Expression.{bare};
-ghost use Rattle.dw_op.specs.Encoding.{least_len, least_block};
+ghost use Rattle.dw_op.specs.Encoding.{EachFits, blank_parts, least_len, least_block};
+ghost use Rattle.dw_op.specs.Lengths.{least_lengths};
+ghost use Rattle.dw_op.specs.Points.{AreSmall, ArePlaces, IsBranching, bits_at};
 
+use crate::encoding::branch_target;
 use crate::expression::OpSteps;
 use crate::least::{op_least_len, put_op};
+use crate::measuring::{Lengths, Places};
 use crate::op::Op;
 use dw_num::Target;
 use std::alloc::AllocError;
@@ -45,4 +49,39 @@ pub(crate) fn put_plain(
         put_op(out, &op, 0, target)?;
     }
     Ok(true)
+}
+
+// The sixteen bits of the displacement of a branch that ends here, 0 for another operation.
+fn branch_bits(places: &mut Places<'_>, op: &Op<'_>) -> u16
+    requires { IsBranching (branch_target (bare op.now)) places.old }
+    ensures bits { (lengths : List ℕ) → ArePlaces lengths places.old → result ≡ bits_at lengths places.old.here.index (branch_target (bare op.now)) }
+    ensures places { (lengths : List ℕ) → ArePlaces lengths places.old → ArePlaces lengths places.new }
+    ensures here { places.new.here ≡ places.old.here }
+{
+    match branch_target(op) {
+        Some(goal) => places.displacement(goal),
+        None => 0,
+    }
+}
+
+/// Appends the least spellings of operations, of which these are the lengths. It may leave some of them
+/// where memory runs out.
+pub(crate) fn put_steps<'a>(
+    mut steps: OpSteps<'a>,
+    lengths: Lengths<'a>,
+    target: Target,
+    out: &mut Vec<u8>,
+) -> Result<(), AllocError>
+    requires lengths { lengths ≡ least_lengths target steps }
+    requires small { AreSmall lengths }
+    requires fits { EachFits (blank_parts target steps) 0 steps }
+    ensures all { OnOk result (out.new.items ≡ out.old.items ++ least_block target steps.entry) }
+    ensures front { take (length out.old.items) out.new.items ≡ out.old.items }
+{
+    let mut places = Places::new(lengths);
+    'ops: while let Some(op) = steps.step() {
+        places.step();
+        put_op(out, &op, branch_bits(&mut places, &op), target)?;
+    }
+    Ok(())
 }

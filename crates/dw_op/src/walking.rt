@@ -1,6 +1,6 @@
 //! The operations of a block one after another, without memory.
 
-ghost use Rattle.std.specs.Prelude.{◌≡◌, ◌<◌, ◌≤◌, ◌+◌, ◌-◌, ◌^◌, Some, None, IfSome, length};
+ghost use Rattle.std.specs.Prelude.{◌≡◌, ◌<◌, ◌≤◌, ◌+◌, ◌-◌, Some, None, IfSome, length};
 ghost use Rattle.dw_num.specs.Input.{AreBytes};
 ghost use Rattle.dw_op.specs.declared.profile.Profile.TheVariants.{Frame};
 ghost use Rattle.dw_op.specs.Walk.{walk, end_of, index_at, index_in, goes_to, find_at, block_input};
@@ -26,8 +26,8 @@ pub(crate) struct Walker<'a> {
     pub(crate) window_count: usize,
 }
 
-// A second cursor at the same place.
-fn copied<'a>(cursor: &Cursor<'a>) -> Cursor<'a>
+/// A second cursor at the same place.
+pub(crate) fn copied<'a>(cursor: &Cursor<'a>) -> Cursor<'a>
     ensures { result ≡ cursor.now }
 {
     Cursor::new(cursor.rest(), cursor.at(), cursor.target())

@@ -31,18 +31,6 @@ gap_bytes : (order : Order) → length_bytes order Dwarf32 0 ≡ 0 ∷ 0 ∷ 0 �
 gap_bytes Little = refl
 gap_bytes Big = refl
 
-pub gap_takes : (i j : Input) (u : UnitLength) (b : List ℕ) → SpellsLength i.target.order u b → Takes i b j → u.length ≡ 0 → u.form ≡ Dwarf32 → Takes i (item_bytes i.target.order gap) j
-gap_takes i j u b s t none is = subst (λ (c : List ℕ). Takes i c j) (s.bytes ∙ rw (is, none) (gap_bytes i.target.order)) t
-
-pub entry_takes : (i j k : Input) (u : UnitLength) (b body : List ℕ) → SpellsLength i.target.order u b → Takes i b j → length body ≡ u.length → Takes j body k → id_width u.form ≤ u.length
-    → IsItem (entry u.form body) × Takes i (item_bytes i.target.order (entry u.form body)) k
-entry_takes i j k u b body s t len q wide =
-    (rw len (s.fits, wide), rw (len, ← s.bytes) (Takes-then i j k b body t q))
-
--- where the contents of an entry stand
-pub entry_placed : (i j : Input) (u : UnitLength) (b body : List ℕ) → SpellsLength i.target.order u b → Takes i b j → length body ≡ u.length → j.at ≡ i.at + length (length_bytes i.target.order u.form (length body))
-entry_placed i j u b body s t len = t.at ∙ rw (len, ← s.bytes) refl
-
 -- ---- items in a row
 
 -- what a walk knows: the items so far, and the entries among them
@@ -105,17 +93,6 @@ pub walked_end : (target : Target) (s : List ℕ) (now : Input) (found : List Pi
 walked_end target s now found small none w =
     let e : now.bytes ≡ [] = nil_from_length now.bytes (omega arith) in
     record { small = small; items = w.items; cut = record { each = w.each; whole = w.whole ∙ ap (λ (b : List ℕ). all_bytes target.order w.items ++ b) e ∙ append-nil _ }; are = w.are }
-
-pub walked_stuck : (target : Target) (s : List ℕ) (now : Input) (found : List Piece) (r : Refusal) → 0 < length now.bytes → item_at now ≡ Err r → IsWalked target s now found → IsStuck target s r
-walked_stuck target s now found r some e w = record {
-  items = w.items;
-  rest = now.bytes;
-  each = w.each;
-  whole = w.whole;
-  some = some;
-  stuck = subst (λ (g : Target). item_at (record { at = length (all_bytes target.order w.items); bytes = now.bytes; target = g }) ≡ Err r) w.same
-      (subst (λ (n : ℕ). item_at (record { at = n; bytes = now.bytes; target = now.target }) ≡ Err r) w.place e);
-}
 
 -- ---- a section has at most one cut
 
@@ -210,9 +187,6 @@ pub record IsListed (target : Target) (s : List ℕ) (now : Input) (found : List
   pub walked : IsWalked target s now parts
   pub are : found ≡ map entry_of parts
 
-pub listed_start : (target : Target) (s : List ℕ) → IsListed target s (record { at = 0; bytes = s; target = target }) []
-listed_start target s = record { parts = []; walked = walked_start target s; are = refl }
-
 pub listed_entry : (target : Target) (s : List ℕ) (old new : Input) (found : List Entry) (form : Form) (kind : Kind) (at place : ℕ) (body : List ℕ) → IsListed target s old found
     → IsItem (entry form body) → Takes old (item_bytes old.target.order (entry form body)) new → at ≡ old.at → kind ≡ is_cie form body → place ≡ old.at + length (length_bytes old.target.order form (length body))
     → IsListed target s new (found ++ record { at = at; kind = kind; form = form; length = length body } ∷ [])
@@ -226,9 +200,6 @@ listed_entry target s old new found form kind at place body w is t at-is kind-is
 
 pub listed_gap : (target : Target) (s : List ℕ) (old new : Input) (found : List Entry) → IsListed target s old found → Takes old (item_bytes old.target.order gap) new → IsListed target s new found
 listed_gap target s old new found w t = record { parts = w.parts; walked = rw append-nil at (walked_more target s old new w.parts gap w.walked tt t); are = w.are }
-
-pub listed_end : (target : Target) (s : List ℕ) (now : Input) (found : List Entry) → length s ≤ 2147483647 → length now.bytes ≤ 0 → IsListed target s now found → Entries target s found
-listed_end target s now found small none w = record { parts = w.parts; cut = walked_end target s now w.parts small none w.walked; are = w.are }
 
 -- a section has one list of entries
 pub one_entries : (target : Target) (s : List ℕ) (es fs : List Entry) → Entries target s es → Entries target s fs → es ≡ fs

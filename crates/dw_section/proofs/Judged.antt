@@ -140,9 +140,6 @@ steps_rows steps row initial f i begin e same h =
 
 -- ---- a machine that ran an FDE's program
 
-pub same_again : (m n o : Following) → n ≡ with_steps m n.steps → o ≡ with_steps n o.steps → o ≡ with_steps m o.steps
-same_again m n o first next = next ∙ ap (λ (x : Following). with_steps x o.steps) first
-
 pub all_set : {X : Type 0} (P : X → Type 0) (xs : List X) (i : ℕ) (y : X) → AllByRecursion P xs → P y → AllByRecursion P (set xs i y)
 all_set P [] i y h is = tt
 all_set P (x ∷ xs) zero y h is = (is, h.1)

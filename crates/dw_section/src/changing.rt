@@ -2,7 +2,7 @@
 
 ghost use Rattle.std.specs.Prelude.{◌≡◌, ◌↔◌, IsTrue, Some, None, true, IsErr, IfOk, OnOk, MatchOption};
 ghost use Rattle.dw_cfa.specs.Rows.{Rules};
-ghost use Rattle.dw_section.specs.Changes.{Before, GivesAddress, GivesChange, Shows, FindsChange, changing, now_of};
+ghost use Rattle.dw_section.specs.Changes.{Before, GivesAddress, GivesChange, FindsChange, changing, now_of};
 
 use dw_cfa::{Row, RowSteps};
 use std::alloc::AllocError;
@@ -112,6 +112,7 @@ impl<'a> Changes<'a> {
     pub fn advance(&mut self) -> Result<Option<u128>, AllocError>
         ensures gives { GivesAddress self.old result self.new }
         ensures again { self.old.failed ≡ true → IsErr result }
+        ensures end { self.new.end ≡ self.old.end }
     {
         if self.failed {
             return Err(AllocError);

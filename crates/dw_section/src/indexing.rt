@@ -1,6 +1,6 @@
 //! Nonempty FDEs in the order of their begins, and those that share an address.
 
-ghost use Rattle.std.specs.Prelude.{◌≡◌, ◌+◌, ◌<◌, ◌≤◌, ℕ, true, List, [], ◌∷◌, length, slice_index_or, map, IfOk, IfErr, IfSome, OnOk, MatchOption};
+ghost use Rattle.std.specs.Prelude.{◌≡◌, ◌+◌, ◌<◌, ℕ, true, List, [], ◌∷◌, length, slice_index_or, map, IfOk, IfErr, IfSome, OnOk, MatchOption};
 ghost use Rattle.std.specs.List.{AllByRecursion};
 ghost use Rattle.dw_num.specs.declared.refusal.Code.TheVariants.{Overlap};
 ghost use Rattle.dw_num.specs.declared.target.Target.{Target as TheTarget};

@@ -14,6 +14,7 @@ mod fields;
 mod heading;
 mod indexing;
 mod judging;
+mod laws;
 mod lookup;
 mod table;
 
@@ -21,12 +22,6 @@ pub use changing::Changes;
 pub use cutting::{Entry, Kind, entries, one_cut, one_cut_fault};
 pub use error::SectionError;
 pub use heading::{Header, headers, one_first_fault, one_order};
+pub use laws::section_laws;
 pub use lookup::{Fde, FdeRef, Fdes};
 pub use table::{Table, check, one_check_fault};
-
-#[cfg(test)]
-mod tests;
-#[cfg(test)]
-mod tests_check;
-#[cfg(test)]
-mod tests_lookup;

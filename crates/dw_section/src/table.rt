@@ -1,6 +1,6 @@
 //! Sections that are checked whole (6.4.1).
 
-ghost use Rattle.std.specs.Prelude.{◌≡◌, ℕ, List, map, IfOk, IfErr, MatchResult};
+ghost use Rattle.std.specs.Prelude.{◌≡◌, ℕ, List, IfOk, IfErr, MatchResult};
 ghost use Rattle.dw_num.specs.Input.{AreBytes};
 ghost use Rattle.dw_num.specs.declared.refusal.Refusal.{Refusal as TheRefusal};
 ghost use Rattle.dw_num.specs.declared.target.Target.{Target as TheTarget};
@@ -8,6 +8,8 @@ ghost use Rattle.dw_section.specs.declared.error.SectionError.TheVariants as The
 ghost use Rattle.dw_section.specs.declared.error.SectionError.TheVariants.{OutOfMemory};
 ghost use Rattle.dw_section.specs.Accepted.{RulesFault, CheckFault, Accepted};
 ghost use Rattle.dw_section.specs.Faults.{Refuses};
+ghost use Rattle.dw_section.specs.declared.lookup.Fde.{Fde as TheFde};
+ghost use Rattle.dw_section.specs.Meaning.{AreFdes};
 ghost use Rattle.dw_section.specs.Table.{Section, AreRanges, AreIndexed};
 
 use crate::error::SectionError;
@@ -43,6 +45,15 @@ impl<'a> Table<'a> {
         ensures { result ≡ self.now.target }
     {
         self.target
+    }
+
+    /// The section was accepted, its bytes are bytes, and it has a list of nonempty FDEs. Does nothing.
+    pub fn accepted(&self)
+        ensures accepted { Accepted self.now.target self.now.bytes }
+        ensures fdes { (fs : List TheFde) × AreFdes self.now.target self.now.bytes fs }
+        ensures bytes { AreBytes self.now.bytes }
+    {
+        are_bytes(self.bytes);
     }
 }
 

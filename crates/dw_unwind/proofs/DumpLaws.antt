@@ -28,9 +28,6 @@ ranges_within limit line place room (memory_is start bytes ∷ ss) le whole fits
 
 -- ---- how often an address is told
 
-range_by : ℕ → ℕ → ℕ → List ℕ → Range
-range_by line place start bytes = record { address = start; place = place; len = length bytes; line = line }
-
 told_covers : (a line place start : ℕ) (bytes : List ℕ) → is_some (told (memory_is start bytes) (byte a)) ≡ covers a (record { address = start; place = place; len = length bytes; line = line })
 told_covers a line place start bytes = elim (leb_tells start a) [
   | inl low ↦ elim (leb_tells (suc a) (start + length bytes)) [

@@ -7,3 +7,6 @@ pub mod Ranges
 pub mod Stated
 pub mod Gathered
 pub mod Describes
+pub mod Columns
+pub mod Unwound
+pub mod Recovery

@@ -1,6 +1,6 @@
 //! Adding what a line says to what the lines before it told.
 
-ghost use Rattle.std.specs.Prelude.{◌≡◌, ℕ, ◌+◌, ◌<◌, ◌≤◌, ◌++◌, ◌∷◌, [], List, Some, None, IfOk, length, drop, MatchOption};
+ghost use Rattle.std.specs.Prelude.{◌≡◌, ℕ, ◌+◌, ◌<◌, ◌≤◌, [], List, Some, None, IfOk, length, drop};
 ghost use Rattle.dw_unwind.specs.Gathered.{Adds, Gathers, HasBytes, Keeps, Takes};
 ghost use Rattle.dw_unwind.specs.Lines.{lines_of};
 ghost use Rattle.dw_unwind.specs.Stated.{stated};

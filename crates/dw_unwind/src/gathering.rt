@@ -1,4 +1,4 @@
-//! Reading the lines of a dump one by one.
+//! What the lines of a dump have told so far.
 
 use crate::ranges::Range;
 use dw_eval::Registers;

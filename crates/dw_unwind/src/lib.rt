@@ -1,17 +1,27 @@
-//! Register dumps: the values of a stopped machine, read from a text.
+//! Unwinding of one frame (6.4.1), and register dumps: the values of a stopped machine, read from a text.
+//!
+//! `unwind` answers the caller's frame that the rules at an address give, or the first fault; `Device` exactly where the
+//! memory's count of failures grew. Read `specs/Unwound.antt` first, and `specs/Dump.antt` for dumps.
 #![tactic(auto)]
 
 mod adding;
 mod dump;
 mod fault;
+mod frame;
 mod gathering;
 mod line;
+mod machine;
 mod memory;
 mod ranges;
+mod unwinding;
 
 pub use dump::Dump;
 pub use fault::{DumpCode, DumpError, DumpFault};
+pub use frame::{Column, Frame, FrameRegisters, Policy, UnwindError};
 pub use memory::DumpMemory;
+pub use unwinding::{one_frame, unwind};
 
 #[cfg(test)]
 mod tests;
+#[cfg(test)]
+mod tests_unwind;

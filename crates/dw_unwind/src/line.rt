@@ -1,8 +1,7 @@
 //! One line of a dump.
 
-ghost use Rattle.std.specs.Prelude.{◌≡◌, ◌⊎◌, ℕ, ◌+◌, ◌<◌, ◌≤◌, ◌++◌, ◌∷◌, List, [], Some, IfOk, IfErr, length, MatchOption, codes};
+ghost use Rattle.std.specs.Prelude.{◌≡◌, ℕ, ◌+◌, ◌<◌, ◌≤◌, ◌++◌, ◌∷◌, List, Some, IfOk, length, MatchOption};
 ghost use Rattle.std.specs.Bool.{MatchBool};
-ghost use Rattle.std.specs.List.{AllByRecursion};
 ghost use Rattle.dw_unwind.specs.Spelling.{digit, number_behind, Hexadecimal, RegisterName, HexPairs, CounterLine, RegisterLine, MemoryLine, MemoryHead, SkippedLine, Says, Lacks, len_until};
 ghost use Rattle.dw_unwind.specs.Statement.{Statement as TheStatement};
 ghost use Rattle.dw_unwind.specs.Stated.{stated};

@@ -1,12 +1,12 @@
 //! The memory of a dump.
 
-ghost use Rattle.std.specs.Prelude.{◌≡◌, ℕ, ◌+◌, ◌<◌, ◌≤◌, ◌^◌, List, length, slice_index_or, Some, None, MatchOption};
+ghost use Rattle.std.specs.Prelude.{◌≡◌, ℕ, ◌+◌, ◌<◌, ◌≤◌, ◌^◌, length, slice_index_or, Some, None};
 ghost use Rattle.std.specs.Bool.{MatchBool};
 ghost use Rattle.std.specs.List.{AllByRecursion};
 ghost use Rattle.dw_num.specs.Fixed.{fixed_number};
 ghost use Rattle.dw_eval.specs.Bytes.{bytes_from, number_at};
 ghost use Rattle.dw_unwind.specs.declared.ranges.Range.{Range as TheRange};
-ghost use Rattle.dw_unwind.specs.Ranges.{end_of, covers, byte_of, byte_among, byte_in, AreApart, Rise, IsWithin};
+ghost use Rattle.dw_unwind.specs.Ranges.{byte_among, byte_in, AreApart, Rise, IsWithin};
 
 use crate::ranges::{Range, settle};
 use byteorder::{BigEndian, ByteOrder, LittleEndian};

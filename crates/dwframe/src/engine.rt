@@ -1,15 +1,19 @@
 //! The whole command, over the words, files and outputs that it is given.
 
-ghost use Rattle.std.specs.Prelude.{◌≤◌};
+ghost use Rattle.std.specs.Prelude.{◌≤◌, IfOk};
 
 use crate::check::run_check;
+use crate::cost::run_cost;
 use crate::entries::run_entries;
 use crate::eval::run_eval;
 use crate::expr::run_expr;
 use crate::failure::Failure;
 use crate::files::Load;
+use crate::normal::run_normal;
 use crate::plan::{Job, Task, plan};
 use crate::rows::run_rows;
+use crate::sameness::run_same;
+use crate::unwind::run_unwind;
 use std::alloc::Global;
 use std::io::Write;
 
@@ -18,15 +22,22 @@ fn run<'a, L: Load, W: Write>(
     words: &'a [String],
     files: &mut L,
     out: &mut W,
-) -> Result<(), Failure<'a>> {
+) -> Result<u8, Failure<'a>>
+    ensures { IfOk result (λ status. status ≤ 1) }
+{
     let Job { target, task } = plan(alloc, words)?;
     match task {
-        Task::Check { path } => run_check(alloc, target, path, files, out),
-        Task::Entries { path } => run_entries(alloc, target, path, files, out),
-        Task::Eval(evaluation) => run_eval(alloc, target, &evaluation, files, out),
-        Task::Expr { profile, block } => run_expr(alloc, target, profile, &block, out),
-        Task::Rows { path } => run_rows(alloc, target, path, files, out),
+        Task::Check { path } => run_check(alloc, target, path, files, out)?,
+        Task::Cost { path } => run_cost(alloc, target, path, files, out)?,
+        Task::Entries { path } => run_entries(alloc, target, path, files, out)?,
+        Task::Eval(evaluation) => run_eval(alloc, target, &evaluation, files, out)?,
+        Task::Expr { profile, block } => run_expr(alloc, target, profile, &block, out)?,
+        Task::Normal(writing) => run_normal(alloc, target, &writing, files, out)?,
+        Task::Rows { path } => run_rows(alloc, target, path, files, out)?,
+        Task::Same { path, other } => return run_same(alloc, target, path, other, files, out),
+        Task::Unwind(unwinding) => run_unwind(alloc, target, &unwinding, files, out)?,
     }
+    Ok(0)
 }
 
 // Prints a help text, which is no failure.
@@ -34,9 +45,17 @@ fn help<W: Write>(failure: &Failure<'_>, out: &mut W) -> bool {
     write!(out, "{failure}").is_ok() && out.flush().is_ok()
 }
 
-/// Runs the command and answers its exit status: 0 done, 2 a refusal or a fault, 3 wrong words, 4 a file or an output
-/// that fails, 5 want of memory. The answer goes to `out`, which is flushed, and a status from 2 on puts one
-/// line on `err`. The first word is the program's own name.
+// Prints why there is no answer: one line, or a text on the use of the command, which ends its own lines.
+fn tell<E: Write>(failure: &Failure<'_>, err: &mut E) {
+    let _ = match failure {
+        Failure::Words(_) => write!(err, "{failure}"),
+        _ => writeln!(err, "{failure}"),
+    };
+}
+
+/// Runs the command and answers its exit status: 0 done, 1 two sections that differ, 2 a refusal or a fault, 3 wrong words, 4 a file or an output
+/// that fails, 5 out of memory. The answer goes to `out`, which is flushed. From status 2 on a line on `err` says why; for
+/// words that no subcommand takes it is a text of several lines. The first word is the program's own name.
 pub fn engine<L: Load, W: Write, E: Write>(
     alloc: Global,
     words: &[String],
@@ -46,17 +65,18 @@ pub fn engine<L: Load, W: Write, E: Write>(
 ) -> u8
     ensures { result ≤ 5 }
 {
-    let Err(failure) = run(alloc, words, files, out) else {
-        return 0;
+    let failure = match run(alloc, words, files, out) {
+        Ok(status) => return status,
+        Err(failure) => failure,
     };
     let status = failure.status();
     if status == 0 {
         if help(&failure, out) {
             return 0;
         }
-        let _ = writeln!(err, "{}", Failure::CannotWrite);
+        tell(&Failure::CannotWrite, err);
         return 4;
     }
-    let _ = writeln!(err, "{failure}");
+    tell(&failure, err);
     status
 }

@@ -1,7 +1,7 @@
 //! `dwframe eval`: the value of an expression.
 
 use crate::failure::Failure;
-use crate::files::Load;
+use crate::files::{Load, load_dump};
 use crate::plan::Evaluation;
 use dw_eval::{Env, evaluate};
 use dw_num::Target;
@@ -24,9 +24,7 @@ fn dump_text<'a, L: Load>(
     let Some(path) = path else {
         return Ok(Vec::new(alloc));
     };
-    files
-        .load(path)
-        .map_err(|error| Failure::from_load(path, error))
+    load_dump(files, path).map_err(|error| Failure::from_load(path, error))
 }
 
 // The value over a dump's registers and memory, without a frame base, a CFA or an object.

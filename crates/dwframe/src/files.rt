@@ -1,9 +1,14 @@
 //! Where the bytes of a file come from.
 
+ghost use Rattle.std.specs.Prelude.{IfOk, IfSome, length, take, ◌≡◌, ◌≤◌};
+
 use std::alloc::Global;
-use std::fs;
-use std::io::ErrorKind;
+use std::fs::File;
+use std::io::{self, ErrorKind, Read};
 use std::rt::Files;
+
+/// How many bytes a section or a dump may have.
+pub const LIMIT: u64 = 2_147_483_647;
 
 /// Why a file has no bytes.
 #[derive(Clone, Copy, Debug, PartialEq, Eq)]
@@ -14,8 +19,34 @@ pub enum LoadError {
 
 /// Files by their paths.
 pub trait Load {
-    /// All bytes of the file.
+    /// All bytes of the file, or its first 2,147,483,648 where it has more. So a section that is too long is told by
+    /// its length, whatever else the file holds.
     fn load(&mut self, path: &str) -> Result<Vec<u8>, LoadError>;
+}
+
+/// The bytes of a dump. One of more than 2,147,483,647 bytes cannot be read.
+pub fn load_dump<L: Load>(files: &mut L, path: &str) -> Result<Vec<u8>, LoadError>
+    ensures bound { IfOk result (λ bytes. length bytes.items ≤ 2_147_483_647) }
+{
+    let bytes = files.load(path)?;
+    if bytes.len() as u64 > LIMIT {
+        return Err(LoadError::CannotRead);
+    }
+    Ok(bytes)
+}
+
+// Doubled, and 512 more the first time, the room that the bytes are read into ends just above 2,147,483,648, and not
+// at that number: there it would be doubled once more, only to find that nothing is left to read.
+const FIRST_ROOM: usize = 513;
+
+// All bytes that a reader has left, or the first of them.
+fn first_bytes<R: Read + Drop>(alloc: Global, reader: R, most: u64) -> io::Result<Vec<u8>>
+    ensures found { IfOk result (λ bytes. IfSome (R.remaining reader) (λ all. bytes.items ≡ take most all)) }
+{
+    let mut bytes = Vec::with_capacity(alloc, FIRST_ROOM)?;
+    let mut reader = reader.take(most);
+    reader.read_to_end(&mut bytes)?;
+    Ok(bytes)
 }
 
 /// The files of the system.
@@ -28,11 +59,23 @@ impl<'a, R: Files + AllocGlobal> Disk<'a, R> {
     pub fn new(rt: &'a R) -> Disk<'a, R> {
         Disk { rt }
     }
+
+    fn read(&self, path: &str) -> io::Result<Vec<u8>>
+        ensures bound { IfOk result (λ bytes. length bytes.items ≤ 2_147_483_648) }
+    {
+        let file = File::open(self.rt, path)?;
+        let mut bytes = first_bytes(self.rt.alloc(), file, LIMIT + 1)?;
+        // They are no more, but no clause knows what bytes a file has.
+        bytes.truncate(2_147_483_648);
+        Ok(bytes)
+    }
 }
 
 impl<R: Files + AllocGlobal> Load for Disk<'_, R> {
-    fn load(&mut self, path: &str) -> Result<Vec<u8>, LoadError> {
-        fs::read(self.rt, path).map_err(|error| {
+    fn load(&mut self, path: &str) -> Result<Vec<u8>, LoadError>
+        ensures bound { IfOk result (λ bytes. length bytes.items ≤ 2_147_483_648) }
+    {
+        self.read(path).map_err(|error| {
             if error.kind() == ErrorKind::OutOfMemory {
                 LoadError::OutOfMemory
             } else {

@@ -5,6 +5,7 @@
 #![tactic(auto)]
 
 mod check;
+mod cost;
 mod engine;
 mod entries;
 mod eval;
@@ -12,10 +13,13 @@ mod expr;
 mod failure;
 mod files;
 mod line;
+mod normal;
 mod plan;
 mod row_text;
 mod rows;
+mod sameness;
 mod texts;
+mod unwind;
 
 use engine::engine;
 use files::Disk;
@@ -55,6 +59,8 @@ mod tests;
 #[cfg(test)]
 mod tests_eval;
 #[cfg(test)]
-mod tests_rows;
+mod tests_normal;
 #[cfg(test)]
 mod tests_table;
+#[cfg(test)]
+mod tests_unwind;

@@ -1,10 +1,13 @@
 //! What the words of a command line ask for.
 
+ghost use Rattle.std.specs.Prelude.{◌≤◌, IfOk};
+
 use crate::failure::Failure;
 use clap::error::ErrorKind;
 use clap::{Arg, ArgAction, ArgMatches, Command};
 use dw_num::{Order, Size, Target};
 use dw_op::Profile;
+use dw_unwind::Policy;
 use hex::FromHexError;
 use std::alloc::{AllocError, Global};
 
@@ -17,10 +20,14 @@ pub struct Job<'a> {
 /// A subcommand with its own options and operands.
 pub enum Task<'a> {
     Check { path: &'a str },
+    Cost { path: &'a str },
     Entries { path: &'a str },
     Eval(Evaluation<'a>),
     Expr { profile: Profile, block: Vec<u8> },
+    Normal(Writing<'a>),
     Rows { path: &'a str },
+    Same { path: &'a str, other: &'a str },
+    Unwind(Unwinding<'a>),
 }
 
 /// An expression with what it is evaluated over.
@@ -32,8 +39,28 @@ pub struct Evaluation<'a> {
     pub dump: Option<&'a str>,
 }
 
+/// A section, and the most bytes that its normal form may have.
+#[derive(Drop)]
+pub struct Writing<'a> {
+    pub cap: u64,
+    pub path: &'a str,
+    ghost capped: { cap ≤ 2147483647 },
+}
+
+/// A section and a dump, and what is taken of registers that no instruction has set.
+#[derive(Drop)]
+pub struct Unwinding<'a> {
+    pub default: Policy,
+    pub steps: u64,
+    pub path: &'a str,
+    pub dump: &'a str,
+}
+
 // How many steps are taken where the words do not say.
 const STEPS: u64 = 10_000;
+
+// The most bytes that a section has.
+const CAP: u64 = 2_147_483_647;
 
 fn option<'a>(alloc: Global, name: &'a str) -> Arg<'a> {
     Arg::new(alloc, name)
@@ -61,25 +88,68 @@ fn flag<'a>(alloc: Global, name: &'a str) -> Arg<'a> {
     Arg::new(alloc, name).long(name).action(ArgAction::SetTrue)
 }
 
-fn command<'a>(alloc: Global) -> Result<Command<'a>, AllocError> {
-    let check = subcommand(alloc, "check")?.arg(operand(alloc, "FILE"))?;
-    let entries = subcommand(alloc, "entries")?.arg(operand(alloc, "FILE"))?;
-    let eval = subcommand(alloc, "eval")?
+// A subcommand over one file.
+fn over_file<'a>(alloc: Global, name: &'a str) -> Result<Command<'a>, AllocError> {
+    subcommand(alloc, name)?.arg(operand(alloc, "FILE"))
+}
+
+fn eval_command<'a>(alloc: Global) -> Result<Command<'a>, AllocError> {
+    subcommand(alloc, "eval")?
         .arg(choice(alloc, "steps"))?
         .arg(choice(alloc, "start"))?
         .arg(operand(alloc, "HEX"))?
-        .arg(Arg::new(alloc, "DUMP").action(ArgAction::Set))?;
-    let expr = subcommand(alloc, "expr")?
+        .arg(Arg::new(alloc, "DUMP").action(ArgAction::Set))
+}
+
+fn expr_command<'a>(alloc: Global) -> Result<Command<'a>, AllocError> {
+    subcommand(alloc, "expr")?
         .arg(flag(alloc, "frame"))?
-        .arg(operand(alloc, "HEX"))?;
-    let rows = subcommand(alloc, "rows")?.arg(operand(alloc, "FILE"))?;
-    Command::new(alloc, "dwframe")
-        .subcommand_required(true)
-        .subcommand(check)?
-        .subcommand(entries)?
-        .subcommand(eval)?
-        .subcommand(expr)?
-        .subcommand(rows)
+        .arg(operand(alloc, "HEX"))
+}
+
+fn normal_command<'a>(alloc: Global) -> Result<Command<'a>, AllocError> {
+    subcommand(alloc, "normal")?
+        .arg(choice(alloc, "cap"))?
+        .arg(operand(alloc, "FILE"))
+}
+
+fn same_command<'a>(alloc: Global) -> Result<Command<'a>, AllocError> {
+    over_file(alloc, "same")?.arg(operand(alloc, "FILE2"))
+}
+
+fn unwind_command<'a>(alloc: Global) -> Result<Command<'a>, AllocError> {
+    subcommand(alloc, "unwind")?
+        .arg(option(alloc, "default"))?
+        .arg(choice(alloc, "steps"))?
+        .arg(operand(alloc, "FILE"))?
+        .arg(operand(alloc, "DUMP"))
+}
+
+fn with_files<'a>(alloc: Global, command: Command<'a>) -> Result<Command<'a>, AllocError> {
+    command
+        .subcommand(over_file(alloc, "check")?)?
+        .subcommand(over_file(alloc, "entries")?)?
+        .subcommand(over_file(alloc, "rows")?)
+}
+
+fn with_normal_forms<'a>(alloc: Global, command: Command<'a>) -> Result<Command<'a>, AllocError> {
+    command
+        .subcommand(normal_command(alloc)?)?
+        .subcommand(same_command(alloc)?)?
+        .subcommand(over_file(alloc, "cost")?)
+}
+
+fn with_expressions<'a>(alloc: Global, command: Command<'a>) -> Result<Command<'a>, AllocError> {
+    command
+        .subcommand(eval_command(alloc)?)?
+        .subcommand(expr_command(alloc)?)?
+        .subcommand(unwind_command(alloc)?)
+}
+
+fn command<'a>(alloc: Global) -> Result<Command<'a>, AllocError> {
+    let command = Command::new(alloc, "dwframe").subcommand_required(true);
+    let command = with_normal_forms(alloc, with_files(alloc, command)?)?;
+    with_expressions(alloc, command)
 }
 
 fn size_of_text(text: &str) -> Option<Size> {
@@ -154,6 +224,18 @@ fn address(text: &str, size: Size) -> Option<u64> {
     }
 }
 
+fn cap_of<'a>(matches: &ArgMatches<'_>) -> Result<u64, Failure<'a>>
+    ensures { IfOk result (λ cap. cap ≤ 2147483647) }
+{
+    let Some(text) = matches.get_str("cap") else {
+        return Ok(CAP);
+    };
+    match decimal(text) {
+        Some(cap) if cap <= CAP => Ok(cap),
+        _ => Err(Failure::BadValue("--cap")),
+    }
+}
+
 fn steps_of<'a>(matches: &ArgMatches<'_>) -> Result<u64, Failure<'a>> {
     match matches.get_str("steps") {
         Some(text) => decimal(text).ok_or(Failure::BadValue("--steps")),
@@ -196,6 +278,39 @@ fn eval_task<'a>(
     }))
 }
 
+fn default_of<'a>(matches: &ArgMatches<'_>) -> Result<Policy, Failure<'a>> {
+    match matches.get_str("default") {
+        Some("same") => Ok(Policy::SameValue),
+        Some("undefined") => Ok(Policy::Undefined),
+        _ => Err(Failure::BadValue("--default")),
+    }
+}
+
+fn normal_task<'a>(matches: &ArgMatches<'a>) -> Result<Task<'a>, Failure<'a>> {
+    let cap = cap_of(matches)?;
+    let path = file_of(matches)?;
+    Ok(Task::Normal(Writing { cap, path }))
+}
+
+fn same_task<'a>(matches: &ArgMatches<'a>) -> Result<Task<'a>, Failure<'a>> {
+    let path = file_of(matches)?;
+    let other = matches.get_str("FILE2").ok_or(Failure::BadValue("FILE2"))?;
+    Ok(Task::Same { path, other })
+}
+
+fn unwind_task<'a>(matches: &ArgMatches<'a>) -> Result<Task<'a>, Failure<'a>> {
+    let steps = steps_of(matches)?;
+    let default = default_of(matches)?;
+    let path = file_of(matches)?;
+    let dump = matches.get_str("DUMP").ok_or(Failure::BadValue("DUMP"))?;
+    Ok(Task::Unwind(Unwinding {
+        default,
+        steps,
+        path,
+        dump,
+    }))
+}
+
 fn expr_task<'a>(alloc: Global, matches: &ArgMatches<'a>) -> Result<Task<'a>, Failure<'a>> {
     let block = block_of(alloc, matches)?;
     let profile = if matches.get_flag("frame") {
@@ -207,7 +322,7 @@ fn expr_task<'a>(alloc: Global, matches: &ArgMatches<'a>) -> Result<Task<'a>, Fa
 }
 
 /// The run that the words ask for, before any file is read. The values are judged in the order `--size`,
-/// `--order`, `--steps`, `--start`, `HEX`, whatever the order of the words.
+/// `--order`, `--cap`, `--steps`, `--start`, `--default`, `HEX`, whatever the order of the words.
 pub fn plan<'a>(alloc: Global, words: &'a [String]) -> Result<Job<'a>, Failure<'a>> {
     let command = command(alloc)?;
     let matches = match command.try_get_matches_from(words) {
@@ -223,13 +338,19 @@ pub fn plan<'a>(alloc: Global, words: &'a [String]) -> Result<Job<'a>, Failure<'
         "check" => Task::Check {
             path: file_of(matches)?,
         },
+        "cost" => Task::Cost {
+            path: file_of(matches)?,
+        },
         "entries" => Task::Entries {
             path: file_of(matches)?,
         },
         "eval" => eval_task(alloc, matches, target.size)?,
+        "normal" => normal_task(matches)?,
         "rows" => Task::Rows {
             path: file_of(matches)?,
         },
+        "same" => same_task(matches)?,
+        "unwind" => unwind_task(matches)?,
         _ => expr_task(alloc, matches)?,
     };
     Ok(Job { target, task })

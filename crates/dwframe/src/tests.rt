@@ -1,3 +1,5 @@
+//! Runs of the command over a file and outputs in memory: entries, words, and outputs that fail.
+
 use crate::engine::engine;
 use crate::files::{Load, LoadError};
 use std::alloc::{AllocError, Global};
@@ -21,17 +23,25 @@ pub(crate) const LEFTOVERS: &[u8] =
 \x24\0\0\0\0\0\0\0\0\x10\x40\0\0\0\0\0\x10\0\0\0\0\0\0\0\x41\x0e\x10\x86\x02\x43\x0d\x06\x4b\x0c\x07\x08\0\0\0\0\
 \x14\0\0\0\0\0\0\0\0\x20\x40\0\0\0\0\0\0\0\0\0\0\0\0\0";
 
-// One file, by its name. There is no memory for one named `huge`.
+// A machine that stopped at the third row of the plain section.
+pub(crate) const DUMP: &[u8] =
+    b"pc 0x401004\nr6 0x7ffe00\nr7 0x7ffdf0\nmem 0x7ffe00 00020000000000008812400000000000\n";
+
+// Two files, by their names. There is no memory for one named `huge`.
 #[derive(Drop)]
-struct OneFile<'a> {
-    bytes: &'a [u8],
+struct Files<'a> {
+    first: &'a [u8],
+    second: &'a [u8],
     alloc: Global,
 }
 
-impl Load for OneFile<'_> {
+impl Load for Files<'_> {
     fn load(&mut self, path: &str) -> Result<Vec<u8>, LoadError> {
         match path {
-            "in" => Vec::from_slice(self.alloc, self.bytes).map_err(|_| LoadError::OutOfMemory),
+            "in" => Vec::from_slice(self.alloc, self.first).map_err(|_| LoadError::OutOfMemory),
+            "second" => Vec::from_slice(self.alloc, self.second).map_err(
+                |_| LoadError::OutOfMemory,
+            ),
             "huge" => Err(LoadError::OutOfMemory),
             _ => Err(LoadError::CannotRead),
         }
@@ -64,7 +74,7 @@ impl Write for Failing {
 }
 
 // The words of a line, which are apart by spaces. Two quotes are an empty word.
-fn words_of(alloc: Global, line: &str) -> Result<Vec<String>, AllocError> {
+pub(crate) fn words_of(alloc: Global, line: &str) -> Result<Vec<String>, AllocError> {
     let mut list = Vec::new(alloc);
     for word in line.split_whitespace() {
         let word = if word == "''" { "" } else { word };
@@ -73,7 +83,25 @@ fn words_of(alloc: Global, line: &str) -> Result<Vec<String>, AllocError> {
     Ok(list)
 }
 
-// What a run over memory answers: its status, and whether it printed these texts.
+// The status of a run over two files. What it prints is appended to `out` and `err`.
+fn status_of<W: Write, E: Write>(
+    alloc: Global,
+    line: &str,
+    files: (&[u8], &[u8]),
+    out: &mut W,
+    err: &mut E,
+) -> Result<u8, AllocError> {
+    let words = words_of(alloc, line)?;
+    let (first, second) = files;
+    let mut files = Files {
+        first,
+        second,
+        alloc,
+    };
+    Ok(engine(alloc, words.as_slice(), &mut files, out, err))
+}
+
+// What a run over one file answers: its status, and whether it printed these texts.
 pub(crate) fn answers(
     alloc: Global,
     line: &str,
@@ -81,233 +109,291 @@ pub(crate) fn answers(
     wanted_out: &str,
     wanted_err: &str,
 ) -> Result<(u8, bool, bool), AllocError> {
-    let words = words_of(alloc, line)?;
-    let mut files = OneFile { bytes, alloc };
+    answers_of_two(alloc, line, bytes, &[], wanted_out, wanted_err)
+}
+
+// The same over two files.
+pub(crate) fn answers_of_two(
+    alloc: Global,
+    line: &str,
+    first: &[u8],
+    second: &[u8],
+    wanted_out: &str,
+    wanted_err: &str,
+) -> Result<(u8, bool, bool), AllocError> {
     let mut out: Vec<u8> = Vec::new(alloc);
     let mut err: Vec<u8> = Vec::new(alloc);
-    let status = engine(alloc, words.as_slice(), &mut files, &mut out, &mut err);
+    let status = status_of(alloc, line, (first, second), &mut out, &mut err)?;
     let out_is = out.as_slice() == wanted_out.as_bytes();
     let err_is = err.as_slice() == wanted_err.as_bytes();
     Ok((status, out_is, err_is))
 }
 
+// A run: its words, the bytes of the file `in`, its status, and the texts on both outputs.
+pub(crate) type Case<'a> = (&'a str, &'a [u8], u8, &'a str, &'a str);
+
+// Fails at the first run that answers otherwise.
+pub(crate) fn all_answer(alloc: Global, cases: &[Case<'_>]) -> Result<(), Fail> {
+    for case in cases {
+        let (line, bytes, status, out, err) = *case;
+        if answers(alloc, line, bytes, out, err)? != (status, true, true) {
+            return Err(Fail::new(format_args!("{line}")));
+        }
+    }
+    Ok(())
+}
+
+// Fails at the first beginning from one length to another that is not answered so.
+fn beginnings_answer(alloc: Global, case: Case<'_>, first: usize, last: usize) -> Result<(), Fail> {
+    let (line, bytes, status, out, err) = case;
+    for len in first..=last {
+        let bytes = bytes.get(..len).ok_or("a beginning")?;
+        if answers(alloc, line, bytes, out, err)? != (status, true, true) {
+            return Err(Fail::new(format_args!("{line}, {len} bytes")));
+        }
+    }
+    Ok(())
+}
+
 const ENTRIES: &str = "dwframe entries --size 8 --order little in";
 
-#[test]
-fn lists_entries(rt: HostRuntime) -> Result<(), Fail> {
-    let rows = [
-        ("plain section", PLAIN, "0x0 cie 32 20\n0x18 fde 32 36\n"),
-        (
-            "scrambled section",
-            SCRAMBLED,
-            "0x0 fde 32 36\n0x28 cie 64 20\n",
-        ),
-        (
-            "section with leftovers",
-            LEFTOVERS,
-            "0x0 cie 32 20\n0x18 cie 32 20\n0x34 fde 32 36\n0x5c fde 32 20\n",
-        ),
-    ];
-    for (name, bytes, wanted) in rows {
-        let answer = answers(rt.alloc(), ENTRIES, bytes, wanted, "")?;
-        assert_eq!(rt; answer, (0, true, true), "{name}");
-    }
-    Ok(())
-}
+const CHECK: &str = "dwframe check --size 8 --order little in";
 
-#[test]
-fn refuses_cuts(rt: HostRuntime) -> Result<(), Fail> {
-    let rows = [
-        (
-            "reserved length",
-            b"\xf0\xff\xff\xff".as_slice(),
-            "refused: ReservedLength at 0x0\n",
-        ),
-        (
-            "no room for the first field",
-            b"\x02\0\0\0\0\0".as_slice(),
-            "refused: Truncated at 0x4\n",
-        ),
-        (
-            "half a 64-bit length",
-            b"\xff\xff\xff\xff\0\0\0\0".as_slice(),
-            "refused: Truncated at 0x0\n",
-        ),
-        (
-            "gap, then half a length",
-            b"\0\0\0\0\0\0\0".as_slice(),
-            "refused: Truncated at 0x4\n",
-        ),
-        (
-            "a 64-bit length of 4 with 2 bytes left",
-            b"\xff\xff\xff\xff\x04\0\0\0\0\0\0\0\0\0".as_slice(),
-            "refused: EntryPastEnd at 0x0\n",
-        ),
-        (
-            "a 64-bit length of 0",
-            b"\xff\xff\xff\xff\0\0\0\0\0\0\0\0".as_slice(),
-            "refused: Truncated at 0xc\n",
-        ),
-        (
-            "the longest 64-bit length",
-            b"\0\0\0\0\xff\xff\xff\xff\xff\xff\xff\xff\xff\xff\xff\xff\0".as_slice(),
-            "refused: EntryPastEnd at 0x4\n",
-        ),
-    ];
-    for (name, bytes, wanted) in rows {
-        let answer = answers(rt.alloc(), ENTRIES, bytes, "", wanted)?;
-        assert_eq!(rt; answer, (2, true, true), "{name}");
-    }
-    Ok(())
-}
-
-// The status and the texts that a beginning of the plain section gives.
-fn of_beginning(len: usize) -> (u8, &'static str, &'static str) {
-    match len {
-        0 => (0, "", ""),
-        1..=3 => (2, "", "refused: Truncated at 0x0\n"),
-        4..=23 => (2, "", "refused: EntryPastEnd at 0x0\n"),
-        24 => (0, "0x0 cie 32 20\n", ""),
-        25..=27 => (2, "", "refused: Truncated at 0x18\n"),
-        28..=63 => (2, "", "refused: EntryPastEnd at 0x18\n"),
-        _ => (0, "0x0 cie 32 20\n0x18 fde 32 36\n", ""),
-    }
-}
+// Beginnings of sections by their lengths.
+const BEGINNINGS: [(usize, usize, Case<'static>); 18] = [
+    (0, 0, (ENTRIES, PLAIN, 0, "", "")),
+    (1, 3, (ENTRIES, PLAIN, 2, "", "refused: Truncated at 0x0\n")),
+    (
+        4,
+        23,
+        (ENTRIES, PLAIN, 2, "", "refused: EntryPastEnd at 0x0\n"),
+    ),
+    (24, 24, (ENTRIES, PLAIN, 0, "0x0 cie 32 20\n", "")),
+    (
+        25,
+        27,
+        (ENTRIES, PLAIN, 2, "", "refused: Truncated at 0x18\n"),
+    ),
+    (
+        28,
+        63,
+        (ENTRIES, PLAIN, 2, "", "refused: EntryPastEnd at 0x18\n"),
+    ),
+    (0, 0, (CHECK, PLAIN, 0, "ok cies=0 fdes=0 bytes=0\n", "")),
+    (1, 3, (CHECK, PLAIN, 2, "", "refused: Truncated at 0x0\n")),
+    (
+        4,
+        23,
+        (CHECK, PLAIN, 2, "", "refused: EntryPastEnd at 0x0\n"),
+    ),
+    (24, 24, (CHECK, PLAIN, 0, "ok cies=1 fdes=0 bytes=24\n", "")),
+    (
+        25,
+        27,
+        (CHECK, PLAIN, 2, "", "refused: Truncated at 0x18\n"),
+    ),
+    (
+        28,
+        63,
+        (CHECK, PLAIN, 2, "", "refused: EntryPastEnd at 0x18\n"),
+    ),
+    (
+        0,
+        0,
+        (CHECK, SCRAMBLED, 0, "ok cies=0 fdes=0 bytes=0\n", ""),
+    ),
+    (
+        1,
+        3,
+        (CHECK, SCRAMBLED, 2, "", "refused: Truncated at 0x0\n"),
+    ),
+    (
+        4,
+        39,
+        (CHECK, SCRAMBLED, 2, "", "refused: EntryPastEnd at 0x0\n"),
+    ),
+    (
+        40,
+        40,
+        (CHECK, SCRAMBLED, 2, "", "refused: NoSuchCie at 0x4\n"),
+    ),
+    (
+        41,
+        51,
+        (CHECK, SCRAMBLED, 2, "", "refused: Truncated at 0x28\n"),
+    ),
+    (
+        52,
+        71,
+        (CHECK, SCRAMBLED, 2, "", "refused: EntryPastEnd at 0x28\n"),
+    ),
+];
 
 #[test]
 fn answers_beginnings(rt: HostRuntime) -> Result<(), Fail> {
-    for len in 0..65 {
-        let bytes = PLAIN.get(..len).ok_or("a beginning")?;
-        let (status, out, err) = of_beginning(len);
-        let answer = answers(rt.alloc(), ENTRIES, bytes, out, err)?;
-        assert_eq!(rt; answer, (status, true, true), "{len} bytes");
+    for (first, last, case) in BEGINNINGS {
+        beginnings_answer(rt.alloc(), case, first, last)?;
     }
     Ok(())
 }
 
+const CUTS: [Case<'static>; 10] = [
+    (ENTRIES, PLAIN, 0, "0x0 cie 32 20\n0x18 fde 32 36\n", ""),
+    (ENTRIES, SCRAMBLED, 0, "0x0 fde 32 36\n0x28 cie 64 20\n", ""),
+    (
+        ENTRIES,
+        LEFTOVERS,
+        0,
+        "0x0 cie 32 20\n0x18 cie 32 20\n0x34 fde 32 36\n0x5c fde 32 20\n",
+        "",
+    ),
+    // a reserved length
+    (
+        ENTRIES,
+        b"\xf0\xff\xff\xff",
+        2,
+        "",
+        "refused: ReservedLength at 0x0\n",
+    ),
+    // no room for the first field
+    (
+        ENTRIES,
+        b"\x02\0\0\0\0\0",
+        2,
+        "",
+        "refused: Truncated at 0x4\n",
+    ),
+    // half a 64-bit length
+    (
+        ENTRIES,
+        b"\xff\xff\xff\xff\0\0\0\0",
+        2,
+        "",
+        "refused: Truncated at 0x0\n",
+    ),
+    // a gap, then half a length
+    (
+        ENTRIES,
+        b"\0\0\0\0\0\0\0",
+        2,
+        "",
+        "refused: Truncated at 0x4\n",
+    ),
+    // 64-bit lengths: 4 with 2 bytes left, 0, and the longest
+    (
+        ENTRIES,
+        b"\xff\xff\xff\xff\x04\0\0\0\0\0\0\0\0\0",
+        2,
+        "",
+        "refused: EntryPastEnd at 0x0\n",
+    ),
+    (
+        ENTRIES,
+        b"\xff\xff\xff\xff\0\0\0\0\0\0\0\0",
+        2,
+        "",
+        "refused: Truncated at 0xc\n",
+    ),
+    (
+        ENTRIES,
+        b"\0\0\0\0\xff\xff\xff\xff\xff\xff\xff\xff\xff\xff\xff\xff\0",
+        2,
+        "",
+        "refused: EntryPastEnd at 0x4\n",
+    ),
+];
+
+// Words are judged before any file is read.
+const WORDS: [Case<'static>; 7] = [
+    (
+        "dwframe entries --size 5 --order native gone",
+        PLAIN,
+        3,
+        "",
+        "bad value for --size\n",
+    ),
+    (
+        "dwframe rows --order native --size 8 gone",
+        PLAIN,
+        3,
+        "",
+        "bad value for --order\n",
+    ),
+    (
+        "dwframe entries --size=4 --order big -- gone",
+        PLAIN,
+        4,
+        "",
+        "cannot read gone\n",
+    ),
+    (
+        "dwframe check gone --order=big --size 4",
+        PLAIN,
+        4,
+        "",
+        "cannot read gone\n",
+    ),
+    (
+        "dwframe entries huge --order big --size=8",
+        PLAIN,
+        5,
+        "",
+        "out of memory\n",
+    ),
+    (
+        "dwframe check --order big huge --size=8",
+        PLAIN,
+        5,
+        "",
+        "out of memory\n",
+    ),
+    (
+        "dwframe rows huge --order big --size=8",
+        PLAIN,
+        5,
+        "",
+        "out of memory\n",
+    ),
+];
+
 #[test]
-fn judges_words_before_files(rt: HostRuntime) -> Result<(), Fail> {
-    let rows = [
-        (
-            "dwframe entries --size 5 --order native gone",
-            3,
-            "bad value for --size\n",
-        ),
-        (
-            "dwframe entries --order native --size 8 gone",
-            3,
-            "bad value for --order\n",
-        ),
-        (
-            "dwframe entries --size=4 --order big -- gone",
-            4,
-            "cannot read gone\n",
-        ),
-        (
-            "dwframe entries huge --order big --size=8",
-            5,
-            "out of memory\n",
-        ),
-    ];
-    for (line, status, wanted) in rows {
-        let answer = answers(rt.alloc(), line, PLAIN, "", wanted)?;
-        assert_eq!(rt; answer, (status, true, true), "{line}");
-    }
-    Ok(())
+fn answers_cuts_and_words(rt: HostRuntime) -> Result<(), Fail> {
+    all_answer(rt.alloc(), &CUTS)?;
+    all_answer(rt.alloc(), &WORDS)
+}
+
+// Words that no subcommand takes.
+const WRONG: [&str; 12] = [
+    "dwframe",
+    "dwframe frames --size 8 --order little in",
+    "dwframe row --size 8 --order little in",
+    "dwframe entries --size 8 --order little in --size=8",
+    "dwframe entries --size 8 --order little in in",
+    "dwframe entries --size 8 --order little",
+    "dwframe entries --size 8 in",
+    "dwframe check --size 8 --order little in --order=big",
+    "dwframe check --order little in",
+    "dwframe check --frame --size 8 --order little in",
+    "dwframe rows --size 8 --order little in in",
+    "dwframe rows --at 0x1000 --size 8 --order little in",
+];
+
+// Whether words are told to be wrong: on `err` alone, by a text that ends in one line feed.
+fn is_told(alloc: Global, line: &str) -> Result<bool, AllocError> {
+    let mut out: Vec<u8> = Vec::new(alloc);
+    let mut err: Vec<u8> = Vec::new(alloc);
+    let status = status_of(alloc, line, (PLAIN, DUMP), &mut out, &mut err)?;
+    let ends = err.ends_with(b"\n") && !err.ends_with(b"\n\n");
+    Ok(status == 3 && out.is_empty() && ends)
 }
 
 #[test]
 fn tells_wrong_words(rt: HostRuntime) -> Result<(), Fail> {
-    let rows = [
-        "dwframe entries --size 8 --order little in --size=8",
-        "dwframe entries --size 8 --order little in in",
-        "dwframe entries --size 8 --order little",
-        "dwframe entries --size 8 in",
-        "dwframe frames --size 8 --order little in",
-        "dwframe",
-    ];
-    for line in rows {
-        let (status, no_out, no_err) = answers(rt.alloc(), line, PLAIN, "", "")?;
-        assert_eq!(rt; (status, no_out, no_err), (3, true, false), "{line}");
+    for line in WRONG {
+        assert!(rt; is_told(rt.alloc(), line)?, "{line}");
     }
-    let (status, no_out, no_err) = answers(rt.alloc(), "dwframe --help", PLAIN, "", "")?;
-    assert_eq!(rt; (status, no_out, no_err), (0, false, true));
-    Ok(())
-}
-
-#[test]
-fn prints_operations(rt: HostRuntime) -> Result<(), Fail> {
-    let rows = [
-        ("''", "least\n"),
-        ("0cffffffff", "0 const 4294967295\nleast 0cffffffff\n"),
-        ("09ff", "0 const 18446744073709551615\nleast 09ff\n"),
-        ("0E0500000000000000", "0 const 5\nleast 35\n"),
-        (
-            "2f12000e05000000000000000e060000000000000037",
-            "0 skip 3\n1 const 5\n2 const 6\n3 const 7\nleast 2f0200353637\n",
-        ),
-        ("2f010030", "0 skip 2\n1 const 0\nleast 2f010030\n"),
-        (
-            "0e05000000000000002ff4ff",
-            "0 const 5\n1 skip 0\nleast 352ffcff\n",
-        ),
-        ("920308", "0 breg 3 8\nleast 7308\n"),
-        ("9278a47f", "0 breg 120 -92\nleast 9278a47f\n"),
-        ("9e00", "0 implicit_value -\nleast 9e00\n"),
-        ("9e02aabb", "0 implicit_value aabb\nleast 9e02aabb\n"),
-        (
-            "03efcdab8967452301069f",
-            "0 addr 0x123456789abcdef\n1 deref\n2 stack_value\nleast 03efcdab8967452301069f\n",
-        ),
-        (
-            "9d080393059404",
-            "0 bit_piece 8 3\n1 piece 5\n2 deref_size 4\nleast 9d080393059404\n",
-        ),
-    ];
-    for (hex, wanted) in rows {
-        let mut line = String::from_str(rt.alloc(), "dwframe expr --size 8 --order little ")?;
-        line.push_str(hex)?;
-        let answer = answers(rt.alloc(), &line, b"".as_slice(), wanted, "")?;
-        assert_eq!(rt; answer, (0, true, true), "{hex}");
-    }
-    Ok(())
-}
-
-#[test]
-fn reduces_constants_to_the_size(rt: HostRuntime) -> Result<(), Fail> {
-    let wanted = "0 const 4294967295\nleast 09ff\n";
-    for line in [
-        "dwframe expr --size 4 --order little 0cffffffff",
-        "dwframe expr --size 4 --order little 09ff",
-        "dwframe expr --size 4 --order big 0cffffffff",
-    ] {
-        let answer = answers(rt.alloc(), line, b"".as_slice(), wanted, "")?;
-        assert_eq!(rt; answer, (0, true, true), "{line}");
-    }
-    Ok(())
-}
-
-#[test]
-fn refuses_blocks(rt: HostRuntime) -> Result<(), Fail> {
-    let rows = [
-        ("9e03aabb", "refused: Truncated at 0x2\n"),
-        ("2f050008", "refused: Truncated at 0x4\n"),
-        ("2f01000805", "refused: BadBranch at 0x0\n"),
-        ("--frame 9f", "refused: NotInFrame at 0x0\n"),
-        ("--frame 309f18", "refused: NotInFrame at 0x1\n"),
-        ("18", "refused: UnknownOperation at 0x0\n"),
-        ("9409", "refused: BadDerefSize at 0x1\n"),
-        ("9400", "refused: BadDerefSize at 0x1\n"),
-        ("94", "refused: Truncated at 0x1\n"),
-        ("90808004", "refused: RegisterTooLarge at 0x1\n"),
-        ("10ffffffffffffffffff02", "refused: NumberTooLarge at 0x1\n"),
-    ];
-    for (hex, wanted) in rows {
-        let mut line = String::from_str(rt.alloc(), "dwframe expr --size 8 --order little ")?;
-        line.push_str(hex)?;
-        let answer = answers(rt.alloc(), &line, b"".as_slice(), "", wanted)?;
-        assert_eq!(rt; answer, (2, true, true), "{hex}");
-    }
+    let help = answers(rt.alloc(), "dwframe --help", PLAIN, "", "")?;
+    assert_eq!(rt; help, (0, false, true));
     Ok(())
 }
 
@@ -318,58 +404,56 @@ pub(crate) fn status_over(
     writes: usize,
     flushes: usize,
 ) -> Result<(u8, bool), AllocError> {
-    let words = words_of(alloc, line)?;
-    let mut files = OneFile {
-        bytes: PLAIN,
-        alloc,
-    };
     let mut out = Failing { writes, flushes };
     let mut err: Vec<u8> = Vec::new(alloc);
-    let status = engine(alloc, words.as_slice(), &mut files, &mut out, &mut err);
+    let status = status_of(alloc, line, (PLAIN, DUMP), &mut out, &mut err)?;
     Ok((status, err.as_slice() == b"cannot write\n".as_slice()))
 }
 
-#[test]
-fn tells_the_write_that_fails(rt: HostRuntime) -> Result<(), Fail> {
-    for writes in 0..100 {
-        let answer = status_over(rt.alloc(), ENTRIES, writes, 1)?;
-        if answer == (0, false) {
-            assert!(rt; 2 <= writes, "only {writes} writes");
+// Fails unless each write of a run is told where it fails, and the flush.
+pub(crate) fn failing_output_is_told(alloc: Global, line: &str) -> Result<(), Fail> {
+    if status_over(alloc, line, 1000, 0)? != (4, true) {
+        return Err(Fail::new(format_args!("{line}: the flush")));
+    }
+    for writes in 0..1000 {
+        let answer = status_over(alloc, line, writes, 1)?;
+        if answer == (0, false) && writes > 0 {
             return Ok(());
         }
-        assert_eq!(rt; answer, (4, true), "after {writes} writes");
+        if answer != (4, true) {
+            return Err(Fail::new(format_args!("{line}: after {writes} writes")));
+        }
     }
-    Err(Fail::new("no run wrote all"))
+    Err(Fail::new(format_args!("{line}: no run wrote all")))
 }
 
 #[test]
-fn tells_other_outputs_that_fail(rt: HostRuntime) -> Result<(), Fail> {
-    assert_eq!(rt; status_over(rt.alloc(), ENTRIES, 100, 0)?, (4, true));
-    let expr = "dwframe expr --size 8 --order little 9e02aabb";
-    assert_eq!(rt; status_over(rt.alloc(), expr, 100, 0)?, (4, true));
-    assert_eq!(rt; status_over(rt.alloc(), expr, 0, 1)?, (4, true));
-    assert_eq!(rt; status_over(rt.alloc(), "dwframe --help", 0, 1)?, (4, true));
-    assert_eq!(rt;
-        status_over(rt.alloc(), "dwframe --help", 100, 0)?,
-        (4, true)
-    );
+fn tells_outputs_that_fail(rt: HostRuntime) -> Result<(), Fail> {
+    let lines = [
+        ENTRIES,
+        CHECK,
+        "dwframe rows --size 8 --order little in",
+        "dwframe expr --size 8 --order little 9e02aabb",
+        "dwframe eval --size 8 --order little 31",
+        "dwframe unwind --size 8 --order little --default same in second",
+        "dwframe --help",
+    ];
+    for line in lines {
+        failing_output_is_told(rt.alloc(), line)?;
+    }
     Ok(())
 }
 
 #[test]
 fn ignores_errors_that_cannot_be_told(rt: HostRuntime) -> Result<(), Fail> {
-    let alloc = rt.alloc();
-    let words = words_of(alloc, ENTRIES)?;
-    let bytes = b"\xf0\xff\xff\xff".as_slice();
-    let mut files = OneFile { bytes, alloc };
-    let mut out: Vec<u8> = Vec::new(alloc);
+    let mut out: Vec<u8> = Vec::new(rt.alloc());
     let mut err = Failing {
         writes: 0,
         flushes: 0,
     };
-    assert_eq!(rt;
-        engine(alloc, words.as_slice(), &mut files, &mut out, &mut err),
-        2
-    );
+    let reserved = b"\xf0\xff\xff\xff".as_slice();
+    let files = (reserved, b"".as_slice());
+    let status = status_of(rt.alloc(), ENTRIES, files, &mut out, &mut err)?;
+    assert_eq!(rt; status, 2);
     Ok(())
 }

@@ -1,6 +1,6 @@
 //! The subcommands `check` and `rows`, over worked sections.
 
-use crate::tests::{LEFTOVERS, PLAIN, SCRAMBLED, answers, status_over};
+use crate::tests::{Case, LEFTOVERS, PLAIN, SCRAMBLED, all_answer, answers};
 use std::alloc::{AllocError, Global};
 use std::test::Fail;
 
@@ -38,106 +38,46 @@ fn joined(alloc: Global, front: &[u8], back: &[u8]) -> Result<Vec<u8>, AllocErro
 
 // ---- whole sections
 
+const WHOLE: [Case<'static>; 11] = [
+    (CHECK, b"", 0, "ok cies=0 fdes=0 bytes=0\n", ""),
+    (ROWS, b"", 0, "", ""),
+    (CHECK, PLAIN, 0, "ok cies=1 fdes=1 bytes=64\n", ""),
+    (ROWS, PLAIN, 0, PLAIN_ROWS, ""),
+    (CHECK, SCRAMBLED, 0, "ok cies=1 fdes=1 bytes=72\n", ""),
+    (ROWS, SCRAMBLED, 0, PLAIN_ROWS, ""),
+    (CHECK, LEFTOVERS, 0, "ok cies=2 fdes=2 bytes=116\n", ""),
+    (ROWS, LEFTOVERS, 0, PLAIN_ROWS, ""),
+    (
+        "dwframe check --size 4 --order big in",
+        BIG,
+        0,
+        "ok cies=1 fdes=1 bytes=44\n",
+        "",
+    ),
+    (
+        "dwframe rows --size 4 --order big in",
+        BIG,
+        0,
+        "fde 0x10000400 0x10000440 ra=r65\n 0x10000400 cfa=r1+0\n 0x10000408 cfa=r1+16 r65=[cfa+4]\n",
+        "",
+    ),
+    (
+        "dwframe rows --size 8 --order big in",
+        BIG,
+        2,
+        "",
+        "refused: AddressSize at 0xa\n",
+    ),
+];
+
 #[test]
 fn answers_sections(rt: HostRuntime) -> Result<(), Fail> {
-    let rows = [
-        ("no bytes", b"".as_slice(), "ok cies=0 fdes=0 bytes=0\n", ""),
-        (
-            "plain section",
-            PLAIN,
-            "ok cies=1 fdes=1 bytes=64\n",
-            PLAIN_ROWS,
-        ),
-        (
-            "scrambled section",
-            SCRAMBLED,
-            "ok cies=1 fdes=1 bytes=72\n",
-            PLAIN_ROWS,
-        ),
-        (
-            "section with leftovers",
-            LEFTOVERS,
-            "ok cies=2 fdes=2 bytes=116\n",
-            PLAIN_ROWS,
-        ),
-    ];
-    for (name, bytes, counts, lines) in rows {
-        let answer = answers(rt.alloc(), CHECK, bytes, counts, "")?;
-        assert_eq!(rt; answer, (0, true, true), "check, {name}");
-        let answer = answers(rt.alloc(), ROWS, bytes, lines, "")?;
-        assert_eq!(rt; answer, (0, true, true), "rows, {name}");
-    }
-    Ok(())
-}
-
-#[test]
-fn answers_a_big_section(rt: HostRuntime) -> Result<(), Fail> {
-    let check = "dwframe check --size 4 --order big in";
-    let answer = answers(rt.alloc(), check, BIG, "ok cies=1 fdes=1 bytes=44\n", "")?;
-    assert_eq!(rt; answer, (0, true, true));
-    let rows = "dwframe rows --size 4 --order big in";
-    let lines =
-        "fde 0x10000400 0x10000440 ra=r65\n 0x10000400 cfa=r1+0\n 0x10000408 cfa=r1+16 r65=[cfa+4]\n";
-    let answer = answers(rt.alloc(), rows, BIG, lines, "")?;
-    assert_eq!(rt; answer, (0, true, true));
-    let refused = "refused: AddressSize at 0xa\n";
-    let other = "dwframe rows --size 8 --order big in";
-    let answer = answers(rt.alloc(), other, BIG, "", refused)?;
-    assert_eq!(rt; answer, (2, true, true));
-    Ok(())
-}
-
-// The status, the line and the refusal that `check` gives for a beginning of the plain section.
-fn of_beginning(len: usize) -> (u8, &'static str, &'static str) {
-    match len {
-        0 => (0, "ok cies=0 fdes=0 bytes=0\n", ""),
-        1..=3 => (2, "", "refused: Truncated at 0x0\n"),
-        4..=23 => (2, "", "refused: EntryPastEnd at 0x0\n"),
-        24 => (0, "ok cies=1 fdes=0 bytes=24\n", ""),
-        25..=27 => (2, "", "refused: Truncated at 0x18\n"),
-        28..=63 => (2, "", "refused: EntryPastEnd at 0x18\n"),
-        _ => (0, "ok cies=1 fdes=1 bytes=64\n", ""),
-    }
-}
-
-#[test]
-fn checks_beginnings(rt: HostRuntime) -> Result<(), Fail> {
-    for len in 0..65 {
-        let bytes = PLAIN.get(..len).ok_or("a beginning")?;
-        let (status, out, err) = of_beginning(len);
-        let answer = answers(rt.alloc(), CHECK, bytes, out, err)?;
-        assert_eq!(rt; answer, (status, true, true), "{len} bytes");
-    }
-    Ok(())
-}
-
-// The same for a beginning of the scrambled section.
-fn of_scrambled_beginning(len: usize) -> (u8, &'static str, &'static str) {
-    match len {
-        0 => (0, "ok cies=0 fdes=0 bytes=0\n", ""),
-        1..=3 => (2, "", "refused: Truncated at 0x0\n"),
-        4..=39 => (2, "", "refused: EntryPastEnd at 0x0\n"),
-        40 => (2, "", "refused: NoSuchCie at 0x4\n"),
-        41..=51 => (2, "", "refused: Truncated at 0x28\n"),
-        52..=71 => (2, "", "refused: EntryPastEnd at 0x28\n"),
-        _ => (0, "ok cies=1 fdes=1 bytes=72\n", ""),
-    }
-}
-
-#[test]
-fn checks_beginnings_of_the_scrambled_section(rt: HostRuntime) -> Result<(), Fail> {
-    for len in 0..73 {
-        let bytes = SCRAMBLED.get(..len).ok_or("a beginning")?;
-        let (status, out, err) = of_scrambled_beginning(len);
-        let answer = answers(rt.alloc(), CHECK, bytes, out, err)?;
-        assert_eq!(rt; answer, (status, true, true), "{len} bytes");
-    }
-    Ok(())
+    all_answer(rt.alloc(), &WHOLE)
 }
 
 // ---- FDEs behind the plain CIE
 
-const SOUND: [(&str, &[u8], &str, &str); 15] = [
+const SOUND: [(&str, &[u8], &str, &str); 17] = [
     (
         "unspecified again",
         b"\x1c\0\0\0\0\0\0\0\0\x10\0\0\0\0\0\0\x10\0\0\0\0\0\0\0\x83\x03\x44\xc3\0\0\0\0",
@@ -211,6 +151,18 @@ const SOUND: [(&str, &[u8], &str, &str); 15] = [
         "fde 0x1000 0x1010 ra=r16\n 0x1000 cfa=r7+8 r3=cfa-8 r5=expr(plus_uconst 1) r6=r3 r16=u\n",
     ),
     (
+        "expressions, and the same value",
+        b"\x24\0\0\0\0\0\0\0\0\x10\0\0\0\0\0\0\x10\0\0\0\0\0\0\0\x08\0\x10\x06\x03\x2f\xfd\xff\x0f\0\x11\x41\x7f\0\0\0",
+        "ok cies=1 fdes=1 bytes=64\n",
+        "fde 0x1000 0x1010 ra=r16\n 0x1000 cfa=expr() r0=s r6=[expr(skip 0)] r16=[cfa-8] r65=[cfa+8]\n",
+    ),
+    (
+        "offsets of each sign, and the last register",
+        b"\x24\0\0\0\0\0\0\0\0\x10\0\0\0\0\0\0\x10\0\0\0\0\0\0\0\x13\x01\x15\x03\x7f\x14\x04\0\x85\0\x09\xff\xff\x03\x02\0",
+        "ok cies=1 fdes=1 bytes=64\n",
+        "fde 0x1000 0x1010 ra=r16\n 0x1000 cfa=r7-8 r3=cfa+8 r4=cfa+0 r5=[cfa+0] r16=[cfa-8] r65535=r2\n",
+    ),
+    (
         "touching ranges",
         b"\x14\0\0\0\0\0\0\0\0\x10\0\0\0\0\0\0\x10\0\0\0\0\0\0\0\
 \x14\0\0\0\0\0\0\0\x10\x10\0\0\0\0\0\0\x10\0\0\0\0\0\0\0",
@@ -233,18 +185,6 @@ const SOUND: [(&str, &[u8], &str, &str); 15] = [
         "fde 0x1000 0x1010 ra=r16\n 0x1000 cfa=r7+8 r16=[cfa-8]\nfde 0x2000 0x2010 ra=r5\n 0x2000 cfa=r7+8 r16=[cfa-8]\n",
     ),
 ];
-
-#[test]
-fn answers_sound_fdes(rt: HostRuntime) -> Result<(), Fail> {
-    for (name, fdes, counts, lines) in SOUND {
-        let section = joined(rt.alloc(), CIE, fdes)?;
-        let answer = answers(rt.alloc(), CHECK, &section, counts, "")?;
-        assert_eq!(rt; answer, (0, true, true), "check, {name}");
-        let answer = answers(rt.alloc(), ROWS, &section, lines, "")?;
-        assert_eq!(rt; answer, (0, true, true), "rows, {name}");
-    }
-    Ok(())
-}
 
 // ---- refusals, before which nothing is printed
 
@@ -364,114 +304,35 @@ const REFUSED: [(&str, &[u8], &[u8], &str); 20] = [
     ),
 ];
 
+// Whether `check` and `rows` answer a section so.
+fn both_answer(
+    alloc: Global,
+    section: &[u8],
+    status: u8,
+    texts: (&str, &str),
+    err: &str,
+) -> Result<bool, AllocError> {
+    let check = answers(alloc, CHECK, section, texts.0, err)?;
+    let rows = answers(alloc, ROWS, section, texts.1, err)?;
+    Ok(check == (status, true, true) && rows == check)
+}
+
+#[test]
+fn answers_fdes(rt: HostRuntime) -> Result<(), Fail> {
+    for (name, fdes, counts, rows) in SOUND {
+        let section = joined(rt.alloc(), CIE, fdes)?;
+        let good = both_answer(rt.alloc(), &section, 0, (counts, rows), "")?;
+        assert!(rt; good, "{name}");
+    }
+    Ok(())
+}
+
 #[test]
 fn refuses_sections(rt: HostRuntime) -> Result<(), Fail> {
     for (name, front, back, wanted) in REFUSED {
         let section = joined(rt.alloc(), front, back)?;
-        let answer = answers(rt.alloc(), CHECK, &section, "", wanted)?;
-        assert_eq!(rt; answer, (2, true, true), "check, {name}");
-        let answer = answers(rt.alloc(), ROWS, &section, "", wanted)?;
-        assert_eq!(rt; answer, (2, true, true), "rows, {name}");
-    }
-    Ok(())
-}
-
-// ---- outputs that fail, and words
-
-#[test]
-fn tells_the_write_of_counts_that_fails(rt: HostRuntime) -> Result<(), Fail> {
-    for writes in 0..100 {
-        let answer = status_over(rt.alloc(), CHECK, writes, 1)?;
-        if answer == (0, false) {
-            assert!(rt; 1 <= writes, "only {writes} writes");
-            return Ok(());
-        }
-        assert_eq!(rt; answer, (4, true), "after {writes} writes");
-    }
-    Err(Fail::new("no run wrote all"))
-}
-
-#[test]
-fn tells_the_write_of_rows_that_fails(rt: HostRuntime) -> Result<(), Fail> {
-    for writes in 0..500 {
-        let answer = status_over(rt.alloc(), ROWS, writes, 1)?;
-        if answer == (0, false) {
-            assert!(rt; 5 <= writes, "only {writes} writes");
-            return Ok(());
-        }
-        assert_eq!(rt; answer, (4, true), "after {writes} writes");
-    }
-    Err(Fail::new("no run wrote all"))
-}
-
-#[test]
-fn tells_flushes_of_tables_that_fail(rt: HostRuntime) -> Result<(), Fail> {
-    assert_eq!(rt; status_over(rt.alloc(), CHECK, 100, 0)?, (4, true));
-    assert_eq!(rt; status_over(rt.alloc(), CHECK, 0, 0)?, (4, true));
-    assert_eq!(rt; status_over(rt.alloc(), ROWS, 500, 0)?, (4, true));
-    assert_eq!(rt; status_over(rt.alloc(), ROWS, 0, 0)?, (4, true));
-    Ok(())
-}
-
-#[test]
-fn judges_words_of_tables_before_files(rt: HostRuntime) -> Result<(), Fail> {
-    let rows = [
-        (
-            "dwframe check --size 5 --order native gone",
-            3,
-            "bad value for --size\n",
-        ),
-        (
-            "dwframe rows --order native --size 8 gone",
-            3,
-            "bad value for --order\n",
-        ),
-        (
-            "dwframe check --size=4 --order big -- gone",
-            4,
-            "cannot read gone\n",
-        ),
-        (
-            "dwframe rows gone --order=big --size 4",
-            4,
-            "cannot read gone\n",
-        ),
-        (
-            "dwframe check huge --order big --size=8",
-            5,
-            "out of memory\n",
-        ),
-        (
-            "dwframe rows --order big huge --size=8",
-            5,
-            "out of memory\n",
-        ),
-    ];
-    for (line, status, wanted) in rows {
-        let answer = answers(rt.alloc(), line, PLAIN, "", wanted)?;
-        assert_eq!(rt; answer, (status, true, true), "{line}");
-    }
-    Ok(())
-}
-
-#[test]
-fn tells_wrong_words_of_tables(rt: HostRuntime) -> Result<(), Fail> {
-    let rows = [
-        "dwframe check --size 8 --order little in --order=big",
-        "dwframe check --size 8 --order little in in",
-        "dwframe check --size 8 --order little",
-        "dwframe check --order little in",
-        "dwframe check --frame --size 8 --order little in",
-        "dwframe rows --size 8 --order little in --size=8",
-        "dwframe rows --size 8 --order little in in",
-        "dwframe rows --size 8 --order little",
-        "dwframe rows --size 8 in",
-        "dwframe rows --at 0x1000 --size 8 --order little in",
-        "dwframe row --size 8 --order little in",
-    ];
-    for line in rows {
-        let (status, no_out, no_err) = answers(rt.alloc(), line, PLAIN, "", "")?;
-        assert_eq!(rt; (status, no_out, no_err), (3, true, false), "{line}");
+        let good = both_answer(rt.alloc(), &section, 2, ("", ""), wanted)?;
+        assert!(rt; good, "{name}");
     }
     Ok(())
 }

@@ -12,6 +12,7 @@
 mod borrowing;
 mod evaluations;
 mod expressions;
+mod forms;
 mod lookups;
 mod numbers;
 mod programs;
@@ -47,6 +48,9 @@ fn over_section(rt: &HostRuntime, call: &str, bytes: &[u8], target: Target) -> i
         "check" => tables::checked(rt, bytes, target),
         "row_at" => tables::rows_of_addresses(rt, bytes, target),
         "changes" => tables::all_changes(rt, bytes, target),
+        "normalise" | "normalise_to" | "normal_length" | "same" => {
+            forms::over_section(rt, call, bytes, target)
+        }
         "decode" | "encode" | "ops" | "put_least" => {
             expressions::over_section(rt, call, bytes, target)
         }

@@ -1,0 +1,34 @@
+-- The laws of programs.
+use Rattle.std.proofs.Common.{◌≡◌, ℕ, List, subst, length}
+use Rattle.std.proofs.lemmas.List.{append-nil}
+use Rattle.dw_num.specs.Target.{address_limit}
+use Rattle.dw_cfa.specs.declared.instr.Instr.{Instr}
+use Rattle.dw_cfa.specs.InstrSpells.{Program}
+use Rattle.dw_cfa.specs.Kept.{CieKept, FdeKept}
+use Rattle.dw_cfa.specs.Laws.{initial_cfa, initial_rule}
+use Rattle.dw_cfa.specs.Location.{row_starts}
+use Rattle.dw_cfa.specs.Rows.{rule}
+use Rattle.dw_section.specs.Changes.{AreChanges}
+use Rattle.dw_canon.specs.Canon.{cie_instrs, fde_instrs}
+use Rattle.dw_canon.specs.Laws.{InitialProgram, MemberProgram, ChangesAreOne}
+use Rattle.dw_canon.specs.Members.{changes_of}
+use Rattle.dw_canon.specs.Spelling.{program_bytes}
+use Rattle.dw_canon.specs.Written.{factors}
+use Rattle.dw_canon.proofs.MemberLaws.{cie_spelled, cie_kept, cie_cfa, cie_rules, member_spelled, member_kept, member_changes, member_starts}
+use Rattle.dw_section.proofs.Rowed.{one_changes, one_listed}
+
+-- without nops
+pub initial_program : InitialProgram
+initial_program t initial fits =
+    subst (λ (l : List Instr). Program t factors l (program_bytes t l) × CieKept l × (initial.cfa ≡ initial_cfa l) × ((r : ℕ) → rule initial r ≡ initial_rule l r)) (append-nil (cie_instrs initial))
+    (cie_spelled t initial fits 0, cie_kept t initial fits 0, cie_cfa t initial fits 0, cie_rules t initial fits 0)
+
+pub member_program : MemberProgram
+member_program t initial m fits stands =
+    let first = initial_program t initial fits in
+    subst (λ (l : List Instr). Program t factors l (program_bytes t l) × FdeKept (address_limit t.size) m.begin initial.cfa l × AreChanges (cie_instrs initial) l m.begin m.end (changes_of m) × (row_starts l ≡ length (changes_of m)))
+    (append-nil (fde_instrs initial m))
+    (member_spelled t initial fits m stands 0, member_kept t initial fits m stands 0, member_changes t initial fits m stands 0 (cie_instrs initial) first.2 first.3, member_starts t initial fits m stands 0)
+
+pub changes_are_one : ChangesAreOne
+changes_are_one initial instrs begin end xs ys some up down h g = one_listed xs ys (one_changes initial instrs begin end xs ys h g) up down

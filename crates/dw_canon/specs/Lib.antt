@@ -1,0 +1,12 @@
+pub mod Written
+pub mod Laid
+pub mod Renders
+pub mod Members
+pub mod Fits
+pub mod Difference
+pub mod Group
+pub mod Spelling
+pub mod Canon
+pub mod Normal
+pub mod Laws
+pub mod Headline

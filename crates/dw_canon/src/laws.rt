@@ -1,0 +1,35 @@
+//! Laws of normal forms, for the layers above. The functions do nothing: their contracts are proved.
+
+ghost use Rattle.dw_canon.specs.Headline.{Headline};
+ghost use Rattle.dw_canon.specs.Laws.{NormalFormExists, NormalFormIsOne, MeaningIsKept, NormalAgain, SameNormalForm, InitialProgram, MemberProgram, ChangesAreOne, FewestRows, NormalRows, InitialIsShared};
+ghost use Rattle.dw_canon.specs.Renders.{Readback};
+
+/// Two accepted sections have byte-equal normal forms exactly where they say the same; each normal form is accepted, says what
+/// its source says, and is its own normal form.
+pub fn headline()
+    ensures { Headline }
+{}
+
+/// What holds of the normal forms of accepted sections.
+pub fn normal_laws()
+    ensures exists { NormalFormExists }
+    ensures one { NormalFormIsOne }
+    ensures kept { MeaningIsKept }
+    ensures again { NormalAgain }
+    ensures same { SameNormalForm }
+    ensures fewest { FewestRows }
+    ensures rows { NormalRows }
+    ensures shared { InitialIsShared }
+{}
+
+/// What holds of the programs of a normal form, and of changes.
+pub fn program_laws()
+    ensures initial { InitialProgram }
+    ensures member { MemberProgram }
+    ensures one { ChangesAreOne }
+{}
+
+/// What is written of an accepted section, with the changes of each FDE, is accepted and means the same.
+pub fn meaning_kept()
+    ensures { Readback }
+{}

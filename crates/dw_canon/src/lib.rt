@@ -1,0 +1,9 @@
+//! What the normal form of call frame information is, and what holds of it. There is no code here: the functions do nothing,
+//! and their contracts are proved.
+//!
+//! Read `specs/Headline.antt` first, then `specs/Members.antt` and `specs/Canon.antt`.
+#![tactic(auto)]
+
+mod laws;
+
+pub use laws::{headline, meaning_kept, normal_laws, program_laws};

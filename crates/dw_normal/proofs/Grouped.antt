@@ -1,0 +1,201 @@
+-- The initial rows of the groups, one FDE after another, are those of all of them.
+use Rattle.std.proofs.Common.{Less, Equal, Greater, eq-eqb, ◌≡◌, ◌⊎◌, ◌+◌, ℕ, suc, length, take, get_or, ◌<◌, ◌≤◌, Bool, true, false, List, [], ◌∷◌, ◌++◌, map, Option, Some, None, refl, sym, ap, ◌∙◌, subst, inl, inr, arith}
+use Rattle.std.specs.Prelude.{nat_eq, nat_lt}
+use Rattle.std.specs.BTreeMap.{insert_entry}
+use Rattle.std.specs.Ordering.{nat_cmp}
+use Rattle.std.proofs.lemmas.Bool.{cases_lt, lt-ltb, le-ltb, ne_eqb, cases_Bool}
+use Rattle.std.proofs.lemmas.List.{append-nil, take_more}
+use Rattle.dw_cfa.specs.Rows.{Rules, blank}
+use Rattle.dw_canon.specs.Canon.{initial_of, return_registers}
+use Rattle.dw_canon.specs.Difference.{with_register, with_registers}
+use Rattle.dw_canon.specs.Group.{group, initial_row, kept_by}
+use Rattle.dw_canon.specs.Members.{Member}
+use Rattle.dw_normal.specs.Grouping.{initial_rows, begun_with, row_of, with_member}
+use Rattle.dw_normal.proofs.Passes.{group_more, next_member}
+
+-- ---- the order of two registers
+
+pub record Lower (a b : ℕ) : Type 0 where
+  pub lt : a < b
+  pub is : nat_lt a b ≡ true
+  pub back : nat_lt b a ≡ false
+  pub other : nat_eq b a ≡ false
+  pub less : nat_cmp a b ≡ Less
+  pub greater : nat_cmp b a ≡ Greater
+
+lower : (a b : ℕ) → a < b → Lower a b
+lower a b lt =
+    let is = lt-ltb a b lt in
+    let back : nat_lt b a ≡ false = le-ltb b a (omega arith) in
+    let other : nat_eq b a ≡ false = ne_eqb b a (λ same. omega arith) in
+    record { lt = lt; is = is; back = back; other = other; less = rw is refl; greater = rw (back, other) refl }
+
+self_lt : (a : ℕ) → nat_lt a a ≡ false
+self_lt a = le-ltb a a (omega arith)
+
+self_eq : (a : ℕ) → nat_eq a a ≡ true
+self_eq a = eq-eqb a a refl
+
+pub told : (a b : ℕ) → Lower a b ⊎ ((a ≡ b) ⊎ Lower b a)
+told a b = elim (cases_lt a b) [
+  | inl lt ↦ inl (lower a b lt)
+  | inr ge ↦ elim (cases_lt b a) [ inl gt ↦ inr (inr (lower b a gt)) | inr le ↦ inr (inl (omega arith)) ]
+]
+
+-- ---- two registers come in in either order
+
+low_first : (a b : ℕ) (xs : List ℕ) → Lower a b → with_register a (with_register b xs) ≡ with_register b (with_register a xs)
+low_first a b [] o = rw (o.is, o.back, o.other) refl
+low_first a b (x ∷ xs) o = elim (told b x) [
+  | inl bx ↦ let ax = lower a x (omega (arith, o.lt, bx.lt)) in rw (bx.is, ax.is, o.is, o.back, o.other, bx.is) refl
+  | inr (inl same) ↦ subst (λ (n : ℕ). with_register a (with_register b (n ∷ xs)) ≡ with_register b (with_register a (n ∷ xs))) same (rw (self_lt b, self_eq b, o.is, o.back, o.other, self_lt b, self_eq b) refl)
+  | inr (inr xb) ↦ elim (told a x) [
+    | inl ax ↦ rw (xb.back, xb.other, ax.is, o.back, o.other, xb.back, xb.other) refl
+    | inr (inl same) ↦ rw (xb.back, xb.other) (subst (λ (n : ℕ). with_register n (x ∷ with_register b xs) ≡ with_register b (with_register n (x ∷ xs))) (sym same) (rw (self_lt x, self_eq x, xb.back, xb.other) refl))
+    | inr (inr xa) ↦ rw (xb.back, xb.other, xa.back, xa.other, xb.back, xb.other) (ap (λ (l : List ℕ). x ∷ l) (low_first a b xs o))
+  ]
+]
+
+either_first : (a b : ℕ) (xs : List ℕ) → with_register a (with_register b xs) ≡ with_register b (with_register a xs)
+either_first a b xs = elim (told a b) [
+  | inl o ↦ low_first a b xs o
+  | inr (inl same) ↦ subst (λ (n : ℕ). with_register a (with_register n xs) ≡ with_register n (with_register a xs)) same refl
+  | inr (inr o) ↦ sym (low_first b a xs o)
+]
+
+last_first : (q : ℕ) (rs : List ℕ) → with_registers (rs ++ q ∷ []) [] ≡ with_register q (with_registers rs [])
+last_first q [] = refl
+last_first q (r ∷ rs) = ap (with_register r) (last_first q rs) ∙ either_first r q (with_registers rs [])
+
+pub registers_more : (xs : List Member) (m : Member) → return_registers (xs ++ m ∷ []) ≡ with_register m.register (return_registers xs)
+registers_more xs m = ap (λ (l : List ℕ). with_registers l []) (each xs) ∙ last_first m.register (map (λ (n : Member). n.register) xs)
+  where
+    each : (ys : List Member) → map (λ (n : Member). n.register) (ys ++ m ∷ []) ≡ map (λ (n : Member). n.register) ys ++ m.register ∷ []
+    each [] = refl
+    each (y ∷ ys) = ap (λ (l : List ℕ). y.register ∷ l) (each ys)
+
+-- ---- a row comes in
+
+abbrev Rise : ℕ → List ℕ → Type 0
+Rise low [] = Unit {0}
+Rise low (r ∷ rs) = (low ≤ r) × Rise (suc r) rs
+
+rise_one : (low r : ℕ) (rs : List ℕ) → low ≤ r → Rise low rs → Rise low (with_register r rs)
+rise_one low r [] le h = (le, tt)
+rise_one low r (x ∷ rs) le h = elim (told r x) [
+  | inl o ↦ rw (o.is) (le, (omega (arith, o.lt), h.1))
+  | inr (inl same) ↦ subst (λ (n : ℕ). Rise low (with_register n (x ∷ rs))) (sym same) (rw (self_lt x, self_eq x) h)
+  | inr (inr o) ↦ rw (o.back, o.other) (h.0, rise_one (suc x) r rs (omega (arith, o.lt)) h.1)
+]
+
+registers_rise : (rs : List ℕ) → Rise 0 (with_registers rs [])
+registers_rise [] = tt
+registers_rise (r ∷ rs) = rise_one 0 r (with_registers rs []) (omega arith) (registers_rise rs)
+
+abbrev paired : (ℕ → Rules) → List ℕ → List (ℕ × Rules)
+paired f rs = map {B = ℕ × Rules} (λ (r : ℕ). (r, f r)) rs
+
+module _ (f g : ℕ → Rules) (q : ℕ) (v : Rules) (here : g q ≡ v) (else : (r : ℕ) → (r ≡ q → ⊥) → g r ≡ f r) where
+  above : (low : ℕ) (rs : List ℕ) → q < low → Rise low rs → paired f rs ≡ paired g rs
+  above low [] lt h = refl
+  above low (r ∷ rs) lt h =
+      let same = else r (λ e. omega (arith, h.0)) in
+      ap (λ (x : Rules). (r, x) ∷ paired f rs) (sym same) ∙ ap (λ (l : List (ℕ × Rules)). (r, g r) ∷ l) (above (suc r) rs (omega (arith, h.0)) h.1)
+
+  pub comes_in : (low : ℕ) (rs : List ℕ) → Rise low rs → insert_entry nat_cmp (paired f rs) q v ≡ paired g (with_register q rs)
+  comes_in low [] h = ap (λ (x : Rules). (q, x) ∷ []) (sym here)
+  comes_in low (x ∷ rs) h = elim (told q x) [
+    | inl o ↦ rw (o.less, o.is) (ap (λ (y : Rules). (q, y) ∷ paired f (x ∷ rs)) (sym here) ∙ ap (λ (l : List (ℕ × Rules)). (q, g q) ∷ l) (above x (x ∷ rs) o.lt (omega arith, h.1)))
+    | inr (inl same) ↦
+        let eq : nat_cmp q x ≡ Equal = subst (λ (n : ℕ). nat_cmp q n ≡ Equal) same (rw (self_lt q, self_eq q) refl) in
+        let no : nat_lt q x ≡ false = subst (λ (n : ℕ). nat_lt q n ≡ false) same (self_lt q) in
+        let yes : nat_eq q x ≡ true = subst (λ (n : ℕ). nat_eq q n ≡ true) same (self_eq q) in
+        let value : v ≡ g x = sym here ∙ ap g same in
+        rw (eq, no, yes) (ap (λ (y : Rules). (x, y) ∷ paired f rs) value ∙ ap (λ (l : List (ℕ × Rules)). (x, g x) ∷ l) (above (suc x) rs (omega (arith, same)) h.1))
+    | inr (inr o) ↦
+        let own = else x (λ e. omega (arith, o.lt)) in
+        rw (o.greater, o.back, o.other) (ap (λ (y : Rules). (x, y) ∷ insert_entry nat_cmp (paired f rs) q v) (sym own) ∙ ap (λ (l : List (ℕ × Rules)). (x, g x) ∷ l) (comes_in (suc x) rs h.1))
+  ]
+
+-- ---- a row is found
+
+-- a list's value, where it has an element
+abbrev pub some_of : Rules → List Member → Option Rules
+some_of row [] = None
+some_of row (m ∷ ms) = Some row
+
+module _ (f : ℕ → Rules) (q : ℕ) where
+  abbrev rows_at : List ℕ → List (ℕ × Rules)
+  rows_at rs = paired f rs
+
+  abbrev found : Bool → Option Rules → Option Rules
+  found true rest = Some (f q)
+  found false rest = rest
+
+  head_look : (r : ℕ) (rest : List (ℕ × Rules)) → row_of ((r, f r) ∷ rest) q ≡ found (nat_eq r q) (row_of rest q)
+  head_look r rest = elim (told q r) [
+    | inl o ↦ rw (o.less, o.other) refl
+    | inr (inl same) ↦ subst (λ (n : ℕ). row_of ((n, f n) ∷ rest) q ≡ found (nat_eq n q) (row_of rest q)) same (rw (self_lt q, self_eq q) refl)
+    | inr (inr o) ↦ let ne : nat_eq r q ≡ false = ne_eqb r q (λ e. omega (arith, o.lt)) in rw (o.greater, ne) refl
+  ]
+
+  both_orders : (a b : Bool) (rest : Option Rules) → found a (found b rest) ≡ found b (found a rest)
+  both_orders true true rest = refl
+  both_orders true false rest = refl
+  both_orders false true rest = refl
+  both_orders false false rest = refl
+
+  twice : (a : Bool) (rest : Option Rules) → found a rest ≡ found a (found a rest)
+  twice true rest = refl
+  twice false rest = refl
+
+  look_one : (r : ℕ) (rs : List ℕ) → row_of (rows_at (with_register r rs)) q ≡ found (nat_eq r q) (row_of (rows_at rs) q)
+  look_one r [] = head_look r []
+  look_one r (x ∷ rs) = elim (told r x) [
+    | inl o ↦ rw (o.is) (head_look r (rows_at (x ∷ rs)))
+    | inr (inl same) ↦
+        let one = head_look x (rows_at rs) in
+        subst (λ (n : ℕ). row_of (rows_at (with_register n (x ∷ rs))) q ≡ found (nat_eq n q) (row_of (rows_at (x ∷ rs)) q)) (sym same)
+        (rw (self_lt x, self_eq x) (one ∙ twice (nat_eq x q) (row_of (rows_at rs) q) ∙ ap (found (nat_eq x q)) (sym one)))
+    | inr (inr o) ↦
+        rw (o.back, o.other) (head_look x (rows_at (with_register r rs)) ∙ ap (found (nat_eq x q)) (look_one r rs) ∙ both_orders (nat_eq x q) (nat_eq r q) (row_of (rows_at rs) q) ∙ ap (found (nat_eq r q)) (sym (head_look x (rows_at rs))))
+  ]
+
+  pub look_members : (xs : List Member) → row_of (rows_at (return_registers xs)) q ≡ some_of (f q) (group q xs)
+  look_members [] = refl
+  look_members (x ∷ xs) = look_one x.register (return_registers xs) ∙ elim (cases_Bool (nat_eq x.register q)) [
+    | inl e ↦ rw e refl
+    | inr e ↦ rw e (look_members xs)
+  ]
+
+-- ---- one FDE more
+
+joined : (m : Member) (ys : List Member) → initial_row (ys ++ m ∷ []) ≡ kept_by (begun_with (some_of (initial_row ys) ys) m.first) m.later
+joined m [] = refl
+joined m (y ∷ ys) = next_member y ys m
+
+pub member_more : (xs : List Member) (m : Member) → with_member (initial_rows xs) m ≡ initial_rows (xs ++ m ∷ [])
+member_more xs m =
+    let q = m.register in
+    let own : group q (m ∷ []) ≡ m ∷ [] = rw (self_eq q) refl in
+    let look = look_members (initial_of xs) q xs in
+    let here : initial_of (xs ++ m ∷ []) q ≡ kept_by (begun_with (row_of (initial_rows xs) q) m.first) m.later =
+    ap initial_row (group_more q xs (m ∷ []) ∙ ap (λ (l : List Member). group q xs ++ l) own) ∙ joined m (group q xs)
+    ∙ ap (λ (o : Option Rules). kept_by (begun_with o m.first) m.later) (sym look) in
+    comes_in (initial_of xs) (initial_of (xs ++ m ∷ [])) q (kept_by (begun_with (row_of (initial_rows xs) q) m.first) m.later) here others 0 (return_registers xs) (registers_rise (map (λ (n : Member). n.register) xs))
+    ∙ ap (paired (initial_of (xs ++ m ∷ []))) (sym (registers_more xs m))
+  where
+    others : (r : ℕ) → (r ≡ m.register → ⊥) → initial_of (xs ++ m ∷ []) r ≡ initial_of xs r
+    others r ne =
+        let no : nat_eq m.register r ≡ false = ne_eqb m.register r (λ e. ne (sym e)) in
+        let none : group r (m ∷ []) ≡ [] = rw no refl in
+        ap initial_row (group_more r xs (m ∷ []) ∙ ap (λ (l : List Member). group r xs ++ l) none ∙ append-nil (group r xs))
+
+-- ---- the loop
+
+pub no_member : Member
+no_member = record { begin = 0; end = 0; register = 0; first = blank; later = [] }
+
+pub rows_more : (k : ℕ) (ms : List Member) (rows new : List (ℕ × Rules)) → k < length ms → rows ≡ initial_rows (take k ms) → new ≡ with_member rows (get_or ms k no_member) → new ≡ initial_rows (take (k + 1) ms)
+rows_more k ms rows new lt is made =
+    made ∙ ap (λ (l : List (ℕ × Rules)). with_member l (get_or ms k no_member)) is ∙ member_more (take k ms) (get_or ms k no_member) ∙ ap initial_rows (sym (take_more ms k no_member lt))

@@ -1,0 +1,109 @@
+-- Bytes that are put behind others.
+use Rattle.std.proofs.Common.{◌≡◌, ℕ, ◌+◌, ◌-◌, ◌≤◌, true, List, ◌++◌, length, take, drop, Option, Result, Ok, Err, refl, sym, ap, ◌∙◌, subst, arith, append_assoc}
+use Rattle.std.specs.Prelude.{OnOk}
+use Rattle.std.specs.Result.{is_ok, IsErrAnd}
+use Rattle.std.proofs.Math.Seq.{take-append-add, take-append_seam, drop-append_seam}
+use Rattle.std.proofs.lemmas.List.{length-append, take-append-le, take_rest, take_at}
+use Rattle.dw_normal.specs.Answers.{Took}
+use Rattle.dw_normal.specs.Puts.{Puts, taken_by, after}
+use Rattle.dw_normal.specs.declared.entry.PutError.{PutError}
+use Rattle.dw_normal.specs.declared.entry.PutError.TheVariants.{Write, Memory}
+use Rattle.dw_normal.proofs.Taken.{took_none, took_both}
+
+-- none was put
+pub none_put : (bytes : List ℕ) (f : ℕ) (o : Option (List ℕ)) → Puts bytes (Err (Memory 0)) f f o o
+none_put bytes f o = (refl, omega arith, took_none o)
+
+-- an answer takes no more than the bytes
+pub most_taken : (bytes : List ℕ) (r : Result ℕ PutError) (f g : ℕ) (o n : Option (List ℕ)) → Puts bytes r f g o n → taken_by r ≤ length bytes
+most_taken bytes (Ok k) f g o n h = omega (arith, h.1)
+most_taken bytes (Err (Write w)) f g o n h = h.1
+most_taken bytes (Err (Memory w)) f g o n h = h.1
+
+took_front : (xs ys : List ℕ) (w : ℕ) (o n : Option (List ℕ)) → w ≤ length xs → Took o (take w xs) n → Took o (take w (xs ++ ys)) n
+took_front xs ys w o n le h = subst (λ (l : List ℕ). Took o l n) (sym (take-append-le w xs ys le)) h
+
+-- a failure among bytes is one among more of them
+pub put_begins : (xs ys : List ℕ) (e : PutError) (f g : ℕ) (o n : Option (List ℕ)) → Puts xs (Err e) f g o n → Puts (xs ++ ys) (Err e) f g o n
+put_begins xs ys (Write w) f g o n h = (h.0, omega (arith, h.1, length-append xs ys), took_front xs ys w o n h.1 h.2)
+put_begins xs ys (Memory w) f g o n h = (h.0, omega (arith, h.1, length-append xs ys), took_front xs ys w o n h.1 h.2)
+
+took_behind : (xs ys : List ℕ) (c w : ℕ) (o m n : Option (List ℕ)) → c ≡ length xs → Took o xs m → Took m (take w ys) n → Took o (take (c + w) (xs ++ ys)) n
+took_behind xs ys c w o m n is h k =
+    let here : xs ++ take w ys ≡ take (c + w) (xs ++ ys) = sym (take-append-add xs ys w) ∙ ap (λ (k : ℕ). take (k + w) (xs ++ ys)) (sym is) in
+    subst (λ (l : List ℕ). Took o l n) here (took_both o m n xs (take w ys) h k)
+
+-- bytes behind others that were all taken
+pub puts_both : (xs ys : List ℕ) (c : ℕ) (r : Result ℕ PutError) (f g h : ℕ) (o m n : Option (List ℕ)) → Puts xs (Ok c) f g o m → Puts ys r g h m n → Puts (xs ++ ys) (after c r) f h o n
+puts_both xs ys c (Ok k) f g h o m n p q =
+    let one = p.1 in
+    let two = q.1 in
+    (q.0 ∙ p.0, omega (arith, one, two, length-append xs ys), took_both o m n xs ys p.2 q.2)
+puts_both xs ys c (Err (Write w)) f g h o m n p q =
+    let one = p.1 in
+    let two = q.1 in
+    let same = p.0 in
+    let more = q.0 in
+    (omega (arith, same, more), omega (arith, one, two, length-append xs ys), took_behind xs ys c w o m n one p.2 q.2)
+puts_both xs ys c (Err (Memory w)) f g h o m n p q =
+    let one = p.1 in
+    let two = q.1 in
+    (q.0 ∙ p.0, omega (arith, one, two, length-append xs ys), took_behind xs ys c w o m n one p.2 q.2)
+
+-- memory runs out behind bytes
+pub put_stops : (xs ys : List ℕ) (c : ℕ) (f g : ℕ) (o n : Option (List ℕ)) → Puts xs (Ok c) f g o n → Puts (xs ++ ys) (Err (Memory c)) f g o n
+put_stops xs ys c f g o n h =
+    let one = h.1 in
+    let front : xs ≡ take c (xs ++ ys) = sym (ap (λ (k : ℕ). take k (xs ++ ys)) one ∙ take-append_seam xs ys) in
+    (h.0, omega (arith, one, length-append xs ys), subst (λ (l : List ℕ). Took o l n) front h.2)
+
+-- ---- a step of a loop that puts bytes
+
+module _ (done one rest all : List ℕ) (whole : all ≡ done ++ (one ++ rest)) (c : ℕ) (put r : Result ℕ PutError) (is : r ≡ after c put) (f g h : ℕ) (o m n : Option (List ℕ))
+    (before : Puts done (Ok c) f g o m) (now : Puts one put g h m n) where
+  joined : Puts (done ++ one) r f h o n
+  joined = subst (λ (x : Result ℕ PutError). Puts (done ++ one) x f h o n) (sym is) (puts_both done one c put f g h o m n before now)
+
+  pub goes_on : (k : ℕ) → r ≡ Ok k → Puts (done ++ one) (Ok k) f h o n
+  goes_on k e = subst (λ (x : Result ℕ PutError). Puts (done ++ one) x f h o n) e joined
+
+  pub ends_there : (e : PutError) → r ≡ Err e → Puts all (Err e) f h o n
+  ends_there e was =
+      let front = subst (λ (x : Result ℕ PutError). Puts (done ++ one) x f h o n) was joined in
+      subst (λ (l : List ℕ). Puts l (Err e) f h o n) (append_assoc done one rest ∙ sym whole) (put_begins (done ++ one) rest e f h o n front)
+
+  -- what is counted is no more than all bytes
+  pub counted : c + taken_by put ≤ length all
+  counted =
+      let count = before.1 in
+      let most = most_taken one put g h m n now in
+      let long = ap length whole in
+      omega (arith, count, most, long, length-append done (one ++ rest), length-append one rest)
+
+-- an error that `?` hands on
+pub same_err : (bytes : List ℕ) (r : Result ℕ PutError) (e : PutError) (f g : ℕ) (o n : Option (List ℕ)) → IsErrAnd r (λ (x : PutError). x ≡ e) → Puts bytes (Err e) f g o n → Puts bytes r f g o n
+same_err bytes (Ok k) e f g o n h p = absurd h
+same_err bytes (Err x) e f g o n h p = subst (λ (y : PutError). Puts bytes (Err y) f g o n) (sym h) p
+
+-- ---- contents behind what was appended to them
+
+pub ok_of : {A E : Type 0} (r : Result A E) (P : Type 0) → OnOk r P → is_ok r ≡ true → P
+ok_of (Ok x) P h e = h
+ok_of (Err x) P h e = absurd cc
+
+module _ (contents front buffer : List ℕ) (len : ℕ) (is : buffer ≡ contents ++ front) (long : len ≡ length contents) where
+  pub end_is : take (length buffer - len) (drop len buffer) ≡ front
+  end_is = take_rest buffer len ∙ ap (drop len) is ∙ ap (λ (n : ℕ). drop n (contents ++ front)) long ∙ drop-append_seam contents front
+
+  pub start_is : take len buffer ≡ contents
+  start_is = ap (take len) is ∙ take_at contents front len (sym long)
+
+  pub put_two : (c : ℕ) (put r : Result ℕ PutError) (f g h : ℕ) (o m n : Option (List ℕ)) → Puts (take (length buffer - len) (drop len buffer)) (Ok c) f g o m → Puts (take len buffer) put g h m n → r ≡ after c put
+      → Puts (front ++ contents) r f h o n
+  put_two c put r f g h o m n p q e =
+      let first : Puts front (Ok c) f g o m = subst (λ (l : List ℕ). Puts l (Ok c) f g o m) end_is p in
+      let second : Puts contents put g h m n = subst (λ (l : List ℕ). Puts l put g h m n) start_is q in
+      subst (λ (x : Result ℕ PutError). Puts (front ++ contents) x f h o n) (sym e) (puts_both front contents c put f g h o m n first second)
+
+  pub put_one : (e : PutError) (f g : ℕ) (o m : Option (List ℕ)) → Puts (take (length buffer - len) (drop len buffer)) (Err e) f g o m → Puts (front ++ contents) (Err e) f g o m
+  put_one e f g o m p = put_begins front contents e f g o m (subst (λ (l : List ℕ). Puts l (Err e) f g o m) end_is p)

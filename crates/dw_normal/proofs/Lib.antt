@@ -1,0 +1,17 @@
+mod Merging
+mod Appended
+mod Lengths
+mod Passes
+mod Measured
+mod Summed
+mod Taken
+mod Coming
+mod Grouped
+mod Reporting
+mod Placed
+mod Alike
+mod Joined
+mod Filled
+mod Sited
+mod Entries
+mod Located

@@ -1,0 +1,90 @@
+-- What is so of an FDE of a table, and of the initial row of its group.
+use Rattle.std.proofs.Common.{◌≡◌, ℕ, zero, suc, ◌<◌, ◌≤◌, List, [], ◌∷◌, length, map, get_or, Some, refl, sym, ap, ◌∙◌, subst, inl, inr, arith}
+use Rattle.std.specs.Prelude.{nat_eq}
+use Rattle.std.specs.List.{AllByRecursion}
+use Rattle.std.proofs.lemmas.Bool.{cases_Bool, eq-eqb}
+use Rattle.dw_num.specs.Input.{AreBytes}
+use Rattle.dw_num.specs.Target.{address_limit}
+use Rattle.dw_num.specs.declared.target.Target.{Target}
+use Rattle.dw_cfa.specs.Rows.{Rules}
+use Rattle.dw_section.specs.Accepted.{Accepted}
+use Rattle.dw_section.specs.declared.lookup.Fde.{Fde}
+use Rattle.dw_section.specs.Sound.{RowFits}
+use Rattle.dw_section.proofs.Judged.{all_get}
+use Rattle.dw_canon.specs.Canon.{cie_instrs, initial_of, return_registers}
+use Rattle.dw_canon.specs.Difference.{difference}
+use Rattle.dw_canon.specs.Fits.{ChangesStand, MemberStands, InstrFits}
+use Rattle.dw_canon.specs.Group.{group}
+use Rattle.dw_canon.specs.Members.{Member, AreMembers}
+use Rattle.dw_canon.proofs.Fitting.{difference_fits, cie_fits}
+use Rattle.dw_canon.proofs.Rendered.{fits, stand}
+use Rattle.dw_canon.proofs.Standing.{group_fits}
+use Rattle.dw_normal.specs.Grouping.{initial_rows, row_of}
+use Rattle.dw_normal.specs.Beginning.{Begins, IsReady}
+use Rattle.dw_normal.specs.Passing.{Stand}
+use Rattle.dw_normal.specs.declared.begun.Begun.{Begun}
+use Rattle.dw_normal.proofs.Grouped.{some_of, look_members}
+
+-- ---- the group of an FDE is not empty
+
+own_group : (row : Rules) (r : ℕ) (ms : List Member) (k : ℕ) (d : Member) → k < length ms → (get_or ms k d).register ≡ r → some_of row (group r ms) ≡ Some row
+own_group row r [] k d lt own = absurd (omega arith)
+own_group row r (m ∷ ms) zero d lt own = rw (eq-eqb m.register r own) refl
+own_group row r (m ∷ ms) (suc k) d lt own = elim (cases_Bool (nat_eq m.register r)) [
+  | inl e ↦ rw e refl
+  | inr e ↦ rw e (own_group row r ms k d (omega arith) own)
+]
+
+-- ---- an FDE by its place
+
+module _ (t : Target) (s : List ℕ) (b : AreBytes s) (ok : Accepted t s) (ms : List Member) (are : AreMembers t s ms) where
+  -- the CIE's program of each initial row can be spelled
+  pub rows_fit : AllByRecursion (λ (entry : ℕ × Rules). AllByRecursion (InstrFits t) (cie_instrs entry.1)) (initial_rows ms)
+  rows_fit = each (return_registers ms)
+    where
+      each : (rs : List ℕ) → AllByRecursion (λ (entry : ℕ × Rules). AllByRecursion (InstrFits t) (cie_instrs entry.1)) (map {B = ℕ × Rules} (λ (r : ℕ). (r, initial_of ms r)) rs)
+      each [] = tt
+      each (r ∷ rs) = (cie_fits t (initial_of ms r) (group_fits t ms r (fits t s b ok ms are)), each rs)
+
+  module _ (k : ℕ) (d : Member) (lt : k < length ms) where
+    abbrev m : Member
+    m = get_or ms k d
+
+    abbrev initial : Rules
+    initial = initial_of ms m.register
+
+    pub stands_at : MemberStands t initial m
+    stands_at = all_get (λ (n : Member). MemberStands t (initial_of ms n.register) n) ms k d (stand t s b ok ms are) lt
+
+    pub initial_at : RowFits t initial
+    initial_at = group_fits t ms m.register (fits t s b ok ms are)
+
+    -- what leads to its first row can be spelled
+    pub first_at : AllByRecursion (InstrFits t) (difference initial initial m.first)
+    first_at = difference_fits t initial initial m.first initial_at stands_at.first.fits stands_at.first.rests
+
+    -- its group has a row among the initial ones
+    pub row_at : row_of (initial_rows ms) m.register ≡ Some initial
+    row_at = look_members (initial_of ms) m.register ms ∙ own_group initial m.register ms k d lt refl
+
+    -- and among rows that are these
+    pub row_in : (rows : List (ℕ × Rules)) (r : ℕ) → rows ≡ initial_rows ms → r ≡ m.register → row_of rows r ≡ Some initial
+    row_in rows r are own = ap (λ (l : List (ℕ × Rules)). row_of l r) are ∙ ap (row_of (initial_rows ms)) own ∙ row_at
+
+    stand_behind : (begun : Begun) → Begins ms m begun → Stand t begun.shared.now begun.fde.begin begun.first begun.changes
+    stand_behind begun is later come =
+        let one = subst (λ (l : List (ℕ × Rules)). ChangesStand t initial m.end m.begin m.first l) (sym (is.later later come)) stands_at.later in
+        let two = subst (λ (n : ℕ). ChangesStand t initial n m.begin m.first later) (sym is.end) one in
+        let three = subst (λ (r : Rules). ChangesStand t initial begun.changes.end m.begin r later) (sym is.first) two in
+        let four = subst (λ (f : Fde). ChangesStand t initial begun.changes.end f.begin begun.first later) (sym is.fde) three in
+        subst (λ (r : Rules). ChangesStand t r begun.changes.end begun.fde.begin begun.first later) (sym is.shared) four
+
+    pub ready_at : (begun : Begun) → Begins ms m begun → IsReady t begun
+    ready_at begun is = record {
+      first =
+          subst (λ (r : Rules). AllByRecursion (InstrFits t) (difference r r begun.first)) (sym is.shared)
+          (subst (λ (r : Rules). AllByRecursion (InstrFits t) (difference initial initial r)) (sym is.first) first_at);
+      fits = subst (RowFits t) (sym is.first) stands_at.first.fits;
+      in_space = subst (λ (n : ℕ). n ≤ address_limit t.size) (sym is.end) stands_at.in_space;
+      stand = stand_behind begun is;
+    }

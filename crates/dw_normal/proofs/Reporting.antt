@@ -1,0 +1,225 @@
+-- From what is known of a section's members to what the calls over normal forms answer.
+use Rattle.std.proofs.Common.{◌≡◌, ◌⊎◌, ◌↔◌, ℕ, ◌<◌, ◌≤◌, Bool, true, List, [], ◌++◌, length, take, Option, Some, None, Result, Ok, Err, refl, sym, ap, ◌∙◌, subst, inl, inr, arith}
+use Rattle.std.specs.Bool.{Decides}
+use Rattle.dw_num.specs.Input.{AreBytes}
+use Rattle.dw_num.specs.declared.refusal.Refusal.{Refusal}
+use Rattle.dw_num.specs.declared.target.Target.{Target}
+use Rattle.dw_cfa.specs.Rows.{Rules}
+use Rattle.dw_section.specs.Accepted.{Accepted, CheckFault}
+use Rattle.dw_section.specs.Meanings.{SameMeaning}
+use Rattle.dw_section.proofs.CheckFirst.{fault_or_accepted}
+use Rattle.dw_canon.specs.Canon.{canon}
+use Rattle.dw_canon.specs.Members.{Member, AreMembers}
+use Rattle.dw_canon.specs.Normal.{IsNormalForm}
+use Rattle.dw_canon.proofs.Canonical.{members_exist, normal_form_is_one, same_exactly}
+use Rattle.dw_normal.specs.Answers.{IsPrepared, IsTooLong, IsWithin, NormalFault, RefusesNormal, SameFault, LengthFault, Took, WentOut, Writes, blamed, unread, unwritten, too_long}
+use Rattle.dw_normal.specs.Puts.{Puts, put_is}
+use Rattle.dw_normal.specs.declared.entry.PutError.{PutError}
+use Rattle.dw_normal.specs.declared.entry.PutError.TheVariants as put_error
+use Rattle.dw_normal.specs.declared.error.NormalError.{NormalError}
+use Rattle.dw_normal.specs.declared.error.NormalError.TheVariants as normal_error
+use Rattle.dw_normal.specs.declared.error.SameError.{SameError}
+use Rattle.dw_normal.specs.declared.error.SameError.TheVariants as same_error
+use Rattle.dw_normal.specs.declared.error.Which.{Which}
+use Rattle.dw_normal.specs.declared.error.Which.TheVariants.{First, Second}
+use Rattle.dw_normal.specs.declared.error.WriteError.{WriteError}
+use Rattle.dw_normal.specs.declared.error.WriteError.TheVariants as write_error
+use Rattle.dw_section.specs.Table.{Section}
+use Rattle.std.specs.Prelude.{IfErr}
+use Rattle.dw_normal.specs.Grouping.{initial_rows}
+use Rattle.dw_normal.specs.Measuring.{Measures}
+
+-- ---- the members of a section
+
+-- a length was measured up to a cap
+abbrev AreMeasured : Target → List ℕ → ℕ → Option ℕ → Type 0
+AreMeasured t s cap found = (ms : List Member) → AreMembers t s ms → Measures cap (length (canon t ms)) found
+
+pub is_too_long : (t : Target) (s : List ℕ) (cap : ℕ) (last : Option ℕ) → AreBytes s → Accepted t s → last ≡ None
+    → ((ms : List Member) → AreMembers t s ms → Measures cap (length (canon t ms)) last) → IsTooLong t cap s
+is_too_long t s cap last b ok e measured =
+    let found = members_exist t s b ok in
+    let long = subst (AreMeasured t s cap) e measured in
+    (canon t found.0, record { accepted = ok; members = found.0; are = found.1; whole = refl }, long found.0 found.1)
+
+pub is_prepared : (t : Target) (s : List ℕ) (cap len : ℕ) (some : Option ℕ) (rows : List (ℕ × Rules)) → AreBytes s → Accepted t s → ((ms : List Member) → AreMembers t s ms → rows ≡ initial_rows ms)
+    → some ≡ Some len → ((ms : List Member) → AreMembers t s ms → Measures cap (length (canon t ms)) some) → IsPrepared t cap s rows len
+is_prepared t s cap len some rows b ok are e measured =
+    let found = members_exist t s b ok in
+    let long = subst (AreMeasured t s cap) e measured in
+    record { bytes = b; accepted = ok; rows_are = are; len_is = λ ms h. (long ms h).0; within = (long found.0 found.1).1 }
+
+-- the normal form of a section that is ready
+pub record Whole (t : Target) (cap : ℕ) (s : List ℕ) (len : ℕ) : Type 0 where
+  pub members : List Member
+  pub are : AreMembers t s members
+  pub is : IsNormalForm t s (canon t members)
+  pub long : len ≡ length (canon t members)
+  pub within : length (canon t members) ≤ cap
+
+module _ (t : Target) (cap : ℕ) (s : List ℕ) (rows : List (ℕ × Rules)) (len : ℕ) (h : IsPrepared t cap s rows len) where
+  pub whole_of : Whole t cap s len
+  whole_of =
+      let found = members_exist t s h.bytes h.accepted in
+      let long = h.len_is found.0 found.1 in
+      record {
+        members = found.0;
+        are = found.1;
+        is = record { accepted = h.accepted; members = found.0; are = found.1; whole = refl };
+        long = long;
+        within = subst (λ (n : ℕ). n ≤ cap) long h.within;
+      }
+
+  pub is_small : (ms : List Member) → AreMembers t s ms → cap ≤ 2147483647 → length (canon t ms) ≤ 2147483647
+  is_small ms are small = let long = h.len_is ms are in let within = h.within in omega (arith, long, within)
+
+  pub is_within : IsWithin t cap s
+  is_within = let w = whole_of in (canon t w.members, w.is, w.within)
+
+-- ---- what a refusal says where the normal form is known
+
+module _ (t : Target) (s n : List ℕ) (cap : ℕ) (r : Refusal) (b : AreBytes s) (is : IsNormalForm t s n) where
+  pub not_within : length n ≤ cap → NormalFault t cap s r → ⊥
+  not_within within (inl fault) = fault_or_accepted t s b r fault is.accepted
+  not_within within (inr long) =
+      let same = ap length (normal_form_is_one t s long.0.0 n b long.0.1 is) in
+      let over = long.0.2 in
+      omega (arith, same, over, within)
+
+  pub only_too_long : NormalFault t cap s r → r ≡ too_long
+  only_too_long (inl fault) = absurd (fault_or_accepted t s b r fault is.accepted)
+  only_too_long (inr long) = long.1
+
+module _ (t : Target) (s n : List ℕ) (cap : ℕ) (b : AreBytes s) (is : IsNormalForm t s n) where
+  pub only_memory : (e : NormalError) → RefusesNormal (NormalFault t cap s) e → length n ≤ cap → e ≡ normal_error.OutOfMemory
+  only_memory normal_error.OutOfMemory fault within = refl
+  only_memory (normal_error.Refused r) fault within = absurd (not_within t s n cap r b is within fault)
+
+  pub only_long : (e : NormalError) → RefusesNormal (NormalFault t cap s) e → (e ≡ normal_error.Refused too_long) ⊎ (e ≡ normal_error.OutOfMemory)
+  only_long normal_error.OutOfMemory fault = inr refl
+  only_long (normal_error.Refused r) fault = inl (ap normal_error.Refused (only_too_long t s n cap r b is fault))
+
+pub length_found : (t : Target) (cap : ℕ) (s : List ℕ) (rows : List (ℕ × Rules)) (len : ℕ) → IsPrepared t cap s rows len
+    → (n : List ℕ) × IsNormalForm t s n × (length n ≤ cap) × (len ≡ length n)
+length_found t cap s rows len h = let w = whole_of t cap s rows len h in (canon t w.members, w.is, w.within, w.long)
+
+-- ---- what went out
+
+pub none_written : (t : Target) (cap : ℕ) (s : List ℕ) (e : NormalError) (result : WriteError) (failed : ℕ) (old : Option (List ℕ))
+    → RefusesNormal (NormalFault t cap s) e → result ≡ unwritten e → Writes t cap s (Err result) failed failed old old
+none_written t cap s e result failed old fault is = subst (λ (x : WriteError). Writes t cap s (Err x) failed failed old old) (sym is) (by_error e fault)
+  where
+    by_error : (x : NormalError) → RefusesNormal (NormalFault t cap s) x → Writes t cap s (Err (unwritten x)) failed failed old old
+    by_error normal_error.OutOfMemory h = (refl, inl (refl, refl))
+    by_error (normal_error.Refused r) h = (refl, h, refl)
+
+module _ (t : Target) (cap : ℕ) (s : List ℕ) (rows : List (ℕ × Rules)) (len : ℕ) (h : IsPrepared t cap s rows len) (failed failed' : ℕ) (old new : Option (List ℕ)) where
+  went_out : (w : Whole t cap s len) (written : ℕ) → written ≤ length (canon t w.members) → Took old (take written (canon t w.members)) new → WentOut t cap s written old new
+  went_out w written le took = record { normal = canon t w.members; is = w.is; within = w.within; front = le; took = took }
+
+  all_written : (w : Whole t cap s len) (put : Result ℕ PutError) → Puts (canon t w.members) put failed failed' old new → Writes t cap s (put_is put) failed failed' old new
+  all_written w (Ok count) p = (p.0, (canon t w.members, w.is, w.within, p.1, p.2))
+  all_written w (Err (put_error.Write written)) p = (p.0, went_out w written p.1 p.2)
+  all_written w (Err (put_error.Memory written)) p = (p.0, inr (went_out w written p.1 p.2))
+
+  pub entries_written : (table : Section) → table ≡ record { target = t; bytes = s } → (put : Result ℕ PutError) (result : Result ℕ WriteError) → result ≡ put_is put
+      → ((ms : List Member) → AreMembers table.target table.bytes ms → Puts (canon table.target ms) put failed failed' old new) → Writes t cap s result failed failed' old new
+  entries_written table e put result is puts =
+      let w = whole_of t cap s rows len h in
+      let here = subst (λ (x : Section). (ms : List Member) → AreMembers x.target x.bytes ms → Puts (canon x.target ms) put failed failed' old new) e puts in
+      subst (λ (x : Result ℕ WriteError). Writes t cap s x failed failed' old new) (sym is) (all_written w put (here w.members w.are))
+
+-- ---- what a tape took
+
+pub on_tape : (bytes items : List ℕ) (new : Option (List ℕ)) → Took (Some []) bytes new → new ≡ Some items → items ≡ bytes
+on_tape bytes items new took is = some_is items bytes (sym is ∙ took)
+  where
+    some_is : (xs ys : List ℕ) → Some xs ≡ Some ys → xs ≡ ys
+    some_is xs ys e = ap (λ (o : Option (List ℕ)). elim o [ Some l ↦ l | None ↦ [] ]) e
+
+-- what a call that wrote on an empty tape answered
+module _ (t : Target) (cap : ℕ) (s : List ℕ) (b : AreBytes s) (failed failed' : ℕ) (old new : Option (List ℕ)) (empty : old ≡ Some []) where
+  pub tape_only : (count : ℕ) (items : List ℕ) → Writes t cap s (Ok count) failed failed' old new → new ≡ Some items → (n : List ℕ) → IsNormalForm t s n → items ≡ n
+  tape_only count items w is n normal =
+      let out = w.1 in
+      on_tape out.0 items new (subst (λ (x : Option (List ℕ)). Took x out.0 new) empty out.4) is ∙ normal_form_is_one t s out.0 n b out.1 normal
+
+pub tape_fault : (t : Target) (cap : ℕ) (s : List ℕ) (failed failed' : ℕ) (old new : Option (List ℕ)) (e : WriteError) (result : NormalError)
+    → Writes t cap s (Err e) failed failed' old new → result ≡ unread e → RefusesNormal (NormalFault t cap s) result
+tape_fault t cap s failed failed' old new e result w is = subst (RefusesNormal (NormalFault t cap s)) (sym is) (by_error e w)
+  where
+    by_error : (x : WriteError) → Writes t cap s (Err x) failed failed' old new → RefusesNormal (NormalFault t cap s) (unread x)
+    by_error (write_error.Refused r) h = h.1
+    by_error (write_error.Write written) h = tt
+    by_error (write_error.Memory written) h = tt
+
+-- ---- two sections
+
+module _ (t : Target) (a b : List ℕ) (rows rows' : List (ℕ × Rules)) (len len' : ℕ) (one : IsPrepared t 2147483647 a rows len) (other : IsPrepared t 2147483647 b rows' len') where
+  pub decides_meaning : (is : Bool) → ((ms ns : List Member) → AreMembers t a ms → AreMembers t b ns → Decides is (ms ≡ ns)) → Decides is (SameMeaning t a b)
+  decides_meaning is h =
+      let w = whole_of t 2147483647 a rows len one in
+      let v = whole_of t 2147483647 b rows' len' other in
+      let exactly = same_exactly t a b w.members v.members one.bytes other.bytes one.accepted other.accepted w.are v.are w.within v.within in
+      let told = h w.members v.members w.are v.are in
+      (λ yes. exactly.0 (told.0 yes), λ same. told.1 (exactly.1 same))
+
+-- an error over the first of two sections, or over the second
+pub first_fault : (t : Target) (a b : List ℕ) (e : NormalError) (result : SameError) → RefusesNormal (CheckFault t a) e → result ≡ blamed First e → SameFault t 2147483647 a b result
+first_fault t a b e result fault is = subst (SameFault t 2147483647 a b) (sym is) (by_error e fault)
+  where
+    by_error : (x : NormalError) → RefusesNormal (CheckFault t a) x → SameFault t 2147483647 a b (blamed First x)
+    by_error normal_error.OutOfMemory h = tt
+    by_error (normal_error.Refused r) h = inl h
+
+pub second_fault : (t : Target) (a b : List ℕ) (e : NormalError) (result : SameError) → Accepted t a → RefusesNormal (CheckFault t b) e → result ≡ blamed Second e → SameFault t 2147483647 a b result
+second_fault t a b e result ok fault is = subst (SameFault t 2147483647 a b) (sym is) (by_error e fault)
+  where
+    by_error : (x : NormalError) → RefusesNormal (CheckFault t b) x → SameFault t 2147483647 a b (blamed Second x)
+    by_error normal_error.OutOfMemory h = tt
+    by_error (normal_error.Refused r) h = inl (ok, h)
+
+-- an accepted section is blamed for want of memory alone
+pub blamed_only : (t : Target) (s : List ℕ) (which : Which) (e : NormalError) (result : SameError) → AreBytes s → RefusesNormal (CheckFault t s) e → result ≡ blamed which e
+    → IsWithin t 2147483647 s → result ≡ same_error.OutOfMemory
+blamed_only t s which e result b fault is within = is ∙ by_error e fault
+  where
+    by_error : (x : NormalError) → RefusesNormal (CheckFault t s) x → blamed which x ≡ same_error.OutOfMemory
+    by_error normal_error.OutOfMemory h = refl
+    by_error (normal_error.Refused r) h = absurd (fault_or_accepted t s b r h within.1.accepted)
+
+not_long : (t : Target) (s : List ℕ) → AreBytes s → IsWithin t 2147483647 s → IsTooLong t 2147483647 s → ⊥
+not_long t s b within long = not_within t s within.0 2147483647 too_long b within.1 within.2 (inr (long, refl))
+
+pub compared_only : (t : Target) (a b : List ℕ) (one two : Section) → one ≡ record { target = t; bytes = a } → two ≡ record { target = t; bytes = b } → AreBytes a → AreBytes b
+    → (result : Result Bool SameError) → IfErr result (LengthFault one.target 2147483647 one.bytes two.bytes) → IsWithin t 2147483647 a → IsWithin t 2147483647 b
+    → IfErr result (λ e. e ≡ same_error.OutOfMemory)
+compared_only t a b one two e f ba bb result fault left right =
+    by_result result (subst (λ (x : Section). IfErr result (LengthFault t 2147483647 a x.bytes)) f (subst (λ (x : Section). IfErr result (LengthFault x.target 2147483647 x.bytes two.bytes)) e fault))
+  where
+    by_error : (x : SameError) → LengthFault t 2147483647 a b x → x ≡ same_error.OutOfMemory
+    by_error same_error.OutOfMemory h = refl
+    by_error (same_error.Refused First r) h = absurd (not_long t a ba left h.0)
+    by_error (same_error.Refused Second r) h = absurd (not_long t b bb right h.1)
+
+    by_result : (r : Result Bool SameError) → IfErr r (LengthFault t 2147483647 a b) → IfErr r (λ x. x ≡ same_error.OutOfMemory)
+    by_result (Ok is) h = tt
+    by_result (Err x) h = by_error x h
+
+pub second_too_long : (first second : Section) (rows : List (ℕ × Rules)) (len : ℕ) (e : NormalError) (result : SameError) → first.target ≡ second.target
+    → IsPrepared first.target 2147483647 first.bytes rows len → RefusesNormal (λ r. IsTooLong second.target 2147483647 second.bytes × (r ≡ too_long)) e → result ≡ blamed Second e
+    → LengthFault first.target 2147483647 first.bytes second.bytes result
+second_too_long first second rows len e result same one fault is = subst (LengthFault first.target 2147483647 first.bytes second.bytes) (sym is) (by_error e fault)
+  where
+    by_error : (x : NormalError) → RefusesNormal (λ r. IsTooLong second.target 2147483647 second.bytes × (r ≡ too_long)) x → LengthFault first.target 2147483647 first.bytes second.bytes (blamed Second x)
+    by_error normal_error.OutOfMemory h = tt
+    by_error (normal_error.Refused r) h = (is_within first.target 2147483647 first.bytes rows len one, subst (λ (u : Target). IsTooLong u 2147483647 second.bytes) (sym same) h.0, h.1)
+
+pub tables_decided : (first second one two : Section) (rows rows' : List (ℕ × Rules)) (len len' : ℕ) → first.target ≡ second.target → one ≡ first → two ≡ second
+    → IsPrepared first.target 2147483647 first.bytes rows len → IsPrepared second.target 2147483647 second.bytes rows' len' → (is : Bool)
+    → ((ms ns : List Member) → AreMembers one.target one.bytes ms → AreMembers two.target two.bytes ns → Decides is (ms ≡ ns))
+    → Decides is (SameMeaning first.target first.bytes second.bytes)
+tables_decided first second one two rows rows' len len' same e f h k is told =
+    decides_meaning first.target first.bytes second.bytes rows rows' len len' h (subst (λ (u : Target). IsPrepared u 2147483647 second.bytes rows' len') (sym same) k) is
+    (λ ms ns are here. told ms ns (subst (λ (x : Section). AreMembers x.target x.bytes ms) (sym e) are)
+    (subst (λ (x : Section). AreMembers x.target x.bytes ns) (sym f) (subst (λ (u : Target). AreMembers u second.bytes ns) same here)))

@@ -1,0 +1,14 @@
+use Rattle.std.proofs.Common.{◌≡◌, ℕ, ◌+◌, ◌<◌, length}
+use Rattle.std.specs.Prelude.{◌^◌}
+use Rattle.std.specs.List.{AllByRecursion}
+use Rattle.dw_cfa.specs.Rows.{Rules}
+use Rattle.dw_canon.specs.Canon.{cie_instrs}
+use Rattle.dw_canon.specs.Fits.{InstrFits}
+use Rattle.dw_normal.specs.Measuring.{cies_bytes}
+use Rattle.dw_normal.proofs.length.behind_cies.Given as goal
+
+abbrev pub invariant-rows : goal.invariant-rows
+invariant-rows l =
+    (l.left + length (cies_bytes l.target l.fn.rows.entries) ≡ l.room + length (cies_bytes l.target l.register-iterator))
+    × AllByRecursion (λ (entry : ℕ × Rules). AllByRecursion (InstrFits l.target) (cie_instrs entry.1)) l.register-iterator
+    × (l.left < 2 ^ 64)

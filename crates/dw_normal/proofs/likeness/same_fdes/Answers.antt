@@ -1,0 +1,31 @@
+use Rattle.std.proofs.Common.{◌≡◌, refl, ◌<◌, ◌∙◌, ℕ, sym, ap, subst, map, get_or}
+use Rattle.std.specs.Bool.{Decides}
+use Rattle.std.proofs.Math.ListN.{get_or-map}
+use Rattle.std.proofs.lemmas.List.{length-map}
+use Rattle.dw_canon.specs.Members.{fde_of, changes_of}
+use Rattle.dw_normal.proofs.Alike.{untrue, not_so, if_ok, same_member}
+use Rattle.dw_normal.proofs.Coming.{come_all}
+use Rattle.dw_normal.proofs.likeness.same_fdes.Goals as goal
+
+pub returns-then-not-same_heads : goal.returns-then-not-same_heads
+returns-then-not-same_heads c = λ ms ns are others d.
+    let m = get_or ms c.args.fde.place d in
+    let n = get_or ns c.args.fde.place d in
+    let mine : c.fde.result ≡ fde_of m = c.fde.ensures (map fde_of ms) are.fdes (fde_of d) ∙ get_or-map fde_of ms c.args.fde.place d in
+    let other : c.fde-2.result ≡ fde_of n = c.fde-2.ensures (map fde_of ns) others.fdes (fde_of d) ∙ get_or-map fde_of ns c.args.fde.place d in
+    not_so (m ≡ n) (λ same. untrue (c.if-not-same_heads.ensures.1 (mine ∙ ap fde_of same ∙ sym other)))
+
+pub returns : goal.returns
+returns c = λ ms ns are others d.
+    let k = c.args.fde.place in
+    let m = get_or ms k d in
+    let n = get_or ns k d in
+    let mine : c.fde.result ≡ fde_of m = c.fde.ensures (map fde_of ms) are.fdes (fde_of d) ∙ get_or-map fde_of ms k d in
+    let other : c.fde-2.result ≡ fde_of n = c.fde-2.ensures (map fde_of ns) others.fdes (fde_of d) ∙ get_or-map fde_of ns k d in
+    let fde : fde_of m ≡ fde_of n = sym mine ∙ c.if-not-same_heads.ensures.0 refl ∙ other in
+    let lt = subst (λ (l : ℕ). k < l) (length-map ms fde_of) (c.requires.first (map fde_of ms) are.fdes) in
+    let lt' = subst (λ (l : ℕ). k < l) (length-map ns fde_of) (c.requires.second (map fde_of ns) others.fdes) in
+    let come = come_all c.args.first.now.target c.args.first.now.bytes c.accepted.ensures.bytes c.accepted.ensures.accepted ms are k d lt c.changes.result c.changes.ensures.changes c.changes.ensures.listed in
+    let come' = come_all c.args.second.now.target c.args.second.now.bytes c.accepted-2.ensures.bytes c.accepted-2.ensures.accepted ns others k d lt' c.changes-2.result c.changes-2.ensures.changes c.changes-2.ensures.listed in
+    if_ok (λ b. Decides b (changes_of m ≡ changes_of n)) (λ b. Decides b (m ≡ n)) c.same_changes.result (λ b h. (λ e. same_member m n fde (h.0 e), λ same. h.1 (ap changes_of same)))
+    (c.same_changes.ensures (changes_of m) (changes_of n) come come')

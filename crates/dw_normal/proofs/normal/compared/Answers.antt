@@ -1,0 +1,12 @@
+use Rattle.dw_normal.proofs.Reporting.{second_too_long, tables_decided}
+use Rattle.dw_normal.proofs.normal.compared.Goals as goal
+
+pub returns-in-Err-measure-clause-refused : goal.returns-in-Err-measure-clause-refused
+returns-in-Err-measure-clause-refused c =
+    second_too_long c.args.first c.args.second c.in-Ok.one.rows.entries c.in-Ok.one.len c.in-Err-measure.error c.blamed-in-Err-measure.result c.requires.target
+    (c.in-Ok.ensures).found.1 c.in-Err-measure.ensures.first c.blamed-in-Err-measure.ensures
+
+pub returns-in-Ok-same_tables-clause-found : goal.returns-in-Ok-same_tables-clause-found
+returns-in-Ok-same_tables-clause-found c =
+    tables_decided c.args.first c.args.second c.in-Ok.one.table c.in-Ok-measure.two.table c.in-Ok.one.rows.entries c.in-Ok-measure.two.rows.entries c.in-Ok.one.len c.in-Ok-measure.two.len
+    c.requires.target (c.in-Ok.ensures).found.0 (c.in-Ok-measure.ensures).found.0 (c.in-Ok.ensures).found.1 (c.in-Ok-measure.ensures).found.1 c.in-Ok-same_tables.same c.in-Ok-same_tables.ensures

@@ -1,0 +1,22 @@
+use Rattle.dw_normal.specs.declared.error.Which.TheVariants.{First, Second}
+use Rattle.dw_normal.proofs.Reporting.{first_fault, second_fault, blamed_only, compared_only}
+use Rattle.dw_normal.proofs.normal.same.Goals as goal
+
+pub returns-in-Err-clause-only : goal.returns-in-Err-clause-only
+returns-in-Err-clause-only c = λ within _. blamed_only c.args.target c.args.first.now First c.in-Err.error c.blamed.result c.are_bytes.ensures c.in-Err.ensures.first c.blamed.ensures within
+
+pub returns-in-Err-clause-refused : goal.returns-in-Err-clause-refused
+returns-in-Err-clause-refused c = first_fault c.args.target c.args.first.now c.args.second.now c.in-Err.error c.blamed.result c.in-Err.ensures.first c.blamed.ensures
+
+pub returns-in-Err-checked-clause-only : goal.returns-in-Err-checked-clause-only
+returns-in-Err-checked-clause-only c =
+    λ _ within. blamed_only c.args.target c.args.second.now Second c.in-Err-checked.error c.blamed-in-Err-checked.result c.are_bytes-2.ensures c.in-Err-checked.ensures.first c.blamed-in-Err-checked.ensures within
+
+pub returns-in-Err-checked-clause-refused : goal.returns-in-Err-checked-clause-refused
+returns-in-Err-checked-clause-refused c =
+    second_fault c.args.target c.args.first.now c.args.second.now c.in-Err-checked.error c.blamed-in-Err-checked.result (c.in-Ok.ensures).found.1 c.in-Err-checked.ensures.first c.blamed-in-Err-checked.ensures
+
+pub returns-clause-only : goal.returns-clause-only
+returns-clause-only c =
+    compared_only c.args.target c.args.first.now c.args.second.now c.in-Ok.one c.in-Ok-checked.two (c.in-Ok.ensures).found.0 (c.in-Ok-checked.ensures).found.0 c.are_bytes.ensures c.are_bytes-2.ensures
+    c.compared.result c.compared.ensures.refused

@@ -1,0 +1,103 @@
+-- What calls over normal forms answer.
+use Rattle.std.specs.Prelude.{◌≡◌, ◌⊎◌, ℕ, ◌<◌, ◌≤◌, List, ◌++◌, length, Option, Some, None, take, Result, Ok, Err}
+use Rattle.dw_cfa.specs.Rows.{Rules}
+use Rattle.dw_num.specs.Input.{AreBytes}
+use Rattle.dw_num.specs.declared.refusal.Code.TheVariants.{NormalTooLong}
+use Rattle.dw_num.specs.declared.refusal.Refusal.{Refusal}
+use Rattle.dw_num.specs.declared.target.Target.{Target}
+use Rattle.dw_section.specs.Accepted.{CheckFault, Accepted}
+use Rattle.dw_normal.specs.declared.error.NormalError.{NormalError}
+use Rattle.dw_normal.specs.declared.error.NormalError.TheVariants as normal_error
+use Rattle.dw_normal.specs.declared.error.SameError.{SameError}
+use Rattle.dw_normal.specs.declared.error.SameError.TheVariants as same_error
+use Rattle.dw_normal.specs.declared.error.Which.{Which}
+use Rattle.dw_normal.specs.declared.error.Which.TheVariants.{First, Second}
+use Rattle.dw_normal.specs.declared.error.WriteError.{WriteError}
+use Rattle.dw_normal.specs.declared.error.WriteError.TheVariants as write_error
+use Rattle.dw_canon.specs.Canon.{canon}
+use Rattle.dw_canon.specs.Members.{Member, AreMembers}
+use Rattle.dw_canon.specs.Normal.{IsNormalForm}
+use Rattle.dw_normal.specs.Grouping.{initial_rows}
+
+abbrev pub too_long : Refusal
+too_long = record { code = NormalTooLong; at = 0 }
+
+-- the normal form has more than cap bytes
+abbrev pub IsTooLong : Target → ℕ → List ℕ → Type 0
+IsTooLong target cap s = (n : List ℕ) × IsNormalForm target s n × (cap < length n)
+
+abbrev pub IsWithin : Target → ℕ → List ℕ → Type 0
+IsWithin target cap s = (n : List ℕ) × IsNormalForm target s n × (length n ≤ cap)
+
+-- the first fault of a section, or that its normal form is too long
+abbrev pub NormalFault : Target → ℕ → List ℕ → Refusal → Type 0
+NormalFault target cap s r = CheckFault target s r ⊎ (IsTooLong target cap s × (r ≡ too_long))
+
+-- an error is such a fault, unless memory ran out
+abbrev pub RefusesNormal : (Refusal → Type 0) → NormalError → Type 0
+RefusesNormal Fault normal_error.OutOfMemory = Unit {0}
+RefusesNormal Fault (normal_error.Refused r) = Fault r
+
+-- an accepted section with its initial rows and the length of its normal form, which is within the cap
+pub record IsPrepared (target : Target) (cap : ℕ) (s : List ℕ) (rows : List (ℕ × Rules)) (len : ℕ) : Type 0 where
+  pub bytes : AreBytes s
+  pub accepted : Accepted target s
+  pub rows_are : (ms : List Member) → AreMembers target s ms → rows ≡ initial_rows ms
+  pub len_is : (ms : List Member) → AreMembers target s ms → len ≡ length (canon target ms)
+  pub within : len ≤ cap
+
+-- ---- two sections
+
+-- an error over one of two sections
+abbrev pub blamed : Which → NormalError → SameError
+blamed which normal_error.OutOfMemory = same_error.OutOfMemory
+blamed which (normal_error.Refused r) = same_error.Refused which r
+
+-- the normal form of one of two accepted sections is too long, the first one's before the second one's
+abbrev pub LengthFault : Target → ℕ → List ℕ → List ℕ → SameError → Type 0
+LengthFault target cap a b same_error.OutOfMemory = Unit {0}
+LengthFault target cap a b (same_error.Refused First r) = IsTooLong target cap a × (r ≡ too_long)
+LengthFault target cap a b (same_error.Refused Second r) = IsWithin target cap a × IsTooLong target cap b × (r ≡ too_long)
+
+-- the first fault of two sections: the first one's, the second one's, then a normal form that is too long
+abbrev pub SameFault : Target → ℕ → List ℕ → List ℕ → SameError → Type 0
+SameFault target cap a b same_error.OutOfMemory = Unit {0}
+SameFault target cap a b (same_error.Refused First r) =
+    CheckFault target a r ⊎ (IsTooLong target cap a × Accepted target b × (r ≡ too_long))
+SameFault target cap a b (same_error.Refused Second r) =
+    (Accepted target a × CheckFault target b r) ⊎ (IsWithin target cap a × IsTooLong target cap b × (r ≡ too_long))
+
+-- ---- sinks
+
+-- the bytes that a sink took, where it tells them: these more
+abbrev pub Took : Option (List ℕ) → List ℕ → Option (List ℕ) → Type 0
+Took None bytes new = new ≡ None
+Took (Some old) bytes new = new ≡ Some (old ++ bytes)
+
+-- what went out before a failure: a beginning of the normal form within the cap, of which so many bytes were taken
+pub record WentOut (target : Target) (cap : ℕ) (s : List ℕ) (written : ℕ) (old new : Option (List ℕ)) : Type 0 where
+  pub normal : List ℕ
+  pub is : IsNormalForm target s normal
+  pub within : length normal ≤ cap
+  pub front : written ≤ length normal
+  pub took : Took old (take written normal) new
+
+-- an error before the first byte
+abbrev pub unwritten : NormalError → WriteError
+unwritten normal_error.OutOfMemory = write_error.Memory 0
+unwritten (normal_error.Refused r) = write_error.Refused r
+
+-- an error over a tape, whose failures are refused requests for memory
+abbrev pub unread : WriteError → NormalError
+unread (write_error.Refused r) = normal_error.Refused r
+unread (write_error.Write written) = normal_error.OutOfMemory
+unread (write_error.Memory written) = normal_error.OutOfMemory
+
+-- what a call that writes answers; the counts of failures and the bytes are those of the sink
+abbrev pub Writes : Target → ℕ → List ℕ → Result ℕ WriteError → ℕ → ℕ → Option (List ℕ) → Option (List ℕ) → Type 0
+Writes target cap s (Ok count) failed failed' old new =
+    (failed' ≡ failed) × ((n : List ℕ) × IsNormalForm target s n × (length n ≤ cap) × (count ≡ length n) × Took old n new)
+Writes target cap s (Err (write_error.Refused r)) failed failed' old new = (failed' ≡ failed) × NormalFault target cap s r × (new ≡ old)
+Writes target cap s (Err (write_error.Write written)) failed failed' old new = (failed < failed') × WentOut target cap s written old new
+Writes target cap s (Err (write_error.Memory written)) failed failed' old new =
+    (failed' ≡ failed) × (((written ≡ 0) × (new ≡ old)) ⊎ WentOut target cap s written old new)

@@ -1,0 +1,32 @@
+-- Where the CIEs stand.
+use Rattle.std.specs.Prelude.{ℕ, suc, ◌+◌, ◌≤◌, ◌==◌, List, [], ◌∷◌, length, Option, Some, None, if◌then◌else◌}
+use Rattle.std.specs.BTreeMap.{is_at}
+use Rattle.std.specs.Map.{lookup}
+use Rattle.std.specs.Ordering.{nat_cmp}
+use Rattle.dw_num.specs.declared.target.Target.{Target}
+use Rattle.dw_cfa.specs.Rows.{Rules}
+use Rattle.dw_canon.specs.Canon.{groups_of, part_of}
+use Rattle.dw_canon.specs.Laid.{fde_of}
+use Rattle.dw_canon.specs.Members.{Member}
+use Rattle.dw_canon.specs.Written.{Written, entry_bytes}
+use Rattle.dw_normal.specs.Measuring.{cie_with}
+
+-- the place that is kept of a return register
+abbrev pub place_in : List (ℕ × ℕ) → ℕ → Option ℕ
+place_in places register = lookup (is_at (nat_cmp register)) places
+
+-- where the CIE of a return register stands, among CIEs of which the first stands at a place
+abbrev pub cie_place : Target → ℕ → List (ℕ × Rules) → ℕ → Option ℕ
+cie_place t at [] register = None
+cie_place t at (row ∷ rows) register = if row.0 == register then Some at else cie_place t (at + length (entry_bytes t (cie_with t row))) rows register
+
+-- the return registers ascend, from low on
+abbrev pub RowsRise : ℕ → List (ℕ × Rules) → Type 0
+RowsRise low [] = Unit {0}
+RowsRise low (row ∷ rows) = (low ≤ row.0) × RowsRise (suc row.0) rows
+
+-- ---- FDEs
+
+-- the FDE of a member among the others
+abbrev pub fde_with : Target → List Member → Member → Written
+fde_with t ms m = fde_of t (groups_of t ms) (part_of t ms m)

@@ -1,0 +1,117 @@
+//! What stands behind the length of an entry, built in a buffer.
+
+ghost use Rattle.std.specs.Prelude.{◌≡◌, ◌+◌, ◌++◌, ◌<◌, ◌≤◌, ◌^◌, ◌-◌, List, length, replicate, OnOk};
+ghost use Rattle.std.specs.List.{AllByRecursion};
+ghost use Rattle.dw_num.specs.Target.{address_limit};
+ghost use Rattle.dw_canon.specs.Canon.{cie_instrs, fde_instrs, initial_of};
+ghost use Rattle.dw_canon.specs.Fits.{InstrFits};
+ghost use Rattle.dw_canon.specs.Members.{Member};
+ghost use Rattle.dw_canon.specs.Spelling.{program_bytes};
+ghost use Rattle.dw_canon.specs.Written.{fde, missing, cie_fields, fde_fields, contents};
+ghost use Rattle.dw_normal.specs.Beginning.{Begins, IsReady};
+ghost use Rattle.dw_normal.specs.Measuring.{cie_with};
+
+use crate::begun::Begun;
+use crate::putting::push_uleb;
+use crate::writing::{push_difference, push_later};
+use dw_cfa::Row;
+use dw_num::{Size, Target, put_fixed};
+use std::alloc::{AllocError, Global};
+
+// Appends the nops that fill an entry up to a multiple of the address size, its four bytes of length counted.
+fn push_nops(out: &mut Vec<u8>, size: Size) -> Result<(), AllocError>
+    ensures { OnOk result (out.new.items ≡ out.old.items ++ replicate (missing size (4 + length out.old.items)) 0) }
+{
+    let width = u128::from(size.byte_count());
+    let mut left = (width - (4 + out.len() as u128) % width) % width;
+    'nops: while left > 0 {
+        out.push(0)?;
+        left -= 1;
+    }
+    Ok(())
+}
+
+// Appends what stands before a CIE's program: version 4, no augmentation, the factors 1 and -1.
+fn push_cie_fields(out: &mut Vec<u8>, register: u16, target: Target) -> Result<(), AllocError>
+    ensures { OnOk result (out.new.items ≡ out.old.items ++ cie_fields target register) }
+{
+    put_fixed(out, target.order, 4, 0xffffffff)?;
+    out.push(4)?;
+    out.push(0)?;
+    out.push(target.size.byte_count())?;
+    out.push(0)?;
+    out.push(1)?;
+    out.push(127)?;
+    push_uleb(out, u64::from(register))
+}
+
+/// Makes a buffer what stands behind the length of a CIE with an initial row.
+pub(crate) fn fill_cie<'a>(
+    alloc: Global,
+    out: &mut Vec<u8>,
+    register: u16,
+    initial: &Row<'a>,
+    target: Target,
+) -> Result<(), AllocError>
+    requires { AllByRecursion (InstrFits target) (cie_instrs initial.now) }
+    ensures { OnOk result (out.new.items ≡ contents target (cie_with target (register, initial.now))) }
+{
+    let blank = Row::blank(alloc);
+    out.clear();
+    push_cie_fields(out, register, target)?;
+    push_difference(out, &blank, &blank, initial, target)?;
+    push_nops(out, target.size)
+}
+
+// Appends what stands before an FDE's program.
+fn push_fde_fields(
+    out: &mut Vec<u8>,
+    cie_at: u64,
+    begin: u64,
+    range: u64,
+    target: Target,
+) -> Result<(), AllocError>
+    requires cie_at { cie_at < 2 ^ 32 }
+    requires begin { begin < address_limit target.size }
+    requires range { range < address_limit target.size }
+    ensures { OnOk result (out.new.items ≡ out.old.items ++ fde_fields target cie_at begin range) }
+{
+    let width = usize::from(target.size.byte_count());
+    put_fixed(out, target.order, 4, cie_at)?;
+    put_fixed(out, target.order, width, begin)?;
+    put_fixed(out, target.order, width, range)
+}
+
+/// Makes a buffer what stands behind the length of an FDE, where its CIE stands at a place.
+pub(crate) fn fill_fde(
+    out: &mut Vec<u8>,
+    cie_at: u64,
+    begun: Begun<'_, '_>,
+    target: Target,
+) -> Result<(), AllocError>
+    requires ready { IsReady target begun }
+    requires cie_at { cie_at < 2 ^ 32 }
+    requires begin { begun.fde.begin < address_limit target.size }
+    requires rises { begun.fde.begin ≤ begun.fde.end }
+    requires range { begun.fde.end < begun.fde.begin + address_limit target.size }
+    ensures { (ms : List Member) (m : Member) → Begins ms m begun.entry → OnOk result (out.new.items ≡ contents target (fde cie_at m.begin (m.end - m.begin) (fde_instrs (initial_of ms m.register) m) (program_bytes target (fde_instrs (initial_of ms m.register) m)))) }
+{
+    let Begun {
+        fde: listed,
+        shared,
+        first,
+        mut changes,
+    } = begun;
+    let begin = u128::from(listed.begin);
+    out.clear();
+    push_fde_fields(
+        out,
+        cie_at,
+        listed.begin,
+        (listed.end - begin) as u64,
+        target,
+    )?;
+    push_difference(out, shared, shared, &first, target)?;
+    push_later(out, &mut changes, shared, begin, first, target)?;
+    push_nops(out, target.size)
+}

@@ -1,0 +1,212 @@
+//! The entries of a normal form, put into a sink one after another. One entry is held at a time.
+
+ghost use Rattle.std.specs.Prelude.{◌≡◌, ℕ, ◌+◌, ◌-◌, ◌<◌, ◌≤◌, ◌^◌, [], List, length, slice_index_or, OnOk};
+ghost use Rattle.std.specs.List.{AllByRecursion};
+ghost use Rattle.dw_num.specs.declared.target.Form.TheVariants.{Dwarf32};
+ghost use Rattle.dw_cfa.specs.Rows.{Rules};
+ghost use Rattle.dw_section.specs.Cut.{entry, item_bytes};
+ghost use Rattle.dw_section.specs.declared.lookup.Fde.{Fde as TheFde};
+ghost use Rattle.dw_section.specs.Meaning.{AreFdes};
+ghost use Rattle.dw_canon.specs.Canon.{canon, cie_instrs};
+ghost use Rattle.dw_canon.specs.Fits.{InstrFits};
+ghost use Rattle.dw_canon.specs.Members.{Member, AreMembers};
+ghost use Rattle.dw_canon.specs.Written.{contents, entry_bytes};
+ghost use Rattle.dw_normal.specs.Grouping.{initial_rows};
+ghost use Rattle.dw_normal.specs.Measuring.{cie_with, cies_bytes, fdes_bytes};
+ghost use Rattle.dw_normal.specs.Places.{place_in, cie_place, RowsRise, fde_with};
+ghost use Rattle.dw_normal.specs.Puts.{Puts, taken_by, after};
+
+use crate::begun::begin_fde;
+use crate::contents::{fill_cie, fill_fde};
+use crate::sink::{Sink, put_all};
+use dw_cfa::Row;
+use dw_num::{Order, Target, put_fixed};
+use dw_section::{FdeRef, Table};
+use std::alloc::{AllocError, Global};
+use std::collections::BTreeMap;
+
+/// Why bytes were not put to their end, and how many of them were taken before: the sink failed, or memory ran out.
+#[derive(Clone, Copy, Debug, PartialEq, Eq)]
+pub(crate) enum PutError {
+    Write { written: u64 },
+    Memory { written: u64 },
+}
+
+// The answer of a call that puts bytes, behind so many more.
+fn after(before: u64, put: Result<u64, PutError>) -> Result<u64, PutError>
+    requires { before + taken_by put < 2 ^ 64 }
+    ensures { result ≡ after before put }
+{
+    match put {
+        Ok(count) => Ok(before + count),
+        Err(PutError::Write { written }) => Err(PutError::Write {
+            written: before + written,
+        }),
+        Err(PutError::Memory { written }) => Err(PutError::Memory {
+            written: before + written,
+        }),
+    }
+}
+
+fn put_bytes<S: Sink>(sink: &mut S, bytes: &[u8]) -> Result<u64, PutError>
+    requires { S.failures sink.old < 2 ^ 64 - 1 }
+    ensures { Puts bytes.now result (S.failures sink.old) (S.failures sink.new) (S.taken sink.old) (S.taken sink.new) }
+{
+    match put_all(sink, bytes) {
+        Ok(()) => Ok(bytes.len() as u64),
+        Err(written) => Err(PutError::Write {
+            written: written as u64,
+        }),
+    }
+}
+
+// Puts the entry with the contents that a buffer holds, whose length is appended to it.
+fn put_entry<S: Sink>(sink: &mut S, buffer: &mut Vec<u8>, order: Order) -> Result<u64, PutError>
+    requires room { S.failures sink.old < 2 ^ 64 - 1 }
+    requires small { length buffer.old.items < 2 ^ 32 }
+    ensures { Puts (item_bytes order (entry Dwarf32 buffer.old.items)) result (S.failures sink.old) (S.failures sink.new) (S.taken sink.old) (S.taken sink.new) }
+{
+    let len = buffer.len();
+    if put_fixed(buffer, order, 4, len as u64).is_err() {
+        return Err(PutError::Memory { written: 0 });
+    }
+    let bytes: &[u8] = buffer.as_slice();
+    let before = put_bytes(sink, &bytes[len..])?;
+    after(before, put_bytes(sink, &bytes[..len]))
+}
+
+// Puts the CIE of a return register with its initial row.
+fn write_cie<'a, S: Sink>(
+    alloc: Global,
+    sink: &mut S,
+    buffer: &mut Vec<u8>,
+    register: u16,
+    initial: &Row<'a>,
+    target: Target,
+) -> Result<u64, PutError>
+    requires room { S.failures sink.old < 2 ^ 64 - 1 }
+    requires fits { AllByRecursion (InstrFits target) (cie_instrs initial.now) }
+    requires small { length (entry_bytes target (cie_with target (register, initial.now))) ≤ 2147483647 }
+    ensures { Puts (entry_bytes target (cie_with target (register, initial.now))) result (S.failures sink.old) (S.failures sink.new) (S.taken sink.old) (S.taken sink.new) }
+{
+    if fill_cie(alloc, buffer, register, initial, target).is_err() {
+        return Err(PutError::Memory { written: 0 });
+    }
+    put_entry(sink, buffer, target.order)
+}
+
+// Puts the CIEs with these initial rows, and keeps where each of them stands.
+fn write_cies<'a, S: Sink>(
+    alloc: Global,
+    sink: &mut S,
+    buffer: &mut Vec<u8>,
+    places: &mut BTreeMap<u16, u64>,
+    rows: &BTreeMap<u16, Row<'a>>,
+    target: Target,
+) -> Result<u64, PutError>
+    requires room { S.failures sink.old < 2 ^ 64 - 1 }
+    requires none { places.old.entries ≡ [] }
+    requires rise { RowsRise 0 rows.now.entries }
+    requires fits { AllByRecursion (λ (row : ℕ × Rules). AllByRecursion (InstrFits target) (cie_instrs row.1)) rows.now.entries }
+    requires small { length (cies_bytes target rows.now.entries) ≤ 2147483647 }
+    ensures puts { Puts (cies_bytes target rows.now.entries) result (S.failures sink.old) (S.failures sink.new) (S.taken sink.old) (S.taken sink.new) }
+    ensures places { OnOk result ((register : ℕ) → place_in places.new.entries register ≡ cie_place target 0 rows.now.entries register) }
+{
+    let mut written = 0;
+    'rows: for (register, initial) in rows.iter() {
+        if places.insert(*register, written).is_err() {
+            return Err(PutError::Memory { written });
+        }
+        written = after(
+            written,
+            write_cie(alloc, sink, buffer, *register, initial, target),
+        )?;
+    }
+    Ok(written)
+}
+
+// Makes a buffer what stands behind the length of an FDE of a table, where these are the initial rows and the places of CIEs.
+fn fill_fde_at<'a>(
+    out: &mut Vec<u8>,
+    table: &Table<'a>,
+    rows: &BTreeMap<u16, Row<'a>>,
+    places: &BTreeMap<u16, u64>,
+    fde: FdeRef,
+) -> Result<(), AllocError>
+    requires place { (fs : List TheFde) → AreFdes table.now.target table.now.bytes fs → fde.place < length fs }
+    requires rows { (ms : List Member) → AreMembers table.now.target table.now.bytes ms → rows.now.entries ≡ initial_rows ms }
+    requires places { (register : ℕ) → place_in places.now.entries register ≡ cie_place table.now.target 0 rows.now.entries register }
+    requires small { (ms : List Member) → AreMembers table.now.target table.now.bytes ms → length (canon table.now.target ms) ≤ 2147483647 }
+    ensures { (ms : List Member) → AreMembers table.now.target table.now.bytes ms → (d : Member) → OnOk result (out.new.items ≡ contents table.now.target (fde_with table.now.target ms (slice_index_or ms fde.place d))) }
+{
+    table.accepted();
+    let begun = begin_fde(rows, table, fde)?;
+    let cie_at = places[&begun.fde.return_register];
+    fill_fde(out, cie_at, begun, table.target())
+}
+
+// Puts an FDE of a table, where these are the initial rows and the places of CIEs.
+fn write_fde<'a, S: Sink>(
+    sink: &mut S,
+    buffer: &mut Vec<u8>,
+    table: &Table<'a>,
+    rows: &BTreeMap<u16, Row<'a>>,
+    places: &BTreeMap<u16, u64>,
+    fde: FdeRef,
+) -> Result<u64, PutError>
+    requires room { S.failures sink.old < 2 ^ 64 - 1 }
+    requires place { (fs : List TheFde) → AreFdes table.now.target table.now.bytes fs → fde.place < length fs }
+    requires rows { (ms : List Member) → AreMembers table.now.target table.now.bytes ms → rows.now.entries ≡ initial_rows ms }
+    requires places { (register : ℕ) → place_in places.now.entries register ≡ cie_place table.now.target 0 rows.now.entries register }
+    requires small { (ms : List Member) → AreMembers table.now.target table.now.bytes ms → length (canon table.now.target ms) ≤ 2147483647 }
+    ensures { (ms : List Member) → AreMembers table.now.target table.now.bytes ms → (d : Member) → Puts (entry_bytes table.now.target (fde_with table.now.target ms (slice_index_or ms fde.place d))) result (S.failures sink.old) (S.failures sink.new) (S.taken sink.old) (S.taken sink.new) }
+{
+    table.accepted();
+    if fill_fde_at(buffer, table, rows, places, fde).is_err() {
+        return Err(PutError::Memory { written: 0 });
+    }
+    put_entry(sink, buffer, table.target().order)
+}
+
+// Puts the FDEs of a table.
+fn write_fdes<'a, S: Sink>(
+    sink: &mut S,
+    buffer: &mut Vec<u8>,
+    table: &Table<'a>,
+    rows: &BTreeMap<u16, Row<'a>>,
+    places: &BTreeMap<u16, u64>,
+) -> Result<u64, PutError>
+    requires room { S.failures sink.old < 2 ^ 64 - 1 }
+    requires rows { (ms : List Member) → AreMembers table.now.target table.now.bytes ms → rows.now.entries ≡ initial_rows ms }
+    requires places { (register : ℕ) → place_in places.now.entries register ≡ cie_place table.now.target 0 rows.now.entries register }
+    requires small { (ms : List Member) → AreMembers table.now.target table.now.bytes ms → length (canon table.now.target ms) ≤ 2147483647 }
+    ensures { (ms : List Member) → AreMembers table.now.target table.now.bytes ms → Puts (fdes_bytes table.now.target ms ms) result (S.failures sink.old) (S.failures sink.new) (S.taken sink.old) (S.taken sink.new) }
+{
+    table.accepted();
+    let mut written = 0;
+    'fdes: for place in 0..table.fde_count() {
+        let put = write_fde(sink, buffer, table, rows, places, FdeRef { place });
+        written = after(written, put)?;
+    }
+    Ok(written)
+}
+
+/// Writes all entries of a table's normal form, and answers how many bytes that were.
+pub(crate) fn write_entries<'a, S: Sink>(
+    alloc: Global,
+    sink: &mut S,
+    table: &Table<'a>,
+    rows: &BTreeMap<u16, Row<'a>>,
+) -> Result<u64, PutError>
+    requires room { S.failures sink.old < 2 ^ 64 - 1 }
+    requires rows { (ms : List Member) → AreMembers table.now.target table.now.bytes ms → rows.now.entries ≡ initial_rows ms }
+    requires small { (ms : List Member) → AreMembers table.now.target table.now.bytes ms → length (canon table.now.target ms) ≤ 2147483647 }
+    ensures { (ms : List Member) → AreMembers table.now.target table.now.bytes ms → Puts (canon table.now.target ms) result (S.failures sink.old) (S.failures sink.new) (S.taken sink.old) (S.taken sink.new) }
+{
+    table.accepted();
+    let mut buffer = Vec::new(alloc);
+    let mut places = BTreeMap::new(alloc);
+    let target = table.target();
+    let cies = write_cies(alloc, sink, &mut buffer, &mut places, rows, target)?;
+    after(cies, write_fdes(sink, &mut buffer, table, rows, &places))
+}

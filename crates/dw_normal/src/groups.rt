@@ -1,0 +1,94 @@
+//! The initial row of each return register, found in one pass over all changes.
+
+ghost use Rattle.std.specs.Prelude.{◌≡◌, ℕ, ◌<◌, List, length, slice_index_or, IfOk, OnOk};
+ghost use Rattle.dw_cfa.specs.Rows.{Rules};
+ghost use Rattle.dw_section.specs.declared.lookup.Fde.{Fde as TheFde};
+ghost use Rattle.dw_section.specs.Meaning.{AreFdes};
+ghost use Rattle.dw_canon.specs.Group.{kept_by};
+ghost use Rattle.dw_canon.specs.Members.{Member, AreMembers};
+ghost use Rattle.dw_normal.specs.Grouping.{begun_with, row_of, with_member, initial_rows};
+ghost use Rattle.dw_normal.specs.Passing.{AreToCome, BehindFirst};
+
+use dw_cfa::Row;
+use dw_section::{Changes, FdeRef, Table};
+use std::alloc::{AllocError, Global};
+use std::collections::BTreeMap;
+
+/// The changes of an FDE behind its begin, whose row is lent.
+pub(crate) fn behind_first<'a>(table: &Table<'a>, fde: FdeRef) -> Result<Changes<'a>, AllocError>
+    requires { (fs : List TheFde) → AreFdes table.now.target table.now.bytes fs → fde.place < length fs }
+    ensures { (ms : List Member) → AreMembers table.now.target table.now.bytes ms → (d : Member) → IfOk result (BehindFirst (slice_index_or ms fde.place d)) }
+{
+    table.accepted();
+    let mut changes = table.changes(fde);
+    let _ = changes.advance()?;
+    Ok(changes)
+}
+
+/// Drops from a row the registers that one of the changes still to come leaves Unspecified.
+pub(crate) fn keep_all<'a>(
+    shared: &mut Row<'a>,
+    changes: &mut Changes<'a>,
+) -> Result<(), AllocError>
+    ensures { (later : List (ℕ × Rules)) → AreToCome changes.old later → OnOk result (shared.new ≡ kept_by shared.old later) }
+{
+    'changes: while let Some(_) = changes.advance()? {
+        let Some(row) = changes.row() else {
+            return Err(AllocError);
+        };
+        shared.keep(row);
+    }
+    Ok(())
+}
+
+// The rules that an FDE's first row shares with others of its group.
+fn begun_with<'a>(
+    rows: &BTreeMap<u16, Row<'a>>,
+    register: u16,
+    first: &Row<'a>,
+) -> Result<Row<'a>, AllocError>
+    ensures { IfOk result (λ row. row ≡ begun_with (row_of rows.now.entries register) first.now) }
+{
+    match rows.get(&register) {
+        Some(shared) => {
+            let mut row = shared.copied()?;
+            row.agree(first);
+            Ok(row)
+        }
+        None => first.copied(),
+    }
+}
+
+// Narrows the row of an FDE's group to what the FDE shares with it.
+fn add_fde<'a>(
+    rows: &mut BTreeMap<u16, Row<'a>>,
+    table: &Table<'a>,
+    fde: FdeRef,
+) -> Result<(), AllocError>
+    requires { (fs : List TheFde) → AreFdes table.now.target table.now.bytes fs → fde.place < length fs }
+    ensures { (ms : List Member) → AreMembers table.now.target table.now.bytes ms → (d : Member) → OnOk result (rows.new.entries ≡ with_member rows.old.entries (slice_index_or ms fde.place d)) }
+{
+    let register = table.fde(fde).return_register;
+    let mut changes = behind_first(table, fde)?;
+    let Some(first) = changes.row() else {
+        return Err(AllocError);
+    };
+    let mut row = begun_with(rows, register, first)?;
+    keep_all(&mut row, &mut changes)?;
+    rows.insert(register, row)?;
+    Ok(())
+}
+
+/// The initial row of each return register: one pass over all changes.
+pub(crate) fn initial_rows<'a>(
+    alloc: Global,
+    table: &Table<'a>,
+) -> Result<BTreeMap<u16, Row<'a>>, AllocError>
+    ensures { (ms : List Member) → AreMembers table.now.target table.now.bytes ms → IfOk result (λ rows. rows.entries ≡ initial_rows ms) }
+{
+    let mut rows = BTreeMap::new(alloc);
+    'fdes: for place in 0..table.fde_count() {
+        add_fde(&mut rows, table, FdeRef { place })?;
+    }
+    Ok(rows)
+}

@@ -1,0 +1,112 @@
+//! How long a normal form is. Each entry takes its length from the room that is left, and the first that does not fit ends the
+//! walk: no sum can wrap, and no program behind it is run.
+
+ghost use Rattle.std.specs.Prelude.{◌≡◌, ℕ, ◌<◌, ◌≤◌, ◌^◌, List, length, slice_index_or, IfOk};
+ghost use Rattle.std.specs.List.{AllByRecursion};
+ghost use Rattle.dw_cfa.specs.Rows.{Rules};
+ghost use Rattle.dw_section.specs.declared.lookup.Fde.{Fde as TheFde};
+ghost use Rattle.dw_section.specs.Meaning.{AreFdes};
+ghost use Rattle.dw_canon.specs.Canon.{canon, cie_instrs};
+ghost use Rattle.dw_canon.specs.Fits.{InstrFits};
+ghost use Rattle.dw_canon.specs.Members.{Member, AreMembers};
+ghost use Rattle.dw_normal.specs.Grouping.{initial_rows};
+ghost use Rattle.dw_normal.specs.Measuring.{Leaves, MemberLeaves, Measures, cies_bytes, fdes_bytes};
+
+use crate::begun::{Begun, begin_fde};
+use crate::room::{behind_cie, behind_fde};
+use dw_cfa::Row;
+use dw_num::Target;
+use dw_section::{FdeRef, Table};
+use std::alloc::{AllocError, Global};
+use std::collections::BTreeMap;
+
+// What is left of room behind the CIEs with these initial rows.
+fn behind_cies<'a>(
+    alloc: Global,
+    room: u128,
+    rows: &BTreeMap<u16, Row<'a>>,
+    target: Target,
+) -> Option<u128>
+    requires room { room < 2 ^ 64 }
+    requires fits { AllByRecursion (λ (entry : ℕ × Rules). AllByRecursion (InstrFits target) (cie_instrs entry.1)) rows.now.entries }
+    ensures { Leaves room (length (cies_bytes target rows.now.entries)) result }
+{
+    let mut left = room;
+    'rows: for (register, initial) in rows.iter() {
+        left = behind_cie(alloc, left, *register, initial, target)?;
+    }
+    Some(left)
+}
+
+// What is left of room behind an FDE.
+fn behind_member<'a>(
+    room: u128,
+    rows: &BTreeMap<u16, Row<'a>>,
+    table: &Table<'a>,
+    fde: FdeRef,
+) -> Result<Option<u128>, AllocError>
+    requires room { room < 2 ^ 64 }
+    requires place { (fs : List TheFde) → AreFdes table.now.target table.now.bytes fs → fde.place < length fs }
+    requires rows { (ms : List Member) → AreMembers table.now.target table.now.bytes ms → rows.now.entries ≡ initial_rows ms }
+    ensures { (ms : List Member) → AreMembers table.now.target table.now.bytes ms → (d : Member) → IfOk result (MemberLeaves table.now.target ms (slice_index_or ms fde.place d) room) }
+{
+    let Begun {
+        fde: listed,
+        shared,
+        first,
+        mut changes,
+    } = begin_fde(rows, table, fde)?;
+    behind_fde(
+        room,
+        &mut changes,
+        shared,
+        u128::from(listed.begin),
+        first,
+        table.target(),
+    )
+}
+
+// What is left of room behind all FDEs.
+fn behind_fdes<'a>(
+    room: u128,
+    rows: &BTreeMap<u16, Row<'a>>,
+    table: &Table<'a>,
+) -> Result<Option<u128>, AllocError>
+    requires room { room < 2 ^ 64 }
+    requires rows { (ms : List Member) → AreMembers table.now.target table.now.bytes ms → rows.now.entries ≡ initial_rows ms }
+    ensures { (ms : List Member) → AreMembers table.now.target table.now.bytes ms → IfOk result (Leaves room (length (fdes_bytes table.now.target ms ms))) }
+{
+    table.accepted();
+    let mut left = room;
+    'fdes: for place in 0..table.fde_count() {
+        let Some(rest) = behind_member(left, rows, table, FdeRef { place })? else {
+            return Ok(None);
+        };
+        left = rest;
+    }
+    Ok(Some(left))
+}
+
+/// How many bytes the normal form of a table has, or none where that is more than `cap`. The rows are the initial ones of its
+/// groups. Want of memory is that of a row in an FDE's program.
+pub(crate) fn measured<'a>(
+    alloc: Global,
+    table: &Table<'a>,
+    rows: &BTreeMap<u16, Row<'a>>,
+    cap: u64,
+) -> Result<Option<u64>, AllocError>
+    requires cap { cap ≤ 2147483647 }
+    requires rows { (ms : List Member) → AreMembers table.now.target table.now.bytes ms → rows.now.entries ≡ initial_rows ms }
+    ensures { (ms : List Member) → AreMembers table.now.target table.now.bytes ms → IfOk result (Measures cap (length (canon table.now.target ms))) }
+{
+    table.accepted();
+    let target = table.target();
+    let room = u128::from(cap);
+    let Some(left) = behind_cies(alloc, room, rows, target) else {
+        return Ok(None);
+    };
+    let Some(rest) = behind_fdes(left, rows, table)? else {
+        return Ok(None);
+    };
+    Ok(Some((room - rest) as u64))
+}

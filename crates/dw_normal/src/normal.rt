@@ -1,0 +1,169 @@
+//! Normal forms, and whether two sections say the same.
+
+ghost use Rattle.std.specs.Prelude.{◌≡◌, ◌⊎◌, ℕ, ◌<◌, ◌≤◌, ◌-◌, ◌^◌, List, length, IfOk, IfErr, MatchResult};
+ghost use Rattle.std.specs.Bool.{Decides};
+ghost use Rattle.dw_section.specs.Accepted.{Accepted};
+ghost use Rattle.dw_normal.specs.declared.error.NormalError.TheVariants as TheNormalError;
+ghost use Rattle.dw_normal.specs.declared.error.SameError.TheVariants as TheSameError;
+ghost use Rattle.dw_canon.specs.Normal.{IsNormalForm};
+ghost use Rattle.dw_normal.specs.Answers.{NormalFault, RefusesNormal, SameFault, LengthFault, Writes, IsWithin, blamed, unread, unwritten, too_long};
+ghost use Rattle.dw_normal.specs.Puts.{put_is};
+ghost use Rattle.dw_section.specs.Meanings.{SameMeaning};
+
+use crate::entry::{PutError, write_entries};
+use crate::error::{NormalError, SameError, Which, WriteError};
+use crate::likeness::same_tables;
+use crate::readying::{checked, measure, prepared};
+use crate::sink::Sink;
+use crate::tape::Tape;
+use dw_num::{Target, are_bytes};
+use dw_section::Table;
+use std::alloc::Global;
+
+// The most bytes that a section has.
+const LIMIT: u64 = 2_147_483_647;
+
+/// The normal form of a section, of at most `cap` bytes.
+pub fn normalise(
+    alloc: Global,
+    bytes: &[u8],
+    target: Target,
+    cap: u64,
+) -> Result<Vec<u8>, NormalError>
+    requires cap { cap ≤ 2147483647 }
+    // It is the normal form of what the section says.
+    ensures found { IfOk result (λ n. IsNormalForm target bytes.now n.items × (length n.items ≤ cap)) }
+    // A normal form within the cap is answered.
+    ensures only { (n : List ℕ) → IsNormalForm target bytes.now n → length n ≤ cap → MatchResult result (λ v. v.items ≡ n) (λ e. e ≡ TheNormalError.OutOfMemory) }
+    // One that is longer is refused.
+    ensures longer { (n : List ℕ) → IsNormalForm target bytes.now n → cap < length n → IfErr result (λ e. (e ≡ TheNormalError.Refused too_long) ⊎ (e ≡ TheNormalError.OutOfMemory)) }
+    // A refusal is the first fault, or that the normal form is longer.
+    ensures first { IfErr result (RefusesNormal (NormalFault target cap bytes.now)) }
+{
+    are_bytes(bytes);
+    let mut tape = Tape::new(alloc);
+    match normalise_to(alloc, bytes, target, cap, &mut tape) {
+        Ok(_) => Ok(tape.into_bytes()),
+        Err(error) => Err(unread(error)),
+    }
+}
+
+/// How many bytes the normal form of a section has, of at most `cap`.
+pub fn normal_length(
+    alloc: Global,
+    bytes: &[u8],
+    target: Target,
+    cap: u64,
+) -> Result<u64, NormalError>
+    requires cap { cap ≤ 2147483647 }
+    ensures found { IfOk result (λ count. (n : List ℕ) × IsNormalForm target bytes.now n × (length n ≤ cap) × (count ≡ length n)) }
+    ensures only { (n : List ℕ) → IsNormalForm target bytes.now n → length n ≤ cap → MatchResult result (λ count. count ≡ length n) (λ e. e ≡ TheNormalError.OutOfMemory) }
+    ensures first { IfErr result (RefusesNormal (NormalFault target cap bytes.now)) }
+{
+    are_bytes(bytes);
+    match prepared(alloc, bytes, target, cap) {
+        Ok(ready) => Ok(ready.len),
+        Err(error) => Err(error),
+    }
+}
+
+// What could not be written before the first byte.
+fn unwritten(error: NormalError) -> WriteError
+    ensures { result ≡ unwritten error }
+{
+    match error {
+        NormalError::Refused(refusal) => WriteError::Refused(refusal),
+        NormalError::OutOfMemory => WriteError::Memory { written: 0 },
+    }
+}
+
+// What could not be written on a tape, whose failures are refused requests for memory.
+fn unread(error: WriteError) -> NormalError
+    ensures { result ≡ unread error }
+{
+    match error {
+        WriteError::Refused(refusal) => NormalError::Refused(refusal),
+        WriteError::Write { .. } | WriteError::Memory { .. } => NormalError::OutOfMemory,
+    }
+}
+
+// The answer of a call that writes.
+fn put_is(put: Result<u64, PutError>) -> Result<u64, WriteError>
+    ensures { result ≡ put_is put }
+{
+    match put {
+        Ok(count) => Ok(count),
+        Err(PutError::Write { written }) => Err(WriteError::Write { written }),
+        Err(PutError::Memory { written }) => Err(WriteError::Memory { written }),
+    }
+}
+
+/// Writes the normal form of a section, of at most `cap` bytes, to a sink, and answers how many bytes were written. Each refusal
+/// comes before the first byte.
+pub fn normalise_to<S: Sink>(
+    alloc: Global,
+    bytes: &[u8],
+    target: Target,
+    cap: u64,
+    sink: &mut S,
+) -> Result<u64, WriteError>
+    requires cap { cap ≤ 2147483647 }
+    requires room { S.failures sink.old < 2 ^ 64 - 1 }
+    ensures writes { Writes target cap bytes.now result (S.failures sink.old) (S.failures sink.new) (S.taken sink.old) (S.taken sink.new) }
+{
+    are_bytes(bytes);
+    match prepared(alloc, bytes, target, cap) {
+        Ok(ready) => put_is(write_entries(alloc, sink, &ready.table, &ready.rows)),
+        Err(error) => Err(unwritten(error)),
+    }
+}
+
+// An error, and over which section.
+fn blamed(which: Which, error: NormalError) -> SameError
+    ensures { result ≡ blamed which error }
+{
+    match error {
+        NormalError::Refused(refusal) => SameError::Refused(which, refusal),
+        NormalError::OutOfMemory => SameError::OutOfMemory,
+    }
+}
+
+// Whether two checked sections say the same.
+fn compared(alloc: Global, first: Table<'_>, second: Table<'_>) -> Result<bool, SameError>
+    requires target { first.target ≡ second.target }
+    ensures found { IfOk result (λ b. Decides b (SameMeaning first.entry.target first.entry.bytes second.entry.bytes)) }
+    ensures refused { IfErr result (LengthFault first.entry.target 2147483647 first.entry.bytes second.entry.bytes) }
+{
+    let one = match measure(alloc, first, LIMIT) {
+        Ok(one) => one,
+        Err(error) => return Err(blamed(Which::First, error)),
+    };
+    let two = match measure(alloc, second, LIMIT) {
+        Ok(two) => two,
+        Err(error) => return Err(blamed(Which::Second, error)),
+    };
+    match same_tables(&one.table, &two.table) {
+        Ok(same) => Ok(same),
+        Err(_) => Err(SameError::OutOfMemory),
+    }
+}
+
+/// Whether two sections say the same: the same nonempty FDEs with the same return registers, and the same rules at each address that
+/// they cover.
+pub fn same(alloc: Global, first: &[u8], second: &[u8], target: Target) -> Result<bool, SameError>
+    ensures found { IfOk result (λ b. Accepted target first.now × Accepted target second.now × Decides b (SameMeaning target first.now second.now)) }
+    ensures only { IsWithin target 2147483647 first.now → IsWithin target 2147483647 second.now → IfErr result (λ e. e ≡ TheSameError.OutOfMemory) }
+    ensures refused { IfErr result (SameFault target 2147483647 first.now second.now) }
+{
+    are_bytes(first);
+    are_bytes(second);
+    let one = match checked(alloc, first, target) {
+        Ok(one) => one,
+        Err(error) => return Err(blamed(Which::First, error)),
+    };
+    let two = match checked(alloc, second, target) {
+        Ok(two) => two,
+        Err(error) => return Err(blamed(Which::Second, error)),
+    };
+    compared(alloc, one, two)
+}

@@ -1,0 +1,196 @@
+//! Instructions as the normal form spells them.
+
+ghost use Rattle.std.specs.Prelude.{◌≡◌, ◌++◌, ◌∷◌, [], ◌<◌, ◌^◌, OnOk};
+ghost use Rattle.std.specs.Int.{is_positive, is_negative};
+ghost use Rattle.dw_num.specs.Shortest.{shortest_uleb, shortest_sleb};
+ghost use Rattle.dw_num.specs.Fixed.{fixed_bytes};
+ghost use Rattle.dw_cfa.specs.InstrSpells.{IsOffset};
+ghost use Rattle.dw_section.specs.Sound.{HasBlock, RuleFits};
+ghost use Rattle.dw_canon.specs.Fits.{InstrFits};
+ghost use Rattle.dw_canon.specs.Spelling.{expression_bytes, advance_bytes, packed, rule_bytes, instr_bytes};
+
+use dw_cfa::{Instr, RegRule};
+use dw_num::{Order, Target, put_fixed, put_sleb, put_uleb};
+use dw_op::ExprRef;
+use std::alloc::AllocError;
+
+#[tactic(auto, using(dw_num::proofs::Shortest::puts_uleb))]
+pub(crate) fn push_uleb(out: &mut Vec<u8>, value: u64) -> Result<(), AllocError>
+    ensures { OnOk result (out.new.items ≡ out.old.items ++ shortest_uleb value) }
+{
+    put_uleb(out, value)
+}
+
+#[tactic(auto, using(dw_num::proofs::Shortest::puts_sleb))]
+fn push_sleb(out: &mut Vec<u8>, value: i64) -> Result<(), AllocError>
+    ensures { OnOk result (out.new.items ≡ out.old.items ++ shortest_sleb value) }
+{
+    put_sleb(out, value)
+}
+
+// Appends a code with the register in it where that is below 64, else another with the register behind it.
+fn push_packed(out: &mut Vec<u8>, low: u8, code: u8, register: u16) -> Result<(), AllocError>
+    requires { low < 193 }
+    ensures { OnOk result (out.new.items ≡ out.old.items ++ packed low code register) }
+{
+    if register < 64 {
+        out.push(low + register as u8)?;
+        return Ok(());
+    }
+    out.push(code)?;
+    push_uleb(out, u64::from(register))
+}
+
+// Appends the shortest advance.
+fn push_advance(out: &mut Vec<u8>, order: Order, delta: u32) -> Result<(), AllocError>
+    ensures { OnOk result (out.new.items ≡ out.old.items ++ advance_bytes order delta) }
+{
+    if delta < 64 {
+        out.push(0x40 + delta as u8)?;
+        return Ok(());
+    }
+    if delta < 256 {
+        out.push(0x02)?;
+        return put_fixed(out, order, 1, u64::from(delta));
+    }
+    if delta < 65536 {
+        out.push(0x03)?;
+        return put_fixed(out, order, 2, u64::from(delta));
+    }
+    out.push(0x04)?;
+    put_fixed(out, order, 4, u64::from(delta))
+}
+
+// Appends an expression behind its length.
+fn push_expression(
+    out: &mut Vec<u8>,
+    expression: &ExprRef<'_>,
+    target: Target,
+) -> Result<(), AllocError>
+    requires { HasBlock target expression.now }
+    ensures { OnOk result (out.new.items ≡ out.old.items ++ expression_bytes target expression.now) }
+{
+    push_uleb(out, expression.least_len() as u64)?;
+    expression.put_least(out)
+}
+
+// Appends what gives a register a rule.
+fn push_rule(
+    out: &mut Vec<u8>,
+    register: u16,
+    rule: &RegRule<'_>,
+    target: Target,
+) -> Result<(), AllocError>
+    requires { RuleFits target rule.now }
+    ensures { OnOk result (out.new.items ≡ out.old.items ++ rule_bytes target register rule.now) }
+{
+    match rule {
+        RegRule::Unspecified => Ok(()),
+        RegRule::Undefined => {
+            out.push(0x07)?;
+            push_uleb(out, u64::from(register))
+        }
+        RegRule::SameValue => {
+            out.push(0x08)?;
+            push_uleb(out, u64::from(register))
+        }
+        RegRule::Offset(offset) => {
+            if *offset > 0 {
+                out.push(0x11)?;
+                push_uleb(out, u64::from(register))?;
+                return push_sleb(out, -*offset);
+            }
+            push_packed(out, 0x80, 0x05, register)?;
+            push_uleb(out, offset.unsigned_abs())
+        }
+        RegRule::ValOffset(offset) => {
+            if *offset > 0 {
+                out.push(0x15)?;
+                push_uleb(out, u64::from(register))?;
+                return push_sleb(out, -*offset);
+            }
+            out.push(0x14)?;
+            push_uleb(out, u64::from(register))?;
+            push_uleb(out, offset.unsigned_abs())
+        }
+        RegRule::Register(other) => {
+            out.push(0x09)?;
+            push_uleb(out, u64::from(register))?;
+            push_uleb(out, u64::from(*other))
+        }
+        RegRule::Expression(expression) => {
+            out.push(0x10)?;
+            push_uleb(out, u64::from(register))?;
+            push_expression(out, expression, target)
+        }
+        RegRule::ValExpression(expression) => {
+            out.push(0x16)?;
+            push_uleb(out, u64::from(register))?;
+            push_expression(out, expression, target)
+        }
+    }
+}
+
+/// Appends an instruction, and may leave some of it where memory runs out.
+#[tactic(auto, unfolding(dw_canon::specs::Spelling::instr_bytes))]
+pub(crate) fn push_instr(
+    out: &mut Vec<u8>,
+    instr: &Instr<'_>,
+    target: Target,
+) -> Result<(), AllocError>
+    requires { InstrFits target instr.now }
+    ensures { OnOk result (out.new.items ≡ out.old.items ++ instr_bytes target instr.now) }
+{
+    match instr {
+        Instr::Nop => {
+            out.push(0x00)?;
+            Ok(())
+        }
+        Instr::SetLoc(address) => {
+            out.push(0x01)?;
+            put_fixed(
+                out,
+                target.order,
+                usize::from(target.size.byte_count()),
+                *address,
+            )
+        }
+        Instr::Advance(delta) => push_advance(out, target.order, *delta as u32),
+        Instr::DefCfa { register, offset } => {
+            if *offset < 0 {
+                out.push(0x12)?;
+                push_uleb(out, u64::from(*register))?;
+                return push_sleb(out, -*offset);
+            }
+            out.push(0x0c)?;
+            push_uleb(out, u64::from(*register))?;
+            push_uleb(out, offset.unsigned_abs())
+        }
+        Instr::DefCfaRegister(register) => {
+            out.push(0x0d)?;
+            push_uleb(out, u64::from(*register))
+        }
+        Instr::DefCfaOffset(offset) => {
+            if *offset < 0 {
+                out.push(0x13)?;
+                return push_sleb(out, -*offset);
+            }
+            out.push(0x0e)?;
+            push_uleb(out, offset.unsigned_abs())
+        }
+        Instr::DefCfaExpression(expression) => {
+            out.push(0x0f)?;
+            push_expression(out, expression, target)
+        }
+        Instr::Set(register, rule) => push_rule(out, *register, rule, target),
+        Instr::Restore(register) => push_packed(out, 0xc0, 0x06, *register),
+        Instr::RememberState => {
+            out.push(0x0a)?;
+            Ok(())
+        }
+        Instr::RestoreState => {
+            out.push(0x0b)?;
+            Ok(())
+        }
+    }
+}

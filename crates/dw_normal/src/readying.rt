@@ -1,0 +1,77 @@
+//! A section on the way to its normal form: checked, with its initial rows, and measured.
+
+ghost use Rattle.std.specs.Prelude.{◌≡◌, ◌≤◌, IfOk, IfErr};
+ghost use Rattle.dw_section.specs.Accepted.{Accepted, CheckFault};
+ghost use Rattle.dw_normal.specs.Answers.{IsPrepared, IsTooLong, NormalFault, RefusesNormal, too_long};
+
+use crate::error::NormalError;
+use crate::groups::initial_rows;
+use crate::length::measured;
+use dw_cfa::Row;
+use dw_num::{Code, Refusal, Target};
+use dw_section::{SectionError, Table, check};
+use std::alloc::Global;
+use std::collections::BTreeMap;
+
+/// A checked section with the initial row of each return register and the length of its normal form.
+#[derive(Drop)]
+pub(crate) struct Ready<'a> {
+    pub(crate) table: Table<'a>,
+    pub(crate) rows: BTreeMap<u16, Row<'a>>,
+    pub(crate) len: u64,
+}
+
+/// The table of a section.
+pub(crate) fn checked<'a>(
+    alloc: Global,
+    bytes: &'a [u8],
+    target: Target,
+) -> Result<Table<'a>, NormalError>
+    ensures found { IfOk result (λ table. (table ≡ record { target = target; bytes = bytes.now }) × Accepted target bytes.now) }
+    ensures first { IfErr result (RefusesNormal (CheckFault target bytes.now)) }
+{
+    match check(alloc, bytes, target) {
+        Ok(table) => Ok(table),
+        Err(SectionError::Refused(refusal)) => Err(NormalError::Refused(refusal)),
+        Err(SectionError::OutOfMemory) => Err(NormalError::OutOfMemory),
+    }
+}
+
+/// What a table is written with, where its normal form is within a cap.
+pub(crate) fn measure<'a>(
+    alloc: Global,
+    table: Table<'a>,
+    cap: u64,
+) -> Result<Ready<'a>, NormalError>
+    requires cap { cap ≤ 2147483647 }
+    ensures found { IfOk result (λ r. (r.table ≡ table.entry) × IsPrepared table.entry.target cap table.entry.bytes r.rows.entries r.len) }
+    ensures first { IfErr result (RefusesNormal (λ r. IsTooLong table.entry.target cap table.entry.bytes × (r ≡ too_long))) }
+{
+    table.accepted();
+    let Ok(rows) = initial_rows(alloc, &table) else {
+        return Err(NormalError::OutOfMemory);
+    };
+    match measured(alloc, &table, &rows, cap) {
+        Ok(Some(len)) => Ok(Ready { table, rows, len }),
+        Ok(None) => Err(NormalError::Refused(Refusal {
+            code: Code::NormalTooLong,
+            at: 0,
+        })),
+        Err(_) => Err(NormalError::OutOfMemory),
+    }
+}
+
+/// What a section is written with, where its normal form is within a cap.
+pub(crate) fn prepared<'a>(
+    alloc: Global,
+    bytes: &'a [u8],
+    target: Target,
+    cap: u64,
+) -> Result<Ready<'a>, NormalError>
+    requires cap { cap ≤ 2147483647 }
+    ensures found { IfOk result (λ r. (r.table ≡ record { target = target; bytes = bytes.now }) × IsPrepared target cap bytes.now r.rows.entries r.len) }
+    ensures first { IfErr result (RefusesNormal (NormalFault target cap bytes.now)) }
+{
+    let table = checked(alloc, bytes, target)?;
+    measure(alloc, table, cap)
+}

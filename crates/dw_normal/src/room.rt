@@ -1,0 +1,154 @@
+//! How much room the programs of the normal form leave. The room gets less with each instruction, so that no sum wraps.
+
+ghost use Rattle.std.specs.Prelude.{◌≡◌, ◌+◌, ◌<◌, ◌≤◌, ◌^◌, length, IfOk};
+ghost use Rattle.std.specs.List.{AllByRecursion};
+ghost use Rattle.dw_num.specs.Target.{address_limit};
+ghost use Rattle.dw_section.specs.Sound.{RowFits};
+ghost use Rattle.dw_canon.specs.Canon.{cie_instrs};
+ghost use Rattle.dw_canon.specs.Difference.{difference, move};
+ghost use Rattle.dw_canon.specs.Fits.{InstrFits};
+ghost use Rattle.dw_canon.specs.Spelling.{instr_bytes, program_bytes};
+ghost use Rattle.dw_canon.specs.Written.{cie, missing, entry_bytes};
+ghost use Rattle.dw_normal.specs.Measuring.{Leaves, LaterLeaves, FdeLeaves};
+ghost use Rattle.dw_normal.specs.Passing.{Stand};
+
+use crate::differing::Differences;
+use crate::measuring::{instr_len, unsigned_len};
+use dw_cfa::{Instr, Row};
+use dw_num::Target;
+use dw_section::Changes;
+use std::alloc::{AllocError, Global};
+
+/// What so many bytes leave of room.
+pub(crate) fn behind(room: u128, len: u128) -> Option<u128>
+    ensures { Leaves room len result }
+{
+    if room < len {
+        return None;
+    }
+    Some(room - len)
+}
+
+/// What is left of room behind what leads from one row to another, where a third has the initial rules.
+pub(crate) fn behind_difference<'a>(
+    room: u128,
+    shared: &Row<'a>,
+    before: &Row<'a>,
+    after: &Row<'a>,
+    target: Target,
+) -> Option<u128>
+    requires { AllByRecursion (InstrFits target) (difference shared.now before.now after.now) }
+    ensures { Leaves room (length (program_bytes target (difference shared.now before.now after.now))) result }
+{
+    let mut differences = Differences::new(shared, before, after);
+    let mut left = room;
+    'instrs: while let Some(instr) = differences.step() {
+        left = behind(left, instr_len(&instr, target))?;
+    }
+    Some(left)
+}
+
+// The length of what moves the location.
+fn move_len(from: u128, to: u128, target: Target) -> u128
+    requires rises { from < to }
+    requires in_space { to < address_limit target.size }
+    ensures { result ≡ length (instr_bytes target (move from to)) }
+{
+    if to - from < 4294967296 {
+        instr_len(&Instr::Advance(to - from), target)
+    } else {
+        instr_len(&Instr::SetLoc(to as u64), target)
+    }
+}
+
+/// What is left of room behind the changes that are still to come behind a row at an address.
+pub(crate) fn behind_later<'a>(
+    room: u128,
+    changes: &mut Changes<'a>,
+    shared: &Row<'a>,
+    begin: u128,
+    first: Row<'a>,
+    target: Target,
+) -> Result<Option<u128>, AllocError>
+    requires fits { RowFits target first }
+    requires in_space { changes.old.end ≤ address_limit target.size }
+    requires stand { Stand target shared.now begin first changes.old }
+    ensures { IfOk result (LaterLeaves target shared.now begin first.entry changes.old room) }
+{
+    let mut left = room;
+    let mut at = begin;
+    let mut row = first;
+    'changes: while let Some(address) = changes.advance()? {
+        let Some(next) = changes.row() else {
+            return Err(AllocError);
+        };
+        let Some(moved) = behind(left, move_len(at, address, target)) else {
+            return Ok(None);
+        };
+        let Some(rest) = behind_difference(moved, shared, &row, next, target) else {
+            return Ok(None);
+        };
+        left = rest;
+        row.become_copy(next)?;
+        at = address;
+    }
+    Ok(Some(left))
+}
+
+// So many bytes, and the nops behind them that fill them up to a multiple of the address size.
+fn filled_up(len: u128, target: Target) -> u128
+    requires { len < 2 ^ 100 }
+    ensures { result ≡ len + missing target.size len }
+{
+    let width = u128::from(target.size.byte_count());
+    len + (width - len % width) % width
+}
+
+/// What is left of room behind a CIE with an initial row.
+pub(crate) fn behind_cie<'a>(
+    alloc: Global,
+    room: u128,
+    register: u16,
+    initial: &Row<'a>,
+    target: Target,
+) -> Option<u128>
+    requires room { room < 2 ^ 64 }
+    requires fits { AllByRecursion (InstrFits target) (cie_instrs initial.now) }
+    ensures { Leaves room (length (entry_bytes target (cie register (cie_instrs initial.now) (program_bytes target (cie_instrs initial.now))))) result }
+{
+    let blank = Row::blank(alloc);
+    let left = behind_difference(room, &blank, &blank, initial, target)?;
+    behind(
+        room,
+        filled_up(
+            14 + unsigned_len(u64::from(register)) + (room - left),
+            target,
+        ),
+    )
+}
+
+/// What is left of room behind an FDE: its row at its begin, and the changes that are still to come.
+pub(crate) fn behind_fde<'a>(
+    room: u128,
+    changes: &mut Changes<'a>,
+    shared: &Row<'a>,
+    begin: u128,
+    first: Row<'a>,
+    target: Target,
+) -> Result<Option<u128>, AllocError>
+    requires room { room < 2 ^ 64 }
+    requires first { AllByRecursion (InstrFits target) (difference shared.now shared.now first) }
+    requires fits { RowFits target first }
+    requires in_space { changes.old.end ≤ address_limit target.size }
+    requires stand { Stand target shared.now begin first changes.old }
+    ensures { IfOk result (FdeLeaves target shared.now begin first.entry changes.old room) }
+{
+    let Some(left) = behind_difference(room, shared, shared, &first, target) else {
+        return Ok(None);
+    };
+    let Some(rest) = behind_later(left, changes, shared, begin, first, target)? else {
+        return Ok(None);
+    };
+    let fields = 8 + 2 * u128::from(target.size.byte_count());
+    Ok(behind(room, filled_up(fields + (room - rest), target)))
+}

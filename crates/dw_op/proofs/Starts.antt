@@ -1,0 +1,152 @@
+-- Where operations begin in their least spelling, by the lengths before them.
+use Rattle.std.proofs.Common.{◌≡◌, ℕ, zero, suc, ◌+◌, ◌<◌, ◌≤◌, ◌^◌, List, [], ◌∷◌, length, drop, Option, Some, None, Result, Ok, Err, refl, sym, ap, subst, ◌∙◌, arith}
+use Rattle.dw_num.specs.declared.refusal.Refusal.{Refusal}
+use Rattle.dw_num.specs.declared.target.Target.{Target}
+use Rattle.dw_num.specs.Input.{Input, AreBytes}
+use Rattle.dw_num.proofs.FixedLaws.{length-fixed}
+use Rattle.dw_num.proofs.LebLaws.{done}
+use Rattle.dw_op.specs.declared.measuring.Places.{Places}
+use Rattle.dw_op.specs.declared.measuring.Point.{Point}
+use Rattle.dw_op.specs.declared.op.Op.{Op}
+use Rattle.dw_op.specs.declared.op.Op.TheVariants as ops
+use Rattle.dw_op.specs.declared.profile.Profile.TheVariants.{Frame}
+use Rattle.dw_op.specs.declared.reading.Branch.{Branch}
+use Rattle.dw_op.specs.declared.reading.Branch.TheVariants.{Bra, Skip}
+use Rattle.dw_op.specs.declared.reading.Step.{Step}
+use Rattle.dw_op.specs.declared.reading.Step.TheVariants.{Plain, Jump}
+use Rattle.dw_op.specs.Accepted.{IsAccepted, ops_of}
+use Rattle.dw_op.specs.LeastOf.{least_bytes, least_spelling}
+use Rattle.dw_op.specs.Lengths.{least_lengths, total, together, step_length, item_lengths, lengths_at}
+use Rattle.dw_op.specs.Points.{IsPoint, InRoom, ArePlaces, AreInRoom}
+use Rattle.dw_op.specs.Reading.{step_at}
+use Rattle.dw_op.specs.Walk.{Item, Walk, walk, index_in, find_at, goes_to, branch_to, op_of, put_first, resolve, unless, block_input, decode_at}
+use Rattle.dw_op.proofs.Decoded.{within_all, within_more, answered, same_ops}
+use Rattle.dw_op.proofs.Judging.{accepted_ops, accepted_read}
+use Rattle.dw_op.proofs.Splits.{walk_step, walk_end}
+
+-- ---- points
+
+pub record Next (lengths : List ℕ) (n len : ℕ) (rest : List ℕ) : Type 0 where
+  pub start : total (suc n) lengths ≡ total n lengths + len
+  pub behind : drop (suc n) lengths ≡ rest
+  pub before : n < length lengths
+  pub within : total n lengths + len ≤ together lengths
+
+next : (lengths : List ℕ) (n len : ℕ) (rest : List ℕ) → drop n lengths ≡ len ∷ rest → Next lengths n len rest
+next [] zero len rest e = absurd cc
+next [] (suc n) len rest e = absurd cc
+next (x ∷ lengths) zero len rest e =
+    let head : x ≡ len = cc in
+    let tail : lengths ≡ rest = cc in
+    record { start = omega arith; behind = tail; before = omega arith; within = omega arith }
+next (x ∷ lengths) (suc n) len rest e =
+    let h = next lengths n len rest e in
+    record { start = omega (arith, h.start); behind = h.behind; before = omega (arith, h.before); within = omega (arith, h.within) }
+
+pub total_within : (lengths : List ℕ) (n : ℕ) → total n lengths ≤ together lengths
+total_within lengths zero = omega arith
+total_within [] (suc n) = omega arith
+total_within (x ∷ lengths) (suc n) = omega (arith, total_within lengths n)
+
+-- past the last one there is nothing more
+pub total_ended : (lengths : List ℕ) (n m : ℕ) → drop n lengths ≡ [] → n ≤ m → total m lengths ≡ total n lengths
+total_ended [] zero zero e le = refl
+total_ended [] zero (suc m) e le = refl
+total_ended [] (suc n) zero e le = refl
+total_ended [] (suc n) (suc m) e le = refl
+total_ended (x ∷ lengths) zero m e le = absurd cc
+total_ended (x ∷ lengths) (suc n) zero e le = absurd (omega arith)
+total_ended (x ∷ lengths) (suc n) (suc m) e le = ap (λ (k : ℕ). x + k) (total_ended lengths n m e (omega arith))
+
+pub point_more : (lengths : List ℕ) (p : Point) (len : ℕ) (rest : List ℕ) → IsPoint lengths p → p.rest ≡ len ∷ rest → IsPoint lengths (record { index = p.index + 1; start = p.start + len; rest = rest })
+point_more lengths p len rest h e =
+    let n = next lengths p.index len rest (sym h.rest ∙ e) in
+    let one : p.index + 1 ≡ suc p.index = omega arith in
+    record {
+      rest = sym n.behind ∙ ap (λ (k : ℕ). drop k lengths) (sym one);
+      start = omega (arith, h.start, n.start, ap (λ (k : ℕ). total k lengths) one);
+    }
+
+pub room_more : (p : Point) (len : ℕ) (rest : List ℕ) → InRoom p → p.rest ≡ len ∷ rest → (p.start + len < 2 ^ 63) × (p.index < 2 ^ 63)
+room_more p len rest h e =
+    let n = next h.0 p.index len rest (sym h.1.rest ∙ e) in
+    (omega (arith, h.1.start, n.within, h.2.0), omega (arith, n.before, h.2.1))
+
+pub point_ended : (lengths : List ℕ) (p : Point) (goal : ℕ) → IsPoint lengths p → p.rest ≡ [] → p.index ≤ goal → p.start ≡ total goal lengths
+point_ended lengths p goal h e le = h.start ∙ sym (total_ended lengths p.index goal (sym h.rest ∙ e) le)
+
+-- ---- a walk to a point
+
+pub record Toward (from : Point) (goal : ℕ) (p : Point) : Type 0 where
+  pub room : InRoom p
+  pub same : (lengths : List ℕ) → IsPoint lengths from → IsPoint lengths p
+  pub ahead : p.index ≤ goal
+
+-- ---- places that come up
+
+pub record Bringing (start now : Places) : Type 0 where
+  pub room : AreInRoom now
+  pub same : (lengths : List ℕ) → ArePlaces lengths start → ArePlaces lengths now
+  pub here : now.here ≡ start.here
+
+pub low_within : (p : Places) → AreInRoom p → p.low.start < 2 ^ 63
+low_within p h = omega (arith, h.1.low.start, total_within h.0 p.low.index, h.2.0)
+
+-- ---- the lengths of steps are those of the operations
+
+jump_len : (t : Target) (branch : Branch) (o : Option ℕ) (op : Op) → branch_to branch o ≡ Some op → 3 ≡ length (least_bytes t 0 op)
+unfolding least_bytes least_spelling
+jump_len t branch None op e = absurd cc
+jump_len t Bra (Some i) op e = let is : ops.Bra i ≡ op = cc in subst (λ (x : Op). 3 ≡ length (least_bytes t 0 x)) is (omega (arith, length-fixed t.order 2 0))
+jump_len t Skip (Some i) op e = let is : ops.Skip i ≡ op = cc in subst (λ (x : Op). 3 ≡ length (least_bytes t 0 x)) is (omega (arith, length-fixed t.order 2 0))
+
+same_len : (t : Target) (find : ℕ → Option ℕ) (at : ℕ) (step : Step) (op : Op) → op_of find at step ≡ Some op → step_length t step ≡ length (least_bytes t 0 op)
+same_len t find at (Plain o) op e = let is : o ≡ op = cc in ap (λ (x : Op). length (least_bytes t 0 x)) is
+same_len t find at (Jump branch number) op e = jump_len t branch (find_at find (goes_to (at + 3) number)) op e
+
+record First (at : ℕ) (o : Option Op) (r : Result (List Op) Refusal) (ops : List Op) : Type 0 where
+  op : Op
+  more : List Op
+  first : o ≡ Some op
+  rest : r ≡ answered more
+  is : ops ≡ op ∷ more
+
+first : (at : ℕ) (o : Option Op) (r : Result (List Op) Refusal) (ops : List Op) → put_first o at r ≡ answered ops → First at o r ops
+first at None r ops e = absurd cc
+first at (Some op) (Ok more) ops e = record { op = op; more = more; first = refl; rest = refl; is = sym (same_ops (op ∷ more) ops e) }
+first at (Some op) (Err r) ops e = absurd cc
+
+resolved_lengths : (t : Target) (find : ℕ → Option ℕ) (items : List Item) (ops : List Op) → resolve find items ≡ answered ops → item_lengths t items ≡ least_lengths t ops
+resolved_lengths t find [] ops e = ap (λ (l : List Op). least_lengths t l) (same_ops [] ops e)
+resolved_lengths t find (item ∷ items) ops e =
+    let h = first item.at (op_of find item.at item.step) (resolve find items) ops e in
+    ap (λ (n : ℕ). n ∷ item_lengths t items) (same_len t find item.at item.step h.op h.first)
+    ∙ ap (λ (l : List ℕ). length (least_bytes t 0 h.op) ∷ l) (resolved_lengths t find items h.more h.rest)
+    ∙ ap (λ (l : List Op). least_lengths t l) (sym h.is)
+
+unless_none : (f : Option Refusal) (r : Result (List Op) Refusal) → f ≡ None → unless f r ≡ r
+unless_none f r e = rw e refl
+
+items_good : (t : Target) (bytes : List ℕ) → IsAccepted t bytes → decode_at Frame (block_input t bytes) ≡ answered (ops_of t bytes)
+    → resolve (index_in Frame (block_input t bytes)) (walk Frame (block_input t bytes)).items ≡ answered (ops_of t bytes)
+unfolding decode_at
+items_good t bytes h e =
+    let i = block_input t bytes in
+    sym (unless_none (walk Frame i).fault (resolve (index_in Frame i) (walk Frame i).items) (accepted_read t bytes h)) ∙ e
+
+pub lengths_all : (t : Target) (bytes : List ℕ) → IsAccepted t bytes → lengths_at (block_input t bytes) ≡ least_lengths t (ops_of t bytes)
+unfolding lengths_at
+lengths_all t bytes h =
+    let i = block_input t bytes in
+    resolved_lengths t (index_in Frame i) (walk Frame i).items (ops_of t bytes) (items_good t bytes h (accepted_ops t bytes h))
+
+pub lengths_end : (i : Input) → length i.bytes ≡ 0 → lengths_at i ≡ []
+unfolding lengths_at
+lengths_end i e = ap (λ (w : Walk). item_lengths i.target w.items) (walk_end Frame i e)
+
+pub lengths_more : (i : Input) (x : Step × Input) → AreBytes i.bytes → step_at Frame i ≡ done x → lengths_at i ≡ step_length i.target x.0 ∷ lengths_at x.1
+unfolding lengths_at
+lengths_more i x h e =
+    let same = (within_more Frame i i x (within_all i h) e).target in
+    ap (λ (w : Walk). item_lengths i.target w.items) (walk_step Frame i x h e)
+    ∙ ap (λ (t : Target). step_length i.target x.0 ∷ item_lengths t (walk Frame x.1).items) (sym same)

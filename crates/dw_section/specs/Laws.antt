@@ -1,0 +1,92 @@
+-- Laws of sections, for the layers above.
+use Rattle.std.specs.Prelude.{◌≡◌, ℕ, ◌<◌, ◌≤◌, List, length, map}
+use Rattle.std.specs.List.{AllByRecursion, AllZip}
+use Rattle.dw_num.specs.declared.target.Target.{Target}
+use Rattle.dw_num.specs.Input.{AreBytes}
+use Rattle.dw_cfa.specs.declared.instr.Instr.{Instr}
+use Rattle.dw_cfa.specs.Location.{row_starts}
+use Rattle.dw_cfa.specs.Rows.{Rules, AreSpecified, rule}
+use Rattle.dw_section.specs.declared.lookup.Fde.{Fde}
+use Rattle.dw_section.specs.Accepted.{Accepted}
+use Rattle.dw_section.specs.Changes.{AreChanges}
+use Rattle.dw_section.specs.Headers.{Head, Headers}
+use Rattle.dw_section.specs.Meaning.{AreFdes, Covers, RulesAt, ChangesOf, RowStarts, total}
+use Rattle.dw_section.specs.Meanings.{HasPrograms, IsListed, SameRow, SameMeaning}
+use Rattle.dw_cfa.specs.declared.rule.CfaRule.{CfaRule}
+use Rattle.dw_cfa.specs.declared.rule.CfaRule.TheVariants as cfa
+use Rattle.dw_cfa.specs.declared.rule.CfaRule.TheVariants.{Unset}
+use Rattle.dw_cfa.specs.declared.rule.RegRule.{RegRule}
+use Rattle.dw_cfa.specs.declared.rule.RegRule.TheVariants.{Expression, ValExpression}
+
+-- rows that list each register once, ascending
+abbrev pub AreListed : List (ℕ × Rules) → Type 0
+AreListed changes = AllByRecursion (λ (change : ℕ × Rules). AreSpecified 0 change.1.registers) changes
+
+abbrev pub OneHeaders : Type 0
+OneHeaders = (target : Target) (s : List ℕ) (hs ks : List Head) → Headers target s hs → Headers target s ks → hs ≡ ks
+
+abbrev pub OneFdes : Type 0
+OneFdes = (target : Target) (s : List ℕ) (fs gs : List Fde) → AreFdes target s fs → AreFdes target s gs → fs ≡ gs
+
+abbrev pub FdesExist : Type 0
+FdesExist = (target : Target) (s : List ℕ) → AreBytes s → Accepted target s → (fs : List Fde) × AreFdes target s fs
+
+-- return registers are below 65,536
+abbrev pub RegistersFit : Type 0
+RegistersFit = (target : Target) (s : List ℕ) (fs : List Fde) → AreFdes target s fs → AllByRecursion (λ (f : Fde). f.return_register < 65536) fs
+
+-- each FDE of an accepted section has changes
+abbrev pub ChangesExist : Type 0
+ChangesExist = (target : Target) (s : List ℕ) → AreBytes s → Accepted target s → (fs : List Fde) (f : Fde) → AreFdes target s fs → IsListed f fs
+    → (changes : List (ℕ × Rules)) × ChangesOf target s f changes × AreListed changes
+
+-- and one list of them
+abbrev pub OneChanges : Type 0
+OneChanges = (target : Target) (s : List ℕ) → AreBytes s → Accepted target s → (f : Fde) (xs ys : List (ℕ × Rules)) → f.begin < f.end → ChangesOf target s f xs → ChangesOf target s f ys → AreListed xs → AreListed ys → xs ≡ ys
+
+-- each address of an FDE has rules
+abbrev pub RulesExist : Type 0
+RulesExist = (target : Target) (s : List ℕ) → AreBytes s → Accepted target s → (fs : List Fde) (f : Fde) (a : ℕ) → AreFdes target s fs → IsListed f fs → Covers a f
+    → (row : Rules) × RulesAt target s a row × AreSpecified 0 row.registers
+
+-- the rules at an address are one
+abbrev pub OneRules : Type 0
+OneRules = (target : Target) (s : List ℕ) → AreBytes s → Accepted target s → (a : ℕ) (x y : Rules) → RulesAt target s a x → RulesAt target s a y → SameRow x y
+
+-- an FDE starts at least as many rows as it has changes
+abbrev pub LeastStarts : Type 0
+LeastStarts = (target : Target) (s : List ℕ) → AreBytes s → Accepted target s → (begin end : ℕ) (initial instrs : List Instr) (changes : List (ℕ × Rules)) → begin < end
+    → HasPrograms target s begin end initial instrs → AreChanges initial instrs begin end changes → length changes ≤ row_starts instrs
+
+-- and so do all FDEs together
+abbrev pub LeastTotal : Type 0
+LeastTotal = (target : Target) (s : List ℕ) → AreBytes s → Accepted target s → (fs : List Fde) (lists : List (List (ℕ × Rules))) (n : ℕ) → AreFdes target s fs → AllZip (λ f changes. ChangesOf target s f changes) fs lists
+    → RowStarts target s n → total (map length lists) ≤ n
+
+-- sections that say the same have the same changes
+abbrev pub MeaningChanges : Type 0
+MeaningChanges = (target : Target) (s t : List ℕ) → AreBytes s → AreBytes t → Accepted target s → Accepted target t → SameMeaning target s t
+    → (fs : List Fde) (f : Fde) (changes : List (ℕ × Rules)) → AreFdes target s fs → IsListed f fs → ChangesOf target s f changes → ChangesOf target t f changes
+
+-- the expression of a rule is for the target
+abbrev pub CfaIsFor : Target → CfaRule → Type 0
+CfaIsFor target (cfa.Expression e) = e.target ≡ target
+CfaIsFor target other = Unit {0}
+
+abbrev pub RuleIsFor : Target → RegRule → Type 0
+RuleIsFor target (Expression e) = e.target ≡ target
+RuleIsFor target (ValExpression e) = e.target ≡ target
+RuleIsFor target other = Unit {0}
+
+-- all expressions of a row are
+pub record RowIsFor (target : Target) (row : Rules) : Type 0 where
+  pub cfa : CfaIsFor target row.cfa
+  pub rules : (r : ℕ) → RuleIsFor target (rule row r)
+
+-- the expressions at an address are for the section's target
+abbrev pub RulesAreFor : Type 0
+RulesAreFor = (target : Target) (s : List ℕ) (a : ℕ) (row : Rules) → RulesAt target s a row → RowIsFor target row
+
+-- the CFA has a rule there
+abbrev pub CfaIsSet : Type 0
+CfaIsSet = (target : Target) (s : List ℕ) (a : ℕ) (row : Rules) → AreBytes s → Accepted target s → RulesAt target s a row → row.cfa ≡ Unset → ⊥

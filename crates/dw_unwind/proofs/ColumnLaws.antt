@@ -1,0 +1,103 @@
+-- What the values of columns are over a memory.
+use Rattle.std.proofs.Common.{◌≡◌, ◌⊎◌, ℕ, ◌<◌, ◌≤◌, true, List, Result, Ok, Err, refl, subst, arith, inl, inr}
+use Rattle.std.proofs.lemmas.Bool.{cases_lt}
+use Rattle.dw_op.specs.Expression.{Expression}
+use Rattle.dw_eval.specs.declared.error.EvalError.{EvalError}
+use Rattle.dw_eval.specs.declared.error.EvalError.TheVariants as eval
+use Rattle.dw_eval.specs.declared.error.Kind.TheVariants as kinds
+use Rattle.dw_eval.specs.Context.{Context}
+use Rattle.dw_eval.specs.Evaluation.{Evaluates, MayFailAt}
+use Rattle.dw_unwind.specs.declared.frame.Column.{Column}
+use Rattle.dw_unwind.specs.declared.frame.UnwindError.{UnwindError}
+use Rattle.dw_unwind.specs.declared.frame.UnwindError.TheVariants.{Eval, Device, OutOfMemory}
+use Rattle.dw_unwind.specs.Columns.{in_column, ValueIs, ValueFails}
+use Rattle.dw_unwind.specs.Recovery.{Over}
+use Rattle.dw_unwind.specs.Unwound.{is_device}
+
+-- what is known of an evaluation over a memory
+record Tells (c : Context) (limit : ℕ) (e : Expression) (first : List ℕ) (before after : ℕ) (r : Result ℕ EvalError) : Type 0 where
+  counted : before ≤ after
+  answered : after ≡ before → (r ≡ Err eval.OutOfMemory) ⊎ Evaluates e.ops c first limit r
+  failed : before < after → (i : ℕ) × (r ≡ Err (eval.Fault kinds.Device i)) × MayFailAt e.ops c first limit i
+  device : (i : ℕ) → r ≡ Err (eval.Fault kinds.Device i) → before < after
+
+module _ (c : Context) (limit : ℕ) (column : Column) (e : Expression) (first : List ℕ) (before after : ℕ) where
+  -- the count stays where no failure is answered
+  stays : (r : Result ℕ EvalError) → Tells c limit e first before after r → ((i : ℕ) → r ≡ Err (eval.Fault kinds.Device i) → ⊥) → after ≡ before
+  stays r t other = elim (cases_lt before after) [
+    | inl grew ↦ let f = t.failed grew in absurd (other f.0 f.1)
+    | inr same ↦ omega (arith, t.counted)
+  ]
+
+  told : (r : Result ℕ EvalError) → Tells c limit e first before after r → ((i : ℕ) → r ≡ Err (eval.Fault kinds.Device i) → ⊥) → (r ≡ Err eval.OutOfMemory → ⊥) → ValueIs c limit column e first (in_column column r) × (after ≡ before)
+  told r t other some =
+      let same = stays r t other in
+      elim (t.answered same) [
+        | inl short ↦ absurd (some short)
+        | inr is ↦ (record { evaluated = r; evaluates = is; is = refl }, same)
+      ]
+
+  over : (r : Result ℕ EvalError) → Tells c limit e first before after r → Over (ValueIs c limit column e first) (ValueFails c limit column first e) before (in_column column r) after
+  over (Ok v) t = told (Ok v) t (λ i p. absurd cc) (λ p. absurd cc)
+  over (Err (eval.Fault kinds.Device i)) t =
+      let grew = t.device i refl in
+      let f = t.failed grew in
+      let same : f.0 ≡ i = cc in
+      ((i, subst (MayFailAt e.ops c first limit) same f.2, refl), grew)
+  over (Err (eval.Fault kind i)) t = told (Err (eval.Fault kind i)) t (λ j p. absurd cc) (λ p. absurd cc)
+  over (Err eval.OutOfMemory) t = stays (Err eval.OutOfMemory) t (λ i p. absurd cc)
+
+pub value_over : (c : Context) (limit : ℕ) (column : Column) (e : Expression) (first : List ℕ) (before after : ℕ) (r : Result ℕ EvalError) → before ≤ after
+    → (after ≡ before → (r ≡ Err eval.OutOfMemory) ⊎ Evaluates e.ops c first limit r)
+    → (before < after → (i : ℕ) × (r ≡ Err (eval.Fault kinds.Device i)) × MayFailAt e.ops c first limit i)
+    → ((i : ℕ) → r ≡ Err (eval.Fault kinds.Device i) → before < after)
+    → Over (ValueIs c limit column e first) (ValueFails c limit column first e) before (in_column column r) after
+value_over c limit column e first before after r counted answered failed device =
+    over c limit column e first before after r (record { counted = counted; answered = answered; failed = failed; device = device })
+
+-- what is said of an answer in other words
+pub over_map : {A : Type 0} (P Q : Result A UnwindError → Type 0) (F G : UnwindError → Type 0) → ((r : Result A UnwindError) → P r → Q r) → ((e : UnwindError) → F e → G e)
+    → (before : ℕ) (r : Result A UnwindError) (after : ℕ) → Over P F before r after → Over Q G before r after
+over_map P Q F G f g before (Ok v) after h = (f (Ok v) h.0, h.1)
+over_map P Q F G f g before (Err OutOfMemory) after h = h
+over_map P Q F G f g before (Err (Device column)) after h = (g (Device column) h.0, h.1)
+over_map P Q F G f g before (Err (Eval kinds.Device i column)) after h = (g (Eval kinds.Device i column) h.0, h.1)
+over_map P Q F G f g before (Err e) after h = (f (Err e) h.0, h.1)
+
+-- an error that ends a larger answer
+pub over_error : {A B : Type 0} (P : Result A UnwindError → Type 0) (Q : Result B UnwindError → Type 0) (F G : UnwindError → Type 0) → ((e : UnwindError) → P (Err e) → Q (Err e)) → ((e : UnwindError) → F e → G e)
+    → (before : ℕ) (e : UnwindError) (after : ℕ) → Over P F before (Err e) after → Over Q G before (Err e) after
+over_error P Q F G f g before OutOfMemory after h = h
+over_error P Q F G f g before (Device column) after h = (g (Device column) h.0, h.1)
+over_error P Q F G f g before (Eval kinds.Device i column) after h = (g (Eval kinds.Device i column) h.0, h.1)
+over_error P Q F G f g before e after h = (f e h.0, h.1)
+
+-- what is told of an answer over a memory, clause by clause
+pub over_counted : {A : Type 0} (P : Result A UnwindError → Type 0) (F : UnwindError → Type 0) (before : ℕ) (r : Result A UnwindError) (after : ℕ) → Over P F before r after → before ≤ after
+over_counted P F before (Ok v) after h = omega (arith, h.1)
+over_counted P F before (Err OutOfMemory) after h = omega (arith, h)
+over_counted P F before (Err (Device column)) after h = omega (arith, h.1)
+over_counted P F before (Err (Eval kinds.Device i column)) after h = omega (arith, h.1)
+over_counted P F before (Err e) after h = omega (arith, h.1)
+
+pub over_answered : {A : Type 0} (P : Result A UnwindError → Type 0) (F : UnwindError → Type 0) (before : ℕ) (r : Result A UnwindError) (after : ℕ) → Over P F before r after → after ≡ before → (r ≡ Err OutOfMemory) ⊎ P r
+over_answered P F before (Ok v) after h e = inr h.0
+over_answered P F before (Err OutOfMemory) after h e = inl refl
+over_answered P F before (Err (Device column)) after h e = absurd (omega (arith, h.1))
+over_answered P F before (Err (Eval kinds.Device i column)) after h e = absurd (omega (arith, h.1))
+over_answered P F before (Err x) after h e = inr h.0
+
+pub over_failed : {A : Type 0} (P : Result A UnwindError → Type 0) (F : UnwindError → Type 0) (before : ℕ) (r : Result A UnwindError) (after : ℕ) → Over P F before r after → before < after → (e : UnwindError) × (r ≡ Err e) × (is_device e ≡ true) × F e
+over_failed P F before (Ok v) after h lt = absurd (omega (arith, h.1))
+over_failed P F before (Err OutOfMemory) after h lt = absurd (omega (arith, h))
+over_failed P F before (Err (Device column)) after h lt = (Device column, refl, refl, h.0)
+over_failed P F before (Err (Eval kinds.Device i column)) after h lt = (Eval kinds.Device i column, refl, refl, h.0)
+over_failed P F before (Err x) after h lt = absurd (omega (arith, h.1))
+
+grown : {A : Type 0} (P : Result A UnwindError → Type 0) (F : UnwindError → Type 0) (before : ℕ) (e : UnwindError) (after : ℕ) → Over P F before (Err e) after → is_device e ≡ true → before < after
+grown P F before (Device column) after h is = h.1
+grown P F before (Eval kinds.Device i column) after h is = h.1
+grown P F before x after h is = absurd cc
+
+pub over_device : {A : Type 0} (P : Result A UnwindError → Type 0) (F : UnwindError → Type 0) (before : ℕ) (r : Result A UnwindError) (after : ℕ) → Over P F before r after → (e : UnwindError) → r ≡ Err e → is_device e ≡ true → before < after
+over_device {A = A} P F before r after h e is device = grown P F before e after (subst (λ (x : Result A UnwindError). Over P F before x after) is h) device

@@ -1,0 +1,257 @@
+-- A frame, or the first fault in its way, is one.
+use Rattle.std.proofs.Common.{◌≡◌, ℕ, suc, ◌≤◌, List, [], ◌∷◌, Option, Result, Ok, Err, refl, sym, ap, subst, ◌∙◌, arith, inl, inr}
+use Rattle.std.specs.List.{AllByRecursion, AllZip}
+use Rattle.std.proofs.lemmas.Bool.{cases_lt}
+use Rattle.dw_num.specs.declared.target.Target.{Target}
+use Rattle.dw_op.specs.Expression.{Expression}
+use Rattle.dw_cfa.specs.declared.rule.CfaRule.{CfaRule}
+use Rattle.dw_cfa.specs.declared.rule.CfaRule.TheVariants as cfa
+use Rattle.dw_cfa.specs.declared.rule.RegRule.{RegRule}
+use Rattle.dw_cfa.specs.declared.rule.RegRule.TheVariants as rules
+use Rattle.dw_cfa.specs.Rows.{Rules, rule}
+use Rattle.dw_eval.specs.Context.{Context}
+use Rattle.dw_eval.proofs.Results.{same_value}
+use Rattle.dw_section.specs.declared.lookup.Fde.{Fde}
+use Rattle.dw_section.specs.Accepted.{Accepted}
+use Rattle.dw_section.specs.Headers.{Head}
+use Rattle.dw_section.specs.Meanings.{SameRow, IsListed as IsAmongFdes}
+use Rattle.dw_section.specs.Meaning.{Lists, Covers, NoneCovers}
+use Rattle.dw_section.specs.Overlap.{Range, AreApart, IsIndex, end_of}
+use Rattle.dw_section.proofs.HeaderLaws.{one_headers}
+use Rattle.dw_section.proofs.Index.{one_index}
+use Rattle.dw_section.proofs.Lookups.{one_fdes}
+use Rattle.dw_section.proofs.Sections.{one_rules}
+use Rattle.dw_unwind.specs.declared.frame.Column.{Column}
+use Rattle.dw_unwind.specs.declared.frame.Frame.{Frame}
+use Rattle.dw_unwind.specs.declared.frame.Policy.{Policy}
+use Rattle.dw_unwind.specs.declared.frame.UnwindError.{UnwindError}
+use Rattle.dw_unwind.specs.Columns.{in_column, recovered, on_value, saved_at, on_cfa, ValueIs, SavedBy, CfaIs, RegisterIs}
+use Rattle.dw_unwind.proofs.FrameLaws.{value_of}
+use Rattle.dw_unwind.specs.Unwound.{IsCovered, IsUncovered, is_listed, Rise, Has, IsListed, Recovers, AreRegisters, RegistersAre, FrameIs, OneFrame}
+
+-- ---- columns
+
+module _ (c : Context) (limit : ℕ) where
+  one_value : (column : Column) (e : Expression) (first : List ℕ) (a b : Result ℕ UnwindError) → ValueIs c limit column e first a → ValueIs c limit column e first b → a ≡ b
+  one_value column e first a b v w = v.is ∙ ap (in_column column) (same_value e.ops c first limit v.evaluated w.evaluated v.evaluates w.evaluates) ∙ sym w.is
+
+  one_cfa : (rule : CfaRule) (a b : Result ℕ UnwindError) → CfaIs c limit rule a → CfaIs c limit rule b → a ≡ b
+  one_cfa cfa.Unset a b v w = absurd v
+  one_cfa (cfa.Register r n) a b v w = v ∙ sym w
+  one_cfa (cfa.Expression e) a b v w = one_value _ e [] a b v w
+
+  one_saved : (column : Column) (cfa : ℕ) (e : Expression) (a b : Result ℕ UnwindError) → SavedBy c limit column cfa e a → SavedBy c limit column cfa e b → a ≡ b
+  one_saved column cfa e a b v w =
+      v.2 ∙ ap (λ (r : Result ℕ UnwindError). on_value r (saved_at c limit column)) (one_value column e (on_cfa c limit cfa) v.0 w.0 v.1 w.1) ∙ sym w.2
+
+  one_register : (policy : Policy) (cfa r : ℕ) (rule : RegRule) (a b : Result (Option ℕ) UnwindError) → RegisterIs c limit policy cfa r rule a → RegisterIs c limit policy cfa r rule b → a ≡ b
+  one_register policy cfa r rules.Unspecified a b v w = v ∙ sym w
+  one_register policy cfa r rules.Undefined a b v w = v ∙ sym w
+  one_register policy cfa r rules.SameValue a b v w = v ∙ sym w
+  one_register policy cfa r (rules.Offset n) a b v w = v ∙ sym w
+  one_register policy cfa r (rules.ValOffset n) a b v w = v ∙ sym w
+  one_register policy cfa r (rules.Register q) a b v w = v ∙ sym w
+  one_register policy cfa r (rules.Expression e) a b v w = v.2 ∙ ap recovered (one_saved _ cfa e v.0 w.0 v.1 w.1) ∙ sym w.2
+  one_register policy cfa r (rules.ValExpression e) a b v w = v.2 ∙ ap recovered (one_value _ e (on_cfa c limit cfa) v.0 w.0 v.1 w.1) ∙ sym w.2
+
+-- ---- registers
+
+abbrev Entry : Type 0
+Entry = ℕ × Option ℕ
+
+has_above : (low r : ℕ) (es : List Entry) → Rise low es → Has r es → low ≤ r
+has_above low r [] up h = absurd h
+has_above low r (e ∷ es) up (inl is) = omega (arith, up.0, is)
+has_above low r (e ∷ es) up (inr h) = let p = has_above (suc e.0) r es up.1 h in omega (arith, up.0, p)
+
+same_entry : (x y : Entry) → x.0 ≡ y.0 → x.1 ≡ y.1 → x ≡ y
+same_entry x y e f = let p : (x.0, x.1) ≡ (y.0, x.1) = ap (λ (n : ℕ). let z : Entry = (n, x.1) in z) e in let q : (y.0, x.1) ≡ (y.0, y.1) = ap (λ (v : Option ℕ). let z : Entry = (y.0, v) in z) f in p ∙ q
+
+-- lists of the same registers with one value each are the same
+module _ (Listed : ℕ → Type 0) (P : ℕ → Option ℕ → Type 0) (one : (r : ℕ) (v w : Option ℕ) → P r v → P r w → v ≡ w) where
+  abbrev Each : List Entry → Type 0
+  Each es = AllByRecursion (λ (e : Entry). Listed e.0 × P e.0 e.1) es
+
+  abbrev All : ℕ → List Entry → Type 0
+  All low es = (r : ℕ) → low ≤ r → Listed r → Has r es
+
+  rest_has : (x : Entry) (es : List Entry) (low : ℕ) → low ≤ x.0 → All low (x ∷ es) → All (suc x.0) es
+  rest_has x es low le all = λ r above listed. elim (all r (omega (arith, le, above)) listed) [ inl is ↦ absurd (omega (arith, is, above)) | inr h ↦ h ]
+
+  same_list : (low : ℕ) (es fs : List Entry) → Rise low es → Rise low fs → Each es → Each fs → All low es → All low fs → es ≡ fs
+  same_list low [] [] up down each every all others = refl
+  same_list low [] (y ∷ fs) up down each every all others = absurd (all y.0 down.0 every.0.0)
+  same_list low (x ∷ es) [] up down each every all others = absurd (others x.0 up.0 each.0.0)
+  same_list low (x ∷ es) (y ∷ fs) up down each every all others =
+      let low_x : Rise x.0 (x ∷ es) = (omega arith, up.1) in
+      let low_y : Rise y.0 (y ∷ fs) = (omega arith, down.1) in
+      let xy : x.0 ≤ y.0 = has_above x.0 y.0 (x ∷ es) low_x (all y.0 down.0 every.0.0) in
+      let yx : y.0 ≤ x.0 = has_above y.0 x.0 (y ∷ fs) low_y (others x.0 up.0 each.0.0) in
+      let same : x.0 ≡ y.0 = omega (arith, xy, yx) in
+      let values : x.1 ≡ y.1 = one y.0 x.1 y.1 (subst (λ (n : ℕ). P n x.1) same each.0.1) every.0.1 in
+      let rest = same_list (suc y.0) es fs (subst (λ (n : ℕ). Rise (suc n) es) same up.1) down.1 each.1 every.1
+      (subst (λ (n : ℕ). All (suc n) es) same (rest_has x es low up.0 all)) (rest_has y fs low down.0 others) in
+      ap (λ (e : Entry). e ∷ es) (same_entry x y same values) ∙ ap (λ (l : List Entry). y ∷ l) rest
+
+module _ (c : Context) (limit : ℕ) (policy : Policy) (row : Rules) (register : ℕ) where
+  abbrev Listed : ℕ → Type 0
+  Listed r = IsListed c limit policy row register r
+
+  abbrev Is : ℕ → ℕ → Result (Option ℕ) UnwindError → Type 0
+  Is cfa r answer = Recovers c limit policy row register cfa r answer
+
+  one_recovered : (cfa r : ℕ) (a b : Result (Option ℕ) UnwindError) → Is cfa r a → Is cfa r b → a ≡ b
+  one_recovered cfa r a b v w = one_register c limit policy cfa r (rule row r) a b v w
+
+  one_ok : (cfa r : ℕ) (a b : Option ℕ) → Is cfa r (Ok a) → Is cfa r (Ok b) → a ≡ b
+  one_ok cfa r a b v w = let same = one_recovered cfa r (Ok a) (Ok b) v w in cc
+
+  ok_apart : (cfa r : ℕ) (a : Option ℕ) (e : UnwindError) → Is cfa r (Ok a) → Is cfa r (Err e) → ⊥
+  ok_apart cfa r a e v w = let same = one_recovered cfa r (Ok a) (Err e) v w in absurd cc
+
+  one_error : (cfa r : ℕ) (e f : UnwindError) → Is cfa r (Err e) → Is cfa r (Err f) → e ≡ f
+  one_error cfa r e f v w = let same = one_recovered cfa r (Err e) (Err f) v w in cc
+
+  same_registers : (cfa : ℕ) (es fs : List Entry) → AreRegisters c limit policy row register cfa es → AreRegisters c limit policy row register cfa fs → es ≡ fs
+  same_registers cfa es fs v w =
+      same_list Listed (λ r a. Is cfa r (Ok a)) (one_ok cfa) 0 es fs v.rise w.rise v.each w.each (λ r le is. v.all r is) (λ r le is. w.all r is)
+
+  registers_apart : (cfa : ℕ) (es : List Entry) (e : UnwindError) → AreRegisters c limit policy row register cfa es → RegistersAre c limit policy row register cfa (Err e) → ⊥
+  registers_apart cfa es e v w =
+      let found = value_of (λ r a. Listed r × Is cfa r (Ok a)) es w.0 v.each (v.all w.0 w.1.listed) in
+      ok_apart cfa w.0 found.0 e found.1.1 w.2
+
+  registers_error : (cfa : ℕ) (e f : UnwindError) → RegistersAre c limit policy row register cfa (Err e) → RegistersAre c limit policy row register cfa (Err f) → e ≡ f
+  registers_error cfa e f v w = elim (cases_lt v.0 w.0) [
+    | inl less ↦ let found = w.1.earlier v.0 less v.1.listed in absurd (ok_apart cfa v.0 found.0 e found.1 v.2)
+    | inr more ↦ elim (cases_lt w.0 v.0) [
+      | inl less ↦ let found = v.1.earlier w.0 less w.1.listed in absurd (ok_apart cfa w.0 found.0 f found.1 w.2)
+      | inr le ↦ let same : w.0 ≡ v.0 = omega arith in one_error cfa v.0 e f v.2 (subst (λ (n : ℕ). Is cfa n (Err f)) same w.2)
+    ]
+  ]
+
+  abbrev Cfa : Result ℕ UnwindError → Type 0
+  Cfa answer = CfaIs c limit row.cfa answer
+
+  cfa_same : (a b : ℕ) → Cfa (Ok a) → Cfa (Ok b) → b ≡ a
+  cfa_same a b v w = let same = one_cfa c limit row.cfa (Ok a) (Ok b) v w in cc
+
+  cfa_apart : (a : ℕ) (e : UnwindError) → Cfa (Ok a) → Cfa (Err e) → ⊥
+  cfa_apart a e v w = let same = one_cfa c limit row.cfa (Ok a) (Err e) v w in absurd cc
+
+  frame_apart : (a : Frame) (e : UnwindError) → FrameIs c limit policy row register (Ok a) → FrameIs c limit policy row register (Err e) → ⊥
+  frame_apart a e v (inl w) = cfa_apart a.cfa e v.0 w
+  frame_apart a e v (inr w) =
+      registers_apart a.cfa a.registers e v.2 (subst (λ (n : ℕ). RegistersAre c limit policy row register n (Err e)) (cfa_same a.cfa w.0 v.0 w.1) w.2)
+
+  same_frame : (a b : Frame) → FrameIs c limit policy row register (Ok a) → FrameIs c limit policy row register (Ok b) → a ≡ b
+  same_frame a b v w =
+      let cfas : b.cfa ≡ a.cfa = cfa_same a.cfa b.cfa v.0 w.0 in
+      let returns : a.return_register ≡ b.return_register = v.1 ∙ sym w.1 in
+      let registers = same_registers a.cfa a.registers b.registers v.2 (subst (λ (n : ℕ). AreRegisters c limit policy row register n b.registers) cfas w.2) in
+      ap (λ (n : ℕ). let f : Frame = record { cfa = n; return_register = a.return_register; registers = a.registers } in f) (sym cfas)
+      ∙ ap (λ (n : ℕ). let f : Frame = record { cfa = b.cfa; return_register = n; registers = a.registers } in f) returns
+      ∙ ap (λ (l : List Entry). let f : Frame = record { cfa = b.cfa; return_register = b.return_register; registers = l } in f) registers
+
+  frame_error : (e f : UnwindError) → FrameIs c limit policy row register (Err e) → FrameIs c limit policy row register (Err f) → e ≡ f
+  frame_error e f (inl v) (inl w) = let same = one_cfa c limit row.cfa (Err e) (Err f) v w in cc
+  frame_error e f (inl v) (inr w) = absurd (cfa_apart w.0 e w.1 v)
+  frame_error e f (inr v) (inl w) = absurd (cfa_apart v.0 f v.1 w)
+  frame_error e f (inr v) (inr w) =
+      registers_error v.0 e f v.2 (subst (λ (n : ℕ). RegistersAre c limit policy row register n (Err f)) (cfa_same v.0 w.0 v.1 w.1) w.2)
+
+  one_of_row : (a b : Result Frame UnwindError) → FrameIs c limit policy row register a → FrameIs c limit policy row register b → a ≡ b
+  one_of_row (Ok a) (Ok b) v w = ap Ok (same_frame a b v w)
+  one_of_row (Ok a) (Err f) v w = absurd (frame_apart a f v w)
+  one_of_row (Err e) (Ok b) v w = absurd (frame_apart b e w v)
+  one_of_row (Err e) (Err f) v w = ap Err (frame_error e f v w)
+
+-- ---- the FDE
+
+module _ (hs : List Head) where
+  -- what begins behind the others
+  later : (x : Range) (index : List Range) (fs : List Fde) (g : Fde) → AllByRecursion (λ (b : Range). end_of x ≤ b.begin) index → AllZip (Lists hs) index fs → IsAmongFdes g fs → end_of x ≤ g.begin
+  later x [] [] g h z i = absurd i
+  later x [] (f ∷ fs) g h z i = absurd z
+  later x (b ∷ index) [] g h z i = absurd i
+  later x (b ∷ index) (f ∷ fs) g h z (inl is) = subst (λ (d : Fde). end_of x ≤ d.begin) (sym is) (omega (arith, h.0, z.0.begin))
+  later x (b ∷ index) (f ∷ fs) g h z (inr i) = later x index fs g h.1 z.1 i
+
+  -- at most one FDE covers an address
+  one_fde : (a : ℕ) (index : List Range) (fs : List Fde) (f g : Fde) → AreApart index → AllZip (Lists hs) index fs → IsAmongFdes f fs → IsAmongFdes g fs → Covers a f → Covers a g → f ≡ g
+  one_fde a [] [] f g apart z i j cf cg = absurd i
+  one_fde a [] (d ∷ fs) f g apart z i j cf cg = absurd z
+  one_fde a (x ∷ index) [] f g apart z i j cf cg = absurd i
+  one_fde a (x ∷ index) (d ∷ fs) f g apart z (inl is) (inl same) cf cg = is ∙ sym same
+  one_fde a (x ∷ index) (d ∷ fs) f g apart z (inl is) (inr j) cf cg =
+      let le = later x index fs g apart.0 z.1 j in
+      let here = subst (Covers a) is cf in absurd (omega (arith, le, here.1, cg.0, z.0.end))
+  one_fde a (x ∷ index) (d ∷ fs) f g apart z (inr i) (inl same) cf cg =
+      let le = later x index fs f apart.0 z.1 i in
+      let here = subst (Covers a) same cg in absurd (omega (arith, le, here.1, cf.0, z.0.end))
+  one_fde a (x ∷ index) (d ∷ fs) f g apart z (inr i) (inr j) cf cg = one_fde a index fs f g apart.1 z.1 i j cf cg
+
+none_there : (a : ℕ) (fs : List Fde) (f : Fde) → NoneCovers a fs → IsAmongFdes f fs → Covers a f → ⊥
+none_there a [] f none i covers = absurd i
+none_there a (d ∷ fs) f none (inl is) covers = none.0 (subst (Covers a) is covers)
+none_there a (d ∷ fs) f none (inr i) covers = none_there a fs f none.1 i covers
+
+module _ (target : Target) (s : List ℕ) (a : ℕ) where
+  apart : (register : ℕ) (row : Rules) → IsUncovered target s a → IsCovered target s a register row → ⊥
+  apart register row v w =
+      let same = one_fdes target s v.0 w.fdes v.1 w.are in none_there a w.fdes w.fde (subst (NoneCovers a) same v.2) w.among w.covers
+
+  one_returns : (register other : ℕ) (row another : Rules) → Accepted target s → IsCovered target s a register row → IsCovered target s a other another → register ≡ other
+  one_returns register other row another accepted v w =
+      let same : w.fdes ≡ v.fdes = one_fdes target s w.fdes v.fdes w.are v.are in
+      let among = subst (λ (l : List Fde). IsAmongFdes w.fde l) same w.among in
+      let heads = one_headers target s v.are.headers accepted.1.0 v.are.are accepted.1.1.0.0.0 in
+      let index : v.are.index ≡ accepted.0 = one_index accepted.1.0 v.are.index accepted.0 (subst (λ (l : List Head). IsIndex l v.are.index) heads v.are.is_index) accepted.1.2 in
+      let fde = one_fde v.are.headers a v.are.index v.fdes v.fde w.fde (subst AreApart (sym index) accepted.2) v.are.each v.among among v.covers w.covers in
+      v.returns ∙ ap (λ (d : Fde). d.return_register) fde ∙ sym w.returns
+
+-- ---- the same rules
+
+module _ (c : Context) (limit : ℕ) (policy : Policy) (row other : Rules) (register : ℕ) (same : SameRow row other) where
+  abbrev Listed_there : (r : ℕ) → Type 0
+  Listed_there r = IsListed c limit policy row register r
+
+  listed_same : (r : ℕ) → is_listed c.register row register r ≡ is_listed c.register other register r
+  listed_same r = rw (same.rules r) refl
+
+  register_moved : (cfa r : ℕ) (answer : Result (Option ℕ) UnwindError) → Recovers c limit policy other register cfa r answer → Recovers c limit policy row register cfa r answer
+  register_moved cfa r answer h = subst (λ (x : RegRule). RegisterIs c limit policy cfa r x answer) (sym (same.rules r)) h
+
+  cfa_moved : (answer : Result ℕ UnwindError) → CfaIs c limit other.cfa answer → CfaIs c limit row.cfa answer
+  cfa_moved answer h = subst (λ (x : CfaRule). CfaIs c limit x answer) (sym same.cfa) h
+
+  each_moved : (cfa : ℕ) (es : List Entry) → AllByRecursion (λ (e : Entry). IsListed c limit policy other register e.0 × Recovers c limit policy other register cfa e.0 (Ok e.1)) es
+      → AllByRecursion (λ (e : Entry). IsListed c limit policy row register e.0 × Recovers c limit policy row register cfa e.0 (Ok e.1)) es
+  each_moved cfa [] h = tt
+  each_moved cfa (e ∷ es) h = ((listed_same e.0 ∙ h.0.0, register_moved cfa e.0 (Ok e.1) h.0.1), each_moved cfa es h.1)
+
+  registers_moved : (cfa : ℕ) (answer : Result (List Entry) UnwindError) → RegistersAre c limit policy other register cfa answer → RegistersAre c limit policy row register cfa answer
+  registers_moved cfa (Ok es) h = record { rise = h.rise; each = each_moved cfa es h.each; all = λ r is. h.all r (sym (listed_same r) ∙ is) }
+  registers_moved cfa (Err e) h = (
+    h.0,
+    record {
+      listed = listed_same h.0 ∙ h.1.listed;
+      earlier = λ q lt is. let found = h.1.earlier q lt (sym (listed_same q) ∙ is) in (found.0, register_moved cfa q (Ok found.0) found.1);
+    },
+    register_moved cfa h.0 (Err e) h.2,
+  )
+
+  frame_moved : (answer : Result Frame UnwindError) → FrameIs c limit policy other register answer → FrameIs c limit policy row register answer
+  frame_moved (Ok f) h = (cfa_moved (Ok f.cfa) h.0, h.1, registers_moved f.cfa (Ok f.registers) h.2)
+  frame_moved (Err e) (inl h) = inl (cfa_moved (Err e) h)
+  frame_moved (Err e) (inr h) = inr (h.0, cfa_moved (Ok h.0) h.1, registers_moved h.0 (Err e) h.2)
+
+pub one_frame : OneFrame
+one_frame target s pc c policy limit answer other bytes accepted (inl v) (inl w) = v.0 ∙ sym w.0
+one_frame target s pc c policy limit answer other bytes accepted (inl v) (inr w) = absurd (apart target s pc w.0 w.1 v.1 w.2)
+one_frame target s pc c policy limit answer other bytes accepted (inr v) (inl w) = absurd (apart target s pc v.0 v.1 w.1 v.2)
+one_frame target s pc c policy limit answer other bytes accepted (inr v) (inr w) =
+    let register : w.0 ≡ v.0 = sym (one_returns target s pc v.0 w.0 v.1 w.1 accepted v.2 w.2) in
+    let row = one_rules target s bytes accepted pc v.1 w.1 v.2.rules w.2.rules in
+    let moved : FrameIs c limit policy w.1 v.0 other = subst (λ (n : ℕ). FrameIs c limit policy w.1 n other) register w.3 in
+    one_of_row c limit policy v.1 v.0 answer other v.3 (frame_moved c limit policy v.1 w.1 v.0 row other moved)

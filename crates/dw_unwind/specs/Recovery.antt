@@ -1,0 +1,33 @@
+-- What the parts of an unwinding answer, over a memory whose device may fail.
+use Rattle.std.specs.Prelude.{◌≡◌, ◌<◌, ℕ, suc, List, Option, Result, Ok, Err}
+use Rattle.std.specs.List.{AllByRecursion}
+use Rattle.dw_cfa.specs.Rows.{Rules}
+use Rattle.dw_eval.specs.declared.error.Kind.TheVariants as kinds
+use Rattle.dw_eval.specs.Context.{Context}
+use Rattle.dw_unwind.specs.declared.frame.Policy.{Policy}
+use Rattle.dw_unwind.specs.declared.frame.UnwindError.{UnwindError}
+use Rattle.dw_unwind.specs.declared.frame.UnwindError.TheVariants.{Eval, Device, OutOfMemory}
+use Rattle.dw_unwind.specs.Unwound.{Rise, Has, IsListed, IsEntry, RegistersAre}
+
+-- An answer between two counts of the device's failures. Where the count stays, it is want of memory or what P says; where the
+-- count grew, it is a failure of the device, as Fails says; nothing else is a failure of the device.
+abbrev pub Over : {A : Type 0} → (Result A UnwindError → Type 0) → (UnwindError → Type 0) → ℕ → Result A UnwindError → ℕ → Type 0
+Over P Fails before (Ok v) after = P (Ok v) × (after ≡ before)
+Over P Fails before (Err OutOfMemory) after = after ≡ before
+Over P Fails before (Err (Device column)) after = Fails (Device column) × (before < after)
+Over P Fails before (Err (Eval kinds.Device i column)) after = Fails (Eval kinds.Device i column) × (before < after)
+Over P Fails before (Err e) after = P (Err e) × (after ≡ before)
+
+-- on a machine that stopped, with a row and its return-address register
+module _ (c : Context) (limit : ℕ) (policy : Policy) (row : Rules) (return_register : ℕ) where
+  -- these are the listed registers below n
+  pub record SoFar (cfa n : ℕ) (entries : List (ℕ × Option ℕ)) : Type 0 where
+    pub rise : Rise 0 entries
+    pub below : AllByRecursion (λ entry. entry.0 < n) entries
+    pub each : AllByRecursion (IsEntry c limit policy row return_register cfa) entries
+    pub all : (r : ℕ) → r < n → IsListed c limit policy row return_register r → Has r entries
+
+  -- register n is added where it is listed, or has the first fault
+  abbrev pub Adds : ℕ → ℕ → List (ℕ × Option ℕ) → Result Unit UnwindError → Type 0
+  Adds cfa n entries (Ok u) = SoFar cfa (suc n) entries
+  Adds cfa n entries (Err e) = RegistersAre c limit policy row return_register cfa (Err e)

@@ -1,0 +1,123 @@
+-- One frame, unwound: DWARF 5, 6.4.1. The CFA comes first, then the listed registers, ascending; the first fault is answered.
+use Rattle.std.specs.Prelude.{◌≡◌, ◌⊎◌, ◌<◌, ◌≤◌, ◌==◌, ◌||◌, ℕ, suc, List, [], ◌∷◌, Bool, true, false, Option, None, is_some, Result, Ok, Err}
+use Rattle.std.specs.List.{AllByRecursion}
+use Rattle.dw_num.specs.declared.target.Target.{Target}
+use Rattle.dw_num.specs.Input.{AreBytes}
+use Rattle.dw_cfa.specs.Rows.{Rules, rule, is_specified}
+use Rattle.dw_eval.specs.declared.error.Kind.TheVariants as kinds
+use Rattle.dw_eval.specs.Context.{Context}
+use Rattle.dw_eval.specs.Registers.{held}
+use Rattle.dw_section.specs.declared.lookup.Fde.{Fde}
+use Rattle.dw_section.specs.Accepted.{Accepted}
+use Rattle.dw_section.specs.Meaning.{AreFdes, Covers, NoneCovers, RulesAt}
+use Rattle.dw_section.specs.Meanings.{IsListed as IsAmongFdes}
+use Rattle.dw_unwind.specs.declared.frame.Frame.{Frame}
+use Rattle.dw_unwind.specs.declared.frame.Policy.{Policy}
+use Rattle.dw_unwind.specs.declared.frame.UnwindError.{UnwindError}
+use Rattle.dw_unwind.specs.declared.frame.UnwindError.TheVariants.{NoFde, Eval, Device}
+use Rattle.dw_unwind.specs.Columns.{CfaIs, RegisterIs, CfaFails, RegisterFails}
+
+-- ---- the FDE
+
+-- an FDE of a section covers an address: its return-address register, and the rules there
+pub record IsCovered (target : Target) (s : List ℕ) (a return_register : ℕ) (row : Rules) : Type 0 where
+  pub fdes : List Fde
+  pub are : AreFdes target s fdes
+  pub fde : Fde
+  pub among : IsAmongFdes fde fdes
+  pub covers : Covers a fde
+  pub returns : return_register ≡ fde.return_register
+  pub rules : RulesAt target s a row
+
+-- none does
+abbrev pub IsUncovered : Target → List ℕ → ℕ → Type 0
+IsUncovered target s a = (fdes : List Fde) × AreFdes target s fdes × NoneCovers a fdes
+
+-- ---- the registers
+
+-- the machine holds a register, or the row specifies it, or it is the return-address register
+abbrev pub is_listed : (ℕ → Option ℕ) → Rules → ℕ → ℕ → Bool
+is_listed held row return_register r = is_some (held r) || (is_specified (rule row r) || (r == return_register))
+
+-- registers from `low` on, ascending
+abbrev pub Rise : ℕ → List (ℕ × Option ℕ) → Type 0
+Rise low [] = Unit {0}
+Rise low (entry ∷ rest) = (low ≤ entry.0) × Rise (suc entry.0) rest
+
+-- register r is among them
+abbrev pub Has : ℕ → List (ℕ × Option ℕ) → Type 0
+Has r [] = ⊥
+Has r (entry ∷ rest) = (entry.0 ≡ r) ⊎ Has r rest
+
+-- on a machine that stopped, with a row and its return-address register
+module _ (c : Context) (limit : ℕ) (policy : Policy) (row : Rules) (return_register : ℕ) where
+  abbrev pub IsListed : ℕ → Type 0
+  IsListed r = is_listed c.register row return_register r ≡ true
+
+  -- the value of register r, or its fault
+  abbrev pub Recovers : ℕ → ℕ → Result (Option ℕ) UnwindError → Type 0
+  Recovers cfa r answer = RegisterIs c limit policy cfa r (rule row r) answer
+
+  -- a listed register with its value
+  abbrev pub IsEntry : ℕ → ℕ × Option ℕ → Type 0
+  IsEntry cfa entry = IsListed entry.0 × Recovers cfa entry.0 (Ok entry.1)
+
+  -- these are the listed registers, ascending, each with its value
+  pub record AreRegisters (cfa : ℕ) (entries : List (ℕ × Option ℕ)) : Type 0 where
+    pub rise : Rise 0 entries
+    pub each : AllByRecursion (IsEntry cfa) entries
+    pub all : (r : ℕ) → IsListed r → Has r entries
+
+  -- register r is listed, and every listed one before it has a value
+  pub record Reached (cfa r : ℕ) : Type 0 where
+    pub listed : IsListed r
+    pub earlier : (q : ℕ) → q < r → IsListed q → (v : Option ℕ) × Recovers cfa q (Ok v)
+
+  -- the registers, or the first fault among them
+  abbrev pub RegistersAre : ℕ → Result (List (ℕ × Option ℕ)) UnwindError → Type 0
+  RegistersAre cfa (Ok entries) = AreRegisters cfa entries
+  RegistersAre cfa (Err e) = (r : ℕ) × Reached cfa r × Recovers cfa r (Err e)
+
+  -- the frame, or the first fault
+  abbrev pub FrameIs : Result Frame UnwindError → Type 0
+  FrameIs (Ok frame) =
+      CfaIs c limit row.cfa (Ok frame.cfa) × (frame.return_register ≡ return_register) × AreRegisters frame.cfa frame.registers
+  FrameIs (Err e) =
+      CfaIs c limit row.cfa (Err e) ⊎ ((cfa : ℕ) × CfaIs c limit row.cfa (Ok cfa) × RegistersAre cfa (Err e))
+
+  -- ---- where the device may fail, and what is answered then
+
+  abbrev pub RegistersFail : ℕ → UnwindError → Type 0
+  RegistersFail cfa e = (r : ℕ) × Reached cfa r × RegisterFails c limit cfa r (rule row r) e
+
+  abbrev pub FrameFails : UnwindError → Type 0
+  FrameFails e = CfaFails c limit row.cfa e ⊎ ((cfa : ℕ) × CfaIs c limit row.cfa (Ok cfa) × RegistersFail cfa e)
+
+-- ---- a section
+
+-- the machine of a target with these registers, over a memory of these bytes
+abbrev pub stopped : Target → List (Option ℕ) → (ℕ → Option ℕ) → Context
+stopped target registers byte =
+    record { target = target; register = held registers; byte = byte; frame_base = None; cfa = None; object = None }
+
+module _ (target : Target) (s : List ℕ) (pc : ℕ) (c : Context) (policy : Policy) (limit : ℕ) where
+  -- the caller's frame, or the first fault
+  abbrev pub Unwound : Result Frame UnwindError → Type 0
+  Unwound answer = ((answer ≡ Err NoFde) × IsUncovered target s pc)
+      ⊎ ((register : ℕ) × (row : Rules) × IsCovered target s pc register row × FrameIs c limit policy row register answer)
+
+  -- a column reads memory where the device may fail, and no column before it has a fault
+  abbrev pub UnwindFails : UnwindError → Type 0
+  UnwindFails e =
+      (register : ℕ) × (row : Rules) × IsCovered target s pc register row × FrameFails c limit policy row register e
+
+-- a failure of the device
+abbrev pub is_device : UnwindError → Bool
+is_device (Device column) = true
+is_device (Eval kinds.Device i column) = true
+is_device e = false
+
+-- a section gives one frame, or one fault
+abbrev pub OneFrame : Type 0
+OneFrame = (target : Target) (s : List ℕ) (pc : ℕ) (c : Context) (policy : Policy) (limit : ℕ) (answer other : Result Frame UnwindError)
+    → AreBytes s → Accepted target s → Unwound target s pc c policy limit answer → Unwound target s pc c policy limit other → answer ≡ other

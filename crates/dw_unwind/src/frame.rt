@@ -1,0 +1,113 @@
+//! One frame: what the rules at an address give for a machine that stopped there.
+
+ghost use Rattle.std.specs.Prelude.{◌≡◌};
+ghost use Rattle.dw_unwind.specs.declared.frame.UnwindError.TheVariants.{OutOfMemory};
+
+use dw_eval::Kind;
+use std::alloc::{AllocError, AllocFailed};
+use std::marker::Model;
+
+/// What a register is taken as that no instruction has set.
+#[derive(Clone, Copy, Debug, PartialEq, Eq)]
+pub enum Policy {
+    /// It has not been changed.
+    SameValue,
+    /// It has no recoverable value.
+    Undefined,
+}
+
+/// A column of a row: the canonical frame address, or a register.
+#[derive(Clone, Copy, Debug, PartialEq, Eq)]
+pub enum Column {
+    Cfa,
+    Register(u16),
+}
+
+/// Registers of the caller, ascending, each with its value, or None where it has none that can be recovered.
+#[derive(Debug, Drop)]
+pub struct FrameRegisters {
+    values: Vec<(u16, Option<u64>)>,
+}
+
+impl Model for FrameRegisters {
+    ghost use Rattle.std.specs.Prelude.{List, Option, ℕ};
+
+    ghost Value = { List (ℕ × Option ℕ) };
+
+    ghost view = { λ r. r.values.items };
+}
+
+impl FrameRegisters {
+    /// These registers. Takes no memory.
+    pub fn new(values: Vec<(u16, Option<u64>)>) -> FrameRegisters
+        ensures { result ≡ values.items }
+    {
+        FrameRegisters { values }
+    }
+
+    /// The registers in order with their values.
+    pub fn values(&self) -> &[(u16, Option<u64>)]
+        ensures { result.now ≡ self.now }
+    {
+        self.values.as_slice()
+    }
+
+    /// The same as a vector. Takes no memory.
+    pub fn into_values(self) -> Vec<(u16, Option<u64>)>
+        ensures { result.items ≡ self }
+    {
+        self.values
+    }
+}
+
+/// The caller's frame: the canonical frame address, the number of the register that holds the return address, and
+/// the registers that the machine gave, that the row specifies, or that holds the return address.
+#[derive(Debug, Drop)]
+pub struct Frame {
+    pub cfa: u64,
+    pub return_register: u16,
+    pub registers: FrameRegisters,
+}
+
+/// Why there is no frame, and the column that it comes from.
+#[derive(Clone, Copy, Debug, PartialEq, Eq)]
+pub enum UnwindError {
+    /// No FDE covers the address.
+    NoFde,
+    /// An expression has no value: its fault, and the operation's index.
+    Eval {
+        kind: Kind,
+        index: usize,
+        column: Column,
+    },
+    /// A byte of a saved register is missing, or its bytes pass 2^N.
+    Unreadable {
+        column: Column,
+    },
+    /// The memory's device failed while a saved register was read.
+    Device {
+        column: Column,
+    },
+    /// A register that is asked for holds nothing.
+    NoRegister {
+        column: Column,
+    },
+    /// A request for memory was refused.
+    OutOfMemory,
+}
+
+impl From<AllocError> for UnwindError {
+    ghost from_gives = { λ _ e. e ≡ OutOfMemory };
+
+    fn from(_e: AllocError) -> UnwindError {
+        UnwindError::OutOfMemory
+    }
+}
+
+impl<T: Drop> From<AllocFailed<T>> for UnwindError {
+    ghost from_gives = { λ _ e. e ≡ OutOfMemory };
+
+    fn from(_e: AllocFailed<T>) -> UnwindError {
+        UnwindError::OutOfMemory
+    }
+}

@@ -1,0 +1,195 @@
+//! What the columns of a row give for a machine that stopped (6.4.1).
+
+ghost use Rattle.std.specs.Prelude.{◌≡◌, ◌↔◌, ℕ, Option, ◌+◌, ◌-◌, ◌%◌, ◌^◌, ◌<◌, ◌≤◌, pos, ◌+ℤ◌, IsTrue, Some, None, Ok, Err, option_map, []};
+ghost use Rattle.dw_num.specs.Target.{address_limit, byte_count};
+ghost use Rattle.dw_op.specs.OpSpells.{modulo};
+ghost use Rattle.dw_cfa.specs.declared.rule.CfaRule.TheVariants.{Unset};
+ghost use Rattle.dw_eval.specs.Context.{context};
+ghost use Rattle.dw_eval.specs.Evaluation.{first_stack};
+ghost use Rattle.dw_section.specs.Laws.{CfaIsFor, RuleIsFor};
+ghost use Rattle.dw_unwind.specs.declared.frame.UnwindError.TheVariants.{NoRegister};
+ghost use Rattle.dw_unwind.specs.Recovery.{Over};
+ghost use Rattle.dw_unwind.specs.Columns.{in_column, recovered, defaulted, value_in, saved_at, ValueIs, CfaIs, SavedBy, RegisterIs, SavedFails, ValueFails, SavedByFails, CfaFails, RegisterFails};
+
+use crate::frame::{Column, Policy, UnwindError};
+use dw_cfa::{CfaRule, RegRule};
+use dw_eval::{Env, EvalError, Memory, ReadFault, evaluate, is_in_space, offset_by, reduced};
+use dw_op::ExprRef;
+use std::alloc::Global;
+
+/// A machine that stopped, what its unset registers are taken as, and how many steps an expression may take.
+#[derive(Clone, Copy)]
+pub(crate) struct Machine<'m> {
+    pub(crate) alloc: Global,
+    pub(crate) env: Env<'m>,
+    pub(crate) default: Policy,
+    pub(crate) steps: u64,
+}
+
+// An expression's answer, as that of a column.
+fn in_column(answer: Result<u64, EvalError>, column: Column) -> Result<u64, UnwindError>
+    ensures { result ≡ in_column column answer }
+{
+    match answer {
+        Ok(value) => Ok(value),
+        Err(EvalError::Fault { kind, index }) => Err(UnwindError::Eval {
+            kind,
+            index,
+            column,
+        }),
+        Err(EvalError::OutOfMemory) => Err(UnwindError::OutOfMemory),
+    }
+}
+
+// A register's value that can be recovered, or a fault.
+fn recovered(answer: Result<u64, UnwindError>) -> Result<Option<u64>, UnwindError>
+    ensures { result ≡ recovered answer }
+{
+    match answer {
+        Ok(value) => Ok(Some(value)),
+        Err(error) => Err(error),
+    }
+}
+
+impl<'m> Machine<'m> {
+    // What a register holds, modulo 2^N.
+    fn value_in(&self, register: u16) -> Option<u64>
+        ensures { (byte : ℕ → Option ℕ) → result ≡ value_in (context self.now.env byte) self.now.steps register }
+    {
+        match self.env.registers.get(register) {
+            Some(value) => Some(reduced(value, self.env.target.size)),
+            None => None,
+        }
+    }
+
+    // The address that memory holds at an address.
+    fn saved_at<M: Memory>(
+        &self,
+        address: u64,
+        column: Column,
+        memory: &mut M,
+    ) -> Result<u64, UnwindError>
+        requires room { M.failures memory.old < 2 ^ 64 - 1 }
+        ensures same { M.byte memory.new ≡ M.byte memory.old }
+        ensures so { let c = context self.now.env (M.byte memory.old) in Over (λ answer. answer ≡ saved_at c self.now.steps column address) (SavedFails c self.now.steps column address) (M.failures memory.old) result (M.failures memory.new) }
+    {
+        let target = self.env.target;
+        let len = usize::from(target.size.byte_count());
+        if !is_in_space(address, len, target.size) {
+            return Err(UnwindError::Unreadable { column });
+        }
+        match memory.read(address, len, target.order) {
+            Ok(value) => Ok(value),
+            Err(ReadFault::Unreadable) => Err(UnwindError::Unreadable { column }),
+            Err(ReadFault::Device) => Err(UnwindError::Device { column }),
+        }
+    }
+
+    // The value of an expression, whose stack holds a value at the start or is empty.
+    fn value<M: Memory>(
+        &self,
+        expression: &ExprRef<'_>,
+        start: Option<u64>,
+        column: Column,
+        memory: &mut M,
+    ) -> Result<u64, UnwindError>
+        requires target { expression.now.target ≡ self.now.env.target }
+        requires room { M.failures memory.old < 2 ^ 64 - 1 }
+        ensures same { M.byte memory.new ≡ M.byte memory.old }
+        ensures so { let c = context self.now.env (M.byte memory.old) in Over (ValueIs c self.now.steps column expression.now (first_stack c.target.size start)) (ValueFails c self.now.steps column (first_stack c.target.size start) expression.now) (M.failures memory.old) result (M.failures memory.new) }
+    {
+        let list = expression.ops(self.alloc)?;
+        let answer = evaluate(self.alloc, &list, start, &self.env, memory, self.steps);
+        in_column(answer, column)
+    }
+
+    /// The CFA by its rule.
+    pub(crate) fn cfa<M: Memory>(
+        &self,
+        rule: &CfaRule<'_>,
+        memory: &mut M,
+    ) -> Result<u64, UnwindError>
+        requires set { rule.now ≡ Unset → ⊥ }
+        requires target { CfaIsFor self.now.env.target rule.now }
+        requires room { M.failures memory.old < 2 ^ 64 - 1 }
+        ensures same { M.byte memory.new ≡ M.byte memory.old }
+        ensures so { let c = context self.now.env (M.byte memory.old) in Over (CfaIs c self.now.steps rule.now) (CfaFails c self.now.steps rule.now) (M.failures memory.old) result (M.failures memory.new) }
+    {
+        match rule {
+            CfaRule::Unset => unreachable!(),
+            CfaRule::Register { register, offset } => {
+                match self.env.registers.get(*register) {
+                    Some(value) => Ok(offset_by(value, *offset, self.env.target.size)),
+                    None => Err(UnwindError::NoRegister {
+                        column: Column::Cfa,
+                    }),
+                }
+            }
+            CfaRule::Expression(expression) => self.value(expression, None, Column::Cfa, memory),
+        }
+    }
+
+    // What a register that no instruction has set was before.
+    fn defaulted(&self, register: u16) -> Option<u64>
+        ensures { (byte : ℕ → Option ℕ) → result ≡ defaulted self.now.default (value_in (context self.now.env byte) self.now.steps register) }
+    {
+        match self.default {
+            Policy::SameValue => self.value_in(register),
+            Policy::Undefined => None,
+        }
+    }
+
+    // The address that memory holds where an expression says.
+    fn saved_by<M: Memory>(
+        &self,
+        expression: &ExprRef<'_>,
+        cfa: u64,
+        column: Column,
+        memory: &mut M,
+    ) -> Result<u64, UnwindError>
+        requires target { expression.now.target ≡ self.now.env.target }
+        requires room { M.failures memory.old < 2 ^ 64 - 1 }
+        ensures same { M.byte memory.new ≡ M.byte memory.old }
+        ensures so { let c = context self.now.env (M.byte memory.old) in Over (SavedBy c self.now.steps column cfa expression.now) (SavedByFails c self.now.steps column cfa expression.now) (M.failures memory.old) result (M.failures memory.new) }
+    {
+        let address = self.value(expression, Some(cfa), column, memory)?;
+        self.saved_at(address, column, memory)
+    }
+
+    /// A register of the caller by its rule, None where it has no value that can be recovered.
+    pub(crate) fn register<M: Memory>(
+        &self,
+        register: u16,
+        rule: &RegRule<'_>,
+        cfa: u64,
+        memory: &mut M,
+    ) -> Result<Option<u64>, UnwindError>
+        requires target { RuleIsFor self.now.env.target rule.now }
+        requires room { M.failures memory.old < 2 ^ 64 - 1 }
+        ensures same { M.byte memory.new ≡ M.byte memory.old }
+        ensures so { let c = context self.now.env (M.byte memory.old) in Over (RegisterIs c self.now.steps self.now.default cfa register rule.now) (RegisterFails c self.now.steps cfa register rule.now) (M.failures memory.old) result (M.failures memory.new) }
+    {
+        let column = Column::Register(register);
+        let size = self.env.target.size;
+        match rule {
+            RegRule::Unspecified => Ok(self.defaulted(register)),
+            RegRule::Undefined => Ok(None),
+            RegRule::SameValue => Ok(self.value_in(register)),
+            RegRule::Offset(offset) => {
+                let address = offset_by(cfa, *offset, size);
+                recovered(self.saved_at(address, column, memory))
+            }
+            RegRule::ValOffset(offset) => Ok(Some(offset_by(cfa, *offset, size))),
+            RegRule::Register(other) => match self.value_in(*other) {
+                Some(value) => Ok(Some(value)),
+                None => Err(UnwindError::NoRegister { column }),
+            },
+            RegRule::Expression(expression) => {
+                recovered(self.saved_by(expression, cfa, column, memory))
+            }
+            RegRule::ValExpression(expression) => {
+                recovered(self.value(expression, Some(cfa), column, memory))
+            }
+        }
+    }
+}
