@@ -83,6 +83,16 @@ def far_branches(scale):
     return CIE + fde(b"\x16\x03" + block(b"\x30" + b"".join(branches)))
 
 
+def near_branches(scale):
+    """15,000 branches that each go back to just before themselves."""
+    return CIE + fde(b"\x0f" + block(b"\x30" + b"\x30\x28\xfc\xff" * scale(15_000)))
+
+
+def forward_branches(scale):
+    """24,000 branches that each go 28,672 bytes forward."""
+    return CIE + fde(b"\x0f" + block(b"\x30" + b"\x30\x28\x00\x70" * scale(24_000) + b"\x96" * 40_000))
+
+
 def rows_of_expressions(scale):
     """500 registers of 51 operations each, and then 2,000 rows."""
     expression = block(b"\x70\x00" * 50 + b"\x96")
@@ -101,6 +111,8 @@ BOMBS = [
     padded_number,
     long_expression,
     far_branches,
+    near_branches,
+    forward_branches,
     rows_of_expressions,
 ]
 

@@ -4,7 +4,7 @@
     backtrace.py [--size 4|8] [--order little|big] [--stack-pointer N] SECTION DUMP
 
 SECTION is the program's .debug_frame and DUMP what the stopped machine held. Prints `#<n> 0x<pc>` for each frame from
-the innermost one on, and ends behind the first one whose pc no FDE of the section covers.
+the innermost one on, and ends after the first one whose pc no FDE of the section covers. The variable DWFRAME may name the program.
 
 The table gives one caller's registers. How one frame leads to the next is the caller's knowledge of the ABI, and stands
 here: the caller's stack pointer, register N (7 for x86-64, 31 for AArch64), is the CFA; its pc is the return address;
@@ -12,12 +12,13 @@ registers that no rule names are unchanged, which holds of those that a callee h
 up is the return address minus one, which is in the call: a call that never returns may end its function.
 """
 import argparse
+import os
 import pathlib
 import subprocess
 import sys
 import tempfile
 
-DWFRAME = pathlib.Path(__file__).resolve().parent.parent / "dwframe"
+DWFRAME = os.environ.get("DWFRAME", pathlib.Path(__file__).resolve().parent.parent / "dwframe")
 
 
 def read_dump(text):

@@ -1,5 +1,6 @@
 //! The instructions that a program's bytes spell, with their factors multiplied out, and the first fault.
 
+use crate::lines::{compare, parts};
 use crate::programs::program;
 use crate::targets::{BIG, LITTLE, PLAIN};
 use crate::texts::{cfa_text, refusal_text, register_text};
@@ -44,178 +45,112 @@ fn shown(alloc: Global, bytes: &[u8], factors: Factors, target: Target) -> Resul
     Ok(text)
 }
 
-const CODES: [(&[u8], &str); 26] = [
-    (b"", ""),
-    (b"\x0c\x07\x08\x90\x01\0\0", "cfa=r7+8;r16=[cfa-8];nop;nop;"),
-    (
-        b"\x12\x07\x02\x13\x7f\x0e\x10\x0d\x06",
-        "cfa=r7-16;cfa 8;cfa 16;cfa r6;",
-    ),
-    (
-        b"\x86\x02\x05\x80\x01\x02\x11\x41\x7f",
-        "r6=[cfa-16];r128=[cfa-16];r65=[cfa+8];",
-    ),
-    (b"\x14\x06\x02\x15\x06\x7e", "r6=cfa-16;r6=cfa+16;"),
-    (b"\x07\x06\x08\x06\x09\x06\x07", "r6=u;r6=s;r6=r7;"),
-    (
-        b"\x0f\x03\x77\x08\x06\x10\x06\x00",
-        "cfa=expr Breg(7, 8) Deref;r6=[expr];",
-    ),
-    (b"\x16\x06\x04\x92\x07\x08\x06", "r6=expr Breg(7, 8) Deref;"),
-    (
-        b"\x0a\x0b\xc3\x06\x81\x01",
-        "remember;restore;restore r3;restore r129;",
-    ),
-    (b"\x01\x00\x10\0\0\0\0\0\0", "set 0x1000;"),
-    (
-        b"\x40\x7f\x02\xff\x03\x34\x12\x04\xff\xff\xff\xff",
-        "advance 0;advance 63;advance 255;advance 4660;advance 4294967295;",
-    ),
-    // The first fault, behind the instructions before it.
-    (b"\0\x17", "nop;UnknownInstruction at 0x31;"),
-    (b"\x2e\x10\0", "UnknownInstruction at 0x30;"),
-    (b"\0\x09\x06\x80\x80\x04", "nop;RegisterTooLarge at 0x33;"),
-    (
-        b"\x0c\x80\x80\x04\x80\x80\x80\x80\x80\x80\x80\x80\x80\x01",
-        "RegisterTooLarge at 0x31;",
-    ),
-    (b"\x03\x01", "Truncated at 0x31;"),
-    (b"\x01\0\0\0\0\0\0\0", "Truncated at 0x31;"),
-    (b"\x05\x06\x80", "Truncated at 0x32;"),
-    (
-        b"\x0e\xff\xff\xff\xff\xff\xff\xff\xff\xff\x7f",
-        "NumberTooLarge at 0x31;",
-    ),
-    (b"\x0f\x20\x96", "Truncated at 0x32;"),
-    (
-        b"\x0f\xff\xff\xff\xff\xff\xff\xff\xff\xff\x01\x96",
-        "Truncated at 0x3b;",
-    ),
-    (b"\x0f\x01\x08\0\0\0", "Truncated at 0x33;"),
-    (b"\x10\x06\x01\x9f", "NotInFrame at 0x33;"),
-    (b"\x0f\x04\x2f\x05\0\x18", "UnknownOperation at 0x35;"),
-    (b"\x0f\x06\x2f\0\0\x2f\x06\0", "BadBranch at 0x35;"),
-    (b"\x0f\x02\x94\x09", "BadDerefSize at 0x33;"),
-];
+// Programs, and their instructions.
+const CODES: &str = "\
+: 
+0c070890010000: cfa=r7+8;r16=[cfa-8];nop;nop;
+120702137f0e100d06: cfa=r7-16;cfa 8;cfa 16;cfa r6;
+86020580010211417f: r6=[cfa-16];r128=[cfa-16];r65=[cfa+8];
+14060215067e: r6=cfa-16;r6=cfa+16;
+07060806090607: r6=u;r6=s;r6=r7;
+0f03770806100600: cfa=expr Breg(7, 8) Deref;r6=[expr];
+16060492070806: r6=expr Breg(7, 8) Deref;
+0a0bc3068101: remember;restore;restore r3;restore r129;
+010010000000000000: set 0x1000;
+407f02ff03341204ffffffff: advance 0;advance 63;advance 255;advance 4660;advance 4294967295;";
+
+// The first fault, behind the instructions before it.
+const FAULTS: &str = "\
+0017: nop;UnknownInstruction at 0x31;
+2e1000: UnknownInstruction at 0x30;
+000906808004: nop;RegisterTooLarge at 0x33;
+0c80800480808080808080808001: RegisterTooLarge at 0x31;
+0301: Truncated at 0x31;
+0100000000000000: Truncated at 0x31;
+050680: Truncated at 0x32;
+0effffffffffffffffff7f: NumberTooLarge at 0x31;
+0f2096: Truncated at 0x32;
+0fffffffffffffffffff0196: Truncated at 0x3b;
+0f0108000000: Truncated at 0x33;
+1006019f: NotInFrame at 0x33;
+0f042f050018: UnknownOperation at 0x35;
+0f062f00002f0600: BadBranch at 0x35;
+0f029409: BadDerefSize at 0x33;";
+
+// Code and data factors, by the limits of what they give.
+const PRODUCTS: &str = "\
+4 -1 407f02ff: advance 0;advance 252;advance 1020;
+18446744073709551615 1 04ffffffff: advance 79228162495817593515539431425;
+0 0 04ffffffff: advance 0;
+1 0 86ffffffffffffffffff01: r6=[cfa+0];
+1 0 0c0710: cfa=r7+16;
+1 -8 0effffffffffffffff7f: cfa 9223372036854775807;
+1 0 0e80808080808080808001: OffsetTooLarge at 0x30;
+1 1 11068080808080808080807f: OffsetTooLarge at 0x30;
+1 -1 11068080808080808080807f: OffsetTooLarge at 0x30;
+1 -1 86ffffffffffffffff7f: r6=[cfa-9223372036854775807];
+1 -1 8680808080808080808001: OffsetTooLarge at 0x30;
+1 -1 15068180808080808080807f: r6=cfa+9223372036854775807;
+1 -8 13ffffffffffffffff0f: cfa -9223372036854775800;
+1 -8 13808080808080808010: OffsetTooLarge at 0x30;
+1 4294967296 86ffffffff07: r6=[cfa+9223372032559808512];
+1 4294967296 05068080808010: OffsetTooLarge at 0x30;
+1 9223372036854775807 140601: r6=cfa+9223372036854775807;
+1 9223372036854775807 120702: OffsetTooLarge at 0x30;
+1 -9223372036854775808 86008601: r6=[cfa+0];OffsetTooLarge at 0x32;";
+
+// Fails where the instructions of a program are not what is wanted.
+fn agree(
+    alloc: Global,
+    line: &str,
+    code: &str,
+    factors: Factors,
+    target: Target,
+    wanted: &str,
+) -> Result<(), Fail> {
+    let bytes = hex::decode(alloc, code)?;
+    compare(
+        line,
+        shown(alloc, &bytes, factors, target)?.as_str(),
+        wanted,
+    )
+}
+
+fn agree_plain(alloc: Global, line: &str, target: Target) -> Result<(), Fail> {
+    let (code, wanted) = parts(line)?;
+    agree(alloc, line, code, PLAIN, target, wanted)
+}
+
+fn agree_product(alloc: Global, line: &str) -> Result<(), Fail> {
+    let (asked, wanted) = parts(line)?;
+    let (code_factor, asked) = asked.split_once(' ').ok_or("a factor")?;
+    let (data_factor, code) = asked.split_once(' ').ok_or("a factor")?;
+    let factors = Factors {
+        code_factor: code_factor.parse()?,
+        data_factor: data_factor.parse()?,
+    };
+    agree(alloc, line, code, factors, LITTLE, wanted)
+}
 
 #[test]
 fn spells_each_code(rt: HostRuntime) -> Result<(), Fail> {
-    for (bytes, wanted) in CODES {
-        let text = shown(rt.alloc(), bytes, PLAIN, LITTLE)?;
-        assert_eq!(rt; text.as_str(), wanted);
+    for line in CODES.lines() {
+        agree_plain(rt.alloc(), line, LITTLE)?;
     }
-    let text = shown(rt.alloc(), b"\x01\0\0\x10\0\x03\x12\x34", PLAIN, BIG)?;
-    assert_eq!(rt; text.as_str(), "set 0x1000;advance 4660;");
-    Ok(())
+    for line in FAULTS.lines() {
+        agree_plain(rt.alloc(), line, LITTLE)?;
+    }
+    agree_plain(
+        rt.alloc(),
+        "0100001000031234: set 0x1000;advance 4660;",
+        BIG,
+    )
 }
-
-// Code and data factors, by the limits of what they give.
-const PRODUCTS: [(u64, i64, &[u8], &str); 19] = [
-    (
-        4,
-        -1,
-        b"\x40\x7f\x02\xff",
-        "advance 0;advance 252;advance 1020;",
-    ),
-    (
-        u64::MAX,
-        1,
-        b"\x04\xff\xff\xff\xff",
-        "advance 79228162495817593515539431425;",
-    ),
-    (0, 0, b"\x04\xff\xff\xff\xff", "advance 0;"),
-    (
-        1,
-        0,
-        b"\x86\xff\xff\xff\xff\xff\xff\xff\xff\xff\x01",
-        "r6=[cfa+0];",
-    ),
-    (1, 0, b"\x0c\x07\x10", "cfa=r7+16;"),
-    (
-        1,
-        -8,
-        b"\x0e\xff\xff\xff\xff\xff\xff\xff\xff\x7f",
-        "cfa 9223372036854775807;",
-    ),
-    (
-        1,
-        0,
-        b"\x0e\x80\x80\x80\x80\x80\x80\x80\x80\x80\x01",
-        "OffsetTooLarge at 0x30;",
-    ),
-    (
-        1,
-        1,
-        b"\x11\x06\x80\x80\x80\x80\x80\x80\x80\x80\x80\x7f",
-        "OffsetTooLarge at 0x30;",
-    ),
-    (
-        1,
-        -1,
-        b"\x11\x06\x80\x80\x80\x80\x80\x80\x80\x80\x80\x7f",
-        "OffsetTooLarge at 0x30;",
-    ),
-    (
-        1,
-        -1,
-        b"\x86\xff\xff\xff\xff\xff\xff\xff\xff\x7f",
-        "r6=[cfa-9223372036854775807];",
-    ),
-    (
-        1,
-        -1,
-        b"\x86\x80\x80\x80\x80\x80\x80\x80\x80\x80\x01",
-        "OffsetTooLarge at 0x30;",
-    ),
-    (
-        1,
-        -1,
-        b"\x15\x06\x81\x80\x80\x80\x80\x80\x80\x80\x80\x7f",
-        "r6=cfa+9223372036854775807;",
-    ),
-    (
-        1,
-        -8,
-        b"\x13\xff\xff\xff\xff\xff\xff\xff\xff\x0f",
-        "cfa -9223372036854775800;",
-    ),
-    (
-        1,
-        -8,
-        b"\x13\x80\x80\x80\x80\x80\x80\x80\x80\x10",
-        "OffsetTooLarge at 0x30;",
-    ),
-    (
-        1,
-        0x1_0000_0000,
-        b"\x86\xff\xff\xff\xff\x07",
-        "r6=[cfa+9223372032559808512];",
-    ),
-    (
-        1,
-        0x1_0000_0000,
-        b"\x05\x06\x80\x80\x80\x80\x10",
-        "OffsetTooLarge at 0x30;",
-    ),
-    (1, i64::MAX, b"\x14\x06\x01", "r6=cfa+9223372036854775807;"),
-    (1, i64::MAX, b"\x12\x07\x02", "OffsetTooLarge at 0x30;"),
-    (
-        1,
-        i64::MIN,
-        b"\x86\x00\x86\x01",
-        "r6=[cfa+0];OffsetTooLarge at 0x32;",
-    ),
-];
 
 #[test]
 fn multiplies_by_factors(rt: HostRuntime) -> Result<(), Fail> {
-    for (code_factor, data_factor, bytes, wanted) in PRODUCTS {
-        let factors = Factors {
-            code_factor,
-            data_factor,
-        };
-        let text = shown(rt.alloc(), bytes, factors, LITTLE)?;
-        assert_eq!(rt; text.as_str(), wanted);
+    for line in PRODUCTS.lines() {
+        agree_product(rt.alloc(), line)?;
     }
     Ok(())
 }

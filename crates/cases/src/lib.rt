@@ -8,6 +8,8 @@ mod changes;
 #[cfg(test)]
 mod instructions;
 #[cfg(test)]
+mod lines;
+#[cfg(test)]
 mod programs;
 #[cfg(test)]
 mod sections;

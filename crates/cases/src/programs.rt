@@ -3,9 +3,10 @@
 ghost use Rattle.std.specs.Prelude.{◌<◌};
 ghost use Rattle.dw_num.specs.Target.{address_limit};
 
-use crate::targets::{BIG, FOURS, LITTLE, PLAIN, SHORT};
+use crate::lines::{compare, number, parts, sides};
+use crate::targets::{BIG, LITTLE, PLAIN, SHORT};
 use crate::texts::{located_text, refusal_text, row_text};
-use dw_cfa::{CfaRule, CieMachine, Factors, RowSteps, RunError, initial_row, run};
+use dw_cfa::{CieMachine, Factors, LocatedRow, Row, RowSteps, RunError, initial_row, run};
 use dw_num::{Program, Target};
 use std::alloc::Global;
 use std::test::Fail;
@@ -61,17 +62,19 @@ fn error_text(alloc: Global, error: RunError) -> Result<String, Fail> {
 
 // ---- three ways to the rows
 
+fn rows_text(alloc: Global, rows: &[LocatedRow<'_>]) -> Result<String, Fail> {
+    let mut text = String::new(alloc);
+    for row in rows {
+        text.push_str(&located_text(alloc, row.location, &row.row)?)?;
+    }
+    Ok(text)
+}
+
 // All rows, or the refusal alone.
 fn at_once(alloc: Global, pair: Pair<'_>) -> Result<String, Fail> {
     let Pair { cie, fde, .. } = pair;
     match run(alloc, cie, fde, pair.begin, pair.factors, pair.target) {
-        Ok(rows) => {
-            let mut text = String::new(alloc);
-            for row in &rows {
-                text.push_str(&located_text(alloc, row.location, &row.row)?)?;
-            }
-            Ok(text)
-        }
+        Ok(rows) => rows_text(alloc, rows.as_slice()),
         Err(error) => error_text(alloc, error),
     }
 }
@@ -146,131 +149,152 @@ pub fn shown(alloc: Global, pair: Pair<'_>) -> Result<String, Fail> {
     Ok(text)
 }
 
-// ---- FDEs from 0x1000 on, behind the plain CIE
+// ---- programs, by lines
 
-const ROWS: [(&[u8], &str); 29] = [
-    (b"", "0x1000 cfa=r7+8 r16=[cfa-8];"),
-    (
-        b"\x41\x0e\x10\x86\x02\x43\x0d\x06\x4b\x0c\x07\x08\0\0\0\0",
-        "0x1000 cfa=r7+8 r16=[cfa-8];0x1001 cfa=r7+16 r6=[cfa-16] r16=[cfa-8];0x1004 cfa=r6+16 r6=[cfa-16] r16=[cfa-8];0x100f cfa=r7+8 r6=[cfa-16] r16=[cfa-8];",
-    ),
-    (
-        b"\x83\x03\x44\xc3",
-        "0x1000 cfa=r7+8 r3=[cfa-24] r16=[cfa-8];0x1004 cfa=r7+8 r16=[cfa-8];",
-    ),
-    (
-        b"\x83\x03\x44\x07\x03",
-        "0x1000 cfa=r7+8 r3=[cfa-24] r16=[cfa-8];0x1004 cfa=r7+8 r3=u r16=[cfa-8];",
-    ),
-    (
-        b"\x41\x07\x10\x44\xd0",
-        "0x1000 cfa=r7+8 r16=[cfa-8];0x1001 cfa=r7+8 r16=u;0x1005 cfa=r7+8 r16=[cfa-8];",
-    ),
-    (
-        b"\x50\x0e\x10",
-        "0x1000 cfa=r7+8 r16=[cfa-8];0x1010 cfa=r7+16 r16=[cfa-8];",
-    ),
-    (
-        b"\x86\x02\x40\x86\x03",
-        "0x1000 cfa=r7+8 r6=[cfa-16] r16=[cfa-8];0x1000 cfa=r7+8 r6=[cfa-24] r16=[cfa-8];",
-    ),
-    (
-        b"\x01\0\x10\0\0\0\0\0\0\x86\x02",
-        "0x1000 cfa=r7+8 r16=[cfa-8];0x1000 cfa=r7+8 r6=[cfa-16] r16=[cfa-8];",
-    ),
-    (
-        b"\x0a\x41\x0e\x10\x86\x02\x44\x0b",
-        "0x1000 cfa=r7+8 r16=[cfa-8];0x1001 cfa=r7+16 r6=[cfa-16] r16=[cfa-8];0x1005 cfa=r7+8 r16=[cfa-8];",
-    ),
-    (
-        b"\x41\x0e\x10\x86\x02\x44\x0e\x08\xc6",
-        "0x1000 cfa=r7+8 r16=[cfa-8];0x1001 cfa=r7+16 r6=[cfa-16] r16=[cfa-8];0x1005 cfa=r7+8 r16=[cfa-8];",
-    ),
-    (
-        b"\x86\x02\x0a\x86\x03\x0a\x86\x04\x0b\x44\x0b",
-        "0x1000 cfa=r7+8 r6=[cfa-24] r16=[cfa-8];0x1004 cfa=r7+8 r6=[cfa-16] r16=[cfa-8];",
-    ),
-    (
-        b"\x0a\x0f\0\x44\x0b",
-        "0x1000 cfa=expr r16=[cfa-8];0x1004 cfa=r7+8 r16=[cfa-8];",
-    ),
-    (
-        b"\x09\x06\x03\x14\x03\x01\x16\x05\x02\x23\x01\x07\x10",
-        "0x1000 cfa=r7+8 r3=cfa-8 r5=expr PlusUconst(1) r6=r3 r16=u;",
-    ),
-    (
-        b"\x07\xff\xff\x03\x08\0\x10\x06\x01\x3c",
-        "0x1000 cfa=r7+8 r0=s r6=[expr Const(12)] r16=[cfa-8] r65535=u;",
-    ),
-    (
-        b"\x0f\x04\x92\x07\x08\x06",
-        "0x1000 cfa=expr Breg(7, 8) Deref r16=[cfa-8];",
-    ),
-    (b"\x12\x07\x7e", "0x1000 cfa=r7+16 r16=[cfa-8];"),
-    (b"\x13\x0f", "0x1000 cfa=r7-120 r16=[cfa-8];"),
-    // The first refusal, and the rows before it.
-    (b"\x01\xff\x0f\0\0\0\0\0\0", "LocationBackwards at 0x30"),
-    (
-        b"\x44\x01\x03\x10\0\0\0\0\0\0",
-        "0x1000 cfa=r7+8 r16=[cfa-8];LocationBackwards at 0x31",
-    ),
-    (b"\x0b\x02", "EmptyStateStack at 0x30"),
-    (
-        b"\x41\x0e\x10\x44\x0b",
-        "0x1000 cfa=r7+8 r16=[cfa-8];0x1001 cfa=r7+16 r16=[cfa-8];EmptyStateStack at 0x34",
-    ),
-    (b"\x0f\0\x0d\x06", "CfaNotRegister at 0x32"),
-    (b"\x0f\0\x0e\x10\x2e", "CfaNotRegister at 0x32"),
-    (b"\x0f\0\x2e\x0e\x10", "UnknownInstruction at 0x32"),
-    (b"\x0f\0\x13\x7f", "CfaNotRegister at 0x32"),
-    // Operands come before these, and offsets too.
-    (b"\x0f\0\x0d\x80\x80\x04", "RegisterTooLarge at 0x33"),
-    (b"\x0f\0\x0e", "Truncated at 0x33"),
-    (
-        b"\x0f\0\x0e\x80\x80\x80\x80\x80\x80\x80\x80\x80\x01",
-        "OffsetTooLarge at 0x32",
-    ),
-    (b"\x2e\x10", "UnknownInstruction at 0x30"),
-];
+// Two programs, and what they are run in.
+#[derive(Drop)]
+struct Case {
+    cie: Vec<u8>,
+    fde: Vec<u8>,
+    begin: u64,
+    factors: Factors,
+    target: Target,
+}
 
-#[test]
-fn gives_rows(rt: HostRuntime) -> Result<(), Fail> {
-    for (fde, wanted) in ROWS {
-        let text = shown(rt.alloc(), pair_of(CIE, fde, 0x1000, PLAIN, LITTLE)?)?;
-        assert_eq!(rt; text.as_str(), wanted);
+impl Case {
+    // Takes a word, such as `begin=1000`.
+    fn take(&mut self, alloc: Global, word: &str) -> Result<(), Fail> {
+        let (name, value) = sides(word)?;
+        match name {
+            "cie" => self.cie = hex::decode(alloc, value)?,
+            "fde" => self.fde = hex::decode(alloc, value)?,
+            "begin" => self.begin = number(value)?,
+            "code" => self.factors.code_factor = value.parse()?,
+            "data" => self.factors.data_factor = value.parse()?,
+            "little" => self.target = SHORT,
+            "big" => self.target = BIG,
+            _ => return Err(Fail::new("an unknown word")),
+        }
+        Ok(())
+    }
+}
+
+// What words tell: without any, the plain CIE and an FDE without instructions from 0x1000 on.
+fn case_of(alloc: Global, words: &str) -> Result<Case, Fail> {
+    let mut case = Case {
+        cie: Vec::from_slice(alloc, CIE)?,
+        fde: Vec::new(alloc),
+        begin: 0x1000,
+        factors: PLAIN,
+        target: LITTLE,
+    };
+    for word in words.split_whitespace() {
+        case.take(alloc, word)?;
+    }
+    Ok(case)
+}
+
+// Fails where the rows are not what a line says.
+fn agree(alloc: Global, line: &str) -> Result<(), Fail> {
+    let (words, wanted) = parts(line)?;
+    let case = case_of(alloc, words)?;
+    let pair = pair_of(&case.cie, &case.fde, case.begin, case.factors, case.target)?;
+    let text = shown(alloc, pair)?;
+    compare(line, text.as_str(), wanted)
+}
+
+fn agree_all(alloc: Global, lines: &str) -> Result<(), Fail> {
+    for line in lines.lines() {
+        agree(alloc, line)?;
     }
     Ok(())
 }
 
-// ---- programs of CIEs, before an FDE's program that is at fault too
+// FDEs behind the plain CIE.
+const ROWS: &str = "\
+fde=: 0x1000 cfa=r7+8 r16=[cfa-8];
+fde=410e108602430d064b0c070800000000: 0x1000 cfa=r7+8 r16=[cfa-8];0x1001 cfa=r7+16 r6=[cfa-16] r16=[cfa-8];0x1004 cfa=r6+16 r6=[cfa-16] r16=[cfa-8];0x100f cfa=r7+8 r6=[cfa-16] r16=[cfa-8];
+fde=830344c3: 0x1000 cfa=r7+8 r3=[cfa-24] r16=[cfa-8];0x1004 cfa=r7+8 r16=[cfa-8];
+fde=8303440703: 0x1000 cfa=r7+8 r3=[cfa-24] r16=[cfa-8];0x1004 cfa=r7+8 r3=u r16=[cfa-8];
+fde=41071044d0: 0x1000 cfa=r7+8 r16=[cfa-8];0x1001 cfa=r7+8 r16=u;0x1005 cfa=r7+8 r16=[cfa-8];
+fde=500e10: 0x1000 cfa=r7+8 r16=[cfa-8];0x1010 cfa=r7+16 r16=[cfa-8];
+fde=8602408603: 0x1000 cfa=r7+8 r6=[cfa-16] r16=[cfa-8];0x1000 cfa=r7+8 r6=[cfa-24] r16=[cfa-8];
+fde=0100100000000000008602: 0x1000 cfa=r7+8 r16=[cfa-8];0x1000 cfa=r7+8 r6=[cfa-16] r16=[cfa-8];
+fde=0a410e108602440b: 0x1000 cfa=r7+8 r16=[cfa-8];0x1001 cfa=r7+16 r6=[cfa-16] r16=[cfa-8];0x1005 cfa=r7+8 r16=[cfa-8];
+fde=410e108602440e08c6: 0x1000 cfa=r7+8 r16=[cfa-8];0x1001 cfa=r7+16 r6=[cfa-16] r16=[cfa-8];0x1005 cfa=r7+8 r16=[cfa-8];
+fde=86020a86030a86040b440b: 0x1000 cfa=r7+8 r6=[cfa-24] r16=[cfa-8];0x1004 cfa=r7+8 r6=[cfa-16] r16=[cfa-8];
+fde=0a0f00440b: 0x1000 cfa=expr r16=[cfa-8];0x1004 cfa=r7+8 r16=[cfa-8];
+fde=09060314030116050223010710: 0x1000 cfa=r7+8 r3=cfa-8 r5=expr PlusUconst(1) r6=r3 r16=u;
+fde=07ffff0308001006013c: 0x1000 cfa=r7+8 r0=s r6=[expr Const(12)] r16=[cfa-8] r65535=u;
+fde=0f0492070806: 0x1000 cfa=expr Breg(7, 8) Deref r16=[cfa-8];
+fde=12077e: 0x1000 cfa=r7+16 r16=[cfa-8];
+fde=130f: 0x1000 cfa=r7-120 r16=[cfa-8];";
 
-const INITIAL: [(&[u8], &str); 17] = [
-    (b"\x01\0\x10\0\0\0\0\0\0", "NotInCie at 0xf"),
-    (b"\x02\x01", "NotInCie at 0xf"),
-    (b"\x03\x01\0", "NotInCie at 0xf"),
-    (b"\x04\x01\0\0\0", "NotInCie at 0xf"),
-    (b"\x06\x03", "NotInCie at 0xf"),
-    (b"\x0a", "NotInCie at 0xf"),
-    (b"\x0b", "NotInCie at 0xf"),
-    (b"\x40", "NotInCie at 0xf"),
-    (b"\xc3", "NotInCie at 0xf"),
-    (b"\x06\x80\x80\x04", "RegisterTooLarge at 0x10"),
-    (b"\x02", "Truncated at 0x10"),
-    (b"\x0d\x07", "CfaNotRegister at 0xf"),
-    (b"\x13\x02", "CfaNotRegister at 0xf"),
-    (b"\x0f\0\x0e\x10", "CfaNotRegister at 0x11"),
-    (b"\x0e\x10\x41", "CfaNotRegister at 0xf"),
-    (b"\x41\x0e\x10", "NotInCie at 0xf"),
-    (b"\x0c\x07\x08", "UnknownInstruction at 0x30"),
-];
+// The first refusal, and the rows before it. Operands come before what is wrong of a rule, and offsets too.
+const REFUSED: &str = "\
+fde=01ff0f000000000000: LocationBackwards at 0x30
+fde=44010310000000000000: 0x1000 cfa=r7+8 r16=[cfa-8];LocationBackwards at 0x31
+fde=0b02: EmptyStateStack at 0x30
+fde=410e10440b: 0x1000 cfa=r7+8 r16=[cfa-8];0x1001 cfa=r7+16 r16=[cfa-8];EmptyStateStack at 0x34
+fde=0f000d06: CfaNotRegister at 0x32
+fde=0f000e102e: CfaNotRegister at 0x32
+fde=0f002e0e10: UnknownInstruction at 0x32
+fde=0f00137f: CfaNotRegister at 0x32
+fde=0f000d808004: RegisterTooLarge at 0x33
+fde=0f000e: Truncated at 0x33
+fde=0f000e80808080808080808001: OffsetTooLarge at 0x32
+fde=2e10: UnknownInstruction at 0x30";
+
+// Programs of CIEs, before an FDE's program that is at fault too.
+const INITIAL: &str = "\
+cie=010010000000000000 fde=2e: NotInCie at 0xf
+cie=0201 fde=2e: NotInCie at 0xf
+cie=030100 fde=2e: NotInCie at 0xf
+cie=0401000000 fde=2e: NotInCie at 0xf
+cie=0603 fde=2e: NotInCie at 0xf
+cie=0a fde=2e: NotInCie at 0xf
+cie=0b fde=2e: NotInCie at 0xf
+cie=40 fde=2e: NotInCie at 0xf
+cie=c3 fde=2e: NotInCie at 0xf
+cie=06808004 fde=2e: RegisterTooLarge at 0x10
+cie=02 fde=2e: Truncated at 0x10
+cie=0d07 fde=2e: CfaNotRegister at 0xf
+cie=1302 fde=2e: CfaNotRegister at 0xf
+cie=0f000e10 fde=2e: CfaNotRegister at 0x11
+cie=0e1041 fde=2e: CfaNotRegister at 0xf
+cie=410e10 fde=2e: NotInCie at 0xf
+cie=0c0708 fde=2e: UnknownInstruction at 0x30";
+
+// The top of the address space, by the code factor.
+const TOP: &str = "\
+cie= fde=5040 begin=fffffffffffffff0 code=1: 0xfffffffffffffff0 cfa=unset;0x10000000000000000 cfa=unset;0x10000000000000000 cfa=unset;
+cie= fde=51 begin=fffffffffffffff0 code=1: LocationTooLarge at 0x30
+cie= fde=5041 begin=fffffffffffffff0 code=1: 0xfffffffffffffff0 cfa=unset;LocationTooLarge at 0x31
+cie= fde=5001ffffffffffffffff begin=fffffffffffffff0 code=1: 0xfffffffffffffff0 cfa=unset;LocationBackwards at 0x31
+cie= fde=01ffffffffffffffff begin=0 code=1: 0x0 cfa=unset;0xffffffffffffffff cfa=unset;
+cie= fde=41 begin=1 code=18446744073709551615: 0x1 cfa=unset;0x10000000000000000 cfa=unset;
+cie= fde=41 begin=2 code=18446744073709551615: LocationTooLarge at 0x30
+cie= fde=04ffffffff begin=0 code=4294967296: 0x0 cfa=unset;0xffffffff00000000 cfa=unset;
+cie= fde=04ffffffff7f begin=1000 code=0: 0x1000 cfa=unset;0x1000 cfa=unset;0x1000 cfa=unset;";
+
+// Addresses of four bytes.
+const SIZE_4: &str = "\
+little=4 cie=0c01000000 fde=4440 begin=fffffff0 code=4 data=-4: 0xfffffff0 cfa=r1+0;0x100000000 cfa=r1+0;0x100000000 cfa=r1+0;
+little=4 cie=0c01000000 fde=45 begin=fffffff0 code=4 data=-4: LocationTooLarge at 0x30
+little=4 cie=0c01000000 fde=4401ffffffff begin=fffffff0 code=4 data=-4: 0xfffffff0 cfa=r1+0;LocationBackwards at 0x31
+big=4 cie=0c01000000 fde=420e1011417f0000 begin=10000400 code=4 data=-4: 0x10000400 cfa=r1+0;0x10000408 cfa=r1+16 r65=[cfa+4];
+big=4 cie=0c01000000 fde=0300100400000010 begin=10000400 code=4 data=-4: 0x10000400 cfa=r1+0;0x10000440 cfa=r1+0;0x10000480 cfa=r1+0;
+big=4 cie=0c01000000 fde=0110000440 begin=10000400 code=4 data=-4: 0x10000400 cfa=r1+0;0x10000440 cfa=r1+0;
+big=4 cie=0c01000000 fde=01100003ff begin=10000400 code=4 data=-4: LocationBackwards at 0x30";
 
 #[test]
-fn judges_the_cie_first(rt: HostRuntime) -> Result<(), Fail> {
-    for (cie, wanted) in INITIAL {
-        let text = shown(rt.alloc(), pair_of(cie, b"\x2e", 0x1000, PLAIN, LITTLE)?)?;
-        assert_eq!(rt; text.as_str(), wanted);
-    }
-    Ok(())
+fn gives_rows(rt: HostRuntime) -> Result<(), Fail> {
+    let alloc = rt.alloc();
+    agree_all(alloc, ROWS)?;
+    agree_all(alloc, REFUSED)?;
+    agree_all(alloc, INITIAL)?;
+    agree_all(alloc, TOP)?;
+    agree_all(alloc, SIZE_4)
 }
 
 // ---- remembered states
@@ -283,150 +307,44 @@ const STATES: [(usize, usize, &str); 5] = [
     (1, 2, "EmptyStateStack at 0x32"),
 ];
 
+// The rows of an FDE that remembers so many states, and then restores so many.
+fn with_states(alloc: Global, remembered: usize, restored: usize) -> Result<String, Fail> {
+    let mut fde = [0x0au8].repeat(alloc, remembered)?;
+    fde.extend_from_slice(&[0x0bu8].repeat(alloc, restored)?)?;
+    shown(alloc, pair_of(CIE, &fde, 0x1000, PLAIN, LITTLE)?)
+}
+
 #[test]
 fn remembers_64_states(rt: HostRuntime) -> Result<(), Fail> {
     for (remembered, restored, wanted) in STATES {
-        let mut fde = [0x0au8].repeat(rt.alloc(), remembered)?;
-        fde.extend_from_slice(&[0x0bu8].repeat(rt.alloc(), restored)?)?;
-        let text = shown(rt.alloc(), pair_of(CIE, &fde, 0x1000, PLAIN, LITTLE)?)?;
-        assert_eq!(rt; text.as_str(), wanted);
-    }
-    Ok(())
-}
-
-// ---- the top of the address space, by the code factor, and factors of other CIEs
-
-const TOP: u64 = 0xffff_ffff_ffff_fff0;
-
-const ADDRESSES: [(u64, u64, &[u8], &str); 9] = [
-    (
-        1,
-        TOP,
-        b"\x50\x40",
-        "0xfffffffffffffff0 cfa=unset;0x10000000000000000 cfa=unset;0x10000000000000000 cfa=unset;",
-    ),
-    (1, TOP, b"\x51", "LocationTooLarge at 0x30"),
-    (
-        1,
-        TOP,
-        b"\x50\x41",
-        "0xfffffffffffffff0 cfa=unset;LocationTooLarge at 0x31",
-    ),
-    (
-        1,
-        TOP,
-        b"\x50\x01\xff\xff\xff\xff\xff\xff\xff\xff",
-        "0xfffffffffffffff0 cfa=unset;LocationBackwards at 0x31",
-    ),
-    (
-        1,
-        0,
-        b"\x01\xff\xff\xff\xff\xff\xff\xff\xff",
-        "0x0 cfa=unset;0xffffffffffffffff cfa=unset;",
-    ),
-    (
-        u64::MAX,
-        1,
-        b"\x41",
-        "0x1 cfa=unset;0x10000000000000000 cfa=unset;",
-    ),
-    (u64::MAX, 2, b"\x41", "LocationTooLarge at 0x30"),
-    (
-        0x1_0000_0000,
-        0,
-        b"\x04\xff\xff\xff\xff",
-        "0x0 cfa=unset;0xffffffff00000000 cfa=unset;",
-    ),
-    (
-        0,
-        0x1000,
-        b"\x04\xff\xff\xff\xff\x7f",
-        "0x1000 cfa=unset;0x1000 cfa=unset;0x1000 cfa=unset;",
-    ),
-];
-
-#[test]
-fn stops_at_the_top_of_size_8(rt: HostRuntime) -> Result<(), Fail> {
-    for (code_factor, begin, fde, wanted) in ADDRESSES {
-        let factors = Factors {
-            code_factor,
-            data_factor: 1,
-        };
-        let text = shown(rt.alloc(), pair_of(b"", fde, begin, factors, LITTLE)?)?;
-        assert_eq!(rt; text.as_str(), wanted);
-    }
-    Ok(())
-}
-
-const SIZE_4: [(Target, u64, &[u8], &str); 7] = [
-    (
-        SHORT,
-        0xffff_fff0,
-        b"\x44\x40",
-        "0xfffffff0 cfa=r1+0;0x100000000 cfa=r1+0;0x100000000 cfa=r1+0;",
-    ),
-    (SHORT, 0xffff_fff0, b"\x45", "LocationTooLarge at 0x30"),
-    (
-        SHORT,
-        0xffff_fff0,
-        b"\x44\x01\xff\xff\xff\xff",
-        "0xfffffff0 cfa=r1+0;LocationBackwards at 0x31",
-    ),
-    (
-        BIG,
-        0x1000_0400,
-        b"\x42\x0e\x10\x11\x41\x7f\0\0",
-        "0x10000400 cfa=r1+0;0x10000408 cfa=r1+16 r65=[cfa+4];",
-    ),
-    (
-        BIG,
-        0x1000_0400,
-        b"\x03\0\x10\x04\0\0\0\x10",
-        "0x10000400 cfa=r1+0;0x10000440 cfa=r1+0;0x10000480 cfa=r1+0;",
-    ),
-    (
-        BIG,
-        0x1000_0400,
-        b"\x01\x10\0\x04\x40",
-        "0x10000400 cfa=r1+0;0x10000440 cfa=r1+0;",
-    ),
-    (
-        BIG,
-        0x1000_0400,
-        b"\x01\x10\0\x03\xff",
-        "LocationBackwards at 0x30",
-    ),
-];
-
-#[test]
-fn runs_programs_of_size_4(rt: HostRuntime) -> Result<(), Fail> {
-    for (target, begin, fde, wanted) in SIZE_4 {
-        let text = shown(
-            rt.alloc(),
-            pair_of(b"\x0c\x01\0\0\0", fde, begin, FOURS, target)?,
-        )?;
-        assert_eq!(rt; text.as_str(), wanted);
+        let text = with_states(rt.alloc(), remembered, restored)?;
+        compare("states", text.as_str(), wanted)?;
     }
     Ok(())
 }
 
 // ---- where a row that is lent ends
 
-// The CFA's offset from r7 in each row, and where the row ends.
-const ENDS: [(i64, Option<u128>); 3] = [(16, Some(0x1004)), (8, Some(0x1008)), (8, None)];
+const ENDS: [&str; 3] = [
+    "cfa=r7+16 r16=[cfa-8] to Some(4100)",
+    "cfa=r7+8 r16=[cfa-8] to Some(4104)",
+    "cfa=r7+8 r16=[cfa-8] to None",
+];
+
+// The next row, and where it ends.
+fn ended(alloc: Global, steps: &mut RowSteps<'_>) -> Result<String, Fail> {
+    let _ = steps.advance()?.ok_or("a row")?;
+    let row = row_text(alloc, steps.row())?;
+    Ok(format!(in alloc; "{row} to {:?}", steps.next_start())?)
+}
 
 #[test]
 fn tells_where_a_row_ends(rt: HostRuntime) -> Result<(), Fail> {
     let pair = pair_of(CIE, b"\x0a\x0e\x10\x44\x0b\x44", 0x1000, PLAIN, LITTLE)?;
     let mut steps = steps_of(rt.alloc(), pair);
-    for (offset, end) in ENDS {
-        assert!(rt; steps.advance()?.is_some());
-        let cfa = CfaRule::Register {
-            register: 7,
-            offset,
-        };
-        assert!(rt; steps.row().cfa().is_same(&cfa));
-        assert_eq!(rt; steps.next_start(), end);
+    for wanted in ENDS {
+        let text = ended(rt.alloc(), &mut steps)?;
+        compare("a row", text.as_str(), wanted)?;
     }
     Ok(())
 }
@@ -446,23 +364,46 @@ const FOLLOWING: [(&[u8], &str); 4] = [
     (b"", "0x1000 cfa=r7+8 r16=[cfa-8];"),
 ];
 
+/// The machine of a CIE's program.
+pub fn machine_of(alloc: Global, cie: &[u8]) -> Result<CieMachine<'_>, Fail> {
+    Ok(CieMachine::new(alloc, program(cie, 0xf)?, PLAIN, LITTLE)?)
+}
+
+/// Begins an FDE's program.
+pub fn begin<'a>(machine: &mut CieMachine<'a>, fde: &'a [u8]) -> Result<(), Fail> {
+    machine.begin(program(fde, 0x30)?, 0x1000)?;
+    Ok(())
+}
+
 #[test]
 fn starts_fdes_from_one_row(rt: HostRuntime) -> Result<(), Fail> {
-    let cie = program(CIE, 0xf)?;
-    let mut machine = CieMachine::new(rt.alloc(), cie, PLAIN, LITTLE)?;
-    for (bytes, wanted) in FOLLOWING {
-        machine.begin(program(bytes, 0x30)?, 0x1000)?;
-        let text = begun(rt.alloc(), &mut machine)?;
-        assert_eq!(rt; text.as_str(), wanted);
+    let mut machine = machine_of(rt.alloc(), CIE)?;
+    for (fde, wanted) in FOLLOWING {
+        begin(&mut machine, fde)?;
+        compare("an FDE", begun(rt.alloc(), &mut machine)?.as_str(), wanted)?;
     }
     let initial = row_text(rt.alloc(), machine.initial())?;
-    assert_eq!(rt; initial.as_str(), "cfa=r7+8 r16=[cfa-8]");
-    Ok(())
+    compare("the initial row", initial.as_str(), "cfa=r7+8 r16=[cfa-8]")
 }
 
 // ---- rows that are copied and compared
 
-// Two programs of CIEs, and whether they leave one row.
+/// The row that a CIE's program leaves.
+pub fn row_of(alloc: Global, cie: &[u8]) -> Result<Row<'_>, Fail> {
+    Ok(initial_row(alloc, program(cie, 0xf)?, PLAIN, LITTLE)?)
+}
+
+/// Whether two programs of CIEs leave one row. A copy of the first row is that row.
+pub fn are_alike(alloc: Global, one: &[u8], other: &[u8]) -> Result<bool, Fail> {
+    let row = row_of(alloc, one)?;
+    let mut copy = Row::blank(alloc);
+    copy.become_copy(&row.copied()?)?;
+    if !copy.is_same(&row) {
+        return Err(Fail::new("a copy differs"));
+    }
+    Ok(row.is_same(&row_of(alloc, other)?))
+}
+
 const ALIKE: [(&[u8], &[u8], bool); 6] = [
     (b"\x0c\x07\x08", b"\x12\x07\0\x0e\x08", true),
     (b"\x0f\x03\x77\x08\x06", b"\x0f\x04\x92\x07\x08\x06", true),
@@ -475,11 +416,10 @@ const ALIKE: [(&[u8], &[u8], bool); 6] = [
 #[test]
 fn copies_and_compares_rows(rt: HostRuntime) -> Result<(), Fail> {
     for (one, other, wanted) in ALIKE {
-        let row = initial_row(rt.alloc(), program(one, 0xf)?, PLAIN, LITTLE)?;
-        let mut second = initial_row(rt.alloc(), program(other, 0xf)?, PLAIN, LITTLE)?;
-        assert_eq!(rt; row.is_same(&second), wanted, "{one:?} {other:?}");
-        second.become_copy(&row.copied()?)?;
-        assert!(rt; row.is_same(&second));
+        assert!(rt;
+            are_alike(rt.alloc(), one, other)? == wanted,
+            "{one:?} {other:?}"
+        );
     }
     Ok(())
 }

@@ -23,8 +23,3 @@ pub const PLAIN: Factors = Factors {
     code_factor: 1,
     data_factor: -8,
 };
-
-pub const FOURS: Factors = Factors {
-    code_factor: 4,
-    data_factor: -4,
-};

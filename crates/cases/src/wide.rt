@@ -1,9 +1,9 @@
 //! Rows of many registers, which lie in a tree, and rows that are narrowed.
 
-use crate::programs::program;
-use crate::targets::{LITTLE, PLAIN};
+use crate::lines::compare;
+use crate::programs::{are_alike, begin, machine_of, row_of};
 use crate::texts::{register_text, row_text};
-use dw_cfa::{CieMachine, Row, initial_row};
+use dw_cfa::{CieMachine, Row};
 use std::alloc::Global;
 use std::test::Fail;
 
@@ -22,57 +22,67 @@ fn many(alloc: Global, registers: u8) -> Result<Vec<u8>, Fail> {
 fn summary(alloc: Global, row: &Row<'_>) -> Result<String, Fail> {
     let first = register_text(alloc, 5, &row.rule(5))?;
     let last = register_text(alloc, 70, &row.rule(70))?;
-    let text = format!(in alloc; "{} {first} {last}", row.specified().count())?;
-    Ok(text)
+    Ok(format!(in alloc; "{} {first} {last}", row.specified().count())?)
+}
+
+// What is said of the next row.
+fn next_summary(alloc: Global, machine: &mut CieMachine<'_>) -> Result<String, Fail> {
+    match machine.advance()? {
+        Some(_) => summary(alloc, machine.row()),
+        None => Ok(String::from_str(alloc, "end")?),
+    }
 }
 
 // remember_state, r5 and r70 undefined, an advance, restore_state, an advance.
 const FDE: &[u8] = b"\x0a\x07\x05\x07\x46\x41\x0b\x42";
 
-const SUMMARIES: [&str; 3] = [
+const SUMMARIES: [&str; 4] = [
     "71 r5=u r70=u",
     "70 r5=[cfa-8] r70=unspecified",
     "70 r5=[cfa-8] r70=unspecified",
+    "end",
 ];
 
 #[test]
 fn keeps_many_registers(rt: HostRuntime) -> Result<(), Fail> {
     let cie = many(rt.alloc(), 70)?;
-    let mut machine = CieMachine::new(rt.alloc(), program(&cie, 0xf)?, PLAIN, LITTLE)?;
+    let mut machine = machine_of(rt.alloc(), &cie)?;
     for _ in 0..2 {
-        machine.begin(program(FDE, 0x30)?, 0x1000)?;
+        begin(&mut machine, FDE)?;
         for wanted in SUMMARIES {
-            assert!(rt; machine.advance()?.is_some());
-            let text = summary(rt.alloc(), machine.row())?;
-            assert_eq!(rt; text.as_str(), wanted);
+            compare(
+                "a row",
+                next_summary(rt.alloc(), &mut machine)?.as_str(),
+                wanted,
+            )?;
         }
-        assert_eq!(rt; machine.advance()?, None);
     }
     Ok(())
 }
 
 #[test]
-fn copies_many_registers(rt: HostRuntime) -> Result<(), Fail> {
+fn compares_many_registers(rt: HostRuntime) -> Result<(), Fail> {
     let cie = many(rt.alloc(), 70)?;
-    let row = initial_row(rt.alloc(), program(&cie, 0xf)?, PLAIN, LITTLE)?;
-    let mut copy = Row::blank(rt.alloc());
-    assert!(rt; !copy.is_same(&row));
-    copy.become_copy(&row.copied()?)?;
-    assert!(rt; copy.is_same(&row));
+    assert!(rt; are_alike(rt.alloc(), &cie, &cie)?);
+    assert!(rt; !are_alike(rt.alloc(), b"".as_slice(), &cie)?);
     Ok(())
 }
 
 #[test]
 fn narrows_rows(rt: HostRuntime) -> Result<(), Fail> {
-    let one = program(b"\x0c\x07\x08\x83\x01\x84\x02\x85\x01", 0xf)?;
-    let other = program(b"\x0c\x06\x08\x83\x01\x84\x03", 0xf)?;
-    let other = initial_row(rt.alloc(), other, PLAIN, LITTLE)?;
-    let mut row = initial_row(rt.alloc(), one, PLAIN, LITTLE)?;
+    let alloc = rt.alloc();
+    let other = row_of(alloc, b"\x0c\x06\x08\x83\x01\x84\x03".as_slice())?;
+    let mut row = row_of(alloc, b"\x0c\x07\x08\x83\x01\x84\x02\x85\x01".as_slice())?;
     row.keep(&other);
-    let text = row_text(rt.alloc(), &row)?;
-    assert_eq!(rt; text.as_str(), "cfa=r7+8 r3=[cfa-8] r4=[cfa-16]");
+    compare(
+        "kept",
+        row_text(alloc, &row)?.as_str(),
+        "cfa=r7+8 r3=[cfa-8] r4=[cfa-16]",
+    )?;
     row.agree(&other);
-    let text = row_text(rt.alloc(), &row)?;
-    assert_eq!(rt; text.as_str(), "cfa=unset r3=[cfa-8]");
-    Ok(())
+    compare(
+        "agreed",
+        row_text(alloc, &row)?.as_str(),
+        "cfa=unset r3=[cfa-8]",
+    )
 }

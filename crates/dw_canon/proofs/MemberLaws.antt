@@ -83,6 +83,7 @@ module _ (limit : ℕ) (initial : Rules) (begin : ℕ) (instrs : List Instr) (ro
           holds = record {
             cfa = holds.cfa ∙ ap (λ (c : CfaRule). cfa_after c instrs counts.0) same_cfa;
             rules = λ r. holds.rules r ∙ ap (λ (x : RegRule). rule_after x instrs r counts.0) (same_rules r);
+            listed = holds.listed;
           };
           listed = holds.listed;
         },

@@ -22,12 +22,11 @@ use Rattle.dw_cfa.specs.Steps.{InLimit}
 use Rattle.dw_cfa.specs.Runs.{Placing, ended, after_item, on_left, placed_by, placed}
 use Rattle.dw_cfa.proofs.InstrLaws.{instr_found}
 
--- what is read is shorter by its spelling, and an address is below 2 ^ N
+-- what is read is shorter by its spelling
 pub record Reads (f : Factors) (i : Input) (x : Instr × Input) : Type 0 where
   pub shorter : length x.1.bytes < length i.bytes
   pub bytes : AreBytes x.1.bytes
   pub target : x.1.target ≡ i.target
-  pub address : InLimit (address_limit i.target.size) x.0
 
 code_some : (code : ℕ) (P : List ℕ → Type 0) (b : List ℕ) → Code code P b → 0 < length b
 code_some code P b h = omega (arith, ap length h.whole)
@@ -82,7 +81,6 @@ reads f i x h e =
       shorter = omega (arith, ap length found.2.bytes, length-append found.0 x.1.bytes);
       bytes = are_bytes_behind found.0 x.1.bytes (subst AreBytes found.2.bytes h);
       target = found.2.target;
-      address = spells_in_limit i.target f x.0 found.0 found.1;
     }
 
 on_some : (bytes : List ℕ) (l : Placing) → 0 < length bytes → on_left bytes l ≡ l

@@ -129,6 +129,7 @@ held : (cie fde : List Instr) (k : ℕ) (initial row : Rules) → Follows blank 
 held cie fde k initial row from h = record {
   cfa = h.cfa ∙ ap (λ (c : CfaRule). cfa_after c fde k) from.row.cfa;
   rules = λ r. h.rules r ∙ ap (λ (x : RegRule). rule_after x fde r k) (from.row.rules r);
+  listed = h.listed;
 }
 
 pub last_holds : LastHolds

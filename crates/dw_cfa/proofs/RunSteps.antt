@@ -1,9 +1,11 @@
 -- One instruction of a program, in the rows still to come.
-use Rattle.std.proofs.Common.{◌≡◌, ℕ, ◌<◌, true, false, List, [], length, Option, None, Ok, Err, refl, sym, ap, ◌∙◌, subst}
+use Rattle.std.proofs.Common.{◌≡◌, ℕ, ◌<◌, true, false, List, [], length, Option, None, Some, Result, Ok, Err, IsOk, refl, sym, ap, ◌∙◌, subst}
 use Rattle.std.specs.Prelude.{IsTrue}
+use Rattle.dw_num.specs.declared.refusal.Code.{Code}
 use Rattle.dw_num.specs.declared.refusal.Code.TheVariants.{NotInCie}
 use Rattle.dw_num.specs.declared.refusal.Refusal.{Refusal}
 use Rattle.dw_num.specs.Input.{Input, AreBytes}
+use Rattle.dw_num.specs.Reading.{Read}
 use Rattle.dw_num.specs.Target.{address_limit}
 use Rattle.dw_cfa.specs.declared.instr.Factors.{Factors}
 use Rattle.dw_cfa.specs.declared.instr.Instr.{Instr}
@@ -19,10 +21,10 @@ use Rattle.dw_cfa.specs.Reading.{instr_at}
 use Rattle.dw_cfa.specs.Rows.{Rules, blank}
 use Rattle.dw_cfa.specs.declared.rule.RegRule.{RegRule}
 use Rattle.dw_cfa.specs.Stepping.{begun_rows}
-use Rattle.dw_cfa.specs.Machine.{State, written, after, half_fault, fde_fault, FaultIs}
+use Rattle.dw_cfa.specs.Machine.{State, begun, written, after, half_fault, fde_fault, FaultIs}
 use Rattle.dw_cfa.specs.States.{Held, BeganWith}
 use Rattle.dw_cfa.specs.Steps.{state_of, IsAfter}
-use Rattle.dw_cfa.specs.Runs.{Placing, placed, cie_run, initial_row, Outcome, fails, finished, row_then, here, row_if, fault_or, fde_rows, rows_left, rows_behind, run_rows, RunsSo, RefusalIs, run_error, RanTo, WroteTo}
+use Rattle.dw_cfa.specs.Runs.{Placing, placed, cie_run, initial_row, on_initial, Outcome, fails, finished, row_then, here, row_if, fault_or, fde_rows, rows_left, rows_behind, run_rows, RunsSo, RefusalIs, run_error, RanTo, WroteTo}
 use Rattle.dw_cfa.proofs.Placings.{reads, placed_end, placed_step, placed_stuck}
 
 rows_of : ℕ → Rules → Placing → State → Outcome
@@ -41,9 +43,8 @@ module _ (f : Factors) (i : Input) (m : Machine) (x : Instr × Input) (h : AreBy
   unfolding rows_left fde_rows
   rows_then = rw (placed_step f i x h some e) refl
 
-  pub rows_fault : (error : StepError) → FaultIs error (fde_fault m.limit x.0 (state_of m)) → RefusalIs (run_error i.at error) (λ r. rows_left f i m ≡ fails r)
-  rows_fault (step.Fault code) is = rw (rows_then, is) refl
-  rows_fault step.OutOfMemory is = tt
+  pub rows_fault : (code : Code) → fde_fault m.limit x.0 (state_of m) ≡ Some code → rows_left f i m ≡ fails (record { code = code; at = i.at })
+  rows_fault code is = rw (rows_then, is) refl
 
   same_row : (i : Instr) (s t : Machine) → state_of t ≡ after s.initial i (state_of s) → IsTrue (moves_location i) → t.states.row ≡ s.states.row
   same_row (SetLoc a) s t is moves = ap (λ (u : State). u.row) is
@@ -102,6 +103,37 @@ pub begun_is_run : (f : Factors) (cie fde cie' fde' : Input) (m : Machine) (begi
     → m.limit ≡ address_limit fde'.target.size → begun_rows f cie fde m ≡ run_rows f cie' fde' begin
 unfolding begun_rows run_rows
 begun_is_run f cie fde cie' fde' m begin a b i l n = rw (a, b, i, l, n) refl
+
+-- what is run to the end is read
+abbrev ReadsHere : Factors → Input → Type 0
+ReadsHere f i = IsOk (instr_at f i)
+
+pub rows_read : (f : Factors) (i : Input) (m : Machine) → 0 < length i.bytes → (rows_left f i m).fault ≡ None → ReadsHere f i
+rows_read f i m some none = go (instr_at f i) refl
+  where
+    go : (r : Read Instr) → instr_at f i ≡ r → IsOk r
+    go (Ok x) e = refl
+    go (Err r) e = let k : Some r ≡ None = sym (ap (λ (o : Outcome). o.fault) (rows_stuck f i m r some e)) ∙ none in absurd cc
+
+pub initial_read : (f : Factors) (i : Input) (row : Rules) → 0 < length i.bytes → IsOk (initial_row (placed f i) row) → ReadsHere f i
+initial_read f i row some ok = go (instr_at f i) refl
+  where
+    refused : (q : Result Rules Refusal) (r : Refusal) → q ≡ Err r → IsOk q → ⊥
+    refused (Ok rules) r is ok = absurd cc
+    refused (Err d) r is ok = absurd cc
+
+    go : (r : Read Instr) → instr_at f i ≡ r → IsOk r
+    go (Ok x) e = refl
+    go (Err r) e = absurd (refused (initial_row (placed f i) row) r (initial_stuck f i row r some e) ok)
+
+-- both halves of a run that has no fault
+pub begun_initial : (f : Factors) (cie fde : Input) (m : Machine) → (begun_rows f cie fde m).fault ≡ None → IsOk (initial_row (placed f cie) m.states.row)
+unfolding begun_rows
+begun_initial f cie fde m none = go (initial_row (placed f cie) m.states.row) refl none
+  where
+    go : (r : Result Rules Refusal) → initial_row (placed f cie) m.states.row ≡ r → (on_initial r (λ initial. fde_rows m.limit initial (placed f fde).items (placed f fde).fault (begun initial m.location))).fault ≡ None → IsOk r
+    go (Ok row) e n = refl
+    go (Err r) e n = absurd cc
 
 pub begun_refused : (f : Factors) (cie fde : Input) (m : Machine) (e : RunError) → RefusalIs e (λ r. initial_row (placed f cie) m.states.row ≡ Err r) → RefusalIs e (λ r. begun_rows f cie fde m ≡ fails r)
 unfolding begun_rows

@@ -1,7 +1,7 @@
 -- Ascending registers in a tree: what it finds, puts in and takes out is what the list of them says.
 use Rattle.std.proofs.lemmas.List.{append_assoc}
-use Rattle.std.proofs.Common.{Less, Equal, Greater, eq-eqb, ◌≡◌, ℕ, zero, suc, ◌<◌, ◌≤◌, Bool, true, false, cond, List, [], ◌∷◌, ◌++◌, take, refl, sym, ap, ◌∙◌, subst, arith, inl, inr}
-use Rattle.std.specs.Prelude.{nat_eq, nat_lt, Result, Ok, Err, IfOk, OnOk, OnErr}
+use Rattle.std.proofs.Common.{Less, Equal, Greater, eq-eqb, ◌≡◌, ℕ, suc, ◌<◌, ◌≤◌, Bool, true, false, cond, List, [], ◌∷◌, ◌++◌, refl, sym, ap, ◌∙◌, subst, arith, inl, inr}
+use Rattle.std.specs.Prelude.{nat_eq, nat_lt, Result, Ok, Err, IfOk, OnOk}
 use Rattle.std.specs.Ordering.{nat_cmp}
 use Rattle.std.specs.Option.{unwrap_or}
 use Rattle.std.specs.Map.{lookup, remove_entry}
@@ -10,16 +10,12 @@ use Rattle.std.proofs.lemmas.Bool.{cases_Bool, cases_lt, lt-ltb, le-ltb, ltb-tru
 use Rattle.dw_cfa.specs.declared.rule.CfaRule.{CfaRule}
 use Rattle.dw_cfa.specs.declared.rule.RegRule.{RegRule}
 use Rattle.dw_cfa.specs.declared.rule.RegRule.TheVariants.{Unspecified}
-use Rattle.dw_cfa.specs.Rows.{Rules, is_specified, AreSpecified, rule_in, listed, put, with_rule}
-use Rattle.dw_cfa.proofs.RowLists.{Entry, put_keeps, put_rule}
+use Rattle.dw_cfa.specs.Rows.{Rules, is_specified, AreSpecified, rule_in, put, with_rule}
+use Rattle.dw_cfa.proofs.RowLists.{Entry, listed_is, put_keeps, put_rule}
 use Rattle.dw_cfa.proofs.SameRows.{same_entries}
 
 eq_here : (n : ℕ) → nat_eq n n ≡ true
 eq_here n = eq-eqb n n refl
-
-take_none : (n : ℕ) → take {A = Entry} n [] ≡ []
-take_none zero = refl
-take_none (suc n) = refl
 
 less_at : (r k : ℕ) → r < k → nat_cmp r k ≡ Less
 less_at r k lt = rw (lt-ltb r k lt) refl
@@ -46,10 +42,6 @@ found_is r (x ∷ xs) = elim (cases_Bool (nat_eq x.0 r)) [
   | inl e ↦ rw (is_at_same r x.0 e, e) refl
   | inr e ↦ rw (is_at_other r x.0 e, e) (found_is r xs)
 ]
-
-listed_is : (r : ℕ) (rule : RegRule) (rest : List Entry) → is_specified rule ≡ true → listed r rule rest ≡ (r, rule) ∷ rest
-listed_is r Unspecified rest e = absurd cc
-listed_is r rule rest e = refl
 
 pub inserted_is : (r : ℕ) (rule : RegRule) (xs : List Entry) → is_specified rule ≡ true → insert_entry nat_cmp xs r rule ≡ put r rule xs
 inserted_is r rule [] is = sym (listed_is r rule [] is)
@@ -90,12 +82,6 @@ pub not_put : (r low : ℕ) (rule : RegRule) (xs : List Entry) → is_specified 
 not_put r low Unspecified xs e up = removed_is r low xs up
 not_put r low rule xs e up = absurd cc
 
--- the first entries of an ascending list are ascending
-pub first_specified : (n low : ℕ) (xs : List Entry) → AreSpecified low xs → AreSpecified low (take n xs)
-first_specified n low [] up = let e : take n [] ≡ [] = take_none n in subst (AreSpecified low) (sym e) tt
-first_specified zero low (x ∷ xs) up = tt
-first_specified (suc n) low (x ∷ xs) up = (up.0, up.1, first_specified n (suc x.0) xs up.2)
-
 above_front : (low : ℕ) (xs : List Entry) (x : Entry) (rest : List Entry) → AreSpecified low (xs ++ x ∷ rest) → low ≤ x.0
 above_front low [] x rest up = up.0
 above_front low (y ∷ xs) x rest up = let after = above_front (suc y.0) xs x rest up.2 in let first : low ≤ y.0 = up.0 in omega arith
@@ -112,12 +98,6 @@ pub one_more : (xs rest all new : List Entry) (x : Entry) → new ≡ insert_ent
 one_more xs rest all new x e whole up =
     let end : new ≡ xs ++ x ∷ [] = e ∙ appended 0 xs x rest (subst (AreSpecified 0) (sym whole) up) in
     ap (λ (l : List Entry). l ++ rest) end ∙ append_assoc xs (x ∷ []) rest ∙ whole
-
--- a change of one register keeps registers ascending
-pub kept : {A E : Type 0} (o : Result A E) (r : ℕ) (rule : RegRule) (old new : List Entry)
-    → OnOk o (new ≡ put r rule old) → OnErr o (new ≡ old) → AreSpecified 0 old → AreSpecified 0 new
-kept (Ok x) r rule old new ok err up = subst (AreSpecified 0) (sym ok) (put_keeps r rule 0 old up (omega arith))
-kept (Err x) r rule old new ok err up = subst (AreSpecified 0) (sym err) up
 
 -- ---- taking a change back
 

@@ -13,7 +13,7 @@ use Rattle.dw_cfa.specs.InstrSpells.{Program}
 use Rattle.dw_cfa.specs.Location.{Counts}
 use Rattle.dw_cfa.specs.Column.{cfa_after, rule_after}
 use Rattle.dw_cfa.specs.Kept.{CieKept, FdeKept}
-use Rattle.dw_cfa.specs.Rows.{Rules, rule}
+use Rattle.dw_cfa.specs.Rows.{Rules, AreSpecified, rule}
 use Rattle.dw_cfa.specs.Runs.{run_rows}
 use Rattle.dw_cfa.specs.RuleAt.{last_at, NeverFalls}
 
@@ -24,10 +24,15 @@ initial_cfa cie = cfa_after Unset cie (length cie)
 abbrev pub initial_rule : List Instr → ℕ → RegRule
 initial_rule cie r = rule_after Unspecified cie r (length cie)
 
--- the row has in each column the rule after k instructions of the FDE's program
+-- the row has in each column the rule after k instructions of the FDE's program, and lists each register once, ascending
 pub record HoldsAfter (cie fde : List Instr) (k : ℕ) (row : Rules) : Type 0 where
   pub cfa : row.cfa ≡ cfa_after (initial_cfa cie) fde k
   pub rules : (r : ℕ) → rule row r ≡ rule_after (initial_rule cie r) fde r k
+  pub listed : AreSpecified 0 row.registers
+
+-- so it is one row
+abbrev pub OneHolds : Type 0
+OneHolds = (cie fde : List Instr) (k : ℕ) (row other : Rules) → HoldsAfter cie fde k row → HoldsAfter cie fde k other → row ≡ other
 
 -- two programs give these rows
 pub record RowsOf (f : Factors) (cie fde : Input) (begin : ℕ) (rows : List LocatedRow) : Type 0 where

@@ -32,16 +32,6 @@ abbrev pub listed : ℕ → RegRule → List (ℕ × RegRule) → List (ℕ × R
 listed r Unspecified rest = rest
 listed r rule rest = (r, rule) ∷ rest
 
--- how many registers stand before this one
-abbrev pub place : ℕ → List (ℕ × RegRule) → ℕ
-place r [] = 0
-place r (entry ∷ rest) = if nat_lt entry.0 r then suc (place r rest) else 0
-
--- whether the first register is this one
-abbrev pub begins : ℕ → List (ℕ × RegRule) → Bool
-begins r [] = false
-begins r (entry ∷ rest) = nat_eq entry.0 r
-
 -- an ascending list in which the register has this rule
 abbrev pub put : ℕ → RegRule → List (ℕ × RegRule) → List (ℕ × RegRule)
 put r rule [] = listed r rule []

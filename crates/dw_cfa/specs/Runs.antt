@@ -142,16 +142,12 @@ abbrev pub run_error : ℕ → StepError → RunError
 run_error at (step.Fault code) = Refused (record { code = code; at = at })
 run_error at step.OutOfMemory = OutOfMemory
 
--- one instruction was run, or its refusal answered
+-- one instruction was run, of these that are left
 pub record RanTo (f : Factors) (i : Input) (m : Machine) (moves : Bool) (i' : Input) (m' : Machine) : Type 0 where
   pub so : RunsSo m' i'
   pub shorter : length i'.bytes < length i.bytes
   pub rows : rows_left f i m ≡ row_if moves (state_of m) (rows_left f i' m')
   pub same_row : IsTrue moves → m'.states.row ≡ m.states.row
-
-abbrev pub Ran : Factors → Input → Machine → Result Bool RunError → Input → Machine → Type 0
-Ran f i m (Ok moves) i' m' = RanTo f i m moves i' m'
-Ran f i m (Err e) i' m' = RefusalIs e (λ r. rows_left f i m ≡ fails r)
 
 -- the machine has a row and more are left, or it is the last, or the refusal was answered
 abbrev pub GivesRow : Outcome → Factors → Input → Machine → Result (ℕ × Bool) RunError → Type 0

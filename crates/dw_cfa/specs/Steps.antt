@@ -1,10 +1,9 @@
 -- How the code runs an instruction of an FDE's program.
-use Rattle.std.specs.Prelude.{◌≡◌, ℕ, ◌≤◌, None, Result, Ok, Err}
+use Rattle.std.specs.Prelude.{◌≡◌, ℕ, ◌≤◌, None}
 use Rattle.dw_cfa.specs.declared.instr.Instr.{Instr}
 use Rattle.dw_cfa.specs.declared.instr.Instr.TheVariants.{SetLoc}
 use Rattle.dw_cfa.specs.declared.machine.Machine.{Machine}
-use Rattle.dw_cfa.specs.declared.machine.StepError.{StepError}
-use Rattle.dw_cfa.specs.Machine.{State, after, fde_fault, FaultIs}
+use Rattle.dw_cfa.specs.Machine.{State, after, fde_fault}
 
 abbrev pub state_of : Machine → State
 state_of m = record { row = m.states.row; stack = m.states.stack; location = m.location }
@@ -22,8 +21,3 @@ pub record IsAfter (old : Machine) (i : Instr) (new : Machine) : Type 0 where
   pub limit : new.limit ≡ old.limit
   pub first : new.states.first ≡ old.states.first
   pub within : new.location ≤ new.limit
-
--- the machine ran an instruction, or answered its fault
-abbrev pub Steps : {X : Type 0} → Machine → Instr → Result X StepError → Machine → Type 0
-Steps old i (Ok x) new = IsAfter old i new
-Steps old i (Err e) new = FaultIs e (fde_fault old.limit i (state_of old))

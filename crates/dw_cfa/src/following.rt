@@ -1,11 +1,12 @@
 //! FDEs' programs, one after another behind the initial row of their CIE (6.4.1).
 
-ghost use Rattle.std.specs.Prelude.{◌≡◌, ◌<◌, None, Ok, Err, OnOk, IfOk, IfErr};
+ghost use Rattle.std.specs.Prelude.{◌≡◌, ◌<◌, None, Some, Ok, Err, OnOk, OnErr, IfOk, IfErr};
 ghost use Rattle.dw_num.specs.Target.{address_limit};
 ghost use Rattle.dw_cfa.specs.Following.{Following, with_steps};
 ghost use Rattle.dw_cfa.specs.Rows.{blank};
 ghost use Rattle.dw_cfa.specs.Runs.{RefusalIs, finished, initial_row, placed, rows_behind};
 ghost use Rattle.dw_cfa.specs.Stepping.{Advances, program_input, stepping};
+ghost use Rattle.dw_cfa.specs.declared.running.RunError.TheVariants.{OutOfMemory};
 
 use crate::instr::Factors;
 use crate::machine::Machine;
@@ -76,10 +77,11 @@ impl<'a> CieMachine<'a> {
     }
 
     /// Begins an FDE's program at an address `begin` of the target, or answers want of memory. What an FDE before it
-    /// changed is taken back first.
+    /// changed is taken back first. Behind want of memory `advance` answers it, until a program begins again.
     pub fn begin(&mut self, fde_program: Program<'a>, begin: u64) -> Result<(), AllocError>
         requires { begin < address_limit self.old.target.size }
         ensures ok { OnOk result (self.new ≡ with_steps self.old (stepping self.old.initial (rows_behind self.old.factors self.old.initial (program_input fde_program.entry self.old.target) begin))) }
+        ensures failed { OnErr result (self.new.steps.error ≡ Some OutOfMemory) }
         ensures same { self.new ≡ with_steps self.old self.new.steps }
     {
         let machine = &mut self.machine;
@@ -106,7 +108,7 @@ impl<'a> CieMachine<'a> {
             Progress::Begun | Progress::Finished => return Ok(None),
             Progress::Failed(error) => return Err(error),
         }
-        let answer = next_row(&mut self.fde, self.factors, &mut self.machine);
+        let answer = next_row(&mut self.fde, self.factors, &mut self.machine, false);
         if answer.is_err() {
             self.machine.states.untrack();
         }

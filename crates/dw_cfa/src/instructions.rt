@@ -64,7 +64,7 @@ impl<'a> Instructions<'a> {
             return None;
         }
         are_bytes(self.cursor.rest());
-        match read_instr(&mut self.cursor, self.factors) {
+        match read_instr(&mut self.cursor, self.factors, false) {
             Ok(instr) => Some(Ok(instr)),
             Err(refusal) => {
                 self.has_ended = true;

@@ -1,6 +1,8 @@
 //! Call frame instructions, and the machine that runs them (6.4.2, 6.4.3).
 #![tactic(auto)]
 
+mod advance;
+mod cfa;
 mod collecting;
 mod following;
 mod instr;
@@ -8,11 +10,13 @@ mod instructions;
 mod laws;
 mod machine;
 mod reading;
+mod registers;
 mod row;
 mod rule;
 mod running;
 mod states;
 mod steps;
+mod turn;
 
 pub use collecting::{Rows, run};
 pub use following::CieMachine;

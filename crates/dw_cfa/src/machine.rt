@@ -1,20 +1,15 @@
-//! The machine that runs call frame instructions (6.4.2), one after another.
+//! The machine that runs call frame instructions (6.4.2), and how the run of one ends.
 
-ghost use Rattle.std.specs.Prelude.{◌≡◌, ◌<◌, ◌≤◌, None, OnOk, IfOk, IfErr};
+ghost use Rattle.std.specs.Prelude.{◌≡◌, None, OnOk, IfOk, IfErr};
 ghost use Rattle.dw_cfa.specs.declared.rule.CfaRule.TheVariants.{Register};
 ghost use Rattle.dw_num.specs.declared.refusal.Code.TheVariants.{CfaNotRegister};
 ghost use Rattle.dw_cfa.specs.Machine.{FaultIs, NoHalves, written, half_fault};
-ghost use Rattle.dw_cfa.specs.Steps.{Steps, InLimit};
-ghost use Rattle.dw_cfa.specs.declared.instr.Instr.TheVariants.{SetLoc, Advance, Restore, RememberState, RestoreState};
 
 use crate::instr::Instr;
 use crate::row::Row;
 use crate::rule::CfaRule;
 use crate::states::States;
-use dw_num::Code;
-
-// How many states can be remembered at once.
-const MOST_REMEMBERED: usize = 64;
+use dw_num::{Code, Refusal};
 
 /// Why an instruction has no effect.
 #[derive(Drop)]
@@ -72,84 +67,25 @@ pub(crate) struct Machine<'a> {
     pub(crate) limit: u128,
 }
 
-impl<'a> Machine<'a> {
-    fn set_location(&mut self, address: u64) -> Result<(), StepError>
-        requires { address ≤ self.old.limit }
-        ensures step { Steps self.old (SetLoc address) result self.new }
-        ensures same { self.new.initial ≡ self.old.initial }
-    {
-        let address = u128::from(address);
-        if address < self.location {
-            return Err(StepError::Fault(Code::LocationBackwards));
-        }
-        self.location = address;
-        Ok(())
-    }
+/// How the run of an instruction of an FDE's program ends.
+#[derive(Clone, Copy)]
+pub(crate) enum End {
+    /// The program goes on in the same row.
+    On,
+    /// The location moved: the row ends before it.
+    Moved,
+    /// The instruction is refused, as is written where the caller says.
+    Refused,
+    /// Memory ran out.
+    OutOfMemory,
+}
 
-    fn advance(&mut self, distance: u128) -> Result<(), StepError>
-        requires { self.old.location ≤ self.old.limit }
-        ensures step { Steps self.old (Advance distance) result self.new }
-        ensures same { self.new.initial ≡ self.old.initial }
-    {
-        if distance > self.limit - self.location {
-            return Err(StepError::Fault(Code::LocationTooLarge));
-        }
-        self.location += distance;
-        Ok(())
-    }
-
-    fn remember(&mut self) -> Result<(), StepError>
-        requires { self.old.location ≤ self.old.limit }
-        ensures step { Steps self.old RememberState result self.new }
-        ensures same { self.new.initial ≡ self.old.initial }
-    {
-        if self.states.depth() >= MOST_REMEMBERED {
-            return Err(StepError::Fault(Code::StateStackFull));
-        }
-        if self.states.remember().is_err() {
-            return Err(StepError::OutOfMemory);
-        }
-        Ok(())
-    }
-
-    fn restore(&mut self) -> Result<(), StepError>
-        requires { self.old.location ≤ self.old.limit }
-        ensures step { Steps self.old RestoreState result self.new }
-        ensures same { self.new.initial ≡ self.old.initial }
-    {
-        match self.states.restore() {
-            Ok(true) => Ok(()),
-            Ok(false) => Err(StepError::Fault(Code::EmptyStateStack)),
-            Err(_) => Err(StepError::OutOfMemory),
-        }
-    }
-
-    fn restore_register(&mut self, register: u16) -> Result<(), StepError>
-        requires { self.old.location ≤ self.old.limit }
-        ensures step { Steps self.old (Restore register) result self.new }
-        ensures same { self.new.initial ≡ self.old.initial }
-    {
-        let rule = self.initial.rule(register);
-        if self.states.set(register, rule).is_err() {
-            return Err(StepError::OutOfMemory);
-        }
-        Ok(())
-    }
-
-    /// Runs an instruction.
-    pub(crate) fn step(&mut self, instr: Instr<'a>) -> Result<(), StepError>
-        requires address { InLimit self.old.limit instr }
-        requires location { self.old.location ≤ self.old.limit }
-        ensures step { Steps self.old instr.entry result self.new }
-        ensures same { self.new.initial ≡ self.old.initial }
-    {
-        match instr {
-            Instr::SetLoc(address) => self.set_location(address),
-            Instr::Advance(distance) => self.advance(distance),
-            Instr::RememberState => self.remember(),
-            Instr::RestoreState => self.restore(),
-            Instr::Restore(register) => self.restore_register(register),
-            instr => write_rule(&mut self.states, instr),
-        }
-    }
+/// Ends with a refusal.
+#[inline(always)]
+pub(crate) fn refused(refusal: Refusal, fault: &mut Refusal) -> End
+    ensures end { result ≡ End.Refused }
+    ensures fault { fault.new ≡ refusal }
+{
+    *fault = refusal;
+    End::Refused
 }

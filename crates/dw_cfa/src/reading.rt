@@ -1,13 +1,13 @@
 //! The instruction at the front of what is left of a program.
 
-ghost use Rattle.std.specs.Prelude.{◌≡◌, ◌+◌, ◌*◌, ◌<◌, ◌^◌, ◌*ℤ◌, length, unsigned_abs};
+ghost use Rattle.std.specs.Prelude.{◌≡◌, ◌+◌, ◌*◌, ◌<◌, ◌^◌, ◌*ℤ◌, length, unsigned_abs, IsTrue, IsOk};
 ghost use Rattle.dw_num.specs.Fixed.{IsWidth};
-ghost use Rattle.dw_num.specs.Reading.{Gives};
+ghost use Rattle.dw_num.specs.Reading.{Gives, uleb_at};
 ghost use Rattle.dw_cfa.specs.Reading.{opcode_of, offset_in, plain_at, factored_at, signed_at, expression_in, block_at, set_loc_at, advance_at, def_cfa_at, def_cfa_sf_at, def_cfa_register_at, def_cfa_offset_at, def_cfa_offset_sf_at, def_cfa_expression_at, offset_at, offset_extended_at, offset_extended_sf_at, val_offset_at, val_offset_sf_at, restore_at, undefined_at, same_value_at, register_rule_at, expression_at, val_expression_at, operands_at, instr_at};
 
 use crate::instr::{Factors, Instr};
 use crate::rule::RegRule;
-use dw_num::{Code, Cursor, Refusal, Target};
+use dw_num::{Code, Cursor, Refusal, Target, are_bytes};
 use dw_op::ExprRef;
 
 // The greatest offset. The least one is its negative.
@@ -46,7 +46,7 @@ pub(crate) enum Opcode {
 
 // What a code says: DWARF 5, 7.24.
 #[tactic(auto, unfolding(crate::specs::Reading::opcode_of))]
-fn known_opcode(code: u8) -> Option<Opcode>
+pub(crate) fn known_opcode(code: u8) -> Option<Opcode>
     ensures { result ≡ opcode_of code }
 {
     let opcode = match code {
@@ -106,24 +106,41 @@ fn times(operand: i128, factor: i64) -> i128
     operand * i128::from(factor)
 }
 
+// An unsigned LEB128 number, which mostly has one byte.
+#[inline(always)]
+fn quick_uleb(cursor: &mut Cursor<'_>) -> Result<u64, Refusal>
+    ensures { Gives (λ v. v) result (uleb_at cursor.old) cursor.new }
+{
+    let before = Cursor::new(cursor.rest(), cursor.at(), cursor.target());
+    if let Ok(byte) = cursor.byte() {
+        if byte < 128 {
+            return Ok(u64::from(byte));
+        }
+    }
+    *cursor = before;
+    cursor.uleb()
+}
+
 #[tactic(auto, unfolding(crate::specs::Reading::plain_at))]
-fn plain(cursor: &mut Cursor<'_>, at: u64) -> Result<i64, Refusal>
+#[inline(always)]
+pub(crate) fn plain(cursor: &mut Cursor<'_>, at: u64) -> Result<i64, Refusal>
     ensures { Gives (λ z. z) result (plain_at at cursor.old) cursor.new }
 {
-    let operand = cursor.uleb()?;
+    let operand = quick_uleb(cursor)?;
     checked_offset(i128::from(operand), at)
 }
 
 #[tactic(auto, unfolding(crate::specs::Reading::factored_at))]
-fn factored(cursor: &mut Cursor<'_>, factors: Factors, at: u64) -> Result<i64, Refusal>
+#[inline(always)]
+pub(crate) fn factored(cursor: &mut Cursor<'_>, factors: Factors, at: u64) -> Result<i64, Refusal>
     ensures { Gives (λ z. z) result (factored_at factors at cursor.old) cursor.new }
 {
-    let operand = cursor.uleb()?;
+    let operand = quick_uleb(cursor)?;
     checked_offset(times(i128::from(operand), factors.data_factor), at)
 }
 
 #[tactic(auto, unfolding(crate::specs::Reading::signed_at))]
-fn signed(cursor: &mut Cursor<'_>, factors: Factors, at: u64) -> Result<i64, Refusal>
+pub(crate) fn signed(cursor: &mut Cursor<'_>, factors: Factors, at: u64) -> Result<i64, Refusal>
     ensures { Gives (λ z. z) result (signed_at factors at cursor.old) cursor.new }
 {
     let operand = cursor.sleb()?;
@@ -132,10 +149,20 @@ fn signed(cursor: &mut Cursor<'_>, factors: Factors, at: u64) -> Result<i64, Ref
 
 // The expression of a block that stands at this place, with its faults at places of the section.
 #[tactic(auto, using(dw_op::proofs::FaultPlaces::fault_within, crate::proofs::Expressions::expression_found, crate::proofs::Expressions::expression_refused))]
-fn accept_at<'a>(block: &'a [u8], at: u64, target: Target) -> Result<ExprRef<'a>, Refusal>
-    requires { at + length block.now < 2 ^ 63 }
+fn accept_at<'a>(
+    block: &'a [u8],
+    at: u64,
+    target: Target,
+    known: bool,
+) -> Result<ExprRef<'a>, Refusal>
+    requires room { at + length block.now < 2 ^ 63 }
+    requires known { IsTrue known → IsOk (expression_in at target block.now) }
     ensures { result ≡ expression_in at target block.now }
 {
+    are_bytes(block);
+    if known {
+        return Ok(ExprRef::known(block, target));
+    }
     match ExprRef::accept(block, target) {
         Ok(expression) => Ok(expression),
         Err(fault) => Err(Refusal {
@@ -146,14 +173,15 @@ fn accept_at<'a>(block: &'a [u8], at: u64, target: Target) -> Result<ExprRef<'a>
 }
 
 #[tactic(auto, unfolding(crate::specs::Reading::block_at))]
-fn block<'a>(cursor: &mut Cursor<'a>) -> Result<ExprRef<'a>, Refusal>
+pub(crate) fn block<'a>(cursor: &mut Cursor<'a>, known: bool) -> Result<ExprRef<'a>, Refusal>
+    requires { IsTrue known → IsOk (block_at cursor.old) }
     ensures { Gives (λ e. e) result (block_at cursor.old) cursor.new }
 {
     let target = cursor.target();
     let len = cursor.uleb()?;
     let at = cursor.at();
     let block = cursor.take(len as usize)?;
-    accept_at(block, at, target)
+    accept_at(block, at, target, known)
 }
 
 // ---- instructions with operands
@@ -171,7 +199,7 @@ fn read_set_loc<'a>(cursor: &mut Cursor<'a>) -> Result<Instr<'a>, Refusal>
 }
 
 #[tactic(auto, using(crate::proofs::Products::distance_fits))]
-fn distance(delta: u64, factors: Factors) -> u128
+pub(crate) fn distance(delta: u64, factors: Factors) -> u128
     ensures { result ≡ delta * factors.code_factor }
 {
     u128::from(delta) * u128::from(factors.code_factor)
@@ -248,10 +276,11 @@ fn read_def_cfa_offset_sf<'a>(
 
 #[tactic(auto, unfolding(crate::specs::Reading::def_cfa_expression_at))]
 #[inline(never)]
-fn read_def_cfa_expression<'a>(cursor: &mut Cursor<'a>) -> Result<Instr<'a>, Refusal>
+fn read_def_cfa_expression<'a>(cursor: &mut Cursor<'a>, known: bool) -> Result<Instr<'a>, Refusal>
+    requires { IsTrue known → IsOk (def_cfa_expression_at cursor.old) }
     ensures { Gives (λ i. i) result (def_cfa_expression_at cursor.old) cursor.new }
 {
-    let expression = block(cursor)?;
+    let expression = block(cursor, known)?;
     Ok(Instr::DefCfaExpression(expression))
 }
 
@@ -365,21 +394,23 @@ fn read_register_rule<'a>(cursor: &mut Cursor<'a>) -> Result<Instr<'a>, Refusal>
 
 #[tactic(auto, unfolding(crate::specs::Reading::expression_at))]
 #[inline(never)]
-fn read_expression<'a>(cursor: &mut Cursor<'a>) -> Result<Instr<'a>, Refusal>
+fn read_expression<'a>(cursor: &mut Cursor<'a>, known: bool) -> Result<Instr<'a>, Refusal>
+    requires { IsTrue known → IsOk (expression_at cursor.old) }
     ensures { Gives (λ i. i) result (expression_at cursor.old) cursor.new }
 {
     let register = cursor.register()?;
-    let expression = block(cursor)?;
+    let expression = block(cursor, known)?;
     Ok(Instr::Set(register, RegRule::Expression(expression)))
 }
 
 #[tactic(auto, unfolding(crate::specs::Reading::val_expression_at))]
 #[inline(never)]
-fn read_val_expression<'a>(cursor: &mut Cursor<'a>) -> Result<Instr<'a>, Refusal>
+fn read_val_expression<'a>(cursor: &mut Cursor<'a>, known: bool) -> Result<Instr<'a>, Refusal>
+    requires { IsTrue known → IsOk (val_expression_at cursor.old) }
     ensures { Gives (λ i. i) result (val_expression_at cursor.old) cursor.new }
 {
     let register = cursor.register()?;
-    let expression = block(cursor)?;
+    let expression = block(cursor, known)?;
     Ok(Instr::Set(register, RegRule::ValExpression(expression)))
 }
 
@@ -392,7 +423,9 @@ fn operands<'a>(
     factors: Factors,
     at: u64,
     opcode: Opcode,
+    known: bool,
 ) -> Result<Instr<'a>, Refusal>
+    requires { IsTrue known → IsOk (operands_at factors at opcode cursor.old) }
     ensures { Gives (λ i. i) result (operands_at factors at opcode cursor.old) cursor.new }
 {
     match opcode {
@@ -417,27 +450,30 @@ fn operands<'a>(
         Opcode::DefCfaRegister => read_def_cfa_register(cursor),
         Opcode::DefCfaOffset => read_def_cfa_offset(cursor, at),
         Opcode::DefCfaOffsetSf => read_def_cfa_offset_sf(cursor, factors, at),
-        Opcode::DefCfaExpression => read_def_cfa_expression(cursor),
-        Opcode::Expression => read_expression(cursor),
+        Opcode::DefCfaExpression => read_def_cfa_expression(cursor, known),
+        Opcode::Expression => read_expression(cursor, known),
         Opcode::ValOffset => read_val_offset(cursor, factors, at),
         Opcode::ValOffsetSf => read_val_offset_sf(cursor, factors, at),
-        Opcode::ValExpression => read_val_expression(cursor),
+        Opcode::ValExpression => read_val_expression(cursor, known),
     }
 }
 
 /// The instruction at the front of a program, its factors multiplied out, or its first fault: an opcode that
-/// is no instruction's, then its operands' from left to right, then an offset that is too large.
+/// is no instruction's, then its operands' from left to right, then an offset that is too large. Where it is known to be
+/// read, its expression is not judged again.
 #[tactic(auto, unfolding(crate::specs::Reading::instr_at))]
 pub(crate) fn read_instr<'a>(
     cursor: &mut Cursor<'a>,
     factors: Factors,
+    known: bool,
 ) -> Result<Instr<'a>, Refusal>
+    requires { IsTrue known → IsOk (instr_at factors cursor.old) }
     ensures exact { Gives (λ i. i) result (instr_at factors cursor.old) cursor.new }
 {
     let at = cursor.at();
     let code = cursor.byte()?;
     match known_opcode(code) {
-        Some(opcode) => operands(cursor, factors, at, opcode),
+        Some(opcode) => operands(cursor, factors, at, opcode, known),
         None => Err(Refusal {
             code: Code::UnknownInstruction,
             at,

@@ -1,118 +1,73 @@
 //! Rows of rules (6.4.1).
 
-ghost use Rattle.std.specs.Prelude.{◌≡◌, ℕ, ◌<◌, List, [], ◌∷◌, ◌++◌, length, suc, take, drop, IfOk, OnOk, OnErr, MatchOption, IsTrue, ◌↔◌};
-ghost use Rattle.std.specs.List.{HoldsAt, filter};
+ghost use Rattle.std.specs.Prelude.{◌≡◌, ◌<◌, [], ◌∷◌, IfOk, OnOk, OnErr, MatchOption, IsTrue, ◌↔◌};
+ghost use Rattle.std.specs.List.{filter};
 ghost use Rattle.std.specs.Iterator.{YieldsFirst, item_count};
-ghost use Rattle.dw_cfa.specs.Rows.{Rules, AreSpecified, rule, begins, put, place, rule_in, with_cfa, with_rule, blank};
-ghost use Rattle.dw_cfa.specs.Entries.{entries_of, unseen_of};
+ghost use Rattle.dw_cfa.specs.declared.rule.RegRule.TheVariants.{Unspecified};
+ghost use Rattle.dw_cfa.specs.Rows.{AreSpecified, rule, put, rule_in, with_cfa, with_rule, blank};
 ghost use Rattle.dw_cfa.specs.Narrowing.{is_agreed, is_kept, agreed, kept};
+ghost use Rattle.dw_cfa.specs.Entries.{entries_of, slot_rule, EntriesSo, IsSlotOf, FindsNear, Covers, LeavesAt, LeavesBelow};
 
 use crate::rule::{CfaRule, RegRule};
-use smallvec::SmallVec;
 use std::alloc::{AllocError, Global};
 use std::collections::{BTreeMap, btree_map};
 use std::marker::Model;
 
-// So many registers stay in a list: to put one before them moves them all.
-const MOST_IN_LIST: usize = 64;
+// The registers below this have slots of their own.
+const NEAR: u16 = 32;
 
-// The registers that are not Unspecified, ascending, with their rules.
-#[derive(Drop)]
-enum Entries<'a> {
-    Few(SmallVec<(u16, RegRule<'a>), 8>),
-    Many(BTreeMap<u16, RegRule<'a>>),
+// What kind of rule a slot holds. A rule with an expression is kept beside the slots.
+#[derive(Clone, Copy)]
+enum Kind {
+    Empty,
+    Undefined,
+    SameValue,
+    Offset,
+    ValOffset,
+    Register,
+    Expression,
 }
 
-// The place of the first entry whose register is not below this one.
-fn place_of(entries: &[(u16, RegRule<'_>)], register: u16) -> usize
-    requires { AreSpecified 0 entries.now }
-    ensures { result ≡ place register entries.now }
-{
-    entries.partition_point(|entry| entry.0 < register)
-}
-
-// Whether the entry at a place is this register's.
-fn is_at(entries: &[(u16, RegRule<'_>)], place: usize, register: u16) -> bool
-    ensures { result ≡ begins register (drop place entries.now) }
-{
-    match entries.get(place) {
-        Some(entry) => entry.0 == register,
-        None => false,
-    }
-}
-
-// The rule of a register in an ascending list.
-fn rule_in_list<'a>(entries: &[(u16, RegRule<'a>)], register: u16) -> RegRule<'a>
-    requires { AreSpecified 0 entries.now }
-    ensures { result ≡ rule_in entries.now register }
-{
-    let place = place_of(entries, register);
-    if is_at(entries, place, register) {
-        entries[place].1.copied()
-    } else {
-        RegRule::Unspecified
-    }
-}
-
-// Writes another rule in place of one, which it answers.
-fn replace<'a>(
-    entries: &mut SmallVec<(u16, RegRule<'a>), 8>,
-    place: usize,
-    entry: (u16, RegRule<'a>),
-) -> RegRule<'a>
-    requires { place < length entries.old.items }
-    ensures older { HoldsAt (λ older. result ≡ older.1) entries.old.items place }
-    ensures entries { entries.new.items ≡ take place entries.old.items ++ entry.entry ∷ drop (suc place) entries.old.items }
-{
-    let older = entries[place].1.copied();
-    entries[place] = entry;
-    older
-}
-
-// Gives a register a rule in an ascending list, and answers the one that it had. Unspecified takes it out
-// of the list.
-fn exchange_in_list<'a>(
-    entries: &mut SmallVec<(u16, RegRule<'a>), 8>,
+// The rule of a register: its kind, and its register or its offset.
+#[derive(Clone, Copy)]
+struct Slot {
+    kind: Kind,
     register: u16,
-    rule: RegRule<'a>,
-) -> Result<RegRule<'a>, AllocError>
-    requires { AreSpecified 0 entries.old.items }
-    ensures older { IfOk result (λ older. older ≡ rule_in entries.old.items register) }
-    ensures ok { OnOk result (entries.new.items ≡ put register rule.entry entries.old.items) }
-    ensures err { OnErr result (entries.new ≡ entries.old) }
-{
-    let place = place_of(entries.as_slice(), register);
-    let present = is_at(entries.as_slice(), place, register);
-    if rule.is_specified() {
-        if present {
-            return Ok(replace(entries, place, (register, rule)));
-        }
-        entries.insert(place, (register, rule))?;
-        return Ok(RegRule::Unspecified);
-    }
-    if present {
-        return Ok(entries.remove(place).1);
-    }
-    Ok(RegRule::Unspecified)
+    offset: i64,
 }
 
-// The same in a tree.
-fn exchange_in_tree<'a>(
+const EMPTY: Slot = Slot {
+    kind: Kind::Empty,
+    register: 0,
+    offset: 0,
+};
+
+// The registers that are not Unspecified, with their rules: those below 32 in slots, with the expressions of
+// theirs in a tree, and all others in another tree.
+#[derive(Drop)]
+struct Entries<'a> {
+    near: [Slot; 32],
+    used: u32,
+    expressions: BTreeMap<u16, RegRule<'a>>,
+    far: BTreeMap<u16, RegRule<'a>>,
+}
+
+// Gives a register a rule in a tree. Unspecified takes it out.
+fn set_in_tree<'a>(
     entries: &mut BTreeMap<u16, RegRule<'a>>,
     register: u16,
     rule: RegRule<'a>,
-) -> Result<RegRule<'a>, AllocError>
+) -> Result<(), AllocError>
     requires { AreSpecified 0 entries.old.entries }
-    ensures older { IfOk result (λ older. older ≡ rule_in entries.old.entries register) }
     ensures ok { OnOk result (entries.new.entries ≡ put register rule.entry entries.old.entries) }
     ensures err { OnErr result (entries.new.entries ≡ entries.old.entries) }
 {
     if rule.is_specified() {
-        let older = entries.insert(register, rule)?;
-        return Ok(older.unwrap_or(RegRule::Unspecified));
+        entries.insert(register, rule)?;
+        return Ok(());
     }
-    let older = entries.remove(&register);
-    Ok(older.unwrap_or(RegRule::Unspecified))
+    entries.remove(&register);
+    Ok(())
 }
 
 // The rule of a register in a tree.
@@ -123,6 +78,70 @@ fn rule_in_tree<'a>(entries: &BTreeMap<u16, RegRule<'a>>, register: u16) -> RegR
         Some(rule) => rule.copied(),
         None => RegRule::Unspecified,
     }
+}
+
+// The rule that a slot holds of a register.
+#[inline(always)]
+fn rule_of<'a>(slot: Slot, expressions: &BTreeMap<u16, RegRule<'a>>, register: u16) -> RegRule<'a>
+    ensures { result ≡ slot_rule slot (rule_in expressions.now.entries register) }
+{
+    match slot.kind {
+        Kind::Empty => RegRule::Unspecified,
+        Kind::Undefined => RegRule::Undefined,
+        Kind::SameValue => RegRule::SameValue,
+        Kind::Offset => RegRule::Offset(slot.offset),
+        Kind::ValOffset => RegRule::ValOffset(slot.offset),
+        Kind::Register => RegRule::Register(slot.register),
+        Kind::Expression => rule_in_tree(expressions, register),
+    }
+}
+
+// The slot of a rule.
+#[inline(always)]
+fn slot_of(rule: &RegRule<'_>) -> Slot
+    ensures { IsSlotOf rule.now result }
+{
+    let (kind, register, offset) = match rule {
+        RegRule::Unspecified => (Kind::Empty, 0, 0),
+        RegRule::Undefined => (Kind::Undefined, 0, 0),
+        RegRule::SameValue => (Kind::SameValue, 0, 0),
+        RegRule::Offset(offset) => (Kind::Offset, 0, *offset),
+        RegRule::ValOffset(offset) => (Kind::ValOffset, 0, *offset),
+        RegRule::Register(register) => (Kind::Register, *register, 0),
+        RegRule::Expression(_) => (Kind::Expression, 0, 0),
+        RegRule::ValExpression(_) => (Kind::Expression, 0, 0),
+    };
+    Slot {
+        kind,
+        register,
+        offset,
+    }
+}
+
+// The first register from a place on that is not Unspecified, and its rule.
+fn next_near<'a>(
+    at: u16,
+    near: &[Slot; 32],
+    used: u32,
+    expressions: &BTreeMap<u16, RegRule<'a>>,
+) -> Option<(u16, RegRule<'a>)>
+    requires { Covers used near.now }
+    ensures { FindsNear result at near.now expressions.now.entries }
+{
+    let mut register = at;
+    'slots: while register < NEAR {
+        let left = used >> register;
+        if left == 0 {
+            return None;
+        }
+        register += left.trailing_zeros() as u16;
+        let rule = rule_of(near[usize::from(register)], expressions, register);
+        if rule.is_specified() {
+            return Some((register, rule));
+        }
+        register += 1;
+    }
+    None
 }
 
 // A tree of ascending entries.
@@ -138,37 +157,6 @@ fn tree_of<'a>(
         tree.insert(register, rule)?;
     }
     Ok(tree)
-}
-
-// Makes a list that of others, in the room that is there.
-fn refill<'a>(
-    entries: &mut SmallVec<(u16, RegRule<'a>), 8>,
-    others: &[(u16, RegRule<'a>)],
-) -> Result<(), AllocError>
-    requires { AreSpecified 0 others.now }
-    ensures ok { OnOk result (entries.new.items ≡ others.now) }
-    ensures ascending { AreSpecified 0 entries.new.items }
-{
-    entries.clear();
-    for entry in others {
-        entries.push((entry.0, entry.1.copied()))?;
-    }
-    Ok(())
-}
-
-// Whether two lists have the same entries.
-fn same_entries(entries: &[(u16, RegRule<'_>)], others: &[(u16, RegRule<'_>)]) -> bool
-    ensures { IsTrue result ↔ (entries.now ≡ others.now) }
-{
-    if entries.len() != others.len() {
-        return false;
-    }
-    'entries: for (entry, other) in entries.iter().zip(others) {
-        if entry.0 != other.0 || !entry.1.is_same(&other.1) {
-            return false;
-        }
-    }
-    true
 }
 
 // Whether both give the same entries.
@@ -188,132 +176,242 @@ fn give_same(entries: Specified<'_, '_>, others: Specified<'_, '_>) -> bool
 }
 
 impl<'a> Entries<'a> {
-    fn is_full(&self) -> bool {
-        match self {
-            Entries::Few(few) => few.len() >= MOST_IN_LIST,
-            Entries::Many(_) => false,
-        }
-    }
-
+    #[inline(always)]
     fn rule(&self, register: u16) -> RegRule<'a>
-        requires { AreSpecified 0 (entries_of self.now) }
+        requires { EntriesSo self.now }
         ensures { result ≡ rule_in (entries_of self.now) register }
     {
-        match self {
-            Entries::Few(few) => rule_in_list(few.as_slice(), register),
-            Entries::Many(many) => rule_in_tree(many, register),
+        if register < NEAR {
+            return rule_of(
+                self.near[usize::from(register)],
+                &self.expressions,
+                register,
+            );
         }
+        rule_in_tree(&self.far, register)
     }
 
     fn all(&self) -> Specified<'_, 'a>
+        requires { EntriesSo self.now }
         ensures { result ≡ entries_of self.now }
     {
         Specified {
-            unseen: match self {
-                Entries::Few(few) => Unseen::Few(few.as_slice()),
-                Entries::Many(many) => Unseen::Many(many.iter()),
-            },
+            at: 0,
+            near: &self.near,
+            used: self.used,
+            expressions: &self.expressions,
+            far: self.far.iter(),
+        }
+    }
+
+    // The expressions of the slots alone.
+    fn all_expressions(&self) -> Specified<'_, 'a>
+        requires { EntriesSo self.now }
+        ensures { result ≡ self.now.expressions.entries }
+    {
+        Specified {
+            at: NEAR,
+            near: &self.near,
+            used: self.used,
+            expressions: &self.expressions,
+            far: self.expressions.iter(),
+        }
+    }
+
+    // The registers that have no slot.
+    fn all_far(&self) -> Specified<'_, 'a>
+        requires { EntriesSo self.now }
+        ensures { result ≡ self.now.far.entries }
+    {
+        Specified {
+            at: NEAR,
+            near: &self.near,
+            used: self.used,
+            expressions: &self.expressions,
+            far: self.far.iter(),
         }
     }
 
     fn is_same(&self, others: &Entries<'_>) -> bool
+        requires before { EntriesSo self.now }
+        requires others { EntriesSo others.now }
         ensures { IsTrue result ↔ (entries_of self.now ≡ entries_of others.now) }
     {
-        match (self, others) {
-            (Entries::Few(few), Entries::Few(others)) => {
-                same_entries(few.as_slice(), others.as_slice())
-            }
-            _ => give_same(self.all(), others.all()),
-        }
+        give_same(self.all(), others.all())
     }
 
     fn copied(&self, alloc: Global) -> Result<Entries<'a>, AllocError>
-        requires { AreSpecified 0 (entries_of self.now) }
-        ensures { IfOk result (λ copy. entries_of copy ≡ entries_of self.now) }
+        requires { EntriesSo self.now }
+        ensures { IfOk result (λ copy. (entries_of copy ≡ entries_of self.now) × EntriesSo copy) }
     {
-        match self {
-            Entries::Few(few) => {
-                let mut copy = SmallVec::new(alloc);
-                refill(&mut copy, few.as_slice())?;
-                Ok(Entries::Few(copy))
-            }
-            Entries::Many(_) => Ok(Entries::Many(tree_of(self.all(), alloc)?)),
+        if self.is_narrow() {
+            return Ok(Entries {
+                near: self.near,
+                used: self.used,
+                expressions: BTreeMap::new(alloc),
+                far: BTreeMap::new(alloc),
+            });
         }
+        let expressions = tree_of(self.all_expressions(), alloc)?;
+        let far = tree_of(self.all_far(), alloc)?;
+        Ok(Entries {
+            near: self.near,
+            used: self.used,
+            expressions,
+            far,
+        })
     }
 
-    // Makes them a copy of others. Few among few stay in their room.
+    // Whether both trees are empty.
+    fn is_narrow(&self) -> bool
+        ensures { IsTrue result → (self.now.expressions.entries ≡ []) × (self.now.far.entries ≡ []) }
+    {
+        self.expressions.is_empty() && self.far.is_empty()
+    }
+
+    // Makes them a copy of others.
     fn become_copy(&mut self, others: &Entries<'a>, alloc: Global) -> Result<(), AllocError>
-        requires before { AreSpecified 0 (entries_of self.old) }
-        requires others { AreSpecified 0 (entries_of others.now) }
+        requires before { EntriesSo self.old }
+        requires others { EntriesSo others.now }
         ensures ok { OnOk result (entries_of self.new ≡ entries_of others.now) }
-        ensures ascending { AreSpecified 0 (entries_of self.new) }
+        ensures so { EntriesSo self.new }
     {
-        if let Entries::Few(few) = self {
-            if let Entries::Few(others) = others {
-                return refill(few, others.as_slice());
-            }
+        if self.is_narrow() && others.is_narrow() {
+            self.near = others.near;
+            self.used = others.used;
+            return Ok(());
         }
-        *self = others.copied(alloc)?;
+        self.expressions = tree_of(others.all_expressions(), alloc)?;
+        self.far = tree_of(others.all_far(), alloc)?;
+        self.near = others.near;
+        self.used = others.used;
         Ok(())
     }
 
-    // Drops the entries to which others give another rule.
-    fn agree(&mut self, others: &Entries<'_>)
-        requires { AreSpecified 0 (entries_of others.now) }
-        ensures { entries_of self.new ≡ filter (is_agreed (entries_of others.now)) (entries_of self.old) }
-    {
-        match self {
-            Entries::Few(few) => few.retain(|entry| entry.1.is_same(&others.rule(entry.0))),
-            Entries::Many(many) => {
-                many.retain(|register, rule| rule.is_same(&others.rule(*register)));
-            }
-        }
-    }
-
-    // Drops the entries that others do not have.
-    fn keep(&mut self, others: &Entries<'_>)
-        requires { AreSpecified 0 (entries_of others.now) }
-        ensures { entries_of self.new ≡ filter (is_kept (entries_of others.now)) (entries_of self.old) }
-    {
-        match self {
-            Entries::Few(few) => few.retain(|entry| others.rule(entry.0).is_specified()),
-            Entries::Many(many) => {
-                many.retain(|register, _| others.rule(*register).is_specified());
-            }
-        }
-    }
-
-    // Puts them into a tree where they are a full list and the register comes in.
-    fn make_place(&mut self, register: u16, alloc: Global) -> Result<(), AllocError>
-        requires { AreSpecified 0 (entries_of self.old) }
-        ensures { entries_of self.new ≡ entries_of self.old }
-    {
-        if self.is_full() && !self.rule(register).is_specified() {
-            let tree = tree_of(self.all(), alloc)?;
-            *self = Entries::Many(tree);
-        }
-        Ok(())
-    }
-
-    // Gives a register a rule, and answers the one that it had.
-    fn exchange(
-        &mut self,
-        register: u16,
-        rule: RegRule<'a>,
-        alloc: Global,
-    ) -> Result<RegRule<'a>, AllocError>
-        requires { AreSpecified 0 (entries_of self.old) }
-        ensures older { IfOk result (λ older. older ≡ rule_in (entries_of self.old) register) }
+    // Gives a register that has a slot a rule.
+    #[inline(always)]
+    fn set_near(&mut self, register: u16, rule: RegRule<'a>) -> Result<(), AllocError>
+        requires so { EntriesSo self.old }
+        requires near { register < 32 }
         ensures ok { OnOk result (entries_of self.new ≡ put register rule.entry (entries_of self.old)) }
+        ensures so { EntriesSo self.new }
         ensures err { OnErr result (entries_of self.new ≡ entries_of self.old) }
     {
-        if rule.is_specified() {
-            self.make_place(register, alloc)?;
+        let slot = slot_of(&rule);
+        if let Kind::Expression = slot.kind {
+            set_in_tree(&mut self.expressions, register, rule)?;
+            self.near[usize::from(register)] = slot;
+            self.used |= 1 << register;
+            return Ok(());
         }
-        match self {
-            Entries::Few(few) => exchange_in_list(few, register, rule),
-            Entries::Many(many) => exchange_in_tree(many, register, rule),
+        self.near[usize::from(register)] = slot;
+        self.used |= 1 << register;
+        Ok(())
+    }
+
+    // Gives a register a rule.
+    #[inline(always)]
+    fn set(&mut self, register: u16, rule: RegRule<'a>) -> Result<(), AllocError>
+        requires { EntriesSo self.old }
+        ensures ok { OnOk result (entries_of self.new ≡ put register rule.entry (entries_of self.old)) }
+        ensures so { EntriesSo self.new }
+        ensures err { OnErr result (entries_of self.new ≡ entries_of self.old) }
+    {
+        if register < NEAR {
+            return self.set_near(register, rule);
         }
+        set_in_tree(&mut self.far, register, rule)
+    }
+
+    // Takes a register out that has a slot.
+    fn drop_near(&mut self, register: u16)
+        requires so { EntriesSo self.old }
+        requires near { register < 32 }
+        ensures entries { entries_of self.new ≡ put register Unspecified (entries_of self.old) }
+        ensures so { EntriesSo self.new }
+    {
+        self.near[usize::from(register)] = EMPTY;
+        self.used &= !(1 << register);
+    }
+
+    // Takes a register out that has a slot, if others give it another rule.
+    #[inline(always)]
+    fn agree_at(&mut self, register: u16, others: &Entries<'_>)
+        requires so { EntriesSo self.old }
+        requires others { EntriesSo others.now }
+        requires near { register < 32 }
+        ensures rules { LeavesAt (is_agreed (entries_of others.now)) register (entries_of self.old) (entries_of self.new) }
+        ensures so { EntriesSo self.new }
+    {
+        if !self.rule(register).is_same(&others.rule(register)) {
+            self.drop_near(register);
+        }
+    }
+
+    // Takes those out that have slots and to which others give another rule.
+    fn agree_near(&mut self, others: &Entries<'_>)
+        requires so { EntriesSo self.old }
+        requires others { EntriesSo others.now }
+        ensures rules { LeavesBelow (is_agreed (entries_of others.now)) 32 (entries_of self.old) (entries_of self.new) }
+        ensures so { EntriesSo self.new }
+    {
+        let mut register = 0;
+        'slots: while register < NEAR {
+            self.agree_at(register, others);
+            register += 1;
+        }
+    }
+
+    // Takes those out to which others give another rule.
+    fn agree(&mut self, others: &Entries<'_>)
+        requires so { EntriesSo self.old }
+        requires others { EntriesSo others.now }
+        ensures entries { entries_of self.new ≡ filter (is_agreed (entries_of others.now)) (entries_of self.old) }
+        ensures so { EntriesSo self.new }
+    {
+        self.agree_near(others);
+        self.far
+            .retain(|register, rule| rule.is_same(&others.rule(*register)));
+    }
+
+    // Takes a register out that has a slot, if others leave it Unspecified.
+    #[inline(always)]
+    fn keep_at(&mut self, register: u16, others: &Entries<'_>)
+        requires so { EntriesSo self.old }
+        requires others { EntriesSo others.now }
+        requires near { register < 32 }
+        ensures rules { LeavesAt (is_kept (entries_of others.now)) register (entries_of self.old) (entries_of self.new) }
+        ensures so { EntriesSo self.new }
+    {
+        if !others.rule(register).is_specified() {
+            self.drop_near(register);
+        }
+    }
+
+    // Takes those out that have slots and that others leave Unspecified.
+    fn keep_near(&mut self, others: &Entries<'_>)
+        requires so { EntriesSo self.old }
+        requires others { EntriesSo others.now }
+        ensures rules { LeavesBelow (is_kept (entries_of others.now)) 32 (entries_of self.old) (entries_of self.new) }
+        ensures so { EntriesSo self.new }
+    {
+        let mut register = 0;
+        'slots: while register < NEAR {
+            self.keep_at(register, others);
+            register += 1;
+        }
+    }
+
+    // Takes those out that others leave Unspecified.
+    fn keep(&mut self, others: &Entries<'_>)
+        requires so { EntriesSo self.old }
+        requires others { EntriesSo others.now }
+        ensures entries { entries_of self.new ≡ filter (is_kept (entries_of others.now)) (entries_of self.old) }
+        ensures so { EntriesSo self.new }
+    {
+        self.keep_near(others);
+        self.far
+            .retain(|register, _| others.rule(*register).is_specified());
     }
 }
 
@@ -327,55 +425,50 @@ pub struct Row<'a> {
 }
 
 impl<'a> Model for Row<'a> {
-    ghost use Rattle.dw_cfa.specs.Rows.{Rules, AreSpecified};
-    ghost use Rattle.dw_cfa.specs.Entries.{entries_of};
+    ghost use Rattle.dw_cfa.specs.Rows.{Rules};
+    ghost use Rattle.dw_cfa.specs.Entries.{entries_of, EntriesSo};
 
     ghost Value = { Rules };
 
     ghost view = { λ r. record { cfa = r.cfa; registers = entries_of r.entries } };
 
-    ghost invariant = { λ r. AreSpecified 0 (entries_of r.entries) };
-}
-
-// What an iterator over the registers of a row has not shown.
-#[derive(Drop)]
-enum Unseen<'r, 'a> {
-    Few(&'r [(u16, RegRule<'a>)]),
-    Many(btree_map::Iter<'r, u16, RegRule<'a>>),
+    ghost invariant = { λ r. EntriesSo r.entries };
 }
 
 /// An iterator over the registers that a row specifies, ascending, with their rules. Takes no memory.
 #[derive(Drop)]
 pub struct Specified<'r, 'a> {
-    unseen: Unseen<'r, 'a>,
+    at: u16,
+    near: &'r [Slot; 32],
+    used: u32,
+    expressions: &'r BTreeMap<u16, RegRule<'a>>,
+    far: btree_map::Iter<'r, u16, RegRule<'a>>,
 }
 
 impl<'r, 'a> Model for Specified<'r, 'a> {
-    ghost use Rattle.std.specs.Prelude.{List, ℕ};
+    ghost use Rattle.std.specs.Prelude.{◌≡◌, List, ℕ, drop, length};
     ghost use Rattle.dw_cfa.specs.declared.rule.RegRule.{RegRule as Rule};
-    ghost use Rattle.dw_cfa.specs.Entries.{unseen_of};
+    ghost use Rattle.dw_cfa.specs.Entries.{listed_near, Covers};
 
     ghost Value = { List (ℕ × Rule) };
 
-    ghost view = { λ s. unseen_of s.unseen };
+    ghost view = { λ s. listed_near s.at (drop s.at s.near.now) s.expressions.now.entries s.far };
+
+    ghost invariant = { λ s. (length s.near.now ≡ 32) × Covers s.used s.near.now };
 }
 
 impl<'r, 'a> Specified<'r, 'a> {
     fn step(&mut self) -> Option<(u16, RegRule<'a>)>
         ensures { MatchOption result ((self.old ≡ []) × (self.new ≡ [])) (λ entry. self.old ≡ entry ∷ self.new) }
     {
-        if let Unseen::Few(few) = self.unseen {
-            if few.is_empty() {
-                return None;
-            }
-            let first = &few[0];
-            self.unseen = Unseen::Few(&few[1..]);
-            return Some((first.0, first.1.copied()));
+        if let Some((register, rule)) = next_near(self.at, self.near, self.used, self.expressions) {
+            self.at = register + 1;
+            return Some((register, rule));
         }
-        let Unseen::Many(many) = &mut self.unseen else {
+        self.at = NEAR;
+        let Some((register, rule)) = self.far.next() else {
             return None;
         };
-        let (register, rule) = many.next()?;
         Some((*register, rule.copied()))
     }
 }
@@ -399,7 +492,12 @@ impl<'a> Row<'a> {
     {
         Row {
             cfa: CfaRule::Unset,
-            entries: Entries::Few(SmallVec::new(alloc)),
+            entries: Entries {
+                near: [EMPTY; 32],
+                used: 0,
+                expressions: BTreeMap::new(alloc),
+                far: BTreeMap::new(alloc),
+            },
             alloc,
         }
     }
@@ -423,6 +521,7 @@ impl<'a> Row<'a> {
     }
 
     /// The rule of a register, Unspecified where no instruction has set it.
+    #[inline(always)]
     pub fn rule(&self, register: u16) -> RegRule<'a>
         ensures { result ≡ rule self.now register }
     {
@@ -451,15 +550,16 @@ impl<'a> Row<'a> {
     }
 
     // Gives a register a rule, or answers want of memory.
+    #[inline(always)]
     pub(crate) fn set(&mut self, register: u16, rule: RegRule<'a>) -> Result<(), AllocError>
         ensures ok { OnOk result (self.new ≡ with_rule register rule.entry self.old) }
         ensures err { OnErr result (self.new ≡ self.old) }
     {
-        self.exchange(register, rule)?;
-        Ok(())
+        self.entries.set(register, rule)
     }
 
     // Gives a register a rule and answers the one that it had, or want of memory.
+    #[inline(always)]
     pub(crate) fn exchange(
         &mut self,
         register: u16,
@@ -469,7 +569,9 @@ impl<'a> Row<'a> {
         ensures back { IfOk result (λ older. with_rule register older self.new ≡ self.old) }
         ensures err { OnErr result (self.new ≡ self.old) }
     {
-        self.entries.exchange(register, rule, self.alloc)
+        let older = self.entries.rule(register);
+        self.entries.set(register, rule)?;
+        Ok(older)
     }
 
     /// Makes it a copy of another row, in the room that is there, or answers want of memory. It is some row then.
@@ -498,8 +600,8 @@ impl<'a> Row<'a> {
         self.entries.keep(&other.entries);
     }
 
-    // Whether the registers are in a tree.
+    // Whether some registers are in a tree.
     pub(crate) fn is_wide(&self) -> bool {
-        matches!(self.entries, Entries::Many(_))
+        self.entries.far.len() > 0
     }
 }

@@ -1,15 +1,15 @@
 //! Programs that are run instruction by instruction (6.4.3).
 
-ghost use Rattle.std.specs.Prelude.{◌≡◌, ◌<◌, Ok, Err, length, OnOk, IfErr};
-ghost use Rattle.dw_cfa.specs.Location.{moves_location};
+ghost use Rattle.std.specs.Prelude.{◌≡◌, ◌<◌, None, Ok, Err, length, OnOk, IfErr, IsOk, IsTrue};
 ghost use Rattle.dw_cfa.specs.Kept.{in_cie};
-ghost use Rattle.dw_cfa.specs.Runs.{RefusalIs, RunsSo, Ran, GivesRow, Wrote, rows_left, initial_row, placed, run_error};
+ghost use Rattle.dw_cfa.specs.Runs.{RefusalIs, RunsSo, GivesRow, Wrote, rows_left, initial_row, placed, run_error};
 
 use crate::instr::{Factors, Instr};
-use crate::machine::{Machine, StepError, write_rule};
+use crate::machine::{End, Machine, StepError, write_rule};
 use crate::reading::read_instr;
 use crate::row::Row;
 use crate::states::States;
+use crate::turn::turn;
 use dw_num::{Code, Cursor, Refusal, are_bytes};
 use std::alloc::{AllocError, AllocFailed};
 
@@ -72,13 +72,6 @@ fn run_error(at: u64, error: StepError) -> RunError
     }
 }
 
-// Whether an instruction moves the location.
-fn moves_location(instr: &Instr<'_>) -> bool
-    ensures { result ≡ moves_location instr.now }
-{
-    matches!(instr, Instr::SetLoc(_) | Instr::Advance(_))
-}
-
 // Whether a CIE's program may hold an instruction.
 fn is_in_cie(instr: &Instr<'_>) -> bool
     ensures { result ≡ in_cie instr.now }
@@ -94,42 +87,28 @@ fn is_in_cie(instr: &Instr<'_>) -> bool
     }
 }
 
-// Reads an instruction and runs it, and says whether it moves the location.
-fn run_one<'a>(
-    cursor: &mut Cursor<'a>,
-    factors: Factors,
-    machine: &mut Machine<'a>,
-) -> Result<bool, RunError>
-    requires some { 0 < length cursor.old.bytes }
-    requires so { RunsSo machine.old cursor.old }
-    ensures ran { Ran factors cursor.old machine.old result cursor.new machine.new }
-    ensures initial { machine.new.initial ≡ machine.old.initial }
-{
-    are_bytes(cursor.rest());
-    let at = cursor.at();
-    let instr = read_instr(cursor, factors)?;
-    let moves = moves_location(&instr);
-    match machine.step(instr) {
-        Ok(()) => Ok(moves),
-        Err(error) => Err(run_error(at, error)),
-    }
-}
-
 /// Runs a program up to the end of a row, which the machine has then. Answers where the row starts, and whether
-/// the program goes on behind it.
+/// the program goes on behind it. Where it is known that the program has no fault, no expression is judged again.
 pub(crate) fn next_row<'a>(
     cursor: &mut Cursor<'a>,
     factors: Factors,
     machine: &mut Machine<'a>,
+    known: bool,
 ) -> Result<(u128, bool), RunError>
-    requires { RunsSo machine.old cursor.old }
+    requires so { RunsSo machine.old cursor.old }
+    requires known { IsTrue known → (rows_left factors cursor.old machine.old).fault ≡ None }
     ensures row { GivesRow (rows_left factors cursor.old machine.old) factors cursor.new machine.new result }
     ensures initial { machine.new.initial ≡ machine.old.initial }
 {
+    let code = Code::Truncated;
+    let mut fault = Refusal { code, at: 0 };
     'instrs: while cursor.left() > 0 {
         let location = machine.location;
-        if run_one(cursor, factors, machine)? {
-            return Ok((location, true));
+        match turn(cursor, factors, machine, known, &mut fault) {
+            End::On => {}
+            End::Moved => return Ok((location, true)),
+            End::Refused => return Err(RunError::Refused(fault)),
+            End::OutOfMemory => return Err(RunError::OutOfMemory),
         }
     }
     Ok((machine.location, false))
@@ -140,13 +119,15 @@ fn write_one<'a>(
     cursor: &mut Cursor<'a>,
     factors: Factors,
     states: &mut States<'a>,
+    known: bool,
 ) -> Result<(), RunError>
-    requires { 0 < length cursor.old.bytes }
+    requires some { 0 < length cursor.old.bytes }
+    requires known { IsTrue known → IsOk (initial_row (placed factors cursor.old) states.old.row) }
     ensures { Wrote factors cursor.old states.old result cursor.new states.new }
 {
     are_bytes(cursor.rest());
     let at = cursor.at();
-    let instr = read_instr(cursor, factors)?;
+    let instr = read_instr(cursor, factors, known)?;
     if !is_in_cie(&instr) {
         return Err(RunError::Refused(Refusal {
             code: Code::NotInCie,
@@ -159,18 +140,20 @@ fn write_one<'a>(
     }
 }
 
-/// Runs a CIE's program on a row.
+/// Runs a CIE's program on a row. Where it is known that it has no fault, no expression is judged again.
 pub(crate) fn run_initial<'a>(
     cursor: &mut Cursor<'a>,
     factors: Factors,
     states: &mut States<'a>,
+    known: bool,
 ) -> Result<(), RunError>
+    requires { IsTrue known → IsOk (initial_row (placed factors cursor.old) states.old.row) }
     ensures ok { OnOk result (initial_row (placed factors cursor.old) states.old.row ≡ Ok states.new.row) }
     ensures same { OnOk result ((states.new.stack ≡ states.old.stack) × (states.new.first ≡ states.old.first)) }
     ensures err { IfErr result (λ e. RefusalIs e (λ r. initial_row (placed factors cursor.old) states.old.row ≡ Err r)) }
 {
     'instrs: while cursor.left() > 0 {
-        write_one(cursor, factors, states)?;
+        write_one(cursor, factors, states, known)?;
     }
     Ok(())
 }

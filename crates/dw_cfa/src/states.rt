@@ -145,6 +145,7 @@ impl<'a> States<'a> {
     }
 
     // Gives a register a rule, and keeps the one that it had.
+    #[inline(never)]
     fn change(&mut self, register: u16, rule: RegRule<'a>) -> Result<(), AllocError>
         ensures { OnOk result (self.new ≡ record { row = with_rule register rule.entry self.old.row; stack = self.old.stack; first = self.old.first }) }
     {
@@ -161,6 +162,7 @@ impl<'a> States<'a> {
     }
 
     /// Gives a register a rule, or answers want of memory.
+    #[inline(always)]
     pub(crate) fn set(&mut self, register: u16, rule: RegRule<'a>) -> Result<(), AllocError>
         ensures { OnOk result (self.new ≡ record { row = with_rule register rule.entry self.old.row; stack = self.old.stack; first = self.old.first }) }
     {

@@ -1,6 +1,6 @@
 //! Rows one at a time (6.4.3).
 
-ghost use Rattle.std.specs.Prelude.{◌≡◌, ◌<◌, Some, None, Ok, Err, List, [], ◌∷◌, IfOk, IfErr};
+ghost use Rattle.std.specs.Prelude.{◌≡◌, ◌<◌, Some, None, Ok, Err, List, [], ◌∷◌, IfOk, IfErr, IsTrue};
 ghost use Rattle.dw_num.specs.Target.{address_limit};
 ghost use Rattle.dw_cfa.specs.declared.running.LocatedRow.{LocatedRow};
 ghost use Rattle.dw_cfa.specs.Runs.{finished, RunsSo, GivesRow, RefusalIs, placed, initial_row, run_rows};
@@ -42,15 +42,17 @@ fn first_row<'a>(
     fde: &mut Cursor<'a>,
     factors: Factors,
     machine: &mut Machine<'a>,
+    known: bool,
 ) -> Result<(u128, bool), RunError>
+    requires known { IsTrue known → (begun_rows factors cie.old fde.old machine.old).fault ≡ None }
     requires so { RunsSo machine.old fde.old }
     requires none { machine.old.states.stack ≡ [] }
     requires first { machine.old.states.first ≡ None }
     ensures { GivesRow (begun_rows factors cie.old fde.old machine.old) factors fde.new machine.new result }
 {
-    run_initial(cie, factors, &mut machine.states)?;
+    run_initial(cie, factors, &mut machine.states, known)?;
     machine.initial = machine.states.row().copied()?;
-    next_row(fde, factors, machine)
+    next_row(fde, factors, machine, known)
 }
 
 /// The row that a CIE's program leaves, or its first refusal, or want of memory.
@@ -65,7 +67,7 @@ pub fn initial_row<'a>(
 {
     let mut states = States::new(alloc, Row::blank(alloc), false);
     let mut cursor = Cursor::new(cie_program.bytes, cie_program.at, target);
-    run_initial(&mut cursor, factors, &mut states)?;
+    run_initial(&mut cursor, factors, &mut states, false)?;
     Ok(states.into_row())
 }
 
@@ -79,16 +81,19 @@ pub struct RowSteps<'a> {
     cie: Cursor<'a>,
     fde: Cursor<'a>,
     machine: Machine<'a>,
+    // No refusal comes.
+    known: bool,
 }
 
 impl<'a> Model for RowSteps<'a> {
+    ghost use Rattle.std.specs.Prelude.{◌≡◌, IsTrue, None};
     ghost use Rattle.dw_cfa.specs.Stepping.{Stepping, left_of, StandsSo};
 
     ghost Value = { Stepping };
 
     ghost view = { λ s. left_of s.progress s.factors s.cie s.fde s.machine };
 
-    ghost invariant = { λ s. StandsSo s.progress s.fde s.machine };
+    ghost invariant = { λ s. StandsSo s.progress s.fde s.machine × (IsTrue s.known → (left_of s.progress s.factors s.cie s.fde s.machine).outcome.fault ≡ None) };
 }
 
 impl<'a> RowSteps<'a> {
@@ -116,7 +121,26 @@ impl<'a> RowSteps<'a> {
                 location: u128::from(begin),
                 limit: target.size.address_limit(),
             },
+            known: false,
         }
+    }
+
+    /// The same of programs that are known to give rows to their end: their expressions are not judged again.
+    pub fn known(
+        alloc: Global,
+        cie_program: Program<'a>,
+        fde_program: Program<'a>,
+        begin: u64,
+        factors: Factors,
+        target: Target,
+    ) -> RowSteps<'a>
+        requires begin { begin < address_limit target.size }
+        requires known { (run_rows factors (program_input cie_program target) (program_input fde_program target) begin).fault ≡ None }
+        ensures { result ≡ stepping blank (run_rows factors (program_input cie_program.entry target) (program_input fde_program.entry target) begin) }
+    {
+        let mut steps = RowSteps::new(alloc, cie_program, fde_program, begin, factors, target);
+        steps.known = true;
+        steps
     }
 
     /// Goes on to the next row, which `row` lends then, and answers the location that it starts at, or none behind
@@ -131,8 +155,14 @@ impl<'a> RowSteps<'a> {
                 &mut self.fde,
                 self.factors,
                 &mut self.machine,
+                self.known,
             ),
-            Progress::Running => next_row(&mut self.fde, self.factors, &mut self.machine),
+            Progress::Running => next_row(
+                &mut self.fde,
+                self.factors,
+                &mut self.machine,
+                self.known,
+            ),
             Progress::Finished => return Ok(None),
             Progress::Failed(error) => return Err(error),
         };

@@ -7,3 +7,4 @@ pub mod Steps
 pub mod ValueLoop
 pub mod PlaceSteps
 pub mod PlaceLoop
+pub mod Space

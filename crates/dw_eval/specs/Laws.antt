@@ -1,10 +1,13 @@
 -- What holds of evaluations, for the layers above.
-use Rattle.std.specs.Prelude.{◌≡◌, ℕ, List}
+use Rattle.std.specs.Prelude.{◌≡◌, ℕ, ◌<◌, List, Ok}
 use Rattle.dw_op.specs.declared.op.Op.{Op}
 use Rattle.dw_op.specs.Ranges.{AllInRange}
+use Rattle.dw_num.specs.Target.{address_limit}
+use Rattle.dw_eval.specs.declared.place.Piece.{Piece}
 use Rattle.dw_eval.specs.Context.{Context}
 use Rattle.dw_eval.specs.Evaluation.{Evaluates}
 use Rattle.dw_eval.specs.Location.{Located}
+use Rattle.dw_eval.specs.Space.{AreInSpace, ArePlacesInSpace}
 
 -- something holds of one value and of no other
 pub record HoldsOfOne {X : Type 0} (P : X → Type 0) : Type 0 where
@@ -20,3 +23,12 @@ OneResult =
 -- so has a description
 abbrev pub OneLocation : Type 0
 OneLocation = (ops : List Op) (c : Context) (limit : ℕ) → AllInRange c.target ops → HoldsOfOne (Located ops c limit)
+
+-- a value is below 2 ^ N where all that is on the stack at the start is
+abbrev pub ValuesInSpace : Type 0
+ValuesInSpace =
+    (ops : List Op) (c : Context) (first : List ℕ) (limit v : ℕ) → AreInSpace c.target.size first → Evaluates ops c first limit (Ok v) → v < address_limit c.target.size
+
+-- so are the addresses and values of the places that a description gives
+abbrev pub LocationsInSpace : Type 0
+LocationsInSpace = (ops : List Op) (c : Context) (limit : ℕ) (pieces : List Piece) → Located ops c limit (Ok pieces) → ArePlacesInSpace c.target.size pieces

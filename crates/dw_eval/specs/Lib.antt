@@ -8,4 +8,5 @@ pub mod Evaluation
 pub mod Stepping
 pub mod Location
 pub mod Describing
+pub mod Space
 pub mod Laws

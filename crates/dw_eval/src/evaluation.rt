@@ -1,11 +1,12 @@
 //! Evaluation of an expression (2.5).
 
-ghost use Rattle.std.specs.Prelude.{◌≡◌, ◌⊎◌, ℕ, ◌+◌, ◌-◌, ◌^◌, ◌<◌, ◌≤◌, map, Some, Ok, Err, MatchResult};
+ghost use Rattle.std.specs.Prelude.{◌≡◌, ◌⊎◌, ℕ, ◌+◌, ◌-◌, ◌^◌, ◌<◌, ◌≤◌, length, map, Some, Ok, Err, MatchResult};
 ghost use Rattle.dw_num.specs.Target.{byte_count};
 ghost use Rattle.dw_op.specs.declared.op.Op.TheVariants.{DerefSize};
 ghost use Rattle.dw_op.specs.Expression.{bare};
 ghost use Rattle.dw_op.specs.Ranges.{AllInRange};
 ghost use Rattle.dw_eval.specs.declared.error.EvalError.TheVariants.{Fault, OutOfMemory};
+ghost use Rattle.dw_eval.specs.declared.error.Kind.{Kind};
 ghost use Rattle.dw_eval.specs.declared.error.Kind.TheVariants.{Device};
 ghost use Rattle.dw_eval.specs.Context.{context};
 ghost use Rattle.dw_eval.specs.Effect.{Reads};
@@ -136,6 +137,8 @@ pub fn evaluate<M: Memory>(
     ensures answered { M.failures memory.new ≡ M.failures memory.old → (result ≡ Err OutOfMemory) ⊎ Evaluates list.now.ops (context env.now (M.byte memory.old)) (first_stack env.now.target.size start) steps result }
     // Where it grows, a read of an operation that is reached has failed.
     ensures failed { M.failures memory.old < M.failures memory.new → (i : ℕ) × (result ≡ Err (Fault Device i)) × MayFailAt list.now.ops (context env.now (M.byte memory.old)) (first_stack env.now.target.size start) steps i }
+    // A fault's index is that of an operation, or the list's length.
+    ensures within { (kind : Kind) (i : ℕ) → result ≡ Err (Fault kind i) → i ≤ length list.now.ops }
     // No other failure is named.
     ensures device { (i : ℕ) → result ≡ Err (Fault Device i) → M.failures memory.old < M.failures memory.new }
 {

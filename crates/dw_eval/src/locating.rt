@@ -1,9 +1,10 @@
 //! Location descriptions (2.6).
 
-ghost use Rattle.std.specs.Prelude.{◌≡◌, ◌⊎◌, ℕ, ◌-◌, ◌^◌, ◌<◌, ◌≤◌, map, Ok, Err, MatchResult};
+ghost use Rattle.std.specs.Prelude.{◌≡◌, ◌⊎◌, ℕ, ◌-◌, ◌^◌, ◌<◌, ◌≤◌, length, map, Ok, Err, MatchResult};
 ghost use Rattle.dw_op.specs.Expression.{bare};
 ghost use Rattle.dw_op.specs.Ranges.{AllInRange};
 ghost use Rattle.dw_eval.specs.declared.error.EvalError.TheVariants.{Fault, OutOfMemory};
+ghost use Rattle.dw_eval.specs.declared.error.Kind.{Kind};
 ghost use Rattle.dw_eval.specs.declared.error.Kind.TheVariants.{Device};
 ghost use Rattle.dw_eval.specs.Context.{context};
 ghost use Rattle.dw_eval.specs.Describing.{bare_piece};
@@ -70,6 +71,8 @@ pub fn locate<'a, M: Memory>(
     ensures answered { M.failures memory.new ≡ M.failures memory.old → let so = Located list.now.ops (context env.now (M.byte memory.old)) steps in MatchResult result (λ v. so (Ok (map bare_piece v.items))) (λ e. (e ≡ OutOfMemory) ⊎ so (Err e)) }
     // Where it grows, a read of an operation that is reached has failed.
     ensures failed { M.failures memory.old < M.failures memory.new → (i : ℕ) × (result ≡ Err (Fault Device i)) × PlaceMayFailAt list.now.ops (context env.now (M.byte memory.old)) steps i }
+    // A fault's index is that of an operation, or the list's length.
+    ensures within { (kind : Kind) (i : ℕ) → result ≡ Err (Fault kind i) → i ≤ length list.now.ops }
     // No other failure is named.
     ensures device { (i : ℕ) → result ≡ Err (Fault Device i) → M.failures memory.old < M.failures memory.new }
 {

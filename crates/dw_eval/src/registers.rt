@@ -1,6 +1,6 @@
 //! Values of registers.
 
-ghost use Rattle.std.specs.Prelude.{◌≡◌, ℕ, ◌≤◌, ◌==◌, Some, None, [], OnOk, OnErr, if◌then◌else◌};
+ghost use Rattle.std.specs.Prelude.{◌≡◌, ℕ, ◌+◌, ◌≤◌, ◌==◌, Some, None, [], length, max, OnOk, OnErr, if◌then◌else◌};
 ghost use Rattle.dw_eval.specs.Registers.{held};
 
 use std::alloc::{AllocError, Global};
@@ -44,6 +44,7 @@ impl Registers {
     /// what they held.
     pub fn set(&mut self, register: u16, value: u64) -> Result<(), AllocError>
         ensures set { OnOk result ((r : ℕ) → held self.new r ≡ (if r == register then Some value else held self.old r)) }
+        ensures end { OnOk result (length self.new ≡ max (length self.old) (register + 1)) }
         ensures err { OnErr result (self.new ≡ self.old) }
     {
         let index = usize::from(register);
@@ -54,8 +55,9 @@ impl Registers {
         Ok(())
     }
 
-    /// One more than the greatest register that may hold a value, at most 65,536.
+    /// One more than the greatest register that was set, 0 where none was; at most 65,536.
     pub fn end(&self) -> usize
+        ensures exact { result ≡ length self.now }
         ensures most { result ≤ 65536 }
         ensures beyond { (r : ℕ) → result ≤ r → held self.now r ≡ None }
     {

@@ -50,9 +50,6 @@ pub record Beside (xs ys : List (ℕ × Rules)) (first second : Changing) : Type
   pub all : rest ≡ other → xs ≡ ys
   pub part : xs ≡ ys → rest ≡ other
 
-pub begins_beside : (xs ys : List (ℕ × Rules)) (first second : Changing) → AreToCome first xs → AreToCome second ys → Beside xs ys first second
-begins_beside xs ys first second come other = record { rest = xs; other = ys; come = come; come_other = other; all = λ e. e; part = λ e. e }
-
 module _ (E : Type 0) (xs ys : List (ℕ × Rules)) (first second next later : Changing) (h : Beside xs ys first second) (o p : Option ℕ) (g : GivesAddress {E = E} first (Ok o) next) where
   -- the second one gives none any more
   pub too_short : (a : ℕ) → o ≡ Some a → GivesAddress {E = E} second (Ok p) later → p ≡ None → xs ≡ ys → ⊥

@@ -10,7 +10,7 @@ use Rattle.dw_cfa.specs.declared.instr.Instr.{Instr}
 use Rattle.dw_cfa.specs.Rows.{Rules}
 use Rattle.dw_canon.specs.Difference.{difference, move, later_changes}
 use Rattle.dw_canon.specs.Group.{group, kept_by, shared_by, initial_row}
-use Rattle.dw_cfa.specs.Narrowing.{agreed, kept}
+use Rattle.dw_cfa.specs.Narrowing.{agreed}
 use Rattle.dw_canon.specs.Members.{Member}
 use Rattle.dw_normal.specs.Passing.{last_of, Stand, Appends, Under}
 use Rattle.dw_num.specs.Target.{address_limit}
@@ -35,18 +35,9 @@ shared_more : (s : Rules) (xs ys : List Member) → shared_by s (xs ++ ys) ≡ s
 shared_more s [] ys = refl
 shared_more s (x ∷ xs) ys = shared_more (kept_by (agreed s x.first) x.later) xs ys
 
--- the first FDE of a group
-pub first_member : (m : Member) → initial_row (m ∷ []) ≡ kept_by m.first m.later
-first_member m = refl
-
 -- one more
 pub next_member : (x : Member) (xs : List Member) (m : Member) → initial_row ((x ∷ xs) ++ m ∷ []) ≡ kept_by (agreed (initial_row (x ∷ xs)) m.first) m.later
 next_member x xs m = shared_more (kept_by x.first x.later) xs (m ∷ [])
-
--- one change more
-pub next_change : (s : Rules) (xs : List (ℕ × Rules)) (c : ℕ × Rules) → kept_by s (xs ++ c ∷ []) ≡ kept (kept_by s xs) c.1
-next_change s [] c = refl
-next_change s (x ∷ xs) c = next_change (kept s x.1) xs c
 
 -- ---- the walk over changes
 
@@ -56,10 +47,6 @@ later_more initial at row [] c = ap (λ (l : List Instr). move at c.0 ∷ l) (ap
 later_more initial at row (x ∷ xs) c =
     ap (λ (l : List Instr). move at x.0 ∷ (difference initial row x.1 ++ l)) (later_more initial x.0 x.1 xs c)
     ∙ ap (λ (l : List Instr). move at x.0 ∷ l) (sym (append_assoc (difference initial row x.1) (later_changes initial x.0 x.1 xs) _))
-
-pub last_more : (at : ℕ) (row : Rules) (xs : List (ℕ × Rules)) (c : ℕ × Rules) → last_of at row (xs ++ c ∷ []) ≡ c
-last_more at row [] c = refl
-last_more at row (x ∷ xs) c = last_more x.0 x.1 xs c
 
 pub program_more : (t : Target) (xs ys : List Instr) → program_bytes t (xs ++ ys) ≡ program_bytes t xs ++ program_bytes t ys
 program_more t xs ys = flat_map-append (instr_bytes t) xs ys

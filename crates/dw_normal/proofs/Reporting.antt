@@ -25,7 +25,7 @@ use Rattle.dw_normal.specs.declared.error.Which.TheVariants.{First, Second}
 use Rattle.dw_normal.specs.declared.error.WriteError.{WriteError}
 use Rattle.dw_normal.specs.declared.error.WriteError.TheVariants as write_error
 use Rattle.dw_section.specs.Table.{Section}
-use Rattle.std.specs.Prelude.{IfErr}
+use Rattle.std.specs.Prelude.{IfOk, IfErr}
 use Rattle.dw_normal.specs.Grouping.{initial_rows}
 use Rattle.dw_normal.specs.Measuring.{Measures}
 
@@ -190,6 +190,11 @@ blamed_only t s which e result b fault is within = is ∙ by_error e fault
 
 not_long : (t : Target) (s : List ℕ) → AreBytes s → IsWithin t 2147483647 s → IsTooLong t 2147483647 s → ⊥
 not_long t s b within long = not_within t s within.0 2147483647 too_long b within.1 within.2 (inr (long, refl))
+
+pub both_within : (t : Target) (a b : List ℕ) (one two : Section) → one ≡ record { target = t; bytes = a } → two ≡ record { target = t; bytes = b } → (result : Result Bool SameError)
+    → IfOk result (λ (d : Bool). IsWithin one.target 2147483647 one.bytes × IsWithin one.target 2147483647 two.bytes) → IfOk result (λ (d : Bool). IsWithin t 2147483647 a × IsWithin t 2147483647 b)
+both_within t a b one two e f result h =
+    subst (λ (x : Section). IfOk result (λ (d : Bool). IsWithin t 2147483647 a × IsWithin t 2147483647 x.bytes)) f (subst (λ (x : Section). IfOk result (λ (d : Bool). IsWithin x.target 2147483647 x.bytes × IsWithin x.target 2147483647 two.bytes)) e h)
 
 pub compared_only : (t : Target) (a b : List ℕ) (one two : Section) → one ≡ record { target = t; bytes = a } → two ≡ record { target = t; bytes = b } → AreBytes a → AreBytes b
     → (result : Result Bool SameError) → IfErr result (LengthFault one.target 2147483647 one.bytes two.bytes) → IsWithin t 2147483647 a → IsWithin t 2147483647 b

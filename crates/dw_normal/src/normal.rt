@@ -1,6 +1,6 @@
 //! Normal forms, and whether two sections say the same.
 
-ghost use Rattle.std.specs.Prelude.{◌≡◌, ◌⊎◌, ℕ, ◌<◌, ◌≤◌, ◌-◌, ◌^◌, List, length, IfOk, IfErr, MatchResult};
+ghost use Rattle.std.specs.Prelude.{◌≡◌, ◌⊎◌, ℕ, ◌<◌, ◌≤◌, ◌-◌, ◌^◌, List, length, true, IfOk, IfErr, MatchResult};
 ghost use Rattle.std.specs.Bool.{Decides};
 ghost use Rattle.dw_section.specs.Accepted.{Accepted};
 ghost use Rattle.dw_normal.specs.declared.error.NormalError.TheVariants as TheNormalError;
@@ -132,6 +132,7 @@ fn blamed(which: Which, error: NormalError) -> SameError
 fn compared(alloc: Global, first: Table<'_>, second: Table<'_>) -> Result<bool, SameError>
     requires target { first.target ≡ second.target }
     ensures found { IfOk result (λ b. Decides b (SameMeaning first.entry.target first.entry.bytes second.entry.bytes)) }
+    ensures within { IfOk result (λ b. IsWithin first.entry.target 2147483647 first.entry.bytes × IsWithin first.entry.target 2147483647 second.entry.bytes) }
     ensures refused { IfErr result (LengthFault first.entry.target 2147483647 first.entry.bytes second.entry.bytes) }
 {
     let one = match measure(alloc, first, LIMIT) {
@@ -148,10 +149,23 @@ fn compared(alloc: Global, first: Table<'_>, second: Table<'_>) -> Result<bool, 
     }
 }
 
+// Whether a checked section says the same as itself: it does, unless its normal form is too long.
+fn same_as_itself(alloc: Global, table: Table<'_>) -> Result<bool, SameError>
+    ensures found { IfOk result (λ b. (b ≡ true) × IsWithin table.entry.target 2147483647 table.entry.bytes) }
+    ensures refused { IfErr result (LengthFault table.entry.target 2147483647 table.entry.bytes table.entry.bytes) }
+{
+    match measure(alloc, table, LIMIT) {
+        Ok(_ready) => Ok(true),
+        Err(error) => Err(blamed(Which::First, error)),
+    }
+}
+
 /// Whether two sections say the same: the same nonempty FDEs with the same return registers, and the same rules at each address that
 /// they cover.
 pub fn same(alloc: Global, first: &[u8], second: &[u8], target: Target) -> Result<bool, SameError>
     ensures found { IfOk result (λ b. Accepted target first.now × Accepted target second.now × Decides b (SameMeaning target first.now second.now)) }
+    // Where a normal form has more than 2,147,483,647 bytes there is no answer.
+    ensures within { IfOk result (λ b. IsWithin target 2147483647 first.now × IsWithin target 2147483647 second.now) }
     ensures only { IsWithin target 2147483647 first.now → IsWithin target 2147483647 second.now → IfErr result (λ e. e ≡ TheSameError.OutOfMemory) }
     ensures refused { IfErr result (SameFault target 2147483647 first.now second.now) }
 {
@@ -161,6 +175,9 @@ pub fn same(alloc: Global, first: &[u8], second: &[u8], target: Target) -> Resul
         Ok(one) => one,
         Err(error) => return Err(blamed(Which::First, error)),
     };
+    if first == second {
+        return same_as_itself(alloc, one);
+    }
     let two = match checked(alloc, second, target) {
         Ok(two) => two,
         Err(error) => return Err(blamed(Which::Second, error)),

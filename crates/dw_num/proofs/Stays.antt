@@ -1,12 +1,13 @@
 -- What is read ends where the input ends, and a fault has a place in the input or at its end.
 use Rattle.std.proofs.Common.{◌≡◌, ℕ, suc, ◌+◌, ◌≤◌, Bool, true, false, List, [], ◌∷◌, length, take, Option, Some, None, Ok, Err, refl, ◌∙◌, arith, inl, inr}
-use Rattle.std.specs.Prelude.{cond, nat_lt, ◌^◌}
+use Rattle.std.specs.Prelude.{cond, nat_lt, ◌^◌, ◌==◌}
 use Rattle.std.proofs.lemmas.Bool.{cases_lt, cases_Bool, lt-ltb, le-ltb}
 use Rattle.std.proofs.lemmas.List.{length-drop}
 use Rattle.dw_num.specs.Input.{Input, behind}
+use Rattle.dw_num.specs.Fixed.{fixed_number}
 use Rattle.dw_num.specs.Leb.{groups, signed_groups}
 use Rattle.dw_num.specs.Target.{byte_count}
-use Rattle.dw_num.specs.Reading.{Read, fixed_at, take_at, leb_len, further, uleb_of, uleb_at, sleb_of, sleb_at, address_at, fits_signed, register_of, register_at, ◌>>=◌}
+use Rattle.dw_num.specs.Reading.{Read, fixed_at, take_at, leb_len, further, uleb_of, uleb_at, sleb_of, sleb_at, address_at, long_length_at, length_of, unit_length_at, fits_signed, register_of, register_at, ◌>>=◌}
 use Rattle.dw_num.proofs.LebLaws.{done}
 
 -- j begins in i or at its end, and both end at one place
@@ -93,3 +94,19 @@ register_stays i = of (leb_len i.bytes) refl
       | inl y ↦ rw y (either_stays (nat_lt (groups (take n i.bytes)) 65536) i _ _ (behind_stays n i (leb_within i.bytes n e)) (omega arith, omega arith))
       | inr n ↦ rw n (omega arith, omega arith)
     ]
+
+pub unit_length_stays : (i : Input) → Stays i (unit_length_at i)
+unfolding unit_length_at
+unit_length_stays i = elim (cases_lt (length i.bytes) 4) [
+  | inl short ↦ rw (lt-ltb (length i.bytes) 4 short) (omega arith, omega arith)
+  | inr long ↦ rw (le-ltb (length i.bytes) 4 long) (of (fixed_number i.target.order 4 i.bytes) long)
+]
+  where
+    long_of : Stays i (long_length_at i)
+    long_of = elim (cases_lt (length i.bytes) 12) [
+      | inl short ↦ rw (lt-ltb (length i.bytes) 12 short) (omega arith, omega arith)
+      | inr enough ↦ rw (le-ltb (length i.bytes) 12 enough) (behind_stays 12 i enough)
+    ]
+
+    of : (n : ℕ) → 4 ≤ length i.bytes → Stays i (length_of n i)
+    of n long = either_stays (nat_lt n 0xfffffff0) i _ _ (behind_stays 4 i long) (either_stays (n == 0xffffffff) i _ _ long_of (omega arith, omega arith))

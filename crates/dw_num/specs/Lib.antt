@@ -8,3 +8,4 @@ pub mod Scan
 pub mod Writing
 pub mod Span
 pub mod Shortest
+pub mod Laws

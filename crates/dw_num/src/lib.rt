@@ -7,6 +7,7 @@
 #![tactic(auto)]
 
 mod cursor;
+mod laws;
 mod leb;
 mod length;
 mod program;
@@ -15,6 +16,7 @@ mod target;
 mod write;
 
 pub use cursor::{Cursor, are_bytes};
+pub use laws::number_laws;
 pub use length::{sleb_len, uleb_len};
 pub use program::Program;
 pub use refusal::{Code, Refusal};

@@ -1,7 +1,7 @@
 -- Walks from an operation on, and what they know of the block's starts.
-use Rattle.std.proofs.Common.{◌≡◌, ℕ, ◌+◌, ◌<◌, ◌≤◌, List, [], ◌∷◌, length, Option, Some, None, Result, Ok, Err, refl, sym, ap, ◌∙◌, arith}
+use Rattle.std.proofs.Common.{◌≡◌, ℕ, ◌+◌, ◌<◌, ◌≤◌, List, [], ◌∷◌, ◌++◌, length, Option, Some, None, Result, Ok, Err, refl, sym, ap, ◌∙◌, arith}
 use Rattle.std.proofs.lemmas.Bool.{eq-eqb, ne_eqb}
-use Rattle.std.proofs.lemmas.List.{length-append}
+use Rattle.std.proofs.lemmas.List.{length-append, append_assoc}
 use Rattle.dw_num.specs.declared.refusal.Refusal.{Refusal}
 use Rattle.dw_num.specs.declared.target.Target.{Target}
 use Rattle.dw_num.specs.Input.{Input, AreBytes}
@@ -12,6 +12,7 @@ use Rattle.dw_op.specs.Block.{joined}
 use Rattle.dw_op.specs.Reading.{step_at}
 use Rattle.dw_op.specs.Walk.{Item, Walk, walk, end_of, plus, passed, one}
 use Rattle.dw_op.specs.Windows.{Shifted}
+use Rattle.dw_op.proofs.ReadingLaws.{step_found}
 use Rattle.dw_op.proofs.Splits.{EachSpells, items_from, split_of, walk_step, walk_stuck, walk_end}
 use Rattle.dw_op.proofs.Decoded.{Within, within_all, within_more, step_shorter}
 
@@ -126,8 +127,17 @@ count_past i j place count h lt =
 
 -- ---- windows
 
+abbrev Front : List ℕ → List ℕ → Type 0
+Front l m = (before : List ℕ) × (l ≡ before ++ m)
+
+front_on : (l m n : List ℕ) → Front l m → Front m n → Front l n
+front_on l m n h q = (h.0 ++ q.0, h.1 ∙ ap (λ (r : List ℕ). h.0 ++ r) q.1 ∙ sym (append_assoc h.0 q.0 n))
+
 pub shifted_within : (i : Input) (low count : ℕ) (j : Input) → Shifted i low count j → Within i j
 shifted_within i low count j h = record { bytes = h.bytes; end = h.end; target = h.target }
+
+pub shifted_all : (i : Input) (low : ℕ) → AreBytes i.bytes → (walk Frame i).fault ≡ None → Shifted i low 0 i
+shifted_all i low h read = record { bytes = h; end = refl; target = refl; read = read; few = omega arith; front = ([], refl); same = λ place le. plus_zero (starts_at (end_of i) i place) }
 
 -- one operation further, where it begins below low
 pub shifted_more : (i : Input) (low count : ℕ) (j : Input) (x : Step × Input) → Shifted i low count j → step_at Frame j ≡ done x → j.at < low → Shifted i low (count + 1) x.1
@@ -140,12 +150,13 @@ shifted_more i low count j x h e lt =
       target = m.target;
       read = read_on i j x w h.read e;
       few = omega (arith, h.few, step_shorter Frame j x h.bytes e);
+      front = let found = step_found Frame j x.1 x.0 h.bytes e in front_on i.bytes j.bytes x.1.bytes h.front (found.part, found.taken.bytes);
       same = λ place le.
           plus_plus count 1 (starts_at (end_of i) x.1 place) ∙ ap (λ (o : Option ℕ). plus count o) (sym (starts_step (end_of i) j x place h.bytes e (omega arith))) ∙ h.same place le;
     }
 
 pub shifted_later : (i : Input) (low lower count : ℕ) (j : Input) → lower ≤ low → Shifted i lower count j → Shifted i low count j
-shifted_later i low lower count j le h = record { bytes = h.bytes; end = h.end; target = h.target; read = h.read; few = h.few; same = λ place l. h.same place (omega arith) }
+shifted_later i low lower count j le h = record { bytes = h.bytes; end = h.end; target = h.target; read = h.read; few = h.few; front = h.front; same = λ place l. h.same place (omega arith) }
 
 -- a window in a window
 pub shifted_on : (i : Input) (low n m : ℕ) (j k : Input) → Shifted i low n j → Shifted j low m k → Shifted i low (n + m) k
@@ -155,6 +166,7 @@ shifted_on i low n m j k h q = record {
   target = q.target ∙ h.target;
   read = q.read;
   few = omega (arith, h.few, q.few);
+  front = front_on i.bytes j.bytes k.bytes h.front q.front;
   same = λ place le.
       plus_plus n m (starts_at (end_of i) k place)
       ∙ ap (λ (o : Option ℕ). plus n o) (ap (λ (e : ℕ). plus m (starts_at e k place)) (sym h.end) ∙ q.same place le ∙ ap (λ (e : ℕ). starts_at e j place) h.end)

@@ -18,6 +18,7 @@ pub mod Blocks
 pub mod Search
 pub mod Decoded
 pub mod Landing
+pub mod Marked
 pub mod Walkers
 pub mod Judging
 pub mod Lines

@@ -10,7 +10,7 @@ use Rattle.dw_op.specs.declared.op.Op.{Op}
 use Rattle.dw_op.specs.Block.{branch_target, start}
 use Rattle.dw_op.specs.Encoding.{BranchFits, EachFits, bits_of, blank_parts, least_len}
 use Rattle.dw_op.specs.LeastOf.{least_bytes}
-use Rattle.dw_op.specs.Lengths.{least_lengths, total, together}
+use Rattle.dw_op.specs.Lengths.{least_lengths, lengths_at, total, together}
 use Rattle.dw_op.specs.Points.{AreSmall, ArePlaces, AreInRoom, IsBranching, bits_at}
 use Rattle.dw_op.proofs.EncodeLaws.{IsGoing, going_none, going_more, front_more}
 
@@ -58,7 +58,7 @@ in_room t all old lengths rest p out is small h = (least_lengths t all, h.places
 -- the places are one operation further
 pub record Stepped (old new : Places) : Type 0 where
   pub places : (lengths : List ℕ) → ArePlaces lengths old → ArePlaces lengths new
-  pub on : (len : ℕ) (rest : List ℕ) → old.here.rest ≡ len ∷ rest → new.here.index ≡ old.here.index + 1
+  pub on : (len : ℕ) (rest : List ℕ) → lengths_at old.here.rest ≡ len ∷ rest → new.here.index ≡ old.here.index + 1
 
 stepped_on : (t : Target) (all : List Op) (old : List ℕ) (op : Op) (rest : List Op) (p q : Places) (out : List ℕ) → Putting t all old (op ∷ rest) p out → Stepped p q → q.here.index ≡ p.here.index + 1
 stepped_on t all old op rest p q out h s =

@@ -1,12 +1,15 @@
 -- Where operations begin in their least spelling, by the lengths before them.
-use Rattle.std.proofs.Common.{◌≡◌, ℕ, zero, suc, ◌+◌, ◌<◌, ◌≤◌, ◌^◌, List, [], ◌∷◌, length, drop, Option, Some, None, Result, Ok, Err, refl, sym, ap, subst, ◌∙◌, arith}
+use Rattle.std.proofs.Common.{◌≡◌, ℕ, zero, suc, ◌+◌, ◌-◌, ◌<◌, ◌≤◌, ◌^◌, ◌⊎◌, List, [], ◌∷◌, ◌++◌, length, drop, slice_get, Option, Some, None, Result, Ok, Err, refl, sym, ap, subst, ◌∙◌, inl, inr, arith}
+use Rattle.std.proofs.Math.Seq.{drop-append_seam}
+use Rattle.std.proofs.lemmas.List.{length-append, drop-drop}
 use Rattle.dw_num.specs.declared.refusal.Refusal.{Refusal}
 use Rattle.dw_num.specs.declared.target.Target.{Target}
-use Rattle.dw_num.specs.Input.{Input, AreBytes}
+use Rattle.dw_num.specs.Input.{Input, AreBytes, Takes, behind}
 use Rattle.dw_num.proofs.FixedLaws.{length-fixed}
 use Rattle.dw_num.proofs.LebLaws.{done}
 use Rattle.dw_op.specs.declared.measuring.Places.{Places}
 use Rattle.dw_op.specs.declared.measuring.Point.{Point}
+use Rattle.dw_op.specs.declared.measuring.StartMark.{StartMark}
 use Rattle.dw_op.specs.declared.op.Op.{Op}
 use Rattle.dw_op.specs.declared.op.Op.TheVariants as ops
 use Rattle.dw_op.specs.declared.profile.Profile.TheVariants.{Frame}
@@ -17,7 +20,7 @@ use Rattle.dw_op.specs.declared.reading.Step.TheVariants.{Plain, Jump}
 use Rattle.dw_op.specs.Accepted.{IsAccepted, ops_of}
 use Rattle.dw_op.specs.LeastOf.{least_bytes, least_spelling}
 use Rattle.dw_op.specs.Lengths.{least_lengths, total, together, step_length, item_lengths, lengths_at}
-use Rattle.dw_op.specs.Points.{IsPoint, InRoom, ArePlaces, AreInRoom}
+use Rattle.dw_op.specs.Points.{IsLater, IsPoint, InRoom, IsStartMark, AreStartMarks, ArePlaces}
 use Rattle.dw_op.specs.Reading.{step_at}
 use Rattle.dw_op.specs.Walk.{Item, Walk, walk, index_in, find_at, goes_to, branch_to, op_of, put_first, resolve, unless, block_input, decode_at}
 use Rattle.dw_op.proofs.Decoded.{within_all, within_more, answered, same_ops}
@@ -58,21 +61,21 @@ total_ended (x ∷ lengths) zero m e le = absurd cc
 total_ended (x ∷ lengths) (suc n) zero e le = absurd (omega arith)
 total_ended (x ∷ lengths) (suc n) (suc m) e le = ap (λ (k : ℕ). x + k) (total_ended lengths n m e (omega arith))
 
-pub point_more : (lengths : List ℕ) (p : Point) (len : ℕ) (rest : List ℕ) → IsPoint lengths p → p.rest ≡ len ∷ rest → IsPoint lengths (record { index = p.index + 1; start = p.start + len; rest = rest })
+pub point_more : (lengths : List ℕ) (p : Point) (len : ℕ) (rest : Input) → IsPoint lengths p → lengths_at p.rest ≡ len ∷ lengths_at rest → IsPoint lengths (record { index = p.index + 1; start = p.start + len; rest = rest })
 point_more lengths p len rest h e =
-    let n = next lengths p.index len rest (sym h.rest ∙ e) in
+    let n = next lengths p.index len (lengths_at rest) (sym h.rest ∙ e) in
     let one : p.index + 1 ≡ suc p.index = omega arith in
     record {
       rest = sym n.behind ∙ ap (λ (k : ℕ). drop k lengths) (sym one);
       start = omega (arith, h.start, n.start, ap (λ (k : ℕ). total k lengths) one);
     }
 
-pub room_more : (p : Point) (len : ℕ) (rest : List ℕ) → InRoom p → p.rest ≡ len ∷ rest → (p.start + len < 2 ^ 63) × (p.index < 2 ^ 63)
+pub room_more : (p : Point) (len : ℕ) (rest : List ℕ) → InRoom p → lengths_at p.rest ≡ len ∷ rest → (p.start + len < 2 ^ 63) × (p.index < 2 ^ 63)
 room_more p len rest h e =
     let n = next h.0 p.index len rest (sym h.1.rest ∙ e) in
     (omega (arith, h.1.start, n.within, h.2.0), omega (arith, n.before, h.2.1))
 
-pub point_ended : (lengths : List ℕ) (p : Point) (goal : ℕ) → IsPoint lengths p → p.rest ≡ [] → p.index ≤ goal → p.start ≡ total goal lengths
+pub point_ended : (lengths : List ℕ) (p : Point) (goal : ℕ) → IsPoint lengths p → lengths_at p.rest ≡ [] → p.index ≤ goal → p.start ≡ total goal lengths
 point_ended lengths p goal h e le = h.start ∙ sym (total_ended lengths p.index goal (sym h.rest ∙ e) le)
 
 -- ---- a walk to a point
@@ -82,15 +85,120 @@ pub record Toward (from : Point) (goal : ℕ) (p : Point) : Type 0 where
   pub same : (lengths : List ℕ) → IsPoint lengths from → IsPoint lengths p
   pub ahead : p.index ≤ goal
 
+-- ---- what is left later
+
+input_is : (i j : Input) → i.at ≡ j.at → i.bytes ≡ j.bytes → i.target ≡ j.target → i ≡ j
+input_is i j at bytes target =
+    ap (λ (n : ℕ). record { at = n; bytes = i.bytes; target = i.target }) at
+    ∙ ap (λ (l : List ℕ). record { at = j.at; bytes = l; target = i.target }) bytes
+    ∙ ap (λ (t : Target). record { at = j.at; bytes = j.bytes; target = t }) target
+
+pub later_none : (i : Input) → AreBytes i.bytes → (walk Frame i).fault ≡ None → IsLater i i
+later_none i h read = record { bytes = h; read = read; within = omega arith; is = subst (λ (n : ℕ). i ≡ behind n i) zero_left (input_is i (behind 0 i) (omega arith) refl refl) }
+  where
+    zero_left : 0 ≡ length i.bytes - length i.bytes
+    zero_left = omega arith
+
+-- behind what was taken
+pub later_one : (i j : Input) (taken : List ℕ) → Takes i taken j → AreBytes j.bytes → (walk Frame j).fault ≡ None → IsLater i j
+later_one i j taken h are read =
+    let len : length i.bytes ≡ length taken + length j.bytes = ap length h.bytes ∙ length-append taken j.bytes in
+    let n : length i.bytes - length j.bytes ≡ length taken = omega (arith, len) in
+    let rest : drop (length taken) i.bytes ≡ j.bytes = ap (λ (l : List ℕ). drop (length taken) l) h.bytes ∙ drop-append_seam taken j.bytes in
+    record {
+      bytes = are;
+      read = read;
+      within = omega (arith, len);
+      is = subst (λ (m : ℕ). j ≡ behind m i) (sym n) (input_is j (behind (length taken) i) h.at (sym rest) h.target);
+    }
+
+pub later_on : (i j k : Input) → IsLater i j → IsLater j k → IsLater i k
+later_on i j k h q =
+    let n = length i.bytes - length j.bytes in
+    let m = length j.bytes - length k.bytes in
+    let both : length i.bytes - length k.bytes ≡ n + m = omega (arith, h.within, q.within) in
+    let at : k.at ≡ i.at + (n + m) = omega (arith, ap (λ (x : Input). x.at) h.is, ap (λ (x : Input). x.at) q.is) in
+    let rest : k.bytes ≡ drop (n + m) i.bytes = ap (λ (x : Input). x.bytes) q.is ∙ ap (λ (x : Input). drop m x.bytes) h.is ∙ drop-drop m n i.bytes in
+    record {
+      bytes = q.bytes;
+      read = q.read;
+      within = omega (arith, h.within, q.within);
+      is = subst (λ (l : ℕ). k ≡ behind l i) (sym both) (input_is k (behind (n + m) i) at rest (ap (λ (x : Input). x.target) q.is ∙ ap (λ (x : Input). x.target) h.is));
+    }
+
+-- ---- points behind a point
+
+pub record Passing (from : Point) (p : Point) : Type 0 where
+  pub room : InRoom p
+  pub same : (lengths : List ℕ) → IsPoint lengths from → IsPoint lengths p
+  pub later : IsLater from.rest p.rest
+
+pub room_same : (from p : Point) → InRoom from → ((lengths : List ℕ) → IsPoint lengths from → IsPoint lengths p) → InRoom p
+room_same from p h same = (h.0, same h.0 h.1, h.2)
+
+pub pass_more : (from p q : Point) → Passing from p → ((lengths : List ℕ) → IsPoint lengths p → IsPoint lengths q) → IsLater p.rest q.rest → Passing from q
+pass_more from p q h on later = record { room = room_same p q h.room on; same = λ lengths is. on lengths (h.same lengths is); later = later_on from.rest p.rest q.rest h.later later }
+
+-- ---- marks
+
+pub record Marking (first : Input) (low p : Point) (marks : List StartMark) : Type 0 where
+  pub room : InRoom p
+  pub same : (lengths : List ℕ) → IsPoint lengths low → IsPoint lengths p
+  pub later : IsLater first p.rest
+  pub marked : (lengths : List ℕ) → IsPoint lengths low → AreStartMarks lengths first marks
+
+pub mark_at : (lengths : List ℕ) (first : Input) (p : Point) (bytes : ℕ) → bytes ≡ length first.bytes - length p.rest.bytes → IsLater first p.rest → IsPoint lengths p
+    → IsStartMark lengths first (record { bytes = bytes; index = p.index; start = p.start })
+mark_at lengths first p bytes is later h =
+    let there : p.rest ≡ behind bytes first = subst (λ (n : ℕ). p.rest ≡ behind n first) (sym is) later.is in
+    record {
+      within = omega (arith, is);
+      later = subst (λ (j : Input). IsLater first j) there later;
+      point = subst (λ (j : Input). IsPoint lengths (record { index = p.index; start = p.start; rest = j })) there h;
+    }
+
+some_is : (a b : StartMark) → Some a ≡ Some b → a ≡ b
+some_is a b e = cc
+
+got_from : (marks : List StartMark) (last : StartMark) (k : ℕ) (mark : StartMark) → slice_get (marks ++ last ∷ []) k ≡ Some mark → (slice_get marks k ≡ Some mark) ⊎ (mark ≡ last)
+got_from [] last zero mark e = inr (sym (some_is last mark e))
+got_from [] last (suc k) mark e = absurd cc
+got_from (s ∷ marks) last zero mark e = inl e
+got_from (s ∷ marks) last (suc k) mark e = got_from marks last k mark e
+
+pub marks_none : (lengths : List ℕ) (first : Input) → AreStartMarks lengths first []
+marks_none lengths first k mark e = absurd cc
+
+marks_more : (lengths : List ℕ) (first : Input) (marks : List StartMark) (last : StartMark) → AreStartMarks lengths first marks → IsStartMark lengths first last → AreStartMarks lengths first (marks ++ last ∷ [])
+marks_more lengths first marks last h is k mark e = elim (got_from marks last k mark e) [
+  | inl q ↦ h k mark q
+  | inr q ↦ subst (λ (s : StartMark). IsStartMark lengths first s) (sym q) is
+]
+
+pub mark_none : (first : Input) (low : Point) → InRoom low → IsLater first low.rest → Marking first low low []
+mark_none first low room later = record { room = room; same = λ lengths h. h; later = later; marked = λ lengths h. marks_none lengths first }
+
+pub mark_more : (first : Input) (low p q : Point) (marks : List StartMark) (bytes : ℕ) → Marking first low p marks
+    → ((lengths : List ℕ) → IsPoint lengths p → IsPoint lengths q) → IsLater p.rest q.rest → bytes ≡ length first.bytes - length q.rest.bytes
+    → Marking first low q (marks ++ record { bytes = bytes; index = q.index; start = q.start } ∷ [])
+mark_more first low p q marks bytes h on later is =
+    let behind = later_on first p.rest q.rest h.later later in
+    record {
+      room = room_same p q h.room on;
+      same = λ lengths from. on lengths (h.same lengths from);
+      later = behind;
+      marked = λ lengths from. marks_more lengths first marks (record { bytes = bytes; index = q.index; start = q.start }) (h.marked lengths from) (mark_at lengths first q bytes is behind (on lengths (h.same lengths from)));
+    }
+
 -- ---- places that come up
 
-pub record Bringing (start now : Places) : Type 0 where
-  pub room : AreInRoom now
-  pub same : (lengths : List ℕ) → ArePlaces lengths start → ArePlaces lengths now
-  pub here : now.here ≡ start.here
+pub places_low : (lengths : List ℕ) (p : Places) (low : Point) → ArePlaces lengths p → IsPoint lengths low → IsLater p.low.rest low.rest
+    → ArePlaces lengths (record { first = p.first; low = low; here = p.here; marks = p.marks; limit = p.limit })
+places_low lengths p low h is later = record { first = h.first; front = h.front; low = is; later = later_on p.first.rest p.low.rest low.rest h.later later; here = h.here; marks = h.marks }
 
-pub low_within : (p : Places) → AreInRoom p → p.low.start < 2 ^ 63
-low_within p h = omega (arith, h.1.low.start, total_within h.0 p.low.index, h.2.0)
+pub places_marked : (lengths : List ℕ) (p : Places) (marks : List StartMark) (limit : ℕ) → ArePlaces lengths p → AreStartMarks lengths p.first.rest marks
+    → ArePlaces lengths (record { first = p.first; low = p.low; here = p.here; marks = marks; limit = limit })
+places_marked lengths p marks limit h are = record { first = h.first; front = h.front; low = h.low; later = h.later; here = h.here; marks = are }
 
 -- ---- the lengths of steps are those of the operations
 

@@ -60,6 +60,10 @@ pub record BranchFault (profile : Profile) (t : Target) (bytes : List ℕ) (r : 
 abbrev pub BlockFault : Profile → Target → List ℕ → Refusal → Type 0
 BlockFault profile t bytes r = ReadingFault profile t bytes r ⊎ BranchFault profile t bytes r
 
+-- a place in a block or at its end
+abbrev pub IsWithin : List ℕ → Refusal → Type 0
+IsWithin bytes r = r.at ≤ length bytes
+
 -- an error is such a fault, unless memory ran out
 abbrev pub Refuses : (Refusal → Type 0) → DecodeError → Type 0
 Refuses Fault OutOfMemory = Unit {0}

@@ -1,8 +1,12 @@
 -- What holds of blocks and of least blocks.
-use Rattle.std.specs.Prelude.{◌≡◌, ℕ, ◌≤◌, List, length}
+use Rattle.std.specs.Prelude.{◌≡◌, ℕ, ◌≤◌, List, length, IsTrue}
+use Rattle.std.specs.List.{AllByRecursion}
+use Rattle.dw_num.specs.declared.refusal.Refusal.{Refusal}
 use Rattle.dw_num.specs.declared.target.Target.{Target}
 use Rattle.dw_op.specs.declared.op.Op.{Op}
+use Rattle.dw_op.specs.declared.profile.Profile.{Profile}
 use Rattle.dw_op.specs.Block.{Block}
+use Rattle.dw_op.specs.Faults.{IsBlock, BlockFault, IsWithin, op_allowed}
 use Rattle.dw_op.specs.Least.{LeastBlock}
 use Rattle.dw_op.specs.Ranges.{AllInRange}
 use Rattle.dw_op.specs.Encoding.{TooFar}
@@ -30,3 +34,15 @@ LeastIsOne = (t : Target) (ops : List Op) (a b : List ℕ) → LeastBlock t ops 
 -- operations with a branch too far have no block
 abbrev pub FarHasNoBlock : Type 0
 FarHasNoBlock = (t : Target) (ops : List Op) (k : ℕ) (bytes : List ℕ) → TooFar t ops k → Block t ops bytes → ⊥
+
+-- a least block of operations that a profile has is a block of the profile: decoding it gives them back
+abbrev pub LeastGivesBack : Type 0
+LeastGivesBack = (profile : Profile) (t : Target) (ops : List Op) (least : List ℕ) → AllByRecursion (λ op. IsTrue (op_allowed profile op)) ops → LeastBlock t ops least → IsBlock profile t ops least
+
+-- what a block of a profile was decoded to has no branch too far, so it is encoded
+abbrev pub DecodedIsNear : Type 0
+DecodedIsNear = (profile : Profile) (t : Target) (ops : List Op) (bytes : List ℕ) (k : ℕ) → IsBlock profile t ops bytes → TooFar t ops k → ⊥
+
+-- the first fault of a block lies in it or at its end
+abbrev pub FaultsWithin : Type 0
+FaultsWithin = (profile : Profile) (t : Target) (bytes : List ℕ) (r : Refusal) → BlockFault profile t bytes r → IsWithin bytes r

@@ -1,14 +1,34 @@
 -- Points in the lengths of least spellings.
-use Rattle.std.specs.Prelude.{◌≡◌, ℕ, ◌<◌, ◌^◌, List, length, drop, Option, Some, None, pos, ◌-ℤ◌, FitsSigned}
+use Rattle.std.specs.Prelude.{◌≡◌, ℕ, ◌-◌, ◌≤◌, ◌<◌, ◌^◌, List, length, drop, slice_get, Option, Some, None, pos, ◌-ℤ◌, FitsSigned}
 use Rattle.std.specs.Int.{w16, cast_unsigned}
+use Rattle.dw_num.specs.Input.{Input, AreBytes, behind}
 use Rattle.dw_op.specs.declared.measuring.Point.{Point}
+use Rattle.dw_op.specs.declared.measuring.StartMark.{StartMark}
 use Rattle.dw_op.specs.declared.measuring.Places.{Places}
-use Rattle.dw_op.specs.Lengths.{total, together}
+use Rattle.dw_op.specs.declared.profile.Profile.TheVariants.{Frame}
+use Rattle.dw_op.specs.Lengths.{lengths_at, total, together}
+use Rattle.dw_op.specs.Walk.{walk}
+
+-- j is the input i from one of its operations on
+pub record IsLater (i j : Input) : Type 0 where
+  pub bytes : AreBytes j.bytes
+  pub read : (walk Frame j).fault ≡ None
+  pub within : length j.bytes ≤ length i.bytes
+  pub is : j ≡ behind (length i.bytes - length j.bytes) i
 
 -- an operation by its number, where it begins, and the lengths from it on
 pub record IsPoint (lengths : List ℕ) (p : Point) : Type 0 where
-  pub rest : p.rest ≡ drop p.index lengths
+  pub rest : lengths_at p.rest ≡ drop p.index lengths
   pub start : p.start ≡ total p.index lengths
+
+-- a marked operation of the input i
+pub record IsStartMark (lengths : List ℕ) (i : Input) (mark : StartMark) : Type 0 where
+  pub within : mark.bytes ≤ length i.bytes
+  pub later : IsLater i (behind mark.bytes i)
+  pub point : IsPoint lengths (record { index = mark.index; start = mark.start; rest = behind mark.bytes i })
+
+abbrev pub AreStartMarks : List ℕ → Input → List StartMark → Type 0
+AreStartMarks lengths i marks = (k : ℕ) (mark : StartMark) → slice_get marks k ≡ Some mark → IsStartMark lengths i mark
 
 -- the lengths and their sum fit
 abbrev pub AreSmall : List ℕ → Type 0
@@ -17,12 +37,14 @@ AreSmall lengths = (together lengths < 2 ^ 63) × (length lengths < 2 ^ 63)
 abbrev pub InRoom : Point → Type 0
 InRoom p = (lengths : List ℕ) × IsPoint lengths p × AreSmall lengths
 
--- points among the same lengths, the first of them at the front
+-- points among the same lengths, the first of them at the front, and marks behind it
 pub record ArePlaces (lengths : List ℕ) (p : Places) : Type 0 where
   pub first : IsPoint lengths p.first
   pub front : p.first.index ≡ 0
   pub low : IsPoint lengths p.low
+  pub later : IsLater p.first.rest p.low.rest
   pub here : IsPoint lengths p.here
+  pub marks : AreStartMarks lengths p.first.rest p.marks
 
 abbrev pub AreInRoom : Places → Type 0
 AreInRoom p = (lengths : List ℕ) × ArePlaces lengths p × AreSmall lengths

@@ -6,7 +6,7 @@ ghost use Rattle.dw_op.specs.declared.op.Op.{Op};
 ghost use Rattle.dw_op.specs.Expression.{bare};
 ghost use Rattle.dw_op.specs.Reading.{bare_step};
 ghost use Rattle.dw_op.specs.Walk.{walk, starts_of, goes_to, place_index, op_of, branch_to, block_input, decode_at};
-ghost use Rattle.dw_op.specs.Faults.{IsBlock, BlockFault, Refuses, Rises};
+ghost use Rattle.dw_op.specs.Faults.{IsBlock, BlockFault, IsWithin, Refuses, Rises};
 
 use crate::list::OpList;
 use crate::op::Op;
@@ -168,6 +168,8 @@ pub fn decode<'a>(
     ensures only { (ops : List Op) → IsBlock profile target ops bytes.now → MatchResult result (λ list. list.ops ≡ ops) (λ e. e ≡ DecodeError.OutOfMemory) }
     // A refusal is the first fault.
     ensures first { IfErr result (Refuses (BlockFault profile target bytes.now)) }
+    // Its place is in the block or at its end.
+    ensures within { IfErr result (Refuses (IsWithin bytes.now)) }
 {
     are_bytes(bytes);
     let ops = decode_ops(alloc, bytes, target, profile)?;

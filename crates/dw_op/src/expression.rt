@@ -7,7 +7,7 @@ ghost use Rattle.dw_op.specs.declared.profile.Profile.TheVariants.{Frame};
 ghost use Rattle.dw_op.specs.Expression.{bare};
 ghost use Rattle.dw_op.specs.Block.{FrameBlock};
 ghost use Rattle.dw_op.specs.Least.{LeastBlock};
-ghost use Rattle.dw_op.specs.Faults.{BlockFault};
+ghost use Rattle.dw_op.specs.Faults.{BlockFault, IsWithin};
 ghost use Rattle.dw_op.specs.Encoding.{IsAppended};
 ghost use Rattle.dw_op.specs.Accepted.{IsAccepted, ops_of};
 
@@ -109,10 +109,22 @@ impl<'a> ExprRef<'a> {
         ensures only { (ops : List Op) → FrameBlock target ops bytes.now → MatchResult result (λ e. e.ops ≡ ops) (λ _. ⊥) }
         // A refusal is the first fault.
         ensures first { IfErr result (BlockFault Frame target bytes.now) }
+        // Its place is in the block or at its end.
+        ensures within { IfErr result (IsWithin bytes.now) }
     {
         are_bytes(bytes);
         judge(bytes, target)?;
         Ok(ExprRef { target, bytes })
+    }
+
+    /// The expression of a block that was accepted before, which is not judged again.
+    pub fn known(bytes: &'a [u8], target: Target) -> ExprRef<'a>
+        requires { (ops : List Op) × FrameBlock target ops bytes.now }
+        ensures target { result.target ≡ target }
+        ensures ops { FrameBlock target result.ops bytes.entry.now }
+    {
+        are_bytes(bytes);
+        ExprRef { target, bytes }
     }
 
     /// The target that the expression is for.
@@ -190,7 +202,7 @@ impl<'a> ExprRef<'a> {
     }
 
     /// Appends the block of the operations' least spellings, or appends nothing where memory runs out. No
-    /// other memory is taken. A branch costs a walk to where it leads.
+    /// other memory is taken.
     pub fn put_least(&self, out: &mut Vec<u8>) -> Result<(), AllocError>
         ensures ok { OnOk result (IsAppended (LeastBlock self.now.target self.now.ops) out.old.items out.new.items) }
         ensures err { OnErr result (out.new.items ≡ out.old.items) }

@@ -9,6 +9,7 @@ mod expression;
 mod laws;
 mod least;
 mod list;
+mod marking;
 mod measuring;
 mod op;
 mod profile;

@@ -4,7 +4,7 @@ ghost use Rattle.std.specs.Prelude.{◌≡◌, ℕ, ◌<◌, ◌^◌, ◌++◌, 
 ghost use Rattle.dw_op.specs.Block.{branch_target};
 ghost use Rattle.dw_op.specs.Expression.{bare};
 ghost use Rattle.dw_op.specs.Encoding.{EachFits, blank_parts, least_len, least_block};
-ghost use Rattle.dw_op.specs.Lengths.{least_lengths};
+ghost use Rattle.dw_op.specs.Lengths.{least_lengths, lengths_at};
 ghost use Rattle.dw_op.specs.Points.{AreSmall, ArePlaces, IsBranching, bits_at};
 
 use crate::encoding::branch_target;
@@ -72,8 +72,8 @@ pub(crate) fn put_steps<'a>(
     target: Target,
     out: &mut Vec<u8>,
 ) -> Result<(), AllocError>
-    requires lengths { lengths ≡ least_lengths target steps }
-    requires small { AreSmall lengths }
+    requires lengths { lengths_at lengths ≡ least_lengths target steps }
+    requires small { AreSmall (lengths_at lengths) }
     requires fits { EachFits (blank_parts target steps) 0 steps }
     ensures all { OnOk result (out.new.items ≡ out.old.items ++ least_block target steps.entry) }
     ensures front { take (length out.old.items) out.new.items ≡ out.old.items }

@@ -7,6 +7,7 @@ ghost use Rattle.dw_op.specs.Walk.{walk, end_of, index_at, index_in, goes_to, fi
 ghost use Rattle.dw_op.specs.Windows.{Shifted, block_of, WalkSo, SoughtSo, Walks};
 
 use crate::decoding::{goal, named};
+use crate::marking::{APART, Mark, Marks, ROOM, fill, index_by};
 use crate::op::Op;
 use crate::profile::Profile;
 use crate::reading::{Step, next_step};
@@ -16,7 +17,8 @@ use dw_num::{Code, Cursor, Refusal, Target, are_bytes};
 const REACH: u64 = 32768;
 
 /// A walk over a block of the frame profile: what is left, how many operations were passed, and a
-/// window that begins at the first operation that a branch can still go back to.
+/// window that begins at an operation not behind the first that a branch can still go back to, with marks for
+/// the goals below a limit.
 #[derive(Drop)]
 pub(crate) struct Walker<'a> {
     pub(crate) bytes: &'a [u8],
@@ -24,6 +26,8 @@ pub(crate) struct Walker<'a> {
     pub(crate) count: usize,
     pub(crate) window: Cursor<'a>,
     pub(crate) window_count: usize,
+    pub(crate) marks: Marks<Mark>,
+    pub(crate) limit: u64,
 }
 
 /// A second cursor at the same place.
@@ -34,7 +38,7 @@ pub(crate) fn copied<'a>(cursor: &Cursor<'a>) -> Cursor<'a>
 }
 
 // Which of the operations from the cursor on begins at the place, or how many there are for the end.
-fn index_from(cursor: &Cursor<'_>, place: u64) -> Option<usize>
+pub(crate) fn index_from(cursor: &Cursor<'_>, place: u64) -> Option<usize>
     requires bytes { AreBytes cursor.now.bytes }
     requires read { (walk Frame cursor.now).fault ≡ None }
     ensures exact { result ≡ index_at (walk Frame cursor.now).items (end_of cursor.now) place }
@@ -56,7 +60,7 @@ fn index_from(cursor: &Cursor<'_>, place: u64) -> Option<usize>
 }
 
 // Goes on to the first operation that does not begin below the place, and says how many it passes.
-fn advance(window: &mut Cursor<'_>, low: u64) -> usize
+pub(crate) fn advance(window: &mut Cursor<'_>, low: u64) -> usize
     requires bytes { AreBytes window.old.bytes }
     requires read { (walk Frame window.old).fault ≡ None }
     requires low { low ≤ end_of window.old }
@@ -87,7 +91,25 @@ impl<'a> Walker<'a> {
             count: 0,
             window: Cursor::new(bytes, 0, target),
             window_count: 0,
+            marks: Marks::new(Mark { bytes: 0, count: 0 }),
+            limit: APART,
         }
+    }
+
+    // Moves the window on, for a branch that ends here and goes behind all that is marked.
+    fn reach(&mut self, end: u64, place: u64)
+        requires { SoughtSo end self.old }
+        ensures so { SoughtSo end self.new }
+        ensures here { self.new.here ≡ self.old.here }
+        ensures count { self.new.count ≡ self.old.count }
+        ensures bytes { self.new.bytes.now ≡ self.old.bytes.now }
+    {
+        if place < self.limit {
+            return;
+        }
+        self.window_count += advance(&mut self.window, end.saturating_sub(REACH));
+        fill(&self.window, &mut self.marks);
+        self.limit = self.window.at() + APART * (ROOM + 1);
     }
 
     // Which operation a branch names that ends here.
@@ -99,15 +121,14 @@ impl<'a> Walker<'a> {
         ensures count { self.new.count ≡ self.old.count }
         ensures bytes { self.new.bytes.now ≡ self.old.bytes.now }
     {
-        self.window_count += advance(&mut self.window, end.saturating_sub(REACH));
         let place = goal(end, number)?;
-        if place < end {
-            let index = index_from(&self.window, place)?;
-            Some(self.window_count + index)
-        } else {
+        if end <= place && place - end < APART {
             let index = index_from(&self.here, place)?;
-            Some(self.count + index)
+            return Some(self.count + index);
         }
+        self.reach(end, place);
+        let index = index_by(&self.window, &self.marks, place)?;
+        Some(self.window_count + index)
     }
 
     /// The next operation, or the refusal of a branch that leads nowhere.

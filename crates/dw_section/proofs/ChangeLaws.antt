@@ -206,6 +206,7 @@ after_behind : (f : Factors) (cie : Input) (initial instrs : List Instr) (first 
 after_behind f cie initial instrs first x k leaves h = record {
   cfa = h.cfa ∙ ap (λ (c : CfaRule). cfa_after c instrs k) leaves.cfa;
   rules = λ r. h.rules r ∙ ap (λ (rule : RegRule). rule_after rule instrs r k) (leaves.rules r);
+  listed = h.listed;
 }
 
 hold_all : (initial instrs : List Instr) (begin end : ℕ) (rows : List LocatedRow) → NeverFalls begin rows → ((a : ℕ) → begin ≤ a → (x : Rules) × (last_at a rows ≡ Some x) × HasRow initial instrs begin end a x) → Hold initial instrs begin end rows

@@ -7,7 +7,6 @@ use Rattle.std.proofs.lemmas.Bool.Decides.{eqb_tells}
 use Rattle.dw_num.proofs.FixedLaws.{length-fixed, unit_length_only}
 use Rattle.dw_num.specs.Fixed.{fixed_bytes}
 use Rattle.dw_num.proofs.LebLaws.{ok_is}
-use Rattle.dw_num.proofs.Steps.{Takes-then}
 use Rattle.dw_num.specs.declared.target.Form.{Form}
 use Rattle.dw_num.specs.declared.target.Target.{Target}
 use Rattle.dw_num.specs.declared.refusal.Refusal.{Refusal}
@@ -22,9 +21,8 @@ use Rattle.dw_num.specs.declared.target.Size.TheVariants.{Four}
 use Rattle.dw_num.specs.declared.target.Order.{Order}
 use Rattle.dw_num.specs.declared.target.Order.TheVariants.{Little, Big}
 use Rattle.dw_num.specs.declared.target.Form.TheVariants.{Dwarf32, Dwarf64}
-use Rattle.dw_num.specs.declared.target.UnitLength.{UnitLength}
 use Rattle.dw_num.specs.Input.{Input, Takes}
-use Rattle.dw_num.specs.Fixed.{SpellsLength, length_bytes}
+use Rattle.dw_num.specs.Fixed.{length_bytes}
 use Rattle.dw_section.specs.Cut.{Item, gap, entry, IsItem, item_bytes, is_cie, id_width, all_bytes, Piece, piece_of, with_some, pieces, Cut}
 
 gap_bytes : (order : Order) → length_bytes order Dwarf32 0 ≡ 0 ∷ 0 ∷ 0 ∷ 0 ∷ []

@@ -87,16 +87,17 @@ changing rows end = record { rows = rows; shown = None; end = end; failed = fals
 abbrev pub ToCome : Changing → List (ℕ × Rules) → Type 0
 ToCome c changes = Among c.end c.shown c.rows changes
 
--- what a call answers, and what is still to come then
+-- what a call answers, what is still to come then, and the row that is shown: behind the last change the one before
 abbrev pub GivesChange : {E : Type 0} → Changing → Result (Option (ℕ × Rules)) E → Changing → Type 0
-GivesChange old (Ok None) new = (new.failed ≡ false) × ToCome old [] × (new.rows ≡ [])
+GivesChange old (Ok None) new = (new.failed ≡ false) × ToCome old [] × (new.rows ≡ []) × (new.shown ≡ old.shown)
 GivesChange old (Ok (Some change)) new =
     (new.failed ≡ false) × (length new.rows < length old.rows) × ((changes : List (ℕ × Rules)) → ToCome new changes → ToCome old (change ∷ changes))
+    × (new.shown ≡ Some change.1)
 GivesChange old (Err e) new = new.failed ≡ true
 
 -- the same of a call that answers the address alone: the row there is the one that was shown then
 abbrev pub GivesAddress : {E : Type 0} → Changing → Result (Option ℕ) E → Changing → Type 0
-GivesAddress old (Ok None) new = (new.failed ≡ false) × ToCome old [] × (new.rows ≡ [])
+GivesAddress old (Ok None) new = (new.failed ≡ false) × ToCome old [] × (new.rows ≡ []) × (new.shown ≡ old.shown)
 GivesAddress old (Ok (Some address)) new =
     (new.failed ≡ false) × (length new.rows < length old.rows)
     × ((row : Rules) × (new.shown ≡ Some row) × ((changes : List (ℕ × Rules)) → ToCome new changes → ToCome old ((address, row) ∷ changes)))
@@ -109,7 +110,7 @@ now_of None = None
 now_of (Some row) = Some row
 
 abbrev pub FindsChange : {E : Type 0} → ℕ → Stepping → Option Row → Result (Option ℕ) E → Stepping → Option Row → Type 0
-FindsChange end old shown (Ok None) new shown' = (new.outcome.fault ≡ None) × Among end (now_of shown) old.outcome.rows [] × (new.outcome.rows ≡ [])
+FindsChange end old shown (Ok None) new shown' = (new.outcome.fault ≡ None) × Among end (now_of shown) old.outcome.rows [] × (new.outcome.rows ≡ []) × (now_of shown' ≡ now_of shown)
 FindsChange end old shown (Ok (Some start)) new shown' =
     (new.outcome.fault ≡ None) × (length new.outcome.rows < length old.outcome.rows)
     × ((row : Rules) × (now_of shown' ≡ Some row) × ((changes : List (ℕ × Rules)) → Among end (Some row) new.outcome.rows changes → Among end (now_of shown) old.outcome.rows ((start, row) ∷ changes)))

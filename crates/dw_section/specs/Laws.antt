@@ -7,8 +7,10 @@ use Rattle.dw_cfa.specs.declared.instr.Instr.{Instr}
 use Rattle.dw_cfa.specs.Location.{row_starts}
 use Rattle.dw_cfa.specs.Rows.{Rules, AreSpecified, rule}
 use Rattle.dw_section.specs.declared.lookup.Fde.{Fde}
-use Rattle.dw_section.specs.Accepted.{Accepted}
-use Rattle.dw_section.specs.Changes.{AreChanges}
+use Rattle.dw_num.specs.declared.refusal.Refusal.{Refusal}
+use Rattle.dw_section.specs.Accepted.{Accepted, CheckFault}
+use Rattle.dw_section.specs.FaultPlaces.{IsWithin}
+use Rattle.dw_section.specs.Changes.{AreChanges, Changing, ToCome}
 use Rattle.dw_section.specs.Headers.{Head, Headers}
 use Rattle.dw_section.specs.Meaning.{AreFdes, Covers, RulesAt, ChangesOf, RowStarts, total}
 use Rattle.dw_section.specs.Meanings.{HasPrograms, IsListed, SameRow, SameMeaning}
@@ -17,6 +19,19 @@ use Rattle.dw_cfa.specs.declared.rule.CfaRule.TheVariants as cfa
 use Rattle.dw_cfa.specs.declared.rule.CfaRule.TheVariants.{Unset}
 use Rattle.dw_cfa.specs.declared.rule.RegRule.{RegRule}
 use Rattle.dw_cfa.specs.declared.rule.RegRule.TheVariants.{Expression, ValExpression}
+
+-- the first fault of a section lies in it or at its end
+abbrev pub FaultsWithin : Type 0
+FaultsWithin = (target : Target) (s : List ℕ) (r : Refusal) → AreBytes s → CheckFault target s r → IsWithin s r
+
+-- whatever rows are still to come, the changes among them are one list
+pub record HasOneToCome (c : Changing) : Type 0 where
+  pub changes : List (ℕ × Rules)
+  pub come : ToCome c changes
+  pub only : (others : List (ℕ × Rules)) → ToCome c others → others ≡ changes
+
+abbrev pub OneToCome : Type 0
+OneToCome = (c : Changing) → HasOneToCome c
 
 -- rows that list each register once, ascending
 abbrev pub AreListed : List (ℕ × Rules) → Type 0

@@ -11,6 +11,7 @@ ghost use Rattle.dw_num.specs.Reading.{Gives};
 ghost use Rattle.dw_section.specs.Cut.{Cut, Item, IsItem, item_bytes, is_cie, id_width};
 ghost use Rattle.dw_section.specs.Pieces.{Pieces, Entries, piece_in, IsPlaced};
 ghost use Rattle.dw_section.specs.Faults.{item_at, item_of, CutFault, Refuses};
+ghost use Rattle.dw_section.specs.FaultPlaces.{IsWithin};
 ghost use Rattle.dw_section.specs.declared.cutting.Entry.{Entry};
 ghost use Rattle.dw_section.specs.declared.error.SectionError.TheVariants.{OutOfMemory};
 
@@ -188,6 +189,8 @@ pub fn entries(alloc: Global, bytes: &[u8], target: Target) -> Result<Vec<Entry>
     ensures only { (es : List Entry) → Entries target bytes.now es → MatchResult result (λ v. v.items ≡ es) (λ e. e ≡ OutOfMemory) }
     // A refusal is the first fault.
     ensures first { IfErr result (Refuses (CutFault target bytes.now)) }
+    // Its place is in the section or at its end.
+    ensures within { IfErr result (Refuses (IsWithin bytes.now)) }
 {
     all_entries(alloc, bytes, target)
 }

@@ -10,6 +10,7 @@ ghost use Rattle.dw_num.specs.declared.refusal.Refusal.{Refusal};
 ghost use Rattle.dw_section.specs.Overlap.{Range, IsIndex};
 ghost use Rattle.dw_section.specs.Stage.{FirstStuck, Answers};
 ghost use Rattle.dw_section.specs.Faults.{Refuses};
+ghost use Rattle.dw_section.specs.FaultPlaces.{IsWithin};
 ghost use Rattle.dw_section.specs.Pieces.{piece_in};
 ghost use Rattle.dw_section.specs.Places.{cie_places, Rises};
 ghost use Rattle.dw_section.specs.Headers.{Head, Has, Headers, cie_at, fde_at, program_of, head_in, CieHolds, CieStuck, FdeHolds, FdeStuck, HeadersFault};
@@ -176,13 +177,16 @@ pub fn headers<'a>(
     ensures only { (hs : List Head) → Headers target bytes.now hs → MatchResult result (λ v. map head_in v.items ≡ hs) (λ e. e ≡ OutOfMemory) }
     // A refusal is the first fault.
     ensures first { IfErr result (Refuses (HeadersFault target bytes.now)) }
+    // Its place is in the section or at its end.
+    ensures within { IfErr result (Refuses (IsWithin bytes.now)) }
 {
     all_headers(alloc, bytes, target)
 }
 
-/// A section has at most one first fault.
+/// A section has at most one first fault, and none where it has headers.
 pub fn one_first_fault()
-    ensures { (target : Target) (s : List ℕ) (r q : Refusal) → HeadersFault target s r → HeadersFault target s q → r ≡ q }
+    ensures one { (target : Target) (s : List ℕ) (r q : Refusal) → HeadersFault target s r → HeadersFault target s q → r ≡ q }
+    ensures apart { (target : Target) (s : List ℕ) (r : Refusal) (hs : List Head) → HeadersFault target s r → Headers target s hs → ⊥ }
 {}
 
 /// The nonempty FDEs of a section have one order.

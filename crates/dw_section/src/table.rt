@@ -8,6 +8,7 @@ ghost use Rattle.dw_section.specs.declared.error.SectionError.TheVariants as The
 ghost use Rattle.dw_section.specs.declared.error.SectionError.TheVariants.{OutOfMemory};
 ghost use Rattle.dw_section.specs.Accepted.{RulesFault, CheckFault, Accepted};
 ghost use Rattle.dw_section.specs.Faults.{Refuses};
+ghost use Rattle.dw_section.specs.FaultPlaces.{IsWithin};
 ghost use Rattle.dw_section.specs.declared.lookup.Fde.{Fde as TheFde};
 ghost use Rattle.dw_section.specs.Meaning.{AreFdes};
 ghost use Rattle.dw_section.specs.Table.{Section, AreRanges, AreIndexed};
@@ -124,6 +125,8 @@ pub fn check<'a>(alloc: Global, bytes: &'a [u8], target: Target) -> Result<Table
     ensures only { Accepted target bytes.now → MatchResult result (λ table. table ≡ record { target = target; bytes = bytes.now }) (λ e. e ≡ OutOfMemory) }
     // A refusal is the first fault.
     ensures first { IfErr result (Refuses (CheckFault target bytes.now)) }
+    // Its place is in the section or at its end.
+    ensures within { IfErr result (Refuses (IsWithin bytes.now)) }
 {
     are_bytes(bytes);
     checked(alloc, bytes, target)

@@ -1,5 +1,5 @@
 -- What the values of columns are over a memory.
-use Rattle.std.proofs.Common.{◌≡◌, ◌⊎◌, ℕ, ◌<◌, ◌≤◌, true, List, Result, Ok, Err, refl, subst, arith, inl, inr}
+use Rattle.std.proofs.Common.{◌≡◌, ◌⊎◌, ℕ, ◌<◌, ◌≤◌, List, Result, Ok, Err, refl, subst, arith, inl, inr}
 use Rattle.std.proofs.lemmas.Bool.{cases_lt}
 use Rattle.dw_op.specs.Expression.{Expression}
 use Rattle.dw_eval.specs.declared.error.EvalError.{EvalError}
@@ -12,7 +12,6 @@ use Rattle.dw_unwind.specs.declared.frame.UnwindError.{UnwindError}
 use Rattle.dw_unwind.specs.declared.frame.UnwindError.TheVariants.{Eval, Device, OutOfMemory}
 use Rattle.dw_unwind.specs.Columns.{in_column, ValueIs, ValueFails}
 use Rattle.dw_unwind.specs.Recovery.{Over}
-use Rattle.dw_unwind.specs.Unwound.{is_device}
 
 -- what is known of an evaluation over a memory
 record Tells (c : Context) (limit : ℕ) (e : Expression) (first : List ℕ) (before after : ℕ) (r : Result ℕ EvalError) : Type 0 where
@@ -72,32 +71,9 @@ over_error P Q F G f g before (Device column) after h = (g (Device column) h.0, 
 over_error P Q F G f g before (Eval kinds.Device i column) after h = (g (Eval kinds.Device i column) h.0, h.1)
 over_error P Q F G f g before e after h = (f e h.0, h.1)
 
--- what is told of an answer over a memory, clause by clause
-pub over_counted : {A : Type 0} (P : Result A UnwindError → Type 0) (F : UnwindError → Type 0) (before : ℕ) (r : Result A UnwindError) (after : ℕ) → Over P F before r after → before ≤ after
-over_counted P F before (Ok v) after h = omega (arith, h.1)
-over_counted P F before (Err OutOfMemory) after h = omega (arith, h)
-over_counted P F before (Err (Device column)) after h = omega (arith, h.1)
-over_counted P F before (Err (Eval kinds.Device i column)) after h = omega (arith, h.1)
-over_counted P F before (Err e) after h = omega (arith, h.1)
-
 pub over_answered : {A : Type 0} (P : Result A UnwindError → Type 0) (F : UnwindError → Type 0) (before : ℕ) (r : Result A UnwindError) (after : ℕ) → Over P F before r after → after ≡ before → (r ≡ Err OutOfMemory) ⊎ P r
 over_answered P F before (Ok v) after h e = inr h.0
 over_answered P F before (Err OutOfMemory) after h e = inl refl
 over_answered P F before (Err (Device column)) after h e = absurd (omega (arith, h.1))
 over_answered P F before (Err (Eval kinds.Device i column)) after h e = absurd (omega (arith, h.1))
 over_answered P F before (Err x) after h e = inr h.0
-
-pub over_failed : {A : Type 0} (P : Result A UnwindError → Type 0) (F : UnwindError → Type 0) (before : ℕ) (r : Result A UnwindError) (after : ℕ) → Over P F before r after → before < after → (e : UnwindError) × (r ≡ Err e) × (is_device e ≡ true) × F e
-over_failed P F before (Ok v) after h lt = absurd (omega (arith, h.1))
-over_failed P F before (Err OutOfMemory) after h lt = absurd (omega (arith, h))
-over_failed P F before (Err (Device column)) after h lt = (Device column, refl, refl, h.0)
-over_failed P F before (Err (Eval kinds.Device i column)) after h lt = (Eval kinds.Device i column, refl, refl, h.0)
-over_failed P F before (Err x) after h lt = absurd (omega (arith, h.1))
-
-grown : {A : Type 0} (P : Result A UnwindError → Type 0) (F : UnwindError → Type 0) (before : ℕ) (e : UnwindError) (after : ℕ) → Over P F before (Err e) after → is_device e ≡ true → before < after
-grown P F before (Device column) after h is = h.1
-grown P F before (Eval kinds.Device i column) after h is = h.1
-grown P F before x after h is = absurd cc
-
-pub over_device : {A : Type 0} (P : Result A UnwindError → Type 0) (F : UnwindError → Type 0) (before : ℕ) (r : Result A UnwindError) (after : ℕ) → Over P F before r after → (e : UnwindError) → r ≡ Err e → is_device e ≡ true → before < after
-over_device {A = A} P F before r after h e is device = grown P F before e after (subst (λ (x : Result A UnwindError). Over P F before x after) is h) device

@@ -2,9 +2,7 @@
 use Rattle.std.proofs.Common.{◌≡◌, ℕ, zero, suc, ◌<◌, ◌≤◌, true, false, List, [], ◌∷◌, ◌++◌, length, get_or, Option, Ok, refl, sym, ap, subst, ◌∙◌, arith, inl, inr}
 use Rattle.std.specs.List.{AllByRecursion}
 use Rattle.std.proofs.lemmas.Bool.{cases_lt}
-use Rattle.std.proofs.lemmas.Bool.Decides.{eqb_tells}
-use Rattle.dw_cfa.specs.declared.rule.RegRule.{RegRule}
-use Rattle.dw_cfa.specs.Rows.{Rules, rule_in}
+use Rattle.dw_cfa.specs.Rows.{Rules}
 use Rattle.dw_eval.specs.Context.{Context}
 use Rattle.dw_section.specs.declared.lookup.Fde.{Fde}
 use Rattle.dw_section.specs.Meanings.{IsListed as IsAmongFdes}
@@ -17,10 +15,6 @@ pub listed_at : (fs : List Fde) (place : ℕ) (d : Fde) → place < length fs �
 listed_at [] place d lt = absurd (omega arith)
 listed_at (f ∷ fs) zero d lt = inl refl
 listed_at (f ∷ fs) (suc place) d lt = inr (listed_at fs place d (omega arith))
-
--- an entry that stands below takes no part in the rules above it
-pub rule_above : (entry : ℕ × RegRule) (rest : List (ℕ × RegRule)) (r : ℕ) → entry.0 < r → rule_in (entry ∷ rest) r ≡ rule_in rest r
-rule_above entry rest r lt = elim (eqb_tells entry.0 r) [ inl p ↦ absurd (omega (arith, p.1)) | inr p ↦ rw p.0 refl ]
 
 all_push : {X : Type 0} (P : X → Type 0) (xs : List X) (x : X) → AllByRecursion P xs → P x → AllByRecursion P (xs ++ x ∷ [])
 all_push P [] x h p = (p, tt)

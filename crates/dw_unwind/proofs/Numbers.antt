@@ -1,8 +1,7 @@
 -- Numbers by their digits.
-use Rattle.std.proofs.Common.{◌≡◌, ℕ, zero, suc, ◌+◌, ◌*◌, ◌^◌, ◌<◌, ◌≤◌, List, [], ◌∷◌, length, drop, get_or, Some, None, ap, arith, add-one}
-use Rattle.std.specs.Prelude.{option_and_then}
+use Rattle.std.proofs.Common.{◌≡◌, ℕ, suc, ◌+◌, ◌*◌, ◌^◌, ◌<◌, ◌≤◌, arith, add-one}
 use Rattle.std.proofs.Math.Nat.{mul-le-mul, pow-suc, pow-le-pow_right}
-use Rattle.dw_unwind.specs.Spelling.{digit, number_behind}
+use Rattle.dw_unwind.specs.Spelling.{digit}
 
 pub record Grows (number base d i : ℕ) : Type 0 where
   pub below : number * base + d < 16 ^ (i + 1)

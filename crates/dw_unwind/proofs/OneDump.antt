@@ -1,7 +1,8 @@
 -- A line says one thing, so lines that say something have no fault.
-use Rattle.std.proofs.Common.{◌≡◌, ℕ, ◌<◌, ◌≤◌, cond, List, [], ◌∷◌, ◌++◌, Some, Ok, Err, refl, sym, ap, subst, ◌∙◌, arith, inl, inr, append_assoc}
+use Rattle.std.proofs.Common.{◌≡◌, ℕ, suc, ◌+◌, ◌<◌, ◌≤◌, cond, List, [], ◌∷◌, ◌++◌, length, length-append, Some, Ok, Err, refl, sym, ap, subst, ◌∙◌, arith, inl, inr, append_assoc}
 use Rattle.std.specs.Prelude.{codes, is_some, Result, IfOk, IfErr, MatchResult}
 use Rattle.std.specs.List.{AllZip}
+use Rattle.std.proofs.lemmas.Bool.{cases_lt}
 use Rattle.std.proofs.lemmas.List.{append_cancel_left}
 use Rattle.std.proofs.lemmas.List.Sums.{sum_by-append}
 use Rattle.hex.specs.Hex.{decode_of}
@@ -13,6 +14,7 @@ use Rattle.dw_unwind.specs.declared.fault.DumpError.TheVariants.{Fault, OutOfMem
 use Rattle.dw_unwind.specs.Describes.{Describes, Refuses}
 use Rattle.dw_unwind.specs.declared.fault.DumpFault.{DumpFault}
 use Rattle.dw_unwind.specs.Dump.{SaysWithin, Say, FirstFault, IsFaulty}
+use Rattle.dw_unwind.specs.Laws.{OneDump, NamesLine}
 use Rattle.dw_unwind.specs.Spelling.{Says, SkippedLine, number_behind, Hexadecimal, RegisterName, HexPairs}
 use Rattle.dw_unwind.specs.Statement.{Statement, Item, Fits, nothing, counter_is, register_is, memory_is, told, times}
 use Rattle.dw_unwind.proofs.Words.{digits_lack_space, register_parts, memory_parts}
@@ -111,3 +113,86 @@ pub only_dump : (limit : ℕ) (lines : List (List ℕ)) (result : Result Dump Du
 only_dump limit lines (Ok dump) found first ss say = subst (Describes dump) (said_one limit lines found.0 ss found.1.each say.each) found.2
 only_dump limit lines (Err (Fault fault)) found first ss say = absurd (said_has_no_fault limit lines ss fault say first)
 only_dump limit lines (Err OutOfMemory) found first ss say = refl
+
+-- ---- the first fault is one
+
+-- a shorter beginning of a list begins a longer one
+cut_within : {X : Type 0} (xs ys : List X) (x y : X) (more others : List X) → xs ++ x ∷ more ≡ ys ++ y ∷ others → length xs < length ys → (mid : List X) × (ys ≡ xs ++ x ∷ mid)
+cut_within xs [] x y more others same less = absurd (omega arith)
+cut_within [] (z ∷ ys) x y more others same less = let first : x ≡ z = cc in (ys, ap (λ (w : _). w ∷ ys) (sym first))
+cut_within (w ∷ xs) (z ∷ ys) x y more others same less =
+    let first : w ≡ z = cc in
+    let rest : xs ++ x ∷ more ≡ ys ++ y ∷ others = cc in
+    let found = cut_within xs ys x y more others rest (omega arith) in
+    (found.0, ap (λ (v : _). v ∷ ys) (sym first) ∙ ap (λ (vs : List _). w ∷ vs) found.1)
+
+pub record SameCut {X : Type 0} (xs ys : List X) (x y : X) : Type 0 where
+  pub before : xs ≡ ys
+  pub here : x ≡ y
+
+cut_equal : {X : Type 0} (xs ys : List X) (x y : X) (more others : List X) → xs ++ x ∷ more ≡ ys ++ y ∷ others → length xs ≡ length ys → SameCut xs ys x y
+cut_equal [] [] x y more others same len = record { before = refl; here = cc }
+cut_equal [] (z ∷ ys) x y more others same len = absurd (omega arith)
+cut_equal (w ∷ xs) [] x y more others same len = absurd (omega arith)
+cut_equal (w ∷ xs) (z ∷ ys) x y more others same len =
+    let first : w ≡ z = cc in
+    let rest : xs ++ x ∷ more ≡ ys ++ y ∷ others = cc in
+    let found = cut_equal xs ys x y more others rest (omega arith) in
+    record { before = ap (λ (v : _). v ∷ xs) first ∙ ap (λ (vs : List _). z ∷ vs) found.before; here = found.here }
+
+-- a fault before the first one would be among lines that have none
+no_earlier : (limit : ℕ) (lines : List (List ℕ)) (f g : DumpFault) (v : FirstFault limit lines f) (w : FirstFault limit lines g) → length v.before < length w.before → ⊥
+no_earlier limit lines f g v w less =
+    let cut = cut_within v.before w.before v.line w.line v.after w.after (sym v.whole ∙ w.whole) less in
+    said_has_no_fault limit w.before w.statements f w.say
+    (record { before = v.before; line = v.line; after = cut.0; statements = v.statements; whole = cut.1; say = v.say; faulty = v.faulty; number = v.number })
+
+one_code : (limit : ℕ) (known : List Statement) (line : List ℕ) (a b : DumpCode) → IsFaulty limit known line a → IsFaulty limit known line b → a ≡ b
+one_code limit known line BadLine BadLine v w = refl
+one_code limit known line BadLine ValueTooLarge v w = absurd (v w.0 w.1)
+one_code limit known line BadLine Repeated v w = absurd (v w.0 w.1.0)
+one_code limit known line ValueTooLarge BadLine v w = absurd (w v.0 v.1)
+one_code limit known line ValueTooLarge ValueTooLarge v w = refl
+one_code limit known line ValueTooLarge Repeated v w = absurd (v.2 (subst (Fits limit) (says_one line w.0 v.0 w.1.0 v.1) w.1.1))
+one_code limit known line Repeated BadLine v w = absurd (w v.0 v.1.0)
+one_code limit known line Repeated ValueTooLarge v w = absurd (w.2 (subst (Fits limit) (says_one line v.0 w.0 v.1.0 w.1) v.1.1))
+one_code limit known line Repeated Repeated v w = refl
+
+same_place : (limit : ℕ) (lines : List (List ℕ)) (f g : DumpFault) (v : FirstFault limit lines f) (w : FirstFault limit lines g) → length v.before ≡ length w.before → f ≡ g
+same_place limit lines f g v w len =
+    let cut = cut_equal v.before w.before v.line w.line v.after w.after (sym v.whole ∙ w.whole) len in
+    let said = said_one limit w.before v.statements w.statements (subst (λ (ls : List (List ℕ)). AllZip (SaysWithin limit) ls v.statements) cut.before v.say.each) w.say.each in
+    let moved : IsFaulty limit v.statements w.line f.code = subst (λ (l : List ℕ). IsFaulty limit v.statements l f.code) cut.here v.faulty in
+    let there : IsFaulty limit w.statements w.line f.code = subst (λ (ss : List Statement). IsFaulty limit ss w.line f.code) said moved in
+    let code : f.code ≡ g.code = one_code limit w.statements w.line f.code g.code there w.faulty in
+    let line : f.line ≡ g.line = v.number ∙ ap (λ (n : ℕ). n + 1) len ∙ sym w.number in
+    ap (λ (k : DumpCode). let r : DumpFault = record { code = k; line = f.line } in r) code ∙ ap (λ (n : ℕ). let r : DumpFault = record { code = g.code; line = n } in r) line
+
+one_fault : (limit : ℕ) (lines : List (List ℕ)) (f g : DumpFault) → FirstFault limit lines f → FirstFault limit lines g → f ≡ g
+one_fault limit lines f g v w = elim (cases_lt (length v.before) (length w.before)) [
+  | inl less ↦ absurd (no_earlier limit lines f g v w less)
+  | inr most ↦ elim (cases_lt (length w.before) (length v.before)) [
+    | inl less ↦ absurd (no_earlier limit lines g f w v less)
+    | inr least ↦ same_place limit lines f g v w (omega (arith, most, least))
+  ]
+]
+
+pub one_dump : OneDump
+one_dump = record {
+  said = λ limit lines ss ts v w. said_one limit lines ss ts v.each w.each;
+  fault = one_fault;
+  apart = said_has_no_fault;
+}
+
+-- ---- its line is one of the lines
+
+fault_within : (limit : ℕ) (lines : List (List ℕ)) (fault : DumpFault) → FirstFault limit lines fault → (1 ≤ fault.line) × (fault.line ≤ length lines)
+fault_within limit lines fault first =
+    let number = first.number in
+    let len : length lines ≡ length first.before + suc (length first.after) = ap length first.whole ∙ length-append first.before (first.line ∷ first.after) in
+    (omega (arith, number), omega (arith, number, len))
+
+pub refuses_within : (limit : ℕ) (lines : List (List ℕ)) (result : Result Dump DumpError) → IfErr result (Refuses limit lines) → IfErr result (NamesLine lines)
+refuses_within limit lines (Ok dump) h = tt
+refuses_within limit lines (Err (Fault fault)) h = fault_within limit lines fault h
+refuses_within limit lines (Err OutOfMemory) h = tt

@@ -10,3 +10,4 @@ pub mod Describes
 pub mod Columns
 pub mod Unwound
 pub mod Recovery
+pub mod Laws

@@ -5,6 +5,7 @@ ghost use Rattle.dw_num.specs.Target.{address_limit};
 ghost use Rattle.dw_unwind.specs.declared.fault.DumpError.TheVariants.{OutOfMemory};
 ghost use Rattle.dw_unwind.specs.Describes.{Describes, Refuses};
 ghost use Rattle.dw_unwind.specs.Dump.{Say};
+ghost use Rattle.dw_unwind.specs.Laws.{NamesLine};
 ghost use Rattle.dw_unwind.specs.Lines.{lines_of};
 ghost use Rattle.dw_unwind.specs.Statement.{Statement as TheStatement};
 
@@ -74,6 +75,8 @@ impl Dump {
         ensures found { IfOk result (λ dump. (ss : List TheStatement) × Say (address_limit target.size) (lines_of bytes.now) ss × Describes dump ss) }
         // Where lines tell nothing twice and all of it fits, there is no fault.
         ensures only { (ss : List TheStatement) → Say (address_limit target.size) (lines_of bytes.now) ss → MatchResult result (λ dump. Describes dump ss) (λ e. e ≡ OutOfMemory) }
+        // A fault names one of the lines, counted from 1.
+        ensures within { IfErr result (NamesLine (lines_of bytes.now)) }
         // A refusal is the first fault.
         ensures first { IfErr result (Refuses (address_limit target.size) (lines_of bytes.now)) }
     {

@@ -9,6 +9,7 @@ mod dump;
 mod fault;
 mod frame;
 mod gathering;
+mod laws;
 mod line;
 mod machine;
 mod memory;
@@ -18,10 +19,6 @@ mod unwinding;
 pub use dump::Dump;
 pub use fault::{DumpCode, DumpError, DumpFault};
 pub use frame::{Column, Frame, FrameRegisters, Policy, UnwindError};
+pub use laws::unwind_laws;
 pub use memory::DumpMemory;
-pub use unwinding::{one_frame, unwind};
-
-#[cfg(test)]
-mod tests;
-#[cfg(test)]
-mod tests_unwind;
+pub use unwinding::unwind;

@@ -10,7 +10,7 @@ ghost use Rattle.dw_section.specs.Laws.{RowIsFor};
 ghost use Rattle.dw_unwind.specs.declared.frame.UnwindError.{UnwindError as TheError};
 ghost use Rattle.dw_unwind.specs.declared.frame.UnwindError.TheVariants.{OutOfMemory};
 ghost use Rattle.dw_unwind.specs.Recovery.{Over, SoFar, Adds};
-ghost use Rattle.dw_unwind.specs.Unwound.{is_listed, RegistersAre, RegistersFail, FrameIs, FrameFails, Unwound, UnwindFails, is_device, stopped, OneFrame};
+ghost use Rattle.dw_unwind.specs.Unwound.{is_listed, RegistersAre, RegistersFail, FrameIs, FrameFails, Unwound, UnwindFails, is_device, stopped};
 
 use crate::frame::{Frame, FrameRegisters, Policy, UnwindError};
 use crate::machine::Machine;
@@ -191,8 +191,3 @@ pub fn unwind<M: Memory>(
     };
     machine.unwound(table, pc, memory)
 }
-
-/// A section gives a machine one frame, or one fault. Does nothing.
-pub fn one_frame()
-    ensures { OneFrame }
-{}

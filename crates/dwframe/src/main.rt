@@ -1,38 +1,26 @@
 //! The command `dwframe`: answers about one raw section of call frame information (DWARF 5, 6.4.1).
 //!
-//! `engine` is the whole command over a list of words, files and two outputs; `main` runs it over the real
-//! ones. Read `plan.rt` for what the words may say, and then the file of a subcommand.
+//! `dw_command::engine` is the whole command over a list of words, files and two outputs; `main` runs it over the real ones.
 #![tactic(auto)]
 
-mod check;
-mod cost;
-mod engine;
-mod entries;
-mod eval;
-mod expr;
-mod failure;
-mod files;
-mod line;
-mod normal;
-mod plan;
-mod row_text;
-mod rows;
-mod sameness;
-mod texts;
-mod unwind;
-
-use engine::engine;
-use files::Disk;
-use std::io::{BufWriter, ErrorKind, Write};
+use dw_command::{Disk, Hinted, Shown, engine};
+use std::io::{BufWriter, ErrorKind, IsTerminal, Write};
 use std::process::ExitCode;
 use std::{env, io};
 
+// Hints are for people alone, so that a program that reads standard error finds the one line. A terminal is told no control
+// characters of a path.
 fn run(rt: &HostRuntime) -> io::Result<u8> {
     let alloc = rt.alloc();
     let words: Vec<String> = env::args(rt)?.collect(alloc)?;
     let mut files = Disk::new(rt);
     let mut out = BufWriter::new(alloc, rt.stdout())?;
     let mut err = rt.stderr();
+    if err.is_terminal() {
+        let mut err = Shown::new(err);
+        let mut files = Hinted::new(files, Shown::new(rt.stderr()));
+        return Ok(engine(alloc, words.as_slice(), &mut files, &mut out, &mut err));
+    }
     Ok(engine(alloc, words.as_slice(), &mut files, &mut out, &mut err))
 }
 
@@ -53,14 +41,3 @@ fn main(rt: HostRuntime) -> ExitCode {
         Err(error) => ExitCode::from(status_without_run(&rt, &error)),
     }
 }
-
-#[cfg(test)]
-mod tests;
-#[cfg(test)]
-mod tests_eval;
-#[cfg(test)]
-mod tests_normal;
-#[cfg(test)]
-mod tests_table;
-#[cfg(test)]
-mod tests_unwind;

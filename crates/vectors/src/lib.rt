@@ -3,7 +3,9 @@
 #![tactic(auto)]
 
 #[cfg(test)]
-mod locations;
+mod evaluations;
+#[cfg(test)]
+mod lines;
 #[cfg(test)]
 mod memories;
 #[cfg(test)]
@@ -12,5 +14,3 @@ mod numbers;
 mod operations;
 #[cfg(test)]
 mod spellings;
-#[cfg(test)]
-mod values;

@@ -4,6 +4,7 @@ use dw_num::{
     Code, Cursor, Form, Order, Refusal, Size, Target, UnitLength, put_fixed, put_sleb, put_uleb,
     sleb_len, uleb_len,
 };
+use std::alloc::Global;
 use std::test::Fail;
 
 const LITTLE: Target = Target {
@@ -128,11 +129,14 @@ const UNIT_LENGTHS: [(&[u8], Result<UnitLength, Code>); 7] = [
     ),
 ];
 
-// Numbers of 1, 2 and 4 bytes, from 01020304 on, in both orders.
-const FIXED: [(usize, u64, u64); 3] = [
-    (1, 0x01, 0x01),
-    (2, 0x0201, 0x0102),
-    (4, 0x0403_0201, 0x0102_0304),
+// Numbers of 1, 2 and 4 bytes.
+const FIXED: [(Target, usize, u64); 6] = [
+    (LITTLE, 1, 0x01),
+    (LITTLE, 2, 0x0201),
+    (LITTLE, 4, 0x0403_0201),
+    (BIG, 1, 0x01),
+    (BIG, 2, 0x0102),
+    (BIG, 4, 0x0102_0304),
 ];
 
 const EIGHT_BYTES: &[u8] = b"\x01\x02\x03\x04\x05\x06\x07\x08";
@@ -173,26 +177,34 @@ fn leb_numbers(rt: HostRuntime) {
     }
 }
 
-#[test]
-fn signed_spellings(rt: HostRuntime) -> Result<(), Fail> {
-    for (value, spelling) in SIGNED {
-        let mut out = Vec::new(rt.alloc());
-        put_sleb(&mut out, value)?;
-        assert!(rt; out.as_slice() == spelling);
-        assert!(rt; sleb(spelling) == (Ok(value), 0));
-        assert!(rt; sleb_len(value) == spelling.len());
-    }
-    Ok(())
+// Whether this is the spelling of a number, for writing, for reading and by its length.
+fn is_signed(alloc: Global, value: i64, spelling: &'static [u8]) -> Result<bool, Fail> {
+    let mut out = Vec::new(alloc);
+    put_sleb(&mut out, value)?;
+    Ok(
+        out.as_slice() == spelling
+            && sleb(spelling) == (Ok(value), 0)
+            && sleb_len(value) == spelling.len(),
+    )
+}
+
+fn is_unsigned(alloc: Global, value: u64, spelling: &'static [u8]) -> Result<bool, Fail> {
+    let mut out = Vec::new(alloc);
+    put_uleb(&mut out, value)?;
+    Ok(
+        out.as_slice() == spelling
+            && uleb(spelling) == (Ok(value), 0)
+            && uleb_len(value) == spelling.len(),
+    )
 }
 
 #[test]
-fn unsigned_spellings(rt: HostRuntime) -> Result<(), Fail> {
+fn spellings(rt: HostRuntime) -> Result<(), Fail> {
+    for (value, spelling) in SIGNED {
+        assert!(rt; is_signed(rt.alloc(), value, spelling)?);
+    }
     for (value, spelling) in UNSIGNED {
-        let mut out = Vec::new(rt.alloc());
-        put_uleb(&mut out, value)?;
-        assert!(rt; out.as_slice() == spelling);
-        assert!(rt; uleb(spelling) == (Ok(value), 0));
-        assert!(rt; uleb_len(value) == spelling.len());
+        assert!(rt; is_unsigned(rt.alloc(), value, spelling)?);
     }
     Ok(())
 }
@@ -205,13 +217,16 @@ fn unit_lengths(rt: HostRuntime) {
 }
 
 #[test]
-fn numbers_of_a_width(rt: HostRuntime) -> Result<(), Fail> {
-    for (width, little, big) in FIXED {
-        assert!(rt; Cursor::new(EIGHT_BYTES, 0, LITTLE).fixed(width) == Ok(little));
-        assert!(rt; Cursor::new(EIGHT_BYTES, 0, BIG).fixed(width) == Ok(big));
+fn numbers_of_a_width(rt: HostRuntime) {
+    for (target, width, wanted) in FIXED {
+        assert!(rt; Cursor::new(EIGHT_BYTES, 0, target).fixed(width) == Ok(wanted));
     }
     assert!(rt; Cursor::new(EIGHT_BYTES, 0, LITTLE).address() == Ok(0x0807_0605_0403_0201));
     assert!(rt; Cursor::new(EIGHT_BYTES, 0, BIG).address() == Ok(0x0102_0304));
+}
+
+#[test]
+fn puts_numbers_of_a_width(rt: HostRuntime) -> Result<(), Fail> {
     let mut out = Vec::new(rt.alloc());
     put_fixed(&mut out, Order::Little, 4, 0x14)?;
     put_fixed(&mut out, Order::Big, 2, 0x0102)?;

@@ -1,7 +1,8 @@
 //! Operations as blocks spell them, and expressions that are borrowed.
 
+use crate::lines::{case_of, compare};
 use dw_num::{Order, Size, Target};
-use dw_op::{DecodeError, ExprRef, Op, OpList, Profile, decode};
+use dw_op::{DecodeError, ExprRef, Op, Profile, decode};
 use std::alloc::Global;
 use std::hash::{DefaultHasher, Hash, Hasher};
 use std::test::Fail;
@@ -17,45 +18,63 @@ const FOUR: Target = Target {
 };
 
 // Blocks of location descriptions, and their operations or the refusal.
-const BLOCKS: [(&[u8], Target, &[u8]); 21] = [
-    (b"", EIGHT, b""),
-    (b"\x0c\xff\xff\xff\xff", FOUR, b"Const(4294967295);"),
-    (b"\x09\xff", FOUR, b"Const(4294967295);"),
-    (b"\x0c\xff\xff\xff\xff", EIGHT, b"Const(4294967295);"),
-    (b"\x09\xff", EIGHT, b"Const(18446744073709551615);"),
-    (
-        b"\x2f\x12\x00\x0e\x05\0\0\0\0\0\0\0\x0e\x06\0\0\0\0\0\0\0\x37",
-        EIGHT,
-        b"Skip(3);Const(5);Const(6);Const(7);",
-    ),
-    (b"\x2f\x01\x00\x30", EIGHT, b"Skip(2);Const(0);"),
-    (b"\x2f\x01\x00\x08\x05", EIGHT, b"BadBranch at 0"),
-    (
-        b"\x0e\x05\0\0\0\0\0\0\0\x2f\xf4\xff",
-        EIGHT,
-        b"Const(5);Skip(0);",
-    ),
-    (b"\x28\xfd\xff", EIGHT, b"Bra(0);"),
-    (b"\x28\xfc\xff", EIGHT, b"BadBranch at 0"),
-    (b"\x92\x03\x08", EIGHT, b"Breg(3, 8);"),
-    (b"\x9e\x00", EIGHT, b"Implicit([]);"),
-    (b"\x9e\x03\xaa\xbb", EIGHT, b"Truncated at 2"),
-    (b"\x2f\x05\x00\x08", EIGHT, b"Truncated at 4"),
-    (b"\x18", EIGHT, b"UnknownOperation at 0"),
-    (b"\x94\x09", EIGHT, b"BadDerefSize at 1"),
-    (b"\x94\x05", FOUR, b"BadDerefSize at 1"),
-    (b"\x94", EIGHT, b"Truncated at 1"),
-    (b"\x90\x80\x80\x04", EIGHT, b"RegisterTooLarge at 1"),
-    (b"\x96\x23\x80", EIGHT, b"Truncated at 2"),
-];
+const BLOCKS: &str = "\
+: []
+0cffffffff little=4: [Const(4294967295)]
+09ff little=4: [Const(4294967295)]
+0cffffffff: [Const(4294967295)]
+09ff: [Const(18446744073709551615)]
+2f12000e05000000000000000e060000000000000037: [Skip(3), Const(5), Const(6), Const(7)]
+2f010030: [Skip(2), Const(0)]
+2f01000805: BadBranch at 0
+0e05000000000000002ff4ff: [Const(5), Skip(0)]
+28fdff: [Bra(0)]
+28fcff: BadBranch at 0
+920308: [Breg(3, 8)]
+9e00: [Implicit([])]
+9e03aabb: Truncated at 2
+2f050008: Truncated at 4
+18: UnknownOperation at 0
+9409: BadDerefSize at 1
+9405 little=4: BadDerefSize at 1
+94: Truncated at 1
+90808004: RegisterTooLarge at 1
+962380: Truncated at 2";
 
 // Blocks of rules.
-const FRAME_BLOCKS: [(&[u8], &[u8]); 4] = [
-    (b"\x9f", b"NotInFrame at 0"),
-    (b"\x9e\x03", b"NotInFrame at 0"),
-    (b"\x96\x9e", b"NotInFrame at 1"),
-    (b"\x77\x08\x06", b"Breg(7, 8);Deref;"),
-];
+const FRAME_BLOCKS: &str = "\
+9f: NotInFrame at 0
+9e03: NotInFrame at 0
+969e: NotInFrame at 1
+770806: [Breg(7, 8), Deref]";
+
+fn ops_text(alloc: Global, ops: &[Op<'_>]) -> Result<String, Fail> {
+    Ok(format!(in alloc; "{ops:?}")?)
+}
+
+// Fails where the operations of a block, or its refusal, are not what a line says.
+fn agree(alloc: Global, line: &str, profile: Profile) -> Result<(), Fail> {
+    let case = case_of(alloc, line)?;
+    let text = match decode(alloc, &case.block, case.around.target, profile) {
+        Ok(list) => ops_text(alloc, list.ops())?,
+        Err(DecodeError::Refused(refusal)) => {
+            format!(in alloc; "{:?} at {}", refusal.code, refusal.at)?
+        }
+        Err(DecodeError::OutOfMemory) => return Err(Fail::new("out of memory")),
+    };
+    compare(line, text.as_str(), case.wanted)
+}
+
+#[test]
+fn blocks(rt: HostRuntime) -> Result<(), Fail> {
+    for line in BLOCKS.lines() {
+        agree(rt.alloc(), line, Profile::Location)?;
+    }
+    for line in FRAME_BLOCKS.lines() {
+        agree(rt.alloc(), line, Profile::Frame)?;
+    }
+    Ok(())
+}
 
 const LONG: &[u8] = b"\x2f\x12\x00\x0e\x05\0\0\0\0\0\0\0\x0e\x06\0\0\0\0\0\0\0\x37";
 
@@ -71,92 +90,53 @@ const PAIRS: [(&[u8], Target, &[u8], Target, bool); 6] = [
     (SHORT, EIGHT, b"\x2f\x02\x00\x35\x36", EIGHT, false),
 ];
 
-// Blocks, their operations, and their least spellings.
-const LEAST: [(&[u8], &[u8], &[u8]); 3] = [
-    (LONG, b"Skip(3);Const(5);Const(6);Const(7);", SHORT),
-    (b"\x92\x03\x08\x96", b"Breg(3, 8);Nop;", b"\x73\x08\x96"),
-    (
-        b"\x0e\x05\0\0\0\0\0\0\0\x2f\xf4\xff",
-        b"Const(5);Skip(0);",
-        b"\x35\x2f\xfc\xff",
-    ),
-];
-
-fn text_of(alloc: Global, ops: &[Op<'_>]) -> Result<String, Fail> {
-    let mut text = String::new(alloc);
-    for op in ops {
-        let word = format!(in alloc; "{op:?};")?;
-        text.push_str(&word)?;
-    }
-    Ok(text)
-}
-
-// The operations of a block, or its refusal.
-fn shown(
-    alloc: Global,
-    bytes: &'static [u8],
-    target: Target,
-    profile: Profile,
-) -> Result<String, Fail> {
-    match decode(alloc, bytes, target, profile) {
-        Ok(list) => text_of(alloc, list.ops()),
-        Err(DecodeError::Refused(refusal)) => {
-            Ok(format!(in alloc; "{:?} at {}", refusal.code, refusal.at)?)
-        }
-        Err(DecodeError::OutOfMemory) => Ok(format!(in alloc; "OutOfMemory")?),
-    }
-}
-
-#[test]
-fn blocks(rt: HostRuntime) -> Result<(), Fail> {
-    for (bytes, target, wanted) in BLOCKS {
-        let text = shown(rt.alloc(), bytes, target, Profile::Location)?;
-        assert!(rt; text.as_bytes() == wanted, "{bytes:?}");
-    }
-    for (bytes, wanted) in FRAME_BLOCKS {
-        let text = shown(rt.alloc(), bytes, EIGHT, Profile::Frame)?;
-        assert!(rt; text.as_bytes() == wanted, "{bytes:?}");
-    }
-    Ok(())
-}
-
 fn hash_of(expression: &ExprRef<'_>) -> u64 {
     let mut state = DefaultHasher::new();
     expression.hash(&mut state);
     state.finish()
 }
 
-// Whether two expressions are equal, and hash alike if they are.
-fn are_equal(a: &ExprRef<'_>, b: &ExprRef<'_>) -> bool {
-    a == b && hash_of(a) == hash_of(b)
-}
-
-fn accepted(bytes: &'static [u8], target: Target) -> Option<ExprRef<'static>> {
-    ExprRef::accept(bytes, target).ok()
+// Whether two blocks are equal expressions, and hash alike if they are.
+fn are_equal(a: &[u8], of_a: Target, b: &[u8], of_b: Target) -> Result<bool, Fail> {
+    let a = ExprRef::accept(a, of_a)?;
+    let b = ExprRef::accept(b, of_b)?;
+    Ok(a == b && hash_of(&a) == hash_of(&b))
 }
 
 #[test]
 fn equal_expressions(rt: HostRuntime) -> Result<(), Fail> {
     for (a, of_a, b, of_b, wanted) in PAIRS {
-        let a = accepted(a, of_a).ok_or("a block")?;
-        let b = accepted(b, of_b).ok_or("a block")?;
-        assert!(rt; are_equal(&a, &b) == wanted);
+        assert!(rt; are_equal(a, of_a, b, of_b)? == wanted);
     }
     Ok(())
 }
 
+// Blocks, their operations, and their least spellings.
+const LEAST: &str = "\
+2f12000e05000000000000000e060000000000000037: [Skip(3), Const(5), Const(6), Const(7)] 2f0200353637
+92030896: [Breg(3, 8), Nop] 730896
+0e05000000000000002ff4ff: [Const(5), Skip(0)] 352ffcff";
+
+// Fails where an expression's operations, their count, its least spelling or that one's length is not what a line says.
+fn agree_least(alloc: Global, line: &str) -> Result<(), Fail> {
+    let case = case_of(alloc, line)?;
+    let expression = ExprRef::accept(&case.block, case.around.target)?;
+    let list = expression.ops(alloc)?;
+    let mut least = Vec::new(alloc);
+    expression.copied().put_least(&mut least)?;
+    if expression.steps().count() != list.len() || expression.least_len() != least.len() {
+        return Err(Fail::new(format_args!("{line}: a count")));
+    }
+    let least = hex::encode(alloc, &least)?;
+    let ops = ops_text(alloc, list.ops())?;
+    let text = format!(in alloc; "{ops} {least}")?;
+    compare(line, text.as_str(), case.wanted)
+}
+
 #[test]
 fn least_expressions(rt: HostRuntime) -> Result<(), Fail> {
-    for (bytes, text, least) in LEAST {
-        let expression = accepted(bytes, EIGHT).ok_or("a block")?;
-        let list: OpList<'static> = expression.ops(rt.alloc())?;
-        let said = text_of(rt.alloc(), list.ops())?;
-        assert!(rt; said.as_bytes() == text, "{bytes:?}");
-        assert!(rt; expression.steps().count() == list.len(), "{bytes:?}");
-        let mut out = Vec::new(rt.alloc());
-        expression.copied().put_least(&mut out)?;
-        assert!(rt; out.as_slice() == least, "{bytes:?}");
-        assert!(rt; expression.least_len() == least.len(), "{bytes:?}");
+    for line in LEAST.lines() {
+        agree_least(rt.alloc(), line)?;
     }
     Ok(())
 }

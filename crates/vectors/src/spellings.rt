@@ -84,26 +84,23 @@ fn block(alloc: Global, ops: Vec<Op<'static>>, target: Target) -> Option<Result<
     }
 }
 
-// Whether this is the block of an operation.
-fn is_spelled(alloc: Global, op: Op<'static>, target: Target, wanted: &[u8]) -> Result<bool, Fail> {
+// Fails where this is not the block of an operation.
+fn agree(alloc: Global, op: Op<'static>, target: Target, wanted: &[u8]) -> Result<(), Fail> {
     let mut ops = Vec::new(alloc);
     ops.push(op)?;
     match block(alloc, ops, target) {
-        Some(Ok(bytes)) => Ok(bytes.as_slice() == wanted),
-        _ => Ok(false),
+        Some(Ok(bytes)) if bytes.as_slice() == wanted => Ok(()),
+        _ => Err(Fail::new(format_args!("{op:?}"))),
     }
 }
 
 #[test]
 fn least_spellings(rt: HostRuntime) -> Result<(), Fail> {
     for (value, wanted) in CONSTANTS {
-        assert!(rt;
-            is_spelled(rt.alloc(), Op::Const(value), LITTLE, wanted)?,
-            "{value}"
-        );
+        agree(rt.alloc(), Op::Const(value), LITTLE, wanted)?;
     }
     for (op, target, wanted) in OPERATIONS {
-        assert!(rt; is_spelled(rt.alloc(), op, target, wanted)?, "{op:?}");
+        agree(rt.alloc(), op, target, wanted)?;
     }
     Ok(())
 }
@@ -149,16 +146,19 @@ fn far_branches(rt: HostRuntime) -> Result<(), Fail> {
     Ok(())
 }
 
+// The index of the first operation that is out of range.
+fn first_bad(alloc: Global, row: &[Op<'static>], target: Target) -> Result<Option<usize>, Fail> {
+    let ops = Vec::from_slice(alloc, row)?;
+    match OpList::from_ops(ops, target) {
+        Ok(_) => Ok(None),
+        Err(bad) => Ok(Some(bad.index)),
+    }
+}
+
 #[test]
 fn first_bad_operands(rt: HostRuntime) -> Result<(), Fail> {
     for (row, target, wanted) in BAD {
-        let mut ops = Vec::new(rt.alloc());
-        ops.extend_from_slice(&row)?;
-        let found = match OpList::from_ops(ops, target) {
-            Ok(_) => None,
-            Err(bad) => Some(bad.index),
-        };
-        assert!(rt; found == wanted);
+        assert!(rt; first_bad(rt.alloc(), &row, target)? == wanted);
     }
     Ok(())
 }

@@ -1,5 +1,6 @@
 use Rattle.dw_eval.proofs.Results.{one_result, one_location}
+use Rattle.dw_eval.proofs.Space.{values_in_space, locations_in_space}
 use Rattle.dw_eval.proofs.laws.evaluation_laws.Goals as goal
 
 pub returns : goal.returns
-returns c = record { value = one_result; pieces = one_location }
+returns c = record { value = one_result; pieces = one_location; values_in_space = values_in_space; places_in_space = locations_in_space }

@@ -1,5 +1,5 @@
 use Rattle.dw_normal.specs.declared.error.Which.TheVariants.{First, Second}
-use Rattle.dw_normal.proofs.Reporting.{first_fault, second_fault, blamed_only, compared_only}
+use Rattle.dw_normal.proofs.Reporting.{first_fault, second_fault, blamed_only, both_within, compared_only}
 use Rattle.dw_normal.proofs.normal.same.Goals as goal
 
 pub returns-in-Err-clause-only : goal.returns-in-Err-clause-only
@@ -20,3 +20,12 @@ pub returns-clause-only : goal.returns-clause-only
 returns-clause-only c =
     compared_only c.args.target c.args.first.now c.args.second.now c.in-Ok.one c.in-Ok-checked.two (c.in-Ok.ensures).found.0 (c.in-Ok-checked.ensures).found.0 c.are_bytes.ensures c.are_bytes-2.ensures
     c.compared.result c.compared.ensures.refused
+
+pub returns-then-eq-clause-only : goal.returns-then-eq-clause-only
+returns-then-eq-clause-only c = λ within _.
+    compared_only c.args.target c.args.first.now c.args.first.now c.in-Ok.one c.in-Ok.one (c.in-Ok.ensures).found.0 (c.in-Ok.ensures).found.0 c.are_bytes.ensures c.are_bytes.ensures
+    c.same_as_itself.result c.same_as_itself.ensures.refused within within
+
+pub returns-clause-within : goal.returns-clause-within
+returns-clause-within c =
+    both_within c.args.target c.args.first.now c.args.second.now c.in-Ok.one c.in-Ok-checked.two (c.in-Ok.ensures).found.0 (c.in-Ok-checked.ensures).found.0 c.compared.result c.compared.ensures.within

@@ -1,8 +1,16 @@
+use Rattle.dw_op.specs.declared.profile.Profile.TheVariants.{Frame, Location}
 use Rattle.dw_op.specs.Encoding.{least_block}
+use Rattle.dw_op.specs.Laws.{LeastGivesBack}
+use Rattle.dw_op.proofs.Blocks.{is_block}
+use Rattle.dw_op.proofs.FaultPlaces.{fault_within}
 use Rattle.dw_op.proofs.LeastBlocks.{in_range_of_block, least_block_exists, block_of_least, least_no_longer}
 use Rattle.dw_op.proofs.LeastOne.{least_is_one}
 use Rattle.dw_op.proofs.EncodeLaws.{far_has_no_block}
 use Rattle.dw_op.proofs.laws.block_laws.Goals as goal
+
+gives_back : LeastGivesBack
+gives_back Frame t ops least allowed h = (block_of_least t ops least h, allowed)
+gives_back Location t ops least allowed h = block_of_least t ops least h
 
 pub returns : goal.returns
 returns c = record {
@@ -12,4 +20,7 @@ returns c = record {
   least_is_shortest = least_no_longer;
   least_is_one = least_is_one;
   far = far_has_no_block;
+  gives_back = gives_back;
+  near = λ profile t ops bytes k block far. far_has_no_block t ops k bytes far (is_block profile t ops bytes block);
+  within = fault_within;
 }

@@ -7,6 +7,7 @@ abbrev pub invariant-rows : goal.invariant-rows
 invariant-rows l =
     (l.steps.outcome.fault ≡ None) × (length l.steps.outcome.rows ≤ length l.initial.steps.outcome.rows)
     × ((changes : List (ℕ × Rules)) → Among l.end (now_of l.shown) l.steps.outcome.rows changes → Among l.end (now_of l.initial.shown) l.initial.steps.outcome.rows changes)
+    × (now_of l.shown ≡ now_of l.initial.shown)
 
 abbrev pub decreases-rows : goal.decreases-rows
 decreases-rows l = length l.steps.outcome.rows

@@ -2,6 +2,7 @@ use Rattle.std.proofs.Common.{refl}
 use Rattle.std.proofs.lemmas.Result.{err_from_is_err_and}
 use Rattle.dw_op.specs.declared.profile.Profile.TheVariants.{Frame}
 use Rattle.dw_op.proofs.Blocks.{fault_found}
+use Rattle.dw_op.proofs.FaultPlaces.{fault_within}
 use Rattle.dw_op.proofs.Judging.{accepted_block, block_ops, refused_none}
 use Rattle.dw_op.proofs.expression.ExprRef.accept.Goals as goal
 
@@ -14,6 +15,12 @@ pub returns-in_err-judge-clause-first : goal.returns-in_err-judge-clause-first
 returns-in_err-judge-clause-first c =
     let p = err_from_is_err_and c.from_residual.result c.from_residual.ensures.1 in
     rw (p.1, p.2) (fault_found Frame c.args.target c.args.bytes.now c.in_err-judge.field-0.0 c.are_bytes.ensures c.in_err-judge.ensures.first)
+
+pub returns-in_err-judge-clause-within : goal.returns-in_err-judge-clause-within
+returns-in_err-judge-clause-within c =
+    let p = err_from_is_err_and c.from_residual.result c.from_residual.ensures.1 in
+    rw (p.1, p.2)
+    (fault_within Frame c.args.target c.args.bytes.now c.in_err-judge.field-0.0 (fault_found Frame c.args.target c.args.bytes.now c.in_err-judge.field-0.0 c.are_bytes.ensures c.in_err-judge.ensures.first))
 
 pub returns-clause-found : goal.returns-clause-found
 returns-clause-found c = (refl, accepted_block c.args.target c.args.bytes.now c.are_bytes.ensures c.in_ok-judge.ensures.found)

@@ -1,6 +1,5 @@
-use Rattle.std.proofs.Common.{arith}
-use Rattle.dw_op.proofs.Starts.{low_within}
+use Rattle.dw_op.proofs.Starts.{places_low}
 use Rattle.dw_op.proofs.measuring.Places.bring_up.Goals as goal
 
-pub overflow_add-self : goal.overflow_add-self
-overflow_add-self c = let low = low_within c.ops.self c.ops.invariant.room in omega (arith, low)
+pub returns-clause-places : goal.returns-clause-places
+returns-clause-places c = λ lengths h. places_low lengths c.args.self.now c.come_up.new.self h (c.come_up.ensures.point lengths h.low) c.come_up.ensures.later

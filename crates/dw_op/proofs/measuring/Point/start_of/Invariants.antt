@@ -1,4 +1,5 @@
 use Rattle.std.proofs.Common.{length}
+use Rattle.dw_op.specs.Lengths.{lengths_at}
 use Rattle.dw_op.proofs.Starts.{Toward}
 use Rattle.dw_op.proofs.measuring.Point.start_of.Given as goal
 
@@ -6,4 +7,4 @@ abbrev pub invariant-ops : goal.invariant-ops
 invariant-ops l = Toward l.fn.self l.goal l.point
 
 abbrev pub decreases-ops : goal.decreases-ops
-decreases-ops l = length l.point.rest
+decreases-ops l = length (lengths_at l.point.rest)

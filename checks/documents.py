@@ -1,0 +1,235 @@
+#!/usr/bin/env python3
+"""Runs the commands that the documents show, and compares what they print with what is printed there.
+
+    documents.py [PROGRAM]
+
+A session is a code block of README.md, docs/CALLING.md or docs/dwframe.1 with lines that begin with `$ `; its commands run one after another in a
+folder of their own, by the built PROGRAM. A line `...` stands for any further lines. Where a session compiles something, numbers may differ. A
+session that needs a tool that is missing is left out, and named.
+
+Compared besides: Rust blocks with the sources, names of refusals, faults and calls with those of the code, links with files and headings, and the
+toolchain's line with `rt version`.
+"""
+import os
+import pathlib
+import platform
+import re
+import shutil
+import subprocess
+import sys
+import tempfile
+
+ROOT = pathlib.Path(__file__).resolve().parent.parent
+PROGRAM = ROOT / "crates/dwframe/out/dwframe"
+PAGES = ["README.md", "docs/CALLING.md"]
+LINKED = [*PAGES, "CONTRIBUTING.md", "SECURITY.md", "CHANGELOG.md", "examples/README.md"]
+MANUAL = "docs/dwframe.1"
+# What stands in the folder of a session.
+LENT = ["examples", "section", "crates"]
+TOOLS = {"gcc": ["gcc"], "clang": ["clang"], "objcopy": ["objcopy"], "readelf": ["readelf"], "section": ["objcopy", "readelf"]}
+# The codes of the sources: file, enum, and the heading of the README's table.
+CODES = [
+    ("crates/dw_num/src/refusal.rt", "Code", "Refusals of a section or of an expression"),
+    ("crates/dw_eval/src/error.rt", "Kind", "Faults of an expression"),
+    ("crates/dw_unwind/src/fault.rt", "DumpCode", "Refusals of a dump"),
+]
+
+
+class Tally:
+    def __init__(self):
+        self.compared = self.wrong = 0
+
+    def tell(self, good, what):
+        self.compared += 1
+        if not good:
+            self.wrong += 1
+            print(what)
+
+
+def text_of(name):
+    return (ROOT / name).read_text()
+
+
+# ---- sessions
+
+
+def page_blocks(text):
+    """The blocks of a Markdown page that are indented by four blanks. A command and what it `prints` are one."""
+    text = re.sub(r"^    (\S.*)\n\nprints\n\n", r"    $ \1\n", text, flags=re.M)
+    found = re.findall(r"(?:^    .*\n)+", re.sub(r"^```.*?^```", "", text, flags=re.M | re.S), re.M)
+    return [[line[4:] for line in block.splitlines()] for block in found]
+
+
+def manual_blocks(text):
+    """The examples of a manual page."""
+    found = re.findall(r"^\.EX\n(.*?)^\.EE", text, re.M | re.S)
+    plain = [block.replace(r"\-", "-").replace(r"\(aq", "'").replace(r"\e", "\\").replace(r"\&", "") for block in found]
+    return [block.splitlines() for block in plain]
+
+
+def steps_of(block):
+    """The commands of a session, each with the lines that it prints."""
+    steps = []
+    for line in block:
+        if line.startswith("$ "):
+            steps.append((line[2:], []))
+        else:
+            steps[-1][1].append(line)
+    return steps
+
+
+def missing_tools(steps):
+    words = {word for command, _ in steps for word in re.findall(r"(?:^|[\s|(])(?:\./)?(\w+)(?=\s)", command)}
+    needed = sorted({tool for word in words for tool in TOOLS.get(word, [])})
+    built = {path for command, _ in steps for path in re.findall(r"crates/\w+/out/\w+", command)}
+    return [tool for tool in needed if not shutil.which(tool)] + [path for path in sorted(built) if not (ROOT / path).exists()]
+
+
+def compiles(steps):
+    return any(re.match(r"(gcc|clang) ", command) for command, _ in steps)
+
+
+def as_compared(lines, is_compiled):
+    return [re.sub(r"0x[0-9a-f]+|[0-9]+", "N", line) for line in lines] if is_compiled else lines
+
+
+def is_as_shown(printed, shown):
+    if "..." in shown:
+        end = shown.index("...")
+        return printed[:end] == shown[:end]
+    return printed == shown
+
+
+def run(command, folder):
+    names = {"PATH": f"{folder}:{os.environ['PATH']}", "LC_ALL": "C.UTF-8", "DWFRAME": f"{folder}/dwframe"}
+    options = {"stdout": subprocess.PIPE, "stderr": subprocess.STDOUT, "timeout": 60}
+    done = subprocess.run(["sh", "-c", command], cwd=folder, env={**os.environ, **names}, stdin=subprocess.DEVNULL, **options)
+    return done.stdout.decode(errors="replace").splitlines()
+
+
+def run_session(name, steps, folder, tally):
+    is_compiled = compiles(steps)
+    for command, shown in steps:
+        printed = run(command, folder)
+        good = is_as_shown(as_compared(printed, is_compiled), as_compared(shown, is_compiled))
+        tally.tell(good, f"{name}: $ {command}\n  prints {printed}\n  and not {shown}")
+
+
+def run_sessions(name, blocks, program, tally):
+    with tempfile.TemporaryDirectory() as folder:
+        for lent in LENT:
+            pathlib.Path(folder, lent).symlink_to(ROOT / lent)
+        pathlib.Path(folder, "dwframe").symlink_to(program)
+        for block in blocks:
+            if not block[0].startswith("$ "):
+                continue
+            steps = steps_of(block)
+            left_out = missing_tools(steps)
+            if compiles(steps) and platform.machine() != "x86_64":
+                left_out = ["processor of the kind that is shown"]
+            if left_out:
+                print(f"{name}: $ {steps[0][0]}: left out, for there is no {' and no '.join(left_out)}")
+            else:
+                run_session(name, steps, folder, tally)
+
+
+# ---- what stands in the sources
+
+
+def squeezed(text):
+    return "\n".join(line.strip() for line in text.strip().splitlines())
+
+
+def compare_quotes(name, sources, tally):
+    for block in re.findall(r"^```rust\n(.*?)^```", text_of(name), re.M | re.S):
+        tally.tell(squeezed(block) in sources, f"{name}: not so in any source:\n{block}")
+
+
+def section_under(text, heading):
+    found = re.search(rf"^#+ {re.escape(heading)}\n(.*?)(?=^#|\Z)", text, re.M | re.S)
+    return found[1] if found else ""
+
+
+def rows_of(text):
+    """The rows of a table whose first cells are names."""
+    cells = [line.strip("| ").split(" | ") for line in text.splitlines() if line.startswith("| `")]
+    return [[cell.strip().replace("`", "") for cell in row] for row in cells]
+
+
+def manual_item(name, what, byte=""):
+    told = f".TP\n.B {name}\n{what[0].upper()}{what[1:]}.\n"
+    return told + (f"The byte: {byte}.\n" if byte else "")
+
+
+def compare_codes(tally):
+    """The tables have the codes of the sources, and the manual page says the same of each."""
+    readme, manual = text_of("README.md"), text_of(MANUAL).replace(r"\-", "-")
+    for path, enum, heading in CODES:
+        names = re.findall(rf"{enum}::(\w+) => \d+,", text_of(path))
+        rows = rows_of(section_under(readme, heading))
+        shown = [row[0] for row in rows]
+        tally.tell(names and names == shown, f"README.md, {heading}: {shown}, and not {names}")
+        for row in rows:
+            tally.tell(manual_item(*row) in manual, f"{MANUAL}: not so: {manual_item(*row)}")
+
+
+def compare_calls(tally):
+    """The calls of each crate's table stand in its sources, and the definitions that its text names in its specs."""
+    parts = re.split(r"^\*\*`(\w+)`\*\*", section_under(text_of("README.md"), "Crate by crate"), flags=re.M)
+    for crate, text in zip(parts[1::2], parts[2::2]):
+        source = "".join(path.read_text() for path in sorted((ROOT / "crates" / crate / "src").glob("**/*.rt")))
+        for cell in re.findall(r"^\| (`.*?) \| ", text, re.M):
+            for call in re.findall(r"`(?:trait )?([\w:]+)`", cell):
+                name = call.split("::")[-1]
+                known = re.search(rf"\b(fn|struct|enum|trait) {name}\b", source)
+                tally.tell(known, f"README.md, {crate}: there is no {call}")
+        for path in re.findall(r"`(specs/\w+\.antt)`", text):
+            tally.tell((ROOT / "crates" / crate / path).exists(), f"README.md, {crate}: there is no {path}")
+
+
+# ---- links
+
+
+def anchors_of(name):
+    headings = re.findall(r"^#+ (.*)$", text_of(name), re.M)
+    return {re.sub(r"[^\w\- ]", "", heading.lower()).replace(" ", "-") for heading in headings}
+
+
+def compare_links(name, tally):
+    for link in re.findall(r"\]\(([^):]+)\)", text_of(name)):
+        path, _, anchor = link.partition("#")
+        goal = (ROOT / name).parent / path if path else ROOT / name
+        good = goal.exists() and (not anchor or anchor in anchors_of(goal.relative_to(ROOT) if path else name))
+        tally.tell(good, f"{name}: the link {link} leads nowhere")
+    for path in re.findall(r"`(?!crates/NAME)((?:checks|docs|examples|bench|crates)/[\w./-]+\.\w+)`", text_of(name)):
+        tally.tell((ROOT / path).exists(), f"{name}: there is no {path}")
+
+
+def compare_version(tally):
+    if shutil.which("rt"):
+        line = subprocess.run(["rt", "version"], capture_output=True, text=True).stdout.strip()
+        tally.tell(line and f"`{line}`" in text_of("README.md"), f"README.md: the toolchain is {line}")
+
+
+def main():
+    program = pathlib.Path(sys.argv[1] if len(sys.argv) > 1 else PROGRAM).resolve()
+    if not program.exists():
+        raise SystemExit(f"there is no {program}: ./dwframe builds it")
+    tally = Tally()
+    for name in PAGES:
+        run_sessions(name, page_blocks(text_of(name)), program, tally)
+    run_sessions(MANUAL, manual_blocks(text_of(MANUAL)), program, tally)
+    sources = "\n".join(squeezed(path.read_text()) for path in sorted(ROOT.glob("crates/*/src/*.rt")))
+    for name in PAGES:
+        compare_quotes(name, sources, tally)
+    compare_codes(tally)
+    compare_calls(tally)
+    for name in LINKED:
+        compare_links(name, tally)
+    compare_version(tally)
+    print(f"documents: {tally.compared} compared, {tally.wrong} wrong")
+    return 1 if tally.wrong else 0
+
+
+if __name__ == "__main__":
+    sys.exit(main())

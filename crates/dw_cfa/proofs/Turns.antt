@@ -1,0 +1,62 @@
+-- One turn of the loop, in the rows still to come.
+use Rattle.std.proofs.Common.{◌≡◌, ℕ, ◌<◌, Bool, length, Option, Some, None, Ok, Err, IsOk, refl, sym, ap, ◌∙◌, subst}
+use Rattle.dw_num.specs.declared.refusal.Code.TheVariants.{UnknownInstruction}
+use Rattle.dw_num.specs.declared.refusal.Refusal.{Refusal}
+use Rattle.dw_num.specs.Input.{Input, AreBytes}
+use Rattle.dw_num.specs.Reading.{Read, fixed_at}
+use Rattle.dw_cfa.specs.declared.instr.Factors.{Factors}
+use Rattle.dw_cfa.specs.declared.instr.Instr.{Instr}
+use Rattle.dw_cfa.specs.declared.machine.Machine.{Machine}
+use Rattle.dw_cfa.specs.declared.reading.Opcode.{Opcode}
+use Rattle.dw_cfa.specs.declared.machine.End.{End}
+use Rattle.dw_cfa.specs.declared.machine.End.TheVariants as ends
+use Rattle.dw_cfa.specs.Location.{moves_location}
+use Rattle.dw_cfa.specs.Reading.{opcode_of, known_at, operands_at, instr_at}
+use Rattle.dw_cfa.specs.Runs.{fails, rows_left, RunsSo, RanTo}
+use Rattle.dw_cfa.specs.Turns.{Applied, Turned}
+use Rattle.dw_cfa.proofs.RunSteps.{rows_read, rows_stuck, rows_fault, rows_ran}
+
+module _ (f : Factors) (i : Input) (m : Machine) (h : AreBytes i.bytes) (some : 0 < length i.bytes) (so : RunsSo m i) where
+  by_read : (r : Read Instr) → instr_at f i ≡ r → (end : End) (fault : Refusal) (j : Input) (m' : Machine) → Applied r i.at m end fault j m' → Turned f i m end fault j m'
+  by_read (Ok x) e ends.On fault j m' did =
+      subst (λ (b : Bool). RanTo f i m b j m') did.1 (subst (λ (k : Input). RanTo f i m (moves_location x.0) k m') did.0 (rows_ran f i m x h some e m' so did.2))
+  by_read (Ok x) e ends.Moved fault j m' did =
+      subst (λ (b : Bool). RanTo f i m b j m') did.1 (subst (λ (k : Input). RanTo f i m (moves_location x.0) k m') did.0 (rows_ran f i m x h some e m' so did.2))
+  by_read (Ok x) e ends.Refused fault j m' did =
+      rows_fault f i m x h some e fault.code did.1 ∙ ap (λ (n : ℕ). fails (record { code = fault.code; at = n })) (sym did.0)
+  by_read (Ok x) e ends.OutOfMemory fault j m' did = tt
+  by_read (Err r) e ends.On fault j m' did = absurd did
+  by_read (Err r) e ends.Moved fault j m' did = absurd did
+  by_read (Err r) e ends.Refused fault j m' did = rows_stuck f i m r some e ∙ ap fails did
+  by_read (Err r) e ends.OutOfMemory fault j m' did = tt
+
+  -- not even an opcode
+  pub unread : (r : Refusal) → fixed_at 1 i ≡ Err r → rows_left f i m ≡ fails r
+  unfolding instr_at
+  unread r e = rows_stuck f i m r some (rw e refl)
+
+  -- an opcode that is no instruction's
+  pub unknown : (code : ℕ) (j : Input) (at : ℕ) → fixed_at 1 i ≡ Ok (code, j) → opcode_of code ≡ None → at ≡ i.at → rows_left f i m ≡ fails (record { code = UnknownInstruction; at = at })
+  unfolding instr_at
+  unknown code j at e known place =
+      rows_stuck f i m (record { code = UnknownInstruction; at = i.at }) some (rw e (ap (λ (x : Option Opcode). known_at f i.at x j) known))
+      ∙ ap (λ (n : ℕ). fails (record { code = UnknownInstruction; at = n })) (sym place)
+
+  pub refused_so : (r : Refusal) → rows_left f i m ≡ fails r → (end : End) (fault : Refusal) (j : Input) (m' : Machine) → end ≡ ends.Refused → fault ≡ r → Turned f i m end fault j m'
+  refused_so r e end fault j m' is same = rw (is, same) e
+
+  opened : (code : ℕ) (j : Input) (o : Opcode) → fixed_at 1 i ≡ Ok (code, j) → opcode_of code ≡ Some o → instr_at f i ≡ operands_at f i.at o j
+  unfolding instr_at
+  opened code j o e known = rw e (ap (λ (x : Option Opcode). known_at f i.at x j) known)
+
+  -- an instruction that is run behind its opcode
+  pub turned : (code : ℕ) (j : Input) (o : Opcode) (at : ℕ) → fixed_at 1 i ≡ Ok (code, j) → opcode_of code ≡ Some o → at ≡ i.at
+      → (end : End) (fault : Refusal) (j' : Input) (m' : Machine) → Applied (operands_at f at o j) at m end fault j' m' → Turned f i m end fault j' m'
+  turned code j o at e known place end fault j' m' did =
+      by_read (operands_at f i.at o j) (opened code j o e known) end fault j' m' (subst (λ (n : ℕ). Applied (operands_at f n o j) n m end fault j' m') place did)
+
+  -- the operands of a program that is run to its end
+  pub read_known : (code : ℕ) (j : Input) (o : Opcode) (at : ℕ) → fixed_at 1 i ≡ Ok (code, j) → opcode_of code ≡ Some o → at ≡ i.at
+      → (rows_left f i m).fault ≡ None → IsOk (operands_at f at o j)
+  read_known code j o at e known place none =
+      subst (λ (n : ℕ). IsOk (operands_at f n o j)) (sym place) (subst (λ (r : Read Instr). IsOk r) (opened code j o e known) (rows_read f i m some none))

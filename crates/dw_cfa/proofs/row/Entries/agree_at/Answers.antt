@@ -1,0 +1,13 @@
+use Rattle.std.proofs.Common.{sym, ap, ◌∙◌}
+use Rattle.dw_cfa.specs.Entries.{entries_of}
+use Rattle.dw_cfa.specs.Narrowing.{same_rule, is_agreed}
+use Rattle.dw_cfa.proofs.Slots.{slots_ascend}
+use Rattle.dw_cfa.proofs.Narrowed.{leaves_none}
+use Rattle.dw_cfa.proofs.row.Entries.agree_at.Goals as goal
+
+pub returns-then-not-is_same-clause-rules : goal.returns-then-not-is_same-clause-rules
+returns-then-not-is_same-clause-rules c =
+    let e = c.args.self.now in
+    leaves_none (is_agreed (entries_of c.args.others.now)) c.args.register (entries_of e) (entries_of c.drop_near.new.self) c.rule.result c.rule.ensures
+    (sym (c.if-not-is_same.ensures.test ∙ ap (same_rule c.rule.result) c.rule-2.ensures))
+    (slots_ascend e.near e.expressions.entries e.far.entries c.requires.so.near c.requires.so.far) c.drop_near.ensures.entries

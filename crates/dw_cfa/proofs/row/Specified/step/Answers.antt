@@ -1,0 +1,20 @@
+use Rattle.std.proofs.Common.{◌≤◌, List, length, ◌∷◌, arith, sym, ap, ◌∙◌}
+use Rattle.dw_cfa.specs.declared.rule.RegRule.{RegRule}
+use Rattle.dw_cfa.proofs.RowLists.{Entry}
+use Rattle.dw_cfa.proofs.Slots.{slots_end}
+use Rattle.dw_cfa.proofs.row.Specified.step.Goals as goal
+
+pub returns-in_default-next : goal.returns-in_default-next
+returns-in_default-next c =
+    let s = c.self.inside in
+    let le : length s.near.now ≤ 32 = omega arith in
+    let none = c.in_default-next.ensures.steps in
+    (sym c.self.view_is ∙ c.in_default.ensures s.far ∙ none.0, slots_end 32 s.near.now s.expressions.now.entries c.next.new.self le ∙ none.1)
+
+pub returns : goal.returns
+returns c =
+    let s = c.self.inside in
+    let le : length s.near.now ≤ 32 = omega arith in
+    sym c.self.view_is ∙ c.in_default.ensures s.far ∙ c.in-Some-next.ensures.steps
+    ∙ ap (λ (x : RegRule). (c.in-Some-next.register.now, x) ∷ c.next.new.self) (sym c.copied.ensures)
+    ∙ ap (λ (l : List Entry). (c.in-Some-next.register.now, c.copied.result) ∷ l) (sym (slots_end 32 s.near.now s.expressions.now.entries c.next.new.self le))

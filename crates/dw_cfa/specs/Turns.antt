@@ -1,0 +1,31 @@
+-- One turn of the loop that runs an FDE's program.
+use Rattle.std.specs.Prelude.{◌≡◌, ℕ, true, false, Some, Ok, Err}
+use Rattle.dw_num.specs.declared.refusal.Refusal.{Refusal}
+use Rattle.dw_num.specs.Input.{Input}
+use Rattle.dw_num.specs.Reading.{Read}
+use Rattle.dw_cfa.specs.declared.instr.Factors.{Factors}
+use Rattle.dw_cfa.specs.declared.instr.Instr.{Instr}
+use Rattle.dw_cfa.specs.declared.machine.Machine.{Machine}
+use Rattle.dw_cfa.specs.declared.machine.End.{End}
+use Rattle.dw_cfa.specs.declared.machine.End.TheVariants as ends
+use Rattle.dw_cfa.specs.Location.{moves_location}
+use Rattle.dw_cfa.specs.Machine.{fde_fault}
+use Rattle.dw_cfa.specs.Steps.{state_of, IsAfter}
+use Rattle.dw_cfa.specs.Runs.{fails, rows_left, RanTo}
+
+-- the instruction of a place, which is read so or not at all, was applied to the machine or refused
+abbrev pub Applied : Read Instr → ℕ → Machine → End → Refusal → Input → Machine → Type 0
+Applied (Ok x) at m ends.On fault j m' = (x.1 ≡ j) × (moves_location x.0 ≡ false) × IsAfter m x.0 m'
+Applied (Ok x) at m ends.Moved fault j m' = (x.1 ≡ j) × (moves_location x.0 ≡ true) × IsAfter m x.0 m'
+Applied (Ok x) at m ends.Refused fault j m' = (fault.at ≡ at) × (fde_fault m.limit x.0 (state_of m) ≡ Some fault.code)
+Applied (Ok x) at m ends.OutOfMemory fault j m' = Unit {0}
+Applied (Err r) at m ends.Refused fault j m' = r ≡ fault
+Applied (Err r) at m ends.OutOfMemory fault j m' = Unit {0}
+Applied (Err r) at m end fault j m' = ⊥
+
+-- the first instruction that is left was run, or its refusal answered
+abbrev pub Turned : Factors → Input → Machine → End → Refusal → Input → Machine → Type 0
+Turned f i m ends.On fault j m' = RanTo f i m false j m'
+Turned f i m ends.Moved fault j m' = RanTo f i m true j m'
+Turned f i m ends.Refused fault j m' = rows_left f i m ≡ fails fault
+Turned f i m ends.OutOfMemory fault j m' = Unit {0}

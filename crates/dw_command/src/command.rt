@@ -1,0 +1,95 @@
+//! The whole command, over the words, files and outputs that it is given.
+
+ghost use Rattle.std.specs.Prelude.{◌≤◌, IfOk};
+
+use crate::check::run_check;
+use crate::cost::run_cost;
+use crate::entries::run_entries;
+use crate::eval::run_eval;
+use crate::expr::run_expr;
+use crate::failure::Failure;
+use crate::files::Load;
+use crate::normal::run_normal;
+use crate::rows::run_rows;
+use crate::sameness::run_same;
+use crate::unwind::run_unwind;
+use dw_words::{Job, Request, Task, plan};
+use std::alloc::Global;
+use std::io::{self, Write};
+
+fn run_job<'a, L: Load, W: Write>(
+    alloc: Global,
+    job: Job<'a>,
+    files: &mut L,
+    out: &mut W,
+) -> Result<u8, Failure<'a>>
+    ensures { IfOk result (λ status. status ≤ 1) }
+{
+    let Job { target, task } = job;
+    match task {
+        Task::Check { path } => run_check(alloc, target, path, files, out)?,
+        Task::Cost { path } => run_cost(alloc, target, path, files, out)?,
+        Task::Entries { path } => run_entries(alloc, target, path, files, out)?,
+        Task::Eval(evaluation) => run_eval(alloc, target, &evaluation, files, out)?,
+        Task::Expr { profile, block } => run_expr(alloc, target, profile, &block, out)?,
+        Task::Normal(writing) => run_normal(alloc, target, &writing, files, out)?,
+        Task::Rows { path } => run_rows(alloc, target, path, files, out)?,
+        Task::Same { path, other } => return run_same(alloc, target, path, other, files, out),
+        Task::Unwind(unwinding) => run_unwind(alloc, target, &unwinding, files, out)?,
+    }
+    Ok(0)
+}
+
+// Prints a text that is asked for, of help or of the version.
+fn print_help<W: Write>(text: &clap::Error, out: &mut W) -> io::Result<()> {
+    write!(out, "{text}")?;
+    out.flush()
+}
+
+fn run<'a, L: Load, W: Write>(
+    alloc: Global,
+    words: &'a [String],
+    files: &mut L,
+    out: &mut W,
+) -> Result<u8, Failure<'a>>
+    ensures { IfOk result (λ status. status ≤ 1) }
+{
+    match plan(alloc, words)? {
+        Request::Run(job) => run_job(alloc, job, files, out),
+        Request::Help(text) => {
+            if print_help(&text, out).is_err() {
+                return Err(Failure::CannotWrite);
+            }
+            Ok(0)
+        }
+    }
+}
+
+// Prints why there is no answer: one line, or a text on the use of the command, which ends its own lines.
+fn tell<E: Write>(failure: &Failure<'_>, err: &mut E) {
+    let _ = match failure {
+        Failure::Words(_) => write!(err, "{failure}"),
+        _ => writeln!(err, "{failure}"),
+    };
+}
+
+/// Runs the command and answers its exit status: 0 done, 1 two sections that differ, 2 a refusal or a fault, 3 wrong words,
+/// 4 a file or an output that fails, 5 out of memory. The answer goes to `out`, which is flushed. From status 2 on a line on `err`
+/// says why; for words that no subcommand takes it is a text of several lines. The first word is the program's own name.
+pub fn engine<L: Load, W: Write, E: Write>(
+    alloc: Global,
+    words: &[String],
+    files: &mut L,
+    out: &mut W,
+    err: &mut E,
+) -> u8
+    ensures { result ≤ 5 }
+{
+    match run(alloc, words, files, out) {
+        Ok(status) => status,
+        Err(failure) => {
+            tell(&failure, err);
+            failure.status()
+        }
+    }
+}

@@ -1,0 +1,186 @@
+//! Why a run ends without its answer.
+
+ghost use Rattle.std.specs.Prelude.{◌≤◌};
+
+use crate::files::LoadError;
+use dw_eval::{EvalError, Kind};
+use dw_normal::{NormalError, SameError, Which, WriteError};
+use dw_num::Refusal;
+use dw_op::DecodeError;
+use dw_section::SectionError;
+use dw_unwind::{Column, DumpError, DumpFault, UnwindError};
+use dw_words::PlanError;
+use std::alloc::AllocError;
+use std::fmt;
+use thiserror::Error;
+
+/// A column as it is printed.
+#[derive(Clone, Copy, Debug)]
+pub struct Place(Column);
+
+impl fmt::Display for Place {
+    fn fmt<W: fmt::Write>(&self, f: &mut fmt::Formatter<W>) -> fmt::Result {
+        match self.0 {
+            Column::Cfa => write!(f, "cfa"),
+            Column::Register(register) => write!(f, "r{register}"),
+        }
+    }
+}
+
+/// Why a run ends without its answer. Its text is the line that the command prints.
+#[derive(Debug, Drop, Error)]
+pub enum Failure<'a> {
+    #[error("refused: {} at {:#x}", .0.code.name(), .0.at)]
+    Refused(Refusal),
+    /// What is wrong with one of two sections, and with which.
+    #[error("refused: {} at {:#x} in {}", .0.code.name(), .0.at, .1)]
+    RefusedIn(Refusal, &'static str),
+    #[error("refused: {} at line {}", .0.code.name(), .0.line)]
+    Dump(DumpFault),
+    /// What an expression ends with, and the operation's index.
+    #[error("fault: {} at {}", .0.name(), .1)]
+    Evaluation(Kind, usize),
+    /// What an expression of a column ends with, and the operation's index.
+    #[error("fault: {} at {} in {}", .0.name(), .1, .2)]
+    Value(Kind, usize, Place),
+    /// What is wrong in a column.
+    #[error("fault: {0} in {1}")]
+    Column(&'static str, Place),
+    #[error("fault: NoFde")]
+    NoFde,
+    #[error("fault: NoPc")]
+    NoCounter,
+    #[error("bad value for {0}")]
+    BadValue(&'static str),
+    #[error("cannot read {0}")]
+    CannotRead(&'a str),
+    #[error("cannot write")]
+    CannotWrite,
+    #[error("out of memory")]
+    OutOfMemory,
+    /// What is wrong with the words: a text of several lines, which ends the last of them.
+    #[error("{0}")]
+    Words(clap::Error),
+}
+
+impl From<AllocError> for Failure<'_> {
+    fn from(_error: AllocError) -> Self {
+        Failure::OutOfMemory
+    }
+}
+
+impl From<PlanError> for Failure<'_> {
+    fn from(error: PlanError) -> Self {
+        match error {
+            PlanError::BadValue(name) => Failure::BadValue(name),
+            PlanError::Words(error) => Failure::Words(error),
+            PlanError::OutOfMemory => Failure::OutOfMemory,
+        }
+    }
+}
+
+impl From<SectionError> for Failure<'_> {
+    fn from(error: SectionError) -> Self {
+        match error {
+            SectionError::Refused(refusal) => Failure::Refused(refusal),
+            SectionError::OutOfMemory => Failure::OutOfMemory,
+        }
+    }
+}
+
+impl From<NormalError> for Failure<'_> {
+    fn from(error: NormalError) -> Self {
+        match error {
+            NormalError::Refused(refusal) => Failure::Refused(refusal),
+            NormalError::OutOfMemory => Failure::OutOfMemory,
+        }
+    }
+}
+
+impl From<SameError> for Failure<'_> {
+    fn from(error: SameError) -> Self {
+        match error {
+            SameError::Refused(Which::First, refusal) => Failure::RefusedIn(refusal, "first"),
+            SameError::Refused(Which::Second, refusal) => Failure::RefusedIn(refusal, "second"),
+            SameError::OutOfMemory => Failure::OutOfMemory,
+        }
+    }
+}
+
+impl From<WriteError> for Failure<'_> {
+    fn from(error: WriteError) -> Self {
+        match error {
+            WriteError::Refused(refusal) => Failure::Refused(refusal),
+            WriteError::Write { .. } => Failure::CannotWrite,
+            WriteError::Memory { .. } => Failure::OutOfMemory,
+        }
+    }
+}
+
+impl From<DecodeError> for Failure<'_> {
+    fn from(error: DecodeError) -> Self {
+        match error {
+            DecodeError::Refused(refusal) => Failure::Refused(refusal),
+            DecodeError::OutOfMemory => Failure::OutOfMemory,
+        }
+    }
+}
+
+impl From<DumpError> for Failure<'_> {
+    fn from(error: DumpError) -> Self {
+        match error {
+            DumpError::Fault(fault) => Failure::Dump(fault),
+            DumpError::OutOfMemory => Failure::OutOfMemory,
+        }
+    }
+}
+
+impl From<EvalError> for Failure<'_> {
+    fn from(error: EvalError) -> Self {
+        match error {
+            EvalError::Fault { kind, index } => Failure::Evaluation(kind, index),
+            EvalError::OutOfMemory => Failure::OutOfMemory,
+        }
+    }
+}
+
+impl From<UnwindError> for Failure<'_> {
+    fn from(error: UnwindError) -> Self {
+        match error {
+            UnwindError::NoFde => Failure::NoFde,
+            UnwindError::Eval {
+                kind,
+                index,
+                column,
+            } => Failure::Value(kind, index, Place(column)),
+            UnwindError::Unreadable { column } => Failure::Column("Unreadable", Place(column)),
+            UnwindError::Device { column } => Failure::Column("Device", Place(column)),
+            UnwindError::NoRegister { column } => Failure::Column("NoRegister", Place(column)),
+            UnwindError::OutOfMemory => Failure::OutOfMemory,
+        }
+    }
+}
+
+impl<'a> Failure<'a> {
+    /// Why the file of this path has no bytes.
+    pub fn from_load(path: &'a str, error: LoadError) -> Failure<'a> {
+        match error {
+            LoadError::CannotRead => Failure::CannotRead(path),
+            LoadError::OutOfMemory => Failure::OutOfMemory,
+        }
+    }
+
+    /// The exit status, 2 to 5.
+    pub fn status(&self) -> u8
+        ensures { (2 ≤ result) × (result ≤ 5) }
+    {
+        match self {
+            Failure::Refused(_) | Failure::RefusedIn(..) | Failure::Dump(_) => 2,
+            Failure::Evaluation(..) => 2,
+            Failure::Value(..) | Failure::Column(..) | Failure::NoFde | Failure::NoCounter => 2,
+            Failure::BadValue(_) | Failure::Words(_) => 3,
+            Failure::CannotRead(_) | Failure::CannotWrite => 4,
+            Failure::OutOfMemory => 5,
+        }
+    }
+}

@@ -1,0 +1,24 @@
+-- Numbers below 2 ^ N, where N is the number of an address's bits: DWARF 5, 2.5.1.
+use Rattle.std.specs.Prelude.{ℕ, ◌<◌, List}
+use Rattle.std.specs.List.{AllByRecursion}
+use Rattle.dw_num.specs.declared.target.Size.{Size}
+use Rattle.dw_num.specs.Target.{address_limit}
+use Rattle.dw_eval.specs.declared.place.Piece.{Piece}
+use Rattle.dw_eval.specs.declared.place.Place.{Place}
+use Rattle.dw_eval.specs.declared.place.Place.TheVariants.{Empty, Memory, Register, Value, Bytes}
+
+-- all entries of a stack
+abbrev pub AreInSpace : Size → List ℕ → Type 0
+AreInSpace size = AllByRecursion (λ v. v < address_limit size)
+
+-- the address that a place is at, or the value that it is
+abbrev pub PlaceInSpace : Size → Place → Type 0
+PlaceInSpace size (Memory address) = address < address_limit size
+PlaceInSpace size (Value v) = v < address_limit size
+PlaceInSpace size Empty = Unit {0}
+PlaceInSpace size (Register r) = Unit {0}
+PlaceInSpace size (Bytes block) = Unit {0}
+
+-- the places of all pieces
+abbrev pub ArePlacesInSpace : Size → List Piece → Type 0
+ArePlacesInSpace size = AllByRecursion (λ piece. PlaceInSpace size piece.place)

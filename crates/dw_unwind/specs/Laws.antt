@@ -1,0 +1,55 @@
+-- What holds of frames and of dumps, for the layers above.
+use Rattle.std.specs.Prelude.{◌≡◌, ◌⊎◌, ◌≤◌, ℕ, List, length, Option, Some, None, Err, ⊤, IsTrue}
+use Rattle.dw_num.specs.declared.target.Target.{Target}
+use Rattle.dw_cfa.specs.Rows.{Rules}
+use Rattle.dw_eval.specs.Context.{Context}
+use Rattle.dw_unwind.specs.declared.fault.DumpError.{DumpError}
+use Rattle.dw_unwind.specs.declared.fault.DumpError.TheVariants as dumps
+use Rattle.dw_unwind.specs.declared.fault.DumpFault.{DumpFault}
+use Rattle.dw_unwind.specs.declared.frame.Column.{Column}
+use Rattle.dw_unwind.specs.declared.frame.Column.TheVariants.{Cfa, Register}
+use Rattle.dw_unwind.specs.declared.frame.Policy.{Policy}
+use Rattle.dw_unwind.specs.declared.frame.UnwindError.{UnwindError}
+use Rattle.dw_unwind.specs.declared.frame.UnwindError.TheVariants.{NoFde, Eval, Unreadable, Device, NoRegister, OutOfMemory}
+use Rattle.dw_unwind.specs.Dump.{Say, FirstFault}
+use Rattle.dw_unwind.specs.Statement.{Statement}
+use Rattle.dw_unwind.specs.Unwound.{IsCovered, is_listed, Unwound, UnwindFails}
+
+-- ---- frames
+
+-- the column that a fault names
+abbrev pub column_of : UnwindError → Option Column
+column_of NoFde = None
+column_of (Eval kind i column) = Some column
+column_of (Unreadable column) = Some column
+column_of (Device column) = Some column
+column_of (NoRegister column) = Some column
+column_of OutOfMemory = None
+
+-- the CFA, or a register that the frame lists
+abbrev pub IsInFrame : (ℕ → Option ℕ) → Rules → ℕ → Column → Type 0
+IsInFrame held row return_register Cfa = ⊤
+IsInFrame held row return_register (Register r) = IsTrue (is_listed held row return_register r)
+
+-- it is one of the frame of an FDE that covers the address
+abbrev pub HasColumn : Target → List ℕ → ℕ → Context → Column → Type 0
+HasColumn target s pc c column =
+    (register : ℕ) × (row : Rules) × IsCovered target s pc register row × IsInFrame c.register row register column
+
+-- a fault's column, if it names one, is such a column
+abbrev pub FaultsInFrame : Type 0
+FaultsInFrame = (target : Target) (s : List ℕ) (pc : ℕ) (c : Context) (policy : Policy) (limit : ℕ) (e : UnwindError) (column : Column)
+    → Unwound target s pc c policy limit (Err e) ⊎ UnwindFails target s pc c policy limit e → column_of e ≡ Some column → HasColumn target s pc c column
+
+-- ---- dumps
+
+-- a fault's line is one of these, counted from 1
+abbrev pub NamesLine : List (List ℕ) → DumpError → Type 0
+NamesLine lines (dumps.Fault fault) = (1 ≤ fault.line) × (fault.line ≤ length lines)
+NamesLine lines dumps.OutOfMemory = ⊤
+
+-- lines say one list of things, or have one first fault, and not both
+pub record OneDump : Type 0 where
+  pub said : (limit : ℕ) (lines : List (List ℕ)) (ss ts : List Statement) → Say limit lines ss → Say limit lines ts → ss ≡ ts
+  pub fault : (limit : ℕ) (lines : List (List ℕ)) (f g : DumpFault) → FirstFault limit lines f → FirstFault limit lines g → f ≡ g
+  pub apart : (limit : ℕ) (lines : List (List ℕ)) (ss : List Statement) (f : DumpFault) → Say limit lines ss → FirstFault limit lines f → ⊥

@@ -1,0 +1,57 @@
+-- From what clap says of words to what is planned.
+use Rattle.std.proofs.Common.{◌≡◌, ◌∙◌, true, false, List, [], Option, Some, None, option_map, Result, Ok, Err, refl, ap, ap₂, sym, inl, inr}
+use Rattle.clap.proofs.OnLiterals.{clap_on_literals}
+use Rattle.clap.specs.declared.error.Error.{Error}
+use Rattle.clap.specs.Words.{HasKind, Kinds, Row, Text, fault_of, is_simple, is_simple_and_free}
+use Rattle.dw_words.specs.CommandLine.{dwframe}
+use Rattle.dw_words.specs.declared.request.PlanError.{PlanError}
+use Rattle.dw_words.specs.declared.request.PlanError.TheVariants as errors
+use Rattle.dw_words.specs.declared.request.Request.{Request}
+use Rattle.dw_words.specs.declared.request.Request.TheVariants as requests
+use Rattle.dw_words.specs.Plan.{Fails, FromFault, Planned, is_help, Run, run_in, run_of, run_where}
+
+pub free : is_simple_and_free dwframe ≡ true
+unfolding clap_on_literals
+free = refl
+
+pub simple : is_simple dwframe ≡ true
+unfolding clap_on_literals
+simple = refl
+
+module _ {X : Type 0} (f : X → Text) (g : X → List Row) where
+  abbrev both : X → Text × List Row
+  both x = (f x, g x)
+
+  pub pair_of : (o : Option X) (name : Text) (rows : List Row) → Some name ≡ option_map f o → Some rows ≡ option_map (λ (p : Text × List Row). p.1) (option_map both o) → option_map both o ≡ Some (name, rows)
+  pair_of None name rows h k = absurd cc
+  pair_of (Some x) name rows h k =
+      let p : f x ≡ name = cc in
+      let q : g x ≡ rows = cc in
+      let P : Text → List Row → Option (Text × List Row) = λ a b. Some (a, b) in
+      ap₂ P p q
+
+-- the run of words that clap takes
+pub one_run : (kinds : Kinds) (found : Option (Text × List Row)) (name : Text) (rows : List Row) → kinds ≡ [] → found ≡ Some (name, rows) → run_where kinds found ≡ run_in name rows
+one_run kinds found name rows none is = rw (none, is) refl
+
+-- nothing is wanted of a value that is none
+pub fails_map : {X Y : Type 0} (f : X → Y) (o : Option X) (e : PlanError) → Fails o e → Fails (option_map f o) e
+fails_map f o (errors.BadValue what) h = rw h refl
+fails_map f o (errors.Words error) h = h
+fails_map f o errors.OutOfMemory h = h
+
+-- words that clap takes, with a value that is none
+pub failed : (words : List Text) (inner : Option Run) (e : PlanError) → fault_of dwframe words ≡ [] → run_of words ≡ inner → Fails inner e → Planned words (Err e)
+failed words inner (errors.BadValue what) none is h = (none, is ∙ h)
+failed words inner (errors.Words error) none is h = absurd h
+failed words inner errors.OutOfMemory none is h = tt
+
+-- words that clap does not take
+pub refused : (words : List Text) (error : Error) (r : Result Request PlanError) → HasKind (fault_of dwframe words) error → FromFault error r → Planned words r
+refused words error (Ok (requests.Run job)) h f = absurd f
+refused words error (Ok (requests.Help text)) (inl short) f = let bad : false ≡ true = ap is_help (sym short) ∙ f.1 in absurd cc
+refused words error (Ok (requests.Help text)) (inr among) f = rw f.0 (among, f.1)
+refused words error (Err (errors.BadValue what)) h f = absurd f
+refused words error (Err (errors.Words fault)) (inl short) f = absurd (f.2 short)
+refused words error (Err (errors.Words fault)) (inr among) f = rw f.0 (among, f.1)
+refused words error (Err errors.OutOfMemory) h f = tt

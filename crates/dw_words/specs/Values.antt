@@ -1,0 +1,65 @@
+-- What the texts of options and operands say.
+use Rattle.std.specs.Prelude.{ℕ, ◌+◌, ◌*◌, ◌==◌, ◌&&◌, nat_lt, if◌then◌else◌, List, [], ◌∷◌, length, drop, slice_index, codes, Option, Some, None, option_and_then, Result, Ok, Err}
+use Rattle.std.specs.Str.{bytes_eq}
+use Rattle.clap.specs.Words.{Text}
+use Rattle.hex.specs.declared.error.FromHexError.{FromHexError}
+use Rattle.hex.specs.Hex.{decode_of, hex_digit_value}
+use Rattle.dw_num.specs.Target.{address_limit}
+use Rattle.dw_num.specs.declared.target.Order.{Order}
+use Rattle.dw_num.specs.declared.target.Order.TheVariants.{Little, Big}
+use Rattle.dw_num.specs.declared.target.Size.{Size}
+use Rattle.dw_num.specs.declared.target.Size.TheVariants.{Four, Eight}
+use Rattle.dw_op.specs.declared.profile.Profile.{Profile}
+use Rattle.dw_op.specs.declared.profile.Profile.TheVariants.{Frame, Location}
+use Rattle.dw_unwind.specs.declared.frame.Policy.{Policy}
+use Rattle.dw_unwind.specs.declared.frame.Policy.TheVariants.{SameValue, Undefined}
+
+-- ---- words of a list
+
+abbrev pub size_of : Text → Option Size
+size_of text = if bytes_eq text (codes "4") then Some Four else (if bytes_eq text (codes "8") then Some Eight else None)
+
+abbrev pub order_of : Text → Option Order
+order_of text = if bytes_eq text (codes "little") then Some Little else (if bytes_eq text (codes "big") then Some Big else None)
+
+abbrev pub default_of : Text → Option Policy
+default_of text = if bytes_eq text (codes "same") then Some SameValue else (if bytes_eq text (codes "undefined") then Some Undefined else None)
+
+-- what clap gives a flag: `true` where the words have it, else `false`
+abbrev pub profile_of : Text → Option Profile
+profile_of text = if bytes_eq text (codes "true") then Some Frame else (if bytes_eq text (codes "false") then Some Location else None)
+
+-- ---- numbers
+
+-- a number, if it is below a limit
+abbrev pub below : ℕ → ℕ → Option ℕ
+below limit n = if nat_lt n limit then Some n else None
+
+-- a number with one digit more behind it; hexadecimal digits are of either case
+abbrev pub digit_behind : ℕ → ℕ → ℕ → Option ℕ
+digit_behind base n c = option_and_then (λ d. below 18446744073709551616 (n * base + d)) (option_and_then (below base) (hex_digit_value c))
+
+-- the number of the digits behind a number, the highest first, unless it passes 64 bits
+abbrev pub number_behind : ℕ → ℕ → Text → Option ℕ
+number_behind base n [] = Some n
+number_behind base n (c ∷ cs) = option_and_then (λ m. number_behind base m cs) (digit_behind base n c)
+
+-- one or more decimal digits
+abbrev pub decimal : Text → Option ℕ
+decimal text = if length text == 0 then None else number_behind 10 0 text
+
+-- `0x` and 1 to 16 hexadecimal digits, of an address
+abbrev pub address : Size → Text → Option ℕ
+address size text =
+    if nat_lt 2 (length text) && (nat_lt (length text) 19 && (slice_index text 0 == 48 && slice_index text 1 == 120))
+    then option_and_then (below (address_limit size)) (number_behind 16 0 (drop 2 text)) else None
+
+-- ---- bytes
+
+abbrev pub ok_of : Result (List ℕ) FromHexError → Option (List ℕ)
+ok_of (Ok bytes) = Some bytes
+ok_of (Err e) = None
+
+-- two hexadecimal digits a byte
+abbrev pub block_of : Text → Option (List ℕ)
+block_of text = ok_of (decode_of text)

@@ -1,0 +1,174 @@
+//! The command line as `clap` reads it, with its texts of help.
+
+ghost use Rattle.std.specs.Prelude.{◌≡◌, IfOk, codes};
+ghost use Rattle.clap.specs.Words.{App, app_of};
+ghost use Rattle.clap.specs.declared.builder.command.Command.TheViews.{out-Command};
+ghost use Rattle.dw_words.specs.CommandLine.{IsArg, IsCommand, choice, cost, dwframe, eval, expr, flag, normal, operand, option, over_file, program, same, subcommand, unwind, with_expressions, with_normal_forms, with_sections};
+
+use crate::help;
+use clap::{Arg, ArgAction, Command};
+use std::alloc::{AllocError, Global};
+
+fn choice<'a>(alloc: Global, name: &'a str, value: &'a str, help: &'a str) -> Arg<'a>
+    ensures { IsArg (choice name.entry.now) result }
+{
+    Arg::new(alloc, name)
+        .long(name)
+        .action(ArgAction::Set)
+        .value_name(value)
+        .help(help)
+}
+
+fn option<'a>(alloc: Global, name: &'a str, value: &'a str, help: &'a str) -> Arg<'a>
+    ensures { IsArg (option name.entry.now) result }
+{
+    Arg::new(alloc, name)
+        .long(name)
+        .required(true)
+        .action(ArgAction::Set)
+        .value_name(value)
+        .help(help)
+}
+
+fn flag<'a>(alloc: Global, name: &'a str, help: &'a str) -> Arg<'a>
+    ensures { IsArg (flag name.entry.now) result }
+{
+    Arg::new(alloc, name)
+        .long(name)
+        .action(ArgAction::SetTrue)
+        .help(help)
+}
+
+fn operand<'a>(alloc: Global, name: &'a str, required: bool, help: &'a str) -> Arg<'a>
+    ensures { IsArg (operand required name.entry.now) result }
+{
+    Arg::new(alloc, name)
+        .required(required)
+        .action(ArgAction::Set)
+        .help(help)
+}
+
+fn described<'a>(command: Command<'a>, about: &'a str, after: &'a str) -> Command<'a>
+    ensures app { app_of result ≡ app_of command.entry }
+    ensures local { (out-Command result).has_globals ≡ (out-Command command.entry).has_globals }
+{
+    command.about(about).after_help(after)
+}
+
+// A subcommand with the options that each of them has.
+fn subcommand<'a>(
+    alloc: Global,
+    name: &'a str,
+    about: &'a str,
+    after: &'a str,
+) -> Result<Command<'a>, AllocError>
+    ensures { IfOk result (λ c. IsCommand (subcommand name.entry.now) c) }
+{
+    described(Command::new(alloc, name), about, after)
+        .arg(option(alloc, "size", "4|8", help::SIZE))?
+        .arg(option(alloc, "order", "little|big", help::ORDER))
+}
+
+// A subcommand over one file.
+fn over_file<'a>(
+    alloc: Global,
+    name: &'a str,
+    about: &'a str,
+    after: &'a str,
+) -> Result<Command<'a>, AllocError>
+    ensures { IfOk result (λ c. IsCommand (over_file name.entry.now) c) }
+{
+    subcommand(alloc, name, about, after)?.arg(operand(alloc, "FILE", true, help::FILE))
+}
+
+fn expr<'a>(alloc: Global) -> Result<Command<'a>, AllocError>
+    ensures { IfOk result (λ c. IsCommand expr c) }
+{
+    subcommand(alloc, "expr", help::EXPR, help::AFTER_EXPR)?
+        .arg(flag(alloc, "frame", help::FRAME))?
+        .arg(operand(alloc, "HEX", true, help::HEX))
+}
+
+fn eval<'a>(alloc: Global) -> Result<Command<'a>, AllocError>
+    ensures { IfOk result (λ c. IsCommand eval c) }
+{
+    subcommand(alloc, "eval", help::EVAL, help::AFTER_EVAL)?
+        .arg(choice(alloc, "steps", "L", help::STEPS))?
+        .arg(choice(alloc, "start", "0xV", help::START))?
+        .arg(operand(alloc, "HEX", true, help::HEX))?
+        .arg(operand(alloc, "DUMP", false, help::DUMP_OF_EVAL))
+}
+
+fn unwind<'a>(alloc: Global) -> Result<Command<'a>, AllocError>
+    ensures { IfOk result (λ c. IsCommand unwind c) }
+{
+    subcommand(alloc, "unwind", help::UNWIND, help::AFTER_UNWIND)?
+        .arg(option(alloc, "default", "same|undefined", help::DEFAULT))?
+        .arg(choice(alloc, "steps", "L", help::STEPS))?
+        .arg(operand(alloc, "FILE", true, help::FILE))?
+        .arg(operand(alloc, "DUMP", true, help::DUMP))
+}
+
+fn normal<'a>(alloc: Global) -> Result<Command<'a>, AllocError>
+    ensures { IfOk result (λ c. IsCommand normal c) }
+{
+    subcommand(alloc, "normal", help::NORMAL, help::AFTER_NORMAL)?
+        .arg(choice(alloc, "cap", "L", help::CAP))?
+        .arg(operand(alloc, "FILE", true, help::FILE))
+}
+
+fn same<'a>(alloc: Global) -> Result<Command<'a>, AllocError>
+    ensures { IfOk result (λ c. IsCommand same c) }
+{
+    over_file(alloc, "same", help::SAME, help::AFTER_SAME)?.arg(operand(
+        alloc,
+        "FILE2",
+        true,
+        help::FILE2,
+    ))
+}
+
+fn with_sections<'a>(alloc: Global, command: Command<'a>) -> Result<Command<'a>, AllocError>
+    ensures { IfOk result (λ c. (a : App) → IsCommand a command.entry → IsCommand (with_sections a) c) }
+{
+    command
+        .subcommand(over_file(alloc, "check", help::CHECK, help::AFTER_CHECK)?)?
+        .subcommand(over_file(alloc, "rows", help::ROWS, help::AFTER_ROWS)?)?
+        .subcommand(over_file(alloc, "entries", help::ENTRIES, help::AFTER_ENTRIES)?)
+}
+
+fn with_expressions<'a>(alloc: Global, command: Command<'a>) -> Result<Command<'a>, AllocError>
+    ensures { IfOk result (λ c. (a : App) → IsCommand a command.entry → IsCommand (with_expressions a) c) }
+{
+    command
+        .subcommand(expr(alloc)?)?
+        .subcommand(eval(alloc)?)?
+        .subcommand(unwind(alloc)?)
+}
+
+fn with_normal_forms<'a>(alloc: Global, command: Command<'a>) -> Result<Command<'a>, AllocError>
+    ensures { IfOk result (λ c. (a : App) → IsCommand a command.entry → IsCommand (with_normal_forms a) c) }
+{
+    command
+        .subcommand(normal(alloc)?)?
+        .subcommand(same(alloc)?)?
+        .subcommand(over_file(alloc, "cost", help::COST, help::AFTER_COST)?)
+}
+
+fn program<'a>(alloc: Global) -> Command<'a>
+    ensures { IsCommand program result }
+{
+    let command = Command::new(alloc, "dwframe")
+        .version(help::VERSION)
+        .subcommand_required(true);
+    described(command, help::PROGRAM, help::AFTER_PROGRAM)
+}
+
+/// The whole command.
+pub(crate) fn command_line<'a>(alloc: Global) -> Result<Command<'a>, AllocError>
+    ensures { IfOk result (λ c. IsCommand dwframe c) }
+{
+    let command = with_sections(alloc, program(alloc))?;
+    let command = with_expressions(alloc, command)?;
+    with_normal_forms(alloc, command)
+}

@@ -1,0 +1,132 @@
+//! The texts of `--help`, a line each, and what stands below them.
+
+pub const VERSION: &str = "0.1.0";
+
+pub const PROGRAM: &str = "Read a raw .debug_frame section, the call frame information of DWARF 5";
+
+pub const AFTER_PROGRAM: &str =
+    "FILE is the raw section, not the program that holds it. To take it out of an ELF file:
+  objcopy -O binary --only-section=.debug_frame --set-section-flags .debug_frame=alloc a.out a.bin
+An ELF, PE, Mach-O, ar or gzip file itself is refused. An empty file, which objcopy writes where
+there is no .debug_frame, is well formed and has no entries.
+
+Exit status:
+  0  done
+  1  the two sections of 'same' differ
+  2  refused: a section, expression or dump is malformed; or fault: there is no value or frame
+  3  wrong words
+  4  a file cannot be read, or the output cannot be written
+  5  out of memory
+
+Example:
+  dwframe rows --size 8 --order little a.bin";
+
+pub const SIZE: &str = "Bytes of an address: 4 for ELF32, 8 for ELF64";
+
+pub const ORDER: &str = "Byte order of the target";
+
+pub const FILE: &str = "Raw .debug_frame section";
+
+pub const FILE2: &str = "Raw .debug_frame section to compare with";
+
+pub const HEX: &str = "Bytes of the expression in hexadecimal, two digits a byte, without 0x";
+
+pub const DUMP: &str = "Dump of registers and memory";
+
+pub const DUMP_OF_EVAL: &str = "Dump of registers and memory [default: none of them]";
+
+pub const FRAME: &str = "Take only the operations that a rule of a call frame may hold";
+
+pub const STEPS: &str = "Most operations an expression may execute, decimal [default: 10000]";
+
+pub const START: &str =
+    "Value on the stack at the start, below 2^32 or 2^64 by --size [default: none]";
+
+pub const DEFAULT: &str = "What a register without a rule is taken for: unchanged or undefined";
+
+pub const CAP: &str =
+    "Most bytes of the normal form, decimal, 0 to 2147483647 [default: 2147483647]";
+
+pub const CHECK: &str = "Tell whether a section is well formed, and count its entries";
+
+pub const AFTER_CHECK: &str =
+    "Exit status: 0 well formed, 2 refused, 3 wrong words, 4 file or output fails, 5 out of memory
+
+Example:
+  dwframe check --size 8 --order little a.bin";
+
+pub const ROWS: &str =
+    "Print the rules of the CFA and of registers at each address where they change";
+
+pub const AFTER_ROWS: &str =
+    "Exit status: 0 done, 2 refused, 3 wrong words, 4 file or output fails, 5 out of memory
+
+Example:
+  dwframe rows --size 8 --order little a.bin";
+
+pub const ENTRIES: &str = "List the CIEs and FDEs of a section by place";
+
+pub const AFTER_ENTRIES: &str =
+    "Exit status: 0 done, 2 refused, 3 wrong words, 4 file or output fails, 5 out of memory
+
+Example:
+  dwframe entries --size 8 --order little a.bin";
+
+pub const EXPR: &str = "Print the operations of an expression and its shortest encoding";
+
+pub const AFTER_EXPR: &str =
+    "Exit status: 0 done, 2 refused, 3 wrong words, 4 output fails, 5 out of memory
+
+Example, which prints '0 const 5' and 'least 35':
+  dwframe expr --size 8 --order little 0805";
+
+pub const EVAL: &str = "Print the value of an expression over the registers and memory of a dump";
+
+pub const AFTER_EVAL: &str = "Lines of a dump:
+  pc 0x<hex>           the program counter
+  r<n> 0x<hex>         the value of register n
+  mem 0x<hex> <bytes>  memory from an address on, two hexadecimal digits a byte
+
+Exit status: 0 done, 2 refused or fault, 3 wrong words, 4 file or output fails, 5 out of memory
+
+Example, which prints '0xa':
+  dwframe eval --size 8 --order little 35321e";
+
+pub const UNWIND: &str =
+    "Print the caller's frame of a machine that stopped: its CFA and registers";
+
+pub const AFTER_UNWIND: &str = "Lines of a dump:
+  pc 0x<hex>           the program counter
+  r<n> 0x<hex>         the value of register n
+  mem 0x<hex> <bytes>  memory from an address on, two hexadecimal digits a byte
+
+Exit status: 0 done, 2 refused or fault, 3 wrong words, 4 file or output fails, 5 out of memory
+
+Example:
+  dwframe unwind --size 8 --order little --default same a.bin stopped.dump";
+
+pub const NORMAL: &str =
+    "Write the normal form of a section, which is equal for sections that mean the same";
+
+pub const AFTER_NORMAL: &str =
+    "Exit status: 0 done, 2 refused, 3 wrong words, 4 file or output fails, 5 out of memory
+
+Example:
+  dwframe normal --size 8 --order little a.bin > a.normal";
+
+pub const SAME: &str =
+    "Tell whether two sections mean the same: ranges, return registers, rules at each address";
+
+pub const AFTER_SAME: &str =
+    "Exit status: 0 same, 1 different, 2 refused, 3 wrong words, 4 file or output fails, 5 out of memory
+
+Example:
+  dwframe same --size 8 --order little a.bin b.bin";
+
+pub const COST: &str = "Print the bytes and the rows of a section and of its normal form";
+
+pub const AFTER_COST: &str =
+    "Exit status: 0 done, 2 refused, 3 wrong words, 4 file or output fails, 5 out of memory
+
+Example:
+  dwframe cost --size 8 --order little a.bin";

@@ -1,0 +1,14 @@
+//! What the words of a command line ask for.
+//!
+//! `plan` reads them as `clap` does, and judges the values. Read `specs/CommandLine.antt` for the command line that is
+//! read, `specs/Values.antt` for what a value may be, and `specs/Plan.antt` for what the words then ask for.
+#![tactic(auto)]
+
+mod command_line;
+mod help;
+mod planning;
+mod request;
+mod values;
+
+pub use planning::plan;
+pub use request::{Evaluation, Job, Name, PlanError, Request, Task, Unwinding, Writing};

@@ -1,0 +1,289 @@
+//! What the words of a command line ask for.
+
+ghost use Rattle.std.specs.Prelude.{◌≡◌, ◌≤◌, IfSome, codes, map, option_map, string_bytes};
+ghost use Rattle.clap.specs.Words.{first_of, found_of, kind_of, rows_of};
+ghost use Rattle.dw_words.specs.Plan.{Answers, FromFault, Planned, block_in, cap_in, default_in, eval_in, expr_in, is_help, name_of, normal_in, profile_in, run_held, run_in, same_in, start_in, steps_in, target_in, task_held, task_in, unwind_in};
+
+use crate::command_line::command_line;
+use crate::request::{Evaluation, Job, Name, PlanError, Request, Task, Unwinding, Writing};
+use crate::values::{address, block_of, decimal, default_of, order_of, profile_of, size_of};
+use clap::ArgMatches;
+use clap::error::ErrorKind;
+use dw_num::{Size, Target};
+use dw_op::Profile;
+use dw_unwind::Policy;
+use hex::FromHexError;
+use std::alloc::Global;
+
+// How many operations are executed where the words do not say.
+const STEPS: u64 = 10_000;
+
+// The most bytes that a section has.
+const CAP: u64 = 2_147_483_647;
+
+fn text_of<'a>(matches: &ArgMatches<'a>, id: &str) -> Option<&'a str>
+    ensures { option_map (λ s. s.now) result ≡ first_of id.now (rows_of (found_of matches.now)) }
+{
+    matches.get_str(id)
+}
+
+fn name_of(text: &str) -> Option<Name>
+    ensures { result ≡ name_of text.now }
+{
+    match text {
+        "check" => Some(Name::Check),
+        "cost" => Some(Name::Cost),
+        "entries" => Some(Name::Entries),
+        "eval" => Some(Name::Eval),
+        "expr" => Some(Name::Expr),
+        "normal" => Some(Name::Normal),
+        "rows" => Some(Name::Rows),
+        "same" => Some(Name::Same),
+        "unwind" => Some(Name::Unwind),
+        _ => None,
+    }
+}
+
+fn target_in(matches: &ArgMatches<'_>) -> Result<Target, PlanError>
+    ensures { Answers (target_in (rows_of (found_of matches.now))) (λ target. target) result }
+{
+    let Some(size) = text_of(matches, "size").and_then(|text| size_of(text)) else {
+        return Err(PlanError::BadValue("--size"));
+    };
+    let Some(order) = text_of(matches, "order").and_then(|text| order_of(text)) else {
+        return Err(PlanError::BadValue("--order"));
+    };
+    Ok(Target { size, order })
+}
+
+fn cap_in(matches: &ArgMatches<'_>) -> Option<u64>
+    ensures value { result ≡ cap_in (rows_of (found_of matches.now)) }
+    ensures within { IfSome result (λ cap. cap ≤ 2147483647) }
+{
+    let Some(text) = text_of(matches, "cap") else {
+        return Some(CAP);
+    };
+    let cap = decimal(text)?;
+    if cap <= CAP { Some(cap) } else { None }
+}
+
+fn steps_in(matches: &ArgMatches<'_>) -> Option<u64>
+    ensures { result ≡ steps_in (rows_of (found_of matches.now)) }
+{
+    match text_of(matches, "steps") {
+        Some(text) => decimal(text),
+        None => Some(STEPS),
+    }
+}
+
+// The value that the stack starts with, where one is given.
+fn start_in(matches: &ArgMatches<'_>, size: Size) -> Option<Option<u64>>
+    ensures { result ≡ start_in size (rows_of (found_of matches.now)) }
+{
+    let Some(text) = text_of(matches, "start") else {
+        return Some(None);
+    };
+    let value = address(text, size)?;
+    Some(Some(value))
+}
+
+fn default_in(matches: &ArgMatches<'_>) -> Option<Policy>
+    ensures { result ≡ default_in (rows_of (found_of matches.now)) }
+{
+    match text_of(matches, "default") {
+        Some(text) => default_of(text),
+        None => None,
+    }
+}
+
+fn profile_in(matches: &ArgMatches<'_>) -> Option<Profile>
+    ensures { result ≡ profile_in (rows_of (found_of matches.now)) }
+{
+    match text_of(matches, "frame") {
+        Some(text) => profile_of(text),
+        None => None,
+    }
+}
+
+fn block_in(alloc: Global, matches: &ArgMatches<'_>) -> Result<Vec<u8>, PlanError>
+    ensures { Answers (block_in (rows_of (found_of matches.now))) (λ bytes. bytes.items) result }
+{
+    let Some(text) = text_of(matches, "HEX") else {
+        return Err(PlanError::BadValue("HEX"));
+    };
+    match block_of(alloc, text) {
+        Ok(block) => Ok(block),
+        Err(FromHexError::OutOfMemory) => Err(PlanError::OutOfMemory),
+        Err(_) => Err(PlanError::BadValue("HEX")),
+    }
+}
+
+fn eval_in<'a>(alloc: Global, matches: &ArgMatches<'a>, size: Size) -> Result<Task<'a>, PlanError>
+    ensures { Answers (eval_in size (rows_of (found_of matches.now))) task_held result }
+{
+    let Some(steps) = steps_in(matches) else {
+        return Err(PlanError::BadValue("--steps"));
+    };
+    let Some(start) = start_in(matches, size) else {
+        return Err(PlanError::BadValue("--start"));
+    };
+    let block = block_in(alloc, matches)?;
+    let dump = text_of(matches, "DUMP");
+    Ok(Task::Eval(Evaluation {
+        steps,
+        start,
+        block,
+        dump,
+    }))
+}
+
+fn expr_in<'a>(alloc: Global, matches: &ArgMatches<'a>) -> Result<Task<'a>, PlanError>
+    ensures { Answers (expr_in (rows_of (found_of matches.now))) task_held result }
+{
+    let Some(profile) = profile_in(matches) else {
+        return Err(PlanError::BadValue("--frame"));
+    };
+    let block = block_in(alloc, matches)?;
+    Ok(Task::Expr { profile, block })
+}
+
+fn normal_in<'a>(matches: &ArgMatches<'a>) -> Result<Task<'a>, PlanError>
+    ensures { Answers (normal_in (rows_of (found_of matches.now))) task_held result }
+{
+    let Some(cap) = cap_in(matches) else {
+        return Err(PlanError::BadValue("--cap"));
+    };
+    let Some(path) = text_of(matches, "FILE") else {
+        return Err(PlanError::BadValue("FILE"));
+    };
+    Ok(Task::Normal(Writing { cap, path }))
+}
+
+fn same_in<'a>(matches: &ArgMatches<'a>) -> Result<Task<'a>, PlanError>
+    ensures { Answers (same_in (rows_of (found_of matches.now))) task_held result }
+{
+    let Some(path) = text_of(matches, "FILE") else {
+        return Err(PlanError::BadValue("FILE"));
+    };
+    let Some(other) = text_of(matches, "FILE2") else {
+        return Err(PlanError::BadValue("FILE2"));
+    };
+    Ok(Task::Same { path, other })
+}
+
+fn unwind_in<'a>(matches: &ArgMatches<'a>) -> Result<Task<'a>, PlanError>
+    ensures { Answers (unwind_in (rows_of (found_of matches.now))) task_held result }
+{
+    let Some(steps) = steps_in(matches) else {
+        return Err(PlanError::BadValue("--steps"));
+    };
+    let Some(default) = default_in(matches) else {
+        return Err(PlanError::BadValue("--default"));
+    };
+    let Some(path) = text_of(matches, "FILE") else {
+        return Err(PlanError::BadValue("FILE"));
+    };
+    let Some(dump) = text_of(matches, "DUMP") else {
+        return Err(PlanError::BadValue("DUMP"));
+    };
+    Ok(Task::Unwind(Unwinding {
+        default,
+        steps,
+        path,
+        dump,
+    }))
+}
+
+fn path_in<'a>(matches: &ArgMatches<'a>) -> Result<&'a str, PlanError>
+    ensures { Answers (first_of (codes "FILE") (rows_of (found_of matches.now))) (λ path. path.now) result }
+{
+    match text_of(matches, "FILE") {
+        Some(path) => Ok(path),
+        None => Err(PlanError::BadValue("FILE")),
+    }
+}
+
+fn task_in<'a>(
+    alloc: Global,
+    name: Name,
+    size: Size,
+    matches: &ArgMatches<'a>,
+) -> Result<Task<'a>, PlanError>
+    ensures { Answers (task_in name size (rows_of (found_of matches.now))) task_held result }
+{
+    match name {
+        Name::Check => Ok(Task::Check {
+            path: path_in(matches)?,
+        }),
+        Name::Cost => Ok(Task::Cost {
+            path: path_in(matches)?,
+        }),
+        Name::Entries => Ok(Task::Entries {
+            path: path_in(matches)?,
+        }),
+        Name::Eval => eval_in(alloc, matches, size),
+        Name::Expr => expr_in(alloc, matches),
+        Name::Normal => normal_in(matches),
+        Name::Rows => Ok(Task::Rows {
+            path: path_in(matches)?,
+        }),
+        Name::Same => same_in(matches),
+        Name::Unwind => unwind_in(matches),
+    }
+}
+
+// The run of a subcommand of this name.
+fn run_in<'a>(alloc: Global, text: &str, matches: &ArgMatches<'a>) -> Result<Job<'a>, PlanError>
+    ensures { Answers (run_in text.now (rows_of (found_of matches.now))) run_held result }
+{
+    let Some(name) = name_of(text) else {
+        return Err(PlanError::BadValue("the subcommand"));
+    };
+    let target = target_in(matches)?;
+    let task = task_in(alloc, name, target.size, matches)?;
+    Ok(Job { target, task })
+}
+
+fn is_help(kind: ErrorKind) -> bool
+    ensures { result ≡ is_help kind }
+{
+    match kind {
+        ErrorKind::DisplayHelp | ErrorKind::DisplayVersion => true,
+        _ => false,
+    }
+}
+
+// What a fault that clap finds says: help is one of its faults.
+fn plan_of_fault<'a>(error: clap::Error) -> Result<Request<'a>, PlanError>
+    ensures { FromFault error result }
+{
+    let kind = error.kind();
+    if is_help(kind) {
+        return Ok(Request::Help(error));
+    }
+    match kind {
+        ErrorKind::OutOfMemory => Err(PlanError::OutOfMemory),
+        _ => Err(PlanError::Words(error)),
+    }
+}
+
+/// What the words ask for, before any file is read. The first word is the program's name.
+///
+/// A run is answered exactly where `clap` reads the words as that subcommand with that size, order, options and operands, and
+/// each value is one that it may have. `Help` is answered where they ask for help or the version. `Words` is answered where `clap`
+/// refuses them, and `BadValue` where it takes them and a value is none that it may have: the first of `--size`, `--order`,
+/// `--cap`, `--steps`, `--start`, `--default` and `HEX`, whatever the order of the words.
+pub fn plan<'a>(alloc: Global, words: &'a [String]) -> Result<Request<'a>, PlanError>
+    ensures { Planned (map string_bytes words.entry.now) result }
+{
+    let command = command_line(alloc)?;
+    let matches = match command.try_get_matches_from(words) {
+        Ok(matches) => matches,
+        Err(error) => return plan_of_fault(error),
+    };
+    let Some((name, matches)) = matches.subcommand() else {
+        return Err(PlanError::BadValue("the subcommand"));
+    };
+    let job = run_in(alloc, name, matches)?;
+    Ok(Request::Run(job))
+}

@@ -1,0 +1,125 @@
+//! What the texts of options and operands say.
+
+ghost use Rattle.std.specs.Prelude.{◌≡◌, ◌⊎◌, ◌<◌, ◌≤◌, Some, None, MatchResult, length};
+ghost use Rattle.dw_words.specs.Values.{size_of, order_of, default_of, profile_of, digit_behind, number_behind, decimal, address, block_of};
+ghost use Rattle.hex.specs.Hex.{hex_digit_value};
+ghost use Rattle.hex.specs.declared.error.FromHexError.TheVariants.{OutOfMemory as NoMemory};
+
+use dw_num::{Order, Size};
+use dw_op::Profile;
+use dw_unwind::Policy;
+use hex::FromHexError;
+use std::alloc::Global;
+
+pub(crate) fn size_of(text: &str) -> Option<Size>
+    ensures { result ≡ size_of text.now }
+{
+    match text {
+        "4" => Some(Size::Four),
+        "8" => Some(Size::Eight),
+        _ => None,
+    }
+}
+
+pub(crate) fn order_of(text: &str) -> Option<Order>
+    ensures { result ≡ order_of text.now }
+{
+    match text {
+        "little" => Some(Order::Little),
+        "big" => Some(Order::Big),
+        _ => None,
+    }
+}
+
+pub(crate) fn default_of(text: &str) -> Option<Policy>
+    ensures { result ≡ default_of text.now }
+{
+    match text {
+        "same" => Some(Policy::SameValue),
+        "undefined" => Some(Policy::Undefined),
+        _ => None,
+    }
+}
+
+// What `clap` gives a flag.
+pub(crate) fn profile_of(text: &str) -> Option<Profile>
+    ensures { result ≡ profile_of text.now }
+{
+    match text {
+        "true" => Some(Profile::Frame),
+        "false" => Some(Profile::Location),
+        _ => None,
+    }
+}
+
+// The value of a hexadecimal digit of either case.
+fn digit_of(byte: u8) -> Option<u8>
+    ensures { result ≡ hex_digit_value byte }
+{
+    match byte {
+        b'0'..=b'9' => Some(byte - b'0'),
+        b'a'..=b'f' => Some(byte - b'a' + 10),
+        b'A'..=b'F' => Some(byte - b'A' + 10),
+        _ => None,
+    }
+}
+
+// A number with one digit more behind it.
+fn digit_behind(base: u8, number: u64, byte: u8) -> Option<u64>
+    ensures { result ≡ digit_behind base number byte }
+{
+    let digit = digit_of(byte)?;
+    if digit >= base {
+        return None;
+    }
+    let number = u128::from(number) * u128::from(base) + u128::from(digit);
+    u64::try_from(number).ok()
+}
+
+// The number of the digits, unless it passes 64 bits.
+fn number_of(base: u8, text: &[u8]) -> Option<u64>
+    ensures { result ≡ number_behind base 0 text.now }
+{
+    let mut number = 0u64;
+    for byte in text {
+        let Some(next) = digit_behind(base, number, *byte) else {
+            return None;
+        };
+        number = next;
+    }
+    Some(number)
+}
+
+/// The number of one or more decimal digits.
+pub(crate) fn decimal(text: &str) -> Option<u64>
+    ensures { result ≡ decimal text.now }
+{
+    let digits = text.as_bytes();
+    if digits.is_empty() {
+        return None;
+    }
+    number_of(10, digits)
+}
+
+/// The address that `0x` and 1 to 16 hexadecimal digits say.
+pub(crate) fn address(text: &str, size: Size) -> Option<u64>
+    ensures { result ≡ address size text.now }
+{
+    let text = text.as_bytes();
+    if text.len() <= 2 || text.len() >= 19 || text[0] != b'0' || text[1] != b'x' {
+        return None;
+    }
+    let number = number_of(16, &text[2..])?;
+    if u128::from(number) < size.address_limit() {
+        Some(number)
+    } else {
+        None
+    }
+}
+
+/// The bytes of hexadecimal digits, two a byte. The error says whether memory ran out.
+pub(crate) fn block_of(alloc: Global, text: &str) -> Result<Vec<u8>, FromHexError>
+    ensures { MatchResult result (λ bytes. block_of text.now ≡ Some bytes.items) (λ e. (block_of text.now ≡ None) ⊎ (e ≡ NoMemory)) }
+{
+    hex::decode(alloc, text)
+}

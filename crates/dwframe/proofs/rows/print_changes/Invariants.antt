@@ -1,5 +1,0 @@
-use Rattle.std.proofs.Common.{length}
-use Rattle.dwframe.proofs.rows.print_changes.Given as goal
-
-abbrev pub decreases-changes : goal.decreases-changes
-decreases-changes g l = length l.changes.rows

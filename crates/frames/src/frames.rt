@@ -1,0 +1,238 @@
+//! Worked frames: plain ones, each fault, and a memory whose device fails.
+
+ghost use Rattle.std.specs.Prelude.{◌≡◌, ◌+◌, ◌-◌, ◌^◌, ◌<◌, ◌≤◌};
+ghost use Rattle.dw_unwind.specs.Ranges.{byte_in};
+
+use dw_eval::{Memory, ReadFault};
+use dw_num::{Order, Size, Target};
+use dw_section::check;
+use dw_unwind::{Dump, DumpMemory, Frame, Policy, unwind};
+use std::alloc::Global;
+use std::test::Fail;
+
+const LITTLE: Target = Target {
+    size: Size::Eight,
+    order: Order::Little,
+};
+
+const BIG: Target = Target {
+    size: Size::Four,
+    order: Order::Big,
+};
+
+const PLAIN: &str =
+    "14000000ffffffff040008000178100c0708900100000000240000000000000000104000000000001000000000000000410e108602430d064b0c070800000000";
+
+// r3 is a register's, r5 and r6 are values, r7 has none.
+const RULES: &str =
+    "14000000ffffffff040008000178100c070890010000000024000000000000000010000000000000100000000000000009060314030116050223010710000000";
+
+// The expression of r5 ends with an empty stack.
+const EMPTY_VALUE: &str =
+    "14000000ffffffff040008000178100c07089001000000001c00000000000000001000000000000010000000000000001605011300000000";
+
+// The expression of the CFA jumps to itself.
+const ENDLESS: &str =
+    "14000000ffffffff040008000178100c07089001000000001c00000000000000001000000000000010000000000000000f032ffdff000000";
+
+// The expressions of the CFA and of r5 read memory.
+const READING: &str =
+    "14000000ffffffff040008000178100c07089001000000002400000000000000001000000000000010000000000000000f037708061005037700060000000000";
+
+// Two FDEs, of which the second one ends at 2^64.
+const TOP: &str =
+    "14000000ffffffff040008000178100c07089001000000001400000000000000001000000000000010000000000000001400000000000000f0ffffffffffffff1000000000000000";
+
+const BIG_ENDIAN: &str =
+    "00000010ffffffff04000400047c410c0100000000000014000000001000040000000040420e1011417f0000";
+
+const DUMP: &str =
+    "pc 0x401004\nr6 0x7ffe00\nr7 0x7ffdf0\nmem 0x7ffe00 00020000000000008812400000000000";
+
+const SHORT: &str =
+    "pc 0x401004\nr6 0x7ffe00\nr7 0x7ffdf0\nmem 0x7ffe00 000200000000000088124000000000";
+
+const READ: &str = "pc 0x1000\nr7 0x2000\nmem 0x2000 08200000000000001020000000000000";
+
+// A dump's memory whose device fails at one read.
+#[derive(Drop)]
+struct Failing {
+    memory: DumpMemory,
+    failing: u64,
+    reads: u64,
+    failures: u64,
+}
+
+impl Memory for Failing {
+    ghost byte = { λ m. byte_in m.memory };
+
+    ghost failures = { λ m. m.failures };
+
+    fn read(&mut self, address: u64, len: usize, order: Order) -> Result<u64, ReadFault> {
+        self.reads = self.reads.wrapping_add(1);
+        if self.reads == self.failing {
+            self.failures += 1;
+            return Err(ReadFault::Device);
+        }
+        self.memory.read(address, len, order)
+    }
+}
+
+// As `cfa 0x2008 ra r16 r3 0x2000 r5 undefined`.
+fn frame_text(alloc: Global, frame: &Frame) -> Result<String, Fail> {
+    let mut text = format!(in alloc; "cfa {:#x} ra r{}", frame.cfa, frame.return_register)?;
+    for (register, value) in frame.registers.values() {
+        let part = match value {
+            Some(value) => format!(in alloc; " r{register} {value:#x}")?,
+            None => format!(in alloc; " r{register} undefined")?,
+        };
+        text.push_str(part.as_str())?;
+    }
+    Ok(text)
+}
+
+/// A section, a dump, the read of memory that fails, where one does, and the frame or the fault.
+type Row = (&'static str, &'static str, u64, &'static str);
+
+// Fails where the frame is another.
+fn agree(alloc: Global, row: Row, target: Target, default: Policy) -> Result<(), Fail> {
+    let (section, dump, failing, wanted) = row;
+    let bytes = hex::decode(alloc, section)?;
+    let table = check(alloc, &bytes, target)?;
+    let dump = Dump::parse(alloc, dump.as_bytes(), target)?;
+    let pc = dump.pc.ok_or("no program counter")?;
+    let mut memory = Failing {
+        memory: dump.memory,
+        failing,
+        reads: 0,
+        failures: 0,
+    };
+    let answer = match unwind(
+        alloc,
+        &table,
+        target,
+        pc,
+        &dump.registers,
+        &mut memory,
+        default,
+        1_000,
+    ) {
+        Ok(frame) => frame_text(alloc, &frame)?,
+        Err(error) => format!(in alloc; "{error:?}")?,
+    };
+    if answer.as_str() != wanted {
+        return Err(Fail::new(format_args!("{answer}, and not {wanted}")));
+    }
+    Ok(())
+}
+
+// At size 8, with the value of a register that has no rule.
+const FRAMES: [Row; 19] = [
+    (
+        PLAIN,
+        DUMP,
+        0,
+        "cfa 0x7ffe10 ra r16 r6 0x200 r7 0x7ffdf0 r16 0x401288",
+    ),
+    (PLAIN, SHORT, 0, "Unreadable { column: Register(16) }"),
+    (
+        RULES,
+        "pc 0x1000\nr3 0x33\nr7 0x2000",
+        0,
+        "cfa 0x2008 ra r16 r3 0x2000 r5 0x2009 r6 0x33 r7 0x2000 r16 undefined",
+    ),
+    (
+        RULES,
+        "pc 0x1000\nr7 0x2000",
+        0,
+        "NoRegister { column: Register(6) }",
+    ),
+    (
+        PLAIN,
+        "pc 0x401000\nr7 0x7ffdf0\nmem 0x7ffdf0 8812400000000000",
+        0,
+        "cfa 0x7ffdf8 ra r16 r7 0x7ffdf0 r16 0x401288",
+    ),
+    (PLAIN, "pc 0x401000", 0, "NoRegister { column: Cfa }"),
+    (PLAIN, "pc 0x401010", 0, "NoFde"),
+    (
+        EMPTY_VALUE,
+        "pc 0x1000\nr7 0x2000",
+        0,
+        "Eval { kind: EmptyResult, index: 1, column: Register(5) }",
+    ),
+    (
+        ENDLESS,
+        "pc 0x1000",
+        0,
+        "Eval { kind: StepLimit, index: 0, column: Cfa }",
+    ),
+    (
+        TOP,
+        "pc 0xffffffffffffffff",
+        0,
+        "NoRegister { column: Cfa }",
+    ),
+    (TOP, "pc 0xffffffffffffffef", 0, "NoFde"),
+    // Reads that fail.
+    (PLAIN, DUMP, 1, "Device { column: Register(6) }"),
+    (PLAIN, DUMP, 2, "Device { column: Register(16) }"),
+    (
+        PLAIN,
+        DUMP,
+        3,
+        "cfa 0x7ffe10 ra r16 r6 0x200 r7 0x7ffdf0 r16 0x401288",
+    ),
+    (
+        READING,
+        READ,
+        1,
+        "Eval { kind: Device, index: 1, column: Cfa }",
+    ),
+    (
+        READING,
+        READ,
+        2,
+        "Eval { kind: Device, index: 1, column: Register(5) }",
+    ),
+    (READING, READ, 3, "Device { column: Register(5) }"),
+    (READING, READ, 4, "Device { column: Register(16) }"),
+    (
+        READING,
+        READ,
+        5,
+        "cfa 0x2010 ra r16 r5 0x2010 r7 0x2000 r16 0x2010",
+    ),
+];
+
+// Addresses have 32 bits: the CFA goes on at 0, and no read does.
+const WRAPPED: Row = (
+    BIG_ENDIAN,
+    "pc 0x10000408\nr1 0xfffffff8\nmem 0xc 00010203",
+    0,
+    "cfa 0x8 ra r65 r1 0xfffffff8 r65 0x10203",
+);
+
+const PAST_THE_END: Row = (
+    BIG_ENDIAN,
+    "pc 0x10000408\nr1 0xffffffeb\nmem 0xffffffff 00\nmem 0x0 010203",
+    0,
+    "Unreadable { column: Register(65) }",
+);
+
+const UNDEFINED: Row = (
+    PLAIN,
+    DUMP,
+    0,
+    "cfa 0x7ffe10 ra r16 r6 0x200 r7 undefined r16 0x401288",
+);
+
+#[test]
+fn worked_frames(rt: HostRuntime) -> Result<(), Fail> {
+    for row in FRAMES {
+        agree(rt.alloc(), row, LITTLE, Policy::SameValue)?;
+    }
+    agree(rt.alloc(), UNDEFINED, LITTLE, Policy::Undefined)?;
+    agree(rt.alloc(), WRAPPED, BIG, Policy::SameValue)?;
+    agree(rt.alloc(), PAST_THE_END, BIG, Policy::SameValue)
+}
