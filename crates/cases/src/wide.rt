@@ -22,7 +22,11 @@ fn many(alloc: Global, registers: u8) -> Result<Vec<u8>, Fail> {
 fn summary(alloc: Global, row: &Row<'_>) -> Result<String, Fail> {
     let first = register_text(alloc, 5, &row.rule(5))?;
     let last = register_text(alloc, 70, &row.rule(70))?;
-    Ok(format!(in alloc; "{} {first} {last}", row.specified().count())?)
+    let mut registers: usize = 0;
+    for _ in row.specified() {
+        registers = registers.saturating_add(1);
+    }
+    Ok(format!(in alloc; "{registers} {first} {last}")?)
 }
 
 // What is said of the next row.
