@@ -67,6 +67,15 @@ def many_cies(scale):
     return CIE * count + b"".join(fdes)
 
 
+def two_wide_cies(scale):
+    """Two CIEs of 8,000 registers, and 16,000 FDEs that take them by turns."""
+    registers = b"".join(offset(register, 1) for register in range(100, 100 + scale(8_000)))
+    first = WRITER.cie(registers)
+    second = WRITER.cie(registers + offset(100, 2))
+    fdes = [fde(offset(100, 3), 0x1000 + 16 * i, 16, i % 2 * len(first)) for i in range(scale(16_000))]
+    return first + second + b"".join(fdes)
+
+
 def padded_number(scale):
     """An operand that is padded to 2,000,000 bytes."""
     return CIE + fde(b"\x0e\x90" + b"\x80" * scale(2_000_000) + b"\0")
@@ -108,6 +117,7 @@ BOMBS = [
     push_pop,
     descending_registers,
     many_cies,
+    two_wide_cies,
     padded_number,
     long_expression,
     far_branches,

@@ -103,13 +103,14 @@ def is_call_answer(answer, ordinary):
     if answer == ordinary:
         return True
     rest = iter(ordinary[1].splitlines())
-    told = b"OutOfMemory" in err
+    ended = b"OutOfMemory" in err or b"AllocError" in err
+    told = ended
     for line in out.splitlines():
         if line == b"out of memory":
             told = True
         elif line not in rest:
             return False
-    return told and (status == 0 or b"OutOfMemory" in err)
+    return told and (status == 0 or ended)
 
 
 def each_request(program, words, folder, is_answer, ordinary, tally):

@@ -10,7 +10,7 @@ use Rattle.dw_section.specs.declared.lookup.Fde.{Fde}
 use Rattle.dw_section.specs.Accepted.{Accepted}
 use Rattle.dw_section.specs.Changes.{AreChanges}
 use Rattle.dw_section.specs.Meaning.{AreFdes, ChangesOf, RowStarts, total}
-use Rattle.dw_section.proofs.Lookups.{one_fdes}
+use Rattle.dw_section.proofs.FdeLookup.{one_fdes}
 use Rattle.dw_section.specs.Meanings.{IsListed, SameMeaning}
 use Rattle.dw_canon.specs.Renders.{ReadsBack}
 use Rattle.dw_section.proofs.Sections.{fdes_exist, listed_programs}

@@ -91,7 +91,7 @@ module _ (limit : ℕ) (initial : Rules) (begin : ℕ) (instrs : List Instr) (ro
 
 -- ---- how many rows
 
-count_more : (i : Instr) (instrs : List Instr) (b : Bool) → moves_location i ≡ b → count_by moves_location (i ∷ instrs) ≡ cond b 1 0 + count_by moves_location instrs
+pub count_more : (i : Instr) (instrs : List Instr) (b : Bool) → moves_location i ≡ b → count_by moves_location (i ∷ instrs) ≡ cond b 1 0 + count_by moves_location instrs
 count_more i instrs b e = sum_by-cons (λ (x : Instr). cond (moves_location x) 1 0) i instrs ∙ ap (λ (c : Bool). cond c 1 0 + count_by moves_location instrs) e
 
 one_start : (b : Bool) (s : State) (rows : List LocatedRow) (n more : ℕ) → more ≡ cond b 1 0 + n → 1 + n ≡ length rows → 1 + more ≡ length (row_before b s rows)

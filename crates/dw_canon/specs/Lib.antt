@@ -8,5 +8,6 @@ pub mod Group
 pub mod Spelling
 pub mod Canon
 pub mod Normal
+pub mod Bound
 pub mod Laws
 pub mod Headline

@@ -1,5 +1,6 @@
 //! Laws of normal forms, for the layers above. The functions do nothing: their contracts are proved.
 
+ghost use Rattle.dw_canon.specs.Bound.{WithinShares};
 ghost use Rattle.dw_canon.specs.Headline.{Headline};
 ghost use Rattle.dw_canon.specs.Laws.{NormalFormExists, NormalFormIsOne, MeaningIsKept, NormalAgain, SameNormalForm, InitialProgram, MemberProgram, ChangesAreOne, FewestRows, NormalRows, InitialIsShared};
 ghost use Rattle.dw_canon.specs.Renders.{Readback};
@@ -20,6 +21,11 @@ pub fn normal_laws()
     ensures fewest { FewestRows }
     ensures rows { NormalRows }
     ensures shared { InitialIsShared }
+{}
+
+/// A normal form is no longer than the lengths of its section's programs allow.
+pub fn length_law()
+    ensures { WithinShares }
 {}
 
 /// What holds of the programs of a normal form, and of changes.

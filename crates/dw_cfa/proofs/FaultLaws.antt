@@ -20,7 +20,7 @@ use Rattle.dw_cfa.specs.Column.{look_back, cfa_change}
 use Rattle.dw_cfa.specs.Kept.{is_remember, is_restore, in_cie, keeps_half, IsRegisterRule, CieKept, FdeKept}
 use Rattle.dw_cfa.specs.Laws.{initial_cfa}
 use Rattle.dw_cfa.specs.Behind.{Leaves, InitialLeaves, LeavesInitial, InitialRefused, BehindRefused}
-use Rattle.dw_cfa.specs.Faults.{RefusedWhereFault, BreaksHalf, CieBreaks, FdeBreaks, CieFault, FdeFault, RunFault}
+use Rattle.dw_cfa.specs.Faults.{RefusedWhereFault, BreaksHalf, CieBreaks, FdeBreaks, FdeFaultBehind, CieFault, FdeFault, RunFault}
 use Rattle.dw_cfa.specs.declared.running.RunError.{RunError}
 use Rattle.dw_cfa.specs.declared.running.RunError.TheVariants.{Refused, OutOfMemory}
 use Rattle.dw_cfa.specs.Stepping.{Stepping, Failed, rows_before}
@@ -141,14 +141,13 @@ module _ (f : Factors) (initial : Rules) (i : Input) (begin : ℕ) (h : AreBytes
       let all = all_in_limit i.target f (instrs_of before) front read in
       (fde_kept limit begin initial.cfa (instrs_of before) (kept_from limit begin initial before [] (begun initial begin) rows stands all gives), ended_stands limit begin initial before [] (begun initial begin) rows stands all gives)
 
-  found_at : (r : Refusal) → StopsAt limit initial (placed f i).items (begun initial begin) r → FdeFault f initial.cfa i begin r
+  pub found_at : (r : Refusal) (d : StopsAt (address_limit i.target.size) initial (placed f i).items (begun initial begin) r) → FdeFaultBehind f initial.cfa i begin (instrs_of d.before) r
   unfolding limit
   found_at r d =
       let bytes = divided f d.before d.item d.after i h d.whole in
       let kept = kept_before d.before d.rows bytes.front bytes.read d.gives in
       let end = ends initial d.before (begun initial begin) in
       let breaks = fault_breaks limit begin initial d.item.instr (onto [] (instrs_of d.before) (length (instrs_of d.before))) end.row end.stack end.location r.code kept.1 d.fault in (
-        instrs_of d.before,
         kept.0,
         inr (record {
           front = bytes.front;
@@ -163,18 +162,18 @@ module _ (f : Factors) (initial : Rules) (i : Input) (begin : ℕ) (h : AreBytes
         }),
       )
 
-  found_behind : (r : Refusal) → StopsBehind limit initial (placed f i).items (placed f i).fault (begun initial begin) r → FdeFault f initial.cfa i begin r
+  pub found_behind : (r : Refusal) → StopsBehind (address_limit i.target.size) initial (placed f i).items (placed f i).fault (begun initial begin) r → FdeFaultBehind f initial.cfa i begin (instrs_of (placed f i).items) r
   unfolding limit
   found_behind r d =
       let instrs = instrs_of (placed f i).items in
       let stuck = (fault_listed f i instrs r h).1 (fault_read f i r h d.is).1 in
-      (instrs, (kept_before (placed f i).items d.rows stuck.front stuck.read d.gives).0, inl stuck)
+      ((kept_before (placed f i).items d.rows stuck.front stuck.read d.gives).0, inl stuck)
 
   pub fde_fault_found : (r : Refusal) → (rows_behind f initial i begin).fault ≡ Some r → FdeFault f initial.cfa i begin r
   unfolding rows_behind limit
   fde_fault_found r e = elim (stops limit initial (placed f i).items (placed f i).fault (begun initial begin) r e) [
-    | inl d ↦ found_at r d
-    | inr d ↦ found_behind r d
+    | inl d ↦ (instrs_of d.before, found_at r d)
+    | inr d ↦ (instrs_of (placed f i).items, found_behind r d)
   ]
 
   runs_before : (before : List Placed) (front : List ℕ) → Program i.target f (instrs_of before) front → FdeKept limit begin initial.cfa (instrs_of before) → (rows : List LocatedRow) × Gives limit initial before (begun initial begin) rows
@@ -184,13 +183,13 @@ module _ (f : Factors) (initial : Rules) (i : Input) (begin : ℕ) (h : AreBytes
 
   pub fde_fault_only : (r : Refusal) → FdeFault f initial.cfa i begin r → (rows_behind f initial i begin).fault ≡ Some r
   unfolding rows_behind limit
-  fde_fault_only r (instrs, kept, inl stuck) =
+  fde_fault_only r (instrs, (kept, inl stuck)) =
       let listing = sym (same_listing f i) ∙ (fault_listed f i instrs r h).0 stuck in
       let are : instrs_of (placed f i).items ≡ instrs = ap (λ (l : plain.Listing). l.instrs) listing in
       let fault : (placed f i).fault ≡ Some r = ap (λ (l : plain.Listing). l.fault) listing in
       let rows = runs_before (placed f i).items stuck.front (subst (λ (l : List Instr). Program i.target f l stuck.front) (sym are) stuck.read) (subst (FdeKept limit begin initial.cfa) (sym are) kept) in
       subst (λ (o : Option Refusal). (fde_rows limit initial (placed f i).items o (begun initial begin)).fault ≡ Some r) (sym fault) (refused_behind limit initial (placed f i).items (begun initial begin) r rows.0 rows.1)
-  fde_fault_only r (instrs, kept, inr b) =
+  fde_fault_only r (instrs, (kept, inr b)) =
       let j = joined f i instrs b.instr b.front b.spelling b.rest h b.whole b.read b.next in
       let read = subst (λ (l : List Instr). Program i.target f l b.front) (sym j.are) b.read in
       let rows = runs_before j.before b.front read (subst (FdeKept limit begin initial.cfa) (sym j.are) kept) in

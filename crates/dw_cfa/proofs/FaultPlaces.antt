@@ -37,7 +37,7 @@ pub cie_within : CieFaultsWithin
 cie_within f cie r are h = fault_within cie f h.0 _ r are h.2
 
 pub fde_within : FdeFaultsWithin
-fde_within f initial fde begin r are h = fault_within fde f h.0 _ r are h.2
+fde_within f initial fde begin r are h = fault_within fde f h.0 _ r are h.1.1
 
 pub run_within : RunFaultsWithin
 run_within f cie fde begin r cie_are fde_are (inl h) = inl (cie_within f cie r cie_are h)

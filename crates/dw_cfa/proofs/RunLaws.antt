@@ -125,7 +125,7 @@ none_falls f cie fde begin rows h =
     never_falls (address_limit fde.target.size) g.initial (placed f fde).items (begun g.initial begin) rows begin (omega arith) g.gives
 
 -- the columns of the row of an address
-held : (cie fde : List Instr) (k : ℕ) (initial row : Rules) → Follows blank 0 (onto [] cie (length cie)) (begun initial 0) → Holds initial (onto [] fde k) 0 row → HoldsAfter cie fde k row
+pub held : (cie fde : List Instr) (k : ℕ) (initial row : Rules) → Follows blank 0 (onto [] cie (length cie)) (begun initial 0) → Holds initial (onto [] fde k) 0 row → HoldsAfter cie fde k row
 held cie fde k initial row from h = record {
   cfa = h.cfa ∙ ap (λ (c : CfaRule). cfa_after c fde k) from.row.cfa;
   rules = λ r. h.rules r ∙ ap (λ (x : RegRule). rule_after x fde r k) (from.row.rules r);

@@ -174,7 +174,7 @@ far_so (Err e) r rule far far' up le ok err = subst (AreSpecified 32) (sym err) 
 
 -- ---- the mask of the slots that are used
 
-shifted : (n k i : ℕ) → k ≤ i → bit_at n i ≡ bit_at (n / 2 ^ k) (i - k)
+pub shifted : (n k i : ℕ) → k ≤ i → bit_at n i ≡ bit_at (n / 2 ^ k) (i - k)
 shifted n k i le =
     let pos : 0 < 2 ^ k = pow_pos k in
     let lt : n % 2 ^ k < 2 ^ k = omega arith in
@@ -193,6 +193,17 @@ skip_many (suc n) k near expressions far d le none =
     ∙ skip_many n (suc k) near expressions far d (omega arith) (λ q low high. none q (omega arith) (omega arith))
     ∙ ap (λ (m : ℕ). listed_near m (drop m near) expressions far) same
 
+-- a bit above a place lies among the slots
+pub bit_inside : (used k n : ℕ) → used < 2 ^ 32 → bit_at (used / 2 ^ k) n ≡ 1 → k + n < 32
+bit_inside used k n fits one = elim (cases_lt (k + n) 32) [
+  | inl lt ↦ lt
+  | inr ge ↦
+      let none : bit_at used (k + n) ≡ 0 = bit_at_above used 32 (k + n) fits (omega arith) in
+      let back : k + n - k ≡ n = omega arith in
+      let e : bit_at used (k + n) ≡ bit_at (used / 2 ^ k) n = shifted used k (k + n) (omega arith) ∙ ap (bit_at (used / 2 ^ k)) back in
+      absurd (omega (arith, none, e, one))
+]
+
 module _ (used : ℕ) (near : List Slot) (covers : Covers used near) (len : length near ≡ 32) (fits : used < 2 ^ 32) where
   -- no bit is left
   pub none_used : (k : ℕ) → k < 32 → used / 2 ^ k ≡ 0 → (expressions far : List Entry) → listed_near k (drop k near) expressions far ≡ far
@@ -206,23 +217,13 @@ module _ (used : ℕ) (near : List Slot) (covers : Covers used near) (len : leng
   first_used k n lt zeros le expressions far =
       skip_many n k near expressions far no_slot (omega arith) (λ q low high. covers q no_slot (omega arith) (shifted used k q low ∙ zeros (q - k) (omega arith)))
 
-  bit_near : (k n : ℕ) → bit_at (used / 2 ^ k) n ≡ 1 → k + n < 32
-  bit_near k n one = elim (cases_lt (k + n) 32) [
-    | inl lt ↦ lt
-    | inr ge ↦
-        let none : bit_at used (k + n) ≡ 0 = bit_at_above used 32 (k + n) fits (omega arith) in
-        let back : k + n - k ≡ n = omega arith in
-        let e : bit_at used (k + n) ≡ bit_at (used / 2 ^ k) n = shifted used k (k + n) (omega arith) ∙ ap (bit_at (used / 2 ^ k)) back in
-        absurd (omega (arith, none, e, one))
-  ]
-
   -- the lowest bit that is left
   pub next_used : (k : ℕ) → k < 32 → 0 < used / 2 ^ k → used / 2 ^ k < 2 ^ 32
       → (k + trailing_zeros w32 (used / 2 ^ k) < 32)
       × ((expressions far : List Entry) → listed_near k (drop k near) expressions far ≡ listed_near (k + trailing_zeros w32 (used / 2 ^ k)) (drop (k + trailing_zeros w32 (used / 2 ^ k)) near) expressions far)
   next_used k lt some within =
       let z = bit_at-trailing_zeros w32 (used / 2 ^ k) some within in
-      let inside = bit_near k (trailing_zeros w32 (used / 2 ^ k)) z.1 in
+      let inside = bit_inside used k (trailing_zeros w32 (used / 2 ^ k)) fits z.1 in
       (inside, first_used k (trailing_zeros w32 (used / 2 ^ k)) lt z.2 (omega (arith, inside)))
 
 pub covers_set : (used : ℕ) (near : List Slot) (r p : ℕ) (s : Slot) → Covers used near → length near ≡ 32 → r < 32 → p ≡ r → Covers (bit_or used (1 * 2 ^ r % 2 ^ 32)) (set near p s)

@@ -17,13 +17,13 @@ use Rattle.dw_cfa.proofs.SameRows.{same_entries}
 eq_here : (n : ℕ) → nat_eq n n ≡ true
 eq_here n = eq-eqb n n refl
 
-less_at : (r k : ℕ) → r < k → nat_cmp r k ≡ Less
+pub less_at : (r k : ℕ) → r < k → nat_cmp r k ≡ Less
 less_at r k lt = rw (lt-ltb r k lt) refl
 
-equal_at : (r k : ℕ) → k ≡ r → nat_cmp r k ≡ Equal
+pub equal_at : (r k : ℕ) → k ≡ r → nat_cmp r k ≡ Equal
 equal_at r k same = let no : nat_lt r k ≡ false = le-ltb r k (omega arith) in let yes : nat_eq r k ≡ true = subst (λ (n : ℕ). nat_eq n k ≡ true) same (eq_here k) in rw (no, yes) refl
 
-greater_at : (r k : ℕ) → k < r → nat_cmp r k ≡ Greater
+pub greater_at : (r k : ℕ) → k < r → nat_cmp r k ≡ Greater
 greater_at r k lt = let no : nat_lt r k ≡ false = le-ltb r k (omega arith) in let other : nat_eq r k ≡ false = ne_eqb r k (λ same. omega arith) in rw (no, other) refl
 
 -- a key is the register's exactly if it is this number

@@ -55,10 +55,13 @@ FaultBehind f i instrs Breaks r = ProgramFault i.target f i.at i.bytes instrs r 
 abbrev pub CieFault : Factors → Input → Refusal → Type 0
 CieFault f cie r = (instrs : List Instr) × CieKept instrs × FaultBehind f cie instrs (CieBreaks instrs) r
 
--- the first fault of an FDE's program that begins with this rule of the CFA
+-- the first fault of an FDE's program that begins with this rule of the CFA, behind these instructions
+abbrev pub FdeFaultBehind : Factors → CfaRule → Input → ℕ → List Instr → Refusal → Type 0
+FdeFaultBehind f initial fde begin instrs r =
+    FdeKept (address_limit fde.target.size) begin initial instrs × FaultBehind f fde instrs (FdeBreaks (address_limit fde.target.size) begin initial instrs) r
+
 abbrev pub FdeFault : Factors → CfaRule → Input → ℕ → Refusal → Type 0
-FdeFault f initial fde begin r =
-    (instrs : List Instr) × FdeKept (address_limit fde.target.size) begin initial instrs × FaultBehind f fde instrs (FdeBreaks (address_limit fde.target.size) begin initial instrs) r
+FdeFault f initial fde begin r = (instrs : List Instr) × FdeFaultBehind f initial fde begin instrs r
 
 -- the first fault of both: that of the CIE's program, or where it has none, that of the FDE's behind its initial rules
 abbrev pub RunFault : Factors → Input → Input → ℕ → Refusal → Type 0

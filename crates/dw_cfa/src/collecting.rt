@@ -1,10 +1,13 @@
 //! All rows of an FDE (6.4.3).
 
-ghost use Rattle.std.specs.Prelude.{◌≡◌, ◌<◌, Some, None, IfOk, IfErr};
+ghost use Rattle.std.specs.Prelude.{◌≡◌, ◌<◌, List, IfOk, IfErr, MatchResult};
 ghost use Rattle.dw_num.specs.Target.{address_limit};
 ghost use Rattle.dw_cfa.specs.Faults.{RunFault};
-ghost use Rattle.dw_cfa.specs.Runs.{RefusalIs, run_rows};
+ghost use Rattle.dw_cfa.specs.Gives.{Gives};
+ghost use Rattle.dw_cfa.specs.Runs.{RefusalIs};
 ghost use Rattle.dw_cfa.specs.Stepping.{program_input};
+ghost use Rattle.dw_cfa.specs.declared.running.LocatedRow.{LocatedRow as TheLocatedRow};
+ghost use Rattle.dw_cfa.specs.declared.running.RunError.TheVariants.{OutOfMemory};
 
 use crate::instr::Factors;
 use crate::running::{LocatedRow, RunError};
@@ -27,7 +30,8 @@ pub fn run<'a>(
     target: Target,
 ) -> Result<Rows<'a>, RunError>
     requires { begin < address_limit target.size }
-    ensures rows { IfOk result (λ rows. run_rows factors (program_input cie_program.entry target) (program_input fde_program.entry target) begin ≡ record { rows = rows.items; fault = None }) }
+    ensures rows { IfOk result (λ rows. Gives factors (program_input cie_program.entry target) (program_input fde_program.entry target) begin rows.items) }
+    ensures only { (rows : List TheLocatedRow) → Gives factors (program_input cie_program.entry target) (program_input fde_program.entry target) begin rows → MatchResult result (λ v. v.items ≡ rows) (λ e. e ≡ OutOfMemory) }
     ensures refused { IfErr result (λ e. RefusalIs e (RunFault factors (program_input cie_program.entry target) (program_input fde_program.entry target) begin)) }
 {
     are_bytes(cie_program.bytes);

@@ -2,12 +2,15 @@
 
 ghost use Rattle.dw_cfa.specs.Matching.{RestoresMatched};
 ghost use Rattle.dw_cfa.specs.Faults.{RefusedWhereFault};
+ghost use Rattle.dw_cfa.specs.Gives.{RowsBeforeFault, RunsWhereGiven};
 ghost use Rattle.dw_cfa.specs.FaultPlaces.{CieFaultsWithin, FdeFaultsWithin, RunFaultsWithin};
 ghost use Rattle.dw_cfa.specs.Laws.{GivenPrograms, NoneFalls, LastHolds, OneHolds, RowsWhereKept};
 ghost use Rattle.dw_cfa.specs.Behind.{InitialLeaves, LeavesInitial, InitialRefused, BehindGives, GivesRows, BehindRefused};
 
 /// What holds of the rows that two programs give, and of their refusal.
 pub fn row_laws()
+    ensures given { RunsWhereGiven }
+    ensures before { RowsBeforeFault }
     ensures programs { GivenPrograms }
     ensures forwards { NoneFalls }
     ensures holds { LastHolds }

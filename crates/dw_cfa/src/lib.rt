@@ -17,6 +17,7 @@ mod running;
 mod states;
 mod steps;
 mod turn;
+mod walking;
 
 pub use collecting::{Rows, run};
 pub use following::CieMachine;
@@ -27,3 +28,4 @@ pub use row::{Row, Specified};
 pub use rule::{CfaRule, RegRule};
 pub use running::{LocatedRow, RunError};
 pub use steps::{RowSteps, initial_row};
+pub use walking::RowWalk;

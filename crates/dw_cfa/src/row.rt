@@ -1,17 +1,19 @@
 //! Rows of rules (6.4.1).
 
-ghost use Rattle.std.specs.Prelude.{◌≡◌, ◌<◌, [], ◌∷◌, IfOk, OnOk, OnErr, MatchOption, IsTrue, ◌↔◌};
+ghost use Rattle.std.specs.Prelude.{◌≡◌, ◌<◌, [], ◌∷◌, IfOk, OnOk, OnErr, MatchOption, IsTrue, ◌↔◌, bit_or};
 ghost use Rattle.std.specs.List.{filter};
 ghost use Rattle.std.specs.Iterator.{YieldsFirst, item_count};
 ghost use Rattle.dw_cfa.specs.declared.rule.RegRule.TheVariants.{Unspecified};
 ghost use Rattle.dw_cfa.specs.Rows.{AreSpecified, rule, put, rule_in, with_cfa, with_rule, blank};
-ghost use Rattle.dw_cfa.specs.Narrowing.{is_agreed, is_kept, agreed, kept};
+ghost use Rattle.dw_cfa.specs.Narrowing.{is_agreed, is_kept, agreed, kept, same_rule};
 ghost use Rattle.dw_cfa.specs.Entries.{entries_of, slot_rule, EntriesSo, IsSlotOf, FindsNear, Covers, LeavesAt, LeavesBelow};
+ghost use Rattle.dw_cfa.specs.Differing.{FirstDifference, FirstBelow, place_behind, start_behind};
 
 use crate::rule::{CfaRule, RegRule};
 use std::alloc::{AllocError, Global};
 use std::collections::{BTreeMap, btree_map};
 use std::marker::Model;
+use std::ops::Bound;
 
 // The registers below this have slots of their own.
 const NEAR: u16 = 32;
@@ -159,6 +161,84 @@ fn tree_of<'a>(
     Ok(tree)
 }
 
+// Whether two slots of a register give it the same rule.
+#[inline(always)]
+fn same_slots(
+    slot: Slot,
+    other: Slot,
+    expressions: &BTreeMap<u16, RegRule<'_>>,
+    others: &BTreeMap<u16, RegRule<'_>>,
+    register: u16,
+) -> bool
+    ensures same { IsTrue result ↔ (slot_rule slot (rule_in expressions.now.entries register) ≡ slot_rule other (rule_in others.now.entries register)) }
+    ensures test { result ≡ same_rule (slot_rule slot (rule_in expressions.now.entries register)) (slot_rule other (rule_in others.now.entries register)) }
+{
+    match (slot.kind, other.kind) {
+        (Kind::Expression, _) | (_, Kind::Expression) => {
+            rule_of(slot, expressions, register).is_same(&rule_of(other, others, register))
+        }
+        (Kind::Empty, Kind::Empty) => true,
+        (Kind::Undefined, Kind::Undefined) => true,
+        (Kind::SameValue, Kind::SameValue) => true,
+        (Kind::Offset, Kind::Offset) => slot.offset == other.offset,
+        (Kind::ValOffset, Kind::ValOffset) => slot.offset == other.offset,
+        (Kind::Register, Kind::Register) => slot.register == other.register,
+        _ => false,
+    }
+}
+
+// The least register behind another one, or the first of all.
+#[inline(always)]
+fn place_behind(behind: Option<u16>) -> u32
+    ensures { result ≡ place_behind behind }
+{
+    match behind {
+        Some(register) => u32::from(register) + 1,
+        None => 0,
+    }
+}
+
+// The start of the part of a tree behind a register, or of all of it.
+fn start_behind(behind: Option<u16>) -> Bound<u16>
+    ensures { result ≡ start_behind behind }
+{
+    match behind {
+        Some(register) => Bound::Excluded(register),
+        None => Bound::Unbounded,
+    }
+}
+
+// The first register whose rule differs between two parts of trees.
+fn first_difference(
+    rules: btree_map::Range<'_, u16, RegRule<'_>>,
+    others: btree_map::Range<'_, u16, RegRule<'_>>,
+) -> Option<u16>
+    requires rules { AreSpecified 0 rules }
+    requires others { AreSpecified 0 others }
+    ensures { FirstDifference 0 rules.entry others.entry result }
+{
+    let mut rules = rules;
+    let mut others = others;
+    'rules: while let Some((register, rule)) = rules.next() {
+        let Some((other_register, other)) = others.next() else {
+            return Some(*register);
+        };
+        if *register < *other_register {
+            return Some(*register);
+        }
+        if *other_register < *register {
+            return Some(*other_register);
+        }
+        if !rule.is_same(other) {
+            return Some(*register);
+        }
+    }
+    let Some((register, _)) = others.next() else {
+        return None;
+    };
+    Some(*register)
+}
+
 // Whether both give the same entries.
 fn give_same(entries: Specified<'_, '_>, others: Specified<'_, '_>) -> bool
     ensures { IsTrue result ↔ (entries.entry ≡ others.entry) }
@@ -240,6 +320,65 @@ impl<'a> Entries<'a> {
         give_same(self.all(), others.all())
     }
 
+    // The first register from a place on that has a slot, used in one of both, and whose rule differs.
+    fn next_near_difference(&self, others: &Entries<'_>, used: u32, from: u32) -> Option<u16>
+        requires so { EntriesSo self.now }
+        requires others { EntriesSo others.now }
+        requires used { used ≡ bit_or self.now.used others.now.used }
+        ensures { FirstBelow 32 from (entries_of self.now) (entries_of others.now) result }
+    {
+        let mut place = from;
+        'slots: while place < 32 {
+            let left = used >> place;
+            if left == 0 {
+                return None;
+            }
+            place += left.trailing_zeros();
+            let register = place as u16;
+            let at = usize::from(register);
+            if !same_slots(
+                self.near[at],
+                others.near[at],
+                &self.expressions,
+                &others.expressions,
+                register,
+            ) {
+                return Some(register);
+            }
+            place += 1;
+        }
+        None
+    }
+
+    // The first register behind another one, or from the first one on, that has no slot and whose rule differs.
+    fn next_far_difference(&self, others: &Entries<'_>, behind: Option<u16>) -> Option<u16>
+        requires so { EntriesSo self.now }
+        requires others { EntriesSo others.now }
+        ensures { FirstDifference (place_behind behind) self.now.far.entries others.now.far.entries result }
+    {
+        if self.far.is_empty() && others.far.is_empty() {
+            return None;
+        }
+        let start = start_behind(behind);
+        first_difference(
+            self.far.range((start, Bound::Unbounded)),
+            others.far.range((start, Bound::Unbounded)),
+        )
+    }
+
+    // The first register behind another one, or from the first one on, whose rule differs.
+    fn next_difference(&self, others: &Entries<'_>, behind: Option<u16>) -> Option<u16>
+        requires so { EntriesSo self.now }
+        requires others { EntriesSo others.now }
+        ensures { FirstDifference (place_behind behind) (entries_of self.now) (entries_of others.now) result }
+    {
+        let used = self.used | others.used;
+        if let Some(register) = self.next_near_difference(others, used, place_behind(behind)) {
+            return Some(register);
+        }
+        self.next_far_difference(others, behind)
+    }
+
     fn copied(&self, alloc: Global) -> Result<Entries<'a>, AllocError>
         requires { EntriesSo self.now }
         ensures { IfOk result (λ copy. (entries_of copy ≡ entries_of self.now) × EntriesSo copy) }
@@ -277,13 +416,13 @@ impl<'a> Entries<'a> {
         ensures so { EntriesSo self.new }
     {
         if self.is_narrow() && others.is_narrow() {
-            self.near = others.near;
+            self.near.copy_from_slice(&others.near);
             self.used = others.used;
             return Ok(());
         }
         self.expressions = tree_of(others.all_expressions(), alloc)?;
         self.far = tree_of(others.all_far(), alloc)?;
-        self.near = others.near;
+        self.near.copy_from_slice(&others.near);
         self.used = others.used;
         Ok(())
     }
@@ -533,6 +672,16 @@ impl<'a> Row<'a> {
         ensures { IsTrue result ↔ (self.now ≡ other.now) }
     {
         self.cfa.is_same(&other.cfa) && self.entries.is_same(&other.entries)
+    }
+
+    /// The least register to which another row gives another rule, of those behind a given one where there is such;
+    /// or none. Takes no memory.
+    pub fn next_difference(&self, other: &Row<'_>, behind: Option<u16>) -> Option<u16>
+        ensures first { FirstDifference (place_behind behind) self.now.registers other.now.registers result }
+        ensures ascending { AreSpecified 0 self.now.registers }
+        ensures other_ascending { AreSpecified 0 other.now.registers }
+    {
+        self.entries.next_difference(&other.entries, behind)
     }
 
     /// The registers that are not Unspecified, ascending, with their rules. Takes no memory.

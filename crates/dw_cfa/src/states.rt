@@ -131,6 +131,15 @@ impl<'a> States<'a> {
         self.tracked = false;
     }
 
+    /// Remembers no row, and says whether changes are tracked from the current one on.
+    pub(crate) fn track(&mut self, tracked: bool)
+        ensures { self.new ≡ record { row = self.old.row; stack = []; first = first_if tracked self.old.row [] } }
+    {
+        self.undo.clear();
+        self.depth = 0;
+        self.tracked = tracked;
+    }
+
     /// How many rows are remembered.
     pub(crate) fn depth(&self) -> usize
         ensures { result ≡ length self.now.stack }

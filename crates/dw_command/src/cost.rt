@@ -13,7 +13,7 @@ use std::io::Write;
 const CAP: u64 = 2_147_483_647;
 
 // How many changes are still to come.
-fn count_changes(mut changes: Changes<'_>) -> Result<u64, AllocError> {
+fn count_changes(changes: &mut Changes<'_>) -> Result<u64, AllocError> {
     let mut count = 0u64;
     'changes: while let Some(_) = changes.advance()? {
         count = count.saturating_add(1);
@@ -24,9 +24,10 @@ fn count_changes(mut changes: Changes<'_>) -> Result<u64, AllocError> {
 // How many changes all FDEs have.
 fn count_all(table: &Table<'_>) -> Result<u64, AllocError> {
     let mut count = 0u64;
+    let mut changes = table.no_changes();
     for place in 0..table.fde_count() {
-        let changes = table.changes(FdeRef { place });
-        count = count.saturating_add(count_changes(changes)?);
+        table.go_to(&mut changes, FdeRef { place });
+        count = count.saturating_add(count_changes(&mut changes)?);
     }
     Ok(count)
 }

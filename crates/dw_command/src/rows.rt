@@ -13,7 +13,7 @@ use std::io::Write;
 fn print_changes<W: Write>(
     out: &mut W,
     line: &mut Line,
-    mut changes: Changes<'_>,
+    changes: &mut Changes<'_>,
 ) -> Result<(), Failure<'static>> {
     'changes: while let Some(address) = changes.advance()? {
         if let Some(row) = changes.row() {
@@ -32,13 +32,15 @@ fn print_table<W: Write>(
     table: &Table<'_>,
 ) -> Result<(), Failure<'static>> {
     let mut line = Line::new(alloc);
+    let mut changes = table.no_changes();
     for place in 0..table.fde_count() {
         let fde = FdeRef { place };
         put_fde(&mut line, &table.fde(fde))?;
         if line.print(out).is_err() {
             return Err(Failure::CannotWrite);
         }
-        print_changes(out, &mut line, table.changes(fde))?;
+        table.go_to(&mut changes, fde);
+        print_changes(out, &mut line, &mut changes)?;
     }
     if out.flush().is_err() {
         return Err(Failure::CannotWrite);

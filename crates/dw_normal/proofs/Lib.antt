@@ -1,9 +1,10 @@
-mod Merging
+mod Remaining
 mod Appended
 mod Lengths
 mod Passes
 mod Measured
 mod Summed
+mod Short
 mod Taken
 mod Coming
 mod Grouped

@@ -1,21 +1,23 @@
 -- What is so of an FDE of a table, and of the initial row of its group.
-use Rattle.std.proofs.Common.{◌≡◌, ℕ, zero, suc, ◌<◌, ◌≤◌, List, [], ◌∷◌, length, map, get_or, Some, refl, sym, ap, ◌∙◌, subst, inl, inr, arith}
+use Rattle.std.proofs.Common.{◌≡◌, ℕ, zero, suc, ◌<◌, ◌≤◌, List, [], ◌∷◌, length, map, get_or, Option, Some, refl, sym, ap, ◌∙◌, subst, inl, inr, arith}
 use Rattle.std.specs.Prelude.{nat_eq}
 use Rattle.std.specs.List.{AllByRecursion}
 use Rattle.std.proofs.lemmas.Bool.{cases_Bool, eq-eqb}
+use Rattle.std.proofs.lemmas.List.{length-map}
 use Rattle.dw_num.specs.Input.{AreBytes}
 use Rattle.dw_num.specs.Target.{address_limit}
 use Rattle.dw_num.specs.declared.target.Target.{Target}
 use Rattle.dw_cfa.specs.Rows.{Rules}
 use Rattle.dw_section.specs.Accepted.{Accepted}
 use Rattle.dw_section.specs.declared.lookup.Fde.{Fde}
+use Rattle.dw_section.specs.Meaning.{AreFdes}
 use Rattle.dw_section.specs.Sound.{RowFits}
 use Rattle.dw_section.proofs.Judged.{all_get}
 use Rattle.dw_canon.specs.Canon.{cie_instrs, initial_of, return_registers}
 use Rattle.dw_canon.specs.Difference.{difference}
 use Rattle.dw_canon.specs.Fits.{ChangesStand, MemberStands, InstrFits}
 use Rattle.dw_canon.specs.Group.{group}
-use Rattle.dw_canon.specs.Members.{Member, AreMembers}
+use Rattle.dw_canon.specs.Members.{Member, fde_of, AreMembers}
 use Rattle.dw_canon.proofs.Fitting.{difference_fits, cie_fits}
 use Rattle.dw_canon.proofs.Rendered.{fits, stand}
 use Rattle.dw_canon.proofs.Standing.{group_fits}
@@ -36,6 +38,12 @@ own_group row r (m ∷ ms) (suc k) d lt own = elim (cases_Bool (nat_eq m.registe
 ]
 
 -- ---- an FDE by its place
+
+pub below : (t : Target) (s : List ℕ) (place : ℕ) (ms : List Member) → AreMembers t s ms → ((fs : List Fde) → AreFdes t s fs → place < length fs) → place < length ms
+below t s place ms are is = subst (λ (n : ℕ). place < n) (length-map ms fde_of) (is (map fde_of ms) are.fdes)
+
+pub same_row : (o : Option Rules) (x y : Rules) → o ≡ Some x → o ≡ Some y → x ≡ y
+same_row o x y e f = let both : Some x ≡ Some y = sym e ∙ f in cc
 
 module _ (t : Target) (s : List ℕ) (b : AreBytes s) (ok : Accepted t s) (ms : List Member) (are : AreMembers t s ms) where
   -- the CIE's program of each initial row can be spelled

@@ -1,5 +1,5 @@
 -- From what is known of a section's members to what the calls over normal forms answer.
-use Rattle.std.proofs.Common.{◌≡◌, ◌⊎◌, ◌↔◌, ℕ, ◌<◌, ◌≤◌, Bool, true, List, [], ◌++◌, length, take, Option, Some, None, Result, Ok, Err, refl, sym, ap, ◌∙◌, subst, inl, inr, arith}
+use Rattle.std.proofs.Common.{◌≡◌, ◌⊎◌, ℕ, ◌≤◌, Bool, List, [], length, take, Option, Some, None, Result, Ok, Err, refl, sym, ap, ◌∙◌, subst, inl, inr, arith}
 use Rattle.std.specs.Bool.{Decides}
 use Rattle.dw_num.specs.Input.{AreBytes}
 use Rattle.dw_num.specs.declared.refusal.Refusal.{Refusal}
@@ -12,7 +12,7 @@ use Rattle.dw_canon.specs.Canon.{canon}
 use Rattle.dw_canon.specs.Members.{Member, AreMembers}
 use Rattle.dw_canon.specs.Normal.{IsNormalForm}
 use Rattle.dw_canon.proofs.Canonical.{members_exist, normal_form_is_one, same_exactly}
-use Rattle.dw_normal.specs.Answers.{IsPrepared, IsTooLong, IsWithin, NormalFault, RefusesNormal, SameFault, LengthFault, Took, WentOut, Writes, blamed, unread, unwritten, too_long}
+use Rattle.dw_normal.specs.Answers.{IsShort, IsMeasured, IsTooLong, IsWithin, NormalFault, RefusesNormal, SameFault, LengthFault, Took, WentOut, Writes, blamed, unread, unwritten, too_long}
 use Rattle.dw_normal.specs.Puts.{Puts, put_is}
 use Rattle.dw_normal.specs.declared.entry.PutError.{PutError}
 use Rattle.dw_normal.specs.declared.entry.PutError.TheVariants as put_error
@@ -42,36 +42,25 @@ is_too_long t s cap last b ok e measured =
     let long = subst (AreMeasured t s cap) e measured in
     (canon t found.0, record { accepted = ok; members = found.0; are = found.1; whole = refl }, long found.0 found.1)
 
-pub is_prepared : (t : Target) (s : List ℕ) (cap len : ℕ) (some : Option ℕ) (rows : List (ℕ × Rules)) → AreBytes s → Accepted t s → ((ms : List Member) → AreMembers t s ms → rows ≡ initial_rows ms)
-    → some ≡ Some len → ((ms : List Member) → AreMembers t s ms → Measures cap (length (canon t ms)) some) → IsPrepared t cap s rows len
-is_prepared t s cap len some rows b ok are e measured =
-    let found = members_exist t s b ok in
+pub is_measured : (t : Target) (s : List ℕ) (cap len : ℕ) (some : Option ℕ) (rows : List (ℕ × Rules)) → AreBytes s → Accepted t s → ((ms : List Member) → AreMembers t s ms → rows ≡ initial_rows ms)
+    → some ≡ Some len → ((ms : List Member) → AreMembers t s ms → Measures cap (length (canon t ms)) some) → IsMeasured t cap s rows len
+is_measured t s cap len some rows b ok are e measured =
     let long = subst (AreMeasured t s cap) e measured in
-    record { bytes = b; accepted = ok; rows_are = are; len_is = λ ms h. (long ms h).0; within = (long found.0 found.1).1 }
+    let within : (ms : List Member) → AreMembers t s ms → length (canon t ms) ≤ cap = λ ms h. omega (arith, (long ms h).0, (long ms h).1) in
+    record { prepared = record { short = record { bytes = b; accepted = ok; within = within }; rows_are = are }; len_is = λ ms h. (long ms h).0 }
 
--- the normal form of a section that is ready
-pub record Whole (t : Target) (cap : ℕ) (s : List ℕ) (len : ℕ) : Type 0 where
+-- the normal form of a section that is short
+pub record Whole (t : Target) (cap : ℕ) (s : List ℕ) : Type 0 where
   pub members : List Member
   pub are : AreMembers t s members
   pub is : IsNormalForm t s (canon t members)
-  pub long : len ≡ length (canon t members)
   pub within : length (canon t members) ≤ cap
 
-module _ (t : Target) (cap : ℕ) (s : List ℕ) (rows : List (ℕ × Rules)) (len : ℕ) (h : IsPrepared t cap s rows len) where
-  pub whole_of : Whole t cap s len
+module _ (t : Target) (cap : ℕ) (s : List ℕ) (h : IsShort t cap s) where
+  pub whole_of : Whole t cap s
   whole_of =
       let found = members_exist t s h.bytes h.accepted in
-      let long = h.len_is found.0 found.1 in
-      record {
-        members = found.0;
-        are = found.1;
-        is = record { accepted = h.accepted; members = found.0; are = found.1; whole = refl };
-        long = long;
-        within = subst (λ (n : ℕ). n ≤ cap) long h.within;
-      }
-
-  pub is_small : (ms : List Member) → AreMembers t s ms → cap ≤ 2147483647 → length (canon t ms) ≤ 2147483647
-  is_small ms are small = let long = h.len_is ms are in let within = h.within in omega (arith, long, within)
+      record { members = found.0; are = found.1; is = record { accepted = h.accepted; members = found.0; are = found.1; whole = refl }; within = h.within found.0 found.1 }
 
   pub is_within : IsWithin t cap s
   is_within = let w = whole_of in (canon t w.members, w.is, w.within)
@@ -99,9 +88,9 @@ module _ (t : Target) (s n : List ℕ) (cap : ℕ) (b : AreBytes s) (is : IsNorm
   only_long normal_error.OutOfMemory fault = inr refl
   only_long (normal_error.Refused r) fault = inl (ap normal_error.Refused (only_too_long t s n cap r b is fault))
 
-pub length_found : (t : Target) (cap : ℕ) (s : List ℕ) (rows : List (ℕ × Rules)) (len : ℕ) → IsPrepared t cap s rows len
+pub length_found : (t : Target) (cap : ℕ) (s : List ℕ) (rows : List (ℕ × Rules)) (len : ℕ) → IsMeasured t cap s rows len
     → (n : List ℕ) × IsNormalForm t s n × (length n ≤ cap) × (len ≡ length n)
-length_found t cap s rows len h = let w = whole_of t cap s rows len h in (canon t w.members, w.is, w.within, w.long)
+length_found t cap s rows len h = let w = whole_of t cap s h.prepared.short in (canon t w.members, w.is, w.within, h.len_is w.members w.are)
 
 -- ---- what went out
 
@@ -113,11 +102,11 @@ none_written t cap s e result failed old fault is = subst (λ (x : WriteError). 
     by_error normal_error.OutOfMemory h = (refl, inl (refl, refl))
     by_error (normal_error.Refused r) h = (refl, h, refl)
 
-module _ (t : Target) (cap : ℕ) (s : List ℕ) (rows : List (ℕ × Rules)) (len : ℕ) (h : IsPrepared t cap s rows len) (failed failed' : ℕ) (old new : Option (List ℕ)) where
-  went_out : (w : Whole t cap s len) (written : ℕ) → written ≤ length (canon t w.members) → Took old (take written (canon t w.members)) new → WentOut t cap s written old new
+module _ (t : Target) (cap : ℕ) (s : List ℕ) (h : IsShort t cap s) (failed failed' : ℕ) (old new : Option (List ℕ)) where
+  went_out : (w : Whole t cap s) (written : ℕ) → written ≤ length (canon t w.members) → Took old (take written (canon t w.members)) new → WentOut t cap s written old new
   went_out w written le took = record { normal = canon t w.members; is = w.is; within = w.within; front = le; took = took }
 
-  all_written : (w : Whole t cap s len) (put : Result ℕ PutError) → Puts (canon t w.members) put failed failed' old new → Writes t cap s (put_is put) failed failed' old new
+  all_written : (w : Whole t cap s) (put : Result ℕ PutError) → Puts (canon t w.members) put failed failed' old new → Writes t cap s (put_is put) failed failed' old new
   all_written w (Ok count) p = (p.0, (canon t w.members, w.is, w.within, p.1, p.2))
   all_written w (Err (put_error.Write written)) p = (p.0, went_out w written p.1 p.2)
   all_written w (Err (put_error.Memory written)) p = (p.0, inr (went_out w written p.1 p.2))
@@ -125,7 +114,7 @@ module _ (t : Target) (cap : ℕ) (s : List ℕ) (rows : List (ℕ × Rules)) (l
   pub entries_written : (table : Section) → table ≡ record { target = t; bytes = s } → (put : Result ℕ PutError) (result : Result ℕ WriteError) → result ≡ put_is put
       → ((ms : List Member) → AreMembers table.target table.bytes ms → Puts (canon table.target ms) put failed failed' old new) → Writes t cap s result failed failed' old new
   entries_written table e put result is puts =
-      let w = whole_of t cap s rows len h in
+      let w = whole_of t cap s h in
       let here = subst (λ (x : Section). (ms : List Member) → AreMembers x.target x.bytes ms → Puts (canon x.target ms) put failed failed' old new) e puts in
       subst (λ (x : Result ℕ WriteError). Writes t cap s x failed failed' old new) (sym is) (all_written w put (here w.members w.are))
 
@@ -155,11 +144,11 @@ tape_fault t cap s failed failed' old new e result w is = subst (RefusesNormal (
 
 -- ---- two sections
 
-module _ (t : Target) (a b : List ℕ) (rows rows' : List (ℕ × Rules)) (len len' : ℕ) (one : IsPrepared t 2147483647 a rows len) (other : IsPrepared t 2147483647 b rows' len') where
+module _ (t : Target) (a b : List ℕ) (one : IsShort t 2147483647 a) (other : IsShort t 2147483647 b) where
   pub decides_meaning : (is : Bool) → ((ms ns : List Member) → AreMembers t a ms → AreMembers t b ns → Decides is (ms ≡ ns)) → Decides is (SameMeaning t a b)
   decides_meaning is h =
-      let w = whole_of t 2147483647 a rows len one in
-      let v = whole_of t 2147483647 b rows' len' other in
+      let w = whole_of t 2147483647 a one in
+      let v = whole_of t 2147483647 b other in
       let exactly = same_exactly t a b w.members v.members one.bytes other.bytes one.accepted other.accepted w.are v.are w.within v.within in
       let told = h w.members v.members w.are v.are in
       (λ yes. exactly.0 (told.0 yes), λ same. told.1 (exactly.1 same))
@@ -211,20 +200,20 @@ compared_only t a b one two e f ba bb result fault left right =
     by_result (Ok is) h = tt
     by_result (Err x) h = by_error x h
 
-pub second_too_long : (first second : Section) (rows : List (ℕ × Rules)) (len : ℕ) (e : NormalError) (result : SameError) → first.target ≡ second.target
-    → IsPrepared first.target 2147483647 first.bytes rows len → RefusesNormal (λ r. IsTooLong second.target 2147483647 second.bytes × (r ≡ too_long)) e → result ≡ blamed Second e
+pub second_too_long : (first second : Section) (e : NormalError) (result : SameError) → first.target ≡ second.target
+    → IsShort first.target 2147483647 first.bytes → RefusesNormal (λ r. IsTooLong second.target 2147483647 second.bytes × (r ≡ too_long)) e → result ≡ blamed Second e
     → LengthFault first.target 2147483647 first.bytes second.bytes result
-second_too_long first second rows len e result same one fault is = subst (LengthFault first.target 2147483647 first.bytes second.bytes) (sym is) (by_error e fault)
+second_too_long first second e result same one fault is = subst (LengthFault first.target 2147483647 first.bytes second.bytes) (sym is) (by_error e fault)
   where
     by_error : (x : NormalError) → RefusesNormal (λ r. IsTooLong second.target 2147483647 second.bytes × (r ≡ too_long)) x → LengthFault first.target 2147483647 first.bytes second.bytes (blamed Second x)
     by_error normal_error.OutOfMemory h = tt
-    by_error (normal_error.Refused r) h = (is_within first.target 2147483647 first.bytes rows len one, subst (λ (u : Target). IsTooLong u 2147483647 second.bytes) (sym same) h.0, h.1)
+    by_error (normal_error.Refused r) h = (is_within first.target 2147483647 first.bytes one, subst (λ (u : Target). IsTooLong u 2147483647 second.bytes) (sym same) h.0, h.1)
 
-pub tables_decided : (first second one two : Section) (rows rows' : List (ℕ × Rules)) (len len' : ℕ) → first.target ≡ second.target → one ≡ first → two ≡ second
-    → IsPrepared first.target 2147483647 first.bytes rows len → IsPrepared second.target 2147483647 second.bytes rows' len' → (is : Bool)
+pub tables_decided : (first second one two : Section) → first.target ≡ second.target → one ≡ first → two ≡ second
+    → IsShort first.target 2147483647 first.bytes → IsShort second.target 2147483647 second.bytes → (is : Bool)
     → ((ms ns : List Member) → AreMembers one.target one.bytes ms → AreMembers two.target two.bytes ns → Decides is (ms ≡ ns))
     → Decides is (SameMeaning first.target first.bytes second.bytes)
-tables_decided first second one two rows rows' len len' same e f h k is told =
-    decides_meaning first.target first.bytes second.bytes rows rows' len len' h (subst (λ (u : Target). IsPrepared u 2147483647 second.bytes rows' len') (sym same) k) is
+tables_decided first second one two same e f h k is told =
+    decides_meaning first.target first.bytes second.bytes h (subst (λ (u : Target). IsShort u 2147483647 second.bytes) (sym same) k) is
     (λ ms ns are here. told ms ns (subst (λ (x : Section). AreMembers x.target x.bytes ms) (sym e) are)
     (subst (λ (x : Section). AreMembers x.target x.bytes ns) (sym f) (subst (λ (u : Target). AreMembers u second.bytes ns) same here)))

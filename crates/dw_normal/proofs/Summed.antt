@@ -11,6 +11,11 @@ use Rattle.dw_canon.proofs.Extra.{section_append}
 use Rattle.dw_normal.specs.Grouping.{initial_rows}
 use Rattle.dw_normal.specs.Measuring.{MemberLeaves, Measures, cie_with, cies_bytes, fdes_bytes}
 
+-- none of none
+pub none_of : {X : Type 0} (xs : List X) → length xs ≡ 0 → xs ≡ []
+none_of [] e = refl
+none_of (x ∷ xs) e = absurd (omega (arith, e))
+
 cies_same : (t : Target) (ms : List Member) (rs : List ℕ) → map cie_of (map (group_of t ms) rs) ≡ map (cie_with t) (map {B = ℕ × Rules} (λ (r : ℕ). (r, initial_of ms r)) rs)
 cies_same t ms [] = refl
 cies_same t ms (r ∷ rs) = ap (λ (l : List Written). cie_with t (r, initial_of ms r) ∷ l) (cies_same t ms rs)
@@ -30,6 +35,10 @@ module _ (t : Target) (all : List Member) where
   pub fdes_append : (xs ys : List Member) → fdes_bytes t all (xs ++ ys) ≡ fdes_bytes t all xs ++ fdes_bytes t all ys
   fdes_append [] ys = refl
   fdes_append (x ∷ xs) ys = ap (λ (l : List ℕ). bytes_of x ++ l) (fdes_append xs ys) ∙ sym (append_assoc (bytes_of x) (fdes_bytes t all xs) (fdes_bytes t all ys))
+
+  -- without an FDE
+  pub none_bytes : (ms : List Member) → length ms ≡ 0 → fdes_bytes t all ms ≡ []
+  none_bytes ms e = ap (fdes_bytes t all) (none_of ms e)
 
   one_more : (k : ℕ) (ms : List Member) (d : Member) → k < length ms → length (fdes_bytes t all (take (k + 1) ms)) ≡ length (fdes_bytes t all (take k ms)) + length (bytes_of (get_or ms k d))
   one_more k ms d lt =

@@ -38,13 +38,21 @@ abbrev pub RefusesNormal : (Refusal → Type 0) → NormalError → Type 0
 RefusesNormal Fault normal_error.OutOfMemory = Unit {0}
 RefusesNormal Fault (normal_error.Refused r) = Fault r
 
--- an accepted section with its initial rows and the length of its normal form, which is within the cap
-pub record IsPrepared (target : Target) (cap : ℕ) (s : List ℕ) (rows : List (ℕ × Rules)) (len : ℕ) : Type 0 where
+-- an accepted section whose normal form is within the cap
+pub record IsShort (target : Target) (cap : ℕ) (s : List ℕ) : Type 0 where
   pub bytes : AreBytes s
   pub accepted : Accepted target s
+  pub within : (ms : List Member) → AreMembers target s ms → length (canon target ms) ≤ cap
+
+-- with its initial rows
+pub record IsPrepared (target : Target) (cap : ℕ) (s : List ℕ) (rows : List (ℕ × Rules)) : Type 0 where
+  pub short : IsShort target cap s
   pub rows_are : (ms : List Member) → AreMembers target s ms → rows ≡ initial_rows ms
+
+-- and with the length of its normal form
+pub record IsMeasured (target : Target) (cap : ℕ) (s : List ℕ) (rows : List (ℕ × Rules)) (len : ℕ) : Type 0 where
+  pub prepared : IsPrepared target cap s rows
   pub len_is : (ms : List Member) → AreMembers target s ms → len ≡ length (canon target ms)
-  pub within : len ≤ cap
 
 -- ---- two sections
 

@@ -1,19 +1,21 @@
 //! An FDE behind its begin: what the walks over its later changes start from.
 
-ghost use Rattle.std.specs.Prelude.{◌≡◌, ◌<◌, List, length, slice_index_or, IfOk};
+ghost use Rattle.std.specs.Prelude.{◌≡◌, ◌<◌, List, length, slice_index_or, OnOk};
 ghost use Rattle.dw_section.specs.declared.lookup.Fde.{Fde as TheFde};
 ghost use Rattle.dw_section.specs.Meaning.{AreFdes};
+ghost use Rattle.dw_canon.specs.Canon.{initial_of};
 ghost use Rattle.dw_canon.specs.Members.{Member, AreMembers};
 ghost use Rattle.dw_normal.specs.Beginning.{Begins, IsReady};
 ghost use Rattle.dw_normal.specs.Grouping.{initial_rows};
 
-use crate::groups::behind_first;
+use crate::groups::go_behind_first;
 use dw_cfa::Row;
 use dw_section::{Changes, Fde, FdeRef, Table};
-use std::alloc::AllocError;
+use std::alloc::{AllocError, Global};
 use std::collections::BTreeMap;
 
-/// An FDE, the initial row of its group, its row at its begin, and the changes that come behind it.
+/// An FDE, the initial row of its group, its row at its begin, and the changes that come behind it. One is lent to a walk
+/// over all FDEs, so that no row is moved.
 #[derive(Drop)]
 pub(crate) struct Begun<'r, 'a> {
     pub(crate) fde: Fde,
@@ -22,31 +24,60 @@ pub(crate) struct Begun<'r, 'a> {
     pub(crate) changes: Changes<'a>,
 }
 
-/// Begins an FDE of a table, where these are the initial rows of its groups.
-pub(crate) fn begin_fde<'r, 'a>(
+// The initial row of the group of an FDE.
+fn shared_row<'r, 'a>(
     rows: &'r BTreeMap<u16, Row<'a>>,
     table: &Table<'a>,
     fde: FdeRef,
-) -> Result<Begun<'r, 'a>, AllocError>
+) -> &'r Row<'a>
     requires place { (fs : List TheFde) → AreFdes table.now.target table.now.bytes fs → fde.place < length fs }
     requires rows { (ms : List Member) → AreMembers table.now.target table.now.bytes ms → rows.now.entries ≡ initial_rows ms }
-    // It can be spelled.
-    ensures ready { IfOk result (IsReady table.now.target) }
-    // It is the table's FDE at this place.
-    ensures is { (ms : List Member) → AreMembers table.now.target table.now.bytes ms → (d : Member) → IfOk result (Begins ms (slice_index_or ms fde.place d)) }
+    ensures { (ms : List Member) → AreMembers table.now.target table.now.bytes ms → (d : Member) → result.now ≡ initial_of ms (slice_index_or ms fde.place d).register }
 {
     table.accepted();
     let listed = table.fde(fde);
-    let mut changes = behind_first(table, fde)?;
-    let Some(shown) = changes.row() else {
+    &rows[&listed.return_register]
+}
+
+/// Room for the FDEs of a table, which has some, where these are the initial rows of its groups.
+pub(crate) fn room_for<'r, 'a>(
+    alloc: Global,
+    rows: &'r BTreeMap<u16, Row<'a>>,
+    table: &Table<'a>,
+) -> Begun<'r, 'a>
+    requires place { (fs : List TheFde) → AreFdes table.now.target table.now.bytes fs → 0 < length fs }
+    requires rows { (ms : List Member) → AreMembers table.now.target table.now.bytes ms → rows.now.entries ≡ initial_rows ms }
+{
+    let fde = FdeRef { place: 0 };
+    Begun {
+        fde: table.fde(fde),
+        shared: shared_row(rows, table, fde),
+        first: Row::blank(alloc),
+        changes: table.changes(fde),
+    }
+}
+
+/// Begins an FDE of a table, where these are the initial rows of its groups.
+pub(crate) fn begin_fde<'r, 'a>(
+    begun: &mut Begun<'r, 'a>,
+    rows: &'r BTreeMap<u16, Row<'a>>,
+    table: &Table<'a>,
+    fde: FdeRef,
+) -> Result<(), AllocError>
+    requires place { (fs : List TheFde) → AreFdes table.now.target table.now.bytes fs → fde.place < length fs }
+    requires rows { (ms : List Member) → AreMembers table.now.target table.now.bytes ms → rows.now.entries ≡ initial_rows ms }
+    // It can be spelled.
+    ensures ready { OnOk result (IsReady table.now.target begun.new) }
+    // It is the table's FDE at this place.
+    ensures is { (ms : List Member) → AreMembers table.now.target table.now.bytes ms → (d : Member) → OnOk result (Begins ms (slice_index_or ms fde.place d) begun.new) }
+{
+    table.accepted();
+    go_behind_first(&mut begun.changes, table, fde)?;
+    let Some(shown) = begun.changes.row() else {
         unreachable!();
     };
-    let first = shown.copied()?;
-    let shared = &rows[&listed.return_register];
-    Ok(Begun {
-        fde: listed,
-        shared,
-        first,
-        changes,
-    })
+    begun.first.become_copy(shown)?;
+    begun.fde = table.fde(fde);
+    begun.shared = shared_row(rows, table, fde);
+    Ok(())
 }

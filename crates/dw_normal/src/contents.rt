@@ -86,22 +86,17 @@ fn push_fde_fields(
 pub(crate) fn fill_fde(
     out: &mut Vec<u8>,
     cie_at: u64,
-    begun: Begun<'_, '_>,
+    begun: &mut Begun<'_, '_>,
     target: Target,
 ) -> Result<(), AllocError>
-    requires ready { IsReady target begun }
+    requires ready { IsReady target begun.old }
     requires cie_at { cie_at < 2 ^ 32 }
-    requires begin { begun.fde.begin < address_limit target.size }
-    requires rises { begun.fde.begin ≤ begun.fde.end }
-    requires range { begun.fde.end < begun.fde.begin + address_limit target.size }
-    ensures { (ms : List Member) (m : Member) → Begins ms m begun.entry → OnOk result (out.new.items ≡ contents target (fde cie_at m.begin (m.end - m.begin) (fde_instrs (initial_of ms m.register) m) (program_bytes target (fde_instrs (initial_of ms m.register) m)))) }
+    requires begin { begun.old.fde.begin < address_limit target.size }
+    requires rises { begun.old.fde.begin ≤ begun.old.fde.end }
+    requires range { begun.old.fde.end < begun.old.fde.begin + address_limit target.size }
+    ensures { (ms : List Member) (m : Member) → Begins ms m begun.old → OnOk result (out.new.items ≡ contents target (fde cie_at m.begin (m.end - m.begin) (fde_instrs (initial_of ms m.register) m) (program_bytes target (fde_instrs (initial_of ms m.register) m)))) }
 {
-    let Begun {
-        fde: listed,
-        shared,
-        first,
-        mut changes,
-    } = begun;
+    let (listed, shared) = (begun.fde, begun.shared);
     let begin = u128::from(listed.begin);
     out.clear();
     push_fde_fields(
@@ -111,7 +106,14 @@ pub(crate) fn fill_fde(
         (listed.end - begin) as u64,
         target,
     )?;
-    push_difference(out, shared, shared, &first, target)?;
-    push_later(out, &mut changes, shared, begin, first, target)?;
+    push_difference(out, shared, shared, &begun.first, target)?;
+    push_later(
+        out,
+        &mut begun.changes,
+        shared,
+        begin,
+        &mut begun.first,
+        target,
+    )?;
     push_nops(out, target.size)
 }

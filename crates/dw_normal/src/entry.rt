@@ -16,7 +16,7 @@ ghost use Rattle.dw_normal.specs.Measuring.{cie_with, cies_bytes, fdes_bytes};
 ghost use Rattle.dw_normal.specs.Places.{place_in, cie_place, RowsRise, fde_with};
 ghost use Rattle.dw_normal.specs.Puts.{Puts, taken_by, after};
 
-use crate::begun::begin_fde;
+use crate::begun::{Begun, begin_fde, room_for};
 use crate::contents::{fill_cie, fill_fde};
 use crate::sink::{Sink, put_all};
 use dw_cfa::Row;
@@ -126,10 +126,11 @@ fn write_cies<'a, S: Sink>(
 }
 
 // Makes a buffer what stands behind the length of an FDE of a table, where these are the initial rows and the places of CIEs.
-fn fill_fde_at<'a>(
+fn fill_fde_at<'r, 'a>(
     out: &mut Vec<u8>,
+    begun: &mut Begun<'r, 'a>,
     table: &Table<'a>,
-    rows: &BTreeMap<u16, Row<'a>>,
+    rows: &'r BTreeMap<u16, Row<'a>>,
     places: &BTreeMap<u16, u64>,
     fde: FdeRef,
 ) -> Result<(), AllocError>
@@ -140,17 +141,18 @@ fn fill_fde_at<'a>(
     ensures { (ms : List Member) → AreMembers table.now.target table.now.bytes ms → (d : Member) → OnOk result (out.new.items ≡ contents table.now.target (fde_with table.now.target ms (slice_index_or ms fde.place d))) }
 {
     table.accepted();
-    let begun = begin_fde(rows, table, fde)?;
+    begin_fde(begun, rows, table, fde)?;
     let cie_at = places[&begun.fde.return_register];
     fill_fde(out, cie_at, begun, table.target())
 }
 
 // Puts an FDE of a table, where these are the initial rows and the places of CIEs.
-fn write_fde<'a, S: Sink>(
+fn write_fde<'r, 'a, S: Sink>(
     sink: &mut S,
     buffer: &mut Vec<u8>,
+    begun: &mut Begun<'r, 'a>,
     table: &Table<'a>,
-    rows: &BTreeMap<u16, Row<'a>>,
+    rows: &'r BTreeMap<u16, Row<'a>>,
     places: &BTreeMap<u16, u64>,
     fde: FdeRef,
 ) -> Result<u64, PutError>
@@ -162,7 +164,7 @@ fn write_fde<'a, S: Sink>(
     ensures { (ms : List Member) → AreMembers table.now.target table.now.bytes ms → (d : Member) → Puts (entry_bytes table.now.target (fde_with table.now.target ms (slice_index_or ms fde.place d))) result (S.failures sink.old) (S.failures sink.new) (S.taken sink.old) (S.taken sink.new) }
 {
     table.accepted();
-    if fill_fde_at(buffer, table, rows, places, fde).is_err() {
+    if fill_fde_at(buffer, begun, table, rows, places, fde).is_err() {
         return Err(PutError::Memory { written: 0 });
     }
     put_entry(sink, buffer, table.target().order)
@@ -170,6 +172,7 @@ fn write_fde<'a, S: Sink>(
 
 // Puts the FDEs of a table.
 fn write_fdes<'a, S: Sink>(
+    alloc: Global,
     sink: &mut S,
     buffer: &mut Vec<u8>,
     table: &Table<'a>,
@@ -183,9 +186,15 @@ fn write_fdes<'a, S: Sink>(
     ensures { (ms : List Member) → AreMembers table.now.target table.now.bytes ms → Puts (fdes_bytes table.now.target ms ms) result (S.failures sink.old) (S.failures sink.new) (S.taken sink.old) (S.taken sink.new) }
 {
     table.accepted();
+    let count = table.fde_count();
+    if count == 0 {
+        return Ok(0);
+    }
+    let mut begun = room_for(alloc, rows, table);
     let mut written = 0;
-    'fdes: for place in 0..table.fde_count() {
-        let put = write_fde(sink, buffer, table, rows, places, FdeRef { place });
+    'fdes: for place in 0..count {
+        let fde = FdeRef { place };
+        let put = write_fde(sink, buffer, &mut begun, table, rows, places, fde);
         written = after(written, put)?;
     }
     Ok(written)
@@ -208,5 +217,8 @@ pub(crate) fn write_entries<'a, S: Sink>(
     let mut places = BTreeMap::new(alloc);
     let target = table.target();
     let cies = write_cies(alloc, sink, &mut buffer, &mut places, rows, target)?;
-    after(cies, write_fdes(sink, &mut buffer, table, rows, &places))
+    after(
+        cies,
+        write_fdes(alloc, sink, &mut buffer, table, rows, &places),
+    )
 }

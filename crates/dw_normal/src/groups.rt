@@ -14,15 +14,19 @@ use dw_section::{Changes, FdeRef, Table};
 use std::alloc::{AllocError, Global};
 use std::collections::BTreeMap;
 
-/// The changes of an FDE behind its begin, whose row is lent.
-pub(crate) fn behind_first<'a>(table: &Table<'a>, fde: FdeRef) -> Result<Changes<'a>, AllocError>
+/// Goes to the changes of an FDE behind its begin, whose row is lent.
+pub(crate) fn go_behind_first<'a>(
+    changes: &mut Changes<'a>,
+    table: &Table<'a>,
+    fde: FdeRef,
+) -> Result<(), AllocError>
     requires { (fs : List TheFde) → AreFdes table.now.target table.now.bytes fs → fde.place < length fs }
-    ensures { (ms : List Member) → AreMembers table.now.target table.now.bytes ms → (d : Member) → IfOk result (BehindFirst (slice_index_or ms fde.place d)) }
+    ensures { (ms : List Member) → AreMembers table.now.target table.now.bytes ms → (d : Member) → OnOk result (BehindFirst (slice_index_or ms fde.place d) changes.new) }
 {
     table.accepted();
-    let mut changes = table.changes(fde);
+    table.go_to(changes, fde);
     let _ = changes.advance()?;
-    Ok(changes)
+    Ok(())
 }
 
 /// Drops from a row the registers that one of the changes still to come leaves Unspecified.
@@ -62,6 +66,7 @@ fn begun_with<'a>(
 // Narrows the row of an FDE's group to what the FDE shares with it.
 fn add_fde<'a>(
     rows: &mut BTreeMap<u16, Row<'a>>,
+    changes: &mut Changes<'a>,
     table: &Table<'a>,
     fde: FdeRef,
 ) -> Result<(), AllocError>
@@ -69,12 +74,12 @@ fn add_fde<'a>(
     ensures { (ms : List Member) → AreMembers table.now.target table.now.bytes ms → (d : Member) → OnOk result (rows.new.entries ≡ with_member rows.old.entries (slice_index_or ms fde.place d)) }
 {
     let register = table.fde(fde).return_register;
-    let mut changes = behind_first(table, fde)?;
+    go_behind_first(changes, table, fde)?;
     let Some(first) = changes.row() else {
         return Err(AllocError);
     };
     let mut row = begun_with(rows, register, first)?;
-    keep_all(&mut row, &mut changes)?;
+    keep_all(&mut row, changes)?;
     rows.insert(register, row)?;
     Ok(())
 }
@@ -87,8 +92,9 @@ pub(crate) fn initial_rows<'a>(
     ensures { (ms : List Member) → AreMembers table.now.target table.now.bytes ms → IfOk result (λ rows. rows.entries ≡ initial_rows ms) }
 {
     let mut rows = BTreeMap::new(alloc);
+    let mut changes = table.no_changes();
     'fdes: for place in 0..table.fde_count() {
-        add_fde(&mut rows, table, FdeRef { place })?;
+        add_fde(&mut rows, &mut changes, table, FdeRef { place })?;
     }
     Ok(rows)
 }

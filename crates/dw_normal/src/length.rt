@@ -12,7 +12,7 @@ ghost use Rattle.dw_canon.specs.Members.{Member, AreMembers};
 ghost use Rattle.dw_normal.specs.Grouping.{initial_rows};
 ghost use Rattle.dw_normal.specs.Measuring.{Leaves, MemberLeaves, Measures, cies_bytes, fdes_bytes};
 
-use crate::begun::{Begun, begin_fde};
+use crate::begun::{Begun, begin_fde, room_for};
 use crate::room::{behind_cie, behind_fde};
 use dw_cfa::Row;
 use dw_num::Target;
@@ -39,9 +39,10 @@ fn behind_cies<'a>(
 }
 
 // What is left of room behind an FDE.
-fn behind_member<'a>(
+fn behind_member<'r, 'a>(
     room: u128,
-    rows: &BTreeMap<u16, Row<'a>>,
+    begun: &mut Begun<'r, 'a>,
+    rows: &'r BTreeMap<u16, Row<'a>>,
     table: &Table<'a>,
     fde: FdeRef,
 ) -> Result<Option<u128>, AllocError>
@@ -50,24 +51,21 @@ fn behind_member<'a>(
     requires rows { (ms : List Member) → AreMembers table.now.target table.now.bytes ms → rows.now.entries ≡ initial_rows ms }
     ensures { (ms : List Member) → AreMembers table.now.target table.now.bytes ms → (d : Member) → IfOk result (MemberLeaves table.now.target ms (slice_index_or ms fde.place d) room) }
 {
-    let Begun {
-        fde: listed,
-        shared,
-        first,
-        mut changes,
-    } = begin_fde(rows, table, fde)?;
+    begin_fde(begun, rows, table, fde)?;
+    let (listed, shared) = (begun.fde, begun.shared);
     behind_fde(
         room,
-        &mut changes,
+        &mut begun.changes,
         shared,
         u128::from(listed.begin),
-        first,
+        &mut begun.first,
         table.target(),
     )
 }
 
 // What is left of room behind all FDEs.
 fn behind_fdes<'a>(
+    alloc: Global,
     room: u128,
     rows: &BTreeMap<u16, Row<'a>>,
     table: &Table<'a>,
@@ -77,9 +75,14 @@ fn behind_fdes<'a>(
     ensures { (ms : List Member) → AreMembers table.now.target table.now.bytes ms → IfOk result (Leaves room (length (fdes_bytes table.now.target ms ms))) }
 {
     table.accepted();
+    let count = table.fde_count();
+    if count == 0 {
+        return Ok(Some(room));
+    }
+    let mut begun = room_for(alloc, rows, table);
     let mut left = room;
-    'fdes: for place in 0..table.fde_count() {
-        let Some(rest) = behind_member(left, rows, table, FdeRef { place })? else {
+    'fdes: for place in 0..count {
+        let Some(rest) = behind_member(left, &mut begun, rows, table, FdeRef { place })? else {
             return Ok(None);
         };
         left = rest;
@@ -105,7 +108,7 @@ pub(crate) fn measured<'a>(
     let Some(left) = behind_cies(alloc, room, rows, target) else {
         return Ok(None);
     };
-    let Some(rest) = behind_fdes(left, rows, table)? else {
+    let Some(rest) = behind_fdes(alloc, left, rows, table)? else {
         return Ok(None);
     };
     Ok(Some((room - rest) as u64))

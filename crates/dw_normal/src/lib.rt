@@ -2,6 +2,7 @@
 #![tactic(auto)]
 
 mod begun;
+mod bound;
 mod contents;
 mod differing;
 mod entry;
@@ -13,7 +14,6 @@ mod measuring;
 mod normal;
 mod putting;
 mod readying;
-mod registers;
 mod room;
 mod sink;
 mod tape;

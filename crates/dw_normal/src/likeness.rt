@@ -49,7 +49,13 @@ fn same_heads(first: Fde, second: Fde) -> bool
 }
 
 // Whether the FDEs at a place of both tables say the same.
-fn same_fdes(first: &Table<'_>, second: &Table<'_>, fde: FdeRef) -> Result<bool, AllocError>
+fn same_fdes<'a, 'b>(
+    first: &Table<'a>,
+    second: &Table<'b>,
+    changes: &mut Changes<'a>,
+    others: &mut Changes<'b>,
+    fde: FdeRef,
+) -> Result<bool, AllocError>
     requires first { (fs : List TheFde) → AreFdes first.now.target first.now.bytes fs → fde.place < length fs }
     requires second { (fs : List TheFde) → AreFdes second.now.target second.now.bytes fs → fde.place < length fs }
     ensures { (ms ns : List Member) → AreMembers first.now.target first.now.bytes ms → AreMembers second.now.target second.now.bytes ns → (d : Member) → IfOk result (λ b. Decides b (slice_index_or ms fde.place d ≡ slice_index_or ns fde.place d)) }
@@ -59,7 +65,9 @@ fn same_fdes(first: &Table<'_>, second: &Table<'_>, fde: FdeRef) -> Result<bool,
     }
     first.accepted();
     second.accepted();
-    same_changes(&mut first.changes(fde), &mut second.changes(fde))
+    first.go_to(changes, fde);
+    second.go_to(others, fde);
+    same_changes(changes, others)
 }
 
 /// Whether two tables say the same: the same nonempty FDEs with the same return-address registers, and the
@@ -71,8 +79,11 @@ pub(crate) fn same_tables(first: &Table<'_>, second: &Table<'_>) -> Result<bool,
     if second.fde_count() != count {
         return Ok(false);
     }
+    let mut changes = first.no_changes();
+    let mut others = second.no_changes();
     'fdes: for place in 0..count {
-        if !same_fdes(first, second, FdeRef { place })? {
+        let fde = FdeRef { place };
+        if !same_fdes(first, second, &mut changes, &mut others, fde)? {
             return Ok(false);
         }
     }

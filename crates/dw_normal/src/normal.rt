@@ -13,7 +13,7 @@ ghost use Rattle.dw_section.specs.Meanings.{SameMeaning};
 use crate::entry::{PutError, write_entries};
 use crate::error::{NormalError, SameError, Which, WriteError};
 use crate::likeness::same_tables;
-use crate::readying::{checked, measure, prepared};
+use crate::readying::{checked, measured_section, prepared, short_table};
 use crate::sink::Sink;
 use crate::tape::Tape;
 use dw_num::{Target, are_bytes};
@@ -61,8 +61,8 @@ pub fn normal_length(
     ensures first { IfErr result (RefusesNormal (NormalFault target cap bytes.now)) }
 {
     are_bytes(bytes);
-    match prepared(alloc, bytes, target, cap) {
-        Ok(ready) => Ok(ready.len),
+    match measured_section(alloc, bytes, target, cap) {
+        Ok(measured) => Ok(measured.len),
         Err(error) => Err(error),
     }
 }
@@ -135,15 +135,15 @@ fn compared(alloc: Global, first: Table<'_>, second: Table<'_>) -> Result<bool, 
     ensures within { IfOk result (λ b. IsWithin first.entry.target 2147483647 first.entry.bytes × IsWithin first.entry.target 2147483647 second.entry.bytes) }
     ensures refused { IfErr result (LengthFault first.entry.target 2147483647 first.entry.bytes second.entry.bytes) }
 {
-    let one = match measure(alloc, first, LIMIT) {
+    let one = match short_table(alloc, first, LIMIT) {
         Ok(one) => one,
         Err(error) => return Err(blamed(Which::First, error)),
     };
-    let two = match measure(alloc, second, LIMIT) {
+    let two = match short_table(alloc, second, LIMIT) {
         Ok(two) => two,
         Err(error) => return Err(blamed(Which::Second, error)),
     };
-    match same_tables(&one.table, &two.table) {
+    match same_tables(&one, &two) {
         Ok(same) => Ok(same),
         Err(_) => Err(SameError::OutOfMemory),
     }
@@ -154,8 +154,8 @@ fn same_as_itself(alloc: Global, table: Table<'_>) -> Result<bool, SameError>
     ensures found { IfOk result (λ b. (b ≡ true) × IsWithin table.entry.target 2147483647 table.entry.bytes) }
     ensures refused { IfErr result (LengthFault table.entry.target 2147483647 table.entry.bytes table.entry.bytes) }
 {
-    match measure(alloc, table, LIMIT) {
-        Ok(_ready) => Ok(true),
+    match short_table(alloc, table, LIMIT) {
+        Ok(_table) => Ok(true),
         Err(error) => Err(blamed(Which::First, error)),
     }
 }

@@ -1,9 +1,10 @@
-//! A section on the way to its normal form: checked, with its initial rows, and measured.
+//! A section on the way to its normal form: checked, found short enough, and with its initial rows.
 
 ghost use Rattle.std.specs.Prelude.{◌≡◌, ◌≤◌, IfOk, IfErr};
 ghost use Rattle.dw_section.specs.Accepted.{Accepted, CheckFault};
-ghost use Rattle.dw_normal.specs.Answers.{IsPrepared, IsTooLong, NormalFault, RefusesNormal, too_long};
+ghost use Rattle.dw_normal.specs.Answers.{IsShort, IsPrepared, IsMeasured, IsTooLong, NormalFault, RefusesNormal, too_long};
 
+use crate::bound::is_short;
 use crate::error::NormalError;
 use crate::groups::initial_rows;
 use crate::length::measured;
@@ -13,11 +14,17 @@ use dw_section::{SectionError, Table, check};
 use std::alloc::Global;
 use std::collections::BTreeMap;
 
-/// A checked section with the initial row of each return register and the length of its normal form.
+/// A checked section with the initial row of each return register; its normal form is within a cap.
 #[derive(Drop)]
 pub(crate) struct Ready<'a> {
     pub(crate) table: Table<'a>,
     pub(crate) rows: BTreeMap<u16, Row<'a>>,
+}
+
+/// The same, with the length of the normal form.
+#[derive(Drop)]
+pub(crate) struct Measured<'a> {
+    pub(crate) ready: Ready<'a>,
     pub(crate) len: u64,
 }
 
@@ -37,14 +44,10 @@ pub(crate) fn checked<'a>(
     }
 }
 
-/// What a table is written with, where its normal form is within a cap.
-pub(crate) fn measure<'a>(
-    alloc: Global,
-    table: Table<'a>,
-    cap: u64,
-) -> Result<Ready<'a>, NormalError>
+// A table with the length of its normal form, where that is within a cap.
+fn measure<'a>(alloc: Global, table: Table<'a>, cap: u64) -> Result<Measured<'a>, NormalError>
     requires cap { cap ≤ 2147483647 }
-    ensures found { IfOk result (λ r. (r.table ≡ table.entry) × IsPrepared table.entry.target cap table.entry.bytes r.rows.entries r.len) }
+    ensures found { IfOk result (λ m. (m.ready.table ≡ table.entry) × IsMeasured table.entry.target cap table.entry.bytes m.ready.rows.entries m.len) }
     ensures first { IfErr result (RefusesNormal (λ r. IsTooLong table.entry.target cap table.entry.bytes × (r ≡ too_long))) }
 {
     table.accepted();
@@ -52,11 +55,69 @@ pub(crate) fn measure<'a>(
         return Err(NormalError::OutOfMemory);
     };
     match measured(alloc, &table, &rows, cap) {
-        Ok(Some(len)) => Ok(Ready { table, rows, len }),
+        Ok(Some(len)) => Ok(Measured {
+            ready: Ready { table, rows },
+            len,
+        }),
         Ok(None) => Err(NormalError::Refused(Refusal {
             code: Code::NormalTooLong,
             at: 0,
         })),
+        Err(_) => Err(NormalError::OutOfMemory),
+    }
+}
+
+/// A section with the length of its normal form, where that is within a cap.
+pub(crate) fn measured_section<'a>(
+    alloc: Global,
+    bytes: &'a [u8],
+    target: Target,
+    cap: u64,
+) -> Result<Measured<'a>, NormalError>
+    requires cap { cap ≤ 2147483647 }
+    ensures found { IfOk result (λ m. (m.ready.table ≡ record { target = target; bytes = bytes.now }) × IsMeasured target cap bytes.now m.ready.rows.entries m.len) }
+    ensures first { IfErr result (RefusesNormal (NormalFault target cap bytes.now)) }
+{
+    let table = checked(alloc, bytes, target)?;
+    measure(alloc, table, cap)
+}
+
+/// A table whose normal form is within a cap. Where the lengths of its programs show it, none of them is run.
+pub(crate) fn short_table<'a>(
+    alloc: Global,
+    table: Table<'a>,
+    cap: u64,
+) -> Result<Table<'a>, NormalError>
+    requires cap { cap ≤ 2147483647 }
+    ensures found { IfOk result (λ t. (t ≡ table.entry) × IsShort table.entry.target cap table.entry.bytes) }
+    ensures first { IfErr result (RefusesNormal (λ r. IsTooLong table.entry.target cap table.entry.bytes × (r ≡ too_long))) }
+{
+    table.accepted();
+    if is_short(&table, cap) {
+        return Ok(table);
+    }
+    match measure(alloc, table, cap) {
+        Ok(measured) => Ok(measured.ready.table),
+        Err(error) => Err(error),
+    }
+}
+
+// What a table is written with, where its normal form is within a cap. It is measured only where the lengths of its programs
+// do not show that.
+fn ready_table<'a>(alloc: Global, table: Table<'a>, cap: u64) -> Result<Ready<'a>, NormalError>
+    requires cap { cap ≤ 2147483647 }
+    ensures found { IfOk result (λ r. (r.table ≡ table.entry) × IsPrepared table.entry.target cap table.entry.bytes r.rows.entries) }
+    ensures first { IfErr result (RefusesNormal (λ r. IsTooLong table.entry.target cap table.entry.bytes × (r ≡ too_long))) }
+{
+    table.accepted();
+    if !is_short(&table, cap) {
+        return match measure(alloc, table, cap) {
+            Ok(measured) => Ok(measured.ready),
+            Err(error) => Err(error),
+        };
+    }
+    match initial_rows(alloc, &table) {
+        Ok(rows) => Ok(Ready { table, rows }),
         Err(_) => Err(NormalError::OutOfMemory),
     }
 }
@@ -69,9 +130,9 @@ pub(crate) fn prepared<'a>(
     cap: u64,
 ) -> Result<Ready<'a>, NormalError>
     requires cap { cap ≤ 2147483647 }
-    ensures found { IfOk result (λ r. (r.table ≡ record { target = target; bytes = bytes.now }) × IsPrepared target cap bytes.now r.rows.entries r.len) }
+    ensures found { IfOk result (λ r. (r.table ≡ record { target = target; bytes = bytes.now }) × IsPrepared target cap bytes.now r.rows.entries) }
     ensures first { IfErr result (RefusesNormal (NormalFault target cap bytes.now)) }
 {
     let table = checked(alloc, bytes, target)?;
-    measure(alloc, table, cap)
+    ready_table(alloc, table, cap)
 }

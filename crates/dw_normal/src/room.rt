@@ -61,23 +61,22 @@ fn move_len(from: u128, to: u128, target: Target) -> u128
     }
 }
 
-/// What is left of room behind the changes that are still to come behind a row at an address.
+/// What is left of room behind the changes that are still to come behind a row at an address. The row is the last one then.
 pub(crate) fn behind_later<'a>(
     room: u128,
     changes: &mut Changes<'a>,
     shared: &Row<'a>,
     begin: u128,
-    first: Row<'a>,
+    row: &mut Row<'a>,
     target: Target,
 ) -> Result<Option<u128>, AllocError>
-    requires fits { RowFits target first }
+    requires fits { RowFits target row.old }
     requires in_space { changes.old.end ≤ address_limit target.size }
-    requires stand { Stand target shared.now begin first changes.old }
-    ensures { IfOk result (LaterLeaves target shared.now begin first.entry changes.old room) }
+    requires stand { Stand target shared.now begin row.old changes.old }
+    ensures { IfOk result (LaterLeaves target shared.now begin row.old changes.old room) }
 {
     let mut left = room;
     let mut at = begin;
-    let mut row = first;
     'changes: while let Some(address) = changes.advance()? {
         let Some(next) = changes.row() else {
             return Err(AllocError);
@@ -85,7 +84,7 @@ pub(crate) fn behind_later<'a>(
         let Some(moved) = behind(left, move_len(at, address, target)) else {
             return Ok(None);
         };
-        let Some(rest) = behind_difference(moved, shared, &row, next, target) else {
+        let Some(rest) = behind_difference(moved, shared, row, next, target) else {
             return Ok(None);
         };
         left = rest;
@@ -133,17 +132,17 @@ pub(crate) fn behind_fde<'a>(
     changes: &mut Changes<'a>,
     shared: &Row<'a>,
     begin: u128,
-    first: Row<'a>,
+    first: &mut Row<'a>,
     target: Target,
 ) -> Result<Option<u128>, AllocError>
     requires room { room < 2 ^ 64 }
-    requires first { AllByRecursion (InstrFits target) (difference shared.now shared.now first) }
-    requires fits { RowFits target first }
+    requires first { AllByRecursion (InstrFits target) (difference shared.now shared.now first.old) }
+    requires fits { RowFits target first.old }
     requires in_space { changes.old.end ≤ address_limit target.size }
-    requires stand { Stand target shared.now begin first changes.old }
-    ensures { IfOk result (FdeLeaves target shared.now begin first.entry changes.old room) }
+    requires stand { Stand target shared.now begin first.old changes.old }
+    ensures { IfOk result (FdeLeaves target shared.now begin first.old changes.old room) }
 {
-    let Some(left) = behind_difference(room, shared, shared, &first, target) else {
+    let Some(left) = behind_difference(room, shared, shared, first, target) else {
         return Ok(None);
     };
     let Some(rest) = behind_later(left, changes, shared, begin, first, target)? else {

@@ -91,13 +91,6 @@ pub record OpsSo (profile : Profile) (i j : Input) (find : ℕ → Option ℕ) (
   pub fault : (walk profile j).fault ≡ (walk profile i).fault
   pub found : put_before ops (resolve find (walk profile j).items) ≡ resolve find (walk profile i).items
 
-none_before : (r : Result (List Op) Refusal) → put_before [] r ≡ r
-none_before (Ok ops) = refl
-none_before (Err r) = refl
-
-pub ops_none : (profile : Profile) (i : Input) (find : ℕ → Option ℕ) → AreBytes i.bytes → OpsSo profile i i find []
-ops_none profile i find h = record { within = within_all i h; fault = refl; found = none_before (resolve find (walk profile i).items) }
-
 one_more : (at : ℕ) (ops : List Op) (op : Op) (r : Result (List Op) Refusal) → put_before (ops ++ op ∷ []) r ≡ put_before ops (put_first (Some op) at r)
 one_more at ops op (Ok more) = ap (λ (l : List Op). Ok l) (append_assoc {A = Op} ops (op ∷ []) more)
 one_more at ops op (Err r) = refl

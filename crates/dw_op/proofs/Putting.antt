@@ -11,7 +11,7 @@ use Rattle.dw_op.specs.Block.{branch_target, start}
 use Rattle.dw_op.specs.Encoding.{BranchFits, EachFits, bits_of, blank_parts, least_len}
 use Rattle.dw_op.specs.LeastOf.{least_bytes}
 use Rattle.dw_op.specs.Lengths.{least_lengths, lengths_at, total, together}
-use Rattle.dw_op.specs.Points.{AreSmall, ArePlaces, AreInRoom, IsBranching, bits_at}
+use Rattle.dw_op.specs.Points.{AreSmall, ArePlaces, IsBranching, bits_at}
 use Rattle.dw_op.proofs.EncodeLaws.{IsGoing, going_none, going_more, front_more}
 
 -- where a part begins is the lengths before it
@@ -51,9 +51,6 @@ put_start t all old lengths p is places front fits = record {
   places = subst (λ (l : List ℕ). ArePlaces l p) is places;
   front = take-length old;
 }
-
-pub in_room : (t : Target) (all : List Op) (old lengths : List ℕ) (rest : List Op) (p : Places) (out : List ℕ) → lengths ≡ least_lengths t all → AreSmall lengths → Putting t all old rest p out → AreInRoom p
-in_room t all old lengths rest p out is small h = (least_lengths t all, h.places, subst AreSmall is small)
 
 -- the places are one operation further
 pub record Stepped (old new : Places) : Type 0 where

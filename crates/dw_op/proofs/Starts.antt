@@ -46,11 +46,6 @@ next (x ∷ lengths) (suc n) len rest e =
     let h = next lengths n len rest e in
     record { start = omega (arith, h.start); behind = h.behind; before = omega (arith, h.before); within = omega (arith, h.within) }
 
-pub total_within : (lengths : List ℕ) (n : ℕ) → total n lengths ≤ together lengths
-total_within lengths zero = omega arith
-total_within [] (suc n) = omega arith
-total_within (x ∷ lengths) (suc n) = omega (arith, total_within lengths n)
-
 -- past the last one there is nothing more
 pub total_ended : (lengths : List ℕ) (n m : ℕ) → drop n lengths ≡ [] → n ≤ m → total m lengths ≡ total n lengths
 total_ended [] zero zero e le = refl
@@ -174,9 +169,6 @@ marks_more lengths first marks last h is k mark e = elim (got_from marks last k 
   | inl q ↦ h k mark q
   | inr q ↦ subst (λ (s : StartMark). IsStartMark lengths first s) (sym q) is
 ]
-
-pub mark_none : (first : Input) (low : Point) → InRoom low → IsLater first low.rest → Marking first low low []
-mark_none first low room later = record { room = room; same = λ lengths h. h; later = later; marked = λ lengths h. marks_none lengths first }
 
 pub mark_more : (first : Input) (low p q : Point) (marks : List StartMark) (bytes : ℕ) → Marking first low p marks
     → ((lengths : List ℕ) → IsPoint lengths p → IsPoint lengths q) → IsLater p.rest q.rest → bytes ≡ length first.bytes - length q.rest.bytes

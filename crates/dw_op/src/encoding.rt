@@ -1,6 +1,6 @@
 //! Writing lists of operations.
 
-ghost use Rattle.std.specs.Prelude.{◌≡◌, ℕ, ◌+◌, ◌-◌, ◌-ℤ◌, ◌<◌, List, length, map, pos, FitsSigned, ◌++◌, take, MatchOption, IfOk, IfErr, OnOk, OnErr};
+ghost use Rattle.std.specs.Prelude.{◌≡◌, ℕ, ◌+◌, ◌-◌, ◌-ℤ◌, ◌<◌, List, length, map, pos, FitsSigned, ◌++◌, take, MatchOption, IfOk, IfErr, OnOk};
 ghost use Rattle.std.specs.Int.{w16, cast_unsigned};
 ghost use Rattle.dw_op.specs.declared.encoding.EncodeError.TheVariants.{OutOfMemory};
 ghost use Rattle.dw_op.specs.Expression.{bare};

@@ -1,6 +1,6 @@
 //! Marks along a block: operations that a search can begin at, and how many are before each.
 
-ghost use Rattle.std.specs.Prelude.{◌≡◌, ◌<◌, ◌≤◌, ◌+◌, ◌↔◌, ◌++◌, ◌∷◌, [], Some, None, IfSome, IsTrue, length, slice_get};
+ghost use Rattle.std.specs.Prelude.{◌≡◌, ◌<◌, ◌≤◌, ◌+◌, ◌++◌, ◌∷◌, [], Some, None, IfSome, length, slice_get};
 ghost use Rattle.dw_num.specs.Input.{AreBytes, behind};
 ghost use Rattle.dw_op.specs.declared.profile.Profile.TheVariants.{Frame};
 ghost use Rattle.dw_op.specs.Walk.{walk, end_of, index_at};

@@ -1,6 +1,6 @@
 //! Where operations begin in their least spelling, without memory.
 
-ghost use Rattle.std.specs.Prelude.{◌≡◌, ◌+◌, ◌<◌, ◌≤◌, ◌^◌, ◌-ℤ◌, ℕ, List, [], ◌∷◌, Some, length, pos, slice_get, FitsSigned, IfSome, MatchOption};
+ghost use Rattle.std.specs.Prelude.{◌≡◌, ◌+◌, ◌<◌, ◌≤◌, ◌-ℤ◌, ℕ, List, [], ◌∷◌, Some, length, pos, slice_get, FitsSigned, IfSome, MatchOption};
 ghost use Rattle.std.specs.Bool.{MatchBool};
 ghost use Rattle.std.specs.Int.{w16, cast_unsigned};
 ghost use Rattle.dw_num.specs.Input.{behind};

@@ -17,6 +17,7 @@ use Rattle.dw_section.specs.Cut.{Item, gap, entry, Piece, pieces, item_bytes, al
 use Rattle.dw_section.specs.Headers.{Head, cie, fde, Has, Headers}
 use Rattle.dw_section.specs.Meaning.{total}
 use Rattle.dw_section.specs.Overlap.{nonempty}
+use Rattle.dw_section.specs.Pieces.{Pieces}
 use Rattle.dw_section.specs.Places.{cie_places}
 use Rattle.dw_section.proofs.Items.{item_some}
 
@@ -74,14 +75,20 @@ nonempty_few (cie at form c d register program ∷ hs) = let p = nonempty_few hs
 nonempty_few (fde at form cie_at begin zero program ∷ hs) = let p = nonempty_few hs in omega arith
 nonempty_few (fde at form cie_at begin (suc n) program ∷ hs) = let p = nonempty_few hs in omega arith
 
+pub few_pieces : (target : Target) (s : List ℕ) (ps : List Piece) → Pieces target s ps → length ps ≤ 2147483647
+few_pieces target s ps p =
+    let c = pieces_few target.order 0 p.items in
+    let d = ap length p.are in
+    let e = ap length p.cut.whole in
+    let small = p.small in
+    omega arith
+
 pub few_ranges : (target : Target) (s : List ℕ) (hs : List Head) → Headers target s hs → length (nonempty hs) ≤ 2147483647
 few_ranges target s hs p =
     let a = nonempty_few hs in
     let b = same_length target (cie_places p.entries) p.entries hs p.each in
-    let c = pieces_few target.order 0 p.cut.items in
-    let d = ap length p.cut.are in
-    let e = ap length p.cut.cut.whole in
-    omega (arith, p.cut.small)
+    let c = few_pieces target s p.entries p.cut in
+    omega arith
 
 pub take_next : {X : Type 0} (xs : List X) (i : ℕ) (x : X) → i < length xs → x ≡ get_or xs i x → take (i + 1) xs ≡ take i xs ++ x ∷ []
 take_next xs i x lt is = take_more xs i x lt ∙ ap (λ y. take i xs ++ y ∷ []) (sym is)

@@ -1,7 +1,7 @@
 -- An item at the front, and items in a row.
 use Rattle.std.proofs.Common.{eqb, false, inl, inr, ◌≡◌, ℕ, ◌+◌, add-zero, zero-add, ◌<◌, ◌≤◌, Result, Ok, Err, List, [], ◌∷◌, ◌++◌, length, map, Option, Some, None, refl, sym, ap, subst, ◌∙◌, append_assoc, arith}
 use Rattle.std.specs.List.{AllByRecursion}
-use Rattle.std.proofs.lemmas.List.{length-append, append-nil, map-append, nil_from_length, take_at, drop_at}
+use Rattle.std.proofs.lemmas.List.{length-append, append-nil, map-append, take_at, drop_at}
 use Rattle.std.proofs.lemmas.Bool.{le-ltb}
 use Rattle.std.proofs.lemmas.Bool.Decides.{eqb_tells}
 use Rattle.dw_num.proofs.FixedLaws.{length-fixed, unit_length_only}
@@ -78,19 +78,11 @@ pub walked_entry : (target : Target) (s : List ℕ) (old new : Input) (found : L
     → IsWalked target s new (found ++ record { at = at; form = form; kind = kind; contents = record { at = place; bytes = body } } ∷ [])
 walked_entry target s old new found form kind at place body w is t at-is kind-is place-is = rw (at-is, kind-is, place-is) (walked_more target s old new found (entry form body) w is t)
 
-pub walked_start : (target : Target) (s : List ℕ) → IsWalked target s (record { at = 0; bytes = s; target = target }) []
-walked_start target s = record { items = []; each = tt; whole = refl; place = refl; same = refl; are = refl }
-
 -- an item has bytes
 pub item_some : (order : Order) (item : Item) → 4 ≤ length (item_bytes order item)
 item_some order gap = omega arith
 item_some order (entry Dwarf32 body) = omega (arith, length-append (length_bytes order Dwarf32 (length body)) body, length-fixed order 4 (length body))
 item_some order (entry Dwarf64 body) = omega (arith, length-append (length_bytes order Dwarf64 (length body)) body, length-append (fixed_bytes order 4 0xffffffff) (fixed_bytes order 8 (length body)), length-fixed order 4 0xffffffff)
-
-pub walked_end : (target : Target) (s : List ℕ) (now : Input) (found : List Piece) → length s ≤ 2147483647 → length now.bytes ≤ 0 → IsWalked target s now found → Pieces target s found
-walked_end target s now found small none w =
-    let e : now.bytes ≡ [] = nil_from_length now.bytes (omega arith) in
-    record { small = small; items = w.items; cut = record { each = w.each; whole = w.whole ∙ ap (λ (b : List ℕ). all_bytes target.order w.items ++ b) e ∙ append-nil _ }; are = w.are }
 
 -- ---- a section has at most one cut
 

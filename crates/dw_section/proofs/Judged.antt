@@ -1,5 +1,5 @@
 -- What running programs tells of headers.
-use Rattle.std.proofs.Common.{◌≡◌, ℕ, zero, suc, ◌+◌, ◌<◌, ◌≤◌, Bool, true, false, List, [], ◌∷◌, ◌++◌, map, length, get_or, set, take, drop, Option, Some, None, refl, sym, ap, subst, ◌∙◌, append_assoc, arith, inl, inr}
+use Rattle.std.proofs.Common.{◌≡◌, ℕ, zero, suc, ◌+◌, ◌<◌, ◌≤◌, Bool, true, false, List, [], ◌∷◌, ◌++◌, map, length, get_or, set, take, drop, Option, Some, None, Result, Ok, refl, sym, ap, subst, ◌∙◌, append_assoc, arith, inl, inr}
 use Rattle.std.specs.Prelude.{nat_lt}
 use Rattle.std.specs.List.{AllByRecursion}
 use Rattle.std.specs.List.Sorted.{IsNonDecreasingBy}
@@ -40,7 +40,7 @@ use Rattle.dw_section.specs.Faults.{Refuses}
 use Rattle.dw_section.specs.declared.heading.Header.{Header}
 use Rattle.dw_section.specs.Headers.{Head, cie, fde, head_in}
 use Rattle.dw_section.specs.Heads.{head_at, cie_at_of, cie_ats}
-use Rattle.dw_section.specs.Initials.{of_run, or_place, place_of, IsInitial, AreInitials, HasOrLacks, FirstLacking}
+use Rattle.dw_section.specs.Initials.{of_run, or_place, place_of, IsInitial, IsBehind, AreInitials, HasOrLacks, FirstLacking}
 use Rattle.dw_section.specs.Places.{Rises}
 use Rattle.dw_section.specs.Programs.{input_of, IsAmong, Begins, Instrs, CieRuns, FdeRuns, FdeBroken, HasRules, LacksRule}
 use Rattle.dw_cfa.proofs.Counting.{counts_exists}
@@ -140,16 +140,23 @@ steps_rows steps row initial f i begin e same h =
 
 -- ---- a machine that ran an FDE's program
 
+pub same_row : {E : Type 0} (r : Result Rules E) (a b : Rules) → r ≡ Ok a → r ≡ Ok b → a ≡ b
+same_row r a b e f = let g = sym e ∙ f in cc
+
+pub behind_stays : (target : Target) (hs : List Head) (place : ℕ) (m n : Following) → n ≡ with_steps m n.steps → IsBehind target hs (Some place) m → IsBehind target hs (Some place) n
+behind_stays target hs place m n same is = (
+  is.0,
+  is.1,
+  is.2,
+  ap (λ (x : Following). x.initial) same ∙ is.3,
+  ap (λ (x : Following). x.factors) same ∙ is.4,
+  ap (λ (x : Following). x.target) same ∙ is.5,
+)
+
 pub all_set : {X : Type 0} (P : X → Type 0) (xs : List X) (i : ℕ) (y : X) → AllByRecursion P xs → P y → AllByRecursion P (set xs i y)
 all_set P [] i y h is = tt
 all_set P (x ∷ xs) zero y h is = (is, h.1)
 all_set P (x ∷ xs) (suc i) y h is = (h.0, all_set P xs i y h.1 is)
-
-abbrev pub with_machine : Initial → Following → Initial
-with_machine c m = record { at = c.at; factors = c.factors; return_register = c.return_register; program = c.program; machine = m }
-
-pub initial_stays : (target : Target) (hs : List Head) (c : Initial) (m : Following) → m ≡ with_steps c.machine m.steps → IsInitial target hs c → IsInitial target hs (with_machine c m)
-initial_stays target hs c m same is = subst (λ (x : Following). IsInitial target hs (with_machine c x)) (sym same) is
 
 -- ---- an FDE whose CIE is kept
 
@@ -159,18 +166,18 @@ module _ (target : Target) (hs : List Head) (c : Initial) (is : IsInitial target
     form = is.0;
     program = span_of c.program;
     among = subst (λ (n : ℕ). IsAmong (cie n is.0 c.factors.code_factor c.factors.data_factor c.return_register (span_of c.program)) hs) place is.2;
-    spelled = is.3.program;
+    spelled = is.4.program;
   }
 
-  pub fde_broken : (r : Refusal) → FdeFault c.factors c.machine.initial.cfa (input_of target program) begin r → FdeBroken target hs (fde at form cie_at begin range program) r
-  fde_broken r fault = (c.factors, c.return_register, is.1, begins_so, subst (λ (x : CfaRule). FdeFault c.factors x (input_of target program) begin r) is.3.cfa fault)
+  pub fde_broken : (r : Refusal) → FdeFault c.factors is.3.cfa (input_of target program) begin r → FdeBroken target hs (fde at form cie_at begin range program) r
+  fde_broken r fault = (c.factors, c.return_register, is.1, begins_so, subst (λ (x : CfaRule). FdeFault c.factors x (input_of target program) begin r) is.4.cfa fault)
 
-  module _ (instrs : List Instr) (rows : List LocatedRow) (given : GivesBehind c.factors c.machine.initial (input_of target program) begin instrs rows) where
+  module _ (instrs : List Instr) (rows : List LocatedRow) (given : GivesBehind c.factors is.3 (input_of target program) begin instrs rows) where
     instrs_so : Instrs target hs cie_at program is.1 instrs
     instrs_so = record { factors = c.factors; register = c.return_register; begins = begins_so; spelled = given.program }
 
     pub fde_runs : FdeRuns target hs (fde at form cie_at begin range program)
-    fde_runs = (is.1, instrs, instrs_so, subst (λ (x : CfaRule). FdeKept (address_limit target.size) begin x instrs) is.3.cfa given.kept)
+    fde_runs = (is.1, instrs, instrs_so, subst (λ (x : CfaRule). FdeKept (address_limit target.size) begin x instrs) is.4.cfa given.kept)
 
     lacks_so : lacks_from (begin + range) begin false rows ≡ true → LacksRule target hs (fde at form cie_at begin range program) (record { code = NoCfaRule; at = at })
     lacks_so e =
@@ -178,7 +185,7 @@ module _ (target : Target) (hs : List Head) (c : Initial) (is : IsInitial target
         let counts = counts_exists begin instrs found.0 found.1 in
         let row = given.holds found.0 counts.0 found.1 counts.1 in
         let unset = unset_is row.0.cfa (rw row.1 at found.3) in
-        let here : cfa_after (initial_cfa is.1) instrs counts.0 ≡ Unset = ap (λ (x : CfaRule). cfa_after x instrs counts.0) (sym is.3.cfa) ∙ sym row.2.cfa ∙ unset in
+        let here : cfa_after (initial_cfa is.1) instrs counts.0 ≡ Unset = ap (λ (x : CfaRule). cfa_after x instrs counts.0) (sym is.4.cfa) ∙ sym row.2.cfa ∙ unset in
         (refl, (is.1, instrs, instrs_so, (found.0, found.1, found.2, (counts.0, counts.1, here))))
 
     has_at : lacks_from (begin + range) begin false rows ≡ false → (a : ℕ) → begin ≤ a → a < begin + range → (k : ℕ) → Counts begin instrs a k → cfa_after (initial_cfa is.1) instrs k ≡ Unset → ⊥
@@ -186,29 +193,33 @@ module _ (target : Target) (hs : List Head) (c : Initial) (is : IsInitial target
         let row = given.holds a k le counts in
         let none = lacks_none (begin + range) begin false rows given.never_falls e a le lt in
         let no : is_unset row.0.cfa ≡ false = rw row.1 at none in
-        let yes = is_unset_of row.0.cfa (row.2.cfa ∙ ap (λ (x : CfaRule). cfa_after x instrs k) is.3.cfa ∙ unset) in
+        let yes = is_unset_of row.0.cfa (row.2.cfa ∙ ap (λ (x : CfaRule). cfa_after x instrs k) is.4.cfa ∙ unset) in
         let e = sym no ∙ yes in cc
 
     pub has_or_lacks : (lacks : Bool) → lacks ≡ lacks_from (begin + range) begin false rows → HasOrLacks target hs (fde at form cie_at begin range program) lacks
     has_or_lacks true e = lacks_so (sym e)
     has_or_lacks false e = (is.1, instrs, instrs_so, has_at (sym e))
 
--- what a run behind a CIE's machine tells
-module _ (target : Target) (hs : List Head) (c : Initial) (is : IsInitial target hs c) (at : ℕ) (form : Form) (cie_at begin range : ℕ) (program : Span) (place : c.at ≡ cie_at) where
-  abbrev Ran : Factors → Target → Bool → Type 0
-  Ran f t lacks = (instrs : List Instr) × (rows : List LocatedRow) × GivesBehind f c.machine.initial (input_of t program) begin instrs rows × (lacks ≡ lacks_from (begin + range) begin false rows)
+-- what a run on a machine behind a CIE's row tells
+module _ (target : Target) (hs : List Head) (m : Following) (cie_at : ℕ) (is : IsBehind target hs (Some cie_at) m) (at : ℕ) (form : Form) (begin range : ℕ) (program : Span) where
+  abbrev Ran : Factors → Rules → Target → Bool → Type 0
+  Ran f row t lacks = (instrs : List Instr) × (rows : List LocatedRow) × GivesBehind f row (input_of t program) begin instrs rows × (lacks ≡ lacks_from (begin + range) begin false rows)
 
-  pub behind_found : (lacks : Bool) → Ran c.machine.factors c.machine.target lacks
+  pub behind_found : (lacks : Bool) → Ran m.factors m.initial m.target lacks
       → FdeRuns target hs (fde at form cie_at begin range program) × HasOrLacks target hs (fde at form cie_at begin range program) lacks
   behind_found lacks ran =
-      let y : Ran c.factors target lacks = subst (λ (t : Target). Ran c.factors t lacks) is.5 (subst (λ (f : Factors). Ran f c.machine.target lacks) is.4 ran) in
-      (fde_runs target hs c is at form cie_at begin range program place y.0 y.1 y.2, has_or_lacks target hs c is at form cie_at begin range program place y.0 y.1 y.2 lacks y.3)
+      let c = is.0 in
+      let y : Ran c.factors is.2.3 target lacks =
+      subst (λ (t : Target). Ran c.factors is.2.3 t lacks) is.5 (subst (λ (f : Factors). Ran f is.2.3 m.target lacks) is.4 (subst (λ (row : Rules). Ran m.factors row m.target lacks) is.3 ran)) in
+      (fde_runs target hs c is.2 at form cie_at begin range program is.1 y.0 y.1 y.2, has_or_lacks target hs c is.2 at form cie_at begin range program is.1 y.0 y.1 y.2 lacks y.3)
 
-  pub behind_broken : (r : Refusal) → FdeFault c.machine.factors c.machine.initial.cfa (input_of c.machine.target program) begin r → FdeBroken target hs (fde at form cie_at begin range program) r
+  pub behind_broken : (r : Refusal) → FdeFault m.factors m.initial.cfa (input_of m.target program) begin r → FdeBroken target hs (fde at form cie_at begin range program) r
   behind_broken r fault =
-      fde_broken target hs c is at form cie_at begin range program place r
-      (subst (λ (t : Target). FdeFault c.factors c.machine.initial.cfa (input_of t program) begin r) is.5
-      (subst (λ (f : Factors). FdeFault f c.machine.initial.cfa (input_of c.machine.target program) begin r) is.4 fault))
+      let c = is.0 in
+      fde_broken target hs c is.2 at form cie_at begin range program is.1 r
+      (subst (λ (t : Target). FdeFault c.factors is.2.3.cfa (input_of t program) begin r) is.5
+      (subst (λ (f : Factors). FdeFault f is.2.3.cfa (input_of m.target program) begin r) is.4
+      (subst (λ (row : Rules). FdeFault m.factors row.cfa (input_of m.target program) begin r) is.3 fault)))
 
 -- ---- the first that lacks one
 

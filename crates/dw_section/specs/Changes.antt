@@ -8,7 +8,6 @@ use Rattle.dw_cfa.specs.Column.{cfa_after, rule_after}
 use Rattle.dw_cfa.specs.Laws.{initial_cfa, initial_rule, HoldsAfter}
 use Rattle.dw_cfa.specs.Rows.{Rules}
 use Rattle.dw_cfa.specs.Stepping.{Stepping}
-use Rattle.dw_cfa.specs.declared.row.Row.{Row}
 
 -- after j and after k instructions each column has the same rule
 pub record SameRules (initial instrs : List Instr) (j k : ℕ) : Type 0 where
@@ -105,13 +104,9 @@ GivesAddress old (Err e) new = new.failed ≡ true
 
 -- ---- how the code finds them
 
-abbrev pub now_of : Option Row → Option Rules
-now_of None = None
-now_of (Some row) = Some row
-
-abbrev pub FindsChange : {E : Type 0} → ℕ → Stepping → Option Row → Result (Option ℕ) E → Stepping → Option Row → Type 0
-FindsChange end old shown (Ok None) new shown' = (new.outcome.fault ≡ None) × Among end (now_of shown) old.outcome.rows [] × (new.outcome.rows ≡ []) × (now_of shown' ≡ now_of shown)
+abbrev pub FindsChange : {E : Type 0} → ℕ → Stepping → Option Rules → Result (Option ℕ) E → Stepping → Option Rules → Type 0
+FindsChange end old shown (Ok None) new shown' = (new.outcome.fault ≡ None) × Among end shown old.outcome.rows [] × (new.outcome.rows ≡ []) × (shown' ≡ shown)
 FindsChange end old shown (Ok (Some start)) new shown' =
     (new.outcome.fault ≡ None) × (length new.outcome.rows < length old.outcome.rows)
-    × ((row : Rules) × (now_of shown' ≡ Some row) × ((changes : List (ℕ × Rules)) → Among end (Some row) new.outcome.rows changes → Among end (now_of shown) old.outcome.rows ((start, row) ∷ changes)))
+    × ((row : Rules) × (shown' ≡ Some row) × ((changes : List (ℕ × Rules)) → Among end (Some row) new.outcome.rows changes → Among end shown old.outcome.rows ((start, row) ∷ changes)))
 FindsChange end old shown (Err e) new shown' = new.outcome.fault ≡ None

@@ -5,7 +5,7 @@ use Rattle.dw_num.specs.declared.target.Target.{Target}
 use Rattle.dw_cfa.specs.declared.instr.Instr.{Instr}
 use Rattle.dw_cfa.specs.InstrSpells.{Program}
 use Rattle.dw_cfa.specs.Location.{moves_location, row_starts}
-use Rattle.dw_section.specs.declared.indexing.Ranged.{Ranged}
+use Rattle.dw_section.specs.declared.rereading.FoundFde.{FoundFde}
 
 abbrev pub starts_row : Result Instr Refusal → Bool
 starts_row (Ok instr) = moves_location instr
@@ -16,9 +16,9 @@ moves_in [] = 0
 moves_in (x ∷ xs) = cond (starts_row x) 1 0 + moves_in xs
 
 -- the bytes of an FDE's program are instructions
-abbrev pub IsProgram : Target → Ranged → Type 0
+abbrev pub IsProgram : Target → FoundFde → Type 0
 IsProgram target e = (instrs : List Instr) × Program target e.factors instrs e.program.bytes.now
 
 -- they start n rows
-abbrev pub StartsOf : Target → Ranged → ℕ → Type 0
+abbrev pub StartsOf : Target → FoundFde → ℕ → Type 0
 StartsOf target e n = (instrs : List Instr) → Program target e.factors instrs e.program.bytes.now → n ≡ row_starts instrs

@@ -1,21 +1,29 @@
 -- What the code keeps of nonempty FDEs.
-use Rattle.std.specs.Prelude.{◌≡◌, ℕ, suc, ◌≤◌, ◌⊎◌, List, [], ◌∷◌}
+use Rattle.std.specs.Prelude.{◌≡◌, ℕ, suc, ◌≤◌, ◌⊎◌, List, [], ◌∷◌, map, Option}
 use Rattle.std.specs.List.{AllByRecursion}
 use Rattle.dw_num.specs.declared.target.Form.{Form}
 use Rattle.dw_num.specs.Span.{span_of}
 use Rattle.dw_section.specs.declared.indexing.Ranged.{Ranged}
+use Rattle.dw_section.specs.declared.rereading.FoundFde.{FoundFde}
+use Rattle.dw_section.specs.Meaning.{Returns}
 use Rattle.dw_section.specs.Headers.{Head, cie, fde}
-use Rattle.dw_section.specs.Overlap.{Range, IsIn, end_of}
-use Rattle.dw_section.specs.Programs.{IsAmong}
+use Rattle.dw_section.specs.Overlap.{Range, IsIn, end_of, nonempty}
+use Rattle.dw_section.specs.Programs.{IsAmong, FdeRuns}
+use Rattle.dw_section.specs.Initials.{FirstLacking}
+use Rattle.dw_num.specs.declared.target.Target.{Target}
 
 abbrev pub range_in : Ranged → Range
 range_in e = record { at = e.at; begin = e.begin; range = e.range }
 
 -- it is of an FDE among the headers, and of the CIE that this names
 abbrev pub IsRanged : List Head → Ranged → Type 0
-IsRanged hs e =
-    (form : Form) × (cie_form : Form) × (cie_at : ℕ) × IsAmong (fde e.at form cie_at e.begin e.range (span_of e.program)) hs
-    × IsAmong (cie cie_at cie_form e.factors.code_factor e.factors.data_factor e.return_register (span_of e.cie_program)) hs
+IsRanged hs e = Returns hs (range_in e) e.return_register
+
+-- the same with programs
+abbrev pub IsFound : List Head → FoundFde → Type 0
+IsFound hs e =
+    (form : Form) × (cie_form : Form) × (cie_at : ℕ) × (register : ℕ) × IsAmong (fde e.at form cie_at e.begin e.range (span_of e.program)) hs
+    × IsAmong (cie cie_at cie_form e.factors.code_factor e.factors.data_factor register (span_of e.cie_program)) hs
 
 -- places from low on, ascending
 abbrev pub PlacesRise : ℕ → List Range → Type 0
@@ -30,3 +38,10 @@ SameMembers rs ss = AllByRecursion (λ a. IsIn a rs) ss × AllByRecursion (λ a.
 abbrev pub EndsAt : List Range → ℕ → Type 0
 EndsAt rs greatest =
     AllByRecursion (λ a. end_of a ≤ greatest) rs × ((greatest ≡ 0) ⊎ ((other : Range) × IsIn other rs × (end_of other ≡ greatest)))
+
+-- the programs of these run, the first among them that lacks a rule is this one, and their nonempty FDEs are these
+pub record AreJudged (target : Target) (hs front : List Head) (lacking : Option ℕ) (list : List Ranged) : Type 0 where
+  pub run : AllByRecursion (FdeRuns target hs) front
+  pub first : FirstLacking target hs front lacking
+  pub are : map range_in list ≡ nonempty front
+  pub each : AllByRecursion (IsRanged hs) list

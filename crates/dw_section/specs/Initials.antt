@@ -1,5 +1,5 @@
 -- What the code keeps of CIEs, and what it finds out about FDEs.
-use Rattle.std.specs.Prelude.{◌≡◌, ℕ, List, Bool, true, false, Option, Some, None, map}
+use Rattle.std.specs.Prelude.{◌≡◌, ℕ, List, Bool, true, false, Option, Some, None, Ok, map}
 use Rattle.std.specs.List.{AllByRecursion}
 use Rattle.dw_num.specs.declared.refusal.Code.TheVariants.{NoCfaRule}
 use Rattle.dw_num.specs.declared.target.Form.{Form}
@@ -9,9 +9,14 @@ use Rattle.dw_cfa.specs.declared.instr.Instr.{Instr}
 use Rattle.dw_cfa.specs.declared.running.RunError.{RunError}
 use Rattle.dw_cfa.specs.declared.running.RunError.TheVariants as run
 use Rattle.dw_cfa.specs.Behind.{Leaves}
+use Rattle.dw_cfa.specs.Following.{Following}
+use Rattle.dw_cfa.specs.Rows.{Rules, blank}
+use Rattle.dw_cfa.specs.Runs.{initial_row, placed}
 use Rattle.dw_section.specs.declared.error.SectionError.{SectionError}
 use Rattle.dw_section.specs.declared.error.SectionError.TheVariants.{Refused, OutOfMemory}
 use Rattle.dw_section.specs.declared.judging.Initial.{Initial}
+use Rattle.dw_section.specs.declared.judging.Long.{Long}
+use Rattle.dw_section.specs.declared.judging.Runner.{Runner}
 use Rattle.dw_section.specs.Stage.{FirstStuck}
 use Rattle.dw_section.specs.Headers.{Head, cie}
 use Rattle.dw_section.specs.Heads.{head_at, cie_ats}
@@ -24,11 +29,24 @@ of_run run.OutOfMemory = OutOfMemory
 abbrev pub place_of : Initial → ℕ
 place_of c = c.at
 
--- it is of a CIE among the headers, and its machine has the row that the CIE's program leaves
+-- it is of a CIE among the headers, whose program leaves a row
 abbrev pub IsInitial : Target → List Head → Initial → Type 0
 IsInitial target hs c =
     (form : Form) × (instrs : List Instr) × IsAmong (cie c.at form c.factors.code_factor c.factors.data_factor c.return_register (span_of c.program)) hs
-    × Leaves c.factors (input_of target (span_of c.program)) instrs c.machine.initial × (c.machine.factors ≡ c.factors) × (c.machine.target ≡ target)
+    × (row : Rules) × Leaves c.factors (input_of target (span_of c.program)) instrs row × (initial_row (placed c.factors (input_of target (span_of c.program))) blank ≡ Ok row)
+
+-- a machine has the row of the CIE at a place
+abbrev pub IsBehind : Target → List Head → Option ℕ → Following → Type 0
+IsBehind target hs None m = Unit {0}
+IsBehind target hs (Some place) m = (c : Initial) × (c.at ≡ place) × (is : IsInitial target hs c) × (m.initial ≡ is.3) × (m.factors ≡ c.factors) × (m.target ≡ target)
+
+-- so has one that is kept for its CIE alone
+abbrev pub IsLong : Target → List Head → Long → Type 0
+IsLong target hs l = IsBehind target hs (Some l.at) l.machine
+
+-- each machine has the row of its CIE
+abbrev pub IsRunner : Target → List Head → Runner → Type 0
+IsRunner target hs r = IsBehind target hs r.behind r.machine × AllByRecursion (IsLong target hs) r.long.items
 
 -- the programs of these run, and this is kept of the CIEs among them
 pub record AreInitials (target : Target) (hs front : List Head) (cs : List Initial) : Type 0 where

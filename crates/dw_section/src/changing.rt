@@ -1,15 +1,88 @@
 //! The addresses at which the rules of an FDE change (6.4.3), one at a time.
 
-ghost use Rattle.std.specs.Prelude.{◌≡◌, ◌↔◌, IsTrue, Some, None, true, IsErr, IfOk, OnOk, MatchOption};
+ghost use Rattle.std.specs.Prelude.{◌≡◌, ◌+◌, ◌<◌, ◌↔◌, [], IsTrue, Some, None, true, IsErr, IfOk, OnOk, MatchOption};
+ghost use Rattle.dw_num.specs.Target.{address_limit};
 ghost use Rattle.dw_cfa.specs.Rows.{Rules};
-ghost use Rattle.dw_section.specs.Changes.{Before, GivesAddress, GivesChange, FindsChange, changing, now_of};
+ghost use Rattle.dw_section.specs.Changes.{Before, GivesAddress, GivesChange, FindsChange, changing};
+ghost use Rattle.dw_section.specs.Lookup.{rows_of};
 
-use dw_cfa::{Row, RowSteps};
-use std::alloc::AllocError;
+use crate::rereading::FoundFde;
+use dw_cfa::{Row, RowWalk};
+use dw_num::Target;
+use std::alloc::{AllocError, Global};
 use std::marker::Model;
 
+/// The row that was shown, or none, in room that is kept.
+#[derive(Drop)]
+pub(crate) struct Shown<'a> {
+    row: Row<'a>,
+    some: bool,
+}
+
+impl<'a> Model for Shown<'a> {
+    ghost use Rattle.std.specs.Prelude.{Option};
+    ghost use Rattle.dw_cfa.specs.Rows.{Rules};
+    ghost use Rattle.dw_section.specs.Shown.{shown_if};
+
+    ghost Value = { Option Rules };
+
+    ghost view = { λ s. shown_if s.some s.row };
+}
+
+impl<'a> Shown<'a> {
+    fn none(alloc: Global) -> Shown<'a>
+        ensures { result ≡ None }
+    {
+        Shown {
+            row: Row::blank(alloc),
+            some: false,
+        }
+    }
+
+    fn forget(&mut self)
+        ensures { self.new ≡ None }
+    {
+        self.some = false;
+    }
+
+    fn row(&self) -> Option<&Row<'a>>
+        ensures { MatchOption result (self.now ≡ None) (λ row. self.now ≡ Some row.now) }
+    {
+        if self.some {
+            return Some(&self.row);
+        }
+        None
+    }
+
+    // Whether it is this row.
+    fn is(&self, row: &Row<'_>) -> bool
+        ensures { IsTrue result ↔ (self.now ≡ Some row.now) }
+    {
+        self.some && self.row.is_same(row)
+    }
+
+    // Keeps a row as the one that was shown.
+    fn keep(&mut self, row: &Row<'a>) -> Result<(), AllocError>
+        ensures { OnOk result (self.new ≡ Some row.now) }
+    {
+        self.row.become_copy(row)?;
+        self.some = true;
+        Ok(())
+    }
+
+    // The row once more.
+    fn copied(&self) -> Result<Row<'a>, AllocError>
+        ensures { (shows : Rules) → self.now ≡ Some shows → IfOk result (λ row. row ≡ shows) }
+    {
+        match self.row() {
+            Some(row) => row.copied(),
+            None => Err(AllocError),
+        }
+    }
+}
+
 // Whether an address below the end shows the row that is lent, which starts here.
-fn is_visible(steps: &RowSteps<'_>, start: u128, end: u128) -> bool
+fn is_visible(steps: &RowWalk<'_>, start: u128, end: u128) -> bool
     requires { steps.now.outcome.fault ≡ None }
     ensures { IsTrue result ↔ Before end start steps.now.outcome.rows }
 {
@@ -19,41 +92,10 @@ fn is_visible(steps: &RowSteps<'_>, start: u128, end: u128) -> bool
     }
 }
 
-// Whether a row is the one that was shown before.
-fn is_repeated(shown: &Option<Row<'_>>, row: &Row<'_>) -> bool
-    ensures { IsTrue result ↔ (now_of shown.now ≡ Some row.now) }
-{
-    match shown {
-        Some(before) => before.is_same(row),
-        None => false,
-    }
-}
-
-// Keeps a row as the one that was shown.
-fn keep<'a>(shown: &mut Option<Row<'a>>, row: &Row<'a>) -> Result<(), AllocError>
-    ensures { OnOk result (now_of shown.new ≡ Some row.now) }
-{
-    match shown {
-        Some(shown) => shown.become_copy(row)?,
-        None => *shown = Some(row.copied()?),
-    }
-    Ok(())
-}
-
-// The row that was shown once more.
-fn copied<'a>(shown: &Option<Row<'a>>) -> Result<Row<'a>, AllocError>
-    ensures { (shows : Rules) → now_of shown.now ≡ Some shows → IfOk result (λ row. row ≡ shows) }
-{
-    match shown {
-        Some(row) => row.copied(),
-        None => Err(AllocError),
-    }
-}
-
 // Goes on to the next row that an address shows and that is not the one that was shown before.
 fn find_change<'a>(
-    steps: &mut RowSteps<'a>,
-    shown: &mut Option<Row<'a>>,
+    steps: &mut RowWalk<'a>,
+    shown: &mut Shown<'a>,
     end: u128,
 ) -> Result<Option<u128>, AllocError>
     requires { steps.old.outcome.fault ≡ None }
@@ -65,8 +107,8 @@ fn find_change<'a>(
             Ok(None) => return Ok(None),
             Err(_) => return Err(AllocError),
         };
-        if is_visible(steps, start, end) && !is_repeated(shown, steps.row()) {
-            keep(shown, steps.row())?;
+        if is_visible(steps, start, end) && !shown.is(steps.row()) {
+            shown.keep(steps.row())?;
             return Ok(Some(start));
         }
     }
@@ -76,35 +118,48 @@ fn find_change<'a>(
 /// one address before, ascending, each with the rules there. A contract sees the rows that are still to come.
 #[derive(Drop)]
 pub struct Changes<'a> {
-    steps: RowSteps<'a>,
-    shown: Option<Row<'a>>,
+    steps: RowWalk<'a>,
+    shown: Shown<'a>,
     end: u128,
     failed: bool,
 }
 
 impl<'a> Model for Changes<'a> {
     ghost use Rattle.std.specs.Prelude.{◌≡◌, None};
-    ghost use Rattle.dw_section.specs.Changes.{Changing, now_of};
+    ghost use Rattle.dw_section.specs.Changes.{Changing};
 
     ghost Value = { Changing };
 
-    ghost view = { λ c. record { rows = c.steps.outcome.rows; shown = now_of c.shown; end = c.end; failed = c.failed } };
+    ghost view = { λ c. record { rows = c.steps.outcome.rows; shown = c.shown; end = c.end; failed = c.failed } };
 
     ghost invariant = { λ c. c.steps.outcome.fault ≡ None };
 }
 
 impl<'a> Changes<'a> {
-    // The changes of the rows that these steps give, up to an end.
-    pub(crate) fn of_steps(steps: RowSteps<'a>, end: u128) -> Changes<'a>
-        requires { steps.outcome.fault ≡ None }
-        ensures { result ≡ changing steps.entry.outcome.rows end }
+    // No change is to come until `go_to` names an FDE.
+    pub(crate) fn none(alloc: Global, target: Target) -> Changes<'a>
+        ensures { result ≡ changing [] 0 }
     {
         Changes {
-            steps,
-            shown: None,
-            end,
+            steps: RowWalk::new(alloc, target),
+            shown: Shown::none(alloc),
+            end: 0,
             failed: false,
         }
+    }
+
+    // Goes to the changes of an FDE, also where memory ran out before.
+    pub(crate) fn go_to(&mut self, fde: &FoundFde<'a>, target: Target)
+        requires in_space { fde.now.begin < address_limit target.size }
+        requires no_fault { (rows_of target fde.now).fault ≡ None }
+        ensures { self.new ≡ changing (rows_of target fde.now).rows (fde.now.begin + fde.now.range) }
+    {
+        let (cie, program) = (fde.cie_program, fde.program);
+        self.steps
+            .go_to(cie, program, fde.begin, fde.factors, target);
+        self.shown.forget();
+        self.end = u128::from(fde.begin) + u128::from(fde.range);
+        self.failed = false;
     }
 
     /// Goes on to the next change, whose row `row` lends then, and answers its address, or none behind the last one. Want
@@ -126,7 +181,7 @@ impl<'a> Changes<'a> {
     pub fn row(&self) -> Option<&Row<'a>>
         ensures { MatchOption result (self.now.shown ≡ None) (λ row. self.now.shown ≡ Some row.now) }
     {
-        self.shown.as_ref()
+        self.shown.row()
     }
 
     /// The next change with its row, or none behind the last one. Want of memory is answered from then on.
@@ -137,7 +192,7 @@ impl<'a> Changes<'a> {
         let Some(address) = self.advance()? else {
             return Ok(None);
         };
-        match copied(&self.shown) {
+        match self.shown.copied() {
             Ok(row) => Ok(Some((address, row))),
             Err(error) => {
                 self.failed = true;

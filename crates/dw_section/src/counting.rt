@@ -1,12 +1,20 @@
 //! Counting the rows that programs start (6.4.3).
 
-ghost use Rattle.std.specs.Prelude.{◌≡◌, ◌+◌, ◌≤◌, ℕ, List, length};
+ghost use Rattle.std.specs.Prelude.{◌≡◌, ◌+◌, ◌≤◌, ℕ, List, length, map};
 ghost use Rattle.std.specs.List.{AllByRecursion, AllZip};
 ghost use Rattle.dw_cfa.specs.Listing.{answers};
 ghost use Rattle.dw_section.specs.Counted.{starts_row, moves_in, IsProgram, StartsOf};
-ghost use Rattle.dw_section.specs.Meaning.{RowStarts, total};
+ghost use Rattle.dw_section.specs.Meaning.{RowStarts, Starts, total};
+ghost use Rattle.dw_num.specs.Input.{AreBytes};
+ghost use Rattle.dw_section.specs.Accepted.{RulesHold};
+ghost use Rattle.dw_section.specs.Headers.{Head};
+ghost use Rattle.dw_section.specs.Index.{range_in, IsRanged};
+ghost use Rattle.dw_section.specs.Initials.{AreInitials};
+ghost use Rattle.dw_section.specs.Left.{AreHeaders};
 
 use crate::indexing::Ranged;
+use crate::judging::Initial;
+use crate::rereading::{FoundFde, found_fde};
 use crate::table::Table;
 use dw_cfa::{Instr, Instructions};
 use dw_num::{Refusal, Target, are_bytes};
@@ -33,7 +41,7 @@ fn count_starts(instrs: &mut Instructions<'_>) -> u64
 }
 
 // How many rows an FDE's program starts.
-fn starts_of(fde: &Ranged<'_>, target: Target) -> u64
+fn starts_of(fde: &FoundFde<'_>, target: Target) -> u64
     requires { IsProgram target fde.now }
     ensures bound { result ≤ 2147483648 }
     ensures counted { StartsOf target fde.now result }
@@ -42,14 +50,22 @@ fn starts_of(fde: &Ranged<'_>, target: Target) -> u64
     count_starts(&mut instrs)
 }
 
-fn sum_starts(index: &[Ranged<'_>], target: Target) -> u64
+fn sum_starts<'a>(
+    bytes: &'a [u8],
+    target: Target,
+    places: &[u64],
+    initials: &[Initial<'a>],
+    index: &[Ranged],
+) -> u64
     requires few { length index.now ≤ 2147483647 }
-    requires programs { AllByRecursion (IsProgram target) index.now }
-    ensures { (counts : List ℕ) × AllZip (StartsOf target) index.now counts × (result ≡ total counts) }
+    requires bytes { AreBytes bytes.now }
+    requires headers { (hs : List Head) × AreHeaders target bytes.now places.now hs × RulesHold target bytes.now hs × AreInitials target hs hs initials.now × AllByRecursion (IsRanged hs) index.now }
+    ensures { (hs : List Head) → AreHeaders target bytes.now places.now hs → RulesHold target bytes.now hs → AreInitials target hs hs initials.now → AllByRecursion (IsRanged hs) index.now → (counts : List ℕ) × AllZip (Starts target hs) (map range_in index.now) counts × (result ≡ total counts) }
 {
     let mut sum = 0;
     for fde in index {
-        sum += starts_of(fde, target);
+        let found = found_fde(bytes, target, places, initials, fde);
+        sum += starts_of(&found, target);
     }
     sum
 }
@@ -61,6 +77,12 @@ impl<'a> Table<'a> {
         ensures { RowStarts self.now.target self.now.bytes result }
     {
         are_bytes(self.bytes);
-        sum_starts(&self.index, self.target)
+        sum_starts(
+            self.bytes,
+            self.target,
+            &self.places,
+            &self.initials,
+            &self.index,
+        )
     }
 }

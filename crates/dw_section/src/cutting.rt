@@ -1,6 +1,6 @@
 //! Cutting a section into its entries (6.4.1, 7.4).
 
-ghost use Rattle.std.specs.Prelude.{◌≡◌, ℕ, ◌+◌, map, ◌<◌, ◌≤◌, ◌==◌, List, length, MatchResult, IfOk, IfErr};
+ghost use Rattle.std.specs.Prelude.{◌≡◌, ℕ, ◌+◌, map, ◌<◌, ◌≤◌, ◌==◌, List, length, MatchResult, IfOk, IfErr, IfSome};
 ghost use Rattle.std.specs.List.{list_all};
 ghost use Rattle.dw_num.specs.declared.target.Order.{Order};
 ghost use Rattle.dw_num.specs.declared.target.Target.{Target};
@@ -8,7 +8,9 @@ ghost use Rattle.dw_num.specs.declared.refusal.Refusal.{Refusal};
 ghost use Rattle.dw_num.specs.declared.refusal.Code.TheVariants.{SectionTooLarge};
 ghost use Rattle.dw_num.specs.Input.{Takes};
 ghost use Rattle.dw_num.specs.Reading.{Gives};
-ghost use Rattle.dw_section.specs.Cut.{Cut, Item, IsItem, item_bytes, is_cie, id_width};
+ghost use Rattle.dw_section.specs.Cut.{Cut, Item, IsItem, Piece, item_bytes, is_cie, id_width};
+ghost use Rattle.dw_section.specs.Counts.{AreCounts, counted_by};
+ghost use Rattle.dw_section.specs.Left.{PiecesLeft, GivesPiece, GoesOn};
 ghost use Rattle.dw_section.specs.Pieces.{Pieces, Entries, piece_in, IsPlaced};
 ghost use Rattle.dw_section.specs.Faults.{item_at, item_of, CutFault, Refuses};
 ghost use Rattle.dw_section.specs.FaultPlaces.{IsWithin};
@@ -37,6 +39,13 @@ pub struct Entry {
     pub form: Form,
     /// How many bytes follow its length field.
     pub length: u64,
+}
+
+/// How many entries of each kind a section has.
+#[derive(Clone, Copy, Debug, PartialEq, Eq)]
+pub struct EntryCounts {
+    pub cies: usize,
+    pub fdes: usize,
 }
 
 // The longest section that is read.
@@ -115,6 +124,32 @@ fn next_part<'a>(cursor: &mut Cursor<'a>) -> Result<Part<'a>, Refusal>
     Ok(Part::Entry(unit.form, Program { bytes, at }))
 }
 
+// The next entry of a section that has a cut, or none behind the last one.
+pub(crate) fn next_piece<'a>(cursor: &mut Cursor<'a>) -> Option<Placed<'a>>
+    requires room { cursor.old.at + length cursor.old.bytes ≤ 2147483647 }
+    requires cut { (ps : List Piece) × PiecesLeft cursor.old ps }
+    ensures gives { (ps : List Piece) → PiecesLeft cursor.old ps → GivesPiece cursor.new result ps }
+    ensures on { GoesOn cursor.old result cursor.new }
+    ensures below { IfSome result (λ p. p.at ≤ 2147483647) }
+{
+    'gaps: while cursor.left() > 0 {
+        let at = cursor.at();
+        match next_part(cursor) {
+            Ok(Part::Gap) => {}
+            Ok(Part::Entry(form, contents)) => {
+                return Some(Placed {
+                    at,
+                    form,
+                    kind: kind_in(form, contents.bytes),
+                    contents,
+                });
+            }
+            Err(_) => return None,
+        }
+    }
+    None
+}
+
 // A cursor over a section that is not too long.
 fn start<'a>(bytes: &'a [u8], target: Target) -> Result<Cursor<'a>, Refusal>
     ensures found { IfOk result (λ c. (c ≡ record { at = 0; bytes = bytes.now; target = target }) × (length bytes.now ≤ 2147483647)) }
@@ -129,30 +164,39 @@ fn start<'a>(bytes: &'a [u8], target: Target) -> Result<Cursor<'a>, Refusal>
     Ok(Cursor::new(bytes, 0, target))
 }
 
-// The entries of a section with their contents, in order.
-pub(crate) fn all_pieces<'a>(
-    alloc: Global,
-    bytes: &'a [u8],
-    target: Target,
-) -> Result<Vec<Placed<'a>>, SectionError>
-    ensures found { IfOk result (λ v. Pieces target bytes.now (map piece_in v.items)) }
-    ensures first { IfErr result (Refuses (CutFault target bytes.now)) }
+// One entry more.
+fn counted(counts: EntryCounts, kind: Kind) -> EntryCounts
+    requires { counts.cies + counts.fdes ≤ 2147483647 }
+    ensures { result ≡ counted_by counts kind }
+{
+    match kind {
+        Kind::Cie => EntryCounts {
+            cies: counts.cies + 1,
+            fdes: counts.fdes,
+        },
+        Kind::Fde => EntryCounts {
+            cies: counts.cies,
+            fdes: counts.fdes + 1,
+        },
+    }
+}
+
+/// Cuts a section, and counts its entries. Takes no memory.
+pub(crate) fn cut(bytes: &[u8], target: Target) -> Result<EntryCounts, Refusal>
+    ensures found { IfOk result (λ n. (ps : List Piece) × Pieces target bytes.now ps × AreCounts ps n) }
+    ensures first { IfErr result (CutFault target bytes.now) }
 {
     let mut cursor = start(bytes, target)?;
-    let mut found = Vec::new(alloc);
+    let mut counts = EntryCounts { cies: 0, fdes: 0 };
     'items: while cursor.left() > 0 {
-        let at = cursor.at();
         match next_part(&mut cursor)? {
             Part::Gap => {}
-            Part::Entry(form, contents) => found.push(Placed {
-                at,
-                form,
-                kind: kind_in(form, contents.bytes),
-                contents,
-            })?,
+            Part::Entry(form, contents) => {
+                counts = counted(counts, kind_in(form, contents.bytes));
+            }
         }
     }
-    Ok(found)
+    Ok(counts)
 }
 
 fn all_entries(alloc: Global, bytes: &[u8], target: Target) -> Result<Vec<Entry>, SectionError>

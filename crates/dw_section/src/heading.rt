@@ -1,6 +1,7 @@
 //! The headers of a section: the fields of its entries.
 
-ghost use Rattle.std.specs.Prelude.{◌≡◌, ℕ, ◌+◌, ◌≤◌, List, length, map, IfOk, IfErr, MatchResult};
+ghost use Rattle.std.specs.Prelude.{◌≡◌, ℕ, ◌+◌, ◌≤◌, List, [], ◌∷◌, ◌++◌, length, map, IfOk, IfErr, IfSome, OnOk, MatchResult};
+ghost use Rattle.dw_section.specs.Cut.{Piece};
 ghost use Rattle.std.specs.List.{AllByRecursion, AllZip};
 ghost use Rattle.dw_num.specs.Span.{span_of};
 ghost use Rattle.dw_section.specs.declared.cutting.Kind.TheVariants as kind;
@@ -11,11 +12,13 @@ ghost use Rattle.dw_section.specs.Overlap.{Range, IsIndex};
 ghost use Rattle.dw_section.specs.Stage.{FirstStuck, Answers};
 ghost use Rattle.dw_section.specs.Faults.{Refuses};
 ghost use Rattle.dw_section.specs.FaultPlaces.{IsWithin};
-ghost use Rattle.dw_section.specs.Pieces.{piece_in};
+ghost use Rattle.dw_section.specs.Pieces.{Pieces, piece_in};
 ghost use Rattle.dw_section.specs.Places.{cie_places, Rises};
+ghost use Rattle.dw_section.specs.Heads.{head_at};
+ghost use Rattle.dw_section.specs.Left.{HeadsLeft, GivesHead, GoesOn};
 ghost use Rattle.dw_section.specs.Headers.{Head, Has, Headers, cie_at, fde_at, program_of, head_in, CieHolds, CieStuck, FdeHolds, FdeStuck, HeadersFault};
 
-use crate::cutting::{Kind, Placed, all_pieces, width_of};
+use crate::cutting::{Kind, Placed, cut, next_piece, width_of};
 use crate::error::SectionError;
 use crate::fields::{read_cie, read_fde};
 use dw_num::{Cursor, Form, Program, Refusal, Target, are_bytes};
@@ -56,7 +59,7 @@ fn rest_of<'a>(cursor: &Cursor<'a>) -> Program<'a>
 }
 
 #[tactic(auto, unfolding(crate::specs::Headers::cie_at))]
-fn cie_header<'a>(piece: &Placed<'a>, target: Target) -> Result<Header<'a>, Refusal>
+pub(crate) fn cie_header<'a>(piece: &Placed<'a>, target: Target) -> Result<Header<'a>, Refusal>
     requires { piece.now.kind ≡ kind.Cie }
     ensures exact { Answers head_in result (cie_at target (piece_in piece.now)) }
     ensures found { (places : List ℕ) → IfOk result (λ h. Has target places (piece_in piece.now) (head_in h)) }
@@ -97,24 +100,6 @@ fn fde_header<'a>(piece: &Placed<'a>, places: &[u64], target: Target) -> Result<
     })
 }
 
-// Reads the fields of all CIEs, and tells where these stand.
-fn places_of(alloc: Global, pieces: &[Placed<'_>], target: Target) -> Result<Vec<u64>, SectionError>
-    ensures found { IfOk result (λ v. AllByRecursion (CieHolds target) (map piece_in pieces.now) × (v.items ≡ cie_places (map piece_in pieces.now))) }
-    ensures first { IfErr result (Refuses (FirstStuck (CieHolds target) (CieStuck target) (map piece_in pieces.now))) }
-{
-    let mut places = Vec::new(alloc);
-    for piece in pieces {
-        match piece.kind {
-            Kind::Cie => {
-                let _ = cie_header(piece, target)?;
-                places.push(piece.at)?;
-            }
-            Kind::Fde => {}
-        }
-    }
-    Ok(places)
-}
-
 // The header of an entry whose fields hold if it is a CIE.
 fn header_of<'a>(piece: &Placed<'a>, places: &[u64], target: Target) -> Result<Header<'a>, Refusal>
     requires holds { CieHolds target (piece_in piece.now) }
@@ -128,25 +113,110 @@ fn header_of<'a>(piece: &Placed<'a>, places: &[u64], target: Target) -> Result<H
     }
 }
 
-fn headers_of<'a>(
-    alloc: Global,
-    pieces: &[Placed<'a>],
-    places: &[u64],
-    target: Target,
-) -> Result<Vec<Header<'a>>, SectionError>
-    requires hold { AllByRecursion (CieHolds target) (map piece_in pieces.now) }
-    requires ascending { Rises 0 places.now }
-    ensures found { IfOk result (λ v. AllZip (Has target places.now) (map piece_in pieces.now) (map head_in v.items)) }
-    ensures first { IfErr result (Refuses (FirstStuck (FdeHolds target places.now) (FdeStuck target places.now) (map piece_in pieces.now))) }
+// Keeps the place of a piece that is a CIE, whose fields are read.
+fn keep_cie(places: &mut Vec<u64>, piece: &Placed<'_>, target: Target) -> Result<(), SectionError>
+    ensures found { (ps : List Piece) → AllByRecursion (CieHolds target) ps → places.old.items ≡ cie_places ps → OnOk result (AllByRecursion (CieHolds target) (ps ++ piece_in piece.now ∷ []) × (places.new.items ≡ cie_places (ps ++ piece_in piece.now ∷ []))) }
+    ensures first { IfErr result (Refuses (CieStuck target (piece_in piece.now))) }
 {
-    let mut headers = Vec::new(alloc);
-    for piece in pieces {
-        headers.push(header_of(piece, places, target)?)?;
+    match piece.kind {
+        Kind::Cie => {
+            let _ = cie_header(piece, target)?;
+            places.push(piece.at)?;
+            Ok(())
+        }
+        Kind::Fde => Ok(()),
+    }
+}
+
+/// Reads the fields of the CIEs of a section that has a cut, and tells where they stand.
+pub(crate) fn find_cies(
+    alloc: Global,
+    bytes: &[u8],
+    target: Target,
+    count: usize,
+) -> Result<Vec<u64>, SectionError>
+    requires { (ps : List Piece) × Pieces target bytes.now ps }
+    ensures found { (ps : List Piece) → Pieces target bytes.now ps → IfOk result (λ v. AllByRecursion (CieHolds target) ps × (v.items ≡ cie_places ps)) }
+    ensures first { (ps : List Piece) → Pieces target bytes.now ps → IfErr result (Refuses (FirstStuck (CieHolds target) (CieStuck target) ps)) }
+{
+    let mut cursor = Cursor::new(bytes, 0, target);
+    let mut places = Vec::with_capacity(alloc, count)?;
+    'pieces: while let Some(piece) = next_piece(&mut cursor) {
+        keep_cie(&mut places, &piece, target)?;
+    }
+    Ok(places)
+}
+
+// Reads the fields of a piece that is an FDE.
+fn fde_holds(piece: &Placed<'_>, places: &[u64], target: Target) -> Result<(), Refusal>
+    requires { Rises 0 places.now }
+    ensures found { CieHolds target (piece_in piece.now) → IfOk result (λ _. (h : Head) × Has target places.now (piece_in piece.now) h) }
+    ensures stuck { IfErr result (FdeStuck target places.now (piece_in piece.now)) }
+{
+    match piece.kind {
+        Kind::Cie => Ok(()),
+        Kind::Fde => {
+            let _ = fde_header(piece, places, target)?;
+            Ok(())
+        }
+    }
+}
+
+/// Reads the fields of the FDEs of a section that has a cut, behind those of its CIEs.
+pub(crate) fn fdes_hold(bytes: &[u8], target: Target, places: &[u64]) -> Result<(), Refusal>
+    requires ascending { Rises 0 places.now }
+    requires cies { (ps : List Piece) × Pieces target bytes.now ps × AllByRecursion (CieHolds target) ps }
+    ensures found { (ps : List Piece) → Pieces target bytes.now ps → AllByRecursion (CieHolds target) ps → IfOk result (λ _. (hs : List Head) × AllZip (Has target places.now) ps hs) }
+    ensures first { (ps : List Piece) → Pieces target bytes.now ps → AllByRecursion (CieHolds target) ps → IfErr result (FirstStuck (FdeHolds target places.now) (FdeStuck target places.now) ps) }
+{
+    let mut cursor = Cursor::new(bytes, 0, target);
+    'pieces: while let Some(piece) = next_piece(&mut cursor) {
+        fde_holds(&piece, places, target)?;
+    }
+    Ok(())
+}
+
+// The next header of a section that has headers, or none behind the last one.
+pub(crate) fn next_header<'a>(cursor: &mut Cursor<'a>, places: &[u64]) -> Option<Header<'a>>
+    requires room { cursor.old.at + length cursor.old.bytes ≤ 2147483647 }
+    requires ascending { Rises 0 places.now }
+    requires headers { (hs : List Head) × HeadsLeft places.now cursor.old hs }
+    ensures gives { (hs : List Head) → HeadsLeft places.now cursor.old hs → GivesHead places.now cursor.new result hs }
+    ensures on { GoesOn cursor.old result cursor.new }
+    ensures below { IfSome result (λ h. head_at (head_in h) ≤ 2147483647) }
+{
+    let target = cursor.target();
+    let Some(piece) = next_piece(cursor) else {
+        return None;
+    };
+    match header_of(&piece, places, target) {
+        Ok(header) => Some(header),
+        Err(_) => None,
+    }
+}
+
+// Reads the fields of the entries of a section that has a cut, behind those of its CIEs.
+fn read_headers<'a>(
+    alloc: Global,
+    bytes: &'a [u8],
+    target: Target,
+    places: &[u64],
+    count: usize,
+) -> Result<Vec<Header<'a>>, SectionError>
+    requires ascending { Rises 0 places.now }
+    requires cies { (ps : List Piece) × Pieces target bytes.now ps × AllByRecursion (CieHolds target) ps }
+    ensures found { (ps : List Piece) → Pieces target bytes.now ps → AllByRecursion (CieHolds target) ps → IfOk result (λ v. AllZip (Has target places.now) ps (map head_in v.items)) }
+    ensures first { (ps : List Piece) → Pieces target bytes.now ps → AllByRecursion (CieHolds target) ps → IfErr result (Refuses (FirstStuck (FdeHolds target places.now) (FdeStuck target places.now) ps)) }
+{
+    let mut cursor = Cursor::new(bytes, 0, target);
+    let mut headers = Vec::with_capacity(alloc, count)?;
+    'pieces: while let Some(piece) = next_piece(&mut cursor) {
+        headers.push(header_of(&piece, places, target)?)?;
     }
     Ok(headers)
 }
 
-pub(crate) fn all_headers<'a>(
+fn all_headers<'a>(
     alloc: Global,
     bytes: &'a [u8],
     target: Target,
@@ -154,9 +224,9 @@ pub(crate) fn all_headers<'a>(
     ensures found { IfOk result (λ v. Headers target bytes.now (map head_in v.items)) }
     ensures first { IfErr result (Refuses (HeadersFault target bytes.now)) }
 {
-    let pieces = all_pieces(alloc, bytes, target)?;
-    let places = places_of(alloc, &pieces, target)?;
-    headers_of(alloc, &pieces, &places, target)
+    let counts = cut(bytes, target)?;
+    let places = find_cies(alloc, bytes, target, counts.cies)?;
+    read_headers(alloc, bytes, target, &places, counts.cies + counts.fdes)
 }
 
 /// The headers of a section in order of place: the fields of each entry, CIEs of versions 1, 3 and 4 in both
@@ -165,7 +235,7 @@ pub(crate) fn all_headers<'a>(
 /// A refusal is the first fault of size and cut, as `entries` has it, then of the fields of CIEs by place (each
 /// from left to right: `Truncated`, `BadVersion`, `Augmentation`, `AddressSize`, `SegmentSelector`,
 /// `NumberTooLarge`, `RegisterTooLarge`), then of the fields of FDEs by place (`Truncated`, `NoSuchCie`,
-/// `RangeTooLarge`). It takes memory for three lists; a pointer is looked up by halving.
+/// `RangeTooLarge`). It takes memory for its list and for the places of CIEs; a pointer is looked up by halving.
 pub fn headers<'a>(
     alloc: Global,
     bytes: &'a [u8],

@@ -1,42 +1,42 @@
 //! Nonempty FDEs in the order of their begins, and those that share an address.
 
-ghost use Rattle.std.specs.Prelude.{◌≡◌, ◌+◌, ◌<◌, ℕ, true, List, [], ◌∷◌, length, slice_index_or, map, IfOk, IfErr, IfSome, OnOk, MatchOption};
+ghost use Rattle.std.specs.Prelude.{◌≡◌, ◌+◌, ◌<◌, ◌≤◌, ℕ, true, List, [], ◌∷◌, ◌++◌, length, slice_index_or, map, IfOk, IfErr, IfSome, OnOk, MatchOption};
 ghost use Rattle.std.specs.List.{AllByRecursion};
 ghost use Rattle.dw_num.specs.declared.refusal.Code.TheVariants.{Overlap};
 ghost use Rattle.dw_num.specs.declared.target.Target.{Target as TheTarget};
 ghost use Rattle.dw_section.specs.declared.error.SectionError.TheVariants.{OutOfMemory};
 ghost use Rattle.dw_section.specs.declared.indexing.Ranged.{Ranged as TheRanged};
 ghost use Rattle.dw_section.specs.Headers.{Head, head_in};
-ghost use Rattle.dw_section.specs.Heads.{FdeFits};
-ghost use Rattle.dw_section.specs.Index.{range_in, IsRanged, PlacesRise, SameMembers};
-ghost use Rattle.dw_section.specs.Initials.{place_of, IsInitial};
+ghost use Rattle.dw_section.specs.Heads.{FdeFits, head_at};
+ghost use Rattle.dw_section.specs.Faults.{Refuses};
+ghost use Rattle.dw_section.specs.Left.{AreHeaders};
+ghost use Rattle.dw_section.specs.Stage.{FirstStuck};
+ghost use Rattle.dw_section.specs.Index.{range_in, IsRanged, AreJudged, PlacesRise, SameMembers};
+ghost use Rattle.dw_section.specs.Initials.{place_of, or_place, IsInitial, AreInitials};
 ghost use Rattle.dw_section.specs.Overlap.{nonempty, Ascends, AreApart, FirstOverlap};
 ghost use Rattle.dw_section.specs.Places.{Rises};
-ghost use Rattle.dw_section.specs.Programs.{IsAmong};
+ghost use Rattle.dw_section.specs.Programs.{IsAmong, FdeRuns, FdeBroken};
 
 use crate::error::SectionError;
-use crate::heading::Header;
-use crate::judging::{Initial, initial_at};
-use dw_cfa::Factors;
-use dw_num::Program;
+use crate::heading::{Header, next_header};
+use crate::judging::{Initial, Runner, initial_at, judge};
+use dw_num::{Cursor, Target};
 use std::alloc::{AllocError, Global};
 
-/// A nonempty FDE: its place, its range and its program, and what its CIE says.
+/// A nonempty FDE: its range, its place, and the return register of its CIE.
 #[derive(Clone, Copy)]
-pub(crate) struct Ranged<'a> {
-    pub(crate) at: u64,
+pub(crate) struct Ranged {
     pub(crate) begin: u64,
     pub(crate) range: u64,
-    pub(crate) program: Program<'a>,
-    pub(crate) cie_program: Program<'a>,
-    pub(crate) factors: Factors,
+    pub(crate) at: u32,
     pub(crate) return_register: u16,
 }
 
 // What is kept of an entry, where it is a nonempty FDE.
-fn range_of<'a>(header: &Header<'a>, initials: &[Initial<'a>]) -> Option<Ranged<'a>>
+fn range_of(header: &Header<'_>, initials: &[Initial<'_>]) -> Option<Ranged>
     requires ascending { Rises 0 (map place_of initials.now) }
     requires fits { (target : TheTarget) × FdeFits target (map place_of initials.now) (head_in header.now) }
+    requires below { head_at (head_in header.now) ≤ 2147483647 }
     ensures range { MatchOption result (nonempty (head_in header.now ∷ []) ≡ []) (λ e. nonempty (head_in header.now ∷ []) ≡ range_in e ∷ []) }
     ensures is { (target : TheTarget) (hs : List Head) → AllByRecursion (IsInitial target hs) initials.now → IsAmong (head_in header.now) hs → IfSome result (IsRanged hs) }
 {
@@ -47,16 +47,13 @@ fn range_of<'a>(header: &Header<'a>, initials: &[Initial<'a>]) -> Option<Ranged<
             cie_at,
             begin,
             range,
-            program,
+            program: _,
         } if range > 0 => {
             let initial = initial_at(initials, cie_at);
             Some(Ranged {
-                at,
                 begin,
                 range,
-                program,
-                cie_program: initial.program,
-                factors: initial.factors,
+                at: at as u32,
                 return_register: initial.return_register,
             })
         }
@@ -64,29 +61,78 @@ fn range_of<'a>(header: &Header<'a>, initials: &[Initial<'a>]) -> Option<Ranged<
     }
 }
 
-/// The nonempty FDEs in order of place.
-pub(crate) fn ranges_of<'a>(
-    alloc: Global,
-    headers: &[Header<'a>],
-    initials: &[Initial<'a>],
-) -> Result<Vec<Ranged<'a>>, SectionError>
+// Lists an entry, where it is a nonempty FDE.
+fn keep_range(
+    list: &mut Vec<Ranged>,
+    header: &Header<'_>,
+    initials: &[Initial<'_>],
+) -> Result<(), SectionError>
     requires ascending { Rises 0 (map place_of initials.now) }
-    requires fit { (target : TheTarget) × AllByRecursion (FdeFits target (map place_of initials.now)) (map head_in headers.now) }
-    ensures found { IfOk result (λ v. map range_in v.items ≡ nonempty (map head_in headers.now)) }
-    ensures each { (target : TheTarget) → AllByRecursion (IsInitial target (map head_in headers.now)) initials.now → IfOk result (λ v. AllByRecursion (IsRanged (map head_in headers.now)) v.items) }
+    requires fits { (target : TheTarget) × FdeFits target (map place_of initials.now) (head_in header.now) }
+    requires below { head_at (head_in header.now) ≤ 2147483647 }
+    ensures found { OnOk result (map range_in list.new.items ≡ map range_in list.old.items ++ nonempty (head_in header.now ∷ [])) }
+    ensures each { (target : TheTarget) (hs : List Head) → AllByRecursion (IsInitial target hs) initials.now → IsAmong (head_in header.now) hs → AllByRecursion (IsRanged hs) list.old.items → OnOk result (AllByRecursion (IsRanged hs) list.new.items) }
     ensures err { IfErr result (λ e. e ≡ OutOfMemory) }
 {
-    let mut list = Vec::new(alloc);
-    for header in headers {
-        if let Some(fde) = range_of(header, initials) {
+    match range_of(header, initials) {
+        Some(fde) => {
             list.push(fde)?;
+            Ok(())
         }
+        None => Ok(()),
     }
-    Ok(list)
+}
+
+// The place of an entry.
+fn entry_at(header: &Header<'_>) -> u64
+    ensures { result ≡ head_at (head_in header.now) }
+{
+    match *header {
+        Header::Cie { at, .. } => at,
+        Header::Fde { at, .. } => at,
+    }
+}
+
+// The first place of these and the next.
+fn or_place(place: Option<u64>, lacks: bool, at: u64) -> Option<u64>
+    ensures { result ≡ or_place place lacks at }
+{
+    match place {
+        Some(place) => Some(place),
+        None if lacks => Some(at),
+        None => None,
+    }
+}
+
+/// Runs the programs of the FDEs of a section that has headers, behind those of its CIEs, and lists the nonempty ones in
+/// order of place, or tells the place of the first one with an address that has no rule for the CFA.
+pub(crate) fn run_fdes<'a>(
+    alloc: Global,
+    bytes: &'a [u8],
+    target: Target,
+    places: &[u64],
+    initials: &[Initial<'a>],
+    count: usize,
+) -> Result<(Vec<Ranged>, Option<u64>), SectionError>
+    requires ascending { Rises 0 places.now }
+    requires headers { (hs : List Head) × AreHeaders target bytes.now places.now hs × AreInitials target hs hs initials.now }
+    ensures found { (hs : List Head) → AreHeaders target bytes.now places.now hs → AreInitials target hs hs initials.now → IfOk result (λ p. AreJudged target hs hs p.1 p.0.items) }
+    ensures first { (hs : List Head) → AreHeaders target bytes.now places.now hs → AreInitials target hs hs initials.now → IfErr result (Refuses (FirstStuck (FdeRuns target hs) (FdeBroken target hs) hs)) }
+{
+    let mut runner = Runner::new(alloc, initials, target)?;
+    let mut cursor = Cursor::new(bytes, 0, target);
+    let mut list = Vec::with_capacity(alloc, count)?;
+    let mut lacking = None;
+    'headers: while let Some(header) = next_header(&mut cursor, places) {
+        let lacks = judge(alloc, &mut runner, &header, initials, target)?;
+        lacking = or_place(lacking, lacks, entry_at(&header));
+        keep_range(&mut list, &header, initials)?;
+    }
+    Ok((list, lacking))
 }
 
 // Whether each begins behind the begin of the one before it.
-fn begins_rise(list: &[Ranged<'_>]) -> bool
+fn begins_rise(list: &[Ranged]) -> bool
     ensures { result ≡ true → (k : ℕ) (d : TheRanged) → k + 1 < length list.now → (slice_index_or list.now k d).begin < (slice_index_or list.now (k + 1) d).begin }
 {
     for i in 1..list.len() {
@@ -98,7 +144,7 @@ fn begins_rise(list: &[Ranged<'_>]) -> bool
 }
 
 /// Puts FDEs in the order of their begins, and those of one begin in that of their places.
-pub(crate) fn put_in_order(list: &mut Vec<Ranged<'_>>) -> Result<(), AllocError>
+pub(crate) fn put_in_order(list: &mut Vec<Ranged>) -> Result<(), AllocError>
     requires { PlacesRise 0 (map range_in list.old.items) }
     ensures len { OnOk result (length list.new.items ≡ length list.old.items) }
     ensures ascends { OnOk result (Ascends (map range_in list.new.items)) }
@@ -112,14 +158,14 @@ pub(crate) fn put_in_order(list: &mut Vec<Ranged<'_>>) -> Result<(), AllocError>
 }
 
 /// The place of the first FDE in that order that begins below the end of one before it.
-pub(crate) fn first_overlap(list: &[Ranged<'_>]) -> Option<u64>
+pub(crate) fn first_overlap(list: &[Ranged]) -> Option<u64>
     ensures { MatchOption result (AreApart (map range_in list.now)) (λ at. FirstOverlap (map range_in list.now) (record { code = Overlap; at = at })) }
 {
     let mut greatest: u128 = 0;
     for fde in list {
         let begin = u128::from(fde.begin);
         if begin < greatest {
-            return Some(fde.at);
+            return Some(u64::from(fde.at));
         }
         greatest = begin + u128::from(fde.range);
     }

@@ -7,16 +7,20 @@ ghost use Rattle.dw_num.specs.declared.target.Target.{Target as TheTarget};
 ghost use Rattle.dw_section.specs.declared.error.SectionError.TheVariants as TheError;
 ghost use Rattle.dw_section.specs.declared.error.SectionError.TheVariants.{OutOfMemory};
 ghost use Rattle.dw_section.specs.Accepted.{RulesFault, CheckFault, Accepted};
+ghost use Rattle.dw_section.specs.Counts.{AreCounts};
+ghost use Rattle.dw_section.specs.Cut.{Piece};
 ghost use Rattle.dw_section.specs.Faults.{Refuses};
 ghost use Rattle.dw_section.specs.FaultPlaces.{IsWithin};
 ghost use Rattle.dw_section.specs.declared.lookup.Fde.{Fde as TheFde};
 ghost use Rattle.dw_section.specs.Meaning.{AreFdes};
-ghost use Rattle.dw_section.specs.Table.{Section, AreRanges, AreIndexed};
+ghost use Rattle.dw_section.specs.Pieces.{Pieces};
+ghost use Rattle.dw_section.specs.Table.{Section, AreRanges, IsKept};
 
+use crate::cutting::{EntryCounts, cut};
 use crate::error::SectionError;
-use crate::heading::all_headers;
-use crate::indexing::{Ranged, first_overlap, put_in_order, ranges_of};
-use crate::judging::{run_cies, run_fdes};
+use crate::heading::{fdes_hold, find_cies};
+use crate::indexing::{Ranged, first_overlap, put_in_order, run_fdes};
+use crate::judging::{Initial, run_cies};
 use dw_num::{Code, Refusal, Target, are_bytes};
 use std::alloc::Global;
 use std::marker::Model;
@@ -27,17 +31,20 @@ use std::marker::Model;
 pub struct Table<'a> {
     pub(crate) bytes: &'a [u8],
     pub(crate) target: Target,
-    pub(crate) index: Vec<Ranged<'a>>,
+    pub(crate) counts: EntryCounts,
+    pub(crate) places: Vec<u64>,
+    pub(crate) initials: Vec<Initial<'a>>,
+    pub(crate) index: Vec<Ranged>,
 }
 
 impl<'a> Model for Table<'a> {
-    ghost use Rattle.dw_section.specs.Table.{Section, IsTable};
+    ghost use Rattle.dw_section.specs.Table.{Section, IsTable, IsKept};
 
     ghost Value = { Section };
 
     ghost view = { λ t. record { target = t.target; bytes = t.bytes.now } };
 
-    ghost invariant = { λ t. IsTable t.target t.bytes.now t.index.items };
+    ghost invariant = { λ t. IsTable t.target t.bytes.now t.index.items × IsKept t.target t.bytes.now t.counts t.places.items t.initials.items };
 }
 
 impl<'a> Table<'a> {
@@ -56,6 +63,13 @@ impl<'a> Table<'a> {
     {
         are_bytes(self.bytes);
     }
+
+    /// How many CIEs and FDEs the section has.
+    pub fn counts(&self) -> EntryCounts
+        ensures { (ps : List Piece) → Pieces self.now.target self.now.bytes ps → AreCounts ps result }
+    {
+        self.counts
+    }
 }
 
 fn refused(code: Code, at: u64) -> SectionError
@@ -64,47 +78,51 @@ fn refused(code: Code, at: u64) -> SectionError
     SectionError::Refused(Refusal { code, at })
 }
 
-// The nonempty FDEs in order of place, where all programs run and give the CFA a rule at each address.
-fn judged<'a>(
-    alloc: Global,
-    bytes: &'a [u8],
-    target: Target,
-) -> Result<Vec<Ranged<'a>>, SectionError>
-    ensures found { IfOk result (λ v. AreRanges target bytes.now v.items) }
-    ensures first { IfErr result (Refuses (RulesFault target bytes.now)) }
-{
-    let headers = all_headers(alloc, bytes, target)?;
-    let mut initials = run_cies(alloc, &headers, target)?;
-    match run_fdes(&headers, &mut initials, target)? {
-        Some(at) => Err(refused(Code::NoCfaRule, at)),
-        None => ranges_of(alloc, &headers, &initials),
-    }
+// What is kept of a section.
+#[derive(Drop)]
+struct Sound<'a> {
+    counts: EntryCounts,
+    places: Vec<u64>,
+    initials: Vec<Initial<'a>>,
+    list: Vec<Ranged>,
 }
 
-// The same in order of begin.
-fn indexed<'a>(
-    alloc: Global,
-    bytes: &'a [u8],
-    target: Target,
-) -> Result<Vec<Ranged<'a>>, SectionError>
-    ensures found { IfOk result (λ v. AreIndexed target bytes.now v.items) }
+// The CIEs, and the nonempty FDEs in order of place, where all programs run and give the CFA a rule at each address.
+fn judged<'a>(alloc: Global, bytes: &'a [u8], target: Target) -> Result<Sound<'a>, SectionError>
+    ensures found { IfOk result (λ j. AreRanges target bytes.now j.list.items × IsKept target bytes.now j.counts j.places.items j.initials.items) }
     ensures first { IfErr result (Refuses (RulesFault target bytes.now)) }
 {
-    let mut list = judged(alloc, bytes, target)?;
-    put_in_order(&mut list)?;
-    Ok(list)
+    let counts = cut(bytes, target)?;
+    let places = find_cies(alloc, bytes, target, counts.cies)?;
+    fdes_hold(bytes, target, &places)?;
+    let initials = run_cies(alloc, bytes, target, &places)?;
+    let (list, lacking) = run_fdes(alloc, bytes, target, &places, &initials, counts.fdes)?;
+    match lacking {
+        Some(at) => Err(refused(Code::NoCfaRule, at)),
+        None => Ok(Sound {
+            counts,
+            places,
+            initials,
+            list,
+        }),
+    }
 }
 
 fn checked<'a>(alloc: Global, bytes: &'a [u8], target: Target) -> Result<Table<'a>, SectionError>
     ensures found { IfOk result (λ table. (table ≡ record { target = target; bytes = bytes.now }) × Accepted target bytes.now) }
     ensures first { IfErr result (Refuses (CheckFault target bytes.now)) }
 {
-    let index = indexed(alloc, bytes, target)?;
+    let judged = judged(alloc, bytes, target)?;
+    let mut index = judged.list;
+    put_in_order(&mut index)?;
     match first_overlap(&index) {
         Some(at) => Err(refused(Code::Overlap, at)),
         None => Ok(Table {
             bytes,
             target,
+            counts: judged.counts,
+            places: judged.places,
+            initials: judged.initials,
             index,
         }),
     }

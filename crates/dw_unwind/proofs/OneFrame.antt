@@ -19,7 +19,7 @@ use Rattle.dw_section.specs.Meaning.{Lists, Covers, NoneCovers}
 use Rattle.dw_section.specs.Overlap.{Range, AreApart, IsIndex, end_of}
 use Rattle.dw_section.proofs.HeaderLaws.{one_headers}
 use Rattle.dw_section.proofs.Index.{one_index}
-use Rattle.dw_section.proofs.Lookups.{one_fdes}
+use Rattle.dw_section.proofs.FdeLookup.{one_fdes}
 use Rattle.dw_section.proofs.Sections.{one_rules}
 use Rattle.dw_unwind.specs.declared.frame.Column.{Column}
 use Rattle.dw_unwind.specs.declared.frame.Frame.{Frame}

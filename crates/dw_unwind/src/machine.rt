@@ -1,8 +1,7 @@
 //! What the columns of a row give for a machine that stopped (6.4.1).
 
-ghost use Rattle.std.specs.Prelude.{◌≡◌, ◌↔◌, ℕ, Option, ◌+◌, ◌-◌, ◌%◌, ◌^◌, ◌<◌, ◌≤◌, pos, ◌+ℤ◌, IsTrue, Some, None, Ok, Err, option_map, []};
-ghost use Rattle.dw_num.specs.Target.{address_limit, byte_count};
-ghost use Rattle.dw_op.specs.OpSpells.{modulo};
+ghost use Rattle.std.specs.Prelude.{◌≡◌, ℕ, Option, ◌-◌, ◌^◌, ◌<◌, Some, None, Ok, Err};
+ghost use Rattle.dw_num.specs.Target.{byte_count};
 ghost use Rattle.dw_cfa.specs.declared.rule.CfaRule.TheVariants.{Unset};
 ghost use Rattle.dw_eval.specs.Context.{context};
 ghost use Rattle.dw_eval.specs.Evaluation.{first_stack};

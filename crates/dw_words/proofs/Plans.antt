@@ -34,12 +34,6 @@ module _ {X : Type 0} (f : X → Text) (g : X → List Row) where
 pub one_run : (kinds : Kinds) (found : Option (Text × List Row)) (name : Text) (rows : List Row) → kinds ≡ [] → found ≡ Some (name, rows) → run_where kinds found ≡ run_in name rows
 one_run kinds found name rows none is = rw (none, is) refl
 
--- nothing is wanted of a value that is none
-pub fails_map : {X Y : Type 0} (f : X → Y) (o : Option X) (e : PlanError) → Fails o e → Fails (option_map f o) e
-fails_map f o (errors.BadValue what) h = rw h refl
-fails_map f o (errors.Words error) h = h
-fails_map f o errors.OutOfMemory h = h
-
 -- words that clap takes, with a value that is none
 pub failed : (words : List Text) (inner : Option Run) (e : PlanError) → fault_of dwframe words ≡ [] → run_of words ≡ inner → Fails inner e → Planned words (Err e)
 failed words inner (errors.BadValue what) none is h = (none, is ∙ h)

@@ -1,6 +1,6 @@
 //! What the texts of options and operands say.
 
-ghost use Rattle.std.specs.Prelude.{◌≡◌, ◌⊎◌, ◌<◌, ◌≤◌, Some, None, MatchResult, length};
+ghost use Rattle.std.specs.Prelude.{◌≡◌, ◌⊎◌, ◌<◌, Some, None, MatchResult};
 ghost use Rattle.dw_words.specs.Values.{size_of, order_of, default_of, profile_of, digit_behind, number_behind, decimal, address, block_of};
 ghost use Rattle.hex.specs.Hex.{hex_digit_value};
 ghost use Rattle.hex.specs.declared.error.FromHexError.TheVariants.{OutOfMemory as NoMemory};

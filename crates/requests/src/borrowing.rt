@@ -1,14 +1,9 @@
 //! The calls on borrowed expressions that take no memory.
 
-use dw_num::{Order, Size, Target};
+use crate::TARGET;
 use dw_op::ExprRef;
 use std::hash::{DefaultHasher, Hash, Hasher};
-use std::io;
-
-const TARGET: Target = Target {
-    size: Size::Eight,
-    order: Order::Little,
-};
+use std::test::Fail;
 
 const BLOCKS: [&[u8]; 7] = [
     b"\x2f\x12\x00\x0e\x05\0\0\0\0\0\0\0\x0e\x06\0\0\0\0\0\0\0\x37",
@@ -26,26 +21,21 @@ fn hash_of(expression: &ExprRef<'_>) -> u64 {
     state.finish()
 }
 
-fn pair(rt: &impl Print, a: &[u8], b: &[u8]) -> io::Result<()> {
-    let first = match ExprRef::accept(a, TARGET) {
-        Ok(expression) => expression,
-        Err(refusal) => return println!(rt; "{} at {}", refusal.code.name(), refusal.at),
-    };
-    let second = match ExprRef::accept(b, TARGET) {
-        Ok(expression) => expression,
-        Err(refusal) => return println!(rt; "{} at {}", refusal.code.name(), refusal.at),
+fn pair(rt: &impl Print, a: &[u8], b: &[u8]) -> Result<(), Fail> {
+    let (first, second) = match (ExprRef::accept(a, TARGET), ExprRef::accept(b, TARGET)) {
+        (Ok(first), Ok(second)) => (first, second),
+        (Err(refusal), _) | (Ok(_), Err(refusal)) => {
+            return Ok(println!(rt; "{} at {}", refusal.code.name(), refusal.at)?);
+        }
     };
     let equal = first == second;
     let alike = hash_of(&first) == hash_of(&second);
-    println!(rt;
-        "{equal} {alike} {} {}",
-        first.least_len(),
-        second.least_len()
-    )
+    let lengths = (first.least_len(), second.least_len());
+    Ok(println!(rt; "{equal} {alike} {} {}", lengths.0, lengths.1)?)
 }
 
 /// Accepts, compares and hashes each pair of blocks.
-pub fn all(rt: &impl Print) -> io::Result<()> {
+pub fn all(rt: &impl Print) -> Result<(), Fail> {
     for a in BLOCKS {
         for b in BLOCKS {
             pair(rt, a, b)?;

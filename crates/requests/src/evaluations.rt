@@ -1,19 +1,12 @@
-//! The calls on dumps, on registers and on memory: what is read of a dump, and what expressions and location
-//! descriptions say over it.
+//! The calls on dumps and over them: what is read of a dump, and what expressions and location descriptions say.
 
-ghost use Rattle.std.specs.Prelude.{◌≡◌, ◌<◌};
-
-use crate::{Calls, OUT_OF_MEMORY};
-use dw_eval::{Env, EvalError, Memory, Registers, evaluate, locate};
-use dw_num::{Order, Size, Target};
+use crate::{Calls, TARGET};
+use dw_eval::{Env, EvalError, Memory, evaluate, locate};
+use dw_num::Order;
 use dw_op::{Profile, decode};
 use dw_unwind::{Dump, DumpError, DumpMemory};
 use std::io;
-
-const TARGET: Target = Target {
-    size: Size::Eight,
-    order: Order::Little,
-};
+use std::test::Fail;
 
 // With ranges in order, with ranges that have to be sorted, and with a byte that is given twice.
 const DUMPS: [&[u8]; 5] = [
@@ -47,114 +40,64 @@ fn read(rt: &impl Calls, memory: &mut DumpMemory) -> io::Result<()> {
     println!(rt; "{:?}", memory.read(0x1008, 8, Order::Little))
 }
 
-// The dump of a text. Where there is none, why is printed.
-fn dump_of(rt: &impl Calls, text: &[u8]) -> io::Result<Option<Dump>> {
-    match Dump::parse(rt.alloc(), text, TARGET) {
-        Ok(dump) => return Ok(Some(dump)),
-        Err(DumpError::Fault(fault)) => println!(rt; "{fault:?}")?,
-        Err(DumpError::OutOfMemory) => println!(rt; "{OUT_OF_MEMORY}")?,
-    }
-    Ok(None)
+fn print_dump(rt: &impl Calls, text: &[u8]) -> Result<(), Fail> {
+    let mut dump = match Dump::parse(rt.alloc(), text, TARGET) {
+        Err(DumpError::Fault(fault)) => return Ok(println!(rt; "{fault:?}")?),
+        answer => answer?,
+    };
+    let registers = (dump.registers.get(7), dump.registers.get(300));
+    println!(rt; "{:?} {:?} {:?}", dump.pc, registers.0, registers.1)?;
+    Ok(read(rt, &mut dump.memory)?)
 }
 
-fn print_dump(rt: &impl Calls, dump: &mut Dump) -> io::Result<()> {
-    println!(rt;
-        "{:?} {:?} {:?}",
-        dump.pc,
-        dump.registers.get(7),
-        dump.registers.get(300)
-    )?;
-    read(rt, &mut dump.memory)
-}
-
-pub fn dumps(rt: &impl Calls) -> io::Result<()> {
+pub fn dumps(rt: &impl Calls) -> Result<(), Fail> {
     for text in DUMPS {
-        if let Some(mut dump) = dump_of(rt, text)? {
-            print_dump(rt, &mut dump)?;
-        }
+        print_dump(rt, text)?;
     }
     Ok(())
 }
 
-// Sets a register, and prints what it and the one before it hold. A refused call leaves both.
-fn set(rt: &impl Calls, registers: &mut Registers, register: u16) -> io::Result<()>
-    requires { 0 < register }
-{
-    let before = (registers.get(register - 1), registers.get(register));
-    match registers.set(register, 5) {
-        Ok(()) => println!(rt; "{register} {:?}", registers.get(register)),
-        Err(_) if (registers.get(register - 1), registers.get(register)) == before => {
-            println!(rt; "{OUT_OF_MEMORY}")
-        }
-        Err(_) => println!(rt; "changed"),
+fn tell(rt: &impl Calls, error: EvalError) -> io::Result<()> {
+    match error {
+        EvalError::Fault { kind, index } => println!(rt; "{kind:?} at {index}"),
+        EvalError::OutOfMemory => println!(rt; "out of memory"),
     }
 }
 
-pub fn registers(rt: &impl Calls) -> io::Result<()> {
-    let mut registers = Registers::new(rt.alloc());
-    for register in [1, 2, 40, 300, 65_535] {
-        set(rt, &mut registers, register)?;
-    }
-    Ok(())
-}
-
-// Without a frame base, a CFA or an object.
-fn env_of(registers: &Registers, target: Target) -> Env<'_>
-    ensures { result.target ≡ target }
-{
-    Env {
-        target,
-        registers,
+// Evaluates or locates, without a frame base, a CFA or an object.
+fn evaluated(rt: &impl Calls, call: &str, dump: &mut Dump, block: &[u8]) -> Result<(), Fail> {
+    let list = decode(rt.alloc(), block, TARGET, Profile::Location)?;
+    let env = Env {
+        target: TARGET,
+        registers: &dump.registers,
         frame_base: None,
         cfa: None,
         object: None,
+    };
+    let memory = &mut dump.memory;
+    if call == "evaluate" {
+        match evaluate(rt.alloc(), &list, Some(1), &env, memory, STEPS) {
+            Ok(value) => println!(rt; "{value}")?,
+            Err(error) => tell(rt, error)?,
+        }
+    } else {
+        match locate(rt.alloc(), &list, &env, memory, STEPS) {
+            Ok(pieces) => println!(rt; "{pieces:?}")?,
+            Err(error) => tell(rt, error)?,
+        }
     }
+    Ok(read(rt, &mut dump.memory)?)
 }
 
-fn evaluated(rt: &impl Calls, dump: &mut Dump, block: &[u8]) -> io::Result<()> {
-    let list = match decode(rt.alloc(), block, TARGET, Profile::Location) {
-        Ok(list) => list,
-        Err(_) => return println!(rt; "{OUT_OF_MEMORY}"),
+pub fn all(rt: &impl Calls, call: &str) -> Result<(), Fail> {
+    let mut dump = Dump::parse(rt.alloc(), OVER, TARGET)?;
+    let blocks: &[&[u8]] = if call == "evaluate" {
+        &EXPRESSIONS
+    } else {
+        &LOCATIONS
     };
-    let env = env_of(&dump.registers, list.target());
-    match evaluate(rt.alloc(), &list, Some(1), &env, &mut dump.memory, STEPS) {
-        Ok(value) => println!(rt; "{value}")?,
-        Err(EvalError::Fault { kind, index }) => println!(rt; "{kind:?} at {index}")?,
-        Err(EvalError::OutOfMemory) => println!(rt; "{OUT_OF_MEMORY}")?,
-    }
-    read(rt, &mut dump.memory)
-}
-
-pub fn evaluations(rt: &impl Calls) -> io::Result<()> {
-    let Some(mut dump) = dump_of(rt, OVER)? else {
-        return Ok(());
-    };
-    for block in EXPRESSIONS {
-        evaluated(rt, &mut dump, block)?;
-    }
-    Ok(())
-}
-
-fn located(rt: &impl Calls, dump: &mut Dump, block: &[u8]) -> io::Result<()> {
-    let list = match decode(rt.alloc(), block, TARGET, Profile::Location) {
-        Ok(list) => list,
-        Err(_) => return println!(rt; "{OUT_OF_MEMORY}"),
-    };
-    let env = env_of(&dump.registers, list.target());
-    match locate(rt.alloc(), &list, &env, &mut dump.memory, STEPS) {
-        Ok(pieces) => println!(rt; "{pieces:?}")?,
-        Err(EvalError::Fault { kind, index }) => println!(rt; "{kind:?} at {index}")?,
-        Err(EvalError::OutOfMemory) => println!(rt; "{OUT_OF_MEMORY}")?,
-    }
-    read(rt, &mut dump.memory)
-}
-
-pub fn locations(rt: &impl Calls) -> io::Result<()> {
-    let Some(mut dump) = dump_of(rt, OVER)? else {
-        return Ok(());
-    };
-    for block in LOCATIONS {
-        located(rt, &mut dump, block)?;
+    for block in blocks {
+        evaluated(rt, call, &mut dump, block)?;
     }
     Ok(())
 }

@@ -1,11 +1,10 @@
 //! Look-ups of addresses one after another, to be counted beside those of another reader (`bench/run`).
 
 use crate::Calls;
-use crate::sections::print_error;
 use dw_cfa::CfaRule;
 use dw_num::Target;
-use dw_section::{Fde, Table, check};
-use std::io;
+use dw_section::{Fde, Lookups, Table, check};
+use std::test::Fail;
 
 /// Numbers that are the same at each run (xorshift64*).
 #[derive(Clone, Copy)]
@@ -33,8 +32,9 @@ fn range_of(fde: &Fde) -> u64 {
 }
 
 // A number that tells the rule of the CFA at an address: 0 for none, 1 for an expression.
-fn found_at(table: &Table<'_>, address: u64) -> io::Result<u64> {
-    let Some(row) = table.row_at(address)? else {
+fn found_at(lookups: &mut Lookups<'_, '_>, address: u64) -> Result<u64, Fail> {
+    let _ = lookups.find(address)?;
+    let Some(row) = lookups.row() else {
         return Ok(0);
     };
     Ok(match row.cfa() {
@@ -44,16 +44,17 @@ fn found_at(table: &Table<'_>, address: u64) -> io::Result<u64> {
     })
 }
 
-fn sum_of(table: &Table<'_>, fdes: &[Fde], count: u64) -> io::Result<u64> {
+fn sum_of(table: &Table<'_>, fdes: &[Fde], count: u64) -> Result<u64, Fail> {
     let mut numbers = Numbers {
         state: 0x9e37_79b9_7f4a_7c15,
     };
+    let mut lookups = table.lookups();
     let mut sum: u64 = 0;
     for _ in 0..count {
         let place = numbers.below(fdes.len() as u64);
         if let Some(fde) = fdes.get(place as usize) {
             let address = fde.begin.wrapping_add(numbers.below(range_of(fde)));
-            let found = found_at(table, address)?;
+            let found = found_at(&mut lookups, address)?;
             sum = sum.wrapping_mul(31).wrapping_add(address ^ found << 32);
         }
     }
@@ -62,12 +63,9 @@ fn sum_of(table: &Table<'_>, fdes: &[Fde], count: u64) -> io::Result<u64> {
 
 /// Makes so many look-ups of covered addresses, and prints a sum of what they found. Those of no look-up are the cost of
 /// the table and of the list of FDEs.
-pub fn all(rt: &impl Calls, bytes: &[u8], target: Target, count: u64) -> io::Result<()> {
-    let table = match check(rt.alloc(), bytes, target) {
-        Ok(table) => table,
-        Err(error) => return print_error(rt, error),
-    };
+pub fn all(rt: &impl Calls, bytes: &[u8], target: Target, count: u64) -> Result<(), Fail> {
+    let table = check(rt.alloc(), bytes, target)?;
     let fdes: Vec<Fde> = table.fdes().collect(rt.alloc())?;
     let sum = sum_of(&table, &fdes, count)?;
-    println!(rt; "lookups={count} sum={sum:016x}")
+    Ok(println!(rt; "lookups={count} sum={sum:016x}")?)
 }

@@ -7,6 +7,8 @@
 //! With a count behind these words it looks up so many addresses, for `bench/run`:
 //!
 //!     requests lookup 4|8 little|big FILE COUNT
+//!
+//! An error that no call is to answer ends the run, and is told on standard error.
 #![tactic(auto)]
 
 mod borrowing;
@@ -17,13 +19,16 @@ mod lookups;
 mod numbers;
 mod programs;
 mod sections;
-mod tables;
 
 use dw_num::{Order, Size, Target};
-use std::{env, fs, io};
+use std::test::Fail;
+use std::{env, fs};
 
-// What a run prints where a call wants memory.
-const OUT_OF_MEMORY: &str = "out of memory";
+// The target of the worked data.
+const TARGET: Target = Target {
+    size: Size::Eight,
+    order: Order::Little,
+};
 
 /// The runtime that a call is made with.
 pub trait Calls: Print + AllocGlobal {}
@@ -41,53 +46,40 @@ fn target_of(size: &str, order: &str) -> Target {
     }
 }
 
-fn over_section(rt: &HostRuntime, call: &str, bytes: &[u8], target: Target) -> io::Result<()> {
+fn made(rt: &HostRuntime, call: &str, bytes: &[u8], target: Target) -> Result<(), Fail> {
     match call {
+        "none" => Ok(()),
+        "numbers" => numbers::all(rt),
+        "registers" => numbers::registers(rt),
+        "dumps" => evaluations::dumps(rt),
+        "evaluate" | "locate" => evaluations::all(rt, call),
         "entries" => sections::all_entries(rt, bytes, target),
         "headers" => sections::all_headers(rt, bytes, target),
-        "check" => tables::checked(rt, bytes, target),
-        "row_at" => tables::rows_of_addresses(rt, bytes, target),
-        "changes" => tables::all_changes(rt, bytes, target),
-        "normalise" | "normalise_to" | "normal_length" | "same" => {
-            forms::over_section(rt, call, bytes, target)
-        }
-        "decode" | "encode" | "ops" | "put_least" => {
-            expressions::over_section(rt, call, bytes, target)
-        }
+        "check" => sections::checked(rt, bytes, target),
+        "row_at" => sections::rows_of_addresses(rt, bytes, target),
+        "changes" => sections::all_changes(rt, bytes, target),
+        "normalise" => forms::normalised(rt, bytes, target),
+        "normalise_to" => forms::written(rt, bytes, target),
+        "normal_length" => forms::measured(rt, bytes, target),
+        "same" => forms::compared(rt, bytes, target),
+        "borrowed" => borrowing::all(rt),
         _ => programs::over_section(rt, call, bytes, target),
     }
 }
 
-fn over_worked_data(rt: &HostRuntime, call: &str) -> io::Result<()> {
-    match call {
-        "none" => Ok(()),
-        "borrowed" => borrowing::all(rt),
-        "numbers" => numbers::all(rt),
-        "dumps" => evaluations::dumps(rt),
-        "registers" => evaluations::registers(rt),
-        "evaluate" => evaluations::evaluations(rt),
-        "locate" => evaluations::locations(rt),
-        "decode" | "encode" | "ops" | "put_least" => expressions::over_worked_data(rt, call),
-        _ => programs::over_worked_data(rt, call),
-    }
-}
-
-fn run(rt: &HostRuntime) -> io::Result<()> {
+fn main(rt: HostRuntime) -> Result<(), Fail> {
+    let rt = &rt;
     let words: Vec<String> = env::args(rt)?.collect(rt.alloc())?;
     let Some(call) = words.get(1) else {
         return borrowing::all(rt);
     };
     let (Some(size), Some(order), Some(path)) = (words.get(2), words.get(3), words.get(4)) else {
-        return over_worked_data(rt, call);
+        return made(rt, call, programs::WORKED, TARGET);
     };
     let bytes = fs::read(rt, path)?;
     let target = target_of(size, order);
     match words.get(5).and_then(|word| word.parse().ok()) {
         Some(count) => lookups::all(rt, &bytes, target, count),
-        None => over_section(rt, call, &bytes, target),
+        None => made(rt, call, &bytes, target),
     }
-}
-
-fn main(rt: HostRuntime) -> io::Result<()> {
-    run(&rt)
 }

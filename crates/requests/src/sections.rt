@@ -1,49 +1,73 @@
-//! The calls that cut a section into entries and read their fields.
+//! The calls that cut a section into entries and read their fields, and those on its table.
 
-use crate::{Calls, OUT_OF_MEMORY};
+use crate::Calls;
+use crate::programs::{print_row, retried};
 use dw_num::Target;
-use dw_section::{Header, SectionError, entries, headers};
-use std::io;
+use dw_section::{Changes, FdeRef, Table, check, entries, headers};
+use std::test::Fail;
 
-/// Prints why a section has no answer.
-pub fn print_error(rt: &impl Calls, error: SectionError) -> io::Result<()> {
-    match error {
-        SectionError::Refused(refusal) => println!(rt; "{refusal:?}"),
-        SectionError::OutOfMemory => println!(rt; "{OUT_OF_MEMORY}"),
+pub fn all_entries(rt: &impl Calls, bytes: &[u8], target: Target) -> Result<(), Fail> {
+    for entry in entries(rt.alloc(), bytes, target)?.iter() {
+        println!(rt; "{entry:?}")?;
     }
+    Ok(())
 }
 
-pub fn all_entries(rt: &impl Calls, bytes: &[u8], target: Target) -> io::Result<()> {
-    match entries(rt.alloc(), bytes, target) {
-        Ok(list) => {
-            for entry in list.iter() {
-                println!(rt; "{entry:?}")?;
-            }
-            Ok(())
-        }
-        Err(error) => print_error(rt, error),
-    }
-}
-
-/// The headers of a section. Where it has none, why is printed.
-pub fn headers_of<'a>(
-    rt: &impl Calls,
-    bytes: &'a [u8],
-    target: Target,
-) -> io::Result<Option<Vec<Header<'a>>>> {
-    match headers(rt.alloc(), bytes, target) {
-        Ok(list) => return Ok(Some(list)),
-        Err(error) => print_error(rt, error)?,
-    }
-    Ok(None)
-}
-
-pub fn all_headers(rt: &impl Calls, bytes: &[u8], target: Target) -> io::Result<()> {
-    let Some(list) = headers_of(rt, bytes, target)? else {
-        return Ok(());
-    };
-    for header in list.iter() {
+pub fn all_headers(rt: &impl Calls, bytes: &[u8], target: Target) -> Result<(), Fail> {
+    for header in headers(rt.alloc(), bytes, target)?.iter() {
         println!(rt; "{header:?}")?;
+    }
+    Ok(())
+}
+
+/// The table, and the calls on it that take no memory.
+pub fn checked(rt: &impl Calls, bytes: &[u8], target: Target) -> Result<(), Fail> {
+    let table = check(rt.alloc(), bytes, target)?;
+    let counts = (table.fde_count(), table.row_starts());
+    println!(rt; "{:?} {} {}", table.target(), counts.0, counts.1)?;
+    for fde in table.fdes() {
+        println!(rt; "{fde:?} {:?}", table.fde_at(fde.begin))?;
+    }
+    Ok(())
+}
+
+// The rows at and behind an address, past the end of a short FDE.
+fn rows_from(rt: &impl Calls, table: &Table<'_>, begin: u64) -> Result<(), Fail> {
+    for address in begin..begin.saturating_add(17) {
+        match table.row_at(address)? {
+            Some(row) => print_row(rt, u128::from(address), &row)?,
+            None => println!(rt; "{address} none")?,
+        }
+    }
+    Ok(())
+}
+
+pub fn rows_of_addresses(rt: &impl Calls, bytes: &[u8], target: Target) -> Result<(), Fail> {
+    let table = check(rt.alloc(), bytes, target)?;
+    for fde in table.fdes() {
+        rows_from(rt, &table, fde.begin)?;
+    }
+    Ok(())
+}
+
+fn each_change(rt: &impl Calls, mut changes: Changes<'_>) -> Result<(), Fail> {
+    for _ in 0..9 {
+        match changes.next() {
+            Ok(Some((at, row))) => print_row(rt, at, &row)?,
+            Ok(None) => println!(rt; "end")?,
+            Err(error) => {
+                retried(rt, changes.next().is_err())?;
+                return Err(Fail::from(error));
+            }
+        }
+    }
+    Ok(())
+}
+
+pub fn all_changes(rt: &impl Calls, bytes: &[u8], target: Target) -> Result<(), Fail> {
+    let table = check(rt.alloc(), bytes, target)?;
+    for place in 0..table.fde_count() {
+        each_change(rt, table.changes(FdeRef { place }))?;
     }
     Ok(())
 }

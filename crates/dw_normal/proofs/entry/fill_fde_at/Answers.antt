@@ -22,13 +22,13 @@ index-cie_at-requires c =
     let some = members_exist t s b ok in
     let k = c.args.fde.place in
     let lt = member_below t s k some.0 some.1 c.requires.place in
-    let begun = c.in_ok-begun.begun in
-    let is = c.in_ok-begun.ensures.is some.0 some.1 no_member in
+    let begun = c.begin_fde.new.begun in
+    let is = c.in_ok-begin_fde.ensures.is some.0 some.1 no_member in
     let found = has_place t s b ok some.0 some.1 (c.requires.small some.0 some.1) k no_member lt begun is c.args.rows.now.entries (c.requires.rows some.0 some.1) c.args.places.now.entries c.requires.places in
     subst (λ (o : Option ℕ). IsSome o) (sym found.1) refl
 
 pub fill_fde-requires-clause-ready : goal.fill_fde-requires-clause-ready
-fill_fde-requires-clause-ready c = subst (λ (u : Target). IsReady u c.in_ok-begun.begun) (sym c.target.ensures) c.in_ok-begun.ensures.ready
+fill_fde-requires-clause-ready c = subst (λ (u : Target). IsReady u c.begin_fde.new.begun) (sym c.target.ensures) c.in_ok-begin_fde.ensures.ready
 
 pub fill_fde-requires-clause-cie_at : goal.fill_fde-requires-clause-cie_at
 fill_fde-requires-clause-cie_at c =
@@ -39,8 +39,8 @@ fill_fde-requires-clause-cie_at c =
     let some = members_exist t s b ok in
     let k = c.args.fde.place in
     let lt = member_below t s k some.0 some.1 c.requires.place in
-    let begun = c.in_ok-begun.begun in
-    let is = c.in_ok-begun.ensures.is some.0 some.1 no_member in
+    let begun = c.begin_fde.new.begun in
+    let is = c.in_ok-begin_fde.ensures.is some.0 some.1 no_member in
     place_fits t s b ok some.0 some.1 (c.requires.small some.0 some.1) k no_member lt begun is c.args.rows.now.entries (c.requires.rows some.0 some.1) c.args.places.now.entries c.requires.places c.index-cie_at.result.now c.index-cie_at.ensures
 
 pub fill_fde-requires-clause-begin : goal.fill_fde-requires-clause-begin
@@ -52,8 +52,8 @@ fill_fde-requires-clause-begin c =
     let some = members_exist t s b ok in
     let k = c.args.fde.place in
     let lt = member_below t s k some.0 some.1 c.requires.place in
-    let begun = c.in_ok-begun.begun in
-    let is = c.in_ok-begun.ensures.is some.0 some.1 no_member in
+    let begun = c.begin_fde.new.begun in
+    let is = c.in_ok-begin_fde.ensures.is some.0 some.1 no_member in
     subst (λ (u : Target). begun.fde.begin < address_limit u.size) (sym c.target.ensures) (begin_fits t s b ok some.0 some.1 (c.requires.small some.0 some.1) k no_member lt begun is c.args.rows.now.entries (c.requires.rows some.0 some.1) c.args.places.now.entries c.requires.places)
 
 pub fill_fde-requires-clause-rises : goal.fill_fde-requires-clause-rises
@@ -65,8 +65,8 @@ fill_fde-requires-clause-rises c =
     let some = members_exist t s b ok in
     let k = c.args.fde.place in
     let lt = member_below t s k some.0 some.1 c.requires.place in
-    let begun = c.in_ok-begun.begun in
-    let is = c.in_ok-begun.ensures.is some.0 some.1 no_member in
+    let begun = c.begin_fde.new.begun in
+    let is = c.in_ok-begin_fde.ensures.is some.0 some.1 no_member in
     begins_below t s b ok some.0 some.1 (c.requires.small some.0 some.1) k no_member lt begun is c.args.rows.now.entries (c.requires.rows some.0 some.1) c.args.places.now.entries c.requires.places
 
 pub fill_fde-requires-clause-range : goal.fill_fde-requires-clause-range
@@ -78,8 +78,8 @@ fill_fde-requires-clause-range c =
     let some = members_exist t s b ok in
     let k = c.args.fde.place in
     let lt = member_below t s k some.0 some.1 c.requires.place in
-    let begun = c.in_ok-begun.begun in
-    let is = c.in_ok-begun.ensures.is some.0 some.1 no_member in
+    let begun = c.begin_fde.new.begun in
+    let is = c.in_ok-begin_fde.ensures.is some.0 some.1 no_member in
     subst (λ (u : Target). begun.fde.end < begun.fde.begin + address_limit u.size) (sym c.target.ensures) (range_fits t s b ok some.0 some.1 (c.requires.small some.0 some.1) k no_member lt begun is c.args.rows.now.entries (c.requires.rows some.0 some.1) c.args.places.now.entries c.requires.places)
 
 pub returns : goal.returns
@@ -89,8 +89,8 @@ returns c = λ ms are d.
     let k = c.args.fde.place in
     let m = get_or ms k d in
     let lt = member_below t s k ms are c.requires.place in
-    let begun = c.in_ok-begun.begun in
-    let is = c.in_ok-begun.ensures.is ms are d in
+    let begun = c.begin_fde.new.begun in
+    let is = c.in_ok-begin_fde.ensures.is ms are d in
     let at = c.index-cie_at.result.now in
     let own = place_own t s c.accepted.ensures.bytes c.accepted.ensures.accepted ms are (c.requires.small ms are) k d lt begun is c.args.rows.now.entries (c.requires.rows ms are) c.args.places.now.entries c.requires.places at c.index-cie_at.ensures in
     let new = c.fill_fde.new.out.items in

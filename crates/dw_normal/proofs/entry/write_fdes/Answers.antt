@@ -1,4 +1,4 @@
-use Rattle.std.proofs.Common.{ℕ, ◌<◌, ◌≤◌, ◌-◌, ◌∙◌, length, map, refl, sym, subst, arith}
+use Rattle.std.proofs.Common.{ℕ, List, Ok, ◌<◌, ◌≤◌, ◌-◌, ◌∙◌, length, map, refl, sym, subst, arith}
 use Rattle.std.specs.Prelude.{◌^◌}
 use Rattle.std.proofs.lemmas.List.{length-map}
 use Rattle.dw_canon.specs.Members.{fde_of}
@@ -7,7 +7,9 @@ use Rattle.dw_normal.specs.Measuring.{fdes_bytes}
 use Rattle.dw_normal.proofs.Entries.{fde_counted, fdes_fail, fdes_next, fdes_end}
 use Rattle.dw_normal.proofs.Grouped.{no_member}
 use Rattle.dw_normal.proofs.Joined.{same_err}
+use Rattle.dw_normal.proofs.Summed.{none_bytes}
 use Rattle.dw_normal.proofs.Taken.{took_none}
+use Rattle.dw_normal.specs.Puts.{Puts}
 use Rattle.dw_normal.proofs.entry.write_fdes.Goals as goal
 
 pub fdes-init : goal.fdes-init
@@ -27,7 +29,7 @@ after-requires g c =
     let some = members_exist t c.args.table.now.bytes c.accepted.ensures.bytes c.accepted.ensures.accepted in
     let ms = some.0 in
     let are = some.1 in
-    let count = c.fde_count-place-end.ensures (map fde_of ms) are.fdes ∙ length-map ms fde_of in
+    let count = c.fde_count-count.ensures (map fde_of ms) are.fdes ∙ length-map ms fde_of in
     let k = c.fdes.place in
     let lt : k < length ms = omega (arith, count, c.fdes-test.true) in
     let f = g.S.Sink.failures c.args.sink.now in
@@ -41,7 +43,7 @@ after-requires g c =
 pub fdes-preserved : goal.fdes-preserved
 fdes-preserved g c = λ ms are.
     let t = c.args.table.now.target in
-    let count = c.fde_count-place-end.ensures (map fde_of ms) are.fdes ∙ length-map ms fde_of in
+    let count = c.fde_count-count.ensures (map fde_of ms) are.fdes ∙ length-map ms fde_of in
     let k = c.fdes.place in
     let lt : k < length ms = omega (arith, count, c.fdes-test.true) in
     let f = g.S.Sink.failures c.args.sink.now in
@@ -55,7 +57,7 @@ fdes-preserved g c = λ ms are.
 pub returns-in_err-written : goal.returns-in_err-written
 returns-in_err-written g c = λ ms are.
     let t = c.args.table.now.target in
-    let count = c.fde_count-place-end.ensures (map fde_of ms) are.fdes ∙ length-map ms fde_of in
+    let count = c.fde_count-count.ensures (map fde_of ms) are.fdes ∙ length-map ms fde_of in
     let k = c.fdes.place in
     let lt : k < length ms = omega (arith, count, c.fdes-test.true) in
     let f = g.S.Sink.failures c.args.sink.now in
@@ -69,6 +71,14 @@ returns-in_err-written g c = λ ms are.
 
 pub returns : goal.returns
 returns g c = λ ms are.
-    let count = c.fde_count-place-end.ensures (map fde_of ms) are.fdes ∙ length-map ms fde_of in
+    let count = c.fde_count-count.ensures (map fde_of ms) are.fdes ∙ length-map ms fde_of in
     let le : length ms ≤ c.fdes.place = omega (arith, count, c.fdes-test.false) in
     fdes_end c.args.table.now.target ms c.fdes.place c.fdes.written (g.S.Sink.failures c.args.sink.now) (g.S.Sink.failures c.fdes.sink) (g.S.Sink.taken c.args.sink.now) (g.S.Sink.taken c.fdes.sink) le (c.fdes.invariant ms are)
+
+pub returns-then-count-eq0 : goal.returns-then-count-eq0
+returns-then-count-eq0 g c = λ ms are.
+    let count = c.fde_count-count.ensures (map fde_of ms) are.fdes ∙ length-map ms fde_of in
+    let none = none_bytes c.args.table.now.target ms ms (omega (arith, count, c.if-count-eq0.true)) in
+    let f = g.S.Sink.failures c.args.sink.now in
+    let o = g.S.Sink.taken c.args.sink.now in
+    subst (λ (l : List ℕ). Puts l (Ok 0) f f o o) (sym none) (refl, refl, took_none o)

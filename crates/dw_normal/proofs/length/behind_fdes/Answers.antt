@@ -1,10 +1,10 @@
-use Rattle.std.proofs.Common.{ℕ, ◌<◌, length, map, get_or, Option, ◌∙◌, subst, arith}
-use Rattle.std.proofs.lemmas.List.{length-map}
-use Rattle.dw_canon.specs.Members.{fde_of}
+use Rattle.std.proofs.Common.{◌≡◌, ℕ, ◌+◌, ap, ◌<◌, List, length, map, take, get_or, Option, ◌∙◌, subst, arith}
+use Rattle.std.proofs.lemmas.List.{length-map, take_all}
+use Rattle.dw_canon.specs.Members.{Member, fde_of}
 use Rattle.dw_canon.proofs.Canonical.{members_exist}
-use Rattle.dw_normal.specs.Measuring.{MemberLeaves}
+use Rattle.dw_normal.specs.Measuring.{MemberLeaves, fdes_bytes}
 use Rattle.dw_normal.proofs.Grouped.{no_member}
-use Rattle.dw_normal.proofs.Summed.{fdes_more, fdes_over}
+use Rattle.dw_normal.proofs.Summed.{none_bytes, fdes_more, fdes_over}
 use Rattle.dw_normal.proofs.length.behind_fdes.Goals as goal
 
 pub behind_member-requires-clause-room : goal.behind_member-requires-clause-room
@@ -16,7 +16,7 @@ behind_member-requires-clause-room c =
 pub returns-in_default : goal.returns-in_default
 returns-in_default c = λ ms are.
     let t = c.args.table.now.target in
-    let count = c.fde_count-place-end.ensures (map fde_of ms) are.fdes ∙ length-map ms fde_of in
+    let count = c.fde_count-count.ensures (map fde_of ms) are.fdes ∙ length-map ms fde_of in
     let lt : c.fdes.place < length ms = omega (arith, count, c.fdes-test.true) in
     let none = subst (λ (o : Option ℕ). MemberLeaves t ms (get_or ms c.fdes.place no_member) c.fdes.left o) c.in_default.is (c.in_ok-rest.ensures ms are no_member) in
     fdes_over t ms ms c.fdes.place no_member lt c.args.room c.fdes.left (c.fdes.invariant ms are) none
@@ -24,7 +24,20 @@ returns-in_default c = λ ms are.
 pub fdes-preserved : goal.fdes-preserved
 fdes-preserved c = λ ms are.
     let t = c.args.table.now.target in
-    let count = c.fde_count-place-end.ensures (map fde_of ms) are.fdes ∙ length-map ms fde_of in
+    let count = c.fde_count-count.ensures (map fde_of ms) are.fdes ∙ length-map ms fde_of in
     let lt : c.fdes.place < length ms = omega (arith, count, c.fdes-test.true) in
     let some = subst (λ (o : Option ℕ). MemberLeaves t ms (get_or ms c.fdes.place no_member) c.fdes.left o) c.in-Some.is (c.in_ok-rest.ensures ms are no_member) in
     fdes_more t ms ms c.fdes.place no_member lt c.args.room c.fdes.left (c.fdes.invariant ms are) c.in-Some.rest some
+
+pub returns-then-count-eq0 : goal.returns-then-count-eq0
+returns-then-count-eq0 c = λ ms are.
+    let count = c.fde_count-count.ensures (map fde_of ms) are.fdes ∙ length-map ms fde_of in
+    let none = ap length (none_bytes c.args.table.now.target ms ms (omega (arith, count, c.if-count-eq0.true))) in
+    omega (arith, none)
+
+pub returns : goal.returns
+returns c = λ ms are.
+    let t = c.args.table.now.target in
+    let count = c.fde_count-count.ensures (map fde_of ms) are.fdes ∙ length-map ms fde_of in
+    let all : take c.fdes.place ms ≡ ms = take_all c.fdes.place ms (omega (arith, count, c.fdes-test.false)) in
+    subst (λ (l : List Member). c.fdes.left + length (fdes_bytes t ms l) ≡ c.args.room) all (c.fdes.invariant ms are)

@@ -25,7 +25,7 @@ returns c = λ ms ns are others d.
     let fde : fde_of m ≡ fde_of n = sym mine ∙ c.if-not-same_heads.ensures.0 refl ∙ other in
     let lt = subst (λ (l : ℕ). k < l) (length-map ms fde_of) (c.requires.first (map fde_of ms) are.fdes) in
     let lt' = subst (λ (l : ℕ). k < l) (length-map ns fde_of) (c.requires.second (map fde_of ns) others.fdes) in
-    let come = come_all c.args.first.now.target c.args.first.now.bytes c.accepted.ensures.bytes c.accepted.ensures.accepted ms are k d lt c.changes.result c.changes.ensures.changes c.changes.ensures.listed in
-    let come' = come_all c.args.second.now.target c.args.second.now.bytes c.accepted-2.ensures.bytes c.accepted-2.ensures.accepted ns others k d lt' c.changes-2.result c.changes-2.ensures.changes c.changes-2.ensures.listed in
+    let come = come_all c.args.first.now.target c.args.first.now.bytes c.accepted.ensures.bytes c.accepted.ensures.accepted ms are k d lt c.go_to.new.changes c.go_to.ensures.changes c.go_to.ensures.listed in
+    let come' = come_all c.args.second.now.target c.args.second.now.bytes c.accepted-2.ensures.bytes c.accepted-2.ensures.accepted ns others k d lt' c.go_to-2.new.changes c.go_to-2.ensures.changes c.go_to-2.ensures.listed in
     if_ok (λ b. Decides b (changes_of m ≡ changes_of n)) (λ b. Decides b (m ≡ n)) c.same_changes.result (λ b h. (λ e. same_member m n fde (h.0 e), λ same. h.1 (ap changes_of same)))
     (c.same_changes.ensures (changes_of m) (changes_of n) come come')

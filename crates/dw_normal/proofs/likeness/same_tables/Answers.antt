@@ -5,6 +5,12 @@ use Rattle.dw_normal.proofs.Alike.{not_so, apart, all_same}
 use Rattle.dw_normal.proofs.Grouped.{no_member}
 use Rattle.dw_normal.proofs.likeness.same_tables.Goals as goal
 
+pub fdes-init : goal.fdes-init
+fdes-init c = λ ms ns are others.
+    let mine = c.fde_count-count.ensures (map fde_of ms) are.fdes ∙ length-map ms fde_of in
+    let other = c.fde_count.ensures (map fde_of ns) others.fdes ∙ length-map ns fde_of in
+    (omega (arith, mine, other, c.if-fde_count-count.false), refl)
+
 pub returns-then-fde_count-count : goal.returns-then-fde_count-count
 returns-then-fde_count-count c = λ ms ns are others.
     let mine = c.fde_count-count.ensures (map fde_of ms) are.fdes ∙ length-map ms fde_of in

@@ -4,18 +4,18 @@ use Rattle.dw_normal.specs.Answers.{IsWithin}
 use Rattle.dw_normal.proofs.Reporting.{is_within, second_too_long, tables_decided}
 use Rattle.dw_normal.proofs.normal.compared.Goals as goal
 
-pub returns-in-Err-measure-clause-refused : goal.returns-in-Err-measure-clause-refused
-returns-in-Err-measure-clause-refused c =
-    second_too_long c.args.first c.args.second c.in-Ok.one.rows.entries c.in-Ok.one.len c.in-Err-measure.error c.blamed-in-Err-measure.result c.requires.target
-    (c.in-Ok.ensures).found.1 c.in-Err-measure.ensures.first c.blamed-in-Err-measure.ensures
+pub returns-in-Err-short_table-clause-refused : goal.returns-in-Err-short_table-clause-refused
+returns-in-Err-short_table-clause-refused c =
+    second_too_long c.args.first c.args.second c.in-Err-short_table.error c.blamed-in-Err-short_table.result c.requires.target
+    (c.in-Ok.ensures).found.1 c.in-Err-short_table.ensures.first c.blamed-in-Err-short_table.ensures
 
 pub returns-in-Ok-same_tables-clause-found : goal.returns-in-Ok-same_tables-clause-found
 returns-in-Ok-same_tables-clause-found c =
-    tables_decided c.args.first c.args.second c.in-Ok.one.table c.in-Ok-measure.two.table c.in-Ok.one.rows.entries c.in-Ok-measure.two.rows.entries c.in-Ok.one.len c.in-Ok-measure.two.len
-    c.requires.target (c.in-Ok.ensures).found.0 (c.in-Ok-measure.ensures).found.0 (c.in-Ok.ensures).found.1 (c.in-Ok-measure.ensures).found.1 c.in-Ok-same_tables.same c.in-Ok-same_tables.ensures
+    tables_decided c.args.first c.args.second c.in-Ok.one c.in-Ok-short_table.two
+    c.requires.target (c.in-Ok.ensures).found.0 (c.in-Ok-short_table.ensures).found.0 (c.in-Ok.ensures).found.1 (c.in-Ok-short_table.ensures).found.1 c.in-Ok-same_tables.same c.in-Ok-same_tables.ensures
 
 pub returns-in-Ok-same_tables-clause-within : goal.returns-in-Ok-same_tables-clause-within
 returns-in-Ok-same_tables-clause-within c =
-    let one = is_within c.args.first.target 2147483647 c.args.first.bytes c.in-Ok.one.rows.entries c.in-Ok.one.len (c.in-Ok.ensures).found.1 in
-    let two = is_within c.args.second.target 2147483647 c.args.second.bytes c.in-Ok-measure.two.rows.entries c.in-Ok-measure.two.len (c.in-Ok-measure.ensures).found.1 in
+    let one = is_within c.args.first.target 2147483647 c.args.first.bytes (c.in-Ok.ensures).found.1 in
+    let two = is_within c.args.second.target 2147483647 c.args.second.bytes (c.in-Ok-short_table.ensures).found.1 in
     (one, subst (λ (t : Target). IsWithin t 2147483647 c.args.second.bytes) (sym c.requires.target) two)

@@ -3,7 +3,7 @@ use Rattle.dw_normal.proofs.normal.normalise_to.Goals as goal
 
 pub returns-in-Ok : goal.returns-in-Ok
 returns-in-Ok g c = record {
-  writes = entries_written c.args.target c.args.cap c.args.bytes.now c.in-Ok.ready.rows.entries c.in-Ok.ready.len (c.in-Ok.ensures).found.1
+  writes = entries_written c.args.target c.args.cap c.args.bytes.now (c.in-Ok.ensures).found.1.short
       (g.S.Sink.failures c.args.sink.now) (g.S.Sink.failures c.write_entries.new.sink) (g.S.Sink.taken c.args.sink.now) (g.S.Sink.taken c.write_entries.new.sink)
       c.in-Ok.ready.table (c.in-Ok.ensures).found.0 c.write_entries.result c.put_is.result c.put_is.ensures c.write_entries.ensures;
 }

@@ -3,4 +3,4 @@ use Rattle.dw_normal.proofs.Reporting.{is_within}
 use Rattle.dw_normal.proofs.normal.same_as_itself.Goals as goal
 
 pub returns-in-Ok-clause-found : goal.returns-in-Ok-clause-found
-returns-in-Ok-clause-found c = (refl, is_within c.args.table.target 2147483647 c.args.table.bytes c.in-Ok._ready.rows.entries c.in-Ok._ready.len (c.in-Ok.ensures).found.1)
+returns-in-Ok-clause-found c = (refl, is_within c.args.table.target 2147483647 c.args.table.bytes (c.in-Ok.ensures).found.1)

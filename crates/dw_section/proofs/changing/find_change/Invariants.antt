@@ -1,13 +1,13 @@
 use Rattle.std.proofs.Common.{◌≡◌, ◌≤◌, ℕ, List, length, None}
 use Rattle.dw_cfa.specs.Rows.{Rules}
-use Rattle.dw_section.specs.Changes.{Among, now_of}
+use Rattle.dw_section.specs.Changes.{Among}
 use Rattle.dw_section.proofs.changing.find_change.Given as goal
 
 abbrev pub invariant-rows : goal.invariant-rows
 invariant-rows l =
     (l.steps.outcome.fault ≡ None) × (length l.steps.outcome.rows ≤ length l.initial.steps.outcome.rows)
-    × ((changes : List (ℕ × Rules)) → Among l.end (now_of l.shown) l.steps.outcome.rows changes → Among l.end (now_of l.initial.shown) l.initial.steps.outcome.rows changes)
-    × (now_of l.shown ≡ now_of l.initial.shown)
+    × ((changes : List (ℕ × Rules)) → Among l.end l.shown l.steps.outcome.rows changes → Among l.end l.initial.shown l.initial.steps.outcome.rows changes)
+    × (l.shown ≡ l.initial.shown)
 
 abbrev pub decreases-rows : goal.decreases-rows
 decreases-rows l = length l.steps.outcome.rows

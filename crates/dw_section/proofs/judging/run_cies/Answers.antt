@@ -1,34 +1,63 @@
-use Rattle.std.proofs.Common.{w64, refl, map, take}
-use Rattle.std.proofs.lemmas.Int.{to_z-of_z}
+use Rattle.std.proofs.Common.{List, [], refl, arith, subst}
 use Rattle.std.proofs.lemmas.Result.{err_from_is_err_and}
-use Rattle.dw_section.specs.Headers.{head_in}
+use Rattle.dw_num.specs.declared.target.Target.{Target}
+use Rattle.dw_section.specs.Pieces.{piece_in}
+use Rattle.dw_section.specs.Headers.{Head, Has}
+use Rattle.dw_section.specs.Initials.{AreInitials}
+use Rattle.dw_section.specs.Left.{HeadsLeft}
 use Rattle.dw_section.specs.Programs.{CieRuns, CieBroken}
-use Rattle.dw_section.proofs.Judged.{refuses_by, initials_cie, initials_fde, item_among}
-use Rattle.dw_section.proofs.Stages.{front_more, stuck_at}
+use Rattle.dw_section.proofs.Between.{between_start, between_next, between_end, between_stuck, between_among}
+use Rattle.dw_section.proofs.HeaderLaws.{has_cie}
+use Rattle.dw_section.proofs.Judged.{refuses_by}
+use Rattle.dw_section.proofs.Left.{heads_all, heads_next, heads_none, stays_then}
 use Rattle.dw_section.proofs.judging.run_cies.Goals as goal
-use Rattle.dw_section.proofs.judging.run_cies.Goals.{in-Cie+in_ok-run_cie-in-Cie+in_ok-push-in-Cie, in-Fde}
 
-pub returns-in_err-run_cie-in-Cie-clause-first : goal.returns-in_err-run_cie-in-Cie-clause-first
-returns-in_err-run_cie-in-Cie-clause-first c =
-    let target = c.args.target in
-    let p = err_from_is_err_and c.from_residual.result c.from_residual.ensures.1 in
-    rw (p.1, p.2) (refuses_by c.in_err-run_cie-in-Cie.field-0.0 _ _
-    (λ r h. stuck_at (CieRuns target) (CieBroken target) head_in c.args.headers.now c.loop-header.header-index c.header-item.result r c.loop-header-test.true c.header-item.is c.loop-header.invariant.run (rw c.in-Cie.is (rw (to_z-of_z w64 c.in-Cie.data_factor (rw c.in-Cie.is at c.is_typed.ensures)) at h))) c.in_err-run_cie-in-Cie.ensures.stuck)
+pub pieces-init : goal.pieces-init
+pieces-init c = rw (c.new-cursor.ensures, c.in_ok-initials.ensures.items) (
+  record { target = refl; end = refl },
+  λ hs p. between_start (HeadsLeft c.args.places.now (record { at = 0; bytes = c.args.bytes.now; target = c.args.target })) (λ (front : List Head). AreInitials c.args.target hs front []) hs (heads_all c.args.target c.args.bytes.now c.args.places.now hs p) (record { run = tt; places = refl; each = tt }),
+)
 
-pub loop-header-preserved : goal.loop-header-preserved
-loop-header-preserved c =
-    let target = c.args.target in
-    let hs = map head_in c.args.headers.now in
-    let front = map head_in (take c.loop-header.header-index c.args.headers.now) in
-    let h = head_in c.header-item.result in
-    let among = item_among c.args.headers.now c.loop-header.header-index c.header-item.result c.loop-header-test.true c.header-item.is in
-    rw (front_more head_in c.args.headers.now c.loop-header.header-index c.header-item.result c.loop-header-test.true c.header-item.is)
-    (elim c.match-header.branch [
-      | in-Cie+in_ok-run_cie-in-Cie+in_ok-push-in-Cie w ↦
-          let made = w.in_ok-run_cie-in-Cie in
-          let same = to_z-of_z w64 w.in-Cie.data_factor (rw w.in-Cie.is at c.is_typed.ensures) in
-          rw (w.initials-is, w.in_ok-push-in-Cie.ensures.items)
-          (initials_cie target hs front c.loop-header.initials.items h made.field-0 c.loop-header.invariant (rw w.in-Cie.is (rw same at (made.ensures.runs w.in-Cie.form))) (rw (w.in-Cie.is, made.ensures.place) refl)
-          (made.ensures.found hs w.in-Cie.form (rw same (rw w.in-Cie.is at among))))
-      | in-Fde w ↦ rw w.initials-is (initials_fde target hs front c.loop-header.initials.items h c.loop-header.invariant (rw w.in-Fde.is tt) (rw w.in-Fde.is refl))
-    ])
+pub next_piece-requires-clause-room : goal.next_piece-requires-clause-room
+next_piece-requires-clause-room c = omega (arith, c.pieces.invariant.0.end, c.requires.headers.1.are.cut.small)
+
+pub next_piece-requires-clause-cut : goal.next_piece-requires-clause-cut
+next_piece-requires-clause-cut c = let w = c.pieces.invariant.1 c.requires.headers.0 c.requires.headers.1 in (w.left.parts, w.left.left)
+
+pub pieces-preserved : goal.pieces-preserved
+pieces-preserved c = (
+  stays_then _ c.pieces.cursor c.next_piece.new.cursor c.pieces.invariant.0 c.in-Some.ensures.on.0,
+  λ hs p.
+      let w = c.pieces.invariant.1 hs p in
+      let old = c.pieces.cursor in
+      let piece = piece_in c.in-Some.piece in
+      let q = heads_next c.args.places.now old c.next_piece.new.cursor piece w.rest w.left (c.in-Some.ensures.gives w.left.parts w.left.left) c.in-Some.ensures.on.0 in
+      let h = q.0 in
+      let has = subst (λ (t : Target). Has t c.args.places.now piece h) c.pieces.invariant.0.target q.3 in
+      between_next (HeadsLeft c.args.places.now c.pieces.cursor) (HeadsLeft c.args.places.now c.next_piece.new.cursor) (λ (front : List Head). AreInitials c.args.target hs front c.pieces.initials.items)
+      (λ (front : List Head). AreInitials c.args.target hs front c.keep_piece.new.initials.items) hs w h q.1 q.2 q.4
+      (c.in_ok-keep_piece.ensures.found hs w.front c.args.places.now h has (between_among _ _ hs w h q.1 q.2) w.so),
+)
+
+pub returns-in_err-keep_piece-clause-first : goal.returns-in_err-keep_piece-clause-first
+returns-in_err-keep_piece-clause-first c = λ hs p.
+    let w = c.pieces.invariant.1 hs p in
+    let piece = piece_in c.in-Some.piece in
+    let q = heads_next c.args.places.now c.pieces.cursor c.next_piece.new.cursor piece w.rest w.left (c.in-Some.ensures.gives w.left.parts w.left.left) c.in-Some.ensures.on.0 in
+    let has = subst (λ (t : Target). Has t c.args.places.now piece q.0) c.pieces.invariant.0.target q.3 in
+    let e = err_from_is_err_and c.from_residual-in_err-keep_piece.result c.from_residual-in_err-keep_piece.ensures.1 in
+    rw (e.1, e.2) (refuses_by c.in_err-keep_piece.field-0.0 _ _
+    (λ r h. between_stuck (HeadsLeft c.args.places.now c.pieces.cursor) _ (CieRuns c.args.target) (CieBroken c.args.target) hs w q.0 q.1 r q.2 w.so.run h) (c.in_err-keep_piece.ensures.first c.args.places.now q.0 has))
+
+pub returns-clause-found : goal.returns-clause-found
+returns-clause-found c = λ hs p.
+    let w = c.pieces.invariant.1 hs p in
+    between_end (HeadsLeft c.args.places.now c.pieces.cursor) (λ (front : List Head). AreInitials c.args.target hs front c.pieces.initials.items) hs w (heads_none c.pieces.cursor.target c.args.places.now w.left.parts w.rest (c.in_default.ensures.gives w.left.parts w.left.left) w.left.each)
+
+pub keep_piece-requires : goal.keep_piece-requires
+keep_piece-requires c =
+    let p = c.requires.headers.1 in
+    let w = c.pieces.invariant.1 c.requires.headers.0 p in
+    let piece = piece_in c.in-Some.piece in
+    let q = heads_next c.args.places.now c.pieces.cursor c.next_piece.new.cursor piece w.rest w.left (c.in-Some.ensures.gives w.left.parts w.left.left) c.in-Some.ensures.on.0 in
+    has_cie c.args.target c.args.places.now piece q.0 (subst (λ (t : Target). Has t c.args.places.now piece q.0) c.pieces.invariant.0.target q.3)

@@ -1,57 +1,112 @@
-use Rattle.std.proofs.Common.{map, inl, inr}
+use Rattle.std.proofs.Common.{ℕ, List, ◌∙◌, sym, subst, inl, inr}
 use Rattle.std.proofs.lemmas.Result.{err_from_is_err_and}
-use Rattle.dw_section.specs.Headers.{head_in}
+use Rattle.dw_section.specs.Initials.{AreInitials}
+use Rattle.dw_section.specs.Left.{AreHeaders}
+use Rattle.dw_section.specs.Places.{Rises}
+use Rattle.dw_section.proofs.HeaderLaws.{pieces_rise}
 use Rattle.dw_section.proofs.Heads.{heads_rise}
 use Rattle.dw_section.proofs.Judged.{refuses_by}
-use Rattle.dw_section.proofs.Tables.{ok_both, places_so, nonempty_rise}
+use Rattle.dw_section.proofs.Left.{headers_so}
+use Rattle.dw_section.proofs.Tables.{nonempty_rise}
 use Rattle.dw_section.proofs.table.judged.Goals as goal
+
+pub returns-in_err-places-clause-first : goal.returns-in_err-places-clause-first
+returns-in_err-places-clause-first c =
+    let n = c.in_ok-counts.ensures.found in
+    let e = err_from_is_err_and c.from_residual-in_err-places.result c.from_residual-in_err-places.ensures.1 in
+    rw (e.1, e.2) (refuses_by c.in_err-places.field-0.0 _ _ (λ r h. inl (inl (inl (inl (inr (n.0, n.1, h)))))) (c.in_err-places.ensures.first n.0 n.1))
+
+pub fdes_hold-requires-clause-ascending : goal.fdes_hold-requires-clause-ascending
+fdes_hold-requires-clause-ascending c =
+    let n = c.in_ok-counts.ensures.found in
+    subst (Rises 0) (sym (c.deref.ensures.value ∙ (c.in_ok-places.ensures.found n.0 n.1).1)) (pieces_rise c.args.target c.args.bytes.now n.0 n.1)
+
+pub run_cies-requires-clause-ascending : goal.run_cies-requires-clause-ascending
+run_cies-requires-clause-ascending c =
+    let n = c.in_ok-counts.ensures.found in
+    subst (Rises 0) (sym (c.deref-2.ensures.value ∙ (c.in_ok-places.ensures.found n.0 n.1).1)) (pieces_rise c.args.target c.args.bytes.now n.0 n.1)
+
+pub run_cies-requires-clause-headers : goal.run_cies-requires-clause-headers
+run_cies-requires-clause-headers c =
+    let n = c.in_ok-counts.ensures.found in
+    let cies = c.in_ok-places.ensures.found n.0 n.1 in
+    let found = c.in_ok-fdes_hold.ensures.found n.0 n.1 cies.0 in
+    let heads = headers_so c.args.target c.args.bytes.now n.0 c.in_ok-places.places.items found.0 n.1 cies.1 (rw c.deref.ensures.value at found.1) in
+    (found.0, subst (λ (l : List ℕ). AreHeaders c.args.target c.args.bytes.now l found.0) (sym c.deref-2.ensures.value) heads)
+
+pub returns-in_err-initials-clause-first : goal.returns-in_err-initials-clause-first
+returns-in_err-initials-clause-first c =
+    let n = c.in_ok-counts.ensures.found in
+    let cies = c.in_ok-places.ensures.found n.0 n.1 in
+    let found = c.in_ok-fdes_hold.ensures.found n.0 n.1 cies.0 in
+    let heads = headers_so c.args.target c.args.bytes.now n.0 c.in_ok-places.places.items found.0 n.1 cies.1 (rw c.deref.ensures.value at found.1) in
+    let again = subst (λ (l : List ℕ). AreHeaders c.args.target c.args.bytes.now l found.0) (sym c.deref-2.ensures.value) heads in
+    let e = err_from_is_err_and c.from_residual-in_err-initials.result c.from_residual-in_err-initials.ensures.1 in
+    rw (e.1, e.2) (refuses_by c.in_err-initials.field-0.0 _ _ (λ r h. inl (inl (inr (found.0, heads.are, h)))) (c.in_err-initials.ensures.first found.0 again))
 
 pub run_fdes-requires-clause-ascending : goal.run_fdes-requires-clause-ascending
 run_fdes-requires-clause-ascending c =
-    let cies = rw c.deref.ensures.value at c.in_ok-initials.ensures.found in
-    (places_so c.args.target c.args.bytes.now (map head_in c.in_ok-headers.headers.items) c.in_ok-initials.initials.items c.in_ok-headers.ensures.found cies).0
+    let n = c.in_ok-counts.ensures.found in
+    subst (Rises 0) (sym (c.deref-3.ensures.value ∙ (c.in_ok-places.ensures.found n.0 n.1).1)) (pieces_rise c.args.target c.args.bytes.now n.0 n.1)
 
-pub run_fdes-requires-clause-fit : goal.run_fdes-requires-clause-fit
-run_fdes-requires-clause-fit c =
-    let cies = rw c.deref.ensures.value at c.in_ok-initials.ensures.found in
-    rw c.deref-2.ensures.value (places_so c.args.target c.args.bytes.now (map head_in c.in_ok-headers.headers.items) c.in_ok-initials.initials.items c.in_ok-headers.ensures.found cies).1
+pub run_fdes-requires-clause-headers : goal.run_fdes-requires-clause-headers
+run_fdes-requires-clause-headers c =
+    let target = c.args.target in
+    let s = c.args.bytes.now in
+    let n = c.in_ok-counts.ensures.found in
+    let cies = c.in_ok-places.ensures.found n.0 n.1 in
+    let found = c.in_ok-fdes_hold.ensures.found n.0 n.1 cies.0 in
+    let hs = found.0 in
+    let heads = headers_so target s n.0 c.in_ok-places.places.items hs n.1 cies.1 (rw c.deref.ensures.value at found.1) in
+    let initials = c.in_ok-initials.ensures.found hs (subst (λ (l : List ℕ). AreHeaders target s l hs) (sym c.deref-2.ensures.value) heads) in
+    (hs, subst (λ (l : List ℕ). AreHeaders target s l hs) (sym c.deref-3.ensures.value) heads, subst (AreInitials target hs hs) (sym c.deref-4.ensures.value) initials)
 
-pub returns-in_err-at-clause-first : goal.returns-in_err-at-clause-first
-returns-in_err-at-clause-first c =
-    let cies = rw c.deref.ensures.value at c.in_ok-initials.ensures.found in
-    let p = err_from_is_err_and c.from_residual-in_err-at.result c.from_residual-in_err-at.ensures.1 in
-    rw (p.1, p.2) (refuses_by c.in_err-at.field-0.0 _ _
-    (λ r h. inl (inr (map head_in c.in_ok-headers.headers.items, (c.in_ok-headers.ensures.found, cies.run), h))) (rw c.deref-2.ensures.value at c.in_err-at.ensures.first))
+pub returns-in_err-list-clause-first : goal.returns-in_err-list-clause-first
+returns-in_err-list-clause-first c =
+    let target = c.args.target in
+    let s = c.args.bytes.now in
+    let n = c.in_ok-counts.ensures.found in
+    let cies = c.in_ok-places.ensures.found n.0 n.1 in
+    let found = c.in_ok-fdes_hold.ensures.found n.0 n.1 cies.0 in
+    let hs = found.0 in
+    let heads = headers_so target s n.0 c.in_ok-places.places.items hs n.1 cies.1 (rw c.deref.ensures.value at found.1) in
+    let initials = c.in_ok-initials.ensures.found hs (subst (λ (l : List ℕ). AreHeaders target s l hs) (sym c.deref-2.ensures.value) heads) in
+    let e = err_from_is_err_and c.from_residual-in_err-list.result c.from_residual-in_err-list.ensures.1 in
+    rw (e.1, e.2) (refuses_by c.in_err-list.field-0.0 _ _ (λ r h. inl (inr (hs, (heads.are, initials.run), h)))
+    (c.in_err-list.ensures.first hs (subst (λ (l : List ℕ). AreHeaders target s l hs) (sym c.deref-3.ensures.value) heads) (subst (AreInitials target hs hs) (sym c.deref-4.ensures.value) initials)))
 
 pub returns-in-Some-clause-first : goal.returns-in-Some-clause-first
 returns-in-Some-clause-first c =
-    let cies = rw c.deref.ensures.value at c.in_ok-initials.ensures.found in
-    let found = rw (c.deref-2.ensures.value, c.in-Some.is) at c.in_ok-at.ensures.found in
-    rw c.refused.ensures (inr (map head_in c.in_ok-headers.headers.items, ((c.in_ok-headers.ensures.found, cies.run), found.0), found.1))
-
-pub ranges_of-requires-clause-ascending : goal.ranges_of-requires-clause-ascending
-ranges_of-requires-clause-ascending c =
-    let cies = rw c.deref.ensures.value at c.in_ok-initials.ensures.found in
-    rw (c.deref-in-None-2.ensures.value, c.run_fdes.ensures.places) (places_so c.args.target c.args.bytes.now (map head_in c.in_ok-headers.headers.items) c.in_ok-initials.initials.items c.in_ok-headers.ensures.found cies).0
-
-pub ranges_of-requires-clause-fit : goal.ranges_of-requires-clause-fit
-ranges_of-requires-clause-fit c =
-    let cies = rw c.deref.ensures.value at c.in_ok-initials.ensures.found in
-    (c.args.target, rw (c.deref-in-None-2.ensures.value, c.deref-in-None.ensures.value, c.run_fdes.ensures.places) (places_so c.args.target c.args.bytes.now (map head_in c.in_ok-headers.headers.items) c.in_ok-initials.initials.items c.in_ok-headers.ensures.found cies).1)
+    let target = c.args.target in
+    let s = c.args.bytes.now in
+    let n = c.in_ok-counts.ensures.found in
+    let cies = c.in_ok-places.ensures.found n.0 n.1 in
+    let found = c.in_ok-fdes_hold.ensures.found n.0 n.1 cies.0 in
+    let hs = found.0 in
+    let heads = headers_so target s n.0 c.in_ok-places.places.items hs n.1 cies.1 (rw c.deref.ensures.value at found.1) in
+    let initials = c.in_ok-initials.ensures.found hs (subst (λ (l : List ℕ). AreHeaders target s l hs) (sym c.deref-2.ensures.value) heads) in
+    let judged = c.in_ok-list.ensures.found hs (subst (λ (l : List ℕ). AreHeaders target s l hs) (sym c.deref-3.ensures.value) heads) (subst (AreInitials target hs hs) (sym c.deref-4.ensures.value) initials) in
+    let first = rw c.in-Some.is at judged.first in
+    rw c.refused.ensures (inr (hs, ((heads.are, initials.run), judged.run), first))
 
 pub returns-clause-found : goal.returns-clause-found
 returns-clause-found c =
     let target = c.args.target in
-    let hs = map head_in c.in_ok-headers.headers.items in
-    let headers = c.in_ok-headers.ensures.found in
-    let cies = rw c.deref.ensures.value at c.in_ok-initials.ensures.found in
-    let found = rw (c.deref-2.ensures.value, c.in-None.is) at c.in_ok-at.ensures.found in
-    let are = rw c.deref-in-None.ensures.value at c.ranges_of.ensures.found in
-    let each = rw (c.deref-in-None.ensures.value, c.deref-in-None-2.ensures.value) at c.ranges_of.ensures.each in
-    ok_both _ _ _ (λ v a e. record {
-      headers = hs;
-      hold = (((headers, cies.run), found.0), found.1);
-      are = a;
-      rise = rw a (nonempty_rise 0 hs (heads_rise target c.args.bytes.now hs headers));
-      each = e;
-    }) c.ranges_of.result are (each target (rw c.deref-2.ensures.value at c.run_fdes.ensures.each))
+    let s = c.args.bytes.now in
+    let n = c.in_ok-counts.ensures.found in
+    let cies = c.in_ok-places.ensures.found n.0 n.1 in
+    let found = c.in_ok-fdes_hold.ensures.found n.0 n.1 cies.0 in
+    let hs = found.0 in
+    let heads = headers_so target s n.0 c.in_ok-places.places.items hs n.1 cies.1 (rw c.deref.ensures.value at found.1) in
+    let initials = c.in_ok-initials.ensures.found hs (subst (λ (l : List ℕ). AreHeaders target s l hs) (sym c.deref-2.ensures.value) heads) in
+    let judged = c.in_ok-list.ensures.found hs (subst (λ (l : List ℕ). AreHeaders target s l hs) (sym c.deref-3.ensures.value) heads) (subst (AreInitials target hs hs) (sym c.deref-4.ensures.value) initials) in
+    let all = rw c.in-None.is at judged.first in (
+      record {
+        headers = hs;
+        hold = (((heads.are, initials.run), judged.run), all);
+        are = judged.are;
+        rise = rw judged.are (nonempty_rise 0 hs (heads_rise target s hs heads.are));
+        each = judged.each;
+      },
+      record { headers = hs; heads = heads; entries = n.0; cut = n.1; counts_are = n.2; initials = initials },
+    )

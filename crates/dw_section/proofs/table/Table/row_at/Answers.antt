@@ -1,42 +1,24 @@
-use Rattle.std.proofs.Common.{map, subst, sym}
-use Rattle.dw_section.specs.declared.indexing.Ranged.{Ranged}
-use Rattle.dw_section.specs.Lookup.{fde_in}
-use Rattle.dw_section.specs.Meaning.{Covers, NoneCovers, RulesAt}
-use Rattle.dw_section.proofs.Lookups.{are_fdes, one_fdes}
-use Rattle.dw_section.proofs.RowLookup.{table_runs}
+use Rattle.std.proofs.Common.{◌≡◌, ℕ, List, Option, Some, None, Result, Ok, Err, IfOk, MatchOption, true, sym, subst, ◌∙◌}
+use Rattle.dw_cfa.specs.Rows.{Rules}
+use Rattle.dw_section.specs.declared.lookup.Fde.{Fde}
+use Rattle.dw_section.specs.Finding.{LooksUp}
+use Rattle.dw_section.specs.Meaning.{NoneCovers, RulesAt}
+use Rattle.dw_section.specs.Table.{Section}
 use Rattle.dw_section.proofs.table.Table.row_at.Goals as goal
 
-pub returns-in_default : goal.returns-in_default
-returns-in_default c = λ fs are.
-    let t = c.self.inside in
-    let none = rw c.deref.ensures.value at c.in_default.ensures in
-    let same = one_fdes t.target t.bytes.now (map fde_in t.index.items) fs (are_fdes t.target t.bytes.now t.index.items c.self.invariant) (rw (sym c.self.view_is) at are) in
-    subst (NoneCovers c.args.address) same none
+-- the copy of a row that was found is that row
+copied_rules : {E : Type 0} (s : Section) (fs : List Fde) (a : ℕ) (row : Option Rules) (q : Result (Option Rules) E) → LooksUp s fs a true row
+    → IfOk q (λ copy. MatchOption copy (row ≡ None) (λ r. row ≡ Some r)) → IfOk q (λ copy. MatchOption copy (NoneCovers a fs) (RulesAt s.target s.bytes a))
+copied_rules s fs a row (Ok (Some r)) found copy = let both : Some found.0 ≡ Some r = sym found.1 ∙ copy in let same : found.0 ≡ r = cc in subst (RulesAt s.target s.bytes a) same found.2
+copied_rules s fs a row (Ok None) found copy = let none = sym found.1 ∙ copy in absurd cc
+copied_rules s fs a row (Err e) found copy = tt
 
-pub row_in-requires-clause-in_space : goal.row_in-requires-clause-in_space
-row_in-requires-clause-in_space c =
-    let t = c.self.inside in
-    let found = rw c.deref.ensures.value at c.in-Some.ensures in
-    (table_runs t.target t.bytes.now c.are_bytes.ensures t.index.items c.self.invariant c.in-Some.place c.index.result.now found.0 c.index.ensures).in_space
+pub returns-then-not-branch : goal.returns-then-not-branch
+returns-then-not-branch c = λ fs are.
+    let found = c.in_ok-find.ensures.found fs (rw c.lookups-lookups.ensures are) in
+    (rw c.if-not-branch.true at found).0
 
-pub row_in-requires-clause-no_fault : goal.row_in-requires-clause-no_fault
-row_in-requires-clause-no_fault c =
-    let t = c.self.inside in
-    let found = rw c.deref.ensures.value at c.in-Some.ensures in
-    (table_runs t.target t.bytes.now c.are_bytes.ensures t.index.items c.self.invariant c.in-Some.place c.index.result.now found.0 c.index.ensures).no_fault
-
-pub row_in-requires-clause-never_falls : goal.row_in-requires-clause-never_falls
-row_in-requires-clause-never_falls c =
-    let t = c.self.inside in
-    let found = rw c.deref.ensures.value at c.in-Some.ensures in
-    (table_runs t.target t.bytes.now c.are_bytes.ensures t.index.items c.self.invariant c.in-Some.place c.index.result.now found.0 c.index.ensures).never_falls
-
-pub returns-in-Ok : goal.returns-in-Ok
-returns-in-Ok c = λ fs are.
-    let t = c.self.inside in
-    let e = c.index.result.now in
-    let found = rw c.deref.ensures.value at c.in-Some.ensures in
-    let runs = table_runs t.target t.bytes.now c.are_bytes.ensures t.index.items c.self.invariant c.in-Some.place e found.0 c.index.ensures in
-    let covers = subst (λ (x : Ranged). Covers c.args.address (fde_in x)) (sym c.index.ensures) (found.1 e) in
-    let row = runs.rules c.args.address covers.0 covers.1 in
-    rw (← c.self.view_is) (subst (RulesAt t.target t.bytes.now c.args.address) (sym (c.in-Ok.ensures.found row.0 row.1)) row.2)
+pub returns : goal.returns
+returns c = λ fs are.
+    let found = c.in_ok-find.ensures.found fs (rw c.lookups-lookups.ensures are) in
+    copied_rules c.args.self.now fs c.args.address c.find.new.self.row c.copied.result (rw (c.if-not-branch.false, c.lookups-lookups.ensures) at found) c.copied.ensures

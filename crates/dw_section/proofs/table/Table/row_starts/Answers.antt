@@ -1,16 +1,26 @@
-use Rattle.dw_section.proofs.RowLookup.{table_programs, table_starts}
+use Rattle.std.proofs.Common.{ℕ, List, map, sym, subst}
+use Rattle.std.specs.List.{AllByRecursion}
+use Rattle.dw_section.specs.Index.{range_in, IsRanged}
+use Rattle.dw_section.specs.Initials.{AreInitials}
+use Rattle.dw_section.specs.Left.{AreHeaders}
+use Rattle.dw_section.proofs.FdeLookup.{kept_of}
 use Rattle.dw_section.proofs.table.Table.row_starts.Goals as goal
 
 pub sum_starts-requires-clause-few : goal.sum_starts-requires-clause-few
-sum_starts-requires-clause-few c = rw c.deref.ensures.value c.self.invariant.indexed.few
+sum_starts-requires-clause-few c = rw c.deref-3.ensures.value c.self.invariant.0.indexed.few
 
-pub sum_starts-requires-clause-programs : goal.sum_starts-requires-clause-programs
-sum_starts-requires-clause-programs c =
+pub sum_starts-requires-clause-headers : goal.sum_starts-requires-clause-headers
+sum_starts-requires-clause-headers c =
     let t = c.self.inside in
-    rw c.deref.ensures.value (table_programs t.target t.bytes.now c.are_bytes.ensures t.index.items c.self.invariant)
+    let w = c.self.invariant.0.indexed in
+    let kept = kept_of t.target t.bytes.now t.index.items t.counts t.places.items t.initials.items c.self.invariant.0 c.self.invariant.1 in
+    (w.headers, subst (λ (l : List ℕ). AreHeaders t.target t.bytes.now l w.headers) (sym c.deref.ensures.value) kept.0, w.hold, subst (AreInitials t.target w.headers w.headers) (sym c.deref-2.ensures.value) kept.1, subst (AllByRecursion (IsRanged w.headers)) (sym c.deref-3.ensures.value) w.each)
 
 pub returns : goal.returns
 returns c =
     let t = c.self.inside in
-    let found = rw c.deref.ensures.value at c.sum_starts.ensures in
-    rw (← c.self.view_is) (table_starts t.target t.bytes.now c.are_bytes.ensures t.index.items c.self.invariant c.sum_starts.result found.0 found.1 found.2)
+    let w = c.self.invariant.0.indexed in
+    let kept = kept_of t.target t.bytes.now t.index.items t.counts t.places.items t.initials.items c.self.invariant.0 c.self.invariant.1 in
+    let found = rw c.deref-3.ensures.value at (c.sum_starts.ensures w.headers (subst (λ (l : List ℕ). AreHeaders t.target t.bytes.now l w.headers) (sym c.deref.ensures.value) kept.0) w.hold (subst (AreInitials t.target w.headers w.headers) (sym c.deref-2.ensures.value) kept.1)
+    (subst (AllByRecursion (IsRanged w.headers)) (sym c.deref-3.ensures.value) w.each)) in
+    rw (← c.self.view_is) (record { headers = w.headers; are = w.hold.0.0.0; index = map range_in t.index.items; is_index = w.is_index; counts = found.0; each = found.1; sum = found.2 })

@@ -1,0 +1,168 @@
+#!/usr/bin/env python3
+"""docs/DEFINITIONS.md: what a reader of the public contracts has to believe. For each crate it lists the public calls with the
+definitions that their clauses name, and how many definitions stand behind these, in how many lines. Names are followed through the
+files of specs/; comments, imports and blank lines are not counted.
+
+    checks/definitions.py [--write] [--root FOLDER]
+
+It compares the file with what the sources say, and --write writes it.
+"""
+import argparse
+import os
+import re
+import sys
+
+WORD = re.compile(r"[^\s(){}\[\],;.:λ→×]+")
+# Inside a module with parameters items are indented, and so are the fields of a record, which begin with `pub` alone.
+ITEM = re.compile(
+    r"^(?:(?:abbrev|unfoldable|opaque|pub|data|record)\s+)+([^\s:({]+)"
+    r"|^  (?:pub\s+)?(?:abbrev|unfoldable|opaque|data|record)\s+(?:pub\s+)?([^\s:({]+)"
+)
+FN = re.compile(r"^( *)pub (?:const )?fn (\w+)(.*?)^\1[{}]", re.M | re.S)
+OWNER = re.compile(r"^(?:impl(?:<[^>]*>)? (?:[\w:<>', ]+ for )?(\w+)|pub trait (\w+))", re.M)
+MODEL = re.compile(r"^impl(?:<[^>]*>)? (?:Model|Iterator) for (\w+).*?^\}", re.M | re.S)
+GHOST = re.compile(r"^ *ghost (?!use)\w+[^;]*;", re.M)
+HEAD = """# What has to be believed
+
+The code is checked against its contracts; a contract says what its definitions mean. So these definitions, and nothing else in this
+repository, are what a reader has to believe. Each stands in `specs/` of the crate that it is named with. This list is made by
+`checks/definitions.py` from the sources: a call, how many clauses (`ensures`) it has, the definitions that its clauses name, and how
+many definitions these rest on in all, in how many lines, comments not counted. A definition that many calls rest on is counted for
+each of them, and once in the sums.
+"""
+
+
+def read(path):
+    with open(path, encoding="utf-8") as it:
+        return it.read()
+
+
+def imports(text, keyword):
+    """What `use` lines bring: a short name, and the module and the name there, which is none for a module itself."""
+    found = {}
+    for line in re.findall(rf"^\s*{keyword} ([^;\n]+);?$", text, re.M):
+        group = re.match(r"(.*)\.\{(.*)\}$", line.strip())
+        parts = group[2].split(",") if group else [line]
+        for part in parts:
+            name, _, other = part.strip().partition(" as ")
+            found[other or name.rpartition(".")[2]] = (group[1], name) if group else (name, None)
+    return found
+
+
+class Specs:
+    """The definitions of all crates, each with its lines, and what its module imports."""
+
+    def __init__(self, root):
+        self.items, self.uses = {}, {}
+        for crate in sorted(os.listdir(f"{root}/crates")):
+            folder = f"{root}/crates/{crate}/specs"
+            for at, _, names in os.walk(folder):
+                for name in sorted(names):
+                    if name.endswith(".antt") and name != "Lib.antt":
+                        inside = os.path.relpath(f"{at}/{name}", folder)[:-5].replace("/", ".")
+                        self.take(f"Rattle.{crate}.specs.{inside}", read(f"{at}/{name}"))
+
+    def take(self, module, text):
+        self.uses[module] = imports(text, "(?:pub )?use")
+        name = None
+        for line in text.split("\n"):
+            match = ITEM.match(line)
+            if match:
+                name = match[1] or match[2]
+                self.items.setdefault((module, name), [])
+            elif line.lstrip().startswith(("use ", "pub use ", "module ")):
+                name = None
+            if name and line.strip() and not line.lstrip().startswith("--"):
+                self.items[module, name].append(line)
+
+    def named(self, module, text):
+        uses, found = self.uses.get(module, {}), set()
+        for word in WORD.findall(text):
+            if (module, word) in self.items:
+                found.add((module, word))
+            elif uses.get(word) in self.items:
+                found.add(uses[word])
+        for short, (path, name) in uses.items():
+            if name is None:
+                found |= {(path, word) for word in re.findall(rf"\b{re.escape(short)}\.(\w+)", text) if (path, word) in self.items}
+        return found
+
+    def behind(self, start):
+        found, left = set(), list(start)
+        while left:
+            key = left.pop()
+            if key not in found:
+                found.add(key)
+                left += self.named(key[0], "\n".join(self.items[key]))
+        return found
+
+    def lines(self, keys):
+        return sum(len(self.items[it]) for it in keys)
+
+
+def rests_on(specs, uses, text):
+    return {uses[word] for word in WORD.findall(text) if uses.get(word) in specs.items}
+
+
+def calls(folder, specs):
+    """The public calls: name, how many clauses, the definitions that these name, and those of the models of its types."""
+    texts = [read(f"{folder}/{it}") for it in sorted(os.listdir(folder)) if it.endswith(".rt")]
+    models = {}
+    for text in texts:
+        for block in MODEL.finditer(text):
+            uses = {**imports(text, "ghost use"), **imports(block[0], "ghost use")}
+            models.setdefault(block[1], set()).update(rests_on(specs, uses, "\n".join(GHOST.findall(block[0]))))
+    for text in texts:
+        uses = imports(text, "ghost use")
+        owners = [(it.start(), it[1] or it[2]) for it in OWNER.finditer(text)]
+        for fn in FN.finditer(text):
+            who = next((name for at, name in reversed(owners) if at < fn.start()), None) if fn[1] else None
+            clauses = "\n".join(re.findall(r"^ *(?:requires|ensures)\b.*$", fn[3], re.M))
+            types = {who, *re.findall(r"\b[A-Z]\w+", fn[3])}
+            kept = set().union(*(models.get(it, set()) for it in types))
+            yield f"{who}::{fn[2]}" if who else fn[2], clauses.count("ensures"), rests_on(specs, uses, clauses), kept
+
+
+def short(keys):
+    return ", ".join(f"`{name}`" for _, name in sorted(keys, key=lambda it: it[1])) or "none"
+
+
+def written(root):
+    specs, everything, parts, sums = Specs(root), set(), [], []
+    crates = [it.split(":")[0].split()[0] for it in read(f"{root}/crates.txt").split("\n") if it.strip() and not it.startswith("#")]
+    for crate in crates:
+        if not os.path.isdir(f"{root}/crates/{crate}/specs"):
+            continue
+        rows, whole = [], set()
+        for name, clauses, named, kept in calls(f"{root}/crates/{crate}/src", specs):
+            behind = specs.behind(named | kept)
+            whole |= behind
+            rows.append(f"| `{name}` | {clauses} | {short(named)} | {len(behind)} in {specs.lines(behind)} |")
+        everything |= whole
+        own = {it for it in whole if it[0].startswith(f"Rattle.{crate}.")}
+        sums.append(f"| `{crate}` | {len(rows)} | {len(own)} | {specs.lines(own)} | {specs.lines(whole)} |")
+        if rows:
+            parts.append("\n".join([f"## `{crate}`\n", "| Call | Clauses | Its clauses name | All behind them, in lines |", "|---|---|---|---|", *rows, ""]))
+    table = ["| Crate | Calls | Definitions of its own | in lines | with those of lower crates |", "|---|---|---|---|---|", *sums]
+    total = f"\nAll crates together: {len(everything)} definitions in {specs.lines(everything)} lines.\n"
+    return "\n".join([HEAD, *table, total, *parts])
+
+
+def main():
+    parser = argparse.ArgumentParser(description=__doc__)
+    parser.add_argument("--root", default=os.path.join(os.path.dirname(os.path.abspath(__file__)), ".."))
+    parser.add_argument("--write", action="store_true")
+    given = parser.parse_args()
+    path, text = f"{given.root}/docs/DEFINITIONS.md", written(given.root)
+    if given.write:
+        with open(path, "w", encoding="utf-8") as it:
+            it.write(text)
+    elif not os.path.isfile(path) or read(path) != text:
+        print("docs/DEFINITIONS.md is not what the sources say: checks/definitions.py --write makes it")
+        return 1
+    print(re.search(r"All crates together: .*", text)[0])
+    return 0
+
+
+if __name__ == "__main__":
+    sys.exit(main())

@@ -1,0 +1,79 @@
+-- What a member of a section takes in the normal form, and its group's CIE, against the programs of its FDE.
+use Rattle.std.proofs.Common.{ℕ, ◌+◌, ◌*◌, ◌<◌, ◌≤◌, List, ◌∷◌, length, inl, inr, arith}
+use Rattle.std.specs.List.{AllByRecursion}
+use Rattle.std.proofs.Math.Nat.{suc-mul}
+use Rattle.dw_num.specs.declared.target.Target.{Target}
+use Rattle.dw_num.specs.Input.{AreBytes}
+use Rattle.dw_cfa.specs.declared.instr.Instr.{Instr}
+use Rattle.dw_cfa.specs.Rows.{Rules, blank}
+use Rattle.dw_cfa.proofs.Counting.{counts_exists}
+use Rattle.dw_section.specs.Accepted.{Accepted}
+use Rattle.dw_section.specs.Lengths.{HasLengths}
+use Rattle.dw_section.specs.Sound.{RowFits}
+use Rattle.dw_section.proofs.OneLengths.{one_lengths}
+use Rattle.dw_section.proofs.Sections.{here, changes_programs}
+use Rattle.dw_section.proofs.Sounds.{Held, held_all}
+use Rattle.dw_section.proofs.Totals.{least_starts}
+use Rattle.dw_canon.specs.Canon.{cie_instrs, fde_instrs}
+use Rattle.dw_canon.specs.Difference.{difference, later_changes}
+use Rattle.dw_canon.specs.Fits.{RestsOn}
+use Rattle.dw_canon.specs.Group.{initial_row}
+use Rattle.dw_canon.specs.Members.{Member, IsMember, fde_of, changes_of}
+use Rattle.dw_canon.specs.Spelling.{program_bytes}
+use Rattle.dw_canon.proofs.Costs.{bytes_more}
+use Rattle.dw_canon.proofs.Shared.{MemberFits, initial_fits, initial_or, initial_cfa_or}
+use Rattle.dw_canon.proofs.Standing.{all_both}
+use Rattle.dw_canon.proofs.Sums.{sum_more}
+use Rattle.dw_canon.proofs.Weights.{rule_weight, cfa_weight, program_most}
+use Rattle.dw_canon.proofs.Within.{all_len, IsWithin, holds_within, step_len, later_len}
+
+-- the rows of a member are within what its programs give, and its changes are no more than they start rows
+pub record IsPriced (t : Target) (m : Member) (own initial : ℕ) : Type 0 where
+  pub i : List Instr
+  pub j : List Instr
+  pub first : IsWithin t i j m.first
+  pub later : AllByRecursion (λ (change : ℕ × Rules). IsWithin t i j change.1) m.later
+  pub few : 6 * length (changes_of m) + all_len t i j ≤ 6 * (own + initial) + 6
+
+pub is_priced : (t : Target) (s : List ℕ) → AreBytes s → Accepted t s → (m : Member) (own initial : ℕ) → IsMember t s m → MemberFits t m → m.begin < m.end → HasLengths t s (fde_of m) own initial → IsPriced t m own initial
+is_priced t s b ok m own initial is fits some lengths =
+    let p = changes_programs t s b ok (fde_of m) (changes_of m) is.changes in
+    let i = p.0 in
+    let j = p.1 in
+    let x = here t s b ok m.begin m.end i j p.2 in
+    let gi = program_most t x.spelled.factors i x.spelled.begins.program.bytes x.spelled.begins.spelled in
+    let gj = program_most t x.spelled.factors j x.program.bytes x.spelled.spelled in
+    let are = one_lengths t s b ok (fde_of m) i j own initial some p.2 lengths in
+    let each : (change : ℕ × Rules) → Held i j m.begin m.end change → RowFits t change.1 → IsWithin t i j change.1 = λ change held fit.
+    let c = counts_exists m.begin j change.0 held.0 in
+    holds_within t i j c.0 change.1 fit (held.2 c.0 c.1) in
+    let all = all_both (Held i j m.begin m.end) (λ (change : ℕ × Rules). RowFits t change.1) (λ (change : ℕ × Rules). IsWithin t i j change.1) (changes_of m) each (held_all i j m.begin m.end (changes_of m) some p.3) fits in
+    record {
+      i = i;
+      j = j;
+      first = all.0;
+      later = all.1;
+      few = omega (arith, gi, gj, are.0, are.1, least_starts t s b ok m.begin m.end i j (changes_of m) some p.2 p.3, sum_more (rule_weight t) i j, sum_more (cfa_weight t) i j);
+    }
+
+module _ (t : Target) (m : Member) (own initial : ℕ) (h : IsPriced t m own initial) where
+  -- the FDE's program
+  pub fde_len : (row : Rules) → RestsOn row m.first → length (program_bytes t (fde_instrs row m)) ≤ length (changes_of m) * (23 + all_len t h.i h.j)
+  fde_len row rests = omega (
+    arith,
+    bytes_more t (difference row row m.first) (later_changes row m.begin m.first m.later),
+    step_len t h.i h.j row row m.first (λ r e. let none = rests r e in rw none (omega arith)) h.first,
+    later_len t h.i h.j row m.begin m.first m.later h.first h.later,
+    suc-mul (length m.later) (23 + all_len t h.i h.j),
+  )
+
+  -- the program of the CIE of a group that begins with it
+  pub cie_len : (ms : List Member) → AllByRecursion (MemberFits t) (m ∷ ms) → length (program_bytes t (cie_instrs (initial_row (m ∷ ms)))) ≤ 14 + all_len t h.i h.j
+  cie_len ms fits =
+      let row = initial_row (m ∷ ms) in
+      let within : IsWithin t h.i h.j row = record {
+        fits = initial_fits t (m ∷ ms) fits;
+        cfa = elim (initial_cfa_or t m ms fits) [ inl none ↦ rw none (omega arith) | inr same ↦ rw same (h.first.cfa) ];
+        rules = λ r. elim (initial_or t m ms fits r) [ inl none ↦ rw none (omega arith) | inr same ↦ rw same (h.first.rules r) ];
+      } in
+      step_len t h.i h.j blank blank row (λ r e. omega arith) within

@@ -1,0 +1,5 @@
+use Rattle.dw_canon.proofs.Bounds.{within_shares}
+use Rattle.dw_canon.proofs.laws.length_law.Goals as goal
+
+pub returns : goal.returns
+returns c = within_shares

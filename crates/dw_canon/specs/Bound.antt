@@ -1,0 +1,28 @@
+-- At most how many bytes the normal form of a section has, by the lengths of the section's programs: a product of what a change
+-- may take and of how many changes there may be, each at most what the programs have room for.
+use Rattle.std.specs.Prelude.{◌≡◌, ℕ, ◌+◌, ◌*◌, ◌≤◌, List, [], ◌∷◌, length, map}
+use Rattle.dw_num.specs.declared.target.Target.{Target}
+use Rattle.dw_num.specs.Input.{AreBytes}
+use Rattle.dw_section.specs.declared.lookup.Fde.{Fde}
+use Rattle.dw_section.specs.Accepted.{Accepted}
+use Rattle.dw_section.specs.Lengths.{HasLengths}
+use Rattle.dw_canon.specs.Canon.{canon}
+use Rattle.dw_canon.specs.Members.{Member, AreMembers, fde_of}
+
+-- six bytes for each of the programs', where a rule takes at most six times the bytes that give it, and some for one change more
+abbrev pub spread : ℕ → ℕ → ℕ
+spread own initial = 6 * (own + initial) + 35
+
+-- at most 24 times the bytes of an FDE and of a CIE, by the bytes of the FDE's program and of its CIE's
+abbrev pub share : ℕ → ℕ → ℕ
+share own initial = spread own initial * spread own initial + 1320
+
+-- the shares of these FDEs of a section add up to so much
+abbrev pub Shares : Target → List ℕ → List Fde → ℕ → Type 0
+Shares target s [] n = n ≡ 0
+Shares target s (f ∷ fs) n = (own : ℕ) × (initial : ℕ) × (rest : ℕ) × HasLengths target s f own initial × (n ≡ share own initial + rest) × Shares target s fs rest
+
+-- 24 times the length of the normal form of an accepted section is at most the shares of its FDEs
+abbrev pub WithinShares : Type 0
+WithinShares = (target : Target) (s : List ℕ) (ms : List Member) (n : ℕ) → AreBytes s → Accepted target s → AreMembers target s ms
+    → Shares target s (map fde_of ms) n → 24 * length (canon target ms) ≤ n

@@ -1,0 +1,217 @@
+-- The first register whose rule differs between two rows.
+use Rattle.std.proofs.Common.{◌≡◌, ℕ, suc, ◌+◌, ◌-◌, ◌<◌, ◌≤◌, Bool, true, false, List, [], ◌∷◌, get_or, max, Option, Some, None, refl, sym, ap, ◌∙◌, subst, arith, inl, inr}
+use Rattle.std.specs.Prelude.{nat_eq, ◌/◌, ◌^◌, bit_or}
+use Rattle.std.specs.Int.{bit_at, trailing_zeros, w32}
+use Rattle.std.specs.List.{filter}
+use Rattle.std.specs.Ordering.{nat_cmp}
+use Rattle.std.specs.BTreeMap.Range.{range_contains}
+use Rattle.std.specs.declared.ops.Bound.TheVariants.{Excluded, Unbounded}
+use Rattle.std.proofs.lemmas.Bool.{cases_Bool, cases_lt, eq-eqb, eqb-true}
+use Rattle.std.proofs.Math.Nat.{div-le_self}
+use Rattle.std.proofs.lemmas.Nat.Bits.{bit_at-zero, bit_at-trailing_zeros, bit_at_or}
+use Rattle.dw_cfa.specs.declared.rule.RegRule.{RegRule}
+use Rattle.dw_cfa.specs.declared.rule.RegRule.TheVariants.{Unspecified}
+use Rattle.dw_cfa.specs.declared.row.Entries.{Entries}
+use Rattle.dw_cfa.specs.declared.row.Slot.{Slot}
+use Rattle.dw_cfa.specs.declared.row.Kind.{Kind}
+use Rattle.dw_cfa.specs.declared.row.Kind.TheVariants as kinds
+use Rattle.dw_cfa.specs.Rows.{is_specified, AreSpecified, rule_in}
+use Rattle.dw_cfa.specs.Narrowing.{same_rule}
+use Rattle.dw_cfa.specs.Entries.{entries_of, slot_rule, kind_rule, EntriesSo}
+use Rattle.dw_cfa.specs.Differing.{SameBetween, DiffersFirst, FirstDifference, place_behind, start_behind}
+use Rattle.dw_cfa.proofs.RowLists.{Entry, lower, unlisted}
+use Rattle.dw_cfa.proofs.Slots.{no_slot, near_rule, far_rule, shifted, bit_inside}
+use Rattle.dw_cfa.proofs.WideRows.{less_at, equal_at, greater_at}
+use Rattle.dw_cfa.proofs.Narrowed.{filter_rule}
+
+-- ---- two lists, from both fronts
+
+specified_differs : (rule : RegRule) → is_specified rule ≡ true → same_rule rule Unspecified ≡ false
+specified_differs Unspecified is = absurd cc
+specified_differs rule is = refl
+
+differs_specified : (rule : RegRule) → is_specified rule ≡ true → same_rule Unspecified rule ≡ false
+differs_specified Unspecified is = absurd cc
+differs_specified rule is = refl
+
+first_rule : (x : Entry) (xs : List Entry) → rule_in (x ∷ xs) x.0 ≡ x.1
+first_rule x xs = rw (eq-eqb x.0 x.0 refl) refl
+
+-- a register below both lists has no rule in either
+below_both : (low : ℕ) (xs ys : List Entry) → AreSpecified low xs → AreSpecified low ys → SameBetween 0 low xs ys
+below_both low xs ys up up' r le lt = unlisted r low xs up lt ∙ sym (unlisted r low ys up' lt)
+
+-- the first of one list, which the other lacks
+pub left_alone : (x : Entry) (xs ys : List Entry) → AreSpecified 0 (x ∷ xs) → AreSpecified (suc x.0) ys → DiffersFirst 0 (x ∷ xs) ys x.0
+left_alone x xs ys up up' =
+    let here : rule_in (x ∷ xs) x.0 ≡ x.1 = first_rule x xs in
+    let none : rule_in ys x.0 ≡ Unspecified = unlisted x.0 (suc x.0) ys up' (omega arith) in
+    (omega arith, below_both x.0 (x ∷ xs) ys (omega arith, up.1, up.2) (lower (suc x.0) x.0 ys (omega arith) up'), rw (here, none) (specified_differs x.1 up.1))
+
+pub right_alone : (y : Entry) (xs ys : List Entry) → AreSpecified (suc y.0) xs → AreSpecified 0 (y ∷ ys) → DiffersFirst 0 xs (y ∷ ys) y.0
+right_alone y xs ys up up' =
+    let here : rule_in (y ∷ ys) y.0 ≡ y.1 = first_rule y ys in
+    let none : rule_in xs y.0 ≡ Unspecified = unlisted y.0 (suc y.0) xs up (omega arith) in
+    (omega arith, below_both y.0 xs (y ∷ ys) (lower (suc y.0) y.0 xs (omega arith) up) (omega arith, up'.1, up'.2), rw (here, none) (differs_specified y.1 up'.1))
+
+-- the first of both, with another rule
+pub heads_differ : (x y : Entry) (xs ys : List Entry) → AreSpecified 0 (x ∷ xs) → AreSpecified 0 (y ∷ ys) → x.0 ≡ y.0 → same_rule x.1 y.1 ≡ false → DiffersFirst 0 (x ∷ xs) (y ∷ ys) x.0
+heads_differ x y xs ys up up' at differ =
+    let here : rule_in (x ∷ xs) x.0 ≡ x.1 = first_rule x xs in
+    let there : rule_in (y ∷ ys) x.0 ≡ y.1 = ap (rule_in (y ∷ ys)) at ∙ first_rule y ys in
+    (omega arith, below_both x.0 (x ∷ xs) (y ∷ ys) (omega arith, up.1, up.2) (omega arith, up'.1, up'.2), rw (here, there) differ)
+
+-- behind a first that both have with the same rule
+module _ (x y : Entry) (xs ys : List Entry) (up : AreSpecified 0 (x ∷ xs)) (up' : AreSpecified 0 (y ∷ ys)) (at : x.0 ≡ y.0) (same : x.1 ≡ y.1) where
+  rest_same : (r : ℕ) → rule_in xs r ≡ rule_in ys r → rule_in (x ∷ xs) r ≡ rule_in (y ∷ ys) r
+  rest_same r e = elim (cases_Bool (nat_eq x.0 r)) [
+    | inl f ↦ let g : nat_eq y.0 r ≡ true = subst (λ (n : ℕ). nat_eq n r ≡ true) at f in rw (f, g) same
+    | inr f ↦ let g : nat_eq y.0 r ≡ false = subst (λ (n : ℕ). nat_eq n r ≡ false) at f in rw (f, g) e
+  ]
+
+  rest_differs : (q : ℕ) → same_rule (rule_in xs q) (rule_in ys q) ≡ false → same_rule (rule_in (x ∷ xs) q) (rule_in (y ∷ ys) q) ≡ false
+  rest_differs q e = elim (cases_Bool (nat_eq x.0 q)) [
+    | inl f ↦
+        let here = eqb-true x.0 q f in
+        let one : rule_in xs q ≡ Unspecified = unlisted q (suc x.0) xs up.2 (omega arith) in
+        let two : rule_in ys q ≡ Unspecified = unlisted q (suc y.0) ys up'.2 (omega arith) in
+        let both : same_rule (rule_in xs q) (rule_in ys q) ≡ true = rw (one, two) refl in absurd cc
+    | inr f ↦ let g : nat_eq y.0 q ≡ false = subst (λ (n : ℕ). nat_eq n q ≡ false) at f in rw (f, g) e
+  ]
+
+  pub heads_same : (o : Option ℕ) → FirstDifference 0 xs ys o → FirstDifference 0 (x ∷ xs) (y ∷ ys) o
+  heads_same None h = λ r le. rest_same r (h r le)
+  heads_same (Some q) h = (h.0, (λ r le lt. rest_same r (h.1 r le lt)), rest_differs q h.2)
+
+-- ---- as they are taken
+
+pub above : (low : ℕ) (l rest : List Entry) (x : Entry) → l ≡ x ∷ rest → AreSpecified 0 l → low ≤ x.0 → AreSpecified low l
+above low l rest x e up le = let here = subst (AreSpecified 0) e up in subst (AreSpecified low) (sym e) (le, here.1, here.2)
+
+pub none_above : (low : ℕ) (l : List Entry) → l ≡ [] → AreSpecified low l
+none_above low l e = subst (AreSpecified low) (sym e) tt
+
+pub rest_up : (l rest : List Entry) (x : Entry) → l ≡ x ∷ rest → AreSpecified 0 l → AreSpecified 0 rest
+rest_up l rest x e up = let here = subst (AreSpecified 0) e up in lower (suc x.0) 0 rest (omega arith) here.2
+
+pub taken_left : (xs ys rest : List Entry) (x : Entry) → xs ≡ x ∷ rest → AreSpecified 0 xs → AreSpecified (suc x.0) ys → DiffersFirst 0 xs ys x.0
+taken_left xs ys rest x e up up' = subst (λ (l : List Entry). DiffersFirst 0 l ys x.0) (sym e) (left_alone x rest ys (subst (AreSpecified 0) e up) up')
+
+pub taken_right : (xs ys rest : List Entry) (y : Entry) → ys ≡ y ∷ rest → AreSpecified (suc y.0) xs → AreSpecified 0 ys → DiffersFirst 0 xs ys y.0
+taken_right xs ys rest y e up up' = subst (λ (l : List Entry). DiffersFirst 0 xs l y.0) (sym e) (right_alone y xs rest up (subst (AreSpecified 0) e up'))
+
+module _ (xs ys rest rest' : List Entry) (x y : Entry) (e : xs ≡ x ∷ rest) (e' : ys ≡ y ∷ rest') (up : AreSpecified 0 xs) (up' : AreSpecified 0 ys) (le : x.0 ≤ y.0) (ge : y.0 ≤ x.0) where
+  pub taken_both : same_rule x.1 y.1 ≡ false → DiffersFirst 0 xs ys x.0
+  taken_both differ =
+      subst (λ (l : List Entry). DiffersFirst 0 l ys x.0) (sym e) (subst (λ (l : List Entry). DiffersFirst 0 (x ∷ rest) l x.0) (sym e')
+      (heads_differ x y rest rest' (subst (AreSpecified 0) e up) (subst (AreSpecified 0) e' up') (omega arith) differ))
+
+  pub taken_same : x.1 ≡ y.1 → (o : Option ℕ) → FirstDifference 0 rest rest' o → FirstDifference 0 xs ys o
+  taken_same same o h =
+      subst (λ (l : List Entry). FirstDifference 0 l ys o) (sym e) (subst (λ (l : List Entry). FirstDifference 0 (x ∷ rest) l o) (sym e')
+      (heads_same x y rest rest' (subst (AreSpecified 0) e up) (subst (AreSpecified 0) e' up') (omega arith) same o h))
+
+-- ---- slots
+
+zero_both : (a b : ℕ) → max a b ≡ 0 → (a ≡ 0) × (b ≡ 0)
+zero_both a b e = (omega (arith, e), omega (arith, e))
+
+not_used : (s : Slot) (block : RegRule) → s.kind ≡ kinds.Empty → slot_rule s block ≡ Unspecified
+not_used s block is = ap (λ (k : Kind). kind_rule k s.register s.offset block) is
+
+-- registers from one place on up to another, and from there on
+pub same_on : (from k to : ℕ) (xs ys : List Entry) → SameBetween from k xs ys → SameBetween k to xs ys → SameBetween from to xs ys
+same_on from k to xs ys h g r le lt = elim (cases_lt r k) [ inl low ↦ h r le low | inr high ↦ g r high lt ]
+
+pub one_more : (from k : ℕ) (xs ys : List Entry) → SameBetween from k xs ys → rule_in xs k ≡ rule_in ys k → SameBetween from (k + 1) xs ys
+one_more from k xs ys h same = same_on from k (k + 1) xs ys h (λ r le lt. let at : k ≡ r = omega arith in subst (λ (n : ℕ). rule_in xs n ≡ rule_in ys n) at same)
+
+-- the rule that a slot holds
+pub slot_at : (e : Entries) → EntriesSo e → (q n : ℕ) → q < 32 → n ≡ q → slot_rule (get_or e.near n no_slot) (rule_in e.expressions.entries q) ≡ rule_in (entries_of e) q
+slot_at e so q n lt at =
+    ap (λ (m : ℕ). slot_rule (get_or e.near m no_slot) (rule_in e.expressions.entries q)) at ∙ sym (near_rule e.near e.expressions.entries e.far.entries so.near so.far q no_slot lt)
+
+module _ (e f : Entries) (so : EntriesSo e) (so' : EntriesSo f) (used : ℕ) (is : used ≡ bit_or e.used f.used) where
+  -- a register whose slot is used in neither
+  unused : (q : ℕ) → q < 32 → bit_at used q ≡ 0 → rule_in (entries_of e) q ≡ rule_in (entries_of f) q
+  unused q lt none =
+      let both = zero_both (bit_at e.used q) (bit_at f.used q) (sym (bit_at_or e.used f.used q) ∙ sym (ap (λ (n : ℕ). bit_at n q) is) ∙ none) in
+      near_rule e.near e.expressions.entries e.far.entries so.near so.far q no_slot lt
+      ∙ not_used (get_or e.near q no_slot) (rule_in e.expressions.entries q) (so.used q no_slot (omega (arith, so.near)) both.0)
+      ∙ sym (not_used (get_or f.near q no_slot) (rule_in f.expressions.entries q) (so'.used q no_slot (omega (arith, so'.near)) both.1))
+      ∙ sym (near_rule f.near f.expressions.entries f.far.entries so'.near so'.far q no_slot lt)
+
+  -- the registers up to the next bit of the mask of both
+  pub none_left : (k : ℕ) → used / 2 ^ k ≡ 0 → SameBetween k 32 (entries_of e) (entries_of f)
+  none_left k none q le lt = unused q lt (shifted used k q le ∙ ap (λ (m : ℕ). bit_at m (q - k)) none ∙ bit_at-zero (q - k))
+
+  pub up_to_next : (k : ℕ) → used < 2 ^ 32 → k < 32 → 0 < used / 2 ^ k
+      → (k + trailing_zeros w32 (used / 2 ^ k) < 32) × SameBetween k (k + trailing_zeros w32 (used / 2 ^ k)) (entries_of e) (entries_of f)
+  up_to_next k fits lt some =
+      let within : used / 2 ^ k < 2 ^ 32 = omega (arith, div-le_self used (2 ^ k)) in
+      let z = bit_at-trailing_zeros w32 (used / 2 ^ k) some within in
+      let inside : k + trailing_zeros w32 (used / 2 ^ k) < 32 = bit_inside used k (trailing_zeros w32 (used / 2 ^ k)) fits z.1 in
+      (inside, λ q low high. unused q (omega (arith, inside)) (shifted used k q low ∙ z.2 (q - k) (omega arith)))
+
+-- ---- registers that have no slot
+
+-- those from a place on
+abbrev pub FromOn : (Entry → Bool) → ℕ → Type 0
+FromOn p from = (x : Entry) → ((from ≤ x.0) → p x ≡ true) × ((x.0 < from) → p x ≡ false)
+
+module _ (p : Entry → Bool) (from low : ℕ) (on : FromOn p from) where
+  kept_rule : (xs : List Entry) → AreSpecified low xs → (r : ℕ) → from ≤ r → rule_in (filter p xs) r ≡ rule_in xs r
+  kept_rule xs up r le = let yes = (on (r, rule_in xs r)).0 le in filter_rule p low xs r up ∙ rw yes refl
+
+  dropped_rule : (xs : List Entry) → AreSpecified low xs → (r : ℕ) → r < from → rule_in (filter p xs) r ≡ Unspecified
+  dropped_rule xs up r lt = let no = (on (r, rule_in xs r)).1 lt in filter_rule p low xs r up ∙ rw no refl
+
+  pub first_from : (xs ys xs' ys' : List Entry) → AreSpecified low xs → AreSpecified low ys → xs' ≡ filter p xs → ys' ≡ filter p ys → (o : Option ℕ) → FirstDifference 0 xs' ys' o → FirstDifference from xs ys o
+  first_from xs ys xs' ys' up up' e e' None h = λ r le. sym (kept_rule xs up r le) ∙ sym (ap (λ (l : List Entry). rule_in l r) e) ∙ h r (omega arith) ∙ ap (λ (l : List Entry). rule_in l r) e' ∙ kept_rule ys up' r le
+  first_from xs ys xs' ys' up up' e e' (Some q) h = elim (cases_lt q from) [
+    | inl lt ↦
+        let one : rule_in xs' q ≡ Unspecified = ap (λ (l : List Entry). rule_in l q) e ∙ dropped_rule xs up q lt in
+        let two : rule_in ys' q ≡ Unspecified = ap (λ (l : List Entry). rule_in l q) e' ∙ dropped_rule ys up' q lt in
+        let both : same_rule (rule_in xs' q) (rule_in ys' q) ≡ true = rw (one, two) refl in
+        let not : same_rule (rule_in xs' q) (rule_in ys' q) ≡ false = h.2 in
+        absurd cc
+    | inr ge ↦
+        let one : rule_in xs' q ≡ rule_in xs q = ap (λ (l : List Entry). rule_in l q) e ∙ kept_rule xs up q ge in
+        let two : rule_in ys' q ≡ rule_in ys q = ap (λ (l : List Entry). rule_in l q) e' ∙ kept_rule ys up' q ge in
+        let not : same_rule (rule_in xs' q) (rule_in ys' q) ≡ false = h.2 in (
+          ge,
+          (λ r le lt. sym (kept_rule xs up r le) ∙ sym (ap (λ (l : List Entry). rule_in l r) e) ∙ h.1 r (omega arith) lt ∙ ap (λ (l : List Entry). rule_in l r) e' ∙ kept_rule ys up' r le),
+          rw (sym one, sym two) not,
+        )
+  ]
+
+-- the part of a tree behind a register
+pub range_on : (behind : Option ℕ) → FromOn (λ x. range_contains nat_cmp (start_behind behind) Unbounded x.0) (place_behind behind)
+range_on None x = ((λ le. refl), (λ lt. absurd (omega arith)))
+range_on (Some r) x = ((λ le. rw (less_at r x.0 (omega arith)) refl), (λ lt. at_or_below (omega arith)))
+  where
+    at_or_below : x.0 ≤ r → range_contains nat_cmp (Excluded r) Unbounded x.0 ≡ false
+    at_or_below le = elim (cases_lt x.0 r) [ inl lt ↦ rw (greater_at r x.0 lt) refl | inr ge ↦ rw (equal_at r x.0 (omega arith)) refl ]
+
+-- ---- all registers
+
+module _ (e f : Entries) (so : EntriesSo e) (so' : EntriesSo f) (from : ℕ) (near : SameBetween from 32 (entries_of e) (entries_of f)) where
+  behind : (r : ℕ) → 32 ≤ r → (rule_in (entries_of e) r ≡ rule_in e.far.entries r) × (rule_in (entries_of f) r ≡ rule_in f.far.entries r)
+  behind r le = (far_rule e.near e.expressions.entries e.far.entries so.near so.far r le, far_rule f.near f.expressions.entries f.far.entries so'.near so'.far r le)
+
+  all_same : (to : ℕ) → SameBetween from to e.far.entries f.far.entries → SameBetween from to (entries_of e) (entries_of f)
+  all_same to far r le lt = elim (cases_lt r 32) [ inl low ↦ near r le low | inr high ↦ (behind r high).0 ∙ far r le lt ∙ sym (behind r high).1 ]
+
+  pub first_of_all : (o : Option ℕ) → FirstDifference from e.far.entries f.far.entries o → FirstDifference from (entries_of e) (entries_of f) o
+  first_of_all None far = λ r le. all_same (suc r) (λ q low lt. far q low) r le (omega arith)
+  first_of_all (Some q) far = elim (cases_lt q 32) [
+    | inl low ↦
+        let one : rule_in e.far.entries q ≡ Unspecified = unlisted q 32 e.far.entries so.far low in
+        let two : rule_in f.far.entries q ≡ Unspecified = unlisted q 32 f.far.entries so'.far low in
+        let both : same_rule (rule_in e.far.entries q) (rule_in f.far.entries q) ≡ true = rw (one, two) refl in
+        let not : same_rule (rule_in e.far.entries q) (rule_in f.far.entries q) ≡ false = far.2 in
+        absurd cc
+    | inr high ↦
+        let one = (behind q high).0 in let two = (behind q high).1 in
+        (far.0, all_same q far.1, rw (one, two) far.2)
+  ]

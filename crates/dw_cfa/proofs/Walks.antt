@@ -1,0 +1,93 @@
+-- A walk from one FDE's program to another's, behind a CIE's row that is run or brought back.
+use Rattle.std.proofs.Common.{◌≡◌, ◌⊎◌, ℕ, List, [], ◌∷◌, None, Ok, Err, Result, IsOk, refl, sym, ap, subst, ◌∙◌, inl, inr}
+use Rattle.dw_num.specs.declared.refusal.Refusal.{Refusal}
+use Rattle.dw_num.specs.declared.target.Target.{Target}
+use Rattle.dw_num.specs.Input.{Input, AreBytes}
+use Rattle.dw_num.specs.Target.{address_limit}
+use Rattle.dw_cfa.specs.declared.instr.Factors.{Factors}
+use Rattle.dw_cfa.specs.declared.machine.Machine.{Machine}
+use Rattle.dw_cfa.specs.declared.rule.CfaRule.{CfaRule}
+use Rattle.dw_cfa.specs.declared.rule.RegRule.{RegRule}
+use Rattle.dw_cfa.specs.declared.running.LocatedRow.{LocatedRow}
+use Rattle.dw_cfa.specs.declared.steps.Progress.{Progress}
+use Rattle.dw_cfa.specs.declared.steps.Progress.TheVariants as progress
+use Rattle.dw_cfa.specs.declared.walking.Leading.{Leading}
+use Rattle.dw_cfa.specs.InstrSpells.{Program}
+use Rattle.dw_cfa.specs.Rows.{Rules, blank}
+use Rattle.dw_cfa.specs.Runs.{Outcome, RunsSo, finished, fde_rows, initial_row, on_initial, placed, rows_left, run_rows}
+use Rattle.dw_cfa.specs.Machine.{begun}
+use Rattle.dw_cfa.specs.Stepping.{Stepping, begun_rows, program_input}
+use Rattle.dw_cfa.specs.Walking.{Readied, led_rows, walk_of}
+use Rattle.dw_cfa.proofs.FaultLaws.{initial_leaves, leaves_initial}
+use Rattle.dw_cfa.proofs.RunLaws.{begun_starts, left_starts, some_begun_left, some_rows_left}
+use Rattle.dw_cfa.proofs.RunSteps.{begun_is_run}
+use Rattle.dw_cfa.proofs.SameRows.{same_entries}
+
+-- ---- the CIE's half
+
+one_row : (row other : Rules) → row.cfa ≡ other.cfa → row.registers ≡ other.registers → row ≡ other
+one_row row other cfa registers =
+    ap (λ (c : CfaRule). let r : Rules = record { cfa = c; registers = row.registers } in r) cfa ∙ ap (λ (l : List (ℕ × RegRule)). let r : Rules = record { cfa = other.cfa; registers = l } in r) registers
+
+pub initial_is : (f : Factors) (i i' : Input) (row left initial : Rules) → i ≡ i' → row ≡ blank → initial ≡ left → initial_row (placed f i) row ≡ Ok left → initial_row (placed f i') blank ≡ Ok initial
+initial_is f i i' row left initial same none copy is =
+    subst (λ (r : Rules). initial_row (placed f i') blank ≡ Ok r) (sym copy) (subst (λ (r : Rules). initial_row (placed f i') r ≡ Ok left) none (subst (λ (j : Input). initial_row (placed f j) row ≡ Ok left) same is))
+
+-- of equal programs at other places the row is the same
+pub initial_elsewhere : (f : Factors) (i j : Input) (row : Rules) → AreBytes i.bytes → i.bytes ≡ j.bytes → i.target ≡ j.target → initial_row (placed f i) blank ≡ Ok row → initial_row (placed f j) blank ≡ Ok row
+initial_elsewhere f i j row bytes same target is =
+    let here = initial_leaves f i row bytes is in
+    let program : Program j.target f here.0 j.bytes = subst (λ (t : Target). Program t f here.0 j.bytes) target (subst (Program i.target f here.0) same here.1.program) in
+    let there = leaves_initial f j here.0 (subst AreBytes same bytes) program here.1.kept in
+    there.1 ∙ ap Ok (one_row there.0 row (there.2.cfa ∙ sym here.1.cfa) (same_entries 0 there.0.registers row.registers there.2.listed here.1.listed (λ r. there.2.rules r ∙ sym (here.1.rules r))))
+
+-- a run that has no fault leaves an initial row
+pub led_initial : (l : Leading) (fde : Input) (begin : ℕ) → (led_rows l fde begin).fault ≡ None → IsOk (initial_row (placed l.factors (program_input l.program l.target)) blank)
+unfolding run_rows
+led_initial l fde begin none = go (initial_row (placed l.factors (program_input l.program l.target)) blank) none
+  where
+    go : (r : Result Rules Refusal) → (on_initial r (λ initial. fde_rows (address_limit fde.target.size) initial (placed l.factors fde).items (placed l.factors fde).fault (begun initial begin))).fault ≡ None → IsOk r
+    go (Ok row) n = refl
+    go (Err r) n = absurd cc
+
+-- ---- the FDE's half
+
+led_is : (f : Factors) (cie fde : Input) (m : Machine) (begin : ℕ) → initial_row (placed f cie) blank ≡ Ok m.initial → m.states.row ≡ m.initial → m.states.stack ≡ [] → m.location ≡ begin → m.limit ≡ address_limit fde.target.size
+    → rows_left f fde m ≡ run_rows f cie fde begin
+unfolding rows_left run_rows
+led_is f cie fde m begin is row none location limit = rw (is, row, none, location, limit) refl
+
+pub led_ran : (l : Leading) (fde : Input) (old m : Machine) → RunsSo old fde → Readied l old m → rows_left l.factors fde m ≡ led_rows l fde old.location
+led_ran l fde old m so r = led_is l.factors (program_input l.program l.target) fde m old.location r.initial r.row r.none r.location (r.limit ∙ so.limit)
+
+pub led_so : (l : Leading) (fde : Input) (old m : Machine) → RunsSo old fde → Readied l old m → RunsSo m fde
+led_so l fde old m so r = record { limit = r.limit ∙ so.limit; within = rw (r.location, r.limit) so.within; first = r.first }
+
+-- ---- where the next row starts
+
+module _ (f : Factors) (cie fde : Input) (begin : ℕ) where
+  -- a machine that stands so
+  abbrev at_begin : Machine
+  at_begin = record { initial = blank; states = record { row = blank; stack = []; first = None }; location = begin; limit = address_limit fde.target.size }
+
+  begun_here : begun_rows f cie fde at_begin ≡ run_rows f cie fde begin
+  begun_here = begun_is_run f cie fde cie fde at_begin begin refl refl refl refl refl
+
+  pub run_starts : (row : LocatedRow) (rows : List LocatedRow) → (run_rows f cie fde begin).rows ≡ row ∷ rows → row.location ≡ begin
+  run_starts row rows e = begun_starts f cie fde at_begin row rows (ap (λ (o : Outcome). o.rows) begun_here ∙ e)
+
+  pub run_some : run_rows f cie fde begin ≡ finished → ⊥
+  run_some e = some_begun_left f cie fde at_begin (begun_here ∙ e)
+
+pub walk_starts : (p : Progress) (l : Leading) (fde : Input) (m : Machine) (s : Stepping) → (p ≡ progress.Begun) ⊎ (p ≡ progress.Running) → walk_of p l fde m ≡ s
+    → (row : LocatedRow) (rows : List LocatedRow) → s.outcome.rows ≡ row ∷ rows → row.location ≡ m.location
+walk_starts p l fde m s (inl is) e row rows some =
+    run_starts l.factors (program_input l.program l.target) fde m.location row rows (ap (λ (x : Progress). (walk_of x l fde m).outcome.rows) (sym is) ∙ ap (λ (x : Stepping). x.outcome.rows) e ∙ some)
+walk_starts p l fde m s (inr is) e row rows some =
+    left_starts l.factors fde fde m row rows (ap (λ (x : Progress). (walk_of x l fde m).outcome.rows) (sym is) ∙ ap (λ (x : Stepping). x.outcome.rows) e ∙ some)
+
+pub walk_some : (p : Progress) (l : Leading) (fde : Input) (m : Machine) (s : Stepping) → (p ≡ progress.Begun) ⊎ (p ≡ progress.Running) → walk_of p l fde m ≡ s → s.outcome ≡ finished → ⊥
+walk_some p l fde m s (inl is) e none =
+    run_some l.factors (program_input l.program l.target) fde m.location (ap (λ (x : Progress). (walk_of x l fde m).outcome) (sym is) ∙ ap (λ (x : Stepping). x.outcome) e ∙ none)
+walk_some p l fde m s (inr is) e none =
+    some_rows_left l.factors fde fde m (ap (λ (x : Progress). (walk_of x l fde m).outcome) (sym is) ∙ ap (λ (x : Stepping). x.outcome) e ∙ none)

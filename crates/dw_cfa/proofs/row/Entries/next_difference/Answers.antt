@@ -1,0 +1,11 @@
+use Rattle.std.proofs.Common.{ℕ, subst}
+use Rattle.dw_cfa.specs.Entries.{entries_of}
+use Rattle.dw_cfa.specs.Differing.{SameBetween, place_behind}
+use Rattle.dw_cfa.proofs.Differing.{first_of_all}
+use Rattle.dw_cfa.proofs.row.Entries.next_difference.Goals as goal
+
+pub returns : goal.returns
+returns c =
+    let e = c.args.self.now in let f = c.args.others.now in let from = place_behind c.args.behind in
+    let near = subst (λ (n : ℕ). SameBetween n 32 (entries_of e) (entries_of f)) c.place_behind.ensures c.in_default.ensures in
+    first_of_all e f c.requires.so c.requires.others from near c.next_far_difference.result c.next_far_difference.ensures

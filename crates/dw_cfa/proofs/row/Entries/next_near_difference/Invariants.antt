@@ -1,0 +1,10 @@
+use Rattle.std.proofs.Common.{◌-◌, ◌≤◌}
+use Rattle.dw_cfa.specs.Entries.{entries_of}
+use Rattle.dw_cfa.specs.Differing.{SameBetween}
+use Rattle.dw_cfa.proofs.row.Entries.next_near_difference.Given as goal
+
+abbrev pub invariant-slots : goal.invariant-slots
+invariant-slots l = (l.fn.from ≤ l.place) × SameBetween l.fn.from l.place (entries_of l.self) (entries_of l.others)
+
+abbrev pub decreases-slots : goal.decreases-slots
+decreases-slots l = 32 - l.place

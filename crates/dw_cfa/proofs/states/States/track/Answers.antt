@@ -1,0 +1,12 @@
+use Rattle.std.proofs.Common.{[], ap, ◌∙◌}
+use Rattle.dw_cfa.specs.States.{Held, first_if}
+use Rattle.dw_cfa.proofs.StatesLaws.{begun_held, begun_count}
+use Rattle.dw_cfa.proofs.states.States.track.Goals as goal
+
+pub invariant_of-self : goal.invariant_of-self
+invariant_of-self c = begun_count c.clear.new.self.items c.clear.ensures.items
+
+pub returns : goal.returns
+returns c =
+    begun_held c.args.tracked c.self.inside.row c.clear.new.self.items c.clear.ensures.items
+    ∙ ap (λ (h : Held). let same : Held = record { row = h.row; stack = []; first = first_if c.args.tracked h.row [] } in same) c.self.view_is

@@ -1,0 +1,48 @@
+-- Programs that are known to give rows, run one after another in one room.
+use Rattle.std.specs.Prelude.{◌≡◌, ℕ, Bool, IsTrue, Ok, None, []}
+use Rattle.dw_num.specs.Input.{Input}
+use Rattle.dw_cfa.specs.declared.machine.Machine.{Machine}
+use Rattle.dw_cfa.specs.declared.steps.Progress.{Progress}
+use Rattle.dw_cfa.specs.declared.steps.Progress.TheVariants as progress
+use Rattle.dw_cfa.specs.declared.walking.Leading.{Leading}
+use Rattle.dw_cfa.specs.Rows.{blank}
+use Rattle.dw_cfa.specs.Runs.{Outcome, RunsSo, initial_row, placed, run_rows}
+use Rattle.dw_cfa.specs.States.{BeganWith}
+use Rattle.dw_cfa.specs.Stepping.{Stepping, left_of, program_input, stepping}
+
+-- the rows of an FDE's program behind a CIE's
+abbrev pub led_rows : Leading → Input → ℕ → Outcome
+led_rows l fde begin = run_rows l.factors (program_input l.program l.target) fde begin
+
+-- before its first row a walk runs both programs from their beginning
+abbrev pub walk_of : Progress → Leading → Input → Machine → Stepping
+walk_of progress.Begun l fde m = stepping m.states.row (led_rows l fde m.location)
+walk_of other l fde m = left_of other l.factors fde fde m
+
+abbrev pub WalkStands : Progress → Input → Machine → Type 0
+WalkStands progress.Begun fde m = RunsSo m fde
+WalkStands progress.Running fde m = RunsSo m fde
+WalkStands other fde m = BeganWith m.initial m.states.first
+
+-- the machine has the initial row of a CIE
+abbrev pub HasInitial : Leading → Machine → Type 0
+HasInitial l m = initial_row (placed l.factors (program_input l.program l.target)) blank ≡ Ok m.initial
+
+-- both run a CIE's program alike
+abbrev pub LeadsSame : Leading → Leading → Type 0
+LeadsSame l k = (m : Machine) → HasInitial l m → HasInitial k m
+
+-- no fault comes, and what is kept of a CIE is its initial row
+pub record WalksSo (p : Progress) (kept : Bool) (l : Leading) (fde : Input) (m : Machine) : Type 0 where
+  pub stands : WalkStands p fde m
+  pub no_fault : (walk_of p l fde m).outcome.fault ≡ None
+  pub initial : IsTrue kept → HasInitial l m
+
+-- the machine stands where it stood, at the front of an FDE's program
+pub record Readied (l : Leading) (old new : Machine) : Type 0 where
+  pub initial : HasInitial l new
+  pub row : new.states.row ≡ new.initial
+  pub none : new.states.stack ≡ []
+  pub first : BeganWith new.initial new.states.first
+  pub location : new.location ≡ old.location
+  pub limit : new.limit ≡ old.limit

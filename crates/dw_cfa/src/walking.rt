@@ -1,0 +1,227 @@
+//! Rows of one FDE after another, in room that is kept (6.4.1, 6.4.3).
+
+ghost use Rattle.std.specs.Prelude.{◌≡◌, ◌<◌, None, Ok, List, ◌∷◌, IfErr, IsOk, IsTrue, OnOk, Some};
+ghost use Rattle.dw_num.specs.Target.{address_limit};
+ghost use Rattle.dw_cfa.specs.declared.running.LocatedRow.{LocatedRow};
+ghost use Rattle.dw_cfa.specs.declared.running.RunError.TheVariants.{OutOfMemory};
+ghost use Rattle.dw_cfa.specs.Rows.{blank};
+ghost use Rattle.dw_cfa.specs.Runs.{GivesRow, RunsSo, finished, initial_row, placed, run_rows};
+ghost use Rattle.dw_cfa.specs.States.{BeganWith};
+ghost use Rattle.dw_cfa.specs.Stepping.{Advances, program_input, stepping};
+ghost use Rattle.dw_cfa.specs.Walking.{HasInitial, LeadsSame, Readied, led_rows};
+
+use crate::instr::Factors;
+use crate::machine::Machine;
+use crate::row::Row;
+use crate::running::{RunError, next_row, run_initial};
+use crate::states::States;
+use crate::steps::{Progress, progress_after};
+use dw_num::{Cursor, Program, Target, are_bytes};
+use std::alloc::Global;
+use std::marker::Model;
+
+/// A CIE's program, and what it is read with.
+#[derive(Clone, Copy)]
+pub(crate) struct Leading<'a> {
+    pub(crate) program: Program<'a>,
+    pub(crate) factors: Factors,
+    pub(crate) target: Target,
+}
+
+// Whether the bytes are equal, and what they are read with.
+fn is_equal(leading: Leading<'_>, other: Leading<'_>) -> bool
+    ensures { IsTrue result → (leading.entry.program.bytes.now ≡ other.entry.program.bytes.now) × (leading.entry.target ≡ other.entry.target) × (leading.entry.factors ≡ other.entry.factors) }
+{
+    if leading.factors != other.factors || leading.target != other.target {
+        return false;
+    }
+    leading.program.bytes == other.program.bytes
+}
+
+// Whether both leave the same row: equal programs are read alike, wherever they stand.
+fn leads_same(leading: Leading<'_>, other: Leading<'_>) -> bool
+    ensures { IsTrue result → LeadsSame leading.entry other.entry }
+{
+    are_bytes(leading.program.bytes);
+    is_equal(leading, other)
+}
+
+// Runs a CIE's program in a machine, which has its row then.
+fn run_cie<'a>(
+    alloc: Global,
+    leading: Leading<'a>,
+    machine: &mut Machine<'a>,
+) -> Result<(), RunError>
+    requires { IsOk (initial_row (placed leading.factors (program_input leading.program leading.target)) blank) }
+    ensures ok { OnOk result (Readied leading.entry machine.old machine.new) }
+    ensures err { IfErr result (λ e. e ≡ OutOfMemory) }
+{
+    machine.states = States::new(alloc, Row::blank(alloc), false);
+    let program = leading.program;
+    let mut cursor = Cursor::new(program.bytes, program.at, leading.target);
+    run_initial(&mut cursor, leading.factors, &mut machine.states, true)?;
+    machine.initial.become_copy(machine.states.row())?;
+    machine.states.track(machine.initial.is_wide());
+    Ok(())
+}
+
+// Runs a CIE's program, or brings its row back where the machine has it.
+fn ready<'a>(
+    alloc: Global,
+    leading: Leading<'a>,
+    machine: &mut Machine<'a>,
+    kept: bool,
+) -> Result<(), RunError>
+    requires runs { IsOk (initial_row (placed leading.factors (program_input leading.program leading.target)) blank) }
+    requires kept { IsTrue kept → HasInitial leading machine.old }
+    requires first { BeganWith machine.old.initial machine.old.states.first }
+    ensures ok { OnOk result (Readied leading.entry machine.old machine.new) }
+    ensures err { IfErr result (λ e. e ≡ OutOfMemory) }
+    ensures same { IsTrue kept → machine.new.initial ≡ machine.old.initial }
+{
+    if kept {
+        machine.states.rewind(&machine.initial)?;
+        return Ok(());
+    }
+    run_cie(alloc, leading, machine)
+}
+
+// Brings a CIE's row about, and runs an FDE's program up to the end of its first row.
+fn first_row<'a>(
+    alloc: Global,
+    leading: Leading<'a>,
+    fde: &mut Cursor<'a>,
+    machine: &mut Machine<'a>,
+    kept: &mut bool,
+) -> Result<(u128, bool), RunError>
+    requires known { (led_rows leading fde.old machine.old.location).fault ≡ None }
+    requires so { RunsSo machine.old fde.old }
+    requires kept { IsTrue kept.old → HasInitial leading machine.old }
+    ensures row { GivesRow (led_rows leading.entry fde.old machine.old.location) leading.entry.factors fde.new machine.new result }
+    ensures kept { IsTrue kept.new → HasInitial leading.entry machine.new }
+{
+    ready(alloc, leading, machine, *kept)?;
+    *kept = true;
+    next_row(fde, leading.factors, machine, true)
+}
+
+/// The rows of one FDE after another, in room that is kept, where it is known that their programs give rows to their
+/// end: no expression is judged again. A CIE's program is run where the FDE before had another CIE; else what the FDE
+/// before changed is taken back. A contract sees what it sees of `RowSteps`.
+#[derive(Drop)]
+pub struct RowWalk<'a> {
+    progress: Progress,
+    // The machine has the initial row of the CIE.
+    kept: bool,
+    leading: Leading<'a>,
+    fde: Cursor<'a>,
+    machine: Machine<'a>,
+    alloc: Global,
+}
+
+impl<'a> Model for RowWalk<'a> {
+    ghost use Rattle.dw_cfa.specs.Stepping.{Stepping};
+    ghost use Rattle.dw_cfa.specs.Walking.{WalksSo, walk_of};
+
+    ghost Value = { Stepping };
+
+    ghost view = { λ w. walk_of w.progress w.leading w.fde w.machine };
+
+    ghost invariant = { λ w. WalksSo w.progress w.kept w.leading w.fde w.machine };
+}
+
+impl<'a> RowWalk<'a> {
+    /// No row is to come until `go_to` names programs. Takes no memory.
+    pub fn new(alloc: Global, target: Target) -> RowWalk<'a>
+        ensures { result ≡ stepping blank finished }
+    {
+        let factors = Factors {
+            code_factor: 0,
+            data_factor: 0,
+        };
+        let program = Program { bytes: &[], at: 0 };
+        RowWalk {
+            progress: Progress::Finished,
+            kept: false,
+            leading: Leading {
+                program,
+                factors,
+                target,
+            },
+            fde: Cursor::new(&[], 0, target),
+            machine: Machine {
+                initial: Row::blank(alloc),
+                states: States::new(alloc, Row::blank(alloc), false),
+                location: 0,
+                limit: target.size.address_limit(),
+            },
+            alloc,
+        }
+    }
+
+    /// Goes to the rows of two programs that are known to give rows to their end, from an address `begin` of the target
+    /// on. Takes no memory: they are run by `advance`, also where an error was answered before.
+    pub fn go_to(
+        &mut self,
+        cie_program: Program<'a>,
+        fde_program: Program<'a>,
+        begin: u64,
+        factors: Factors,
+        target: Target,
+    )
+        requires begin { begin < address_limit target.size }
+        requires known { (run_rows factors (program_input cie_program target) (program_input fde_program target) begin).fault ≡ None }
+        ensures { self.new ≡ stepping self.old.current (run_rows factors (program_input cie_program.entry target) (program_input fde_program.entry target) begin) }
+    {
+        let leading = Leading {
+            program: cie_program,
+            factors,
+            target,
+        };
+        self.kept = self.kept && leads_same(self.leading, leading);
+        self.leading = leading;
+        self.fde = Cursor::new(fde_program.bytes, fde_program.at, target);
+        self.machine.location = u128::from(begin);
+        self.machine.limit = target.size.address_limit();
+        self.progress = Progress::Begun;
+    }
+
+    /// Goes on to the next row, which `row` lends then, and answers the location that it starts at, or none behind
+    /// the last row. No row is copied. Want of memory is answered from then on, until `go_to`.
+    pub fn advance(&mut self) -> Result<Option<u128>, RunError>
+        ensures { Advances self.old result self.new }
+    {
+        let (fde, machine) = (&mut self.fde, &mut self.machine);
+        let answer = match self.progress {
+            Progress::Begun => first_row(self.alloc, self.leading, fde, machine, &mut self.kept),
+            Progress::Running => next_row(fde, self.leading.factors, machine, true),
+            Progress::Finished => return Ok(None),
+            Progress::Failed(error) => return Err(error),
+        };
+        if answer.is_err() {
+            self.machine.states.untrack();
+        }
+        self.progress = progress_after(answer);
+        Ok(Some(answer?.0))
+    }
+
+    /// The row that `advance` went on to.
+    pub fn row(&self) -> &Row<'a>
+        ensures { result.now ≡ self.now.current }
+    {
+        self.machine.states.row()
+    }
+
+    /// The location that the next row starts at, which is where the row that is lent ends. None behind the last row, and
+    /// after an error.
+    pub fn next_start(&self) -> Option<u128>
+        ensures next { (row : LocatedRow) (rows : List LocatedRow) → self.now.outcome.rows ≡ row ∷ rows → result ≡ Some row.location }
+        ensures last { self.now.outcome ≡ finished → result ≡ None }
+        ensures none { result ≡ None → self.now.outcome ≡ finished }
+    {
+        match self.progress {
+            Progress::Begun | Progress::Running => Some(self.machine.location),
+            Progress::Finished | Progress::Failed(_) => None,
+        }
+    }
+}

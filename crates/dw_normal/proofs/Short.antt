@@ -1,0 +1,37 @@
+-- The shares of FDEs, one after another.
+use Rattle.std.proofs.Common.{◌≡◌, ℕ, zero, suc, ◌+◌, ◌*◌, ◌<◌, ◌≤◌, List, [], ◌∷◌, ◌++◌, length, map, take, get_or, refl, sym, ap, subst, arith}
+use Rattle.std.proofs.lemmas.List.{take_more}
+use Rattle.dw_num.specs.Input.{AreBytes}
+use Rattle.dw_num.specs.declared.target.Target.{Target}
+use Rattle.dw_section.specs.Accepted.{Accepted}
+use Rattle.dw_section.specs.Lengths.{HasLengths}
+use Rattle.dw_section.specs.Meaning.{AreFdes}
+use Rattle.dw_section.specs.declared.lookup.Fde.{Fde}
+use Rattle.dw_canon.specs.Bound.{share, Shares}
+use Rattle.dw_canon.specs.Canon.{canon}
+use Rattle.dw_canon.specs.Members.{Member, AreMembers, fde_of}
+use Rattle.dw_canon.proofs.Bounds.{within_shares}
+
+shares_more : (t : Target) (s : List ℕ) (fs : List Fde) (f : Fde) (own initial total : ℕ) → Shares t s fs total → HasLengths t s f own initial → Shares t s (fs ++ f ∷ []) (total + share own initial)
+shares_more t s [] f own initial total h k = (own, initial, 0, k, omega (arith, h), refl)
+shares_more t s (g ∷ fs) f own initial total h k =
+    let rest = shares_more t s fs f own initial h.2 h.5 k in
+    (h.0, h.1, h.2 + share own initial, h.3, omega (arith, h.4), rest)
+
+pub next_share : (t : Target) (s : List ℕ) (fs : List Fde) (place : ℕ) (d : Fde) (own initial total : ℕ) → place < length fs → Shares t s (take place fs) total → HasLengths t s (get_or fs place d) own initial
+    → Shares t s (take (place + 1) fs) (total + share own initial)
+next_share t s fs place d own initial total lt h k =
+    subst (λ (l : List Fde). Shares t s l (total + share own initial)) (sym (take_more fs place d lt)) (shares_more t s (take place fs) (get_or fs place d) own initial total h k)
+
+all_taken : (n : ℕ) (fs : List Fde) → length fs ≤ n → take n fs ≡ fs
+all_taken zero [] le = refl
+all_taken (suc n) [] le = refl
+all_taken zero (f ∷ fs) le = absurd (omega arith)
+all_taken (suc n) (f ∷ fs) le = ap (λ (l : List Fde). f ∷ l) (all_taken n fs (omega arith))
+
+pub short_enough : (t : Target) (s : List ℕ) (count total cap : ℕ) → AreBytes s → Accepted t s → ((fs : List Fde) → AreFdes t s fs → count ≡ length fs) → ((fs : List Fde) → AreFdes t s fs → Shares t s (take count fs) total)
+    → total ≤ 24 * cap → (ms : List Member) → AreMembers t s ms → length (canon t ms) ≤ cap
+short_enough t s count total cap b ok counted shares le ms are =
+    let fs = map fde_of ms in
+    let all = subst (λ (l : List Fde). Shares t s l total) (all_taken count fs (omega (arith, counted fs are.fdes))) (shares fs are.fdes) in
+    omega (arith, within_shares t s ms total b ok are all)

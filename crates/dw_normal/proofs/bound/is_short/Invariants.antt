@@ -1,0 +1,8 @@
+use Rattle.std.proofs.Common.{◌*◌, ◌≤◌, List, take}
+use Rattle.dw_section.specs.Meaning.{AreFdes}
+use Rattle.dw_section.specs.declared.lookup.Fde.{Fde}
+use Rattle.dw_canon.specs.Bound.{Shares}
+use Rattle.dw_normal.proofs.bound.is_short.Given as goal
+
+abbrev pub invariant-fdes : goal.invariant-fdes
+invariant-fdes l = (l.total ≤ 24 * l.cap) × ((fs : List Fde) → AreFdes l.fn.table.target l.fn.table.bytes fs → Shares l.fn.table.target l.fn.table.bytes (take l.place fs) l.total)

@@ -1,0 +1,43 @@
+//! At most how long a normal form is, by the lengths of the section's programs: no program is run.
+
+ghost use Rattle.std.specs.Prelude.{◌≡◌, ◌≤◌, ◌^◌, List, length, IsTrue, IfSome};
+ghost use Rattle.dw_canon.specs.Bound.{share};
+ghost use Rattle.dw_canon.specs.Canon.{canon};
+ghost use Rattle.dw_canon.specs.Members.{Member, AreMembers};
+
+use dw_section::{FdeRef, Table};
+
+// Longer programs are not judged by their lengths.
+const LONG: usize = 1_000_000;
+
+// At most 24 times the bytes that an FDE and a CIE take, by those of their programs.
+fn share(own: usize, initial: usize) -> Option<u64>
+    ensures is { IfSome result (λ n. n ≡ share own initial) }
+    ensures low { IfSome result (λ n. n ≤ 2 ^ 48) }
+{
+    if own > LONG || initial > LONG {
+        return None;
+    }
+    let spread = 6 * (own as u64 + initial as u64) + 35;
+    Some(spread * spread + 1320)
+}
+
+/// Whether the lengths of a table's programs alone show that its normal form is within a cap. Takes no memory.
+pub(crate) fn is_short(table: &Table<'_>, cap: u64) -> bool
+    requires cap { cap ≤ 2147483647 }
+    ensures { IsTrue result → (ms : List Member) → AreMembers table.now.target table.now.bytes ms → length (canon table.now.target ms) ≤ cap }
+{
+    table.accepted();
+    let mut total: u64 = 0;
+    'fdes: for place in 0..table.fde_count() {
+        let (own, initial) = table.program_lengths(FdeRef { place });
+        let Some(more) = share(own, initial) else {
+            return false;
+        };
+        total += more;
+        if total > 24 * cap {
+            return false;
+        }
+    }
+    true
+}

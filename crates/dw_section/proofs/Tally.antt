@@ -1,0 +1,57 @@
+-- Entries are counted as a section is walked.
+use Rattle.std.proofs.Common.{◌≡◌, ℕ, ◌+◌, ◌≤◌, List, [], ◌∷◌, ◌++◌, length, refl, ap, arith}
+use Rattle.std.proofs.lemmas.List.{length-append, append-nil}
+use Rattle.std.proofs.lemmas.List.Elements.{filter_map-append}
+use Rattle.dw_num.specs.declared.target.Form.{Form}
+use Rattle.dw_num.specs.declared.target.Target.{Target}
+use Rattle.dw_num.specs.Fixed.{length_bytes}
+use Rattle.dw_num.specs.Input.{Input, Takes}
+use Rattle.dw_section.specs.declared.cutting.EntryCounts.{EntryCounts}
+use Rattle.dw_section.specs.declared.cutting.Kind.{Kind}
+use Rattle.dw_section.specs.declared.cutting.Kind.TheVariants.{Cie, Fde}
+use Rattle.dw_section.specs.Counts.{AreCounts, counted_by}
+use Rattle.dw_section.specs.Cut.{gap, entry, IsItem, item_bytes, is_cie, all_bytes, Piece}
+use Rattle.dw_section.specs.Places.{cie_places}
+use Rattle.dw_section.proofs.Items.{IsWalked, walked_more, walked_entry, item_some}
+
+counts_more : (ps : List Piece) (p : Piece) (n : EntryCounts) (kind : Kind) → p.kind ≡ kind → AreCounts ps n → AreCounts (ps ++ p ∷ []) (counted_by n kind)
+counts_more ps p n Cie is w =
+    let e : cie_places (ps ++ p ∷ []) ≡ cie_places ps ++ p.at ∷ [] = rw (filter_map-append, is) refl in
+    let both = length-append (cie_places ps) (p.at ∷ []) in
+    let all = length-append ps (p ∷ []) in
+    (omega (arith, ap length e, w.0), omega (arith, w.1))
+counts_more ps p n Fde is w =
+    let e : cie_places (ps ++ p ∷ []) ≡ cie_places ps ++ [] = rw (filter_map-append, is) refl in
+    let both = length-append (cie_places ps) [] in
+    let all = length-append ps (p ∷ []) in
+    (omega (arith, ap length e, w.0), omega (arith, w.1))
+
+-- what a walk that counts knows
+pub record IsTallied (target : Target) (s : List ℕ) (now : Input) (n : EntryCounts) : Type 0 where
+  pub parts : List Piece
+  pub walked : IsWalked target s now parts
+  pub counts : AreCounts parts n
+  pub few : n.cies + n.fdes ≤ now.at
+
+-- there are fewer entries than bytes
+pub tallied_few : (target : Target) (s : List ℕ) (now : Input) (n : EntryCounts) → IsTallied target s now n → n.cies + n.fdes ≤ length s
+tallied_few target s now n w = omega (arith, w.few, w.walked.place, ap length w.walked.whole, length-append (all_bytes target.order w.walked.items) now.bytes)
+
+few_by : (n : EntryCounts) (kind : Kind) (a b : ℕ) → n.cies + n.fdes ≤ a → a + 4 ≤ b → (counted_by n kind).cies + (counted_by n kind).fdes ≤ b
+few_by n Cie a b le lt = omega arith
+few_by n Fde a b le lt = omega arith
+
+pub tallied_entry : (target : Target) (s : List ℕ) (old new : Input) (n : EntryCounts) (form : Form) (kind : Kind) (place : ℕ) (body : List ℕ) → IsTallied target s old n
+    → IsItem (entry form body) → Takes old (item_bytes old.target.order (entry form body)) new → kind ≡ is_cie form body → place ≡ old.at + length (length_bytes old.target.order form (length body))
+    → IsTallied target s new (counted_by n kind)
+tallied_entry target s old new n form kind place body w is t kind-is place-is =
+    let part : Piece = record { at = old.at; form = form; kind = kind; contents = record { at = place; bytes = body } } in
+    record {
+      parts = w.parts ++ part ∷ [];
+      walked = walked_entry target s old new w.parts form kind old.at place body w.walked is t refl kind-is place-is;
+      counts = counts_more w.parts part n kind refl w.counts;
+      few = few_by n kind old.at new.at w.few (omega (arith, t.at, item_some old.target.order (entry form body)));
+    }
+
+pub tallied_gap : (target : Target) (s : List ℕ) (old new : Input) (n : EntryCounts) → IsTallied target s old n → Takes old (item_bytes old.target.order gap) new → IsTallied target s new n
+tallied_gap target s old new n w t = record { parts = w.parts; walked = rw append-nil at (walked_more target s old new w.parts gap w.walked tt t); counts = w.counts; few = omega (arith, t.at, w.few) }

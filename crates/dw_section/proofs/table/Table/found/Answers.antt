@@ -1,0 +1,40 @@
+use Rattle.std.proofs.Common.{rules, ◌∙◌, map, get_or, ap, sym, arith}
+use Rattle.dw_section.specs.Lookup.{fde_in}
+use Rattle.dw_section.proofs.FdeLookup.{are_fdes, one_fdes, listed_place, listed_fde, here_of, same_fde}
+use Rattle.dw_section.proofs.RowLookup.{table_some}
+use Rattle.dw_section.proofs.table.Table.found.Goals as goal
+
+pub index-requires : goal.index-requires
+index-requires c =
+    let t = c.self.inside in
+    let place = listed_place t.target t.bytes.now t.index.items c.args.fde.place c.self.invariant.0 (rw (sym c.self.view_is) at c.requires) in
+    search (rules, place)
+
+pub found_fde-requires : goal.found_fde-requires
+found_fde-requires c =
+    let t = c.self.inside in
+    let e = c.index.result.now in
+    let hs = c.self.invariant.0.indexed.headers in
+    let place = listed_place t.target t.bytes.now t.index.items c.args.fde.place c.self.invariant.0 (rw (sym c.self.view_is) at c.requires) in
+    let here = here_of t.target t.bytes.now t.index.items t.counts t.places.items t.initials.items c.self.invariant.0 c.self.invariant.1 c.deref.result.now c.deref-2.result.now c.deref.ensures.value c.deref-2.ensures.value c.args.fde.place e place c.index.ensures in
+    record { headers = (hs, here.0, here.1, here.2) }
+
+pub returns-clause-found : goal.returns-clause-found
+returns-clause-found c =
+    let t = c.self.inside in
+    let e = c.index.result.now in
+    let w = c.self.invariant.0.indexed in
+    let place = listed_place t.target t.bytes.now t.index.items c.args.fde.place c.self.invariant.0 (rw (sym c.self.view_is) at c.requires) in
+    let here = here_of t.target t.bytes.now t.index.items t.counts t.places.items t.initials.items c.self.invariant.0 c.self.invariant.1 c.deref.result.now c.deref-2.result.now c.deref.ensures.value c.deref-2.ensures.value c.args.fde.place e place c.index.ensures in
+    let some = table_some t.target t.bytes.now t.index.items c.self.invariant.0 c.args.fde.place e place c.index.ensures in
+    rw (← c.self.view_is) (record { headers = w.headers; hold = w.hold; is = c.found_fde.ensures.is w.headers here.0 here.1 here.2; some = omega (arith, some, c.found_fde.ensures.range) })
+
+pub returns-clause-listed : goal.returns-clause-listed
+returns-clause-listed c = λ fs are d.
+    let t = c.self.inside in
+    let e = c.index.result.now in
+    let f = c.found_fde.result in
+    let place = listed_place t.target t.bytes.now t.index.items c.args.fde.place c.self.invariant.0 (rw (sym c.self.view_is) at c.requires) in
+    let same = one_fdes t.target t.bytes.now (map fde_in t.index.items) fs (are_fdes t.target t.bytes.now t.index.items c.self.invariant.0) (rw (sym c.self.view_is) at are) in
+    same_fde f.begin f.range f.return_register e.begin e.range e.return_register c.found_fde.ensures.begin c.found_fde.ensures.range c.found_fde.ensures.register
+    ∙ listed_fde t.index.items c.args.fde.place e d place c.index.ensures ∙ ap (λ l. get_or l c.args.fde.place d) same

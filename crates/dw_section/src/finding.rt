@@ -1,0 +1,126 @@
+//! Look-ups of addresses in a table, one after another (6.4.1).
+
+ghost use Rattle.std.specs.Prelude.{◌≡◌, ◌↔◌, ◌≤◌, ℕ, false, IsTrue, List, [], ◌∷◌, Some, None, IfOk, IfErr, OnOk, MatchOption};
+ghost use Rattle.dw_cfa.specs.declared.running.LocatedRow.{LocatedRow};
+ghost use Rattle.dw_cfa.specs.declared.running.RunError.TheVariants.{OutOfMemory};
+ghost use Rattle.dw_cfa.specs.RuleAt.{last_at, NeverFalls};
+ghost use Rattle.dw_cfa.specs.Rows.{Rules};
+ghost use Rattle.dw_section.specs.declared.lookup.Fde.{Fde as TheFde};
+ghost use Rattle.dw_section.specs.Finding.{LooksUp, RunsTo};
+ghost use Rattle.dw_section.specs.Meaning.{AreFdes, NoneCovers, RulesAt};
+
+use crate::rereading::FoundFde;
+use crate::table::Table;
+use dw_cfa::{Row, RowWalk, RunError};
+use dw_num::Target;
+use std::alloc::{AllocError, Global};
+use std::marker::Model;
+
+// Whether the next row starts at or below an address.
+fn starts_by(steps: &RowWalk<'_>, address: u64) -> bool
+    requires { steps.now.outcome.fault ≡ None }
+    ensures next { (row : LocatedRow) (rows : List LocatedRow) → steps.now.outcome.rows ≡ row ∷ rows → IsTrue result ↔ (row.location ≤ address) }
+    ensures none { steps.now.outcome.rows ≡ [] → result ≡ false }
+{
+    match steps.next_start() {
+        Some(start) => start <= u128::from(address),
+        None => false,
+    }
+}
+
+// Goes on to the last row that starts at or below an address.
+fn last_row(steps: &mut RowWalk<'_>, address: u64) -> Result<(), RunError>
+    requires no_error { steps.old.error ≡ None }
+    requires no_fault { steps.old.outcome.fault ≡ None }
+    requires never_falls { (low : ℕ) × NeverFalls low steps.old.outcome.rows }
+    ensures found { (row : Rules) → last_at address steps.old.outcome.rows ≡ Some row → OnOk result (steps.new.current ≡ row) }
+    ensures err { IfErr result (λ e. e ≡ OutOfMemory) }
+{
+    'rows: while starts_by(steps, address) {
+        let _ = steps.advance()?;
+    }
+    Ok(())
+}
+
+// Goes to the row of an address that an FDE covers.
+fn row_in<'a>(
+    steps: &mut RowWalk<'a>,
+    fde: &FoundFde<'a>,
+    address: u64,
+    target: Target,
+) -> Result<(), AllocError>
+    requires { (s : List ℕ) × RunsTo target s address fde.now }
+    ensures { (s : List ℕ) → RunsTo target s address fde.now → OnOk result (RulesAt target s address steps.new.current) }
+{
+    let (cie, program) = (fde.cie_program, fde.program);
+    steps.go_to(cie, program, fde.begin, fde.factors, target);
+    match last_row(steps, address) {
+        Ok(()) => Ok(()),
+        Err(_) => Err(AllocError),
+    }
+}
+
+/// Look-ups of addresses in a table, one after another, in room that is kept. A contract sees the section, and the row
+/// that was found last.
+#[derive(Drop)]
+pub struct Lookups<'t, 'a> {
+    table: &'t Table<'a>,
+    steps: RowWalk<'a>,
+    found: bool,
+}
+
+impl<'t, 'a> Model for Lookups<'t, 'a> {
+    ghost use Rattle.dw_section.specs.Finding.{Finding};
+    ghost use Rattle.dw_section.specs.Shown.{shown_if};
+
+    ghost Value = { Finding };
+
+    ghost view = { λ l. record { section = l.table.now; row = shown_if l.found l.steps.current } };
+}
+
+impl<'t, 'a> Lookups<'t, 'a> {
+    pub(crate) fn new(alloc: Global, table: &'t Table<'a>) -> Lookups<'t, 'a>
+        ensures { result ≡ record { section = table.entry.now; row = None } }
+    {
+        Lookups {
+            table,
+            steps: RowWalk::new(alloc, table.target()),
+            found: false,
+        }
+    }
+
+    /// Whether an FDE covers an address, or want of memory. `row` lends the rules there then. The FDE is found by halving,
+    /// and its program run up to the address, that of its CIE only where the look-up before found an FDE of another one.
+    pub fn find(&mut self, address: u64) -> Result<bool, AllocError>
+        ensures found { (fs : List TheFde) → AreFdes self.old.section.target self.old.section.bytes fs → IfOk result (λ found. LooksUp self.old.section fs address found self.new.row) }
+        ensures same { self.new.section ≡ self.old.section }
+    {
+        self.found = false;
+        let Some(fde) = self.table.covering(address) else {
+            return Ok(false);
+        };
+        row_in(&mut self.steps, &fde, address, self.table.target())?;
+        self.found = true;
+        Ok(true)
+    }
+
+    /// The row that `find` found, and none where it found none.
+    pub fn row(&self) -> Option<&Row<'a>>
+        ensures { MatchOption result (self.now.row ≡ None) (λ row. self.now.row ≡ Some row.now) }
+    {
+        if self.found {
+            return Some(self.steps.row());
+        }
+        None
+    }
+
+    // The same row once more.
+    pub(crate) fn copied(&self) -> Result<Option<Row<'a>>, AllocError>
+        ensures { IfOk result (λ row. MatchOption row (self.now.row ≡ None) (λ row. self.now.row ≡ Some row)) }
+    {
+        match self.row() {
+            Some(row) => Ok(Some(row.copied()?)),
+            None => Ok(None),
+        }
+    }
+}
