@@ -21,14 +21,16 @@ ITEM = re.compile(
 FN = re.compile(r"^( *)pub (?:const )?fn (\w+)(.*?)^\1[{}]", re.M | re.S)
 OWNER = re.compile(r"^(?:impl(?:<[^>]*>)? (?:[\w:<>', ]+ for )?(\w+)|pub trait (\w+))", re.M)
 MODEL = re.compile(r"^impl(?:<[^>]*>)? (?:Model|Iterator) for (\w+).*?^\}", re.M | re.S)
-GHOST = re.compile(r"^ *ghost (?!use)\w+[^;]*;", re.M)
+# Of a model only the type of its value is read: how private fields keep that value changes nothing for a caller.
+GHOST = re.compile(r"^ *ghost (?:Value|next_gives|remaining)\b[^;]*;", re.M)
 HEAD = """# What has to be believed
 
 The code is checked against its contracts; a contract says what its definitions mean. So these definitions, and nothing else in this
 repository, are what a reader has to believe. Each stands in `specs/` of the crate that it is named with. This list is made by
 `checks/definitions.py` from the sources: a call, how many clauses (`ensures`) it has, the definitions that its clauses name, and how
 many definitions these rest on in all, in how many lines, comments not counted. A definition that many calls rest on is counted for
-each of them, and once in the sums.
+each of them, and once in the sums. A type's clauses speak of its value; the type of the value is counted, and how the private fields keep
+it (`view`, `invariant`) is not: whatever they say, the clauses hold of one value, and no caller sees another.
 """
 
 
