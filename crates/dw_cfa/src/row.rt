@@ -552,6 +552,20 @@ impl<'a> Entries<'a> {
         self.far
             .retain(|register, _| others.rule(*register).is_specified());
     }
+
+    // Whether they have every register that others have.
+    fn have_all(&self, others: &Entries<'_>) -> bool
+        requires so { EntriesSo self.now }
+        requires others { EntriesSo others.now }
+        ensures { IsTrue result ↔ (filter (is_kept (entries_of self.now)) (entries_of others.now) ≡ entries_of others.now) }
+    {
+        for (register, _) in others.all() {
+            if !self.rule(register).is_specified() {
+                return false;
+            }
+        }
+        true
+    }
 }
 
 /// The rules at an address: how the canonical frame address and the registers of the caller are found. A
@@ -747,6 +761,13 @@ impl<'a> Row<'a> {
         ensures { self.new ≡ kept self.old other.now }
     {
         self.entries.keep(&other.entries);
+    }
+
+    /// Whether it specifies every register that another row specifies. Takes no memory.
+    pub fn specifies_all(&self, other: &Row<'_>) -> bool
+        ensures { IsTrue result ↔ (kept other.now self.now ≡ other.now) }
+    {
+        self.entries.have_all(&other.entries)
     }
 
     // Whether some registers are in a tree.

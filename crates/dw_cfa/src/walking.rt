@@ -7,8 +7,8 @@ ghost use Rattle.dw_cfa.specs.declared.running.RunError.TheVariants.{OutOfMemory
 ghost use Rattle.dw_cfa.specs.Rows.{blank};
 ghost use Rattle.dw_cfa.specs.Runs.{GivesRow, RunsSo, finished, initial_row, placed, run_rows};
 ghost use Rattle.dw_cfa.specs.States.{BeganWith};
-ghost use Rattle.dw_cfa.specs.Stepping.{Advances, program_input, stepping};
-ghost use Rattle.dw_cfa.specs.Walking.{HasInitial, LeadsSame, Readied, led_rows};
+ghost use Rattle.dw_cfa.specs.Stepping.{Advances, program_input, progress_after, stepping};
+ghost use Rattle.dw_cfa.specs.Walking.{AllKeep, HasInitial, LeadsSame, Readied, WalkKeeps, led_rows};
 
 use crate::instr::Factors;
 use crate::machine::Machine;
@@ -99,7 +99,9 @@ fn first_row<'a>(
     requires kept { IsTrue kept.old → HasInitial leading machine.old }
     ensures row { GivesRow (led_rows leading.entry fde.old machine.old.location) leading.entry.factors fde.new machine.new result }
     ensures kept { IsTrue kept.new → HasInitial leading.entry machine.new }
+    ensures keeps { WalkKeeps (progress_after result) leading.entry fde.new machine.new }
 {
+    are_bytes(fde.rest());
     ready(alloc, leading, machine, *kept)?;
     *kept = true;
     next_row(fde, leading.factors, machine, true)
@@ -222,6 +224,18 @@ impl<'a> RowWalk<'a> {
         match self.progress {
             Progress::Begun | Progress::Running => Some(self.machine.location),
             Progress::Finished | Progress::Failed(_) => None,
+        }
+    }
+
+    /// Whether each row still to come is known to specify every register that a row specifies: what a CIE's program
+    /// specifies stays so. `false` says nothing. Takes no memory.
+    pub fn keeps(&self, row: &Row<'_>) -> bool
+        ensures { IsTrue result → AllKeep row.now self.now.outcome.rows }
+    {
+        match self.progress {
+            Progress::Begun => false,
+            Progress::Running => self.machine.initial.specifies_all(row),
+            Progress::Finished | Progress::Failed(_) => true,
         }
     }
 }

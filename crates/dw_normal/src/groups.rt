@@ -29,13 +29,17 @@ pub(crate) fn go_behind_first<'a>(
     Ok(())
 }
 
-/// Drops from a row the registers that one of the changes still to come leaves Unspecified.
+/// Drops from a row the registers that one of the changes still to come leaves Unspecified. No change drops one that the
+/// CIE's program specifies, so the row of most groups needs no walk.
 pub(crate) fn keep_all<'a>(
     shared: &mut Row<'a>,
     changes: &mut Changes<'a>,
 ) -> Result<(), AllocError>
     ensures { (later : List (ℕ × Rules)) → AreToCome changes.old later → OnOk result (shared.new ≡ kept_by shared.old later) }
 {
+    if changes.keeps(shared) {
+        return Ok(());
+    }
     'changes: while let Some(_) = changes.advance()? {
         let Some(row) = changes.row() else {
             return Err(AllocError);

@@ -3,6 +3,7 @@
 ghost use Rattle.std.specs.Prelude.{◌≡◌, ◌+◌, ◌<◌, ◌↔◌, [], IsTrue, Some, None, true, IsErr, IfOk, OnOk, MatchOption};
 ghost use Rattle.dw_num.specs.Target.{address_limit};
 ghost use Rattle.dw_cfa.specs.Rows.{Rules};
+ghost use Rattle.dw_cfa.specs.Walking.{AllKeep};
 ghost use Rattle.dw_section.specs.Changes.{Before, GivesAddress, GivesChange, FindsChange, changing};
 ghost use Rattle.dw_section.specs.Lookup.{rows_of};
 
@@ -199,5 +200,13 @@ impl<'a> Changes<'a> {
                 Err(error)
             }
         }
+    }
+
+    /// Whether each change still to come is known to specify every register that a row specifies: what a CIE's program
+    /// specifies stays so. `false` says nothing. Takes no memory.
+    pub fn keeps(&self, row: &Row<'_>) -> bool
+        ensures { IsTrue result → AllKeep row.now self.now.rows }
+    {
+        self.steps.keeps(row)
     }
 }

@@ -1,0 +1,10 @@
+use Rattle.std.proofs.Common.{◌≡◌}
+use Rattle.std.specs.Prelude.{◌↔◌}
+use Rattle.std.specs.List.{filter}
+use Rattle.dw_cfa.specs.Entries.{entries_of}
+use Rattle.dw_cfa.specs.Narrowing.{is_kept}
+use Rattle.dw_cfa.proofs.row.Entries.have_all.Given as goal
+
+abbrev pub invariant-loop-register : goal.invariant-loop-register
+invariant-loop-register l =
+    (filter (is_kept (entries_of l.fn.self)) l.register-iterator ≡ l.register-iterator) ↔ (filter (is_kept (entries_of l.fn.self)) (entries_of l.fn.others) ≡ entries_of l.fn.others)
