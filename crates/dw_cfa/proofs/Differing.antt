@@ -116,7 +116,7 @@ module _ (xs ys rest rest' : List Entry) (x y : Entry) (e : xs ≡ x ∷ rest) (
 zero_both : (a b : ℕ) → max a b ≡ 0 → (a ≡ 0) × (b ≡ 0)
 zero_both a b e = (omega (arith, e), omega (arith, e))
 
-not_used : (s : Slot) (block : RegRule) → s.kind ≡ kinds.Empty → slot_rule s block ≡ Unspecified
+pub not_used : (s : Slot) (block : RegRule) → s.kind ≡ kinds.Empty → slot_rule s block ≡ Unspecified
 not_used s block is = ap (λ (k : Kind). kind_rule k s.register s.offset block) is
 
 -- registers from one place on up to another, and from there on

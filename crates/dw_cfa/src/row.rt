@@ -239,22 +239,6 @@ fn first_difference(
     Some(*register)
 }
 
-// Whether both give the same entries.
-fn give_same(entries: Specified<'_, '_>, others: Specified<'_, '_>) -> bool
-    ensures { IsTrue result ↔ (entries.entry ≡ others.entry) }
-{
-    let mut others = others;
-    for (register, rule) in entries {
-        let Some((other_register, other)) = others.step() else {
-            return false;
-        };
-        if register != other_register || !rule.is_same(&other) {
-            return false;
-        }
-    }
-    others.step().is_none()
-}
-
 impl<'a> Entries<'a> {
     #[inline(always)]
     fn rule(&self, register: u16) -> RegRule<'a>
@@ -317,7 +301,7 @@ impl<'a> Entries<'a> {
         requires others { EntriesSo others.now }
         ensures { IsTrue result ↔ (entries_of self.now ≡ entries_of others.now) }
     {
-        give_same(self.all(), others.all())
+        self.next_difference(others, None).is_none()
     }
 
     // The first register from a place on that has a slot, used in one of both, and whose rule differs.
@@ -496,6 +480,11 @@ impl<'a> Entries<'a> {
     {
         let mut register = 0;
         'slots: while register < NEAR {
+            let left = self.used >> register;
+            if left == 0 {
+                return;
+            }
+            register += left.trailing_zeros() as u16;
             self.agree_at(register, others);
             register += 1;
         }
@@ -536,6 +525,11 @@ impl<'a> Entries<'a> {
     {
         let mut register = 0;
         'slots: while register < NEAR {
+            let left = self.used >> register;
+            if left == 0 {
+                return;
+            }
+            register += left.trailing_zeros() as u16;
             self.keep_at(register, others);
             register += 1;
         }
