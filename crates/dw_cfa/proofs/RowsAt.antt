@@ -94,7 +94,7 @@ never_falls limit initial (item ∷ items) s rows low le e =
     ]
 
 -- no row starts at or below a where the location has passed it
-none_at : (a : ℕ) (low : ℕ) (rows : List LocatedRow) → a < low → NeverFalls low rows → last_at a rows ≡ None
+pub none_at : (a : ℕ) (low : ℕ) (rows : List LocatedRow) → a < low → NeverFalls low rows → last_at a rows ≡ None
 none_at a low [] past h = refl
 none_at a low (row ∷ rows) past h =
     let first : low ≤ row.location = h.0 in

@@ -1,6 +1,6 @@
 -- What a CIE's program specifies is specified in every row of its FDEs: no instruction leaves a register without a rule.
 use Rattle.std.proofs.Common.{◌≡◌, ℕ, zero, suc, Bool, true, false, cond, List, [], ◌∷◌, length, Option, Some, None, Ok, Err, Result, refl, sym, ap, ◌∙◌, subst, arith, inl, inr}
-use Rattle.std.specs.Prelude.{IsTrue, nat_eq, nat_lt, if◌then◌else◌}
+use Rattle.std.specs.Prelude.{IsTrue, IfOk, OnOk, nat_eq, nat_lt, if◌then◌else◌}
 use Rattle.std.specs.List.{AllByRecursion}
 use Rattle.std.proofs.lemmas.Bool.{cases_Bool, ltb-true, ne_eqb, eqb-true, eqb-false}
 use Rattle.dw_num.specs.declared.refusal.Code.{Code}
@@ -184,3 +184,8 @@ walk_keeps p l fde m s row is e h same =
     let all = subst (λ (x : Progress). WalkKeeps x l fde m) is h in
     let here : rows_left l.factors fde m ≡ s.outcome = ap (λ (x : Progress). (walk_of x l fde m).outcome) (sym is) ∙ ap (λ (x : Stepping). x.outcome) e in
     subst (λ (o : Outcome). AllKeep row o.rows) here (all_keep row m.initial (rows_left l.factors fde m).rows same all)
+
+-- what is so behind a run is so where the program goes on
+pub where_more : {E : Type 0} → (P : Type 0) (r : Result Bool E) → OnOk r P → IfOk r (λ (more : Bool). IsTrue more → P)
+where_more P (Ok more) h = λ t. h
+where_more P (Err e) h = tt

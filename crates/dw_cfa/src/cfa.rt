@@ -117,7 +117,7 @@ pub(crate) fn run_def_cfa_offset<'a>(
 
 /// The same with an offset that is signed and factored.
 #[tactic(auto, unfolding(crate::specs::Reading::def_cfa_offset_sf_at))]
-#[inline(never)]
+#[inline(always)]
 pub(crate) fn run_def_cfa_offset_sf<'a>(
     cursor: &mut Cursor<'a>,
     factors: Factors,

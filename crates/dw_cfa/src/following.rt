@@ -1,14 +1,16 @@
 //! FDEs' programs, one after another behind the initial row of their CIE (6.4.1).
 
-ghost use Rattle.std.specs.Prelude.{◌≡◌, ◌<◌, None, Some, Ok, Err, OnOk, OnErr, IfOk, IfErr};
+ghost use Rattle.std.specs.Prelude.{◌≡◌, ◌<◌, None, Some, Ok, Err, false, OnOk, OnErr, IfOk, IfErr, MatchResult};
 ghost use Rattle.dw_num.specs.Target.{address_limit};
 ghost use Rattle.dw_cfa.specs.Following.{Following, with_steps};
+ghost use Rattle.dw_cfa.specs.Lacking.{lacks_from};
 ghost use Rattle.dw_cfa.specs.Rows.{blank};
 ghost use Rattle.dw_cfa.specs.Runs.{RefusalIs, finished, initial_row, placed, rows_behind};
 ghost use Rattle.dw_cfa.specs.Stepping.{Advances, program_input, stepping};
 ghost use Rattle.dw_cfa.specs.declared.running.RunError.TheVariants.{OutOfMemory};
 
 use crate::instr::Factors;
+use crate::lacking::lacks_rule;
 use crate::machine::Machine;
 use crate::row::Row;
 use crate::running::{RunError, next_row};
@@ -114,6 +116,34 @@ impl<'a> CieMachine<'a> {
         }
         self.progress = progress_after(answer);
         Ok(Some(answer?.0))
+    }
+
+    /// Runs the program that began to its end, and says whether an address from `begin` up to the end has no rule for the
+    /// CFA among the rows still to come. No row is to come then, and a refusal, or want of memory, is answered from then on.
+    pub fn lacks_rule(&mut self, begin: u128, end: u128) -> Result<bool, RunError>
+        requires { self.old.steps.error ≡ None }
+        ensures found { IfOk result (λ lacks. (self.old.steps.outcome.fault ≡ None) × (lacks ≡ lacks_from end begin false self.old.steps.outcome.rows)) }
+        ensures refused { IfErr result (λ e. RefusalIs e (λ r. self.old.steps.outcome.fault ≡ Some r)) }
+        ensures after { MatchResult result (λ _. self.new.steps ≡ stepping self.new.steps.current finished) (λ e. self.new.steps.error ≡ Some e) }
+        ensures same { self.new ≡ with_steps self.old self.new.steps }
+    {
+        match self.progress {
+            Progress::Running => {}
+            Progress::Begun | Progress::Finished => return Ok(false),
+            Progress::Failed(error) => return Err(error),
+        }
+        let (fde, machine) = (&mut self.fde, &mut self.machine);
+        match lacks_rule(fde, self.factors, machine, begin, end) {
+            Ok(lacks) => {
+                self.progress = Progress::Finished;
+                Ok(lacks)
+            }
+            Err(error) => {
+                self.machine.states.untrack();
+                self.progress = Progress::Failed(error);
+                Err(error)
+            }
+        }
     }
 
     /// The row that `advance` went on to.

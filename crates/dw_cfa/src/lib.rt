@@ -7,6 +7,7 @@ mod collecting;
 mod following;
 mod instr;
 mod instructions;
+mod lacking;
 mod laws;
 mod machine;
 mod reading;

@@ -1,8 +1,9 @@
 //! The instruction at the front of what is left of a program.
 
-ghost use Rattle.std.specs.Prelude.{◌≡◌, ◌+◌, ◌*◌, ◌<◌, ◌^◌, ◌*ℤ◌, length, unsigned_abs, IsTrue, IsOk};
+ghost use Rattle.std.specs.Prelude.{◌≡◌, ◌+◌, ◌*◌, ◌<◌, ◌^◌, ◌*ℤ◌, length, unsigned_abs, [], ◌∷◌, IfSome, IsTrue, IsOk};
+ghost use Rattle.dw_num.specs.Leb.{Sleb};
 ghost use Rattle.dw_num.specs.Fixed.{IsWidth};
-ghost use Rattle.dw_num.specs.Reading.{Gives, uleb_at};
+ghost use Rattle.dw_num.specs.Reading.{Gives, sleb_at, uleb_at};
 ghost use Rattle.dw_cfa.specs.Reading.{opcode_of, offset_in, plain_at, factored_at, signed_at, expression_in, block_at, set_loc_at, advance_at, def_cfa_at, def_cfa_sf_at, def_cfa_register_at, def_cfa_offset_at, def_cfa_offset_sf_at, def_cfa_expression_at, offset_at, offset_extended_at, offset_extended_sf_at, val_offset_at, val_offset_sf_at, restore_at, undefined_at, same_value_at, register_rule_at, expression_at, val_expression_at, operands_at, instr_at};
 
 use crate::instr::{Factors, Instr};
@@ -121,6 +122,36 @@ fn quick_uleb(cursor: &mut Cursor<'_>) -> Result<u64, Refusal>
     cursor.uleb()
 }
 
+// The signed number that a byte alone spells.
+#[tactic(auto, using(crate::proofs::ShortNumbers::one_byte_positive, crate::proofs::ShortNumbers::one_byte_negative))]
+#[inline(always)]
+fn signed_in(byte: u8) -> Option<i64>
+    ensures { IfSome result (λ v. Sleb v (byte ∷ [])) }
+{
+    if byte < 64 {
+        return Some(i64::from(byte));
+    }
+    if byte < 128 {
+        return Some(i64::from(byte) - 128);
+    }
+    None
+}
+
+// A signed LEB128 number, which mostly has one byte too.
+#[inline(always)]
+fn quick_sleb(cursor: &mut Cursor<'_>) -> Result<i64, Refusal>
+    ensures { Gives (λ v. v) result (sleb_at cursor.old) cursor.new }
+{
+    let before = Cursor::new(cursor.rest(), cursor.at(), cursor.target());
+    if let Ok(byte) = cursor.byte() {
+        if let Some(number) = signed_in(byte) {
+            return Ok(number);
+        }
+    }
+    *cursor = before;
+    cursor.sleb()
+}
+
 #[tactic(auto, unfolding(crate::specs::Reading::plain_at))]
 #[inline(always)]
 pub(crate) fn plain(cursor: &mut Cursor<'_>, at: u64) -> Result<i64, Refusal>
@@ -140,10 +171,11 @@ pub(crate) fn factored(cursor: &mut Cursor<'_>, factors: Factors, at: u64) -> Re
 }
 
 #[tactic(auto, unfolding(crate::specs::Reading::signed_at))]
+#[inline(always)]
 pub(crate) fn signed(cursor: &mut Cursor<'_>, factors: Factors, at: u64) -> Result<i64, Refusal>
     ensures { Gives (λ z. z) result (signed_at factors at cursor.old) cursor.new }
 {
-    let operand = cursor.sleb()?;
+    let operand = quick_sleb(cursor)?;
     checked_offset(times(i128::from(operand), factors.data_factor), at)
 }
 

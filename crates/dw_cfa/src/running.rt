@@ -1,8 +1,12 @@
 //! Programs that are run instruction by instruction (6.4.3).
 
-ghost use Rattle.std.specs.Prelude.{◌≡◌, ◌<◌, None, Ok, Err, length, OnOk, IfErr, IsOk, IsTrue};
+ghost use Rattle.std.specs.Prelude.{◌≡◌, ◌<◌, ℕ, None, Some, Ok, Err, length, OnOk, IfErr, IsOk, IsTrue};
+ghost use Rattle.dw_cfa.specs.declared.running.RunError.TheVariants as TheError;
+ghost use Rattle.dw_cfa.specs.RuleAt.{last_at, NeverFalls};
+ghost use Rattle.dw_cfa.specs.Rows.{Rules};
 ghost use Rattle.dw_cfa.specs.Kept.{in_cie};
 ghost use Rattle.dw_cfa.specs.Runs.{RefusalIs, RunsSo, GivesRow, Wrote, rows_left, initial_row, placed, run_error};
+ghost use Rattle.dw_cfa.specs.Walking.{AllSpecify};
 
 use crate::instr::{Factors, Instr};
 use crate::machine::{End, Machine, StepError, write_rule};
@@ -112,6 +116,42 @@ pub(crate) fn next_row<'a>(
         }
     }
     Ok((machine.location, false))
+}
+
+/// Runs a program that is known to have no fault up to the end of the last row that starts at or below an address, which
+/// the machine has then. Answers whether the program goes on behind it.
+pub(crate) fn run_to<'a>(
+    cursor: &mut Cursor<'a>,
+    factors: Factors,
+    machine: &mut Machine<'a>,
+    address: u64,
+) -> Result<bool, RunError>
+    requires so { RunsSo machine.old cursor.old }
+    requires known { (rows_left factors cursor.old machine.old).fault ≡ None }
+    requires never_falls { (low : ℕ) × NeverFalls low (rows_left factors cursor.old machine.old).rows }
+    ensures found { (row : Rules) → last_at address (rows_left factors cursor.old machine.old).rows ≡ Some row → OnOk result (machine.new.states.row ≡ row) }
+    ensures so { OnOk result (RunsSo machine.new cursor.new) }
+    ensures known { OnOk result ((rows_left factors cursor.new machine.new).fault ≡ None) }
+    ensures keeps { (other : Rules) → AllSpecify other (rows_left factors cursor.old machine.old).rows → OnOk result (AllSpecify other (rows_left factors cursor.new machine.new).rows) }
+    ensures err { IfErr result (λ e. e ≡ TheError.OutOfMemory) }
+    ensures initial { machine.new.initial ≡ machine.old.initial }
+{
+    let address = u128::from(address);
+    let code = Code::Truncated;
+    let mut fault = Refusal { code, at: 0 };
+    'instrs: while cursor.left() > 0 {
+        match turn(cursor, factors, machine, true, &mut fault) {
+            End::On => {}
+            End::Moved => {
+                if machine.location > address {
+                    return Ok(true);
+                }
+            }
+            End::Refused => unreachable!(),
+            End::OutOfMemory => return Err(RunError::OutOfMemory),
+        }
+    }
+    Ok(false)
 }
 
 // Reads an instruction of a CIE's program, and writes its rule into the row.

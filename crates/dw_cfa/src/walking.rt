@@ -1,19 +1,20 @@
 //! Rows of one FDE after another, in room that is kept (6.4.1, 6.4.3).
 
-ghost use Rattle.std.specs.Prelude.{◌≡◌, ◌<◌, None, Ok, List, ◌∷◌, IfErr, IsOk, IsTrue, OnOk, Some};
+ghost use Rattle.std.specs.Prelude.{◌≡◌, ◌<◌, ℕ, None, Ok, List, ◌∷◌, IfErr, IfOk, IsOk, IsTrue, MatchResult, OnOk, Some};
 ghost use Rattle.dw_num.specs.Target.{address_limit};
 ghost use Rattle.dw_cfa.specs.declared.running.LocatedRow.{LocatedRow};
 ghost use Rattle.dw_cfa.specs.declared.running.RunError.TheVariants.{OutOfMemory};
-ghost use Rattle.dw_cfa.specs.Rows.{blank};
-ghost use Rattle.dw_cfa.specs.Runs.{GivesRow, RunsSo, finished, initial_row, placed, run_rows};
+ghost use Rattle.dw_cfa.specs.RuleAt.{last_at, NeverFalls};
+ghost use Rattle.dw_cfa.specs.Rows.{Rules, blank};
+ghost use Rattle.dw_cfa.specs.Runs.{GivesRow, RunsSo, finished, initial_row, placed, rows_left, run_rows};
 ghost use Rattle.dw_cfa.specs.States.{BeganWith};
 ghost use Rattle.dw_cfa.specs.Stepping.{Advances, program_input, progress_after, stepping};
-ghost use Rattle.dw_cfa.specs.Walking.{AllKeep, HasInitial, LeadsSame, Readied, WalkKeeps, led_rows};
+ghost use Rattle.dw_cfa.specs.Walking.{AllKeep, AllSpecify, HasInitial, LeadsSame, Readied, WalkKeeps, WalksSo, led_rows, walk_of};
 
 use crate::instr::Factors;
 use crate::machine::Machine;
 use crate::row::Row;
-use crate::running::{RunError, next_row, run_initial};
+use crate::running::{RunError, next_row, run_initial, run_to};
 use crate::states::States;
 use crate::steps::{Progress, progress_after};
 use dw_num::{Cursor, Program, Target, are_bytes};
@@ -105,6 +106,61 @@ fn first_row<'a>(
     ready(alloc, leading, machine, *kept)?;
     *kept = true;
     next_row(fde, leading.factors, machine, true)
+}
+
+// Brings a CIE's row about, and runs an FDE's program up to the end of the last row that starts at or below an address.
+fn first_to<'a>(
+    alloc: Global,
+    leading: Leading<'a>,
+    fde: &mut Cursor<'a>,
+    machine: &mut Machine<'a>,
+    kept: &mut bool,
+    address: u64,
+) -> Result<bool, RunError>
+    requires known { (led_rows leading fde.old machine.old.location).fault ≡ None }
+    requires so { RunsSo machine.old fde.old }
+    requires kept { IsTrue kept.old → HasInitial leading machine.old }
+    requires never_falls { (low : ℕ) × NeverFalls low (led_rows leading fde.old machine.old.location).rows }
+    ensures found { (row : Rules) → last_at address (led_rows leading.entry fde.old machine.old.location).rows ≡ Some row → OnOk result (machine.new.states.row ≡ row) }
+    ensures so { OnOk result (RunsSo machine.new fde.new) }
+    ensures known { OnOk result ((rows_left leading.entry.factors fde.new machine.new).fault ≡ None) }
+    ensures err { IfErr result (λ e. e ≡ OutOfMemory) }
+    ensures kept { IsTrue kept.new → HasInitial leading.entry machine.new }
+    ensures keeps { OnOk result (AllSpecify machine.new.initial (rows_left leading.entry.factors fde.new machine.new).rows) }
+{
+    are_bytes(fde.rest());
+    ready(alloc, leading, machine, *kept)?;
+    *kept = true;
+    run_to(fde, leading.factors, machine, address)
+}
+
+// The same from where a walk stands.
+fn walk_to<'a>(
+    progress: Progress,
+    alloc: Global,
+    leading: Leading<'a>,
+    fde: &mut Cursor<'a>,
+    machine: &mut Machine<'a>,
+    kept: &mut bool,
+    address: u64,
+) -> Result<bool, RunError>
+    requires so { WalksSo progress kept.old leading fde.old machine.old }
+    requires no_error { (walk_of progress leading fde.old machine.old).error ≡ None }
+    requires never_falls { (low : ℕ) × NeverFalls low (walk_of progress leading fde.old machine.old).outcome.rows }
+    ensures found { (row : Rules) → last_at address (walk_of progress leading.entry fde.old machine.old).outcome.rows ≡ Some row → OnOk result (machine.new.states.row ≡ row) }
+    ensures so { IfOk result (λ more. IsTrue more → RunsSo machine.new fde.new) }
+    ensures first { OnOk result (BeganWith machine.new.initial machine.new.states.first) }
+    ensures known { IfOk result (λ more. IsTrue more → (rows_left leading.entry.factors fde.new machine.new).fault ≡ None) }
+    ensures err { IfErr result (λ e. e ≡ OutOfMemory) }
+    ensures kept { IsTrue kept.new → HasInitial leading.entry machine.new }
+    ensures keeps { IfOk result (λ more. IsTrue more → AllSpecify machine.new.initial (rows_left leading.entry.factors fde.new machine.new).rows) }
+{
+    match progress {
+        Progress::Begun => first_to(alloc, leading, fde, machine, kept, address),
+        Progress::Running => run_to(fde, leading.factors, machine, address),
+        Progress::Finished => Ok(false),
+        Progress::Failed(error) => Err(error),
+    }
 }
 
 /// The rows of one FDE after another, in room that is kept, where it is known that their programs give rows to their
@@ -205,6 +261,30 @@ impl<'a> RowWalk<'a> {
         }
         self.progress = progress_after(answer);
         Ok(Some(answer?.0))
+    }
+
+    /// Goes on to the last row that starts at or below an address, which `row` lends then, where one of those still to come
+    /// does. No row is copied. Want of memory is answered from then on, until `go_to`.
+    pub fn advance_to(&mut self, address: u64) -> Result<(), RunError>
+        requires no_error { self.old.error ≡ None }
+        requires never_falls { (low : ℕ) × NeverFalls low self.old.outcome.rows }
+        ensures found { (row : Rules) → last_at address self.old.outcome.rows ≡ Some row → OnOk result (self.new.current ≡ row) }
+        ensures err { IfErr result (λ e. e ≡ OutOfMemory) }
+        ensures again { MatchResult result (λ _. self.new.error ≡ None) (λ e. self.new.error ≡ Some e) }
+    {
+        let (fde, machine) = (&mut self.fde, &mut self.machine);
+        let (progress, leading, kept) = (self.progress, self.leading, &mut self.kept);
+        let answer = walk_to(progress, self.alloc, leading, fde, machine, kept, address);
+        match answer {
+            Ok(true) => self.progress = Progress::Running,
+            Ok(false) => self.progress = Progress::Finished,
+            Err(error) => {
+                self.machine.states.untrack();
+                self.progress = Progress::Failed(error);
+                return Err(error);
+            }
+        }
+        Ok(())
     }
 
     /// The row that `advance` went on to.
