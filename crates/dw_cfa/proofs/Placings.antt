@@ -16,10 +16,11 @@ use Rattle.dw_cfa.specs.declared.instr.Instr.{Instr}
 use Rattle.dw_cfa.specs.declared.instr.Instr.TheVariants.{Nop, SetLoc, Advance, DefCfa, DefCfaRegister, DefCfaOffset, DefCfaExpression, Set, Restore, RememberState, RestoreState}
 use Rattle.dw_cfa.specs.declared.rule.RegRule.{RegRule}
 use Rattle.dw_cfa.specs.declared.rule.RegRule.TheVariants as rules
-use Rattle.dw_cfa.specs.InstrSpells.{InstrSpells, RuleSpells}
+use Rattle.dw_cfa.specs.InstrSpells.{InstrSpells}
 use Rattle.dw_cfa.specs.Reading.{instr_at}
 use Rattle.dw_cfa.specs.Steps.{InLimit}
 use Rattle.dw_cfa.specs.Runs.{Placing, ended, after_item, on_left, placed_by, placed}
+use Rattle.dw_cfa.proofs.Spellings.{IsSpelled, by_table}
 use Rattle.dw_cfa.proofs.InstrLaws.{instr_found}
 
 -- what is read is shorter by its spelling
@@ -28,47 +29,20 @@ pub record Reads (f : Factors) (i : Input) (x : Instr × Input) : Type 0 where
   pub bytes : AreBytes x.1.bytes
   pub target : x.1.target ≡ i.target
 
-code_some : (code : ℕ) (P : List ℕ → Type 0) (b : List ℕ) → Code code P b → 0 < length b
-code_some code P b h = omega (arith, ap length h.whole)
-
-alone_some : (code : ℕ) (b : List ℕ) → Alone code b → 0 < length b
-alone_some code b h = omega (arith, ap length h)
-
-either_some : {A B : Type 0} (b : List ℕ) → A ⊎ B → (A → 0 < length b) → (B → 0 < length b) → 0 < length b
-either_some b h f g = elim h [ inl x ↦ f x | inr y ↦ g y ]
-
-rule_some : (t : Target) (f : Factors) (r : ℕ) (rule : RegRule) (b : List ℕ) → RuleSpells t f r rule b → 0 < length b
-rule_some t f r rules.Unspecified b h = absurd h
-rule_some t f r rules.Undefined b h = code_some _ _ b h
-rule_some t f r rules.SameValue b h = code_some _ _ b h
-rule_some t f r (rules.Offset n) b h = either_some b h (λ x. code_some _ _ b x.1) (λ y. either_some b y (code_some _ _ b) (code_some _ _ b))
-rule_some t f r (rules.ValOffset n) b h = either_some b h (code_some _ _ b) (code_some _ _ b)
-rule_some t f r (rules.Register q) b h = code_some _ _ b h
-rule_some t f r (rules.Expression e) b h = code_some _ _ b h
-rule_some t f r (rules.ValExpression e) b h = code_some _ _ b h
-
 -- no spelling is empty
 pub spells_some : (t : Target) (f : Factors) (i : Instr) (b : List ℕ) → InstrSpells t f i b → 0 < length b
-spells_some t f Nop b h = alone_some _ b h
-spells_some t f (SetLoc a) b h = code_some _ _ b h
-spells_some t f (Advance d) b h =
-    either_some b h.1 (λ x. alone_some _ b x.1) (λ y. either_some b y (code_some _ _ b) (λ z. either_some b z (code_some _ _ b) (code_some _ _ b)))
-spells_some t f (DefCfa r n) b h = either_some b h (code_some _ _ b) (code_some _ _ b)
-spells_some t f (DefCfaRegister r) b h = code_some _ _ b h
-spells_some t f (DefCfaOffset n) b h = either_some b h (code_some _ _ b) (code_some _ _ b)
-spells_some t f (DefCfaExpression e) b h = code_some _ _ b h
-spells_some t f (Set r rule) b h = rule_some t f r rule b h
-spells_some t f (Restore r) b h = either_some b h (λ x. alone_some _ b x.1) (code_some _ _ b)
-spells_some t f RememberState b h = alone_some _ b h
-spells_some t f RestoreState b h = alone_some _ b h
+spells_some t f i b h = omega (arith, ap length h.whole)
 
 fits_limit : (size : Size) (a : ℕ) → a < 256 ^ byte_count size → a ≤ address_limit size
 fits_limit Four a lt = omega arith
 fits_limit Eight a lt = omega arith
 
+spelled_in_limit : (t : Target) (f : Factors) (i : Instr) (b : List ℕ) → IsSpelled t f i b → InLimit (address_limit t.size) i
+spelled_in_limit t f (SetLoc a) b h = fits_limit t.size a h.operands.fits
+spelled_in_limit t f i b h = tt
+
 pub spells_in_limit : (t : Target) (f : Factors) (i : Instr) (b : List ℕ) → InstrSpells t f i b → InLimit (address_limit t.size) i
-spells_in_limit t f (SetLoc a) b h = fits_limit t.size a h.operands.fits
-spells_in_limit t f i b h = tt
+spells_in_limit t f i b h = spelled_in_limit t f i b (by_table t f i b h)
 
 are_bytes_behind : (b rest : List ℕ) → AreBytes (b ++ rest) → AreBytes rest
 are_bytes_behind b rest h k = subst (λ (n : ℕ). n < 256) (get_or-append-add b rest k 0) (h (length b + k))
