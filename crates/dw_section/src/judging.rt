@@ -210,8 +210,7 @@ fn run_fde<'a>(
     behind_laws();
     let _ = machine.initial().specified();
     machine.begin(program, begin)?;
-    let begin = u128::from(begin);
-    let lacks = machine.lacks_rule(begin, begin + u128::from(range))?;
+    let lacks = machine.lacks_rule(u128::from(begin) + u128::from(range))?;
     Ok(lacks)
 }
 
