@@ -38,19 +38,24 @@ here_last a first rows row none e = is_here (nat_le first.location a) first.row 
 pub later_last : (a : ℕ) (first : LocatedRow) (rows : List LocatedRow) (row : Rules) → (x : Rules) × (last_at a rows ≡ Some x) → last_at a (first ∷ rows) ≡ Some row → last_at a rows ≡ Some row
 later_last a first rows row some e = some.1 ∙ sym (ap (or_here a first) some.1) ∙ e
 
-module _ (f : Factors) (i : Input) (m : Machine) (a : ℕ) where
+module _ (f : Factors) (i : Input) (m : Machine) where
   as_finished : (rows_left f i m).rows ≡ [] → (rows_left f i m).fault ≡ None → rows_left f i m ≡ finished
   as_finished e none =
       let o = rows_left f i m in
       ap (λ (rows : List LocatedRow). let p : Outcome = record { rows = rows; fault = o.fault } in p) e
       ∙ ap (λ (fault : Option Refusal). let p : Outcome = record { rows = []; fault = fault } in p) none
 
+  -- rows with no fault behind them are not none
+  pub not_none : (rows_left f i m).rows ≡ [] → (rows_left f i m).fault ≡ None → ⊥
+  not_none e none = some_rows_left f i i m (as_finished e none)
+
+module _ (f : Factors) (i : Input) (m : Machine) (a : ℕ) where
   -- one of the rows still to come is a's, where the first starts at or below it
   pub has_row : (rows_left f i m).fault ≡ None → m.location ≤ a → (x : Rules) × (last_at a (rows_left f i m).rows ≡ Some x)
   has_row none le = go (rows_left f i m).rows refl
     where
       go : (rows : List LocatedRow) → (rows_left f i m).rows ≡ rows → (x : Rules) × (last_at a rows ≡ Some x)
-      go [] e = absurd (some_rows_left f i i m (as_finished e none))
+      go [] e = absurd (not_none f i m e none)
       go (first ∷ rest) e = some_here a first (last_at a rest) (subst (λ (n : ℕ). n ≤ a) (sym (left_starts f i i m first rest e)) le)
 
   -- none is, where it starts above it

@@ -1,6 +1,6 @@
 //! FDEs' programs, one after another behind the initial row of their CIE (6.4.1).
 
-ghost use Rattle.std.specs.Prelude.{◌≡◌, ◌<◌, None, Some, Ok, Err, false, OnOk, OnErr, IfOk, IfErr, MatchResult};
+ghost use Rattle.std.specs.Prelude.{◌≡◌, ◌<◌, ℕ, None, Some, Ok, Err, false, OnOk, OnErr, IfOk, IfErr, MatchResult};
 ghost use Rattle.dw_num.specs.Target.{address_limit};
 ghost use Rattle.dw_cfa.specs.Following.{Following, with_steps};
 ghost use Rattle.dw_cfa.specs.Lacking.{lacks_from};
@@ -118,11 +118,11 @@ impl<'a> CieMachine<'a> {
         Ok(Some(answer?.0))
     }
 
-    /// Runs the program that began to its end, and says whether an address from `begin` up to the end has no rule for the
-    /// CFA among the rows still to come. No row is to come then, and a refusal, or want of memory, is answered from then on.
-    pub fn lacks_rule(&mut self, begin: u128, end: u128) -> Result<bool, RunError>
+    /// Runs the program that began to its end, and says whether the rows still to come leave an address below the end
+    /// without a rule for the CFA. No row is to come then, and a refusal, or want of memory, is answered from then on.
+    pub fn lacks_rule(&mut self, end: u128) -> Result<bool, RunError>
         requires { self.old.steps.error ≡ None }
-        ensures found { IfOk result (λ lacks. (self.old.steps.outcome.fault ≡ None) × (lacks ≡ lacks_from end begin false self.old.steps.outcome.rows)) }
+        ensures found { IfOk result (λ lacks. (self.old.steps.outcome.fault ≡ None) × ((low : ℕ) → lacks ≡ lacks_from end low false self.old.steps.outcome.rows)) }
         ensures refused { IfErr result (λ e. RefusalIs e (λ r. self.old.steps.outcome.fault ≡ Some r)) }
         ensures after { MatchResult result (λ _. self.new.steps ≡ stepping self.new.steps.current finished) (λ e. self.new.steps.error ≡ Some e) }
         ensures same { self.new ≡ with_steps self.old self.new.steps }
@@ -133,7 +133,7 @@ impl<'a> CieMachine<'a> {
             Progress::Failed(error) => return Err(error),
         }
         let (fde, machine) = (&mut self.fde, &mut self.machine);
-        match lacks_rule(fde, self.factors, machine, begin, end) {
+        match lacks_rule(fde, self.factors, machine, end) {
             Ok(lacks) => {
                 self.progress = Progress::Finished;
                 Ok(lacks)

@@ -48,6 +48,7 @@ fn leads_same(leading: Leading<'_>, other: Leading<'_>) -> bool
 }
 
 // Runs a CIE's program in a machine, which has its row then.
+#[inline(never)]
 fn run_cie<'a>(
     alloc: Global,
     leading: Leading<'a>,

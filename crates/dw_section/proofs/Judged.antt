@@ -27,7 +27,7 @@ use Rattle.dw_cfa.specs.Following.{Following, with_steps}
 use Rattle.dw_cfa.specs.Kept.{FdeKept}
 use Rattle.dw_cfa.specs.Laws.{initial_cfa}
 use Rattle.dw_cfa.specs.Location.{Counts}
-use Rattle.dw_section.specs.Covered.{is_unset, lacks_from}
+use Rattle.dw_cfa.specs.Lacking.{is_unset, lacks_from}
 use Rattle.dw_cfa.specs.declared.instr.Factors.{Factors}
 use Rattle.dw_cfa.specs.Rows.{Rules}
 use Rattle.dw_cfa.specs.Runs.{RefusalIs, Outcome, rows_behind}

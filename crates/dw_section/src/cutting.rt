@@ -125,6 +125,7 @@ fn next_part<'a>(cursor: &mut Cursor<'a>) -> Result<Part<'a>, Refusal>
 }
 
 // The next entry of a section that has a cut, or none behind the last one.
+#[inline(always)]
 pub(crate) fn next_piece<'a>(cursor: &mut Cursor<'a>) -> Option<Placed<'a>>
     requires room { cursor.old.at + length cursor.old.bytes ≤ 2147483647 }
     requires cut { (ps : List Piece) × PiecesLeft cursor.old ps }

@@ -165,6 +165,7 @@ fn has_place(places: &[u64], place: u64) -> bool
 }
 
 #[tactic(auto, unfolding(crate::specs::Fields::pointer_at))]
+#[inline(always)]
 fn read_pointer(cursor: &mut Cursor<'_>, places: &[u64], form: Form) -> Result<u64, Refusal>
     requires { Rises 0 places.now }
     ensures { Gives (λ p. p) result (pointer_at places.now form cursor.old) cursor.new }
@@ -189,6 +190,7 @@ fn in_space(size: Size, begin: u64, range: u64) -> bool
 }
 
 #[tactic(auto, unfolding(crate::specs::Fields::range_at))]
+#[inline(always)]
 fn read_range(cursor: &mut Cursor<'_>, cie_at: u64) -> Result<FdeFields, Refusal>
     ensures { Gives (λ f. f) result (range_at cie_at cursor.old) cursor.new }
 {
@@ -211,6 +213,7 @@ fn read_range(cursor: &mut Cursor<'_>, cie_at: u64) -> Result<FdeFields, Refusal
 }
 
 #[tactic(auto, unfolding(crate::specs::Fields::fde_fields_at))]
+#[inline(always)]
 pub(crate) fn read_fde(
     cursor: &mut Cursor<'_>,
     places: &[u64],

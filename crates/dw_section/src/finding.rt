@@ -11,36 +11,10 @@ ghost use Rattle.dw_section.specs.Meaning.{AreFdes, NoneCovers, RulesAt};
 
 use crate::rereading::FoundFde;
 use crate::table::Table;
-use dw_cfa::{Row, RowWalk, RunError};
+use dw_cfa::{Row, RowWalk};
 use dw_num::Target;
 use std::alloc::{AllocError, Global};
 use std::marker::Model;
-
-// Whether the next row starts at or below an address.
-fn starts_by(steps: &RowWalk<'_>, address: u64) -> bool
-    requires { steps.now.outcome.fault ≡ None }
-    ensures next { (row : LocatedRow) (rows : List LocatedRow) → steps.now.outcome.rows ≡ row ∷ rows → IsTrue result ↔ (row.location ≤ address) }
-    ensures none { steps.now.outcome.rows ≡ [] → result ≡ false }
-{
-    match steps.next_start() {
-        Some(start) => start <= u128::from(address),
-        None => false,
-    }
-}
-
-// Goes on to the last row that starts at or below an address.
-fn last_row(steps: &mut RowWalk<'_>, address: u64) -> Result<(), RunError>
-    requires no_error { steps.old.error ≡ None }
-    requires no_fault { steps.old.outcome.fault ≡ None }
-    requires never_falls { (low : ℕ) × NeverFalls low steps.old.outcome.rows }
-    ensures found { (row : Rules) → last_at address steps.old.outcome.rows ≡ Some row → OnOk result (steps.new.current ≡ row) }
-    ensures err { IfErr result (λ e. e ≡ OutOfMemory) }
-{
-    'rows: while starts_by(steps, address) {
-        let _ = steps.advance()?;
-    }
-    Ok(())
-}
 
 // Goes to the row of an address that an FDE covers.
 fn row_in<'a>(
@@ -54,7 +28,7 @@ fn row_in<'a>(
 {
     let (cie, program) = (fde.cie_program, fde.program);
     steps.go_to(cie, program, fde.begin, fde.factors, target);
-    match last_row(steps, address) {
+    match steps.advance_to(address) {
         Ok(()) => Ok(()),
         Err(_) => Err(AllocError),
     }

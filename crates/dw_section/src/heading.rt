@@ -80,6 +80,7 @@ pub(crate) fn cie_header<'a>(piece: &Placed<'a>, target: Target) -> Result<Heade
 }
 
 #[tactic(auto, unfolding(crate::specs::Headers::fde_at))]
+#[inline(always)]
 fn fde_header<'a>(piece: &Placed<'a>, places: &[u64], target: Target) -> Result<Header<'a>, Refusal>
     requires kind { piece.now.kind ≡ kind.Fde }
     requires ascending { Rises 0 places.now }
@@ -101,6 +102,7 @@ fn fde_header<'a>(piece: &Placed<'a>, places: &[u64], target: Target) -> Result<
 }
 
 // The header of an entry whose fields hold if it is a CIE.
+#[inline(always)]
 fn header_of<'a>(piece: &Placed<'a>, places: &[u64], target: Target) -> Result<Header<'a>, Refusal>
     requires holds { CieHolds target (piece_in piece.now) }
     requires ascending { Rises 0 places.now }
@@ -177,6 +179,7 @@ pub(crate) fn fdes_hold(bytes: &[u8], target: Target, places: &[u64]) -> Result<
 }
 
 // The next header of a section that has headers, or none behind the last one.
+#[inline(always)]
 pub(crate) fn next_header<'a>(cursor: &mut Cursor<'a>, places: &[u64]) -> Option<Header<'a>>
     requires room { cursor.old.at + length cursor.old.bytes ≤ 2147483647 }
     requires ascending { Rises 0 places.now }

@@ -15,7 +15,7 @@ ghost use Rattle.dw_cfa.specs.Behind.{GivesBehind};
 ghost use Rattle.dw_cfa.specs.Faults.{CieFault, FdeFault};
 ghost use Rattle.dw_cfa.specs.Following.{with_steps};
 ghost use Rattle.dw_cfa.specs.Runs.{RefusalIs};
-ghost use Rattle.dw_section.specs.Covered.{is_unset, leaves_one, lacks_from};
+ghost use Rattle.dw_cfa.specs.Lacking.{lacks_from};
 ghost use Rattle.dw_section.specs.FdeFields.{is_among};
 ghost use Rattle.dw_section.specs.Faults.{Refuses};
 ghost use Rattle.dw_section.specs.Headers.{Head, Has, CieHolds, cie, fde, head_in};
@@ -31,7 +31,7 @@ ghost use Rattle.dw_section.specs.Stage.{FirstStuck};
 use crate::cutting::{Kind, Placed, next_piece};
 use crate::error::SectionError;
 use crate::heading::{Header, cie_header};
-use dw_cfa::{CfaRule, CieMachine, Factors, Row, RunError, behind_laws, initial_laws, initial_row};
+use dw_cfa::{CieMachine, Factors, behind_laws, initial_laws, initial_row};
 use dw_num::{Cursor, Program, Target, are_bytes};
 use std::alloc::{AllocError, Global};
 
@@ -194,38 +194,6 @@ pub(crate) fn initial_at<'c, 'a>(initials: &'c [Initial<'a>], place: u64) -> &'c
     &initials[index_of(initials, place)]
 }
 
-// Whether a row has no rule for the CFA.
-fn is_unset(row: &Row<'_>) -> bool
-    ensures { result ≡ is_unset row.now.cfa }
-{
-    matches!(row.cfa(), CfaRule::Unset)
-}
-
-// Whether a row that holds from `low` up to a location leaves an address below the end without a rule.
-fn leaves_one(end: u128, low: u128, unset: bool, location: u128) -> bool
-    ensures { result ≡ leaves_one end low unset location }
-{
-    unset && low < location && low < end
-}
-
-// Goes over all rows, and says whether an address from `begin` up to the end has no rule for the CFA.
-fn lacks_rule(machine: &mut CieMachine<'_>, begin: u128, end: u128) -> Result<bool, RunError>
-    requires { machine.old.steps.error ≡ None }
-    ensures found { IfOk result (λ lacks. (machine.old.steps.outcome.fault ≡ None) × (lacks ≡ lacks_from end begin false machine.old.steps.outcome.rows)) }
-    ensures refused { IfErr result (λ e. RefusalIs e (λ r. machine.old.steps.outcome.fault ≡ Some r)) }
-    ensures same { machine.new ≡ with_steps machine.old machine.new.steps }
-{
-    let mut lacks = false;
-    let mut unset = false;
-    let mut low = begin;
-    'rows: while let Some(location) = machine.advance()? {
-        lacks = lacks || leaves_one(end, low, unset, location);
-        unset = is_unset(machine.row());
-        low = location;
-    }
-    Ok(lacks || unset && low < end)
-}
-
 // Runs an FDE's program, and says whether one of its addresses has no rule for the CFA.
 fn run_fde<'a>(
     machine: &mut CieMachine<'a>,
@@ -242,8 +210,7 @@ fn run_fde<'a>(
     behind_laws();
     let _ = machine.initial().specified();
     machine.begin(program, begin)?;
-    let begin = u128::from(begin);
-    let lacks = lacks_rule(machine, begin, begin + u128::from(range))?;
+    let lacks = machine.lacks_rule(u128::from(begin) + u128::from(range))?;
     Ok(lacks)
 }
 
@@ -322,6 +289,25 @@ impl<'a> Runner<'a> {
     }
 }
 
+// Runs the program of the CIE at a place on a new machine, which FDEs of another CIE than the one before need. Out of
+// line: room for the machine is cleared at each call.
+#[inline(never)]
+fn go_behind<'a>(
+    alloc: Global,
+    runner: &mut Runner<'a>,
+    initials: &[Initial<'a>],
+    place: u64,
+    target: Target,
+) -> Result<(), AllocError>
+    requires ascending { Rises 0 (map place_of initials.now) }
+    requires among { is_among place (map place_of initials.now) ≡ true }
+    ensures { (hs : List Head) → AllByRecursion (IsInitial target hs) initials.now → IsRunner target hs runner.old → OnOk result ((runner.new.behind ≡ Some place) × IsRunner target hs runner.new) }
+{
+    runner.machine = machine_of(alloc, initial_at(initials, place), target)?;
+    runner.behind = Some(place);
+    Ok(())
+}
+
 // Puts the machine that goes from CIE to CIE behind the program of the one at a place.
 fn follow<'a>(
     alloc: Global,
@@ -339,9 +325,7 @@ fn follow<'a>(
     {
         return Ok(());
     }
-    runner.machine = machine_of(alloc, initial_at(initials, place), target)?;
-    runner.behind = Some(place);
-    Ok(())
+    go_behind(alloc, runner, initials, place, target)
 }
 
 // Where the machine of the CIE at a place stands, if one is kept for it.

@@ -1,4 +1,4 @@
-use Rattle.std.proofs.Common.{◌≡◌, ◌||◌, length, false}
+use Rattle.std.proofs.Common.{◌≡◌, ◌||◌, ℕ, None, length, false}
 use Rattle.dw_cfa.specs.Lacking.{lacks_from}
 use Rattle.dw_cfa.specs.Runs.{RunsSo, rows_left}
 use Rattle.dw_cfa.proofs.lacking.lacks_rule.Given as goal
@@ -7,7 +7,8 @@ abbrev pub invariant-instrs : goal.invariant-instrs
 invariant-instrs l =
     RunsSo l.machine l.cursor × (l.machine.initial ≡ l.initial.machine.initial)
     × ((rows_left l.factors l.initial.cursor l.initial.machine).fault ≡ (rows_left l.factors l.cursor l.machine).fault)
-    × ((l.lacks || lacks_from l.end l.low l.unset (rows_left l.factors l.cursor l.machine).rows) ≡ lacks_from l.end l.begin false (rows_left l.factors l.initial.cursor l.initial.machine).rows)
+    × ((rows_left l.factors l.cursor l.machine).fault ≡ None
+        → (l.lacks || lacks_from l.end 0 false (rows_left l.factors l.cursor l.machine).rows) ≡ lacks_from l.end 0 false (rows_left l.factors l.initial.cursor l.initial.machine).rows)
 
 abbrev pub decreases-instrs : goal.decreases-instrs
 decreases-instrs l = length l.cursor.bytes

@@ -1,11 +1,4 @@
-use Rattle.std.proofs.Common.{Some, ℕ, refl, subst}
-use Rattle.dw_section.specs.Initials.{IsBehind}
 use Rattle.dw_section.proofs.judging.follow.Goals as goal
 
 pub returns : goal.returns
 returns c = λ hs all runner. (rw c.if-before-place.true at c.in-Some.is, runner)
-
-pub returns-2 : goal.returns-2
-returns-2 c = λ hs all runner.
-    let behind = c.in_ok-runner.ensures hs (c.initial_at.ensures.is c.args.target hs all) in
-    (refl, (subst (λ (n : ℕ). IsBehind c.args.target hs (Some n) c.in_ok-runner.field-0) c.initial_at.ensures.place behind, runner.1))

@@ -27,4 +27,4 @@ returns-clause-found c =
     let up = subst (λ (row : Rules). AreSpecified 0 row.registers) c.initial.ensures c.specified.ensures.ascending in
     let given = c.behind_laws.ensures.gives old.factors old.initial i c.args.begin rows c.are_bytes.ensures up (omega (arith, c.requires))
     (steps_rows c.begin.new.self.steps old.initial old.initial old.factors i c.args.begin (ap (λ (m : Following). m.steps) c.in_ok-begin.ensures.ok) refl found.0) in
-    (given.0, rows, given.1, rw (c.from-begin.ensures, c.from.ensures) at found.1)
+    (given.0, rows, given.1, rw (c.from.ensures, c.from-2.ensures) at (found.1 c.args.begin))
