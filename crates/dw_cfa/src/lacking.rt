@@ -1,6 +1,6 @@
 //! Whether an FDE's rows leave one of its addresses without a rule for the CFA (6.4.1).
 
-ghost use Rattle.std.specs.Prelude.{◌≡◌, ℕ, ◌||◌, [], ◌∷◌, None, Some, false, OnOk, IfOk, IfErr};
+ghost use Rattle.std.specs.Prelude.{◌≡◌, ℕ, ◌||◌, [], ◌∷◌, None, Some, true, false, OnOk, IfOk, IfErr};
 ghost use Rattle.dw_cfa.specs.Lacking.{is_unset, leaves_one, lacks_from};
 ghost use Rattle.dw_cfa.specs.Runs.{RefusalIs, RunsSo, rows_left};
 
@@ -19,11 +19,13 @@ fn is_unset(row: &Row<'_>) -> bool
     matches!(row.cfa(), CfaRule::Unset)
 }
 
-// Whether a row that holds from `low` up to a location leaves an address below the end without a rule.
-fn leaves_one(end: u128, low: u128, unset: bool, location: u128) -> bool
-    ensures { result ≡ leaves_one end low unset location }
+// Whether a row that holds from `low` up to a location covers an address below the end. Out of line: rows seldom lack a
+// rule for the CFA.
+#[inline(never)]
+fn covers_one(end: u128, low: u128, location: u128) -> bool
+    ensures { result ≡ leaves_one end low true location }
 {
-    unset && low < location && low < end
+    low < location && low < end
 }
 
 // Whether an address is left without one, now that a row ends.
@@ -31,7 +33,10 @@ fn leaves_one(end: u128, low: u128, unset: bool, location: u128) -> bool
 fn lacks_now(lacks: bool, row: &Row<'_>, end: u128, low: u128, location: u128) -> bool
     ensures { result ≡ (lacks || leaves_one end low (is_unset row.now.cfa) location) }
 {
-    lacks || leaves_one(end, low, is_unset(row), location)
+    if lacks || !is_unset(row) {
+        return lacks;
+    }
+    covers_one(end, low, location)
 }
 
 // The same of the last row.
