@@ -19,7 +19,6 @@ use Rattle.dw_cfa.specs.declared.running.RunError.{RunError}
 use Rattle.dw_cfa.specs.declared.steps.Progress.{Progress}
 use Rattle.dw_cfa.specs.declared.steps.Progress.TheVariants as progress
 use Rattle.dw_cfa.specs.declared.walking.Leading.{Leading}
-use Rattle.dw_cfa.specs.InstrSpells.{InstrSpells, RuleSpells}
 use Rattle.dw_cfa.specs.Location.{moves_location}
 use Rattle.dw_cfa.specs.Machine.{State, after, fde_fault}
 use Rattle.dw_cfa.specs.Narrowing.{is_kept, kept}
@@ -33,6 +32,7 @@ use Rattle.dw_cfa.proofs.InstrLaws.{instr_found}
 use Rattle.dw_cfa.proofs.Narrowed.{left_too}
 use Rattle.dw_cfa.proofs.Placings.{reads}
 use Rattle.dw_cfa.proofs.RowLists.{Entry}
+use Rattle.dw_cfa.proofs.Spellings.{RuleSpells, IsSpelled, by_table}
 
 -- ---- instructions that are read
 
@@ -45,7 +45,7 @@ rule_given : (t : Target) (f : Factors) (r : ℕ) (given : RegRule) (b : List �
 rule_given t f r rules.Unspecified b h = absurd h
 rule_given t f r given b h = refl
 
-spells_rule : (t : Target) (f : Factors) (i : Instr) (b : List ℕ) → InstrSpells t f i b → GivesRule i
+spells_rule : (t : Target) (f : Factors) (i : Instr) (b : List ℕ) → IsSpelled t f i b → GivesRule i
 spells_rule t f (Set r given) b h = rule_given t f r given b h
 spells_rule t f i b h = tt
 
@@ -53,7 +53,7 @@ abbrev pub AllGive : List Placed → Type 0
 AllGive items = AllByRecursion (λ (item : Placed). GivesRule item.instr) items
 
 read_gives : (f : Factors) (i : Input) (x : Instr × Input) → AreBytes i.bytes → instr_at f i ≡ Ok x → GivesRule x.0
-read_gives f i x h e = let found = instr_found f i x.1 x.0 h e in spells_rule i.target f x.0 found.0 found.1
+read_gives f i x h e = let found = instr_found f i x.1 x.0 h e in spells_rule i.target f x.0 found.0 (by_table i.target f x.0 found.0 found.1)
 
 on_left_give : (bytes : List ℕ) (l : Placing) → AllGive l.items → AllGive (on_left bytes l).items
 on_left_give [] l h = tt
