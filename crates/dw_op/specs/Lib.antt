@@ -8,6 +8,7 @@ pub mod LeastOf
 pub mod Encoding
 pub mod Laws
 pub mod Reading
+pub mod ByOpcode
 pub mod Steps
 pub mod Walk
 pub mod Faults
