@@ -84,9 +84,11 @@ module _ (e : Entries) (so : EntriesSo e) where
   up_to_used p k old fits lt some below =
       let within : e.used / 2 ^ k < 2 ^ 32 = omega (arith, div-le_self e.used (2 ^ k)) in
       let z = bit_at-trailing_zeros w32 (e.used / 2 ^ k) some within in
-      let inside : k + trailing_zeros w32 (e.used / 2 ^ k) < 32 = bit_inside e.used k (trailing_zeros w32 (e.used / 2 ^ k)) fits z.1 in
-      (inside, over_unspecified p k (k + trailing_zeros w32 (e.used / 2 ^ k)) old (entries_of e) (omega arith)
-      (λ q low high. unused q (omega (arith, inside)) (shifted e.used k q low ∙ z.2 (q - k) (omega arith))) below)
+      let inside : k + trailing_zeros w32 (e.used / 2 ^ k) < 32 = bit_inside e.used k (trailing_zeros w32 (e.used / 2 ^ k)) fits z.1 in (
+        inside,
+        over_unspecified p k (k + trailing_zeros w32 (e.used / 2 ^ k)) old (entries_of e) (omega arith)
+            (λ q low high. unused q (omega (arith, inside)) (shifted e.used k q low ∙ z.2 (q - k) (omega arith))) below,
+      )
 
 -- ---- a rule is the same as itself
 
@@ -112,7 +114,9 @@ pub same_exactly : (xs ys : List Entry) (o : Option ℕ) (none : Bool) → AreSp
 same_exactly xs ys None true up up' h is = ((λ t. same_entries 0 xs ys up up' (λ r. h r (omega arith))), (λ e. refl))
 same_exactly xs ys None false up up' h is = absurd cc
 same_exactly xs ys (Some q) true up up' h is = absurd cc
-same_exactly xs ys (Some q) false up up' h is =
-    ((λ t. absurd cc), (λ e.
-        let itself : same_rule (rule_in xs q) (rule_in ys q) ≡ true = subst (λ (l : List Entry). same_rule (rule_in xs q) (rule_in l q) ≡ true) e (rule_self (rule_in xs q)) in
-        let differs : same_rule (rule_in xs q) (rule_in ys q) ≡ false = h.2 in absurd cc))
+same_exactly xs ys (Some q) false up up' h is = (
+  (λ t. absurd cc),
+  (λ e.
+      let itself : same_rule (rule_in xs q) (rule_in ys q) ≡ true = subst (λ (l : List Entry). same_rule (rule_in xs q) (rule_in l q) ≡ true) e (rule_self (rule_in xs q)) in
+      let differs : same_rule (rule_in xs q) (rule_in ys q) ≡ false = h.2 in absurd cc),
+)

@@ -12,9 +12,9 @@ use Rattle.dw_canon.specs.Difference.{difference, move, later_changes}
 use Rattle.dw_canon.specs.Group.{group, kept_by, shared_by, initial_row}
 use Rattle.dw_cfa.specs.Narrowing.{agreed}
 use Rattle.dw_canon.specs.Members.{Member}
-use Rattle.dw_normal.specs.Passing.{last_of, Stand, Appends, Under}
+use Rattle.dw_normal.specs.Passing.{last_of, Stand, Appends, Under, row_or_blank, shown_row}
 use Rattle.dw_num.specs.Target.{address_limit}
-use Rattle.dw_section.specs.Changes.{Changing, ToCome, GivesAddress}
+use Rattle.dw_section.specs.Changes.{Changing, ToCome, GivesAddress, before_then}
 use Rattle.dw_section.proofs.Exists.{among_exists}
 use Rattle.dw_section.specs.Sound.{RowFits}
 use Rattle.dw_canon.specs.Fits.{ChangesStand, InstrFits}
@@ -101,6 +101,15 @@ record Gave (changes next : Changing) (to : ℕ) : Type 0 where
 gave : (E : Type 0) (changes next : Changing) (o : Option ℕ) (to : ℕ) → GivesAddress {E = E} changes (Ok o) next → o ≡ Some to → Gave changes next to
 gave E changes next None to g e = absurd cc
 gave E changes next (Some a) to g e = let same : a ≡ to = cc in subst (Gave changes next) same (record { after = g.2.0; shown = g.2.1; gives = g.2.2 })
+
+-- the row there is shown then
+pub shown_there : (E : Type 0) (changes next : Changing) (o : Option ℕ) (to : ℕ) → GivesAddress {E = E} changes (Ok o) next → o ≡ Some to → next.shown ≡ Some (shown_row next)
+shown_there E changes next o to g e = let x = gave E changes next o to g e in x.shown ∙ ap (λ (row : Rules). Some row) (sym (ap row_or_blank x.shown))
+
+-- and the one before it is the one that was shown
+pub shown_before : (shown before : Option Rules) (o : Option ℕ) (to : ℕ) → before ≡ before_then o shown → o ≡ Some to → row_or_blank before ≡ row_or_blank shown
+shown_before shown before None to is e = absurd cc
+shown_before shown before (Some a) to is e = ap row_or_blank is
 
 pub ended : (E : Type 0) (changes next : Changing) (o : Option ℕ) → GivesAddress {E = E} changes (Ok o) next → o ≡ None → ToCome changes []
 ended E changes next None g e = g.1

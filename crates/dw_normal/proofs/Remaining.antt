@@ -11,28 +11,10 @@ use Rattle.dw_cfa.specs.declared.rule.RegRule.TheVariants as rules
 use Rattle.dw_cfa.specs.Rows.{Rules, AreSpecified, rule}
 use Rattle.dw_cfa.specs.Narrowing.{same_rule}
 use Rattle.dw_cfa.specs.Differing.{FirstDifference, DiffersFirst}
+use Rattle.dw_cfa.proofs.Skipped.{rule_self}
 use Rattle.dw_canon.specs.Difference.{rule_to, rule_difference, with_register, with_registers, registers_of, either}
 use Rattle.dw_canon.proofs.Differences.{In, either_or}
 use Rattle.dw_normal.specs.Walking.{from_on, rules_from}
-
--- ---- a rule is the same as itself
-
-pointwise_self : {X : Type 0} (E : X → X → Bool) → ((x : X) → E x x ≡ true) → (xs : List X) → pointwise E xs xs ≡ true
-pointwise_self E e [] = refl
-pointwise_self E e (x ∷ xs) = rw (e x, pointwise_self E e xs) refl
-
-lines_self : (xs : List (List ℕ)) → pointwise (pointwise nat_eq) xs xs ≡ true
-lines_self xs = pointwise_self (pointwise nat_eq) (λ l. pointwise_self nat_eq (λ n. (Decides-eqb n n).1 refl) l) xs
-
-rule_self : (a : RegRule) → same_rule a a ≡ true
-rule_self rules.Unspecified = refl
-rule_self rules.Undefined = refl
-rule_self rules.SameValue = refl
-rule_self (rules.Offset n) = (Decides-int_eq n n).1 refl
-rule_self (rules.ValOffset n) = (Decides-int_eq n n).1 refl
-rule_self (rules.Register r) = (Decides-eqb r r).1 refl
-rule_self (rules.Expression a) = lines_self (expression_lines a)
-rule_self (rules.ValExpression a) = lines_self (expression_lines a)
 
 -- ---- ascending registers
 

@@ -8,20 +8,20 @@ use Rattle.dw_canon.specs.Canon.{initial_of}
 use Rattle.dw_canon.specs.Difference.{difference}
 use Rattle.dw_canon.specs.Fits.{InstrFits}
 use Rattle.dw_canon.specs.Members.{Member, fde_of}
-use Rattle.dw_normal.specs.Passing.{AreToCome, Stand}
+use Rattle.dw_normal.specs.Passing.{AreToCome, Stand, shown_row}
 use Rattle.dw_normal.specs.declared.begun.Begun.{Begun}
 
 -- its row at its begin and its later changes can be spelled behind the initial row
 pub record IsReady (t : Target) (b : Begun) : Type 0 where
-  pub first : AllByRecursion (InstrFits t) (difference b.shared.now b.shared.now b.first)
-  pub fits : RowFits t b.first
+  pub first : AllByRecursion (InstrFits t) (difference b.shared.now b.shared.now (shown_row b.changes))
+  pub fits : RowFits t (shown_row b.changes)
   pub in_space : b.changes.end ≤ address_limit t.size
-  pub stand : Stand t b.shared.now b.fde.begin b.first b.changes
+  pub stand : Stand t b.shared.now b.fde.begin (shown_row b.changes) b.changes
 
 -- it is this FDE among those
 pub record Begins (ms : List Member) (m : Member) (b : Begun) : Type 0 where
   pub fde : b.fde ≡ fde_of m
   pub shared : b.shared.now ≡ initial_of ms m.register
-  pub first : b.first ≡ m.first
+  pub first : shown_row b.changes ≡ m.first
   pub later : AreToCome b.changes m.later
   pub end : b.changes.end ≡ m.end

@@ -11,16 +11,15 @@ ghost use Rattle.dw_normal.specs.Grouping.{initial_rows};
 use crate::groups::go_behind_first;
 use dw_cfa::Row;
 use dw_section::{Changes, Fde, FdeRef, Table};
-use std::alloc::{AllocError, Global};
+use std::alloc::AllocError;
 use std::collections::BTreeMap;
 
-/// An FDE, the initial row of its group, its row at its begin, and the changes that come behind it. One is lent to a walk
-/// over all FDEs, so that no row is moved.
+/// An FDE, the initial row of its group, and its changes behind its begin, whose row they lend. One is lent to a walk over all
+/// FDEs, so that no row is moved.
 #[derive(Drop)]
 pub(crate) struct Begun<'r, 'a> {
     pub(crate) fde: Fde,
     pub(crate) shared: &'r Row<'a>,
-    pub(crate) first: Row<'a>,
     pub(crate) changes: Changes<'a>,
 }
 
@@ -40,11 +39,7 @@ fn shared_row<'r, 'a>(
 }
 
 /// Room for the FDEs of a table, which has some, where these are the initial rows of its groups.
-pub(crate) fn room_for<'r, 'a>(
-    alloc: Global,
-    rows: &'r BTreeMap<u16, Row<'a>>,
-    table: &Table<'a>,
-) -> Begun<'r, 'a>
+pub(crate) fn room_for<'r, 'a>(rows: &'r BTreeMap<u16, Row<'a>>, table: &Table<'a>) -> Begun<'r, 'a>
     requires place { (fs : List TheFde) → AreFdes table.now.target table.now.bytes fs → 0 < length fs }
     requires rows { (ms : List Member) → AreMembers table.now.target table.now.bytes ms → rows.now.entries ≡ initial_rows ms }
 {
@@ -52,7 +47,6 @@ pub(crate) fn room_for<'r, 'a>(
     Begun {
         fde: table.fde(fde),
         shared: shared_row(rows, table, fde),
-        first: Row::blank(alloc),
         changes: table.changes(fde),
     }
 }
@@ -73,10 +67,6 @@ pub(crate) fn begin_fde<'r, 'a>(
 {
     table.accepted();
     go_behind_first(&mut begun.changes, table, fde)?;
-    let Some(shown) = begun.changes.row() else {
-        unreachable!();
-    };
-    begun.first.become_copy(shown)?;
     begun.fde = table.fde(fde);
     begun.shared = shared_row(rows, table, fde);
     Ok(())

@@ -13,7 +13,7 @@ ghost use Rattle.dw_normal.specs.Measuring.{cie_with};
 
 use crate::begun::Begun;
 use crate::putting::push_uleb;
-use crate::writing::{push_difference, push_later};
+use crate::writing::{push_difference, push_first, push_later};
 use dw_cfa::Row;
 use dw_num::{Size, Target, put_fixed};
 use std::alloc::{AllocError, Global};
@@ -106,14 +106,7 @@ pub(crate) fn fill_fde(
         (listed.end - begin) as u64,
         target,
     )?;
-    push_difference(out, shared, shared, &begun.first, target)?;
-    push_later(
-        out,
-        &mut begun.changes,
-        shared,
-        begin,
-        &mut begun.first,
-        target,
-    )?;
+    push_first(out, shared, &begun.changes, target)?;
+    push_later(out, &mut begun.changes, shared, begin, target)?;
     push_nops(out, target.size)
 }

@@ -172,7 +172,6 @@ fn write_fde<'r, 'a, S: Sink>(
 
 // Puts the FDEs of a table.
 fn write_fdes<'a, S: Sink>(
-    alloc: Global,
     sink: &mut S,
     buffer: &mut Vec<u8>,
     table: &Table<'a>,
@@ -190,7 +189,7 @@ fn write_fdes<'a, S: Sink>(
     if count == 0 {
         return Ok(0);
     }
-    let mut begun = room_for(alloc, rows, table);
+    let mut begun = room_for(rows, table);
     let mut written = 0;
     'fdes: for place in 0..count {
         let fde = FdeRef { place };
@@ -217,8 +216,5 @@ pub(crate) fn write_entries<'a, S: Sink>(
     let mut places = BTreeMap::new(alloc);
     let target = table.target();
     let cies = write_cies(alloc, sink, &mut buffer, &mut places, rows, target)?;
-    after(
-        cies,
-        write_fdes(alloc, sink, &mut buffer, table, rows, &places),
-    )
+    after(cies, write_fdes(sink, &mut buffer, table, rows, &places))
 }

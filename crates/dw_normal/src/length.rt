@@ -58,14 +58,12 @@ fn behind_member<'r, 'a>(
         &mut begun.changes,
         shared,
         u128::from(listed.begin),
-        &mut begun.first,
         table.target(),
     )
 }
 
 // What is left of room behind all FDEs.
 fn behind_fdes<'a>(
-    alloc: Global,
     room: u128,
     rows: &BTreeMap<u16, Row<'a>>,
     table: &Table<'a>,
@@ -79,7 +77,7 @@ fn behind_fdes<'a>(
     if count == 0 {
         return Ok(Some(room));
     }
-    let mut begun = room_for(alloc, rows, table);
+    let mut begun = room_for(rows, table);
     let mut left = room;
     'fdes: for place in 0..count {
         let Some(rest) = behind_member(left, &mut begun, rows, table, FdeRef { place })? else {
@@ -108,7 +106,7 @@ pub(crate) fn measured<'a>(
     let Some(left) = behind_cies(alloc, room, rows, target) else {
         return Ok(None);
     };
-    let Some(rest) = behind_fdes(alloc, left, rows, table)? else {
+    let Some(rest) = behind_fdes(left, rows, table)? else {
         return Ok(None);
     };
     Ok(Some((room - rest) as u64))

@@ -10,7 +10,7 @@ ghost use Rattle.dw_canon.specs.Fits.{InstrFits};
 ghost use Rattle.dw_canon.specs.Spelling.{instr_bytes, program_bytes};
 ghost use Rattle.dw_canon.specs.Written.{cie, missing, entry_bytes};
 ghost use Rattle.dw_normal.specs.Measuring.{Leaves, LaterLeaves, FdeLeaves};
-ghost use Rattle.dw_normal.specs.Passing.{Stand};
+ghost use Rattle.dw_normal.specs.Passing.{Stand, row_or_blank, shown_row};
 
 use crate::differing::Differences;
 use crate::measuring::{instr_len, unsigned_len};
@@ -61,34 +61,64 @@ fn move_len(from: u128, to: u128, target: Target) -> u128
     }
 }
 
-/// What is left of room behind the changes that are still to come behind a row at an address. The row is the last one then.
+// What is left of room behind what leads from an initial row to the one that is shown.
+fn behind_first<'a>(
+    room: u128,
+    shared: &Row<'a>,
+    changes: &Changes<'a>,
+    target: Target,
+) -> Result<Option<u128>, AllocError>
+    requires { AllByRecursion (InstrFits target) (difference shared.now shared.now (shown_row changes.now)) }
+    ensures { IfOk result (Leaves room (length (program_bytes target (difference shared.now shared.now (shown_row changes.now))))) }
+{
+    match changes.row() {
+        Some(first) => Ok(behind_difference(room, shared, shared, first, target)),
+        None => Err(AllocError),
+    }
+}
+
+// What is left of room behind what leads to the row that is shown from the one before it.
+fn behind_change<'a>(
+    room: u128,
+    shared: &Row<'a>,
+    changes: &Changes<'a>,
+    target: Target,
+) -> Result<Option<u128>, AllocError>
+    requires { AllByRecursion (InstrFits target) (difference shared.now (row_or_blank changes.now.before) (shown_row changes.now)) }
+    ensures { IfOk result (Leaves room (length (program_bytes target (difference shared.now (row_or_blank changes.now.before) (shown_row changes.now))))) }
+{
+    let Some(before) = changes.before() else {
+        return Err(AllocError);
+    };
+    match changes.row() {
+        Some(row) => Ok(behind_difference(room, shared, before, row, target)),
+        None => Err(AllocError),
+    }
+}
+
+/// What is left of room behind the changes that are still to come behind an address, whose row is shown.
 pub(crate) fn behind_later<'a>(
     room: u128,
     changes: &mut Changes<'a>,
     shared: &Row<'a>,
     begin: u128,
-    row: &mut Row<'a>,
     target: Target,
 ) -> Result<Option<u128>, AllocError>
-    requires fits { RowFits target row.old }
+    requires fits { RowFits target (shown_row changes.old) }
     requires in_space { changes.old.end ≤ address_limit target.size }
-    requires stand { Stand target shared.now begin row.old changes.old }
-    ensures { IfOk result (LaterLeaves target shared.now begin row.old changes.old room) }
+    requires stand { Stand target shared.now begin (shown_row changes.old) changes.old }
+    ensures { IfOk result (LaterLeaves target shared.now begin (shown_row changes.old) changes.old room) }
 {
     let mut left = room;
     let mut at = begin;
     'changes: while let Some(address) = changes.advance()? {
-        let Some(next) = changes.row() else {
-            return Err(AllocError);
-        };
         let Some(moved) = behind(left, move_len(at, address, target)) else {
             return Ok(None);
         };
-        let Some(rest) = behind_difference(moved, shared, row, next, target) else {
+        let Some(rest) = behind_change(moved, shared, changes, target)? else {
             return Ok(None);
         };
         left = rest;
-        row.become_copy(next)?;
         at = address;
     }
     Ok(Some(left))
@@ -126,26 +156,25 @@ pub(crate) fn behind_cie<'a>(
     )
 }
 
-/// What is left of room behind an FDE: its row at its begin, and the changes that are still to come.
+/// What is left of room behind an FDE: its row at its begin, which is shown, and the changes that are still to come.
 pub(crate) fn behind_fde<'a>(
     room: u128,
     changes: &mut Changes<'a>,
     shared: &Row<'a>,
     begin: u128,
-    first: &mut Row<'a>,
     target: Target,
 ) -> Result<Option<u128>, AllocError>
     requires room { room < 2 ^ 64 }
-    requires first { AllByRecursion (InstrFits target) (difference shared.now shared.now first.old) }
-    requires fits { RowFits target first.old }
+    requires first { AllByRecursion (InstrFits target) (difference shared.now shared.now (shown_row changes.old)) }
+    requires fits { RowFits target (shown_row changes.old) }
     requires in_space { changes.old.end ≤ address_limit target.size }
-    requires stand { Stand target shared.now begin first.old changes.old }
-    ensures { IfOk result (FdeLeaves target shared.now begin first.old changes.old room) }
+    requires stand { Stand target shared.now begin (shown_row changes.old) changes.old }
+    ensures { IfOk result (FdeLeaves target shared.now begin (shown_row changes.old) changes.old room) }
 {
-    let Some(left) = behind_difference(room, shared, shared, first, target) else {
+    let Some(left) = behind_first(room, shared, changes, target)? else {
         return Ok(None);
     };
-    let Some(rest) = behind_later(left, changes, shared, begin, first, target)? else {
+    let Some(rest) = behind_later(left, changes, shared, begin, target)? else {
         return Ok(None);
     };
     let fields = 8 + 2 * u128::from(target.size.byte_count());

@@ -71,16 +71,17 @@ Among end shown (row ∷ rows) changes =
 
 -- ---- changes given one at a time
 
--- the rows still to come, the row that was shown, the end, and whether memory ran out
+-- the rows still to come, the row that was shown and the one before it, the end, and whether memory ran out
 pub record Changing : Type 0 where
   pub rows : List LocatedRow
   pub shown : Option Rules
+  pub before : Option Rules
   pub end : ℕ
   pub failed : Bool
 
 -- nothing was shown yet
 abbrev pub changing : List LocatedRow → ℕ → Changing
-changing rows end = record { rows = rows; shown = None; end = end; failed = false }
+changing rows end = record { rows = rows; shown = None; before = None; end = end; failed = false }
 
 -- these are the changes still to come
 abbrev pub ToCome : Changing → List (ℕ × Rules) → Type 0
@@ -102,11 +103,16 @@ GivesAddress old (Ok (Some address)) new =
     × ((row : Rules) × (new.shown ≡ Some row) × ((changes : List (ℕ × Rules)) → ToCome new changes → ToCome old ((address, row) ∷ changes)))
 GivesAddress old (Err e) new = new.failed ≡ true
 
+-- at a change the row before it is the one that was shown, and behind the last one there is none
+abbrev pub before_then : {A : Type 0} → Option A → Option Rules → Option Rules
+before_then None shown = None
+before_then (Some change) shown = shown
+
 -- ---- how the code finds them
 
-abbrev pub FindsChange : {E : Type 0} → ℕ → Stepping → Option Rules → Result (Option ℕ) E → Stepping → Option Rules → Type 0
-FindsChange end old shown (Ok None) new shown' = (new.outcome.fault ≡ None) × Among end shown old.outcome.rows [] × (new.outcome.rows ≡ []) × (shown' ≡ shown)
-FindsChange end old shown (Ok (Some start)) new shown' =
+abbrev pub FindsChange : {E : Type 0} → ℕ → Stepping → Option Rules → Result (Option ℕ) E → Stepping → Type 0
+FindsChange end old shown (Ok None) new = (new.outcome.fault ≡ None) × Among end shown old.outcome.rows [] × (new.outcome.rows ≡ [])
+FindsChange end old shown (Ok (Some start)) new =
     (new.outcome.fault ≡ None) × (length new.outcome.rows < length old.outcome.rows)
-    × ((row : Rules) × (shown' ≡ Some row) × ((changes : List (ℕ × Rules)) → Among end (Some row) new.outcome.rows changes → Among end shown old.outcome.rows ((start, row) ∷ changes)))
-FindsChange end old shown (Err e) new shown' = new.outcome.fault ≡ None
+    × ((changes : List (ℕ × Rules)) → Among end (Some new.current) new.outcome.rows changes → Among end shown old.outcome.rows ((start, new.current) ∷ changes))
+FindsChange end old shown (Err e) new = new.outcome.fault ≡ None

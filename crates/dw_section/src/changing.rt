@@ -4,7 +4,8 @@ ghost use Rattle.std.specs.Prelude.{◌≡◌, ◌+◌, ◌<◌, ◌↔◌, [], 
 ghost use Rattle.dw_num.specs.Target.{address_limit};
 ghost use Rattle.dw_cfa.specs.Rows.{Rules};
 ghost use Rattle.dw_cfa.specs.Walking.{AllKeep};
-ghost use Rattle.dw_section.specs.Changes.{Before, GivesAddress, GivesChange, FindsChange, changing};
+ghost use Rattle.dw_section.specs.Changes.{Before, GivesAddress, GivesChange, FindsChange, changing, before_then};
+ghost use Rattle.dw_section.specs.Shown.{shown_of};
 ghost use Rattle.dw_section.specs.Lookup.{rows_of};
 
 use crate::rereading::FoundFde;
@@ -70,16 +71,6 @@ impl<'a> Shown<'a> {
         self.some = true;
         Ok(())
     }
-
-    // The row once more.
-    fn copied(&self) -> Result<Row<'a>, AllocError>
-        ensures { (shows : Rules) → self.now ≡ Some shows → IfOk result (λ row. row ≡ shows) }
-    {
-        match self.row() {
-            Some(row) => row.copied(),
-            None => Err(AllocError),
-        }
-    }
 }
 
 // Whether an address below the end shows the row that is lent, which starts here.
@@ -96,11 +87,11 @@ fn is_visible(steps: &RowWalk<'_>, start: u128, end: u128) -> bool
 // Goes on to the next row that an address shows and that is not the one that was shown before.
 fn find_change<'a>(
     steps: &mut RowWalk<'a>,
-    shown: &mut Shown<'a>,
+    shown: &Shown<'_>,
     end: u128,
 ) -> Result<Option<u128>, AllocError>
     requires { steps.old.outcome.fault ≡ None }
-    ensures { FindsChange end steps.old shown.old result steps.new shown.new }
+    ensures { FindsChange end steps.old shown.now result steps.new }
 {
     'rows: loop {
         let start = match steps.advance() {
@@ -109,10 +100,26 @@ fn find_change<'a>(
             Err(_) => return Err(AllocError),
         };
         if is_visible(steps, start, end) && !shown.is(steps.row()) {
-            shown.keep(steps.row())?;
             return Ok(Some(start));
         }
     }
+}
+
+// Keeps the row that the walk lends, where it is the one that was shown last, and goes on to the next change.
+fn next_change<'a>(
+    steps: &mut RowWalk<'a>,
+    kept: &mut Shown<'a>,
+    lent: bool,
+    end: u128,
+) -> Result<Option<u128>, AllocError>
+    requires { steps.old.outcome.fault ≡ None }
+    ensures finds { FindsChange end steps.old (shown_of lent steps.old.current kept.old) result steps.new }
+    ensures kept { IfOk result (λ _. kept.new ≡ shown_of lent steps.old.current kept.old) }
+{
+    if lent {
+        kept.keep(steps.row())?;
+    }
+    find_change(steps, kept, end)
 }
 
 /// The changes of an FDE: its begin, and each address below its end at which the rule of some column is not that
@@ -120,7 +127,9 @@ fn find_change<'a>(
 #[derive(Drop)]
 pub struct Changes<'a> {
     steps: RowWalk<'a>,
-    shown: Shown<'a>,
+    // The row that was shown last is the one that the walk lends, and the one before it is kept.
+    lent: bool,
+    kept: Shown<'a>,
     end: u128,
     failed: bool,
 }
@@ -128,10 +137,11 @@ pub struct Changes<'a> {
 impl<'a> Model for Changes<'a> {
     ghost use Rattle.std.specs.Prelude.{◌≡◌, None};
     ghost use Rattle.dw_section.specs.Changes.{Changing};
+    ghost use Rattle.dw_section.specs.Shown.{shown_of, before_of};
 
     ghost Value = { Changing };
 
-    ghost view = { λ c. record { rows = c.steps.outcome.rows; shown = c.shown; end = c.end; failed = c.failed } };
+    ghost view = { λ c. record { rows = c.steps.outcome.rows; shown = shown_of c.lent c.steps.current c.kept; before = before_of c.lent c.kept; end = c.end; failed = c.failed } };
 
     ghost invariant = { λ c. c.steps.outcome.fault ≡ None };
 }
@@ -143,7 +153,8 @@ impl<'a> Changes<'a> {
     {
         Changes {
             steps: RowWalk::new(alloc, target),
-            shown: Shown::none(alloc),
+            lent: false,
+            kept: Shown::none(alloc),
             end: 0,
             failed: false,
         }
@@ -158,7 +169,8 @@ impl<'a> Changes<'a> {
         let (cie, program) = (fde.cie_program, fde.program);
         self.steps
             .go_to(cie, program, fde.begin, fde.factors, target);
-        self.shown.forget();
+        self.lent = false;
+        self.kept.forget();
         self.end = u128::from(fde.begin) + u128::from(fde.range);
         self.failed = false;
     }
@@ -169,11 +181,13 @@ impl<'a> Changes<'a> {
         ensures gives { GivesAddress self.old result self.new }
         ensures again { self.old.failed ≡ true → IsErr result }
         ensures end { self.new.end ≡ self.old.end }
+        ensures before { IfOk result (λ address. self.new.before ≡ before_then address self.old.shown) }
     {
         if self.failed {
             return Err(AllocError);
         }
-        let change = find_change(&mut self.steps, &mut self.shown, self.end);
+        let change = next_change(&mut self.steps, &mut self.kept, self.lent, self.end);
+        self.lent = matches!(change, Ok(Some(_)));
         self.failed = change.is_err();
         change
     }
@@ -182,18 +196,42 @@ impl<'a> Changes<'a> {
     pub fn row(&self) -> Option<&Row<'a>>
         ensures { MatchOption result (self.now.shown ≡ None) (λ row. self.now.shown ≡ Some row.now) }
     {
-        self.shown.row()
+        if self.lent {
+            return Some(self.steps.row());
+        }
+        self.kept.row()
+    }
+
+    /// The row of the change before the one that `row` lends. None at the first change, and behind the last one.
+    pub fn before(&self) -> Option<&Row<'a>>
+        ensures { MatchOption result (self.now.before ≡ None) (λ row. self.now.before ≡ Some row.now) }
+    {
+        if self.lent {
+            return self.kept.row();
+        }
+        None
+    }
+
+    // The row that is shown once more.
+    fn copied_row(&self) -> Result<Row<'a>, AllocError>
+        ensures { (shows : Rules) → self.now.shown ≡ Some shows → IfOk result (λ row. row ≡ shows) }
+    {
+        match self.row() {
+            Some(row) => row.copied(),
+            None => Err(AllocError),
+        }
     }
 
     /// The next change with its row, or none behind the last one. Want of memory is answered from then on.
     pub fn next(&mut self) -> Result<Option<(u128, Row<'a>)>, AllocError>
         ensures gives { GivesChange self.old result self.new }
         ensures again { self.old.failed ≡ true → IsErr result }
+        ensures before { IfOk result (λ change. self.new.before ≡ before_then change self.old.shown) }
     {
         let Some(address) = self.advance()? else {
             return Ok(None);
         };
-        match self.shown.copied() {
+        match self.copied_row() {
             Ok(row) => Ok(Some((address, row))),
             Err(error) => {
                 self.failed = true;

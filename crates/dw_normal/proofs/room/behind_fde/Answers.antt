@@ -1,5 +1,13 @@
+use Rattle.std.proofs.Common.{ℕ, length, Option, subst}
+use Rattle.dw_canon.specs.Difference.{difference}
+use Rattle.dw_canon.specs.Spelling.{program_bytes}
+use Rattle.dw_normal.specs.Measuring.{Leaves}
+use Rattle.dw_normal.specs.Passing.{shown_row}
 use Rattle.dw_normal.proofs.Measured.{first_over}
 use Rattle.dw_normal.proofs.room.behind_fde.Goals as goal
 
 pub returns-in_default : goal.returns-in_default
-returns-in_default c = first_over c.args.target c.args.shared.now c.args.begin c.args.first.now c.args.room c.args.changes.now c.in_default.ensures
+returns-in_default c =
+    let row = shown_row c.args.changes.now in
+    let over = subst (λ (o : Option ℕ). Leaves c.args.room (length (program_bytes c.args.target (difference c.args.shared.now c.args.shared.now row))) o) c.in_default.is c.in_ok-left.ensures in
+    first_over c.args.target c.args.shared.now c.args.begin row c.args.room c.args.changes.now over

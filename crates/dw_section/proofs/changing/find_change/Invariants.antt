@@ -6,8 +6,7 @@ use Rattle.dw_section.proofs.changing.find_change.Given as goal
 abbrev pub invariant-rows : goal.invariant-rows
 invariant-rows l =
     (l.steps.outcome.fault ≡ None) × (length l.steps.outcome.rows ≤ length l.initial.steps.outcome.rows)
-    × ((changes : List (ℕ × Rules)) → Among l.end l.shown l.steps.outcome.rows changes → Among l.end l.initial.shown l.initial.steps.outcome.rows changes)
-    × (l.shown ≡ l.initial.shown)
+    × ((changes : List (ℕ × Rules)) → Among l.end l.shown l.steps.outcome.rows changes → Among l.end l.shown l.initial.steps.outcome.rows changes)
 
 abbrev pub decreases-rows : goal.decreases-rows
 decreases-rows l = length l.steps.outcome.rows
