@@ -121,6 +121,7 @@ fn slot_of(rule: &RegRule<'_>) -> Slot
 }
 
 // The first register from a place on that is not Unspecified, and its rule.
+#[inline(always)]
 fn next_near<'a>(
     at: u16,
     near: &[Slot; 32],
@@ -605,6 +606,7 @@ impl<'r, 'a> Model for Specified<'r, 'a> {
 }
 
 impl<'r, 'a> Specified<'r, 'a> {
+    #[inline(always)]
     fn step(&mut self) -> Option<(u16, RegRule<'a>)>
         ensures { MatchOption result ((self.old ≡ []) × (self.new ≡ [])) (λ entry. self.old ≡ entry ∷ self.new) }
     {
@@ -627,6 +629,7 @@ impl<'r, 'a> Iterator for Specified<'r, 'a> {
 
     ghost remaining = { item_count (λ entries. entries) };
 
+    #[inline(always)]
     fn next(&mut self) -> Option<(u16, RegRule<'a>)> {
         self.step()
     }
