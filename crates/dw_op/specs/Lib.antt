@@ -10,6 +10,7 @@ pub mod Laws
 pub mod Reading
 pub mod Steps
 pub mod Walk
+pub mod Operands
 pub mod Faults
 pub mod Windows
 pub mod Accepted
