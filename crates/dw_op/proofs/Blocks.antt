@@ -1,6 +1,7 @@
 -- What is decoded is the block's operations, or its first fault.
 use Rattle.std.proofs.Common.{◌≡◌, ℕ, suc, ◌+◌, ◌<◌, true, List, [], ◌∷◌, ◌++◌, length, Option, Some, None, Result, Ok, Err, refl, sym, ap, subst, ◌∙◌, arith, inl, inr, ◌⊎◌}
-use Rattle.std.specs.Prelude.{IsTrue}
+use Rattle.std.specs.Prelude.{IsTrue, slice_get}
+use Rattle.std.proofs.lemmas.Option.{slice_get_within}
 use Rattle.std.specs.List.{AllByRecursion}
 use Rattle.std.proofs.lemmas.List.{length-append}
 use Rattle.dw_num.specs.declared.refusal.Code.TheVariants.{BadBranch}
@@ -17,11 +18,13 @@ use Rattle.dw_op.specs.declared.reading.Branch.TheVariants.{Bra, Skip}
 use Rattle.dw_op.specs.Block.{start, Stands, EachPart, joined, Block}
 use Rattle.dw_op.specs.Reading.{step_at}
 use Rattle.dw_op.specs.Walk.{Item, Walk, walk, end_of, index_at, op_of, put_first, resolve, unless, block_input, decode_at}
-use Rattle.dw_op.specs.Faults.{IsBlock, op_allowed, IsPart, Stood, EachNumbered, BlockFault}
+use Rattle.dw_op.specs.Faults.{IsBlock, op_allowed, IsPart, Leads, ReadingFault, BlockFault}
 use Rattle.dw_op.proofs.Splits.{Spelled, EachSpells, items_from, input, Ends, Split, split_of, joined_walk}
 use Rattle.dw_op.proofs.Places.{index_start, index_begins}
 use Rattle.dw_op.proofs.Standing.{Finds, Placed, one_step, as_location, part_step, allowed_plain, step_stands, stands_step}
 use Rattle.dw_op.proofs.Branches.{fixed_any}
+use Rattle.dw_op.proofs.OperandLaws.{stuck_fault, fault_stuck}
+use Rattle.dw_op.proofs.Leading.{Stood, EachNumbered, stood_leads, leads_stood, each_at, each_from, all_at, in_front, front_only, at_part, start_at, around}
 
 -- ---- where parts stand
 
@@ -402,6 +405,31 @@ step_parts profile t [] (part ∷ parts) h = absurd h
 step_parts profile t (step ∷ steps) [] h = absurd h
 step_parts profile t (step ∷ steps) (part ∷ parts) h = (step_part profile t step part h.0, step_parts profile t steps parts h.1)
 
+-- bytes that are read as no operation begin with a code that has a fault
+stuck_reading : (profile : Profile) (t : Target) (bytes : List ℕ) (r : Refusal) (parts : List (List ℕ)) (rest : List ℕ) → bytes ≡ joined parts ++ rest → AllByRecursion (IsPart profile t) parts → 0 < length rest
+    → step_at profile (input (length (joined parts)) rest t) ≡ Err r → ReadingFault profile t bytes r
+stuck_reading profile t bytes r parts [] whole each some e = absurd (omega arith)
+stuck_reading profile t bytes r parts (code ∷ operands) whole each some e = record { parts = parts; code = code; operands = operands; whole = whole; each = each; fault = stuck_fault profile t (length (joined parts)) code operands r e }
+
+zero_plus : (n : ℕ) → 0 + n ≡ n
+zero_plus n = omega arith
+
+-- no earlier branch leads nowhere, and this one does
+abbrev FirstAt : Target → List (List ℕ) → ℕ → Type 0
+FirstAt t parts bad = (Leads t parts bad → ⊥) × ((k : ℕ) → k < bad → Leads t parts k)
+
+first_at : (profile : Profile) (t : Target) (before : List (List ℕ)) (part : List ℕ) (after : List (List ℕ)) → AllByRecursion (IsPart profile t) (before ++ part ∷ after)
+    → EachNumbered (Stood t (before ++ part ∷ after)) 0 before → (Stood t (before ++ part ∷ after) (length before) part → ⊥) → FirstAt t (before ++ part ∷ after) (length before)
+first_at profile t before part after each good bad = (nowhere, first)
+  where
+    nowhere : Leads t (before ++ part ∷ after) (length before) → ⊥
+    nowhere leads = bad (leads_stood profile t (before ++ part ∷ after) (length before) part (at_part before part after) (all_at (IsPart profile t) (before ++ part ∷ after) (length before) part each (at_part before part after)) leads)
+
+    first : (k : ℕ) → k < length before → Leads t (before ++ part ∷ after) k
+    first k lt other there =
+        let stood = each_at (Stood t (before ++ part ∷ after)) 0 before good k other (front_only before (part ∷ after) k other lt there) in
+        stood_leads t (before ++ part ∷ after) k other there (subst (λ (n : ℕ). Stood t (before ++ part ∷ after) n other) (zero_plus k) stood) other there
+
 -- the fault that is answered is the first
 pub fault_found : (profile : Profile) (t : Target) (bytes : List ℕ) (r : Refusal) → AreBytes bytes → decode_at profile (block_input t bytes) ≡ Err r → BlockFault profile t bytes r
 fault_found profile t bytes r h e = elim (reads profile t bytes h) [
@@ -410,50 +438,64 @@ fault_found profile t bytes r h e = elim (reads profile t bytes h) [
       let finds = finder_finds profile t b.steps b.parts b.each in
       let bad : resolve find (items_from (start b.parts 0) b.steps b.parts) ≡ Err r = sym (moved_start b.parts find b.steps) ∙ sym b.decoded ∙ e in
       let u = unresolved_bad profile t b.parts find finds 0 b.steps b.parts r b.each (follow_all b.parts) bad in
-      let parts : b.parts ≡ u.before ++ u.part ∷ u.after = u.whole in
+      let all = u.before ++ u.part ∷ u.after in
+      let parts : b.parts ≡ all = u.whole in
+      let each = subst (λ (l : List (List ℕ)). AllByRecursion (IsPart profile t) l) parts (step_parts profile t b.steps b.parts b.each) in
+      let good = subst (λ (l : List (List ℕ)). EachNumbered (Stood t l) 0 u.before) parts u.good in
+      let nowhere = subst (λ (l : List (List ℕ)). Stood t l (length u.before) u.part → ⊥) parts (subst (λ (n : ℕ). Stood t b.parts n u.part → ⊥) (zero_plus (length u.before)) u.bad) in
+      let first = first_at profile t u.before u.part u.after each good nowhere in
+      let place : start b.parts 0 + length (joined u.before) ≡ start (u.before ++ u.part ∷ u.after) (length u.before) = omega (arith, start_zero b.parts, start_at u.before u.part u.after) in
       inr (record {
-        before = u.before;
-        part = u.part;
-        after = u.after;
+        parts = all;
         whole = b.whole ∙ ap joined parts;
-        each = subst (λ (l : List (List ℕ)). AllByRecursion (IsPart profile t) l) parts (step_parts profile t b.steps b.parts b.each);
-        good = subst (λ (l : List (List ℕ)). EachNumbered (Stood t l) 0 u.before) parts u.good;
-        bad = subst (λ (l : List (List ℕ)). Stood t l (length u.before) u.part → ⊥) parts (subst (λ (n : ℕ). Stood t b.parts n u.part → ⊥) (zero_plus (length u.before)) u.bad);
-        is = u.is ∙ ap bad_branch (omega (arith, start_zero b.parts));
+        each = each;
+        bad = length u.before;
+        nowhere = first.0;
+        first = first.1;
+        is = u.is ∙ ap bad_branch place;
       })
   | inr s ↦
       let same : Err s.refusal ≡ Err r = sym s.decoded ∙ e in
       let is : s.refusal ≡ r = errs_are s.refusal r same in
-      inl (record {
-        parts = s.parts;
-        rest = s.rest;
-        whole = s.whole;
-        each = step_parts profile t s.steps s.parts s.each;
-        some = s.some;
-        stuck = subst (λ (x : Refusal). step_at profile (input (length (joined s.parts)) s.rest t) ≡ Err x) is s.stuck;
-      })
+      inl (stuck_reading profile t bytes r s.parts s.rest s.whole (step_parts profile t s.steps s.parts s.each) s.some
+      (subst (λ (x : Refusal). step_at profile (input (length (joined s.parts)) s.rest t) ≡ Err x) is s.stuck))
 ]
-  where
-    zero_plus : (n : ℕ) → 0 + n ≡ n
-    zero_plus n = omega arith
+
+-- all parts are read, and the first branch that leads nowhere is what is answered
+branch_decoded : (profile : Profile) (t : Target) (bytes : List ℕ) (before : List (List ℕ)) (part : List ℕ) (after : List (List ℕ)) → bytes ≡ joined (before ++ part ∷ after) → AllByRecursion (IsPart profile t) (before ++ part ∷ after)
+    → FirstAt t (before ++ part ∷ after) (length before) → decode_at profile (block_input t bytes) ≡ Err (bad_branch (length (joined before)))
+branch_decoded profile t bytes before part after whole each first =
+    let all = before ++ part ∷ after in
+    let steps = part_steps profile t all each in
+    let find = finder steps.0 all in
+    let finds = finder_finds profile t steps.0 all steps.1 in
+    let good : EachNumbered (Stood t all) 0 before = each_from (Stood t all) 0 before (λ j x e. subst (λ (n : ℕ). Stood t all n x) (sym (zero_plus j))
+    (leads_stood profile t all j x (in_front before (part ∷ after) j x e) (all_at (IsPart profile t) all j x each (in_front before (part ∷ after) j x e)) (first.1 j (slice_get_within before j x e)))) in
+    let bad : Stood t all (length before) part → ⊥ = λ stood. first.0 (stood_leads t all (length before) part (at_part before part after) stood) in
+    let answer = bad_unresolved profile t all find finds 0 steps.0 before part after steps.1 (follow_all all) good (subst (λ (n : ℕ). Stood t all n part → ⊥) (sym (zero_plus (length before))) bad) in
+    let place : start all 0 + length (joined before) ≡ length (joined before) = omega (arith, start_zero all) in
+    decoded_parts profile t bytes steps.0 all steps.1 whole ∙ moved_start all find steps.0 ∙ answer ∙ ap (λ (n : ℕ). Err (bad_branch n)) place
+
+abbrev Bad : Profile → Target → List ℕ → Refusal → List (List ℕ) → ℕ → Type 0
+Bad profile t bytes r parts bad = (bytes ≡ joined parts) × AllByRecursion (IsPart profile t) parts × FirstAt t parts bad × (r ≡ bad_branch (start parts bad))
 
 -- the first fault is what is answered
 pub fault_only : (profile : Profile) (t : Target) (bytes : List ℕ) (r : Refusal) → BlockFault profile t bytes r → decode_at profile (block_input t bytes) ≡ Err r
 fault_only profile t bytes r (inl h) =
     let steps = part_steps profile t h.parts h.each in
-    let place : length (joined h.parts) ≡ 0 + length (joined h.parts) = omega arith in
-    let ends : Ends profile (input (0 + length (joined h.parts)) h.rest t) (Some r) = subst (λ (n : ℕ). (0 < length h.rest) × (step_at profile (input n h.rest t) ≡ Err r)) place (h.some, h.stuck) in
-    let w = joined_walk profile t steps.0 h.parts 0 h.rest (Some r) steps.1 ends in
+    let rest = h.code ∷ h.operands in
+    let stuck = fault_stuck profile t (length (joined h.parts)) h.code h.operands r h.fault in
+    let ends : Ends profile (input (0 + length (joined h.parts)) rest t) (Some r) = subst (λ (n : ℕ). (0 < length rest) × (step_at profile (input n rest t) ≡ Err r)) (sym (zero_plus (length (joined h.parts)))) (omega arith, stuck) in
+    let w = joined_walk profile t steps.0 h.parts 0 rest (Some r) steps.1 ends in
     decode_some profile (block_input t bytes) r (ap (λ (l : List ℕ). (walk profile (input 0 l t)).fault) h.whole ∙ ap (λ (x : Walk). x.fault) w)
-fault_only profile t bytes r (inr h) =
-    let all = h.before ++ h.part ∷ h.after in
-    let steps = part_steps profile t all h.each in
-    let find = finder steps.0 all in
-    let finds = finder_finds profile t steps.0 all steps.1 in
-    let bad = bad_unresolved profile t all find finds 0 steps.0 h.before h.part h.after steps.1 (follow_all all) h.good (subst (λ (n : ℕ). Stood t all n h.part → ⊥) (zero_plus (length h.before)) h.bad) in
-    let place : start all 0 + length (joined h.before) ≡ length (joined h.before) = omega (arith, start_zero all) in
-    decoded_parts profile t bytes steps.0 all steps.1 h.whole ∙ moved_start all find steps.0 ∙ bad
-    ∙ ap (λ (n : ℕ). Err (bad_branch n)) place ∙ ap (λ (x : Refusal). Err x) (sym h.is)
+fault_only profile t bytes r (inr h) = of (slice_get h.parts h.bad) refl
   where
-    zero_plus : (n : ℕ) → n ≡ 0 + n
-    zero_plus n = omega arith
+    of : (o : Option (List ℕ)) → slice_get h.parts h.bad ≡ o → decode_at profile (block_input t bytes) ≡ Err r
+    of None none = absurd (h.nowhere (λ part there b. absurd (let k : None ≡ Some part = sym none ∙ there in cc)))
+    of (Some part) there =
+        let a = around h.parts h.bad part there in
+        let all = a.before ++ part ∷ a.after in
+        let one : Bad profile t bytes r all h.bad = subst (λ (l : List (List ℕ)). Bad profile t bytes r l h.bad) a.whole (h.whole, h.each, (h.nowhere, h.first), h.is) in
+        let two : Bad profile t bytes r all (length a.before) = subst (λ (n : ℕ). Bad profile t bytes r all n) a.number one in
+        branch_decoded profile t bytes a.before part a.after two.0 two.1 two.2
+        ∙ ap (λ (n : ℕ). Err (bad_branch n)) (sym (start_at a.before part a.after)) ∙ ap (λ (x : Refusal). Err x) (sym two.3)

@@ -14,6 +14,8 @@ pub mod Splits
 pub mod Places
 pub mod Branches
 pub mod Standing
+pub mod OperandLaws
+pub mod Leading
 pub mod Blocks
 pub mod Search
 pub mod Decoded
@@ -26,3 +28,4 @@ pub mod PlainBlocks
 pub mod FaultPlaces
 pub mod Starts
 pub mod Putting
+pub mod Worked

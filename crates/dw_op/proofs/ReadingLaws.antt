@@ -160,13 +160,13 @@ op_found t code i new step read make Spells law spelled e =
     let q = law p.0.0 p.0.1 p.1 in
     subst (λ (z : Step × Input). StepFound t code i z.0 z.1) (ok_is (Plain (make p.0.0), p.0.1) (step, new) p.2) (q.0, spelled p.0.0 q.0 q.1, q.2)
 
-const_of : (t : Target) (count : ByteCount) (n : ℕ) (b : List ℕ) → Fixed t.order (width_of count) n b → StepSpells t (Plain (Const (n % address_limit t.size))) (unsigned_code count ∷ b)
+pub const_of : (t : Target) (count : ByteCount) (n : ℕ) (b : List ℕ) → Fixed t.order (width_of count) n b → StepSpells t (Plain (Const (n % address_limit t.size))) (unsigned_code count ∷ b)
 const_of t One n b f = (record { form = Const1u; number = pos n; written = record { rest = b; operands = record { number = n; is = refl; spelled = f }; whole = refl }; value = refl }, refl)
 const_of t Two n b f = (record { form = Const2u; number = pos n; written = record { rest = b; operands = record { number = n; is = refl; spelled = f }; whole = refl }; value = refl }, refl)
 const_of t Four n b f = (record { form = Const4u; number = pos n; written = record { rest = b; operands = record { number = n; is = refl; spelled = f }; whole = refl }; value = refl }, refl)
 const_of t Eight n b f = (record { form = Const8u; number = pos n; written = record { rest = b; operands = record { number = n; is = refl; spelled = f }; whole = refl }; value = refl }, refl)
 
-signed_const_of : (t : Target) (count : ByteCount) (n : ℕ) (b : List ℕ) → Fixed t.order (width_of count) n b → StepSpells t (Plain (Const (modulo (address_limit t.size) (signed_of count n)))) (signed_code count ∷ b)
+pub signed_const_of : (t : Target) (count : ByteCount) (n : ℕ) (b : List ℕ) → Fixed t.order (width_of count) n b → StepSpells t (Plain (Const (modulo (address_limit t.size) (signed_of count n)))) (signed_code count ∷ b)
 signed_const_of t One n b f = (record { form = Const1s; number = signed_of One n; written = record { rest = b; operands = signed_spelled One t.order n b f; whole = refl }; value = refl }, refl)
 signed_const_of t Two n b f = (record { form = Const2s; number = signed_of Two n; written = record { rest = b; operands = signed_spelled Two t.order n b f; whole = refl }; value = refl }, refl)
 signed_const_of t Four n b f = (record { form = Const4s; number = signed_of Four n; written = record { rest = b; operands = signed_spelled Four t.order n b f; whole = refl }; value = refl }, refl)
@@ -303,7 +303,7 @@ operands_found code opcodes.Implicit i new step is h e = at_code code 0x9e i new
 
 -- ---- which profile allows it
 
-bare_in_frame : (op : Op) → in_frame (bare op) ≡ in_frame op
+pub bare_in_frame : (op : Op) → in_frame (bare op) ≡ in_frame op
 bare_in_frame (Implicit block) = refl
 bare_in_frame op = refl
 

@@ -47,7 +47,7 @@ pub allowed_plain : (profile : Profile) (op : Op) → step_allowed profile (Plai
 allowed_plain Frame op e = e
 allowed_plain Location op e = e
 
-any_code : (t : Target) (branch : Branch) (part : List ℕ) (h : Code (branch_code branch) AnyTwo part) → Spelled Location t (Jump branch (fixed_number t.order 2 h.rest)) part
+pub any_code : (t : Target) (branch : Branch) (part : List ℕ) (h : Code (branch_code branch) AnyTwo part) → Spelled Location t (Jump branch (fixed_number t.order 2 h.rest)) part
 any_code t branch part h =
     spelled Location t (Jump branch (fixed_number t.order 2 h.rest)) part (record { rest = h.rest; operands = any_fixed t.order h.rest h.operands; whole = h.whole }) refl
 

@@ -1,18 +1,19 @@
 -- The blocks of a profile, and the first fault of bytes that are none.
-use Rattle.std.specs.Prelude.{◌≡◌, ℕ, suc, ◌<◌, ◌≤◌, ◌⊎◌, List, [], ◌∷◌, ◌++◌, length, Err, Bool, true, IsTrue}
+use Rattle.std.specs.Prelude.{◌≡◌, ℕ, ◌<◌, ◌≤◌, ◌⊎◌, ◌+◌, List, [], ◌∷◌, ◌++◌, length, slice_get, Some, Err, Bool, true, IsTrue}
 use Rattle.std.specs.List.{AllByRecursion}
-use Rattle.dw_num.specs.declared.refusal.Code.TheVariants.{BadBranch}
+use Rattle.dw_num.specs.declared.refusal.Code.TheVariants.{BadBranch, NotInFrame, UnknownOperation}
 use Rattle.dw_num.specs.declared.refusal.Refusal.{Refusal}
 use Rattle.dw_num.specs.declared.target.Target.{Target}
+use Rattle.dw_num.specs.Input.{Input}
 use Rattle.dw_op.specs.declared.op.Op.{Op}
 use Rattle.dw_op.specs.declared.profile.Profile.{Profile}
 use Rattle.dw_op.specs.declared.profile.Profile.TheVariants.{Frame, Location}
 use Rattle.dw_op.specs.declared.decoding.DecodeError.{DecodeError}
 use Rattle.dw_op.specs.declared.decoding.DecodeError.TheVariants.{Refused, OutOfMemory}
-use Rattle.dw_op.specs.OpSpells.{OpSpells}
-use Rattle.dw_op.specs.Block.{Stands, joined, Block, FrameBlock}
+use Rattle.dw_op.specs.OpSpells.{OpSpells, Code, AnyTwo}
+use Rattle.dw_op.specs.Block.{start, Displaced, joined, Block, FrameBlock}
 use Rattle.dw_op.specs.Profile.{in_frame}
-use Rattle.dw_op.specs.Reading.{step_at}
+use Rattle.dw_op.specs.Operands.{fields_of, fields_at}
 
 -- a block of the operations that the profile has
 abbrev pub IsBlock : Profile → Target → List Op → List ℕ → Type 0
@@ -27,34 +28,43 @@ op_allowed Location op = true
 abbrev pub IsPart : Profile → Target → List ℕ → Type 0
 IsPart profile t part = (op : Op) × OpSpells t op part × IsTrue (op_allowed profile op)
 
--- operations to begin with, and behind them bytes that are read as none
+-- some operation of the profile has this code
+abbrev pub HasCode : Profile → Target → ℕ → Type 0
+HasCode profile t code = (operands : List ℕ) × IsPart profile t (code ∷ operands)
+
+-- no operation has the code; or none of the profile has it; or an operand behind it is the first that can't be read
+abbrev pub OpFault : Profile → ℕ → ℕ → Input → Refusal → Type 0
+OpFault profile at code operands r =
+    ((HasCode Location operands.target code → ⊥) × (r ≡ record { code = UnknownOperation; at = at }))
+    ⊎ ((HasCode Location operands.target code × (HasCode profile operands.target code → ⊥) × (r ≡ record { code = NotInFrame; at = at }))
+    ⊎ (HasCode profile operands.target code × (fields_at (fields_of code) operands ≡ Err r)))
+
+-- operations to begin with, and behind them a code whose operation has a fault
 pub record ReadingFault (profile : Profile) (t : Target) (bytes : List ℕ) (r : Refusal) : Type 0 where
   pub parts : List (List ℕ)
-  pub rest : List ℕ
-  pub whole : bytes ≡ joined parts ++ rest
+  pub code : ℕ
+  pub operands : List ℕ
+  pub whole : bytes ≡ joined parts ++ code ∷ operands
   pub each : AllByRecursion (IsPart profile t) parts
-  pub some : 0 < length rest
-  pub stuck : step_at profile (record { at = length (joined parts); bytes = rest; target = t }) ≡ Err r
+  pub fault : OpFault profile (length (joined parts)) code (record { at = length (joined parts) + 1; bytes = operands; target = t }) r
 
--- some operation stands at part k, so that if it is a branch it leads to a start or to the end
-abbrev pub Stood : Target → List (List ℕ) → ℕ → List ℕ → Type 0
-Stood t parts k part = (op : Op) × Stands t parts k op part
+-- a branch's code and its displacement
+abbrev pub IsBranch : List ℕ → Type 0
+IsBranch part = Code 0x28 AnyTwo part ⊎ Code 0x2f AnyTwo part
 
--- P of each part and its number, from k on
-abbrev pub EachNumbered : (ℕ → List ℕ → Type 0) → ℕ → List (List ℕ) → Type 0
-EachNumbered P k [] = Unit {0}
-EachNumbered P k (part ∷ parts) = P k part × EachNumbered P (suc k) parts
+-- operation k, if it is a branch, leads to the start of an operation or to the end
+abbrev pub Leads : Target → List (List ℕ) → ℕ → Type 0
+Leads t parts k = (part : List ℕ) → slice_get parts k ≡ Some part → IsBranch part → (i : ℕ) × Displaced t.order parts k (Some i) part
 
 -- operations to the end, of which one is the first branch that leads nowhere
 pub record BranchFault (profile : Profile) (t : Target) (bytes : List ℕ) (r : Refusal) : Type 0 where
-  pub before : List (List ℕ)
-  pub part : List ℕ
-  pub after : List (List ℕ)
-  pub whole : bytes ≡ joined (before ++ part ∷ after)
-  pub each : AllByRecursion (IsPart profile t) (before ++ part ∷ after)
-  pub good : EachNumbered (Stood t (before ++ part ∷ after)) 0 before
-  pub bad : Stood t (before ++ part ∷ after) (length before) part → ⊥
-  pub is : r ≡ record { code = BadBranch; at = length (joined before) }
+  pub parts : List (List ℕ)
+  pub whole : bytes ≡ joined parts
+  pub each : AllByRecursion (IsPart profile t) parts
+  pub bad : ℕ
+  pub nowhere : Leads t parts bad → ⊥
+  pub first : (k : ℕ) → k < bad → Leads t parts k
+  pub is : r ≡ record { code = BadBranch; at = start parts bad }
 
 -- the first fault of a block
 abbrev pub BlockFault : Profile → Target → List ℕ → Refusal → Type 0
@@ -68,8 +78,3 @@ IsWithin bytes r = r.at ≤ length bytes
 abbrev pub Refuses : (Refusal → Type 0) → DecodeError → Type 0
 Refuses Fault OutOfMemory = Unit {0}
 Refuses Fault (Refused r) = Fault r
-
--- places that rise, from low on
-abbrev pub Rises : ℕ → List ℕ → Type 0
-Rises low [] = Unit {0}
-Rises low (p ∷ ps) = (low ≤ p) × Rises (suc p) ps

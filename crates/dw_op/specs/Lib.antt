@@ -11,6 +11,7 @@ pub mod Reading
 pub mod ByOpcode
 pub mod Steps
 pub mod Walk
+pub mod Operands
 pub mod Faults
 pub mod Windows
 pub mod Accepted

@@ -1,5 +1,5 @@
 -- The operations of a block one after another, and what its branches name.
-use Rattle.std.specs.Prelude.{ℕ, zero, suc, ◌+◌, ◌-◌, List, [], ◌∷◌, length, Option, Some, None, Result, Ok, Err, nat_eq, nat_lt, if◌then◌else◌}
+use Rattle.std.specs.Prelude.{ℕ, zero, suc, ◌+◌, ◌-◌, ◌≤◌, List, [], ◌∷◌, length, Option, Some, None, Result, Ok, Err, nat_eq, nat_lt, if◌then◌else◌}
 use Rattle.dw_num.specs.declared.refusal.Code.TheVariants.{BadBranch}
 use Rattle.dw_num.specs.declared.refusal.Refusal.{Refusal}
 use Rattle.dw_num.specs.declared.target.Target.{Target}
@@ -123,3 +123,8 @@ starts_of (item ∷ items) end = item.at ∷ starts_of items end
 abbrev pub place_index : List ℕ → ℕ → Option ℕ
 place_index [] place = None
 place_index (p ∷ ps) place = if nat_eq place p then Some 0 else plus 1 (place_index ps place)
+
+-- places that rise, from low on
+abbrev pub Rises : ℕ → List ℕ → Type 0
+Rises low [] = Unit {0}
+Rises low (p ∷ ps) = (low ≤ p) × Rises (suc p) ps

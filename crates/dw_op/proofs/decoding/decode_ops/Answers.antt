@@ -4,7 +4,7 @@ use Rattle.std.proofs.lemmas.List.{map-append}
 use Rattle.dw_op.specs.Expression.{bare}
 use Rattle.dw_op.specs.Reading.{bare_step}
 use Rattle.dw_op.specs.Walk.{block_input, decode_at, place_index, walk, end_of, starts_of, op_of}
-use Rattle.dw_op.specs.Faults.{Rises}
+use Rattle.dw_op.specs.Walk.{Rises}
 use Rattle.dw_op.proofs.Search.{starts_rise}
 use Rattle.dw_op.proofs.Decoded.{ops_more, ops_bad, ops_all, ops_stuck, bad_branch, decoded_is, decoded_fault, refuses_so, step_shorter}
 use Rattle.dw_op.proofs.decoding.decode_ops.Goals as goal
