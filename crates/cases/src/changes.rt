@@ -28,6 +28,14 @@ fn lent(alloc: Global, mut changes: Changes<'_>) -> Result<String, Fail> {
     Err(Fail::new("no last change"))
 }
 
+/// Whether the changes behind it keep what the first one specifies, and what the second one does.
+pub fn keeps_first_two(mut changes: Changes<'_>) -> Result<(bool, bool), Fail> {
+    let (_, first) = changes.next()?.ok_or("the first change")?;
+    let keeps_first = changes.keeps(&first);
+    let (_, second) = changes.next()?.ok_or("the second change")?;
+    Ok((keeps_first, changes.keeps(&second)))
+}
+
 /// The changes of all FDEs, on which both calls agree.
 pub fn changes_text(alloc: Global, table: &Table<'_>) -> Result<String, Fail> {
     let mut text = String::new(alloc);

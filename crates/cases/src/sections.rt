@@ -1,7 +1,7 @@
 //! The sections of the cases, and calls on them: entries, headers, the first fault of a section by its fields and as a
 //! whole, its FDEs, and the changes of their rules.
 
-use crate::changes::changes_text;
+use crate::changes::{changes_text, keeps_first_two};
 use crate::lines::{compare, number, parts, sides};
 use crate::targets::{BIG, LITTLE};
 use crate::texts::refusal_text;
@@ -355,4 +355,18 @@ fn judges_sections(rt: HostRuntime) -> Result<(), Fail> {
 fn lists_fdes_and_changes(rt: HostRuntime) -> Result<(), Fail> {
     agree_all(rt.alloc(), Call::Fdes, FDES)?;
     agree_all(rt.alloc(), Call::Changes, CHANGES)
+}
+
+// r6 is saved at the second row alone, and r16 in the CIE.
+#[test]
+fn keeps_what_the_cie_specifies(rt: HostRuntime) -> Result<(), Fail> {
+    let alloc = rt.alloc();
+    let bytes = section_of(alloc, "nops 30=410e108602440e08c6")?;
+    let table = table_of(alloc, &bytes, LITTLE)?;
+    let Some(fde) = table.fde_at(0x1000) else {
+        return Err(Fail::new("no FDE"));
+    };
+    let (first, second) = keeps_first_two(table.changes(fde))?;
+    assert!(rt; first && !second);
+    Ok(())
 }

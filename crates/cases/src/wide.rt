@@ -77,7 +77,9 @@ fn narrows_rows(rt: HostRuntime) -> Result<(), Fail> {
     let alloc = rt.alloc();
     let other = row_of(alloc, b"\x0c\x06\x08\x83\x01\x84\x03".as_slice())?;
     let mut row = row_of(alloc, b"\x0c\x07\x08\x83\x01\x84\x02\x85\x01".as_slice())?;
+    assert!(rt; !other.specifies_all(&row));
     row.keep(&other);
+    assert!(rt; other.specifies_all(&row));
     compare(
         "kept",
         row_text(alloc, &row)?.as_str(),
