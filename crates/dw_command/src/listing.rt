@@ -72,6 +72,7 @@ impl<W: Write> Listing<W> {
     fn write_out(&mut self) -> Result<(), OutputFault>
         ensures { OnOk result (self.new.len ≡ 0) }
     {
+        // No more than all, which no clause says between two calls.
         if self
             .out
             .write_all(&self.room[..self.len.min(ROOM)])
