@@ -45,6 +45,8 @@ pub fn run_entries<'a, L: Load, W: Write>(
         .load(path)
         .map_err(|error| Failure::from_load(path, error))?;
     let list = entries(alloc, bytes.as_slice(), target)?;
-    print_entries(out, &list)?;
+    if print_entries(out, &list).is_err() {
+        return Err(Failure::CannotWrite);
+    }
     Ok(())
 }

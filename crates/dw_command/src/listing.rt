@@ -1,6 +1,7 @@
 //! A text of many lines on its way to an output.
 
 ghost use Rattle.std.specs.Prelude.{◌≡◌, ◌+◌, ◌<◌, ◌≤◌, length, OnOk};
+ghost use Rattle.dw_command.specs.declared.failure.Failure.TheVariants.{CannotWrite};
 ghost use Rattle.dw_command.specs.declared.listing.TheConstants.{PIECE, ROOM};
 
 use crate::failure::Failure;
@@ -30,6 +31,8 @@ const PAIRS: &[u8; 200] = b"00010203040506070809\
 pub struct OutputFault;
 
 impl From<OutputFault> for Failure<'_> {
+    ghost from_gives = { λ _ e. e ≡ CannotWrite };
+
     fn from(_fault: OutputFault) -> Self {
         Failure::CannotWrite
     }
