@@ -2,25 +2,35 @@
 
 use crate::failure::Failure;
 use crate::files::Load;
+use crate::listing::{Listing, OutputFault};
 use dw_num::{Form, Target};
 use dw_section::{Entry, Kind, entries};
-use itoa::Buffer;
 use std::alloc::Global;
 use std::io::Write;
 
-fn print_entry<W: Write>(out: &mut W, entry: &Entry) -> std::io::Result<()> {
-    let kind = match entry.kind {
-        Kind::Cie => "cie",
-        Kind::Fde => "fde",
-    };
-    let form = match entry.form {
-        Form::Dwarf32 => "32",
-        Form::Dwarf64 => "64",
-    };
-    let mut digits = Buffer::new();
-    let at = entry.at;
-    let length = digits.format(entry.length);
-    writeln!(out, "{at:#x} {kind} {form} {length}")
+fn put_entry<W: Write>(listing: &mut Listing<W>, entry: &Entry) -> Result<(), OutputFault> {
+    listing.make_room()?;
+    listing.text(b"0x");
+    listing.hex(entry.at);
+    listing.text(match entry.kind {
+        Kind::Cie => b" cie ",
+        Kind::Fde => b" fde ",
+    });
+    listing.text(match entry.form {
+        Form::Dwarf32 => b"32 ",
+        Form::Dwarf64 => b"64 ",
+    });
+    listing.decimal(entry.length);
+    listing.text(b"\n");
+    Ok(())
+}
+
+fn print_entries<W: Write>(out: &mut W, list: &[Entry]) -> Result<(), OutputFault> {
+    let mut listing = Listing::new(out);
+    for entry in list {
+        put_entry(&mut listing, entry)?;
+    }
+    listing.finish()
 }
 
 /// Prints the entries of the section in a file. Nothing is printed where the section is refused.
@@ -35,12 +45,7 @@ pub fn run_entries<'a, L: Load, W: Write>(
         .load(path)
         .map_err(|error| Failure::from_load(path, error))?;
     let list = entries(alloc, bytes.as_slice(), target)?;
-    for entry in list.iter() {
-        if print_entry(out, entry).is_err() {
-            return Err(Failure::CannotWrite);
-        }
-    }
-    if out.flush().is_err() {
+    if print_entries(out, &list).is_err() {
         return Err(Failure::CannotWrite);
     }
     Ok(())

@@ -1,7 +1,5 @@
 //! A line of text that is put together before it is printed.
 
-use crate::texts::print_op;
-use dw_op::Op;
 use hex::encode_to_slice;
 use itoa::{Buffer, Integer};
 use std::alloc::{AllocError, Global};
@@ -45,14 +43,6 @@ impl Line {
         let _ = encode_to_slice(bytes, digits);
         let zeros = digits.iter().take_while(|digit| **digit == b'0').count();
         self.text(&digits[zeros.min(digits.len().saturating_sub(1))..])
-    }
-
-    pub fn operation(&mut self, op: &Op<'_>) -> Result<(), AllocError> {
-        match print_op(&mut self.text, op) {
-            Ok(()) => Ok(()),
-            // A vector refuses nothing but for want of memory.
-            Err(_) => Err(AllocError),
-        }
     }
 
     /// Prints the text, which is empty then.

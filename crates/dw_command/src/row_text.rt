@@ -1,100 +1,125 @@
 //! How rows are printed: a line for an FDE, and under it a line for each address from which its rules are others.
 
-use crate::line::Line;
+ghost use Rattle.std.specs.Prelude.{◌+◌, ◌≤◌, OnOk};
+ghost use Rattle.dw_command.specs.declared.listing.TheConstants.{PIECE, ROOM};
+
+use crate::listing::{Listing, OutputFault};
+use crate::texts::print_op;
 use dw_cfa::{CfaRule, RegRule, Row};
 use dw_op::ExprRef;
 use dw_section::Fde;
-use std::alloc::AllocError;
+use std::io::Write;
 
-// An offset with its sign.
-fn put_offset(line: &mut Line, offset: i64) -> Result<(), AllocError> {
-    if offset >= 0 {
-        line.text(b"+")?;
-    }
-    line.decimal(offset)
-}
-
-fn put_expression(line: &mut Line, expression: &ExprRef<'_>) -> Result<(), AllocError> {
-    line.text(b"expr(")?;
+// The operations of an expression. Room is made behind them.
+fn put_operations<W: Write>(
+    listing: &mut Listing<W>,
+    expression: &ExprRef<'_>,
+) -> Result<(), OutputFault>
+    ensures { OnOk result (listing.new.len + PIECE ≤ ROOM) }
+{
     let mut first = true;
     for op in expression.steps() {
+        listing.make_room()?;
         if !first {
-            line.text(b"; ")?;
+            listing.text(b"; ");
         }
         first = false;
-        line.operation(&op)?;
+        if print_op(listing, &op).is_err() {
+            return Err(OutputFault);
+        }
     }
-    line.text(b")")
+    listing.make_room()
 }
 
-fn put_cfa(line: &mut Line, rule: &CfaRule<'_>) -> Result<(), AllocError> {
+#[inline(always)]
+fn put_cfa<W: Write>(listing: &mut Listing<W>, rule: &CfaRule<'_>) -> Result<(), OutputFault> {
+    listing.make_room()?;
     match rule {
         // No row that is printed is without it.
-        CfaRule::Unset => line.text(b" cfa="),
+        CfaRule::Unset => listing.text(b" cfa="),
         CfaRule::Register { register, offset } => {
-            line.text(b" cfa=r")?;
-            line.decimal(*register)?;
-            put_offset(line, *offset)
+            listing.text(b" cfa=r");
+            listing.decimal(u64::from(*register));
+            listing.offset(*offset);
         }
         CfaRule::Expression(expression) => {
-            line.text(b" cfa=")?;
-            put_expression(line, expression)
+            listing.text(b" cfa=expr(");
+            put_operations(listing, expression)?;
+            listing.text(b")");
         }
     }
+    Ok(())
 }
 
-// A rule behind its equals sign. One that reads memory stands in brackets.
-fn put_rule(line: &mut Line, rule: &RegRule<'_>) -> Result<(), AllocError> {
+// A register and its rule. One that reads memory stands in brackets.
+#[inline(always)]
+fn put_rule<W: Write>(
+    listing: &mut Listing<W>,
+    register: u16,
+    rule: &RegRule<'_>,
+) -> Result<(), OutputFault> {
+    listing.make_room()?;
+    listing.text(b" r");
+    listing.decimal(u64::from(register));
     match rule {
         // It is not listed.
-        RegRule::Unspecified => Ok(()),
-        RegRule::Undefined => line.text(b"=u"),
-        RegRule::SameValue => line.text(b"=s"),
+        RegRule::Unspecified => {}
+        RegRule::Undefined => listing.text(b"=u"),
+        RegRule::SameValue => listing.text(b"=s"),
         RegRule::Offset(offset) => {
-            line.text(b"=[cfa")?;
-            put_offset(line, *offset)?;
-            line.text(b"]")
+            listing.text(b"=[cfa");
+            listing.offset(*offset);
+            listing.text(b"]");
         }
         RegRule::ValOffset(offset) => {
-            line.text(b"=cfa")?;
-            put_offset(line, *offset)
+            listing.text(b"=cfa");
+            listing.offset(*offset);
         }
         RegRule::Register(other) => {
-            line.text(b"=r")?;
-            line.decimal(*other)
+            listing.text(b"=r");
+            listing.decimal(u64::from(*other));
         }
         RegRule::Expression(expression) => {
-            line.text(b"=[")?;
-            put_expression(line, expression)?;
-            line.text(b"]")
+            listing.text(b"=[expr(");
+            put_operations(listing, expression)?;
+            listing.text(b")]");
         }
         RegRule::ValExpression(expression) => {
-            line.text(b"=")?;
-            put_expression(line, expression)
+            listing.text(b"=expr(");
+            put_operations(listing, expression)?;
+            listing.text(b")");
         }
     }
+    Ok(())
 }
 
 /// Puts the line of an FDE: the addresses that it covers, up to its end, and its return-address register.
-pub fn put_fde(line: &mut Line, fde: &Fde) -> Result<(), AllocError> {
-    line.text(b"fde 0x")?;
-    line.hex(u128::from(fde.begin))?;
-    line.text(b" 0x")?;
-    line.hex(fde.end)?;
-    line.text(b" ra=r")?;
-    line.decimal(fde.return_register)?;
-    line.text(b"\n")
+pub fn put_fde<W: Write>(listing: &mut Listing<W>, fde: &Fde) -> Result<(), OutputFault> {
+    listing.make_room()?;
+    listing.text(b"fde 0x");
+    listing.hex(fde.begin);
+    listing.text(b" 0x");
+    listing.address(fde.end);
+    listing.text(b" ra=r");
+    listing.decimal(u64::from(fde.return_register));
+    listing.text(b"\n");
+    Ok(())
 }
 
 /// Puts the line of a row: the address from which it holds, the CFA's rule, and the specified registers' rules.
-pub fn put_row(line: &mut Line, address: u128, row: &Row<'_>) -> Result<(), AllocError> {
-    line.text(b" 0x")?;
-    line.hex(address)?;
-    put_cfa(line, &row.cfa())?;
+pub fn put_row<W: Write>(
+    listing: &mut Listing<W>,
+    address: u128,
+    row: &Row<'_>,
+) -> Result<(), OutputFault> {
+    listing.make_room()?;
+    listing.text(b" 0x");
+    listing.address(address);
+    put_cfa(listing, &row.cfa())?;
     for (register, rule) in row.specified() {
-        line.text(b" r")?;
-        line.decimal(register)?;
-        put_rule(line, &rule)?;
+        put_rule(listing, register, &rule)?;
     }
-    line.text(b"\n")
+    listing.make_room()?;
+    listing.text(b"\n");
+    Ok(())
 }

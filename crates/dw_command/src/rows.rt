@@ -2,49 +2,36 @@
 
 use crate::failure::Failure;
 use crate::files::Load;
-use crate::line::Line;
+use crate::listing::Listing;
 use crate::row_text::{put_fde, put_row};
 use dw_num::Target;
 use dw_section::{Changes, FdeRef, Table, check};
 use std::alloc::Global;
 use std::io::Write;
 
-// Prints a line for each address at which the rules of an FDE change. Each is put together first.
-fn print_changes<W: Write>(
-    out: &mut W,
-    line: &mut Line,
+// Puts a line for each address at which the rules of an FDE change.
+fn put_changes<W: Write>(
+    listing: &mut Listing<W>,
     changes: &mut Changes<'_>,
 ) -> Result<(), Failure<'static>> {
     'changes: while let Some(address) = changes.advance()? {
         if let Some(row) = changes.row() {
-            put_row(line, address, row)?;
-        }
-        if line.print(out).is_err() {
-            return Err(Failure::CannotWrite);
+            put_row(listing, address, row)?;
         }
     }
     Ok(())
 }
 
-fn print_table<W: Write>(
-    alloc: Global,
-    out: &mut W,
-    table: &Table<'_>,
-) -> Result<(), Failure<'static>> {
-    let mut line = Line::new(alloc);
+fn print_table<W: Write>(out: &mut W, table: &Table<'_>) -> Result<(), Failure<'static>> {
+    let mut listing = Listing::new(out);
     let mut changes = table.no_changes();
     for place in 0..table.fde_count() {
         let fde = FdeRef { place };
-        put_fde(&mut line, &table.fde(fde))?;
-        if line.print(out).is_err() {
-            return Err(Failure::CannotWrite);
-        }
+        put_fde(&mut listing, &table.fde(fde))?;
         table.go_to(&mut changes, fde);
-        print_changes(out, &mut line, &mut changes)?;
+        put_changes(&mut listing, &mut changes)?;
     }
-    if out.flush().is_err() {
-        return Err(Failure::CannotWrite);
-    }
+    listing.finish()?;
     Ok(())
 }
 
@@ -61,5 +48,5 @@ pub fn run_rows<'a, L: Load, W: Write>(
         .load(path)
         .map_err(|error| Failure::from_load(path, error))?;
     let table = check(alloc, bytes.as_slice(), target)?;
-    print_table(alloc, out, &table)
+    print_table(out, &table)
 }

@@ -42,10 +42,16 @@ fn name_of(op: &Op<'_>) -> Option<&'static str> {
     Some(name)
 }
 
-fn print_with<W: Write, I: Integer>(out: &mut W, name: &str, number: I) -> io::Result<()> {
+// A number behind a space.
+fn print_number<W: Write, I: Integer>(out: &mut W, number: I) -> io::Result<()> {
     let mut digits = Buffer::new();
-    let number = digits.format(number);
-    write!(out, "{name} {number}")
+    out.write_all(b" ")?;
+    out.write_all(digits.format(number).as_bytes())
+}
+
+fn print_with<W: Write, I: Integer>(out: &mut W, name: &str, number: I) -> io::Result<()> {
+    out.write_all(name.as_bytes())?;
+    print_number(out, number)
 }
 
 fn print_with_two<W: Write, I: Integer, J: Integer>(
@@ -55,9 +61,7 @@ fn print_with_two<W: Write, I: Integer, J: Integer>(
     second: J,
 ) -> io::Result<()> {
     print_with(out, name, first)?;
-    let mut digits = Buffer::new();
-    let second = digits.format(second);
-    write!(out, " {second}")
+    print_number(out, second)
 }
 
 /// Prints bytes as pairs of hexadecimal digits in lower case.

@@ -1,5 +1,5 @@
 use Rattle.std.proofs.Common.{length}
-use Rattle.dw_command.proofs.rows.print_changes.Given as goal
+use Rattle.dw_command.proofs.rows.put_changes.Given as goal
 
 abbrev pub decreases-changes : goal.decreases-changes
 decreases-changes g l = length l.changes.rows

@@ -1,0 +1,223 @@
+//! A text of many lines on its way to an output.
+
+ghost use Rattle.std.specs.Prelude.{◌≡◌, ◌+◌, ◌<◌, ◌≤◌, length, OnOk};
+ghost use Rattle.dw_command.specs.declared.failure.Failure.TheVariants.{CannotWrite};
+ghost use Rattle.dw_command.specs.declared.listing.TheConstants.{PIECE, ROOM};
+
+use crate::failure::Failure;
+use itoa::Buffer;
+use std::io::{self, ErrorKind, Write};
+
+// How many bytes the output gets at once, or fewer.
+const ROOM: usize = 16_384;
+
+// How many bytes room is made for.
+const PIECE: usize = 128;
+
+// The numbers below 100 in two digits.
+const PAIRS: &[u8; 200] = b"00010203040506070809\
+10111213141516171819\
+20212223242526272829\
+30313233343536373839\
+40414243444546474849\
+50515253545556575859\
+60616263646566676869\
+70717273747576777879\
+80818283848586878889\
+90919293949596979899";
+
+/// The output failed.
+#[derive(Clone, Copy, Debug)]
+pub struct OutputFault;
+
+impl From<OutputFault> for Failure<'_> {
+    ghost from_gives = { λ _ e. e ≡ CannotWrite };
+
+    fn from(_fault: OutputFault) -> Self {
+        Failure::CannotWrite
+    }
+}
+
+// Eight hexadecimal digits, of all bytes at once: first the bits are spread, four to a byte, and then a byte above nine
+// goes on at the letters.
+fn hex_digits(number: u32) -> [u8; 8] {
+    let mut digits = u64::from(number);
+    digits = (digits | digits << 16) & 0x0000_ffff_0000_ffff;
+    digits = (digits | digits << 8) & 0x00ff_00ff_00ff_00ff;
+    digits = (digits | digits << 4) & 0x0f0f_0f0f_0f0f_0f0f;
+    let letters = (digits.wrapping_add(0x0606_0606_0606_0606) >> 4) & 0x0101_0101_0101_0101;
+    let to_letters = u64::from(b'a' - b'9' - 1);
+    digits
+        .wrapping_add(0x3030_3030_3030_3030)
+        .wrapping_add(letters.wrapping_mul(to_letters))
+        .to_be_bytes()
+}
+
+/// A text of many lines, which the output gets in long parts. What is put comes into room that `make_room` made. A list
+/// is printed in long parts since a write costs more than the bytes of a line.
+#[derive(Drop)]
+pub struct Listing<W: Write> {
+    out: W,
+    room: [u8; ROOM],
+    len: usize,
+}
+
+impl<W: Write> Listing<W> {
+    pub fn new(out: W) -> Listing<W> {
+        Listing {
+            out,
+            room: [0; ROOM],
+            len: 0,
+        }
+    }
+
+    #[inline(never)]
+    fn write_out(&mut self) -> Result<(), OutputFault>
+        ensures { OnOk result (self.new.len ≡ 0) }
+    {
+        // No more than all, which no clause says between two calls.
+        if self
+            .out
+            .write_all(&self.room[..self.len.min(ROOM)])
+            .is_err()
+        {
+            return Err(OutputFault);
+        }
+        self.len = 0;
+        Ok(())
+    }
+
+    /// Makes room for 128 bytes.
+    #[inline(always)]
+    pub fn make_room(&mut self) -> Result<(), OutputFault>
+        ensures { OnOk result (self.new.len + PIECE ≤ ROOM) }
+    {
+        if self.len > ROOM - PIECE {
+            return self.write_out();
+        }
+        Ok(())
+    }
+
+    /// Writes out what is left.
+    pub fn finish(&mut self) -> Result<(), OutputFault> {
+        self.write_out()?;
+        if self.out.flush().is_err() {
+            return Err(OutputFault);
+        }
+        Ok(())
+    }
+
+    #[inline(always)]
+    pub fn text(&mut self, text: &[u8])
+        requires { self.old.len + length text.now ≤ ROOM }
+        ensures { self.new.len ≡ self.old.len + length text.now }
+    {
+        let end = self.len + text.len();
+        for (place, byte) in self.room[self.len..end].iter_mut().zip(text) {
+            *place = *byte;
+        }
+        self.len = end;
+    }
+
+    #[inline(always)]
+    fn pair(&mut self, number: usize)
+        requires room { self.old.len + 2 ≤ ROOM }
+        requires below { number < 100 }
+        ensures { self.new.len ≡ self.old.len + 2 }
+    {
+        self.text(&[PAIRS[2 * number], PAIRS[2 * number + 1]]);
+    }
+
+    /// A number in decimal digits.
+    #[inline(always)]
+    pub fn decimal(&mut self, number: u64)
+        requires { self.old.len + 40 ≤ ROOM }
+        ensures { self.new.len ≤ self.old.len + 40 }
+    {
+        if number < 10 {
+            self.text(&[b'0' + number as u8]);
+        } else if number < 100 {
+            self.pair(number as usize);
+        } else if number < 1000 {
+            self.text(&[b'0' + (number / 100) as u8]);
+            self.pair((number % 100) as usize);
+        } else {
+            self.long_decimal(number);
+        }
+    }
+
+    #[inline(never)]
+    fn long_decimal(&mut self, number: u64)
+        requires { self.old.len + 40 ≤ ROOM }
+        ensures { self.new.len ≤ self.old.len + 40 }
+    {
+        let mut digits = Buffer::new();
+        self.text(digits.format(number).as_bytes());
+    }
+
+    /// An offset with its sign.
+    #[inline(always)]
+    pub fn offset(&mut self, offset: i64)
+        requires { self.old.len + 41 ≤ ROOM }
+        ensures { self.new.len ≤ self.old.len + 41 }
+    {
+        self.text(if offset < 0 { b"-" } else { b"+" });
+        self.decimal(offset.unsigned_abs());
+    }
+
+    #[inline(always)]
+    fn hex_without_zeros(&mut self, number: u32)
+        requires { self.old.len + 8 ≤ ROOM }
+        ensures { self.new.len ≤ self.old.len + 8 }
+    {
+        let zeros = (number.leading_zeros() / 4).min(7);
+        self.text(&hex_digits(number << (4 * zeros)));
+        self.len -= zeros as usize;
+    }
+
+    /// A number in hexadecimal digits, without leading zeros.
+    pub fn hex(&mut self, number: u64)
+        requires { self.old.len + 16 ≤ ROOM }
+        ensures { self.new.len ≤ self.old.len + 16 }
+    {
+        let high = (number >> 32) as u32;
+        let low = (number % 0x1_0000_0000) as u32;
+        if high > 0 {
+            self.hex_without_zeros(high);
+            self.text(&hex_digits(low));
+        } else {
+            self.hex_without_zeros(low);
+        }
+    }
+
+    /// An address or the end of a range, of up to 2 ^ 64, in hexadecimal digits, without leading zeros.
+    #[inline(always)]
+    pub fn address(&mut self, address: u128)
+        requires { self.old.len + 17 ≤ ROOM }
+        ensures { self.new.len ≤ self.old.len + 17 }
+    {
+        match u64::try_from(address) {
+            Ok(number) => self.hex(number),
+            Err(_) => self.text(b"10000000000000000"),
+        }
+    }
+}
+
+/// What is written comes behind what was put.
+impl<W: Write> Write for Listing<W> {
+    fn write(&mut self, bytes: &[u8]) -> io::Result<usize> {
+        if self.make_room().is_err() {
+            return Err(io::Error::from(ErrorKind::Other));
+        }
+        let part = &bytes[..bytes.len().min(PIECE)];
+        self.text(part);
+        Ok(part.len())
+    }
+
+    fn flush(&mut self) -> io::Result<()> {
+        if self.finish().is_err() {
+            return Err(io::Error::from(ErrorKind::Other));
+        }
+        Ok(())
+    }
+}
