@@ -2,3 +2,4 @@ pub mod Answers
 pub mod Checked
 pub mod Named
 pub mod Forms
+pub mod Windows

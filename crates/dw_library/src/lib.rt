@@ -8,3 +8,4 @@ mod answer;
 mod checking;
 mod forms;
 mod naming;
+mod windows;
