@@ -1,1 +1,2 @@
 mod WindowLaws
+mod Frames

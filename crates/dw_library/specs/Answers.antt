@@ -21,8 +21,8 @@ refused = 1
 abbrev pub out_of_memory : ℕ
 out_of_memory = 2
 
-abbrev pub bad_target : ℕ
-bad_target = 3
+abbrev pub bad_argument : ℕ
+bad_argument = 3
 
 abbrev pub too_short : ℕ
 too_short = 4

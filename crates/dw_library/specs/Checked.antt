@@ -8,7 +8,7 @@ use Rattle.dw_section.specs.Cut.{Piece}
 use Rattle.dw_section.specs.Pieces.{Pieces}
 use Rattle.dw_library.specs.declared.answer.Refused.{Refused}
 use Rattle.dw_library.specs.declared.answer.Counts.{Counts}
-use Rattle.dw_library.specs.Answers.{ok, refused, out_of_memory, bad_target, not_refused, told, no_entries}
+use Rattle.dw_library.specs.Answers.{ok, refused, out_of_memory, bad_argument, not_refused, told, no_entries}
 
 -- so many CIEs and FDEs
 abbrev pub HasCounts : Target → List ℕ → Counts → Type 0
@@ -16,7 +16,7 @@ HasCounts target s counts = (ps : List Piece) → Pieces target s ps → AreCoun
 
 -- the status, the counts and the refusal
 abbrev pub IsChecked : Option Target → List ℕ → ℕ → Counts → Refused → Type 0
-IsChecked None s status counts why = (status ≡ bad_target) × (counts ≡ no_entries) × (why ≡ not_refused)
+IsChecked None s status counts why = (status ≡ bad_argument) × (counts ≡ no_entries) × (why ≡ not_refused)
 IsChecked (Some target) s status counts why =
     ((status ≡ ok) × Accepted target s × HasCounts target s counts × (why ≡ not_refused))
     ⊎ ((status ≡ refused) × ((r : Refusal) × CheckFault target s r × (why ≡ told 1 r)) × (counts ≡ no_entries))

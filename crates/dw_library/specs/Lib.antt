@@ -3,3 +3,5 @@ pub mod Checked
 pub mod Named
 pub mod Forms
 pub mod Windows
+pub mod Registers
+pub mod Unwinding

@@ -11,8 +11,8 @@ pub(crate) const OK: u32 = 0;
 pub(crate) const REFUSED: u32 = 1;
 /// A request for memory was refused.
 pub(crate) const OUT_OF_MEMORY: u32 = 2;
-/// The address size is not 4 or 8, or the byte order is not 0 or 1.
-pub(crate) const BAD_TARGET: u32 = 3;
+/// The address size is not 4 or 8, or the byte order, or what unset registers are taken as, is not 0 or 1.
+pub(crate) const BAD_ARGUMENT: u32 = 3;
 /// The room that was lent is too short; the call says how much it needs.
 pub(crate) const TOO_SHORT: u32 = 4;
 

@@ -7,7 +7,7 @@ ghost use Rattle.dw_section.specs.Faults.{Refuses};
 ghost use Rattle.dw_library.specs.Answers.{target_of};
 ghost use Rattle.dw_library.specs.Checked.{HasCounts, IsChecked};
 
-use crate::answer::{BAD_TARGET, Counts, OK, OUT_OF_MEMORY, REFUSED, Refused, not_refused, target_of, told};
+use crate::answer::{BAD_ARGUMENT, Counts, OK, OUT_OF_MEMORY, REFUSED, Refused, not_refused, target_of, told};
 use dw_num::Target;
 use dw_section::{SectionError, Table, check};
 use std::alloc::Global;
@@ -47,7 +47,7 @@ pub extern "C" fn dwframe_check(
     *counts = Counts { cies: 0, fdes: 0 };
     *refused = not_refused();
     let Some(target) = target_of(address_size, byte_order) else {
-        return BAD_TARGET;
+        return BAD_ARGUMENT;
     };
     match counted(alloc, bytes, target) {
         Ok(found) => {

@@ -7,7 +7,7 @@ ghost use Rattle.dw_library.specs.Answers.{target_of};
 ghost use Rattle.dw_library.specs.Forms.{IsCompared, IsNormalised, IsPlaced, section_of};
 
 use crate::answer::{
-    BAD_TARGET, OK, OUT_OF_MEMORY, REFUSED, Refused, TOO_SHORT, not_refused, target_of, told,
+    BAD_ARGUMENT, OK, OUT_OF_MEMORY, REFUSED, Refused, TOO_SHORT, not_refused, target_of, told,
 };
 use dw_num::Target;
 use dw_normal::{NormalError, SameError, Which, normalise, same};
@@ -61,7 +61,7 @@ pub extern "C" fn dwframe_normalise(
     *needed = 0;
     *refused = not_refused();
     let Some(target) = target_of(address_size, byte_order) else {
-        return BAD_TARGET;
+        return BAD_ARGUMENT;
     };
     match put_normal(alloc, bytes, target, out, needed) {
         Ok(status) => status,
@@ -98,7 +98,7 @@ pub extern "C" fn dwframe_same(
     *alike = 0;
     *refused = not_refused();
     let Some(target) = target_of(address_size, byte_order) else {
-        return BAD_TARGET;
+        return BAD_ARGUMENT;
     };
     match same(alloc, first, second, target) {
         Ok(same) => {

@@ -8,4 +8,6 @@ mod answer;
 mod checking;
 mod forms;
 mod naming;
+mod registers;
+mod unwinding;
 mod windows;
