@@ -27,7 +27,7 @@ static int fail(int status, const char *text)
 static int tell(dwframe_status status, const dwframe_refusal *refusal, int two)
 {
     char name[DWFRAME_NAME_SIZE] = "";
-    if (status == DWFRAME_BAD_TARGET)
+    if (status == DWFRAME_BAD_ARGUMENT)
         return fail(3, "bad address size or byte order");
     if (status != DWFRAME_REFUSED)
         return fail(5, "out of memory");

@@ -45,10 +45,21 @@ enum {
     DWFRAME_REFUSED = 1,
     /* malloc or realloc gave no memory. */
     DWFRAME_OUT_OF_MEMORY = 2,
-    /* The address size is not 4 or 8, or the byte order is not DWFRAME_LITTLE or DWFRAME_BIG. */
-    DWFRAME_BAD_TARGET = 3,
+    /* An address size other than 4 and 8, a byte order other than DWFRAME_LITTLE and DWFRAME_BIG, or another `unset` than
+       DWFRAME_UNCHANGED and DWFRAME_UNDEFINED. */
+    DWFRAME_BAD_ARGUMENT = 3,
     /* The room that is lent is too short; the call tells how much it needs. */
-    DWFRAME_TOO_SHORT = 4
+    DWFRAME_TOO_SHORT = 4,
+    /* No FDE covers the address. */
+    DWFRAME_NO_FDE = 5,
+    /* An expression has no value; the fault says why. */
+    DWFRAME_NO_VALUE = 6,
+    /* A register is saved in memory that no window has, or that passes the end of the address space. */
+    DWFRAME_UNREADABLE = 7,
+    /* A register that is asked for is not given. */
+    DWFRAME_NO_REGISTER = 8,
+    /* The memory failed. Windows never do. */
+    DWFRAME_DEVICE = 9
 };
 
 /* The order of the bytes of a number. */
@@ -100,6 +111,75 @@ dwframe_status dwframe_normalise(const uint8_t *bytes, size_t len, uint8_t addre
  */
 dwframe_status dwframe_same(const uint8_t *first, size_t first_len, const uint8_t *second, size_t second_len,
     uint8_t address_size, uint8_t byte_order, uint32_t *alike, dwframe_refusal *refusal) DWFRAME_NONNULL;
+
+/* What a register is taken as that no instruction has set: the ABI decides. */
+enum { DWFRAME_UNCHANGED = 0, DWFRAME_UNDEFINED = 1 };
+
+/* Where a machine stopped, and what is asked of it. */
+typedef struct dwframe_stop {
+    /* The address that is looked up. Of a caller's frame it is the return address minus one, which is in the call. */
+    uint64_t pc;
+    /* How many steps each expression may take. */
+    uint64_t steps;
+    uint8_t address_size;
+    uint8_t byte_order;
+    uint8_t unset;
+} dwframe_stop;
+
+/* A register: its DWARF number, 1 where its value is known and 0 where it is not, and the value. */
+typedef struct dwframe_register {
+    uint16_t number;
+    uint16_t known;
+    uint64_t value;
+} dwframe_register;
+
+/* `len` bytes of the machine's memory from `address` on. They stand in one buffer, from its byte `place` on. */
+typedef struct dwframe_window {
+    uint64_t address;
+    uint64_t place;
+    uint64_t len;
+} dwframe_window;
+
+/* A caller's frame. All are 0 where there is none. */
+typedef struct dwframe_frame {
+    /* The canonical frame address. */
+    uint64_t cfa;
+    /* How many registers it has. */
+    size_t count;
+    /* The number of the register that holds the return address. */
+    uint32_t return_register;
+} dwframe_frame;
+
+/* The column of the CFA, beside the numbers of registers. */
+#define DWFRAME_CFA 65536
+
+/* What is wrong in a column. All are 0 where nothing is. */
+typedef struct dwframe_fault {
+    /* A register's number, or DWFRAME_CFA. */
+    uint32_t column;
+    /* Of an expression: 1 the stack has too few entries, 2 division by zero, 3 a register is not given, 4 a byte of memory is
+       missing, 5 the memory failed, 6 the steps are taken, 7 nothing is left on the stack, 8 a location and no value, 9 no frame
+       base, 10 no CFA, 11 no object address, 12 a piece is missing. */
+    uint32_t kind;
+    /* Of an expression: which operation, counted from 0, or how many there are for a fault at the end. */
+    uint64_t index;
+} dwframe_fault;
+
+/*
+ * The caller's frame of a machine that stopped, by the rules of a section for the address `stop->pc`. The section is judged
+ * first, as dwframe_check does.
+ *
+ * Of registers with one number the first that is known counts. A byte of memory is that of the first window that covers its
+ * address; windows may come in any order, and what lies past the buffer's end is not there.
+ *
+ * With DWFRAME_OK the first `frame->count` of the `room` registers at `out` are the caller's, ascending: each that is given,
+ * that the rules name, or that holds the return address. What leads from one frame to the next is the ABI's: the stack pointer is
+ * the CFA, and the pc is the value of the return register. With DWFRAME_TOO_SHORT the frame is told, and `out` stays; with any
+ * other status `out` stays, and the refusal or the fault says why.
+ */
+dwframe_status dwframe_unwind(const uint8_t *bytes, size_t len, const dwframe_stop *stop, const dwframe_register *registers,
+    size_t register_count, const dwframe_window *windows, size_t window_count, const uint8_t *memory, size_t memory_len,
+    dwframe_register *out, size_t room, dwframe_frame *frame, dwframe_refusal *refusal, dwframe_fault *fault) DWFRAME_NONNULL;
 
 #ifdef __cplusplus
 }

@@ -100,11 +100,94 @@ pub enum Failure {
     Refused(Refusal),
     /// A request for memory was refused.
     OutOfMemory,
-    /// The room that is lent is too short; so many bytes are needed.
+    /// The room that is lent is too short.
     TooShort {
-        /// How many bytes are needed.
+        /// How many bytes, or registers, are needed.
         needed: usize,
     },
+    /// No FDE covers the address.
+    NoFde,
+    /// A column has no value.
+    Fault(Fault),
+}
+
+/// A column of a row.
+#[derive(Clone, Copy, Debug, PartialEq, Eq)]
+pub enum Column {
+    /// The canonical frame address.
+    Cfa,
+    /// A register.
+    Register(u16),
+}
+
+impl fmt::Display for Column {
+    fn fmt(&self, f: &mut fmt::Formatter<'_>) -> fmt::Result {
+        match self {
+            Column::Cfa => write!(f, "cfa"),
+            Column::Register(register) => write!(f, "r{register}"),
+        }
+    }
+}
+
+/// Why a column has no value.
+#[derive(Clone, Copy, Debug, PartialEq, Eq)]
+pub enum Fault {
+    /// Its expression has none.
+    NoValue {
+        /// What is wrong.
+        kind: Kind,
+        /// Which operation, counted from 0, or how many there are for a fault at the end.
+        index: u64,
+        /// The column.
+        column: Column,
+    },
+    /// It is saved in memory that no window has, or that passes the end of the address space.
+    Unreadable {
+        /// The column.
+        column: Column,
+    },
+    /// A register that is asked for is not given.
+    NoRegister {
+        /// The column.
+        column: Column,
+    },
+}
+
+impl fmt::Display for Fault {
+    fn fmt(&self, f: &mut fmt::Formatter<'_>) -> fmt::Result {
+        match self {
+            Fault::NoValue { kind, index, column } => write!(f, "{kind:?} at {index} in {column}"),
+            Fault::Unreadable { column } => write!(f, "Unreadable in {column}"),
+            Fault::NoRegister { column } => write!(f, "NoRegister in {column}"),
+        }
+    }
+}
+
+/// Why an expression has no value (DWARF 5, 2.5).
+#[derive(Clone, Copy, Debug, PartialEq, Eq)]
+pub enum Kind {
+    /// The stack has too few entries.
+    StackUnderflow,
+    /// Division by zero.
+    DivideByZero,
+    /// A register is not given.
+    NoRegister,
+    /// A byte of memory is missing.
+    Unreadable,
+    /// The steps are taken.
+    StepLimit,
+    /// Nothing is left on the stack.
+    EmptyResult,
+    /// A location and no value.
+    NotAValue,
+    /// The frame base is not known.
+    NoFrameBase,
+    /// The canonical frame address is not known.
+    NoCfa,
+    /// The object's address is not known.
+    NoObject,
+    /// A piece is missing.
+    MissingPiece,
 }
 
 impl fmt::Display for Failure {
@@ -112,7 +195,9 @@ impl fmt::Display for Failure {
         match self {
             Failure::Refused(refusal) => write!(f, "refused: {refusal}"),
             Failure::OutOfMemory => write!(f, "out of memory"),
-            Failure::TooShort { needed } => write!(f, "{needed} bytes are needed"),
+            Failure::TooShort { needed } => write!(f, "room for {needed} is needed"),
+            Failure::NoFde => write!(f, "fault: NoFde"),
+            Failure::Fault(fault) => write!(f, "fault: {fault}"),
         }
     }
 }
@@ -181,6 +266,163 @@ impl<'a> Section<'a> {
     }
 }
 
+/// What a register is taken as that no instruction has set: the ABI decides.
+#[derive(Clone, Copy, Debug, PartialEq, Eq)]
+pub enum Unset {
+    /// It has not been changed.
+    Unchanged,
+    /// It has no value.
+    Undefined,
+}
+
+/// A register by its DWARF number, with its value where that is known.
+#[repr(C)]
+#[derive(Clone, Copy, Debug, Default, PartialEq, Eq)]
+pub struct Register {
+    number: u16,
+    known: u16,
+    value: u64,
+}
+
+impl Register {
+    /// A register that holds a value.
+    pub fn new(number: u16, value: u64) -> Register {
+        Register { number, known: 1, value }
+    }
+
+    /// Its number.
+    pub fn number(&self) -> u16 {
+        self.number
+    }
+
+    /// Its value, where that is known.
+    pub fn value(&self) -> Option<u64> {
+        (self.known != 0).then_some(self.value)
+    }
+}
+
+/// `len` bytes of a machine's memory from `address` on, which stand in a buffer from its byte `place` on.
+#[repr(C)]
+#[derive(Clone, Copy, Debug, PartialEq, Eq)]
+pub struct Window {
+    /// The first address.
+    pub address: u64,
+    /// Where its byte stands.
+    pub place: u64,
+    /// How many bytes.
+    pub len: u64,
+}
+
+/// A machine that stopped.
+#[derive(Clone, Copy, Debug)]
+pub struct Machine<'a> {
+    /// The address that is looked up. Of a caller's frame it is the return address minus one, which is in the call.
+    pub pc: u64,
+    /// Its registers. Of those with one number the first that is known counts.
+    pub registers: &'a [Register],
+    /// What its memory holds: a byte is that of the first window that covers its address.
+    pub windows: &'a [Window],
+    /// The bytes of all windows.
+    pub memory: &'a [u8],
+}
+
+/// A caller's frame.
+#[derive(Clone, Copy, Debug, PartialEq, Eq)]
+pub struct Frame<'a> {
+    /// The canonical frame address.
+    pub cfa: u64,
+    /// The number of the register that holds the return address.
+    pub return_register: u16,
+    /// The registers, ascending.
+    pub registers: &'a [Register],
+}
+
+impl Frame<'_> {
+    /// The return address, where it is known.
+    pub fn return_address(&self) -> Option<u64> {
+        let register = self.registers.iter().find(|register| register.number == self.return_register)?;
+        register.value()
+    }
+}
+
+impl Section<'_> {
+    /// The caller's frame of a machine that stopped, by the section's rules for its pc. Each expression may take `steps` steps.
+    /// The registers are written to `out`, which stays where they do not fit or where there is no frame.
+    pub fn unwind<'o>(
+        &self,
+        machine: &Machine<'_>,
+        unset: Unset,
+        steps: u64,
+        out: &'o mut [Register],
+    ) -> Result<Frame<'o>, Failure> {
+        let (address_size, byte_order) = self.target.numbers();
+        let unset = match unset {
+            Unset::Unchanged => 0,
+            Unset::Undefined => 1,
+        };
+        let stop = RawStop { pc: machine.pc, steps, address_size, byte_order, unset };
+        let (registers, windows, memory) = (machine.registers, machine.windows, machine.memory);
+        let (mut frame, mut refusal, mut fault) = Default::default();
+        // SAFETY: all slices and structs are lent for the call, and those that are written are ours alone.
+        let status = unsafe {
+            dwframe_unwind(
+                self.bytes.as_ptr(),
+                self.bytes.len(),
+                &stop,
+                registers.as_ptr(),
+                registers.len(),
+                windows.as_ptr(),
+                windows.len(),
+                memory.as_ptr(),
+                memory.len(),
+                out.as_mut_ptr(),
+                out.len(),
+                &mut frame,
+                &mut refusal,
+                &mut fault,
+            )
+        };
+        let RawFrame { cfa, count, return_register } = frame;
+        if let Some(fault) = fault_of(status, fault) {
+            return Err(fault);
+        }
+        answer(status, refusal, count)?;
+        Ok(Frame { cfa, return_register: return_register as u16, registers: &out[..count] })
+    }
+}
+
+// What a status of a frame says.
+fn fault_of(status: u32, fault: RawFault) -> Option<Failure> {
+    let column = match u16::try_from(fault.column) {
+        Ok(register) => Column::Register(register),
+        Err(_) => Column::Cfa,
+    };
+    Some(match status {
+        5 => Failure::NoFde,
+        6 => Failure::Fault(Fault::NoValue { kind: kind_of(fault.kind), index: fault.index, column }),
+        7 => Failure::Fault(Fault::Unreadable { column }),
+        8 => Failure::Fault(Fault::NoRegister { column }),
+        _ => return None,
+    })
+}
+
+// 5 is a failure of the memory, which windows do not have.
+fn kind_of(kind: u32) -> Kind {
+    match kind {
+        1 => Kind::StackUnderflow,
+        2 => Kind::DivideByZero,
+        3 => Kind::NoRegister,
+        4 | 5 => Kind::Unreadable,
+        6 => Kind::StepLimit,
+        7 => Kind::EmptyResult,
+        8 => Kind::NotAValue,
+        9 => Kind::NoFrameBase,
+        10 => Kind::NoCfa,
+        11 => Kind::NoObject,
+        _ => Kind::MissingPiece,
+    }
+}
+
 /// Whether two sections for one machine say the same: the same FDEs with the same return registers, and the same rules at each
 /// address that they cover.
 pub fn same(first: &[u8], second: &[u8], target: Target) -> Result<bool, Failure> {
@@ -228,6 +470,31 @@ struct RawCounts {
     fdes: u64,
 }
 
+#[repr(C)]
+struct RawStop {
+    pc: u64,
+    steps: u64,
+    address_size: u8,
+    byte_order: u8,
+    unset: u8,
+}
+
+#[repr(C)]
+#[derive(Clone, Copy, Default)]
+struct RawFrame {
+    cfa: u64,
+    count: usize,
+    return_register: u32,
+}
+
+#[repr(C)]
+#[derive(Clone, Copy, Default)]
+struct RawFault {
+    column: u32,
+    kind: u32,
+    index: u64,
+}
+
 unsafe extern "C" {
     fn dwframe_check(
         bytes: *const u8,
@@ -257,5 +524,21 @@ unsafe extern "C" {
         byte_order: u8,
         alike: *mut u32,
         refusal: *mut RawRefusal,
+    ) -> u32;
+    fn dwframe_unwind(
+        bytes: *const u8,
+        len: usize,
+        stop: *const RawStop,
+        registers: *const Register,
+        register_count: usize,
+        windows: *const Window,
+        window_count: usize,
+        memory: *const u8,
+        memory_len: usize,
+        out: *mut Register,
+        room: usize,
+        frame: *mut RawFrame,
+        refusal: *mut RawRefusal,
+        fault: *mut RawFault,
     ) -> u32;
 }

@@ -1,5 +1,5 @@
 -- A frame or why there is none, as the functions over a table answer.
-use Rattle.std.proofs.Common.{◌≡◌, ◌⊎◌, inl, inr, Result, Ok, Err, IfErr, refl}
+use Rattle.std.proofs.Common.{◌≡◌, ◌⊎◌, inl, inr, Result, Ok, Err, IfErr}
 use Rattle.std.specs.Prelude.{IsErrAnd}
 use Rattle.dw_unwind.specs.declared.frame.Frame.{Frame as CallerFrame}
 use Rattle.dw_unwind.specs.declared.frame.UnwindError.{UnwindError}

@@ -2,7 +2,6 @@
 use Rattle.std.specs.Prelude.{ℕ, Option, Some, None, nat_eq, if◌then◌else◌}
 use Rattle.dw_num.specs.Codes.{number_of}
 use Rattle.dw_num.specs.declared.refusal.Refusal.{Refusal}
-use Rattle.dw_num.specs.declared.target.Order.{Order}
 use Rattle.dw_num.specs.declared.target.Order.TheVariants.{Little, Big}
 use Rattle.dw_num.specs.declared.target.Size.{Size}
 use Rattle.dw_num.specs.declared.target.Size.TheVariants.{Four, Eight}

@@ -5,7 +5,7 @@ use Rattle.dw_num.specs.declared.target.Target.{Target}
 use Rattle.dw_section.specs.Accepted.{Accepted}
 use Rattle.dw_section.specs.Meanings.{SameMeaning}
 use Rattle.dw_canon.specs.Normal.{IsNormalForm}
-use Rattle.dw_normal.specs.Answers.{NormalFault, SameFault, IsWithin}
+use Rattle.dw_normal.specs.Answers.{NormalFault, SameFault}
 use Rattle.dw_normal.specs.declared.error.SameError.TheVariants as same_error
 use Rattle.dw_normal.specs.declared.error.Which.{Which}
 use Rattle.dw_normal.specs.declared.error.Which.TheVariants.{First, Second}

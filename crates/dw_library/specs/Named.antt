@@ -1,5 +1,5 @@
 -- What a caller in C is told of a refusal's code.
-use Rattle.std.specs.Prelude.{◌≡◌, ◌⊎◌, ◌+◌, ◌<◌, ◌≤◌, ℕ, List, [], ◌∷◌, ◌++◌, length, take, drop}
+use Rattle.std.specs.Prelude.{◌≡◌, ◌⊎◌, ◌+◌, ◌<◌, ◌≤◌, ℕ, List, ◌∷◌, ◌++◌, length, drop}
 use Rattle.dw_num.specs.Codes.{number_of, name_of}
 use Rattle.dw_num.specs.declared.refusal.Code.{Code}
 

@@ -23,7 +23,7 @@ use Rattle.dw_library.specs.declared.unwinding.Held.{Held}
 use Rattle.dw_library.specs.declared.unwinding.NoFrame.{NoFrame}
 use Rattle.dw_library.specs.declared.unwinding.NoFrame.TheVariants.{Section, Frame as NoFrameOf}
 use Rattle.dw_section.specs.Faults.{Refuses}
-use Rattle.dw_library.specs.Answers.{refused, out_of_memory, bad_argument, not_refused, told, target_of}
+use Rattle.dw_library.specs.Answers.{refused, out_of_memory, bad_argument, not_refused, told}
 use Rattle.dw_library.specs.Registers.{given_in, told_register, AreTold}
 use Rattle.dw_library.specs.Windows.{byte_among}
 
@@ -106,7 +106,7 @@ IsUnwound None policy s stop m old answer = answer ≡ says bad_argument old
 IsUnwound (Some target) None s stop m old answer = answer ≡ says bad_argument old
 IsUnwound (Some target) (Some policy) s stop m old answer =
     (((f : CallerFrame) × IsFrame target policy s stop m (Ok f) × (answer.frame ≡ told_frame f) × AreTold (map told_register f.registers) old answer.status answer.registers)
-        × (answer.refusal ≡ not_refused) × (answer.fault ≡ no_fault))
+    × (answer.refusal ≡ not_refused) × (answer.fault ≡ no_fault))
     ⊎ ((r : Refusal) × CheckFault target s r × (answer ≡ record { status = refused; registers = old; frame = no_frame; refusal = told 1 r; fault = no_fault }))
     ⊎ ((e : UnwindError) × IsFrame target policy s stop m (Err e) × (answer ≡ record { status = status_of e; registers = old; frame = no_frame; refusal = not_refused; fault = told_fault e }))
     ⊎ (answer ≡ says out_of_memory old)

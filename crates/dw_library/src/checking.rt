@@ -7,7 +7,9 @@ ghost use Rattle.dw_section.specs.Faults.{Refuses};
 ghost use Rattle.dw_library.specs.Answers.{target_of};
 ghost use Rattle.dw_library.specs.Checked.{HasCounts, IsChecked};
 
-use crate::answer::{BAD_ARGUMENT, Counts, OK, OUT_OF_MEMORY, REFUSED, Refused, not_refused, target_of, told};
+use crate::answer::{
+    BAD_ARGUMENT, Counts, OK, OUT_OF_MEMORY, REFUSED, Refused, not_refused, target_of, told,
+};
 use dw_num::Target;
 use dw_section::{SectionError, Table, check};
 use std::alloc::Global;

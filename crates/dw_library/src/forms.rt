@@ -9,8 +9,8 @@ ghost use Rattle.dw_library.specs.Forms.{IsCompared, IsNormalised, IsPlaced, sec
 use crate::answer::{
     BAD_ARGUMENT, OK, OUT_OF_MEMORY, REFUSED, Refused, TOO_SHORT, not_refused, target_of, told,
 };
-use dw_num::Target;
 use dw_normal::{NormalError, SameError, Which, normalise, same};
+use dw_num::Target;
 use std::alloc::Global;
 
 // The most bytes of a normal form.

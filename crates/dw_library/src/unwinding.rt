@@ -11,9 +11,7 @@ ghost use Rattle.dw_library.specs.declared.unwinding.NoFrame.TheVariants as TheN
 ghost use Rattle.dw_unwind.specs.declared.frame.Frame.{Frame as TheCallerFrame};
 ghost use Rattle.dw_library.specs.Windows.{byte_among};
 
-use crate::answer::{
-    BAD_ARGUMENT, OUT_OF_MEMORY, REFUSED, Refused, not_refused, target_of, told,
-};
+use crate::answer::{BAD_ARGUMENT, OUT_OF_MEMORY, REFUSED, Refused, not_refused, target_of, told};
 use crate::registers::{Register, put_registers, registers_of};
 use crate::windows::{Window, Windows};
 use dw_eval::Registers;
@@ -161,7 +159,6 @@ fn told_frame(frame: &CallerFrame) -> Frame
     }
 }
 
-
 // The frame by a table, or want of memory.
 fn frame_in(
     alloc: Global,
@@ -174,7 +171,16 @@ fn frame_in(
     ensures { (target : TheTarget) (s : List ℕ) → table.now ≡ record { target = target; bytes = s } → (result ≡ Err TheUnwindError.OutOfMemory) ⊎ Unwound target s stop.now.pc (stopped target registers.now (byte_among memory.old.bytes.now memory.old.windows.now)) default stop.now.steps result }
 {
     let (pc, steps) = (stop.pc, stop.steps);
-    unwind(alloc, table, table.target(), pc, registers, memory, default, steps)
+    unwind(
+        alloc,
+        table,
+        table.target(),
+        pc,
+        registers,
+        memory,
+        default,
+        steps,
+    )
 }
 
 // Why there is no frame.

@@ -1,4 +1,4 @@
-use Rattle.std.proofs.Common.{Result, Ok, Err}
+use Rattle.std.proofs.Common.{Err}
 use Rattle.dw_unwind.specs.Unwound.{Unwound, stopped}
 use Rattle.dw_library.specs.Unwinding.{IsFrame, Fails, held_in}
 use Rattle.dw_library.specs.Windows.{byte_among}
@@ -22,8 +22,8 @@ returns-clause-found c =
     let values = c.in_ok-registers.registers in
     let is = c.in_ok-frame_in.ensures c.args.target c.args.bytes.now c.in_ok-table.ensures.found.0 in
     record {
-        accepted = c.in_ok-table.ensures.found.1;
-        values = values;
-        are = c.in_ok-registers.ensures;
-        is = found_is (Unwound c.args.target c.args.bytes.now c.args.stop.now.pc (stopped c.args.target values (byte_among m.memory m.windows)) c.args.default c.args.stop.now.steps) c.in_ok-frame_in.field-0 is
+      accepted = c.in_ok-table.ensures.found.1;
+      values = values;
+      are = c.in_ok-registers.ensures;
+      is = found_is (Unwound c.args.target c.args.bytes.now c.args.stop.now.pc (stopped c.args.target values (byte_among m.memory m.windows)) c.args.default c.args.stop.now.steps) c.in_ok-frame_in.field-0 is;
     }

@@ -1,4 +1,4 @@
-use Rattle.std.proofs.Common.{◌+◌, ℕ, length, arith, sym}
+use Rattle.std.proofs.Common.{length, arith, sym}
 use Rattle.dw_library.specs.Windows.{byte_among}
 use Rattle.dw_library.proofs.WindowLaws.{bytes_missing, bytes_all}
 use Rattle.dw_library.proofs.windows.fill.Goals as goal
