@@ -26,7 +26,7 @@ fn number(text: &str) -> Option<u64> {
 impl Dump {
     fn read(text: &str) -> Option<Dump> {
         let mut dump = Dump::default();
-        for line in text.lines() {
+        for line in text.lines().filter(|line| !line.is_empty() && !line.starts_with('#')) {
             let (name, rest) = line.split_once(' ')?;
             match name {
                 "pc" => dump.pc = Some(number(rest)?),
