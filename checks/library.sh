@@ -45,7 +45,7 @@ told() {
     echo "status $status" >>"$out"
 }
 
-# as_command CALL EXAMPLE WORDS.. -- WORDS..: the words of the command, and those of each build of the example.
+# as_command EXAMPLE WORDS.. -- WORDS..: the words of the command, and those of each build of the example.
 as_command() {
     example=$1
     shift
@@ -62,7 +62,7 @@ as_command() {
 
 compared=0
 [ $# -gt 0 ] || set -- "$root/examples"
-for target in $(find "$@" -name '*.target' | sort); do
+for target in $(find -L "$@" -name '*.target' | sort); do
     section=${target%.target}.bin
     read -r size order <"$target"
     on="--size $size --order $order"
@@ -74,7 +74,7 @@ for target in $(find "$@" -name '*.target' | sort); do
         as_command library same $on "$section" "$file" -- same "$size" "$order" "$section" "$file"
         as_command library same $on "$file" "$section" -- same "$size" "$order" "$file" "$section"
     done
-    for dump in "$root"/examples/*.dump; do
+    for dump in $(grep -l '^pc ' "$root"/examples/*.dump); do
         as_command frames unwind $on --default same "$section" "$dump" -- "$size" "$order" "$section" "$dump"
     done
 done
