@@ -18,7 +18,7 @@ ITEM = re.compile(
     r"^(?:(?:abbrev|unfoldable|opaque|pub|data|record)\s+)+([^\s:({]+)"
     r"|^  (?:pub\s+)?(?:abbrev|unfoldable|opaque|data|record)\s+(?:pub\s+)?([^\s:({]+)"
 )
-FN = re.compile(r"^( *)pub (?:const )?fn (\w+)(.*?)^\1[{}]", re.M | re.S)
+FN = re.compile(r"^( *)pub (?:const |extern \"C\" )?fn (\w+)(.*?)^\1[{}]", re.M | re.S)
 OWNER = re.compile(r"^(?:impl(?:<[^>]*>)? (?:[\w:<>', ]+ for )?(\w+)|pub trait (\w+))", re.M)
 MODEL = re.compile(r"^impl(?:<[^>]*>)? (?:Model|Iterator) for (\w+).*?^\}", re.M | re.S)
 # Of a model only the type of its value is read: how private fields keep that value changes nothing for a caller.

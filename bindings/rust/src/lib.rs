@@ -1,0 +1,544 @@
+//! The proved reader of DWARF call frame information: sections `.debug_frame` (DWARF 5, 6.4.1).
+//!
+//! The functions here are safe, and keep what the library for C asks of its callers (`include/dwframe.h`): slices are never
+//! null, do not change while they are lent, and do not overlap one that is written to. They need `malloc`, `realloc` and `free`
+//! of the program, and neither `std` nor `alloc`.
+#![no_std]
+#![warn(missing_docs)]
+
+use core::error::Error;
+use core::fmt;
+use core::str;
+
+/// The size of an address in bytes.
+#[derive(Clone, Copy, Debug, PartialEq, Eq)]
+pub enum Size {
+    /// 32 bits.
+    Four,
+    /// 64 bits.
+    Eight,
+}
+
+/// The order of the bytes of a number.
+#[derive(Clone, Copy, Debug, PartialEq, Eq)]
+pub enum Order {
+    /// The least significant byte first.
+    Little,
+    /// The most significant byte first.
+    Big,
+}
+
+/// The machine that a section is for.
+#[derive(Clone, Copy, Debug, PartialEq, Eq)]
+pub struct Target {
+    /// The size of an address.
+    pub size: Size,
+    /// The order of bytes.
+    pub order: Order,
+}
+
+impl Target {
+    fn numbers(self) -> (u8, u8) {
+        let size = match self.size {
+            Size::Four => 4,
+            Size::Eight => 8,
+        };
+        let order = match self.order {
+            Order::Little => 0,
+            Order::Big => 1,
+        };
+        (size, order)
+    }
+}
+
+/// Which of two sections.
+#[derive(Clone, Copy, Debug, PartialEq, Eq)]
+pub enum Which {
+    /// The first, or the only one.
+    First,
+    /// The second.
+    Second,
+}
+
+/// Why a section is refused, and where.
+#[derive(Clone, Copy, PartialEq, Eq)]
+pub struct Refusal {
+    /// The number of the code, 1 to 27.
+    pub code: u32,
+    /// Which section is refused.
+    pub which: Which,
+    /// The place of the first bad byte.
+    pub at: u64,
+}
+
+impl Refusal {
+    // The names are letters of ASCII and shorter than the room.
+    fn with_name<T>(&self, use_name: impl FnOnce(&str) -> T) -> T {
+        let mut room = [0; NAME_SIZE];
+        // SAFETY: the pointer is to so many bytes, which nothing else uses.
+        let len = unsafe { dwframe_refusal_name(self.code, room.as_mut_ptr(), room.len()) };
+        use_name(room.get(..len).and_then(|name| str::from_utf8(name).ok()).unwrap_or("unknown"))
+    }
+}
+
+impl fmt::Display for Refusal {
+    fn fmt(&self, f: &mut fmt::Formatter<'_>) -> fmt::Result {
+        self.with_name(|name| write!(f, "{name} at {:#x}", self.at))
+    }
+}
+
+impl fmt::Debug for Refusal {
+    fn fmt(&self, f: &mut fmt::Formatter<'_>) -> fmt::Result {
+        fmt::Display::fmt(self, f)
+    }
+}
+
+/// Why a call has no answer.
+#[derive(Clone, Copy, Debug, PartialEq, Eq)]
+pub enum Failure {
+    /// A section is refused.
+    Refused(Refusal),
+    /// A request for memory was refused.
+    OutOfMemory,
+    /// The room that is lent is too short.
+    TooShort {
+        /// How many bytes, or registers, are needed.
+        needed: usize,
+    },
+    /// No FDE covers the address.
+    NoFde,
+    /// A column has no value.
+    Fault(Fault),
+}
+
+/// A column of a row.
+#[derive(Clone, Copy, Debug, PartialEq, Eq)]
+pub enum Column {
+    /// The canonical frame address.
+    Cfa,
+    /// A register.
+    Register(u16),
+}
+
+impl fmt::Display for Column {
+    fn fmt(&self, f: &mut fmt::Formatter<'_>) -> fmt::Result {
+        match self {
+            Column::Cfa => write!(f, "cfa"),
+            Column::Register(register) => write!(f, "r{register}"),
+        }
+    }
+}
+
+/// Why a column has no value.
+#[derive(Clone, Copy, Debug, PartialEq, Eq)]
+pub enum Fault {
+    /// Its expression has none.
+    NoValue {
+        /// What is wrong.
+        kind: Kind,
+        /// Which operation, counted from 0, or how many there are for a fault at the end.
+        index: u64,
+        /// The column.
+        column: Column,
+    },
+    /// It is saved in memory that no window has, or that passes the end of the address space.
+    Unreadable {
+        /// The column.
+        column: Column,
+    },
+    /// A register that is asked for is not given.
+    NoRegister {
+        /// The column.
+        column: Column,
+    },
+}
+
+impl fmt::Display for Fault {
+    fn fmt(&self, f: &mut fmt::Formatter<'_>) -> fmt::Result {
+        match self {
+            Fault::NoValue { kind, index, column } => write!(f, "{kind:?} at {index} in {column}"),
+            Fault::Unreadable { column } => write!(f, "Unreadable in {column}"),
+            Fault::NoRegister { column } => write!(f, "NoRegister in {column}"),
+        }
+    }
+}
+
+/// Why an expression has no value (DWARF 5, 2.5).
+#[derive(Clone, Copy, Debug, PartialEq, Eq)]
+pub enum Kind {
+    /// The stack has too few entries.
+    StackUnderflow,
+    /// Division by zero.
+    DivideByZero,
+    /// A register is not given.
+    NoRegister,
+    /// A byte of memory is missing.
+    Unreadable,
+    /// The steps are taken.
+    StepLimit,
+    /// Nothing is left on the stack.
+    EmptyResult,
+    /// A location and no value.
+    NotAValue,
+    /// The frame base is not known.
+    NoFrameBase,
+    /// The canonical frame address is not known.
+    NoCfa,
+    /// The object's address is not known.
+    NoObject,
+    /// A piece is missing.
+    MissingPiece,
+}
+
+impl fmt::Display for Failure {
+    fn fmt(&self, f: &mut fmt::Formatter<'_>) -> fmt::Result {
+        match self {
+            Failure::Refused(refusal) => write!(f, "refused: {refusal}"),
+            Failure::OutOfMemory => write!(f, "out of memory"),
+            Failure::TooShort { needed } => write!(f, "room for {needed} is needed"),
+            Failure::NoFde => write!(f, "fault: NoFde"),
+            Failure::Fault(fault) => write!(f, "fault: {fault}"),
+        }
+    }
+}
+
+impl Error for Failure {}
+
+/// How many entries a section has.
+#[derive(Clone, Copy, Debug, PartialEq, Eq)]
+pub struct Counts {
+    /// Common information entries.
+    pub cies: u64,
+    /// Frame description entries.
+    pub fdes: u64,
+}
+
+/// A section that was checked.
+#[derive(Clone, Copy, Debug, PartialEq, Eq)]
+pub struct Section<'a> {
+    bytes: &'a [u8],
+    target: Target,
+    counts: Counts,
+}
+
+impl<'a> Section<'a> {
+    /// The section of these bytes, where it is well formed, or its first fault.
+    pub fn check(bytes: &'a [u8], target: Target) -> Result<Section<'a>, Failure> {
+        let (size, order) = target.numbers();
+        let mut counts = RawCounts::default();
+        let mut refusal = RawRefusal::default();
+        // SAFETY: both slices and both numbers are lent for the call, and those that are written are ours alone.
+        let status =
+            unsafe { dwframe_check(bytes.as_ptr(), bytes.len(), size, order, &mut counts, &mut refusal) };
+        answer(status, refusal, 0)?;
+        let counts = Counts { cies: counts.cies, fdes: counts.fdes };
+        Ok(Section { bytes, target, counts })
+    }
+
+    /// Its bytes.
+    pub fn bytes(&self) -> &'a [u8] {
+        self.bytes
+    }
+
+    /// The machine that it is for.
+    pub fn target(&self) -> Target {
+        self.target
+    }
+
+    /// How many entries it has.
+    pub fn counts(&self) -> Counts {
+        self.counts
+    }
+
+    /// Writes the normal form of the section to the front of `out`, and answers how many bytes it has. Where it does not fit,
+    /// `Failure::TooShort` says how many are needed, and `out` stays.
+    pub fn normalise(&self, out: &mut [u8]) -> Result<usize, Failure> {
+        let (size, order) = self.target.numbers();
+        let mut needed = 0;
+        let mut refusal = RawRefusal::default();
+        let (bytes, len, room) = (self.bytes.as_ptr(), self.bytes.len(), out.len());
+        // SAFETY: both slices and both numbers are lent for the call, and those that are written are ours alone.
+        let status = unsafe {
+            dwframe_normalise(bytes, len, size, order, out.as_mut_ptr(), room, &mut needed, &mut refusal)
+        };
+        answer(status, refusal, needed)?;
+        Ok(needed)
+    }
+}
+
+/// What a register is taken as that no instruction has set: the ABI decides.
+#[derive(Clone, Copy, Debug, PartialEq, Eq)]
+pub enum Unset {
+    /// It has not been changed.
+    Unchanged,
+    /// It has no value.
+    Undefined,
+}
+
+/// A register by its DWARF number, with its value where that is known.
+#[repr(C)]
+#[derive(Clone, Copy, Debug, Default, PartialEq, Eq)]
+pub struct Register {
+    number: u16,
+    known: u16,
+    value: u64,
+}
+
+impl Register {
+    /// A register that holds a value.
+    pub fn new(number: u16, value: u64) -> Register {
+        Register { number, known: 1, value }
+    }
+
+    /// Its number.
+    pub fn number(&self) -> u16 {
+        self.number
+    }
+
+    /// Its value, where that is known.
+    pub fn value(&self) -> Option<u64> {
+        (self.known != 0).then_some(self.value)
+    }
+}
+
+/// `len` bytes of a machine's memory from `address` on, which stand in a buffer from its byte `place` on.
+#[repr(C)]
+#[derive(Clone, Copy, Debug, PartialEq, Eq)]
+pub struct Window {
+    /// The first address.
+    pub address: u64,
+    /// Where its byte stands.
+    pub place: u64,
+    /// How many bytes.
+    pub len: u64,
+}
+
+/// A machine that stopped.
+#[derive(Clone, Copy, Debug)]
+pub struct Machine<'a> {
+    /// The address that is looked up. Of a caller's frame it is the return address minus one, which is in the call.
+    pub pc: u64,
+    /// Its registers. Of those with one number the first that is known counts.
+    pub registers: &'a [Register],
+    /// What its memory holds: a byte is that of the first window that covers its address.
+    pub windows: &'a [Window],
+    /// The bytes of all windows.
+    pub memory: &'a [u8],
+}
+
+/// A caller's frame.
+#[derive(Clone, Copy, Debug, PartialEq, Eq)]
+pub struct Frame<'a> {
+    /// The canonical frame address.
+    pub cfa: u64,
+    /// The number of the register that holds the return address.
+    pub return_register: u16,
+    /// The registers, ascending.
+    pub registers: &'a [Register],
+}
+
+impl Frame<'_> {
+    /// The return address, where it is known.
+    pub fn return_address(&self) -> Option<u64> {
+        let register = self.registers.iter().find(|register| register.number == self.return_register)?;
+        register.value()
+    }
+}
+
+impl Section<'_> {
+    /// The caller's frame of a machine that stopped, by the section's rules for its pc. Each expression may take `steps` steps.
+    /// The registers are written to `out`, which stays where they do not fit or where there is no frame.
+    pub fn unwind<'o>(
+        &self,
+        machine: &Machine<'_>,
+        unset: Unset,
+        steps: u64,
+        out: &'o mut [Register],
+    ) -> Result<Frame<'o>, Failure> {
+        let (address_size, byte_order) = self.target.numbers();
+        let unset = match unset {
+            Unset::Unchanged => 0,
+            Unset::Undefined => 1,
+        };
+        let stop = RawStop { pc: machine.pc, steps, address_size, byte_order, unset };
+        let (registers, windows, memory) = (machine.registers, machine.windows, machine.memory);
+        let (mut frame, mut refusal, mut fault) = Default::default();
+        // SAFETY: all slices and structs are lent for the call, and those that are written are ours alone.
+        let status = unsafe {
+            dwframe_unwind(
+                self.bytes.as_ptr(),
+                self.bytes.len(),
+                &stop,
+                registers.as_ptr(),
+                registers.len(),
+                windows.as_ptr(),
+                windows.len(),
+                memory.as_ptr(),
+                memory.len(),
+                out.as_mut_ptr(),
+                out.len(),
+                &mut frame,
+                &mut refusal,
+                &mut fault,
+            )
+        };
+        let RawFrame { cfa, count, return_register } = frame;
+        if let Some(fault) = fault_of(status, fault) {
+            return Err(fault);
+        }
+        answer(status, refusal, count)?;
+        Ok(Frame { cfa, return_register: return_register as u16, registers: &out[..count] })
+    }
+}
+
+// What a status of a frame says.
+fn fault_of(status: u32, fault: RawFault) -> Option<Failure> {
+    let column = match u16::try_from(fault.column) {
+        Ok(register) => Column::Register(register),
+        Err(_) => Column::Cfa,
+    };
+    Some(match status {
+        5 => Failure::NoFde,
+        6 => Failure::Fault(Fault::NoValue { kind: kind_of(fault.kind), index: fault.index, column }),
+        7 => Failure::Fault(Fault::Unreadable { column }),
+        8 => Failure::Fault(Fault::NoRegister { column }),
+        _ => return None,
+    })
+}
+
+// 5 is a failure of the memory, which windows do not have.
+fn kind_of(kind: u32) -> Kind {
+    match kind {
+        1 => Kind::StackUnderflow,
+        2 => Kind::DivideByZero,
+        3 => Kind::NoRegister,
+        4 | 5 => Kind::Unreadable,
+        6 => Kind::StepLimit,
+        7 => Kind::EmptyResult,
+        8 => Kind::NotAValue,
+        9 => Kind::NoFrameBase,
+        10 => Kind::NoCfa,
+        11 => Kind::NoObject,
+        _ => Kind::MissingPiece,
+    }
+}
+
+/// Whether two sections for one machine say the same: the same FDEs with the same return registers, and the same rules at each
+/// address that they cover.
+pub fn same(first: &[u8], second: &[u8], target: Target) -> Result<bool, Failure> {
+    let (size, order) = target.numbers();
+    let mut alike = 0;
+    let mut refusal = RawRefusal::default();
+    let (a, b) = (first.as_ptr(), second.as_ptr());
+    // SAFETY: both slices and both numbers are lent for the call, and those that are written are ours alone.
+    let status = unsafe {
+        dwframe_same(a, first.len(), b, second.len(), size, order, &mut alike, &mut refusal)
+    };
+    answer(status, refusal, 0)?;
+    Ok(alike == 1)
+}
+
+// What a status says.
+fn answer(status: u32, refusal: RawRefusal, needed: usize) -> Result<(), Failure> {
+    match status {
+        0 => Ok(()),
+        1 => Err(Failure::Refused(Refusal {
+            code: refusal.code,
+            which: if refusal.section == 2 { Which::Second } else { Which::First },
+            at: refusal.at,
+        })),
+        4 => Err(Failure::TooShort { needed }),
+        // A target has the numbers that the library asks for, so no other status is left.
+        _ => Err(Failure::OutOfMemory),
+    }
+}
+
+const NAME_SIZE: usize = 20;
+
+#[repr(C)]
+#[derive(Clone, Copy, Default)]
+struct RawRefusal {
+    code: u32,
+    section: u32,
+    at: u64,
+}
+
+#[repr(C)]
+#[derive(Clone, Copy, Default)]
+struct RawCounts {
+    cies: u64,
+    fdes: u64,
+}
+
+#[repr(C)]
+struct RawStop {
+    pc: u64,
+    steps: u64,
+    address_size: u8,
+    byte_order: u8,
+    unset: u8,
+}
+
+#[repr(C)]
+#[derive(Clone, Copy, Default)]
+struct RawFrame {
+    cfa: u64,
+    count: usize,
+    return_register: u32,
+}
+
+#[repr(C)]
+#[derive(Clone, Copy, Default)]
+struct RawFault {
+    column: u32,
+    kind: u32,
+    index: u64,
+}
+
+unsafe extern "C" {
+    fn dwframe_check(
+        bytes: *const u8,
+        len: usize,
+        address_size: u8,
+        byte_order: u8,
+        counts: *mut RawCounts,
+        refusal: *mut RawRefusal,
+    ) -> u32;
+    fn dwframe_refusal_name(code: u32, name: *mut u8, size: usize) -> usize;
+    fn dwframe_normalise(
+        bytes: *const u8,
+        len: usize,
+        address_size: u8,
+        byte_order: u8,
+        out: *mut u8,
+        room: usize,
+        needed: *mut usize,
+        refusal: *mut RawRefusal,
+    ) -> u32;
+    fn dwframe_same(
+        first: *const u8,
+        first_len: usize,
+        second: *const u8,
+        second_len: usize,
+        address_size: u8,
+        byte_order: u8,
+        alike: *mut u32,
+        refusal: *mut RawRefusal,
+    ) -> u32;
+    fn dwframe_unwind(
+        bytes: *const u8,
+        len: usize,
+        stop: *const RawStop,
+        registers: *const Register,
+        register_count: usize,
+        windows: *const Window,
+        window_count: usize,
+        memory: *const u8,
+        memory_len: usize,
+        out: *mut Register,
+        room: usize,
+        frame: *mut RawFrame,
+        refusal: *mut RawRefusal,
+        fault: *mut RawFault,
+    ) -> u32;
+}

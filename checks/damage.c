@@ -1,0 +1,125 @@
+/* Makes the calls of the library for C over COUNT damaged copies of a section, and of a machine with damaged registers and windows:
+ *
+ *     damage SIZE ORDER FILE COUNT
+ *
+ * A byte is changed, the end is cut, or all is random. Each call has to answer a status that the header names, a refusal a code
+ * that has a name, and what a call writes has to stay within its room. */
+#include <stdio.h>
+#include <stdlib.h>
+#include <string.h>
+
+#include "dwframe.h"
+
+static uint64_t state = 0x9e3779b97f4a7c15;
+
+static uint64_t number(void)
+{
+    state ^= state >> 12;
+    state ^= state << 25;
+    state ^= state >> 27;
+    return state * 0x2545f4914f6cdd1d;
+}
+
+static uint64_t below(uint64_t limit)
+{
+    return limit ? number() % limit : 0;
+}
+
+static void stop_at(const char *why)
+{
+    fprintf(stderr, "damage: %s\n", why);
+    exit(1);
+}
+
+static unsigned counts[DWFRAME_DEVICE + 1];
+
+static void judge(dwframe_status status, const dwframe_refusal *refusal)
+{
+    char name[DWFRAME_NAME_SIZE];
+    if (status > DWFRAME_DEVICE)
+        stop_at("a status that the header does not name");
+    if ((status == DWFRAME_REFUSED) != (refusal->code != 0))
+        stop_at("a refusal without its status");
+    if (status == DWFRAME_REFUSED && dwframe_refusal_name(refusal->code, name, sizeof name) != strlen(name))
+        stop_at("a code without a name");
+    counts[status]++;
+}
+
+/* Of each size its own block, so that a byte past its end is seen. */
+static void *block(size_t len)
+{
+    void *bytes = malloc(len ? len : 1);
+    if (!bytes)
+        stop_at("out of memory");
+    return bytes;
+}
+
+static uint8_t *damaged(const uint8_t *bytes, size_t *len)
+{
+    size_t all = *len;
+    uint64_t way = below(4);
+    if (way == 1)
+        *len = below(all + 1);
+    uint8_t *copy = block(*len);
+    memcpy(copy, bytes, *len);
+    for (uint64_t times = way == 2 ? *len : way == 3 ? 0 : 1 + below(3); times && *len; times--)
+        copy[below(*len)] = (uint8_t)number();
+    return copy;
+}
+
+static void call_unwind(const uint8_t *section, size_t len, uint8_t size, uint8_t order)
+{
+    size_t memory_len = below(64), room = below(40), given = below(20), windows = below(6);
+    uint8_t *memory = block(memory_len);
+    dwframe_register *registers = block(given * sizeof *registers), *out = block(room * sizeof *out);
+    dwframe_window *window = block(windows * sizeof *window);
+    for (size_t i = 0; i < memory_len; i++)
+        memory[i] = (uint8_t)number();
+    for (size_t i = 0; i < given; i++)
+        registers[i] = (dwframe_register){(uint16_t)below(i % 5 ? 20 : 65536), (uint16_t)below(3), i % 3 ? below(100) : number()};
+    for (size_t i = 0; i < windows; i++)
+        window[i] = (dwframe_window){i % 2 ? below(100) : number(), i % 3 ? below(70) : number(), i % 4 ? below(90) : number()};
+    dwframe_stop stop = {below(2) ? 0x1000 + below(64) : number(), below(100), size, order, (uint8_t)below(3)};
+    dwframe_frame frame;
+    dwframe_refusal refusal;
+    dwframe_fault fault;
+    judge(dwframe_unwind(section, len, &stop, registers, given, window, windows, memory, memory_len, out, room, &frame, &refusal,
+              &fault),
+        &refusal);
+    free(memory);
+    free(registers);
+    free(out);
+    free(window);
+}
+
+static void call_all(const uint8_t *bytes, size_t len, uint8_t size, uint8_t order)
+{
+    dwframe_counts entries;
+    dwframe_refusal refusal;
+    uint32_t alike;
+    size_t needed, damaged_len = len, room = below(2 * len + 1);
+    uint8_t *copy = damaged(bytes, &damaged_len), *out = block(room);
+    judge(dwframe_check(copy, damaged_len, size, order, &entries, &refusal), &refusal);
+    judge(dwframe_normalise(copy, damaged_len, size, order, out, room, &needed, &refusal), &refusal);
+    judge(dwframe_same(bytes, len, copy, damaged_len, size, order, &alike, &refusal), &refusal);
+    call_unwind(copy, damaged_len, size, order);
+    free(copy);
+    free(out);
+}
+
+int main(int argc, char **argv)
+{
+    static uint8_t bytes[1 << 16];
+    FILE *file = argc == 5 ? fopen(argv[3], "rb") : NULL;
+    if (!file)
+        stop_at("usage: damage SIZE ORDER FILE COUNT");
+    size_t len = fread(bytes, 1, sizeof bytes, file);
+    fclose(file);
+    uint8_t size = (uint8_t)atoi(argv[1]), order = !strcmp(argv[2], "big");
+    for (unsigned long left = strtoul(argv[4], NULL, 10); left; left--)
+        call_all(bytes, len, left % 50 ? size : (uint8_t)below(10), left % 51 ? order : (uint8_t)below(3));
+    for (unsigned status = 0; status <= DWFRAME_DEVICE; status++)
+        printf("%s%u", status ? " " : "statuses 0 to 9: ", counts[status]);
+    printf("\n");
+    return 0;
+}

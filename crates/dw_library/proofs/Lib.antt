@@ -1,0 +1,2 @@
+mod WindowLaws
+mod Frames

@@ -1,0 +1,6 @@
+use Rattle.std.proofs.Common.{◌≡◌, drop}
+use Rattle.dw_library.specs.Windows.{byte_among}
+use Rattle.dw_library.proofs.windows.byte_at.Given as goal
+
+abbrev pub invariant-windows : goal.invariant-windows
+invariant-windows l = byte_among l.bytes (drop l.i l.windows) l.address ≡ byte_among l.bytes l.windows l.address

@@ -1,0 +1,43 @@
+-- What a caller in C is told of a normal form, and of two sections.
+use Rattle.std.specs.Prelude.{◌≡◌, ◌⊎◌, ◌<◌, ◌≤◌, ℕ, List, ◌++◌, length, drop, Option, Some, None}
+use Rattle.dw_num.specs.declared.refusal.Refusal.{Refusal}
+use Rattle.dw_num.specs.declared.target.Target.{Target}
+use Rattle.dw_section.specs.Accepted.{Accepted}
+use Rattle.dw_section.specs.Meanings.{SameMeaning}
+use Rattle.dw_canon.specs.Normal.{IsNormalForm}
+use Rattle.dw_normal.specs.Answers.{NormalFault, SameFault}
+use Rattle.dw_normal.specs.declared.error.SameError.TheVariants as same_error
+use Rattle.dw_normal.specs.declared.error.Which.{Which}
+use Rattle.dw_normal.specs.declared.error.Which.TheVariants.{First, Second}
+use Rattle.dw_library.specs.declared.answer.Refused.{Refused}
+use Rattle.dw_library.specs.Answers.{ok, refused, out_of_memory, bad_argument, too_short, not_refused, told}
+
+-- bytes at the front of a buffer, where they fit; else the buffer stays
+abbrev pub IsPlaced : List ℕ → List ℕ → ℕ → List ℕ → Type 0
+IsPlaced bytes old status new =
+    ((status ≡ ok) × (length bytes ≤ length old) × (new ≡ bytes ++ drop (length bytes) old))
+    ⊎ ((status ≡ too_short) × (length old < length bytes) × (new ≡ old))
+
+-- the status, the buffer before and after, the length of the normal form, and the refusal
+abbrev pub IsNormalised : Option Target → List ℕ → ℕ → List ℕ → List ℕ → ℕ → Refused → Type 0
+IsNormalised None s status old new count why = (status ≡ bad_argument) × (new ≡ old) × (count ≡ 0) × (why ≡ not_refused)
+IsNormalised (Some target) s status old new count why =
+    (((n : List ℕ) × IsNormalForm target s n × (length n ≤ 2147483647) × (count ≡ length n) × IsPlaced n old status new) × (why ≡ not_refused))
+    ⊎ ((status ≡ refused) × ((r : Refusal) × NormalFault target 2147483647 s r × (why ≡ told 1 r)) × (new ≡ old) × (count ≡ 0))
+    ⊎ ((status ≡ out_of_memory) × (new ≡ old) × (count ≡ 0) × (why ≡ not_refused))
+
+-- two sections say the same, or they do not
+abbrev pub Tells : Target → List ℕ → List ℕ → ℕ → Type 0
+Tells target a b alike = ((alike ≡ 1) × SameMeaning target a b) ⊎ ((alike ≡ 0) × (SameMeaning target a b → ⊥))
+
+abbrev pub section_of : Which → ℕ
+section_of First = 1
+section_of Second = 2
+
+-- the status, whether they say the same, and the refusal
+abbrev pub IsCompared : Option Target → List ℕ → List ℕ → ℕ → ℕ → Refused → Type 0
+IsCompared None a b status alike why = (status ≡ bad_argument) × (alike ≡ 0) × (why ≡ not_refused)
+IsCompared (Some target) a b status alike why =
+    ((status ≡ ok) × Accepted target a × Accepted target b × Tells target a b alike × (why ≡ not_refused))
+    ⊎ ((status ≡ refused) × ((which : Which) × (r : Refusal) × SameFault target 2147483647 a b (same_error.Refused which r) × (why ≡ told (section_of which) r)) × (alike ≡ 0))
+    ⊎ ((status ≡ out_of_memory) × (alike ≡ 0) × (why ≡ not_refused))

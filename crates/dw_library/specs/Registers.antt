@@ -1,0 +1,28 @@
+-- Registers as C gives them and is told them.
+use Rattle.std.specs.Prelude.{◌≡◌, ◌⊎◌, ◌<◌, ◌≤◌, ℕ, List, [], ◌∷◌, ◌++◌, length, drop, Option, Some, None, nat_eq, if◌then◌else◌}
+use Rattle.dw_library.specs.declared.registers.Register.{Register}
+use Rattle.dw_library.specs.Answers.{ok, too_short}
+
+-- a value, or else another one
+abbrev pub first_of : Option ℕ → Option ℕ → Option ℕ
+first_of None other = other
+first_of (Some v) other = Some v
+
+-- what a register gives the register r
+abbrev pub value_in : Register → ℕ → Option ℕ
+value_in g r = if nat_eq g.known 0 then None else (if nat_eq r g.number then Some g.value else None)
+
+-- the value of the first that is known
+abbrev pub given_in : List Register → ℕ → Option ℕ
+given_in [] r = None
+given_in (g ∷ gs) r = first_of (value_in g r) (given_in gs r)
+
+abbrev pub told_register : ℕ × Option ℕ → Register
+told_register (r, Some v) = record { number = r; known = 1; value = v }
+told_register (r, None) = record { number = r; known = 0; value = 0 }
+
+-- registers at the front of a buffer, where they fit; else the buffer stays
+abbrev pub AreTold : List Register → List Register → ℕ → List Register → Type 0
+AreTold registers old status new =
+    ((status ≡ ok) × (length registers ≤ length old) × (new ≡ registers ++ drop (length registers) old))
+    ⊎ ((status ≡ too_short) × (length old < length registers) × (new ≡ old))

@@ -1,0 +1,112 @@
+-- What a caller in C is told of a frame.
+use Rattle.std.specs.Prelude.{◌≡◌, ◌⊎◌, ℕ, List, Result, map, length, Option, Some, None, Ok, Err, nat_eq, if◌then◌else◌}
+use Rattle.dw_num.specs.declared.refusal.Refusal.{Refusal}
+use Rattle.dw_num.specs.declared.target.Target.{Target}
+use Rattle.dw_eval.specs.Kinds.{number_of}
+use Rattle.dw_eval.specs.Registers.{held}
+use Rattle.dw_section.specs.Accepted.{Accepted, CheckFault}
+use Rattle.dw_unwind.specs.Unwound.{Unwound, stopped}
+use Rattle.dw_unwind.specs.declared.frame.Frame.{Frame as CallerFrame}
+use Rattle.dw_unwind.specs.declared.frame.Column.{Column}
+use Rattle.dw_unwind.specs.declared.frame.Column.TheVariants.{Cfa, Register as RegisterColumn}
+use Rattle.dw_unwind.specs.declared.frame.Policy.{Policy}
+use Rattle.dw_unwind.specs.declared.frame.Policy.TheVariants.{SameValue, Undefined}
+use Rattle.dw_unwind.specs.declared.frame.UnwindError.{UnwindError}
+use Rattle.dw_unwind.specs.declared.frame.UnwindError.TheVariants as errors
+use Rattle.dw_library.specs.declared.answer.Refused.{Refused}
+use Rattle.dw_library.specs.declared.registers.Register.{Register}
+use Rattle.dw_library.specs.declared.unwinding.Fault.{Fault}
+use Rattle.dw_library.specs.declared.unwinding.Frame.{Frame}
+use Rattle.dw_library.specs.declared.unwinding.Stop.{Stop}
+use Rattle.dw_library.specs.declared.windows.Window.{Window}
+use Rattle.dw_library.specs.declared.unwinding.Held.{Held}
+use Rattle.dw_library.specs.declared.unwinding.NoFrame.{NoFrame}
+use Rattle.dw_library.specs.declared.unwinding.NoFrame.TheVariants.{Section, Frame as NoFrameOf}
+use Rattle.dw_section.specs.Faults.{Refuses}
+use Rattle.dw_library.specs.Answers.{refused, out_of_memory, bad_argument, not_refused, told}
+use Rattle.dw_library.specs.Registers.{given_in, told_register, AreTold}
+use Rattle.dw_library.specs.Windows.{byte_among}
+
+-- what a register is taken as that no instruction has set: 0 for unchanged, 1 for undefined
+abbrev pub policy_of : ℕ → Option Policy
+policy_of unset = if nat_eq unset 0 then Some SameValue else (if nat_eq unset 1 then Some Undefined else None)
+
+-- ---- frames and faults as they are told
+
+abbrev pub column_of : Column → ℕ
+column_of Cfa = 65536
+column_of (RegisterColumn r) = r
+
+abbrev pub no_fault : Fault
+no_fault = record { column = 0; kind = 0; index = 0 }
+
+abbrev pub fault_in : Column → Fault
+fault_in column = record { column = column_of column; kind = 0; index = 0 }
+
+abbrev pub told_fault : UnwindError → Fault
+told_fault (errors.Eval kind index column) = record { column = column_of column; kind = number_of kind; index = index }
+told_fault (errors.Unreadable column) = fault_in column
+told_fault (errors.NoRegister column) = fault_in column
+told_fault (errors.Device column) = fault_in column
+told_fault errors.NoFde = no_fault
+told_fault errors.OutOfMemory = no_fault
+
+abbrev pub status_of : UnwindError → ℕ
+status_of errors.NoFde = 5
+status_of (errors.Eval kind index column) = 6
+status_of (errors.Unreadable column) = 7
+status_of (errors.NoRegister column) = 8
+status_of (errors.Device column) = 9
+status_of errors.OutOfMemory = out_of_memory
+
+abbrev pub no_frame : Frame
+no_frame = record { cfa = 0; count = 0; return_register = 0 }
+
+abbrev pub told_frame : CallerFrame → Frame
+told_frame f = record { cfa = f.cfa; count = length f.registers; return_register = f.return_register }
+
+-- ---- the frame
+
+-- registers, and windows over one buffer of memory
+pub record Machine : Type 0 where
+  pub registers : List Register
+  pub windows : List Window
+  pub memory : List ℕ
+
+abbrev pub held_in : Held → Machine
+held_in h = record { registers = h.registers.now; windows = h.windows.now; memory = h.memory.now }
+
+-- a machine that holds this stopped where a section says so: its caller's frame, or the first fault
+pub record IsFrame (target : Target) (policy : Policy) (s : List ℕ) (stop : Stop) (m : Machine) (answer : Result CallerFrame UnwindError) : Type 0 where
+  pub accepted : Accepted target s
+  pub values : List (Option ℕ)
+  pub are : (r : ℕ) → held values r ≡ given_in m.registers r
+  pub is : Unwound target s stop.pc (stopped target values (byte_among m.memory m.windows)) policy stop.steps answer
+
+-- why there is no frame: the section's first fault, the frame's, or want of memory
+abbrev pub Fails : Target → Policy → List ℕ → Stop → Machine → NoFrame → Type 0
+Fails target policy s stop m (Section e) = Refuses (CheckFault target s) e
+Fails target policy s stop m (NoFrameOf e) = (e ≡ errors.OutOfMemory) ⊎ IsFrame target policy s stop m (Err e)
+
+-- what a call tells
+pub record Told : Type 0 where
+  pub status : ℕ
+  pub registers : List Register
+  pub frame : Frame
+  pub refusal : Refused
+  pub fault : Fault
+
+-- a status alone
+abbrev pub says : ℕ → List Register → Told
+says status old = record { status = status; registers = old; frame = no_frame; refusal = not_refused; fault = no_fault }
+
+-- what is told, where the buffer for registers held `old`
+abbrev pub IsUnwound : Option Target → Option Policy → List ℕ → Stop → Machine → List Register → Told → Type 0
+IsUnwound None policy s stop m old answer = answer ≡ says bad_argument old
+IsUnwound (Some target) None s stop m old answer = answer ≡ says bad_argument old
+IsUnwound (Some target) (Some policy) s stop m old answer =
+    (((f : CallerFrame) × IsFrame target policy s stop m (Ok f) × (answer.frame ≡ told_frame f) × AreTold (map told_register f.registers) old answer.status answer.registers)
+    × (answer.refusal ≡ not_refused) × (answer.fault ≡ no_fault))
+    ⊎ ((r : Refusal) × CheckFault target s r × (answer ≡ record { status = refused; registers = old; frame = no_frame; refusal = told 1 r; fault = no_fault }))
+    ⊎ ((e : UnwindError) × IsFrame target policy s stop m (Err e) × (answer ≡ record { status = status_of e; registers = old; frame = no_frame; refusal = not_refused; fault = told_fault e }))
+    ⊎ (answer ≡ says out_of_memory old)

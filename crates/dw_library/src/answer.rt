@@ -1,0 +1,77 @@
+//! What calls answer: statuses, refusals and counts, as `include/dwframe.h` declares them.
+
+ghost use Rattle.std.specs.Prelude.{◌≡◌};
+ghost use Rattle.dw_library.specs.Answers.{target_of, told, not_refused};
+
+use dw_num::{Order, Refusal, Size, Target};
+
+/// The call has its answer.
+pub(crate) const OK: u32 = 0;
+/// The section is refused; the refusal says why, and where.
+pub(crate) const REFUSED: u32 = 1;
+/// A request for memory was refused.
+pub(crate) const OUT_OF_MEMORY: u32 = 2;
+/// The address size is not 4 or 8, or the byte order, or what unset registers are taken as, is not 0 or 1.
+pub(crate) const BAD_ARGUMENT: u32 = 3;
+/// The room that was lent is too short; the call says how much it needs.
+pub(crate) const TOO_SHORT: u32 = 4;
+
+/// Why a section is refused: the number of the code, which section (1, or 2 for the second of two), and the place of the
+/// first bad byte. All are 0 where none is refused.
+#[repr(C)]
+#[derive(Clone, Copy)]
+pub struct Refused {
+    pub code: u32,
+    pub section: u32,
+    pub at: u64,
+}
+
+/// How many CIEs and FDEs a section has.
+#[repr(C)]
+#[derive(Clone, Copy)]
+pub struct Counts {
+    pub cies: u64,
+    pub fdes: u64,
+}
+
+pub(crate) fn not_refused() -> Refused
+    ensures { result ≡ not_refused }
+{
+    Refused {
+        code: 0,
+        section: 0,
+        at: 0,
+    }
+}
+
+pub(crate) fn told(section: u32, refusal: Refusal) -> Refused
+    ensures { result ≡ told section refusal }
+{
+    Refused {
+        code: u32::from(refusal.code.number()),
+        section,
+        at: refusal.at,
+    }
+}
+
+/// The machine with this address size, 4 or 8, and this byte order, 0 for little-endian and 1 for big-endian.
+pub(crate) fn target_of(address_size: u8, byte_order: u8) -> Option<Target>
+    ensures { result ≡ target_of address_size byte_order }
+{
+    let size = match address_size {
+        4 => Size::Four,
+        8 => Size::Eight,
+        _ => return None,
+    };
+    match byte_order {
+        0 => Some(Target {
+            size,
+            order: Order::Little,
+        }),
+        1 => Some(Target {
+            size,
+            order: Order::Big,
+        }),
+        _ => None,
+    }
+}

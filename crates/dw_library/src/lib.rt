@@ -1,0 +1,13 @@
+//! The reader for C: a static library, whose calls `include/dwframe.h` declares.
+//!
+//! A slice crosses as a pointer and a length, and an `alloc` as nothing. No export has a `requires` but what its types
+//! say: a value that is none of those asked for is answered by a status.
+#![tactic(auto)]
+
+mod answer;
+mod checking;
+mod forms;
+mod naming;
+mod registers;
+mod unwinding;
+mod windows;

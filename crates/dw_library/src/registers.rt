@@ -1,0 +1,91 @@
+//! Registers that a caller lends, and those that it is told.
+
+ghost use Rattle.std.specs.Prelude.{◌≡◌, ◌≤◌, ℕ, IfOk, OnOk, OnErr, map, length};
+ghost use Rattle.dw_eval.specs.Registers.{held};
+ghost use Rattle.dw_library.specs.Registers.{first_of, value_in, given_in, told_register, AreTold};
+
+use crate::answer::{OK, TOO_SHORT};
+use dw_eval::Registers;
+use std::alloc::{AllocError, Global};
+
+/// A register: its number, whether its value is known (0 where it is not), and the value.
+#[repr(C)]
+#[derive(Clone, Copy)]
+pub struct Register {
+    pub number: u16,
+    pub known: u16,
+    pub value: u64,
+}
+
+// Lets a register hold its value, where it is known.
+fn give(registers: &mut Registers, register: Register) -> Result<(), AllocError>
+    ensures { OnOk result ((r : ℕ) → held registers.new r ≡ first_of (value_in register r) (held registers.old r)) }
+{
+    if register.known == 0 {
+        return Ok(());
+    }
+    registers.set(register.number, register.value)
+}
+
+/// What these registers hold: of those with one number the first that is known counts.
+pub(crate) fn registers_of(alloc: Global, given: &[Register]) -> Result<Registers, AllocError>
+    ensures { IfOk result (λ registers. (r : ℕ) → held registers r ≡ given_in given.now r) }
+{
+    let mut registers = Registers::new(alloc);
+    let mut left = given.len();
+    'given: while left > 0 {
+        left -= 1;
+        give(&mut registers, given[left])?;
+    }
+    Ok(registers)
+}
+
+fn told_register(entry: (u16, Option<u64>)) -> Register
+    ensures { result ≡ told_register entry }
+{
+    match entry {
+        (number, Some(value)) => Register {
+            number,
+            known: 1,
+            value,
+        },
+        (number, None) => Register {
+            number,
+            known: 0,
+            value: 0,
+        },
+    }
+}
+
+fn told(alloc: Global, entries: &[(u16, Option<u64>)]) -> Result<Vec<Register>, AllocError>
+    ensures { IfOk result (λ registers. registers.items ≡ map told_register entries.now) }
+{
+    let mut registers = Vec::new(alloc);
+    for entry in entries {
+        registers.push(told_register(*entry))?;
+    }
+    Ok(registers)
+}
+
+fn put(registers: &[Register], out: &mut [Register]) -> u32
+    ensures { AreTold registers.now out.old result out.new }
+{
+    if out.len() < registers.len() {
+        return TOO_SHORT;
+    }
+    out[..registers.len()].copy_from_slice(registers);
+    OK
+}
+
+/// Writes registers to the front of a buffer, where they fit.
+pub(crate) fn put_registers(
+    alloc: Global,
+    entries: &[(u16, Option<u64>)],
+    out: &mut [Register],
+) -> Result<u32, AllocError>
+    ensures told { IfOk result (λ status. AreTold (map told_register entries.now) out.old status out.new) }
+    ensures kept { OnErr result (out.new ≡ out.old) }
+{
+    let registers = told(alloc, entries)?;
+    Ok(put(&registers, out))
+}

@@ -1,0 +1,118 @@
+//! Memory that a caller lends: windows of addresses over one buffer.
+
+ghost use Rattle.std.specs.Prelude.{◌≡◌, ◌≤◌, true, Some, None, length};
+ghost use Rattle.std.specs.Bool.{MatchBool};
+ghost use Rattle.dw_num.specs.Fixed.{fixed_number};
+ghost use Rattle.dw_eval.specs.Bytes.{bytes_from, number_at};
+ghost use Rattle.dw_library.specs.Windows.{covers, byte_of, byte_among};
+
+use byteorder::{BigEndian, ByteOrder, LittleEndian};
+use dw_eval::{Memory, ReadFault};
+use dw_num::Order;
+
+/// Bytes of a machine's memory: `len` addresses from `address` on, whose bytes stand in a buffer from `place` on.
+#[repr(C)]
+#[derive(Clone, Copy)]
+pub struct Window {
+    pub address: u64,
+    pub place: u64,
+    pub len: u64,
+}
+
+/// The memory of windows over one buffer. Its device never fails.
+#[derive(Drop)]
+pub(crate) struct Windows<'a> {
+    pub(crate) windows: &'a [Window],
+    pub(crate) bytes: &'a [u8],
+}
+
+fn covers(window: &Window, address: u128) -> bool
+    ensures { result ≡ covers address window.now }
+{
+    let begin = u128::from(window.address);
+    begin <= address && address < begin + u128::from(window.len)
+}
+
+// The byte that a window has at an address that it covers, where the buffer is long enough.
+fn byte_of(window: &Window, bytes: &[u8], address: u128) -> Option<u8>
+    requires covers { covers address window.now ≡ true }
+    ensures { result ≡ byte_of bytes.now address window.now }
+{
+    let place = u128::from(window.place) + (address - u128::from(window.address));
+    if place < bytes.len() as u128 {
+        return Some(bytes[place as usize]);
+    }
+    None
+}
+
+// The byte at an address.
+fn byte_at(windows: &[Window], bytes: &[u8], address: u128) -> Option<u8>
+    ensures { result ≡ byte_among bytes.now windows.now address }
+{
+    'windows: for i in 0..windows.len() {
+        if covers(&windows[i], address) {
+            return byte_of(&windows[i], bytes, address);
+        }
+    }
+    None
+}
+
+// Fills a buffer with the bytes from an address on, unless one of them is missing.
+fn fill(windows: &[Window], bytes: &[u8], address: u64, buffer: &mut [u8]) -> bool
+    ensures { MatchBool result
+        (bytes_from (byte_among bytes.now windows.now) address (length buffer.old) ≡ Some buffer.new)
+        (bytes_from (byte_among bytes.now windows.now) address (length buffer.old) ≡ None) }
+{
+    for (i, slot) in buffer.iter_mut().enumerate() {
+        let Some(byte) = byte_at(windows, bytes, u128::from(address) + i as u128) else {
+            return false;
+        };
+        *slot = byte;
+    }
+    true
+}
+
+fn number_of(order: Order, bytes: &[u8]) -> u64
+    requires some { 1 ≤ length bytes.now }
+    requires most { length bytes.now ≤ 8 }
+    ensures { result ≡ fixed_number order (length bytes.now) bytes.now }
+{
+    match order {
+        Order::Little => LittleEndian::read_uint(bytes, bytes.len()),
+        Order::Big => BigEndian::read_uint(bytes, bytes.len()),
+    }
+}
+
+// The number that the bytes from an address on spell, unless one of them is missing.
+#[tactic(auto, unfolding(dw_eval::specs::Bytes::number_at))]
+fn number_from(
+    windows: &[Window],
+    bytes: &[u8],
+    address: u64,
+    len: usize,
+    order: Order,
+) -> Option<u64>
+    requires some { 1 ≤ len }
+    requires most { len ≤ 8 }
+    ensures { result ≡ number_at (byte_among bytes.now windows.now) order address len }
+{
+    let mut buffer = [0; 8];
+    let spelled = &mut buffer[..len];
+    if !fill(windows, bytes, address, spelled) {
+        return None;
+    }
+    Some(number_of(order, spelled))
+}
+
+impl<'a> Memory for Windows<'a> {
+    ghost byte = { λ m. byte_among m.bytes.now m.windows.now };
+
+    ghost failures = { λ _. 0 };
+
+    fn read(&mut self, address: u64, len: usize, order: Order) -> Result<u64, ReadFault> {
+        let Some(number) = number_from(self.windows, self.bytes, address, len, order) else {
+            return Err(ReadFault::Unreadable);
+        };
+        Ok(number)
+    }
+}

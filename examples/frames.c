@@ -1,0 +1,207 @@
+/* Unwinds a machine that stopped, by the library for C:
+ *
+ *     frames 4|8 little|big FILE DUMP      prints the caller's frame, as `dwframe unwind --default same`
+ *     frames 4|8 little|big FILE DUMP N    walks the stack, whose pointer is register N, as examples/backtrace.py
+ *
+ * FILE is a raw .debug_frame and DUMP a register dump, as examples/chain.c writes it. */
+#include <inttypes.h>
+#include <stdio.h>
+#include <stdlib.h>
+#include <string.h>
+
+#include "dwframe.h"
+
+/* The room for the registers of a frame, for windows and for the bytes of memory. */
+enum { REGISTERS = 512, WINDOWS = 65536, MEMORY = 1 << 20 };
+
+struct machine {
+    dwframe_register registers[REGISTERS];
+    size_t register_count;
+    dwframe_window windows[WINDOWS];
+    size_t window_count;
+    uint8_t memory[MEMORY];
+    size_t memory_len;
+    dwframe_stop stop;
+};
+
+static struct machine machine;
+static uint8_t *section;
+static size_t section_len;
+
+static int fail(int status, const char *text)
+{
+    fprintf(stderr, "%s\n", text);
+    return status;
+}
+
+/* The bytes of a file, and a zero byte behind them. */
+static uint8_t *load(const char *path, size_t *len)
+{
+    uint8_t *bytes = NULL;
+    long size = -1;
+    FILE *file = fopen(path, "rb");
+    if (!file)
+        return NULL;
+    if (fseek(file, 0, SEEK_END) == 0)
+        size = ftell(file);
+    rewind(file);
+    if (size >= 0 && (bytes = calloc(1, (size_t)size + 1)))
+        *len = fread(bytes, 1, (size_t)size, file);
+    fclose(file);
+    return bytes;
+}
+
+/* ---- the dump: a line `pc V`, lines `rN V` and `mem V BYTES` */
+
+static void read_memory(uint64_t address, const char *digits)
+{
+    dwframe_window window = {.address = address, .place = machine.memory_len, .len = 0};
+    unsigned byte;
+    while (sscanf(digits, "%2x", &byte) == 1 && machine.memory_len < MEMORY) {
+        machine.memory[machine.memory_len++] = (uint8_t)byte;
+        window.len++;
+        digits += 2;
+    }
+    if (machine.window_count < WINDOWS)
+        machine.windows[machine.window_count++] = window;
+}
+
+static int read_dump(const char *text)
+{
+    int has_pc = 0;
+    unsigned number;
+    uint64_t value;
+    for (const char *line = text; *line; line += strcspn(line, "\n"), line += *line == '\n') {
+        int digits = 0;
+        if (sscanf(line, "pc %" SCNx64, &machine.stop.pc) == 1)
+            has_pc = 1;
+        else if (sscanf(line, "r%u %" SCNx64, &number, &value) == 2 && machine.register_count < REGISTERS)
+            machine.registers[machine.register_count++] = (dwframe_register){(uint16_t)number, 1, value};
+        else if (sscanf(line, "mem %" SCNx64 " %n", &value, &digits) == 1 && digits)
+            read_memory(value, line + digits);
+    }
+    return has_pc;
+}
+
+/* ---- frames */
+
+static const char *const KINDS[] = {"", "StackUnderflow", "DivideByZero", "NoRegister", "Unreadable", "Device", "StepLimit",
+    "EmptyResult", "NotAValue", "NoFrameBase", "NoCfa", "NoObject", "MissingPiece"};
+
+static int tell(dwframe_status status, const dwframe_refusal *refusal, const dwframe_fault *fault)
+{
+    char name[DWFRAME_NAME_SIZE] = "", column[16] = "cfa";
+    if (fault->column != DWFRAME_CFA)
+        snprintf(column, sizeof column, "r%" PRIu32, fault->column);
+    switch (status) {
+    case DWFRAME_REFUSED:
+        dwframe_refusal_name(refusal->code, name, sizeof name);
+        fprintf(stderr, "refused: %s at 0x%" PRIx64 "\n", name, refusal->at);
+        return 2;
+    case DWFRAME_NO_FDE:
+        return fail(2, "fault: NoFde");
+    case DWFRAME_NO_VALUE:
+        fprintf(stderr, "fault: %s at %" PRIu64 " in %s\n", KINDS[fault->kind], fault->index, column);
+        return 2;
+    case DWFRAME_UNREADABLE:
+    case DWFRAME_NO_REGISTER:
+        fprintf(stderr, "fault: %s in %s\n", status == DWFRAME_UNREADABLE ? "Unreadable" : "NoRegister", column);
+        return 2;
+    case DWFRAME_BAD_ARGUMENT:
+        return fail(3, "bad address size or byte order");
+    case DWFRAME_TOO_SHORT:
+        return fail(5, "too many registers");
+    default:
+        return fail(5, "out of memory");
+    }
+}
+
+static dwframe_register caller[REGISTERS];
+
+/* The caller's frame, with its registers in `caller`. */
+static dwframe_status unwind(dwframe_frame *frame, dwframe_refusal *refusal, dwframe_fault *fault)
+{
+    return dwframe_unwind(section, section_len, &machine.stop, machine.registers, machine.register_count, machine.windows,
+        machine.window_count, machine.memory, machine.memory_len, caller, REGISTERS, frame, refusal, fault);
+}
+
+static int print_frame(void)
+{
+    dwframe_frame frame;
+    dwframe_refusal refusal;
+    dwframe_fault fault;
+    dwframe_status status = unwind(&frame, &refusal, &fault);
+    if (status != DWFRAME_OK)
+        return tell(status, &refusal, &fault);
+    printf("cfa 0x%" PRIx64 "\nra r%" PRIu32 "\n", frame.cfa, frame.return_register);
+    for (size_t i = 0; i < frame.count; i++) {
+        if (caller[i].known)
+            printf("r%u 0x%" PRIx64 "\n", caller[i].number, caller[i].value);
+        else
+            printf("r%u undefined\n", caller[i].number);
+    }
+    return 0;
+}
+
+/* Makes the caller's registers the machine's: its stack pointer is the CFA. Answers whether the return address is known, and
+   lets it be looked up in the call, which is one byte before it. */
+static int go_up(const dwframe_frame *frame, uint16_t stack_pointer, uint64_t *pc)
+{
+    int found = 0;
+    machine.register_count = 1;
+    machine.registers[0] = (dwframe_register){stack_pointer, 1, frame->cfa};
+    for (size_t i = 0; i < frame->count; i++) {
+        if (caller[i].number == frame->return_register && caller[i].known) {
+            *pc = caller[i].value;
+            found = 1;
+        }
+        if (machine.register_count < REGISTERS)
+            machine.registers[machine.register_count++] = caller[i];
+    }
+    machine.stop.pc = *pc ? *pc - 1 : 0;
+    return found;
+}
+
+static int walk(uint16_t stack_pointer)
+{
+    uint64_t pc = machine.stop.pc, last = 0;
+    for (unsigned number = 0;; number++) {
+        dwframe_frame frame;
+        dwframe_refusal refusal;
+        dwframe_fault fault;
+        printf("#%u 0x%" PRIx64 "\n", number, pc);
+        dwframe_status status = unwind(&frame, &refusal, &fault);
+        if (status == DWFRAME_NO_FDE)
+            return 0;
+        if (status != DWFRAME_OK)
+            return tell(status, &refusal, &fault);
+        if (number && frame.cfa <= last)
+            return fail(2, "a frame does not stand above the one before");
+        last = frame.cfa;
+        if (!go_up(&frame, stack_pointer, &pc))
+            return 0;
+    }
+}
+
+int main(int argc, char **argv)
+{
+    size_t text_len = 0;
+    if (argc < 5 || argc > 6)
+        return fail(3, "usage: frames 4|8 little|big FILE DUMP [N]");
+    machine.stop.address_size = (uint8_t)atoi(argv[1]);
+    machine.stop.byte_order = strcmp(argv[2], "big") ? DWFRAME_LITTLE : DWFRAME_BIG;
+    machine.stop.unset = DWFRAME_UNCHANGED;
+    machine.stop.steps = 10000;
+    section = load(argv[3], &section_len);
+    char *text = (char *)load(argv[4], &text_len);
+    int status;
+    if (!section || !text)
+        status = fail(4, "cannot read a file");
+    else if (!read_dump(text))
+        status = fail(2, "fault: NoPc");
+    else
+        status = argc == 6 ? walk((uint16_t)atoi(argv[5])) : print_frame();
+    free(section);
+    free(text);
+    return status;
+}

@@ -1,0 +1,187 @@
+/*
+ * dwframe.h: the proved reader of DWARF call frame information, for C and C++.
+ *
+ * A section is the raw contents of `.debug_frame` (DWARF 5, 6.4.1), decompressed, as `./section` of the repository or objcopy
+ * takes them out of a file. Link with libdwframe.a, which `./library` builds.
+ *
+ * Every call answers a status. What it tells beside that it writes through pointers, at each call, also where it fails.
+ *
+ * What a caller keeps:
+ *
+ * - No pointer is null, also where its length is 0: give the address of any byte then.
+ * - A pointer with a length is to so many bytes; a length is at most PTRDIFF_MAX. A pointer to a struct or to a number is to
+ *   one of it, aligned as C aligns it.
+ * - What a call reads does not change while it runs, and what it writes is read and written by nobody else. So what it writes
+ *   shares no byte with what it reads, nor with anything else that it writes.
+ * - Memory comes from malloc, realloc and free, and is given back before a call returns. So no call is made in a signal handler,
+ *   nor in the child of a fork of a process with threads.
+ *
+ * All else is answered: any bytes, any size, order, number and length of room have a status. No call keeps anything when it has
+ * returned, so any number of threads may make calls at once.
+ */
+#ifndef DWFRAME_H
+#define DWFRAME_H
+
+#include <stddef.h>
+#include <stdint.h>
+
+#ifdef __cplusplus
+extern "C" {
+#endif
+
+/* A compiler that knows this attribute warns of a null pointer. */
+#if defined(__GNUC__)
+#define DWFRAME_NONNULL __attribute__((nonnull))
+#else
+#define DWFRAME_NONNULL
+#endif
+
+/* What a call answers. */
+typedef uint32_t dwframe_status;
+enum {
+    /* The call has its answer. */
+    DWFRAME_OK = 0,
+    /* A section is refused; the refusal says why, and where. */
+    DWFRAME_REFUSED = 1,
+    /* malloc or realloc gave no memory. */
+    DWFRAME_OUT_OF_MEMORY = 2,
+    /* An address size other than 4 and 8, a byte order other than DWFRAME_LITTLE and DWFRAME_BIG, or another `unset` than
+       DWFRAME_UNCHANGED and DWFRAME_UNDEFINED. */
+    DWFRAME_BAD_ARGUMENT = 3,
+    /* The room that is lent is too short; the call tells how much it needs. */
+    DWFRAME_TOO_SHORT = 4,
+    /* No FDE covers the address. */
+    DWFRAME_NO_FDE = 5,
+    /* An expression has no value; the fault says why. */
+    DWFRAME_NO_VALUE = 6,
+    /* A register is saved in memory that no window has, or that passes the end of the address space. */
+    DWFRAME_UNREADABLE = 7,
+    /* A register that is asked for is not given. */
+    DWFRAME_NO_REGISTER = 8,
+    /* The memory failed. Windows never do. */
+    DWFRAME_DEVICE = 9
+};
+
+/* The order of the bytes of a number. */
+enum { DWFRAME_LITTLE = 0, DWFRAME_BIG = 1 };
+
+/* Why a section is refused. All three are 0 where none is. */
+typedef struct dwframe_refusal {
+    /* 1 to 27; dwframe_refusal_name has its name. */
+    uint32_t code;
+    /* Which section: 1, or 2 for the second of two. */
+    uint32_t section;
+    /* The place of the first bad byte, counted from the section's first one. */
+    uint64_t at;
+} dwframe_refusal;
+
+/* How many common information entries (CIEs) and frame description entries (FDEs) a section has. */
+typedef struct dwframe_counts {
+    uint64_t cies;
+    uint64_t fdes;
+} dwframe_counts;
+
+/* The room that each name of a refusal fits into, with the zero byte behind it. */
+#define DWFRAME_NAME_SIZE 20
+
+/*
+ * Judges a section. DWFRAME_OK where it is well formed: its entries and their fields, all programs, a rule for the CFA at each
+ * address that an FDE covers, and no two FDEs that share an address. DWFRAME_REFUSED with its first fault where it is not.
+ */
+dwframe_status dwframe_check(const uint8_t *bytes, size_t len, uint8_t address_size, uint8_t byte_order,
+    dwframe_counts *counts, dwframe_refusal *refusal) DWFRAME_NONNULL;
+
+/*
+ * Writes the name of a refusal's code, as `EntryPastEnd`, and a zero byte behind it, where both fit into the `size` bytes at
+ * `name`; else it writes nothing. Answers the length of the name without the zero byte, or 0 where no refusal has that code.
+ */
+size_t dwframe_refusal_name(uint32_t code, char *name, size_t size) DWFRAME_NONNULL;
+
+/*
+ * Writes the normal form of a section to the front of the `room` bytes at `out`, and its length to `needed`. Two sections say
+ * the same exactly where their normal forms are equal. DWFRAME_TOO_SHORT, with the length, where `room` is less; `out` stays
+ * then, and where the section is refused. A normal form above 2147483647 bytes is refused.
+ */
+dwframe_status dwframe_normalise(const uint8_t *bytes, size_t len, uint8_t address_size, uint8_t byte_order, uint8_t *out,
+    size_t room, size_t *needed, dwframe_refusal *refusal) DWFRAME_NONNULL;
+
+/*
+ * Whether two sections say the same: the same FDEs with the same return registers, and the same rules at each address that they
+ * cover. `alike` is 1 where they do, and else 0.
+ */
+dwframe_status dwframe_same(const uint8_t *first, size_t first_len, const uint8_t *second, size_t second_len,
+    uint8_t address_size, uint8_t byte_order, uint32_t *alike, dwframe_refusal *refusal) DWFRAME_NONNULL;
+
+/* What a register is taken as that no instruction has set: the ABI decides. */
+enum { DWFRAME_UNCHANGED = 0, DWFRAME_UNDEFINED = 1 };
+
+/* Where a machine stopped, and what is asked of it. */
+typedef struct dwframe_stop {
+    /* The address that is looked up. Of a caller's frame it is the return address minus one, which is in the call. */
+    uint64_t pc;
+    /* How many steps each expression may take. */
+    uint64_t steps;
+    uint8_t address_size;
+    uint8_t byte_order;
+    uint8_t unset;
+} dwframe_stop;
+
+/* A register: its DWARF number, 1 where its value is known and 0 where it is not, and the value. */
+typedef struct dwframe_register {
+    uint16_t number;
+    uint16_t known;
+    uint64_t value;
+} dwframe_register;
+
+/* `len` bytes of the machine's memory from `address` on. They stand in one buffer, from its byte `place` on. */
+typedef struct dwframe_window {
+    uint64_t address;
+    uint64_t place;
+    uint64_t len;
+} dwframe_window;
+
+/* A caller's frame. All are 0 where there is none. */
+typedef struct dwframe_frame {
+    /* The canonical frame address. */
+    uint64_t cfa;
+    /* How many registers it has. */
+    size_t count;
+    /* The number of the register that holds the return address. */
+    uint32_t return_register;
+} dwframe_frame;
+
+/* The column of the CFA, beside the numbers of registers. */
+#define DWFRAME_CFA 65536
+
+/* What is wrong in a column. All are 0 where nothing is. */
+typedef struct dwframe_fault {
+    /* A register's number, or DWFRAME_CFA. */
+    uint32_t column;
+    /* Of an expression: 1 the stack has too few entries, 2 division by zero, 3 a register is not given, 4 a byte of memory is
+       missing, 5 the memory failed, 6 the steps are taken, 7 nothing is left on the stack, 8 a location and no value, 9 no frame
+       base, 10 no CFA, 11 no object address, 12 a piece is missing. */
+    uint32_t kind;
+    /* Of an expression: which operation, counted from 0, or how many there are for a fault at the end. */
+    uint64_t index;
+} dwframe_fault;
+
+/*
+ * The caller's frame of a machine that stopped, by the rules of a section for the address `stop->pc`. The section is judged
+ * first, as dwframe_check does.
+ *
+ * Of registers with one number the first that is known counts. A byte of memory is that of the first window that covers its
+ * address; windows may come in any order, and what lies past the buffer's end is not there.
+ *
+ * With DWFRAME_OK the first `frame->count` of the `room` registers at `out` are the caller's, ascending: each that is given,
+ * that the rules name, or that holds the return address. What leads from one frame to the next is the ABI's: the stack pointer is
+ * the CFA, and the pc is the value of the return register. With DWFRAME_TOO_SHORT the frame is told, and `out` stays; with any
+ * other status `out` stays, and the refusal or the fault says why.
+ */
+dwframe_status dwframe_unwind(const uint8_t *bytes, size_t len, const dwframe_stop *stop, const dwframe_register *registers,
+    size_t register_count, const dwframe_window *windows, size_t window_count, const uint8_t *memory, size_t memory_len,
+    dwframe_register *out, size_t room, dwframe_frame *frame, dwframe_refusal *refusal, dwframe_fault *fault) DWFRAME_NONNULL;
+
+#ifdef __cplusplus
+}
+#endif
+#endif
