@@ -162,7 +162,22 @@ fn tree_of<'a>(
     Ok(tree)
 }
 
-// Whether two slots of a register give it the same rule.
+// Whether two slots of a register give it the same rule, whatever they hold.
+#[inline(never)]
+fn same_rules(
+    slot: Slot,
+    other: Slot,
+    expressions: &BTreeMap<u16, RegRule<'_>>,
+    others: &BTreeMap<u16, RegRule<'_>>,
+    register: u16,
+) -> bool
+    ensures same { IsTrue result ↔ (slot_rule slot (rule_in expressions.now.entries register) ≡ slot_rule other (rule_in others.now.entries register)) }
+    ensures test { result ≡ same_rule (slot_rule slot (rule_in expressions.now.entries register)) (slot_rule other (rule_in others.now.entries register)) }
+{
+    rule_of(slot, expressions, register).is_same(&rule_of(other, others, register))
+}
+
+// The same, with no look at the trees where neither holds an expression.
 #[inline(always)]
 fn same_slots(
     slot: Slot,
@@ -176,7 +191,7 @@ fn same_slots(
 {
     match (slot.kind, other.kind) {
         (Kind::Expression, _) | (_, Kind::Expression) => {
-            rule_of(slot, expressions, register).is_same(&rule_of(other, others, register))
+            same_rules(slot, other, expressions, others, register)
         }
         (Kind::Empty, Kind::Empty) => true,
         (Kind::Undefined, Kind::Undefined) => true,

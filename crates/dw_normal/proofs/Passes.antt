@@ -51,6 +51,11 @@ later_more initial at row (x ∷ xs) c =
 pub program_more : (t : Target) (xs ys : List Instr) → program_bytes t (xs ++ ys) ≡ program_bytes t xs ++ program_bytes t ys
 program_more t xs ys = flat_map-append (instr_bytes t) xs ys
 
+-- what is so of all is so of both halves
+pub both_halves : {X : Type 0} (P : X → Type 0) (xs ys : List X) → AllByRecursion P (xs ++ ys) → AllByRecursion P xs × AllByRecursion P ys
+both_halves P [] ys all = (tt, all)
+both_halves P (x ∷ xs) ys all = let rest = both_halves P xs ys all.1 in ((all.0, rest.0), rest.1)
+
 -- ---- the loop over changes
 
 pub begins_under : (t : Target) (shared : Rules) (begin : ℕ) (first : Rules) (start : Changing) (old : List ℕ) → RowFits t first → Stand t shared begin first start → Under t shared begin first start old begin first start old

@@ -28,8 +28,8 @@ fn push_sleb(out: &mut Vec<u8>, value: i64) -> Result<(), AllocError>
     put_sleb(out, value)
 }
 
-// Appends a code with the register in it where that is below 64, else another with the register behind it.
-fn push_packed(out: &mut Vec<u8>, low: u8, code: u8, register: u16) -> Result<(), AllocError>
+/// Appends a code with the register in it where that is below 64, else another with the register behind it.
+pub(crate) fn push_packed(out: &mut Vec<u8>, low: u8, code: u8, register: u16) -> Result<(), AllocError>
     requires { low < 193 }
     ensures { OnOk result (out.new.items ≡ out.old.items ++ packed low code register) }
 {
@@ -74,8 +74,8 @@ fn push_expression(
     expression.put_least(out)
 }
 
-// Appends what gives a register a rule.
-fn push_rule(
+/// Appends what gives a register a rule.
+pub(crate) fn push_rule(
     out: &mut Vec<u8>,
     register: u16,
     rule: &RegRule<'_>,
