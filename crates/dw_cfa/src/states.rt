@@ -67,6 +67,7 @@ fn take_back<'a>(
 }
 
 // Takes all changes of registers back.
+#[inline(never)]
 fn take_all_back<'a>(row: &mut Row<'a>, undo: &mut SmallVec<Undo<'a>, 4>) -> Result<(), AllocError>
     ensures { OnOk result (row.new.registers ≡ first_registers row.old (reverse undo.old.items)) }
 {
@@ -208,6 +209,7 @@ impl<'a> States<'a> {
     }
 
     /// Goes back to the initial row, which was the first, and remembers none.
+    #[inline(always)]
     pub(crate) fn rewind(&mut self, initial: &Row<'a>) -> Result<(), AllocError>
         requires { BeganWith initial.now self.old.first }
         ensures { OnOk result ((self.new.row ≡ initial.now) × (self.new.stack ≡ []) × BeganWith initial.now self.new.first) }

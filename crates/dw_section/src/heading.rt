@@ -110,7 +110,11 @@ fn header_of<'a>(piece: &Placed<'a>, places: &[u64], target: Target) -> Result<H
     ensures stuck { IfErr result (FdeStuck target places.now (piece_in piece.now)) }
 {
     match piece.kind {
-        Kind::Cie => cie_header(piece, target),
+        Kind::Cie => {
+            // A copy, so that an FDE's piece need not be in memory.
+            let cie = *piece;
+            cie_header(&cie, target)
+        }
         Kind::Fde => fde_header(piece, places, target),
     }
 }
@@ -122,7 +126,8 @@ fn keep_cie(places: &mut Vec<u64>, piece: &Placed<'_>, target: Target) -> Result
 {
     match piece.kind {
         Kind::Cie => {
-            let _ = cie_header(piece, target)?;
+            let cie = *piece;
+            let _ = cie_header(&cie, target)?;
             places.push(piece.at)?;
             Ok(())
         }

@@ -146,10 +146,13 @@ fn keep_piece<'a>(
     ensures first { (places : List ℕ) (h : Head) → Has target places (piece_in piece.now) h → IfErr result (Refuses (CieBroken target h)) }
 {
     match piece.kind {
-        Kind::Cie => match cie_header(piece, target) {
-            Ok(header) => keep_initial(initials, &header, target),
-            Err(_) => Ok(()),
-        },
+        Kind::Cie => {
+            let cie = *piece;
+            match cie_header(&cie, target) {
+                Ok(header) => keep_initial(initials, &header, target),
+                Err(_) => Ok(()),
+            }
+        }
         Kind::Fde => Ok(()),
     }
 }

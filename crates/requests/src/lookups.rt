@@ -4,6 +4,7 @@ use crate::Calls;
 use dw_cfa::CfaRule;
 use dw_num::Target;
 use dw_section::{Fde, Lookups, Table, check};
+use std::alloc::AllocError;
 use std::test::Fail;
 
 /// Numbers that are the same at each run (xorshift64*).
@@ -32,7 +33,7 @@ fn range_of(fde: &Fde) -> u64 {
 }
 
 // A number that tells the rule of the CFA at an address: 0 for none, 1 for an expression.
-fn found_at(lookups: &mut Lookups<'_, '_>, address: u64) -> Result<u64, Fail> {
+fn found_at(lookups: &mut Lookups<'_, '_>, address: u64) -> Result<u64, AllocError> {
     let _ = lookups.find(address)?;
     let Some(row) = lookups.row() else {
         return Ok(0);
@@ -44,7 +45,7 @@ fn found_at(lookups: &mut Lookups<'_, '_>, address: u64) -> Result<u64, Fail> {
     })
 }
 
-fn sum_of(table: &Table<'_>, fdes: &[Fde], count: u64) -> Result<u64, Fail> {
+fn sum_of(table: &Table<'_>, fdes: &[Fde], count: u64) -> Result<u64, AllocError> {
     let mut numbers = Numbers {
         state: 0x9e37_79b9_7f4a_7c15,
     };
