@@ -135,14 +135,15 @@ fn keep_cie(places: &mut Vec<u64>, piece: &Placed<'_>, target: Target) -> Result
     }
 }
 
-/// Reads the fields of the CIEs of a section that has a cut, and tells where they stand.
+/// Reads the fields of the CIEs of a section that has a cut and so many of them, and tells where they stand.
 pub(crate) fn find_cies(
     alloc: Global,
     bytes: &[u8],
     target: Target,
     count: usize,
 ) -> Result<Vec<u64>, SectionError>
-    requires { (ps : List Piece) × Pieces target bytes.now ps }
+    requires pieces { (ps : List Piece) × Pieces target bytes.now ps }
+    requires count { (ps : List Piece) → Pieces target bytes.now ps → count ≡ length (cie_places ps) }
     ensures found { (ps : List Piece) → Pieces target bytes.now ps → IfOk result (λ v. AllByRecursion (CieHolds target) ps × (v.items ≡ cie_places ps)) }
     ensures first { (ps : List Piece) → Pieces target bytes.now ps → IfErr result (Refuses (FirstStuck (CieHolds target) (CieStuck target) ps)) }
 {
@@ -150,6 +151,10 @@ pub(crate) fn find_cies(
     let mut places = Vec::with_capacity(alloc, count)?;
     'pieces: while let Some(piece) = next_piece(&mut cursor) {
         keep_cie(&mut places, &piece, target)?;
+        // Often all CIEs stand before the FDEs.
+        if places.len() == count {
+            return Ok(places);
+        }
     }
     Ok(places)
 }

@@ -173,6 +173,10 @@ pub(crate) fn run_cies<'a>(
     let mut initials = Vec::with_capacity(alloc, places.len())?;
     'pieces: while let Some(piece) = next_piece(&mut cursor) {
         keep_piece(&mut initials, &piece, target)?;
+        // Often all CIEs stand before the FDEs.
+        if initials.len() == places.len() {
+            return Ok(initials);
+        }
     }
     Ok(initials)
 }

@@ -1,4 +1,5 @@
-use Rattle.std.proofs.Common.{List, [], refl, arith}
+use Rattle.std.proofs.Common.{◌≡◌, List, [], ◌∷◌, ◌++◌, refl, sym, ap, ◌∙◌, append_assoc, arith}
+use Rattle.dw_section.proofs.AllMet.{all_placed}
 use Rattle.std.proofs.lemmas.Result.{err_from_is_err_and}
 use Rattle.dw_section.specs.Cut.{Piece}
 use Rattle.dw_section.specs.Left.{PiecesLeft}
@@ -17,10 +18,10 @@ pieces-init c = rw (c.new-cursor.ensures, c.in_ok-places.ensures.items) (
 )
 
 pub next_piece-requires-clause-room : goal.next_piece-requires-clause-room
-next_piece-requires-clause-room c = omega (arith, c.pieces.invariant.0.end, c.requires.1.small)
+next_piece-requires-clause-room c = omega (arith, c.pieces.invariant.0.end, c.requires.pieces.1.small)
 
 pub next_piece-requires-clause-cut : goal.next_piece-requires-clause-cut
-next_piece-requires-clause-cut c = let w = c.pieces.invariant.1 c.requires.0 c.requires.1 in (w.rest, w.left)
+next_piece-requires-clause-cut c = let w = c.pieces.invariant.1 c.requires.pieces.0 c.requires.pieces.1 in (w.rest, w.left)
 
 pub pieces-preserved : goal.pieces-preserved
 pieces-preserved c = (
@@ -45,4 +46,14 @@ pub returns-clause-found : goal.returns-clause-found
 returns-clause-found c = λ ps p.
     let w = c.pieces.invariant.1 ps p in
     let all = between_end (PiecesLeft c.pieces.cursor) (λ (front : List Piece). AreCies c.args.target front c.pieces.places.items) ps w (c.in_default.ensures.gives w.rest w.left) in
+    (all.hold, all.are)
+
+pub returns-then-len-count-clause-found : goal.returns-then-len-count-clause-found
+returns-then-len-count-clause-found c = λ ps p.
+    let w = c.pieces.invariant.1 ps p in
+    let q = c.in-Some.ensures.gives w.rest w.left in
+    let so = c.in_ok-keep_cie.ensures.found w.front w.so.hold w.so.are in
+    let piece = piece_in c.in-Some.piece in
+    let whole : ps ≡ (w.front ++ piece ∷ []) ++ q.0 = w.whole ∙ ap (λ (l : List Piece). w.front ++ l) q.1 ∙ sym (append_assoc w.front (piece ∷ []) q.0) in
+    let all = all_placed c.args.target ps (w.front ++ piece ∷ []) q.0 c.keep_cie.new.places.items whole (record { hold = so.0; are = so.1 }) (omega (arith, c.len.ensures, c.if-len-count.true, c.requires.count ps p)) in
     (all.hold, all.are)

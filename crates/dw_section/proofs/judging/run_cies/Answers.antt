@@ -1,4 +1,5 @@
-use Rattle.std.proofs.Common.{List, [], refl, arith, subst}
+use Rattle.std.proofs.Common.{◌≡◌, List, [], ◌∷◌, ◌++◌, refl, sym, ap, ◌∙◌, append_assoc, arith, subst}
+use Rattle.dw_section.proofs.AllMet.{all_met}
 use Rattle.std.proofs.lemmas.Result.{err_from_is_err_and}
 use Rattle.dw_num.specs.declared.target.Target.{Target}
 use Rattle.dw_section.specs.Pieces.{piece_in}
@@ -61,3 +62,14 @@ keep_piece-requires c =
     let piece = piece_in c.in-Some.piece in
     let q = heads_next c.args.places.now c.pieces.cursor c.next_piece.new.cursor piece w.rest w.left (c.in-Some.ensures.gives w.left.parts w.left.left) c.in-Some.ensures.on.0 in
     has_cie c.args.target c.args.places.now piece q.0 (subst (λ (t : Target). Has t c.args.places.now piece q.0) c.pieces.invariant.0.target q.3)
+
+pub returns-then-len-places-clause-found : goal.returns-then-len-places-clause-found
+returns-then-len-places-clause-found c = λ hs p.
+    let w = c.pieces.invariant.1 hs p in
+    let piece = piece_in c.in-Some.piece in
+    let q = heads_next c.args.places.now c.pieces.cursor c.next_piece.new.cursor piece w.rest w.left (c.in-Some.ensures.gives w.left.parts w.left.left) c.in-Some.ensures.on.0 in
+    let h = q.0 in
+    let has = subst (λ (t : Target). Has t c.args.places.now piece h) c.pieces.invariant.0.target q.3 in
+    let now = c.in_ok-keep_piece.ensures.found hs w.front c.args.places.now h has (between_among _ _ hs w h q.1 q.2) w.so in
+    let whole : hs ≡ (w.front ++ h ∷ []) ++ q.1 = w.whole ∙ ap (λ (l : List Head). w.front ++ l) q.2 ∙ sym (append_assoc w.front (h ∷ []) q.1) in
+    all_met c.args.target c.args.bytes.now c.args.places.now hs p (w.front ++ h ∷ []) q.1 c.keep_piece.new.initials.items whole now (omega (arith, c.len.ensures, c.if-len-places.true))

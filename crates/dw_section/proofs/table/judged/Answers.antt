@@ -1,4 +1,4 @@
-use Rattle.std.proofs.Common.{ℕ, List, ◌∙◌, sym, subst, inl, inr}
+use Rattle.std.proofs.Common.{ℕ, List, ◌∙◌, sym, subst, inl, inr, ap, length}
 use Rattle.std.proofs.lemmas.Result.{err_from_is_err_and}
 use Rattle.dw_section.specs.Initials.{AreInitials}
 use Rattle.dw_section.specs.Left.{AreHeaders}
@@ -8,6 +8,9 @@ use Rattle.dw_section.proofs.Heads.{heads_rise}
 use Rattle.dw_section.proofs.Judged.{refuses_by}
 use Rattle.dw_section.proofs.Left.{headers_so}
 use Rattle.dw_section.proofs.Tables.{nonempty_rise}
+use Rattle.dw_section.specs.Cut.{Piece}
+use Rattle.dw_section.specs.Places.{cie_places}
+use Rattle.dw_section.proofs.Items.{one_pieces}
 use Rattle.dw_section.proofs.table.judged.Goals as goal
 
 pub returns-in_err-places-clause-first : goal.returns-in_err-places-clause-first
@@ -110,3 +113,8 @@ returns-clause-found c =
       },
       record { headers = hs; heads = heads; entries = n.0; cut = n.1; counts_are = n.2; initials = initials },
     )
+
+pub find_cies-requires-clause-count : goal.find_cies-requires-clause-count
+find_cies-requires-clause-count c = λ ps p.
+    let n = c.in_ok-counts.ensures.found in
+    n.2.0 ∙ ap (λ (l : List Piece). length (cie_places l)) (one_pieces c.args.target c.args.bytes.now n.0 ps n.1 p)
