@@ -25,7 +25,7 @@ PAGES = ["README.md", "docs/CALLING.md"]
 LINKED = [*PAGES, "CONTRIBUTING.md", "SECURITY.md", "CHANGELOG.md", "examples/README.md"]
 MANUAL = "docs/dwframe.1"
 # What stands in the folder of a session.
-LENT = ["examples", "section", "crates"]
+LENT = ["examples", "section", "crates", "include", "library", "libdwframe.a"]
 TOOLS = {"gcc": ["gcc"], "clang": ["clang"], "objcopy": ["objcopy"], "readelf": ["readelf"], "section": ["objcopy", "readelf"]}
 # The codes of the sources: file, enum, and the heading of the README's table.
 CODES = [

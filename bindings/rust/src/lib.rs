@@ -87,6 +87,8 @@ impl fmt::Display for Refusal {
     }
 }
 
+impl Error for Refusal {}
+
 impl fmt::Debug for Refusal {
     fn fmt(&self, f: &mut fmt::Formatter<'_>) -> fmt::Result {
         fmt::Display::fmt(self, f)
