@@ -1,7 +1,11 @@
 -- The initial rows of the groups, one FDE after another, are those of all of them.
 use Rattle.std.proofs.Common.{Less, Equal, Greater, eq-eqb, ◌≡◌, ◌⊎◌, ◌+◌, ℕ, suc, length, take, get_or, ◌<◌, ◌≤◌, Bool, true, false, List, [], ◌∷◌, ◌++◌, map, Option, Some, None, refl, sym, ap, ◌∙◌, subst, inl, inr, arith}
 use Rattle.std.specs.Prelude.{nat_eq, nat_lt}
-use Rattle.std.specs.BTreeMap.{insert_entry}
+use Rattle.std.specs.BTreeMap.{insert_entry, is_at}
+use Rattle.std.specs.List.{AllByRecursion}
+use Rattle.std.specs.List.Sorted.{IsStrictlySortedBy}
+use Rattle.std.specs.Map.{keys_of, lookup, set_value}
+use Rattle.std.proofs.lemmas.Map.Keys.{sorted_head, sorted_tail}
 use Rattle.std.specs.Ordering.{nat_cmp}
 use Rattle.std.proofs.lemmas.Bool.{cases_lt, lt-ltb, le-ltb, ne_eqb, cases_Bool}
 use Rattle.std.proofs.lemmas.List.{append-nil, take_more}
@@ -40,6 +44,35 @@ pub told : (a b : ℕ) → Lower a b ⊎ ((a ≡ b) ⊎ Lower b a)
 told a b = elim (cases_lt a b) [
   | inl lt ↦ inl (lower a b lt)
   | inr ge ↦ elim (cases_lt b a) [ inl gt ↦ inr (inr (lower b a gt)) | inr le ↦ inr (inl (omega arith)) ]
+]
+
+-- ---- a row that is written over the one of its register
+
+absent : (k a : ℕ) (es : List (ℕ × Rules)) → k < a → AllByRecursion (λ y. nat_cmp a y ≡ Less) (keys_of es) → lookup (is_at (nat_cmp k)) es ≡ None
+absent k a [] lt up = refl
+absent k a (e ∷ es) lt up = elim (told a e.0) [
+  | inl low ↦ let less = (lower k e.0 (omega (arith, lt, low.lt))).less in rw less (absent k a es lt up.1)
+  | inr (inl same) ↦
+      let here : nat_cmp a a ≡ Equal = rw (self_lt a, self_eq a) refl in
+      let there : nat_cmp a e.0 ≡ Equal = subst (λ (n : ℕ). nat_cmp a n ≡ Equal) same here in
+      let less : nat_cmp a e.0 ≡ Less = up.0 in absurd cc
+  | inr (inr high) ↦ let less : nat_cmp a e.0 ≡ Less = up.0 in let greater = high.greater in absurd cc
+]
+
+pub written : (k : ℕ) (es : List (ℕ × Rules)) (x w : Rules) → IsStrictlySortedBy nat_cmp (keys_of es) → lookup (is_at (nat_cmp k)) es ≡ Some x → set_value (is_at (nat_cmp k)) es w ≡ insert_entry nat_cmp es k w
+written k [] x w up found = absurd cc
+written k (e ∷ es) x w up found = elim (told k e.0) [
+  | inl low ↦
+      let none : lookup (is_at (nat_cmp k)) (e ∷ es) ≡ None = (let less = low.less in rw less (absent k e.0 es low.lt (sorted_head nat_cmp e.0 (keys_of es) up))) in
+      let both : Some x ≡ None = sym found ∙ none in absurd cc
+  | inr (inl same) ↦
+      let here : nat_cmp k k ≡ Equal = rw (self_lt k, self_eq k) refl in
+      let there : nat_cmp k e.0 ≡ Equal = subst (λ (n : ℕ). nat_cmp k n ≡ Equal) same here in
+      rw there refl
+  | inr (inr high) ↦
+      let greater = high.greater in
+      let step : lookup (is_at (nat_cmp k)) (e ∷ es) ≡ lookup (is_at (nat_cmp k)) es = rw greater refl in
+      rw greater (ap (λ (l : List (ℕ × Rules)). e ∷ l) (written k es x w (sorted_tail nat_cmp e.0 (keys_of es) up) (sym step ∙ found)))
 ]
 
 -- ---- two registers come in in either order

@@ -1,12 +1,13 @@
 //! The initial row of each return register, found in one pass over all changes.
 
-ghost use Rattle.std.specs.Prelude.{◌≡◌, ℕ, ◌<◌, List, length, slice_index_or, IfOk, OnOk};
+ghost use Rattle.std.specs.Prelude.{◌≡◌, ℕ, ◌<◌, List, length, slice_index_or, Some, IfOk, OnOk};
 ghost use Rattle.dw_cfa.specs.Rows.{Rules};
 ghost use Rattle.dw_section.specs.declared.lookup.Fde.{Fde as TheFde};
 ghost use Rattle.dw_section.specs.Meaning.{AreFdes};
 ghost use Rattle.dw_canon.specs.Group.{kept_by};
 ghost use Rattle.dw_canon.specs.Members.{Member, AreMembers};
-ghost use Rattle.dw_normal.specs.Grouping.{begun_with, row_of, with_member, initial_rows};
+ghost use Rattle.dw_cfa.specs.Narrowing.{agreed};
+ghost use Rattle.dw_normal.specs.Grouping.{with_member, initial_rows};
 ghost use Rattle.dw_normal.specs.Passing.{AreToCome, BehindFirst};
 
 use dw_cfa::Row;
@@ -49,22 +50,27 @@ pub(crate) fn keep_all<'a>(
     Ok(())
 }
 
-// The rules that an FDE's first row shares with others of its group.
-fn begun_with<'a>(
-    rows: &BTreeMap<u16, Row<'a>>,
-    register: u16,
-    first: &Row<'a>,
-) -> Result<Row<'a>, AllocError>
-    ensures { IfOk result (λ row. row ≡ begun_with (row_of rows.now.entries register) first.now) }
+// Narrows the row of a group to what one more FDE shares with it, whose row at its begin is shown.
+fn share_with<'a>(shared: &mut Row<'a>, changes: &mut Changes<'a>) -> Result<(), AllocError>
+    ensures { (first : Rules) (later : List (ℕ × Rules)) → changes.old.shown ≡ Some first → AreToCome changes.old later → OnOk result (shared.new ≡ kept_by (agreed shared.old first) later) }
 {
-    match rows.get(&register) {
-        Some(shared) => {
-            let mut row = shared.copied()?;
-            row.agree(first);
-            Ok(row)
-        }
-        None => first.copied(),
-    }
+    let Some(first) = changes.row() else {
+        return Err(AllocError);
+    };
+    shared.agree(first);
+    keep_all(shared, changes)
+}
+
+// The row of a group that begins with an FDE, whose row at its begin is shown.
+fn first_shared<'a>(changes: &mut Changes<'a>) -> Result<Row<'a>, AllocError>
+    ensures { (first : Rules) (later : List (ℕ × Rules)) → changes.old.shown ≡ Some first → AreToCome changes.old later → IfOk result (λ row. row ≡ kept_by first later) }
+{
+    let Some(first) = changes.row() else {
+        return Err(AllocError);
+    };
+    let mut row = first.copied()?;
+    keep_all(&mut row, changes)?;
+    Ok(row)
 }
 
 // Narrows the row of an FDE's group to what the FDE shares with it.
@@ -79,11 +85,10 @@ fn add_fde<'a>(
 {
     let register = table.fde(fde).return_register;
     go_behind_first(changes, table, fde)?;
-    let Some(first) = changes.row() else {
-        return Err(AllocError);
-    };
-    let mut row = begun_with(rows, register, first)?;
-    keep_all(&mut row, changes)?;
+    if let Some(shared) = rows.get_mut(&register) {
+        return share_with(shared, changes);
+    }
+    let row = first_shared(changes)?;
     rows.insert(register, row)?;
     Ok(())
 }

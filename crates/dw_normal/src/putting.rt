@@ -29,7 +29,12 @@ fn push_sleb(out: &mut Vec<u8>, value: i64) -> Result<(), AllocError>
 }
 
 /// Appends a code with the register in it where that is below 64, else another with the register behind it.
-pub(crate) fn push_packed(out: &mut Vec<u8>, low: u8, code: u8, register: u16) -> Result<(), AllocError>
+pub(crate) fn push_packed(
+    out: &mut Vec<u8>,
+    low: u8,
+    code: u8,
+    register: u16,
+) -> Result<(), AllocError>
     requires { low < 193 }
     ensures { OnOk result (out.new.items ≡ out.old.items ++ packed low code register) }
 {
