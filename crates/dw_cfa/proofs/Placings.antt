@@ -19,9 +19,17 @@ use Rattle.dw_cfa.specs.declared.rule.RegRule.TheVariants as rules
 use Rattle.dw_cfa.specs.InstrSpells.{InstrSpells}
 use Rattle.dw_cfa.specs.Reading.{instr_at}
 use Rattle.dw_cfa.specs.Steps.{InLimit}
-use Rattle.dw_cfa.specs.Runs.{Placing, ended, after_item, on_left, placed_by, placed}
+use Rattle.dw_cfa.specs.Runs.{Placing, place_of, placed}
+use Rattle.dw_op.specs.Walks.{ended, put, on_left, walked_by}
 use Rattle.dw_cfa.proofs.Spellings.{IsSpelled, by_table}
 use Rattle.dw_cfa.proofs.InstrLaws.{instr_found}
+
+abbrev pub after_item : ℕ → Instr → Placing → Placing
+after_item at i l = put (place_of at i) l
+
+-- in at most n instructions
+abbrev pub placed_by : Factors → ℕ → Input → Placing
+placed_by f n i = walked_by (instr_at f) place_of n i
 
 -- what is read is shorter by its spelling
 pub record Reads (f : Factors) (i : Input) (x : Instr × Input) : Type 0 where
@@ -66,16 +74,16 @@ on_none [] l none = refl
 on_none (b ∷ bytes) l none = absurd (omega arith)
 
 none_by : (f : Factors) (n : ℕ) (i : Input) → length i.bytes ≡ 0 → placed_by f n i ≡ ended None
-unfolding placed_by
+unfolding walked_by
 none_by f zero i none = refl
 none_by f (suc n) i none = on_none i.bytes _ none
 
 step_by : (f : Factors) (n : ℕ) (i : Input) (x : Instr × Input) → 0 < length i.bytes → instr_at f i ≡ Ok x → placed_by f (suc n) i ≡ after_item i.at x.0 (placed_by f n x.1)
-unfolding placed_by
+unfolding walked_by
 step_by f n i x some e = rw (on_some i.bytes _ some, e) refl
 
 stuck_by : (f : Factors) (n : ℕ) (i : Input) (r : Refusal) → 0 < length i.bytes → instr_at f i ≡ Err r → placed_by f (suc n) i ≡ ended (Some r)
-unfolding placed_by
+unfolding walked_by
 stuck_by f n i r some e = rw (on_some i.bytes _ some, e) refl
 
 read_same : (f : Factors) (n m : ℕ) (i : Input) → AreBytes i.bytes → 0 < length i.bytes → (r : Read Instr) → instr_at f i ≡ r

@@ -10,6 +10,7 @@ pub mod Laws
 pub mod Reading
 pub mod ByOpcode
 pub mod Steps
+pub mod Walks
 pub mod Walk
 pub mod Operands
 pub mod Faults
