@@ -203,8 +203,7 @@ headline_holds t a b ba bb ok okay =
 
 pub fewest_rows : FewestRows
 fewest_rows t s f changes b ok some h =
-    least_starts t s b ok f.begin f.end h.initial h.instrs changes some
-    (record { headers = h.headers; are = h.are; at = h.at; form = h.form; cie_at = h.cie_at; range = h.range; program = h.program; among = h.among; end_is = h.end; spelled = h.spelled }) h.change
+    least_starts t s b ok f.begin f.end h.initial h.instrs changes some h.says h.change
 
 -- ---- rows that a normal form starts
 

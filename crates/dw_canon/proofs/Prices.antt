@@ -8,7 +8,7 @@ use Rattle.dw_cfa.specs.declared.instr.Instr.{Instr}
 use Rattle.dw_cfa.specs.Rows.{Rules, blank}
 use Rattle.dw_cfa.proofs.Counting.{counts_exists}
 use Rattle.dw_section.specs.Accepted.{Accepted}
-use Rattle.dw_section.specs.Lengths.{HasLengths}
+use Rattle.dw_section.specs.Meaning.{HasLengths}
 use Rattle.dw_section.specs.Sound.{RowFits}
 use Rattle.dw_section.proofs.OneLengths.{one_lengths}
 use Rattle.dw_section.proofs.Sections.{here, changes_programs}

@@ -22,7 +22,8 @@ use Rattle.dw_cfa.specs.declared.instr.Instr.{Instr}
 use Rattle.dw_cfa.specs.declared.instr.Instr.TheVariants.{Nop, SetLoc, Advance, DefCfa, DefCfaRegister, DefCfaOffset, DefCfaExpression, Set, Restore, RememberState, RestoreState}
 use Rattle.dw_cfa.specs.declared.rule.RegRule.{RegRule}
 use Rattle.dw_cfa.specs.declared.rule.RegRule.TheVariants as rules
-use Rattle.dw_cfa.specs.InstrSpells.{IsOffset, Plain, Factored, SignedFactored, BlockSpells, AdvanceSpells, RuleSpells, InstrSpells, Program}
+use Rattle.dw_cfa.specs.InstrSpells.{IsOffset, BlockSpells, InstrSpells, Program}
+use Rattle.dw_cfa.proofs.Spellings.{Plain, Factored, SignedFactored, AdvanceSpells, RuleSpells, IsSpelled, in_table}
 use Rattle.dw_section.specs.Sound.{HasBlock, RuleFits}
 use Rattle.dw_canon.specs.Fits.{InstrFits}
 use Rattle.dw_canon.specs.Spelling.{expression_bytes, advance_bytes, packed, rule_bytes, instr_bytes, program_bytes}
@@ -139,7 +140,7 @@ fits_width Eight a lt = omega arith
 
 -- ---- instructions
 
-pub instr_spelled : (t : Target) (i : Instr) → InstrFits t i → InstrSpells t factors i (instr_bytes t i)
+instr_spelled : (t : Target) (i : Instr) → InstrFits t i → IsSpelled t factors i (instr_bytes t i)
 unfolding instr_bytes
 instr_spelled t Nop h = refl
 instr_spelled t (SetLoc a) h = code 0x01 (Address t a) (fixed_bytes t.order (byte_count t.size) a) (record { bytes = refl; fits = fits_width t.size a h })
@@ -157,4 +158,4 @@ instr_spelled t RestoreState h = refl
 
 pub program_spelled : (t : Target) (instrs : List Instr) → AllByRecursion (InstrFits t) instrs → Program t factors instrs (program_bytes t instrs)
 program_spelled t [] h = refl
-program_spelled t (i ∷ instrs) h = both (InstrSpells t factors i) (Program t factors instrs) (instr_bytes t i) (program_bytes t instrs) (instr_spelled t i h.0) (program_spelled t instrs h.1)
+program_spelled t (i ∷ instrs) h = both (InstrSpells t factors i) (Program t factors instrs) (instr_bytes t i) (program_bytes t instrs) (in_table t factors i (instr_bytes t i) (instr_spelled t i h.0)) (program_spelled t instrs h.1)

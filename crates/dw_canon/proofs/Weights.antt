@@ -19,7 +19,8 @@ use Rattle.dw_cfa.specs.declared.rule.CfaRule.{CfaRule}
 use Rattle.dw_cfa.specs.declared.rule.CfaRule.TheVariants as cfa
 use Rattle.dw_cfa.specs.declared.rule.RegRule.{RegRule}
 use Rattle.dw_cfa.specs.declared.rule.RegRule.TheVariants as rules
-use Rattle.dw_cfa.specs.InstrSpells.{IsOffset, BlockSpells, AdvanceSpells, RuleSpells, InstrSpells, Program}
+use Rattle.dw_cfa.specs.InstrSpells.{IsOffset, BlockSpells, InstrSpells, Program}
+use Rattle.dw_cfa.proofs.Spellings.{AdvanceSpells, RuleSpells, IsSpelled, by_table}
 use Rattle.dw_cfa.specs.Location.{moves_location}
 use Rattle.dw_canon.specs.Spelling.{expression_bytes, packed, rule_bytes}
 use Rattle.dw_canon.proofs.MemberLaws.{count_more}
@@ -126,7 +127,7 @@ module _ (t : Target) (f : Factors) where
   advance_some delta b (inr (inr (inr h))) = omega (arith, ap length h.whole)
 
   -- six bytes for each of its own are enough for the rule that it gives, and six are left where it moves the location
-  instr_most : (i : Instr) (b : List ℕ) → InstrSpells t f i b → rule_weight t i + cfa_weight t i + 6 * cond (moves_location i) 1 0 ≤ 6 * length b
+  instr_most : (i : Instr) (b : List ℕ) → IsSpelled t f i b → rule_weight t i + cfa_weight t i + 6 * cond (moves_location i) 1 0 ≤ 6 * length b
   instr_most Nop b h = omega arith
   instr_most (SetLoc a) b h = omega (arith, ap length h.whole)
   instr_most (Advance d) b h = omega (arith, advance_some h.0 b h.1)
@@ -144,7 +145,7 @@ module _ (t : Target) (f : Factors) where
   program_most (i ∷ instrs) b h = omega (
     arith,
     both_len (InstrSpells t f i) (Program t f instrs) b h,
-    instr_most i h.front h.first,
+    instr_most i h.front (by_table t f i h.front h.first),
     program_most instrs h.back h.second,
     count_more i instrs (moves_location i) refl,
   )

@@ -5,7 +5,7 @@ use Rattle.dw_num.specs.declared.target.Target.{Target}
 use Rattle.dw_num.specs.Input.{AreBytes}
 use Rattle.dw_section.specs.declared.lookup.Fde.{Fde}
 use Rattle.dw_section.specs.Accepted.{Accepted}
-use Rattle.dw_section.specs.Lengths.{HasLengths}
+use Rattle.dw_section.specs.Meaning.{HasLengths}
 use Rattle.dw_canon.specs.Canon.{canon}
 use Rattle.dw_canon.specs.Members.{Member, AreMembers, fde_of}
 

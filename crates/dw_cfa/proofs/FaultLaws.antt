@@ -124,10 +124,10 @@ breaks_back limit begin initial instrs i code b = b
 pub begun_stands : (limit begin : ℕ) (initial : Rules) → AreSpecified 0 initial.registers → begin ≤ limit → Stands limit begin initial [] (begun initial begin)
 begun_stands limit begin initial listed le = record { follows = begun_follows initial begin listed; balance = refl; room = omega arith; within = le }
 
-fault_read : (f : Factors) (i : Input) (r : Refusal) → AreBytes i.bytes → (placed f i).fault ≡ Some r → (instrs_of (placed f i).items ≡ (plain.listing f i).instrs) × (plain.listing f i ≡ plain.faulty (instrs_of (placed f i).items) r)
+fault_read : (f : Factors) (i : Input) (r : Refusal) → AreBytes i.bytes → (placed f i).fault ≡ Some r → (instrs_of (placed f i).items ≡ (plain.listing f i).items) × (plain.listing f i ≡ plain.faulty (instrs_of (placed f i).items) r)
 fault_read f i r h e =
     let same = same_listing f i in
-    (sym (ap (λ (l : plain.Listing). l.instrs) same), same ∙ ap (λ (o : Option Refusal). let l : plain.Listing = record { instrs = instrs_of (placed f i).items; fault = o } in l) e)
+    (sym (ap (λ (l : plain.Listing). l.items) same), same ∙ ap (λ (o : Option Refusal). let l : plain.Listing = record { items = instrs_of (placed f i).items; fault = o } in l) e)
 
 module _ (f : Factors) (initial : Rules) (i : Input) (begin : ℕ) (h : AreBytes i.bytes) (le : begin ≤ address_limit i.target.size) (listed : AreSpecified 0 initial.registers) where
   limit : ℕ
@@ -185,7 +185,7 @@ module _ (f : Factors) (initial : Rules) (i : Input) (begin : ℕ) (h : AreBytes
   unfolding rows_behind limit
   fde_fault_only r (instrs, (kept, inl stuck)) =
       let listing = sym (same_listing f i) ∙ (fault_listed f i instrs r h).0 stuck in
-      let are : instrs_of (placed f i).items ≡ instrs = ap (λ (l : plain.Listing). l.instrs) listing in
+      let are : instrs_of (placed f i).items ≡ instrs = ap (λ (l : plain.Listing). l.items) listing in
       let fault : (placed f i).fault ≡ Some r = ap (λ (l : plain.Listing). l.fault) listing in
       let rows = runs_before (placed f i).items stuck.front (subst (λ (l : List Instr). Program i.target f l stuck.front) (sym are) stuck.read) (subst (FdeKept limit begin initial.cfa) (sym are) kept) in
       subst (λ (o : Option Refusal). (fde_rows limit initial (placed f i).items o (begun initial begin)).fault ≡ Some r) (sym fault) (refused_behind limit initial (placed f i).items (begun initial begin) r rows.0 rows.1)
@@ -270,7 +270,7 @@ module _ (f : Factors) (i : Input) (h : AreBytes i.bytes) where
   pub cie_fault_only : (r : Refusal) → CieFault f i r → initial_row (placed f i) blank ≡ Err r
   cie_fault_only r (instrs, kept, inl stuck) =
       let listing = sym (same_listing f i) ∙ (fault_listed f i instrs r h).0 stuck in
-      let are : instrs_of (placed f i).items ≡ instrs = ap (λ (l : plain.Listing). l.instrs) listing in
+      let are : instrs_of (placed f i).items ≡ instrs = ap (λ (l : plain.Listing). l.items) listing in
       let fault : (placed f i).fault ≡ Some r = ap (λ (l : plain.Listing). l.fault) listing in
       let end = cie_runs_before (placed f i).items (subst CieKept (sym are) kept) in
       ap (λ (o : Option Refusal). cie_run (placed f i).items o blank) fault ∙ cie_refused_behind (placed f i).items blank end.0 r end.1

@@ -13,7 +13,6 @@ use Rattle.dw_num.proofs.SlebLaws.{sleb_again}
 use Rattle.dw_num.proofs.FixedLaws.{fixed_at_again}
 use Rattle.dw_op.specs.Expression.{Expression}
 use Rattle.dw_op.specs.OpSpells.{Code, Both}
-use Rattle.dw_op.specs.Reading.{in_range}
 use Rattle.dw_cfa.specs.declared.instr.Factors.{Factors}
 use Rattle.dw_cfa.specs.declared.instr.Instr.{Instr}
 use Rattle.dw_cfa.specs.declared.instr.Instr.TheVariants.{Nop, SetLoc, Advance, DefCfa, DefCfaRegister, DefCfaOffset, DefCfaExpression, Set, Restore, RememberState, RestoreState}
@@ -21,9 +20,14 @@ use Rattle.dw_cfa.specs.declared.reading.Opcode.{Opcode}
 use Rattle.dw_cfa.specs.declared.reading.Opcode.TheVariants as opcodes
 use Rattle.dw_cfa.specs.declared.rule.RegRule.{RegRule}
 use Rattle.dw_cfa.specs.declared.rule.RegRule.TheVariants as rules
-use Rattle.dw_cfa.specs.InstrSpells.{IsOffset, Plain, Factored, SignedFactored, BlockSpells, AdvanceSpells, RuleSpells, InstrSpells}
-use Rattle.dw_cfa.specs.Reading.{opcode_of, offset_in, plain_at, factored_at, signed_at, expression_in, after_length, block_at, with_instr, set_loc_at, advanced, advance_at, def_cfa_register_at, def_cfa_offset_at, def_cfa_offset_sf_at, def_cfa_expression_at, def_cfa_at, def_cfa_sf_at, restore_at, set_to, undefined_at, same_value_at, set_offset, set_val_offset, set_register, set_expression, set_val_expression, offset_at, offset_extended_at, offset_extended_sf_at, val_offset_at, val_offset_sf_at, register_rule_at, expression_at, val_expression_at, operands_at, instr_at}
+use Rattle.dw_cfa.specs.InstrSpells.{IsOffset, BlockSpells, InstrSpells}
+use Rattle.dw_cfa.specs.Operands.{opcode_of, advanced}
+use Rattle.dw_cfa.specs.Reading.{expression_in, after_length, block_at, with_instr, instr_at}
+use Rattle.dw_cfa.specs.ByOpcode.{offset_in, plain_at, factored_at, signed_at, set_loc_at, advance_at, def_cfa_register_at, def_cfa_offset_at, def_cfa_offset_sf_at, def_cfa_expression_at, def_cfa_at, def_cfa_sf_at, restore_at, set_to, undefined_at, same_value_at, set_offset, set_val_offset, set_register, set_expression, set_val_expression, offset_at, offset_extended_at, offset_extended_sf_at, val_offset_at, val_offset_sf_at, register_rule_at, expression_at, val_expression_at, operands_at}
+use Rattle.dw_cfa.proofs.Codes.{advance_known, offset_known, restore_known}
 use Rattle.dw_cfa.proofs.Expressions.{expression_found}
+use Rattle.dw_cfa.proofs.Spellings.{Plain, Factored, SignedFactored, AdvanceSpells, RuleSpells, IsSpelled, by_table}
+use Rattle.dw_cfa.proofs.Tabled.{form_is}
 
 module _ (t : Target) (f : Factors) where
   -- ---- operands
@@ -82,7 +86,7 @@ module _ (t : Target) (f : Factors) where
       let one = byte_again t code at (b ++ rest) in
       let two = second at (at + 1) rest in
       let place : (at + 1) + length b ≡ at + length (code ∷ b) = omega arith in
-      rw (one, known, two, place) refl
+      rw (one, known, form_is f at opcode (record { at = at + 1; bytes = b ++ rest; target = t }), two, place) refl
 
   coded : (code : ℕ) (opcode : Opcode) (instr : Instr) (b : List ℕ) (Operands : List ℕ → Type 0) → Code code Operands b → opcode_of code ≡ Some opcode
       → ((at : ℕ) (c : List ℕ) → Operands c → Again t (operands_at f at opcode) instr c) → Again t (instr_at f) instr b
@@ -93,29 +97,6 @@ module _ (t : Target) (f : Factors) where
   alone code opcode instr b is known answers =
       let none : (at : ℕ) → Again t (operands_at f at opcode) instr [] = λ at here rest. let place : here ≡ here + 0 = omega arith in rw (answers at (record { at = here; bytes = rest; target = t }), ← place) refl in
       subst (λ (l : List ℕ). Again t (instr_at f) instr l) (sym is) (code_again code opcode instr [] known none)
-
-  -- ---- codes with an operand in their low six bits
-
-  advance_known : (delta : ℕ) → delta < 64 → opcode_of (0x40 + delta) ≡ Some (opcodes.AdvanceLoc delta)
-  unfolding opcode_of
-  advance_known delta lt =
-      let here : in_range 0x40 0x80 (0x40 + delta) ≡ true = rw (le-leb 0x40 (0x40 + delta) (omega arith), lt-ltb (0x40 + delta) 0x80 (omega arith)) refl in
-      rw here (ap (λ (m : ℕ). Some (opcodes.AdvanceLoc m)) (omega arith))
-
-  offset_known : (r : ℕ) → r < 64 → opcode_of (0x80 + r) ≡ Some (opcodes.Offset r)
-  unfolding opcode_of
-  offset_known r lt =
-      let past : in_range 0x40 0x80 (0x80 + r) ≡ false = rw (le-leb 0x40 (0x80 + r) (omega arith), le-ltb (0x80 + r) 0x80 (omega arith)) refl in
-      let here : in_range 0x80 0xc0 (0x80 + r) ≡ true = rw (le-leb 0x80 (0x80 + r) (omega arith), lt-ltb (0x80 + r) 0xc0 (omega arith)) refl in
-      rw (past, here) (ap (λ (m : ℕ). Some (opcodes.Offset m)) (omega arith))
-
-  restore_known : (r : ℕ) → r < 64 → opcode_of (0xc0 + r) ≡ Some (opcodes.Restore r)
-  unfolding opcode_of
-  restore_known r lt =
-      let past : in_range 0x40 0x80 (0xc0 + r) ≡ false = rw (le-leb 0x40 (0xc0 + r) (omega arith), le-ltb (0xc0 + r) 0x80 (omega arith)) refl in
-      let past2 : in_range 0x80 0xc0 (0xc0 + r) ≡ false = rw (le-leb 0x80 (0xc0 + r) (omega arith), le-ltb (0xc0 + r) 0xc0 (omega arith)) refl in
-      let here : in_range 0xc0 0x100 (0xc0 + r) ≡ true = rw (le-leb 0xc0 (0xc0 + r) (omega arith), lt-ltb (0xc0 + r) 0x100 (omega arith)) refl in
-      rw (past, past2, here) (ap (λ (m : ℕ). Some (opcodes.Restore m)) (omega arith))
 
   -- ---- rules
 
@@ -161,28 +142,31 @@ module _ (t : Target) (f : Factors) where
   advance_again delta b (inr (inr (inr h))) =
       coded 0x04 opcodes.AdvanceLoc4 (advanced f delta) b (Fixed t.order 4 delta) h refl (λ at c s. made_again (fixed_at 4) (advanced f) delta c (fixed_spelled 4 delta c s))
 
+  spelled_again : (instr : Instr) (b : List ℕ) → IsSpelled t f instr b → Again t (instr_at f) instr b
+  unfolding operands_at opcode_of set_loc_at def_cfa_register_at def_cfa_offset_at def_cfa_offset_sf_at def_cfa_expression_at def_cfa_at def_cfa_sf_at restore_at
+  spelled_again Nop b h = alone 0x00 opcodes.Nop Nop b h refl (λ at i. refl)
+  spelled_again (SetLoc a) b h =
+      coded 0x01 opcodes.SetLoc (SetLoc a) b (Address t a) h refl (λ at c s. made_again address_at SetLoc a c (address_again t a c s))
+  spelled_again (Advance distance) b h = rw h.2 (advance_again h.0 b h.1)
+  spelled_again (DefCfa r z) b (inl h) =
+      coded 0x0c opcodes.DefCfa (DefCfa r z) b (Both (Register r) (Plain z)) h refl (λ at c s. both_again (plain_at at) DefCfa Plain r z c (plain_again at z) s)
+  spelled_again (DefCfa r z) b (inr h) =
+      coded 0x12 opcodes.DefCfaSf (DefCfa r z) b (Both (Register r) (SignedFactored f z)) h refl (λ at c s. both_again (signed_at f at) DefCfa (SignedFactored f) r z c (signed_again at z) s)
+  spelled_again (DefCfaRegister r) b h =
+      coded 0x0d opcodes.DefCfaRegister (DefCfaRegister r) b (Register r) h refl (λ at c s. made_again register_at DefCfaRegister r c (register_spelled r c s))
+  spelled_again (DefCfaOffset z) b (inl h) =
+      coded 0x0e opcodes.DefCfaOffset (DefCfaOffset z) b (Plain z) h refl (λ at c s. made_again (plain_at at) DefCfaOffset z c (plain_again at z c s))
+  spelled_again (DefCfaOffset z) b (inr h) =
+      coded 0x13 opcodes.DefCfaOffsetSf (DefCfaOffset z) b (SignedFactored f z) h refl (λ at c s. made_again (signed_at f at) DefCfaOffset z c (signed_again at z c s))
+  spelled_again (DefCfaExpression e) b h =
+      coded 0x0f opcodes.DefCfaExpression (DefCfaExpression e) b (BlockSpells t e) h refl (λ at c s. made_again block_at DefCfaExpression e c (block_again e c s))
+  spelled_again (Set r rule) b h = rule_again r rule b h
+  spelled_again (Restore r) b (inl h) = alone (0xc0 + r) (opcodes.Restore r) (Restore r) b h.1 (restore_known r h.0) (λ at i. refl)
+  spelled_again (Restore r) b (inr h) =
+      coded 0x06 opcodes.RestoreExtended (Restore r) b (Register r) h refl (λ at c s. made_again register_at Restore r c (register_spelled r c s))
+  spelled_again RememberState b h = alone 0x0a opcodes.RememberState RememberState b h refl (λ at i. refl)
+  spelled_again RestoreState b h = alone 0x0b opcodes.RestoreState RestoreState b h refl (λ at i. refl)
+
   -- what spells an instruction is read as it, wherever it stands and whatever follows
   pub instr_again : (instr : Instr) (b : List ℕ) → InstrSpells t f instr b → Again t (instr_at f) instr b
-  unfolding operands_at opcode_of set_loc_at def_cfa_register_at def_cfa_offset_at def_cfa_offset_sf_at def_cfa_expression_at def_cfa_at def_cfa_sf_at restore_at
-  instr_again Nop b h = alone 0x00 opcodes.Nop Nop b h refl (λ at i. refl)
-  instr_again (SetLoc a) b h =
-      coded 0x01 opcodes.SetLoc (SetLoc a) b (Address t a) h refl (λ at c s. made_again address_at SetLoc a c (address_again t a c s))
-  instr_again (Advance distance) b h = rw h.2 (advance_again h.0 b h.1)
-  instr_again (DefCfa r z) b (inl h) =
-      coded 0x0c opcodes.DefCfa (DefCfa r z) b (Both (Register r) (Plain z)) h refl (λ at c s. both_again (plain_at at) DefCfa Plain r z c (plain_again at z) s)
-  instr_again (DefCfa r z) b (inr h) =
-      coded 0x12 opcodes.DefCfaSf (DefCfa r z) b (Both (Register r) (SignedFactored f z)) h refl (λ at c s. both_again (signed_at f at) DefCfa (SignedFactored f) r z c (signed_again at z) s)
-  instr_again (DefCfaRegister r) b h =
-      coded 0x0d opcodes.DefCfaRegister (DefCfaRegister r) b (Register r) h refl (λ at c s. made_again register_at DefCfaRegister r c (register_spelled r c s))
-  instr_again (DefCfaOffset z) b (inl h) =
-      coded 0x0e opcodes.DefCfaOffset (DefCfaOffset z) b (Plain z) h refl (λ at c s. made_again (plain_at at) DefCfaOffset z c (plain_again at z c s))
-  instr_again (DefCfaOffset z) b (inr h) =
-      coded 0x13 opcodes.DefCfaOffsetSf (DefCfaOffset z) b (SignedFactored f z) h refl (λ at c s. made_again (signed_at f at) DefCfaOffset z c (signed_again at z c s))
-  instr_again (DefCfaExpression e) b h =
-      coded 0x0f opcodes.DefCfaExpression (DefCfaExpression e) b (BlockSpells t e) h refl (λ at c s. made_again block_at DefCfaExpression e c (block_again e c s))
-  instr_again (Set r rule) b h = rule_again r rule b h
-  instr_again (Restore r) b (inl h) = alone (0xc0 + r) (opcodes.Restore r) (Restore r) b h.1 (restore_known r h.0) (λ at i. refl)
-  instr_again (Restore r) b (inr h) =
-      coded 0x06 opcodes.RestoreExtended (Restore r) b (Register r) h refl (λ at c s. made_again register_at Restore r c (register_spelled r c s))
-  instr_again RememberState b h = alone 0x0a opcodes.RememberState RememberState b h refl (λ at i. refl)
-  instr_again RestoreState b h = alone 0x0b opcodes.RestoreState RestoreState b h refl (λ at i. refl)
+  instr_again instr b h = spelled_again instr b (by_table t f instr b h)

@@ -17,9 +17,7 @@ use Rattle.dw_op.specs.declared.op.Op.{Op}
 use Rattle.dw_op.specs.declared.profile.Profile.TheVariants.{Frame}
 use Rattle.dw_op.specs.Expression.{Expression}
 use Rattle.dw_op.specs.OpSpells.{Code, Both}
-use Rattle.dw_op.specs.Reading.{in_range}
 use Rattle.dw_op.specs.Walk.{block_input, decode_at}
-use Rattle.dw_op.proofs.ReadingLaws.{some_is, EachEntry, looked_up, range_is}
 use Rattle.dw_op.proofs.Blocks.{block_found}
 use Rattle.dw_cfa.specs.declared.instr.Factors.{Factors}
 use Rattle.dw_cfa.specs.declared.instr.Instr.{Instr}
@@ -27,61 +25,13 @@ use Rattle.dw_cfa.specs.declared.instr.Instr.TheVariants.{Nop, SetLoc, DefCfa, D
 use Rattle.dw_cfa.specs.declared.reading.Opcode.{Opcode}
 use Rattle.dw_cfa.specs.declared.reading.Opcode.TheVariants as opcodes
 use Rattle.dw_cfa.specs.declared.rule.RegRule.TheVariants as rules
-use Rattle.dw_cfa.specs.InstrSpells.{IsOffset, Plain, Factored, SignedFactored, BlockSpells, InstrSpells}
-use Rattle.dw_cfa.specs.Reading.{opcode_table, opcode_of, leaving, offset_in, plain_in, plain_at, factored_in, factored_at, signed_in, signed_at, expression_of, expression_in, block_in, after_length, block_at, with_instr, set_loc_at, advanced, advance_at, def_cfa_register_at, def_cfa_offset_at, def_cfa_offset_sf_at, def_cfa_expression_at, def_cfa_at, def_cfa_sf_at, restore_at, set_to, undefined_at, same_value_at, set_offset, set_val_offset, set_register, set_expression, set_val_expression, offset_at, offset_extended_at, offset_extended_sf_at, val_offset_at, val_offset_sf_at, register_rule_at, expression_at, val_expression_at, operands_at, known_at, after_code, instr_at}
-
--- ---- what a code says
-
--- the codes of an opcode
-abbrev pub CodeOf : Opcode → ℕ → Type 0
-CodeOf opcodes.Nop code = code ≡ 0x00
-CodeOf opcodes.SetLoc code = code ≡ 0x01
-CodeOf (opcodes.AdvanceLoc delta) code = (code ≡ 0x40 + delta) × (delta < 64)
-CodeOf opcodes.AdvanceLoc1 code = code ≡ 0x02
-CodeOf opcodes.AdvanceLoc2 code = code ≡ 0x03
-CodeOf opcodes.AdvanceLoc4 code = code ≡ 0x04
-CodeOf (opcodes.Offset r) code = (code ≡ 0x80 + r) × (r < 64)
-CodeOf opcodes.OffsetExtended code = code ≡ 0x05
-CodeOf opcodes.OffsetExtendedSf code = code ≡ 0x11
-CodeOf (opcodes.Restore r) code = (code ≡ 0xc0 + r) × (r < 64)
-CodeOf opcodes.RestoreExtended code = code ≡ 0x06
-CodeOf opcodes.Undefined code = code ≡ 0x07
-CodeOf opcodes.SameValue code = code ≡ 0x08
-CodeOf opcodes.Register code = code ≡ 0x09
-CodeOf opcodes.RememberState code = code ≡ 0x0a
-CodeOf opcodes.RestoreState code = code ≡ 0x0b
-CodeOf opcodes.DefCfa code = code ≡ 0x0c
-CodeOf opcodes.DefCfaSf code = code ≡ 0x12
-CodeOf opcodes.DefCfaRegister code = code ≡ 0x0d
-CodeOf opcodes.DefCfaOffset code = code ≡ 0x0e
-CodeOf opcodes.DefCfaOffsetSf code = code ≡ 0x13
-CodeOf opcodes.DefCfaExpression code = code ≡ 0x0f
-CodeOf opcodes.Expression code = code ≡ 0x10
-CodeOf opcodes.ValOffset code = code ≡ 0x14
-CodeOf opcodes.ValOffsetSf code = code ≡ 0x15
-CodeOf opcodes.ValExpression code = code ≡ 0x16
-
-table_entries : EachEntry CodeOf opcode_table
-table_entries = (refl, (refl, (refl, (refl, (refl, (refl, (refl, (refl, (refl, (refl, (refl, (refl, (refl, (refl, (refl, (refl, (refl, (refl, (refl, (refl, (refl, (refl, (refl, tt)))))))))))))))))))))))
-
-opcode_known : (code : ℕ) (opcode : Opcode) → opcode_of code ≡ Some opcode → CodeOf opcode code
-unfolding opcode_of
-opcode_known code opcode e = elim (cases_Bool (in_range 0x40 0x80 code)) [
-  | inl y ↦
-      let r = range_is 0x40 0x80 code y in
-      subst (λ (x : Opcode). CodeOf x code) (some_is (opcodes.AdvanceLoc (code - 0x40)) opcode (rw y at e)) (omega (arith, r.0), omega (arith, r.0, r.1))
-  | inr n ↦ let e1 = rw n at e in elim (cases_Bool (in_range 0x80 0xc0 code)) [
-    | inl y ↦
-        let r = range_is 0x80 0xc0 code y in
-        subst (λ (x : Opcode). CodeOf x code) (some_is (opcodes.Offset (code - 0x80)) opcode (rw y at e1)) (omega (arith, r.0), omega (arith, r.0, r.1))
-    | inr n ↦ let e2 = rw n at e1 in elim (cases_Bool (in_range 0xc0 0x100 code)) [
-      | inl y ↦
-          let r = range_is 0xc0 0x100 code y in
-          subst (λ (x : Opcode). CodeOf x code) (some_is (opcodes.Restore (code - 0xc0)) opcode (rw y at e2)) (omega (arith, r.0), omega (arith, r.0, r.1))
-      | inr n ↦ looked_up CodeOf opcode_table code opcode table_entries (rw n at e2)
-    ]
-  ]
-]
+use Rattle.dw_cfa.specs.InstrSpells.{IsOffset, BlockSpells, InstrSpells}
+use Rattle.dw_cfa.specs.Operands.{opcode_table, opcode_of, advanced}
+use Rattle.dw_cfa.specs.Reading.{leaving, expression_of, expression_in, block_in, after_length, block_at, with_instr, known_at, after_code, instr_at}
+use Rattle.dw_cfa.specs.ByOpcode.{offset_in, plain_in, plain_at, factored_in, factored_at, signed_in, signed_at, set_loc_at, advance_at, def_cfa_register_at, def_cfa_offset_at, def_cfa_offset_sf_at, def_cfa_expression_at, def_cfa_at, def_cfa_sf_at, restore_at, set_to, undefined_at, same_value_at, set_offset, set_val_offset, set_register, set_expression, set_val_expression, offset_at, offset_extended_at, offset_extended_sf_at, val_offset_at, val_offset_sf_at, register_rule_at, expression_at, val_expression_at, operands_at}
+use Rattle.dw_cfa.proofs.Codes.{CodeOf, opcode_known}
+use Rattle.dw_cfa.proofs.Spellings.{Plain, Factored, SignedFactored, IsSpelled, in_table}
+use Rattle.dw_cfa.proofs.Tabled.{form_is}
 
 -- ---- operands
 
@@ -196,7 +146,7 @@ fixed_finds n width i new v h e = fixed_found n i new v width h e
 module _ (f : Factors) (at code : ℕ) where
   -- behind the code stand the operands
   abbrev Coded : Target → Instr → List ℕ → Type 0
-  Coded t instr b = InstrSpells t f instr (code ∷ b)
+  Coded t instr b = IsSpelled t f instr (code ∷ b)
 
   operands_find : (opcode : Opcode) → CodeOf opcode code → Finds (operands_at f at opcode) Coded
   unfolding operands_at set_loc_at advance_at def_cfa_register_at def_cfa_offset_at def_cfa_offset_sf_at def_cfa_expression_at def_cfa_at def_cfa_sf_at restore_at undefined_at same_value_at offset_at offset_extended_at offset_extended_sf_at val_offset_at val_offset_sf_at register_rule_at expression_at val_expression_at
@@ -238,7 +188,7 @@ module _ (f : Factors) (at code : ℕ) where
 
   known_finds : (o : Option Opcode) → opcode_of code ≡ o → Finds (known_at f at o) Coded
   known_finds None is i new instr h e = absurd cc
-  known_finds (Some opcode) is i new instr h e = operands_find opcode (opcode_known code opcode is) i new instr h e
+  known_finds (Some opcode) is i new instr h e = operands_find opcode (opcode_known code opcode is) i new instr h (sym (form_is f at opcode i) ∙ e)
 
 -- an instruction that is read is spelled by the bytes that were taken
 pub instr_found : (f : Factors) (i new : Input) (instr : Instr) → AreBytes i.bytes → instr_at f i ≡ done (instr, new) → (b : List ℕ) × InstrSpells i.target f instr b × Takes i b new
@@ -248,4 +198,4 @@ instr_found f i new instr h e =
     let code = p.0.0 in
     let q = byte_found i p.0.1 code p.1 in
     let u = known_finds f i.at code (opcode_of code) refl p.0.1 new instr (taken_bytes i p.0.1 (code ∷ []) q h) p.2 in
-    (code ∷ u.0, subst (λ (t : Target). InstrSpells t f instr (code ∷ u.0)) q.target u.1, Takes-then i p.0.1 new (code ∷ []) u.0 q u.2)
+    (code ∷ u.0, in_table i.target f instr (code ∷ u.0) (subst (λ (t : Target). IsSpelled t f instr (code ∷ u.0)) q.target u.1), Takes-then i p.0.1 new (code ∷ []) u.0 q u.2)

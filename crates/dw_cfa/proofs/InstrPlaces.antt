@@ -1,5 +1,5 @@
 -- The faults of a program have places in it or at its end.
-use Rattle.std.proofs.Common.{◌≡◌, ℕ, ◌^◌, Bool, true, false, List, [], ◌∷◌, length, Option, Some, None, Result, Ok, Err, refl, ap, subst, arith}
+use Rattle.std.proofs.Common.{◌≡◌, ℕ, ◌^◌, Bool, true, false, List, [], ◌∷◌, length, Option, Some, None, Result, Ok, Err, refl, sym, ap, subst, arith}
 use Rattle.std.specs.Prelude.{ℤ, pos, ◌*ℤ◌, unsigned_abs, nat_lt}
 use Rattle.std.proofs.lemmas.List.{length-append}
 use Rattle.dw_num.specs.declared.refusal.Refusal.{Refusal}
@@ -18,8 +18,11 @@ use Rattle.dw_cfa.specs.declared.instr.Factors.{Factors}
 use Rattle.dw_cfa.specs.declared.instr.Instr.{Instr}
 use Rattle.dw_cfa.specs.declared.reading.Opcode.{Opcode}
 use Rattle.dw_cfa.specs.declared.reading.Opcode.TheVariants as opcodes
-use Rattle.dw_cfa.specs.Reading.{opcode_of, leaving, offset_in, plain_in, plain_at, factored_in, factored_at, signed_in, signed_at, expression_of, expression_in, block_in, after_length, block_at, with_instr, set_loc_at, advance_at, def_cfa_register_at, def_cfa_offset_at, def_cfa_offset_sf_at, def_cfa_expression_at, def_cfa_at, def_cfa_sf_at, restore_at, undefined_at, same_value_at, offset_at, offset_extended_at, offset_extended_sf_at, val_offset_at, val_offset_sf_at, register_rule_at, expression_at, val_expression_at, operands_at, known_at, after_code, instr_at}
+use Rattle.dw_cfa.specs.Operands.{opcode_of}
+use Rattle.dw_cfa.specs.Reading.{leaving, expression_of, expression_in, block_in, after_length, block_at, with_instr, known_at, after_code, instr_at}
+use Rattle.dw_cfa.specs.ByOpcode.{offset_in, plain_in, plain_at, factored_in, factored_at, signed_in, signed_at, set_loc_at, advance_at, def_cfa_register_at, def_cfa_offset_at, def_cfa_offset_sf_at, def_cfa_expression_at, def_cfa_at, def_cfa_sf_at, restore_at, undefined_at, same_value_at, offset_at, offset_extended_at, offset_extended_sf_at, val_offset_at, val_offset_sf_at, register_rule_at, expression_at, val_expression_at, operands_at}
 use Rattle.dw_cfa.proofs.InstrLaws.{front_bytes}
+use Rattle.dw_cfa.proofs.Tabled.{form_is}
 
 made_stays : {X : Type 0} (i : Input) (read : Read X) (make : X → Instr) → Stays i read → Stays i (read >>= with_instr make)
 made_stays i (Ok x) make h = h
@@ -108,7 +111,7 @@ operands_stay f opcodes.ValExpression i j are h = both_stays i j block_at _ are 
 
 known_stays : (f : Factors) (o : Option Opcode) (i j : Input) → AreBytes j.bytes → Inside i j → Stays i (known_at f i.at o j)
 known_stays f None i j are h = (omega arith, omega arith)
-known_stays f (Some opcode) i j are h = operands_stay f opcode i j are h
+known_stays f (Some opcode) i j are h = subst (Stays i) (sym (form_is f i.at opcode j)) (operands_stay f opcode i j are h)
 
 -- an instruction's fault has a place from its opcode to the program's end
 pub instr_stays : (f : Factors) (i : Input) → AreBytes i.bytes → Stays i (instr_at f i)

@@ -13,10 +13,15 @@ use Rattle.dw_cfa.specs.declared.instr.Factors.{Factors}
 use Rattle.dw_cfa.specs.declared.instr.Instr.{Instr}
 use Rattle.dw_cfa.specs.InstrSpells.{InstrSpells, Program}
 use Rattle.dw_cfa.specs.Reading.{instr_at}
-use Rattle.dw_cfa.specs.Listing.{Listing, ended, after_instr, complete, faulty, ProgramFault, on_read, on_left, listing_by, listing, left_of}
+use Rattle.dw_cfa.specs.Listing.{Listing, complete, faulty, ProgramFault, listing, left_of}
+use Rattle.dw_op.specs.Walks.{ended, put, on_read, on_left, walked_by}
 use Rattle.dw_cfa.proofs.InstrLaws.{instr_found}
 use Rattle.dw_cfa.proofs.InstrAgain.{instr_again}
 use Rattle.dw_cfa.proofs.InstrPlaces.{instr_stays}
+
+-- in at most n steps
+abbrev pub listing_by : Factors → ℕ → Input → Listing
+listing_by f n i = walked_by (instr_at f) (λ at instr. instr) n i
 
 abbrev input : ℕ → List ℕ → Target → Input
 input at bytes t = record { at = at; bytes = bytes; target = t }
@@ -52,21 +57,21 @@ same_read (Err e) stuck go on h = refl
 
 -- enough steps are as good as more
 enough : (f : Factors) (n m : ℕ) (i : Input) → length i.bytes ≤ n → length i.bytes ≤ m → AreBytes i.bytes → listing_by f n i ≡ listing_by f m i
-unfolding listing_by
+unfolding walked_by
 enough f zero zero i le ge h = refl
 enough f zero (suc m) i le ge h = rw (nothing i.bytes le) refl
 enough f (suc n) zero i le ge h = rw (nothing i.bytes ge) refl
 enough f (suc n) (suc m) i le ge h =
-    ap (λ (l : Listing). on_left i.bytes l) (same_read (instr_at f i) (λ e. ended (Some e)) (λ x. after_instr x.0 (listing_by f n x.1)) (λ x. after_instr x.0 (listing_by f m x.1)) (λ x e.
+    ap (λ (l : Listing). on_left i.bytes l) (same_read (instr_at f i) (λ e. ended (Some e)) (λ x. put x.0 (listing_by f n x.1)) (λ x. put x.0 (listing_by f m x.1)) (λ x e.
     let shorter = instr_shorter f i x h e in
-    ap (λ (l : Listing). after_instr x.0 l) (enough f n m x.1 (omega arith) (omega arith) (instr_bytes f i x h e))))
+    ap (λ (l : Listing). put x.0 l) (enough f n m x.1 (omega arith) (omega arith) (instr_bytes f i x h e))))
 
 pub listing_end : (f : Factors) (i : Input) → length i.bytes ≡ 0 → listing f i ≡ ended None
-unfolding listing listing_by
+unfolding listing walked_by
 listing_end f i e = rw e refl
 
 pub listing_stuck : (f : Factors) (i : Input) (r : Refusal) → 0 < length i.bytes → instr_at f i ≡ Err r → listing f i ≡ ended (Some r)
-unfolding listing listing_by
+unfolding listing walked_by
 listing_stuck f i r some e = go (length i.bytes) i.bytes refl some
   where
     go : (n : ℕ) (bytes : List ℕ) → i.bytes ≡ bytes → 0 < n → listing_by f n i ≡ ended (Some r)
@@ -74,18 +79,18 @@ listing_stuck f i r some e = go (length i.bytes) i.bytes refl some
     go (suc n) [] is lt = absurd (omega (arith, ap length is, some))
     go (suc n) (b ∷ bytes) is lt = rw (e, is) refl
 
-pub listing_step : (f : Factors) (i : Input) (x : Instr × Input) → AreBytes i.bytes → instr_at f i ≡ done x → listing f i ≡ after_instr x.0 (listing f x.1)
-unfolding listing listing_by
+pub listing_step : (f : Factors) (i : Input) (x : Instr × Input) → AreBytes i.bytes → instr_at f i ≡ done x → listing f i ≡ put x.0 (listing f x.1)
+unfolding listing walked_by
 listing_step f i x h e = go (length i.bytes) i.bytes refl refl
   where
     shorter : length x.1.bytes < length i.bytes
     shorter = instr_shorter f i x h e
 
-    go : (n : ℕ) (bytes : List ℕ) → length i.bytes ≡ n → i.bytes ≡ bytes → listing_by f n i ≡ after_instr x.0 (listing_by f (length x.1.bytes) x.1)
+    go : (n : ℕ) (bytes : List ℕ) → length i.bytes ≡ n → i.bytes ≡ bytes → listing_by f n i ≡ put x.0 (listing_by f (length x.1.bytes) x.1)
     go zero bytes n-is is = absurd (omega (arith, shorter))
     go (suc n) [] n-is is = absurd (omega (arith, ap length is))
     go (suc n) (b ∷ bytes) n-is is =
-        rw (e, is) (ap (λ (l : Listing). after_instr x.0 l) (enough f n (length x.1.bytes) x.1 (omega (arith, shorter)) (omega arith) (instr_bytes f i x h e)))
+        rw (e, is) (ap (λ (l : Listing). put x.0 l) (enough f n (length x.1.bytes) x.1 (omega (arith, shorter)) (omega arith) (instr_bytes f i x h e)))
 
 -- ---- what is listed is spelled, and what follows it has this fault
 
@@ -97,7 +102,7 @@ record Lists (f : Factors) (i : Input) (l : Listing) : Type 0 where
   front : List ℕ
   rest : List ℕ
   whole : i.bytes ≡ front ++ rest
-  read : Program i.target f l.instrs front
+  read : Program i.target f l.items front
   ends : Ends f (input (i.at + length front) rest i.target) l.fault
 
 lists_none : (f : Factors) (i : Input) → i.bytes ≡ [] → Lists f i (ended None)
@@ -115,13 +120,13 @@ lists_stuck f i r some e = record {
   ends = (some, ap (λ (j : Input). instr_at f j) (sym (same_place i)) ∙ e);
 }
 
-lists_more : (f : Factors) (i new : Input) (instr : Instr) (l : Listing) → AreBytes i.bytes → instr_at f i ≡ done (instr, new) → Lists f new l → Lists f i (after_instr instr l)
+lists_more : (f : Factors) (i new : Input) (instr : Instr) (l : Listing) → AreBytes i.bytes → instr_at f i ≡ done (instr, new) → Lists f new l → Lists f i (put instr l)
 lists_more f i new instr l h e more =
     let found = instr_found f i new instr h e in
     let b = found.0 in
     let same = found.2.target in
     let place : new.at + length more.front ≡ i.at + length (b ++ more.front) = omega (arith, found.2.at, length-append b more.front) in
-    let program = subst (λ (t : Target). Program t f l.instrs more.front) same more.read in
+    let program = subst (λ (t : Target). Program t f l.items more.front) same more.read in
     record {
       front = b ++ more.front;
       rest = more.rest;
@@ -146,7 +151,7 @@ listed_by f (suc n) i le h = listed_bytes f i i.bytes h refl (λ x e. listed_by 
 -- ---- what is spelled is listed
 
 one_listing : (f : Factors) (t : Target) (instrs : List Instr) (o : Option Refusal) (at : ℕ) (front rest : List ℕ) → AreBytes (front ++ rest) → Program t f instrs front → Ends f (input (at + length front) rest t) o
-    → listing f (input at (front ++ rest) t) ≡ record { instrs = instrs; fault = o }
+    → listing f (input at (front ++ rest) t) ≡ record { items = instrs; fault = o }
 one_listing f t [] None at front rest h p e = listing_end f (input at (front ++ rest) t) (omega (arith, ap length p, ap length e, length-append front rest))
 one_listing f t [] (Some r) at front rest h p e =
     let here : input (at + length front) rest t ≡ input at (front ++ rest) t = ap (λ (n : ℕ). input n rest t) (omega (arith, ap length p)) ∙ ap (λ (l : List ℕ). input at (l ++ rest) t) (sym p) in
@@ -159,7 +164,7 @@ one_listing f t (instr ∷ instrs) o at front rest h p e =
     let place : at + length front ≡ (at + length p.front) + length p.back = omega (arith, ap length p.whole, length-append p.front p.back) in
     let behind : Ends f (input ((at + length p.front) + length p.back) rest t) o = subst (λ (n : ℕ). Ends f (input n rest t) o) place e in
     listing_step f here (instr, next) h read
-    ∙ ap (λ (l : Listing). after_instr instr l) (one_listing f t instrs o (at + length p.front) p.back rest (instr_bytes f here (instr, next) h read) p.second behind)
+    ∙ ap (λ (l : Listing). put instr l) (one_listing f t instrs o (at + length p.front) p.back rest (instr_bytes f here (instr, next) h read) p.second behind)
 
 -- ---- both ways
 
@@ -211,7 +216,7 @@ pub yields_end : (f : Factors) (i : Input) → length i.bytes ≡ 0 → left_of 
 unfolding left_of
 yields_end f i e = listing_end f i e
 
-pub yields_instr : (f : Factors) (i new : Input) (instr : Instr) → AreBytes i.bytes → instr_at f i ≡ done (instr, new) → left_of false f i ≡ after_instr instr (left_of false f new)
+pub yields_instr : (f : Factors) (i new : Input) (instr : Instr) → AreBytes i.bytes → instr_at f i ≡ done (instr, new) → left_of false f i ≡ put instr (left_of false f new)
 unfolding left_of
 yields_instr f i new instr h e = listing_step f i (instr, new) h e
 

@@ -16,11 +16,20 @@ use Rattle.dw_cfa.specs.declared.instr.Instr.{Instr}
 use Rattle.dw_cfa.specs.declared.instr.Instr.TheVariants.{Nop, SetLoc, Advance, DefCfa, DefCfaRegister, DefCfaOffset, DefCfaExpression, Set, Restore, RememberState, RestoreState}
 use Rattle.dw_cfa.specs.declared.rule.RegRule.{RegRule}
 use Rattle.dw_cfa.specs.declared.rule.RegRule.TheVariants as rules
-use Rattle.dw_cfa.specs.InstrSpells.{InstrSpells, RuleSpells}
+use Rattle.dw_cfa.specs.InstrSpells.{InstrSpells}
 use Rattle.dw_cfa.specs.Reading.{instr_at}
 use Rattle.dw_cfa.specs.Steps.{InLimit}
-use Rattle.dw_cfa.specs.Runs.{Placing, ended, after_item, on_left, placed_by, placed}
+use Rattle.dw_cfa.specs.Runs.{Placing, place_of, placed}
+use Rattle.dw_op.specs.Walks.{ended, put, on_left, walked_by}
+use Rattle.dw_cfa.proofs.Spellings.{IsSpelled, by_table}
 use Rattle.dw_cfa.proofs.InstrLaws.{instr_found}
+
+abbrev pub after_item : ℕ → Instr → Placing → Placing
+after_item at i l = put (place_of at i) l
+
+-- in at most n instructions
+abbrev pub placed_by : Factors → ℕ → Input → Placing
+placed_by f n i = walked_by (instr_at f) place_of n i
 
 -- what is read is shorter by its spelling
 pub record Reads (f : Factors) (i : Input) (x : Instr × Input) : Type 0 where
@@ -28,47 +37,20 @@ pub record Reads (f : Factors) (i : Input) (x : Instr × Input) : Type 0 where
   pub bytes : AreBytes x.1.bytes
   pub target : x.1.target ≡ i.target
 
-code_some : (code : ℕ) (P : List ℕ → Type 0) (b : List ℕ) → Code code P b → 0 < length b
-code_some code P b h = omega (arith, ap length h.whole)
-
-alone_some : (code : ℕ) (b : List ℕ) → Alone code b → 0 < length b
-alone_some code b h = omega (arith, ap length h)
-
-either_some : {A B : Type 0} (b : List ℕ) → A ⊎ B → (A → 0 < length b) → (B → 0 < length b) → 0 < length b
-either_some b h f g = elim h [ inl x ↦ f x | inr y ↦ g y ]
-
-rule_some : (t : Target) (f : Factors) (r : ℕ) (rule : RegRule) (b : List ℕ) → RuleSpells t f r rule b → 0 < length b
-rule_some t f r rules.Unspecified b h = absurd h
-rule_some t f r rules.Undefined b h = code_some _ _ b h
-rule_some t f r rules.SameValue b h = code_some _ _ b h
-rule_some t f r (rules.Offset n) b h = either_some b h (λ x. code_some _ _ b x.1) (λ y. either_some b y (code_some _ _ b) (code_some _ _ b))
-rule_some t f r (rules.ValOffset n) b h = either_some b h (code_some _ _ b) (code_some _ _ b)
-rule_some t f r (rules.Register q) b h = code_some _ _ b h
-rule_some t f r (rules.Expression e) b h = code_some _ _ b h
-rule_some t f r (rules.ValExpression e) b h = code_some _ _ b h
-
 -- no spelling is empty
 pub spells_some : (t : Target) (f : Factors) (i : Instr) (b : List ℕ) → InstrSpells t f i b → 0 < length b
-spells_some t f Nop b h = alone_some _ b h
-spells_some t f (SetLoc a) b h = code_some _ _ b h
-spells_some t f (Advance d) b h =
-    either_some b h.1 (λ x. alone_some _ b x.1) (λ y. either_some b y (code_some _ _ b) (λ z. either_some b z (code_some _ _ b) (code_some _ _ b)))
-spells_some t f (DefCfa r n) b h = either_some b h (code_some _ _ b) (code_some _ _ b)
-spells_some t f (DefCfaRegister r) b h = code_some _ _ b h
-spells_some t f (DefCfaOffset n) b h = either_some b h (code_some _ _ b) (code_some _ _ b)
-spells_some t f (DefCfaExpression e) b h = code_some _ _ b h
-spells_some t f (Set r rule) b h = rule_some t f r rule b h
-spells_some t f (Restore r) b h = either_some b h (λ x. alone_some _ b x.1) (code_some _ _ b)
-spells_some t f RememberState b h = alone_some _ b h
-spells_some t f RestoreState b h = alone_some _ b h
+spells_some t f i b h = omega (arith, ap length h.whole)
 
 fits_limit : (size : Size) (a : ℕ) → a < 256 ^ byte_count size → a ≤ address_limit size
 fits_limit Four a lt = omega arith
 fits_limit Eight a lt = omega arith
 
+spelled_in_limit : (t : Target) (f : Factors) (i : Instr) (b : List ℕ) → IsSpelled t f i b → InLimit (address_limit t.size) i
+spelled_in_limit t f (SetLoc a) b h = fits_limit t.size a h.operands.fits
+spelled_in_limit t f i b h = tt
+
 pub spells_in_limit : (t : Target) (f : Factors) (i : Instr) (b : List ℕ) → InstrSpells t f i b → InLimit (address_limit t.size) i
-spells_in_limit t f (SetLoc a) b h = fits_limit t.size a h.operands.fits
-spells_in_limit t f i b h = tt
+spells_in_limit t f i b h = spelled_in_limit t f i b (by_table t f i b h)
 
 are_bytes_behind : (b rest : List ℕ) → AreBytes (b ++ rest) → AreBytes rest
 are_bytes_behind b rest h k = subst (λ (n : ℕ). n < 256) (get_or-append-add b rest k 0) (h (length b + k))
@@ -92,16 +74,16 @@ on_none [] l none = refl
 on_none (b ∷ bytes) l none = absurd (omega arith)
 
 none_by : (f : Factors) (n : ℕ) (i : Input) → length i.bytes ≡ 0 → placed_by f n i ≡ ended None
-unfolding placed_by
+unfolding walked_by
 none_by f zero i none = refl
 none_by f (suc n) i none = on_none i.bytes _ none
 
 step_by : (f : Factors) (n : ℕ) (i : Input) (x : Instr × Input) → 0 < length i.bytes → instr_at f i ≡ Ok x → placed_by f (suc n) i ≡ after_item i.at x.0 (placed_by f n x.1)
-unfolding placed_by
+unfolding walked_by
 step_by f n i x some e = rw (on_some i.bytes _ some, e) refl
 
 stuck_by : (f : Factors) (n : ℕ) (i : Input) (r : Refusal) → 0 < length i.bytes → instr_at f i ≡ Err r → placed_by f (suc n) i ≡ ended (Some r)
-unfolding placed_by
+unfolding walked_by
 stuck_by f n i r some e = rw (on_some i.bytes _ some, e) refl
 
 read_same : (f : Factors) (n m : ℕ) (i : Input) → AreBytes i.bytes → 0 < length i.bytes → (r : Read Instr) → instr_at f i ≡ r

@@ -17,7 +17,8 @@ use Rattle.dw_cfa.specs.Rows.{Rules, blank}
 use Rattle.dw_cfa.specs.Listing as plain
 use Rattle.dw_cfa.specs.Machine.{State, begun, after, fde_fault}
 use Rattle.dw_cfa.specs.Reading.{instr_at}
-use Rattle.dw_cfa.specs.Runs.{Placed, Placing, Outcome, finished, placed, placed_by, initial_row, on_initial, fde_rows, rows_left, rows_behind, run_rows, last_row, fault_or, row_if, ended, after_item, on_read, on_left}
+use Rattle.dw_cfa.specs.Runs.{Placed, Placing, Outcome, finished, placed, initial_row, on_initial, fde_rows, rows_left, rows_behind, run_rows, last_row, fault_or, row_if}
+use Rattle.dw_op.specs.Walks.{ended, put, on_read, on_left, walked_by}
 use Rattle.dw_cfa.specs.declared.machine.Machine.{Machine}
 use Rattle.dw_cfa.specs.Steps.{state_of}
 use Rattle.dw_cfa.specs.declared.steps.Progress.{Progress}
@@ -25,7 +26,8 @@ use Rattle.dw_cfa.specs.declared.steps.Progress.TheVariants as progress
 use Rattle.dw_cfa.specs.Stepping.{Stepping, begun_rows, left_of}
 use Rattle.dw_cfa.specs.Laws.{HoldsAfter, GivenPrograms, NoneFalls, LastHolds}
 use Rattle.dw_cfa.specs.RuleAt.{CountsFrom}
-use Rattle.dw_cfa.proofs.Listings.{program_listed}
+use Rattle.dw_cfa.proofs.Listings.{listing_by, program_listed}
+use Rattle.dw_cfa.proofs.Placings.{placed_by, after_item}
 use Rattle.dw_cfa.proofs.Forward.{Follows, Holds, begun_follows}
 use Rattle.dw_cfa.proofs.Initial.{cie_follows}
 use Rattle.dw_cfa.proofs.RowsAt.{instrs_of, Gives, rows_at, never_falls, first_starts, some_left}
@@ -33,17 +35,17 @@ use Rattle.dw_cfa.proofs.RowsAt.{instrs_of, Gives, rows_at, never_falls, first_s
 -- ---- the instructions without their places
 
 abbrev pub plain_of : Placing → plain.Listing
-plain_of p = record { instrs = instrs_of p.items; fault = p.fault }
+plain_of p = record { items = instrs_of p.items; fault = p.fault }
 
-same_read : (f : Factors) (n : ℕ) (i : Input) (bytes : List ℕ) (r : Read Instr) → ((x : Instr × Input) → plain.listing_by f n x.1 ≡ plain_of (placed_by f n x.1))
-    → plain.on_left bytes (plain.on_read r (λ e. plain.ended (Some e)) (λ x. plain.after_instr x.0 (plain.listing_by f n x.1)))
+same_read : (f : Factors) (n : ℕ) (i : Input) (bytes : List ℕ) (r : Read Instr) → ((x : Instr × Input) → listing_by f n x.1 ≡ plain_of (placed_by f n x.1))
+    → on_left bytes (on_read r (λ e. ended (Some e)) (λ x. put x.0 (listing_by f n x.1)))
     ≡ plain_of (on_left bytes (on_read r (λ e. ended (Some e)) (λ x. after_item i.at x.0 (placed_by f n x.1))))
 same_read f n i [] r h = refl
 same_read f n i (b ∷ bytes) (Ok x) h = rw (h x) refl
 same_read f n i (b ∷ bytes) (Err e) h = refl
 
-same_by : (f : Factors) (n : ℕ) (i : Input) → plain.listing_by f n i ≡ plain_of (placed_by f n i)
-unfolding plain.listing_by placed_by
+same_by : (f : Factors) (n : ℕ) (i : Input) → listing_by f n i ≡ plain_of (placed_by f n i)
+unfolding walked_by
 same_by f zero i = refl
 same_by f (suc n) i = same_read f n i i.bytes (instr_at f i) (λ x. same_by f n x.1)
 
@@ -54,12 +56,12 @@ same_listing f i = same_by f (length i.bytes) i
 -- a program is read to its end, and what is read to its end is a program
 pub placed_program : (f : Factors) (i : Input) → AreBytes i.bytes → (placed f i).fault ≡ None → Program i.target f (instrs_of (placed f i).items) i.bytes
 placed_program f i h none =
-    (program_listed f i (instrs_of (placed f i).items) h).1 (same_listing f i ∙ ap (λ (o : Option Refusal). let l : plain.Listing = record { instrs = instrs_of (placed f i).items; fault = o } in l) none)
+    (program_listed f i (instrs_of (placed f i).items) h).1 (same_listing f i ∙ ap (λ (o : Option Refusal). let l : plain.Listing = record { items = instrs_of (placed f i).items; fault = o } in l) none)
 
 pub program_placed : (f : Factors) (i : Input) (instrs : List Instr) → AreBytes i.bytes → Program i.target f instrs i.bytes → (instrs_of (placed f i).items ≡ instrs) × ((placed f i).fault ≡ None)
 program_placed f i instrs h p =
     let same = sym (same_listing f i) ∙ (program_listed f i instrs h).0 p in
-    (ap (λ (l : plain.Listing). l.instrs) same, ap (λ (l : plain.Listing). l.fault) same)
+    (ap (λ (l : plain.Listing). l.items) same, ap (λ (l : plain.Listing). l.fault) same)
 
 -- ---- a run that gives rows and no refusal
 

@@ -11,9 +11,12 @@ use Rattle.dw_cfa.specs.declared.reading.Opcode.{Opcode}
 use Rattle.dw_cfa.specs.declared.machine.End.{End}
 use Rattle.dw_cfa.specs.declared.machine.End.TheVariants as ends
 use Rattle.dw_cfa.specs.Location.{moves_location}
-use Rattle.dw_cfa.specs.Reading.{opcode_of, known_at, operands_at, instr_at}
+use Rattle.dw_cfa.specs.Operands.{opcode_of}
+use Rattle.dw_cfa.specs.Reading.{known_at, instr_at}
+use Rattle.dw_cfa.specs.ByOpcode.{operands_at}
 use Rattle.dw_cfa.specs.Runs.{fails, rows_left, RunsSo, RanTo}
 use Rattle.dw_cfa.specs.Turns.{Applied, Turned}
+use Rattle.dw_cfa.proofs.Tabled.{opened}
 use Rattle.dw_cfa.proofs.RunSteps.{rows_read, rows_stuck, rows_fault, rows_ran}
 
 module _ (f : Factors) (i : Input) (m : Machine) (h : AreBytes i.bytes) (some : 0 < length i.bytes) (so : RunsSo m i) where
@@ -45,18 +48,14 @@ module _ (f : Factors) (i : Input) (m : Machine) (h : AreBytes i.bytes) (some : 
   pub refused_so : (r : Refusal) → rows_left f i m ≡ fails r → (end : End) (fault : Refusal) (j : Input) (m' : Machine) → end ≡ ends.Refused → fault ≡ r → Turned f i m end fault j m'
   refused_so r e end fault j m' is same = rw (is, same) e
 
-  opened : (code : ℕ) (j : Input) (o : Opcode) → fixed_at 1 i ≡ Ok (code, j) → opcode_of code ≡ Some o → instr_at f i ≡ operands_at f i.at o j
-  unfolding instr_at
-  opened code j o e known = rw e (ap (λ (x : Option Opcode). known_at f i.at x j) known)
-
   -- an instruction that is run behind its opcode
   pub turned : (code : ℕ) (j : Input) (o : Opcode) (at : ℕ) → fixed_at 1 i ≡ Ok (code, j) → opcode_of code ≡ Some o → at ≡ i.at
       → (end : End) (fault : Refusal) (j' : Input) (m' : Machine) → Applied (operands_at f at o j) at m end fault j' m' → Turned f i m end fault j' m'
   turned code j o at e known place end fault j' m' did =
-      by_read (operands_at f i.at o j) (opened code j o e known) end fault j' m' (subst (λ (n : ℕ). Applied (operands_at f n o j) n m end fault j' m') place did)
+      by_read (operands_at f i.at o j) (opened f i j code o i.at refl e known) end fault j' m' (subst (λ (n : ℕ). Applied (operands_at f n o j) n m end fault j' m') place did)
 
   -- the operands of a program that is run to its end
   pub read_known : (code : ℕ) (j : Input) (o : Opcode) (at : ℕ) → fixed_at 1 i ≡ Ok (code, j) → opcode_of code ≡ Some o → at ≡ i.at
       → (rows_left f i m).fault ≡ None → IsOk (operands_at f at o j)
   read_known code j o at e known place none =
-      subst (λ (n : ℕ). IsOk (operands_at f n o j)) (sym place) (subst (λ (r : Read Instr). IsOk r) (opened code j o e known) (rows_read f i m some none))
+      subst (λ (n : ℕ). IsOk (operands_at f n o j)) (sym place) (subst (λ (r : Read Instr). IsOk r) (opened f i j code o i.at refl e known) (rows_read f i m some none))

@@ -4,27 +4,21 @@ use Rattle.dw_num.specs.declared.refusal.Refusal.{Refusal}
 use Rattle.dw_num.specs.declared.target.Target.{Target}
 use Rattle.dw_num.specs.Input.{Input}
 use Rattle.dw_num.specs.Reading.{Read}
+use Rattle.dw_op.specs.Walks.{Walked, ended, put, walked}
 use Rattle.dw_cfa.specs.declared.instr.Factors.{Factors}
 use Rattle.dw_cfa.specs.declared.instr.Instr.{Instr}
 use Rattle.dw_cfa.specs.InstrSpells.{Program}
 use Rattle.dw_cfa.specs.Reading.{instr_at}
 
 -- the longest beginning of instructions, and the fault of what follows it, if anything does
-pub record Listing : Type 0 where
-  pub instrs : List Instr
-  pub fault : Option Refusal
-
-abbrev pub ended : Option Refusal → Listing
-ended fault = record { instrs = []; fault = fault }
-
-abbrev pub after_instr : Instr → Listing → Listing
-after_instr instr l = record { instrs = instr ∷ l.instrs; fault = l.fault }
+abbrev pub Listing : Type 0
+Listing = Walked Instr
 
 abbrev pub complete : List Instr → Listing
-complete instrs = record { instrs = instrs; fault = None }
+complete instrs = record { items = instrs; fault = None }
 
 abbrev pub faulty : List Instr → Refusal → Listing
-faulty instrs r = record { instrs = instrs; fault = Some r }
+faulty instrs r = record { items = instrs; fault = Some r }
 
 -- behind the instructions stands something that is read as none, and this is its fault
 pub record ProgramFault (t : Target) (f : Factors) (at : ℕ) (bytes : List ℕ) (instrs : List Instr) (r : Refusal) : Type 0 where
@@ -37,21 +31,8 @@ pub record ProgramFault (t : Target) (f : Factors) (at : ℕ) (bytes : List ℕ)
 
 -- ---- the same by reading
 
-abbrev pub on_read : Read Instr → (Refusal → Listing) → (Instr × Input → Listing) → Listing
-on_read (Ok x) stuck go = go x
-on_read (Err e) stuck go = stuck e
-
-abbrev pub on_left : List ℕ → Listing → Listing
-on_left [] l = ended None
-on_left (b ∷ bytes) l = l
-
--- the same in at most n steps
-unfoldable pub listing_by : Factors → ℕ → Input → Listing
-listing_by f zero i = ended None
-listing_by f (suc n) i = on_left i.bytes (on_read (instr_at f i) (λ e. ended (Some e)) (λ x. after_instr x.0 (listing_by f n x.1)))
-
 unfoldable pub listing : Factors → Input → Listing
-listing f i = listing_by f (length i.bytes) i
+listing f i = walked (instr_at f) (λ at instr. instr) i
 
 -- nothing is left of what has ended
 unfoldable pub left_of : Bool → Factors → Input → Listing
@@ -62,7 +43,7 @@ left_of has_ended f i = if has_ended then ended None else listing f i
 -- what is answered first, and what is left then
 abbrev pub Yields : Listing → Option (Result Instr Refusal) → Listing → Type 0
 Yields old None new = (old ≡ ended None) × (new ≡ ended None)
-Yields old (Some (Ok instr)) new = old ≡ after_instr instr new
+Yields old (Some (Ok instr)) new = old ≡ put instr new
 Yields old (Some (Err r)) new = (old ≡ ended (Some r)) × (new ≡ ended None)
 
 abbrev pub fault_answers : Option Refusal → List (Result Instr Refusal)
@@ -75,4 +56,4 @@ answers_before (instr ∷ instrs) more = Ok instr ∷ answers_before instrs more
 
 -- all answers: the instructions, and then the fault
 abbrev pub answers : Listing → List (Result Instr Refusal)
-answers l = answers_before l.instrs (fault_answers l.fault)
+answers l = answers_before l.items (fault_answers l.fault)

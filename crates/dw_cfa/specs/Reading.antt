@@ -1,5 +1,6 @@
--- Reading an instruction from the front of a program, with the fault of what can't be read: DWARF 5, 7.24.
-use Rattle.std.specs.Prelude.{ℕ, ◌+◌, ◌*◌, ◌-◌, ◌^◌, List, [], ◌∷◌, Option, Some, None, Result, Ok, Err, nat_lt, if◌then◌else◌, ℤ, pos, ◌*ℤ◌, unsigned_abs}
+-- Reading an instruction from the front of a program, with the first fault of what can't be read: an opcode that is no
+-- instruction's, an operand, from left to right, or an offset that is too large. DWARF 5, 7.24.
+use Rattle.std.specs.Prelude.{ℕ, ◌+◌, ◌^◌, List, Option, Some, None, Result, Ok, Err, nat_lt, if◌then◌else◌, unsigned_abs}
 use Rattle.dw_num.specs.declared.refusal.Code.TheVariants.{UnknownInstruction, OffsetTooLarge}
 use Rattle.dw_num.specs.declared.refusal.Refusal.{Refusal}
 use Rattle.dw_num.specs.declared.target.Target.{Target}
@@ -8,35 +9,11 @@ use Rattle.dw_num.specs.Reading.{Read, fault, fixed_at, take_at, register_at, ul
 use Rattle.dw_op.specs.declared.op.Op.{Op}
 use Rattle.dw_op.specs.declared.profile.Profile.TheVariants.{Frame}
 use Rattle.dw_op.specs.Expression.{Expression}
-use Rattle.dw_op.specs.Reading.{look_up, in_range}
 use Rattle.dw_op.specs.Walk.{block_input, decode_at}
 use Rattle.dw_cfa.specs.declared.instr.Factors.{Factors}
 use Rattle.dw_cfa.specs.declared.instr.Instr.{Instr}
-use Rattle.dw_cfa.specs.declared.instr.Instr.TheVariants.{Nop, SetLoc, Advance, DefCfa, DefCfaRegister, DefCfaOffset, DefCfaExpression, Set, Restore, RememberState, RestoreState}
 use Rattle.dw_cfa.specs.declared.reading.Opcode.{Opcode}
-use Rattle.dw_cfa.specs.declared.reading.Opcode.TheVariants as opcodes
-use Rattle.dw_cfa.specs.declared.rule.RegRule.{RegRule}
-use Rattle.dw_cfa.specs.declared.rule.RegRule.TheVariants as rules
-
--- ---- codes
-
--- the codes that hold no operand
-abbrev pub opcode_table : List (ℕ × Opcode)
-opcode_table =
-    (0x00, opcodes.Nop) ∷ (0x01, opcodes.SetLoc) ∷ (0x02, opcodes.AdvanceLoc1) ∷ (0x03, opcodes.AdvanceLoc2) ∷ (0x04, opcodes.AdvanceLoc4)
-    ∷ (0x05, opcodes.OffsetExtended) ∷ (0x06, opcodes.RestoreExtended) ∷ (0x07, opcodes.Undefined) ∷ (0x08, opcodes.SameValue)
-    ∷ (0x09, opcodes.Register) ∷ (0x0a, opcodes.RememberState) ∷ (0x0b, opcodes.RestoreState) ∷ (0x0c, opcodes.DefCfa)
-    ∷ (0x0d, opcodes.DefCfaRegister) ∷ (0x0e, opcodes.DefCfaOffset) ∷ (0x0f, opcodes.DefCfaExpression) ∷ (0x10, opcodes.Expression)
-    ∷ (0x11, opcodes.OffsetExtendedSf) ∷ (0x12, opcodes.DefCfaSf) ∷ (0x13, opcodes.DefCfaOffsetSf) ∷ (0x14, opcodes.ValOffset)
-    ∷ (0x15, opcodes.ValOffsetSf) ∷ (0x16, opcodes.ValExpression) ∷ []
-
--- what a code says of its operands, none for a code that is no instruction's. Three have an operand in their low six bits.
-unfoldable pub opcode_of : ℕ → Option Opcode
-opcode_of code =
-    if in_range 0x40 0x80 code then Some (opcodes.AdvanceLoc (code - 0x40))
-    else if in_range 0x80 0xc0 code then Some (opcodes.Offset (code - 0x80))
-    else if in_range 0xc0 0x100 code then Some (opcodes.Restore (code - 0xc0))
-    else look_up opcode_table code
+use Rattle.dw_cfa.specs.Operands.{opcode_of, Operand, address, fixed, register, unsigned, signed, expression, Value, Form, none, one, two, form_of, offset_of}
 
 -- ---- operands
 
@@ -44,31 +21,6 @@ opcode_of code =
 abbrev pub leaving : {X : Type 0} → Input → Result X Refusal → Read X
 leaving new (Ok x) = Ok (x, new)
 leaving new (Err e) = Err e
-
--- an offset of the instruction at this place
-unfoldable pub offset_in : ℕ → ℤ → Result ℤ Refusal
-offset_in at z = if nat_lt (unsigned_abs z) (2 ^ 63) then Ok z else fault OffsetTooLarge at
-
-abbrev pub plain_in : ℕ → ℕ × Input → Read ℤ
-plain_in at n = leaving n.1 (offset_in at (pos n.0))
-
--- an unsigned operand as an offset
-unfoldable pub plain_at : ℕ → Input → Read ℤ
-plain_at at i = uleb_at i >>= plain_in at
-
-abbrev pub factored_in : Factors → ℕ → ℕ × Input → Read ℤ
-factored_in f at n = leaving n.1 (offset_in at (pos n.0 *ℤ f.data_factor))
-
--- an unsigned operand times the data factor
-unfoldable pub factored_at : Factors → ℕ → Input → Read ℤ
-factored_at f at i = uleb_at i >>= factored_in f at
-
-abbrev pub signed_in : Factors → ℕ → ℤ × Input → Read ℤ
-signed_in f at z = leaving z.1 (offset_in at (z.0 *ℤ f.data_factor))
-
--- a signed operand times the data factor
-unfoldable pub signed_at : Factors → ℕ → Input → Read ℤ
-signed_at f at i = sleb_at i >>= signed_in f at
 
 -- the faults of a block have places from its first byte on
 abbrev pub expression_of : ℕ → Target → Result (List Op) Refusal → Result Expression Refusal
@@ -89,142 +41,35 @@ after_length n = take_at n.0 n.1 >>= block_in n.1.at
 unfoldable pub block_at : Input → Read Expression
 block_at i = uleb_at i >>= after_length
 
--- ---- instructions with operands
+abbrev pub operand_at : (o : Operand) → Input → Read (Value o)
+operand_at address i = address_at i
+operand_at (fixed n) i = fixed_at n i
+operand_at register i = register_at i
+operand_at unsigned i = uleb_at i
+operand_at signed i = sleb_at i
+operand_at expression i = block_at i
+
+-- ---- an instruction
 
 abbrev pub with_instr : {X : Type 0} → (X → Instr) → X × Input → Read Instr
 with_instr make x = Ok (make x.0, x.1)
 
-unfoldable pub set_loc_at : Input → Read Instr
-set_loc_at i = address_at i >>= with_instr SetLoc
+abbrev pub then_operand : {X : Type 0} → (p : Operand) → (X → Value p → Instr) → X × Input → Read Instr
+then_operand p make x = operand_at p x.1 >>= with_instr (make x.0)
 
-abbrev pub advanced : Factors → ℕ → Instr
-advanced f delta = Advance (delta * f.code_factor)
+-- the operands of a form, one after another
+abbrev pub form_at : Form → Input → Read Instr
+form_at (none instr) i = Ok (instr, i)
+form_at (one o make) i = operand_at o i >>= with_instr make
+form_at (two o p make) i = operand_at o i >>= then_operand p make
 
-unfoldable pub advance_at : Factors → ℕ → Input → Read Instr
-advance_at f width i = fixed_at width i >>= with_instr (advanced f)
-
-unfoldable pub def_cfa_register_at : Input → Read Instr
-def_cfa_register_at i = register_at i >>= with_instr DefCfaRegister
-
-unfoldable pub def_cfa_offset_at : ℕ → Input → Read Instr
-def_cfa_offset_at at i = plain_at at i >>= with_instr DefCfaOffset
-
-unfoldable pub def_cfa_offset_sf_at : Factors → ℕ → Input → Read Instr
-def_cfa_offset_sf_at f at i = signed_at f at i >>= with_instr DefCfaOffset
-
-unfoldable pub def_cfa_expression_at : Input → Read Instr
-def_cfa_expression_at i = block_at i >>= with_instr DefCfaExpression
-
-abbrev pub then_plain : ℕ → ℕ × Input → Read Instr
-then_plain at r = plain_at at r.1 >>= with_instr (DefCfa r.0)
-
-unfoldable pub def_cfa_at : ℕ → Input → Read Instr
-def_cfa_at at i = register_at i >>= then_plain at
-
-abbrev pub then_signed : (ℕ → ℤ → Instr) → Factors → ℕ → ℕ × Input → Read Instr
-then_signed make f at r = signed_at f at r.1 >>= with_instr (make r.0)
-
-unfoldable pub def_cfa_sf_at : Factors → ℕ → Input → Read Instr
-def_cfa_sf_at f at i = register_at i >>= then_signed DefCfa f at
-
-unfoldable pub restore_at : Input → Read Instr
-restore_at i = register_at i >>= with_instr Restore
-
--- a rule for a register
-abbrev pub set_to : RegRule → ℕ → Instr
-set_to rule r = Set r rule
-
-unfoldable pub undefined_at : Input → Read Instr
-undefined_at i = register_at i >>= with_instr (set_to rules.Undefined)
-
-unfoldable pub same_value_at : Input → Read Instr
-same_value_at i = register_at i >>= with_instr (set_to rules.SameValue)
-
-abbrev pub set_offset : ℕ → ℤ → Instr
-set_offset r z = Set r (rules.Offset z)
-
-abbrev pub set_val_offset : ℕ → ℤ → Instr
-set_val_offset r z = Set r (rules.ValOffset z)
-
-abbrev pub set_register : ℕ → ℕ → Instr
-set_register r q = Set r (rules.Register q)
-
-abbrev pub set_expression : ℕ → Expression → Instr
-set_expression r e = Set r (rules.Expression e)
-
-abbrev pub set_val_expression : ℕ → Expression → Instr
-set_val_expression r e = Set r (rules.ValExpression e)
-
-unfoldable pub offset_at : Factors → ℕ → ℕ → Input → Read Instr
-offset_at f at r i = factored_at f at i >>= with_instr (set_offset r)
-
-abbrev pub then_offset : Factors → ℕ → ℕ × Input → Read Instr
-then_offset f at r = offset_at f at r.0 r.1
-
-unfoldable pub offset_extended_at : Factors → ℕ → Input → Read Instr
-offset_extended_at f at i = register_at i >>= then_offset f at
-
-unfoldable pub offset_extended_sf_at : Factors → ℕ → Input → Read Instr
-offset_extended_sf_at f at i = register_at i >>= then_signed set_offset f at
-
-abbrev pub then_factored : (ℕ → ℤ → Instr) → Factors → ℕ → ℕ × Input → Read Instr
-then_factored make f at r = factored_at f at r.1 >>= with_instr (make r.0)
-
-unfoldable pub val_offset_at : Factors → ℕ → Input → Read Instr
-val_offset_at f at i = register_at i >>= then_factored set_val_offset f at
-
-unfoldable pub val_offset_sf_at : Factors → ℕ → Input → Read Instr
-val_offset_sf_at f at i = register_at i >>= then_signed set_val_offset f at
-
-abbrev pub then_register : ℕ × Input → Read Instr
-then_register r = register_at r.1 >>= with_instr (set_register r.0)
-
-unfoldable pub register_rule_at : Input → Read Instr
-register_rule_at i = register_at i >>= then_register
-
-abbrev pub then_block : (ℕ → Expression → Instr) → ℕ × Input → Read Instr
-then_block make r = block_at r.1 >>= with_instr (make r.0)
-
-unfoldable pub expression_at : Input → Read Instr
-expression_at i = register_at i >>= then_block set_expression
-
-unfoldable pub val_expression_at : Input → Read Instr
-val_expression_at i = register_at i >>= then_block set_val_expression
-
--- the operands of the instruction whose opcode is at this place
-unfoldable pub operands_at : Factors → ℕ → Opcode → Input → Read Instr
-operands_at f at opcodes.Nop i = Ok (Nop, i)
-operands_at f at opcodes.SetLoc i = set_loc_at i
-operands_at f at (opcodes.AdvanceLoc delta) i = Ok (advanced f delta, i)
-operands_at f at opcodes.AdvanceLoc1 i = advance_at f 1 i
-operands_at f at opcodes.AdvanceLoc2 i = advance_at f 2 i
-operands_at f at opcodes.AdvanceLoc4 i = advance_at f 4 i
-operands_at f at (opcodes.Offset r) i = offset_at f at r i
-operands_at f at opcodes.OffsetExtended i = offset_extended_at f at i
-operands_at f at opcodes.OffsetExtendedSf i = offset_extended_sf_at f at i
-operands_at f at (opcodes.Restore r) i = Ok (Restore r, i)
-operands_at f at opcodes.RestoreExtended i = restore_at i
-operands_at f at opcodes.Undefined i = undefined_at i
-operands_at f at opcodes.SameValue i = same_value_at i
-operands_at f at opcodes.Register i = register_rule_at i
-operands_at f at opcodes.RememberState i = Ok (RememberState, i)
-operands_at f at opcodes.RestoreState i = Ok (RestoreState, i)
-operands_at f at opcodes.DefCfa i = def_cfa_at at i
-operands_at f at opcodes.DefCfaSf i = def_cfa_sf_at f at i
-operands_at f at opcodes.DefCfaRegister i = def_cfa_register_at i
-operands_at f at opcodes.DefCfaOffset i = def_cfa_offset_at at i
-operands_at f at opcodes.DefCfaOffsetSf i = def_cfa_offset_sf_at f at i
-operands_at f at opcodes.DefCfaExpression i = def_cfa_expression_at i
-operands_at f at opcodes.Expression i = expression_at i
-operands_at f at opcodes.ValOffset i = val_offset_at f at i
-operands_at f at opcodes.ValOffsetSf i = val_offset_sf_at f at i
-operands_at f at opcodes.ValExpression i = val_expression_at i
-
--- ---- an instruction
+-- the instruction of an opcode at this place, if its offset is not too large
+abbrev pub judged : ℕ → Instr × Input → Read Instr
+judged at x = if nat_lt (unsigned_abs (offset_of x.0)) (2 ^ 63) then Ok x else fault OffsetTooLarge at
 
 abbrev pub known_at : Factors → ℕ → Option Opcode → Input → Read Instr
 known_at f at None i = fault UnknownInstruction at
-known_at f at (Some opcode) i = operands_at f at opcode i
+known_at f at (Some opcode) i = form_at (form_of f opcode) i >>= judged at
 
 abbrev pub after_code : Factors → ℕ → ℕ × Input → Read Instr
 after_code f at code = known_at f at (opcode_of code.0) code.1

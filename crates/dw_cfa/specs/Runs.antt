@@ -5,6 +5,7 @@ use Rattle.dw_num.specs.declared.refusal.Refusal.{Refusal}
 use Rattle.dw_num.specs.Target.{address_limit}
 use Rattle.dw_num.specs.Input.{Input}
 use Rattle.dw_num.specs.Reading.{Read}
+use Rattle.dw_op.specs.Walks.{Walked, walked}
 use Rattle.dw_cfa.specs.declared.instr.Factors.{Factors}
 use Rattle.dw_cfa.specs.declared.instr.Instr.{Instr}
 use Rattle.dw_cfa.specs.declared.machine.Machine.{Machine}
@@ -25,33 +26,15 @@ pub record Placed : Type 0 where
   pub at : ℕ
   pub instr : Instr
 
+abbrev pub place_of : ℕ → Instr → Placed
+place_of at i = record { at = at; instr = i }
+
 -- the instructions of a program up to the first that can't be read, and its refusal
-pub record Placing : Type 0 where
-  pub items : List Placed
-  pub fault : Option Refusal
-
-abbrev pub ended : Option Refusal → Placing
-ended fault = record { items = []; fault = fault }
-
-abbrev pub after_item : ℕ → Instr → Placing → Placing
-after_item at i l = record { items = record { at = at; instr = i } ∷ l.items; fault = l.fault }
-
-abbrev pub on_read : Read Instr → (Refusal → Placing) → (Instr × Input → Placing) → Placing
-on_read (Ok x) stuck go = go x
-on_read (Err e) stuck go = stuck e
-
-abbrev pub on_left : List ℕ → Placing → Placing
-on_left [] l = ended None
-on_left (b ∷ bytes) l = l
-
--- the same in at most n instructions
-unfoldable pub placed_by : Factors → ℕ → Input → Placing
-placed_by f zero i = ended None
-placed_by f (suc n) i =
-    on_left i.bytes (on_read (instr_at f i) (λ e. ended (Some e)) (λ x. after_item i.at x.0 (placed_by f n x.1)))
+abbrev pub Placing : Type 0
+Placing = Walked Placed
 
 unfoldable pub placed : Factors → Input → Placing
-placed f i = placed_by f (length i.bytes) i
+placed f i = walked (instr_at f) place_of i
 
 -- ---- a CIE's program
 

@@ -4,7 +4,8 @@ ghost use Rattle.std.specs.Prelude.{◌≡◌, ◌≤◌, Ok};
 ghost use Rattle.dw_num.specs.Fixed.{IsWidth};
 ghost use Rattle.dw_num.specs.Input.{Input};
 ghost use Rattle.dw_num.specs.Target.{address_limit};
-ghost use Rattle.dw_cfa.specs.Reading.{advanced, advance_at, set_loc_at};
+ghost use Rattle.dw_cfa.specs.Operands.{advanced};
+ghost use Rattle.dw_cfa.specs.ByOpcode.{advance_at, set_loc_at};
 ghost use Rattle.dw_cfa.specs.Turns.{Applied};
 
 use crate::instr::Factors;
@@ -35,7 +36,7 @@ pub(crate) fn run_advance(
 }
 
 /// The same by a delta of so many bytes.
-#[tactic(auto, unfolding(crate::specs::Reading::advance_at))]
+#[tactic(auto, unfolding(crate::specs::ByOpcode::advance_at))]
 #[inline(always)]
 pub(crate) fn run_fixed_advance<'a>(
     cursor: &mut Cursor<'a>,
@@ -58,7 +59,7 @@ pub(crate) fn run_fixed_advance<'a>(
 }
 
 /// Moves the location to an address that is not below it.
-#[tactic(auto, unfolding(crate::specs::Reading::set_loc_at))]
+#[tactic(auto, unfolding(crate::specs::ByOpcode::set_loc_at))]
 #[inline(never)]
 pub(crate) fn run_set_loc<'a>(
     cursor: &mut Cursor<'a>,

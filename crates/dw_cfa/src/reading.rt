@@ -3,7 +3,9 @@
 ghost use Rattle.std.specs.Prelude.{◌≡◌, ◌+◌, ◌*◌, ◌<◌, ◌^◌, ◌*ℤ◌, length, unsigned_abs, IsTrue, IsOk};
 ghost use Rattle.dw_num.specs.Fixed.{IsWidth};
 ghost use Rattle.dw_num.specs.Reading.{Gives, uleb_at};
-ghost use Rattle.dw_cfa.specs.Reading.{opcode_of, offset_in, plain_at, factored_at, signed_at, expression_in, block_at, set_loc_at, advance_at, def_cfa_at, def_cfa_sf_at, def_cfa_register_at, def_cfa_offset_at, def_cfa_offset_sf_at, def_cfa_expression_at, offset_at, offset_extended_at, offset_extended_sf_at, val_offset_at, val_offset_sf_at, restore_at, undefined_at, same_value_at, register_rule_at, expression_at, val_expression_at, operands_at, instr_at};
+ghost use Rattle.dw_cfa.specs.Operands.{opcode_of};
+ghost use Rattle.dw_cfa.specs.Reading.{expression_in, block_at, instr_at};
+ghost use Rattle.dw_cfa.specs.ByOpcode.{offset_in, plain_at, factored_at, signed_at, set_loc_at, advance_at, def_cfa_at, def_cfa_sf_at, def_cfa_register_at, def_cfa_offset_at, def_cfa_offset_sf_at, def_cfa_expression_at, offset_at, offset_extended_at, offset_extended_sf_at, val_offset_at, val_offset_sf_at, restore_at, undefined_at, same_value_at, register_rule_at, expression_at, val_expression_at, operands_at};
 
 use crate::instr::{Factors, Instr};
 use crate::rule::RegRule;
@@ -45,7 +47,7 @@ pub(crate) enum Opcode {
 }
 
 // What a code says: DWARF 5, 7.24.
-#[tactic(auto, unfolding(crate::specs::Reading::opcode_of))]
+#[tactic(auto, unfolding(crate::specs::Operands::opcode_of))]
 pub(crate) fn known_opcode(code: u8) -> Option<Opcode>
     ensures { result ≡ opcode_of code }
 {
@@ -84,7 +86,7 @@ pub(crate) fn known_opcode(code: u8) -> Option<Opcode>
 // ---- operands
 
 // A product as an offset of the instruction at this place.
-#[tactic(auto, unfolding(crate::specs::Reading::offset_in))]
+#[tactic(auto, unfolding(crate::specs::ByOpcode::offset_in))]
 fn checked_offset(offset: i128, at: u64) -> Result<i64, Refusal>
     ensures { result ≡ offset_in at offset }
 {
@@ -121,7 +123,7 @@ fn quick_uleb(cursor: &mut Cursor<'_>) -> Result<u64, Refusal>
     cursor.uleb()
 }
 
-#[tactic(auto, unfolding(crate::specs::Reading::plain_at))]
+#[tactic(auto, unfolding(crate::specs::ByOpcode::plain_at))]
 #[inline(always)]
 pub(crate) fn plain(cursor: &mut Cursor<'_>, at: u64) -> Result<i64, Refusal>
     ensures { Gives (λ z. z) result (plain_at at cursor.old) cursor.new }
@@ -130,7 +132,7 @@ pub(crate) fn plain(cursor: &mut Cursor<'_>, at: u64) -> Result<i64, Refusal>
     checked_offset(i128::from(operand), at)
 }
 
-#[tactic(auto, unfolding(crate::specs::Reading::factored_at))]
+#[tactic(auto, unfolding(crate::specs::ByOpcode::factored_at))]
 #[inline(always)]
 pub(crate) fn factored(cursor: &mut Cursor<'_>, factors: Factors, at: u64) -> Result<i64, Refusal>
     ensures { Gives (λ z. z) result (factored_at factors at cursor.old) cursor.new }
@@ -139,7 +141,7 @@ pub(crate) fn factored(cursor: &mut Cursor<'_>, factors: Factors, at: u64) -> Re
     checked_offset(times(i128::from(operand), factors.data_factor), at)
 }
 
-#[tactic(auto, unfolding(crate::specs::Reading::signed_at))]
+#[tactic(auto, unfolding(crate::specs::ByOpcode::signed_at))]
 pub(crate) fn signed(cursor: &mut Cursor<'_>, factors: Factors, at: u64) -> Result<i64, Refusal>
     ensures { Gives (λ z. z) result (signed_at factors at cursor.old) cursor.new }
 {
@@ -189,7 +191,7 @@ pub(crate) fn block<'a>(cursor: &mut Cursor<'a>, known: bool) -> Result<ExprRef<
 // None of these is inlined: where all of them meet in one function, each instruction is put together of its parts once
 // more.
 
-#[tactic(auto, unfolding(crate::specs::Reading::set_loc_at))]
+#[tactic(auto, unfolding(crate::specs::ByOpcode::set_loc_at))]
 #[inline(never)]
 fn read_set_loc<'a>(cursor: &mut Cursor<'a>) -> Result<Instr<'a>, Refusal>
     ensures { Gives (λ i. i) result (set_loc_at cursor.old) cursor.new }
@@ -205,7 +207,7 @@ pub(crate) fn distance(delta: u64, factors: Factors) -> u128
     u128::from(delta) * u128::from(factors.code_factor)
 }
 
-#[tactic(auto, unfolding(crate::specs::Reading::advance_at))]
+#[tactic(auto, unfolding(crate::specs::ByOpcode::advance_at))]
 #[inline(never)]
 fn read_advance<'a>(
     cursor: &mut Cursor<'a>,
@@ -219,7 +221,7 @@ fn read_advance<'a>(
     Ok(Instr::Advance(distance(delta, factors)))
 }
 
-#[tactic(auto, unfolding(crate::specs::Reading::def_cfa_at))]
+#[tactic(auto, unfolding(crate::specs::ByOpcode::def_cfa_at))]
 #[inline(never)]
 fn read_def_cfa<'a>(cursor: &mut Cursor<'a>, at: u64) -> Result<Instr<'a>, Refusal>
     ensures { Gives (λ i. i) result (def_cfa_at at cursor.old) cursor.new }
@@ -229,7 +231,7 @@ fn read_def_cfa<'a>(cursor: &mut Cursor<'a>, at: u64) -> Result<Instr<'a>, Refus
     Ok(Instr::DefCfa { register, offset })
 }
 
-#[tactic(auto, unfolding(crate::specs::Reading::def_cfa_sf_at))]
+#[tactic(auto, unfolding(crate::specs::ByOpcode::def_cfa_sf_at))]
 #[inline(never)]
 fn read_def_cfa_sf<'a>(
     cursor: &mut Cursor<'a>,
@@ -243,7 +245,7 @@ fn read_def_cfa_sf<'a>(
     Ok(Instr::DefCfa { register, offset })
 }
 
-#[tactic(auto, unfolding(crate::specs::Reading::def_cfa_register_at))]
+#[tactic(auto, unfolding(crate::specs::ByOpcode::def_cfa_register_at))]
 #[inline(never)]
 fn read_def_cfa_register<'a>(cursor: &mut Cursor<'a>) -> Result<Instr<'a>, Refusal>
     ensures { Gives (λ i. i) result (def_cfa_register_at cursor.old) cursor.new }
@@ -252,7 +254,7 @@ fn read_def_cfa_register<'a>(cursor: &mut Cursor<'a>) -> Result<Instr<'a>, Refus
     Ok(Instr::DefCfaRegister(register))
 }
 
-#[tactic(auto, unfolding(crate::specs::Reading::def_cfa_offset_at))]
+#[tactic(auto, unfolding(crate::specs::ByOpcode::def_cfa_offset_at))]
 #[inline(never)]
 fn read_def_cfa_offset<'a>(cursor: &mut Cursor<'a>, at: u64) -> Result<Instr<'a>, Refusal>
     ensures { Gives (λ i. i) result (def_cfa_offset_at at cursor.old) cursor.new }
@@ -261,7 +263,7 @@ fn read_def_cfa_offset<'a>(cursor: &mut Cursor<'a>, at: u64) -> Result<Instr<'a>
     Ok(Instr::DefCfaOffset(offset))
 }
 
-#[tactic(auto, unfolding(crate::specs::Reading::def_cfa_offset_sf_at))]
+#[tactic(auto, unfolding(crate::specs::ByOpcode::def_cfa_offset_sf_at))]
 #[inline(never)]
 fn read_def_cfa_offset_sf<'a>(
     cursor: &mut Cursor<'a>,
@@ -274,7 +276,7 @@ fn read_def_cfa_offset_sf<'a>(
     Ok(Instr::DefCfaOffset(offset))
 }
 
-#[tactic(auto, unfolding(crate::specs::Reading::def_cfa_expression_at))]
+#[tactic(auto, unfolding(crate::specs::ByOpcode::def_cfa_expression_at))]
 #[inline(never)]
 fn read_def_cfa_expression<'a>(cursor: &mut Cursor<'a>, known: bool) -> Result<Instr<'a>, Refusal>
     requires { IsTrue known → IsOk (def_cfa_expression_at cursor.old) }
@@ -284,7 +286,7 @@ fn read_def_cfa_expression<'a>(cursor: &mut Cursor<'a>, known: bool) -> Result<I
     Ok(Instr::DefCfaExpression(expression))
 }
 
-#[tactic(auto, unfolding(crate::specs::Reading::restore_at))]
+#[tactic(auto, unfolding(crate::specs::ByOpcode::restore_at))]
 #[inline(never)]
 fn read_restore<'a>(cursor: &mut Cursor<'a>) -> Result<Instr<'a>, Refusal>
     ensures { Gives (λ i. i) result (restore_at cursor.old) cursor.new }
@@ -295,7 +297,7 @@ fn read_restore<'a>(cursor: &mut Cursor<'a>) -> Result<Instr<'a>, Refusal>
 
 // ---- rules of registers
 
-#[tactic(auto, unfolding(crate::specs::Reading::undefined_at))]
+#[tactic(auto, unfolding(crate::specs::ByOpcode::undefined_at))]
 #[inline(never)]
 fn read_undefined<'a>(cursor: &mut Cursor<'a>) -> Result<Instr<'a>, Refusal>
     ensures { Gives (λ i. i) result (undefined_at cursor.old) cursor.new }
@@ -304,7 +306,7 @@ fn read_undefined<'a>(cursor: &mut Cursor<'a>) -> Result<Instr<'a>, Refusal>
     Ok(Instr::Set(register, RegRule::Undefined))
 }
 
-#[tactic(auto, unfolding(crate::specs::Reading::same_value_at))]
+#[tactic(auto, unfolding(crate::specs::ByOpcode::same_value_at))]
 #[inline(never)]
 fn read_same_value<'a>(cursor: &mut Cursor<'a>) -> Result<Instr<'a>, Refusal>
     ensures { Gives (λ i. i) result (same_value_at cursor.old) cursor.new }
@@ -313,7 +315,7 @@ fn read_same_value<'a>(cursor: &mut Cursor<'a>) -> Result<Instr<'a>, Refusal>
     Ok(Instr::Set(register, RegRule::SameValue))
 }
 
-#[tactic(auto, unfolding(crate::specs::Reading::offset_at))]
+#[tactic(auto, unfolding(crate::specs::ByOpcode::offset_at))]
 #[inline(never)]
 fn read_offset<'a>(
     cursor: &mut Cursor<'a>,
@@ -327,7 +329,7 @@ fn read_offset<'a>(
     Ok(Instr::Set(register, RegRule::Offset(offset)))
 }
 
-#[tactic(auto, unfolding(crate::specs::Reading::offset_extended_at))]
+#[tactic(auto, unfolding(crate::specs::ByOpcode::offset_extended_at))]
 #[inline(never)]
 fn read_offset_extended<'a>(
     cursor: &mut Cursor<'a>,
@@ -340,7 +342,7 @@ fn read_offset_extended<'a>(
     read_offset(cursor, factors, at, register)
 }
 
-#[tactic(auto, unfolding(crate::specs::Reading::offset_extended_sf_at))]
+#[tactic(auto, unfolding(crate::specs::ByOpcode::offset_extended_sf_at))]
 #[inline(never)]
 fn read_offset_extended_sf<'a>(
     cursor: &mut Cursor<'a>,
@@ -354,7 +356,7 @@ fn read_offset_extended_sf<'a>(
     Ok(Instr::Set(register, RegRule::Offset(offset)))
 }
 
-#[tactic(auto, unfolding(crate::specs::Reading::val_offset_at))]
+#[tactic(auto, unfolding(crate::specs::ByOpcode::val_offset_at))]
 #[inline(never)]
 fn read_val_offset<'a>(
     cursor: &mut Cursor<'a>,
@@ -368,7 +370,7 @@ fn read_val_offset<'a>(
     Ok(Instr::Set(register, RegRule::ValOffset(offset)))
 }
 
-#[tactic(auto, unfolding(crate::specs::Reading::val_offset_sf_at))]
+#[tactic(auto, unfolding(crate::specs::ByOpcode::val_offset_sf_at))]
 #[inline(never)]
 fn read_val_offset_sf<'a>(
     cursor: &mut Cursor<'a>,
@@ -382,7 +384,7 @@ fn read_val_offset_sf<'a>(
     Ok(Instr::Set(register, RegRule::ValOffset(offset)))
 }
 
-#[tactic(auto, unfolding(crate::specs::Reading::register_rule_at))]
+#[tactic(auto, unfolding(crate::specs::ByOpcode::register_rule_at))]
 #[inline(never)]
 fn read_register_rule<'a>(cursor: &mut Cursor<'a>) -> Result<Instr<'a>, Refusal>
     ensures { Gives (λ i. i) result (register_rule_at cursor.old) cursor.new }
@@ -392,7 +394,7 @@ fn read_register_rule<'a>(cursor: &mut Cursor<'a>) -> Result<Instr<'a>, Refusal>
     Ok(Instr::Set(register, RegRule::Register(other)))
 }
 
-#[tactic(auto, unfolding(crate::specs::Reading::expression_at))]
+#[tactic(auto, unfolding(crate::specs::ByOpcode::expression_at))]
 #[inline(never)]
 fn read_expression<'a>(cursor: &mut Cursor<'a>, known: bool) -> Result<Instr<'a>, Refusal>
     requires { IsTrue known → IsOk (expression_at cursor.old) }
@@ -403,7 +405,7 @@ fn read_expression<'a>(cursor: &mut Cursor<'a>, known: bool) -> Result<Instr<'a>
     Ok(Instr::Set(register, RegRule::Expression(expression)))
 }
 
-#[tactic(auto, unfolding(crate::specs::Reading::val_expression_at))]
+#[tactic(auto, unfolding(crate::specs::ByOpcode::val_expression_at))]
 #[inline(never)]
 fn read_val_expression<'a>(cursor: &mut Cursor<'a>, known: bool) -> Result<Instr<'a>, Refusal>
     requires { IsTrue known → IsOk (val_expression_at cursor.old) }
@@ -417,7 +419,7 @@ fn read_val_expression<'a>(cursor: &mut Cursor<'a>, known: bool) -> Result<Instr
 // ---- an instruction
 
 // The instruction of a code that stands at this place.
-#[tactic(auto, unfolding(crate::specs::Reading::operands_at))]
+#[tactic(auto, unfolding(crate::specs::ByOpcode::operands_at))]
 fn operands<'a>(
     cursor: &mut Cursor<'a>,
     factors: Factors,

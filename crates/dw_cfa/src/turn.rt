@@ -5,7 +5,7 @@ ghost use Rattle.std.specs.Prelude.{◌≡◌, ◌<◌, ◌≤◌, None, Ok, len
 ghost use Rattle.dw_num.specs.Input.{Input};
 ghost use Rattle.dw_num.specs.Target.{address_limit};
 ghost use Rattle.dw_cfa.specs.declared.instr.Instr.TheVariants.{RememberState, RestoreState};
-ghost use Rattle.dw_cfa.specs.Reading.{operands_at};
+ghost use Rattle.dw_cfa.specs.ByOpcode.{operands_at};
 ghost use Rattle.dw_cfa.specs.Runs.{RunsSo, rows_left};
 ghost use Rattle.dw_cfa.specs.Turns.{Applied, Turned};
 
@@ -62,7 +62,7 @@ fn run_restore_state(machine: &mut Machine<'_>, at: u64, fault: &mut Refusal) ->
 }
 
 // Reads the operands behind an opcode, and applies the instruction to the machine.
-#[tactic(auto, unfolding(crate::specs::Reading::operands_at))]
+#[tactic(auto, unfolding(crate::specs::ByOpcode::operands_at))]
 #[inline(always)]
 fn apply<'a>(
     opcode: Opcode,

@@ -1,7 +1,7 @@
 -- Location descriptions: DWARF 5, 2.6.1.
 use Rattle.std.specs.Prelude.{◌≡◌, ℕ, ◌+◌, List, [], ◌∷◌, ◌++◌, length, Option, Some, None, Result, Ok, Err, nat_lt, if◌then◌else◌}
 use Rattle.dw_op.specs.declared.op.Op.{Op}
-use Rattle.dw_op.specs.declared.op.Op.TheVariants.{Addr, Deref, Const, Dup, Drop, Over, Pick, Swap, Rot, Abs, And, Div, Minus, Mod, Mul, Neg, Not, Or, Plus, PlusUconst, Shl, Shr, Shra, Xor, Bra, Eq, Ge, Gt, Le, Lt, Ne, Skip, Reg, Breg, Fbreg, DerefSize, Nop, PushObjectAddress, CallFrameCfa, BitPiece, Implicit, StackValue}
+use Rattle.dw_op.specs.declared.op.Op.TheVariants.{Addr, Deref, Const, Dup, Drop, Pick, Rot, Abs, Neg, Not, PlusUconst, Bra, Skip, Reg, Breg, Fbreg, DerefSize, Nop, PushObjectAddress, CallFrameCfa, BitPiece, Implicit, StackValue}
 use Rattle.dw_op.specs.declared.op.Op.TheVariants as op
 use Rattle.dw_eval.specs.declared.error.EvalError.{EvalError}
 use Rattle.dw_eval.specs.declared.error.EvalError.TheVariants.{Fault}
@@ -19,39 +19,20 @@ use Rattle.dw_eval.specs.Context.{Context}
 use Rattle.dw_eval.specs.Effect.{Outcome, Next, Jump, Faults, effect, Reads}
 use Rattle.dw_eval.specs.Runs.{Runs, Answers, MayFail, Answered}
 
--- what each operation does in a description; a computation names so many entries of the stack
+-- what each operation does in a description; a computation names so many entries of the stack, most of them two
 abbrev pub role : Op → Role
 role (Addr a) = Computes 0
 role Deref = Computes 1
 role (Const v) = Computes 0
 role Dup = Computes 1
 role Drop = Computes 1
-role Over = Computes 2
 role (Pick i) = Computes (i + 1)
-role Swap = Computes 2
 role Rot = Computes 3
 role Abs = Computes 1
-role And = Computes 2
-role Div = Computes 2
-role Minus = Computes 2
-role Mod = Computes 2
-role Mul = Computes 2
 role Neg = Computes 1
 role Not = Computes 1
-role Or = Computes 2
-role Plus = Computes 2
 role (PlusUconst n) = Computes 1
-role Shl = Computes 2
-role Shr = Computes 2
-role Shra = Computes 2
-role Xor = Computes 2
 role (Bra i) = Computes 1
-role Eq = Computes 2
-role Ge = Computes 2
-role Gt = Computes 2
-role Le = Computes 2
-role Lt = Computes 2
-role Ne = Computes 2
 role (Skip i) = Computes 0
 role (Reg r) = SetsPlace (Register r)
 role (Breg r n) = Computes 0
@@ -64,6 +45,7 @@ role CallFrameCfa = Computes 0
 role (BitPiece size offset) = AddsPiece (Bits size offset)
 role (Implicit block) = SetsPlace (Bytes block)
 role StackValue = SetsValue
+role other = Computes 2
 
 -- before an operation: its index, the stack, the place that waits for its piece, and the pieces so far
 pub record PlaceState : Type 0 where

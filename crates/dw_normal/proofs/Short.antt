@@ -4,7 +4,7 @@ use Rattle.std.proofs.lemmas.List.{take_more}
 use Rattle.dw_num.specs.Input.{AreBytes}
 use Rattle.dw_num.specs.declared.target.Target.{Target}
 use Rattle.dw_section.specs.Accepted.{Accepted}
-use Rattle.dw_section.specs.Lengths.{HasLengths}
+use Rattle.dw_section.specs.Meaning.{HasLengths}
 use Rattle.dw_section.specs.Meaning.{AreFdes}
 use Rattle.dw_section.specs.declared.lookup.Fde.{Fde}
 use Rattle.dw_canon.specs.Bound.{share, Shares}

@@ -30,7 +30,8 @@ use Rattle.dw_op.specs.Expression.{bare}
 use Rattle.dw_op.specs.OpSpells.{OpSpells, Code, Both, Counted, modulo, ConstForm, Written, Const1u, Const1s, Const2u, Const2s, Const4u, Const4s, Const8u, Const8s, Constu, Consts, Lit}
 use Rattle.dw_op.specs.Block.{branch_target}
 use Rattle.dw_op.specs.Steps.{StepSpells, branch_code, step_in_frame, step_allowed}
-use Rattle.dw_op.specs.Reading.{plain_op, opcode_of, in_range, code_in_frame, allows, with_op, width_of, signed_of, after_register, after_size, implicit, after_length, address_step, unsigned_step, signed_step, uconst_step, sconst_step, pick_step, plus_step, jump_step, breg_step, long_reg_step, long_breg_step, fbreg_step, piece_step, deref_size_step, bit_piece_step, implicit_step, operands_at, step_at}
+use Rattle.dw_op.specs.Reading.{plain_op, opcode_of, in_range, code_in_frame, allows, with_op, width_of, signed_of, after_register, after_size, implicit, after_length, operands_at, step_at}
+use Rattle.dw_op.specs.ByOpcode.{address_step, unsigned_step, signed_step, uconst_step, sconst_step, pick_step, plus_step, jump_step, breg_step, long_reg_step, long_breg_step, fbreg_step, piece_step, deref_size_step, bit_piece_step, implicit_step}
 use Rattle.dw_op.proofs.Signed.{Complement, complement_of}
 
 some_none : (i : ℕ) → Some i ≡ None → ⊥
@@ -63,7 +64,7 @@ module _ (t : Target) (profile : Profile) where
       subst (λ (l : List ℕ). Again t (step_at profile) step l) (sym h.whole) (code_again code opcode step h.rest known same allowed (second h.rest h.operands))
 
   alone_again : (code : ℕ) (op : Op) (b : List ℕ) → b ≡ code ∷ [] → opcode_of code ≡ Some (opcodes.Alone op) → bare op ≡ op → step_allowed profile (Plain op) ≡ true → Again t (step_at profile) (Plain op) b
-  unfolding operands_at
+  unfolding operands_at address_step unsigned_step signed_step uconst_step sconst_step pick_step plus_step jump_step breg_step long_reg_step long_breg_step fbreg_step piece_step deref_size_step bit_piece_step implicit_step
   alone_again code op b is known same allowed =
       let none : Again t (operands_at (opcodes.Alone op)) (Plain op) [] = λ at rest. let place : at ≡ at + 0 = omega arith in rw (same, ← place) refl in
       subst (λ (l : List ℕ). Again t (step_at profile) (Plain op) l) (sym is) (code_again code (opcodes.Alone op) (Plain op) [] known refl allowed none)
@@ -103,7 +104,7 @@ module _ (t : Target) (profile : Profile) where
 
   unsigned_again : (code : ℕ) (count : ByteCount) (v : ℕ) (z : ℤ) (n : ℕ) (b : List ℕ) → opcode_of code ≡ Some (opcodes.Unsigned count) → z ≡ pos n → v ≡ modulo (address_limit t.size) z
       → Fixed t.order (width_of count) n b → step_allowed profile (Plain (Const v)) ≡ true → Again t (step_at profile) (Plain (Const v)) (code ∷ b)
-  unfolding operands_at unsigned_step
+  unfolding operands_at unsigned_step address_step signed_step uconst_step sconst_step pick_step plus_step jump_step breg_step long_reg_step long_breg_step fbreg_step piece_step deref_size_step bit_piece_step implicit_step
   unsigned_again code count v z n b known is value f allowed =
       let v_is : v ≡ n % address_limit t.size = value ∙ ap (λ (y : ℤ). modulo (address_limit t.size) y) is in
       code_again code (opcodes.Unsigned count) (Plain (Const v)) b known refl allowed
@@ -111,7 +112,7 @@ module _ (t : Target) (profile : Profile) where
 
   signed_again : (code : ℕ) (count : ByteCount) (v : ℕ) (z : ℤ) (b : List ℕ) → opcode_of code ≡ Some (opcodes.Signed count) → v ≡ modulo (address_limit t.size) z
       → Complement count t.order z b → step_allowed profile (Plain (Const v)) ≡ true → Again t (step_at profile) (Plain (Const v)) (code ∷ b)
-  unfolding operands_at signed_step
+  unfolding operands_at signed_step address_step unsigned_step uconst_step sconst_step pick_step plus_step jump_step breg_step long_reg_step long_breg_step fbreg_step piece_step deref_size_step bit_piece_step implicit_step
   signed_again code count v z b known value c allowed =
       let n = c.number in
       let v_is : v ≡ modulo (address_limit t.size) (signed_of count n) = value ∙ ap (λ (y : ℤ). modulo (address_limit t.size) y) (sym c.is) in
@@ -119,7 +120,7 @@ module _ (t : Target) (profile : Profile) where
       (rw v_is (op_again (fixed_at (width_of count)) (λ g m. Const (modulo (address_limit g.size) (signed_of count m))) n b (λ at rest. fixed_at_again (width_of count) at t n b rest c.fixed)))
 
   const_again : (form : ConstForm) (v : ℕ) (z : ℤ) (b : List ℕ) → Written t.order form z b → v ≡ modulo (address_limit t.size) z → step_allowed profile (Plain (Const v)) ≡ true → Again t (step_at profile) (Plain (Const v)) b
-  unfolding operands_at uconst_step sconst_step opcode_of plain_op
+  unfolding operands_at uconst_step sconst_step opcode_of plain_op address_step unsigned_step signed_step pick_step plus_step jump_step breg_step long_reg_step long_breg_step fbreg_step piece_step deref_size_step bit_piece_step implicit_step
   const_again Const1u v z b h value allowed = rw h.whole (unsigned_again 0x08 One v z h.operands.number h.rest refl h.operands.is value h.operands.spelled allowed)
   const_again Const1s v z b h value allowed = rw h.whole (signed_again 0x09 One v z h.rest refl value (complement_of One t.order z h.rest h.operands) allowed)
   const_again Const2u v z b h value allowed = rw h.whole (unsigned_again 0x0a Two v z h.operands.number h.rest refl h.operands.is value h.operands.spelled allowed)
@@ -173,7 +174,7 @@ module _ (t : Target) (profile : Profile) where
 
   -- what spells an operation that is no branch is read
   pub op_spelled_again : (op : Op) (b : List ℕ) → OpSpells t op b → branch_target op ≡ None → step_allowed profile (Plain op) ≡ true → Again t (step_at profile) (Plain op) b
-  unfolding operands_at opcode_of plain_op address_step pick_step plus_step breg_step long_reg_step fbreg_step piece_step
+  unfolding operands_at opcode_of plain_op address_step pick_step plus_step breg_step long_reg_step fbreg_step piece_step unsigned_step signed_step uconst_step sconst_step jump_step long_breg_step deref_size_step bit_piece_step implicit_step
   op_spelled_again Deref b h target allowed = alone_again 0x06 Deref b h refl refl allowed
   op_spelled_again Dup b h target allowed = alone_again 0x12 Dup b h refl refl allowed
   op_spelled_again Drop b h target allowed = alone_again 0x13 Drop b h refl refl allowed
@@ -251,7 +252,7 @@ module _ (t : Target) (profile : Profile) where
 
   -- a branch's code and its two bytes are read
   pub jump_spelled_again : (branch : Branch) (n : ℕ) (b : List ℕ) → Code (branch_code branch) (Fixed t.order 2 n) b → Again t (step_at profile) (Jump branch n) b
-  unfolding operands_at opcode_of plain_op
+  unfolding operands_at opcode_of plain_op address_step unsigned_step signed_step uconst_step sconst_step pick_step plus_step jump_step breg_step long_reg_step long_breg_step fbreg_step piece_step deref_size_step bit_piece_step implicit_step
   jump_spelled_again branches.Bra n b h = coded 0x28 (opcodes.Jump branches.Bra) (Jump branches.Bra n) b (Fixed t.order 2 n) h refl refl (always_allowed profile branches.Bra n) (λ c f. jump_operand_again branches.Bra n c f)
   jump_spelled_again branches.Skip n b h = coded 0x2f (opcodes.Jump branches.Skip) (Jump branches.Skip n) b (Fixed t.order 2 n) h refl refl (always_allowed profile branches.Skip n) (λ c f. jump_operand_again branches.Skip n c f)
 

@@ -31,7 +31,8 @@ use Rattle.dw_op.specs.OpSpells.{OpSpells, modulo, Const1u, Const1s, Const2u, Co
 use Rattle.dw_op.specs.Block.{branch_target}
 use Rattle.dw_op.specs.Profile.{in_frame}
 use Rattle.dw_op.specs.Steps.{StepSpells, branch_code, step_in_frame, step_allowed}
-use Rattle.dw_op.specs.Reading.{look_up, plain_table, plain_op, operand_table, alone, or_else, in_range, opcode_of, code_in_frame, allows, with_op, width_of, signed_of, with_jump, after_register, size_in, after_size, implicit, after_length, address_step, unsigned_step, signed_step, uconst_step, sconst_step, pick_step, plus_step, jump_step, breg_step, long_reg_step, long_breg_step, fbreg_step, piece_step, deref_size_step, bit_piece_step, implicit_step, operands_at, judged, after_code, step_at}
+use Rattle.dw_op.specs.Reading.{look_up, plain_table, plain_op, operand_table, alone, or_else, in_range, opcode_of, code_in_frame, allows, with_op, width_of, signed_of, with_jump, after_register, size_in, after_size, implicit, after_length, operands_at, judged, after_code, step_at}
+use Rattle.dw_op.specs.ByOpcode.{address_step, unsigned_step, signed_step, uconst_step, sconst_step, pick_step, plus_step, jump_step, breg_step, long_reg_step, long_breg_step, fbreg_step, piece_step, deref_size_step, bit_piece_step, implicit_step}
 use Rattle.dw_op.proofs.Signed.{count_found, signed_spelled}
 
 -- ---- what a code says
@@ -259,7 +260,7 @@ at_code : (code known : ℕ) (i new : Input) (step : Step) → code ≡ known �
 at_code code known i new step is h = subst (λ (c : ℕ). StepFound i.target c i step new) (sym is) h
 
 operands_found : (code : ℕ) (opcode : Opcode) (i new : Input) (step : Step) → CodeOf i.target opcode code → AreBytes i.bytes → operands_at opcode i ≡ done (step, new) → StepFound i.target code i step new
-unfolding operands_at address_step unsigned_step signed_step uconst_step sconst_step pick_step plus_step long_reg_step fbreg_step piece_step
+unfolding operands_at address_step unsigned_step signed_step uconst_step sconst_step pick_step plus_step long_reg_step fbreg_step piece_step jump_step breg_step long_breg_step deref_size_step bit_piece_step implicit_step
 operands_found code (opcodes.Alone op) i new step is h e =
     subst (λ (z : Step × Input). StepFound i.target code i z.0 z.1) (ok_is (Plain (bare op), i) (step, new) e) ([], is, takes_none i)
 operands_found code opcodes.Addr i new step is h e =

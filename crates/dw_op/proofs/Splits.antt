@@ -12,9 +12,17 @@ use Rattle.dw_op.specs.declared.reading.Step.{Step}
 use Rattle.dw_op.specs.Block.{joined}
 use Rattle.dw_op.specs.Reading.{step_at}
 use Rattle.dw_op.specs.Steps.{StepSpells, step_allowed}
-use Rattle.dw_op.specs.Walk.{Item, Walk, ended, after_item, on_read, on_left, walk_by, walk}
+use Rattle.dw_op.specs.Walk.{Item, item_of, Walk, walk}
+use Rattle.dw_op.specs.Walks.{ended, put, on_read, on_left, walked_by}
 use Rattle.dw_op.proofs.ReadingLaws.{step_found}
 use Rattle.dw_op.proofs.ReadingAgain.{step_again}
+
+abbrev after_item : ℕ → Step → Walk → Walk
+after_item at step w = put (item_of at step) w
+
+-- in at most n steps
+abbrev pub walk_by : Profile → ℕ → Input → Walk
+walk_by profile n i = walked_by (step_at profile) item_of n i
 
 -- a part spells this step, which the profile has
 pub record Spelled (profile : Profile) (t : Target) (step : Step) (part : List ℕ) : Type 0 where
@@ -114,7 +122,7 @@ left_split profile n i (b ∷ bytes) more le h e =
     read_split profile n i (step_at profile i) more le some h refl
 
 pub split_by : (profile : Profile) (n : ℕ) (i : Input) → length i.bytes ≤ n → AreBytes i.bytes → Split profile i (walk_by profile n i)
-unfolding walk_by
+unfolding walked_by
 split_by profile zero i le h = record { steps = []; parts = []; rest = []; each = tt; items = refl; whole = nothing i.bytes le; ends = refl }
 split_by profile (suc n) i le h = left_split profile n i i.bytes (λ j l k. split_by profile n j l k) le h refl
 
@@ -130,15 +138,15 @@ on_some [] w h = absurd (omega arith)
 on_some (b ∷ bytes) w h = refl
 
 step_walk_by : (profile : Profile) (n : ℕ) (i : Input) (x : Step × Input) → 0 < length i.bytes → step_at profile i ≡ done x → walk_by profile (suc n) i ≡ after_item i.at x.0 (walk_by profile n x.1)
-unfolding walk_by
+unfolding walked_by
 step_walk_by profile n i x some e = rw (on_some i.bytes _ some, e) refl
 
 stuck_walk_by : (profile : Profile) (n : ℕ) (i : Input) (r : Refusal) → 0 < length i.bytes → step_at profile i ≡ Err r → walk_by profile (suc n) i ≡ ended (Some r)
-unfolding walk_by
+unfolding walked_by
 stuck_walk_by profile n i r some e = rw (on_some i.bytes _ some, e) refl
 
 end_walk_by : (profile : Profile) (n at : ℕ) (t : Target) → walk_by profile n (input at [] t) ≡ ended None
-unfolding walk_by
+unfolding walked_by
 end_walk_by profile zero at t = refl
 end_walk_by profile (suc n) at t = refl
 

@@ -8,9 +8,10 @@ use Rattle.dw_num.specs.declared.target.Order.{Order}
 use Rattle.dw_num.specs.declared.target.Order.TheVariants.{Little, Big}
 use Rattle.dw_num.specs.Target.{byte_count}
 use Rattle.dw_op.specs.declared.op.Op.{Op}
-use Rattle.dw_op.specs.declared.op.Op.TheVariants.{Addr, Deref, Const, Dup, Drop, Over, Pick, Swap, Rot, Abs, And, Div, Minus, Mod, Mul, Neg, Not, Or, Plus, PlusUconst, Shl, Shr, Shra, Xor, Bra, Eq, Ge, Gt, Le, Lt, Ne, Skip, Reg, Breg, Fbreg, Piece, DerefSize, Nop, PushObjectAddress, CallFrameCfa, BitPiece, Implicit, StackValue}
+use Rattle.dw_op.specs.declared.op.Op.TheVariants.{Addr, Const, Pick, PlusUconst, Bra, Skip, Reg, Breg, Fbreg, Piece, DerefSize, BitPiece, Implicit}
 use Rattle.dw_op.specs.declared.comparing.Line.{Line}
 use Rattle.dw_op.specs.Expression.{Expression}
+use Rattle.dw_op.specs.OpSpells.{alone_code}
 
 -- a signed number as a sign and a number
 abbrev pub sign_of : ℤ → ℕ
@@ -31,48 +32,19 @@ alone kind = line kind 0 0 (pos 0) []
 -- the kinds are the operations' codes, the first where there are several
 abbrev pub op_line : Op → List ℕ
 op_line (Addr a) = line 0x03 a 0 (pos 0) []
-op_line Deref = alone 0x06
 op_line (Const v) = line 0x08 v 0 (pos 0) []
-op_line Dup = alone 0x12
-op_line Drop = alone 0x13
-op_line Over = alone 0x14
 op_line (Pick i) = line 0x15 i 0 (pos 0) []
-op_line Swap = alone 0x16
-op_line Rot = alone 0x17
-op_line Abs = alone 0x19
-op_line And = alone 0x1a
-op_line Div = alone 0x1b
-op_line Minus = alone 0x1c
-op_line Mod = alone 0x1d
-op_line Mul = alone 0x1e
-op_line Neg = alone 0x1f
-op_line Not = alone 0x20
-op_line Or = alone 0x21
-op_line Plus = alone 0x22
 op_line (PlusUconst n) = line 0x23 n 0 (pos 0) []
-op_line Shl = alone 0x24
-op_line Shr = alone 0x25
-op_line Shra = alone 0x26
-op_line Xor = alone 0x27
 op_line (Bra i) = line 0x28 i 0 (pos 0) []
-op_line Eq = alone 0x29
-op_line Ge = alone 0x2a
-op_line Gt = alone 0x2b
-op_line Le = alone 0x2c
-op_line Lt = alone 0x2d
-op_line Ne = alone 0x2e
 op_line (Skip i) = line 0x2f i 0 (pos 0) []
 op_line (Reg r) = line 0x50 r 0 (pos 0) []
 op_line (Breg r n) = line 0x70 r 0 n []
 op_line (Fbreg n) = line 0x91 0 0 n []
 op_line (Piece n) = line 0x93 n 0 (pos 0) []
 op_line (DerefSize k) = line 0x94 k 0 (pos 0) []
-op_line Nop = alone 0x96
-op_line PushObjectAddress = alone 0x97
-op_line CallFrameCfa = alone 0x9c
 op_line (BitPiece size offset) = line 0x9d size offset (pos 0) []
 op_line (Implicit block) = line 0x9e 0 0 (pos 0) block.now
-op_line StackValue = alone 0x9f
+op_line other = alone (alone_code other)
 
 abbrev pub order_number : Order → ℕ
 order_number Little = 0

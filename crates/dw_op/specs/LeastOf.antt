@@ -8,10 +8,11 @@ use Rattle.dw_num.specs.Target.{address_limit}
 use Rattle.dw_num.specs.Fixed.{fixed_bytes}
 use Rattle.dw_num.specs.Shortest.{shortest_uleb, shortest_sleb}
 use Rattle.dw_op.specs.declared.op.Op.{Op}
-use Rattle.dw_op.specs.declared.op.Op.TheVariants.{Addr, Deref, Const, Dup, Drop, Over, Pick, Swap, Rot, Abs, And, Div, Minus, Mod, Mul, Neg, Not, Or, Plus, PlusUconst, Shl, Shr, Shra, Xor, Bra, Eq, Ge, Gt, Le, Lt, Ne, Skip, Reg, Breg, Fbreg, Piece, DerefSize, Nop, PushObjectAddress, CallFrameCfa, BitPiece, Implicit, StackValue}
+use Rattle.dw_op.specs.declared.op.Op.TheVariants.{Addr, Const, Pick, PlusUconst, Bra, Skip, Reg, Breg, Fbreg, Piece, DerefSize, BitPiece, Implicit}
 use Rattle.dw_op.specs.declared.least.Spelling.{Spelling}
 use Rattle.dw_op.specs.declared.least.Operand.{Operand}
 use Rattle.dw_op.specs.declared.least.Operand.TheVariants as operand
+use Rattle.dw_op.specs.OpSpells.{alone_code}
 
 abbrev pub operand_bytes : Order → Operand → List ℕ
 operand_bytes order operand.Nothing = []
@@ -77,48 +78,19 @@ register_offset r n = if nat_lt r 32 then spelling (0x70 + r) (operand.Signed n)
 -- a branch's displacement is given by its sixteen bits
 unfoldable pub least_spelling : Target → ℕ → Op → Spelling
 least_spelling t d (Addr a) = address t.size a
-least_spelling t d Deref = spelling 0x06 operand.Nothing
 least_spelling t d (Const v) = constant v (address_limit t.size - 1 - v)
-least_spelling t d Dup = spelling 0x12 operand.Nothing
-least_spelling t d Drop = spelling 0x13 operand.Nothing
-least_spelling t d Over = spelling 0x14 operand.Nothing
 least_spelling t d (Pick i) = spelling 0x15 (operand.Byte i)
-least_spelling t d Swap = spelling 0x16 operand.Nothing
-least_spelling t d Rot = spelling 0x17 operand.Nothing
-least_spelling t d Abs = spelling 0x19 operand.Nothing
-least_spelling t d And = spelling 0x1a operand.Nothing
-least_spelling t d Div = spelling 0x1b operand.Nothing
-least_spelling t d Minus = spelling 0x1c operand.Nothing
-least_spelling t d Mod = spelling 0x1d operand.Nothing
-least_spelling t d Mul = spelling 0x1e operand.Nothing
-least_spelling t d Neg = spelling 0x1f operand.Nothing
-least_spelling t d Not = spelling 0x20 operand.Nothing
-least_spelling t d Or = spelling 0x21 operand.Nothing
-least_spelling t d Plus = spelling 0x22 operand.Nothing
 least_spelling t d (PlusUconst n) = spelling 0x23 (operand.Unsigned n)
-least_spelling t d Shl = spelling 0x24 operand.Nothing
-least_spelling t d Shr = spelling 0x25 operand.Nothing
-least_spelling t d Shra = spelling 0x26 operand.Nothing
-least_spelling t d Xor = spelling 0x27 operand.Nothing
 least_spelling t d (Bra i) = spelling 0x28 (operand.Half d)
-least_spelling t d Eq = spelling 0x29 operand.Nothing
-least_spelling t d Ge = spelling 0x2a operand.Nothing
-least_spelling t d Gt = spelling 0x2b operand.Nothing
-least_spelling t d Le = spelling 0x2c operand.Nothing
-least_spelling t d Lt = spelling 0x2d operand.Nothing
-least_spelling t d Ne = spelling 0x2e operand.Nothing
 least_spelling t d (Skip i) = spelling 0x2f (operand.Half d)
 least_spelling t d (Reg r) = register_form r
 least_spelling t d (Breg r n) = register_offset r n
 least_spelling t d (Fbreg n) = spelling 0x91 (operand.Signed n)
 least_spelling t d (Piece n) = spelling 0x93 (operand.Unsigned n)
 least_spelling t d (DerefSize k) = spelling 0x94 (operand.Byte k)
-least_spelling t d Nop = spelling 0x96 operand.Nothing
-least_spelling t d PushObjectAddress = spelling 0x97 operand.Nothing
-least_spelling t d CallFrameCfa = spelling 0x9c operand.Nothing
 least_spelling t d (BitPiece size offset) = spelling 0x9d (operand.Pair size offset)
 least_spelling t d (Implicit block) = spelling 0x9e (operand.Block block)
-least_spelling t d StackValue = spelling 0x9f operand.Nothing
+least_spelling t d other = spelling (alone_code other) operand.Nothing
 
 -- the bytes of the least spelling, with these sixteen bits in a branch
 unfoldable pub least_bytes : Target → ℕ → Op → List ℕ

@@ -8,7 +8,9 @@ pub mod LeastOf
 pub mod Encoding
 pub mod Laws
 pub mod Reading
+pub mod ByOpcode
 pub mod Steps
+pub mod Walks
 pub mod Walk
 pub mod Operands
 pub mod Faults

@@ -84,38 +84,46 @@ pub record ConstSpells (t : Target) (v : ℕ) (bytes : List ℕ) : Type 0 where
 
 -- ---- the table
 
+-- the code of an operation that has no operands, 0 of the others
+abbrev pub alone_code : Op → ℕ
+alone_code Deref = 0x06
+alone_code Dup = 0x12
+alone_code Drop = 0x13
+alone_code Over = 0x14
+alone_code Swap = 0x16
+alone_code Rot = 0x17
+alone_code Abs = 0x19
+alone_code And = 0x1a
+alone_code Div = 0x1b
+alone_code Minus = 0x1c
+alone_code Mod = 0x1d
+alone_code Mul = 0x1e
+alone_code Neg = 0x1f
+alone_code Not = 0x20
+alone_code Or = 0x21
+alone_code Plus = 0x22
+alone_code Shl = 0x24
+alone_code Shr = 0x25
+alone_code Shra = 0x26
+alone_code Xor = 0x27
+alone_code Eq = 0x29
+alone_code Ge = 0x2a
+alone_code Gt = 0x2b
+alone_code Le = 0x2c
+alone_code Lt = 0x2d
+alone_code Ne = 0x2e
+alone_code Nop = 0x96
+alone_code PushObjectAddress = 0x97
+alone_code CallFrameCfa = 0x9c
+alone_code StackValue = 0x9f
+alone_code other = 0
+
 abbrev pub OpSpells : Target → Op → List ℕ → Type 0
 OpSpells t (Addr a) bytes = Code 0x03 (Address t a) bytes
-OpSpells t Deref bytes = Alone 0x06 bytes
 OpSpells t (Const v) bytes = ConstSpells t v bytes
-OpSpells t Dup bytes = Alone 0x12 bytes
-OpSpells t Drop bytes = Alone 0x13 bytes
-OpSpells t Over bytes = Alone 0x14 bytes
 OpSpells t (Pick i) bytes = Code 0x15 (Fixed t.order 1 i) bytes
-OpSpells t Swap bytes = Alone 0x16 bytes
-OpSpells t Rot bytes = Alone 0x17 bytes
-OpSpells t Abs bytes = Alone 0x19 bytes
-OpSpells t And bytes = Alone 0x1a bytes
-OpSpells t Div bytes = Alone 0x1b bytes
-OpSpells t Minus bytes = Alone 0x1c bytes
-OpSpells t Mod bytes = Alone 0x1d bytes
-OpSpells t Mul bytes = Alone 0x1e bytes
-OpSpells t Neg bytes = Alone 0x1f bytes
-OpSpells t Not bytes = Alone 0x20 bytes
-OpSpells t Or bytes = Alone 0x21 bytes
-OpSpells t Plus bytes = Alone 0x22 bytes
 OpSpells t (PlusUconst n) bytes = Code 0x23 (Uleb n) bytes
-OpSpells t Shl bytes = Alone 0x24 bytes
-OpSpells t Shr bytes = Alone 0x25 bytes
-OpSpells t Shra bytes = Alone 0x26 bytes
-OpSpells t Xor bytes = Alone 0x27 bytes
 OpSpells t (Bra i) bytes = Code 0x28 AnyTwo bytes
-OpSpells t Eq bytes = Alone 0x29 bytes
-OpSpells t Ge bytes = Alone 0x2a bytes
-OpSpells t Gt bytes = Alone 0x2b bytes
-OpSpells t Le bytes = Alone 0x2c bytes
-OpSpells t Lt bytes = Alone 0x2d bytes
-OpSpells t Ne bytes = Alone 0x2e bytes
 OpSpells t (Skip i) bytes = Code 0x2f AnyTwo bytes
 OpSpells t (Reg r) bytes = ((r < 32) × Alone (0x50 + r) bytes) ⊎ Code 0x90 (Register r) bytes
 OpSpells t (Breg r n) bytes =
@@ -123,9 +131,6 @@ OpSpells t (Breg r n) bytes =
 OpSpells t (Fbreg n) bytes = Code 0x91 (Sleb n) bytes
 OpSpells t (Piece n) bytes = Code 0x93 (Uleb n) bytes
 OpSpells t (DerefSize k) bytes = Code 0x94 (Fixed t.order 1 k) bytes × (1 ≤ k) × (k ≤ byte_count t.size)
-OpSpells t Nop bytes = Alone 0x96 bytes
-OpSpells t PushObjectAddress bytes = Alone 0x97 bytes
-OpSpells t CallFrameCfa bytes = Alone 0x9c bytes
 OpSpells t (BitPiece size offset) bytes = Code 0x9d (Both (Uleb size) (Uleb offset)) bytes
 OpSpells t (Implicit block) bytes = (block.ref_ptr ≡ (0, 0)) × Code 0x9e (Counted block.now) bytes
-OpSpells t StackValue bytes = Alone 0x9f bytes
+OpSpells t other bytes = Alone (alone_code other) bytes

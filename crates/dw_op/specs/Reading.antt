@@ -115,64 +115,18 @@ top_of Eight = 0xffffffffffffffff
 abbrev pub signed_of : ByteCount → ℕ → ℤ
 signed_of count number = if nat_lt number (half_of count) then pos number else negsuc (top_of count - number)
 
-unfoldable pub address_step : Input → Read Step
-address_step i = address_at i >>= with_op Addr
-
--- constants are reduced modulo 2 ^ N
-unfoldable pub unsigned_step : ByteCount → Input → Read Step
-unsigned_step count i = fixed_at (width_of count) i >>= with_op (λ n. Const (n % address_limit i.target.size))
-
-unfoldable pub signed_step : ByteCount → Input → Read Step
-signed_step count i = fixed_at (width_of count) i >>= with_op (λ n. Const (modulo (address_limit i.target.size) (signed_of count n)))
-
-unfoldable pub uconst_step : Input → Read Step
-uconst_step i = uleb_at i >>= with_op (λ n. Const (n % address_limit i.target.size))
-
-unfoldable pub sconst_step : Input → Read Step
-sconst_step i = sleb_at i >>= with_op (λ z. Const (modulo (address_limit i.target.size) z))
-
-unfoldable pub pick_step : Input → Read Step
-pick_step i = fixed_at 1 i >>= with_op Pick
-
-unfoldable pub plus_step : Input → Read Step
-plus_step i = uleb_at i >>= with_op PlusUconst
-
 abbrev pub with_jump : Branch → Order → List ℕ × Input → Read Step
 with_jump branch order b = Ok (steps.Jump branch (fixed_number order 2 b.0), b.1)
 
-unfoldable pub jump_step : Branch → Input → Read Step
-jump_step branch i = take_at 2 i >>= with_jump branch i.target.order
-
-unfoldable pub breg_step : ℕ → Input → Read Step
-breg_step r i = sleb_at i >>= with_op (Breg r)
-
-unfoldable pub long_reg_step : Input → Read Step
-long_reg_step i = register_at i >>= with_op Reg
-
 abbrev pub after_register : ℕ × Input → Read Step
-after_register r = breg_step r.0 r.1
-
-unfoldable pub long_breg_step : Input → Read Step
-long_breg_step i = register_at i >>= after_register
-
-unfoldable pub fbreg_step : Input → Read Step
-fbreg_step i = sleb_at i >>= with_op Fbreg
-
-unfoldable pub piece_step : Input → Read Step
-piece_step i = uleb_at i >>= with_op Piece
+after_register r = sleb_at r.1 >>= with_op (Breg r.0)
 
 -- from 1 byte to an address's
 abbrev pub size_in : ℕ → ℕ → ℕ × Input → Read Step
 size_in most at k = if nat_le 1 k.0 && nat_le k.0 most then with_op DerefSize k else fault BadDerefSize at
 
-unfoldable pub deref_size_step : Input → Read Step
-deref_size_step i = fixed_at 1 i >>= size_in (byte_count i.target.size) i.at
-
 abbrev pub after_size : ℕ × Input → Read Step
 after_size size = uleb_at size.1 >>= with_op (BitPiece size.0)
-
-unfoldable pub bit_piece_step : Input → Read Step
-bit_piece_step i = uleb_at i >>= after_size
 
 abbrev pub implicit : List ℕ → Op
 implicit block = Implicit (record { ref_ptr = (0, 0); now = block })
@@ -180,27 +134,25 @@ implicit block = Implicit (record { ref_ptr = (0, 0); now = block })
 abbrev pub after_length : ℕ × Input → Read Step
 after_length n = take_at n.0 n.1 >>= with_op implicit
 
-unfoldable pub implicit_step : Input → Read Step
-implicit_step i = uleb_at i >>= after_length
-
+-- the operands of each opcode; constants are reduced modulo 2 ^ N
 unfoldable pub operands_at : Opcode → Input → Read Step
 operands_at (opcodes.Alone op) i = Ok (steps.Plain (bare op), i)
-operands_at opcodes.Addr i = address_step i
-operands_at (opcodes.Unsigned count) i = unsigned_step count i
-operands_at (opcodes.Signed count) i = signed_step count i
-operands_at opcodes.Uconst i = uconst_step i
-operands_at opcodes.Sconst i = sconst_step i
-operands_at opcodes.Pick i = pick_step i
-operands_at opcodes.PlusUconst i = plus_step i
-operands_at (opcodes.Jump branch) i = jump_step branch i
-operands_at (opcodes.Breg r) i = breg_step r i
-operands_at opcodes.LongReg i = long_reg_step i
-operands_at opcodes.LongBreg i = long_breg_step i
-operands_at opcodes.Fbreg i = fbreg_step i
-operands_at opcodes.Piece i = piece_step i
-operands_at opcodes.DerefSize i = deref_size_step i
-operands_at opcodes.BitPiece i = bit_piece_step i
-operands_at opcodes.Implicit i = implicit_step i
+operands_at opcodes.Addr i = address_at i >>= with_op Addr
+operands_at (opcodes.Unsigned count) i = fixed_at (width_of count) i >>= with_op (λ n. Const (n % address_limit i.target.size))
+operands_at (opcodes.Signed count) i = fixed_at (width_of count) i >>= with_op (λ n. Const (modulo (address_limit i.target.size) (signed_of count n)))
+operands_at opcodes.Uconst i = uleb_at i >>= with_op (λ n. Const (n % address_limit i.target.size))
+operands_at opcodes.Sconst i = sleb_at i >>= with_op (λ z. Const (modulo (address_limit i.target.size) z))
+operands_at opcodes.Pick i = fixed_at 1 i >>= with_op Pick
+operands_at opcodes.PlusUconst i = uleb_at i >>= with_op PlusUconst
+operands_at (opcodes.Jump branch) i = take_at 2 i >>= with_jump branch i.target.order
+operands_at (opcodes.Breg r) i = sleb_at i >>= with_op (Breg r)
+operands_at opcodes.LongReg i = register_at i >>= with_op Reg
+operands_at opcodes.LongBreg i = register_at i >>= after_register
+operands_at opcodes.Fbreg i = sleb_at i >>= with_op Fbreg
+operands_at opcodes.Piece i = uleb_at i >>= with_op Piece
+operands_at opcodes.DerefSize i = fixed_at 1 i >>= size_in (byte_count i.target.size) i.at
+operands_at opcodes.BitPiece i = uleb_at i >>= after_size
+operands_at opcodes.Implicit i = uleb_at i >>= after_length
 
 -- ---- an operation
 

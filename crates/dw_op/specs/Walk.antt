@@ -13,39 +13,22 @@ use Rattle.dw_op.specs.declared.reading.Branch.TheVariants.{Bra, Skip}
 use Rattle.dw_op.specs.declared.reading.Step.{Step}
 use Rattle.dw_op.specs.declared.reading.Step.TheVariants.{Plain, Jump}
 use Rattle.dw_op.specs.Reading.{step_at}
+use Rattle.dw_op.specs.Walks.{Walked, walked}
 
 -- an operation and the place of its code
 pub record Item : Type 0 where
   pub at : ℕ
   pub step : Step
 
+abbrev pub item_of : ℕ → Step → Item
+item_of at step = record { at = at; step = step }
+
 -- the longest beginning of operations, and the fault of what follows it
-pub record Walk : Type 0 where
-  pub items : List Item
-  pub fault : Option Refusal
-
-abbrev pub ended : Option Refusal → Walk
-ended fault = record { items = []; fault = fault }
-
-abbrev pub after_item : ℕ → Step → Walk → Walk
-after_item at step walk = record { items = record { at = at; step = step } ∷ walk.items; fault = walk.fault }
-
-abbrev pub on_read : Read Step → (Refusal → Walk) → (Step × Input → Walk) → Walk
-on_read (Ok x) stuck go = go x
-on_read (Err e) stuck go = stuck e
-
-abbrev pub on_left : List ℕ → Walk → Walk
-on_left [] walk = ended None
-on_left (b ∷ bytes) walk = walk
-
--- the same in at most n steps
-unfoldable pub walk_by : Profile → ℕ → Input → Walk
-walk_by profile zero i = ended None
-walk_by profile (suc n) i =
-    on_left i.bytes (on_read (step_at profile i) (λ e. ended (Some e)) (λ x. after_item i.at x.0 (walk_by profile n x.1)))
+abbrev pub Walk : Type 0
+Walk = Walked Item
 
 unfoldable pub walk : Profile → Input → Walk
-walk profile i = walk_by profile (length i.bytes) i
+walk profile i = walked (step_at profile) item_of i
 
 -- the place behind all of it
 abbrev pub end_of : Input → ℕ

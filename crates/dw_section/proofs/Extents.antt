@@ -1,28 +1,23 @@
 -- How long the programs are of an FDE of a table.
-use Rattle.std.proofs.Common.{◌≡◌, ℕ, List, length, refl}
+use Rattle.std.proofs.Common.{◌≡◌, ℕ, List, length, refl, sym, ap}
 use Rattle.dw_num.specs.declared.target.Target.{Target}
 use Rattle.dw_num.specs.Span.{span_of}
 use Rattle.dw_section.specs.declared.rereading.FoundFde.{FoundFde}
-use Rattle.dw_section.specs.Lengths.{HasLengths}
+use Rattle.dw_section.specs.Meaning.{HasLengths}
+use Rattle.dw_section.specs.Headers.{Head}
+use Rattle.dw_section.specs.Heads.{head_program}
 use Rattle.dw_section.specs.Lookup.{IsFoundIn, fde_of}
+use Rattle.dw_section.specs.Programs.{FdeRuns}
+use Rattle.dw_section.proofs.Heads.{all_in, heads_rise, one_among}
 
 pub found_lengths : (target : Target) (s : List ℕ) (e : FoundFde) → IsFoundIn target s e → HasLengths target s (fde_of e) (length e.program.bytes.now) (length e.cie_program.bytes.now)
-found_lengths target s e h = record {
-  headers = h.headers;
-  are = h.hold.0.0.0;
-  at = e.at;
-  form = h.is.0;
-  cie_at = h.is.2;
-  range = e.range;
-  program = span_of e.program;
-  among = h.is.4;
-  end = refl;
-  cie_form = h.is.1;
-  code_factor = e.factors.code_factor;
-  data_factor = e.factors.data_factor;
-  register = h.is.3;
-  cie_program = span_of e.cie_program;
-  cie_among = h.is.5;
-  own_is = refl;
-  initial_is = refl;
-}
+found_lengths target s e h =
+    let runs = all_in (FdeRuns target h.headers) h.headers _ h.hold.0.1 h.is.4 in
+    let cies = one_among 0 h.headers _ _ (heads_rise target s h.headers h.hold.0.0.0) runs.2.begins.among h.is.5 refl in
+    record {
+      initial = runs.0;
+      instrs = runs.1;
+      says = record { headers = h.headers; are = h.hold.0.0.0; at = e.at; form = h.is.0; cie_at = h.is.2; range = e.range; program = span_of e.program; among = h.is.4; end_is = refl; spelled = runs.2 };
+      own_is = refl;
+      cie_is = ap (λ (x : Head). length (head_program x).bytes) (sym cies);
+    }

@@ -9,8 +9,7 @@ use Rattle.dw_section.specs.Accepted.{Accepted}
 use Rattle.dw_section.specs.Headers.{Head}
 use Rattle.dw_section.specs.Headers as head
 use Rattle.dw_section.specs.Heads.{head_program}
-use Rattle.dw_section.specs.Lengths.{HasLengths}
-use Rattle.dw_section.specs.Meanings.{HasPrograms}
+use Rattle.dw_section.specs.Meaning.{Says, HasLengths}
 use Rattle.dw_section.specs.Overlap.{Range}
 use Rattle.dw_section.specs.Programs.{IsAmong}
 use Rattle.dw_section.proofs.HeaderLaws.{one_headers}
@@ -21,23 +20,26 @@ abbrev named : Head → ℕ
 named (head.cie at form c d r program) = 0
 named (head.fde at form cie_at begin range program) = cie_at
 
-pub one_lengths : (target : Target) (s : List ℕ) (b : AreBytes s) (ok : Accepted target s) (f : Fde) (i j : List Instr) (own initial : ℕ) → f.begin < f.end → (h : HasPrograms target s f.begin f.end i j) → HasLengths target s f own initial
+pub one_lengths : (target : Target) (s : List ℕ) (b : AreBytes s) (ok : Accepted target s) (f : Fde) (i j : List Instr) (own initial : ℕ) → f.begin < f.end → (h : Says target s f.begin f.end i j) → HasLengths target s f own initial
     → (own ≡ length (here target s b ok f.begin f.end i j h).program.bytes) × (initial ≡ length (here target s b ok f.begin f.end i j h).spelled.begins.program.bytes)
 one_lengths target s b ok f i j own initial some h l =
     let x = here target s b ok f.begin f.end i j h in
     let ks = hs target s b ok in
     let are = headers_of target s b ok in
-    let same : l.headers ≡ ks = one_headers target s l.headers ks l.are are in
-    let fde = subst (IsAmong (head.fde l.at l.form l.cie_at f.begin l.range l.program)) same l.among in
-    let cie = subst (IsAmong (head.cie l.cie_at l.cie_form l.code_factor l.data_factor l.register l.cie_program)) same l.cie_among in
+    let y = l.says in
+    let same : y.headers ≡ ks = one_headers target s y.headers ks y.are are in
+    let fde = subst (IsAmong (head.fde y.at y.form y.cie_at f.begin y.range y.program)) same y.among in
+    let begins = y.spelled.begins in
+    let factors = y.spelled.factors in
+    let cie = subst (IsAmong (head.cie y.cie_at begins.form factors.code_factor factors.data_factor y.spelled.register begins.program)) same begins.among in
     let rx : Range = record { at = x.at; begin = f.begin; range = x.range } in
-    let ry : Range = record { at = l.at; begin = f.begin; range = l.range } in
+    let ry : Range = record { at = y.at; begin = f.begin; range = y.range } in
     let one : rx ≡ ry = one_cover (index target s b ok) rx ry f.begin ok.2
-    (in_index target s b ok x.at x.form x.cie_at f.begin x.range x.program (omega (arith, x.end_is)) x.among) (in_index target s b ok l.at l.form l.cie_at f.begin l.range l.program (omega (arith, l.end)) fde)
-    (omega arith) (omega (arith, x.end_is)) (omega arith) (omega (arith, l.end)) in
+    (in_index target s b ok x.at x.form x.cie_at f.begin x.range x.program (omega (arith, x.end_is)) x.among) (in_index target s b ok y.at y.form y.cie_at f.begin y.range y.program (omega (arith, y.end_is)) fde)
+    (omega arith) (omega (arith, x.end_is)) (omega arith) (omega (arith, y.end_is)) in
     let up = heads_rise target s ks are in
-    let fdes = one_among 0 ks (head.fde x.at x.form x.cie_at f.begin x.range x.program) (head.fde l.at l.form l.cie_at f.begin l.range l.program) up x.among fde (ap (λ (r : Range). r.at) one) in
+    let fdes = one_among 0 ks (head.fde x.at x.form x.cie_at f.begin x.range x.program) (head.fde y.at y.form y.cie_at f.begin y.range y.program) up x.among fde (ap (λ (r : Range). r.at) one) in
     let cies = one_among 0 ks _ _ up x.spelled.begins.among cie (ap named fdes) in
-    let programs : x.program ≡ l.program = ap head_program fdes in
-    let initials : x.spelled.begins.program ≡ l.cie_program = ap head_program cies in
-    (l.own_is ∙ ap (λ (p : Span). length p.bytes) (sym programs), l.initial_is ∙ ap (λ (p : Span). length p.bytes) (sym initials))
+    let programs : x.program ≡ y.program = ap head_program fdes in
+    let initials : x.spelled.begins.program ≡ begins.program = ap head_program cies in
+    (l.own_is ∙ ap (λ (p : Span). length p.bytes) (sym programs), l.cie_is ∙ ap (λ (p : Span). length p.bytes) (sym initials))

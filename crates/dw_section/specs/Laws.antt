@@ -12,8 +12,8 @@ use Rattle.dw_section.specs.Accepted.{Accepted, CheckFault}
 use Rattle.dw_section.specs.FaultPlaces.{IsWithin}
 use Rattle.dw_section.specs.Changes.{AreChanges, Changing, ToCome}
 use Rattle.dw_section.specs.Headers.{Head, Headers}
-use Rattle.dw_section.specs.Meaning.{AreFdes, Covers, RulesAt, ChangesOf, RowStarts, total}
-use Rattle.dw_section.specs.Meanings.{HasPrograms, IsListed, SameRow, SameMeaning}
+use Rattle.dw_section.specs.Meaning.{Says, AreFdes, Covers, RulesAt, ChangesOf, RowStarts, total}
+use Rattle.dw_section.specs.Meanings.{IsListed, SameRow, SameMeaning}
 use Rattle.dw_cfa.specs.declared.rule.CfaRule.{CfaRule}
 use Rattle.dw_cfa.specs.declared.rule.CfaRule.TheVariants as cfa
 use Rattle.dw_cfa.specs.declared.rule.CfaRule.TheVariants.{Unset}
@@ -71,7 +71,7 @@ OneRules = (target : Target) (s : List ℕ) → AreBytes s → Accepted target s
 -- an FDE starts at least as many rows as it has changes
 abbrev pub LeastStarts : Type 0
 LeastStarts = (target : Target) (s : List ℕ) → AreBytes s → Accepted target s → (begin end : ℕ) (initial instrs : List Instr) (changes : List (ℕ × Rules)) → begin < end
-    → HasPrograms target s begin end initial instrs → AreChanges initial instrs begin end changes → length changes ≤ row_starts instrs
+    → Says target s begin end initial instrs → AreChanges initial instrs begin end changes → length changes ≤ row_starts instrs
 
 -- and so do all FDEs together
 abbrev pub LeastTotal : Type 0

@@ -1,5 +1,5 @@
 -- What a section says: DWARF 5, 6.4.1. Its nonempty FDEs, and the rules at each address that they cover.
-use Rattle.std.specs.Prelude.{◌≡◌, ℕ, ℤ, ◌+◌, ◌<◌, ◌≤◌, List, [], ◌∷◌}
+use Rattle.std.specs.Prelude.{◌≡◌, ℕ, ℤ, ◌+◌, ◌<◌, ◌≤◌, List, [], ◌∷◌, length}
 use Rattle.std.specs.List.{AllByRecursion, AllZip}
 use Rattle.dw_num.specs.declared.target.Form.{Form}
 use Rattle.dw_num.specs.declared.target.Target.{Target}
@@ -50,40 +50,54 @@ Covers a f = (f.begin ≤ a) × (a < f.end)
 abbrev pub NoneCovers : ℕ → List Fde → Type 0
 NoneCovers a fs = AllByRecursion (λ f. Covers a f → ⊥) fs
 
--- ---- the rules at an address
+-- ---- what is said of an FDE
 
--- an FDE covers a, and a row has in each column the rule after the instructions that count there
-pub record RulesAt (target : Target) (s : List ℕ) (a : ℕ) (row : Rules) : Type 0 where
+-- an FDE of these addresses, with the instructions of its CIE and of its own program
+pub record Says (target : Target) (s : List ℕ) (begin end : ℕ) (initial instrs : List Instr) : Type 0 where
   pub headers : List Head
   pub are : Headers target s headers
   pub at : ℕ
   pub form : Form
   pub cie_at : ℕ
-  pub begin : ℕ
   pub range : ℕ
   pub program : Span
   pub among : IsAmong (fde at form cie_at begin range program) headers
-  pub from : begin ≤ a
-  pub below : a < begin + range
+  pub end_is : end ≡ begin + range
+  pub spelled : Instrs target headers cie_at program initial instrs
+
+-- an FDE covers a, and a row has in each column the rule after the instructions that count there
+pub record RulesAt (target : Target) (s : List ℕ) (a : ℕ) (row : Rules) : Type 0 where
+  pub begin : ℕ
+  pub end : ℕ
   pub initial : List Instr
   pub instrs : List Instr
-  pub spelled : Instrs target headers cie_at program initial instrs
+  pub says : Says target s begin end initial instrs
+  pub from : begin ≤ a
+  pub below : a < end
   pub k : ℕ
   pub counts : Counts begin instrs a k
   pub holds : HoldsAfter initial instrs k row
 
+-- at these addresses the rules of an FDE change, each with the rules there
+pub record ChangesOf (target : Target) (s : List ℕ) (f : Fde) (changes : List (ℕ × Rules)) : Type 0 where
+  pub initial : List Instr
+  pub instrs : List Instr
+  pub says : Says target s f.begin f.end initial instrs
+  pub change : AreChanges initial instrs f.begin f.end changes
+
+-- the program of an FDE has so many bytes, and that of its CIE so many
+pub record HasLengths (target : Target) (s : List ℕ) (f : Fde) (own cie : ℕ) : Type 0 where
+  pub initial : List Instr
+  pub instrs : List Instr
+  pub says : Says target s f.begin f.end initial instrs
+  pub own_is : own ≡ length says.program.bytes
+  pub cie_is : cie ≡ length says.spelled.begins.program.bytes
+
 -- ---- the rows
 
 -- the program of the FDE of a range starts n rows
-pub record Starts (target : Target) (hs : List Head) (a : Range) (n : ℕ) : Type 0 where
-  pub form : Form
-  pub cie_at : ℕ
-  pub program : Span
-  pub among : IsAmong (fde a.at form cie_at a.begin a.range program) hs
-  pub initial : List Instr
-  pub instrs : List Instr
-  pub spelled : Instrs target hs cie_at program initial instrs
-  pub are : n ≡ row_starts instrs
+abbrev pub Starts : Target → List ℕ → Range → ℕ → Type 0
+Starts target s a n = (initial : List Instr) × (instrs : List Instr) × (says : Says target s a.begin (end_of a) initial instrs) × (says.at ≡ a.at) × (n ≡ row_starts instrs)
 
 abbrev pub total : List ℕ → ℕ
 total [] = 0
@@ -96,23 +110,5 @@ pub record RowStarts (target : Target) (s : List ℕ) (n : ℕ) : Type 0 where
   pub index : List Range
   pub is_index : IsIndex headers index
   pub counts : List ℕ
-  pub each : AllZip (Starts target headers) index counts
+  pub each : AllZip (Starts target s) index counts
   pub sum : n ≡ total counts
-
--- ---- the changes
-
--- at these addresses the rules of an FDE change, each with the rules there
-pub record ChangesOf (target : Target) (s : List ℕ) (f : Fde) (changes : List (ℕ × Rules)) : Type 0 where
-  pub headers : List Head
-  pub are : Headers target s headers
-  pub at : ℕ
-  pub form : Form
-  pub cie_at : ℕ
-  pub range : ℕ
-  pub program : Span
-  pub among : IsAmong (fde at form cie_at f.begin range program) headers
-  pub end : f.end ≡ f.begin + range
-  pub initial : List Instr
-  pub instrs : List Instr
-  pub spelled : Instrs target headers cie_at program initial instrs
-  pub change : AreChanges initial instrs f.begin f.end changes

@@ -60,7 +60,7 @@ fn sum_starts<'a>(
     requires few { length index.now ≤ 2147483647 }
     requires bytes { AreBytes bytes.now }
     requires headers { (hs : List Head) × AreHeaders target bytes.now places.now hs × RulesHold target bytes.now hs × AreInitials target hs hs initials.now × AllByRecursion (IsRanged hs) index.now }
-    ensures { (hs : List Head) → AreHeaders target bytes.now places.now hs → RulesHold target bytes.now hs → AreInitials target hs hs initials.now → AllByRecursion (IsRanged hs) index.now → (counts : List ℕ) × AllZip (Starts target hs) (map range_in index.now) counts × (result ≡ total counts) }
+    ensures { (hs : List Head) → AreHeaders target bytes.now places.now hs → RulesHold target bytes.now hs → AreInitials target hs hs initials.now → AllByRecursion (IsRanged hs) index.now → (counts : List ℕ) × AllZip (Starts target bytes.now) (map range_in index.now) counts × (result ≡ total counts) }
 {
     let mut sum = 0;
     for fde in index {

@@ -2,7 +2,7 @@
 
 ghost use Rattle.std.specs.Prelude.{◌≡◌, ◌<◌, List, length, slice_index_or};
 ghost use Rattle.dw_section.specs.declared.lookup.Fde.{Fde as TheFde};
-ghost use Rattle.dw_section.specs.Lengths.{HasLengths};
+ghost use Rattle.dw_section.specs.Meaning.{HasLengths};
 ghost use Rattle.dw_section.specs.Meaning.{AreFdes};
 
 use crate::lookup::FdeRef;

@@ -36,7 +36,7 @@ loop-fde-preserved c = (
       let n = c.starts_of-sum.result in (
         sum.0 ++ n ∷ [],
         rw (front_more range_in xs i x c.loop-fde-test.true (get_or_default xs i none x c.loop-fde-test.true))
-            (zip_push (Starts c.args.target hs) (map range_in (take i xs)) sum.0 (range_in x) n sum.1
+            (zip_push (Starts c.args.target c.args.bytes.now) (map range_in (take i xs)) sum.0 (range_in x) n sum.1
             (starts_at c.args.target c.args.bytes.now c.requires.bytes hs hold f.result is x f.ensures.at f.ensures.begin f.ensures.range n c.starts_of-sum.ensures.counted)),
         (let all = total_push sum.0 n in let was = sum.2 in omega arith),
       ),
