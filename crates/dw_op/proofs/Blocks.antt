@@ -18,7 +18,7 @@ use Rattle.dw_op.specs.declared.reading.Branch.TheVariants.{Bra, Skip}
 use Rattle.dw_op.specs.Block.{start, Stands, EachPart, joined, Block}
 use Rattle.dw_op.specs.Reading.{step_at}
 use Rattle.dw_op.specs.Walk.{Item, Walk, walk, end_of, index_at, op_of, put_first, resolve, unless, block_input, decode_at}
-use Rattle.dw_op.specs.Faults.{IsBlock, op_allowed, IsPart, Leads, ReadingFault, BlockFault}
+use Rattle.dw_op.specs.Faults.{IsBlock, op_allowed, IsPart, Leads, ReadingFault, BranchFault, BlockFault}
 use Rattle.dw_op.proofs.Splits.{Spelled, EachSpells, items_from, input, Ends, Split, split_of, joined_walk}
 use Rattle.dw_op.proofs.Places.{index_start, index_begins}
 use Rattle.dw_op.proofs.Standing.{Finds, Placed, one_step, as_location, part_step, allowed_plain, step_stands, stands_step}
@@ -430,6 +430,24 @@ first_at profile t before part after each good bad = (nowhere, first)
         let stood = each_at (Stood t (before ++ part ∷ after)) 0 before good k other (front_only before (part ∷ after) k other lt there) in
         stood_leads t (before ++ part ∷ after) k other there (subst (λ (n : ℕ). Stood t (before ++ part ∷ after) n other) (zero_plus k) stood) other there
 
+branch_found : (profile : Profile) (t : Target) (bytes : List ℕ) (r : Refusal) (parts before : List (List ℕ)) (part : List ℕ) (after : List (List ℕ)) → parts ≡ before ++ part ∷ after → bytes ≡ joined parts
+    → AllByRecursion (IsPart profile t) parts → EachNumbered (Stood t parts) 0 before → (Stood t parts (0 + length before) part → ⊥) → r ≡ bad_branch (start parts 0 + length (joined before)) → BranchFault profile t bytes r
+branch_found profile t bytes r parts before part after same whole each good bad is =
+    let each_of = subst (λ (l : List (List ℕ)). AllByRecursion (IsPart profile t) l) same each in
+    let good_of = subst (λ (l : List (List ℕ)). EachNumbered (Stood t l) 0 before) same good in
+    let bad_of = subst (λ (l : List (List ℕ)). Stood t l (length before) part → ⊥) same (subst (λ (n : ℕ). Stood t parts n part → ⊥) (zero_plus (length before)) bad) in
+    let first = first_at profile t before part after each_of good_of bad_of in
+    let place : start parts 0 + length (joined before) ≡ start (before ++ part ∷ after) (length before) = omega (arith, start_zero parts, start_at before part after) in
+    record {
+      parts = before ++ part ∷ after;
+      whole = whole ∙ ap joined same;
+      each = each_of;
+      bad = length before;
+      nowhere = first.0;
+      first = first.1;
+      is = is ∙ ap bad_branch place;
+    }
+
 -- the fault that is answered is the first
 pub fault_found : (profile : Profile) (t : Target) (bytes : List ℕ) (r : Refusal) → AreBytes bytes → decode_at profile (block_input t bytes) ≡ Err r → BlockFault profile t bytes r
 fault_found profile t bytes r h e = elim (reads profile t bytes h) [
@@ -438,22 +456,7 @@ fault_found profile t bytes r h e = elim (reads profile t bytes h) [
       let finds = finder_finds profile t b.steps b.parts b.each in
       let bad : resolve find (items_from (start b.parts 0) b.steps b.parts) ≡ Err r = sym (moved_start b.parts find b.steps) ∙ sym b.decoded ∙ e in
       let u = unresolved_bad profile t b.parts find finds 0 b.steps b.parts r b.each (follow_all b.parts) bad in
-      let all = u.before ++ u.part ∷ u.after in
-      let parts : b.parts ≡ all = u.whole in
-      let each = subst (λ (l : List (List ℕ)). AllByRecursion (IsPart profile t) l) parts (step_parts profile t b.steps b.parts b.each) in
-      let good = subst (λ (l : List (List ℕ)). EachNumbered (Stood t l) 0 u.before) parts u.good in
-      let nowhere = subst (λ (l : List (List ℕ)). Stood t l (length u.before) u.part → ⊥) parts (subst (λ (n : ℕ). Stood t b.parts n u.part → ⊥) (zero_plus (length u.before)) u.bad) in
-      let first = first_at profile t u.before u.part u.after each good nowhere in
-      let place : start b.parts 0 + length (joined u.before) ≡ start (u.before ++ u.part ∷ u.after) (length u.before) = omega (arith, start_zero b.parts, start_at u.before u.part u.after) in
-      inr (record {
-        parts = all;
-        whole = b.whole ∙ ap joined parts;
-        each = each;
-        bad = length u.before;
-        nowhere = first.0;
-        first = first.1;
-        is = u.is ∙ ap bad_branch place;
-      })
+      inr (branch_found profile t bytes r b.parts u.before u.part u.after u.whole b.whole (step_parts profile t b.steps b.parts b.each) u.good u.bad u.is)
   | inr s ↦
       let same : Err s.refusal ≡ Err r = sym s.decoded ∙ e in
       let is : s.refusal ≡ r = errs_are s.refusal r same in

@@ -1,23 +1,21 @@
 -- Parts at which an operation stands are those that lead to a start or to the end, where they are branches.
-use Rattle.std.proofs.Common.{◌≡◌, ℕ, zero, suc, ◌+◌, ◌<◌, List, [], ◌∷◌, ◌++◌, length, Option, Some, None, refl, sym, ap, subst, ◌∙◌, arith, inl, inr, ◌⊎◌}
+use Rattle.std.proofs.Common.{◌≡◌, ℕ, zero, suc, ◌+◌, ◌<◌, List, [], ◌∷◌, ◌++◌, length, Option, Some, None, refl, sym, ap, subst, ◌∙◌, arith, inl, inr}
 use Rattle.std.specs.Prelude.{slice_get}
 use Rattle.std.specs.List.{AllByRecursion}
 use Rattle.std.proofs.lemmas.List.{length-append}
 use Rattle.dw_num.specs.declared.target.Target.{Target}
-use Rattle.dw_num.specs.Fixed.{fixed_number}
 use Rattle.dw_op.specs.declared.op.Op.{Op}
 use Rattle.dw_op.specs.declared.op.Op.TheVariants.{Bra, Skip}
 use Rattle.dw_op.specs.declared.profile.Profile.{Profile}
 use Rattle.dw_op.specs.declared.profile.Profile.TheVariants.{Location}
 use Rattle.dw_op.specs.declared.reading.Branch.{Branch}
 use Rattle.dw_op.specs.declared.reading.Branch.TheVariants as branches
-use Rattle.dw_op.specs.declared.reading.Step.{Step}
 use Rattle.dw_op.specs.declared.reading.Step.TheVariants.{Plain, Jump}
 use Rattle.dw_op.specs.OpSpells.{OpSpells}
 use Rattle.dw_op.specs.Block.{start, branch_target, Displaced, Stands, joined}
 use Rattle.dw_op.specs.Faults.{IsPart, IsBranch, Leads}
 use Rattle.dw_op.proofs.ReadingLaws.{some_is}
-use Rattle.dw_op.proofs.Splits.{Spelled, spelled}
+use Rattle.dw_op.proofs.Splits.{spelled}
 use Rattle.dw_op.proofs.Standing.{one_step, any_code}
 
 -- some operation stands at part k

@@ -1,13 +1,21 @@
 -- Worked faults of operands and branches.
-use Rattle.std.proofs.Common.{◌≡◌, ℕ, ◌<◌, List, [], ◌∷◌, Some, Ok, Err, refl, lit<, lit≤, inl, inr, arith}
-use Rattle.dw_num.specs.declared.refusal.Code.TheVariants.{Truncated, NumberTooLarge, RegisterTooLarge, BadDerefSize}
-use Rattle.dw_num.specs.declared.refusal.Refusal.{Refusal}
+use Rattle.std.proofs.Common.{◌≡◌, ℕ, zero, suc, List, [], ◌∷◌, Some, Ok, Err, refl, subst, ◌∙◌, inl, inr, arith}
+use Rattle.std.specs.Int.{w16}
+use Rattle.std.proofs.lemmas.Int.{ints}
+use Rattle.dw_num.specs.declared.refusal.Code.TheVariants.{Truncated, NumberTooLarge, RegisterTooLarge, BadDerefSize, BadBranch}
 use Rattle.dw_num.specs.declared.target.Target.{Target}
-use Rattle.dw_num.specs.declared.target.Size.TheVariants.{Four, Eight}
+use Rattle.dw_num.specs.declared.target.Size.TheVariants.{Four}
 use Rattle.dw_num.specs.declared.target.Order.TheVariants.{Little}
 use Rattle.dw_num.specs.Input.{Input}
+use Rattle.dw_num.specs.Fixed.{FixedSigned}
 use Rattle.dw_num.specs.Reading.{fixed_at, take_at, uleb_at, sleb_at, register_at}
+use Rattle.dw_op.specs.declared.op.Op.TheVariants.{Bra}
+use Rattle.dw_op.specs.declared.profile.Profile.TheVariants.{Location}
+use Rattle.dw_op.specs.OpSpells.{Code, AnyTwo}
+use Rattle.dw_op.specs.Block.{displacement, Displaced}
 use Rattle.dw_op.specs.Operands.{fields_of, fields_at}
+use Rattle.dw_op.specs.Faults.{BlockFault, Leads}
+use Rattle.dw_op.proofs.ReadingLaws.{some_is}
 
 -- the operand bytes of a code at place 0
 abbrev behind_code : List ℕ → Input
@@ -64,3 +72,43 @@ with_offset = refl
 
 with_nothing : (fields_of 0x30 ≡ []) × (fields_of 0x6f ≡ []) × (fields_of 0x12 ≡ []) × (fields_of 0x9f ≡ [])
 with_nothing = (refl, refl, refl, refl)
+
+-- ---- branches
+
+abbrev narrow : Target
+narrow = record { size = Four; order = Little }
+
+-- bra by 0 leads to the end
+to_end : Leads narrow ((0x28 ∷ 0 ∷ 0 ∷ []) ∷ []) 0
+to_end part there branch = (1, (omega arith, 0x28, subst (λ (b : List ℕ). Code 0x28 (FixedSigned Little w16 (displacement ((0x28 ∷ 0 ∷ 0 ∷ []) ∷ []) 0 1)) b) (some_is (0x28 ∷ 0 ∷ 0 ∷ []) part there) by_none))
+  where
+    by_none : Code 0x28 (FixedSigned Little w16 (displacement ((0x28 ∷ 0 ∷ 0 ∷ []) ∷ []) 0 1)) (0x28 ∷ 0 ∷ 0 ∷ [])
+    by_none = record { rest = 0 ∷ 0 ∷ []; operands = record { bytes = refl; fits = omega (arith, ints) }; whole = refl }
+
+-- bra by 1 at the end of a block leads nowhere
+one_past : BlockFault Location narrow (0x28 ∷ 1 ∷ 0 ∷ []) (record { code = BadBranch; at = 0 })
+one_past =
+    inr (record {
+      parts = (0x28 ∷ 1 ∷ 0 ∷ []) ∷ [];
+      whole = refl;
+      each = ((Bra 0, is_branch, refl), tt);
+      bad = 0;
+      nowhere = λ leads. let l = leads (0x28 ∷ 1 ∷ 0 ∷ []) refl (inl is_branch) in nothing l.0 l.1;
+      first = λ k lt. absurd (omega arith);
+      is = refl;
+    })
+  where
+    is_branch : Code 0x28 AnyTwo (0x28 ∷ 1 ∷ 0 ∷ [])
+    is_branch = record { rest = 1 ∷ 0 ∷ []; operands = (1, 0, omega arith, omega arith, refl); whole = refl }
+
+    same_rest : (code other : ℕ) (rest more : List ℕ) → code ∷ rest ≡ other ∷ more → rest ≡ more
+    same_rest code other rest more e = cc
+
+    nothing : (i : ℕ) → Displaced Little ((0x28 ∷ 1 ∷ 0 ∷ []) ∷ []) 0 (Some i) (0x28 ∷ 1 ∷ 0 ∷ []) → ⊥
+    nothing zero d =
+        let two : 1 ∷ 0 ∷ [] ≡ 0xfd ∷ 0xff ∷ [] = same_rest 0x28 d.1 (1 ∷ 0 ∷ []) d.2.rest d.2.whole ∙ d.2.operands.bytes in
+        absurd cc
+    nothing (suc zero) d =
+        let two : 1 ∷ 0 ∷ [] ≡ 0 ∷ 0 ∷ [] = same_rest 0x28 d.1 (1 ∷ 0 ∷ []) d.2.rest d.2.whole ∙ d.2.operands.bytes in
+        absurd cc
+    nothing (suc (suc i)) d = absurd (omega (arith, d.0))

@@ -1,5 +1,5 @@
 -- The blocks of a profile, and the first fault of bytes that are none.
-use Rattle.std.specs.Prelude.{◌≡◌, ℕ, ◌<◌, ◌≤◌, ◌⊎◌, ◌+◌, List, [], ◌∷◌, ◌++◌, length, slice_get, Some, Err, Bool, true, IsTrue}
+use Rattle.std.specs.Prelude.{◌≡◌, ℕ, ◌<◌, ◌≤◌, ◌⊎◌, ◌+◌, List, ◌∷◌, ◌++◌, length, slice_get, Some, Err, Bool, true, IsTrue}
 use Rattle.std.specs.List.{AllByRecursion}
 use Rattle.dw_num.specs.declared.refusal.Code.TheVariants.{BadBranch, NotInFrame, UnknownOperation}
 use Rattle.dw_num.specs.declared.refusal.Refusal.{Refusal}
@@ -32,7 +32,7 @@ IsPart profile t part = (op : Op) × OpSpells t op part × IsTrue (op_allowed pr
 abbrev pub HasCode : Profile → Target → ℕ → Type 0
 HasCode profile t code = (operands : List ℕ) × IsPart profile t (code ∷ operands)
 
--- no operation has the code; or none of the profile has it; or an operand behind it is the first that can't be read
+-- no operation has the code; or one has it, but none of the profile; or one of the profile has it, and one of the fields behind it is the first that can't be read
 abbrev pub OpFault : Profile → ℕ → ℕ → Input → Refusal → Type 0
 OpFault profile at code operands r =
     ((HasCode Location operands.target code → ⊥) × (r ≡ record { code = UnknownOperation; at = at }))

@@ -1,4 +1,4 @@
--- Reading an operation from the front of a block, with the fault of what can't be read: DWARF 5, 7.7.1.
+-- Reading an operation from the front of a block, as the code does it: DWARF 5, 7.7.1. Faults.antt says which fault that gives without it.
 use Rattle.std.specs.Prelude.{ℕ, ◌-◌, ◌%◌, List, [], ◌∷◌, Option, Some, None, Ok, nat_lt, nat_le, nat_eq, ◌&&◌, if◌then◌else◌, Bool, true, false, ℤ, pos, negsuc}
 use Rattle.dw_num.specs.declared.refusal.Code.TheVariants.{UnknownOperation, NotInFrame, BadDerefSize}
 use Rattle.dw_num.specs.declared.target.Order.{Order}

@@ -1,4 +1,4 @@
--- The operations of a block one after another, and what its branches name.
+-- The operations of a block one after another, and what its branches name, as the code finds them. Block.antt and Faults.antt say the same without it.
 use Rattle.std.specs.Prelude.{ℕ, zero, suc, ◌+◌, ◌-◌, ◌≤◌, List, [], ◌∷◌, length, Option, Some, None, Result, Ok, Err, nat_eq, nat_lt, if◌then◌else◌}
 use Rattle.dw_num.specs.declared.refusal.Code.TheVariants.{BadBranch}
 use Rattle.dw_num.specs.declared.refusal.Refusal.{Refusal}
