@@ -14,6 +14,7 @@ mod failure;
 mod files;
 mod hints;
 mod line;
+mod loading;
 mod normal;
 mod row_text;
 mod rows;

@@ -1,5 +1,7 @@
 //! `dwframe rows`: the rules at each address of a section.
 
+ghost use Rattle.dw_command.specs.Answers.{Prints, RowsEnds};
+
 use crate::failure::Failure;
 use crate::files::Load;
 use crate::line::Line;
@@ -14,7 +16,9 @@ fn print_changes<W: Write>(
     out: &mut W,
     line: &mut Line,
     changes: &mut Changes<'_>,
-) -> Result<(), Failure<'static>> {
+) -> Result<(), Failure<'static>>
+    ensures { Prints tt result }
+{
     'changes: while let Some(address) = changes.advance()? {
         if let Some(row) = changes.row() {
             put_row(line, address, row)?;
@@ -30,7 +34,9 @@ fn print_table<W: Write>(
     alloc: Global,
     out: &mut W,
     table: &Table<'_>,
-) -> Result<(), Failure<'static>> {
+) -> Result<(), Failure<'static>>
+    ensures { Prints tt result }
+{
     let mut line = Line::new(alloc);
     let mut changes = table.no_changes();
     for place in 0..table.fde_count() {
@@ -56,7 +62,9 @@ pub fn run_rows<'a, L: Load, W: Write>(
     path: &'a str,
     files: &mut L,
     out: &mut W,
-) -> Result<(), Failure<'a>> {
+) -> Result<(), Failure<'a>>
+    ensures { RowsEnds (L.gives files.old) target path.now result }
+{
     let bytes = files
         .load(path)
         .map_err(|error| Failure::from_load(path, error))?;
