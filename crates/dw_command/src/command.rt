@@ -1,6 +1,10 @@
 //! The whole command, over the words, files and outputs that it is given.
 
-ghost use Rattle.std.specs.Prelude.{◌≤◌, IfOk};
+ghost use Rattle.std.specs.Prelude.{◌≡◌, ℕ, ◌≤◌, Result, Ok, IfOk, map, string_bytes};
+ghost use Rattle.std.specs.Result.{result_map_both};
+ghost use Rattle.dw_words.specs.Plan.{task_held};
+ghost use Rattle.dw_command.specs.Answers.{Ends, Prints, TaskEnds, exit_of};
+ghost use Rattle.dw_command.specs.declared.failure.Failure.{Failure as TheFailure};
 
 use crate::check::run_check;
 use crate::cost::run_cost;
@@ -17,27 +21,37 @@ use dw_words::{Job, Request, Task, plan};
 use std::alloc::Global;
 use std::io::{self, Write};
 
+// Status 0, where there is an answer.
+fn done<'a>(answer: Result<(), Failure<'a>>) -> Result<u8, Failure<'a>>
+    ensures { result ≡ result_map_both (λ _. 0) (λ e. e) answer.entry }
+{
+    match answer {
+        Ok(()) => Ok(0),
+        Err(failure) => Err(failure),
+    }
+}
+
 fn run_job<'a, L: Load, W: Write>(
     alloc: Global,
     job: Job<'a>,
     files: &mut L,
     out: &mut W,
 ) -> Result<u8, Failure<'a>>
-    ensures { IfOk result (λ status. status ≤ 1) }
+    ensures ends { TaskEnds (L.gives files.old) job.entry.target (task_held job.entry.task) result }
+    ensures most { IfOk result (λ status. status ≤ 1) }
 {
     let Job { target, task } = job;
     match task {
-        Task::Check { path } => run_check(alloc, target, path, files, out)?,
-        Task::Cost { path } => run_cost(alloc, target, path, files, out)?,
-        Task::Entries { path } => run_entries(alloc, target, path, files, out)?,
-        Task::Eval(evaluation) => run_eval(alloc, target, &evaluation, files, out)?,
-        Task::Expr { profile, block } => run_expr(alloc, target, profile, &block, out)?,
-        Task::Normal(writing) => run_normal(alloc, target, &writing, files, out)?,
-        Task::Rows { path } => run_rows(alloc, target, path, files, out)?,
-        Task::Same { path, other } => return run_same(alloc, target, path, other, files, out),
-        Task::Unwind(unwinding) => run_unwind(alloc, target, &unwinding, files, out)?,
+        Task::Check { path } => done(run_check(alloc, target, path, files, out)),
+        Task::Cost { path } => done(run_cost(alloc, target, path, files, out)),
+        Task::Entries { path } => done(run_entries(alloc, target, path, files, out)),
+        Task::Eval(evaluation) => done(run_eval(alloc, target, &evaluation, files, out)),
+        Task::Expr { profile, block } => done(run_expr(alloc, target, profile, &block, out)),
+        Task::Normal(writing) => done(run_normal(alloc, target, &writing, files, out)),
+        Task::Rows { path } => done(run_rows(alloc, target, path, files, out)),
+        Task::Same { path, other } => run_same(alloc, target, path, other, files, out),
+        Task::Unwind(unwinding) => done(run_unwind(alloc, target, &unwinding, files, out)),
     }
-    Ok(0)
 }
 
 // Prints a text that is asked for, of help or of the version.
@@ -52,7 +66,8 @@ fn run<'a, L: Load, W: Write>(
     files: &mut L,
     out: &mut W,
 ) -> Result<u8, Failure<'a>>
-    ensures { IfOk result (λ status. status ≤ 1) }
+    ensures ends { Ends (L.gives files.old) (map string_bytes words.entry.now) result }
+    ensures most { IfOk result (λ status. status ≤ 1) }
 {
     match plan(alloc, words)? {
         Request::Run(job) => run_job(alloc, job, files, out),
@@ -83,7 +98,9 @@ pub fn engine<L: Load, W: Write, E: Write>(
     out: &mut W,
     err: &mut E,
 ) -> u8
-    ensures { result ≤ 5 }
+    // It is the status of an answer to these words, over these files.
+    ensures ends { (answer : Result ℕ TheFailure) × Ends (L.gives files.old) (map string_bytes words.now) answer × (result ≡ exit_of answer) }
+    ensures most { result ≤ 5 }
 {
     match run(alloc, words, files, out) {
         Ok(status) => status,

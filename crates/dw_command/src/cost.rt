@@ -1,5 +1,7 @@
 //! `dwframe cost`: what a section costs beside its normal form.
 
+ghost use Rattle.dw_command.specs.Answers.{CostEnds};
+
 use crate::failure::Failure;
 use crate::files::Load;
 use crate::line::Line;
@@ -47,7 +49,9 @@ pub fn run_cost<'a, L: Load, W: Write>(
     path: &'a str,
     files: &mut L,
     out: &mut W,
-) -> Result<(), Failure<'a>> {
+) -> Result<(), Failure<'a>>
+    ensures { CostEnds (L.gives files.old) target path.now result }
+{
     let bytes = files
         .load(path)
         .map_err(|error| Failure::from_load(path, error))?;

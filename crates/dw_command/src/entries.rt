@@ -1,5 +1,7 @@
 //! `dwframe entries`: a line for each entry of a section.
 
+ghost use Rattle.dw_command.specs.Answers.{EntriesEnds};
+
 use crate::failure::Failure;
 use crate::files::Load;
 use crate::listing::{Listing, OutputFault};
@@ -40,7 +42,9 @@ pub fn run_entries<'a, L: Load, W: Write>(
     path: &'a str,
     files: &mut L,
     out: &mut W,
-) -> Result<(), Failure<'a>> {
+) -> Result<(), Failure<'a>>
+    ensures { EntriesEnds (L.gives files.old) target path.now result }
+{
     let bytes = files
         .load(path)
         .map_err(|error| Failure::from_load(path, error))?;

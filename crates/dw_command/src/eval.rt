@@ -1,7 +1,11 @@
 //! `dwframe eval`: the value of an expression.
 
+ghost use Rattle.std.specs.Prelude.{option_map};
+ghost use Rattle.dw_command.specs.Answers.{EvalEnds, Values};
+
 use crate::failure::Failure;
-use crate::files::{Load, load_dump};
+use crate::files::Load;
+use crate::loading::load_text;
 use dw_eval::{Env, evaluate};
 use dw_num::Target;
 use dw_op::{OpList, Profile, decode};
@@ -15,18 +19,6 @@ fn print_value<W: Write>(out: &mut W, value: u64) -> io::Result<()> {
     out.flush()
 }
 
-// The text of the dump, which is empty where none is named.
-fn dump_text<'a, L: Load>(
-    alloc: Global,
-    path: Option<&'a str>,
-    files: &mut L,
-) -> Result<Vec<u8>, Failure<'a>> {
-    let Some(path) = path else {
-        return Ok(Vec::new(alloc));
-    };
-    load_dump(files, path).map_err(|error| Failure::from_load(path, error))
-}
-
 // The value over a dump's registers and memory, without a frame base, a CFA or an object.
 fn value_of<'a>(
     alloc: Global,
@@ -34,7 +26,9 @@ fn value_of<'a>(
     start: Option<u64>,
     dump: &mut Dump,
     steps: u64,
-) -> Result<u64, Failure<'a>> {
+) -> Result<u64, Failure<'a>>
+    ensures { Values list.now.target list.now.ops start dump.old steps result }
+{
     let env = Env {
         target: list.target(),
         registers: &dump.registers,
@@ -52,8 +46,10 @@ pub fn run_eval<'a, L: Load, W: Write>(
     evaluation: &Evaluation<'a>,
     files: &mut L,
     out: &mut W,
-) -> Result<(), Failure<'a>> {
-    let text = dump_text(alloc, evaluation.dump, files)?;
+) -> Result<(), Failure<'a>>
+    ensures { EvalEnds (L.gives files.old) target evaluation.now.steps evaluation.now.start evaluation.now.block.items (option_map (λ p. p.now) evaluation.now.dump) result }
+{
+    let text = load_text(alloc, files, evaluation.dump)?;
     let list = decode(alloc, &evaluation.block, target, Profile::Location)?;
     let mut dump = Dump::parse(alloc, &text, target)?;
     let value = value_of(alloc, &list, evaluation.start, &mut dump, evaluation.steps)?;

@@ -1,5 +1,7 @@
 //! `dwframe expr`: the operations of a block, and its least spelling.
 
+ghost use Rattle.dw_command.specs.Answers.{ExprEnds};
+
 use crate::failure::Failure;
 use crate::texts::{print_hex, print_op};
 use dw_num::Target;
@@ -33,7 +35,9 @@ pub fn run_expr<'a, W: Write>(
     profile: Profile,
     block: &[u8],
     out: &mut W,
-) -> Result<(), Failure<'a>> {
+) -> Result<(), Failure<'a>>
+    ensures { ExprEnds target profile block.now result }
+{
     let list = decode(alloc, block, target, profile)?;
     let least = match encode(alloc, &list) {
         Ok(least) => least,

@@ -1,6 +1,8 @@
 //! Why a run ends without its answer.
 
-ghost use Rattle.std.specs.Prelude.{◌≤◌};
+ghost use Rattle.std.specs.Prelude.{◌≡◌, ◌≤◌};
+ghost use Rattle.dw_command.specs.declared.failure.Failure.TheVariants.{OutOfMemory};
+ghost use Rattle.dw_command.specs.Failing.{OfLoad, OfSame, OfUnwind, of_decode, of_dump, of_eval, of_normal, of_plan, of_section, of_write, status_of};
 
 use crate::files::LoadError;
 use dw_eval::{EvalError, Kind};
@@ -64,12 +66,16 @@ pub enum Failure<'a> {
 }
 
 impl From<AllocError> for Failure<'_> {
+    ghost from_gives = { λ _ e. e ≡ OutOfMemory };
+
     fn from(_error: AllocError) -> Self {
         Failure::OutOfMemory
     }
 }
 
 impl From<PlanError> for Failure<'_> {
+    ghost from_gives = { λ error e. e ≡ of_plan error };
+
     fn from(error: PlanError) -> Self {
         match error {
             PlanError::BadValue(name) => Failure::BadValue(name),
@@ -80,6 +86,8 @@ impl From<PlanError> for Failure<'_> {
 }
 
 impl From<SectionError> for Failure<'_> {
+    ghost from_gives = { λ error e. e ≡ of_section error };
+
     fn from(error: SectionError) -> Self {
         match error {
             SectionError::Refused(refusal) => Failure::Refused(refusal),
@@ -89,6 +97,8 @@ impl From<SectionError> for Failure<'_> {
 }
 
 impl From<NormalError> for Failure<'_> {
+    ghost from_gives = { λ error e. e ≡ of_normal error };
+
     fn from(error: NormalError) -> Self {
         match error {
             NormalError::Refused(refusal) => Failure::Refused(refusal),
@@ -98,6 +108,8 @@ impl From<NormalError> for Failure<'_> {
 }
 
 impl From<SameError> for Failure<'_> {
+    ghost from_gives = { OfSame };
+
     fn from(error: SameError) -> Self {
         match error {
             SameError::Refused(Which::First, refusal) => Failure::RefusedIn(refusal, "first"),
@@ -108,6 +120,8 @@ impl From<SameError> for Failure<'_> {
 }
 
 impl From<WriteError> for Failure<'_> {
+    ghost from_gives = { λ error e. e ≡ of_write error };
+
     fn from(error: WriteError) -> Self {
         match error {
             WriteError::Refused(refusal) => Failure::Refused(refusal),
@@ -118,6 +132,8 @@ impl From<WriteError> for Failure<'_> {
 }
 
 impl From<DecodeError> for Failure<'_> {
+    ghost from_gives = { λ error e. e ≡ of_decode error };
+
     fn from(error: DecodeError) -> Self {
         match error {
             DecodeError::Refused(refusal) => Failure::Refused(refusal),
@@ -127,6 +143,8 @@ impl From<DecodeError> for Failure<'_> {
 }
 
 impl From<DumpError> for Failure<'_> {
+    ghost from_gives = { λ error e. e ≡ of_dump error };
+
     fn from(error: DumpError) -> Self {
         match error {
             DumpError::Fault(fault) => Failure::Dump(fault),
@@ -136,6 +154,8 @@ impl From<DumpError> for Failure<'_> {
 }
 
 impl From<EvalError> for Failure<'_> {
+    ghost from_gives = { λ error e. e ≡ of_eval error };
+
     fn from(error: EvalError) -> Self {
         match error {
             EvalError::Fault { kind, index } => Failure::Evaluation(kind, index),
@@ -145,6 +165,8 @@ impl From<EvalError> for Failure<'_> {
 }
 
 impl From<UnwindError> for Failure<'_> {
+    ghost from_gives = { OfUnwind };
+
     fn from(error: UnwindError) -> Self {
         match error {
             UnwindError::NoFde => Failure::NoFde,
@@ -163,7 +185,9 @@ impl From<UnwindError> for Failure<'_> {
 
 impl<'a> Failure<'a> {
     /// Why the file of this path has no bytes.
-    pub fn from_load(path: &'a str, error: LoadError) -> Failure<'a> {
+    pub fn from_load(path: &'a str, error: LoadError) -> Failure<'a>
+        ensures { OfLoad path.now error result }
+    {
         match error {
             LoadError::CannotRead => Failure::CannotRead(path),
             LoadError::OutOfMemory => Failure::OutOfMemory,
@@ -172,7 +196,8 @@ impl<'a> Failure<'a> {
 
     /// The exit status, 2 to 5.
     pub fn status(&self) -> u8
-        ensures { (2 ≤ result) × (result ≤ 5) }
+        ensures exact { result ≡ status_of self.now }
+        ensures within { (2 ≤ result) × (result ≤ 5) }
     {
         match self {
             Failure::Refused(_) | Failure::RefusedIn(..) | Failure::Dump(_) => 2,

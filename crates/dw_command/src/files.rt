@@ -1,6 +1,7 @@
 //! Where the bytes of a file come from.
 
-ghost use Rattle.std.specs.Prelude.{IfOk, IfSome, length, take, ◌≡◌, ◌≤◌};
+ghost use Rattle.std.specs.Prelude.{◌≡◌, ⊤, ℕ, ◌≤◌, List, length, take, Result, Ok, Err, IfOk, IfSome, MatchResult};
+ghost use Rattle.dw_command.specs.declared.files.LoadError.{LoadError as TheLoadError};
 
 use std::alloc::Global;
 use std::fs::File;
@@ -19,20 +20,17 @@ pub enum LoadError {
 
 /// Files by their paths.
 pub trait Load {
+    ghost use Rattle.dw_command.specs.declared.files.LoadError.{LoadError};
+
+    /// What a file may be found to be, by its path: its bytes, or why it has none. Files that are not known may be anything.
+    ghost gives: { Self → List ℕ → Result (List ℕ) LoadError → Type 0 } = { λ _ _ _. ⊤ };
+
     /// All bytes of the file, or its first 2,147,483,648 where it has more. So a section that is too long is told by
     /// its length, whatever else the file holds.
-    fn load(&mut self, path: &str) -> Result<Vec<u8>, LoadError>;
-}
-
-/// The bytes of a dump. One of more than 2,147,483,647 bytes cannot be read.
-pub fn load_dump<L: Load>(files: &mut L, path: &str) -> Result<Vec<u8>, LoadError>
-    ensures bound { IfOk result (λ bytes. length bytes.items ≤ 2_147_483_647) }
-{
-    let bytes = files.load(path)?;
-    if bytes.len() as u64 > LIMIT {
-        return Err(LoadError::CannotRead);
-    }
-    Ok(bytes)
+    fn load(&mut self, path: &str) -> Result<Vec<u8>, LoadError>
+        ensures gives { MatchResult result (λ bytes. gives self.old path.now (Ok bytes.items)) (λ e. gives self.old path.now (Err e)) }
+        // What it finds in a file it might have found before.
+        ensures same { (p : List ℕ) (r : Result (List ℕ) LoadError) → gives self.new p r → gives self.old p r };
 }
 
 // Doubled, and 512 more the first time, the room that the bytes are read into ends just above 2,147,483,648, and not
@@ -74,6 +72,8 @@ impl<'a, R: Files + AllocGlobal> Disk<'a, R> {
 impl<R: Files + AllocGlobal> Load for Disk<'_, R> {
     fn load(&mut self, path: &str) -> Result<Vec<u8>, LoadError>
         ensures bound { IfOk result (λ bytes. length bytes.items ≤ 2_147_483_648) }
+        ensures gives { MatchResult result (λ _. ⊤) (λ _. ⊤) }
+        ensures same { (p : List ℕ) (r : Result (List ℕ) TheLoadError) → ⊤ → ⊤ }
     {
         self.read(path).map_err(|error| {
             if error.kind() == ErrorKind::OutOfMemory {

@@ -42,6 +42,8 @@ impl<L: Load, E: Write> Hinted<L, E> {
 }
 
 impl<L: Load, E: Write> Load for Hinted<L, E> {
+    ghost gives = { λ hinted. L.gives hinted.files };
+
     fn load(&mut self, path: &str) -> Result<Vec<u8>, LoadError> {
         let bytes = self.files.load(path)?;
         let _ = if bytes.is_empty() {

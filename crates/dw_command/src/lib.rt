@@ -15,6 +15,7 @@ mod files;
 mod hints;
 mod line;
 mod listing;
+mod loading;
 mod normal;
 mod row_text;
 mod rows;

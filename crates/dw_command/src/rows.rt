@@ -1,5 +1,7 @@
 //! `dwframe rows`: the rules at each address of a section.
 
+ghost use Rattle.dw_command.specs.Answers.{Prints, RowsEnds};
+
 use crate::failure::Failure;
 use crate::files::Load;
 use crate::listing::Listing;
@@ -13,7 +15,9 @@ use std::io::Write;
 fn put_changes<W: Write>(
     listing: &mut Listing<W>,
     changes: &mut Changes<'_>,
-) -> Result<(), Failure<'static>> {
+) -> Result<(), Failure<'static>>
+    ensures { Prints tt result }
+{
     'changes: while let Some(address) = changes.advance()? {
         if let Some(row) = changes.row() {
             put_row(listing, address, row)?;
@@ -22,7 +26,9 @@ fn put_changes<W: Write>(
     Ok(())
 }
 
-fn print_table<W: Write>(out: &mut W, table: &Table<'_>) -> Result<(), Failure<'static>> {
+fn print_table<W: Write>(out: &mut W, table: &Table<'_>) -> Result<(), Failure<'static>>
+    ensures { Prints tt result }
+{
     let mut listing = Listing::new(out);
     let mut changes = table.no_changes();
     for place in 0..table.fde_count() {
@@ -43,7 +49,9 @@ pub fn run_rows<'a, L: Load, W: Write>(
     path: &'a str,
     files: &mut L,
     out: &mut W,
-) -> Result<(), Failure<'a>> {
+) -> Result<(), Failure<'a>>
+    ensures { RowsEnds (L.gives files.old) target path.now result }
+{
     let bytes = files
         .load(path)
         .map_err(|error| Failure::from_load(path, error))?;

@@ -1,9 +1,11 @@
 //! `dwframe same`: whether two sections say the same.
 
-ghost use Rattle.std.specs.Prelude.{◌≤◌, IfOk};
+ghost use Rattle.std.specs.Prelude.{◌≡◌, ◌≤◌, if◌then◌else◌, IfOk};
+ghost use Rattle.dw_command.specs.Answers.{SameEnds};
 
 use crate::failure::Failure;
 use crate::files::Load;
+use crate::loading::load_file;
 use dw_normal::same;
 use dw_num::Target;
 use std::alloc::Global;
@@ -12,6 +14,17 @@ use std::io::{self, Write};
 fn print_text<W: Write>(out: &mut W, text: &[u8]) -> io::Result<()> {
     out.write_all(text)?;
     out.flush()
+}
+
+// The text of an answer, and its exit status.
+fn verdict(is_same: bool) -> (&'static [u8], u8)
+    ensures { result.1 ≡ (if is_same then 0 else 1) }
+{
+    if is_same {
+        (b"same\n".as_slice(), 0)
+    } else {
+        (b"different\n".as_slice(), 1)
+    }
 }
 
 /// Prints whether the sections in two files say the same, and answers the exit status: 0 where they do, 1 where not. Both
@@ -24,22 +37,15 @@ pub fn run_same<'a, L: Load, W: Write>(
     files: &mut L,
     out: &mut W,
 ) -> Result<u8, Failure<'a>>
-    ensures { IfOk result (λ status. status ≤ 1) }
+    ensures ends { SameEnds (L.gives files.old) target path.now other.now result }
+    ensures most { IfOk result (λ status. status ≤ 1) }
 {
-    let first = files
-        .load(path)
-        .map_err(|error| Failure::from_load(path, error))?;
-    let second = files
-        .load(other)
-        .map_err(|error| Failure::from_load(other, error))?;
+    let first = load_file(files, path)?;
+    let second = load_file(files, other)?;
     let is_same = same(alloc, &first, &second, target)?;
-    let text = if is_same {
-        b"same\n".as_slice()
-    } else {
-        b"different\n".as_slice()
-    };
+    let (text, status) = verdict(is_same);
     if print_text(out, text).is_err() {
         return Err(Failure::CannotWrite);
     }
-    Ok(u8::from(!is_same))
+    Ok(status)
 }

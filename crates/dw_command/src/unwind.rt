@@ -1,8 +1,11 @@
 //! `dwframe unwind`: the caller's frame of a machine that stopped.
 
+ghost use Rattle.dw_command.specs.Answers.{Frames, UnwindEnds};
+
 use crate::failure::Failure;
-use crate::files::{Load, load_dump};
+use crate::files::Load;
 use crate::line::Line;
+use crate::loading::{load_dump, load_file};
 use dw_num::Target;
 use dw_section::{Table, check};
 use dw_unwind::{Dump, Frame, unwind};
@@ -41,7 +44,9 @@ fn frame_of<'a>(
     table: &Table<'_>,
     dump: &mut Dump,
     unwinding: &Unwinding<'_>,
-) -> Result<Frame, Failure<'a>> {
+) -> Result<Frame, Failure<'a>>
+    ensures { Frames table.now.target table.now.bytes dump.old unwinding.now.default unwinding.now.steps result }
+{
     let Some(pc) = dump.pc else {
         return Err(Failure::NoCounter);
     };
@@ -64,12 +69,11 @@ pub fn run_unwind<'a, L: Load, W: Write>(
     unwinding: &Unwinding<'a>,
     files: &mut L,
     out: &mut W,
-) -> Result<(), Failure<'a>> {
-    let bytes = files
-        .load(unwinding.path)
-        .map_err(|error| Failure::from_load(unwinding.path, error))?;
-    let dump = unwinding.dump;
-    let text = load_dump(files, dump).map_err(|error| Failure::from_load(dump, error))?;
+) -> Result<(), Failure<'a>>
+    ensures { UnwindEnds (L.gives files.old) target unwinding.now.default unwinding.now.steps unwinding.now.path.now unwinding.now.dump.now result }
+{
+    let bytes = load_file(files, unwinding.path)?;
+    let text = load_dump(files, unwinding.dump)?;
     let table = check(alloc, &bytes, target)?;
     let mut dump = Dump::parse(alloc, &text, target)?;
     let frame = frame_of(alloc, &table, &mut dump, unwinding)?;

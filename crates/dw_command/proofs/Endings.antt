@@ -1,0 +1,124 @@
+-- Runs that end: a load of later files, and what a call that writes becomes.
+use Rattle.std.proofs.Common.{◌≡◌, ◌∙◌, ◌⊎◌, ℕ, List, Option, Result, Ok, Err, refl, inl, inr, subst, sym}
+use Rattle.std.specs.Result.{MatchResult, result_map_both}
+use Rattle.clap.specs.Words.{Text}
+use Rattle.dw_num.specs.declared.target.Target.{Target}
+use Rattle.dw_op.specs.declared.op.Op.{Op}
+use Rattle.dw_op.specs.declared.profile.Profile.TheVariants.{Location}
+use Rattle.dw_op.specs.Faults.{IsBlock}
+use Rattle.dw_eval.specs.declared.error.EvalError.{EvalError}
+use Rattle.dw_eval.specs.declared.error.EvalError.TheVariants as eval_error
+use Rattle.dw_eval.specs.Evaluation.{Evaluates, first_stack}
+use Rattle.dw_normal.specs.declared.error.NormalError.TheVariants as normal_error
+use Rattle.dw_normal.specs.declared.error.WriteError.{WriteError}
+use Rattle.dw_normal.specs.declared.error.WriteError.TheVariants as write_error
+use Rattle.dw_section.specs.Table.{Section}
+use Rattle.dw_normal.specs.Answers.{IsWithin, Writes}
+use Rattle.dw_unwind.specs.declared.dump.Dump.{Dump}
+use Rattle.dw_unwind.specs.declared.frame.Frame.{Frame}
+use Rattle.dw_unwind.specs.declared.frame.Policy.{Policy}
+use Rattle.dw_unwind.specs.declared.frame.UnwindError.{UnwindError}
+use Rattle.dw_unwind.specs.declared.frame.UnwindError.TheVariants as unwind_error
+use Rattle.dw_unwind.specs.Ranges.{byte_in}
+use Rattle.dw_unwind.specs.Unwound.{Unwound, stopped}
+use Rattle.dw_command.specs.declared.files.LoadError.{LoadError}
+use Rattle.dw_command.specs.declared.failure.Failure.{Failure}
+use Rattle.dw_command.specs.declared.failure.Failure.TheVariants as failures
+use Rattle.dw_command.specs.Answers.{Checks, CostEnds, EvalEnds, Frames, Loads, LoadsDump, LoadsText, Normalises, Parses, Prints, Then, UnwindEnds, Values}
+use Rattle.dw_command.specs.Failing.{of_write}
+
+-- what later files give, the earlier ones may give
+module _ (old new : Text → Result (List ℕ) LoadError → Type 0) (same : (p : Text) (r : Result (List ℕ) LoadError) → new p r → old p r) where
+  pub load_before : (path : Text) (r : Result (List ℕ) Failure) → Loads new path r → Loads old path r
+  load_before path (Ok bytes) h = same path (Ok bytes) h
+  load_before path (Err e) h = (h.0, same path (Err h.0) h.1, h.2)
+
+  pub dump_before : (path : Text) (r : Result (List ℕ) Failure) → LoadsDump new path r → LoadsDump old path r
+  dump_before path (Ok bytes) h = (same path (Ok bytes) h.0, h.1)
+  dump_before path (Err e) (error, inl given, becomes) = (error, inl (same path (Err error) given), becomes)
+  dump_before path (Err e) (error, inr (bytes, given, long, is), becomes) = (error, inr (bytes, same path (Ok bytes) given, long, is), becomes)
+
+-- a file's bytes, as they are lent
+pub lent : (gives : Text → Result (List ℕ) LoadError → Type 0) (path : Text) (s t : List ℕ) → t ≡ s → Loads gives path (Ok s) → Loads gives path (Ok t)
+lent gives path s t is h = rw is h
+
+pub dump_lent : (gives : Text → Result (List ℕ) LoadError → Type 0) (path : Text) (s t : List ℕ) → t ≡ s → LoadsDump gives path (Ok s) → LoadsDump gives path (Ok t)
+dump_lent gives path s t is h = rw is h
+
+pub text_lent : (gives : Text → Result (List ℕ) LoadError → Type 0) (path : Option Text) (s t : List ℕ) → t ≡ s → LoadsText gives path (Ok s) → LoadsText gives path (Ok t)
+text_lent gives path s t is h = rw is h
+
+-- what was loaded, and stands behind a change of its error
+pub loaded : {V : Type 0} (P : V → Type 0) (Q : LoadError → Type 0) (r : Result V LoadError) (v : V)
+    → MatchResult r P Q → MatchResult r (λ x. ◌≡◌ {A = Result V Failure} (Ok v) (Ok x)) (λ _. ⊥) → P v
+loaded P Q (Ok x) v h is = let same : v ≡ x = cc in rw same h
+loaded P Q (Err e) v h is = absurd is
+
+-- a normal form that is not written whole
+pub unwritten : (target : Target) (cap : ℕ) (s : List ℕ) (e : WriteError) (failed failed' : ℕ) (old new : Option (List ℕ))
+    → Writes target cap s (Err e) failed failed' old new → Then (Normalises target cap s) (λ (_ : Unit {0}). Prints {A = Unit {0}} tt) (Err (of_write e))
+unwritten target cap s (write_error.Refused r) failed failed' old new h = inr (failures.Refused r, (normal_error.Refused r, h.1, refl), refl)
+unwritten target cap s (write_error.Write written) failed failed' old new h = inl (tt, (h.1.normal, h.1.is, h.1.within), tt)
+unwritten target cap s (write_error.Memory written) failed failed' old new h = inr (failures.OutOfMemory, (normal_error.OutOfMemory, tt, refl), refl)
+
+-- status 0 where there is an answer
+pub done : (Ends : Result (Unit {0}) Failure → Type 0) (answer : Result (Unit {0}) Failure) (r : Result ℕ Failure)
+    → r ≡ result_map_both (λ _. 0) (λ e. e) answer → Ends answer → Then Ends (λ (_ : Unit {0}) status. status ≡ Ok 0) r
+done Ends (Ok answer) r is h = inl (answer, h, is)
+done Ends (Err e) r is h = inr (e, h, is)
+
+-- ---- evaluations
+
+-- what is evaluated, or want of memory
+pub evaluated : (t u : Target) (ops : List Op) (start : Option ℕ) (dump : Dump) (steps : ℕ) (e : EvalError) → u ≡ t
+    → (◌≡◌ {A = Result ℕ EvalError} (Err e) (Err eval_error.OutOfMemory)) ⊎ Evaluates ops (stopped u dump.registers (byte_in dump.memory)) (first_stack u.size start) steps (Err e)
+    → (e ≡ eval_error.OutOfMemory) ⊎ Evaluates ops (stopped t dump.registers (byte_in dump.memory)) (first_stack t.size start) steps (Err e)
+evaluated t u ops start dump steps e is (inl h) = inl cc
+evaluated t u ops start dump steps e is (inr h) =
+    inr (subst (λ (t : Target). Evaluates ops (stopped t dump.registers (byte_in dump.memory)) (first_stack t.size start) steps (Err e)) is h)
+
+pub values_at : (t u : Target) (ops : List Op) (start : Option ℕ) (dump : Dump) (steps : ℕ) (r : Result ℕ Failure) → u ≡ t
+    → Values u ops start dump steps r → Values t ops start dump steps r
+values_at t u ops start dump steps r is h = subst (λ (t : Target). Values t ops start dump steps r) is h
+
+-- behind a text and a block that is decoded
+pub behind_block : (gives : Text → Result (List ℕ) LoadError → Type 0) (target : Target) (steps : ℕ) (start : Option ℕ) (block : List ℕ) (path : Option Text)
+    (text text' block' : List ℕ) (ops : List Op) (r : Result (Unit {0}) Failure)
+    → text' ≡ text → LoadsText gives path (Ok text) → block' ≡ block → IsBlock Location target ops block'
+    → Then (Parses target text') (λ dump. Then (Values target ops start dump steps) (λ _. Prints {A = Unit {0}} tt)) r
+    → EvalEnds gives target steps start block path r
+behind_block gives target steps start block path text text' block' ops r lent loads same found ends =
+    inl (text', subst (λ (t : List ℕ). LoadsText gives path (Ok t)) (sym lent) loads, inl (ops, subst (λ (b : List ℕ). IsBlock Location target ops b) same found, ends))
+
+-- ---- frames
+
+-- what is unwound, or want of memory
+pub unwound : (t u : Target) (s : List ℕ) (pc : ℕ) (dump : Dump) (policy : Policy) (steps : ℕ) (e : UnwindError) → u ≡ t
+    → (◌≡◌ {A = Result Frame UnwindError} (Err e) (Err unwind_error.OutOfMemory)) ⊎ Unwound u s pc (stopped u dump.registers (byte_in dump.memory)) policy steps (Err e)
+    → (e ≡ unwind_error.OutOfMemory) ⊎ Unwound t s pc (stopped t dump.registers (byte_in dump.memory)) policy steps (Err e)
+unwound t u s pc dump policy steps e is (inl h) = inl cc
+unwound t u s pc dump policy steps e is (inr h) =
+    inr (subst (λ (t : Target). Unwound t s pc (stopped t dump.registers (byte_in dump.memory)) policy steps (Err e)) is h)
+
+-- behind both files
+pub behind_files : (gives : Text → Result (List ℕ) LoadError → Type 0) (target : Target) (policy : Policy) (steps : ℕ) (path dump : Text)
+    (s s' text text' : List ℕ) (r : Result (Unit {0}) Failure)
+    → s' ≡ s → Loads gives path (Ok s) → text' ≡ text → LoadsDump gives dump (Ok text)
+    → Then (Checks target s') (λ _. Then (Parses target text') (λ dump. Then (Frames target s' dump policy steps) (λ _. Prints {A = Unit {0}} tt))) r
+    → UnwindEnds gives target policy steps path dump r
+behind_files gives target policy steps path dump s s' text text' r same loads same' loads' ends =
+    inl (s', lent gives path s s' same loads, inl (text', dump_lent gives dump text text' same' loads', ends))
+
+-- over the section that was checked
+pub frames_at : (target : Target) (s : List ℕ) (table : Section) (dump : Dump) (policy : Policy) (steps : ℕ) (r : Result Frame Failure)
+    → table ≡ record { target = target; bytes = s } → Frames table.target table.bytes dump policy steps r → Frames target s dump policy steps r
+frames_at target s table dump policy steps r is h = subst (λ (t : Section). Frames t.target t.bytes dump policy steps r) is h
+
+-- ---- costs
+
+-- behind a normal form that is measured
+pub behind_length : (gives : Text → Result (List ℕ) LoadError → Type 0) (target : Target) (path : Text) (s one two : List ℕ) (r : Result (Unit {0}) Failure)
+    → one ≡ s → two ≡ s → Loads gives path (Ok s) → IsWithin target 2147483647 one → Then (Checks target two) (λ _. Prints {A = Unit {0}} tt) r
+    → CostEnds gives target path r
+behind_length gives target path s one two r first second loads within ends =
+    inl (two, lent gives path s two second loads, inl (tt, subst (IsWithin target 2147483647) (first ∙ sym second) within, ends))

@@ -1,0 +1,44 @@
+use Rattle.std.proofs.Common.{Ok, Err, inl, inr, option_map, refl}
+use Rattle.std.proofs.lemmas.Result.{err_from_is_err_and}
+use Rattle.dw_command.proofs.Endings.{behind_block, values_at}
+use Rattle.dw_command.proofs.eval.run_eval.Goals as goal
+
+pub returns-in_err-dump : goal.returns-in_err-dump
+returns-in_err-dump g c =
+    let p = err_from_is_err_and c.from_residual-in_err-dump.result c.from_residual-in_err-dump.ensures.1 in
+    let e = c.args.evaluation.now in
+    rw p.1 (behind_block (g.L.Load.gives c.args.files.now) c.args.target e.steps e.start e.block.items (option_map (λ p. p.now) e.dump)
+    c.in_ok-text.text.items c.deref-2.result.now c.deref.result.now c.in_ok-list.list.ops (Err p.0)
+    c.deref-2.ensures.value c.in_ok-text.ensures.loads c.deref.ensures.value c.in_ok-list.ensures.found.1
+    (inr (p.0, (c.in_err-dump.field-0.0, c.in_err-dump.ensures.first, p.2), refl)))
+
+pub returns-in_err-value : goal.returns-in_err-value
+returns-in_err-value g c =
+    let p = err_from_is_err_and c.from_residual-in_err-value.result c.from_residual-in_err-value.ensures.1 in
+    let e = c.args.evaluation.now in
+    let found = c.in_ok-list.ensures.found in
+    let value = values_at c.args.target _ c.in_ok-list.list.ops e.start c.in_ok-dump.dump e.steps (Err c.in_err-value.field-0.0) found.0 c.in_err-value.ensures in
+    rw (p.1, p.2) (behind_block (g.L.Load.gives c.args.files.now) c.args.target e.steps e.start e.block.items (option_map (λ p. p.now) e.dump)
+    c.in_ok-text.text.items c.deref-2.result.now c.deref.result.now c.in_ok-list.list.ops (Err c.in_err-value.field-0.0)
+    c.deref-2.ensures.value c.in_ok-text.ensures.loads c.deref.ensures.value found.1
+    (inl (c.in_ok-dump.dump, c.in_ok-dump.ensures.found, inr (c.in_err-value.field-0.0, value, refl))))
+
+pub returns-then-is_err : goal.returns-then-is_err
+returns-then-is_err g c =
+    let e = c.args.evaluation.now in
+    let found = c.in_ok-list.ensures.found in
+    let value = values_at c.args.target _ c.in_ok-list.list.ops e.start c.in_ok-dump.dump e.steps (Ok c.in_ok-value.value) found.0 c.in_ok-value.ensures in
+    behind_block (g.L.Load.gives c.args.files.now) c.args.target e.steps e.start e.block.items (option_map (λ p. p.now) e.dump)
+    c.in_ok-text.text.items c.deref-2.result.now c.deref.result.now c.in_ok-list.list.ops _
+    c.deref-2.ensures.value c.in_ok-text.ensures.loads c.deref.ensures.value found.1
+    (inl (c.in_ok-dump.dump, c.in_ok-dump.ensures.found, inl (c.in_ok-value.value, value, tt)))
+
+pub returns : goal.returns
+returns g c =
+    let e = c.args.evaluation.now in
+    let found = c.in_ok-list.ensures.found in
+    let value = values_at c.args.target _ c.in_ok-list.list.ops e.start c.in_ok-dump.dump e.steps (Ok c.in_ok-value.value) found.0 c.in_ok-value.ensures in
+    behind_block (g.L.Load.gives c.args.files.now) c.args.target e.steps e.start e.block.items (option_map (λ p. p.now) e.dump)
+    c.in_ok-text.text.items c.deref-2.result.now c.deref.result.now c.in_ok-list.list.ops _
+    c.deref-2.ensures.value c.in_ok-text.ensures.loads c.deref.ensures.value found.1
+    (inl (c.in_ok-dump.dump, c.in_ok-dump.ensures.found, inl (c.in_ok-value.value, value, refl)))

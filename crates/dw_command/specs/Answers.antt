@@ -1,0 +1,201 @@
+-- What a run answers: which call comes after which, and that the first failure ends it. What is printed is not told.
+use Rattle.std.specs.Prelude.{◌≡◌, ◌⊎◌, ⊤, ℕ, ◌<◌, ◌≤◌, List, [], Bool, Option, Some, None, length, if◌then◌else◌, Result, Ok, Err}
+use Rattle.std.specs.Bool.{Decides}
+use Rattle.clap.specs.Words.{Text}
+use Rattle.dw_num.specs.Target.{address_limit}
+use Rattle.dw_num.specs.declared.target.Target.{Target}
+use Rattle.dw_op.specs.declared.op.Op.{Op}
+use Rattle.dw_op.specs.declared.profile.Profile.{Profile}
+use Rattle.dw_op.specs.declared.profile.Profile.TheVariants.{Location}
+use Rattle.dw_op.specs.Faults.{BlockFault, IsBlock, Refuses as RefusesBlock}
+use Rattle.dw_eval.specs.declared.error.EvalError.TheVariants as eval_error
+use Rattle.dw_eval.specs.Evaluation.{Evaluates, first_stack}
+use Rattle.dw_section.specs.declared.cutting.Entry.{Entry}
+use Rattle.dw_section.specs.Accepted.{Accepted, CheckFault}
+use Rattle.dw_section.specs.Pieces.{Entries}
+use Rattle.dw_section.specs.Faults.{CutFault, Refuses as RefusesSection}
+use Rattle.dw_section.specs.Meanings.{SameMeaning}
+use Rattle.dw_normal.specs.Answers.{IsWithin, NormalFault, RefusesNormal, SameFault}
+use Rattle.dw_unwind.specs.declared.dump.Dump.{Dump}
+use Rattle.dw_unwind.specs.declared.frame.Frame.{Frame}
+use Rattle.dw_unwind.specs.declared.frame.Policy.{Policy}
+use Rattle.dw_unwind.specs.declared.frame.UnwindError.TheVariants as unwind_error
+use Rattle.dw_unwind.specs.Describes.{Describes, Refuses as RefusesDump}
+use Rattle.dw_unwind.specs.Dump.{Say}
+use Rattle.dw_unwind.specs.Lines.{lines_of}
+use Rattle.dw_unwind.specs.Ranges.{byte_in}
+use Rattle.dw_unwind.specs.Statement.{Statement}
+use Rattle.dw_unwind.specs.Unwound.{Unwound, stopped}
+use Rattle.dw_words.specs.declared.request.Request.{Request}
+use Rattle.dw_words.specs.declared.request.Request.TheVariants as requests
+use Rattle.dw_words.specs.Plan.{Planned, Task, check, cost, entries, eval, expr, normal, rows, same, unwind, task_held}
+use Rattle.dw_command.specs.declared.files.LoadError.{LoadError}
+use Rattle.dw_command.specs.declared.files.LoadError.TheVariants.{CannotRead}
+use Rattle.dw_command.specs.declared.failure.Failure.{Failure}
+use Rattle.dw_command.specs.declared.failure.Failure.TheVariants as failures
+use Rattle.dw_command.specs.Failing.{OfLoad, OfSame, OfUnwind, of_decode, of_dump, of_eval, of_normal, of_plan, of_section, status_of}
+
+-- ---- one thing after another
+
+-- the first has an answer, from which the second goes on, or it fails and nothing follows
+abbrev pub Then : {A B : Type 0} → (Result A Failure → Type 0) → (A → Result B Failure → Type 0) → Result B Failure → Type 0
+Then {A} {B} First Next r = ((a : A) × First (Ok a) × Next a r) ⊎ ((e : Failure) × First (Err e) × (r ≡ Err e))
+
+-- a call below: what it answers, or its error, which becomes a failure
+abbrev pub Calls : {A E : Type 0} → (A → Type 0) → (E → Type 0) → (E → Failure → Type 0) → Result A Failure → Type 0
+Calls {A} {E} Answer Error Becomes (Ok a) = Answer a
+Calls {A} {E} Answer Error Becomes (Err f) = (e : E) × Error e × Becomes e f
+
+-- the answer is printed, or cannot be written, or memory runs out before
+abbrev pub Prints : {A : Type 0} → A → Result A Failure → Type 0
+Prints a (Ok b) = b ≡ a
+Prints a (Err failures.CannotWrite) = ⊤
+Prints a (Err failures.OutOfMemory) = ⊤
+Prints a (Err failure) = ⊥
+
+-- ---- files, by what they may give for a path
+
+-- the bytes of a file
+abbrev pub Loads : (Text → Result (List ℕ) LoadError → Type 0) → Text → Result (List ℕ) Failure → Type 0
+Loads gives path r = Calls (λ (bytes : List ℕ). gives path (Ok bytes)) (λ (e : LoadError). gives path (Err e)) (OfLoad path) r
+
+-- why there is no dump: a file of more than 2,147,483,647 bytes is none
+abbrev pub NoDump : (Text → Result (List ℕ) LoadError → Type 0) → Text → LoadError → Type 0
+NoDump gives path e = gives path (Err e) ⊎ ((bytes : List ℕ) × gives path (Ok bytes) × (2147483647 < length bytes) × (e ≡ CannotRead))
+
+-- the bytes of a dump
+abbrev pub LoadsDump : (Text → Result (List ℕ) LoadError → Type 0) → Text → Result (List ℕ) Failure → Type 0
+LoadsDump gives path r = Calls (λ (bytes : List ℕ). gives path (Ok bytes) × (length bytes ≤ 2147483647)) (NoDump gives path) (OfLoad path) r
+
+-- no bytes where no dump is named
+abbrev pub LoadsText : (Text → Result (List ℕ) LoadError → Type 0) → Option Text → Result (List ℕ) Failure → Type 0
+LoadsText gives None r = r ≡ Ok []
+LoadsText gives (Some path) r = LoadsDump gives path r
+
+-- ---- the calls below
+
+-- a section is checked
+abbrev pub Checks : Target → List ℕ → Result (Unit {0}) Failure → Type 0
+Checks target s r = Calls (λ (_ : Unit {0}). Accepted target s) (RefusesSection (CheckFault target s)) (λ e f. f ≡ of_section e) r
+
+-- a section is cut
+abbrev pub Cuts : Target → List ℕ → Result (List Entry) Failure → Type 0
+Cuts target s r = Calls (Entries target s) (RefusesSection (CutFault target s)) (λ e f. f ≡ of_section e) r
+
+-- a section has a normal form of at most so many bytes
+abbrev pub Normalises : Target → ℕ → List ℕ → Result (Unit {0}) Failure → Type 0
+Normalises target cap s r = Calls (λ (_ : Unit {0}). IsWithin target cap s) (RefusesNormal (NormalFault target cap s)) (λ e f. f ≡ of_normal e) r
+
+-- two sections with normal forms of at most 2,147,483,647 bytes are compared
+abbrev pub Compares : Target → List ℕ → List ℕ → Result Bool Failure → Type 0
+Compares target s t r =
+    Calls (λ b. IsWithin target 2147483647 s × IsWithin target 2147483647 t × Decides b (SameMeaning target s t))
+    (SameFault target 2147483647 s t) OfSame r
+
+-- a block is decoded
+abbrev pub Decodes : Profile → Target → List ℕ → Result (List Op) Failure → Type 0
+Decodes profile target block r =
+    Calls (λ ops. IsBlock profile target ops block) (RefusesBlock (BlockFault profile target block)) (λ e f. f ≡ of_decode e) r
+
+-- a dump holds what its lines say
+abbrev pub Holds : Target → Text → Dump → Type 0
+Holds target text dump = (ss : List Statement) × Say (address_limit target.size) (lines_of text) ss × Describes dump ss
+
+-- a dump is read
+abbrev pub Parses : Target → Text → Result Dump Failure → Type 0
+Parses target text r = Calls (Holds target text) (RefusesDump (address_limit target.size) (lines_of text)) (λ e f. f ≡ of_dump e) r
+
+-- operations are evaluated over a dump, without a frame base, a CFA or an object
+abbrev pub Values : Target → List Op → Option ℕ → Dump → ℕ → Result ℕ Failure → Type 0
+Values target ops start dump steps r =
+    let Is = Evaluates ops (stopped target dump.registers (byte_in dump.memory)) (first_stack target.size start) steps in
+    Calls (λ v. Is (Ok v)) (λ e. (e ≡ eval_error.OutOfMemory) ⊎ Is (Err e)) (λ e f. f ≡ of_eval e) r
+
+-- a dump has a program counter
+abbrev pub Counts : Dump → Result ℕ Failure → Type 0
+Counts dump (Ok pc) = dump.pc ≡ Some pc
+Counts dump (Err f) = (dump.pc ≡ None) × (f ≡ failures.NoCounter)
+
+-- a frame of the caller is found from a program counter on
+abbrev pub Unwinds : Target → List ℕ → Dump → Policy → ℕ → ℕ → Result Frame Failure → Type 0
+Unwinds target s dump policy steps pc r =
+    let Is = Unwound target s pc (stopped target dump.registers (byte_in dump.memory)) policy steps in
+    Calls (λ frame. Is (Ok frame)) (λ e. (e ≡ unwind_error.OutOfMemory) ⊎ Is (Err e)) OfUnwind r
+
+-- the frame of a dump
+abbrev pub Frames : Target → List ℕ → Dump → Policy → ℕ → Result Frame Failure → Type 0
+Frames target s dump policy steps r = Then (Counts dump) (λ pc. Unwinds target s dump policy steps pc) r
+
+-- ---- the subcommands
+
+abbrev pub ExprEnds : Target → Profile → List ℕ → Result (Unit {0}) Failure → Type 0
+ExprEnds target profile block r = Then (Decodes profile target block) (λ _. Prints tt) r
+
+module _ (gives : Text → Result (List ℕ) LoadError → Type 0) (target : Target) where
+  abbrev pub CheckEnds : Text → Result (Unit {0}) Failure → Type 0
+  CheckEnds path r = Then (Loads gives path) (λ s. Then (Checks target s) (λ _. Prints tt)) r
+
+  abbrev pub RowsEnds : Text → Result (Unit {0}) Failure → Type 0
+  RowsEnds path r = Then (Loads gives path) (λ s. Then (Checks target s) (λ _. Prints tt)) r
+
+  abbrev pub EntriesEnds : Text → Result (Unit {0}) Failure → Type 0
+  EntriesEnds path r = Then (Loads gives path) (λ s. Then (Cuts target s) (λ _. Prints tt)) r
+
+  abbrev pub NormalEnds : ℕ → Text → Result (Unit {0}) Failure → Type 0
+  NormalEnds cap path r = Then (Loads gives path) (λ s. Then (Normalises target cap s) (λ _. Prints tt)) r
+
+  abbrev pub CostEnds : Text → Result (Unit {0}) Failure → Type 0
+  CostEnds path r =
+      Then (Loads gives path) (λ s. Then (Normalises target 2147483647 s) (λ _. Then (Checks target s) (λ _. Prints tt))) r
+
+  -- 0 where both say the same, 1 where not
+  abbrev pub SameEnds : Text → Text → Result ℕ Failure → Type 0
+  SameEnds path other r =
+      Then (Loads gives path) (λ s. Then (Loads gives other) (λ t. Then (Compares target s t) (λ b. Prints (if b then 0 else 1)))) r
+
+  abbrev pub EvalEnds : ℕ → Option ℕ → List ℕ → Option Text → Result (Unit {0}) Failure → Type 0
+  EvalEnds steps start block dump r =
+      Then (LoadsText gives dump) (λ text. Then (Decodes Location target block) (λ ops.
+      Then (Parses target text) (λ dump. Then (Values target ops start dump steps) (λ _. Prints tt)))) r
+
+  abbrev pub UnwindEnds : Policy → ℕ → Text → Text → Result (Unit {0}) Failure → Type 0
+  UnwindEnds policy steps path dump r =
+      Then (Loads gives path) (λ s. Then (LoadsDump gives dump) (λ text. Then (Checks target s) (λ _.
+      Then (Parses target text) (λ dump. Then (Frames target s dump policy steps) (λ _. Prints tt))))) r
+
+  -- status 0 comes after an answer
+  abbrev pub Done : (Result (Unit {0}) Failure → Type 0) → Result ℕ Failure → Type 0
+  Done Ends r = Then Ends (λ _ status. status ≡ Ok 0) r
+
+  -- the exit status of a subcommand, or why it has no answer
+  abbrev pub TaskEnds : Task → Result ℕ Failure → Type 0
+  TaskEnds (check path) r = Done (CheckEnds path) r
+  TaskEnds (cost path) r = Done (CostEnds path) r
+  TaskEnds (entries path) r = Done (EntriesEnds path) r
+  TaskEnds (eval steps start block dump) r = Done (EvalEnds steps start block dump) r
+  TaskEnds (expr profile block) r = Done (ExprEnds target profile block) r
+  TaskEnds (normal cap path) r = Done (NormalEnds cap path) r
+  TaskEnds (rows path) r = Done (RowsEnds path) r
+  TaskEnds (same path other) r = SameEnds path other r
+  TaskEnds (unwind policy steps path dump) r = Done (UnwindEnds policy steps path dump) r
+
+-- ---- the command
+
+-- words are planned
+abbrev pub Plans : List Text → Result Request Failure → Type 0
+Plans words r = Calls (λ request. Planned words (Ok request)) (λ e. Planned words (Err e)) (λ e f. f ≡ of_plan e) r
+
+module _ (gives : Text → Result (List ℕ) LoadError → Type 0) where
+  -- a text that is asked for is printed, a subcommand is run
+  abbrev pub Follows : Request → Result ℕ Failure → Type 0
+  Follows (requests.Run job) r = TaskEnds gives job.target (task_held job.task) r
+  Follows (requests.Help text) r = Prints 0 r
+
+  -- what a run of these words answers
+  abbrev pub Ends : List Text → Result ℕ Failure → Type 0
+  Ends words r = Then (Plans words) Follows r
+
+-- the exit status of an answer
+abbrev pub exit_of : Result ℕ Failure → ℕ
+exit_of (Ok status) = status
+exit_of (Err failure) = status_of failure

@@ -1,0 +1,109 @@
+-- Why a run has no answer: the exit status of a failure, and which failure an error of a call below becomes.
+use Rattle.std.specs.Prelude.{◌≡◌, ℕ, codes}
+use Rattle.clap.specs.Words.{Text}
+use Rattle.dw_num.specs.declared.refusal.Refusal.{Refusal}
+use Rattle.dw_op.specs.declared.decoding.DecodeError.{DecodeError}
+use Rattle.dw_op.specs.declared.decoding.DecodeError.TheVariants as decode_error
+use Rattle.dw_eval.specs.declared.error.EvalError.{EvalError}
+use Rattle.dw_eval.specs.declared.error.EvalError.TheVariants as eval_error
+use Rattle.dw_section.specs.declared.error.SectionError.{SectionError}
+use Rattle.dw_section.specs.declared.error.SectionError.TheVariants as section_error
+use Rattle.dw_normal.specs.declared.error.NormalError.{NormalError}
+use Rattle.dw_normal.specs.declared.error.NormalError.TheVariants as normal_error
+use Rattle.dw_normal.specs.declared.error.SameError.{SameError}
+use Rattle.dw_normal.specs.declared.error.SameError.TheVariants as same_error
+use Rattle.dw_normal.specs.declared.error.Which.TheVariants.{First, Second}
+use Rattle.dw_normal.specs.declared.error.WriteError.{WriteError}
+use Rattle.dw_normal.specs.declared.error.WriteError.TheVariants as write_error
+use Rattle.dw_unwind.specs.declared.fault.DumpError.{DumpError}
+use Rattle.dw_unwind.specs.declared.fault.DumpError.TheVariants as dump_error
+use Rattle.dw_unwind.specs.declared.frame.Column.{Column}
+use Rattle.dw_unwind.specs.declared.frame.UnwindError.{UnwindError}
+use Rattle.dw_unwind.specs.declared.frame.UnwindError.TheVariants as unwind_error
+use Rattle.dw_words.specs.declared.request.PlanError.{PlanError}
+use Rattle.dw_words.specs.declared.request.PlanError.TheVariants as plan_error
+use Rattle.dw_command.specs.declared.files.LoadError.{LoadError}
+use Rattle.dw_command.specs.declared.files.LoadError.TheVariants as load_error
+use Rattle.dw_command.specs.declared.failure.Failure.{Failure}
+use Rattle.dw_command.specs.declared.failure.Failure.TheVariants as failures
+
+-- the exit status of a failure: 2 for what is wrong with a section, a dump or an expression, 3 for wrong words,
+-- 4 for a file or an output that fails, 5 for want of memory
+abbrev pub status_of : Failure → ℕ
+status_of (failures.Refused refusal) = 2
+status_of (failures.RefusedIn refusal which) = 2
+status_of (failures.Dump fault) = 2
+status_of (failures.Evaluation kind index) = 2
+status_of (failures.Value kind index place) = 2
+status_of (failures.Column what place) = 2
+status_of failures.NoFde = 2
+status_of failures.NoCounter = 2
+status_of (failures.BadValue what) = 3
+status_of (failures.Words error) = 3
+status_of (failures.CannotRead path) = 4
+status_of failures.CannotWrite = 4
+status_of failures.OutOfMemory = 5
+
+-- ---- errors of the calls below
+
+abbrev pub of_plan : PlanError → Failure
+of_plan (plan_error.BadValue what) = failures.BadValue what
+of_plan (plan_error.Words error) = failures.Words error
+of_plan plan_error.OutOfMemory = failures.OutOfMemory
+
+abbrev pub of_section : SectionError → Failure
+of_section (section_error.Refused refusal) = failures.Refused refusal
+of_section section_error.OutOfMemory = failures.OutOfMemory
+
+abbrev pub of_normal : NormalError → Failure
+of_normal (normal_error.Refused refusal) = failures.Refused refusal
+of_normal normal_error.OutOfMemory = failures.OutOfMemory
+
+abbrev pub of_write : WriteError → Failure
+of_write (write_error.Refused refusal) = failures.Refused refusal
+of_write (write_error.Write written) = failures.CannotWrite
+of_write (write_error.Memory written) = failures.OutOfMemory
+
+abbrev pub of_decode : DecodeError → Failure
+of_decode (decode_error.Refused refusal) = failures.Refused refusal
+of_decode decode_error.OutOfMemory = failures.OutOfMemory
+
+abbrev pub of_dump : DumpError → Failure
+of_dump (dump_error.Fault fault) = failures.Dump fault
+of_dump dump_error.OutOfMemory = failures.OutOfMemory
+
+abbrev pub of_eval : EvalError → Failure
+of_eval (eval_error.Fault kind index) = failures.Evaluation kind index
+of_eval eval_error.OutOfMemory = failures.OutOfMemory
+
+-- ---- those that become a failure with a text or a column
+
+-- a refusal of the section that a text names
+abbrev pub IsIn : Refusal → Text → Failure → Type 0
+IsIn refusal which (failures.RefusedIn r text) = (r ≡ refusal) × (text.now ≡ which)
+IsIn refusal which failure = ⊥
+
+abbrev pub OfSame : SameError → Failure → Type 0
+OfSame (same_error.Refused First refusal) failure = IsIn refusal (codes "first") failure
+OfSame (same_error.Refused Second refusal) failure = IsIn refusal (codes "second") failure
+OfSame same_error.OutOfMemory failure = failure ≡ failures.OutOfMemory
+
+-- what a text says is wrong in a column
+abbrev pub IsWrongIn : Text → Column → Failure → Type 0
+IsWrongIn what column (failures.Column text place) = (text.now ≡ what) × (place.0 ≡ column)
+IsWrongIn what column failure = ⊥
+
+abbrev pub OfUnwind : UnwindError → Failure → Type 0
+OfUnwind unwind_error.NoFde failure = failure ≡ failures.NoFde
+OfUnwind (unwind_error.Eval kind index column) (failures.Value k i place) = (k ≡ kind) × (i ≡ index) × (place.0 ≡ column)
+OfUnwind (unwind_error.Eval kind index column) failure = ⊥
+OfUnwind (unwind_error.Unreadable column) failure = IsWrongIn (codes "Unreadable") column failure
+OfUnwind (unwind_error.Device column) failure = IsWrongIn (codes "Device") column failure
+OfUnwind (unwind_error.NoRegister column) failure = IsWrongIn (codes "NoRegister") column failure
+OfUnwind unwind_error.OutOfMemory failure = failure ≡ failures.OutOfMemory
+
+-- the file of a path that has no bytes
+abbrev pub OfLoad : Text → LoadError → Failure → Type 0
+OfLoad path load_error.CannotRead (failures.CannotRead text) = text.now ≡ path
+OfLoad path load_error.CannotRead failure = ⊥
+OfLoad path load_error.OutOfMemory failure = failure ≡ failures.OutOfMemory
