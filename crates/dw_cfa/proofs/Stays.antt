@@ -24,13 +24,14 @@ use Rattle.dw_cfa.specs.Machine.{State, after, fde_fault}
 use Rattle.dw_cfa.specs.Narrowing.{is_kept, kept}
 use Rattle.dw_cfa.specs.Reading.{instr_at}
 use Rattle.dw_cfa.specs.Rows.{Rules, is_specified, listed, put, rule, rule_in}
-use Rattle.dw_cfa.specs.Runs.{GivesRow, Outcome, Placed, Placing, after_item, ended, fault_or, fde_rows, finished, last_row, on_left, on_read, placed, placed_by, row_if, row_then, rows_left}
+use Rattle.dw_op.specs.Walks.{ended, on_read, on_left, walked_by}
+use Rattle.dw_cfa.specs.Runs.{GivesRow, Outcome, Placed, Placing, fault_or, fde_rows, finished, last_row, place_of, placed, row_if, row_then, rows_left}
 use Rattle.dw_cfa.specs.Stepping.{Stepping, progress_after}
 use Rattle.dw_cfa.specs.Steps.{state_of}
 use Rattle.dw_cfa.specs.Walking.{AllKeep, AllSpecify, Specifies, WalkKeeps, walk_of}
 use Rattle.dw_cfa.proofs.InstrLaws.{instr_found}
 use Rattle.dw_cfa.proofs.Narrowed.{left_too}
-use Rattle.dw_cfa.proofs.Placings.{reads}
+use Rattle.dw_cfa.proofs.Placings.{after_item, placed_by, reads}
 use Rattle.dw_cfa.proofs.RowLists.{Entry}
 use Rattle.dw_cfa.proofs.Spellings.{RuleSpells, IsSpelled, by_table}
 
@@ -65,7 +66,7 @@ on_read_give f i (Ok x) go h = h x refl
 on_read_give f i (Err e) go h = tt
 
 placed_by_give : (f : Factors) (n : ℕ) (i : Input) → AreBytes i.bytes → AllGive (placed_by f n i).items
-unfolding placed_by
+unfolding walked_by
 placed_by_give f zero i h = tt
 placed_by_give f (suc n) i h =
     on_left_give i.bytes (on_read (instr_at f i) (λ e. ended (Some e)) (λ x. after_item i.at x.0 (placed_by f n x.1)))
