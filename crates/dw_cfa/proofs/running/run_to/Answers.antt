@@ -18,9 +18,13 @@ instrs-preserved c =
     let a = c.from-address.result in
     let f = c.args.factors in
     let j = c.turn.new.cursor in
-    let m = c.turn.new.machine in
-    (moved.so, c.in-Moved.ensures.initial ∙ l.invariant.1, none_left f l.cursor l.machine j m moved a l.invariant.2, falls_left f l.cursor l.machine j m moved a l.invariant.3,
-     λ row e. goes_on f l.cursor l.machine j m moved a l.invariant.2 (omega (arith, c.if-machine-address.false)) row (l.invariant.4 row e))
+    let m = c.turn.new.machine in (
+      moved.so,
+      c.in-Moved.ensures.initial ∙ l.invariant.1,
+      none_left f l.cursor l.machine j m moved a l.invariant.2,
+      falls_left f l.cursor l.machine j m moved a l.invariant.3,
+      λ row e. goes_on f l.cursor l.machine j m moved a l.invariant.2 (omega (arith, c.if-machine-address.false)) row (l.invariant.4 row e),
+    )
 
 pub returns-clause-found : goal.returns-clause-found
 returns-clause-found c row e =
