@@ -1,11 +1,11 @@
-//! A line of text that is put together before it is printed.
+//! A text of a few lines that is put together before any of it is printed.
 
 use hex::encode_to_slice;
 use itoa::{Buffer, Integer};
 use std::alloc::{AllocError, Global};
 use std::io::{self, Write};
 
-/// Text that is to be printed at once. Its room is used again for the next line.
+/// Text that is to be printed at once.
 #[derive(Drop)]
 pub struct Line {
     text: Vec<u8>,

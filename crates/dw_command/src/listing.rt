@@ -53,8 +53,8 @@ fn hex_digits(number: u32) -> [u8; 8] {
         .to_be_bytes()
 }
 
-/// A text of many lines, which the output gets in long parts. What is put comes into room that `make_room` made. A list
-/// is printed in long parts since a write costs more than the bytes of a line.
+/// A text of many lines, which the output gets in long parts, since a write costs more than a line's bytes. What is put
+/// goes into room that `make_room` made before.
 #[derive(Drop)]
 pub struct Listing<W: Write> {
     out: W,
@@ -63,6 +63,7 @@ pub struct Listing<W: Write> {
 }
 
 impl<W: Write> Listing<W> {
+    /// What is put goes to `out`.
     pub fn new(out: W) -> Listing<W> {
         Listing {
             out,
@@ -107,12 +108,14 @@ impl<W: Write> Listing<W> {
         Ok(())
     }
 
+    /// These bytes.
     #[inline(always)]
     pub fn text(&mut self, text: &[u8])
         requires { self.old.len + length text.now ≤ ROOM }
         ensures { self.new.len ≡ self.old.len + length text.now }
     {
         let end = self.len + text.len();
+        // A loop over a text that is known becomes a store or two; `copy_from_slice` asks first whether both overlap.
         for (place, byte) in self.room[self.len..end].iter_mut().zip(text) {
             *place = *byte;
         }
