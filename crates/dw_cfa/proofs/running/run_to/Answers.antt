@@ -19,20 +19,27 @@ instrs-preserved c =
     let a = c.from-address.result in
     let f = c.args.factors in
     let j = c.turn.new.cursor in
-    let m = c.turn.new.machine in
-    (moved.so, c.in-Moved.ensures.initial ∙ l.invariant.1, none_left f l.cursor l.machine j m moved a l.invariant.2, falls_left f l.cursor l.machine j m moved a l.invariant.3,
-     λ row e. goes_on f l.cursor l.machine j m moved a l.invariant.2 (omega (arith, c.if-machine-address.false)) row (l.invariant.4 row e),
-     λ other all. keeps_left f l.cursor l.machine j m moved a other (l.invariant.5 other all))
+    let m = c.turn.new.machine in (
+      moved.so,
+      c.in-Moved.ensures.initial ∙ l.invariant.1,
+      none_left f l.cursor l.machine j m moved a l.invariant.2,
+      falls_left f l.cursor l.machine j m moved a l.invariant.3,
+      λ row e. goes_on f l.cursor l.machine j m moved a l.invariant.2 (omega (arith, c.if-machine-address.false)) row (l.invariant.4 row e),
+      λ other all. keeps_left f l.cursor l.machine j m moved a other (l.invariant.5 other all),
+    )
 
 pub instrs-preserved-in-On : goal.instrs-preserved-in-On
 instrs-preserved-in-On c =
     let l = c.instrs in
     let on = c.in-On.ensures.turned in
-    let same = on.rows in
-    (on.so, c.in-On.ensures.initial ∙ l.invariant.1, sym (ap (λ (o : Outcome). o.fault) same) ∙ l.invariant.2,
-     subst (λ (o : Outcome). (low : ℕ) × NeverFalls low o.rows) same l.invariant.3,
-     λ row e. sym (ap (λ (o : Outcome). last_at c.from-address.result o.rows) same) ∙ l.invariant.4 row e,
-     λ other all. subst (λ (o : Outcome). AllSpecify other o.rows) same (l.invariant.5 other all))
+    let same = on.rows in (
+      on.so,
+      c.in-On.ensures.initial ∙ l.invariant.1,
+      sym (ap (λ (o : Outcome). o.fault) same) ∙ l.invariant.2,
+      subst (λ (o : Outcome). (low : ℕ) × NeverFalls low o.rows) same l.invariant.3,
+      λ row e. sym (ap (λ (o : Outcome). last_at c.from-address.result o.rows) same) ∙ l.invariant.4 row e,
+      λ other all. subst (λ (o : Outcome). AllSpecify other o.rows) same (l.invariant.5 other all),
+    )
 
 pub returns-clause-found : goal.returns-clause-found
 returns-clause-found c row e =
