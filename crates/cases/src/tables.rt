@@ -4,7 +4,7 @@ use crate::lines::{compare, number, parts};
 use crate::sections::{section_of, table_of};
 use crate::targets::LITTLE;
 use crate::texts::row_text;
-use dw_section::Table;
+use dw_section::{Lookups, Table};
 use std::alloc::Global;
 use std::test::Fail;
 
@@ -58,4 +58,42 @@ const PLAIN: &str = "\
 fn finds_addresses(rt: HostRuntime) -> Result<(), Fail> {
     agree_all(rt.alloc(), "three 28=8000 38=f0ffffffffffffff", THREE)?;
     agree_all(rt.alloc(), "plain", PLAIN)
+}
+
+// ---- one look-up after another
+
+// What a look-up finds: the row that it lends.
+fn looked_up(alloc: Global, lookups: &mut Lookups<'_, '_>, address: u64) -> Result<String, Fail> {
+    match (lookups.find(address)?, lookups.row()) {
+        (true, Some(row)) => row_text(alloc, row),
+        (false, None) => Ok(String::from_str(alloc, "none")?),
+        _ => Err(Fail::new("a row that is not found, or none that is")),
+    }
+}
+
+// In no order, of FDEs of two CIEs: back in one FDE, once more, beside all FDEs, and from one CIE to the other.
+const LOOK_UPS: &str = "\
+401004: cfa=r6+16 r6=[cfa-16] r16=[cfa-8]
+401000: cfa=r7+8 r16=[cfa-8]
+401010: none
+1004: cfa=r7+16 r6=[cfa-16] r16=[cfa-8]
+1004: cfa=r7+16 r6=[cfa-16] r16=[cfa-8]
+1003: cfa=r7+8 r16=[cfa-8]
+40100f: cfa=r7+8 r6=[cfa-16] r16=[cfa-8]
+100f: cfa=r7+8 r16=[cfa-8]
+fff: none
+401003: cfa=r7+16 r6=[cfa-16] r16=[cfa-8]";
+
+#[test]
+fn looks_addresses_up(rt: HostRuntime) -> Result<(), Fail> {
+    let alloc = rt.alloc();
+    let bytes = section_of(alloc, "two")?;
+    let table = table_of(alloc, &bytes, LITTLE)?;
+    let mut lookups = table.lookups();
+    for line in LOOK_UPS.lines() {
+        let (address, wanted) = parts(line)?;
+        let text = looked_up(alloc, &mut lookups, number(address)?)?;
+        compare(line, text.as_str(), wanted)?;
+    }
+    Ok(())
 }
