@@ -15,7 +15,7 @@ use Rattle.dw_canon.specs.Bound.{share, Shares, WithinShares}
 use Rattle.dw_canon.specs.Canon.{canon, cie_instrs, initial_of, return_registers, group_of, groups_of, part_of, parts_of}
 use Rattle.dw_canon.specs.Fits.{MemberStands}
 use Rattle.dw_canon.specs.Group.{group}
-use Rattle.dw_canon.specs.Laid.{cie_of, laid}
+use Rattle.dw_canon.specs.Laid.{cie_of}
 use Rattle.dw_canon.specs.Laid as layout
 use Rattle.dw_canon.specs.Members.{Member, IsMember, AreMembers, fde_of, changes_of}
 use Rattle.dw_canon.specs.Spelling.{program_bytes}

@@ -1,5 +1,5 @@
 -- The rows of a run are those that its programs give.
-use Rattle.std.proofs.Common.{◌≡◌, ℕ, zero, suc, ◌≤◌, Bool, true, false, List, [], ◌∷◌, ◌++◌, length, map, Option, Some, None, Result, Ok, Err, refl, sym, ap, ◌∙◌, subst, inl, inr, arith, ◌⊎◌}
+use Rattle.std.proofs.Common.{◌≡◌, ℕ, suc, ◌≤◌, Bool, true, false, List, [], ◌∷◌, ◌++◌, length, map, Option, Some, None, Result, Ok, Err, refl, sym, ap, ◌∙◌, subst, inl, inr, ◌⊎◌}
 use Rattle.std.specs.Prelude.{if◌then◌else◌}
 use Rattle.std.proofs.lemmas.List.{append-nil}
 use Rattle.dw_num.specs.declared.refusal.Refusal.{Refusal}
@@ -13,17 +13,17 @@ use Rattle.dw_num.specs.declared.refusal.Code.{Code}
 use Rattle.dw_cfa.specs.Location.{onto, location_back, moves_location}
 use Rattle.dw_cfa.specs.Rows.{Rules, blank}
 use Rattle.dw_cfa.specs.Machine.{State, begun, after, fde_fault}
-use Rattle.dw_cfa.specs.Runs.{Placed, Outcome, finished, placed, row_if, fails, on_initial, initial_row, run_rows, fde_rows, RefusalIs}
+use Rattle.dw_cfa.specs.Runs.{Placed, Outcome, finished, placed, row_if, on_initial, initial_row, run_rows, fde_rows, RefusalIs}
 use Rattle.dw_cfa.specs.Stepping.{Stepping, Answers, rows_before}
 use Rattle.dw_cfa.specs.declared.running.RunError.{RunError}
 use Rattle.dw_cfa.specs.declared.running.RunError.TheVariants.{Refused, OutOfMemory}
-use Rattle.dw_cfa.specs.Faults.{CieFault, FdeFaultBehind, RunFault}
+use Rattle.dw_cfa.specs.Faults.{FdeFaultBehind, RunFault}
 use Rattle.dw_cfa.specs.Gives.{ends, IsRowAfter, AreRowsAfter, Gives, GivesBefore, RunsWhereGiven, RowsBeforeFault}
 use Rattle.dw_cfa.proofs.Forward.{Follows, Holds, after_follows, begun_follows}
 use Rattle.dw_cfa.proofs.RowsAt.{instrs_of, Gives as RunGives}
 use Rattle.dw_cfa.proofs.KeptRuns.{next_gives}
 use Rattle.dw_cfa.proofs.Initial.{cie_follows}
-use Rattle.dw_cfa.proofs.Stops.{ends as state_behind, StopsAt, StopsBehind, stops}
+use Rattle.dw_cfa.proofs.Stops.{ends as state_behind, StopsAt, stops}
 use Rattle.dw_cfa.proofs.FaultLaws.{leaves, found_at, found_behind, cie_fault_found, refused_where_fault}
 use Rattle.dw_cfa.proofs.RunLaws.{given, held, program_placed, placed_program}
 use Rattle.dw_cfa.proofs.KeptLaws.{given_keep, rows_where_kept}

@@ -1,5 +1,5 @@
 -- Whether rows leave an address without a rule for the CFA, as a program is run.
-use Rattle.std.proofs.Common.{◌≡◌, ℕ, Bool, true, false, List, [], ◌∷◌, Option, None, refl, sym, ap, ◌∙◌}
+use Rattle.std.proofs.Common.{◌≡◌, ℕ, Bool, true, false, List, [], ◌∷◌, None, refl, sym, ap, ◌∙◌}
 use Rattle.std.specs.Prelude.{◌||◌}
 use Rattle.dw_num.specs.Input.{Input}
 use Rattle.dw_cfa.specs.declared.instr.Factors.{Factors}

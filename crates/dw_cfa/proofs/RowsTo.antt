@@ -11,8 +11,7 @@ use Rattle.dw_cfa.specs.RuleAt.{or_here, last_at, NeverFalls}
 use Rattle.dw_cfa.specs.Rows.{Rules}
 use Rattle.dw_cfa.specs.Runs.{Outcome, finished, row_then, rows_left}
 use Rattle.dw_cfa.proofs.RowsAt.{none_at}
-use Rattle.dw_cfa.specs.Machine.{State}
-use Rattle.dw_cfa.specs.Runs.{RanTo, here, row_if}
+use Rattle.dw_cfa.specs.Runs.{RanTo, here}
 use Rattle.dw_cfa.specs.Steps.{state_of}
 use Rattle.dw_cfa.specs.Walking.{AllSpecify}
 use Rattle.dw_cfa.proofs.RunSteps.{rows_end}

@@ -1,13 +1,12 @@
 -- What the table reads of an opcode is what the code reads.
-use Rattle.std.proofs.Common.{◌≡◌, ℕ, ◌^◌, Bool, true, false, Option, Some, None, Result, Ok, Err, refl, sym, ap, ◌∙◌}
+use Rattle.std.proofs.Common.{◌≡◌, ℕ, ◌^◌, Bool, true, false, Option, Some, Ok, Err, refl, sym, ap, ◌∙◌}
 use Rattle.std.specs.Prelude.{ℤ, pos, ◌*ℤ◌, unsigned_abs, nat_lt}
-use Rattle.dw_num.specs.declared.refusal.Refusal.{Refusal}
 use Rattle.dw_num.specs.Input.{Input}
 use Rattle.dw_num.specs.Reading.{Read, fixed_at, register_at, uleb_at, sleb_at, address_at, ◌>>=◌}
 use Rattle.dw_op.specs.Expression.{Expression}
 use Rattle.dw_cfa.specs.declared.instr.Factors.{Factors}
 use Rattle.dw_cfa.specs.declared.instr.Instr.{Instr}
-use Rattle.dw_cfa.specs.declared.instr.Instr.TheVariants.{SetLoc, DefCfa, DefCfaRegister, DefCfaOffset, DefCfaExpression, Set, Restore}
+use Rattle.dw_cfa.specs.declared.instr.Instr.TheVariants.{SetLoc, DefCfa, DefCfaRegister, DefCfaOffset, DefCfaExpression, Restore}
 use Rattle.dw_cfa.specs.declared.reading.Opcode.{Opcode}
 use Rattle.dw_cfa.specs.declared.reading.Opcode.TheVariants as opcodes
 use Rattle.dw_cfa.specs.declared.rule.RegRule.TheVariants as rules

@@ -60,9 +60,6 @@ led_is f cie fde m begin is row none location limit = rw (is, row, none, locatio
 pub led_ran : (l : Leading) (fde : Input) (old m : Machine) → RunsSo old fde → Readied l old m → rows_left l.factors fde m ≡ led_rows l fde old.location
 led_ran l fde old m so r = led_is l.factors (program_input l.program l.target) fde m old.location r.initial r.row r.none r.location (r.limit ∙ so.limit)
 
-pub led_so : (l : Leading) (fde : Input) (old m : Machine) → RunsSo old fde → Readied l old m → RunsSo m fde
-led_so l fde old m so r = record { limit = r.limit ∙ so.limit; within = rw (r.location, r.limit) so.within; first = r.first }
-
 -- ---- where the next row starts
 
 module _ (f : Factors) (cie fde : Input) (begin : ℕ) where

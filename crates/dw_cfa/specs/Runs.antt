@@ -1,10 +1,9 @@
 -- Runs of whole programs, and the rows that they give: DWARF 5, 6.4.3.
-use Rattle.std.specs.Prelude.{◌≡◌, ℕ, zero, suc, ◌<◌, ◌≤◌, List, [], ◌∷◌, length, Bool, IsTrue, Option, Some, None, Result, Ok, Err, if◌then◌else◌}
+use Rattle.std.specs.Prelude.{◌≡◌, ℕ, ◌<◌, ◌≤◌, List, [], ◌∷◌, length, Bool, IsTrue, Option, Some, None, Result, Ok, Err, if◌then◌else◌}
 use Rattle.dw_num.specs.declared.refusal.Code.{Code}
 use Rattle.dw_num.specs.declared.refusal.Refusal.{Refusal}
 use Rattle.dw_num.specs.Target.{address_limit}
 use Rattle.dw_num.specs.Input.{Input}
-use Rattle.dw_num.specs.Reading.{Read}
 use Rattle.dw_op.specs.Walks.{Walked, walked}
 use Rattle.dw_cfa.specs.declared.instr.Factors.{Factors}
 use Rattle.dw_cfa.specs.declared.instr.Instr.{Instr}

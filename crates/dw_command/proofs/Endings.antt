@@ -45,9 +45,6 @@ lent gives path s t is h = rw is h
 pub dump_lent : (gives : Text → Result (List ℕ) LoadError → Type 0) (path : Text) (s t : List ℕ) → t ≡ s → LoadsDump gives path (Ok s) → LoadsDump gives path (Ok t)
 dump_lent gives path s t is h = rw is h
 
-pub text_lent : (gives : Text → Result (List ℕ) LoadError → Type 0) (path : Option Text) (s t : List ℕ) → t ≡ s → LoadsText gives path (Ok s) → LoadsText gives path (Ok t)
-text_lent gives path s t is h = rw is h
-
 -- what was loaded, and stands behind a change of its error
 pub loaded : {V : Type 0} (P : V → Type 0) (Q : LoadError → Type 0) (r : Result V LoadError) (v : V)
     → MatchResult r P Q → MatchResult r (λ x. ◌≡◌ {A = Result V Failure} (Ok v) (Ok x)) (λ _. ⊥) → P v

@@ -3,7 +3,7 @@
 ghost use Rattle.std.specs.Prelude.{◌≡◌, ℕ, ◌≤◌, Result, Ok, IfOk, map, string_bytes};
 ghost use Rattle.std.specs.Result.{result_map_both};
 ghost use Rattle.dw_words.specs.Plan.{task_held};
-ghost use Rattle.dw_command.specs.Answers.{Ends, Prints, TaskEnds, exit_of};
+ghost use Rattle.dw_command.specs.Answers.{Ends, TaskEnds, exit_of};
 ghost use Rattle.dw_command.specs.declared.failure.Failure.{Failure as TheFailure};
 
 use crate::check::run_check;

@@ -1,6 +1,6 @@
 //! Files as the subcommands read them.
 
-ghost use Rattle.std.specs.Prelude.{◌≡◌, ℕ, ◌≤◌, List, length, Option, option_map, Result, Ok, Err, IfOk, MatchResult};
+ghost use Rattle.std.specs.Prelude.{ℕ, List, Option, option_map, Result, Ok, Err, MatchResult};
 ghost use Rattle.dw_command.specs.Answers.{Loads, LoadsDump, LoadsText};
 ghost use Rattle.dw_command.specs.declared.files.LoadError.{LoadError as TheLoadError};
 

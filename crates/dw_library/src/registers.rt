@@ -1,6 +1,6 @@
 //! Registers that a caller lends, and those that it is told.
 
-ghost use Rattle.std.specs.Prelude.{◌≡◌, ◌≤◌, ℕ, IfOk, OnOk, OnErr, map, length};
+ghost use Rattle.std.specs.Prelude.{◌≡◌, ℕ, IfOk, OnOk, OnErr, map};
 ghost use Rattle.dw_eval.specs.Registers.{held};
 ghost use Rattle.dw_library.specs.Registers.{first_of, value_in, given_in, told_register, AreTold};
 

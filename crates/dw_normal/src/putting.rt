@@ -1,10 +1,7 @@
 //! Instructions as the normal form spells them.
 
-ghost use Rattle.std.specs.Prelude.{◌≡◌, ◌++◌, ◌∷◌, [], ◌<◌, ◌^◌, OnOk};
-ghost use Rattle.std.specs.Int.{is_positive, is_negative};
+ghost use Rattle.std.specs.Prelude.{◌≡◌, ◌++◌, ◌<◌, OnOk};
 ghost use Rattle.dw_num.specs.Shortest.{shortest_uleb, shortest_sleb};
-ghost use Rattle.dw_num.specs.Fixed.{fixed_bytes};
-ghost use Rattle.dw_cfa.specs.InstrSpells.{IsOffset};
 ghost use Rattle.dw_section.specs.Sound.{HasBlock, RuleFits};
 ghost use Rattle.dw_canon.specs.Fits.{InstrFits};
 ghost use Rattle.dw_canon.specs.Spelling.{expression_bytes, advance_bytes, packed, rule_bytes, instr_bytes};

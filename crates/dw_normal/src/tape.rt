@@ -1,6 +1,6 @@
 //! Sinks: one that keeps its bytes, and one over a writer.
 
-ghost use Rattle.std.specs.Prelude.{◌≡◌, ℕ, List, [], Option, Some, None};
+ghost use Rattle.std.specs.Prelude.{◌≡◌, [], Some, None};
 
 use crate::sink::{Sink, SinkFault};
 use std::alloc::Global;

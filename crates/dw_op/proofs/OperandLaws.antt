@@ -30,7 +30,7 @@ use Rattle.dw_op.specs.Expression.{bare}
 use Rattle.dw_op.specs.OpSpells.{OpSpells, modulo, Constu, Consts}
 use Rattle.dw_op.specs.Profile.{in_frame}
 use Rattle.dw_op.specs.Operands as fields
-use Rattle.dw_op.specs.Operands.{Field, listed, operand_fields, fields_of, past, sized, counted, field_at, fields_at}
+use Rattle.dw_op.specs.Operands.{Field, listed, operand_fields, fields_of, past, sized, counted, fields_at}
 use Rattle.dw_op.specs.Faults.{op_allowed, HasCode, OpFault}
 use Rattle.dw_op.specs.Reading.{look_up, plain_table, plain_op, operand_table, alone, or_else, in_range, opcode_of, code_in_frame, allows, with_op, width_of, signed_of, with_jump, after_register, size_in, after_size, implicit, after_length, operands_at, judged, step_at}
 use Rattle.dw_op.specs.ByOpcode.{address_step, unsigned_step, signed_step, uconst_step, sconst_step, pick_step, plus_step, jump_step, breg_step, long_reg_step, long_breg_step, fbreg_step, piece_step, deref_size_step, bit_piece_step, implicit_step}
@@ -47,10 +47,6 @@ same_end n i = elim (cases_lt (length i.bytes) n) [
   | inl short ↦ rw (lt-ltb (length i.bytes) n short) refl
   | inr long ↦ rw (le-ltb (length i.bytes) n long) refl
 ]
-
-one_end : (r : Result Input Refusal) → r >>= fields_at [] ≡ r
-one_end (Ok i) = refl
-one_end (Err r) = refl
 
 op_end : {X : Type 0} (read : Read X) (make : X → Op) → past (read >>= with_op make) ≡ past read >>= fields_at []
 op_end (Ok x) make = refl

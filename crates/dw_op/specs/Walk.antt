@@ -1,10 +1,9 @@
 -- The operations of a block one after another, and what its branches name, as the code finds them. Block.antt and Faults.antt say the same without it.
-use Rattle.std.specs.Prelude.{ℕ, zero, suc, ◌+◌, ◌-◌, ◌≤◌, List, [], ◌∷◌, length, Option, Some, None, Result, Ok, Err, nat_eq, nat_lt, if◌then◌else◌}
+use Rattle.std.specs.Prelude.{ℕ, suc, ◌+◌, ◌-◌, ◌≤◌, List, [], ◌∷◌, length, Option, Some, None, Result, Ok, Err, nat_eq, nat_lt, if◌then◌else◌}
 use Rattle.dw_num.specs.declared.refusal.Code.TheVariants.{BadBranch}
 use Rattle.dw_num.specs.declared.refusal.Refusal.{Refusal}
 use Rattle.dw_num.specs.declared.target.Target.{Target}
 use Rattle.dw_num.specs.Input.{Input}
-use Rattle.dw_num.specs.Reading.{Read}
 use Rattle.dw_op.specs.declared.op.Op.{Op}
 use Rattle.dw_op.specs.declared.op.Op.TheVariants as ops
 use Rattle.dw_op.specs.declared.profile.Profile.{Profile}

@@ -1,5 +1,5 @@
 -- How long the programs are of an FDE of a table.
-use Rattle.std.proofs.Common.{◌≡◌, ℕ, List, length, refl, sym, ap}
+use Rattle.std.proofs.Common.{ℕ, List, length, refl, sym, ap}
 use Rattle.dw_num.specs.declared.target.Target.{Target}
 use Rattle.dw_num.specs.Span.{span_of}
 use Rattle.dw_section.specs.declared.rereading.FoundFde.{FoundFde}

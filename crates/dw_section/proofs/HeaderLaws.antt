@@ -144,15 +144,3 @@ fdes_more target ps places p w is = record {
 pub cie_never : {X : Type 0} (view : X → Head) (target : Target) (p : Piece) (r : Result X Refusal) (Q : Refusal → Type 0) → CieHolds target p → p.kind ≡ kind.Cie → Answers view r (cie_at target p) → IfErr r Q
 cie_never view target p (Ok x) Q h is a = tt
 cie_never view target p (Err e) Q h is a = absurd (cie_apart target p e h (is, a))
-
-pub fdes_first : {V : Type 0} (target : Target) (s : List ℕ) (r : Result V SectionError) (ps qs rs : List Piece) (vs places : List ℕ) → Pieces target s ps → AllByRecursion (CieHolds target) qs → vs ≡ cie_places qs → qs ≡ ps → rs ≡ ps → places ≡ vs
-    → IfErr r (Refuses (FirstStuck (FdeHolds target places) (FdeStuck target places) rs)) → IfErr r (Refuses (HeadersFault target s))
-fdes_first target s (Ok v) ps qs rs vs places cut hold are q-is r-is p-is first = tt
-fdes_first target s (Err OutOfMemory) ps qs rs vs places cut hold are q-is r-is p-is first = tt
-fdes_first target s (Err (Refused e)) ps qs rs vs places cut hold are q-is r-is p-is first =
-    let places-is : places ≡ cie_places ps = p-is ∙ are ∙ ap cie_places q-is in
-    inr (
-      ps,
-      (cut, subst (AllByRecursion (CieHolds target)) q-is hold),
-      subst (λ (l : List ℕ). FirstStuck (FdeHolds target l) (FdeStuck target l) ps e) places-is (subst (λ (l : List Piece). FirstStuck (FdeHolds target places) (FdeStuck target places) l e) r-is first),
-    )

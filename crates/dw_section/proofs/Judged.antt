@@ -1,5 +1,5 @@
 -- What running programs tells of headers.
-use Rattle.std.proofs.Common.{◌≡◌, ℕ, zero, suc, ◌+◌, ◌<◌, ◌≤◌, Bool, true, false, List, [], ◌∷◌, ◌++◌, map, length, get_or, set, take, drop, Option, Some, None, Result, Ok, refl, sym, ap, subst, ◌∙◌, append_assoc, arith, inl, inr}
+use Rattle.std.proofs.Common.{◌≡◌, ℕ, zero, suc, ◌+◌, ◌<◌, ◌≤◌, Bool, true, false, List, [], ◌∷◌, ◌++◌, map, length, get_or, set, Option, Some, None, Result, Ok, refl, sym, ap, subst, ◌∙◌, append_assoc, arith, inl, inr}
 use Rattle.std.specs.Prelude.{nat_lt}
 use Rattle.std.specs.List.{AllByRecursion}
 use Rattle.std.specs.List.Sorted.{IsNonDecreasingBy}
@@ -37,16 +37,14 @@ use Rattle.dw_section.specs.declared.error.SectionError.TheVariants.{Refused, Ou
 use Rattle.dw_section.specs.declared.judging.Initial.{Initial}
 use Rattle.dw_section.specs.FdeFields.{is_among}
 use Rattle.dw_section.specs.Faults.{Refuses}
-use Rattle.dw_section.specs.declared.heading.Header.{Header}
-use Rattle.dw_section.specs.Headers.{Head, cie, fde, head_in}
+use Rattle.dw_section.specs.Headers.{Head, cie, fde}
 use Rattle.dw_section.specs.Heads.{head_at, cie_at_of, cie_ats}
 use Rattle.dw_section.specs.Initials.{of_run, or_place, place_of, IsInitial, IsBehind, AreInitials, HasOrLacks, FirstLacking}
 use Rattle.dw_section.specs.Places.{Rises}
 use Rattle.dw_section.specs.Programs.{input_of, IsAmong, Begins, Instrs, CieRuns, FdeRuns, FdeBroken, HasRules, LacksRule}
 use Rattle.dw_cfa.proofs.Counting.{counts_exists}
 use Rattle.dw_section.proofs.Covered.{lacks_found, lacks_none, unset_is, is_unset_of}
-use Rattle.dw_section.proofs.Heads.{is_among_head}
-use Rattle.dw_section.proofs.Stages.{all_push, parts}
+use Rattle.dw_section.proofs.Stages.{all_push}
 
 -- ---- errors
 
@@ -122,9 +120,6 @@ all_get P (x ∷ xs) zero d h lt = h.0
 all_get P (x ∷ xs) (suc i) d h lt = all_get P xs i d h.1 (omega arith)
 
 -- ---- a header of a list is among them
-
-pub item_among : (xs : List Header) (i : ℕ) (x : Header) → i < length xs → x ≡ get_or xs i x → IsAmong (head_in x) (map head_in xs)
-item_among xs i x lt is = subst (IsAmong (head_in x)) (sym (parts head_in xs i x lt is)) (is_among_head (map head_in (take i xs)) (head_in x) (map head_in (drop (i + 1) xs)))
 
 -- ---- the rows of an FDE's program
 

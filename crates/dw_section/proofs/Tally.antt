@@ -10,7 +10,7 @@ use Rattle.dw_section.specs.declared.cutting.EntryCounts.{EntryCounts}
 use Rattle.dw_section.specs.declared.cutting.Kind.{Kind}
 use Rattle.dw_section.specs.declared.cutting.Kind.TheVariants.{Cie, Fde}
 use Rattle.dw_section.specs.Counts.{AreCounts, counted_by}
-use Rattle.dw_section.specs.Cut.{gap, entry, IsItem, item_bytes, is_cie, all_bytes, Piece}
+use Rattle.dw_section.specs.Cut.{gap, entry, IsItem, item_bytes, is_cie, Piece}
 use Rattle.dw_section.specs.Places.{cie_places}
 use Rattle.dw_section.proofs.Items.{IsWalked, walked_more, walked_entry, item_some}
 
@@ -32,10 +32,6 @@ pub record IsTallied (target : Target) (s : List ℕ) (now : Input) (n : EntryCo
   pub walked : IsWalked target s now parts
   pub counts : AreCounts parts n
   pub few : n.cies + n.fdes ≤ now.at
-
--- there are fewer entries than bytes
-pub tallied_few : (target : Target) (s : List ℕ) (now : Input) (n : EntryCounts) → IsTallied target s now n → n.cies + n.fdes ≤ length s
-tallied_few target s now n w = omega (arith, w.few, w.walked.place, ap length w.walked.whole, length-append (all_bytes target.order w.walked.items) now.bytes)
 
 few_by : (n : EntryCounts) (kind : Kind) (a b : ℕ) → n.cies + n.fdes ≤ a → a + 4 ≤ b → (counted_by n kind).cies + (counted_by n kind).fdes ≤ b
 few_by n Cie a b le lt = omega arith

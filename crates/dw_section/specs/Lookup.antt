@@ -1,8 +1,7 @@
 -- What the code lists of nonempty FDEs.
-use Rattle.std.specs.Prelude.{ℕ, ◌+◌, ◌<◌, List, Option, Some, None}
+use Rattle.std.specs.Prelude.{ℕ, ◌+◌, ◌<◌, List}
 use Rattle.dw_num.specs.declared.target.Target.{Target}
 use Rattle.dw_num.specs.Span.{span_of}
-use Rattle.dw_cfa.specs.Rows.{Rules}
 use Rattle.dw_cfa.specs.Runs.{Outcome, run_rows}
 use Rattle.dw_section.specs.Accepted.{RulesHold}
 use Rattle.dw_section.specs.Headers.{Head}
@@ -28,8 +27,3 @@ pub record IsFoundIn (target : Target) (s : List ℕ) (e : FoundFde) : Type 0 wh
 -- the rows of an FDE
 abbrev pub rows_of : Target → FoundFde → Outcome
 rows_of target e = run_rows e.factors (input_of target (span_of e.cie_program)) (input_of target (span_of e.program)) e.begin
-
--- a row, or the one before
-abbrev pub or_row : Rules → Option Rules → Rules
-or_row before None = before
-or_row before (Some row) = row

@@ -1,6 +1,6 @@
 //! Cutting a section into its entries (6.4.1, 7.4).
 
-ghost use Rattle.std.specs.Prelude.{◌≡◌, ℕ, ◌+◌, map, ◌<◌, ◌≤◌, ◌==◌, List, length, MatchResult, IfOk, IfErr, IfSome};
+ghost use Rattle.std.specs.Prelude.{◌≡◌, ℕ, ◌+◌, ◌<◌, ◌≤◌, ◌==◌, List, length, MatchResult, IfOk, IfErr, IfSome};
 ghost use Rattle.std.specs.List.{list_all};
 ghost use Rattle.dw_num.specs.declared.target.Order.{Order};
 ghost use Rattle.dw_num.specs.declared.target.Target.{Target};
@@ -11,7 +11,7 @@ ghost use Rattle.dw_num.specs.Reading.{Gives};
 ghost use Rattle.dw_section.specs.Cut.{Cut, Item, IsItem, Piece, item_bytes, is_cie, id_width};
 ghost use Rattle.dw_section.specs.Counts.{AreCounts, counted_by};
 ghost use Rattle.dw_section.specs.Left.{PiecesLeft, GivesPiece, GoesOn};
-ghost use Rattle.dw_section.specs.Pieces.{Pieces, Entries, piece_in, IsPlaced};
+ghost use Rattle.dw_section.specs.Pieces.{Pieces, Entries, IsPlaced};
 ghost use Rattle.dw_section.specs.Faults.{item_at, item_of, CutFault, Refuses};
 ghost use Rattle.dw_section.specs.FaultPlaces.{IsWithin};
 ghost use Rattle.dw_section.specs.declared.cutting.Entry.{Entry};

@@ -1,13 +1,9 @@
 //! Look-ups of addresses in a table, one after another (6.4.1).
 
-ghost use Rattle.std.specs.Prelude.{◌≡◌, ◌↔◌, ◌≤◌, ℕ, false, IsTrue, List, [], ◌∷◌, Some, None, IfOk, IfErr, OnOk, MatchOption};
-ghost use Rattle.dw_cfa.specs.declared.running.LocatedRow.{LocatedRow};
-ghost use Rattle.dw_cfa.specs.declared.running.RunError.TheVariants.{OutOfMemory};
-ghost use Rattle.dw_cfa.specs.RuleAt.{last_at, NeverFalls};
-ghost use Rattle.dw_cfa.specs.Rows.{Rules};
+ghost use Rattle.std.specs.Prelude.{◌≡◌, ℕ, false, List, Some, None, IfOk, OnOk, MatchOption};
 ghost use Rattle.dw_section.specs.declared.lookup.Fde.{Fde as TheFde};
 ghost use Rattle.dw_section.specs.Finding.{LooksUp, RunsTo};
-ghost use Rattle.dw_section.specs.Meaning.{AreFdes, NoneCovers, RulesAt};
+ghost use Rattle.dw_section.specs.Meaning.{AreFdes, RulesAt};
 
 use crate::rereading::FoundFde;
 use crate::table::Table;

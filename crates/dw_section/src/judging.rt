@@ -14,7 +14,6 @@ ghost use Rattle.dw_cfa.specs.declared.running.LocatedRow.{LocatedRow};
 ghost use Rattle.dw_cfa.specs.Behind.{GivesBehind};
 ghost use Rattle.dw_cfa.specs.Faults.{CieFault, FdeFault};
 ghost use Rattle.dw_cfa.specs.Following.{with_steps};
-ghost use Rattle.dw_cfa.specs.Runs.{RefusalIs};
 ghost use Rattle.dw_cfa.specs.Lacking.{lacks_from};
 ghost use Rattle.dw_section.specs.FdeFields.{is_among};
 ghost use Rattle.dw_section.specs.Faults.{Refuses};

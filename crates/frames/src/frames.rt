@@ -1,6 +1,6 @@
 //! Worked frames: plain ones, each fault, and a memory whose device fails.
 
-ghost use Rattle.std.specs.Prelude.{◌≡◌, ◌+◌, ◌-◌, ◌^◌, ◌<◌, ◌≤◌};
+ghost use Rattle.std.specs.Prelude.{◌+◌, ◌-◌, ◌<◌};
 ghost use Rattle.dw_unwind.specs.Ranges.{byte_in};
 
 use dw_eval::{Memory, ReadFault};

@@ -1,6 +1,6 @@
 //! A memory of no byte, and one whose device fails.
 
-ghost use Rattle.std.specs.Prelude.{◌≡◌, ℕ, ◌≤◌, Option, Some, None};
+ghost use Rattle.std.specs.Prelude.{◌≡◌, ℕ, ◌≤◌, Some, None};
 ghost use Rattle.dw_num.specs.declared.target.Order.{Order as TheOrder};
 ghost use Rattle.dw_eval.specs.Bytes.{number_at};
 

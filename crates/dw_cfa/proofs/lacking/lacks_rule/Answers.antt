@@ -1,4 +1,4 @@
-use Rattle.std.proofs.Common.{◌≡◌, ◌||◌, ℕ, Bool, List, [], ◌∷◌, Option, None, false, ap, sym, ◌∙◌, arith}
+use Rattle.std.proofs.Common.{◌||◌, Bool, [], ◌∷◌, false, ap, sym, ◌∙◌, arith}
 use Rattle.dw_cfa.specs.Lacking.{is_unset, leaves_one, lacks_from}
 use Rattle.dw_cfa.specs.Rows.{Rules}
 use Rattle.dw_cfa.specs.Runs.{Outcome, rows_left}

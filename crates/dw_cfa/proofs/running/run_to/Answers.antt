@@ -1,4 +1,4 @@
-use Rattle.std.proofs.Common.{◌≡◌, ◌<◌, ◌≤◌, ℕ, Some, sym, ap, subst, ◌∙◌, arith}
+use Rattle.std.proofs.Common.{◌≡◌, ℕ, Some, sym, ap, subst, ◌∙◌, arith}
 use Rattle.dw_cfa.specs.RuleAt.{last_at, NeverFalls}
 use Rattle.dw_cfa.specs.Runs.{Outcome, rows_left}
 use Rattle.dw_cfa.specs.Walking.{AllSpecify}
