@@ -5,7 +5,8 @@ use Rattle.clap.specs.Words.{Text}
 use Rattle.dw_num.specs.declared.target.Target.{Target}
 use Rattle.dw_op.specs.declared.op.Op.{Op}
 use Rattle.dw_op.specs.declared.profile.Profile.TheVariants.{Location}
-use Rattle.dw_op.specs.Faults.{IsBlock}
+use Rattle.dw_op.specs.declared.decoding.DecodeError.{DecodeError}
+use Rattle.dw_op.specs.Faults.{BlockFault, IsBlock, Refuses as RefusesBlock}
 use Rattle.dw_eval.specs.declared.error.EvalError.{EvalError}
 use Rattle.dw_eval.specs.declared.error.EvalError.TheVariants as eval_error
 use Rattle.dw_eval.specs.Evaluation.{Evaluates, first_stack}
@@ -25,7 +26,7 @@ use Rattle.dw_command.specs.declared.files.LoadError.{LoadError}
 use Rattle.dw_command.specs.declared.failure.Failure.{Failure}
 use Rattle.dw_command.specs.declared.failure.Failure.TheVariants as failures
 use Rattle.dw_command.specs.Answers.{Checks, CostEnds, EvalEnds, Frames, Loads, LoadsDump, LoadsText, Normalises, Parses, Prints, Then, UnwindEnds, Values}
-use Rattle.dw_command.specs.Failing.{of_write}
+use Rattle.dw_command.specs.Failing.{of_decode, of_write}
 
 -- what later files give, the earlier ones may give
 module _ (old new : Text → Result (List ℕ) LoadError → Type 0) (same : (p : Text) (r : Result (List ℕ) LoadError) → new p r → old p r) where
@@ -86,6 +87,14 @@ pub behind_block : (gives : Text → Result (List ℕ) LoadError → Type 0) (ta
     → EvalEnds gives target steps start block path r
 behind_block gives target steps start block path text text' block' ops r lent loads same found ends =
     inl (text', subst (λ (t : List ℕ). LoadsText gives path (Ok t)) (sym lent) loads, inl (ops, subst (λ (b : List ℕ). IsBlock Location target ops b) same found, ends))
+
+-- behind a text and a block that is refused
+pub block_refused : (gives : Text → Result (List ℕ) LoadError → Type 0) (target : Target) (steps : ℕ) (start : Option ℕ) (block : List ℕ) (path : Option Text)
+    (text block' : List ℕ) (e : DecodeError) (f : Failure)
+    → LoadsText gives path (Ok text) → block' ≡ block → RefusesBlock (BlockFault Location target block') e → f ≡ of_decode e
+    → EvalEnds gives target steps start block path (Err f)
+block_refused gives target steps start block path text block' e f loads same refused is =
+    inl (text, loads, inr (f, (e, subst (λ (b : List ℕ). RefusesBlock (BlockFault Location target b) e) same refused, is), refl))
 
 -- ---- frames
 

@@ -1,7 +1,14 @@
 use Rattle.std.proofs.Common.{Ok, Err, inl, inr, option_map, refl}
 use Rattle.std.proofs.lemmas.Result.{err_from_is_err_and}
-use Rattle.dw_command.proofs.Endings.{behind_block, values_at}
+use Rattle.dw_command.proofs.Endings.{behind_block, block_refused, values_at}
 use Rattle.dw_command.proofs.eval.run_eval.Goals as goal
+
+pub returns-in_err-list : goal.returns-in_err-list
+returns-in_err-list g c =
+    let p = err_from_is_err_and c.from_residual-in_err-list.result c.from_residual-in_err-list.ensures.1 in
+    let e = c.args.evaluation.now in
+    rw p.1 (block_refused (g.L.Load.gives c.args.files.now) c.args.target e.steps e.start e.block.items (option_map (λ p. p.now) e.dump)
+    c.in_ok-text.text.items c.deref.result.now c.in_err-list.field-0.0 p.0 c.in_ok-text.ensures.loads c.deref.ensures.value c.in_err-list.ensures.first p.2)
 
 pub returns-in_err-dump : goal.returns-in_err-dump
 returns-in_err-dump g c =
