@@ -1,5 +1,5 @@
 -- Where the registers of a row lie: those below 32 in slots, with their expressions in a tree, and the others in another tree.
-use Rattle.std.specs.Prelude.{◌≡◌, ℕ, suc, ◌<◌, List, [], ◌∷◌, length, drop, Bool, Option, Some, None, ℤ, nat_eq, nat_lt, if◌then◌else◌}
+use Rattle.std.specs.Prelude.{◌≡◌, ℕ, suc, ◌<◌, ◌≤◌, List, [], ◌∷◌, length, drop, Bool, Option, Some, None, ℤ, nat_eq, nat_lt, if◌then◌else◌}
 use Rattle.dw_cfa.specs.declared.rule.RegRule.{RegRule}
 use Rattle.dw_cfa.specs.declared.rule.RegRule.TheVariants as rules
 use Rattle.dw_cfa.specs.declared.row.Entries.{Entries}
@@ -67,3 +67,9 @@ LeavesAt test r old new = (q : ℕ) → rule_in new q ≡ (if nat_eq r q then le
 
 abbrev pub LeavesBelow : (ℕ × RegRule → Bool) → ℕ → List (ℕ × RegRule) → List (ℕ × RegRule) → Type 0
 LeavesBelow test n old new = (q : ℕ) → rule_in new q ≡ (if nat_lt q n then left test q (rule_in old q) else rule_in old q)
+
+-- below a place the slots in a mask are those of others; all others stay
+pub record CopiedBelow (used : ℕ) (old others : List Slot) (k : ℕ) (new : List Slot) : Type 0 where
+  pub slots : length new ≡ 32
+  pub below : (q : ℕ) (d : Slot) → q < k → get_or new q d ≡ (if nat_eq (bit_at used q) 0 then get_or old q d else get_or others q d)
+  pub above : (q : ℕ) (d : Slot) → k ≤ q → get_or new q d ≡ get_or old q d

@@ -1,12 +1,12 @@
 //! Rows of rules (6.4.1).
 
-ghost use Rattle.std.specs.Prelude.{◌≡◌, ◌<◌, [], ◌∷◌, IfOk, OnOk, OnErr, MatchOption, IsTrue, ◌↔◌, bit_or};
+ghost use Rattle.std.specs.Prelude.{◌≡◌, ◌<◌, [], ◌∷◌, IfOk, OnOk, OnErr, MatchOption, IsTrue, ◌↔◌, bit_or, length};
 ghost use Rattle.std.specs.List.{filter};
 ghost use Rattle.std.specs.Iterator.{YieldsFirst, item_count};
 ghost use Rattle.dw_cfa.specs.declared.rule.RegRule.TheVariants.{Unspecified};
 ghost use Rattle.dw_cfa.specs.Rows.{AreSpecified, rule, put, rule_in, with_cfa, with_rule, blank};
 ghost use Rattle.dw_cfa.specs.Narrowing.{is_agreed, is_kept, agreed, kept, same_rule};
-ghost use Rattle.dw_cfa.specs.Entries.{entries_of, slot_rule, EntriesSo, IsSlotOf, FindsNear, Covers, LeavesAt, LeavesBelow};
+ghost use Rattle.dw_cfa.specs.Entries.{CopiedBelow, entries_of, slot_rule, EntriesSo, IsSlotOf, FindsNear, Covers, LeavesAt, LeavesBelow};
 ghost use Rattle.dw_cfa.specs.Differing.{FirstDifference, FirstBelow, place_behind, start_behind};
 
 use crate::rule::{CfaRule, RegRule};
@@ -52,6 +52,24 @@ struct Entries<'a> {
     used: u32,
     expressions: BTreeMap<u16, RegRule<'a>>,
     far: BTreeMap<u16, RegRule<'a>>,
+}
+
+// Copies the slots of the registers in a mask.
+fn copy_slots(near: &mut [Slot; 32], others: &[Slot; 32], used: u32)
+    requires near { length near.old ≡ 32 }
+    requires others { length others.now ≡ 32 }
+    ensures { CopiedBelow used near.old others.now 32 near.new }
+{
+    let mut register = 0;
+    'slots: while register < 32 {
+        let left = used >> register;
+        if left == 0 {
+            return;
+        }
+        register += left.trailing_zeros();
+        near[register as usize] = others[register as usize];
+        register += 1;
+    }
 }
 
 // Gives a register a rule in a tree. Unspecified takes it out.
@@ -416,7 +434,7 @@ impl<'a> Entries<'a> {
         ensures so { EntriesSo self.new }
     {
         if self.is_narrow() && others.is_narrow() {
-            self.near.copy_from_slice(&others.near);
+            copy_slots(&mut self.near, &others.near, self.used | others.used);
             self.used = others.used;
             return Ok(());
         }
