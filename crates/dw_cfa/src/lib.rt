@@ -17,6 +17,7 @@ mod rule;
 mod running;
 mod states;
 mod steps;
+mod tree;
 mod turn;
 mod walking;
 

@@ -10,6 +10,7 @@ ghost use Rattle.dw_cfa.specs.Entries.{CopiedBelow, entries_of, slot_rule, Entri
 ghost use Rattle.dw_cfa.specs.Differing.{FirstDifference, FirstBelow, place_behind, start_behind};
 
 use crate::rule::{CfaRule, RegRule};
+use crate::tree::{rule_in_tree, set_in_tree};
 use std::alloc::{AllocError, Global};
 use std::collections::{BTreeMap, btree_map};
 use std::marker::Model;
@@ -69,34 +70,6 @@ fn copy_slots(near: &mut [Slot; 32], others: &[Slot; 32], used: u32)
         register += left.trailing_zeros();
         near[register as usize] = others[register as usize];
         register += 1;
-    }
-}
-
-// Gives a register a rule in a tree. Unspecified takes it out.
-fn set_in_tree<'a>(
-    entries: &mut BTreeMap<u16, RegRule<'a>>,
-    register: u16,
-    rule: RegRule<'a>,
-) -> Result<(), AllocError>
-    requires { AreSpecified 0 entries.old.entries }
-    ensures ok { OnOk result (entries.new.entries ≡ put register rule.entry entries.old.entries) }
-    ensures err { OnErr result (entries.new.entries ≡ entries.old.entries) }
-{
-    if rule.is_specified() {
-        entries.insert(register, rule)?;
-        return Ok(());
-    }
-    entries.remove(&register);
-    Ok(())
-}
-
-// The rule of a register in a tree.
-fn rule_in_tree<'a>(entries: &BTreeMap<u16, RegRule<'a>>, register: u16) -> RegRule<'a>
-    ensures { result ≡ rule_in entries.now.entries register }
-{
-    match entries.get(&register) {
-        Some(rule) => rule.copied(),
-        None => RegRule::Unspecified,
     }
 }
 

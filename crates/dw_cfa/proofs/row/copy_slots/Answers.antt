@@ -1,8 +1,7 @@
-use Rattle.std.proofs.Common.{◌≡◌, ◌+◌, ◌<◌, get_or, refl, arith, subst, ℕ}
+use Rattle.std.proofs.Common.{◌≡◌, ◌+◌, ◌<◌, get_or, refl, arith}
 use Rattle.std.proofs.lemmas.List.{get_or_default}
 use Rattle.std.specs.Prelude.{◌/◌, ◌^◌}
 use Rattle.std.specs.Int.{trailing_zeros, w32}
-use Rattle.dw_cfa.specs.Entries.{CopiedBelow}
 use Rattle.dw_cfa.proofs.Slots.{no_slot}
 use Rattle.dw_cfa.proofs.Copied.{all_copied, up_to_bit, one_copied}
 use Rattle.dw_cfa.proofs.row.copy_slots.Goals as goal

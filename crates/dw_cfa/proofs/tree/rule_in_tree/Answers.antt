@@ -4,7 +4,7 @@ use Rattle.std.specs.Option.{unwrap_or, option_copied}
 use Rattle.dw_cfa.specs.declared.rule.RegRule.{RegRule}
 use Rattle.dw_cfa.specs.declared.rule.RegRule.TheVariants.{Unspecified}
 use Rattle.dw_cfa.proofs.WideRows.{found_is}
-use Rattle.dw_cfa.proofs.row.rule_in_tree.Goals as goal
+use Rattle.dw_cfa.proofs.tree.rule_in_tree.Goals as goal
 
 pub returns-in-Some : goal.returns-in-Some
 returns-in-Some c =

@@ -1,0 +1,36 @@
+//! Rules of registers in a tree, ascending.
+
+ghost use Rattle.std.specs.Prelude.{◌≡◌, OnOk, OnErr};
+ghost use Rattle.dw_cfa.specs.Rows.{AreSpecified, put, rule_in};
+
+use crate::rule::RegRule;
+use std::alloc::AllocError;
+use std::collections::BTreeMap;
+
+/// Gives a register a rule in a tree. Unspecified takes it out.
+pub(crate) fn set_in_tree<'a>(
+    entries: &mut BTreeMap<u16, RegRule<'a>>,
+    register: u16,
+    rule: RegRule<'a>,
+) -> Result<(), AllocError>
+    requires { AreSpecified 0 entries.old.entries }
+    ensures ok { OnOk result (entries.new.entries ≡ put register rule.entry entries.old.entries) }
+    ensures err { OnErr result (entries.new.entries ≡ entries.old.entries) }
+{
+    if rule.is_specified() {
+        entries.insert(register, rule)?;
+        return Ok(());
+    }
+    entries.remove(&register);
+    Ok(())
+}
+
+/// The rule of a register in a tree.
+pub(crate) fn rule_in_tree<'a>(entries: &BTreeMap<u16, RegRule<'a>>, register: u16) -> RegRule<'a>
+    ensures { result ≡ rule_in entries.now.entries register }
+{
+    match entries.get(&register) {
+        Some(rule) => rule.copied(),
+        None => RegRule::Unspecified,
+    }
+}
