@@ -102,7 +102,7 @@ def is_as_shown(printed, shown):
 
 def run(command, folder):
     names = {"PATH": f"{folder}:{os.environ['PATH']}", "LC_ALL": "C.UTF-8", "DWFRAME": f"{folder}/dwframe"}
-    options = {"stdout": subprocess.PIPE, "stderr": subprocess.STDOUT, "timeout": 60}
+    options = {"stdout": subprocess.PIPE, "stderr": subprocess.STDOUT, "timeout": 900}
     done = subprocess.run(["sh", "-c", command], cwd=folder, env={**os.environ, **names}, stdin=subprocess.DEVNULL, **options)
     return done.stdout.decode(errors="replace").splitlines()
 
