@@ -22,8 +22,8 @@ use Rattle.dw_cfa.specs.Rows.{Rules, blank}
 use Rattle.dw_cfa.specs.declared.rule.RegRule.{RegRule}
 use Rattle.dw_cfa.specs.Stepping.{begun_rows}
 use Rattle.dw_cfa.specs.Machine.{State, begun, written, after, half_fault, fde_fault, FaultIs}
-use Rattle.dw_cfa.specs.States.{Held, BeganWith}
-use Rattle.dw_cfa.specs.Steps.{state_of, IsAfter}
+use Rattle.dw_cfa.specs.Inner.States.{Held, BeganWith}
+use Rattle.dw_cfa.specs.Inner.Steps.{state_of, IsAfter}
 use Rattle.dw_cfa.specs.Runs.{Placing, placed, cie_run, initial_row, on_initial, Outcome, fails, finished, row_then, here, row_if, fault_or, fde_rows, rows_left, rows_behind, run_rows, RunsSo, RefusalIs, run_error, RanTo, WroteTo}
 use Rattle.dw_cfa.proofs.Placings.{reads, placed_end, placed_step, placed_stuck}
 

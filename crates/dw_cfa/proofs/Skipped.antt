@@ -14,7 +14,7 @@ use Rattle.dw_cfa.specs.declared.rule.RegRule.TheVariants.{Unspecified}
 use Rattle.dw_cfa.specs.declared.row.Entries.{Entries}
 use Rattle.dw_cfa.specs.Rows.{AreSpecified, rule_in}
 use Rattle.dw_cfa.specs.Narrowing.{same_rule}
-use Rattle.dw_cfa.specs.Entries.{entries_of, EntriesSo, LeavesAt, LeavesBelow}
+use Rattle.dw_cfa.specs.Inner.Entries.{entries_of, EntriesSo, LeavesAt, LeavesBelow}
 use Rattle.dw_cfa.specs.Differing.{FirstDifference}
 use Rattle.dw_cfa.proofs.RowLists.{Entry}
 use Rattle.dw_cfa.proofs.SameRows.{same_entries}

@@ -7,7 +7,7 @@ use Rattle.dw_cfa.specs.declared.rule.RegRule.{RegRule}
 use Rattle.dw_cfa.specs.declared.states.Undo.{Undo}
 use Rattle.dw_cfa.specs.declared.states.Undo.TheVariants.{Remembered, Register}
 use Rattle.dw_cfa.specs.Rows.{Rules, with_cfa, with_rule}
-use Rattle.dw_cfa.specs.States.{Held, remembered_rows, first_registers, count_remembered, first_if, held, BeganWith, SameBehind, TakenBack, Restored}
+use Rattle.dw_cfa.specs.Inner.States.{Held, remembered_rows, first_registers, count_remembered, first_if, held, BeganWith, SameBehind, TakenBack, Restored}
 
 -- a change of the CFA's rule is no change of what is remembered
 pub cfa_left : (cfa : CfaRule) (row : Rules) (changes : List Undo) → remembered_rows (with_cfa cfa row) changes ≡ remembered_rows row changes

@@ -27,7 +27,7 @@ use Rattle.dw_cfa.specs.Rows.{Rules, is_specified, listed, put, rule, rule_in}
 use Rattle.dw_op.specs.Walks.{ended, on_read, on_left, walked_by}
 use Rattle.dw_cfa.specs.Runs.{GivesRow, Outcome, Placed, Placing, fault_or, fde_rows, finished, last_row, placed, row_if, row_then, rows_left}
 use Rattle.dw_cfa.specs.Stepping.{Stepping, progress_after}
-use Rattle.dw_cfa.specs.Steps.{state_of}
+use Rattle.dw_cfa.specs.Inner.Steps.{state_of}
 use Rattle.dw_cfa.specs.Walking.{AllKeep, AllSpecify, Specifies, WalkKeeps, walk_of}
 use Rattle.dw_cfa.proofs.InstrLaws.{instr_found}
 use Rattle.dw_cfa.proofs.Narrowed.{left_too}

@@ -7,7 +7,7 @@ use Rattle.dw_cfa.specs.declared.steps.Progress.{Progress}
 use Rattle.dw_cfa.specs.declared.steps.Progress.TheVariants as progress
 use Rattle.dw_cfa.specs.Rows.{Rules}
 use Rattle.dw_cfa.specs.Runs.{RunsSo}
-use Rattle.dw_cfa.specs.States.{BeganWith}
+use Rattle.dw_cfa.specs.Inner.States.{BeganWith}
 use Rattle.dw_cfa.specs.Stepping.{Stepping, left_of}
 
 -- the initial row, what instructions are read with, and the rows of the FDE that is run

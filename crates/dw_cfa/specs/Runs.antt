@@ -17,8 +17,8 @@ use Rattle.dw_cfa.specs.Location.{moves_location}
 use Rattle.dw_cfa.specs.Reading.{instr_at}
 use Rattle.dw_cfa.specs.Rows.{Rules, blank}
 use Rattle.dw_cfa.specs.Machine.{State, begun, written, after, cie_fault, fde_fault}
-use Rattle.dw_cfa.specs.States.{Held, BeganWith}
-use Rattle.dw_cfa.specs.Steps.{state_of}
+use Rattle.dw_cfa.specs.Inner.States.{Held, BeganWith}
+use Rattle.dw_cfa.specs.Inner.Steps.{state_of}
 
 -- an instruction and the place of its opcode
 pub record Placed : Type 0 where

@@ -10,7 +10,7 @@ use Rattle.dw_cfa.specs.declared.walking.Leading.{Leading}
 use Rattle.dw_cfa.specs.Narrowing.{kept}
 use Rattle.dw_cfa.specs.Rows.{Rules, blank, is_specified, rule}
 use Rattle.dw_cfa.specs.Runs.{Outcome, RunsSo, initial_row, placed, rows_left, run_rows}
-use Rattle.dw_cfa.specs.States.{BeganWith}
+use Rattle.dw_cfa.specs.Inner.States.{BeganWith}
 use Rattle.dw_cfa.specs.Stepping.{Stepping, left_of, program_input, stepping}
 
 -- the rows of an FDE's program behind a CIE's

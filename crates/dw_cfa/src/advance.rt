@@ -5,8 +5,8 @@ ghost use Rattle.dw_num.specs.Fixed.{IsWidth};
 ghost use Rattle.dw_num.specs.Input.{Input};
 ghost use Rattle.dw_num.specs.Target.{address_limit};
 ghost use Rattle.dw_cfa.specs.Operands.{advanced};
-ghost use Rattle.dw_cfa.specs.ByOpcode.{advance_at, set_loc_at};
-ghost use Rattle.dw_cfa.specs.Turns.{Applied};
+ghost use Rattle.dw_cfa.specs.Inner.ByOpcode.{advance_at, set_loc_at};
+ghost use Rattle.dw_cfa.specs.Inner.Turns.{Applied};
 
 use crate::instr::Factors;
 use crate::machine::{End, Machine, refused};

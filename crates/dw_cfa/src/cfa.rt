@@ -1,8 +1,8 @@
 //! Instructions that say how the CFA is found (6.4.2.2).
 
 ghost use Rattle.std.specs.Prelude.{◌≡◌, ℕ, ◌≤◌, IsOk, IsTrue};
-ghost use Rattle.dw_cfa.specs.ByOpcode.{def_cfa_at, def_cfa_sf_at, def_cfa_register_at, def_cfa_offset_at, def_cfa_offset_sf_at, def_cfa_expression_at};
-ghost use Rattle.dw_cfa.specs.Turns.{Applied};
+ghost use Rattle.dw_cfa.specs.Inner.ByOpcode.{def_cfa_at, def_cfa_sf_at, def_cfa_register_at, def_cfa_offset_at, def_cfa_offset_sf_at, def_cfa_expression_at};
+ghost use Rattle.dw_cfa.specs.Inner.Turns.{Applied};
 
 use crate::instr::Factors;
 use crate::machine::{End, Machine, refused};

@@ -4,8 +4,8 @@ ghost use Rattle.std.specs.Prelude.{◌≡◌, ℕ, ◌≤◌, IsOk, IsTrue, Ok}
 ghost use Rattle.dw_num.specs.Input.{Input};
 ghost use Rattle.dw_num.specs.declared.refusal.Refusal.{Refusal};
 ghost use Rattle.dw_cfa.specs.declared.instr.Instr.TheVariants.{Restore};
-ghost use Rattle.dw_cfa.specs.ByOpcode.{undefined_at, same_value_at, offset_at, offset_extended_at, offset_extended_sf_at, val_offset_at, val_offset_sf_at, register_rule_at, expression_at, val_expression_at, restore_at};
-ghost use Rattle.dw_cfa.specs.Turns.{Applied};
+ghost use Rattle.dw_cfa.specs.Inner.ByOpcode.{undefined_at, same_value_at, offset_at, offset_extended_at, offset_extended_sf_at, val_offset_at, val_offset_sf_at, register_rule_at, expression_at, val_expression_at, restore_at};
+ghost use Rattle.dw_cfa.specs.Inner.Turns.{Applied};
 
 use crate::instr::Factors;
 use crate::machine::{End, Machine, refused};

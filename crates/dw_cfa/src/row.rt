@@ -6,7 +6,7 @@ ghost use Rattle.std.specs.Iterator.{YieldsFirst, item_count};
 ghost use Rattle.dw_cfa.specs.declared.rule.RegRule.TheVariants.{Unspecified};
 ghost use Rattle.dw_cfa.specs.Rows.{AreSpecified, rule, put, rule_in, with_cfa, with_rule, blank};
 ghost use Rattle.dw_cfa.specs.Narrowing.{is_agreed, is_kept, agreed, kept, same_rule};
-ghost use Rattle.dw_cfa.specs.Entries.{CopiedBelow, entries_of, slot_rule, EntriesSo, IsSlotOf, FindsNear, Covers, LeavesAt, LeavesBelow};
+ghost use Rattle.dw_cfa.specs.Inner.Entries.{CopiedBelow, entries_of, slot_rule, EntriesSo, IsSlotOf, FindsNear, Covers, LeavesAt, LeavesBelow};
 ghost use Rattle.dw_cfa.specs.Differing.{FirstDifference, FirstBelow, place_behind, start_behind};
 
 use crate::rule::{CfaRule, RegRule};
@@ -580,7 +580,7 @@ pub struct Row<'a> {
 
 impl<'a> Model for Row<'a> {
     ghost use Rattle.dw_cfa.specs.Rows.{Rules};
-    ghost use Rattle.dw_cfa.specs.Entries.{entries_of, EntriesSo};
+    ghost use Rattle.dw_cfa.specs.Inner.Entries.{entries_of, EntriesSo};
 
     ghost Value = { Rules };
 
@@ -602,7 +602,7 @@ pub struct Specified<'r, 'a> {
 impl<'r, 'a> Model for Specified<'r, 'a> {
     ghost use Rattle.std.specs.Prelude.{◌≡◌, List, ℕ, drop, length};
     ghost use Rattle.dw_cfa.specs.declared.rule.RegRule.{RegRule as Rule};
-    ghost use Rattle.dw_cfa.specs.Entries.{listed_near, Covers};
+    ghost use Rattle.dw_cfa.specs.Inner.Entries.{listed_near, Covers};
 
     ghost Value = { List (ℕ × Rule) };
 

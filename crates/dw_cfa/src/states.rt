@@ -2,7 +2,7 @@
 
 ghost use Rattle.std.specs.Prelude.{◌≡◌, ◌+◌, ◌<◌, [], ◌∷◌, length, reverse, Some, None, OnOk, OnErr, IfOk, true, false};
 ghost use Rattle.dw_cfa.specs.Rows.{with_cfa, with_rule};
-ghost use Rattle.dw_cfa.specs.States.{Held, first_if, BeganWith, Restored, TakenBack, count_remembered, first_registers};
+ghost use Rattle.dw_cfa.specs.Inner.States.{Held, first_if, BeganWith, Restored, TakenBack, count_remembered, first_registers};
 
 use crate::row::Row;
 use crate::rule::{CfaRule, RegRule};
@@ -37,7 +37,7 @@ pub(crate) struct States<'a> {
 
 impl<'a> Model for States<'a> {
     ghost use Rattle.std.specs.Prelude.{◌≡◌, reverse};
-    ghost use Rattle.dw_cfa.specs.States.{Held, held, count_remembered};
+    ghost use Rattle.dw_cfa.specs.Inner.States.{Held, held, count_remembered};
 
     ghost Value = { Held };
 

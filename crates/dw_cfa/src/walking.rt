@@ -7,7 +7,7 @@ ghost use Rattle.dw_cfa.specs.declared.running.RunError.TheVariants.{OutOfMemory
 ghost use Rattle.dw_cfa.specs.RuleAt.{last_at, NeverFalls};
 ghost use Rattle.dw_cfa.specs.Rows.{Rules, blank};
 ghost use Rattle.dw_cfa.specs.Runs.{GivesRow, RunsSo, finished, initial_row, placed, rows_left, run_rows};
-ghost use Rattle.dw_cfa.specs.States.{BeganWith};
+ghost use Rattle.dw_cfa.specs.Inner.States.{BeganWith};
 ghost use Rattle.dw_cfa.specs.Stepping.{Advances, program_input, progress_after, stepping};
 ghost use Rattle.dw_cfa.specs.Walking.{AllKeep, AllSpecify, HasInitial, LeadsSame, Readied, WalkKeeps, WalksSo, led_rows, walk_of};
 

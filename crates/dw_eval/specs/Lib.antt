@@ -5,8 +5,8 @@ pub mod Context
 pub mod Effect
 pub mod Runs
 pub mod Evaluation
-pub mod Stepping
 pub mod Location
 pub mod Describing
 pub mod Space
 pub mod Laws
+pub mod Inner

@@ -9,7 +9,7 @@ ghost use Rattle.dw_eval.specs.declared.error.Kind.TheVariants.{MissingPiece};
 ghost use Rattle.dw_eval.specs.Context.{context};
 ghost use Rattle.dw_eval.specs.Effect.{effect, Reads};
 ghost use Rattle.dw_eval.specs.Location.{place_turn, place_reads, place_led, place_here, with_piece, with_place, with_value, free_turn, held_turn, refused, pieces_of};
-ghost use Rattle.dw_eval.specs.Stepping.{StepsTo};
+ghost use Rattle.dw_eval.specs.Inner.Stepping.{StepsTo};
 
 use crate::acting::act;
 use crate::env::Env;

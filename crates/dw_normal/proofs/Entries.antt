@@ -19,10 +19,10 @@ use Rattle.dw_canon.specs.Written.{Written, contents, entry_bytes}
 use Rattle.dw_canon.proofs.Fields.{entry_length}
 use Rattle.dw_canon.proofs.Readback.{rendered_laid}
 use Rattle.dw_canon.proofs.Rendered.{renders}
-use Rattle.dw_normal.specs.Grouping.{initial_rows}
-use Rattle.dw_normal.specs.Measuring.{cie_with, cies_bytes, fdes_bytes}
-use Rattle.dw_normal.specs.Places.{place_in, fde_with}
-use Rattle.dw_normal.specs.Puts.{Puts, taken_by, after}
+use Rattle.dw_normal.specs.Inner.Grouping.{initial_rows}
+use Rattle.dw_normal.specs.Inner.Measuring.{cie_with, cies_bytes, fdes_bytes}
+use Rattle.dw_normal.specs.Inner.Places.{place_in, fde_with}
+use Rattle.dw_normal.specs.Inner.Puts.{Puts, taken_by, after}
 use Rattle.dw_normal.specs.declared.entry.PutError.{PutError}
 use Rattle.dw_normal.specs.declared.entry.PutError.TheVariants.{Memory}
 use Rattle.dw_normal.proofs.Joined.{put_stops, goes_on, ends_there, counted}

@@ -5,7 +5,7 @@ use Rattle.std.specs.Result.{is_ok, IsErrAnd}
 use Rattle.std.proofs.Math.Seq.{take-append-add, take-append_seam, drop-append_seam}
 use Rattle.std.proofs.lemmas.List.{length-append, take-append-le, take_rest, take_at}
 use Rattle.dw_normal.specs.Answers.{Took}
-use Rattle.dw_normal.specs.Puts.{Puts, taken_by, after}
+use Rattle.dw_normal.specs.Inner.Puts.{Puts, taken_by, after}
 use Rattle.dw_normal.specs.declared.entry.PutError.{PutError}
 use Rattle.dw_normal.specs.declared.entry.PutError.TheVariants.{Write, Memory}
 use Rattle.dw_normal.proofs.Taken.{took_none, took_both}

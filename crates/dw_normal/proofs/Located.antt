@@ -13,10 +13,10 @@ use Rattle.dw_canon.specs.Canon.{canon, initial_of, groups_of, part_of}
 use Rattle.dw_canon.specs.Laid.{IsPart, place_of}
 use Rattle.dw_canon.specs.Members.{Member, AreMembers, fde_of}
 use Rattle.dw_canon.specs.Written.{contents}
-use Rattle.dw_normal.specs.Beginning.{Begins}
-use Rattle.dw_normal.specs.Grouping.{initial_rows, row_of}
-use Rattle.dw_normal.specs.Measuring.{cies_bytes}
-use Rattle.dw_normal.specs.Places.{place_in, cie_place, fde_with}
+use Rattle.dw_normal.specs.Inner.Beginning.{Begins}
+use Rattle.dw_normal.specs.Inner.Grouping.{initial_rows, row_of}
+use Rattle.dw_normal.specs.Inner.Measuring.{cies_bytes}
+use Rattle.dw_normal.specs.Inner.Places.{place_in, cie_place, fde_with}
 use Rattle.dw_normal.specs.declared.begun.Begun.{Begun}
 use Rattle.dw_normal.proofs.Entries.{one_long, contents_less, part_at}
 use Rattle.dw_normal.proofs.Placed.{row_in}

@@ -12,7 +12,7 @@ use Rattle.dw_canon.specs.Difference.{difference, move, later_changes}
 use Rattle.dw_canon.specs.Group.{group, kept_by, shared_by, initial_row}
 use Rattle.dw_cfa.specs.Narrowing.{agreed}
 use Rattle.dw_canon.specs.Members.{Member}
-use Rattle.dw_normal.specs.Passing.{last_of, Stand, Appends, Under, row_or_blank, shown_row}
+use Rattle.dw_normal.specs.Inner.Passing.{last_of, Stand, Appends, Under, row_or_blank, shown_row}
 use Rattle.dw_num.specs.Target.{address_limit}
 use Rattle.dw_section.specs.Changes.{Changing, ToCome, GivesAddress, before_then}
 use Rattle.dw_section.proofs.Exists.{among_exists}

@@ -21,9 +21,9 @@ use Rattle.dw_canon.specs.Members.{Member, fde_of, AreMembers}
 use Rattle.dw_canon.proofs.Fitting.{difference_fits, cie_fits}
 use Rattle.dw_canon.proofs.Rendered.{fits, stand}
 use Rattle.dw_canon.proofs.Standing.{group_fits}
-use Rattle.dw_normal.specs.Grouping.{initial_rows, row_of}
-use Rattle.dw_normal.specs.Beginning.{Begins, IsReady}
-use Rattle.dw_normal.specs.Passing.{Stand, shown_row}
+use Rattle.dw_normal.specs.Inner.Grouping.{initial_rows, row_of}
+use Rattle.dw_normal.specs.Inner.Beginning.{Begins, IsReady}
+use Rattle.dw_normal.specs.Inner.Passing.{Stand, shown_row}
 use Rattle.dw_normal.specs.declared.begun.Begun.{Begun}
 use Rattle.dw_normal.proofs.Grouped.{some_of, look_members}
 

@@ -13,7 +13,7 @@ use Rattle.dw_canon.specs.Members.{Member, AreMembers}
 use Rattle.dw_canon.specs.Normal.{IsNormalForm}
 use Rattle.dw_canon.proofs.Canonical.{members_exist, normal_form_is_one, same_exactly}
 use Rattle.dw_normal.specs.Answers.{IsShort, IsMeasured, IsTooLong, IsWithin, NormalFault, RefusesNormal, SameFault, LengthFault, Took, WentOut, Writes, blamed, unread, unwritten, too_long}
-use Rattle.dw_normal.specs.Puts.{Puts, put_is}
+use Rattle.dw_normal.specs.Inner.Puts.{Puts, put_is}
 use Rattle.dw_normal.specs.declared.entry.PutError.{PutError}
 use Rattle.dw_normal.specs.declared.entry.PutError.TheVariants as put_error
 use Rattle.dw_normal.specs.declared.error.NormalError.{NormalError}
@@ -26,8 +26,8 @@ use Rattle.dw_normal.specs.declared.error.WriteError.{WriteError}
 use Rattle.dw_normal.specs.declared.error.WriteError.TheVariants as write_error
 use Rattle.dw_section.specs.Table.{Section}
 use Rattle.std.specs.Prelude.{IfOk, IfErr}
-use Rattle.dw_normal.specs.Grouping.{initial_rows}
-use Rattle.dw_normal.specs.Measuring.{Measures}
+use Rattle.dw_normal.specs.Inner.Grouping.{initial_rows}
+use Rattle.dw_normal.specs.Inner.Measuring.{Measures}
 
 -- ---- the members of a section
 

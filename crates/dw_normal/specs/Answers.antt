@@ -17,7 +17,7 @@ use Rattle.dw_normal.specs.declared.error.WriteError.TheVariants as write_error
 use Rattle.dw_canon.specs.Canon.{canon}
 use Rattle.dw_canon.specs.Members.{Member, AreMembers}
 use Rattle.dw_canon.specs.Normal.{IsNormalForm}
-use Rattle.dw_normal.specs.Grouping.{initial_rows}
+use Rattle.dw_normal.specs.Inner.Grouping.{initial_rows}
 
 abbrev pub too_long : Refusal
 too_long = record { code = NormalTooLong; at = 0 }

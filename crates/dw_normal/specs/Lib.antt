@@ -1,8 +1,2 @@
-pub mod Walking
-pub mod Passing
-pub mod Beginning
-pub mod Measuring
-pub mod Grouping
 pub mod Answers
-pub mod Puts
-pub mod Places
+pub mod Inner

@@ -8,8 +8,8 @@ ghost use Rattle.dw_canon.specs.Fits.{InstrFits};
 ghost use Rattle.dw_canon.specs.Members.{Member};
 ghost use Rattle.dw_canon.specs.Spelling.{program_bytes};
 ghost use Rattle.dw_canon.specs.Written.{fde, missing, cie_fields, fde_fields, contents};
-ghost use Rattle.dw_normal.specs.Beginning.{Begins, IsReady};
-ghost use Rattle.dw_normal.specs.Measuring.{cie_with};
+ghost use Rattle.dw_normal.specs.Inner.Beginning.{Begins, IsReady};
+ghost use Rattle.dw_normal.specs.Inner.Measuring.{cie_with};
 
 use crate::begun::Begun;
 use crate::putting::push_uleb;

@@ -7,8 +7,8 @@ ghost use Rattle.dw_section.specs.Meaning.{AreFdes};
 ghost use Rattle.dw_canon.specs.Group.{kept_by};
 ghost use Rattle.dw_canon.specs.Members.{Member, AreMembers};
 ghost use Rattle.dw_cfa.specs.Narrowing.{agreed};
-ghost use Rattle.dw_normal.specs.Grouping.{with_member, initial_rows};
-ghost use Rattle.dw_normal.specs.Passing.{AreToCome, BehindFirst};
+ghost use Rattle.dw_normal.specs.Inner.Grouping.{with_member, initial_rows};
+ghost use Rattle.dw_normal.specs.Inner.Passing.{AreToCome, BehindFirst};
 
 use dw_cfa::Row;
 use dw_section::{Changes, FdeRef, Table};

@@ -7,7 +7,7 @@ ghost use Rattle.dw_normal.specs.declared.error.NormalError.TheVariants as TheNo
 ghost use Rattle.dw_normal.specs.declared.error.SameError.TheVariants as TheSameError;
 ghost use Rattle.dw_canon.specs.Normal.{IsNormalForm};
 ghost use Rattle.dw_normal.specs.Answers.{NormalFault, RefusesNormal, SameFault, LengthFault, Writes, IsWithin, blamed, unread, unwritten, too_long};
-ghost use Rattle.dw_normal.specs.Puts.{put_is};
+ghost use Rattle.dw_normal.specs.Inner.Puts.{put_is};
 ghost use Rattle.dw_section.specs.Meanings.{SameMeaning};
 
 use crate::entry::{PutError, write_entries};

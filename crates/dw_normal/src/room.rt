@@ -9,8 +9,8 @@ ghost use Rattle.dw_canon.specs.Difference.{difference, move};
 ghost use Rattle.dw_canon.specs.Fits.{InstrFits};
 ghost use Rattle.dw_canon.specs.Spelling.{instr_bytes, program_bytes};
 ghost use Rattle.dw_canon.specs.Written.{cie, missing, entry_bytes};
-ghost use Rattle.dw_normal.specs.Measuring.{Leaves, LaterLeaves, FdeLeaves};
-ghost use Rattle.dw_normal.specs.Passing.{Stand, row_or_blank, shown_row};
+ghost use Rattle.dw_normal.specs.Inner.Measuring.{Leaves, LaterLeaves, FdeLeaves};
+ghost use Rattle.dw_normal.specs.Inner.Passing.{Stand, row_or_blank, shown_row};
 
 use crate::differing::Differences;
 use crate::measuring::{instr_len, unsigned_len};

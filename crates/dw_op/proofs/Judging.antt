@@ -13,8 +13,8 @@ use Rattle.dw_op.specs.Block.{FrameBlock}
 use Rattle.dw_op.specs.Expression.{Expression, bare}
 use Rattle.dw_op.specs.Reading.{step_at}
 use Rattle.dw_op.specs.Walk.{Walk, walk, index_in, op_of, put_first, resolve, unless, block_input, decode_at}
-use Rattle.dw_op.specs.Windows.{block_of, WalkSo, Walked, WalkedBad, Walks}
-use Rattle.dw_op.specs.Accepted.{IsAccepted, ok_ops, ops_of, left_of, StepsSo}
+use Rattle.dw_op.specs.Inner.Windows.{block_of, WalkSo, Walked, WalkedBad, Walks}
+use Rattle.dw_op.specs.Inner.Accepted.{IsAccepted, ok_ops, ops_of, left_of, StepsSo}
 use Rattle.dw_op.proofs.Splits.{walk_step, walk_stuck, walk_end}
 use Rattle.dw_op.proofs.Blocks.{block_found, block_only}
 use Rattle.dw_op.proofs.Decoded.{Within, within_all, within_more, OpsSo, ops_more, ops_bad, ops_all, answered, same_ops, bad_branch, step_shorter}

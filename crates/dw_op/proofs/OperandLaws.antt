@@ -33,7 +33,7 @@ use Rattle.dw_op.specs.Operands as fields
 use Rattle.dw_op.specs.Operands.{Field, listed, operand_fields, fields_of, past, sized, counted, fields_at}
 use Rattle.dw_op.specs.Faults.{op_allowed, HasCode, OpFault}
 use Rattle.dw_op.specs.Reading.{look_up, plain_table, plain_op, operand_table, alone, or_else, in_range, opcode_of, code_in_frame, allows, with_op, width_of, signed_of, with_jump, after_register, size_in, after_size, implicit, after_length, operands_at, judged, step_at}
-use Rattle.dw_op.specs.ByOpcode.{address_step, unsigned_step, signed_step, uconst_step, sconst_step, pick_step, plus_step, jump_step, breg_step, long_reg_step, long_breg_step, fbreg_step, piece_step, deref_size_step, bit_piece_step, implicit_step}
+use Rattle.dw_op.specs.Inner.ByOpcode.{address_step, unsigned_step, signed_step, uconst_step, sconst_step, pick_step, plus_step, jump_step, breg_step, long_reg_step, long_breg_step, fbreg_step, piece_step, deref_size_step, bit_piece_step, implicit_step}
 use Rattle.dw_op.proofs.ReadingLaws.{some_is, EachEntry, looked_up, range_is, unsigned_code, signed_code, CodeOf, opcode_known, const_of, signed_const_of, bare_in_frame}
 use Rattle.dw_op.proofs.ReadingAgain.{step_again}
 use Rattle.dw_op.proofs.Splits.{input}

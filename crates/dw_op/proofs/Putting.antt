@@ -10,8 +10,8 @@ use Rattle.dw_op.specs.declared.op.Op.{Op}
 use Rattle.dw_op.specs.Block.{branch_target, start}
 use Rattle.dw_op.specs.Encoding.{BranchFits, EachFits, bits_of, blank_parts, least_len}
 use Rattle.dw_op.specs.LeastOf.{least_bytes}
-use Rattle.dw_op.specs.Lengths.{least_lengths, lengths_at, total, together}
-use Rattle.dw_op.specs.Points.{AreSmall, ArePlaces, IsBranching, bits_at}
+use Rattle.dw_op.specs.Inner.Lengths.{least_lengths, lengths_at, total, together}
+use Rattle.dw_op.specs.Inner.Points.{AreSmall, ArePlaces, IsBranching, bits_at}
 use Rattle.dw_op.proofs.EncodeLaws.{IsGoing, going_none, going_more, front_more}
 
 -- where a part begins is the lengths before it

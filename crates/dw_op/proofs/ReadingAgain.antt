@@ -29,9 +29,9 @@ use Rattle.dw_op.specs.declared.reading.Opcode.TheVariants as opcodes
 use Rattle.dw_op.specs.Expression.{bare}
 use Rattle.dw_op.specs.OpSpells.{OpSpells, Code, Both, Counted, modulo, ConstForm, Written, Const1u, Const1s, Const2u, Const2s, Const4u, Const4s, Const8u, Const8s, Constu, Consts, Lit}
 use Rattle.dw_op.specs.Block.{branch_target}
-use Rattle.dw_op.specs.Steps.{StepSpells, branch_code, step_in_frame, step_allowed}
+use Rattle.dw_op.specs.Inner.Steps.{StepSpells, branch_code, step_in_frame, step_allowed}
 use Rattle.dw_op.specs.Reading.{plain_op, opcode_of, in_range, code_in_frame, allows, with_op, width_of, signed_of, after_register, after_size, implicit, after_length, operands_at, step_at}
-use Rattle.dw_op.specs.ByOpcode.{address_step, unsigned_step, signed_step, uconst_step, sconst_step, pick_step, plus_step, jump_step, breg_step, long_reg_step, long_breg_step, fbreg_step, piece_step, deref_size_step, bit_piece_step, implicit_step}
+use Rattle.dw_op.specs.Inner.ByOpcode.{address_step, unsigned_step, signed_step, uconst_step, sconst_step, pick_step, plus_step, jump_step, breg_step, long_reg_step, long_breg_step, fbreg_step, piece_step, deref_size_step, bit_piece_step, implicit_step}
 use Rattle.dw_op.proofs.Signed.{Complement, complement_of}
 
 some_none : (i : ℕ) → Some i ≡ None → ⊥

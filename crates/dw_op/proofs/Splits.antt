@@ -11,7 +11,7 @@ use Rattle.dw_op.specs.declared.profile.Profile.{Profile}
 use Rattle.dw_op.specs.declared.reading.Step.{Step}
 use Rattle.dw_op.specs.Block.{joined}
 use Rattle.dw_op.specs.Reading.{step_at}
-use Rattle.dw_op.specs.Steps.{StepSpells, step_allowed}
+use Rattle.dw_op.specs.Inner.Steps.{StepSpells, step_allowed}
 use Rattle.dw_op.specs.Walk.{Item, item_of, Walk, walk}
 use Rattle.dw_op.specs.Walks.{ended, put, on_read, on_left, walked_by}
 use Rattle.dw_op.proofs.ReadingLaws.{step_found}

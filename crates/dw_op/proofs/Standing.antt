@@ -15,7 +15,7 @@ use Rattle.dw_op.specs.declared.reading.Step.{Step}
 use Rattle.dw_op.specs.declared.reading.Step.TheVariants.{Plain, Jump}
 use Rattle.dw_op.specs.OpSpells.{OpSpells, Code, AnyTwo}
 use Rattle.dw_op.specs.Block.{start, displacement, Displaced, Stands}
-use Rattle.dw_op.specs.Steps.{branch_code, step_allowed}
+use Rattle.dw_op.specs.Inner.Steps.{branch_code, step_allowed}
 use Rattle.dw_op.specs.Walk.{goes_to, find_at, branch_to, op_of}
 use Rattle.dw_op.specs.Faults.{op_allowed}
 use Rattle.dw_op.proofs.ReadingAgain.{step_again}

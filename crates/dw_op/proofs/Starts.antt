@@ -17,10 +17,10 @@ use Rattle.dw_op.specs.declared.reading.Branch.{Branch}
 use Rattle.dw_op.specs.declared.reading.Branch.TheVariants.{Bra, Skip}
 use Rattle.dw_op.specs.declared.reading.Step.{Step}
 use Rattle.dw_op.specs.declared.reading.Step.TheVariants.{Plain, Jump}
-use Rattle.dw_op.specs.Accepted.{IsAccepted, ops_of}
+use Rattle.dw_op.specs.Inner.Accepted.{IsAccepted, ops_of}
 use Rattle.dw_op.specs.LeastOf.{least_bytes, least_spelling}
-use Rattle.dw_op.specs.Lengths.{least_lengths, total, together, step_length, item_lengths, lengths_at}
-use Rattle.dw_op.specs.Points.{IsLater, IsPoint, InRoom, IsStartMark, AreStartMarks, ArePlaces}
+use Rattle.dw_op.specs.Inner.Lengths.{least_lengths, total, together, step_length, item_lengths, lengths_at}
+use Rattle.dw_op.specs.Inner.Points.{IsLater, IsPoint, InRoom, IsStartMark, AreStartMarks, ArePlaces}
 use Rattle.dw_op.specs.Reading.{step_at}
 use Rattle.dw_op.specs.Walk.{Item, Walk, walk, index_in, find_at, goes_to, branch_to, op_of, put_first, resolve, unless, block_input, decode_at}
 use Rattle.dw_op.proofs.Decoded.{within_all, within_more, answered, same_ops}

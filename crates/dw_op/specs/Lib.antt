@@ -8,15 +8,9 @@ pub mod LeastOf
 pub mod Encoding
 pub mod Laws
 pub mod Reading
-pub mod ByOpcode
-pub mod Steps
 pub mod Walks
 pub mod Walk
 pub mod Operands
 pub mod Faults
-pub mod Windows
-pub mod Accepted
 pub mod Comparing
-pub mod ComparingLaws
-pub mod Lengths
-pub mod Points
+pub mod Inner

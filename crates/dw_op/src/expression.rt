@@ -9,7 +9,7 @@ ghost use Rattle.dw_op.specs.Block.{FrameBlock};
 ghost use Rattle.dw_op.specs.Least.{LeastBlock};
 ghost use Rattle.dw_op.specs.Faults.{BlockFault, IsWithin};
 ghost use Rattle.dw_op.specs.Encoding.{IsAppended};
-ghost use Rattle.dw_op.specs.Accepted.{IsAccepted, ops_of};
+ghost use Rattle.dw_op.specs.Inner.Accepted.{IsAccepted, ops_of};
 
 use crate::accepting::judge;
 use crate::comparing::{feed_steps, feed_target, same_steps};
@@ -38,7 +38,7 @@ impl<'a> Model for ExprRef<'a> {
     ghost Value = { Expression };
 
     ghost use Rattle.dw_num.specs.Input.{AreBytes};
-    ghost use Rattle.dw_op.specs.Accepted.{IsAccepted, ops_of};
+    ghost use Rattle.dw_op.specs.Inner.Accepted.{IsAccepted, ops_of};
 
     ghost view = { λ e. record { target = e.target; ops = ops_of e.target e.bytes.now } };
 
@@ -58,7 +58,7 @@ impl<'a> Model for OpSteps<'a> {
 
     ghost Value = { List Op };
 
-    ghost use Rattle.dw_op.specs.Accepted.{StepsSo, left_of};
+    ghost use Rattle.dw_op.specs.Inner.Accepted.{StepsSo, left_of};
 
     ghost view = { λ s. left_of s.walker };
 
@@ -219,7 +219,7 @@ impl<'a> ExprRef<'a> {
 impl<'a> PartialEq for ExprRef<'a> {
     ghost use Rattle.std.specs.Prelude.{◌≡◌, IsTrue, ◌↔◌};
     ghost use Rattle.dw_op.specs.Comparing.{same_expression};
-    ghost use Rattle.dw_op.specs.ComparingLaws.{same_laws};
+    ghost use Rattle.dw_op.specs.Inner.ComparingLaws.{same_laws};
 
     ghost eq = { same_expression };
 
@@ -236,14 +236,14 @@ impl<'a> PartialEq for ExprRef<'a> {
 }
 
 impl<'a> Eq for ExprRef<'a> {
-    ghost use Rattle.dw_op.specs.ComparingLaws.{equal_laws};
+    ghost use Rattle.dw_op.specs.Inner.ComparingLaws.{equal_laws};
 
     ghost laws = { equal_laws };
 }
 
 impl<'a> Hash for ExprRef<'a> {
     ghost use Rattle.dw_op.specs.Comparing.{expression_fed};
-    ghost use Rattle.dw_op.specs.ComparingLaws.{fed_alike};
+    ghost use Rattle.dw_op.specs.Inner.ComparingLaws.{fed_alike};
 
     ghost hash_input = { expression_fed };
 

@@ -4,9 +4,9 @@ ghost use Rattle.std.specs.Prelude.{◌≡◌, ◌+◌, ◌<◌, ◌≤◌, ◌-
 ghost use Rattle.std.specs.Bool.{MatchBool};
 ghost use Rattle.std.specs.Int.{w16, cast_unsigned};
 ghost use Rattle.dw_num.specs.Input.{behind};
-ghost use Rattle.dw_op.specs.Accepted.{IsAccepted};
-ghost use Rattle.dw_op.specs.Lengths.{lengths_at, step_length, total};
-ghost use Rattle.dw_op.specs.Points.{IsLater, IsPoint, InRoom, IsStartMark, AreStartMarks, ArePlaces, AreInRoom, IsReached};
+ghost use Rattle.dw_op.specs.Inner.Accepted.{IsAccepted};
+ghost use Rattle.dw_op.specs.Inner.Lengths.{lengths_at, step_length, total};
+ghost use Rattle.dw_op.specs.Inner.Points.{IsLater, IsPoint, InRoom, IsStartMark, AreStartMarks, ArePlaces, AreInRoom, IsReached};
 ghost use Rattle.dw_op.specs.Reading.{bare_step};
 ghost use Rattle.dw_op.specs.Walk.{block_input};
 

@@ -4,8 +4,8 @@ ghost use Rattle.std.specs.Prelude.{◌≡◌, ℕ, ◌<◌, ◌^◌, ◌++◌, 
 ghost use Rattle.dw_op.specs.Block.{branch_target};
 ghost use Rattle.dw_op.specs.Expression.{bare};
 ghost use Rattle.dw_op.specs.Encoding.{EachFits, blank_parts, least_len, least_block};
-ghost use Rattle.dw_op.specs.Lengths.{least_lengths, lengths_at};
-ghost use Rattle.dw_op.specs.Points.{AreSmall, ArePlaces, IsBranching, bits_at};
+ghost use Rattle.dw_op.specs.Inner.Lengths.{least_lengths, lengths_at};
+ghost use Rattle.dw_op.specs.Inner.Points.{AreSmall, ArePlaces, IsBranching, bits_at};
 
 use crate::encoding::branch_target;
 use crate::expression::OpSteps;

@@ -4,7 +4,7 @@ ghost use Rattle.std.specs.Prelude.{◌≡◌, ◌<◌, ◌≤◌, ◌+◌, ◌-
 ghost use Rattle.dw_num.specs.Input.{AreBytes};
 ghost use Rattle.dw_op.specs.declared.profile.Profile.TheVariants.{Frame};
 ghost use Rattle.dw_op.specs.Walk.{walk, end_of, index_at, index_in, goes_to, find_at, block_input};
-ghost use Rattle.dw_op.specs.Windows.{Shifted, block_of, WalkSo, SoughtSo, Walks};
+ghost use Rattle.dw_op.specs.Inner.Windows.{Shifted, block_of, WalkSo, SoughtSo, Walks};
 
 use crate::decoding::{goal, named};
 use crate::marking::{APART, Mark, Marks, ROOM, fill, index_by};

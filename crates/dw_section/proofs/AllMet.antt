@@ -9,9 +9,9 @@ use Rattle.dw_section.specs.declared.judging.Initial.{Initial}
 use Rattle.dw_section.specs.Cut.{Piece}
 use Rattle.dw_section.specs.Headers as head
 use Rattle.dw_section.specs.Headers.{Head}
-use Rattle.dw_section.specs.Heads.{cie_ats}
-use Rattle.dw_section.specs.Initials.{place_of, AreInitials}
-use Rattle.dw_section.specs.Left.{AreHeaders}
+use Rattle.dw_section.specs.Inner.Heads.{cie_ats}
+use Rattle.dw_section.specs.Inner.Initials.{place_of, AreInitials}
+use Rattle.dw_section.specs.Inner.Left.{AreHeaders}
 use Rattle.dw_section.specs.Places.{cie_places}
 use Rattle.dw_section.proofs.HeaderLaws.{AreCies, fdes_more}
 use Rattle.dw_section.proofs.Heads.{same_places}

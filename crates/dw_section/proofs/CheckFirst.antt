@@ -20,7 +20,7 @@ use Rattle.dw_section.specs.declared.error.SectionError.TheVariants.{Refused, Ou
 use Rattle.dw_section.specs.Faults.{Refuses}
 use Rattle.dw_section.specs.Stage.{FirstStuck, Then}
 use Rattle.dw_section.specs.Headers.{Head, cie, fde, Headers, HeadersFault}
-use Rattle.dw_section.specs.Heads.{HeadsRise, FdeFits, HasBytes, cie_ats}
+use Rattle.dw_section.specs.Inner.Heads.{HeadsRise, FdeFits, HasBytes, cie_ats}
 use Rattle.dw_section.specs.Overlap.{Range, IsIn, IsIndex, AreApart, FirstOverlap, end_of}
 use Rattle.dw_section.specs.Programs.{input_of, Instrs, CieRuns, CieBroken, FdeRuns, FdeBroken, HasRules, LacksRule}
 use Rattle.dw_section.specs.Accepted.{CiesRun, FdesRun, RulesHold, Indexed, Accepted, CieProgramsFault, FdeProgramsFault, RulesFault, CheckFault}

@@ -12,7 +12,7 @@ use Rattle.dw_cfa.specs.InstrSpells.{Program}
 use Rattle.dw_cfa.specs.Listing.{Listing, answers, complete}
 use Rattle.dw_cfa.specs.Location.{moves_location, row_starts}
 use Rattle.dw_cfa.proofs.Listings.{some_spelled}
-use Rattle.dw_section.specs.Counted.{moves_in}
+use Rattle.dw_section.specs.Inner.Counted.{moves_in}
 use Rattle.dw_section.specs.Cut.{Item, gap, entry, Piece, pieces, item_bytes, all_bytes}
 use Rattle.dw_section.specs.Headers.{Head, cie, fde, Has, Headers}
 use Rattle.dw_section.specs.Meaning.{total}

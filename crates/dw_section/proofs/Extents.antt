@@ -5,8 +5,8 @@ use Rattle.dw_num.specs.Span.{span_of}
 use Rattle.dw_section.specs.declared.rereading.FoundFde.{FoundFde}
 use Rattle.dw_section.specs.Meaning.{HasLengths}
 use Rattle.dw_section.specs.Headers.{Head}
-use Rattle.dw_section.specs.Heads.{head_program}
-use Rattle.dw_section.specs.Lookup.{IsFoundIn, fde_of}
+use Rattle.dw_section.specs.Inner.Heads.{head_program}
+use Rattle.dw_section.specs.Inner.Lookup.{IsFoundIn, fde_of}
 use Rattle.dw_section.specs.Programs.{FdeRuns}
 use Rattle.dw_section.proofs.Heads.{all_in, heads_rise, one_among}
 

@@ -30,7 +30,7 @@ use Rattle.dw_section.specs.Faults.{is_32, body_at, item_at, CutFault, Refuses}
 use Rattle.dw_section.specs.FdeFields.{is_among}
 use Rattle.dw_section.specs.Fields.{wanted_at, wanted_of, version_of, known, version_in, version_at, empty_of, empty_string_at, selector_of, sizes_at, return_register_at, cie_of, after_data, after_code, factors_at, after_sizes, after_string, after_version, cie_fields_at, named_of, pointer_at, fde_of, after_begin, range_at, after_pointer, fde_fields_at}
 use Rattle.dw_section.specs.Headers.{Head, cie, fde, Has, Headers, contents_of, cie_of_piece, cie_behind_id, cie_at, fde_of_piece, fde_at, CieStuck, FdeStuck, CieFieldsFault, HeadersFault}
-use Rattle.dw_section.specs.Heads.{HasBytes}
+use Rattle.dw_section.specs.Inner.Heads.{HasBytes}
 use Rattle.dw_section.specs.Overlap.{Range, nonempty, IsIn}
 use Rattle.dw_section.specs.Pieces.{Pieces}
 use Rattle.dw_section.specs.Places.{cie_places}

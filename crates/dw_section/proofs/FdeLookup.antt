@@ -7,16 +7,16 @@ use Rattle.dw_num.specs.declared.target.Target.{Target}
 use Rattle.dw_section.specs.declared.indexing.Ranged.{Ranged}
 use Rattle.dw_section.specs.declared.lookup.Fde.{Fde}
 use Rattle.dw_section.specs.Headers.{Head, cie, fde}
-use Rattle.dw_section.specs.Heads.{HeadsRise}
-use Rattle.dw_section.specs.Index.{range_in, IsRanged}
-use Rattle.dw_section.specs.Lookup.{fde_in}
+use Rattle.dw_section.specs.Inner.Heads.{HeadsRise}
+use Rattle.dw_section.specs.Inner.Index.{range_in, IsRanged}
+use Rattle.dw_section.specs.Inner.Lookup.{fde_in}
 use Rattle.dw_section.specs.Meaning.{Returns, Lists, AreFdes, Covers, NoneCovers}
 use Rattle.dw_section.specs.Overlap.{Range, Precedes, Ascends, AreApart, IsIndex, end_of}
 use Rattle.dw_section.specs.Table.{IsTable, IsKept}
 use Rattle.dw_section.specs.declared.cutting.EntryCounts.{EntryCounts}
 use Rattle.dw_section.specs.declared.judging.Initial.{Initial}
-use Rattle.dw_section.specs.Initials.{AreInitials}
-use Rattle.dw_section.specs.Left.{AreHeaders}
+use Rattle.dw_section.specs.Inner.Initials.{AreInitials}
+use Rattle.dw_section.specs.Inner.Left.{AreHeaders}
 use Rattle.dw_section.proofs.Judged.{all_get}
 use Rattle.dw_section.proofs.HeaderLaws.{one_headers}
 use Rattle.dw_section.proofs.Heads.{heads_rise, one_among}

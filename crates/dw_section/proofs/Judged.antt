@@ -38,8 +38,8 @@ use Rattle.dw_section.specs.declared.judging.Initial.{Initial}
 use Rattle.dw_section.specs.FdeFields.{is_among}
 use Rattle.dw_section.specs.Faults.{Refuses}
 use Rattle.dw_section.specs.Headers.{Head, cie, fde}
-use Rattle.dw_section.specs.Heads.{head_at, cie_at_of, cie_ats}
-use Rattle.dw_section.specs.Initials.{of_run, or_place, place_of, IsInitial, IsBehind, AreInitials, HasOrLacks, FirstLacking}
+use Rattle.dw_section.specs.Inner.Heads.{head_at, cie_at_of, cie_ats}
+use Rattle.dw_section.specs.Inner.Initials.{of_run, or_place, place_of, IsInitial, IsBehind, AreInitials, HasOrLacks, FirstLacking}
 use Rattle.dw_section.specs.Places.{Rises}
 use Rattle.dw_section.specs.Programs.{input_of, IsAmong, Begins, Instrs, CieRuns, FdeRuns, FdeBroken, HasRules, LacksRule}
 use Rattle.dw_cfa.proofs.Counting.{counts_exists}

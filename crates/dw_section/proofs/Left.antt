@@ -15,9 +15,9 @@ use Rattle.dw_section.specs.Faults.{item_at}
 use Rattle.dw_section.specs.Pieces.{Pieces}
 use Rattle.dw_section.specs.Places.{cie_places}
 use Rattle.dw_section.specs.Headers.{Head, Has}
-use Rattle.dw_section.specs.Left.{PiecesLeft, HeadsLeft, Stays, AreHeaders}
+use Rattle.dw_section.specs.Inner.Left.{PiecesLeft, HeadsLeft, Stays, AreHeaders}
 use Rattle.dw_section.proofs.Items.{front_item, item_some, stuck_before}
-use Rattle.dw_section.specs.Heads.{head_at}
+use Rattle.dw_section.specs.Inner.Heads.{head_at}
 use Rattle.dw_section.specs.Programs.{IsAmong}
 use Rattle.dw_section.proofs.HeaderLaws.{has_one}
 use Rattle.dw_section.proofs.Heads.{has_at}

@@ -8,7 +8,7 @@ use Rattle.dw_section.specs.declared.lookup.Fde.{Fde}
 use Rattle.dw_section.specs.Accepted.{Accepted}
 use Rattle.dw_section.specs.Headers.{Head}
 use Rattle.dw_section.specs.Headers as head
-use Rattle.dw_section.specs.Heads.{head_program}
+use Rattle.dw_section.specs.Inner.Heads.{head_program}
 use Rattle.dw_section.specs.Meaning.{Says, HasLengths}
 use Rattle.dw_section.specs.Overlap.{Range}
 use Rattle.dw_section.specs.Programs.{IsAmong}

@@ -6,7 +6,7 @@ use Rattle.dw_cfa.specs.RuleAt.{last_at, NeverFalls}
 use Rattle.dw_cfa.specs.Rows.{Rules}
 use Rattle.dw_section.specs.declared.rereading.FoundFde.{FoundFde}
 use Rattle.dw_section.specs.declared.lookup.Fde.{Fde}
-use Rattle.dw_section.specs.Lookup.{rows_of}
+use Rattle.dw_section.specs.Inner.Lookup.{rows_of}
 use Rattle.dw_section.specs.Meaning.{NoneCovers, RulesAt}
 use Rattle.dw_section.specs.Table.{Section}
 

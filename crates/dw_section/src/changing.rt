@@ -5,8 +5,8 @@ ghost use Rattle.dw_num.specs.Target.{address_limit};
 ghost use Rattle.dw_cfa.specs.Rows.{Rules};
 ghost use Rattle.dw_cfa.specs.Walking.{AllKeep};
 ghost use Rattle.dw_section.specs.Changes.{Before, GivesAddress, GivesChange, FindsChange, changing, before_then};
-ghost use Rattle.dw_section.specs.Shown.{shown_of};
-ghost use Rattle.dw_section.specs.Lookup.{rows_of};
+ghost use Rattle.dw_section.specs.Inner.Shown.{shown_of};
+ghost use Rattle.dw_section.specs.Inner.Lookup.{rows_of};
 
 use crate::rereading::FoundFde;
 use dw_cfa::{Row, RowWalk};
@@ -24,7 +24,7 @@ pub(crate) struct Shown<'a> {
 impl<'a> Model for Shown<'a> {
     ghost use Rattle.std.specs.Prelude.{Option};
     ghost use Rattle.dw_cfa.specs.Rows.{Rules};
-    ghost use Rattle.dw_section.specs.Shown.{shown_if};
+    ghost use Rattle.dw_section.specs.Inner.Shown.{shown_if};
 
     ghost Value = { Option Rules };
 
@@ -137,7 +137,7 @@ pub struct Changes<'a> {
 impl<'a> Model for Changes<'a> {
     ghost use Rattle.std.specs.Prelude.{◌≡◌, None};
     ghost use Rattle.dw_section.specs.Changes.{Changing};
-    ghost use Rattle.dw_section.specs.Shown.{shown_of, before_of};
+    ghost use Rattle.dw_section.specs.Inner.Shown.{shown_of, before_of};
 
     ghost Value = { Changing };
 

@@ -3,14 +3,14 @@
 ghost use Rattle.std.specs.Prelude.{◌≡◌, ◌+◌, ◌≤◌, ℕ, List, length, map};
 ghost use Rattle.std.specs.List.{AllByRecursion, AllZip};
 ghost use Rattle.dw_cfa.specs.Listing.{answers};
-ghost use Rattle.dw_section.specs.Counted.{starts_row, moves_in, IsProgram, StartsOf};
+ghost use Rattle.dw_section.specs.Inner.Counted.{starts_row, moves_in, IsProgram, StartsOf};
 ghost use Rattle.dw_section.specs.Meaning.{RowStarts, Starts, total};
 ghost use Rattle.dw_num.specs.Input.{AreBytes};
 ghost use Rattle.dw_section.specs.Accepted.{RulesHold};
 ghost use Rattle.dw_section.specs.Headers.{Head};
-ghost use Rattle.dw_section.specs.Index.{range_in, IsRanged};
-ghost use Rattle.dw_section.specs.Initials.{AreInitials};
-ghost use Rattle.dw_section.specs.Left.{AreHeaders};
+ghost use Rattle.dw_section.specs.Inner.Index.{range_in, IsRanged};
+ghost use Rattle.dw_section.specs.Inner.Initials.{AreInitials};
+ghost use Rattle.dw_section.specs.Inner.Left.{AreHeaders};
 
 use crate::indexing::Ranged;
 use crate::judging::Initial;

@@ -10,7 +10,7 @@ ghost use Rattle.dw_num.specs.Input.{Takes};
 ghost use Rattle.dw_num.specs.Reading.{Gives};
 ghost use Rattle.dw_section.specs.Cut.{Cut, Item, IsItem, Piece, item_bytes, is_cie, id_width};
 ghost use Rattle.dw_section.specs.Counts.{AreCounts, counted_by};
-ghost use Rattle.dw_section.specs.Left.{PiecesLeft, GivesPiece, GoesOn};
+ghost use Rattle.dw_section.specs.Inner.Left.{PiecesLeft, GivesPiece, GoesOn};
 ghost use Rattle.dw_section.specs.Pieces.{Pieces, Entries, IsPlaced};
 ghost use Rattle.dw_section.specs.Faults.{item_at, item_of, CutFault, Refuses};
 ghost use Rattle.dw_section.specs.FaultPlaces.{IsWithin};

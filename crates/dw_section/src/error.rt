@@ -2,7 +2,7 @@
 
 ghost use Rattle.std.specs.Prelude.{◌≡◌};
 ghost use Rattle.dw_section.specs.declared.error.SectionError.TheVariants.{OutOfMemory, Refused};
-ghost use Rattle.dw_section.specs.Initials.{of_run};
+ghost use Rattle.dw_section.specs.Inner.Initials.{of_run};
 
 use dw_cfa::RunError;
 use dw_num::Refusal;

@@ -41,7 +41,7 @@ pub struct Lookups<'t, 'a> {
 
 impl<'t, 'a> Model for Lookups<'t, 'a> {
     ghost use Rattle.dw_section.specs.Finding.{Finding};
-    ghost use Rattle.dw_section.specs.Shown.{shown_if};
+    ghost use Rattle.dw_section.specs.Inner.Shown.{shown_if};
 
     ghost Value = { Finding };
 

@@ -14,8 +14,8 @@ ghost use Rattle.dw_section.specs.Faults.{Refuses};
 ghost use Rattle.dw_section.specs.FaultPlaces.{IsWithin};
 ghost use Rattle.dw_section.specs.Pieces.{Pieces, piece_in};
 ghost use Rattle.dw_section.specs.Places.{cie_places, Rises};
-ghost use Rattle.dw_section.specs.Heads.{head_at};
-ghost use Rattle.dw_section.specs.Left.{HeadsLeft, GivesHead, GoesOn};
+ghost use Rattle.dw_section.specs.Inner.Heads.{head_at};
+ghost use Rattle.dw_section.specs.Inner.Left.{HeadsLeft, GivesHead, GoesOn};
 ghost use Rattle.dw_section.specs.Headers.{Head, Has, Headers, cie_at, fde_at, program_of, head_in, CieHolds, CieStuck, FdeHolds, FdeStuck, HeadersFault};
 
 use crate::cutting::{Kind, Placed, cut, next_piece, width_of};

@@ -1,7 +1,7 @@
 //! Running the programs of a section's entries (6.4.2, 6.4.3).
 
 ghost use Rattle.std.specs.Prelude.{◌≡◌, ◌+◌, ◌<◌, ℕ, true, false, List, [], ◌∷◌, ◌++◌, length, slice_index_or, map, Some, None, IfOk, IfErr, IfSome, OnOk};
-ghost use Rattle.dw_section.specs.Left.{AreHeaders};
+ghost use Rattle.dw_section.specs.Inner.Left.{AreHeaders};
 ghost use Rattle.std.specs.List.{AllByRecursion};
 ghost use Rattle.dw_num.specs.declared.target.Form.{Form as TheForm};
 ghost use Rattle.dw_num.specs.declared.target.Target.{Target as TheTarget};
@@ -19,10 +19,10 @@ ghost use Rattle.dw_section.specs.FdeFields.{is_among};
 ghost use Rattle.dw_section.specs.Faults.{Refuses};
 ghost use Rattle.dw_section.specs.Headers.{Head, Has, CieHolds, cie, fde, head_in};
 ghost use Rattle.dw_section.specs.Pieces.{piece_in};
-ghost use Rattle.dw_section.specs.Heads.{FdeFits, IsTyped};
+ghost use Rattle.dw_section.specs.Inner.Heads.{FdeFits, IsTyped};
 ghost use Rattle.std.specs.Prelude.{FitsSigned};
 ghost use Rattle.std.specs.Int.{w64};
-ghost use Rattle.dw_section.specs.Initials.{place_of, IsInitial, IsBehind, IsLong, IsRunner, AreInitials, HasOrLacks};
+ghost use Rattle.dw_section.specs.Inner.Initials.{place_of, IsInitial, IsBehind, IsLong, IsRunner, AreInitials, HasOrLacks};
 ghost use Rattle.dw_section.specs.Places.{Rises};
 ghost use Rattle.dw_section.specs.Programs.{input_of, IsAmong, CieRuns, CieBroken, FdeRuns, FdeBroken};
 ghost use Rattle.dw_section.specs.Stage.{FirstStuck};

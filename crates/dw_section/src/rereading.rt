@@ -3,10 +3,10 @@
 ghost use Rattle.std.specs.Prelude.{◌≡◌, ◌<◌, ◌≤◌, List, length, drop, slice_index_or};
 ghost use Rattle.dw_section.specs.declared.lookup.Fde.{Fde as TheFde};
 ghost use Rattle.dw_section.specs.Headers.{Head};
-ghost use Rattle.dw_section.specs.Index.{IsRanged, IsFound};
-ghost use Rattle.dw_section.specs.Initials.{AreInitials};
-ghost use Rattle.dw_section.specs.Left.{AreHeaders};
-ghost use Rattle.dw_section.specs.Lookup.{fde_of, IsFoundIn};
+ghost use Rattle.dw_section.specs.Inner.Index.{IsRanged, IsFound};
+ghost use Rattle.dw_section.specs.Inner.Initials.{AreInitials};
+ghost use Rattle.dw_section.specs.Inner.Left.{AreHeaders};
+ghost use Rattle.dw_section.specs.Inner.Lookup.{fde_of, IsFoundIn};
 ghost use Rattle.dw_section.specs.Meaning.{AreFdes};
 
 use crate::heading::{Header, next_header};

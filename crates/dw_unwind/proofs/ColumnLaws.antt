@@ -11,7 +11,7 @@ use Rattle.dw_unwind.specs.declared.frame.Column.{Column}
 use Rattle.dw_unwind.specs.declared.frame.UnwindError.{UnwindError}
 use Rattle.dw_unwind.specs.declared.frame.UnwindError.TheVariants.{Eval, Device, OutOfMemory}
 use Rattle.dw_unwind.specs.Columns.{in_column, ValueIs, ValueFails}
-use Rattle.dw_unwind.specs.Recovery.{Over}
+use Rattle.dw_unwind.specs.Inner.Recovery.{Over}
 
 -- what is known of an evaluation over a memory
 record Tells (c : Context) (limit : ℕ) (e : Expression) (first : List ℕ) (before after : ℕ) (r : Result ℕ EvalError) : Type 0 where

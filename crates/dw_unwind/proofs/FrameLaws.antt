@@ -8,7 +8,7 @@ use Rattle.dw_section.specs.declared.lookup.Fde.{Fde}
 use Rattle.dw_section.specs.Meanings.{IsListed as IsAmongFdes}
 use Rattle.dw_unwind.specs.declared.frame.Policy.{Policy}
 use Rattle.dw_unwind.specs.Unwound.{is_listed, Rise, Has, IsListed, Recovers, AreRegisters, Reached}
-use Rattle.dw_unwind.specs.Recovery.{SoFar}
+use Rattle.dw_unwind.specs.Inner.Recovery.{SoFar}
 
 -- an FDE at a place of a list is among its FDEs
 pub listed_at : (fs : List Fde) (place : ℕ) (d : Fde) → place < length fs → IsAmongFdes (get_or fs place d) fs

@@ -10,7 +10,7 @@ use Rattle.dw_eval.specs.Registers.{held}
 use Rattle.dw_unwind.specs.declared.gathering.Gathered.{Gathered}
 use Rattle.dw_unwind.specs.declared.ranges.Range.{Range}
 use Rattle.dw_unwind.specs.Spelling.{Says}
-use Rattle.dw_unwind.specs.Gathered.{Keeps, IsWhole, HasBytes, ranges_of, bytes_by, bytes_of}
+use Rattle.dw_unwind.specs.Inner.Gathered.{Keeps, IsWhole, HasBytes, ranges_of, bytes_by, bytes_of}
 use Rattle.dw_unwind.specs.Statement.{Statement, Item, nothing, counter_is, register_is, memory_is, counter, register, told, or_else, given, times}
 
 or_else_none : (x : Option ℕ) → or_else x None ≡ x

@@ -5,7 +5,7 @@ use Rattle.std.specs.List.{AllZip}
 use Rattle.std.proofs.lemmas.Bool.Decides.{eqb_tells}
 use Rattle.dw_unwind.specs.declared.gathering.Gathered.{Gathered}
 use Rattle.dw_unwind.specs.Dump.{SaysWithin}
-use Rattle.dw_unwind.specs.Gathered.{Keeps, SoFar}
+use Rattle.dw_unwind.specs.Inner.Gathered.{Keeps, SoFar}
 use Rattle.dw_unwind.specs.Lines.{lines_of, in_front}
 use Rattle.dw_unwind.specs.Spelling.{len_until}
 use Rattle.dw_unwind.specs.Statement.{Statement}

@@ -4,10 +4,8 @@ pub mod Lines
 pub mod Dump
 pub mod Codes
 pub mod Ranges
-pub mod Stated
-pub mod Gathered
 pub mod Describes
 pub mod Columns
 pub mod Unwound
-pub mod Recovery
 pub mod Laws
+pub mod Inner

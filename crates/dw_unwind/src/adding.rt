@@ -1,9 +1,9 @@
 //! Adding what a line says to what the lines before it told.
 
 ghost use Rattle.std.specs.Prelude.{◌≡◌, ℕ, ◌+◌, ◌<◌, ◌≤◌, [], List, Some, None, IfOk, length, drop};
-ghost use Rattle.dw_unwind.specs.Gathered.{Adds, Gathers, HasBytes, Keeps, Takes};
+ghost use Rattle.dw_unwind.specs.Inner.Gathered.{Adds, Gathers, HasBytes, Keeps, Takes};
 ghost use Rattle.dw_unwind.specs.Lines.{lines_of};
-ghost use Rattle.dw_unwind.specs.Stated.{stated};
+ghost use Rattle.dw_unwind.specs.Inner.Stated.{stated};
 ghost use Rattle.dw_unwind.specs.Statement.{Statement as TheStatement, counter_is, register_is, memory_is};
 
 use crate::fault::{DumpCode, DumpFault};

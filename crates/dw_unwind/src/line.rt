@@ -4,7 +4,7 @@ ghost use Rattle.std.specs.Prelude.{◌≡◌, ℕ, ◌+◌, ◌<◌, ◌≤◌,
 ghost use Rattle.std.specs.Bool.{MatchBool};
 ghost use Rattle.dw_unwind.specs.Spelling.{digit, number_behind, Hexadecimal, RegisterName, HexPairs, CounterLine, RegisterLine, MemoryLine, MemoryHead, SkippedLine, Says, Lacks, len_until};
 ghost use Rattle.dw_unwind.specs.Statement.{Statement as TheStatement};
-ghost use Rattle.dw_unwind.specs.Stated.{stated};
+ghost use Rattle.dw_unwind.specs.Inner.Stated.{stated};
 
 use hex::FromHexError;
 use std::alloc::{AllocError, Global};

@@ -7,7 +7,7 @@ ghost use Rattle.dw_eval.specs.Context.{context};
 ghost use Rattle.dw_eval.specs.Evaluation.{first_stack};
 ghost use Rattle.dw_section.specs.Laws.{CfaIsFor, RuleIsFor};
 ghost use Rattle.dw_unwind.specs.declared.frame.UnwindError.TheVariants.{NoRegister};
-ghost use Rattle.dw_unwind.specs.Recovery.{Over};
+ghost use Rattle.dw_unwind.specs.Inner.Recovery.{Over};
 ghost use Rattle.dw_unwind.specs.Columns.{in_column, recovered, defaulted, value_in, saved_at, ValueIs, CfaIs, SavedBy, RegisterIs, SavedFails, ValueFails, SavedByFails, CfaFails, RegisterFails};
 
 use crate::frame::{Column, Policy, UnwindError};

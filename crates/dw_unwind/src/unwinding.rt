@@ -9,7 +9,7 @@ ghost use Rattle.dw_eval.specs.Registers.{held};
 ghost use Rattle.dw_section.specs.Laws.{RowIsFor};
 ghost use Rattle.dw_unwind.specs.declared.frame.UnwindError.{UnwindError as TheError};
 ghost use Rattle.dw_unwind.specs.declared.frame.UnwindError.TheVariants.{OutOfMemory};
-ghost use Rattle.dw_unwind.specs.Recovery.{Over, SoFar, Adds};
+ghost use Rattle.dw_unwind.specs.Inner.Recovery.{Over, SoFar, Adds};
 ghost use Rattle.dw_unwind.specs.Unwound.{is_listed, RegistersAre, RegistersFail, FrameIs, FrameFails, Unwound, UnwindFails, is_device, stopped};
 
 use crate::frame::{Frame, FrameRegisters, Policy, UnwindError};

@@ -1,5 +1,5 @@
 use Rattle.std.proofs.Common.{◌-◌, ◌≤◌}
-use Rattle.dw_cfa.specs.Entries.{CopiedBelow}
+use Rattle.dw_cfa.specs.Inner.Entries.{CopiedBelow}
 use Rattle.dw_cfa.proofs.row.copy_slots.Given as goal
 
 abbrev pub invariant-slots : goal.invariant-slots

@@ -1,6 +1,6 @@
 use Rattle.std.proofs.Common.{◌∷◌, [], ◌++◌, reverse, ap, ◌∙◌}
 use Rattle.dw_cfa.specs.declared.states.Undo.{Undo}
-use Rattle.dw_cfa.specs.States.{first_registers}
+use Rattle.dw_cfa.specs.Inner.States.{first_registers}
 use Rattle.dw_cfa.proofs.StatesLaws.{back_register, back_mark, back_none, no_items}
 use Rattle.dw_cfa.proofs.states.take_all_back.Goals as goal
 

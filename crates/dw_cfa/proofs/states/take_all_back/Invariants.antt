@@ -1,5 +1,5 @@
 use Rattle.std.proofs.Common.{◌≡◌, length, reverse}
-use Rattle.dw_cfa.specs.States.{first_registers}
+use Rattle.dw_cfa.specs.Inner.States.{first_registers}
 use Rattle.dw_cfa.proofs.states.take_all_back.Given as goal
 
 abbrev pub invariant-changes : goal.invariant-changes

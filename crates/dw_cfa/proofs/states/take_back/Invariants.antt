@@ -1,5 +1,5 @@
 use Rattle.std.proofs.Common.{length, reverse}
-use Rattle.dw_cfa.specs.States.{SameBehind}
+use Rattle.dw_cfa.specs.Inner.States.{SameBehind}
 use Rattle.dw_cfa.proofs.states.take_back.Given as goal
 
 abbrev pub invariant-changes : goal.invariant-changes

@@ -7,9 +7,9 @@ use Rattle.dw_canon.specs.Canon.{canon, cie_instrs}
 use Rattle.dw_canon.specs.Fits.{InstrFits}
 use Rattle.dw_canon.proofs.Canonical.{members_exist}
 use Rattle.dw_canon.proofs.Rendered.{renders}
-use Rattle.dw_normal.specs.Measuring.{cies_bytes, fdes_bytes}
-use Rattle.dw_normal.specs.Places.{cie_place, RowsRise}
-use Rattle.dw_normal.specs.Puts.{Puts, after}
+use Rattle.dw_normal.specs.Inner.Measuring.{cies_bytes, fdes_bytes}
+use Rattle.dw_normal.specs.Inner.Places.{cie_place, RowsRise}
+use Rattle.dw_normal.specs.Inner.Puts.{Puts, after}
 use Rattle.dw_normal.specs.declared.entry.PutError.{PutError}
 use Rattle.dw_normal.proofs.Entries.{canon_both, cies_long}
 use Rattle.dw_normal.proofs.Joined.{most_taken, put_begins, puts_both, same_err}

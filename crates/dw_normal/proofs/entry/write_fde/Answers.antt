@@ -6,8 +6,8 @@ use Rattle.dw_num.specs.declared.target.Target.{Target}
 use Rattle.dw_section.specs.Cut.{entry, item_bytes}
 use Rattle.dw_canon.specs.Written.{contents, entry_bytes}
 use Rattle.dw_canon.proofs.Canonical.{members_exist}
-use Rattle.dw_normal.specs.Places.{fde_with}
-use Rattle.dw_normal.specs.Puts.{Puts}
+use Rattle.dw_normal.specs.Inner.Places.{fde_with}
+use Rattle.dw_normal.specs.Inner.Puts.{Puts}
 use Rattle.dw_normal.proofs.Grouped.{no_member}
 use Rattle.dw_normal.proofs.Joined.{ok_of, none_put}
 use Rattle.dw_normal.proofs.Located.{member_below, contents_low}

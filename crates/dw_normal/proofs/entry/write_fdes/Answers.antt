@@ -3,13 +3,13 @@ use Rattle.std.specs.Prelude.{◌^◌}
 use Rattle.std.proofs.lemmas.List.{length-map}
 use Rattle.dw_canon.specs.Members.{fde_of}
 use Rattle.dw_canon.proofs.Canonical.{members_exist}
-use Rattle.dw_normal.specs.Measuring.{fdes_bytes}
+use Rattle.dw_normal.specs.Inner.Measuring.{fdes_bytes}
 use Rattle.dw_normal.proofs.Entries.{fde_counted, fdes_fail, fdes_next, fdes_end}
 use Rattle.dw_normal.proofs.Grouped.{no_member}
 use Rattle.dw_normal.proofs.Joined.{same_err}
 use Rattle.dw_normal.proofs.Summed.{none_bytes}
 use Rattle.dw_normal.proofs.Taken.{took_none}
-use Rattle.dw_normal.specs.Puts.{Puts}
+use Rattle.dw_normal.specs.Inner.Puts.{Puts}
 use Rattle.dw_normal.proofs.entry.write_fdes.Goals as goal
 
 pub fdes-init : goal.fdes-init

@@ -1,5 +1,5 @@
 use Rattle.std.proofs.Common.{length}
-use Rattle.dw_op.specs.Windows.{Shifted}
+use Rattle.dw_op.specs.Inner.Windows.{Shifted}
 use Rattle.dw_op.proofs.walking.advance.Given as goal
 
 abbrev pub invariant-ops : goal.invariant-ops

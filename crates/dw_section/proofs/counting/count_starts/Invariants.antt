@@ -1,6 +1,6 @@
 use Rattle.std.proofs.Common.{◌≡◌, ◌+◌, ◌≤◌, length}
 use Rattle.dw_cfa.specs.Listing.{answers}
-use Rattle.dw_section.specs.Counted.{moves_in}
+use Rattle.dw_section.specs.Inner.Counted.{moves_in}
 use Rattle.dw_section.proofs.counting.count_starts.Given as goal
 
 abbrev pub invariant-instrs : goal.invariant-instrs

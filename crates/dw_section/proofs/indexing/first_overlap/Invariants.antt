@@ -1,5 +1,5 @@
 use Rattle.std.proofs.Common.{map, take}
-use Rattle.dw_section.specs.Index.{range_in, EndsAt}
+use Rattle.dw_section.specs.Inner.Index.{range_in, EndsAt}
 use Rattle.dw_section.specs.Overlap.{AreApart}
 use Rattle.dw_section.proofs.indexing.first_overlap.Given as goal
 

@@ -1,10 +1,10 @@
 use Rattle.std.proofs.Common.{List, [], None, refl, arith, map}
 use Rattle.std.proofs.lemmas.Result.{err_from_is_err_and}
 use Rattle.dw_section.specs.Headers.{Head, head_in}
-use Rattle.dw_section.specs.Heads.{FdeFits}
-use Rattle.dw_section.specs.Index.{AreJudged}
-use Rattle.dw_section.specs.Initials.{place_of}
-use Rattle.dw_section.specs.Left.{HeadsLeft}
+use Rattle.dw_section.specs.Inner.Heads.{FdeFits}
+use Rattle.dw_section.specs.Inner.Index.{AreJudged}
+use Rattle.dw_section.specs.Inner.Initials.{place_of}
+use Rattle.dw_section.specs.Inner.Left.{HeadsLeft}
 use Rattle.dw_section.specs.Programs.{FdeRuns, FdeBroken}
 use Rattle.dw_section.proofs.Between.{between_start, between_next, between_end, between_stuck, between_among}
 use Rattle.dw_section.proofs.Heads.{all_in}

@@ -1,8 +1,8 @@
 use Rattle.std.proofs.Common.{length, List}
 use Rattle.dw_section.specs.Headers.{Head}
-use Rattle.dw_section.specs.Index.{AreJudged}
-use Rattle.dw_section.specs.Initials.{AreInitials, IsRunner}
-use Rattle.dw_section.specs.Left.{HeadsLeft, Stays, AreHeaders}
+use Rattle.dw_section.specs.Inner.Index.{AreJudged}
+use Rattle.dw_section.specs.Inner.Initials.{AreInitials, IsRunner}
+use Rattle.dw_section.specs.Inner.Left.{HeadsLeft, Stays, AreHeaders}
 use Rattle.dw_section.proofs.Between.{Between}
 use Rattle.dw_section.proofs.indexing.run_fdes.Given as goal
 

@@ -1,5 +1,5 @@
 use Rattle.std.proofs.Common.{Some, ℕ, refl, subst}
-use Rattle.dw_section.specs.Initials.{IsBehind}
+use Rattle.dw_section.specs.Inner.Initials.{IsBehind}
 use Rattle.dw_section.proofs.judging.go_behind.Goals as goal
 
 pub returns : goal.returns

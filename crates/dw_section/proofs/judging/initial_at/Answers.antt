@@ -1,6 +1,6 @@
 use Rattle.std.proofs.Common.{ap, sym, subst, ◌∙◌}
 use Rattle.dw_section.specs.declared.judging.Initial.{Initial}
-use Rattle.dw_section.specs.Initials.{IsInitial}
+use Rattle.dw_section.specs.Inner.Initials.{IsInitial}
 use Rattle.dw_section.proofs.Judged.{all_get}
 use Rattle.dw_section.proofs.judging.initial_at.Goals as goal
 

@@ -1,4 +1,4 @@
-use Rattle.dw_section.specs.Initials.{IsLong}
+use Rattle.dw_section.specs.Inner.Initials.{IsLong}
 use Rattle.dw_section.proofs.Stages.{all_push}
 use Rattle.dw_section.proofs.judging.keep_long.Goals as goal
 

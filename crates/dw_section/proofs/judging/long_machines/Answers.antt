@@ -1,5 +1,5 @@
 use Rattle.std.proofs.Common.{sym, subst}
-use Rattle.dw_section.specs.Initials.{IsInitial}
+use Rattle.dw_section.specs.Inner.Initials.{IsInitial}
 use Rattle.dw_section.proofs.Judged.{all_get}
 use Rattle.dw_section.proofs.judging.long_machines.Goals as goal
 

@@ -4,8 +4,8 @@ use Rattle.std.proofs.lemmas.Result.{err_from_is_err_and}
 use Rattle.dw_num.specs.declared.target.Target.{Target}
 use Rattle.dw_section.specs.Pieces.{piece_in}
 use Rattle.dw_section.specs.Headers.{Head, Has}
-use Rattle.dw_section.specs.Initials.{AreInitials}
-use Rattle.dw_section.specs.Left.{HeadsLeft}
+use Rattle.dw_section.specs.Inner.Initials.{AreInitials}
+use Rattle.dw_section.specs.Inner.Left.{HeadsLeft}
 use Rattle.dw_section.specs.Programs.{CieRuns, CieBroken}
 use Rattle.dw_section.proofs.Between.{between_start, between_next, between_end, between_stuck, between_among}
 use Rattle.dw_section.proofs.HeaderLaws.{has_cie}

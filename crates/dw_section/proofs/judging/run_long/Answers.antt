@@ -2,7 +2,7 @@ use Rattle.std.proofs.Common.{Some, ℕ, sym, ap, subst, ◌∙◌}
 use Rattle.std.proofs.lemmas.Result.{IfOk-weaker, IfErr-weaker}
 use Rattle.dw_num.specs.Span.{span_of}
 use Rattle.dw_section.specs.declared.judging.Long.{Long}
-use Rattle.dw_section.specs.Initials.{IsBehind, IsLong}
+use Rattle.dw_section.specs.Inner.Initials.{IsBehind, IsLong}
 use Rattle.dw_section.proofs.Judged.{refuses_by, all_get, all_set, behind_stays, behind_found, behind_broken}
 use Rattle.dw_section.proofs.judging.run_long.Goals as goal
 

@@ -4,9 +4,9 @@ use Rattle.dw_num.specs.declared.target.Target.{Target}
 use Rattle.dw_num.specs.Input.{Input}
 use Rattle.dw_num.specs.Span.{span_of}
 use Rattle.dw_section.specs.Headers.{Head, cie, fde, head_in}
-use Rattle.dw_section.specs.Heads.{FdeFits, head_at}
-use Rattle.dw_section.specs.Initials.{place_of}
-use Rattle.dw_section.specs.Left.{HeadsLeft, AreHeaders}
+use Rattle.dw_section.specs.Inner.Heads.{FdeFits, head_at}
+use Rattle.dw_section.specs.Inner.Initials.{place_of}
+use Rattle.dw_section.specs.Inner.Left.{HeadsLeft, AreHeaders}
 use Rattle.dw_section.specs.Meaning.{Returns}
 use Rattle.dw_section.specs.Overlap.{Range}
 use Rattle.dw_section.specs.Places.{Rises}

@@ -1,7 +1,7 @@
 use Rattle.std.proofs.Common.{ℕ, List, ◌∙◌, sym, subst, inl, inr, ap, length}
 use Rattle.std.proofs.lemmas.Result.{err_from_is_err_and}
-use Rattle.dw_section.specs.Initials.{AreInitials}
-use Rattle.dw_section.specs.Left.{AreHeaders}
+use Rattle.dw_section.specs.Inner.Initials.{AreInitials}
+use Rattle.dw_section.specs.Inner.Left.{AreHeaders}
 use Rattle.dw_section.specs.Places.{Rises}
 use Rattle.dw_section.proofs.HeaderLaws.{pieces_rise}
 use Rattle.dw_section.proofs.Heads.{heads_rise}

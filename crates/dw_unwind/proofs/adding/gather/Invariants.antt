@@ -1,5 +1,5 @@
 use Rattle.std.proofs.Common.{length}
-use Rattle.dw_unwind.specs.Gathered.{SoFar}
+use Rattle.dw_unwind.specs.Inner.Gathered.{SoFar}
 use Rattle.dw_unwind.proofs.adding.gather.Given as goal
 
 abbrev pub invariant-loop-rest : goal.invariant-loop-rest

@@ -1,4 +1,4 @@
-use Rattle.dw_unwind.specs.Stated.{stated}
+use Rattle.dw_unwind.specs.Inner.Stated.{stated}
 use Rattle.dw_unwind.proofs.KeepLaws.{says_bytes}
 use Rattle.dw_unwind.proofs.adding.take_line.Goals as goal
 

@@ -1,6 +1,6 @@
 use Rattle.std.proofs.Common.{sym, subst}
 use Rattle.dw_num.specs.declared.target.Target.{Target}
-use Rattle.dw_unwind.specs.Recovery.{Over}
+use Rattle.dw_unwind.specs.Inner.Recovery.{Over}
 use Rattle.dw_unwind.specs.Unwound.{Unwound, UnwindFails, stopped}
 use Rattle.dw_unwind.proofs.ColumnLaws.{over_answered}
 use Rattle.dw_unwind.proofs.unwinding.unwind.Goals as goal

@@ -1,6 +1,6 @@
 use Rattle.std.proofs.Common.{Option, ℕ, List, sym, ap, subst}
 use Rattle.dw_cfa.specs.declared.rule.RegRule.{RegRule}
-use Rattle.dw_cfa.specs.States.{Held, BeganWith}
+use Rattle.dw_cfa.specs.Inner.States.{Held, BeganWith}
 use Rattle.dw_cfa.proofs.StatesLaws.{began}
 use Rattle.dw_cfa.proofs.following.CieMachine.new.Goals as goal
 

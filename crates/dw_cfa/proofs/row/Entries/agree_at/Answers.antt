@@ -1,5 +1,5 @@
 use Rattle.std.proofs.Common.{sym, ap, ◌∙◌}
-use Rattle.dw_cfa.specs.Entries.{entries_of}
+use Rattle.dw_cfa.specs.Inner.Entries.{entries_of}
 use Rattle.dw_cfa.specs.Narrowing.{same_rule, is_agreed}
 use Rattle.dw_cfa.proofs.Slots.{slots_ascend}
 use Rattle.dw_cfa.proofs.Narrowed.{leaves_none}

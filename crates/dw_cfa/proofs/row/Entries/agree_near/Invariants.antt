@@ -1,5 +1,5 @@
 use Rattle.std.proofs.Common.{◌-◌, ◌≤◌}
-use Rattle.dw_cfa.specs.Entries.{entries_of, EntriesSo, LeavesBelow}
+use Rattle.dw_cfa.specs.Inner.Entries.{entries_of, EntriesSo, LeavesBelow}
 use Rattle.dw_cfa.specs.Narrowing.{is_agreed}
 use Rattle.dw_cfa.proofs.row.Entries.agree_near.Given as goal
 

@@ -1,7 +1,7 @@
 use Rattle.std.proofs.Common.{refl, ap, ◌∙◌}
 use Rattle.std.proofs.lemmas.List.{length-set}
 use Rattle.dw_cfa.specs.declared.rule.RegRule.TheVariants.{Unspecified}
-use Rattle.dw_cfa.specs.Entries.{listed_near}
+use Rattle.dw_cfa.specs.Inner.Entries.{listed_near}
 use Rattle.dw_cfa.proofs.Slots.{no_slot, slot_set, covers_clear}
 use Rattle.std.specs.Prelude.{ℕ}
 use Rattle.std.proofs.Common.{set}

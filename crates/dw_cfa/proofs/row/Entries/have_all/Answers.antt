@@ -1,6 +1,6 @@
 use Rattle.std.proofs.Common.{◌≡◌, List, false, sym, ap, subst, ◌∙◌}
 use Rattle.std.specs.List.{filter}
-use Rattle.dw_cfa.specs.Entries.{entries_of}
+use Rattle.dw_cfa.specs.Inner.Entries.{entries_of}
 use Rattle.dw_cfa.specs.Narrowing.{is_kept}
 use Rattle.dw_cfa.specs.Rows.{is_specified}
 use Rattle.dw_cfa.proofs.Narrowed.{first_dropped}

@@ -1,5 +1,5 @@
 use Rattle.std.proofs.Common.{ℕ, subst}
-use Rattle.dw_cfa.specs.Entries.{entries_of}
+use Rattle.dw_cfa.specs.Inner.Entries.{entries_of}
 use Rattle.dw_cfa.specs.Differing.{SameBetween, place_behind}
 use Rattle.dw_cfa.proofs.Differing.{first_of_all}
 use Rattle.dw_cfa.proofs.row.Entries.next_difference.Goals as goal

@@ -1,5 +1,5 @@
 use Rattle.std.proofs.Common.{◌-◌, ◌≤◌}
-use Rattle.dw_cfa.specs.Entries.{entries_of}
+use Rattle.dw_cfa.specs.Inner.Entries.{entries_of}
 use Rattle.dw_cfa.specs.Differing.{SameBetween}
 use Rattle.dw_cfa.proofs.row.Entries.next_near_difference.Given as goal
 

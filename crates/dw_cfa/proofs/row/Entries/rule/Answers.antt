@@ -1,6 +1,6 @@
 use Rattle.std.proofs.Common.{ℕ, get_or, sym, ap, ◌∙◌}
 use Rattle.dw_cfa.specs.Rows.{rule_in}
-use Rattle.dw_cfa.specs.Entries.{slot_rule}
+use Rattle.dw_cfa.specs.Inner.Entries.{slot_rule}
 use Rattle.dw_cfa.proofs.Slots.{no_slot, near_rule, far_rule}
 use Rattle.dw_cfa.proofs.row.Entries.rule.Goals as goal
 

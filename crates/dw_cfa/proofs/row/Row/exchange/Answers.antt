@@ -1,5 +1,5 @@
 use Rattle.std.proofs.Common.{ℕ, Ok}
-use Rattle.dw_cfa.specs.Entries.{entries_of}
+use Rattle.dw_cfa.specs.Inner.Entries.{entries_of}
 use Rattle.dw_cfa.proofs.Slots.{slots_ascend}
 use Rattle.dw_cfa.proofs.WideRows.{taken_back}
 use Rattle.dw_cfa.proofs.row.Row.exchange.Goals as goal

@@ -1,6 +1,6 @@
 use Rattle.std.proofs.Common.{reverse, Option, refl, subst}
 use Rattle.dw_cfa.specs.declared.rule.CfaRule.{CfaRule}
-use Rattle.dw_cfa.specs.States.{held, TakenBack}
+use Rattle.dw_cfa.specs.Inner.States.{held, TakenBack}
 use Rattle.dw_cfa.proofs.StatesLaws.{restored_count, restored, restored_none}
 use Rattle.dw_cfa.proofs.states.States.restore.Goals as goal
 

@@ -1,5 +1,5 @@
 use Rattle.std.proofs.Common.{[], ap, ◌∙◌}
-use Rattle.dw_cfa.specs.States.{Held, first_if}
+use Rattle.dw_cfa.specs.Inner.States.{Held, first_if}
 use Rattle.dw_cfa.proofs.StatesLaws.{begun_held, begun_count}
 use Rattle.dw_cfa.proofs.states.States.track.Goals as goal
 

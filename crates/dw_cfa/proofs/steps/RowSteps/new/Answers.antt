@@ -1,6 +1,6 @@
 use Rattle.std.proofs.Common.{ap, ◌∙◌}
 use Rattle.dw_cfa.specs.Rows.{Rules}
-use Rattle.dw_cfa.specs.States.{Held}
+use Rattle.dw_cfa.specs.Inner.States.{Held}
 use Rattle.dw_cfa.specs.Runs.{run_rows}
 use Rattle.dw_cfa.specs.Stepping.{program_input, stepping}
 use Rattle.dw_cfa.proofs.RunSteps.{begun_is_run}

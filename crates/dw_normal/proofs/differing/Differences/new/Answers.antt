@@ -3,7 +3,7 @@ use Rattle.std.specs.List.{flat_map}
 use Rattle.dw_cfa.specs.declared.instr.Instr.{Instr}
 use Rattle.dw_cfa.specs.declared.rule.CfaRule.{CfaRule}
 use Rattle.dw_canon.specs.Difference.{cfa_difference, rule_difference, either}
-use Rattle.dw_normal.specs.Walking.{rules_from}
+use Rattle.dw_normal.specs.Inner.Walking.{rules_from}
 use Rattle.dw_normal.proofs.Remaining.{from_first}
 use Rattle.dw_normal.proofs.differing.Differences.new.Goals as goal
 

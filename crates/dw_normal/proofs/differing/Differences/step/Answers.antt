@@ -2,7 +2,7 @@ use Rattle.std.proofs.Common.{◌≡◌, ◌++◌, ◌∷◌, [], suc, sym, ap, 
 use Rattle.std.specs.Prelude.{Option}
 use Rattle.dw_cfa.specs.declared.instr.Instr.{Instr}
 use Rattle.dw_cfa.specs.Differing.{place_behind}
-use Rattle.dw_normal.specs.Walking.{list_of, rules_from}
+use Rattle.dw_normal.specs.Inner.Walking.{list_of, rules_from}
 use Rattle.dw_normal.proofs.Remaining.{none_differs, one_differs}
 use Rattle.dw_normal.proofs.differing.Differences.step.Goals as goal
 

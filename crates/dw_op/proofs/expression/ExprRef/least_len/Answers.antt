@@ -1,5 +1,5 @@
 use Rattle.std.proofs.Common.{◌≡◌, ◌<◌, ◌^◌, arith, length}
-use Rattle.dw_op.specs.Accepted.{ops_of}
+use Rattle.dw_op.specs.Inner.Accepted.{ops_of}
 use Rattle.dw_op.proofs.Judging.{accepted_block}
 use Rattle.dw_op.proofs.PlainBlocks.{least_small, has_least}
 use Rattle.dw_op.proofs.expression.ExprRef.least_len.Goals as goal

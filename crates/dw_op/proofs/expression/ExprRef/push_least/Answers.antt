@@ -1,5 +1,5 @@
 use Rattle.std.proofs.Common.{◌≡◌, ◌<◌, ◌^◌, ◌++◌, arith, rules, length, take}
-use Rattle.dw_op.specs.Accepted.{ops_of}
+use Rattle.dw_op.specs.Inner.Accepted.{ops_of}
 use Rattle.dw_op.specs.Encoding.{IsAppended, least_block}
 use Rattle.dw_op.specs.Least.{LeastBlock}
 use Rattle.dw_op.proofs.EncodeLaws.{on_ok}

@@ -1,5 +1,5 @@
 use Rattle.std.proofs.Common.{length}
-use Rattle.dw_op.specs.Lengths.{lengths_at}
+use Rattle.dw_op.specs.Inner.Lengths.{lengths_at}
 use Rattle.dw_op.proofs.Starts.{Toward}
 use Rattle.dw_op.proofs.measuring.Point.start_of.Given as goal
 

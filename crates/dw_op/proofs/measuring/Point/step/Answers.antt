@@ -1,5 +1,5 @@
 use Rattle.std.proofs.Common.{arith}
-use Rattle.dw_op.specs.Lengths.{lengths_at}
+use Rattle.dw_op.specs.Inner.Lengths.{lengths_at}
 use Rattle.dw_op.proofs.Starts.{point_more, room_more}
 use Rattle.dw_op.proofs.measuring.Point.step.Goals as goal
 

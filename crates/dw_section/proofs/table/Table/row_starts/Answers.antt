@@ -1,8 +1,8 @@
 use Rattle.std.proofs.Common.{ℕ, List, map, sym, subst}
 use Rattle.std.specs.List.{AllByRecursion}
-use Rattle.dw_section.specs.Index.{range_in, IsRanged}
-use Rattle.dw_section.specs.Initials.{AreInitials}
-use Rattle.dw_section.specs.Left.{AreHeaders}
+use Rattle.dw_section.specs.Inner.Index.{range_in, IsRanged}
+use Rattle.dw_section.specs.Inner.Initials.{AreInitials}
+use Rattle.dw_section.specs.Inner.Left.{AreHeaders}
 use Rattle.dw_section.proofs.FdeLookup.{kept_of}
 use Rattle.dw_section.proofs.table.Table.row_starts.Goals as goal
 

@@ -4,7 +4,7 @@ use Rattle.dw_cfa.specs.declared.rule.RegRule.{RegRule}
 use Rattle.dw_eval.specs.Context.{context}
 use Rattle.dw_unwind.specs.Columns.{RegisterIs, RegisterFails}
 use Rattle.dw_unwind.specs.Unwound.{is_listed, RegistersFail}
-use Rattle.dw_unwind.specs.Recovery.{Adds}
+use Rattle.dw_unwind.specs.Inner.Recovery.{Adds}
 use Rattle.dw_unwind.proofs.ColumnLaws.{over_error}
 use Rattle.dw_unwind.proofs.FrameLaws.{so_added, so_reached}
 use Rattle.dw_unwind.proofs.machine.Machine.add.Goals as goal

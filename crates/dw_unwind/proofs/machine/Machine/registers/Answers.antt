@@ -1,9 +1,9 @@
 use Rattle.std.proofs.Common.{ℕ, Option, Err, subst, arith}
 use Rattle.std.proofs.lemmas.Result.{err_from_is_err_and}
 use Rattle.dw_eval.specs.Context.{context}
-use Rattle.dw_unwind.specs.Recovery.{Over}
+use Rattle.dw_unwind.specs.Inner.Recovery.{Over}
 use Rattle.dw_unwind.specs.Unwound.{RegistersAre, RegistersFail}
-use Rattle.dw_unwind.specs.Recovery.{Adds}
+use Rattle.dw_unwind.specs.Inner.Recovery.{Adds}
 use Rattle.dw_unwind.proofs.ColumnLaws.{over_error}
 use Rattle.dw_unwind.proofs.FrameLaws.{so_all}
 use Rattle.dw_unwind.proofs.machine.Machine.registers.Goals as goal

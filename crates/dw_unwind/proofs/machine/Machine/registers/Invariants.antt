@@ -1,6 +1,6 @@
 use Rattle.std.proofs.Common.{◌≡◌}
 use Rattle.dw_eval.specs.Context.{context}
-use Rattle.dw_unwind.specs.Recovery.{SoFar}
+use Rattle.dw_unwind.specs.Inner.Recovery.{SoFar}
 use Rattle.dw_unwind.proofs.machine.Machine.registers.Given as goal
 
 abbrev pub invariant-registers : goal.invariant-registers

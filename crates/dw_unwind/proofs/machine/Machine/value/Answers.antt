@@ -3,7 +3,7 @@ use Rattle.dw_op.specs.Expression.{Expression}
 use Rattle.dw_eval.specs.Context.{context}
 use Rattle.dw_eval.specs.Evaluation.{first_stack}
 use Rattle.dw_unwind.specs.Columns.{ValueIs, ValueFails}
-use Rattle.dw_unwind.specs.Recovery.{Over}
+use Rattle.dw_unwind.specs.Inner.Recovery.{Over}
 use Rattle.dw_unwind.proofs.ColumnLaws.{value_over}
 use Rattle.dw_unwind.proofs.machine.Machine.value.Goals as goal
 

@@ -9,7 +9,7 @@ use Rattle.dw_section.specs.Meaning.{Returns}
 use Rattle.dw_section.specs.Headers.{Head, cie, fde}
 use Rattle.dw_section.specs.Overlap.{Range, IsIn, end_of, nonempty}
 use Rattle.dw_section.specs.Programs.{IsAmong, FdeRuns}
-use Rattle.dw_section.specs.Initials.{FirstLacking}
+use Rattle.dw_section.specs.Inner.Initials.{FirstLacking}
 use Rattle.dw_num.specs.declared.target.Target.{Target}
 
 abbrev pub range_in : Ranged → Range

@@ -5,7 +5,7 @@ use Rattle.dw_num.specs.Span.{span_of}
 use Rattle.dw_cfa.specs.Runs.{Outcome, run_rows}
 use Rattle.dw_section.specs.Accepted.{RulesHold}
 use Rattle.dw_section.specs.Headers.{Head}
-use Rattle.dw_section.specs.Index.{IsFound}
+use Rattle.dw_section.specs.Inner.Index.{IsFound}
 use Rattle.dw_section.specs.Programs.{input_of}
 use Rattle.dw_section.specs.declared.indexing.Ranged.{Ranged}
 use Rattle.dw_section.specs.declared.rereading.FoundFde.{FoundFde}

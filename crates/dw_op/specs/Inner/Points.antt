@@ -6,7 +6,7 @@ use Rattle.dw_op.specs.declared.measuring.Point.{Point}
 use Rattle.dw_op.specs.declared.measuring.StartMark.{StartMark}
 use Rattle.dw_op.specs.declared.measuring.Places.{Places}
 use Rattle.dw_op.specs.declared.profile.Profile.TheVariants.{Frame}
-use Rattle.dw_op.specs.Lengths.{lengths_at, total, together}
+use Rattle.dw_op.specs.Inner.Lengths.{lengths_at, total, together}
 use Rattle.dw_op.specs.Walk.{walk}
 
 -- j is the input i from one of its operations on

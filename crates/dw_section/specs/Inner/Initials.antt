@@ -19,7 +19,7 @@ use Rattle.dw_section.specs.declared.judging.Long.{Long}
 use Rattle.dw_section.specs.declared.judging.Runner.{Runner}
 use Rattle.dw_section.specs.Stage.{FirstStuck}
 use Rattle.dw_section.specs.Headers.{Head, cie}
-use Rattle.dw_section.specs.Heads.{head_at, cie_ats}
+use Rattle.dw_section.specs.Inner.Heads.{head_at, cie_ats}
 use Rattle.dw_section.specs.Programs.{IsAmong, input_of, CieRuns, HasRules, LacksRule}
 
 abbrev pub of_run : RunError → SectionError

@@ -1,0 +1,8 @@
+-- How the code keeps what the contracts say. No public clause reaches these.
+pub mod ByOpcode
+pub mod Steps
+pub mod Windows
+pub mod Accepted
+pub mod ComparingLaws
+pub mod Lengths
+pub mod Points

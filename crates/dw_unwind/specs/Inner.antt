@@ -1,0 +1,4 @@
+-- How the code keeps what the contracts say. No public clause reaches these.
+pub mod Stated
+pub mod Gathered
+pub mod Recovery
