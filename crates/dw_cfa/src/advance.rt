@@ -36,7 +36,7 @@ pub(crate) fn run_advance(
 }
 
 /// The same by a delta of so many bytes.
-#[tactic(auto, unfolding(crate::specs::ByOpcode::advance_at))]
+#[tactic(auto, unfolding(crate::specs::Inner::ByOpcode::advance_at))]
 #[inline(always)]
 pub(crate) fn run_fixed_advance<'a>(
     cursor: &mut Cursor<'a>,
@@ -59,7 +59,7 @@ pub(crate) fn run_fixed_advance<'a>(
 }
 
 /// Moves the location to an address that is not below it.
-#[tactic(auto, unfolding(crate::specs::ByOpcode::set_loc_at))]
+#[tactic(auto, unfolding(crate::specs::Inner::ByOpcode::set_loc_at))]
 #[inline(never)]
 pub(crate) fn run_set_loc<'a>(
     cursor: &mut Cursor<'a>,

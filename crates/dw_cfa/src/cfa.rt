@@ -11,7 +11,7 @@ use crate::rule::CfaRule;
 use dw_num::{Code, Cursor, Refusal};
 
 /// The CFA is a register plus an offset.
-#[tactic(auto, unfolding(crate::specs::ByOpcode::def_cfa_at))]
+#[tactic(auto, unfolding(crate::specs::Inner::ByOpcode::def_cfa_at))]
 #[inline(always)]
 pub(crate) fn run_def_cfa<'a>(
     cursor: &mut Cursor<'a>,
@@ -37,7 +37,7 @@ pub(crate) fn run_def_cfa<'a>(
 }
 
 /// The same with an offset that is signed and factored.
-#[tactic(auto, unfolding(crate::specs::ByOpcode::def_cfa_sf_at))]
+#[tactic(auto, unfolding(crate::specs::Inner::ByOpcode::def_cfa_sf_at))]
 #[inline(never)]
 pub(crate) fn run_def_cfa_sf<'a>(
     cursor: &mut Cursor<'a>,
@@ -64,7 +64,7 @@ pub(crate) fn run_def_cfa_sf<'a>(
 }
 
 /// The CFA is another register plus the same offset.
-#[tactic(auto, unfolding(crate::specs::ByOpcode::def_cfa_register_at))]
+#[tactic(auto, unfolding(crate::specs::Inner::ByOpcode::def_cfa_register_at))]
 #[inline(always)]
 pub(crate) fn run_def_cfa_register<'a>(
     cursor: &mut Cursor<'a>,
@@ -90,7 +90,7 @@ pub(crate) fn run_def_cfa_register<'a>(
 }
 
 /// The CFA is the same register plus another offset.
-#[tactic(auto, unfolding(crate::specs::ByOpcode::def_cfa_offset_at))]
+#[tactic(auto, unfolding(crate::specs::Inner::ByOpcode::def_cfa_offset_at))]
 #[inline(always)]
 pub(crate) fn run_def_cfa_offset<'a>(
     cursor: &mut Cursor<'a>,
@@ -116,7 +116,7 @@ pub(crate) fn run_def_cfa_offset<'a>(
 }
 
 /// The same with an offset that is signed and factored.
-#[tactic(auto, unfolding(crate::specs::ByOpcode::def_cfa_offset_sf_at))]
+#[tactic(auto, unfolding(crate::specs::Inner::ByOpcode::def_cfa_offset_sf_at))]
 #[inline(always)]
 pub(crate) fn run_def_cfa_offset_sf<'a>(
     cursor: &mut Cursor<'a>,
@@ -143,7 +143,7 @@ pub(crate) fn run_def_cfa_offset_sf<'a>(
 }
 
 /// The CFA is what an expression gives. One that is known to be accepted is not judged again.
-#[tactic(auto, unfolding(crate::specs::ByOpcode::def_cfa_expression_at))]
+#[tactic(auto, unfolding(crate::specs::Inner::ByOpcode::def_cfa_expression_at))]
 #[inline(never)]
 pub(crate) fn run_def_cfa_expression<'a>(
     cursor: &mut Cursor<'a>,

@@ -87,7 +87,7 @@ pub(crate) fn known_opcode(code: u8) -> Option<Opcode>
 // ---- operands
 
 // A product as an offset of the instruction at this place.
-#[tactic(auto, unfolding(crate::specs::ByOpcode::offset_in))]
+#[tactic(auto, unfolding(crate::specs::Inner::ByOpcode::offset_in))]
 fn checked_offset(offset: i128, at: u64) -> Result<i64, Refusal>
     ensures { result ≡ offset_in at offset }
 {
@@ -154,7 +154,7 @@ fn quick_sleb(cursor: &mut Cursor<'_>) -> Result<i64, Refusal>
     cursor.sleb()
 }
 
-#[tactic(auto, unfolding(crate::specs::ByOpcode::plain_at))]
+#[tactic(auto, unfolding(crate::specs::Inner::ByOpcode::plain_at))]
 #[inline(always)]
 pub(crate) fn plain(cursor: &mut Cursor<'_>, at: u64) -> Result<i64, Refusal>
     ensures { Gives (λ z. z) result (plain_at at cursor.old) cursor.new }
@@ -163,7 +163,7 @@ pub(crate) fn plain(cursor: &mut Cursor<'_>, at: u64) -> Result<i64, Refusal>
     checked_offset(i128::from(operand), at)
 }
 
-#[tactic(auto, unfolding(crate::specs::ByOpcode::factored_at))]
+#[tactic(auto, unfolding(crate::specs::Inner::ByOpcode::factored_at))]
 #[inline(always)]
 pub(crate) fn factored(cursor: &mut Cursor<'_>, factors: Factors, at: u64) -> Result<i64, Refusal>
     ensures { Gives (λ z. z) result (factored_at factors at cursor.old) cursor.new }
@@ -172,7 +172,7 @@ pub(crate) fn factored(cursor: &mut Cursor<'_>, factors: Factors, at: u64) -> Re
     checked_offset(times(i128::from(operand), factors.data_factor), at)
 }
 
-#[tactic(auto, unfolding(crate::specs::ByOpcode::signed_at))]
+#[tactic(auto, unfolding(crate::specs::Inner::ByOpcode::signed_at))]
 #[inline(always)]
 pub(crate) fn signed(cursor: &mut Cursor<'_>, factors: Factors, at: u64) -> Result<i64, Refusal>
     ensures { Gives (λ z. z) result (signed_at factors at cursor.old) cursor.new }
@@ -223,7 +223,7 @@ pub(crate) fn block<'a>(cursor: &mut Cursor<'a>, known: bool) -> Result<ExprRef<
 // None of these is inlined: where all of them meet in one function, each instruction is put together of its parts once
 // more.
 
-#[tactic(auto, unfolding(crate::specs::ByOpcode::set_loc_at))]
+#[tactic(auto, unfolding(crate::specs::Inner::ByOpcode::set_loc_at))]
 #[inline(never)]
 fn read_set_loc<'a>(cursor: &mut Cursor<'a>) -> Result<Instr<'a>, Refusal>
     ensures { Gives (λ i. i) result (set_loc_at cursor.old) cursor.new }
@@ -239,7 +239,7 @@ pub(crate) fn distance(delta: u64, factors: Factors) -> u128
     u128::from(delta) * u128::from(factors.code_factor)
 }
 
-#[tactic(auto, unfolding(crate::specs::ByOpcode::advance_at))]
+#[tactic(auto, unfolding(crate::specs::Inner::ByOpcode::advance_at))]
 #[inline(never)]
 fn read_advance<'a>(
     cursor: &mut Cursor<'a>,
@@ -253,7 +253,7 @@ fn read_advance<'a>(
     Ok(Instr::Advance(distance(delta, factors)))
 }
 
-#[tactic(auto, unfolding(crate::specs::ByOpcode::def_cfa_at))]
+#[tactic(auto, unfolding(crate::specs::Inner::ByOpcode::def_cfa_at))]
 #[inline(never)]
 fn read_def_cfa<'a>(cursor: &mut Cursor<'a>, at: u64) -> Result<Instr<'a>, Refusal>
     ensures { Gives (λ i. i) result (def_cfa_at at cursor.old) cursor.new }
@@ -263,7 +263,7 @@ fn read_def_cfa<'a>(cursor: &mut Cursor<'a>, at: u64) -> Result<Instr<'a>, Refus
     Ok(Instr::DefCfa { register, offset })
 }
 
-#[tactic(auto, unfolding(crate::specs::ByOpcode::def_cfa_sf_at))]
+#[tactic(auto, unfolding(crate::specs::Inner::ByOpcode::def_cfa_sf_at))]
 #[inline(never)]
 fn read_def_cfa_sf<'a>(
     cursor: &mut Cursor<'a>,
@@ -277,7 +277,7 @@ fn read_def_cfa_sf<'a>(
     Ok(Instr::DefCfa { register, offset })
 }
 
-#[tactic(auto, unfolding(crate::specs::ByOpcode::def_cfa_register_at))]
+#[tactic(auto, unfolding(crate::specs::Inner::ByOpcode::def_cfa_register_at))]
 #[inline(never)]
 fn read_def_cfa_register<'a>(cursor: &mut Cursor<'a>) -> Result<Instr<'a>, Refusal>
     ensures { Gives (λ i. i) result (def_cfa_register_at cursor.old) cursor.new }
@@ -286,7 +286,7 @@ fn read_def_cfa_register<'a>(cursor: &mut Cursor<'a>) -> Result<Instr<'a>, Refus
     Ok(Instr::DefCfaRegister(register))
 }
 
-#[tactic(auto, unfolding(crate::specs::ByOpcode::def_cfa_offset_at))]
+#[tactic(auto, unfolding(crate::specs::Inner::ByOpcode::def_cfa_offset_at))]
 #[inline(never)]
 fn read_def_cfa_offset<'a>(cursor: &mut Cursor<'a>, at: u64) -> Result<Instr<'a>, Refusal>
     ensures { Gives (λ i. i) result (def_cfa_offset_at at cursor.old) cursor.new }
@@ -295,7 +295,7 @@ fn read_def_cfa_offset<'a>(cursor: &mut Cursor<'a>, at: u64) -> Result<Instr<'a>
     Ok(Instr::DefCfaOffset(offset))
 }
 
-#[tactic(auto, unfolding(crate::specs::ByOpcode::def_cfa_offset_sf_at))]
+#[tactic(auto, unfolding(crate::specs::Inner::ByOpcode::def_cfa_offset_sf_at))]
 #[inline(never)]
 fn read_def_cfa_offset_sf<'a>(
     cursor: &mut Cursor<'a>,
@@ -308,7 +308,7 @@ fn read_def_cfa_offset_sf<'a>(
     Ok(Instr::DefCfaOffset(offset))
 }
 
-#[tactic(auto, unfolding(crate::specs::ByOpcode::def_cfa_expression_at))]
+#[tactic(auto, unfolding(crate::specs::Inner::ByOpcode::def_cfa_expression_at))]
 #[inline(never)]
 fn read_def_cfa_expression<'a>(cursor: &mut Cursor<'a>, known: bool) -> Result<Instr<'a>, Refusal>
     requires { IsTrue known → IsOk (def_cfa_expression_at cursor.old) }
@@ -318,7 +318,7 @@ fn read_def_cfa_expression<'a>(cursor: &mut Cursor<'a>, known: bool) -> Result<I
     Ok(Instr::DefCfaExpression(expression))
 }
 
-#[tactic(auto, unfolding(crate::specs::ByOpcode::restore_at))]
+#[tactic(auto, unfolding(crate::specs::Inner::ByOpcode::restore_at))]
 #[inline(never)]
 fn read_restore<'a>(cursor: &mut Cursor<'a>) -> Result<Instr<'a>, Refusal>
     ensures { Gives (λ i. i) result (restore_at cursor.old) cursor.new }
@@ -329,7 +329,7 @@ fn read_restore<'a>(cursor: &mut Cursor<'a>) -> Result<Instr<'a>, Refusal>
 
 // ---- rules of registers
 
-#[tactic(auto, unfolding(crate::specs::ByOpcode::undefined_at))]
+#[tactic(auto, unfolding(crate::specs::Inner::ByOpcode::undefined_at))]
 #[inline(never)]
 fn read_undefined<'a>(cursor: &mut Cursor<'a>) -> Result<Instr<'a>, Refusal>
     ensures { Gives (λ i. i) result (undefined_at cursor.old) cursor.new }
@@ -338,7 +338,7 @@ fn read_undefined<'a>(cursor: &mut Cursor<'a>) -> Result<Instr<'a>, Refusal>
     Ok(Instr::Set(register, RegRule::Undefined))
 }
 
-#[tactic(auto, unfolding(crate::specs::ByOpcode::same_value_at))]
+#[tactic(auto, unfolding(crate::specs::Inner::ByOpcode::same_value_at))]
 #[inline(never)]
 fn read_same_value<'a>(cursor: &mut Cursor<'a>) -> Result<Instr<'a>, Refusal>
     ensures { Gives (λ i. i) result (same_value_at cursor.old) cursor.new }
@@ -347,7 +347,7 @@ fn read_same_value<'a>(cursor: &mut Cursor<'a>) -> Result<Instr<'a>, Refusal>
     Ok(Instr::Set(register, RegRule::SameValue))
 }
 
-#[tactic(auto, unfolding(crate::specs::ByOpcode::offset_at))]
+#[tactic(auto, unfolding(crate::specs::Inner::ByOpcode::offset_at))]
 #[inline(never)]
 fn read_offset<'a>(
     cursor: &mut Cursor<'a>,
@@ -361,7 +361,7 @@ fn read_offset<'a>(
     Ok(Instr::Set(register, RegRule::Offset(offset)))
 }
 
-#[tactic(auto, unfolding(crate::specs::ByOpcode::offset_extended_at))]
+#[tactic(auto, unfolding(crate::specs::Inner::ByOpcode::offset_extended_at))]
 #[inline(never)]
 fn read_offset_extended<'a>(
     cursor: &mut Cursor<'a>,
@@ -374,7 +374,7 @@ fn read_offset_extended<'a>(
     read_offset(cursor, factors, at, register)
 }
 
-#[tactic(auto, unfolding(crate::specs::ByOpcode::offset_extended_sf_at))]
+#[tactic(auto, unfolding(crate::specs::Inner::ByOpcode::offset_extended_sf_at))]
 #[inline(never)]
 fn read_offset_extended_sf<'a>(
     cursor: &mut Cursor<'a>,
@@ -388,7 +388,7 @@ fn read_offset_extended_sf<'a>(
     Ok(Instr::Set(register, RegRule::Offset(offset)))
 }
 
-#[tactic(auto, unfolding(crate::specs::ByOpcode::val_offset_at))]
+#[tactic(auto, unfolding(crate::specs::Inner::ByOpcode::val_offset_at))]
 #[inline(never)]
 fn read_val_offset<'a>(
     cursor: &mut Cursor<'a>,
@@ -402,7 +402,7 @@ fn read_val_offset<'a>(
     Ok(Instr::Set(register, RegRule::ValOffset(offset)))
 }
 
-#[tactic(auto, unfolding(crate::specs::ByOpcode::val_offset_sf_at))]
+#[tactic(auto, unfolding(crate::specs::Inner::ByOpcode::val_offset_sf_at))]
 #[inline(never)]
 fn read_val_offset_sf<'a>(
     cursor: &mut Cursor<'a>,
@@ -416,7 +416,7 @@ fn read_val_offset_sf<'a>(
     Ok(Instr::Set(register, RegRule::ValOffset(offset)))
 }
 
-#[tactic(auto, unfolding(crate::specs::ByOpcode::register_rule_at))]
+#[tactic(auto, unfolding(crate::specs::Inner::ByOpcode::register_rule_at))]
 #[inline(never)]
 fn read_register_rule<'a>(cursor: &mut Cursor<'a>) -> Result<Instr<'a>, Refusal>
     ensures { Gives (λ i. i) result (register_rule_at cursor.old) cursor.new }
@@ -426,7 +426,7 @@ fn read_register_rule<'a>(cursor: &mut Cursor<'a>) -> Result<Instr<'a>, Refusal>
     Ok(Instr::Set(register, RegRule::Register(other)))
 }
 
-#[tactic(auto, unfolding(crate::specs::ByOpcode::expression_at))]
+#[tactic(auto, unfolding(crate::specs::Inner::ByOpcode::expression_at))]
 #[inline(never)]
 fn read_expression<'a>(cursor: &mut Cursor<'a>, known: bool) -> Result<Instr<'a>, Refusal>
     requires { IsTrue known → IsOk (expression_at cursor.old) }
@@ -437,7 +437,7 @@ fn read_expression<'a>(cursor: &mut Cursor<'a>, known: bool) -> Result<Instr<'a>
     Ok(Instr::Set(register, RegRule::Expression(expression)))
 }
 
-#[tactic(auto, unfolding(crate::specs::ByOpcode::val_expression_at))]
+#[tactic(auto, unfolding(crate::specs::Inner::ByOpcode::val_expression_at))]
 #[inline(never)]
 fn read_val_expression<'a>(cursor: &mut Cursor<'a>, known: bool) -> Result<Instr<'a>, Refusal>
     requires { IsTrue known → IsOk (val_expression_at cursor.old) }
@@ -451,7 +451,7 @@ fn read_val_expression<'a>(cursor: &mut Cursor<'a>, known: bool) -> Result<Instr
 // ---- an instruction
 
 // The instruction of a code that stands at this place.
-#[tactic(auto, unfolding(crate::specs::ByOpcode::operands_at))]
+#[tactic(auto, unfolding(crate::specs::Inner::ByOpcode::operands_at))]
 fn operands<'a>(
     cursor: &mut Cursor<'a>,
     factors: Factors,

@@ -28,7 +28,7 @@ pub(crate) fn run_restore(machine: &mut Machine<'_>, register: u16) -> End
 }
 
 /// The same for any register.
-#[tactic(auto, unfolding(crate::specs::ByOpcode::restore_at))]
+#[tactic(auto, unfolding(crate::specs::Inner::ByOpcode::restore_at))]
 #[inline(never)]
 pub(crate) fn run_restore_extended<'a>(
     cursor: &mut Cursor<'a>,
@@ -47,7 +47,7 @@ pub(crate) fn run_restore_extended<'a>(
 }
 
 /// A register has no value in the caller.
-#[tactic(auto, unfolding(crate::specs::ByOpcode::undefined_at))]
+#[tactic(auto, unfolding(crate::specs::Inner::ByOpcode::undefined_at))]
 #[inline(never)]
 pub(crate) fn run_undefined<'a>(
     cursor: &mut Cursor<'a>,
@@ -70,7 +70,7 @@ pub(crate) fn run_undefined<'a>(
 }
 
 /// A register has the value that it has here.
-#[tactic(auto, unfolding(crate::specs::ByOpcode::same_value_at))]
+#[tactic(auto, unfolding(crate::specs::Inner::ByOpcode::same_value_at))]
 #[inline(never)]
 pub(crate) fn run_same_value<'a>(
     cursor: &mut Cursor<'a>,
@@ -93,7 +93,7 @@ pub(crate) fn run_same_value<'a>(
 }
 
 /// A register is saved at the CFA plus an offset, which is factored.
-#[tactic(auto, unfolding(crate::specs::ByOpcode::offset_at))]
+#[tactic(auto, unfolding(crate::specs::Inner::ByOpcode::offset_at))]
 #[inline(always)]
 pub(crate) fn run_offset<'a>(
     cursor: &mut Cursor<'a>,
@@ -119,7 +119,7 @@ pub(crate) fn run_offset<'a>(
 }
 
 /// The same for any register.
-#[tactic(auto, unfolding(crate::specs::ByOpcode::offset_extended_at))]
+#[tactic(auto, unfolding(crate::specs::Inner::ByOpcode::offset_extended_at))]
 #[inline(never)]
 pub(crate) fn run_offset_extended<'a>(
     cursor: &mut Cursor<'a>,
@@ -140,7 +140,7 @@ pub(crate) fn run_offset_extended<'a>(
 }
 
 /// The same with an offset that is signed.
-#[tactic(auto, unfolding(crate::specs::ByOpcode::offset_extended_sf_at))]
+#[tactic(auto, unfolding(crate::specs::Inner::ByOpcode::offset_extended_sf_at))]
 #[inline(never)]
 pub(crate) fn run_offset_extended_sf<'a>(
     cursor: &mut Cursor<'a>,
@@ -169,7 +169,7 @@ pub(crate) fn run_offset_extended_sf<'a>(
 }
 
 /// A register is the CFA plus an offset, which is factored.
-#[tactic(auto, unfolding(crate::specs::ByOpcode::val_offset_at))]
+#[tactic(auto, unfolding(crate::specs::Inner::ByOpcode::val_offset_at))]
 #[inline(never)]
 pub(crate) fn run_val_offset<'a>(
     cursor: &mut Cursor<'a>,
@@ -198,7 +198,7 @@ pub(crate) fn run_val_offset<'a>(
 }
 
 /// The same with an offset that is signed.
-#[tactic(auto, unfolding(crate::specs::ByOpcode::val_offset_sf_at))]
+#[tactic(auto, unfolding(crate::specs::Inner::ByOpcode::val_offset_sf_at))]
 #[inline(never)]
 pub(crate) fn run_val_offset_sf<'a>(
     cursor: &mut Cursor<'a>,
@@ -227,7 +227,7 @@ pub(crate) fn run_val_offset_sf<'a>(
 }
 
 /// A register is in another one.
-#[tactic(auto, unfolding(crate::specs::ByOpcode::register_rule_at))]
+#[tactic(auto, unfolding(crate::specs::Inner::ByOpcode::register_rule_at))]
 #[inline(never)]
 pub(crate) fn run_register<'a>(
     cursor: &mut Cursor<'a>,
@@ -254,7 +254,7 @@ pub(crate) fn run_register<'a>(
 }
 
 /// A register is saved where an expression says. One that is known to be accepted is not judged again.
-#[tactic(auto, unfolding(crate::specs::ByOpcode::expression_at))]
+#[tactic(auto, unfolding(crate::specs::Inner::ByOpcode::expression_at))]
 #[inline(never)]
 pub(crate) fn run_expression<'a>(
     cursor: &mut Cursor<'a>,
@@ -283,7 +283,7 @@ pub(crate) fn run_expression<'a>(
 }
 
 /// A register is what an expression gives. One that is known to be accepted is not judged again.
-#[tactic(auto, unfolding(crate::specs::ByOpcode::val_expression_at))]
+#[tactic(auto, unfolding(crate::specs::Inner::ByOpcode::val_expression_at))]
 #[inline(never)]
 pub(crate) fn run_val_expression<'a>(
     cursor: &mut Cursor<'a>,

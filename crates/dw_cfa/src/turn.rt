@@ -62,7 +62,7 @@ fn run_restore_state(machine: &mut Machine<'_>, at: u64, fault: &mut Refusal) ->
 }
 
 // Reads the operands behind an opcode, and applies the instruction to the machine.
-#[tactic(auto, unfolding(crate::specs::ByOpcode::operands_at))]
+#[tactic(auto, unfolding(crate::specs::Inner::ByOpcode::operands_at))]
 #[inline(always)]
 fn apply<'a>(
     opcode: Opcode,

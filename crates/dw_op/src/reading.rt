@@ -246,7 +246,7 @@ fn two_bytes(order: Order, bytes: &[u8]) -> u16
 
 // ---- operands
 
-#[tactic(auto, unfolding(crate::specs::ByOpcode::address_step))]
+#[tactic(auto, unfolding(crate::specs::Inner::ByOpcode::address_step))]
 fn read_address<'a>(cursor: &mut Cursor<'a>) -> Result<Step<'a>, Refusal>
     ensures { Gives bare_step result (address_step cursor.old) cursor.new }
 {
@@ -254,7 +254,7 @@ fn read_address<'a>(cursor: &mut Cursor<'a>) -> Result<Step<'a>, Refusal>
     Ok(Step::Plain(Op::Addr(address)))
 }
 
-#[tactic(auto, unfolding(crate::specs::ByOpcode::unsigned_step))]
+#[tactic(auto, unfolding(crate::specs::Inner::ByOpcode::unsigned_step))]
 fn read_unsigned<'a>(cursor: &mut Cursor<'a>, count: ByteCount) -> Result<Step<'a>, Refusal>
     ensures { Gives bare_step result (unsigned_step count cursor.old) cursor.new }
 {
@@ -263,7 +263,7 @@ fn read_unsigned<'a>(cursor: &mut Cursor<'a>, count: ByteCount) -> Result<Step<'
     Ok(Step::Plain(Op::Const(reduced(size, number))))
 }
 
-#[tactic(auto, unfolding(crate::specs::ByOpcode::signed_step))]
+#[tactic(auto, unfolding(crate::specs::Inner::ByOpcode::signed_step))]
 fn read_signed<'a>(cursor: &mut Cursor<'a>, count: ByteCount) -> Result<Step<'a>, Refusal>
     ensures { Gives bare_step result (signed_step count cursor.old) cursor.new }
 {
@@ -272,7 +272,7 @@ fn read_signed<'a>(cursor: &mut Cursor<'a>, count: ByteCount) -> Result<Step<'a>
     Ok(Step::Plain(Op::Const(wrapped(size, signed(count, number)))))
 }
 
-#[tactic(auto, unfolding(crate::specs::ByOpcode::uconst_step))]
+#[tactic(auto, unfolding(crate::specs::Inner::ByOpcode::uconst_step))]
 fn read_uconst<'a>(cursor: &mut Cursor<'a>) -> Result<Step<'a>, Refusal>
     ensures { Gives bare_step result (uconst_step cursor.old) cursor.new }
 {
@@ -281,7 +281,7 @@ fn read_uconst<'a>(cursor: &mut Cursor<'a>) -> Result<Step<'a>, Refusal>
     Ok(Step::Plain(Op::Const(reduced(size, number))))
 }
 
-#[tactic(auto, unfolding(crate::specs::ByOpcode::sconst_step))]
+#[tactic(auto, unfolding(crate::specs::Inner::ByOpcode::sconst_step))]
 fn read_sconst<'a>(cursor: &mut Cursor<'a>) -> Result<Step<'a>, Refusal>
     ensures { Gives bare_step result (sconst_step cursor.old) cursor.new }
 {
@@ -290,7 +290,7 @@ fn read_sconst<'a>(cursor: &mut Cursor<'a>) -> Result<Step<'a>, Refusal>
     Ok(Step::Plain(Op::Const(wrapped(size, number))))
 }
 
-#[tactic(auto, unfolding(crate::specs::ByOpcode::pick_step))]
+#[tactic(auto, unfolding(crate::specs::Inner::ByOpcode::pick_step))]
 fn read_pick<'a>(cursor: &mut Cursor<'a>) -> Result<Step<'a>, Refusal>
     ensures { Gives bare_step result (pick_step cursor.old) cursor.new }
 {
@@ -298,7 +298,7 @@ fn read_pick<'a>(cursor: &mut Cursor<'a>) -> Result<Step<'a>, Refusal>
     Ok(Step::Plain(Op::Pick(entry)))
 }
 
-#[tactic(auto, unfolding(crate::specs::ByOpcode::plus_step))]
+#[tactic(auto, unfolding(crate::specs::Inner::ByOpcode::plus_step))]
 fn read_plus<'a>(cursor: &mut Cursor<'a>) -> Result<Step<'a>, Refusal>
     ensures { Gives bare_step result (plus_step cursor.old) cursor.new }
 {
@@ -306,7 +306,7 @@ fn read_plus<'a>(cursor: &mut Cursor<'a>) -> Result<Step<'a>, Refusal>
     Ok(Step::Plain(Op::PlusUconst(number)))
 }
 
-#[tactic(auto, unfolding(crate::specs::ByOpcode::jump_step))]
+#[tactic(auto, unfolding(crate::specs::Inner::ByOpcode::jump_step))]
 fn read_jump<'a>(cursor: &mut Cursor<'a>, branch: Branch) -> Result<Step<'a>, Refusal>
     ensures { Gives bare_step result (jump_step branch cursor.old) cursor.new }
 {
@@ -315,7 +315,7 @@ fn read_jump<'a>(cursor: &mut Cursor<'a>, branch: Branch) -> Result<Step<'a>, Re
     Ok(Step::Jump(branch, two_bytes(order, bytes)))
 }
 
-#[tactic(auto, unfolding(crate::specs::ByOpcode::breg_step))]
+#[tactic(auto, unfolding(crate::specs::Inner::ByOpcode::breg_step))]
 fn read_breg<'a>(cursor: &mut Cursor<'a>, register: u16) -> Result<Step<'a>, Refusal>
     ensures { Gives bare_step result (breg_step register cursor.old) cursor.new }
 {
@@ -323,7 +323,7 @@ fn read_breg<'a>(cursor: &mut Cursor<'a>, register: u16) -> Result<Step<'a>, Ref
     Ok(Step::Plain(Op::Breg(register, offset)))
 }
 
-#[tactic(auto, unfolding(crate::specs::ByOpcode::long_reg_step))]
+#[tactic(auto, unfolding(crate::specs::Inner::ByOpcode::long_reg_step))]
 fn read_long_reg<'a>(cursor: &mut Cursor<'a>) -> Result<Step<'a>, Refusal>
     ensures { Gives bare_step result (long_reg_step cursor.old) cursor.new }
 {
@@ -331,7 +331,7 @@ fn read_long_reg<'a>(cursor: &mut Cursor<'a>) -> Result<Step<'a>, Refusal>
     Ok(Step::Plain(Op::Reg(register)))
 }
 
-#[tactic(auto, unfolding(crate::specs::ByOpcode::long_breg_step, crate::specs::ByOpcode::breg_step))]
+#[tactic(auto, unfolding(crate::specs::Inner::ByOpcode::long_breg_step, crate::specs::Inner::ByOpcode::breg_step))]
 fn read_long_breg<'a>(cursor: &mut Cursor<'a>) -> Result<Step<'a>, Refusal>
     ensures { Gives bare_step result (long_breg_step cursor.old) cursor.new }
 {
@@ -339,7 +339,7 @@ fn read_long_breg<'a>(cursor: &mut Cursor<'a>) -> Result<Step<'a>, Refusal>
     read_breg(cursor, register)
 }
 
-#[tactic(auto, unfolding(crate::specs::ByOpcode::fbreg_step))]
+#[tactic(auto, unfolding(crate::specs::Inner::ByOpcode::fbreg_step))]
 fn read_fbreg<'a>(cursor: &mut Cursor<'a>) -> Result<Step<'a>, Refusal>
     ensures { Gives bare_step result (fbreg_step cursor.old) cursor.new }
 {
@@ -347,7 +347,7 @@ fn read_fbreg<'a>(cursor: &mut Cursor<'a>) -> Result<Step<'a>, Refusal>
     Ok(Step::Plain(Op::Fbreg(offset)))
 }
 
-#[tactic(auto, unfolding(crate::specs::ByOpcode::piece_step))]
+#[tactic(auto, unfolding(crate::specs::Inner::ByOpcode::piece_step))]
 fn read_piece<'a>(cursor: &mut Cursor<'a>) -> Result<Step<'a>, Refusal>
     ensures { Gives bare_step result (piece_step cursor.old) cursor.new }
 {
@@ -355,7 +355,7 @@ fn read_piece<'a>(cursor: &mut Cursor<'a>) -> Result<Step<'a>, Refusal>
     Ok(Step::Plain(Op::Piece(size)))
 }
 
-#[tactic(auto, unfolding(crate::specs::ByOpcode::deref_size_step))]
+#[tactic(auto, unfolding(crate::specs::Inner::ByOpcode::deref_size_step))]
 fn read_deref_size<'a>(cursor: &mut Cursor<'a>) -> Result<Step<'a>, Refusal>
     ensures { Gives bare_step result (deref_size_step cursor.old) cursor.new }
 {
@@ -372,7 +372,7 @@ fn read_deref_size<'a>(cursor: &mut Cursor<'a>) -> Result<Step<'a>, Refusal>
     }
 }
 
-#[tactic(auto, unfolding(crate::specs::ByOpcode::bit_piece_step))]
+#[tactic(auto, unfolding(crate::specs::Inner::ByOpcode::bit_piece_step))]
 fn read_bit_piece<'a>(cursor: &mut Cursor<'a>) -> Result<Step<'a>, Refusal>
     ensures { Gives bare_step result (bit_piece_step cursor.old) cursor.new }
 {
@@ -381,7 +381,7 @@ fn read_bit_piece<'a>(cursor: &mut Cursor<'a>) -> Result<Step<'a>, Refusal>
     Ok(Step::Plain(Op::BitPiece(size, offset)))
 }
 
-#[tactic(auto, unfolding(crate::specs::ByOpcode::implicit_step))]
+#[tactic(auto, unfolding(crate::specs::Inner::ByOpcode::implicit_step))]
 fn read_implicit<'a>(cursor: &mut Cursor<'a>) -> Result<Step<'a>, Refusal>
     ensures { Gives bare_step result (implicit_step cursor.old) cursor.new }
 {
@@ -390,7 +390,7 @@ fn read_implicit<'a>(cursor: &mut Cursor<'a>) -> Result<Step<'a>, Refusal>
     Ok(Step::Plain(Op::Implicit(block)))
 }
 
-#[tactic(auto, unfolding(crate::specs::Reading::operands_at, crate::specs::ByOpcode::address_step, crate::specs::ByOpcode::unsigned_step, crate::specs::ByOpcode::signed_step, crate::specs::ByOpcode::uconst_step, crate::specs::ByOpcode::sconst_step, crate::specs::ByOpcode::pick_step, crate::specs::ByOpcode::plus_step, crate::specs::ByOpcode::jump_step, crate::specs::ByOpcode::breg_step, crate::specs::ByOpcode::long_reg_step, crate::specs::ByOpcode::long_breg_step, crate::specs::ByOpcode::fbreg_step, crate::specs::ByOpcode::piece_step, crate::specs::ByOpcode::deref_size_step, crate::specs::ByOpcode::bit_piece_step, crate::specs::ByOpcode::implicit_step))]
+#[tactic(auto, unfolding(crate::specs::Reading::operands_at, crate::specs::Inner::ByOpcode::address_step, crate::specs::Inner::ByOpcode::unsigned_step, crate::specs::Inner::ByOpcode::signed_step, crate::specs::Inner::ByOpcode::uconst_step, crate::specs::Inner::ByOpcode::sconst_step, crate::specs::Inner::ByOpcode::pick_step, crate::specs::Inner::ByOpcode::plus_step, crate::specs::Inner::ByOpcode::jump_step, crate::specs::Inner::ByOpcode::breg_step, crate::specs::Inner::ByOpcode::long_reg_step, crate::specs::Inner::ByOpcode::long_breg_step, crate::specs::Inner::ByOpcode::fbreg_step, crate::specs::Inner::ByOpcode::piece_step, crate::specs::Inner::ByOpcode::deref_size_step, crate::specs::Inner::ByOpcode::bit_piece_step, crate::specs::Inner::ByOpcode::implicit_step))]
 fn operands<'a>(cursor: &mut Cursor<'a>, opcode: Opcode<'a>) -> Result<Step<'a>, Refusal>
     ensures { Gives bare_step result (operands_at opcode.entry cursor.old) cursor.new }
 {
