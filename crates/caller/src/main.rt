@@ -12,9 +12,9 @@ ghost use Rattle.dw_section.specs.declared.lookup.Fde.{Fde};
 
 use dw_cfa::{CfaRule, Row};
 use dw_eval::{Env, EvalError, evaluate};
-use dw_num::{Order, Size, Target};
+use dw_num::{Order, ReadError, Size, Target};
 use dw_op::ExprRef;
-use dw_section::{SectionError, check};
+use dw_section::check;
 use dw_unwind::Dump;
 use std::alloc::Global;
 use std::{env, fs, io};
@@ -30,7 +30,7 @@ fn rules_at<'a>(
     section: &'a [u8],
     target: Target,
     address: u64,
-) -> Result<Option<Row<'a>>, SectionError>
+) -> Result<Option<Row<'a>>, ReadError>
     // The section is accepted.
     ensures accepted { IfOk result (λ _. Accepted target section.now) }
     // The row has in each column the rule at the address.

@@ -6,8 +6,8 @@ ghost use Rattle.dw_num.specs.Target.{address_limit};
 use crate::lines::{compare, number, parts, sides};
 use crate::targets::{BIG, LITTLE, PLAIN, SHORT};
 use crate::texts::{located_text, refusal_text, row_text};
-use dw_cfa::{CieMachine, Factors, LocatedRow, Row, RowSteps, RunError, initial_row, run};
-use dw_num::{Program, Target};
+use dw_cfa::{CieMachine, Factors, LocatedRow, Row, RowSteps, initial_row, run};
+use dw_num::{Program, ReadError, Target};
 use std::alloc::Global;
 use std::test::Fail;
 
@@ -53,10 +53,10 @@ pub fn pair_of<'a>(
     })
 }
 
-fn error_text(alloc: Global, error: RunError) -> Result<String, Fail> {
+fn error_text(alloc: Global, error: ReadError) -> Result<String, Fail> {
     match error {
-        RunError::Refused(refusal) => refusal_text(alloc, refusal),
-        RunError::OutOfMemory => Err(Fail::new("out of memory")),
+        ReadError::Refused(refusal) => refusal_text(alloc, refusal),
+        ReadError::OutOfMemory => Err(Fail::new("out of memory")),
     }
 }
 
@@ -89,7 +89,7 @@ fn put_rows(
     alloc: Global,
     text: &mut String,
     steps: &mut RowSteps<'_>,
-) -> Result<Option<RunError>, Fail> {
+) -> Result<Option<ReadError>, Fail> {
     for _ in 0..100 {
         match steps.next() {
             Ok(Some(row)) => text.push_str(&located_text(alloc, row.location, &row.row)?)?,

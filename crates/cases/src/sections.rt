@@ -5,8 +5,8 @@ use crate::changes::{changes_text, keeps_first_two};
 use crate::lines::{compare, number, parts, sides};
 use crate::targets::{BIG, LITTLE};
 use crate::texts::refusal_text;
-use dw_num::Target;
-use dw_section::{Header, SectionError, Table, check, entries, headers};
+use dw_num::{ReadError, Target};
+use dw_section::{Header, Table, check, entries, headers};
 use std::alloc::Global;
 use std::test::Fail;
 
@@ -98,10 +98,10 @@ pub fn section_of(alloc: Global, words: &str) -> Result<Vec<u8>, Fail> {
     Ok(bytes)
 }
 
-fn error_text(alloc: Global, error: SectionError) -> Result<String, Fail> {
+fn error_text(alloc: Global, error: ReadError) -> Result<String, Fail> {
     match error {
-        SectionError::Refused(refusal) => refusal_text(alloc, refusal),
-        SectionError::OutOfMemory => Err(Fail::new("out of memory")),
+        ReadError::Refused(refusal) => refusal_text(alloc, refusal),
+        ReadError::OutOfMemory => Err(Fail::new("out of memory")),
     }
 }
 

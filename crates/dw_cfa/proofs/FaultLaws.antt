@@ -7,6 +7,9 @@ use Rattle.dw_num.specs.declared.refusal.Code.TheVariants.{NotInCie, LocationBac
 use Rattle.dw_num.specs.declared.refusal.Refusal.{Refusal}
 use Rattle.dw_num.specs.Target.{address_limit}
 use Rattle.dw_num.specs.Input.{Input, AreBytes}
+use Rattle.dw_num.specs.declared.error.ReadError.{ReadError}
+use Rattle.dw_num.specs.declared.error.ReadError.TheVariants.{Refused, OutOfMemory}
+use Rattle.dw_num.specs.Refusals.{Refuses}
 use Rattle.dw_cfa.specs.declared.instr.Factors.{Factors}
 use Rattle.dw_cfa.specs.declared.instr.Instr.{Instr}
 use Rattle.dw_cfa.specs.declared.instr.Instr.TheVariants.{SetLoc, Advance, RememberState, RestoreState}
@@ -21,12 +24,10 @@ use Rattle.dw_cfa.specs.Kept.{is_remember, is_restore, in_cie, keeps_half, IsReg
 use Rattle.dw_cfa.specs.Laws.{initial_cfa}
 use Rattle.dw_cfa.specs.Behind.{Leaves, InitialLeaves, LeavesInitial, InitialRefused, BehindRefused}
 use Rattle.dw_cfa.specs.Faults.{RefusedWhereFault, BreaksHalf, CieBreaks, FdeBreaks, FdeFaultBehind, CieFault, FdeFault, RunFault}
-use Rattle.dw_cfa.specs.declared.running.RunError.{RunError}
-use Rattle.dw_cfa.specs.declared.running.RunError.TheVariants.{Refused, OutOfMemory}
 use Rattle.dw_cfa.specs.Stepping.{Stepping, Failed, rows_before}
 use Rattle.dw_cfa.specs.Rows.{Rules, AreSpecified, blank}
 use Rattle.dw_cfa.specs.Machine.{begun, half_fault, cie_fault, fde_fault}
-use Rattle.dw_cfa.specs.Runs.{Placed, Outcome, placed, cie_run, initial_row, on_initial, fde_rows, rows_behind, run_rows, fails, RefusalIs}
+use Rattle.dw_cfa.specs.Runs.{Placed, Outcome, placed, cie_run, initial_row, on_initial, fde_rows, rows_behind, run_rows, fails}
 use Rattle.dw_cfa.proofs.Divided.{divided, joined}
 use Rattle.dw_cfa.proofs.Forward.{Follows, begun_follows}
 use Rattle.dw_cfa.proofs.Initial.{cie_follows}
@@ -340,8 +341,8 @@ pub refused_where_fault : RefusedWhereFault
 refused_where_fault f cie fde begin r cb fb le = (run_refused f cie fde begin r cb fb le, refused_run f cie fde begin r cb fb le)
 
 -- a run by rows that fails
-pub run_failed : (f : Factors) (cie fde : Input) (begin : ℕ) (first old new : Stepping) (rows : List LocatedRow) (e : RunError) → AreBytes cie.bytes → AreBytes fde.bytes → begin ≤ address_limit fde.target.size
-    → first.outcome ≡ run_rows f cie fde begin → first.outcome ≡ rows_before rows old.outcome → old.error ≡ None → Failed old e new → RefusalIs e (RunFault f cie fde begin)
+pub run_failed : (f : Factors) (cie fde : Input) (begin : ℕ) (first old new : Stepping) (rows : List LocatedRow) (e : ReadError) → AreBytes cie.bytes → AreBytes fde.bytes → begin ≤ address_limit fde.target.size
+    → first.outcome ≡ run_rows f cie fde begin → first.outcome ≡ rows_before rows old.outcome → old.error ≡ None → Failed old e new → Refuses (RunFault f cie fde begin) e
 run_failed f cie fde begin first old new rows OutOfMemory cb fb le begun before none failed = tt
 run_failed f cie fde begin first old new rows (Refused r) cb fb le begun before none (is, over, inl same) =
     let error : None ≡ Some (Refused r) = sym none ∙ ap (λ (s : Stepping). s.error) same ∙ is in absurd cc

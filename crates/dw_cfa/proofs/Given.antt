@@ -3,6 +3,9 @@ use Rattle.std.proofs.Common.{◌≡◌, ℕ, suc, ◌≤◌, Bool, true, false,
 use Rattle.std.specs.Prelude.{if◌then◌else◌}
 use Rattle.std.proofs.lemmas.List.{append-nil}
 use Rattle.dw_num.specs.declared.refusal.Refusal.{Refusal}
+use Rattle.dw_num.specs.Refusals.{Refuses}
+use Rattle.dw_num.specs.declared.error.ReadError.{ReadError}
+use Rattle.dw_num.specs.declared.error.ReadError.TheVariants.{Refused, OutOfMemory}
 use Rattle.dw_num.specs.Target.{address_limit}
 use Rattle.dw_num.specs.Input.{Input, AreBytes}
 use Rattle.dw_cfa.specs.declared.instr.Factors.{Factors}
@@ -13,10 +16,8 @@ use Rattle.dw_num.specs.declared.refusal.Code.{Code}
 use Rattle.dw_cfa.specs.Location.{onto, location_back, moves_location}
 use Rattle.dw_cfa.specs.Rows.{Rules, blank}
 use Rattle.dw_cfa.specs.Machine.{State, begun, after, fde_fault}
-use Rattle.dw_cfa.specs.Runs.{Placed, Outcome, finished, placed, row_if, on_initial, initial_row, run_rows, fde_rows, RefusalIs}
+use Rattle.dw_cfa.specs.Runs.{Placed, Outcome, finished, placed, row_if, on_initial, initial_row, run_rows, fde_rows}
 use Rattle.dw_cfa.specs.Stepping.{Stepping, Answers, rows_before}
-use Rattle.dw_cfa.specs.declared.running.RunError.{RunError}
-use Rattle.dw_cfa.specs.declared.running.RunError.TheVariants.{Refused, OutOfMemory}
 use Rattle.dw_cfa.specs.Faults.{FdeFaultBehind, RunFault}
 use Rattle.dw_cfa.specs.Gives.{ends, IsRowAfter, AreRowsAfter, Gives, GivesBefore, RunsWhereGiven, RowsBeforeFault}
 use Rattle.dw_cfa.proofs.Forward.{Follows, Holds, after_follows, begun_follows}
@@ -226,7 +227,7 @@ module _ (f : Factors) (cie fde : Input) (begin : ℕ) (cb : AreBytes cie.bytes)
       ap (λ (o : Outcome). o.rows) (sym (gives_run f cie fde begin cb fb le rows v) ∙ gives_run f cie fde begin cb fb le others w)
 
   -- and programs that give rows are not refused
-  pub gives_memory : (rows : List LocatedRow) (e : RunError) → Gives f cie fde begin rows → RefusalIs e (RunFault f cie fde begin) → e ≡ OutOfMemory
+  pub gives_memory : (rows : List LocatedRow) (e : ReadError) → Gives f cie fde begin rows → Refuses (RunFault f cie fde begin) e → e ≡ OutOfMemory
   gives_memory rows OutOfMemory v w = refl
   gives_memory rows (Refused r) v w =
       let none : (run_rows f cie fde begin).fault ≡ None = ap (λ (o : Outcome). o.fault) (gives_run f cie fde begin cb fb le rows v) in

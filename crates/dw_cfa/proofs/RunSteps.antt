@@ -7,14 +7,15 @@ use Rattle.dw_num.specs.declared.refusal.Refusal.{Refusal}
 use Rattle.dw_num.specs.Input.{Input, AreBytes}
 use Rattle.dw_num.specs.Reading.{Read}
 use Rattle.dw_num.specs.Target.{address_limit}
+use Rattle.dw_num.specs.declared.error.ReadError.{ReadError}
+use Rattle.dw_num.specs.declared.error.ReadError.TheVariants.{Refused, OutOfMemory}
+use Rattle.dw_num.specs.Refusals.{Refuses}
 use Rattle.dw_cfa.specs.declared.instr.Factors.{Factors}
 use Rattle.dw_cfa.specs.declared.instr.Instr.{Instr}
 use Rattle.dw_cfa.specs.declared.instr.Instr.TheVariants.{Nop, SetLoc, Advance, DefCfa, DefCfaRegister, DefCfaOffset, DefCfaExpression, Set, Restore, RememberState, RestoreState}
 use Rattle.dw_cfa.specs.declared.machine.Machine.{Machine}
 use Rattle.dw_cfa.specs.declared.machine.StepError.{StepError}
 use Rattle.dw_cfa.specs.declared.machine.StepError.TheVariants as step
-use Rattle.dw_cfa.specs.declared.running.RunError.{RunError}
-use Rattle.dw_cfa.specs.declared.running.RunError.TheVariants.{Refused, OutOfMemory}
 use Rattle.dw_cfa.specs.Location.{moves_location}
 use Rattle.dw_cfa.specs.Kept.{in_cie}
 use Rattle.dw_cfa.specs.Reading.{instr_at}
@@ -24,7 +25,7 @@ use Rattle.dw_cfa.specs.Stepping.{begun_rows}
 use Rattle.dw_cfa.specs.Machine.{State, begun, written, after, half_fault, fde_fault, FaultIs}
 use Rattle.dw_cfa.specs.Inner.States.{Held, BeganWith}
 use Rattle.dw_cfa.specs.Inner.Steps.{state_of, IsAfter}
-use Rattle.dw_cfa.specs.Runs.{Placing, placed, cie_run, initial_row, on_initial, Outcome, fails, finished, row_then, here, row_if, fault_or, fde_rows, rows_left, rows_behind, run_rows, RunsSo, RefusalIs, run_error, RanTo, WroteTo}
+use Rattle.dw_cfa.specs.Runs.{Placing, placed, cie_run, initial_row, on_initial, Outcome, fails, finished, row_then, here, row_if, fault_or, fde_rows, rows_left, rows_behind, run_rows, RunsSo, run_error, RanTo, WroteTo}
 use Rattle.dw_cfa.proofs.Placings.{reads, placed_end, placed_step, placed_stuck}
 
 rows_of : ℕ → Rules → Placing → State → Outcome
@@ -85,7 +86,7 @@ module _ (f : Factors) (i : Input) (row : Rules) (x : Instr × Input) (h : AreBy
   unfolding cie_run
   initial_not not = rw (placed_step f i x h some e, not) refl
 
-  pub initial_fault : (error : StepError) → in_cie x.0 ≡ true → FaultIs error (half_fault x.0 row.cfa) → RefusalIs (run_error i.at error) (λ r. initial_row (placed f i) row ≡ Err r)
+  pub initial_fault : (error : StepError) → in_cie x.0 ≡ true → FaultIs error (half_fault x.0 row.cfa) → Refuses (λ r. initial_row (placed f i) row ≡ Err r) (run_error i.at error)
   unfolding cie_run
   initial_fault (step.Fault code) is fault = rw (placed_step f i x h some e, is, fault) refl
   initial_fault step.OutOfMemory is fault = tt
@@ -135,7 +136,7 @@ begun_initial f cie fde m none = go (initial_row (placed f cie) m.states.row) re
     go (Ok row) e n = refl
     go (Err r) e n = absurd cc
 
-pub begun_refused : (f : Factors) (cie fde : Input) (m : Machine) (e : RunError) → RefusalIs e (λ r. initial_row (placed f cie) m.states.row ≡ Err r) → RefusalIs e (λ r. begun_rows f cie fde m ≡ fails r)
+pub begun_refused : (f : Factors) (cie fde : Input) (m : Machine) (e : ReadError) → Refuses (λ r. initial_row (placed f cie) m.states.row ≡ Err r) e → Refuses (λ r. begun_rows f cie fde m ≡ fails r) e
 unfolding begun_rows
 begun_refused f cie fde m (Refused r) is = rw is refl
 begun_refused f cie fde m OutOfMemory is = tt

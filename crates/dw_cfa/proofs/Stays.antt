@@ -8,6 +8,7 @@ use Rattle.dw_num.specs.declared.refusal.Refusal.{Refusal}
 use Rattle.dw_num.specs.declared.target.Target.{Target}
 use Rattle.dw_num.specs.Input.{Input, AreBytes}
 use Rattle.dw_num.specs.Reading.{Read}
+use Rattle.dw_num.specs.declared.error.ReadError.{ReadError}
 use Rattle.dw_cfa.specs.declared.instr.Factors.{Factors}
 use Rattle.dw_cfa.specs.declared.instr.Instr.{Instr}
 use Rattle.dw_cfa.specs.declared.instr.Instr.TheVariants.{Set, Restore, RememberState, RestoreState}
@@ -15,7 +16,6 @@ use Rattle.dw_cfa.specs.declared.machine.Machine.{Machine}
 use Rattle.dw_cfa.specs.declared.rule.RegRule.{RegRule}
 use Rattle.dw_cfa.specs.declared.rule.RegRule.TheVariants as rules
 use Rattle.dw_cfa.specs.declared.running.LocatedRow.{LocatedRow}
-use Rattle.dw_cfa.specs.declared.running.RunError.{RunError}
 use Rattle.dw_cfa.specs.declared.steps.Progress.{Progress}
 use Rattle.dw_cfa.specs.declared.steps.Progress.TheVariants as progress
 use Rattle.dw_cfa.specs.declared.walking.Leading.{Leading}
@@ -164,7 +164,7 @@ module _ (l : Leading) (fde : Input) (m : Machine) where
   after_row old row false h e = tt
 
   -- behind the end of a row
-  pub row_behind : (old : Outcome) (result : Result (ℕ × Bool) RunError) → AllSpecify m.initial old.rows → GivesRow old l.factors fde m result → WalkKeeps (progress_after result) l fde m
+  pub row_behind : (old : Outcome) (result : Result (ℕ × Bool) ReadError) → AllSpecify m.initial old.rows → GivesRow old l.factors fde m result → WalkKeeps (progress_after result) l fde m
   row_behind old (Ok x) h g = after_row old (record { location = x.0; row = m.states.row }) x.1 h g.1
   row_behind old (Err e) h g = tt
 

@@ -4,6 +4,9 @@ use Rattle.dw_num.specs.declared.refusal.Code.{Code}
 use Rattle.dw_num.specs.declared.refusal.Refusal.{Refusal}
 use Rattle.dw_num.specs.Target.{address_limit}
 use Rattle.dw_num.specs.Input.{Input}
+use Rattle.dw_num.specs.Refusals.{Refuses}
+use Rattle.dw_num.specs.declared.error.ReadError.{ReadError}
+use Rattle.dw_num.specs.declared.error.ReadError.TheVariants.{Refused, OutOfMemory}
 use Rattle.dw_op.specs.Walks.{Walked, walked}
 use Rattle.dw_cfa.specs.declared.instr.Factors.{Factors}
 use Rattle.dw_cfa.specs.declared.instr.Instr.{Instr}
@@ -11,8 +14,6 @@ use Rattle.dw_cfa.specs.declared.machine.Machine.{Machine}
 use Rattle.dw_cfa.specs.declared.machine.StepError.{StepError}
 use Rattle.dw_cfa.specs.declared.machine.StepError.TheVariants as step
 use Rattle.dw_cfa.specs.declared.running.LocatedRow.{LocatedRow}
-use Rattle.dw_cfa.specs.declared.running.RunError.{RunError}
-use Rattle.dw_cfa.specs.declared.running.RunError.TheVariants.{Refused, OutOfMemory}
 use Rattle.dw_cfa.specs.Location.{moves_location}
 use Rattle.dw_cfa.specs.Reading.{instr_at}
 use Rattle.dw_cfa.specs.Rows.{Rules, blank}
@@ -115,12 +116,7 @@ pub record RunsSo (m : Machine) (i : Input) : Type 0 where
   pub within : m.location ≤ m.limit
   pub first : BeganWith m.initial m.states.first
 
--- an error is such a refusal, unless memory ran out
-abbrev pub RefusalIs : RunError → (Refusal → Type 0) → Type 0
-RefusalIs (Refused r) P = P r
-RefusalIs OutOfMemory P = Unit {0}
-
-abbrev pub run_error : ℕ → StepError → RunError
+abbrev pub run_error : ℕ → StepError → ReadError
 run_error at (step.Fault code) = Refused (record { code = code; at = at })
 run_error at step.OutOfMemory = OutOfMemory
 
@@ -132,15 +128,15 @@ pub record RanTo (f : Factors) (i : Input) (m : Machine) (moves : Bool) (i' : In
   pub same_row : IsTrue moves → m'.states.row ≡ m.states.row
 
 -- the machine has a row and more are left, or it is the last, or the refusal was answered
-abbrev pub GivesRow : Outcome → Factors → Input → Machine → Result (ℕ × Bool) RunError → Type 0
+abbrev pub GivesRow : Outcome → Factors → Input → Machine → Result (ℕ × Bool) ReadError → Type 0
 GivesRow old f i m (Ok x) = RunsSo m i × (old ≡ row_then (record { location = x.0; row = m.states.row }) (if x.1 then rows_left f i m else finished))
-GivesRow old f i m (Err e) = RefusalIs e (λ r. old ≡ fails r)
+GivesRow old f i m (Err e) = Refuses (λ r. old ≡ fails r) e
 
 -- the same for an instruction of a CIE's program
 pub record WroteTo (f : Factors) (i : Input) (row : Rules) (i' : Input) (row' : Rules) : Type 0 where
   pub shorter : length i'.bytes < length i.bytes
   pub initial : initial_row (placed f i) row ≡ initial_row (placed f i') row'
 
-abbrev pub Wrote : {X : Type 0} → Factors → Input → Held → Result X RunError → Input → Held → Type 0
+abbrev pub Wrote : {X : Type 0} → Factors → Input → Held → Result X ReadError → Input → Held → Type 0
 Wrote f i s (Ok x) i' s' = WroteTo f i s.row i' s'.row × (s'.stack ≡ s.stack) × (s'.first ≡ s.first)
-Wrote f i s (Err e) i' s' = RefusalIs e (λ r. initial_row (placed f i) s.row ≡ Err r)
+Wrote f i s (Err e) i' s' = Refuses (λ r. initial_row (placed f i) s.row ≡ Err r) e

@@ -2,17 +2,17 @@
 
 ghost use Rattle.std.specs.Prelude.{◌≡◌, ◌<◌, List, IfOk, IfErr, MatchResult};
 ghost use Rattle.dw_num.specs.Target.{address_limit};
+ghost use Rattle.dw_num.specs.Refusals.{Refuses};
+ghost use Rattle.dw_num.specs.declared.error.ReadError.TheVariants.{OutOfMemory};
 ghost use Rattle.dw_cfa.specs.Faults.{RunFault};
 ghost use Rattle.dw_cfa.specs.Gives.{Gives};
-ghost use Rattle.dw_cfa.specs.Runs.{RefusalIs};
 ghost use Rattle.dw_cfa.specs.Stepping.{program_input};
 ghost use Rattle.dw_cfa.specs.declared.running.LocatedRow.{LocatedRow as TheLocatedRow};
-ghost use Rattle.dw_cfa.specs.declared.running.RunError.TheVariants.{OutOfMemory};
 
 use crate::instr::Factors;
-use crate::running::{LocatedRow, RunError};
+use crate::running::LocatedRow;
 use crate::steps::RowSteps;
-use dw_num::{Program, Target, are_bytes};
+use dw_num::{Program, ReadError, Target, are_bytes};
 use std::alloc::Global;
 
 /// Rows with the locations that they start at, which never fall.
@@ -28,11 +28,11 @@ pub fn run<'a>(
     begin: u64,
     factors: Factors,
     target: Target,
-) -> Result<Rows<'a>, RunError>
+) -> Result<Rows<'a>, ReadError>
     requires { begin < address_limit target.size }
     ensures rows { IfOk result (λ rows. Gives factors (program_input cie_program.entry target) (program_input fde_program.entry target) begin rows.items) }
     ensures only { (rows : List TheLocatedRow) → Gives factors (program_input cie_program.entry target) (program_input fde_program.entry target) begin rows → MatchResult result (λ v. v.items ≡ rows) (λ e. e ≡ OutOfMemory) }
-    ensures refused { IfErr result (λ e. RefusalIs e (RunFault factors (program_input cie_program.entry target) (program_input fde_program.entry target) begin)) }
+    ensures refused { IfErr result (Refuses (RunFault factors (program_input cie_program.entry target) (program_input fde_program.entry target) begin)) }
 {
     are_bytes(cie_program.bytes);
     are_bytes(fde_program.bytes);

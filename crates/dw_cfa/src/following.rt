@@ -2,21 +2,22 @@
 
 ghost use Rattle.std.specs.Prelude.{◌≡◌, ◌<◌, ℕ, None, Some, Ok, Err, false, OnOk, OnErr, IfOk, IfErr, MatchResult};
 ghost use Rattle.dw_num.specs.Target.{address_limit};
+ghost use Rattle.dw_num.specs.Refusals.{Refuses};
+ghost use Rattle.dw_num.specs.declared.error.ReadError.TheVariants.{OutOfMemory};
 ghost use Rattle.dw_cfa.specs.Following.{Following, with_steps};
 ghost use Rattle.dw_cfa.specs.Lacking.{lacks_from};
 ghost use Rattle.dw_cfa.specs.Rows.{blank};
-ghost use Rattle.dw_cfa.specs.Runs.{RefusalIs, finished, initial_row, placed, rows_behind};
+ghost use Rattle.dw_cfa.specs.Runs.{finished, initial_row, placed, rows_behind};
 ghost use Rattle.dw_cfa.specs.Stepping.{Advances, program_input, stepping};
-ghost use Rattle.dw_cfa.specs.declared.running.RunError.TheVariants.{OutOfMemory};
 
 use crate::instr::Factors;
 use crate::lacking::lacks_rule;
 use crate::machine::Machine;
 use crate::row::Row;
-use crate::running::{RunError, next_row};
+use crate::running::next_row;
 use crate::states::States;
 use crate::steps::{Progress, initial_row, progress_after};
-use dw_num::{Cursor, Program, Target};
+use dw_num::{Cursor, Program, ReadError, Target};
 use std::alloc::{AllocError, Global};
 use std::marker::Model;
 
@@ -50,9 +51,9 @@ impl<'a> CieMachine<'a> {
         cie_program: Program<'a>,
         factors: Factors,
         target: Target,
-    ) -> Result<CieMachine<'a>, RunError>
+    ) -> Result<CieMachine<'a>, ReadError>
         ensures ok { IfOk result (λ c. (initial_row (placed factors (program_input cie_program.entry target)) blank ≡ Ok c.initial) × (c.factors ≡ factors) × (c.target ≡ target) × (c.steps ≡ stepping c.initial finished)) }
-        ensures err { IfErr result (λ e. RefusalIs e (λ r. initial_row (placed factors (program_input cie_program.entry target)) blank ≡ Err r)) }
+        ensures err { IfErr result (Refuses (λ r. initial_row (placed factors (program_input cie_program.entry target)) blank ≡ Err r)) }
     {
         let initial = initial_row(alloc, cie_program, factors, target)?;
         let row = initial.copied()?;
@@ -89,7 +90,7 @@ impl<'a> CieMachine<'a> {
         let machine = &mut self.machine;
         if let Err(error) = machine.states.rewind(&machine.initial) {
             machine.states.untrack();
-            self.progress = Progress::Failed(RunError::OutOfMemory);
+            self.progress = Progress::Failed(ReadError::OutOfMemory);
             return Err(error);
         }
         machine.location = u128::from(begin);
@@ -101,7 +102,7 @@ impl<'a> CieMachine<'a> {
 
     /// Goes on to the next row of the FDE, which `row` lends then, and answers the location that it starts at, or none
     /// behind the last row. No row is copied. A refusal, or want of memory, is answered from then on.
-    pub fn advance(&mut self) -> Result<Option<u128>, RunError>
+    pub fn advance(&mut self) -> Result<Option<u128>, ReadError>
         ensures advances { Advances self.old.steps result self.new.steps }
         ensures same { self.new ≡ with_steps self.old self.new.steps }
     {
@@ -120,10 +121,10 @@ impl<'a> CieMachine<'a> {
 
     /// Runs the program that began to its end, and says whether the rows still to come leave an address below the end
     /// without a rule for the CFA. No row is to come then, and a refusal, or want of memory, is answered from then on.
-    pub fn lacks_rule(&mut self, end: u128) -> Result<bool, RunError>
+    pub fn lacks_rule(&mut self, end: u128) -> Result<bool, ReadError>
         requires { self.old.steps.error ≡ None }
         ensures found { IfOk result (λ lacks. (self.old.steps.outcome.fault ≡ None) × ((low : ℕ) → lacks ≡ lacks_from end low false self.old.steps.outcome.rows)) }
-        ensures refused { IfErr result (λ e. RefusalIs e (λ r. self.old.steps.outcome.fault ≡ Some r)) }
+        ensures refused { IfErr result (Refuses (λ r. self.old.steps.outcome.fault ≡ Some r)) }
         ensures after { MatchResult result (λ _. self.new.steps ≡ stepping self.new.steps.current finished) (λ e. self.new.steps.error ≡ Some e) }
         ensures same { self.new ≡ with_steps self.old self.new.steps }
     {

@@ -1,16 +1,16 @@
 //! Whether an FDE's rows leave one of its addresses without a rule for the CFA (6.4.1).
 
 ghost use Rattle.std.specs.Prelude.{◌≡◌, ℕ, ◌||◌, [], ◌∷◌, None, Some, true, false, OnOk, IfOk, IfErr};
+ghost use Rattle.dw_num.specs.Refusals.{Refuses};
 ghost use Rattle.dw_cfa.specs.Lacking.{is_unset, leaves_one, lacks_from};
-ghost use Rattle.dw_cfa.specs.Runs.{RefusalIs, RunsSo, rows_left};
+ghost use Rattle.dw_cfa.specs.Runs.{RunsSo, rows_left};
 
 use crate::instr::Factors;
 use crate::machine::{End, Machine};
 use crate::row::Row;
 use crate::rule::CfaRule;
-use crate::running::RunError;
 use crate::turn::turn;
-use dw_num::{Code, Cursor, Refusal};
+use dw_num::{Code, Cursor, ReadError, Refusal};
 
 // Whether a row has no rule for the CFA.
 fn is_unset(row: &Row<'_>) -> bool
@@ -52,10 +52,10 @@ pub(crate) fn lacks_rule<'a>(
     factors: Factors,
     machine: &mut Machine<'a>,
     end: u128,
-) -> Result<bool, RunError>
+) -> Result<bool, ReadError>
     requires so { RunsSo machine.old cursor.old }
     ensures found { IfOk result (λ lacks. ((rows_left factors cursor.old machine.old).fault ≡ None) × ((low : ℕ) → lacks ≡ lacks_from end low false (rows_left factors cursor.old machine.old).rows)) }
-    ensures refused { IfErr result (λ e. RefusalIs e (λ r. (rows_left factors cursor.old machine.old).fault ≡ Some r)) }
+    ensures refused { IfErr result (Refuses (λ r. (rows_left factors cursor.old machine.old).fault ≡ Some r)) }
     ensures so { OnOk result (RunsSo machine.new cursor.new) }
     ensures initial { machine.new.initial ≡ machine.old.initial }
 {
@@ -69,8 +69,8 @@ pub(crate) fn lacks_rule<'a>(
             End::Moved => {
                 lacks = lacks_now(lacks, machine.states.row(), end, low, machine.location);
             }
-            End::Refused => return Err(RunError::Refused(fault)),
-            End::OutOfMemory => return Err(RunError::OutOfMemory),
+            End::Refused => return Err(ReadError::Refused(fault)),
+            End::OutOfMemory => return Err(ReadError::OutOfMemory),
         }
     }
     Ok(lacks_at_last(lacks, machine.states.row(), end, machine.location))

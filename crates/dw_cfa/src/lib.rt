@@ -28,6 +28,6 @@ pub use instructions::Instructions;
 pub use laws::{behind_laws, initial_laws, row_laws};
 pub use row::{Row, Specified};
 pub use rule::{CfaRule, RegRule};
-pub use running::{LocatedRow, RunError};
+pub use running::LocatedRow;
 pub use steps::{RowSteps, initial_row};
 pub use walking::RowWalk;

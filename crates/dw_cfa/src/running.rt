@@ -1,11 +1,12 @@
 //! Programs that are run instruction by instruction (6.4.3).
 
 ghost use Rattle.std.specs.Prelude.{◌≡◌, ◌<◌, ℕ, None, Some, Ok, Err, length, OnOk, IfErr, IsOk, IsTrue};
-ghost use Rattle.dw_cfa.specs.declared.running.RunError.TheVariants as TheError;
+ghost use Rattle.dw_num.specs.declared.error.ReadError.TheVariants as TheError;
+ghost use Rattle.dw_num.specs.Refusals.{Refuses};
 ghost use Rattle.dw_cfa.specs.RuleAt.{last_at, NeverFalls};
 ghost use Rattle.dw_cfa.specs.Rows.{Rules};
 ghost use Rattle.dw_cfa.specs.Kept.{in_cie};
-ghost use Rattle.dw_cfa.specs.Runs.{RefusalIs, RunsSo, GivesRow, Wrote, rows_left, initial_row, placed, run_error};
+ghost use Rattle.dw_cfa.specs.Runs.{RunsSo, GivesRow, Wrote, rows_left, initial_row, placed, run_error};
 ghost use Rattle.dw_cfa.specs.Walking.{AllSpecify};
 
 use crate::instr::{Factors, Instr};
@@ -14,50 +15,7 @@ use crate::reading::read_instr;
 use crate::row::Row;
 use crate::states::States;
 use crate::turn::turn;
-use dw_num::{Code, Cursor, Refusal, are_bytes};
-use std::alloc::{AllocError, AllocFailed};
-
-/// Why programs give no rows, or no more.
-#[derive(Clone, Copy, Debug, PartialEq, Eq)]
-pub enum RunError {
-    /// An instruction is refused: the first fault of the programs, the CIE's first.
-    Refused(Refusal),
-    /// Memory ran out.
-    OutOfMemory,
-}
-
-impl From<Refusal> for RunError {
-    ghost use Rattle.std.specs.Prelude.{◌≡◌};
-    ghost use Rattle.dw_cfa.specs.declared.running.RunError.TheVariants.{Refused};
-
-    ghost from_gives = { λ r e. e ≡ Refused r };
-
-    fn from(refusal: Refusal) -> RunError {
-        RunError::Refused(refusal)
-    }
-}
-
-impl From<AllocError> for RunError {
-    ghost use Rattle.std.specs.Prelude.{◌≡◌};
-    ghost use Rattle.dw_cfa.specs.declared.running.RunError.TheVariants.{OutOfMemory};
-
-    ghost from_gives = { λ _ e. e ≡ OutOfMemory };
-
-    fn from(_error: AllocError) -> RunError {
-        RunError::OutOfMemory
-    }
-}
-
-impl<T: Drop> From<AllocFailed<T>> for RunError {
-    ghost use Rattle.std.specs.Prelude.{◌≡◌};
-    ghost use Rattle.dw_cfa.specs.declared.running.RunError.TheVariants.{OutOfMemory};
-
-    ghost from_gives = { λ _ e. e ≡ OutOfMemory };
-
-    fn from(_error: AllocFailed<T>) -> RunError {
-        RunError::OutOfMemory
-    }
-}
+use dw_num::{Code, Cursor, ReadError, Refusal, are_bytes};
 
 /// A row, and the location that it starts at. It holds up to the location of the next row.
 #[derive(Drop)]
@@ -67,12 +25,12 @@ pub struct LocatedRow<'a> {
 }
 
 // The error of the instruction at a place.
-fn run_error(at: u64, error: StepError) -> RunError
+fn run_error(at: u64, error: StepError) -> ReadError
     ensures { result ≡ run_error at error }
 {
     match error {
-        StepError::Fault(code) => RunError::Refused(Refusal { code, at }),
-        StepError::OutOfMemory => RunError::OutOfMemory,
+        StepError::Fault(code) => ReadError::Refused(Refusal { code, at }),
+        StepError::OutOfMemory => ReadError::OutOfMemory,
     }
 }
 
@@ -98,7 +56,7 @@ pub(crate) fn next_row<'a>(
     factors: Factors,
     machine: &mut Machine<'a>,
     known: bool,
-) -> Result<(u128, bool), RunError>
+) -> Result<(u128, bool), ReadError>
     requires so { RunsSo machine.old cursor.old }
     requires known { IsTrue known → (rows_left factors cursor.old machine.old).fault ≡ None }
     ensures row { GivesRow (rows_left factors cursor.old machine.old) factors cursor.new machine.new result }
@@ -111,8 +69,8 @@ pub(crate) fn next_row<'a>(
         match turn(cursor, factors, machine, known, &mut fault) {
             End::On => {}
             End::Moved => return Ok((location, true)),
-            End::Refused => return Err(RunError::Refused(fault)),
-            End::OutOfMemory => return Err(RunError::OutOfMemory),
+            End::Refused => return Err(ReadError::Refused(fault)),
+            End::OutOfMemory => return Err(ReadError::OutOfMemory),
         }
     }
     Ok((machine.location, false))
@@ -125,7 +83,7 @@ pub(crate) fn run_to<'a>(
     factors: Factors,
     machine: &mut Machine<'a>,
     address: u64,
-) -> Result<bool, RunError>
+) -> Result<bool, ReadError>
     requires so { RunsSo machine.old cursor.old }
     requires known { (rows_left factors cursor.old machine.old).fault ≡ None }
     requires never_falls { (low : ℕ) × NeverFalls low (rows_left factors cursor.old machine.old).rows }
@@ -148,7 +106,7 @@ pub(crate) fn run_to<'a>(
                 }
             }
             End::Refused => unreachable!(),
-            End::OutOfMemory => return Err(RunError::OutOfMemory),
+            End::OutOfMemory => return Err(ReadError::OutOfMemory),
         }
     }
     Ok(false)
@@ -160,7 +118,7 @@ fn write_one<'a>(
     factors: Factors,
     states: &mut States<'a>,
     known: bool,
-) -> Result<(), RunError>
+) -> Result<(), ReadError>
     requires some { 0 < length cursor.old.bytes }
     requires known { IsTrue known → IsOk (initial_row (placed factors cursor.old) states.old.row) }
     ensures { Wrote factors cursor.old states.old result cursor.new states.new }
@@ -169,7 +127,7 @@ fn write_one<'a>(
     let at = cursor.at();
     let instr = read_instr(cursor, factors, known)?;
     if !is_in_cie(&instr) {
-        return Err(RunError::Refused(Refusal {
+        return Err(ReadError::Refused(Refusal {
             code: Code::NotInCie,
             at,
         }));
@@ -186,11 +144,11 @@ pub(crate) fn run_initial<'a>(
     factors: Factors,
     states: &mut States<'a>,
     known: bool,
-) -> Result<(), RunError>
+) -> Result<(), ReadError>
     requires { IsTrue known → IsOk (initial_row (placed factors cursor.old) states.old.row) }
     ensures ok { OnOk result (initial_row (placed factors cursor.old) states.old.row ≡ Ok states.new.row) }
     ensures same { OnOk result ((states.new.stack ≡ states.old.stack) × (states.new.first ≡ states.old.first)) }
-    ensures err { IfErr result (λ e. RefusalIs e (λ r. initial_row (placed factors cursor.old) states.old.row ≡ Err r)) }
+    ensures err { IfErr result (Refuses (λ r. initial_row (placed factors cursor.old) states.old.row ≡ Err r)) }
 {
     'instrs: while cursor.left() > 0 {
         write_one(cursor, factors, states, known)?;

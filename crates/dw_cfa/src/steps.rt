@@ -2,17 +2,18 @@
 
 ghost use Rattle.std.specs.Prelude.{◌≡◌, ◌<◌, Some, None, Ok, Err, List, [], ◌∷◌, IfOk, IfErr, IsTrue};
 ghost use Rattle.dw_num.specs.Target.{address_limit};
+ghost use Rattle.dw_num.specs.Refusals.{Refuses};
 ghost use Rattle.dw_cfa.specs.declared.running.LocatedRow.{LocatedRow};
-ghost use Rattle.dw_cfa.specs.Runs.{finished, RunsSo, GivesRow, RefusalIs, placed, initial_row, run_rows};
+ghost use Rattle.dw_cfa.specs.Runs.{finished, RunsSo, GivesRow, placed, initial_row, run_rows};
 ghost use Rattle.dw_cfa.specs.Rows.{blank};
 ghost use Rattle.dw_cfa.specs.Stepping.{Advances, Answers, begun_rows, stepping, program_input, progress_after};
 
 use crate::instr::Factors;
 use crate::machine::Machine;
 use crate::row::Row;
-use crate::running::{LocatedRow, RunError, next_row, run_initial};
+use crate::running::{LocatedRow, next_row, run_initial};
 use crate::states::States;
-use dw_num::{Cursor, Program, Target};
+use dw_num::{Cursor, Program, ReadError, Target};
 use std::alloc::Global;
 use std::marker::Model;
 
@@ -22,11 +23,11 @@ pub(crate) enum Progress {
     Begun,
     Running,
     Finished,
-    Failed(RunError),
+    Failed(ReadError),
 }
 
 // Where a program stands behind an answer: a row starts at a location, and more may follow.
-pub(crate) fn progress_after(answer: Result<(u128, bool), RunError>) -> Progress
+pub(crate) fn progress_after(answer: Result<(u128, bool), ReadError>) -> Progress
     ensures { result ≡ progress_after answer }
 {
     match answer {
@@ -43,7 +44,7 @@ fn first_row<'a>(
     factors: Factors,
     machine: &mut Machine<'a>,
     known: bool,
-) -> Result<(u128, bool), RunError>
+) -> Result<(u128, bool), ReadError>
     requires known { IsTrue known → (begun_rows factors cie.old fde.old machine.old).fault ≡ None }
     requires so { RunsSo machine.old fde.old }
     requires none { machine.old.states.stack ≡ [] }
@@ -61,9 +62,9 @@ pub fn initial_row<'a>(
     cie_program: Program<'a>,
     factors: Factors,
     target: Target,
-) -> Result<Row<'a>, RunError>
+) -> Result<Row<'a>, ReadError>
     ensures ok { IfOk result (λ row. initial_row (placed factors (program_input cie_program.entry target)) blank ≡ Ok row) }
-    ensures err { IfErr result (λ e. RefusalIs e (λ r. initial_row (placed factors (program_input cie_program.entry target)) blank ≡ Err r)) }
+    ensures err { IfErr result (Refuses (λ r. initial_row (placed factors (program_input cie_program.entry target)) blank ≡ Err r)) }
 {
     let mut states = States::new(alloc, Row::blank(alloc), false);
     let mut cursor = Cursor::new(cie_program.bytes, cie_program.at, target);
@@ -145,9 +146,9 @@ impl<'a> RowSteps<'a> {
 
     /// Goes on to the next row, which `row` lends then, and answers the location that it starts at, or none behind
     /// the last row. No row is copied. A refusal, or want of memory, is answered from then on.
-    pub fn advance(&mut self) -> Result<Option<u128>, RunError>
+    pub fn advance(&mut self) -> Result<Option<u128>, ReadError>
         ensures advances { Advances self.old result self.new }
-        ensures again { (e : RunError) → self.old.error ≡ Some e → result ≡ Err e }
+        ensures again { (e : ReadError) → self.old.error ≡ Some e → result ≡ Err e }
     {
         let answer = match self.progress {
             Progress::Begun => first_row(
@@ -191,9 +192,9 @@ impl<'a> RowSteps<'a> {
     }
 
     /// The next row, or none behind the last one. A refusal, or want of memory, which is answered from then on.
-    pub fn next(&mut self) -> Result<Option<LocatedRow<'a>>, RunError>
+    pub fn next(&mut self) -> Result<Option<LocatedRow<'a>>, ReadError>
         ensures answers { Answers self.old result self.new }
-        ensures again { (e : RunError) → self.old.error ≡ Some e → result ≡ Err e }
+        ensures again { (e : ReadError) → self.old.error ≡ Some e → result ≡ Err e }
     {
         let Some(location) = self.advance()? else {
             return Ok(None);
@@ -201,8 +202,8 @@ impl<'a> RowSteps<'a> {
         match self.machine.states.row().copied() {
             Ok(row) => Ok(Some(LocatedRow { location, row })),
             Err(_) => {
-                self.progress = Progress::Failed(RunError::OutOfMemory);
-                Err(RunError::OutOfMemory)
+                self.progress = Progress::Failed(ReadError::OutOfMemory);
+                Err(ReadError::OutOfMemory)
             }
         }
     }

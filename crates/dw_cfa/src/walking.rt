@@ -2,8 +2,8 @@
 
 ghost use Rattle.std.specs.Prelude.{◌≡◌, ◌<◌, ℕ, None, Ok, List, ◌∷◌, IfErr, IfOk, IsOk, IsTrue, MatchResult, OnOk, Some};
 ghost use Rattle.dw_num.specs.Target.{address_limit};
+ghost use Rattle.dw_num.specs.declared.error.ReadError.TheVariants.{OutOfMemory};
 ghost use Rattle.dw_cfa.specs.declared.running.LocatedRow.{LocatedRow};
-ghost use Rattle.dw_cfa.specs.declared.running.RunError.TheVariants.{OutOfMemory};
 ghost use Rattle.dw_cfa.specs.RuleAt.{last_at, NeverFalls};
 ghost use Rattle.dw_cfa.specs.Rows.{Rules, blank};
 ghost use Rattle.dw_cfa.specs.Runs.{GivesRow, RunsSo, finished, initial_row, placed, rows_left, run_rows};
@@ -14,10 +14,10 @@ ghost use Rattle.dw_cfa.specs.Walking.{AllKeep, AllSpecify, HasInitial, LeadsSam
 use crate::instr::Factors;
 use crate::machine::Machine;
 use crate::row::Row;
-use crate::running::{RunError, next_row, run_initial, run_to};
+use crate::running::{next_row, run_initial, run_to};
 use crate::states::States;
 use crate::steps::{Progress, progress_after};
-use dw_num::{Cursor, Program, Target, are_bytes};
+use dw_num::{Cursor, Program, ReadError, Target, are_bytes};
 use std::alloc::Global;
 use std::marker::Model;
 
@@ -53,7 +53,7 @@ fn run_cie<'a>(
     alloc: Global,
     leading: Leading<'a>,
     machine: &mut Machine<'a>,
-) -> Result<(), RunError>
+) -> Result<(), ReadError>
     requires { IsOk (initial_row (placed leading.factors (program_input leading.program leading.target)) blank) }
     ensures ok { OnOk result (Readied leading.entry machine.old machine.new) }
     ensures err { IfErr result (λ e. e ≡ OutOfMemory) }
@@ -73,7 +73,7 @@ fn ready<'a>(
     leading: Leading<'a>,
     machine: &mut Machine<'a>,
     kept: bool,
-) -> Result<(), RunError>
+) -> Result<(), ReadError>
     requires runs { IsOk (initial_row (placed leading.factors (program_input leading.program leading.target)) blank) }
     requires kept { IsTrue kept → HasInitial leading machine.old }
     requires first { BeganWith machine.old.initial machine.old.states.first }
@@ -95,7 +95,7 @@ fn first_row<'a>(
     fde: &mut Cursor<'a>,
     machine: &mut Machine<'a>,
     kept: &mut bool,
-) -> Result<(u128, bool), RunError>
+) -> Result<(u128, bool), ReadError>
     requires known { (led_rows leading fde.old machine.old.location).fault ≡ None }
     requires so { RunsSo machine.old fde.old }
     requires kept { IsTrue kept.old → HasInitial leading machine.old }
@@ -117,7 +117,7 @@ fn first_to<'a>(
     machine: &mut Machine<'a>,
     kept: &mut bool,
     address: u64,
-) -> Result<bool, RunError>
+) -> Result<bool, ReadError>
     requires known { (led_rows leading fde.old machine.old.location).fault ≡ None }
     requires so { RunsSo machine.old fde.old }
     requires kept { IsTrue kept.old → HasInitial leading machine.old }
@@ -144,7 +144,7 @@ fn walk_to<'a>(
     machine: &mut Machine<'a>,
     kept: &mut bool,
     address: u64,
-) -> Result<bool, RunError>
+) -> Result<bool, ReadError>
     requires so { WalksSo progress kept.old leading fde.old machine.old }
     requires no_error { (walk_of progress leading fde.old machine.old).error ≡ None }
     requires never_falls { (low : ℕ) × NeverFalls low (walk_of progress leading fde.old machine.old).outcome.rows }
@@ -247,7 +247,7 @@ impl<'a> RowWalk<'a> {
 
     /// Goes on to the next row, which `row` lends then, and answers the location that it starts at, or none behind
     /// the last row. No row is copied. Want of memory is answered from then on, until `go_to`.
-    pub fn advance(&mut self) -> Result<Option<u128>, RunError>
+    pub fn advance(&mut self) -> Result<Option<u128>, ReadError>
         ensures { Advances self.old result self.new }
     {
         let (fde, machine) = (&mut self.fde, &mut self.machine);
@@ -266,7 +266,7 @@ impl<'a> RowWalk<'a> {
 
     /// Goes on to the last row that starts at or below an address, which `row` lends then, where one of those still to come
     /// does. No row is copied. Want of memory is answered from then on, until `go_to`.
-    pub fn advance_to(&mut self, address: u64) -> Result<(), RunError>
+    pub fn advance_to(&mut self, address: u64) -> Result<(), ReadError>
         requires no_error { self.old.error ≡ None }
         requires never_falls { (low : ℕ) × NeverFalls low self.old.outcome.rows }
         ensures found { (row : Rules) → last_at address self.old.outcome.rows ≡ Some row → OnOk result (self.new.current ≡ row) }

@@ -3,14 +3,15 @@ use Rattle.std.proofs.Common.{◌≡◌, ◌∙◌, ◌⊎◌, ℕ, List, Option
 use Rattle.std.specs.Result.{MatchResult, result_map_both}
 use Rattle.clap.specs.Words.{Text}
 use Rattle.dw_num.specs.declared.target.Target.{Target}
+use Rattle.dw_num.specs.declared.error.ReadError.{ReadError}
+use Rattle.dw_num.specs.Refusals.{Refuses}
+use Rattle.dw_num.specs.declared.error.ReadError.TheVariants as read_error
 use Rattle.dw_op.specs.declared.op.Op.{Op}
 use Rattle.dw_op.specs.declared.profile.Profile.TheVariants.{Location}
-use Rattle.dw_op.specs.declared.decoding.DecodeError.{DecodeError}
-use Rattle.dw_op.specs.Faults.{BlockFault, IsBlock, Refuses as RefusesBlock}
+use Rattle.dw_op.specs.Faults.{BlockFault, IsBlock}
 use Rattle.dw_eval.specs.declared.error.EvalError.{EvalError}
 use Rattle.dw_eval.specs.declared.error.EvalError.TheVariants as eval_error
 use Rattle.dw_eval.specs.Evaluation.{Evaluates, first_stack}
-use Rattle.dw_normal.specs.declared.error.NormalError.TheVariants as normal_error
 use Rattle.dw_normal.specs.declared.error.WriteError.{WriteError}
 use Rattle.dw_normal.specs.declared.error.WriteError.TheVariants as write_error
 use Rattle.dw_section.specs.Table.{Section}
@@ -26,7 +27,7 @@ use Rattle.dw_command.specs.declared.files.LoadError.{LoadError}
 use Rattle.dw_command.specs.declared.failure.Failure.{Failure}
 use Rattle.dw_command.specs.declared.failure.Failure.TheVariants as failures
 use Rattle.dw_command.specs.Answers.{Checks, CostEnds, EvalEnds, Frames, Loads, LoadsDump, LoadsText, Normalises, Parses, Prints, Then, UnwindEnds, Values}
-use Rattle.dw_command.specs.Failing.{of_decode, of_write}
+use Rattle.dw_command.specs.Failing.{of_read, of_write}
 
 -- what later files give, the earlier ones may give
 module _ (old new : Text → Result (List ℕ) LoadError → Type 0) (same : (p : Text) (r : Result (List ℕ) LoadError) → new p r → old p r) where
@@ -55,9 +56,9 @@ loaded P Q (Err e) v h is = absurd is
 -- a normal form that is not written whole
 pub unwritten : (target : Target) (cap : ℕ) (s : List ℕ) (e : WriteError) (failed failed' : ℕ) (old new : Option (List ℕ))
     → Writes target cap s (Err e) failed failed' old new → Then (Normalises target cap s) (λ (_ : Unit {0}). Prints {A = Unit {0}} tt) (Err (of_write e))
-unwritten target cap s (write_error.Refused r) failed failed' old new h = inr (failures.Refused r, (normal_error.Refused r, h.1, refl), refl)
+unwritten target cap s (write_error.Refused r) failed failed' old new h = inr (failures.Refused r, (read_error.Refused r, h.1, refl), refl)
 unwritten target cap s (write_error.Write written) failed failed' old new h = inl (tt, (h.1.normal, h.1.is, h.1.within), tt)
-unwritten target cap s (write_error.Memory written) failed failed' old new h = inr (failures.OutOfMemory, (normal_error.OutOfMemory, tt, refl), refl)
+unwritten target cap s (write_error.Memory written) failed failed' old new h = inr (failures.OutOfMemory, (read_error.OutOfMemory, tt, refl), refl)
 
 -- status 0 where there is an answer
 pub done : (Ends : Result (Unit {0}) Failure → Type 0) (answer : Result (Unit {0}) Failure) (r : Result ℕ Failure)
@@ -90,11 +91,11 @@ behind_block gives target steps start block path text text' block' ops r lent lo
 
 -- behind a text and a block that is refused
 pub block_refused : (gives : Text → Result (List ℕ) LoadError → Type 0) (target : Target) (steps : ℕ) (start : Option ℕ) (block : List ℕ) (path : Option Text)
-    (text block' : List ℕ) (e : DecodeError) (f : Failure)
-    → LoadsText gives path (Ok text) → block' ≡ block → RefusesBlock (BlockFault Location target block') e → f ≡ of_decode e
+    (text block' : List ℕ) (e : ReadError) (f : Failure)
+    → LoadsText gives path (Ok text) → block' ≡ block → Refuses (BlockFault Location target block') e → f ≡ of_read e
     → EvalEnds gives target steps start block path (Err f)
 block_refused gives target steps start block path text block' e f loads same refused is =
-    inl (text, loads, inr (f, (e, subst (λ (b : List ℕ). RefusesBlock (BlockFault Location target b) e) same refused, is), refl))
+    inl (text, loads, inr (f, (e, subst (λ (b : List ℕ). Refuses (BlockFault Location target b) e) same refused, is), refl))
 
 -- ---- frames
 

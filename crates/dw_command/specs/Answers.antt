@@ -4,18 +4,19 @@ use Rattle.std.specs.Bool.{Decides}
 use Rattle.clap.specs.Words.{Text}
 use Rattle.dw_num.specs.Target.{address_limit}
 use Rattle.dw_num.specs.declared.target.Target.{Target}
+use Rattle.dw_num.specs.Refusals.{Refuses}
 use Rattle.dw_op.specs.declared.op.Op.{Op}
 use Rattle.dw_op.specs.declared.profile.Profile.{Profile}
 use Rattle.dw_op.specs.declared.profile.Profile.TheVariants.{Location}
-use Rattle.dw_op.specs.Faults.{BlockFault, IsBlock, Refuses as RefusesBlock}
+use Rattle.dw_op.specs.Faults.{BlockFault, IsBlock}
 use Rattle.dw_eval.specs.declared.error.EvalError.TheVariants as eval_error
 use Rattle.dw_eval.specs.Evaluation.{Evaluates, first_stack}
 use Rattle.dw_section.specs.declared.cutting.Entry.{Entry}
 use Rattle.dw_section.specs.Accepted.{Accepted, CheckFault}
 use Rattle.dw_section.specs.Pieces.{Entries}
-use Rattle.dw_section.specs.Faults.{CutFault, Refuses as RefusesSection}
+use Rattle.dw_section.specs.Faults.{CutFault}
 use Rattle.dw_section.specs.Meanings.{SameMeaning}
-use Rattle.dw_normal.specs.Answers.{IsWithin, NormalFault, RefusesNormal, SameFault}
+use Rattle.dw_normal.specs.Answers.{IsWithin, NormalFault, SameFault}
 use Rattle.dw_unwind.specs.declared.dump.Dump.{Dump}
 use Rattle.dw_unwind.specs.declared.frame.Frame.{Frame}
 use Rattle.dw_unwind.specs.declared.frame.Policy.{Policy}
@@ -33,7 +34,7 @@ use Rattle.dw_command.specs.declared.files.LoadError.{LoadError}
 use Rattle.dw_command.specs.declared.files.LoadError.TheVariants.{CannotRead}
 use Rattle.dw_command.specs.declared.failure.Failure.{Failure}
 use Rattle.dw_command.specs.declared.failure.Failure.TheVariants as failures
-use Rattle.dw_command.specs.Failing.{OfLoad, OfSame, OfUnwind, of_decode, of_dump, of_eval, of_normal, of_plan, of_section, status_of}
+use Rattle.dw_command.specs.Failing.{OfLoad, OfSame, OfUnwind, of_read, of_dump, of_eval, of_plan, status_of}
 
 -- ---- one thing after another
 
@@ -76,15 +77,15 @@ LoadsText gives (Some path) r = LoadsDump gives path r
 
 -- a section is checked
 abbrev pub Checks : Target → List ℕ → Result (Unit {0}) Failure → Type 0
-Checks target s r = Calls (λ (_ : Unit {0}). Accepted target s) (RefusesSection (CheckFault target s)) (λ e f. f ≡ of_section e) r
+Checks target s r = Calls (λ (_ : Unit {0}). Accepted target s) (Refuses (CheckFault target s)) (λ e f. f ≡ of_read e) r
 
 -- a section is cut
 abbrev pub Cuts : Target → List ℕ → Result (List Entry) Failure → Type 0
-Cuts target s r = Calls (Entries target s) (RefusesSection (CutFault target s)) (λ e f. f ≡ of_section e) r
+Cuts target s r = Calls (Entries target s) (Refuses (CutFault target s)) (λ e f. f ≡ of_read e) r
 
 -- a section has a normal form of at most so many bytes
 abbrev pub Normalises : Target → ℕ → List ℕ → Result (Unit {0}) Failure → Type 0
-Normalises target cap s r = Calls (λ (_ : Unit {0}). IsWithin target cap s) (RefusesNormal (NormalFault target cap s)) (λ e f. f ≡ of_normal e) r
+Normalises target cap s r = Calls (λ (_ : Unit {0}). IsWithin target cap s) (Refuses (NormalFault target cap s)) (λ e f. f ≡ of_read e) r
 
 -- two sections with normal forms of at most 2,147,483,647 bytes are compared
 abbrev pub Compares : Target → List ℕ → List ℕ → Result Bool Failure → Type 0
@@ -95,7 +96,7 @@ Compares target s t r =
 -- a block is decoded
 abbrev pub Decodes : Profile → Target → List ℕ → Result (List Op) Failure → Type 0
 Decodes profile target block r =
-    Calls (λ ops. IsBlock profile target ops block) (RefusesBlock (BlockFault profile target block)) (λ e f. f ≡ of_decode e) r
+    Calls (λ ops. IsBlock profile target ops block) (Refuses (BlockFault profile target block)) (λ e f. f ≡ of_read e) r
 
 -- a dump holds what its lines say
 abbrev pub Holds : Target → Text → Dump → Type 0

@@ -2,14 +2,10 @@
 use Rattle.std.specs.Prelude.{◌≡◌, ℕ, codes}
 use Rattle.clap.specs.Words.{Text}
 use Rattle.dw_num.specs.declared.refusal.Refusal.{Refusal}
-use Rattle.dw_op.specs.declared.decoding.DecodeError.{DecodeError}
-use Rattle.dw_op.specs.declared.decoding.DecodeError.TheVariants as decode_error
+use Rattle.dw_num.specs.declared.error.ReadError.{ReadError}
+use Rattle.dw_num.specs.declared.error.ReadError.TheVariants as read_error
 use Rattle.dw_eval.specs.declared.error.EvalError.{EvalError}
 use Rattle.dw_eval.specs.declared.error.EvalError.TheVariants as eval_error
-use Rattle.dw_section.specs.declared.error.SectionError.{SectionError}
-use Rattle.dw_section.specs.declared.error.SectionError.TheVariants as section_error
-use Rattle.dw_normal.specs.declared.error.NormalError.{NormalError}
-use Rattle.dw_normal.specs.declared.error.NormalError.TheVariants as normal_error
 use Rattle.dw_normal.specs.declared.error.SameError.{SameError}
 use Rattle.dw_normal.specs.declared.error.SameError.TheVariants as same_error
 use Rattle.dw_normal.specs.declared.error.Which.TheVariants.{First, Second}
@@ -51,22 +47,14 @@ of_plan (plan_error.BadValue what) = failures.BadValue what
 of_plan (plan_error.Words error) = failures.Words error
 of_plan plan_error.OutOfMemory = failures.OutOfMemory
 
-abbrev pub of_section : SectionError → Failure
-of_section (section_error.Refused refusal) = failures.Refused refusal
-of_section section_error.OutOfMemory = failures.OutOfMemory
-
-abbrev pub of_normal : NormalError → Failure
-of_normal (normal_error.Refused refusal) = failures.Refused refusal
-of_normal normal_error.OutOfMemory = failures.OutOfMemory
+abbrev pub of_read : ReadError → Failure
+of_read (read_error.Refused refusal) = failures.Refused refusal
+of_read read_error.OutOfMemory = failures.OutOfMemory
 
 abbrev pub of_write : WriteError → Failure
 of_write (write_error.Refused refusal) = failures.Refused refusal
 of_write (write_error.Write written) = failures.CannotWrite
 of_write (write_error.Memory written) = failures.OutOfMemory
-
-abbrev pub of_decode : DecodeError → Failure
-of_decode (decode_error.Refused refusal) = failures.Refused refusal
-of_decode decode_error.OutOfMemory = failures.OutOfMemory
 
 abbrev pub of_dump : DumpError → Failure
 of_dump (dump_error.Fault fault) = failures.Dump fault

@@ -2,14 +2,12 @@
 
 ghost use Rattle.std.specs.Prelude.{◌≡◌, ◌≤◌};
 ghost use Rattle.dw_command.specs.declared.failure.Failure.TheVariants.{OutOfMemory};
-ghost use Rattle.dw_command.specs.Failing.{OfLoad, OfSame, OfUnwind, of_decode, of_dump, of_eval, of_normal, of_plan, of_section, of_write, status_of};
+ghost use Rattle.dw_command.specs.Failing.{OfLoad, OfSame, OfUnwind, of_read, of_dump, of_eval, of_plan, of_write, status_of};
 
 use crate::files::LoadError;
 use dw_eval::{EvalError, Kind};
-use dw_normal::{NormalError, SameError, Which, WriteError};
-use dw_num::Refusal;
-use dw_op::DecodeError;
-use dw_section::SectionError;
+use dw_normal::{SameError, Which, WriteError};
+use dw_num::{ReadError, Refusal};
 use dw_unwind::{Column, DumpError, DumpFault, UnwindError};
 use dw_words::PlanError;
 use std::alloc::AllocError;
@@ -85,24 +83,13 @@ impl From<PlanError> for Failure<'_> {
     }
 }
 
-impl From<SectionError> for Failure<'_> {
-    ghost from_gives = { λ error e. e ≡ of_section error };
+impl From<ReadError> for Failure<'_> {
+    ghost from_gives = { λ error e. e ≡ of_read error };
 
-    fn from(error: SectionError) -> Self {
+    fn from(error: ReadError) -> Self {
         match error {
-            SectionError::Refused(refusal) => Failure::Refused(refusal),
-            SectionError::OutOfMemory => Failure::OutOfMemory,
-        }
-    }
-}
-
-impl From<NormalError> for Failure<'_> {
-    ghost from_gives = { λ error e. e ≡ of_normal error };
-
-    fn from(error: NormalError) -> Self {
-        match error {
-            NormalError::Refused(refusal) => Failure::Refused(refusal),
-            NormalError::OutOfMemory => Failure::OutOfMemory,
+            ReadError::Refused(refusal) => Failure::Refused(refusal),
+            ReadError::OutOfMemory => Failure::OutOfMemory,
         }
     }
 }
@@ -127,17 +114,6 @@ impl From<WriteError> for Failure<'_> {
             WriteError::Refused(refusal) => Failure::Refused(refusal),
             WriteError::Write { .. } => Failure::CannotWrite,
             WriteError::Memory { .. } => Failure::OutOfMemory,
-        }
-    }
-}
-
-impl From<DecodeError> for Failure<'_> {
-    ghost from_gives = { λ error e. e ≡ of_decode error };
-
-    fn from(error: DecodeError) -> Self {
-        match error {
-            DecodeError::Refused(refusal) => Failure::Refused(refusal),
-            DecodeError::OutOfMemory => Failure::OutOfMemory,
         }
     }
 }

@@ -22,7 +22,7 @@ use Rattle.dw_library.specs.declared.windows.Window.{Window}
 use Rattle.dw_library.specs.declared.unwinding.Held.{Held}
 use Rattle.dw_library.specs.declared.unwinding.NoFrame.{NoFrame}
 use Rattle.dw_library.specs.declared.unwinding.NoFrame.TheVariants.{Section, Frame as NoFrameOf}
-use Rattle.dw_section.specs.Faults.{Refuses}
+use Rattle.dw_num.specs.Refusals.{Refuses}
 use Rattle.dw_library.specs.Answers.{refused, out_of_memory, bad_argument, not_refused, told}
 use Rattle.dw_library.specs.Registers.{given_in, told_register, AreTold}
 use Rattle.dw_library.specs.Windows.{byte_among}

@@ -2,16 +2,16 @@
 
 ghost use Rattle.std.specs.Prelude.{◌≡◌, ℕ, List, IfOk, IfErr};
 ghost use Rattle.dw_num.specs.declared.target.Target.{Target as TheTarget};
+ghost use Rattle.dw_num.specs.Refusals.{Refuses};
 ghost use Rattle.dw_section.specs.Accepted.{Accepted, CheckFault};
-ghost use Rattle.dw_section.specs.Faults.{Refuses};
 ghost use Rattle.dw_library.specs.Answers.{target_of};
 ghost use Rattle.dw_library.specs.Checked.{HasCounts, IsChecked};
 
 use crate::answer::{
     BAD_ARGUMENT, Counts, OK, OUT_OF_MEMORY, REFUSED, Refused, not_refused, target_of, told,
 };
-use dw_num::Target;
-use dw_section::{SectionError, Table, check};
+use dw_num::{ReadError, Target};
+use dw_section::{Table, check};
 use std::alloc::Global;
 
 fn counts_in(table: &Table<'_>) -> Counts
@@ -25,7 +25,7 @@ fn counts_in(table: &Table<'_>) -> Counts
 }
 
 // How many entries an accepted section has, or its first fault.
-fn counted(alloc: Global, bytes: &[u8], target: Target) -> Result<Counts, SectionError>
+fn counted(alloc: Global, bytes: &[u8], target: Target) -> Result<Counts, ReadError>
     ensures accepted { IfOk result (λ _. Accepted target bytes.now) }
     ensures counts { IfOk result (HasCounts target bytes.now) }
     ensures first { IfErr result (Refuses (CheckFault target bytes.now)) }
@@ -56,10 +56,10 @@ pub extern "C" fn dwframe_check(
             *counts = found;
             OK
         }
-        Err(SectionError::Refused(refusal)) => {
+        Err(ReadError::Refused(refusal)) => {
             *refused = told(1, refusal);
             REFUSED
         }
-        Err(SectionError::OutOfMemory) => OUT_OF_MEMORY,
+        Err(ReadError::OutOfMemory) => OUT_OF_MEMORY,
     }
 }

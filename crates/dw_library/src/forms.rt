@@ -1,16 +1,17 @@
 //! Normal forms, and whether two sections say the same.
 
 ghost use Rattle.std.specs.Prelude.{◌≡◌, ◌≤◌, ℕ, List, length, IfOk, IfErr, OnErr};
+ghost use Rattle.dw_num.specs.Refusals.{Refuses};
 ghost use Rattle.dw_canon.specs.Normal.{IsNormalForm};
-ghost use Rattle.dw_normal.specs.Answers.{NormalFault, RefusesNormal};
+ghost use Rattle.dw_normal.specs.Answers.{NormalFault};
 ghost use Rattle.dw_library.specs.Answers.{target_of};
 ghost use Rattle.dw_library.specs.Forms.{IsCompared, IsNormalised, IsPlaced, section_of};
 
 use crate::answer::{
     BAD_ARGUMENT, OK, OUT_OF_MEMORY, REFUSED, Refused, TOO_SHORT, not_refused, target_of, told,
 };
-use dw_normal::{NormalError, SameError, Which, normalise, same};
-use dw_num::Target;
+use dw_normal::{SameError, Which, normalise, same};
+use dw_num::{ReadError, Target};
 use std::alloc::Global;
 
 // The most bytes of a normal form.
@@ -34,9 +35,9 @@ fn put_normal(
     target: Target,
     out: &mut [u8],
     needed: &mut usize,
-) -> Result<u32, NormalError>
+) -> Result<u32, ReadError>
     ensures placed { IfOk result (λ status. (n : List ℕ) × IsNormalForm target bytes.now n × (length n ≤ 2147483647) × (needed.new ≡ length n) × IsPlaced n out.old status out.new) }
-    ensures first { IfErr result (RefusesNormal (NormalFault target 2147483647 bytes.now)) }
+    ensures first { IfErr result (Refuses (NormalFault target 2147483647 bytes.now)) }
     ensures kept { OnErr result ((out.new ≡ out.old) × (needed.new ≡ needed.old)) }
 {
     let normal = normalise(alloc, bytes, target, LIMIT)?;
@@ -65,11 +66,11 @@ pub extern "C" fn dwframe_normalise(
     };
     match put_normal(alloc, bytes, target, out, needed) {
         Ok(status) => status,
-        Err(NormalError::Refused(refusal)) => {
+        Err(ReadError::Refused(refusal)) => {
             *refused = told(1, refusal);
             REFUSED
         }
-        Err(NormalError::OutOfMemory) => OUT_OF_MEMORY,
+        Err(ReadError::OutOfMemory) => OUT_OF_MEMORY,
     }
 }
 

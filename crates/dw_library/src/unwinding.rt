@@ -15,8 +15,8 @@ use crate::answer::{BAD_ARGUMENT, OUT_OF_MEMORY, REFUSED, Refused, not_refused, 
 use crate::registers::{Register, put_registers, registers_of};
 use crate::windows::{Window, Windows};
 use dw_eval::Registers;
-use dw_num::Target;
-use dw_section::{SectionError, Table, check};
+use dw_num::{ReadError, Target};
+use dw_section::{Table, check};
 use dw_unwind::{Column, Frame as CallerFrame, Policy, UnwindError, unwind};
 use std::alloc::{AllocError, Global};
 
@@ -186,14 +186,14 @@ fn frame_in(
 // Why there is no frame.
 #[derive(Drop)]
 enum NoFrame {
-    Section(SectionError),
+    Section(ReadError),
     Frame(UnwindError),
 }
 
-impl From<SectionError> for NoFrame {
+impl From<ReadError> for NoFrame {
     ghost from_gives = { λ error e. e ≡ TheNoFrame.Section error };
 
-    fn from(error: SectionError) -> NoFrame {
+    fn from(error: ReadError) -> NoFrame {
         NoFrame::Section(error)
     }
 }
@@ -310,11 +310,11 @@ pub extern "C" fn dwframe_unwind(
     };
     match unwound(alloc, bytes, target, stop, default, &held, out, frame) {
         Ok(status) => status,
-        Err(NoFrame::Section(SectionError::Refused(refusal))) => {
+        Err(NoFrame::Section(ReadError::Refused(refusal))) => {
             *refused = told(1, refusal);
             REFUSED
         }
-        Err(NoFrame::Section(SectionError::OutOfMemory)) => OUT_OF_MEMORY,
+        Err(NoFrame::Section(ReadError::OutOfMemory)) => OUT_OF_MEMORY,
         Err(NoFrame::Frame(error)) => {
             *fault = told_fault(error);
             status_of(error)

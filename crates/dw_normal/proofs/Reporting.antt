@@ -4,6 +4,9 @@ use Rattle.std.specs.Bool.{Decides}
 use Rattle.dw_num.specs.Input.{AreBytes}
 use Rattle.dw_num.specs.declared.refusal.Refusal.{Refusal}
 use Rattle.dw_num.specs.declared.target.Target.{Target}
+use Rattle.dw_num.specs.Refusals.{Refuses}
+use Rattle.dw_num.specs.declared.error.ReadError.{ReadError}
+use Rattle.dw_num.specs.declared.error.ReadError.TheVariants as read_error
 use Rattle.dw_cfa.specs.Rows.{Rules}
 use Rattle.dw_section.specs.Accepted.{Accepted, CheckFault}
 use Rattle.dw_section.specs.Meanings.{SameMeaning}
@@ -12,12 +15,10 @@ use Rattle.dw_canon.specs.Canon.{canon}
 use Rattle.dw_canon.specs.Members.{Member, AreMembers}
 use Rattle.dw_canon.specs.Normal.{IsNormalForm}
 use Rattle.dw_canon.proofs.Canonical.{members_exist, normal_form_is_one, same_exactly}
-use Rattle.dw_normal.specs.Answers.{IsShort, IsMeasured, IsTooLong, IsWithin, NormalFault, RefusesNormal, SameFault, LengthFault, Took, WentOut, Writes, blamed, unread, unwritten, too_long}
+use Rattle.dw_normal.specs.Answers.{IsShort, IsMeasured, IsTooLong, IsWithin, NormalFault, SameFault, LengthFault, Took, WentOut, Writes, blamed, unread, unwritten, too_long}
 use Rattle.dw_normal.specs.Inner.Puts.{Puts, put_is}
 use Rattle.dw_normal.specs.declared.entry.PutError.{PutError}
 use Rattle.dw_normal.specs.declared.entry.PutError.TheVariants as put_error
-use Rattle.dw_normal.specs.declared.error.NormalError.{NormalError}
-use Rattle.dw_normal.specs.declared.error.NormalError.TheVariants as normal_error
 use Rattle.dw_normal.specs.declared.error.SameError.{SameError}
 use Rattle.dw_normal.specs.declared.error.SameError.TheVariants as same_error
 use Rattle.dw_normal.specs.declared.error.Which.{Which}
@@ -80,13 +81,13 @@ module _ (t : Target) (s n : List ℕ) (cap : ℕ) (r : Refusal) (b : AreBytes s
   only_too_long (inr long) = long.1
 
 module _ (t : Target) (s n : List ℕ) (cap : ℕ) (b : AreBytes s) (is : IsNormalForm t s n) where
-  pub only_memory : (e : NormalError) → RefusesNormal (NormalFault t cap s) e → length n ≤ cap → e ≡ normal_error.OutOfMemory
-  only_memory normal_error.OutOfMemory fault within = refl
-  only_memory (normal_error.Refused r) fault within = absurd (not_within t s n cap r b is within fault)
+  pub only_memory : (e : ReadError) → Refuses (NormalFault t cap s) e → length n ≤ cap → e ≡ read_error.OutOfMemory
+  only_memory read_error.OutOfMemory fault within = refl
+  only_memory (read_error.Refused r) fault within = absurd (not_within t s n cap r b is within fault)
 
-  pub only_long : (e : NormalError) → RefusesNormal (NormalFault t cap s) e → (e ≡ normal_error.Refused too_long) ⊎ (e ≡ normal_error.OutOfMemory)
-  only_long normal_error.OutOfMemory fault = inr refl
-  only_long (normal_error.Refused r) fault = inl (ap normal_error.Refused (only_too_long t s n cap r b is fault))
+  pub only_long : (e : ReadError) → Refuses (NormalFault t cap s) e → (e ≡ read_error.Refused too_long) ⊎ (e ≡ read_error.OutOfMemory)
+  only_long read_error.OutOfMemory fault = inr refl
+  only_long (read_error.Refused r) fault = inl (ap read_error.Refused (only_too_long t s n cap r b is fault))
 
 pub length_found : (t : Target) (cap : ℕ) (s : List ℕ) (rows : List (ℕ × Rules)) (len : ℕ) → IsMeasured t cap s rows len
     → (n : List ℕ) × IsNormalForm t s n × (length n ≤ cap) × (len ≡ length n)
@@ -94,13 +95,13 @@ length_found t cap s rows len h = let w = whole_of t cap s h.prepared.short in (
 
 -- ---- what went out
 
-pub none_written : (t : Target) (cap : ℕ) (s : List ℕ) (e : NormalError) (result : WriteError) (failed : ℕ) (old : Option (List ℕ))
-    → RefusesNormal (NormalFault t cap s) e → result ≡ unwritten e → Writes t cap s (Err result) failed failed old old
+pub none_written : (t : Target) (cap : ℕ) (s : List ℕ) (e : ReadError) (result : WriteError) (failed : ℕ) (old : Option (List ℕ))
+    → Refuses (NormalFault t cap s) e → result ≡ unwritten e → Writes t cap s (Err result) failed failed old old
 none_written t cap s e result failed old fault is = subst (λ (x : WriteError). Writes t cap s (Err x) failed failed old old) (sym is) (by_error e fault)
   where
-    by_error : (x : NormalError) → RefusesNormal (NormalFault t cap s) x → Writes t cap s (Err (unwritten x)) failed failed old old
-    by_error normal_error.OutOfMemory h = (refl, inl (refl, refl))
-    by_error (normal_error.Refused r) h = (refl, h, refl)
+    by_error : (x : ReadError) → Refuses (NormalFault t cap s) x → Writes t cap s (Err (unwritten x)) failed failed old old
+    by_error read_error.OutOfMemory h = (refl, inl (refl, refl))
+    by_error (read_error.Refused r) h = (refl, h, refl)
 
 module _ (t : Target) (cap : ℕ) (s : List ℕ) (h : IsShort t cap s) (failed failed' : ℕ) (old new : Option (List ℕ)) where
   went_out : (w : Whole t cap s) (written : ℕ) → written ≤ length (canon t w.members) → Took old (take written (canon t w.members)) new → WentOut t cap s written old new
@@ -133,11 +134,11 @@ module _ (t : Target) (cap : ℕ) (s : List ℕ) (b : AreBytes s) (failed failed
       let out = w.1 in
       on_tape out.0 items new (subst (λ (x : Option (List ℕ)). Took x out.0 new) empty out.4) is ∙ normal_form_is_one t s out.0 n b out.1 normal
 
-pub tape_fault : (t : Target) (cap : ℕ) (s : List ℕ) (failed failed' : ℕ) (old new : Option (List ℕ)) (e : WriteError) (result : NormalError)
-    → Writes t cap s (Err e) failed failed' old new → result ≡ unread e → RefusesNormal (NormalFault t cap s) result
-tape_fault t cap s failed failed' old new e result w is = subst (RefusesNormal (NormalFault t cap s)) (sym is) (by_error e w)
+pub tape_fault : (t : Target) (cap : ℕ) (s : List ℕ) (failed failed' : ℕ) (old new : Option (List ℕ)) (e : WriteError) (result : ReadError)
+    → Writes t cap s (Err e) failed failed' old new → result ≡ unread e → Refuses (NormalFault t cap s) result
+tape_fault t cap s failed failed' old new e result w is = subst (Refuses (NormalFault t cap s)) (sym is) (by_error e w)
   where
-    by_error : (x : WriteError) → Writes t cap s (Err x) failed failed' old new → RefusesNormal (NormalFault t cap s) (unread x)
+    by_error : (x : WriteError) → Writes t cap s (Err x) failed failed' old new → Refuses (NormalFault t cap s) (unread x)
     by_error (write_error.Refused r) h = h.1
     by_error (write_error.Write written) h = tt
     by_error (write_error.Memory written) h = tt
@@ -154,28 +155,28 @@ module _ (t : Target) (a b : List ℕ) (one : IsShort t 2147483647 a) (other : I
       (λ yes. exactly.0 (told.0 yes), λ same. told.1 (exactly.1 same))
 
 -- an error over the first of two sections, or over the second
-pub first_fault : (t : Target) (a b : List ℕ) (e : NormalError) (result : SameError) → RefusesNormal (CheckFault t a) e → result ≡ blamed First e → SameFault t 2147483647 a b result
+pub first_fault : (t : Target) (a b : List ℕ) (e : ReadError) (result : SameError) → Refuses (CheckFault t a) e → result ≡ blamed First e → SameFault t 2147483647 a b result
 first_fault t a b e result fault is = subst (SameFault t 2147483647 a b) (sym is) (by_error e fault)
   where
-    by_error : (x : NormalError) → RefusesNormal (CheckFault t a) x → SameFault t 2147483647 a b (blamed First x)
-    by_error normal_error.OutOfMemory h = tt
-    by_error (normal_error.Refused r) h = inl h
+    by_error : (x : ReadError) → Refuses (CheckFault t a) x → SameFault t 2147483647 a b (blamed First x)
+    by_error read_error.OutOfMemory h = tt
+    by_error (read_error.Refused r) h = inl h
 
-pub second_fault : (t : Target) (a b : List ℕ) (e : NormalError) (result : SameError) → Accepted t a → RefusesNormal (CheckFault t b) e → result ≡ blamed Second e → SameFault t 2147483647 a b result
+pub second_fault : (t : Target) (a b : List ℕ) (e : ReadError) (result : SameError) → Accepted t a → Refuses (CheckFault t b) e → result ≡ blamed Second e → SameFault t 2147483647 a b result
 second_fault t a b e result ok fault is = subst (SameFault t 2147483647 a b) (sym is) (by_error e fault)
   where
-    by_error : (x : NormalError) → RefusesNormal (CheckFault t b) x → SameFault t 2147483647 a b (blamed Second x)
-    by_error normal_error.OutOfMemory h = tt
-    by_error (normal_error.Refused r) h = inl (ok, h)
+    by_error : (x : ReadError) → Refuses (CheckFault t b) x → SameFault t 2147483647 a b (blamed Second x)
+    by_error read_error.OutOfMemory h = tt
+    by_error (read_error.Refused r) h = inl (ok, h)
 
 -- an accepted section is blamed for want of memory alone
-pub blamed_only : (t : Target) (s : List ℕ) (which : Which) (e : NormalError) (result : SameError) → AreBytes s → RefusesNormal (CheckFault t s) e → result ≡ blamed which e
+pub blamed_only : (t : Target) (s : List ℕ) (which : Which) (e : ReadError) (result : SameError) → AreBytes s → Refuses (CheckFault t s) e → result ≡ blamed which e
     → IsWithin t 2147483647 s → result ≡ same_error.OutOfMemory
 blamed_only t s which e result b fault is within = is ∙ by_error e fault
   where
-    by_error : (x : NormalError) → RefusesNormal (CheckFault t s) x → blamed which x ≡ same_error.OutOfMemory
-    by_error normal_error.OutOfMemory h = refl
-    by_error (normal_error.Refused r) h = absurd (fault_or_accepted t s b r h within.1.accepted)
+    by_error : (x : ReadError) → Refuses (CheckFault t s) x → blamed which x ≡ same_error.OutOfMemory
+    by_error read_error.OutOfMemory h = refl
+    by_error (read_error.Refused r) h = absurd (fault_or_accepted t s b r h within.1.accepted)
 
 not_long : (t : Target) (s : List ℕ) → AreBytes s → IsWithin t 2147483647 s → IsTooLong t 2147483647 s → ⊥
 not_long t s b within long = not_within t s within.0 2147483647 too_long b within.1 within.2 (inr (long, refl))
@@ -200,14 +201,14 @@ compared_only t a b one two e f ba bb result fault left right =
     by_result (Ok is) h = tt
     by_result (Err x) h = by_error x h
 
-pub second_too_long : (first second : Section) (e : NormalError) (result : SameError) → first.target ≡ second.target
-    → IsShort first.target 2147483647 first.bytes → RefusesNormal (λ r. IsTooLong second.target 2147483647 second.bytes × (r ≡ too_long)) e → result ≡ blamed Second e
+pub second_too_long : (first second : Section) (e : ReadError) (result : SameError) → first.target ≡ second.target
+    → IsShort first.target 2147483647 first.bytes → Refuses (λ r. IsTooLong second.target 2147483647 second.bytes × (r ≡ too_long)) e → result ≡ blamed Second e
     → LengthFault first.target 2147483647 first.bytes second.bytes result
 second_too_long first second e result same one fault is = subst (LengthFault first.target 2147483647 first.bytes second.bytes) (sym is) (by_error e fault)
   where
-    by_error : (x : NormalError) → RefusesNormal (λ r. IsTooLong second.target 2147483647 second.bytes × (r ≡ too_long)) x → LengthFault first.target 2147483647 first.bytes second.bytes (blamed Second x)
-    by_error normal_error.OutOfMemory h = tt
-    by_error (normal_error.Refused r) h = (is_within first.target 2147483647 first.bytes one, subst (λ (u : Target). IsTooLong u 2147483647 second.bytes) (sym same) h.0, h.1)
+    by_error : (x : ReadError) → Refuses (λ r. IsTooLong second.target 2147483647 second.bytes × (r ≡ too_long)) x → LengthFault first.target 2147483647 first.bytes second.bytes (blamed Second x)
+    by_error read_error.OutOfMemory h = tt
+    by_error (read_error.Refused r) h = (is_within first.target 2147483647 first.bytes one, subst (λ (u : Target). IsTooLong u 2147483647 second.bytes) (sym same) h.0, h.1)
 
 pub tables_decided : (first second one two : Section) → first.target ≡ second.target → one ≡ first → two ≡ second
     → IsShort first.target 2147483647 first.bytes → IsShort second.target 2147483647 second.bytes → (is : Bool)

@@ -2,12 +2,12 @@
 use Rattle.std.specs.Prelude.{◌≡◌, ◌⊎◌, ℕ, ◌<◌, ◌≤◌, List, ◌++◌, length, Option, Some, None, take, Result, Ok, Err}
 use Rattle.dw_cfa.specs.Rows.{Rules}
 use Rattle.dw_num.specs.Input.{AreBytes}
+use Rattle.dw_num.specs.declared.error.ReadError.{ReadError}
+use Rattle.dw_num.specs.declared.error.ReadError.TheVariants as read_error
 use Rattle.dw_num.specs.declared.refusal.Code.TheVariants.{NormalTooLong}
 use Rattle.dw_num.specs.declared.refusal.Refusal.{Refusal}
 use Rattle.dw_num.specs.declared.target.Target.{Target}
 use Rattle.dw_section.specs.Accepted.{CheckFault, Accepted}
-use Rattle.dw_normal.specs.declared.error.NormalError.{NormalError}
-use Rattle.dw_normal.specs.declared.error.NormalError.TheVariants as normal_error
 use Rattle.dw_normal.specs.declared.error.SameError.{SameError}
 use Rattle.dw_normal.specs.declared.error.SameError.TheVariants as same_error
 use Rattle.dw_normal.specs.declared.error.Which.{Which}
@@ -33,11 +33,6 @@ IsWithin target cap s = (n : List ℕ) × IsNormalForm target s n × (length n �
 abbrev pub NormalFault : Target → ℕ → List ℕ → Refusal → Type 0
 NormalFault target cap s r = CheckFault target s r ⊎ (IsTooLong target cap s × (r ≡ too_long))
 
--- an error is such a fault, unless memory ran out
-abbrev pub RefusesNormal : (Refusal → Type 0) → NormalError → Type 0
-RefusesNormal Fault normal_error.OutOfMemory = Unit {0}
-RefusesNormal Fault (normal_error.Refused r) = Fault r
-
 -- an accepted section whose normal form is within the cap
 pub record IsShort (target : Target) (cap : ℕ) (s : List ℕ) : Type 0 where
   pub bytes : AreBytes s
@@ -57,9 +52,9 @@ pub record IsMeasured (target : Target) (cap : ℕ) (s : List ℕ) (rows : List 
 -- ---- two sections
 
 -- an error over one of two sections
-abbrev pub blamed : Which → NormalError → SameError
-blamed which normal_error.OutOfMemory = same_error.OutOfMemory
-blamed which (normal_error.Refused r) = same_error.Refused which r
+abbrev pub blamed : Which → ReadError → SameError
+blamed which read_error.OutOfMemory = same_error.OutOfMemory
+blamed which (read_error.Refused r) = same_error.Refused which r
 
 -- the normal form of one of two accepted sections is too long, the first one's before the second one's
 abbrev pub LengthFault : Target → ℕ → List ℕ → List ℕ → SameError → Type 0
@@ -91,15 +86,15 @@ pub record WentOut (target : Target) (cap : ℕ) (s : List ℕ) (written : ℕ) 
   pub took : Took old (take written normal) new
 
 -- an error before the first byte
-abbrev pub unwritten : NormalError → WriteError
-unwritten normal_error.OutOfMemory = write_error.Memory 0
-unwritten (normal_error.Refused r) = write_error.Refused r
+abbrev pub unwritten : ReadError → WriteError
+unwritten read_error.OutOfMemory = write_error.Memory 0
+unwritten (read_error.Refused r) = write_error.Refused r
 
 -- an error over a tape, whose failures are refused requests for memory
-abbrev pub unread : WriteError → NormalError
-unread (write_error.Refused r) = normal_error.Refused r
-unread (write_error.Write written) = normal_error.OutOfMemory
-unread (write_error.Memory written) = normal_error.OutOfMemory
+abbrev pub unread : WriteError → ReadError
+unread (write_error.Refused r) = read_error.Refused r
+unread (write_error.Write written) = read_error.OutOfMemory
+unread (write_error.Memory written) = read_error.OutOfMemory
 
 -- what a call that writes answers; the counts of failures and the bytes are those of the sink
 abbrev pub Writes : Target → ℕ → List ℕ → Result ℕ WriteError → ℕ → ℕ → Option (List ℕ) → Option (List ℕ) → Type 0

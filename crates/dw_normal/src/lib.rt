@@ -19,7 +19,7 @@ mod sink;
 mod tape;
 mod writing;
 
-pub use error::{NormalError, SameError, Which, WriteError};
+pub use error::{SameError, Which, WriteError};
 pub use normal::{normal_length, normalise, normalise_to, same};
 pub use sink::{Sink, SinkFault};
 pub use tape::{Tape, Through};

@@ -2,22 +2,23 @@
 
 ghost use Rattle.std.specs.Prelude.{◌≡◌, ◌⊎◌, ℕ, ◌<◌, ◌≤◌, ◌-◌, ◌^◌, List, length, true, IfOk, IfErr, MatchResult};
 ghost use Rattle.std.specs.Bool.{Decides};
+ghost use Rattle.dw_num.specs.declared.error.ReadError.TheVariants as TheError;
+ghost use Rattle.dw_num.specs.Refusals.{Refuses};
 ghost use Rattle.dw_section.specs.Accepted.{Accepted};
-ghost use Rattle.dw_normal.specs.declared.error.NormalError.TheVariants as TheNormalError;
 ghost use Rattle.dw_normal.specs.declared.error.SameError.TheVariants as TheSameError;
 ghost use Rattle.dw_canon.specs.Normal.{IsNormalForm};
-ghost use Rattle.dw_normal.specs.Answers.{NormalFault, RefusesNormal, SameFault, LengthFault, Writes, IsWithin, blamed, unread, unwritten, too_long};
+ghost use Rattle.dw_normal.specs.Answers.{NormalFault, SameFault, LengthFault, Writes, IsWithin, blamed, unread, unwritten, too_long};
 ghost use Rattle.dw_normal.specs.Inner.Puts.{put_is};
 ghost use Rattle.dw_section.specs.Meanings.{SameMeaning};
 
 use crate::entry::{PutError, write_entries};
-use crate::error::{NormalError, SameError, Which, WriteError};
+use crate::error::{SameError, Which, WriteError};
 use crate::likeness::same_tables;
-use crate::readying::{checked, measured_section, prepared, short_table};
+use crate::readying::{measured_section, prepared, short_table};
 use crate::sink::Sink;
 use crate::tape::Tape;
-use dw_num::{Target, are_bytes};
-use dw_section::Table;
+use dw_num::{ReadError, Target, are_bytes};
+use dw_section::{Table, check};
 use std::alloc::Global;
 
 // The most bytes that a section has.
@@ -29,16 +30,16 @@ pub fn normalise(
     bytes: &[u8],
     target: Target,
     cap: u64,
-) -> Result<Vec<u8>, NormalError>
+) -> Result<Vec<u8>, ReadError>
     requires cap { cap ≤ 2147483647 }
     // It is the normal form of what the section says.
     ensures found { IfOk result (λ n. IsNormalForm target bytes.now n.items × (length n.items ≤ cap)) }
     // A normal form within the cap is answered.
-    ensures only { (n : List ℕ) → IsNormalForm target bytes.now n → length n ≤ cap → MatchResult result (λ v. v.items ≡ n) (λ e. e ≡ TheNormalError.OutOfMemory) }
+    ensures only { (n : List ℕ) → IsNormalForm target bytes.now n → length n ≤ cap → MatchResult result (λ v. v.items ≡ n) (λ e. e ≡ TheError.OutOfMemory) }
     // One that is longer is refused.
-    ensures longer { (n : List ℕ) → IsNormalForm target bytes.now n → cap < length n → IfErr result (λ e. (e ≡ TheNormalError.Refused too_long) ⊎ (e ≡ TheNormalError.OutOfMemory)) }
+    ensures longer { (n : List ℕ) → IsNormalForm target bytes.now n → cap < length n → IfErr result (λ e. (e ≡ TheError.Refused too_long) ⊎ (e ≡ TheError.OutOfMemory)) }
     // A refusal is the first fault, or that the normal form is longer.
-    ensures first { IfErr result (RefusesNormal (NormalFault target cap bytes.now)) }
+    ensures first { IfErr result (Refuses (NormalFault target cap bytes.now)) }
 {
     are_bytes(bytes);
     let mut tape = Tape::new(alloc);
@@ -54,11 +55,11 @@ pub fn normal_length(
     bytes: &[u8],
     target: Target,
     cap: u64,
-) -> Result<u64, NormalError>
+) -> Result<u64, ReadError>
     requires cap { cap ≤ 2147483647 }
     ensures found { IfOk result (λ count. (n : List ℕ) × IsNormalForm target bytes.now n × (length n ≤ cap) × (count ≡ length n)) }
-    ensures only { (n : List ℕ) → IsNormalForm target bytes.now n → length n ≤ cap → MatchResult result (λ count. count ≡ length n) (λ e. e ≡ TheNormalError.OutOfMemory) }
-    ensures first { IfErr result (RefusesNormal (NormalFault target cap bytes.now)) }
+    ensures only { (n : List ℕ) → IsNormalForm target bytes.now n → length n ≤ cap → MatchResult result (λ count. count ≡ length n) (λ e. e ≡ TheError.OutOfMemory) }
+    ensures first { IfErr result (Refuses (NormalFault target cap bytes.now)) }
 {
     are_bytes(bytes);
     match measured_section(alloc, bytes, target, cap) {
@@ -68,22 +69,22 @@ pub fn normal_length(
 }
 
 // What could not be written before the first byte.
-fn unwritten(error: NormalError) -> WriteError
+fn unwritten(error: ReadError) -> WriteError
     ensures { result ≡ unwritten error }
 {
     match error {
-        NormalError::Refused(refusal) => WriteError::Refused(refusal),
-        NormalError::OutOfMemory => WriteError::Memory { written: 0 },
+        ReadError::Refused(refusal) => WriteError::Refused(refusal),
+        ReadError::OutOfMemory => WriteError::Memory { written: 0 },
     }
 }
 
 // What could not be written on a tape, whose failures are refused requests for memory.
-fn unread(error: WriteError) -> NormalError
+fn unread(error: WriteError) -> ReadError
     ensures { result ≡ unread error }
 {
     match error {
-        WriteError::Refused(refusal) => NormalError::Refused(refusal),
-        WriteError::Write { .. } | WriteError::Memory { .. } => NormalError::OutOfMemory,
+        WriteError::Refused(refusal) => ReadError::Refused(refusal),
+        WriteError::Write { .. } | WriteError::Memory { .. } => ReadError::OutOfMemory,
     }
 }
 
@@ -119,12 +120,12 @@ pub fn normalise_to<S: Sink>(
 }
 
 // An error, and over which section.
-fn blamed(which: Which, error: NormalError) -> SameError
+fn blamed(which: Which, error: ReadError) -> SameError
     ensures { result ≡ blamed which error }
 {
     match error {
-        NormalError::Refused(refusal) => SameError::Refused(which, refusal),
-        NormalError::OutOfMemory => SameError::OutOfMemory,
+        ReadError::Refused(refusal) => SameError::Refused(which, refusal),
+        ReadError::OutOfMemory => SameError::OutOfMemory,
     }
 }
 
@@ -171,14 +172,14 @@ pub fn same(alloc: Global, first: &[u8], second: &[u8], target: Target) -> Resul
 {
     are_bytes(first);
     are_bytes(second);
-    let one = match checked(alloc, first, target) {
+    let one = match check(alloc, first, target) {
         Ok(one) => one,
         Err(error) => return Err(blamed(Which::First, error)),
     };
     if first == second {
         return same_as_itself(alloc, one);
     }
-    let two = match checked(alloc, second, target) {
+    let two = match check(alloc, second, target) {
         Ok(two) => two,
         Err(error) => return Err(blamed(Which::Second, error)),
     };

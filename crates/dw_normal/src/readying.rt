@@ -1,16 +1,15 @@
 //! A section on the way to its normal form: checked, found short enough, and with its initial rows.
 
 ghost use Rattle.std.specs.Prelude.{◌≡◌, ◌≤◌, IfOk, IfErr};
-ghost use Rattle.dw_section.specs.Accepted.{Accepted, CheckFault};
-ghost use Rattle.dw_normal.specs.Answers.{IsShort, IsPrepared, IsMeasured, IsTooLong, NormalFault, RefusesNormal, too_long};
+ghost use Rattle.dw_num.specs.Refusals.{Refuses};
+ghost use Rattle.dw_normal.specs.Answers.{IsShort, IsPrepared, IsMeasured, IsTooLong, NormalFault, too_long};
 
 use crate::bound::is_short;
-use crate::error::NormalError;
 use crate::groups::initial_rows;
 use crate::length::measured;
 use dw_cfa::Row;
-use dw_num::{Code, Refusal, Target};
-use dw_section::{SectionError, Table, check};
+use dw_num::{Code, ReadError, Refusal, Target};
+use dw_section::{Table, check};
 use std::alloc::Global;
 use std::collections::BTreeMap;
 
@@ -28,42 +27,26 @@ pub(crate) struct Measured<'a> {
     pub(crate) len: u64,
 }
 
-/// The table of a section.
-pub(crate) fn checked<'a>(
-    alloc: Global,
-    bytes: &'a [u8],
-    target: Target,
-) -> Result<Table<'a>, NormalError>
-    ensures found { IfOk result (λ table. (table ≡ record { target = target; bytes = bytes.now }) × Accepted target bytes.now) }
-    ensures first { IfErr result (RefusesNormal (CheckFault target bytes.now)) }
-{
-    match check(alloc, bytes, target) {
-        Ok(table) => Ok(table),
-        Err(SectionError::Refused(refusal)) => Err(NormalError::Refused(refusal)),
-        Err(SectionError::OutOfMemory) => Err(NormalError::OutOfMemory),
-    }
-}
-
 // A table with the length of its normal form, where that is within a cap.
-fn measure<'a>(alloc: Global, table: Table<'a>, cap: u64) -> Result<Measured<'a>, NormalError>
+fn measure<'a>(alloc: Global, table: Table<'a>, cap: u64) -> Result<Measured<'a>, ReadError>
     requires cap { cap ≤ 2147483647 }
     ensures found { IfOk result (λ m. (m.ready.table ≡ table.entry) × IsMeasured table.entry.target cap table.entry.bytes m.ready.rows.entries m.len) }
-    ensures first { IfErr result (RefusesNormal (λ r. IsTooLong table.entry.target cap table.entry.bytes × (r ≡ too_long))) }
+    ensures first { IfErr result (Refuses (λ r. IsTooLong table.entry.target cap table.entry.bytes × (r ≡ too_long))) }
 {
     table.accepted();
     let Ok(rows) = initial_rows(alloc, &table) else {
-        return Err(NormalError::OutOfMemory);
+        return Err(ReadError::OutOfMemory);
     };
     match measured(alloc, &table, &rows, cap) {
         Ok(Some(len)) => Ok(Measured {
             ready: Ready { table, rows },
             len,
         }),
-        Ok(None) => Err(NormalError::Refused(Refusal {
+        Ok(None) => Err(ReadError::Refused(Refusal {
             code: Code::NormalTooLong,
             at: 0,
         })),
-        Err(_) => Err(NormalError::OutOfMemory),
+        Err(_) => Err(ReadError::OutOfMemory),
     }
 }
 
@@ -73,12 +56,12 @@ pub(crate) fn measured_section<'a>(
     bytes: &'a [u8],
     target: Target,
     cap: u64,
-) -> Result<Measured<'a>, NormalError>
+) -> Result<Measured<'a>, ReadError>
     requires cap { cap ≤ 2147483647 }
     ensures found { IfOk result (λ m. (m.ready.table ≡ record { target = target; bytes = bytes.now }) × IsMeasured target cap bytes.now m.ready.rows.entries m.len) }
-    ensures first { IfErr result (RefusesNormal (NormalFault target cap bytes.now)) }
+    ensures first { IfErr result (Refuses (NormalFault target cap bytes.now)) }
 {
-    let table = checked(alloc, bytes, target)?;
+    let table = check(alloc, bytes, target)?;
     measure(alloc, table, cap)
 }
 
@@ -87,10 +70,10 @@ pub(crate) fn short_table<'a>(
     alloc: Global,
     table: Table<'a>,
     cap: u64,
-) -> Result<Table<'a>, NormalError>
+) -> Result<Table<'a>, ReadError>
     requires cap { cap ≤ 2147483647 }
     ensures found { IfOk result (λ t. (t ≡ table.entry) × IsShort table.entry.target cap table.entry.bytes) }
-    ensures first { IfErr result (RefusesNormal (λ r. IsTooLong table.entry.target cap table.entry.bytes × (r ≡ too_long))) }
+    ensures first { IfErr result (Refuses (λ r. IsTooLong table.entry.target cap table.entry.bytes × (r ≡ too_long))) }
 {
     table.accepted();
     if is_short(&table, cap) {
@@ -104,10 +87,10 @@ pub(crate) fn short_table<'a>(
 
 // What a table is written with, where its normal form is within a cap. It is measured only where the lengths of its programs
 // do not show that.
-fn ready_table<'a>(alloc: Global, table: Table<'a>, cap: u64) -> Result<Ready<'a>, NormalError>
+fn ready_table<'a>(alloc: Global, table: Table<'a>, cap: u64) -> Result<Ready<'a>, ReadError>
     requires cap { cap ≤ 2147483647 }
     ensures found { IfOk result (λ r. (r.table ≡ table.entry) × IsPrepared table.entry.target cap table.entry.bytes r.rows.entries) }
-    ensures first { IfErr result (RefusesNormal (λ r. IsTooLong table.entry.target cap table.entry.bytes × (r ≡ too_long))) }
+    ensures first { IfErr result (Refuses (λ r. IsTooLong table.entry.target cap table.entry.bytes × (r ≡ too_long))) }
 {
     table.accepted();
     if !is_short(&table, cap) {
@@ -118,7 +101,7 @@ fn ready_table<'a>(alloc: Global, table: Table<'a>, cap: u64) -> Result<Ready<'a
     }
     match initial_rows(alloc, &table) {
         Ok(rows) => Ok(Ready { table, rows }),
-        Err(_) => Err(NormalError::OutOfMemory),
+        Err(_) => Err(ReadError::OutOfMemory),
     }
 }
 
@@ -128,11 +111,11 @@ pub(crate) fn prepared<'a>(
     bytes: &'a [u8],
     target: Target,
     cap: u64,
-) -> Result<Ready<'a>, NormalError>
+) -> Result<Ready<'a>, ReadError>
     requires cap { cap ≤ 2147483647 }
     ensures found { IfOk result (λ r. (r.table ≡ record { target = target; bytes = bytes.now }) × IsPrepared target cap bytes.now r.rows.entries) }
-    ensures first { IfErr result (RefusesNormal (NormalFault target cap bytes.now)) }
+    ensures first { IfErr result (Refuses (NormalFault target cap bytes.now)) }
 {
-    let table = checked(alloc, bytes, target)?;
+    let table = check(alloc, bytes, target)?;
     ready_table(alloc, table, cap)
 }

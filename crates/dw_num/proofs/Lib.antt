@@ -8,3 +8,4 @@ pub mod SlebLaws
 pub mod Steps
 pub mod Shortest
 pub mod Stays
+pub mod Refusals

@@ -1,4 +1,5 @@
 pub mod Codes
+pub mod Refusals
 pub mod Target
 pub mod Input
 pub mod Fixed

@@ -7,6 +7,7 @@
 #![tactic(auto)]
 
 mod cursor;
+mod error;
 mod laws;
 mod leb;
 mod length;
@@ -16,6 +17,7 @@ mod target;
 mod write;
 
 pub use cursor::{Cursor, are_bytes};
+pub use error::ReadError;
 pub use laws::number_laws;
 pub use length::{sleb_len, uleb_len};
 pub use program::Program;

@@ -7,6 +7,9 @@ use Rattle.dw_num.specs.declared.refusal.Code.TheVariants.{BadBranch}
 use Rattle.dw_num.specs.declared.refusal.Refusal.{Refusal}
 use Rattle.dw_num.specs.declared.target.Target.{Target}
 use Rattle.dw_num.specs.Input.{Input, AreBytes}
+use Rattle.dw_num.specs.declared.error.ReadError.{ReadError}
+use Rattle.dw_num.specs.declared.error.ReadError.TheVariants.{Refused, OutOfMemory}
+use Rattle.dw_num.specs.Refusals.{Refuses}
 use Rattle.dw_num.proofs.LebLaws.{done}
 use Rattle.dw_num.proofs.FixedLaws.{taken_bytes}
 use Rattle.dw_op.specs.declared.op.Op.{Op}
@@ -16,9 +19,7 @@ use Rattle.dw_op.specs.Reading.{step_at}
 use Rattle.dw_op.specs.Block.{branch_target, Displaced, Stands, EachPart, Block}
 use Rattle.dw_op.specs.Ranges.{TargetWithin, InRange, AllInRange}
 use Rattle.dw_op.specs.Walk.{Walk, walk, end_of, index_at, starts_of, place_index, op_of, put_first, resolve, unless, block_input, decode_at}
-use Rattle.dw_op.specs.declared.decoding.DecodeError.{DecodeError}
-use Rattle.dw_op.specs.declared.decoding.DecodeError.TheVariants.{Refused, OutOfMemory}
-use Rattle.dw_op.specs.Faults.{IsBlock, BlockFault, Refuses}
+use Rattle.dw_op.specs.Faults.{IsBlock, BlockFault}
 use Rattle.dw_op.proofs.ReadingLaws.{step_found}
 use Rattle.dw_op.proofs.Splits.{walk_step, walk_stuck, walk_end}
 use Rattle.dw_op.proofs.Blocks.{block_found, block_only, fault_found, fault_only, is_block}
@@ -196,12 +197,8 @@ some_answer profile t bytes h = go (decode_at profile (block_input t bytes)) ref
     go (Ok ops) e = inl (ops, block_found profile t bytes ops h e)
     go (Err r) e = inr (r, fault_found profile t bytes r h e)
 
-pub refuses_so : (P Q : Refusal → Type 0) (e : DecodeError) → ((r : Refusal) → P r → Q r) → Refuses P e → Refuses Q e
-refuses_so P Q (Refused r) h k = h r k
-refuses_so P Q OutOfMemory h k = k
-
 -- an error where there are operations is want of memory
-pub only_memory : (profile : Profile) (t : Target) (bytes : List ℕ) (ops : List Op) (e : DecodeError) → IsBlock profile t ops bytes → Refuses (λ r. decode_at profile (block_input t bytes) ≡ Err r) e → e ≡ OutOfMemory
+pub only_memory : (profile : Profile) (t : Target) (bytes : List ℕ) (ops : List Op) (e : ReadError) → IsBlock profile t ops bytes → Refuses (λ r. decode_at profile (block_input t bytes) ≡ Err r) e → e ≡ OutOfMemory
 only_memory profile t bytes ops (Refused r) h k = let e : answered ops ≡ refused r = sym (block_only profile t bytes ops h) ∙ k in absurd cc
 only_memory profile t bytes ops OutOfMemory h k = refl
 

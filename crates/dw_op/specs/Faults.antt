@@ -8,8 +8,6 @@ use Rattle.dw_num.specs.Input.{Input}
 use Rattle.dw_op.specs.declared.op.Op.{Op}
 use Rattle.dw_op.specs.declared.profile.Profile.{Profile}
 use Rattle.dw_op.specs.declared.profile.Profile.TheVariants.{Frame, Location}
-use Rattle.dw_op.specs.declared.decoding.DecodeError.{DecodeError}
-use Rattle.dw_op.specs.declared.decoding.DecodeError.TheVariants.{Refused, OutOfMemory}
 use Rattle.dw_op.specs.OpSpells.{OpSpells, Code, AnyTwo}
 use Rattle.dw_op.specs.Block.{start, Displaced, joined, Block, FrameBlock}
 use Rattle.dw_op.specs.Profile.{in_frame}
@@ -73,8 +71,3 @@ BlockFault profile t bytes r = ReadingFault profile t bytes r ⊎ BranchFault pr
 -- a place in a block or at its end
 abbrev pub IsWithin : List ℕ → Refusal → Type 0
 IsWithin bytes r = r.at ≤ length bytes
-
--- an error is such a fault, unless memory ran out
-abbrev pub Refuses : (Refusal → Type 0) → DecodeError → Type 0
-Refuses Fault OutOfMemory = Unit {0}
-Refuses Fault (Refused r) = Fault r

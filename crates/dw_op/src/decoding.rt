@@ -2,49 +2,19 @@
 
 ghost use Rattle.std.specs.Prelude.{◌≡◌, ◌<◌, ◌+◌, ◌^◌, List, map, length, Some, None, MatchOption, MatchResult, IfOk, IfErr, ◌-◌, ◌⊎◌, Ok, Err};
 ghost use Rattle.dw_num.specs.declared.refusal.Refusal.{Refusal};
+ghost use Rattle.dw_num.specs.Refusals.{Refuses};
 ghost use Rattle.dw_op.specs.declared.op.Op.{Op};
 ghost use Rattle.dw_op.specs.Expression.{bare};
 ghost use Rattle.dw_op.specs.Reading.{bare_step};
 ghost use Rattle.dw_op.specs.Walk.{walk, starts_of, goes_to, place_index, op_of, branch_to, block_input, decode_at, Rises};
-ghost use Rattle.dw_op.specs.Faults.{IsBlock, BlockFault, IsWithin, Refuses};
+ghost use Rattle.dw_op.specs.Faults.{IsBlock, BlockFault, IsWithin};
 
 use crate::list::OpList;
 use crate::op::Op;
 use crate::profile::Profile;
 use crate::reading::{Branch, Step, next_step};
-use dw_num::{Code, Cursor, Refusal, Target, are_bytes};
-use std::alloc::{AllocFailed, Global};
-
-/// Why a block is not decoded.
-#[derive(Clone, Copy, Debug, PartialEq, Eq, Drop)]
-pub enum DecodeError {
-    /// It is no block of the profile; the place counts from the block's first byte.
-    Refused(Refusal),
-    /// Memory ran out.
-    OutOfMemory,
-}
-
-impl<T: Drop> From<AllocFailed<T>> for DecodeError {
-    ghost use Rattle.std.specs.Prelude.{◌≡◌};
-    ghost use Rattle.dw_op.specs.declared.decoding.DecodeError.TheVariants.{OutOfMemory};
-
-    ghost from_gives = { λ _ e. e ≡ OutOfMemory };
-
-    fn from(_error: AllocFailed<T>) -> DecodeError {
-        DecodeError::OutOfMemory
-    }
-}
-
-impl From<Refusal> for DecodeError {
-    ghost use Rattle.std.specs.Prelude.{◌≡◌};
-    ghost use Rattle.dw_op.specs.declared.decoding.DecodeError.TheVariants.{Refused};
-
-    ghost from_gives = { λ r e. e ≡ Refused r };
-
-    fn from(refusal: Refusal) -> DecodeError {
-        DecodeError::Refused(refusal)
-    }
-}
+use dw_num::{Code, Cursor, ReadError, Refusal, Target, are_bytes};
+use std::alloc::Global;
 
 // Where the operations of a block begin, and its end.
 fn starts(
@@ -52,7 +22,7 @@ fn starts(
     bytes: &[u8],
     target: Target,
     profile: Profile,
-) -> Result<Vec<u64>, DecodeError>
+) -> Result<Vec<u64>, ReadError>
     ensures read { IfOk result (λ v. (walk profile (block_input target bytes.now)).fault ≡ None) }
     ensures found { IfOk result (λ v. v.items ≡ starts_of (walk profile (block_input target bytes.now)).items (length bytes.now)) }
     ensures first { IfErr result (Refuses (λ r. (walk profile (block_input target bytes.now)).fault ≡ Some r)) }
@@ -126,7 +96,7 @@ fn decode_ops<'a>(
     bytes: &'a [u8],
     target: Target,
     profile: Profile,
-) -> Result<Vec<Op<'a>>, DecodeError>
+) -> Result<Vec<Op<'a>>, ReadError>
     ensures found { IfOk result (λ v. decode_at profile (block_input target bytes.now) ≡ Ok (map bare v.items)) }
     ensures first { IfErr result (Refuses (λ r. decode_at profile (block_input target bytes.now) ≡ Err r)) }
 {
@@ -140,7 +110,7 @@ fn decode_ops<'a>(
         match resolved(&places, at, step) {
             Some(op) => ops.push(op)?,
             None => {
-                return Err(DecodeError::Refused(Refusal {
+                return Err(ReadError::Refused(Refusal {
                     code: Code::BadBranch,
                     at,
                 }));
@@ -161,11 +131,11 @@ pub fn decode<'a>(
     bytes: &'a [u8],
     target: Target,
     profile: Profile,
-) -> Result<OpList<'a>, DecodeError>
+) -> Result<OpList<'a>, ReadError>
     // What is answered has this block.
     ensures found { IfOk result (λ list. (list.target ≡ target) × IsBlock profile target list.ops bytes.now) }
     // Operations that have this block are answered.
-    ensures only { (ops : List Op) → IsBlock profile target ops bytes.now → MatchResult result (λ list. list.ops ≡ ops) (λ e. e ≡ DecodeError.OutOfMemory) }
+    ensures only { (ops : List Op) → IsBlock profile target ops bytes.now → MatchResult result (λ list. list.ops ≡ ops) (λ e. e ≡ ReadError.OutOfMemory) }
     // A refusal is the first fault.
     ensures first { IfErr result (Refuses (BlockFault profile target bytes.now)) }
     // Its place is in the block or at its end.

@@ -17,7 +17,7 @@ mod reading;
 mod rewriting;
 mod walking;
 
-pub use decoding::{DecodeError, decode, one_answer};
+pub use decoding::{decode, one_answer};
 pub use encoding::{EncodeError, encode};
 pub use expression::{ExprRef, OpSteps};
 pub use laws::block_laws;

@@ -7,6 +7,9 @@ use Rattle.dw_num.specs.declared.refusal.Refusal.{Refusal}
 use Rattle.dw_num.specs.declared.target.Target.{Target}
 use Rattle.dw_num.specs.Input.{AreBytes}
 use Rattle.dw_num.specs.Span.{Span}
+use Rattle.dw_num.specs.declared.error.ReadError.{ReadError}
+use Rattle.dw_num.specs.declared.error.ReadError.TheVariants.{Refused, OutOfMemory}
+use Rattle.dw_num.specs.Refusals.{Refuses}
 use Rattle.dw_cfa.specs.declared.instr.Factors.{Factors}
 use Rattle.dw_cfa.specs.declared.instr.Instr.{Instr}
 use Rattle.dw_cfa.specs.InstrSpells.{Program}
@@ -15,9 +18,6 @@ use Rattle.dw_cfa.specs.Location.{Counts}
 use Rattle.dw_cfa.specs.Column.{cfa_after}
 use Rattle.dw_cfa.specs.Faults.{FdeFault}
 use Rattle.dw_cfa.specs.Laws.{initial_cfa}
-use Rattle.dw_section.specs.declared.error.SectionError.{SectionError}
-use Rattle.dw_section.specs.declared.error.SectionError.TheVariants.{Refused, OutOfMemory}
-use Rattle.dw_section.specs.Faults.{Refuses}
 use Rattle.dw_section.specs.Stage.{FirstStuck, Then}
 use Rattle.dw_section.specs.Headers.{Head, cie, fde, Headers, HeadersFault}
 use Rattle.dw_section.specs.Inner.Heads.{HeadsRise, FdeFits, HasBytes, cie_ats}
@@ -236,7 +236,7 @@ module _ (target : Target) (s : List ℕ) (b : AreBytes s) where
   pub one_check_fault : (r q : Refusal) → CheckFault target s r → CheckFault target s q → r ≡ q
   one_check_fault r q v w = then_one (RulesFault target s) (Indexed target s) FirstOverlap indexed_or_fault one_indexed (one_rules_fault target s b) overlap_one r q v w
 
-pub only_accepted : {V : Type 0} (P : V → Type 0) (target : Target) (s : List ℕ) → AreBytes s → (r : Result V SectionError) → IfOk r P → IfErr r (Refuses (CheckFault target s)) → Accepted target s → MatchResult r P (λ e. e ≡ OutOfMemory)
+pub only_accepted : {V : Type 0} (P : V → Type 0) (target : Target) (s : List ℕ) → AreBytes s → (r : Result V ReadError) → IfOk r P → IfErr r (Refuses (CheckFault target s)) → Accepted target s → MatchResult r P (λ e. e ≡ OutOfMemory)
 only_accepted P target s b (Ok v) found first h = found
 only_accepted P target s b (Err OutOfMemory) found first h = refl
 only_accepted P target s b (Err (Refused r)) found first h = absurd (fault_or_accepted target s b r first h)

@@ -15,10 +15,11 @@ use Rattle.dw_num.specs.Input.{Input, AreBytes}
 use Rattle.dw_num.specs.Reading.{Read, fixed_at, take_at, uleb_at, sleb_at, address_at, unit_length_at, ◌>>=◌}
 use Rattle.dw_num.specs.Span.{Span}
 use Rattle.dw_num.specs.Target.{address_limit, byte_count}
+use Rattle.dw_num.specs.declared.error.ReadError.{ReadError}
+use Rattle.dw_num.specs.declared.error.ReadError.TheVariants.{Refused, OutOfMemory}
+use Rattle.dw_num.specs.Refusals.{Refuses}
 use Rattle.dw_num.proofs.Stays.{Inside, Stays, inside_all, stays_in, stays-then, either_stays, fixed_stays, address_stays, take_stays, uleb_stays, sleb_stays, register_stays, unit_length_stays}
 use Rattle.dw_cfa.proofs.FaultPlaces.{cie_within, fde_within}
-use Rattle.dw_section.specs.declared.error.SectionError.{SectionError}
-use Rattle.dw_section.specs.declared.error.SectionError.TheVariants.{Refused, OutOfMemory}
 use Rattle.dw_section.specs.declared.fields.CieFields.{CieFields}
 use Rattle.dw_section.specs.declared.fields.FdeFields.{FdeFields}
 use Rattle.dw_section.specs.declared.fields.Version.{Version}
@@ -26,7 +27,7 @@ use Rattle.dw_section.specs.declared.fields.Version.TheVariants.{One, Three, Fou
 use Rattle.dw_section.specs.Accepted.{CheckFault, CieProgramsFault, FdeProgramsFault, RulesFault}
 use Rattle.dw_section.specs.Cut.{Item, gap, entry, Piece, pieces, item_bytes, all_bytes, id_width}
 use Rattle.dw_section.specs.FaultPlaces.{IsWithin}
-use Rattle.dw_section.specs.Faults.{is_32, body_at, item_at, CutFault, Refuses}
+use Rattle.dw_section.specs.Faults.{is_32, body_at, item_at, CutFault}
 use Rattle.dw_section.specs.FdeFields.{is_among}
 use Rattle.dw_section.specs.Fields.{wanted_at, wanted_of, version_of, known, version_in, version_at, empty_of, empty_string_at, selector_of, sizes_at, return_register_at, cie_of, after_data, after_code, factors_at, after_sizes, after_string, after_version, cie_fields_at, named_of, pointer_at, fde_of, after_begin, range_at, after_pointer, fde_fields_at}
 use Rattle.dw_section.specs.Headers.{Head, cie, fde, Has, Headers, contents_of, cie_of_piece, cie_behind_id, cie_at, fde_of_piece, fde_at, CieStuck, FdeStuck, CieFieldsFault, HeadersFault}
@@ -277,7 +278,7 @@ check_within target s bytes r (inr h) =
     let most = range_within (length s) hs h.2.it good from in
     omega (arith, is, most)
 
-pub errors_within : {V : Type 0} (s : List ℕ) (result : Result V SectionError) (Fault : Refusal → Type 0) → ((r : Refusal) → Fault r → IsWithin s r) → IfErr result (Refuses Fault) → IfErr result (Refuses (IsWithin s))
+pub errors_within : {V : Type 0} (s : List ℕ) (result : Result V ReadError) (Fault : Refusal → Type 0) → ((r : Refusal) → Fault r → IsWithin s r) → IfErr result (Refuses Fault) → IfErr result (Refuses (IsWithin s))
 errors_within s (Ok v) Fault within h = tt
 errors_within s (Err OutOfMemory) Fault within h = tt
 errors_within s (Err (Refused r)) Fault within h = within r h

@@ -8,15 +8,15 @@ use Rattle.dw_num.specs.declared.target.Target.{Target}
 use Rattle.dw_num.specs.declared.refusal.Refusal.{Refusal}
 use Rattle.dw_num.specs.Input.{Input, AreBytes, Takes}
 use Rattle.dw_num.specs.Span.{Span}
+use Rattle.dw_num.specs.declared.error.ReadError.{ReadError}
+use Rattle.dw_num.specs.declared.error.ReadError.TheVariants.{Refused, OutOfMemory}
+use Rattle.dw_num.specs.Refusals.{Refuses}
 use Rattle.dw_num.proofs.LebLaws.{done, ok_is}
 use Rattle.dw_num.proofs.FixedLaws.{taken_bytes}
 use Rattle.dw_section.specs.declared.cutting.Kind.TheVariants as kind
-use Rattle.dw_section.specs.declared.error.SectionError.{SectionError}
-use Rattle.dw_section.specs.declared.error.SectionError.TheVariants.{Refused, OutOfMemory}
 use Rattle.dw_section.specs.declared.fields.CieFields.{CieFields}
 use Rattle.dw_section.specs.declared.fields.FdeFields.{FdeFields}
 use Rattle.dw_section.specs.Cut.{Piece, id_width}
-use Rattle.dw_section.specs.Faults.{Refuses}
 use Rattle.dw_section.specs.Pieces.{Pieces}
 use Rattle.dw_section.specs.Places.{cie_places, Rises}
 use Rattle.dw_section.specs.Stage.{FirstStuck, Answers}
@@ -111,7 +111,7 @@ fault_or_headers target s r hs (inr fdes) p =
     none_stuck (FdeHolds target places) (FdeStuck target places) (fde_apart target places) p.entries r (headers_hold target s hs p).1
     (subst (λ (ps : List Piece). FirstStuck (FdeHolds target (cie_places ps)) (FdeStuck target (cie_places ps)) ps r) same fdes.2)
 
-pub only_headers : {V : Type 0} (view : V → List Head) (target : Target) (s : List ℕ) (r : Result V SectionError) → IfOk r (λ v. Headers target s (view v)) → IfErr r (Refuses (HeadersFault target s))
+pub only_headers : {V : Type 0} (view : V → List Head) (target : Target) (s : List ℕ) (r : Result V ReadError) → IfOk r (λ v. Headers target s (view v)) → IfErr r (Refuses (HeadersFault target s))
     → (hs : List Head) → Headers target s hs → MatchResult r (λ v. view v ≡ hs) (λ e. e ≡ OutOfMemory)
 only_headers view target s (Ok v) found first hs p = one_headers target s (view v) hs found p
 only_headers view target s (Err OutOfMemory) found first hs p = refl

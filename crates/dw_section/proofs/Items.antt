@@ -5,7 +5,10 @@ use Rattle.std.proofs.lemmas.List.{length-append, append-nil, map-append, take_a
 use Rattle.std.proofs.lemmas.Bool.{le-ltb}
 use Rattle.std.proofs.lemmas.Bool.Decides.{eqb_tells}
 use Rattle.dw_num.proofs.FixedLaws.{length-fixed, unit_length_only}
-use Rattle.dw_num.specs.Fixed.{fixed_bytes}
+use Rattle.dw_num.specs.Fixed.{fixed_bytes, length_bytes}
+use Rattle.dw_num.specs.declared.error.ReadError.{ReadError}
+use Rattle.dw_num.specs.declared.error.ReadError.TheVariants.{Refused, OutOfMemory}
+use Rattle.dw_num.specs.Refusals.{Refuses}
 use Rattle.dw_num.proofs.LebLaws.{ok_is}
 use Rattle.dw_num.specs.declared.target.Form.{Form}
 use Rattle.dw_num.specs.declared.target.Target.{Target}
@@ -13,16 +16,13 @@ use Rattle.dw_num.specs.declared.refusal.Refusal.{Refusal}
 use Rattle.std.specs.Prelude.{IfOk, IfErr, MatchResult}
 use Rattle.dw_section.specs.Pieces.{Pieces, Entries, entry_of}
 use Rattle.dw_section.specs.declared.cutting.Entry.{Entry}
-use Rattle.dw_section.specs.declared.error.SectionError.{SectionError}
-use Rattle.dw_section.specs.declared.error.SectionError.TheVariants.{Refused, OutOfMemory}
 use Rattle.dw_section.specs.declared.cutting.Kind.{Kind}
-use Rattle.dw_section.specs.Faults.{item_at, IsStuck, CutFault, Refuses}
+use Rattle.dw_section.specs.Faults.{item_at, IsStuck, CutFault}
 use Rattle.dw_num.specs.declared.target.Size.TheVariants.{Four}
 use Rattle.dw_num.specs.declared.target.Order.{Order}
 use Rattle.dw_num.specs.declared.target.Order.TheVariants.{Little, Big}
 use Rattle.dw_num.specs.declared.target.Form.TheVariants.{Dwarf32, Dwarf64}
 use Rattle.dw_num.specs.Input.{Input, Takes}
-use Rattle.dw_num.specs.Fixed.{length_bytes}
 use Rattle.dw_section.specs.Cut.{Item, gap, entry, IsItem, item_bytes, is_cie, id_width, all_bytes, Piece, piece_of, with_some, pieces, Cut}
 
 gap_bytes : (order : Order) → length_bytes order Dwarf32 0 ≡ 0 ∷ 0 ∷ 0 ∷ 0 ∷ []
@@ -195,7 +195,7 @@ listed_gap target s old new found w t = record { parts = w.parts; walked = rw ap
 pub one_entries : (target : Target) (s : List ℕ) (es fs : List Entry) → Entries target s es → Entries target s fs → es ≡ fs
 one_entries target s es fs p q = p.are ∙ ap (map entry_of) (one_pieces target s p.parts q.parts p.cut q.cut) ∙ sym q.are
 
-pub only_entries : {V : Type 0} (items : V → List Entry) (target : Target) (s : List ℕ) (result : Result V SectionError) → IfOk result (λ v. Entries target s (items v)) → IfErr result (Refuses (CutFault target s))
+pub only_entries : {V : Type 0} (items : V → List Entry) (target : Target) (s : List ℕ) (result : Result V ReadError) → IfOk result (λ v. Entries target s (items v)) → IfErr result (Refuses (CutFault target s))
     → (es : List Entry) → Entries target s es → MatchResult result (λ v. items v ≡ es) (λ e. e ≡ OutOfMemory)
 only_entries items target s (Ok v) found first es p = one_entries target s (items v) es found p
 only_entries items target s (Err (Refused r)) found first es p = absurd (cut_or_pieces target s r p.parts first p.cut)

@@ -9,13 +9,15 @@ use Rattle.std.proofs.lemmas.List.{append-nil, map-append}
 use Rattle.std.proofs.lemmas.List.Elements.{filter_map-append}
 use Rattle.dw_num.specs.declared.refusal.Refusal.{Refusal}
 use Rattle.dw_num.specs.declared.target.Target.{Target}
-use Rattle.dw_cfa.specs.declared.running.RunError.{RunError}
-use Rattle.dw_cfa.specs.declared.running.RunError.TheVariants as run
 use Rattle.dw_num.specs.declared.refusal.Code.TheVariants.{NoCfaRule}
 use Rattle.dw_num.specs.declared.target.Form.{Form}
 use Rattle.dw_num.specs.Input.{Input}
 use Rattle.dw_num.specs.Span.{Span, span_of}
 use Rattle.dw_num.specs.Target.{address_limit}
+use Rattle.dw_num.specs.declared.error.ReadError.{ReadError}
+use Rattle.dw_num.specs.declared.error.ReadError.TheVariants as read_error
+use Rattle.dw_num.specs.Refusals.{Refuses}
+use Rattle.dw_num.specs.declared.error.ReadError.TheVariants.{Refused, OutOfMemory}
 use Rattle.dw_cfa.specs.declared.instr.Instr.{Instr}
 use Rattle.dw_cfa.specs.declared.rule.CfaRule.{CfaRule}
 use Rattle.dw_cfa.specs.declared.rule.CfaRule.TheVariants.{Unset}
@@ -30,31 +32,18 @@ use Rattle.dw_cfa.specs.Location.{Counts}
 use Rattle.dw_cfa.specs.Lacking.{is_unset, lacks_from}
 use Rattle.dw_cfa.specs.declared.instr.Factors.{Factors}
 use Rattle.dw_cfa.specs.Rows.{Rules}
-use Rattle.dw_cfa.specs.Runs.{RefusalIs, Outcome, rows_behind}
+use Rattle.dw_cfa.specs.Runs.{Outcome, rows_behind}
 use Rattle.dw_cfa.specs.Stepping.{Stepping, stepping}
-use Rattle.dw_section.specs.declared.error.SectionError.{SectionError}
-use Rattle.dw_section.specs.declared.error.SectionError.TheVariants.{Refused, OutOfMemory}
 use Rattle.dw_section.specs.declared.judging.Initial.{Initial}
 use Rattle.dw_section.specs.FdeFields.{is_among}
-use Rattle.dw_section.specs.Faults.{Refuses}
 use Rattle.dw_section.specs.Headers.{Head, cie, fde}
 use Rattle.dw_section.specs.Inner.Heads.{head_at, cie_at_of, cie_ats}
-use Rattle.dw_section.specs.Inner.Initials.{of_run, or_place, place_of, IsInitial, IsBehind, AreInitials, HasOrLacks, FirstLacking}
+use Rattle.dw_section.specs.Inner.Initials.{or_place, place_of, IsInitial, IsBehind, AreInitials, HasOrLacks, FirstLacking}
 use Rattle.dw_section.specs.Places.{Rises}
 use Rattle.dw_section.specs.Programs.{input_of, IsAmong, Begins, Instrs, CieRuns, FdeRuns, FdeBroken, HasRules, LacksRule}
 use Rattle.dw_cfa.proofs.Counting.{counts_exists}
 use Rattle.dw_section.proofs.Covered.{lacks_found, lacks_none, unset_is, is_unset_of}
 use Rattle.dw_section.proofs.Stages.{all_push}
-
--- ---- errors
-
-pub refused_by : (e : RunError) (P Q : Refusal → Type 0) → ((r : Refusal) → P r → Q r) → RefusalIs e P → Refuses Q (of_run e)
-refused_by (run.Refused r) P Q to h = to r h
-refused_by run.OutOfMemory P Q to h = tt
-
-pub refuses_by : (e : SectionError) (P Q : Refusal → Type 0) → ((r : Refusal) → P r → Q r) → Refuses P e → Refuses Q e
-refuses_by (Refused r) P Q to h = to r h
-refuses_by OutOfMemory P Q to h = tt
 
 -- ---- what is kept of CIEs
 

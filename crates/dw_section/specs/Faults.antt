@@ -9,8 +9,6 @@ use Rattle.dw_num.specs.declared.refusal.Code.TheVariants.{Truncated, EntryPastE
 use Rattle.dw_num.specs.declared.refusal.Refusal.{Refusal}
 use Rattle.dw_num.specs.Input.{Input, behind}
 use Rattle.dw_num.specs.Reading.{Read, fault, unit_length_at, ◌>>=◌}
-use Rattle.dw_section.specs.declared.error.SectionError.{SectionError}
-use Rattle.dw_section.specs.declared.error.SectionError.TheVariants.{Refused, OutOfMemory}
 use Rattle.dw_section.specs.declared.cutting.Part.{Part}
 use Rattle.dw_section.specs.declared.cutting.Part.TheVariants as parts
 use Rattle.dw_section.specs.Cut.{Item, gap, entry, IsItem, id_width, all_bytes}
@@ -43,11 +41,6 @@ pub record IsStuck (target : Target) (s : List ℕ) (r : Refusal) : Type 0 where
 -- the first fault in the way of a cut
 abbrev pub CutFault : Target → List ℕ → Refusal → Type 0
 CutFault target s r = ((2147483647 < length s) × (r ≡ record { code = SectionTooLarge; at = 0 })) ⊎ ((length s ≤ 2147483647) × IsStuck target s r)
-
--- an error is such a fault, unless memory ran out
-abbrev pub Refuses : (Refusal → Type 0) → SectionError → Type 0
-Refuses Fault OutOfMemory = Unit {0}
-Refuses Fault (Refused r) = Fault r
 
 -- the item that a part is
 abbrev pub item_of : Part → Item

@@ -8,17 +8,17 @@ ghost use Rattle.dw_num.specs.declared.refusal.Refusal.{Refusal};
 ghost use Rattle.dw_num.specs.declared.refusal.Code.TheVariants.{SectionTooLarge};
 ghost use Rattle.dw_num.specs.Input.{Takes};
 ghost use Rattle.dw_num.specs.Reading.{Gives};
+ghost use Rattle.dw_num.specs.Refusals.{Refuses};
+ghost use Rattle.dw_num.specs.declared.error.ReadError.TheVariants.{OutOfMemory};
 ghost use Rattle.dw_section.specs.Cut.{Cut, Item, IsItem, Piece, item_bytes, is_cie, id_width};
 ghost use Rattle.dw_section.specs.Counts.{AreCounts, counted_by};
 ghost use Rattle.dw_section.specs.Inner.Left.{PiecesLeft, GivesPiece, GoesOn};
 ghost use Rattle.dw_section.specs.Pieces.{Pieces, Entries, IsPlaced};
-ghost use Rattle.dw_section.specs.Faults.{item_at, item_of, CutFault, Refuses};
+ghost use Rattle.dw_section.specs.Faults.{item_at, item_of, CutFault};
 ghost use Rattle.dw_section.specs.FaultPlaces.{IsWithin};
 ghost use Rattle.dw_section.specs.declared.cutting.Entry.{Entry};
-ghost use Rattle.dw_section.specs.declared.error.SectionError.TheVariants.{OutOfMemory};
 
-use crate::error::SectionError;
-use dw_num::{Code, Cursor, Form, Program, Refusal, Target};
+use dw_num::{Code, Cursor, Form, Program, ReadError, Refusal, Target};
 use std::alloc::Global;
 
 /// What an entry is.
@@ -200,7 +200,7 @@ pub(crate) fn cut(bytes: &[u8], target: Target) -> Result<EntryCounts, Refusal>
     Ok(counts)
 }
 
-fn all_entries(alloc: Global, bytes: &[u8], target: Target) -> Result<Vec<Entry>, SectionError>
+fn all_entries(alloc: Global, bytes: &[u8], target: Target) -> Result<Vec<Entry>, ReadError>
     ensures found { IfOk result (λ v. Entries target bytes.now v.items) }
     ensures first { IfErr result (Refuses (CutFault target bytes.now)) }
 {
@@ -227,7 +227,7 @@ fn all_entries(alloc: Global, bytes: &[u8], target: Target) -> Result<Vec<Entry>
 /// A refusal is the first fault of the cut: `SectionTooLarge` above 2,147,483,647 bytes, then by place
 /// `Truncated` or `ReservedLength` in a length, `EntryPastEnd`, and `Truncated` for an entry that is too short
 /// for its first field. The one memory that it takes is the list's.
-pub fn entries(alloc: Global, bytes: &[u8], target: Target) -> Result<Vec<Entry>, SectionError>
+pub fn entries(alloc: Global, bytes: &[u8], target: Target) -> Result<Vec<Entry>, ReadError>
     // They are the entries of the section's cut.
     ensures found { IfOk result (λ v. Entries target bytes.now v.items) }
     // A section that has a cut is not refused.

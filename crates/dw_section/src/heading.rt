@@ -4,13 +4,13 @@ ghost use Rattle.std.specs.Prelude.{◌≡◌, ℕ, ◌+◌, ◌≤◌, List, []
 ghost use Rattle.dw_section.specs.Cut.{Piece};
 ghost use Rattle.std.specs.List.{AllByRecursion, AllZip};
 ghost use Rattle.dw_num.specs.Span.{span_of};
+ghost use Rattle.dw_num.specs.declared.error.ReadError.TheVariants.{OutOfMemory};
+ghost use Rattle.dw_num.specs.Refusals.{Refuses};
 ghost use Rattle.dw_section.specs.declared.cutting.Kind.TheVariants as kind;
-ghost use Rattle.dw_section.specs.declared.error.SectionError.TheVariants.{OutOfMemory};
 ghost use Rattle.dw_num.specs.declared.target.Target.{Target};
 ghost use Rattle.dw_num.specs.declared.refusal.Refusal.{Refusal};
 ghost use Rattle.dw_section.specs.Overlap.{Range, IsIndex};
 ghost use Rattle.dw_section.specs.Stage.{FirstStuck, Answers};
-ghost use Rattle.dw_section.specs.Faults.{Refuses};
 ghost use Rattle.dw_section.specs.FaultPlaces.{IsWithin};
 ghost use Rattle.dw_section.specs.Pieces.{Pieces, piece_in};
 ghost use Rattle.dw_section.specs.Places.{cie_places, Rises};
@@ -19,9 +19,8 @@ ghost use Rattle.dw_section.specs.Inner.Left.{HeadsLeft, GivesHead, GoesOn};
 ghost use Rattle.dw_section.specs.Headers.{Head, Has, Headers, cie_at, fde_at, program_of, head_in, CieHolds, CieStuck, FdeHolds, FdeStuck, HeadersFault};
 
 use crate::cutting::{Kind, Placed, cut, next_piece, width_of};
-use crate::error::SectionError;
 use crate::fields::{read_cie, read_fde};
-use dw_num::{Cursor, Form, Program, Refusal, Target, are_bytes};
+use dw_num::{Cursor, Form, Program, ReadError, Refusal, Target, are_bytes};
 use std::alloc::Global;
 
 /// The fields of an entry (6.4.1). Its program is the rest of the entry's contents, nops among it. `at` is the
@@ -120,7 +119,7 @@ fn header_of<'a>(piece: &Placed<'a>, places: &[u64], target: Target) -> Result<H
 }
 
 // Keeps the place of a piece that is a CIE, whose fields are read.
-fn keep_cie(places: &mut Vec<u64>, piece: &Placed<'_>, target: Target) -> Result<(), SectionError>
+fn keep_cie(places: &mut Vec<u64>, piece: &Placed<'_>, target: Target) -> Result<(), ReadError>
     ensures found { (ps : List Piece) → AllByRecursion (CieHolds target) ps → places.old.items ≡ cie_places ps → OnOk result (AllByRecursion (CieHolds target) (ps ++ piece_in piece.now ∷ []) × (places.new.items ≡ cie_places (ps ++ piece_in piece.now ∷ []))) }
     ensures first { IfErr result (Refuses (CieStuck target (piece_in piece.now))) }
 {
@@ -141,7 +140,7 @@ pub(crate) fn find_cies(
     bytes: &[u8],
     target: Target,
     count: usize,
-) -> Result<Vec<u64>, SectionError>
+) -> Result<Vec<u64>, ReadError>
     requires pieces { (ps : List Piece) × Pieces target bytes.now ps }
     requires count { (ps : List Piece) → Pieces target bytes.now ps → count ≡ length (cie_places ps) }
     ensures found { (ps : List Piece) → Pieces target bytes.now ps → IfOk result (λ v. AllByRecursion (CieHolds target) ps × (v.items ≡ cie_places ps)) }
@@ -215,7 +214,7 @@ fn read_headers<'a>(
     target: Target,
     places: &[u64],
     count: usize,
-) -> Result<Vec<Header<'a>>, SectionError>
+) -> Result<Vec<Header<'a>>, ReadError>
     requires ascending { Rises 0 places.now }
     requires cies { (ps : List Piece) × Pieces target bytes.now ps × AllByRecursion (CieHolds target) ps }
     ensures found { (ps : List Piece) → Pieces target bytes.now ps → AllByRecursion (CieHolds target) ps → IfOk result (λ v. AllZip (Has target places.now) ps (map head_in v.items)) }
@@ -233,7 +232,7 @@ fn all_headers<'a>(
     alloc: Global,
     bytes: &'a [u8],
     target: Target,
-) -> Result<Vec<Header<'a>>, SectionError>
+) -> Result<Vec<Header<'a>>, ReadError>
     ensures found { IfOk result (λ v. Headers target bytes.now (map head_in v.items)) }
     ensures first { IfErr result (Refuses (HeadersFault target bytes.now)) }
 {
@@ -253,7 +252,7 @@ pub fn headers<'a>(
     alloc: Global,
     bytes: &'a [u8],
     target: Target,
-) -> Result<Vec<Header<'a>>, SectionError>
+) -> Result<Vec<Header<'a>>, ReadError>
     // They are the headers of the section.
     ensures found { IfOk result (λ v. Headers target bytes.now (map head_in v.items)) }
     // A section that has headers is not refused.

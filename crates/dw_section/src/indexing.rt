@@ -4,11 +4,11 @@ ghost use Rattle.std.specs.Prelude.{◌≡◌, ◌+◌, ◌<◌, ◌≤◌, ℕ,
 ghost use Rattle.std.specs.List.{AllByRecursion};
 ghost use Rattle.dw_num.specs.declared.refusal.Code.TheVariants.{Overlap};
 ghost use Rattle.dw_num.specs.declared.target.Target.{Target as TheTarget};
-ghost use Rattle.dw_section.specs.declared.error.SectionError.TheVariants.{OutOfMemory};
+ghost use Rattle.dw_num.specs.declared.error.ReadError.TheVariants.{OutOfMemory};
+ghost use Rattle.dw_num.specs.Refusals.{Refuses};
 ghost use Rattle.dw_section.specs.declared.indexing.Ranged.{Ranged as TheRanged};
 ghost use Rattle.dw_section.specs.Headers.{Head, head_in};
 ghost use Rattle.dw_section.specs.Inner.Heads.{FdeFits, head_at};
-ghost use Rattle.dw_section.specs.Faults.{Refuses};
 ghost use Rattle.dw_section.specs.Inner.Left.{AreHeaders};
 ghost use Rattle.dw_section.specs.Stage.{FirstStuck};
 ghost use Rattle.dw_section.specs.Inner.Index.{range_in, IsRanged, AreJudged, PlacesRise, SameMembers};
@@ -17,10 +17,9 @@ ghost use Rattle.dw_section.specs.Overlap.{nonempty, Ascends, AreApart, FirstOve
 ghost use Rattle.dw_section.specs.Places.{Rises};
 ghost use Rattle.dw_section.specs.Programs.{IsAmong, FdeRuns, FdeBroken};
 
-use crate::error::SectionError;
 use crate::heading::{Header, next_header};
 use crate::judging::{Initial, Runner, initial_at, judge};
-use dw_num::{Cursor, Target};
+use dw_num::{Cursor, ReadError, Target};
 use std::alloc::{AllocError, Global};
 
 /// A nonempty FDE: its range, its place, and the return register of its CIE.
@@ -66,7 +65,7 @@ fn keep_range(
     list: &mut Vec<Ranged>,
     header: &Header<'_>,
     initials: &[Initial<'_>],
-) -> Result<(), SectionError>
+) -> Result<(), ReadError>
     requires ascending { Rises 0 (map place_of initials.now) }
     requires fits { (target : TheTarget) × FdeFits target (map place_of initials.now) (head_in header.now) }
     requires below { head_at (head_in header.now) ≤ 2147483647 }
@@ -113,7 +112,7 @@ pub(crate) fn run_fdes<'a>(
     places: &[u64],
     initials: &[Initial<'a>],
     count: usize,
-) -> Result<(Vec<Ranged>, Option<u64>), SectionError>
+) -> Result<(Vec<Ranged>, Option<u64>), ReadError>
     requires ascending { Rises 0 places.now }
     requires headers { (hs : List Head) × AreHeaders target bytes.now places.now hs × AreInitials target hs hs initials.now }
     ensures found { (hs : List Head) → AreHeaders target bytes.now places.now hs → AreInitials target hs hs initials.now → IfOk result (λ p. AreJudged target hs hs p.1 p.0.items) }

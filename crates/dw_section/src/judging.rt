@@ -4,6 +4,7 @@ ghost use Rattle.std.specs.Prelude.{◌≡◌, ◌+◌, ◌<◌, ℕ, true, fals
 ghost use Rattle.dw_section.specs.Inner.Left.{AreHeaders};
 ghost use Rattle.std.specs.List.{AllByRecursion};
 ghost use Rattle.dw_num.specs.declared.target.Form.{Form as TheForm};
+ghost use Rattle.dw_num.specs.Refusals.{Refuses};
 ghost use Rattle.dw_num.specs.declared.target.Target.{Target as TheTarget};
 ghost use Rattle.dw_section.specs.declared.judging.Initial.{Initial as TheInitial};
 ghost use Rattle.dw_section.specs.declared.judging.Long.{Long as TheLong};
@@ -16,7 +17,6 @@ ghost use Rattle.dw_cfa.specs.Faults.{CieFault, FdeFault};
 ghost use Rattle.dw_cfa.specs.Following.{with_steps};
 ghost use Rattle.dw_cfa.specs.Lacking.{lacks_from};
 ghost use Rattle.dw_section.specs.FdeFields.{is_among};
-ghost use Rattle.dw_section.specs.Faults.{Refuses};
 ghost use Rattle.dw_section.specs.Headers.{Head, Has, CieHolds, cie, fde, head_in};
 ghost use Rattle.dw_section.specs.Pieces.{piece_in};
 ghost use Rattle.dw_section.specs.Inner.Heads.{FdeFits, IsTyped};
@@ -28,10 +28,9 @@ ghost use Rattle.dw_section.specs.Programs.{input_of, IsAmong, CieRuns, CieBroke
 ghost use Rattle.dw_section.specs.Stage.{FirstStuck};
 
 use crate::cutting::{Kind, Placed, next_piece};
-use crate::error::SectionError;
 use crate::heading::{Header, cie_header};
 use dw_cfa::{CieMachine, Factors, behind_laws, initial_laws, initial_row};
-use dw_num::{Cursor, Program, Target, are_bytes};
+use dw_num::{Cursor, Program, ReadError, Target, are_bytes};
 use std::alloc::{AllocError, Global};
 
 // A CIE program of more bytes is run once, on a machine that is kept for it; others are run again.
@@ -70,7 +69,7 @@ fn run_cie<'a>(
     return_register: u16,
     program: Program<'a>,
     target: Target,
-) -> Result<Initial<'a>, SectionError>
+) -> Result<Initial<'a>, ReadError>
     ensures place { IfOk result (λ c. c.at ≡ at) }
     ensures runs { (form : TheForm) → IfOk result (λ _. CieRuns target (cie at form factors.code_factor factors.data_factor return_register (span_of program.entry))) }
     ensures found { (hs : List Head) (form : TheForm) → IsAmong (cie at form factors.code_factor factors.data_factor return_register (span_of program.entry)) hs → IfOk result (λ c. IsInitial target hs c) }
@@ -108,7 +107,7 @@ fn keep_initial<'a>(
     initials: &mut Vec<Initial<'a>>,
     header: &Header<'a>,
     target: Target,
-) -> Result<(), SectionError>
+) -> Result<(), ReadError>
     ensures found { (hs front : List Head) → IsAmong (head_in header.now) hs → AreInitials target hs front initials.old.items → OnOk result (AreInitials target hs (front ++ head_in header.now ∷ []) initials.new.items) }
     ensures first { IfErr result (Refuses (CieBroken target (head_in header.now))) }
 {
@@ -139,7 +138,7 @@ fn keep_piece<'a>(
     initials: &mut Vec<Initial<'a>>,
     piece: &Placed<'a>,
     target: Target,
-) -> Result<(), SectionError>
+) -> Result<(), ReadError>
     requires { CieHolds target (piece_in piece.now) }
     ensures found { (hs front : List Head) (places : List ℕ) (h : Head) → Has target places (piece_in piece.now) h → IsAmong h hs → AreInitials target hs front initials.old.items → OnOk result (AreInitials target hs (front ++ h ∷ []) initials.new.items) }
     ensures first { (places : List ℕ) (h : Head) → Has target places (piece_in piece.now) h → IfErr result (Refuses (CieBroken target h)) }
@@ -162,7 +161,7 @@ pub(crate) fn run_cies<'a>(
     bytes: &'a [u8],
     target: Target,
     places: &[u64],
-) -> Result<Vec<Initial<'a>>, SectionError>
+) -> Result<Vec<Initial<'a>>, ReadError>
     requires ascending { Rises 0 places.now }
     requires headers { (hs : List Head) × AreHeaders target bytes.now places.now hs }
     ensures found { (hs : List Head) → AreHeaders target bytes.now places.now hs → IfOk result (λ v. AreInitials target hs hs v.items) }
@@ -206,7 +205,7 @@ fn run_fde<'a>(
     program: Program<'a>,
     begin: u64,
     range: u64,
-) -> Result<bool, SectionError>
+) -> Result<bool, ReadError>
     requires { begin < address_limit machine.old.target.size }
     ensures found { IfOk result (λ lacks. (instrs : List Instr) × (rows : List LocatedRow) × GivesBehind machine.old.factors machine.old.initial (input_of machine.old.target (span_of program.entry)) begin instrs rows × (lacks ≡ lacks_from (begin + range) begin false rows)) }
     ensures stuck { IfErr result (Refuses (FdeFault machine.old.factors machine.old.initial.cfa (input_of machine.old.target (span_of program.entry)) begin)) }
@@ -354,7 +353,7 @@ fn run_long<'a>(
     begin: u64,
     range: u64,
     target: Target,
-) -> Result<bool, SectionError>
+) -> Result<bool, ReadError>
     requires in_list { index < length long.old.items }
     requires begin { begin < address_limit target.size }
     requires each { (hs : List Head) × AllByRecursion (IsLong target hs) long.old.items }
@@ -377,7 +376,7 @@ fn run_behind<'a>(
     begin: u64,
     range: u64,
     target: Target,
-) -> Result<bool, SectionError>
+) -> Result<bool, ReadError>
     requires ascending { Rises 0 (map place_of initials.now) }
     requires among { is_among place (map place_of initials.now) ≡ true }
     requires begin { begin < address_limit target.size }
@@ -399,7 +398,7 @@ pub(crate) fn judge<'a>(
     header: &Header<'a>,
     initials: &[Initial<'a>],
     target: Target,
-) -> Result<bool, SectionError>
+) -> Result<bool, ReadError>
     requires ascending { Rises 0 (map place_of initials.now) }
     requires fits { FdeFits target (map place_of initials.now) (head_in header.now) }
     requires each { (hs : List Head) × AllByRecursion (IsInitial target hs) initials.now × IsRunner target hs runner.old }

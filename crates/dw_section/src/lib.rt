@@ -9,7 +9,6 @@
 mod changing;
 mod counting;
 mod cutting;
-mod error;
 mod fields;
 mod finding;
 mod heading;
@@ -23,7 +22,6 @@ mod table;
 
 pub use changing::Changes;
 pub use cutting::{Entry, EntryCounts, Kind, entries, one_cut, one_cut_fault};
-pub use error::SectionError;
 pub use finding::Lookups;
 pub use heading::{Header, headers, one_first_fault, one_order};
 pub use laws::section_laws;

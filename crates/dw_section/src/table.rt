@@ -4,12 +4,12 @@ ghost use Rattle.std.specs.Prelude.{◌≡◌, ℕ, List, IfOk, IfErr, MatchResu
 ghost use Rattle.dw_num.specs.Input.{AreBytes};
 ghost use Rattle.dw_num.specs.declared.refusal.Refusal.{Refusal as TheRefusal};
 ghost use Rattle.dw_num.specs.declared.target.Target.{Target as TheTarget};
-ghost use Rattle.dw_section.specs.declared.error.SectionError.TheVariants as TheError;
-ghost use Rattle.dw_section.specs.declared.error.SectionError.TheVariants.{OutOfMemory};
+ghost use Rattle.dw_num.specs.declared.error.ReadError.TheVariants as TheError;
+ghost use Rattle.dw_num.specs.declared.error.ReadError.TheVariants.{OutOfMemory};
+ghost use Rattle.dw_num.specs.Refusals.{Refuses};
 ghost use Rattle.dw_section.specs.Accepted.{RulesFault, CheckFault, Accepted};
 ghost use Rattle.dw_section.specs.Counts.{AreCounts};
 ghost use Rattle.dw_section.specs.Cut.{Piece};
-ghost use Rattle.dw_section.specs.Faults.{Refuses};
 ghost use Rattle.dw_section.specs.FaultPlaces.{IsWithin};
 ghost use Rattle.dw_section.specs.declared.lookup.Fde.{Fde as TheFde};
 ghost use Rattle.dw_section.specs.Meaning.{AreFdes};
@@ -17,11 +17,10 @@ ghost use Rattle.dw_section.specs.Pieces.{Pieces};
 ghost use Rattle.dw_section.specs.Table.{Section, AreRanges, IsKept};
 
 use crate::cutting::{EntryCounts, cut};
-use crate::error::SectionError;
 use crate::heading::{fdes_hold, find_cies};
 use crate::indexing::{Ranged, first_overlap, put_in_order, run_fdes};
 use crate::judging::{Initial, run_cies};
-use dw_num::{Code, Refusal, Target, are_bytes};
+use dw_num::{Code, ReadError, Refusal, Target, are_bytes};
 use std::alloc::Global;
 use std::marker::Model;
 
@@ -72,10 +71,10 @@ impl<'a> Table<'a> {
     }
 }
 
-fn refused(code: Code, at: u64) -> SectionError
+fn refused(code: Code, at: u64) -> ReadError
     ensures { result ≡ TheError.Refused (record { code = code; at = at }) }
 {
-    SectionError::Refused(Refusal { code, at })
+    ReadError::Refused(Refusal { code, at })
 }
 
 // What is kept of a section.
@@ -88,7 +87,7 @@ struct Sound<'a> {
 }
 
 // The CIEs, and the nonempty FDEs in order of place, where all programs run and give the CFA a rule at each address.
-fn judged<'a>(alloc: Global, bytes: &'a [u8], target: Target) -> Result<Sound<'a>, SectionError>
+fn judged<'a>(alloc: Global, bytes: &'a [u8], target: Target) -> Result<Sound<'a>, ReadError>
     ensures found { IfOk result (λ j. AreRanges target bytes.now j.list.items × IsKept target bytes.now j.counts j.places.items j.initials.items) }
     ensures first { IfErr result (Refuses (RulesFault target bytes.now)) }
 {
@@ -108,7 +107,7 @@ fn judged<'a>(alloc: Global, bytes: &'a [u8], target: Target) -> Result<Sound<'a
     }
 }
 
-fn checked<'a>(alloc: Global, bytes: &'a [u8], target: Target) -> Result<Table<'a>, SectionError>
+fn checked<'a>(alloc: Global, bytes: &'a [u8], target: Target) -> Result<Table<'a>, ReadError>
     ensures found { IfOk result (λ table. (table ≡ record { target = target; bytes = bytes.now }) × Accepted target bytes.now) }
     ensures first { IfErr result (Refuses (CheckFault target bytes.now)) }
 {
@@ -136,7 +135,7 @@ fn checked<'a>(alloc: Global, bytes: &'a [u8], target: Target) -> Result<Table<'
 /// `NotInCie`, `LocationBackwards`, `LocationTooLarge`, `EmptyStateStack`, `StateStackFull`, `CfaNotRegister`,
 /// `OffsetTooLarge`, `UnknownOperation`, `NotInFrame`, `BadBranch`, `BadDerefSize`), then `NoCfaRule` by place, and
 /// `Overlap` at the first nonempty FDE in order of begin and place that begins below the end of one before it.
-pub fn check<'a>(alloc: Global, bytes: &'a [u8], target: Target) -> Result<Table<'a>, SectionError>
+pub fn check<'a>(alloc: Global, bytes: &'a [u8], target: Target) -> Result<Table<'a>, ReadError>
     // It is the table of an accepted section.
     ensures found { IfOk result (λ table. (table ≡ record { target = target; bytes = bytes.now }) × Accepted target bytes.now) }
     // An accepted section is not refused.

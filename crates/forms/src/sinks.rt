@@ -1,10 +1,7 @@
 //! The plain section's normal form, by each call and into sinks that fail.
 
-use dw_normal::{
-    NormalError, SameError, Sink, Tape, Through, Which, WriteError, normal_length, normalise,
-    normalise_to, same,
-};
-use dw_num::{Order, Size, Target};
+use dw_normal::{SameError, Sink, Tape, Through, Which, WriteError, normal_length, normalise, normalise_to, same};
+use dw_num::{Order, ReadError, Size, Target};
 use std::alloc::{AllocError, Global};
 use std::io::{self, ErrorKind, Write};
 use std::test::Fail;
@@ -135,10 +132,10 @@ fn writes_on_a_tape(rt: HostRuntime) -> Result<(), Fail> {
 }
 
 // The bytes, or the number of a refusal, which is 0 for want of memory.
-fn number_of(error: &NormalError) -> u8 {
+fn number_of(error: &ReadError) -> u8 {
     match error {
-        NormalError::Refused(refusal) => refusal.code.number(),
-        NormalError::OutOfMemory => 0,
+        ReadError::Refused(refusal) => refusal.code.number(),
+        ReadError::OutOfMemory => 0,
     }
 }
 

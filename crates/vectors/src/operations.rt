@@ -1,8 +1,8 @@
 //! Operations as blocks spell them, and expressions that are borrowed.
 
 use crate::lines::{case_of, compare};
-use dw_num::{Order, Size, Target};
-use dw_op::{DecodeError, ExprRef, Op, Profile, decode};
+use dw_num::{Order, ReadError, Size, Target};
+use dw_op::{ExprRef, Op, Profile, decode};
 use std::alloc::Global;
 use std::hash::{DefaultHasher, Hash, Hasher};
 use std::test::Fail;
@@ -57,10 +57,10 @@ fn agree(alloc: Global, line: &str, profile: Profile) -> Result<(), Fail> {
     let case = case_of(alloc, line)?;
     let text = match decode(alloc, &case.block, case.around.target, profile) {
         Ok(list) => ops_text(alloc, list.ops())?,
-        Err(DecodeError::Refused(refusal)) => {
+        Err(ReadError::Refused(refusal)) => {
             format!(in alloc; "{:?} at {}", refusal.code, refusal.at)?
         }
-        Err(DecodeError::OutOfMemory) => return Err(Fail::new("out of memory")),
+        Err(ReadError::OutOfMemory) => return Err(Fail::new("out of memory")),
     };
     compare(line, text.as_str(), case.wanted)
 }

@@ -6,14 +6,10 @@ use Rattle.dw_num.specs.declared.target.Form.{Form}
 use Rattle.dw_num.specs.declared.target.Target.{Target}
 use Rattle.dw_num.specs.Span.{span_of}
 use Rattle.dw_cfa.specs.declared.instr.Instr.{Instr}
-use Rattle.dw_cfa.specs.declared.running.RunError.{RunError}
-use Rattle.dw_cfa.specs.declared.running.RunError.TheVariants as run
 use Rattle.dw_cfa.specs.Behind.{Leaves}
 use Rattle.dw_cfa.specs.Following.{Following}
 use Rattle.dw_cfa.specs.Rows.{Rules, blank}
 use Rattle.dw_cfa.specs.Runs.{initial_row, placed}
-use Rattle.dw_section.specs.declared.error.SectionError.{SectionError}
-use Rattle.dw_section.specs.declared.error.SectionError.TheVariants.{Refused, OutOfMemory}
 use Rattle.dw_section.specs.declared.judging.Initial.{Initial}
 use Rattle.dw_section.specs.declared.judging.Long.{Long}
 use Rattle.dw_section.specs.declared.judging.Runner.{Runner}
@@ -21,10 +17,6 @@ use Rattle.dw_section.specs.Stage.{FirstStuck}
 use Rattle.dw_section.specs.Headers.{Head, cie}
 use Rattle.dw_section.specs.Inner.Heads.{head_at, cie_ats}
 use Rattle.dw_section.specs.Programs.{IsAmong, input_of, CieRuns, HasRules, LacksRule}
-
-abbrev pub of_run : RunError → SectionError
-of_run (run.Refused r) = Refused r
-of_run run.OutOfMemory = OutOfMemory
 
 abbrev pub place_of : Initial → ℕ
 place_of c = c.at

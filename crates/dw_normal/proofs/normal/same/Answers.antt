@@ -8,17 +8,17 @@ returns-in-Err-clause-only c = λ within _. blamed_only c.args.target c.args.fir
 pub returns-in-Err-clause-refused : goal.returns-in-Err-clause-refused
 returns-in-Err-clause-refused c = first_fault c.args.target c.args.first.now c.args.second.now c.in-Err.error c.blamed.result c.in-Err.ensures.first c.blamed.ensures
 
-pub returns-in-Err-checked-clause-only : goal.returns-in-Err-checked-clause-only
-returns-in-Err-checked-clause-only c =
-    λ _ within. blamed_only c.args.target c.args.second.now Second c.in-Err-checked.error c.blamed-in-Err-checked.result c.are_bytes-2.ensures c.in-Err-checked.ensures.first c.blamed-in-Err-checked.ensures within
+pub returns-in-Err-check-clause-only : goal.returns-in-Err-check-clause-only
+returns-in-Err-check-clause-only c =
+    λ _ within. blamed_only c.args.target c.args.second.now Second c.in-Err-check.error c.blamed-in-Err-check.result c.are_bytes-2.ensures c.in-Err-check.ensures.first c.blamed-in-Err-check.ensures within
 
-pub returns-in-Err-checked-clause-refused : goal.returns-in-Err-checked-clause-refused
-returns-in-Err-checked-clause-refused c =
-    second_fault c.args.target c.args.first.now c.args.second.now c.in-Err-checked.error c.blamed-in-Err-checked.result (c.in-Ok.ensures).found.1 c.in-Err-checked.ensures.first c.blamed-in-Err-checked.ensures
+pub returns-in-Err-check-clause-refused : goal.returns-in-Err-check-clause-refused
+returns-in-Err-check-clause-refused c =
+    second_fault c.args.target c.args.first.now c.args.second.now c.in-Err-check.error c.blamed-in-Err-check.result (c.in-Ok.ensures).found.1 c.in-Err-check.ensures.first c.blamed-in-Err-check.ensures
 
 pub returns-clause-only : goal.returns-clause-only
 returns-clause-only c =
-    compared_only c.args.target c.args.first.now c.args.second.now c.in-Ok.one c.in-Ok-checked.two (c.in-Ok.ensures).found.0 (c.in-Ok-checked.ensures).found.0 c.are_bytes.ensures c.are_bytes-2.ensures
+    compared_only c.args.target c.args.first.now c.args.second.now c.in-Ok.one c.in-Ok-check.two (c.in-Ok.ensures).found.0 (c.in-Ok-check.ensures).found.0 c.are_bytes.ensures c.are_bytes-2.ensures
     c.compared.result c.compared.ensures.refused
 
 pub returns-then-eq-clause-only : goal.returns-then-eq-clause-only
@@ -28,4 +28,4 @@ returns-then-eq-clause-only c = λ within _.
 
 pub returns-clause-within : goal.returns-clause-within
 returns-clause-within c =
-    both_within c.args.target c.args.first.now c.args.second.now c.in-Ok.one c.in-Ok-checked.two (c.in-Ok.ensures).found.0 (c.in-Ok-checked.ensures).found.0 c.compared.result c.compared.ensures.within
+    both_within c.args.target c.args.first.now c.args.second.now c.in-Ok.one c.in-Ok-check.two (c.in-Ok.ensures).found.0 (c.in-Ok-check.ensures).found.0 c.compared.result c.compared.ensures.within

@@ -1,11 +1,10 @@
-use Rattle.std.proofs.Common.{refl, map, ◌≡◌, Err}
+use Rattle.std.proofs.Common.{refl, map}
 use Rattle.std.proofs.lemmas.Result.{err_from_is_err_and}
+use Rattle.dw_num.proofs.Refusals.{refuses_by}
 use Rattle.dw_op.specs.Expression.{bare}
-use Rattle.dw_op.specs.Walk.{block_input, decode_at}
-use Rattle.dw_op.specs.Faults.{BlockFault, IsWithin}
 use Rattle.dw_op.proofs.Blocks.{block_found, fault_found}
 use Rattle.dw_op.proofs.FaultPlaces.{fault_within}
-use Rattle.dw_op.proofs.Decoded.{decoded_in_range, refuses_so, only_memory, one_list}
+use Rattle.dw_op.proofs.Decoded.{decoded_in_range, only_memory, one_list}
 use Rattle.dw_op.proofs.decoding.decode.Goals as goal
 
 pub returns-in_err-ops-clause-only : goal.returns-in_err-ops-clause-only
@@ -17,14 +16,14 @@ pub returns-in_err-ops-clause-first : goal.returns-in_err-ops-clause-first
 returns-in_err-ops-clause-first c =
     let p = err_from_is_err_and c.from_residual.result c.from_residual.ensures.1 in
     rw (p.1, p.2)
-    (refuses_so (λ r. decode_at c.args.profile (block_input c.args.target c.args.bytes.now) ≡ Err r) (BlockFault c.args.profile c.args.target c.args.bytes.now) c.in_err-ops.field-0.0
+    (refuses_by c.in_err-ops.field-0.0 _ _
     (λ r e. fault_found c.args.profile c.args.target c.args.bytes.now r c.are_bytes.ensures e) c.in_err-ops.ensures.first)
 
 pub returns-in_err-ops-clause-within : goal.returns-in_err-ops-clause-within
 returns-in_err-ops-clause-within c =
     let p = err_from_is_err_and c.from_residual.result c.from_residual.ensures.1 in
     rw (p.1, p.2)
-    (refuses_so (λ r. decode_at c.args.profile (block_input c.args.target c.args.bytes.now) ≡ Err r) (IsWithin c.args.bytes.now) c.in_err-ops.field-0.0
+    (refuses_by c.in_err-ops.field-0.0 _ _
     (λ r e. fault_within c.args.profile c.args.target c.args.bytes.now r (fault_found c.args.profile c.args.target c.args.bytes.now r c.are_bytes.ensures e)) c.in_err-ops.ensures.first)
 
 pub of_range-requires : goal.of_range-requires

@@ -1,19 +1,20 @@
 use Rattle.std.proofs.Common.{arith, length, ℕ, map, subst, Err, Ok, Some, None, ◌≡◌}
 use Rattle.std.proofs.lemmas.Result.{err_from_is_err_and}
 use Rattle.std.proofs.lemmas.List.{map-append}
+use Rattle.dw_num.proofs.Refusals.{refuses_by}
 use Rattle.dw_op.specs.Expression.{bare}
 use Rattle.dw_op.specs.Reading.{bare_step}
-use Rattle.dw_op.specs.Walk.{block_input, decode_at, place_index, walk, end_of, starts_of, op_of}
+use Rattle.dw_op.specs.Walk.{block_input, place_index, walk, end_of, starts_of, op_of}
 use Rattle.dw_op.specs.Walk.{Rises}
 use Rattle.dw_op.proofs.Search.{starts_rise}
-use Rattle.dw_op.proofs.Decoded.{ops_more, ops_bad, ops_all, ops_stuck, bad_branch, decoded_is, decoded_fault, refuses_so, step_shorter}
+use Rattle.dw_op.proofs.Decoded.{ops_more, ops_bad, ops_all, ops_stuck, bad_branch, decoded_is, decoded_fault, step_shorter}
 use Rattle.dw_op.proofs.decoding.decode_ops.Goals as goal
 
 pub returns-in_err-places-clause-first : goal.returns-in_err-places-clause-first
 returns-in_err-places-clause-first c =
     let p = err_from_is_err_and c.from_residual.result c.from_residual.ensures.1 in
     let i = block_input c.args.target c.args.bytes.now in
-    rw (p.1, p.2) (refuses_so (λ r. (walk c.args.profile i).fault ≡ Some r) (λ r. decode_at c.args.profile i ≡ Err r) c.in_err-places.field-0.0 (λ r e. decoded_fault c.args.profile i r e) c.in_err-places.ensures.first)
+    rw (p.1, p.2) (refuses_by c.in_err-places.field-0.0 _ _ (λ r e. decoded_fault c.args.profile i r e) c.in_err-places.ensures.first)
 
 pub returns-in_err-step-clause-first : goal.returns-in_err-step-clause-first
 returns-in_err-step-clause-first c =

@@ -7,7 +7,7 @@ use Rattle.dw_section.specs.Pieces.{piece_in}
 use Rattle.dw_section.specs.Headers.{CieHolds, CieStuck}
 use Rattle.dw_section.proofs.Between.{between_start, between_next, between_end, between_stuck}
 use Rattle.dw_section.proofs.HeaderLaws.{AreCies}
-use Rattle.dw_section.proofs.Judged.{refuses_by}
+use Rattle.dw_num.proofs.Refusals.{refuses_by}
 use Rattle.dw_section.proofs.Left.{left_all, stays_then}
 use Rattle.dw_section.proofs.heading.find_cies.Goals as goal
 

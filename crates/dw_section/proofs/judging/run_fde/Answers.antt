@@ -5,7 +5,8 @@ use Rattle.dw_cfa.specs.Faults.{FdeFault}
 use Rattle.dw_cfa.specs.Following.{Following}
 use Rattle.dw_cfa.specs.Rows.{Rules, AreSpecified}
 use Rattle.dw_section.specs.Programs.{input_of}
-use Rattle.dw_section.proofs.Judged.{refused_by, steps_fault, steps_rows}
+use Rattle.dw_num.proofs.Refusals.{refuses_by}
+use Rattle.dw_section.proofs.Judged.{steps_fault, steps_rows}
 use Rattle.dw_section.proofs.judging.run_fde.Goals as goal
 
 pub returns-in_err-lacks-clause-stuck : goal.returns-in_err-lacks-clause-stuck
@@ -14,7 +15,7 @@ returns-in_err-lacks-clause-stuck c =
     let i = input_of old.target (span_of c.args.program) in
     let p = err_from_is_err_and c.from_residual-in_err-lacks.result c.from_residual-in_err-lacks.ensures.1 in
     let up = subst (λ (row : Rules). AreSpecified 0 row.registers) c.initial.ensures c.specified.ensures.ascending in
-    rw (p.1, p.2) (refused_by c.in_err-lacks.field-0.0 _ (FdeFault old.factors old.initial.cfa i c.args.begin)
+    rw (p.1, p.2) (refuses_by c.in_err-lacks.field-0.0 _ (FdeFault old.factors old.initial.cfa i c.args.begin)
     (λ r h. (c.behind_laws.ensures.refused old.factors old.initial i c.args.begin r c.are_bytes.ensures up (omega (arith, c.requires))).0
     (steps_fault c.begin.new.self.steps old.initial old.initial old.factors i c.args.begin r (ap (λ (m : Following). m.steps) c.in_ok-begin.ensures.ok) refl h)) c.in_err-lacks.ensures.refused)
 

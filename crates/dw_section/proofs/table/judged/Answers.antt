@@ -5,7 +5,7 @@ use Rattle.dw_section.specs.Inner.Left.{AreHeaders}
 use Rattle.dw_section.specs.Places.{Rises}
 use Rattle.dw_section.proofs.HeaderLaws.{pieces_rise}
 use Rattle.dw_section.proofs.Heads.{heads_rise}
-use Rattle.dw_section.proofs.Judged.{refuses_by}
+use Rattle.dw_num.proofs.Refusals.{refuses_by}
 use Rattle.dw_section.proofs.Left.{headers_so}
 use Rattle.dw_section.proofs.Tables.{nonempty_rise}
 use Rattle.dw_section.specs.Cut.{Piece}
