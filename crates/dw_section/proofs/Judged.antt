@@ -14,10 +14,6 @@ use Rattle.dw_num.specs.declared.target.Form.{Form}
 use Rattle.dw_num.specs.Input.{Input}
 use Rattle.dw_num.specs.Span.{Span, span_of}
 use Rattle.dw_num.specs.Target.{address_limit}
-use Rattle.dw_num.specs.declared.error.ReadError.{ReadError}
-use Rattle.dw_num.specs.declared.error.ReadError.TheVariants as read_error
-use Rattle.dw_num.specs.Refusals.{Refuses}
-use Rattle.dw_num.specs.declared.error.ReadError.TheVariants.{Refused, OutOfMemory}
 use Rattle.dw_cfa.specs.declared.instr.Instr.{Instr}
 use Rattle.dw_cfa.specs.declared.rule.CfaRule.{CfaRule}
 use Rattle.dw_cfa.specs.declared.rule.CfaRule.TheVariants.{Unset}
