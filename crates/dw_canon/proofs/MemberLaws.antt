@@ -19,10 +19,10 @@ use Rattle.dw_cfa.specs.InstrSpells.{Program}
 use Rattle.dw_cfa.specs.Kept.{CieKept, FdeKept, in_cie}
 use Rattle.dw_cfa.specs.Laws.{initial_cfa, initial_rule, HoldsAfter}
 use Rattle.dw_cfa.specs.Location.{onto, moves_location, row_starts}
-use Rattle.dw_cfa.specs.Machine.{State, begun, after}
+use Rattle.dw_cfa.specs.Inner.Machine.{State, begun, after}
 use Rattle.dw_cfa.specs.Rows.{Rules, AreSpecified, rule, blank}
 use Rattle.dw_cfa.specs.RuleAt.{CountsFrom, last_at, or_here, NeverFalls}
-use Rattle.dw_cfa.specs.Runs.{Placed}
+use Rattle.dw_cfa.specs.Inner.Runs.{Placed}
 use Rattle.dw_cfa.proofs.Counting.{counts_exists, one_count}
 use Rattle.dw_cfa.proofs.FaultLaws.{begun_stands}
 use Rattle.dw_cfa.proofs.Forward.{Follows, Holds, after_follows, begun_follows}

@@ -8,12 +8,13 @@ use Rattle.dw_num.specs.Input.{Input, AreBytes}
 use Rattle.dw_cfa.specs.declared.instr.Factors.{Factors}
 use Rattle.dw_cfa.specs.declared.instr.Instr.{Instr}
 use Rattle.dw_cfa.specs.declared.running.LocatedRow.{LocatedRow}
-use Rattle.dw_cfa.specs.Behind.{GivesBehind, BehindGives, GivesRows}
+use Rattle.dw_cfa.specs.Inner.Exact.{RulesBehind, BehindGives, GivesRows}
 use Rattle.dw_cfa.specs.Location.{moves_location}
 use Rattle.dw_cfa.specs.Rows.{Rules, AreSpecified}
 use Rattle.dw_cfa.specs.RuleAt.{CountsFrom}
-use Rattle.dw_cfa.specs.Machine.{State, begun, after}
-use Rattle.dw_cfa.specs.Runs.{Placed, Outcome, placed, row_if, fde_rows, rows_behind}
+use Rattle.dw_cfa.specs.Inner.Machine.{State, begun, after}
+use Rattle.dw_cfa.specs.Inner.Runs.{Placed, placed, row_if, fde_rows, rows_behind}
+use Rattle.dw_cfa.specs.Runs.{Outcome}
 use Rattle.dw_cfa.proofs.FaultLaws.{begun_stands}
 use Rattle.dw_cfa.proofs.Forward.{begun_follows}
 use Rattle.dw_cfa.proofs.KeptLaws.{fde_kept, kept_fde, all_in_limit}
@@ -38,7 +39,7 @@ starts limit initial (item ∷ items) s rows e =
     omega (arith, n, more)
 
 module _ (f : Factors) (initial : Rules) (fde : Input) (begin : ℕ) (rows : List LocatedRow) (h : AreBytes fde.bytes) (listed : AreSpecified 0 initial.registers) (le : begin ≤ address_limit fde.target.size) where
-  pub gives_behind : rows_behind f initial fde begin ≡ record { rows = rows; fault = None } → GivesBehind f initial fde begin (instrs_of (placed f fde).items) rows
+  pub gives_behind : rows_behind f initial fde begin ≡ record { rows = rows; fault = None } → RulesBehind f initial fde begin (instrs_of (placed f fde).items) rows
   unfolding rows_behind
   gives_behind e =
       let limit = address_limit fde.target.size in
@@ -71,4 +72,4 @@ gives_rows f initial fde begin instrs h listed le program kept =
     let from = subst (KeptFrom limit begin initial.cfa []) (sym read.0) (kept_fde limit begin initial.cfa instrs kept) in
     let rows = kept_gives limit begin initial (placed f fde).items [] (begun initial begin) (begun_stands limit begin initial listed le) all from in
     let e = ap (λ (o : Option Refusal). fde_rows limit initial (placed f fde).items o (begun initial begin)) read.1 ∙ rows.1 in
-    (rows.0, e, subst (λ (l : List Instr). GivesBehind f initial fde begin l rows.0) read.0 (gives_behind f initial fde begin rows.0 h listed le e))
+    (rows.0, e, subst (λ (l : List Instr). RulesBehind f initial fde begin l rows.0) read.0 (gives_behind f initial fde begin rows.0 h listed le e))

@@ -9,8 +9,8 @@ use Rattle.dw_num.proofs.LebLaws.{done}
 use Rattle.dw_cfa.specs.declared.instr.Factors.{Factors}
 use Rattle.dw_cfa.specs.declared.instr.Instr.{Instr}
 use Rattle.dw_cfa.specs.InstrSpells.{InstrSpells, Program}
-use Rattle.dw_cfa.specs.Reading.{instr_at}
-use Rattle.dw_cfa.specs.Runs.{Placed, Placing, placed}
+use Rattle.dw_cfa.specs.Inner.Reading.{instr_at}
+use Rattle.dw_cfa.specs.Inner.Runs.{Placed, Placing, placed}
 use Rattle.dw_cfa.proofs.InstrLaws.{instr_found}
 use Rattle.dw_cfa.proofs.InstrAgain.{instr_again}
 use Rattle.dw_cfa.proofs.Listings.{some_spelled, instr_bytes}

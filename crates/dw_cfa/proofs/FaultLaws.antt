@@ -7,9 +7,6 @@ use Rattle.dw_num.specs.declared.refusal.Code.TheVariants.{NotInCie, LocationBac
 use Rattle.dw_num.specs.declared.refusal.Refusal.{Refusal}
 use Rattle.dw_num.specs.Target.{address_limit}
 use Rattle.dw_num.specs.Input.{Input, AreBytes}
-use Rattle.dw_num.specs.declared.error.ReadError.{ReadError}
-use Rattle.dw_num.specs.declared.error.ReadError.TheVariants.{Refused, OutOfMemory}
-use Rattle.dw_num.specs.Refusals.{Refuses}
 use Rattle.dw_cfa.specs.declared.instr.Factors.{Factors}
 use Rattle.dw_cfa.specs.declared.instr.Instr.{Instr}
 use Rattle.dw_cfa.specs.declared.instr.Instr.TheVariants.{SetLoc, Advance, RememberState, RestoreState}
@@ -18,16 +15,18 @@ use Rattle.dw_cfa.specs.declared.rule.CfaRule.TheVariants as cfa
 use Rattle.dw_cfa.specs.declared.running.LocatedRow.{LocatedRow}
 use Rattle.dw_cfa.specs.InstrSpells.{Program}
 use Rattle.dw_cfa.specs.Listing as plain
+use Rattle.dw_cfa.specs.Inner.Listing.{listing}
 use Rattle.dw_cfa.specs.Location.{onto, location_back}
 use Rattle.dw_cfa.specs.Column.{look_back, cfa_change}
 use Rattle.dw_cfa.specs.Kept.{is_remember, is_restore, in_cie, keeps_half, IsRegisterRule, CieKept, FdeKept}
 use Rattle.dw_cfa.specs.Laws.{initial_cfa}
-use Rattle.dw_cfa.specs.Behind.{Leaves, InitialLeaves, LeavesInitial, InitialRefused, BehindRefused}
-use Rattle.dw_cfa.specs.Faults.{RefusedWhereFault, BreaksHalf, CieBreaks, FdeBreaks, FdeFaultBehind, CieFault, FdeFault, RunFault}
-use Rattle.dw_cfa.specs.Stepping.{Stepping, Failed, rows_before}
+use Rattle.dw_cfa.specs.Behind.{Leaves}
+use Rattle.dw_cfa.specs.Inner.Exact.{InitialLeaves, LeavesInitial, InitialRefused, BehindRefused}
+use Rattle.dw_cfa.specs.Faults.{BreaksHalf, CieBreaks, FdeBreaks, FdeFaultBehind, CieFault, FdeFault, RunFault}
 use Rattle.dw_cfa.specs.Rows.{Rules, AreSpecified, blank}
-use Rattle.dw_cfa.specs.Machine.{begun, half_fault, cie_fault, fde_fault}
-use Rattle.dw_cfa.specs.Runs.{Placed, Outcome, placed, cie_run, initial_row, on_initial, fde_rows, rows_behind, run_rows, fails}
+use Rattle.dw_cfa.specs.Inner.Machine.{begun, half_fault, cie_fault, fde_fault}
+use Rattle.dw_cfa.specs.Inner.Runs.{Placed, placed, cie_run, initial_row, on_initial, fde_rows, rows_behind, run_rows}
+use Rattle.dw_cfa.specs.Runs.{Outcome}
 use Rattle.dw_cfa.proofs.Divided.{divided, joined}
 use Rattle.dw_cfa.proofs.Forward.{Follows, begun_follows}
 use Rattle.dw_cfa.proofs.Initial.{cie_follows}
@@ -36,7 +35,7 @@ use Rattle.dw_cfa.proofs.KeptRuns.{Stands, remembered, restored, kept_from, kept
 use Rattle.dw_cfa.proofs.Listings.{fault_listed}
 use Rattle.dw_cfa.proofs.RowsAt.{instrs_of, Gives}
 use Rattle.dw_cfa.proofs.RunLaws.{same_listing, placed_program, program_placed}
-use Rattle.dw_cfa.proofs.Stops.{StopsAt, StopsBehind, ends, ended_stands, stops, refused_at_item, refused_behind, CieStopsAt, CieStopsBehind, cie_stops, cie_refused_at_item, cie_refused_behind}
+use Rattle.dw_cfa.proofs.Stops.{StopsAt, StopsBehind, Stops, ends, ended_stands, stops, stopped, CieStopsAt, CieStopsBehind, cie_stops, cie_refused_at_item, cie_refused_behind}
 
 -- ---- one instruction, behind instructions with the last of them first
 
@@ -125,7 +124,7 @@ breaks_back limit begin initial instrs i code b = b
 pub begun_stands : (limit begin : ℕ) (initial : Rules) → AreSpecified 0 initial.registers → begin ≤ limit → Stands limit begin initial [] (begun initial begin)
 begun_stands limit begin initial listed le = record { follows = begun_follows initial begin listed; balance = refl; room = omega arith; within = le }
 
-fault_read : (f : Factors) (i : Input) (r : Refusal) → AreBytes i.bytes → (placed f i).fault ≡ Some r → (instrs_of (placed f i).items ≡ (plain.listing f i).items) × (plain.listing f i ≡ plain.faulty (instrs_of (placed f i).items) r)
+fault_read : (f : Factors) (i : Input) (r : Refusal) → AreBytes i.bytes → (placed f i).fault ≡ Some r → (instrs_of (placed f i).items ≡ (listing f i).items) × (listing f i ≡ plain.faulty (instrs_of (placed f i).items) r)
 fault_read f i r h e =
     let same = same_listing f i in
     (sym (ap (λ (l : plain.Listing). l.items) same), same ∙ ap (λ (o : Option Refusal). let l : plain.Listing = record { items = instrs_of (placed f i).items; fault = o } in l) e)
@@ -182,15 +181,24 @@ module _ (f : Factors) (initial : Rules) (i : Input) (begin : ℕ) (h : AreBytes
   runs_before before front read kept =
       kept_gives limit begin initial before [] (begun initial begin) (begun_stands limit begin initial listed le) (all_in_limit i.target f (instrs_of before) front read) (kept_fde limit begin initial.cfa (instrs_of before) kept)
 
-  pub fde_fault_only : (r : Refusal) → FdeFault f initial.cfa i begin r → (rows_behind f initial i begin).fault ≡ Some r
-  unfolding rows_behind limit
-  fde_fault_only r (instrs, (kept, inl stuck)) =
-      let listing = sym (same_listing f i) ∙ (fault_listed f i instrs r h).0 stuck in
-      let are : instrs_of (placed f i).items ≡ instrs = ap (λ (l : plain.Listing). l.items) listing in
-      let fault : (placed f i).fault ≡ Some r = ap (λ (l : plain.Listing). l.fault) listing in
+  abbrev pub Stopped : Refusal → Type 0
+  Stopped r = Stops (address_limit i.target.size) initial (placed f i).items (placed f i).fault (begun initial begin) r
+
+  -- the instructions behind which a run stops
+  abbrev pub stopped_behind : (r : Refusal) → Stopped r → List Instr
+  stopped_behind r (inl d) = instrs_of d.before
+  stopped_behind r (inr d) = instrs_of (placed f i).items
+
+  -- a run stops where the fault is
+  pub stops_of : (r : Refusal) (instrs : List Instr) → FdeFaultBehind f initial.cfa i begin instrs r → (d : Stopped r) × (stopped_behind r d ≡ instrs)
+  unfolding limit
+  stops_of r instrs (kept, inl stuck) =
+      let list = sym (same_listing f i) ∙ (fault_listed f i instrs r h).0 stuck in
+      let are : instrs_of (placed f i).items ≡ instrs = ap (λ (l : plain.Listing). l.items) list in
+      let fault : (placed f i).fault ≡ Some r = ap (λ (l : plain.Listing). l.fault) list in
       let rows = runs_before (placed f i).items stuck.front (subst (λ (l : List Instr). Program i.target f l stuck.front) (sym are) stuck.read) (subst (FdeKept limit begin initial.cfa) (sym are) kept) in
-      subst (λ (o : Option Refusal). (fde_rows limit initial (placed f i).items o (begun initial begin)).fault ≡ Some r) (sym fault) (refused_behind limit initial (placed f i).items (begun initial begin) r rows.0 rows.1)
-  fde_fault_only r (instrs, (kept, inr b)) =
+      (inr (record { rows = rows.0; gives = rows.1; is = fault }), are)
+  stops_of r instrs (kept, inr b) =
       let j = joined f i instrs b.instr b.front b.spelling b.rest h b.whole b.read b.next in
       let read = subst (λ (l : List Instr). Program i.target f l b.front) (sym j.are) b.read in
       let rows = runs_before j.before b.front read (subst (FdeKept limit begin initial.cfa) (sym j.are) kept) in
@@ -198,8 +206,11 @@ module _ (f : Factors) (initial : Rules) (i : Input) (begin : ℕ) (h : AreBytes
       let end = ends initial j.before (begun initial begin) in
       let breaks = breaks_back limit begin initial.cfa (instrs_of j.before) b.instr r.code (subst (λ (l : List Instr). FdeBreaks limit begin initial.cfa l b.instr r.code) (sym j.are) b.breaks) in
       let fault = breaks_fault limit begin initial b.instr (onto [] (instrs_of j.before) (length (instrs_of j.before))) end.row end.stack end.location r.code stands breaks in
-      subst (λ (l : List Placed). (fde_rows limit initial l (placed f i).fault (begun initial begin)).fault ≡ Some r) (sym j.items)
-      (refused_at_item limit initial j.before (record { at = i.at + length b.front; instr = b.instr }) j.after (placed f i).fault (begun initial begin) r rows.0 rows.1 fault b.place)
+      (inl (record { before = j.before; item = record { at = i.at + length b.front; instr = b.instr }; after = j.after; rows = rows.0; whole = j.items; gives = rows.1; fault = fault; place = b.place }), j.are)
+
+  pub fde_fault_only : (r : Refusal) → FdeFault f initial.cfa i begin r → (rows_behind f initial i begin).fault ≡ Some r
+  unfolding rows_behind
+  fde_fault_only r (instrs, fault) = stopped (address_limit i.target.size) initial (placed f i).items (placed f i).fault (begun initial begin) r (stops_of r instrs fault).0
 
 -- ---- a CIE's program
 
@@ -270,9 +281,9 @@ module _ (f : Factors) (i : Input) (h : AreBytes i.bytes) where
 
   pub cie_fault_only : (r : Refusal) → CieFault f i r → initial_row (placed f i) blank ≡ Err r
   cie_fault_only r (instrs, kept, inl stuck) =
-      let listing = sym (same_listing f i) ∙ (fault_listed f i instrs r h).0 stuck in
-      let are : instrs_of (placed f i).items ≡ instrs = ap (λ (l : plain.Listing). l.items) listing in
-      let fault : (placed f i).fault ≡ Some r = ap (λ (l : plain.Listing). l.fault) listing in
+      let list = sym (same_listing f i) ∙ (fault_listed f i instrs r h).0 stuck in
+      let are : instrs_of (placed f i).items ≡ instrs = ap (λ (l : plain.Listing). l.items) list in
+      let fault : (placed f i).fault ≡ Some r = ap (λ (l : plain.Listing). l.fault) list in
       let end = cie_runs_before (placed f i).items (subst CieKept (sym are) kept) in
       ap (λ (o : Option Refusal). cie_run (placed f i).items o blank) fault ∙ cie_refused_behind (placed f i).items blank end.0 r end.1
   cie_fault_only r (instrs, kept, inr b) =
@@ -336,16 +347,3 @@ module _ (f : Factors) (cie fde : Input) (begin : ℕ) (r : Refusal) (cb : AreBy
   refused_run (inr (instrs, program, kept, fault)) =
       let left = leaves_initial f cie instrs cb program kept in
       rw left.1 (fde_fault_only f left.0 fde begin fb le left.2.listed r (subst (λ (c : CfaRule). FdeFault f c fde begin r) (sym left.2.cfa) fault))
-
-pub refused_where_fault : RefusedWhereFault
-refused_where_fault f cie fde begin r cb fb le = (run_refused f cie fde begin r cb fb le, refused_run f cie fde begin r cb fb le)
-
--- a run by rows that fails
-pub run_failed : (f : Factors) (cie fde : Input) (begin : ℕ) (first old new : Stepping) (rows : List LocatedRow) (e : ReadError) → AreBytes cie.bytes → AreBytes fde.bytes → begin ≤ address_limit fde.target.size
-    → first.outcome ≡ run_rows f cie fde begin → first.outcome ≡ rows_before rows old.outcome → old.error ≡ None → Failed old e new → Refuses (RunFault f cie fde begin) e
-run_failed f cie fde begin first old new rows OutOfMemory cb fb le begun before none failed = tt
-run_failed f cie fde begin first old new rows (Refused r) cb fb le begun before none (is, over, inl same) =
-    let error : None ≡ Some (Refused r) = sym none ∙ ap (λ (s : Stepping). s.error) same ∙ is in absurd cc
-run_failed f cie fde begin first old new rows (Refused r) cb fb le begun before none (is, over, inr at) =
-    let all : run_rows f cie fde begin ≡ rows_before rows (fails r) = sym begun ∙ before ∙ ap (rows_before rows) at.1 in
-    run_refused f cie fde begin r cb fb le (ap (λ (o : Outcome). o.fault) all)

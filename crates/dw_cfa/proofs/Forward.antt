@@ -9,7 +9,7 @@ use Rattle.dw_cfa.specs.declared.rule.RegRule.{RegRule}
 use Rattle.dw_cfa.specs.Location.{location_back}
 use Rattle.dw_cfa.specs.Column.{look_back, cfa_change, rule_change}
 use Rattle.dw_cfa.specs.Rows.{Rules, AreSpecified, rule}
-use Rattle.dw_cfa.specs.Machine.{State, begun, changed, moved, popped, after, empty_fault, fde_fault}
+use Rattle.dw_cfa.specs.Inner.Machine.{State, begun, changed, moved, popped, after, empty_fault, fde_fault}
 use Rattle.dw_cfa.proofs.RowLists.{put_rule, put_keeps}
 
 -- The row has in every column what looking back past `inner` remember_states gives.

@@ -6,8 +6,8 @@ use Rattle.dw_cfa.specs.declared.instr.Instr.{Instr}
 use Rattle.dw_cfa.specs.declared.instr.Instr.TheVariants.{Nop, SetLoc, Advance, DefCfa, DefCfaRegister, DefCfaOffset, DefCfaExpression, Set, Restore, RememberState, RestoreState}
 use Rattle.dw_cfa.specs.Location.{onto}
 use Rattle.dw_cfa.specs.Rows.{Rules, blank}
-use Rattle.dw_cfa.specs.Machine.{begun, written, after, cie_fault, fde_fault}
-use Rattle.dw_cfa.specs.Runs.{Placed, at_end, refused_at, cie_run}
+use Rattle.dw_cfa.specs.Inner.Machine.{begun, written, after, cie_fault, fde_fault}
+use Rattle.dw_cfa.specs.Inner.Runs.{Placed, at_end, refused_at, cie_run}
 use Rattle.dw_cfa.proofs.Forward.{Follows, after_follows}
 use Rattle.dw_cfa.proofs.RowsAt.{instrs_of}
 

@@ -22,7 +22,7 @@ use Rattle.dw_cfa.specs.declared.rule.RegRule.{RegRule}
 use Rattle.dw_cfa.specs.declared.rule.RegRule.TheVariants as rules
 use Rattle.dw_cfa.specs.InstrSpells.{IsOffset, BlockSpells, InstrSpells}
 use Rattle.dw_cfa.specs.Operands.{opcode_of, advanced}
-use Rattle.dw_cfa.specs.Reading.{expression_in, after_length, block_at, with_instr, instr_at}
+use Rattle.dw_cfa.specs.Inner.Reading.{expression_in, after_length, block_at, with_instr, instr_at}
 use Rattle.dw_cfa.specs.Inner.ByOpcode.{offset_in, plain_at, factored_at, signed_at, set_loc_at, advance_at, def_cfa_register_at, def_cfa_offset_at, def_cfa_offset_sf_at, def_cfa_expression_at, def_cfa_at, def_cfa_sf_at, restore_at, set_to, undefined_at, same_value_at, set_offset, set_val_offset, set_register, set_expression, set_val_expression, offset_at, offset_extended_at, offset_extended_sf_at, val_offset_at, val_offset_sf_at, register_rule_at, expression_at, val_expression_at, operands_at}
 use Rattle.dw_cfa.proofs.Codes.{advance_known, offset_known, restore_known}
 use Rattle.dw_cfa.proofs.Expressions.{expression_found}
@@ -62,7 +62,7 @@ module _ (t : Target) (f : Factors) where
       let one = take_again t (length block) block refl at rest in
       rw (one, is at) refl
 
-  block_again : (e : Expression) (b : List ℕ) → BlockSpells t e b → Again t block_at e b
+  pub block_again : (e : Expression) (b : List ℕ) → BlockSpells t e b → Again t block_at e b
   unfolding block_at
   block_again e b h =
       let is : (place : ℕ) → expression_in place t h.block ≡ Ok e = λ place. expression_found place t h.block e h.same_target h.operations in
@@ -70,7 +70,7 @@ module _ (t : Target) (f : Factors) where
 
   -- ---- an instruction of its operands
 
-  made_again : {X : Type 0} (read : Input → Read X) (make : X → Instr) (x : X) (b : List ℕ) → Again t read x b → Again t (λ i. read i >>= with_instr make) (make x) b
+  pub made_again : {X : Type 0} (read : Input → Read X) (make : X → Instr) (x : X) (b : List ℕ) → Again t read x b → Again t (λ i. read i >>= with_instr make) (make x) b
   made_again read make x b first at rest = rw (first at rest) refl
 
   both_again : {X : Type 0} (read : Input → Read X) (make : ℕ → X → Instr) (Spells : X → List ℕ → Type 0) (r : ℕ) (x : X) (b : List ℕ) → ((c : List ℕ) → Spells x c → Again t read x c) → Both (Register r) (Spells x) b

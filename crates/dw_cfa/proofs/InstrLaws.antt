@@ -27,7 +27,7 @@ use Rattle.dw_cfa.specs.declared.reading.Opcode.TheVariants as opcodes
 use Rattle.dw_cfa.specs.declared.rule.RegRule.TheVariants as rules
 use Rattle.dw_cfa.specs.InstrSpells.{IsOffset, BlockSpells, InstrSpells}
 use Rattle.dw_cfa.specs.Operands.{opcode_of, advanced}
-use Rattle.dw_cfa.specs.Reading.{leaving, expression_of, expression_in, block_in, after_length, block_at, with_instr, known_at, after_code, instr_at}
+use Rattle.dw_cfa.specs.Inner.Reading.{leaving, expression_of, expression_in, block_in, after_length, block_at, with_instr, known_at, after_code, instr_at}
 use Rattle.dw_cfa.specs.Inner.ByOpcode.{offset_in, plain_in, plain_at, factored_in, factored_at, signed_in, signed_at, set_loc_at, advance_at, def_cfa_register_at, def_cfa_offset_at, def_cfa_offset_sf_at, def_cfa_expression_at, def_cfa_at, def_cfa_sf_at, restore_at, set_to, undefined_at, same_value_at, set_offset, set_val_offset, set_register, set_expression, set_val_expression, offset_at, offset_extended_at, offset_extended_sf_at, val_offset_at, val_offset_sf_at, register_rule_at, expression_at, val_expression_at, operands_at}
 use Rattle.dw_cfa.proofs.Codes.{CodeOf, opcode_known}
 use Rattle.dw_cfa.proofs.Spellings.{Plain, Factored, SignedFactored, IsSpelled, in_table}
@@ -39,7 +39,7 @@ use Rattle.dw_cfa.proofs.Tabled.{form_is}
 abbrev pub Finds : {X : Type 0} → (Input → Read X) → (Target → X → List ℕ → Type 0) → Type 0
 Finds {X} read Spells = (i new : Input) (x : X) → AreBytes i.bytes → read i ≡ done (x, new) → (b : List ℕ) × Spells i.target x b × Takes i b new
 
-finds_made : {X : Type 0} (read : Input → Read X) (make : X → Instr) (Spells : Target → X → List ℕ → Type 0) (Made : Target → Instr → List ℕ → Type 0)
+pub finds_made : {X : Type 0} (read : Input → Read X) (make : X → Instr) (Spells : Target → X → List ℕ → Type 0) (Made : Target → Instr → List ℕ → Type 0)
     → Finds read Spells → ((t : Target) (x : X) (b : List ℕ) → Spells t x b → Made t (make x) b) → Finds (λ i. read i >>= with_instr make) Made
 finds_made read make Spells Made finds made i new instr h e =
     let p = bind_ok (read i) (with_instr make) (instr, new) e in
@@ -106,7 +106,7 @@ expression_kept : (place : ℕ) (t : Target) (o : Result (List Op) Refusal) (i n
 expression_kept place t (Ok ops) i new e is = (ops, refl, is)
 expression_kept place t (Err r) i new e is = absurd cc
 
-block_finds : Finds block_at BlockSpells
+pub block_finds : Finds block_at BlockSpells
 unfolding block_at expression_in
 block_finds i new e h is =
     let p = bind_ok (uleb_at i) after_length (e, new) is in
@@ -130,17 +130,17 @@ code_of : (code known : ℕ) (Operands : List ℕ → Type 0) (b : List ℕ) →
 code_of code known Operands b is h = record { rest = b; operands = h; whole = ap (λ (c : ℕ). c ∷ b) is }
 
 -- an instruction of no operands
-finds_alone : (instr : Instr) (Made : Target → Instr → List ℕ → Type 0) → ((t : Target) → Made t instr []) → Finds (λ i. Ok (instr, i)) Made
+pub finds_alone : (instr : Instr) (Made : Target → Instr → List ℕ → Type 0) → ((t : Target) → Made t instr []) → Finds (λ i. Ok (instr, i)) Made
 finds_alone instr Made made i new x h e =
     subst (λ (z : Instr × Input). (b : List ℕ) × Made i.target z.0 b × Takes i b z.1) (ok_is (instr, i) (x, new) e) ([], made i.target, record { bytes = refl; at = omega arith; target = refl })
 
-register_finds : Finds register_at (λ t r b. Register r b)
+pub register_finds : Finds register_at (λ t r b. Register r b)
 register_finds i new r h e = register_found i new r h e
 
-address_finds : Finds address_at (λ t a b. Address t a b)
+pub address_finds : Finds address_at (λ t a b. Address t a b)
 address_finds i new a h e = address_found i new a h e
 
-fixed_finds : (n : ℕ) → IsWidth n → Finds (fixed_at n) (λ t v b. Fixed t.order n v b)
+pub fixed_finds : (n : ℕ) → IsWidth n → Finds (fixed_at n) (λ t v b. Fixed t.order n v b)
 fixed_finds n width i new v h e = fixed_found n i new v width h e
 
 module _ (f : Factors) (at code : ℕ) where

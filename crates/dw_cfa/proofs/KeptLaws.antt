@@ -17,10 +17,11 @@ use Rattle.dw_cfa.specs.InstrSpells.{Program}
 use Rattle.dw_cfa.specs.Location.{onto}
 use Rattle.dw_cfa.specs.Column.{look_back, cfa_change}
 use Rattle.dw_cfa.specs.Kept.{is_remember, is_restore, in_cie, keeps_half, IsRegisterRule, CieKept, FdeKept}
-use Rattle.dw_cfa.specs.Laws.{initial_cfa, RowsWhereKept}
+use Rattle.dw_cfa.specs.Laws.{initial_cfa}
+use Rattle.dw_cfa.specs.Inner.Exact.{RowsKept}
 use Rattle.dw_cfa.specs.Rows.{Rules, blank}
-use Rattle.dw_cfa.specs.Machine.{begun, written, half_fault, cie_fault}
-use Rattle.dw_cfa.specs.Runs.{Placed, placed, cie_run, run_rows}
+use Rattle.dw_cfa.specs.Inner.Machine.{begun, written, half_fault, cie_fault}
+use Rattle.dw_cfa.specs.Inner.Runs.{Placed, placed, cie_run, run_rows}
 use Rattle.dw_cfa.proofs.Forward.{Follows, after_follows, begun_follows}
 use Rattle.dw_cfa.proofs.Initial.{cie_step, cie_follows, refused_none}
 use Rattle.dw_cfa.proofs.KeptRuns.{Stands, KeptFrom, AllInLimit, kept_from, kept_gives, keeps_fault, half_kept}
@@ -143,6 +144,6 @@ module _ (f : Factors) (cie fde : Input) (begin : ℕ) (ci fi : List Instr) (cb 
       (subst (KeptFrom limit begin init.0.cfa []) (sym d.0) kf) in
       (rows.0, rw (c.1, init.1, d.1) rows.1)
 
-pub rows_where_kept : RowsWhereKept
+pub rows_where_kept : RowsKept
 rows_where_kept f cie fde begin ci fi cb fb cie_is fde_is le =
     (λ h. given_keep f cie fde begin ci fi cb fb cie_is fde_is le h.0 h.1, λ k. kept_given f cie fde begin ci fi cb fb cie_is fde_is le k.0 k.1)

@@ -13,9 +13,9 @@ use Rattle.dw_cfa.specs.Location.{onto, location_back, moves_location}
 use Rattle.dw_cfa.specs.Column.{look_back, cfa_change}
 use Rattle.dw_cfa.specs.Kept.{is_remember, is_restore, keeps_half, IsRegisterRule}
 use Rattle.dw_cfa.specs.Rows.{Rules}
-use Rattle.dw_cfa.specs.Machine.{State, after, half_fault, fde_fault}
+use Rattle.dw_cfa.specs.Inner.Machine.{State, after, half_fault, fde_fault}
 use Rattle.dw_cfa.specs.Inner.Steps.{InLimit}
-use Rattle.dw_cfa.specs.Runs.{Placed, fde_rows, here}
+use Rattle.dw_cfa.specs.Inner.Runs.{Placed, fde_rows, here}
 use Rattle.dw_cfa.proofs.Forward.{Follows, after_follows}
 use Rattle.dw_cfa.proofs.RowsAt.{instrs_of, Gives, gives_first, forwards, stays, row_if_moves, row_if_stays}
 

@@ -7,7 +7,8 @@ use Rattle.dw_cfa.specs.declared.machine.Machine.{Machine}
 use Rattle.dw_cfa.specs.declared.running.LocatedRow.{LocatedRow}
 use Rattle.dw_cfa.specs.Lacking.{is_unset, leaves_one, lacks_from}
 use Rattle.dw_cfa.specs.Rows.{Rules}
-use Rattle.dw_cfa.specs.Runs.{Outcome, RanTo, here, row_then, rows_left}
+use Rattle.dw_cfa.specs.Runs.{Outcome, row_then}
+use Rattle.dw_cfa.specs.Inner.Runs.{RanTo, here, rows_left}
 use Rattle.dw_cfa.specs.Inner.Steps.{state_of}
 use Rattle.dw_cfa.proofs.RunLaws.{left_starts}
 use Rattle.dw_cfa.proofs.RowsTo.{not_none}

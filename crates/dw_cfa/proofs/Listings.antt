@@ -1,7 +1,7 @@
 -- The instructions of a program are listed up to its first fault.
 use Rattle.std.proofs.Common.{◌≡◌, ℕ, zero, suc, ◌+◌, ◌<◌, ◌≤◌, false, List, [], ◌∷◌, ◌++◌, length, Option, Some, None, Ok, Err, refl, sym, ap, subst, ◌∙◌, append_assoc, arith}
 use Rattle.std.specs.Prelude.{◌↔◌, IfSome}
-use Rattle.std.proofs.lemmas.List.{length-append, append-nil}
+use Rattle.std.proofs.lemmas.List.{length-append, append-nil, get_or-append-add}
 use Rattle.dw_num.specs.declared.refusal.Refusal.{Refusal}
 use Rattle.dw_num.specs.declared.target.Target.{Target}
 use Rattle.dw_num.specs.Input.{Input, AreBytes, Takes}
@@ -12,12 +12,14 @@ use Rattle.dw_num.proofs.Stays.{Stays}
 use Rattle.dw_cfa.specs.declared.instr.Factors.{Factors}
 use Rattle.dw_cfa.specs.declared.instr.Instr.{Instr}
 use Rattle.dw_cfa.specs.InstrSpells.{InstrSpells, Program}
-use Rattle.dw_cfa.specs.Reading.{instr_at}
-use Rattle.dw_cfa.specs.Listing.{Listing, complete, faulty, ProgramFault, listing, left_of}
+use Rattle.dw_cfa.specs.Inner.Reading.{instr_at}
+use Rattle.dw_cfa.specs.Listing.{Listing, complete, faulty, ProgramFault}
+use Rattle.dw_cfa.specs.Inner.Listing.{listing, left_of}
 use Rattle.dw_op.specs.Walks.{ended, put, on_read, on_left, walked_by}
 use Rattle.dw_cfa.proofs.InstrLaws.{instr_found}
 use Rattle.dw_cfa.proofs.InstrAgain.{instr_again}
 use Rattle.dw_cfa.proofs.InstrPlaces.{instr_stays}
+use Rattle.dw_cfa.proofs.Stuck.{stuck_fault, fault_stuck}
 
 -- in at most n steps
 abbrev pub listing_by : Factors → ℕ → Input → Listing
@@ -186,6 +188,17 @@ program_listed f i instrs h = (to, back)
         let all : l.front ≡ i.bytes = sym (append-nil l.front) ∙ ap (λ (r : List ℕ). l.front ++ r) (sym l.ends) ∙ sym l.whole in
         subst (λ (b : List ℕ). Program i.target f instrs b) all l.read
 
+behind_bytes : (front : List ℕ) (code : ℕ) (operands : List ℕ) → AreBytes (front ++ code ∷ operands) → AreBytes operands
+behind_bytes front code operands h = λ k.
+    let e = get_or-append-add front (code ∷ operands) (suc k) 0 in omega (arith, h (length front + suc k))
+
+stuck_program : (f : Factors) (i : Input) (instrs : List Instr) (r : Refusal) → AreBytes i.bytes → (front rest : List ℕ) → i.bytes ≡ front ++ rest → Program i.target f instrs front
+    → 0 < length rest → instr_at f (input (i.at + length front) rest i.target) ≡ Err r → ProgramFault i.target f i.at i.bytes instrs r
+stuck_program f i instrs r h front [] whole read some stuck = absurd (omega (arith, some))
+stuck_program f i instrs r h front (code ∷ operands) whole read some stuck =
+    let are = behind_bytes front code operands (subst AreBytes whole h) in
+    record { front = front; code = code; operands = operands; whole = whole; read = read; fault = stuck_fault f i.target (i.at + length front) code operands r are stuck }
+
 -- the same of the fault
 pub fault_listed : (f : Factors) (i : Input) (instrs : List Instr) (r : Refusal) → AreBytes i.bytes → ProgramFault i.target f i.at i.bytes instrs r ↔ listing f i ≡ faulty instrs r
 fault_listed f i instrs r h = (to, back)
@@ -193,12 +206,12 @@ fault_listed f i instrs r h = (to, back)
     to : ProgramFault i.target f i.at i.bytes instrs r → listing f i ≡ faulty instrs r
     to p =
         subst (λ (l : List ℕ). listing f (input i.at l i.target) ≡ faulty instrs r) (sym p.whole)
-        (one_listing f i.target instrs (Some r) i.at p.front p.rest (subst AreBytes p.whole h) p.read (p.some, p.stuck))
+        (one_listing f i.target instrs (Some r) i.at p.front (p.code ∷ p.operands) (subst AreBytes p.whole h) p.read (omega arith, fault_stuck f i.target (i.at + length p.front) p.code p.operands r p.fault))
 
     back : listing f i ≡ faulty instrs r → ProgramFault i.target f i.at i.bytes instrs r
     back e =
         let l = listed_as f i (faulty instrs r) h e in
-        record { front = l.front; rest = l.rest; whole = l.whole; read = l.read; some = l.ends.0; stuck = l.ends.1 }
+        stuck_program f i instrs r h l.front l.rest l.whole l.read l.ends.0 l.ends.1
 
 -- ---- an iterator
 

@@ -14,9 +14,9 @@ use Rattle.dw_cfa.specs.declared.instr.Factors.{Factors}
 use Rattle.dw_cfa.specs.declared.instr.Instr.{Instr}
 use Rattle.dw_cfa.specs.declared.instr.Instr.TheVariants.{SetLoc}
 use Rattle.dw_cfa.specs.InstrSpells.{InstrSpells}
-use Rattle.dw_cfa.specs.Reading.{instr_at}
+use Rattle.dw_cfa.specs.Inner.Reading.{instr_at}
 use Rattle.dw_cfa.specs.Inner.Steps.{InLimit}
-use Rattle.dw_cfa.specs.Runs.{Placing, place_of, placed}
+use Rattle.dw_cfa.specs.Inner.Runs.{Placing, place_of, placed}
 use Rattle.dw_op.specs.Walks.{ended, put, on_left, walked_by}
 use Rattle.dw_cfa.proofs.Spellings.{IsSpelled, by_table}
 use Rattle.dw_cfa.proofs.InstrLaws.{instr_found}

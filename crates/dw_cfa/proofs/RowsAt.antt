@@ -11,8 +11,9 @@ use Rattle.dw_cfa.specs.declared.instr.Instr.TheVariants.{SetLoc, Advance, Resto
 use Rattle.dw_cfa.specs.declared.running.LocatedRow.{LocatedRow}
 use Rattle.dw_cfa.specs.Location.{onto, location_back, moves_location}
 use Rattle.dw_cfa.specs.Rows.{Rules}
-use Rattle.dw_cfa.specs.Machine.{State, after, popped, fde_fault}
-use Rattle.dw_cfa.specs.Runs.{Placed, Outcome, finished, here, row_if, fault_or, last_row, fde_rows}
+use Rattle.dw_cfa.specs.Inner.Machine.{State, after, popped, fde_fault}
+use Rattle.dw_cfa.specs.Inner.Runs.{Placed, here, row_if, fault_or, last_row, fde_rows}
+use Rattle.dw_cfa.specs.Runs.{Outcome, finished}
 use Rattle.dw_cfa.specs.RuleAt.{last_at, NeverFalls, CountsFrom}
 use Rattle.dw_cfa.proofs.Forward.{Follows, Holds, after_follows}
 

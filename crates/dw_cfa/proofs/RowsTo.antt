@@ -9,11 +9,12 @@ use Rattle.dw_cfa.specs.declared.machine.Machine.{Machine}
 use Rattle.dw_cfa.specs.declared.running.LocatedRow.{LocatedRow}
 use Rattle.dw_cfa.specs.RuleAt.{or_here, last_at, NeverFalls}
 use Rattle.dw_cfa.specs.Rows.{Rules}
-use Rattle.dw_cfa.specs.Runs.{Outcome, finished, row_then, rows_left}
+use Rattle.dw_cfa.specs.Runs.{Outcome, finished, row_then}
+use Rattle.dw_cfa.specs.Inner.Runs.{rows_left}
 use Rattle.dw_cfa.proofs.RowsAt.{none_at}
-use Rattle.dw_cfa.specs.Runs.{RanTo, here}
+use Rattle.dw_cfa.specs.Inner.Runs.{RanTo, here}
 use Rattle.dw_cfa.specs.Inner.Steps.{state_of}
-use Rattle.dw_cfa.specs.Walking.{AllSpecify}
+use Rattle.dw_cfa.specs.Inner.Walking.{AllSpecify}
 use Rattle.dw_cfa.proofs.RunSteps.{rows_end}
 use Rattle.dw_cfa.proofs.RunLaws.{left_starts, some_rows_left}
 

@@ -1,5 +1,5 @@
 -- The laws of rows.
-use Rattle.std.proofs.Common.{◌≡◌, ◌⊎◌, ℕ, zero, suc, Bool, true, false, List, [], ◌∷◌, length, Option, Some, None, Result, Ok, Err, refl, sym, ap, ◌∙◌, subst, inl, inr, arith}
+use Rattle.std.proofs.Common.{◌≡◌, ◌⊎◌, ℕ, zero, suc, ◌≤◌, Bool, true, false, List, [], ◌∷◌, length, Option, Some, None, Result, Ok, Err, refl, sym, ap, ◌∙◌, subst, inl, inr, arith}
 use Rattle.dw_num.specs.declared.refusal.Refusal.{Refusal}
 use Rattle.dw_num.specs.Target.{address_limit}
 use Rattle.dw_num.specs.Input.{Input, AreBytes}
@@ -15,17 +15,22 @@ use Rattle.dw_cfa.specs.Location.{onto, moves_location}
 use Rattle.dw_cfa.specs.Column.{cfa_after, rule_after}
 use Rattle.dw_cfa.specs.Rows.{Rules, blank}
 use Rattle.dw_cfa.specs.Listing as plain
-use Rattle.dw_cfa.specs.Machine.{State, begun, after, fde_fault}
-use Rattle.dw_cfa.specs.Reading.{instr_at}
-use Rattle.dw_cfa.specs.Runs.{Placed, Placing, Outcome, finished, placed, initial_row, on_initial, fde_rows, rows_left, rows_behind, run_rows, last_row, fault_or, row_if}
+use Rattle.dw_cfa.specs.Inner.Listing.{listing}
+use Rattle.dw_cfa.specs.Inner.Machine.{State, begun, after, fde_fault}
+use Rattle.dw_cfa.specs.Inner.Reading.{instr_at}
+use Rattle.dw_cfa.specs.Inner.Runs.{Placed, Placing, placed, initial_row, on_initial, fde_rows, rows_left, rows_behind, run_rows, last_row, fault_or, row_if}
+use Rattle.dw_cfa.specs.Runs.{Outcome, finished}
 use Rattle.dw_op.specs.Walks.{ended, put, on_read, on_left, walked_by}
 use Rattle.dw_cfa.specs.declared.machine.Machine.{Machine}
 use Rattle.dw_cfa.specs.Inner.Steps.{state_of}
 use Rattle.dw_cfa.specs.declared.steps.Progress.{Progress}
 use Rattle.dw_cfa.specs.declared.steps.Progress.TheVariants as progress
-use Rattle.dw_cfa.specs.Stepping.{Stepping, begun_rows, left_of}
-use Rattle.dw_cfa.specs.Laws.{HoldsAfter, GivenPrograms, NoneFalls, LastHolds}
-use Rattle.dw_cfa.specs.RuleAt.{CountsFrom}
+use Rattle.dw_cfa.specs.Stepping.{Stepping}
+use Rattle.dw_cfa.specs.Inner.Stepping.{begun_rows, left_of}
+use Rattle.dw_cfa.specs.Laws.{HoldsAfter}
+use Rattle.dw_cfa.specs.Inner.Exact.{RowsOf}
+use Rattle.dw_cfa.specs.Location.{Counts}
+use Rattle.dw_cfa.specs.RuleAt.{CountsFrom, last_at, NeverFalls}
 use Rattle.dw_cfa.proofs.Listings.{listing_by, program_listed}
 use Rattle.dw_cfa.proofs.Placings.{placed_by, after_item}
 use Rattle.dw_cfa.proofs.Forward.{Follows, Holds, begun_follows}
@@ -49,8 +54,8 @@ unfolding walked_by
 same_by f zero i = refl
 same_by f (suc n) i = same_read f n i i.bytes (instr_at f i) (λ x. same_by f n x.1)
 
-pub same_listing : (f : Factors) (i : Input) → plain.listing f i ≡ plain_of (placed f i)
-unfolding plain.listing placed
+pub same_listing : (f : Factors) (i : Input) → listing f i ≡ plain_of (placed f i)
+unfolding listing placed
 same_listing f i = same_by f (length i.bytes) i
 
 -- a program is read to its end, and what is read to its end is a program
@@ -116,12 +121,7 @@ unfolding run_rows rows_behind
 run_halves f cie fde begin rows e =
     on_initial_ok (initial_row (placed f cie) blank) (λ initial. fde_rows (address_limit fde.target.size) initial (placed f fde).items (placed f fde).fault (begun initial begin)) rows e
 
-pub given_programs : GivenPrograms
-given_programs f cie fde begin rows h =
-    let g = given f cie fde begin rows h.given in
-    (instrs_of (placed f cie).items, instrs_of (placed f fde).items, placed_program f cie h.cie_bytes g.cie_end, placed_program f fde h.fde_bytes g.fde_end)
-
-pub none_falls : NoneFalls
+pub none_falls : (f : Factors) (cie fde : Input) (begin : ℕ) (rows : List LocatedRow) → RowsOf f cie fde begin rows → NeverFalls begin rows
 none_falls f cie fde begin rows h =
     let g = given f cie fde begin rows h.given in
     never_falls (address_limit fde.target.size) g.initial (placed f fde).items (begun g.initial begin) rows begin (omega arith) g.gives
@@ -134,7 +134,9 @@ held cie fde k initial row from h = record {
   listed = h.listed;
 }
 
-pub last_holds : LastHolds
+pub last_holds : (f : Factors) (cie fde : Input) (begin : ℕ) (rows : List LocatedRow) → RowsOf f cie fde begin rows
+    → (ci fi : List Instr) → Program cie.target f ci cie.bytes → Program fde.target f fi fde.bytes → (a k : ℕ) → begin ≤ a → Counts begin fi a k
+    → (row : Rules) × (last_at a rows ≡ Some row) × HoldsAfter ci fi k row
 last_holds f cie fde begin rows h ci fi cie_is fde_is a k le counts =
     let g = given f cie fde begin rows h.given in
     let c = (program_placed f cie ci h.cie_bytes cie_is).0 in

@@ -18,14 +18,15 @@ use Rattle.dw_cfa.specs.declared.machine.StepError.{StepError}
 use Rattle.dw_cfa.specs.declared.machine.StepError.TheVariants as step
 use Rattle.dw_cfa.specs.Location.{moves_location}
 use Rattle.dw_cfa.specs.Kept.{in_cie}
-use Rattle.dw_cfa.specs.Reading.{instr_at}
+use Rattle.dw_cfa.specs.Inner.Reading.{instr_at}
 use Rattle.dw_cfa.specs.Rows.{Rules, blank}
 use Rattle.dw_cfa.specs.declared.rule.RegRule.{RegRule}
-use Rattle.dw_cfa.specs.Stepping.{begun_rows}
-use Rattle.dw_cfa.specs.Machine.{State, begun, written, after, half_fault, fde_fault, FaultIs}
+use Rattle.dw_cfa.specs.Inner.Stepping.{begun_rows}
+use Rattle.dw_cfa.specs.Inner.Machine.{State, begun, written, after, half_fault, fde_fault, FaultIs}
 use Rattle.dw_cfa.specs.Inner.States.{Held, BeganWith}
 use Rattle.dw_cfa.specs.Inner.Steps.{state_of, IsAfter}
-use Rattle.dw_cfa.specs.Runs.{Placing, placed, cie_run, initial_row, on_initial, Outcome, fails, finished, row_then, here, row_if, fault_or, fde_rows, rows_left, rows_behind, run_rows, RunsSo, run_error, RanTo, WroteTo}
+use Rattle.dw_cfa.specs.Inner.Runs.{Placing, placed, cie_run, initial_row, on_initial, here, row_if, fault_or, fde_rows, rows_left, rows_behind, run_rows, RunsSo, run_error, RanTo, WroteTo}
+use Rattle.dw_cfa.specs.Runs.{Outcome, fails, finished, row_then}
 use Rattle.dw_cfa.proofs.Placings.{reads, placed_end, placed_step, placed_stuck}
 
 rows_of : ℕ → Rules → Placing → State → Outcome

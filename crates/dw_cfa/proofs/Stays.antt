@@ -20,15 +20,18 @@ use Rattle.dw_cfa.specs.declared.steps.Progress.{Progress}
 use Rattle.dw_cfa.specs.declared.steps.Progress.TheVariants as progress
 use Rattle.dw_cfa.specs.declared.walking.Leading.{Leading}
 use Rattle.dw_cfa.specs.Location.{moves_location}
-use Rattle.dw_cfa.specs.Machine.{State, after, fde_fault}
+use Rattle.dw_cfa.specs.Inner.Machine.{State, after, fde_fault}
 use Rattle.dw_cfa.specs.Narrowing.{is_kept, kept}
-use Rattle.dw_cfa.specs.Reading.{instr_at}
+use Rattle.dw_cfa.specs.Inner.Reading.{instr_at}
 use Rattle.dw_cfa.specs.Rows.{Rules, is_specified, listed, put, rule, rule_in}
 use Rattle.dw_op.specs.Walks.{ended, on_read, on_left, walked_by}
-use Rattle.dw_cfa.specs.Runs.{GivesRow, Outcome, Placed, Placing, fault_or, fde_rows, finished, last_row, placed, row_if, row_then, rows_left}
-use Rattle.dw_cfa.specs.Stepping.{Stepping, progress_after}
+use Rattle.dw_cfa.specs.Inner.Runs.{GivesRow, Placed, Placing, fault_or, fde_rows, last_row, placed, row_if, rows_left}
+use Rattle.dw_cfa.specs.Runs.{Outcome, finished, row_then}
+use Rattle.dw_cfa.specs.Stepping.{Stepping}
+use Rattle.dw_cfa.specs.Inner.Stepping.{progress_after}
 use Rattle.dw_cfa.specs.Inner.Steps.{state_of}
-use Rattle.dw_cfa.specs.Walking.{AllKeep, AllSpecify, Specifies, WalkKeeps, walk_of}
+use Rattle.dw_cfa.specs.Walking.{AllKeep}
+use Rattle.dw_cfa.specs.Inner.Walking.{AllSpecify, Specifies, WalkKeeps, walk_of}
 use Rattle.dw_cfa.proofs.InstrLaws.{instr_found}
 use Rattle.dw_cfa.proofs.Narrowed.{left_too}
 use Rattle.dw_cfa.proofs.Placings.{after_item, placed_by, reads}

@@ -1,13 +1,14 @@
 -- Where the run of a program stops with a refusal: at an instruction, or behind all that can be read.
-use Rattle.std.proofs.Common.{◌≡◌, ◌⊎◌, ℕ, Bool, true, false, List, [], ◌∷◌, ◌++◌, length, Option, Some, None, Result, Ok, Err, refl, sym, ap, ◌∙◌, inl, inr}
+use Rattle.std.proofs.Common.{◌≡◌, ◌⊎◌, ℕ, Bool, true, false, List, [], ◌∷◌, ◌++◌, length, Option, Some, None, Result, Ok, Err, refl, sym, ap, subst, ◌∙◌, inl, inr}
 use Rattle.dw_num.specs.declared.refusal.Code.{Code}
 use Rattle.dw_num.specs.declared.refusal.Refusal.{Refusal}
 use Rattle.dw_cfa.specs.declared.instr.Instr.{Instr}
 use Rattle.dw_cfa.specs.declared.running.LocatedRow.{LocatedRow}
 use Rattle.dw_cfa.specs.Location.{onto, moves_location}
 use Rattle.dw_cfa.specs.Rows.{Rules}
-use Rattle.dw_cfa.specs.Machine.{State, after, written, cie_fault, fde_fault}
-use Rattle.dw_cfa.specs.Runs.{Placed, Outcome, here, row_if, fault_or, fde_rows, refused_at, cie_run}
+use Rattle.dw_cfa.specs.Inner.Machine.{State, after, written, cie_fault, fde_fault}
+use Rattle.dw_cfa.specs.Inner.Runs.{Placed, here, row_if, fault_or, fde_rows, refused_at, cie_run}
+use Rattle.dw_cfa.specs.Runs.{Outcome}
 use Rattle.dw_cfa.proofs.Initial.{refused_none, end_none}
 use Rattle.dw_cfa.proofs.KeptRuns.{Stands, AllInLimit, stands_after, next_gives, put_first}
 use Rattle.dw_cfa.proofs.RowsAt.{instrs_of, Gives}
@@ -106,19 +107,25 @@ refused_here : (limit : ℕ) (initial : Rules) (item : Placed) (items : List Pla
 unfolding fde_rows
 refused_here limit initial item items fault s r is place = rw is (ap Some (sym (refusal_is r r.code item.at refl place)))
 
-pub refused_at_item : (limit : ℕ) (initial : Rules) (before : List Placed) (item : Placed) (rest : List Placed) (fault : Option Refusal) (s : State) (r : Refusal) (rows : List LocatedRow) → Gives limit initial before s rows
+refused_at_item : (limit : ℕ) (initial : Rules) (before : List Placed) (item : Placed) (rest : List Placed) (fault : Option Refusal) (s : State) (r : Refusal) (rows : List LocatedRow) → Gives limit initial before s rows
     → fde_fault limit item.instr (ends initial before s) ≡ Some r.code → r.at ≡ item.at → (fde_rows limit initial (before ++ item ∷ rest) fault s).fault ≡ Some r
 refused_at_item limit initial [] item rest fault s r rows e is place = refused_here limit initial item rest fault s r is place
 refused_at_item limit initial (p ∷ before) item rest fault s r rows e is place =
     let next = next_gives limit initial p before s rows e in
     refused_later limit initial p (before ++ item ∷ rest) fault s r next.0 (refused_at_item limit initial before item rest fault (after initial p.instr s) r next.1.0 next.1.1 is place)
 
-pub refused_behind : (limit : ℕ) (initial : Rules) (items : List Placed) (s : State) (r : Refusal) (rows : List LocatedRow) → Gives limit initial items s rows → (fde_rows limit initial items (Some r) s).fault ≡ Some r
+refused_behind : (limit : ℕ) (initial : Rules) (items : List Placed) (s : State) (r : Refusal) (rows : List LocatedRow) → Gives limit initial items s rows → (fde_rows limit initial items (Some r) s).fault ≡ Some r
 unfolding fde_rows
 refused_behind limit initial [] s r rows e = refl
 refused_behind limit initial (item ∷ items) s r rows e =
     let next = next_gives limit initial item items s rows e in
     refused_later limit initial item items (Some r) s r next.0 (refused_behind limit initial items (after initial item.instr s) r next.1.0 next.1.1)
+
+pub stopped : (limit : ℕ) (initial : Rules) (items : List Placed) (fault : Option Refusal) (s : State) (r : Refusal) → Stops limit initial items fault s r → (fde_rows limit initial items fault s).fault ≡ Some r
+stopped limit initial items fault s r (inl d) =
+    subst (λ (l : List Placed). (fde_rows limit initial l fault s).fault ≡ Some r) (sym d.whole) (refused_at_item limit initial d.before d.item d.after fault s r d.rows d.gives d.fault d.place)
+stopped limit initial items fault s r (inr d) =
+    subst (λ (o : Option Refusal). (fde_rows limit initial items o s).fault ≡ Some r) (sym d.is) (refused_behind limit initial items s r d.rows d.gives)
 
 -- ---- a CIE's program
 

@@ -12,9 +12,10 @@ use Rattle.dw_cfa.specs.declared.machine.End.{End}
 use Rattle.dw_cfa.specs.declared.machine.End.TheVariants as ends
 use Rattle.dw_cfa.specs.Location.{moves_location}
 use Rattle.dw_cfa.specs.Operands.{opcode_of}
-use Rattle.dw_cfa.specs.Reading.{known_at, instr_at}
+use Rattle.dw_cfa.specs.Inner.Reading.{known_at, instr_at}
 use Rattle.dw_cfa.specs.Inner.ByOpcode.{operands_at}
-use Rattle.dw_cfa.specs.Runs.{fails, rows_left, RunsSo, RanTo}
+use Rattle.dw_cfa.specs.Runs.{fails}
+use Rattle.dw_cfa.specs.Inner.Runs.{rows_left, RunsSo, RanTo}
 use Rattle.dw_cfa.specs.Inner.Turns.{Applied, Turned}
 use Rattle.dw_cfa.proofs.Tabled.{opened}
 use Rattle.dw_cfa.proofs.RunSteps.{rows_read, rows_stuck, rows_fault, rows_ran}

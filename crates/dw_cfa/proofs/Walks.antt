@@ -14,10 +14,12 @@ use Rattle.dw_cfa.specs.declared.steps.Progress.TheVariants as progress
 use Rattle.dw_cfa.specs.declared.walking.Leading.{Leading}
 use Rattle.dw_cfa.specs.InstrSpells.{Program}
 use Rattle.dw_cfa.specs.Rows.{Rules, blank}
-use Rattle.dw_cfa.specs.Runs.{Outcome, RunsSo, finished, fde_rows, initial_row, on_initial, placed, rows_left, run_rows}
-use Rattle.dw_cfa.specs.Machine.{begun}
-use Rattle.dw_cfa.specs.Stepping.{Stepping, begun_rows, program_input}
-use Rattle.dw_cfa.specs.Walking.{Readied, led_rows, walk_of}
+use Rattle.dw_cfa.specs.Runs.{Outcome, finished}
+use Rattle.dw_cfa.specs.Inner.Runs.{RunsSo, fde_rows, initial_row, on_initial, placed, rows_left, run_rows}
+use Rattle.dw_cfa.specs.Inner.Machine.{begun}
+use Rattle.dw_cfa.specs.Stepping.{Stepping, program_input}
+use Rattle.dw_cfa.specs.Inner.Stepping.{begun_rows}
+use Rattle.dw_cfa.specs.Inner.Walking.{Readied, led_rows, walk_of}
 use Rattle.dw_cfa.proofs.FaultLaws.{initial_leaves, leaves_initial}
 use Rattle.dw_cfa.proofs.RunLaws.{begun_starts, left_starts, some_begun_left, some_rows_left}
 use Rattle.dw_cfa.proofs.RunSteps.{begun_is_run}

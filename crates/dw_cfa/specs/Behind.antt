@@ -1,21 +1,23 @@
 -- The two halves of a run by themselves: the row that a CIE's program leaves, and the rows of an FDE's program behind it.
--- DWARF 5, 6.4.3. A layer that runs a CIE's program once for many FDEs goes by these.
-use Rattle.std.specs.Prelude.{◌≡◌, ℕ, ◌≤◌, List, length, Some, None, Ok, Err, ◌↔◌}
+-- DWARF 5, 6.4.3. A row ends before each instruction that moves the location, and the last one behind the last
+-- instruction. It starts at the location there, and holds the rules there.
+use Rattle.std.specs.Prelude.{◌≡◌, ℕ, suc, List, [], ◌∷◌, map, Option, Some, None, Result, Ok, Err, if◌then◌else◌}
 use Rattle.dw_num.specs.declared.refusal.Refusal.{Refusal}
 use Rattle.dw_num.specs.Target.{address_limit}
-use Rattle.dw_num.specs.Input.{Input, AreBytes}
+use Rattle.dw_num.specs.Input.{Input}
 use Rattle.dw_cfa.specs.declared.instr.Factors.{Factors}
 use Rattle.dw_cfa.specs.declared.instr.Instr.{Instr}
 use Rattle.dw_cfa.specs.declared.running.LocatedRow.{LocatedRow}
 use Rattle.dw_cfa.specs.InstrSpells.{Program}
-use Rattle.dw_cfa.specs.Location.{Counts, row_starts}
+use Rattle.dw_cfa.specs.Location.{location, moves_location}
 use Rattle.dw_cfa.specs.Column.{cfa_after, rule_after}
 use Rattle.dw_cfa.specs.Kept.{CieKept, FdeKept}
 use Rattle.dw_cfa.specs.Laws.{initial_cfa, initial_rule}
-use Rattle.dw_cfa.specs.Rows.{Rules, AreSpecified, rule, blank}
-use Rattle.dw_cfa.specs.RuleAt.{last_at, NeverFalls}
-use Rattle.dw_cfa.specs.Runs.{placed, initial_row, rows_behind}
-use Rattle.dw_cfa.specs.Faults.{CieFault, FdeFault}
+use Rattle.dw_cfa.specs.Rows.{Rules, AreSpecified, rule}
+use Rattle.dw_cfa.specs.Runs.{Outcome}
+use Rattle.dw_cfa.specs.Faults.{CieFault, FdeFaultBehind}
+
+-- ---- a CIE's program
 
 -- a program of a CIE that keeps its rules, and the row that it leaves
 pub record Leaves (f : Factors) (cie : Input) (instrs : List Instr) (row : Rules) : Type 0 where
@@ -25,48 +27,59 @@ pub record Leaves (f : Factors) (cie : Input) (instrs : List Instr) (row : Rules
   pub rules : (r : ℕ) → rule row r ≡ initial_rule instrs r
   pub listed : AreSpecified 0 row.registers
 
+-- the row that it leaves, or its first fault
+abbrev pub LeavesTo : Factors → Input → Result Rules Refusal → Type 0
+LeavesTo f cie (Ok row) = (instrs : List Instr) × Leaves f cie instrs row
+LeavesTo f cie (Err r) = CieFault f cie r
+
+-- ---- an FDE's program
+
+-- after how many instructions rows end: before each that moves the location, and then `last`, behind all
+abbrev pub ends : List ℕ → List Instr → List ℕ
+ends last [] = last
+ends last (i ∷ instrs) = if moves_location i then 0 ∷ map suc (ends last instrs) else map suc (ends last instrs)
+
+-- of a program that is run to its end, and of one that is refused behind these instructions, which ends no row
+abbrev pub row_ends : List Instr → List ℕ
+row_ends instrs = ends (0 ∷ []) instrs
+
+abbrev pub ends_before_fault : List Instr → List ℕ
+ends_before_fault instrs = ends [] instrs
+
 -- the row has in each column the rule after k instructions that begin with the initial row
 pub record HoldsBehind (initial : Rules) (instrs : List Instr) (k : ℕ) (row : Rules) : Type 0 where
   pub cfa : row.cfa ≡ cfa_after initial.cfa instrs k
   pub rules : (r : ℕ) → rule row r ≡ rule_after (rule initial r) instrs r k
   pub listed : AreSpecified 0 row.registers
 
--- a program of an FDE that keeps its rules, and the rows that it gives
-pub record GivesBehind (f : Factors) (initial : Rules) (fde : Input) (begin : ℕ) (instrs : List Instr) (rows : List LocatedRow) : Type 0 where
+-- a row that ends after k instructions
+pub record IsRowAfter (initial : Rules) (begin : ℕ) (instrs : List Instr) (k : ℕ) (row : LocatedRow) : Type 0 where
+  pub location : row.location ≡ location begin instrs k
+  pub holds : HoldsBehind initial instrs k row.row
+
+-- rows that end after so many instructions each
+abbrev pub AreRowsAfter : Rules → ℕ → List Instr → List ℕ → List LocatedRow → Type 0
+AreRowsAfter initial begin instrs [] [] = Unit {0}
+AreRowsAfter initial begin instrs (k ∷ ks) (row ∷ rows) = IsRowAfter initial begin instrs k row × AreRowsAfter initial begin instrs ks rows
+AreRowsAfter initial begin instrs ks rows = ⊥
+
+-- a program of an FDE that keeps its rules, and the rows that it gives behind an initial row
+pub record GivesBehind (f : Factors) (initial : Rules) (fde : Input) (begin : ℕ) (rows : List LocatedRow) : Type 0 where
+  pub instrs : List Instr
   pub program : Program fde.target f instrs fde.bytes
   pub kept : FdeKept (address_limit fde.target.size) begin initial.cfa instrs
-  pub starts : length rows ≡ row_starts instrs
-  pub never_falls : NeverFalls begin rows
-  -- the last row that starts at or below an address holds the rules at that address
-  pub holds : (a k : ℕ) → begin ≤ a → Counts begin instrs a k → (row : Rules) × (last_at a rows ≡ Some row) × HoldsBehind initial instrs k row
+  pub each : AreRowsAfter initial begin instrs (row_ends instrs) rows
 
--- ---- what is so
+-- one that is refused, and the rows before that
+pub record GivesBefore (f : Factors) (initial : Rules) (fde : Input) (begin : ℕ) (r : Refusal) (rows : List LocatedRow) : Type 0 where
+  pub instrs : List Instr
+  pub fault : FdeFaultBehind f initial.cfa fde begin instrs r
+  pub each : AreRowsAfter initial begin instrs (ends_before_fault instrs) rows
 
--- a CIE's program that leaves a row is one that keeps its rules
-abbrev pub InitialLeaves : Type 0
-InitialLeaves = (f : Factors) (cie : Input) (row : Rules) → AreBytes cie.bytes → initial_row (placed f cie) blank ≡ Ok row → (instrs : List Instr) × Leaves f cie instrs row
+abbrev pub GivesUpTo : Factors → Rules → Input → ℕ → Option Refusal → List LocatedRow → Type 0
+GivesUpTo f initial fde begin None rows = GivesBehind f initial fde begin rows
+GivesUpTo f initial fde begin (Some r) rows = GivesBefore f initial fde begin r rows
 
--- and the other way round
-abbrev pub LeavesInitial : Type 0
-LeavesInitial = (f : Factors) (cie : Input) (instrs : List Instr) → AreBytes cie.bytes → Program cie.target f instrs cie.bytes → CieKept instrs
-    → (row : Rules) × (initial_row (placed f cie) blank ≡ Ok row) × Leaves f cie instrs row
-
--- its refusal is the first fault
-abbrev pub InitialRefused : Type 0
-InitialRefused = (f : Factors) (cie : Input) (r : Refusal) → AreBytes cie.bytes → (initial_row (placed f cie) blank ≡ Err r) ↔ CieFault f cie r
-
--- an FDE's program that gives rows is one that keeps its rules
-abbrev pub BehindGives : Type 0
-BehindGives = (f : Factors) (initial : Rules) (fde : Input) (begin : ℕ) (rows : List LocatedRow) → AreBytes fde.bytes → AreSpecified 0 initial.registers → begin ≤ address_limit fde.target.size
-    → rows_behind f initial fde begin ≡ record { rows = rows; fault = None } → (instrs : List Instr) × GivesBehind f initial fde begin instrs rows
-
--- and the other way round
-abbrev pub GivesRows : Type 0
-GivesRows = (f : Factors) (initial : Rules) (fde : Input) (begin : ℕ) (instrs : List Instr) → AreBytes fde.bytes → AreSpecified 0 initial.registers → begin ≤ address_limit fde.target.size
-    → Program fde.target f instrs fde.bytes → FdeKept (address_limit fde.target.size) begin initial.cfa instrs
-    → (rows : List LocatedRow) × (rows_behind f initial fde begin ≡ record { rows = rows; fault = None }) × GivesBehind f initial fde begin instrs rows
-
--- its refusal is the first fault
-abbrev pub BehindRefused : Type 0
-BehindRefused = (f : Factors) (initial : Rules) (fde : Input) (begin : ℕ) (r : Refusal) → AreBytes fde.bytes → AreSpecified 0 initial.registers → begin ≤ address_limit fde.target.size
-    → ((rows_behind f initial fde begin).fault ≡ Some r) ↔ FdeFault f initial.cfa fde begin r
+-- all rows of a program, or its first fault and the rows before that
+abbrev pub RunsBehind : Factors → Rules → Input → ℕ → Outcome → Type 0
+RunsBehind f initial fde begin o = GivesUpTo f initial fde begin o.fault o.rows

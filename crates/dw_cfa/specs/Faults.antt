@@ -1,10 +1,10 @@
 -- The first fault of two programs: DWARF 5, 6.4.2 and 6.4.3. The CIE's program is judged first, each from its front: the
 -- longest beginning of instructions that keep the rules, and the fault of what follows it.
-use Rattle.std.specs.Prelude.{◌≡◌, ◌⊎◌, ℕ, ◌+◌, ◌<◌, List, ◌++◌, length, IsTrue, not, Some, ◌≤◌, ◌↔◌}
+use Rattle.std.specs.Prelude.{◌≡◌, ◌⊎◌, ℕ, ◌+◌, ◌<◌, List, ◌++◌, length, IsTrue, not}
 use Rattle.dw_num.specs.declared.refusal.Code.{Code}
 use Rattle.dw_num.specs.declared.refusal.Code.TheVariants.{NotInCie, LocationBackwards, LocationTooLarge, EmptyStateStack, StateStackFull, CfaNotRegister}
 use Rattle.dw_num.specs.declared.refusal.Refusal.{Refusal}
-use Rattle.dw_num.specs.Input.{Input, AreBytes}
+use Rattle.dw_num.specs.Input.{Input}
 use Rattle.dw_num.specs.Target.{address_limit}
 use Rattle.dw_cfa.specs.declared.instr.Factors.{Factors}
 use Rattle.dw_cfa.specs.declared.instr.Instr.{Instr}
@@ -17,7 +17,6 @@ use Rattle.dw_cfa.specs.Location.{location}
 use Rattle.dw_cfa.specs.Column.{cfa_after}
 use Rattle.dw_cfa.specs.Kept.{in_cie, keeps_half, IsRegisterRule, remembers, restores, CieKept, FdeKept}
 use Rattle.dw_cfa.specs.Laws.{initial_cfa}
-use Rattle.dw_cfa.specs.Runs.{run_rows}
 
 -- half of the CFA's rule is kept, and that rule is no register and offset
 abbrev pub BreaksHalf : CfaRule → Instr → Code → Type 0
@@ -67,8 +66,3 @@ FdeFault f initial fde begin r = (instrs : List Instr) × FdeFaultBehind f initi
 abbrev pub RunFault : Factors → Input → Input → ℕ → Refusal → Type 0
 RunFault f cie fde begin r =
     CieFault f cie r ⊎ ((instrs : List Instr) × Program cie.target f instrs cie.bytes × CieKept instrs × FdeFault f (initial_cfa instrs) fde begin r)
-
--- a run is refused exactly with the first fault
-abbrev pub RefusedWhereFault : Type 0
-RefusedWhereFault = (f : Factors) (cie fde : Input) (begin : ℕ) (r : Refusal) → AreBytes cie.bytes → AreBytes fde.bytes → begin ≤ address_limit fde.target.size
-    → ((run_rows f cie fde begin).fault ≡ Some r) ↔ RunFault f cie fde begin r

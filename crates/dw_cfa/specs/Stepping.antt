@@ -1,18 +1,13 @@
 -- Rows given one at a time.
-use Rattle.std.specs.Prelude.{◌≡◌, ◌⊎◌, ℕ, List, [], ◌++◌, Option, Some, None, Result, Ok, Err, Bool, if◌then◌else◌}
+use Rattle.std.specs.Prelude.{◌≡◌, ◌⊎◌, ℕ, Option, Some, None, Result, Ok, Err}
 use Rattle.dw_num.specs.declared.program.Program.{Program}
 use Rattle.dw_num.specs.declared.target.Target.{Target}
 use Rattle.dw_num.specs.Input.{Input}
 use Rattle.dw_num.specs.declared.error.ReadError.{ReadError}
 use Rattle.dw_num.specs.Refusals.{Refuses}
-use Rattle.dw_cfa.specs.declared.instr.Factors.{Factors}
-use Rattle.dw_cfa.specs.declared.machine.Machine.{Machine}
 use Rattle.dw_cfa.specs.declared.running.LocatedRow.{LocatedRow}
-use Rattle.dw_cfa.specs.declared.steps.Progress.{Progress}
-use Rattle.dw_cfa.specs.declared.steps.Progress.TheVariants as progress
-use Rattle.dw_cfa.specs.Machine.{begun}
 use Rattle.dw_cfa.specs.Rows.{Rules}
-use Rattle.dw_cfa.specs.Runs.{Outcome, finished, fails, row_then, placed, initial_row, on_initial, fde_rows, rows_left, RunsSo}
+use Rattle.dw_cfa.specs.Runs.{Outcome, finished, fails, row_then}
 
 -- the rows still to come, the row that is lent, and the error that was answered, after which it is answered again
 pub record Stepping : Type 0 where
@@ -48,30 +43,3 @@ abbrev pub Answers : Stepping → Result (Option LocatedRow) ReadError → Stepp
 Answers old (Ok None) new = Ended old new
 Answers old (Ok (Some row)) new = (old.error ≡ None) × (new.error ≡ None) × (old.outcome ≡ row_then row new.outcome) × (new.current ≡ row.row)
 Answers old (Err e) new = Failed old e new
-
--- ---- how the code keeps it
-
--- the rows of a machine whose CIE's program is still to run
-unfoldable pub begun_rows : Factors → Input → Input → Machine → Outcome
-begun_rows f cie fde m =
-    on_initial (initial_row (placed f cie) m.states.row) (λ initial. fde_rows m.limit initial (placed f fde).items (placed f fde).fault (begun initial m.location))
-
-abbrev pub left_of : Progress → Factors → Input → Input → Machine → Stepping
-left_of progress.Begun f cie fde m = stepping m.states.row (begun_rows f cie fde m)
-left_of progress.Running f cie fde m = stepping m.states.row (rows_left f fde m)
-left_of progress.Finished f cie fde m = stepping m.states.row finished
-left_of (progress.Failed e) f cie fde m = record { outcome = finished; current = m.states.row; error = Some e }
-
-abbrev pub StandsSo : Progress → Input → Machine → Type 0
-StandsSo progress.Begun fde m = RunsSo m fde × (m.states.stack ≡ []) × (m.states.first ≡ None)
-StandsSo progress.Running fde m = RunsSo m fde
-StandsSo other fde m = Unit {0}
-
--- where a program stands behind the answer of a run up to the next row
-abbrev pub progress_after : Result (ℕ × Bool) ReadError → Progress
-progress_after (Ok x) = if x.1 then progress.Running else progress.Finished
-progress_after (Err e) = progress.Failed e
-
--- rows that come first
-abbrev pub rows_before : List LocatedRow → Outcome → Outcome
-rows_before rows o = record { rows = rows ++ o.rows; fault = o.fault }

@@ -1,72 +1,10 @@
--- Programs that are known to give rows, run one after another in one room.
-use Rattle.std.specs.Prelude.{◌≡◌, ℕ, Bool, IsTrue, List, Ok, None, []}
+-- Rows that leave no register Unspecified that a row specifies.
+use Rattle.std.specs.Prelude.{◌≡◌, List}
 use Rattle.std.specs.List.{AllByRecursion}
-use Rattle.dw_num.specs.Input.{Input}
-use Rattle.dw_cfa.specs.declared.machine.Machine.{Machine}
 use Rattle.dw_cfa.specs.declared.running.LocatedRow.{LocatedRow}
-use Rattle.dw_cfa.specs.declared.steps.Progress.{Progress}
-use Rattle.dw_cfa.specs.declared.steps.Progress.TheVariants as progress
-use Rattle.dw_cfa.specs.declared.walking.Leading.{Leading}
 use Rattle.dw_cfa.specs.Narrowing.{kept}
-use Rattle.dw_cfa.specs.Rows.{Rules, blank, is_specified, rule}
-use Rattle.dw_cfa.specs.Runs.{Outcome, RunsSo, initial_row, placed, rows_left, run_rows}
-use Rattle.dw_cfa.specs.Inner.States.{BeganWith}
-use Rattle.dw_cfa.specs.Stepping.{Stepping, left_of, program_input, stepping}
-
--- the rows of an FDE's program behind a CIE's
-abbrev pub led_rows : Leading → Input → ℕ → Outcome
-led_rows l fde begin = run_rows l.factors (program_input l.program l.target) fde begin
-
--- before its first row a walk runs both programs from their beginning
-abbrev pub walk_of : Progress → Leading → Input → Machine → Stepping
-walk_of progress.Begun l fde m = stepping m.states.row (led_rows l fde m.location)
-walk_of other l fde m = left_of other l.factors fde fde m
-
-abbrev pub WalkStands : Progress → Input → Machine → Type 0
-WalkStands progress.Begun fde m = RunsSo m fde
-WalkStands progress.Running fde m = RunsSo m fde
-WalkStands other fde m = BeganWith m.initial m.states.first
-
--- the machine has the initial row of a CIE
-abbrev pub HasInitial : Leading → Machine → Type 0
-HasInitial l m = initial_row (placed l.factors (program_input l.program l.target)) blank ≡ Ok m.initial
-
--- both run a CIE's program alike
-abbrev pub LeadsSame : Leading → Leading → Type 0
-LeadsSame l k = (m : Machine) → HasInitial l m → HasInitial k m
-
--- ---- what a CIE's program specifies stays so
-
--- it specifies every register that another row specifies
-abbrev pub Specifies : Rules → Rules → Type 0
-Specifies row other = (r : ℕ) → IsTrue (is_specified (rule other r)) → IsTrue (is_specified (rule row r))
-
-abbrev pub AllSpecify : Rules → List LocatedRow → Type 0
-AllSpecify other rows = AllByRecursion (λ (next : LocatedRow). Specifies next.row other) rows
+use Rattle.dw_cfa.specs.Rows.{Rules}
 
 -- none of these rows leaves a register Unspecified that a row specifies
 abbrev pub AllKeep : Rules → List LocatedRow → Type 0
 AllKeep row rows = AllByRecursion (λ (next : LocatedRow). kept row next.row ≡ row) rows
-
--- all rows that are left specify what the CIE's initial row specifies
-abbrev pub WalkKeeps : Progress → Leading → Input → Machine → Type 0
-WalkKeeps progress.Running l fde m = AllSpecify m.initial (rows_left l.factors fde m).rows
-WalkKeeps other l fde m = Unit {0}
-
--- ---- how a walk stands
-
--- no fault comes, and what is kept of a CIE is its initial row
-pub record WalksSo (p : Progress) (kept : Bool) (l : Leading) (fde : Input) (m : Machine) : Type 0 where
-  pub stands : WalkStands p fde m
-  pub no_fault : (walk_of p l fde m).outcome.fault ≡ None
-  pub initial : IsTrue kept → HasInitial l m
-  pub keeps : WalkKeeps p l fde m
-
--- the machine stands where it stood, at the front of an FDE's program
-pub record Readied (l : Leading) (old new : Machine) : Type 0 where
-  pub initial : HasInitial l new
-  pub row : new.states.row ≡ new.initial
-  pub none : new.states.stack ≡ []
-  pub first : BeganWith new.initial new.states.first
-  pub location : new.location ≡ old.location
-  pub limit : new.limit ≡ old.limit

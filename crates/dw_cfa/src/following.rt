@@ -6,8 +6,10 @@ ghost use Rattle.dw_num.specs.Refusals.{Refuses};
 ghost use Rattle.dw_num.specs.declared.error.ReadError.TheVariants.{OutOfMemory};
 ghost use Rattle.dw_cfa.specs.Following.{Following, with_steps};
 ghost use Rattle.dw_cfa.specs.Lacking.{lacks_from};
-ghost use Rattle.dw_cfa.specs.Rows.{blank};
-ghost use Rattle.dw_cfa.specs.Runs.{finished, initial_row, placed, rows_behind};
+ghost use Rattle.dw_cfa.specs.Behind.{LeavesTo, RunsBehind};
+ghost use Rattle.dw_cfa.specs.Rows.{AreSpecified};
+ghost use Rattle.dw_cfa.specs.Runs.{finished};
+ghost use Rattle.dw_cfa.specs.Inner.Runs.{rows_behind};
 ghost use Rattle.dw_cfa.specs.Stepping.{Advances, program_input, stepping};
 
 use crate::instr::Factors;
@@ -17,9 +19,16 @@ use crate::row::Row;
 use crate::running::next_row;
 use crate::states::States;
 use crate::steps::{Progress, initial_row, progress_after};
-use dw_num::{Cursor, Program, ReadError, Target};
+use dw_num::{Cursor, Program, ReadError, Target, are_bytes};
 use std::alloc::{AllocError, Global};
 use std::marker::Model;
+
+// A row lists each register once.
+fn are_specified(row: &Row<'_>)
+    ensures { AreSpecified 0 row.now.registers }
+{
+    let _ = row.specified();
+}
 
 /// The machine behind a CIE's program: it runs the programs of the CIE's FDEs one after another, and runs the CIE's
 /// own once. A contract sees the initial row, the factors and the target, and of the FDE that is run what `RowSteps`
@@ -34,7 +43,8 @@ pub struct CieMachine<'a> {
 }
 
 impl<'a> Model for CieMachine<'a> {
-    ghost use Rattle.dw_cfa.specs.Following.{Following, following_of, FollowsSo};
+    ghost use Rattle.dw_cfa.specs.Following.{Following};
+    ghost use Rattle.dw_cfa.specs.Inner.Following.{following_of, FollowsSo};
 
     ghost Value = { Following };
 
@@ -52,8 +62,8 @@ impl<'a> CieMachine<'a> {
         factors: Factors,
         target: Target,
     ) -> Result<CieMachine<'a>, ReadError>
-        ensures ok { IfOk result (λ c. (initial_row (placed factors (program_input cie_program.entry target)) blank ≡ Ok c.initial) × (c.factors ≡ factors) × (c.target ≡ target) × (c.steps ≡ stepping c.initial finished)) }
-        ensures err { IfErr result (Refuses (λ r. initial_row (placed factors (program_input cie_program.entry target)) blank ≡ Err r)) }
+        ensures ok { IfOk result (λ c. LeavesTo factors (program_input cie_program.entry target) (Ok c.initial) × (c.factors ≡ factors) × (c.target ≡ target) × (c.steps ≡ stepping c.initial finished)) }
+        ensures err { IfErr result (Refuses (λ r. LeavesTo factors (program_input cie_program.entry target) (Err r))) }
     {
         let initial = initial_row(alloc, cie_program, factors, target)?;
         let row = initial.copied()?;
@@ -79,9 +89,8 @@ impl<'a> CieMachine<'a> {
         &self.machine.initial
     }
 
-    /// Begins an FDE's program at an address `begin` of the target, or answers want of memory. What an FDE before it
-    /// changed is taken back first. Behind want of memory `advance` answers it, until a program begins again.
-    pub fn begin(&mut self, fde_program: Program<'a>, begin: u64) -> Result<(), AllocError>
+    // The same by the run that the code keeps to.
+    fn start(&mut self, fde_program: Program<'a>, begin: u64) -> Result<(), AllocError>
         requires { begin < address_limit self.old.target.size }
         ensures ok { OnOk result (self.new ≡ with_steps self.old (stepping self.old.initial (rows_behind self.old.factors self.old.initial (program_input fde_program.entry self.old.target) begin))) }
         ensures failed { OnErr result (self.new.steps.error ≡ Some OutOfMemory) }
@@ -98,6 +107,20 @@ impl<'a> CieMachine<'a> {
         self.fde = Cursor::new(fde_program.bytes, fde_program.at, self.target);
         self.progress = Progress::Running;
         Ok(())
+    }
+
+    /// Begins an FDE's program at an address `begin` of the target, or answers want of memory. What an FDE before it
+    /// changed is taken back first. Behind want of memory `advance` answers it, until a program begins again.
+    pub fn begin(&mut self, fde_program: Program<'a>, begin: u64) -> Result<(), AllocError>
+        requires { begin < address_limit self.old.target.size }
+        ensures ok { OnOk result (self.new ≡ with_steps self.old (stepping self.old.initial self.new.steps.outcome)) }
+        ensures runs { OnOk result (RunsBehind self.old.factors self.old.initial (program_input fde_program.entry self.old.target) begin self.new.steps.outcome) }
+        ensures failed { OnErr result (self.new.steps.error ≡ Some OutOfMemory) }
+        ensures same { self.new ≡ with_steps self.old self.new.steps }
+    {
+        are_bytes(fde_program.bytes);
+        are_specified(&self.machine.initial);
+        self.start(fde_program, begin)
     }
 
     /// Goes on to the next row of the FDE, which `row` lends then, and answers the location that it starts at, or none

@@ -5,7 +5,8 @@ ghost use Rattle.std.specs.Iterator.{YieldsFirst, item_count};
 ghost use Rattle.dw_num.specs.declared.refusal.Refusal.{Refusal};
 ghost use Rattle.dw_cfa.specs.declared.instr.Instr.{Instr};
 ghost use Rattle.dw_cfa.specs.InstrSpells.{Program as ProgramSpells};
-ghost use Rattle.dw_cfa.specs.Listing.{ProgramFault, Yields, complete, faulty, answers, left_of};
+ghost use Rattle.dw_cfa.specs.Listing.{ProgramFault, complete, faulty, answers};
+ghost use Rattle.dw_cfa.specs.Inner.Listing.{Yields, left_of};
 
 use crate::instr::{Factors, Instr};
 use crate::reading::read_instr;
@@ -31,7 +32,7 @@ impl<'a> Model for Instructions<'a> {
 
     ghost Value = { Listing };
 
-    ghost use Rattle.dw_cfa.specs.Listing.{left_of};
+    ghost use Rattle.dw_cfa.specs.Inner.Listing.{left_of};
 
     ghost view = { λ s. left_of s.has_ended s.factors s.cursor };
 }
@@ -56,7 +57,7 @@ impl<'a> Instructions<'a> {
     }
 
     // The next answer, or none behind the last one.
-    #[tactic(auto, using(crate::proofs::Listings::yields_end, crate::proofs::Listings::yields_instr, crate::proofs::Listings::yields_fault), unfolding(crate::specs::Listing::left_of))]
+    #[tactic(auto, using(crate::proofs::Listings::yields_end, crate::proofs::Listings::yields_instr, crate::proofs::Listings::yields_fault), unfolding(crate::specs::Inner::Listing::left_of))]
     fn step(&mut self) -> Option<Result<Instr<'a>, Refusal>>
         ensures { Yields self.old result self.new }
     {

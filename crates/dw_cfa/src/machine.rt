@@ -3,7 +3,7 @@
 ghost use Rattle.std.specs.Prelude.{◌≡◌, None, OnOk, IfOk, IfErr};
 ghost use Rattle.dw_cfa.specs.declared.rule.CfaRule.TheVariants.{Register};
 ghost use Rattle.dw_num.specs.declared.refusal.Code.TheVariants.{CfaNotRegister};
-ghost use Rattle.dw_cfa.specs.Machine.{FaultIs, NoHalves, written, half_fault};
+ghost use Rattle.dw_cfa.specs.Inner.Machine.{FaultIs, NoHalves, written, half_fault};
 
 use crate::instr::Instr;
 use crate::row::Row;

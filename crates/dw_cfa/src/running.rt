@@ -6,8 +6,8 @@ ghost use Rattle.dw_num.specs.Refusals.{Refuses};
 ghost use Rattle.dw_cfa.specs.RuleAt.{last_at, NeverFalls};
 ghost use Rattle.dw_cfa.specs.Rows.{Rules};
 ghost use Rattle.dw_cfa.specs.Kept.{in_cie};
-ghost use Rattle.dw_cfa.specs.Runs.{RunsSo, GivesRow, Wrote, rows_left, initial_row, placed, run_error};
-ghost use Rattle.dw_cfa.specs.Walking.{AllSpecify};
+ghost use Rattle.dw_cfa.specs.Inner.Runs.{RunsSo, GivesRow, Wrote, rows_left, initial_row, placed, run_error};
+ghost use Rattle.dw_cfa.specs.Inner.Walking.{AllSpecify};
 
 use crate::instr::{Factors, Instr};
 use crate::machine::{End, Machine, StepError, write_rule};

@@ -4,16 +4,20 @@ ghost use Rattle.std.specs.Prelude.{◌≡◌, ◌<◌, Some, None, Ok, Err, Lis
 ghost use Rattle.dw_num.specs.Target.{address_limit};
 ghost use Rattle.dw_num.specs.Refusals.{Refuses};
 ghost use Rattle.dw_cfa.specs.declared.running.LocatedRow.{LocatedRow};
-ghost use Rattle.dw_cfa.specs.Runs.{finished, RunsSo, GivesRow, placed, initial_row, run_rows};
+ghost use Rattle.dw_cfa.specs.Runs.{finished};
+ghost use Rattle.dw_cfa.specs.Inner.Runs.{RunsSo, GivesRow, placed, initial_row, run_rows};
+ghost use Rattle.dw_cfa.specs.Behind.{LeavesTo};
+ghost use Rattle.dw_cfa.specs.Gives.{Gives, RunsTo};
 ghost use Rattle.dw_cfa.specs.Rows.{blank};
-ghost use Rattle.dw_cfa.specs.Stepping.{Advances, Answers, begun_rows, stepping, program_input, progress_after};
+ghost use Rattle.dw_cfa.specs.Stepping.{Advances, Answers, stepping, program_input};
+ghost use Rattle.dw_cfa.specs.Inner.Stepping.{begun_rows, progress_after};
 
 use crate::instr::Factors;
 use crate::machine::Machine;
 use crate::row::Row;
 use crate::running::{LocatedRow, next_row, run_initial};
 use crate::states::States;
-use dw_num::{Cursor, Program, ReadError, Target};
+use dw_num::{Cursor, Program, ReadError, Target, are_bytes};
 use std::alloc::Global;
 use std::marker::Model;
 
@@ -56,8 +60,8 @@ fn first_row<'a>(
     next_row(fde, factors, machine, known)
 }
 
-/// The row that a CIE's program leaves, or its first refusal, or want of memory.
-pub fn initial_row<'a>(
+// The row that the run of a CIE's program leaves.
+fn run_cie<'a>(
     alloc: Global,
     cie_program: Program<'a>,
     factors: Factors,
@@ -70,6 +74,20 @@ pub fn initial_row<'a>(
     let mut cursor = Cursor::new(cie_program.bytes, cie_program.at, target);
     run_initial(&mut cursor, factors, &mut states, false)?;
     Ok(states.into_row())
+}
+
+/// The row that a CIE's program leaves, or its first fault, or want of memory.
+pub fn initial_row<'a>(
+    alloc: Global,
+    cie_program: Program<'a>,
+    factors: Factors,
+    target: Target,
+) -> Result<Row<'a>, ReadError>
+    ensures ok { IfOk result (λ row. LeavesTo factors (program_input cie_program.entry target) (Ok row)) }
+    ensures err { IfErr result (Refuses (λ r. LeavesTo factors (program_input cie_program.entry target) (Err r))) }
+{
+    are_bytes(cie_program.bytes);
+    run_cie(alloc, cie_program, factors, target)
 }
 
 /// The rows that a CIE's and an FDE's program give, one at a time: one before each instruction that moves the
@@ -88,7 +106,8 @@ pub struct RowSteps<'a> {
 
 impl<'a> Model for RowSteps<'a> {
     ghost use Rattle.std.specs.Prelude.{◌≡◌, IsTrue, None};
-    ghost use Rattle.dw_cfa.specs.Stepping.{Stepping, left_of, StandsSo};
+    ghost use Rattle.dw_cfa.specs.Stepping.{Stepping};
+    ghost use Rattle.dw_cfa.specs.Inner.Stepping.{left_of, StandsSo};
 
     ghost Value = { Stepping };
 
@@ -98,9 +117,8 @@ impl<'a> Model for RowSteps<'a> {
 }
 
 impl<'a> RowSteps<'a> {
-    /// The rows of two programs, from an address `begin` of the target on. Takes no memory: the CIE's program
-    /// is run at the first `next`.
-    pub fn new(
+    // The same by the run that the code keeps to.
+    fn begun(
         alloc: Global,
         cie_program: Program<'a>,
         fde_program: Program<'a>,
@@ -126,8 +144,8 @@ impl<'a> RowSteps<'a> {
         }
     }
 
-    /// The same of programs that are known to give rows to their end: their expressions are not judged again.
-    pub fn known(
+    // The same of programs that are known to have no fault.
+    fn begun_known(
         alloc: Global,
         cie_program: Program<'a>,
         fde_program: Program<'a>,
@@ -139,9 +157,47 @@ impl<'a> RowSteps<'a> {
         requires known { (run_rows factors (program_input cie_program target) (program_input fde_program target) begin).fault ≡ None }
         ensures { result ≡ stepping blank (run_rows factors (program_input cie_program.entry target) (program_input fde_program.entry target) begin) }
     {
-        let mut steps = RowSteps::new(alloc, cie_program, fde_program, begin, factors, target);
+        let mut steps = RowSteps::begun(alloc, cie_program, fde_program, begin, factors, target);
         steps.known = true;
         steps
+    }
+
+    /// The rows of two programs, from an address `begin` of the target on. Takes no memory: the CIE's program
+    /// is run at the first `next`.
+    pub fn new(
+        alloc: Global,
+        cie_program: Program<'a>,
+        fde_program: Program<'a>,
+        begin: u64,
+        factors: Factors,
+        target: Target,
+    ) -> RowSteps<'a>
+        requires { begin < address_limit target.size }
+        ensures steps { result ≡ stepping blank result.outcome }
+        ensures runs { RunsTo factors (program_input cie_program.entry target) (program_input fde_program.entry target) begin result.outcome }
+    {
+        are_bytes(cie_program.bytes);
+        are_bytes(fde_program.bytes);
+        RowSteps::begun(alloc, cie_program, fde_program, begin, factors, target)
+    }
+
+    /// The same of programs that are known to give rows to their end: their expressions are not judged again.
+    pub fn known(
+        alloc: Global,
+        cie_program: Program<'a>,
+        fde_program: Program<'a>,
+        begin: u64,
+        factors: Factors,
+        target: Target,
+    ) -> RowSteps<'a>
+        requires begin { begin < address_limit target.size }
+        requires known { (rows : List LocatedRow) × Gives factors (program_input cie_program target) (program_input fde_program target) begin rows }
+        ensures steps { result ≡ stepping blank result.outcome }
+        ensures runs { RunsTo factors (program_input cie_program.entry target) (program_input fde_program.entry target) begin result.outcome }
+    {
+        are_bytes(cie_program.bytes);
+        are_bytes(fde_program.bytes);
+        RowSteps::begun_known(alloc, cie_program, fde_program, begin, factors, target)
     }
 
     /// Goes on to the next row, which `row` lends then, and answers the location that it starts at, or none behind

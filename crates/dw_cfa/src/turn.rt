@@ -6,7 +6,7 @@ ghost use Rattle.dw_num.specs.Input.{Input};
 ghost use Rattle.dw_num.specs.Target.{address_limit};
 ghost use Rattle.dw_cfa.specs.declared.instr.Instr.TheVariants.{RememberState, RestoreState};
 ghost use Rattle.dw_cfa.specs.Inner.ByOpcode.{operands_at};
-ghost use Rattle.dw_cfa.specs.Runs.{RunsSo, rows_left};
+ghost use Rattle.dw_cfa.specs.Inner.Runs.{RunsSo, rows_left};
 ghost use Rattle.dw_cfa.specs.Inner.Turns.{Applied, Turned};
 
 use crate::advance::{run_advance, run_fixed_advance, run_set_loc};

@@ -4,12 +4,16 @@ ghost use Rattle.std.specs.Prelude.{◌≡◌, ◌<◌, ℕ, None, Ok, List, ◌
 ghost use Rattle.dw_num.specs.Target.{address_limit};
 ghost use Rattle.dw_num.specs.declared.error.ReadError.TheVariants.{OutOfMemory};
 ghost use Rattle.dw_cfa.specs.declared.running.LocatedRow.{LocatedRow};
+ghost use Rattle.dw_cfa.specs.Gives.{Gives, RunsTo};
 ghost use Rattle.dw_cfa.specs.RuleAt.{last_at, NeverFalls};
 ghost use Rattle.dw_cfa.specs.Rows.{Rules, blank};
-ghost use Rattle.dw_cfa.specs.Runs.{GivesRow, RunsSo, finished, initial_row, placed, rows_left, run_rows};
+ghost use Rattle.dw_cfa.specs.Inner.Runs.{GivesRow, RunsSo, initial_row, placed, rows_left, run_rows};
+ghost use Rattle.dw_cfa.specs.Runs.{finished};
 ghost use Rattle.dw_cfa.specs.Inner.States.{BeganWith};
-ghost use Rattle.dw_cfa.specs.Stepping.{Advances, program_input, progress_after, stepping};
-ghost use Rattle.dw_cfa.specs.Walking.{AllKeep, AllSpecify, HasInitial, LeadsSame, Readied, WalkKeeps, WalksSo, led_rows, walk_of};
+ghost use Rattle.dw_cfa.specs.Stepping.{Advances, program_input, stepping};
+ghost use Rattle.dw_cfa.specs.Inner.Stepping.{progress_after};
+ghost use Rattle.dw_cfa.specs.Walking.{AllKeep};
+ghost use Rattle.dw_cfa.specs.Inner.Walking.{AllSpecify, HasInitial, LeadsSame, Readied, WalkKeeps, WalksSo, led_rows, walk_of};
 
 use crate::instr::Factors;
 use crate::machine::Machine;
@@ -180,7 +184,7 @@ pub struct RowWalk<'a> {
 
 impl<'a> Model for RowWalk<'a> {
     ghost use Rattle.dw_cfa.specs.Stepping.{Stepping};
-    ghost use Rattle.dw_cfa.specs.Walking.{WalksSo, walk_of};
+    ghost use Rattle.dw_cfa.specs.Inner.Walking.{WalksSo, walk_of};
 
     ghost Value = { Stepping };
 
@@ -221,6 +225,25 @@ impl<'a> RowWalk<'a> {
     /// Goes to the rows of two programs that are known to give rows to their end, from an address `begin` of the target
     /// on. Takes no memory: they are run by `advance`, also where an error was answered before.
     pub fn go_to(
+        &mut self,
+        cie_program: Program<'a>,
+        fde_program: Program<'a>,
+        begin: u64,
+        factors: Factors,
+        target: Target,
+    )
+        requires begin { begin < address_limit target.size }
+        requires known { (rows : List LocatedRow) × Gives factors (program_input cie_program target) (program_input fde_program target) begin rows }
+        ensures steps { self.new ≡ stepping self.old.current self.new.outcome }
+        ensures runs { RunsTo factors (program_input cie_program.entry target) (program_input fde_program.entry target) begin self.new.outcome }
+    {
+        are_bytes(cie_program.bytes);
+        are_bytes(fde_program.bytes);
+        self.lead_to(cie_program, fde_program, begin, factors, target);
+    }
+
+    // The same by the run that the code keeps to.
+    fn lead_to(
         &mut self,
         cie_program: Program<'a>,
         fde_program: Program<'a>,

@@ -11,7 +11,8 @@ use Rattle.dw_cfa.specs.InstrSpells.{Program}
 use Rattle.dw_cfa.specs.Kept.{CieKept, FdeKept}
 use Rattle.dw_cfa.specs.Faults.{CieFault, FdeFault}
 use Rattle.dw_cfa.specs.Rows.{Rules}
-use Rattle.dw_cfa.specs.Runs.{Outcome, rows_behind}
+use Rattle.dw_cfa.specs.Runs.{Outcome}
+use Rattle.dw_cfa.specs.Inner.Runs.{rows_behind}
 use Rattle.dw_cfa.proofs.RunLaws.{program_placed}
 use Rattle.dw_cfa.proofs.FaultLaws.{initial_refused, leaves_initial, behind_refused}
 use Rattle.dw_cfa.proofs.BehindLaws.{gives_rows}

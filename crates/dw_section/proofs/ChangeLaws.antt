@@ -8,7 +8,8 @@ use Rattle.dw_cfa.specs.declared.instr.Factors.{Factors}
 use Rattle.dw_cfa.specs.declared.instr.Instr.{Instr}
 use Rattle.dw_cfa.specs.declared.rule.CfaRule.{CfaRule}
 use Rattle.dw_cfa.specs.declared.rule.RegRule.{RegRule}
-use Rattle.dw_cfa.specs.Behind.{Leaves, HoldsBehind, GivesBehind}
+use Rattle.dw_cfa.specs.Behind.{Leaves, HoldsBehind}
+use Rattle.dw_cfa.specs.Inner.Exact.{RulesBehind}
 use Rattle.dw_cfa.specs.Column.{cfa_after, rule_after}
 use Rattle.dw_cfa.specs.declared.running.LocatedRow.{LocatedRow}
 use Rattle.dw_cfa.specs.Location.{Counts}
@@ -19,7 +20,7 @@ use Rattle.dw_cfa.specs.Stepping.{Stepping, Advances}
 use Rattle.dw_cfa.specs.RuleAt.{or_here, last_at, NeverFalls}
 use Rattle.dw_num.specs.Target.{address_limit}
 use Rattle.dw_cfa.specs.InstrSpells.{Program}
-use Rattle.dw_cfa.specs.Laws.{RowsOf}
+use Rattle.dw_cfa.specs.Inner.Exact.{RowsOf}
 use Rattle.dw_cfa.proofs.BehindLaws.{behind_gives}
 use Rattle.dw_cfa.proofs.FaultLaws.{initial_leaves}
 use Rattle.dw_cfa.proofs.RunLaws.{run_halves, program_placed}
@@ -216,7 +217,7 @@ hold_all initial instrs begin end [] falls h = tt
 hold_all initial instrs begin end (row ∷ rows) falls h = λ a le. h a (omega (arith, le, falls.0))
 
 pub changes_found : (f : Factors) (cie fde : Input) (initial instrs : List Instr) (first : Rules) (begin end : ℕ) (rows : List LocatedRow) (changes : List (ℕ × Rules)) → Leaves f cie initial first
-    → GivesBehind f first fde begin instrs rows → begin < end → Among end None rows changes → AreChanges initial instrs begin end changes
+    → RulesBehind f first fde begin instrs rows → begin < end → Among end None rows changes → AreChanges initial instrs begin end changes
 changes_found f cie fde initial instrs first begin end rows changes leaves gives nonempty is =
     let at : (a : ℕ) → begin ≤ a → (x : Rules) × (last_at a rows ≡ Some x) × HasRow initial instrs begin end a x = λ a le.
     let counts = counts_exists begin instrs a le in
@@ -226,7 +227,7 @@ changes_found f cie fde initial instrs first begin end rows changes leaves gives
     all_found initial instrs begin end rows changes gives.never_falls (hold_all initial instrs begin end rows gives.never_falls at) (first_starts begin rows start.0 gives.never_falls start.1) nonempty is
 
 pub changes_listed : (f : Factors) (cie fde : Input) (initial instrs : List Instr) (first : Rules) (begin end : ℕ) (rows : List LocatedRow) (changes : List (ℕ × Rules)) → Leaves f cie initial first
-    → GivesBehind f first fde begin instrs rows → Among end None rows changes → AreListed changes
+    → RulesBehind f first fde begin instrs rows → Among end None rows changes → AreListed changes
 changes_listed f cie fde initial instrs first begin end rows changes leaves gives is =
     let at : (a : ℕ) → begin ≤ a → (x : Rules) × (last_at a rows ≡ Some x) × HasRow initial instrs begin end a x = λ a le.
     let counts = counts_exists begin instrs a le in
@@ -245,7 +246,7 @@ run_changes f cie fde initial instrs begin end rows changes of first program le 
     let leaves = subst (λ (l : List Instr). Leaves f cie l half.0) same left.1 in
     let given = behind_gives f half.0 fde begin rows of.fde_bytes leaves.listed le half.2 in
     let also : given.0 ≡ instrs = sym (program_placed f fde given.0 of.fde_bytes given.1.program).0 ∙ (program_placed f fde instrs of.fde_bytes program).0 in
-    changes_found f cie fde initial instrs half.0 begin end rows changes leaves (subst (λ (l : List Instr). GivesBehind f half.0 fde begin l rows) also given.1) nonempty is
+    changes_found f cie fde initial instrs half.0 begin end rows changes leaves (subst (λ (l : List Instr). RulesBehind f half.0 fde begin l rows) also given.1) nonempty is
 
 pub run_listed : (f : Factors) (cie fde : Input) (initial instrs : List Instr) (begin end : ℕ) (rows : List LocatedRow) (changes : List (ℕ × Rules)) → RowsOf f cie fde begin rows
     → Program cie.target f initial cie.bytes → Program fde.target f instrs fde.bytes → begin ≤ address_limit fde.target.size → Among end None rows changes → AreListed changes

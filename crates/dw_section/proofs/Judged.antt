@@ -18,7 +18,7 @@ use Rattle.dw_cfa.specs.declared.instr.Instr.{Instr}
 use Rattle.dw_cfa.specs.declared.rule.CfaRule.{CfaRule}
 use Rattle.dw_cfa.specs.declared.rule.CfaRule.TheVariants.{Unset}
 use Rattle.dw_cfa.specs.declared.running.LocatedRow.{LocatedRow}
-use Rattle.dw_cfa.specs.Behind.{GivesBehind}
+use Rattle.dw_cfa.specs.Inner.Exact.{RulesBehind}
 use Rattle.dw_cfa.specs.Column.{cfa_after}
 use Rattle.dw_cfa.specs.Faults.{FdeFault}
 use Rattle.dw_cfa.specs.Following.{Following, with_steps}
@@ -28,7 +28,8 @@ use Rattle.dw_cfa.specs.Location.{Counts}
 use Rattle.dw_cfa.specs.Lacking.{is_unset, lacks_from}
 use Rattle.dw_cfa.specs.declared.instr.Factors.{Factors}
 use Rattle.dw_cfa.specs.Rows.{Rules}
-use Rattle.dw_cfa.specs.Runs.{Outcome, rows_behind}
+use Rattle.dw_cfa.specs.Runs.{Outcome}
+use Rattle.dw_cfa.specs.Inner.Runs.{rows_behind}
 use Rattle.dw_cfa.specs.Stepping.{Stepping, stepping}
 use Rattle.dw_section.specs.declared.judging.Initial.{Initial}
 use Rattle.dw_section.specs.FdeFields.{is_among}
@@ -106,22 +107,7 @@ all_get P (x ∷ xs) (suc i) d h lt = all_get P xs i d h.1 (omega arith)
 
 -- ---- a header of a list is among them
 
--- ---- the rows of an FDE's program
-
-pub steps_fault : (steps : Stepping) (row initial : Rules) (f : Factors) (i : Input) (begin : ℕ) (r : Refusal) → steps ≡ stepping row (rows_behind f row i begin) → row ≡ initial
-    → steps.outcome.fault ≡ Some r → (rows_behind f initial i begin).fault ≡ Some r
-steps_fault steps row initial f i begin r e same h = ap (λ (x : Rules). (rows_behind f x i begin).fault) (sym same) ∙ ap (λ (s : Stepping). s.outcome.fault) (sym e) ∙ h
-
-pub steps_rows : (steps : Stepping) (row initial : Rules) (f : Factors) (i : Input) (begin : ℕ) → steps ≡ stepping row (rows_behind f row i begin) → row ≡ initial
-    → steps.outcome.fault ≡ None → rows_behind f initial i begin ≡ record { rows = steps.outcome.rows; fault = None }
-steps_rows steps row initial f i begin e same h =
-    ap (λ (x : Rules). rows_behind f x i begin) (sym same) ∙ ap (λ (s : Stepping). s.outcome) (sym e)
-    ∙ ap (λ (fault : Option Refusal). let o : Outcome = record { rows = steps.outcome.rows; fault = fault } in o) h
-
 -- ---- a machine that ran an FDE's program
-
-pub same_row : {E : Type 0} (r : Result Rules E) (a b : Rules) → r ≡ Ok a → r ≡ Ok b → a ≡ b
-same_row r a b e f = let g = sym e ∙ f in cc
 
 pub behind_stays : (target : Target) (hs : List Head) (place : ℕ) (m n : Following) → n ≡ with_steps m n.steps → IsBehind target hs (Some place) m → IsBehind target hs (Some place) n
 behind_stays target hs place m n same is = (
@@ -152,7 +138,7 @@ module _ (target : Target) (hs : List Head) (c : Initial) (is : IsInitial target
   pub fde_broken : (r : Refusal) → FdeFault c.factors is.3.cfa (input_of target program) begin r → FdeBroken target hs (fde at form cie_at begin range program) r
   fde_broken r fault = (c.factors, c.return_register, is.1, begins_so, subst (λ (x : CfaRule). FdeFault c.factors x (input_of target program) begin r) is.4.cfa fault)
 
-  module _ (instrs : List Instr) (rows : List LocatedRow) (given : GivesBehind c.factors is.3 (input_of target program) begin instrs rows) where
+  module _ (instrs : List Instr) (rows : List LocatedRow) (given : RulesBehind c.factors is.3 (input_of target program) begin instrs rows) where
     instrs_so : Instrs target hs cie_at program is.1 instrs
     instrs_so = record { factors = c.factors; register = c.return_register; begins = begins_so; spelled = given.program }
 
@@ -183,7 +169,7 @@ module _ (target : Target) (hs : List Head) (c : Initial) (is : IsInitial target
 -- what a run on a machine behind a CIE's row tells
 module _ (target : Target) (hs : List Head) (m : Following) (cie_at : ℕ) (is : IsBehind target hs (Some cie_at) m) (at : ℕ) (form : Form) (begin range : ℕ) (program : Span) where
   abbrev Ran : Factors → Rules → Target → Bool → Type 0
-  Ran f row t lacks = (instrs : List Instr) × (rows : List LocatedRow) × GivesBehind f row (input_of t program) begin instrs rows × (lacks ≡ lacks_from (begin + range) begin false rows)
+  Ran f row t lacks = (instrs : List Instr) × (rows : List LocatedRow) × RulesBehind f row (input_of t program) begin instrs rows × (lacks ≡ lacks_from (begin + range) begin false rows)
 
   pub behind_found : (lacks : Bool) → Ran m.factors m.initial m.target lacks
       → FdeRuns target hs (fde at form cie_at begin range program) × HasOrLacks target hs (fde at form cie_at begin range program) lacks

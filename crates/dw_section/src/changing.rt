@@ -8,7 +8,7 @@ ghost use Rattle.dw_section.specs.Changes.{Before, GivesAddress, GivesChange, Fi
 ghost use Rattle.dw_section.specs.Inner.Shown.{shown_of};
 ghost use Rattle.dw_section.specs.Inner.Lookup.{rows_of};
 
-use crate::rereading::FoundFde;
+use crate::rereading::{FoundFde, go_to_rows};
 use dw_cfa::{Row, RowWalk};
 use dw_num::Target;
 use std::alloc::{AllocError, Global};
@@ -166,9 +166,7 @@ impl<'a> Changes<'a> {
         requires no_fault { (rows_of target fde.now).fault ≡ None }
         ensures { self.new ≡ changing (rows_of target fde.now).rows (fde.now.begin + fde.now.range) }
     {
-        let (cie, program) = (fde.cie_program, fde.program);
-        self.steps
-            .go_to(cie, program, fde.begin, fde.factors, target);
+        go_to_rows(&mut self.steps, fde, target);
         self.lent = false;
         self.kept.forget();
         self.end = u128::from(fde.begin) + u128::from(fde.range);

@@ -2,10 +2,11 @@
 
 ghost use Rattle.std.specs.Prelude.{◌≡◌, ℕ, false, List, Some, None, IfOk, OnOk, MatchOption};
 ghost use Rattle.dw_section.specs.declared.lookup.Fde.{Fde as TheFde};
-ghost use Rattle.dw_section.specs.Finding.{LooksUp, RunsTo};
+ghost use Rattle.dw_section.specs.Finding.{LooksUp};
+ghost use Rattle.dw_section.specs.Inner.Lookup.{RunsTo};
 ghost use Rattle.dw_section.specs.Meaning.{AreFdes, RulesAt};
 
-use crate::rereading::FoundFde;
+use crate::rereading::{FoundFde, go_to_rows};
 use crate::table::Table;
 use dw_cfa::{Row, RowWalk};
 use dw_num::Target;
@@ -22,8 +23,7 @@ fn row_in<'a>(
     requires { (s : List ℕ) × RunsTo target s address fde.now }
     ensures { (s : List ℕ) → RunsTo target s address fde.now → OnOk result (RulesAt target s address steps.new.current) }
 {
-    let (cie, program) = (fde.cie_program, fde.program);
-    steps.go_to(cie, program, fde.begin, fde.factors, target);
+    go_to_rows(steps, fde, target);
     match steps.advance_to(address) {
         Ok(()) => Ok(()),
         Err(_) => Err(AllocError),

@@ -12,7 +12,7 @@ ghost use Rattle.dw_num.specs.Span.{span_of};
 ghost use Rattle.dw_num.specs.Target.{address_limit};
 ghost use Rattle.dw_cfa.specs.declared.instr.Instr.{Instr};
 ghost use Rattle.dw_cfa.specs.declared.running.LocatedRow.{LocatedRow};
-ghost use Rattle.dw_cfa.specs.Behind.{GivesBehind};
+ghost use Rattle.dw_cfa.specs.Inner.Exact.{RulesBehind};
 ghost use Rattle.dw_cfa.specs.Faults.{CieFault, FdeFault};
 ghost use Rattle.dw_cfa.specs.Following.{with_steps};
 ghost use Rattle.dw_cfa.specs.Lacking.{lacks_from};
@@ -29,7 +29,7 @@ ghost use Rattle.dw_section.specs.Stage.{FirstStuck};
 
 use crate::cutting::{Kind, Placed, next_piece};
 use crate::heading::{Header, cie_header};
-use dw_cfa::{CieMachine, Factors, behind_laws, initial_laws, initial_row};
+use dw_cfa::{CieMachine, Factors, behind_laws, initial_row};
 use dw_num::{Cursor, Program, ReadError, Target, are_bytes};
 use std::alloc::{AllocError, Global};
 
@@ -75,8 +75,6 @@ fn run_cie<'a>(
     ensures found { (hs : List Head) (form : TheForm) → IsAmong (cie at form factors.code_factor factors.data_factor return_register (span_of program.entry)) hs → IfOk result (λ c. IsInitial target hs c) }
     ensures stuck { IfErr result (Refuses (CieFault factors (input_of target (span_of program.entry)))) }
 {
-    are_bytes(program.bytes);
-    initial_laws();
     let _row = initial_row(alloc, program, factors, target)?;
     Ok(Initial {
         at,
@@ -207,7 +205,7 @@ fn run_fde<'a>(
     range: u64,
 ) -> Result<bool, ReadError>
     requires { begin < address_limit machine.old.target.size }
-    ensures found { IfOk result (λ lacks. (instrs : List Instr) × (rows : List LocatedRow) × GivesBehind machine.old.factors machine.old.initial (input_of machine.old.target (span_of program.entry)) begin instrs rows × (lacks ≡ lacks_from (begin + range) begin false rows)) }
+    ensures found { IfOk result (λ lacks. (instrs : List Instr) × (rows : List LocatedRow) × RulesBehind machine.old.factors machine.old.initial (input_of machine.old.target (span_of program.entry)) begin instrs rows × (lacks ≡ lacks_from (begin + range) begin false rows)) }
     ensures stuck { IfErr result (Refuses (FdeFault machine.old.factors machine.old.initial.cfa (input_of machine.old.target (span_of program.entry)) begin)) }
     ensures same { machine.new ≡ with_steps machine.old machine.new.steps }
 {
@@ -227,6 +225,7 @@ fn machine_of<'a>(
 ) -> Result<CieMachine<'a>, AllocError>
     ensures { (hs : List Head) → IsInitial target hs initial.now → IfOk result (IsBehind target hs (Some initial.now.at)) }
 {
+    are_bytes(initial.program.bytes);
     match CieMachine::new(alloc, initial.program, initial.factors, target) {
         Ok(machine) => Ok(machine),
         Err(_) => Err(AllocError),

@@ -1,12 +1,14 @@
 //! The FDEs of a table, read again at their places.
 
-ghost use Rattle.std.specs.Prelude.{◌≡◌, ◌<◌, ◌≤◌, List, length, drop, slice_index_or};
+ghost use Rattle.std.specs.Prelude.{◌≡◌, ◌<◌, ◌≤◌, List, length, drop, slice_index_or, None};
 ghost use Rattle.dw_section.specs.declared.lookup.Fde.{Fde as TheFde};
 ghost use Rattle.dw_section.specs.Headers.{Head};
 ghost use Rattle.dw_section.specs.Inner.Index.{IsRanged, IsFound};
 ghost use Rattle.dw_section.specs.Inner.Initials.{AreInitials};
 ghost use Rattle.dw_section.specs.Inner.Left.{AreHeaders};
-ghost use Rattle.dw_section.specs.Inner.Lookup.{fde_of, IsFoundIn};
+ghost use Rattle.dw_section.specs.Inner.Lookup.{fde_of, IsFoundIn, rows_of};
+ghost use Rattle.dw_num.specs.Target.{address_limit};
+ghost use Rattle.dw_cfa.specs.Stepping.{stepping};
 ghost use Rattle.dw_section.specs.Meaning.{AreFdes};
 
 use crate::heading::{Header, next_header};
@@ -14,8 +16,8 @@ use crate::indexing::Ranged;
 use crate::judging::{Initial, initial_at};
 use crate::lookup::FdeRef;
 use crate::table::Table;
-use dw_cfa::Factors;
-use dw_num::{Cursor, Program, Target};
+use dw_cfa::{Factors, RowWalk};
+use dw_num::{Cursor, Program, Target, are_bytes};
 
 /// A nonempty FDE with its program, and what its CIE says.
 #[derive(Clone, Copy)]
@@ -27,6 +29,18 @@ pub(crate) struct FoundFde<'a> {
     pub(crate) cie_program: Program<'a>,
     pub(crate) factors: Factors,
     pub(crate) return_register: u16,
+}
+
+/// Goes to the rows of an FDE, whose programs are known to give rows.
+pub(crate) fn go_to_rows<'a>(steps: &mut RowWalk<'a>, fde: &FoundFde<'a>, target: Target)
+    requires in_space { fde.now.begin < address_limit target.size }
+    requires no_fault { (rows_of target fde.now).fault ≡ None }
+    ensures { steps.new ≡ stepping steps.old.current (rows_of target fde.now) }
+{
+    let (cie, program) = (fde.cie_program, fde.program);
+    are_bytes(cie.bytes);
+    are_bytes(program.bytes);
+    steps.go_to(cie, program, fde.begin, fde.factors, target);
 }
 
 // A cursor over a section from a place on.

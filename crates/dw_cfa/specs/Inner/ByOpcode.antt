@@ -13,7 +13,7 @@ use Rattle.dw_cfa.specs.declared.reading.Opcode.TheVariants as opcodes
 use Rattle.dw_cfa.specs.declared.rule.RegRule.{RegRule}
 use Rattle.dw_cfa.specs.declared.rule.RegRule.TheVariants as rules
 use Rattle.dw_cfa.specs.Operands.{advanced}
-use Rattle.dw_cfa.specs.Reading.{leaving, block_at, with_instr}
+use Rattle.dw_cfa.specs.Inner.Reading.{leaving, block_at, with_instr}
 
 -- ---- offsets
 

@@ -3,7 +3,7 @@ use Rattle.std.specs.Prelude.{◌≡◌, ℕ, ◌≤◌, None}
 use Rattle.dw_cfa.specs.declared.instr.Instr.{Instr}
 use Rattle.dw_cfa.specs.declared.instr.Instr.TheVariants.{SetLoc}
 use Rattle.dw_cfa.specs.declared.machine.Machine.{Machine}
-use Rattle.dw_cfa.specs.Machine.{State, after, fde_fault}
+use Rattle.dw_cfa.specs.Inner.Machine.{State, after, fde_fault}
 
 abbrev pub state_of : Machine → State
 state_of m = record { row = m.states.row; stack = m.states.stack; location = m.location }

@@ -9,9 +9,10 @@ use Rattle.dw_cfa.specs.declared.machine.Machine.{Machine}
 use Rattle.dw_cfa.specs.declared.machine.End.{End}
 use Rattle.dw_cfa.specs.declared.machine.End.TheVariants as ends
 use Rattle.dw_cfa.specs.Location.{moves_location}
-use Rattle.dw_cfa.specs.Machine.{fde_fault}
+use Rattle.dw_cfa.specs.Inner.Machine.{fde_fault}
 use Rattle.dw_cfa.specs.Inner.Steps.{state_of, IsAfter}
-use Rattle.dw_cfa.specs.Runs.{fails, rows_left, RanTo}
+use Rattle.dw_cfa.specs.Runs.{fails}
+use Rattle.dw_cfa.specs.Inner.Runs.{rows_left, RanTo}
 
 -- the instruction of a place, which is read so or not at all, was applied to the machine or refused
 abbrev pub Applied : Read Instr → ℕ → Machine → End → Refusal → Input → Machine → Type 0

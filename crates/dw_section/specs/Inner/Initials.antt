@@ -1,5 +1,5 @@
 -- What the code keeps of CIEs, and what it finds out about FDEs.
-use Rattle.std.specs.Prelude.{◌≡◌, ℕ, List, Bool, true, false, Option, Some, None, Ok, map}
+use Rattle.std.specs.Prelude.{◌≡◌, ℕ, List, Bool, true, false, Option, Some, None, map}
 use Rattle.std.specs.List.{AllByRecursion}
 use Rattle.dw_num.specs.declared.refusal.Code.TheVariants.{NoCfaRule}
 use Rattle.dw_num.specs.declared.target.Form.{Form}
@@ -8,8 +8,7 @@ use Rattle.dw_num.specs.Span.{span_of}
 use Rattle.dw_cfa.specs.declared.instr.Instr.{Instr}
 use Rattle.dw_cfa.specs.Behind.{Leaves}
 use Rattle.dw_cfa.specs.Following.{Following}
-use Rattle.dw_cfa.specs.Rows.{Rules, blank}
-use Rattle.dw_cfa.specs.Runs.{initial_row, placed}
+use Rattle.dw_cfa.specs.Rows.{Rules}
 use Rattle.dw_section.specs.declared.judging.Initial.{Initial}
 use Rattle.dw_section.specs.declared.judging.Long.{Long}
 use Rattle.dw_section.specs.declared.judging.Runner.{Runner}
@@ -25,7 +24,7 @@ place_of c = c.at
 abbrev pub IsInitial : Target → List Head → Initial → Type 0
 IsInitial target hs c =
     (form : Form) × (instrs : List Instr) × IsAmong (cie c.at form c.factors.code_factor c.factors.data_factor c.return_register (span_of c.program)) hs
-    × (row : Rules) × Leaves c.factors (input_of target (span_of c.program)) instrs row × (initial_row (placed c.factors (input_of target (span_of c.program))) blank ≡ Ok row)
+    × (row : Rules) × Leaves c.factors (input_of target (span_of c.program)) instrs row
 
 -- a machine has the row of the CIE at a place
 abbrev pub IsBehind : Target → List Head → Option ℕ → Following → Type 0

@@ -1,11 +1,16 @@
 -- What the code lists of nonempty FDEs.
-use Rattle.std.specs.Prelude.{ℕ, ◌+◌, ◌<◌, List}
+use Rattle.std.specs.Prelude.{◌≡◌, ℕ, ◌+◌, ◌<◌, List, Some, None}
 use Rattle.dw_num.specs.declared.target.Target.{Target}
 use Rattle.dw_num.specs.Span.{span_of}
-use Rattle.dw_cfa.specs.Runs.{Outcome, run_rows}
+use Rattle.dw_num.specs.Target.{address_limit}
+use Rattle.dw_cfa.specs.RuleAt.{last_at, NeverFalls}
+use Rattle.dw_cfa.specs.Rows.{Rules}
+use Rattle.dw_cfa.specs.Runs.{Outcome}
+use Rattle.dw_cfa.specs.Inner.Runs.{run_rows}
 use Rattle.dw_section.specs.Accepted.{RulesHold}
 use Rattle.dw_section.specs.Headers.{Head}
 use Rattle.dw_section.specs.Inner.Index.{IsFound}
+use Rattle.dw_section.specs.Meaning.{RulesAt}
 use Rattle.dw_section.specs.Programs.{input_of}
 use Rattle.dw_section.specs.declared.indexing.Ranged.{Ranged}
 use Rattle.dw_section.specs.declared.rereading.FoundFde.{FoundFde}
@@ -27,3 +32,10 @@ pub record IsFoundIn (target : Target) (s : List ℕ) (e : FoundFde) : Type 0 wh
 -- the rows of an FDE
 abbrev pub rows_of : Target → FoundFde → Outcome
 rows_of target e = run_rows e.factors (input_of target (span_of e.cie_program)) (input_of target (span_of e.program)) e.begin
+
+-- the programs of an FDE give rows, the last of which at or below an address has the rules there
+pub record RunsTo (target : Target) (s : List ℕ) (a : ℕ) (e : FoundFde) : Type 0 where
+  pub in_space : e.begin < address_limit target.size
+  pub no_fault : (rows_of target e).fault ≡ None
+  pub never_falls : NeverFalls e.begin (rows_of target e).rows
+  pub row : (rules : Rules) × (last_at a (rows_of target e).rows ≡ Some rules) × RulesAt target s a rules

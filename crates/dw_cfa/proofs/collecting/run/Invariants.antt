@@ -1,5 +1,5 @@
 use Rattle.std.proofs.Common.{◌≡◌, None, length}
-use Rattle.dw_cfa.specs.Stepping.{rows_before}
+use Rattle.dw_cfa.specs.Inner.Stepping.{rows_before}
 use Rattle.dw_cfa.proofs.collecting.run.Given as goal
 
 abbrev pub invariant-rows : goal.invariant-rows

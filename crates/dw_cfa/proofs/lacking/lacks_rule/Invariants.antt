@@ -1,6 +1,6 @@
 use Rattle.std.proofs.Common.{◌≡◌, ◌||◌, None, length, false}
 use Rattle.dw_cfa.specs.Lacking.{lacks_from}
-use Rattle.dw_cfa.specs.Runs.{RunsSo, rows_left}
+use Rattle.dw_cfa.specs.Inner.Runs.{RunsSo, rows_left}
 use Rattle.dw_cfa.proofs.lacking.lacks_rule.Given as goal
 
 abbrev pub invariant-instrs : goal.invariant-instrs

@@ -1,10 +1,7 @@
 use Rattle.std.proofs.Common.{sym, ◌∙◌}
-use Rattle.dw_cfa.specs.Laws.{OneHolds}
-use Rattle.dw_cfa.proofs.RunLaws.{given_programs, none_falls, last_holds}
+use Rattle.dw_cfa.specs.RowLaws.{OneHolds}
 use Rattle.dw_cfa.proofs.Match.{restores_matched}
-use Rattle.dw_cfa.proofs.Given.{rows_before_fault, runs_where_given}
-use Rattle.dw_cfa.proofs.KeptLaws.{rows_where_kept}
-use Rattle.dw_cfa.proofs.FaultLaws.{refused_where_fault}
+use Rattle.dw_cfa.proofs.Given.{one_run, refused_where_fault, given_where_kept, given_falls, given_holds}
 use Rattle.dw_cfa.proofs.FaultPlaces.{run_within}
 use Rattle.dw_cfa.proofs.SameRows.{same_rows}
 use Rattle.dw_cfa.proofs.laws.row_laws.Goals as goal
@@ -14,14 +11,12 @@ one_holds cie fde k row other v w = same_rows row other v.listed w.listed (v.cfa
 
 pub returns : goal.returns
 returns c = record {
-  given = runs_where_given;
-  before = rows_before_fault;
-  programs = given_programs;
-  forwards = none_falls;
-  holds = last_holds;
-  one = one_holds;
-  kept = rows_where_kept;
+  run = one_run;
   refused = refused_where_fault;
+  kept = given_where_kept;
+  forwards = given_falls;
+  holds = given_holds;
+  one = one_holds;
   within = run_within;
   matched = restores_matched;
 }

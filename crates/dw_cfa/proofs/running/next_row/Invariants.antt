@@ -1,5 +1,5 @@
 use Rattle.std.proofs.Common.{◌≡◌, length}
-use Rattle.dw_cfa.specs.Runs.{RunsSo, rows_left}
+use Rattle.dw_cfa.specs.Inner.Runs.{RunsSo, rows_left}
 use Rattle.dw_cfa.proofs.running.next_row.Given as goal
 
 abbrev pub invariant-instrs : goal.invariant-instrs

@@ -1,7 +1,8 @@
 use Rattle.std.proofs.Common.{◌≡◌, ℕ, Some, sym, ap, subst, ◌∙◌, arith}
 use Rattle.dw_cfa.specs.RuleAt.{last_at, NeverFalls}
-use Rattle.dw_cfa.specs.Runs.{Outcome, rows_left}
-use Rattle.dw_cfa.specs.Walking.{AllSpecify}
+use Rattle.dw_cfa.specs.Runs.{Outcome}
+use Rattle.dw_cfa.specs.Inner.Runs.{rows_left}
+use Rattle.dw_cfa.specs.Inner.Walking.{AllSpecify}
 use Rattle.dw_cfa.proofs.RowsTo.{none_left, falls_left, keeps_left, stops_here, goes_on, ends_here}
 use Rattle.dw_cfa.proofs.running.run_to.Goals as goal
 

@@ -1,8 +1,8 @@
 use Rattle.std.proofs.Common.{◌≡◌, ℕ, None, Some, length}
 use Rattle.dw_cfa.specs.RuleAt.{last_at, NeverFalls}
 use Rattle.dw_cfa.specs.Rows.{Rules}
-use Rattle.dw_cfa.specs.Runs.{RunsSo, rows_left}
-use Rattle.dw_cfa.specs.Walking.{AllSpecify}
+use Rattle.dw_cfa.specs.Inner.Runs.{RunsSo, rows_left}
+use Rattle.dw_cfa.specs.Inner.Walking.{AllSpecify}
 use Rattle.dw_cfa.proofs.running.run_to.Given as goal
 
 abbrev pub invariant-instrs : goal.invariant-instrs

@@ -1,8 +1,9 @@
 use Rattle.std.proofs.Common.{ap, subst, sym, ◌∙◌}
 use Rattle.dw_num.specs.Input.{AreBytes}
 use Rattle.dw_cfa.specs.Rows.{Rules}
-use Rattle.dw_cfa.specs.Runs.{Outcome, GivesRow, rows_left}
-use Rattle.dw_cfa.specs.Walking.{AllSpecify}
+use Rattle.dw_cfa.specs.Runs.{Outcome}
+use Rattle.dw_cfa.specs.Inner.Runs.{GivesRow, rows_left}
+use Rattle.dw_cfa.specs.Inner.Walking.{AllSpecify}
 use Rattle.dw_cfa.proofs.Stays.{led_keeps, row_behind}
 use Rattle.dw_cfa.proofs.Walks.{led_initial, led_ran}
 use Rattle.dw_cfa.proofs.walking.first_row.Goals as goal

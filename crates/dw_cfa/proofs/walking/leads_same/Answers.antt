@@ -1,7 +1,7 @@
 use Rattle.std.proofs.Common.{◌≡◌, Ok, subst}
 use Rattle.dw_cfa.specs.declared.instr.Factors.{Factors}
 use Rattle.dw_cfa.specs.Rows.{blank}
-use Rattle.dw_cfa.specs.Runs.{initial_row, placed}
+use Rattle.dw_cfa.specs.Inner.Runs.{initial_row, placed}
 use Rattle.dw_cfa.specs.Stepping.{program_input}
 use Rattle.dw_cfa.proofs.Walks.{initial_elsewhere}
 use Rattle.dw_cfa.proofs.walking.leads_same.Goals as goal

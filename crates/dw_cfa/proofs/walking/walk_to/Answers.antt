@@ -2,8 +2,8 @@ use Rattle.std.proofs.Common.{subst, sym}
 use Rattle.std.specs.Prelude.{OnOk}
 use Rattle.dw_cfa.specs.declared.steps.Progress.{Progress}
 use Rattle.dw_cfa.specs.Rows.{Rules}
-use Rattle.dw_cfa.specs.Runs.{rows_left}
-use Rattle.dw_cfa.specs.Walking.{AllSpecify, WalkKeeps}
+use Rattle.dw_cfa.specs.Inner.Runs.{rows_left}
+use Rattle.dw_cfa.specs.Inner.Walking.{AllSpecify, WalkKeeps}
 use Rattle.dw_cfa.proofs.Stays.{where_more}
 use Rattle.dw_cfa.proofs.walking.walk_to.Goals as goal
 

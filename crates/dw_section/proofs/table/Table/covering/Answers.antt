@@ -1,5 +1,5 @@
 use Rattle.std.proofs.Common.{subst, sym}
-use Rattle.dw_section.specs.Finding.{RunsTo}
+use Rattle.dw_section.specs.Inner.Lookup.{RunsTo}
 use Rattle.dw_section.specs.Inner.Lookup.{fde_of}
 use Rattle.dw_section.specs.Meaning.{Covers, AreFdes}
 use Rattle.dw_section.proofs.FdeLookup.{fdes_of}

@@ -1,0 +1,13 @@
+use Rattle.std.proofs.Common.{Ok, Err}
+use Rattle.std.proofs.lemmas.Result.{IfOk-weaker, IfErr-weaker}
+use Rattle.dw_cfa.specs.Stepping.{program_input}
+use Rattle.dw_cfa.proofs.Given.{leaves_to, refusal_weaker}
+use Rattle.dw_cfa.proofs.steps.initial_row.Goals as goal
+
+pub returns-clause-ok : goal.returns-clause-ok
+returns-clause-ok c =
+    IfOk-weaker c.run_cie.result _ _ (λ row e. leaves_to c.args.factors (program_input c.args.cie_program c.args.target) c.are_bytes.ensures (Ok row) e) c.run_cie.ensures.ok
+
+pub returns-clause-err : goal.returns-clause-err
+returns-clause-err c =
+    IfErr-weaker c.run_cie.result _ _ (λ e refused. refusal_weaker e _ _ (λ r is. leaves_to c.args.factors (program_input c.args.cie_program c.args.target) c.are_bytes.ensures (Err r) is) refused) c.run_cie.ensures.err

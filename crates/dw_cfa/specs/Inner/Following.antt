@@ -1,0 +1,19 @@
+-- How the code keeps the machine behind a CIE's program.
+use Rattle.dw_num.specs.declared.target.Target.{Target}
+use Rattle.dw_num.specs.Input.{Input}
+use Rattle.dw_cfa.specs.declared.instr.Factors.{Factors}
+use Rattle.dw_cfa.specs.declared.machine.Machine.{Machine}
+use Rattle.dw_cfa.specs.declared.steps.Progress.{Progress}
+use Rattle.dw_cfa.specs.declared.steps.Progress.TheVariants as progress
+use Rattle.dw_cfa.specs.Following.{Following}
+use Rattle.dw_cfa.specs.Inner.Runs.{RunsSo}
+use Rattle.dw_cfa.specs.Inner.States.{BeganWith}
+use Rattle.dw_cfa.specs.Inner.Stepping.{left_of}
+
+abbrev pub following_of : Progress → Factors → Target → Input → Machine → Following
+following_of p f target fde m = record { initial = m.initial; factors = f; target = target; steps = left_of p f fde fde m }
+
+abbrev pub FollowsSo : Progress → Input → Machine → Type 0
+FollowsSo progress.Begun fde m = ⊥
+FollowsSo progress.Running fde m = RunsSo m fde
+FollowsSo other fde m = BeganWith m.initial m.states.first

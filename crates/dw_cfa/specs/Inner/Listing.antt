@@ -1,0 +1,22 @@
+-- The instructions of a program by reading, one after another.
+use Rattle.std.specs.Prelude.{◌≡◌, Option, Some, None, Result, Ok, Err, Bool, if◌then◌else◌}
+use Rattle.dw_num.specs.declared.refusal.Refusal.{Refusal}
+use Rattle.dw_num.specs.Input.{Input}
+use Rattle.dw_op.specs.Walks.{ended, put, walked}
+use Rattle.dw_cfa.specs.declared.instr.Factors.{Factors}
+use Rattle.dw_cfa.specs.declared.instr.Instr.{Instr}
+use Rattle.dw_cfa.specs.Listing.{Listing}
+use Rattle.dw_cfa.specs.Inner.Reading.{instr_at}
+
+unfoldable pub listing : Factors → Input → Listing
+listing f i = walked (instr_at f) (λ at instr. instr) i
+
+-- nothing is left of what has ended
+unfoldable pub left_of : Bool → Factors → Input → Listing
+left_of has_ended f i = if has_ended then ended None else listing f i
+
+-- what is answered first, and what is left then
+abbrev pub Yields : Listing → Option (Result Instr Refusal) → Listing → Type 0
+Yields old None new = (old ≡ ended None) × (new ≡ ended None)
+Yields old (Some (Ok instr)) new = old ≡ put instr new
+Yields old (Some (Err r)) new = (old ≡ ended (Some r)) × (new ≡ ended None)

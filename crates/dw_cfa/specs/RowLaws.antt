@@ -1,0 +1,66 @@
+-- What is so of the rows that programs give: DWARF 5, 6.4.3. The bytes are bytes, and an FDE begins in the address space.
+use Rattle.std.specs.Prelude.{◌≡◌, ℕ, ◌≤◌, List, Some, Result, ◌↔◌}
+use Rattle.dw_num.specs.declared.refusal.Refusal.{Refusal}
+use Rattle.dw_num.specs.Target.{address_limit}
+use Rattle.dw_num.specs.Input.{Input, AreBytes}
+use Rattle.dw_cfa.specs.declared.instr.Factors.{Factors}
+use Rattle.dw_cfa.specs.declared.instr.Instr.{Instr}
+use Rattle.dw_cfa.specs.declared.running.LocatedRow.{LocatedRow}
+use Rattle.dw_cfa.specs.InstrSpells.{Program}
+use Rattle.dw_cfa.specs.Location.{Counts}
+use Rattle.dw_cfa.specs.Kept.{CieKept, FdeKept}
+use Rattle.dw_cfa.specs.Rows.{Rules, AreSpecified}
+use Rattle.dw_cfa.specs.Runs.{Outcome}
+use Rattle.dw_cfa.specs.RuleAt.{last_at, NeverFalls}
+use Rattle.dw_cfa.specs.Faults.{FdeFault, RunFault}
+use Rattle.dw_cfa.specs.Laws.{initial_cfa, HoldsAfter}
+use Rattle.dw_cfa.specs.Behind.{LeavesTo, RunsBehind}
+use Rattle.dw_cfa.specs.Gives.{Gives, RunsTo}
+
+-- of two programs, in their bytes and from this begin on
+abbrev pub OfRuns : (Factors → Input → Input → ℕ → Type 0) → Type 0
+OfRuns Law = (f : Factors) (cie fde : Input) (begin : ℕ) → AreBytes cie.bytes → AreBytes fde.bytes → begin ≤ address_limit fde.target.size → Law f cie fde begin
+
+-- two programs have one outcome
+abbrev pub OneRun : Type 0
+OneRun = OfRuns (λ f cie fde begin. (o : Outcome) × RunsTo f cie fde begin o × ((other : Outcome) → RunsTo f cie fde begin other → other ≡ o))
+
+-- it is refused exactly with the first fault
+abbrev pub RefusedWhereFault : Type 0
+RefusedWhereFault = OfRuns (λ f cie fde begin. (o : Outcome) → RunsTo f cie fde begin o → (r : Refusal) → (o.fault ≡ Some r) ↔ RunFault f cie fde begin r)
+
+-- two programs give rows exactly where both keep their rules
+abbrev pub RowsWhereKept : Type 0
+RowsWhereKept = OfRuns (λ f cie fde begin. (cie_instrs fde_instrs : List Instr) → Program cie.target f cie_instrs cie.bytes → Program fde.target f fde_instrs fde.bytes
+    → ((rows : List LocatedRow) × Gives f cie fde begin rows) ↔ (CieKept cie_instrs × FdeKept (address_limit fde.target.size) begin (initial_cfa cie_instrs) fde_instrs))
+
+-- locations of rows never fall
+abbrev pub NoneFalls : Type 0
+NoneFalls = OfRuns (λ f cie fde begin. (rows : List LocatedRow) → Gives f cie fde begin rows → NeverFalls begin rows)
+
+-- the last row that starts at or below an address holds the rules at that address
+abbrev pub LastHolds : Type 0
+LastHolds = OfRuns (λ f cie fde begin. (rows : List LocatedRow) → Gives f cie fde begin rows
+    → (cie_instrs fde_instrs : List Instr) → Program cie.target f cie_instrs cie.bytes → Program fde.target f fde_instrs fde.bytes
+    → (a k : ℕ) → begin ≤ a → Counts begin fde_instrs a k
+    → (row : Rules) × (last_at a rows ≡ Some row) × HoldsAfter cie_instrs fde_instrs k row)
+
+-- and that is one row
+abbrev pub OneHolds : Type 0
+OneHolds = (cie fde : List Instr) (k : ℕ) (row other : Rules) → HoldsAfter cie fde k row → HoldsAfter cie fde k other → row ≡ other
+
+-- a CIE's program leaves one row, or has one first fault
+abbrev pub OneInitial : Type 0
+OneInitial = (f : Factors) (cie : Input) → AreBytes cie.bytes → (x : Result Rules Refusal) × LeavesTo f cie x × ((other : Result Rules Refusal) → LeavesTo f cie other → other ≡ x)
+
+-- of an FDE's program behind an initial row that lists each register once
+abbrev pub OfBehind : (Factors → Rules → Input → ℕ → Type 0) → Type 0
+OfBehind Law = (f : Factors) (initial : Rules) (fde : Input) (begin : ℕ) → AreBytes fde.bytes → AreSpecified 0 initial.registers → begin ≤ address_limit fde.target.size → Law f initial fde begin
+
+-- it has one outcome behind an initial row
+abbrev pub OneBehind : Type 0
+OneBehind = OfBehind (λ f initial fde begin. (o : Outcome) × RunsBehind f initial fde begin o × ((other : Outcome) → RunsBehind f initial fde begin other → other ≡ o))
+
+-- which is refused exactly with the first fault
+abbrev pub BehindWhereFault : Type 0
+BehindWhereFault = OfBehind (λ f initial fde begin. (o : Outcome) → RunsBehind f initial fde begin o → (r : Refusal) → (o.fault ≡ Some r) ↔ FdeFault f initial.cfa fde begin r)
