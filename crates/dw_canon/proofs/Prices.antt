@@ -26,6 +26,7 @@ use Rattle.dw_canon.proofs.Standing.{all_both}
 use Rattle.dw_canon.proofs.Sums.{sum_more}
 use Rattle.dw_canon.proofs.Weights.{rule_weight, cfa_weight, program_most}
 use Rattle.dw_canon.proofs.Within.{all_len, IsWithin, holds_within, step_len, later_len}
+use Rattle.dw_section.specs.Programs.{factors_of}
 
 -- the rows of a member are within what its programs give, and its changes are no more than they start rows
 pub record IsPriced (t : Target) (m : Member) (own initial : ℕ) : Type 0 where
@@ -41,8 +42,8 @@ is_priced t s b ok m own initial is fits some lengths =
     let i = p.0 in
     let j = p.1 in
     let x = here t s b ok m.begin m.end i j p.2 in
-    let gi = program_most t x.spelled.factors i x.spelled.begins.program.bytes x.spelled.begins.spelled in
-    let gj = program_most t x.spelled.factors j x.program.bytes x.spelled.spelled in
+    let gi = program_most t (factors_of x.spelled.head) i x.spelled.head.program.bytes x.spelled.begins.spelled in
+    let gj = program_most t (factors_of x.spelled.head) j x.head.program.bytes x.spelled.spelled in
     let are = one_lengths t s b ok (fde_of m) i j own initial some p.2 lengths in
     let each : (change : ℕ × Rules) → Held i j m.begin m.end change → RowFits t change.1 → IsWithin t i j change.1 = λ change held fit.
     let c = counts_exists m.begin j change.0 held.0 in

@@ -90,8 +90,8 @@ abbrev pub span_of : Target → ℕ → Written → Span
 span_of target at w = record { at = at + (4 + length (fields_of target w)); bytes = filled (nops_of target w) (program_of w) }
 
 abbrev pub head_of : Target → ℕ → Written → Head
-head_of target at (cie register instrs program) = head.cie at Dwarf32 1 (negsuc 0) register (span_of target at (cie register instrs program))
-head_of target at (fde cie_at begin range instrs program) = head.fde at Dwarf32 cie_at begin range (span_of target at (fde cie_at begin range instrs program))
+head_of target at (cie register instrs program) = head.cie (record { at = at; form = Dwarf32; code_factor = 1; data_factor = negsuc 0; return_register = register; program = span_of target at (cie register instrs program) })
+head_of target at (fde cie_at begin range instrs program) = head.fde (record { at = at; form = Dwarf32; cie_at = cie_at; begin = begin; range = range; program = span_of target at (fde cie_at begin range instrs program) })
 
 -- the headers of entries of which the first stands at a place
 abbrev pub heads_at : Target → ℕ → List Written → List Head

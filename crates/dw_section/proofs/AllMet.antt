@@ -20,9 +20,9 @@ use Rattle.dw_section.proofs.Judged.{initials_fde}
 -- nothing more is kept of headers without a CIE
 fdes_left : (target : Target) (hs front rest : List Head) (cs : List Initial) → AreInitials target hs front cs → length (cie_ats rest) ≡ 0 → AreInitials target hs (front ++ rest) cs
 fdes_left target hs front [] cs w none = subst (λ (l : List Head). AreInitials target hs l cs) (sym (append-nil front)) w
-fdes_left target hs front (head.cie at form code_factor data_factor register program ∷ rest) cs w none = absurd (omega (arith, none))
-fdes_left target hs front (head.fde at form cie_at begin range program ∷ rest) cs w none =
-    let h : Head = head.fde at form cie_at begin range program in
+fdes_left target hs front (head.cie c ∷ rest) cs w none = absurd (omega (arith, none))
+fdes_left target hs front (head.fde f ∷ rest) cs w none =
+    let h : Head = head.fde f in
     subst (λ (l : List Head). AreInitials target hs l cs) (append_assoc front (h ∷ []) rest) (fdes_left target hs (front ++ h ∷ []) rest cs (initials_fde target hs front cs h w tt refl) none)
 
 -- as many are kept as the section has CIEs: this is kept of all of them

@@ -22,7 +22,7 @@ use Rattle.dw_section.specs.Stage.{FirstStuck, Then}
 use Rattle.dw_section.specs.Headers.{Head, cie, fde, Headers, HeadersFault}
 use Rattle.dw_section.specs.Inner.Heads.{HeadsRise, FdeFits, HasBytes, cie_ats}
 use Rattle.dw_section.specs.Overlap.{Range, IsIn, IsIndex, AreApart, FirstOverlap, end_of}
-use Rattle.dw_section.specs.Programs.{input_of, Instrs, CieRuns, CieBroken, FdeRuns, FdeBroken, HasRules, LacksRule}
+use Rattle.dw_section.specs.Programs.{input_of, Instrs, CieRuns, CieBroken, FdeRuns, FdeBroken, HasRules, LacksRule, factors_of}
 use Rattle.dw_section.specs.Accepted.{CiesRun, FdesRun, RulesHold, Indexed, Accepted, CieProgramsFault, FdeProgramsFault, RulesFault, CheckFault}
 use Rattle.dw_section.proofs.Cfa.{cie_fault_apart, cie_fault_one, fde_fault_apart, fde_fault_one, one_program}
 use Rattle.dw_section.proofs.FirstFault.{then_apart, then_one, one_fault}
@@ -39,54 +39,54 @@ pub record Known (target : Target) (hs : List Head) (h : Head) : Type 0 where
 -- ---- programs of CIEs
 
 cie_apart : (target : Target) (h : Head) → HasBytes h → (r : Refusal) → CieRuns target h → CieBroken target h r → ⊥
-cie_apart target (cie at form c d register program) b r runs broken = cie_fault_apart (record { code_factor = c; data_factor = d }) (input_of target program) r runs.0 b runs.1 runs.2 broken
-cie_apart target (fde at form cie_at begin range program) b r runs broken = absurd broken
+cie_apart target (cie c) b r runs broken = cie_fault_apart (factors_of c) (input_of target c.program) r runs.0 b runs.1 runs.2 broken
+cie_apart target (fde f) b r runs broken = absurd broken
 
 cie_one : (target : Target) (h : Head) → HasBytes h → (r q : Refusal) → CieBroken target h r → CieBroken target h q → r ≡ q
-cie_one target (cie at form c d register program) b r q v w = cie_fault_one (record { code_factor = c; data_factor = d }) (input_of target program) r q b v w
-cie_one target (fde at form cie_at begin range program) b r q v w = absurd v
+cie_one target (cie c) b r q v w = cie_fault_one (factors_of c) (input_of target c.program) r q b v w
+cie_one target (fde f) b r q v w = absurd v
 
 -- ---- programs of FDEs
 
 module _ (target : Target) (hs : List Head) (up : HeadsRise 0 hs) (all : AllByRecursion HasBytes hs) where
   fde_apart : (h : Head) → Known target hs h → (r : Refusal) → FdeRuns target hs h → FdeBroken target hs h r → ⊥
-  fde_apart (cie at form c d register program) known r runs broken = absurd broken
-  fde_apart (fde at form cie_at begin range program) known r runs broken =
+  fde_apart (cie c) known r runs broken = absurd broken
+  fde_apart (fde d) known r runs broken =
       let is = runs.2 in
-      let same = one_begin target hs cie_at is.factors broken.0 is.register broken.1 runs.0 broken.2 up all is.begins broken.3 in
+      let same = one_begin target hs d.cie_at is.head broken.0 runs.0 broken.1 up all is.begins broken.2 in
       let fits = known.fits in
-      let fault = subst (λ (l : List Instr). FdeFault is.factors (initial_cfa l) (input_of target program) begin r) (sym same.instrs) (subst (λ (f : Factors). FdeFault f (initial_cfa broken.2) (input_of target program) begin r) (sym same.factors) broken.4) in
-      fde_fault_apart is.factors (initial_cfa runs.0) (input_of target program) begin r runs.1 known.bytes (omega (arith, fits.0)) is.spelled runs.3 fault
+      let fault = subst (λ (l : List Instr). FdeFault (factors_of is.head) (initial_cfa l) (input_of target d.program) d.begin r) (sym same.instrs) (subst (λ (f : Factors). FdeFault f (initial_cfa broken.1) (input_of target d.program) d.begin r) (sym same.factors) broken.3) in
+      fde_fault_apart (factors_of is.head) (initial_cfa runs.0) (input_of target d.program) d.begin r runs.1 known.bytes (omega (arith, fits.0)) is.spelled runs.3 fault
 
   fde_one : (h : Head) → Known target hs h → (r q : Refusal) → FdeBroken target hs h r → FdeBroken target hs h q → r ≡ q
-  fde_one (cie at form c d register program) known r q v w = absurd v
-  fde_one (fde at form cie_at begin range program) known r q v w =
-      let same = one_begin target hs cie_at v.0 w.0 v.1 w.1 v.2 w.2 up all v.3 w.3 in
+  fde_one (cie c) known r q v w = absurd v
+  fde_one (fde d) known r q v w =
+      let same = one_begin target hs d.cie_at v.0 w.0 v.1 w.1 up all v.2 w.2 in
       let fits = known.fits in
-      let fault = subst (λ (l : List Instr). FdeFault v.0 (initial_cfa l) (input_of target program) begin q) (sym same.instrs) (subst (λ (f : Factors). FdeFault f (initial_cfa w.2) (input_of target program) begin q) (sym same.factors) w.4) in
-      fde_fault_one v.0 (initial_cfa v.2) (input_of target program) begin r q known.bytes (omega (arith, fits.0)) v.4 fault
+      let fault = subst (λ (l : List Instr). FdeFault (factors_of v.0) (initial_cfa l) (input_of target d.program) d.begin q) (sym same.instrs) (subst (λ (f : Factors). FdeFault f (initial_cfa w.1) (input_of target d.program) d.begin q) (sym same.factors) w.3) in
+      fde_fault_one (factors_of v.0) (initial_cfa v.1) (input_of target d.program) d.begin r q known.bytes (omega (arith, fits.0)) v.3 fault
 
   -- the instructions of an FDE and of its CIE are one
   pub one_instrs : (place : ℕ) (program : Span) (initial instrs another others : List Instr) → AreBytes program.bytes → Instrs target hs place program initial instrs → Instrs target hs place program another others
       → (initial ≡ another) × (instrs ≡ others)
   one_instrs place program initial instrs another others b v w =
-      let same = one_begin target hs place v.factors w.factors v.register w.register initial another up all v.begins w.begins in
-      (same.instrs, one_program w.factors target program.bytes instrs others b (subst (λ (f : Factors). Program target f instrs program.bytes) same.factors v.spelled) w.spelled)
+      let same = one_begin target hs place v.head w.head initial another up all v.begins w.begins in
+      (same.instrs, one_program (factors_of w.head) target program.bytes instrs others b (subst (λ (f : Factors). Program target f instrs program.bytes) same.factors v.spelled) w.spelled)
 
   rules_apart : (h : Head) → Known target hs h → (r : Refusal) → HasRules target hs h → LacksRule target hs h r → ⊥
-  rules_apart (cie at form c d register program) known r has lacks = absurd lacks
-  rules_apart (fde at form cie_at begin range program) known r has lacks =
+  rules_apart (cie c) known r has lacks = absurd lacks
+  rules_apart (fde f) known r has lacks =
       let l = lacks.1 in
-      let same = one_instrs cie_at program l.0 l.1 has.0 has.1 known.bytes l.2 has.2 in
+      let same = one_instrs f.cie_at f.program l.0 l.1 has.0 has.1 known.bytes l.2 has.2 in
       let at = l.3 in
       let gap = at.3 in
-      let counts = subst (λ (i : List Instr). Counts begin i at.0 gap.0) same.1 gap.1 in
+      let counts = subst (λ (i : List Instr). Counts f.begin i at.0 gap.0) same.1 gap.1 in
       let unset = subst (λ (i : List Instr). cfa_after (initial_cfa has.0) i gap.0 ≡ Unset) same.1 (subst (λ (i : List Instr). cfa_after (initial_cfa i) l.1 gap.0 ≡ Unset) same.0 gap.2) in
       has.3 at.0 at.1 at.2 gap.0 counts unset
 
 rules_one : (target : Target) (hs : List Head) (h : Head) (r q : Refusal) → LacksRule target hs h r → LacksRule target hs h q → r ≡ q
-rules_one target hs (cie at form c d register program) r q v w = absurd v
-rules_one target hs (fde at form cie_at begin range program) r q v w = v.0 ∙ sym w.0
+rules_one target hs (cie c) r q v w = absurd v
+rules_one target hs (fde f) r q v w = v.0 ∙ sym w.0
 
 -- ---- a stage over headers of which more is known
 

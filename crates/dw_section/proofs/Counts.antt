@@ -1,5 +1,5 @@
 -- The rows that programs start.
-use Rattle.std.proofs.Common.{◌≡◌, ℕ, zero, suc, ◌+◌, ◌≤◌, cond, List, [], ◌∷◌, ◌++◌, length, refl, sym, ap, ◌∙◌, arith}
+use Rattle.std.proofs.Common.{◌≡◌, ℕ, suc, ◌+◌, ◌≤◌, cond, List, [], ◌∷◌, ◌++◌, length, refl, sym, ap, ◌∙◌, arith}
 use Rattle.std.specs.Prelude.{count_by}
 use Rattle.std.specs.List.{AllZip}
 use Rattle.std.proofs.lemmas.List.{length-append}
@@ -16,10 +16,11 @@ use Rattle.dw_section.specs.Inner.Counted.{moves_in}
 use Rattle.dw_section.specs.Cut.{Item, gap, entry, Piece, pieces, item_bytes, all_bytes}
 use Rattle.dw_section.specs.Headers.{Head, cie, fde, Has, Headers}
 use Rattle.dw_section.specs.Meaning.{total}
-use Rattle.dw_section.specs.Overlap.{nonempty}
+use Rattle.dw_section.specs.Overlap.{nonempty, Range, range_of}
 use Rattle.dw_section.specs.Pieces.{Pieces}
 use Rattle.dw_section.specs.Places.{cie_places}
 use Rattle.dw_section.proofs.Items.{item_some}
+use Rattle.dw_section.proofs.Index.{with_range_so}
 
 -- ---- one program
 
@@ -71,9 +72,8 @@ same_length target places (p ∷ ps) (h ∷ hs) z = ap suc (same_length target p
 
 nonempty_few : (hs : List Head) → length (nonempty hs) ≤ length hs
 nonempty_few [] = omega arith
-nonempty_few (cie at form c d register program ∷ hs) = let p = nonempty_few hs in omega arith
-nonempty_few (fde at form cie_at begin zero program ∷ hs) = let p = nonempty_few hs in omega arith
-nonempty_few (fde at form cie_at begin (suc n) program ∷ hs) = let p = nonempty_few hs in omega arith
+nonempty_few (cie c ∷ hs) = let p = nonempty_few hs in omega arith
+nonempty_few (fde f ∷ hs) = let p = nonempty_few hs in with_range_so (λ (rs : List Range). length rs ≤ suc (length hs)) (range_of f) (nonempty hs) (λ none. omega (arith, p)) (λ some. omega (arith, p))
 
 pub few_pieces : (target : Target) (s : List ℕ) (ps : List Piece) → Pieces target s ps → length ps ≤ 2147483647
 few_pieces target s ps p =

@@ -32,13 +32,14 @@ use Rattle.dw_section.specs.FdeFields.{is_among}
 use Rattle.dw_section.specs.Fields.{wanted_at, wanted_of, version_of, known, version_in, version_at, empty_of, empty_string_at, selector_of, sizes_at, return_register_at, cie_of, after_data, after_code, factors_at, after_sizes, after_string, after_version, cie_fields_at, named_of, pointer_at, fde_of, after_begin, range_at, after_pointer, fde_fields_at}
 use Rattle.dw_section.specs.Headers.{Head, cie, fde, Has, Headers, contents_of, cie_of_piece, cie_behind_id, cie_at, fde_of_piece, fde_at, CieStuck, FdeStuck, CieFieldsFault, HeadersFault}
 use Rattle.dw_section.specs.Inner.Heads.{HasBytes}
-use Rattle.dw_section.specs.Overlap.{Range, nonempty, IsIn}
+use Rattle.dw_section.specs.Overlap.{Range, nonempty, IsIn, range_of}
 use Rattle.dw_section.specs.Pieces.{Pieces}
 use Rattle.dw_section.specs.Places.{cie_places}
-use Rattle.dw_section.specs.Programs.{CieBroken, FdeBroken, LacksRule, input_of}
+use Rattle.dw_section.specs.Programs.{CieBroken, FdeBroken, LacksRule, input_of, factors_of}
 use Rattle.dw_section.specs.Stage.{FirstStuck}
 use Rattle.dw_section.proofs.HeaderLaws.{cie_end, fde_end}
 use Rattle.dw_section.proofs.Heads.{heads_bytes}
+use Rattle.dw_section.proofs.Index.{with_range_so}
 
 -- ---- items
 
@@ -200,12 +201,12 @@ headers_within target s r (inr h) =
 -- ---- headers
 
 abbrev at_of : Head → ℕ
-at_of (cie at form code factor register program) = at
-at_of (fde at form place begin range program) = at
+at_of (cie c) = c.at
+at_of (fde f) = f.at
 
 abbrev program_in : Head → Span
-program_in (cie at form code factor register program) = program
-program_in (fde at form place begin range program) = program
+program_in (cie c) = c.program
+program_in (fde f) = f.program
 
 abbrev Lies : ℕ → Head → Type 0
 Lies end h = (at_of h ≤ end) × ((program_in h).at + length (program_in h).bytes ≤ end)
@@ -232,19 +233,19 @@ heads_good target s hs bytes h =
     both (length s) hs (all_lie target (cie_places h.entries) (length s) h.entries hs (pieces_within target s h.entries h.cut) h.each) (heads_bytes target s hs bytes h)
 
 cie_broken : (target : Target) (s : List ℕ) (r : Refusal) (h : Head) → Good (length s) h → CieBroken target h r → IsWithin s r
-cie_broken target s r (cie at form code factor register program) good broken =
-    let within = cie_within _ (input_of target program) r good.1 broken in omega (arith, within.1, good.0.1)
-cie_broken target s r (fde at form place begin range program) good broken = absurd broken
+cie_broken target s r (cie c) good broken =
+    let within = cie_within _ (input_of target c.program) r good.1 broken in omega (arith, within.1, good.0.1)
+cie_broken target s r (fde f) good broken = absurd broken
 
 fde_broken : (target : Target) (hs : List Head) (s : List ℕ) (r : Refusal) (h : Head) → Good (length s) h → FdeBroken target hs h r → IsWithin s r
-fde_broken target hs s r (cie at form code factor register program) good broken = absurd broken
-fde_broken target hs s r (fde at form place begin range program) good broken =
-    let within = fde_within broken.0 _ (input_of target program) begin r good.1 broken.4 in omega (arith, within.1, good.0.1)
+fde_broken target hs s r (cie c) good broken = absurd broken
+fde_broken target hs s r (fde f) good broken =
+    let within = fde_within (factors_of broken.0) _ (input_of target f.program) f.begin r good.1 broken.3 in omega (arith, within.1, good.0.1)
 
 lacking_within : (target : Target) (hs : List Head) (s : List ℕ) (r : Refusal) (h : Head) → Good (length s) h → LacksRule target hs h r → IsWithin s r
-lacking_within target hs s r (cie at form code factor register program) good lacks = absurd lacks
-lacking_within target hs s r (fde at form place begin range program) good lacks =
-    let is : r.at ≡ at = ap (λ (x : Refusal). x.at) lacks.0 in omega (arith, is, good.0.0)
+lacking_within target hs s r (cie c) good lacks = absurd lacks
+lacking_within target hs s r (fde f) good lacks =
+    omega (arith, ap (λ (x : Refusal). x.at) lacks.0, good.0.0)
 
 -- ---- stages
 
@@ -263,10 +264,10 @@ rules_within target s r bytes (inr h) = stuck_within (Good (length s)) _ (LacksR
 -- an FDE's range has the FDE's place
 range_within : (end : ℕ) (hs : List Head) (x : Range) → AllByRecursion (Good end) hs → IsIn x (nonempty hs) → x.at ≤ end
 range_within end [] x good is = absurd is
-range_within end (cie at form code factor register program ∷ hs) x good is = range_within end hs x good.1 is
-range_within end (fde at form place begin zero program ∷ hs) x good is = range_within end hs x good.1 is
-range_within end (fde at form place begin (suc n) program ∷ hs) x good (inl is) = let same : x.at ≡ at = ap (λ (y : Range). y.at) is in omega (arith, same, good.0.0.0)
-range_within end (fde at form place begin (suc n) program ∷ hs) x good (inr is) = range_within end hs x good.1 is
+range_within end (cie c ∷ hs) x good is = range_within end hs x good.1 is
+range_within end (fde f ∷ hs) x good is =
+    with_range_so (λ (rs : List Range). IsIn x rs → x.at ≤ end) (range_of f) (nonempty hs) (λ none. range_within end hs x good.1)
+    (λ some. elim [ inl same ↦ omega (arith, ap (λ (y : Range). y.at) same, good.0.0.0) | inr i ↦ range_within end hs x good.1 i ]) is
 
 pub check_within : (target : Target) (s : List ℕ) → AreBytes s → (r : Refusal) → CheckFault target s r → IsWithin s r
 check_within target s bytes r (inl h) = rules_within target s r bytes h

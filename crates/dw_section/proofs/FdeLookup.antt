@@ -6,7 +6,7 @@ use Rattle.std.proofs.lemmas.List.{length-map}
 use Rattle.dw_num.specs.declared.target.Target.{Target}
 use Rattle.dw_section.specs.declared.indexing.Ranged.{Ranged}
 use Rattle.dw_section.specs.declared.lookup.Fde.{Fde}
-use Rattle.dw_section.specs.Headers.{Head, cie, fde}
+use Rattle.dw_section.specs.Headers.{Head, CieHead, FdeHead}
 use Rattle.dw_section.specs.Inner.Heads.{HeadsRise}
 use Rattle.dw_section.specs.Inner.Index.{range_in, IsRanged}
 use Rattle.dw_section.specs.Inner.Lookup.{fde_in}
@@ -19,7 +19,7 @@ use Rattle.dw_section.specs.Inner.Initials.{AreInitials}
 use Rattle.dw_section.specs.Inner.Left.{AreHeaders}
 use Rattle.dw_section.proofs.Judged.{all_get}
 use Rattle.dw_section.proofs.HeaderLaws.{one_headers}
-use Rattle.dw_section.proofs.Heads.{heads_rise, one_among}
+use Rattle.dw_section.proofs.Heads.{heads_rise, one_among, cie_or, fde_or}
 use Rattle.dw_section.proofs.Index.{one_index}
 use Rattle.dw_section.proofs.Stages.{one_zip}
 
@@ -38,18 +38,11 @@ are_fdes target s list t = record {
   each = lists_all t.indexed.headers list t.indexed.each;
 }
 
-abbrev cie_of : Head → ℕ
-cie_of (cie at form c d register program) = 0
-cie_of (fde at form cie_at begin range program) = cie_at
-
-abbrev register_of : Head → ℕ
-register_of (cie at form c d register program) = register
-register_of (fde at form cie_at begin range program) = 0
-
 one_register : (hs : List Head) (up : HeadsRise 0 hs) (a : Range) (r q : ℕ) → Returns hs a r → Returns hs a q → r ≡ q
 one_register hs up a r q v w =
-    let place = ap cie_of (one_among 0 hs _ _ up v.fde_among w.fde_among refl) in
-    ap register_of (one_among 0 hs _ _ up v.cie_among w.cie_among place)
+    let owns = ap (fde_or v.own) (one_among 0 hs _ _ up v.own_among w.own_among (ap (λ (x : Range). x.at) (v.covers ∙ sym w.covers))) in
+    let place : v.named.at ≡ w.named.at = sym v.names ∙ ap (λ (f : FdeHead). f.cie_at) owns ∙ w.names in
+    v.is ∙ ap (λ (c : CieHead). c.return_register) (ap (cie_or v.named) (one_among 0 hs _ _ up v.named_among w.named_among place)) ∙ sym w.is
 
 one_listed : (hs : List Head) (up : HeadsRise 0 hs) (a : Range) (f g : Fde) → Lists hs a f → Lists hs a g → f ≡ g
 one_listed hs up a f g v w =

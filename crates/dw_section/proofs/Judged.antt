@@ -10,9 +10,7 @@ use Rattle.std.proofs.lemmas.List.Elements.{filter_map-append}
 use Rattle.dw_num.specs.declared.refusal.Refusal.{Refusal}
 use Rattle.dw_num.specs.declared.target.Target.{Target}
 use Rattle.dw_num.specs.declared.refusal.Code.TheVariants.{NoCfaRule}
-use Rattle.dw_num.specs.declared.target.Form.{Form}
 use Rattle.dw_num.specs.Input.{Input}
-use Rattle.dw_num.specs.Span.{Span, span_of}
 use Rattle.dw_num.specs.Target.{address_limit}
 use Rattle.dw_cfa.specs.declared.instr.Instr.{Instr}
 use Rattle.dw_cfa.specs.declared.rule.CfaRule.{CfaRule}
@@ -33,11 +31,11 @@ use Rattle.dw_cfa.specs.Inner.Runs.{rows_behind}
 use Rattle.dw_cfa.specs.Stepping.{Stepping, stepping}
 use Rattle.dw_section.specs.declared.judging.Initial.{Initial}
 use Rattle.dw_section.specs.FdeFields.{is_among}
-use Rattle.dw_section.specs.Headers.{Head, cie, fde}
+use Rattle.dw_section.specs.Headers.{Head, fde, FdeHead}
 use Rattle.dw_section.specs.Inner.Heads.{head_at, cie_at_of, cie_ats}
-use Rattle.dw_section.specs.Inner.Initials.{or_place, place_of, IsInitial, IsBehind, AreInitials, HasOrLacks, FirstLacking}
+use Rattle.dw_section.specs.Inner.Initials.{or_place, place_of, IsInitial, IsBehind, AreInitials, HasOrLacks, FirstLacking, initial_head}
 use Rattle.dw_section.specs.Places.{Rises}
-use Rattle.dw_section.specs.Programs.{input_of, IsAmong, Begins, Instrs, CieRuns, FdeRuns, FdeBroken, HasRules, LacksRule}
+use Rattle.dw_section.specs.Programs.{input_of, Begins, Instrs, CieRuns, FdeRuns, FdeBroken, HasRules, LacksRule}
 use Rattle.dw_cfa.proofs.Counting.{counts_exists}
 use Rattle.dw_section.proofs.Covered.{lacks_found, lacks_none, unset_is, is_unset_of}
 use Rattle.dw_section.proofs.Stages.{all_push}
@@ -126,66 +124,61 @@ all_set P (x ∷ xs) (suc i) y h is = (h.0, all_set P xs i y h.1 is)
 
 -- ---- an FDE whose CIE is kept
 
-module _ (target : Target) (hs : List Head) (c : Initial) (is : IsInitial target hs c) (at : ℕ) (form : Form) (cie_at begin range : ℕ) (program : Span) (place : c.at ≡ cie_at) where
-  begins_so : Begins target hs cie_at c.factors c.return_register is.1
-  begins_so = record {
-    form = is.0;
-    program = span_of c.program;
-    among = subst (λ (n : ℕ). IsAmong (cie n is.0 c.factors.code_factor c.factors.data_factor c.return_register (span_of c.program)) hs) place is.2;
-    spelled = is.4.program;
-  }
+module _ (target : Target) (hs : List Head) (c : Initial) (is : IsInitial target hs c) (f : FdeHead) (place : c.at ≡ f.cie_at) where
+  begins_so : Begins target hs f.cie_at (initial_head is.0 c) is.1
+  begins_so = record { among = is.2; stands = place; spelled = is.4.program }
 
-  pub fde_broken : (r : Refusal) → FdeFault c.factors is.3.cfa (input_of target program) begin r → FdeBroken target hs (fde at form cie_at begin range program) r
-  fde_broken r fault = (c.factors, c.return_register, is.1, begins_so, subst (λ (x : CfaRule). FdeFault c.factors x (input_of target program) begin r) is.4.cfa fault)
+  pub fde_broken : (r : Refusal) → FdeFault c.factors is.3.cfa (input_of target f.program) f.begin r → FdeBroken target hs (fde f) r
+  fde_broken r fault = (initial_head is.0 c, is.1, begins_so, subst (λ (x : CfaRule). FdeFault c.factors x (input_of target f.program) f.begin r) is.4.cfa fault)
 
-  module _ (instrs : List Instr) (rows : List LocatedRow) (given : RulesBehind c.factors is.3 (input_of target program) begin instrs rows) where
-    instrs_so : Instrs target hs cie_at program is.1 instrs
-    instrs_so = record { factors = c.factors; register = c.return_register; begins = begins_so; spelled = given.program }
+  module _ (instrs : List Instr) (rows : List LocatedRow) (given : RulesBehind c.factors is.3 (input_of target f.program) f.begin instrs rows) where
+    instrs_so : Instrs target hs f.cie_at f.program is.1 instrs
+    instrs_so = record { head = initial_head is.0 c; begins = begins_so; spelled = given.program }
 
-    pub fde_runs : FdeRuns target hs (fde at form cie_at begin range program)
-    fde_runs = (is.1, instrs, instrs_so, subst (λ (x : CfaRule). FdeKept (address_limit target.size) begin x instrs) is.4.cfa given.kept)
+    pub fde_runs : FdeRuns target hs (fde f)
+    fde_runs = (is.1, instrs, instrs_so, subst (λ (x : CfaRule). FdeKept (address_limit target.size) f.begin x instrs) is.4.cfa given.kept)
 
-    lacks_so : lacks_from (begin + range) begin false rows ≡ true → LacksRule target hs (fde at form cie_at begin range program) (record { code = NoCfaRule; at = at })
+    lacks_so : lacks_from (f.begin + f.range) f.begin false rows ≡ true → LacksRule target hs (fde f) (record { code = NoCfaRule; at = f.at })
     lacks_so e =
-        let found = lacks_found (begin + range) begin false rows given.never_falls e in
-        let counts = counts_exists begin instrs found.0 found.1 in
+        let found = lacks_found (f.begin + f.range) f.begin false rows given.never_falls e in
+        let counts = counts_exists f.begin instrs found.0 found.1 in
         let row = given.holds found.0 counts.0 found.1 counts.1 in
         let unset = unset_is row.0.cfa (rw row.1 at found.3) in
         let here : cfa_after (initial_cfa is.1) instrs counts.0 ≡ Unset = ap (λ (x : CfaRule). cfa_after x instrs counts.0) (sym is.4.cfa) ∙ sym row.2.cfa ∙ unset in
         (refl, (is.1, instrs, instrs_so, (found.0, found.1, found.2, (counts.0, counts.1, here))))
 
-    has_at : lacks_from (begin + range) begin false rows ≡ false → (a : ℕ) → begin ≤ a → a < begin + range → (k : ℕ) → Counts begin instrs a k → cfa_after (initial_cfa is.1) instrs k ≡ Unset → ⊥
+    has_at : lacks_from (f.begin + f.range) f.begin false rows ≡ false → (a : ℕ) → f.begin ≤ a → a < f.begin + f.range → (k : ℕ) → Counts f.begin instrs a k → cfa_after (initial_cfa is.1) instrs k ≡ Unset → ⊥
     has_at e a le lt k counts unset =
         let row = given.holds a k le counts in
-        let none = lacks_none (begin + range) begin false rows given.never_falls e a le lt in
+        let none = lacks_none (f.begin + f.range) f.begin false rows given.never_falls e a le lt in
         let no : is_unset row.0.cfa ≡ false = rw row.1 at none in
         let yes = is_unset_of row.0.cfa (row.2.cfa ∙ ap (λ (x : CfaRule). cfa_after x instrs k) is.4.cfa ∙ unset) in
         let e = sym no ∙ yes in cc
 
-    pub has_or_lacks : (lacks : Bool) → lacks ≡ lacks_from (begin + range) begin false rows → HasOrLacks target hs (fde at form cie_at begin range program) lacks
+    pub has_or_lacks : (lacks : Bool) → lacks ≡ lacks_from (f.begin + f.range) f.begin false rows → HasOrLacks target hs (fde f) lacks
     has_or_lacks true e = lacks_so (sym e)
     has_or_lacks false e = (is.1, instrs, instrs_so, has_at (sym e))
 
 -- what a run on a machine behind a CIE's row tells
-module _ (target : Target) (hs : List Head) (m : Following) (cie_at : ℕ) (is : IsBehind target hs (Some cie_at) m) (at : ℕ) (form : Form) (begin range : ℕ) (program : Span) where
+module _ (target : Target) (hs : List Head) (m : Following) (f : FdeHead) (is : IsBehind target hs (Some f.cie_at) m) where
   abbrev Ran : Factors → Rules → Target → Bool → Type 0
-  Ran f row t lacks = (instrs : List Instr) × (rows : List LocatedRow) × RulesBehind f row (input_of t program) begin instrs rows × (lacks ≡ lacks_from (begin + range) begin false rows)
+  Ran g row t lacks = (instrs : List Instr) × (rows : List LocatedRow) × RulesBehind g row (input_of t f.program) f.begin instrs rows × (lacks ≡ lacks_from (f.begin + f.range) f.begin false rows)
 
   pub behind_found : (lacks : Bool) → Ran m.factors m.initial m.target lacks
-      → FdeRuns target hs (fde at form cie_at begin range program) × HasOrLacks target hs (fde at form cie_at begin range program) lacks
+      → FdeRuns target hs (fde f) × HasOrLacks target hs (fde f) lacks
   behind_found lacks ran =
       let c = is.0 in
       let y : Ran c.factors is.2.3 target lacks =
-      subst (λ (t : Target). Ran c.factors is.2.3 t lacks) is.5 (subst (λ (f : Factors). Ran f is.2.3 m.target lacks) is.4 (subst (λ (row : Rules). Ran m.factors row m.target lacks) is.3 ran)) in
-      (fde_runs target hs c is.2 at form cie_at begin range program is.1 y.0 y.1 y.2, has_or_lacks target hs c is.2 at form cie_at begin range program is.1 y.0 y.1 y.2 lacks y.3)
+      subst (λ (t : Target). Ran c.factors is.2.3 t lacks) is.5 (subst (λ (g : Factors). Ran g is.2.3 m.target lacks) is.4 (subst (λ (row : Rules). Ran m.factors row m.target lacks) is.3 ran)) in
+      (fde_runs target hs c is.2 f is.1 y.0 y.1 y.2, has_or_lacks target hs c is.2 f is.1 y.0 y.1 y.2 lacks y.3)
 
-  pub behind_broken : (r : Refusal) → FdeFault m.factors m.initial.cfa (input_of m.target program) begin r → FdeBroken target hs (fde at form cie_at begin range program) r
+  pub behind_broken : (r : Refusal) → FdeFault m.factors m.initial.cfa (input_of m.target f.program) f.begin r → FdeBroken target hs (fde f) r
   behind_broken r fault =
       let c = is.0 in
-      fde_broken target hs c is.2 at form cie_at begin range program is.1 r
-      (subst (λ (t : Target). FdeFault c.factors is.2.3.cfa (input_of t program) begin r) is.5
-      (subst (λ (f : Factors). FdeFault f is.2.3.cfa (input_of m.target program) begin r) is.4
-      (subst (λ (row : Rules). FdeFault m.factors row.cfa (input_of m.target program) begin r) is.3 fault)))
+      fde_broken target hs c is.2 f is.1 r
+      (subst (λ (t : Target). FdeFault c.factors is.2.3.cfa (input_of t f.program) f.begin r) is.5
+      (subst (λ (g : Factors). FdeFault g is.2.3.cfa (input_of m.target f.program) f.begin r) is.4
+      (subst (λ (row : Rules). FdeFault m.factors row.cfa (input_of m.target f.program) f.begin r) is.3 fault)))
 
 -- ---- the first that lacks one
 

@@ -1,32 +1,28 @@
 -- What a section says: DWARF 5, 6.4.1. Its nonempty FDEs, and the rules at each address that they cover.
-use Rattle.std.specs.Prelude.{◌≡◌, ℕ, ℤ, ◌+◌, ◌<◌, ◌≤◌, List, [], ◌∷◌, length}
+use Rattle.std.specs.Prelude.{◌≡◌, ℕ, ◌+◌, ◌<◌, ◌≤◌, List, [], ◌∷◌, length}
 use Rattle.std.specs.List.{AllByRecursion, AllZip}
-use Rattle.dw_num.specs.declared.target.Form.{Form}
 use Rattle.dw_num.specs.declared.target.Target.{Target}
-use Rattle.dw_num.specs.Span.{Span}
 use Rattle.dw_cfa.specs.declared.instr.Instr.{Instr}
 use Rattle.dw_cfa.specs.Laws.{HoldsAfter}
 use Rattle.dw_cfa.specs.Location.{Counts, row_starts}
 use Rattle.dw_cfa.specs.Rows.{Rules}
 use Rattle.dw_section.specs.declared.lookup.Fde.{Fde}
 use Rattle.dw_section.specs.Changes.{AreChanges}
-use Rattle.dw_section.specs.Headers.{Head, cie, fde, Headers}
-use Rattle.dw_section.specs.Overlap.{Range, IsIndex, end_of}
+use Rattle.dw_section.specs.Headers.{CieHead, FdeHead, Head, cie, fde, Headers}
+use Rattle.dw_section.specs.Overlap.{Range, range_of, IsIndex, end_of}
 use Rattle.dw_section.specs.Programs.{IsAmong, Instrs}
 
 -- ---- the FDEs
 
 -- the FDE of a range names a CIE of this return register
 pub record Returns (hs : List Head) (a : Range) (register : ℕ) : Type 0 where
-  pub form : Form
-  pub cie_at : ℕ
-  pub program : Span
-  pub cie_form : Form
-  pub code_factor : ℕ
-  pub data_factor : ℤ
-  pub cie_program : Span
-  pub fde_among : IsAmong (fde a.at form cie_at a.begin a.range program) hs
-  pub cie_among : IsAmong (cie cie_at cie_form code_factor data_factor register cie_program) hs
+  pub own : FdeHead
+  pub named : CieHead
+  pub own_among : IsAmong (fde own) hs
+  pub named_among : IsAmong (cie named) hs
+  pub covers : range_of own ≡ a
+  pub names : own.cie_at ≡ named.at
+  pub is : register ≡ named.return_register
 
 -- an FDE as it is listed
 pub record Lists (hs : List Head) (a : Range) (f : Fde) : Type 0 where
@@ -56,14 +52,11 @@ NoneCovers a fs = AllByRecursion (λ f. Covers a f → ⊥) fs
 pub record Says (target : Target) (s : List ℕ) (begin end : ℕ) (initial instrs : List Instr) : Type 0 where
   pub headers : List Head
   pub are : Headers target s headers
-  pub at : ℕ
-  pub form : Form
-  pub cie_at : ℕ
-  pub range : ℕ
-  pub program : Span
-  pub among : IsAmong (fde at form cie_at begin range program) headers
-  pub end_is : end ≡ begin + range
-  pub spelled : Instrs target headers cie_at program initial instrs
+  pub head : FdeHead
+  pub among : IsAmong (fde head) headers
+  pub begin_is : begin ≡ head.begin
+  pub end_is : end ≡ head.begin + head.range
+  pub spelled : Instrs target headers head.cie_at head.program initial instrs
 
 -- an FDE covers a, and a row has in each column the rule after the instructions that count there
 pub record RulesAt (target : Target) (s : List ℕ) (a : ℕ) (row : Rules) : Type 0 where
@@ -90,14 +83,14 @@ pub record HasLengths (target : Target) (s : List ℕ) (f : Fde) (own cie : ℕ)
   pub initial : List Instr
   pub instrs : List Instr
   pub says : Says target s f.begin f.end initial instrs
-  pub own_is : own ≡ length says.program.bytes
-  pub cie_is : cie ≡ length says.spelled.begins.program.bytes
+  pub own_is : own ≡ length says.head.program.bytes
+  pub cie_is : cie ≡ length says.spelled.head.program.bytes
 
 -- ---- the rows
 
 -- the program of the FDE of a range starts n rows
 abbrev pub Starts : Target → List ℕ → Range → ℕ → Type 0
-Starts target s a n = (initial : List Instr) × (instrs : List Instr) × (says : Says target s a.begin (end_of a) initial instrs) × (says.at ≡ a.at) × (n ≡ row_starts instrs)
+Starts target s a n = (initial : List Instr) × (instrs : List Instr) × (says : Says target s a.begin (end_of a) initial instrs) × (says.head.at ≡ a.at) × (n ≡ row_starts instrs)
 
 abbrev pub total : List ℕ → ℕ
 total [] = 0

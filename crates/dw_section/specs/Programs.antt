@@ -1,6 +1,5 @@
 -- Entries whose programs are judged too: DWARF 5, 6.4.2 and 6.4.3.
 use Rattle.std.specs.Prelude.{◌≡◌, ◌⊎◌, ℕ, ◌+◌, ◌<◌, ◌≤◌, List, [], ◌∷◌}
-use Rattle.dw_num.specs.declared.target.Form.{Form}
 use Rattle.dw_num.specs.declared.target.Target.{Target}
 use Rattle.dw_num.specs.declared.refusal.Code.TheVariants.{NoCfaRule}
 use Rattle.dw_num.specs.declared.refusal.Refusal.{Refusal}
@@ -16,11 +15,14 @@ use Rattle.dw_cfa.specs.Column.{cfa_after}
 use Rattle.dw_cfa.specs.Kept.{CieKept, FdeKept}
 use Rattle.dw_cfa.specs.Faults.{CieFault, FdeFault}
 use Rattle.dw_cfa.specs.Laws.{initial_cfa}
-use Rattle.dw_section.specs.Headers.{Head, cie, fde}
+use Rattle.dw_section.specs.Headers.{CieHead, Head, cie, fde}
 
 -- where a program stands
 abbrev pub input_of : Target → Span → Input
 input_of target program = record { at = program.at; bytes = program.bytes; target = target }
+
+abbrev pub factors_of : CieHead → Factors
+factors_of c = record { code_factor = c.code_factor; data_factor = c.data_factor }
 
 abbrev pub IsAmong : Head → List Head → Type 0
 IsAmong h [] = ⊥
@@ -30,43 +32,39 @@ IsAmong h (other ∷ hs) = (h ≡ other) ⊎ IsAmong h hs
 
 -- a CIE's program keeps what it has to
 abbrev pub CieRuns : Target → Head → Type 0
-CieRuns target (cie at form code_factor data_factor register program) =
-    (instrs : List Instr) × Program target (record { code_factor = code_factor; data_factor = data_factor }) instrs program.bytes × CieKept instrs
-CieRuns target (fde at form cie_at begin range program) = Unit {0}
+CieRuns target (cie c) = (instrs : List Instr) × Program target (factors_of c) instrs c.program.bytes × CieKept instrs
+CieRuns target (fde f) = Unit {0}
 
 -- a CIE's program has this first fault
 abbrev pub CieBroken : Target → Head → Refusal → Type 0
-CieBroken target (cie at form code_factor data_factor register program) r =
-    CieFault (record { code_factor = code_factor; data_factor = data_factor }) (input_of target program) r
-CieBroken target (fde at form cie_at begin range program) r = ⊥
+CieBroken target (cie c) r = CieFault (factors_of c) (input_of target c.program) r
+CieBroken target (fde f) r = ⊥
 
 -- ---- programs of FDEs
 
--- at this place stands a CIE of these factors, this return register and these instructions
-pub record Begins (target : Target) (hs : List Head) (place : ℕ) (f : Factors) (register : ℕ) (initial : List Instr) : Type 0 where
-  pub form : Form
-  pub program : Span
-  pub among : IsAmong (cie place form f.code_factor f.data_factor register program) hs
-  pub spelled : Program target f initial program.bytes
+-- at this place stands this CIE, with these instructions
+pub record Begins (target : Target) (hs : List Head) (place : ℕ) (c : CieHead) (initial : List Instr) : Type 0 where
+  pub among : IsAmong (cie c) hs
+  pub stands : c.at ≡ place
+  pub spelled : Program target (factors_of c) initial c.program.bytes
 
 -- the instructions of the CIE at this place, and those of an FDE's program
 pub record Instrs (target : Target) (hs : List Head) (place : ℕ) (program : Span) (initial instrs : List Instr) : Type 0 where
-  pub factors : Factors
-  pub register : ℕ
-  pub begins : Begins target hs place factors register initial
-  pub spelled : Program target factors instrs program.bytes
+  pub head : CieHead
+  pub begins : Begins target hs place head initial
+  pub spelled : Program target (factors_of head) instrs program.bytes
 
 -- an FDE's program keeps what it has to, behind the initial rules of its CIE
 abbrev pub FdeRuns : Target → List Head → Head → Type 0
-FdeRuns target hs (cie at form code_factor data_factor register program) = Unit {0}
-FdeRuns target hs (fde at form cie_at begin range program) =
-    (initial : List Instr) × (instrs : List Instr) × Instrs target hs cie_at program initial instrs × FdeKept (address_limit target.size) begin (initial_cfa initial) instrs
+FdeRuns target hs (cie c) = Unit {0}
+FdeRuns target hs (fde f) =
+    (initial : List Instr) × (instrs : List Instr) × Instrs target hs f.cie_at f.program initial instrs × FdeKept (address_limit target.size) f.begin (initial_cfa initial) instrs
 
 -- an FDE's program has this first fault, behind the initial rules of its CIE
 abbrev pub FdeBroken : Target → List Head → Head → Refusal → Type 0
-FdeBroken target hs (cie at form code_factor data_factor register program) r = ⊥
-FdeBroken target hs (fde at form cie_at begin range program) r =
-    (f : Factors) × (register : ℕ) × (initial : List Instr) × Begins target hs cie_at f register initial × FdeFault f (initial_cfa initial) (input_of target program) begin r
+FdeBroken target hs (cie c) r = ⊥
+FdeBroken target hs (fde f) r =
+    (c : CieHead) × (initial : List Instr) × Begins target hs f.cie_at c initial × FdeFault (factors_of c) (initial_cfa initial) (input_of target f.program) f.begin r
 
 -- ---- the CFA
 
@@ -80,14 +78,14 @@ LacksCfa initial instrs begin a = (k : ℕ) × Counts begin instrs a k × (cfa_a
 
 -- the CFA has a rule at each address of an FDE
 abbrev pub HasRules : Target → List Head → Head → Type 0
-HasRules target hs (cie at form code_factor data_factor register program) = Unit {0}
-HasRules target hs (fde at form cie_at begin range program) =
-    (initial : List Instr) × (instrs : List Instr) × Instrs target hs cie_at program initial instrs × ((a : ℕ) → begin ≤ a → a < begin + range → HasCfa initial instrs begin a)
+HasRules target hs (cie c) = Unit {0}
+HasRules target hs (fde f) =
+    (initial : List Instr) × (instrs : List Instr) × Instrs target hs f.cie_at f.program initial instrs × ((a : ℕ) → f.begin ≤ a → a < f.begin + f.range → HasCfa initial instrs f.begin a)
 
 -- the CFA has no rule at an address of an FDE
 abbrev pub LacksRule : Target → List Head → Head → Refusal → Type 0
-LacksRule target hs (cie at form code_factor data_factor register program) r = ⊥
-LacksRule target hs (fde at form cie_at begin range program) r =
-    (r ≡ record { code = NoCfaRule; at = at })
-    × ((initial : List Instr) × (instrs : List Instr) × Instrs target hs cie_at program initial instrs
-    × ((a : ℕ) × (begin ≤ a) × (a < begin + range) × LacksCfa initial instrs begin a))
+LacksRule target hs (cie c) r = ⊥
+LacksRule target hs (fde f) r =
+    (r ≡ record { code = NoCfaRule; at = f.at })
+    × ((initial : List Instr) × (instrs : List Instr) × Instrs target hs f.cie_at f.program initial instrs
+    × ((a : ℕ) × (f.begin ≤ a) × (a < f.begin + f.range) × LacksCfa initial instrs f.begin a))

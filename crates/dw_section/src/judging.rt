@@ -71,8 +71,8 @@ fn run_cie<'a>(
     target: Target,
 ) -> Result<Initial<'a>, ReadError>
     ensures place { IfOk result (λ c. c.at ≡ at) }
-    ensures runs { (form : TheForm) → IfOk result (λ _. CieRuns target (cie at form factors.code_factor factors.data_factor return_register (span_of program.entry))) }
-    ensures found { (hs : List Head) (form : TheForm) → IsAmong (cie at form factors.code_factor factors.data_factor return_register (span_of program.entry)) hs → IfOk result (λ c. IsInitial target hs c) }
+    ensures runs { (form : TheForm) → IfOk result (λ _. CieRuns target (cie (record { at = at; form = form; code_factor = factors.code_factor; data_factor = factors.data_factor; return_register = return_register; program = span_of program.entry }))) }
+    ensures found { (hs : List Head) (form : TheForm) → IsAmong (cie (record { at = at; form = form; code_factor = factors.code_factor; data_factor = factors.data_factor; return_register = return_register; program = span_of program.entry })) hs → IfOk result (λ c. IsInitial target hs c) }
     ensures stuck { IfErr result (Refuses (CieFault factors (input_of target (span_of program.entry)))) }
 {
     let _row = initial_row(alloc, program, factors, target)?;
@@ -356,8 +356,8 @@ fn run_long<'a>(
     requires in_list { index < length long.old.items }
     requires begin { begin < address_limit target.size }
     requires each { (hs : List Head) × AllByRecursion (IsLong target hs) long.old.items }
-    ensures found { (hs : List Head) (at : ℕ) (form : TheForm) (place : ℕ) → ((d : TheLong) → (slice_index_or long.old.items index d).at ≡ place) → AllByRecursion (IsLong target hs) long.old.items → IfOk result (λ lacks. FdeRuns target hs (fde at form place begin range (span_of program.entry)) × HasOrLacks target hs (fde at form place begin range (span_of program.entry)) lacks) }
-    ensures stuck { (hs : List Head) (at : ℕ) (form : TheForm) (place : ℕ) → ((d : TheLong) → (slice_index_or long.old.items index d).at ≡ place) → AllByRecursion (IsLong target hs) long.old.items → IfErr result (Refuses (FdeBroken target hs (fde at form place begin range (span_of program.entry)))) }
+    ensures found { (hs : List Head) (at : ℕ) (form : TheForm) (place : ℕ) → ((d : TheLong) → (slice_index_or long.old.items index d).at ≡ place) → AllByRecursion (IsLong target hs) long.old.items → IfOk result (λ lacks. FdeRuns target hs (fde (record { at = at; form = form; cie_at = place; begin = begin; range = range; program = span_of program.entry })) × HasOrLacks target hs (fde (record { at = at; form = form; cie_at = place; begin = begin; range = range; program = span_of program.entry })) lacks) }
+    ensures stuck { (hs : List Head) (at : ℕ) (form : TheForm) (place : ℕ) → ((d : TheLong) → (slice_index_or long.old.items index d).at ≡ place) → AllByRecursion (IsLong target hs) long.old.items → IfErr result (Refuses (FdeBroken target hs (fde (record { at = at; form = form; cie_at = place; begin = begin; range = range; program = span_of program.entry })))) }
     ensures each { (hs : List Head) → AllByRecursion (IsLong target hs) long.old.items → AllByRecursion (IsLong target hs) long.new.items }
 {
     let kept = &mut long[index];
@@ -380,8 +380,8 @@ fn run_behind<'a>(
     requires among { is_among place (map place_of initials.now) ≡ true }
     requires begin { begin < address_limit target.size }
     requires each { (hs : List Head) × AllByRecursion (IsInitial target hs) initials.now × IsRunner target hs runner.old }
-    ensures found { (hs : List Head) (at : ℕ) (form : TheForm) → AllByRecursion (IsInitial target hs) initials.now → IsRunner target hs runner.old → IfOk result (λ lacks. FdeRuns target hs (fde at form place begin range (span_of program.entry)) × HasOrLacks target hs (fde at form place begin range (span_of program.entry)) lacks × IsRunner target hs runner.new) }
-    ensures stuck { (hs : List Head) (at : ℕ) (form : TheForm) → AllByRecursion (IsInitial target hs) initials.now → IsRunner target hs runner.old → IfErr result (Refuses (FdeBroken target hs (fde at form place begin range (span_of program.entry)))) }
+    ensures found { (hs : List Head) (at : ℕ) (form : TheForm) → AllByRecursion (IsInitial target hs) initials.now → IsRunner target hs runner.old → IfOk result (λ lacks. FdeRuns target hs (fde (record { at = at; form = form; cie_at = place; begin = begin; range = range; program = span_of program.entry })) × HasOrLacks target hs (fde (record { at = at; form = form; cie_at = place; begin = begin; range = range; program = span_of program.entry })) lacks × IsRunner target hs runner.new) }
+    ensures stuck { (hs : List Head) (at : ℕ) (form : TheForm) → AllByRecursion (IsInitial target hs) initials.now → IsRunner target hs runner.old → IfErr result (Refuses (FdeBroken target hs (fde (record { at = at; form = form; cie_at = place; begin = begin; range = range; program = span_of program.entry })))) }
 {
     if let Some(index) = long_at(&runner.long, place) {
         return run_long(&mut runner.long, index, program, begin, range, target);

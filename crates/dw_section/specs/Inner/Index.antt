@@ -6,7 +6,7 @@ use Rattle.dw_num.specs.Span.{span_of}
 use Rattle.dw_section.specs.declared.indexing.Ranged.{Ranged}
 use Rattle.dw_section.specs.declared.rereading.FoundFde.{FoundFde}
 use Rattle.dw_section.specs.Meaning.{Returns}
-use Rattle.dw_section.specs.Headers.{Head, cie, fde}
+use Rattle.dw_section.specs.Headers.{CieHead, FdeHead, Head, cie, fde}
 use Rattle.dw_section.specs.Overlap.{Range, IsIn, end_of, nonempty}
 use Rattle.dw_section.specs.Programs.{IsAmong, FdeRuns}
 use Rattle.dw_section.specs.Inner.Initials.{FirstLacking}
@@ -19,11 +19,18 @@ range_in e = record { at = e.at; begin = e.begin; range = e.range }
 abbrev pub IsRanged : List Head → Ranged → Type 0
 IsRanged hs e = Returns hs (range_in e) e.return_register
 
+abbrev pub found_head : Form → ℕ → FoundFde → FdeHead
+found_head form cie_at e = record { at = e.at; form = form; cie_at = cie_at; begin = e.begin; range = e.range; program = span_of e.program }
+
+abbrev pub found_cie : Form → ℕ → ℕ → FoundFde → CieHead
+found_cie form cie_at register e =
+    record { at = cie_at; form = form; code_factor = e.factors.code_factor; data_factor = e.factors.data_factor; return_register = register; program = span_of e.cie_program }
+
 -- the same with programs
 abbrev pub IsFound : List Head → FoundFde → Type 0
 IsFound hs e =
-    (form : Form) × (cie_form : Form) × (cie_at : ℕ) × (register : ℕ) × IsAmong (fde e.at form cie_at e.begin e.range (span_of e.program)) hs
-    × IsAmong (cie cie_at cie_form e.factors.code_factor e.factors.data_factor register (span_of e.cie_program)) hs
+    (form : Form) × (cie_form : Form) × (cie_at : ℕ) × (register : ℕ) × IsAmong (fde (found_head form cie_at e)) hs
+    × IsAmong (cie (found_cie cie_form cie_at register e)) hs
 
 -- places from low on, ascending
 abbrev pub PlacesRise : ℕ → List Range → Type 0

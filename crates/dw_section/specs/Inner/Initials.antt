@@ -13,18 +13,22 @@ use Rattle.dw_section.specs.declared.judging.Initial.{Initial}
 use Rattle.dw_section.specs.declared.judging.Long.{Long}
 use Rattle.dw_section.specs.declared.judging.Runner.{Runner}
 use Rattle.dw_section.specs.Stage.{FirstStuck}
-use Rattle.dw_section.specs.Headers.{Head, cie}
+use Rattle.dw_section.specs.Headers.{CieHead, Head, cie}
 use Rattle.dw_section.specs.Inner.Heads.{head_at, cie_ats}
 use Rattle.dw_section.specs.Programs.{IsAmong, input_of, CieRuns, HasRules, LacksRule}
 
 abbrev pub place_of : Initial → ℕ
 place_of c = c.at
 
+-- the header that it is kept of
+abbrev pub initial_head : Form → Initial → CieHead
+initial_head form c =
+    record { at = c.at; form = form; code_factor = c.factors.code_factor; data_factor = c.factors.data_factor; return_register = c.return_register; program = span_of c.program }
+
 -- it is of a CIE among the headers, whose program leaves a row
 abbrev pub IsInitial : Target → List Head → Initial → Type 0
 IsInitial target hs c =
-    (form : Form) × (instrs : List Instr) × IsAmong (cie c.at form c.factors.code_factor c.factors.data_factor c.return_register (span_of c.program)) hs
-    × (row : Rules) × Leaves c.factors (input_of target (span_of c.program)) instrs row
+    (form : Form) × (instrs : List Instr) × IsAmong (cie (initial_head form c)) hs × (row : Rules) × Leaves c.factors (input_of target (span_of c.program)) instrs row
 
 -- a machine has the row of the CIE at a place
 abbrev pub IsBehind : Target → List Head → Option ℕ → Following → Type 0

@@ -24,7 +24,7 @@ returns-clause-found c = λ hs at form all runner.
     let follows = c.in_ok-follow.ensures hs all runner in
     let here = subst (λ (b : Option ℕ). IsBehind a.target hs b m) follows.0 follows.1.0 in
     let stays = subst (λ (b : Option ℕ). IsBehind a.target hs b n) (sym follows.0) (behind_stays a.target hs a.place m n c.run_fde.ensures.same here) in
-    IfOk-weaker c.run_fde.result _ _ (λ lacks ran. let y = behind_found a.target hs m a.place here at form a.begin a.range (span_of a.program) lacks ran in (y.0, y.1, (stays, follows.1.1))) c.run_fde.ensures.found
+    IfOk-weaker c.run_fde.result _ _ (λ lacks ran. let y = behind_found a.target hs m (record { at = at; form = form; cie_at = a.place; begin = a.begin; range = a.range; program = span_of a.program }) here lacks ran in (y.0, y.1, (stays, follows.1.1))) c.run_fde.ensures.found
 
 pub returns-clause-stuck : goal.returns-clause-stuck
 returns-clause-stuck c = λ hs at form all runner.
@@ -32,4 +32,4 @@ returns-clause-stuck c = λ hs at form all runner.
     let m = c.follow.new.runner.machine in
     let follows = c.in_ok-follow.ensures hs all runner in
     let here = subst (λ (b : Option ℕ). IsBehind a.target hs b m) follows.0 follows.1.0 in
-    IfErr-weaker c.run_fde.result _ _ (λ e y. refuses_by e _ _ (λ r h. behind_broken a.target hs m a.place here at form a.begin a.range (span_of a.program) r h) y) c.run_fde.ensures.stuck
+    IfErr-weaker c.run_fde.result _ _ (λ e y. refuses_by e _ _ (λ r h. behind_broken a.target hs m (record { at = at; form = form; cie_at = a.place; begin = a.begin; range = a.range; program = span_of a.program }) here r h) y) c.run_fde.ensures.stuck

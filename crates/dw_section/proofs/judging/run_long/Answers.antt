@@ -22,7 +22,7 @@ returns-clause-found c = λ hs at form place found all.
     let is = subst (IsLong a.target hs) (sym c.index_mut-kept.ensures.value) (all_get (IsLong a.target hs) a.long.now.items a.index x all c.requires.in_list) in
     let place_is = ap (λ (l : Long). l.at) c.index_mut-kept.ensures.value ∙ found x in
     let here = subst (λ (n : ℕ). IsBehind a.target hs (Some n) x.machine) place_is is in
-    IfOk-weaker c.run_fde.result _ _ (λ lacks y. behind_found a.target hs x.machine place here at form a.begin a.range (span_of a.program) lacks y) c.run_fde.ensures.found
+    IfOk-weaker c.run_fde.result _ _ (λ lacks y. behind_found a.target hs x.machine (record { at = at; form = form; cie_at = place; begin = a.begin; range = a.range; program = span_of a.program }) here lacks y) c.run_fde.ensures.found
 
 pub returns-clause-stuck : goal.returns-clause-stuck
 returns-clause-stuck c = λ hs at form place found all.
@@ -31,7 +31,7 @@ returns-clause-stuck c = λ hs at form place found all.
     let is = subst (IsLong a.target hs) (sym c.index_mut-kept.ensures.value) (all_get (IsLong a.target hs) a.long.now.items a.index x all c.requires.in_list) in
     let place_is = ap (λ (l : Long). l.at) c.index_mut-kept.ensures.value ∙ found x in
     let here = subst (λ (n : ℕ). IsBehind a.target hs (Some n) x.machine) place_is is in
-    IfErr-weaker c.run_fde.result _ _ (λ e y. refuses_by e _ _ (λ r h. behind_broken a.target hs x.machine place here at form a.begin a.range (span_of a.program) r h) y) c.run_fde.ensures.stuck
+    IfErr-weaker c.run_fde.result _ _ (λ e y. refuses_by e _ _ (λ r h. behind_broken a.target hs x.machine (record { at = at; form = form; cie_at = place; begin = a.begin; range = a.range; program = span_of a.program }) here r h) y) c.run_fde.ensures.stuck
 
 pub returns-clause-each : goal.returns-clause-each
 returns-clause-each c = λ hs all.
