@@ -5,7 +5,7 @@ use Rattle.dw_num.specs.declared.target.Size.{Size}
 use Rattle.dw_num.specs.Target.{address_limit, byte_count}
 use Rattle.dw_op.specs.declared.op.Op.{Op}
 use Rattle.dw_op.specs.declared.op.Op.TheVariants.{Addr, Deref, Const, Dup, Drop, Over, Pick, Swap, Rot, Abs, And, Div, Minus, Mod, Mul, Neg, Not, Or, Plus, PlusUconst, Shl, Shr, Shra, Xor, Bra, Eq, Ge, Gt, Le, Lt, Ne, Skip, Reg, Breg, Fbreg, Piece, DerefSize, Nop, PushObjectAddress, CallFrameCfa, BitPiece, Implicit, StackValue}
-use Rattle.dw_op.specs.OpSpells.{modulo}
+use Rattle.dw_op.specs.Operands.{modulo}
 use Rattle.dw_eval.specs.declared.error.Kind.{Kind}
 use Rattle.dw_eval.specs.declared.error.Kind.TheVariants.{StackUnderflow, DivideByZero, NoRegister, Unreadable, NotAValue, NoFrameBase, NoCfa, NoObject}
 use Rattle.dw_eval.specs.Context.{Context, signed, read_at}

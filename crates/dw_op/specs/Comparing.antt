@@ -11,7 +11,7 @@ use Rattle.dw_op.specs.declared.op.Op.{Op}
 use Rattle.dw_op.specs.declared.op.Op.TheVariants.{Addr, Const, Pick, PlusUconst, Bra, Skip, Reg, Breg, Fbreg, Piece, DerefSize, BitPiece, Implicit}
 use Rattle.dw_op.specs.declared.comparing.Line.{Line}
 use Rattle.dw_op.specs.Expression.{Expression}
-use Rattle.dw_op.specs.OpSpells.{alone_code}
+use Rattle.dw_op.specs.Codes.{alone_code}
 
 -- a signed number as a sign and a number
 abbrev pub sign_of : ℤ → ℕ

@@ -1,5 +1,6 @@
 -- How the code keeps what the contracts say. No public clause reaches these.
 pub mod ByOpcode
+pub mod ByOperation
 pub mod Steps
 pub mod Windows
 pub mod Accepted
