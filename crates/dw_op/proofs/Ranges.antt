@@ -1,6 +1,6 @@
 -- What it takes for an operation to have a spelling.
-use Rattle.std.proofs.Common.{◌≡◌, ℕ, suc, map, get_or, subst, ◌%◌, ◌^◌, ◌<◌, List, [], ◌∷◌, ◌++◌, length, refl, inr, arith, ℤ, pos, negsuc}
-use Rattle.std.specs.Prelude.{Some}
+use Rattle.std.proofs.Common.{◌≡◌, ℕ, zero, suc, map, get_or, subst, ◌%◌, ◌^◌, ◌<◌, List, [], ◌∷◌, ◌++◌, length, refl, inr, arith, ℤ, pos, negsuc}
+use Rattle.std.specs.Prelude.{Some, slice_get}
 use Rattle.std.proofs.lemmas.List.{length-map}
 use Rattle.std.proofs.lemmas.Option.{slice_get-map, slice_get-get_or}
 use Rattle.std.proofs.Math.Nat.{mod-eq_of_lt, mod-lt}
@@ -19,7 +19,7 @@ use Rattle.dw_op.specs.Expression.{bare}
 use Rattle.dw_op.specs.Inner.ByOperation.{Const8u, Unsigned, Counted}
 use Rattle.dw_op.specs.Operands.{modulo}
 use Rattle.dw_op.specs.OpSpells.{Code, Both}
-use Rattle.dw_op.specs.Ranges.{IsTyped, Fits, InRange, FirstBadOperand}
+use Rattle.dw_op.specs.Ranges.{IsTyped, Fits, InRange, AllInRange, FirstBadOperand}
 use Rattle.dw_op.proofs.Spellings.{InRangeSo, range_so, so_range}
 
 -- ---- one spelling of each operation
@@ -129,3 +129,12 @@ first_bad t ops k d lt bad earlier =
           let is : bare (get_or ops j d) ≡ other = cc in
           subst (λ (o : Op). InRange t (length ops) o) is (earlier j before));
     }
+
+pub listed_at : (P : Op → Type 0) (ops : List Op) (k : ℕ) (op : Op) → AllByRecursion P ops → slice_get ops k ≡ Some op → P op
+listed_at P [] k op h e = absurd cc
+listed_at P (o ∷ ops) zero op h e = let is : o ≡ op = cc in subst P is h.0
+listed_at P (o ∷ ops) (suc k) op h e = listed_at P ops k op h.1 e
+
+-- a list with an operation out of range is not in range
+pub not_in_range : (t : Target) (ops : List Op) (k : ℕ) → FirstBadOperand t ops k → AllInRange t ops → ⊥
+not_in_range t ops k f all = f.bad (listed_at (InRange t (length ops)) ops k f.op all f.is)
