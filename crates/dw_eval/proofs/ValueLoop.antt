@@ -6,7 +6,8 @@ use Rattle.dw_num.specs.Target.{byte_count}
 use Rattle.dw_op.specs.declared.op.Op.{Op}
 use Rattle.dw_op.specs.declared.op.Op.TheVariants.{DerefSize}
 use Rattle.dw_op.specs.Expression.{bare}
-use Rattle.dw_op.specs.Ranges.{AllInRange, Fits}
+use Rattle.dw_op.specs.Ranges.{AllInRange}
+use Rattle.dw_op.specs.Inner.Ranges.{Fits}
 use Rattle.dw_op.proofs.EncodeLaws.{bare_at, in_range_at}
 use Rattle.dw_op.proofs.Ranges.{fits}
 use Rattle.dw_eval.specs.declared.error.EvalError.{EvalError}

@@ -14,7 +14,8 @@ use Rattle.dw_op.specs.LeastOf.{least_bytes}
 use Rattle.dw_op.specs.Ranges.{InRange, AllInRange}
 use Rattle.dw_op.specs.declared.encoding.EncodeError.{EncodeError}
 use Rattle.dw_op.specs.declared.encoding.EncodeError.TheVariants.{BranchTooFar, OutOfMemory}
-use Rattle.dw_op.specs.Encoding.{IsFar, IsEncodeError, TooFar, blank_parts, bits_of, least_from, least_block, BranchFits, EachFits, AreStarts}
+use Rattle.dw_op.specs.Encoding.{IsFar, IsEncodeError, TooFar, blank_parts, bits_of, least_from, least_block}
+use Rattle.dw_op.specs.Inner.Encoding.{BranchFits, EachFits, AreStarts}
 use Rattle.dw_op.proofs.Ranges.{listed_at}
 use Rattle.dw_op.proofs.LeastOf.{least}
 use Rattle.dw_op.proofs.LeastBlocks.{EachInRange, each_fits, each_parts, joined-cons}

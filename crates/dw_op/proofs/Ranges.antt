@@ -19,7 +19,8 @@ use Rattle.dw_op.specs.Expression.{bare}
 use Rattle.dw_op.specs.Inner.ByOperation.{Const8u, Unsigned, Counted}
 use Rattle.dw_op.specs.Operands.{modulo}
 use Rattle.dw_op.specs.OpSpells.{Code, Both}
-use Rattle.dw_op.specs.Ranges.{IsTyped, Fits, InRange, AllInRange, FirstBadOperand}
+use Rattle.dw_op.specs.Ranges.{InRange, AllInRange, FirstBadOperand}
+use Rattle.dw_op.specs.Inner.Ranges.{IsTyped, Fits}
 use Rattle.dw_op.proofs.Spellings.{InRangeSo, range_so, so_range}
 
 -- ---- one spelling of each operation

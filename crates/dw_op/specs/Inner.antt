@@ -7,3 +7,6 @@ pub mod Accepted
 pub mod ComparingLaws
 pub mod Lengths
 pub mod Points
+pub mod Ranges
+pub mod Encoding
+pub mod Comparing
