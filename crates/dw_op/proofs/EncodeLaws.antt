@@ -1,7 +1,6 @@
 -- Where least spellings begin, and how the encoder goes over them.
 use Rattle.std.proofs.Common.{◌≡◌, ℕ, zero, suc, ◌+◌, ◌-◌, ◌<◌, ◌≤◌, List, [], ◌∷◌, ◌++◌, length, map, take, drop, get_or, Option, Some, None, refl, sym, ap, subst, ◌∙◌, inl, inr, append_assoc, arith}
 use Rattle.std.specs.Prelude.{slice_get, Result, Ok, Err, OnOk}
-use Rattle.std.specs.List.{AllByRecursion}
 use Rattle.std.proofs.lemmas.Bool.{cases_lt}
 use Rattle.std.proofs.lemmas.List.{length-append, length-map, append-nil, get_or_append_left, get_or-append_right, length-take, take-append-le}
 use Rattle.std.proofs.lemmas.Option.{slice_get-map, slice_get-get_or}

@@ -1,9 +1,9 @@
 -- What reading an operation refuses is the fault of its code, or of the first operand field that has one.
-use Rattle.std.proofs.Common.{◌≡◌, ℕ, ◌+◌, ◌-◌, ◌<◌, ◌≤◌, ◌^◌, ◌%◌, Bool, true, false, eqb, List, [], ◌∷◌, ◌++◌, length, Option, Some, None, Result, Ok, Err, refl, sym, ap, subst, ◌∙◌, arith, inl, inr}
+use Rattle.std.proofs.Common.{◌≡◌, ℕ, ◌+◌, ◌-◌, ◌<◌, ◌≤◌, ◌^◌, ◌%◌, Bool, true, false, List, [], ◌∷◌, ◌++◌, length, Option, Some, None, Result, Ok, Err, refl, sym, ap, subst, ◌∙◌, arith, inl, inr}
 use Rattle.std.specs.Int.{Width, w8, w16, w32, w64}
 use Rattle.std.specs.Prelude.{pos, nat_le, ◌&&◌, cond}
 use Rattle.std.proofs.lemmas.Int.{ints}
-use Rattle.std.proofs.lemmas.Bool.{cases_Bool, cases_lt, lt-ltb, le-ltb, eqb-true}
+use Rattle.std.proofs.lemmas.Bool.{cases_Bool, cases_lt, lt-ltb, le-ltb}
 use Rattle.dw_num.specs.declared.refusal.Code.TheVariants.{BadDerefSize, NotInFrame}
 use Rattle.dw_num.specs.declared.refusal.Refusal.{Refusal}
 use Rattle.dw_num.specs.declared.target.Order.{Order}
@@ -36,7 +36,7 @@ use Rattle.dw_op.specs.Operands.{Form, form_table, form_of, form_at, field_at, p
 use Rattle.dw_op.specs.Faults.{op_allowed, HasCode, OpFault}
 use Rattle.dw_op.specs.Reading.{plain_table, plain_op, operand_table, alone, or_else, opcode_of, code_in_frame, allows, with_op, width_of, signed_of, with_jump, after_register, size_in, after_size, after_length, operands_at, judged, step_at}
 use Rattle.dw_op.specs.Inner.ByOpcode.{address_step, unsigned_step, signed_step, uconst_step, sconst_step, pick_step, plus_step, jump_step, breg_step, long_reg_step, long_breg_step, fbreg_step, piece_step, deref_size_step, bit_piece_step, implicit_step}
-use Rattle.dw_op.proofs.ReadingLaws.{some_is, EachEntry, looked_up, range_is, unsigned_code, signed_code, CodeOf, opcode_known, const_of, signed_const_of, bare_in_frame}
+use Rattle.dw_op.proofs.ReadingLaws.{some_is, EachEntry, looked_up, unsigned_code, signed_code, CodeOf, opcode_known, const_of, signed_const_of, bare_in_frame}
 use Rattle.dw_op.proofs.ReadingAgain.{step_again}
 use Rattle.dw_op.proofs.Spellings.{in_table}
 use Rattle.dw_op.proofs.Splits.{input}

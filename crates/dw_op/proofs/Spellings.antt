@@ -1,15 +1,14 @@
 -- What is spelled by the table is what is spelled operation by operation.
-use Rattle.std.proofs.Common.{◌≡◌, ℕ, ◌+◌, ◌-◌, ◌<◌, ◌≤◌, true, false, List, [], ◌∷◌, Option, Some, refl, sym, ap, subst, ◌∙◌, arith, inl, inr}
+use Rattle.std.proofs.Common.{◌≡◌, ℕ, ◌+◌, ◌-◌, ◌<◌, true, false, List, [], ◌∷◌, Some, refl, sym, ap, subst, ◌∙◌, arith, inl, inr}
 use Rattle.std.specs.Prelude.{ℤ, pos}
 use Rattle.std.specs.Int.{w8, w16, w32, w64}
 use Rattle.std.proofs.lemmas.Bool.{cases_Bool, le-leb, le-ltb, lt-ltb}
 use Rattle.dw_num.specs.declared.target.Target.{Target}
-use Rattle.dw_num.specs.Target.{address_limit}
 use Rattle.dw_num.specs.Leb.{Uleb, Sleb, Register}
 use Rattle.dw_num.specs.Fixed.{Fixed, FixedSigned, Address}
 use Rattle.dw_op.specs.declared.op.Op.{Op}
 use Rattle.dw_op.specs.declared.op.Op.TheVariants.{Addr, Deref, Const, Dup, Drop, Over, Pick, Swap, Rot, Abs, And, Div, Minus, Mod, Mul, Neg, Not, Or, Plus, PlusUconst, Shl, Shr, Shra, Xor, Bra, Eq, Ge, Gt, Le, Lt, Ne, Skip, Reg, Breg, Fbreg, Piece, DerefSize, Nop, PushObjectAddress, CallFrameCfa, BitPiece, Implicit, StackValue}
-use Rattle.dw_op.specs.Operands.{Field, fixed, twos, address, unsigned, signed, register, size, block, Value, Form, none, one, two, branch, modulo, constant, natural, implicit, form_table, look_up, in_range, form_of}
+use Rattle.dw_op.specs.Operands.{Field, fixed, twos, address, unsigned, signed, register, size, block, Value, Form, none, one, two, branch, constant, natural, implicit, form_table, in_range, form_of}
 use Rattle.dw_op.specs.Block.{branch_target}
 use Rattle.dw_op.specs.Least.{AtMost, Least}
 use Rattle.dw_op.specs.Ranges.{TargetWithin, InRange}
@@ -40,59 +39,160 @@ module _ (t : Target) where
   branch_so to code h op b s = made_so (to s.0) op (code ∷ b) s.1 (h s.0 b s.2)
 
   table_so : EachEntry FormSo (form_table t)
-  table_so =
-      (one_so address Addr 0x03 (λ x b s. record { rest = b; operands = s; whole = refl }),
-      (alone_so Deref 0x06 refl,
-      (one_so (fixed 1) (natural t) 0x08 (λ x b s. record { form = Const1u; number = pos x; written = record { rest = b; operands = record { number = x; is = refl; spelled = s }; whole = refl }; value = refl }),
-      (one_so (twos w8) (constant t) 0x09 (λ x b s. record { form = Const1s; number = x; written = record { rest = b; operands = s; whole = refl }; value = refl }),
-      (one_so (fixed 2) (natural t) 0x0a (λ x b s. record { form = Const2u; number = pos x; written = record { rest = b; operands = record { number = x; is = refl; spelled = s }; whole = refl }; value = refl }),
-      (one_so (twos w16) (constant t) 0x0b (λ x b s. record { form = Const2s; number = x; written = record { rest = b; operands = s; whole = refl }; value = refl }),
-      (one_so (fixed 4) (natural t) 0x0c (λ x b s. record { form = Const4u; number = pos x; written = record { rest = b; operands = record { number = x; is = refl; spelled = s }; whole = refl }; value = refl }),
-      (one_so (twos w32) (constant t) 0x0d (λ x b s. record { form = Const4s; number = x; written = record { rest = b; operands = s; whole = refl }; value = refl }),
-      (one_so (fixed 8) (natural t) 0x0e (λ x b s. record { form = Const8u; number = pos x; written = record { rest = b; operands = record { number = x; is = refl; spelled = s }; whole = refl }; value = refl }),
-      (one_so (twos w64) (constant t) 0x0f (λ x b s. record { form = Const8s; number = x; written = record { rest = b; operands = s; whole = refl }; value = refl }),
-      (one_so unsigned (natural t) 0x10 (λ x b s. record { form = Constu; number = pos x; written = record { rest = b; operands = record { number = x; is = refl; spelled = s }; whole = refl }; value = refl }),
-      (one_so signed (constant t) 0x11 (λ x b s. record { form = Consts; number = x; written = record { rest = b; operands = s; whole = refl }; value = refl }),
-      (alone_so Dup 0x12 refl,
-      (alone_so Drop 0x13 refl,
-      (alone_so Over 0x14 refl,
-      (one_so (fixed 1) Pick 0x15 (λ x b s. record { rest = b; operands = s; whole = refl }),
-      (alone_so Swap 0x16 refl,
-      (alone_so Rot 0x17 refl,
-      (alone_so Abs 0x19 refl,
-      (alone_so And 0x1a refl,
-      (alone_so Div 0x1b refl,
-      (alone_so Minus 0x1c refl,
-      (alone_so Mod 0x1d refl,
-      (alone_so Mul 0x1e refl,
-      (alone_so Neg 0x1f refl,
-      (alone_so Not 0x20 refl,
-      (alone_so Or 0x21 refl,
-      (alone_so Plus 0x22 refl,
-      (one_so unsigned PlusUconst 0x23 (λ x b s. record { rest = b; operands = s; whole = refl }),
-      (alone_so Shl 0x24 refl,
-      (alone_so Shr 0x25 refl,
-      (alone_so Shra 0x26 refl,
-      (alone_so Xor 0x27 refl,
-      (branch_so Bra 0x28 (λ i b s. record { rest = b; operands = s; whole = refl }),
-      (alone_so Eq 0x29 refl,
-      (alone_so Ge 0x2a refl,
-      (alone_so Gt 0x2b refl,
-      (alone_so Le 0x2c refl,
-      (alone_so Lt 0x2d refl,
-      (alone_so Ne 0x2e refl,
-      (branch_so Skip 0x2f (λ i b s. record { rest = b; operands = s; whole = refl }),
-      (one_so register Reg 0x90 (λ x b s. inr (record { rest = b; operands = s; whole = refl })),
-      (one_so signed Fbreg 0x91 (λ x b s. record { rest = b; operands = s; whole = refl }),
-      (two_so register signed Breg 0x92 (λ x y b s. inr (record { rest = b; operands = s; whole = refl })),
-      (one_so unsigned Piece 0x93 (λ x b s. record { rest = b; operands = s; whole = refl }),
-      (one_so size DerefSize 0x94 (λ x b s. (record { rest = b; operands = s.0; whole = refl }, s.1, s.2)),
-      (alone_so Nop 0x96 refl,
-      (alone_so PushObjectAddress 0x97 refl,
-      (alone_so CallFrameCfa 0x9c refl,
-      (two_so unsigned unsigned BitPiece 0x9d (λ x y b s. record { rest = b; operands = s; whole = refl }),
-      (one_so block implicit 0x9e (λ x b s. (refl, record { rest = b; operands = s; whole = refl })),
-      (alone_so StackValue 0x9f refl, tt))))))))))))))))))))))))))))))))))))))))))))))))))))
+  table_so = (
+    one_so address Addr 0x03 (λ x b s. record { rest = b; operands = s; whole = refl }),
+    (
+      alone_so Deref 0x06 refl,
+      (
+        one_so (fixed 1) (natural t) 0x08 (λ x b s. record { form = Const1u; number = pos x; written = record { rest = b; operands = record { number = x; is = refl; spelled = s }; whole = refl }; value = refl }),
+        (
+          one_so (twos w8) (constant t) 0x09 (λ x b s. record { form = Const1s; number = x; written = record { rest = b; operands = s; whole = refl }; value = refl }),
+          (
+            one_so (fixed 2) (natural t) 0x0a (λ x b s. record { form = Const2u; number = pos x; written = record { rest = b; operands = record { number = x; is = refl; spelled = s }; whole = refl }; value = refl }),
+            (
+              one_so (twos w16) (constant t) 0x0b (λ x b s. record { form = Const2s; number = x; written = record { rest = b; operands = s; whole = refl }; value = refl }),
+              (
+                one_so (fixed 4) (natural t) 0x0c (λ x b s. record { form = Const4u; number = pos x; written = record { rest = b; operands = record { number = x; is = refl; spelled = s }; whole = refl }; value = refl }),
+                (
+                  one_so (twos w32) (constant t) 0x0d (λ x b s. record { form = Const4s; number = x; written = record { rest = b; operands = s; whole = refl }; value = refl }),
+                  (
+                    one_so (fixed 8) (natural t) 0x0e (λ x b s. record { form = Const8u; number = pos x; written = record { rest = b; operands = record { number = x; is = refl; spelled = s }; whole = refl }; value = refl }),
+                    (
+                      one_so (twos w64) (constant t) 0x0f (λ x b s. record { form = Const8s; number = x; written = record { rest = b; operands = s; whole = refl }; value = refl }),
+                      (
+                        one_so unsigned (natural t) 0x10 (λ x b s. record { form = Constu; number = pos x; written = record { rest = b; operands = record { number = x; is = refl; spelled = s }; whole = refl }; value = refl }),
+                        (
+                          one_so signed (constant t) 0x11 (λ x b s. record { form = Consts; number = x; written = record { rest = b; operands = s; whole = refl }; value = refl }),
+                          (
+                            alone_so Dup 0x12 refl,
+                            (
+                              alone_so Drop 0x13 refl,
+                              (
+                                alone_so Over 0x14 refl,
+                                (
+                                  one_so (fixed 1) Pick 0x15 (λ x b s. record { rest = b; operands = s; whole = refl }),
+                                  (
+                                    alone_so Swap 0x16 refl,
+                                    (
+                                      alone_so Rot 0x17 refl,
+                                      (
+                                        alone_so Abs 0x19 refl,
+                                        (
+                                          alone_so And 0x1a refl,
+                                          (
+                                            alone_so Div 0x1b refl,
+                                            (
+                                              alone_so Minus 0x1c refl,
+                                              (
+                                                alone_so Mod 0x1d refl,
+                                                (
+                                                  alone_so Mul 0x1e refl,
+                                                  (
+                                                    alone_so Neg 0x1f refl,
+                                                    (
+                                                      alone_so Not 0x20 refl,
+                                                      (
+                                                        alone_so Or 0x21 refl,
+                                                        (
+                                                          alone_so Plus 0x22 refl,
+                                                          (
+                                                            one_so unsigned PlusUconst 0x23 (λ x b s. record { rest = b; operands = s; whole = refl }),
+                                                            (
+                                                              alone_so Shl 0x24 refl,
+                                                              (
+                                                                alone_so Shr 0x25 refl,
+                                                                (
+                                                                  alone_so Shra 0x26 refl,
+                                                                  (
+                                                                    alone_so Xor 0x27 refl,
+                                                                    (
+                                                                      branch_so Bra 0x28 (λ i b s. record { rest = b; operands = s; whole = refl }),
+                                                                      (
+                                                                        alone_so Eq 0x29 refl,
+                                                                        (
+                                                                          alone_so Ge 0x2a refl,
+                                                                          (
+                                                                            alone_so Gt 0x2b refl,
+                                                                            (
+                                                                              alone_so Le 0x2c refl,
+                                                                              (
+                                                                                alone_so Lt 0x2d refl,
+                                                                                (
+                                                                                  alone_so Ne 0x2e refl,
+                                                                                  (
+                                                                                    branch_so Skip 0x2f (λ i b s. record { rest = b; operands = s; whole = refl }),
+                                                                                    (
+                                                                                      one_so register Reg 0x90 (λ x b s. inr (record { rest = b; operands = s; whole = refl })),
+                                                                                      (
+                                                                                        one_so signed Fbreg 0x91 (λ x b s. record { rest = b; operands = s; whole = refl }),
+                                                                                        (
+                                                                                          two_so register signed Breg 0x92 (λ x y b s. inr (record { rest = b; operands = s; whole = refl })),
+                                                                                          (
+                                                                                            one_so unsigned Piece 0x93 (λ x b s. record { rest = b; operands = s; whole = refl }),
+                                                                                            (
+                                                                                              one_so size DerefSize 0x94 (λ x b s. (record { rest = b; operands = s.0; whole = refl }, s.1, s.2)),
+                                                                                              (
+                                                                                                alone_so Nop 0x96 refl,
+                                                                                                (
+                                                                                                  alone_so PushObjectAddress 0x97 refl,
+                                                                                                  (
+                                                                                                    alone_so CallFrameCfa 0x9c refl,
+                                                                                                    (
+                                                                                                      two_so unsigned unsigned BitPiece 0x9d (λ x y b s. record { rest = b; operands = s; whole = refl }),
+                                                                                                      (
+                                                                                                        one_so block implicit 0x9e (λ x b s. (refl, record { rest = b; operands = s; whole = refl })),
+                                                                                                        (alone_so StackValue 0x9f refl, tt),
+                                                                                                      ),
+                                                                                                    ),
+                                                                                                  ),
+                                                                                                ),
+                                                                                              ),
+                                                                                            ),
+                                                                                          ),
+                                                                                        ),
+                                                                                      ),
+                                                                                    ),
+                                                                                  ),
+                                                                                ),
+                                                                              ),
+                                                                            ),
+                                                                          ),
+                                                                        ),
+                                                                      ),
+                                                                    ),
+                                                                  ),
+                                                                ),
+                                                              ),
+                                                            ),
+                                                          ),
+                                                        ),
+                                                      ),
+                                                    ),
+                                                  ),
+                                                ),
+                                              ),
+                                            ),
+                                          ),
+                                        ),
+                                      ),
+                                    ),
+                                  ),
+                                ),
+                              ),
+                            ),
+                          ),
+                        ),
+                      ),
+                    ),
+                  ),
+                ),
+              ),
+            ),
+          ),
+        ),
+      ),
+    ),
+  )
 
   lit_so : (code n : ℕ) → code ≡ 0x30 + n → n < 32 → FormSo (none (Const n)) code
   lit_so code n is lt =

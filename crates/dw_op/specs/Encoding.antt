@@ -1,5 +1,5 @@
 -- Blocks of least spellings, and branches that are too far for any block.
-use Rattle.std.specs.Prelude.{◌≡◌, ℕ, suc, ◌+◌, ◌<◌, List, [], ◌∷◌, ◌++◌, slice_get, Option, Some, None, FitsSigned}
+use Rattle.std.specs.Prelude.{◌≡◌, ℕ, suc, ◌<◌, List, [], ◌∷◌, ◌++◌, slice_get, Option, Some, None, FitsSigned}
 use Rattle.std.specs.Int.{w16, cast_unsigned}
 use Rattle.dw_num.specs.declared.target.Target.{Target}
 use Rattle.dw_op.specs.declared.op.Op.{Op}
