@@ -16,7 +16,8 @@ use Rattle.dw_num.specs.Target.{byte_count, address_limit}
 use Rattle.dw_num.proofs.Shortest.{shortest_uleb-spells, shortest_sleb-spells}
 use Rattle.dw_op.specs.Encoding.{least_block}
 use Rattle.dw_op.specs.Expression.{Expression}
-use Rattle.dw_op.specs.OpSpells.{Code, Both, Alone}
+use Rattle.dw_op.specs.OpSpells.{Code, Both}
+use Rattle.dw_op.specs.Inner.ByOperation.{Alone}
 use Rattle.dw_op.proofs.LeastBlocks.{least_block_exists, least_no_longer, block_of_least}
 use Rattle.dw_cfa.specs.declared.instr.Instr.{Instr}
 use Rattle.dw_cfa.specs.declared.instr.Instr.TheVariants.{Nop, SetLoc, Advance, DefCfa, DefCfaRegister, DefCfaOffset, DefCfaExpression, Set, Restore, RememberState, RestoreState}

@@ -4,7 +4,8 @@ use Rattle.std.specs.Prelude.{ℤ, pos, ◌*ℤ◌}
 use Rattle.dw_num.specs.declared.target.Target.{Target}
 use Rattle.dw_num.specs.Leb.{Uleb, Sleb, Register}
 use Rattle.dw_num.specs.Fixed.{Fixed, Address}
-use Rattle.dw_op.specs.OpSpells.{Code, Both, Alone}
+use Rattle.dw_op.specs.OpSpells.{Code, Both}
+use Rattle.dw_op.specs.Inner.ByOperation.{Alone}
 use Rattle.dw_cfa.specs.declared.instr.Factors.{Factors}
 use Rattle.dw_cfa.specs.declared.instr.Instr.{Instr}
 use Rattle.dw_cfa.specs.declared.instr.Instr.TheVariants.{Nop, SetLoc, Advance, DefCfa, DefCfaRegister, DefCfaOffset, DefCfaExpression, Set, Restore, RememberState, RestoreState}

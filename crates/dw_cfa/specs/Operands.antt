@@ -1,7 +1,7 @@
 -- Opcodes of call frame instructions, and the operands behind each: DWARF 5, 6.4.2 and 7.24.
 use Rattle.std.specs.Prelude.{ℕ, ◌*◌, ◌-◌, List, [], ◌∷◌, Option, Some, if◌then◌else◌, ℤ, pos, ◌*ℤ◌}
 use Rattle.dw_op.specs.Expression.{Expression}
-use Rattle.dw_op.specs.Reading.{look_up, in_range}
+use Rattle.dw_op.specs.Operands.{look_up, in_range}
 use Rattle.dw_cfa.specs.declared.instr.Factors.{Factors}
 use Rattle.dw_cfa.specs.declared.instr.Instr.{Instr}
 use Rattle.dw_cfa.specs.declared.instr.Instr.TheVariants.{Nop, SetLoc, Advance, DefCfa, DefCfaRegister, DefCfaOffset, DefCfaExpression, Set, Restore, RememberState, RestoreState}

@@ -14,7 +14,7 @@ use Rattle.dw_eval.specs.declared.place.Role.{Role}
 use Rattle.dw_eval.specs.declared.place.Role.TheVariants.{SetsPlace, SetsValue, AddsPiece, Waits, Computes}
 use Rattle.dw_eval.specs.Context.{Context}
 use Rattle.dw_eval.specs.Effect.{Outcome, Next, Jump, Faults, effect}
-use Rattle.dw_eval.specs.Describing.{Turns}
+use Rattle.dw_eval.specs.Inner.Describing.{Turns}
 use Rattle.dw_eval.specs.Location.{PlaceState, role, place_led, with_value, free_turn, held_turn, turn_by, place_turn}
 use Rattle.dw_eval.specs.Inner.Stepping.{StepsTo}
 use Rattle.dw_eval.proofs.Effects.{IsTame, effect_tame, in_range_at}

@@ -8,7 +8,7 @@ use Rattle.std.proofs.lemmas.Int.{ints, to_z-of_z, of_z-to_z}
 use Rattle.dw_num.specs.declared.target.Size.{Size}
 use Rattle.dw_num.specs.declared.target.Size.TheVariants.{Four, Eight}
 use Rattle.dw_num.specs.Target.{address_limit}
-use Rattle.dw_op.specs.OpSpells.{modulo}
+use Rattle.dw_op.specs.Operands.{modulo}
 use Rattle.dw_eval.specs.Context.{signed}
 use Rattle.dw_eval.specs.Effect.{bit_count, shifted_signed}
 

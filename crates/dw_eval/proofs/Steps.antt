@@ -7,7 +7,8 @@ use Rattle.dw_eval.specs.declared.error.EvalError.{EvalError}
 use Rattle.dw_eval.specs.declared.error.EvalError.TheVariants.{Fault, OutOfMemory}
 use Rattle.dw_eval.specs.declared.error.Kind.{Kind}
 use Rattle.dw_eval.specs.declared.error.Kind.TheVariants.{Device, StepLimit}
-use Rattle.dw_eval.specs.Runs.{Runs, Answered, Right, Short, Failed}
+use Rattle.dw_eval.specs.Runs.{Runs}
+use Rattle.dw_eval.specs.Inner.Runs.{Answered, Right, Short, Failed}
 use Rattle.dw_eval.specs.declared.stack.Flow.{Flow}
 use Rattle.dw_eval.specs.declared.stack.Flow.TheVariants as flow
 use Rattle.dw_eval.specs.declared.stack.Stop.{Stop}

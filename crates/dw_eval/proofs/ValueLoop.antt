@@ -6,7 +6,8 @@ use Rattle.dw_num.specs.Target.{byte_count}
 use Rattle.dw_op.specs.declared.op.Op.{Op}
 use Rattle.dw_op.specs.declared.op.Op.TheVariants.{DerefSize}
 use Rattle.dw_op.specs.Expression.{bare}
-use Rattle.dw_op.specs.Ranges.{AllInRange, Fits}
+use Rattle.dw_op.specs.Ranges.{AllInRange}
+use Rattle.dw_op.specs.Inner.Ranges.{Fits}
 use Rattle.dw_op.proofs.EncodeLaws.{bare_at, in_range_at}
 use Rattle.dw_op.proofs.Ranges.{fits}
 use Rattle.dw_eval.specs.declared.error.EvalError.{EvalError}
@@ -14,7 +15,8 @@ use Rattle.dw_eval.specs.declared.error.EvalError.TheVariants.{Fault}
 use Rattle.dw_eval.specs.declared.error.Kind.TheVariants.{StepLimit}
 use Rattle.dw_eval.specs.Context.{Context}
 use Rattle.dw_eval.specs.Effect.{Reads}
-use Rattle.dw_eval.specs.Evaluation.{State, index_of, value_turn, value_start, value_reads, top_of, ValueRuns, EvaluatesOver}
+use Rattle.dw_eval.specs.Evaluation.{State, index_of, value_turn, value_start, value_reads, top_of}
+use Rattle.dw_eval.specs.Inner.Evaluation.{ValueRuns, EvaluatesOver}
 use Rattle.dw_eval.specs.Inner.Stepping.{StepsTo}
 use Rattle.dw_eval.proofs.Effects.{value_stays}
 use Rattle.dw_eval.proofs.Steps.{runs_more, answered_stop, answered_limit}

@@ -9,7 +9,8 @@ use Rattle.dw_eval.specs.declared.error.EvalError.TheVariants.{Fault}
 use Rattle.dw_eval.specs.declared.error.Kind.TheVariants.{DivideByZero, StepLimit, Unreadable, StackUnderflow, EmptyResult, MissingPiece}
 use Rattle.dw_eval.specs.Context.{Context, signed}
 use Rattle.dw_eval.specs.Effect.{Next, Jump, Faults, effect}
-use Rattle.dw_eval.specs.Evaluation.{State, ValueRuns, Evaluates}
+use Rattle.dw_eval.specs.Evaluation.{State, Evaluates}
+use Rattle.dw_eval.specs.Inner.Evaluation.{ValueRuns}
 use Rattle.dw_eval.specs.Location.{PlaceState, place_turn, pieces_of, Located}
 use Rattle.dw_eval.specs.declared.place.Part.TheVariants as part
 use Rattle.dw_eval.specs.declared.place.Part.TheVariants.{Whole}

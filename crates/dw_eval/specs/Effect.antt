@@ -4,8 +4,8 @@ use Rattle.std.specs.Int.{int_shr}
 use Rattle.dw_num.specs.declared.target.Size.{Size}
 use Rattle.dw_num.specs.Target.{address_limit, byte_count}
 use Rattle.dw_op.specs.declared.op.Op.{Op}
-use Rattle.dw_op.specs.declared.op.Op.TheVariants.{Addr, Deref, Const, Dup, Drop, Over, Pick, Swap, Rot, Abs, And, Div, Minus, Mod, Mul, Neg, Not, Or, Plus, PlusUconst, Shl, Shr, Shra, Xor, Bra, Eq, Ge, Gt, Le, Lt, Ne, Skip, Reg, Breg, Fbreg, Piece, DerefSize, Nop, PushObjectAddress, CallFrameCfa, BitPiece, Implicit, StackValue}
-use Rattle.dw_op.specs.OpSpells.{modulo}
+use Rattle.dw_op.specs.declared.op.Op.TheVariants.{Addr, Deref, Const, Dup, Drop, Over, Pick, Swap, Rot, Abs, And, Div, Minus, Mod, Mul, Neg, Not, Or, Plus, PlusUconst, Shl, Shr, Shra, Xor, Bra, Eq, Ge, Gt, Le, Lt, Ne, Skip, Breg, Fbreg, DerefSize, Nop, PushObjectAddress, CallFrameCfa, StackValue}
+use Rattle.dw_op.specs.Operands.{modulo}
 use Rattle.dw_eval.specs.declared.error.Kind.{Kind}
 use Rattle.dw_eval.specs.declared.error.Kind.TheVariants.{StackUnderflow, DivideByZero, NoRegister, Unreadable, NotAValue, NoFrameBase, NoCfa, NoObject}
 use Rattle.dw_eval.specs.Context.{Context, signed, read_at}
@@ -23,16 +23,11 @@ on_top (t ∷ below) f = f t below
 
 -- of the second, the top and what is below
 abbrev pub on_two : List ℕ → (ℕ → ℕ → List ℕ → Outcome) → Outcome
-on_two [] f = Faults StackUnderflow
-on_two (t ∷ []) f = Faults StackUnderflow
-on_two (t ∷ s ∷ below) f = f s t below
+on_two stack f = on_top stack (λ t rest. on_top rest (λ s below. f s t below))
 
 -- of the third, the second, the top and what is below
 abbrev pub on_three : List ℕ → (ℕ → ℕ → ℕ → List ℕ → Outcome) → Outcome
-on_three [] f = Faults StackUnderflow
-on_three (t ∷ []) f = Faults StackUnderflow
-on_three (t ∷ s ∷ []) f = Faults StackUnderflow
-on_three (t ∷ s ∷ third ∷ below) f = f third s t below
+on_three stack f = on_two stack (λ s t rest. on_top rest (λ third below. f third s t below))
 
 -- of a value that may be missing
 abbrev pub known : Kind → Option ℕ → (ℕ → Outcome) → Outcome
@@ -113,12 +108,9 @@ module _ (c : Context) where
   effect Nop stack = Next stack
   effect PushObjectAddress stack = known NoObject c.object (λ v. push c.target.size v stack)
   effect CallFrameCfa stack = known NoCfa c.cfa (λ v. push c.target.size v stack)
-  -- a place is no value
-  effect (Reg r) stack = Faults NotAValue
-  effect (Piece n) stack = Faults NotAValue
-  effect (BitPiece size offset) stack = Faults NotAValue
-  effect (Implicit block) stack = Faults NotAValue
   effect StackValue stack = on_top stack (λ t below. Faults NotAValue)
+  -- the others give a place, which is no value
+  effect other stack = Faults NotAValue
 
   -- k bytes are read from memory: at the top's address, and they end at 2 ^ N or before
   pub record ReadsAt (k : ℕ) (stack : List ℕ) : Type 0 where

@@ -9,7 +9,7 @@ use Rattle.dw_eval.specs.declared.error.Kind.{Kind}
 use Rattle.dw_eval.specs.declared.error.Kind.TheVariants.{EmptyResult}
 use Rattle.dw_eval.specs.Context.{Context}
 use Rattle.dw_eval.specs.Effect.{Outcome, Next, Jump, Faults, effect, Reads}
-use Rattle.dw_eval.specs.Runs.{Runs, Answers, MayFail, Answered}
+use Rattle.dw_eval.specs.Runs.{Answers, MayFail}
 
 -- before an operation: its index and the stack, the top first
 pub record State : Type 0 where
@@ -47,10 +47,6 @@ value_reads c op s = Reads c op s.stack
 
 -- with the stack at the start
 module _ (ops : List Op) (c : Context) (first : List ℕ) where
-  -- n steps lead to a state
-  abbrev pub ValueRuns : ℕ → State → Type 0
-  ValueRuns = Runs index_of (value_turn c) ops (value_start first)
-
   -- the value, or the kind of the fault and the operation's index
   abbrev pub Evaluates : ℕ → Result ℕ EvalError → Type 0
   Evaluates = Answers index_of (value_turn c) ops (value_start first) (λ s. top_of (length ops) s.stack)
@@ -58,7 +54,3 @@ module _ (ops : List Op) (c : Context) (first : List ℕ) where
   -- operation i is reached before the limit, and reads from memory
   abbrev pub MayFailAt : ℕ → ℕ → Type 0
   MayFailAt = MayFail index_of (value_turn c) ops (value_start first) (value_reads c)
-
-  -- what the code answers, with its memory's count of failures before and after
-  abbrev pub EvaluatesOver : ℕ → ℕ → Result ℕ EvalError → ℕ → Type 0
-  EvaluatesOver = Answered index_of (value_turn c) ops (value_start first) (value_reads c) (λ s. top_of (length ops) s.stack)

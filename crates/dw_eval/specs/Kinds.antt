@@ -3,30 +3,23 @@ use Rattle.std.specs.Prelude.{ℕ, List, codes}
 use Rattle.dw_eval.specs.declared.error.Kind.{Kind}
 use Rattle.dw_eval.specs.declared.error.Kind.TheVariants.{StackUnderflow, DivideByZero, NoRegister, Unreadable, Device, StepLimit, EmptyResult, NotAValue, NoFrameBase, NoCfa, NoObject, MissingPiece}
 
+-- number and name of each
+abbrev pub kind_entry : Kind → ℕ × List ℕ
+kind_entry StackUnderflow = (1, codes "StackUnderflow")
+kind_entry DivideByZero = (2, codes "DivideByZero")
+kind_entry NoRegister = (3, codes "NoRegister")
+kind_entry Unreadable = (4, codes "Unreadable")
+kind_entry Device = (5, codes "Device")
+kind_entry StepLimit = (6, codes "StepLimit")
+kind_entry EmptyResult = (7, codes "EmptyResult")
+kind_entry NotAValue = (8, codes "NotAValue")
+kind_entry NoFrameBase = (9, codes "NoFrameBase")
+kind_entry NoCfa = (10, codes "NoCfa")
+kind_entry NoObject = (11, codes "NoObject")
+kind_entry MissingPiece = (12, codes "MissingPiece")
+
 abbrev pub number_of : Kind → ℕ
-number_of StackUnderflow = 1
-number_of DivideByZero = 2
-number_of NoRegister = 3
-number_of Unreadable = 4
-number_of Device = 5
-number_of StepLimit = 6
-number_of EmptyResult = 7
-number_of NotAValue = 8
-number_of NoFrameBase = 9
-number_of NoCfa = 10
-number_of NoObject = 11
-number_of MissingPiece = 12
+number_of code = (kind_entry code).0
 
 abbrev pub name_of : Kind → List ℕ
-name_of StackUnderflow = codes "StackUnderflow"
-name_of DivideByZero = codes "DivideByZero"
-name_of NoRegister = codes "NoRegister"
-name_of Unreadable = codes "Unreadable"
-name_of Device = codes "Device"
-name_of StepLimit = codes "StepLimit"
-name_of EmptyResult = codes "EmptyResult"
-name_of NotAValue = codes "NotAValue"
-name_of NoFrameBase = codes "NoFrameBase"
-name_of NoCfa = codes "NoCfa"
-name_of NoObject = codes "NoObject"
-name_of MissingPiece = codes "MissingPiece"
+name_of code = (kind_entry code).1

@@ -6,7 +6,6 @@ pub mod Effect
 pub mod Runs
 pub mod Evaluation
 pub mod Location
-pub mod Describing
 pub mod Space
 pub mod Laws
 pub mod Inner

@@ -17,7 +17,7 @@ use Rattle.dw_eval.specs.declared.place.Role.{Role}
 use Rattle.dw_eval.specs.declared.place.Role.TheVariants.{SetsPlace, SetsValue, AddsPiece, Waits, Computes}
 use Rattle.dw_eval.specs.Context.{Context}
 use Rattle.dw_eval.specs.Effect.{Outcome, Next, Jump, Faults, effect, Reads}
-use Rattle.dw_eval.specs.Runs.{Runs, Answers, MayFail, Answered}
+use Rattle.dw_eval.specs.Runs.{Answers, MayFail}
 
 -- what each operation does in a description; a computation names so many entries of the stack, most of them two
 abbrev pub role : Op → Role
@@ -127,11 +127,18 @@ pieces_of len (Some place) stack (piece ∷ pieces) = Err (Fault MissingPiece le
 abbrev pub place_reads : Context → Op → PlaceState → Type 0
 place_reads c op s = (s.pending ≡ None) × Reads c op s.stack
 
-module _ (ops : List Op) (c : Context) where
-  -- n steps lead to a state
-  abbrev pub PlaceRuns : ℕ → PlaceState → Type 0
-  PlaceRuns = Runs place_index (place_turn c) ops place_start
+-- a place without where its bytes lie in memory
+abbrev pub bare_place : Place → Place
+bare_place Empty = Empty
+bare_place (Memory a) = Memory a
+bare_place (Register r) = Register r
+bare_place (Value v) = Value v
+bare_place (Bytes block) = Bytes (record { ref_ptr = (0, 0); now = block.now })
 
+abbrev pub bare_piece : Piece → Piece
+bare_piece p = record { place = bare_place p.place; part = p.part }
+
+module _ (ops : List Op) (c : Context) where
   -- the pieces, or the kind of the fault and the operation's index
   abbrev pub Located : ℕ → Result (List Piece) EvalError → Type 0
   Located = Answers place_index (place_turn c) ops place_start (λ s. pieces_of (length ops) s.pending s.stack s.pieces)
@@ -139,7 +146,3 @@ module _ (ops : List Op) (c : Context) where
   -- operation i is reached before the limit, and reads from memory
   abbrev pub PlaceMayFailAt : ℕ → ℕ → Type 0
   PlaceMayFailAt = MayFail place_index (place_turn c) ops place_start (place_reads c)
-
-  -- what the code answers, with its memory's count of failures before and after
-  abbrev pub LocatesOver : ℕ → ℕ → Result (List Piece) EvalError → ℕ → Type 0
-  LocatesOver = Answered place_index (place_turn c) ops place_start (place_reads c) (λ s. pieces_of (length ops) s.pending s.stack s.pieces)

@@ -2,9 +2,9 @@
 use Rattle.std.specs.Prelude.{◌≡◌, ◌⊎◌, ℕ, zero, suc, ◌<◌, ◌≤◌, List, length, slice_get, Some, Result, Ok, Err}
 use Rattle.dw_op.specs.declared.op.Op.{Op}
 use Rattle.dw_eval.specs.declared.error.EvalError.{EvalError}
-use Rattle.dw_eval.specs.declared.error.EvalError.TheVariants.{Fault, OutOfMemory}
+use Rattle.dw_eval.specs.declared.error.EvalError.TheVariants.{Fault}
 use Rattle.dw_eval.specs.declared.error.Kind.{Kind}
-use Rattle.dw_eval.specs.declared.error.Kind.TheVariants.{StepLimit, Device}
+use Rattle.dw_eval.specs.declared.error.Kind.TheVariants.{StepLimit}
 
 -- of states with an index: what each operation makes of a state, and the state at the start
 module _ {S : Type 0} (index : S → ℕ) (turn : Op → S → Result S Kind) (ops : List Op) (start : S) where
@@ -55,10 +55,3 @@ module _ {S : Type 0} (index : S → ℕ) (turn : Op → S → Result S Kind) (o
     pub at : index state ≡ i
     pub stands : slice_get ops i ≡ Some op
     pub made : reads op state
-
-  -- what is answered over a memory: the answer or want of memory where its count of failures stayed, and where
-  -- it grew a failure of the device
-  pub data Answered {A : Type 0} (reads : Op → S → Type 0) (ending : S → Result A EvalError) (limit before : ℕ) (answer : Result A EvalError) (after : ℕ) : Type 0 where
-    Right : after ≡ before → Answers ending limit answer → Answered reads ending limit before answer after
-    Short : after ≡ before → answer ≡ Err OutOfMemory → Answered reads ending limit before answer after
-    Failed : before < after → (i : ℕ) → answer ≡ Err (Fault Device i) → MayFail reads limit i → Answered reads ending limit before answer after

@@ -2,7 +2,7 @@
 
 ghost use Rattle.std.specs.Prelude.{◌≡◌, ◌+◌, ◌-◌, ◌*◌, ◌%◌, ◌<◌, pos, ◌+ℤ◌, ◌-ℤ◌, int_div, int_lt, if◌then◌else◌, negsuc, unsigned_abs};
 ghost use Rattle.dw_num.specs.Target.{address_limit};
-ghost use Rattle.dw_op.specs.OpSpells.{modulo};
+ghost use Rattle.dw_op.specs.Operands.{modulo};
 ghost use Rattle.dw_eval.specs.Context.{signed};
 ghost use Rattle.dw_eval.specs.Effect.{bit_count, shifted_left, shifted_right, shifted_signed};
 

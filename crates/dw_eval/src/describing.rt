@@ -31,7 +31,8 @@ pub(crate) struct Description<'a> {
 
 impl<'a> Description<'a> {
     ghost use Rattle.dw_eval.specs.declared.place.Piece.{Piece};
-    ghost use Rattle.dw_eval.specs.Describing.{bare_place, bare_piece, bare_role, state_of, Turns};
+    ghost use Rattle.dw_eval.specs.Location.{bare_place, bare_piece};
+    ghost use Rattle.dw_eval.specs.Inner.Describing.{bare_role, state_of, Turns};
 
     /// Nothing is described yet. Takes no memory.
     pub(crate) fn new(alloc: Global) -> Description<'a>

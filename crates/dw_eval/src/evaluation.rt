@@ -10,7 +10,8 @@ ghost use Rattle.dw_eval.specs.declared.error.Kind.{Kind};
 ghost use Rattle.dw_eval.specs.declared.error.Kind.TheVariants.{Device};
 ghost use Rattle.dw_eval.specs.Context.{context};
 ghost use Rattle.dw_eval.specs.Effect.{Reads};
-ghost use Rattle.dw_eval.specs.Evaluation.{value_turn, first_stack, top_of, Evaluates, EvaluatesOver, MayFailAt};
+ghost use Rattle.dw_eval.specs.Evaluation.{value_turn, first_stack, top_of, Evaluates, MayFailAt};
+ghost use Rattle.dw_eval.specs.Inner.Evaluation.{EvaluatesOver};
 ghost use Rattle.dw_eval.specs.Inner.Stepping.{reached, StepsTo};
 
 use crate::acting::act;

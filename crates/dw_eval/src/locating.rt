@@ -7,8 +7,8 @@ ghost use Rattle.dw_eval.specs.declared.error.EvalError.TheVariants.{Fault, OutO
 ghost use Rattle.dw_eval.specs.declared.error.Kind.{Kind};
 ghost use Rattle.dw_eval.specs.declared.error.Kind.TheVariants.{Device};
 ghost use Rattle.dw_eval.specs.Context.{context};
-ghost use Rattle.dw_eval.specs.Describing.{bare_piece};
-ghost use Rattle.dw_eval.specs.Location.{Located, LocatesOver, PlaceMayFailAt};
+ghost use Rattle.dw_eval.specs.Location.{bare_piece, Located, PlaceMayFailAt};
+ghost use Rattle.dw_eval.specs.Inner.Location.{LocatesOver};
 
 use crate::describing::Description;
 use crate::env::Env;

@@ -6,9 +6,9 @@ use Rattle.std.proofs.Math.Nat.{pow-succ', pow-le-pow_right}
 use Rattle.std.proofs.lemmas.Int.{ints}
 use Rattle.std.proofs.lemmas.Bool.{cases_lt, lt-ltb, le-ltb, leb-true, leb-false, le-leb, lt-leb}
 use Rattle.dw_num.specs.Leb.{IsLeb, groups_from, groups, is_negative, Uleb, Sleb}
-use Rattle.dw_num.specs.Shortest.{leb_of, turned_leb, shortest_uleb, shortest_sleb}
+use Rattle.dw_num.specs.Shortest.{leb_of, turned_leb, shortest_uleb, shortest_sleb, turned}
 use Rattle.dw_num.specs.Writing.{PutsUleb, PutsSleb}
-use Rattle.dw_num.specs.Scan.{turned, turned_from, as_signed}
+use Rattle.dw_num.specs.Inner.Scan.{turned_from, as_signed}
 use Rattle.dw_num.proofs.Turned.{signed_groups-turned}
 
 -- ---- sums from the first byte on

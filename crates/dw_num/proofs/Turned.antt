@@ -7,7 +7,8 @@ use Rattle.std.proofs.lemmas.Int.{ints}
 use mir.Val.{to_z, of_z}
 use Rattle.std.proofs.lemmas.List.{take_more, length-take}
 use Rattle.dw_num.specs.Leb.{groups_from, groups, last_byte, is_negative, signed_groups}
-use Rattle.dw_num.specs.Scan.{turned, turned_from, as_signed}
+use Rattle.dw_num.specs.Shortest.{turned}
+use Rattle.dw_num.specs.Inner.Scan.{turned_from, as_signed}
 use Rattle.dw_num.proofs.LebLemmas.{pow128}
 
 pub turned_from-append : (t : Bool) (k : ℕ) (xs ys : List ℕ) → turned_from t k (xs ++ ys) ≡ turned_from t k xs + turned_from t (k + length xs) ys

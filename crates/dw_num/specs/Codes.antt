@@ -3,60 +3,38 @@ use Rattle.std.specs.Prelude.{ℕ, List, codes}
 use Rattle.dw_num.specs.declared.refusal.Code.{Code}
 use Rattle.dw_num.specs.declared.refusal.Code.TheVariants.{Truncated, ReservedLength, EntryPastEnd, BadVersion, Augmentation, AddressSize, SegmentSelector, NumberTooLarge, RegisterTooLarge, NoSuchCie, RangeTooLarge, UnknownInstruction, NotInCie, LocationBackwards, LocationTooLarge, EmptyStateStack, StateStackFull, CfaNotRegister, OffsetTooLarge, UnknownOperation, NotInFrame, BadBranch, BadDerefSize, NoCfaRule, Overlap, SectionTooLarge, NormalTooLong}
 
+-- number and name of each
+abbrev pub code_entry : Code → ℕ × List ℕ
+code_entry Truncated = (1, codes "Truncated")
+code_entry ReservedLength = (2, codes "ReservedLength")
+code_entry EntryPastEnd = (3, codes "EntryPastEnd")
+code_entry BadVersion = (4, codes "BadVersion")
+code_entry Augmentation = (5, codes "Augmentation")
+code_entry AddressSize = (6, codes "AddressSize")
+code_entry SegmentSelector = (7, codes "SegmentSelector")
+code_entry NumberTooLarge = (8, codes "NumberTooLarge")
+code_entry RegisterTooLarge = (9, codes "RegisterTooLarge")
+code_entry NoSuchCie = (10, codes "NoSuchCie")
+code_entry RangeTooLarge = (11, codes "RangeTooLarge")
+code_entry UnknownInstruction = (12, codes "UnknownInstruction")
+code_entry NotInCie = (13, codes "NotInCie")
+code_entry LocationBackwards = (14, codes "LocationBackwards")
+code_entry LocationTooLarge = (15, codes "LocationTooLarge")
+code_entry EmptyStateStack = (16, codes "EmptyStateStack")
+code_entry StateStackFull = (17, codes "StateStackFull")
+code_entry CfaNotRegister = (18, codes "CfaNotRegister")
+code_entry OffsetTooLarge = (19, codes "OffsetTooLarge")
+code_entry UnknownOperation = (20, codes "UnknownOperation")
+code_entry NotInFrame = (21, codes "NotInFrame")
+code_entry BadBranch = (22, codes "BadBranch")
+code_entry BadDerefSize = (23, codes "BadDerefSize")
+code_entry NoCfaRule = (24, codes "NoCfaRule")
+code_entry Overlap = (25, codes "Overlap")
+code_entry SectionTooLarge = (26, codes "SectionTooLarge")
+code_entry NormalTooLong = (27, codes "NormalTooLong")
+
 abbrev pub number_of : Code → ℕ
-number_of Truncated = 1
-number_of ReservedLength = 2
-number_of EntryPastEnd = 3
-number_of BadVersion = 4
-number_of Augmentation = 5
-number_of AddressSize = 6
-number_of SegmentSelector = 7
-number_of NumberTooLarge = 8
-number_of RegisterTooLarge = 9
-number_of NoSuchCie = 10
-number_of RangeTooLarge = 11
-number_of UnknownInstruction = 12
-number_of NotInCie = 13
-number_of LocationBackwards = 14
-number_of LocationTooLarge = 15
-number_of EmptyStateStack = 16
-number_of StateStackFull = 17
-number_of CfaNotRegister = 18
-number_of OffsetTooLarge = 19
-number_of UnknownOperation = 20
-number_of NotInFrame = 21
-number_of BadBranch = 22
-number_of BadDerefSize = 23
-number_of NoCfaRule = 24
-number_of Overlap = 25
-number_of SectionTooLarge = 26
-number_of NormalTooLong = 27
+number_of code = (code_entry code).0
 
 abbrev pub name_of : Code → List ℕ
-name_of Truncated = codes "Truncated"
-name_of ReservedLength = codes "ReservedLength"
-name_of EntryPastEnd = codes "EntryPastEnd"
-name_of BadVersion = codes "BadVersion"
-name_of Augmentation = codes "Augmentation"
-name_of AddressSize = codes "AddressSize"
-name_of SegmentSelector = codes "SegmentSelector"
-name_of NumberTooLarge = codes "NumberTooLarge"
-name_of RegisterTooLarge = codes "RegisterTooLarge"
-name_of NoSuchCie = codes "NoSuchCie"
-name_of RangeTooLarge = codes "RangeTooLarge"
-name_of UnknownInstruction = codes "UnknownInstruction"
-name_of NotInCie = codes "NotInCie"
-name_of LocationBackwards = codes "LocationBackwards"
-name_of LocationTooLarge = codes "LocationTooLarge"
-name_of EmptyStateStack = codes "EmptyStateStack"
-name_of StateStackFull = codes "StateStackFull"
-name_of CfaNotRegister = codes "CfaNotRegister"
-name_of OffsetTooLarge = codes "OffsetTooLarge"
-name_of UnknownOperation = codes "UnknownOperation"
-name_of NotInFrame = codes "NotInFrame"
-name_of BadBranch = codes "BadBranch"
-name_of BadDerefSize = codes "BadDerefSize"
-name_of NoCfaRule = codes "NoCfaRule"
-name_of Overlap = codes "Overlap"
-name_of SectionTooLarge = codes "SectionTooLarge"
-name_of NormalTooLong = codes "NormalTooLong"
+name_of code = (code_entry code).1

@@ -5,8 +5,8 @@ pub mod Input
 pub mod Fixed
 pub mod Leb
 pub mod Reading
-pub mod Scan
 pub mod Writing
 pub mod Span
 pub mod Shortest
 pub mod Laws
+pub mod Inner

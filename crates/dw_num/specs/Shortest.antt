@@ -1,12 +1,16 @@
 -- The shortest LEB128 spelling of a number, computed: DWARF 5, 7.6. That it is the shortest, and the only one so short, are
 -- laws.
-use Rattle.std.specs.Prelude.{ℕ, ℤ, pos, negsuc, zero, suc, ◌+◌, ◌/◌, ◌%◌, List, [], ◌∷◌, Bool, true, false, nat_lt, if◌then◌else◌}
-use Rattle.dw_num.specs.Scan.{turned}
+use Rattle.std.specs.Prelude.{ℕ, ℤ, pos, negsuc, zero, suc, ◌+◌, ◌-◌, ◌/◌, ◌%◌, List, [], ◌∷◌, Bool, true, false, nat_lt, if◌then◌else◌}
 
 -- the number in groups of seven bits, at most n + 1 of them
 abbrev pub leb_of : ℕ → ℕ → List ℕ
 leb_of zero v = v ∷ []
 leb_of (suc n) v = if nat_lt v 128 then v ∷ [] else (128 + v % 128) ∷ leb_of n (v / 128)
+
+-- the value bits of a byte, turned over or as they are
+abbrev pub turned : Bool → ℕ → ℕ
+turned true b = 127 - b % 128
+turned false b = b % 128
 
 -- the groups of a number, turned over or not, at most n + 1 of them
 abbrev pub turned_leb : Bool → ℕ → ℕ → List ℕ

@@ -3,7 +3,8 @@
 ghost use Rattle.std.specs.Prelude.{length, Option, MatchOption, ⊤, ◌≡◌, ℕ, ◌+◌, ◌*◌, ◌%◌, ◌<◌, ◌≤◌, ◌^◌};
 ghost use Rattle.dw_num.specs.Leb.{is_negative, signed_groups};
 ghost use Rattle.dw_num.specs.Reading.{leb_len};
-ghost use Rattle.dw_num.specs.Scan.{IsUlebScan, IsSlebScan, IsTotal, IsSignedTotal, turned, turned_from};
+ghost use Rattle.dw_num.specs.Shortest.{turned};
+ghost use Rattle.dw_num.specs.Inner.Scan.{IsUlebScan, IsSlebScan, IsTotal, IsSignedTotal, turned_from};
 
 /// The unsigned number at the front of a slice, and how many bytes spell it.
 #[derive(Clone, Copy)]

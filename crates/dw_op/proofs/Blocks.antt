@@ -21,6 +21,7 @@ use Rattle.dw_op.specs.Walk.{Item, Walk, walk, end_of, index_at, op_of, put_firs
 use Rattle.dw_op.specs.Faults.{IsBlock, op_allowed, IsPart, Leads, ReadingFault, BranchFault, BlockFault}
 use Rattle.dw_op.proofs.Splits.{Spelled, EachSpells, items_from, input, Ends, Split, split_of, joined_walk}
 use Rattle.dw_op.proofs.Places.{index_start, index_begins}
+use Rattle.dw_op.proofs.Spellings.{in_table}
 use Rattle.dw_op.proofs.Standing.{Finds, Placed, one_step, as_location, part_step, allowed_plain, step_stands, stands_step}
 use Rattle.dw_op.proofs.Branches.{fixed_any}
 use Rattle.dw_op.proofs.OperandLaws.{stuck_fault, fault_stuck}
@@ -387,13 +388,13 @@ block_only profile t bytes ops h =
 -- ---- faults
 
 step_part : (profile : Profile) (t : Target) (step : Step) (part : List ℕ) → Spelled profile t step part → IsPart profile t part
-step_part profile t (Plain op) part h = (op, h.spells.0, allowed_plain profile op h.allowed)
-step_part profile t (Jump Bra n) part h = (ops.Bra 0, record { rest = h.spells.rest; operands = fixed_any t.order n h.spells.rest h.spells.operands; whole = h.spells.whole }, allowed_bra profile)
+step_part profile t (Plain op) part h = (op, in_table t op part h.spells.0, allowed_plain profile op h.allowed)
+step_part profile t (Jump Bra n) part h = (ops.Bra 0, in_table t (ops.Bra 0) part (record { rest = h.spells.rest; operands = fixed_any t.order n h.spells.rest h.spells.operands; whole = h.spells.whole }), allowed_bra profile)
   where
     allowed_bra : (p : Profile) → op_allowed p (ops.Bra 0) ≡ true
     allowed_bra Frame = refl
     allowed_bra Location = refl
-step_part profile t (Jump Skip n) part h = (ops.Skip 0, record { rest = h.spells.rest; operands = fixed_any t.order n h.spells.rest h.spells.operands; whole = h.spells.whole }, allowed_skip profile)
+step_part profile t (Jump Skip n) part h = (ops.Skip 0, in_table t (ops.Skip 0) part (record { rest = h.spells.rest; operands = fixed_any t.order n h.spells.rest h.spells.operands; whole = h.spells.whole }), allowed_skip profile)
   where
     allowed_skip : (p : Profile) → op_allowed p (ops.Skip 0) ≡ true
     allowed_skip Frame = refl

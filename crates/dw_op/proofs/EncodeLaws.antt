@@ -1,7 +1,6 @@
 -- Where least spellings begin, and how the encoder goes over them.
 use Rattle.std.proofs.Common.{◌≡◌, ℕ, zero, suc, ◌+◌, ◌-◌, ◌<◌, ◌≤◌, List, [], ◌∷◌, ◌++◌, length, map, take, drop, get_or, Option, Some, None, refl, sym, ap, subst, ◌∙◌, inl, inr, append_assoc, arith}
 use Rattle.std.specs.Prelude.{slice_get, Result, Ok, Err, OnOk}
-use Rattle.std.specs.List.{AllByRecursion}
 use Rattle.std.proofs.lemmas.Bool.{cases_lt}
 use Rattle.std.proofs.lemmas.List.{length-append, length-map, append-nil, get_or_append_left, get_or-append_right, length-take, take-append-le}
 use Rattle.std.proofs.lemmas.Option.{slice_get-map, slice_get-get_or}
@@ -14,7 +13,9 @@ use Rattle.dw_op.specs.LeastOf.{least_bytes}
 use Rattle.dw_op.specs.Ranges.{InRange, AllInRange}
 use Rattle.dw_op.specs.declared.encoding.EncodeError.{EncodeError}
 use Rattle.dw_op.specs.declared.encoding.EncodeError.TheVariants.{BranchTooFar, OutOfMemory}
-use Rattle.dw_op.specs.Encoding.{IsFar, IsEncodeError, TooFar, blank_parts, bits_of, least_from, least_block, BranchFits, EachFits, AreStarts}
+use Rattle.dw_op.specs.Encoding.{IsFar, IsEncodeError, TooFar, blank_parts, bits_of, least_from, least_block}
+use Rattle.dw_op.specs.Inner.Encoding.{BranchFits, EachFits, AreStarts}
+use Rattle.dw_op.proofs.Ranges.{listed_at}
 use Rattle.dw_op.proofs.LeastOf.{least}
 use Rattle.dw_op.proofs.LeastBlocks.{EachInRange, each_fits, each_parts, joined-cons}
 
@@ -49,12 +50,6 @@ starts_more parts n end starts h e =
 
 -- ---- branches
 
-at_place : (P : Op → Type 0) (ops : List Op) (k : ℕ) (op : Op) → AllByRecursion P ops → slice_get ops k ≡ Some op → P op
-at_place P [] zero op h e = absurd cc
-at_place P [] (suc k) op h e = absurd cc
-at_place P (o ∷ ops) zero op h e = let is : o ≡ op = cc in subst P is h.0
-at_place P (o ∷ ops) (suc k) op h e = at_place P ops k op h.1 e
-
 -- the operation at a place, in a list without places in memory
 pub bare_at : (ops : List Op) (k : ℕ) (d : Op) → k < length ops → slice_get (map bare ops) k ≡ Some (bare (get_or ops k d))
 bare_at ops k d lt = rw (slice_get-map bare ops k, slice_get-get_or ops k d lt) refl
@@ -62,7 +57,7 @@ bare_at ops k d lt = rw (slice_get-map bare ops k, slice_get-get_or ops k d lt) 
 pub in_range_at : (t : Target) (ops : List Op) (k : ℕ) (d : Op) → AllInRange t (map bare ops) → k < length ops → InRange t (length ops) (bare (get_or ops k d))
 in_range_at t ops k d r lt =
     let same : length (map bare ops) ≡ length ops = length-map ops bare in
-    rw (← same) (at_place (InRange t (length (map bare ops))) (map bare ops) k (bare (get_or ops k d)) r (bare_at ops k d lt))
+    rw (← same) (listed_at (InRange t (length (map bare ops))) (map bare ops) k (bare (get_or ops k d)) r (bare_at ops k d lt))
 
 -- each branch fits
 pub each_fits_of : (all : List (List ℕ)) (k : ℕ) (ops : List Op) (d : Op) → ((j : ℕ) → j < length ops → BranchFits all (k + j) (branch_target (bare (get_or ops j d)))) → EachFits all k (map bare ops)

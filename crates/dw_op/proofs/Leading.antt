@@ -16,6 +16,7 @@ use Rattle.dw_op.specs.Block.{start, branch_target, Displaced, Stands, joined}
 use Rattle.dw_op.specs.Faults.{IsPart, IsBranch, Leads}
 use Rattle.dw_op.proofs.ReadingLaws.{some_is}
 use Rattle.dw_op.proofs.Splits.{spelled}
+use Rattle.dw_op.proofs.Spellings.{by_table, in_table}
 use Rattle.dw_op.proofs.Standing.{one_step, any_code}
 
 -- some operation stands at part k
@@ -31,8 +32,8 @@ plain_is : (op : Op) (branch : Branch) (n : ℕ) → Plain op ≡ Jump branch n 
 plain_is op branch n e = cc
 
 not_branch : (t : Target) (op : Op) (part : List ℕ) → branch_target op ≡ None → OpSpells t op part → IsBranch part → ⊥
-not_branch t op part none h (inl b) = plain_is op branches.Bra _ (one_step Location t (Plain op) _ part (spelled Location t (Plain op) part (h, none) refl) (any_code t branches.Bra part b))
-not_branch t op part none h (inr b) = plain_is op branches.Skip _ (one_step Location t (Plain op) _ part (spelled Location t (Plain op) part (h, none) refl) (any_code t branches.Skip part b))
+not_branch t op part none h (inl b) = plain_is op branches.Bra _ (one_step Location t (Plain op) _ part (spelled Location t (Plain op) part (by_table t op part h, none) refl) (any_code t branches.Bra part b))
+not_branch t op part none h (inr b) = plain_is op branches.Skip _ (one_step Location t (Plain op) _ part (spelled Location t (Plain op) part (by_table t op part h, none) refl) (any_code t branches.Skip part b))
 
 pub stood_leads : (t : Target) (parts : List (List ℕ)) (k : ℕ) (part : List ℕ) → slice_get parts k ≡ Some part → Stood t parts k part → Leads t parts k
 stood_leads t parts k part here stood other there branch = of (branch_target stood.0) refl stood.1.displaced
@@ -48,8 +49,8 @@ pub leads_stood : (profile : Profile) (t : Target) (parts : List (List ℕ)) (k 
 leads_stood profile t parts k part here h leads = of h.0 h.1
   where
     of : (op : Op) → OpSpells t op part → Stood t parts k part
-    of (Bra i) s = let l = leads part here (inl s) in (Bra l.0, record { spells = s; displaced = l.1 })
-    of (Skip i) s = let l = leads part here (inr s) in (Skip l.0, record { spells = s; displaced = l.1 })
+    of (Bra i) s = let l = leads part here (inl (by_table t (Bra i) part s)) in (Bra l.0, record { spells = in_table t (Bra l.0) part (by_table t (Bra i) part s); displaced = l.1 })
+    of (Skip i) s = let l = leads part here (inr (by_table t (Skip i) part s)) in (Skip l.0, record { spells = in_table t (Skip l.0) part (by_table t (Skip i) part s); displaced = l.1 })
     of op s = (op, record { spells = s; displaced = tt })
 
 -- ---- parts by their numbers

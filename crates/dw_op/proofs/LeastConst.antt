@@ -1,7 +1,7 @@
 -- The table of least constants: what each form can write, and that no form beats the table's line.
 use Rattle.std.proofs.Common.{◌≡◌, ℕ, ◌+◌, ◌*◌, ◌^◌, ◌<◌, ◌≤◌, inl, inr, arith}
 use Rattle.std.proofs.lemmas.Bool.{cases_lt}
-use Rattle.dw_op.specs.OpSpells.{ConstForm, Const1u, Const1s, Const2u, Const2s, Const4u, Const4s, Const8u, Const8s, Constu, Consts, Lit}
+use Rattle.dw_op.specs.Inner.ByOperation.{ConstForm, Const1u, Const1s, Const2u, Const2s, Const4u, Const4s, Const8u, Const8s, Constu, Consts, Lit}
 
 -- v, read as signed, lies from -m to m - 1
 abbrev pub Near : ℕ → ℕ → ℕ → Type 0

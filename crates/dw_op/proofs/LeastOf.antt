@@ -21,11 +21,14 @@ use Rattle.dw_op.specs.declared.op.Op.{Op}
 use Rattle.dw_op.specs.declared.op.Op.TheVariants.{Addr, Deref, Const, Dup, Drop, Over, Pick, Swap, Rot, Abs, And, Div, Minus, Mod, Mul, Neg, Not, Or, Plus, PlusUconst, Shl, Shr, Shra, Xor, Bra, Eq, Ge, Gt, Le, Lt, Ne, Skip, Reg, Breg, Fbreg, Piece, DerefSize, Nop, PushObjectAddress, CallFrameCfa, BitPiece, Implicit, StackValue}
 use Rattle.dw_op.specs.declared.least.Spelling.{Spelling}
 use Rattle.dw_op.specs.declared.least.Operand.TheVariants as operand
-use Rattle.dw_op.specs.OpSpells.{OpSpells, Code, Both, Counted, AnyTwo, Unsigned, ConstSpells, ConstForm, Const1u, Const1s, Const2u, Const2s, Const4u, Const4s, Const8u, Const8s, Constu, Consts, Lit, Written, modulo}
+use Rattle.dw_op.specs.OpSpells.{Code, Both, AnyTwo}
+use Rattle.dw_op.specs.Inner.ByOperation.{IsSpelled, Counted, Unsigned, ConstSpells, ConstForm, Const1u, Const1s, Const2u, Const2s, Const4u, Const4s, Const8u, Const8s, Constu, Consts, Lit, Written}
+use Rattle.dw_op.specs.Operands.{modulo}
 use Rattle.dw_op.specs.Least.{AtMost, Least}
 use Rattle.dw_op.specs.LeastOf.{spelling, operand_bytes, spelling_bytes, address, constant, long_constant, longest_constant, register_form, register_offset, least_spelling, least_bytes}
 use Rattle.dw_op.specs.Expression.{bare}
 use Rattle.dw_op.specs.Ranges.{InRange}
+use Rattle.dw_op.proofs.Spellings.{InRangeSo, LeastSo, range_so, so_least}
 use Rattle.dw_op.proofs.Ranges.{modulo_below}
 use Rattle.dw_op.proofs.LeastConst.{Reach, Beats, line_1u, line_1s, line_2u, line_2s, line_u4, line_s4, line_4u, line_4s, line_u6, line_s6, line_u7, line_s7, line_u8, line_s8, line_8u}
 use Rattle.dw_op.proofs.Reached.{reach}
@@ -106,7 +109,7 @@ module _ (t : Target) (v : ℕ) (small : v < address_limit t.size) where
   -- a spelling that no form beats
   of_line : (s : Spelling) (most : ℕ) → ConstSpells t v (spelling_bytes t.order s) → length (spelling_bytes t.order s) ≤ most
       → ((form : ConstForm) (code len : ℕ) → Reach (address_limit t.size) form v code len → Beats most s.code len code)
-      → Least t (Const v) (spelling_bytes t.order s)
+      → LeastSo t (Const v) (spelling_bytes t.order s)
   of_line s most spelled short beats = record {
     spells = spelled;
     least = λ other c. most_of (spelling_bytes t.order s) other most short (code_small t.order c.form c.number other c.written)
@@ -120,7 +123,7 @@ module _ (t : Target) (v : ℕ) (small : v < address_limit t.size) where
   limit = address_limit t.size
 
   abbrev pub Found : Spelling → Type 0
-  Found s = Least t (Const v) (spelling_bytes t.order s)
+  Found s = LeastSo t (Const v) (spelling_bytes t.order s)
 
   fixed_length : (code n w : ℕ) → length (code ∷ fixed_bytes t.order n w) ≤ suc n
   fixed_length code n w = omega (arith, length-fixed t.order n w)
@@ -295,53 +298,53 @@ two_bytes Big d = (_, _, omega arith, omega arith, refl)
 branch_most : (o : Order) (code d : ℕ) (other : List ℕ) → Code code AnyTwo other → AtMost (code ∷ fixed_bytes o 2 d) other
 branch_most o code d other s = code_most code AnyTwo (fixed_bytes o 2 d) (λ rest h. rw h.4 (omega (arith, length-fixed o 2 d))) other s
 
-address_least : (t : Target) (a : ℕ) → a < 256 ^ byte_count t.size → Least t (Addr a) (spelling_bytes t.order (address t.size a))
-address_least t a fits = by_size t.size a fits (λ b e. subst (λ (c : List ℕ). Least t (Addr a) c) (sym e) exact)
+address_least : (t : Target) (a : ℕ) → a < 256 ^ byte_count t.size → LeastSo t (Addr a) (spelling_bytes t.order (address t.size a))
+address_least t a fits = by_size t.size a fits (λ b e. subst (λ (c : List ℕ). LeastSo t (Addr a) c) (sym e) exact)
   where
-    exact : Least t (Addr a) (0x03 ∷ fixed_bytes t.order (byte_count t.size) a)
+    exact : LeastSo t (Addr a) (0x03 ∷ fixed_bytes t.order (byte_count t.size) a)
     exact = record {
       spells = record { rest = fixed_bytes t.order (byte_count t.size) a; operands = record { bytes = refl; fits = fits }; whole = refl };
       least = λ other s. fixed_most t.order 0x03 (byte_count t.size) a other s;
     }
 
-    by_size : (s : Size) (a : ℕ) → a < 256 ^ byte_count s → ((b : List ℕ) → b ≡ 0x03 ∷ fixed_bytes t.order (byte_count s) a → Least t (Addr a) b) → Least t (Addr a) (spelling_bytes t.order (address s a))
+    by_size : (s : Size) (a : ℕ) → a < 256 ^ byte_count s → ((b : List ℕ) → b ≡ 0x03 ∷ fixed_bytes t.order (byte_count s) a → LeastSo t (Addr a) b) → LeastSo t (Addr a) (spelling_bytes t.order (address s a))
     by_size Four a fits f = f (spelling_bytes t.order (address Four a)) (let e : a % 2 ^ 32 ≡ a = mod-eq_of_lt (omega arith) in rw e refl)
     by_size Eight a fits f = f (spelling_bytes t.order (address Eight a)) refl
 
-register_least : (t : Target) (len d n : ℕ) → InRange t len (Reg n) → Least t (Reg n) (spelling_bytes t.order (register_form n))
-register_least t len d n r = by_test (λ s. Least t (Reg n) (spelling_bytes t.order s)) n 32 _ _
+register_least : (t : Target) (len d n : ℕ) → InRangeSo t len (Reg n) → LeastSo t (Reg n) (spelling_bytes t.order (register_form n))
+register_least t len d n r = by_test (λ s. LeastSo t (Reg n) (spelling_bytes t.order s)) n 32 _ _
     (λ lt. record { spells = inl (lt, refl); least = λ other s. short lt other s })
     (λ ge. record { spells = inr (record { rest = shortest_uleb n; operands = (shortest_uleb-spells n (let f = typed r.spelled in omega arith), typed r.spelled); whole = refl }); least = λ other s. long ge other s })
   where
-    typed : {b : List ℕ} → OpSpells t (Reg n) b → n < 2 ^ 16
+    typed : {b : List ℕ} → IsSpelled t (Reg n) b → n < 2 ^ 16
     typed (inl p) = let lt = p.0 in omega arith
     typed (inr p) = p.operands.1
 
-    short : n < 32 → (other : List ℕ) → OpSpells t (Reg n) other → AtMost ((0x50 + n) ∷ []) other
+    short : n < 32 → (other : List ℕ) → IsSpelled t (Reg n) other → AtMost ((0x50 + n) ∷ []) other
     short lt other (inl p) = same_most ((0x50 + n) ∷ []) other p.1
     short lt other (inr p) = let some = leb_some p.rest p.operands.0.shape in rw p.whole (inl (omega arith))
 
-    long : 32 ≤ n → (other : List ℕ) → OpSpells t (Reg n) other → AtMost (0x90 ∷ shortest_uleb n) other
+    long : 32 ≤ n → (other : List ℕ) → IsSpelled t (Reg n) other → AtMost (0x90 ∷ shortest_uleb n) other
     long ge other (inl p) = let lt = p.0 in absurd (omega arith)
     long ge other (inr p) = code_most 0x90 (Register n) (shortest_uleb n) (λ rest h. shortest_uleb-least n rest h.0) other p
 
-register_offset_least : (t : Target) (len d n : ℕ) (z : ℤ) → InRange t len (Breg n z) → Least t (Breg n z) (spelling_bytes t.order (register_offset n z))
-register_offset_least t len d n z r = by_test (λ s. Least t (Breg n z) (spelling_bytes t.order s)) n 32 _ _
+register_offset_least : (t : Target) (len d n : ℕ) (z : ℤ) → InRangeSo t len (Breg n z) → LeastSo t (Breg n z) (spelling_bytes t.order (register_offset n z))
+register_offset_least t len d n z r = by_test (λ s. LeastSo t (Breg n z) (spelling_bytes t.order s)) n 32 _ _
     (λ lt. record { spells = inl (lt, record { rest = shortest_sleb z; operands = shortest_sleb-spells z (signed r.spelled); whole = refl }); least = λ other s. short lt other s })
     (λ ge. record {
       spells = inr (record { rest = shortest_uleb n ++ shortest_sleb z; operands = record { front = shortest_uleb n; back = shortest_sleb z; first = (shortest_uleb-spells n (let f = typed r.spelled in omega arith), typed r.spelled); second = shortest_sleb-spells z (signed r.spelled); whole = refl }; whole = refl });
       least = λ other s. long ge other s;
     })
   where
-    typed : {b : List ℕ} → OpSpells t (Breg n z) b → n < 2 ^ 16
+    typed : {b : List ℕ} → IsSpelled t (Breg n z) b → n < 2 ^ 16
     typed (inl p) = let lt = p.0 in omega arith
     typed (inr p) = p.operands.first.1
 
-    signed : {b : List ℕ} → OpSpells t (Breg n z) b → FitsSigned w64 z
+    signed : {b : List ℕ} → IsSpelled t (Breg n z) b → FitsSigned w64 z
     signed (inl p) = p.1.operands.fits
     signed (inr p) = p.operands.second.fits
 
-    short : n < 32 → (other : List ℕ) → OpSpells t (Breg n z) other → AtMost ((0x70 + n) ∷ shortest_sleb z) other
+    short : n < 32 → (other : List ℕ) → IsSpelled t (Breg n z) other → AtMost ((0x70 + n) ∷ shortest_sleb z) other
     short lt other (inl p) = code_most (0x70 + n) (Sleb z) (shortest_sleb z) (shortest_sleb-least z) other p.1
     short lt other (inr p) =
         let b = p.operands in
@@ -349,68 +352,71 @@ register_offset_least t len d n z r = by_test (λ s. Least t (Breg n z) (spellin
         let le = shortest_sleb-least z b.back b.second in
         rw (p.whole, b.whole) (inl (omega (arith, length-append b.front b.back)))
 
-    long : 32 ≤ n → (other : List ℕ) → OpSpells t (Breg n z) other → AtMost (0x92 ∷ (shortest_uleb n ++ shortest_sleb z)) other
+    long : 32 ≤ n → (other : List ℕ) → IsSpelled t (Breg n z) other → AtMost (0x92 ∷ (shortest_uleb n ++ shortest_sleb z)) other
     long ge other (inl p) = let lt = p.0 in absurd (omega arith)
     long ge other (inr p) = code_most 0x92 (Both (Register n) (Sleb z)) (shortest_uleb n ++ shortest_sleb z)
         (both_most (Register n) (Sleb z) (shortest_uleb n) (shortest_sleb z) (λ c h. shortest_uleb-least n c h.0) (shortest_sleb-least z)) other p
 
 -- the table gives least spellings
-pub least : (t : Target) (len d : ℕ) (op : Op) → InRange t len op → Least t op (least_bytes t d op)
+pub least_spelled_so : (t : Target) (len d : ℕ) (op : Op) → InRangeSo t len op → LeastSo t op (least_bytes t d op)
 unfolding least_bytes least_spelling
-least t len d (Addr a) r = address_least t a r.spelled.operands.fits
-least t len d Deref r = record { spells = refl; least = λ other s. same_most (0x06 ∷ []) other s }
-least t len d (Const v) r = constant_least t v (rw r.spelled.value (modulo_below t.size r.spelled.number))
-least t len d Dup r = record { spells = refl; least = λ other s. same_most (0x12 ∷ []) other s }
-least t len d Drop r = record { spells = refl; least = λ other s. same_most (0x13 ∷ []) other s }
-least t len d Over r = record { spells = refl; least = λ other s. same_most (0x14 ∷ []) other s }
-least t len d (Pick i) r = record { spells = record { rest = fixed_bytes t.order 1 i; operands = record { bytes = refl; fits = r.spelled.operands.fits }; whole = refl }; least = λ other s. fixed_most t.order 0x15 1 i other s }
-least t len d Swap r = record { spells = refl; least = λ other s. same_most (0x16 ∷ []) other s }
-least t len d Rot r = record { spells = refl; least = λ other s. same_most (0x17 ∷ []) other s }
-least t len d Abs r = record { spells = refl; least = λ other s. same_most (0x19 ∷ []) other s }
-least t len d And r = record { spells = refl; least = λ other s. same_most (0x1a ∷ []) other s }
-least t len d Div r = record { spells = refl; least = λ other s. same_most (0x1b ∷ []) other s }
-least t len d Minus r = record { spells = refl; least = λ other s. same_most (0x1c ∷ []) other s }
-least t len d Mod r = record { spells = refl; least = λ other s. same_most (0x1d ∷ []) other s }
-least t len d Mul r = record { spells = refl; least = λ other s. same_most (0x1e ∷ []) other s }
-least t len d Neg r = record { spells = refl; least = λ other s. same_most (0x1f ∷ []) other s }
-least t len d Not r = record { spells = refl; least = λ other s. same_most (0x20 ∷ []) other s }
-least t len d Or r = record { spells = refl; least = λ other s. same_most (0x21 ∷ []) other s }
-least t len d Plus r = record { spells = refl; least = λ other s. same_most (0x22 ∷ []) other s }
-least t len d (PlusUconst n) r = record { spells = record { rest = shortest_uleb n; operands = shortest_uleb-spells n r.spelled.operands.fits; whole = refl }; least = λ other s. code_most 0x23 (Uleb n) (shortest_uleb n) (shortest_uleb-least n) other s }
-least t len d Shl r = record { spells = refl; least = λ other s. same_most (0x24 ∷ []) other s }
-least t len d Shr r = record { spells = refl; least = λ other s. same_most (0x25 ∷ []) other s }
-least t len d Shra r = record { spells = refl; least = λ other s. same_most (0x26 ∷ []) other s }
-least t len d Xor r = record { spells = refl; least = λ other s. same_most (0x27 ∷ []) other s }
-least t len d (Bra i) r = record { spells = record { rest = fixed_bytes t.order 2 d; operands = two_bytes t.order d; whole = refl }; least = λ other s. branch_most t.order 0x28 d other s }
-least t len d Eq r = record { spells = refl; least = λ other s. same_most (0x29 ∷ []) other s }
-least t len d Ge r = record { spells = refl; least = λ other s. same_most (0x2a ∷ []) other s }
-least t len d Gt r = record { spells = refl; least = λ other s. same_most (0x2b ∷ []) other s }
-least t len d Le r = record { spells = refl; least = λ other s. same_most (0x2c ∷ []) other s }
-least t len d Lt r = record { spells = refl; least = λ other s. same_most (0x2d ∷ []) other s }
-least t len d Ne r = record { spells = refl; least = λ other s. same_most (0x2e ∷ []) other s }
-least t len d (Skip i) r = record { spells = record { rest = fixed_bytes t.order 2 d; operands = two_bytes t.order d; whole = refl }; least = λ other s. branch_most t.order 0x2f d other s }
-least t len d (Reg n) r = register_least t len d n r
-least t len d (Breg n z) r = register_offset_least t len d n z r
-least t len d (Fbreg n) r = record { spells = record { rest = shortest_sleb n; operands = shortest_sleb-spells n r.spelled.operands.fits; whole = refl }; least = λ other s. code_most 0x91 (Sleb n) (shortest_sleb n) (shortest_sleb-least n) other s }
-least t len d (Piece n) r = record { spells = record { rest = shortest_uleb n; operands = shortest_uleb-spells n r.spelled.operands.fits; whole = refl }; least = λ other s. code_most 0x93 (Uleb n) (shortest_uleb n) (shortest_uleb-least n) other s }
-least t len d (DerefSize k) r = record { spells = (record { rest = fixed_bytes t.order 1 k; operands = record { bytes = refl; fits = r.spelled.0.operands.fits }; whole = refl }, r.spelled.1, r.spelled.2); least = λ other s. fixed_most t.order 0x94 1 k other s.0 }
-least t len d Nop r = record { spells = refl; least = λ other s. same_most (0x96 ∷ []) other s }
-least t len d PushObjectAddress r = record { spells = refl; least = λ other s. same_most (0x97 ∷ []) other s }
-least t len d CallFrameCfa r = record { spells = refl; least = λ other s. same_most (0x9c ∷ []) other s }
-least t len d (BitPiece size offset) r =
+least_spelled_so t len d (Addr a) r = address_least t a r.spelled.operands.fits
+least_spelled_so t len d Deref r = record { spells = refl; least = λ other s. same_most (0x06 ∷ []) other s }
+least_spelled_so t len d (Const v) r = constant_least t v (rw r.spelled.value (modulo_below t.size r.spelled.number))
+least_spelled_so t len d Dup r = record { spells = refl; least = λ other s. same_most (0x12 ∷ []) other s }
+least_spelled_so t len d Drop r = record { spells = refl; least = λ other s. same_most (0x13 ∷ []) other s }
+least_spelled_so t len d Over r = record { spells = refl; least = λ other s. same_most (0x14 ∷ []) other s }
+least_spelled_so t len d (Pick i) r = record { spells = record { rest = fixed_bytes t.order 1 i; operands = record { bytes = refl; fits = r.spelled.operands.fits }; whole = refl }; least = λ other s. fixed_most t.order 0x15 1 i other s }
+least_spelled_so t len d Swap r = record { spells = refl; least = λ other s. same_most (0x16 ∷ []) other s }
+least_spelled_so t len d Rot r = record { spells = refl; least = λ other s. same_most (0x17 ∷ []) other s }
+least_spelled_so t len d Abs r = record { spells = refl; least = λ other s. same_most (0x19 ∷ []) other s }
+least_spelled_so t len d And r = record { spells = refl; least = λ other s. same_most (0x1a ∷ []) other s }
+least_spelled_so t len d Div r = record { spells = refl; least = λ other s. same_most (0x1b ∷ []) other s }
+least_spelled_so t len d Minus r = record { spells = refl; least = λ other s. same_most (0x1c ∷ []) other s }
+least_spelled_so t len d Mod r = record { spells = refl; least = λ other s. same_most (0x1d ∷ []) other s }
+least_spelled_so t len d Mul r = record { spells = refl; least = λ other s. same_most (0x1e ∷ []) other s }
+least_spelled_so t len d Neg r = record { spells = refl; least = λ other s. same_most (0x1f ∷ []) other s }
+least_spelled_so t len d Not r = record { spells = refl; least = λ other s. same_most (0x20 ∷ []) other s }
+least_spelled_so t len d Or r = record { spells = refl; least = λ other s. same_most (0x21 ∷ []) other s }
+least_spelled_so t len d Plus r = record { spells = refl; least = λ other s. same_most (0x22 ∷ []) other s }
+least_spelled_so t len d (PlusUconst n) r = record { spells = record { rest = shortest_uleb n; operands = shortest_uleb-spells n r.spelled.operands.fits; whole = refl }; least = λ other s. code_most 0x23 (Uleb n) (shortest_uleb n) (shortest_uleb-least n) other s }
+least_spelled_so t len d Shl r = record { spells = refl; least = λ other s. same_most (0x24 ∷ []) other s }
+least_spelled_so t len d Shr r = record { spells = refl; least = λ other s. same_most (0x25 ∷ []) other s }
+least_spelled_so t len d Shra r = record { spells = refl; least = λ other s. same_most (0x26 ∷ []) other s }
+least_spelled_so t len d Xor r = record { spells = refl; least = λ other s. same_most (0x27 ∷ []) other s }
+least_spelled_so t len d (Bra i) r = record { spells = record { rest = fixed_bytes t.order 2 d; operands = two_bytes t.order d; whole = refl }; least = λ other s. branch_most t.order 0x28 d other s }
+least_spelled_so t len d Eq r = record { spells = refl; least = λ other s. same_most (0x29 ∷ []) other s }
+least_spelled_so t len d Ge r = record { spells = refl; least = λ other s. same_most (0x2a ∷ []) other s }
+least_spelled_so t len d Gt r = record { spells = refl; least = λ other s. same_most (0x2b ∷ []) other s }
+least_spelled_so t len d Le r = record { spells = refl; least = λ other s. same_most (0x2c ∷ []) other s }
+least_spelled_so t len d Lt r = record { spells = refl; least = λ other s. same_most (0x2d ∷ []) other s }
+least_spelled_so t len d Ne r = record { spells = refl; least = λ other s. same_most (0x2e ∷ []) other s }
+least_spelled_so t len d (Skip i) r = record { spells = record { rest = fixed_bytes t.order 2 d; operands = two_bytes t.order d; whole = refl }; least = λ other s. branch_most t.order 0x2f d other s }
+least_spelled_so t len d (Reg n) r = register_least t len d n r
+least_spelled_so t len d (Breg n z) r = register_offset_least t len d n z r
+least_spelled_so t len d (Fbreg n) r = record { spells = record { rest = shortest_sleb n; operands = shortest_sleb-spells n r.spelled.operands.fits; whole = refl }; least = λ other s. code_most 0x91 (Sleb n) (shortest_sleb n) (shortest_sleb-least n) other s }
+least_spelled_so t len d (Piece n) r = record { spells = record { rest = shortest_uleb n; operands = shortest_uleb-spells n r.spelled.operands.fits; whole = refl }; least = λ other s. code_most 0x93 (Uleb n) (shortest_uleb n) (shortest_uleb-least n) other s }
+least_spelled_so t len d (DerefSize k) r = record { spells = (record { rest = fixed_bytes t.order 1 k; operands = record { bytes = refl; fits = r.spelled.0.operands.fits }; whole = refl }, r.spelled.1, r.spelled.2); least = λ other s. fixed_most t.order 0x94 1 k other s.0 }
+least_spelled_so t len d Nop r = record { spells = refl; least = λ other s. same_most (0x96 ∷ []) other s }
+least_spelled_so t len d PushObjectAddress r = record { spells = refl; least = λ other s. same_most (0x97 ∷ []) other s }
+least_spelled_so t len d CallFrameCfa r = record { spells = refl; least = λ other s. same_most (0x9c ∷ []) other s }
+least_spelled_so t len d (BitPiece size offset) r =
     let b = r.spelled.operands in
     record {
       spells = record { rest = shortest_uleb size ++ shortest_uleb offset; operands = record { front = shortest_uleb size; back = shortest_uleb offset; first = shortest_uleb-spells size b.first.fits; second = shortest_uleb-spells offset b.second.fits; whole = refl }; whole = refl };
       least = λ other s. code_most 0x9d (Both (Uleb size) (Uleb offset)) (shortest_uleb size ++ shortest_uleb offset) (both_most (Uleb size) (Uleb offset) (shortest_uleb size) (shortest_uleb offset) (shortest_uleb-least size) (shortest_uleb-least offset)) other s;
     }
-least t len d (Implicit block) r =
+least_spelled_so t len d (Implicit block) r =
     let n = length block.now in
     let b = r.spelled.1.operands in
     record {
       spells = (r.spelled.0, record { rest = shortest_uleb n ++ block.now; operands = record { front = shortest_uleb n; back = block.now; first = shortest_uleb-spells n b.first.fits; second = refl; whole = refl }; whole = refl });
       least = λ other s. code_most 0x9e (Counted block.now) (shortest_uleb n ++ block.now) (both_most (Uleb n) (λ c. c ≡ block.now) (shortest_uleb n) block.now (shortest_uleb-least n) (λ c e. rw e (omega arith))) other s.1;
     }
-least t len d StackValue r = record { spells = refl; least = λ other s. same_most (0x9f ∷ []) other s }
+least_spelled_so t len d StackValue r = record { spells = refl; least = λ other s. same_most (0x9f ∷ []) other s }
+
+pub least : (t : Target) (len d : ℕ) (op : Op) → InRange t len op → Least t op (least_bytes t d op)
+least t len d op r = so_least t op (least_bytes t d op) (least_spelled_so t len d op (range_so t len op r))
 
 -- ---- the table and what the code does with it
 

@@ -18,15 +18,18 @@ use Rattle.dw_op.specs.declared.op.Op.{Op}
 use Rattle.dw_op.specs.declared.op.Op.TheVariants.{Addr, Deref, Const, Dup, Drop, Over, Pick, Swap, Rot, Abs, And, Div, Minus, Mod, Mul, Neg, Not, Or, Plus, PlusUconst, Shl, Shr, Shra, Xor, Bra, Eq, Ge, Gt, Le, Lt, Ne, Skip, Reg, Breg, Fbreg, Piece, DerefSize, Nop, PushObjectAddress, CallFrameCfa, BitPiece, Implicit, StackValue}
 use Rattle.dw_op.specs.declared.least.Spelling.{Spelling}
 use Rattle.dw_op.specs.declared.least.Operand.TheVariants as operand
-use Rattle.dw_op.specs.OpSpells.{OpSpells, Code, Both, Counted, AnyTwo, Unsigned, ConstForm, Const1u, Const1s, Const2u, Const2s, Const4u, Const4s, Const8u, Const8s, Constu, Consts, Lit, Written, modulo}
+use Rattle.dw_op.specs.OpSpells.{Code, Both, AnyTwo}
+use Rattle.dw_op.specs.Inner.ByOperation.{IsSpelled, Counted, Unsigned, ConstForm, Const1u, Const1s, Const2u, Const2s, Const4u, Const4s, Const8u, Const8s, Constu, Consts, Lit, Written}
+use Rattle.dw_op.specs.Operands.{modulo}
 use Rattle.dw_op.specs.Least.{AtMost, Least}
 use Rattle.dw_op.specs.LeastOf.{spelling, spelling_bytes, constant, long_constant, longest_constant, address, register_form, register_offset, least_spelling, least_bytes}
 use Rattle.dw_op.specs.Block.{Displaced, branch_target}
 use Rattle.dw_op.specs.Ranges.{InRange}
 use Rattle.dw_op.specs.Encoding.{bits_of}
+use Rattle.dw_op.proofs.Spellings.{InRangeSo, LeastSo, range_so, least_so}
 use Rattle.dw_op.proofs.Ranges.{modulo_below}
 use Rattle.dw_op.proofs.Reached.{sleb_within, Within}
-use Rattle.dw_op.proofs.LeastOf.{least, by_test, low_8, low_16, low_32, at_lit, at_1u, at_1s, at_2u, at_2s, at_u4, at_s4, at_4u, at_4s, at_u6, at_s6, at_u7, at_s7, at_u8, at_s8, at_8u}
+use Rattle.dw_op.proofs.LeastOf.{least_spelled_so, by_test, low_8, low_16, low_32, at_lit, at_1u, at_1s, at_2u, at_2s, at_u4, at_s4, at_4u, at_4s, at_u6, at_s6, at_u7, at_s7, at_u8, at_s8, at_8u}
 
 -- ---- two least spellings
 
@@ -40,6 +43,9 @@ same_of a b (inl p) (inl q) = absurd (omega arith)
 same_of a b (inl p) (inr q) = let e = q.0 in absurd (omega arith)
 same_of a b (inr p) (inl q) = let e = p.0 in absurd (omega arith)
 same_of a b (inr p) (inr q) = let e = p.1 in let f = q.1 in record { length_is = p.0; code_is = omega arith }
+
+same_head_so : (t : Target) (op : Op) (a b : List ℕ) → LeastSo t op a → LeastSo t op b → SameHead a b
+same_head_so t op a b l m = same_of a b (l.least b m.spells) (m.least a l.spells)
 
 pub same_head : (t : Target) (op : Op) (a b : List ℕ) → Least t op a → Least t op b → SameHead a b
 same_head t op a b l m = same_of a b (l.least b m.spells) (m.least a l.spells)
@@ -108,7 +114,7 @@ within_more m m' (negsuc n) le h = omega arith
 
 module _ (t : Target) (v : ℕ) (small : v < address_limit t.size) where
   abbrev Only : Spelling → Type 0
-  Only s = (b : List ℕ) → Least t (Const v) b → b ≡ spelling_bytes t.order s
+  Only s = (b : List ℕ) → LeastSo t (Const v) b → b ≡ spelling_bytes t.order s
 
   abbrev limit : ℕ
   limit = address_limit t.size
@@ -117,10 +123,10 @@ module _ (t : Target) (v : ℕ) (small : v < address_limit t.size) where
   under = address_limit t.size - 1 - v
 
   -- a least spelling is in the form of the table's opcode
-  of_form : (s : Spelling) (form : ConstForm) → form ≡ form_at s.code → Least t (Const v) (spelling_bytes t.order s)
+  of_form : (s : Spelling) (form : ConstForm) → form ≡ form_at s.code → LeastSo t (Const v) (spelling_bytes t.order s)
       → ((z : ℤ) (b : List ℕ) → Written t.order form z b → v ≡ modulo limit z → length b ≡ length (spelling_bytes t.order s) → b ≡ spelling_bytes t.order s) → Only s
   of_form s form is found same b l =
-      let head = same_head t (Const v) b (spelling_bytes t.order s) l found in
+      let head = same_head_so t (Const v) b (spelling_bytes t.order s) l found in
       let c = l.spells in
       let form_is : c.form ≡ form = form_of t.order c.form c.number b c.written ∙ ap form_at head.code_is ∙ sym is in
       same c.number b (subst (λ (f : ConstForm). Written t.order f c.number b) form_is c.written) c.value head.length_is
@@ -251,7 +257,7 @@ module _ (t : Target) (v : ℕ) (small : v < address_limit t.size) where
 
   only_lit : v < 32 → Only (spelling (0x30 + v) operand.Nothing)
   only_lit lt b l =
-      let head = same_head t (Const v) b ((0x30 + v) ∷ []) l (at_lit t v small lt) in
+      let head = same_head_so t (Const v) b ((0x30 + v) ∷ []) l (at_lit t v small lt) in
       let c = l.spells in
       let form_is : c.form ≡ Lit = form_of t.order c.form c.number b c.written ∙ ap form_at head.code_is ∙ lit_form v in
       same c.number b (subst (λ (f : ConstForm). Written t.order f c.number b) form_is c.written) c.value
@@ -284,8 +290,8 @@ module _ (t : Target) (v : ℕ) (small : v < address_limit t.size) where
 
 -- ---- the other operations
 
-shorter : (t : Target) (len d : ℕ) (op : Op) (b : List ℕ) → InRange t len op → Least t op b → length b ≤ length (least_bytes t d op)
-shorter t len d op b r l = let h = same_head t op b (least_bytes t d op) l (least t len d op r) in let e = h.length_is in omega arith
+shorter : (t : Target) (len d : ℕ) (op : Op) (b : List ℕ) → InRangeSo t len op → LeastSo t op b → length b ≤ length (least_bytes t d op)
+shorter t len d op b r l = let h = same_head_so t op b (least_bytes t d op) l (least_spelled_so t len d op r) in let e = h.length_is in omega arith
 
 code_only : (code : ℕ) (Operands : List ℕ → Type 0) (operand : List ℕ) → ((rest : List ℕ) → Operands rest → length rest ≤ length operand → rest ≡ operand)
     → (b : List ℕ) → Code code Operands b → length b ≤ length (code ∷ operand) → b ≡ code ∷ operand
@@ -324,31 +330,31 @@ address_bytes : (o : Order) (s : Size) (a : ℕ) → a < 256 ^ byte_count s → 
 address_bytes o Four a fits = let e : a % 2 ^ 32 ≡ a = mod-eq_of_lt (omega arith) in rw e refl
 address_bytes o Eight a fits = refl
 
-register_length : (t : Target) (len n : ℕ) (b : List ℕ) → InRange t len (Reg n) → Least t (Reg n) b → length b ≤ length (spelling_bytes t.order (register_form n))
+register_length : (t : Target) (len n : ℕ) (b : List ℕ) → InRangeSo t len (Reg n) → LeastSo t (Reg n) b → length b ≤ length (spelling_bytes t.order (register_form n))
 unfolding least_bytes least_spelling
 register_length t len n b r l = shorter t len 0 (Reg n) b r l
 
-offset_length : (t : Target) (len n : ℕ) (z : ℤ) (b : List ℕ) → InRange t len (Breg n z) → Least t (Breg n z) b → length b ≤ length (spelling_bytes t.order (register_offset n z))
+offset_length : (t : Target) (len n : ℕ) (z : ℤ) (b : List ℕ) → InRangeSo t len (Breg n z) → LeastSo t (Breg n z) b → length b ≤ length (spelling_bytes t.order (register_offset n z))
 unfolding least_bytes least_spelling
 offset_length t len n z b r l = shorter t len 0 (Breg n z) b r l
 
-register_only : (t : Target) (len n : ℕ) (b : List ℕ) → InRange t len (Reg n) → Least t (Reg n) b → b ≡ spelling_bytes t.order (register_form n)
+register_only : (t : Target) (len n : ℕ) (b : List ℕ) → InRangeSo t len (Reg n) → LeastSo t (Reg n) b → b ≡ spelling_bytes t.order (register_form n)
 register_only t len n b r l =
     by_test (λ s. length b ≤ length (spelling_bytes t.order s) → b ≡ spelling_bytes t.order s) n 32 _ _ (λ lt. low lt l.spells) (λ ge. high ge l.spells) (register_length t len n b r l)
   where
-    low : n < 32 → OpSpells t (Reg n) b → length b ≤ 1 → b ≡ (0x50 + n) ∷ []
+    low : n < 32 → IsSpelled t (Reg n) b → length b ≤ 1 → b ≡ (0x50 + n) ∷ []
     low lt (inl p) le = p.1
     low lt (inr p) le = let some = leb_some p.rest p.operands.0.shape in let whole : length b ≡ suc (length p.rest) = ap length p.whole in absurd (omega arith)
 
-    high : 32 ≤ n → OpSpells t (Reg n) b → length b ≤ length (0x90 ∷ shortest_uleb n) → b ≡ 0x90 ∷ shortest_uleb n
+    high : 32 ≤ n → IsSpelled t (Reg n) b → length b ≤ length (0x90 ∷ shortest_uleb n) → b ≡ 0x90 ∷ shortest_uleb n
     high ge (inl p) le = let lt = p.0 in absurd (omega arith)
     high ge (inr p) le = code_only 0x90 (Register n) (shortest_uleb n) (λ rest h short. shortest_uleb-only n rest h.0 short) b p le
 
-register_offset_only : (t : Target) (len n : ℕ) (z : ℤ) (b : List ℕ) → InRange t len (Breg n z) → Least t (Breg n z) b → b ≡ spelling_bytes t.order (register_offset n z)
+register_offset_only : (t : Target) (len n : ℕ) (z : ℤ) (b : List ℕ) → InRangeSo t len (Breg n z) → LeastSo t (Breg n z) b → b ≡ spelling_bytes t.order (register_offset n z)
 register_offset_only t len n z b r l =
     by_test (λ s. length b ≤ length (spelling_bytes t.order s) → b ≡ spelling_bytes t.order s) n 32 _ _ (λ lt. low lt l.spells) (λ ge. high ge l.spells) (offset_length t len n z b r l)
   where
-    low : n < 32 → OpSpells t (Breg n z) b → length b ≤ length ((0x70 + n) ∷ shortest_sleb z) → b ≡ (0x70 + n) ∷ shortest_sleb z
+    low : n < 32 → IsSpelled t (Breg n z) b → length b ≤ length ((0x70 + n) ∷ shortest_sleb z) → b ≡ (0x70 + n) ∷ shortest_sleb z
     low lt (inl p) le = sleb_only (0x70 + n) z b p.1 le
     low lt (inr p) le =
         let some = leb_some p.operands.front p.operands.first.0.shape in
@@ -357,62 +363,66 @@ register_offset_only t len n z b r l =
         let rest : length p.rest ≡ length (p.operands.front ++ p.operands.back) = ap length p.operands.whole in
         absurd (omega (arith, length-append p.operands.front p.operands.back))
 
-    high : 32 ≤ n → OpSpells t (Breg n z) b → length b ≤ length (0x92 ∷ (shortest_uleb n ++ shortest_sleb z)) → b ≡ 0x92 ∷ (shortest_uleb n ++ shortest_sleb z)
+    high : 32 ≤ n → IsSpelled t (Breg n z) b → length b ≤ length (0x92 ∷ (shortest_uleb n ++ shortest_sleb z)) → b ≡ 0x92 ∷ (shortest_uleb n ++ shortest_sleb z)
     high ge (inl p) le = let lt = p.0 in absurd (omega arith)
     high ge (inr p) le = code_only 0x92 (Both (Register n) (Sleb z)) (shortest_uleb n ++ shortest_sleb z)
         (both_only (Register n) (Sleb z) (shortest_uleb n) (shortest_sleb z) (λ c h. shortest_uleb-least n c h.0) (shortest_sleb-least z) (λ c h short. shortest_uleb-only n c h.0 short) (shortest_sleb-only z)) b p le
 
--- a least spelling is the table's
-pub only : (t : Target) (all : List (List ℕ)) (len k : ℕ) (op : Op) (b : List ℕ) → InRange t len op → Least t op b → Displaced t.order all k (branch_target op) b
+only_so : (t : Target) (all : List (List ℕ)) (len k : ℕ) (op : Op) (b : List ℕ) → InRangeSo t len op → LeastSo t op b → Displaced t.order all k (branch_target op) b
     → b ≡ least_bytes t (bits_of all k (branch_target op)) op
 unfolding least_bytes least_spelling
-only t all len k (Addr a) b r l d = l.spells.whole ∙ ap (λ (c : List ℕ). 0x03 ∷ c) l.spells.operands.bytes ∙ sym (address_bytes t.order t.size a l.spells.operands.fits)
-only t all len k Deref b r l d = l.spells
-only t all len k (Const v) b r l d = constant_only t v (rw l.spells.value (modulo_below t.size l.spells.number)) b l
-only t all len k Dup b r l d = l.spells
-only t all len k Drop b r l d = l.spells
-only t all len k Over b r l d = l.spells
-only t all len k (Pick i) b r l d = fixed_only t.order 0x15 1 i b l.spells
-only t all len k Swap b r l d = l.spells
-only t all len k Rot b r l d = l.spells
-only t all len k Abs b r l d = l.spells
-only t all len k And b r l d = l.spells
-only t all len k Div b r l d = l.spells
-only t all len k Minus b r l d = l.spells
-only t all len k Mod b r l d = l.spells
-only t all len k Mul b r l d = l.spells
-only t all len k Neg b r l d = l.spells
-only t all len k Not b r l d = l.spells
-only t all len k Or b r l d = l.spells
-only t all len k Plus b r l d = l.spells
-only t all len k (PlusUconst n) b r l d = uleb_only 0x23 n b l.spells (shorter t len 0 (PlusUconst n) b r l)
-only t all len k Shl b r l d = l.spells
-only t all len k Shr b r l d = l.spells
-only t all len k Shra b r l d = l.spells
-only t all len k Xor b r l d = l.spells
-only t all len k (Bra i) b r l d = branch_only t.order 0x28 all k i b l.spells d
-only t all len k Eq b r l d = l.spells
-only t all len k Ge b r l d = l.spells
-only t all len k Gt b r l d = l.spells
-only t all len k Le b r l d = l.spells
-only t all len k Lt b r l d = l.spells
-only t all len k Ne b r l d = l.spells
-only t all len k (Skip i) b r l d = branch_only t.order 0x2f all k i b l.spells d
-only t all len k (Reg n) b r l d = register_only t len n b r l
-only t all len k (Breg n z) b r l d = register_offset_only t len n z b r l
-only t all len k (Fbreg z) b r l d = sleb_only 0x91 z b l.spells (shorter t len 0 (Fbreg z) b r l)
-only t all len k (Piece n) b r l d = uleb_only 0x93 n b l.spells (shorter t len 0 (Piece n) b r l)
-only t all len k (DerefSize n) b r l d = fixed_only t.order 0x94 1 n b l.spells.0
-only t all len k Nop b r l d = l.spells
-only t all len k PushObjectAddress b r l d = l.spells
-only t all len k CallFrameCfa b r l d = l.spells
-only t all len k (BitPiece size offset) b r l d =
+only_so t all len k (Addr a) b r l d = l.spells.whole ∙ ap (λ (c : List ℕ). 0x03 ∷ c) l.spells.operands.bytes ∙ sym (address_bytes t.order t.size a l.spells.operands.fits)
+only_so t all len k Deref b r l d = l.spells
+only_so t all len k (Const v) b r l d = constant_only t v (rw l.spells.value (modulo_below t.size l.spells.number)) b l
+only_so t all len k Dup b r l d = l.spells
+only_so t all len k Drop b r l d = l.spells
+only_so t all len k Over b r l d = l.spells
+only_so t all len k (Pick i) b r l d = fixed_only t.order 0x15 1 i b l.spells
+only_so t all len k Swap b r l d = l.spells
+only_so t all len k Rot b r l d = l.spells
+only_so t all len k Abs b r l d = l.spells
+only_so t all len k And b r l d = l.spells
+only_so t all len k Div b r l d = l.spells
+only_so t all len k Minus b r l d = l.spells
+only_so t all len k Mod b r l d = l.spells
+only_so t all len k Mul b r l d = l.spells
+only_so t all len k Neg b r l d = l.spells
+only_so t all len k Not b r l d = l.spells
+only_so t all len k Or b r l d = l.spells
+only_so t all len k Plus b r l d = l.spells
+only_so t all len k (PlusUconst n) b r l d = uleb_only 0x23 n b l.spells (shorter t len 0 (PlusUconst n) b r l)
+only_so t all len k Shl b r l d = l.spells
+only_so t all len k Shr b r l d = l.spells
+only_so t all len k Shra b r l d = l.spells
+only_so t all len k Xor b r l d = l.spells
+only_so t all len k (Bra i) b r l d = branch_only t.order 0x28 all k i b l.spells d
+only_so t all len k Eq b r l d = l.spells
+only_so t all len k Ge b r l d = l.spells
+only_so t all len k Gt b r l d = l.spells
+only_so t all len k Le b r l d = l.spells
+only_so t all len k Lt b r l d = l.spells
+only_so t all len k Ne b r l d = l.spells
+only_so t all len k (Skip i) b r l d = branch_only t.order 0x2f all k i b l.spells d
+only_so t all len k (Reg n) b r l d = register_only t len n b r l
+only_so t all len k (Breg n z) b r l d = register_offset_only t len n z b r l
+only_so t all len k (Fbreg z) b r l d = sleb_only 0x91 z b l.spells (shorter t len 0 (Fbreg z) b r l)
+only_so t all len k (Piece n) b r l d = uleb_only 0x93 n b l.spells (shorter t len 0 (Piece n) b r l)
+only_so t all len k (DerefSize n) b r l d = fixed_only t.order 0x94 1 n b l.spells.0
+only_so t all len k Nop b r l d = l.spells
+only_so t all len k PushObjectAddress b r l d = l.spells
+only_so t all len k CallFrameCfa b r l d = l.spells
+only_so t all len k (BitPiece size offset) b r l d =
     code_only 0x9d (Both (Uleb size) (Uleb offset)) (shortest_uleb size ++ shortest_uleb offset)
     (both_only (Uleb size) (Uleb offset) (shortest_uleb size) (shortest_uleb offset) (shortest_uleb-least size) (shortest_uleb-least offset) (shortest_uleb-only size) (shortest_uleb-only offset))
     b l.spells (shorter t len 0 (BitPiece size offset) b r l)
-only t all len k (Implicit block) b r l d =
+only_so t all len k (Implicit block) b r l d =
     let n = length block.now in
     code_only 0x9e (Counted block.now) (shortest_uleb n ++ block.now)
     (both_only (Uleb n) (λ c. c ≡ block.now) (shortest_uleb n) block.now (shortest_uleb-least n) (λ c e. rw e (omega arith)) (shortest_uleb-only n) (λ c e le. e))
     b l.spells.1 (shorter t len 0 (Implicit block) b r l)
-only t all len k StackValue b r l d = l.spells
+only_so t all len k StackValue b r l d = l.spells
+
+-- a least spelling is the table's
+pub only : (t : Target) (all : List (List ℕ)) (len k : ℕ) (op : Op) (b : List ℕ) → InRange t len op → Least t op b → Displaced t.order all k (branch_target op) b
+    → b ≡ least_bytes t (bits_of all k (branch_target op)) op
+only t all len k op b r l d = only_so t all len k op b (range_so t len op r) (least_so t op b l) d

@@ -9,6 +9,7 @@ pub mod EncodeLaws
 pub mod LeastOne
 pub mod Signed
 pub mod ReadingLaws
+pub mod Spellings
 pub mod ReadingAgain
 pub mod Splits
 pub mod Places

@@ -1,8 +1,9 @@
 -- What reading an operation refuses is the fault of its code, or of the first operand field that has one.
-use Rattle.std.proofs.Common.{◌≡◌, ℕ, ◌+◌, ◌-◌, ◌<◌, ◌≤◌, ◌^◌, ◌%◌, Bool, true, false, eqb, List, [], ◌∷◌, ◌++◌, length, Option, Some, None, Result, Ok, Err, refl, sym, ap, subst, ◌∙◌, arith, inl, inr}
+use Rattle.std.proofs.Common.{◌≡◌, ℕ, ◌+◌, ◌-◌, ◌<◌, ◌≤◌, ◌^◌, ◌%◌, Bool, true, false, List, [], ◌∷◌, ◌++◌, length, Option, Some, None, Result, Ok, Err, refl, sym, ap, subst, ◌∙◌, arith, inl, inr}
+use Rattle.std.specs.Int.{Width, w8, w16, w32, w64}
 use Rattle.std.specs.Prelude.{pos, nat_le, ◌&&◌, cond}
 use Rattle.std.proofs.lemmas.Int.{ints}
-use Rattle.std.proofs.lemmas.Bool.{cases_Bool, cases_lt, lt-ltb, le-ltb, eqb-true}
+use Rattle.std.proofs.lemmas.Bool.{cases_Bool, cases_lt, lt-ltb, le-ltb}
 use Rattle.dw_num.specs.declared.refusal.Code.TheVariants.{BadDerefSize, NotInFrame}
 use Rattle.dw_num.specs.declared.refusal.Refusal.{Refusal}
 use Rattle.dw_num.specs.declared.target.Order.{Order}
@@ -20,6 +21,7 @@ use Rattle.dw_op.specs.declared.op.Op.{Op}
 use Rattle.dw_op.specs.declared.op.Op.TheVariants.{Addr, Const, Pick, PlusUconst, Bra, Skip, Reg, Breg, Fbreg, Piece, DerefSize, BitPiece}
 use Rattle.dw_op.specs.declared.profile.Profile.{Profile}
 use Rattle.dw_op.specs.declared.profile.Profile.TheVariants.{Frame, Location}
+use Rattle.dw_op.specs.declared.reading.Branch.{Branch}
 use Rattle.dw_op.specs.declared.reading.Branch.TheVariants as branches
 use Rattle.dw_op.specs.declared.reading.ByteCount.{ByteCount}
 use Rattle.dw_op.specs.declared.reading.ByteCount.TheVariants.{One, Two, Four, Eight}
@@ -27,15 +29,16 @@ use Rattle.dw_op.specs.declared.reading.Step.{Step}
 use Rattle.dw_op.specs.declared.reading.Opcode.{Opcode}
 use Rattle.dw_op.specs.declared.reading.Opcode.TheVariants as opcodes
 use Rattle.dw_op.specs.Expression.{bare}
-use Rattle.dw_op.specs.OpSpells.{OpSpells, modulo, Constu, Consts}
+use Rattle.dw_op.specs.Inner.ByOperation.{Constu, Consts, IsSpelled}
 use Rattle.dw_op.specs.Profile.{in_frame}
 use Rattle.dw_op.specs.Operands as fields
-use Rattle.dw_op.specs.Operands.{Field, listed, operand_fields, fields_of, past, sized, counted, fields_at}
+use Rattle.dw_op.specs.Operands.{Form, form_table, form_of, form_at, field_at, past, sized, counted, modulo, natural, constant, implicit, look_up, in_range}
 use Rattle.dw_op.specs.Faults.{op_allowed, HasCode, OpFault}
-use Rattle.dw_op.specs.Reading.{look_up, plain_table, plain_op, operand_table, alone, or_else, in_range, opcode_of, code_in_frame, allows, with_op, width_of, signed_of, with_jump, after_register, size_in, after_size, implicit, after_length, operands_at, judged, step_at}
+use Rattle.dw_op.specs.Reading.{plain_table, plain_op, operand_table, alone, or_else, opcode_of, code_in_frame, allows, with_op, width_of, signed_of, with_jump, after_register, size_in, after_size, after_length, operands_at, judged, step_at}
 use Rattle.dw_op.specs.Inner.ByOpcode.{address_step, unsigned_step, signed_step, uconst_step, sconst_step, pick_step, plus_step, jump_step, breg_step, long_reg_step, long_breg_step, fbreg_step, piece_step, deref_size_step, bit_piece_step, implicit_step}
-use Rattle.dw_op.proofs.ReadingLaws.{some_is, EachEntry, looked_up, range_is, unsigned_code, signed_code, CodeOf, opcode_known, const_of, signed_const_of, bare_in_frame}
+use Rattle.dw_op.proofs.ReadingLaws.{some_is, EachEntry, looked_up, unsigned_code, signed_code, CodeOf, opcode_known, const_of, signed_const_of, bare_in_frame}
 use Rattle.dw_op.proofs.ReadingAgain.{step_again}
+use Rattle.dw_op.proofs.Spellings.{in_table}
 use Rattle.dw_op.proofs.Splits.{input}
 use Rattle.dw_op.proofs.Standing.{part_step}
 
@@ -48,129 +51,131 @@ same_end n i = elim (cases_lt (length i.bytes) n) [
   | inr long ↦ rw (le-ltb (length i.bytes) n long) refl
 ]
 
-op_end : {X : Type 0} (read : Read X) (make : X → Op) → past (read >>= with_op make) ≡ past read >>= fields_at []
+op_end : {X : Type 0} (read : Read X) (make : X → Op) → past (read >>= with_op make) ≡ past read
 op_end (Ok x) make = refl
 op_end (Err r) make = refl
 
-fixed_end : (n : ℕ) (i : Input) (make : ℕ → Op) → past (fixed_at n i >>= with_op make) ≡ past (take_at n i) >>= fields_at []
-fixed_end n i make = op_end (fixed_at n i) make ∙ ap (λ (r : Result Input Refusal). r >>= fields_at []) (same_end n i)
+fixed_end : (n : ℕ) (i : Input) (make : ℕ → Op) → past (fixed_at n i >>= with_op make) ≡ past (take_at n i)
+fixed_end n i make = op_end (fixed_at n i) make ∙ same_end n i
 
-next_end : {X : Type 0} (read : Read X) (next : X × Input → Read Step) (more : List Field) → ((x : X × Input) → past (next x) ≡ fields_at more x.1) → past (read >>= next) ≡ past read >>= fields_at more
+next_end : {X : Type 0} (read : Read X) (next : X × Input → Read Step) (more : Input → Result Input Refusal) → ((x : X × Input) → past (next x) ≡ more x.1) → past (read >>= next) ≡ past read >>= more
 next_end (Ok x) next more h = h x
 next_end (Err r) next more h = refl
 
-size_end : (most at : ℕ) (read : Read ℕ) → past (read >>= size_in most at) ≡ (read >>= sized most at) >>= fields_at []
+jump_end : (read : Read (List ℕ)) (branch : Branch) (order : Order) → past (read >>= with_jump branch order) ≡ past read
+jump_end (Ok x) branch order = refl
+jump_end (Err r) branch order = refl
+
+size_end : (most at : ℕ) (read : Read ℕ) → past (read >>= size_in most at) ≡ read >>= sized most at
 size_end most at (Err r) = refl
 size_end most at (Ok k) = of (nat_le 1 k.0 && nat_le k.0 most)
   where
-    of : (b : Bool) → past (cond b (with_op DerefSize k) (fault BadDerefSize at)) ≡ cond b (Ok k.1) (fault BadDerefSize at) >>= fields_at []
+    of : (b : Bool) → past (cond b (with_op DerefSize k) (fault BadDerefSize at)) ≡ cond b (Ok k.1) (fault BadDerefSize at)
     of true = refl
     of false = refl
 
-block_end : (read : Read ℕ) → past (read >>= after_length) ≡ (read >>= counted) >>= fields_at []
+block_end : (read : Read ℕ) → past (read >>= after_length) ≡ read >>= counted
 block_end (Err r) = refl
 block_end (Ok n) = op_end (take_at n.0 n.1) implicit
 
--- the fields of what a code says
-abbrev opcode_fields : Opcode → List Field
-opcode_fields (opcodes.Alone op) = []
-opcode_fields opcodes.Addr = fields.Address ∷ []
-opcode_fields (opcodes.Unsigned count) = fields.Bytes (width_of count) ∷ []
-opcode_fields (opcodes.Signed count) = fields.Bytes (width_of count) ∷ []
-opcode_fields opcodes.Uconst = fields.Unsigned ∷ []
-opcode_fields opcodes.Sconst = fields.Signed ∷ []
-opcode_fields opcodes.Pick = fields.Bytes 1 ∷ []
-opcode_fields opcodes.PlusUconst = fields.Unsigned ∷ []
-opcode_fields (opcodes.Jump branch) = fields.Bytes 2 ∷ []
-opcode_fields (opcodes.Breg r) = fields.Signed ∷ []
-opcode_fields opcodes.LongReg = fields.Register ∷ []
-opcode_fields opcodes.LongBreg = fields.Register ∷ fields.Signed ∷ []
-opcode_fields opcodes.Fbreg = fields.Signed ∷ []
-opcode_fields opcodes.Piece = fields.Unsigned ∷ []
-opcode_fields opcodes.DerefSize = fields.Size ∷ []
-opcode_fields opcodes.BitPiece = fields.Unsigned ∷ fields.Unsigned ∷ []
-opcode_fields opcodes.Implicit = fields.Counted ∷ []
+-- how wide a constant is
+abbrev width_in : ByteCount → Width
+width_in One = w8
+width_in Two = w16
+width_in Four = w32
+width_in Eight = w64
 
-operands_end : (opcode : Opcode) (i : Input) → past (operands_at opcode i) ≡ fields_at (opcode_fields opcode) i
+-- the form of what a code says
+abbrev form_for : Target → Opcode → Form
+form_for t (opcodes.Alone op) = fields.none op
+form_for t opcodes.Addr = fields.one fields.address Addr
+form_for t (opcodes.Unsigned count) = fields.one (fields.fixed (width_of count)) (natural t)
+form_for t (opcodes.Signed count) = fields.one (fields.twos (width_in count)) (constant t)
+form_for t opcodes.Uconst = fields.one fields.unsigned (natural t)
+form_for t opcodes.Sconst = fields.one fields.signed (constant t)
+form_for t opcodes.Pick = fields.one (fields.fixed 1) Pick
+form_for t opcodes.PlusUconst = fields.one fields.unsigned PlusUconst
+form_for t (opcodes.Jump branches.Bra) = fields.branch Bra
+form_for t (opcodes.Jump branches.Skip) = fields.branch Skip
+form_for t (opcodes.Breg r) = fields.one fields.signed (Breg r)
+form_for t opcodes.LongReg = fields.one fields.register Reg
+form_for t opcodes.LongBreg = fields.two fields.register fields.signed Breg
+form_for t opcodes.Fbreg = fields.one fields.signed Fbreg
+form_for t opcodes.Piece = fields.one fields.unsigned Piece
+form_for t opcodes.DerefSize = fields.one fields.size DerefSize
+form_for t opcodes.BitPiece = fields.two fields.unsigned fields.unsigned BitPiece
+form_for t opcodes.Implicit = fields.one fields.block implicit
+
+operands_end : (t : Target) (opcode : Opcode) (i : Input) → past (operands_at opcode i) ≡ form_at (form_for t opcode) i
 unfolding operands_at address_step unsigned_step signed_step uconst_step sconst_step pick_step plus_step jump_step breg_step long_reg_step long_breg_step fbreg_step piece_step deref_size_step bit_piece_step implicit_step address_at
-operands_end (opcodes.Alone op) i = refl
-operands_end opcodes.Addr i = fixed_end (byte_count i.target.size) i _
-operands_end (opcodes.Unsigned count) i = fixed_end (width_of count) i _
-operands_end (opcodes.Signed count) i = fixed_end (width_of count) i _
-operands_end opcodes.Uconst i = op_end (uleb_at i) _
-operands_end opcodes.Sconst i = op_end (sleb_at i) _
-operands_end opcodes.Pick i = fixed_end 1 i _
-operands_end opcodes.PlusUconst i = op_end (uleb_at i) _
-operands_end (opcodes.Jump branch) i = next_end (take_at 2 i) (with_jump branch i.target.order) [] (λ x. refl)
-operands_end (opcodes.Breg r) i = op_end (sleb_at i) _
-operands_end opcodes.LongReg i = op_end (register_at i) _
-operands_end opcodes.LongBreg i = next_end (register_at i) after_register (fields.Signed ∷ []) (λ x. op_end (sleb_at x.1) _)
-operands_end opcodes.Fbreg i = op_end (sleb_at i) _
-operands_end opcodes.Piece i = op_end (uleb_at i) _
-operands_end opcodes.DerefSize i = size_end (byte_count i.target.size) i.at (fixed_at 1 i)
-operands_end opcodes.BitPiece i = next_end (uleb_at i) after_size (fields.Unsigned ∷ []) (λ x. op_end (uleb_at x.1) _)
-operands_end opcodes.Implicit i = block_end (uleb_at i)
+operands_end t (opcodes.Alone op) i = refl
+operands_end t opcodes.Addr i = fixed_end (byte_count i.target.size) i _
+operands_end t (opcodes.Unsigned count) i = fixed_end (width_of count) i _
+operands_end t (opcodes.Signed One) i = fixed_end 1 i _
+operands_end t (opcodes.Signed Two) i = fixed_end 2 i _
+operands_end t (opcodes.Signed Four) i = fixed_end 4 i _
+operands_end t (opcodes.Signed Eight) i = fixed_end 8 i _
+operands_end t opcodes.Uconst i = op_end (uleb_at i) _
+operands_end t opcodes.Sconst i = op_end (sleb_at i) _
+operands_end t opcodes.Pick i = fixed_end 1 i _
+operands_end t opcodes.PlusUconst i = op_end (uleb_at i) _
+operands_end t (opcodes.Jump branches.Bra) i = jump_end (take_at 2 i) branches.Bra i.target.order
+operands_end t (opcodes.Jump branches.Skip) i = jump_end (take_at 2 i) branches.Skip i.target.order
+operands_end t (opcodes.Breg r) i = op_end (sleb_at i) _
+operands_end t opcodes.LongReg i = op_end (register_at i) _
+operands_end t opcodes.LongBreg i = next_end (register_at i) after_register (field_at fields.signed) (λ x. op_end (sleb_at x.1) _)
+operands_end t opcodes.Fbreg i = op_end (sleb_at i) _
+operands_end t opcodes.Piece i = op_end (uleb_at i) _
+operands_end t opcodes.DerefSize i = size_end (byte_count i.target.size) i.at (fixed_at 1 i)
+operands_end t opcodes.BitPiece i = next_end (uleb_at i) after_size (field_at fields.unsigned) (λ x. op_end (uleb_at x.1) _)
+operands_end t opcodes.Implicit i = block_end (uleb_at i)
 
--- ---- the fields of a code
+-- ---- the form of a code
 
-abbrev FieldsAre : Opcode → ℕ → Type 0
-FieldsAre opcode code = fields_of code ≡ opcode_fields opcode
+module _ (t : Target) where
+  -- the table has this for a code
+  abbrev InTable : Form → ℕ → Type 0
+  InTable form code = look_up (form_table t) code ≡ Some form
 
-plain_fields : EachEntry (λ (op : Op) (code : ℕ). fields_of code ≡ []) plain_table
-plain_fields = (refl, (refl, (refl, (refl, (refl, (refl, (refl, (refl, (refl, (refl, (refl, (refl, (refl, (refl, (refl, (refl, (refl, (refl, (refl, (refl, (refl, (refl, (refl, (refl, (refl, (refl, (refl, (refl, (refl, (refl, tt))))))))))))))))))))))))))))))
+  abbrev IsForm : Opcode → ℕ → Type 0
+  IsForm opcode code = form_of t code ≡ Some (form_for t opcode)
 
-table_fields : EachEntry FieldsAre operand_table
-table_fields = (refl, (refl, (refl, (refl, (refl, (refl, (refl, (refl, (refl, (refl, (refl, (refl, (refl, (refl, (refl, (refl, (refl, (refl, (refl, (refl, (refl, (refl, tt))))))))))))))))))))))
+  plain_forms : EachEntry (λ op code. InTable (fields.none op) code) plain_table
+  plain_forms = (refl, (refl, (refl, (refl, (refl, (refl, (refl, (refl, (refl, (refl, (refl, (refl, (refl, (refl, (refl, (refl, (refl, (refl, (refl, (refl, (refl, (refl, (refl, (refl, (refl, (refl, (refl, (refl, (refl, (refl, tt))))))))))))))))))))))))))))))
 
--- a table without the code has nothing for it
-not_listed : (table : List (ℕ × List Field)) (code : ℕ) → EachEntry (λ (f : List Field) (c : ℕ). code ≡ c → ⊥) table → listed table code ≡ []
-not_listed [] code h = refl
-not_listed (entry ∷ table) code h = elim (cases_Bool (eqb code entry.0)) [
-  | inl y ↦ absurd (h.0 (eqb-true code entry.0 y))
-  | inr n ↦ rw n (not_listed table code h.1)
-]
+  table_forms : EachEntry (λ opcode code. InTable (form_for t opcode) code) operand_table
+  table_forms = (refl, (refl, (refl, (refl, (refl, (refl, (refl, (refl, (refl, (refl, (refl, (refl, (refl, (refl, (refl, (refl, (refl, (refl, (refl, (refl, (refl, (refl, tt))))))))))))))))))))))
 
--- literals and registers 0 to 31 have no operands
-no_fields : (code : ℕ) → 0x30 ≤ code → code < 0x70 → fields_of code ≡ []
-no_fields code low high = elim (cases_Bool (in_range 0x70 0x90 code)) [
-  | inl y ↦ absurd (let r = range_is 0x70 0x90 code y in omega (arith, r.0))
-  | inr n ↦ rw n (not_listed operand_fields code (λ e. omega arith, (λ e. omega arith, (λ e. omega arith, (λ e. omega arith, (λ e. omega arith, (λ e. omega arith, (λ e. omega arith, (λ e. omega arith, (λ e. omega arith, (λ e. omega arith, (λ e. omega arith, (λ e. omega arith, (λ e. omega arith, (λ e. omega arith, (λ e. omega arith, (λ e. omega arith, (λ e. omega arith, (λ e. omega arith, (λ e. omega arith, (λ e. omega arith, (λ e. omega arith, (λ e. omega arith, tt)))))))))))))))))))))))
-]
+  alone_form : (code : ℕ) (o : Option Op) (opcode : Opcode) → look_up plain_table code ≡ o → alone o ≡ Some opcode → InTable (form_for t opcode) code
+  alone_form code None opcode known e = absurd cc
+  alone_form code (Some op) opcode known e =
+      let is : opcodes.Alone op ≡ opcode = some_is (opcodes.Alone op) opcode e in
+      subst (λ (x : Opcode). InTable (form_for t x) code) is (looked_up (λ (o : Op) (c : ℕ). InTable (fields.none o) c) plain_table code op plain_forms known)
 
-alone_fields : (code : ℕ) (o : Option Op) (opcode : Opcode) → look_up plain_table code ≡ o → alone o ≡ Some opcode → FieldsAre opcode code
-alone_fields code None opcode known e = absurd cc
-alone_fields code (Some op) opcode known e =
-    let is : opcodes.Alone op ≡ opcode = some_is (opcodes.Alone op) opcode e in
-    subst (λ (x : Opcode). FieldsAre x code) is (looked_up (λ (op : Op) (code : ℕ). fields_of code ≡ []) plain_table code op plain_fields known)
+  other_form : (code : ℕ) (o : Option Opcode) (opcode : Opcode) → look_up operand_table code ≡ o → or_else o (alone (plain_op code)) ≡ Some opcode → InTable (form_for t opcode) code
+  unfolding plain_op
+  other_form code None opcode known e = alone_form code (look_up plain_table code) opcode refl e
+  other_form code (Some other) opcode known e =
+      subst (λ (x : Opcode). InTable (form_for t x) code) (some_is other opcode e) (looked_up (λ (o : Opcode) (c : ℕ). InTable (form_for t o) c) operand_table code other table_forms known)
 
-other_fields : (code : ℕ) (o : Option Opcode) (opcode : Opcode) → look_up operand_table code ≡ o → or_else o (alone (plain_op code)) ≡ Some opcode → FieldsAre opcode code
-unfolding plain_op
-other_fields code None opcode known e = alone_fields code (look_up plain_table code) opcode refl e
-other_fields code (Some other) opcode known e =
-    subst (λ (x : Opcode). FieldsAre x code) (some_is other opcode e) (looked_up FieldsAre operand_table code other table_fields known)
-
-known_fields : (code : ℕ) (opcode : Opcode) → opcode_of code ≡ Some opcode → FieldsAre opcode code
-unfolding opcode_of
-known_fields code opcode e = elim (cases_Bool (in_range 0x30 0x50 code)) [
-  | inl y ↦
-      let r = range_is 0x30 0x50 code y in
-      subst (λ (x : Opcode). FieldsAre x code) (some_is (opcodes.Alone (Const (code - 0x30))) opcode (rw y at e)) (no_fields code (omega (arith, r.0)) (omega (arith, r.1)))
-  | inr n ↦ let e1 = rw n at e in elim (cases_Bool (in_range 0x50 0x70 code)) [
-    | inl y ↦
-        let r = range_is 0x50 0x70 code y in
-        subst (λ (x : Opcode). FieldsAre x code) (some_is (opcodes.Alone (Reg (code - 0x50))) opcode (rw y at e1)) (no_fields code (omega (arith, r.0)) (omega (arith, r.1)))
-    | inr n ↦ let e2 = rw n at e1 in elim (cases_Bool (in_range 0x70 0x90 code)) [
-      | inl y ↦ subst (λ (x : Opcode). FieldsAre x code) (some_is (opcodes.Breg (code - 0x70)) opcode (rw y at e2)) (rw y refl)
-      | inr n ↦ other_fields code (look_up operand_table code) opcode refl (rw n at e2)
+  known_form : (code : ℕ) (opcode : Opcode) → opcode_of code ≡ Some opcode → IsForm opcode code
+  unfolding opcode_of form_of
+  known_form code opcode e = elim (cases_Bool (in_range 0x30 0x50 code)) [
+    | inl y ↦ subst (λ (x : Opcode). IsForm x code) (some_is (opcodes.Alone (Const (code - 0x30))) opcode (rw y at e)) (rw y refl)
+    | inr n ↦ let e1 = rw n at e in elim (cases_Bool (in_range 0x50 0x70 code)) [
+      | inl y ↦ subst (λ (x : Opcode). IsForm x code) (some_is (opcodes.Alone (Reg (code - 0x50))) opcode (rw y at e1)) (rw (n, y) refl)
+      | inr m ↦ let e2 = rw m at e1 in elim (cases_Bool (in_range 0x70 0x90 code)) [
+        | inl y ↦ subst (λ (x : Opcode). IsForm x code) (some_is (opcodes.Breg (code - 0x70)) opcode (rw y at e2)) (rw (n, m, y) refl)
+        | inr k ↦ rw (n, m, k) (other_form code (look_up operand_table code) opcode refl (rw k at e2))
+      ]
     ]
   ]
-]
 
 -- ---- what a code says is what begins so
 
 -- bytes behind a code that spell an operation
 abbrev Example : Target → Opcode → ℕ → Type 0
-Example t opcode code = (op : Op) × (operands : List ℕ) × OpSpells t op (code ∷ operands) × (in_frame op ≡ code_in_frame opcode)
+Example t opcode code = (op : Op) × (operands : List ℕ) × IsSpelled t op (code ∷ operands) × (in_frame op ≡ code_in_frame opcode)
 
 zeros : (order : Order) (n : ℕ) → 0 < 256 ^ n → Fixed order n 0 (fixed_bytes order n 0)
 zeros order n some = record { bytes = refl; fits = some }
@@ -230,7 +235,7 @@ example t opcodes.Implicit code h =
 begun : (profile : Profile) (t : Target) (code : ℕ) (opcode : Opcode) → opcode_of code ≡ Some opcode → allows profile opcode ≡ true → HasCode profile t code
 begun profile t code opcode known ok =
     let e = example t opcode code (opcode_known t code opcode known) in
-    (e.1, (e.0, e.2, of profile e.0 ok e.3))
+    (e.1, (e.0, in_table t e.0 (code ∷ e.1) e.2, of profile e.0 ok e.3))
   where
     of : (p : Profile) (op : Op) → allows p opcode ≡ true → in_frame op ≡ code_in_frame opcode → op_allowed p op ≡ true
     of Frame op a same = same ∙ a
@@ -266,8 +271,16 @@ errs (Ok x) r e = absurd cc
 errs (Err q) r e = ap (λ (x : Refusal). Err x) (same_refusal q r e)
 
 -- what the operands of a code refuse is the fault of the code's fields
-operands_fault : (code : ℕ) (opcode : Opcode) (i : Input) → opcode_of code ≡ Some opcode → past (operands_at opcode i) ≡ fields_at (fields_of code) i
-operands_fault code opcode i is = operands_end opcode i ∙ ap (λ (f : List Field). fields_at f i) (sym (known_fields code opcode is))
+abbrev FieldsFault : Target → ℕ → Input → Refusal → Type 0
+FieldsFault t code i r = (form : Form) × (form_of t code ≡ Some form) × (form_at form i ≡ Err r)
+
+operands_fault : (t : Target) (code : ℕ) (opcode : Opcode) (i : Input) (r : Refusal) → opcode_of code ≡ Some opcode → operands_at opcode i ≡ Err r → FieldsFault t code i r
+operands_fault t code opcode i r is e = (form_for t opcode, known_form t code opcode is, sym (operands_end t opcode i) ∙ ap past e)
+
+fault_operands : (t : Target) (code : ℕ) (opcode : Opcode) (i : Input) (r : Refusal) → opcode_of code ≡ Some opcode → FieldsFault t code i r → operands_at opcode i ≡ Err r
+fault_operands t code opcode i r is f =
+    let same : form_for t opcode ≡ f.0 = some_is (form_for t opcode) f.0 (sym (known_form t code opcode is) ∙ f.1) in
+    errs (operands_at opcode i) r (operands_end t opcode i ∙ ap (λ (form : Form). form_at form i) same ∙ f.2)
 
 disallowed : (profile : Profile) (code : ℕ) (a b : Opcode) → opcode_of code ≡ Some a → opcode_of code ≡ Some b → allows profile a ≡ false → allows profile b ≡ true → ⊥
 disallowed profile code a b one two not_a is_b =
@@ -284,7 +297,8 @@ stuck_fault profile t at code operands r e = of (opcode_of code) refl (sym (read
     of (Some opcode) is e = elim (cases_Bool (allows profile opcode)) [
       | inl y ↦
           let e1 : operands_at opcode (input (at + 1) operands t) ≡ Err r = rw y at e in
-          inr (inr (begun profile t code opcode is y, sym (operands_fault code opcode (input (at + 1) operands t) is) ∙ ap past e1))
+          let f = operands_fault t code opcode (input (at + 1) operands t) r is e1 in
+          inr (inr (begun profile t code opcode is y, f.0, f.1, f.2))
       | inr n ↦
           let e1 : fault {A = Step × Input} NotInFrame at ≡ Err r = rw n at e in
           inr (inl (begun Location t code opcode is refl, (λ h. let k = known profile t code h in disallowed profile code opcode k.0 is k.1 n k.2), cc))
@@ -307,4 +321,4 @@ fault_stuck profile t at code operands r h = read_code profile t at code operand
         let k = known profile t code u.0 in
         let same : k.0 ≡ opcode = some_is k.0 opcode (sym k.1 ∙ is) in
         let ok : allows profile opcode ≡ true = sym (ap (λ (x : Opcode). allows profile x) same) ∙ k.2 in
-        rw ok (errs (operands_at opcode (input (at + 1) operands t)) r (operands_fault code opcode (input (at + 1) operands t) is ∙ u.1))
+        rw ok (fault_operands t code opcode (input (at + 1) operands t) r is (u.1, u.2, u.3))

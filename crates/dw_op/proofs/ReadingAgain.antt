@@ -27,10 +27,12 @@ use Rattle.dw_op.specs.declared.reading.ByteCount.TheVariants.{One, Two, Four, E
 use Rattle.dw_op.specs.declared.reading.Opcode.{Opcode}
 use Rattle.dw_op.specs.declared.reading.Opcode.TheVariants as opcodes
 use Rattle.dw_op.specs.Expression.{bare}
-use Rattle.dw_op.specs.OpSpells.{OpSpells, Code, Both, Counted, modulo, ConstForm, Written, Const1u, Const1s, Const2u, Const2s, Const4u, Const4s, Const8u, Const8s, Constu, Consts, Lit}
+use Rattle.dw_op.specs.OpSpells.{Code, Both}
+use Rattle.dw_op.specs.Inner.ByOperation.{IsSpelled, Counted, ConstForm, Written, Const1u, Const1s, Const2u, Const2s, Const4u, Const4s, Const8u, Const8s, Constu, Consts, Lit}
 use Rattle.dw_op.specs.Block.{branch_target}
 use Rattle.dw_op.specs.Inner.Steps.{StepSpells, branch_code, step_in_frame, step_allowed}
-use Rattle.dw_op.specs.Reading.{plain_op, opcode_of, in_range, code_in_frame, allows, with_op, width_of, signed_of, after_register, after_size, implicit, after_length, operands_at, step_at}
+use Rattle.dw_op.specs.Reading.{plain_op, opcode_of, code_in_frame, allows, with_op, width_of, signed_of, after_register, after_size, after_length, operands_at, step_at}
+use Rattle.dw_op.specs.Operands.{modulo, in_range, implicit}
 use Rattle.dw_op.specs.Inner.ByOpcode.{address_step, unsigned_step, signed_step, uconst_step, sconst_step, pick_step, plus_step, jump_step, breg_step, long_reg_step, long_breg_step, fbreg_step, piece_step, deref_size_step, bit_piece_step, implicit_step}
 use Rattle.dw_op.proofs.Signed.{Complement, complement_of}
 
@@ -173,7 +175,7 @@ module _ (t : Target) (profile : Profile) where
       rw (fixed_at_again 1 at t k b rest f, le-leb 1 k low, le-leb k (byte_count t.size) high) refl
 
   -- what spells an operation that is no branch is read
-  pub op_spelled_again : (op : Op) (b : List ℕ) → OpSpells t op b → branch_target op ≡ None → step_allowed profile (Plain op) ≡ true → Again t (step_at profile) (Plain op) b
+  pub op_spelled_again : (op : Op) (b : List ℕ) → IsSpelled t op b → branch_target op ≡ None → step_allowed profile (Plain op) ≡ true → Again t (step_at profile) (Plain op) b
   unfolding operands_at opcode_of plain_op address_step pick_step plus_step breg_step long_reg_step fbreg_step piece_step unsigned_step signed_step uconst_step sconst_step jump_step long_breg_step deref_size_step bit_piece_step implicit_step
   op_spelled_again Deref b h target allowed = alone_again 0x06 Deref b h refl refl allowed
   op_spelled_again Dup b h target allowed = alone_again 0x12 Dup b h refl refl allowed

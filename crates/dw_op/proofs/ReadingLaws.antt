@@ -27,11 +27,12 @@ use Rattle.dw_op.specs.declared.reading.ByteCount.TheVariants.{One, Two, Four, E
 use Rattle.dw_op.specs.declared.reading.Opcode.{Opcode}
 use Rattle.dw_op.specs.declared.reading.Opcode.TheVariants as opcodes
 use Rattle.dw_op.specs.Expression.{bare}
-use Rattle.dw_op.specs.OpSpells.{OpSpells, modulo, Const1u, Const1s, Const2u, Const2s, Const4u, Const4s, Const8u, Const8s, Constu, Consts, Lit}
+use Rattle.dw_op.specs.Inner.ByOperation.{IsSpelled, Const1u, Const1s, Const2u, Const2s, Const4u, Const4s, Const8u, Const8s, Constu, Consts, Lit}
 use Rattle.dw_op.specs.Block.{branch_target}
 use Rattle.dw_op.specs.Profile.{in_frame}
 use Rattle.dw_op.specs.Inner.Steps.{StepSpells, branch_code, step_in_frame, step_allowed}
-use Rattle.dw_op.specs.Reading.{look_up, plain_table, plain_op, operand_table, alone, or_else, in_range, opcode_of, code_in_frame, allows, with_op, width_of, signed_of, with_jump, after_register, size_in, after_size, implicit, after_length, operands_at, judged, after_code, step_at}
+use Rattle.dw_op.specs.Operands.{modulo, look_up, in_range, implicit}
+use Rattle.dw_op.specs.Reading.{plain_table, plain_op, operand_table, alone, or_else, opcode_of, code_in_frame, allows, with_op, width_of, signed_of, with_jump, after_register, size_in, after_size, after_length, operands_at, judged, after_code, step_at}
 use Rattle.dw_op.specs.Inner.ByOpcode.{address_step, unsigned_step, signed_step, uconst_step, sconst_step, pick_step, plus_step, jump_step, breg_step, long_reg_step, long_breg_step, fbreg_step, piece_step, deref_size_step, bit_piece_step, implicit_step}
 use Rattle.dw_op.proofs.Signed.{count_found, signed_spelled}
 
@@ -52,7 +53,7 @@ signed_code Eight = 0x0f
 
 -- the codes of an opcode
 abbrev pub CodeOf : Target → Opcode → ℕ → Type 0
-CodeOf t (opcodes.Alone op) code = OpSpells t (bare op) (code ∷ []) × (branch_target (bare op) ≡ None)
+CodeOf t (opcodes.Alone op) code = IsSpelled t (bare op) (code ∷ []) × (branch_target (bare op) ≡ None)
 CodeOf t opcodes.Addr code = code ≡ 0x03
 CodeOf t (opcodes.Unsigned count) code = code ≡ unsigned_code count
 CodeOf t (opcodes.Signed count) code = code ≡ signed_code count
@@ -88,7 +89,7 @@ looked_up {A} P (entry ∷ table) code a h e = elim (cases_Bool (eqb code entry.
 ]
 
 abbrev PlainOf : Target → Op → ℕ → Type 0
-PlainOf t op code = OpSpells t (bare op) (code ∷ []) × (branch_target (bare op) ≡ None)
+PlainOf t op code = IsSpelled t (bare op) (code ∷ []) × (branch_target (bare op) ≡ None)
 
 plain_entries : (t : Target) → EachEntry (PlainOf t) plain_table
 plain_entries t = ((refl, refl), ((refl, refl), ((refl, refl), ((refl, refl), ((refl, refl), ((refl, refl), ((refl, refl), ((refl, refl), ((refl, refl), ((refl, refl), ((refl, refl), ((refl, refl), ((refl, refl), ((refl, refl), ((refl, refl), ((refl, refl), ((refl, refl), ((refl, refl), ((refl, refl), ((refl, refl), ((refl, refl), ((refl, refl), ((refl, refl), ((refl, refl), ((refl, refl), ((refl, refl), ((refl, refl), ((refl, refl), ((refl, refl), ((refl, refl), tt))))))))))))))))))))))))))))))
@@ -102,7 +103,7 @@ range_is low high code e = elim (cases_Bool (nat_le low code)) [
   | inr n ↦ let k : false ≡ true = rw n at e in absurd cc
 ]
 
-small_const : (s : Size) (n : ℕ) → n < 256 → n ≡ n % address_limit s
+pub small_const : (s : Size) (n : ℕ) → n < 256 → n ≡ n % address_limit s
 small_const sizes.Four n lt = omega arith
 small_const sizes.Eight n lt = omega arith
 

@@ -14,11 +14,13 @@ use Rattle.dw_op.specs.declared.reading.Branch.TheVariants.{Bra, Skip}
 use Rattle.dw_op.specs.declared.reading.Step.{Step}
 use Rattle.dw_op.specs.declared.reading.Step.TheVariants.{Plain, Jump}
 use Rattle.dw_op.specs.OpSpells.{OpSpells, Code, AnyTwo}
+use Rattle.dw_op.specs.Inner.ByOperation.{IsSpelled}
 use Rattle.dw_op.specs.Block.{start, displacement, Displaced, Stands}
 use Rattle.dw_op.specs.Inner.Steps.{branch_code, step_allowed}
 use Rattle.dw_op.specs.Walk.{goes_to, find_at, branch_to, op_of}
 use Rattle.dw_op.specs.Faults.{op_allowed}
 use Rattle.dw_op.proofs.ReadingAgain.{step_again}
+use Rattle.dw_op.proofs.Spellings.{by_table, in_table}
 use Rattle.dw_op.proofs.Splits.{Spelled, spelled, input}
 use Rattle.dw_op.proofs.Branches.{goes_displaced, displaced_goes, displaced_fixed, fixed_displaced, fixed_any, any_fixed, length-two}
 
@@ -55,10 +57,13 @@ with_profile : (profile : Profile) (t : Target) (branch : Branch) (n : ℕ) (par
 with_profile profile t branch n part h = record { spells = h.spells; allowed = jumps profile branch n; some = h.some }
 
 -- what spells an operation spells a step
+spelled_step : (profile : Profile) (t : Target) (part : List ℕ) (op : Op) → IsSpelled t op part → op_allowed profile op ≡ true → (step : Step) × Spelled profile t step part
+spelled_step profile t part (ops.Bra i) h allowed = (Jump Bra (fixed_number t.order 2 h.rest), with_profile profile t Bra (fixed_number t.order 2 h.rest) part (any_code t Bra part h))
+spelled_step profile t part (ops.Skip i) h allowed = (Jump Skip (fixed_number t.order 2 h.rest), with_profile profile t Skip (fixed_number t.order 2 h.rest) part (any_code t Skip part h))
+spelled_step profile t part op h allowed = (Plain op, spelled profile t (Plain op) part (h, refl) (plain_allowed profile op allowed))
+
 pub part_step : (profile : Profile) (t : Target) (part : List ℕ) (op : Op) → OpSpells t op part → op_allowed profile op ≡ true → (step : Step) × Spelled profile t step part
-part_step profile t part (ops.Bra i) h allowed = (Jump Bra (fixed_number t.order 2 h.rest), with_profile profile t Bra (fixed_number t.order 2 h.rest) part (any_code t Bra part h))
-part_step profile t part (ops.Skip i) h allowed = (Jump Skip (fixed_number t.order 2 h.rest), with_profile profile t Skip (fixed_number t.order 2 h.rest) part (any_code t Skip part h))
-part_step profile t part op h allowed = (Plain op, spelled profile t (Plain op) part (h, refl) (plain_allowed profile op allowed))
+part_step profile t part op h allowed = spelled_step profile t part op (by_table t op part h) allowed
 
 -- ---- a step and the operation that it is resolved to
 
@@ -104,11 +109,11 @@ pub step_stands : (profile : Profile) (t : Target) (all : List (List ℕ)) (find
     → op_of find (start all k) step ≡ Some op → Stands t all k op part × (op_allowed profile op ≡ true)
 step_stands profile t all find k (Plain other) op part f h placed e =
     subst (λ (x : Op). Stands t all k x part × (op_allowed profile x ≡ true)) (op_is other op e)
-    (record { spells = h.spells.0; displaced = subst (λ (o : Option ℕ). Displaced t.order all k o part) (sym h.spells.1) tt }, allowed_plain profile other h.allowed)
+    (record { spells = in_table t other part h.spells.0; displaced = subst (λ (o : Option ℕ). Displaced t.order all k o part) (sym h.spells.1) tt }, allowed_plain profile other h.allowed)
 step_stands profile t all find k (Jump Bra n) op part f h placed e =
     let b = branch_says find Bra (start all k + 3) n (goes_to (start all k + 3) n) (find_at find (goes_to (start all k + 3) n)) op refl refl e in
     subst (λ (x : Op). Stands t all k x part × (op_allowed profile x ≡ true)) (op_is (ops.Bra b.index) op b.is)
-    (record { spells = record { rest = h.spells.rest; operands = fixed_any t.order n h.spells.rest h.spells.operands; whole = h.spells.whole }; displaced = jump_displaced t all find k Bra n op part h.spells f placed b }, branches_allowed profile b.index)
+    (record { spells = in_table t (ops.Bra b.index) part (record { rest = h.spells.rest; operands = fixed_any t.order n h.spells.rest h.spells.operands; whole = h.spells.whole }); displaced = jump_displaced t all find k Bra n op part h.spells f placed b }, branches_allowed profile b.index)
   where
     branches_allowed : (p : Profile) (i : ℕ) → op_allowed p (ops.Bra i) ≡ true
     branches_allowed Frame i = refl
@@ -116,7 +121,7 @@ step_stands profile t all find k (Jump Bra n) op part f h placed e =
 step_stands profile t all find k (Jump Skip n) op part f h placed e =
     let b = branch_says find Skip (start all k + 3) n (goes_to (start all k + 3) n) (find_at find (goes_to (start all k + 3) n)) op refl refl e in
     subst (λ (x : Op). Stands t all k x part × (op_allowed profile x ≡ true)) (op_is (ops.Skip b.index) op b.is)
-    (record { spells = record { rest = h.spells.rest; operands = fixed_any t.order n h.spells.rest h.spells.operands; whole = h.spells.whole }; displaced = jump_displaced t all find k Skip n op part h.spells f placed b }, branches_allowed profile b.index)
+    (record { spells = in_table t (ops.Skip b.index) part (record { rest = h.spells.rest; operands = fixed_any t.order n h.spells.rest h.spells.operands; whole = h.spells.whole }); displaced = jump_displaced t all find k Skip n op part h.spells f placed b }, branches_allowed profile b.index)
   where
     branches_allowed : (p : Profile) (i : ℕ) → op_allowed p (ops.Skip i) ≡ true
     branches_allowed Frame i = refl
@@ -145,12 +150,14 @@ branch_resolved t all find k i branch part h f placed d s =
 pub stands_step : (profile : Profile) (t : Target) (all : List (List ℕ)) (find : ℕ → Option ℕ) (k : ℕ) (op : Op) (part : List ℕ) → Finds all find → Placed all k part → Stands t all k op part → op_allowed profile op ≡ true
     → (step : Step) × Spelled profile t step part × (op_of find (start all k) step ≡ Some op)
 stands_step profile t all find k (ops.Bra i) part f placed h allowed =
-    let s = any_code t Bra part h.spells in
-    let n = fixed_number t.order 2 h.spells.rest in
-    (Jump Bra n, with_profile profile t Bra n part s, branch_resolved t all find k i Bra part h.spells f placed h.displaced s)
+    let spells = by_table t (ops.Bra i) part h.spells in
+    let s = any_code t Bra part spells in
+    let n = fixed_number t.order 2 spells.rest in
+    (Jump Bra n, with_profile profile t Bra n part s, branch_resolved t all find k i Bra part spells f placed h.displaced s)
 stands_step profile t all find k (ops.Skip i) part f placed h allowed =
-    let s = any_code t Skip part h.spells in
-    let n = fixed_number t.order 2 h.spells.rest in
-    (Jump Skip n, with_profile profile t Skip n part s, branch_resolved t all find k i Skip part h.spells f placed h.displaced s)
+    let spells = by_table t (ops.Skip i) part h.spells in
+    let s = any_code t Skip part spells in
+    let n = fixed_number t.order 2 spells.rest in
+    (Jump Skip n, with_profile profile t Skip n part s, branch_resolved t all find k i Skip part spells f placed h.displaced s)
 stands_step profile t all find k op part f placed h allowed =
-    (Plain op, spelled profile t (Plain op) part (h.spells, refl) (plain_allowed profile op allowed), refl)
+    (Plain op, spelled profile t (Plain op) part (by_table t op part h.spells, refl) (plain_allowed profile op allowed), refl)

@@ -1,17 +1,14 @@
 -- When two expressions are equal, and what they feed a hasher.
-use Rattle.std.specs.Prelude.{ℕ, ℤ, pos, negsuc, List, [], ◌∷◌, ◌++◌, length, map, nat_eq, Bool}
-use Rattle.std.specs.List.{flat_map}
+use Rattle.std.specs.Prelude.{ℕ, ℤ, pos, negsuc, List, [], ◌∷◌, map, nat_eq, Bool}
 use Rattle.std.specs.Cmp.Lexicographic.{pointwise}
-use Rattle.std.specs.Hash as fed
 use Rattle.dw_num.specs.declared.target.Target.{Target}
 use Rattle.dw_num.specs.declared.target.Order.{Order}
 use Rattle.dw_num.specs.declared.target.Order.TheVariants.{Little, Big}
 use Rattle.dw_num.specs.Target.{byte_count}
 use Rattle.dw_op.specs.declared.op.Op.{Op}
 use Rattle.dw_op.specs.declared.op.Op.TheVariants.{Addr, Const, Pick, PlusUconst, Bra, Skip, Reg, Breg, Fbreg, Piece, DerefSize, BitPiece, Implicit}
-use Rattle.dw_op.specs.declared.comparing.Line.{Line}
 use Rattle.dw_op.specs.Expression.{Expression}
-use Rattle.dw_op.specs.OpSpells.{alone_code}
+use Rattle.dw_op.specs.Codes.{alone_code}
 
 -- a signed number as a sign and a number
 abbrev pub sign_of : ℤ → ℕ
@@ -62,21 +59,3 @@ same_lines a b = pointwise (pointwise nat_eq) a b
 
 abbrev pub same_expression : Expression → Expression → Bool
 same_expression a b = same_lines (expression_lines a) (expression_lines b)
-
--- what a line feeds a hasher
-abbrev pub line_fed : List ℕ → List (List ℕ)
-line_fed (size ∷ order ∷ []) = fed.u8 size ++ fed.u8 order
-line_fed (kind ∷ first ∷ second ∷ sign ∷ number ∷ bytes) =
-    fed.u8 kind ++ fed.u64 first ++ fed.u64 second ++ fed.u8 sign ++ fed.u64 number ++ fed.usize (length bytes) ++ (bytes ∷ [])
-line_fed other = []
-
-abbrev pub lines_fed : List (List ℕ) → List (List ℕ)
-lines_fed lines = flat_map line_fed lines
-
--- what an expression feeds a hasher: its target and its operations
-abbrev pub expression_fed : Expression → List (List ℕ)
-expression_fed e = lines_fed (expression_lines e)
-
--- the line that the code has
-abbrev pub line_of : Line → List ℕ
-line_of l = line l.kind l.first l.second l.signed l.bytes.now

@@ -11,7 +11,7 @@ use Rattle.dw_op.specs.declared.profile.Profile.TheVariants.{Frame, Location}
 use Rattle.dw_op.specs.OpSpells.{OpSpells, Code, AnyTwo}
 use Rattle.dw_op.specs.Block.{start, Displaced, joined, Block, FrameBlock}
 use Rattle.dw_op.specs.Profile.{in_frame}
-use Rattle.dw_op.specs.Operands.{fields_of, fields_at}
+use Rattle.dw_op.specs.Operands.{Form, form_of, form_at}
 
 -- a block of the operations that the profile has
 abbrev pub IsBlock : Profile → Target → List Op → List ℕ → Type 0
@@ -35,7 +35,7 @@ abbrev pub OpFault : Profile → ℕ → ℕ → Input → Refusal → Type 0
 OpFault profile at code operands r =
     ((HasCode Location operands.target code → ⊥) × (r ≡ record { code = UnknownOperation; at = at }))
     ⊎ ((HasCode Location operands.target code × (HasCode profile operands.target code → ⊥) × (r ≡ record { code = NotInFrame; at = at }))
-    ⊎ (HasCode profile operands.target code × (fields_at (fields_of code) operands ≡ Err r)))
+    ⊎ (HasCode profile operands.target code × (form : Form) × (form_of operands.target code ≡ Some form) × (form_at form operands ≡ Err r)))
 
 -- operations to begin with, and behind them a code whose operation has a fault
 pub record ReadingFault (profile : Profile) (t : Target) (bytes : List ℕ) (r : Refusal) : Type 0 where

@@ -1,6 +1,7 @@
 pub mod Expression
 pub mod Profile
 pub mod OpSpells
+pub mod Codes
 pub mod Block
 pub mod Least
 pub mod Ranges

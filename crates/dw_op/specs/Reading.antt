@@ -1,5 +1,5 @@
 -- Reading an operation from the front of a block, as the code does it: DWARF 5, 7.7.1. Faults.antt says which fault that gives without it.
-use Rattle.std.specs.Prelude.{ℕ, ◌-◌, ◌%◌, List, [], ◌∷◌, Option, Some, None, Ok, nat_lt, nat_le, nat_eq, ◌&&◌, if◌then◌else◌, Bool, true, false, ℤ, pos, negsuc}
+use Rattle.std.specs.Prelude.{ℕ, ◌-◌, ◌%◌, List, [], ◌∷◌, Option, Some, None, Ok, nat_lt, nat_le, ◌&&◌, if◌then◌else◌, Bool, true, false, ℤ, pos, negsuc}
 use Rattle.dw_num.specs.declared.refusal.Code.TheVariants.{UnknownOperation, NotInFrame, BadDerefSize}
 use Rattle.dw_num.specs.declared.target.Order.{Order}
 use Rattle.dw_num.specs.Target.{address_limit, byte_count}
@@ -7,7 +7,7 @@ use Rattle.dw_num.specs.Input.{Input}
 use Rattle.dw_num.specs.Fixed.{fixed_number}
 use Rattle.dw_num.specs.Reading.{Read, fault, fixed_at, take_at, uleb_at, sleb_at, address_at, ◌>>=◌, register_at}
 use Rattle.dw_op.specs.declared.op.Op.{Op}
-use Rattle.dw_op.specs.declared.op.Op.TheVariants.{Addr, Deref, Const, Dup, Drop, Over, Pick, Swap, Rot, Abs, And, Div, Minus, Mod, Mul, Neg, Not, Or, Plus, PlusUconst, Shl, Shr, Shra, Xor, Eq, Ge, Gt, Le, Lt, Ne, Reg, Breg, Fbreg, Piece, DerefSize, Nop, PushObjectAddress, CallFrameCfa, BitPiece, Implicit, StackValue}
+use Rattle.dw_op.specs.declared.op.Op.TheVariants.{Addr, Deref, Const, Dup, Drop, Over, Pick, Swap, Rot, Abs, And, Div, Minus, Mod, Mul, Neg, Not, Or, Plus, PlusUconst, Shl, Shr, Shra, Xor, Eq, Ge, Gt, Le, Lt, Ne, Reg, Breg, Fbreg, Piece, DerefSize, Nop, PushObjectAddress, CallFrameCfa, BitPiece, StackValue}
 use Rattle.dw_op.specs.declared.profile.Profile.{Profile}
 use Rattle.dw_op.specs.declared.profile.Profile.TheVariants.{Frame, Location}
 use Rattle.dw_op.specs.declared.reading.Branch.{Branch}
@@ -19,7 +19,7 @@ use Rattle.dw_op.specs.declared.reading.ByteCount.TheVariants.{One, Two, Four, E
 use Rattle.dw_op.specs.declared.reading.Opcode.{Opcode}
 use Rattle.dw_op.specs.declared.reading.Opcode.TheVariants as opcodes
 use Rattle.dw_op.specs.Expression.{bare}
-use Rattle.dw_op.specs.OpSpells.{modulo}
+use Rattle.dw_op.specs.Operands.{modulo, implicit, look_up, in_range}
 use Rattle.dw_op.specs.Profile.{in_frame}
 
 -- a step without where its bytes lie in memory
@@ -28,10 +28,6 @@ bare_step (steps.Plain op) = steps.Plain (bare op)
 bare_step (steps.Jump branch number) = steps.Jump branch number
 
 -- ---- codes
-
-abbrev pub look_up : {A : Type 0} → List (ℕ × A) → ℕ → Option A
-look_up [] code = None
-look_up (entry ∷ table) code = if nat_eq code entry.0 then Some entry.1 else look_up table code
 
 -- the operations without operands
 abbrev pub plain_table : List (ℕ × Op)
@@ -61,9 +57,6 @@ alone (Some op) = Some (opcodes.Alone op)
 abbrev pub or_else : Option Opcode → Option Opcode → Option Opcode
 or_else (Some opcode) other = Some opcode
 or_else None other = other
-
-abbrev pub in_range : ℕ → ℕ → ℕ → Bool
-in_range low high code = nat_le low code && nat_lt code high
 
 -- what a code says of its operands, none for a code that is no operation's
 unfoldable pub opcode_of : ℕ → Option Opcode
@@ -127,9 +120,6 @@ size_in most at k = if nat_le 1 k.0 && nat_le k.0 most then with_op DerefSize k 
 
 abbrev pub after_size : ℕ × Input → Read Step
 after_size size = uleb_at size.1 >>= with_op (BitPiece size.0)
-
-abbrev pub implicit : List ℕ → Op
-implicit block = Implicit (record { ref_ptr = (0, 0); now = block })
 
 abbrev pub after_length : ℕ × Input → Read Step
 after_length n = take_at n.0 n.1 >>= with_op implicit

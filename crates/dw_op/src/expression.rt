@@ -242,7 +242,7 @@ impl<'a> Eq for ExprRef<'a> {
 }
 
 impl<'a> Hash for ExprRef<'a> {
-    ghost use Rattle.dw_op.specs.Comparing.{expression_fed};
+    ghost use Rattle.dw_op.specs.Inner.Comparing.{expression_fed};
     ghost use Rattle.dw_op.specs.Inner.ComparingLaws.{fed_alike};
 
     ghost hash_input = { expression_fed };

@@ -3,7 +3,8 @@
 ghost use Rattle.std.specs.Prelude.{◌≡◌, ◌≤◌, length, map, ◌<◌, IsTrue, ◌↔◌, MatchOption, IfOk, IfErr, IsOk, []};
 ghost use Rattle.dw_num.specs.Target.{byte_count, address_limit};
 ghost use Rattle.dw_op.specs.Expression.{Expression, bare};
-ghost use Rattle.dw_op.specs.Ranges.{Fits, InRange, AllInRange, FirstBadOperand};
+ghost use Rattle.dw_op.specs.Ranges.{InRange, AllInRange, FirstBadOperand};
+ghost use Rattle.dw_op.specs.Inner.Ranges.{Fits};
 
 use crate::op::{Op, are_typed};
 use dw_num::{Size, Target};
@@ -21,7 +22,8 @@ pub struct OpList<'a> {
 impl<'a> Model for OpList<'a> {
     ghost use Rattle.dw_op.specs.Expression.{Expression, bare};
     ghost use Rattle.std.specs.Prelude.{map};
-    ghost use Rattle.dw_op.specs.Ranges.{Fits, AllInRange};
+    ghost use Rattle.dw_op.specs.Ranges.{AllInRange};
+    ghost use Rattle.dw_op.specs.Inner.Ranges.{Fits};
 
     ghost Value = { Expression };
 

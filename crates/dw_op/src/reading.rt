@@ -4,7 +4,7 @@ ghost use Rattle.std.specs.Prelude.{◌≡◌, ◌+◌, ◌%◌, length};
 ghost use Rattle.dw_num.specs.Reading.{Gives};
 ghost use Rattle.dw_num.specs.Target.{address_limit, byte_count};
 ghost use Rattle.dw_num.specs.Fixed.{IsWidth, fixed_number};
-ghost use Rattle.dw_op.specs.OpSpells.{modulo};
+ghost use Rattle.dw_op.specs.Operands.{modulo};
 ghost use Rattle.dw_op.specs.Reading.{bare_step, width_of, half_of, top_of, signed_of, plain_op, opcode_of, allows, operands_at, step_at};
 ghost use Rattle.dw_op.specs.Inner.ByOpcode.{address_step, unsigned_step, signed_step, uconst_step, sconst_step, pick_step, plus_step, jump_step, breg_step, long_reg_step, long_breg_step, fbreg_step, piece_step, deref_size_step, bit_piece_step, implicit_step};
 

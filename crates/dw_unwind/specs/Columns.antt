@@ -2,7 +2,7 @@
 use Rattle.std.specs.Prelude.{◌≡◌, ◌⊎◌, ◌≤◌, ℕ, ◌+◌, ◌%◌, List, [], Option, Some, None, option_map, ℤ, pos, ◌+ℤ◌, Result, Ok, Err}
 use Rattle.dw_num.specs.Target.{address_limit, byte_count}
 use Rattle.dw_op.specs.Expression.{Expression}
-use Rattle.dw_op.specs.OpSpells.{modulo}
+use Rattle.dw_op.specs.Operands.{modulo}
 use Rattle.dw_cfa.specs.declared.rule.CfaRule.{CfaRule}
 use Rattle.dw_cfa.specs.declared.rule.CfaRule.TheVariants as cfa
 use Rattle.dw_cfa.specs.declared.rule.RegRule.{RegRule}

@@ -8,7 +8,8 @@ use Rattle.dw_op.specs.declared.reading.Branch.{Branch}
 use Rattle.dw_op.specs.declared.reading.Branch.TheVariants.{Bra, Skip}
 use Rattle.dw_op.specs.declared.reading.Step.{Step}
 use Rattle.dw_op.specs.declared.reading.Step.TheVariants.{Plain, Jump}
-use Rattle.dw_op.specs.OpSpells.{OpSpells, Code}
+use Rattle.dw_op.specs.OpSpells.{Code}
+use Rattle.dw_op.specs.Inner.ByOperation.{IsSpelled}
 use Rattle.dw_op.specs.Block.{branch_target}
 use Rattle.dw_op.specs.Profile.{in_frame}
 
@@ -18,7 +19,7 @@ branch_code Skip = 0x2f
 
 -- an operation that is no branch, or a branch's code and the two bytes of its number
 abbrev pub StepSpells : Target → Step → List ℕ → Type 0
-StepSpells t (Plain op) part = OpSpells t op part × (branch_target op ≡ None)
+StepSpells t (Plain op) part = IsSpelled t op part × (branch_target op ≡ None)
 StepSpells t (Jump branch number) part = Code (branch_code branch) (Fixed t.order 2 number) part
 
 -- whether a rule of a frame may use it

@@ -1,8 +1,8 @@
 use Rattle.std.proofs.Common.{◌≡◌, ◌≤◌, length, map}
 use Rattle.dw_op.specs.Expression.{bare}
 use Rattle.dw_eval.specs.Context.{context}
-use Rattle.dw_eval.specs.Describing.{state_of}
-use Rattle.dw_eval.specs.Location.{PlaceRuns}
+use Rattle.dw_eval.specs.Inner.Describing.{state_of}
+use Rattle.dw_eval.specs.Inner.Location.{PlaceRuns}
 use Rattle.dw_eval.proofs.locating.run.Given as goal
 
 abbrev pub invariant-steps : goal.invariant-steps

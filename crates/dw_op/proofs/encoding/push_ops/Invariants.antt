@@ -2,7 +2,8 @@ use Rattle.std.proofs.Common.{◌≡◌, ℕ, ◌<◌, length, take, drop, map, 
 use Rattle.dw_op.specs.declared.op.Op.TheVariants.{Addr}
 use Rattle.dw_op.specs.Expression.{bare}
 use Rattle.dw_op.specs.Block.{branch_target}
-use Rattle.dw_op.specs.Encoding.{BranchFits, blank_parts}
+use Rattle.dw_op.specs.Encoding.{blank_parts}
+use Rattle.dw_op.specs.Inner.Encoding.{BranchFits}
 use Rattle.dw_op.proofs.EncodeLaws.{IsGoing}
 use Rattle.dw_op.proofs.encoding.push_ops.Given as goal
 

@@ -3,7 +3,7 @@ use Rattle.std.specs.Prelude.{option_map}
 use Rattle.std.proofs.lemmas.Grind.{common_steps}
 use Rattle.dw_eval.specs.declared.error.EvalError.TheVariants.{Fault}
 use Rattle.dw_eval.specs.declared.error.Kind.TheVariants.{MissingPiece}
-use Rattle.dw_eval.specs.Describing.{bare_place}
+use Rattle.dw_eval.specs.Location.{bare_place}
 use Rattle.dw_eval.proofs.PlaceLoop.{behind_pieces}
 use Rattle.dw_eval.proofs.describing.Description.finish.Goals as goal
 

@@ -1,5 +1,5 @@
 -- What a scan for the LEB at the front of a list finds.
-use Rattle.std.specs.Prelude.{◌≡◌, ℕ, ◌≤◌, ◌^◌, List, take, length, Option, Some, None, suc, ◌+◌, ◌*◌, ◌-◌, ◌%◌, [], ◌∷◌, Bool, true, false, ℤ, pos, negsuc, FitsSigned}
+use Rattle.std.specs.Prelude.{◌≡◌, ℕ, ◌≤◌, ◌^◌, List, take, length, Option, Some, None, suc, ◌+◌, ◌*◌, [], ◌∷◌, Bool, true, false, ℤ, pos, negsuc, FitsSigned}
 use Rattle.std.specs.Int.{w64}
 use Rattle.dw_num.specs.declared.leb.UlebScan.{UlebScan}
 use Rattle.dw_num.specs.declared.leb.UlebScan.TheVariants.{Number, TooLarge, Endless}
@@ -7,6 +7,7 @@ use Rattle.dw_num.specs.declared.leb.SlebScan.{SlebScan}
 use Rattle.dw_num.specs.declared.leb.SlebScan.TheVariants as signed
 use Rattle.dw_num.specs.Leb.{groups, signed_groups}
 use Rattle.dw_num.specs.Reading.{leb_len}
+use Rattle.dw_num.specs.Shortest.{turned}
 
 abbrev pub IsUlebScan : List ℕ → UlebScan → Type 0
 IsUlebScan bytes (Number v n) = (leb_len bytes ≡ Some n) × (v ≡ groups (take n bytes)) × (n ≤ length bytes)
@@ -22,11 +23,6 @@ abbrev pub IsSlebScan : List ℕ → SlebScan → Type 0
 IsSlebScan bytes (signed.Number v n) = (leb_len bytes ≡ Some n) × (v ≡ signed_groups (take n bytes)) × (n ≤ length bytes)
 IsSlebScan bytes signed.TooLarge = (n : ℕ) × (leb_len bytes ≡ Some n) × (FitsSigned w64 (signed_groups (take n bytes)) → ⊥)
 IsSlebScan bytes signed.Endless = leb_len bytes ≡ None
-
--- the value bits of a byte, turned over or as they are
-abbrev pub turned : Bool → ℕ → ℕ
-turned true b = 127 - b % 128
-turned false b = b % 128
 
 -- the sum over i of these bits of byte i, times 128 ^ (k + i)
 abbrev pub turned_from : Bool → ℕ → List ℕ → ℕ

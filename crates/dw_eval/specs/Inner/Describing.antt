@@ -4,23 +4,9 @@ use Rattle.dw_eval.specs.declared.error.EvalError.{EvalError}
 use Rattle.dw_eval.specs.declared.error.EvalError.TheVariants.{Fault, OutOfMemory}
 use Rattle.dw_eval.specs.declared.error.Kind.{Kind}
 use Rattle.dw_eval.specs.declared.describing.Description.{Description}
-use Rattle.dw_eval.specs.declared.place.Piece.{Piece}
-use Rattle.dw_eval.specs.declared.place.Place.{Place}
-use Rattle.dw_eval.specs.declared.place.Place.TheVariants.{Empty, Memory, Register, Value, Bytes}
 use Rattle.dw_eval.specs.declared.place.Role.{Role}
 use Rattle.dw_eval.specs.declared.place.Role.TheVariants.{SetsPlace, SetsValue, AddsPiece, Waits, Computes}
-use Rattle.dw_eval.specs.Location.{PlaceState}
-
--- a place without where its bytes lie in memory
-abbrev pub bare_place : Place → Place
-bare_place Empty = Empty
-bare_place (Memory a) = Memory a
-bare_place (Register r) = Register r
-bare_place (Value v) = Value v
-bare_place (Bytes block) = Bytes (record { ref_ptr = (0, 0); now = block.now })
-
-abbrev pub bare_piece : Piece → Piece
-bare_piece p = record { place = bare_place p.place; part = p.part }
+use Rattle.dw_eval.specs.Location.{PlaceState, bare_place, bare_piece}
 
 abbrev pub bare_role : Role → Role
 bare_role (SetsPlace place) = SetsPlace (bare_place place)

@@ -1,0 +1,18 @@
+-- A description over a memory, step by step.
+use Rattle.std.specs.Prelude.{ℕ, List, length, Result}
+use Rattle.dw_op.specs.declared.op.Op.{Op}
+use Rattle.dw_eval.specs.declared.error.EvalError.{EvalError}
+use Rattle.dw_eval.specs.declared.place.Piece.{Piece}
+use Rattle.dw_eval.specs.Context.{Context}
+use Rattle.dw_eval.specs.Location.{PlaceState, place_index, place_turn, place_start, place_reads, pieces_of}
+use Rattle.dw_eval.specs.Runs.{Runs}
+use Rattle.dw_eval.specs.Inner.Runs.{Answered}
+
+module _ (ops : List Op) (c : Context) where
+  -- n steps lead to a state
+  abbrev pub PlaceRuns : ℕ → PlaceState → Type 0
+  PlaceRuns = Runs place_index (place_turn c) ops place_start
+
+  -- what the code answers, with its memory's count of failures before and after
+  abbrev pub LocatesOver : ℕ → ℕ → Result (List Piece) EvalError → ℕ → Type 0
+  LocatesOver = Answered place_index (place_turn c) ops place_start (place_reads c) (λ s. pieces_of (length ops) s.pending s.stack s.pieces)

@@ -1,0 +1,32 @@
+-- How the code writes least spellings: where they begin, and whether branches fit.
+use Rattle.std.specs.Prelude.{◌≡◌, ℕ, suc, ◌+◌, ◌≤◌, slice_index, List, [], ◌∷◌, length, Option, Some, None, FitsSigned}
+use Rattle.std.specs.Int.{w16}
+use Rattle.dw_num.specs.declared.target.Target.{Target}
+use Rattle.dw_op.specs.declared.op.Op.{Op}
+use Rattle.dw_op.specs.Block.{branch_target, start, displacement}
+use Rattle.dw_op.specs.LeastOf.{least_bytes}
+use Rattle.dw_op.specs.Encoding.{bits_of}
+
+-- the sum of the least lengths
+abbrev pub least_len : Target → List Op → ℕ
+least_len t [] = 0
+least_len t (op ∷ ops) = length (least_bytes t 0 op) + least_len t ops
+
+-- where each of the first n parts begins, and where the last of them ends
+pub record AreStarts (parts : List (List ℕ)) (n : ℕ) (starts : List ℕ) : Type 0 where
+  pub count : length starts ≡ n + 1
+  pub each : (i : ℕ) → i ≤ n → slice_index starts i ≡ start parts i
+
+-- a branch's displacement has sixteen bits
+abbrev pub BranchFits : List (List ℕ) → ℕ → Option ℕ → Type 0
+BranchFits parts k None = Unit {0}
+BranchFits parts k (Some i) = FitsSigned w16 (displacement parts k i)
+
+abbrev pub EachFits : List (List ℕ) → ℕ → List Op → Type 0
+EachFits parts k [] = Unit {0}
+EachFits parts k (op ∷ ops) = BranchFits parts k (branch_target op) × EachFits parts (suc k) ops
+
+-- the bits of a branch's displacement, unless it does not fit
+abbrev pub AreBits : List (List ℕ) → ℕ → Option ℕ → Option ℕ → Type 0
+AreBits parts k target None = BranchFits parts k target → ⊥
+AreBits parts k target (Some bits) = BranchFits parts k target × (bits ≡ bits_of parts k target)
