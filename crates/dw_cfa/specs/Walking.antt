@@ -27,6 +27,11 @@ WalkStands progress.Begun fde m = RunsSo m fde
 WalkStands progress.Running fde m = RunsSo m fde
 WalkStands other fde m = BeganWith m.initial m.states.first
 
+-- a walk, and the row that was kept of it
+pub record Walking : Type 0 where
+  pub steps : Stepping
+  pub kept : Rules
+
 -- the machine has the initial row of a CIE
 abbrev pub HasInitial : Leading → Machine → Type 0
 HasInitial l m = initial_row (placed l.factors (program_input l.program l.target)) blank ≡ Ok m.initial
