@@ -702,20 +702,16 @@ impl<'a> Row<'a> {
     }
 
     /// The least register from a place on that is in a mask, and to which another row gives another rule.
-    pub(crate) fn next_near_difference(
-        &self,
-        other: &Row<'_>,
-        mask: u32,
-        from: u32,
-    ) -> Option<u16>
+    pub(crate) fn next_near_difference(&self, other: &Row<'_>, mask: u32, from: u32) -> Option<u16>
         requires { SameUnset mask self.now.registers other.now.registers }
         ensures { FirstBelow 32 from self.now.registers other.now.registers result }
     {
-        self.entries.next_near_difference(&other.entries, mask, from)
+        self.entries
+            .next_near_difference(&other.entries, mask, from)
     }
 
-    /// Registers ascend.
-    pub(crate) fn ascends(&self)
+    /// Registers ascend. This does nothing.
+    pub fn ascends(&self)
         ensures { AreSpecified 0 self.now.registers }
     {
         let _entries = &self.entries;

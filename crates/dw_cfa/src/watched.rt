@@ -51,11 +51,7 @@ fn copy_far<'a>(
 }
 
 // Makes a row that differs in marked registers alone a copy of another one.
-fn copy_marked<'a>(
-    row: &Row<'a>,
-    kept: &mut Row<'a>,
-    marks: &Marks<'a>,
-) -> Result<(), AllocError>
+fn copy_marked<'a>(row: &Row<'a>, kept: &mut Row<'a>, marks: &Marks<'a>) -> Result<(), AllocError>
     requires { SameUnmarked marks.now kept.old.registers row.now.registers }
     ensures { OnOk result (kept.new ≡ row.now) }
 {

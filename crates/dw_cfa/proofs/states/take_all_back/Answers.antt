@@ -7,17 +7,17 @@ use Rattle.dw_cfa.proofs.states.take_all_back.Goals as goal
 
 pub changes-preserved-in-Remembered : goal.changes-preserved-in-Remembered
 changes-preserved-in-Remembered c = (
-      back_mark c.changes.rows.row (first_registers c.args.rows.now.row (reverse c.args.undo.now.items)) c.changes.undo.items c.pop.new.self.items c.in-Remembered.field-0 c.changes.invariant.0
+  back_mark c.changes.rows.row (first_registers c.args.rows.now.row (reverse c.args.undo.now.items)) c.changes.undo.items c.pop.new.self.items c.in-Remembered.field-0 c.changes.invariant.0
       (c.in-Some.ensures.items ∙ ap (λ (x : Undo). c.pop.new.self.items ++ x ∷ []) c.in-Remembered.is),
-      c.changes.invariant.1,
-    )
+  c.changes.invariant.1,
+)
 
 pub changes-preserved : goal.changes-preserved
 changes-preserved c = (
-      back_register c.changes.rows.row c.set.new.self.row (first_registers c.args.rows.now.row (reverse c.args.undo.now.items)) c.changes.undo.items c.pop.new.self.items c.in-Register.register c.in-Register.rule c.changes.invariant.0
+  back_register c.changes.rows.row c.set.new.self.row (first_registers c.args.rows.now.row (reverse c.args.undo.now.items)) c.changes.undo.items c.pop.new.self.items c.in-Register.register c.in-Register.rule c.changes.invariant.0
       (c.in-Some.ensures.items ∙ ap (λ (x : Undo). c.pop.new.self.items ++ x ∷ []) c.in-Register.is) (ap (λ (w : Watching). w.row) c.in_ok-set-in-Register.ensures.ok),
-      ap (λ (w : Watching). w.kept) c.in_ok-set-in-Register.ensures.ok ∙ c.changes.invariant.1,
-    )
+  ap (λ (w : Watching). w.kept) c.in_ok-set-in-Register.ensures.ok ∙ c.changes.invariant.1,
+)
 
 pub returns-clause-registers : goal.returns-clause-registers
 returns-clause-registers c =

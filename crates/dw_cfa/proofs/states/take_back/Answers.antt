@@ -14,10 +14,10 @@ returns-in-Remembered-clause-ok c =
 
 pub changes-preserved : goal.changes-preserved
 changes-preserved c = (
-      taken_register c.args.rows.now.row c.changes.rows.row c.set.new.self.row (reverse c.args.undo.now.items) c.changes.undo.items c.pop.new.self.items c.in-Register.register c.in-Register.rule c.changes.invariant.0
+  taken_register c.args.rows.now.row c.changes.rows.row c.set.new.self.row (reverse c.args.undo.now.items) c.changes.undo.items c.pop.new.self.items c.in-Register.register c.in-Register.rule c.changes.invariant.0
       (c.in-Some.ensures.items ∙ ap (λ (x : Undo). c.pop.new.self.items ++ x ∷ []) c.in-Register.is) (ap (λ (w : Watching). w.row) c.in-Ok.ensures.ok),
-      ap (λ (w : Watching). w.kept) c.in-Ok.ensures.ok ∙ c.changes.invariant.1,
-    )
+  ap (λ (w : Watching). w.kept) c.in-Ok.ensures.ok ∙ c.changes.invariant.1,
+)
 
 pub returns-clause-ok : goal.returns-clause-ok
 returns-clause-ok c =

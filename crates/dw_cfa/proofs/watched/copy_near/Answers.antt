@@ -23,4 +23,3 @@ slots-preserved c =
     let q = k + trailing_zeros w32 (c.args.mask / 2 ^ k) in
     let set = ap (λ (r : Rules). r.registers) c.in_ok-set.ensures.ok ∙ ap (λ (rule : RegRule). put q rule c.slots.kept.registers) c.rule.ensures in
     (omega (arith, next.0), subst (λ (l : List Entry). CopiedUpTo (q + 1) xs old l) (sym set) (copied_next xs old c.slots.kept.registers k c.slots.invariant.1 q (omega arith) next.1 c.ascends.ensures))
-
