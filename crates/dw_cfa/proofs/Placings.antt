@@ -13,7 +13,6 @@ use Rattle.dw_num.specs.Target.{address_limit, byte_count}
 use Rattle.dw_cfa.specs.declared.instr.Factors.{Factors}
 use Rattle.dw_cfa.specs.declared.instr.Instr.{Instr}
 use Rattle.dw_cfa.specs.declared.instr.Instr.TheVariants.{SetLoc}
-use Rattle.dw_cfa.specs.declared.rule.RegRule.TheVariants as rules
 use Rattle.dw_cfa.specs.InstrSpells.{InstrSpells}
 use Rattle.dw_cfa.specs.Reading.{instr_at}
 use Rattle.dw_cfa.specs.Inner.Steps.{InLimit}

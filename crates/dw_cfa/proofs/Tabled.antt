@@ -3,7 +3,6 @@ use Rattle.std.proofs.Common.{◌≡◌, ℕ, ◌^◌, Bool, true, false, Option
 use Rattle.std.specs.Prelude.{ℤ, pos, ◌*ℤ◌, unsigned_abs, nat_lt}
 use Rattle.dw_num.specs.Input.{Input}
 use Rattle.dw_num.specs.Reading.{Read, fixed_at, register_at, uleb_at, sleb_at, address_at, ◌>>=◌}
-use Rattle.dw_op.specs.Expression.{Expression}
 use Rattle.dw_cfa.specs.declared.instr.Factors.{Factors}
 use Rattle.dw_cfa.specs.declared.instr.Instr.{Instr}
 use Rattle.dw_cfa.specs.declared.instr.Instr.TheVariants.{SetLoc, DefCfa, DefCfaRegister, DefCfaOffset, DefCfaExpression, Restore}
