@@ -178,10 +178,8 @@ impl<'a> Changes<'a> {
         ensures ascending { (before : Rules) → self.now.before ≡ Some before → AreSpecified 0 before.registers }
         ensures other_ascending { (after : Rules) → self.now.shown ≡ Some after → AreSpecified 0 after.registers }
     {
-        let Some(row) = self.row() else {
-            return None;
-        };
-        row.ascends();
+        self.steps.row().ascends();
+        self.steps.kept().ascends();
         if self.lent && self.kept {
             return self.steps.next_difference(behind);
         }
