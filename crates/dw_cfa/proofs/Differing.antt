@@ -18,7 +18,7 @@ use Rattle.dw_cfa.specs.declared.row.Kind.TheVariants as kinds
 use Rattle.dw_cfa.specs.Rows.{is_specified, AreSpecified, rule_in}
 use Rattle.dw_cfa.specs.Narrowing.{same_rule}
 use Rattle.dw_cfa.specs.Inner.Entries.{entries_of, slot_rule, kind_rule, EntriesSo}
-use Rattle.dw_cfa.specs.Differing.{SameBetween, DiffersFirst, FirstDifference, place_behind, start_behind}
+use Rattle.dw_cfa.specs.Differing.{SameBetween, SameUnset, DiffersFirst, FirstDifference, place_behind, start_behind}
 use Rattle.dw_cfa.proofs.RowLists.{Entry, lower, unlisted}
 use Rattle.dw_cfa.proofs.Slots.{no_slot, near_rule, far_rule, shifted, bit_inside}
 use Rattle.dw_cfa.proofs.WideRows.{less_at, equal_at, greater_at}
@@ -131,27 +131,27 @@ pub slot_at : (e : Entries) → EntriesSo e → (q n : ℕ) → q < 32 → n ≡
 slot_at e so q n lt at =
     ap (λ (m : ℕ). slot_rule (get_or e.near m no_slot) (rule_in e.expressions.entries q)) at ∙ sym (near_rule e.near e.expressions.entries e.far.entries so.near so.far q no_slot lt)
 
-module _ (e f : Entries) (so : EntriesSo e) (so' : EntriesSo f) (used : ℕ) (is : used ≡ bit_or e.used f.used) where
-  -- a register whose slot is used in neither
-  unused : (q : ℕ) → q < 32 → bit_at used q ≡ 0 → rule_in (entries_of e) q ≡ rule_in (entries_of f) q
-  unused q lt none =
-      let both = zero_both (bit_at e.used q) (bit_at f.used q) (sym (bit_at_or e.used f.used q) ∙ sym (ap (λ (n : ℕ). bit_at n q) is) ∙ none) in
-      near_rule e.near e.expressions.entries e.far.entries so.near so.far q no_slot lt
-      ∙ not_used (get_or e.near q no_slot) (rule_in e.expressions.entries q) (so.used q no_slot (omega (arith, so.near)) both.0)
-      ∙ sym (not_used (get_or f.near q no_slot) (rule_in f.expressions.entries q) (so'.used q no_slot (omega (arith, so'.near)) both.1))
-      ∙ sym (near_rule f.near f.expressions.entries f.far.entries so'.near so'.far q no_slot lt)
+-- a register whose slot is used in neither
+pub unused : (e f : Entries) → EntriesSo e → EntriesSo f → (mask : ℕ) → mask ≡ bit_or e.used f.used → SameUnset mask (entries_of e) (entries_of f)
+unused e f so so' mask is q lt none =
+    let both = zero_both (bit_at e.used q) (bit_at f.used q) (sym (bit_at_or e.used f.used q) ∙ sym (ap (λ (n : ℕ). bit_at n q) is) ∙ none) in
+    near_rule e.near e.expressions.entries e.far.entries so.near so.far q no_slot lt
+    ∙ not_used (get_or e.near q no_slot) (rule_in e.expressions.entries q) (so.used q no_slot (omega (arith, so.near)) both.0)
+    ∙ sym (not_used (get_or f.near q no_slot) (rule_in f.expressions.entries q) (so'.used q no_slot (omega (arith, so'.near)) both.1))
+    ∙ sym (near_rule f.near f.expressions.entries f.far.entries so'.near so'.far q no_slot lt)
 
-  -- the registers up to the next bit of the mask of both
-  pub none_left : (k : ℕ) → used / 2 ^ k ≡ 0 → SameBetween k 32 (entries_of e) (entries_of f)
-  none_left k none q le lt = unused q lt (shifted used k q le ∙ ap (λ (m : ℕ). bit_at m (q - k)) none ∙ bit_at-zero (q - k))
+module _ (mask : ℕ) (xs ys : List Entry) (same : SameUnset mask xs ys) where
+  -- the registers up to the next bit of the mask
+  pub none_left : (k : ℕ) → mask / 2 ^ k ≡ 0 → SameBetween k 32 xs ys
+  none_left k none q le lt = same q lt (shifted mask k q le ∙ ap (λ (m : ℕ). bit_at m (q - k)) none ∙ bit_at-zero (q - k))
 
-  pub up_to_next : (k : ℕ) → used < 2 ^ 32 → k < 32 → 0 < used / 2 ^ k
-      → (k + trailing_zeros w32 (used / 2 ^ k) < 32) × SameBetween k (k + trailing_zeros w32 (used / 2 ^ k)) (entries_of e) (entries_of f)
+  pub up_to_next : (k : ℕ) → mask < 2 ^ 32 → k < 32 → 0 < mask / 2 ^ k
+      → (k + trailing_zeros w32 (mask / 2 ^ k) < 32) × SameBetween k (k + trailing_zeros w32 (mask / 2 ^ k)) xs ys
   up_to_next k fits lt some =
-      let within : used / 2 ^ k < 2 ^ 32 = omega (arith, div-le_self used (2 ^ k)) in
-      let z = bit_at-trailing_zeros w32 (used / 2 ^ k) some within in
-      let inside : k + trailing_zeros w32 (used / 2 ^ k) < 32 = bit_inside used k (trailing_zeros w32 (used / 2 ^ k)) fits z.1 in
-      (inside, λ q low high. unused q (omega (arith, inside)) (shifted used k q low ∙ z.2 (q - k) (omega arith)))
+      let within : mask / 2 ^ k < 2 ^ 32 = omega (arith, div-le_self mask (2 ^ k)) in
+      let z = bit_at-trailing_zeros w32 (mask / 2 ^ k) some within in
+      let inside : k + trailing_zeros w32 (mask / 2 ^ k) < 32 = bit_inside mask k (trailing_zeros w32 (mask / 2 ^ k)) fits z.1 in
+      (inside, λ q low high. same q (omega (arith, inside)) (shifted mask k q low ∙ z.2 (q - k) (omega arith)))
 
 -- ---- registers that have no slot
 

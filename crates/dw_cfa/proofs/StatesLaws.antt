@@ -41,9 +41,9 @@ none_counted row changes none = none_long (remembered_rows row changes) (counted
 pushed : (u : Undo) (items : List Undo) → reverse (items ++ u ∷ []) ≡ u ∷ reverse items
 pushed u items = reverse-append items (u ∷ [])
 
-pub begun_held : (tracked : Bool) (row : Rules) (items : List Undo) → items ≡ [] → held tracked row items ≡ record { row = row; stack = []; first = first_if tracked row [] }
+pub begun_held : (tracked : Bool) (row kept : Rules) (items : List Undo) → items ≡ [] → held tracked row kept items ≡ record { row = row; stack = []; first = first_if tracked row []; kept = kept }
 unfolding remembered_rows
-begun_held tracked row items none = rw none refl
+begun_held tracked row kept items none = rw none refl
 
 pub begun_count : (items : List Undo) → items ≡ [] → 0 ≡ count_remembered (reverse items)
 unfolding count_remembered
@@ -54,17 +54,17 @@ unfolding first_registers
 began true initial row same = ap (λ (r : Rules). r.registers) same
 began false initial row same = tt
 
-abbrev make : Rules → List Rules → Option (List (ℕ × RegRule)) → Held
-make row stack first = record { row = row; stack = stack; first = first }
+abbrev make : Rules → List Rules → Option (List (ℕ × RegRule)) → Rules → Held
+make row stack first kept = record { row = row; stack = stack; first = first; kept = kept }
 
-parts : (row row' : Rules) (stack stack' : List Rules) (first first' : Option (List (ℕ × RegRule))) → row ≡ row' → stack ≡ stack' → first ≡ first'
-    → make row stack first ≡ make row' stack' first'
-parts row row' stack stack' first first' a b c = rw (a, b, c) refl
+parts : (row row' : Rules) (stack stack' : List Rules) (first first' : Option (List (ℕ × RegRule))) (kept kept' : Rules) → row ≡ row' → stack ≡ stack' → first ≡ first' → kept ≡ kept'
+    → make row stack first kept ≡ make row' stack' first' kept'
+parts row row' stack stack' first first' kept kept' a b c d = rw (a, b, c, d) refl
 
 not_lt : (n : ℕ) → nat_lt 0 n ≡ false → n ≡ 0
 not_lt n e = let le = ltb-false 0 n e in omega arith
 
-module _ (tracked : Bool) (row : Rules) (items : List Undo) (now : Held) (is : held tracked row items ≡ now) where
+module _ (tracked : Bool) (row kept : Rules) (items : List Undo) (now : Held) (is : held tracked row kept items ≡ now) where
   row_is : row ≡ now.row
   row_is = ap (λ (h : Held). h.row) is
 
@@ -74,6 +74,9 @@ module _ (tracked : Bool) (row : Rules) (items : List Undo) (now : Held) (is : h
   first_is : first_if tracked row (reverse items) ≡ now.first
   first_is = ap (λ (h : Held). h.first) is
 
+  kept_is : kept ≡ now.kept
+  kept_is = ap (λ (h : Held). h.kept) is
+
   pub depth_is : (depth : ℕ) → depth ≡ count_remembered (reverse items) → depth ≡ length now.stack
   depth_is depth count = count ∙ sym (counted row (reverse items)) ∙ ap (λ (l : List Rules). length l) stack_is
 
@@ -81,11 +84,11 @@ module _ (tracked : Bool) (row : Rules) (items : List Undo) (now : Held) (is : h
   first_cfa true cfa = ap Some (first_left cfa row (reverse items))
   first_cfa false cfa = refl
 
-  pub cfa_held : (cfa : CfaRule) (row' : Rules) → row' ≡ with_cfa cfa row → held tracked row' items ≡ record { row = with_cfa cfa now.row; stack = now.stack; first = now.first }
-  cfa_held cfa row' new =
-      ap (λ (r : Rules). held tracked r items) new
-      ∙ parts (with_cfa cfa row) (with_cfa cfa now.row) (remembered_rows (with_cfa cfa row) (reverse items)) now.stack (first_if tracked (with_cfa cfa row) (reverse items)) now.first
-      (ap (with_cfa cfa) row_is) (cfa_left cfa row (reverse items) ∙ stack_is) (first_cfa tracked cfa ∙ first_is)
+  pub cfa_held : (cfa : CfaRule) (row' kept' : Rules) → row' ≡ with_cfa cfa row → kept' ≡ kept → held tracked row' kept' items ≡ record { row = with_cfa cfa now.row; stack = now.stack; first = now.first; kept = now.kept }
+  cfa_held cfa row' kept' new same =
+      ap (λ (k : Rules). held tracked row' k items) same ∙ ap (λ (r : Rules). held tracked r kept items) new
+      ∙ parts (with_cfa cfa row) (with_cfa cfa now.row) (remembered_rows (with_cfa cfa row) (reverse items)) now.stack (first_if tracked (with_cfa cfa row) (reverse items)) now.first kept now.kept
+      (ap (with_cfa cfa) row_is) (cfa_left cfa row (reverse items) ∙ stack_is) (first_cfa tracked cfa ∙ first_is) kept_is
 
   first_change : (t : Bool) (r : ℕ) (older : RegRule) (row' : Rules) → with_rule r older row' ≡ row → first_if t row' (Register r older ∷ reverse items) ≡ first_if t row (reverse items)
   unfolding first_registers
@@ -96,14 +99,14 @@ module _ (tracked : Bool) (row : Rules) (items : List Undo) (now : Held) (is : h
   unfolding remembered_rows
   stack_change r older row' back = ap (λ (x : Rules). remembered_rows x (reverse items)) back
 
-  pub change_held : (r : ℕ) (given older : RegRule) (row' : Rules) (items' : List Undo) → row' ≡ with_rule r given row → with_rule r older row' ≡ row → items' ≡ items ++ Register r older ∷ []
-      → held tracked row' items' ≡ record { row = with_rule r given now.row; stack = now.stack; first = now.first }
-  change_held r given older row' items' new back more =
+  pub change_held : (r : ℕ) (given older : RegRule) (row' kept' : Rules) (items' : List Undo) → row' ≡ with_rule r given row → with_rule r older row' ≡ row → kept' ≡ kept → items' ≡ items ++ Register r older ∷ []
+      → held tracked row' kept' items' ≡ record { row = with_rule r given now.row; stack = now.stack; first = now.first; kept = now.kept }
+  change_held r given older row' kept' items' new back same more =
       let c : reverse items' ≡ Register r older ∷ reverse items = ap (λ (l : List Undo). reverse l) more ∙ pushed (Register r older) items in
-      parts row' (with_rule r given now.row) (remembered_rows row' (reverse items')) now.stack (first_if tracked row' (reverse items')) now.first
+      parts row' (with_rule r given now.row) (remembered_rows row' (reverse items')) now.stack (first_if tracked row' (reverse items')) now.first kept' now.kept
       (new ∙ ap (with_rule r given) row_is)
       (ap (remembered_rows row') c ∙ stack_change r older row' back ∙ stack_is)
-      (ap (first_if tracked row') c ∙ first_change tracked r older row' back ∙ first_is)
+      (ap (first_if tracked row') c ∙ first_change tracked r older row' back ∙ first_is) (same ∙ kept_is)
 
   pub change_count : (depth r : ℕ) (older : RegRule) (items' : List Undo) → depth ≡ count_remembered (reverse items) → items' ≡ items ++ Register r older ∷ [] → depth ≡ count_remembered (reverse items')
   unfolding count_remembered
@@ -114,12 +117,12 @@ module _ (tracked : Bool) (row : Rules) (items : List Undo) (now : Held) (is : h
       let empty : count_remembered (reverse items) ≡ 0 = sym count ∙ not_lt depth none in
       (sym stack_is ∙ none_counted row (reverse items) empty, sym first_is ∙ ap (λ (t : Bool). first_if t row (reverse items)) free)
 
-  pub unkept_held : (r : ℕ) (given : RegRule) (row' : Rules) → now.stack ≡ [] → now.first ≡ None → row' ≡ with_rule r given row
-      → held tracked row' items ≡ record { row = with_rule r given now.row; stack = now.stack; first = now.first }
-  unkept_held r given row' none free new =
+  pub unkept_held : (r : ℕ) (given : RegRule) (row' kept' : Rules) → now.stack ≡ [] → now.first ≡ None → row' ≡ with_rule r given row → kept' ≡ kept
+      → held tracked row' kept' items ≡ record { row = with_rule r given now.row; stack = now.stack; first = now.first; kept = now.kept }
+  unkept_held r given row' kept' none free new same =
       let empty : count_remembered (reverse items) ≡ 0 = sym (counted row (reverse items)) ∙ ap (λ (l : List Rules). length l) (stack_is ∙ none) in
-      parts row' (with_rule r given now.row) (remembered_rows row' (reverse items)) now.stack (first_if tracked row' (reverse items)) now.first
-      (new ∙ ap (with_rule r given) row_is) (none_counted row' (reverse items) empty ∙ sym none) (lost tracked (first_is ∙ free) ∙ sym free)
+      parts row' (with_rule r given now.row) (remembered_rows row' (reverse items)) now.stack (first_if tracked row' (reverse items)) now.first kept' now.kept
+      (new ∙ ap (with_rule r given) row_is) (none_counted row' (reverse items) empty ∙ sym none) (lost tracked (first_is ∙ free) ∙ sym free) (same ∙ kept_is)
     where
       lost : (t : Bool) → first_if t row (reverse items) ≡ None → first_if t row' (reverse items) ≡ None
       lost true e = absurd cc
@@ -135,11 +138,16 @@ module _ (tracked : Bool) (row : Rules) (items : List Undo) (now : Held) (is : h
   stack_mark cfa same = rw same refl
 
   pub mark_held : (cfa : CfaRule) (items' : List Undo) → cfa ≡ row.cfa → items' ≡ items ++ Remembered cfa ∷ []
-      → held tracked row items' ≡ record { row = now.row; stack = now.row ∷ now.stack; first = now.first }
+      → held tracked row kept items' ≡ record { row = now.row; stack = now.row ∷ now.stack; first = now.first; kept = now.kept }
   mark_held cfa items' same more =
       let c : reverse items' ≡ Remembered cfa ∷ reverse items = ap (λ (l : List Undo). reverse l) more ∙ pushed (Remembered cfa) items in
-      parts row now.row (remembered_rows row (reverse items')) (now.row ∷ now.stack) (first_if tracked row (reverse items')) now.first
-      row_is (ap (remembered_rows row) c ∙ stack_mark cfa same ∙ ap (λ (x : Rules). x ∷ remembered_rows row (reverse items)) row_is ∙ ap (λ (l : List Rules). now.row ∷ l) stack_is) (ap (first_if tracked row) c ∙ first_mark tracked cfa ∙ first_is)
+      parts row now.row (remembered_rows row (reverse items')) (now.row ∷ now.stack) (first_if tracked row (reverse items')) now.first kept now.kept
+      row_is (ap (remembered_rows row) c ∙ stack_mark cfa same ∙ ap (λ (x : Rules). x ∷ remembered_rows row (reverse items)) row_is ∙ ap (λ (l : List Rules). now.row ∷ l) stack_is) (ap (first_if tracked row) c ∙ first_mark tracked cfa ∙ first_is) kept_is
+
+  pub kept_held : (row' kept' : Rules) → row' ≡ row → held tracked row' kept' items ≡ record { row = now.row; stack = now.stack; first = now.first; kept = kept' }
+  kept_held row' kept' same =
+      ap (λ (r : Rules). held tracked r kept' items) same
+      ∙ parts row now.row (remembered_rows row (reverse items)) now.stack (first_if tracked row (reverse items)) now.first kept' kept' row_is stack_is first_is refl
 
   pub mark_count : (depth : ℕ) (cfa : CfaRule) (items' : List Undo) → depth ≡ count_remembered (reverse items) → items' ≡ items ++ Remembered cfa ∷ [] → depth + 1 ≡ count_remembered (reverse items')
   unfolding count_remembered
@@ -203,9 +211,9 @@ pub back_none : (row' : Rules) (first : List (ℕ × RegRule)) (items : List Und
 unfolding first_registers
 back_none row' first items is none = sym (is ∙ ap (λ (l : List Undo). first_registers row' (reverse l)) none)
 
-module _ (tracked : Bool) (row : Rules) (items : List Undo) (now : Held) (is : held tracked row items ≡ now) (row' : Rules) (items' : List Undo) where
+module _ (tracked : Bool) (row kept : Rules) (items : List Undo) (now : Held) (is : held tracked row kept items ≡ now) (row' kept' : Rules) (items' : List Undo) where
   pub restored : (cfa : CfaRule) (row'' : Rules) (new : Held) → TakenBack (Some cfa) row (reverse items) row' (reverse items') → row'' ≡ with_cfa cfa row'
-      → held tracked row'' items' ≡ new → Restored true now new
+      → held tracked row'' kept' items' ≡ new → Restored true now new
   unfolding remembered_rows first_registers
   restored cfa row'' new taken at is' = (
     sym (ap (λ (h : Held). h.stack) is) ∙ taken.stack ∙ ap (λ (x : Rules). x ∷ remembered_rows x (reverse items')) (sym at) ∙ ap (λ (h : Held). h.row ∷ h.stack) is',
@@ -220,10 +228,10 @@ module _ (tracked : Bool) (row : Rules) (items : List Undo) (now : Held) (is : h
   unfolding remembered_rows
   restored_none taken = sym (ap (λ (h : Held). h.stack) is) ∙ taken.0.stack
 
-pub rewound : (tracked : Bool) (initial row' row'' : Rules) (items : List Undo) → row'.registers ≡ initial.registers → row'' ≡ with_cfa initial.cfa row' → items ≡ []
-    → ((held tracked row'' items).row ≡ initial) × ((held tracked row'' items).stack ≡ []) × BeganWith initial (held tracked row'' items).first
+pub rewound : (tracked : Bool) (initial row' row'' kept : Rules) (items : List Undo) → row'.registers ≡ initial.registers → row'' ≡ with_cfa initial.cfa row' → items ≡ []
+    → ((held tracked row'' kept items).row ≡ initial) × ((held tracked row'' kept items).stack ≡ []) × BeganWith initial (held tracked row'' kept items).first
 unfolding remembered_rows first_registers
-rewound tracked initial row' row'' items same new none =
+rewound tracked initial row' row'' kept items same new none =
     let whole : row'' ≡ initial = new ∙ ap (λ (l : List (ℕ × RegRule)). with_cfa initial.cfa (record { cfa = initial.cfa; registers = l })) same in
     (whole, rw none refl, subst (λ (l : List Undo). BeganWith initial (first_if tracked row'' (reverse l))) (sym none) (began tracked initial row'' whole))
 

@@ -1,5 +1,5 @@
 -- A walk from one FDE's program to another's, behind a CIE's row that is run or brought back.
-use Rattle.std.proofs.Common.{◌≡◌, ◌⊎◌, ℕ, List, [], ◌∷◌, None, Ok, Err, Result, IsOk, refl, sym, ap, subst, ◌∙◌, inl, inr}
+use Rattle.std.proofs.Common.{◌≡◌, ◌⊎◌, ℕ, Bool, List, [], ◌∷◌, None, Ok, Err, Result, IsOk, refl, sym, ap, subst, ◌∙◌, inl, inr}
 use Rattle.dw_num.specs.declared.refusal.Refusal.{Refusal}
 use Rattle.dw_num.specs.declared.target.Target.{Target}
 use Rattle.dw_num.specs.Input.{Input, AreBytes}
@@ -19,7 +19,7 @@ use Rattle.dw_cfa.specs.Inner.Runs.{RunsSo, fde_rows, initial_row, on_initial, p
 use Rattle.dw_cfa.specs.Inner.Machine.{begun}
 use Rattle.dw_cfa.specs.Stepping.{Stepping, program_input}
 use Rattle.dw_cfa.specs.Inner.Stepping.{begun_rows}
-use Rattle.dw_cfa.specs.Inner.Walking.{Readied, led_rows, walk_of}
+use Rattle.dw_cfa.specs.Inner.Walking.{Readied, WalkKeeps, WalksSo, WalkStands, led_rows, walk_of}
 use Rattle.dw_cfa.proofs.FaultLaws.{initial_leaves, leaves_initial}
 use Rattle.dw_cfa.proofs.RunLaws.{begun_starts, left_starts, some_begun_left, some_rows_left}
 use Rattle.dw_cfa.proofs.RunSteps.{begun_is_run}
@@ -67,7 +67,7 @@ led_ran l fde old m so r = led_is l.factors (program_input l.program l.target) f
 module _ (f : Factors) (cie fde : Input) (begin : ℕ) where
   -- a machine that stands so
   abbrev at_begin : Machine
-  at_begin = record { initial = blank; states = record { row = blank; stack = []; first = None }; location = begin; limit = address_limit fde.target.size }
+  at_begin = record { initial = blank; states = record { row = blank; stack = []; first = None; kept = blank }; location = begin; limit = address_limit fde.target.size }
 
   begun_here : begun_rows f cie fde at_begin ≡ run_rows f cie fde begin
   begun_here = begun_is_run f cie fde cie fde at_begin begin refl refl refl refl refl
@@ -90,3 +90,39 @@ walk_some p l fde m s (inl is) e none =
     run_some l.factors (program_input l.program l.target) fde m.location (ap (λ (x : Progress). (walk_of x l fde m).outcome) (sym is) ∙ ap (λ (x : Stepping). x.outcome) e ∙ none)
 walk_some p l fde m s (inr is) e none =
     some_rows_left l.factors fde fde m (ap (λ (x : Progress). (walk_of x l fde m).outcome) (sym is) ∙ ap (λ (x : Stepping). x.outcome) e ∙ none)
+
+-- ---- a row that is kept changes no row to come
+
+abbrev pub with_kept : Machine → Rules → Machine
+with_kept m kept = record { initial = m.initial; states = record { row = m.states.row; stack = m.states.stack; first = m.states.first; kept = kept }; location = m.location; limit = m.limit }
+
+pub kept_walk : (p : Progress) (l : Leading) (fde : Input) (m : Machine) (kept : Rules) → walk_of p l fde (with_kept m kept) ≡ walk_of p l fde m
+unfolding rows_left
+kept_walk progress.Begun l fde m kept = refl
+kept_walk progress.Running l fde m kept = refl
+kept_walk progress.Finished l fde m kept = refl
+kept_walk (progress.Failed e) l fde m kept = refl
+
+kept_so : (fde : Input) (m : Machine) (kept : Rules) → RunsSo m fde → RunsSo (with_kept m kept) fde
+kept_so fde m kept h = record { limit = h.limit; within = h.within; first = h.first }
+
+kept_stands : (p : Progress) (fde : Input) (m : Machine) (kept : Rules) → WalkStands p fde m → WalkStands p fde (with_kept m kept)
+kept_stands progress.Begun fde m kept h = kept_so fde m kept h
+kept_stands progress.Running fde m kept h = kept_so fde m kept h
+kept_stands progress.Finished fde m kept h = h
+kept_stands (progress.Failed e) fde m kept h = h
+
+kept_keeps : (p : Progress) (l : Leading) (fde : Input) (m : Machine) (kept : Rules) → WalkKeeps p l fde m → WalkKeeps p l fde (with_kept m kept)
+unfolding rows_left
+kept_keeps progress.Begun l fde m kept h = tt
+kept_keeps progress.Running l fde m kept h = h
+kept_keeps progress.Finished l fde m kept h = tt
+kept_keeps (progress.Failed e) l fde m kept h = tt
+
+pub kept_walks : (p : Progress) (has : Bool) (l : Leading) (fde : Input) (m : Machine) (kept : Rules) → WalksSo p has l fde m → WalksSo p has l fde (with_kept m kept)
+kept_walks p has l fde m kept h = record {
+  stands = kept_stands p fde m kept h.stands;
+  no_fault = ap (λ (s : Stepping). s.outcome.fault) (kept_walk p l fde m kept) ∙ h.no_fault;
+  initial = h.initial;
+  keeps = kept_keeps p l fde m kept h.keeps;
+}

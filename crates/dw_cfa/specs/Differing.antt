@@ -1,5 +1,6 @@
 -- The first register whose rule differs between two rows. Rules are compared by the test of `Narrowing`.
 use Rattle.std.specs.Prelude.{◌≡◌, ℕ, suc, ◌<◌, ◌≤◌, List, Option, Some, None, false}
+use Rattle.std.specs.Int.{bit_at}
 use Rattle.std.specs.declared.ops.Bound.{Bound}
 use Rattle.std.specs.declared.ops.Bound.TheVariants.{Excluded, Unbounded}
 use Rattle.dw_cfa.specs.declared.rule.RegRule.{RegRule}
@@ -9,6 +10,10 @@ use Rattle.dw_cfa.specs.Rows.{rule_in}
 -- registers from one place on, below another one, have the same rules
 abbrev pub SameBetween : ℕ → ℕ → List (ℕ × RegRule) → List (ℕ × RegRule) → Type 0
 SameBetween from to xs ys = (r : ℕ) → from ≤ r → r < to → rule_in xs r ≡ rule_in ys r
+
+-- registers below 32 whose bit in a mask is not set have the same rules
+abbrev pub SameUnset : ℕ → List (ℕ × RegRule) → List (ℕ × RegRule) → Type 0
+SameUnset mask xs ys = (r : ℕ) → r < 32 → bit_at mask r ≡ 0 → rule_in xs r ≡ rule_in ys r
 
 -- a register's rule differs, and those of the registers before it, from a place on, do not
 abbrev pub DiffersFirst : ℕ → List (ℕ × RegRule) → List (ℕ × RegRule) → ℕ → Type 0

@@ -6,6 +6,7 @@ pub mod Machine
 pub mod Runs
 pub mod Exact
 pub mod Entries
+pub mod Marks
 pub mod States
 pub mod Stepping
 pub mod Following

@@ -25,6 +25,7 @@ pub(crate) fn run_advance(
     requires { machine.old.location ≤ machine.old.limit }
     ensures did { (behind : Input) → Applied (Ok (advanced factors delta, behind)) at machine.old result fault.new behind machine.new }
     ensures initial { machine.new.initial ≡ machine.old.initial }
+    ensures kept { machine.new.states.kept ≡ machine.old.states.kept }
 {
     let distance = distance(delta, factors);
     if distance > machine.limit - machine.location {
@@ -50,6 +51,7 @@ pub(crate) fn run_fixed_advance<'a>(
     requires width { IsWidth width }
     ensures did { Applied (advance_at factors width cursor.old) at machine.old result fault.new cursor.new machine.new }
     ensures initial { machine.new.initial ≡ machine.old.initial }
+    ensures kept { machine.new.states.kept ≡ machine.old.states.kept }
 {
     let delta = match cursor.fixed(width) {
         Ok(delta) => delta,
@@ -71,6 +73,7 @@ pub(crate) fn run_set_loc<'a>(
     requires limit { machine.old.limit ≡ address_limit cursor.old.target.size }
     ensures did { Applied (set_loc_at cursor.old) at machine.old result fault.new cursor.new machine.new }
     ensures initial { machine.new.initial ≡ machine.old.initial }
+    ensures kept { machine.new.states.kept ≡ machine.old.states.kept }
 {
     let address = match cursor.address() {
         Ok(address) => u128::from(address),

@@ -22,6 +22,7 @@ pub(crate) fn run_def_cfa<'a>(
     requires { machine.old.location ≤ machine.old.limit }
     ensures did { Applied (def_cfa_at at cursor.old) at machine.old result fault.new cursor.new machine.new }
     ensures initial { machine.new.initial ≡ machine.old.initial }
+    ensures kept { machine.new.states.kept ≡ machine.old.states.kept }
 {
     let register = match cursor.register() {
         Ok(register) => register,
@@ -49,6 +50,7 @@ pub(crate) fn run_def_cfa_sf<'a>(
     requires { machine.old.location ≤ machine.old.limit }
     ensures did { Applied (def_cfa_sf_at factors at cursor.old) at machine.old result fault.new cursor.new machine.new }
     ensures initial { machine.new.initial ≡ machine.old.initial }
+    ensures kept { machine.new.states.kept ≡ machine.old.states.kept }
 {
     let register = match cursor.register() {
         Ok(register) => register,
@@ -75,6 +77,7 @@ pub(crate) fn run_def_cfa_register<'a>(
     requires { machine.old.location ≤ machine.old.limit }
     ensures did { Applied (def_cfa_register_at cursor.old) at machine.old result fault.new cursor.new machine.new }
     ensures initial { machine.new.initial ≡ machine.old.initial }
+    ensures kept { machine.new.states.kept ≡ machine.old.states.kept }
 {
     let register = match cursor.register() {
         Ok(register) => register,
@@ -101,6 +104,7 @@ pub(crate) fn run_def_cfa_offset<'a>(
     requires { machine.old.location ≤ machine.old.limit }
     ensures did { Applied (def_cfa_offset_at at cursor.old) at machine.old result fault.new cursor.new machine.new }
     ensures initial { machine.new.initial ≡ machine.old.initial }
+    ensures kept { machine.new.states.kept ≡ machine.old.states.kept }
 {
     let offset = match plain(cursor, at) {
         Ok(offset) => offset,
@@ -128,6 +132,7 @@ pub(crate) fn run_def_cfa_offset_sf<'a>(
     requires { machine.old.location ≤ machine.old.limit }
     ensures did { Applied (def_cfa_offset_sf_at factors at cursor.old) at machine.old result fault.new cursor.new machine.new }
     ensures initial { machine.new.initial ≡ machine.old.initial }
+    ensures kept { machine.new.states.kept ≡ machine.old.states.kept }
 {
     let offset = match signed(cursor, factors, at) {
         Ok(offset) => offset,
@@ -155,6 +160,7 @@ pub(crate) fn run_def_cfa_expression<'a>(
     requires known { IsTrue known → IsOk (def_cfa_expression_at cursor.old) }
     ensures did { (at : ℕ) → Applied (def_cfa_expression_at cursor.old) at machine.old result fault.new cursor.new machine.new }
     ensures initial { machine.new.initial ≡ machine.old.initial }
+    ensures kept { machine.new.states.kept ≡ machine.old.states.kept }
 {
     let expression = match block(cursor, known) {
         Ok(expression) => expression,

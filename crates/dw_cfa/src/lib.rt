@@ -10,6 +10,7 @@ mod instructions;
 mod lacking;
 mod laws;
 mod machine;
+mod marks;
 mod reading;
 mod registers;
 mod row;
@@ -20,6 +21,7 @@ mod steps;
 mod tree;
 mod turn;
 mod walking;
+mod watched;
 
 pub use collecting::{Rows, run};
 pub use following::CieMachine;

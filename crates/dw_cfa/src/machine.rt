@@ -31,8 +31,9 @@ fn halves(row: &Row<'_>) -> Result<(u16, i64), StepError>
 
 /// Writes the rule of an instruction that holds one into the row. Others leave it.
 pub(crate) fn write_rule<'a>(states: &mut States<'a>, instr: Instr<'a>) -> Result<(), StepError>
-    ensures ok { OnOk result ((half_fault instr.entry states.old.row.cfa ≡ None) × (states.new ≡ record { row = written instr.entry states.old.row; stack = states.old.stack; first = states.old.first })) }
+    ensures ok { OnOk result ((half_fault instr.entry states.old.row.cfa ≡ None) × (states.new ≡ record { row = written instr.entry states.old.row; stack = states.old.stack; first = states.old.first; kept = states.old.kept })) }
     ensures err { IfErr result (λ e. FaultIs e (half_fault instr.entry states.old.row.cfa)) }
+    ensures kept { states.new.kept ≡ states.old.kept }
 {
     match instr {
         Instr::DefCfa { register, offset } => {

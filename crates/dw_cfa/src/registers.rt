@@ -19,6 +19,7 @@ pub(crate) fn run_restore(machine: &mut Machine<'_>, register: u16) -> End
     requires { machine.old.location ≤ machine.old.limit }
     ensures did { (at : ℕ) (fault : Refusal) (behind : Input) → Applied (Ok (Restore register, behind)) at machine.old result fault behind machine.new }
     ensures initial { machine.new.initial ≡ machine.old.initial }
+    ensures kept { machine.new.states.kept ≡ machine.old.states.kept }
 {
     let rule = machine.initial.rule(register);
     if machine.states.set(register, rule).is_err() {
@@ -38,6 +39,7 @@ pub(crate) fn run_restore_extended<'a>(
     requires { machine.old.location ≤ machine.old.limit }
     ensures did { (at : ℕ) → Applied (restore_at cursor.old) at machine.old result fault.new cursor.new machine.new }
     ensures initial { machine.new.initial ≡ machine.old.initial }
+    ensures kept { machine.new.states.kept ≡ machine.old.states.kept }
 {
     let register = match cursor.register() {
         Ok(register) => register,
@@ -57,6 +59,7 @@ pub(crate) fn run_undefined<'a>(
     requires { machine.old.location ≤ machine.old.limit }
     ensures did { (at : ℕ) → Applied (undefined_at cursor.old) at machine.old result fault.new cursor.new machine.new }
     ensures initial { machine.new.initial ≡ machine.old.initial }
+    ensures kept { machine.new.states.kept ≡ machine.old.states.kept }
 {
     let register = match cursor.register() {
         Ok(register) => register,
@@ -80,6 +83,7 @@ pub(crate) fn run_same_value<'a>(
     requires { machine.old.location ≤ machine.old.limit }
     ensures did { (at : ℕ) → Applied (same_value_at cursor.old) at machine.old result fault.new cursor.new machine.new }
     ensures initial { machine.new.initial ≡ machine.old.initial }
+    ensures kept { machine.new.states.kept ≡ machine.old.states.kept }
 {
     let register = match cursor.register() {
         Ok(register) => register,
@@ -106,6 +110,7 @@ pub(crate) fn run_offset<'a>(
     requires { machine.old.location ≤ machine.old.limit }
     ensures did { Applied (offset_at factors at register cursor.old) at machine.old result fault.new cursor.new machine.new }
     ensures initial { machine.new.initial ≡ machine.old.initial }
+    ensures kept { machine.new.states.kept ≡ machine.old.states.kept }
 {
     let offset = match factored(cursor, factors, at) {
         Ok(offset) => offset,
@@ -131,6 +136,7 @@ pub(crate) fn run_offset_extended<'a>(
     requires { machine.old.location ≤ machine.old.limit }
     ensures did { Applied (offset_extended_at factors at cursor.old) at machine.old result fault.new cursor.new machine.new }
     ensures initial { machine.new.initial ≡ machine.old.initial }
+    ensures kept { machine.new.states.kept ≡ machine.old.states.kept }
 {
     let register = match cursor.register() {
         Ok(register) => register,
@@ -152,6 +158,7 @@ pub(crate) fn run_offset_extended_sf<'a>(
     requires { machine.old.location ≤ machine.old.limit }
     ensures did { Applied (offset_extended_sf_at factors at cursor.old) at machine.old result fault.new cursor.new machine.new }
     ensures initial { machine.new.initial ≡ machine.old.initial }
+    ensures kept { machine.new.states.kept ≡ machine.old.states.kept }
 {
     let register = match cursor.register() {
         Ok(register) => register,
@@ -181,6 +188,7 @@ pub(crate) fn run_val_offset<'a>(
     requires { machine.old.location ≤ machine.old.limit }
     ensures did { Applied (val_offset_at factors at cursor.old) at machine.old result fault.new cursor.new machine.new }
     ensures initial { machine.new.initial ≡ machine.old.initial }
+    ensures kept { machine.new.states.kept ≡ machine.old.states.kept }
 {
     let register = match cursor.register() {
         Ok(register) => register,
@@ -210,6 +218,7 @@ pub(crate) fn run_val_offset_sf<'a>(
     requires { machine.old.location ≤ machine.old.limit }
     ensures did { Applied (val_offset_sf_at factors at cursor.old) at machine.old result fault.new cursor.new machine.new }
     ensures initial { machine.new.initial ≡ machine.old.initial }
+    ensures kept { machine.new.states.kept ≡ machine.old.states.kept }
 {
     let register = match cursor.register() {
         Ok(register) => register,
@@ -237,6 +246,7 @@ pub(crate) fn run_register<'a>(
     requires { machine.old.location ≤ machine.old.limit }
     ensures did { (at : ℕ) → Applied (register_rule_at cursor.old) at machine.old result fault.new cursor.new machine.new }
     ensures initial { machine.new.initial ≡ machine.old.initial }
+    ensures kept { machine.new.states.kept ≡ machine.old.states.kept }
 {
     let register = match cursor.register() {
         Ok(register) => register,
@@ -266,6 +276,7 @@ pub(crate) fn run_expression<'a>(
     requires known { IsTrue known → IsOk (expression_at cursor.old) }
     ensures did { (at : ℕ) → Applied (expression_at cursor.old) at machine.old result fault.new cursor.new machine.new }
     ensures initial { machine.new.initial ≡ machine.old.initial }
+    ensures kept { machine.new.states.kept ≡ machine.old.states.kept }
 {
     let register = match cursor.register() {
         Ok(register) => register,
@@ -295,6 +306,7 @@ pub(crate) fn run_val_expression<'a>(
     requires known { IsTrue known → IsOk (val_expression_at cursor.old) }
     ensures did { (at : ℕ) → Applied (val_expression_at cursor.old) at machine.old result fault.new cursor.new machine.new }
     ensures initial { machine.new.initial ≡ machine.old.initial }
+    ensures kept { machine.new.states.kept ≡ machine.old.states.kept }
 {
     let register = match cursor.register() {
         Ok(register) => register,

@@ -1,13 +1,13 @@
 //! Rows of rules (6.4.1).
 
-ghost use Rattle.std.specs.Prelude.{◌≡◌, ◌<◌, [], ◌∷◌, IfOk, OnOk, OnErr, MatchOption, IsTrue, ◌↔◌, bit_or, length};
+ghost use Rattle.std.specs.Prelude.{◌≡◌, ◌<◌, ℕ, [], ◌∷◌, IfOk, OnOk, OnErr, MatchOption, IsTrue, ◌↔◌, length};
 ghost use Rattle.std.specs.List.{filter};
 ghost use Rattle.std.specs.Iterator.{YieldsFirst, item_count};
 ghost use Rattle.dw_cfa.specs.declared.rule.RegRule.TheVariants.{Unspecified};
 ghost use Rattle.dw_cfa.specs.Rows.{AreSpecified, rule, put, rule_in, with_cfa, with_rule, blank};
 ghost use Rattle.dw_cfa.specs.Narrowing.{is_agreed, is_kept, agreed, kept, same_rule};
 ghost use Rattle.dw_cfa.specs.Inner.Entries.{CopiedBelow, entries_of, slot_rule, EntriesSo, IsSlotOf, FindsNear, Covers, LeavesAt, LeavesBelow};
-ghost use Rattle.dw_cfa.specs.Differing.{FirstDifference, FirstBelow, place_behind, start_behind};
+ghost use Rattle.dw_cfa.specs.Differing.{FirstDifference, FirstBelow, SameUnset, place_behind, start_behind};
 
 use crate::rule::{CfaRule, RegRule};
 use crate::tree::{rule_in_tree, set_in_tree};
@@ -16,8 +16,8 @@ use std::collections::{BTreeMap, btree_map};
 use std::marker::Model;
 use std::ops::Bound;
 
-// The registers below this have slots of their own.
-const NEAR: u16 = 32;
+/// The registers below this have slots of their own.
+pub(crate) const NEAR: u16 = 32;
 
 // What kind of rule a slot holds. A rule with an expression is kept beside the slots.
 #[derive(Clone, Copy)]
@@ -194,9 +194,9 @@ fn same_slots(
     }
 }
 
-// The least register behind another one, or the first of all.
+/// The least register behind another one, or the first of all.
 #[inline(always)]
-fn place_behind(behind: Option<u16>) -> u32
+pub(crate) fn place_behind(behind: Option<u16>) -> u32
     ensures { result ≡ place_behind behind }
 {
     match behind {
@@ -205,8 +205,8 @@ fn place_behind(behind: Option<u16>) -> u32
     }
 }
 
-// The start of the part of a tree behind a register, or of all of it.
-fn start_behind(behind: Option<u16>) -> Bound<u16>
+/// The start of the part of a tree behind a register, or of all of it.
+pub(crate) fn start_behind(behind: Option<u16>) -> Bound<u16>
     ensures { result ≡ start_behind behind }
 {
     match behind {
@@ -311,16 +311,16 @@ impl<'a> Entries<'a> {
         self.next_difference(others, None).is_none()
     }
 
-    // The first register from a place on that has a slot, used in one of both, and whose rule differs.
-    fn next_near_difference(&self, others: &Entries<'_>, used: u32, from: u32) -> Option<u16>
+    // The first register from a place on that has a slot, is in a mask, and whose rule differs.
+    fn next_near_difference(&self, others: &Entries<'_>, mask: u32, from: u32) -> Option<u16>
         requires so { EntriesSo self.now }
         requires others { EntriesSo others.now }
-        requires used { used ≡ bit_or self.now.used others.now.used }
+        requires mask { SameUnset mask (entries_of self.now) (entries_of others.now) }
         ensures { FirstBelow 32 from (entries_of self.now) (entries_of others.now) result }
     {
         let mut place = from;
         'slots: while place < 32 {
-            let left = used >> place;
+            let left = mask >> place;
             if left == 0 {
                 return None;
             }
@@ -363,8 +363,8 @@ impl<'a> Entries<'a> {
         requires others { EntriesSo others.now }
         ensures { FirstDifference (place_behind behind) (entries_of self.now) (entries_of others.now) result }
     {
-        let used = self.used | others.used;
-        if let Some(register) = self.next_near_difference(others, used, place_behind(behind)) {
+        let mask = self.used | others.used;
+        if let Some(register) = self.next_near_difference(others, mask, place_behind(behind)) {
             return Some(register);
         }
         self.next_far_difference(others, behind)
@@ -699,6 +699,22 @@ impl<'a> Row<'a> {
         ensures other_ascending { AreSpecified 0 other.now.registers }
     {
         self.entries.next_difference(&other.entries, behind)
+    }
+
+    /// The least register from a place on that is in a mask, and to which another row gives another rule.
+    pub(crate) fn next_near_difference(&self, other: &Row<'_>, mask: u32, from: u32) -> Option<u16>
+        requires { SameUnset mask self.now.registers other.now.registers }
+        ensures { FirstBelow 32 from self.now.registers other.now.registers result }
+    {
+        self.entries
+            .next_near_difference(&other.entries, mask, from)
+    }
+
+    /// Registers ascend. This does nothing.
+    pub fn ascends(&self)
+        ensures { AreSpecified 0 self.now.registers }
+    {
+        let _entries = &self.entries;
     }
 
     /// The registers that are not Unspecified, ascending, with their rules. Takes no memory.

@@ -61,6 +61,7 @@ pub(crate) fn next_row<'a>(
     requires known { IsTrue known → (rows_left factors cursor.old machine.old).fault ≡ None }
     ensures row { GivesRow (rows_left factors cursor.old machine.old) factors cursor.new machine.new result }
     ensures initial { machine.new.initial ≡ machine.old.initial }
+    ensures kept { machine.new.states.kept ≡ machine.old.states.kept }
 {
     let code = Code::Truncated;
     let mut fault = Refusal { code, at: 0 };
@@ -93,6 +94,7 @@ pub(crate) fn run_to<'a>(
     ensures keeps { (other : Rules) → AllSpecify other (rows_left factors cursor.old machine.old).rows → OnOk result (AllSpecify other (rows_left factors cursor.new machine.new).rows) }
     ensures err { IfErr result (λ e. e ≡ TheError.OutOfMemory) }
     ensures initial { machine.new.initial ≡ machine.old.initial }
+    ensures kept { machine.new.states.kept ≡ machine.old.states.kept }
 {
     let address = u128::from(address);
     let code = Code::Truncated;
@@ -121,7 +123,8 @@ fn write_one<'a>(
 ) -> Result<(), ReadError>
     requires some { 0 < length cursor.old.bytes }
     requires known { IsTrue known → IsOk (initial_row (placed factors cursor.old) states.old.row) }
-    ensures { Wrote factors cursor.old states.old result cursor.new states.new }
+    ensures wrote { Wrote factors cursor.old states.old result cursor.new states.new }
+    ensures kept { states.new.kept ≡ states.old.kept }
 {
     are_bytes(cursor.rest());
     let at = cursor.at();
@@ -147,6 +150,7 @@ pub(crate) fn run_initial<'a>(
 ) -> Result<(), ReadError>
     requires { IsTrue known → IsOk (initial_row (placed factors cursor.old) states.old.row) }
     ensures ok { OnOk result (initial_row (placed factors cursor.old) states.old.row ≡ Ok states.new.row) }
+    ensures kept { states.new.kept ≡ states.old.kept }
     ensures same { OnOk result ((states.new.stack ≡ states.old.stack) × (states.new.first ≡ states.old.first)) }
     ensures err { IfErr result (Refuses (λ r. initial_row (placed factors cursor.old) states.old.row ≡ Err r)) }
 {

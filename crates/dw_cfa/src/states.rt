@@ -1,11 +1,13 @@
 //! The current row and the remembered ones (6.4.2.4).
 
-ghost use Rattle.std.specs.Prelude.{◌≡◌, ◌+◌, ◌<◌, [], ◌∷◌, length, reverse, Some, None, OnOk, OnErr, IfOk, true, false};
-ghost use Rattle.dw_cfa.specs.Rows.{with_cfa, with_rule};
+ghost use Rattle.std.specs.Prelude.{◌≡◌, ◌+◌, ◌<◌, [], ◌∷◌, length, reverse, Some, None, OnOk, OnErr, IfOk, IsTrue, ◌↔◌, true, false};
+ghost use Rattle.dw_cfa.specs.Differing.{FirstDifference, place_behind};
+ghost use Rattle.dw_cfa.specs.Rows.{AreSpecified, blank, with_cfa, with_rule};
 ghost use Rattle.dw_cfa.specs.Inner.States.{Held, first_if, BeganWith, Restored, TakenBack, count_remembered, first_registers};
 
 use crate::row::Row;
 use crate::rule::{CfaRule, RegRule};
+use crate::watched::WatchedRow;
 use smallvec::SmallVec;
 use std::alloc::{AllocError, Global};
 use std::marker::Model;
@@ -29,7 +31,7 @@ impl<'a> Default for Undo<'a> {
 /// taken back. So is what was changed since the beginning, where that is tracked.
 #[derive(Drop)]
 pub(crate) struct States<'a> {
-    row: Row<'a>,
+    rows: WatchedRow<'a>,
     undo: SmallVec<Undo<'a>, 4>,
     depth: usize,
     tracked: bool,
@@ -41,23 +43,24 @@ impl<'a> Model for States<'a> {
 
     ghost Value = { Held };
 
-    ghost view = { λ s. held s.tracked s.row s.undo.items };
+    ghost view = { λ s. held s.tracked s.rows.row s.rows.kept s.undo.items };
 
     ghost invariant = { λ s. s.depth ≡ count_remembered (reverse s.undo.items) };
 }
 
 // Takes changes back up to the row that was remembered last, and answers the rule that the CFA had there.
 fn take_back<'a>(
-    row: &mut Row<'a>,
+    rows: &mut WatchedRow<'a>,
     undo: &mut SmallVec<Undo<'a>, 4>,
 ) -> Result<Option<CfaRule<'a>>, AllocError>
-    ensures ok { IfOk result (λ found. TakenBack found row.old (reverse undo.old.items) row.new (reverse undo.new.items)) }
+    ensures ok { IfOk result (λ found. TakenBack found rows.old.row (reverse undo.old.items) rows.new.row (reverse undo.new.items)) }
     ensures err { OnErr result (count_remembered (reverse undo.new.items) ≡ count_remembered (reverse undo.old.items)) }
+    ensures kept { rows.new.kept ≡ rows.old.kept }
 {
     'changes: while let Some(change) = undo.pop() {
         match change {
             Undo::Remembered(cfa) => return Ok(Some(cfa)),
-            Undo::Register(register, rule) => match row.set(register, rule) {
+            Undo::Register(register, rule) => match rows.set(register, rule) {
                 Ok(()) => {}
                 Err(error) => return Err(error),
             },
@@ -68,13 +71,17 @@ fn take_back<'a>(
 
 // Takes all changes of registers back.
 #[inline(never)]
-fn take_all_back<'a>(row: &mut Row<'a>, undo: &mut SmallVec<Undo<'a>, 4>) -> Result<(), AllocError>
-    ensures { OnOk result (row.new.registers ≡ first_registers row.old (reverse undo.old.items)) }
+fn take_all_back<'a>(
+    rows: &mut WatchedRow<'a>,
+    undo: &mut SmallVec<Undo<'a>, 4>,
+) -> Result<(), AllocError>
+    ensures registers { OnOk result (rows.new.row.registers ≡ first_registers rows.old.row (reverse undo.old.items)) }
+    ensures kept { rows.new.kept ≡ rows.old.kept }
 {
     'changes: while let Some(change) = undo.pop() {
         match change {
             Undo::Remembered(_) => {}
-            Undo::Register(register, rule) => row.set(register, rule)?,
+            Undo::Register(register, rule) => rows.set(register, rule)?,
         }
     }
     Ok(())
@@ -83,28 +90,29 @@ fn take_all_back<'a>(row: &mut Row<'a>, undo: &mut SmallVec<Undo<'a>, 4>) -> Res
 // Brings the registers of the initial row back.
 fn first_again<'a>(
     tracked: bool,
-    row: &mut Row<'a>,
+    rows: &mut WatchedRow<'a>,
     undo: &mut SmallVec<Undo<'a>, 4>,
     initial: &Row<'a>,
 ) -> Result<(), AllocError>
-    requires { BeganWith initial.now (first_if tracked row.old (reverse undo.old.items)) }
-    ensures { OnOk result (row.new.registers ≡ initial.now.registers) }
+    requires { BeganWith initial.now (first_if tracked rows.old.row (reverse undo.old.items)) }
+    ensures registers { OnOk result (rows.new.row.registers ≡ initial.now.registers) }
+    ensures kept { rows.new.kept ≡ rows.old.kept }
 {
     if tracked {
-        take_all_back(row, undo)?;
+        take_all_back(rows, undo)?;
         return Ok(());
     }
-    row.become_copy(initial)?;
+    rows.become_copy(initial)?;
     Ok(())
 }
 
 impl<'a> States<'a> {
     /// The row alone. Where changes are tracked, `rewind` brings it back in as many steps as it was changed.
     pub(crate) fn new(alloc: Global, row: Row<'a>, tracked: bool) -> States<'a>
-        ensures { result ≡ record { row = row.entry; stack = []; first = first_if tracked row.entry [] } }
+        ensures { result ≡ record { row = row.entry; stack = []; first = first_if tracked row.entry []; kept = blank } }
     {
         States {
-            row,
+            rows: WatchedRow::new(alloc, row),
             undo: SmallVec::new(alloc),
             depth: 0,
             tracked,
@@ -115,26 +123,68 @@ impl<'a> States<'a> {
     pub(crate) fn row(&self) -> &Row<'a>
         ensures { result.now ≡ self.now.row }
     {
-        &self.row
+        self.rows.row()
     }
 
     /// The current row alone.
     pub(crate) fn into_row(self) -> Row<'a>
         ensures { result ≡ self.entry.row }
     {
-        self.row
+        self.rows.into_row()
+    }
+
+    /// Goes on with another row, remembers none, and tracks no changes.
+    pub(crate) fn restart(&mut self, row: Row<'a>)
+        ensures { self.new ≡ record { row = row.entry; stack = []; first = None; kept = self.old.kept } }
+    {
+        self.rows.become_row(row);
+        self.undo.clear();
+        self.depth = 0;
+        self.tracked = false;
+    }
+
+    /// The row that was kept, and before `keep` some row.
+    pub(crate) fn kept(&self) -> &Row<'a>
+        ensures { result.now ≡ self.now.kept }
+    {
+        self.rows.kept()
+    }
+
+    /// Keeps the current row, or answers want of memory. What is kept is some row then.
+    pub(crate) fn keep(&mut self) -> Result<(), AllocError>
+        ensures ok { OnOk result (self.new.kept ≡ self.old.row) }
+        ensures same { self.new ≡ record { row = self.old.row; stack = self.old.stack; first = self.old.first; kept = self.new.kept } }
+    {
+        self.rows.keep()
+    }
+
+    /// Whether the current row is the one that was kept.
+    pub(crate) fn is_kept(&self) -> bool
+        ensures { IsTrue result ↔ (self.now.kept ≡ self.now.row) }
+    {
+        self.rows.is_kept()
+    }
+
+    /// The least register to which the current row gives another rule than the kept one, of those behind a given one where
+    /// there is such; or none.
+    pub(crate) fn next_difference(&self, behind: Option<u16>) -> Option<u16>
+        ensures first { FirstDifference (place_behind behind) self.now.kept.registers self.now.row.registers result }
+        ensures ascending { AreSpecified 0 self.now.kept.registers }
+        ensures other_ascending { AreSpecified 0 self.now.row.registers }
+    {
+        self.rows.next_difference(behind)
     }
 
     /// Tracks changes no more: the first row is copied then, where `rewind` goes back to it.
     pub(crate) fn untrack(&mut self)
-        ensures { self.new ≡ record { row = self.old.row; stack = self.old.stack; first = None } }
+        ensures { self.new ≡ record { row = self.old.row; stack = self.old.stack; first = None; kept = self.old.kept } }
     {
         self.tracked = false;
     }
 
     /// Remembers no row, and says whether changes are tracked from the current one on.
     pub(crate) fn track(&mut self, tracked: bool)
-        ensures { self.new ≡ record { row = self.old.row; stack = []; first = first_if tracked self.old.row [] } }
+        ensures { self.new ≡ record { row = self.old.row; stack = []; first = first_if tracked self.old.row []; kept = self.old.kept } }
     {
         self.undo.clear();
         self.depth = 0;
@@ -149,23 +199,24 @@ impl<'a> States<'a> {
     }
 
     pub(crate) fn set_cfa(&mut self, cfa: CfaRule<'a>)
-        ensures { self.new ≡ record { row = with_cfa cfa.entry self.old.row; stack = self.old.stack; first = self.old.first } }
+        ensures { self.new ≡ record { row = with_cfa cfa.entry self.old.row; stack = self.old.stack; first = self.old.first; kept = self.old.kept } }
     {
-        self.row.set_cfa(cfa);
+        self.rows.set_cfa(cfa);
     }
 
-    // Gives a register a rule, and keeps the one that it had.
+    // Gives a register a rule, and records the one that it had.
     #[inline(never)]
     fn change(&mut self, register: u16, rule: RegRule<'a>) -> Result<(), AllocError>
-        ensures { OnOk result (self.new ≡ record { row = with_rule register rule.entry self.old.row; stack = self.old.stack; first = self.old.first }) }
+        ensures kept { self.new.kept ≡ self.old.kept }
+        ensures changed { OnOk result (self.new ≡ record { row = with_rule register rule.entry self.old.row; stack = self.old.stack; first = self.old.first; kept = self.old.kept }) }
     {
-        let older = self.row.exchange(register, rule)?;
+        let older = self.rows.exchange(register, rule)?;
         self.undo.push(Undo::Register(register, older))?;
         Ok(())
     }
 
     // Whether changes have to be taken back later.
-    fn is_kept(&self) -> bool
+    fn is_recorded(&self) -> bool
         ensures { result ≡ false → (self.now.stack ≡ []) × (self.now.first ≡ None) }
     {
         self.tracked || self.depth > 0
@@ -174,21 +225,23 @@ impl<'a> States<'a> {
     /// Gives a register a rule, or answers want of memory.
     #[inline(always)]
     pub(crate) fn set(&mut self, register: u16, rule: RegRule<'a>) -> Result<(), AllocError>
-        ensures { OnOk result (self.new ≡ record { row = with_rule register rule.entry self.old.row; stack = self.old.stack; first = self.old.first }) }
+        ensures kept { self.new.kept ≡ self.old.kept }
+        ensures set { OnOk result (self.new ≡ record { row = with_rule register rule.entry self.old.row; stack = self.old.stack; first = self.old.first; kept = self.old.kept }) }
     {
-        if self.is_kept() {
+        if self.is_recorded() {
             return self.change(register, rule);
         }
-        self.row.set(register, rule)?;
+        self.rows.set(register, rule)?;
         Ok(())
     }
 
     /// Remembers the current row.
     pub(crate) fn remember(&mut self) -> Result<(), AllocError>
         requires { length self.old.stack < 64 }
-        ensures { OnOk result (self.new ≡ record { row = self.old.row; stack = self.old.row ∷ self.old.stack; first = self.old.first }) }
+        ensures kept { self.new.kept ≡ self.old.kept }
+        ensures remembered { OnOk result (self.new ≡ record { row = self.old.row; stack = self.old.row ∷ self.old.stack; first = self.old.first; kept = self.old.kept }) }
     {
-        let cfa = self.row.cfa();
+        let cfa = self.rows.row().cfa();
         self.undo.push(Undo::Remembered(cfa))?;
         self.depth += 1;
         Ok(())
@@ -196,11 +249,12 @@ impl<'a> States<'a> {
 
     /// Goes back to the row that was remembered last, and tells whether there was one.
     pub(crate) fn restore(&mut self) -> Result<bool, AllocError>
-        ensures { IfOk result (λ found. Restored found self.old self.new) }
+        ensures kept { self.new.kept ≡ self.old.kept }
+        ensures restored { IfOk result (λ found. Restored found self.old self.new) }
     {
-        match take_back(&mut self.row, &mut self.undo)? {
+        match take_back(&mut self.rows, &mut self.undo)? {
             Some(cfa) => {
-                self.row.set_cfa(cfa);
+                self.rows.set_cfa(cfa);
                 self.depth -= 1;
                 Ok(true)
             }
@@ -212,13 +266,14 @@ impl<'a> States<'a> {
     #[inline(always)]
     pub(crate) fn rewind(&mut self, initial: &Row<'a>) -> Result<(), AllocError>
         requires { BeganWith initial.now self.old.first }
-        ensures { OnOk result ((self.new.row ≡ initial.now) × (self.new.stack ≡ []) × BeganWith initial.now self.new.first) }
+        ensures kept { self.new.kept ≡ self.old.kept }
+        ensures rewound { OnOk result ((self.new.row ≡ initial.now) × (self.new.stack ≡ []) × BeganWith initial.now self.new.first) }
     {
-        let taken = first_again(self.tracked, &mut self.row, &mut self.undo, initial);
+        let taken = first_again(self.tracked, &mut self.rows, &mut self.undo, initial);
         self.undo.clear();
         self.depth = 0;
         taken?;
-        self.row.set_cfa(initial.cfa());
+        self.rows.set_cfa(initial.cfa());
         Ok(())
     }
 }

@@ -33,6 +33,7 @@ fn run_remember_state(machine: &mut Machine<'_>, at: u64, fault: &mut Refusal) -
     requires { machine.old.location ≤ machine.old.limit }
     ensures did { (behind : Input) → Applied (Ok (RememberState, behind)) at machine.old result fault.new behind machine.new }
     ensures initial { machine.new.initial ≡ machine.old.initial }
+    ensures kept { machine.new.states.kept ≡ machine.old.states.kept }
 {
     if machine.states.depth() >= MOST_REMEMBERED {
         let code = Code::StateStackFull;
@@ -50,6 +51,7 @@ fn run_restore_state(machine: &mut Machine<'_>, at: u64, fault: &mut Refusal) ->
     requires { machine.old.location ≤ machine.old.limit }
     ensures did { (behind : Input) → Applied (Ok (RestoreState, behind)) at machine.old result fault.new behind machine.new }
     ensures initial { machine.new.initial ≡ machine.old.initial }
+    ensures kept { machine.new.states.kept ≡ machine.old.states.kept }
 {
     match machine.states.restore() {
         Ok(true) => End::On,
@@ -78,6 +80,7 @@ fn apply<'a>(
     requires known { IsTrue known → IsOk (operands_at factors at opcode cursor.old) }
     ensures did { Applied (operands_at factors at opcode cursor.old) at machine.old result fault.new cursor.new machine.new }
     ensures initial { machine.new.initial ≡ machine.old.initial }
+    ensures kept { machine.new.states.kept ≡ machine.old.states.kept }
 {
     match opcode {
         Opcode::Nop => End::On,
@@ -124,6 +127,7 @@ pub(crate) fn turn<'a>(
     requires known { IsTrue known → (rows_left factors cursor.old machine.old).fault ≡ None }
     ensures turned { Turned factors cursor.old machine.old result fault.new cursor.new machine.new }
     ensures initial { machine.new.initial ≡ machine.old.initial }
+    ensures kept { machine.new.states.kept ≡ machine.old.states.kept }
 {
     are_bytes(cursor.rest());
     let at = cursor.at();

@@ -1,12 +1,13 @@
 //! Rows of one FDE after another, in room that is kept (6.4.1, 6.4.3).
 
-ghost use Rattle.std.specs.Prelude.{◌≡◌, ◌<◌, ℕ, None, Ok, List, ◌∷◌, IfErr, IfOk, IsOk, IsTrue, MatchResult, OnOk, Some};
+ghost use Rattle.std.specs.Prelude.{◌≡◌, ◌<◌, ℕ, None, Ok, List, ◌∷◌, IfErr, IfOk, IsOk, IsTrue, ◌↔◌, MatchResult, OnOk, Some};
 ghost use Rattle.dw_num.specs.Target.{address_limit};
 ghost use Rattle.dw_num.specs.declared.error.ReadError.TheVariants.{OutOfMemory};
 ghost use Rattle.dw_cfa.specs.declared.running.LocatedRow.{LocatedRow};
 ghost use Rattle.dw_cfa.specs.Gives.{Gives, RunsTo};
 ghost use Rattle.dw_cfa.specs.RuleAt.{last_at, NeverFalls};
-ghost use Rattle.dw_cfa.specs.Rows.{Rules, blank};
+ghost use Rattle.dw_cfa.specs.Differing.{FirstDifference, place_behind};
+ghost use Rattle.dw_cfa.specs.Rows.{AreSpecified, Rules, blank};
 ghost use Rattle.dw_cfa.specs.Inner.Runs.{GivesRow, RunsSo, initial_row, placed, rows_left, run_rows};
 ghost use Rattle.dw_cfa.specs.Runs.{finished};
 ghost use Rattle.dw_cfa.specs.Inner.States.{BeganWith};
@@ -22,7 +23,7 @@ use crate::running::{next_row, run_initial, run_to};
 use crate::states::States;
 use crate::steps::{Progress, progress_after};
 use dw_num::{Cursor, Program, ReadError, Target, are_bytes};
-use std::alloc::Global;
+use std::alloc::{AllocError, Global};
 use std::marker::Model;
 
 /// A CIE's program, and what it is read with.
@@ -61,8 +62,9 @@ fn run_cie<'a>(
     requires { IsOk (initial_row (placed leading.factors (program_input leading.program leading.target)) blank) }
     ensures ok { OnOk result (Readied leading.entry machine.old machine.new) }
     ensures err { IfErr result (λ e. e ≡ OutOfMemory) }
+    ensures kept_row { machine.new.states.kept ≡ machine.old.states.kept }
 {
-    machine.states = States::new(alloc, Row::blank(alloc), false);
+    machine.states.restart(Row::blank(alloc));
     let program = leading.program;
     let mut cursor = Cursor::new(program.bytes, program.at, leading.target);
     run_initial(&mut cursor, leading.factors, &mut machine.states, true)?;
@@ -84,6 +86,7 @@ fn ready<'a>(
     ensures ok { OnOk result (Readied leading.entry machine.old machine.new) }
     ensures err { IfErr result (λ e. e ≡ OutOfMemory) }
     ensures same { IsTrue kept → machine.new.initial ≡ machine.old.initial }
+    ensures kept_row { machine.new.states.kept ≡ machine.old.states.kept }
 {
     if kept {
         machine.states.rewind(&machine.initial)?;
@@ -106,6 +109,7 @@ fn first_row<'a>(
     ensures row { GivesRow (led_rows leading.entry fde.old machine.old.location) leading.entry.factors fde.new machine.new result }
     ensures kept { IsTrue kept.new → HasInitial leading.entry machine.new }
     ensures keeps { WalkKeeps (progress_after result) leading.entry fde.new machine.new }
+    ensures kept_row { machine.new.states.kept ≡ machine.old.states.kept }
 {
     are_bytes(fde.rest());
     ready(alloc, leading, machine, *kept)?;
@@ -132,6 +136,7 @@ fn first_to<'a>(
     ensures err { IfErr result (λ e. e ≡ OutOfMemory) }
     ensures kept { IsTrue kept.new → HasInitial leading.entry machine.new }
     ensures keeps { OnOk result (AllSpecify machine.new.initial (rows_left leading.entry.factors fde.new machine.new).rows) }
+    ensures kept_row { machine.new.states.kept ≡ machine.old.states.kept }
 {
     are_bytes(fde.rest());
     ready(alloc, leading, machine, *kept)?;
@@ -159,6 +164,7 @@ fn walk_to<'a>(
     ensures err { IfErr result (λ e. e ≡ OutOfMemory) }
     ensures kept { IsTrue kept.new → HasInitial leading.entry machine.new }
     ensures keeps { IfOk result (λ more. IsTrue more → AllSpecify machine.new.initial (rows_left leading.entry.factors fde.new machine.new).rows) }
+    ensures kept_row { machine.new.states.kept ≡ machine.old.states.kept }
 {
     match progress {
         Progress::Begun => first_to(alloc, leading, fde, machine, kept, address),
@@ -170,7 +176,8 @@ fn walk_to<'a>(
 
 /// The rows of one FDE after another, in room that is kept, where it is known that their programs give rows to their
 /// end: no expression is judged again. A CIE's program is run where the FDE before had another CIE; else what the FDE
-/// before changed is taken back. A contract sees what it sees of `RowSteps`.
+/// before changed is taken back. A row can be kept, and the rows behind it are compared with it by what was set since. A
+/// contract sees what it sees of `RowSteps`, and the row that was kept.
 #[derive(Drop)]
 pub struct RowWalk<'a> {
     progress: Progress,
@@ -183,12 +190,12 @@ pub struct RowWalk<'a> {
 }
 
 impl<'a> Model for RowWalk<'a> {
-    ghost use Rattle.dw_cfa.specs.Stepping.{Stepping};
+    ghost use Rattle.dw_cfa.specs.Walking.{Walking};
     ghost use Rattle.dw_cfa.specs.Inner.Walking.{WalksSo, walk_of};
 
-    ghost Value = { Stepping };
+    ghost Value = { Walking };
 
-    ghost view = { λ w. walk_of w.progress w.leading w.fde w.machine };
+    ghost view = { λ w. record { steps = walk_of w.progress w.leading w.fde w.machine; kept = w.machine.states.kept } };
 
     ghost invariant = { λ w. WalksSo w.progress w.kept w.leading w.fde w.machine };
 }
@@ -196,7 +203,7 @@ impl<'a> Model for RowWalk<'a> {
 impl<'a> RowWalk<'a> {
     /// No row is to come until `go_to` names programs. Takes no memory.
     pub fn new(alloc: Global, target: Target) -> RowWalk<'a>
-        ensures { result ≡ stepping blank finished }
+        ensures { result ≡ record { steps = stepping blank finished; kept = blank } }
     {
         let factors = Factors {
             code_factor: 0,
@@ -234,8 +241,9 @@ impl<'a> RowWalk<'a> {
     )
         requires begin { begin < address_limit target.size }
         requires known { (rows : List LocatedRow) × Gives factors (program_input cie_program target) (program_input fde_program target) begin rows }
-        ensures steps { self.new ≡ stepping self.old.current self.new.outcome }
-        ensures runs { RunsTo factors (program_input cie_program.entry target) (program_input fde_program.entry target) begin self.new.outcome }
+        ensures steps { self.new.steps ≡ stepping self.old.steps.current self.new.steps.outcome }
+        ensures runs { RunsTo factors (program_input cie_program.entry target) (program_input fde_program.entry target) begin self.new.steps.outcome }
+        ensures kept { self.new.kept ≡ self.old.kept }
     {
         are_bytes(cie_program.bytes);
         are_bytes(fde_program.bytes);
@@ -253,7 +261,8 @@ impl<'a> RowWalk<'a> {
     )
         requires begin { begin < address_limit target.size }
         requires known { (run_rows factors (program_input cie_program target) (program_input fde_program target) begin).fault ≡ None }
-        ensures { self.new ≡ stepping self.old.current (run_rows factors (program_input cie_program.entry target) (program_input fde_program.entry target) begin) }
+        ensures kept { self.new.kept ≡ self.old.kept }
+        ensures steps { self.new.steps ≡ stepping self.old.steps.current (run_rows factors (program_input cie_program.entry target) (program_input fde_program.entry target) begin) }
     {
         let leading = Leading {
             program: cie_program,
@@ -271,7 +280,8 @@ impl<'a> RowWalk<'a> {
     /// Goes on to the next row, which `row` lends then, and answers the location that it starts at, or none behind
     /// the last row. No row is copied. Want of memory is answered from then on, until `go_to`.
     pub fn advance(&mut self) -> Result<Option<u128>, ReadError>
-        ensures { Advances self.old result self.new }
+        ensures advances { Advances self.old.steps result self.new.steps }
+        ensures kept { self.new.kept ≡ self.old.kept }
     {
         let (fde, machine) = (&mut self.fde, &mut self.machine);
         let answer = match self.progress {
@@ -290,11 +300,12 @@ impl<'a> RowWalk<'a> {
     /// Goes on to the last row that starts at or below an address, which `row` lends then, where one of those still to come
     /// does. No row is copied. Want of memory is answered from then on, until `go_to`.
     pub fn advance_to(&mut self, address: u64) -> Result<(), ReadError>
-        requires no_error { self.old.error ≡ None }
-        requires never_falls { (low : ℕ) × NeverFalls low self.old.outcome.rows }
-        ensures found { (row : Rules) → last_at address self.old.outcome.rows ≡ Some row → OnOk result (self.new.current ≡ row) }
+        requires no_error { self.old.steps.error ≡ None }
+        requires never_falls { (low : ℕ) × NeverFalls low self.old.steps.outcome.rows }
+        ensures found { (row : Rules) → last_at address self.old.steps.outcome.rows ≡ Some row → OnOk result (self.new.steps.current ≡ row) }
         ensures err { IfErr result (λ e. e ≡ OutOfMemory) }
-        ensures again { MatchResult result (λ _. self.new.error ≡ None) (λ e. self.new.error ≡ Some e) }
+        ensures again { MatchResult result (λ _. self.new.steps.error ≡ None) (λ e. self.new.steps.error ≡ Some e) }
+        ensures kept { self.new.kept ≡ self.old.kept }
     {
         let (fde, machine) = (&mut self.fde, &mut self.machine);
         let (progress, leading, kept) = (self.progress, self.leading, &mut self.kept);
@@ -313,17 +324,51 @@ impl<'a> RowWalk<'a> {
 
     /// The row that `advance` went on to.
     pub fn row(&self) -> &Row<'a>
-        ensures { result.now ≡ self.now.current }
+        ensures { result.now ≡ self.now.steps.current }
     {
         self.machine.states.row()
+    }
+
+    /// Keeps the row that is lent, or answers want of memory, behind which it is some row that is kept. What was set
+    /// since a row was kept is copied alone.
+    pub fn keep(&mut self) -> Result<(), AllocError>
+        ensures kept { OnOk result (self.new.kept ≡ self.old.steps.current) }
+        ensures same { self.new.steps ≡ self.old.steps }
+    {
+        self.machine.states.keep()
+    }
+
+    /// The row that `keep` kept, and before it some row.
+    pub fn kept(&self) -> &Row<'a>
+        ensures { result.now ≡ self.now.kept }
+    {
+        self.machine.states.kept()
+    }
+
+    /// Whether the row that is lent is the one that was kept. Registers that were set since are compared alone. Takes no
+    /// memory.
+    pub fn is_kept(&self) -> bool
+        ensures { IsTrue result ↔ (self.now.kept ≡ self.now.steps.current) }
+    {
+        self.machine.states.is_kept()
+    }
+
+    /// The least register to which the row that is lent gives another rule than the one that was kept, of those behind a
+    /// given one where there is such; or none. Registers that were set since are compared alone. Takes no memory.
+    pub fn next_difference(&self, behind: Option<u16>) -> Option<u16>
+        ensures first { FirstDifference (place_behind behind) self.now.kept.registers self.now.steps.current.registers result }
+        ensures ascending { AreSpecified 0 self.now.kept.registers }
+        ensures other_ascending { AreSpecified 0 self.now.steps.current.registers }
+    {
+        self.machine.states.next_difference(behind)
     }
 
     /// The location that the next row starts at, which is where the row that is lent ends. None behind the last row, and
     /// after an error.
     pub fn next_start(&self) -> Option<u128>
-        ensures next { (row : LocatedRow) (rows : List LocatedRow) → self.now.outcome.rows ≡ row ∷ rows → result ≡ Some row.location }
-        ensures last { self.now.outcome ≡ finished → result ≡ None }
-        ensures none { result ≡ None → self.now.outcome ≡ finished }
+        ensures next { (row : LocatedRow) (rows : List LocatedRow) → self.now.steps.outcome.rows ≡ row ∷ rows → result ≡ Some row.location }
+        ensures last { self.now.steps.outcome ≡ finished → result ≡ None }
+        ensures none { result ≡ None → self.now.steps.outcome ≡ finished }
     {
         match self.progress {
             Progress::Begun | Progress::Running => Some(self.machine.location),
@@ -334,7 +379,7 @@ impl<'a> RowWalk<'a> {
     /// Whether each row still to come is known to specify every register that a row specifies: what a CIE's program
     /// specifies stays so. `false` says nothing. Takes no memory.
     pub fn keeps(&self, row: &Row<'_>) -> bool
-        ensures { IsTrue result → AllKeep row.now self.now.outcome.rows }
+        ensures { IsTrue result → AllKeep row.now self.now.steps.outcome.rows }
     {
         match self.progress {
             Progress::Begun => false,

@@ -1,11 +1,12 @@
 //! The addresses at which the rules of an FDE change (6.4.3), one at a time.
 
-ghost use Rattle.std.specs.Prelude.{◌≡◌, ◌+◌, ◌<◌, ◌↔◌, [], IsTrue, Some, None, true, IsErr, IfOk, OnOk, MatchOption};
+ghost use Rattle.std.specs.Prelude.{◌≡◌, ◌+◌, ◌<◌, ◌↔◌, [], IsTrue, Some, None, true, IsErr, IfOk, MatchOption};
 ghost use Rattle.dw_num.specs.Target.{address_limit};
-ghost use Rattle.dw_cfa.specs.Rows.{Rules};
+ghost use Rattle.dw_cfa.specs.Differing.{FirstDifference, place_behind};
+ghost use Rattle.dw_cfa.specs.Rows.{AreSpecified, Rules};
 ghost use Rattle.dw_cfa.specs.Walking.{AllKeep};
 ghost use Rattle.dw_section.specs.Changes.{Before, GivesAddress, GivesChange, FindsChange, changing, before_then};
-ghost use Rattle.dw_section.specs.Inner.Shown.{shown_of};
+ghost use Rattle.dw_section.specs.Inner.Shown.{shown_if, shown_of};
 ghost use Rattle.dw_section.specs.Inner.Lookup.{rows_of};
 
 use crate::rereading::{FoundFde, go_to_rows};
@@ -14,69 +15,27 @@ use dw_num::Target;
 use std::alloc::{AllocError, Global};
 use std::marker::Model;
 
-/// The row that was shown, or none, in room that is kept.
-#[derive(Drop)]
-pub(crate) struct Shown<'a> {
-    row: Row<'a>,
-    some: bool,
+// The row that a walk kept, where one was.
+fn kept_row<'w, 'a>(steps: &'w RowWalk<'a>, kept: bool) -> Option<&'w Row<'a>>
+    ensures { MatchOption result (shown_if kept steps.now.kept ≡ None) (λ row. shown_if kept steps.now.kept ≡ Some row.now) }
+{
+    if kept {
+        return Some(steps.kept());
+    }
+    None
 }
 
-impl<'a> Model for Shown<'a> {
-    ghost use Rattle.std.specs.Prelude.{Option};
-    ghost use Rattle.dw_cfa.specs.Rows.{Rules};
-    ghost use Rattle.dw_section.specs.Inner.Shown.{shown_if};
-
-    ghost Value = { Option Rules };
-
-    ghost view = { λ s. shown_if s.some s.row };
-}
-
-impl<'a> Shown<'a> {
-    fn none(alloc: Global) -> Shown<'a>
-        ensures { result ≡ None }
-    {
-        Shown {
-            row: Row::blank(alloc),
-            some: false,
-        }
-    }
-
-    fn forget(&mut self)
-        ensures { self.new ≡ None }
-    {
-        self.some = false;
-    }
-
-    fn row(&self) -> Option<&Row<'a>>
-        ensures { MatchOption result (self.now ≡ None) (λ row. self.now ≡ Some row.now) }
-    {
-        if self.some {
-            return Some(&self.row);
-        }
-        None
-    }
-
-    // Whether it is this row.
-    fn is(&self, row: &Row<'_>) -> bool
-        ensures { IsTrue result ↔ (self.now ≡ Some row.now) }
-    {
-        self.some && self.row.is_same(row)
-    }
-
-    // Keeps a row as the one that was shown.
-    fn keep(&mut self, row: &Row<'a>) -> Result<(), AllocError>
-        ensures { OnOk result (self.new ≡ Some row.now) }
-    {
-        self.row.become_copy(row)?;
-        self.some = true;
-        Ok(())
-    }
+// Whether the row that is lent is the one that was kept, where one was.
+fn is_shown(steps: &RowWalk<'_>, kept: bool) -> bool
+    ensures { IsTrue result ↔ (shown_if kept steps.now.kept ≡ Some steps.now.steps.current) }
+{
+    kept && steps.is_kept()
 }
 
 // Whether an address below the end shows the row that is lent, which starts here.
 fn is_visible(steps: &RowWalk<'_>, start: u128, end: u128) -> bool
-    requires { steps.now.outcome.fault ≡ None }
-    ensures { IsTrue result ↔ Before end start steps.now.outcome.rows }
+    requires { steps.now.steps.outcome.fault ≡ None }
+    ensures { IsTrue result ↔ Before end start steps.now.steps.outcome.rows }
 {
     match steps.next_start() {
         Some(next) => start < next && start < end,
@@ -84,14 +43,11 @@ fn is_visible(steps: &RowWalk<'_>, start: u128, end: u128) -> bool
     }
 }
 
-// Goes on to the next row that an address shows and that is not the one that was shown before.
-fn find_change<'a>(
-    steps: &mut RowWalk<'a>,
-    shown: &Shown<'_>,
-    end: u128,
-) -> Result<Option<u128>, AllocError>
-    requires { steps.old.outcome.fault ≡ None }
-    ensures { FindsChange end steps.old shown.now result steps.new }
+// Goes on to the next row that an address shows and that is not the one that was kept, where one was.
+fn find_change(steps: &mut RowWalk<'_>, kept: bool, end: u128) -> Result<Option<u128>, AllocError>
+    requires { steps.old.steps.outcome.fault ≡ None }
+    ensures finds { FindsChange end steps.old.steps (shown_if kept steps.old.kept) result steps.new.steps }
+    ensures kept { steps.new.kept ≡ steps.old.kept }
 {
     'rows: loop {
         let start = match steps.advance() {
@@ -99,27 +55,28 @@ fn find_change<'a>(
             Ok(None) => return Ok(None),
             Err(_) => return Err(AllocError),
         };
-        if is_visible(steps, start, end) && !shown.is(steps.row()) {
+        if is_visible(steps, start, end) && !is_shown(steps, kept) {
             return Ok(Some(start));
         }
     }
 }
 
 // Keeps the row that the walk lends, where it is the one that was shown last, and goes on to the next change.
-fn next_change<'a>(
-    steps: &mut RowWalk<'a>,
-    kept: &mut Shown<'a>,
+fn next_change(
+    steps: &mut RowWalk<'_>,
+    kept: &mut bool,
     lent: bool,
     end: u128,
 ) -> Result<Option<u128>, AllocError>
-    requires { steps.old.outcome.fault ≡ None }
-    ensures finds { FindsChange end steps.old (shown_of lent steps.old.current kept.old) result steps.new }
-    ensures kept { IfOk result (λ _. kept.new ≡ shown_of lent steps.old.current kept.old) }
+    requires { steps.old.steps.outcome.fault ≡ None }
+    ensures finds { FindsChange end steps.old.steps (shown_of lent steps.old.steps.current (shown_if kept.old steps.old.kept)) result steps.new.steps }
+    ensures kept { IfOk result (λ _. shown_if kept.new steps.new.kept ≡ shown_of lent steps.old.steps.current (shown_if kept.old steps.old.kept)) }
 {
     if lent {
-        kept.keep(steps.row())?;
+        steps.keep()?;
+        *kept = true;
     }
-    find_change(steps, kept, end)
+    find_change(steps, *kept, end)
 }
 
 /// The changes of an FDE: its begin, and each address below its end at which the rule of some column is not that
@@ -129,7 +86,8 @@ pub struct Changes<'a> {
     steps: RowWalk<'a>,
     // The row that was shown last is the one that the walk lends, and the one before it is kept.
     lent: bool,
-    kept: Shown<'a>,
+    // The walk kept a row that was shown.
+    kept: bool,
     end: u128,
     failed: bool,
 }
@@ -137,13 +95,13 @@ pub struct Changes<'a> {
 impl<'a> Model for Changes<'a> {
     ghost use Rattle.std.specs.Prelude.{◌≡◌, None};
     ghost use Rattle.dw_section.specs.Changes.{Changing};
-    ghost use Rattle.dw_section.specs.Inner.Shown.{shown_of, before_of};
+    ghost use Rattle.dw_section.specs.Inner.Shown.{shown_if, shown_of, before_of};
 
     ghost Value = { Changing };
 
-    ghost view = { λ c. record { rows = c.steps.outcome.rows; shown = shown_of c.lent c.steps.current c.kept; before = before_of c.lent c.kept; end = c.end; failed = c.failed } };
+    ghost view = { λ c. record { rows = c.steps.steps.outcome.rows; shown = shown_of c.lent c.steps.steps.current (shown_if c.kept c.steps.kept); before = before_of c.lent (shown_if c.kept c.steps.kept); end = c.end; failed = c.failed } };
 
-    ghost invariant = { λ c. c.steps.outcome.fault ≡ None };
+    ghost invariant = { λ c. c.steps.steps.outcome.fault ≡ None };
 }
 
 impl<'a> Changes<'a> {
@@ -154,7 +112,7 @@ impl<'a> Changes<'a> {
         Changes {
             steps: RowWalk::new(alloc, target),
             lent: false,
-            kept: Shown::none(alloc),
+            kept: false,
             end: 0,
             failed: false,
         }
@@ -168,7 +126,7 @@ impl<'a> Changes<'a> {
     {
         go_to_rows(&mut self.steps, fde, target);
         self.lent = false;
-        self.kept.forget();
+        self.kept = false;
         self.end = u128::from(fde.begin) + u128::from(fde.range);
         self.failed = false;
     }
@@ -197,7 +155,7 @@ impl<'a> Changes<'a> {
         if self.lent {
             return Some(self.steps.row());
         }
-        self.kept.row()
+        kept_row(&self.steps, self.kept)
     }
 
     /// The row of the change before the one that `row` lends. None at the first change, and behind the last one.
@@ -205,7 +163,23 @@ impl<'a> Changes<'a> {
         ensures { MatchOption result (self.now.before ≡ None) (λ row. self.now.before ≡ Some row.now) }
     {
         if self.lent {
-            return self.kept.row();
+            return kept_row(&self.steps, self.kept);
+        }
+        None
+    }
+
+    /// The least register to which the change that is shown gives another rule than the change before it, of those behind
+    /// a given one where there is such; or none. Takes no memory.
+    pub fn next_difference(&self, behind: Option<u16>) -> Option<u16>
+        ensures first { (before after : Rules) → self.now.before ≡ Some before → self.now.shown ≡ Some after → FirstDifference (place_behind behind) before.registers after.registers result }
+        ensures none { self.now.before ≡ None → result ≡ None }
+        ensures ascending { (before : Rules) → self.now.before ≡ Some before → AreSpecified 0 before.registers }
+        ensures other_ascending { (after : Rules) → self.now.shown ≡ Some after → AreSpecified 0 after.registers }
+    {
+        self.steps.row().ascends();
+        self.steps.kept().ascends();
+        if self.lent && self.kept {
+            return self.steps.next_difference(behind);
         }
         None
     }

@@ -21,7 +21,7 @@ fn row_in<'a>(
     target: Target,
 ) -> Result<(), AllocError>
     requires { (s : List ℕ) × RunsTo target s address fde.now }
-    ensures { (s : List ℕ) → RunsTo target s address fde.now → OnOk result (RulesAt target s address steps.new.current) }
+    ensures { (s : List ℕ) → RunsTo target s address fde.now → OnOk result (RulesAt target s address steps.new.steps.current) }
 {
     go_to_rows(steps, fde, target);
     match steps.advance_to(address) {
@@ -45,7 +45,7 @@ impl<'t, 'a> Model for Lookups<'t, 'a> {
 
     ghost Value = { Finding };
 
-    ghost view = { λ l. record { section = l.table.now; row = shown_if l.found l.steps.current } };
+    ghost view = { λ l. record { section = l.table.now; row = shown_if l.found l.steps.steps.current } };
 }
 
 impl<'t, 'a> Lookups<'t, 'a> {

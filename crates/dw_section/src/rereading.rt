@@ -35,7 +35,7 @@ pub(crate) struct FoundFde<'a> {
 pub(crate) fn go_to_rows<'a>(steps: &mut RowWalk<'a>, fde: &FoundFde<'a>, target: Target)
     requires in_space { fde.now.begin < address_limit target.size }
     requires no_fault { (rows_of target fde.now).fault ≡ None }
-    ensures { steps.new ≡ stepping steps.old.current (rows_of target fde.now) }
+    ensures { steps.new.steps ≡ stepping steps.old.steps.current (rows_of target fde.now) }
 {
     let (cie, program) = (fde.cie_program, fde.program);
     are_bytes(cie.bytes);

@@ -6,11 +6,13 @@ use Rattle.dw_cfa.specs.declared.states.Undo.{Undo}
 use Rattle.dw_cfa.specs.declared.states.Undo.TheVariants.{Remembered, Register}
 use Rattle.dw_cfa.specs.Rows.{Rules, with_cfa, with_rule}
 
--- the current row, the remembered ones, the last first, and the registers that all began with, where they can be brought back
+-- the current row, the remembered ones, the last first, the registers that all began with, where they can be brought back,
+-- and a row that was kept
 pub record Held : Type 0 where
   pub row : Rules
   pub stack : List Rules
   pub first : Option (List (ℕ × RegRule))
+  pub kept : Rules
 
 -- the remembered rows: what was changed since is taken back from the current one
 unfoldable pub remembered_rows : Rules → List Undo → List Rules
@@ -34,8 +36,8 @@ abbrev pub first_if : Bool → Rules → List Undo → Option (List (ℕ × RegR
 first_if true row changes = Some (first_registers row changes)
 first_if false row changes = None
 
-abbrev pub held : Bool → Rules → List Undo → Held
-held tracked row undo = record { row = row; stack = remembered_rows row (reverse undo); first = first_if tracked row (reverse undo) }
+abbrev pub held : Bool → Rules → Rules → List Undo → Held
+held tracked row kept undo = record { row = row; stack = remembered_rows row (reverse undo); first = first_if tracked row (reverse undo); kept = kept }
 
 -- the registers that can be brought back are those of the initial row
 abbrev pub BeganWith : Rules → Option (List (ℕ × RegRule)) → Type 0

@@ -3,7 +3,9 @@ use Rattle.dw_cfa.specs.Inner.Runs.{RunsSo, rows_left}
 use Rattle.dw_cfa.proofs.running.next_row.Given as goal
 
 abbrev pub invariant-instrs : goal.invariant-instrs
-invariant-instrs l = RunsSo l.machine l.cursor × (l.machine.initial ≡ l.initial.machine.initial) × (rows_left l.factors l.initial.cursor l.initial.machine ≡ rows_left l.factors l.cursor l.machine)
+invariant-instrs l =
+    RunsSo l.machine l.cursor × (l.machine.initial ≡ l.initial.machine.initial) × (rows_left l.factors l.initial.cursor l.initial.machine ≡ rows_left l.factors l.cursor l.machine)
+    × (l.machine.states.kept ≡ l.initial.machine.states.kept)
 
 abbrev pub decreases-instrs : goal.decreases-instrs
 decreases-instrs l = length l.cursor.bytes

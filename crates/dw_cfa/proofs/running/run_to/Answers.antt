@@ -27,6 +27,7 @@ instrs-preserved c =
       falls_left f l.cursor l.machine j m moved a l.invariant.3,
       λ row e. goes_on f l.cursor l.machine j m moved a l.invariant.2 (omega (arith, c.if-machine-address.false)) row (l.invariant.4 row e),
       λ other all. keeps_left f l.cursor l.machine j m moved a other (l.invariant.5 other all),
+      c.in-Moved.ensures.kept ∙ l.invariant.6,
     )
 
 pub instrs-preserved-in-On : goal.instrs-preserved-in-On
@@ -40,6 +41,7 @@ instrs-preserved-in-On c =
       subst (λ (o : Outcome). (low : ℕ) × NeverFalls low o.rows) same l.invariant.3,
       λ row e. sym (ap (λ (o : Outcome). last_at c.from-address.result o.rows) same) ∙ l.invariant.4 row e,
       λ other all. subst (λ (o : Outcome). AllSpecify other o.rows) same (l.invariant.5 other all),
+      c.in-On.ensures.kept ∙ l.invariant.6,
     )
 
 pub returns-clause-found : goal.returns-clause-found
@@ -52,3 +54,12 @@ pub returns-then-machine-address-clause-keeps : goal.returns-then-machine-addres
 returns-then-machine-address-clause-keeps c other all =
     let l = c.instrs in
     keeps_left c.args.factors l.cursor l.machine c.turn.new.cursor c.turn.new.machine c.in-Moved.ensures.turned c.from-address.result other (l.invariant.5 other all)
+
+pub returns-then-machine-address-clause-kept : goal.returns-then-machine-address-clause-kept
+returns-then-machine-address-clause-kept c = c.turn.ensures.kept ∙ c.instrs.invariant.6
+
+pub returns-in-OutOfMemory-clause-kept : goal.returns-in-OutOfMemory-clause-kept
+returns-in-OutOfMemory-clause-kept c = c.turn.ensures.kept ∙ c.instrs.invariant.6
+
+pub returns-clause-kept : goal.returns-clause-kept
+returns-clause-kept c = c.instrs.invariant.6

@@ -11,6 +11,7 @@ invariant-instrs l =
     × ((low : ℕ) × NeverFalls low (rows_left l.factors l.cursor l.machine).rows)
     × ((row : Rules) → last_at l.address (rows_left l.factors l.initial.cursor l.initial.machine).rows ≡ Some row → last_at l.address (rows_left l.factors l.cursor l.machine).rows ≡ Some row)
     × ((other : Rules) → AllSpecify other (rows_left l.factors l.initial.cursor l.initial.machine).rows → AllSpecify other (rows_left l.factors l.cursor l.machine).rows)
+    × (l.machine.states.kept ≡ l.initial.machine.states.kept)
 
 abbrev pub decreases-instrs : goal.decreases-instrs
 decreases-instrs l = length l.cursor.bytes

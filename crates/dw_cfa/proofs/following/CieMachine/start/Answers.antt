@@ -14,6 +14,6 @@ returns-clause-ok c =
     let i = program_input c.args.fde_program s.target in
     ap (λ (rows : _). with_steps (record { initial = initial; factors = s.factors; target = s.target; steps = old.steps }) (stepping c.rewind.new.self.row rows))
     (started s.factors c.new-self-inside.result i (record { initial = initial; states = c.rewind.new.self; location = c.from-machine.result; limit = c.address_limit-machine.result })
-    initial c.args.begin c.new-self-inside.ensures refl c.in_default.ensures.0 c.in_default.ensures.1 c.from-machine.ensures c.address_limit-machine.ensures)
-    ∙ ap (λ (row : Rules). with_steps (record { initial = initial; factors = s.factors; target = s.target; steps = old.steps }) (stepping row (rows_behind s.factors initial i c.args.begin))) c.in_default.ensures.0
+    initial c.args.begin c.new-self-inside.ensures refl c.in_default.ensures.rewound.0 c.in_default.ensures.rewound.1 c.from-machine.ensures c.address_limit-machine.ensures)
+    ∙ ap (λ (row : Rules). with_steps (record { initial = initial; factors = s.factors; target = s.target; steps = old.steps }) (stepping row (rows_behind s.factors initial i c.args.begin))) c.in_default.ensures.rewound.0
     ∙ ap (λ (f : Following). with_steps f (stepping f.initial (rows_behind f.factors f.initial (program_input c.args.fde_program f.target) c.args.begin))) c.self.view_is

@@ -10,27 +10,27 @@ use Rattle.dw_cfa.proofs.row.Entries.next_near_difference.Goals as goal
 pub returns-then-left-eq0 : goal.returns-then-left-eq0
 returns-then-left-eq0 c =
     let e = c.args.self.now in let f = c.args.others.now in let k = c.slots.place in
-    let none : c.args.used / 2 ^ k ≡ 0 = omega (arith, c.if-left-eq0.true) in
-    same_on c.args.from k 32 (entries_of e) (entries_of f) c.slots.invariant.1 (none_left e f c.requires.so c.requires.others c.args.used c.requires.used k none)
+    let none : c.args.mask / 2 ^ k ≡ 0 = omega (arith, c.if-left-eq0.true) in
+    same_on c.args.from k 32 (entries_of e) (entries_of f) c.slots.invariant.1 (none_left c.args.mask (entries_of e) (entries_of f) c.requires.mask k none)
 
 pub bounds-self-at : goal.bounds-self-at
 bounds-self-at c =
-    let some : 0 < c.args.used / 2 ^ c.slots.place = omega arith in let fits : c.args.used < 2 ^ 32 = omega arith in
-    let next = up_to_next c.args.self.now c.args.others.now c.requires.so c.requires.others c.args.used c.requires.used c.slots.place fits c.slots-test.true some in
+    let some : 0 < c.args.mask / 2 ^ c.slots.place = omega arith in let fits : c.args.mask < 2 ^ 32 = omega arith in
+    let next = up_to_next c.args.mask (entries_of c.args.self.now) (entries_of c.args.others.now) c.requires.mask c.slots.place fits c.slots-test.true some in
     omega (arith, next.0, c.from-at.ensures)
 
 pub bounds-others-at : goal.bounds-others-at
 bounds-others-at c =
-    let some : 0 < c.args.used / 2 ^ c.slots.place = omega arith in let fits : c.args.used < 2 ^ 32 = omega arith in
-    let next = up_to_next c.args.self.now c.args.others.now c.requires.so c.requires.others c.args.used c.requires.used c.slots.place fits c.slots-test.true some in
+    let some : 0 < c.args.mask / 2 ^ c.slots.place = omega arith in let fits : c.args.mask < 2 ^ 32 = omega arith in
+    let next = up_to_next c.args.mask (entries_of c.args.self.now) (entries_of c.args.others.now) c.requires.mask c.slots.place fits c.slots-test.true some in
     omega (arith, next.0, c.from-at.ensures)
 
 pub returns-then-not-same_slots : goal.returns-then-not-same_slots
 returns-then-not-same_slots c =
     let e = c.args.self.now in let f = c.args.others.now in let k = c.slots.place in
-    let some : 0 < c.args.used / 2 ^ k = omega arith in let fits : c.args.used < 2 ^ 32 = omega arith in
-    let next = up_to_next e f c.requires.so c.requires.others c.args.used c.requires.used k fits c.slots-test.true some in
-    let q = k + trailing_zeros w32 (c.args.used / 2 ^ k) in
+    let some : 0 < c.args.mask / 2 ^ k = omega arith in let fits : c.args.mask < 2 ^ 32 = omega arith in
+    let next = up_to_next c.args.mask (entries_of e) (entries_of f) c.requires.mask k fits c.slots-test.true some in
+    let q = k + trailing_zeros w32 (c.args.mask / 2 ^ k) in
     let one = slot_at e c.requires.so q c.from-at.result next.0 c.from-at.ensures in
     let two = slot_at f c.requires.others q c.from-at.result next.0 c.from-at.ensures in
     let differs : same_rule (rule_in (entries_of e) q) (rule_in (entries_of f) q) ≡ false = rw (sym one, sym two) (sym c.if-not-same_slots.ensures.test) in
@@ -39,9 +39,9 @@ returns-then-not-same_slots c =
 pub slots-preserved : goal.slots-preserved
 slots-preserved c =
     let e = c.args.self.now in let f = c.args.others.now in let k = c.slots.place in
-    let some : 0 < c.args.used / 2 ^ k = omega arith in let fits : c.args.used < 2 ^ 32 = omega arith in
-    let next = up_to_next e f c.requires.so c.requires.others c.args.used c.requires.used k fits c.slots-test.true some in
-    let q = k + trailing_zeros w32 (c.args.used / 2 ^ k) in
+    let some : 0 < c.args.mask / 2 ^ k = omega arith in let fits : c.args.mask < 2 ^ 32 = omega arith in
+    let next = up_to_next c.args.mask (entries_of e) (entries_of f) c.requires.mask k fits c.slots-test.true some in
+    let q = k + trailing_zeros w32 (c.args.mask / 2 ^ k) in
     let one = slot_at e c.requires.so q c.from-at.result next.0 c.from-at.ensures in
     let two = slot_at f c.requires.others q c.from-at.result next.0 c.from-at.ensures in
     let same = sym one ∙ c.if-not-same_slots.ensures.same.0 refl ∙ two in

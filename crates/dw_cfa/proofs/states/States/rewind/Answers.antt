@@ -1,6 +1,7 @@
 use Rattle.std.proofs.Common.{ap, ◌∙◌}
 use Rattle.dw_cfa.specs.Rows.{with_cfa}
 use Rattle.dw_cfa.specs.declared.rule.CfaRule.{CfaRule}
+use Rattle.dw_cfa.specs.Inner.Marks.{Watching}
 use Rattle.dw_cfa.proofs.StatesLaws.{begun_count, rewound}
 use Rattle.dw_cfa.proofs.states.States.rewind.Goals as goal
 
@@ -10,7 +11,8 @@ invariant_of-self c = begun_count c.clear.new.self.items c.clear.ensures.items
 pub invariant_of-self-2 : goal.invariant_of-self-2
 invariant_of-self-2 c = begun_count c.clear.new.self.items c.clear.ensures.items
 
-pub returns : goal.returns
-returns c =
-    rewound c.self.inside.tracked c.args.initial.now c.first_again-taken.new.row c.set_cfa.new.self c.clear.new.self.items c.in_ok-taken.ensures
-    (c.set_cfa.ensures ∙ ap (λ (cfa : CfaRule). with_cfa cfa c.first_again-taken.new.row) c.cfa.ensures) c.clear.ensures.items
+pub returns-clause-rewound : goal.returns-clause-rewound
+returns-clause-rewound c =
+    let row = c.first_again-taken.new.rows.row in
+    rewound c.self.inside.tracked c.args.initial.now row c.set_cfa.new.self.row c.set_cfa.new.self.kept c.clear.new.self.items c.in_ok-taken.ensures.registers
+    (ap (λ (w : Watching). w.row) c.set_cfa.ensures ∙ ap (λ (cfa : CfaRule). with_cfa cfa row) c.cfa.ensures) c.clear.ensures.items

@@ -8,5 +8,5 @@ invariant_of-self c = begun_count c.clear.new.self.items c.clear.ensures.items
 
 pub returns : goal.returns
 returns c =
-    begun_held c.args.tracked c.self.inside.row c.clear.new.self.items c.clear.ensures.items
-    ∙ ap (λ (h : Held). let same : Held = record { row = h.row; stack = []; first = first_if c.args.tracked h.row [] } in same) c.self.view_is
+    begun_held c.args.tracked c.self.inside.rows.row c.self.inside.rows.kept c.clear.new.self.items c.clear.ensures.items
+    ∙ ap (λ (h : Held). let same : Held = record { row = h.row; stack = []; first = first_if c.args.tracked h.row []; kept = h.kept } in same) c.self.view_is

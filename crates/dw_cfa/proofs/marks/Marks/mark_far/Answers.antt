@@ -1,0 +1,19 @@
+use Rattle.std.proofs.Common.{refl}
+use Rattle.dw_cfa.proofs.Marked.{tree_so, tree_marked, tree_more}
+use Rattle.dw_cfa.proofs.marks.Marks.mark_far.Goals as goal
+
+pub returns-clause-so : goal.returns-clause-so
+returns-clause-so c =
+    tree_so c.set_in_tree.result c.args.register c.args.self.now.far.entries c.set_in_tree.new.entries.entries c.requires.so c.set_in_tree.ensures.ok c.set_in_tree.ensures.err
+
+pub returns-clause-marked : goal.returns-clause-marked
+returns-clause-marked c =
+    tree_marked c.set_in_tree.result c.args.register c.args.self.now.far.entries c.set_in_tree.new.entries.entries c.requires.so
+    (record { watched = c.args.self.now.watched; near = c.args.self.now.near; far = c.set_in_tree.new.entries }) refl c.requires.far c.set_in_tree.ensures.ok
+
+pub returns-clause-more : goal.returns-clause-more
+returns-clause-more c r none = record {
+  watched = none.watched;
+  near = none.near;
+  far = λ le. tree_more c.set_in_tree.result c.args.register c.args.self.now.far.entries c.set_in_tree.new.entries.entries c.requires.so c.set_in_tree.ensures.ok c.set_in_tree.ensures.err r (none.far le);
+}

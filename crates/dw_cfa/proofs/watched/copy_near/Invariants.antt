@@ -1,0 +1,9 @@
+use Rattle.std.proofs.Common.{◌-◌, ◌≤◌}
+use Rattle.dw_cfa.specs.Inner.Marks.{CopiedUpTo}
+use Rattle.dw_cfa.proofs.watched.copy_near.Given as goal
+
+abbrev pub invariant-slots : goal.invariant-slots
+invariant-slots l = (l.place ≤ 32) × CopiedUpTo l.place l.row.registers l.initial.kept.registers l.kept.registers
+
+abbrev pub decreases-slots : goal.decreases-slots
+decreases-slots l = 32 - l.place

@@ -1,0 +1,34 @@
+use Rattle.std.proofs.Common.{ℕ, List, refl, sym, subst, ◌∙◌}
+use Rattle.std.specs.Ordering.{nat_cmp}
+use Rattle.std.specs.BTreeMap.Range.{range_contains}
+use Rattle.std.specs.declared.ops.Bound.{Bound}
+use Rattle.std.specs.declared.ops.Bound.TheVariants.{Unbounded}
+use Rattle.dw_cfa.specs.Differing.{place_behind}
+use Rattle.dw_cfa.specs.Rows.{AreSpecified}
+use Rattle.dw_cfa.specs.Inner.Marks.{SameUnlisted}
+use Rattle.dw_cfa.proofs.RowLists.{Entry}
+use Rattle.dw_cfa.proofs.Differing.{FromOn, range_on}
+use Rattle.dw_cfa.proofs.Marked.{from_ascends, from_unlisted, differs_here, same_here}
+use Rattle.dw_cfa.proofs.watched.next_far_difference.Goals as goal
+
+pub marks-init : goal.marks-init
+marks-init c =
+    let from = place_behind c.args.behind in let start = c.start_behind.result in let far = c.args.marked.now.entries in
+    let on = subst (λ (b : Bound ℕ). FromOn (λ (x : Entry). range_contains nat_cmp b Unbounded x.0) from) (sym c.start_behind.ensures) (range_on c.args.behind) in
+    let p = λ (x : Entry). range_contains nat_cmp start Unbounded x.0 in
+    let is = sym (c.range-marks.ensures.between tt) in (
+      subst (AreSpecified from) is (from_ascends p from on 0 far c.requires.marked),
+      subst (λ (l : List Entry). SameUnlisted from l c.args.kept.now.registers c.args.row.now.registers) is (from_unlisted p from on 0 far c.args.kept.now.registers c.args.row.now.registers c.requires.marked c.requires.same),
+    )
+
+pub returns-then-not-is_same : goal.returns-then-not-is_same
+returns-then-not-is_same c =
+    let x : Entry = (c.in-Some.register.now, c.in-Some.field-0-1.now) in let inv = c.marks.invariant in
+    differs_here (place_behind c.args.behind) c.marks.marks c.next.new.self c.args.kept.now.registers c.args.row.now.registers x c.in-Some.ensures.steps inv.0 inv.1
+    (rw (sym c.rule.ensures, sym c.rule-in-Some.ensures) (sym c.if-not-is_same.ensures.test))
+
+pub marks-preserved : goal.marks-preserved
+marks-preserved c =
+    let x : Entry = (c.in-Some.register.now, c.in-Some.field-0-1.now) in let inv = c.marks.invariant in
+    same_here (place_behind c.args.behind) c.marks.marks c.next.new.self c.args.kept.now.registers c.args.row.now.registers x c.in-Some.ensures.steps inv.0 inv.1
+    (sym c.rule.ensures ∙ c.if-not-is_same.ensures.same.0 refl ∙ c.rule-in-Some.ensures)

@@ -1,0 +1,46 @@
+-- The registers that were set since a row was kept: those below 32 in a mask, the others in a tree.
+use Rattle.std.specs.Prelude.{◌≡◌, ℕ, ◌<◌, ◌≤◌, List, IsTrue}
+use Rattle.std.specs.Int.{bit_at}
+use Rattle.dw_cfa.specs.declared.marks.Marks.{Marks}
+use Rattle.dw_cfa.specs.declared.rule.RegRule.{RegRule}
+use Rattle.dw_cfa.specs.declared.rule.RegRule.TheVariants.{Unspecified}
+use Rattle.dw_cfa.specs.Rows.{Rules, AreSpecified, rule_in}
+
+-- registers are watched, and this one has no mark
+pub record Unmarked (m : Marks) (r : ℕ) : Type 0 where
+  pub watched : IsTrue m.watched
+  pub near : r < 32 → bit_at m.near r ≡ 0
+  pub far : 32 ≤ r → rule_in m.far.entries r ≡ Unspecified
+
+abbrev pub MarksSo : Marks → Type 0
+MarksSo m = AreSpecified 0 m.far.entries
+
+-- no mark was lost
+abbrev pub MarksMore : Marks → Marks → Type 0
+MarksMore old new = (r : ℕ) → Unmarked new r → Unmarked old r
+
+-- registers without a mark have the same rules
+abbrev pub SameUnmarked : Marks → List (ℕ × RegRule) → List (ℕ × RegRule) → Type 0
+SameUnmarked m xs ys = (r : ℕ) → Unmarked m r → rule_in xs r ≡ rule_in ys r
+
+-- those that a tree lacks, of the registers from one on
+abbrev pub SameUnlisted : ℕ → List (ℕ × RegRule) → List (ℕ × RegRule) → List (ℕ × RegRule) → Type 0
+SameUnlisted from far xs ys = (r : ℕ) → from ≤ r → rule_in far r ≡ Unspecified → rule_in xs r ≡ rule_in ys r
+
+-- up to a register these rules were copied, and from there on all are as they were
+pub record CopiedUpTo (k : ℕ) (xs old new : List (ℕ × RegRule)) : Type 0 where
+  pub below : (r : ℕ) → r < k → rule_in new r ≡ rule_in xs r
+  pub above : (r : ℕ) → k ≤ r → rule_in new r ≡ rule_in old r
+
+-- ---- the current row and the kept one
+
+pub record Watching : Type 0 where
+  pub row : Rules
+  pub kept : Rules
+
+abbrev pub watching : Rules → Rules → Watching
+watching row kept = record { row = row; kept = kept }
+
+pub record WatchedSo (m : Marks) (kept row : Rules) : Type 0 where
+  pub marks : MarksSo m
+  pub same : SameUnmarked m kept.registers row.registers

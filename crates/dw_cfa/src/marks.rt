@@ -1,0 +1,82 @@
+//! The registers that were set since a row was kept.
+
+ghost use Rattle.std.specs.Prelude.{◌≤◌, ℕ, OnOk};
+ghost use Rattle.dw_cfa.specs.Inner.Marks.{MarksMore, MarksSo, Unmarked};
+
+use crate::row::NEAR;
+use crate::rule::RegRule;
+use crate::tree::set_in_tree;
+use std::alloc::{AllocError, Global};
+use std::collections::BTreeMap;
+
+/// The registers that were set: those below 32 in a mask, and the others in a tree, where each has a rule of no meaning.
+/// Where none is watched, any may have been set.
+#[derive(Drop)]
+pub(crate) struct Marks<'a> {
+    pub(crate) watched: bool,
+    pub(crate) near: u32,
+    pub(crate) far: BTreeMap<u16, RegRule<'a>>,
+}
+
+impl<'a> Marks<'a> {
+    /// Watches none.
+    pub(crate) fn none(alloc: Global) -> Marks<'a>
+        ensures so { MarksSo result }
+        ensures none { (r : ℕ) → Unmarked result r → ⊥ }
+    {
+        Marks {
+            watched: false,
+            near: 0,
+            far: BTreeMap::new(alloc),
+        }
+    }
+
+    /// Watches none any more.
+    pub(crate) fn forget(&mut self)
+        requires { MarksSo self.old }
+        ensures so { MarksSo self.new }
+        ensures none { (r : ℕ) → Unmarked self.new r → ⊥ }
+    {
+        self.watched = false;
+    }
+
+    /// Watches all, of which none was set yet.
+    pub(crate) fn begin(&mut self)
+        ensures { MarksSo self.new }
+    {
+        self.watched = true;
+        self.near = 0;
+        if !self.far.is_empty() {
+            self.far.clear();
+        }
+    }
+
+    #[inline(never)]
+    fn mark_far(&mut self, register: u16) -> Result<(), AllocError>
+        requires so { MarksSo self.old }
+        requires far { 32 ≤ register }
+        ensures so { MarksSo self.new }
+        ensures marked { OnOk result (Unmarked self.new register → ⊥) }
+        ensures more { MarksMore self.old self.new }
+    {
+        set_in_tree(&mut self.far, register, RegRule::SameValue)
+    }
+
+    /// Marks a register that is set, or answers want of memory.
+    #[inline(always)]
+    pub(crate) fn mark(&mut self, register: u16) -> Result<(), AllocError>
+        requires { MarksSo self.old }
+        ensures so { MarksSo self.new }
+        ensures marked { OnOk result (Unmarked self.new register → ⊥) }
+        ensures more { MarksMore self.old self.new }
+    {
+        if register < NEAR {
+            self.near |= 1 << register;
+            return Ok(());
+        }
+        if self.watched {
+            return self.mark_far(register);
+        }
+        Ok(())
+    }
+}

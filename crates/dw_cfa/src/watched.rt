@@ -1,0 +1,227 @@
+//! The current row beside one that was kept (6.4.1).
+
+ghost use Rattle.std.specs.Prelude.{◌≡◌, ℕ, ◌↔◌, IfOk, IsTrue, OnErr, OnOk};
+ghost use Rattle.dw_cfa.specs.Differing.{FirstDifference, SameUnset, place_behind};
+ghost use Rattle.dw_cfa.specs.Rows.{AreSpecified, blank, rule_in, with_cfa, with_rule};
+ghost use Rattle.dw_cfa.specs.Inner.Marks.{CopiedUpTo, MarksSo, SameUnlisted, SameUnmarked, watching};
+
+use crate::marks::Marks;
+use crate::row::{NEAR, Row, place_behind, start_behind};
+use crate::rule::{CfaRule, RegRule};
+use std::alloc::{AllocError, Global};
+use std::collections::BTreeMap;
+use std::marker::Model;
+use std::ops::Bound;
+
+// Copies the rules of the registers in a mask.
+fn copy_near<'a>(row: &Row<'a>, kept: &mut Row<'a>, mask: u32) -> Result<(), AllocError>
+    requires { SameUnset mask kept.old.registers row.now.registers }
+    ensures { OnOk result (CopiedUpTo 32 row.now.registers kept.old.registers kept.new.registers) }
+{
+    let mut place = 0;
+    'slots: while place < 32 {
+        let left = mask >> place;
+        if left == 0 {
+            return Ok(());
+        }
+        place += left.trailing_zeros();
+        let register = place as u16;
+        kept.ascends();
+        kept.set(register, row.rule(register))?;
+        place += 1;
+    }
+    Ok(())
+}
+
+// Copies the rules of the registers in a tree.
+fn copy_far<'a>(
+    row: &Row<'a>,
+    kept: &mut Row<'a>,
+    marked: &BTreeMap<u16, RegRule<'_>>,
+) -> Result<(), AllocError>
+    requires { SameUnlisted 0 marked.now.entries kept.old.registers row.now.registers }
+    ensures { OnOk result ((r : ℕ) → rule_in kept.new.registers r ≡ rule_in row.now.registers r) }
+{
+    let mut marks = marked.iter();
+    'marks: while let Some((register, _)) = marks.next() {
+        kept.ascends();
+        kept.set(*register, row.rule(*register))?;
+    }
+    Ok(())
+}
+
+// Makes a row that differs in marked registers alone a copy of another one.
+fn copy_marked<'a>(row: &Row<'a>, kept: &mut Row<'a>, marks: &Marks<'a>) -> Result<(), AllocError>
+    requires { SameUnmarked marks.now kept.old.registers row.now.registers }
+    ensures { OnOk result (kept.new ≡ row.now) }
+{
+    if !marks.watched {
+        return kept.become_copy(row);
+    }
+    copy_near(row, kept, marks.near)?;
+    copy_far(row, kept, &marks.far)?;
+    kept.set_cfa(row.cfa());
+    kept.ascends();
+    row.ascends();
+    Ok(())
+}
+
+// The first register behind another one, or from the first one on, that is in a tree and whose rule differs.
+fn next_far_difference(
+    kept: &Row<'_>,
+    row: &Row<'_>,
+    marked: &BTreeMap<u16, RegRule<'_>>,
+    behind: Option<u16>,
+) -> Option<u16>
+    requires marked { AreSpecified 0 marked.now.entries }
+    requires same { SameUnlisted (place_behind behind) marked.now.entries kept.now.registers row.now.registers }
+    ensures { FirstDifference (place_behind behind) kept.now.registers row.now.registers result }
+{
+    let mut marks = marked.range((start_behind(behind), Bound::Unbounded));
+    'marks: while let Some((register, _)) = marks.next() {
+        if !kept.rule(*register).is_same(&row.rule(*register)) {
+            return Some(*register);
+        }
+    }
+    None
+}
+
+/// The current row, and one that was kept. Which registers were set since is known, so that both are compared, and the
+/// current one kept, by these alone.
+#[derive(Drop)]
+pub(crate) struct WatchedRow<'a> {
+    row: Row<'a>,
+    kept: Row<'a>,
+    marks: Marks<'a>,
+}
+
+impl<'a> Model for WatchedRow<'a> {
+    ghost use Rattle.dw_cfa.specs.Inner.Marks.{Watching, WatchedSo, watching};
+
+    ghost Value = { Watching };
+
+    ghost view = { λ w. watching w.row w.kept };
+
+    ghost invariant = { λ w. WatchedSo w.marks w.kept w.row };
+}
+
+impl<'a> WatchedRow<'a> {
+    /// Nothing is watched until `keep`.
+    pub(crate) fn new(alloc: Global, row: Row<'a>) -> WatchedRow<'a>
+        ensures { result ≡ watching row.entry blank }
+    {
+        WatchedRow {
+            row,
+            kept: Row::blank(alloc),
+            marks: Marks::none(alloc),
+        }
+    }
+
+    pub(crate) fn row(&self) -> &Row<'a>
+        ensures { result.now ≡ self.now.row }
+    {
+        &self.row
+    }
+
+    pub(crate) fn kept(&self) -> &Row<'a>
+        ensures { result.now ≡ self.now.kept }
+    {
+        &self.kept
+    }
+
+    pub(crate) fn into_row(self) -> Row<'a>
+        ensures { result ≡ self.entry.row }
+    {
+        self.row
+    }
+
+    pub(crate) fn set_cfa(&mut self, cfa: CfaRule<'a>)
+        ensures { self.new ≡ watching (with_cfa cfa.entry self.old.row) self.old.kept }
+    {
+        self.row.set_cfa(cfa);
+    }
+
+    /// Gives a register a rule, or answers want of memory.
+    #[inline(always)]
+    pub(crate) fn set(&mut self, register: u16, rule: RegRule<'a>) -> Result<(), AllocError>
+        ensures ok { OnOk result (self.new ≡ watching (with_rule register rule.entry self.old.row) self.old.kept) }
+        ensures err { OnErr result (self.new ≡ self.old) }
+    {
+        self.marks.mark(register)?;
+        self.row.ascends();
+        self.row.set(register, rule)
+    }
+
+    /// Gives a register a rule and answers the one that it had, or want of memory.
+    #[inline(always)]
+    pub(crate) fn exchange(
+        &mut self,
+        register: u16,
+        rule: RegRule<'a>,
+    ) -> Result<RegRule<'a>, AllocError>
+        ensures ok { IfOk result (λ older. self.new ≡ watching (with_rule register rule.entry self.old.row) self.old.kept) }
+        ensures back { IfOk result (λ older. with_rule register older self.new.row ≡ self.old.row) }
+        ensures err { OnErr result (self.new ≡ self.old) }
+    {
+        self.marks.mark(register)?;
+        self.row.ascends();
+        self.row.exchange(register, rule)
+    }
+
+    /// Goes on with another row.
+    pub(crate) fn become_row(&mut self, row: Row<'a>)
+        ensures { self.new ≡ watching row.entry self.old.kept }
+    {
+        self.marks.forget();
+        self.row = row;
+    }
+
+    /// Goes on with a copy of another row, or answers want of memory.
+    pub(crate) fn become_copy(&mut self, other: &Row<'a>) -> Result<(), AllocError>
+        ensures ok { OnOk result (self.new.row ≡ other.now) }
+        ensures kept { self.new.kept ≡ self.old.kept }
+    {
+        self.marks.forget();
+        self.row.become_copy(other)
+    }
+
+    /// Keeps the current row, or answers want of memory. What is kept is some row then.
+    pub(crate) fn keep(&mut self) -> Result<(), AllocError>
+        ensures ok { OnOk result (self.new ≡ watching self.old.row self.old.row) }
+        ensures row { self.new.row ≡ self.old.row }
+    {
+        let copied = copy_marked(&self.row, &mut self.kept, &self.marks);
+        if copied.is_err() {
+            self.marks.forget();
+            return copied;
+        }
+        self.marks.begin();
+        copied
+    }
+
+    /// The least register to which the current row gives another rule than the kept one, of those behind a given one where
+    /// there is such; or none.
+    pub(crate) fn next_difference(&self, behind: Option<u16>) -> Option<u16>
+        ensures first { FirstDifference (place_behind behind) self.now.kept.registers self.now.row.registers result }
+        ensures ascending { AreSpecified 0 self.now.kept.registers }
+        ensures other_ascending { AreSpecified 0 self.now.row.registers }
+    {
+        let (kept, row, marks) = (&self.kept, &self.row, &self.marks);
+        kept.ascends();
+        row.ascends();
+        if !marks.watched {
+            return kept.next_difference(row, behind);
+        }
+        if let Some(register) = kept.next_near_difference(row, marks.near, place_behind(behind)) {
+            return Some(register);
+        }
+        next_far_difference(kept, row, &marks.far, behind)
+    }
+
+    /// Whether the current row is the one that was kept.
+    pub(crate) fn is_kept(&self) -> bool
+        ensures { IsTrue result ↔ (self.now.kept ≡ self.now.row) }
+    {
+        self.kept.cfa().is_same(&self.row.cfa()) && self.next_difference(None).is_none()
+    }
+}
