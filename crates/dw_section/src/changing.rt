@@ -2,7 +2,8 @@
 
 ghost use Rattle.std.specs.Prelude.{◌≡◌, ◌+◌, ◌<◌, ◌↔◌, [], IsTrue, Some, None, true, IsErr, IfOk, OnOk, MatchOption};
 ghost use Rattle.dw_num.specs.Target.{address_limit};
-ghost use Rattle.dw_cfa.specs.Rows.{Rules};
+ghost use Rattle.dw_cfa.specs.Differing.{FirstDifference, place_behind};
+ghost use Rattle.dw_cfa.specs.Rows.{Rules, AreSpecified};
 ghost use Rattle.dw_cfa.specs.Walking.{AllKeep};
 ghost use Rattle.dw_section.specs.Changes.{Before, GivesAddress, GivesChange, FindsChange, changing, before_then};
 ghost use Rattle.dw_section.specs.Inner.Shown.{shown_of};
@@ -210,6 +211,29 @@ impl<'a> Changes<'a> {
             return self.kept.row();
         }
         None
+    }
+
+    /// The least register to which the change that is shown gives another rule than the change before it, of those behind a
+    /// given one where there is such; or none. Takes no memory.
+    pub fn next_difference(&self, behind: Option<u16>) -> Option<u16>
+        ensures first { (before after : Rules) → self.now.before ≡ Some before → self.now.shown ≡ Some after → FirstDifference (place_behind behind) before.registers after.registers result }
+        ensures ascending { (before : Rules) → self.now.before ≡ Some before → AreSpecified 0 before.registers }
+        ensures other_ascending { (after : Rules) → self.now.shown ≡ Some after → AreSpecified 0 after.registers }
+    {
+        if !self.lent {
+            if let Some(row) = self.kept.row() {
+                let _ = row.specified();
+            }
+            return None;
+        }
+        let row = self.steps.row();
+        match self.kept.row() {
+            Some(before) => before.next_difference(row, behind),
+            None => {
+                let _ = row.specified();
+                None
+            }
+        }
     }
 
     // The row that is shown once more.
