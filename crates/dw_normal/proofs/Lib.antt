@@ -1,5 +1,6 @@
 mod Remaining
 mod Appended
+mod OneByte
 mod Lengths
 mod Passes
 mod Measured

@@ -1,8 +1,9 @@
 //! Instructions as the normal form spells them.
 
-ghost use Rattle.std.specs.Prelude.{◌≡◌, ◌++◌, ◌<◌, OnOk};
+ghost use Rattle.std.specs.Prelude.{◌≡◌, ◌++◌, ◌<◌, ◌≤◌, OnOk};
 ghost use Rattle.dw_num.specs.Shortest.{shortest_uleb, shortest_sleb};
 ghost use Rattle.dw_section.specs.Sound.{HasBlock, RuleFits};
+ghost use Rattle.dw_cfa.specs.declared.instr.Instr.TheVariants.{SetLoc, DefCfaOffset};
 ghost use Rattle.dw_canon.specs.Fits.{InstrFits};
 ghost use Rattle.dw_canon.specs.Spelling.{expression_bytes, advance_bytes, packed, rule_bytes, instr_bytes};
 
@@ -11,11 +12,26 @@ use dw_num::{Order, Target, put_fixed, put_sleb, put_uleb};
 use dw_op::ExprRef;
 use std::alloc::AllocError;
 
+// Apart from `push_uleb`, whose numbers are mostly small.
+#[inline(never)]
 #[tactic(auto, using(dw_num::proofs::Shortest::puts_uleb))]
-pub(crate) fn push_uleb(out: &mut Vec<u8>, value: u64) -> Result<(), AllocError>
+fn push_long_uleb(out: &mut Vec<u8>, value: u64) -> Result<(), AllocError>
     ensures { OnOk result (out.new.items ≡ out.old.items ++ shortest_uleb value) }
 {
     put_uleb(out, value)
+}
+
+/// Appends the shortest spelling of an unsigned number.
+#[inline(always)]
+#[tactic(auto, using(crate::proofs::OneByte::one_byte))]
+pub(crate) fn push_uleb(out: &mut Vec<u8>, value: u64) -> Result<(), AllocError>
+    ensures { OnOk result (out.new.items ≡ out.old.items ++ shortest_uleb value) }
+{
+    if value < 128 {
+        out.push(value as u8)?;
+        return Ok(());
+    }
+    push_long_uleb(out, value)
 }
 
 #[tactic(auto, using(dw_num::proofs::Shortest::puts_sleb))]
@@ -26,6 +42,7 @@ fn push_sleb(out: &mut Vec<u8>, value: i64) -> Result<(), AllocError>
 }
 
 /// Appends a code with the register in it where that is below 64, else another with the register behind it.
+#[inline(always)]
 pub(crate) fn push_packed(
     out: &mut Vec<u8>,
     low: u8,
@@ -43,14 +60,12 @@ pub(crate) fn push_packed(
     push_uleb(out, u64::from(register))
 }
 
-// Appends the shortest advance.
-fn push_advance(out: &mut Vec<u8>, order: Order, delta: u32) -> Result<(), AllocError>
+// Apart from `push_advance`, whose advances are mostly short.
+#[inline(never)]
+fn push_long_advance(out: &mut Vec<u8>, order: Order, delta: u32) -> Result<(), AllocError>
+    requires { 64 ≤ delta }
     ensures { OnOk result (out.new.items ≡ out.old.items ++ advance_bytes order delta) }
 {
-    if delta < 64 {
-        out.push(0x40 + delta as u8)?;
-        return Ok(());
-    }
     if delta < 256 {
         out.push(0x02)?;
         return put_fixed(out, order, 1, u64::from(delta));
@@ -61,6 +76,38 @@ fn push_advance(out: &mut Vec<u8>, order: Order, delta: u32) -> Result<(), Alloc
     }
     out.push(0x04)?;
     put_fixed(out, order, 4, u64::from(delta))
+}
+
+/// Appends the shortest advance.
+#[inline(always)]
+pub(crate) fn push_advance(out: &mut Vec<u8>, order: Order, delta: u32) -> Result<(), AllocError>
+    ensures { OnOk result (out.new.items ≡ out.old.items ++ advance_bytes order delta) }
+{
+    if delta < 64 {
+        out.push(0x40 + delta as u8)?;
+        return Ok(());
+    }
+    push_long_advance(out, order, delta)
+}
+
+/// Appends what moves the location to an address.
+#[inline(never)]
+#[tactic(auto, unfolding(dw_canon::specs::Spelling::instr_bytes))]
+pub(crate) fn push_set_loc(
+    out: &mut Vec<u8>,
+    address: u64,
+    target: Target,
+) -> Result<(), AllocError>
+    requires { InstrFits target (SetLoc address) }
+    ensures { OnOk result (out.new.items ≡ out.old.items ++ instr_bytes target (SetLoc address)) }
+{
+    out.push(0x01)?;
+    put_fixed(
+        out,
+        target.order,
+        usize::from(target.size.byte_count()),
+        address,
+    )
 }
 
 // Appends an expression behind its length.
@@ -133,6 +180,25 @@ pub(crate) fn push_rule(
     }
 }
 
+/// Appends what gives the CFA another offset.
+#[inline(always)]
+#[tactic(auto, unfolding(dw_canon::specs::Spelling::instr_bytes))]
+pub(crate) fn push_cfa_offset(
+    out: &mut Vec<u8>,
+    offset: i64,
+    target: Target,
+) -> Result<(), AllocError>
+    requires { InstrFits target (DefCfaOffset offset) }
+    ensures { OnOk result (out.new.items ≡ out.old.items ++ instr_bytes target (DefCfaOffset offset)) }
+{
+    if offset < 0 {
+        out.push(0x13)?;
+        return push_sleb(out, -offset);
+    }
+    out.push(0x0e)?;
+    push_uleb(out, offset.unsigned_abs())
+}
+
 /// Appends an instruction, and may leave some of it where memory runs out.
 #[tactic(auto, unfolding(dw_canon::specs::Spelling::instr_bytes))]
 pub(crate) fn push_instr(
@@ -148,15 +214,7 @@ pub(crate) fn push_instr(
             out.push(0x00)?;
             Ok(())
         }
-        Instr::SetLoc(address) => {
-            out.push(0x01)?;
-            put_fixed(
-                out,
-                target.order,
-                usize::from(target.size.byte_count()),
-                *address,
-            )
-        }
+        Instr::SetLoc(address) => push_set_loc(out, *address, target),
         Instr::Advance(delta) => push_advance(out, target.order, *delta as u32),
         Instr::DefCfa { register, offset } => {
             if *offset < 0 {
@@ -172,14 +230,7 @@ pub(crate) fn push_instr(
             out.push(0x0d)?;
             push_uleb(out, u64::from(*register))
         }
-        Instr::DefCfaOffset(offset) => {
-            if *offset < 0 {
-                out.push(0x13)?;
-                return push_sleb(out, -*offset);
-            }
-            out.push(0x0e)?;
-            push_uleb(out, offset.unsigned_abs())
-        }
+        Instr::DefCfaOffset(offset) => push_cfa_offset(out, *offset, target),
         Instr::DefCfaExpression(expression) => {
             out.push(0x0f)?;
             push_expression(out, expression, target)

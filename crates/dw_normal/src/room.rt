@@ -1,18 +1,18 @@
 //! How much room the programs of the normal form leave. The room gets less with each instruction, so that no sum wraps.
 
-ghost use Rattle.std.specs.Prelude.{◌≡◌, ◌+◌, ◌<◌, ◌≤◌, ◌^◌, length, IfOk};
+ghost use Rattle.std.specs.Prelude.{◌≡◌, ◌+◌, ◌<◌, ◌≤◌, ◌^◌, length, Some, IfOk};
 ghost use Rattle.std.specs.List.{AllByRecursion};
 ghost use Rattle.dw_num.specs.Target.{address_limit};
 ghost use Rattle.dw_section.specs.Sound.{RowFits};
 ghost use Rattle.dw_canon.specs.Canon.{cie_instrs};
-ghost use Rattle.dw_canon.specs.Difference.{difference, move};
+ghost use Rattle.dw_canon.specs.Difference.{difference, cfa_difference, move};
 ghost use Rattle.dw_canon.specs.Fits.{InstrFits};
 ghost use Rattle.dw_canon.specs.Spelling.{instr_bytes, program_bytes};
 ghost use Rattle.dw_canon.specs.Written.{cie, missing, entry_bytes};
 ghost use Rattle.dw_normal.specs.Inner.Measuring.{Leaves, LaterLeaves, FdeLeaves};
 ghost use Rattle.dw_normal.specs.Inner.Passing.{Stand, row_or_blank, shown_row};
 
-use crate::differing::Differences;
+use crate::differing::{Differences, cfa_difference, rule_to};
 use crate::measuring::{instr_len, unsigned_len};
 use dw_cfa::{Instr, Row};
 use dw_num::Target;
@@ -77,6 +77,40 @@ fn behind_first<'a>(
     }
 }
 
+// What is left of room behind what leads from one row's rule of the CFA to another's.
+fn behind_cfa<'a>(room: u128, before: &Row<'a>, after: &Row<'a>, target: Target) -> Option<u128>
+    requires { AllByRecursion (InstrFits target) (cfa_difference before.now.cfa after.now.cfa) }
+    ensures { Leaves room (length (program_bytes target (cfa_difference before.now.cfa after.now.cfa))) result }
+{
+    match cfa_difference(&before.cfa(), &after.cfa()) {
+        Some(instr) => behind(room, instr_len(&instr, target)),
+        None => Some(room),
+    }
+}
+
+// What is left of room behind what leads from the row before a change to the change's.
+fn behind_between<'a>(
+    room: u128,
+    shared: &Row<'a>,
+    changes: &Changes<'a>,
+    before: &Row<'a>,
+    row: &Row<'a>,
+    target: Target,
+) -> Option<u128>
+    requires before { changes.now.before ≡ Some before.now }
+    requires row { changes.now.shown ≡ Some row.now }
+    requires fits { AllByRecursion (InstrFits target) (difference shared.now before.now row.now) }
+    ensures { Leaves room (length (program_bytes target (difference shared.now before.now row.now))) result }
+{
+    let mut left = behind_cfa(room, before, row, target)?;
+    let mut last = None;
+    'registers: while let Some(register) = changes.next_difference(last) {
+        left = behind(left, instr_len(&rule_to(shared, row, register), target))?;
+        last = Some(register);
+    }
+    Some(left)
+}
+
 // What is left of room behind what leads to the row that is shown from the one before it.
 fn behind_change<'a>(
     room: u128,
@@ -91,7 +125,7 @@ fn behind_change<'a>(
         return Err(AllocError);
     };
     match changes.row() {
-        Some(row) => Ok(behind_difference(room, shared, before, row, target)),
+        Some(row) => Ok(behind_between(room, shared, changes, before, row, target)),
         None => Err(AllocError),
     }
 }
