@@ -5,6 +5,7 @@ pub mod Results
 pub mod Signed
 pub mod Steps
 pub mod ValueLoop
+pub mod Roles
 pub mod PlaceSteps
 pub mod PlaceLoop
 pub mod Space

@@ -1,5 +1,5 @@
 -- What one step of a description tells of its run.
-use Rattle.std.proofs.Common.{◌≡◌, ℕ, ◌<◌, ◌≤◌, Bool, true, false, List, [], ◌∷◌, length, Option, Some, None, Result, Ok, Err, ap, inl, arith}
+use Rattle.std.proofs.Common.{◌≡◌, ℕ, ◌<◌, ◌≤◌, Bool, true, false, List, [], ◌∷◌, length, Option, Some, None, Result, Ok, Err, ap, inl, arith, ◌∙◌}
 use Rattle.std.specs.Prelude.{slice_get, nat_lt, if◌then◌else◌}
 use Rattle.std.proofs.lemmas.Option.{slice_get_within}
 use Rattle.dw_op.specs.declared.op.Op.{Op}
@@ -15,8 +15,10 @@ use Rattle.dw_eval.specs.declared.place.Role.TheVariants.{SetsPlace, SetsValue, 
 use Rattle.dw_eval.specs.Context.{Context}
 use Rattle.dw_eval.specs.Effect.{Outcome, Next, Jump, Faults, effect}
 use Rattle.dw_eval.specs.Inner.Describing.{Turns}
-use Rattle.dw_eval.specs.Location.{PlaceState, role, place_led, with_value, free_turn, held_turn, turn_by, place_turn}
+use Rattle.dw_eval.specs.Location.{PlaceState, place_led, with_value, place_turn}
+use Rattle.dw_eval.specs.Inner.Roles.{role, free_by, held_by, turn_of}
 use Rattle.dw_eval.specs.Inner.Stepping.{StepsTo}
+use Rattle.dw_eval.proofs.Roles.{turn_is}
 use Rattle.dw_eval.proofs.Effects.{IsTame, effect_tame, in_range_at}
 
 -- a step without memory is one over a memory that stays
@@ -39,7 +41,7 @@ value_within : (len : ℕ) (s : PlaceState) (stack : List ℕ) → s.index < len
 value_within len s [] lt = omega arith
 value_within len s (t ∷ below) lt = omega (arith, lt)
 
-free_within : (len : ℕ) (c : Context) (op : Op) (s : PlaceState) (r : Role) → s.index < len → TargetWithin len (branch_target op) → index_in (free_turn c op r s) ≤ len
+free_within : (len : ℕ) (c : Context) (op : Op) (s : PlaceState) (r : Role) → s.index < len → TargetWithin len (branch_target op) → index_in (free_by c op r s) ≤ len
 free_within len c op s (SetsPlace place) lt within = omega (arith, lt)
 free_within len c op s SetsValue lt within = value_within len s s.stack lt
 free_within len c op s (AddsPiece part) lt within = omega (arith, lt)
@@ -50,20 +52,20 @@ refused_within : (b : Bool) (len : ℕ) → index_in (if b then Err StackUnderfl
 refused_within true len = omega arith
 refused_within false len = omega arith
 
-held_within : (len : ℕ) (s : PlaceState) (r : Role) → s.index < len → index_in (held_turn r s) ≤ len
+held_within : (len : ℕ) (s : PlaceState) (r : Role) → s.index < len → index_in (held_by r s) ≤ len
 held_within len s (SetsPlace place) lt = refused_within (nat_lt (length s.stack) 0) len
 held_within len s SetsValue lt = refused_within (nat_lt (length s.stack) 1) len
 held_within len s (AddsPiece part) lt = omega (arith, lt)
 held_within len s Waits lt = omega (arith, lt)
 held_within len s (Computes entries) lt = refused_within (nat_lt (length s.stack) entries) len
 
-turn_within : (len : ℕ) (c : Context) (op : Op) (s : PlaceState) (pending : Option Place) → s.index < len → TargetWithin len (branch_target op) → index_in (turn_by c op pending s) ≤ len
+turn_within : (len : ℕ) (c : Context) (op : Op) (s : PlaceState) (pending : Option Place) → s.index < len → TargetWithin len (branch_target op) → index_in (turn_of c op pending s) ≤ len
 turn_within len c op s None lt within = free_within len c op s (role op) lt within
 turn_within len c op s (Some place) lt within = held_within len s (role op) lt
 
 -- an operation in range leads to an operation or to the end
 pub place_stays : (c : Context) (ops : List Op) → AllInRange c.target ops → (op : Op) (s s' : PlaceState) → slice_get ops s.index ≡ Some op → place_turn c op s ≡ Ok s' → s'.index ≤ length ops
 place_stays c ops range op s s' stands goes =
-    let here : index_in (place_turn c op s) ≡ s'.index = ap index_in goes in
+    let here : index_in (turn_of c op s.pending s) ≡ s'.index = ap index_in (turn_is c op s.pending s ∙ goes) in
     let most = turn_within (length ops) c op s s.pending (slice_get_within ops s.index op stands) (in_range_at c.target (length ops) ops s.index op range stands).within_list in
     omega (arith, here, most)

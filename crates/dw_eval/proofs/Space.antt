@@ -1,5 +1,5 @@
 -- Values stay below 2 ^ N.
-use Rattle.std.proofs.Common.{◌≡◌, ℕ, zero, suc, ◌%◌, ◌<◌, Bool, true, false, List, [], ◌∷◌, ◌++◌, length, Option, Some, None, Result, Ok, Err, refl, sym, subst, inl, inr, arith}
+use Rattle.std.proofs.Common.{◌≡◌, ℕ, zero, suc, ◌%◌, ◌<◌, Bool, true, false, List, [], ◌∷◌, ◌++◌, length, Option, Some, None, Result, Ok, Err, refl, sym, subst, inl, inr, arith, ◌∙◌}
 use Rattle.std.specs.Prelude.{slice_get, nat_eq, nat_lt, if◌then◌else◌}
 use Rattle.std.proofs.lemmas.Nat.{mod_below}
 use Rattle.dw_num.specs.declared.target.Size.{Size}
@@ -18,7 +18,9 @@ use Rattle.dw_eval.specs.declared.place.Role.TheVariants.{SetsPlace, SetsValue, 
 use Rattle.dw_eval.specs.Context.{Context, read_at}
 use Rattle.dw_eval.specs.Effect.{Outcome, Next, Jump, Faults, on_top, on_two, on_three, known, push, push_signed, tell, effect}
 use Rattle.dw_eval.specs.Evaluation.{State, index_of, led, value_turn, value_start, top_of, Evaluates}
-use Rattle.dw_eval.specs.Location.{PlaceState, place_index, role, place_here, with_piece, place_led, with_value, free_turn, held_turn, turn_by, place_turn, place_start, pieces_of, Located}
+use Rattle.dw_eval.specs.Location.{PlaceState, place_index, place_here, with_piece, place_led, with_value, place_turn, place_start, pieces_of, Located}
+use Rattle.dw_eval.specs.Inner.Roles.{role, free_by, held_by, turn_of}
+use Rattle.dw_eval.proofs.Roles.{turn_is}
 use Rattle.dw_eval.specs.Runs.{Runs}
 use Rattle.dw_eval.specs.Space.{AreInSpace, PlaceInSpace, ArePlacesInSpace}
 use Rattle.dw_eval.specs.Laws.{ValuesInSpace, LocationsInSpace}
@@ -212,7 +214,7 @@ role_in_space : (size : Size) (op : Op) → SetsInSpace size (role op)
 role_in_space size (Reg r) = tt
 role_in_space size op = tt
 
-free_kept : (c : Context) (op : Op) (r : Role) (s : PlaceState) → SetsInSpace c.target.size r → StateInSpace c.target.size s → KeptPlaces c.target.size (free_turn c op r s)
+free_kept : (c : Context) (op : Op) (r : Role) (s : PlaceState) → SetsInSpace c.target.size r → StateInSpace c.target.size s → KeptPlaces c.target.size (free_by c op r s)
 free_kept c op (SetsPlace place) s w h = record { stack = h.stack; pending = w; pieces = h.pieces }
 free_kept c op SetsValue s w h = value_kept c.target.size s.stack s h h.stack
 free_kept c op (AddsPiece part) s w h = piece_kept c.target.size part s h
@@ -223,21 +225,21 @@ refused_kept : (size : Size) (b : Bool) → KeptPlaces size (if b then Err Stack
 refused_kept size true = tt
 refused_kept size false = tt
 
-held_kept : (size : Size) (r : Role) (s : PlaceState) → StateInSpace size s → KeptPlaces size (held_turn r s)
+held_kept : (size : Size) (r : Role) (s : PlaceState) → StateInSpace size s → KeptPlaces size (held_by r s)
 held_kept size (SetsPlace place) s h = refused_kept size (nat_lt (length s.stack) 0)
 held_kept size SetsValue s h = refused_kept size (nat_lt (length s.stack) 1)
 held_kept size (AddsPiece part) s h = piece_kept size part s h
 held_kept size Waits s h = record { stack = h.stack; pending = h.pending; pieces = h.pieces }
 held_kept size (Computes entries) s h = refused_kept size (nat_lt (length s.stack) entries)
 
-turn_kept : (c : Context) (op : Op) (pending : Option Place) (s : PlaceState) → StateInSpace c.target.size s → KeptPlaces c.target.size (turn_by c op pending s)
+turn_kept : (c : Context) (op : Op) (pending : Option Place) (s : PlaceState) → StateInSpace c.target.size s → KeptPlaces c.target.size (turn_of c op pending s)
 turn_kept c op None s h = free_kept c op (role op) s (role_in_space c.target.size op) h
 turn_kept c op (Some place) s h = held_kept c.target.size (role op) s h
 
 place_keeps : (c : Context) (op : Op) (s s' : PlaceState) → StateInSpace c.target.size s → place_turn c op s ≡ Ok s' → StateInSpace c.target.size s'
 place_keeps c op s s' h e =
     let P : Result PlaceState Kind → Type 0 = KeptPlaces c.target.size in
-    subst P e (turn_kept c op s.pending s h)
+    subst P (turn_is c op s.pending s ∙ e) (turn_kept c op s.pending s h)
 
 last_in_space : (size : Size) (len : ℕ) (pending : Option Place) (stack : List ℕ) (pieces ended : List declared.Piece) → PendingInSpace size pending → AreInSpace size stack → ArePlacesInSpace size pieces
     → Ok ended ≡ pieces_of len pending stack pieces → ArePlacesInSpace size ended

@@ -4,3 +4,4 @@ pub mod Runs
 pub mod Evaluation
 pub mod Location
 pub mod Describing
+pub mod Roles

@@ -1,7 +1,7 @@
 -- Location descriptions: DWARF 5, 2.6.1.
-use Rattle.std.specs.Prelude.{◌≡◌, ℕ, ◌+◌, List, [], ◌∷◌, ◌++◌, length, Option, Some, None, Result, Ok, Err, nat_lt, if◌then◌else◌}
+use Rattle.std.specs.Prelude.{◌≡◌, ℕ, ◌+◌, List, [], ◌∷◌, ◌++◌, length, Option, Some, None, Result, Ok, Err}
 use Rattle.dw_op.specs.declared.op.Op.{Op}
-use Rattle.dw_op.specs.declared.op.Op.TheVariants.{Addr, Deref, Const, Dup, Drop, Pick, Rot, Abs, Neg, Not, PlusUconst, Bra, Skip, Reg, Breg, Fbreg, DerefSize, Nop, PushObjectAddress, CallFrameCfa, BitPiece, Implicit, StackValue}
+use Rattle.dw_op.specs.declared.op.Op.TheVariants.{Reg, Nop, BitPiece, Implicit, StackValue}
 use Rattle.dw_op.specs.declared.op.Op.TheVariants as op
 use Rattle.dw_eval.specs.declared.error.EvalError.{EvalError}
 use Rattle.dw_eval.specs.declared.error.EvalError.TheVariants.{Fault}
@@ -13,39 +13,9 @@ use Rattle.dw_eval.specs.declared.place.Part.TheVariants.{Whole, Bits}
 use Rattle.dw_eval.specs.declared.place.Piece.{Piece}
 use Rattle.dw_eval.specs.declared.place.Place.{Place}
 use Rattle.dw_eval.specs.declared.place.Place.TheVariants.{Empty, Memory, Register, Value, Bytes}
-use Rattle.dw_eval.specs.declared.place.Role.{Role}
-use Rattle.dw_eval.specs.declared.place.Role.TheVariants.{SetsPlace, SetsValue, AddsPiece, Waits, Computes}
 use Rattle.dw_eval.specs.Context.{Context}
 use Rattle.dw_eval.specs.Effect.{Outcome, Next, Jump, Faults, effect, Reads}
 use Rattle.dw_eval.specs.Runs.{Answers, MayFail}
-
--- what each operation does in a description; a computation names so many entries of the stack, most of them two
-abbrev pub role : Op → Role
-role (Addr a) = Computes 0
-role Deref = Computes 1
-role (Const v) = Computes 0
-role Dup = Computes 1
-role Drop = Computes 1
-role (Pick i) = Computes (i + 1)
-role Rot = Computes 3
-role Abs = Computes 1
-role Neg = Computes 1
-role Not = Computes 1
-role (PlusUconst n) = Computes 1
-role (Bra i) = Computes 1
-role (Skip i) = Computes 0
-role (Reg r) = SetsPlace (Register r)
-role (Breg r n) = Computes 0
-role (Fbreg n) = Computes 0
-role (op.Piece n) = AddsPiece (part.Bytes n)
-role (DerefSize k) = Computes 1
-role Nop = Waits
-role PushObjectAddress = Computes 0
-role CallFrameCfa = Computes 0
-role (BitPiece size offset) = AddsPiece (Bits size offset)
-role (Implicit block) = SetsPlace (Bytes block)
-role StackValue = SetsValue
-role other = Computes 2
 
 -- before an operation: its index, the stack, the place that waits for its piece, and the pieces so far
 pub record PlaceState : Type 0 where
@@ -87,28 +57,29 @@ with_value [] s = Err StackUnderflow
 with_value (t ∷ below) s = Ok (with_place (Value t) below s)
 
 -- while no place is pending
-abbrev pub free_turn : Context → Op → Role → PlaceState → Result PlaceState Kind
-free_turn c op (SetsPlace place) s = Ok (with_place place s.stack s)
-free_turn c op SetsValue s = with_value s.stack s
-free_turn c op (AddsPiece part) s = Ok (with_piece part s)
-free_turn c op Waits s = Ok (with_stack (s.index + 1) s.stack s)
-free_turn c op (Computes entries) s = place_led s (effect c op s.stack)
+abbrev pub free_turn : Context → Op → PlaceState → Result PlaceState Kind
+free_turn c (Reg r) s = Ok (with_place (Register r) s.stack s)
+free_turn c (Implicit block) s = Ok (with_place (Bytes block) s.stack s)
+free_turn c StackValue s = with_value s.stack s
+free_turn c (op.Piece n) s = Ok (with_piece (part.Bytes n) s)
+free_turn c (BitPiece size offset) s = Ok (with_piece (Bits size offset) s)
+free_turn c other s = place_led s (effect c other s.stack)
 
--- a piece has to follow: the stack is too short, or the piece is missing
-abbrev pub refused : ℕ → List ℕ → Result PlaceState Kind
-refused entries stack = if nat_lt (length stack) entries then Err StackUnderflow else Err MissingPiece
+-- what is no piece: the stack is too short for it, or the piece is missing
+abbrev pub refused : Outcome → Result PlaceState Kind
+refused (Faults StackUnderflow) = Err StackUnderflow
+refused other = Err MissingPiece
 
--- while a place is pending
-abbrev pub held_turn : Role → PlaceState → Result PlaceState Kind
-held_turn (SetsPlace place) s = refused 0 s.stack
-held_turn SetsValue s = refused 1 s.stack
-held_turn (AddsPiece part) s = Ok (with_piece part s)
-held_turn Waits s = Ok (with_stack (s.index + 1) s.stack s)
-held_turn (Computes entries) s = refused entries s.stack
+-- while a place is pending a piece has to follow
+abbrev pub held_turn : Context → Op → PlaceState → Result PlaceState Kind
+held_turn c (op.Piece n) s = Ok (with_piece (part.Bytes n) s)
+held_turn c (BitPiece size offset) s = Ok (with_piece (Bits size offset) s)
+held_turn c Nop s = Ok (with_stack (s.index + 1) s.stack s)
+held_turn c other s = refused (effect c other s.stack)
 
 abbrev pub turn_by : Context → Op → Option Place → PlaceState → Result PlaceState Kind
-turn_by c op None s = free_turn c op (role op) s
-turn_by c op (Some place) s = held_turn (role op) s
+turn_by c op None s = free_turn c op s
+turn_by c op (Some place) s = held_turn c op s
 
 abbrev pub place_turn : Context → Op → PlaceState → Result PlaceState Kind
 place_turn c op s = turn_by c op s.pending s

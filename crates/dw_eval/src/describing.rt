@@ -8,7 +8,8 @@ ghost use Rattle.dw_eval.specs.declared.error.EvalError.TheVariants.{Fault, OutO
 ghost use Rattle.dw_eval.specs.declared.error.Kind.TheVariants.{MissingPiece};
 ghost use Rattle.dw_eval.specs.Context.{context};
 ghost use Rattle.dw_eval.specs.Effect.{effect, Reads};
-ghost use Rattle.dw_eval.specs.Location.{place_turn, place_reads, place_led, place_here, with_piece, with_place, with_value, free_turn, held_turn, refused, pieces_of};
+ghost use Rattle.dw_eval.specs.Location.{place_turn, place_reads, place_led, place_here, with_piece, with_place, with_value, pieces_of};
+ghost use Rattle.dw_eval.specs.Inner.Roles.{free_by, held_by, refused_by, turn_of};
 ghost use Rattle.dw_eval.specs.Inner.Stepping.{StepsTo};
 
 use crate::acting::act;
@@ -98,7 +99,7 @@ impl<'a> Description<'a> {
 
     // No piece follows a place: the stack is too short for the operation, or the piece is missing.
     fn refuse(&mut self, entries: usize, index: usize) -> Result<usize, EvalError>
-        ensures { Turns (refused entries self.old.stack) index (λ next. state_of next self.new) result }
+        ensures { Turns (refused_by entries self.old.stack) index (λ next. state_of next self.new) result }
     {
         if self.stack.len() < entries {
             return Err(EvalError::Fault {
@@ -115,7 +116,7 @@ impl<'a> Description<'a> {
     // An operation while a place is pending.
     fn hold(&mut self, role: Role<'a>, index: usize) -> Result<usize, EvalError>
         requires { index < 2 ^ 64 - 1 }
-        ensures { Turns (held_turn (bare_role role.entry) (state_of index self.old)) index (λ next. state_of next self.new) result }
+        ensures { Turns (held_by (bare_role role.entry) (state_of index self.old)) index (λ next. state_of next self.new) result }
     {
         match role {
             Role::SetsPlace(_) => self.refuse(0, index),
@@ -158,7 +159,7 @@ impl<'a> Description<'a> {
         requires access { (len : ℕ) → op.now ≡ DerefSize len → (1 ≤ len) × (len ≤ byte_count env.now.target.size) }
         requires room { M.failures memory.old < 2 ^ 64 - 1 }
         ensures same { M.byte memory.new ≡ M.byte memory.old }
-        ensures so { let c = context env.now (M.byte memory.old) in StepsTo (free_turn c (bare op.now) (bare_role role.entry) (state_of index self.old)) (Reads c (bare op.now) self.old.stack) index (M.failures memory.old) (λ next. state_of next self.new) result (M.failures memory.new) }
+        ensures so { let c = context env.now (M.byte memory.old) in StepsTo (free_by c (bare op.now) (bare_role role.entry) (state_of index self.old)) (Reads c (bare op.now) self.old.stack) index (M.failures memory.old) (λ next. state_of next self.new) result (M.failures memory.new) }
     {
         match role {
             Role::SetsPlace(place) => self.set(place, index),
@@ -169,7 +170,29 @@ impl<'a> Description<'a> {
         }
     }
 
+    // Executes an operation by its role.
+    fn turn<M: Memory>(
+        &mut self,
+        op: &Op<'a>,
+        index: usize,
+        env: &Env<'_>,
+        memory: &mut M,
+    ) -> Result<usize, EvalError>
+        requires inside { index < 2 ^ 64 - 1 }
+        requires access { (len : ℕ) → op.now ≡ DerefSize len → (1 ≤ len) × (len ≤ byte_count env.now.target.size) }
+        requires room { M.failures memory.old < 2 ^ 64 - 1 }
+        ensures same { M.byte memory.new ≡ M.byte memory.old }
+        ensures so { let c = context env.now (M.byte memory.old) in StepsTo (let s = state_of index self.old in turn_of c (bare op.now) s.pending s) (place_reads c (bare op.now) (state_of index self.old)) index (M.failures memory.old) (λ next. state_of next self.new) result (M.failures memory.new) }
+    {
+        let role = role_of(op);
+        match self.pending {
+            Some(_) => self.hold(role, index),
+            None => self.go_on(op, role, index, env, memory),
+        }
+    }
+
     /// Executes the operation at an index, and says which one is next.
+    #[tactic(auto, using(crate::proofs::Roles::turn_steps))]
     pub(crate) fn step<M: Memory>(
         &mut self,
         op: &Op<'a>,
@@ -183,11 +206,7 @@ impl<'a> Description<'a> {
         ensures same { M.byte memory.new ≡ M.byte memory.old }
         ensures so { let c = context env.now (M.byte memory.old) in StepsTo (place_turn c (bare op.now) (state_of index self.old)) (place_reads c (bare op.now) (state_of index self.old)) index (M.failures memory.old) (λ next. state_of next self.new) result (M.failures memory.new) }
     {
-        let role = role_of(op);
-        match self.pending {
-            Some(_) => self.hold(role, index),
-            None => self.go_on(op, role, index, env, memory),
-        }
+        self.turn(op, index, env, memory)
     }
 
     // Whether a pending place or an entry of the stack is left.

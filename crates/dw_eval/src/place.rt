@@ -1,7 +1,7 @@
 //! Places, and what operations do in a location description (2.6.1).
 
 ghost use Rattle.std.specs.Prelude.{◌≡◌};
-ghost use Rattle.dw_eval.specs.Location.{role};
+ghost use Rattle.dw_eval.specs.Inner.Roles.{role};
 
 use dw_op::Op;
 
