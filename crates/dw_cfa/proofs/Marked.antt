@@ -130,9 +130,6 @@ module _ (xs old new : List Entry) (k : ℕ) (h : CopiedUpTo k xs old new) where
     above = λ r high. other_rule q r (rule_in xs q) new up (λ e. omega (arith, e)) ∙ h.above r (omega arith);
   }
 
-pub copied_none : (xs old : List Entry) → CopiedUpTo 0 xs old old
-copied_none xs old = record { below = λ r lt. absurd (omega arith); above = λ r le. refl }
-
 behind_first : (x : Entry) (rest : List Entry) (r : ℕ) → (r ≡ x.0 → ⊥) → rule_in (x ∷ rest) r ≡ rule_in rest r
 behind_first x rest r not = elim (cases_Bool (nat_eq x.0 r)) [
   | inl e ↦ absurd (not (sym (eqb-true x.0 r e)))

@@ -3,7 +3,7 @@
 ghost use Rattle.std.specs.Prelude.{◌≡◌, ℕ, ◌↔◌, IfOk, IsTrue, OnErr, OnOk};
 ghost use Rattle.dw_cfa.specs.Differing.{FirstDifference, SameUnset, place_behind};
 ghost use Rattle.dw_cfa.specs.Rows.{AreSpecified, blank, rule_in, with_cfa, with_rule};
-ghost use Rattle.dw_cfa.specs.Inner.Marks.{CopiedUpTo, MarksSo, SameUnlisted, SameUnmarked, watching};
+ghost use Rattle.dw_cfa.specs.Inner.Marks.{CopiedUpTo, SameUnlisted, SameUnmarked, watching};
 
 use crate::marks::Marks;
 use crate::row::{NEAR, Row, place_behind, start_behind};

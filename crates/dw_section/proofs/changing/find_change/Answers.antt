@@ -1,5 +1,4 @@
 use Rattle.std.proofs.Common.{◌≡◌, suc, ◌∷◌, length, Some, refl, sym, ap, ◌∙◌, arith}
-use Rattle.dw_cfa.specs.Rows.{Rules}
 use Rattle.dw_cfa.specs.Runs.{Outcome}
 use Rattle.dw_section.specs.Inner.Shown.{shown_if}
 use Rattle.dw_section.proofs.ChangeLaws.{found_change, moved}
