@@ -33,7 +33,7 @@ use Rattle.dw_cfa.specs.Stepping.{Stepping, stepping}
 use Rattle.dw_section.specs.declared.error.SectionError.{SectionError}
 use Rattle.dw_section.specs.declared.error.SectionError.TheVariants.{Refused, OutOfMemory}
 use Rattle.dw_section.specs.declared.judging.Initial.{Initial}
-use Rattle.dw_section.specs.FdeFields.{is_among}
+use Rattle.dw_section.specs.Fields.{is_among}
 use Rattle.dw_section.specs.Faults.{Refuses}
 use Rattle.dw_section.specs.Headers.{Head, fde, FdeHead}
 use Rattle.dw_section.specs.Inner.Heads.{head_at, cie_at_of, cie_ats}
