@@ -1,247 +1,167 @@
--- Fields are read as they are spelled, and spelled as they are read.
-use Rattle.std.proofs.Common.{◌≡◌, ℕ, zero, suc, ◌+◌, ◌≤◌, ◌==◌, true, false, List, [], ◌∷◌, ◌++◌, length, drop, get_or, Option, Some, None, refl, sym, ap, subst, ◌∙◌, arith, inl, inr}
-use Rattle.std.specs.Prelude.{position, nat_le}
-use Rattle.std.proofs.lemmas.Bool.{lt-ltb, le-leb, leb-true}
+-- Fields are read as they are spelled, spelled as they are read, and refused with their first fault.
+use Rattle.std.proofs.Common.{◌≡◌, ℕ, zero, suc, ◌+◌, ◌==◌, true, false, List, [], ◌∷◌, ◌++◌, length, drop, get_or, Option, Some, None, Ok, Err, refl, sym, ap, subst, ◌∙◌, append_assoc, arith, inl, inr}
+use Rattle.std.specs.Prelude.{position}
 use Rattle.std.proofs.lemmas.Bool.Decides.{eqb_tells}
+use Rattle.std.proofs.lemmas.List.{length-append, length-drop}
 use Rattle.std.proofs.lemmas.List.Quantifiers.{position-Some}
 use Rattle.dw_num.specs.declared.refusal.Code.{Code}
-use Rattle.dw_num.specs.declared.refusal.Code.TheVariants.{AddressSize, SegmentSelector, NoSuchCie, RangeTooLarge}
+use Rattle.dw_num.specs.declared.refusal.Refusal.{Refusal}
 use Rattle.dw_num.specs.declared.target.Target.{Target}
-use Rattle.dw_num.specs.declared.target.Form.{Form}
-use Rattle.dw_num.specs.declared.target.Form.TheVariants.{Dwarf32, Dwarf64}
-use Rattle.dw_section.specs.declared.fields.FdeFields.{FdeFields}
-use Rattle.dw_section.specs.Cut.{id_width}
-use Rattle.dw_section.specs.FdeFields.{is_among, SpellsFde}
+use Rattle.dw_num.specs.Fixed.{IsWidth}
 use Rattle.dw_num.specs.Input.{Input, AreBytes, Takes, behind}
-use Rattle.dw_num.specs.Fixed.{Fixed, IsWidth}
-use Rattle.dw_num.specs.Target.{address_limit, byte_count}
-use Rattle.dw_num.specs.Leb.{Uleb, Sleb}
-use Rattle.dw_num.specs.Reading.{fault, fixed_at, uleb_at, sleb_at, address_at}
-use Rattle.dw_num.proofs.LebLaws.{done, ok_is, uleb_again, uleb_found, register_again, register_found}
+use Rattle.dw_num.specs.Reading.{Read, fault, ◌>>=◌}
+use Rattle.dw_num.proofs.LebLaws.{done, ok_is, uleb_again, uleb_found}
 use Rattle.dw_num.proofs.SlebLaws.{sleb_again, sleb_found}
-use Rattle.dw_num.proofs.FixedLaws.{address_found, byte_found, front_byte, fixed_found, fixed_at_again, taken_bytes}
-use Rattle.dw_section.specs.declared.fields.Version.{Version}
-use Rattle.dw_section.specs.declared.fields.Version.TheVariants.{One, Three, Four}
-use Rattle.dw_section.specs.declared.fields.CieFields.{CieFields}
-use Rattle.dw_section.specs.CieFields.{version_byte, size_bytes, IsRegister, SpellsCie}
-use Rattle.dw_section.specs.Fields.{wanted_of, wanted_at, version_of, known, version_in, version_at, empty_of, empty_string_at, selector_of, sizes_at, return_register_at, cie_of, after_data, after_code, factors_at, after_sizes, after_string, after_version, cie_fields_at, named_of, pointer_at, fde_of, after_begin, range_at, after_pointer, fde_fields_at}
-use Rattle.dw_num.proofs.Steps.{address_again, byte_again, Takes-then, Again, again-then, bind_ok, cond_ok}
+use Rattle.dw_num.proofs.FixedLaws.{front_byte, fixed_found, fixed_at_again, taken_bytes}
+use Rattle.dw_num.proofs.Stays.{Inside, Stays, inside_all, stays_in, stays-then, fixed_stays, uleb_stays, sleb_stays}
+use Rattle.dw_num.proofs.Steps.{Takes-then, Again, bind_ok}
+use Rattle.dw_section.specs.Fields.{Fields, end, field, empty_string, FieldsSpell, Judged, string_fault, FieldsFault, Number, fixed, unsigned, signed, Value, Spells, number_at}
+use Rattle.std.proofs.lemmas.Bool.{lt-ltb}
 
--- ---- single bytes
+-- ---- numbers
 
-wanted_again : (target : Target) (n : ℕ) (code : Code) → Again target (wanted_at n code) tt (n ∷ [])
-unfolding wanted_at
-wanted_again target n code at rest = elim (eqb_tells n n) [
-  | inl is ↦ rw (byte_again target n at rest, is.0) refl
-  | inr not ↦ absurd (not.1 refl)
-]
+-- of a width that there is
+abbrev pub IsNumber : Number → Type 0
+IsNumber (fixed width) = IsWidth width
+IsNumber other = Unit {0}
 
-wanted_found : (n : ℕ) (code : Code) (i new : Input) (u : Unit {0}) → wanted_at n code i ≡ done (u, new) → Takes i (n ∷ []) new
-unfolding wanted_at
-wanted_found n code i new u e =
-    let p = bind_ok (fixed_at 1 i) (wanted_of n code i.at) (u, new) e in
-    let t : Takes i (p.0.0 ∷ []) p.0.1 = byte_found i p.0.1 p.0.0 p.1 in
-    elim (eqb_tells p.0.0 n) [
-      | inl is ↦
-          let k : done (tt, p.0.1) ≡ done (u, new) = rw (is.0) at p.2 in
-          let same : p.0.1 ≡ new = ap (λ (q : Unit {0} × Input). q.1) (ok_is (tt, p.0.1) (u, new) k) in
-          subst (λ (j : Input). Takes i (n ∷ []) j) same (subst (λ (m : ℕ). Takes i (m ∷ []) p.0.1) is.1 t)
-      | inr not ↦ let k : fault {A = Unit {0} × Input} code i.at ≡ done (u, new) = rw (not.0) at p.2 in absurd cc
-    ]
+abbrev pub AreNumbers : {X : Type 0} → Fields X → Type 0
+AreNumbers (end x) = Unit {0}
+AreNumbers (field n refused rest) = IsNumber n × ((v : Value n) → AreNumbers (rest v))
+AreNumbers (empty_string rest) = AreNumbers rest
 
--- ---- version, augmentation, sizes
+number_found : (n : Number) → IsNumber n → (i new : Input) (v : Value n) → AreBytes i.bytes → number_at n i ≡ done (v, new) → (b : List ℕ) × Spells i.target n v b × Takes i b new
+number_found (fixed width) is i new v h e = fixed_found width i new v is h e
+number_found unsigned is i new v h e = uleb_found i new v h e
+number_found signed is i new v h e = sleb_found i new v h e
 
-version_again : (target : Target) (v : Version) → Again target version_at v (version_byte v ∷ [])
-unfolding version_at
-version_again target One at rest = rw (byte_again target 1 at rest) refl
-version_again target Three at rest = rw (byte_again target 3 at rest) refl
-version_again target Four at rest = rw (byte_again target 4 at rest) refl
+number_again : (t : Target) (n : Number) → (v : Value n) (b : List ℕ) → Spells t n v b → Again t (number_at n) v b
+number_again t (fixed width) v b s at more = fixed_at_again width at t v b more s
+number_again t unsigned v b s at more = uleb_again at t v b more s
+number_again t signed v b s at more = sleb_again at t v b more s
 
-version_is : (n : ℕ) (v : Version) → version_of n ≡ Some v → n ≡ version_byte v
-version_is n v e = elim (eqb_tells n 1) [
-  | inl one ↦ let k : Some One ≡ Some v = rw (one.0) at e in let is : One ≡ v = cc in one.1 ∙ ap version_byte is
-  | inr not_one ↦ elim (eqb_tells n 3) [
-    | inl three ↦ let k : Some Three ≡ Some v = rw (not_one.0, three.0) at e in let is : Three ≡ v = cc in three.1 ∙ ap version_byte is
-    | inr not_three ↦ elim (eqb_tells n 4) [
-      | inl four ↦ let k : Some Four ≡ Some v = rw (not_one.0, not_three.0, four.0) at e in let is : Four ≡ v = cc in four.1 ∙ ap version_byte is
-      | inr not_four ↦ let none : Option Version = None in let k : none ≡ Some v = rw (not_one.0, not_three.0, not_four.0) at e in absurd cc
-    ]
-  ]
-]
+number_stays : (n : Number) (i : Input) → Stays i (number_at n i)
+number_stays (fixed width) i = fixed_stays width i
+number_stays unsigned i = uleb_stays i
+number_stays signed i = sleb_stays i
 
-known_is : (at : ℕ) (o : Option Version) (i new : Input) (v : Version) → known at o i ≡ done (v, new) → (o ≡ Some v) × (i ≡ new)
-known_is at None i new v e = absurd cc
-known_is at (Some w) i new v e =
-    let same = ok_is (w, i) (v, new) e in
-    (ap (λ (q : Version × Input). Some q.0) same, ap (λ (q : Version × Input). q.1) same)
+-- ---- fields as they are read
 
-version_found : (i new : Input) (v : Version) → version_at i ≡ done (v, new) → Takes i (version_byte v ∷ []) new
-unfolding version_at
-version_found i new v e =
-    let p = bind_ok (fixed_at 1 i) (version_in i.at) (v, new) e in
-    let t : Takes i (p.0.0 ∷ []) p.0.1 = byte_found i p.0.1 p.0.0 p.1 in
-    let q = known_is i.at (version_of p.0.0) p.0.1 new v p.2 in
-    subst (λ (j : Input). Takes i (version_byte v ∷ []) j) q.1 (subst (λ (m : ℕ). Takes i (m ∷ []) p.0.1) (version_is p.0.0 v q.0) t)
+abbrev pub judged : {X : Type 0} → Option Code → ℕ → Read X → Read X
+judged None at rest = rest
+judged (Some code) at rest = fault code at
 
-empty_again : (target : Target) → Again target empty_string_at tt (0 ∷ [])
-unfolding empty_string_at
-empty_again target at rest = rw (lt-ltb 0 (length (0 ∷ rest)) (omega arith)) refl
+abbrev pub behind_field : {X V : Type 0} → (V → Option Code) → ℕ → (V → Input → Read X) → V × Input → Read X
+behind_field refused at rest v = judged (refused v.0) at (rest v.0 v.1)
 
-empty_is : (o : Option ℕ) (i new : Input) (u : Unit {0}) → empty_of o i ≡ done (u, new) → (o ≡ Some 0) × (behind 1 i ≡ new)
-empty_is None i new u e = absurd cc
-empty_is (Some zero) i new u e = (refl, ap (λ (q : Unit {0} × Input). q.1) (ok_is (tt, behind 1 i) (u, new) e))
-empty_is (Some (suc n)) i new u e = absurd cc
+abbrev pub fields_at : {X : Type 0} → Fields X → Input → Read X
+fields_at (end x) i = Ok (x, i)
+fields_at (field n refused rest) i = number_at n i >>= behind_field refused i.at (λ v. fields_at (rest v))
+fields_at (empty_string rest) i = judged (string_fault (position (λ b. b == 0) i.bytes)) i.at (fields_at rest (behind 1 i))
 
-empty_found : (i new : Input) (u : Unit {0}) → empty_string_at i ≡ done (u, new) → Takes i (0 ∷ []) new
-unfolding empty_string_at
-empty_found i new u e =
-    let p = empty_is (position (λ b. b == 0) i.bytes) i new u e in
-    let first = position-Some (λ b. b == 0) i.bytes 0 0 p.0 in
-    let zero_is : get_or i.bytes 0 0 ≡ 0 = elim (eqb_tells (get_or i.bytes 0 0) 0) [ inl is ↦ is.1 | inr not ↦ let k : true ≡ false = sym (first.1) ∙ not.0 in absurd cc ] in
-    subst (λ (j : Input). Takes i (0 ∷ []) j) p.1 (record { bytes = subst (λ (n : ℕ). i.bytes ≡ (n ∷ []) ++ drop 1 i.bytes) zero_is (front_byte i.bytes (omega (arith, first.0))); at = refl; target = refl })
+judged_ok : {X : Type 0} (o : Option Code) (at : ℕ) (read : Read X) (y : X × Input) → judged o at read ≡ done y → (o ≡ None) × (read ≡ done y)
+judged_ok None at read y e = (refl, e)
+judged_ok (Some code) at read y e = absurd cc
 
-sizes_again : (target : Target) (v : Version) → Again target (sizes_at v) tt (size_bytes v target.size)
-unfolding sizes_at
-sizes_again target One at rest = ap (λ (n : ℕ). done (tt, record { at = n; bytes = rest; target = target })) (omega arith)
-sizes_again target Three at rest = ap (λ (n : ℕ). done (tt, record { at = n; bytes = rest; target = target })) (omega arith)
-sizes_again target Four at rest = again-then target (λ i. wanted_at (byte_count i.target.size) AddressSize i) selector_of tt tt (byte_count target.size ∷ []) (0 ∷ []) (wanted_again target (byte_count target.size) AddressSize) (wanted_again target 0 SegmentSelector) at rest
+-- ---- the first fault
+
+judged_fault : {X : Type 0} (o : Option Code) (at : ℕ) (Behind : Refusal → Type 0) (read : Read X) (r : Refusal) → (Behind r → read ≡ Err r) → Judged o at Behind r → judged o at read ≡ Err r
+judged_fault None at Behind read r to h = to h
+judged_fault {X} (Some code) at Behind read r to h = ap (λ (q : Refusal). let e : Read X = Err q in e) (sym h)
+
+fault_judged : {X : Type 0} (o : Option Code) (at : ℕ) (Behind : Refusal → Type 0) (read : Read X) (r : Refusal) → (read ≡ Err r → Behind r) → judged o at read ≡ Err r → Judged o at Behind r
+fault_judged None at Behind read r to e = to e
+fault_judged (Some code) at Behind read r to e = cc
+
+pub fault_read : {X : Type 0} (fs : Fields X) (i : Input) (r : Refusal) → FieldsFault fs i r → fields_at fs i ≡ Err r
+fault_read (end x) i r h = absurd h
+fault_read (field n refused rest) i r (inl e) = rw e refl
+fault_read (field n refused rest) i r (inr h) = rw (h.2) (judged_fault (refused h.0) i.at (FieldsFault (rest h.0) h.1) (fields_at (rest h.0) h.1) r (fault_read (rest h.0) h.1 r) h.3)
+fault_read (empty_string rest) i r h =
+    judged_fault (string_fault (position (λ b. b == 0) i.bytes)) i.at (FieldsFault rest (behind 1 i)) (fields_at rest (behind 1 i)) r (fault_read rest (behind 1 i) r) h
+
+-- of a field, where so much is known of what is behind it
+field_fault : {X : Type 0} (n : Number) (refused : Value n → Option Code) (rest : Value n → Fields X) (i : Input) (r : Refusal) → ((v : Value n) (j : Input) → fields_at (rest v) j ≡ Err r → FieldsFault (rest v) j r)
+    → (read : Read (Value n)) → number_at n i ≡ read → read >>= behind_field refused i.at (λ v. fields_at (rest v)) ≡ Err r → FieldsFault (field n refused rest) i r
+field_fault n refused rest i r to (Err q) is e = let same : q ≡ r = cc in inl (is ∙ ap (λ (x : Refusal). let k : Read (Value n) = Err x in k) same)
+field_fault n refused rest i r to (Ok v) is e = inr (v.0, v.1, is, fault_judged (refused v.0) i.at (FieldsFault (rest v.0) v.1) (fields_at (rest v.0) v.1) r (to v.0 v.1) e)
+
+pub read_fault : {X : Type 0} (fs : Fields X) (i : Input) (r : Refusal) → fields_at fs i ≡ Err r → FieldsFault fs i r
+read_fault (end x) i r e = absurd cc
+read_fault (field n refused rest) i r e = field_fault n refused rest i r (λ v j. read_fault (rest v) j r) (number_at n i) refl e
+read_fault (empty_string rest) i r e =
+    fault_judged (string_fault (position (λ b. b == 0) i.bytes)) i.at (FieldsFault rest (behind 1 i)) (fields_at rest (behind 1 i)) r (read_fault rest (behind 1 i) r) e
+
+-- it is one
+pub one_fields_fault : {X : Type 0} (fs : Fields X) (i : Input) (r q : Refusal) → FieldsFault fs i r → FieldsFault fs i q → r ≡ q
+one_fields_fault fs i r q v w = let same = sym (fault_read fs i r v) ∙ fault_read fs i q w in cc
+
+-- ---- what is read is spelled
 
 takes-none : (i : Input) → Takes i [] i
 takes-none i = record { bytes = refl; at = omega arith; target = refl }
 
-sizes_found : (v : Version) (i new : Input) (u : Unit {0}) → sizes_at v i ≡ done (u, new) → Takes i (size_bytes v i.target.size) new
-unfolding sizes_at
-sizes_found One i new u e = subst (λ (j : Input). Takes i [] j) (ap (λ (q : Unit {0} × Input). q.1) (ok_is (tt, i) (u, new) e)) (takes-none i)
-sizes_found Three i new u e = subst (λ (j : Input). Takes i [] j) (ap (λ (q : Unit {0} × Input). q.1) (ok_is (tt, i) (u, new) e)) (takes-none i)
-sizes_found Four i new u e =
-    let p = bind_ok (wanted_at (byte_count i.target.size) AddressSize i) selector_of (u, new) e in
-    Takes-then i p.0.1 new (byte_count i.target.size ∷ []) (0 ∷ []) (wanted_found (byte_count i.target.size) AddressSize i p.0.1 p.0.0 p.1) (wanted_found 0 SegmentSelector p.0.1 new u p.2)
+none_wrong : (o : Option ℕ) → string_fault o ≡ None → o ≡ Some 0
+none_wrong None e = absurd cc
+none_wrong (Some zero) e = refl
+none_wrong (Some (suc n)) e = absurd cc
 
--- ---- the register
+empty_taken : (i : Input) → string_fault (position (λ b. b == 0) i.bytes) ≡ None → Takes i (0 ∷ []) (behind 1 i)
+empty_taken i e =
+    let first = position-Some (λ b. b == 0) i.bytes 0 0 (none_wrong (position (λ b. b == 0) i.bytes) e) in
+    let zero_is : get_or i.bytes 0 0 ≡ 0 = elim (eqb_tells (get_or i.bytes 0 0) 0) [ inl is ↦ is.1 | inr not ↦ let k : true ≡ false = sym (first.1) ∙ not.0 in absurd cc ] in
+    record { bytes = subst (λ (n : ℕ). i.bytes ≡ (n ∷ []) ++ drop 1 i.bytes) zero_is (front_byte i.bytes (omega (arith, first.0))); at = refl; target = refl }
 
-return_register_again : (target : Target) (v : Version) (r : ℕ) (b : List ℕ) → IsRegister v r b → Again target (return_register_at v) r b
-unfolding return_register_at
-return_register_again target One r b h = subst (λ (c : List ℕ). Again target (fixed_at 1) r c) (sym h.0) (byte_again target r)
-return_register_again target Three r b h = λ at rest. register_again at target r b rest h
-return_register_again target Four r b h = λ at rest. register_again at target r b rest h
+pub fields_found : {X : Type 0} (fs : Fields X) → AreNumbers fs → (i new : Input) (x : X) → AreBytes i.bytes → fields_at fs i ≡ done (x, new) → (b : List ℕ) × FieldsSpell i.target fs x b × Takes i b new
+fields_found {X} (end y) are i new x h e =
+    let same = ok_is (y, i) (x, new) e in
+    ([], (ap (λ (p : X × Input). p.0) (sym same), refl), subst (λ (j : Input). Takes i [] j) (ap (λ (p : X × Input). p.1) same) (takes-none i))
+fields_found (field n refused rest) are i new x h e =
+    let p = bind_ok (number_at n i) (behind_field refused i.at (λ v. fields_at (rest v))) (x, new) e in
+    let k = judged_ok (refused p.0.0) i.at (fields_at (rest p.0.0) p.0.1) (x, new) p.2 in
+    let q = number_found n are.0 i p.0.1 p.0.0 h p.1 in
+    let u = fields_found (rest p.0.0) (are.1 p.0.0) p.0.1 new x (taken_bytes i p.0.1 q.0 q.2 h) k.1 in
+    let second = subst (λ (t : Target). FieldsSpell t (rest p.0.0) x u.0) q.2.target u.1 in
+    (q.0 ++ u.0, (p.0.0, k.0, record { front = q.0; back = u.0; first = q.1; second = second; whole = refl }), Takes-then i p.0.1 new q.0 u.0 q.2 u.2)
+fields_found (empty_string rest) are i new x h e =
+    let k = judged_ok (string_fault (position (λ b. b == 0) i.bytes)) i.at (fields_at rest (behind 1 i)) (x, new) e in
+    let t = empty_taken i k.0 in
+    let u = fields_found rest are (behind 1 i) new x (taken_bytes i (behind 1 i) (0 ∷ []) t h) k.1 in
+    ((0 ∷ []) ++ u.0, record { front = 0 ∷ []; back = u.0; first = refl; second = u.1; whole = refl }, Takes-then i (behind 1 i) new (0 ∷ []) u.0 t u.2)
 
-return_register_found : (v : Version) (i new : Input) (r : ℕ) → AreBytes i.bytes → return_register_at v i ≡ done (r, new) → (b : List ℕ) × IsRegister v r b × Takes i b new
-unfolding return_register_at
-return_register_found One i new r h e =
-    let t = byte_found i new r e in
-    let is : get_or i.bytes 0 0 ≡ r = ap (λ (l : List ℕ). get_or l 0 0) t.bytes in
-    (r ∷ [], (refl, omega (arith, h 0)), t)
-return_register_found Three i new r h e = register_found i new r h e
-return_register_found Four i new r h e = register_found i new r h e
+-- ---- what is spelled is read
 
--- ---- all fields of a CIE
+empty_again : {X : Type 0} (t : Target) (read : Input → Read X) (x : X) (b : List ℕ) → Again t read x b → Again t (λ i. judged (string_fault (position (λ c. c == 0) i.bytes)) i.at (read (behind 1 i))) x (0 ∷ b)
+empty_again t read x b again at more =
+    rw (lt-ltb 0 (length (0 ∷ (b ++ more))) (omega arith)) (again (at + 1) more ∙ ap (λ (n : ℕ). done (x, record { at = n; bytes = more; target = t })) (omega arith))
 
-factors_again : (target : Target) (f : CieFields) (code factor register : List ℕ) → Uleb f.code_factor code → Sleb f.data_factor factor → IsRegister f.version f.return_register register
-    → Again target (factors_at f.version) f (code ++ (factor ++ register))
-unfolding factors_at
-factors_again target f code factor register c d r at rest =
-    let v = f.version in
-    let j : Input = record { at = at; bytes = rest; target = target } in
-    again-then target uleb_at (after_code v) f.code_factor f code (factor ++ register) (λ at rest. uleb_again at target f.code_factor code rest c)
-    (again-then target sleb_at (after_data v (f.code_factor, j)) f.data_factor f factor register (λ at rest. sleb_again at target f.data_factor factor rest d)
-    (λ at rest. rw (return_register_again target v f.return_register register r at rest) refl))
-    at rest
+pub fields_again : {X : Type 0} (t : Target) (fs : Fields X) (x : X) (b : List ℕ) → FieldsSpell t fs x b → Again t (fields_at fs) x b
+fields_again t (end y) x b s at more = rw (s.1, s.0) (ap (λ (n : ℕ). done (y, record { at = n; bytes = more; target = t })) (omega arith))
+fields_again t (field n refused rest) x b s at more =
+    let both = s.2 in
+    let one = number_again t n s.0 both.front both.first at (both.back ++ more) in
+    let two = fields_again t (rest s.0) x both.back both.second (at + length both.front) more in
+    let place : (at + length both.front) + length both.back ≡ at + length (both.front ++ both.back) = omega (arith, length-append both.front both.back) in
+    rw (both.whole, append_assoc, one, s.1, two, place) refl
+fields_again t (empty_string rest) x b s at more = rw (s.whole, s.first) (empty_again t (fields_at rest) x s.back (fields_again t rest x s.back s.second) at more)
 
-pub cie_again : (target : Target) (f : CieFields) (b : List ℕ) → SpellsCie target.size f b → Again target cie_fields_at f b
-unfolding cie_fields_at
-cie_again target f b s =
-    let v = f.version in
-    let sizes = size_bytes v target.size in
-    let numbers = s.code ++ (s.factor ++ s.register) in
-    subst (λ (l : List ℕ). Again target cie_fields_at f l) (sym s.whole)
-    (again-then target version_at after_version v f (version_byte v ∷ []) ((0 ∷ []) ++ (sizes ++ numbers)) (version_again target v)
-    (again-then target empty_string_at (after_string v) tt f (0 ∷ []) (sizes ++ numbers) (empty_again target)
-    (again-then target (sizes_at v) (after_sizes v) tt f sizes numbers (sizes_again target v)
-    (factors_again target f s.code s.factor s.register s.code_is s.factor_is s.register_is))))
+-- ---- places
 
-pub cie_found : (i new : Input) (f : CieFields) → AreBytes i.bytes → cie_fields_at i ≡ done (f, new) → (b : List ℕ) × SpellsCie i.target.size f b × Takes i b new
-unfolding cie_fields_at factors_at
-cie_found i new f h e =
-    let p1 = bind_ok (version_at i) after_version (f, new) e in
-    let v : Version = p1.0.0 in
-    let t1 = version_found i p1.0.1 v p1.1 in
-    let p2 = bind_ok (empty_string_at p1.0.1) (after_string v) (f, new) p1.2 in
-    let t2 = empty_found p1.0.1 p2.0.1 p2.0.0 p2.1 in
-    let p3 = bind_ok (sizes_at v p2.0.1) (after_sizes v) (f, new) p2.2 in
-    let same : p2.0.1.target ≡ i.target = t2.target ∙ t1.target in
-    let sizes : List ℕ = size_bytes v i.target.size in
-    let t3 : Takes p2.0.1 sizes p3.0.1 = subst (λ (g : Target). Takes p2.0.1 (size_bytes v g.size) p3.0.1) same (sizes_found v p2.0.1 p3.0.1 p3.0.0 p3.1) in
-    let h1 = taken_bytes i p1.0.1 (version_byte v ∷ []) t1 h in
-    let h2 = taken_bytes p1.0.1 p2.0.1 (0 ∷ []) t2 h1 in
-    let h3 = taken_bytes p2.0.1 p3.0.1 sizes t3 h2 in
-    let p4 = bind_ok (uleb_at p3.0.1) (after_code v) (f, new) p3.2 in
-    let q4 = uleb_found p3.0.1 p4.0.1 p4.0.0 h3 p4.1 in
-    let h4 = taken_bytes p3.0.1 p4.0.1 q4.0 q4.2 h3 in
-    let p5 = bind_ok (sleb_at p4.0.1) (after_data v p4.0) (f, new) p4.2 in
-    let q5 = sleb_found p4.0.1 p5.0.1 p5.0.0 h4 p5.1 in
-    let h5 = taken_bytes p4.0.1 p5.0.1 q5.0 q5.2 h4 in
-    let p6 = bind_ok (return_register_at v p5.0.1) (cie_of v p4.0 p5.0) (f, new) p5.2 in
-    let q6 = return_register_found v p5.0.1 p6.0.1 p6.0.0 h5 p6.1 in
-    let numbers : List ℕ = q4.0 ++ (q5.0 ++ q6.0) in
-    let t4 : Takes p3.0.1 numbers p6.0.1 = Takes-then p3.0.1 p4.0.1 p6.0.1 q4.0 (q5.0 ++ q6.0) q4.2 (Takes-then p4.0.1 p5.0.1 p6.0.1 q5.0 q6.0 q5.2 q6.2) in
-    let all : Takes i ((version_byte v ∷ []) ++ ((0 ∷ []) ++ (sizes ++ numbers))) p6.0.1 =
-    Takes-then i p1.0.1 p6.0.1 (version_byte v ∷ []) ((0 ∷ []) ++ (sizes ++ numbers)) t1
-    (Takes-then p1.0.1 p2.0.1 p6.0.1 (0 ∷ []) (sizes ++ numbers) t2 (Takes-then p2.0.1 p3.0.1 p6.0.1 sizes numbers t3 t4)) in
-    let found : CieFields = record { version = v; code_factor = p4.0.0; data_factor = p5.0.0; return_register = p6.0.0 } in
-    subst (λ (z : CieFields × Input). (b : List ℕ) × SpellsCie i.target.size z.0 b × Takes i b z.1) (ok_is (found, p6.0.1) (f, new) p6.2) (
-      (version_byte v ∷ []) ++ ((0 ∷ []) ++ (sizes ++ numbers)),
-      record { code = q4.0; factor = q5.0; register = q6.0; code_is = q4.1; factor_is = q5.1; register_is = q6.1; whole = refl },
-      all,
-    )
+judged_stays : {X : Type 0} (o : Option Code) (i : Input) (read : Read X) → Stays i read → Stays i (judged o i.at read)
+judged_stays None i read h = h
+judged_stays (Some code) i read h = (omega arith, omega arith)
 
--- ---- all fields of an FDE
+string_inside : (i : Input) → string_fault (position (λ b. b == 0) i.bytes) ≡ None → Inside i (behind 1 i)
+string_inside i e = let first = position-Some (λ b. b == 0) i.bytes 0 0 (none_wrong (position (λ b. b == 0) i.bytes) e) in (omega arith, omega (arith, first.0, length-drop 1 i.bytes))
 
-id_is_width : (form : Form) → IsWidth (id_width form)
-id_is_width Dwarf32 = inr (inr (inl refl))
-id_is_width Dwarf64 = inr (inr (inr refl))
+string_stays : {X : Type 0} (o : Option Code) (i j : Input) (read : Read X) → (o ≡ None → Inside i j) → Stays j read → Stays i (judged o i.at read)
+string_stays None i j read inside h = stays_in i j read (inside refl) h
+string_stays (Some code) i j read inside h = (omega arith, omega arith)
 
-pointer_again : (target : Target) (places : List ℕ) (form : Form) (n : ℕ) (b : List ℕ) → Fixed target.order (id_width form) n b → is_among n places ≡ true → Again target (pointer_at places form) n b
-unfolding pointer_at
-pointer_again target places form n b f among at rest = rw (fixed_at_again (id_width form) at target n b rest f, among) refl
-
-pointer_found : (places : List ℕ) (form : Form) (i new : Input) (n : ℕ) → AreBytes i.bytes → pointer_at places form i ≡ done (n, new) → (b : List ℕ) × (Fixed i.target.order (id_width form) n b × (is_among n places ≡ true)) × Takes i b new
-unfolding pointer_at
-pointer_found places form i new n h e =
-    let p = bind_ok (fixed_at (id_width form) i) (named_of places i.at) (n, new) e in
-    let q = fixed_found (id_width form) i p.0.1 p.0.0 (id_is_width form) h p.1 in
-    let k = cond_ok (is_among p.0.0 places) (done p.0) (record { code = NoSuchCie; at = i.at }) (n, new) p.2 in
-    subst (λ (z : ℕ × Input). (b : List ℕ) × (Fixed i.target.order (id_width form) z.0 b × (is_among z.0 places ≡ true)) × Takes i b z.1) (ok_is p.0 (n, new) k.1) (q.0, (q.1, k.0), q.2)
-
-pub fde_again : (target : Target) (places : List ℕ) (form : Form) (f : FdeFields) (b : List ℕ) → SpellsFde target places form f b → Again target (fde_fields_at places form) f b
-unfolding fde_fields_at range_at
-fde_again target places form f b s =
-    let j : Input = record { at = 0; bytes = []; target = target } in
-    subst (λ (l : List ℕ). Again target (fde_fields_at places form) f l) (sym s.whole)
-    (again-then target (pointer_at places form) after_pointer f.cie_at f s.pointer (s.first ++ s.range) (pointer_again target places form f.cie_at s.pointer s.pointer_is s.names_cie)
-    (again-then target address_at (after_begin f.cie_at) f.begin f s.first s.range (address_again target f.begin s.first s.begin_is)
-    (λ at rest. rw (address_again target f.range s.range s.range_is at rest, le-leb (f.begin + f.range) (address_limit target.size) s.in_space) refl)))
-
-pub fde_found : (places : List ℕ) (form : Form) (i new : Input) (f : FdeFields) → AreBytes i.bytes → fde_fields_at places form i ≡ done (f, new) → (b : List ℕ) × SpellsFde i.target places form f b × Takes i b new
-unfolding fde_fields_at range_at
-fde_found places form i new f h e =
-    let p1 = bind_ok (pointer_at places form i) after_pointer (f, new) e in
-    let q1 = pointer_found places form i p1.0.1 p1.0.0 h p1.1 in
-    let h1 = taken_bytes i p1.0.1 q1.0 q1.2 h in
-    let p2 = bind_ok (address_at p1.0.1) (after_begin p1.0.0) (f, new) p1.2 in
-    let q2 = address_found p1.0.1 p2.0.1 p2.0.0 h1 p2.1 in
-    let h2 = taken_bytes p1.0.1 p2.0.1 q2.0 q2.2 h1 in
-    let p3 = bind_ok (address_at p2.0.1) (fde_of p1.0.0 p2.0) (f, new) p2.2 in
-    let q3 = address_found p2.0.1 p3.0.1 p3.0.0 h2 p3.1 in
-    let found : FdeFields = record { cie_at = p1.0.0; begin = p2.0.0; range = p3.0.0 } in
-    let k = cond_ok (nat_le (p2.0.0 + p3.0.0) (address_limit p2.0.1.target.size)) (done (found, p3.0.1)) (record { code = RangeTooLarge; at = p2.0.1.at }) (f, new) p3.2 in
-    let same1 : p1.0.1.target ≡ i.target = q1.2.target in
-    let same2 : p2.0.1.target ≡ i.target = q2.2.target ∙ same1 in
-    let begin_is : Fixed i.target.order (byte_count i.target.size) p2.0.0 q2.0 = subst (λ (g : Target). Fixed g.order (byte_count g.size) p2.0.0 q2.0) same1 q2.1 in
-    let range_is : Fixed i.target.order (byte_count i.target.size) p3.0.0 q3.0 = subst (λ (g : Target). Fixed g.order (byte_count g.size) p3.0.0 q3.0) same2 q3.1 in
-    let in_space : p2.0.0 + p3.0.0 ≤ address_limit i.target.size = subst (λ (g : Target). p2.0.0 + p3.0.0 ≤ address_limit g.size) same2 (leb-true (p2.0.0 + p3.0.0) (address_limit p2.0.1.target.size) k.0) in
-    let all : Takes i (q1.0 ++ (q2.0 ++ q3.0)) p3.0.1 = Takes-then i p1.0.1 p3.0.1 q1.0 (q2.0 ++ q3.0) q1.2 (Takes-then p1.0.1 p2.0.1 p3.0.1 q2.0 q3.0 q2.2 q3.2) in
-    subst (λ (z : FdeFields × Input). (b : List ℕ) × SpellsFde i.target places form z.0 b × Takes i b z.1) (ok_is (found, p3.0.1) (f, new) k.1) (
-      q1.0 ++ (q2.0 ++ q3.0),
-      record { pointer = q1.0; first = q2.0; range = q3.0; pointer_is = q1.1.0; begin_is = begin_is; range_is = range_is; names_cie = q1.1.1; in_space = in_space; whole = refl },
-      all,
-    )
+pub fields_stay : {X : Type 0} (fs : Fields X) (i : Input) → Stays i (fields_at fs i)
+fields_stay (end x) i = inside_all i
+fields_stay (field n refused rest) i =
+    stays-then i (number_at n i) (behind_field refused i.at (λ v. fields_at (rest v))) (number_stays n i)
+    (λ v e k. judged_stays (refused v.0) i (fields_at (rest v.0) v.1) (stays_in i v.1 (fields_at (rest v.0) v.1) k (fields_stay (rest v.0) v.1)))
+fields_stay (empty_string rest) i =
+    string_stays (string_fault (position (λ b. b == 0) i.bytes)) i (behind 1 i) (fields_at rest (behind 1 i)) (string_inside i) (fields_stay rest (behind 1 i))

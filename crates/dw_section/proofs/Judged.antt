@@ -30,7 +30,8 @@ use Rattle.dw_cfa.specs.Runs.{Outcome}
 use Rattle.dw_cfa.specs.Inner.Runs.{rows_behind}
 use Rattle.dw_cfa.specs.Stepping.{Stepping, stepping}
 use Rattle.dw_section.specs.declared.judging.Initial.{Initial}
-use Rattle.dw_section.specs.FdeFields.{is_among}
+use Rattle.dw_section.specs.Fields.{is_among}
+use Rattle.dw_num.specs.Refusals.{Refuses}
 use Rattle.dw_section.specs.Headers.{Head, fde, FdeHead}
 use Rattle.dw_section.specs.Inner.Heads.{head_at, cie_at_of, cie_ats}
 use Rattle.dw_section.specs.Inner.Initials.{or_place, place_of, IsInitial, IsBehind, AreInitials, HasOrLacks, FirstLacking, initial_head}

@@ -1,105 +1,116 @@
--- Reading fields from the front of an entry's contents, with the fault of what can't be read.
-use Rattle.std.specs.Prelude.{ℕ, zero, suc, ◌+◌, ◌==◌, List, Option, Some, None, Ok, nat_le, ℤ, position, if◌then◌else◌}
+-- The fields of entries, with what is refused in each: DWARF 5, 6.4.1, and versions 1 and 3 before it.
+use Rattle.std.specs.Prelude.{◌≡◌, ◌⊎◌, ℕ, zero, suc, ◌+◌, ◌==◌, ◌||◌, Bool, List, [], ◌∷◌, Option, Some, None, Ok, Err, ℤ, nat_le, nat_lt, position, if◌then◌else◌}
+use Rattle.std.specs.List.{list_any}
 use Rattle.dw_num.specs.declared.refusal.Code.{Code}
-use Rattle.dw_num.specs.declared.refusal.Code.TheVariants.{Truncated, BadVersion, Augmentation, AddressSize, SegmentSelector, NoSuchCie, RangeTooLarge}
+use Rattle.dw_num.specs.declared.refusal.Code.TheVariants.{Truncated, BadVersion, Augmentation, AddressSize, SegmentSelector, RegisterTooLarge, NoSuchCie, RangeTooLarge}
+use Rattle.dw_num.specs.declared.refusal.Refusal.{Refusal}
 use Rattle.dw_num.specs.declared.target.Form.{Form}
+use Rattle.dw_num.specs.declared.target.Size.{Size}
+use Rattle.dw_num.specs.declared.target.Target.{Target}
 use Rattle.dw_num.specs.Input.{Input, behind}
-use Rattle.dw_num.specs.Reading.{Read, fault, fixed_at, uleb_at, sleb_at, address_at, register_at, ◌>>=◌}
-use Rattle.dw_section.specs.declared.fields.Version.{Version}
-use Rattle.dw_section.specs.declared.fields.Version.TheVariants.{One, Three, Four}
+use Rattle.dw_num.specs.Target.{address_limit, byte_count}
+use Rattle.dw_op.specs.OpSpells.{Both}
+use Rattle.dw_num.specs.Fixed.{Fixed}
+use Rattle.dw_num.specs.Leb.{Uleb, Sleb}
+use Rattle.dw_num.specs.Reading.{Read, fixed_at, uleb_at, sleb_at}
+use Rattle.dw_section.specs.Cut.{id_width}
 use Rattle.dw_section.specs.declared.fields.CieFields.{CieFields}
 use Rattle.dw_section.specs.declared.fields.FdeFields.{FdeFields}
-use Rattle.dw_section.specs.Cut.{id_width}
-use Rattle.dw_num.specs.Target.{address_limit, byte_count}
-use Rattle.dw_section.specs.FdeFields.{is_among}
 
--- a byte that has to be this one
-abbrev pub wanted_of : ℕ → Code → ℕ → ℕ × Input → Read (Unit {0})
-wanted_of n code at b = if b.0 == n then Ok (tt, b.1) else fault code at
+-- ---- numbers
 
-unfoldable pub wanted_at : ℕ → Code → Input → Read (Unit {0})
-wanted_at n code i = fixed_at 1 i >>= wanted_of n code i.at
+-- one of so many bytes, and the LEB of an unsigned or signed one
+pub data Number : Type 0 where
+  fixed : ℕ → Number
+  unsigned : Number
+  signed : Number
 
-abbrev pub version_of : ℕ → Option Version
-version_of n = if n == 1 then Some One else if n == 3 then Some Three else if n == 4 then Some Four else None
+abbrev pub Value : Number → Type 0
+Value signed = ℤ
+Value other = ℕ
 
-abbrev pub known : ℕ → Option Version → Input → Read Version
-known at None i = fault BadVersion at
-known at (Some v) i = Ok (v, i)
+abbrev pub Spells : Target → (n : Number) → Value n → List ℕ → Type 0
+Spells t (fixed width) v bytes = Fixed t.order width v bytes
+Spells t unsigned v bytes = Uleb v bytes
+Spells t signed v bytes = Sleb v bytes
 
-abbrev pub version_in : ℕ → ℕ × Input → Read Version
-version_in at b = known at (version_of b.0) b.1
+-- reading one, with its fault
+abbrev pub number_at : (n : Number) → Input → Read (Value n)
+number_at (fixed width) i = fixed_at width i
+number_at unsigned i = uleb_at i
+number_at signed i = sleb_at i
 
-unfoldable pub version_at : Input → Read Version
-version_at i = fixed_at 1 i >>= version_in i.at
+-- ---- fields
 
--- a string that ends and is empty
-abbrev pub empty_of : Option ℕ → Input → Read (Unit {0})
-empty_of None i = fault Truncated i.at
-empty_of (Some zero) i = Ok (tt, behind 1 i)
-empty_of (Some (suc n)) i = fault Augmentation i.at
+-- fields one after another, to what they say: a number, the code with which a value of it is refused, and what stands behind a value
+pub data Fields (X : Type 0) : Type 0 where
+  end : X → Fields X
+  field : (n : Number) → (Value n → Option Code) → (Value n → Fields X) → Fields X
+  -- a string that has to be empty
+  empty_string : Fields X → Fields X
 
-unfoldable pub empty_string_at : Input → Read (Unit {0})
-empty_string_at i = empty_of (position (λ b. b == 0) i.bytes) i
+-- ---- the table
 
-abbrev pub selector_of : Unit {0} × Input → Read (Unit {0})
-selector_of s = wanted_at 0 SegmentSelector s.1
+abbrev pub any : {X : Type 0} → X → Option Code
+any x = None
 
-unfoldable pub sizes_at : Version → Input → Read (Unit {0})
-sizes_at One i = Ok (tt, i)
-sizes_at Three i = Ok (tt, i)
-sizes_at Four i = wanted_at (byte_count i.target.size) AddressSize i >>= selector_of
+abbrev pub unless : Bool → Code → Option Code
+unless allowed code = if allowed then None else Some code
 
--- the return register, one byte in version 1
-unfoldable pub return_register_at : Version → Input → Read ℕ
-return_register_at One i = fixed_at 1 i
-return_register_at Three i = register_at i
-return_register_at Four i = register_at i
+-- what version 4 says of addresses and of segments
+abbrev pub sizes : Size → ℕ → Fields CieFields → Fields CieFields
+sizes size version rest =
+    if version == 4 then field (fixed 1) (λ n. unless (n == byte_count size) AddressSize) (λ n. field (fixed 1) (λ k. unless (k == 0) SegmentSelector) (λ k. rest))
+    else rest
 
-abbrev pub cie_of : Version → ℕ × Input → ℤ × Input → ℕ × Input → Read CieFields
-cie_of v c d r = Ok (record { version = v; code_factor = c.0; data_factor = d.0; return_register = r.0 }, r.1)
+-- the return register, a byte in version 1
+abbrev pub return_register : ℕ → (ℕ → Fields CieFields) → Fields CieFields
+return_register version rest = if version == 1 then field (fixed 1) any rest else field unsigned (λ r. unless (nat_lt r 65536) RegisterTooLarge) rest
 
-abbrev pub after_data : Version → ℕ × Input → ℤ × Input → Read CieFields
-after_data v c d = return_register_at v d.1 >>= cie_of v c d
+-- the factors and the register
+abbrev pub factors : ℕ → Fields CieFields
+factors version =
+    field unsigned any (λ code. field signed any (λ factor. return_register version (λ r. end (record { code_factor = code; data_factor = factor; return_register = r }))))
 
-abbrev pub after_code : Version → ℕ × Input → Read CieFields
-after_code v c = sleb_at c.1 >>= after_data v c
+-- a CIE: its id, the version, the augmentation, the sizes, the factors
+abbrev pub cie_fields : Size → Form → Fields CieFields
+cie_fields size form =
+    field (fixed (id_width form)) any (λ id. field (fixed 1) (λ v. unless (v == 1 || (v == 3 || v == 4)) BadVersion) (λ version. empty_string (sizes size version (factors version))))
 
-unfoldable pub factors_at : Version → Input → Read CieFields
-factors_at v i = uleb_at i >>= after_code v
+-- whether a place is among places
+abbrev pub is_among : ℕ → List ℕ → Bool
+is_among n places = list_any (λ c. c == n) places
 
-abbrev pub after_sizes : Version → Unit {0} × Input → Read CieFields
-after_sizes v s = factors_at v s.1
+-- an FDE, where CIEs stand at these places: the place of its CIE, the first address and the range
+abbrev pub fde_fields : Size → List ℕ → Form → Fields FdeFields
+fde_fields size places form =
+    field (fixed (id_width form)) (λ p. unless (is_among p places) NoSuchCie) (λ cie_at. field (fixed (byte_count size)) any (λ begin.
+    field (fixed (byte_count size)) (λ n. unless (nat_le (begin + n) (address_limit size)) RangeTooLarge) (λ range. end (record { cie_at = cie_at; begin = begin; range = range }))))
 
-abbrev pub after_string : Version → Unit {0} × Input → Read CieFields
-after_string v e = sizes_at v e.1 >>= after_sizes v
+-- ---- what bytes say
 
-abbrev pub after_version : Version × Input → Read CieFields
-after_version v = empty_string_at v.1 >>= after_string v.0
+-- the bytes spell fields that say this
+abbrev pub FieldsSpell : {X : Type 0} → Target → Fields X → X → List ℕ → Type 0
+FieldsSpell t (end y) x bytes = (x ≡ y) × (bytes ≡ [])
+FieldsSpell t (field n refused rest) x bytes = (v : Value n) × (refused v ≡ None) × Both (Spells t n v) (FieldsSpell t (rest v) x) bytes
+FieldsSpell t (empty_string rest) x bytes = Both (λ b. b ≡ 0 ∷ []) (FieldsSpell t rest x) bytes
 
--- the fields of a CIE behind its id
-unfoldable pub cie_fields_at : Input → Read CieFields
-cie_fields_at i = version_at i >>= after_version
+-- ---- the first fault
 
--- a pointer that has to name a CIE
-abbrev pub named_of : List ℕ → ℕ → ℕ × Input → Read ℕ
-named_of places at p = if is_among p.0 places then Ok p else fault NoSuchCie at
+-- there is a code, at this place; or there is none, but a fault behind
+abbrev pub Judged : Option Code → ℕ → (Refusal → Type 0) → Refusal → Type 0
+Judged (Some code) at Behind r = r ≡ record { code = code; at = at }
+Judged None at Behind r = Behind r
 
-unfoldable pub pointer_at : List ℕ → Form → Input → Read ℕ
-pointer_at places form i = fixed_at (id_width form) i >>= named_of places i.at
+-- what is wrong with a string in which a zero is first found here: it has no end, or is not empty
+abbrev pub string_fault : Option ℕ → Option Code
+string_fault None = Some Truncated
+string_fault (Some zero) = None
+string_fault (Some (suc n)) = Some Augmentation
 
-abbrev pub fde_of : ℕ → ℕ × Input → ℕ × Input → Read FdeFields
-fde_of cie_at b r = if nat_le (b.0 + r.0) (address_limit b.1.target.size) then Ok (record { cie_at = cie_at; begin = b.0; range = r.0 }, r.1) else fault RangeTooLarge b.1.at
-
-abbrev pub after_begin : ℕ → ℕ × Input → Read FdeFields
-after_begin cie_at b = address_at b.1 >>= fde_of cie_at b
-
-unfoldable pub range_at : ℕ → Input → Read FdeFields
-range_at cie_at i = address_at i >>= after_begin cie_at
-
-abbrev pub after_pointer : ℕ × Input → Read FdeFields
-after_pointer p = range_at p.0 p.1
-
--- the fields of an FDE, where CIEs stand at these places
-unfoldable pub fde_fields_at : List ℕ → Form → Input → Read FdeFields
-fde_fields_at places form i = pointer_at places form i >>= after_pointer
+-- the first field that can't be read, or whose value is refused
+abbrev pub FieldsFault : {X : Type 0} → Fields X → Input → Refusal → Type 0
+FieldsFault (end x) i r = ⊥
+FieldsFault (field n refused rest) i r =
+    (number_at n i ≡ Err r) ⊎ ((v : Value n) × (j : Input) × (number_at n i ≡ Ok (v, j)) × Judged (refused v) i.at (FieldsFault (rest v) j) r)
+FieldsFault (empty_string rest) i r = Judged (string_fault (position (λ b. b == 0) i.bytes)) i.at (FieldsFault rest (behind 1 i)) r

@@ -1,4 +1,6 @@
 -- How the code keeps what the contracts say. No public clause reaches these.
+pub mod Fields
+pub mod Reading
 pub mod Heads
 pub mod Initials
 pub mod Index

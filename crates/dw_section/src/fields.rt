@@ -4,8 +4,8 @@ ghost use Rattle.std.specs.Prelude.{◌≡◌, ◌<◌, nat_le, ◌+◌, positio
 ghost use Rattle.dw_section.specs.Places.{Rises};
 ghost use Rattle.dw_num.specs.Reading.{Gives};
 ghost use Rattle.dw_num.specs.Target.{address_limit};
-ghost use Rattle.dw_section.specs.FdeFields.{is_among};
-ghost use Rattle.dw_section.specs.Fields.{wanted_at, version_of, version_at, empty_string_at, sizes_at, return_register_at, factors_at, cie_fields_at, pointer_at, range_at, fde_fields_at};
+ghost use Rattle.dw_section.specs.Fields.{is_among};
+ghost use Rattle.dw_section.specs.Inner.Fields.{wanted_at, version_of, version_at, empty_string_at, sizes_at, return_register_at, factors_at, cie_fields_at, pointer_at, range_at, fde_fields_at};
 
 use crate::cutting::width_of;
 use dw_num::{Code, Cursor, Form, Refusal, Size};
@@ -21,7 +21,6 @@ pub(crate) enum Version {
 /// What the fields of a CIE say.
 #[derive(Clone, Copy)]
 pub(crate) struct CieFields {
-    pub(crate) version: Version,
     pub(crate) code_factor: u64,
     pub(crate) data_factor: i64,
     pub(crate) return_register: u16,
@@ -46,7 +45,7 @@ fn version_in(byte: u8) -> Option<Version>
     }
 }
 
-#[tactic(auto, unfolding(crate::specs::Fields::wanted_at))]
+#[tactic(auto, unfolding(crate::specs::Inner::Fields::wanted_at))]
 fn want_byte(cursor: &mut Cursor<'_>, wanted: u8, code: Code) -> Result<(), Refusal>
     ensures { Gives (λ _. tt) result (wanted_at wanted code cursor.old) cursor.new }
 {
@@ -59,7 +58,7 @@ fn want_byte(cursor: &mut Cursor<'_>, wanted: u8, code: Code) -> Result<(), Refu
     }
 }
 
-#[tactic(auto, unfolding(crate::specs::Fields::version_at))]
+#[tactic(auto, unfolding(crate::specs::Inner::Fields::version_at))]
 fn read_version(cursor: &mut Cursor<'_>) -> Result<Version, Refusal>
     ensures { Gives (λ v. v) result (version_at cursor.old) cursor.new }
 {
@@ -81,7 +80,7 @@ fn string_len(bytes: &[u8]) -> Option<usize>
     bytes.iter().position(|byte| *byte == 0)
 }
 
-#[tactic(auto, unfolding(crate::specs::Fields::empty_string_at, dw_num::specs::Reading::take_at))]
+#[tactic(auto, unfolding(crate::specs::Inner::Fields::empty_string_at, dw_num::specs::Reading::take_at))]
 fn empty_string(cursor: &mut Cursor<'_>) -> Result<(), Refusal>
     ensures { Gives (λ _. tt) result (empty_string_at cursor.old) cursor.new }
 {
@@ -102,7 +101,7 @@ fn empty_string(cursor: &mut Cursor<'_>) -> Result<(), Refusal>
     }
 }
 
-#[tactic(auto, unfolding(crate::specs::Fields::sizes_at))]
+#[tactic(auto, unfolding(crate::specs::Inner::Fields::sizes_at))]
 fn read_sizes(cursor: &mut Cursor<'_>, version: Version) -> Result<(), Refusal>
     ensures { Gives (λ _. tt) result (sizes_at version cursor.old) cursor.new }
 {
@@ -117,7 +116,7 @@ fn read_sizes(cursor: &mut Cursor<'_>, version: Version) -> Result<(), Refusal>
     }
 }
 
-#[tactic(auto, unfolding(crate::specs::Fields::return_register_at))]
+#[tactic(auto, unfolding(crate::specs::Inner::Fields::return_register_at))]
 fn read_register(cursor: &mut Cursor<'_>, version: Version) -> Result<u16, Refusal>
     ensures { Gives (λ r. r) result (return_register_at version cursor.old) cursor.new }
 {
@@ -131,7 +130,7 @@ fn read_register(cursor: &mut Cursor<'_>, version: Version) -> Result<u16, Refus
     }
 }
 
-#[tactic(auto, unfolding(crate::specs::Fields::factors_at))]
+#[tactic(auto, unfolding(crate::specs::Inner::Fields::factors_at))]
 fn read_factors(cursor: &mut Cursor<'_>, version: Version) -> Result<CieFields, Refusal>
     ensures { Gives (λ f. f) result (factors_at version cursor.old) cursor.new }
 {
@@ -139,14 +138,13 @@ fn read_factors(cursor: &mut Cursor<'_>, version: Version) -> Result<CieFields, 
     let data_factor = cursor.sleb()?;
     let return_register = read_register(cursor, version)?;
     Ok(CieFields {
-        version,
         code_factor,
         data_factor,
         return_register,
     })
 }
 
-#[tactic(auto, unfolding(crate::specs::Fields::cie_fields_at))]
+#[tactic(auto, unfolding(crate::specs::Inner::Fields::cie_fields_at))]
 pub(crate) fn read_cie(cursor: &mut Cursor<'_>) -> Result<CieFields, Refusal>
     ensures { Gives (λ f. f) result (cie_fields_at cursor.old) cursor.new }
 {
@@ -164,7 +162,7 @@ fn has_place(places: &[u64], place: u64) -> bool
     places.binary_search(&place).is_ok()
 }
 
-#[tactic(auto, unfolding(crate::specs::Fields::pointer_at))]
+#[tactic(auto, unfolding(crate::specs::Inner::Fields::pointer_at))]
 #[inline(always)]
 fn read_pointer(cursor: &mut Cursor<'_>, places: &[u64], form: Form) -> Result<u64, Refusal>
     requires { Rises 0 places.now }
@@ -189,7 +187,7 @@ fn in_space(size: Size, begin: u64, range: u64) -> bool
     u128::from(begin) + u128::from(range) <= size.address_limit()
 }
 
-#[tactic(auto, unfolding(crate::specs::Fields::range_at))]
+#[tactic(auto, unfolding(crate::specs::Inner::Fields::range_at))]
 #[inline(always)]
 fn read_range(cursor: &mut Cursor<'_>, cie_at: u64) -> Result<FdeFields, Refusal>
     ensures { Gives (λ f. f) result (range_at cie_at cursor.old) cursor.new }
@@ -212,7 +210,7 @@ fn read_range(cursor: &mut Cursor<'_>, cie_at: u64) -> Result<FdeFields, Refusal
     }
 }
 
-#[tactic(auto, unfolding(crate::specs::Fields::fde_fields_at))]
+#[tactic(auto, unfolding(crate::specs::Inner::Fields::fde_fields_at))]
 #[inline(always)]
 pub(crate) fn read_fde(
     cursor: &mut Cursor<'_>,

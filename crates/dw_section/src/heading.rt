@@ -16,7 +16,8 @@ ghost use Rattle.dw_section.specs.Pieces.{Pieces, piece_in};
 ghost use Rattle.dw_section.specs.Places.{cie_places, Rises};
 ghost use Rattle.dw_section.specs.Inner.Heads.{head_at};
 ghost use Rattle.dw_section.specs.Inner.Left.{HeadsLeft, GivesHead, GoesOn};
-ghost use Rattle.dw_section.specs.Headers.{Head, Has, Headers, cie_at, fde_at, program_of, head_in, CieHolds, CieStuck, FdeHolds, FdeStuck, HeadersFault};
+ghost use Rattle.dw_section.specs.Inner.Reading.{cie_at, fde_at, program_of};
+ghost use Rattle.dw_section.specs.Headers.{Head, Has, Headers, head_in, CieHolds, CieStuck, FdeHolds, FdeStuck, HeadersFault};
 
 use crate::cutting::{Kind, Placed, cut, next_piece, width_of};
 use crate::fields::{read_cie, read_fde};
@@ -57,7 +58,7 @@ fn rest_of<'a>(cursor: &Cursor<'a>) -> Program<'a>
     }
 }
 
-#[tactic(auto, unfolding(crate::specs::Headers::cie_at))]
+#[tactic(auto, unfolding(crate::specs::Inner::Reading::cie_at))]
 pub(crate) fn cie_header<'a>(piece: &Placed<'a>, target: Target) -> Result<Header<'a>, Refusal>
     requires { piece.now.kind ≡ kind.Cie }
     ensures exact { Answers head_in result (cie_at target (piece_in piece.now)) }
@@ -78,7 +79,7 @@ pub(crate) fn cie_header<'a>(piece: &Placed<'a>, target: Target) -> Result<Heade
     })
 }
 
-#[tactic(auto, unfolding(crate::specs::Headers::fde_at))]
+#[tactic(auto, unfolding(crate::specs::Inner::Reading::fde_at))]
 #[inline(always)]
 fn fde_header<'a>(piece: &Placed<'a>, places: &[u64], target: Target) -> Result<Header<'a>, Refusal>
     requires kind { piece.now.kind ≡ kind.Fde }

@@ -16,7 +16,7 @@ ghost use Rattle.dw_cfa.specs.Inner.Exact.{RulesBehind};
 ghost use Rattle.dw_cfa.specs.Faults.{CieFault, FdeFault};
 ghost use Rattle.dw_cfa.specs.Following.{with_steps};
 ghost use Rattle.dw_cfa.specs.Lacking.{lacks_from};
-ghost use Rattle.dw_section.specs.FdeFields.{is_among};
+ghost use Rattle.dw_section.specs.Fields.{is_among};
 ghost use Rattle.dw_section.specs.Headers.{Head, Has, CieHolds, cie, fde, head_in};
 ghost use Rattle.dw_section.specs.Pieces.{piece_in};
 ghost use Rattle.dw_section.specs.Inner.Heads.{FdeFits, IsTyped};

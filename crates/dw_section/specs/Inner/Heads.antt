@@ -6,7 +6,7 @@ use Rattle.dw_num.specs.declared.target.Target.{Target}
 use Rattle.dw_num.specs.Input.{AreBytes}
 use Rattle.dw_num.specs.Span.{Span}
 use Rattle.dw_num.specs.Target.{address_limit}
-use Rattle.dw_section.specs.FdeFields.{is_among}
+use Rattle.dw_section.specs.Fields.{is_among}
 use Rattle.dw_section.specs.Headers.{Head, cie, fde}
 
 -- the place of an entry

@@ -6,12 +6,12 @@ use Rattle.dw_section.specs.Headers.{Head, Has, head_in}
 use Rattle.dw_section.specs.Inner.Heads.{cie_at_of}
 use Rattle.dw_section.specs.Pieces.{piece_in}
 use Rattle.dw_section.specs.Programs.{IsAmong, CieRuns}
-use Rattle.dw_section.proofs.HeaderLaws.{has_one, cie_apart}
+use Rattle.dw_section.proofs.HeaderLaws.{has_one, cie_apart, cie_faulty}
 use Rattle.dw_section.proofs.Judged.{initials_fde}
 use Rattle.dw_section.proofs.judging.keep_piece.Goals as goal
 
 is_fde : (target : Target) (places : List ℕ) (p : Piece) (h : Head) → Has target places p h → p.kind ≡ kind.Fde → CieRuns target h × (cie_at_of h ≡ None)
-is_fde target places p h (inl c) is = let a = c.2.is_cie in absurd cc
+is_fde target places p h (inl c) is = let a = c.2.0 in absurd cc
 is_fde target places p h (inr f) is = (rw f.3 tt, rw f.3 refl)
 
 pub returns-in-Ok-clause-found : goal.returns-in-Ok-clause-found
@@ -25,7 +25,7 @@ returns-in-Ok-clause-first c = λ places h has.
     rw same c.keep_initial.ensures.first
 
 pub returns-in-Err-clause-found : goal.returns-in-Err-clause-found
-returns-in-Err-clause-found c = λ hs front places h has among w. absurd (cie_apart c.args.target (piece_in c.args.piece.now) c.in-Err.field-0 c.requires (c.in-Cie.is, c.in-Err.ensures.exact))
+returns-in-Err-clause-found c = λ hs front places h has among w. absurd (cie_apart c.args.target (piece_in c.args.piece.now) c.in-Err.field-0 c.requires (c.in-Cie.is, cie_faulty c.args.target (piece_in c.args.piece.now) c.in-Err.field-0 c.in-Err.ensures.exact))
 
 pub returns-in-Fde-clause-found : goal.returns-in-Fde-clause-found
 returns-in-Fde-clause-found c = λ hs front places h has among w.
