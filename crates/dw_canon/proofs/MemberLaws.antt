@@ -21,7 +21,8 @@ use Rattle.dw_cfa.specs.Laws.{initial_cfa, initial_rule, HoldsAfter}
 use Rattle.dw_cfa.specs.Location.{onto, moves_location, row_starts}
 use Rattle.dw_cfa.specs.Inner.Machine.{State, begun, after}
 use Rattle.dw_cfa.specs.Rows.{Rules, AreSpecified, rule, blank}
-use Rattle.dw_cfa.specs.RuleAt.{CountsFrom, last_at, or_here, NeverFalls}
+use Rattle.dw_cfa.specs.RuleAt.{last_at, or_here, NeverFalls}
+use Rattle.dw_cfa.specs.Inner.RuleAt.{CountsFrom}
 use Rattle.dw_cfa.specs.Inner.Runs.{Placed}
 use Rattle.dw_cfa.proofs.Counting.{counts_exists, one_count}
 use Rattle.dw_cfa.proofs.FaultLaws.{begun_stands}
@@ -34,7 +35,8 @@ use Rattle.dw_section.specs.Programs.{HasCfa}
 use Rattle.dw_section.proofs.ChangeLaws.{HasRow, all_found}
 use Rattle.dw_canon.specs.Canon.{fde_instrs, cie_instrs}
 use Rattle.dw_section.specs.Sound.{RowFits}
-use Rattle.dw_canon.specs.Fits.{ChangesStand, MemberStands, InstrFits}
+use Rattle.dw_canon.specs.Fits.{ChangesStand, MemberStands}
+use Rattle.dw_canon.specs.Inner.Fits.{InstrFits}
 use Rattle.dw_canon.specs.Members.{Member, changes_of}
 use Rattle.dw_canon.specs.Spelling.{program_bytes}
 use Rattle.dw_canon.specs.Written.{factors}

@@ -11,3 +11,4 @@ pub mod Normal
 pub mod Bound
 pub mod Laws
 pub mod Headline
+pub mod Inner

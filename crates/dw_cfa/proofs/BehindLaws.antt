@@ -11,7 +11,7 @@ use Rattle.dw_cfa.specs.declared.running.LocatedRow.{LocatedRow}
 use Rattle.dw_cfa.specs.Inner.Exact.{RulesBehind, BehindGives, GivesRows}
 use Rattle.dw_cfa.specs.Location.{moves_location}
 use Rattle.dw_cfa.specs.Rows.{Rules, AreSpecified}
-use Rattle.dw_cfa.specs.RuleAt.{CountsFrom}
+use Rattle.dw_cfa.specs.Inner.RuleAt.{CountsFrom}
 use Rattle.dw_cfa.specs.Inner.Machine.{State, begun, after}
 use Rattle.dw_cfa.specs.Inner.Runs.{Placed, placed, row_if, fde_rows, rows_behind}
 use Rattle.dw_cfa.specs.Runs.{Outcome}

@@ -17,7 +17,7 @@ use Rattle.dw_op.specs.declared.op.Op.{Op}
 use Rattle.dw_op.specs.declared.profile.Profile.TheVariants.{Frame}
 use Rattle.dw_op.specs.Expression.{Expression}
 use Rattle.dw_op.specs.OpSpells.{Code, Both}
-use Rattle.dw_op.specs.Walk.{block_input, decode_at}
+use Rattle.dw_op.specs.Inner.Walk.{block_input, decode_at}
 use Rattle.dw_op.proofs.Blocks.{block_found}
 use Rattle.dw_cfa.specs.declared.instr.Factors.{Factors}
 use Rattle.dw_cfa.specs.declared.instr.Instr.{Instr}

@@ -11,7 +11,7 @@ use Rattle.dw_num.proofs.Steps.{take_found}
 use Rattle.dw_num.proofs.Stays.{Inside, Stays, stays_in, stays-then, fixed_stays, address_stays, take_stays, uleb_stays, sleb_stays, register_stays}
 use Rattle.dw_op.specs.declared.op.Op.{Op}
 use Rattle.dw_op.specs.declared.profile.Profile.TheVariants.{Frame}
-use Rattle.dw_op.specs.Walk.{block_input, decode_at}
+use Rattle.dw_op.specs.Inner.Walk.{block_input, decode_at}
 use Rattle.dw_op.proofs.Blocks.{fault_found}
 use Rattle.dw_op.proofs.FaultPlaces.{fault_within}
 use Rattle.dw_cfa.specs.declared.instr.Factors.{Factors}

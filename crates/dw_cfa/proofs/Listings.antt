@@ -15,7 +15,7 @@ use Rattle.dw_cfa.specs.InstrSpells.{InstrSpells, Program}
 use Rattle.dw_cfa.specs.Inner.Reading.{instr_at}
 use Rattle.dw_cfa.specs.Listing.{Listing, complete, faulty, ProgramFault}
 use Rattle.dw_cfa.specs.Inner.Listing.{listing, left_of}
-use Rattle.dw_op.specs.Walks.{ended, put, on_read, on_left, walked_by}
+use Rattle.dw_op.specs.Inner.Walks.{ended, put, on_read, on_left, walked_by}
 use Rattle.dw_cfa.proofs.InstrLaws.{instr_found}
 use Rattle.dw_cfa.proofs.InstrAgain.{instr_again}
 use Rattle.dw_cfa.proofs.InstrPlaces.{instr_stays}

@@ -9,9 +9,11 @@ use Rattle.dw_cfa.specs.declared.marks.Marks.{Marks}
 use Rattle.dw_cfa.specs.declared.rule.CfaRule.{CfaRule}
 use Rattle.dw_cfa.specs.declared.rule.RegRule.{RegRule}
 use Rattle.dw_cfa.specs.declared.rule.RegRule.TheVariants.{Unspecified, SameValue}
-use Rattle.dw_cfa.specs.Rows.{Rules, AreSpecified, put, rule_in, with_rule}
+use Rattle.dw_cfa.specs.Rows.{Rules, AreSpecified, rule_in}
+use Rattle.dw_cfa.specs.Inner.Rows.{put, with_rule}
 use Rattle.dw_cfa.specs.Narrowing.{same_rule}
-use Rattle.dw_cfa.specs.Differing.{DiffersFirst, FirstDifference, SameBetween, SameUnset}
+use Rattle.dw_cfa.specs.Differing.{DiffersFirst, FirstDifference, SameBetween}
+use Rattle.dw_cfa.specs.Inner.Differing.{SameUnset}
 use Rattle.dw_cfa.specs.Inner.Marks.{CopiedUpTo, MarksMore, MarksSo, SameUnlisted, SameUnmarked, Unmarked, WatchedSo}
 use Rattle.dw_cfa.proofs.RowLists.{Entry, lower, put_keeps, put_rule, unlisted}
 use Rattle.dw_cfa.proofs.Differing.{FromOn}

@@ -17,7 +17,7 @@ use Rattle.dw_cfa.specs.InstrSpells.{InstrSpells}
 use Rattle.dw_cfa.specs.Inner.Reading.{instr_at}
 use Rattle.dw_cfa.specs.Inner.Steps.{InLimit}
 use Rattle.dw_cfa.specs.Inner.Runs.{Placing, place_of, placed}
-use Rattle.dw_op.specs.Walks.{ended, put, on_left, walked_by}
+use Rattle.dw_op.specs.Inner.Walks.{ended, put, on_left, walked_by}
 use Rattle.dw_cfa.proofs.Spellings.{IsSpelled, by_table}
 use Rattle.dw_cfa.proofs.InstrLaws.{instr_found}
 

@@ -4,7 +4,8 @@ use Rattle.std.specs.Prelude.{nat_eq, nat_lt, IsTrue}
 use Rattle.std.proofs.lemmas.Bool.{cases_Bool, ltb-true, ltb-false, ne_eqb, eqb-true, eqb-false}
 use Rattle.dw_cfa.specs.declared.rule.RegRule.{RegRule}
 use Rattle.dw_cfa.specs.declared.rule.RegRule.TheVariants.{Unspecified}
-use Rattle.dw_cfa.specs.Rows.{is_specified, AreSpecified, rule_in, listed, put}
+use Rattle.dw_cfa.specs.Rows.{is_specified, AreSpecified, rule_in}
+use Rattle.dw_cfa.specs.Inner.Rows.{listed, put}
 
 abbrev pub Entry : Type 0
 Entry = ℕ × RegRule

@@ -14,7 +14,8 @@ use Rattle.dw_cfa.specs.Rows.{Rules}
 use Rattle.dw_cfa.specs.Inner.Machine.{State, after, popped, fde_fault}
 use Rattle.dw_cfa.specs.Inner.Runs.{Placed, here, row_if, fault_or, last_row, fde_rows}
 use Rattle.dw_cfa.specs.Runs.{Outcome, finished}
-use Rattle.dw_cfa.specs.RuleAt.{last_at, NeverFalls, CountsFrom}
+use Rattle.dw_cfa.specs.RuleAt.{last_at, NeverFalls}
+use Rattle.dw_cfa.specs.Inner.RuleAt.{CountsFrom}
 use Rattle.dw_cfa.proofs.Forward.{Follows, Holds, after_follows}
 
 abbrev pub instrs_of : List Placed → List Instr

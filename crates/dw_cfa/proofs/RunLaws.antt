@@ -20,7 +20,7 @@ use Rattle.dw_cfa.specs.Inner.Machine.{State, begun, after, fde_fault}
 use Rattle.dw_cfa.specs.Inner.Reading.{instr_at}
 use Rattle.dw_cfa.specs.Inner.Runs.{Placed, Placing, placed, initial_row, on_initial, fde_rows, rows_left, rows_behind, run_rows, last_row, fault_or, row_if}
 use Rattle.dw_cfa.specs.Runs.{Outcome, finished}
-use Rattle.dw_op.specs.Walks.{ended, put, on_read, on_left, walked_by}
+use Rattle.dw_op.specs.Inner.Walks.{ended, put, on_read, on_left, walked_by}
 use Rattle.dw_cfa.specs.declared.machine.Machine.{Machine}
 use Rattle.dw_cfa.specs.Inner.Steps.{state_of}
 use Rattle.dw_cfa.specs.declared.steps.Progress.{Progress}
@@ -30,7 +30,8 @@ use Rattle.dw_cfa.specs.Inner.Stepping.{begun_rows, left_of}
 use Rattle.dw_cfa.specs.Laws.{HoldsAfter}
 use Rattle.dw_cfa.specs.Inner.Exact.{RowsOf}
 use Rattle.dw_cfa.specs.Location.{Counts}
-use Rattle.dw_cfa.specs.RuleAt.{CountsFrom, last_at, NeverFalls}
+use Rattle.dw_cfa.specs.RuleAt.{last_at, NeverFalls}
+use Rattle.dw_cfa.specs.Inner.RuleAt.{CountsFrom}
 use Rattle.dw_cfa.proofs.Listings.{listing_by, program_listed}
 use Rattle.dw_cfa.proofs.Placings.{placed_by, after_item}
 use Rattle.dw_cfa.proofs.Forward.{Follows, Holds, begun_follows}

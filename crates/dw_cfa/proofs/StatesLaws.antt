@@ -6,7 +6,8 @@ use Rattle.dw_cfa.specs.declared.rule.CfaRule.{CfaRule}
 use Rattle.dw_cfa.specs.declared.rule.RegRule.{RegRule}
 use Rattle.dw_cfa.specs.declared.states.Undo.{Undo}
 use Rattle.dw_cfa.specs.declared.states.Undo.TheVariants.{Remembered, Register}
-use Rattle.dw_cfa.specs.Rows.{Rules, with_cfa, with_rule}
+use Rattle.dw_cfa.specs.Rows.{Rules}
+use Rattle.dw_cfa.specs.Inner.Rows.{with_cfa, with_rule}
 use Rattle.dw_cfa.specs.Inner.States.{Held, remembered_rows, first_registers, count_remembered, first_if, held, BeganWith, SameBehind, TakenBack, Restored}
 
 -- a change of the CFA's rule is no change of what is remembered

@@ -23,8 +23,9 @@ use Rattle.dw_cfa.specs.Location.{moves_location}
 use Rattle.dw_cfa.specs.Inner.Machine.{State, after, fde_fault}
 use Rattle.dw_cfa.specs.Narrowing.{is_kept, kept}
 use Rattle.dw_cfa.specs.Inner.Reading.{instr_at}
-use Rattle.dw_cfa.specs.Rows.{Rules, is_specified, listed, put, rule, rule_in}
-use Rattle.dw_op.specs.Walks.{ended, on_read, on_left, walked_by}
+use Rattle.dw_cfa.specs.Rows.{Rules, is_specified, rule, rule_in}
+use Rattle.dw_cfa.specs.Inner.Rows.{listed, put}
+use Rattle.dw_op.specs.Inner.Walks.{ended, on_read, on_left, walked_by}
 use Rattle.dw_cfa.specs.Inner.Runs.{GivesRow, Placed, Placing, fault_or, fde_rows, last_row, placed, row_if, rows_left}
 use Rattle.dw_cfa.specs.Runs.{Outcome, finished, row_then}
 use Rattle.dw_cfa.specs.Stepping.{Stepping}

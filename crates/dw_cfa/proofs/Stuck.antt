@@ -15,7 +15,7 @@ use Rattle.dw_num.proofs.FixedLaws.{taken_bytes, fixed_at_again}
 use Rattle.dw_op.specs.declared.op.Op.{Op}
 use Rattle.dw_op.specs.declared.profile.Profile.TheVariants.{Frame}
 use Rattle.dw_op.specs.Faults.{BlockFault}
-use Rattle.dw_op.specs.Walk.{block_input, decode_at}
+use Rattle.dw_op.specs.Inner.Walk.{block_input, decode_at}
 use Rattle.dw_op.proofs.Blocks.{fault_found}
 use Rattle.dw_cfa.specs.declared.instr.Factors.{Factors}
 use Rattle.dw_cfa.specs.declared.instr.Instr.{Instr}

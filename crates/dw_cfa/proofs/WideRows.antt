@@ -10,7 +10,8 @@ use Rattle.std.proofs.lemmas.Bool.{cases_Bool, cases_lt, lt-ltb, le-ltb, ltb-tru
 use Rattle.dw_cfa.specs.declared.rule.CfaRule.{CfaRule}
 use Rattle.dw_cfa.specs.declared.rule.RegRule.{RegRule}
 use Rattle.dw_cfa.specs.declared.rule.RegRule.TheVariants.{Unspecified}
-use Rattle.dw_cfa.specs.Rows.{Rules, is_specified, AreSpecified, rule_in, put, with_rule}
+use Rattle.dw_cfa.specs.Rows.{Rules, is_specified, AreSpecified, rule_in}
+use Rattle.dw_cfa.specs.Inner.Rows.{put, with_rule}
 use Rattle.dw_cfa.proofs.RowLists.{Entry, listed_is, put_keeps, put_rule}
 use Rattle.dw_cfa.proofs.SameRows.{same_entries}
 

@@ -13,3 +13,6 @@ pub mod Following
 pub mod Walking
 pub mod Steps
 pub mod Turns
+pub mod Differing
+pub mod Rows
+pub mod RuleAt

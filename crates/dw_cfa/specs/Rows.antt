@@ -1,5 +1,5 @@
 -- Rows of rules: DWARF 5, 6.4.1. A row says how to find the canonical frame address and each register.
-use Rattle.std.specs.Prelude.{ℕ, suc, ◌≤◌, List, [], ◌∷◌, Bool, true, false, IsTrue, nat_eq, nat_lt, if◌then◌else◌}
+use Rattle.std.specs.Prelude.{ℕ, suc, ◌≤◌, List, [], ◌∷◌, Bool, true, false, IsTrue, nat_eq, if◌then◌else◌}
 use Rattle.dw_cfa.specs.declared.rule.CfaRule.{CfaRule}
 use Rattle.dw_cfa.specs.declared.rule.CfaRule.TheVariants.{Unset}
 use Rattle.dw_cfa.specs.declared.rule.RegRule.{RegRule}
@@ -26,24 +26,6 @@ rule_in (entry ∷ rest) r = if nat_eq entry.0 r then entry.1 else rule_in rest 
 -- the rule of a register
 abbrev pub rule : Rules → ℕ → RegRule
 rule row r = rule_in row.registers r
-
--- a list behind an entry for the register, which is left out where the rule is Unspecified
-abbrev pub listed : ℕ → RegRule → List (ℕ × RegRule) → List (ℕ × RegRule)
-listed r Unspecified rest = rest
-listed r rule rest = (r, rule) ∷ rest
-
--- an ascending list in which the register has this rule
-abbrev pub put : ℕ → RegRule → List (ℕ × RegRule) → List (ℕ × RegRule)
-put r rule [] = listed r rule []
-put r rule (entry ∷ rest) =
-    if nat_lt entry.0 r then entry ∷ put r rule rest else listed r rule (if nat_eq entry.0 r then rest else entry ∷ rest)
-
--- the row with another rule for the CFA, or for a register
-abbrev pub with_cfa : CfaRule → Rules → Rules
-with_cfa cfa row = record { cfa = cfa; registers = row.registers }
-
-abbrev pub with_rule : ℕ → RegRule → Rules → Rules
-with_rule r rule row = record { cfa = row.cfa; registers = put r rule row.registers }
 
 -- nothing is set
 abbrev pub blank : Rules

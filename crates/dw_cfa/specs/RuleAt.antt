@@ -1,8 +1,6 @@
 -- The row of an address among the rows of a run: DWARF 5, 6.4.3.
-use Rattle.std.specs.Prelude.{ℕ, ◌≤◌, List, [], ◌∷◌, length, Option, Some, None, nat_le, if◌then◌else◌}
-use Rattle.dw_cfa.specs.declared.instr.Instr.{Instr}
+use Rattle.std.specs.Prelude.{ℕ, ◌≤◌, List, [], ◌∷◌, Option, Some, None, nat_le, if◌then◌else◌}
 use Rattle.dw_cfa.specs.declared.running.LocatedRow.{LocatedRow}
-use Rattle.dw_cfa.specs.Location.{onto, location_back}
 use Rattle.dw_cfa.specs.Rows.{Rules}
 
 abbrev pub or_here : ℕ → LocatedRow → Option Rules → Option Rules
@@ -18,9 +16,3 @@ last_at a (first ∷ rows) = or_here a first (last_at a rows)
 abbrev pub NeverFalls : ℕ → List LocatedRow → Type 0
 NeverFalls low [] = Unit {0}
 NeverFalls low (row ∷ rows) = (low ≤ row.location) × NeverFalls row.location rows
-
--- the instructions that count at address a, behind those that came earlier, are the next k
-pub record CountsFrom (begin : ℕ) (earlier instrs : List Instr) (a k : ℕ) : Type 0 where
-  pub in_program : k ≤ length instrs
-  pub stays : (j : ℕ) → j ≤ k → location_back begin (onto earlier instrs j) ≤ a
-  pub greatest : (n : ℕ) → n ≤ length instrs → ((j : ℕ) → j ≤ n → location_back begin (onto earlier instrs j) ≤ a) → n ≤ k

@@ -4,10 +4,12 @@ ghost use Rattle.std.specs.Prelude.{◌≡◌, ◌<◌, ℕ, [], ◌∷◌, IfOk
 ghost use Rattle.std.specs.List.{filter};
 ghost use Rattle.std.specs.Iterator.{YieldsFirst, item_count};
 ghost use Rattle.dw_cfa.specs.declared.rule.RegRule.TheVariants.{Unspecified};
-ghost use Rattle.dw_cfa.specs.Rows.{AreSpecified, rule, put, rule_in, with_cfa, with_rule, blank};
+ghost use Rattle.dw_cfa.specs.Rows.{AreSpecified, rule, rule_in, blank};
+ghost use Rattle.dw_cfa.specs.Inner.Rows.{put, with_cfa, with_rule};
 ghost use Rattle.dw_cfa.specs.Narrowing.{is_agreed, is_kept, agreed, kept, same_rule};
 ghost use Rattle.dw_cfa.specs.Inner.Entries.{CopiedBelow, entries_of, slot_rule, EntriesSo, IsSlotOf, FindsNear, Covers, LeavesAt, LeavesBelow};
-ghost use Rattle.dw_cfa.specs.Differing.{FirstDifference, FirstBelow, SameUnset, place_behind, start_behind};
+ghost use Rattle.dw_cfa.specs.Differing.{FirstDifference, place_behind};
+ghost use Rattle.dw_cfa.specs.Inner.Differing.{FirstBelow, SameUnset, start_behind};
 
 use crate::rule::{CfaRule, RegRule};
 use crate::tree::{rule_in_tree, set_in_tree};

@@ -1,7 +1,8 @@
 //! Rules of registers in a tree, ascending.
 
 ghost use Rattle.std.specs.Prelude.{◌≡◌, OnOk, OnErr};
-ghost use Rattle.dw_cfa.specs.Rows.{AreSpecified, put, rule_in};
+ghost use Rattle.dw_cfa.specs.Rows.{AreSpecified, rule_in};
+ghost use Rattle.dw_cfa.specs.Inner.Rows.{put};
 
 use crate::rule::RegRule;
 use std::alloc::AllocError;

@@ -9,8 +9,6 @@ use Rattle.dw_eval.specs.declared.error.EvalError.TheVariants as eval_error
 use Rattle.dw_normal.specs.declared.error.SameError.{SameError}
 use Rattle.dw_normal.specs.declared.error.SameError.TheVariants as same_error
 use Rattle.dw_normal.specs.declared.error.Which.TheVariants.{First, Second}
-use Rattle.dw_normal.specs.declared.error.WriteError.{WriteError}
-use Rattle.dw_normal.specs.declared.error.WriteError.TheVariants as write_error
 use Rattle.dw_unwind.specs.declared.fault.DumpError.{DumpError}
 use Rattle.dw_unwind.specs.declared.fault.DumpError.TheVariants as dump_error
 use Rattle.dw_unwind.specs.declared.frame.Column.{Column}
@@ -50,11 +48,6 @@ of_plan plan_error.OutOfMemory = failures.OutOfMemory
 abbrev pub of_read : ReadError → Failure
 of_read (read_error.Refused refusal) = failures.Refused refusal
 of_read read_error.OutOfMemory = failures.OutOfMemory
-
-abbrev pub of_write : WriteError → Failure
-of_write (write_error.Refused refusal) = failures.Refused refusal
-of_write (write_error.Write written) = failures.CannotWrite
-of_write (write_error.Memory written) = failures.OutOfMemory
 
 abbrev pub of_dump : DumpError → Failure
 of_dump (dump_error.Fault fault) = failures.Dump fault

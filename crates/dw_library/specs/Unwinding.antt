@@ -19,10 +19,6 @@ use Rattle.dw_library.specs.declared.unwinding.Fault.{Fault}
 use Rattle.dw_library.specs.declared.unwinding.Frame.{Frame}
 use Rattle.dw_library.specs.declared.unwinding.Stop.{Stop}
 use Rattle.dw_library.specs.declared.windows.Window.{Window}
-use Rattle.dw_library.specs.declared.unwinding.Held.{Held}
-use Rattle.dw_library.specs.declared.unwinding.NoFrame.{NoFrame}
-use Rattle.dw_library.specs.declared.unwinding.NoFrame.TheVariants.{Section, Frame as NoFrameOf}
-use Rattle.dw_num.specs.Refusals.{Refuses}
 use Rattle.dw_library.specs.Answers.{refused, out_of_memory, bad_argument, not_refused, told}
 use Rattle.dw_library.specs.Registers.{given_in, told_register, AreTold}
 use Rattle.dw_library.specs.Windows.{byte_among}
@@ -73,20 +69,12 @@ pub record Machine : Type 0 where
   pub windows : List Window
   pub memory : List ℕ
 
-abbrev pub held_in : Held → Machine
-held_in h = record { registers = h.registers.now; windows = h.windows.now; memory = h.memory.now }
-
 -- a machine that holds this stopped where a section says so: its caller's frame, or the first fault
 pub record IsFrame (target : Target) (policy : Policy) (s : List ℕ) (stop : Stop) (m : Machine) (answer : Result CallerFrame UnwindError) : Type 0 where
   pub accepted : Accepted target s
   pub values : List (Option ℕ)
   pub are : (r : ℕ) → held values r ≡ given_in m.registers r
   pub is : Unwound target s stop.pc (stopped target values (byte_among m.memory m.windows)) policy stop.steps answer
-
--- why there is no frame: the section's first fault, the frame's, or want of memory
-abbrev pub Fails : Target → Policy → List ℕ → Stop → Machine → NoFrame → Type 0
-Fails target policy s stop m (Section e) = Refuses (CheckFault target s) e
-Fails target policy s stop m (NoFrameOf e) = (e ≡ errors.OutOfMemory) ⊎ IsFrame target policy s stop m (Err e)
 
 -- what a call tells
 pub record Told : Type 0 where

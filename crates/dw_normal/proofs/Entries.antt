@@ -11,9 +11,9 @@ use Rattle.dw_num.specs.declared.target.Target.{Target}
 use Rattle.dw_cfa.specs.Rows.{Rules}
 use Rattle.dw_section.specs.Accepted.{Accepted}
 use Rattle.dw_section.proofs.Judged.{all_get}
-use Rattle.dw_canon.specs.Fits.{InstrFits}
+use Rattle.dw_canon.specs.Inner.Fits.{InstrFits}
 use Rattle.dw_canon.specs.Canon.{canon, cie_instrs, part_of, groups_of, parts_of}
-use Rattle.dw_canon.specs.Laid.{IsPart}
+use Rattle.dw_canon.specs.Inner.Laid.{IsPart}
 use Rattle.dw_canon.specs.Members.{Member, AreMembers}
 use Rattle.dw_canon.specs.Written.{Written, contents, entry_bytes}
 use Rattle.dw_canon.proofs.Fields.{entry_length}

@@ -15,7 +15,8 @@ use Rattle.dw_section.specs.Sound.{RowFits}
 use Rattle.dw_section.proofs.Judged.{all_get}
 use Rattle.dw_canon.specs.Canon.{cie_instrs, initial_of, return_registers}
 use Rattle.dw_canon.specs.Difference.{difference}
-use Rattle.dw_canon.specs.Fits.{ChangesStand, MemberStands, InstrFits}
+use Rattle.dw_canon.specs.Fits.{ChangesStand, MemberStands}
+use Rattle.dw_canon.specs.Inner.Fits.{InstrFits}
 use Rattle.dw_canon.specs.Group.{group}
 use Rattle.dw_canon.specs.Members.{Member, fde_of, AreMembers}
 use Rattle.dw_canon.proofs.Fitting.{difference_fits, cie_fits}

@@ -15,7 +15,8 @@ use Rattle.dw_canon.specs.Canon.{canon}
 use Rattle.dw_canon.specs.Members.{Member, AreMembers}
 use Rattle.dw_canon.specs.Normal.{IsNormalForm}
 use Rattle.dw_canon.proofs.Canonical.{members_exist, normal_form_is_one, same_exactly}
-use Rattle.dw_normal.specs.Answers.{IsShort, IsMeasured, IsTooLong, IsWithin, NormalFault, SameFault, LengthFault, Took, WentOut, Writes, blamed, unread, unwritten, too_long}
+use Rattle.dw_normal.specs.Answers.{IsTooLong, IsWithin, NormalFault, SameFault, Took, WentOut, Writes, too_long}
+use Rattle.dw_normal.specs.Inner.Answers.{IsShort, IsMeasured, LengthFault, blamed, unread, unwritten}
 use Rattle.dw_normal.specs.Inner.Puts.{Puts, put_is}
 use Rattle.dw_normal.specs.declared.entry.PutError.{PutError}
 use Rattle.dw_normal.specs.declared.entry.PutError.TheVariants as put_error

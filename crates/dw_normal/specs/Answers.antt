@@ -1,23 +1,15 @@
 -- What calls over normal forms answer.
 use Rattle.std.specs.Prelude.{◌≡◌, ◌⊎◌, ℕ, ◌<◌, ◌≤◌, List, ◌++◌, length, Option, Some, None, take, Result, Ok, Err}
-use Rattle.dw_cfa.specs.Rows.{Rules}
-use Rattle.dw_num.specs.Input.{AreBytes}
-use Rattle.dw_num.specs.declared.error.ReadError.{ReadError}
-use Rattle.dw_num.specs.declared.error.ReadError.TheVariants as read_error
 use Rattle.dw_num.specs.declared.refusal.Code.TheVariants.{NormalTooLong}
 use Rattle.dw_num.specs.declared.refusal.Refusal.{Refusal}
 use Rattle.dw_num.specs.declared.target.Target.{Target}
 use Rattle.dw_section.specs.Accepted.{CheckFault, Accepted}
 use Rattle.dw_normal.specs.declared.error.SameError.{SameError}
 use Rattle.dw_normal.specs.declared.error.SameError.TheVariants as same_error
-use Rattle.dw_normal.specs.declared.error.Which.{Which}
 use Rattle.dw_normal.specs.declared.error.Which.TheVariants.{First, Second}
 use Rattle.dw_normal.specs.declared.error.WriteError.{WriteError}
 use Rattle.dw_normal.specs.declared.error.WriteError.TheVariants as write_error
-use Rattle.dw_canon.specs.Canon.{canon}
-use Rattle.dw_canon.specs.Members.{Member, AreMembers}
 use Rattle.dw_canon.specs.Normal.{IsNormalForm}
-use Rattle.dw_normal.specs.Inner.Grouping.{initial_rows}
 
 abbrev pub too_long : Refusal
 too_long = record { code = NormalTooLong; at = 0 }
@@ -33,34 +25,7 @@ IsWithin target cap s = (n : List ℕ) × IsNormalForm target s n × (length n �
 abbrev pub NormalFault : Target → ℕ → List ℕ → Refusal → Type 0
 NormalFault target cap s r = CheckFault target s r ⊎ (IsTooLong target cap s × (r ≡ too_long))
 
--- an accepted section whose normal form is within the cap
-pub record IsShort (target : Target) (cap : ℕ) (s : List ℕ) : Type 0 where
-  pub bytes : AreBytes s
-  pub accepted : Accepted target s
-  pub within : (ms : List Member) → AreMembers target s ms → length (canon target ms) ≤ cap
-
--- with its initial rows
-pub record IsPrepared (target : Target) (cap : ℕ) (s : List ℕ) (rows : List (ℕ × Rules)) : Type 0 where
-  pub short : IsShort target cap s
-  pub rows_are : (ms : List Member) → AreMembers target s ms → rows ≡ initial_rows ms
-
--- and with the length of its normal form
-pub record IsMeasured (target : Target) (cap : ℕ) (s : List ℕ) (rows : List (ℕ × Rules)) (len : ℕ) : Type 0 where
-  pub prepared : IsPrepared target cap s rows
-  pub len_is : (ms : List Member) → AreMembers target s ms → len ≡ length (canon target ms)
-
 -- ---- two sections
-
--- an error over one of two sections
-abbrev pub blamed : Which → ReadError → SameError
-blamed which read_error.OutOfMemory = same_error.OutOfMemory
-blamed which (read_error.Refused r) = same_error.Refused which r
-
--- the normal form of one of two accepted sections is too long, the first one's before the second one's
-abbrev pub LengthFault : Target → ℕ → List ℕ → List ℕ → SameError → Type 0
-LengthFault target cap a b same_error.OutOfMemory = Unit {0}
-LengthFault target cap a b (same_error.Refused First r) = IsTooLong target cap a × (r ≡ too_long)
-LengthFault target cap a b (same_error.Refused Second r) = IsWithin target cap a × IsTooLong target cap b × (r ≡ too_long)
 
 -- the first fault of two sections: the first one's, the second one's, then a normal form that is too long
 abbrev pub SameFault : Target → ℕ → List ℕ → List ℕ → SameError → Type 0
@@ -84,17 +49,6 @@ pub record WentOut (target : Target) (cap : ℕ) (s : List ℕ) (written : ℕ) 
   pub within : length normal ≤ cap
   pub front : written ≤ length normal
   pub took : Took old (take written normal) new
-
--- an error before the first byte
-abbrev pub unwritten : ReadError → WriteError
-unwritten read_error.OutOfMemory = write_error.Memory 0
-unwritten (read_error.Refused r) = write_error.Refused r
-
--- an error over a tape, whose failures are refused requests for memory
-abbrev pub unread : WriteError → ReadError
-unread (write_error.Refused r) = read_error.Refused r
-unread (write_error.Write written) = read_error.OutOfMemory
-unread (write_error.Memory written) = read_error.OutOfMemory
 
 -- what a call that writes answers; the counts of failures and the bytes are those of the sink
 abbrev pub Writes : Target → ℕ → List ℕ → Result ℕ WriteError → ℕ → ℕ → Option (List ℕ) → Option (List ℕ) → Type 0

@@ -6,3 +6,4 @@ pub mod Measuring
 pub mod Grouping
 pub mod Puts
 pub mod Places
+pub mod Answers

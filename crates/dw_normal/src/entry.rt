@@ -8,7 +8,7 @@ ghost use Rattle.dw_section.specs.Cut.{entry, item_bytes};
 ghost use Rattle.dw_section.specs.declared.lookup.Fde.{Fde as TheFde};
 ghost use Rattle.dw_section.specs.Meaning.{AreFdes};
 ghost use Rattle.dw_canon.specs.Canon.{canon, cie_instrs};
-ghost use Rattle.dw_canon.specs.Fits.{InstrFits};
+ghost use Rattle.dw_canon.specs.Inner.Fits.{InstrFits};
 ghost use Rattle.dw_canon.specs.Members.{Member, AreMembers};
 ghost use Rattle.dw_canon.specs.Written.{contents, entry_bytes};
 ghost use Rattle.dw_normal.specs.Inner.Grouping.{initial_rows};

@@ -7,7 +7,7 @@ ghost use Rattle.dw_cfa.specs.Rows.{Rules};
 ghost use Rattle.dw_section.specs.declared.lookup.Fde.{Fde as TheFde};
 ghost use Rattle.dw_section.specs.Meaning.{AreFdes};
 ghost use Rattle.dw_canon.specs.Canon.{canon, cie_instrs};
-ghost use Rattle.dw_canon.specs.Fits.{InstrFits};
+ghost use Rattle.dw_canon.specs.Inner.Fits.{InstrFits};
 ghost use Rattle.dw_canon.specs.Members.{Member, AreMembers};
 ghost use Rattle.dw_normal.specs.Inner.Grouping.{initial_rows};
 ghost use Rattle.dw_normal.specs.Inner.Measuring.{Leaves, MemberLeaves, Measures, cies_bytes, fdes_bytes};

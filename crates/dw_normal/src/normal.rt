@@ -7,7 +7,8 @@ ghost use Rattle.dw_num.specs.Refusals.{Refuses};
 ghost use Rattle.dw_section.specs.Accepted.{Accepted};
 ghost use Rattle.dw_normal.specs.declared.error.SameError.TheVariants as TheSameError;
 ghost use Rattle.dw_canon.specs.Normal.{IsNormalForm};
-ghost use Rattle.dw_normal.specs.Answers.{NormalFault, SameFault, LengthFault, Writes, IsWithin, blamed, unread, unwritten, too_long};
+ghost use Rattle.dw_normal.specs.Answers.{NormalFault, SameFault, Writes, IsWithin, too_long};
+ghost use Rattle.dw_normal.specs.Inner.Answers.{LengthFault, blamed, unread, unwritten};
 ghost use Rattle.dw_normal.specs.Inner.Puts.{put_is};
 ghost use Rattle.dw_section.specs.Meanings.{SameMeaning};
 

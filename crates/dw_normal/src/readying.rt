@@ -2,7 +2,8 @@
 
 ghost use Rattle.std.specs.Prelude.{◌≡◌, ◌≤◌, IfOk, IfErr};
 ghost use Rattle.dw_num.specs.Refusals.{Refuses};
-ghost use Rattle.dw_normal.specs.Answers.{IsShort, IsPrepared, IsMeasured, IsTooLong, NormalFault, too_long};
+ghost use Rattle.dw_normal.specs.Answers.{IsTooLong, NormalFault, too_long};
+ghost use Rattle.dw_normal.specs.Inner.Answers.{IsShort, IsPrepared, IsMeasured};
 
 use crate::bound::is_short;
 use crate::groups::initial_rows;

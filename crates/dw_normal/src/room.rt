@@ -6,7 +6,7 @@ ghost use Rattle.dw_num.specs.Target.{address_limit};
 ghost use Rattle.dw_section.specs.Sound.{RowFits};
 ghost use Rattle.dw_canon.specs.Canon.{cie_instrs};
 ghost use Rattle.dw_canon.specs.Difference.{difference, cfa_difference, move};
-ghost use Rattle.dw_canon.specs.Fits.{InstrFits};
+ghost use Rattle.dw_canon.specs.Inner.Fits.{InstrFits};
 ghost use Rattle.dw_canon.specs.Spelling.{instr_bytes, program_bytes};
 ghost use Rattle.dw_canon.specs.Written.{cie, missing, entry_bytes};
 ghost use Rattle.dw_normal.specs.Inner.Measuring.{Leaves, LaterLeaves, FdeLeaves};

@@ -27,11 +27,6 @@ abbrev pub Reads : {X Y : Type 0} → (X → Y) → Result X Refusal → Input �
 Reads view (Ok x) old read new = read ≡ Ok (view x, new)
 Reads view (Err e) old read new = (read ≡ Err e) × (new ≡ old)
 
--- the same of a reader that may have moved where it failed
-abbrev pub Gives : {X Y : Type 0} → (X → Y) → Result X Refusal → Read Y → Input → Type 0
-Gives view (Ok x) read new = read ≡ Ok (view x, new)
-Gives view (Err e) read new = read ≡ Err e
-
 -- a number of n bytes
 unfoldable pub fixed_at : ℕ → Input → Read ℕ
 fixed_at n i = if nat_lt (length i.bytes) n then fault Truncated i.at else Ok (fixed_number i.target.order n i.bytes, behind n i)

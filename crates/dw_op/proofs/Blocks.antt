@@ -16,8 +16,8 @@ use Rattle.dw_op.specs.declared.reading.Step.{Step}
 use Rattle.dw_op.specs.declared.reading.Step.TheVariants.{Plain, Jump}
 use Rattle.dw_op.specs.declared.reading.Branch.TheVariants.{Bra, Skip}
 use Rattle.dw_op.specs.Block.{start, Stands, EachPart, joined, Block}
-use Rattle.dw_op.specs.Reading.{step_at}
-use Rattle.dw_op.specs.Walk.{Item, Walk, walk, end_of, index_at, op_of, put_first, resolve, unless, block_input, decode_at}
+use Rattle.dw_op.specs.Inner.Reading.{step_at}
+use Rattle.dw_op.specs.Inner.Walk.{Item, Walk, walk, end_of, index_at, op_of, put_first, resolve, unless, block_input, decode_at}
 use Rattle.dw_op.specs.Faults.{IsBlock, op_allowed, IsPart, Leads, ReadingFault, BranchFault, BlockFault}
 use Rattle.dw_op.proofs.Splits.{Spelled, EachSpells, items_from, input, Ends, Split, split_of, joined_walk}
 use Rattle.dw_op.proofs.Places.{index_start, index_begins}

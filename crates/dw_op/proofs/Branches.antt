@@ -10,7 +10,7 @@ use Rattle.dw_num.specs.Input.{AreBytes}
 use Rattle.dw_num.specs.Fixed.{Fixed, FixedSigned, fixed_bytes, fixed_number}
 use Rattle.dw_num.proofs.FixedLaws.{length-fixed, is_fixed}
 use Rattle.dw_op.specs.OpSpells.{AnyTwo}
-use Rattle.dw_op.specs.Walk.{goes_to}
+use Rattle.dw_op.specs.Inner.Walk.{goes_to}
 
 some_is : (a b : ℕ) → Some a ≡ Some b → a ≡ b
 some_is a b e = cc

@@ -9,8 +9,8 @@ use Rattle.dw_num.proofs.LebLaws.{done}
 use Rattle.dw_op.specs.declared.profile.Profile.TheVariants.{Frame}
 use Rattle.dw_op.specs.declared.reading.Step.{Step}
 use Rattle.dw_op.specs.Block.{joined}
-use Rattle.dw_op.specs.Reading.{step_at}
-use Rattle.dw_op.specs.Walk.{Item, Walk, walk, end_of, plus, passed, one}
+use Rattle.dw_op.specs.Inner.Reading.{step_at}
+use Rattle.dw_op.specs.Inner.Walk.{Item, Walk, walk, end_of, plus, passed, one}
 use Rattle.dw_op.specs.Inner.Windows.{Shifted}
 use Rattle.dw_op.proofs.ReadingLaws.{step_found}
 use Rattle.dw_op.proofs.Splits.{EachSpells, items_from, split_of, walk_step, walk_stuck, walk_end}

@@ -34,7 +34,7 @@ use Rattle.dw_op.specs.Profile.{in_frame}
 use Rattle.dw_op.specs.Operands as fields
 use Rattle.dw_op.specs.Operands.{Form, form_table, form_of, form_at, field_at, past, sized, counted, modulo, natural, constant, implicit, look_up, in_range}
 use Rattle.dw_op.specs.Faults.{op_allowed, HasCode, OpFault}
-use Rattle.dw_op.specs.Reading.{plain_table, plain_op, operand_table, alone, or_else, opcode_of, code_in_frame, allows, with_op, width_of, signed_of, with_jump, after_register, size_in, after_size, after_length, operands_at, judged, step_at}
+use Rattle.dw_op.specs.Inner.Reading.{plain_table, plain_op, operand_table, alone, or_else, opcode_of, code_in_frame, allows, with_op, width_of, signed_of, with_jump, after_register, size_in, after_size, after_length, operands_at, judged, step_at}
 use Rattle.dw_op.specs.Inner.ByOpcode.{address_step, unsigned_step, signed_step, uconst_step, sconst_step, pick_step, plus_step, jump_step, breg_step, long_reg_step, long_breg_step, fbreg_step, piece_step, deref_size_step, bit_piece_step, implicit_step}
 use Rattle.dw_op.proofs.ReadingLaws.{some_is, EachEntry, looked_up, unsigned_code, signed_code, CodeOf, opcode_known, const_of, signed_const_of, bare_in_frame}
 use Rattle.dw_op.proofs.ReadingAgain.{step_again}

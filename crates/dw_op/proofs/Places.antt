@@ -6,7 +6,7 @@ use Rattle.dw_num.specs.declared.target.Target.{Target}
 use Rattle.dw_op.specs.declared.profile.Profile.{Profile}
 use Rattle.dw_op.specs.declared.reading.Step.{Step}
 use Rattle.dw_op.specs.Block.{joined, start}
-use Rattle.dw_op.specs.Walk.{plus, index_at}
+use Rattle.dw_op.specs.Inner.Walk.{plus, index_at}
 use Rattle.dw_op.proofs.Splits.{EachSpells, items_from}
 
 -- the number of the part that begins at a start

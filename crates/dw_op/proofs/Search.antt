@@ -11,8 +11,8 @@ use Rattle.dw_num.specs.Input.{Input, AreBytes}
 use Rattle.dw_op.specs.declared.profile.Profile.{Profile}
 use Rattle.dw_op.specs.declared.reading.Step.{Step}
 use Rattle.dw_op.specs.Block.{joined}
-use Rattle.dw_op.specs.Walk.{Item, walk, end_of, index_at, starts_of, place_index}
-use Rattle.dw_op.specs.Walk.{Rises}
+use Rattle.dw_op.specs.Inner.Walk.{Item, walk, end_of, index_at, starts_of, place_index}
+use Rattle.dw_op.specs.Inner.Walk.{Rises}
 use Rattle.dw_op.proofs.Splits.{EachSpells, items_from, split_of}
 
 rises_lower : (low lower : ℕ) (ps : List ℕ) → lower ≤ low → Rises low ps → Rises lower ps

@@ -12,7 +12,7 @@ use Rattle.dw_num.proofs.LebLaws.{done}
 use Rattle.dw_num.proofs.FixedLaws.{fixed_found}
 use Rattle.dw_op.specs.declared.reading.ByteCount.{ByteCount}
 use Rattle.dw_op.specs.declared.reading.ByteCount.TheVariants.{One, Two, Four, Eight}
-use Rattle.dw_op.specs.Reading.{width_of, signed_of}
+use Rattle.dw_op.specs.Inner.Reading.{width_of, signed_of}
 
 pub count_found : (count : ByteCount) (i new : Input) (v : ℕ) → AreBytes i.bytes → fixed_at (width_of count) i ≡ done (v, new) → (b : List ℕ) × Fixed i.target.order (width_of count) v b × Takes i b new
 count_found One i new v h e = fixed_found 1 i new v (inl refl) h e

@@ -10,10 +10,10 @@ use Rattle.dw_num.proofs.FixedLaws.{taken_bytes}
 use Rattle.dw_op.specs.declared.profile.Profile.{Profile}
 use Rattle.dw_op.specs.declared.reading.Step.{Step}
 use Rattle.dw_op.specs.Block.{joined}
-use Rattle.dw_op.specs.Reading.{step_at}
+use Rattle.dw_op.specs.Inner.Reading.{step_at}
 use Rattle.dw_op.specs.Inner.Steps.{StepSpells, step_allowed}
-use Rattle.dw_op.specs.Walk.{Item, item_of, Walk, walk}
-use Rattle.dw_op.specs.Walks.{ended, put, on_read, on_left, walked_by}
+use Rattle.dw_op.specs.Inner.Walk.{Item, item_of, Walk, walk}
+use Rattle.dw_op.specs.Inner.Walks.{ended, put, on_read, on_left, walked_by}
 use Rattle.dw_op.proofs.ReadingLaws.{step_found}
 use Rattle.dw_op.proofs.ReadingAgain.{step_again}
 

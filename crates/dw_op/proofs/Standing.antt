@@ -17,7 +17,7 @@ use Rattle.dw_op.specs.OpSpells.{OpSpells, Code, AnyTwo}
 use Rattle.dw_op.specs.Inner.ByOperation.{IsSpelled}
 use Rattle.dw_op.specs.Block.{start, displacement, Displaced, Stands}
 use Rattle.dw_op.specs.Inner.Steps.{branch_code, step_allowed}
-use Rattle.dw_op.specs.Walk.{goes_to, find_at, branch_to, op_of}
+use Rattle.dw_op.specs.Inner.Walk.{goes_to, find_at, branch_to, op_of}
 use Rattle.dw_op.specs.Faults.{op_allowed}
 use Rattle.dw_op.proofs.ReadingAgain.{step_again}
 use Rattle.dw_op.proofs.Spellings.{by_table, in_table}

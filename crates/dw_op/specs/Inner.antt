@@ -10,3 +10,6 @@ pub mod Points
 pub mod Ranges
 pub mod Encoding
 pub mod Comparing
+pub mod Walks
+pub mod Reading
+pub mod Walk

@@ -8,9 +8,7 @@ pub mod Ranges
 pub mod LeastOf
 pub mod Encoding
 pub mod Laws
-pub mod Reading
 pub mod Walks
-pub mod Walk
 pub mod Operands
 pub mod Faults
 pub mod Comparing

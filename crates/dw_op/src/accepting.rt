@@ -2,7 +2,7 @@
 
 ghost use Rattle.std.specs.Prelude.{◌≡◌, None, Some, Ok, Err, IfOk, IfErr, false};
 ghost use Rattle.dw_op.specs.declared.profile.Profile.TheVariants.{Frame};
-ghost use Rattle.dw_op.specs.Walk.{walk, block_input, decode_at};
+ghost use Rattle.dw_op.specs.Inner.Walk.{walk, block_input, decode_at};
 ghost use Rattle.dw_op.specs.Inner.Accepted.{IsAccepted};
 
 use crate::profile::Profile;

@@ -3,7 +3,7 @@
 ghost use Rattle.std.specs.Prelude.{◌≡◌, ◌<◌, ◌≤◌, ◌+◌, ◌++◌, ◌∷◌, [], Some, None, IfSome, length, slice_get};
 ghost use Rattle.dw_num.specs.Input.{AreBytes, behind};
 ghost use Rattle.dw_op.specs.declared.profile.Profile.TheVariants.{Frame};
-ghost use Rattle.dw_op.specs.Walk.{walk, end_of, index_at};
+ghost use Rattle.dw_op.specs.Inner.Walk.{walk, end_of, index_at};
 ghost use Rattle.dw_op.specs.Inner.Windows.{AreMarks};
 
 use crate::walking::{advance, copied, index_from};

@@ -7,8 +7,8 @@ ghost use Rattle.dw_num.specs.Input.{behind};
 ghost use Rattle.dw_op.specs.Inner.Accepted.{IsAccepted};
 ghost use Rattle.dw_op.specs.Inner.Lengths.{lengths_at, step_length, total};
 ghost use Rattle.dw_op.specs.Inner.Points.{IsLater, IsPoint, InRoom, IsStartMark, AreStartMarks, ArePlaces, AreInRoom, IsReached};
-ghost use Rattle.dw_op.specs.Reading.{bare_step};
-ghost use Rattle.dw_op.specs.Walk.{block_input};
+ghost use Rattle.dw_op.specs.Inner.Reading.{bare_step};
+ghost use Rattle.dw_op.specs.Inner.Walk.{block_input};
 
 use crate::least::op_least_len;
 use crate::marking::{Marks, cursor_behind};
@@ -34,7 +34,7 @@ impl<'a> Model for Lengths<'a> {
     ghost use Rattle.std.specs.Prelude.{◌≡◌, None};
     ghost use Rattle.dw_num.specs.Input.{Input, AreBytes};
     ghost use Rattle.dw_op.specs.declared.profile.Profile.TheVariants.{Frame};
-    ghost use Rattle.dw_op.specs.Walk.{walk};
+    ghost use Rattle.dw_op.specs.Inner.Walk.{walk};
 
     ghost Value = { Input };
 

@@ -3,7 +3,7 @@
 ghost use Rattle.std.specs.Prelude.{◌≡◌, ◌<◌, ◌≤◌, ◌+◌, ◌-◌, Some, None, IfSome, length};
 ghost use Rattle.dw_num.specs.Input.{AreBytes};
 ghost use Rattle.dw_op.specs.declared.profile.Profile.TheVariants.{Frame};
-ghost use Rattle.dw_op.specs.Walk.{walk, end_of, index_at, index_in, goes_to, find_at, block_input};
+ghost use Rattle.dw_op.specs.Inner.Walk.{walk, end_of, index_at, index_in, goes_to, find_at, block_input};
 ghost use Rattle.dw_op.specs.Inner.Windows.{Shifted, block_of, WalkSo, SoughtSo, Walks};
 
 use crate::decoding::{goal, named};

@@ -12,7 +12,7 @@ use Rattle.dw_section.specs.Inner.Index.{range_in, IsRanged}
 use Rattle.dw_section.specs.Inner.Lookup.{fde_in}
 use Rattle.dw_section.specs.Meaning.{Returns, Lists, AreFdes, Covers, NoneCovers}
 use Rattle.dw_section.specs.Overlap.{Range, Precedes, Ascends, AreApart, IsIndex, end_of}
-use Rattle.dw_section.specs.Table.{IsTable, IsKept}
+use Rattle.dw_section.specs.Inner.Table.{IsTable, IsKept}
 use Rattle.dw_section.specs.declared.cutting.EntryCounts.{EntryCounts}
 use Rattle.dw_section.specs.declared.judging.Initial.{Initial}
 use Rattle.dw_section.specs.Inner.Initials.{AreInitials}

@@ -17,8 +17,10 @@ use Rattle.dw_section.specs.declared.fields.CieFields.{CieFields}
 use Rattle.dw_section.specs.declared.fields.FdeFields.{FdeFields}
 use Rattle.dw_section.specs.Cut.{Piece, id_width}
 use Rattle.dw_section.specs.Pieces.{Pieces}
-use Rattle.dw_section.specs.Places.{cie_places, Rises}
-use Rattle.dw_section.specs.Stage.{FirstStuck, Answers}
+use Rattle.dw_section.specs.Places.{cie_places}
+use Rattle.dw_section.specs.Inner.Places.{Rises}
+use Rattle.dw_section.specs.Stage.{FirstStuck}
+use Rattle.dw_section.specs.Inner.Stage.{Answers}
 use Rattle.dw_section.specs.Fields.{Fields, cie_fields, fde_fields, FieldsFault}
 use Rattle.dw_section.specs.Inner.Fields.{cie_fields_at, fde_fields_at}
 use Rattle.dw_section.specs.Inner.Reading.{program_of, cie_of_piece, cie_at, fde_of_piece, fde_at}

@@ -9,7 +9,8 @@ use Rattle.dw_num.specs.Input.{Input, Takes}
 use Rattle.dw_section.specs.declared.cutting.EntryCounts.{EntryCounts}
 use Rattle.dw_section.specs.declared.cutting.Kind.{Kind}
 use Rattle.dw_section.specs.declared.cutting.Kind.TheVariants.{Cie, Fde}
-use Rattle.dw_section.specs.Counts.{AreCounts, counted_by}
+use Rattle.dw_section.specs.Counts.{AreCounts}
+use Rattle.dw_section.specs.Inner.Counts.{counted_by}
 use Rattle.dw_section.specs.Cut.{gap, entry, IsItem, item_bytes, is_cie, Piece}
 use Rattle.dw_section.specs.Places.{cie_places}
 use Rattle.dw_section.proofs.Items.{IsWalked, walked_more, walked_entry, item_some}

@@ -7,7 +7,6 @@ use Rattle.dw_cfa.specs.Location.{Counts}
 use Rattle.dw_cfa.specs.Column.{cfa_after, rule_after}
 use Rattle.dw_cfa.specs.Laws.{initial_cfa, initial_rule, HoldsAfter}
 use Rattle.dw_cfa.specs.Rows.{Rules}
-use Rattle.dw_cfa.specs.Stepping.{Stepping}
 
 -- after j and after k instructions each column has the same rule
 pub record SameRules (initial instrs : List Instr) (j k : ℕ) : Type 0 where
@@ -107,12 +106,3 @@ GivesAddress old (Err e) new = new.failed ≡ true
 abbrev pub before_then : {A : Type 0} → Option A → Option Rules → Option Rules
 before_then None shown = None
 before_then (Some change) shown = shown
-
--- ---- how the code finds them
-
-abbrev pub FindsChange : {E : Type 0} → ℕ → Stepping → Option Rules → Result (Option ℕ) E → Stepping → Type 0
-FindsChange end old shown (Ok None) new = (new.outcome.fault ≡ None) × Among end shown old.outcome.rows [] × (new.outcome.rows ≡ [])
-FindsChange end old shown (Ok (Some start)) new =
-    (new.outcome.fault ≡ None) × (length new.outcome.rows < length old.outcome.rows)
-    × ((changes : List (ℕ × Rules)) → Among end (Some new.current) new.outcome.rows changes → Among end shown old.outcome.rows ((start, new.current) ∷ changes))
-FindsChange end old shown (Err e) new = new.outcome.fault ≡ None

@@ -9,8 +9,6 @@ use Rattle.dw_num.specs.declared.refusal.Code.TheVariants.{Truncated, EntryPastE
 use Rattle.dw_num.specs.declared.refusal.Refusal.{Refusal}
 use Rattle.dw_num.specs.Input.{Input, behind}
 use Rattle.dw_num.specs.Reading.{Read, fault, unit_length_at, ◌>>=◌}
-use Rattle.dw_section.specs.declared.cutting.Part.{Part}
-use Rattle.dw_section.specs.declared.cutting.Part.TheVariants as parts
 use Rattle.dw_section.specs.Cut.{Item, gap, entry, IsItem, id_width, all_bytes}
 
 abbrev pub is_32 : Form → Bool
@@ -41,8 +39,3 @@ pub record IsStuck (target : Target) (s : List ℕ) (r : Refusal) : Type 0 where
 -- the first fault in the way of a cut
 abbrev pub CutFault : Target → List ℕ → Refusal → Type 0
 CutFault target s r = ((2147483647 < length s) × (r ≡ record { code = SectionTooLarge; at = 0 })) ⊎ ((length s ≤ 2147483647) × IsStuck target s r)
-
--- the item that a part is
-abbrev pub item_of : Part → Item
-item_of parts.Gap = gap
-item_of (parts.Entry form contents) = entry form contents.bytes.now

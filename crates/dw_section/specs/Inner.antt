@@ -10,3 +10,11 @@ pub mod Counted
 pub mod Least
 pub mod Agree
 pub mod Left
+pub mod Changes
+pub mod Counts
+pub mod Faults
+pub mod Meanings
+pub mod Pieces
+pub mod Places
+pub mod Stage
+pub mod Table

@@ -1,8 +1,8 @@
 //! The fields of CIEs and FDEs.
 
 ghost use Rattle.std.specs.Prelude.{◌≡◌, ◌<◌, nat_le, ◌+◌, position, ◌==◌};
-ghost use Rattle.dw_section.specs.Places.{Rises};
-ghost use Rattle.dw_num.specs.Reading.{Gives};
+ghost use Rattle.dw_section.specs.Inner.Places.{Rises};
+ghost use Rattle.dw_num.specs.Inner.Reading.{Gives};
 ghost use Rattle.dw_num.specs.Target.{address_limit};
 ghost use Rattle.dw_section.specs.Fields.{is_among};
 ghost use Rattle.dw_section.specs.Inner.Fields.{wanted_at, version_of, version_at, empty_string_at, sizes_at, return_register_at, factors_at, cie_fields_at, pointer_at, range_at, fde_fields_at};

@@ -14,7 +14,7 @@ ghost use Rattle.dw_section.specs.Stage.{FirstStuck};
 ghost use Rattle.dw_section.specs.Inner.Index.{range_in, IsRanged, AreJudged, PlacesRise, SameMembers};
 ghost use Rattle.dw_section.specs.Inner.Initials.{place_of, or_place, IsInitial, AreInitials};
 ghost use Rattle.dw_section.specs.Overlap.{nonempty, Ascends, AreApart, FirstOverlap};
-ghost use Rattle.dw_section.specs.Places.{Rises};
+ghost use Rattle.dw_section.specs.Inner.Places.{Rises};
 ghost use Rattle.dw_section.specs.Programs.{IsAmong, FdeRuns, FdeBroken};
 
 use crate::heading::{Header, next_header};

@@ -18,12 +18,12 @@ ghost use Rattle.dw_cfa.specs.Following.{with_steps};
 ghost use Rattle.dw_cfa.specs.Lacking.{lacks_from};
 ghost use Rattle.dw_section.specs.Fields.{is_among};
 ghost use Rattle.dw_section.specs.Headers.{Head, Has, CieHolds, cie, fde, head_in};
-ghost use Rattle.dw_section.specs.Pieces.{piece_in};
+ghost use Rattle.dw_section.specs.Inner.Pieces.{piece_in};
 ghost use Rattle.dw_section.specs.Inner.Heads.{FdeFits, IsTyped};
 ghost use Rattle.std.specs.Prelude.{FitsSigned};
 ghost use Rattle.std.specs.Int.{w64};
 ghost use Rattle.dw_section.specs.Inner.Initials.{place_of, IsInitial, IsBehind, IsLong, IsRunner, AreInitials, HasOrLacks};
-ghost use Rattle.dw_section.specs.Places.{Rises};
+ghost use Rattle.dw_section.specs.Inner.Places.{Rises};
 ghost use Rattle.dw_section.specs.Programs.{input_of, IsAmong, CieRuns, CieBroken, FdeRuns, FdeBroken};
 ghost use Rattle.dw_section.specs.Stage.{FirstStuck};
 

@@ -14,7 +14,8 @@ ghost use Rattle.dw_section.specs.FaultPlaces.{IsWithin};
 ghost use Rattle.dw_section.specs.declared.lookup.Fde.{Fde as TheFde};
 ghost use Rattle.dw_section.specs.Meaning.{AreFdes};
 ghost use Rattle.dw_section.specs.Pieces.{Pieces};
-ghost use Rattle.dw_section.specs.Table.{Section, AreRanges, IsKept};
+ghost use Rattle.dw_section.specs.Table.{Section};
+ghost use Rattle.dw_section.specs.Inner.Table.{AreRanges, IsKept};
 
 use crate::cutting::{EntryCounts, cut};
 use crate::heading::{fdes_hold, find_cies};
@@ -37,7 +38,8 @@ pub struct Table<'a> {
 }
 
 impl<'a> Model for Table<'a> {
-    ghost use Rattle.dw_section.specs.Table.{Section, IsTable, IsKept};
+    ghost use Rattle.dw_section.specs.Table.{Section};
+    ghost use Rattle.dw_section.specs.Inner.Table.{IsTable, IsKept};
 
     ghost Value = { Section };
 

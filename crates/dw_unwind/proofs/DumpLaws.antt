@@ -12,7 +12,8 @@ use Rattle.dw_unwind.specs.declared.gathering.Gathered.{Gathered}
 use Rattle.dw_unwind.specs.declared.ranges.Range.{Range}
 use Rattle.dw_unwind.specs.Dump.{SaysWithin, Say, FirstFault}
 use Rattle.dw_unwind.specs.Inner.Gathered.{Gathers, Keeps, IsWhole, ranges_of, bytes_of}
-use Rattle.dw_unwind.specs.Ranges.{covers, byte_among, cover_count, AreApart, Meet, IsWithin}
+use Rattle.dw_unwind.specs.Ranges.{covers, byte_among}
+use Rattle.dw_unwind.specs.Inner.Ranges.{cover_count, AreApart, Meet, IsWithin}
 use Rattle.dw_unwind.specs.Statement.{Statement, Item, nothing, counter_is, register_is, memory_is, counter, register, byte, told, or_else, given, times}
 use Rattle.dw_unwind.proofs.LineLaws.{zip_length}
 use Rattle.dw_unwind.proofs.RangeLaws.{covers_tells}

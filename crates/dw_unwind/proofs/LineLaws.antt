@@ -7,7 +7,7 @@ use Rattle.dw_unwind.specs.declared.gathering.Gathered.{Gathered}
 use Rattle.dw_unwind.specs.Dump.{SaysWithin}
 use Rattle.dw_unwind.specs.Inner.Gathered.{Keeps, SoFar}
 use Rattle.dw_unwind.specs.Lines.{lines_of, in_front}
-use Rattle.dw_unwind.specs.Spelling.{len_until}
+use Rattle.dw_unwind.specs.Inner.Spelling.{len_until}
 use Rattle.dw_unwind.specs.Statement.{Statement}
 
 first_line : (text : List ℕ) → 0 < length text → lines_of text ≡ take (len_until 10 text) text ∷ lines_of (drop (suc (len_until 10 text)) text)

@@ -12,7 +12,8 @@ use Rattle.std.proofs.lemmas.List.Sums.{sum_by-cons}
 use Rattle.std.proofs.lemmas.Option.{slice_get-get_or}
 use Rattle.dw_eval.specs.Bytes.{with_byte, bytes_from}
 use Rattle.dw_unwind.specs.declared.ranges.Range.{Range}
-use Rattle.dw_unwind.specs.Ranges.{end_of, covers, byte_of, byte_among, cover_count, AreApart, Meet, Rise, IsWithin}
+use Rattle.dw_unwind.specs.Ranges.{end_of, covers, byte_of, byte_among}
+use Rattle.dw_unwind.specs.Inner.Ranges.{cover_count, AreApart, Meet, Rise, IsWithin}
 
 -- ---- whether a range covers an address
 

@@ -22,12 +22,6 @@ IsFaulty limit before line BadLine = (s : Statement) → Says line s → ⊥
 IsFaulty limit before line ValueTooLarge = (s : Statement) × Says line s × (Fits limit s → ⊥)
 IsFaulty limit before line Repeated = (s : Statement) × SaysWithin limit line s × ((item : Item) × (1 < times (before ++ s ∷ []) item))
 
--- the fault of a statement behind others
-abbrev pub IsWrong : ℕ → List Statement → Statement → DumpCode → Type 0
-IsWrong limit before s BadLine = ⊥
-IsWrong limit before s ValueTooLarge = Fits limit s → ⊥
-IsWrong limit before s Repeated = Fits limit s × ((item : Item) × (1 < times (before ++ s ∷ []) item))
-
 -- the first line at fault, counted from 1, and its fault
 pub record FirstFault (limit : ℕ) (lines : List (List ℕ)) (fault : DumpFault) : Type 0 where
   pub before : List (List ℕ)

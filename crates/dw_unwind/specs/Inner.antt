@@ -2,3 +2,6 @@
 pub mod Stated
 pub mod Gathered
 pub mod Recovery
+pub mod Dump
+pub mod Ranges
+pub mod Spelling

@@ -1,6 +1,5 @@
 -- How lines are spelled.
-use Rattle.std.specs.Prelude.{◌≡◌, ◌≢◌, ◌⊎◌, ℕ, suc, ◌+◌, ◌*◌, ◌<◌, ◌≤◌, ◌==◌, nat_lt, if◌then◌else◌, List, [], ◌∷◌, ◌++◌, length, slice_index, codes, Option, Some, None, Ok, option_and_then}
-use Rattle.std.specs.List.{AllByRecursion}
+use Rattle.std.specs.Prelude.{◌≡◌, ◌≢◌, ◌⊎◌, ℕ, ◌+◌, ◌*◌, ◌<◌, ◌≤◌, nat_lt, if◌then◌else◌, List, [], ◌∷◌, ◌++◌, length, slice_index, codes, Option, Some, None, Ok, option_and_then}
 use Rattle.hex.specs.Hex.{decode_of, hex_digit_value}
 use Rattle.dw_unwind.specs.Statement.{Statement, nothing, counter_is, register_is, memory_is}
 
@@ -58,18 +57,3 @@ Says line nothing = SkippedLine line
 Says line (counter_is v) = CounterLine v line
 Says line (register_is r v) = RegisterLine r v line
 Says line (memory_is start bytes) = MemoryLine start bytes line
-
--- ---- parts of lines
-
--- the front of a line of memory
-abbrev pub MemoryHead : ℕ → List ℕ → List ℕ → Type 0
-MemoryHead start pairs line = (digits : List ℕ) × Hexadecimal start digits × (line ≡ codes "mem 0x" ++ (digits ++ (codes " " ++ pairs)))
-
--- no character of a text is this one
-abbrev pub Lacks : ℕ → List ℕ → Type 0
-Lacks kind text = AllByRecursion (λ c. c ≢ kind) text
-
--- how many characters stand before the first of a kind, or all of them
-abbrev pub len_until : ℕ → List ℕ → ℕ
-len_until kind [] = 0
-len_until kind (c ∷ cs) = if c == kind then 0 else suc (len_until kind cs)

@@ -6,7 +6,8 @@ ghost use Rattle.std.specs.List.{AllByRecursion};
 ghost use Rattle.dw_num.specs.Fixed.{fixed_number};
 ghost use Rattle.dw_eval.specs.Bytes.{bytes_from, number_at};
 ghost use Rattle.dw_unwind.specs.declared.ranges.Range.{Range as TheRange};
-ghost use Rattle.dw_unwind.specs.Ranges.{byte_among, byte_in, AreApart, Rise, IsWithin};
+ghost use Rattle.dw_unwind.specs.Ranges.{byte_among, byte_in};
+ghost use Rattle.dw_unwind.specs.Inner.Ranges.{AreApart, Rise, IsWithin};
 
 use crate::ranges::{Range, settle};
 use byteorder::{BigEndian, ByteOrder, LittleEndian};
@@ -22,7 +23,8 @@ pub struct DumpMemory {
 }
 
 impl Model for DumpMemory {
-    ghost use Rattle.dw_unwind.specs.Ranges.{Held, IsOrdered};
+    ghost use Rattle.dw_unwind.specs.Ranges.{Held};
+    ghost use Rattle.dw_unwind.specs.Inner.Ranges.{IsOrdered};
 
     ghost Value = { Held };
 

@@ -5,7 +5,8 @@ ghost use Rattle.std.specs.Bool.{MatchBool};
 ghost use Rattle.std.specs.List.{AllByRecursion};
 ghost use Rattle.std.specs.List.Sorted.{IsPermutation, IsNonDecreasingBy};
 ghost use Rattle.dw_unwind.specs.declared.ranges.Range.{Range as TheRange};
-ghost use Rattle.dw_unwind.specs.Ranges.{end_of, AreApart, Meet, Rise};
+ghost use Rattle.dw_unwind.specs.Ranges.{end_of};
+ghost use Rattle.dw_unwind.specs.Inner.Ranges.{AreApart, Meet, Rise};
 
 use std::alloc::{AllocError, Global};
 

@@ -5,7 +5,7 @@ use Rattle.clap.specs.declared.builder.arg.Arg.{Arg}
 use Rattle.clap.specs.declared.builder.command.Command.{Command}
 use Rattle.clap.specs.declared.builder.command.Command.TheViews.{out-Command}
 use Rattle.clap.specs.Words.{AddsArg, AddsSubcommand, App, Rule, app_of, with_rule, with_subcommand}
-use Rattle.dw_words.specs.CommandLine.{IsArg, IsCommand}
+use Rattle.dw_words.specs.Inner.CommandLine.{IsArg, IsCommand}
 
 -- a command with one more argument
 pub added : (a : App) (r : Rule) (old new : Command) (x : Arg) → IsCommand a old → IsArg r x → AddsArg old x new → IsCommand (with_rule a r) new

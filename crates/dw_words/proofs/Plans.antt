@@ -8,7 +8,8 @@ use Rattle.dw_words.specs.declared.request.PlanError.{PlanError}
 use Rattle.dw_words.specs.declared.request.PlanError.TheVariants as errors
 use Rattle.dw_words.specs.declared.request.Request.{Request}
 use Rattle.dw_words.specs.declared.request.Request.TheVariants as requests
-use Rattle.dw_words.specs.Plan.{Fails, FromFault, Planned, is_help, Run, run_in, run_of, run_where}
+use Rattle.dw_words.specs.Plan.{Planned, is_help, Run, run_in, run_of, run_where}
+use Rattle.dw_words.specs.Inner.Plan.{Fails, FromFault}
 
 pub free : is_simple_and_free dwframe ≡ true
 unfolding clap_on_literals

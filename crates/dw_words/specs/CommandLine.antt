@@ -1,10 +1,7 @@
 -- The command line, as clap defines a simple command: the subcommands with their options and operands.
-use Rattle.std.specs.Prelude.{◌≡◌, Bool, true, false, Some, codes}
-use Rattle.clap.specs.declared.builder.arg.Arg.{Arg}
-use Rattle.clap.specs.declared.builder.command.Command.{Command}
-use Rattle.clap.specs.declared.builder.command.Command.TheViews.{out-Command}
+use Rattle.std.specs.Prelude.{Bool, true, false, Some, codes}
 use Rattle.clap.specs.declared.builder.ArgAction.TheVariants.{Set, SetTrue}
-use Rattle.clap.specs.Words.{App, Rule, Text, app_of, new_app, new_rule, rule_of, with_rule, with_subcommand}
+use Rattle.clap.specs.Words.{App, Rule, Text, new_app, new_rule, with_rule, with_subcommand}
 
 -- ---- arguments
 
@@ -69,13 +66,3 @@ with_normal_forms a = with_subcommand (with_subcommand (with_subcommand a normal
 
 abbrev pub dwframe : App
 dwframe = with_normal_forms (with_expressions (with_sections program))
-
--- ---- how the code has them
-
--- an argument has this rule, and is no global one
-abbrev pub IsArg : Rule → Arg → Type 0
-IsArg rule a = (rule_of a ≡ rule) × (a.global ≡ false)
-
--- a command is this one, and has no global argument
-abbrev pub IsCommand : App → Command → Type 0
-IsCommand app c = (app_of c ≡ app) × ((out-Command c).has_globals ≡ false)

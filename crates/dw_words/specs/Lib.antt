@@ -1,3 +1,4 @@
 pub mod CommandLine
 pub mod Plan
 pub mod Values
+pub mod Inner

@@ -1,7 +1,6 @@
 -- What the words of a run ask for.
-use Rattle.std.specs.Prelude.{◌≡◌, ◌≢◌, ⊤, ℕ, List, [], ◌∷◌, Bool, true, false, Option, Some, None, codes, option_and_then, option_map, if◌then◌else◌, Result, Ok, Err, MatchResult}
+use Rattle.std.specs.Prelude.{◌≡◌, ⊤, ℕ, List, [], ◌∷◌, Bool, true, false, Option, Some, None, codes, option_and_then, option_map, if◌then◌else◌, Result, Ok, Err}
 use Rattle.std.specs.Str.{bytes_eq}
-use Rattle.clap.specs.declared.error.Error.{Error}
 use Rattle.clap.specs.declared.error.ErrorKind.{ErrorKind}
 use Rattle.clap.specs.declared.error.ErrorKind.TheVariants as kinds
 use Rattle.clap.specs.Words.{IsAmong, Kinds, Row, Text, fault_of, first_of, kind_of, subcommand_of}
@@ -156,24 +155,6 @@ task_held (tasks.Unwind u) = unwind u.default u.steps u.path.now u.dump.now
 
 abbrev pub run_held : Job → Run
 run_held job = record { target = job.target; task = task_held job.task }
-
--- an error of values: nothing is wanted, or memory ran out
-abbrev pub Fails : {X : Type 0} → Option X → PlanError → Type 0
-Fails wanted (errors.BadValue what) = wanted ≡ None
-Fails wanted (errors.Words error) = ⊥
-Fails wanted errors.OutOfMemory = ⊤
-
--- a value is what is wanted
-abbrev pub Answers : {T X : Type 0} → Option X → (T → X) → Result T PlanError → Type 0
-Answers wanted held result = MatchResult result (λ v. wanted ≡ Some (held v)) (Fails wanted)
-
--- what a fault of clap's becomes
-abbrev pub FromFault : Error → Result Request PlanError → Type 0
-FromFault error (Ok (requests.Run job)) = ⊥
-FromFault error (Ok (requests.Help text)) = (text ≡ error) × (is_help (kind_of error) ≡ true)
-FromFault error (Err (errors.Words fault)) = (fault ≡ error) × (is_help (kind_of error) ≡ false) × (kind_of error ≢ kinds.OutOfMemory)
-FromFault error (Err (errors.BadValue what)) = ⊥
-FromFault error (Err errors.OutOfMemory) = kind_of error ≡ kinds.OutOfMemory
 
 -- what is planned for words: the run that they ask for, and a text of help exactly where clap's kind of fault says so
 abbrev pub Planned : List Text → Result Request PlanError → Type 0

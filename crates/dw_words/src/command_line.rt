@@ -3,7 +3,8 @@
 ghost use Rattle.std.specs.Prelude.{◌≡◌, IfOk};
 ghost use Rattle.clap.specs.Words.{App, app_of};
 ghost use Rattle.clap.specs.declared.builder.command.Command.TheViews.{out-Command};
-ghost use Rattle.dw_words.specs.CommandLine.{IsArg, IsCommand, choice, cost, dwframe, eval, expr, flag, normal, operand, option, over_file, program, same, subcommand, unwind, with_expressions, with_normal_forms, with_sections};
+ghost use Rattle.dw_words.specs.CommandLine.{choice, cost, dwframe, eval, expr, flag, normal, operand, option, over_file, program, same, subcommand, unwind, with_expressions, with_normal_forms, with_sections};
+ghost use Rattle.dw_words.specs.Inner.CommandLine.{IsArg, IsCommand};
 
 use crate::help;
 use clap::{Arg, ArgAction, Command};

@@ -8,7 +8,8 @@ use Rattle.dw_cfa.specs.declared.row.Kind.{Kind}
 use Rattle.dw_cfa.specs.declared.row.Kind.TheVariants as kinds
 use Rattle.std.specs.Int.{bit_at}
 use Rattle.std.proofs.Math.ListN.{get_or}
-use Rattle.dw_cfa.specs.Rows.{AreSpecified, listed, rule_in}
+use Rattle.dw_cfa.specs.Rows.{AreSpecified, rule_in}
+use Rattle.dw_cfa.specs.Inner.Rows.{listed}
 
 abbrev pub kind_rule : Kind → ℕ → ℤ → RegRule → RegRule
 kind_rule kinds.Empty r n block = rules.Unspecified

@@ -10,7 +10,8 @@ use Rattle.dw_cfa.specs.declared.machine.StepError.{StepError}
 use Rattle.dw_cfa.specs.declared.machine.StepError.TheVariants.{Fault, OutOfMemory}
 use Rattle.dw_cfa.specs.Column.{cfa_change}
 use Rattle.dw_cfa.specs.Kept.{in_cie, keeps_half}
-use Rattle.dw_cfa.specs.Rows.{Rules, rule, with_cfa, with_rule}
+use Rattle.dw_cfa.specs.Rows.{Rules, rule}
+use Rattle.dw_cfa.specs.Inner.Rows.{with_cfa, with_rule}
 
 -- the current row, the remembered ones, the last first, and the location
 pub record State : Type 0 where

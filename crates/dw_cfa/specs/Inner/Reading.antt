@@ -9,7 +9,7 @@ use Rattle.dw_num.specs.Reading.{Read, fault, fixed_at, take_at, register_at, ul
 use Rattle.dw_op.specs.declared.op.Op.{Op}
 use Rattle.dw_op.specs.declared.profile.Profile.TheVariants.{Frame}
 use Rattle.dw_op.specs.Expression.{Expression}
-use Rattle.dw_op.specs.Walk.{block_input, decode_at}
+use Rattle.dw_op.specs.Inner.Walk.{block_input, decode_at}
 use Rattle.dw_cfa.specs.declared.instr.Factors.{Factors}
 use Rattle.dw_cfa.specs.declared.instr.Instr.{Instr}
 use Rattle.dw_cfa.specs.declared.reading.Opcode.{Opcode}

@@ -7,7 +7,8 @@ use Rattle.dw_num.specs.Input.{Input}
 use Rattle.dw_num.specs.declared.error.ReadError.{ReadError}
 use Rattle.dw_num.specs.declared.error.ReadError.TheVariants.{Refused, OutOfMemory}
 use Rattle.dw_num.specs.Refusals.{Refuses}
-use Rattle.dw_op.specs.Walks.{Walked, walked}
+use Rattle.dw_op.specs.Walks.{Walked}
+use Rattle.dw_op.specs.Inner.Walks.{walked}
 use Rattle.dw_cfa.specs.declared.instr.Factors.{Factors}
 use Rattle.dw_cfa.specs.declared.instr.Instr.{Instr}
 use Rattle.dw_cfa.specs.declared.machine.Machine.{Machine}

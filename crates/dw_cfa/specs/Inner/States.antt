@@ -4,7 +4,8 @@ use Rattle.dw_cfa.specs.declared.rule.CfaRule.{CfaRule}
 use Rattle.dw_cfa.specs.declared.rule.RegRule.{RegRule}
 use Rattle.dw_cfa.specs.declared.states.Undo.{Undo}
 use Rattle.dw_cfa.specs.declared.states.Undo.TheVariants.{Remembered, Register}
-use Rattle.dw_cfa.specs.Rows.{Rules, with_cfa, with_rule}
+use Rattle.dw_cfa.specs.Rows.{Rules}
+use Rattle.dw_cfa.specs.Inner.Rows.{with_cfa, with_rule}
 
 -- the current row, the remembered ones, the last first, the registers that all began with, where they can be brought back,
 -- and a row that was kept

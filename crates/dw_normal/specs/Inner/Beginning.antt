@@ -6,7 +6,7 @@ use Rattle.dw_num.specs.declared.target.Target.{Target}
 use Rattle.dw_section.specs.Sound.{RowFits}
 use Rattle.dw_canon.specs.Canon.{initial_of}
 use Rattle.dw_canon.specs.Difference.{difference}
-use Rattle.dw_canon.specs.Fits.{InstrFits}
+use Rattle.dw_canon.specs.Inner.Fits.{InstrFits}
 use Rattle.dw_canon.specs.Members.{Member, fde_of}
 use Rattle.dw_normal.specs.Inner.Passing.{AreToCome, Stand, shown_row}
 use Rattle.dw_normal.specs.declared.begun.Begun.{Begun}

@@ -8,7 +8,7 @@ use Rattle.dw_op.specs.declared.reading.Branch.{Branch}
 use Rattle.dw_op.specs.declared.reading.Step.{Step}
 use Rattle.dw_op.specs.declared.reading.ByteCount.{ByteCount}
 use Rattle.dw_op.specs.Operands.{modulo}
-use Rattle.dw_op.specs.Reading.{with_op, width_of, signed_of, with_jump, after_register, size_in, after_size, after_length}
+use Rattle.dw_op.specs.Inner.Reading.{with_op, width_of, signed_of, with_jump, after_register, size_in, after_size, after_length}
 
 unfoldable pub address_step : Input → Read Step
 address_step i = address_at i >>= with_op Addr

@@ -7,7 +7,7 @@ use Rattle.dw_op.specs.declared.profile.Profile.TheVariants.{Frame}
 use Rattle.dw_op.specs.declared.reading.Step.{Step}
 use Rattle.dw_op.specs.declared.reading.Step.TheVariants.{Plain, Jump}
 use Rattle.dw_op.specs.LeastOf.{least_bytes}
-use Rattle.dw_op.specs.Walk.{Item, walk}
+use Rattle.dw_op.specs.Inner.Walk.{Item, walk}
 
 -- the lengths of the least spellings, one after another
 abbrev pub least_lengths : Target → List Op → List ℕ

@@ -7,7 +7,7 @@ use Rattle.dw_op.specs.declared.measuring.StartMark.{StartMark}
 use Rattle.dw_op.specs.declared.measuring.Places.{Places}
 use Rattle.dw_op.specs.declared.profile.Profile.TheVariants.{Frame}
 use Rattle.dw_op.specs.Inner.Lengths.{lengths_at, total, together}
-use Rattle.dw_op.specs.Walk.{walk}
+use Rattle.dw_op.specs.Inner.Walk.{walk}
 
 -- j is the input i from one of its operations on
 pub record IsLater (i j : Input) : Type 0 where

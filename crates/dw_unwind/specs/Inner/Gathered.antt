@@ -6,7 +6,8 @@ use Rattle.dw_unwind.specs.declared.fault.DumpCode.{DumpCode}
 use Rattle.dw_unwind.specs.declared.fault.DumpFault.{DumpFault}
 use Rattle.dw_unwind.specs.declared.ranges.Range.{Range}
 use Rattle.dw_unwind.specs.declared.gathering.Gathered.{Gathered}
-use Rattle.dw_unwind.specs.Dump.{SaysWithin, IsFaulty, IsWrong}
+use Rattle.dw_unwind.specs.Dump.{SaysWithin, IsFaulty}
+use Rattle.dw_unwind.specs.Inner.Dump.{IsWrong}
 use Rattle.dw_unwind.specs.Lines.{lines_of}
 use Rattle.dw_unwind.specs.Statement.{Statement, nothing, counter_is, register_is, memory_is, counter, register, Fits, given, times}
 

@@ -2,7 +2,8 @@ use Rattle.std.proofs.Common.{◌≡◌, ◌+◌, ◌<◌, List, arith, sym, ap,
 use Rattle.std.specs.Prelude.{◌/◌, ◌^◌}
 use Rattle.std.specs.Int.{trailing_zeros, w32}
 use Rattle.dw_cfa.specs.declared.rule.RegRule.{RegRule}
-use Rattle.dw_cfa.specs.Rows.{Rules, put}
+use Rattle.dw_cfa.specs.Rows.{Rules}
+use Rattle.dw_cfa.specs.Inner.Rows.{put}
 use Rattle.dw_cfa.specs.Inner.Marks.{CopiedUpTo}
 use Rattle.dw_cfa.proofs.RowLists.{Entry}
 use Rattle.dw_cfa.proofs.Differing.{none_left, up_to_next}

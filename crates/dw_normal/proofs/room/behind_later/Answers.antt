@@ -3,7 +3,7 @@ use Rattle.std.proofs.Common.{ℕ, [], length, Option, Some, None, sym, subst, a
 use Rattle.std.specs.List.{AllByRecursion}
 use Rattle.dw_cfa.specs.Rows.{Rules}
 use Rattle.dw_canon.specs.Difference.{difference}
-use Rattle.dw_canon.specs.Fits.{InstrFits}
+use Rattle.dw_canon.specs.Inner.Fits.{InstrFits}
 use Rattle.dw_canon.specs.Spelling.{program_bytes}
 use Rattle.dw_normal.specs.Inner.Measuring.{Leaves}
 use Rattle.dw_normal.specs.Inner.Passing.{row_or_blank, shown_row}

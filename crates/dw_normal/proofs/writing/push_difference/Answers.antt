@@ -3,7 +3,7 @@ use Rattle.std.specs.List.{AllByRecursion, flat_map}
 use Rattle.std.proofs.lemmas.List.{append_assoc}
 use Rattle.dw_cfa.specs.declared.instr.Instr.{Instr}
 use Rattle.dw_canon.specs.Difference.{difference, cfa_difference, rule_difference, either}
-use Rattle.dw_canon.specs.Fits.{InstrFits}
+use Rattle.dw_canon.specs.Inner.Fits.{InstrFits}
 use Rattle.dw_canon.specs.Spelling.{program_bytes}
 use Rattle.dw_normal.specs.Inner.Walking.{rules_from}
 use Rattle.dw_normal.proofs.Filled.{on_ok}

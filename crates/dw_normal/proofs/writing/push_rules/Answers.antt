@@ -5,7 +5,7 @@ use Rattle.dw_cfa.specs.declared.instr.Instr.{Instr}
 use Rattle.dw_cfa.specs.Differing.{place_behind}
 use Rattle.dw_cfa.specs.Rows.{rule}
 use Rattle.dw_canon.specs.Difference.{rule_to}
-use Rattle.dw_canon.specs.Fits.{InstrFits}
+use Rattle.dw_canon.specs.Inner.Fits.{InstrFits}
 use Rattle.dw_canon.specs.Spelling.{instr_bytes, program_bytes}
 use Rattle.dw_normal.specs.Inner.Walking.{rules_from}
 use Rattle.dw_normal.proofs.Remaining.{none_differs, one_differs}

@@ -2,8 +2,8 @@ use Rattle.std.proofs.Common.{arith, ap}
 use Rattle.std.proofs.lemmas.Result.{err_from_is_err_and}
 use Rattle.dw_op.specs.declared.profile.Profile.TheVariants.{Frame}
 use Rattle.dw_op.specs.Expression.{bare}
-use Rattle.dw_op.specs.Reading.{bare_step}
-use Rattle.dw_op.specs.Walk.{block_input}
+use Rattle.dw_op.specs.Inner.Reading.{bare_step}
+use Rattle.dw_op.specs.Inner.Walk.{block_input}
 use Rattle.dw_op.proofs.Decoded.{step_shorter}
 use Rattle.dw_op.proofs.Judging.{read_plain, read_jump, read_end, read_plain_end, read_stuck}
 use Rattle.dw_op.proofs.accepting.has_branch.Goals as goal

@@ -1,5 +1,5 @@
 use Rattle.std.proofs.Common.{length}
-use Rattle.dw_op.specs.Walk.{block_input}
+use Rattle.dw_op.specs.Inner.Walk.{block_input}
 use Rattle.dw_op.proofs.Judging.{ReadSo}
 use Rattle.dw_op.proofs.accepting.has_branch.Given as goal
 

@@ -1,5 +1,5 @@
 use Rattle.std.proofs.lemmas.Result.{err_from_is_err_and}
-use Rattle.dw_op.specs.Walk.{block_input}
+use Rattle.dw_op.specs.Inner.Walk.{block_input}
 use Rattle.dw_op.proofs.Judging.{decoded_bad}
 use Rattle.dw_op.proofs.accepting.judge.Goals as goal
 

@@ -3,9 +3,9 @@ use Rattle.std.proofs.lemmas.Result.{err_from_is_err_and}
 use Rattle.std.proofs.lemmas.List.{map-append}
 use Rattle.dw_num.proofs.Refusals.{refuses_by}
 use Rattle.dw_op.specs.Expression.{bare}
-use Rattle.dw_op.specs.Reading.{bare_step}
-use Rattle.dw_op.specs.Walk.{block_input, place_index, walk, end_of, starts_of, op_of}
-use Rattle.dw_op.specs.Walk.{Rises}
+use Rattle.dw_op.specs.Inner.Reading.{bare_step}
+use Rattle.dw_op.specs.Inner.Walk.{block_input, place_index, walk, end_of, starts_of, op_of}
+use Rattle.dw_op.specs.Inner.Walk.{Rises}
 use Rattle.dw_op.proofs.Search.{starts_rise}
 use Rattle.dw_op.proofs.Decoded.{ops_more, ops_bad, ops_all, ops_stuck, bad_branch, decoded_is, decoded_fault, step_shorter}
 use Rattle.dw_op.proofs.decoding.decode_ops.Goals as goal

@@ -3,7 +3,7 @@ use Rattle.dw_section.proofs.AllMet.{all_placed}
 use Rattle.std.proofs.lemmas.Result.{err_from_is_err_and}
 use Rattle.dw_section.specs.Cut.{Piece}
 use Rattle.dw_section.specs.Inner.Left.{PiecesLeft}
-use Rattle.dw_section.specs.Pieces.{piece_in}
+use Rattle.dw_section.specs.Inner.Pieces.{piece_in}
 use Rattle.dw_section.specs.Headers.{CieHolds, CieStuck}
 use Rattle.dw_section.proofs.Between.{between_start, between_next, between_end, between_stuck}
 use Rattle.dw_section.proofs.HeaderLaws.{AreCies}

@@ -1,6 +1,6 @@
 use Rattle.std.proofs.Common.{sym, subst}
 use Rattle.dw_num.specs.declared.target.Target.{Target}
-use Rattle.dw_section.specs.Pieces.{piece_in}
+use Rattle.dw_section.specs.Inner.Pieces.{piece_in}
 use Rattle.dw_section.specs.Headers.{Has, CieHolds, head_in}
 use Rattle.dw_section.proofs.HeaderLaws.{has_cie, has_fde, fde_apart}
 use Rattle.dw_section.proofs.Heads.{has_at}

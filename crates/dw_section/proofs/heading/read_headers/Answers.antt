@@ -4,7 +4,7 @@ use Rattle.std.proofs.lemmas.Result.{err_from_is_err_and}
 use Rattle.std.specs.List.{AllZip}
 use Rattle.dw_section.specs.Cut.{Piece}
 use Rattle.dw_section.specs.Inner.Left.{PiecesLeft}
-use Rattle.dw_section.specs.Pieces.{piece_in}
+use Rattle.dw_section.specs.Inner.Pieces.{piece_in}
 use Rattle.dw_section.specs.Headers.{Head, Has, CieHolds, FdeHolds, FdeStuck, head_in}
 use Rattle.dw_section.proofs.Between.{between_start, between_next, between_end, between_stuck, between_now}
 use Rattle.dw_section.proofs.HeaderLaws.{has_fde}

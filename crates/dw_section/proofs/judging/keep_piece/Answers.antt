@@ -4,7 +4,7 @@ use Rattle.dw_section.specs.declared.cutting.Kind.TheVariants as kind
 use Rattle.dw_section.specs.Cut.{Piece}
 use Rattle.dw_section.specs.Headers.{Head, Has, head_in}
 use Rattle.dw_section.specs.Inner.Heads.{cie_at_of}
-use Rattle.dw_section.specs.Pieces.{piece_in}
+use Rattle.dw_section.specs.Inner.Pieces.{piece_in}
 use Rattle.dw_section.specs.Programs.{IsAmong, CieRuns}
 use Rattle.dw_section.proofs.HeaderLaws.{has_one, cie_apart, cie_faulty}
 use Rattle.dw_section.proofs.Judged.{initials_fde}

@@ -9,7 +9,7 @@ use Rattle.dw_section.specs.Inner.Initials.{place_of}
 use Rattle.dw_section.specs.Inner.Left.{HeadsLeft, AreHeaders}
 use Rattle.dw_section.specs.Meaning.{Returns}
 use Rattle.dw_section.specs.Overlap.{Range}
-use Rattle.dw_section.specs.Places.{Rises}
+use Rattle.dw_section.specs.Inner.Places.{Rises}
 use Rattle.dw_section.specs.Programs.{IsAmong}
 use Rattle.dw_section.proofs.HeaderLaws.{pieces_rise}
 use Rattle.dw_section.proofs.Heads.{all_in}

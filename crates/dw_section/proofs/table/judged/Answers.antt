@@ -2,7 +2,7 @@ use Rattle.std.proofs.Common.{ℕ, List, ◌∙◌, sym, subst, inl, inr, ap, le
 use Rattle.std.proofs.lemmas.Result.{err_from_is_err_and}
 use Rattle.dw_section.specs.Inner.Initials.{AreInitials}
 use Rattle.dw_section.specs.Inner.Left.{AreHeaders}
-use Rattle.dw_section.specs.Places.{Rises}
+use Rattle.dw_section.specs.Inner.Places.{Rises}
 use Rattle.dw_section.proofs.HeaderLaws.{pieces_rise}
 use Rattle.dw_section.proofs.Heads.{heads_rise}
 use Rattle.dw_num.proofs.Refusals.{refuses_by}

@@ -1,5 +1,5 @@
 use Rattle.std.proofs.Common.{◌-◌, ◌<◌, ◌≤◌, length, take}
-use Rattle.dw_unwind.specs.Ranges.{AreApart, Meet}
+use Rattle.dw_unwind.specs.Inner.Ranges.{AreApart, Meet}
 use Rattle.dw_unwind.proofs.ranges.first_meeting.Given as goal
 
 abbrev pub invariant-loop-meet : goal.invariant-loop-meet

@@ -1,5 +1,6 @@
 use Rattle.clap.specs.Words.{App}
-use Rattle.dw_words.specs.CommandLine.{IsCommand, dwframe, program, with_expressions, with_normal_forms, with_sections}
+use Rattle.dw_words.specs.CommandLine.{dwframe, program, with_expressions, with_normal_forms, with_sections}
+use Rattle.dw_words.specs.Inner.CommandLine.{IsCommand}
 use Rattle.dw_words.proofs.Commands.{ok_map}
 use Rattle.dw_words.proofs.command_line.command_line.Goals as goal
 

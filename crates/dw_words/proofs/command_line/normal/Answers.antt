@@ -1,6 +1,7 @@
 use Rattle.std.proofs.Common.{rules, codes, true}
 use Rattle.clap.specs.Words.{AddsArg, with_rule}
-use Rattle.dw_words.specs.CommandLine.{IsArg, IsCommand, choice, operand, subcommand, normal}
+use Rattle.dw_words.specs.CommandLine.{choice, operand, subcommand, normal}
+use Rattle.dw_words.specs.Inner.CommandLine.{IsArg, IsCommand}
 use Rattle.dw_words.proofs.Commands.{added, ok_map}
 use Rattle.dw_words.proofs.command_line.normal.Goals as goal
 

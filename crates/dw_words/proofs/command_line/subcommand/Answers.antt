@@ -1,6 +1,7 @@
 use Rattle.std.proofs.Common.{rules, codes}
 use Rattle.clap.specs.Words.{AddsArg, new_app, with_rule}
-use Rattle.dw_words.specs.CommandLine.{IsArg, IsCommand, option, subcommand}
+use Rattle.dw_words.specs.CommandLine.{option, subcommand}
+use Rattle.dw_words.specs.Inner.CommandLine.{IsArg, IsCommand}
 use Rattle.dw_words.proofs.Commands.{added, described, ok_map}
 use Rattle.dw_words.proofs.command_line.subcommand.Goals as goal
 

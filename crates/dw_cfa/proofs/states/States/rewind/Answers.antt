@@ -1,5 +1,5 @@
 use Rattle.std.proofs.Common.{ap, ◌∙◌}
-use Rattle.dw_cfa.specs.Rows.{with_cfa}
+use Rattle.dw_cfa.specs.Inner.Rows.{with_cfa}
 use Rattle.dw_cfa.specs.declared.rule.CfaRule.{CfaRule}
 use Rattle.dw_cfa.specs.Inner.Marks.{Watching}
 use Rattle.dw_cfa.proofs.StatesLaws.{begun_count, rewound}

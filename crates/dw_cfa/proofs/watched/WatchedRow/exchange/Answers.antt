@@ -1,5 +1,6 @@
 use Rattle.std.proofs.Common.{◌≡◌}
-use Rattle.dw_cfa.specs.Rows.{rule_in, with_rule}
+use Rattle.dw_cfa.specs.Rows.{rule_in}
+use Rattle.dw_cfa.specs.Inner.Rows.{with_rule}
 use Rattle.dw_cfa.proofs.Marked.{set_so, exchanged}
 use Rattle.dw_cfa.proofs.watched.WatchedRow.exchange.Goals as goal
 

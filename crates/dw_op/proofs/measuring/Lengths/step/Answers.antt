@@ -2,7 +2,7 @@ use Rattle.std.proofs.Common.{refl, arith}
 use Rattle.dw_num.specs.Input.{Input}
 use Rattle.dw_op.specs.declared.profile.Profile.TheVariants.{Frame}
 use Rattle.dw_op.specs.declared.reading.Step.{Step}
-use Rattle.dw_op.specs.Reading.{bare_step}
+use Rattle.dw_op.specs.Inner.Reading.{bare_step}
 use Rattle.dw_op.proofs.Decoded.{within_all, within_more}
 use Rattle.dw_op.proofs.Landing.{never_stuck, read_on}
 use Rattle.dw_op.proofs.ReadingLaws.{step_found}

@@ -1,5 +1,5 @@
 use Rattle.std.proofs.Common.{◌^◌, length}
-use Rattle.dw_unwind.specs.Ranges.{IsWithin}
+use Rattle.dw_unwind.specs.Inner.Ranges.{IsWithin}
 use Rattle.dw_unwind.proofs.RangeLaws.{have_bytes, all_permuted, byte_permuted}
 use Rattle.dw_unwind.proofs.memory.DumpMemory.new.Goals as goal
 

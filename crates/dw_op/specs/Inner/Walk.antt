@@ -11,8 +11,9 @@ use Rattle.dw_op.specs.declared.reading.Branch.{Branch}
 use Rattle.dw_op.specs.declared.reading.Branch.TheVariants.{Bra, Skip}
 use Rattle.dw_op.specs.declared.reading.Step.{Step}
 use Rattle.dw_op.specs.declared.reading.Step.TheVariants.{Plain, Jump}
-use Rattle.dw_op.specs.Reading.{step_at}
-use Rattle.dw_op.specs.Walks.{Walked, walked}
+use Rattle.dw_op.specs.Inner.Reading.{step_at}
+use Rattle.dw_op.specs.Walks.{Walked}
+use Rattle.dw_op.specs.Inner.Walks.{walked}
 
 -- an operation and the place of its code
 pub record Item : Type 0 where

@@ -1,0 +1,4 @@
+-- How the code keeps what the contracts say. No public clause reaches these.
+pub mod Fits
+pub mod Laid
+pub mod Written

@@ -1,0 +1,2 @@
+-- How the code keeps what the contracts say. No public clause reaches these.
+pub mod Failing

@@ -1,0 +1,12 @@
+-- What the code and its proofs say beside Changes.
+use Rattle.std.specs.Prelude.{◌≡◌, ℕ, ◌<◌, length, List, [], ◌∷◌, Option, Some, None, Result, Ok, Err}
+use Rattle.dw_cfa.specs.Rows.{Rules}
+use Rattle.dw_cfa.specs.Stepping.{Stepping}
+use Rattle.dw_section.specs.Changes.{Among}
+
+abbrev pub FindsChange : {E : Type 0} → ℕ → Stepping → Option Rules → Result (Option ℕ) E → Stepping → Type 0
+FindsChange end old shown (Ok None) new = (new.outcome.fault ≡ None) × Among end shown old.outcome.rows [] × (new.outcome.rows ≡ [])
+FindsChange end old shown (Ok (Some start)) new =
+    (new.outcome.fault ≡ None) × (length new.outcome.rows < length old.outcome.rows)
+    × ((changes : List (ℕ × Rules)) → Among end (Some new.current) new.outcome.rows changes → Among end shown old.outcome.rows ((start, new.current) ∷ changes))
+FindsChange end old shown (Err e) new = new.outcome.fault ≡ None

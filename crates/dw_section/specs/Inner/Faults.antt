@@ -1,0 +1,9 @@
+-- What the code and its proofs say beside Faults.
+use Rattle.dw_section.specs.declared.cutting.Part.{Part}
+use Rattle.dw_section.specs.declared.cutting.Part.TheVariants as parts
+use Rattle.dw_section.specs.Cut.{Item, gap, entry}
+
+-- the item that a part is
+abbrev pub item_of : Part → Item
+item_of parts.Gap = gap
+item_of (parts.Entry form contents) = entry form contents.bytes.now

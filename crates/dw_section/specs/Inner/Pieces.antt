@@ -1,0 +1,18 @@
+-- What the code and its proofs say beside Pieces.
+use Rattle.std.specs.Prelude.{◌≡◌, ◌+◌, length}
+use Rattle.dw_num.specs.Fixed.{length_bytes}
+use Rattle.dw_num.specs.Input.{Input}
+use Rattle.dw_num.specs.Span.{span_of}
+use Rattle.dw_section.specs.declared.cutting.Entry.{Entry}
+use Rattle.dw_section.specs.declared.cutting.Placed.{Placed}
+use Rattle.dw_section.specs.declared.cutting.Part.{Part}
+use Rattle.dw_section.specs.declared.cutting.Part.TheVariants as parts
+use Rattle.dw_section.specs.Cut.{Piece}
+
+abbrev pub piece_in : Placed → Piece
+piece_in p = record { at = p.at; form = p.form; kind = p.kind; contents = span_of p.contents }
+
+-- the contents of a part stand behind its length
+abbrev pub IsPlaced : Input → Part → Type 0
+IsPlaced old parts.Gap = Unit {0}
+IsPlaced old (parts.Entry form contents) = contents.at ≡ old.at + length (length_bytes old.target.order form (length contents.bytes.now))
