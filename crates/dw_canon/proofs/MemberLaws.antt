@@ -24,15 +24,15 @@ use Rattle.dw_cfa.specs.Rows.{Rules, AreSpecified, rule, blank}
 use Rattle.dw_cfa.specs.RuleAt.{last_at, or_here, NeverFalls}
 use Rattle.dw_cfa.specs.Inner.RuleAt.{CountsFrom}
 use Rattle.dw_cfa.specs.Inner.Runs.{Placed}
-use Rattle.dw_cfa.proofs.Counting.{counts_exists, one_count}
-use Rattle.dw_cfa.proofs.FaultLaws.{begun_stands}
-use Rattle.dw_cfa.proofs.Forward.{Follows, Holds, after_follows, begun_follows}
-use Rattle.dw_cfa.proofs.KeptLaws.{fde_kept, all_in_limit}
-use Rattle.dw_cfa.proofs.KeptRuns.{AllInLimit, KeptFrom, kept_from}
-use Rattle.dw_cfa.proofs.RowsAt.{instrs_of, Gives, rows_at, never_falls}
+use Rattle.dw_cfa.proofs.Lent.Counting.{counts_exists, one_count}
+use Rattle.dw_cfa.proofs.Lent.FaultLaws.{begun_stands}
+use Rattle.dw_cfa.proofs.Lent.Forward.{Follows, Holds, after_follows, begun_follows}
+use Rattle.dw_cfa.proofs.Lent.KeptLaws.{fde_kept, all_in_limit}
+use Rattle.dw_cfa.proofs.Lent.KeptRuns.{AllInLimit, KeptFrom, kept_from}
+use Rattle.dw_cfa.proofs.Lent.RowsAt.{instrs_of, Gives, rows_at, never_falls}
 use Rattle.dw_section.specs.Changes.{Among, AreChanges, Before}
 use Rattle.dw_section.specs.Programs.{HasCfa}
-use Rattle.dw_section.proofs.ChangeLaws.{HasRow, all_found}
+use Rattle.dw_section.proofs.Lent.ChangeLaws.{HasRow, all_found}
 use Rattle.dw_canon.specs.Canon.{fde_instrs, cie_instrs}
 use Rattle.dw_section.specs.Sound.{RowFits}
 use Rattle.dw_canon.specs.Fits.{ChangesStand, MemberStands}
@@ -40,9 +40,9 @@ use Rattle.dw_canon.specs.Inner.Fits.{InstrFits}
 use Rattle.dw_canon.specs.Members.{Member, changes_of}
 use Rattle.dw_canon.specs.Spelling.{program_bytes}
 use Rattle.dw_canon.specs.Written.{factors}
-use Rattle.dw_canon.proofs.Differences.{Quiet, quiet_more, on, difference_quiet}
-use Rattle.dw_canon.proofs.Fitting.{all_more, blank_fits, nops_fit, member_fits, cie_fits, cie_allowed}
-use Rattle.dw_canon.proofs.Programs.{NoFaults, plain_rows, plain_gives, RunsTo, quiet_runs, nops_quiet, located, below_end, member_runs, row_before}
+use Rattle.dw_canon.proofs.Lent.Differences.{Quiet, quiet_more, on, difference_quiet}
+use Rattle.dw_canon.proofs.Lent.Fitting.{all_more, blank_fits, nops_fit, member_fits, cie_fits, cie_allowed}
+use Rattle.dw_canon.proofs.Lent.Programs.{NoFaults, plain_rows, plain_gives, RunsTo, quiet_runs, nops_quiet, located, below_end, member_runs, row_before}
 use Rattle.dw_canon.proofs.Spelled.{program_spelled}
 
 -- ---- instructions as items, all at one place

@@ -15,7 +15,7 @@ use Rattle.dw_canon.specs.Members.{changes_of}
 use Rattle.dw_canon.specs.Spelling.{program_bytes}
 use Rattle.dw_canon.specs.Written.{factors}
 use Rattle.dw_canon.proofs.MemberLaws.{cie_spelled, cie_kept, cie_cfa, cie_rules, member_spelled, member_kept, member_changes, member_starts}
-use Rattle.dw_section.proofs.Rowed.{one_changes, one_listed}
+use Rattle.dw_section.proofs.Lent.Rowed.{one_changes, one_listed}
 
 -- without nops
 pub initial_program : InitialProgram

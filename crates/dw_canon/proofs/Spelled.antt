@@ -13,18 +13,18 @@ use Rattle.dw_num.specs.Fixed.{Fixed, Address, fixed_bytes}
 use Rattle.dw_cfa.specs.Rows.{is_specified}
 use Rattle.dw_num.specs.Shortest.{shortest_uleb, shortest_sleb}
 use Rattle.dw_num.specs.Target.{byte_count, address_limit}
-use Rattle.dw_num.proofs.Shortest.{shortest_uleb-spells, shortest_sleb-spells}
+use Rattle.dw_num.proofs.Lent.Shortest.{shortest_uleb-spells, shortest_sleb-spells}
 use Rattle.dw_op.specs.Encoding.{least_block}
 use Rattle.dw_op.specs.Expression.{Expression}
 use Rattle.dw_op.specs.OpSpells.{Code, Both}
 use Rattle.dw_op.specs.Inner.ByOperation.{Alone}
-use Rattle.dw_op.proofs.LeastBlocks.{least_block_exists, least_no_longer, block_of_least}
+use Rattle.dw_op.proofs.Lent.LeastBlocks.{least_block_exists, least_no_longer, block_of_least}
 use Rattle.dw_cfa.specs.declared.instr.Instr.{Instr}
 use Rattle.dw_cfa.specs.declared.instr.Instr.TheVariants.{Nop, SetLoc, Advance, DefCfa, DefCfaRegister, DefCfaOffset, DefCfaExpression, Set, Restore, RememberState, RestoreState}
 use Rattle.dw_cfa.specs.declared.rule.RegRule.{RegRule}
 use Rattle.dw_cfa.specs.declared.rule.RegRule.TheVariants as rules
 use Rattle.dw_cfa.specs.InstrSpells.{IsOffset, BlockSpells, InstrSpells, Program}
-use Rattle.dw_cfa.proofs.Spellings.{Plain, Factored, SignedFactored, AdvanceSpells, RuleSpells, IsSpelled, in_table}
+use Rattle.dw_cfa.proofs.Lent.Spellings.{Plain, Factored, SignedFactored, AdvanceSpells, RuleSpells, IsSpelled, in_table}
 use Rattle.dw_section.specs.Sound.{HasBlock, RuleFits}
 use Rattle.dw_canon.specs.Inner.Fits.{InstrFits}
 use Rattle.dw_canon.specs.Spelling.{expression_bytes, advance_bytes, packed, rule_bytes, instr_bytes, program_bytes}

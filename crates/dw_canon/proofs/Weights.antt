@@ -7,11 +7,11 @@ use Rattle.std.proofs.lemmas.List.{length-append}
 use Rattle.dw_num.specs.declared.target.Target.{Target}
 use Rattle.dw_num.specs.Leb.{Register}
 use Rattle.dw_num.specs.Shortest.{shortest_uleb, shortest_sleb}
-use Rattle.dw_num.proofs.Shortest.{shortest_uleb-most, shortest_uleb-one, shortest_uleb-ten, shortest_signed-ten, leb_some}
+use Rattle.dw_num.proofs.Lent.Shortest.{shortest_uleb-most, shortest_uleb-one, shortest_uleb-ten, shortest_signed-ten, leb_some}
 use Rattle.dw_op.specs.Encoding.{least_block}
 use Rattle.dw_op.specs.Expression.{Expression}
 use Rattle.dw_op.specs.OpSpells.{Code, Both}
-use Rattle.dw_op.proofs.LeastBlocks.{least_block_exists, least_no_longer}
+use Rattle.dw_op.proofs.Lent.LeastBlocks.{least_block_exists, least_no_longer}
 use Rattle.dw_cfa.specs.declared.instr.Factors.{Factors}
 use Rattle.dw_cfa.specs.declared.instr.Instr.{Instr}
 use Rattle.dw_cfa.specs.declared.instr.Instr.TheVariants.{Nop, SetLoc, Advance, DefCfa, DefCfaRegister, DefCfaOffset, DefCfaExpression, Set, Restore, RememberState, RestoreState}
@@ -20,7 +20,7 @@ use Rattle.dw_cfa.specs.declared.rule.CfaRule.TheVariants as cfa
 use Rattle.dw_cfa.specs.declared.rule.RegRule.{RegRule}
 use Rattle.dw_cfa.specs.declared.rule.RegRule.TheVariants as rules
 use Rattle.dw_cfa.specs.InstrSpells.{IsOffset, BlockSpells, InstrSpells, Program}
-use Rattle.dw_cfa.proofs.Spellings.{AdvanceSpells, RuleSpells, IsSpelled, by_table}
+use Rattle.dw_cfa.proofs.Lent.Spellings.{AdvanceSpells, RuleSpells, IsSpelled, by_table}
 use Rattle.dw_cfa.specs.Location.{moves_location}
 use Rattle.dw_canon.specs.Spelling.{expression_bytes, packed, rule_bytes}
 use Rattle.dw_canon.proofs.MemberLaws.{count_more}

@@ -12,7 +12,7 @@ use Rattle.dw_num.specs.declared.target.Size.TheVariants.{Four, Eight}
 use Rattle.dw_num.specs.declared.target.Target.{Target}
 use Rattle.dw_num.specs.Fixed.{fixed_bytes}
 use Rattle.dw_num.specs.Target.{byte_count}
-use Rattle.dw_num.proofs.FixedLaws.{length-fixed}
+use Rattle.dw_num.proofs.Lent.FixedLaws.{length-fixed}
 use Rattle.dw_cfa.specs.declared.instr.Instr.{Instr}
 use Rattle.dw_cfa.specs.declared.instr.Instr.TheVariants.{Nop, SetLoc, Advance, DefCfa, DefCfaRegister, DefCfaOffset, DefCfaExpression, Set, Restore, RememberState, RestoreState}
 use Rattle.dw_cfa.specs.declared.rule.CfaRule.{CfaRule}
@@ -24,7 +24,7 @@ use Rattle.dw_cfa.specs.Laws.{initial_cfa, initial_rule, HoldsAfter}
 use Rattle.dw_cfa.specs.Location.{onto}
 use Rattle.dw_cfa.specs.Rows.{Rules, rule}
 use Rattle.dw_section.specs.Sound.{RowFits}
-use Rattle.dw_section.proofs.Sounds.{all_onto, back_keeps}
+use Rattle.dw_section.proofs.Lent.Sounds.{all_onto, back_keeps}
 use Rattle.dw_canon.specs.Difference.{registers_of, either, difference, move, later_changes}
 use Rattle.dw_canon.specs.Spelling.{advance_bytes, instr_bytes, program_bytes}
 use Rattle.dw_canon.proofs.Costs.{RowWithin, bytes_more, difference_len}

@@ -5,17 +5,17 @@ use Rattle.std.proofs.lemmas.List.{length-append}
 use Rattle.dw_num.specs.declared.target.Target.{Target}
 use Rattle.dw_num.specs.Input.{Input, AreBytes}
 use Rattle.dw_num.specs.Reading.{Read}
-use Rattle.dw_num.proofs.LebLaws.{done}
+use Rattle.dw_num.proofs.Lent.LebLaws.{done}
 use Rattle.dw_cfa.specs.declared.instr.Factors.{Factors}
 use Rattle.dw_cfa.specs.declared.instr.Instr.{Instr}
 use Rattle.dw_cfa.specs.InstrSpells.{InstrSpells, Program}
 use Rattle.dw_cfa.specs.Inner.Reading.{instr_at}
 use Rattle.dw_cfa.specs.Inner.Runs.{Placed, Placing, placed}
-use Rattle.dw_cfa.proofs.InstrLaws.{instr_found}
+use Rattle.dw_cfa.proofs.Lent.InstrLaws.{instr_found}
 use Rattle.dw_cfa.proofs.InstrAgain.{instr_again}
-use Rattle.dw_cfa.proofs.Listings.{some_spelled, instr_bytes}
+use Rattle.dw_cfa.proofs.Lent.Listings.{some_spelled, instr_bytes}
 use Rattle.dw_cfa.proofs.Placings.{placed_end, placed_step, placed_stuck}
-use Rattle.dw_cfa.proofs.RowsAt.{instrs_of}
+use Rattle.dw_cfa.proofs.Lent.RowsAt.{instrs_of}
 
 abbrev input : ℕ → List ℕ → Target → Input
 input at bytes t = record { at = at; bytes = bytes; target = t }

@@ -8,8 +8,8 @@ use Rattle.dw_cfa.specs.Location.{onto}
 use Rattle.dw_cfa.specs.Rows.{Rules, blank}
 use Rattle.dw_cfa.specs.Inner.Machine.{begun, written, after, cie_fault, fde_fault}
 use Rattle.dw_cfa.specs.Inner.Runs.{Placed, at_end, refused_at, cie_run}
-use Rattle.dw_cfa.proofs.Forward.{Follows, after_follows}
-use Rattle.dw_cfa.proofs.RowsAt.{instrs_of}
+use Rattle.dw_cfa.proofs.Lent.Forward.{Follows, after_follows}
+use Rattle.dw_cfa.proofs.Lent.RowsAt.{instrs_of}
 
 -- an instruction that a CIE may hold has the same effect in an FDE
 pub cie_step : (i : Instr) (row : Rules) → cie_fault i row ≡ None → (fde_fault 0 i (begun row 0) ≡ None) × (after blank i (begun row 0) ≡ begun (written i row) 0)

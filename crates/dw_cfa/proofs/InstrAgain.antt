@@ -7,10 +7,10 @@ use Rattle.dw_num.specs.Input.{Input}
 use Rattle.dw_num.specs.Fixed.{Fixed, Address}
 use Rattle.dw_num.specs.Leb.{Register}
 use Rattle.dw_num.specs.Reading.{Read, fixed_at, register_at, uleb_at, address_at, ◌>>=◌}
-use Rattle.dw_num.proofs.Steps.{Again, again-then, take_again, byte_again, address_again}
-use Rattle.dw_num.proofs.LebLaws.{done, uleb_again, register_again}
-use Rattle.dw_num.proofs.SlebLaws.{sleb_again}
-use Rattle.dw_num.proofs.FixedLaws.{fixed_at_again}
+use Rattle.dw_num.proofs.Lent.Steps.{Again, again-then, take_again, byte_again, address_again}
+use Rattle.dw_num.proofs.Lent.LebLaws.{done, uleb_again, register_again}
+use Rattle.dw_num.proofs.Lent.SlebLaws.{sleb_again}
+use Rattle.dw_num.proofs.Lent.FixedLaws.{fixed_at_again}
 use Rattle.dw_op.specs.Expression.{Expression}
 use Rattle.dw_op.specs.OpSpells.{Code, Both}
 use Rattle.dw_cfa.specs.declared.instr.Factors.{Factors}
@@ -26,7 +26,7 @@ use Rattle.dw_cfa.specs.Inner.Reading.{expression_in, after_length, block_at, wi
 use Rattle.dw_cfa.specs.Inner.ByOpcode.{offset_in, plain_at, factored_at, signed_at, set_loc_at, advance_at, def_cfa_register_at, def_cfa_offset_at, def_cfa_offset_sf_at, def_cfa_expression_at, def_cfa_at, def_cfa_sf_at, restore_at, set_to, undefined_at, same_value_at, set_offset, set_val_offset, set_register, set_expression, set_val_expression, offset_at, offset_extended_at, offset_extended_sf_at, val_offset_at, val_offset_sf_at, register_rule_at, expression_at, val_expression_at, operands_at}
 use Rattle.dw_cfa.proofs.Codes.{advance_known, offset_known, restore_known}
 use Rattle.dw_cfa.proofs.Expressions.{expression_found}
-use Rattle.dw_cfa.proofs.Spellings.{Plain, Factored, SignedFactored, AdvanceSpells, RuleSpells, IsSpelled, by_table}
+use Rattle.dw_cfa.proofs.Lent.Spellings.{Plain, Factored, SignedFactored, AdvanceSpells, RuleSpells, IsSpelled, by_table}
 use Rattle.dw_cfa.proofs.Tabled.{form_is}
 
 module _ (t : Target) (f : Factors) where

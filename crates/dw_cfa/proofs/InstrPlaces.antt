@@ -5,15 +5,15 @@ use Rattle.std.proofs.lemmas.List.{length-append}
 use Rattle.dw_num.specs.declared.refusal.Refusal.{Refusal}
 use Rattle.dw_num.specs.Input.{Input, AreBytes, Takes}
 use Rattle.dw_num.specs.Reading.{Read, fixed_at, take_at, register_at, uleb_at, sleb_at, address_at, ◌>>=◌}
-use Rattle.dw_num.proofs.LebLaws.{uleb_found, register_found}
-use Rattle.dw_num.proofs.FixedLaws.{taken_bytes, byte_found}
-use Rattle.dw_num.proofs.Steps.{take_found}
-use Rattle.dw_num.proofs.Stays.{Inside, Stays, stays_in, stays-then, fixed_stays, address_stays, take_stays, uleb_stays, sleb_stays, register_stays}
+use Rattle.dw_num.proofs.Lent.LebLaws.{uleb_found, register_found}
+use Rattle.dw_num.proofs.Lent.FixedLaws.{taken_bytes, byte_found}
+use Rattle.dw_num.proofs.Lent.Steps.{take_found}
+use Rattle.dw_num.proofs.Lent.Stays.{Inside, Stays, stays_in, stays-then, fixed_stays, address_stays, take_stays, uleb_stays, sleb_stays, register_stays}
 use Rattle.dw_op.specs.declared.op.Op.{Op}
 use Rattle.dw_op.specs.declared.profile.Profile.TheVariants.{Frame}
 use Rattle.dw_op.specs.Inner.Walk.{block_input, decode_at}
-use Rattle.dw_op.proofs.Blocks.{fault_found}
-use Rattle.dw_op.proofs.FaultPlaces.{fault_within}
+use Rattle.dw_op.proofs.Lent.Blocks.{fault_found}
+use Rattle.dw_op.proofs.Lent.FaultPlaces.{fault_within}
 use Rattle.dw_cfa.specs.declared.instr.Factors.{Factors}
 use Rattle.dw_cfa.specs.declared.instr.Instr.{Instr}
 use Rattle.dw_cfa.specs.declared.reading.Opcode.{Opcode}
@@ -21,7 +21,7 @@ use Rattle.dw_cfa.specs.declared.reading.Opcode.TheVariants as opcodes
 use Rattle.dw_cfa.specs.Operands.{opcode_of}
 use Rattle.dw_cfa.specs.Inner.Reading.{leaving, expression_of, expression_in, block_in, after_length, block_at, with_instr, known_at, after_code, instr_at}
 use Rattle.dw_cfa.specs.Inner.ByOpcode.{offset_in, plain_in, plain_at, factored_in, factored_at, signed_in, signed_at, set_loc_at, advance_at, def_cfa_register_at, def_cfa_offset_at, def_cfa_offset_sf_at, def_cfa_expression_at, def_cfa_at, def_cfa_sf_at, restore_at, undefined_at, same_value_at, offset_at, offset_extended_at, offset_extended_sf_at, val_offset_at, val_offset_sf_at, register_rule_at, expression_at, val_expression_at, operands_at}
-use Rattle.dw_cfa.proofs.InstrLaws.{front_bytes}
+use Rattle.dw_cfa.proofs.Lent.InstrLaws.{front_bytes}
 use Rattle.dw_cfa.proofs.Tabled.{form_is}
 
 made_stays : {X : Type 0} (i : Input) (read : Read X) (make : X → Instr) → Stays i read → Stays i (read >>= with_instr make)

@@ -10,7 +10,7 @@ use Rattle.dw_cfa.specs.Rows.{Rules}
 use Rattle.dw_cfa.specs.Runs.{Outcome, row_then}
 use Rattle.dw_cfa.specs.Inner.Runs.{RanTo, here, rows_left}
 use Rattle.dw_cfa.specs.Inner.Steps.{state_of}
-use Rattle.dw_cfa.proofs.RunLaws.{left_starts}
+use Rattle.dw_cfa.proofs.Lent.RunLaws.{left_starts}
 use Rattle.dw_cfa.proofs.RowsTo.{not_none}
 
 or_more : (x y z : Bool) → (x || (y || z)) ≡ ((x || y) || z)

@@ -18,8 +18,8 @@ use Rattle.dw_cfa.specs.Inner.Reading.{instr_at}
 use Rattle.dw_cfa.specs.Inner.Steps.{InLimit}
 use Rattle.dw_cfa.specs.Inner.Runs.{Placing, place_of, placed}
 use Rattle.dw_op.specs.Inner.Walks.{ended, put, on_left, walked_by}
-use Rattle.dw_cfa.proofs.Spellings.{IsSpelled, by_table}
-use Rattle.dw_cfa.proofs.InstrLaws.{instr_found}
+use Rattle.dw_cfa.proofs.Lent.Spellings.{IsSpelled, by_table}
+use Rattle.dw_cfa.proofs.Lent.InstrLaws.{instr_found}
 
 abbrev pub after_item : ℕ → Instr → Placing → Placing
 after_item at i l = put (place_of at i) l

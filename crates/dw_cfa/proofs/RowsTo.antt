@@ -11,12 +11,12 @@ use Rattle.dw_cfa.specs.RuleAt.{or_here, last_at, NeverFalls}
 use Rattle.dw_cfa.specs.Rows.{Rules}
 use Rattle.dw_cfa.specs.Runs.{Outcome, finished, row_then}
 use Rattle.dw_cfa.specs.Inner.Runs.{rows_left}
-use Rattle.dw_cfa.proofs.RowsAt.{none_at}
+use Rattle.dw_cfa.proofs.Lent.RowsAt.{none_at}
 use Rattle.dw_cfa.specs.Inner.Runs.{RanTo, here}
 use Rattle.dw_cfa.specs.Inner.Steps.{state_of}
 use Rattle.dw_cfa.specs.Inner.Walking.{AllSpecify}
 use Rattle.dw_cfa.proofs.RunSteps.{rows_end}
-use Rattle.dw_cfa.proofs.RunLaws.{left_starts, some_rows_left}
+use Rattle.dw_cfa.proofs.Lent.RunLaws.{left_starts, some_rows_left}
 
 some_here : (a : ℕ) (first : LocatedRow) (rest : Option Rules) → first.location ≤ a → (x : Rules) × (or_here a first rest ≡ Some x)
 some_here a first (Some x) le = (x, refl)

@@ -6,8 +6,8 @@ use Rattle.std.specs.Prelude.{ℤ}
 use Rattle.dw_num.specs.Input.{Input, Takes}
 use Rattle.dw_num.specs.Leb.{Uleb, Sleb, groups}
 use Rattle.dw_num.specs.Reading.{uleb_at, sleb_at}
-use Rattle.dw_num.proofs.LebLaws.{uleb_only}
-use Rattle.dw_num.proofs.SlebLaws.{sleb_only}
+use Rattle.dw_num.proofs.Lent.LebLaws.{uleb_only}
+use Rattle.dw_num.proofs.Lent.SlebLaws.{sleb_only}
 
 one_byte_spells : (b : ℕ) → b < 128 → Uleb b (b ∷ [])
 one_byte_spells b lt = record { shape = lt; value = omega arith; fits = omega arith }

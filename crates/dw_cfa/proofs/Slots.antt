@@ -16,8 +16,8 @@ use Rattle.dw_cfa.specs.declared.row.Kind.TheVariants as kinds
 use Rattle.dw_cfa.specs.Rows.{is_specified, AreSpecified, rule_in}
 use Rattle.dw_cfa.specs.Inner.Rows.{listed, put}
 use Rattle.dw_cfa.specs.Inner.Entries.{kind_rule, slot_rule, listed_near, HoldsRule, IsSlotOf, Covers}
-use Rattle.dw_cfa.proofs.RowLists.{Entry, lower, listed_is, not_listed, listed_keeps, listed_rule, put_keeps, put_rule}
-use Rattle.dw_cfa.proofs.SameRows.{same_entries}
+use Rattle.dw_cfa.proofs.Lent.RowLists.{Entry, lower, listed_is, not_listed, listed_keeps, listed_rule, put_keeps, put_rule}
+use Rattle.dw_cfa.proofs.Lent.SameRows.{same_entries}
 
 pub near_ascends : (k : ℕ) (near : List Slot) (expressions far : List Entry) (n : ℕ) → k + length near ≤ n → AreSpecified n far → AreSpecified k (listed_near k near expressions far)
 unfolding listed_near

@@ -10,8 +10,8 @@ use Rattle.dw_cfa.specs.Inner.Machine.{State, after, written, cie_fault, fde_fau
 use Rattle.dw_cfa.specs.Inner.Runs.{Placed, here, row_if, fault_or, fde_rows, refused_at, cie_run}
 use Rattle.dw_cfa.specs.Runs.{Outcome}
 use Rattle.dw_cfa.proofs.Initial.{refused_none, end_none}
-use Rattle.dw_cfa.proofs.KeptRuns.{Stands, AllInLimit, stands_after, next_gives, put_first}
-use Rattle.dw_cfa.proofs.RowsAt.{instrs_of, Gives}
+use Rattle.dw_cfa.proofs.Lent.KeptRuns.{Stands, AllInLimit, stands_after, next_gives, put_first}
+use Rattle.dw_cfa.proofs.Lent.RowsAt.{instrs_of, Gives}
 
 refusal_is : (r : Refusal) (code : Code) (at : ℕ) → r.code ≡ code → r.at ≡ at → r ≡ record { code = code; at = at }
 refusal_is r code at c a = ap (λ (x : Code). let q : Refusal = record { code = x; at = r.at } in q) c ∙ ap (λ (n : ℕ). let q : Refusal = record { code = code; at = n } in q) a

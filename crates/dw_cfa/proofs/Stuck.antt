@@ -8,15 +8,15 @@ use Rattle.dw_num.specs.declared.target.Target.{Target}
 use Rattle.dw_num.specs.Fixed.{IsWidth}
 use Rattle.dw_num.specs.Input.{Input, AreBytes, Takes}
 use Rattle.dw_num.specs.Reading.{Read, fault, take_at, uleb_at, ◌>>=◌}
-use Rattle.dw_num.proofs.Steps.{Again, again-then, bind_ok, take_again, take_found, byte_again, address_again, Takes-then}
-use Rattle.dw_num.proofs.LebLaws.{done, ok_is, uleb_found, uleb_again, register_again}
-use Rattle.dw_num.proofs.SlebLaws.{sleb_found, sleb_again}
-use Rattle.dw_num.proofs.FixedLaws.{taken_bytes, fixed_at_again}
+use Rattle.dw_num.proofs.Lent.Steps.{Again, again-then, bind_ok, take_again, take_found, byte_again, address_again, Takes-then}
+use Rattle.dw_num.proofs.Lent.LebLaws.{done, ok_is, uleb_found, uleb_again, register_again}
+use Rattle.dw_num.proofs.Lent.SlebLaws.{sleb_found, sleb_again}
+use Rattle.dw_num.proofs.Lent.FixedLaws.{taken_bytes, fixed_at_again}
 use Rattle.dw_op.specs.declared.op.Op.{Op}
 use Rattle.dw_op.specs.declared.profile.Profile.TheVariants.{Frame}
 use Rattle.dw_op.specs.Faults.{BlockFault}
 use Rattle.dw_op.specs.Inner.Walk.{block_input, decode_at}
-use Rattle.dw_op.proofs.Blocks.{fault_found}
+use Rattle.dw_op.proofs.Lent.Blocks.{fault_found}
 use Rattle.dw_cfa.specs.declared.instr.Factors.{Factors}
 use Rattle.dw_cfa.specs.declared.instr.Instr.{Instr}
 use Rattle.dw_cfa.specs.declared.reading.Opcode.{Opcode}
@@ -26,7 +26,7 @@ use Rattle.dw_cfa.specs.InstrSpells.{Spells, FormSpells}
 use Rattle.dw_cfa.specs.InstrFaults.{ContentsFault, OperandFault, FormFault, CodeFault}
 use Rattle.dw_cfa.specs.Inner.Reading.{leaving, expression_of, expression_in, block_in, after_length, block_at, operand_at, with_instr, then_operand, form_at, judged, instr_at, known_at}
 use Rattle.dw_cfa.proofs.Expressions.{expression_refused}
-use Rattle.dw_cfa.proofs.InstrLaws.{Finds, finds_made, finds_alone, block_finds, register_finds, address_finds, fixed_finds, front_bytes}
+use Rattle.dw_cfa.proofs.Lent.InstrLaws.{Finds, finds_made, finds_alone, block_finds, register_finds, address_finds, fixed_finds, front_bytes}
 use Rattle.dw_cfa.proofs.InstrAgain.{block_again, made_again}
 
 abbrev input : ℕ → List ℕ → Target → Input

@@ -20,10 +20,10 @@ use Rattle.dw_cfa.specs.Inner.Machine.{begun}
 use Rattle.dw_cfa.specs.Stepping.{Stepping, program_input}
 use Rattle.dw_cfa.specs.Inner.Stepping.{begun_rows}
 use Rattle.dw_cfa.specs.Inner.Walking.{Readied, WalkKeeps, WalksSo, WalkStands, led_rows, walk_of}
-use Rattle.dw_cfa.proofs.FaultLaws.{initial_leaves, leaves_initial}
-use Rattle.dw_cfa.proofs.RunLaws.{begun_starts, left_starts, some_begun_left, some_rows_left}
+use Rattle.dw_cfa.proofs.Lent.FaultLaws.{initial_leaves, leaves_initial}
+use Rattle.dw_cfa.proofs.Lent.RunLaws.{begun_starts, left_starts, some_begun_left, some_rows_left}
 use Rattle.dw_cfa.proofs.RunSteps.{begun_is_run}
-use Rattle.dw_cfa.proofs.SameRows.{same_entries}
+use Rattle.dw_cfa.proofs.Lent.SameRows.{same_entries}
 
 -- ---- the CIE's half
 

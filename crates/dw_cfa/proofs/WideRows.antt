@@ -12,8 +12,8 @@ use Rattle.dw_cfa.specs.declared.rule.RegRule.{RegRule}
 use Rattle.dw_cfa.specs.declared.rule.RegRule.TheVariants.{Unspecified}
 use Rattle.dw_cfa.specs.Rows.{Rules, is_specified, AreSpecified, rule_in}
 use Rattle.dw_cfa.specs.Inner.Rows.{put, with_rule}
-use Rattle.dw_cfa.proofs.RowLists.{Entry, listed_is, put_keeps, put_rule}
-use Rattle.dw_cfa.proofs.SameRows.{same_entries}
+use Rattle.dw_cfa.proofs.Lent.RowLists.{Entry, listed_is, put_keeps, put_rule}
+use Rattle.dw_cfa.proofs.Lent.SameRows.{same_entries}
 
 eq_here : (n : ℕ) → nat_eq n n ≡ true
 eq_here n = eq-eqb n n refl

@@ -1,7 +1,6 @@
 pub mod Worked
 pub mod RunLaws
 pub mod Effects
-pub mod Results
 pub mod Signed
 pub mod Steps
 pub mod ValueLoop
@@ -9,3 +8,4 @@ pub mod Roles
 pub mod PlaceSteps
 pub mod PlaceLoop
 pub mod Space
+pub mod Lent

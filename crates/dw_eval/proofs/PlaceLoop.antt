@@ -5,7 +5,7 @@ use Rattle.std.proofs.Math.ListN.{length-map}
 use Rattle.dw_op.specs.declared.op.Op.{Op}
 use Rattle.dw_op.specs.Expression.{bare}
 use Rattle.dw_op.specs.Ranges.{AllInRange}
-use Rattle.dw_op.proofs.EncodeLaws.{bare_at}
+use Rattle.dw_op.proofs.Lent.EncodeLaws.{bare_at}
 use Rattle.dw_eval.specs.declared.error.EvalError.{EvalError}
 use Rattle.dw_eval.specs.declared.error.EvalError.TheVariants.{Fault}
 use Rattle.dw_eval.specs.declared.error.Kind.TheVariants.{StepLimit}

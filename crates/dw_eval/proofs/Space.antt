@@ -7,7 +7,7 @@ use Rattle.dw_num.specs.declared.target.Size.TheVariants.{Four, Eight}
 use Rattle.dw_num.specs.Target.{byte_count, address_limit}
 use Rattle.dw_op.specs.declared.op.Op.{Op}
 use Rattle.dw_op.specs.declared.op.Op.TheVariants.{Addr, Deref, Const, Dup, Drop, Over, Pick, Swap, Rot, Abs, And, Div, Minus, Mod, Mul, Neg, Not, Or, Plus, PlusUconst, Shl, Shr, Shra, Xor, Bra, Eq, Ge, Gt, Le, Lt, Ne, Skip, Reg, Breg, Fbreg, Piece, DerefSize, Nop, PushObjectAddress, CallFrameCfa, BitPiece, Implicit, StackValue}
-use Rattle.dw_op.proofs.Ranges.{modulo_below}
+use Rattle.dw_op.proofs.Lent.Ranges.{modulo_below}
 use Rattle.dw_eval.specs.declared.error.Kind.{Kind}
 use Rattle.dw_eval.specs.declared.error.Kind.TheVariants.{StackUnderflow, DivideByZero, NoRegister, Unreadable, NoFrameBase, NoCfa, NoObject, MissingPiece}
 use Rattle.dw_eval.specs.declared.place.Part.TheVariants.{Whole}

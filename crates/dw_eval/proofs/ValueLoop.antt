@@ -8,8 +8,8 @@ use Rattle.dw_op.specs.declared.op.Op.TheVariants.{DerefSize}
 use Rattle.dw_op.specs.Expression.{bare}
 use Rattle.dw_op.specs.Ranges.{AllInRange}
 use Rattle.dw_op.specs.Inner.Ranges.{Fits}
-use Rattle.dw_op.proofs.EncodeLaws.{bare_at, in_range_at}
-use Rattle.dw_op.proofs.Ranges.{fits}
+use Rattle.dw_op.proofs.Lent.EncodeLaws.{bare_at, in_range_at}
+use Rattle.dw_op.proofs.Lent.Ranges.{fits}
 use Rattle.dw_eval.specs.declared.error.EvalError.{EvalError}
 use Rattle.dw_eval.specs.declared.error.EvalError.TheVariants.{Fault}
 use Rattle.dw_eval.specs.declared.error.Kind.TheVariants.{StepLimit}

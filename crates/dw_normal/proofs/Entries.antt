@@ -10,15 +10,15 @@ use Rattle.dw_num.specs.Input.{AreBytes}
 use Rattle.dw_num.specs.declared.target.Target.{Target}
 use Rattle.dw_cfa.specs.Rows.{Rules}
 use Rattle.dw_section.specs.Accepted.{Accepted}
-use Rattle.dw_section.proofs.Judged.{all_get}
+use Rattle.dw_section.proofs.Lent.Judged.{all_get}
 use Rattle.dw_canon.specs.Inner.Fits.{InstrFits}
 use Rattle.dw_canon.specs.Canon.{canon, cie_instrs, part_of, groups_of, parts_of}
 use Rattle.dw_canon.specs.Inner.Laid.{IsPart}
 use Rattle.dw_canon.specs.Members.{Member, AreMembers}
 use Rattle.dw_canon.specs.Written.{Written, contents, entry_bytes}
-use Rattle.dw_canon.proofs.Fields.{entry_length}
-use Rattle.dw_canon.proofs.Readback.{rendered_laid}
-use Rattle.dw_canon.proofs.Rendered.{renders}
+use Rattle.dw_canon.proofs.Lent.Fields.{entry_length}
+use Rattle.dw_canon.proofs.Lent.Readback.{rendered_laid}
+use Rattle.dw_canon.proofs.Lent.Rendered.{renders}
 use Rattle.dw_normal.specs.Inner.Grouping.{initial_rows}
 use Rattle.dw_normal.specs.Inner.Measuring.{cie_with, cies_bytes, fdes_bytes}
 use Rattle.dw_normal.specs.Inner.Places.{place_in, fde_with}

@@ -7,11 +7,11 @@ use Rattle.dw_cfa.specs.declared.instr.Instr.{Instr}
 use Rattle.dw_cfa.specs.Rows.{Rules}
 use Rattle.dw_section.specs.Changes.{Changing, ToCome, GivesAddress}
 use Rattle.dw_section.specs.Sound.{RowFits}
-use Rattle.dw_section.proofs.Exists.{among_exists}
+use Rattle.dw_section.proofs.Lent.Exists.{among_exists}
 use Rattle.dw_canon.specs.Difference.{difference, move, later_changes}
 use Rattle.dw_canon.specs.Spelling.{instr_bytes, program_bytes}
 use Rattle.dw_canon.specs.Written.{fde, missing, entry_bytes}
-use Rattle.dw_canon.proofs.Extra.{fde_length}
+use Rattle.dw_canon.proofs.Lent.Extra.{fde_length}
 use Rattle.dw_normal.specs.Inner.Measuring.{Leaves, LaterLeaves, EntryLeaves, FdeLeaves}
 use Rattle.dw_normal.specs.Inner.Passing.{Stand, Under}
 use Rattle.dw_normal.proofs.Passes.{begins_under, ends_under, step_under, program_more}

@@ -15,12 +15,12 @@ use Rattle.dw_canon.specs.Members.{Member}
 use Rattle.dw_normal.specs.Inner.Passing.{last_of, Stand, Appends, Under, row_or_blank, shown_row}
 use Rattle.dw_num.specs.Target.{address_limit}
 use Rattle.dw_section.specs.Changes.{Changing, ToCome, GivesAddress, before_then}
-use Rattle.dw_section.proofs.Exists.{among_exists}
+use Rattle.dw_section.proofs.Lent.Exists.{among_exists}
 use Rattle.dw_section.specs.Sound.{RowFits}
 use Rattle.dw_canon.specs.Fits.{ChangesStand}
 use Rattle.dw_canon.specs.Inner.Fits.{InstrFits}
-use Rattle.dw_canon.proofs.Fitting.{difference_fits}
-use Rattle.dw_canon.proofs.Programs.{below_end}
+use Rattle.dw_canon.proofs.Lent.Fitting.{difference_fits}
+use Rattle.dw_canon.proofs.Lent.Programs.{below_end}
 use Rattle.dw_canon.specs.Spelling.{instr_bytes, program_bytes}
 
 -- ---- the pass over members

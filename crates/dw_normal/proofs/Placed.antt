@@ -12,16 +12,16 @@ use Rattle.dw_section.specs.Accepted.{Accepted}
 use Rattle.dw_section.specs.declared.lookup.Fde.{Fde}
 use Rattle.dw_section.specs.Meaning.{AreFdes}
 use Rattle.dw_section.specs.Sound.{RowFits}
-use Rattle.dw_section.proofs.Judged.{all_get}
+use Rattle.dw_section.proofs.Lent.Judged.{all_get}
 use Rattle.dw_canon.specs.Canon.{cie_instrs, initial_of, return_registers}
 use Rattle.dw_canon.specs.Difference.{difference}
 use Rattle.dw_canon.specs.Fits.{ChangesStand, MemberStands}
 use Rattle.dw_canon.specs.Inner.Fits.{InstrFits}
 use Rattle.dw_canon.specs.Group.{group}
 use Rattle.dw_canon.specs.Members.{Member, fde_of, AreMembers}
-use Rattle.dw_canon.proofs.Fitting.{difference_fits, cie_fits}
-use Rattle.dw_canon.proofs.Rendered.{fits, stand}
-use Rattle.dw_canon.proofs.Standing.{group_fits}
+use Rattle.dw_canon.proofs.Lent.Fitting.{difference_fits, cie_fits}
+use Rattle.dw_canon.proofs.Lent.Rendered.{fits, stand}
+use Rattle.dw_canon.proofs.Lent.Standing.{group_fits}
 use Rattle.dw_normal.specs.Inner.Grouping.{initial_rows, row_of}
 use Rattle.dw_normal.specs.Inner.Beginning.{Begins, IsReady}
 use Rattle.dw_normal.specs.Inner.Passing.{Stand, shown_row}

@@ -7,9 +7,9 @@ use Rattle.dw_cfa.specs.declared.rule.RegRule.{RegRule}
 use Rattle.dw_cfa.specs.Rows.{Rules, AreSpecified, rule}
 use Rattle.dw_cfa.specs.Narrowing.{same_rule}
 use Rattle.dw_cfa.specs.Differing.{FirstDifference, DiffersFirst}
-use Rattle.dw_cfa.proofs.Skipped.{rule_self}
+use Rattle.dw_cfa.proofs.Lent.Skipped.{rule_self}
 use Rattle.dw_canon.specs.Difference.{rule_to, rule_difference, with_register, with_registers, registers_of, either}
-use Rattle.dw_canon.proofs.Differences.{In, either_or}
+use Rattle.dw_canon.proofs.Lent.Differences.{In, either_or}
 use Rattle.dw_normal.specs.Inner.Walking.{from_on, rules_from}
 
 -- ---- ascending registers

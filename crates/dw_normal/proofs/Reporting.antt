@@ -10,11 +10,11 @@ use Rattle.dw_num.specs.declared.error.ReadError.TheVariants as read_error
 use Rattle.dw_cfa.specs.Rows.{Rules}
 use Rattle.dw_section.specs.Accepted.{Accepted, CheckFault}
 use Rattle.dw_section.specs.Meanings.{SameMeaning}
-use Rattle.dw_section.proofs.CheckFirst.{fault_or_accepted}
+use Rattle.dw_section.proofs.Lent.CheckFirst.{fault_or_accepted}
 use Rattle.dw_canon.specs.Canon.{canon}
 use Rattle.dw_canon.specs.Members.{Member, AreMembers}
 use Rattle.dw_canon.specs.Normal.{IsNormalForm}
-use Rattle.dw_canon.proofs.Canonical.{members_exist, normal_form_is_one, same_exactly}
+use Rattle.dw_canon.proofs.Lent.Canonical.{members_exist, normal_form_is_one, same_exactly}
 use Rattle.dw_normal.specs.Answers.{IsTooLong, IsWithin, NormalFault, SameFault, Took, WentOut, Writes, too_long}
 use Rattle.dw_normal.specs.Inner.Answers.{IsShort, IsMeasured, LengthFault, blamed, unread, unwritten}
 use Rattle.dw_normal.specs.Inner.Puts.{Puts, put_is}

@@ -10,7 +10,7 @@ use Rattle.dw_section.specs.declared.lookup.Fde.{Fde}
 use Rattle.dw_canon.specs.Bound.{share, Shares}
 use Rattle.dw_canon.specs.Canon.{canon}
 use Rattle.dw_canon.specs.Members.{Member, AreMembers, fde_of}
-use Rattle.dw_canon.proofs.Bounds.{within_shares}
+use Rattle.dw_canon.proofs.Lent.Bounds.{within_shares}
 
 shares_more : (t : Target) (s : List ℕ) (fs : List Fde) (f : Fde) (own initial total : ℕ) → Shares t s fs total → HasLengths t s f own initial → Shares t s (fs ++ f ∷ []) (total + share own initial)
 shares_more t s [] f own initial total h k = (own, initial, 0, k, omega (arith, h), refl)

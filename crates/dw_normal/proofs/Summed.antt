@@ -7,7 +7,7 @@ use Rattle.dw_canon.specs.Canon.{canon, initial_of, return_registers, group_of, 
 use Rattle.dw_canon.specs.Laid.{cie_of, fde_of, place_of}
 use Rattle.dw_canon.specs.Members.{Member}
 use Rattle.dw_canon.specs.Written.{Written, entry_bytes, section_bytes}
-use Rattle.dw_canon.proofs.Extra.{section_append}
+use Rattle.dw_canon.proofs.Lent.Extra.{section_append}
 use Rattle.dw_normal.specs.Inner.Grouping.{initial_rows}
 use Rattle.dw_normal.specs.Inner.Measuring.{MemberLeaves, Measures, cie_with, cies_bytes, fdes_bytes}
 

@@ -14,7 +14,7 @@ use std::alloc::AllocError;
 
 // Apart from `push_uleb`, whose numbers are mostly small.
 #[inline(never)]
-#[tactic(auto, using(dw_num::proofs::Shortest::puts_uleb))]
+#[tactic(auto, using(dw_num::proofs::Lent::Shortest::puts_uleb))]
 fn push_long_uleb(out: &mut Vec<u8>, value: u64) -> Result<(), AllocError>
     ensures { OnOk result (out.new.items ≡ out.old.items ++ shortest_uleb value) }
 {
@@ -34,7 +34,7 @@ pub(crate) fn push_uleb(out: &mut Vec<u8>, value: u64) -> Result<(), AllocError>
     push_long_uleb(out, value)
 }
 
-#[tactic(auto, using(dw_num::proofs::Shortest::puts_sleb))]
+#[tactic(auto, using(dw_num::proofs::Lent::Shortest::puts_sleb))]
 fn push_sleb(out: &mut Vec<u8>, value: i64) -> Result<(), AllocError>
     ensures { OnOk result (out.new.items ≡ out.old.items ++ shortest_sleb value) }
 {

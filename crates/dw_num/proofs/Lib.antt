@@ -1,11 +1,4 @@
 pub mod LebLemmas
-pub mod LebLaws
-pub mod FixedLaws
 pub mod Groups
 pub mod SignedGroups
-pub mod Turned
-pub mod SlebLaws
-pub mod Steps
-pub mod Shortest
-pub mod Stays
-pub mod Refusals
+pub mod Lent

@@ -14,7 +14,7 @@ use Rattle.dw_num.specs.Shortest.{turned}
 use Rattle.dw_num.specs.Inner.Scan.{turned_from, as_signed}
 use Rattle.dw_num.specs.Writing.{PutsSleb}
 use Rattle.dw_num.proofs.Groups.{IsMore, high-push, leb-push, split_product}
-use Rattle.dw_num.proofs.Turned.{turned_from-append, signed_groups-turned}
+use Rattle.dw_num.proofs.Lent.Turned.{turned_from-append, signed_groups-turned}
 
 -- where the last byte has the sign that is turned over, k bytes make less than 64 * 128 ^ (k - 1)
 pub turned_below : (t : Bool) (k : ℕ) (b : ℕ) (bs : List ℕ) → turned t (last_byte (b ∷ bs)) < 64 → turned_from t k (b ∷ bs) + 128 ^ k ≤ 64 * 128 ^ (k + length bs)

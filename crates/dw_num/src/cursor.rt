@@ -155,7 +155,7 @@ impl<'a> Cursor<'a> {
     }
 
     /// The next byte. `Truncated` at its place where there is none.
-    #[tactic(auto, using(crate::proofs::FixedLaws::one_byte), unfolding(crate::specs::Reading::fixed_at, crate::specs::Reading::take_at))]
+    #[tactic(auto, using(crate::proofs::Lent::FixedLaws::one_byte), unfolding(crate::specs::Reading::fixed_at, crate::specs::Reading::take_at))]
     pub fn byte(&mut self) -> Result<u8, Refusal>
         ensures found { IfOk result (λ b. Takes self.old (b ∷ []) self.new) }
         ensures exact { Reads (λ b. b) result self.old (fixed_at 1 self.old) self.new }

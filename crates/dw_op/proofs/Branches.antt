@@ -8,7 +8,7 @@ use Rattle.dw_num.specs.declared.target.Order.{Order}
 use Rattle.dw_num.specs.declared.target.Order.TheVariants.{Little, Big}
 use Rattle.dw_num.specs.Input.{AreBytes}
 use Rattle.dw_num.specs.Fixed.{Fixed, FixedSigned, fixed_bytes, fixed_number}
-use Rattle.dw_num.proofs.FixedLaws.{length-fixed, is_fixed}
+use Rattle.dw_num.proofs.Lent.FixedLaws.{length-fixed, is_fixed}
 use Rattle.dw_op.specs.OpSpells.{AnyTwo}
 use Rattle.dw_op.specs.Inner.Walk.{goes_to}
 

@@ -10,8 +10,8 @@ use Rattle.dw_num.specs.Input.{Input, AreBytes}
 use Rattle.dw_num.specs.declared.error.ReadError.{ReadError}
 use Rattle.dw_num.specs.declared.error.ReadError.TheVariants.{Refused, OutOfMemory}
 use Rattle.dw_num.specs.Refusals.{Refuses}
-use Rattle.dw_num.proofs.LebLaws.{done}
-use Rattle.dw_num.proofs.FixedLaws.{taken_bytes}
+use Rattle.dw_num.proofs.Lent.LebLaws.{done}
+use Rattle.dw_num.proofs.Lent.FixedLaws.{taken_bytes}
 use Rattle.dw_op.specs.declared.op.Op.{Op}
 use Rattle.dw_op.specs.declared.profile.Profile.{Profile}
 use Rattle.dw_op.specs.declared.reading.Step.{Step}
@@ -20,9 +20,9 @@ use Rattle.dw_op.specs.Block.{branch_target, Displaced, Stands, EachPart, Block}
 use Rattle.dw_op.specs.Ranges.{TargetWithin, InRange, AllInRange}
 use Rattle.dw_op.specs.Inner.Walk.{Walk, walk, end_of, index_at, starts_of, place_index, op_of, put_first, resolve, unless, block_input, decode_at}
 use Rattle.dw_op.specs.Faults.{IsBlock, BlockFault}
-use Rattle.dw_op.proofs.ReadingLaws.{step_found}
+use Rattle.dw_op.proofs.Lent.ReadingLaws.{step_found}
 use Rattle.dw_op.proofs.Splits.{walk_step, walk_stuck, walk_end}
-use Rattle.dw_op.proofs.Blocks.{block_found, block_only, fault_found, fault_only, is_block}
+use Rattle.dw_op.proofs.Lent.Blocks.{block_found, block_only, fault_found, fault_only, is_block}
 use Rattle.dw_op.proofs.Search.{place_index_is}
 
 -- ---- one operation further

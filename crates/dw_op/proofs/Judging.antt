@@ -3,7 +3,7 @@ use Rattle.std.proofs.Common.{◌≡◌, ℕ, ◌<◌, Bool, true, false, List, 
 use Rattle.dw_num.specs.declared.refusal.Refusal.{Refusal}
 use Rattle.dw_num.specs.declared.target.Target.{Target}
 use Rattle.dw_num.specs.Input.{Input, AreBytes}
-use Rattle.dw_num.proofs.LebLaws.{done}
+use Rattle.dw_num.proofs.Lent.LebLaws.{done}
 use Rattle.dw_op.specs.declared.op.Op.{Op}
 use Rattle.dw_op.specs.declared.profile.Profile.TheVariants.{Frame}
 use Rattle.dw_op.specs.declared.reading.Step.{Step}
@@ -16,7 +16,7 @@ use Rattle.dw_op.specs.Inner.Walk.{Walk, walk, index_in, op_of, put_first, resol
 use Rattle.dw_op.specs.Inner.Windows.{block_of, WalkSo, Walked, WalkedBad, Walks}
 use Rattle.dw_op.specs.Inner.Accepted.{IsAccepted, ok_ops, ops_of, left_of, StepsSo}
 use Rattle.dw_op.proofs.Splits.{walk_step, walk_stuck, walk_end}
-use Rattle.dw_op.proofs.Blocks.{block_found, block_only}
+use Rattle.dw_op.proofs.Lent.Blocks.{block_found, block_only}
 use Rattle.dw_op.proofs.Decoded.{Within, within_all, within_more, OpsSo, ops_more, ops_bad, ops_all, answered, same_ops, bad_branch, step_shorter}
 
 -- a block without fault in its reading is decoded as its branches are resolved

@@ -5,14 +5,14 @@ use Rattle.std.proofs.lemmas.List.{length-append, append_assoc}
 use Rattle.dw_num.specs.declared.refusal.Refusal.{Refusal}
 use Rattle.dw_num.specs.declared.target.Target.{Target}
 use Rattle.dw_num.specs.Input.{Input, AreBytes}
-use Rattle.dw_num.proofs.LebLaws.{done}
+use Rattle.dw_num.proofs.Lent.LebLaws.{done}
 use Rattle.dw_op.specs.declared.profile.Profile.TheVariants.{Frame}
 use Rattle.dw_op.specs.declared.reading.Step.{Step}
 use Rattle.dw_op.specs.Block.{joined}
 use Rattle.dw_op.specs.Inner.Reading.{step_at}
 use Rattle.dw_op.specs.Inner.Walk.{Item, Walk, walk, end_of, plus, passed, one}
 use Rattle.dw_op.specs.Inner.Windows.{Shifted}
-use Rattle.dw_op.proofs.ReadingLaws.{step_found}
+use Rattle.dw_op.proofs.Lent.ReadingLaws.{step_found}
 use Rattle.dw_op.proofs.Splits.{EachSpells, items_from, split_of, walk_step, walk_stuck, walk_end}
 use Rattle.dw_op.proofs.Decoded.{Within, within_all, within_more, step_shorter}
 

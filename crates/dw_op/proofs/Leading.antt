@@ -14,9 +14,9 @@ use Rattle.dw_op.specs.declared.reading.Step.TheVariants.{Plain, Jump}
 use Rattle.dw_op.specs.OpSpells.{OpSpells}
 use Rattle.dw_op.specs.Block.{start, branch_target, Displaced, Stands, joined}
 use Rattle.dw_op.specs.Faults.{IsPart, IsBranch, Leads}
-use Rattle.dw_op.proofs.ReadingLaws.{some_is}
+use Rattle.dw_op.proofs.Lent.ReadingLaws.{some_is}
 use Rattle.dw_op.proofs.Splits.{spelled}
-use Rattle.dw_op.proofs.Spellings.{by_table, in_table}
+use Rattle.dw_op.proofs.Lent.Spellings.{by_table, in_table}
 use Rattle.dw_op.proofs.Standing.{one_step, any_code}
 
 -- some operation stands at part k

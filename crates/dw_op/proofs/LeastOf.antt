@@ -14,9 +14,9 @@ use Rattle.dw_num.specs.declared.target.Size.TheVariants.{Four, Eight}
 use Rattle.dw_num.specs.Target.{byte_count, address_limit}
 use Rattle.dw_num.specs.Fixed.{fixed_bytes, Fixed, FixedSigned}
 use Rattle.dw_num.specs.Leb.{Uleb, Sleb, Register}
-use Rattle.dw_num.proofs.FixedLaws.{length-fixed}
+use Rattle.dw_num.proofs.Lent.FixedLaws.{length-fixed}
 use Rattle.dw_num.specs.Shortest.{shortest_uleb, shortest_sleb}
-use Rattle.dw_num.proofs.Shortest.{shortest_uleb-spells, shortest_uleb-least, shortest_uleb-most, shortest_sleb-spells, shortest_sleb-least, shortest_sleb-most, leb_some}
+use Rattle.dw_num.proofs.Lent.Shortest.{shortest_uleb-spells, shortest_uleb-least, shortest_uleb-most, shortest_sleb-spells, shortest_sleb-least, shortest_sleb-most, leb_some}
 use Rattle.dw_op.specs.declared.op.Op.{Op}
 use Rattle.dw_op.specs.declared.op.Op.TheVariants.{Addr, Deref, Const, Dup, Drop, Over, Pick, Swap, Rot, Abs, And, Div, Minus, Mod, Mul, Neg, Not, Or, Plus, PlusUconst, Shl, Shr, Shra, Xor, Bra, Eq, Ge, Gt, Le, Lt, Ne, Skip, Reg, Breg, Fbreg, Piece, DerefSize, Nop, PushObjectAddress, CallFrameCfa, BitPiece, Implicit, StackValue}
 use Rattle.dw_op.specs.declared.least.Spelling.{Spelling}
@@ -28,8 +28,8 @@ use Rattle.dw_op.specs.Least.{AtMost, Least}
 use Rattle.dw_op.specs.LeastOf.{spelling, operand_bytes, spelling_bytes, address, constant, long_constant, longest_constant, register_form, register_offset, least_spelling, least_bytes}
 use Rattle.dw_op.specs.Expression.{bare}
 use Rattle.dw_op.specs.Ranges.{InRange}
-use Rattle.dw_op.proofs.Spellings.{InRangeSo, LeastSo, range_so, so_least}
-use Rattle.dw_op.proofs.Ranges.{modulo_below}
+use Rattle.dw_op.proofs.Lent.Spellings.{InRangeSo, LeastSo, range_so, so_least}
+use Rattle.dw_op.proofs.Lent.Ranges.{modulo_below}
 use Rattle.dw_op.proofs.LeastConst.{Reach, Beats, line_1u, line_1s, line_2u, line_2s, line_u4, line_s4, line_4u, line_4s, line_u6, line_s6, line_u7, line_s7, line_u8, line_s8, line_8u}
 use Rattle.dw_op.proofs.Reached.{reach}
 

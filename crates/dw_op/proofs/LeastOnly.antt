@@ -13,7 +13,7 @@ use Rattle.dw_num.specs.Target.{byte_count, address_limit}
 use Rattle.dw_num.specs.Fixed.{fixed_bytes, Fixed}
 use Rattle.dw_num.specs.Leb.{Uleb, Sleb, Register}
 use Rattle.dw_num.specs.Shortest.{shortest_uleb, shortest_sleb}
-use Rattle.dw_num.proofs.Shortest.{groups_below, shortest_uleb-least, shortest_uleb-most, shortest_uleb-only, shortest_sleb-least, shortest_sleb-most, shortest_sleb-only, leb_some}
+use Rattle.dw_num.proofs.Lent.Shortest.{groups_below, shortest_uleb-least, shortest_uleb-most, shortest_uleb-only, shortest_sleb-least, shortest_sleb-most, shortest_sleb-only, leb_some}
 use Rattle.dw_op.specs.declared.op.Op.{Op}
 use Rattle.dw_op.specs.declared.op.Op.TheVariants.{Addr, Deref, Const, Dup, Drop, Over, Pick, Swap, Rot, Abs, And, Div, Minus, Mod, Mul, Neg, Not, Or, Plus, PlusUconst, Shl, Shr, Shra, Xor, Bra, Eq, Ge, Gt, Le, Lt, Ne, Skip, Reg, Breg, Fbreg, Piece, DerefSize, Nop, PushObjectAddress, CallFrameCfa, BitPiece, Implicit, StackValue}
 use Rattle.dw_op.specs.declared.least.Spelling.{Spelling}
@@ -26,8 +26,8 @@ use Rattle.dw_op.specs.LeastOf.{spelling, spelling_bytes, constant, long_constan
 use Rattle.dw_op.specs.Block.{Displaced, branch_target}
 use Rattle.dw_op.specs.Ranges.{InRange}
 use Rattle.dw_op.specs.Encoding.{bits_of}
-use Rattle.dw_op.proofs.Spellings.{InRangeSo, LeastSo, range_so, least_so}
-use Rattle.dw_op.proofs.Ranges.{modulo_below}
+use Rattle.dw_op.proofs.Lent.Spellings.{InRangeSo, LeastSo, range_so, least_so}
+use Rattle.dw_op.proofs.Lent.Ranges.{modulo_below}
 use Rattle.dw_op.proofs.Reached.{sleb_within, Within}
 use Rattle.dw_op.proofs.LeastOf.{least_spelled_so, by_test, low_8, low_16, low_32, at_lit, at_1u, at_1s, at_2u, at_2s, at_u4, at_s4, at_4u, at_4s, at_u6, at_s6, at_u7, at_s7, at_u8, at_s8, at_8u}
 

@@ -9,8 +9,8 @@ use Rattle.dw_op.specs.Least.{LeastBlock}
 use Rattle.dw_op.specs.LeastOf.{least_bytes}
 use Rattle.dw_op.specs.Encoding.{blank_parts, bits_of, least_from, least_block, IsAppended}
 use Rattle.dw_op.specs.Inner.Encoding.{least_len}
-use Rattle.dw_op.proofs.LeastBlocks.{least_block_exists}
-use Rattle.dw_op.proofs.LeastOne.{least_block_length, least_len_within}
+use Rattle.dw_op.proofs.Lent.LeastBlocks.{least_block_exists}
+use Rattle.dw_op.proofs.Lent.LeastOne.{least_block_length, least_len_within}
 
 -- no operation is a branch
 abbrev pub NoBranch : List Op → Type 0

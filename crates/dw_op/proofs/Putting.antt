@@ -13,7 +13,7 @@ use Rattle.dw_op.specs.Inner.Encoding.{BranchFits, EachFits, least_len}
 use Rattle.dw_op.specs.LeastOf.{least_bytes}
 use Rattle.dw_op.specs.Inner.Lengths.{least_lengths, lengths_at, total, together}
 use Rattle.dw_op.specs.Inner.Points.{AreSmall, ArePlaces, IsBranching, bits_at}
-use Rattle.dw_op.proofs.EncodeLaws.{IsGoing, going_none, going_more, front_more}
+use Rattle.dw_op.proofs.Lent.EncodeLaws.{IsGoing, going_none, going_more, front_more}
 
 -- where a part begins is the lengths before it
 pub starts_are : (t : Target) (ops : List Op) (i : ℕ) → start (blank_parts t ops) i ≡ total i (least_lengths t ops)

@@ -9,8 +9,8 @@ use Rattle.dw_num.specs.declared.target.Order.TheVariants.{Little, Big}
 use Rattle.dw_num.specs.Leb.{IsLeb, signed_groups, is_negative, Uleb, Sleb}
 use Rattle.dw_num.specs.Fixed.{fixed_bytes}
 use Rattle.dw_num.specs.Inner.Scan.{turned_from, as_signed}
-use Rattle.dw_num.proofs.Turned.{signed_groups-turned}
-use Rattle.dw_num.proofs.Shortest.{groups_below, turned_within}
+use Rattle.dw_num.proofs.Lent.Turned.{signed_groups-turned}
+use Rattle.dw_num.proofs.Lent.Shortest.{groups_below, turned_within}
 use Rattle.dw_op.specs.Inner.ByOperation.{ConstForm, Const1u, Const1s, Const2u, Const2s, Const4u, Const4s, Const8u, Const8s, Constu, Consts, Lit, Written, Unsigned}
 use Rattle.dw_op.specs.Operands.{modulo}
 use Rattle.dw_op.proofs.LeastConst.{Near, Reach}

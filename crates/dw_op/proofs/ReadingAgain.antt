@@ -2,7 +2,7 @@
 use Rattle.std.proofs.Common.{◌≡◌, ℕ, ◌+◌, ◌%◌, ◌<◌, ◌≤◌, true, false, List, [], ◌∷◌, ◌++◌, length, Some, None, refl, sym, ap, subst, ◌∙◌, arith, inl, inr}
 use Rattle.std.specs.Prelude.{ℤ, pos}
 use Rattle.std.proofs.lemmas.Bool.{lt-ltb, le-ltb, le-leb}
-use Rattle.dw_num.proofs.Steps.{Again, again-then, take_again, byte_again, address_again}
+use Rattle.dw_num.proofs.Lent.Steps.{Again, again-then, take_again, byte_again, address_again}
 use Rattle.dw_num.specs.declared.target.Target.{Target}
 use Rattle.dw_num.specs.declared.target.Size.{Size}
 use Rattle.dw_num.specs.declared.target.Size.TheVariants as sizes
@@ -11,9 +11,9 @@ use Rattle.dw_num.specs.Input.{Input}
 use Rattle.dw_num.specs.Fixed.{Fixed, fixed_number, fixed_bytes}
 use Rattle.dw_num.specs.Leb.{Uleb, Sleb, Register}
 use Rattle.dw_num.specs.Reading.{Read, fixed_at, take_at, uleb_at, sleb_at, address_at, ◌>>=◌, register_at}
-use Rattle.dw_num.proofs.LebLaws.{uleb_again}
-use Rattle.dw_num.proofs.SlebLaws.{sleb_again}
-use Rattle.dw_num.proofs.FixedLaws.{fixed_at_again, fixed_again, length-fixed}
+use Rattle.dw_num.proofs.Lent.LebLaws.{uleb_again}
+use Rattle.dw_num.proofs.Lent.SlebLaws.{sleb_again}
+use Rattle.dw_num.proofs.Lent.FixedLaws.{fixed_at_again, fixed_again, length-fixed}
 use Rattle.dw_op.specs.declared.op.Op.{Op}
 use Rattle.dw_op.specs.declared.op.Op.TheVariants.{Addr, Deref, Const, Dup, Drop, Over, Pick, Swap, Rot, Abs, And, Div, Minus, Mod, Mul, Neg, Not, Or, Plus, PlusUconst, Shl, Shr, Shra, Xor, Bra, Eq, Ge, Gt, Le, Lt, Ne, Skip, Reg, Breg, Fbreg, Piece, DerefSize, Nop, PushObjectAddress, CallFrameCfa, BitPiece, Implicit, StackValue}
 use Rattle.dw_op.specs.declared.profile.Profile.{Profile}

@@ -8,8 +8,8 @@ use Rattle.dw_num.specs.declared.target.Order.{Order}
 use Rattle.dw_num.specs.Input.{Input, AreBytes, Takes}
 use Rattle.dw_num.specs.Fixed.{Fixed, FixedSigned, fixed_bytes}
 use Rattle.dw_num.specs.Reading.{fixed_at}
-use Rattle.dw_num.proofs.LebLaws.{done}
-use Rattle.dw_num.proofs.FixedLaws.{fixed_found}
+use Rattle.dw_num.proofs.Lent.LebLaws.{done}
+use Rattle.dw_num.proofs.Lent.FixedLaws.{fixed_found}
 use Rattle.dw_op.specs.declared.reading.ByteCount.{ByteCount}
 use Rattle.dw_op.specs.declared.reading.ByteCount.TheVariants.{One, Two, Four, Eight}
 use Rattle.dw_op.specs.Inner.Reading.{width_of, signed_of}

@@ -5,8 +5,8 @@ use Rattle.dw_num.specs.declared.refusal.Refusal.{Refusal}
 use Rattle.dw_num.specs.declared.target.Target.{Target}
 use Rattle.dw_num.specs.Input.{Input, AreBytes, Takes}
 use Rattle.dw_num.specs.Reading.{Read, fixed_at}
-use Rattle.dw_num.proofs.LebLaws.{done}
-use Rattle.dw_num.proofs.FixedLaws.{taken_bytes}
+use Rattle.dw_num.proofs.Lent.LebLaws.{done}
+use Rattle.dw_num.proofs.Lent.FixedLaws.{taken_bytes}
 use Rattle.dw_op.specs.declared.profile.Profile.{Profile}
 use Rattle.dw_op.specs.declared.reading.Step.{Step}
 use Rattle.dw_op.specs.Block.{joined}
@@ -14,7 +14,7 @@ use Rattle.dw_op.specs.Inner.Reading.{step_at}
 use Rattle.dw_op.specs.Inner.Steps.{StepSpells, step_allowed}
 use Rattle.dw_op.specs.Inner.Walk.{Item, item_of, Walk, walk}
 use Rattle.dw_op.specs.Inner.Walks.{ended, put, on_read, on_left, walked_by}
-use Rattle.dw_op.proofs.ReadingLaws.{step_found}
+use Rattle.dw_op.proofs.Lent.ReadingLaws.{step_found}
 use Rattle.dw_op.proofs.ReadingAgain.{step_again}
 
 abbrev after_item : ℕ → Step → Walk → Walk

@@ -4,7 +4,7 @@ use Rattle.std.specs.Int.{w16, cast_unsigned}
 use Rattle.dw_num.specs.declared.target.Target.{Target}
 use Rattle.dw_num.specs.Fixed.{Fixed, fixed_number}
 use Rattle.dw_num.specs.Input.{Input}
-use Rattle.dw_num.proofs.LebLaws.{ok_is}
+use Rattle.dw_num.proofs.Lent.LebLaws.{ok_is}
 use Rattle.dw_op.specs.declared.op.Op.{Op}
 use Rattle.dw_op.specs.declared.op.Op.TheVariants as ops
 use Rattle.dw_op.specs.declared.profile.Profile.{Profile}
@@ -20,7 +20,7 @@ use Rattle.dw_op.specs.Inner.Steps.{branch_code, step_allowed}
 use Rattle.dw_op.specs.Inner.Walk.{goes_to, find_at, branch_to, op_of}
 use Rattle.dw_op.specs.Faults.{op_allowed}
 use Rattle.dw_op.proofs.ReadingAgain.{step_again}
-use Rattle.dw_op.proofs.Spellings.{by_table, in_table}
+use Rattle.dw_op.proofs.Lent.Spellings.{by_table, in_table}
 use Rattle.dw_op.proofs.Splits.{Spelled, spelled, input}
 use Rattle.dw_op.proofs.Branches.{goes_displaced, displaced_goes, displaced_fixed, fixed_displaced, fixed_any, any_fixed, length-two}
 

@@ -5,8 +5,8 @@ use Rattle.std.proofs.lemmas.List.{length-append, drop-drop}
 use Rattle.dw_num.specs.declared.refusal.Refusal.{Refusal}
 use Rattle.dw_num.specs.declared.target.Target.{Target}
 use Rattle.dw_num.specs.Input.{Input, AreBytes, Takes, behind}
-use Rattle.dw_num.proofs.FixedLaws.{length-fixed}
-use Rattle.dw_num.proofs.LebLaws.{done}
+use Rattle.dw_num.proofs.Lent.FixedLaws.{length-fixed}
+use Rattle.dw_num.proofs.Lent.LebLaws.{done}
 use Rattle.dw_op.specs.declared.measuring.Places.{Places}
 use Rattle.dw_op.specs.declared.measuring.Point.{Point}
 use Rattle.dw_op.specs.declared.measuring.StartMark.{StartMark}

@@ -16,8 +16,8 @@ use Rattle.dw_op.specs.OpSpells.{Code, AnyTwo}
 use Rattle.dw_op.specs.Block.{displacement, Displaced}
 use Rattle.dw_op.specs.Operands.{Form, none, form_of, form_at}
 use Rattle.dw_op.specs.Faults.{BlockFault, Leads}
-use Rattle.dw_op.proofs.ReadingLaws.{some_is}
-use Rattle.dw_op.proofs.Spellings.{in_table}
+use Rattle.dw_op.proofs.Lent.ReadingLaws.{some_is}
+use Rattle.dw_op.proofs.Lent.Spellings.{in_table}
 
 abbrev narrow : Target
 narrow = record { size = Four; order = Little }

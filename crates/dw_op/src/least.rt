@@ -231,7 +231,7 @@ pub(crate) fn op_least_len(op: &Op<'_>, target: Target) -> usize
 
 // ---- writing it
 
-#[tactic(auto, using(dw_num::proofs::Shortest::puts_uleb))]
+#[tactic(auto, using(dw_num::proofs::Lent::Shortest::puts_uleb))]
 fn push_uleb(out: &mut Vec<u8>, value: u64) -> Result<(), AllocError>
     ensures ok { OnOk result (out.new.items ≡ out.old.items ++ shortest_uleb value) }
     ensures err { OnErr result (out.new.items ≡ out.old.items) }
@@ -239,7 +239,7 @@ fn push_uleb(out: &mut Vec<u8>, value: u64) -> Result<(), AllocError>
     put_uleb(out, value)
 }
 
-#[tactic(auto, using(dw_num::proofs::Shortest::puts_sleb))]
+#[tactic(auto, using(dw_num::proofs::Lent::Shortest::puts_sleb))]
 fn push_sleb(out: &mut Vec<u8>, value: i64) -> Result<(), AllocError>
     ensures ok { OnOk result (out.new.items ≡ out.old.items ++ shortest_sleb value) }
     ensures err { OnErr result (out.new.items ≡ out.old.items) }

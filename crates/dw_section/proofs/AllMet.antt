@@ -13,9 +13,9 @@ use Rattle.dw_section.specs.Inner.Heads.{cie_ats}
 use Rattle.dw_section.specs.Inner.Initials.{place_of, AreInitials}
 use Rattle.dw_section.specs.Inner.Left.{AreHeaders}
 use Rattle.dw_section.specs.Places.{cie_places}
-use Rattle.dw_section.proofs.HeaderLaws.{AreCies, fdes_more}
-use Rattle.dw_section.proofs.Heads.{same_places}
-use Rattle.dw_section.proofs.Judged.{initials_fde}
+use Rattle.dw_section.proofs.Lent.HeaderLaws.{AreCies, fdes_more}
+use Rattle.dw_section.proofs.Lent.Heads.{same_places}
+use Rattle.dw_section.proofs.Lent.Judged.{initials_fde}
 
 -- nothing more is kept of headers without a CIE
 fdes_left : (target : Target) (hs front rest : List Head) (cs : List Initial) → AreInitials target hs front cs → length (cie_ats rest) ≡ 0 → AreInitials target hs (front ++ rest) cs

@@ -6,7 +6,7 @@ use Rattle.dw_num.specs.declared.refusal.Refusal.{Refusal}
 use Rattle.dw_section.specs.Stage.{FirstStuck}
 use Rattle.dw_section.specs.Headers.{Head}
 use Rattle.dw_section.specs.Programs.{IsAmong}
-use Rattle.dw_section.proofs.Heads.{is_among_head}
+use Rattle.dw_section.proofs.Lent.Heads.{is_among_head}
 use Rattle.dw_section.proofs.Stages.{holds_at}
 
 pub record Between {X : Type 0} (Left Front : List X → Type 0) (xs : List X) : Type 0 where

@@ -13,9 +13,9 @@ use Rattle.dw_cfa.specs.Faults.{CieFault, FdeFault}
 use Rattle.dw_cfa.specs.Rows.{Rules}
 use Rattle.dw_cfa.specs.Runs.{Outcome}
 use Rattle.dw_cfa.specs.Inner.Runs.{rows_behind}
-use Rattle.dw_cfa.proofs.RunLaws.{program_placed}
-use Rattle.dw_cfa.proofs.FaultLaws.{initial_refused, leaves_initial, behind_refused}
-use Rattle.dw_cfa.proofs.BehindLaws.{gives_rows}
+use Rattle.dw_cfa.proofs.Lent.RunLaws.{program_placed}
+use Rattle.dw_cfa.proofs.Lent.FaultLaws.{initial_refused, leaves_initial, behind_refused}
+use Rattle.dw_cfa.proofs.Lent.BehindLaws.{gives_rows}
 
 err_one : {A : Type 0} (x : Result A Refusal) (r q : Refusal) → x ≡ Err r → x ≡ Err q → r ≡ q
 err_one x r q v w = let e = sym v ∙ w in cc

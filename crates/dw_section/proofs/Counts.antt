@@ -11,7 +11,7 @@ use Rattle.dw_cfa.specs.declared.instr.Instr.{Instr}
 use Rattle.dw_cfa.specs.InstrSpells.{Program}
 use Rattle.dw_cfa.specs.Listing.{Listing, answers, complete}
 use Rattle.dw_cfa.specs.Location.{moves_location, row_starts}
-use Rattle.dw_cfa.proofs.Listings.{some_spelled}
+use Rattle.dw_cfa.proofs.Lent.Listings.{some_spelled}
 use Rattle.dw_section.specs.Inner.Counted.{moves_in}
 use Rattle.dw_section.specs.Cut.{Item, gap, entry, Piece, pieces, item_bytes, all_bytes}
 use Rattle.dw_section.specs.Headers.{Head, cie, fde, Has, Headers}
@@ -20,7 +20,7 @@ use Rattle.dw_section.specs.Overlap.{nonempty, Range, range_of}
 use Rattle.dw_section.specs.Pieces.{Pieces}
 use Rattle.dw_section.specs.Places.{cie_places}
 use Rattle.dw_section.proofs.Items.{item_some}
-use Rattle.dw_section.proofs.Index.{with_range_so}
+use Rattle.dw_section.proofs.Lent.Index.{with_range_so}
 
 -- ---- one program
 

@@ -7,7 +7,7 @@ use Rattle.dw_section.specs.Headers.{Head}
 use Rattle.dw_section.specs.Inner.Heads.{head_program}
 use Rattle.dw_section.specs.Inner.Lookup.{IsFoundIn, fde_of}
 use Rattle.dw_section.specs.Programs.{FdeRuns}
-use Rattle.dw_section.proofs.Heads.{all_in, heads_rise, one_among}
+use Rattle.dw_section.proofs.Lent.Heads.{all_in, heads_rise, one_among}
 use Rattle.dw_section.specs.Inner.Index.{found_head}
 
 pub found_lengths : (target : Target) (s : List ℕ) (e : FoundFde) → IsFoundIn target s e → HasLengths target s (fde_of e) (length e.program.bytes.now) (length e.cie_program.bytes.now)

@@ -12,8 +12,8 @@ use Rattle.dw_num.specs.Fixed.{length_bytes}
 use Rattle.dw_num.specs.Input.{Input, AreBytes}
 use Rattle.dw_num.specs.Reading.{Read, unit_length_at}
 use Rattle.dw_num.specs.Span.{Span}
-use Rattle.dw_num.proofs.Stays.{Inside, Stays, stays-then, either_stays, unit_length_stays}
-use Rattle.dw_cfa.proofs.FaultPlaces.{cie_within, fde_within}
+use Rattle.dw_num.proofs.Lent.Stays.{Inside, Stays, stays-then, either_stays, unit_length_stays}
+use Rattle.dw_cfa.proofs.Lent.FaultPlaces.{cie_within, fde_within}
 use Rattle.dw_num.specs.declared.error.ReadError.{ReadError}
 use Rattle.dw_num.specs.declared.error.ReadError.TheVariants.{Refused, OutOfMemory}
 use Rattle.dw_section.specs.Accepted.{CheckFault, CieProgramsFault, FdeProgramsFault, RulesFault}
@@ -28,9 +28,9 @@ use Rattle.dw_section.specs.Pieces.{Pieces}
 use Rattle.dw_section.specs.Places.{cie_places}
 use Rattle.dw_section.specs.Programs.{CieBroken, FdeBroken, LacksRule, input_of, factors_of}
 use Rattle.dw_section.specs.Stage.{FirstStuck}
-use Rattle.dw_section.proofs.HeaderLaws.{fields_end}
-use Rattle.dw_section.proofs.Heads.{heads_bytes}
-use Rattle.dw_section.proofs.Index.{with_range_so}
+use Rattle.dw_section.proofs.Lent.HeaderLaws.{fields_end}
+use Rattle.dw_section.proofs.Lent.Heads.{heads_bytes}
+use Rattle.dw_section.proofs.Lent.Index.{with_range_so}
 use Rattle.dw_section.specs.Fields.{Fields, cie_fields, fde_fields, FieldsFault}
 use Rattle.dw_section.proofs.FieldLaws.{fault_read, fields_stay}
 

@@ -4,12 +4,12 @@ use Rattle.std.specs.List.{AllByRecursion}
 use Rattle.std.proofs.lemmas.List.{length-append, append-nil, map-append, take_at, drop_at}
 use Rattle.std.proofs.lemmas.Bool.{le-ltb}
 use Rattle.std.proofs.lemmas.Bool.Decides.{eqb_tells}
-use Rattle.dw_num.proofs.FixedLaws.{length-fixed, unit_length_only}
+use Rattle.dw_num.proofs.Lent.FixedLaws.{length-fixed, unit_length_only}
 use Rattle.dw_num.specs.Fixed.{fixed_bytes, length_bytes}
 use Rattle.dw_num.specs.declared.error.ReadError.{ReadError}
 use Rattle.dw_num.specs.declared.error.ReadError.TheVariants.{Refused, OutOfMemory}
 use Rattle.dw_num.specs.Refusals.{Refuses}
-use Rattle.dw_num.proofs.LebLaws.{ok_is}
+use Rattle.dw_num.proofs.Lent.LebLaws.{ok_is}
 use Rattle.dw_num.specs.declared.target.Form.{Form}
 use Rattle.dw_num.specs.declared.target.Target.{Target}
 use Rattle.dw_num.specs.declared.refusal.Refusal.{Refusal}

@@ -19,8 +19,8 @@ use Rattle.dw_section.specs.Inner.Left.{PiecesLeft, HeadsLeft, Stays, AreHeaders
 use Rattle.dw_section.proofs.Items.{front_item, item_some, stuck_before}
 use Rattle.dw_section.specs.Inner.Heads.{head_at}
 use Rattle.dw_section.specs.Programs.{IsAmong}
-use Rattle.dw_section.proofs.HeaderLaws.{has_one}
-use Rattle.dw_section.proofs.Heads.{has_at}
+use Rattle.dw_section.proofs.Lent.HeaderLaws.{has_one}
+use Rattle.dw_section.proofs.Lent.Heads.{has_at}
 
 left_by : (order : Order) (item : Item) (after : List ℕ) (items : List Item) → IsItem item → AllByRecursion IsItem items → item_bytes order item ++ after ≡ all_bytes order items
     → (more : List Item) × (items ≡ item ∷ more) × AllByRecursion IsItem more × (after ≡ all_bytes order more)

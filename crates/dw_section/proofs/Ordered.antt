@@ -12,8 +12,8 @@ use Rattle.dw_num.specs.declared.refusal.Code.TheVariants.{Overlap}
 use Rattle.dw_section.specs.declared.indexing.Ranged.{Ranged}
 use Rattle.dw_section.specs.Inner.Index.{range_in, PlacesRise, SameMembers, EndsAt}
 use Rattle.dw_section.specs.Overlap.{Range, Precedes, Ascends, IsIn, AreApart, FirstOverlap, end_of}
-use Rattle.dw_section.proofs.Index.{all_from}
-use Rattle.dw_section.proofs.Judged.{all_get}
+use Rattle.dw_section.proofs.Lent.Index.{all_from}
+use Rattle.dw_section.proofs.Lent.Judged.{all_get}
 use Rattle.dw_section.proofs.Stages.{all_push, parts}
 
 -- ---- overlaps

@@ -10,17 +10,17 @@ use Rattle.dw_cfa.specs.declared.rule.RegRule.{RegRule}
 use Rattle.dw_cfa.specs.declared.rule.RegRule.TheVariants as rules
 use Rattle.dw_cfa.specs.Rows.{Rules, rule}
 use Rattle.dw_eval.specs.Context.{Context}
-use Rattle.dw_eval.proofs.Results.{same_value}
+use Rattle.dw_eval.proofs.Lent.Results.{same_value}
 use Rattle.dw_section.specs.declared.lookup.Fde.{Fde}
 use Rattle.dw_section.specs.Accepted.{Accepted}
 use Rattle.dw_section.specs.Headers.{Head}
 use Rattle.dw_section.specs.Meanings.{SameRow, IsListed as IsAmongFdes}
 use Rattle.dw_section.specs.Meaning.{Lists, Covers, NoneCovers}
 use Rattle.dw_section.specs.Overlap.{Range, AreApart, IsIndex, end_of}
-use Rattle.dw_section.proofs.HeaderLaws.{one_headers}
-use Rattle.dw_section.proofs.Index.{one_index}
-use Rattle.dw_section.proofs.FdeLookup.{one_fdes}
-use Rattle.dw_section.proofs.Sections.{one_rules}
+use Rattle.dw_section.proofs.Lent.HeaderLaws.{one_headers}
+use Rattle.dw_section.proofs.Lent.Index.{one_index}
+use Rattle.dw_section.proofs.Lent.FdeLookup.{one_fdes}
+use Rattle.dw_section.proofs.Lent.Sections.{one_rules}
 use Rattle.dw_unwind.specs.declared.frame.Column.{Column}
 use Rattle.dw_unwind.specs.declared.frame.Frame.{Frame}
 use Rattle.dw_unwind.specs.declared.frame.Policy.{Policy}

@@ -1,4 +1,4 @@
-use Rattle.dw_canon.proofs.Canonical.{headline_holds}
+use Rattle.dw_canon.proofs.Lent.Canonical.{headline_holds}
 use Rattle.dw_canon.proofs.laws.headline.Goals as goal
 
 pub returns : goal.returns

@@ -1,7 +1,7 @@
 use Rattle.std.proofs.Common.{arith}
 use Rattle.std.proofs.lemmas.Result.{err_from_is_err_and}
 use Rattle.dw_cfa.specs.Stepping.{program_input}
-use Rattle.dw_cfa.proofs.Given.{run_ended, run_failed, gives_one, gives_memory}
+use Rattle.dw_cfa.proofs.Lent.Given.{run_ended, run_failed, gives_one, gives_memory}
 use Rattle.dw_cfa.proofs.collecting.run.Goals as goal
 
 pub returns-in_err-row-clause-refused : goal.returns-in_err-row-clause-refused

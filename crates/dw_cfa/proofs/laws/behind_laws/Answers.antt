@@ -1,5 +1,5 @@
-use Rattle.dw_cfa.proofs.Given.{one_behind, behind_where_fault}
-use Rattle.dw_cfa.proofs.FaultPlaces.{fde_within}
+use Rattle.dw_cfa.proofs.Lent.Given.{one_behind, behind_where_fault}
+use Rattle.dw_cfa.proofs.Lent.FaultPlaces.{fde_within}
 use Rattle.dw_cfa.proofs.laws.behind_laws.Goals as goal
 
 pub returns : goal.returns

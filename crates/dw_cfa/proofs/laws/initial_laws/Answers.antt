@@ -1,5 +1,5 @@
-use Rattle.dw_cfa.proofs.Given.{one_initial}
-use Rattle.dw_cfa.proofs.FaultPlaces.{cie_within}
+use Rattle.dw_cfa.proofs.Lent.Given.{one_initial}
+use Rattle.dw_cfa.proofs.Lent.FaultPlaces.{cie_within}
 use Rattle.dw_cfa.proofs.laws.initial_laws.Goals as goal
 
 pub returns : goal.returns

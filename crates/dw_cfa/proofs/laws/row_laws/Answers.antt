@@ -1,9 +1,9 @@
 use Rattle.std.proofs.Common.{sym, ◌∙◌}
 use Rattle.dw_cfa.specs.RowLaws.{OneHolds}
 use Rattle.dw_cfa.proofs.Match.{restores_matched}
-use Rattle.dw_cfa.proofs.Given.{one_run, refused_where_fault, given_where_kept, given_falls, given_holds}
-use Rattle.dw_cfa.proofs.FaultPlaces.{run_within}
-use Rattle.dw_cfa.proofs.SameRows.{same_rows}
+use Rattle.dw_cfa.proofs.Lent.Given.{one_run, refused_where_fault, given_where_kept, given_falls, given_holds}
+use Rattle.dw_cfa.proofs.Lent.FaultPlaces.{run_within}
+use Rattle.dw_cfa.proofs.Lent.SameRows.{same_rows}
 use Rattle.dw_cfa.proofs.laws.row_laws.Goals as goal
 
 one_holds : OneHolds

@@ -1,6 +1,6 @@
 use Rattle.std.proofs.Common.{◌≡◌, ◌-◌, List, drop}
 use Rattle.dw_cfa.specs.Inner.Entries.{listed_near}
-use Rattle.dw_cfa.proofs.RowLists.{Entry}
+use Rattle.dw_cfa.proofs.Lent.RowLists.{Entry}
 use Rattle.dw_cfa.proofs.row.next_near.Given as goal
 
 abbrev pub invariant-slots : goal.invariant-slots

@@ -1,5 +1,5 @@
 use Rattle.std.proofs.Common.{◌≡◌, ◌++◌, ◌∷◌, List, ap, sym, ◌∙◌}
-use Rattle.dw_cfa.proofs.RowLists.{Entry}
+use Rattle.dw_cfa.proofs.Lent.RowLists.{Entry}
 use Rattle.dw_cfa.proofs.WideRows.{one_more}
 use Rattle.dw_cfa.proofs.row.tree_of.Goals as goal
 

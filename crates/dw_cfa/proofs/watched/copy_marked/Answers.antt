@@ -1,6 +1,6 @@
 use Rattle.std.proofs.Common.{ap, ◌∙◌}
 use Rattle.dw_cfa.specs.Rows.{Rules, rule}
-use Rattle.dw_cfa.proofs.SameRows.{same_rows}
+use Rattle.dw_cfa.proofs.Lent.SameRows.{same_rows}
 use Rattle.dw_cfa.proofs.watched.copy_marked.Goals as goal
 
 pub returns : goal.returns

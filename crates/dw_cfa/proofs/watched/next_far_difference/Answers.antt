@@ -6,7 +6,7 @@ use Rattle.std.specs.declared.ops.Bound.TheVariants.{Unbounded}
 use Rattle.dw_cfa.specs.Differing.{place_behind}
 use Rattle.dw_cfa.specs.Rows.{AreSpecified}
 use Rattle.dw_cfa.specs.Inner.Marks.{SameUnlisted}
-use Rattle.dw_cfa.proofs.RowLists.{Entry}
+use Rattle.dw_cfa.proofs.Lent.RowLists.{Entry}
 use Rattle.dw_cfa.proofs.Differing.{FromOn, range_on}
 use Rattle.dw_cfa.proofs.Marked.{from_ascends, from_unlisted, differs_here, same_here}
 use Rattle.dw_cfa.proofs.watched.next_far_difference.Goals as goal

@@ -1,4 +1,4 @@
-use Rattle.dw_eval.proofs.Results.{one_result, one_location}
+use Rattle.dw_eval.proofs.Lent.Results.{one_result, one_location}
 use Rattle.dw_eval.proofs.Space.{values_in_space, locations_in_space}
 use Rattle.dw_eval.proofs.laws.evaluation_laws.Goals as goal
 

@@ -4,7 +4,7 @@ use Rattle.std.proofs.Math.ListN.{get_or-map}
 use Rattle.dw_cfa.specs.Rows.{Rules}
 use Rattle.dw_section.specs.declared.lookup.Fde.{Fde}
 use Rattle.dw_canon.specs.Members.{fde_of}
-use Rattle.dw_canon.proofs.Canonical.{members_exist}
+use Rattle.dw_canon.proofs.Lent.Canonical.{members_exist}
 use Rattle.dw_normal.proofs.Grouped.{no_member}
 use Rattle.dw_normal.proofs.Placed.{row_in, below, same_row}
 use Rattle.dw_normal.proofs.begun.shared_row.Goals as goal

@@ -5,8 +5,8 @@ use Rattle.dw_num.specs.declared.target.Target.{Target}
 use Rattle.dw_cfa.specs.Rows.{Rules}
 use Rattle.dw_canon.specs.Canon.{canon, cie_instrs}
 use Rattle.dw_canon.specs.Inner.Fits.{InstrFits}
-use Rattle.dw_canon.proofs.Canonical.{members_exist}
-use Rattle.dw_canon.proofs.Rendered.{renders}
+use Rattle.dw_canon.proofs.Lent.Canonical.{members_exist}
+use Rattle.dw_canon.proofs.Lent.Rendered.{renders}
 use Rattle.dw_normal.specs.Inner.Measuring.{cies_bytes, fdes_bytes}
 use Rattle.dw_normal.specs.Inner.Places.{cie_place, RowsRise}
 use Rattle.dw_normal.specs.Inner.Puts.{Puts, after}

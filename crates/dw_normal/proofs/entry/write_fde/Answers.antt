@@ -5,7 +5,7 @@ use Rattle.dw_num.specs.declared.target.Order.{Order}
 use Rattle.dw_num.specs.declared.target.Target.{Target}
 use Rattle.dw_section.specs.Cut.{entry, item_bytes}
 use Rattle.dw_canon.specs.Written.{contents, entry_bytes}
-use Rattle.dw_canon.proofs.Canonical.{members_exist}
+use Rattle.dw_canon.proofs.Lent.Canonical.{members_exist}
 use Rattle.dw_normal.specs.Inner.Places.{fde_with}
 use Rattle.dw_normal.specs.Inner.Puts.{Puts}
 use Rattle.dw_normal.proofs.Grouped.{no_member}

@@ -2,7 +2,7 @@ use Rattle.std.proofs.Common.{ℕ, List, Ok, ◌<◌, ◌≤◌, ◌-◌, ◌∙
 use Rattle.std.specs.Prelude.{◌^◌}
 use Rattle.std.proofs.lemmas.List.{length-map}
 use Rattle.dw_canon.specs.Members.{fde_of}
-use Rattle.dw_canon.proofs.Canonical.{members_exist}
+use Rattle.dw_canon.proofs.Lent.Canonical.{members_exist}
 use Rattle.dw_normal.specs.Inner.Measuring.{fdes_bytes}
 use Rattle.dw_normal.proofs.Entries.{fde_counted, fdes_fail, fdes_next, fdes_end}
 use Rattle.dw_normal.proofs.Grouped.{no_member}

@@ -1,7 +1,7 @@
 use Rattle.std.proofs.Common.{◌≡◌, ℕ, ◌+◌, ap, ◌<◌, List, length, map, take, get_or, Option, ◌∙◌, subst, arith}
 use Rattle.std.proofs.lemmas.List.{length-map, take_all}
 use Rattle.dw_canon.specs.Members.{Member, fde_of}
-use Rattle.dw_canon.proofs.Canonical.{members_exist}
+use Rattle.dw_canon.proofs.Lent.Canonical.{members_exist}
 use Rattle.dw_normal.specs.Inner.Measuring.{MemberLeaves, fdes_bytes}
 use Rattle.dw_normal.proofs.Grouped.{no_member}
 use Rattle.dw_normal.proofs.Summed.{none_bytes, fdes_more, fdes_over}

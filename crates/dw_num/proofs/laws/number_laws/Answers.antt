@@ -2,8 +2,8 @@ use Rattle.std.proofs.Common.{Ok, Err, ◌∙◌, sym, arith}
 use Rattle.dw_num.specs.Input.{Input}
 use Rattle.dw_num.specs.Laws.{IsRest, StaysIn, ReadsStay, OneUleb, OneSleb}
 use Rattle.dw_num.specs.Reading.{Read}
-use Rattle.dw_num.proofs.Shortest.{puts_uleb, puts_sleb}
-use Rattle.dw_num.proofs.Stays.{Stays, take_stays, fixed_stays, address_stays, unit_length_stays, uleb_stays, sleb_stays, register_stays}
+use Rattle.dw_num.proofs.Lent.Shortest.{puts_uleb, puts_sleb}
+use Rattle.dw_num.proofs.Lent.Stays.{Stays, take_stays, fixed_stays, address_stays, unit_length_stays, uleb_stays, sleb_stays, register_stays}
 use Rattle.dw_num.proofs.laws.number_laws.Goals as goal
 
 stays : {X : Type 0} (i : Input) (read : Read X) → Stays i read → StaysIn i read

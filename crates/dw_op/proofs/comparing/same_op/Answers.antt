@@ -1,5 +1,5 @@
 use Rattle.std.proofs.Common.{sym, ◌∙◌}
-use Rattle.dw_op.proofs.Lines.{same_op, op_same, parts_line, line_parts}
+use Rattle.dw_op.proofs.Lent.Lines.{same_op, op_same, parts_line, line_parts}
 use Rattle.dw_op.proofs.comparing.same_op.Goals as goal
 
 pub returns : goal.returns

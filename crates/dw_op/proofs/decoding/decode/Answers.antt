@@ -1,9 +1,9 @@
 use Rattle.std.proofs.Common.{refl, map}
 use Rattle.std.proofs.lemmas.Result.{err_from_is_err_and}
-use Rattle.dw_num.proofs.Refusals.{refuses_by}
+use Rattle.dw_num.proofs.Lent.Refusals.{refuses_by}
 use Rattle.dw_op.specs.Expression.{bare}
-use Rattle.dw_op.proofs.Blocks.{block_found, fault_found}
-use Rattle.dw_op.proofs.FaultPlaces.{fault_within}
+use Rattle.dw_op.proofs.Lent.Blocks.{block_found, fault_found}
+use Rattle.dw_op.proofs.Lent.FaultPlaces.{fault_within}
 use Rattle.dw_op.proofs.Decoded.{decoded_in_range, only_memory, one_list}
 use Rattle.dw_op.proofs.decoding.decode.Goals as goal
 

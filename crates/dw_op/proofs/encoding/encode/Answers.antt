@@ -1,4 +1,4 @@
-use Rattle.dw_op.proofs.EncodeLaws.{encode_error}
+use Rattle.dw_op.proofs.Lent.EncodeLaws.{encode_error}
 use Rattle.dw_op.proofs.encoding.encode.Goals as goal
 
 pub returns-in-Err-clause-only : goal.returns-in-Err-clause-only

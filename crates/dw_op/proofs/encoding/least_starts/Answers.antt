@@ -3,7 +3,7 @@ use Rattle.dw_op.specs.declared.op.Op.TheVariants.{Addr}
 use Rattle.dw_op.specs.Expression.{bare}
 use Rattle.dw_op.specs.Block.{start}
 use Rattle.dw_op.specs.Encoding.{blank_parts}
-use Rattle.dw_op.proofs.EncodeLaws.{start_next, starts_more}
+use Rattle.dw_op.proofs.Lent.EncodeLaws.{start_next, starts_more}
 use Rattle.dw_op.proofs.encoding.least_starts.Goals as goal
 
 pub loop-op-preserved : goal.loop-op-preserved

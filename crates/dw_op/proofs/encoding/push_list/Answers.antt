@@ -2,8 +2,8 @@ use Rattle.std.proofs.Common.{◌≡◌, ◌++◌}
 use Rattle.dw_op.specs.Least.{LeastBlock}
 use Rattle.dw_op.specs.Encoding.{IsAppended, blank_parts, least_block}
 use Rattle.dw_op.specs.Inner.Encoding.{EachFits}
-use Rattle.dw_op.proofs.LeastBlocks.{least_block_is}
-use Rattle.dw_op.proofs.EncodeLaws.{on_ok}
+use Rattle.dw_op.proofs.Lent.LeastBlocks.{least_block_is}
+use Rattle.dw_op.proofs.Lent.EncodeLaws.{on_ok}
 use Rattle.dw_op.proofs.encoding.push_list.Goals as goal
 
 pub returns-clause-ok : goal.returns-clause-ok

@@ -4,7 +4,7 @@ use Rattle.dw_op.specs.Expression.{bare}
 use Rattle.dw_op.specs.Block.{branch_target}
 use Rattle.dw_op.specs.Encoding.{blank_parts}
 use Rattle.dw_op.specs.Inner.Encoding.{BranchFits}
-use Rattle.dw_op.proofs.EncodeLaws.{IsGoing}
+use Rattle.dw_op.proofs.Lent.EncodeLaws.{IsGoing}
 use Rattle.dw_op.proofs.encoding.push_ops.Given as goal
 
 abbrev pub invariant-loop-index : goal.invariant-loop-index

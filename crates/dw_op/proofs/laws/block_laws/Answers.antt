@@ -1,11 +1,11 @@
 use Rattle.dw_op.specs.declared.profile.Profile.TheVariants.{Frame, Location}
 use Rattle.dw_op.specs.Encoding.{least_block}
 use Rattle.dw_op.specs.Laws.{LeastGivesBack}
-use Rattle.dw_op.proofs.Blocks.{is_block}
-use Rattle.dw_op.proofs.FaultPlaces.{fault_within}
-use Rattle.dw_op.proofs.LeastBlocks.{in_range_of_block, least_block_exists, block_of_least, least_no_longer}
-use Rattle.dw_op.proofs.LeastOne.{least_is_one}
-use Rattle.dw_op.proofs.EncodeLaws.{far_has_no_block}
+use Rattle.dw_op.proofs.Lent.Blocks.{is_block}
+use Rattle.dw_op.proofs.Lent.FaultPlaces.{fault_within}
+use Rattle.dw_op.proofs.Lent.LeastBlocks.{in_range_of_block, least_block_exists, block_of_least, least_no_longer}
+use Rattle.dw_op.proofs.Lent.LeastOne.{least_is_one}
+use Rattle.dw_op.proofs.Lent.EncodeLaws.{far_has_no_block}
 use Rattle.dw_op.proofs.laws.block_laws.Goals as goal
 
 gives_back : LeastGivesBack

@@ -3,7 +3,7 @@ use Rattle.std.proofs.lemmas.Bool.{false≢true}
 use Rattle.std.proofs.lemmas.List.{length-map}
 use Rattle.dw_op.specs.declared.op.Op.TheVariants.{Addr}
 use Rattle.dw_op.specs.Ranges.{InRange}
-use Rattle.dw_op.proofs.Ranges.{all_of, first_bad}
+use Rattle.dw_op.proofs.Lent.Ranges.{all_of, first_bad}
 use Rattle.dw_op.proofs.list.first_bad.Goals as goal
 
 pub returns-then-not-is_in_range : goal.returns-then-not-is_in_range

@@ -1,4 +1,4 @@
-use Rattle.dw_op.proofs.Ranges.{in_range, fits}
+use Rattle.dw_op.proofs.Lent.Ranges.{in_range, fits}
 use Rattle.dw_op.proofs.list.is_in_range.Goals as goal
 
 pub returns : goal.returns

@@ -1,7 +1,7 @@
 use Rattle.std.proofs.Common.{◌≡◌, suc, ◌∷◌, length, Some, refl, sym, ap, ◌∙◌, arith}
 use Rattle.dw_cfa.specs.Runs.{Outcome}
 use Rattle.dw_section.specs.Inner.Shown.{shown_if}
-use Rattle.dw_section.proofs.ChangeLaws.{found_change, moved}
+use Rattle.dw_section.proofs.Lent.ChangeLaws.{found_change, moved}
 use Rattle.dw_section.proofs.changing.find_change.Goals as goal
 
 pub returns-in-Err-clause-finds : goal.returns-in-Err-clause-finds

@@ -4,7 +4,7 @@ use Rattle.dw_section.specs.declared.indexing.Ranged.{Ranged}
 use Rattle.dw_section.specs.Inner.Index.{range_in, IsRanged}
 use Rattle.dw_section.specs.Meaning.{Starts}
 use Rattle.dw_section.proofs.Counts.{total_push}
-use Rattle.dw_section.proofs.Judged.{all_get}
+use Rattle.dw_section.proofs.Lent.Judged.{all_get}
 use Rattle.dw_section.proofs.RowLookup.{is_program, starts_at}
 use Rattle.dw_section.proofs.Stages.{front_more, zip_push}
 use Rattle.dw_section.proofs.counting.sum_starts.Goals as goal

@@ -6,8 +6,8 @@ use Rattle.dw_section.specs.Inner.Left.{PiecesLeft}
 use Rattle.dw_section.specs.Inner.Pieces.{piece_in}
 use Rattle.dw_section.specs.Headers.{CieHolds, CieStuck}
 use Rattle.dw_section.proofs.Between.{between_start, between_next, between_end, between_stuck}
-use Rattle.dw_section.proofs.HeaderLaws.{AreCies}
-use Rattle.dw_num.proofs.Refusals.{refuses_by}
+use Rattle.dw_section.proofs.Lent.HeaderLaws.{AreCies}
+use Rattle.dw_num.proofs.Lent.Refusals.{refuses_by}
 use Rattle.dw_section.proofs.Left.{left_all, stays_then}
 use Rattle.dw_section.proofs.heading.find_cies.Goals as goal
 

@@ -3,7 +3,7 @@ use Rattle.dw_section.specs.Cut.{Piece}
 use Rattle.dw_section.specs.Inner.Left.{PiecesLeft, Stays}
 use Rattle.dw_section.specs.Pieces.{Pieces}
 use Rattle.dw_section.proofs.Between.{Between}
-use Rattle.dw_section.proofs.HeaderLaws.{AreCies}
+use Rattle.dw_section.proofs.Lent.HeaderLaws.{AreCies}
 use Rattle.dw_section.proofs.heading.find_cies.Given as goal
 
 abbrev pub invariant-pieces : goal.invariant-pieces

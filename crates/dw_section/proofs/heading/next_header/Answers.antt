@@ -2,8 +2,8 @@ use Rattle.std.proofs.Common.{sym, subst}
 use Rattle.dw_num.specs.declared.target.Target.{Target}
 use Rattle.dw_section.specs.Inner.Pieces.{piece_in}
 use Rattle.dw_section.specs.Headers.{Has, CieHolds, head_in}
-use Rattle.dw_section.proofs.HeaderLaws.{has_cie, has_fde, fde_apart}
-use Rattle.dw_section.proofs.Heads.{has_at}
+use Rattle.dw_section.proofs.Lent.HeaderLaws.{has_cie, has_fde, fde_apart}
+use Rattle.dw_section.proofs.Lent.Heads.{has_at}
 use Rattle.dw_section.proofs.Left.{heads_none, heads_next, heads_read}
 use Rattle.dw_section.proofs.heading.next_header.Goals as goal
 

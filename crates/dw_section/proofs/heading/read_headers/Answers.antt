@@ -7,7 +7,7 @@ use Rattle.dw_section.specs.Inner.Left.{PiecesLeft}
 use Rattle.dw_section.specs.Inner.Pieces.{piece_in}
 use Rattle.dw_section.specs.Headers.{Head, Has, CieHolds, FdeHolds, FdeStuck, head_in}
 use Rattle.dw_section.proofs.Between.{between_start, between_next, between_end, between_stuck, between_now}
-use Rattle.dw_section.proofs.HeaderLaws.{has_fde}
+use Rattle.dw_section.proofs.Lent.HeaderLaws.{has_fde}
 use Rattle.dw_section.proofs.Left.{left_all, stays_then}
 use Rattle.dw_section.proofs.Stages.{zip_push, all_from_zip}
 use Rattle.dw_section.proofs.heading.read_headers.Goals as goal

@@ -7,8 +7,8 @@ use Rattle.dw_section.specs.Inner.Initials.{place_of}
 use Rattle.dw_section.specs.Inner.Left.{HeadsLeft}
 use Rattle.dw_section.specs.Programs.{FdeRuns, FdeBroken}
 use Rattle.dw_section.proofs.Between.{between_start, between_next, between_end, between_stuck, between_among}
-use Rattle.dw_section.proofs.Heads.{all_in}
-use Rattle.dw_num.proofs.Refusals.{refuses_by}
+use Rattle.dw_section.proofs.Lent.Heads.{all_in}
+use Rattle.dw_num.proofs.Lent.Refusals.{refuses_by}
 use Rattle.dw_section.proofs.Left.{heads_all, stays_then}
 use Rattle.dw_section.proofs.Tables.{places_so, judged_more}
 use Rattle.dw_section.proofs.indexing.run_fdes.Goals as goal

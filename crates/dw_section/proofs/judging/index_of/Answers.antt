@@ -3,7 +3,7 @@ use Rattle.std.specs.Prelude.{nat_lt}
 use Rattle.std.proofs.lemmas.List.Sorted.{IsPartitionPoint-from_clause, IsPartitionedBy-ltb}
 use Rattle.dw_section.specs.declared.judging.Initial.{Initial}
 use Rattle.dw_section.specs.Inner.Initials.{place_of}
-use Rattle.dw_section.proofs.Judged.{initials_ascend, found_initial}
+use Rattle.dw_section.proofs.Lent.Judged.{initials_ascend, found_initial}
 use Rattle.dw_section.proofs.judging.index_of.Goals as goal
 
 pub returns : goal.returns

@@ -1,7 +1,7 @@
 use Rattle.std.proofs.Common.{ap, sym, subst, ◌∙◌}
 use Rattle.dw_section.specs.declared.judging.Initial.{Initial}
 use Rattle.dw_section.specs.Inner.Initials.{IsInitial}
-use Rattle.dw_section.proofs.Judged.{all_get}
+use Rattle.dw_section.proofs.Lent.Judged.{all_get}
 use Rattle.dw_section.proofs.judging.initial_at.Goals as goal
 
 pub returns-clause-place : goal.returns-clause-place

@@ -1,7 +1,7 @@
 use Rattle.std.proofs.Common.{w64, refl}
 use Rattle.std.proofs.lemmas.Int.{to_z-of_z}
 use Rattle.dw_section.specs.Headers.{head_in}
-use Rattle.dw_section.proofs.Judged.{initials_cie, initials_fde}
+use Rattle.dw_section.proofs.Lent.Judged.{initials_cie, initials_fde}
 use Rattle.dw_section.proofs.judging.keep_initial.Goals as goal
 
 pub returns-in_ok-push-in-Cie-clause-found : goal.returns-in_ok-push-in-Cie-clause-found

@@ -6,8 +6,8 @@ use Rattle.dw_section.specs.Headers.{Head, Has, head_in}
 use Rattle.dw_section.specs.Inner.Heads.{cie_at_of}
 use Rattle.dw_section.specs.Inner.Pieces.{piece_in}
 use Rattle.dw_section.specs.Programs.{IsAmong, CieRuns}
-use Rattle.dw_section.proofs.HeaderLaws.{has_one, cie_apart, cie_faulty}
-use Rattle.dw_section.proofs.Judged.{initials_fde}
+use Rattle.dw_section.proofs.Lent.HeaderLaws.{has_one, cie_apart, cie_faulty}
+use Rattle.dw_section.proofs.Lent.Judged.{initials_fde}
 use Rattle.dw_section.proofs.judging.keep_piece.Goals as goal
 
 is_fde : (target : Target) (places : List ℕ) (p : Piece) (h : Head) → Has target places p h → p.kind ≡ kind.Fde → CieRuns target h × (cie_at_of h ≡ None)

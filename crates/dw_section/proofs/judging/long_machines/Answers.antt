@@ -1,6 +1,6 @@
 use Rattle.std.proofs.Common.{sym, subst}
 use Rattle.dw_section.specs.Inner.Initials.{IsInitial}
-use Rattle.dw_section.proofs.Judged.{all_get}
+use Rattle.dw_section.proofs.Lent.Judged.{all_get}
 use Rattle.dw_section.proofs.judging.long_machines.Goals as goal
 
 pub loop-initial-preserved : goal.loop-initial-preserved

@@ -1,7 +1,7 @@
 use Rattle.std.proofs.Common.{refl}
 use Rattle.dw_num.specs.Span.{span_of}
 use Rattle.dw_section.specs.Programs.{input_of}
-use Rattle.dw_cfa.proofs.Given.{leaves_one}
+use Rattle.dw_cfa.proofs.Lent.Given.{leaves_one}
 use Rattle.dw_section.proofs.judging.machine_of.Goals as goal
 
 pub returns-in-Ok : goal.returns-in-Ok

@@ -2,8 +2,8 @@ use Rattle.std.proofs.Common.{Option, ℕ, sym, subst}
 use Rattle.std.proofs.lemmas.Result.{IfOk-weaker, IfErr-weaker}
 use Rattle.dw_num.specs.Span.{span_of}
 use Rattle.dw_section.specs.Inner.Initials.{IsBehind}
-use Rattle.dw_num.proofs.Refusals.{refuses_by}
-use Rattle.dw_section.proofs.Judged.{behind_stays, behind_found, behind_broken}
+use Rattle.dw_num.proofs.Lent.Refusals.{refuses_by}
+use Rattle.dw_section.proofs.Lent.Judged.{behind_stays, behind_found, behind_broken}
 use Rattle.dw_section.proofs.judging.run_behind.Goals as goal
 
 pub returns-in-Some-clause-found : goal.returns-in-Some-clause-found

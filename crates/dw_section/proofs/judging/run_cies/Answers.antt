@@ -8,8 +8,8 @@ use Rattle.dw_section.specs.Inner.Initials.{AreInitials}
 use Rattle.dw_section.specs.Inner.Left.{HeadsLeft}
 use Rattle.dw_section.specs.Programs.{CieRuns, CieBroken}
 use Rattle.dw_section.proofs.Between.{between_start, between_next, between_end, between_stuck, between_among}
-use Rattle.dw_section.proofs.HeaderLaws.{has_cie}
-use Rattle.dw_num.proofs.Refusals.{refuses_by}
+use Rattle.dw_section.proofs.Lent.HeaderLaws.{has_cie}
+use Rattle.dw_num.proofs.Lent.Refusals.{refuses_by}
 use Rattle.dw_section.proofs.Left.{heads_all, heads_next, heads_none, stays_then}
 use Rattle.dw_section.proofs.judging.run_cies.Goals as goal
 

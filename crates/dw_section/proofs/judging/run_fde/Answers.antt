@@ -2,10 +2,10 @@ use Rattle.std.proofs.Common.{subst, arith}
 use Rattle.std.proofs.lemmas.Result.{err_from_is_err_and}
 use Rattle.dw_num.specs.Span.{span_of}
 use Rattle.dw_cfa.specs.Faults.{FdeFault}
-use Rattle.dw_cfa.proofs.Given.{rules_behind}
+use Rattle.dw_cfa.proofs.Lent.Given.{rules_behind}
 use Rattle.dw_cfa.specs.Rows.{Rules, AreSpecified}
 use Rattle.dw_section.specs.Programs.{input_of}
-use Rattle.dw_num.proofs.Refusals.{refuses_by}
+use Rattle.dw_num.proofs.Lent.Refusals.{refuses_by}
 use Rattle.dw_section.proofs.judging.run_fde.Goals as goal
 
 pub returns-in_err-lacks-clause-stuck : goal.returns-in_err-lacks-clause-stuck

@@ -3,8 +3,8 @@ use Rattle.std.proofs.lemmas.Result.{IfOk-weaker, IfErr-weaker}
 use Rattle.dw_num.specs.Span.{span_of}
 use Rattle.dw_section.specs.declared.judging.Long.{Long}
 use Rattle.dw_section.specs.Inner.Initials.{IsBehind, IsLong}
-use Rattle.dw_num.proofs.Refusals.{refuses_by}
-use Rattle.dw_section.proofs.Judged.{all_get, all_set, behind_stays, behind_found, behind_broken}
+use Rattle.dw_num.proofs.Lent.Refusals.{refuses_by}
+use Rattle.dw_section.proofs.Lent.Judged.{all_get, all_set, behind_stays, behind_found, behind_broken}
 use Rattle.dw_section.proofs.judging.run_long.Goals as goal
 
 pub run_fde-requires : goal.run_fde-requires

@@ -3,7 +3,7 @@ use Rattle.std.specs.Prelude.{nat_le}
 use Rattle.std.proofs.lemmas.Bool.{leb-true, leb-false}
 use Rattle.std.proofs.lemmas.List.Sorted.{IsPartitionPoint-from_clause, IsPartitionedBy-leb}
 use Rattle.dw_section.specs.declared.indexing.Ranged.{Ranged}
-use Rattle.dw_section.proofs.FdeLookup.{begins_ascend}
+use Rattle.dw_section.proofs.Lent.FdeLookup.{begins_ascend}
 use Rattle.dw_section.proofs.lookup.begun.Goals as goal
 
 pub returns-clause-below : goal.returns-clause-below

@@ -11,8 +11,8 @@ use Rattle.dw_section.specs.Meaning.{Returns}
 use Rattle.dw_section.specs.Overlap.{Range}
 use Rattle.dw_section.specs.Inner.Places.{Rises}
 use Rattle.dw_section.specs.Programs.{IsAmong}
-use Rattle.dw_section.proofs.HeaderLaws.{pieces_rise}
-use Rattle.dw_section.proofs.Heads.{all_in}
+use Rattle.dw_section.proofs.Lent.HeaderLaws.{pieces_rise}
+use Rattle.dw_section.proofs.Lent.Heads.{all_in}
 use Rattle.dw_section.proofs.Left.{left_at}
 use Rattle.dw_section.proofs.Tables.{places_so}
 use Rattle.dw_section.proofs.rereading.found_fde.Goals as goal

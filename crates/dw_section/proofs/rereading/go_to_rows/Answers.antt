@@ -1,7 +1,7 @@
 use Rattle.std.proofs.Common.{arith}
 use Rattle.dw_num.specs.Span.{span_of}
 use Rattle.dw_section.specs.Programs.{input_of}
-use Rattle.dw_cfa.proofs.Given.{known_gives, run_steps}
+use Rattle.dw_cfa.proofs.Lent.Given.{known_gives, run_steps}
 use Rattle.dw_section.proofs.rereading.go_to_rows.Goals as goal
 
 pub returns : goal.returns

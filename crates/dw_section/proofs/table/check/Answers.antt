@@ -1,7 +1,7 @@
 use Rattle.std.proofs.Common.{◌≡◌}
 use Rattle.std.proofs.lemmas.Result.{IfOk-weaker}
 use Rattle.dw_section.specs.Table.{Section}
-use Rattle.dw_section.proofs.CheckFirst.{only_accepted}
+use Rattle.dw_section.proofs.Lent.CheckFirst.{only_accepted}
 use Rattle.dw_section.proofs.FaultPlaces.{check_within, errors_within}
 use Rattle.dw_section.proofs.table.check.Goals as goal
 

@@ -3,9 +3,9 @@ use Rattle.std.proofs.lemmas.Result.{err_from_is_err_and}
 use Rattle.dw_section.specs.Inner.Initials.{AreInitials}
 use Rattle.dw_section.specs.Inner.Left.{AreHeaders}
 use Rattle.dw_section.specs.Inner.Places.{Rises}
-use Rattle.dw_section.proofs.HeaderLaws.{pieces_rise}
-use Rattle.dw_section.proofs.Heads.{heads_rise}
-use Rattle.dw_num.proofs.Refusals.{refuses_by}
+use Rattle.dw_section.proofs.Lent.HeaderLaws.{pieces_rise}
+use Rattle.dw_section.proofs.Lent.Heads.{heads_rise}
+use Rattle.dw_num.proofs.Lent.Refusals.{refuses_by}
 use Rattle.dw_section.proofs.Left.{headers_so}
 use Rattle.dw_section.proofs.Tables.{nonempty_rise}
 use Rattle.dw_section.specs.Cut.{Piece}

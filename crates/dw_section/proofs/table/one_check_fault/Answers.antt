@@ -1,4 +1,4 @@
-use Rattle.dw_section.proofs.CheckFirst.{fault_or_accepted, one_check_fault}
+use Rattle.dw_section.proofs.Lent.CheckFirst.{fault_or_accepted, one_check_fault}
 use Rattle.dw_section.proofs.table.one_check_fault.Goals as goal
 
 pub returns : goal.returns

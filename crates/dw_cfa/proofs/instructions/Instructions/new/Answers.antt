@@ -1,4 +1,4 @@
-use Rattle.dw_cfa.proofs.Listings.{made_program, made_fault, made_place}
+use Rattle.dw_cfa.proofs.Lent.Listings.{made_program, made_fault, made_place}
 use Rattle.dw_cfa.proofs.instructions.Instructions.new.Goals as goal
 
 pub returns-clause-program : goal.returns-clause-program

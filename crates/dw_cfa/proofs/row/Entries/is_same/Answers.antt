@@ -1,6 +1,6 @@
 use Rattle.dw_cfa.specs.Inner.Entries.{entries_of}
 use Rattle.dw_cfa.proofs.Slots.{slots_ascend}
-use Rattle.dw_cfa.proofs.Skipped.{same_exactly}
+use Rattle.dw_cfa.proofs.Lent.Skipped.{same_exactly}
 use Rattle.dw_cfa.proofs.row.Entries.is_same.Goals as goal
 
 pub returns : goal.returns

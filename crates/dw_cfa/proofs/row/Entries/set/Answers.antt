@@ -1,5 +1,5 @@
 use Rattle.std.proofs.Common.{arith}
-use Rattle.dw_cfa.proofs.RowLists.{lower}
+use Rattle.dw_cfa.proofs.Lent.RowLists.{lower}
 use Rattle.dw_cfa.proofs.Slots.{far_ok, far_so}
 use Rattle.dw_cfa.proofs.row.Entries.set.Goals as goal
 

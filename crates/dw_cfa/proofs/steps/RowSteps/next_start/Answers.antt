@@ -1,5 +1,5 @@
 use Rattle.std.proofs.Common.{Some, ap, sym}
-use Rattle.dw_cfa.proofs.RunLaws.{next_starts, next_some}
+use Rattle.dw_cfa.proofs.Lent.RunLaws.{next_starts, next_some}
 use Rattle.dw_cfa.proofs.steps.RowSteps.next_start.Goals as goal
 
 pub returns-in-Begun-clause-next : goal.returns-in-Begun-clause-next

@@ -1,6 +1,6 @@
 use Rattle.std.proofs.Common.{arith}
 use Rattle.dw_cfa.specs.Stepping.{program_input}
-use Rattle.dw_cfa.proofs.Given.{steps_run, gives_no_fault}
+use Rattle.dw_cfa.proofs.Lent.Given.{steps_run, gives_no_fault}
 use Rattle.dw_cfa.proofs.walking.RowWalk.go_to.Goals as goal
 
 pub returns : goal.returns

@@ -1,4 +1,4 @@
-use Rattle.dw_op.proofs.Lines.{is_test_of}
+use Rattle.dw_op.proofs.Lent.Lines.{is_test_of}
 use Rattle.dw_op.proofs.expression.ExprRefPartialEq.eq.Goals as goal
 
 pub returns-clause-test : goal.returns-clause-test

@@ -1,4 +1,4 @@
-use Rattle.dw_op.proofs.Ranges.{not_in_range}
+use Rattle.dw_op.proofs.Lent.Ranges.{not_in_range}
 use Rattle.dw_op.proofs.list.OpList.from_ops.Goals as goal
 
 pub returns-in-Some-clause-only : goal.returns-in-Some-clause-only

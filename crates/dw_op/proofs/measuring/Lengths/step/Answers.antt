@@ -5,7 +5,7 @@ use Rattle.dw_op.specs.declared.reading.Step.{Step}
 use Rattle.dw_op.specs.Inner.Reading.{bare_step}
 use Rattle.dw_op.proofs.Decoded.{within_all, within_more}
 use Rattle.dw_op.proofs.Landing.{never_stuck, read_on}
-use Rattle.dw_op.proofs.ReadingLaws.{step_found}
+use Rattle.dw_op.proofs.Lent.ReadingLaws.{step_found}
 use Rattle.dw_op.proofs.Starts.{later_none, later_one, lengths_end, lengths_more}
 use Rattle.dw_op.proofs.measuring.Lengths.step.Goals as goal
 

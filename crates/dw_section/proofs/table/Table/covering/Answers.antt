@@ -2,7 +2,7 @@ use Rattle.std.proofs.Common.{subst, sym}
 use Rattle.dw_section.specs.Inner.Lookup.{RunsTo}
 use Rattle.dw_section.specs.Inner.Lookup.{fde_of}
 use Rattle.dw_section.specs.Meaning.{Covers, AreFdes}
-use Rattle.dw_section.proofs.FdeLookup.{fdes_of}
+use Rattle.dw_section.proofs.Lent.FdeLookup.{fdes_of}
 use Rattle.dw_section.proofs.RowLookup.{runs_found}
 use Rattle.dw_section.proofs.table.Table.covering.Goals as goal
 

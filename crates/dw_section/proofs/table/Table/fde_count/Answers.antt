@@ -1,5 +1,5 @@
 use Rattle.std.proofs.Common.{length, ap, sym, ◌∙◌}
-use Rattle.dw_section.proofs.FdeLookup.{listed_count}
+use Rattle.dw_section.proofs.Lent.FdeLookup.{listed_count}
 use Rattle.dw_section.proofs.table.Table.fde_count.Goals as goal
 
 pub returns : goal.returns

@@ -1,4 +1,4 @@
-use Rattle.dw_section.proofs.FdeLookup.{are_fdes}
+use Rattle.dw_section.proofs.Lent.FdeLookup.{are_fdes}
 use Rattle.dw_section.proofs.table.Table.fdes.Goals as goal
 
 pub returns : goal.returns

@@ -1,6 +1,6 @@
 use Rattle.std.proofs.Common.{rules, ◌∙◌, map, get_or, ap, sym, arith}
 use Rattle.dw_section.specs.Inner.Lookup.{fde_in}
-use Rattle.dw_section.proofs.FdeLookup.{are_fdes, one_fdes, listed_place, listed_fde, here_of, same_fde}
+use Rattle.dw_section.proofs.Lent.FdeLookup.{are_fdes, one_fdes, listed_place, listed_fde, here_of, same_fde}
 use Rattle.dw_section.proofs.RowLookup.{table_some}
 use Rattle.dw_section.proofs.table.Table.found.Goals as goal
 

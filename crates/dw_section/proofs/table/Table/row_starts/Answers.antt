@@ -3,7 +3,7 @@ use Rattle.std.specs.List.{AllByRecursion}
 use Rattle.dw_section.specs.Inner.Index.{range_in, IsRanged}
 use Rattle.dw_section.specs.Inner.Initials.{AreInitials}
 use Rattle.dw_section.specs.Inner.Left.{AreHeaders}
-use Rattle.dw_section.proofs.FdeLookup.{kept_of}
+use Rattle.dw_section.proofs.Lent.FdeLookup.{kept_of}
 use Rattle.dw_section.proofs.table.Table.row_starts.Goals as goal
 
 pub sum_starts-requires-clause-few : goal.sum_starts-requires-clause-few

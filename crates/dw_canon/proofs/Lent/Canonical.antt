@@ -1,0 +1,251 @@
+-- The laws of normal forms.
+use Rattle.std.proofs.Common.{◌≡◌, ℕ, ◌<◌, ◌≤◌, List, [], ◌∷◌, ◌++◌, map, length, refl, sym, ap, ◌∙◌, subst, inl, inr}
+use Rattle.std.specs.Prelude.{◌↔◌, nat_eq}
+use Rattle.std.specs.List.{AllByRecursion}
+use Rattle.dw_num.specs.Input.{AreBytes}
+use Rattle.dw_num.specs.declared.target.Target.{Target}
+use Rattle.dw_cfa.specs.Rows.{Rules}
+use Rattle.dw_cfa.specs.Location.{row_starts}
+use Rattle.dw_section.specs.declared.lookup.Fde.{Fde}
+use Rattle.dw_section.specs.Accepted.{Accepted}
+use Rattle.dw_section.specs.Changes.{AreChanges}
+use Rattle.dw_section.specs.Meaning.{AreFdes, ChangesOf, RowStarts, total}
+use Rattle.dw_section.proofs.Lent.FdeLookup.{one_fdes}
+use Rattle.dw_section.specs.Meanings.{IsListed, SameMeaning}
+use Rattle.dw_canon.specs.Renders.{ReadsBack}
+use Rattle.dw_section.proofs.Lent.Sections.{fdes_exist, listed_programs}
+use Rattle.dw_section.proofs.Lent.Exists.{listed_change, one_change_list, meaning_changes}
+use Rattle.dw_canon.specs.Laid.{Group, Part, cie_of, laid}
+use Rattle.dw_canon.specs.Laid as layout
+use Rattle.dw_canon.specs.Written.{Written, section_bytes}
+use Rattle.dw_section.proofs.Lent.Totals.{least_starts}
+use Rattle.dw_canon.proofs.Lent.Extra.{starts_of, written_starts}
+use Rattle.dw_canon.proofs.Lays.{laid_section}
+use Rattle.dw_canon.proofs.Lent.Readback.{rendered_laid}
+use Rattle.dw_canon.specs.Canon.{canon, initial_of, part_of, groups_of, parts_of}
+use Rattle.dw_canon.specs.Fits.{MemberStands}
+use Rattle.dw_canon.specs.Headline.{Headline}
+use Rattle.dw_canon.specs.Laws.{NormalFormExists, NormalFormIsOne, MeaningIsKept, NormalAgain, SameNormalForm, FewestRows, NormalRows, InitialIsShared}
+use Rattle.dw_canon.specs.Members.{Member, fde_of, changes_of, IsMember, AreMembers}
+use Rattle.dw_section.specs.Laws.{AreListed}
+use Rattle.dw_canon.specs.Normal.{IsNormalForm}
+use Rattle.dw_canon.proofs.Kept.{reads_back}
+use Rattle.dw_canon.proofs.Programming.{member_program}
+use Rattle.dw_canon.proofs.Lent.Rendered.{renders, fits, stand}
+use Rattle.dw_canon.proofs.Shared.{MemberFits, is_shared}
+use Rattle.dw_canon.proofs.Lent.Standing.{group_fits, all_some}
+use Rattle.dw_canon.specs.Group.{initial_row, IsShared}
+
+-- ---- members exist
+
+-- an FDE with its changes as a member
+record Made (t : Target) (s : List ℕ) (f : Fde) : Type 0 where
+  member : Member
+  is : IsMember t s member
+  of : fde_of member ≡ f
+
+made_of : (t : Target) (s : List ℕ) (f : Fde) (changes : List (ℕ × Rules)) (h : ChangesOf t s f changes) → AreListed changes → AreChanges h.initial h.instrs f.begin f.end changes → Made t s f
+made_of t s f [] h up c = absurd c
+made_of t s f (first ∷ later) h up c =
+    let m : Member = record { begin = f.begin; end = f.end; register = f.return_register; first = first.1; later = later } in
+    let same : (first ∷ later) ≡ changes_of m = ap (λ (n : ℕ). (n, first.1) ∷ later) c.0 in
+    record { member = m; is = record { changes = subst (ChangesOf t s f) same h; listed = subst AreListed same up }; of = refl }
+
+members_of : (t : Target) (s : List ℕ) (fs : List Fde) → ((f : Fde) → IsListed f fs → Made t s f) → (ms : List Member) × (map fde_of ms ≡ fs) × AllByRecursion (IsMember t s) ms
+members_of t s [] h = ([], refl, tt)
+members_of t s (f ∷ fs) h =
+    let one = h f (inl refl) in
+    let rest = members_of t s fs (λ g i. h g (inr i)) in
+    (one.member ∷ rest.0, ap (λ (g : Fde). g ∷ map fde_of rest.0) one.of ∙ ap (λ (l : List Fde). f ∷ l) rest.1, (one.is, rest.2))
+
+pub members_exist : (t : Target) (s : List ℕ) → AreBytes s → Accepted t s → (ms : List Member) × AreMembers t s ms
+members_exist t s b ok =
+    let fdes = fdes_exist t s b ok in
+    let made = members_of t s fdes.0 (λ f i. let c = listed_change t s b ok fdes.0 f fdes.1 i in made_of t s f c.0 c.1 c.2 c.1.change) in
+    (made.0, record { fdes = subst (AreFdes t s) (sym made.1) fdes.1; each = made.2 })
+
+-- ---- and are one list
+
+first_of : (x y : ℕ × Rules) (xs ys : List (ℕ × Rules)) → x ∷ xs ≡ y ∷ ys → x ≡ y
+first_of x y xs ys e = cc
+
+behind_of : (x y : ℕ × Rules) (xs ys : List (ℕ × Rules)) → x ∷ xs ≡ y ∷ ys → xs ≡ ys
+behind_of x y xs ys e = cc
+
+member_is : (m k : Member) → fde_of m ≡ fde_of k → changes_of m ≡ changes_of k → m ≡ k
+member_is m k same changes =
+    let pair : (m.begin, m.first) ≡ (k.begin, k.first) = first_of (m.begin, m.first) (k.begin, k.first) m.later k.later changes in
+    let first : m.first ≡ k.first = ap (λ (p : ℕ × Rules). p.1) pair in
+    let later : m.later ≡ k.later = behind_of (m.begin, m.first) (k.begin, k.first) m.later k.later changes in
+    ap (λ (f : Fde). let x : Member = record { begin = f.begin; end = f.end; register = f.return_register; first = m.first; later = m.later } in x) same
+    ∙ ap (λ (row : Rules). let x : Member = record { begin = k.begin; end = k.end; register = k.register; first = row; later = m.later } in x) first
+    ∙ ap (λ (l : List (ℕ × Rules)). let x : Member = record { begin = k.begin; end = k.end; register = k.register; first = k.first; later = l } in x) later
+
+head_is : (m k : Member) (ms ks : List Member) → map fde_of (m ∷ ms) ≡ map fde_of (k ∷ ks) → fde_of m ≡ fde_of k
+head_is m k ms ks e = cc
+
+tail_is : (m k : Member) (ms ks : List Member) → map fde_of (m ∷ ms) ≡ map fde_of (k ∷ ks) → map fde_of ms ≡ map fde_of ks
+tail_is m k ms ks e = cc
+
+one_list : (t : Target) (s : List ℕ) (b : AreBytes s) (ok : Accepted t s) (ms ks : List Member) → map fde_of ms ≡ map fde_of ks → AllByRecursion (λ (m : Member). m.begin < m.end) ms
+    → AllByRecursion (IsMember t s) ms → AllByRecursion (IsMember t s) ks → ms ≡ ks
+one_list t s b ok [] [] e some h k = refl
+one_list t s b ok [] (x ∷ ks) e some h k = absurd cc
+one_list t s b ok (m ∷ ms) [] e some h k = absurd cc
+one_list t s b ok (m ∷ ms) (x ∷ ks) e some h k =
+    let same = head_is m x ms ks e in
+    let there = subst (λ (f : Fde). ChangesOf t s f (changes_of x)) (sym same) k.0.changes in
+    let changes = one_change_list t s b ok (fde_of m) (changes_of m) (changes_of x) some.0 h.0.changes there h.0.listed k.0.listed in
+    let first = member_is m x same changes in
+    let rest = one_list t s b ok ms ks (tail_is m x ms ks e) some.1 h.1 k.1 in
+    ap (λ (y : Member). y ∷ ms) first ∙ ap (λ (l : List Member). x ∷ l) rest
+
+nonempty : (t : Target) (s : List ℕ) (b : AreBytes s) (ok : Accepted t s) (ms xs : List Member) → AreFdes t s (map fde_of ms) → ((f : Fde) → IsListed f (map fde_of xs) → IsListed f (map fde_of ms)) → AllByRecursion (λ (m : Member). m.begin < m.end) xs
+nonempty t s b ok ms [] are into = tt
+nonempty t s b ok ms (m ∷ xs) are into = ((listed_programs t s b ok (map fde_of ms) (fde_of m) are (into (fde_of m) (inl refl))).0, nonempty t s b ok ms xs are (λ f i. into f (inr i)))
+
+pub one_members : (t : Target) (s : List ℕ) → AreBytes s → Accepted t s → (ms ks : List Member) → AreMembers t s ms → AreMembers t s ks → ms ≡ ks
+one_members t s b ok ms ks h k =
+    one_list t s b ok ms ks (one_fdes t s (map fde_of ms) (map fde_of ks) h.fdes k.fdes) (nonempty t s b ok ms ms h.fdes (λ f i. i)) h.each k.each
+
+-- ---- members of a section that says the same
+
+members_there : (t : Target) (s n : List ℕ) (fs : List Fde) (xs : List Member) → ((f : Fde) → IsListed f (map fde_of xs) → IsListed f fs)
+    → ((f : Fde) (changes : List (ℕ × Rules)) → IsListed f fs → ChangesOf t s f changes → ChangesOf t n f changes) → AllByRecursion (IsMember t s) xs → AllByRecursion (IsMember t n) xs
+members_there t s n fs [] into to h = tt
+members_there t s n fs (m ∷ xs) into to h =
+    (record { changes = to (fde_of m) (changes_of m) (into (fde_of m) (inl refl)) h.0.changes; listed = h.0.listed }, members_there t s n fs xs (λ f i. into f (inr i)) to h.1)
+
+-- ---- the laws
+
+pub normal_form_exists : NormalFormExists
+normal_form_exists t s b ok = let found = members_exist t s b ok in (canon t found.0, record { accepted = ok; members = found.0; are = found.1; whole = refl })
+
+pub normal_form_is_one : NormalFormIsOne
+normal_form_is_one t s n m b h k = h.whole ∙ ap (canon t) (one_members t s b h.accepted h.members k.members h.are k.are) ∙ sym k.whole
+
+back : (t : Target) (s n : List ℕ) → AreBytes s → IsNormalForm t s n → length n ≤ 2147483647 → ReadsBack t s n
+back t s n b h small = subst (ReadsBack t s) (sym h.whole) (reads_back t s b h.accepted h.members h.are (subst (λ (l : List ℕ). length l ≤ 2147483647) h.whole small))
+
+pub meaning_is_kept : MeaningIsKept
+meaning_is_kept t s n b h small = let r = back t s n b h small in (r.accepted, r.meaning)
+
+pub normal_again : NormalAgain
+normal_again t s n b h small =
+    let r = back t s n b h small in
+    record {
+      accepted = r.accepted;
+      members = h.members;
+      are = record {
+        fdes = (r.meaning.fdes (map fde_of h.members)).0 h.are.fdes;
+        each = members_there t s n (map fde_of h.members) h.members (λ f i. i) (λ f changes i. (r.changes (map fde_of h.members) f changes h.are.fdes i).0) h.are.each;
+      };
+      whole = h.whole;
+    }
+
+same_back : (t : Target) (a b : List ℕ) → SameMeaning t a b → SameMeaning t b a
+same_back t a b h = record { fdes = λ fs. ((h.fdes fs).1, (h.fdes fs).0); rules = λ x row. ((h.rules x row).1, (h.rules x row).0) }
+
+same_then : (t : Target) (a b c : List ℕ) → SameMeaning t a b → SameMeaning t b c → SameMeaning t a c
+same_then t a b c h k = record {
+  fdes = λ fs. (λ x. (k.fdes fs).0 ((h.fdes fs).0 x), λ x. (h.fdes fs).1 ((k.fdes fs).1 x));
+  rules = λ a row. (λ x. (k.rules a row).0 ((h.rules a row).0 x), λ x. (h.rules a row).1 ((k.rules a row).1 x));
+}
+
+-- sections that say the same have the same members
+same_members : (t : Target) (s u : List ℕ) (ms : List Member) → AreBytes s → AreBytes u → Accepted t s → Accepted t u → AreMembers t s ms → SameMeaning t s u → AreMembers t u ms
+same_members t s u ms bs bu ok okay h same =
+    let fdes = (same.fdes (map fde_of ms)).0 h.fdes in
+    let each = members_there t s u (map fde_of ms) ms (λ f i. i) (λ f changes i. meaning_changes t s u bs bu ok okay same (map fde_of ms) f changes h.fdes i) h.each in
+    record { fdes = fdes; each = each }
+
+pub same_normal_form : SameNormalForm
+same_normal_form t s u n m bs bu h k small little = (
+  λ e.
+      let one = (meaning_is_kept t s n bs h small).1 in
+      let two = (meaning_is_kept t u m bu k little).1 in
+      same_then t s n u one (subst (λ (l : List ℕ). SameMeaning t l u) (sym e) (same_back t u m two)),
+  λ same.
+      let are = same_members t s u h.members bs bu h.accepted k.accepted h.are same in
+      let there : IsNormalForm t u n = record { accepted = k.accepted; members = h.members; are = are; whole = h.whole } in
+      normal_form_is_one t u n m bu there k,
+)
+
+-- two sections say the same exactly where their members are the same
+pub same_exactly : (t : Target) (s u : List ℕ) (ms ns : List Member) → AreBytes s → AreBytes u → Accepted t s → Accepted t u → AreMembers t s ms → AreMembers t u ns
+    → length (canon t ms) ≤ 2147483647 → length (canon t ns) ≤ 2147483647 → (ms ≡ ns) ↔ SameMeaning t s u
+same_exactly t s u ms ns bs bu ok okay h k small little = (
+  λ e.
+      let one : IsNormalForm t s (canon t ms) = record { accepted = ok; members = ms; are = h; whole = refl } in
+      let other : IsNormalForm t u (canon t ns) = record { accepted = okay; members = ns; are = k; whole = refl } in
+      (same_normal_form t s u (canon t ms) (canon t ns) bs bu one other small little).0 (ap (canon t) e),
+  λ same. one_members t u bu okay ms ns (same_members t s u ms bs bu ok okay h same) k,
+)
+
+pub headline_holds : Headline
+headline_holds t a b ba bb ok okay =
+    let one = normal_form_exists t a ba ok in
+    let other = normal_form_exists t b bb okay in
+    record {
+      n = one.0;
+      m = other.0;
+      of_a = record { is = one.1; only = λ k h. normal_form_is_one t a k one.0 ba h one.1 };
+      of_b = record { is = other.1; only = λ k h. normal_form_is_one t b k other.0 bb h other.1 };
+      canonical = λ small little.
+          let kept = meaning_is_kept t a one.0 ba one.1 small in
+          record {
+            equal = same_normal_form t a b one.0 other.0 ba bb one.1 other.1 small little;
+            accepted = kept.0;
+            kept = kept.1;
+            again = normal_again t a one.0 ba one.1 small;
+          };
+    }
+
+pub fewest_rows : FewestRows
+fewest_rows t s f changes b ok some h =
+    least_starts t s b ok f.begin f.end h.initial h.instrs changes some h.says h.change
+
+-- ---- rows that a normal form starts
+
+part_starts : List Part → List ℕ
+part_starts [] = []
+part_starts (p ∷ ps) = row_starts p.instrs ∷ part_starts ps
+
+no_starts : (gs : List Group) (ws : List Written) → starts_of (map cie_of gs ++ ws) ≡ starts_of ws
+no_starts [] ws = refl
+no_starts (g ∷ gs) ws = no_starts gs ws
+
+fde_starts : (t : Target) (gs : List Group) (ps : List Part) → starts_of (map (layout.fde_of t gs) ps) ≡ part_starts ps
+unfolding part_starts
+fde_starts t gs [] = refl
+fde_starts t gs (p ∷ ps) = ap (λ (l : List ℕ). row_starts p.instrs ∷ l) (fde_starts t gs ps)
+
+member_starts : (t : Target) (ms xs : List Member) → AllByRecursion (MemberFits t) ms → AllByRecursion (λ (m : Member). MemberStands t (initial_of ms m.register) m) xs
+    → part_starts (map (part_of t ms) xs) ≡ map (λ (m : Member). length (changes_of m)) xs
+unfolding part_starts
+member_starts t ms [] all h = refl
+member_starts t ms (m ∷ xs) all h =
+    let law = member_program t (initial_of ms m.register) m (group_fits t ms m.register all) h.0 in
+    ap (λ (n : ℕ). n ∷ part_starts (map (part_of t ms) xs)) law.3 ∙ ap (λ (l : List ℕ). length (changes_of m) ∷ l) (member_starts t ms xs all h.1)
+
+canon_rows : (t : Target) (s : List ℕ) (b : AreBytes s) (ok : Accepted t s) (ms : List Member) (are : AreMembers t s ms) → length (canon t ms) ≤ 2147483647 → RowStarts t (canon t ms) (total (map (λ (m : Member). length (changes_of m)) ms))
+unfolding canon
+canon_rows t s b ok ms are small =
+    let gs = groups_of t ms in
+    let ps = parts_of t ms in
+    let laid_is = rendered_laid t s gs ps b ok (renders t s b ok ms are) small in
+    let starts : starts_of (laid t gs ps) ≡ map (λ (m : Member). length (changes_of m)) ms =
+    no_starts gs (map (layout.fde_of t gs) ps) ∙ fde_starts t gs ps ∙ member_starts t ms ms (fits t s b ok ms are) (stand t s b ok ms are) in
+    subst (λ (l : List ℕ). RowStarts t (section_bytes t (laid t gs ps)) (total l)) starts (written_starts t (laid t gs ps) (laid_section t gs ps laid_is))
+
+pub normal_rows : NormalRows
+normal_rows t s n b h small =
+    subst (λ (l : List ℕ). RowStarts t l (total (map (λ (m : Member). length (changes_of m)) h.members))) (sym h.whole)
+    (canon_rows t s b h.accepted h.members h.are (subst (λ (l : List ℕ). length l ≤ 2147483647) h.whole small))
+
+-- ---- the initial rows
+
+pub initial_is_shared : InitialIsShared
+initial_is_shared t s ms r m rest b ok are e =
+    let all = subst (AllByRecursion (MemberFits t)) e (all_some (MemberFits t) (λ (k : Member). nat_eq k.register r) ms (fits t s b ok ms are)) in
+    subst (λ (l : List Member). IsShared l (initial_row l)) (sym e) (is_shared t m rest all)

@@ -1,0 +1,47 @@
+-- The first faults of programs lie in them.
+use Rattle.std.proofs.Common.{◌≡◌, ℕ, ◌+◌, List, ◌∷◌, ◌++◌, length, Err, ap, ◌∙◌, subst, arith, inl, inr}
+use Rattle.std.proofs.lemmas.List.{length-append, get_or-append-add}
+use Rattle.dw_num.specs.declared.refusal.Code.{Code}
+use Rattle.dw_num.specs.declared.refusal.Refusal.{Refusal}
+use Rattle.dw_num.specs.Input.{Input, AreBytes}
+use Rattle.dw_num.specs.Reading.{Read}
+use Rattle.dw_num.proofs.Lent.Stays.{Stays}
+use Rattle.dw_cfa.specs.declared.instr.Factors.{Factors}
+use Rattle.dw_cfa.specs.declared.instr.Instr.{Instr}
+use Rattle.dw_cfa.specs.Faults.{FaultBehind, BrokenBehind}
+use Rattle.dw_cfa.specs.FaultPlaces.{IsWithin, CieFaultsWithin, FdeFaultsWithin, RunFaultsWithin}
+use Rattle.dw_cfa.specs.Listing.{ProgramFault}
+use Rattle.dw_cfa.proofs.InstrPlaces.{instr_stays}
+use Rattle.dw_cfa.proofs.Stuck.{fault_stuck}
+
+rest_bytes : (front rest : List ℕ) → AreBytes (front ++ rest) → AreBytes rest
+rest_bytes front rest h = λ k. let e = get_or-append-add front rest k 0 in omega (arith, h (length front + k))
+
+read_within : (i : Input) (f : Factors) (instrs : List Instr) (r : Refusal) → AreBytes i.bytes → ProgramFault i.target f i.at i.bytes instrs r → IsWithin i r
+read_within i f instrs r are h =
+    let rest = h.code ∷ h.operands in
+    let there : Input = record { at = i.at + length h.front; bytes = rest; target = i.target } in
+    let stuck = fault_stuck f i.target (i.at + length h.front) h.code h.operands r h.fault in
+    let stays : Stays {X = Instr} there (Err r) = subst (λ (read : Read Instr). Stays there read) stuck (instr_stays f there (rest_bytes h.front rest (subst AreBytes h.whole are))) in
+    let len : length i.bytes ≡ length h.front + length rest = ap length h.whole ∙ length-append h.front rest in
+    (omega (arith, stays.0), omega (arith, stays.1, len))
+
+broken_within : (i : Input) (f : Factors) (instrs : List Instr) (Breaks : Instr → Code → Type 0) (r : Refusal) → BrokenBehind f i instrs Breaks r → IsWithin i r
+broken_within i f instrs Breaks r h =
+    let len : length i.bytes ≡ length h.front + (length h.spelling + length h.rest) = simp length-append at (ap length h.whole) in
+    let place = h.place in
+    (omega (arith, place), omega (arith, place, len))
+
+fault_within : (i : Input) (f : Factors) (instrs : List Instr) (Breaks : Instr → Code → Type 0) (r : Refusal) → AreBytes i.bytes → FaultBehind f i instrs Breaks r → IsWithin i r
+fault_within i f instrs Breaks r are (inl h) = read_within i f instrs r are h
+fault_within i f instrs Breaks r are (inr h) = broken_within i f instrs Breaks r h
+
+pub cie_within : CieFaultsWithin
+cie_within f cie r are h = fault_within cie f h.0 _ r are h.2
+
+pub fde_within : FdeFaultsWithin
+fde_within f initial fde begin r are h = fault_within fde f h.0 _ r are h.1.1
+
+pub run_within : RunFaultsWithin
+run_within f cie fde begin r cie_are fde_are (inl h) = inl (cie_within f cie r cie_are h)
+run_within f cie fde begin r cie_are fde_are (inr h) = inr (fde_within f _ fde begin r fde_are h.3)

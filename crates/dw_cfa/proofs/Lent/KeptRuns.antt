@@ -1,0 +1,249 @@
+-- Programs that keep their rules are run to their end, and others are not.
+use Rattle.std.proofs.Common.{◌≡◌, ℕ, zero, suc, ◌+◌, ◌<◌, ◌≤◌, Bool, true, false, cond, List, [], ◌∷◌, length, Some, None, refl, sym, subst, inl, inr, arith}
+use Rattle.std.specs.Prelude.{IsTrue, count_by, slice_get, nat_lt}
+use Rattle.std.proofs.lemmas.List.Sums.{sum_by-cons}
+use Rattle.std.proofs.lemmas.Bool.{cases_Bool, lt-ltb, le-ltb, ltb-true, ltb-false}
+use Rattle.dw_num.specs.declared.refusal.Code.TheVariants.{LocationTooLarge, StateStackFull, CfaNotRegister}
+use Rattle.dw_cfa.specs.declared.instr.Instr.{Instr}
+use Rattle.dw_cfa.specs.declared.instr.Instr.TheVariants.{Nop, SetLoc, Advance, DefCfa, DefCfaRegister, DefCfaOffset, DefCfaExpression, Set, Restore, RememberState, RestoreState}
+use Rattle.dw_cfa.specs.declared.rule.CfaRule.{CfaRule}
+use Rattle.dw_cfa.specs.declared.rule.CfaRule.TheVariants as cfa
+use Rattle.dw_cfa.specs.declared.running.LocatedRow.{LocatedRow}
+use Rattle.dw_cfa.specs.Location.{onto, location_back, moves_location}
+use Rattle.dw_cfa.specs.Column.{look_back, cfa_change}
+use Rattle.dw_cfa.specs.Kept.{is_remember, is_restore, keeps_half, IsRegisterRule}
+use Rattle.dw_cfa.specs.Rows.{Rules}
+use Rattle.dw_cfa.specs.Inner.Machine.{State, after, half_fault, fde_fault}
+use Rattle.dw_cfa.specs.Inner.Steps.{InLimit}
+use Rattle.dw_cfa.specs.Inner.Runs.{Placed, fde_rows, here}
+use Rattle.dw_cfa.proofs.Lent.Forward.{Follows, after_follows}
+use Rattle.dw_cfa.proofs.Lent.RowsAt.{instrs_of, Gives, gives_first, forwards, stays, row_if_moves, row_if_stays}
+
+-- how many states the instructions remember, and restore
+abbrev pub remembered : List Instr → ℕ
+remembered instrs = count_by is_remember instrs
+
+abbrev pub restored : List Instr → ℕ
+restored instrs = count_by is_restore instrs
+
+-- what a state has to do with the instructions that led to it
+pub record Stands (limit begin : ℕ) (initial : Rules) (earlier : List Instr) (s : State) : Type 0 where
+  pub follows : Follows initial begin earlier s
+  pub balance : length s.stack + restored earlier ≡ remembered earlier
+  pub room : length s.stack ≤ 64
+  pub within : s.location ≤ limit
+
+-- the rules that an FDE's program keeps, behind instructions that came earlier
+pub record KeptFrom (limit begin : ℕ) (initial : CfaRule) (earlier instrs : List Instr) : Type 0 where
+  pub halves : (k : ℕ) (i : Instr) → slice_get instrs k ≡ Some i → IsTrue (keeps_half i) → IsRegisterRule (look_back cfa_change initial 0 (onto earlier instrs k))
+  pub forwards : (k : ℕ) → k < length instrs → location_back begin (onto earlier instrs k) ≤ location_back begin (onto earlier instrs (suc k))
+  pub in_space : (k : ℕ) → k ≤ length instrs → location_back begin (onto earlier instrs k) ≤ limit
+  pub matched : (k : ℕ) → k ≤ length instrs → restored (onto earlier instrs k) ≤ remembered (onto earlier instrs k)
+  pub room : (k : ℕ) → k ≤ length instrs → remembered (onto earlier instrs k) ≤ restored (onto earlier instrs k) + 64
+
+-- every address is within the limit
+abbrev pub AllInLimit : ℕ → List Instr → Type 0
+AllInLimit limit [] = Unit {0}
+AllInLimit limit (i ∷ instrs) = InLimit limit i × AllInLimit limit instrs
+
+more_remembered : (i : Instr) (earlier : List Instr) → remembered (i ∷ earlier) ≡ cond (is_remember i) 1 0 + remembered earlier
+more_remembered i earlier = sum_by-cons (λ (x : Instr). cond (is_remember x) 1 0) i earlier
+
+more_restored : (i : Instr) (earlier : List Instr) → restored (i ∷ earlier) ≡ cond (is_restore i) 1 0 + restored earlier
+more_restored i earlier = sum_by-cons (λ (x : Instr). cond (is_restore x) 1 0) i earlier
+
+-- ---- one instruction
+
+room_left : (n : ℕ) (b : Bool) → nat_lt n 64 ≡ b → cond b None (Some StateStackFull) ≡ None → n < 64
+room_left n true is e = ltb-true n 64 is
+room_left n false is e = absurd cc
+
+not_above : (limit n : ℕ) (b : Bool) → nat_lt limit n ≡ b → cond b (Some LocationTooLarge) None ≡ None → n ≤ limit
+not_above limit n true is e = absurd cc
+not_above limit n false is e = ltb-false limit n is
+
+within_after : (limit : ℕ) (initial : Rules) (i : Instr) (s : State) → InLimit limit i → s.location ≤ limit → fde_fault limit i s ≡ None → (after initial i s).location ≤ limit
+within_after limit initial (SetLoc a) s address le e = address
+within_after limit initial (Advance d) s address le e = not_above limit (s.location + d) (nat_lt limit (s.location + d)) refl e
+within_after limit initial RestoreState s address le e = let same = stays initial RestoreState s refl in omega arith
+within_after limit initial i s address le e = le
+
+stack_after : (limit : ℕ) (initial : Rules) (i : Instr) (earlier : List Instr) (row : Rules) (stack : List Rules) (location : ℕ)
+    → length stack + restored earlier ≡ remembered earlier → length stack ≤ 64 → fde_fault limit i (record { row = row; stack = stack; location = location }) ≡ None
+    → (length (after initial i (record { row = row; stack = stack; location = location })).stack + restored (i ∷ earlier) ≡ remembered (i ∷ earlier))
+    × (length (after initial i (record { row = row; stack = stack; location = location })).stack ≤ 64)
+stack_after limit initial RememberState earlier row stack location b r e =
+    let lt = room_left (length stack) (nat_lt (length stack) 64) refl e in (omega (arith, more_remembered RememberState earlier, more_restored RememberState earlier), omega arith)
+stack_after limit initial RestoreState earlier row [] location b r e = absurd cc
+stack_after limit initial RestoreState earlier row (top ∷ stack) location b r e = (omega (arith, more_remembered RestoreState earlier, more_restored RestoreState earlier), omega arith)
+stack_after limit initial i earlier row stack location b r e = (b, r)
+
+pub stands_after : (limit begin : ℕ) (initial : Rules) (i : Instr) (earlier : List Instr) (s : State) → Stands limit begin initial earlier s → InLimit limit i
+    → fde_fault limit i s ≡ None → Stands limit begin initial (i ∷ earlier) (after initial i s)
+stands_after limit begin initial i earlier s h address e =
+    let stack = stack_after limit initial i earlier s.row s.stack s.location h.balance h.room e in
+    record {
+      follows = after_follows initial begin i earlier s limit h.follows e;
+      balance = stack.0;
+      room = stack.1;
+      within = within_after limit initial i s address h.within e;
+    }
+
+-- half of the CFA's rule is kept only of a register and an offset
+pub half_kept : (i : Instr) (c : CfaRule) → half_fault i c ≡ None → IsTrue (keeps_half i) → IsRegisterRule c
+half_kept i (cfa.Register r n) e keeps = (r, n, refl)
+half_kept i cfa.Unset e keeps = let not : keeps_half i ≡ true = keeps in let f = rw not at e in absurd cc
+half_kept i (cfa.Expression x) e keeps = let not : keeps_half i ≡ true = keeps in let f = rw not at e in absurd cc
+
+halves_kept : (limit : ℕ) (i : Instr) (s : State) → fde_fault limit i s ≡ None → IsTrue (keeps_half i) → IsRegisterRule s.row.cfa
+halves_kept limit (DefCfaRegister r) s e keeps = half_kept (DefCfaRegister r) s.row.cfa e keeps
+halves_kept limit (DefCfaOffset n) s e keeps = half_kept (DefCfaOffset n) s.row.cfa e keeps
+halves_kept limit (SetLoc a) s e keeps = absurd cc
+halves_kept limit (Advance d) s e keeps = absurd cc
+halves_kept limit RememberState s e keeps = absurd cc
+halves_kept limit RestoreState s e keeps = absurd cc
+halves_kept limit Nop s e keeps = absurd cc
+halves_kept limit (DefCfa r n) s e keeps = absurd cc
+halves_kept limit (DefCfaExpression x) s e keeps = absurd cc
+halves_kept limit (Set r rule) s e keeps = absurd cc
+halves_kept limit (Restore r) s e keeps = absurd cc
+
+-- ---- a run that gives rows keeps the rules
+
+-- where no fault stands against an instruction, the rest of the run gives rows
+pub next_gives : (limit : ℕ) (initial : Rules) (item : Placed) (items : List Placed) (s : State) (rows : List LocatedRow) → Gives limit initial (item ∷ items) s rows
+    → (fde_fault limit item.instr s ≡ None) × ((rest : List LocatedRow) × Gives limit initial items (after initial item.instr s) rest)
+next_gives limit initial item items s rows e =
+    let first = gives_first limit initial item items s rows e in (
+      first.0,
+      elim (cases_Bool (moves_location item.instr)) [
+        | inl moves ↦ let rest = row_if_moves (moves_location item.instr) s (fde_rows limit initial items None (after initial item.instr s)) rows moves first.1 in (rest.0, rest.1)
+        | inr same ↦ (rows, row_if_stays (moves_location item.instr) s (fde_rows limit initial items None (after initial item.instr s)) (record { rows = rows; fault = None }) same first.1)
+      ],
+    )
+
+-- what holds of no instructions
+nothing_kept : (limit begin : ℕ) (initial : Rules) (earlier : List Instr) (s : State) → Stands limit begin initial earlier s → KeptFrom limit begin initial.cfa earlier []
+nothing_kept limit begin initial earlier s h = record {
+  halves = λ k i e keeps. none k i e;
+  forwards = λ k lt. absurd (omega arith);
+  in_space = λ k le. let z : k ≡ 0 = omega arith in subst (λ (n : ℕ). location_back begin (onto earlier [] n) ≤ limit) (sym z) here_in;
+  matched = λ k le. let z : k ≡ 0 = omega arith in subst (λ (n : ℕ). restored (onto earlier [] n) ≤ remembered (onto earlier [] n)) (sym z) (let b = h.balance in omega arith);
+  room = λ k le. let z : k ≡ 0 = omega arith in subst (λ (n : ℕ). remembered (onto earlier [] n) ≤ restored (onto earlier [] n) + 64) (sym z) (let b = h.balance in let r = h.room in omega arith);
+}
+  where
+    here_in : location_back begin earlier ≤ limit
+    here_in = subst (λ (n : ℕ). n ≤ limit) h.follows.location h.within
+
+    none : (k : ℕ) (i : Instr) {P : Type 0} → slice_get [] k ≡ Some i → P
+    none zero i e = absurd cc
+    none (suc k) i e = absurd cc
+
+-- and of one more
+one_kept : (limit begin : ℕ) (initial : Rules) (i : Instr) (earlier instrs : List Instr) (s : State) → Stands limit begin initial earlier s → fde_fault limit i s ≡ None
+    → Follows initial begin (i ∷ earlier) (after initial i s) → KeptFrom limit begin initial.cfa (i ∷ earlier) instrs → KeptFrom limit begin initial.cfa earlier (i ∷ instrs)
+one_kept limit begin initial i earlier instrs s h e next rest = record {
+  halves = halves;
+  forwards = goes;
+  in_space = space;
+  matched = match;
+  room = rooms;
+}
+  where
+    halves : (k : ℕ) (j : Instr) → slice_get (i ∷ instrs) k ≡ Some j → IsTrue (keeps_half j) → IsRegisterRule (look_back cfa_change initial.cfa 0 (onto earlier (i ∷ instrs) k))
+    halves zero j is keeps =
+        let same : i ≡ j = cc in
+        subst IsRegisterRule h.follows.row.cfa (halves_kept limit i s e (subst (λ (x : Instr). IsTrue (keeps_half x)) (sym same) keeps))
+    halves (suc k) j is keeps = rest.halves k j is keeps
+
+    goes : (k : ℕ) → k < length (i ∷ instrs) → location_back begin (onto earlier (i ∷ instrs) k) ≤ location_back begin (onto earlier (i ∷ instrs) (suc k))
+    goes zero lt = let a = h.follows.location in let b = next.location in let c = forwards limit initial i s e in omega arith
+    goes (suc k) lt = rest.forwards k (omega arith)
+
+    space : (k : ℕ) → k ≤ length (i ∷ instrs) → location_back begin (onto earlier (i ∷ instrs) k) ≤ limit
+    space zero le = let a = h.follows.location in let b = h.within in omega arith
+    space (suc k) le = rest.in_space k (omega arith)
+
+    match : (k : ℕ) → k ≤ length (i ∷ instrs) → restored (onto earlier (i ∷ instrs) k) ≤ remembered (onto earlier (i ∷ instrs) k)
+    match zero le = let b = h.balance in omega arith
+    match (suc k) le = rest.matched k (omega arith)
+
+    rooms : (k : ℕ) → k ≤ length (i ∷ instrs) → remembered (onto earlier (i ∷ instrs) k) ≤ restored (onto earlier (i ∷ instrs) k) + 64
+    rooms zero le = let b = h.balance in let r = h.room in omega arith
+    rooms (suc k) le = rest.room k (omega arith)
+
+pub kept_from : (limit begin : ℕ) (initial : Rules) (items : List Placed) (earlier : List Instr) (s : State) (rows : List LocatedRow) → Stands limit begin initial earlier s
+    → AllInLimit limit (instrs_of items) → Gives limit initial items s rows → KeptFrom limit begin initial.cfa earlier (instrs_of items)
+kept_from limit begin initial [] earlier s rows h all e = nothing_kept limit begin initial earlier s h
+kept_from limit begin initial (item ∷ items) earlier s rows h all e =
+    let next = next_gives limit initial item items s rows e in
+    let stands = stands_after limit begin initial item.instr earlier s h all.0 next.0 in
+    one_kept limit begin initial item.instr earlier (instrs_of items) s h next.0 stands.follows
+    (kept_from limit begin initial items (item.instr ∷ earlier) (after initial item.instr s) next.1.0 stands all.1 next.1.1)
+
+-- ---- and a program that keeps the rules gives rows
+
+pub keeps_fault : (i : Instr) (c : CfaRule) → (IsTrue (keeps_half i) → IsRegisterRule c) → half_fault i c ≡ None
+keeps_fault i (cfa.Register r n) h = refl
+keeps_fault i cfa.Unset h = none (keeps_half i) refl h
+  where
+    none : (b : Bool) → keeps_half i ≡ b → (IsTrue (keeps_half i) → IsRegisterRule cfa.Unset) → cond b (Some CfaNotRegister) None ≡ None
+    none true e h = let r = h e in let x : cfa.Unset ≡ cfa.Register r.0 r.1 = r.2 in absurd cc
+    none false e h = refl
+keeps_fault i (cfa.Expression y) h = none (keeps_half i) refl h
+  where
+    none : (b : Bool) → keeps_half i ≡ b → (IsTrue (keeps_half i) → IsRegisterRule (cfa.Expression y)) → cond b (Some CfaNotRegister) None ≡ None
+    none true e h = let r = h e in let x : cfa.Expression y ≡ cfa.Register r.0 r.1 = r.2 in absurd cc
+    none false e h = refl
+
+-- no fault stands against the first instruction of a program that keeps the rules
+no_fault_first : (limit begin : ℕ) (initial : Rules) (i : Instr) (earlier instrs : List Instr) (row : Rules) (stack : List Rules) (location : ℕ)
+    → Stands limit begin initial earlier (record { row = row; stack = stack; location = location }) → KeptFrom limit begin initial.cfa earlier (i ∷ instrs)
+    → fde_fault limit i (record { row = row; stack = stack; location = location }) ≡ None
+no_fault_first limit begin initial (SetLoc a) earlier instrs row stack location h k =
+    let go : location_back begin earlier ≤ a = k.forwards 0 (omega arith) in
+    let at = h.follows.location in
+    rw (le-ltb a location (omega arith)) refl
+no_fault_first limit begin initial (Advance d) earlier instrs row stack location h k =
+    let within : location_back begin earlier + d ≤ limit = k.in_space 1 (omega arith) in
+    let at = h.follows.location in
+    rw (le-ltb limit (location + d) (omega arith)) refl
+no_fault_first limit begin initial RememberState earlier instrs row stack location h k =
+    let room : remembered (RememberState ∷ earlier) ≤ restored (RememberState ∷ earlier) + 64 = k.room 1 (omega arith) in
+    let b = h.balance in
+    rw (lt-ltb (length stack) 64 (omega (arith, more_remembered RememberState earlier, more_restored RememberState earlier))) refl
+no_fault_first limit begin initial RestoreState earlier instrs row [] location h k =
+    let matched : restored (RestoreState ∷ earlier) ≤ remembered (RestoreState ∷ earlier) = k.matched 1 (omega arith) in
+    let b = h.balance in
+    absurd (omega (arith, more_remembered RestoreState earlier, more_restored RestoreState earlier))
+no_fault_first limit begin initial RestoreState earlier instrs row (top ∷ stack) location h k = refl
+no_fault_first limit begin initial i earlier instrs row stack location h k =
+    keeps_fault i row.cfa (λ keeps. subst IsRegisterRule (sym h.follows.row.cfa) (k.halves 0 i refl keeps))
+
+rest_kept : (limit begin : ℕ) (initial : CfaRule) (i : Instr) (earlier instrs : List Instr) → KeptFrom limit begin initial earlier (i ∷ instrs) → KeptFrom limit begin initial (i ∷ earlier) instrs
+rest_kept limit begin initial i earlier instrs h = record {
+  halves = λ k. h.halves (suc k);
+  forwards = λ k lt. h.forwards (suc k) (omega arith);
+  in_space = λ k le. h.in_space (suc k) (omega arith);
+  matched = λ k le. h.matched (suc k) (omega arith);
+  room = λ k le. h.room (suc k) (omega arith);
+}
+
+pub put_first : (limit : ℕ) (initial : Rules) (item : Placed) (items : List Placed) (s : State) (rest : List LocatedRow) → fde_fault limit item.instr s ≡ None
+    → Gives limit initial items (after initial item.instr s) rest → (rows : List LocatedRow) × Gives limit initial (item ∷ items) s rows
+unfolding fde_rows
+put_first limit initial item items s rest none e = put (moves_location item.instr) refl
+  where
+    put : (b : Bool) → moves_location item.instr ≡ b → (rows : List LocatedRow) × Gives limit initial (item ∷ items) s rows
+    put true is = (here s ∷ rest, rw (none, is, e) refl)
+    put false is = (rest, rw (none, is) e)
+
+pub kept_gives : (limit begin : ℕ) (initial : Rules) (items : List Placed) (earlier : List Instr) (s : State) → Stands limit begin initial earlier s
+    → AllInLimit limit (instrs_of items) → KeptFrom limit begin initial.cfa earlier (instrs_of items) → (rows : List LocatedRow) × Gives limit initial items s rows
+unfolding fde_rows
+kept_gives limit begin initial [] earlier s h all k = (here s ∷ [], refl)
+kept_gives limit begin initial (item ∷ items) earlier s h all k =
+    let none = no_fault_first limit begin initial item.instr earlier (instrs_of items) s.row s.stack s.location h k in
+    let stands = stands_after limit begin initial item.instr earlier s h all.0 none in
+    let rest = kept_gives limit begin initial items (item.instr ∷ earlier) (after initial item.instr s) stands all.1 (rest_kept limit begin initial.cfa item.instr earlier (instrs_of items) k) in
+    put_first limit initial item items s rest.0 none rest.1

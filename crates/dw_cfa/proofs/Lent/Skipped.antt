@@ -1,0 +1,122 @@
+-- Tests of the registers whose slots are used leave what tests of all do; and rows that differ at no register are the same.
+use Rattle.std.proofs.Common.{◌≡◌, ℕ, ◌+◌, ◌-◌, ◌<◌, ◌≤◌, Bool, true, false, List, [], ◌∷◌, get_or, Option, Some, None, refl, sym, ap, ◌∙◌, subst, arith, inl, inr}
+use Rattle.std.specs.Prelude.{nat_eq, nat_lt, not, is_some, ◌/◌, ◌^◌, IsTrue, ◌↔◌}
+use Rattle.std.specs.Int.{bit_at, trailing_zeros, w32}
+use Rattle.std.specs.Cmp.Lexicographic.{pointwise}
+use Rattle.std.proofs.lemmas.Bool.Decides.{Decides-eqb, Decides-int_eq}
+use Rattle.dw_op.specs.Comparing.{expression_lines}
+use Rattle.std.proofs.lemmas.Bool.{cases_lt, lt-ltb, le-ltb, ne_eqb, eq-eqb}
+use Rattle.std.proofs.Math.Nat.{div-le_self}
+use Rattle.std.proofs.lemmas.Nat.Bits.{bit_at-zero, bit_at-trailing_zeros}
+use Rattle.dw_cfa.specs.declared.rule.RegRule.{RegRule}
+use Rattle.dw_cfa.specs.declared.rule.RegRule.TheVariants as rules
+use Rattle.dw_cfa.specs.declared.rule.RegRule.TheVariants.{Unspecified}
+use Rattle.dw_cfa.specs.declared.row.Entries.{Entries}
+use Rattle.dw_cfa.specs.Rows.{AreSpecified, rule_in}
+use Rattle.dw_cfa.specs.Narrowing.{same_rule}
+use Rattle.dw_cfa.specs.Inner.Entries.{entries_of, EntriesSo, LeavesAt, LeavesBelow}
+use Rattle.dw_cfa.specs.Differing.{FirstDifference}
+use Rattle.dw_cfa.proofs.Lent.RowLists.{Entry}
+use Rattle.dw_cfa.proofs.Lent.SameRows.{same_entries}
+use Rattle.dw_cfa.proofs.Slots.{no_slot, near_rule, shifted, bit_inside}
+use Rattle.dw_cfa.proofs.Narrowed.{none_left}
+use Rattle.dw_cfa.proofs.Differing.{not_used}
+
+-- registers that have no rule are left as they are
+over_unspecified : (p : Entry → Bool) (k n : ℕ) (old new : List Entry) → k ≤ n → ((q : ℕ) → k ≤ q → q < n → rule_in new q ≡ Unspecified) → LeavesBelow p k old new → LeavesBelow p n old new
+over_unspecified p k n old new le none below q = elim (cases_lt q k) [
+  | inl lt ↦
+      let one : nat_lt q k ≡ true = lt-ltb q k lt in let two : nat_lt q n ≡ true = lt-ltb q n (omega arith) in
+      below q ∙ rw (one, two) refl
+  | inr ge ↦ elim (cases_lt q n) [
+    | inl lt ↦
+        let one : nat_lt q k ≡ false = le-ltb q k (omega arith) in let two : nat_lt q n ≡ true = lt-ltb q n lt in
+        let here : rule_in new q ≡ Unspecified = none q (omega arith) lt in
+        let stays : rule_in new q ≡ rule_in old q = below q ∙ rw one refl in
+        let was : rule_in old q ≡ Unspecified = sym stays ∙ here in
+        here ∙ sym (none_left p q) ∙ rw (two, was) refl
+    | inr past ↦
+        let one : nat_lt q k ≡ false = le-ltb q k (omega arith) in let two : nat_lt q n ≡ false = le-ltb q n (omega arith) in
+        below q ∙ rw (one, two) refl
+  ]
+]
+
+-- one register more
+pub below_more : (p : Entry → Bool) (n : ℕ) (old mid new : List Entry) → LeavesBelow p n old mid → LeavesAt p n mid new → LeavesBelow p (n + 1) old new
+below_more p n old mid new below at q = elim (cases_lt q n) [
+  | inl lt ↦
+      let other : nat_eq n q ≡ false = ne_eqb n q (λ same. omega arith) in
+      let one : nat_lt q n ≡ true = lt-ltb q n lt in let two : nat_lt q (n + 1) ≡ true = lt-ltb q (n + 1) (omega arith) in
+      let stays : rule_in new q ≡ rule_in mid q = at q ∙ rw other refl in
+      stays ∙ below q ∙ rw (one, two) refl
+  | inr ge ↦
+      let one : nat_lt q n ≡ false = le-ltb q n (omega arith) in
+      let was : rule_in mid q ≡ rule_in old q = below q ∙ rw one refl in
+      elim (cases_lt n q) [
+        | inl past ↦
+            let other : nat_eq n q ≡ false = ne_eqb n q (λ same. omega arith) in
+            let two : nat_lt q (n + 1) ≡ false = le-ltb q (n + 1) (omega arith) in
+            let stays : rule_in new q ≡ rule_in mid q = at q ∙ rw other refl in
+            stays ∙ was ∙ rw two refl
+        | inr le ↦
+            let here : nat_eq n q ≡ true = eq-eqb n q (omega arith) in
+            let two : nat_lt q (n + 1) ≡ true = lt-ltb q (n + 1) (omega arith) in
+            at q ∙ rw (here, was, two) refl
+      ]
+]
+
+module _ (e : Entries) (so : EntriesSo e) where
+  -- a register whose slot is not used
+  unused : (q : ℕ) → q < 32 → bit_at e.used q ≡ 0 → rule_in (entries_of e) q ≡ Unspecified
+  unused q lt none =
+      near_rule e.near e.expressions.entries e.far.entries so.near so.far q no_slot lt
+      ∙ not_used (get_or e.near q no_slot) (rule_in e.expressions.entries q) (so.used q no_slot (omega (arith, so.near)) none)
+
+  -- no bit is left
+  pub none_more : (p : Entry → Bool) (k : ℕ) (old : List Entry) → k ≤ 32 → e.used / 2 ^ k ≡ 0 → LeavesBelow p k old (entries_of e) → LeavesBelow p 32 old (entries_of e)
+  none_more p k old le none below =
+      over_unspecified p k 32 old (entries_of e) le
+      (λ q low high. unused q high (shifted e.used k q low ∙ ap (λ (m : ℕ). bit_at m (q - k)) none ∙ bit_at-zero (q - k))) below
+
+  -- the lowest bit that is left
+  pub up_to_used : (p : Entry → Bool) (k : ℕ) (old : List Entry) → e.used < 2 ^ 32 → k < 32 → 0 < e.used / 2 ^ k → LeavesBelow p k old (entries_of e)
+      → (k + trailing_zeros w32 (e.used / 2 ^ k) < 32) × LeavesBelow p (k + trailing_zeros w32 (e.used / 2 ^ k)) old (entries_of e)
+  up_to_used p k old fits lt some below =
+      let within : e.used / 2 ^ k < 2 ^ 32 = omega (arith, div-le_self e.used (2 ^ k)) in
+      let z = bit_at-trailing_zeros w32 (e.used / 2 ^ k) some within in
+      let inside : k + trailing_zeros w32 (e.used / 2 ^ k) < 32 = bit_inside e.used k (trailing_zeros w32 (e.used / 2 ^ k)) fits z.1 in (
+        inside,
+        over_unspecified p k (k + trailing_zeros w32 (e.used / 2 ^ k)) old (entries_of e) (omega arith)
+            (λ q low high. unused q (omega (arith, inside)) (shifted e.used k q low ∙ z.2 (q - k) (omega arith))) below,
+      )
+
+-- ---- a rule is the same as itself
+
+pointwise_self : {X : Type 0} (E : X → X → Bool) → ((x : X) → E x x ≡ true) → (xs : List X) → pointwise E xs xs ≡ true
+pointwise_self E e [] = refl
+pointwise_self E e (x ∷ xs) = rw (e x, pointwise_self E e xs) refl
+
+lines_self : (xs : List (List ℕ)) → pointwise (pointwise nat_eq) xs xs ≡ true
+lines_self xs = pointwise_self (pointwise nat_eq) (λ l. pointwise_self nat_eq (λ n. (Decides-eqb n n).1 refl) l) xs
+
+pub rule_self : (a : RegRule) → same_rule a a ≡ true
+rule_self rules.Unspecified = refl
+rule_self rules.Undefined = refl
+rule_self rules.SameValue = refl
+rule_self (rules.Offset n) = (Decides-int_eq n n).1 refl
+rule_self (rules.ValOffset n) = (Decides-int_eq n n).1 refl
+rule_self (rules.Register r) = (Decides-eqb r r).1 refl
+rule_self (rules.Expression a) = lines_self (expression_lines a)
+rule_self (rules.ValExpression a) = lines_self (expression_lines a)
+
+-- rows are the same where no register's rule differs
+pub same_exactly : (xs ys : List Entry) (o : Option ℕ) (none : Bool) → AreSpecified 0 xs → AreSpecified 0 ys → FirstDifference 0 xs ys o → is_some o ≡ not none → IsTrue none ↔ (xs ≡ ys)
+same_exactly xs ys None true up up' h is = ((λ t. same_entries 0 xs ys up up' (λ r. h r (omega arith))), (λ e. refl))
+same_exactly xs ys None false up up' h is = absurd cc
+same_exactly xs ys (Some q) true up up' h is = absurd cc
+same_exactly xs ys (Some q) false up up' h is = (
+  (λ t. absurd cc),
+  (λ e.
+      let itself : same_rule (rule_in xs q) (rule_in ys q) ≡ true = subst (λ (l : List Entry). same_rule (rule_in xs q) (rule_in l q) ≡ true) e (rule_self (rule_in xs q)) in
+      let differs : same_rule (rule_in xs q) (rule_in ys q) ≡ false = h.2 in absurd cc),
+)

@@ -1,0 +1,48 @@
+-- A signed LEB is read as it is spelled.
+use Rattle.std.proofs.Common.{◌≡◌, ℕ, ◌+◌, ◌^◌, List, ◌++◌, length, take, true, false, ℤ, pos, negsuc, Option, Some, None, Ok, refl, sym, ap, subst, arith, inl, inr, ◌⊎◌}
+use Rattle.std.specs.Prelude.{FitsSigned}
+use Rattle.std.specs.Int.{w64}
+use Rattle.std.proofs.lemmas.Bool.{cases_lt, lt-ltb, le-ltb}
+use Rattle.std.proofs.lemmas.List.{take_at, drop_at, take-append-drop, length-take}
+use Rattle.dw_num.specs.declared.target.Target.{Target}
+use Rattle.dw_num.specs.declared.refusal.Code.TheVariants.{NumberTooLarge}
+use Rattle.dw_num.specs.Input.{Input, AreBytes, Takes, behind}
+use Rattle.dw_num.specs.Leb.{signed_groups, Sleb}
+use Rattle.dw_num.specs.Reading.{leb_len, sleb_of, sleb_at, fits_signed, fault}
+use Rattle.dw_num.proofs.Lent.LebLaws.{leb_len-front, leb_len-spelled, done, ok_is}
+
+fits_signed-true : (v : ℤ) → FitsSigned w64 v → fits_signed v ≡ true
+fits_signed-true (pos n) h = lt-ltb n (2 ^ 63) (omega (arith, h))
+fits_signed-true (negsuc n) h = lt-ltb n (2 ^ 63) (omega (arith, h))
+
+fits_signed-cases : (v : ℤ) → ((fits_signed v ≡ true) × FitsSigned w64 v) ⊎ (fits_signed v ≡ false)
+fits_signed-cases (pos n) = elim (cases_lt n (2 ^ 63)) [ inl lt ↦ inl (lt-ltb n (2 ^ 63) lt, omega (arith, lt)) | inr le ↦ inr (le-ltb n (2 ^ 63) le) ]
+fits_signed-cases (negsuc n) = elim (cases_lt n (2 ^ 63)) [ inl lt ↦ inl (lt-ltb n (2 ^ 63) lt, omega (arith, lt)) | inr le ↦ inr (le-ltb n (2 ^ 63) le) ]
+
+pub sleb_again : (at : ℕ) (target : Target) (v : ℤ) (b rest : List ℕ) → Sleb v b → sleb_at (record { at = at; bytes = b ++ rest; target = target }) ≡ Ok (v, record { at = at + length b; bytes = rest; target = target })
+unfolding sleb_at
+sleb_again at target v b rest u =
+    let fits : FitsSigned w64 (signed_groups b) = rw u.value at u.fits in
+    rw (leb_len-spelled b rest u.shape, take_at b rest (length b) refl, drop_at b rest (length b) refl, fits_signed-true (signed_groups b) fits, u.value) refl
+
+found_at : (o : Option ℕ) (i new : Input) (v : ℤ) → AreBytes i.bytes → leb_len i.bytes ≡ o → sleb_of o i ≡ Ok (v, new) → (b : List ℕ) × Sleb v b × Takes i b new
+found_at None i new v are e h = absurd cc
+found_at (Some n) i new v are e h = elim (fits_signed-cases (signed_groups (take n i.bytes))) [
+  | inl fits ↦
+      let front = leb_len-front i.bytes n are e in
+      let k : done (signed_groups (take n i.bytes), behind n i) ≡ done (v, new) = rw (fits.0) at h in
+      subst (λ (p : ℤ × Input). (b : List ℕ) × Sleb p.0 b × Takes i b p.1) (ok_is (signed_groups (take n i.bytes), behind n i) (v, new) k) (
+        take n i.bytes,
+        record { shape = front.0; value = refl; fits = fits.1 },
+        record { bytes = sym (take-append-drop n i.bytes); at = ap (λ (m : ℕ). i.at + m) (omega (arith, length-take n i.bytes, front.1)); target = refl },
+      )
+  | inr big ↦ let k : fault {A = ℤ × Input} NumberTooLarge i.at ≡ done (v, new) = rw big at h in absurd cc
+]
+
+pub sleb_found : (i new : Input) (v : ℤ) → AreBytes i.bytes → sleb_at i ≡ Ok (v, new) → (b : List ℕ) × Sleb v b × Takes i b new
+unfolding sleb_at
+sleb_found i new v are h = found_at (leb_len i.bytes) i new v are refl h
+
+pub sleb_only : (i : Input) (v : ℤ) (b rest : List ℕ) → Sleb v b → i.bytes ≡ b ++ rest → sleb_at i ≡ Ok (v, record { at = i.at + length b; bytes = rest; target = i.target })
+sleb_only i v b rest u e =
+    subst (λ (bs : List ℕ). sleb_at (record { at = i.at; bytes = bs; target = i.target }) ≡ Ok (v, record { at = i.at + length b; bytes = rest; target = i.target })) (sym e) (sleb_again i.at i.target v b rest u)

@@ -1,0 +1,66 @@
+-- One read after another: what is read is spelled, and what is spelled is read.
+use Rattle.std.proofs.Common.{◌≡◌, ℕ, ◌+◌, Bool, true, false, List, [], ◌∷◌, ◌++◌, length, take, Result, Ok, Err, refl, sym, ap, subst, ◌∙◌, append_assoc, arith, inl, inr}
+use Rattle.std.specs.Prelude.{cond}
+use Rattle.std.proofs.lemmas.Bool.{cases_lt, le-ltb, lt-ltb}
+use Rattle.std.proofs.lemmas.List.{length-append, length-take, take_at as taken_at, drop_at}
+use Rattle.dw_num.specs.declared.target.Target.{Target}
+use Rattle.dw_num.specs.declared.refusal.Refusal.{Refusal}
+use Rattle.dw_num.specs.Input.{Input, Takes, behind}
+use Rattle.dw_num.specs.Reading.{Read, fault, address_at, fixed_at, take_at, ◌>>=◌}
+use Rattle.dw_num.specs.Target.{byte_count}
+use Rattle.dw_num.specs.Fixed.{Address}
+use Rattle.dw_num.specs.declared.refusal.Code.TheVariants.{Truncated}
+use Rattle.dw_num.proofs.Lent.LebLaws.{done, ok_is}
+use Rattle.dw_num.proofs.Lent.FixedLaws.{byte_at_again, fixed_at_again, took}
+
+-- two takes, one after the other, are one
+pub Takes-then : (i j k : Input) (x y : List ℕ) → Takes i x j → Takes j y k → Takes i (x ++ y) k
+Takes-then i j k x y p q = record {
+  bytes = p.bytes ∙ ap (λ (t : List ℕ). x ++ t) q.bytes ∙ sym (append_assoc x y k.bytes);
+  at = q.at ∙ ap (λ (n : ℕ). n + length y) p.at ∙ omega (arith, length-append x y);
+  target = q.target ∙ p.target;
+}
+
+pub bind_ok : {A B : Type 0} (r : Result A Refusal) (f : A → Result B Refusal) (y : B) → r >>= f ≡ done y → (x : A) × (r ≡ done x) × (f x ≡ done y)
+bind_ok (Ok x) f y e = (x, refl, e)
+bind_ok (Err d) f y e = absurd cc
+
+-- what b spells is read as x, wherever it stands and whatever follows
+abbrev pub Again : {X : Type 0} → Target → (Input → Read X) → X → List ℕ → Type 0
+Again {X} target read x b = (at : ℕ) (rest : List ℕ) → read (record { at = at; bytes = b ++ rest; target = target }) ≡ done (x, record { at = at + length b; bytes = rest; target = target })
+
+pub again-then : {X Y : Type 0} (target : Target) (read : Input → Read X) (next : X × Input → Read Y) (x : X) (y : Y) (b c : List ℕ) → Again target read x b → Again target (λ i. next (x, i)) y c → Again target (λ i. read i >>= next) y (b ++ c)
+again-then target read next x y b c first second at rest =
+    let one = first at (c ++ rest) in
+    let two = second (at + length b) rest in
+    let place : (at + length b) + length c ≡ at + length (b ++ c) = omega (arith, length-append b c) in
+    rw (append_assoc, one, two, place) refl
+
+pub cond_ok : {A : Type 0} (b : Bool) (x : Result A Refusal) (r : Refusal) (y : A) → cond b x (Err r) ≡ done y → (b ≡ true) × (x ≡ done y)
+cond_ok true x r y e = (refl, e)
+cond_ok false x r y e = absurd cc
+
+-- ---- bytes as they are
+
+pub take_again : (target : Target) (n : ℕ) (b : List ℕ) → length b ≡ n → Again target (take_at n) b b
+unfolding take_at
+take_again target n b len at rest = rw (le-ltb (length (b ++ rest)) n (omega (arith, length-append b rest)), taken_at b rest n len, drop_at b rest n len, len) refl
+
+pub take_found : (n : ℕ) (i new : Input) (b : List ℕ) → take_at n i ≡ done (b, new) → Takes i b new × (length b ≡ n)
+unfolding take_at
+take_found n i new b e = elim (cases_lt (length i.bytes) n) [
+  | inl short ↦ let k : fault {A = List ℕ × Input} Truncated i.at ≡ done (b, new) = rw (lt-ltb (length i.bytes) n short) at e in absurd cc
+  | inr long ↦
+      let k : done (take n i.bytes, behind n i) ≡ done (b, new) = rw (le-ltb (length i.bytes) n long) at e in
+      subst (λ (p : List ℕ × Input). Takes i p.0 p.1 × (length p.0 ≡ n)) (ok_is (take n i.bytes, behind n i) (b, new) k)
+      (took i n long, omega (arith, length-take n i.bytes))
+]
+
+pub byte_again : (target : Target) (v : ℕ) → Again target (fixed_at 1) v (v ∷ [])
+byte_again target v at rest = byte_at_again at target v rest
+
+-- ---- numbers
+
+pub address_again : (target : Target) (v : ℕ) (b : List ℕ) → Address target v b → Again target address_at v b
+unfolding address_at
+address_again target v b f at rest = fixed_at_again (byte_count target.size) at target v b rest f

@@ -1,0 +1,141 @@
+-- What it takes for an operation to have a spelling.
+use Rattle.std.proofs.Common.{◌≡◌, ℕ, zero, suc, map, get_or, subst, ◌%◌, ◌^◌, ◌<◌, List, [], ◌∷◌, ◌++◌, length, refl, inr, arith, ℤ, pos, negsuc}
+use Rattle.std.specs.Prelude.{Some, slice_get}
+use Rattle.std.proofs.lemmas.List.{length-map}
+use Rattle.std.proofs.lemmas.Option.{slice_get-map, slice_get-get_or}
+use Rattle.std.proofs.Math.Nat.{mod-eq_of_lt, mod-lt}
+use Rattle.std.specs.List.{AllByRecursion}
+use Rattle.dw_num.specs.declared.target.Target.{Target}
+use Rattle.dw_num.specs.declared.target.Size.{Size}
+use Rattle.dw_num.specs.declared.target.Size.TheVariants.{Four, Eight}
+use Rattle.dw_num.specs.Target.{byte_count, address_limit}
+use Rattle.dw_num.specs.Fixed.{fixed_bytes, Fixed}
+use Rattle.dw_num.specs.Leb.{Uleb, Sleb, Register}
+use Rattle.dw_num.specs.Shortest.{shortest_uleb, shortest_sleb}
+use Rattle.dw_num.proofs.Lent.Shortest.{shortest_uleb-spells, shortest_sleb-spells}
+use Rattle.dw_op.specs.declared.op.Op.{Op}
+use Rattle.dw_op.specs.declared.op.Op.TheVariants.{Addr, Deref, Const, Dup, Drop, Over, Pick, Swap, Rot, Abs, And, Div, Minus, Mod, Mul, Neg, Not, Or, Plus, PlusUconst, Shl, Shr, Shra, Xor, Bra, Eq, Ge, Gt, Le, Lt, Ne, Skip, Reg, Breg, Fbreg, Piece, DerefSize, Nop, PushObjectAddress, CallFrameCfa, BitPiece, Implicit, StackValue}
+use Rattle.dw_op.specs.Expression.{bare}
+use Rattle.dw_op.specs.Inner.ByOperation.{Const8u, Unsigned, Counted}
+use Rattle.dw_op.specs.Operands.{modulo}
+use Rattle.dw_op.specs.OpSpells.{Code, Both}
+use Rattle.dw_op.specs.Ranges.{InRange, AllInRange, FirstBadOperand}
+use Rattle.dw_op.specs.Inner.Ranges.{IsTyped, Fits}
+use Rattle.dw_op.proofs.Lent.Spellings.{InRangeSo, range_so, so_range}
+
+-- ---- one spelling of each operation
+
+limit_bytes : (s : Size) (a : ℕ) → a < address_limit s → a < 256 ^ byte_count s
+limit_bytes Four a h = omega arith
+limit_bytes Eight a h = omega arith
+
+limit_most : (s : Size) (v : ℕ) → v < address_limit s → v < 256 ^ 8
+limit_most Four a h = omega arith
+limit_most Eight a h = omega arith
+
+in_range_so : (t : Target) (len : ℕ) (op : Op) → IsTyped op → Fits t len op → InRangeSo t len (bare op)
+in_range_so t len (Addr a) y h = record { bytes = 0x03 ∷ fixed_bytes t.order (byte_count t.size) a; spelled = record { rest = fixed_bytes t.order (byte_count t.size) a; operands = record { bytes = refl; fits = limit_bytes t.size a h }; whole = refl }; within_list = tt }
+in_range_so t len Deref y h = record { bytes = 0x06 ∷ []; spelled = refl; within_list = tt }
+in_range_so t len (Const v) y h =
+    let operand : Code 0x0e (Unsigned (Fixed t.order 8) (pos v)) (0x0e ∷ fixed_bytes t.order 8 v) = record { rest = fixed_bytes t.order 8 v; operands = record { number = v; is = refl; spelled = record { bytes = refl; fits = limit_most t.size v h } }; whole = refl } in
+    record { bytes = 0x0e ∷ fixed_bytes t.order 8 v; spelled = record { form = Const8u; number = pos v; written = operand; value = let e : v % address_limit t.size ≡ v = mod-eq_of_lt h in omega arith }; within_list = tt }
+in_range_so t len Dup y h = record { bytes = 0x12 ∷ []; spelled = refl; within_list = tt }
+in_range_so t len Drop y h = record { bytes = 0x13 ∷ []; spelled = refl; within_list = tt }
+in_range_so t len Over y h = record { bytes = 0x14 ∷ []; spelled = refl; within_list = tt }
+in_range_so t len (Pick i) y h = record { bytes = 0x15 ∷ fixed_bytes t.order 1 i; spelled = record { rest = fixed_bytes t.order 1 i; operands = record { bytes = refl; fits = omega arith }; whole = refl }; within_list = tt }
+in_range_so t len Swap y h = record { bytes = 0x16 ∷ []; spelled = refl; within_list = tt }
+in_range_so t len Rot y h = record { bytes = 0x17 ∷ []; spelled = refl; within_list = tt }
+in_range_so t len Abs y h = record { bytes = 0x19 ∷ []; spelled = refl; within_list = tt }
+in_range_so t len And y h = record { bytes = 0x1a ∷ []; spelled = refl; within_list = tt }
+in_range_so t len Div y h = record { bytes = 0x1b ∷ []; spelled = refl; within_list = tt }
+in_range_so t len Minus y h = record { bytes = 0x1c ∷ []; spelled = refl; within_list = tt }
+in_range_so t len Mod y h = record { bytes = 0x1d ∷ []; spelled = refl; within_list = tt }
+in_range_so t len Mul y h = record { bytes = 0x1e ∷ []; spelled = refl; within_list = tt }
+in_range_so t len Neg y h = record { bytes = 0x1f ∷ []; spelled = refl; within_list = tt }
+in_range_so t len Not y h = record { bytes = 0x20 ∷ []; spelled = refl; within_list = tt }
+in_range_so t len Or y h = record { bytes = 0x21 ∷ []; spelled = refl; within_list = tt }
+in_range_so t len Plus y h = record { bytes = 0x22 ∷ []; spelled = refl; within_list = tt }
+in_range_so t len (PlusUconst n) y h = record { bytes = 0x23 ∷ shortest_uleb n; spelled = record { rest = shortest_uleb n; operands = shortest_uleb-spells n y; whole = refl }; within_list = tt }
+in_range_so t len Shl y h = record { bytes = 0x24 ∷ []; spelled = refl; within_list = tt }
+in_range_so t len Shr y h = record { bytes = 0x25 ∷ []; spelled = refl; within_list = tt }
+in_range_so t len Shra y h = record { bytes = 0x26 ∷ []; spelled = refl; within_list = tt }
+in_range_so t len Xor y h = record { bytes = 0x27 ∷ []; spelled = refl; within_list = tt }
+in_range_so t len (Bra i) y h = record { bytes = 0x28 ∷ 0 ∷ 0 ∷ []; spelled = record { rest = 0 ∷ 0 ∷ []; operands = (0, 0, omega arith, omega arith, refl); whole = refl }; within_list = h }
+in_range_so t len Eq y h = record { bytes = 0x29 ∷ []; spelled = refl; within_list = tt }
+in_range_so t len Ge y h = record { bytes = 0x2a ∷ []; spelled = refl; within_list = tt }
+in_range_so t len Gt y h = record { bytes = 0x2b ∷ []; spelled = refl; within_list = tt }
+in_range_so t len Le y h = record { bytes = 0x2c ∷ []; spelled = refl; within_list = tt }
+in_range_so t len Lt y h = record { bytes = 0x2d ∷ []; spelled = refl; within_list = tt }
+in_range_so t len Ne y h = record { bytes = 0x2e ∷ []; spelled = refl; within_list = tt }
+in_range_so t len (Skip i) y h = record { bytes = 0x2f ∷ 0 ∷ 0 ∷ []; spelled = record { rest = 0 ∷ 0 ∷ []; operands = (0, 0, omega arith, omega arith, refl); whole = refl }; within_list = h }
+in_range_so t len (Reg r) y h = record { bytes = 0x90 ∷ shortest_uleb r; spelled = inr (record { rest = shortest_uleb r; operands = (shortest_uleb-spells r (omega arith), y); whole = refl }); within_list = tt }
+in_range_so t len (Breg r n) y h =
+    let both : Both (Register r) (Sleb n) (shortest_uleb r ++ shortest_sleb n) = record { front = shortest_uleb r; back = shortest_sleb n; first = (shortest_uleb-spells r (omega arith), y.0); second = shortest_sleb-spells n y.1; whole = refl } in
+    record { bytes = 0x92 ∷ (shortest_uleb r ++ shortest_sleb n); spelled = inr (record { rest = shortest_uleb r ++ shortest_sleb n; operands = both; whole = refl }); within_list = tt }
+in_range_so t len (Fbreg n) y h = record { bytes = 0x91 ∷ shortest_sleb n; spelled = record { rest = shortest_sleb n; operands = shortest_sleb-spells n y; whole = refl }; within_list = tt }
+in_range_so t len (Piece n) y h = record { bytes = 0x93 ∷ shortest_uleb n; spelled = record { rest = shortest_uleb n; operands = shortest_uleb-spells n y; whole = refl }; within_list = tt }
+in_range_so t len (DerefSize k) y h = record { bytes = 0x94 ∷ fixed_bytes t.order 1 k; spelled = (record { rest = fixed_bytes t.order 1 k; operands = record { bytes = refl; fits = omega arith }; whole = refl }, h.0, h.1); within_list = tt }
+in_range_so t len Nop y h = record { bytes = 0x96 ∷ []; spelled = refl; within_list = tt }
+in_range_so t len PushObjectAddress y h = record { bytes = 0x97 ∷ []; spelled = refl; within_list = tt }
+in_range_so t len CallFrameCfa y h = record { bytes = 0x9c ∷ []; spelled = refl; within_list = tt }
+in_range_so t len (BitPiece size offset) y h =
+    let both : Both (Uleb size) (Uleb offset) (shortest_uleb size ++ shortest_uleb offset) = record { front = shortest_uleb size; back = shortest_uleb offset; first = shortest_uleb-spells size y.0; second = shortest_uleb-spells offset y.1; whole = refl } in
+    record { bytes = 0x9d ∷ (shortest_uleb size ++ shortest_uleb offset); spelled = record { rest = shortest_uleb size ++ shortest_uleb offset; operands = both; whole = refl }; within_list = tt }
+in_range_so t len (Implicit block) y h =
+    let counted : Counted block.now (shortest_uleb (length block.now) ++ block.now) = record { front = shortest_uleb (length block.now); back = block.now; first = shortest_uleb-spells (length block.now) y; second = refl; whole = refl } in
+    record { bytes = 0x9e ∷ (shortest_uleb (length block.now) ++ block.now); spelled = (refl, record { rest = shortest_uleb (length block.now) ++ block.now; operands = counted; whole = refl }); within_list = tt }
+in_range_so t len StackValue y h = record { bytes = 0x9f ∷ []; spelled = refl; within_list = tt }
+
+pub in_range : (t : Target) (len : ℕ) (op : Op) → IsTyped op → Fits t len op → InRange t len (bare op)
+in_range t len op y h = so_range t len (bare op) (in_range_so t len op y h)
+
+-- ---- and what a spelling says
+
+pub modulo_below : (s : Size) (z : ℤ) → modulo (address_limit s) z < address_limit s
+modulo_below Four (pos n) = mod-lt n (omega arith)
+modulo_below Eight (pos n) = mod-lt n (omega arith)
+modulo_below Four (negsuc n) = omega arith
+modulo_below Eight (negsuc n) = omega arith
+
+address_below : (s : Size) (a : ℕ) → a < 256 ^ byte_count s → a < address_limit s
+address_below Four a h = omega arith
+address_below Eight a h = omega arith
+
+fits_so : (t : Target) (len : ℕ) (op : Op) → InRangeSo t len (bare op) → Fits t len op
+fits_so t len (Addr a) r = address_below t.size a r.spelled.operands.fits
+fits_so t len (Const v) r = rw r.spelled.value (modulo_below t.size r.spelled.number)
+fits_so t len (Bra i) r = r.within_list
+fits_so t len (Skip i) r = r.within_list
+fits_so t len (DerefSize k) r = (r.spelled.1, r.spelled.2)
+fits_so t len op r = tt
+
+pub fits : (t : Target) (len : ℕ) (op : Op) → InRange t len (bare op) → Fits t len op
+fits t len op r = fits_so t len op (range_so t len (bare op) r)
+
+-- ---- lists
+
+pub all_of : (P : Op → Type 0) (ops : List Op) (d : Op) → ((j : ℕ) → j < length ops → P (bare (get_or ops j d))) → AllByRecursion P (map bare ops)
+all_of P [] d h = tt
+all_of P (op ∷ ops) d h = (h 0 (omega arith), all_of P ops d (λ j lt. h (suc j) (omega arith)))
+
+pub first_bad : (t : Target) (ops : List Op) (k : ℕ) (d : Op) → k < length ops → (InRange t (length ops) (bare (get_or ops k d)) → ⊥) → ((j : ℕ) → j < k → InRange t (length ops) (bare (get_or ops j d))) → FirstBadOperand t (map bare ops) k
+first_bad t ops k d lt bad earlier =
+    let same : length (map bare ops) ≡ length ops = length-map ops bare in
+    record {
+      op = bare (get_or ops k d);
+      is = rw (slice_get-map bare ops k, slice_get-get_or ops k d lt) refl;
+      bad = rw same bad;
+      earlier = λ j other before e. rw same (
+          let there : Some (bare (get_or ops j d)) ≡ Some other = rw (slice_get-map bare ops j, slice_get-get_or ops j d (omega arith)) at e in
+          let is : bare (get_or ops j d) ≡ other = cc in
+          subst (λ (o : Op). InRange t (length ops) o) is (earlier j before));
+    }
+
+pub listed_at : (P : Op → Type 0) (ops : List Op) (k : ℕ) (op : Op) → AllByRecursion P ops → slice_get ops k ≡ Some op → P op
+listed_at P [] k op h e = absurd cc
+listed_at P (o ∷ ops) zero op h e = let is : o ≡ op = cc in subst P is h.0
+listed_at P (o ∷ ops) (suc k) op h e = listed_at P ops k op h.1 e
+
+-- a list with an operation out of range is not in range
+pub not_in_range : (t : Target) (ops : List Op) (k : ℕ) → FirstBadOperand t ops k → AllInRange t ops → ⊥
+not_in_range t ops k f all = f.bad (listed_at (InRange t (length ops)) ops k f.op all f.is)

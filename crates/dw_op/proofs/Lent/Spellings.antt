@@ -1,0 +1,356 @@
+-- What is spelled by the table is what is spelled operation by operation.
+use Rattle.std.proofs.Common.{◌≡◌, ℕ, ◌+◌, ◌-◌, ◌<◌, true, false, List, [], ◌∷◌, Some, refl, sym, ap, subst, ◌∙◌, arith, inl, inr}
+use Rattle.std.specs.Prelude.{ℤ, pos}
+use Rattle.std.specs.Int.{w8, w16, w32, w64}
+use Rattle.std.proofs.lemmas.Bool.{cases_Bool, le-leb, le-ltb, lt-ltb}
+use Rattle.dw_num.specs.declared.target.Target.{Target}
+use Rattle.dw_num.specs.Leb.{Uleb, Sleb, Register}
+use Rattle.dw_num.specs.Fixed.{Fixed, FixedSigned, Address}
+use Rattle.dw_op.specs.declared.op.Op.{Op}
+use Rattle.dw_op.specs.declared.op.Op.TheVariants.{Addr, Deref, Const, Dup, Drop, Over, Pick, Swap, Rot, Abs, And, Div, Minus, Mod, Mul, Neg, Not, Or, Plus, PlusUconst, Shl, Shr, Shra, Xor, Bra, Eq, Ge, Gt, Le, Lt, Ne, Skip, Reg, Breg, Fbreg, Piece, DerefSize, Nop, PushObjectAddress, CallFrameCfa, BitPiece, Implicit, StackValue}
+use Rattle.dw_op.specs.Operands.{Field, fixed, twos, address, unsigned, signed, register, size, block, Value, Form, none, one, two, branch, constant, natural, implicit, form_table, in_range, form_of}
+use Rattle.dw_op.specs.Block.{branch_target}
+use Rattle.dw_op.specs.Least.{AtMost, Least}
+use Rattle.dw_op.specs.Ranges.{TargetWithin, InRange}
+use Rattle.dw_op.specs.OpSpells.{Code, Both, AnyTwo, Spells, FormSpells, OpSpells}
+use Rattle.dw_op.specs.Inner.ByOperation.{Alone, Counted, ConstForm, Const1u, Const1s, Const2u, Const2s, Const4u, Const4s, Const8u, Const8s, Constu, Consts, Lit, Unsigned, Written, IsSpelled}
+use Rattle.dw_op.proofs.Lent.ReadingLaws.{EachEntry, looked_up, range_is, some_is, small_const}
+
+-- ---- from the table
+
+module _ (t : Target) where
+  -- what spells a form behind a code spells its operation
+  abbrev FormSo : Form → ℕ → Type 0
+  FormSo form code = (op : Op) (b : List ℕ) → FormSpells t form op b → IsSpelled t op (code ∷ b)
+
+  made_so : (made op : Op) (b : List ℕ) → op ≡ made → IsSpelled t made b → IsSpelled t op b
+  made_so made op b e h = subst (λ (o : Op). IsSpelled t o b) (sym e) h
+
+  alone_so : (made : Op) (code : ℕ) → IsSpelled t made (code ∷ []) → FormSo (none made) code
+  alone_so made code h op b s = made_so made op (code ∷ b) s.0 (subst (λ (c : List ℕ). IsSpelled t made (code ∷ c)) (sym s.1) h)
+
+  one_so : (o : Field) (make : Value o → Op) (code : ℕ) → ((x : Value o) (b : List ℕ) → Spells t o x b → IsSpelled t (make x) (code ∷ b)) → FormSo (one o make) code
+  one_so o make code h op b s = made_so (make s.0) op (code ∷ b) s.1 (h s.0 b s.2)
+
+  two_so : (o p : Field) (make : Value o → Value p → Op) (code : ℕ) → ((x : Value o) (y : Value p) (b : List ℕ) → Both (Spells t o x) (Spells t p y) b → IsSpelled t (make x y) (code ∷ b)) → FormSo (two o p make) code
+  two_so o p make code h op b s = made_so (make s.0 s.1) op (code ∷ b) s.2 (h s.0 s.1 b s.3)
+
+  branch_so : (to : ℕ → Op) (code : ℕ) → ((i : ℕ) (b : List ℕ) → AnyTwo b → IsSpelled t (to i) (code ∷ b)) → FormSo (branch to) code
+  branch_so to code h op b s = made_so (to s.0) op (code ∷ b) s.1 (h s.0 b s.2)
+
+  table_so : EachEntry FormSo (form_table t)
+  table_so = (
+    one_so address Addr 0x03 (λ x b s. record { rest = b; operands = s; whole = refl }),
+    (
+      alone_so Deref 0x06 refl,
+      (
+        one_so (fixed 1) (natural t) 0x08 (λ x b s. record { form = Const1u; number = pos x; written = record { rest = b; operands = record { number = x; is = refl; spelled = s }; whole = refl }; value = refl }),
+        (
+          one_so (twos w8) (constant t) 0x09 (λ x b s. record { form = Const1s; number = x; written = record { rest = b; operands = s; whole = refl }; value = refl }),
+          (
+            one_so (fixed 2) (natural t) 0x0a (λ x b s. record { form = Const2u; number = pos x; written = record { rest = b; operands = record { number = x; is = refl; spelled = s }; whole = refl }; value = refl }),
+            (
+              one_so (twos w16) (constant t) 0x0b (λ x b s. record { form = Const2s; number = x; written = record { rest = b; operands = s; whole = refl }; value = refl }),
+              (
+                one_so (fixed 4) (natural t) 0x0c (λ x b s. record { form = Const4u; number = pos x; written = record { rest = b; operands = record { number = x; is = refl; spelled = s }; whole = refl }; value = refl }),
+                (
+                  one_so (twos w32) (constant t) 0x0d (λ x b s. record { form = Const4s; number = x; written = record { rest = b; operands = s; whole = refl }; value = refl }),
+                  (
+                    one_so (fixed 8) (natural t) 0x0e (λ x b s. record { form = Const8u; number = pos x; written = record { rest = b; operands = record { number = x; is = refl; spelled = s }; whole = refl }; value = refl }),
+                    (
+                      one_so (twos w64) (constant t) 0x0f (λ x b s. record { form = Const8s; number = x; written = record { rest = b; operands = s; whole = refl }; value = refl }),
+                      (
+                        one_so unsigned (natural t) 0x10 (λ x b s. record { form = Constu; number = pos x; written = record { rest = b; operands = record { number = x; is = refl; spelled = s }; whole = refl }; value = refl }),
+                        (
+                          one_so signed (constant t) 0x11 (λ x b s. record { form = Consts; number = x; written = record { rest = b; operands = s; whole = refl }; value = refl }),
+                          (
+                            alone_so Dup 0x12 refl,
+                            (
+                              alone_so Drop 0x13 refl,
+                              (
+                                alone_so Over 0x14 refl,
+                                (
+                                  one_so (fixed 1) Pick 0x15 (λ x b s. record { rest = b; operands = s; whole = refl }),
+                                  (
+                                    alone_so Swap 0x16 refl,
+                                    (
+                                      alone_so Rot 0x17 refl,
+                                      (
+                                        alone_so Abs 0x19 refl,
+                                        (
+                                          alone_so And 0x1a refl,
+                                          (
+                                            alone_so Div 0x1b refl,
+                                            (
+                                              alone_so Minus 0x1c refl,
+                                              (
+                                                alone_so Mod 0x1d refl,
+                                                (
+                                                  alone_so Mul 0x1e refl,
+                                                  (
+                                                    alone_so Neg 0x1f refl,
+                                                    (
+                                                      alone_so Not 0x20 refl,
+                                                      (
+                                                        alone_so Or 0x21 refl,
+                                                        (
+                                                          alone_so Plus 0x22 refl,
+                                                          (
+                                                            one_so unsigned PlusUconst 0x23 (λ x b s. record { rest = b; operands = s; whole = refl }),
+                                                            (
+                                                              alone_so Shl 0x24 refl,
+                                                              (
+                                                                alone_so Shr 0x25 refl,
+                                                                (
+                                                                  alone_so Shra 0x26 refl,
+                                                                  (
+                                                                    alone_so Xor 0x27 refl,
+                                                                    (
+                                                                      branch_so Bra 0x28 (λ i b s. record { rest = b; operands = s; whole = refl }),
+                                                                      (
+                                                                        alone_so Eq 0x29 refl,
+                                                                        (
+                                                                          alone_so Ge 0x2a refl,
+                                                                          (
+                                                                            alone_so Gt 0x2b refl,
+                                                                            (
+                                                                              alone_so Le 0x2c refl,
+                                                                              (
+                                                                                alone_so Lt 0x2d refl,
+                                                                                (
+                                                                                  alone_so Ne 0x2e refl,
+                                                                                  (
+                                                                                    branch_so Skip 0x2f (λ i b s. record { rest = b; operands = s; whole = refl }),
+                                                                                    (
+                                                                                      one_so register Reg 0x90 (λ x b s. inr (record { rest = b; operands = s; whole = refl })),
+                                                                                      (
+                                                                                        one_so signed Fbreg 0x91 (λ x b s. record { rest = b; operands = s; whole = refl }),
+                                                                                        (
+                                                                                          two_so register signed Breg 0x92 (λ x y b s. inr (record { rest = b; operands = s; whole = refl })),
+                                                                                          (
+                                                                                            one_so unsigned Piece 0x93 (λ x b s. record { rest = b; operands = s; whole = refl }),
+                                                                                            (
+                                                                                              one_so size DerefSize 0x94 (λ x b s. (record { rest = b; operands = s.0; whole = refl }, s.1, s.2)),
+                                                                                              (
+                                                                                                alone_so Nop 0x96 refl,
+                                                                                                (
+                                                                                                  alone_so PushObjectAddress 0x97 refl,
+                                                                                                  (
+                                                                                                    alone_so CallFrameCfa 0x9c refl,
+                                                                                                    (
+                                                                                                      two_so unsigned unsigned BitPiece 0x9d (λ x y b s. record { rest = b; operands = s; whole = refl }),
+                                                                                                      (
+                                                                                                        one_so block implicit 0x9e (λ x b s. (refl, record { rest = b; operands = s; whole = refl })),
+                                                                                                        (alone_so StackValue 0x9f refl, tt),
+                                                                                                      ),
+                                                                                                    ),
+                                                                                                  ),
+                                                                                                ),
+                                                                                              ),
+                                                                                            ),
+                                                                                          ),
+                                                                                        ),
+                                                                                      ),
+                                                                                    ),
+                                                                                  ),
+                                                                                ),
+                                                                              ),
+                                                                            ),
+                                                                          ),
+                                                                        ),
+                                                                      ),
+                                                                    ),
+                                                                  ),
+                                                                ),
+                                                              ),
+                                                            ),
+                                                          ),
+                                                        ),
+                                                      ),
+                                                    ),
+                                                  ),
+                                                ),
+                                              ),
+                                            ),
+                                          ),
+                                        ),
+                                      ),
+                                    ),
+                                  ),
+                                ),
+                              ),
+                            ),
+                          ),
+                        ),
+                      ),
+                    ),
+                  ),
+                ),
+              ),
+            ),
+          ),
+        ),
+      ),
+    ),
+  )
+
+  lit_so : (code n : ℕ) → code ≡ 0x30 + n → n < 32 → FormSo (none (Const n)) code
+  lit_so code n is lt =
+      alone_so (Const n) code (record { form = Lit; number = pos n; written = record { number = n; is = refl; spelled = (lt, ap (λ (c : ℕ). c ∷ []) is) }; value = small_const t.size n (omega arith) })
+
+  reg_so : (code n : ℕ) → code ≡ 0x50 + n → n < 32 → FormSo (none (Reg n)) code
+  reg_so code n is lt = alone_so (Reg n) code (inl (lt, ap (λ (c : ℕ). c ∷ []) is))
+
+  breg_so : (code n : ℕ) → code ≡ 0x70 + n → n < 32 → FormSo (one signed (Breg n)) code
+  breg_so code n is lt = one_so signed (Breg n) code (λ z b s. inl (lt, record { rest = b; operands = s; whole = ap (λ (c : ℕ). c ∷ b) is }))
+
+  known_so : (code : ℕ) (form : Form) → form_of t code ≡ Some form → FormSo form code
+  unfolding form_of
+  known_so code form e = elim (cases_Bool (in_range 0x30 0x50 code)) [
+    | inl y ↦
+        let r = range_is 0x30 0x50 code y in
+        subst (λ (x : Form). FormSo x code) (some_is (none (Const (code - 0x30))) form (rw y at e)) (lit_so code (code - 0x30) (omega (arith, r.0)) (omega (arith, r.1)))
+    | inr n ↦ let e1 = rw n at e in elim (cases_Bool (in_range 0x50 0x70 code)) [
+      | inl y ↦
+          let r = range_is 0x50 0x70 code y in
+          subst (λ (x : Form). FormSo x code) (some_is (none (Reg (code - 0x50))) form (rw y at e1)) (reg_so code (code - 0x50) (omega (arith, r.0)) (omega (arith, r.0, r.1)))
+      | inr n ↦ let e2 = rw n at e1 in elim (cases_Bool (in_range 0x70 0x90 code)) [
+        | inl y ↦
+            let r = range_is 0x70 0x90 code y in
+            subst (λ (x : Form). FormSo x code) (some_is (one signed (Breg (code - 0x70))) form (rw y at e2)) (breg_so code (code - 0x70) (omega (arith, r.0)) (omega (arith, r.0, r.1)))
+        | inr n ↦ looked_up FormSo (form_table t) code form table_so (rw n at e2)
+      ]
+    ]
+  ]
+
+  -- what is spelled by the table is spelled so
+  pub by_table : (op : Op) (b : List ℕ) → OpSpells t op b → IsSpelled t op b
+  by_table op b h = subst (IsSpelled t op) (sym h.whole) (known_so h.code h.form h.known op h.rest h.operands)
+
+-- ---- into it
+
+module _ (t : Target) where
+  coded : (code : ℕ) (form : Form) (op : Op) (b : List ℕ) (Operands : List ℕ → Type 0) → Code code Operands b → form_of t code ≡ Some form → ((c : List ℕ) → Operands c → FormSpells t form op c) → OpSpells t op b
+  coded code form op b Operands h known to = record { code = code; form = form; rest = h.rest; known = known; whole = h.whole; operands = to h.rest h.operands }
+
+  alone : (code : ℕ) (op : Op) (b : List ℕ) → Alone code b → form_of t code ≡ Some (none op) → OpSpells t op b
+  alone code op b h known = record { code = code; form = none op; rest = []; known = known; whole = h; operands = (refl, refl) }
+
+  lit_known : (n : ℕ) → n < 32 → form_of t (0x30 + n) ≡ Some (none (Const n))
+  unfolding form_of
+  lit_known n lt =
+      let here : in_range 0x30 0x50 (0x30 + n) ≡ true = rw (le-leb 0x30 (0x30 + n) (omega arith), lt-ltb (0x30 + n) 0x50 (omega arith)) refl in
+      rw here (ap (λ (m : ℕ). Some (none (Const m))) (omega arith))
+
+  reg_known : (n : ℕ) → n < 32 → form_of t (0x50 + n) ≡ Some (none (Reg n))
+  unfolding form_of
+  reg_known n lt =
+      let past : in_range 0x30 0x50 (0x50 + n) ≡ false = rw (le-leb 0x30 (0x50 + n) (omega arith), le-ltb (0x50 + n) 0x50 (omega arith)) refl in
+      let here : in_range 0x50 0x70 (0x50 + n) ≡ true = rw (le-leb 0x50 (0x50 + n) (omega arith), lt-ltb (0x50 + n) 0x70 (omega arith)) refl in
+      rw (past, here) (ap (λ (m : ℕ). Some (none (Reg m))) (omega arith))
+
+  breg_known : (n : ℕ) → n < 32 → form_of t (0x70 + n) ≡ Some (one signed (Breg n))
+  unfolding form_of
+  breg_known n lt =
+      let past : in_range 0x30 0x50 (0x70 + n) ≡ false = rw (le-leb 0x30 (0x70 + n) (omega arith), le-ltb (0x70 + n) 0x50 (omega arith)) refl in
+      let past2 : in_range 0x50 0x70 (0x70 + n) ≡ false = rw (le-leb 0x50 (0x70 + n) (omega arith), le-ltb (0x70 + n) 0x70 (omega arith)) refl in
+      let here : in_range 0x70 0x90 (0x70 + n) ≡ true = rw (le-leb 0x70 (0x70 + n) (omega arith), lt-ltb (0x70 + n) 0x90 (omega arith)) refl in
+      rw (past, past2, here) (ap (λ (m : ℕ). Some (one signed (Breg m))) (omega arith))
+
+  natural_in : (code : ℕ) (o : Field) (make : Value o → Op) (Number : ℕ → List ℕ → Type 0) (z : ℤ) (b : List ℕ) → Code code (Unsigned Number z) b → form_of t code ≡ Some (one o make)
+      → ((n : ℕ) (c : List ℕ) → Number n c → FormSpells t (one o make) (constant t (pos n)) c) → OpSpells t (constant t z) b
+  natural_in code o make Number z b h known to =
+      subst (λ (w : ℤ). OpSpells t (constant t w) b) (sym h.operands.is)
+      (record { code = code; form = one o make; rest = h.rest; known = known; whole = h.whole; operands = to h.operands.number h.rest h.operands.spelled })
+
+  constant_in : (form : ConstForm) (z : ℤ) (b : List ℕ) → Written t.order form z b → OpSpells t (constant t z) b
+  unfolding form_of
+  constant_in Const1u z b h = natural_in 0x08 (fixed 1) (natural t) (Fixed t.order 1) z b h refl (λ n c s. (n, refl, s))
+  constant_in Const1s z b h = coded 0x09 (one (twos w8) (constant t)) (constant t z) b (FixedSigned t.order w8 z) h refl (λ c s. (z, refl, s))
+  constant_in Const2u z b h = natural_in 0x0a (fixed 2) (natural t) (Fixed t.order 2) z b h refl (λ n c s. (n, refl, s))
+  constant_in Const2s z b h = coded 0x0b (one (twos w16) (constant t)) (constant t z) b (FixedSigned t.order w16 z) h refl (λ c s. (z, refl, s))
+  constant_in Const4u z b h = natural_in 0x0c (fixed 4) (natural t) (Fixed t.order 4) z b h refl (λ n c s. (n, refl, s))
+  constant_in Const4s z b h = coded 0x0d (one (twos w32) (constant t)) (constant t z) b (FixedSigned t.order w32 z) h refl (λ c s. (z, refl, s))
+  constant_in Const8u z b h = natural_in 0x0e (fixed 8) (natural t) (Fixed t.order 8) z b h refl (λ n c s. (n, refl, s))
+  constant_in Const8s z b h = coded 0x0f (one (twos w64) (constant t)) (constant t z) b (FixedSigned t.order w64 z) h refl (λ c s. (z, refl, s))
+  constant_in Constu z b h = natural_in 0x10 unsigned (natural t) Uleb z b h refl (λ n c s. (n, refl, s))
+  constant_in Consts z b h = coded 0x11 (one signed (constant t)) (constant t z) b (Sleb z) h refl (λ c s. (z, refl, s))
+  constant_in Lit z b h =
+      let same : constant t z ≡ Const h.number = ap (constant t) h.is ∙ ap Const (sym (small_const t.size h.number (let lt = h.spelled.0 in omega arith))) in
+      subst (λ (op : Op). OpSpells t op b) (sym same) (alone (0x30 + h.number) (Const h.number) b h.spelled.1 (lit_known h.number h.spelled.0))
+
+  -- what is spelled so is spelled by the table
+  pub in_table : (op : Op) (b : List ℕ) → IsSpelled t op b → OpSpells t op b
+  unfolding form_of
+  in_table Deref b h = alone 0x06 Deref b h refl
+  in_table Dup b h = alone 0x12 Dup b h refl
+  in_table Drop b h = alone 0x13 Drop b h refl
+  in_table Over b h = alone 0x14 Over b h refl
+  in_table Swap b h = alone 0x16 Swap b h refl
+  in_table Rot b h = alone 0x17 Rot b h refl
+  in_table Abs b h = alone 0x19 Abs b h refl
+  in_table And b h = alone 0x1a And b h refl
+  in_table Div b h = alone 0x1b Div b h refl
+  in_table Minus b h = alone 0x1c Minus b h refl
+  in_table Mod b h = alone 0x1d Mod b h refl
+  in_table Mul b h = alone 0x1e Mul b h refl
+  in_table Neg b h = alone 0x1f Neg b h refl
+  in_table Not b h = alone 0x20 Not b h refl
+  in_table Or b h = alone 0x21 Or b h refl
+  in_table Plus b h = alone 0x22 Plus b h refl
+  in_table Shl b h = alone 0x24 Shl b h refl
+  in_table Shr b h = alone 0x25 Shr b h refl
+  in_table Shra b h = alone 0x26 Shra b h refl
+  in_table Xor b h = alone 0x27 Xor b h refl
+  in_table Eq b h = alone 0x29 Eq b h refl
+  in_table Ge b h = alone 0x2a Ge b h refl
+  in_table Gt b h = alone 0x2b Gt b h refl
+  in_table Le b h = alone 0x2c Le b h refl
+  in_table Lt b h = alone 0x2d Lt b h refl
+  in_table Ne b h = alone 0x2e Ne b h refl
+  in_table Nop b h = alone 0x96 Nop b h refl
+  in_table PushObjectAddress b h = alone 0x97 PushObjectAddress b h refl
+  in_table CallFrameCfa b h = alone 0x9c CallFrameCfa b h refl
+  in_table StackValue b h = alone 0x9f StackValue b h refl
+  in_table (Addr a) b h = coded 0x03 (one address Addr) (Addr a) b (Address t a) h refl (λ c s. (a, refl, s))
+  in_table (Const v) b h = subst (λ (n : ℕ). OpSpells t (Const n) b) (sym h.value) (constant_in h.form h.number b h.written)
+  in_table (Pick i) b h = coded 0x15 (one (fixed 1) Pick) (Pick i) b (Fixed t.order 1 i) h refl (λ c s. (i, refl, s))
+  in_table (PlusUconst n) b h = coded 0x23 (one unsigned PlusUconst) (PlusUconst n) b (Uleb n) h refl (λ c s. (n, refl, s))
+  in_table (Bra i) b h = coded 0x28 (branch Bra) (Bra i) b AnyTwo h refl (λ c s. (i, refl, s))
+  in_table (Skip i) b h = coded 0x2f (branch Skip) (Skip i) b AnyTwo h refl (λ c s. (i, refl, s))
+  in_table (Reg r) b (inl h) = alone (0x50 + r) (Reg r) b h.1 (reg_known r h.0)
+  in_table (Reg r) b (inr h) = coded 0x90 (one register Reg) (Reg r) b (Register r) h refl (λ c s. (r, refl, s))
+  in_table (Breg r z) b (inl h) = coded (0x70 + r) (one signed (Breg r)) (Breg r z) b (Sleb z) h.1 (breg_known r h.0) (λ c s. (z, refl, s))
+  in_table (Breg r z) b (inr h) = coded 0x92 (two register signed Breg) (Breg r z) b (Both (Register r) (Sleb z)) h refl (λ c s. (r, z, refl, s))
+  in_table (Fbreg z) b h = coded 0x91 (one signed Fbreg) (Fbreg z) b (Sleb z) h refl (λ c s. (z, refl, s))
+  in_table (Piece n) b h = coded 0x93 (one unsigned Piece) (Piece n) b (Uleb n) h refl (λ c s. (n, refl, s))
+  in_table (DerefSize k) b h = coded 0x94 (one size DerefSize) (DerefSize k) b (Fixed t.order 1 k) h.0 refl (λ c s. (k, refl, (s, h.1, h.2)))
+  in_table (BitPiece m n) b h = coded 0x9d (two unsigned unsigned BitPiece) (BitPiece m n) b (Both (Uleb m) (Uleb n)) h refl (λ c s. (m, n, refl, s))
+  in_table (Implicit bytes) b h =
+      let same : Implicit bytes ≡ implicit bytes.now = ap (λ (p : ℕ × ℕ). Implicit (record { ref_ptr = p; now = bytes.now })) h.0 in
+      coded 0x9e (one block implicit) (Implicit bytes) b (Counted bytes.now) h.1 refl (λ c s. (bytes.now, same, s))
+
+-- ---- ranges and least spellings
+
+-- some bytes spell the operation so, and its branch stays in the list
+pub record InRangeSo (t : Target) (len : ℕ) (op : Op) : Type 0 where
+  pub bytes : List ℕ
+  pub spelled : IsSpelled t op bytes
+  pub within_list : TargetWithin len (branch_target op)
+
+-- the least of what spells the operation so
+pub record LeastSo (t : Target) (op : Op) (bytes : List ℕ) : Type 0 where
+  pub spells : IsSpelled t op bytes
+  pub least : (other : List ℕ) → IsSpelled t op other → AtMost bytes other
+
+pub range_so : (t : Target) (len : ℕ) (op : Op) → InRange t len op → InRangeSo t len op
+range_so t len op r = record { bytes = r.bytes; spelled = by_table t op r.bytes r.spelled; within_list = r.within_list }
+
+pub so_range : (t : Target) (len : ℕ) (op : Op) → InRangeSo t len op → InRange t len op
+so_range t len op r = record { bytes = r.bytes; spelled = in_table t op r.bytes r.spelled; within_list = r.within_list }
+
+pub least_so : (t : Target) (op : Op) (b : List ℕ) → Least t op b → LeastSo t op b
+least_so t op b l = record { spells = by_table t op b l.spells; least = λ other s. l.least other (in_table t op other s) }
+
+pub so_least : (t : Target) (op : Op) (b : List ℕ) → LeastSo t op b → Least t op b
+so_least t op b l = record { spells = in_table t op b l.spells; least = λ other s. l.least other (by_table t op other s) }

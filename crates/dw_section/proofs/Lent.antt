@@ -1,0 +1,19 @@
+-- Lemmas that the proofs of upper crates use.
+pub mod FieldTable
+pub mod HeaderLaws
+pub mod Index
+pub mod Heads
+pub mod CheckFirst
+pub mod Judged
+pub mod FdeLookup
+pub mod ChangeLaws
+pub mod Registers
+pub mod Nops
+pub mod Agrees
+pub mod Rowed
+pub mod Sections
+pub mod Sames
+pub mod Exists
+pub mod Sounds
+pub mod Totals
+pub mod OneLengths

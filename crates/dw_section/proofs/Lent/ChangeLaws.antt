@@ -1,0 +1,271 @@
+-- What changes among the rows of an FDE are the changes of the FDE.
+use Rattle.std.proofs.Common.{◌≡◌, ℕ, zero, suc, ◌<◌, ◌≤◌, false, List, [], ◌∷◌, Option, Some, None, Ok, refl, sym, ap, subst, ◌∙◌, arith, inl, inr}
+use Rattle.std.specs.Prelude.{nat_le}
+use Rattle.std.proofs.lemmas.Bool.{cases_lt, le-leb}
+use Rattle.std.proofs.lemmas.Bool.Decides.{leb_tells}
+use Rattle.dw_num.specs.Input.{Input}
+use Rattle.dw_cfa.specs.declared.instr.Factors.{Factors}
+use Rattle.dw_cfa.specs.declared.instr.Instr.{Instr}
+use Rattle.dw_cfa.specs.declared.rule.CfaRule.{CfaRule}
+use Rattle.dw_cfa.specs.declared.rule.RegRule.{RegRule}
+use Rattle.dw_cfa.specs.Behind.{Leaves, HoldsBehind}
+use Rattle.dw_cfa.specs.Inner.Exact.{RulesBehind}
+use Rattle.dw_cfa.specs.Column.{cfa_after, rule_after}
+use Rattle.dw_cfa.specs.declared.running.LocatedRow.{LocatedRow}
+use Rattle.dw_cfa.specs.Location.{Counts}
+use Rattle.dw_cfa.specs.Laws.{HoldsAfter}
+use Rattle.dw_cfa.specs.Rows.{Rules, AreSpecified}
+use Rattle.dw_cfa.specs.Runs.{Outcome, row_then}
+use Rattle.dw_cfa.specs.Stepping.{Stepping, Advances}
+use Rattle.dw_cfa.specs.RuleAt.{or_here, last_at, NeverFalls}
+use Rattle.dw_num.specs.Target.{address_limit}
+use Rattle.dw_cfa.specs.InstrSpells.{Program}
+use Rattle.dw_cfa.specs.Inner.Exact.{RowsOf}
+use Rattle.dw_cfa.proofs.Lent.BehindLaws.{behind_gives}
+use Rattle.dw_cfa.proofs.Lent.FaultLaws.{initial_leaves}
+use Rattle.dw_cfa.proofs.Lent.RunLaws.{run_halves, program_placed}
+use Rattle.dw_cfa.proofs.Lent.Counting.{one_count, counts_exists}
+use Rattle.dw_cfa.proofs.Lent.SameRows.{same_rows}
+use Rattle.dw_section.specs.Changes.{Stays, Differs, StayFrom, HoldsAt, ChangesBehind, AreChanges, Before, Passed, Among}
+use Rattle.dw_section.specs.Laws.{AreListed}
+
+-- ---- the last row at an address
+
+not_le : (m n : ℕ) → n < m → nat_le m n ≡ false
+not_le m n lt = elim (leb_tells m n) [ inl p ↦ absurd (omega (arith, p.1)) | inr p ↦ p.0 ]
+
+found_here : (a : ℕ) (first : LocatedRow) (rest : Option Rules) → first.location ≤ a → (x : Rules) × (or_here a first rest ≡ Some x)
+found_here a first (Some row) le = (row, refl)
+found_here a first None le = (first.row, rw (le-leb first.location a le) refl)
+
+or_later : (a : ℕ) (first : LocatedRow) (rest : Option Rules) (x : Rules) → rest ≡ Some x → or_here a first rest ≡ Some x
+or_later a first (Some row) x e = e
+or_later a first None x e = absurd cc
+
+-- no row of those that start behind an address is there
+none_there : (a low : ℕ) (rows : List LocatedRow) → NeverFalls low rows → a < low → last_at a rows ≡ None
+none_there a low [] falls lt = refl
+none_there a low (row ∷ rows) falls lt = rw (none_there a row.location rows falls.1 (omega (arith, falls.0)), not_le row.location a (omega (arith, falls.0))) refl
+
+module _ (initial instrs : List Instr) (begin end : ℕ) where
+  -- the row has the rules at an address
+  pub record HasRow (a : ℕ) (row : Rules) : Type 0 where
+    pub k : ℕ
+    pub counts : Counts begin instrs a k
+    pub holds : HoldsAfter initial instrs k row
+    pub listed : AreSpecified 0 row.registers
+
+  holds_at : (a : ℕ) (row : Rules) → HasRow a row → HoldsAt initial instrs begin a row
+  holds_at a row h k counts = subst (λ (n : ℕ). HoldsAfter initial instrs n row) (one_count begin instrs a h.k k h.counts counts) h.holds
+
+  stays : (a b : ℕ) (row : Rules) → HasRow a row → HasRow b row → Stays initial instrs begin a b
+  stays a b row h g j k cj ck =
+      let x = holds_at a row h j cj in
+      let y = holds_at b row g k ck in
+      record { cfa = sym x.cfa ∙ y.cfa; rules = λ r. sym (x.rules r) ∙ y.rules r }
+
+  differs : (a b : ℕ) (x y : Rules) → HasRow a x → HasRow b y → (x ≡ y → ⊥) → Differs initial instrs begin a b
+  differs a b x y h g other = record {
+    j = h.k;
+    k = g.k;
+    before = h.counts;
+    after = g.counts;
+    other = λ same. other (same_rows x y h.listed g.listed (h.holds.cfa ∙ same.cfa ∙ sym g.holds.cfa) (λ r. h.holds.rules r ∙ same.rules r ∙ sym (g.holds.rules r)));
+  }
+
+  -- from the first of the rows on, the last at or below an address has its rules
+  abbrev pub Hold : List LocatedRow → Type 0
+  Hold [] = Unit {0}
+  Hold (row ∷ rows) = (a : ℕ) → row.location ≤ a → (x : Rules) × (last_at a (row ∷ rows) ≡ Some x) × HasRow a x
+
+  hold_more : (row : LocatedRow) (rows : List LocatedRow) → NeverFalls row.location rows → Hold (row ∷ rows) → Hold rows
+  hold_more row [] falls h = tt
+  hold_more row (next ∷ rows) falls h = λ a le.
+      let here = h a (omega (arith, le, falls.0)) in
+      let later = found_here a next (last_at a rows) le in
+      let same : Some later.0 ≡ Some here.0 = sym (or_later a row (last_at a (next ∷ rows)) later.0 later.1) ∙ here.1 in
+      let is : here.0 ≡ later.0 = cc in
+      (later.0, later.1, subst (HasRow a) is here.2)
+
+  -- and the first of them up to the next
+  hold_first : (row : LocatedRow) (rows : List LocatedRow) → NeverFalls row.location rows → Hold (row ∷ rows) → (a : ℕ) → row.location ≤ a → Before end a rows → HasRow a row.row
+  hold_first row [] falls h a le before =
+      let here = h a le in
+      let same : Some row.row ≡ Some here.0 = sym (rw (le-leb row.location a le) refl) ∙ here.1 in
+      let is : here.0 ≡ row.row = cc in
+      subst (HasRow a) is here.2
+  hold_first row (next ∷ rows) falls h a le before =
+      let here = h a le in
+      let none = none_there a next.location (next ∷ rows) (omega arith, falls.1) before.0 in
+      let same : Some row.row ≡ Some here.0 = sym (rw (none, le-leb row.location a le) refl) ∙ here.1 in
+      let is : here.0 ≡ row.row = cc in
+      subst (HasRow a) is here.2
+
+  -- what comes before a row comes before those that follow it
+  before_more : (a : ℕ) (row : LocatedRow) (rows : List LocatedRow) → NeverFalls row.location rows → a < row.location → a < end → Before end a rows
+  before_more a row [] falls lt within = within
+  before_more a row (next ∷ rows) falls lt within = (omega (arith, falls.0), within)
+
+  before_end : (a : ℕ) (rows : List LocatedRow) → Before end a rows → a < end
+  before_end a [] h = h
+  before_end a (next ∷ rows) h = h.1
+
+  stay_from : (low high : ℕ) (shown : Rules) → ((a : ℕ) → low ≤ a → a < high → HasRow a shown) → StayFrom initial instrs begin low high
+  stay_from low high shown h a le lt = stays a (suc a) shown (h a le (omega arith)) (h (suc a) (omega arith) lt)
+
+  before_down : (a b : ℕ) (rows : List LocatedRow) → b ≤ a → Before end a rows → Before end b rows
+  before_down a b [] le h = omega (arith, h)
+  before_down a b (next ∷ rows) le h = (omega (arith, h.0), omega (arith, h.1))
+
+  -- a row that is passed leaves what was shown
+  passes : (row : LocatedRow) (rows : List LocatedRow) (s : ℕ) (shown : Rules) → NeverFalls row.location rows → Hold (row ∷ rows) → Passed end (Some shown) row rows
+      → ((a : ℕ) → s ≤ a → Before end a (row ∷ rows) → HasRow a shown) → (a : ℕ) → s ≤ a → Before end a rows → HasRow a shown
+  passes row rows s shown falls h passed held a le before = elim (cases_lt a row.location) [
+    | inl lt ↦ held a le (lt, before_end a rows before)
+    | inr ge ↦ elim passed [
+      | inl hidden ↦ absurd (hidden (before_down a row.location rows ge before))
+      | inr same ↦ let is : row.row ≡ shown = cc in subst (HasRow a) is (hold_first row rows falls h a ge before)
+    ]
+  ]
+
+  pred : (low n : ℕ) → low < n → (a : ℕ) × (n ≡ suc a)
+  pred low zero lt = absurd (omega arith)
+  pred low (suc a) lt = (a, refl)
+
+  -- the changes behind an address from which on a row was shown
+  found : (rows : List LocatedRow) (low s : ℕ) (shown : Rules) (changes : List (ℕ × Rules)) → NeverFalls low rows → Hold rows → Before end s rows
+      → ((a : ℕ) → s ≤ a → Before end a rows → HasRow a shown) → Among end (Some shown) rows changes → ChangesBehind initial instrs begin end s changes
+  found [] low s shown changes falls h before held is =
+      subst (ChangesBehind initial instrs begin end s) (sym is) (stay_from s end shown held)
+  found (row ∷ rows) low s shown changes falls h before held (inl (passed, rest)) =
+      found rows row.location s shown changes falls.1 (hold_more row rows falls.1 h) (before_more s row rows falls.1 before.0 before.1) (passes row rows s shown falls.1 h passed held) rest
+  found (row ∷ rows) low s shown changes falls h before held (inr (shows, (more, is, rest))) =
+      let at = pred s row.location before.0 in
+      let a = at.0 in
+      let here : HasRow row.location row.row = hold_first row rows falls.1 h row.location (omega arith) shows.0 in
+      let within = before_end row.location rows shows.0 in
+      let was : HasRow a shown = held a (omega (arith, before.0, at.1)) (omega (arith, at.1), omega (arith, at.1, within)) in
+      let next = subst (λ (n : ℕ). HasRow n row.row) at.1 here in
+      let behind = found rows row.location row.location row.row more falls.1 (hold_more row rows falls.1 h) shows.0 (λ b le lt. hold_first row rows falls.1 h b le lt) rest in
+      subst (ChangesBehind initial instrs begin end s) (sym is) (
+        a,
+        at.1,
+        omega (arith, before.0, at.1),
+        omega (arith, within, at.1),
+        stay_from s (suc a) shown (λ b le lt. held b le (omega (arith, lt, at.1), omega (arith, lt, at.1, within))),
+        differs a (suc a) shown row.row was next (λ same. shows.1 (ap Some same)),
+        holds_at (suc a) row.row next,
+        subst (λ (n : ℕ). ChangesBehind initial instrs begin end n more) at.1 behind,
+      )
+
+  -- the first of the rows starts at the begin
+  abbrev pub StartsAt : List LocatedRow → Type 0
+  StartsAt [] = ⊥
+  StartsAt (row ∷ rows) = row.location ≡ begin
+
+  -- rows of no length come first
+  still_starts : (rows : List LocatedRow) → begin < end → NeverFalls begin rows → (Before end begin rows → ⊥) → StartsAt rows
+  still_starts [] nonempty falls hidden = absurd (hidden nonempty)
+  still_starts (next ∷ rows) nonempty falls hidden = elim (cases_lt begin next.location) [
+    | inl lt ↦ absurd (hidden (lt, nonempty))
+    | inr le ↦ omega (arith, falls.0)
+  ]
+
+  pub all_found : (rows : List LocatedRow) (changes : List (ℕ × Rules)) → NeverFalls begin rows → Hold rows → StartsAt rows → begin < end → Among end None rows changes → AreChanges initial instrs begin end changes
+  all_found [] changes falls h starts nonempty is = absurd starts
+  all_found (row ∷ rows) changes falls h starts nonempty (inl (inl hidden, rest)) =
+      let after : NeverFalls begin rows = subst (λ (n : ℕ). NeverFalls n rows) starts falls.1 in
+      let starts_more = still_starts rows nonempty after (subst (λ (n : ℕ). Before end n rows → ⊥) starts hidden) in
+      all_found rows changes after (hold_more row rows falls.1 h) starts_more nonempty rest
+  all_found (row ∷ rows) changes falls h starts nonempty (inl (inr none, rest)) = absurd cc
+  all_found (row ∷ rows) changes falls h starts nonempty (inr (shows, (more, is, rest))) =
+      let here : HasRow row.location row.row = hold_first row rows falls.1 h row.location (omega arith) shows.0 in
+      let behind = found rows row.location row.location row.row more falls.1 (hold_more row rows falls.1 h) shows.0 (λ b le lt. hold_first row rows falls.1 h b le lt) rest in
+      subst (AreChanges initial instrs begin end) (sym is) (
+        starts,
+        holds_at begin row.row (subst (λ (n : ℕ). HasRow n row.row) starts here),
+        subst (λ (n : ℕ). ChangesBehind initial instrs begin end n more) starts behind,
+      )
+
+  -- ---- the rows of an FDE's program
+
+  -- the rows that are shown list their registers once, ascending
+  pub listed_among : (shown : Option Rules) (rows : List LocatedRow) (changes : List (ℕ × Rules)) (low : ℕ) → NeverFalls low rows → Hold rows → Among end shown rows changes → AreListed changes
+  listed_among shown [] changes low falls h is = subst AreListed (sym is) tt
+  listed_among shown (row ∷ rows) changes low falls h (inl (passed, rest)) = listed_among shown rows changes row.location falls.1 (hold_more row rows falls.1 h) rest
+  listed_among shown (row ∷ rows) changes low falls h (inr (shows, (more, is, rest))) =
+      let here : HasRow row.location row.row = hold_first row rows falls.1 h row.location (omega arith) shows.0 in
+      subst AreListed (sym is) (here.listed, listed_among (Some row.row) rows more row.location falls.1 (hold_more row rows falls.1 h) rest)
+
+first_starts : (begin : ℕ) (rows : List LocatedRow) (x : Rules) → NeverFalls begin rows → last_at begin rows ≡ Some x → StartsAt [] [] begin begin rows
+first_starts begin [] x falls e = absurd cc
+first_starts begin (row ∷ rows) x falls e = elim (cases_lt begin row.location) [
+  | inl lt ↦ let none : None ≡ Some x = sym (none_there begin row.location (row ∷ rows) (omega arith, falls.1) lt) ∙ e in absurd cc
+  | inr le ↦ omega (arith, falls.0)
+]
+
+-- a row that holds behind an initial row holds after the instructions of its CIE
+after_behind : (f : Factors) (cie : Input) (initial instrs : List Instr) (first x : Rules) (k : ℕ) → Leaves f cie initial first → HoldsBehind first instrs k x → HoldsAfter initial instrs k x
+after_behind f cie initial instrs first x k leaves h = record {
+  cfa = h.cfa ∙ ap (λ (c : CfaRule). cfa_after c instrs k) leaves.cfa;
+  rules = λ r. h.rules r ∙ ap (λ (rule : RegRule). rule_after rule instrs r k) (leaves.rules r);
+  listed = h.listed;
+}
+
+hold_all : (initial instrs : List Instr) (begin end : ℕ) (rows : List LocatedRow) → NeverFalls begin rows → ((a : ℕ) → begin ≤ a → (x : Rules) × (last_at a rows ≡ Some x) × HasRow initial instrs begin end a x) → Hold initial instrs begin end rows
+hold_all initial instrs begin end [] falls h = tt
+hold_all initial instrs begin end (row ∷ rows) falls h = λ a le. h a (omega (arith, le, falls.0))
+
+pub changes_found : (f : Factors) (cie fde : Input) (initial instrs : List Instr) (first : Rules) (begin end : ℕ) (rows : List LocatedRow) (changes : List (ℕ × Rules)) → Leaves f cie initial first
+    → RulesBehind f first fde begin instrs rows → begin < end → Among end None rows changes → AreChanges initial instrs begin end changes
+changes_found f cie fde initial instrs first begin end rows changes leaves gives nonempty is =
+    let at : (a : ℕ) → begin ≤ a → (x : Rules) × (last_at a rows ≡ Some x) × HasRow initial instrs begin end a x = λ a le.
+    let counts = counts_exists begin instrs a le in
+    let row = gives.holds a counts.0 le counts.1 in
+    (row.0, row.1, record { k = counts.0; counts = counts.1; holds = after_behind f cie initial instrs first row.0 counts.0 leaves row.2; listed = row.2.listed }) in
+    let start = at begin (omega arith) in
+    all_found initial instrs begin end rows changes gives.never_falls (hold_all initial instrs begin end rows gives.never_falls at) (first_starts begin rows start.0 gives.never_falls start.1) nonempty is
+
+pub changes_listed : (f : Factors) (cie fde : Input) (initial instrs : List Instr) (first : Rules) (begin end : ℕ) (rows : List LocatedRow) (changes : List (ℕ × Rules)) → Leaves f cie initial first
+    → RulesBehind f first fde begin instrs rows → Among end None rows changes → AreListed changes
+changes_listed f cie fde initial instrs first begin end rows changes leaves gives is =
+    let at : (a : ℕ) → begin ≤ a → (x : Rules) × (last_at a rows ≡ Some x) × HasRow initial instrs begin end a x = λ a le.
+    let counts = counts_exists begin instrs a le in
+    let row = gives.holds a counts.0 le counts.1 in
+    (row.0, row.1, record { k = counts.0; counts = counts.1; holds = after_behind f cie initial instrs first row.0 counts.0 leaves row.2; listed = row.2.listed }) in
+    listed_among initial instrs begin end None rows changes begin gives.never_falls (hold_all initial instrs begin end rows gives.never_falls at) is
+
+-- the same of the rows of two programs
+pub run_changes : (f : Factors) (cie fde : Input) (initial instrs : List Instr) (begin end : ℕ) (rows : List LocatedRow) (changes : List (ℕ × Rules)) → RowsOf f cie fde begin rows
+    → Program cie.target f initial cie.bytes → Program fde.target f instrs fde.bytes → begin ≤ address_limit fde.target.size → begin < end → Among end None rows changes
+    → AreChanges initial instrs begin end changes
+run_changes f cie fde initial instrs begin end rows changes of first program le nonempty is =
+    let half = run_halves f cie fde begin rows of.given in
+    let left = initial_leaves f cie half.0 of.cie_bytes half.1 in
+    let same : left.0 ≡ initial = sym (program_placed f cie left.0 of.cie_bytes left.1.program).0 ∙ (program_placed f cie initial of.cie_bytes first).0 in
+    let leaves = subst (λ (l : List Instr). Leaves f cie l half.0) same left.1 in
+    let given = behind_gives f half.0 fde begin rows of.fde_bytes leaves.listed le half.2 in
+    let also : given.0 ≡ instrs = sym (program_placed f fde given.0 of.fde_bytes given.1.program).0 ∙ (program_placed f fde instrs of.fde_bytes program).0 in
+    changes_found f cie fde initial instrs half.0 begin end rows changes leaves (subst (λ (l : List Instr). RulesBehind f half.0 fde begin l rows) also given.1) nonempty is
+
+pub run_listed : (f : Factors) (cie fde : Input) (initial instrs : List Instr) (begin end : ℕ) (rows : List LocatedRow) (changes : List (ℕ × Rules)) → RowsOf f cie fde begin rows
+    → Program cie.target f initial cie.bytes → Program fde.target f instrs fde.bytes → begin ≤ address_limit fde.target.size → Among end None rows changes → AreListed changes
+run_listed f cie fde initial instrs begin end rows changes of first program le is =
+    let half = run_halves f cie fde begin rows of.given in
+    let left = initial_leaves f cie half.0 of.cie_bytes half.1 in
+    let given = behind_gives f half.0 fde begin rows of.fde_bytes left.1.listed le half.2 in
+    changes_listed f cie fde left.0 given.0 half.0 begin end rows changes left.1 given.1 is
+
+-- ---- as the code finds them
+
+-- a row that an address shows and that is not the one that was shown
+pub found_change : (end start : ℕ) (shown : Option Rules) (old new : Outcome) (current : Rules) → old ≡ row_then (record { location = start; row = current }) new → Before end start new.rows → (shown ≡ Some current → ⊥)
+    → (changes : List (ℕ × Rules)) → Among end (Some current) new.rows changes → Among end shown old.rows ((start, current) ∷ changes)
+found_change end start shown old new current is before other changes among =
+    let row : LocatedRow = record { location = start; row = current } in
+    let rows : old.rows ≡ row ∷ new.rows = ap (λ (o : Outcome). o.rows) is in
+    subst (λ (l : List LocatedRow). Among end shown l ((start, current) ∷ changes)) (sym rows) (inr ((before, other), (changes, refl, among)))
+
+pub moved : (old new : Stepping) (o : Option ℕ) (start : ℕ) → Advances old (Ok o) new → o ≡ Some start → old.outcome ≡ row_then (record { location = start; row = new.current }) new.outcome
+moved old new None start h e = absurd cc
+moved old new (Some a) start h e = let same : a ≡ start = cc in h.2 ∙ ap (λ (n : ℕ). row_then (record { location = n; row = new.current }) new.outcome) same

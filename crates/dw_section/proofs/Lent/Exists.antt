@@ -1,0 +1,160 @@
+-- Each FDE of an accepted section has changes, with rows that list each register once.
+use Rattle.std.proofs.Common.{◌≡◌, ℕ, suc, ◌<◌, ◌≤◌, ◌⊎◌, List, [], ◌∷◌, Option, Some, None, refl, sym, ap, ◌∙◌, subst, arith, inl, inr}
+use Rattle.std.specs.List.{AllByRecursion}
+use Rattle.std.proofs.lemmas.Bool.{cases_lt}
+use Rattle.dw_num.specs.declared.target.Target.{Target}
+use Rattle.dw_num.specs.Input.{Input, AreBytes}
+use Rattle.dw_num.specs.Target.{address_limit}
+use Rattle.dw_cfa.specs.declared.instr.Factors.{Factors}
+use Rattle.dw_cfa.specs.declared.instr.Instr.{Instr}
+use Rattle.dw_cfa.specs.declared.rule.CfaRule.{CfaRule}
+use Rattle.dw_cfa.specs.declared.running.LocatedRow.{LocatedRow}
+use Rattle.dw_cfa.specs.Behind.{Leaves}
+use Rattle.dw_cfa.specs.Inner.Exact.{RulesBehind}
+use Rattle.dw_cfa.specs.Kept.{CieKept, FdeKept}
+use Rattle.dw_cfa.specs.Rows.{Rules, AreSpecified}
+use Rattle.dw_cfa.proofs.Lent.BehindLaws.{gives_rows}
+use Rattle.dw_cfa.proofs.Lent.FaultLaws.{leaves_initial}
+use Rattle.dw_section.specs.declared.lookup.Fde.{Fde}
+use Rattle.dw_section.specs.Accepted.{Accepted}
+use Rattle.dw_section.specs.Changes.{HoldsAt, ChangesBehind, AreChanges, Before, Passed, Shows, Among}
+use Rattle.dw_section.specs.Laws.{OneToCome}
+use Rattle.dw_section.specs.Inner.Heads.{HasBytes}
+use Rattle.dw_section.specs.Meaning.{Says, AreFdes, ChangesOf}
+use Rattle.dw_section.specs.Programs.{CieRuns, Begins, input_of, factors_of}
+use Rattle.dw_section.proofs.Lent.ChangeLaws.{changes_found}
+use Rattle.dw_section.proofs.Lent.Heads.{all_in, heads_rise, heads_bytes, one_begin}
+use Rattle.dw_section.specs.Meanings.{IsListed, SameMeaning}
+use Rattle.dw_section.proofs.Deciding.{row_told}
+use Rattle.dw_section.proofs.Lent.Rowed.{IsListedRow, one_listed, agree_row}
+use Rattle.dw_section.proofs.Lent.Sames.{AllAgree, one_list, changes_there}
+use Rattle.dw_section.proofs.Lent.Sections.{hs, headers_of, here, one_programs, kept_programs, begin_low, row_exists, rules_programs, programs_rules, programs_changes, listed_programs}
+use Rattle.dw_section.specs.Headers.{cie, fde}
+
+-- ---- among rows
+
+before_told : (end a : ℕ) (rows : List LocatedRow) → Before end a rows ⊎ (Before end a rows → ⊥)
+before_told end a [] = elim (cases_lt a end) [ inl lt ↦ inl lt | inr le ↦ inr (λ lt. omega arith) ]
+before_told end a (next ∷ rows) = elim (cases_lt a next.location) [
+  | inl lt ↦ elim (cases_lt a end) [ inl also ↦ inl (lt, also) | inr le ↦ inr (λ h. omega (arith, h.1)) ]
+  | inr le ↦ inr (λ h. omega (arith, h.0))
+]
+
+shown_told : (shown : Option Rules) (row : Rules) → (shown ≡ Some row) ⊎ (shown ≡ Some row → ⊥)
+shown_told None row = inr (λ e. cc)
+shown_told (Some before) row = elim (row_told before row) [ inl same ↦ inl (ap Some same) | inr other ↦ inr (λ e. other cc) ]
+
+pub among_exists : (end : ℕ) (shown : Option Rules) (rows : List LocatedRow) → (changes : List (ℕ × Rules)) × Among end shown rows changes
+among_exists end shown [] = ([], refl)
+among_exists end shown (row ∷ rows) = elim (before_told end row.location rows) [
+  | inl before ↦ elim (shown_told shown row.row) [
+    | inl same ↦ let rest = among_exists end shown rows in (rest.0, inl (inr same, rest.1))
+    | inr other ↦ let rest = among_exists end (Some row.row) rows in ((row.location, row.row) ∷ rest.0, inr ((before, other), (rest.0, refl, rest.1)))
+  ]
+  | inr hidden ↦ let rest = among_exists end shown rows in (rest.0, inl (inl hidden, rest.1))
+]
+
+-- what is passed is not shown
+passed_apart : (end : ℕ) (shown : Option Rules) (row : LocatedRow) (rows : List LocatedRow) → Passed end shown row rows → Shows end shown row rows → ⊥
+passed_apart end shown row rows (inl hidden) shows = hidden shows.0
+passed_apart end shown row rows (inr same) shows = shows.1 same
+
+among_one : (end : ℕ) (shown : Option Rules) (rows : List LocatedRow) (xs ys : List (ℕ × Rules)) → Among end shown rows xs → Among end shown rows ys → xs ≡ ys
+among_one end shown [] xs ys v w = v ∙ sym w
+among_one end shown (row ∷ rows) xs ys (inl v) (inl w) = among_one end shown rows xs ys v.1 w.1
+among_one end shown (row ∷ rows) xs ys (inl v) (inr w) = absurd (passed_apart end shown row rows v.0 w.0)
+among_one end shown (row ∷ rows) xs ys (inr v) (inl w) = absurd (passed_apart end shown row rows w.0 v.0)
+among_one end shown (row ∷ rows) xs ys (inr v) (inr w) =
+    v.1.1 ∙ ap (λ (more : List (ℕ × Rules)). (row.location, row.row) ∷ more) (among_one end (Some row.row) rows v.1.0 w.1.0 v.1.2 w.1.2) ∙ sym w.1.1
+
+pub one_to_come : OneToCome
+one_to_come c =
+    let some = among_exists c.end c.shown c.rows in
+    record { changes = some.0; come = some.1; only = λ others h. among_one c.end c.shown c.rows others some.0 h some.1 }
+
+-- ---- of an FDE
+
+module _ (i j : List Instr) (begin end : ℕ) (rows : (a : ℕ) → begin ≤ a → (row : Rules) × HoldsAt i j begin a row × AreSpecified 0 row.registers) where
+  listed_behind : (low : ℕ) (changes : List (ℕ × Rules)) → begin ≤ low → ChangesBehind i j begin end low changes → (others : List (ℕ × Rules)) × ChangesBehind i j begin end low others × AllByRecursion IsListedRow others
+  listed_behind low [] le c = ([], c, tt)
+  listed_behind low (change ∷ changes) le c =
+      let a = c.0 in
+      let from : begin ≤ suc a = omega (arith, c.2) in
+      let row = rows (suc a) from in
+      let rest = listed_behind (suc a) changes from c.7 in
+      ((suc a, row.0) ∷ rest.0, (a, refl, c.2, c.3, c.4, c.5, row.1, rest.1), (row.2, rest.2))
+
+  pub listed_changes : (changes : List (ℕ × Rules)) → AreChanges i j begin end changes → (others : List (ℕ × Rules)) × AreChanges i j begin end others × AllByRecursion IsListedRow others
+  listed_changes [] c = absurd c
+  listed_changes (first ∷ changes) c =
+      let row = rows begin (omega arith) in
+      let rest = listed_behind begin changes (omega arith) c.2 in
+      ((begin, row.0) ∷ rest.0, (refl, row.1, rest.1), (row.2, rest.2))
+
+module _ (target : Target) (s : List ℕ) (b : AreBytes s) (ok : Accepted target s) where
+  -- the rows of an FDE
+  pub record Given (begin : ℕ) (i j : List Instr) : Type 0 where
+    pub f : Factors
+    pub cie : Input
+    pub fde : Input
+    pub first : Rules
+    pub rows : List LocatedRow
+    pub leaves : Leaves f cie i first
+    pub gives : RulesBehind f first fde begin j rows
+
+  pub given : (begin end : ℕ) (i j : List Instr) → Says target s begin end i j → Given begin i j
+  given begin end i j h =
+      let ks = hs target s b ok in
+      let headers = headers_of target s b ok in
+      let bytes = heads_bytes target s ks b headers in
+      let x = here target s b ok begin end i j h in
+      let low = begin_low target s b ok begin end i j h in
+      let begins = x.spelled.begins in
+      let c = x.spelled.head in
+      let f = factors_of c in
+      let cie_runs = all_in (CieRuns target) ks (cie c) ok.1.1.0.0.1 begins.among in
+      let own : Begins target ks x.head.cie_at c cie_runs.0 = record { among = begins.among; stands = begins.stands; spelled = cie_runs.1 } in
+      let same = one_begin target ks x.head.cie_at c c cie_runs.0 i (heads_rise target s ks headers) bytes own begins in
+      let cie_bytes : AreBytes c.program.bytes = all_in HasBytes ks (cie c) bytes begins.among in
+      let fde_bytes : AreBytes x.head.program.bytes = all_in HasBytes ks (fde x.head) bytes x.among in
+      let left = leaves_initial f (input_of target c.program) i cie_bytes begins.spelled (subst CieKept same.instrs cie_runs.2) in
+      let kept = subst (λ (c : CfaRule). FdeKept (address_limit target.size) begin c j) (sym left.2.cfa) (kept_programs target s b ok begin end i j h) in
+      let gave = gives_rows f left.0 (input_of target x.head.program) begin j fde_bytes left.2.listed (omega (arith, low.0)) x.spelled.spelled kept in
+      record { f = f; cie = input_of target c.program; fde = input_of target x.head.program; first = left.0; rows = gave.0; leaves = left.2; gives = gave.2 }
+
+  -- an FDE that is not empty has changes
+  pub changes_exist : (begin end : ℕ) (i j : List Instr) → begin < end → Says target s begin end i j → (changes : List (ℕ × Rules)) × AreChanges i j begin end changes × AllByRecursion IsListedRow changes
+  changes_exist begin end i j lt h =
+      let g = given begin end i j h in
+      let among = among_exists end None g.rows in
+      let all = changes_found g.f g.cie g.fde i j g.first begin end g.rows among.0 g.leaves g.gives lt among.1 in
+      listed_changes i j begin end (λ a le. row_exists target s b ok begin end a i j h le) among.0 all
+
+  -- so each FDE that is listed has
+  pub listed_change : (fs : List Fde) (f : Fde) → AreFdes target s fs → IsListed f fs → (changes : List (ℕ × Rules)) × ChangesOf target s f changes × AllByRecursion IsListedRow changes
+  listed_change fs f are listed =
+      let p = listed_programs target s b ok fs f are listed in
+      let programs = p.1 in
+      let c = changes_exist f.begin f.end programs.0 programs.1 p.0 programs.2 in
+      (c.0, programs_changes target s b ok f c.0 programs.0 programs.1 programs.2 c.1, c.2)
+
+  -- and one list of them whose rows list each register once
+  pub one_change_list : (f : Fde) (xs ys : List (ℕ × Rules)) → f.begin < f.end → ChangesOf target s f xs → ChangesOf target s f ys → AllByRecursion IsListedRow xs → AllByRecursion IsListedRow ys → xs ≡ ys
+  one_change_list f xs ys some v w = one_listed xs ys (one_list target s b ok f xs ys some v w)
+
+-- ---- sections of one meaning
+
+module _ (target : Target) (s t : List ℕ) (bs : AreBytes s) (bt : AreBytes t) (oks : Accepted target s) (okt : Accepted target t) (same : SameMeaning target s t) where
+  -- their programs agree
+  pub meaning_agree : (fs : List Fde) → AllAgree target s t fs
+  meaning_agree fs f listed i j k l v w a le lt =
+      let row = row_exists target s bs oks f.begin f.end a i j v le in
+      let there = ((same.rules a row.0).0 (programs_rules target s bs oks f.begin f.end a i j row.0 v le lt row.1)) in
+      let p = rules_programs target t bt okt a row.0 there in
+      let one = one_programs target t bt okt a p.begin p.end f.begin f.end p.initial p.instrs k l p.from p.below le lt p.programs w in
+      let holds = subst (λ (n : ℕ). HoldsAt k l n a row.0) one.begins (subst (λ (q : List Instr). HoldsAt k q p.begin a row.0) one.instrs (subst (λ (q : List Instr). HoldsAt q p.instrs p.begin a row.0) one.initials p.holds)) in
+      agree_row f.begin a i j k l row.0 row.1 holds
+
+  -- so they have the same changes
+  pub meaning_changes : (fs : List Fde) (f : Fde) (changes : List (ℕ × Rules)) → AreFdes target s fs → IsListed f fs → ChangesOf target s f changes → ChangesOf target t f changes
+  meaning_changes fs f changes are listed = changes_there target s t bs bt oks okt fs are ((same.fdes fs).0 are) (meaning_agree fs) f changes listed

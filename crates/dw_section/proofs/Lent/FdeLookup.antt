@@ -1,0 +1,142 @@
+-- What a table lists, and where an address is found in it.
+use Rattle.std.proofs.Common.{◌≡◌, ℕ, zero, suc, ◌+◌, ◌<◌, ◌≤◌, List, [], ◌∷◌, map, length, get_or, refl, sym, ap, subst, ◌∙◌, arith, inl, inr}
+use Rattle.std.specs.List.{AllByRecursion, AllZip}
+use Rattle.std.specs.List.Sorted.{IsNonDecreasingBy}
+use Rattle.std.proofs.lemmas.List.{length-map}
+use Rattle.dw_num.specs.declared.target.Target.{Target}
+use Rattle.dw_section.specs.declared.indexing.Ranged.{Ranged}
+use Rattle.dw_section.specs.declared.lookup.Fde.{Fde}
+use Rattle.dw_section.specs.Headers.{Head, CieHead, FdeHead}
+use Rattle.dw_section.specs.Inner.Heads.{HeadsRise}
+use Rattle.dw_section.specs.Inner.Index.{range_in, IsRanged}
+use Rattle.dw_section.specs.Inner.Lookup.{fde_in}
+use Rattle.dw_section.specs.Meaning.{Returns, Lists, AreFdes, Covers, NoneCovers}
+use Rattle.dw_section.specs.Overlap.{Range, Precedes, Ascends, AreApart, IsIndex, end_of}
+use Rattle.dw_section.specs.Inner.Table.{IsTable, IsKept}
+use Rattle.dw_section.specs.declared.cutting.EntryCounts.{EntryCounts}
+use Rattle.dw_section.specs.declared.judging.Initial.{Initial}
+use Rattle.dw_section.specs.Inner.Initials.{AreInitials}
+use Rattle.dw_section.specs.Inner.Left.{AreHeaders}
+use Rattle.dw_section.proofs.Lent.Judged.{all_get}
+use Rattle.dw_section.proofs.Lent.HeaderLaws.{one_headers}
+use Rattle.dw_section.proofs.Lent.Heads.{heads_rise, one_among, cie_or, fde_or}
+use Rattle.dw_section.proofs.Lent.Index.{one_index}
+use Rattle.dw_section.proofs.Stages.{one_zip}
+
+-- ---- the list
+
+lists_all : (hs : List Head) (list : List Ranged) → AllByRecursion (IsRanged hs) list → AllZip (Lists hs) (map range_in list) (map fde_in list)
+lists_all hs [] h = tt
+lists_all hs (e ∷ list) h = (record { begin = refl; end = refl; returns = h.0 }, lists_all hs list h.1)
+
+pub are_fdes : (target : Target) (s : List ℕ) (list : List Ranged) → IsTable target s list → AreFdes target s (map fde_in list)
+are_fdes target s list t = record {
+  headers = t.indexed.headers;
+  are = t.indexed.hold.0.0.0;
+  index = map range_in list;
+  is_index = t.indexed.is_index;
+  each = lists_all t.indexed.headers list t.indexed.each;
+}
+
+one_register : (hs : List Head) (up : HeadsRise 0 hs) (a : Range) (r q : ℕ) → Returns hs a r → Returns hs a q → r ≡ q
+one_register hs up a r q v w =
+    let owns = ap (fde_or v.own) (one_among 0 hs _ _ up v.own_among w.own_among (ap (λ (x : Range). x.at) (v.covers ∙ sym w.covers))) in
+    let place : v.named.at ≡ w.named.at = sym v.names ∙ ap (λ (f : FdeHead). f.cie_at) owns ∙ w.names in
+    v.is ∙ ap (λ (c : CieHead). c.return_register) (ap (cie_or v.named) (one_among 0 hs _ _ up v.named_among w.named_among place)) ∙ sym w.is
+
+one_listed : (hs : List Head) (up : HeadsRise 0 hs) (a : Range) (f g : Fde) → Lists hs a f → Lists hs a g → f ≡ g
+one_listed hs up a f g v w =
+    let b : f.begin ≡ g.begin = v.begin ∙ sym w.begin in
+    let e : f.end ≡ g.end = v.end ∙ sym w.end in
+    let r : f.return_register ≡ g.return_register = one_register hs up a f.return_register g.return_register v.returns w.returns in
+    ap (λ (n : ℕ). let x : Fde = record { begin = n; end = f.end; return_register = f.return_register } in x) b
+    ∙ ap (λ (n : ℕ). let x : Fde = record { begin = g.begin; end = n; return_register = f.return_register } in x) e
+    ∙ ap (λ (n : ℕ). let x : Fde = record { begin = g.begin; end = g.end; return_register = n } in x) r
+
+pub one_fdes : (target : Target) (s : List ℕ) (fs gs : List Fde) → AreFdes target s fs → AreFdes target s gs → fs ≡ gs
+one_fdes target s fs gs v w =
+    let same = one_headers target s w.headers v.headers w.are v.are in
+    let index = one_index v.headers w.index v.index (subst (λ (hs : List Head). IsIndex hs w.index) same w.is_index) v.is_index in
+    one_zip (Lists v.headers) (one_listed v.headers (heads_rise target s v.headers v.are)) v.index fs gs v.each
+    (subst (λ (rs : List Range). AllZip (Lists v.headers) rs gs) index (subst (λ (hs : List Head). AllZip (Lists hs) w.index gs) same w.each))
+
+-- ---- the search
+
+later_begin : (a : Range) (list : List Ranged) (k : ℕ) (d : Ranged) → AllByRecursion (Precedes a) (map range_in list) → k < length list → a.begin ≤ (get_or list k d).begin
+later_begin a [] k d h lt = absurd (omega arith)
+later_begin a (e ∷ list) zero d h lt = elim h.0 [ inl x ↦ omega arith | inr x ↦ omega (arith, x.0) ]
+later_begin a (e ∷ list) (suc k) d h lt = later_begin a list k d h.1 (omega arith)
+
+pub begins_ascend : (list : List Ranged) → Ascends (map range_in list) → IsNonDecreasingBy (λ (e : Ranged). e.begin) list
+begins_ascend [] up i j d le lt = absurd (omega arith)
+begins_ascend (e ∷ list) up zero zero d le lt = omega arith
+begins_ascend (e ∷ list) up zero (suc j) d le lt = later_begin (range_in e) list j d up.0 (omega arith)
+begins_ascend (e ∷ list) up (suc i) zero d le lt = absurd (omega arith)
+begins_ascend (e ∷ list) up (suc i) (suc j) d le lt = begins_ascend list up.1 i j d (omega arith) (omega arith)
+
+pub none_above : (a : ℕ) (list : List Ranged) → ((k : ℕ) (d : Ranged) → k < length list → a < (get_or list k d).begin) → NoneCovers a (map fde_in list)
+none_above a [] h = tt
+none_above a (e ∷ list) h = (λ c. let p = h 0 e (omega arith) in absurd (omega (arith, c.0)), none_above a list (λ k d lt. h (suc k) d (omega arith)))
+
+ends_before : (end : ℕ) (list : List Ranged) (k : ℕ) (d : Ranged) → AllByRecursion (λ (b : Range). end ≤ b.begin) (map range_in list) → k < length list → end ≤ (get_or list k d).begin
+ends_before end [] k d h lt = absurd (omega arith)
+ends_before end (e ∷ list) zero d h lt = h.0
+ends_before end (e ∷ list) (suc k) d h lt = ends_before end list k d h.1 (omega arith)
+
+-- an address that lies behind the last FDE that begins at or below it lies in none
+pub none_covers : (a : ℕ) (list : List Ranged) (i : ℕ) (x : Ranged) → AreApart (map range_in list) → i < length list → x ≡ get_or list i x → x.begin ≤ a → x.begin + x.range ≤ a
+    → ((k : ℕ) (d : Ranged) → suc i ≤ k → k < length list → a < (get_or list k d).begin) → NoneCovers a (map fde_in list)
+none_covers a [] i x apart lt is begin end above = absurd (omega arith)
+none_covers a (e ∷ list) zero x apart lt is begin end above =
+    (λ c. let p : e.begin + e.range ≤ a = subst (λ (y : Ranged). y.begin + y.range ≤ a) is end in absurd (omega (arith, c.1)), none_above a list (λ k d l. above (suc k) d (omega arith) (omega arith)))
+none_covers a (e ∷ list) (suc i) x apart lt is begin end above = (
+  λ c. let p = ends_before (end_of (range_in e)) list i x apart.0 (omega arith) in let q : (get_or list i x).begin ≤ a = subst (λ (y : Ranged). y.begin ≤ a) is begin in absurd (omega (arith, c.1)),
+  none_covers a list i x apart.1 (omega arith) is begin end (λ k d le l. above (suc k) d (omega arith) (omega arith)),
+)
+
+pub covers_listed : (a : ℕ) (list : List Ranged) (i : ℕ) → i < length list → ((d : Ranged) → Covers a (fde_in (get_or list i d))) → (i < length (map fde_in list)) × ((d : Fde) → Covers a (get_or (map fde_in list) i d))
+covers_listed a [] i lt h = absurd (omega arith)
+covers_listed a (e ∷ list) zero lt h = (omega arith, λ d. h e)
+covers_listed a (e ∷ list) (suc i) lt h = let rest = covers_listed a list i (omega arith) h in (omega (arith, rest.0), rest.1)
+
+-- a place in any such list is one in that of the table
+pub listed_place : (target : Target) (s : List ℕ) (list : List Ranged) (place : ℕ) → IsTable target s list → ((fs : List Fde) → AreFdes target s fs → place < length fs) → place < length list
+listed_place target s list place t lt = omega (arith, lt (map fde_in list) (are_fdes target s list t), length-map list fde_in)
+
+pub listed_count : (target : Target) (s : List ℕ) (list : List Ranged) → IsTable target s list → (fs : List Fde) → AreFdes target s fs → length list ≡ length fs
+listed_count target s list t fs are =
+    let same = one_fdes target s (map fde_in list) fs (are_fdes target s list t) are in
+    omega (arith, ap length same, length-map list fde_in)
+
+pub listed_fde : (list : List Ranged) (place : ℕ) (e : Ranged) (d : Fde) → place < length list → e ≡ get_or list place e → fde_in e ≡ get_or (map fde_in list) place d
+listed_fde [] place e d lt is = absurd (omega arith)
+listed_fde (x ∷ list) zero e d lt is = ap fde_in is
+listed_fde (x ∷ list) (suc place) e d lt is = listed_fde list place e d (omega arith) is
+
+-- what a table keeps is of its headers
+pub kept_of : (target : Target) (s : List ℕ) (list : List Ranged) (counts : EntryCounts) (places : List ℕ) (cs : List Initial) (t : IsTable target s list) → IsKept target s counts places cs
+    → AreHeaders target s places t.indexed.headers × AreInitials target t.indexed.headers t.indexed.headers cs
+kept_of target s list counts places cs t k =
+    let same = one_headers target s k.headers t.indexed.headers k.heads.are t.indexed.hold.0.0.0 in
+    (subst (λ (hs : List Head). AreHeaders target s places hs) same k.heads, subst (λ (hs : List Head). AreInitials target hs hs cs) same k.initials)
+
+-- an entry of the list is of one of them
+pub ranged_of : (target : Target) (s : List ℕ) (list : List Ranged) (t : IsTable target s list) (i : ℕ) (d : Ranged) → i < length list → IsRanged t.indexed.headers (get_or list i d)
+ranged_of target s list t i d lt = all_get (IsRanged t.indexed.headers) list i d t.indexed.each lt
+
+pub here_of : (target : Target) (s : List ℕ) (list : List Ranged) (counts : EntryCounts) (places : List ℕ) (cs : List Initial) (t : IsTable target s list) → IsKept target s counts places cs
+    → (ps : List ℕ) (ds : List Initial) → ps ≡ places → ds ≡ cs → (i : ℕ) (e : Ranged) → i < length list → e ≡ get_or list i e
+    → AreHeaders target s ps t.indexed.headers × AreInitials target t.indexed.headers t.indexed.headers ds × IsRanged t.indexed.headers e
+here_of target s list counts places cs t k ps ds p-is d-is i e lt is =
+    let hs = t.indexed.headers in
+    let kept = kept_of target s list counts places cs t k in (
+      subst (λ (l : List ℕ). AreHeaders target s l hs) (sym p-is) kept.0,
+      subst (AreInitials target hs hs) (sym d-is) kept.1,
+      subst (IsRanged hs) (sym is) (ranged_of target s list t i e lt),
+    )
+
+pub same_fde : (b r q b' r' q' : ℕ) → b ≡ b' → r ≡ r' → q ≡ q' → ◌≡◌ {A = Fde} (record { begin = b; end = b + r; return_register = q }) (record { begin = b'; end = b' + r'; return_register = q' })
+same_fde b r q b' r' q' e f g = rw (e, f, g) refl
+
+pub fdes_of : (target : Target) (s : List ℕ) (list : List Ranged) → IsTable target s list → (fs : List Fde) × AreFdes target s fs
+fdes_of target s list t = (map fde_in list, are_fdes target s list t)

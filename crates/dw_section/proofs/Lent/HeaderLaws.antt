@@ -1,0 +1,194 @@
+-- Headers are read as they are spelled, and a section has at most one list of them.
+use Rattle.std.proofs.Common.{◌≡◌, ℕ, ◌+◌, List, [], ◌∷◌, ◌++◌, length, Result, Ok, Err, inl, inr, refl, sym, ap, subst, ◌∙◌, arith}
+use Rattle.std.specs.Prelude.{IfOk, IfErr, MatchResult}
+use Rattle.std.specs.List.{AllByRecursion, AllZip}
+use Rattle.std.proofs.lemmas.List.{append-nil, length-append}
+use Rattle.std.proofs.lemmas.List.Elements.{filter_map-append}
+use Rattle.dw_num.specs.declared.target.Target.{Target}
+use Rattle.dw_num.specs.declared.refusal.Refusal.{Refusal}
+use Rattle.dw_num.specs.Input.{Input, AreBytes, Takes}
+use Rattle.dw_num.specs.Span.{Span}
+use Rattle.dw_num.specs.declared.error.ReadError.{ReadError}
+use Rattle.dw_num.specs.declared.error.ReadError.TheVariants.{Refused, OutOfMemory}
+use Rattle.dw_num.specs.Refusals.{Refuses}
+use Rattle.dw_num.proofs.Lent.LebLaws.{done, ok_is}
+use Rattle.dw_section.specs.declared.cutting.Kind.TheVariants as kind
+use Rattle.dw_section.specs.declared.fields.CieFields.{CieFields}
+use Rattle.dw_section.specs.declared.fields.FdeFields.{FdeFields}
+use Rattle.dw_section.specs.Cut.{Piece, id_width}
+use Rattle.dw_section.specs.Pieces.{Pieces}
+use Rattle.dw_section.specs.Places.{cie_places}
+use Rattle.dw_section.specs.Inner.Places.{Rises}
+use Rattle.dw_section.specs.Stage.{FirstStuck}
+use Rattle.dw_section.specs.Inner.Stage.{Answers}
+use Rattle.dw_section.specs.Fields.{Fields, cie_fields, fde_fields, FieldsFault}
+use Rattle.dw_section.specs.Inner.Fields.{cie_fields_at, fde_fields_at}
+use Rattle.dw_section.specs.Inner.Reading.{program_of, cie_of_piece, cie_at, fde_of_piece, fde_at}
+use Rattle.dw_section.specs.Headers.{Head, cie_head, fde_head, HasFields, IsCie, IsFde, Has, Headers, contents_of, CieHolds, CieStuck, FdeHolds, FdeStuck, HeadersFault}
+use Rattle.dw_section.proofs.FieldLaws.{AreNumbers, fields_at, fault_read, read_fault, fields_found, fields_again}
+use Rattle.dw_section.proofs.Lent.FieldTable.{then_then, cie_same, fde_same, cie_numbers, fde_numbers}
+use Rattle.dw_num.proofs.Lent.Steps.{take_again}
+use Rattle.dw_num.specs.Reading.{Read, take_at, ◌>>=◌}
+use Rattle.dw_section.proofs.Items.{one_pieces, cut_or_pieces}
+use Rattle.dw_section.proofs.Places.{places_rise}
+use Rattle.dw_section.proofs.Stages.{none_stuck, all_push, all_from_zip, one_zip}
+
+-- ---- what is read has that header
+
+-- fields that are read at the front of a piece are what it says
+reads_fields : {X : Type 0} (fs : Fields X) → AreNumbers fs → (target : Target) (p : Piece) (x : X) (j : Input) → AreBytes p.contents.bytes → fields_at fs (contents_of target p) ≡ done (x, j) → HasFields target p fs x (program_of j)
+reads_fields fs are target p x j h e =
+    let q = fields_found fs are (contents_of target p) j x h e in
+    record { spelling = q.0; spells = q.1; whole = q.2.bytes; place = q.2.at }
+
+pub fields_end : {X : Type 0} (target : Target) (p : Piece) (fs : Fields X) (x : X) (program : Span) → HasFields target p fs x program → program.at + length program.bytes ≡ p.contents.at + length p.contents.bytes
+fields_end target p fs x program is = omega (arith, is.place, ap length is.whole, length-append is.spelling program.bytes)
+
+-- the bytes that were taken are those that taking reads
+taken_read : (n : ℕ) (i j : Input) (b : List ℕ) → length b ≡ n → Takes i b j → take_at n i ≡ done (b, j)
+taken_read n i j b len t =
+    subst (λ (bytes : List ℕ). take_at n (record { at = i.at; bytes = bytes; target = i.target }) ≡ done (b, j)) (sym t.bytes)
+    (subst (λ (at : ℕ). take_at n (record { at = i.at; bytes = b ++ j.bytes; target = i.target }) ≡ done (b, record { at = at; bytes = j.bytes; target = j.target })) (sym t.at)
+    (subst (λ (target : Target). take_at n (record { at = i.at; bytes = b ++ j.bytes; target = i.target }) ≡ done (b, record { at = i.at + length b; bytes = j.bytes; target = target })) (sym t.target)
+    (take_again i.target n b len i.at j.bytes)))
+
+pub cie_reads : (target : Target) (p : Piece) (id : List ℕ) (i j : Input) (f : CieFields) → AreBytes p.contents.bytes → p.kind ≡ kind.Cie → length id ≡ id_width p.form
+    → Takes (contents_of target p) id i → cie_fields_at i ≡ done (f, j) → IsCie target p f (program_of j)
+cie_reads target p id i j f h is len t e =
+    let same : fields_at (cie_fields target.size p.form) (contents_of target p) ≡ done (f, j) =
+    cie_same p.form (contents_of target p) ∙ ap (λ (read : Read (List ℕ)). read >>= (λ b. cie_fields_at b.1)) (taken_read (id_width p.form) (contents_of target p) i id len t) ∙ e in
+    (is, reads_fields (cie_fields target.size p.form) (cie_numbers target.size p.form) target p f j h same)
+
+pub fde_reads : (target : Target) (places : List ℕ) (p : Piece) (j : Input) (f : FdeFields) → AreBytes p.contents.bytes → p.kind ≡ kind.Fde
+    → fde_fields_at places p.form (contents_of target p) ≡ done (f, j) → IsFde target places p f (program_of j)
+fde_reads target places p j f h is e =
+    (is, reads_fields (fde_fields target.size places p.form) (fde_numbers target.size places p.form) target p f j h (fde_same places p.form (contents_of target p) ∙ e))
+
+-- ---- what has a header is read
+
+-- what the code reads is what the table reads
+cie_table : (target : Target) (p : Piece) → cie_at target p ≡ fields_at (cie_fields target.size p.form) (contents_of target p) >>= cie_of_piece p
+unfolding cie_at
+cie_table target p =
+    sym (then_then (take_at (id_width p.form) (contents_of target p)) (λ b. cie_fields_at b.1) (cie_of_piece p))
+    ∙ ap (λ (read : Read CieFields). read >>= cie_of_piece p) (sym (cie_same p.form (contents_of target p)))
+
+fde_table : (target : Target) (places : List ℕ) (p : Piece) → fde_at target places p ≡ fields_at (fde_fields target.size places p.form) (contents_of target p) >>= fde_of_piece p
+unfolding fde_at
+fde_table target places p = ap (λ (read : Read FdeFields). read >>= fde_of_piece p) (sym (fde_same places p.form (contents_of target p)))
+
+fields_read : {X : Type 0} (fs : Fields X) (target : Target) (p : Piece) (x : X) (program : Span) → HasFields target p fs x program
+    → fields_at fs (contents_of target p) ≡ done (x, record { at = program.at; bytes = program.bytes; target = target })
+fields_read fs target p x program is = rw (is.whole, fields_again target fs x is.spelling is.spells p.contents.at program.bytes, ← is.place) refl
+
+pub cie_at_again : (target : Target) (p : Piece) (f : CieFields) (program : Span) → IsCie target p f program → cie_at target p ≡ done (cie_head p f program)
+cie_at_again target p f program is =
+    cie_table target p ∙ ap (λ (read : Read CieFields). read >>= cie_of_piece p) (fields_read (cie_fields target.size p.form) target p f program is.1)
+
+pub fde_at_again : (target : Target) (places : List ℕ) (p : Piece) (f : FdeFields) (program : Span) → IsFde target places p f program → fde_at target places p ≡ done (fde_head p f program)
+fde_at_again target places p f program is =
+    fde_table target places p ∙ ap (λ (read : Read FdeFields). read >>= fde_of_piece p) (fields_read (fde_fields target.size places p.form) target p f program is.1)
+
+-- ---- what is refused has that fault
+
+only_fault : {X Y : Type 0} (read : Read X) (make : X × Input → Y) (r : Refusal) → read >>= (λ x. done (make x)) ≡ Err r → read ≡ Err r
+only_fault (Ok x) make r e = absurd cc
+only_fault (Err q) make r e = cc
+
+pub cie_faulty : (target : Target) (p : Piece) (r : Refusal) → cie_at target p ≡ Err r → FieldsFault (cie_fields target.size p.form) (contents_of target p) r
+cie_faulty target p r e =
+    let fs = cie_fields target.size p.form in
+    read_fault fs (contents_of target p) r (only_fault (fields_at fs (contents_of target p)) (λ f. cie_head p f.0 (program_of f.1)) r (sym (cie_table target p) ∙ e))
+
+pub fde_faulty : (target : Target) (places : List ℕ) (p : Piece) (r : Refusal) → fde_at target places p ≡ Err r → FieldsFault (fde_fields target.size places p.form) (contents_of target p) r
+fde_faulty target places p r e =
+    let fs = fde_fields target.size places p.form in
+    read_fault fs (contents_of target p) r (only_fault (fields_at fs (contents_of target p)) (λ f. fde_head p f.0 (program_of f.1)) r (sym (fde_table target places p) ∙ e))
+
+fields_apart : {X : Type 0} (fs : Fields X) (target : Target) (p : Piece) (x : X) (program : Span) (r : Refusal) → HasFields target p fs x program → FieldsFault fs (contents_of target p) r → ⊥
+fields_apart fs target p x program r is stuck = let a = sym (fields_read fs target p x program is) ∙ fault_read fs (contents_of target p) r stuck in cc
+
+pub cie_apart : (target : Target) (p : Piece) (r : Refusal) → CieHolds target p → CieStuck target p r → ⊥
+cie_apart target p r h s = let q = h s.0 in fields_apart (cie_fields target.size p.form) target p q.0 q.1 r q.2.1 s.1
+
+pub fde_apart : (target : Target) (places : List ℕ) (p : Piece) (r : Refusal) → FdeHolds target places p → FdeStuck target places p r → ⊥
+fde_apart target places p r h s = let q = h s.0 in fields_apart (fde_fields target.size places p.form) target p q.0 q.1 r q.2.1 s.1
+
+pub has_cie : (target : Target) (places : List ℕ) (p : Piece) (h : Head) → Has target places p h → CieHolds target p
+has_cie target places p h (inl c) is = (c.0, c.1, c.2)
+has_cie target places p h (inr f) is = let a = f.2.0 in absurd cc
+
+pub has_fde : (target : Target) (places : List ℕ) (p : Piece) (h : Head) → Has target places p h → FdeHolds target places p
+has_fde target places p h (inl c) is = let a = c.2.0 in absurd cc
+has_fde target places p h (inr f) is = (f.0, f.1, f.2)
+
+pub has_one : (target : Target) (places : List ℕ) (p : Piece) (h k : Head) → Has target places p h → Has target places p k → h ≡ k
+has_one target places p h k (inl c) (inl d) = c.3 ∙ ok_is (cie_head p c.0 c.1) (cie_head p d.0 d.1) (sym (cie_at_again target p c.0 c.1 c.2) ∙ cie_at_again target p d.0 d.1 d.2) ∙ sym d.3
+has_one target places p h k (inl c) (inr d) = let a = c.2.0 in let b = d.2.0 in absurd cc
+has_one target places p h k (inr c) (inl d) = let a = c.2.0 in let b = d.2.0 in absurd cc
+has_one target places p h k (inr c) (inr d) = c.3 ∙ ok_is (fde_head p c.0 c.1) (fde_head p d.0 d.1) (sym (fde_at_again target places p c.0 c.1 c.2) ∙ fde_at_again target places p d.0 d.1 d.2) ∙ sym d.3
+
+-- ---- of a whole section
+
+pub one_headers : (target : Target) (s : List ℕ) (hs ks : List Head) → Headers target s hs → Headers target s ks → hs ≡ ks
+one_headers target s hs ks p q =
+    let same = one_pieces target s q.entries p.entries q.cut p.cut in
+    one_zip (Has target (cie_places p.entries)) (has_one target (cie_places p.entries)) p.entries hs ks p.each (subst (λ (ps : List Piece). AllZip (Has target (cie_places ps)) ps ks) same q.each)
+
+pub headers_hold : (target : Target) (s : List ℕ) (hs : List Head) (p : Headers target s hs) → AllByRecursion (CieHolds target) p.entries × AllByRecursion (FdeHolds target (cie_places p.entries)) p.entries
+headers_hold target s hs p =
+    let places = cie_places p.entries in (
+      all_from_zip (Has target places) (CieHolds target) (has_cie target places) p.entries hs p.each,
+      all_from_zip (Has target places) (FdeHolds target places) (has_fde target places) p.entries hs p.each,
+    )
+
+-- headers and a fault exclude each other
+pub fault_or_headers : (target : Target) (s : List ℕ) (r : Refusal) (hs : List Head) → HeadersFault target s r → Headers target s hs → ⊥
+fault_or_headers target s r hs (inl (inl cut)) p = cut_or_pieces target s r p.entries cut p.cut
+fault_or_headers target s r hs (inl (inr cies)) p =
+    let same = one_pieces target s cies.0 p.entries cies.1 p.cut in
+    none_stuck (CieHolds target) (CieStuck target) (cie_apart target) p.entries r (headers_hold target s hs p).0 (subst (λ (ps : List Piece). FirstStuck (CieHolds target) (CieStuck target) ps r) same cies.2)
+fault_or_headers target s r hs (inr fdes) p =
+    let same = one_pieces target s fdes.0 p.entries fdes.1.0 p.cut in
+    let places = cie_places p.entries in
+    none_stuck (FdeHolds target places) (FdeStuck target places) (fde_apart target places) p.entries r (headers_hold target s hs p).1
+    (subst (λ (ps : List Piece). FirstStuck (FdeHolds target (cie_places ps)) (FdeStuck target (cie_places ps)) ps r) same fdes.2)
+
+pub only_headers : {V : Type 0} (view : V → List Head) (target : Target) (s : List ℕ) (r : Result V ReadError) → IfOk r (λ v. Headers target s (view v)) → IfErr r (Refuses (HeadersFault target s))
+    → (hs : List Head) → Headers target s hs → MatchResult r (λ v. view v ≡ hs) (λ e. e ≡ OutOfMemory)
+only_headers view target s (Ok v) found first hs p = one_headers target s (view v) hs found p
+only_headers view target s (Err OutOfMemory) found first hs p = refl
+only_headers view target s (Err (Refused r)) found first hs p = absurd (fault_or_headers target s r hs first p)
+
+-- the places of a section's CIEs rise
+pub pieces_rise : (target : Target) (s : List ℕ) (ps : List Piece) → Pieces target s ps → Rises 0 (cie_places ps)
+pieces_rise target s ps p = subst (λ (qs : List Piece). Rises 0 (cie_places qs)) (sym p.are) (places_rise target.order 0 p.items)
+
+-- ---- the walk over CIEs
+
+-- what it knows: the CIEs so far hold, and these are their places
+pub record AreCies (target : Target) (ps : List Piece) (places : List ℕ) : Type 0 where
+  pub hold : AllByRecursion (CieHolds target) ps
+  pub are : places ≡ cie_places ps
+
+pub cies_more : (target : Target) (ps : List Piece) (places : List ℕ) (p : Piece) (h : Head) → AreCies target ps places → p.kind ≡ kind.Cie → Has target [] p h → AreCies target (ps ++ p ∷ []) (places ++ p.at ∷ [])
+cies_more target ps places p h w is has = record {
+  hold = all_push (CieHolds target) ps p w.hold (has_cie target [] p h has);
+  are = rw (filter_map-append, w.are, is) refl;
+}
+
+pub fdes_more : (target : Target) (ps : List Piece) (places : List ℕ) (p : Piece) → AreCies target ps places → p.kind ≡ kind.Fde → AreCies target (ps ++ p ∷ []) places
+fdes_more target ps places p w is = record {
+  hold = all_push (CieHolds target) ps p w.hold (λ e. absurd cc);
+  are = rw (filter_map-append, w.are, is) (sym (append-nil (cie_places ps)));
+}
+
+-- a CIE that holds is not refused
+pub cie_never : {X : Type 0} (view : X → Head) (target : Target) (p : Piece) (r : Result X Refusal) (Q : Refusal → Type 0) → CieHolds target p → p.kind ≡ kind.Cie → Answers view r (cie_at target p) → IfErr r Q
+cie_never view target p (Ok x) Q h is a = tt
+cie_never view target p (Err e) Q h is a = absurd (cie_apart target p e h (is, cie_faulty target p e a))
+
+-- a refusal is the first fault of a piece's fields
+pub fde_stuck : {X : Type 0} (view : X → Head) (target : Target) (places : List ℕ) (p : Piece) (r : Result X Refusal) → p.kind ≡ kind.Fde → Answers view r (fde_at target places p) → IfErr r (FdeStuck target places p)
+fde_stuck view target places p (Ok x) is a = tt
+fde_stuck view target places p (Err e) is a = (is, fde_faulty target places p e a)

@@ -1,0 +1,168 @@
+-- What holds of a section's headers.
+use Rattle.std.proofs.Common.{◌≡◌, ℕ, suc, ◌+◌, ◌<◌, ◌≤◌, ◌^◌, List, [], ◌∷◌, ◌++◌, length, refl, sym, ap, subst, ◌∙◌, arith, inl, inr}
+use Rattle.std.specs.List.{AllByRecursion, AllZip, cons_option}
+use Rattle.std.proofs.lemmas.List.{get_or-append-add}
+use Rattle.dw_num.specs.declared.target.Order.{Order}
+use Rattle.dw_num.specs.declared.target.Target.{Target}
+use Rattle.dw_num.specs.declared.target.Size.{Size}
+use Rattle.dw_num.specs.declared.target.Size.TheVariants.{Four, Eight}
+use Rattle.dw_num.specs.Input.{AreBytes}
+use Rattle.dw_num.specs.Fixed.{length_bytes}
+use Rattle.dw_num.specs.Target.{address_limit, byte_count}
+use Rattle.dw_cfa.specs.declared.instr.Instr.{Instr}
+use Rattle.dw_cfa.specs.InstrSpells.{Program}
+use Rattle.dw_cfa.proofs.Lent.InstrLaws.{front_bytes}
+use Rattle.dw_section.specs.Cut.{Item, gap, entry, Piece, pieces, item_bytes, all_bytes}
+use Rattle.dw_section.specs.Places.{cie_place, cie_places}
+use Rattle.dw_section.specs.Inner.Places.{Rises}
+use Rattle.dw_section.specs.Headers.{Head, cie, fde, Has, Headers, CieHead, FdeHead}
+use Rattle.dw_section.specs.Inner.Heads.{head_at, cie_at_of, cie_ats, HeadsRise, FdeFits, HasBytes}
+use Rattle.dw_section.specs.Programs.{IsAmong, Begins, factors_of}
+use Rattle.dw_section.proofs.Items.{item_some}
+use Rattle.dw_section.proofs.Lent.HeaderLaws.{pieces_rise as places_of_pieces}
+use Rattle.dw_section.proofs.Cfa.{one_program}
+use Rattle.dw_section.proofs.Lent.FieldTable.{fde_said}
+
+-- ---- members
+
+pub all_in : (P : Head → Type 0) (hs : List Head) (h : Head) → AllByRecursion P hs → IsAmong h hs → P h
+all_in P [] h all i = absurd i
+all_in P (k ∷ hs) h all (inl is) = subst P (sym is) all.0
+all_in P (k ∷ hs) h all (inr i) = all_in P hs h all.1 i
+
+pub is_among_head : (front : List Head) (h : Head) (after : List Head) → IsAmong h (front ++ h ∷ after)
+is_among_head [] h after = inl refl
+is_among_head (k ∷ front) h after = inr (is_among_head front h after)
+
+-- ---- places rise
+
+abbrev PiecesRise : ℕ → List Piece → Type 0
+PiecesRise low [] = Unit {0}
+PiecesRise low (p ∷ ps) = (low ≤ p.at) × PiecesRise (suc p.at) ps
+
+rise_from : (low more : ℕ) (ps : List Piece) → low ≤ more → PiecesRise more ps → PiecesRise low ps
+rise_from low more [] le h = tt
+rise_from low more (p ∷ ps) le h = (omega (arith, h.0), h.1)
+
+pieces_up : (order : Order) (at : ℕ) (items : List Item) → PiecesRise at (pieces order at items)
+pieces_up order at [] = tt
+pieces_up order at (gap ∷ items) = rise_from at (at + 4) _ (omega arith) (pieces_up order (at + 4) items)
+pieces_up order at (entry form body ∷ items) =
+    let n = length (item_bytes order (entry form body)) in
+    (omega arith, rise_from (suc at) (at + n) _ (omega (arith, item_some order (entry form body))) (pieces_up order (at + n) items))
+
+pub has_at : (target : Target) (places : List ℕ) (p : Piece) (h : Head) → Has target places p h → head_at h ≡ p.at
+has_at target places p h (inl c) = ap head_at c.3
+has_at target places p h (inr c) = ap head_at c.3
+
+heads_up : (target : Target) (places : List ℕ) (low : ℕ) (ps : List Piece) (hs : List Head) → AllZip (Has target places) ps hs → PiecesRise low ps → HeadsRise low hs
+heads_up target places low [] [] z up = tt
+heads_up target places low [] (h ∷ hs) z up = absurd z
+heads_up target places low (p ∷ ps) [] z up = absurd z
+heads_up target places low (p ∷ ps) (h ∷ hs) z up =
+    let e = has_at target places p h z.0 in
+    (subst (λ (n : ℕ). low ≤ n) (sym e) up.0, subst (λ (n : ℕ). HeadsRise (suc n) hs) (sym e) (heads_up target places (suc p.at) ps hs z.1 up.1))
+
+pub heads_rise : (target : Target) (s : List ℕ) (hs : List Head) → Headers target s hs → HeadsRise 0 hs
+heads_rise target s hs p = heads_up target (cie_places p.entries) 0 p.entries hs p.each (subst (PiecesRise 0) (sym p.cut.are) (pieces_up target.order 0 p.cut.items))
+
+pub among_above : (low : ℕ) (hs : List Head) (h : Head) → HeadsRise low hs → IsAmong h hs → low ≤ head_at h
+among_above low [] h up i = absurd i
+among_above low (k ∷ hs) h up (inl is) = subst (λ (x : Head). low ≤ head_at x) (sym is) up.0
+among_above low (k ∷ hs) h up (inr i) = let p = among_above (suc (head_at k)) hs h up.1 i in omega (arith, up.0)
+
+-- at a place stands one entry
+pub one_among : (low : ℕ) (hs : List Head) (h k : Head) → HeadsRise low hs → IsAmong h hs → IsAmong k hs → head_at h ≡ head_at k → h ≡ k
+one_among low [] h k up i j e = absurd i
+one_among low (x ∷ hs) h k up (inl a) (inl b) e = a ∙ sym b
+one_among low (x ∷ hs) h k up (inl a) (inr j) e = let p = among_above (suc (head_at x)) hs k up.1 j in let q = ap head_at a in absurd (omega arith)
+one_among low (x ∷ hs) h k up (inr i) (inl b) e = let p = among_above (suc (head_at x)) hs h up.1 i in let q = ap head_at b in absurd (omega arith)
+one_among low (x ∷ hs) h k up (inr i) (inr j) e = one_among (suc (head_at x)) hs h k up.1 i j e
+
+-- ---- programs are bytes
+
+rest_bytes : (front rest : List ℕ) → AreBytes (front ++ rest) → AreBytes rest
+rest_bytes front rest h = λ k. let e = get_or-append-add front rest k 0 in omega (arith, h (length front + k))
+
+items_bytes : (order : Order) (at : ℕ) (items : List Item) → AreBytes (all_bytes order items) → AllByRecursion (λ (p : Piece). AreBytes p.contents.bytes) (pieces order at items)
+items_bytes order at [] h = tt
+items_bytes order at (gap ∷ items) h = items_bytes order (at + 4) items (rest_bytes (item_bytes order gap) (all_bytes order items) h)
+items_bytes order at (entry form body ∷ items) h = (
+  rest_bytes (length_bytes order form (length body)) body (front_bytes (item_bytes order (entry form body)) (all_bytes order items) h),
+  items_bytes order (at + length (item_bytes order (entry form body))) items (rest_bytes (item_bytes order (entry form body)) (all_bytes order items) h),
+)
+
+has_bytes : (target : Target) (places : List ℕ) (p : Piece) (h : Head) → Has target places p h → AreBytes p.contents.bytes → HasBytes h
+has_bytes target places p h (inl c) b = subst HasBytes (sym c.3) (rest_bytes c.2.1.spelling c.1.bytes (subst AreBytes c.2.1.whole b))
+has_bytes target places p h (inr c) b = subst HasBytes (sym c.3) (rest_bytes c.2.1.spelling c.1.bytes (subst AreBytes c.2.1.whole b))
+
+all_bytes_of : (target : Target) (places : List ℕ) (ps : List Piece) (hs : List Head) → AllZip (Has target places) ps hs → AllByRecursion (λ (p : Piece). AreBytes p.contents.bytes) ps → AllByRecursion HasBytes hs
+all_bytes_of target places [] [] z b = tt
+all_bytes_of target places [] (h ∷ hs) z b = absurd z
+all_bytes_of target places (p ∷ ps) [] z b = absurd z
+all_bytes_of target places (p ∷ ps) (h ∷ hs) z b = (has_bytes target places p h z.0 b.0, all_bytes_of target places ps hs z.1 b.1)
+
+pub heads_bytes : (target : Target) (s : List ℕ) (hs : List Head) → AreBytes s → Headers target s hs → AllByRecursion HasBytes hs
+heads_bytes target s hs b p =
+    all_bytes_of target (cie_places p.entries) p.entries hs p.each
+    (subst (AllByRecursion (λ (x : Piece). AreBytes x.contents.bytes)) (sym p.cut.are) (items_bytes target.order 0 p.cut.items (subst AreBytes p.cut.cut.whole b)))
+
+-- ---- FDEs fit
+
+limit_is : (size : Size) → 256 ^ byte_count size ≡ address_limit size
+limit_is Four = refl
+limit_is Eight = refl
+
+has_fits : (target : Target) (places : List ℕ) (p : Piece) (h : Head) → Has target places p h → FdeFits target places h
+has_fits target places p h (inl c) = subst (FdeFits target places) (sym c.3) tt
+has_fits target places p h (inr c) =
+    let said = fde_said target places p.form c.0 c.2.1.spelling c.2.1.spells in
+    subst (FdeFits target places) (sym c.3) (subst (λ (n : ℕ). c.0.begin < n) (limit_is target.size) said.begin_fits, said.in_space, said.names_cie)
+
+all_fit : (target : Target) (places : List ℕ) (ps : List Piece) (hs : List Head) → AllZip (Has target places) ps hs → AllByRecursion (FdeFits target places) hs
+all_fit target places [] [] z = tt
+all_fit target places [] (h ∷ hs) z = absurd z
+all_fit target places (p ∷ ps) [] z = absurd z
+all_fit target places (p ∷ ps) (h ∷ hs) z = (has_fits target places p h z.0, all_fit target places ps hs z.1)
+
+has_place : (target : Target) (places : List ℕ) (p : Piece) (h : Head) → Has target places p h → cie_at_of h ≡ cie_place p
+has_place target places p h (inl c) = rw (c.3, c.2.0) refl
+has_place target places p h (inr c) = rw (c.3, c.2.0) refl
+
+pub same_places : (target : Target) (places : List ℕ) (ps : List Piece) (hs : List Head) → AllZip (Has target places) ps hs → cie_ats hs ≡ cie_places ps
+same_places target places [] [] z = refl
+same_places target places [] (h ∷ hs) z = absurd z
+same_places target places (p ∷ ps) [] z = absurd z
+same_places target places (p ∷ ps) (h ∷ hs) z = rw (has_place target places p h z.0) (ap (λ (l : List ℕ). cons_option (cie_place p) l) (same_places target places ps hs z.1))
+
+pub heads_fit : (target : Target) (s : List ℕ) (hs : List Head) → Headers target s hs → AllByRecursion (FdeFits target (cie_ats hs)) hs
+heads_fit target s hs p =
+    subst (λ (l : List ℕ). AllByRecursion (FdeFits target l) hs) (sym (same_places target (cie_places p.entries) p.entries hs p.each)) (all_fit target (cie_places p.entries) p.entries hs p.each)
+
+pub ats_rise : (target : Target) (s : List ℕ) (hs : List Head) → Headers target s hs → Rises 0 (cie_ats hs)
+ats_rise target s hs p = subst (Rises 0) (sym (same_places target (cie_places p.entries) p.entries hs p.each)) (places_of_pieces target s p.entries p.cut)
+
+-- ---- the CIE of a place is one
+
+pub record SameBegin (c d : CieHead) (initial another : List Instr) : Type 0 where
+  pub head : c ≡ d
+  pub factors : factors_of c ≡ factors_of d
+  pub instrs : initial ≡ another
+
+-- what a header says of a CIE, and another's where it is none
+abbrev pub cie_or : CieHead → Head → CieHead
+cie_or other (cie c) = c
+cie_or other (fde f) = other
+
+abbrev pub fde_or : FdeHead → Head → FdeHead
+fde_or other (cie c) = other
+fde_or other (fde f) = f
+
+pub one_begin : (target : Target) (hs : List Head) (place : ℕ) (c d : CieHead) (initial another : List Instr) → HeadsRise 0 hs → AllByRecursion HasBytes hs
+    → Begins target hs place c initial → Begins target hs place d another → SameBegin c d initial another
+one_begin target hs place c d initial another up bytes v w =
+    let one = one_among 0 hs _ _ up v.among w.among (v.stands ∙ sym w.stands) in
+    let head : c ≡ d = ap (cie_or c) one in
+    let is_bytes = all_in HasBytes hs _ bytes w.among in
+    let spelled : Program target (factors_of d) initial d.program.bytes = subst (λ (x : CieHead). Program target (factors_of x) initial x.program.bytes) head v.spelled in
+    record { head = head; factors = ap factors_of head; instrs = one_program (factors_of d) target d.program.bytes initial another is_bytes spelled w.spelled }

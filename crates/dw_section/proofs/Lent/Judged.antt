@@ -1,0 +1,191 @@
+-- What running programs tells of headers.
+use Rattle.std.proofs.Common.{◌≡◌, ℕ, zero, suc, ◌+◌, ◌<◌, ◌≤◌, Bool, true, false, List, [], ◌∷◌, ◌++◌, map, length, get_or, set, Option, Some, None, Result, Ok, refl, sym, ap, subst, ◌∙◌, append_assoc, arith, inl, inr}
+use Rattle.std.specs.Prelude.{nat_lt}
+use Rattle.std.specs.List.{AllByRecursion}
+use Rattle.std.specs.List.Sorted.{IsNonDecreasingBy}
+use Rattle.std.proofs.lemmas.Bool.{ltb-true, ltb-false}
+use Rattle.std.proofs.lemmas.Bool.Decides.{eqb_tells}
+use Rattle.std.proofs.lemmas.List.{append-nil, map-append}
+use Rattle.std.proofs.lemmas.List.Elements.{filter_map-append}
+use Rattle.dw_num.specs.declared.refusal.Refusal.{Refusal}
+use Rattle.dw_num.specs.declared.target.Target.{Target}
+use Rattle.dw_num.specs.declared.refusal.Code.TheVariants.{NoCfaRule}
+use Rattle.dw_num.specs.Input.{Input}
+use Rattle.dw_num.specs.Target.{address_limit}
+use Rattle.dw_cfa.specs.declared.instr.Instr.{Instr}
+use Rattle.dw_cfa.specs.declared.rule.CfaRule.{CfaRule}
+use Rattle.dw_cfa.specs.declared.rule.CfaRule.TheVariants.{Unset}
+use Rattle.dw_cfa.specs.declared.running.LocatedRow.{LocatedRow}
+use Rattle.dw_cfa.specs.Inner.Exact.{RulesBehind}
+use Rattle.dw_cfa.specs.Column.{cfa_after}
+use Rattle.dw_cfa.specs.Faults.{FdeFault}
+use Rattle.dw_cfa.specs.Following.{Following, with_steps}
+use Rattle.dw_cfa.specs.Kept.{FdeKept}
+use Rattle.dw_cfa.specs.Laws.{initial_cfa}
+use Rattle.dw_cfa.specs.Location.{Counts}
+use Rattle.dw_cfa.specs.Lacking.{is_unset, lacks_from}
+use Rattle.dw_cfa.specs.declared.instr.Factors.{Factors}
+use Rattle.dw_cfa.specs.Rows.{Rules}
+use Rattle.dw_cfa.specs.Runs.{Outcome}
+use Rattle.dw_cfa.specs.Inner.Runs.{rows_behind}
+use Rattle.dw_cfa.specs.Stepping.{Stepping, stepping}
+use Rattle.dw_section.specs.declared.judging.Initial.{Initial}
+use Rattle.dw_section.specs.Fields.{is_among}
+use Rattle.dw_num.specs.Refusals.{Refuses}
+use Rattle.dw_section.specs.Headers.{Head, fde, FdeHead}
+use Rattle.dw_section.specs.Inner.Heads.{head_at, cie_at_of, cie_ats}
+use Rattle.dw_section.specs.Inner.Initials.{or_place, place_of, IsInitial, IsBehind, AreInitials, HasOrLacks, FirstLacking, initial_head}
+use Rattle.dw_section.specs.Inner.Places.{Rises}
+use Rattle.dw_section.specs.Programs.{input_of, Begins, Instrs, CieRuns, FdeRuns, FdeBroken, HasRules, LacksRule}
+use Rattle.dw_cfa.proofs.Lent.Counting.{counts_exists}
+use Rattle.dw_section.proofs.Covered.{lacks_found, lacks_none, unset_is, is_unset_of}
+use Rattle.dw_section.proofs.Stages.{all_push}
+
+-- ---- what is kept of CIEs
+
+pub initials_cie : (target : Target) (hs front : List Head) (cs : List Initial) (h : Head) (c : Initial) → AreInitials target hs front cs → CieRuns target h → cie_at_of h ≡ Some c.at → IsInitial target hs c
+    → AreInitials target hs (front ++ h ∷ []) (cs ++ c ∷ [])
+initials_cie target hs front cs h c w runs place is = record {
+  run = all_push (CieRuns target) front h w.run runs;
+  places = rw (map-append, filter_map-append, w.places, place) refl;
+  each = all_push (IsInitial target hs) cs c w.each is;
+}
+
+pub initials_fde : (target : Target) (hs front : List Head) (cs : List Initial) (h : Head) → AreInitials target hs front cs → CieRuns target h → cie_at_of h ≡ None → AreInitials target hs (front ++ h ∷ []) cs
+initials_fde target hs front cs h w runs place = record {
+  run = all_push (CieRuns target) front h w.run runs;
+  places = rw (filter_map-append, w.places, place) (sym (append-nil (cie_ats front)));
+  each = w.each;
+}
+
+-- ---- the search among them
+
+low_among : (low n : ℕ) (xs : List ℕ) → Rises low xs → is_among n xs ≡ true → low ≤ n
+low_among low n [] up e = absurd cc
+low_among low n (x ∷ xs) up e = elim (eqb_tells x n) [
+  | inl is ↦ omega (arith, up.0, is.1)
+  | inr not ↦ let rest : is_among n xs ≡ true = rw (not.0) at e in let p = low_among x n xs up.1 rest in omega (arith, up.0)
+]
+
+from_low : (low : ℕ) (cs : List Initial) (j : ℕ) (d : Initial) → Rises low (map place_of cs) → j < length cs → low ≤ (get_or cs j d).at
+from_low low [] j d up lt = absurd (omega arith)
+from_low low (c ∷ cs) zero d up lt = up.0
+from_low low (c ∷ cs) (suc j) d up lt = let p = from_low c.at cs j d up.1 (omega arith) in omega (arith, up.0)
+
+pub initials_ascend : (low : ℕ) (cs : List Initial) → Rises low (map place_of cs) → IsNonDecreasingBy place_of cs
+initials_ascend low [] up i j d le lt = absurd (omega arith)
+initials_ascend low (c ∷ cs) up zero zero d le lt = omega arith
+initials_ascend low (c ∷ cs) up zero (suc j) d le lt = from_low c.at cs j d up.1 (omega arith)
+initials_ascend low (c ∷ cs) up (suc i) zero d le lt = absurd (omega arith)
+initials_ascend low (c ∷ cs) up (suc i) (suc j) d le lt = initials_ascend c.at cs up.1 i j d (omega arith) (omega arith)
+
+pub found_initial : (place low : ℕ) (cs : List Initial) (i : ℕ) → Rises low (map place_of cs) → is_among place (map place_of cs) ≡ true
+    → ((k : ℕ) (d : Initial) → k < i → nat_lt (get_or cs k d).at place ≡ true) → ((k : ℕ) (d : Initial) → i ≤ k → k < length cs → nat_lt (get_or cs k d).at place ≡ false)
+    → (i < length cs) × ((d : Initial) → (get_or cs i d).at ≡ place)
+found_initial place low [] i up among below above = absurd cc
+found_initial place low (c ∷ cs) zero up among below above =
+    let at = ltb-false c.at place (above 0 c (omega arith) (omega arith)) in
+    let same : c.at ≡ place = elim (eqb_tells c.at place) [
+      | inl is ↦ is.1
+      | inr not ↦ let rest : is_among place (map place_of cs) ≡ true = rw (not.0) at among in let p = low_among c.at place (map place_of cs) up.1 rest in omega arith
+    ] in
+    (omega arith, λ d. same)
+found_initial place low (c ∷ cs) (suc i) up among below above =
+    let at = ltb-true c.at place (below 0 c (omega arith)) in
+    let rest : is_among place (map place_of cs) ≡ true = elim (eqb_tells c.at place) [
+      | inl is ↦ let e = is.1 in absurd (omega arith)
+      | inr not ↦ rw (not.0) at among
+    ] in
+    let q = found_initial place c.at cs i up.1 rest (λ k d lt. below (suc k) d (omega arith)) (λ k d le lt. above (suc k) d (omega arith) (omega arith)) in
+    (omega (arith, q.0), q.1)
+
+pub all_get : {X : Type 0} (P : X → Type 0) (xs : List X) (i : ℕ) (d : X) → AllByRecursion P xs → i < length xs → P (get_or xs i d)
+all_get P [] i d h lt = absurd (omega arith)
+all_get P (x ∷ xs) zero d h lt = h.0
+all_get P (x ∷ xs) (suc i) d h lt = all_get P xs i d h.1 (omega arith)
+
+-- ---- a header of a list is among them
+
+-- ---- a machine that ran an FDE's program
+
+pub behind_stays : (target : Target) (hs : List Head) (place : ℕ) (m n : Following) → n ≡ with_steps m n.steps → IsBehind target hs (Some place) m → IsBehind target hs (Some place) n
+behind_stays target hs place m n same is = (
+  is.0,
+  is.1,
+  is.2,
+  ap (λ (x : Following). x.initial) same ∙ is.3,
+  ap (λ (x : Following). x.factors) same ∙ is.4,
+  ap (λ (x : Following). x.target) same ∙ is.5,
+)
+
+pub all_set : {X : Type 0} (P : X → Type 0) (xs : List X) (i : ℕ) (y : X) → AllByRecursion P xs → P y → AllByRecursion P (set xs i y)
+all_set P [] i y h is = tt
+all_set P (x ∷ xs) zero y h is = (is, h.1)
+all_set P (x ∷ xs) (suc i) y h is = (h.0, all_set P xs i y h.1 is)
+
+-- ---- an FDE whose CIE is kept
+
+module _ (target : Target) (hs : List Head) (c : Initial) (is : IsInitial target hs c) (f : FdeHead) (place : c.at ≡ f.cie_at) where
+  begins_so : Begins target hs f.cie_at (initial_head is.0 c) is.1
+  begins_so = record { among = is.2; stands = place; spelled = is.4.program }
+
+  pub fde_broken : (r : Refusal) → FdeFault c.factors is.3.cfa (input_of target f.program) f.begin r → FdeBroken target hs (fde f) r
+  fde_broken r fault = (initial_head is.0 c, is.1, begins_so, subst (λ (x : CfaRule). FdeFault c.factors x (input_of target f.program) f.begin r) is.4.cfa fault)
+
+  module _ (instrs : List Instr) (rows : List LocatedRow) (given : RulesBehind c.factors is.3 (input_of target f.program) f.begin instrs rows) where
+    instrs_so : Instrs target hs f.cie_at f.program is.1 instrs
+    instrs_so = record { head = initial_head is.0 c; begins = begins_so; spelled = given.program }
+
+    pub fde_runs : FdeRuns target hs (fde f)
+    fde_runs = (is.1, instrs, instrs_so, subst (λ (x : CfaRule). FdeKept (address_limit target.size) f.begin x instrs) is.4.cfa given.kept)
+
+    lacks_so : lacks_from (f.begin + f.range) f.begin false rows ≡ true → LacksRule target hs (fde f) (record { code = NoCfaRule; at = f.at })
+    lacks_so e =
+        let found = lacks_found (f.begin + f.range) f.begin false rows given.never_falls e in
+        let counts = counts_exists f.begin instrs found.0 found.1 in
+        let row = given.holds found.0 counts.0 found.1 counts.1 in
+        let unset = unset_is row.0.cfa (rw row.1 at found.3) in
+        let here : cfa_after (initial_cfa is.1) instrs counts.0 ≡ Unset = ap (λ (x : CfaRule). cfa_after x instrs counts.0) (sym is.4.cfa) ∙ sym row.2.cfa ∙ unset in
+        (refl, (is.1, instrs, instrs_so, (found.0, found.1, found.2, (counts.0, counts.1, here))))
+
+    has_at : lacks_from (f.begin + f.range) f.begin false rows ≡ false → (a : ℕ) → f.begin ≤ a → a < f.begin + f.range → (k : ℕ) → Counts f.begin instrs a k → cfa_after (initial_cfa is.1) instrs k ≡ Unset → ⊥
+    has_at e a le lt k counts unset =
+        let row = given.holds a k le counts in
+        let none = lacks_none (f.begin + f.range) f.begin false rows given.never_falls e a le lt in
+        let no : is_unset row.0.cfa ≡ false = rw row.1 at none in
+        let yes = is_unset_of row.0.cfa (row.2.cfa ∙ ap (λ (x : CfaRule). cfa_after x instrs k) is.4.cfa ∙ unset) in
+        let e = sym no ∙ yes in cc
+
+    pub has_or_lacks : (lacks : Bool) → lacks ≡ lacks_from (f.begin + f.range) f.begin false rows → HasOrLacks target hs (fde f) lacks
+    has_or_lacks true e = lacks_so (sym e)
+    has_or_lacks false e = (is.1, instrs, instrs_so, has_at (sym e))
+
+-- what a run on a machine behind a CIE's row tells
+module _ (target : Target) (hs : List Head) (m : Following) (f : FdeHead) (is : IsBehind target hs (Some f.cie_at) m) where
+  abbrev Ran : Factors → Rules → Target → Bool → Type 0
+  Ran g row t lacks = (instrs : List Instr) × (rows : List LocatedRow) × RulesBehind g row (input_of t f.program) f.begin instrs rows × (lacks ≡ lacks_from (f.begin + f.range) f.begin false rows)
+
+  pub behind_found : (lacks : Bool) → Ran m.factors m.initial m.target lacks
+      → FdeRuns target hs (fde f) × HasOrLacks target hs (fde f) lacks
+  behind_found lacks ran =
+      let c = is.0 in
+      let y : Ran c.factors is.2.3 target lacks =
+      subst (λ (t : Target). Ran c.factors is.2.3 t lacks) is.5 (subst (λ (g : Factors). Ran g is.2.3 m.target lacks) is.4 (subst (λ (row : Rules). Ran m.factors row m.target lacks) is.3 ran)) in
+      (fde_runs target hs c is.2 f is.1 y.0 y.1 y.2, has_or_lacks target hs c is.2 f is.1 y.0 y.1 y.2 lacks y.3)
+
+  pub behind_broken : (r : Refusal) → FdeFault m.factors m.initial.cfa (input_of m.target f.program) f.begin r → FdeBroken target hs (fde f) r
+  behind_broken r fault =
+      let c = is.0 in
+      fde_broken target hs c is.2 f is.1 r
+      (subst (λ (t : Target). FdeFault c.factors is.2.3.cfa (input_of t f.program) f.begin r) is.5
+      (subst (λ (g : Factors). FdeFault g is.2.3.cfa (input_of m.target f.program) f.begin r) is.4
+      (subst (λ (row : Rules). FdeFault m.factors row.cfa (input_of m.target f.program) f.begin r) is.3 fault)))
+
+-- ---- the first that lacks one
+
+pub lacking_more : (target : Target) (hs front : List Head) (h : Head) (lacking : Option ℕ) (lacks : Bool) → FirstLacking target hs front lacking → HasOrLacks target hs h lacks
+    → FirstLacking target hs (front ++ h ∷ []) (or_place lacking lacks (head_at h))
+lacking_more target hs front h (Some place) lacks w l =
+    record { before = w.before; it = w.it; after = w.after ++ h ∷ []; whole = ap (λ (xs : List Head). xs ++ h ∷ []) w.whole ∙ append_assoc w.before (w.it ∷ w.after) (h ∷ []); hold = w.hold; stuck = w.stuck }
+lacking_more target hs front h None true w l = record { before = front; it = h; after = []; whole = refl; hold = w; stuck = l }
+lacking_more target hs front h None false w l = all_push (HasRules target hs) front h w l

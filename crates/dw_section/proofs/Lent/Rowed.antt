@@ -1,0 +1,97 @@
+-- The changes of an FDE determine its rules at each address, and its rules determine its changes.
+use Rattle.std.proofs.Common.{◌≡◌, ℕ, zero, suc, ◌+◌, ◌-◌, ◌<◌, ◌≤◌, List, [], ◌∷◌, refl, sym, ap, subst, ◌∙◌, arith, inl, inr}
+use Rattle.std.specs.List.{AllByRecursion, AllZip}
+use Rattle.std.proofs.lemmas.Bool.{cases_lt, cases_order, lt-ltb, le-ltb}
+use Rattle.dw_cfa.specs.declared.instr.Instr.{Instr}
+use Rattle.dw_cfa.specs.Rows.{Rules, AreSpecified}
+use Rattle.dw_cfa.proofs.Lent.Counting.{counts_exists}
+use Rattle.dw_cfa.proofs.Lent.SameRows.{same_rows}
+use Rattle.dw_section.specs.Changes.{Stays, StayFrom, HoldsAt, ChangesBehind, AreChanges}
+use Rattle.dw_section.specs.Inner.Agree.{AgreeAt, Agree}
+use Rattle.dw_section.specs.Meanings.{SameRow}
+use Rattle.dw_section.specs.Inner.Meanings.{row_among}
+
+module _ (i j : List Instr) (begin : ℕ) where
+  stays_row : (a : ℕ) (row : Rules) → begin ≤ a → Stays i j begin a (suc a) → HoldsAt i j begin a row → HoldsAt i j begin (suc a) row
+  stays_row a row le stays h k counts =
+      let c = counts_exists begin j a le in
+      let same = stays c.0 k c.1 counts in
+      let here = h c.0 c.1 in
+      record { cfa = here.cfa ∙ same.cfa; rules = λ r. here.rules r ∙ same.rules r; listed = here.listed }
+
+  -- a row holds on while nothing changes
+  stay_row : (low high n : ℕ) (row : Rules) → begin ≤ low → StayFrom i j begin low high → low + n < high → HoldsAt i j begin low row → HoldsAt i j begin (low + n) row
+  stay_row low high zero row le stay lt h = let e : low ≡ low + 0 = omega arith in subst (λ (a : ℕ). HoldsAt i j begin a row) e h
+  stay_row low high (suc n) row le stay lt h =
+      let before = stay_row low high n row le stay (omega arith) h in
+      let e : suc (low + n) ≡ low + suc n = omega arith in
+      subst (λ (a : ℕ). HoldsAt i j begin a row) e (stays_row (low + n) row (omega arith) (stay (low + n) (omega arith) (omega arith)) before)
+
+  pub holds_on : (low high a : ℕ) (row : Rules) → begin ≤ low → StayFrom i j begin low high → low ≤ a → a < high → HoldsAt i j begin low row → HoldsAt i j begin a row
+  holds_on low high a row le stay from below h = let e : low + (a - low) ≡ a = omega arith in subst (λ (b : ℕ). HoldsAt i j begin b row) e (stay_row low high (a - low) row le stay (omega arith) h)
+
+  behind_row : (end low a : ℕ) (before : Rules) (changes : List (ℕ × Rules)) → begin ≤ low → low ≤ a → a < end → HoldsAt i j begin low before → ChangesBehind i j begin end low changes → HoldsAt i j begin a (row_among a before changes)
+  behind_row end low a before [] le from below h c = holds_on low end a before le c from below h
+  behind_row end low a before (change ∷ changes) le from below h c = elim (cases_lt a change.0) [
+    | inl less ↦ rw (lt-ltb a change.0 less) (holds_on low (suc c.0) a before le c.4 from (omega (arith, c.1)) h)
+    | inr more ↦ rw (le-ltb a change.0 more) (behind_row end (suc c.0) a change.1 changes (omega (arith, c.2)) (omega (arith, c.1)) below c.6 c.7)
+  ]
+
+  -- at each address of an FDE the row of its last change holds
+  pub changed_row : (end a : ℕ) (first : ℕ × Rules) (changes : List (ℕ × Rules)) → begin ≤ a → a < end → AreChanges i j begin end (first ∷ changes) → HoldsAt i j begin a (row_among a first.1 changes)
+  changed_row end a first changes from below c = behind_row end begin a first.1 changes (omega arith) from below c.1 c.2
+
+-- a row that holds at an address of both makes them agree there
+pub agree_row : (begin a : ℕ) (i j k l : List Instr) (row : Rules) → HoldsAt i j begin a row → HoldsAt k l begin a row → AgreeAt begin i j k l a
+agree_row begin a i j k l row v w x y cx cy =
+    let p = v x cx in
+    let q = w y cy in
+    record { cfa = sym p.cfa ∙ q.cfa; rules = λ r. sym (p.rules r) ∙ q.rules r }
+
+-- programs with the same changes agree
+pub agree_changes : (begin end : ℕ) (i j k l : List Instr) (changes : List (ℕ × Rules)) → AreChanges i j begin end changes → AreChanges k l begin end changes → Agree begin end i j k l
+agree_changes begin end i j k l [] v w a from below = absurd v
+agree_changes begin end i j k l (first ∷ changes) v w a from below =
+    agree_row begin a i j k l (row_among a first.1 changes) (changed_row i j begin end a first changes from below v) (changed_row k l begin end a first changes from below w)
+
+-- ---- changes are one, up to how their rows are listed
+
+pub one_row : (i j : List Instr) (begin a : ℕ) (x y : Rules) → begin ≤ a → HoldsAt i j begin a x → HoldsAt i j begin a y → SameRow x y
+one_row i j begin a x y le v w =
+    let c = counts_exists begin j a le in
+    let p = v c.0 c.1 in
+    let q = w c.0 c.1 in
+    record { cfa = p.cfa ∙ sym q.cfa; rules = λ r. p.rules r ∙ sym (q.rules r) }
+
+abbrev pub SameChange : ℕ × Rules → ℕ × Rules → Type 0
+SameChange x y = (x.0 ≡ y.0) × SameRow x.1 y.1
+
+one_behind : (i j : List Instr) (begin end low : ℕ) (xs ys : List (ℕ × Rules)) → begin ≤ low → ChangesBehind i j begin end low xs → ChangesBehind i j begin end low ys → AllZip SameChange xs ys
+one_behind i j begin end low [] [] le v w = tt
+one_behind i j begin end low [] (y ∷ ys) le v w = let d = w.5 in absurd (d.other (v w.0 w.2 w.3 d.j d.k d.before d.after))
+one_behind i j begin end low (x ∷ xs) [] le v w = let d = v.5 in absurd (d.other (w v.0 v.2 v.3 d.j d.k d.before d.after))
+one_behind i j begin end low (x ∷ xs) (y ∷ ys) le v w = elim (cases_order v.0 w.0) [
+  | inl same ↦ (
+    (v.1 ∙ ap suc same ∙ sym w.1, one_row i j begin (suc v.0) x.1 y.1 (omega (arith, v.2)) v.6 (subst (λ (a : ℕ). HoldsAt i j begin (suc a) y.1) (sym same) w.6)),
+    one_behind i j begin end (suc v.0) xs ys (omega (arith, v.2)) v.7 (subst (λ (a : ℕ). ChangesBehind i j begin end (suc a) ys) (sym same) w.7),
+  )
+  | inr (inl less) ↦ let d = v.5 in absurd (d.other (w.4 v.0 v.2 (omega arith) d.j d.k d.before d.after))
+  | inr (inr less) ↦ let d = w.5 in absurd (d.other (v.4 w.0 w.2 (omega arith) d.j d.k d.before d.after))
+]
+
+pub one_changes : (i j : List Instr) (begin end : ℕ) (xs ys : List (ℕ × Rules)) → AreChanges i j begin end xs → AreChanges i j begin end ys → AllZip SameChange xs ys
+one_changes i j begin end [] ys v w = absurd v
+one_changes i j begin end (x ∷ xs) [] v w = absurd w
+one_changes i j begin end (x ∷ xs) (y ∷ ys) v w = ((v.0 ∙ sym w.0, one_row i j begin begin x.1 y.1 (omega arith) v.1 w.1), one_behind i j begin end begin xs ys (omega arith) v.2 w.2)
+
+abbrev pub IsListedRow : ℕ × Rules → Type 0
+IsListedRow change = AreSpecified 0 change.1.registers
+
+-- lists whose rows list each register once are one
+pub one_listed : (xs ys : List (ℕ × Rules)) → AllZip SameChange xs ys → AllByRecursion IsListedRow xs → AllByRecursion IsListedRow ys → xs ≡ ys
+one_listed [] [] z h k = refl
+one_listed [] (y ∷ ys) z h k = absurd z
+one_listed (x ∷ xs) [] z h k = absurd z
+one_listed (x ∷ xs) (y ∷ ys) z h k =
+    let rows : x.1 ≡ y.1 = same_rows x.1 y.1 h.0 k.0 z.0.1.cfa z.0.1.rules in
+    ap (λ (n : ℕ). (n, x.1) ∷ xs) z.0.0 ∙ ap (λ (r : Rules). (y.0, r) ∷ xs) rows ∙ ap (λ (l : List (ℕ × Rules)). y ∷ l) (one_listed xs ys z.1 h.1 k.1)

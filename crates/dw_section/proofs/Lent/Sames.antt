@@ -1,0 +1,70 @@
+-- Two accepted sections with the same FDEs, whose programs agree, say the same.
+use Rattle.std.proofs.Common.{◌≡◌, ℕ, ◌<◌, ◌≤◌, List, sym, subst, arith}
+use Rattle.std.specs.List.{AllZip}
+use Rattle.dw_num.specs.declared.target.Target.{Target}
+use Rattle.dw_num.specs.Input.{AreBytes}
+use Rattle.dw_cfa.specs.declared.instr.Instr.{Instr}
+use Rattle.dw_cfa.specs.Rows.{Rules}
+use Rattle.dw_section.specs.declared.lookup.Fde.{Fde}
+use Rattle.dw_section.specs.Accepted.{Accepted}
+use Rattle.dw_section.specs.Changes.{HoldsAt, AreChanges}
+use Rattle.dw_section.specs.Meaning.{Says, AreFdes, RulesAt, ChangesOf}
+use Rattle.dw_section.proofs.Lent.FdeLookup.{one_fdes}
+use Rattle.dw_section.specs.Inner.Agree.{Agree}
+use Rattle.dw_section.specs.Meanings.{IsListed, SameMeaning}
+use Rattle.dw_section.proofs.Lent.Agrees.{agree_sym, holds_agree, changes_agree}
+use Rattle.dw_section.proofs.Lent.Rowed.{SameChange, one_changes}
+use Rattle.dw_section.proofs.Lent.Sections.{one_programs, rules_programs, programs_rules, changes_programs, programs_changes, listed_programs, programs_listed}
+
+-- the changes of an FDE that is not empty are one, up to how their rows are listed
+pub one_list : (target : Target) (s : List ℕ) (b : AreBytes s) (ok : Accepted target s) (f : Fde) (xs ys : List (ℕ × Rules)) → f.begin < f.end → ChangesOf target s f xs → ChangesOf target s f ys → AllZip SameChange xs ys
+one_list target s b ok f xs ys some v w =
+    let p = changes_programs target s b ok f xs v in
+    let q = changes_programs target s b ok f ys w in
+    let same = one_programs target s b ok f.begin f.begin f.end f.begin f.end p.0 p.1 q.0 q.1 (omega arith) some (omega arith) some p.2 q.2 in
+    one_changes q.0 q.1 f.begin f.end xs ys (subst (λ (l : List Instr). AreChanges q.0 l f.begin f.end xs) same.instrs (subst (λ (l : List Instr). AreChanges l p.1 f.begin f.end xs) same.initials p.3)) q.3
+
+-- programs of the same FDEs agree
+abbrev pub AllAgree : Target → List ℕ → List ℕ → List Fde → Type 0
+AllAgree target s t fs =
+    (f : Fde) → IsListed f fs → (i j k l : List Instr) → Says target s f.begin f.end i j → Says target t f.begin f.end k l → Agree f.begin f.end i j k l
+
+pub all_agree_sym : (target : Target) (s t : List ℕ) (fs : List Fde) → AllAgree target s t fs → AllAgree target t s fs
+all_agree_sym target s t fs h f listed i j k l p q a le lt = agree_sym f.begin a k l i j (h f listed k l i j q p a le lt)
+
+module _ (target : Target) (s t : List ℕ) (bs : AreBytes s) (bt : AreBytes t) (oks : Accepted target s) (okt : Accepted target t) (fs : List Fde)
+    (in_s : AreFdes target s fs) (in_t : AreFdes target t fs) (agree : AllAgree target s t fs) where
+  pub rules_there : (a : ℕ) (row : Rules) → RulesAt target s a row → RulesAt target t a row
+  rules_there a row h =
+      let p = rules_programs target s bs oks a row h in
+      let from = p.from in
+      let below = p.below in
+      let listed = programs_listed target s bs oks fs p.begin p.end p.initial p.instrs in_s (omega arith) p.programs in
+      let f = listed.0 in
+      let there = (listed_programs target t bt okt fs f in_t listed.1).1 in
+      let mine : Says target s f.begin f.end p.initial p.instrs =
+      subst (λ (n : ℕ). Says target s n f.end p.initial p.instrs) (sym listed.2) (subst (λ (n : ℕ). Says target s p.begin n p.initial p.instrs) (sym listed.3) p.programs) in
+      let begins : f.begin ≡ p.begin = listed.2 in
+      let ends : f.end ≡ p.end = listed.3 in
+      let le : f.begin ≤ a = omega arith in
+      let lt : a < f.end = omega arith in
+      let holds = subst (λ (n : ℕ). HoldsAt p.initial p.instrs n a row) (sym begins) p.holds in
+      programs_rules target t bt okt f.begin f.end a there.0 there.1 row there.2 le lt (holds_agree f.begin a p.initial p.instrs there.0 there.1 row le (agree f listed.1 p.initial p.instrs there.0 there.1 mine there.2 a le lt) holds)
+
+  pub changes_there : (f : Fde) (changes : List (ℕ × Rules)) → IsListed f fs → ChangesOf target s f changes → ChangesOf target t f changes
+  changes_there f changes listed h =
+      let p = changes_programs target s bs oks f changes h in
+      let all = listed_programs target t bt okt fs f in_t listed in
+      let there = all.1 in
+      programs_changes target t bt okt f changes there.0 there.1 there.2 (changes_agree f.begin f.end p.0 p.1 there.0 there.1 (agree f listed p.0 p.1 there.0 there.1 p.2 there.2) changes all.0 p.3)
+
+  fdes_there : (gs : List Fde) → AreFdes target s gs → AreFdes target t gs
+  fdes_there gs h = subst (AreFdes target t) (one_fdes target s fs gs in_s h) in_t
+
+module _ (target : Target) (s t : List ℕ) (bs : AreBytes s) (bt : AreBytes t) (oks : Accepted target s) (okt : Accepted target t) (fs : List Fde)
+    (in_s : AreFdes target s fs) (in_t : AreFdes target t fs) (agree : AllAgree target s t fs) where
+  pub same_meaning : SameMeaning target s t
+  same_meaning = record {
+    fdes = λ gs. (fdes_there target s t bs bt oks okt fs in_s in_t agree gs, fdes_there target t s bt bs okt oks fs in_t in_s (all_agree_sym target s t fs agree) gs);
+    rules = λ a row. (rules_there target s t bs bt oks okt fs in_s in_t agree a row, rules_there target t s bt bs okt oks fs in_t in_s (all_agree_sym target s t fs agree) a row);
+  }

@@ -1,0 +1,337 @@
+-- Laws of a section that is accepted: what it says of an FDE is one thing, and each address has rules.
+use Rattle.std.proofs.Common.{◌≡◌, ℕ, ◌+◌, ◌<◌, ◌≤◌, List, [], ◌∷◌, refl, sym, ap, subst, ◌∙◌, arith, inl, inr, true}
+use Rattle.std.specs.List.{AllByRecursion, AllZip}
+use Rattle.std.proofs.lemmas.Bool.Decides.{eqb_tells}
+use Rattle.dw_num.specs.declared.target.Target.{Target}
+use Rattle.dw_num.specs.Input.{AreBytes}
+use Rattle.dw_num.specs.Target.{address_limit}
+use Rattle.dw_cfa.specs.declared.instr.Instr.{Instr}
+use Rattle.dw_cfa.specs.declared.rule.CfaRule.{CfaRule}
+use Rattle.dw_cfa.specs.declared.rule.RegRule.{RegRule}
+use Rattle.dw_cfa.specs.Column.{cfa_after, rule_after}
+use Rattle.dw_cfa.specs.Kept.{CieKept, FdeKept}
+use Rattle.dw_cfa.specs.Laws.{initial_cfa, HoldsAfter}
+use Rattle.dw_cfa.specs.Rows.{Rules, AreSpecified}
+use Rattle.dw_cfa.proofs.Lent.BehindLaws.{gives_rows}
+use Rattle.dw_cfa.proofs.Lent.Counting.{counts_exists, one_count}
+use Rattle.dw_cfa.proofs.Lent.FaultLaws.{leaves_initial}
+use Rattle.dw_section.specs.declared.lookup.Fde.{Fde}
+use Rattle.dw_section.specs.Accepted.{Accepted}
+use Rattle.dw_section.specs.Changes.{HoldsAt, AreChanges}
+use Rattle.dw_section.specs.Fields.{is_among}
+use Rattle.dw_section.specs.Headers.{Head, Headers, CieHead, FdeHead, cie, fde}
+use Rattle.dw_section.specs.Inner.Heads.{HeadsRise, HasBytes, FdeFits, cie_ats}
+use Rattle.dw_section.specs.Meaning.{Says, Lists, AreFdes, RulesAt, ChangesOf, Covers}
+use Rattle.dw_section.specs.Overlap.{Range, nonempty, IsIn, IsIndex, AreApart, end_of, range_of}
+use Rattle.dw_section.specs.Programs.{IsAmong, CieRuns, FdeRuns, HasRules, Begins, Instrs, HasCfa, input_of, factors_of}
+use Rattle.dw_section.proofs.Lent.CheckFirst.{one_instrs}
+use Rattle.dw_section.proofs.Lent.HeaderLaws.{one_headers}
+use Rattle.dw_section.proofs.Lent.Heads.{all_in, heads_rise, heads_bytes, heads_fit, one_among, one_begin, fde_or}
+use Rattle.dw_section.proofs.Lent.Index.{all_at, all_from, one_index, with_range_so}
+use Rattle.dw_section.specs.Meanings.{IsListed, SameRow}
+use Rattle.dw_section.proofs.Lent.Rowed.{one_row}
+
+-- ---- ranges and headers
+
+pub head_range : (hs : List Head) (f : FdeHead) → 0 < f.range → IsAmong (fde f) hs → IsIn (range_of f) (nonempty hs)
+head_range [] f some i = absurd i
+head_range (cie c ∷ hs) f some (inl is) = absurd cc
+head_range (cie c ∷ hs) f some (inr i) = head_range hs f some i
+head_range (fde g ∷ hs) f some i =
+    with_range_so (λ (rs : List Range). IsIn (range_of f) rs) (range_of g) (nonempty hs)
+    (λ none. elim i [ inl is ↦ absurd (omega (arith, none, ap (λ (h : Head). (fde_or g h).range) is)) | inr j ↦ head_range hs f some j ])
+    (λ more. elim i [ inl is ↦ inl (ap (λ (h : Head). range_of (fde_or g h)) is) | inr j ↦ inr (head_range hs f some j) ])
+
+-- the header of a range
+pub record HeadOf (hs : List Head) (a : Range) : Type 0 where
+  pub head : FdeHead
+  pub among : IsAmong (fde head) hs
+  pub covers : range_of head ≡ a
+  pub some : 0 < a.range
+
+more_head : (h : Head) (hs : List Head) (a : Range) → HeadOf hs a → HeadOf (h ∷ hs) a
+more_head h hs a o = record { head = o.head; among = inr o.among; covers = o.covers; some = o.some }
+
+pub range_head : (hs : List Head) (a : Range) → IsIn a (nonempty hs) → HeadOf hs a
+range_head [] a i = absurd i
+range_head (cie c ∷ hs) a i = more_head (cie c) hs a (range_head hs a i)
+range_head (fde f ∷ hs) a i =
+    with_range_so (λ (rs : List Range). IsIn a rs → HeadOf (fde f ∷ hs) a) (range_of f) (nonempty hs) (λ none j. more_head (fde f) hs a (range_head hs a j))
+    (λ some. elim [
+      | inl is ↦ record { head = f; among = inl refl; covers = sym is; some = omega (arith, some, ap (λ (x : Range). x.range) is) }
+      | inr j ↦ more_head (fde f) hs a (range_head hs a j)
+    ]) i
+
+-- an address lies in one range
+pub one_cover : (rs : List Range) (x y : Range) (a : ℕ) → AreApart rs → IsIn x rs → IsIn y rs → x.begin ≤ a → a < end_of x → y.begin ≤ a → a < end_of y → x ≡ y
+one_cover [] x y a apart i j fx bx fy by = absurd i
+one_cover (z ∷ rs) x y a apart (inl i) (inl j) fx bx fy by = i ∙ sym j
+one_cover (z ∷ rs) x y a apart (inl i) (inr j) fx bx fy by =
+    let p = all_at (λ (w : Range). end_of z ≤ w.begin) rs y apart.0 j in
+    let e : end_of x ≡ end_of z = ap end_of i in
+    absurd (omega arith)
+one_cover (z ∷ rs) x y a apart (inr i) (inl j) fx bx fy by =
+    let p = all_at (λ (w : Range). end_of z ≤ w.begin) rs x apart.0 i in
+    let e : end_of y ≡ end_of z = ap end_of j in
+    absurd (omega arith)
+one_cover (z ∷ rs) x y a apart (inr i) (inr j) fx bx fy by = one_cover rs x y a apart.1 i j fx bx fy by
+
+-- a place among those of CIEs is one of a CIE
+pub record CieOf (hs : List Head) (at : ℕ) : Type 0 where
+  pub head : CieHead
+  pub among : IsAmong (cie head) hs
+  pub stands : head.at ≡ at
+
+more_cie : (h : Head) (hs : List Head) (at : ℕ) → CieOf hs at → CieOf (h ∷ hs) at
+more_cie h hs at o = record { head = o.head; among = inr o.among; stands = o.stands }
+
+pub cie_among : (hs : List Head) (at : ℕ) → is_among at (cie_ats hs) ≡ true → CieOf hs at
+cie_among [] at e = absurd cc
+cie_among (cie c ∷ hs) at e = elim (eqb_tells c.at at) [
+  | inl is ↦ record { head = c; among = inl refl; stands = is.1 }
+  | inr not ↦ let rest : is_among at (cie_ats hs) ≡ true = rw (not.0) at e in more_cie (cie c) hs at (cie_among hs at rest)
+]
+cie_among (fde f ∷ hs) at e = more_cie (fde f) hs at (cie_among hs at e)
+
+-- ---- lists side by side
+
+pub zip_left : (R : Range → Fde → Type 0) (rs : List Range) (fs : List Fde) (a : Range) → AllZip R rs fs → IsIn a rs → (f : Fde) × IsListed f fs × R a f
+zip_left R [] fs a z i = absurd i
+zip_left R (r ∷ rs) [] a z i = absurd z
+zip_left R (r ∷ rs) (f ∷ fs) a z (inl is) = (f, inl refl, subst (λ (x : Range). R x f) (sym is) z.0)
+zip_left R (r ∷ rs) (f ∷ fs) a z (inr i) = let rest = zip_left R rs fs a z.1 i in (rest.0, inr rest.1, rest.2)
+
+pub zip_right : (R : Range → Fde → Type 0) (rs : List Range) (fs : List Fde) (f : Fde) → AllZip R rs fs → IsListed f fs → (a : Range) × IsIn a rs × R a f
+zip_right R rs [] f z i = absurd i
+zip_right R [] (g ∷ fs) f z i = absurd z
+zip_right R (r ∷ rs) (g ∷ fs) f z (inl is) = (r, inl refl, subst (R r) (sym is) z.0)
+zip_right R (r ∷ rs) (g ∷ fs) f z (inr i) = let rest = zip_right R rs fs f z.1 i in (rest.0, inr rest.1, rest.2)
+
+pub make_zip : (R : Range → Fde → Type 0) (rs : List Range) → AllByRecursion (λ a. (f : Fde) × R a f) rs → (fs : List Fde) × AllZip R rs fs
+make_zip R [] h = ([], tt)
+make_zip R (r ∷ rs) h = let rest = make_zip R rs h.1 in (h.0.0 ∷ rest.0, (h.0.1, rest.1))
+
+-- ---- the section
+
+module _ (target : Target) (s : List ℕ) (b : AreBytes s) (ok : Accepted target s) where
+  abbrev pub hs : List Head
+  hs = ok.1.0
+
+  abbrev pub index : List Range
+  index = ok.0
+
+  pub headers_of : Headers target s hs
+  headers_of = ok.1.1.0.0.0
+
+  up : HeadsRise 0 hs
+  up = heads_rise target s hs headers_of
+
+  bytes : AllByRecursion HasBytes hs
+  bytes = heads_bytes target s hs b headers_of
+
+  -- the FDE of some programs, among these headers
+  pub record Here (begin end : ℕ) (initial instrs : List Instr) : Type 0 where
+    pub head : FdeHead
+    pub among : IsAmong (fde head) hs
+    pub begin_is : begin ≡ head.begin
+    pub end_is : end ≡ head.begin + head.range
+    pub spelled : Instrs target hs head.cie_at head.program initial instrs
+
+  pub here : (begin end : ℕ) (i j : List Instr) → Says target s begin end i j → Here begin end i j
+  here begin end i j h =
+      let same : h.headers ≡ hs = one_headers target s h.headers hs h.are headers_of in
+      record {
+        head = h.head;
+        among = subst (IsAmong (fde h.head)) same h.among;
+        begin_is = h.begin_is;
+        end_is = h.end_is;
+        spelled = subst (λ (l : List Head). Instrs target l h.head.cie_at h.head.program i j) same h.spelled;
+      }
+
+  pub in_index : (f : FdeHead) → 0 < f.range → IsAmong (fde f) hs → IsIn (range_of f) index
+  in_index f some among = all_at (λ a. IsIn a index) (nonempty hs) (range_of f) ok.1.2.all (head_range hs f some among)
+
+  -- at an address two FDEs are one
+  pub record SamePrograms (begin end from till : ℕ) (i j k l : List Instr) : Type 0 where
+    pub begins : begin ≡ from
+    pub ends : end ≡ till
+    pub initials : i ≡ k
+    pub instrs : j ≡ l
+
+  pub one_programs : (a begin end from till : ℕ) (i j k l : List Instr) → begin ≤ a → a < end → from ≤ a → a < till → Says target s begin end i j → Says target s from till k l → SamePrograms begin end from till i j k l
+  one_programs a begin end from till i j k l le lt le' lt' v w =
+      let x = here begin end i j v in
+      let y = here from till k l w in
+      let same = one_cover index (range_of x.head) (range_of y.head) a ok.2 (in_index x.head (omega (arith, x.begin_is, x.end_is)) x.among) (in_index y.head (omega (arith, y.begin_is, y.end_is)) y.among)
+      (omega (arith, x.begin_is)) (omega (arith, x.end_is)) (omega (arith, y.begin_is)) (omega (arith, y.end_is)) in
+      let heads : x.head ≡ y.head = ap (fde_or x.head) (one_among 0 hs (fde x.head) (fde y.head) up x.among y.among (ap (λ (r : Range). r.at) same)) in
+      let spelled = subst (λ (f : FdeHead). Instrs target hs f.cie_at f.program i j) heads x.spelled in
+      let program_bytes : AreBytes y.head.program.bytes = all_in HasBytes hs (fde y.head) bytes y.among in
+      let one = one_instrs target hs up bytes y.head.cie_at y.head.program i j k l program_bytes spelled y.spelled in
+      let begins : x.head.begin ≡ y.head.begin = ap (λ (f : FdeHead). f.begin) heads in
+      let ranges : x.head.range ≡ y.head.range = ap (λ (f : FdeHead). f.range) heads in
+      record { begins = omega (arith, x.begin_is, y.begin_is); ends = omega (arith, x.end_is, y.end_is); initials = one.0; instrs = one.1 }
+
+  -- ---- programs keep what they have to
+
+  pub kept_programs : (begin end : ℕ) (i j : List Instr) → Says target s begin end i j → FdeKept (address_limit target.size) begin (initial_cfa i) j
+  kept_programs begin end i j h =
+      let x = here begin end i j h in
+      let runs = all_in (FdeRuns target hs) hs (fde x.head) ok.1.1.0.1 x.among in
+      let program_bytes : AreBytes x.head.program.bytes = all_in HasBytes hs (fde x.head) bytes x.among in
+      let one = one_instrs target hs up bytes x.head.cie_at x.head.program runs.0 runs.1 i j program_bytes runs.2 x.spelled in
+      subst (λ (n : ℕ). FdeKept (address_limit target.size) n (initial_cfa i) j) (sym x.begin_is)
+      (subst (λ (l : List Instr). FdeKept (address_limit target.size) x.head.begin (initial_cfa i) l) one.1 (subst (λ (l : List Instr). FdeKept (address_limit target.size) x.head.begin (initial_cfa l) runs.1) one.0 runs.3))
+
+  pub cfa_programs : (begin end a : ℕ) (i j : List Instr) → Says target s begin end i j → begin ≤ a → a < end → HasCfa i j begin a
+  cfa_programs begin end a i j h le lt =
+      let x = here begin end i j h in
+      let has = all_in (HasRules target hs) hs (fde x.head) ok.1.1.1 x.among in
+      let program_bytes : AreBytes x.head.program.bytes = all_in HasBytes hs (fde x.head) bytes x.among in
+      let one = one_instrs target hs up bytes x.head.cie_at x.head.program has.0 has.1 i j program_bytes has.2 x.spelled in
+      subst (λ (n : ℕ). HasCfa i j n a) (sym x.begin_is)
+      (subst (λ (l : List Instr). HasCfa i l x.head.begin a) one.1 (subst (λ (l : List Instr). HasCfa l has.1 x.head.begin a) one.0 (has.3 a (omega (arith, x.begin_is)) (omega (arith, x.end_is)))))
+
+  pub begin_low : (begin end : ℕ) (i j : List Instr) → Says target s begin end i j → (begin < address_limit target.size) × (end ≤ address_limit target.size)
+  begin_low begin end i j h =
+      let x = here begin end i j h in
+      let fits = all_in (FdeFits target (cie_ats hs)) hs (fde x.head) (heads_fit target s hs headers_of) x.among in
+      (omega (arith, fits.0, x.begin_is), omega (arith, fits.1, x.end_is))
+
+  -- a row that holds at an address, in which each register is listed once
+  pub row_exists : (begin end a : ℕ) (i j : List Instr) → Says target s begin end i j → begin ≤ a → (row : Rules) × HoldsAt i j begin a row × AreSpecified 0 row.registers
+  row_exists begin end a i j h le =
+      let x = here begin end i j h in
+      let low = begin_low begin end i j h in
+      let begins = x.spelled.begins in
+      let c = x.spelled.head in
+      let f = factors_of c in
+      let cie_runs = all_in (CieRuns target) hs (cie c) ok.1.1.0.0.1 begins.among in
+      let own : Begins target hs x.head.cie_at c cie_runs.0 = record { among = begins.among; stands = begins.stands; spelled = cie_runs.1 } in
+      let same = one_begin target hs x.head.cie_at c c cie_runs.0 i up bytes own begins in
+      let cie_bytes : AreBytes c.program.bytes = all_in HasBytes hs (cie c) bytes begins.among in
+      let fde_bytes : AreBytes x.head.program.bytes = all_in HasBytes hs (fde x.head) bytes x.among in
+      let left = leaves_initial f (input_of target c.program) i cie_bytes begins.spelled (subst CieKept same.instrs cie_runs.2) in
+      let leaves = left.2 in
+      let kept = subst (λ (c : CfaRule). FdeKept (address_limit target.size) begin c j) (sym leaves.cfa) (kept_programs begin end i j h) in
+      let given = gives_rows f left.0 (input_of target x.head.program) begin j fde_bytes leaves.listed (omega (arith, low.0)) x.spelled.spelled kept in
+      let gives = given.2 in
+      let count = counts_exists begin j a le in
+      let row = gives.holds a count.0 le count.1 in
+      let behind = row.2 in (
+        row.0,
+        λ k counts.
+            let n : count.0 ≡ k = one_count begin j a count.0 k count.1 counts in
+            subst (λ (m : ℕ). HoldsAfter i j m row.0) n (record {
+              cfa = behind.cfa ∙ ap (λ (c' : CfaRule). cfa_after c' j count.0) leaves.cfa;
+              rules = λ r. behind.rules r ∙ ap (λ (q : RegRule). rule_after q j r count.0) (leaves.rules r);
+              listed = behind.listed;
+            }),
+        behind.listed,
+      )
+
+  -- ---- rules at an address
+
+  pub record RulesFrom (a : ℕ) (row : Rules) : Type 0 where
+    pub begin : ℕ
+    pub end : ℕ
+    pub initial : List Instr
+    pub instrs : List Instr
+    pub programs : Says target s begin end initial instrs
+    pub from : begin ≤ a
+    pub below : a < end
+    pub holds : HoldsAt initial instrs begin a row
+
+  pub rules_programs : (a : ℕ) (row : Rules) → RulesAt target s a row → RulesFrom a row
+  rules_programs a row h = record {
+    begin = h.begin;
+    end = h.end;
+    initial = h.initial;
+    instrs = h.instrs;
+    programs = h.says;
+    from = h.from;
+    below = h.below;
+    holds = λ k counts. subst (λ (j : ℕ). HoldsAfter h.initial h.instrs j row) (one_count h.begin h.instrs a h.k k h.counts counts) h.holds;
+  }
+
+  pub programs_rules : (begin end a : ℕ) (i j : List Instr) (row : Rules) → Says target s begin end i j → begin ≤ a → a < end → HoldsAt i j begin a row → RulesAt target s a row
+  programs_rules begin end a i j row h le lt holds =
+      let c = counts_exists begin j a le in
+      record { begin = begin; end = end; initial = i; instrs = j; says = h; from = le; below = lt; k = c.0; counts = c.1; holds = holds c.0 c.1 }
+
+  -- the rules at an address are one
+  pub one_rules : (a : ℕ) (x y : Rules) → RulesAt target s a x → RulesAt target s a y → SameRow x y
+  one_rules a x y v w =
+      let p = rules_programs a x v in
+      let q = rules_programs a y w in
+      let same = one_programs a p.begin p.end q.begin q.end p.initial p.instrs q.initial q.instrs p.from p.below q.from q.below p.programs q.programs in
+      one_row q.initial q.instrs q.begin a x y q.from
+      (subst (λ (n : ℕ). HoldsAt q.initial q.instrs n a x) same.begins (subst (λ (l : List Instr). HoldsAt q.initial l p.begin a x) same.instrs (subst (λ (l : List Instr). HoldsAt l p.instrs p.begin a x) same.initials p.holds))) q.holds
+
+  -- ---- changes
+
+  pub changes_programs : (f : Fde) (changes : List (ℕ × Rules)) → ChangesOf target s f changes → (i : List Instr) × (j : List Instr) × Says target s f.begin f.end i j × AreChanges i j f.begin f.end changes
+  changes_programs f changes h = (h.initial, h.instrs, h.says, h.change)
+
+  pub programs_changes : (f : Fde) (changes : List (ℕ × Rules)) (i j : List Instr) → Says target s f.begin f.end i j → AreChanges i j f.begin f.end changes → ChangesOf target s f changes
+  programs_changes f changes i j h change = record { initial = i; instrs = j; says = h; change = change }
+
+  -- ---- the list of FDEs
+
+  head_programs : (a : Range) → HeadOf hs a → (i : List Instr) × (j : List Instr) × Says target s a.begin (end_of a) i j
+  head_programs a o =
+      let runs = all_in (FdeRuns target hs) hs (fde o.head) ok.1.1.0.1 o.among in
+      (runs.0, runs.1, record { headers = hs; are = headers_of; head = o.head; among = o.among; begin_is = ap (λ (r : Range). r.begin) (sym o.covers); end_is = ap end_of (sym o.covers); spelled = runs.2 })
+
+  index_head : (a : Range) → IsIn a index → HeadOf hs a
+  index_head a i = range_head hs a (all_at (λ x. IsIn x (nonempty hs)) index a ok.1.2.from i)
+
+  list_one : (a : Range) → IsIn a index → (f : Fde) × Lists hs a f
+  list_one a i =
+      let o = index_head a i in
+      let fits = all_in (FdeFits target (cie_ats hs)) hs (fde o.head) (heads_fit target s hs headers_of) o.among in
+      let c = cie_among hs o.head.cie_at fits.2 in (
+        record { begin = a.begin; end = end_of a; return_register = c.head.return_register },
+        record {
+          begin = refl;
+          end = refl;
+          returns = record { own = o.head; named = c.head; own_among = o.among; named_among = c.among; covers = o.covers; names = sym c.stands; is = refl };
+        },
+      )
+
+  -- it has a list of FDEs
+  pub fdes_exist : (fs : List Fde) × AreFdes target s fs
+  fdes_exist =
+      let z = make_zip (Lists hs) index (all_from (λ a. (f : Fde) × Lists hs a f) index list_one) in
+      (z.0, record { headers = hs; are = headers_of; index = index; is_index = ok.1.2; each = z.1 })
+
+  -- the list goes by the index
+  pub fdes_zip : (fs : List Fde) → AreFdes target s fs → AllZip (Lists hs) index fs
+  fdes_zip fs h =
+      let same : h.headers ≡ hs = one_headers target s h.headers hs h.are headers_of in
+      let same_index : h.index ≡ index = one_index hs h.index index (subst (λ (l : List Head). IsIndex l h.index) same h.is_index) ok.1.2 in
+      subst (λ (rs : List Range). AllZip (Lists hs) rs fs) same_index (subst (λ (l : List Head). AllZip (Lists l) h.index fs) same h.each)
+
+  -- an FDE of the list is not empty and has programs
+  pub listed_programs : (fs : List Fde) (f : Fde) → AreFdes target s fs → IsListed f fs → (f.begin < f.end) × ((i : List Instr) × (j : List Instr) × Says target s f.begin f.end i j)
+  listed_programs fs f h l =
+      let z = zip_right (Lists hs) index fs f (fdes_zip fs h) l in
+      let a = z.0 in
+      let o = index_head a z.1 in
+      let p = head_programs a o in
+      let lists = z.2 in
+      (omega (arith, lists.begin, lists.end, o.some), (p.0, p.1, subst (λ (n : ℕ). Says target s n f.end p.0 p.1) (sym lists.begin) (subst (λ (n : ℕ). Says target s a.begin n p.0 p.1) (sym lists.end) p.2)))
+
+  -- and an FDE that is not empty is in the list
+  pub programs_listed : (fs : List Fde) (begin end : ℕ) (i j : List Instr) → AreFdes target s fs → begin < end → Says target s begin end i j → (f : Fde) × IsListed f fs × (f.begin ≡ begin) × (f.end ≡ end)
+  programs_listed fs begin end i j h lt p =
+      let x = here begin end i j p in
+      let z = zip_left (Lists hs) index fs (range_of x.head) (fdes_zip fs h) (in_index x.head (omega (arith, x.begin_is, x.end_is)) x.among) in
+      (z.0, z.1, z.2.begin ∙ sym x.begin_is, z.2.end ∙ sym x.end_is)
+
+  -- each address of an FDE has rules, with a row that lists each register once
+  pub rules_exist : (fs : List Fde) (f : Fde) (a : ℕ) → AreFdes target s fs → IsListed f fs → Covers a f → (row : Rules) × RulesAt target s a row × AreSpecified 0 row.registers
+  rules_exist fs f a are listed covers =
+      let p = (listed_programs fs f are listed).1 in
+      let row = row_exists f.begin f.end a p.0 p.1 p.2 covers.0 in
+      (row.0, programs_rules f.begin f.end a p.0 p.1 row.0 p.2 covers.0 covers.1 row.1, row.2)

@@ -1,0 +1,258 @@
+-- The rules of an accepted section fit: programs that are spelled give no others.
+use Rattle.std.proofs.Common.{◌≡◌, ℕ, zero, suc, ◌<◌, ◌≤◌, true, List, [], ◌∷◌, length, refl, sym, ap, subst, ◌∙◌, arith, inl, inr, ℤ}
+use Rattle.std.specs.List.{AllByRecursion}
+use Rattle.std.proofs.lemmas.Bool.Decides.{eqb_tells}
+use Rattle.dw_num.specs.declared.target.Target.{Target}
+use Rattle.dw_cfa.specs.declared.instr.Factors.{Factors}
+use Rattle.dw_cfa.specs.declared.instr.Instr.{Instr}
+use Rattle.dw_cfa.specs.declared.instr.Instr.TheVariants.{Nop, SetLoc, Advance, DefCfa, DefCfaRegister, DefCfaOffset, DefCfaExpression, Set, Restore, RememberState, RestoreState}
+use Rattle.dw_cfa.specs.declared.rule.CfaRule.{CfaRule}
+use Rattle.dw_cfa.specs.declared.rule.CfaRule.TheVariants as cfa
+use Rattle.dw_cfa.specs.declared.rule.RegRule.{RegRule}
+use Rattle.dw_cfa.specs.declared.rule.RegRule.TheVariants as rules
+use Rattle.dw_cfa.specs.Column.{look_back, with_register, with_offset, cfa_change, rule_change, cfa_after, rule_after}
+use Rattle.dw_cfa.specs.InstrSpells.{IsOffset, BlockSpells, Program}
+use Rattle.dw_cfa.specs.Laws.{initial_cfa, initial_rule}
+use Rattle.dw_cfa.specs.Location.{onto}
+use Rattle.dw_cfa.specs.Rows.{Rules, AreSpecified, is_specified, rule_in, rule}
+use Rattle.dw_cfa.proofs.Lent.Spellings.{RuleSpells, IsSpelled, by_table}
+use Rattle.dw_cfa.proofs.Lent.Counting.{counts_exists}
+use Rattle.dw_op.specs.Expression.{Expression}
+use Rattle.dw_section.specs.declared.lookup.Fde.{Fde}
+use Rattle.dw_section.specs.Changes.{HoldsAt, ChangesBehind, AreChanges}
+use Rattle.dw_section.proofs.Lent.Registers.{fdes_registers}
+use Rattle.dw_section.specs.Meanings.{IsListed}
+use Rattle.dw_section.specs.Sound.{HasBlock, CfaFits, RuleFits, RowFits, ChangeFits, Steps, AllStep, SoundSection}
+use Rattle.dw_section.proofs.Lent.Rowed.{holds_on}
+use Rattle.dw_section.proofs.Lent.Sections.{here, cfa_programs, begin_low, changes_programs, listed_programs}
+use Rattle.dw_section.specs.Programs.{factors_of}
+
+-- ---- what an instruction gives
+
+abbrev Gives : Target → Instr → Type 0
+Gives t (DefCfa r n) = (r < 65536) × IsOffset n
+Gives t (DefCfaRegister r) = r < 65536
+Gives t (DefCfaOffset n) = IsOffset n
+Gives t (DefCfaExpression e) = HasBlock t e
+Gives t (Set r rule) = (r < 65536) × RuleFits t rule
+Gives t other = Unit {0}
+
+block_gives : (t : Target) (e : Expression) (b : List ℕ) → BlockSpells t e b → HasBlock t e
+block_gives t e b h = (h.same_target, (h.block, h.operations, h.counted.fits))
+
+rule_gives : (t : Target) (f : Factors) (r : ℕ) (rule : RegRule) (b : List ℕ) → RuleSpells t f r rule b → (r < 65536) × RuleFits t rule
+rule_gives t f r rules.Unspecified b h = absurd h
+rule_gives t f r rules.Undefined b h = (h.operands.1, tt)
+rule_gives t f r rules.SameValue b h = (h.operands.1, tt)
+rule_gives t f r (rules.Offset n) b (inl h) = (omega (arith, h.0), h.1.operands.range)
+rule_gives t f r (rules.Offset n) b (inr (inl h)) = (h.operands.first.1, h.operands.second.range)
+rule_gives t f r (rules.Offset n) b (inr (inr h)) = (h.operands.first.1, h.operands.second.range)
+rule_gives t f r (rules.ValOffset n) b (inl h) = (h.operands.first.1, h.operands.second.range)
+rule_gives t f r (rules.ValOffset n) b (inr h) = (h.operands.first.1, h.operands.second.range)
+rule_gives t f r (rules.Register q) b h = (h.operands.first.1, h.operands.second.1)
+rule_gives t f r (rules.Expression e) b h = (h.operands.first.1, block_gives t e h.operands.back h.operands.second)
+rule_gives t f r (rules.ValExpression e) b h = (h.operands.first.1, block_gives t e h.operands.back h.operands.second)
+
+instr_gives : (t : Target) (f : Factors) (i : Instr) (b : List ℕ) → IsSpelled t f i b → Gives t i
+instr_gives t f (DefCfa r n) b (inl h) = (h.operands.first.1, h.operands.second.range)
+instr_gives t f (DefCfa r n) b (inr h) = (h.operands.first.1, h.operands.second.range)
+instr_gives t f (DefCfaRegister r) b h = h.operands.1
+instr_gives t f (DefCfaOffset n) b (inl h) = h.operands.range
+instr_gives t f (DefCfaOffset n) b (inr h) = h.operands.range
+instr_gives t f (DefCfaExpression e) b h = block_gives t e h.rest h.operands
+instr_gives t f (Set r rule) b h = rule_gives t f r rule b h
+instr_gives t f Nop b h = tt
+instr_gives t f (SetLoc a) b h = tt
+instr_gives t f (Advance d) b h = tt
+instr_gives t f (Restore r) b h = tt
+instr_gives t f RememberState b h = tt
+instr_gives t f RestoreState b h = tt
+
+program_gives : (t : Target) (f : Factors) (instrs : List Instr) (b : List ℕ) → Program t f instrs b → AllByRecursion (Gives t) instrs
+program_gives t f [] b h = tt
+program_gives t f (i ∷ instrs) b h = (instr_gives t f i h.front (by_table t f i h.front h.first), program_gives t f instrs h.back h.second)
+
+-- ---- what is found looking back
+
+pub all_onto : (Q : Instr → Type 0) (earlier instrs : List Instr) (k : ℕ) → AllByRecursion Q earlier → AllByRecursion Q instrs → AllByRecursion Q (onto earlier instrs k)
+all_onto Q earlier instrs zero h g = h
+all_onto Q earlier [] (suc k) h g = h
+all_onto Q earlier (i ∷ instrs) (suc k) h g = all_onto Q (i ∷ earlier) instrs k (g.0, h) g.1
+
+module _ {Rule : Type 0} (change : Instr → Rule → Rule) (initial : Rule) (P : Rule → Type 0) (Q : Instr → Type 0) (keeps : (i : Instr) → Q i → (old : Rule) → P old → P (change i old)) (start : P initial) where
+  pub back_keeps : (inner : ℕ) (earlier : List Instr) → AllByRecursion Q earlier → P (look_back change initial inner earlier)
+  back_keeps inner [] h = start
+  back_keeps zero (RestoreState ∷ earlier) h = back_keeps 1 earlier h.1
+  back_keeps zero (i ∷ earlier) h = keeps i h.0 (look_back change initial zero earlier) (back_keeps zero earlier h.1)
+  back_keeps (suc inner) (RestoreState ∷ earlier) h = back_keeps (suc (suc inner)) earlier h.1
+  back_keeps (suc inner) (RememberState ∷ earlier) h = back_keeps inner earlier h.1
+  back_keeps (suc inner) (i ∷ earlier) h = back_keeps (suc inner) earlier h.1
+
+register_keeps : (t : Target) (q : ℕ) (old : CfaRule) → q < 65536 → CfaFits t old → CfaFits t (with_register q old)
+register_keeps t q cfa.Unset lt h = tt
+register_keeps t q (cfa.Register r n) lt h = (lt, h.1)
+register_keeps t q (cfa.Expression e) lt h = h
+
+offset_keeps : (t : Target) (m : ℤ) (old : CfaRule) → IsOffset m → CfaFits t old → CfaFits t (with_offset m old)
+offset_keeps t m cfa.Unset is h = tt
+offset_keeps t m (cfa.Register r n) is h = (h.0, is)
+offset_keeps t m (cfa.Expression e) is h = h
+
+cfa_keeps : (t : Target) (i : Instr) → Gives t i → (old : CfaRule) → CfaFits t old → CfaFits t (cfa_change i old)
+cfa_keeps t (DefCfa r n) g old h = g
+cfa_keeps t (DefCfaRegister r) g old h = register_keeps t r old g h
+cfa_keeps t (DefCfaOffset n) g old h = offset_keeps t n old g h
+cfa_keeps t (DefCfaExpression e) g old h = g
+cfa_keeps t Nop g old h = h
+cfa_keeps t (SetLoc a) g old h = h
+cfa_keeps t (Advance d) g old h = h
+cfa_keeps t (Set r rule) g old h = h
+cfa_keeps t (Restore r) g old h = h
+cfa_keeps t RememberState g old h = h
+cfa_keeps t RestoreState g old h = h
+
+-- a rule of a register fits, and so does the register where the rule is specified
+abbrev Fitting : Target → ℕ → RegRule → Type 0
+Fitting t r rule = RuleFits t rule × (is_specified rule ≡ true → r < 65536)
+
+set_keeps : (t : Target) (r q : ℕ) (given old : RegRule) → q < 65536 → RuleFits t given → Fitting t r old → Fitting t r (rule_change r old (Set q given) old)
+set_keeps t r q given old lt g h = elim (eqb_tells q r) [
+  | inl is ↦ rw (is.0) (g, λ e. omega (arith, is.1))
+  | inr not ↦ rw (not.0) h
+]
+
+rule_keeps : (t : Target) (r : ℕ) (initial : RegRule) → Fitting t r initial → (i : Instr) → Gives t i → (old : RegRule) → Fitting t r old → Fitting t r (rule_change r initial i old)
+rule_keeps t r initial start (Set q given) g old h = set_keeps t r q given old g.0 g.1 h
+rule_keeps t r initial start (Restore q) g old h = elim (eqb_tells q r) [ inl is ↦ rw (is.0) start | inr not ↦ rw (not.0) h ]
+rule_keeps t r initial start Nop g old h = h
+rule_keeps t r initial start (SetLoc a) g old h = h
+rule_keeps t r initial start (Advance d) g old h = h
+rule_keeps t r initial start (DefCfa q n) g old h = h
+rule_keeps t r initial start (DefCfaRegister q) g old h = h
+rule_keeps t r initial start (DefCfaOffset n) g old h = h
+rule_keeps t r initial start (DefCfaExpression e) g old h = h
+rule_keeps t r initial start RememberState g old h = h
+rule_keeps t r initial start RestoreState g old h = h
+
+module _ (t : Target) (i j : List Instr) (gi : AllByRecursion (Gives t) i) (gj : AllByRecursion (Gives t) j) where
+  first_cfa : CfaFits t (initial_cfa i)
+  first_cfa = back_keeps cfa_change cfa.Unset (CfaFits t) (Gives t) (cfa_keeps t) tt 0 (onto [] i (length i)) (all_onto (Gives t) [] i (length i) tt gi)
+
+  after_cfa : (k : ℕ) → CfaFits t (cfa_after (initial_cfa i) j k)
+  after_cfa k = back_keeps cfa_change (initial_cfa i) (CfaFits t) (Gives t) (cfa_keeps t) first_cfa 0 (onto [] j k) (all_onto (Gives t) [] j k tt gj)
+
+  first_rule : (r : ℕ) → Fitting t r (initial_rule i r)
+  first_rule r =
+      let none : Fitting t r rules.Unspecified = (tt, λ e. absurd cc) in
+      back_keeps (rule_change r rules.Unspecified) rules.Unspecified (Fitting t r) (Gives t) (rule_keeps t r rules.Unspecified none) none 0 (onto [] i (length i)) (all_onto (Gives t) [] i (length i) tt gi)
+
+  after_rule : (r k : ℕ) → Fitting t r (rule_after (initial_rule i r) j r k)
+  after_rule r k = back_keeps (rule_change r (initial_rule i r)) (initial_rule i r) (Fitting t r) (Gives t) (rule_keeps t r (initial_rule i r) (first_rule r)) (first_rule r) 0 (onto [] j k) (all_onto (Gives t) [] j k tt gj)
+
+-- ---- rows
+
+none_below : (low r : ℕ) (xs : List (ℕ × RegRule)) → AreSpecified low xs → r < low → rule_in xs r ≡ rules.Unspecified
+none_below low r [] h lt = refl
+none_below low r (x ∷ xs) h lt = elim (eqb_tells x.0 r) [
+  | inl is ↦ absurd (omega (arith, h.0, is.1))
+  | inr not ↦ rw (not.0) (none_below (suc x.0) r xs h.2 (omega (arith, h.0)))
+]
+
+entries_fit : (t : Target) (low : ℕ) (xs : List (ℕ × RegRule)) → AreSpecified low xs → ((r : ℕ) → Fitting t r (rule_in xs r)) → AllByRecursion (λ (entry : ℕ × RegRule). (entry.0 < 65536) × RuleFits t entry.1) xs
+entries_fit t low [] h all = tt
+entries_fit t low (x ∷ xs) h all =
+    let first : rule_in (x ∷ xs) x.0 ≡ x.1 = elim (eqb_tells x.0 x.0) [ inl is ↦ rw (is.0) refl | inr not ↦ absurd (not.1 refl) ] in
+    let here = subst (Fitting t x.0) first (all x.0) in
+    ((here.1 h.1, here.0), entries_fit t (suc x.0) xs h.2 rest)
+  where
+    rest : (r : ℕ) → Fitting t r (rule_in xs r)
+    rest r = elim (eqb_tells x.0 r) [
+      | inl is ↦ rw (none_below (suc x.0) r xs h.2 (omega (arith, is.1))) (tt, λ e. absurd cc)
+      | inr not ↦ let same : rule_in (x ∷ xs) r ≡ rule_in xs r = rw (not.0) refl in subst (Fitting t r) same (all r)
+    ]
+
+row_fits : (t : Target) (i j : List Instr) → AllByRecursion (Gives t) i → AllByRecursion (Gives t) j → (begin a : ℕ) (row : Rules) → begin ≤ a → HoldsAt i j begin a row → AreSpecified 0 row.registers → RowFits t row
+row_fits t i j gi gj begin a row le h listed =
+    let c = counts_exists begin j a le in
+    let here = h c.0 c.1 in
+    record {
+      cfa = subst (CfaFits t) (sym here.cfa) (after_cfa t i j gi gj c.0);
+      registers = entries_fit t 0 row.registers listed (λ r. subst (Fitting t r) (sym (here.rules r)) (after_rule t i j gi gj r c.0));
+      listed = listed;
+    }
+
+-- ---- changes
+
+module _ (i j : List Instr) (begin end : ℕ) where
+  abbrev pub Held : ℕ × Rules → Type 0
+  Held change = (begin ≤ change.0) × (change.0 < end) × HoldsAt i j begin change.0 change.1
+
+  held_behind : (low : ℕ) (changes : List (ℕ × Rules)) → begin ≤ low → ChangesBehind i j begin end low changes → AllByRecursion Held changes
+  held_behind low [] le c = tt
+  held_behind low (change ∷ changes) le c =
+      let from : begin ≤ suc c.0 = omega (arith, c.2) in (
+        (omega (arith, c.1, c.2), omega (arith, c.1, c.3), subst (λ (a : ℕ). HoldsAt i j begin a change.1) (sym c.1) c.6),
+        held_behind (suc c.0) changes from c.7,
+      )
+
+  pub held_all : (changes : List (ℕ × Rules)) → begin < end → AreChanges i j begin end changes → AllByRecursion Held changes
+  held_all [] lt c = absurd c
+  held_all (first ∷ changes) lt c =
+      ((omega (arith, c.0), omega (arith, c.0), subst (λ (a : ℕ). HoldsAt i j begin a first.1) (sym c.0) c.1), held_behind begin changes (omega arith) c.2)
+
+  steps_behind : (low : ℕ) (row : Rules) (changes : List (ℕ × Rules)) → begin ≤ low → HoldsAt i j begin low row → ChangesBehind i j begin end low changes → Steps low row changes
+  steps_behind low row [] le h c = tt
+  steps_behind low row (change ∷ changes) le h c =
+      let a = c.0 in
+      let from : begin ≤ a = omega (arith, c.2) in
+      let was = holds_on i j begin low (suc a) a row le c.4 c.2 (omega arith) h in
+      let differs = c.5 in
+      let rest = steps_behind (suc a) change.1 changes (omega arith) c.6 c.7 in (
+        omega (arith, c.1, c.2),
+        λ same.
+            let x = was differs.j differs.before in
+            let y = c.6 differs.k differs.after in
+            differs.other (record {
+              cfa = sym x.cfa ∙ ap (λ (r : Rules). r.cfa) same ∙ y.cfa;
+              rules = λ r. sym (x.rules r) ∙ ap (λ (q : Rules). rule q r) same ∙ y.rules r;
+            }),
+        subst (λ (n : ℕ). Steps n change.1 changes) (sym c.1) rest,
+      )
+
+  pub steps_all : (changes : List (ℕ × Rules)) → AreChanges i j begin end changes → AllStep begin changes
+  steps_all [] c = absurd c
+  steps_all (first ∷ changes) c = (c.0, subst (λ (n : ℕ). Steps n first.1 changes) (sym c.0) (steps_behind begin first.1 changes (omega arith) c.1 c.2))
+
+all_two : {X : Type 0} (P Q R : X → Type 0) → ((x : X) → P x → Q x → R x) → (xs : List X) → AllByRecursion P xs → AllByRecursion Q xs → AllByRecursion R xs
+all_two P Q R to [] h k = tt
+all_two P Q R to (x ∷ xs) h k = (to x h.0 k.0, all_two P Q R to xs h.1 k.1)
+
+listed_in : (P : Fde → Type 0) (fs : List Fde) (f : Fde) → AllByRecursion P fs → IsListed f fs → P f
+listed_in P [] f h i = absurd i
+listed_in P (g ∷ fs) f h (inl is) = subst P (sym is) h.0
+listed_in P (g ∷ fs) f h (inr i) = listed_in P fs f h.1 i
+
+pub sound_section : SoundSection
+sound_section target s b ok fs f changes are listed h rows =
+    let p = changes_programs target s b ok f changes h in
+    let i = p.0 in
+    let j = p.1 in
+    let x = here target s b ok f.begin f.end i j p.2 in
+    let gi = program_gives target (factors_of x.spelled.head) i x.spelled.head.program.bytes x.spelled.begins.spelled in
+    let gj = program_gives target (factors_of x.spelled.head) j x.head.program.bytes x.spelled.spelled in
+    let some = (listed_programs target s b ok fs f are listed).0 in
+    let low = begin_low target s b ok f.begin f.end i j p.2 in
+    let each : (change : ℕ × Rules) → Held i j f.begin f.end change → AreSpecified 0 change.1.registers → ChangeFits target f.end change = λ change held specified. (
+      held.1,
+      row_fits target i j gi gj f.begin change.0 change.1 held.0 held.2 specified,
+      λ unset.
+          let c = counts_exists f.begin j change.0 held.0 in
+          cfa_programs target s b ok f.begin f.end change.0 i j p.2 held.0 held.1 c.0 c.1 (sym (held.2 c.0 c.1).cfa ∙ unset),
+    ) in
+    record {
+      some = some;
+      in_space = low.1;
+      register = listed_in (λ (g : Fde). g.return_register < 65536) fs f (fdes_registers target s fs are) listed;
+      each = all_two (Held i j f.begin f.end) (λ (change : ℕ × Rules). AreSpecified 0 change.1.registers) (ChangeFits target f.end) each changes (held_all i j f.begin f.end changes some p.3) rows;
+      steps = steps_all i j f.begin f.end changes p.3;
+    }

@@ -1,0 +1,88 @@
+-- The rows that a section starts are no fewer than its changes; and changes that are given one at a time.
+use Rattle.std.proofs.Common.{◌≡◌, ℕ, suc, ◌<◌, ◌≤◌, List, [], ◌∷◌, length, map, Option, Some, None, refl, sym, ap, subst, ◌∙◌, arith, inl, inr}
+use Rattle.std.specs.List.{AllByRecursion, AllZip}
+use Rattle.dw_num.specs.declared.target.Target.{Target}
+use Rattle.dw_num.specs.Input.{AreBytes}
+use Rattle.dw_cfa.specs.declared.instr.Instr.{Instr}
+use Rattle.dw_cfa.specs.Location.{row_starts}
+use Rattle.dw_cfa.specs.Rows.{Rules}
+use Rattle.dw_section.specs.declared.lookup.Fde.{Fde}
+use Rattle.dw_section.specs.Accepted.{Accepted}
+use Rattle.dw_section.specs.Changes.{AreChanges}
+use Rattle.dw_section.specs.Headers.{Head}
+use Rattle.dw_section.specs.Meaning.{Says, Lists, AreFdes, ChangesOf, Starts, RowStarts, total}
+use Rattle.dw_section.specs.Overlap.{Range, IsIndex, end_of}
+use Rattle.dw_section.proofs.Lent.HeaderLaws.{one_headers}
+use Rattle.dw_section.proofs.Lent.Index.{one_index}
+use Rattle.dw_section.specs.Meanings.{IsListed}
+use Rattle.dw_cfa.specs.declared.running.LocatedRow.{LocatedRow}
+use Rattle.dw_section.specs.Changes.{Among}
+use Rattle.dw_section.proofs.Lent.ChangeLaws.{changes_found}
+use Rattle.dw_section.proofs.Lent.Exists.{given, among_exists}
+use Rattle.dw_section.proofs.Lent.Rowed.{SameChange, one_changes}
+use Rattle.dw_section.proofs.Lent.Sections.{hs, headers_of, index, fdes_zip, one_programs, changes_programs, listed_programs}
+
+-- ---- rows
+
+among_few : (end : ℕ) (shown : Option Rules) (rows : List LocatedRow) (changes : List (ℕ × Rules)) → Among end shown rows changes → length changes ≤ length rows
+among_few end shown [] changes h = rw h (omega arith)
+among_few end shown (row ∷ rows) changes (inl h) = let rest = among_few end shown rows changes h.1 in omega arith
+among_few end shown (row ∷ rows) changes (inr h) = let rest = among_few end (Some row.row) rows h.1.0 h.1.2 in rw (h.1.1) (omega arith)
+
+same_length : (xs ys : List (ℕ × Rules)) → AllZip SameChange xs ys → length xs ≡ length ys
+same_length [] [] z = refl
+same_length [] (y ∷ ys) z = absurd z
+same_length (x ∷ xs) [] z = absurd z
+same_length (x ∷ xs) (y ∷ ys) z = ap suc (same_length xs ys z.1)
+
+-- an FDE of an accepted section starts at least as many rows as it has changes
+pub least_starts : (target : Target) (s : List ℕ) (b : AreBytes s) (ok : Accepted target s) (begin end : ℕ) (i j : List Instr) (changes : List (ℕ × Rules)) → begin < end
+    → Says target s begin end i j → AreChanges i j begin end changes → length changes ≤ row_starts j
+least_starts target s b ok begin end i j changes lt h c =
+    let g = given target s b ok begin end i j h in
+    let among = among_exists end None g.rows in
+    let all = changes_found g.f g.cie g.fde i j g.first begin end g.rows among.0 g.leaves g.gives lt among.1 in
+    let few = among_few end None g.rows among.0 among.1 in
+    let same = same_length among.0 changes (one_changes i j begin end among.0 changes all c) in
+    omega (arith, g.gives.starts)
+
+module _ (target : Target) (s : List ℕ) (b : AreBytes s) (ok : Accepted target s) where
+  abbrev ks : List Head
+  ks = hs target s b ok
+
+  starts_one : (a : Range) (f : Fde) (n : ℕ) (changes : List (ℕ × Rules)) → f.begin < f.end → Lists ks a f → Starts target s a n → ChangesOf target s f changes → length changes ≤ n
+  starts_one a f n changes some lists starts h =
+      let p = changes_programs target s b ok f changes h in
+      let begins : f.begin ≡ a.begin = lists.begin in
+      let ends : f.end ≡ end_of a = lists.end in
+      let same = one_programs target s b ok f.begin f.begin f.end a.begin (end_of a) p.0 p.1 starts.0 starts.1 (omega arith) some (omega arith) (omega arith) p.2 starts.2 in
+      let few = least_starts target s b ok f.begin f.end p.0 p.1 changes some p.2 p.3 in
+      let rows : row_starts p.1 ≡ n = ap row_starts same.instrs ∙ sym starts.4 in
+      omega arith
+
+  abbrev Change : Fde → List (ℕ × Rules) → Type 0
+  Change f changes = ChangesOf target s f changes
+
+  starts_all : (rs : List Range) (fs : List Fde) (ns : List ℕ) (lists : List (List (ℕ × Rules))) → AllByRecursion (λ (f : Fde). f.begin < f.end) fs → AllZip (Lists ks) rs fs → AllZip (Starts target s) rs ns → AllZip Change fs lists
+      → total (map length lists) ≤ total ns
+  starts_all [] [] [] [] some z w c = omega arith
+  starts_all [] [] [] (l ∷ lists) some z w c = absurd c
+  starts_all [] [] (n ∷ ns) lists some z w c = absurd w
+  starts_all [] (f ∷ fs) ns lists some z w c = absurd z
+  starts_all (r ∷ rs) [] ns lists some z w c = absurd z
+  starts_all (r ∷ rs) (f ∷ fs) [] lists some z w c = absurd w
+  starts_all (r ∷ rs) (f ∷ fs) (n ∷ ns) [] some z w c = absurd c
+  starts_all (r ∷ rs) (f ∷ fs) (n ∷ ns) (l ∷ lists) some z w c = let rest = starts_all rs fs ns lists some.1 z.1 w.1 c.1 in let here = starts_one r f n l some.0 z.0 w.0 c.0 in omega arith
+
+  some_all : (fs gs : List Fde) → AreFdes target s gs → ((f : Fde) → IsListed f fs → IsListed f gs) → AllByRecursion (λ (f : Fde). f.begin < f.end) fs
+  some_all [] gs are into = tt
+  some_all (f ∷ fs) gs are into = ((listed_programs target s b ok gs f are (into f (inl refl))).0, some_all fs gs are (λ g i. into g (inr i)))
+
+  -- all FDEs together start no fewer rows than they have changes
+  pub least_total : (fs : List Fde) (lists : List (List (ℕ × Rules))) (n : ℕ) → AreFdes target s fs → AllZip (λ f changes. ChangesOf target s f changes) fs lists → RowStarts target s n → total (map length lists) ≤ n
+  least_total fs lists n are each starts =
+      let same : starts.headers ≡ ks = one_headers target s starts.headers ks starts.are (headers_of target s b ok) in
+      let same_index : starts.index ≡ index target s b ok = one_index ks starts.index (index target s b ok) (subst (λ (l : List Head). IsIndex l starts.index) same starts.is_index) ok.1.2 in
+      let zip = subst (λ (rs : List Range). AllZip (Starts target s) rs starts.counts) same_index starts.each in
+      let all = starts_all (index target s b ok) fs starts.counts lists (some_all fs fs are (λ f i. i)) (fdes_zip target s b ok fs are) zip each in
+      omega (arith, starts.sum)
