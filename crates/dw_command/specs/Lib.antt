@@ -1,2 +1,3 @@
 pub mod Answers
 pub mod Failing
+pub mod Terminal
