@@ -1,3 +1,4 @@
 pub mod Answers
 pub mod Failing
 pub mod Inner
+pub mod Terminal
