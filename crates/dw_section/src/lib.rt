@@ -19,6 +19,7 @@ mod laws;
 mod lending;
 mod lookup;
 mod rereading;
+mod standing;
 mod table;
 
 pub use changing::Changes;
