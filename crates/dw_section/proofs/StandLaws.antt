@@ -1,5 +1,5 @@
 -- Entries that stand at their places in bytes.
-use Rattle.std.proofs.Common.{◌≡◌, ℕ, ◌+◌, ◌-◌, ◌<◌, ◌≤◌, true, false, Bool, ◌||◌, eqb, ℤ, List, [], ◌∷◌, ◌++◌, length, take, drop, Option, Some, None, Result, Ok, Err, refl, sym, ap, subst, ◌∙◌, append_assoc, arith, inl, inr}
+use Rattle.std.proofs.Common.{◌≡◌, ℕ, zero, suc, map, get_or, ◌+◌, ◌-◌, ◌<◌, ◌≤◌, true, false, Bool, ◌||◌, eqb, ℤ, List, [], ◌∷◌, ◌++◌, length, take, drop, Option, Some, None, Result, Ok, Err, refl, sym, ap, subst, ◌∙◌, append_assoc, arith, inl, inr}
 use Rattle.std.specs.List.{AllByRecursion, AllZip}
 use Rattle.std.specs.Prelude.{IfSome}
 use Rattle.std.proofs.lemmas.Bool.Decides.{eqb_tells}
@@ -23,6 +23,9 @@ use Rattle.dw_section.specs.Headers.{Head, Has, Headers, IsCie, IsFde, cie, fde,
 use Rattle.dw_section.specs.Inner.Heads.{head_at}
 use Rattle.dw_section.specs.Inner.Index.{IsFound}
 use Rattle.dw_section.specs.Meaning.{Returns}
+use Rattle.dw_section.specs.Meanings.{IsListed as IsListedFde}
+use Rattle.dw_section.specs.Inner.Lookup.{fde_in}
+use Rattle.dw_section.specs.declared.indexing.Ranged.{Ranged}
 use Rattle.dw_section.specs.Overlap.{Range}
 use Rattle.dw_section.specs.Places.{cie_places}
 use Rattle.dw_section.specs.Programs.{IsAmong}
@@ -145,8 +148,7 @@ stands_joined target s own named pointer h k e own-stands named-stands at has na
     let named-place = sym (ap head_at j.5) ∙ has_at target [] named k named-has in
     let head = subst (Has target (pointer ∷ []) own) j.4 has in
     let fields = own_fields target (pointer ∷ []) own e.at j.0 j.1 e.begin e.range (span_of e.program) head in
-    let names : j.1 ≡ named.at = sym fields.3 ∙ among_one fields.0.cie_at pointer fields.2.spells.names_cie ∙ sym at in
-    (
+    let names : j.1 ≡ named.at = sym fields.3 ∙ among_one fields.0.cie_at pointer fields.2.spells.names_cie ∙ sym at in (
       place,
       record {
         own = own;
@@ -314,3 +316,9 @@ stands_listed target s hs a register p r =
       own_is = fde_anywhere target places (named.0.at ∷ []) own.0 a.at r.form r.cie_at a.begin a.range r.program own.2 (subst (λ (n : ℕ). is_among r.cie_at (n ∷ []) ≡ true) named-at (among_first r.cie_at []));
       named_is = cie_anywhere target places [] named.0 k is-cie named.2;
     }
+
+-- an entry of an index is listed
+pub entry_listed : (list : List Ranged) (e : Ranged) (i : ℕ) → i < length list → ((d : Ranged) → e ≡ get_or list i d) → IsListedFde (fde_in e) (map fde_in list)
+entry_listed [] e i lt is = absurd (omega arith)
+entry_listed (x ∷ list) e zero lt is = inl (ap fde_in (is x))
+entry_listed (x ∷ list) e (suc i) lt is = inr (entry_listed list e i (omega arith) is)

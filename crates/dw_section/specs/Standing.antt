@@ -1,12 +1,18 @@
 -- An FDE that stands in bytes, by its place alone: DWARF 5, 6.4.1. The bytes need be no section that is accepted.
-use Rattle.std.specs.Prelude.{◌≡◌, ℕ, List, [], ◌∷◌, ◌++◌, length, Some, Bool, true, false}
+use Rattle.std.specs.Prelude.{◌≡◌, ℕ, ◌≤◌, List, [], ◌∷◌, ◌++◌, length, Some, Bool, true, false}
 use Rattle.dw_num.specs.declared.target.Form.{Form}
 use Rattle.dw_num.specs.declared.target.Order.{Order}
 use Rattle.dw_num.specs.declared.target.Target.{Target}
 use Rattle.dw_num.specs.Span.{span_of}
-use Rattle.dw_cfa.specs.RuleAt.{last_at}
+use Rattle.dw_cfa.specs.RuleAt.{NeverFalls, last_at}
 use Rattle.dw_cfa.specs.Rows.{Rules}
+use Rattle.dw_cfa.specs.Runs.{Outcome, finished}
+use Rattle.dw_cfa.specs.declared.running.LocatedRow.{LocatedRow}
 use Rattle.dw_section.specs.declared.cutting.Kind.TheVariants as kind
+use Rattle.dw_cfa.specs.declared.running.RunError.{RunError}
+use Rattle.dw_cfa.specs.declared.running.RunError.TheVariants as run
+use Rattle.dw_section.specs.declared.standing.LookUpError.{LookUpError}
+use Rattle.dw_section.specs.declared.standing.LookUpError.TheVariants.{Refused, OutOfMemory}
 use Rattle.dw_section.specs.declared.lookup.Fde.{Fde}
 use Rattle.dw_section.specs.declared.rereading.FoundFde.{FoundFde}
 use Rattle.dw_section.specs.Cut.{Item, IsItem, Piece, item_bytes, piece_of}
@@ -80,3 +86,14 @@ abbrev pub AreJoined : Head → Head → FoundFde → Type 0
 AreJoined own named e =
     (form : Form) × (cie_at : ℕ) × (place : ℕ) × (cie_form : Form) × (own ≡ fde e.at form cie_at e.begin e.range (span_of e.program))
     × (named ≡ cie place cie_form e.factors.code_factor e.factors.data_factor e.return_register (span_of e.cie_program))
+
+-- rows still to come of programs, of which the first starts at or below an address
+pub record RowsTo (a : ℕ) (o : Outcome) : Type 0 where
+  pub low : ℕ
+  pub falls : NeverFalls low o.rows
+  pub first : (row : LocatedRow) (rest : List LocatedRow) → o.rows ≡ row ∷ rest → row.location ≤ a
+  pub some : o ≡ finished → ⊥
+
+abbrev pub of_steps : RunError → LookUpError
+of_steps (run.Refused r) = Refused r
+of_steps run.OutOfMemory = OutOfMemory

@@ -14,7 +14,7 @@ ghost use Rattle.dw_section.specs.FaultPlaces.{IsWithin};
 ghost use Rattle.dw_section.specs.declared.lookup.Fde.{Fde as TheFde};
 ghost use Rattle.dw_section.specs.Meaning.{AreFdes};
 ghost use Rattle.dw_section.specs.Pieces.{Pieces};
-ghost use Rattle.dw_section.specs.Table.{Section, AreRanges, IsKept};
+ghost use Rattle.dw_section.specs.Table.{Section, AreRanges, IsKept, IsTable};
 
 use crate::cutting::{EntryCounts, cut};
 use crate::error::SectionError;
@@ -62,6 +62,13 @@ impl<'a> Table<'a> {
         ensures bytes { AreBytes self.now.bytes }
     {
         are_bytes(self.bytes);
+    }
+
+    /// The index of the section: its nonempty FDEs by begin, as `look_up` takes it. Takes no memory.
+    pub fn index(&self) -> &[Ranged]
+        ensures { IsTable self.now.target self.now.bytes result.now }
+    {
+        &self.index
     }
 
     /// How many CIEs and FDEs the section has.
