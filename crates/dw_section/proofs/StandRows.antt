@@ -1,5 +1,5 @@
 -- The rows of two programs, also where they are refused: where they start.
-use Rattle.std.proofs.Common.{◌≡◌, ℕ, ◌<◌, ◌≤◌, Bool, true, false, List, [], ◌∷◌, Option, Some, None, Result, Ok, Err, nat_le, refl, sym, ap, subst, ◌∙◌, arith, inl, inr}
+use Rattle.std.proofs.Common.{◌≡◌, ℕ, ◌<◌, ◌≤◌, Bool, true, false, List, [], ◌∷◌, Option, Some, None, Result, Ok, Err, refl, sym, ap, subst, ◌∙◌, arith}
 use Rattle.std.proofs.lemmas.Bool.{le-leb}
 use Rattle.dw_num.specs.declared.refusal.Code.{Code}
 use Rattle.dw_num.specs.declared.refusal.Refusal.{Refusal}
@@ -8,9 +8,9 @@ use Rattle.dw_cfa.specs.declared.instr.Factors.{Factors}
 use Rattle.dw_cfa.specs.declared.running.LocatedRow.{LocatedRow}
 use Rattle.dw_cfa.specs.Location.{moves_location}
 use Rattle.dw_cfa.specs.Machine.{State, after, begun, fde_fault}
-use Rattle.dw_cfa.specs.RuleAt.{NeverFalls, last_at, or_here}
+use Rattle.dw_cfa.specs.RuleAt.{NeverFalls, last_at}
 use Rattle.dw_cfa.specs.Rows.{Rules}
-use Rattle.dw_cfa.specs.Runs.{Outcome, Placed, finished, fault_or, fde_rows, initial_row, on_initial, placed, row_if, row_then, run_rows, RefusalIs}
+use Rattle.dw_cfa.specs.Runs.{Outcome, Placed, finished, fault_or, fde_rows, on_initial, placed, row_if, row_then, run_rows, RefusalIs}
 use Rattle.dw_cfa.specs.declared.running.RunError.{RunError}
 use Rattle.dw_cfa.specs.declared.running.RunError.TheVariants.{Refused, OutOfMemory}
 use Rattle.dw_cfa.proofs.RowsAt.{forwards, none_at, stays}

@@ -288,6 +288,13 @@ impl<'a> FdeRow<'a> {
         }
     }
 
+    /// How many addresses it covers.
+    pub fn range(&self) -> u64
+        ensures { self.now.fde.end ≡ self.now.fde.begin + result }
+    {
+        self.fde.range
+    }
+
     /// The rules.
     pub fn row(&self) -> &Row<'a>
         ensures { result.now ≡ self.now.row }

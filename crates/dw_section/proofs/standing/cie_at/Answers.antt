@@ -1,4 +1,4 @@
-use Rattle.std.proofs.Common.{sym, ap}
+use Rattle.std.proofs.Common.{ap}
 use Rattle.dw_section.specs.Cut.{Piece}
 use Rattle.dw_section.proofs.standing.cie_at.Goals as goal
 

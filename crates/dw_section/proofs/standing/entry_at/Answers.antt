@@ -1,4 +1,4 @@
-use Rattle.std.proofs.Common.{◌-◌, ◌+◌, ◌<◌, ◌≤◌, length, get_or, sym, refl, arith, inl, inr}
+use Rattle.std.proofs.Common.{◌-◌, ◌+◌, ◌<◌, ◌≤◌, length, get_or, arith, inl, inr}
 use Rattle.std.proofs.lemmas.Bool.Decides.{leb_tells}
 use Rattle.std.proofs.lemmas.List.{get_or_default}
 use Rattle.dw_section.specs.declared.indexing.Ranged.{Ranged}

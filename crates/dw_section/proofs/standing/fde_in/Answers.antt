@@ -1,8 +1,6 @@
-use Rattle.std.proofs.Common.{◌≡◌, ℕ, [], ◌∷◌, refl, sym, ◌∙◌}
-use Rattle.dw_num.specs.declared.refusal.Refusal.{Refusal}
+use Rattle.std.proofs.Common.{◌≡◌, [], ◌∷◌, refl, sym, ◌∙◌}
 use Rattle.dw_section.specs.declared.rereading.FoundFde.{FoundFde}
-use Rattle.dw_section.specs.Cut.{Piece}
-use Rattle.dw_section.specs.Headers.{IsCie, IsFde, cie_at, fde_at, head_in}
+use Rattle.dw_section.specs.Headers.{head_in}
 use Rattle.dw_section.specs.Pieces.{piece_in}
 use Rattle.dw_section.specs.Standing.{AreJoined, FdeStands}
 use Rattle.dw_section.proofs.StandLaws.{own_of, named_of, fde_never, cie_never, stands_joined, fde_is, cie_is, if_some}

@@ -1,5 +1,4 @@
 use Rattle.std.proofs.Common.{refl, sym, arith}
-use Rattle.dw_section.specs.Pieces.{piece_in}
 use Rattle.dw_section.proofs.StandLaws.{rest_is, never_stuck, stands_here, one_piece}
 use Rattle.dw_section.proofs.standing.piece_at.Goals as goal
 

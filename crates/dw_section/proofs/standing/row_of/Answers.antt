@@ -1,8 +1,7 @@
-use Rattle.std.proofs.Common.{◌≡◌, ℕ, refl, sym, ap, subst, ◌∙◌, arith, Some}
+use Rattle.std.proofs.Common.{◌≡◌, refl, sym, ap, subst, ◌∙◌, arith, Some}
 use Rattle.std.proofs.lemmas.Result.{err_from_is_err_and}
 use Rattle.dw_num.specs.Span.{span_of}
 use Rattle.dw_cfa.specs.RuleAt.{last_at}
-use Rattle.dw_cfa.specs.Rows.{Rules}
 use Rattle.dw_cfa.specs.Stepping.{Stepping}
 use Rattle.dw_section.specs.Inner.Lookup.{rows_of}
 use Rattle.dw_section.specs.Meaning.{RulesAt}
