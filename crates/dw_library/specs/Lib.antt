@@ -5,3 +5,4 @@ pub mod Forms
 pub mod Windows
 pub mod Registers
 pub mod Unwinding
+pub mod Index
