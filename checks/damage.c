@@ -31,12 +31,12 @@ static void stop_at(const char *why)
     exit(1);
 }
 
-static unsigned counts[DWFRAME_DEVICE + 1];
+static unsigned counts[DWFRAME_BAD_INDEX + 1];
 
 static void judge(dwframe_status status, const dwframe_refusal *refusal)
 {
     char name[DWFRAME_NAME_SIZE];
-    if (status > DWFRAME_DEVICE)
+    if (status > DWFRAME_BAD_INDEX)
         stop_at("a status that the header does not name");
     if ((status == DWFRAME_REFUSED) != (refusal->code != 0))
         stop_at("a refusal without its status");
@@ -92,6 +92,45 @@ static void call_unwind(const uint8_t *section, size_t len, uint8_t size, uint8_
     free(window);
 }
 
+/* An index of the section, damaged: entries that are exchanged, left out, changed or random. */
+static void call_row_at(const uint8_t *bytes, size_t len, const uint8_t *copy, size_t copy_len, uint8_t size, uint8_t order)
+{
+    size_t entries = 0, room = below(20);
+    dwframe_row row;
+    dwframe_refusal refusal;
+    judge(dwframe_index_size(bytes, len, size, order, &entries, &refusal), &refusal);
+    dwframe_entry *index = block(entries * sizeof *index);
+    dwframe_rule *rules = block(room * sizeof *rules);
+    judge(dwframe_index(bytes, len, size, order, index, entries, &entries, &refusal), &refusal);
+    for (uint64_t times = below(4); times && entries; times--) {
+        dwframe_entry *entry = &index[below(entries)];
+        switch (below(5)) {
+        case 0:
+            *entry = index[below(entries)];
+            break;
+        case 1:
+            entry->at = (uint32_t)below(2 * len + 1);
+            break;
+        case 2:
+            entry->begin = number();
+            entry->range = number();
+            break;
+        case 3:
+            ((uint8_t *)entry)[below(sizeof *entry)] = (uint8_t)number();
+            break;
+        default:
+            entries = below(entries + 1);
+        }
+    }
+    for (int times = 0; times < 4; times++) {
+        const dwframe_entry *entry = entries ? &index[below(entries)] : NULL;
+        uint64_t address = entry && below(8) ? entry->begin + below(entry->range) : number();
+        judge(dwframe_row_at(copy, copy_len, size, order, index, entries, address, rules, room, &row, &refusal), &refusal);
+    }
+    free(index);
+    free(rules);
+}
+
 static void call_all(const uint8_t *bytes, size_t len, uint8_t size, uint8_t order)
 {
     dwframe_counts entries;
@@ -103,6 +142,7 @@ static void call_all(const uint8_t *bytes, size_t len, uint8_t size, uint8_t ord
     judge(dwframe_normalise(copy, damaged_len, size, order, out, room, &needed, &refusal), &refusal);
     judge(dwframe_same(bytes, len, copy, damaged_len, size, order, &alike, &refusal), &refusal);
     call_unwind(copy, damaged_len, size, order);
+    call_row_at(bytes, len, below(2) ? copy : bytes, damaged_len < len ? damaged_len : len, size, order);
     free(copy);
     free(out);
 }
@@ -118,8 +158,8 @@ int main(int argc, char **argv)
     uint8_t size = (uint8_t)atoi(argv[1]), order = !strcmp(argv[2], "big");
     for (unsigned long left = strtoul(argv[4], NULL, 10); left; left--)
         call_all(bytes, len, left % 50 ? size : (uint8_t)below(10), left % 51 ? order : (uint8_t)below(3));
-    for (unsigned status = 0; status <= DWFRAME_DEVICE; status++)
-        printf("%s%u", status ? " " : "statuses 0 to 9: ", counts[status]);
+    for (unsigned status = 0; status <= DWFRAME_BAD_INDEX; status++)
+        printf("%s%u", status ? " " : "statuses 0 to 10: ", counts[status]);
     printf("\n");
     return 0;
 }

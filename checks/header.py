@@ -9,7 +9,7 @@ import re
 import sys
 
 ROOT = pathlib.Path(__file__).resolve().parent.parent
-NUMBERS = {"u8": "uint8_t", "u16": "uint16_t", "u32": "uint32_t", "u64": "uint64_t", "usize": "size_t"}
+NUMBERS = {"u8": "uint8_t", "u16": "uint16_t", "u32": "uint32_t", "u64": "uint64_t", "usize": "size_t", "i64": "int64_t"}
 # Structs by their names in Rattle, in C and in the crate for Rust.
 STRUCTS = {
     "Refused": ("dwframe_refusal", "RawRefusal"),
@@ -19,6 +19,9 @@ STRUCTS = {
     "Window": ("dwframe_window", "Window"),
     "Frame": ("dwframe_frame", "RawFrame"),
     "Fault": ("dwframe_fault", "RawFault"),
+    "Ranged": ("dwframe_entry", "Entry"),
+    "Rule": ("dwframe_rule", "RawRule"),
+    "Row": ("dwframe_row", "RawRow"),
 }
 # Constants of Rattle beside the statuses, and where C has them under another name.
 OTHERS = {"CFA": "DWFRAME_CFA"}
@@ -96,6 +99,8 @@ def c_structs(text):
 
 def main():
     sources = {path.name: plain(path.read_text()) for path in sorted((ROOT / "crates/dw_library/src").glob("*.rt"))}
+    # The entries of an index are those of a table.
+    sources["indexing.rt"] = plain((ROOT / "crates/dw_section/src/indexing.rt").read_text())
     rattle = " ".join(sources.values())
     header = plain((ROOT / "include/dwframe.h").read_text())
     rust = plain((ROOT / "bindings/rust/src/lib.rs").read_text())

@@ -13,11 +13,11 @@ trap 'rm -r "$folder"' EXIT
 cd "$folder"
 flags="-std=c11 -Wall -Wextra -Werror -O2 -g -I$root/include"
 
-# built NAME COMMAND..: compiles both examples, as library-NAME and frames-NAME.
+# built NAME COMMAND..: compiles the examples, as library-NAME, frames-NAME and lookup-NAME.
 built() {
     name=$1
     shift
-    for example in library frames; do
+    for example in library frames lookup; do
         "$@" $flags -o "$example-$name" "$root/examples/$example.c" "$root/libdwframe.a"
     done
     names+=("$name")
@@ -29,7 +29,7 @@ built sanitized gcc -fsanitize=address,undefined
 if command -v clang >/dev/null; then built clang clang; else echo "library by clang: left out"; fi
 if command -v cargo >/dev/null; then
     (cd "$root/bindings/rust" && cargo build --quiet --offline --release --examples --target-dir "$folder/target")
-    for example in library frames; do cp "target/release/examples/$example" "$example-rust"; done
+    for example in library frames lookup; do cp "target/release/examples/$example" "$example-rust"; done
     names+=(rust)
 else
     echo "library by rustc: left out, for there is no cargo"
@@ -78,6 +78,15 @@ for target in $(find -L "$@" -name '*.target' | sort); do
         as_command frames unwind $on --default same "$section" "$dump" -- "$size" "$order" "$section" "$dump"
     done
 done
+looked=0
+for target in $(find -L "$@" -name '*.target' | sort); do
+    section=${target%.target}.bin
+    read -r size order <"$target"
+    "$program" rows --size "$size" --order "$order" "$section" >rows 2>/dev/null || continue
+    for name in "${names[@]}"; do "$root/checks/rows.py" "./lookup-$name" "$size" "$order" "$section" rows; done
+    looked=$((looked + 1))
+done
+echo "library: the rows of $looked sections by a look-up of each address"
 echo "library: $compared answers by ${names[*]} as the command's"
 
 # A real program that stopped: the walk of its stack is that of examples/backtrace.py.
@@ -119,6 +128,11 @@ for name in plain rules many big-endian; do
     for call in check normal; do each_refused ./library-refused $call "$size" "$order" "$section"; done
     each_refused ./library-refused same "$size" "$order" "$section" "$section"
 done
+for name in plain rules many big-endian; do
+    read -r size order <"$root/examples/$name.target"
+    address=$(sed -n 's/^ \(0x[0-9a-f]*\) .*/\1/p' "$root/examples/$name.rows" | head -1)
+    each_refused ./lookup-refused "$size" "$order" "$root/examples/$name.bin" "$address"
+done
 for name in plain rules; do
     each_refused ./frames-refused 8 little "$root/examples/$name.bin" "$root/examples/$name.dump"
 done
@@ -137,6 +151,7 @@ if command -v valgrind >/dev/null; then
     for name in plain rules many big-endian; do
         read -r size order <"$root/examples/$name.target"
         $run ./library-gcc normal "$size" "$order" "$root/examples/$name.bin" >/dev/null
+        $run ./lookup-gcc "$size" "$order" "$root/examples/$name.bin" >/dev/null
         $run ./damage "$size" "$order" "$root/examples/$name.bin" 500 >/dev/null
     done
     $run ./frames-gcc 8 little "$root/examples/rules.bin" "$root/examples/rules.dump" >/dev/null

@@ -59,7 +59,9 @@ enum {
     /* A register that is asked for is not given. */
     DWFRAME_NO_REGISTER = 8,
     /* The memory failed. Windows never do. */
-    DWFRAME_DEVICE = 9
+    DWFRAME_DEVICE = 9,
+    /* The index is not the one of these bytes: no FDE that covers the address stands where its entry says. */
+    DWFRAME_BAD_INDEX = 10
 };
 
 /* The order of the bytes of a number. */
@@ -111,6 +113,86 @@ dwframe_status dwframe_normalise(const uint8_t *bytes, size_t len, uint8_t addre
  */
 dwframe_status dwframe_same(const uint8_t *first, size_t first_len, const uint8_t *second, size_t second_len,
     uint8_t address_size, uint8_t byte_order, uint32_t *alike, dwframe_refusal *refusal) DWFRAME_NONNULL;
+
+/*
+ * An entry of an index: an FDE's first address, how many it covers, the place of its entry in the section, and the number of
+ * the register that holds the return address. 24 bytes, in the machine's own order of bytes. An index is plain data: it may be
+ * stored and read back by the same kind of machine.
+ */
+typedef struct dwframe_entry {
+    uint64_t begin;
+    uint64_t range;
+    uint32_t at;
+    uint16_t return_register;
+} dwframe_entry;
+
+/* How many entries the index of a section has: one for each FDE that covers an address. The section is judged. */
+dwframe_status dwframe_index_size(const uint8_t *bytes, size_t len, uint8_t address_size, uint8_t byte_order, size_t *size,
+    dwframe_refusal *refusal) DWFRAME_NONNULL;
+
+/*
+ * Writes the index of a section to the front of the `room` entries at `index`, ascending by begin, and how many there are to
+ * `written`. DWFRAME_TOO_SHORT, with their number, where `room` is less; `index` stays then, and where the section is refused.
+ * A room of as many entries as dwframe_check counts FDEs always does.
+ */
+dwframe_status dwframe_index(const uint8_t *bytes, size_t len, uint8_t address_size, uint8_t byte_order, dwframe_entry *index,
+    size_t room, size_t *written, dwframe_refusal *refusal) DWFRAME_NONNULL;
+
+/* How a register of the caller is found (DWARF 5, 6.4.1). CFA is the canonical frame address. */
+enum {
+    /* It has no value. */
+    DWFRAME_RULE_UNDEFINED = 1,
+    /* It has not been changed. */
+    DWFRAME_RULE_SAME_VALUE = 2,
+    /* It is saved in memory at CFA plus `offset`. */
+    DWFRAME_RULE_OFFSET = 3,
+    /* It is CFA plus `offset`. */
+    DWFRAME_RULE_VAL_OFFSET = 4,
+    /* It is in the register `other`. */
+    DWFRAME_RULE_REGISTER = 5,
+    /* It is saved in memory where an expression says. */
+    DWFRAME_RULE_EXPRESSION = 6,
+    /* It is the value of an expression. */
+    DWFRAME_RULE_VAL_EXPRESSION = 7
+};
+
+/* How the CFA is found: the register `cfa_register` plus `cfa_offset`, or by an expression. */
+enum { DWFRAME_CFA_REGISTER = 1, DWFRAME_CFA_EXPRESSION = 2 };
+
+/* The rule of a register: its DWARF number and the kind. `other` and `offset` are 0 where the kind does not name them. */
+typedef struct dwframe_rule {
+    uint16_t number;
+    uint16_t kind;
+    uint32_t other;
+    int64_t offset;
+} dwframe_rule;
+
+/* The row of an address. All are 0 where there is none. */
+typedef struct dwframe_row {
+    /* The first address of its FDE, and how many it covers. */
+    uint64_t begin;
+    uint64_t range;
+    int64_t cfa_offset;
+    /* How many registers have a rule. */
+    uint64_t count;
+    uint32_t cfa_kind;
+    uint16_t cfa_register;
+    /* The number of the register that holds the return address. */
+    uint16_t return_register;
+} dwframe_row;
+
+/*
+ * The rules at an address: the CFA's in `row`, and those of the registers at `rules`, ascending by number, as many as fit into
+ * the `room` there; DWFRAME_TOO_SHORT where there are more, and `row` says how many. A room of 0 asks for the CFA alone.
+ * DWFRAME_NO_FDE where no entry of the index covers the address.
+ *
+ * The entry is found by halving. The FDE at its place, and the CIE that this names, are read and judged anew up to the row. By the
+ * index of these bytes, which dwframe_index wrote, the rules are those of the section. Any other index does no harm: what stands
+ * at the entry's place is told if it is an FDE that covers the address, and else DWFRAME_BAD_INDEX or DWFRAME_REFUSED is answered.
+ */
+dwframe_status dwframe_row_at(const uint8_t *bytes, size_t len, uint8_t address_size, uint8_t byte_order,
+    const dwframe_entry *index, size_t entries, uint64_t address, dwframe_rule *rules, size_t room, dwframe_row *row,
+    dwframe_refusal *refusal) DWFRAME_NONNULL;
 
 /* What a register is taken as that no instruction has set: the ABI decides. */
 enum { DWFRAME_UNCHANGED = 0, DWFRAME_UNDEFINED = 1 };

@@ -109,6 +109,8 @@ pub enum Failure {
     },
     /// No FDE covers the address.
     NoFde,
+    /// The index is not the one of these bytes.
+    BadIndex,
     /// A column has no value.
     Fault(Fault),
 }
@@ -199,6 +201,7 @@ impl fmt::Display for Failure {
             Failure::OutOfMemory => write!(f, "out of memory"),
             Failure::TooShort { needed } => write!(f, "room for {needed} is needed"),
             Failure::NoFde => write!(f, "fault: NoFde"),
+            Failure::BadIndex => write!(f, "the index is of other bytes"),
             Failure::Fault(fault) => write!(f, "fault: {fault}"),
         }
     }
@@ -265,6 +268,163 @@ impl<'a> Section<'a> {
         };
         answer(status, refusal, needed)?;
         Ok(needed)
+    }
+}
+
+/// An entry of an index: plain data, which may be stored and read back by the same kind of machine.
+#[repr(C)]
+#[derive(Clone, Copy, Debug, Default, PartialEq, Eq)]
+pub struct Entry {
+    /// The first address of an FDE.
+    pub begin: u64,
+    /// How many it covers.
+    pub range: u64,
+    /// The place of its entry in the section.
+    pub at: u32,
+    /// The number of the register that holds the return address.
+    pub return_register: u16,
+}
+
+/// How the canonical frame address is found.
+#[derive(Clone, Copy, Debug, PartialEq, Eq)]
+pub enum CfaRule {
+    /// A register plus an offset.
+    Register {
+        /// The register.
+        register: u16,
+        /// The offset.
+        offset: i64,
+    },
+    /// By an expression.
+    Expression,
+}
+
+/// How a register of the caller is found (DWARF 5, 6.4.1). CFA is the canonical frame address.
+#[derive(Clone, Copy, Debug, PartialEq, Eq)]
+pub enum Rule {
+    /// It has no value.
+    Undefined,
+    /// It has not been changed.
+    SameValue,
+    /// It is saved in memory at CFA plus an offset.
+    Offset(i64),
+    /// It is CFA plus an offset.
+    ValOffset(i64),
+    /// It is in another register.
+    Register(u16),
+    /// It is saved in memory where an expression says.
+    Expression,
+    /// It is the value of an expression.
+    ValExpression,
+}
+
+/// The rule of a register, as a look-up writes it.
+#[derive(Clone, Copy, Debug, Default, PartialEq, Eq)]
+#[repr(transparent)]
+pub struct RegisterRule(RawRule);
+
+impl RegisterRule {
+    /// The register's number.
+    pub fn register(&self) -> u16 {
+        self.0.number
+    }
+
+    /// Its rule.
+    pub fn rule(&self) -> Rule {
+        let RawRule { kind, other, offset, .. } = self.0;
+        match kind {
+            2 => Rule::SameValue,
+            3 => Rule::Offset(offset),
+            4 => Rule::ValOffset(offset),
+            5 => Rule::Register(other as u16),
+            6 => Rule::Expression,
+            7 => Rule::ValExpression,
+            _ => Rule::Undefined,
+        }
+    }
+}
+
+/// The row of an address.
+#[derive(Clone, Copy, Debug, PartialEq, Eq)]
+pub struct Row<'a> {
+    /// The first address of its FDE.
+    pub begin: u64,
+    /// How many addresses this covers.
+    pub range: u64,
+    /// How the canonical frame address is found.
+    pub cfa: CfaRule,
+    /// The number of the register that holds the return address.
+    pub return_register: u16,
+    /// The rules of the registers, ascending.
+    pub registers: &'a [RegisterRule],
+}
+
+impl Section<'_> {
+    /// How many entries the index of the section has.
+    pub fn index_size(&self) -> Result<usize, Failure> {
+        let (size, order) = self.target.numbers();
+        let (mut count, mut refusal) = (0, RawRefusal::default());
+        // SAFETY: the slice and both numbers are lent for the call, and those that are written are ours alone.
+        let status = unsafe {
+            dwframe_index_size(self.bytes.as_ptr(), self.bytes.len(), size, order, &mut count, &mut refusal)
+        };
+        answer(status, refusal, 0)?;
+        Ok(count)
+    }
+
+    /// Writes the index of the section to the front of `out`, ascending by begin. Where it does not fit, `Failure::TooShort` says how
+    /// many entries there are, and `out` stays.
+    pub fn index<'o>(&self, out: &'o mut [Entry]) -> Result<Index<'o, '_>, Failure> {
+        let (size, order) = self.target.numbers();
+        let (mut count, mut refusal) = (0, RawRefusal::default());
+        let (bytes, len, room) = (self.bytes.as_ptr(), self.bytes.len(), out.len());
+        // SAFETY: both slices and both numbers are lent for the call, and those that are written are ours alone.
+        let status = unsafe {
+            dwframe_index(bytes, len, size, order, out.as_mut_ptr(), room, &mut count, &mut refusal)
+        };
+        answer(status, refusal, count)?;
+        Ok(Index { bytes: self.bytes, target: self.target, entries: &out[..count] })
+    }
+}
+
+/// Bytes with an index, for look-ups. The bytes are not judged as a whole.
+#[derive(Clone, Copy, Debug, PartialEq, Eq)]
+pub struct Index<'i, 'a> {
+    bytes: &'a [u8],
+    target: Target,
+    entries: &'i [Entry],
+}
+
+impl<'i, 'a> Index<'i, 'a> {
+    /// An index that was made before. One of other bytes does no harm: what it names is read and judged anew at each look-up.
+    pub fn new(bytes: &'a [u8], target: Target, entries: &'i [Entry]) -> Index<'i, 'a> {
+        Index { bytes, target, entries }
+    }
+
+    /// Its entries, ascending by begin.
+    pub fn entries(&self) -> &'i [Entry] {
+        self.entries
+    }
+
+    /// The row at an address. The rules of its registers are written to the front of `out`; `Failure::TooShort` says how many there
+    /// are where they do not fit, and then `out` has as many as do.
+    pub fn row_at<'o>(&self, address: u64, out: &'o mut [RegisterRule]) -> Result<Row<'o>, Failure> {
+        let (size, order) = self.target.numbers();
+        let (mut row, mut refusal) = (RawRow::default(), RawRefusal::default());
+        let (bytes, len) = (self.bytes.as_ptr(), self.bytes.len());
+        let (entries, count) = (self.entries.as_ptr(), self.entries.len());
+        let (rules, room) = (out.as_mut_ptr().cast::<RawRule>(), out.len());
+        // SAFETY: all slices and both structs are lent for the call, and those that are written are ours alone. A rule is a RawRule.
+        let status = unsafe {
+            dwframe_row_at(bytes, len, size, order, entries, count, address, rules, room, &mut row, &mut refusal)
+        };
+        answer(status, refusal, row.count as usize)?;
+        let cfa = match row.cfa_kind {
+            1 => CfaRule::Register { register: row.cfa_register, offset: row.cfa_offset },
+            _ => CfaRule::Expression,
+        };
+        let (begin, range, return_register) = (row.begin, row.range, row.return_register);
+        Ok(Row { begin, range, cfa, return_register, registers: &out[..row.count as usize] })
     }
 }
 
@@ -450,6 +610,8 @@ fn answer(status: u32, refusal: RawRefusal, needed: usize) -> Result<(), Failure
             at: refusal.at,
         })),
         4 => Err(Failure::TooShort { needed }),
+        5 => Err(Failure::NoFde),
+        10 => Err(Failure::BadIndex),
         // A target has the numbers that the library asks for, so no other status is left.
         _ => Err(Failure::OutOfMemory),
     }
@@ -487,6 +649,27 @@ struct RawFrame {
     cfa: u64,
     count: usize,
     return_register: u32,
+}
+
+#[repr(C)]
+#[derive(Clone, Copy, Debug, Default, PartialEq, Eq)]
+struct RawRule {
+    number: u16,
+    kind: u16,
+    other: u32,
+    offset: i64,
+}
+
+#[repr(C)]
+#[derive(Clone, Copy, Default)]
+struct RawRow {
+    begin: u64,
+    range: u64,
+    cfa_offset: i64,
+    count: u64,
+    cfa_kind: u32,
+    cfa_register: u16,
+    return_register: u16,
 }
 
 #[repr(C)]
@@ -542,5 +725,36 @@ unsafe extern "C" {
         frame: *mut RawFrame,
         refusal: *mut RawRefusal,
         fault: *mut RawFault,
+    ) -> u32;
+    fn dwframe_index_size(
+        bytes: *const u8,
+        len: usize,
+        address_size: u8,
+        byte_order: u8,
+        size: *mut usize,
+        refusal: *mut RawRefusal,
+    ) -> u32;
+    fn dwframe_index(
+        bytes: *const u8,
+        len: usize,
+        address_size: u8,
+        byte_order: u8,
+        index: *mut Entry,
+        room: usize,
+        written: *mut usize,
+        refusal: *mut RawRefusal,
+    ) -> u32;
+    fn dwframe_row_at(
+        bytes: *const u8,
+        len: usize,
+        address_size: u8,
+        byte_order: u8,
+        index: *const Entry,
+        entries: usize,
+        address: u64,
+        rules: *mut RawRule,
+        room: usize,
+        row: *mut RawRow,
+        refusal: *mut RawRefusal,
     ) -> u32;
 }

@@ -1,2 +1,3 @@
 mod WindowLaws
 mod Frames
+mod Overlays

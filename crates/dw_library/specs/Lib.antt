@@ -6,3 +6,4 @@ pub mod Windows
 pub mod Registers
 pub mod Unwinding
 pub mod Inner
+pub mod Index

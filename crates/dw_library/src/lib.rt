@@ -7,6 +7,7 @@
 mod answer;
 mod checking;
 mod forms;
+mod index;
 mod naming;
 mod registers;
 mod unwinding;

@@ -52,7 +52,7 @@ pub struct EntryCounts {
 }
 
 // The longest section that is read.
-const MOST: usize = 2_147_483_647;
+pub(crate) const MOST: usize = 2_147_483_647;
 
 // The width of the first field.
 pub(crate) fn width_of(form: Form) -> usize
@@ -70,7 +70,7 @@ fn all_ones(bytes: &[u8]) -> bool
     bytes.iter().all(|b| *b == 0xff)
 }
 
-fn kind_in(form: Form, body: &[u8]) -> Kind
+pub(crate) fn kind_in(form: Form, body: &[u8]) -> Kind
     requires { id_width form ≤ length body.now }
     ensures { result ≡ is_cie form body.now }
 {
@@ -99,7 +99,7 @@ pub(crate) struct Placed<'a> {
 
 // The item at the front.
 #[tactic(auto, unfolding(crate::specs::Faults::item_at, dw_num::specs::Reading::take_at))]
-fn next_part<'a>(cursor: &mut Cursor<'a>) -> Result<Part<'a>, Refusal>
+pub(crate) fn next_part<'a>(cursor: &mut Cursor<'a>) -> Result<Part<'a>, Refusal>
     requires { cursor.old.at + length cursor.old.bytes ≤ 2147483647 }
     ensures found { IfOk result (λ p. IsItem (item_of p) × Takes cursor.old (item_bytes cursor.old.target.order (item_of p)) cursor.new) }
     ensures placed { IfOk result (IsPlaced cursor.old) }

@@ -84,7 +84,11 @@ pub(crate) fn cie_header<'a>(piece: &Placed<'a>, target: Target) -> Result<Heade
 
 #[tactic(auto, unfolding(crate::specs::Inner::Reading::fde_at))]
 #[inline(always)]
-fn fde_header<'a>(piece: &Placed<'a>, places: &[u64], target: Target) -> Result<Header<'a>, Refusal>
+pub(crate) fn fde_header<'a>(
+    piece: &Placed<'a>,
+    places: &[u64],
+    target: Target,
+) -> Result<Header<'a>, Refusal>
     requires kind { piece.now.kind ≡ kind.Fde }
     requires ascending { Rises 0 places.now }
     ensures exact { Answers head_in result (fde_at target places.now (piece_in piece.now)) }

@@ -22,13 +22,15 @@ use crate::judging::{Initial, Runner, initial_at, judge};
 use dw_num::{Cursor, ReadError, Target};
 use std::alloc::{AllocError, Global};
 
-/// A nonempty FDE: its range, its place, and the return register of its CIE.
-#[derive(Clone, Copy)]
-pub(crate) struct Ranged {
-    pub(crate) begin: u64,
-    pub(crate) range: u64,
-    pub(crate) at: u32,
-    pub(crate) return_register: u16,
+/// A nonempty FDE as an index lists it: its first address (`initial_location`), how many addresses it covers
+/// (`address_range`), the place of its entry, and the return register of its CIE. 24 bytes, as C lays them out.
+#[repr(C)]
+#[derive(Clone, Copy, Debug, PartialEq, Eq)]
+pub struct Ranged {
+    pub begin: u64,
+    pub range: u64,
+    pub at: u32,
+    pub return_register: u16,
 }
 
 // What is kept of an entry, where it is a nonempty FDE.

@@ -18,12 +18,15 @@ mod laws;
 mod lending;
 mod lookup;
 mod rereading;
+mod standing;
 mod table;
 
 pub use changing::Changes;
 pub use cutting::{Entry, EntryCounts, Kind, entries, one_cut, one_cut_fault};
 pub use finding::Lookups;
 pub use heading::{Header, headers, one_first_fault, one_order};
+pub use indexing::Ranged;
 pub use laws::section_laws;
 pub use lookup::{Fde, FdeRef, Fdes};
+pub use standing::{FdeRow, LookUpError, look_up};
 pub use table::{Table, check, one_check_fault};

@@ -15,7 +15,7 @@ ghost use Rattle.dw_section.specs.declared.lookup.Fde.{Fde as TheFde};
 ghost use Rattle.dw_section.specs.Meaning.{AreFdes};
 ghost use Rattle.dw_section.specs.Pieces.{Pieces};
 ghost use Rattle.dw_section.specs.Table.{Section};
-ghost use Rattle.dw_section.specs.Inner.Table.{AreRanges, IsKept};
+ghost use Rattle.dw_section.specs.Inner.Table.{AreRanges, IsKept, IsTable};
 
 use crate::cutting::{EntryCounts, cut};
 use crate::heading::{fdes_hold, find_cies};
@@ -63,6 +63,13 @@ impl<'a> Table<'a> {
         ensures bytes { AreBytes self.now.bytes }
     {
         are_bytes(self.bytes);
+    }
+
+    /// The index of the section: its nonempty FDEs by begin, as `look_up` takes it. Takes no memory.
+    pub fn index(&self) -> &[Ranged]
+        ensures { IsTable self.now.target self.now.bytes result.now }
+    {
+        &self.index
     }
 
     /// How many CIEs and FDEs the section has.

@@ -1,0 +1,99 @@
+//! Looks addresses up, by an index that is made once, by the library:
+//!
+//!     lookup 4|8 little|big FILE ADDRESS..     prints the row at each address
+//!     lookup 4|8 little|big FILE               prints each FDE and its rows, by a look-up of each address
+//!
+//! What it prints is what `examples/lookup.c` prints.
+
+use dwframe::{CfaRule, Entry, Failure, Index, Order, RegisterRule, Row, Rule, Section, Size, Target};
+use std::fmt::Write;
+use std::process::ExitCode;
+use std::{env, fs};
+
+fn text_of(row: &Row<'_>) -> String {
+    let mut text = match row.cfa {
+        CfaRule::Register { register, offset } => format!(" cfa=r{register}{offset:+}"),
+        CfaRule::Expression => " cfa=expr()".to_string(),
+    };
+    for rule in row.registers {
+        let told = match rule.rule() {
+            Rule::Undefined => "u".to_string(),
+            Rule::SameValue => "s".to_string(),
+            Rule::Offset(offset) => format!("[cfa{offset:+}]"),
+            Rule::ValOffset(offset) => format!("cfa{offset:+}"),
+            Rule::Register(register) => format!("r{register}"),
+            Rule::Expression => "[expr()]".to_string(),
+            Rule::ValExpression => "expr()".to_string(),
+        };
+        let _ = write!(text, " r{}={told}", rule.register());
+    }
+    text
+}
+
+fn look_up(index: &Index<'_, '_>, address: u64, room: &mut [RegisterRule]) -> Result<Option<String>, Failure> {
+    match index.row_at(address, room) {
+        Ok(row) => Ok(Some(text_of(&row))),
+        Err(Failure::NoFde) => Ok(None),
+        Err(failure) => Err(failure),
+    }
+}
+
+fn print_fde(index: &Index<'_, '_>, fde: &Entry, room: &mut [RegisterRule]) -> Result<(), Failure> {
+    let end = u128::from(fde.begin) + u128::from(fde.range);
+    println!("fde {:#x} {end:#x} ra=r{}", fde.begin, fde.return_register);
+    let mut before = None;
+    for address in fde.begin..=fde.begin + (fde.range - 1) {
+        let text = look_up(index, address, room)?;
+        if text != before {
+            println!(" {address:#x}{}", text.as_deref().unwrap_or(" no FDE"));
+        }
+        before = text;
+    }
+    Ok(())
+}
+
+fn run(bytes: &[u8], target: Target, addresses: &[u64]) -> Result<(), Failure> {
+    let section = Section::check(bytes, target)?;
+    let mut entries = vec![Entry::default(); section.index_size()?];
+    let index = section.index(&mut entries)?;
+    let mut room = [RegisterRule::default(); 512];
+    for address in addresses {
+        let text = look_up(&index, *address, &mut room)?;
+        println!("{address:#x}{}", text.as_deref().unwrap_or(" no FDE"));
+    }
+    if addresses.is_empty() {
+        for fde in index.entries() {
+            print_fde(&index, fde, &mut room)?;
+        }
+    }
+    Ok(())
+}
+
+fn number(word: &str) -> Option<u64> {
+    match word.strip_prefix("0x") {
+        Some(digits) => u64::from_str_radix(digits, 16).ok(),
+        None => word.parse().ok(),
+    }
+}
+
+fn main() -> ExitCode {
+    let words: Vec<String> = env::args().skip(1).collect();
+    let [size, order, path, addresses @ ..] = &words[..] else {
+        eprintln!("usage: lookup 4|8 little|big FILE [ADDRESS..]");
+        return ExitCode::from(3);
+    };
+    let size = if size == "4" { Size::Four } else { Size::Eight };
+    let order = if order == "big" { Order::Big } else { Order::Little };
+    let Ok(bytes) = fs::read(path) else {
+        eprintln!("the file cannot be read");
+        return ExitCode::from(4);
+    };
+    let addresses: Vec<u64> = addresses.iter().filter_map(|word| number(word)).collect();
+    match run(&bytes, Target { size, order }, &addresses) {
+        Ok(()) => ExitCode::SUCCESS,
+        Err(failure) => {
+            eprintln!("{failure}");
+            ExitCode::from(if let Failure::Refused(_) = failure { 2 } else { 5 })
+        }
+    }
+}

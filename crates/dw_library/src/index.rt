@@ -1,0 +1,333 @@
+//! Look-ups by an index that the caller keeps.
+
+ghost use Rattle.std.specs.Prelude.{◌≡◌, ◌<◌, ◌≤◌, List, IfOk, IfErr, OnErr, MatchResult, length, map, slice_set};
+ghost use Rattle.dw_num.specs.Refusals.{Refuses};
+ghost use Rattle.dw_section.specs.Accepted.{CheckFault};
+ghost use Rattle.dw_section.specs.Inner.Table.{IsTable};
+ghost use Rattle.dw_section.specs.declared.indexing.Ranged.{Ranged as TheRanged};
+ghost use Rattle.dw_section.specs.declared.standing.LookUpError.TheVariants as TheLookUpError;
+ghost use Rattle.dw_library.specs.Answers.{target_of};
+ghost use Rattle.dw_library.specs.Index.{AreEntries, HasSize, IsAnyRow, IsIndexed, IsRow, TellsFde, TellsRow, TellsRules, Told, cfa_kind_of, cfa_offset_of, cfa_register_of, kind_of, no_row, offset_of, other_of, over, rule_of};
+
+use crate::answer::{
+    BAD_ARGUMENT, OK, OUT_OF_MEMORY, REFUSED, Refused, TOO_SHORT, not_refused, target_of, told,
+};
+use dw_cfa::{CfaRule, RegRule, Row as CfaRow};
+use dw_num::{ReadError, Target};
+use dw_section::{FdeRow, LookUpError, Ranged, check, look_up};
+use std::alloc::Global;
+
+/// No entry of the index covers the address.
+const NO_FDE: u32 = 5;
+/// The index is not the one of these bytes.
+const BAD_INDEX: u32 = 10;
+
+/// The rule of a register: its number, the kind, and the other register or the offset that the kind names.
+#[repr(C)]
+#[derive(Clone, Copy)]
+pub struct Rule {
+    pub number: u16,
+    pub kind: u16,
+    pub other: u32,
+    pub offset: i64,
+}
+
+/// The row of an address: its FDE's first address and how many it covers, the rule of the CFA, how many registers have a
+/// rule, and the number of the one that holds the return address. All are 0 where there is none.
+#[repr(C)]
+#[derive(Clone, Copy)]
+pub struct Row {
+    pub begin: u64,
+    pub range: u64,
+    pub cfa_offset: i64,
+    pub count: u64,
+    pub cfa_kind: u32,
+    pub cfa_register: u16,
+    pub return_register: u16,
+}
+
+// Writes entries to the front of a buffer, where they fit.
+fn put_entries(index: &[Ranged], out: &mut [Ranged]) -> u32
+    ensures { AreEntries index.now out.old result out.new }
+{
+    if out.len() < index.len() {
+        return TOO_SHORT;
+    }
+    out[..index.len()].copy_from_slice(index);
+    OK
+}
+
+// Writes a section's index to the front of a buffer, where it fits, and how many entries it has.
+fn put_index(
+    alloc: Global,
+    bytes: &[u8],
+    target: Target,
+    out: &mut [Ranged],
+    written: &mut usize,
+) -> Result<u32, ReadError>
+    ensures placed { IfOk result (λ status. (index : List TheRanged) × IsTable target bytes.now index × (written.new ≡ length index) × AreEntries index out.old status out.new) }
+    ensures first { IfErr result (Refuses (CheckFault target bytes.now)) }
+    ensures kept { OnErr result ((out.new ≡ out.old) × (written.new ≡ written.old)) }
+{
+    let table = check(alloc, bytes, target)?;
+    let index = table.index();
+    *written = index.len();
+    Ok(put_entries(index, out))
+}
+
+/// How many entries the index of a section has.
+#[unsafe(no_mangle)]
+pub extern "C" fn dwframe_index_size(
+    alloc: Global,
+    bytes: &[u8],
+    address_size: u8,
+    byte_order: u8,
+    size: &mut usize,
+    refused: &mut Refused,
+) -> u32
+    ensures { HasSize (target_of address_size byte_order) bytes.now result size.new refused.new }
+{
+    *size = 0;
+    *refused = not_refused();
+    let Some(target) = target_of(address_size, byte_order) else {
+        return BAD_ARGUMENT;
+    };
+    match size_of(alloc, bytes, target) {
+        Ok(found) => {
+            *size = found;
+            OK
+        }
+        Err(ReadError::Refused(refusal)) => {
+            *refused = told(1, refusal);
+            REFUSED
+        }
+        Err(ReadError::OutOfMemory) => OUT_OF_MEMORY,
+    }
+}
+
+// How many entries the index of a section has.
+fn size_of(alloc: Global, bytes: &[u8], target: Target) -> Result<usize, ReadError>
+    ensures size { IfOk result (λ size. (index : List TheRanged) × IsTable target bytes.now index × (size ≡ length index)) }
+    ensures first { IfErr result (Refuses (CheckFault target bytes.now)) }
+{
+    let table = check(alloc, bytes, target)?;
+    Ok(table.index().len())
+}
+
+/// Writes the index of a section to the front of `out`, and how many entries it has to `written`. Where `out` is shorter it
+/// answers `TOO_SHORT` with that number, and `out` stays; it stays also where the section is refused.
+#[unsafe(no_mangle)]
+pub extern "C" fn dwframe_index(
+    alloc: Global,
+    bytes: &[u8],
+    address_size: u8,
+    byte_order: u8,
+    out: &mut [Ranged],
+    written: &mut usize,
+    refused: &mut Refused,
+) -> u32
+    ensures { IsIndexed (target_of address_size byte_order) bytes.now result out.old out.new written.new refused.new }
+{
+    *written = 0;
+    *refused = not_refused();
+    let Some(target) = target_of(address_size, byte_order) else {
+        return BAD_ARGUMENT;
+    };
+    match put_index(alloc, bytes, target, out, written) {
+        Ok(status) => status,
+        Err(ReadError::Refused(refusal)) => {
+            *refused = told(1, refusal);
+            REFUSED
+        }
+        Err(ReadError::OutOfMemory) => OUT_OF_MEMORY,
+    }
+}
+
+fn kind_of(rule: &RegRule<'_>) -> u16
+    ensures { result ≡ kind_of rule.now }
+{
+    match rule {
+        RegRule::Unspecified => 0,
+        RegRule::Undefined => 1,
+        RegRule::SameValue => 2,
+        RegRule::Offset(_) => 3,
+        RegRule::ValOffset(_) => 4,
+        RegRule::Register(_) => 5,
+        RegRule::Expression(_) => 6,
+        RegRule::ValExpression(_) => 7,
+    }
+}
+
+fn other_of(rule: &RegRule<'_>) -> u32
+    ensures { result ≡ other_of rule.now }
+{
+    match rule {
+        RegRule::Register(register) => u32::from(*register),
+        _ => 0,
+    }
+}
+
+fn offset_of(rule: &RegRule<'_>) -> i64
+    ensures { result ≡ offset_of rule.now }
+{
+    match rule {
+        RegRule::Offset(offset) => *offset,
+        RegRule::ValOffset(offset) => *offset,
+        _ => 0,
+    }
+}
+
+fn rule_of(number: u16, rule: &RegRule<'_>) -> Rule
+    ensures told { result ≡ rule_of (number, rule.now) }
+    ensures fits { number < 65536 }
+{
+    Rule {
+        number,
+        kind: kind_of(rule),
+        other: other_of(rule),
+        offset: offset_of(rule),
+    }
+}
+
+// Writes a rule to its place in a buffer, where it has one.
+fn put_rule(out: &mut [Rule], place: u64, rule: Rule)
+    ensures inside { place < length out.old → out.new ≡ slice_set out.old place rule }
+    ensures outside { length out.old ≤ place → out.new ≡ out.old }
+{
+    if place < out.len() as u64 {
+        out[place as usize] = rule;
+    }
+}
+
+// Writes the rules of a row to the front of a buffer, as many as fit, and tells how many there are.
+fn put_rules(row: &CfaRow<'_>, out: &mut [Rule]) -> u64
+    ensures count { result ≡ length row.now.registers }
+    ensures rules { out.new ≡ over (map rule_of row.now.registers) out.old }
+{
+    let mut count: u64 = 0;
+    for (number, rule) in row.specified() {
+        put_rule(out, count, rule_of(number, &rule));
+        count += 1;
+    }
+    count
+}
+
+fn no_row() -> Row
+    ensures { result ≡ no_row }
+{
+    Row {
+        begin: 0,
+        range: 0,
+        cfa_offset: 0,
+        count: 0,
+        cfa_kind: 0,
+        cfa_register: 0,
+        return_register: 0,
+    }
+}
+
+fn cfa_kind_of(rule: &CfaRule<'_>) -> u32
+    ensures { result ≡ cfa_kind_of rule.now }
+{
+    match rule {
+        CfaRule::Unset => 0,
+        CfaRule::Register { .. } => 1,
+        CfaRule::Expression(_) => 2,
+    }
+}
+
+fn cfa_register_of(rule: &CfaRule<'_>) -> u16
+    ensures { result ≡ cfa_register_of rule.now }
+{
+    match rule {
+        CfaRule::Register { register, .. } => *register,
+        _ => 0,
+    }
+}
+
+fn cfa_offset_of(rule: &CfaRule<'_>) -> i64
+    ensures { result ≡ cfa_offset_of rule.now }
+{
+    match rule {
+        CfaRule::Register { offset, .. } => *offset,
+        _ => 0,
+    }
+}
+
+// Writes a row.
+fn tell(found: &FdeRow<'_>, out: &mut [Rule], row: &mut Row) -> u32
+    ensures { TellsRow found.now out.old (record { status = result; row = row.new; rules = out.new }) }
+{
+    let fde = found.fde();
+    let cfa = found.row().cfa();
+    let count = put_rules(found.row(), out);
+    *row = Row {
+        begin: fde.begin,
+        range: found.range(),
+        cfa_offset: cfa_offset_of(&cfa),
+        count,
+        cfa_kind: cfa_kind_of(&cfa),
+        cfa_register: cfa_register_of(&cfa),
+        return_register: fde.return_register,
+    };
+    if count <= out.len() as u64 {
+        OK
+    } else {
+        TOO_SHORT
+    }
+}
+
+// Writes the row of an address, or answers why there is none.
+fn put_row(
+    alloc: Global,
+    bytes: &[u8],
+    target: Target,
+    index: &[Ranged],
+    address: u64,
+    out: &mut [Rule],
+    row: &mut Row,
+) -> Result<u32, LookUpError>
+    ensures own { IsTable target bytes.now index.now → row.old ≡ no_row → MatchResult result (λ status. TellsRules target bytes.now address out.old (record { status = status; row = row.new; rules = out.new })) (λ e. e ≡ TheLookUpError.OutOfMemory) }
+    ensures any { row.old ≡ no_row → IfOk result (λ status. TellsFde target bytes.now address out.old (record { status = status; row = row.new; rules = out.new })) }
+    ensures kept { OnErr result ((out.new ≡ out.old) × (row.new ≡ row.old)) }
+{
+    let Some(found) = look_up(alloc, bytes, target, index, address)? else {
+        return Ok(NO_FDE);
+    };
+    Ok(tell(&found, out, row))
+}
+
+/// The rules at an address, by an index: those of the FDE that stands at the place of the entry that covers the address. It is
+/// read and judged anew, so an index of other bytes is answered by what they say there, or by a status.
+#[unsafe(no_mangle)]
+pub extern "C" fn dwframe_row_at(
+    alloc: Global,
+    bytes: &[u8],
+    address_size: u8,
+    byte_order: u8,
+    index: &[Ranged],
+    address: u64,
+    rules: &mut [Rule],
+    row: &mut Row,
+    refused: &mut Refused,
+) -> u32
+    // By the index of an accepted section it tells what the section says.
+    ensures own { let told : Told = record { status = result; row = row.new; rules = rules.new } in IsRow (target_of address_size byte_order) bytes.now index.now address rules.old told refused.new }
+    // By any other it tells what an FDE says that stands in the bytes.
+    ensures any { let told : Told = record { status = result; row = row.new; rules = rules.new } in IsAnyRow (target_of address_size byte_order) bytes.now address rules.old told refused.new }
+{
+    *row = no_row();
+    *refused = not_refused();
+    let Some(target) = target_of(address_size, byte_order) else {
+        return BAD_ARGUMENT;
+    };
+    match put_row(alloc, bytes, target, index, address, rules, row) {
+        Ok(status) => status,
+        Err(LookUpError::Refused(refusal)) => {
+            *refused = told(1, refusal);
+            REFUSED
+        }
+        Err(LookUpError::BadIndex) => BAD_INDEX,
+        Err(LookUpError::OutOfMemory) => OUT_OF_MEMORY,
+    }
+}

@@ -1,0 +1,185 @@
+/* Looks addresses up, by an index that is made once, by the library for C:
+ *
+ *     lookup 4|8 little|big FILE ADDRESS..     prints the row at each address
+ *     lookup 4|8 little|big FILE               prints each FDE and its rows, as `dwframe rows`, by a look-up of each address
+ *
+ * FILE is a raw .debug_frame. Of an expression it is told only that it is one, which is printed as `expr()`. */
+#include <inttypes.h>
+#include <stdio.h>
+#include <stdlib.h>
+#include <string.h>
+
+#include "dwframe.h"
+
+/* A row has a rule for each of 65,536 registers at most; those of real programs have some twenty. */
+enum { RULES = 512, TEXT = 32 * RULES };
+
+static uint8_t address_size, byte_order;
+static uint8_t *section;
+static size_t section_len, entries;
+static dwframe_entry *table;
+
+static int fail(int status, const char *text)
+{
+    fprintf(stderr, "%s\n", text);
+    return status;
+}
+
+/* The bytes of a file, and a zero byte behind them. */
+static uint8_t *load(const char *path, size_t *len)
+{
+    uint8_t *bytes = NULL;
+    long size = -1;
+    FILE *file = fopen(path, "rb");
+    if (!file)
+        return NULL;
+    if (fseek(file, 0, SEEK_END) == 0)
+        size = ftell(file);
+    rewind(file);
+    if (size >= 0 && (bytes = calloc(1, (size_t)size + 1)))
+        *len = fread(bytes, 1, (size_t)size, file);
+    fclose(file);
+    return bytes;
+}
+
+static int tell(dwframe_status status, const dwframe_refusal *refusal)
+{
+    char name[DWFRAME_NAME_SIZE] = "";
+    if (status == DWFRAME_BAD_ARGUMENT)
+        return fail(3, "bad address size or byte order");
+    if (status != DWFRAME_REFUSED)
+        return fail(5, "out of memory");
+    dwframe_refusal_name(refusal->code, name, sizeof name);
+    fprintf(stderr, "refused: %s at 0x%" PRIx64 "\n", name, refusal->at);
+    return 2;
+}
+
+/* ---- the text of a row, as the command prints it */
+
+static void put_rule(char *text, const dwframe_rule *rule)
+{
+    text += sprintf(text, " r%u=", rule->number);
+    switch (rule->kind) {
+    case DWFRAME_RULE_UNDEFINED:
+        sprintf(text, "u");
+        break;
+    case DWFRAME_RULE_SAME_VALUE:
+        sprintf(text, "s");
+        break;
+    case DWFRAME_RULE_OFFSET:
+        sprintf(text, "[cfa%+" PRId64 "]", rule->offset);
+        break;
+    case DWFRAME_RULE_VAL_OFFSET:
+        sprintf(text, "cfa%+" PRId64, rule->offset);
+        break;
+    case DWFRAME_RULE_REGISTER:
+        sprintf(text, "r%" PRIu32, rule->other);
+        break;
+    case DWFRAME_RULE_EXPRESSION:
+        sprintf(text, "[expr()]");
+        break;
+    default:
+        sprintf(text, "expr()");
+    }
+}
+
+static void put_row(char *text, const dwframe_row *row, const dwframe_rule *rules)
+{
+    if (row->cfa_kind == DWFRAME_CFA_REGISTER)
+        sprintf(text, " cfa=r%u%+" PRId64, row->cfa_register, row->cfa_offset);
+    else
+        sprintf(text, " cfa=expr()");
+    for (uint64_t i = 0; i < row->count; i++)
+        put_rule(text + strlen(text), &rules[i]);
+}
+
+/* The row at an address as a text, or an empty text where no FDE covers it. */
+static int look_up(uint64_t address, char *text, dwframe_row *row)
+{
+    dwframe_rule rules[RULES];
+    dwframe_refusal refusal;
+    dwframe_status status = dwframe_row_at(section, section_len, address_size, byte_order, table, entries, address, rules, RULES,
+        row, &refusal);
+    *text = 0;
+    if (status == DWFRAME_NO_FDE)
+        return 0;
+    if (status != DWFRAME_OK)
+        return tell(status, &refusal);
+    put_row(text, row, rules);
+    return 0;
+}
+
+static int print_fde(const dwframe_entry *fde)
+{
+    static char before[TEXT], text[TEXT];
+    dwframe_row row;
+    uint64_t last = fde->begin + (fde->range - 1);
+    /* The end may be 2^64. */
+    printf("fde 0x%" PRIx64 " 0x", fde->begin);
+    printf(last == UINT64_MAX ? "10000000000000000" : "%" PRIx64, last + 1);
+    printf(" ra=r%u\n", fde->return_register);
+    *before = 0;
+    for (uint64_t address = fde->begin;; address++) {
+        int status = look_up(address, text, &row);
+        if (status)
+            return status;
+        if (strcmp(before, text))
+            printf(" 0x%" PRIx64 "%s\n", address, text);
+        strcpy(before, text);
+        if (address == last)
+            return 0;
+    }
+}
+
+static int print_all(void)
+{
+    int status = 0;
+    for (size_t i = 0; i < entries && !status; i++)
+        status = print_fde(&table[i]);
+    return status;
+}
+
+static int print_these(char **words)
+{
+    static char text[TEXT];
+    dwframe_row row;
+    int status = 0;
+    for (; *words && !status; words++) {
+        uint64_t address = strtoull(*words, NULL, 0);
+        status = look_up(address, text, &row);
+        if (!status)
+            printf("0x%" PRIx64 "%s\n", address, *text ? text : " no FDE");
+    }
+    return status;
+}
+
+/* Makes the index, and prints what is asked for. */
+static int run(char **words)
+{
+    dwframe_refusal refusal;
+    dwframe_status status = dwframe_index_size(section, section_len, address_size, byte_order, &entries, &refusal);
+    if (status != DWFRAME_OK)
+        return tell(status, &refusal);
+    table = malloc(entries * sizeof *table + 1);
+    if (!table)
+        return fail(5, "out of memory");
+    status = dwframe_index(section, section_len, address_size, byte_order, table, entries, &entries, &refusal);
+    if (status != DWFRAME_OK)
+        return tell(status, &refusal);
+    return *words ? print_these(words) : print_all();
+}
+
+int main(int argc, char **argv)
+{
+    if (argc < 4)
+        return fail(3, "usage: lookup 4|8 little|big FILE [ADDRESS..]");
+    address_size = (uint8_t)atoi(argv[1]);
+    byte_order = strcmp(argv[2], "little") ? DWFRAME_BIG : DWFRAME_LITTLE;
+    section = load(argv[3], &section_len);
+    if (!section)
+        return fail(4, "the file cannot be read");
+    int status = run(argv + 4);
+    free(table);
+    free(section);
+    return status;
+}
