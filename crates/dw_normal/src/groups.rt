@@ -1,6 +1,8 @@
 //! The initial row of each return register, found in one pass over all changes.
 
 ghost use Rattle.std.specs.Prelude.{◌≡◌, ℕ, ◌<◌, List, length, slice_index_or, Some, IfOk, OnOk};
+ghost use Rattle.std.specs.BTreeMap.{insert_entry};
+ghost use Rattle.std.specs.Ordering.{nat_cmp};
 ghost use Rattle.dw_cfa.specs.Rows.{Rules};
 ghost use Rattle.dw_section.specs.declared.lookup.Fde.{Fde as TheFde};
 ghost use Rattle.dw_section.specs.Meaning.{AreFdes};
@@ -73,6 +75,21 @@ fn first_shared<'a>(changes: &mut Changes<'a>) -> Result<Row<'a>, AllocError>
     Ok(row)
 }
 
+// Begins the group of a return register with an FDE, whose row at its begin is shown. Apart from `add_fde`, since a row is large
+// and few FDEs begin a group.
+#[inline(never)]
+fn begin_group<'a>(
+    rows: &mut BTreeMap<u16, Row<'a>>,
+    changes: &mut Changes<'a>,
+    register: u16,
+) -> Result<(), AllocError>
+    ensures { (first : Rules) (later : List (ℕ × Rules)) → changes.old.shown ≡ Some first → AreToCome changes.old later → OnOk result (rows.new.entries ≡ insert_entry nat_cmp rows.old.entries register (kept_by first later)) }
+{
+    let row = first_shared(changes)?;
+    rows.insert(register, row)?;
+    Ok(())
+}
+
 // Narrows the row of an FDE's group to what the FDE shares with it.
 fn add_fde<'a>(
     rows: &mut BTreeMap<u16, Row<'a>>,
@@ -88,9 +105,7 @@ fn add_fde<'a>(
     if let Some(shared) = rows.get_mut(&register) {
         return share_with(shared, changes);
     }
-    let row = first_shared(changes)?;
-    rows.insert(register, row)?;
-    Ok(())
+    begin_group(rows, changes, register)
 }
 
 /// The initial row of each return register: one pass over all changes.
