@@ -11,7 +11,7 @@ pub struct Factors {
 }
 
 /// An instruction with its factors multiplied out.
-#[derive(Drop)]
+#[derive(Clone, Debug, Drop, PartialEq, Eq)]
 pub enum Instr<'a> {
     Nop,
     /// The location is this address.

@@ -3,6 +3,9 @@
 ghost use Rattle.std.specs.Prelude.{◌≡◌};
 ghost use Rattle.dw_eval.specs.Kinds.{number_of, name_of};
 
+use std::error::Error;
+use std::fmt;
+
 /// What is wrong.
 #[derive(Clone, Copy, Debug, PartialEq, Eq)]
 pub enum Kind {
@@ -74,6 +77,12 @@ impl Kind {
     }
 }
 
+impl fmt::Display for Kind {
+    fn fmt<W: fmt::Write>(&self, f: &mut fmt::Formatter<W>) -> fmt::Result {
+        write!(f, "{}", self.name())
+    }
+}
+
 /// Why an evaluation has no answer.
 #[derive(Clone, Copy, Debug, PartialEq, Eq)]
 pub enum EvalError {
@@ -82,3 +91,14 @@ pub enum EvalError {
     /// A request for memory was refused.
     OutOfMemory,
 }
+
+impl fmt::Display for EvalError {
+    fn fmt<W: fmt::Write>(&self, f: &mut fmt::Formatter<W>) -> fmt::Result {
+        match self {
+            EvalError::Fault { kind, index } => write!(f, "{kind} at operation {index}"),
+            EvalError::OutOfMemory => write!(f, "out of memory"),
+        }
+    }
+}
+
+impl Error for EvalError {}

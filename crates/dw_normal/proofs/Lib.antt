@@ -8,6 +8,7 @@ mod Summed
 mod Short
 mod Taken
 mod Coming
+mod Dropped
 mod Grouped
 mod Reporting
 mod Placed

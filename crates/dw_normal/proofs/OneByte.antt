@@ -1,5 +1,5 @@
 -- A number whose shortest spelling is one byte.
-use Rattle.std.proofs.Common.{◌≡◌, ℕ, ◌<◌, List, [], ◌∷◌, ◌++◌, refl, sym, ap, ◌∙◌}
+use Rattle.std.proofs.Common.{◌≡◌, ℕ, ◌<◌, [], ◌∷◌, refl}
 use Rattle.std.proofs.lemmas.Bool.{lt-ltb}
 use Rattle.dw_num.specs.Shortest.{shortest_uleb}
 

@@ -1,13 +1,15 @@
 //! The initial row of each return register, found in one pass over all changes.
 
-ghost use Rattle.std.specs.Prelude.{◌≡◌, ℕ, ◌<◌, List, length, slice_index_or, Some, IfOk, OnOk};
+ghost use Rattle.std.specs.Prelude.{◌≡◌, ℕ, true, false, ◌<◌, List, length, slice_index_or, Some, IfOk, OnOk};
+ghost use Rattle.std.specs.BTreeMap.{insert_entry};
+ghost use Rattle.std.specs.Ordering.{nat_cmp};
 ghost use Rattle.dw_cfa.specs.Rows.{Rules};
 ghost use Rattle.dw_section.specs.declared.lookup.Fde.{Fde as TheFde};
 ghost use Rattle.dw_section.specs.Meaning.{AreFdes};
 ghost use Rattle.dw_canon.specs.Group.{kept_by};
 ghost use Rattle.dw_canon.specs.Members.{Member, AreMembers};
-ghost use Rattle.dw_cfa.specs.Narrowing.{agreed};
-ghost use Rattle.dw_normal.specs.Inner.Grouping.{with_member, initial_rows};
+ghost use Rattle.dw_cfa.specs.Narrowing.{agreed, kept};
+ghost use Rattle.dw_normal.specs.Inner.Grouping.{SpecifiesAll, NarrowedBy, with_member, initial_rows};
 ghost use Rattle.dw_normal.specs.Inner.Passing.{AreToCome, BehindFirst};
 
 use dw_cfa::Row;
@@ -30,6 +32,46 @@ pub(crate) fn go_behind_first<'a>(
     Ok(())
 }
 
+// Whether a change may leave a register Unspecified that the row before it specifies. It looks at the registers that the
+// change alters alone.
+fn drops_one(changes: &Changes<'_>) -> bool
+    ensures { (before row : Rules) → changes.now.before ≡ Some before → changes.now.shown ≡ Some row → result ≡ false → SpecifiesAll before row }
+{
+    let Some(_) = changes.before() else {
+        return true;
+    };
+    let Some(row) = changes.row() else {
+        return true;
+    };
+    let mut last = None;
+    'registers: while let Some(register) = changes.next_difference(last) {
+        if !row.rule(register).is_specified() {
+            return true;
+        }
+        last = Some(register);
+    }
+    false
+}
+
+// Drops from a row the registers that a change leaves Unspecified. Where it was narrowed by the row before, most changes drop
+// none, which needs no pass over the row.
+fn keep_change<'a>(
+    shared: &mut Row<'a>,
+    changes: &Changes<'a>,
+    narrowed: bool,
+) -> Result<(), AllocError>
+    ensures { (row : Rules) → changes.now.shown ≡ Some row → (narrowed ≡ true → NarrowedBy shared.old changes.now.before) → OnOk result (shared.new ≡ kept shared.old row) }
+{
+    if narrowed && !drops_one(changes) {
+        return Ok(());
+    }
+    let Some(row) = changes.row() else {
+        return Err(AllocError);
+    };
+    shared.keep(row);
+    Ok(())
+}
+
 /// Drops from a row the registers that one of the changes still to come leaves Unspecified. No change drops one that the
 /// CIE's program specifies, so the row of most groups needs no walk.
 pub(crate) fn keep_all<'a>(
@@ -41,11 +83,10 @@ pub(crate) fn keep_all<'a>(
     if changes.keeps(shared) {
         return Ok(());
     }
+    let mut narrowed = false;
     'changes: while let Some(_) = changes.advance()? {
-        let Some(row) = changes.row() else {
-            return Err(AllocError);
-        };
-        shared.keep(row);
+        keep_change(shared, changes, narrowed)?;
+        narrowed = true;
     }
     Ok(())
 }
@@ -73,6 +114,21 @@ fn first_shared<'a>(changes: &mut Changes<'a>) -> Result<Row<'a>, AllocError>
     Ok(row)
 }
 
+// Begins the group of a return register with an FDE, whose row at its begin is shown. Apart from `add_fde`, since a row is large
+// and few FDEs begin a group.
+#[inline(never)]
+fn begin_group<'a>(
+    rows: &mut BTreeMap<u16, Row<'a>>,
+    changes: &mut Changes<'a>,
+    register: u16,
+) -> Result<(), AllocError>
+    ensures { (first : Rules) (later : List (ℕ × Rules)) → changes.old.shown ≡ Some first → AreToCome changes.old later → OnOk result (rows.new.entries ≡ insert_entry nat_cmp rows.old.entries register (kept_by first later)) }
+{
+    let row = first_shared(changes)?;
+    rows.insert(register, row)?;
+    Ok(())
+}
+
 // Narrows the row of an FDE's group to what the FDE shares with it.
 fn add_fde<'a>(
     rows: &mut BTreeMap<u16, Row<'a>>,
@@ -88,9 +144,7 @@ fn add_fde<'a>(
     if let Some(shared) = rows.get_mut(&register) {
         return share_with(shared, changes);
     }
-    let row = first_shared(changes)?;
-    rows.insert(register, row)?;
-    Ok(())
+    begin_group(rows, changes, register)
 }
 
 /// The initial row of each return register: one pass over all changes.

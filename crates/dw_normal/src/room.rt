@@ -5,16 +5,17 @@ ghost use Rattle.std.specs.List.{AllByRecursion};
 ghost use Rattle.dw_num.specs.Target.{address_limit};
 ghost use Rattle.dw_section.specs.Sound.{RowFits};
 ghost use Rattle.dw_canon.specs.Canon.{cie_instrs};
-ghost use Rattle.dw_canon.specs.Difference.{difference, cfa_difference, move};
+ghost use Rattle.dw_cfa.specs.Rows.{rule};
+ghost use Rattle.dw_canon.specs.Difference.{difference, cfa_difference, rule_to, move};
 ghost use Rattle.dw_canon.specs.Inner.Fits.{InstrFits};
 ghost use Rattle.dw_canon.specs.Spelling.{instr_bytes, program_bytes};
 ghost use Rattle.dw_canon.specs.Written.{cie, missing, entry_bytes};
 ghost use Rattle.dw_normal.specs.Inner.Measuring.{Leaves, LaterLeaves, FdeLeaves};
 ghost use Rattle.dw_normal.specs.Inner.Passing.{Stand, row_or_blank, shown_row};
 
-use crate::differing::{Differences, cfa_difference, rule_to};
-use crate::measuring::{instr_len, unsigned_len};
-use dw_cfa::{Instr, Row};
+use crate::differing::cfa_difference;
+use crate::measuring::{cfa_offset_len, instr_len, packed_len, rule_len, unsigned_len};
+use dw_cfa::{CfaRule, Instr, Row};
 use dw_num::Target;
 use dw_section::Changes;
 use std::alloc::{AllocError, Global};
@@ -29,6 +30,66 @@ pub(crate) fn behind(room: u128, len: u128) -> Option<u128>
     Some(room - len)
 }
 
+// The length of what leads from one rule of the CFA to another.
+#[inline(never)]
+fn other_cfa_len(old: &CfaRule<'_>, new: &CfaRule<'_>, target: Target) -> u128
+    requires { AllByRecursion (InstrFits target) (cfa_difference old.now new.now) }
+    ensures { result ≡ length (program_bytes target (cfa_difference old.now new.now)) }
+{
+    match cfa_difference(old, new) {
+        Some(instr) => instr_len(&instr, target),
+        None => 0,
+    }
+}
+
+// The same: mostly another offset from the same register.
+#[inline(always)]
+fn cfa_len(old: &CfaRule<'_>, new: &CfaRule<'_>, target: Target) -> u128
+    requires { AllByRecursion (InstrFits target) (cfa_difference old.now new.now) }
+    ensures { result ≡ length (program_bytes target (cfa_difference old.now new.now)) }
+{
+    match (old, new) {
+        (
+            CfaRule::Register { register, offset },
+            CfaRule::Register {
+                register: r,
+                offset: n,
+            },
+        ) => {
+            if *register != *r {
+                return other_cfa_len(old, new, target);
+            }
+            if *offset == *n {
+                return 0;
+            }
+            cfa_offset_len(*n, target)
+        }
+        _ => other_cfa_len(old, new, target),
+    }
+}
+
+// What is left of room behind what leads from one row's rule of the CFA to another's.
+fn behind_cfa<'a>(room: u128, before: &Row<'a>, after: &Row<'a>, target: Target) -> Option<u128>
+    requires { AllByRecursion (InstrFits target) (cfa_difference before.now.cfa after.now.cfa) }
+    ensures { Leaves room (length (program_bytes target (cfa_difference before.now.cfa after.now.cfa))) result }
+{
+    let (old, new) = (before.cfa(), after.cfa());
+    behind(room, cfa_len(&old, &new, target))
+}
+
+// The length of what gives a register its rule of a row: `Restore` where it is the initial one.
+#[tactic(auto, unfolding(dw_canon::specs::Spelling::instr_bytes))]
+fn register_len<'a>(shared: &Row<'a>, row: &Row<'a>, register: u16, target: Target) -> u128
+    requires { InstrFits target (rule_to shared.now register (rule row.now register)) }
+    ensures { result ≡ length (instr_bytes target (rule_to shared.now register (rule row.now register))) }
+{
+    let own = row.rule(register);
+    if own.is_same(&shared.rule(register)) {
+        return packed_len(register);
+    }
+    rule_len(register, &own, target)
+}
+
 /// What is left of room behind what leads from one row to another, where a third has the initial rules.
 pub(crate) fn behind_difference<'a>(
     room: u128,
@@ -40,10 +101,11 @@ pub(crate) fn behind_difference<'a>(
     requires { AllByRecursion (InstrFits target) (difference shared.now before.now after.now) }
     ensures { Leaves room (length (program_bytes target (difference shared.now before.now after.now))) result }
 {
-    let mut differences = Differences::new(shared, before, after);
-    let mut left = room;
-    'instrs: while let Some(instr) = differences.step() {
-        left = behind(left, instr_len(&instr, target))?;
+    let mut left = behind_cfa(room, before, after, target)?;
+    let mut last = None;
+    'registers: while let Some(register) = before.next_difference(after, last) {
+        left = behind(left, register_len(shared, after, register, target))?;
+        last = Some(register);
     }
     Some(left)
 }
@@ -77,17 +139,6 @@ fn behind_first<'a>(
     }
 }
 
-// What is left of room behind what leads from one row's rule of the CFA to another's.
-fn behind_cfa<'a>(room: u128, before: &Row<'a>, after: &Row<'a>, target: Target) -> Option<u128>
-    requires { AllByRecursion (InstrFits target) (cfa_difference before.now.cfa after.now.cfa) }
-    ensures { Leaves room (length (program_bytes target (cfa_difference before.now.cfa after.now.cfa))) result }
-{
-    match cfa_difference(&before.cfa(), &after.cfa()) {
-        Some(instr) => behind(room, instr_len(&instr, target)),
-        None => Some(room),
-    }
-}
-
 // What is left of room behind what leads from the row before a change to the change's.
 fn behind_between<'a>(
     room: u128,
@@ -105,7 +156,7 @@ fn behind_between<'a>(
     let mut left = behind_cfa(room, before, row, target)?;
     let mut last = None;
     'registers: while let Some(register) = changes.next_difference(last) {
-        left = behind(left, instr_len(&rule_to(shared, row, register), target))?;
+        left = behind(left, register_len(shared, row, register, target))?;
         last = Some(register);
     }
     Some(left)

@@ -15,6 +15,8 @@ use crate::list::OpList;
 use crate::op::Op;
 use dw_num::Target;
 use std::alloc::{AllocError, AllocFailed, Global};
+use std::error::Error;
+use std::fmt;
 
 /// Why a list of operations is not encoded.
 #[derive(Clone, Copy, Debug, PartialEq, Eq)]
@@ -24,6 +26,19 @@ pub enum EncodeError {
     /// Memory ran out.
     OutOfMemory,
 }
+
+impl fmt::Display for EncodeError {
+    fn fmt<W: fmt::Write>(&self, f: &mut fmt::Formatter<W>) -> fmt::Result {
+        match self {
+            EncodeError::BranchTooFar { index } => {
+                write!(f, "BranchTooFar at operation {index}")
+            }
+            EncodeError::OutOfMemory => write!(f, "out of memory"),
+        }
+    }
+}
+
+impl Error for EncodeError {}
 
 impl<T: Drop> From<AllocFailed<T>> for EncodeError {
     ghost use Rattle.std.specs.Prelude.{◌≡◌};

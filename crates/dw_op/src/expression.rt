@@ -216,6 +216,18 @@ impl<'a> ExprRef<'a> {
     }
 }
 
+impl<'a> Clone for ExprRef<'a> {
+    ghost use Rattle.std.specs.Prelude.{◌≡◌, ⊤};
+
+    ghost is_clone = { λ expression copy. copy ≡ expression };
+
+    ghost is_infallible = { λ _. ⊤ };
+
+    fn clone(&self) -> Result<ExprRef<'a>, AllocError> {
+        Ok(self.copied())
+    }
+}
+
 impl<'a> PartialEq for ExprRef<'a> {
     ghost use Rattle.std.specs.Prelude.{◌≡◌, IsTrue, ◌↔◌};
     ghost use Rattle.dw_op.specs.Comparing.{same_expression};

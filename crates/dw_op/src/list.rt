@@ -8,6 +8,8 @@ ghost use Rattle.dw_op.specs.Inner.Ranges.{Fits};
 
 use crate::op::{Op, are_typed};
 use dw_num::{Size, Target};
+use std::error::Error;
+use std::fmt;
 use std::marker::Model;
 
 /// Operations for a target, which are in range for it: constants and addresses below 2^N, where an
@@ -37,6 +39,14 @@ impl<'a> Model for OpList<'a> {
 pub struct BadOperand {
     pub index: usize,
 }
+
+impl fmt::Display for BadOperand {
+    fn fmt<W: fmt::Write>(&self, f: &mut fmt::Formatter<W>) -> fmt::Result {
+        write!(f, "BadOperand at operation {}", self.index)
+    }
+}
+
+impl Error for BadOperand {}
 
 // Whether a number is an address.
 fn is_address(number: u64, size: Size) -> bool

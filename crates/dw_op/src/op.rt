@@ -6,7 +6,7 @@ ghost use Rattle.dw_op.specs.Inner.Ranges.{IsTyped};
 
 /// An operation (2.5.1, 2.6.1, 7.7.1). A branch names the operation that it goes to by its index in the list, which is
 /// the list's length for the end. N is the number of bits of an address.
-#[derive(Clone, Copy, Debug)]
+#[derive(Clone, Copy, Debug, PartialEq, Eq)]
 pub enum Op<'a> {
     /// `DW_OP_addr`: push this address.
     Addr(u64),

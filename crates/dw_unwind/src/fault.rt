@@ -5,6 +5,8 @@ ghost use Rattle.dw_unwind.specs.Codes.{number_of, name_of};
 ghost use Rattle.dw_unwind.specs.declared.fault.DumpError.TheVariants.{Fault, OutOfMemory};
 
 use std::alloc::{AllocError, AllocFailed};
+use std::error::Error;
+use std::fmt;
 
 /// What is wrong with a line of a dump. A line is judged in this order.
 #[derive(Clone, Copy, Debug, PartialEq, Eq)]
@@ -41,6 +43,12 @@ impl DumpCode {
     }
 }
 
+impl fmt::Display for DumpCode {
+    fn fmt<W: fmt::Write>(&self, f: &mut fmt::Formatter<W>) -> fmt::Result {
+        write!(f, "{}", self.name())
+    }
+}
+
 /// A fault, and the line that it is found at, counted from 1.
 #[derive(Clone, Copy, Debug, PartialEq, Eq)]
 pub struct DumpFault {
@@ -48,14 +56,33 @@ pub struct DumpFault {
     pub line: u64,
 }
 
+impl fmt::Display for DumpFault {
+    fn fmt<W: fmt::Write>(&self, f: &mut fmt::Formatter<W>) -> fmt::Result {
+        write!(f, "{} at line {}", self.code, self.line)
+    }
+}
+
+impl Error for DumpFault {}
+
 /// Why there is no dump.
-#[derive(Debug, Drop)]
+#[derive(Clone, Copy, Debug, PartialEq, Eq)]
 pub enum DumpError {
     /// The first fault of the text.
     Fault(DumpFault),
     /// A request for memory was refused.
     OutOfMemory,
 }
+
+impl fmt::Display for DumpError {
+    fn fmt<W: fmt::Write>(&self, f: &mut fmt::Formatter<W>) -> fmt::Result {
+        match self {
+            DumpError::Fault(fault) => write!(f, "{fault}"),
+            DumpError::OutOfMemory => write!(f, "out of memory"),
+        }
+    }
+}
+
+impl Error for DumpError {}
 
 impl From<DumpFault> for DumpError {
     ghost from_gives = { λ f e. e ≡ Fault f };

@@ -5,6 +5,8 @@ ghost use Rattle.dw_unwind.specs.declared.frame.UnwindError.TheVariants.{OutOfMe
 
 use dw_eval::Kind;
 use std::alloc::{AllocError, AllocFailed};
+use std::error::Error;
+use std::fmt;
 use std::marker::Model;
 
 /// What a register is taken as that no instruction has set.
@@ -21,6 +23,15 @@ pub enum Policy {
 pub enum Column {
     Cfa,
     Register(u16),
+}
+
+impl fmt::Display for Column {
+    fn fmt<W: fmt::Write>(&self, f: &mut fmt::Formatter<W>) -> fmt::Result {
+        match self {
+            Column::Cfa => write!(f, "cfa"),
+            Column::Register(register) => write!(f, "r{register}"),
+        }
+    }
 }
 
 /// Registers of the caller, ascending, each with its value, or None where it has none that can be recovered.
@@ -95,6 +106,25 @@ pub enum UnwindError {
     /// A request for memory was refused.
     OutOfMemory,
 }
+
+impl fmt::Display for UnwindError {
+    fn fmt<W: fmt::Write>(&self, f: &mut fmt::Formatter<W>) -> fmt::Result {
+        match self {
+            UnwindError::NoFde => write!(f, "NoFde"),
+            UnwindError::Eval {
+                kind,
+                index,
+                column,
+            } => write!(f, "{kind} at operation {index} in {column}"),
+            UnwindError::Unreadable { column } => write!(f, "Unreadable in {column}"),
+            UnwindError::Device { column } => write!(f, "Device in {column}"),
+            UnwindError::NoRegister { column } => write!(f, "NoRegister in {column}"),
+            UnwindError::OutOfMemory => write!(f, "out of memory"),
+        }
+    }
+}
+
+impl Error for UnwindError {}
 
 impl From<AllocError> for UnwindError {
     ghost from_gives = { λ _ e. e ≡ OutOfMemory };

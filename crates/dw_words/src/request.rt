@@ -7,6 +7,8 @@ use dw_num::Target;
 use dw_op::Profile;
 use dw_unwind::Policy;
 use std::alloc::AllocError;
+use std::error::Error;
+use std::fmt;
 
 /// What is asked for.
 pub enum Request<'a> {
@@ -86,6 +88,18 @@ pub enum PlanError {
     Words(clap::Error),
     OutOfMemory,
 }
+
+impl fmt::Display for PlanError {
+    fn fmt<W: fmt::Write>(&self, f: &mut fmt::Formatter<W>) -> fmt::Result {
+        match self {
+            PlanError::BadValue(name) => write!(f, "bad value for {name}"),
+            PlanError::Words(error) => write!(f, "{error}"),
+            PlanError::OutOfMemory => write!(f, "out of memory"),
+        }
+    }
+}
+
+impl Error for PlanError {}
 
 impl From<AllocError> for PlanError {
     ghost from_gives = { λ _ e. e ≡ OutOfMemory };

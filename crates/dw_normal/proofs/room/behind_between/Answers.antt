@@ -1,4 +1,4 @@
-use Rattle.std.proofs.Common.{◌≡◌, ◌+◌, ◌<◌, ℕ, List, ◌++◌, length, suc, sym, ap, ◌∙◌, subst, arith}
+use Rattle.std.proofs.Common.{◌≡◌, ◌+◌, ◌<◌, List, length, suc, sym, ap, ◌∙◌, subst, arith}
 use Rattle.std.specs.List.{AllByRecursion, flat_map}
 use Rattle.std.proofs.lemmas.List.{length-append}
 use Rattle.dw_cfa.specs.declared.instr.Instr.{Instr}
@@ -26,12 +26,12 @@ registers-init c =
     let left : c.in_ok-left.left + length (program_bytes t cfa) ≡ c.args.room = c.in_ok-left.ensures in
     (omega (arith, same, both, left), subst (AllByRecursion (InstrFits t)) (sym all) (both_halves (InstrFits t) cfa rules c.requires.fits).1)
 
-pub instr_len-requires : goal.instr_len-requires
-instr_len-requires c =
+pub register_len-requires : goal.register_len-requires
+register_len-requires c =
     let shared = c.args.shared.now in let old = c.args.before.now in let new = c.args.row.now in let found = c.in-Some.ensures in
     let first = found.first old new c.requires.before c.requires.row in
     let one = one_differs shared old new (place_behind c.registers.last) c.in-Some.register first (found.ascending old c.requires.before) (found.other_ascending new c.requires.row) in
-    subst (InstrFits c.args.target) (sym c.rule_to.ensures) (subst (AllByRecursion (InstrFits c.args.target)) one c.registers.invariant.1).0
+    (subst (AllByRecursion (InstrFits c.args.target)) one c.registers.invariant.1).0
 
 pub returns-in_err-left-2 : goal.returns-in_err-left-2
 returns-in_err-left-2 c =
@@ -42,9 +42,9 @@ returns-in_err-left-2 c =
     let own = instr_bytes t (rule_to shared q (rule new q)) in
     let rest = program_bytes t (rules_from shared old new (suc q)) in
     let whole : length (program_bytes t (rules_from shared old new (place_behind c.registers.last))) ≡ length own + length rest = ap (λ (l : List Instr). length (program_bytes t l)) one ∙ length-append own rest in
-    let long : c.instr_len.result ≡ length own = c.instr_len.ensures.len ∙ ap (λ (i : Instr). length (instr_bytes t i)) c.rule_to.ensures in
+    let long : c.register_len.result ≡ length own = c.register_len.ensures in
     let so = c.registers.invariant.0 in
-    let over : c.registers.left < c.instr_len.result = c.in_err-left-2.ensures in
+    let over : c.registers.left < c.register_len.result = c.in_err-left-2.ensures in
     subst (Leaves c.args.room (length (program_bytes t (difference shared old new)))) (sym c.from_residual-in_err-left-2.ensures) (omega (arith, whole, long, so, over))
 
 pub registers-preserved : goal.registers-preserved
@@ -56,9 +56,9 @@ registers-preserved c =
     let own = instr_bytes t (rule_to shared q (rule new q)) in
     let rest = program_bytes t (rules_from shared old new (suc q)) in
     let whole : length (program_bytes t (rules_from shared old new (place_behind c.registers.last))) ≡ length own + length rest = ap (λ (l : List Instr). length (program_bytes t l)) one ∙ length-append own rest in
-    let long : c.instr_len.result ≡ length own = c.instr_len.ensures.len ∙ ap (λ (i : Instr). length (instr_bytes t i)) c.rule_to.ensures in
+    let long : c.register_len.result ≡ length own = c.register_len.ensures in
     let so = c.registers.invariant.0 in
-    let left : c.in_ok-left-2.left + c.instr_len.result ≡ c.registers.left = c.in_ok-left-2.ensures in
+    let left : c.in_ok-left-2.left + c.register_len.result ≡ c.registers.left = c.in_ok-left-2.ensures in
     (omega (arith, whole, long, so, left), (subst (AllByRecursion (InstrFits t)) one c.registers.invariant.1).1)
 
 pub registers-smaller : goal.registers-smaller
