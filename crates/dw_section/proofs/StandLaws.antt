@@ -1,5 +1,5 @@
 -- Entries that stand at their places in bytes.
-use Rattle.std.proofs.Common.{◌≡◌, ℕ, zero, suc, map, get_or, ◌+◌, ◌-◌, ◌<◌, ◌≤◌, true, false, Bool, ◌||◌, eqb, ℤ, List, [], ◌∷◌, ◌++◌, length, take, drop, Option, Some, None, Ok, Err, refl, sym, ap, subst, ◌∙◌, append_assoc, arith, inl, inr}
+use Rattle.std.proofs.Common.{◌≡◌, ℕ, zero, suc, map, get_or, ◌+◌, ◌-◌, ◌<◌, ◌≤◌, true, false, Bool, ◌||◌, eqb, List, [], ◌∷◌, ◌++◌, length, take, drop, Option, Some, None, Ok, Err, refl, sym, ap, subst, ◌∙◌, append_assoc, arith, inl, inr}
 use Rattle.std.specs.List.{AllByRecursion, AllZip}
 use Rattle.std.specs.Prelude.{IfSome}
 use Rattle.std.proofs.lemmas.Bool.Decides.{eqb_tells}
@@ -18,10 +18,11 @@ use Rattle.dw_section.specs.declared.fields.CieFields.{CieFields}
 use Rattle.dw_section.specs.declared.fields.FdeFields.{FdeFields}
 use Rattle.dw_section.specs.declared.rereading.FoundFde.{FoundFde}
 use Rattle.dw_section.specs.Faults.{item_at}
-use Rattle.dw_section.specs.FdeFields.{is_among}
-use Rattle.dw_section.specs.Headers.{Head, Has, Headers, IsCie, IsFde, cie, fde, cie_at, fde_at, fde_head}
-use Rattle.dw_section.specs.Inner.Heads.{head_at}
-use Rattle.dw_section.specs.Inner.Index.{IsFound}
+use Rattle.dw_num.specs.Target.{address_limit}
+use Rattle.dw_section.specs.Fields.{is_among}
+use Rattle.dw_section.specs.Headers.{CieHead, FdeHead, Head, Has, Headers, IsCie, IsFde, cie, fde, cie_head}
+use Rattle.dw_section.specs.Inner.Reading.{cie_at, fde_at}
+use Rattle.dw_section.specs.Inner.Index.{IsFound, found_cie, found_head}
 use Rattle.dw_section.specs.Meaning.{Returns}
 use Rattle.dw_section.specs.Meanings.{IsListed as IsListedFde}
 use Rattle.dw_section.specs.Inner.Lookup.{fde_in}
@@ -29,9 +30,11 @@ use Rattle.dw_section.specs.declared.indexing.Ranged.{Ranged}
 use Rattle.dw_section.specs.Overlap.{Range}
 use Rattle.dw_section.specs.Places.{cie_places}
 use Rattle.dw_section.specs.Programs.{IsAmong}
-use Rattle.dw_section.specs.Standing.{AreJoined, FdeStands, StandsAt, StandsIn, is_fde, cie_of}
-use Rattle.dw_section.proofs.Lent.HeaderLaws.{has_one, has_cie, has_fde, cie_at_again, fde_at_again}
-use Rattle.dw_section.proofs.Lent.Heads.{has_at}
+use Rattle.dw_section.specs.Standing.{StandsIn}
+use Rattle.dw_section.specs.Inner.Standing.{AreJoined, FoundStands, StandsAt, is_fde}
+use Rattle.dw_section.proofs.Lent.FieldTable.{Ranges, fde_said}
+use Rattle.dw_section.proofs.Lent.HeaderLaws.{has_one, cie_at_again, fde_at_again}
+use Rattle.dw_section.proofs.Lent.Heads.{cie_or, fde_or, has_at}
 use Rattle.dw_section.proofs.Items.{front_item, item_again}
 
 -- ---- the entries of a section stand at their places
@@ -116,21 +119,30 @@ stands_here target s at i new form kind place body is inside item takes kind-is 
 
 -- ---- an FDE that stands, and its CIE
 
-pub own_fields : (target : Target) (places : List ℕ) (p : Piece) (at : ℕ) (form : Form) (cie_at begin range : ℕ) (program : Span) → Has target places p (fde at form cie_at begin range program)
-    → (f : FdeFields) × (own : Span) × IsFde target places p f own × (f.cie_at ≡ cie_at)
-own_fields target places p at form cie_at begin range program (inl c) = let a = c.3 in absurd cc
-own_fields target places p at form cie_at begin range program (inr c) = let a = c.3 in (c.0, c.1, c.2, cc)
+pub fde_from : (target : Target) (places : List ℕ) (p : Piece) (h : FdeHead) → Has target places p (fde h)
+    → (f : FdeFields) × (own : Span) × IsFde target places p f own × (h ≡ record { at = p.at; form = p.form; cie_at = f.cie_at; begin = f.begin; range = f.range; program = own })
+fde_from target places p h (inl c) = let a = c.3 in absurd cc
+fde_from target places p h (inr c) = (c.0, c.1, c.2, cc)
+
+cie_from : (target : Target) (places : List ℕ) (p : Piece) (h : CieHead) → Has target places p (cie h) → (f : CieFields) × (own : Span) × IsCie target p f own × (cie h ≡ cie_head p f own)
+cie_from target places p h (inl c) = (c.0, c.1, c.2, c.3)
+cie_from target places p h (inr c) = let a = c.3 in absurd cc
+
+said_of : (target : Target) (places : List ℕ) (p : Piece) (f : FdeFields) (own : Span) → IsFde target places p f own → Ranges target places f
+said_of target places p f own is = fde_said target places p.form f is.1.spelling is.1.spells
 
 pub own_of : (target : Target) (s : List ℕ) (at : ℕ) (p : Piece) (w : StandsAt target s at) → StandsIn target.order s p → at ≡ p.at
-    → (f : FdeFields) × (own : Span) × IsFde target (w.named.at ∷ []) p f own × (f.cie_at ≡ w.named.at)
+    → (f : FdeFields) × (own : Span) × IsFde target (w.0.cie_at ∷ []) p f own × (f.cie_at ≡ w.0.cie_at)
 own_of target s at p w stands place =
-    let same = one_piece target.order s w.own p w.own_stands stands (sym w.at_is ∙ place) in
-    let q = has_fde target (w.named.at ∷ []) w.own w.head w.own_is w.is_fde in
-    let one = has_one target (w.named.at ∷ []) w.own w.head (fde_head w.own q.0 q.1) w.own_is (inr (q.0, q.1, q.2, refl)) in
-    (q.0, q.1, subst (λ (x : Piece). IsFde target (w.named.at ∷ []) x q.0 q.1) same q.2, sym (ap cie_of one) ∙ w.names)
+    let places = w.0.cie_at ∷ [] in
+    let same = one_piece target.order s w.2.piece p w.2.stands stands (sym (has_at target places w.2.piece (fde w.0) w.2.own_is) ∙ w.3 ∙ place) in
+    let q = fde_from target places p w.0 (subst (λ (x : Piece). Has target places x (fde w.0)) same w.2.own_is) in
+    (q.0, q.1, q.2, ap (λ (h : FdeHead). h.cie_at) (sym q.3))
 
-pub named_of : (target : Target) (s : List ℕ) (at : ℕ) (w : StandsAt target s at) → (f : CieFields) × (own : Span) × IsCie target w.named f own
-named_of target s at w = has_cie target [] w.named w.named_head w.named_is w.is_cie
+pub named_of : (target : Target) (s : List ℕ) (at : ℕ) (w : StandsAt target s at) → (f : CieFields) × (own : Span) × IsCie target w.2.named_piece f own × (w.2.named_piece.at ≡ w.0.cie_at)
+named_of target s at w =
+    let q = cie_from target [] w.2.named_piece w.1 w.2.named_is in
+    (q.0, q.1, q.2, sym (has_at target [] w.2.named_piece (cie w.1) w.2.named_is) ∙ sym w.2.names)
 
 pub fde_never : (target : Target) (places : List ℕ) (p : Piece) (f : FdeFields) (own : Span) (r : Refusal) → IsFde target places p f own → fde_at target places p ≡ Err r → ⊥
 fde_never target places p f own r is stuck = let a = fde_at_again target places p f own is in let bad = sym a ∙ stuck in cc
@@ -142,41 +154,48 @@ among_one : (n c : ℕ) → is_among n (c ∷ []) ≡ true → n ≡ c
 among_one n c h = elim (eqb_tells c n) [ inl is ↦ sym is.1 | inr not ↦ (let e = not.0 in let bad = rw e at h in absurd cc) ]
 
 pub stands_joined : (target : Target) (s : List ℕ) (own named : Piece) (pointer : ℕ) (h k : Head) (e : FoundFde) → StandsIn target.order s own → StandsIn target.order s named → named.at ≡ pointer
-    → Has target (pointer ∷ []) own h → Has target [] named k → AreJoined h k e → (e.at ≡ own.at) × FdeStands target s e
-stands_joined target s own named pointer h k e own-stands named-stands at has named-has j =
-    let place = sym (ap head_at j.4) ∙ has_at target (pointer ∷ []) own h has in
-    let named-place = sym (ap head_at j.5) ∙ has_at target [] named k named-has in
-    let head = subst (Has target (pointer ∷ []) own) j.4 has in
-    let fields = own_fields target (pointer ∷ []) own e.at j.0 j.1 e.begin e.range (span_of e.program) head in
-    let names : j.1 ≡ named.at = sym fields.3 ∙ among_one fields.0.cie_at pointer fields.2.spells.names_cie ∙ sym at in (
-      place,
-      record {
-        own = own;
-        named = named;
-        form = j.0;
-        named_form = j.3;
-        own_stands = own-stands;
-        named_stands = named-stands;
-        at = place;
-        own_is =
-            subst (λ (n : ℕ). Has target (named.at ∷ []) own (fde n j.0 named.at e.begin e.range (span_of e.program))) place
-            (subst (λ (n : ℕ). Has target (named.at ∷ []) own (fde e.at j.0 n e.begin e.range (span_of e.program))) names
-            (subst (λ (n : ℕ). Has target (n ∷ []) own (fde e.at j.0 j.1 e.begin e.range (span_of e.program))) (sym at) head));
-        named_is = subst (λ (n : ℕ). Has target [] named (cie n j.3 e.factors.code_factor e.factors.data_factor e.return_register (span_of e.cie_program))) named-place (subst (Has target [] named) j.5 named-has);
-      },
+    → Has target (pointer ∷ []) own h → Has target [] named k → AreJoined h k e → (e.at ≡ own.at) × FoundStands target s e
+stands_joined target s own named pointer h k e own-stands named-stands at has named-has (form, cie_form, named_at, place, own-is, named-is) =
+    let head = subst (Has target (pointer ∷ []) own) own-is has in
+    let named-head = subst (Has target [] named) named-is named-has in
+    let fields = fde_from target (pointer ∷ []) own (found_head form named_at e) head in
+    let names : named_at ≡ pointer = ap (λ (x : FdeHead). x.cie_at) fields.3 ∙ among_one fields.0.cie_at pointer (said_of target (pointer ∷ []) own fields.0 fields.1 fields.2).names_cie in
+    let same : place ≡ named_at = has_at target [] named (cie (found_cie cie_form place e.return_register e)) named-head ∙ at ∙ sym names in (
+      has_at target (pointer ∷ []) own (fde (found_head form named_at e)) head,
+      (
+        form,
+        cie_form,
+        named_at,
+        record {
+          piece = own;
+          named_piece = named;
+          stands = own-stands;
+          named_stands = named-stands;
+          own_is = subst (λ (n : ℕ). Has target (n ∷ []) own (fde (found_head form named_at e))) (sym names) head;
+          named_is = subst (λ (n : ℕ). Has target [] named (cie (found_cie cie_form n e.return_register e))) same named-head;
+          names = refl;
+        },
+      ),
     )
+
+-- its addresses lie in the address space
+pub stands_in_space : (target : Target) (s : List ℕ) (e : FoundFde) → FoundStands target s e → e.begin + e.range ≤ address_limit target.size
+stands_in_space target s e (form, cie_form, named_at, w) =
+    let q = fde_from target (named_at ∷ []) w.piece (found_head form named_at e) w.own_is in
+    let said = said_of target (named_at ∷ []) w.piece q.0 q.1 q.2 in
+    omega (arith, said.in_space, ap (λ (x : FdeHead). x.begin) q.3, ap (λ (x : FdeHead). x.range) q.3)
 
 pub if_some : {X : Type 0} (P Q : X → Type 0) (o : Option X) → ((x : X) → P x → Q x) → IfSome o P → IfSome o Q
 if_some P Q None f h = tt
 if_some P Q (Some x) f h = f x h
 
 pub fde_is : (target : Target) (places : List ℕ) (p : Piece) (h : Head) → Has target places p h → p.kind ≡ kind.Fde → is_fde h ≡ true
-fde_is target places p h (inl c) k = let a = c.2.is_cie in absurd cc
+fde_is target places p h (inl c) k = let a = c.2.0 in absurd cc
 fde_is target places p h (inr c) k = ap is_fde c.3
 
 pub cie_is : (target : Target) (places : List ℕ) (p : Piece) (h : Head) → Has target places p h → p.kind ≡ kind.Cie → is_fde h ≡ false
 cie_is target places p h (inl c) k = ap is_fde c.3
-cie_is target places p h (inr c) k = let a = c.2.is_fde in absurd cc
+cie_is target places p h (inr c) k = let a = c.2.0 in absurd cc
 
 -- a slice from a place on
 pub rest_is : (i : Input) (target : Target) (s : List ℕ) (at : ℕ) → at ≤ length s → i ≡ record { at = at; bytes = take (length s - at) (drop at s); target = target } → i ≡ record { at = at; bytes = drop at s; target = target }
@@ -203,119 +222,88 @@ among_next n c ns h = rw h (or_true (eqb c n))
     or_true true = refl
     or_true false = refl
 
+-- the fields are the same
 other_places : (target : Target) (places others : List ℕ) (p : Piece) (f : FdeFields) (own : Span) → is_among f.cie_at others ≡ true → IsFde target places p f own → IsFde target others p f own
-other_places target places others p f own among is =
-    let w = is.spells in
-    record {
-      spelling = is.spelling;
-      is_fde = is.is_fde;
-      spells = record { pointer = w.pointer; first = w.first; range = w.range; pointer_is = w.pointer_is; begin_is = w.begin_is; range_is = w.range_is; names_cie = among; in_space = w.in_space; whole = w.whole };
-      whole = is.whole;
-      place = is.place;
-    }
-
-abbrev fde_numbers : Head → ℕ × ℕ × ℕ × Span
-fde_numbers (cie at form code factor register program) = (0, 0, 0, record { at = 0; bytes = [] })
-fde_numbers (fde at form cie_at begin range program) = (cie_at, begin, range, program)
+other_places target places others p f own among (is, has) =
+    let v = has.spells in
+    let pointer : f.cie_at ≡ v.0 = ap (λ (x : FdeFields). x.cie_at) v.2.second.2.second.2.second.0 in
+    let there : is_among v.0 others ≡ true = subst (λ (n : ℕ). is_among n others ≡ true) pointer among in
+    (is, record { spelling = has.spelling; spells = (v.0, rw there refl, v.2); whole = has.whole; place = has.place })
 
 -- the headers of one FDE, where CIEs are said to stand at other places
-same_fde : (target : Target) (places others : List ℕ) (p : Piece) (at form-at : ℕ) (form other_form : Form) (c d b e r q : ℕ) (own other : Span) → Has target places p (fde at form c b r own) → Has target others p (fde form-at other_form d e q other)
-    → fde at form c b r own ≡ fde form-at other_form d e q other
-same_fde target places others p at form-at form other_form c d b e r q own other (inl x) y = let a = x.3 in absurd cc
-same_fde target places others p at form-at form other_form c d b e r q own other (inr x) (inl y) = let a = y.3 in absurd cc
-same_fde target places others p at form-at form other_form c d b e r q own other (inr x) (inr y) =
+same_fde : (target : Target) (places others : List ℕ) (p : Piece) (g h : FdeHead) → Has target places p (fde g) → Has target others p (fde h) → g ≡ h
+same_fde target places others p g h gs hs =
+    let x = fde_from target places p g gs in
+    let y = fde_from target others p h hs in
     let both = x.0.cie_at ∷ y.0.cie_at ∷ [] in
     let v = other_places target places both p x.0 x.1 (among_first x.0.cie_at (y.0.cie_at ∷ [])) x.2 in
     let w = other_places target others both p y.0 y.1 (among_next y.0.cie_at x.0.cie_at (y.0.cie_at ∷ []) (among_first y.0.cie_at [])) y.2 in
-    has_one target both p _ _ (inr (x.0, x.1, v, x.3)) (inr (y.0, y.1, w, y.3))
-
-same_cie : (target : Target) (places others : List ℕ) (p : Piece) (h k : Head) → p.kind ≡ kind.Cie → Has target places p h → Has target others p k → h ≡ k
-same_cie target places others p h k is (inl x) (inl y) = has_one target [] p h k (inl x) (inl y)
-same_cie target places others p h k is (inl x) (inr y) = let a = y.2.is_fde in absurd cc
-same_cie target places others p h k is (inr x) y = let a = x.2.is_fde in absurd cc
-
-cie_kind : (target : Target) (places : List ℕ) (p : Piece) (at : ℕ) (form : Form) (code : ℕ) (factor : ℤ) (register : ℕ) (program : Span) → Has target places p (cie at form code factor register program) → p.kind ≡ kind.Cie
-cie_kind target places p at form code factor register program (inl c) = c.2.is_cie
-cie_kind target places p at form code factor register program (inr c) = let a = c.3 in absurd cc
-
-fde_kind : (target : Target) (places : List ℕ) (p : Piece) (at : ℕ) (form : Form) (cie_at begin range : ℕ) (program : Span) → Has target places p (fde at form cie_at begin range program) → p.kind ≡ kind.Fde
-fde_kind target places p at form cie_at begin range program (inl c) = let a = c.3 in absurd cc
-fde_kind target places p at form cie_at begin range program (inr c) = c.2.is_fde
+    ap (fde_or g) (has_one target both p (fde g) (fde h) (inr (x.0, x.1, v, ap fde x.3)) (inr (y.0, y.1, w, ap fde y.3)))
 
 -- the header of a CIE is the same wherever CIEs are said to stand
-cie_anywhere : (target : Target) (places others : List ℕ) (p : Piece) (h : Head) → p.kind ≡ kind.Cie → Has target places p h → Has target others p h
-cie_anywhere target places others p h is (inl c) = inl c
-cie_anywhere target places others p h is (inr c) = let a = c.2.is_fde in absurd cc
+cie_anywhere : (target : Target) (places others : List ℕ) (p : Piece) (h : CieHead) → Has target places p (cie h) → Has target others p (cie h)
+cie_anywhere target places others p h (inl c) = inl c
+cie_anywhere target places others p h (inr c) = let a = c.3 in absurd cc
+
+same_cie : (target : Target) (places others : List ℕ) (p : Piece) (g h : CieHead) → Has target places p (cie g) → Has target others p (cie h) → g ≡ h
+same_cie target places others p g h gs hs = ap (cie_or g) (has_one target others p (cie g) (cie h) (cie_anywhere target places others p g gs) hs)
 
 -- that of an FDE is the same where one stands at the place that it names
-fde_anywhere : (target : Target) (places others : List ℕ) (p : Piece) (at : ℕ) (form : Form) (cie_at begin range : ℕ) (program : Span) → Has target places p (fde at form cie_at begin range program) → is_among cie_at others ≡ true
-    → Has target others p (fde at form cie_at begin range program)
-fde_anywhere target places others p at form cie_at begin range program (inl c) among = let a = c.3 in absurd cc
-fde_anywhere target places others p at form cie_at begin range program (inr c) among =
-    let e : cie_at ≡ c.0.cie_at = ap cie_of c.3 in
-    inr (c.0, c.1, other_places target places others p c.0 c.1 (subst (λ (n : ℕ). is_among n others ≡ true) e among) c.2, c.3)
+fde_anywhere : (target : Target) (places others : List ℕ) (p : Piece) (h : FdeHead) → Has target places p (fde h) → is_among h.cie_at others ≡ true → Has target others p (fde h)
+fde_anywhere target places others p h has among =
+    let q = fde_from target places p h has in
+    let pointer = ap (λ (x : FdeHead). x.cie_at) q.3 in
+    inr (q.0, q.1, other_places target places others p q.0 q.1 (subst (λ (n : ℕ). is_among n others ≡ true) pointer among) q.2, ap fde q.3)
 
-pub listed_stands : (target : Target) (s : List ℕ) (hs : List Head) (a : Range) (register : ℕ) (e : FoundFde) → Headers target s hs → Returns hs a register → FdeStands target s e → e.at ≡ a.at → IsListed hs a register e
-listed_stands target s hs a register e p r w at =
+pub listed_stands : (target : Target) (s : List ℕ) (hs : List Head) (a : Range) (register : ℕ) (e : FoundFde) → Headers target s hs → Returns hs a register → FoundStands target s e → e.at ≡ a.at → IsListed hs a register e
+listed_stands target s hs a register e p r (form, cie_form, named_at, w) at =
     let places = cie_places p.entries in
-    let h = fde a.at r.form r.cie_at a.begin a.range r.program in
-    let k = cie r.cie_at r.cie_form r.code_factor r.data_factor register r.cie_program in
-    let mine = fde w.own.at w.form w.named.at e.begin e.range (span_of e.program) in
-    let own = stands_of target s hs h p r.fde_among in
-    let own-at = has_at target places own.0 h own.2 in
-    let own-same = one_piece target.order s w.own own.0 w.own_stands own.1 (sym w.at ∙ at ∙ own-at) in
-    let one : mine ≡ h = same_fde target (w.named.at ∷ []) places own.0 w.own.at a.at w.form r.form w.named.at r.cie_at e.begin a.begin e.range a.range (span_of e.program) r.program (subst (λ (q : Piece). Has target (w.named.at ∷ []) q mine) own-same w.own_is) own.2 in
-    let numbers = ap fde_numbers one in
-    let pointer : w.named.at ≡ r.cie_at = ap (λ (x : ℕ × ℕ × ℕ × Span). x.0) numbers in
-    let named = stands_of target s hs k p r.cie_among in
-    let named-at = has_at target places named.0 k named.2 in
-    let named-same = one_piece target.order s w.named named.0 w.named_stands named.1 (pointer ∙ named-at) in
-    let his = cie w.named.at w.named_form e.factors.code_factor e.factors.data_factor e.return_register (span_of e.cie_program) in
-    let is_cie = cie_kind target [] w.named w.named.at w.named_form e.factors.code_factor e.factors.data_factor e.return_register (span_of e.cie_program) w.named_is in
-    let two : his ≡ k = same_cie target [] places named.0 his k (sym (ap (λ (q : Piece). q.kind) named-same) ∙ is_cie) (subst (λ (q : Piece). Has target [] q his) named-same w.named_is) named.2 in
+    let mine = found_head form named_at e in
+    let his = found_cie cie_form named_at e.return_register e in
+    let own = stands_of target s hs (fde r.own) p r.own_among in
+    let own-at = has_at target places own.0 (fde r.own) own.2 in
+    let here = has_at target (named_at ∷ []) w.piece (fde mine) w.own_is in
+    let own-same = one_piece target.order s w.piece own.0 w.stands own.1 (sym here ∙ at ∙ sym (ap (λ (x : Range). x.at) r.covers) ∙ own-at) in
+    let one : mine ≡ r.own = same_fde target (named_at ∷ []) places own.0 mine r.own (subst (λ (q : Piece). Has target (named_at ∷ []) q (fde mine)) own-same w.own_is) own.2 in
+    let named = stands_of target s hs (cie r.named) p r.named_among in
+    let named-at = has_at target places named.0 (cie r.named) named.2 in
+    let there = has_at target [] w.named_piece (cie his) w.named_is in
+    let named-same = one_piece target.order s w.named_piece named.0 w.named_stands named.1 (sym there ∙ ap (λ (x : FdeHead). x.cie_at) one ∙ r.names ∙ named-at) in
+    let two : his ≡ r.named = same_cie target [] places named.0 his r.named (subst (λ (q : Piece). Has target [] q (cie his)) named-same w.named_is) named.2 in
     record {
       found = (
-        w.form,
-        w.named_form,
-        w.named.at,
+        form,
+        cie_form,
+        named_at,
         e.return_register,
-        subst (λ (n : ℕ). IsAmong (fde n w.form w.named.at e.begin e.range (span_of e.program)) hs) (sym w.at) (subst (λ (x : Head). IsAmong x hs) (sym one) r.fde_among),
-        subst (λ (x : Head). IsAmong x hs) (sym two) r.cie_among,
+        subst (λ (x : FdeHead). IsAmong (fde x) hs) (sym one) r.own_among,
+        subst (λ (x : CieHead). IsAmong (cie x) hs) (sym two) r.named_among,
       );
       at = at;
-      begin = ap (λ (x : ℕ × ℕ × ℕ × Span). x.1) numbers;
-      range = ap (λ (x : ℕ × ℕ × ℕ × Span). x.2) numbers;
-      register_is = ap register_in two;
+      begin = ap (λ (x : FdeHead). x.begin) one ∙ ap (λ (x : Range). x.begin) r.covers;
+      range = ap (λ (x : FdeHead). x.range) one ∙ ap (λ (x : Range). x.range) r.covers;
+      register_is = ap (λ (x : CieHead). x.return_register) two ∙ sym r.is;
     }
-  where
-    register_in : Head → ℕ
-    register_in (cie at form code factor register program) = register
-    register_in (fde at form cie_at begin range program) = 0
 
 -- and one stands there
 pub stands_listed : (target : Target) (s : List ℕ) (hs : List Head) (a : Range) (register : ℕ) → Headers target s hs → Returns hs a register → StandsAt target s a.at
 stands_listed target s hs a register p r =
     let places = cie_places p.entries in
-    let h = fde a.at r.form r.cie_at a.begin a.range r.program in
-    let k = cie r.cie_at r.cie_form r.code_factor r.data_factor register r.cie_program in
-    let own = stands_of target s hs h p r.fde_among in
-    let named = stands_of target s hs k p r.cie_among in
-    let named-at = has_at target places named.0 k named.2 in
-    let is-cie = cie_kind target places named.0 r.cie_at r.cie_form r.code_factor r.data_factor register r.cie_program named.2 in
-    record {
-      own = own.0;
-      named = named.0;
-      head = h;
-      named_head = k;
-      own_stands = own.1;
-      named_stands = named.1;
-      at_is = has_at target places own.0 h own.2;
-      is_fde = fde_kind target places own.0 a.at r.form r.cie_at a.begin a.range r.program own.2;
-      is_cie = is-cie;
-      names = named-at;
-      own_is = fde_anywhere target places (named.0.at ∷ []) own.0 a.at r.form r.cie_at a.begin a.range r.program own.2 (subst (λ (n : ℕ). is_among r.cie_at (n ∷ []) ≡ true) named-at (among_first r.cie_at []));
-      named_is = cie_anywhere target places [] named.0 k is-cie named.2;
-    }
+    let own = stands_of target s hs (fde r.own) p r.own_among in
+    let named = stands_of target s hs (cie r.named) p r.named_among in (
+      r.own,
+      r.named,
+      record {
+        piece = own.0;
+        named_piece = named.0;
+        stands = own.1;
+        named_stands = named.1;
+        own_is = fde_anywhere target places (r.own.cie_at ∷ []) own.0 r.own own.2 (among_first r.own.cie_at []);
+        named_is = cie_anywhere target places [] named.0 r.named named.2;
+        names = r.names;
+      },
+      ap (λ (x : Range). x.at) r.covers,
+    )
 
 -- an entry of an index is listed
 pub entry_listed : (list : List Ranged) (e : Ranged) (i : ℕ) → i < length list → ((d : Ranged) → e ≡ get_or list i d) → IsListedFde (fde_in e) (map fde_in list)

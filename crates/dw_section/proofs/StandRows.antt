@@ -16,7 +16,7 @@ use Rattle.dw_cfa.specs.Rows.{Rules}
 use Rattle.dw_cfa.specs.Runs.{Outcome, finished, row_then}
 use Rattle.dw_cfa.specs.Inner.Runs.{Placed, fault_or, fde_rows, on_initial, placed, row_if, run_rows}
 use Rattle.dw_cfa.proofs.Lent.RowsAt.{forwards, none_at, stays}
-use Rattle.dw_section.specs.Standing.{RowsTo}
+use Rattle.dw_section.specs.Inner.Standing.{RowsTo}
 
 -- ---- rows start where a run begins, or behind it
 

@@ -18,3 +18,4 @@ pub mod Pieces
 pub mod Places
 pub mod Stage
 pub mod Table
+pub mod Standing

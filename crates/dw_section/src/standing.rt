@@ -3,13 +3,16 @@
 ghost use Rattle.std.specs.Prelude.{◌≡◌, ◌+◌, ◌<◌, ◌≤◌, ℕ, true, false, List, [], ◌∷◌, length, map, slice_index_or, Some, None, IfOk, IfErr, IfSome, IsSome, OnOk, MatchOption, MatchResult};
 ghost use Rattle.dw_cfa.specs.RuleAt.{last_at};
 ghost use Rattle.dw_cfa.specs.Runs.{finished};
+ghost use Rattle.dw_cfa.specs.Gives.{RunsTo};
 ghost use Rattle.dw_cfa.specs.declared.running.LocatedRow.{LocatedRow as TheRow};
 ghost use Rattle.dw_section.specs.Cut.{Piece};
 ghost use Rattle.dw_section.specs.declared.cutting.Kind.TheVariants as kind;
 ghost use Rattle.dw_section.specs.declared.fields.FdeFields.{FdeFields};
-ghost use Rattle.dw_num.specs.Span.{Span};
 ghost use Rattle.dw_num.specs.Refusals.{Refuses};
+ghost use Rattle.dw_num.specs.Span.{Span, span_of};
+ghost use Rattle.dw_num.specs.Target.{address_limit};
 ghost use Rattle.dw_section.specs.Headers.{Head, IsFde, head_in};
+ghost use Rattle.dw_section.specs.Programs.{input_of};
 ghost use Rattle.dw_section.specs.declared.indexing.Ranged.{Ranged as TheRanged};
 ghost use Rattle.dw_section.specs.Inner.Index.{range_in};
 ghost use Rattle.dw_section.specs.Inner.Lookup.{fde_in, fde_of, rows_of};
@@ -24,7 +27,8 @@ ghost use Rattle.dw_cfa.specs.Stepping.{stepping};
 ghost use Rattle.dw_section.specs.Overlap.{Ascends, AreApart, Range};
 ghost use Rattle.std.specs.Bool.{MatchBool};
 ghost use Rattle.dw_section.specs.Inner.Pieces.{piece_in};
-ghost use Rattle.dw_section.specs.Standing.{AreJoined, FdeStands, StandsAt, StandsIn, is_fde, of_steps, RowsTo, RulesOf};
+ghost use Rattle.dw_section.specs.Standing.{RulesOf, StandsIn};
+ghost use Rattle.dw_section.specs.Inner.Standing.{AreJoined, FoundStands, RowsTo, StandsAt, is_fde, of_steps};
 
 use crate::cutting::{Kind, MOST, Part, Placed, kind_in, next_part, width_of};
 use crate::heading::{Header, cie_header, fde_header};
@@ -136,7 +140,7 @@ fn fde_in<'a>(
     requires few { length bytes.now ≤ 2147483647 }
     requires kind { own.now.kind ≡ kind.Fde }
     requires stands { StandsIn target.order bytes.now (piece_in own.now) }
-    ensures found { IfOk result (λ o. IfSome o (λ e. (e.at ≡ own.now.at) × FdeStands target bytes.now e)) }
+    ensures found { IfOk result (λ o. IfSome o (λ e. (e.at ≡ own.now.at) × FoundStands target bytes.now e)) }
     ensures only { StandsAt target bytes.now own.now.at → MatchResult result IsSome (λ _. ⊥) }
 {
     let pointer = pointer_of(own, target)?;
@@ -155,7 +159,7 @@ fn fde_in<'a>(
 #[inline(always)]
 fn standing<'a>(bytes: &'a [u8], at: u64, target: Target) -> Result<Option<FoundFde<'a>>, Refusal>
     requires { length bytes.now ≤ 2147483647 }
-    ensures found { IfOk result (λ o. IfSome o (λ e. (e.at ≡ at) × FdeStands target bytes.now e)) }
+    ensures found { IfOk result (λ o. IfSome o (λ e. (e.at ≡ at) × FoundStands target bytes.now e)) }
     ensures only { StandsAt target bytes.now at → MatchResult result IsSome (λ _. ⊥) }
 {
     let Some(piece) = piece_at(bytes, at, target)? else {
@@ -313,10 +317,13 @@ fn reaches(fde: &FoundFde<'_>, address: u64) -> bool
 
 // The rows of an FDE that stands, whose programs are still to run.
 fn steps_of<'a>(alloc: Global, fde: &FoundFde<'a>, target: Target) -> RowSteps<'a>
-    requires { (s : List ℕ) × FdeStands target s fde.now }
-    ensures { result ≡ stepping blank (rows_of target fde.now) }
+    requires { fde.now.begin < address_limit target.size }
+    ensures steps { result ≡ stepping blank (rows_of target fde.now) }
+    ensures runs { RunsTo fde.now.factors (input_of target (span_of fde.now.cie_program)) (input_of target (span_of fde.now.program)) fde.now.begin result.outcome }
 {
     let (cie, program) = (fde.cie_program, fde.program);
+    are_bytes(cie.bytes);
+    are_bytes(program.bytes);
     RowSteps::new(alloc, cie, program, fde.begin, fde.factors, target)
 }
 

@@ -1,7 +1,7 @@
 use Rattle.std.proofs.Common.{◌≡◌, ◌≤◌, length, Some, None}
 use Rattle.dw_cfa.specs.RuleAt.{last_at}
 use Rattle.dw_cfa.specs.Rows.{Rules}
-use Rattle.dw_section.specs.Standing.{RowsTo}
+use Rattle.dw_section.specs.Inner.Standing.{RowsTo}
 use Rattle.dw_section.proofs.standing.go_to.Given as goal
 
 abbrev pub invariant-rows : goal.invariant-rows

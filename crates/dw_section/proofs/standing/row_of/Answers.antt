@@ -3,13 +3,14 @@ use Rattle.std.proofs.lemmas.Result.{err_from_is_err_and}
 use Rattle.dw_num.specs.Span.{span_of}
 use Rattle.dw_cfa.specs.RuleAt.{last_at}
 use Rattle.dw_cfa.specs.Stepping.{Stepping}
+use Rattle.dw_section.specs.Inner.Index.{found_cie, found_head}
 use Rattle.dw_section.specs.Inner.Lookup.{rows_of}
 use Rattle.dw_section.specs.Meaning.{RulesAt}
 use Rattle.dw_section.specs.Programs.{input_of}
-use Rattle.dw_section.specs.Standing.{RowsTo, StandsAt}
+use Rattle.dw_section.specs.Inner.Standing.{RowsTo, StandsAt}
 use Rattle.dw_section.proofs.Lent.FdeLookup.{same_fde}
 use Rattle.dw_section.proofs.RowLookup.{runs_so}
-use Rattle.dw_section.proofs.StandLaws.{listed_stands, stands_listed}
+use Rattle.dw_section.proofs.StandLaws.{listed_stands, stands_in_space, stands_listed}
 use Rattle.dw_section.proofs.StandRows.{no_refusal, one_row, run_to}
 use Rattle.dw_section.proofs.standing.row_of.Goals as goal
 
@@ -33,7 +34,7 @@ go_to-requires-clause-some c =
     let e = c.in-Some.fde in
     let target = c.args.target in
     let runs = run_to e.factors (input_of target (span_of e.cie_program)) (input_of target (span_of e.program)) e.begin c.args.address c.if-not-reaches.ensures.0 in
-    subst (λ (s : Stepping). RowsTo c.args.address s.outcome) (sym c.steps_of-steps.ensures) runs
+    subst (λ (s : Stepping). RowsTo c.args.address s.outcome) (sym c.steps_of-steps.ensures.steps) runs
 
 pub returns-in_err-go_to-clause-own : goal.returns-in_err-go_to-clause-own
 returns-in_err-go_to-clause-own c = λ hs a register hold returns at le lt.
@@ -41,19 +42,32 @@ returns-in_err-go_to-clause-own c = λ hs a register hold returns at le lt.
     let same = listed_stands c.args.target c.args.bytes.now hs a register c.in-Some.fde hold.0.0.0 returns found.1 (found.0 ∙ sym at) in
     let runs = runs_so c.args.target c.args.bytes.now c.are_bytes.ensures hs hold c.in-Some.fde same.found in
     let e = err_from_is_err_and c.from_residual-in_err-go_to.result c.from_residual-in_err-go_to.ensures.1 in
-    let none = no_refusal c.in_err-go_to.field-0.0 _ (rows_of c.args.target c.in-Some.fde) (ap (λ (s : Stepping). s.outcome) c.steps_of-steps.ensures) c.in_err-go_to.ensures.err runs.no_fault in
+    let none = no_refusal c.in_err-go_to.field-0.0 _ (rows_of c.args.target c.in-Some.fde) (ap (λ (s : Stepping). s.outcome) c.steps_of-steps.ensures.steps) c.in_err-go_to.ensures.err runs.no_fault in
     rw (e.1, e.2, none) refl
+
+pub steps_of-steps-requires : goal.steps_of-steps-requires
+steps_of-steps-requires c =
+    let found = rw c.in-Some.is at c.in_ok-fde.ensures.found in
+    let covers = c.if-not-reaches.ensures in
+    omega (arith, covers.0, covers.1, stands_in_space c.args.target c.args.bytes.now c.in-Some.fde found.1)
 
 pub returns-clause-found : goal.returns-clause-found
 returns-clause-found c =
     let found = rw c.in-Some.is at c.in_ok-fde.ensures.found in
+    let e = c.in-Some.fde in
+    let stands = found.1 in
     record {
-      it = c.in-Some.fde;
-      stands = found.1;
+      own = found_head stands.0 stands.2 e;
+      named = found_cie stands.1 stands.2 e.return_register e;
+      stands = stands.3;
       place = found.0;
-      fde_is = refl;
+      begin = refl;
+      end = refl;
+      return_register = refl;
       covers = c.if-not-reaches.ensures;
-      row = subst (λ (s : Stepping). last_at c.args.address s.outcome.rows ≡ Some c.go_to.new.steps.current) c.steps_of-steps.ensures c.in_ok-go_to.ensures.ok;
+      outcome = c.steps_of-steps.result.outcome;
+      runs = c.steps_of-steps.ensures.runs;
+      row = c.in_ok-go_to.ensures.ok;
     }
 
 pub returns-clause-own : goal.returns-clause-own
@@ -63,6 +77,6 @@ returns-clause-own c = λ hs a register hold returns at le lt.
     let same = listed_stands c.args.target c.args.bytes.now hs a register e hold.0.0.0 returns found.1 (found.0 ∙ sym at) in
     let runs = runs_so c.args.target c.args.bytes.now c.are_bytes.ensures hs hold e same.found in
     let row = runs.rules c.args.address c.if-not-reaches.ensures.0 c.if-not-reaches.ensures.1 in
-    let last = subst (λ (s : Stepping). last_at c.args.address s.outcome.rows ≡ Some c.go_to.new.steps.current) c.steps_of-steps.ensures c.in_ok-go_to.ensures.ok in
+    let last = subst (λ (s : Stepping). last_at c.args.address s.outcome.rows ≡ Some c.go_to.new.steps.current) c.steps_of-steps.ensures.steps c.in_ok-go_to.ensures.ok in
     let one = one_row (last_at c.args.address (rows_of c.args.target e).rows) row.0 c.go_to.new.steps.current row.1 last in
     (same_fde e.begin e.range e.return_register a.begin a.range register same.begin same.range same.register_is, subst (RulesAt c.args.target c.args.bytes.now c.args.address) one row.2)

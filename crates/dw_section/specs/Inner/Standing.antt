@@ -1,0 +1,43 @@
+-- How the code finds an FDE that stands in bytes.
+use Rattle.std.specs.Prelude.{◌≡◌, ℕ, ◌≤◌, List, [], ◌∷◌, Bool, true, false}
+use Rattle.dw_num.specs.declared.error.ReadError.{ReadError}
+use Rattle.dw_num.specs.declared.error.ReadError.TheVariants as read_error
+use Rattle.dw_num.specs.declared.target.Form.{Form}
+use Rattle.dw_num.specs.declared.target.Target.{Target}
+use Rattle.dw_cfa.specs.RuleAt.{NeverFalls}
+use Rattle.dw_cfa.specs.Runs.{Outcome, finished}
+use Rattle.dw_cfa.specs.declared.running.LocatedRow.{LocatedRow}
+use Rattle.dw_section.specs.declared.rereading.FoundFde.{FoundFde}
+use Rattle.dw_section.specs.declared.standing.LookUpError.{LookUpError}
+use Rattle.dw_section.specs.declared.standing.LookUpError.TheVariants.{Refused, OutOfMemory}
+use Rattle.dw_section.specs.Headers.{CieHead, FdeHead, Head, cie, fde}
+use Rattle.dw_section.specs.Inner.Index.{found_cie, found_head}
+use Rattle.dw_section.specs.Standing.{FdeStands}
+
+-- some FDE stands at a place
+abbrev pub StandsAt : Target → List ℕ → ℕ → Type 0
+StandsAt target s at = (own : FdeHead) × (named : CieHead) × FdeStands target s own named × (own.at ≡ at)
+
+-- this one does, with what its CIE says
+abbrev pub FoundStands : Target → List ℕ → FoundFde → Type 0
+FoundStands target s e = (form : Form) × (cie_form : Form) × (cie_at : ℕ) × FdeStands target s (found_head form cie_at e) (found_cie cie_form cie_at e.return_register e)
+
+abbrev pub is_fde : Head → Bool
+is_fde (cie c) = false
+is_fde (fde f) = true
+
+-- an FDE's header and a CIE's, together
+abbrev pub AreJoined : Head → Head → FoundFde → Type 0
+AreJoined own named e =
+    (form : Form) × (cie_form : Form) × (cie_at : ℕ) × (place : ℕ) × (own ≡ fde (found_head form cie_at e)) × (named ≡ cie (found_cie cie_form place e.return_register e))
+
+-- rows still to come of programs, of which the first starts at or below an address
+pub record RowsTo (a : ℕ) (o : Outcome) : Type 0 where
+  pub low : ℕ
+  pub falls : NeverFalls low o.rows
+  pub first : (row : LocatedRow) (rest : List LocatedRow) → o.rows ≡ row ∷ rest → row.location ≤ a
+  pub some : o ≡ finished → ⊥
+
+abbrev pub of_steps : ReadError → LookUpError
+of_steps (read_error.Refused r) = Refused r
+of_steps read_error.OutOfMemory = OutOfMemory
