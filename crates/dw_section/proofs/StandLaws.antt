@@ -9,7 +9,7 @@ use Rattle.dw_num.specs.declared.target.Order.{Order}
 use Rattle.dw_num.specs.declared.target.Target.{Target}
 use Rattle.dw_num.specs.declared.refusal.Refusal.{Refusal}
 use Rattle.dw_num.specs.Input.{Input, Takes}
-use Rattle.dw_num.specs.Span.{Span, span_of}
+use Rattle.dw_num.specs.Span.{Span}
 use Rattle.dw_num.specs.Fixed.{length_bytes}
 use Rattle.dw_section.specs.declared.cutting.Kind.{Kind}
 use Rattle.dw_section.specs.declared.cutting.Kind.TheVariants as kind

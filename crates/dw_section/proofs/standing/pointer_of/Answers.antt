@@ -1,4 +1,4 @@
-use Rattle.std.proofs.Common.{refl, sym, ◌++◌, append_assoc, ◌∙◌, ap, List, ℕ}
+use Rattle.std.proofs.Common.{sym, ◌++◌, append_assoc, ◌∙◌, ap, List, ℕ}
 use Rattle.dw_section.specs.declared.fields.FdeFields.{FdeFields}
 use Rattle.dw_section.proofs.standing.pointer_of.Goals as goal
 
