@@ -2,7 +2,6 @@
 use Rattle.std.specs.Prelude.{◌≡◌, ℕ, ◌≤◌, List, length, map}
 use Rattle.dw_num.specs.declared.target.Target.{Target}
 use Rattle.dw_section.specs.declared.cutting.Entry.{Entry}
-use Rattle.dw_section.specs.declared.cutting.Part.TheVariants as parts
 use Rattle.dw_section.specs.Cut.{Item, Piece, pieces, Cut}
 
 -- these are the pieces of the section

@@ -1,5 +1,5 @@
 -- What running programs tells of headers.
-use Rattle.std.proofs.Common.{◌≡◌, ℕ, zero, suc, ◌+◌, ◌<◌, ◌≤◌, Bool, true, false, List, [], ◌∷◌, ◌++◌, map, length, get_or, set, Option, Some, None, Result, Ok, refl, sym, ap, subst, ◌∙◌, append_assoc, arith, inl, inr}
+use Rattle.std.proofs.Common.{◌≡◌, ℕ, zero, suc, ◌+◌, ◌<◌, ◌≤◌, Bool, true, false, List, [], ◌∷◌, ◌++◌, map, length, get_or, set, Option, Some, None, refl, sym, ap, subst, ◌∙◌, append_assoc, arith, inl, inr}
 use Rattle.std.specs.Prelude.{nat_lt}
 use Rattle.std.specs.List.{AllByRecursion}
 use Rattle.std.specs.List.Sorted.{IsNonDecreasingBy}
@@ -10,7 +10,6 @@ use Rattle.std.proofs.lemmas.List.Elements.{filter_map-append}
 use Rattle.dw_num.specs.declared.refusal.Refusal.{Refusal}
 use Rattle.dw_num.specs.declared.target.Target.{Target}
 use Rattle.dw_num.specs.declared.refusal.Code.TheVariants.{NoCfaRule}
-use Rattle.dw_num.specs.Input.{Input}
 use Rattle.dw_num.specs.Target.{address_limit}
 use Rattle.dw_cfa.specs.declared.instr.Instr.{Instr}
 use Rattle.dw_cfa.specs.declared.rule.CfaRule.{CfaRule}
@@ -26,12 +25,8 @@ use Rattle.dw_cfa.specs.Location.{Counts}
 use Rattle.dw_cfa.specs.Lacking.{is_unset, lacks_from}
 use Rattle.dw_cfa.specs.declared.instr.Factors.{Factors}
 use Rattle.dw_cfa.specs.Rows.{Rules}
-use Rattle.dw_cfa.specs.Runs.{Outcome}
-use Rattle.dw_cfa.specs.Inner.Runs.{rows_behind}
-use Rattle.dw_cfa.specs.Stepping.{Stepping, stepping}
 use Rattle.dw_section.specs.declared.judging.Initial.{Initial}
 use Rattle.dw_section.specs.Fields.{is_among}
-use Rattle.dw_num.specs.Refusals.{Refuses}
 use Rattle.dw_section.specs.Headers.{Head, fde, FdeHead}
 use Rattle.dw_section.specs.Inner.Heads.{head_at, cie_at_of, cie_ats}
 use Rattle.dw_section.specs.Inner.Initials.{or_place, place_of, IsInitial, IsBehind, AreInitials, HasOrLacks, FirstLacking, initial_head}

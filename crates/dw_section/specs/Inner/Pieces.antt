@@ -3,7 +3,6 @@ use Rattle.std.specs.Prelude.{◌≡◌, ◌+◌, length}
 use Rattle.dw_num.specs.Fixed.{length_bytes}
 use Rattle.dw_num.specs.Input.{Input}
 use Rattle.dw_num.specs.Span.{span_of}
-use Rattle.dw_section.specs.declared.cutting.Entry.{Entry}
 use Rattle.dw_section.specs.declared.cutting.Placed.{Placed}
 use Rattle.dw_section.specs.declared.cutting.Part.{Part}
 use Rattle.dw_section.specs.declared.cutting.Part.TheVariants as parts
