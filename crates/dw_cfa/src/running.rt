@@ -79,6 +79,7 @@ pub(crate) fn next_row<'a>(
 
 /// Runs a program that is known to have no fault up to the end of the last row that starts at or below an address, which
 /// the machine has then. Answers whether the program goes on behind it.
+#[inline(always)]
 pub(crate) fn run_to<'a>(
     cursor: &mut Cursor<'a>,
     factors: Factors,

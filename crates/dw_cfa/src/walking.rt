@@ -118,6 +118,7 @@ fn first_row<'a>(
 }
 
 // Brings a CIE's row about, and runs an FDE's program up to the end of the last row that starts at or below an address.
+#[inline(always)]
 fn first_to<'a>(
     alloc: Global,
     leading: Leading<'a>,
@@ -145,6 +146,7 @@ fn first_to<'a>(
 }
 
 // The same from where a walk stands.
+#[inline(always)]
 fn walk_to<'a>(
     progress: Progress,
     alloc: Global,
