@@ -23,7 +23,7 @@ use Rattle.dw_cfa.specs.Inner.Differing.{SameUnset, start_behind}
 use Rattle.dw_cfa.proofs.Lent.RowLists.{Entry, lower, unlisted}
 use Rattle.dw_cfa.proofs.Slots.{no_slot, near_rule, far_rule, shifted, bit_inside}
 use Rattle.dw_cfa.proofs.WideRows.{less_at, equal_at, greater_at}
-use Rattle.dw_cfa.proofs.Narrowed.{filter_rule}
+use Rattle.dw_cfa.proofs.Lent.Narrowed.{filter_rule}
 
 -- ---- two lists, from both fronts
 

@@ -15,3 +15,4 @@ pub mod BehindLaws
 pub mod SameRows
 pub mod Skipped
 pub mod Counting
+pub mod Narrowed

@@ -17,7 +17,7 @@ use Rattle.dw_cfa.specs.Inner.Differing.{SameUnset}
 use Rattle.dw_cfa.specs.Inner.Marks.{CopiedUpTo, MarksMore, MarksSo, SameUnlisted, SameUnmarked, Unmarked, WatchedSo}
 use Rattle.dw_cfa.proofs.Lent.RowLists.{Entry, lower, put_keeps, put_rule, unlisted}
 use Rattle.dw_cfa.proofs.Differing.{FromOn}
-use Rattle.dw_cfa.proofs.Narrowed.{filter_keeps, filter_rule}
+use Rattle.dw_cfa.proofs.Lent.Narrowed.{filter_keeps, filter_rule}
 use Rattle.dw_cfa.proofs.Lent.Skipped.{same_exactly}
 
 -- ---- marks

@@ -34,7 +34,7 @@ use Rattle.dw_cfa.specs.Inner.Steps.{state_of}
 use Rattle.dw_cfa.specs.Walking.{AllKeep}
 use Rattle.dw_cfa.specs.Inner.Walking.{AllSpecify, Specifies, WalkKeeps, walk_of}
 use Rattle.dw_cfa.proofs.Lent.InstrLaws.{instr_found}
-use Rattle.dw_cfa.proofs.Narrowed.{left_too}
+use Rattle.dw_cfa.proofs.Lent.Narrowed.{left_too}
 use Rattle.dw_cfa.proofs.Placings.{after_item, placed_by, reads}
 use Rattle.dw_cfa.proofs.Lent.RowLists.{Entry}
 use Rattle.dw_cfa.proofs.Lent.Spellings.{RuleSpells, IsSpelled, by_table}

@@ -4,7 +4,7 @@ use Rattle.std.specs.Prelude.{nat_lt, cond, not, position}
 use Rattle.std.specs.List.{position_or_len}
 use Rattle.std.proofs.lemmas.Bool.{ltb-false}
 use Rattle.std.proofs.lemmas.List.Sums.{prefix_len-le-length}
-use Rattle.dw_command.specs.Terminal.{is_order, shown}
+use Rattle.dw_command.specs.Inner.Terminal.{is_order, shown}
 
 pub plain_shown : (xs : List ℕ) → shown (take (position_or_len is_order xs) xs) ≡ take (position_or_len is_order xs) xs
 plain_shown [] = refl

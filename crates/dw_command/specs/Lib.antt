@@ -1,4 +1,3 @@
 pub mod Answers
 pub mod Failing
 pub mod Inner
-pub mod Terminal

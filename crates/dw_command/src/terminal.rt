@@ -4,7 +4,7 @@ ghost use Rattle.std.specs.Prelude.{◌≡◌, ◌<◌, IfOk, IsOk, length, posi
 ghost use Rattle.std.specs.List.{position_or_len};
 ghost use Rattle.std.specs.Io.{WritesAtMost};
 ghost use Rattle.std.specs.Io.KnownBytes.{Appends, Keeps};
-ghost use Rattle.dw_command.specs.Terminal.{is_order, shown};
+ghost use Rattle.dw_command.specs.Inner.Terminal.{is_order, shown};
 
 use std::io::{self, Write};
 

@@ -1,5 +1,5 @@
 -- A turn by an operation's role is the turn by its effect.
-use Rattle.std.proofs.Common.{◌≡◌, ℕ, ◌+◌, Bool, true, false, List, [], ◌∷◌, length, Option, Some, None, Result, Ok, Err, refl, sym, ap, subst, ◌∙◌, arith, inl, inr}
+use Rattle.std.proofs.Common.{◌≡◌, ℕ, ◌+◌, Bool, true, false, List, [], ◌∷◌, length, Option, Some, None, Result, Ok, Err, refl, sym, subst, arith, inl, inr}
 use Rattle.std.specs.Prelude.{nat_eq, slice_get, if◌then◌else◌, ◌%◌}
 use Rattle.std.proofs.lemmas.Bool.{cases_lt, lt-ltb, le-ltb}
 use Rattle.std.proofs.lemmas.Option.{slice_get-get_or, slice_get_past}
@@ -11,7 +11,7 @@ use Rattle.dw_eval.specs.declared.error.Kind.{Kind}
 use Rattle.dw_eval.specs.declared.error.Kind.TheVariants.{StackUnderflow, MissingPiece, DivideByZero, NoRegister, Unreadable, NoFrameBase, NoCfa, NoObject}
 use Rattle.dw_eval.specs.declared.place.Place.{Place}
 use Rattle.dw_eval.specs.Context.{Context, read_at}
-use Rattle.dw_eval.specs.Effect.{Outcome, Next, Jump, Faults, on_top, on_two, on_three, known, push, tell, effect}
+use Rattle.dw_eval.specs.Effect.{Outcome, Next, Jump, Faults, on_top, on_two, on_three, known, tell, effect}
 use Rattle.dw_eval.specs.Location.{PlaceState, refused, free_turn, held_turn, turn_by, place_turn}
 use Rattle.dw_eval.specs.Inner.Roles.{role, free_by, refused_by, held_by, turn_of}
 use Rattle.dw_eval.specs.Inner.Stepping.{StepsTo}

@@ -6,7 +6,7 @@ use Rattle.dw_cfa.specs.declared.rule.RegRule.{RegRule}
 use Rattle.dw_cfa.specs.Differing.{DiffersFirst}
 use Rattle.dw_cfa.specs.Narrowing.{is_kept, kept}
 use Rattle.dw_cfa.specs.Rows.{Rules, rule, is_specified}
-use Rattle.dw_cfa.proofs.Narrowed.{left_too}
+use Rattle.dw_cfa.proofs.Lent.Narrowed.{left_too}
 use Rattle.dw_cfa.proofs.Lent.RowLists.{Entry}
 use Rattle.dw_section.specs.Changes.{before_then}
 use Rattle.dw_normal.specs.Inner.Grouping.{SpecifiesAll}

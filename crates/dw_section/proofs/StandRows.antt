@@ -90,14 +90,6 @@ last_is a old next cur w e above =
     none_left [] h up = refl
     none_left (row ∷ rest) h up = none_at a row.location (row ∷ rest) (up row rest refl) (omega arith, h.1)
 
-pub last_later : (a : ℕ) (old next : Outcome) (cur : LocatedRow) (row : Rules) → old ≡ row_then cur next → last_at a next.rows ≡ Some row → last_at a old.rows ≡ Some row
-last_later a old next cur row e last = rw (e, last) refl
-
-pub rows_next : (a : ℕ) (old next : Outcome) (cur : LocatedRow) → RowsTo a old → old ≡ row_then cur next → ((row : LocatedRow) (rest : List LocatedRow) → next.rows ≡ row ∷ rest → row.location ≤ a) → (next ≡ finished → ⊥) → RowsTo a next
-rows_next a old next cur w e below some =
-    let rows : old.rows ≡ cur ∷ next.rows = ap (λ (o : Outcome). o.rows) e in
-    record { low = cur.location; falls = (subst (NeverFalls w.low) rows w.falls).1; first = below; some = some }
-
 -- a run without a refusal fails for want of memory alone
 pub no_refusal : (e : ReadError) (old o : Outcome) → old ≡ o → Refuses (λ r. old.fault ≡ Some r) e → o.fault ≡ None → e ≡ OutOfMemory
 no_refusal OutOfMemory old o is h none = refl

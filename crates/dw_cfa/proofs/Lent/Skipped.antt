@@ -19,7 +19,7 @@ use Rattle.dw_cfa.specs.Differing.{FirstDifference}
 use Rattle.dw_cfa.proofs.Lent.RowLists.{Entry}
 use Rattle.dw_cfa.proofs.Lent.SameRows.{same_entries}
 use Rattle.dw_cfa.proofs.Slots.{no_slot, near_rule, shifted, bit_inside}
-use Rattle.dw_cfa.proofs.Narrowed.{none_left}
+use Rattle.dw_cfa.proofs.Lent.Narrowed.{none_left}
 use Rattle.dw_cfa.proofs.Differing.{not_used}
 
 -- registers that have no rule are left as they are

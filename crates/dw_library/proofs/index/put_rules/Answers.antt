@@ -1,8 +1,7 @@
-use Rattle.std.proofs.Common.{◌≡◌, ◌+◌, ◌≤◌, ℕ, suc, List, ◌∷◌, length, map, sym, ap, subst, ◌∙◌, arith}
+use Rattle.std.proofs.Common.{◌≡◌, ◌+◌, ℕ, suc, List, ◌∷◌, length, map, sym, ap, subst, ◌∙◌, arith}
 use Rattle.dw_cfa.specs.Rows.{AreSpecified}
 use Rattle.dw_cfa.specs.declared.rule.RegRule.{RegRule}
-use Rattle.dw_library.specs.declared.index.Rule.{Rule}
-use Rattle.dw_library.specs.Index.{over, rule_of}
+use Rattle.dw_library.specs.Index.{rule_of}
 use Rattle.dw_library.proofs.Overlays.{over_at, over_end, put_more}
 use Rattle.dw_library.proofs.index.put_rules.Goals as goal
 

@@ -2,7 +2,7 @@ use Rattle.std.proofs.Common.{sym, ap, ◌∙◌}
 use Rattle.dw_cfa.specs.Inner.Entries.{entries_of}
 use Rattle.dw_cfa.specs.Narrowing.{same_rule, is_agreed}
 use Rattle.dw_cfa.proofs.Slots.{slots_ascend}
-use Rattle.dw_cfa.proofs.Narrowed.{leaves_none}
+use Rattle.dw_cfa.proofs.Lent.Narrowed.{leaves_none}
 use Rattle.dw_cfa.proofs.row.Entries.agree_at.Goals as goal
 
 pub returns-then-not-is_same-clause-rules : goal.returns-then-not-is_same-clause-rules

@@ -3,7 +3,7 @@ use Rattle.std.specs.List.{filter}
 use Rattle.dw_cfa.specs.Inner.Entries.{entries_of}
 use Rattle.dw_cfa.specs.Narrowing.{is_kept}
 use Rattle.dw_cfa.specs.Rows.{is_specified}
-use Rattle.dw_cfa.proofs.Narrowed.{first_dropped}
+use Rattle.dw_cfa.proofs.Lent.Narrowed.{first_dropped}
 use Rattle.dw_cfa.proofs.Lent.RowLists.{Entry}
 use Rattle.dw_cfa.proofs.row.Entries.have_all.Goals as goal
 

@@ -3,7 +3,7 @@ use Rattle.dw_cfa.specs.Rows.{is_specified, rule_in}
 use Rattle.dw_cfa.specs.Inner.Entries.{entries_of}
 use Rattle.dw_cfa.specs.Narrowing.{is_kept}
 use Rattle.dw_cfa.proofs.Slots.{slots_ascend}
-use Rattle.dw_cfa.proofs.Narrowed.{leaves_none}
+use Rattle.dw_cfa.proofs.Lent.Narrowed.{leaves_none}
 use Rattle.dw_cfa.proofs.row.Entries.keep_at.Goals as goal
 
 pub returns-then-not-is_specified-clause-rules : goal.returns-then-not-is_specified-clause-rules

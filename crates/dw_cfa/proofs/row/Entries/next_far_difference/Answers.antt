@@ -6,7 +6,7 @@ use Rattle.std.specs.declared.ops.Bound.TheVariants.{Unbounded}
 use Rattle.dw_cfa.specs.Rows.{AreSpecified}
 use Rattle.dw_cfa.specs.Differing.{place_behind}
 use Rattle.dw_cfa.proofs.Lent.RowLists.{Entry, lower}
-use Rattle.dw_cfa.proofs.Narrowed.{filter_keeps}
+use Rattle.dw_cfa.proofs.Lent.Narrowed.{filter_keeps}
 use Rattle.dw_cfa.proofs.Differing.{FromOn, range_on, first_from}
 use Rattle.dw_cfa.proofs.row.Entries.next_far_difference.Goals as goal
 
