@@ -71,4 +71,3 @@ BlockFault profile t bytes r = ReadingFault profile t bytes r ⊎ BranchFault pr
 -- a place in a block or at its end
 abbrev pub IsWithin : List ℕ → Refusal → Type 0
 IsWithin bytes r = r.at ≤ length bytes
-

@@ -1,6 +1,8 @@
 //! The plain section's normal form, by each call and into sinks that fail.
 
-use dw_normal::{SameError, Sink, Tape, Through, Which, WriteError, normal_length, normalise, normalise_to, same};
+use dw_normal::{
+    SameError, Sink, Tape, Through, Which, WriteError, normal_length, normalise, normalise_to, same,
+};
 use dw_num::{Order, ReadError, Size, Target};
 use std::alloc::{AllocError, Global};
 use std::io::{self, ErrorKind, Write};
