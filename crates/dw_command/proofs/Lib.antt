@@ -1,2 +1,3 @@
 pub mod Blocks
 pub mod Endings
+pub mod Shows

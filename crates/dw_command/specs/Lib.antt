@@ -1,2 +1,4 @@
 pub mod Answers
 pub mod Failing
+pub mod Output
+pub mod Terminal

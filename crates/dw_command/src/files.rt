@@ -1,6 +1,7 @@
 //! Where the bytes of a file come from.
 
-ghost use Rattle.std.specs.Prelude.{◌≡◌, ⊤, ℕ, ◌≤◌, List, length, take, Result, Ok, Err, IfOk, IfSome, MatchResult};
+ghost use Rattle.std.specs.Prelude.{◌≡◌, ◌≢◌, ⊤, ℕ, ◌≤◌, List, length, take, Result, Ok, Err, IfOk, IfErr, IfSome, IsOk, MatchResult};
+ghost use Rattle.std.specs.IoError.{error_kind};
 ghost use Rattle.dw_command.specs.declared.files.LoadError.{LoadError as TheLoadError};
 
 use std::alloc::Global;
@@ -47,6 +48,40 @@ fn first_bytes<R: Read + Drop>(alloc: Global, reader: R, most: u64) -> io::Resul
     Ok(bytes)
 }
 
+// What an error of the system is to a reader of files.
+fn kind_of(error: &io::Error) -> LoadError
+    ensures memory { error_kind error.now ≡ ErrorKind.OutOfMemory → result ≡ LoadError.OutOfMemory }
+    ensures other { error_kind error.now ≢ ErrorKind.OutOfMemory → result ≡ LoadError.CannotRead }
+{
+    if error.kind() == ErrorKind::OutOfMemory {
+        LoadError::OutOfMemory
+    } else {
+        LoadError::CannotRead
+    }
+}
+
+// The bytes of what was opened, or why there are none.
+fn bytes_of<R: Read + Drop>(alloc: Global, opened: io::Result<R>) -> Result<Vec<u8>, LoadError>
+    ensures bound { IfOk result (λ bytes. length bytes.items ≤ 2_147_483_648) }
+    // What is not opened has no bytes, for the reason that is given.
+    ensures opened { IsOk result → IsOk opened }
+    ensures memory { IfErr opened (λ e. error_kind e ≡ ErrorKind.OutOfMemory → result ≡ Err LoadError.OutOfMemory) }
+    ensures other { IfErr opened (λ e. error_kind e ≢ ErrorKind.OutOfMemory → result ≡ Err LoadError.CannotRead) }
+{
+    let reader = match opened {
+        Ok(reader) => reader,
+        Err(error) => return Err(kind_of(&error)),
+    };
+    match first_bytes(alloc, reader, LIMIT + 1) {
+        Ok(mut bytes) => {
+            // They are no more, but no clause knows what bytes a file has.
+            bytes.truncate(2_147_483_648);
+            Ok(bytes)
+        }
+        Err(error) => Err(kind_of(&error)),
+    }
+}
+
 /// The files of the system.
 #[derive(Drop)]
 pub struct Disk<'a, R: Files + AllocGlobal> {
@@ -57,30 +92,15 @@ impl<'a, R: Files + AllocGlobal> Disk<'a, R> {
     pub fn new(rt: &'a R) -> Disk<'a, R> {
         Disk { rt }
     }
-
-    fn read(&self, path: &str) -> io::Result<Vec<u8>>
-        ensures bound { IfOk result (λ bytes. length bytes.items ≤ 2_147_483_648) }
-    {
-        let file = File::open(self.rt, path)?;
-        let mut bytes = first_bytes(self.rt.alloc(), file, LIMIT + 1)?;
-        // They are no more, but no clause knows what bytes a file has.
-        bytes.truncate(2_147_483_648);
-        Ok(bytes)
-    }
 }
 
+// No clause of the system's files says what a path gives, so none can say that this is what it gives.
 impl<R: Files + AllocGlobal> Load for Disk<'_, R> {
     fn load(&mut self, path: &str) -> Result<Vec<u8>, LoadError>
         ensures bound { IfOk result (λ bytes. length bytes.items ≤ 2_147_483_648) }
         ensures gives { MatchResult result (λ _. ⊤) (λ _. ⊤) }
         ensures same { (p : List ℕ) (r : Result (List ℕ) TheLoadError) → ⊤ → ⊤ }
     {
-        self.read(path).map_err(|error| {
-            if error.kind() == ErrorKind::OutOfMemory {
-                LoadError::OutOfMemory
-            } else {
-                LoadError::CannotRead
-            }
-        })
+        bytes_of(self.rt.alloc(), File::open(self.rt, path))
     }
 }

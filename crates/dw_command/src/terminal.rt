@@ -1,17 +1,34 @@
 //! Outputs that are terminals.
 
-ghost use Rattle.std.specs.Prelude.{◌≤◌, length};
+ghost use Rattle.std.specs.Prelude.{◌≡◌, ◌<◌, IfOk, IsOk, length, position, take};
+ghost use Rattle.std.specs.List.{position_or_len};
+ghost use Rattle.std.specs.Io.{WritesAtMost};
+ghost use Rattle.std.specs.Io.KnownBytes.{Appends, Keeps};
+ghost use Rattle.dw_command.specs.Terminal.{is_order, shown};
 
 use std::io::{self, Write};
 
-// How many bytes come before the first control character, of which a line feed is none here.
-fn plain_len(bytes: &[u8]) -> usize
-    ensures { result ≤ length bytes.now }
+fn is_order(byte: u8) -> bool
+    ensures { result ≡ is_order byte }
 {
-    bytes
-        .iter()
-        .take_while(|byte| !byte.is_ascii_control() || **byte == b'\n')
-        .count()
+    byte.is_ascii_control() && byte != b'\n'
+}
+
+// The first byte that a terminal takes for an order.
+fn first_order(bytes: &[u8]) -> Option<usize>
+    ensures { result ≡ position is_order bytes.now }
+{
+    bytes.iter().position(|byte| is_order(*byte))
+}
+
+// How many bytes come before it.
+fn plain_len(bytes: &[u8]) -> usize
+    ensures { result ≡ position_or_len is_order bytes.now }
+{
+    match first_order(bytes) {
+        Some(len) => len,
+        None => bytes.len(),
+    }
 }
 
 /// An output to a terminal. A control character, which the terminal would take for an order, is shown as `?`; a line feed
@@ -23,24 +40,36 @@ pub struct Shown<W: Write> {
 
 impl<W: Write> Shown<W> {
     /// What is written goes to `out`.
-    pub fn new(out: W) -> Shown<W> {
+    pub fn new(out: W) -> Shown<W>
+        ensures { result.out ≡ out }
+    {
         Shown { out }
     }
 }
 
 impl<W: Write> Write for Shown<W> {
-    fn write(&mut self, bytes: &[u8]) -> io::Result<usize> {
+    fn write(&mut self, bytes: &[u8]) -> io::Result<usize>
+        ensures bound { WritesAtMost result bytes.now }
+        // The output gets what is shown of the bytes that are taken, of which there is one at least, where there are any.
+        ensures shown { IfOk result (λ n. Appends (W.contents self.old.out) (W.contents self.new.out) (shown (take n bytes.now))) }
+        ensures some { IfOk result (λ n. 0 < length bytes.now → 0 < n) }
+        ensures none { length bytes.now ≡ 0 → IsOk result }
+    {
         let plain = plain_len(bytes);
         if plain > 0 {
-            return self.out.write(&bytes[..plain]);
+            self.out.write_all(&bytes[..plain])?;
+            return Ok(plain);
         }
         if bytes.is_empty() {
             return Ok(0);
         }
-        self.out.write(b"?")
+        self.out.write_all(b"?")?;
+        Ok(1)
     }
 
-    fn flush(&mut self) -> io::Result<()> {
+    fn flush(&mut self) -> io::Result<()>
+        ensures kept { Keeps (W.contents self.old.out) (W.contents self.new.out) }
+    {
         self.out.flush()
     }
 }
