@@ -61,9 +61,9 @@ unwritten target cap s (write_error.Refused r) failed failed' old new h = inr (f
 unwritten target cap s (write_error.Write written) failed failed' old new h = inl (tt, (h.1.normal, h.1.is, h.1.within), h.0)
 unwritten target cap s (write_error.Memory written) failed failed' old new h = inr (failures.OutOfMemory, (read_error.OutOfMemory, tt, refl), refl)
 
--- printed where no failure was counted before
-pub prints_on : {A : Type 0} (old mid new : ℕ) (a : A) (r : Result A Failure) → mid ≡ old → Prints mid new a r → Prints old new a r
-prints_on {A} old mid new a r is h = subst (λ (n : ℕ). Prints {A = A} n new a r) is h
+-- printed is what equals it
+pub prints_same : {A : Type 0} (old new : ℕ) (a b : A) (r : Result A Failure) → a ≡ b → Prints old new a r → Prints old new b r
+prints_same {A} old new a b r is h = subst (λ (x : A). Prints {A = A} old new x r) is h
 
 -- status 0 where there is an answer
 pub done : (Ends : Result (Unit {0}) Failure → Type 0) (answer : Result (Unit {0}) Failure) (r : Result ℕ Failure)
