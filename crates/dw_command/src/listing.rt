@@ -115,6 +115,7 @@ impl<W: Write> Listing<W> {
     pub fn finish(&mut self) -> Result<(), OutputFault>
         requires room { self.old.failures < 2 ^ 64 - 1 }
         ensures told { Told self.old.failures self.new.failures result }
+        ensures empty { OnOk result (self.new.len ≡ 0) }
     {
         self.write_out()?;
         if self.out.flush().is_err() {
@@ -128,6 +129,7 @@ impl<W: Write> Listing<W> {
     pub fn long_text(&mut self, text: &[u8]) -> Result<(), OutputFault>
         requires room { self.old.failures < 2 ^ 64 - 1 }
         ensures told { Told self.old.failures self.new.failures result }
+        ensures empty { OnOk result (self.new.len ≡ 0) }
     {
         self.write_out()?;
         if self.out.write_all(text).is_err() {
