@@ -14,7 +14,7 @@ use Rattle.dw_section.specs.Headers as head
 use Rattle.dw_section.specs.Overlap.{Range, AreApart}
 use Rattle.dw_section.specs.declared.lookup.Fde.{Fde}
 use Rattle.dw_section.specs.Programs.{HasCfa}
-use Rattle.dw_canon.specs.Written.{factors, Written, filled, fields_of, program_of, nops_of, entry_bytes, section_bytes}
+use Rattle.dw_canon.specs.Written.{factors, Written, cie, fde, filled, fields_of, program_of, nops_of, entry_bytes, section_bytes}
 
 -- the program as it stands in an entry at a place
 abbrev pub span_of : Target → ℕ → Written → Span
