@@ -24,7 +24,7 @@ fn run(rt: &HostRuntime) -> io::Result<u8> {
     Ok(engine(alloc, words.as_slice(), &mut files, &mut out, &mut err))
 }
 
-// Without words or an output there is no run: memory ran out, or a word is not text.
+// Without words there is no run: memory ran out, or a word is not text.
 fn status_without_run(rt: &HostRuntime, error: &io::Error) -> u8 {
     let mut err = rt.stderr();
     if error.kind() == ErrorKind::OutOfMemory {
