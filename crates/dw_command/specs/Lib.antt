@@ -1,3 +1,5 @@
 pub mod Answers
 pub mod Failing
 pub mod Inner
+pub mod Output
+pub mod Terminal

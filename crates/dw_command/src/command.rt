@@ -1,9 +1,9 @@
 //! The whole command, over the words, files and outputs that it is given.
 
-ghost use Rattle.std.specs.Prelude.{◌≡◌, ℕ, ◌≤◌, Result, Ok, IfOk, map, string_bytes};
+ghost use Rattle.std.specs.Prelude.{◌≡◌, ℕ, ◌<◌, ◌≤◌, ◌-◌, ◌^◌, Result, Ok, IfOk, map, string_bytes};
 ghost use Rattle.std.specs.Result.{result_map_both};
 ghost use Rattle.dw_words.specs.Plan.{task_held};
-ghost use Rattle.dw_command.specs.Answers.{Ends, TaskEnds, exit_of};
+ghost use Rattle.dw_command.specs.Answers.{Ends, Prints, TaskEnds, exit_of};
 ghost use Rattle.dw_command.specs.declared.failure.Failure.{Failure as TheFailure};
 
 use crate::check::run_check;
@@ -13,13 +13,14 @@ use crate::eval::run_eval;
 use crate::expr::run_expr;
 use crate::failure::Failure;
 use crate::files::Load;
+use crate::listing::Listing;
 use crate::normal::run_normal;
 use crate::rows::run_rows;
 use crate::sameness::run_same;
 use crate::unwind::run_unwind;
 use dw_words::{Job, Request, Task, plan};
 use std::alloc::Global;
-use std::io::{self, Write};
+use std::io::Write;
 
 // Status 0, where there is an answer.
 fn done<'a>(answer: Result<(), Failure<'a>>) -> Result<u8, Failure<'a>>
@@ -35,9 +36,10 @@ fn run_job<'a, L: Load, W: Write>(
     alloc: Global,
     job: Job<'a>,
     files: &mut L,
-    out: &mut W,
+    out: &mut Listing<W>,
 ) -> Result<u8, Failure<'a>>
-    ensures ends { TaskEnds (L.gives files.old) job.entry.target (task_held job.entry.task) result }
+    requires room { out.old.failures < 2 ^ 64 - 1 }
+    ensures ends { TaskEnds (L.gives files.old) out.old.failures out.new.failures job.entry.target (task_held job.entry.task) result }
     ensures most { IfOk result (λ status. status ≤ 1) }
 {
     let Job { target, task } = job;
@@ -55,28 +57,33 @@ fn run_job<'a, L: Load, W: Write>(
 }
 
 // Prints a text that is asked for, of help or of the version.
-fn print_help<W: Write>(text: &clap::Error, out: &mut W) -> io::Result<()> {
-    write!(out, "{text}")?;
-    out.flush()
+fn put_help<W: Write>(
+    alloc: Global,
+    text: clap::Error,
+    out: &mut Listing<W>,
+) -> Result<u8, Failure<'static>>
+    requires room { out.old.failures < 2 ^ 64 - 1 }
+    ensures { Prints out.old.failures out.new.failures 0 result }
+{
+    let text = format!(in alloc; "{text}")?;
+    out.long_text(text.as_bytes())?;
+    out.finish()?;
+    Ok(0)
 }
 
 fn run<'a, L: Load, W: Write>(
     alloc: Global,
     words: &'a [String],
     files: &mut L,
-    out: &mut W,
+    out: &mut Listing<W>,
 ) -> Result<u8, Failure<'a>>
-    ensures ends { Ends (L.gives files.old) (map string_bytes words.entry.now) result }
+    requires room { out.old.failures < 2 ^ 64 - 1 }
+    ensures ends { Ends (L.gives files.old) out.old.failures out.new.failures (map string_bytes words.entry.now) result }
     ensures most { IfOk result (λ status. status ≤ 1) }
 {
     match plan(alloc, words)? {
         Request::Run(job) => run_job(alloc, job, files, out),
-        Request::Help(text) => {
-            if print_help(&text, out).is_err() {
-                return Err(Failure::CannotWrite);
-            }
-            Ok(0)
-        }
+        Request::Help(text) => put_help(alloc, text, out),
     }
 }
 
@@ -95,11 +102,12 @@ pub fn engine<L: Load, W: Write, E: Write>(
     alloc: Global,
     words: &[String],
     files: &mut L,
-    out: &mut W,
+    out: &mut Listing<W>,
     err: &mut E,
 ) -> u8
-    // It is the status of an answer to these words, over these files.
-    ensures ends { (answer : Result ℕ TheFailure) × Ends (L.gives files.old) (map string_bytes words.now) answer × (result ≡ exit_of answer) }
+    requires room { out.old.failures < 2 ^ 64 - 1 }
+    // It is the status of an answer to these words, over these files. The output failed where it says so, and not where there is an answer.
+    ensures ends { (answer : Result ℕ TheFailure) × Ends (L.gives files.old) out.old.failures out.new.failures (map string_bytes words.now) answer × (result ≡ exit_of answer) }
     ensures most { result ≤ 5 }
 {
     match run(alloc, words, files, out) {

@@ -1,10 +1,12 @@
 //! `dwframe cost`: what a section costs beside its normal form.
 
-ghost use Rattle.dw_command.specs.Answers.{CostEnds};
+ghost use Rattle.std.specs.Prelude.{◌<◌, ◌≤◌, ◌-◌, ◌^◌, length};
+ghost use Rattle.dw_command.specs.Answers.{CostEnds, Prints};
+ghost use Rattle.dw_command.specs.Output.{Told};
 
 use crate::failure::Failure;
 use crate::files::Load;
-use crate::line::Line;
+use crate::listing::{Listing, OutputFault};
 use dw_normal::normal_length;
 use dw_num::Target;
 use dw_section::{Changes, FdeRef, Table, check};
@@ -34,12 +36,39 @@ fn count_all(table: &Table<'_>) -> Result<u64, AllocError> {
     Ok(count)
 }
 
-fn put_pair(line: &mut Line, name: &[u8], source: u64, normal: u64) -> Result<(), AllocError> {
-    line.text(name)?;
-    line.decimal(source)?;
-    line.text(b" ")?;
-    line.decimal(normal)?;
-    line.text(b"\n")
+fn put_pair<W: Write>(
+    out: &mut Listing<W>,
+    name: &[u8],
+    source: u64,
+    normal: u64,
+) -> Result<(), OutputFault>
+    requires room { out.old.failures < 2 ^ 64 - 1 }
+    requires short { length name.now ≤ 16 }
+    ensures told { Told out.old.failures out.new.failures result }
+{
+    out.make_room()?;
+    out.text(name);
+    out.decimal(source);
+    out.text(b" ");
+    out.decimal(normal);
+    out.text(b"\n");
+    Ok(())
+}
+
+// The lines on a table of so many bytes, whose normal form has `len` bytes.
+fn put_costs<W: Write>(
+    out: &mut Listing<W>,
+    table: &Table<'_>,
+    bytes: usize,
+    len: u64,
+) -> Result<(), Failure<'static>>
+    requires room { out.old.failures < 2 ^ 64 - 1 }
+    ensures { Prints out.old.failures out.new.failures tt result }
+{
+    let changes = count_all(table)?;
+    put_pair(out, b"bytes ", bytes as u64, len)?;
+    put_pair(out, b"rowstarts ", table.row_starts(), changes)?;
+    Ok(out.finish()?)
 }
 
 /// Prints how many bytes the section in a file and its normal form have, and how many rows their programs start.
@@ -48,25 +77,15 @@ pub fn run_cost<'a, L: Load, W: Write>(
     target: Target,
     path: &'a str,
     files: &mut L,
-    out: &mut W,
+    out: &mut Listing<W>,
 ) -> Result<(), Failure<'a>>
-    ensures { CostEnds (L.gives files.old) target path.now result }
+    requires room { out.old.failures < 2 ^ 64 - 1 }
+    ensures { CostEnds (L.gives files.old) out.old.failures out.new.failures target path.now result }
 {
     let bytes = files
         .load(path)
         .map_err(|error| Failure::from_load(path, error))?;
     let len = normal_length(alloc, &bytes, target, CAP)?;
     let table = check(alloc, &bytes, target)?;
-    let mut line = Line::new(alloc);
-    put_pair(&mut line, b"bytes ", bytes.len() as u64, len)?;
-    put_pair(
-        &mut line,
-        b"rowstarts ",
-        table.row_starts(),
-        count_all(&table)?,
-    )?;
-    if line.print(out).is_err() || out.flush().is_err() {
-        return Err(Failure::CannotWrite);
-    }
-    Ok(())
+    put_costs(out, &table, bytes.len(), len)
 }

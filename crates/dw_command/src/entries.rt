@@ -1,6 +1,8 @@
 //! `dwframe entries`: a line for each entry of a section.
 
-ghost use Rattle.dw_command.specs.Answers.{EntriesEnds};
+ghost use Rattle.std.specs.Prelude.{◌<◌, ◌-◌, ◌^◌};
+ghost use Rattle.dw_command.specs.Answers.{EntriesEnds, Prints};
+ghost use Rattle.dw_command.specs.Output.{Told};
 
 use crate::failure::Failure;
 use crate::files::Load;
@@ -10,29 +12,34 @@ use dw_section::{Entry, Kind, entries};
 use std::alloc::Global;
 use std::io::Write;
 
-fn put_entry<W: Write>(listing: &mut Listing<W>, entry: &Entry) -> Result<(), OutputFault> {
-    listing.make_room()?;
-    listing.text(b"0x");
-    listing.hex(entry.at);
-    listing.text(match entry.kind {
+fn put_entry<W: Write>(out: &mut Listing<W>, entry: &Entry) -> Result<(), OutputFault>
+    requires room { out.old.failures < 2 ^ 64 - 1 }
+    ensures told { Told out.old.failures out.new.failures result }
+{
+    out.make_room()?;
+    out.text(b"0x");
+    out.hex(entry.at);
+    out.text(match entry.kind {
         Kind::Cie => b" cie ",
         Kind::Fde => b" fde ",
     });
-    listing.text(match entry.form {
+    out.text(match entry.form {
         Form::Dwarf32 => b"32 ",
         Form::Dwarf64 => b"64 ",
     });
-    listing.decimal(entry.length);
-    listing.text(b"\n");
+    out.decimal(entry.length);
+    out.text(b"\n");
     Ok(())
 }
 
-fn print_entries<W: Write>(out: &mut W, list: &[Entry]) -> Result<(), OutputFault> {
-    let mut listing = Listing::new(out);
+fn put_entries<W: Write>(out: &mut Listing<W>, list: &[Entry]) -> Result<(), Failure<'static>>
+    requires room { out.old.failures < 2 ^ 64 - 1 }
+    ensures { Prints out.old.failures out.new.failures tt result }
+{
     for entry in list {
-        put_entry(&mut listing, entry)?;
+        put_entry(out, entry)?;
     }
-    listing.finish()
+    Ok(out.finish()?)
 }
 
 /// Prints the entries of the section in a file. Nothing is printed where the section is refused.
@@ -41,16 +48,14 @@ pub fn run_entries<'a, L: Load, W: Write>(
     target: Target,
     path: &'a str,
     files: &mut L,
-    out: &mut W,
+    out: &mut Listing<W>,
 ) -> Result<(), Failure<'a>>
-    ensures { EntriesEnds (L.gives files.old) target path.now result }
+    requires room { out.old.failures < 2 ^ 64 - 1 }
+    ensures { EntriesEnds (L.gives files.old) out.old.failures out.new.failures target path.now result }
 {
     let bytes = files
         .load(path)
         .map_err(|error| Failure::from_load(path, error))?;
     let list = entries(alloc, bytes.as_slice(), target)?;
-    if print_entries(out, &list).is_err() {
-        return Err(Failure::CannotWrite);
-    }
-    Ok(())
+    put_entries(out, &list)
 }

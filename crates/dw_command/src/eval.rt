@@ -1,10 +1,11 @@
 //! `dwframe eval`: the value of an expression.
 
-ghost use Rattle.std.specs.Prelude.{option_map};
-ghost use Rattle.dw_command.specs.Answers.{EvalEnds, Values};
+ghost use Rattle.std.specs.Prelude.{◌<◌, ◌-◌, ◌^◌, option_map};
+ghost use Rattle.dw_command.specs.Answers.{EvalEnds, Prints, Values};
 
 use crate::failure::Failure;
 use crate::files::Load;
+use crate::listing::Listing;
 use crate::loading::load_text;
 use dw_eval::{Env, evaluate};
 use dw_num::Target;
@@ -12,11 +13,17 @@ use dw_op::{OpList, Profile, decode};
 use dw_unwind::Dump;
 use dw_words::Evaluation;
 use std::alloc::Global;
-use std::io::{self, Write};
+use std::io::Write;
 
-fn print_value<W: Write>(out: &mut W, value: u64) -> io::Result<()> {
-    writeln!(out, "{value:#x}")?;
-    out.flush()
+fn put_value<W: Write>(out: &mut Listing<W>, value: u64) -> Result<(), Failure<'static>>
+    requires room { out.old.failures < 2 ^ 64 - 1 }
+    ensures { Prints out.old.failures out.new.failures tt result }
+{
+    out.make_room()?;
+    out.text(b"0x");
+    out.hex(value);
+    out.text(b"\n");
+    Ok(out.finish()?)
 }
 
 // The value over a dump's registers and memory, without a frame base, a CFA or an object.
@@ -45,16 +52,14 @@ pub fn run_eval<'a, L: Load, W: Write>(
     target: Target,
     evaluation: &Evaluation<'a>,
     files: &mut L,
-    out: &mut W,
+    out: &mut Listing<W>,
 ) -> Result<(), Failure<'a>>
-    ensures { EvalEnds (L.gives files.old) target evaluation.now.steps evaluation.now.start evaluation.now.block.items (option_map (λ p. p.now) evaluation.now.dump) result }
+    requires room { out.old.failures < 2 ^ 64 - 1 }
+    ensures { EvalEnds (L.gives files.old) out.old.failures out.new.failures target evaluation.now.steps evaluation.now.start evaluation.now.block.items (option_map (λ p. p.now) evaluation.now.dump) result }
 {
     let text = load_text(alloc, files, evaluation.dump)?;
     let list = decode(alloc, &evaluation.block, target, Profile::Location)?;
     let mut dump = Dump::parse(alloc, &text, target)?;
     let value = value_of(alloc, &list, evaluation.start, &mut dump, evaluation.steps)?;
-    if print_value(out, value).is_err() {
-        return Err(Failure::CannotWrite);
-    }
-    Ok(())
+    put_value(out, value)
 }

@@ -1,30 +1,59 @@
 //! `dwframe expr`: the operations of a block, and its least spelling.
 
-ghost use Rattle.dw_command.specs.Answers.{ExprEnds};
+ghost use Rattle.std.specs.Prelude.{◌<◌, ◌-◌, ◌^◌};
+ghost use Rattle.dw_command.specs.Answers.{ExprEnds, Prints};
+ghost use Rattle.dw_command.specs.Output.{Told};
 
 use crate::failure::Failure;
-use crate::texts::{print_hex, print_op};
+use crate::listing::{Listing, OutputFault};
+use crate::texts::{put_hex, put_op};
 use dw_num::Target;
-use dw_op::{EncodeError, OpList, Profile, decode, encode};
-use itoa::Buffer;
+use dw_op::{EncodeError, Op, OpList, Profile, decode, encode};
 use std::alloc::Global;
-use std::io::{self, Write};
+use std::io::Write;
 
-fn print_expression<W: Write>(out: &mut W, list: &OpList<'_>, least: &[u8]) -> io::Result<()> {
-    for (index, op) in list.ops().iter().enumerate() {
-        let mut digits = Buffer::new();
-        out.write_all(digits.format(index).as_bytes())?;
-        out.write_all(b" ")?;
-        print_op(out, op)?;
-        out.write_all(b"\n")?;
-    }
-    out.write_all(b"least")?;
+fn put_line<W: Write>(out: &mut Listing<W>, index: usize, op: &Op<'_>) -> Result<(), OutputFault>
+    requires room { out.old.failures < 2 ^ 64 - 1 }
+    ensures told { Told out.old.failures out.new.failures result }
+{
+    out.make_room()?;
+    out.decimal(index as u64);
+    out.text(b" ");
+    put_op(out, op)?;
+    out.make_room()?;
+    out.text(b"\n");
+    Ok(())
+}
+
+// The least spelling, behind a space where it has bytes.
+fn put_least<W: Write>(out: &mut Listing<W>, least: &[u8]) -> Result<(), OutputFault>
+    requires room { out.old.failures < 2 ^ 64 - 1 }
+    ensures told { Told out.old.failures out.new.failures result }
+{
+    out.make_room()?;
+    out.text(b"least");
     if !least.is_empty() {
-        out.write_all(b" ")?;
+        out.text(b" ");
     }
-    print_hex(out, least)?;
-    out.write_all(b"\n")?;
-    out.flush()
+    put_hex(out, least)?;
+    out.make_room()?;
+    out.text(b"\n");
+    Ok(())
+}
+
+fn put_expression<W: Write>(
+    out: &mut Listing<W>,
+    list: &OpList<'_>,
+    least: &[u8],
+) -> Result<(), Failure<'static>>
+    requires room { out.old.failures < 2 ^ 64 - 1 }
+    ensures { Prints out.old.failures out.new.failures tt result }
+{
+    for (index, op) in list.ops().iter().enumerate() {
+        put_line(out, index, op)?;
+    }
+    put_least(out, least)?;
+    Ok(out.finish()?)
 }
 
 /// Prints a line for each operation of a block, and its least spelling. Nothing is printed where the block is
@@ -34,9 +63,10 @@ pub fn run_expr<'a, W: Write>(
     target: Target,
     profile: Profile,
     block: &[u8],
-    out: &mut W,
+    out: &mut Listing<W>,
 ) -> Result<(), Failure<'a>>
-    ensures { ExprEnds target profile block.now result }
+    requires room { out.old.failures < 2 ^ 64 - 1 }
+    ensures { ExprEnds out.old.failures out.new.failures target profile block.now result }
 {
     let list = decode(alloc, block, target, profile)?;
     let least = match encode(alloc, &list) {
@@ -45,8 +75,5 @@ pub fn run_expr<'a, W: Write>(
         // What has a block has a least one.
         Err(EncodeError::BranchTooFar { index: _ }) => unreachable!(),
     };
-    if print_expression(out, &list, &least).is_err() {
-        return Err(Failure::CannotWrite);
-    }
-    Ok(())
+    put_expression(out, &list, &least)
 }

@@ -1,12 +1,15 @@
 //! A text of many lines on its way to an output.
 
-ghost use Rattle.std.specs.Prelude.{◌≡◌, ◌+◌, ◌<◌, ◌≤◌, length, OnOk};
+ghost use Rattle.std.specs.Prelude.{◌≡◌, ◌+◌, ◌-◌, ◌^◌, ◌<◌, ◌≤◌, length, take, None, OnOk};
+ghost use Rattle.std.specs.Io.KnownBytes.{Appends};
+ghost use Rattle.dw_command.specs.Output.{Told};
 ghost use Rattle.dw_command.specs.declared.failure.Failure.TheVariants.{CannotWrite};
 ghost use Rattle.dw_command.specs.declared.listing.TheConstants.{PIECE, ROOM};
 
 use crate::failure::Failure;
+use dw_normal::{Sink, SinkFault};
 use itoa::Buffer;
-use std::io::{self, ErrorKind, Write};
+use std::io::Write;
 
 // How many bytes the output gets at once, or fewer.
 const ROOM: usize = 16_384;
@@ -60,28 +63,35 @@ pub struct Listing<W: Write> {
     out: W,
     room: [u8; ROOM],
     len: usize,
+    failures: u64,
 }
 
 impl<W: Write> Listing<W> {
     /// What is put goes to `out`.
-    pub fn new(out: W) -> Listing<W> {
+    pub fn new(out: W) -> Listing<W>
+        ensures out { result.out ≡ out }
+        ensures empty { result.len ≡ 0 }
+        ensures failures { result.failures ≡ 0 }
+    {
         Listing {
             out,
             room: [0; ROOM],
             len: 0,
+            failures: 0,
         }
     }
 
     #[inline(never)]
     fn write_out(&mut self) -> Result<(), OutputFault>
-        ensures { OnOk result (self.new.len ≡ 0) }
+        requires room { self.old.failures < 2 ^ 64 - 1 }
+        ensures told { Told self.old.failures self.new.failures result }
+        ensures empty { OnOk result (self.new.len ≡ 0) }
+        ensures all { OnOk result (self.old.len ≤ ROOM → Appends (W.contents self.old.out) (W.contents self.new.out) (take self.old.len self.old.room)) }
     {
         // No more than all, which no clause says between two calls.
-        if self
-            .out
-            .write_all(&self.room[..self.len.min(ROOM)])
-            .is_err()
-        {
+        let put = &self.room[..self.len.min(ROOM)];
+        if self.out.write_all(put).is_err() {
+            self.failures += 1;
             return Err(OutputFault);
         }
         self.len = 0;
@@ -91,7 +101,9 @@ impl<W: Write> Listing<W> {
     /// Makes room for 128 bytes.
     #[inline(always)]
     pub fn make_room(&mut self) -> Result<(), OutputFault>
-        ensures { OnOk result (self.new.len + PIECE ≤ ROOM) }
+        requires room { self.old.failures < 2 ^ 64 - 1 }
+        ensures told { Told self.old.failures self.new.failures result }
+        ensures made { OnOk result (self.new.len + PIECE ≤ ROOM) }
     {
         if self.len > ROOM - PIECE {
             return self.write_out();
@@ -100,9 +112,28 @@ impl<W: Write> Listing<W> {
     }
 
     /// Writes out what is left.
-    pub fn finish(&mut self) -> Result<(), OutputFault> {
+    pub fn finish(&mut self) -> Result<(), OutputFault>
+        requires room { self.old.failures < 2 ^ 64 - 1 }
+        ensures told { Told self.old.failures self.new.failures result }
+        ensures empty { OnOk result (self.new.len ≡ 0) }
+    {
         self.write_out()?;
         if self.out.flush().is_err() {
+            self.failures += 1;
+            return Err(OutputFault);
+        }
+        Ok(())
+    }
+
+    /// Bytes of any number.
+    pub fn long_text(&mut self, text: &[u8]) -> Result<(), OutputFault>
+        requires room { self.old.failures < 2 ^ 64 - 1 }
+        ensures told { Told self.old.failures self.new.failures result }
+        ensures empty { OnOk result (self.new.len ≡ 0) }
+    {
+        self.write_out()?;
+        if self.out.write_all(text).is_err() {
+            self.failures += 1;
             return Err(OutputFault);
         }
         Ok(())
@@ -112,7 +143,8 @@ impl<W: Write> Listing<W> {
     #[inline(always)]
     pub fn text(&mut self, text: &[u8])
         requires { self.old.len + length text.now ≤ ROOM }
-        ensures { self.new.len ≡ self.old.len + length text.now }
+        ensures len { self.new.len ≡ self.old.len + length text.now }
+        ensures told { self.new.failures ≡ self.old.failures }
     {
         let end = self.len + text.len();
         // A loop over a text that is known becomes a store or two; `copy_from_slice` asks first whether both overlap.
@@ -126,7 +158,8 @@ impl<W: Write> Listing<W> {
     fn pair(&mut self, number: usize)
         requires room { self.old.len + 2 ≤ ROOM }
         requires below { number < 100 }
-        ensures { self.new.len ≡ self.old.len + 2 }
+        ensures len { self.new.len ≡ self.old.len + 2 }
+        ensures told { self.new.failures ≡ self.old.failures }
     {
         self.text(&[PAIRS[2 * number], PAIRS[2 * number + 1]]);
     }
@@ -135,7 +168,8 @@ impl<W: Write> Listing<W> {
     #[inline(always)]
     pub fn decimal(&mut self, number: u64)
         requires { self.old.len + 40 ≤ ROOM }
-        ensures { self.new.len ≤ self.old.len + 40 }
+        ensures len { self.new.len ≤ self.old.len + 40 }
+        ensures told { self.new.failures ≡ self.old.failures }
     {
         if number < 10 {
             self.text(&[b'0' + number as u8]);
@@ -152,7 +186,8 @@ impl<W: Write> Listing<W> {
     #[inline(never)]
     fn long_decimal(&mut self, number: u64)
         requires { self.old.len + 40 ≤ ROOM }
-        ensures { self.new.len ≤ self.old.len + 40 }
+        ensures len { self.new.len ≤ self.old.len + 40 }
+        ensures told { self.new.failures ≡ self.old.failures }
     {
         let mut digits = Buffer::new();
         self.text(digits.format(number).as_bytes());
@@ -162,7 +197,8 @@ impl<W: Write> Listing<W> {
     #[inline(always)]
     pub fn offset(&mut self, offset: i64)
         requires { self.old.len + 41 ≤ ROOM }
-        ensures { self.new.len ≤ self.old.len + 41 }
+        ensures len { self.new.len ≤ self.old.len + 41 }
+        ensures told { self.new.failures ≡ self.old.failures }
     {
         self.text(if offset < 0 { b"-" } else { b"+" });
         self.decimal(offset.unsigned_abs());
@@ -171,7 +207,8 @@ impl<W: Write> Listing<W> {
     #[inline(always)]
     fn hex_without_zeros(&mut self, number: u32)
         requires { self.old.len + 8 ≤ ROOM }
-        ensures { self.new.len ≤ self.old.len + 8 }
+        ensures len { self.new.len ≤ self.old.len + 8 }
+        ensures told { self.new.failures ≡ self.old.failures }
     {
         let zeros = (number.leading_zeros() / 4).min(7);
         self.text(&hex_digits(number << (4 * zeros)));
@@ -181,7 +218,8 @@ impl<W: Write> Listing<W> {
     /// A number in hexadecimal digits, without leading zeros.
     pub fn hex(&mut self, number: u64)
         requires { self.old.len + 16 ≤ ROOM }
-        ensures { self.new.len ≤ self.old.len + 16 }
+        ensures len { self.new.len ≤ self.old.len + 16 }
+        ensures told { self.new.failures ≡ self.old.failures }
     {
         let high = (number >> 32) as u32;
         let low = (number % 0x1_0000_0000) as u32;
@@ -197,7 +235,8 @@ impl<W: Write> Listing<W> {
     #[inline(always)]
     pub fn address(&mut self, address: u128)
         requires { self.old.len + 17 ≤ ROOM }
-        ensures { self.new.len ≤ self.old.len + 17 }
+        ensures len { self.new.len ≤ self.old.len + 17 }
+        ensures told { self.new.failures ≡ self.old.failures }
     {
         match u64::try_from(address) {
             Ok(number) => self.hex(number),
@@ -206,21 +245,18 @@ impl<W: Write> Listing<W> {
     }
 }
 
-/// What is written comes behind what was put.
-impl<W: Write> Write for Listing<W> {
-    fn write(&mut self, bytes: &[u8]) -> io::Result<usize> {
+/// A normal form is put like any text.
+impl<W: Write> Sink for Listing<W> {
+    ghost taken = { λ _. None };
+
+    ghost failures = { λ listing. listing.failures };
+
+    fn put(&mut self, bytes: &[u8]) -> Result<usize, SinkFault> {
         if self.make_room().is_err() {
-            return Err(io::Error::from(ErrorKind::Other));
+            return Err(SinkFault);
         }
         let part = &bytes[..bytes.len().min(PIECE)];
         self.text(part);
         Ok(part.len())
-    }
-
-    fn flush(&mut self) -> io::Result<()> {
-        if self.finish().is_err() {
-            return Err(io::Error::from(ErrorKind::Other));
-        }
-        Ok(())
     }
 }

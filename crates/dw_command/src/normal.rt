@@ -1,15 +1,24 @@
 //! `dwframe normal`: the normal form of a section.
 
-ghost use Rattle.dw_command.specs.Answers.{NormalEnds};
+ghost use Rattle.std.specs.Prelude.{◌<◌, ◌-◌, ◌^◌};
+ghost use Rattle.dw_command.specs.Answers.{NormalEnds, Prints};
 
 use crate::failure::Failure;
 use crate::files::Load;
+use crate::listing::Listing;
 use crate::loading::load_file;
-use dw_normal::{Through, normalise_to};
+use dw_normal::normalise_to;
 use dw_num::Target;
 use dw_words::Writing;
 use std::alloc::Global;
 use std::io::Write;
+
+fn finish<W: Write>(out: &mut Listing<W>) -> Result<(), Failure<'static>>
+    requires room { out.old.failures < 2 ^ 64 - 1 }
+    ensures { Prints out.old.failures out.new.failures tt result }
+{
+    Ok(out.finish()?)
+}
 
 /// Writes the normal form of the section in a file. Nothing is written where the section is refused.
 pub fn run_normal<'a, L: Load, W: Write>(
@@ -17,15 +26,12 @@ pub fn run_normal<'a, L: Load, W: Write>(
     target: Target,
     writing: &Writing<'a>,
     files: &mut L,
-    out: &mut W,
+    out: &mut Listing<W>,
 ) -> Result<(), Failure<'a>>
-    ensures { NormalEnds (L.gives files.old) target writing.now.cap writing.now.path.now result }
+    requires room { out.old.failures < 2 ^ 64 - 1 }
+    ensures { NormalEnds (L.gives files.old) out.old.failures out.new.failures target writing.now.cap writing.now.path.now result }
 {
     let bytes = load_file(files, writing.path)?;
-    let mut sink = Through::new(out);
-    let _ = normalise_to(alloc, &bytes, target, writing.cap, &mut sink)?;
-    if sink.into_writer().flush().is_err() {
-        return Err(Failure::CannotWrite);
-    }
-    Ok(())
+    let _ = normalise_to(alloc, &bytes, target, writing.cap, out)?;
+    finish(out)
 }

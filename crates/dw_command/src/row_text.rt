@@ -1,10 +1,11 @@
 //! How rows are printed: a line for an FDE, and under it a line for each address from which its rules are others.
 
-ghost use Rattle.std.specs.Prelude.{◌+◌, ◌≤◌, OnOk};
+ghost use Rattle.std.specs.Prelude.{◌+◌, ◌-◌, ◌^◌, ◌<◌, ◌≤◌, OnOk};
+ghost use Rattle.dw_command.specs.Output.{Told};
 ghost use Rattle.dw_command.specs.declared.listing.TheConstants.{PIECE, ROOM};
 
 use crate::listing::{Listing, OutputFault};
-use crate::texts::print_op;
+use crate::texts::put_op;
 use dw_cfa::{CfaRule, RegRule, Row};
 use dw_op::ExprRef;
 use dw_section::Fde;
@@ -15,7 +16,9 @@ fn put_operations<W: Write>(
     listing: &mut Listing<W>,
     expression: &ExprRef<'_>,
 ) -> Result<(), OutputFault>
-    ensures { OnOk result (listing.new.len + PIECE ≤ ROOM) }
+    requires room { listing.old.failures < 2 ^ 64 - 1 }
+    ensures told { Told listing.old.failures listing.new.failures result }
+    ensures made { OnOk result (listing.new.len + PIECE ≤ ROOM) }
 {
     let mut first = true;
     for op in expression.steps() {
@@ -24,15 +27,16 @@ fn put_operations<W: Write>(
             listing.text(b"; ");
         }
         first = false;
-        if print_op(listing, &op).is_err() {
-            return Err(OutputFault);
-        }
+        put_op(listing, &op)?;
     }
     listing.make_room()
 }
 
 #[inline(always)]
-fn put_cfa<W: Write>(listing: &mut Listing<W>, rule: &CfaRule<'_>) -> Result<(), OutputFault> {
+fn put_cfa<W: Write>(listing: &mut Listing<W>, rule: &CfaRule<'_>) -> Result<(), OutputFault>
+    requires room { listing.old.failures < 2 ^ 64 - 1 }
+    ensures told { Told listing.old.failures listing.new.failures result }
+{
     listing.make_room()?;
     match rule {
         // No row that is printed is without it.
@@ -57,7 +61,10 @@ fn put_rule<W: Write>(
     listing: &mut Listing<W>,
     register: u16,
     rule: &RegRule<'_>,
-) -> Result<(), OutputFault> {
+) -> Result<(), OutputFault>
+    requires room { listing.old.failures < 2 ^ 64 - 1 }
+    ensures told { Told listing.old.failures listing.new.failures result }
+{
     listing.make_room()?;
     listing.text(b" r");
     listing.decimal(u64::from(register));
@@ -94,7 +101,10 @@ fn put_rule<W: Write>(
 }
 
 /// Puts the line of an FDE: the addresses that it covers, up to its end, and its return-address register.
-pub fn put_fde<W: Write>(listing: &mut Listing<W>, fde: &Fde) -> Result<(), OutputFault> {
+pub fn put_fde<W: Write>(listing: &mut Listing<W>, fde: &Fde) -> Result<(), OutputFault>
+    requires room { listing.old.failures < 2 ^ 64 - 1 }
+    ensures told { Told listing.old.failures listing.new.failures result }
+{
     listing.make_room()?;
     listing.text(b"fde 0x");
     listing.hex(fde.begin);
@@ -111,7 +121,10 @@ pub fn put_row<W: Write>(
     listing: &mut Listing<W>,
     address: u128,
     row: &Row<'_>,
-) -> Result<(), OutputFault> {
+) -> Result<(), OutputFault>
+    requires room { listing.old.failures < 2 ^ 64 - 1 }
+    ensures told { Told listing.old.failures listing.new.failures result }
+{
     listing.make_room()?;
     listing.text(b" 0x");
     listing.address(address);

@@ -1,5 +1,6 @@
 //! `dwframe rows`: the rules at each address of a section.
 
+ghost use Rattle.std.specs.Prelude.{◌<◌, ◌-◌, ◌^◌};
 ghost use Rattle.dw_command.specs.Answers.{Prints, RowsEnds};
 
 use crate::failure::Failure;
@@ -13,32 +14,32 @@ use std::io::Write;
 
 // Puts a line for each address at which the rules of an FDE change.
 fn put_changes<W: Write>(
-    listing: &mut Listing<W>,
+    out: &mut Listing<W>,
     changes: &mut Changes<'_>,
 ) -> Result<(), Failure<'static>>
-    ensures { Prints tt result }
+    requires room { out.old.failures < 2 ^ 64 - 1 }
+    ensures { Prints out.old.failures out.new.failures tt result }
 {
     'changes: while let Some(address) = changes.advance()? {
         if let Some(row) = changes.row() {
-            put_row(listing, address, row)?;
+            put_row(out, address, row)?;
         }
     }
     Ok(())
 }
 
-fn print_table<W: Write>(out: &mut W, table: &Table<'_>) -> Result<(), Failure<'static>>
-    ensures { Prints tt result }
+fn put_table<W: Write>(out: &mut Listing<W>, table: &Table<'_>) -> Result<(), Failure<'static>>
+    requires room { out.old.failures < 2 ^ 64 - 1 }
+    ensures { Prints out.old.failures out.new.failures tt result }
 {
-    let mut listing = Listing::new(out);
     let mut changes = table.no_changes();
     for place in 0..table.fde_count() {
         let fde = FdeRef { place };
-        put_fde(&mut listing, &table.fde(fde))?;
+        put_fde(out, &table.fde(fde))?;
         table.go_to(&mut changes, fde);
-        put_changes(&mut listing, &mut changes)?;
+        put_changes(out, &mut changes)?;
     }
-    listing.finish()?;
-    Ok(())
+    Ok(out.finish()?)
 }
 
 /// Prints the rows of the section in a file: a line for each nonempty FDE by begin, and under it one for each address
@@ -48,13 +49,14 @@ pub fn run_rows<'a, L: Load, W: Write>(
     target: Target,
     path: &'a str,
     files: &mut L,
-    out: &mut W,
+    out: &mut Listing<W>,
 ) -> Result<(), Failure<'a>>
-    ensures { RowsEnds (L.gives files.old) target path.now result }
+    requires room { out.old.failures < 2 ^ 64 - 1 }
+    ensures { RowsEnds (L.gives files.old) out.old.failures out.new.failures target path.now result }
 {
     let bytes = files
         .load(path)
         .map_err(|error| Failure::from_load(path, error))?;
     let table = check(alloc, bytes.as_slice(), target)?;
-    print_table(out, &table)
+    put_table(out, &table)
 }

@@ -1,24 +1,36 @@
 //! `dwframe same`: whether two sections say the same.
 
-ghost use Rattle.std.specs.Prelude.{◌≡◌, ◌≤◌, if◌then◌else◌, IfOk};
-ghost use Rattle.dw_command.specs.Answers.{SameEnds};
+ghost use Rattle.std.specs.Prelude.{◌≡◌, ◌<◌, ◌≤◌, ◌-◌, ◌^◌, if◌then◌else◌, length, IfOk};
+ghost use Rattle.dw_command.specs.Answers.{Prints, SameEnds};
 
 use crate::failure::Failure;
 use crate::files::Load;
+use crate::listing::Listing;
 use crate::loading::load_file;
 use dw_normal::same;
 use dw_num::Target;
 use std::alloc::Global;
-use std::io::{self, Write};
+use std::io::Write;
 
-fn print_text<W: Write>(out: &mut W, text: &[u8]) -> io::Result<()> {
-    out.write_all(text)?;
-    out.flush()
+fn put_verdict<W: Write>(
+    out: &mut Listing<W>,
+    text: &[u8],
+    status: u8,
+) -> Result<u8, Failure<'static>>
+    requires room { out.old.failures < 2 ^ 64 - 1 }
+    requires short { length text.now ≤ 10 }
+    ensures { Prints out.old.failures out.new.failures status result }
+{
+    out.make_room()?;
+    out.text(text);
+    out.finish()?;
+    Ok(status)
 }
 
 // The text of an answer, and its exit status.
 fn verdict(is_same: bool) -> (&'static [u8], u8)
-    ensures { result.1 ≡ (if is_same then 0 else 1) }
+    ensures short { length result.0.now ≤ 10 }
+    ensures status { result.1 ≡ (if is_same then 0 else 1) }
 {
     if is_same {
         (b"same\n".as_slice(), 0)
@@ -35,17 +47,15 @@ pub fn run_same<'a, L: Load, W: Write>(
     path: &'a str,
     other: &'a str,
     files: &mut L,
-    out: &mut W,
+    out: &mut Listing<W>,
 ) -> Result<u8, Failure<'a>>
-    ensures ends { SameEnds (L.gives files.old) target path.now other.now result }
+    requires room { out.old.failures < 2 ^ 64 - 1 }
+    ensures ends { SameEnds (L.gives files.old) out.old.failures out.new.failures target path.now other.now result }
     ensures most { IfOk result (λ status. status ≤ 1) }
 {
     let first = load_file(files, path)?;
     let second = load_file(files, other)?;
     let is_same = same(alloc, &first, &second, target)?;
     let (text, status) = verdict(is_same);
-    if print_text(out, text).is_err() {
-        return Err(Failure::CannotWrite);
-    }
-    Ok(status)
+    put_verdict(out, text, status)
 }

@@ -1,11 +1,17 @@
 //! How operations are printed: DWARF 5, 7.7.1, with the names in lower case.
 
+ghost use Rattle.std.specs.Prelude.{◌≡◌, ◌+◌, ◌-◌, ◌^◌, ◌<◌, ◌≤◌, length, IfSome, OnOk};
+ghost use Rattle.dw_command.specs.Output.{Told};
+ghost use Rattle.dw_command.specs.declared.listing.TheConstants.{PIECE, ROOM};
+
+use crate::listing::{Listing, OutputFault};
 use dw_op::Op;
-use itoa::{Buffer, Integer};
-use std::io::{self, Write};
+use std::io::Write;
 
 // The name of an operation without operands.
-fn name_of(op: &Op<'_>) -> Option<&'static str> {
+fn name_of(op: &Op<'_>) -> Option<&'static str>
+    ensures { IfSome result (λ name. length name.now ≤ 20) }
+{
     let name = match op {
         Op::Deref => "deref",
         Op::Dup => "dup",
@@ -42,68 +48,100 @@ fn name_of(op: &Op<'_>) -> Option<&'static str> {
     Some(name)
 }
 
-// A number behind a space.
-fn print_number<W: Write, I: Integer>(out: &mut W, number: I) -> io::Result<()> {
-    let mut digits = Buffer::new();
-    out.write_all(b" ")?;
-    out.write_all(digits.format(number).as_bytes())
+// A number behind a name.
+fn put_number<W: Write>(listing: &mut Listing<W>, name: &[u8], number: u64)
+    requires short { length name.now ≤ 20 }
+    requires made { listing.old.len + 60 ≤ ROOM }
+    ensures len { listing.new.len ≤ listing.old.len + 60 }
+    ensures told { listing.new.failures ≡ listing.old.failures }
+{
+    listing.text(name);
+    listing.decimal(number);
 }
 
-fn print_with<W: Write, I: Integer>(out: &mut W, name: &str, number: I) -> io::Result<()> {
-    out.write_all(name.as_bytes())?;
-    print_number(out, number)
+// A signed number behind a space.
+fn put_signed<W: Write>(listing: &mut Listing<W>, number: i64)
+    requires made { listing.old.len + 42 ≤ ROOM }
+    ensures len { listing.new.len ≤ listing.old.len + 42 }
+    ensures told { listing.new.failures ≡ listing.old.failures }
+{
+    listing.text(if number < 0 { b" -" } else { b" " });
+    listing.decimal(number.unsigned_abs());
 }
 
-fn print_with_two<W: Write, I: Integer, J: Integer>(
-    out: &mut W,
-    name: &str,
-    first: I,
-    second: J,
-) -> io::Result<()> {
-    print_with(out, name, first)?;
-    print_number(out, second)
-}
-
-/// Prints bytes as pairs of hexadecimal digits in lower case.
-pub fn print_hex<W: Write>(out: &mut W, bytes: &[u8]) -> io::Result<()> {
+/// Puts bytes as pairs of hexadecimal digits in lower case.
+pub fn put_hex<W: Write>(listing: &mut Listing<W>, bytes: &[u8]) -> Result<(), OutputFault>
+    requires room { listing.old.failures < 2 ^ 64 - 1 }
+    ensures told { Told listing.old.failures listing.new.failures result }
+{
     for byte in bytes {
-        write!(out, "{byte:02x}")?;
+        listing.make_room()?;
+        if *byte < 16 {
+            listing.text(b"0");
+        }
+        listing.hex(u64::from(*byte));
     }
     Ok(())
 }
 
-fn print_implicit<W: Write>(out: &mut W, bytes: &[u8]) -> io::Result<()> {
-    out.write_all(b"implicit_value ")?;
+fn put_implicit<W: Write>(listing: &mut Listing<W>, bytes: &[u8]) -> Result<(), OutputFault>
+    requires room { listing.old.failures < 2 ^ 64 - 1 }
+    ensures told { Told listing.old.failures listing.new.failures result }
+{
+    listing.make_room()?;
+    listing.text(b"implicit_value ");
     if bytes.is_empty() {
-        return out.write_all(b"-");
+        listing.text(b"-");
     }
-    print_hex(out, bytes)
+    put_hex(listing, bytes)
 }
 
-// An operation with operands.
-fn print_operands<W: Write>(out: &mut W, op: &Op<'_>) -> io::Result<()> {
+// An operation with operands that are numbers.
+fn put_operands<W: Write>(listing: &mut Listing<W>, op: &Op<'_>)
+    requires made { listing.old.len + PIECE ≤ ROOM }
+    ensures told { listing.new.failures ≡ listing.old.failures }
+{
     match *op {
-        Op::Addr(address) => write!(out, "addr {address:#x}"),
-        Op::Const(value) => print_with(out, "const", value),
-        Op::Pick(entry) => print_with(out, "pick", entry),
-        Op::PlusUconst(number) => print_with(out, "plus_uconst", number),
-        Op::Bra(index) => print_with(out, "bra", index),
-        Op::Skip(index) => print_with(out, "skip", index),
-        Op::Reg(register) => print_with(out, "reg", register),
-        Op::Breg(register, number) => print_with_two(out, "breg", register, number),
-        Op::Fbreg(number) => print_with(out, "fbreg", number),
-        Op::Piece(len) => print_with(out, "piece", len),
-        Op::DerefSize(len) => print_with(out, "deref_size", len),
-        Op::BitPiece(size, offset) => print_with_two(out, "bit_piece", size, offset),
-        Op::Implicit(bytes) => print_implicit(out, bytes),
-        _ => Ok(()),
+        Op::Addr(address) => {
+            listing.text(b"addr 0x");
+            listing.hex(address);
+        }
+        Op::Const(value) => put_number(listing, b"const ", value),
+        Op::Pick(entry) => put_number(listing, b"pick ", u64::from(entry)),
+        Op::PlusUconst(number) => put_number(listing, b"plus_uconst ", number),
+        Op::Bra(index) => put_number(listing, b"bra ", index as u64),
+        Op::Skip(index) => put_number(listing, b"skip ", index as u64),
+        Op::Reg(register) => put_number(listing, b"reg ", u64::from(register)),
+        Op::Breg(register, number) => {
+            put_number(listing, b"breg ", u64::from(register));
+            put_signed(listing, number);
+        }
+        Op::Fbreg(number) => {
+            listing.text(b"fbreg");
+            put_signed(listing, number);
+        }
+        Op::Piece(len) => put_number(listing, b"piece ", len),
+        Op::DerefSize(len) => put_number(listing, b"deref_size ", u64::from(len)),
+        Op::BitPiece(size, offset) => {
+            put_number(listing, b"bit_piece ", size);
+            put_number(listing, b" ", offset);
+        }
+        _ => {}
     }
 }
 
-/// Prints an operation: its name and its operands, decimal but for an address. Branches name operations.
-pub fn print_op<W: Write>(out: &mut W, op: &Op<'_>) -> io::Result<()> {
-    match name_of(op) {
-        Some(name) => out.write_all(name.as_bytes()),
-        None => print_operands(out, op),
+/// Puts an operation: its name and its operands, decimal but for an address. Branches name operations.
+pub fn put_op<W: Write>(listing: &mut Listing<W>, op: &Op<'_>) -> Result<(), OutputFault>
+    requires room { listing.old.failures < 2 ^ 64 - 1 }
+    ensures told { Told listing.old.failures listing.new.failures result }
+{
+    listing.make_room()?;
+    if let Op::Implicit(bytes) = op {
+        return put_implicit(listing, bytes);
     }
+    match name_of(op) {
+        Some(name) => listing.text(name.as_bytes()),
+        None => put_operands(listing, op),
+    }
+    Ok(())
 }

@@ -1,42 +1,56 @@
 //! `dwframe unwind`: the caller's frame of a machine that stopped.
 
-ghost use Rattle.dw_command.specs.Answers.{Frames, UnwindEnds};
+ghost use Rattle.std.specs.Prelude.{◌<◌, ◌-◌, ◌^◌};
+ghost use Rattle.dw_command.specs.Answers.{Frames, Prints, UnwindEnds};
+ghost use Rattle.dw_command.specs.Output.{Told};
 
 use crate::failure::Failure;
 use crate::files::Load;
-use crate::line::Line;
+use crate::listing::{Listing, OutputFault};
 use crate::loading::{load_dump, load_file};
 use dw_num::Target;
 use dw_section::{Table, check};
 use dw_unwind::{Dump, Frame, unwind};
 use dw_words::Unwinding;
-use std::alloc::{AllocError, Global};
+use std::alloc::Global;
 use std::io::Write;
 
-fn put_value(line: &mut Line, register: u16, value: Option<u64>) -> Result<(), AllocError> {
-    line.text(b"r")?;
-    line.decimal(register)?;
+fn put_value<W: Write>(
+    out: &mut Listing<W>,
+    register: u16,
+    value: Option<u64>,
+) -> Result<(), OutputFault>
+    requires room { out.old.failures < 2 ^ 64 - 1 }
+    ensures told { Told out.old.failures out.new.failures result }
+{
+    out.make_room()?;
+    out.text(b"r");
+    out.decimal(u64::from(register));
     match value {
         Some(value) => {
-            line.text(b" 0x")?;
-            line.hex(u128::from(value))?;
+            out.text(b" 0x");
+            out.hex(value);
         }
-        None => line.text(b" undefined")?,
+        None => out.text(b" undefined"),
     }
-    line.text(b"\n")
+    out.text(b"\n");
+    Ok(())
 }
 
-// The text of a frame, which is put together before any of it is printed.
-fn put_frame(line: &mut Line, frame: &Frame) -> Result<(), AllocError> {
-    line.text(b"cfa 0x")?;
-    line.hex(u128::from(frame.cfa))?;
-    line.text(b"\nra r")?;
-    line.decimal(frame.return_register)?;
-    line.text(b"\n")?;
+fn put_frame<W: Write>(out: &mut Listing<W>, frame: &Frame) -> Result<(), Failure<'static>>
+    requires room { out.old.failures < 2 ^ 64 - 1 }
+    ensures { Prints out.old.failures out.new.failures tt result }
+{
+    out.make_room()?;
+    out.text(b"cfa 0x");
+    out.hex(frame.cfa);
+    out.text(b"\nra r");
+    out.decimal(u64::from(frame.return_register));
+    out.text(b"\n");
     for (register, value) in frame.registers.values() {
-        put_value(line, *register, *value)?;
+        put_value(out, *register, *value)?;
     }
-    Ok(())
+    Ok(out.finish()?)
 }
 
 fn frame_of<'a>(
@@ -68,19 +82,15 @@ pub fn run_unwind<'a, L: Load, W: Write>(
     target: Target,
     unwinding: &Unwinding<'a>,
     files: &mut L,
-    out: &mut W,
+    out: &mut Listing<W>,
 ) -> Result<(), Failure<'a>>
-    ensures { UnwindEnds (L.gives files.old) target unwinding.now.default unwinding.now.steps unwinding.now.path.now unwinding.now.dump.now result }
+    requires room { out.old.failures < 2 ^ 64 - 1 }
+    ensures { UnwindEnds (L.gives files.old) out.old.failures out.new.failures target unwinding.now.default unwinding.now.steps unwinding.now.path.now unwinding.now.dump.now result }
 {
     let bytes = load_file(files, unwinding.path)?;
     let text = load_dump(files, unwinding.dump)?;
     let table = check(alloc, &bytes, target)?;
     let mut dump = Dump::parse(alloc, &text, target)?;
     let frame = frame_of(alloc, &table, &mut dump, unwinding)?;
-    let mut line = Line::new(alloc);
-    put_frame(&mut line, &frame)?;
-    if line.print(out).is_err() || out.flush().is_err() {
-        return Err(Failure::CannotWrite);
-    }
-    Ok(())
+    put_frame(out, &frame)
 }

@@ -3,8 +3,8 @@
 //! `dw_command::engine` is the whole command over a list of words, files and two outputs; `main` runs it over the real ones.
 #![tactic(auto)]
 
-use dw_command::{Disk, Hinted, Shown, engine};
-use std::io::{BufWriter, ErrorKind, IsTerminal, Write};
+use dw_command::{Disk, Hinted, Listing, Shown, engine};
+use std::io::{ErrorKind, IsTerminal, Write};
 use std::process::ExitCode;
 use std::{env, io};
 
@@ -14,7 +14,7 @@ fn run(rt: &HostRuntime) -> io::Result<u8> {
     let alloc = rt.alloc();
     let words: Vec<String> = env::args(rt)?.collect(alloc)?;
     let mut files = Disk::new(rt);
-    let mut out = BufWriter::new(alloc, rt.stdout())?;
+    let mut out = Listing::new(rt.stdout());
     let mut err = rt.stderr();
     if err.is_terminal() {
         let mut err = Shown::new(err);
@@ -24,7 +24,7 @@ fn run(rt: &HostRuntime) -> io::Result<u8> {
     Ok(engine(alloc, words.as_slice(), &mut files, &mut out, &mut err))
 }
 
-// Without words or an output there is no run: memory ran out, or a word is not text.
+// Without words there is no run: memory ran out, or a word is not text.
 fn status_without_run(rt: &HostRuntime, error: &io::Error) -> u8 {
     let mut err = rt.stderr();
     if error.kind() == ErrorKind::OutOfMemory {

@@ -1,6 +1,6 @@
 //! Runs of the command over a file and outputs in memory: entries, words, and outputs that fail.
 
-use dw_command::{Hinted, Load, LoadError, engine};
+use dw_command::{Hinted, Listing, Load, LoadError, engine};
 use std::alloc::{AllocError, Global};
 use std::io::{self, ErrorKind, Write};
 use std::test::Fail;
@@ -97,7 +97,8 @@ fn status_of<W: Write, E: Write>(
         second,
         alloc,
     };
-    Ok(engine(alloc, words.as_slice(), &mut files, out, err))
+    let mut out = Listing::new(out);
+    Ok(engine(alloc, words.as_slice(), &mut files, &mut out, err))
 }
 
 // What a run over one file answers: its status, and whether it printed these texts.

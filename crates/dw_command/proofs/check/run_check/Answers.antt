@@ -9,12 +9,7 @@ returns-in_err-table g c =
     let loads = lent (g.L.Load.gives c.args.files.now) c.args.path.now _ c.as_slice-bytes.result.now c.as_slice-bytes.ensures.value c.in_ok-bytes.ensures.loads in
     rw p.1 (inl (c.as_slice-bytes.result.now, loads, inr (p.0, (c.in_err-table.field-0.0, c.in_err-table.ensures.first, p.2), refl)))
 
-pub returns-then-is_err : goal.returns-then-is_err
-returns-then-is_err g c =
-    let loads = lent (g.L.Load.gives c.args.files.now) c.args.path.now _ c.as_slice-bytes.result.now c.as_slice-bytes.ensures.value c.in_ok-bytes.ensures.loads in
-    inl (c.as_slice-bytes.result.now, loads, inl (tt, c.in_ok-table.ensures.found.1, tt))
-
 pub returns : goal.returns
 returns g c =
     let loads = lent (g.L.Load.gives c.args.files.now) c.args.path.now _ c.as_slice-bytes.result.now c.as_slice-bytes.ensures.value c.in_ok-bytes.ensures.loads in
-    inl (c.as_slice-bytes.result.now, loads, inl (tt, c.in_ok-table.ensures.found.1, refl))
+    inl (c.as_slice-bytes.result.now, loads, inl (tt, c.in_ok-table.ensures.found.1, c.put_counts.ensures))

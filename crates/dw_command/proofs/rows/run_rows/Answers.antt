@@ -12,4 +12,4 @@ returns-in_err-table g c =
 pub returns : goal.returns
 returns g c =
     let loads = lent (g.L.Load.gives c.args.files.now) c.args.path.now _ c.as_slice.result.now c.as_slice.ensures.value (loaded _ _ c.load.result c.in_ok-bytes.bytes c.load.ensures.gives c.in_ok-bytes.ensures.cases) in
-    inl (c.as_slice.result.now, loads, inl (tt, c.in_ok-table.ensures.found.1, c.print_table.ensures))
+    inl (c.as_slice.result.now, loads, inl (tt, c.in_ok-table.ensures.found.1, c.put_table.ensures))

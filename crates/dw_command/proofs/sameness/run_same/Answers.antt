@@ -1,6 +1,6 @@
 use Rattle.std.proofs.Common.{Ok, Err, inl, inr, refl}
 use Rattle.std.proofs.lemmas.Result.{err_from_is_err_and}
-use Rattle.dw_command.proofs.Endings.{lent, load_before}
+use Rattle.dw_command.proofs.Endings.{lent, load_before, prints_same}
 use Rattle.dw_command.proofs.sameness.run_same.Goals as goal
 
 pub returns-in_err-second-clause-ends : goal.returns-in_err-second-clause-ends
@@ -16,16 +16,9 @@ returns-in_err-is_same-clause-ends g c =
     let second = lent (g.L.Load.gives c.args.files.now) c.args.other.now _ c.deref-2.result.now c.deref-2.ensures.value (c.in_ok-first.ensures.same c.args.other.now (Ok c.in_ok-second.second.items) c.in_ok-second.ensures.loads) in
     rw p.1 (inl (c.deref.result.now, first, inl (c.deref-2.result.now, second, inr (p.0, (c.in_err-is_same.field-0.0, c.in_err-is_same.ensures.refused, p.2), refl))))
 
-pub returns-then-is_err-clause-ends : goal.returns-then-is_err-clause-ends
-returns-then-is_err-clause-ends g c =
-    let first = lent (g.L.Load.gives c.args.files.now) c.args.path.now _ c.deref.result.now c.deref.ensures.value c.in_ok-first.ensures.loads in
-    let second = lent (g.L.Load.gives c.args.files.now) c.args.other.now _ c.deref-2.result.now c.deref-2.ensures.value (c.in_ok-first.ensures.same c.args.other.now (Ok c.in_ok-second.second.items) c.in_ok-second.ensures.loads) in
-    let same = c.in_ok-is_same.ensures in
-    inl (c.deref.result.now, first, inl (c.deref-2.result.now, second, inl (c.in_ok-is_same.is_same, (same.within.0, same.within.1, same.found.2), tt)))
-
 pub returns-clause-ends : goal.returns-clause-ends
 returns-clause-ends g c =
     let first = lent (g.L.Load.gives c.args.files.now) c.args.path.now _ c.deref.result.now c.deref.ensures.value c.in_ok-first.ensures.loads in
     let second = lent (g.L.Load.gives c.args.files.now) c.args.other.now _ c.deref-2.result.now c.deref-2.ensures.value (c.in_ok-first.ensures.same c.args.other.now (Ok c.in_ok-second.second.items) c.in_ok-second.ensures.loads) in
     let same = c.in_ok-is_same.ensures in
-    inl (c.deref.result.now, first, inl (c.deref-2.result.now, second, inl (c.in_ok-is_same.is_same, (same.within.0, same.within.1, same.found.2), c.verdict-status.ensures)))
+    inl (c.deref.result.now, first, inl (c.deref-2.result.now, second, inl (c.in_ok-is_same.is_same, (same.within.0, same.within.1, same.found.2), prints_same _ _ _ _ _ c.verdict-status.ensures.status c.put_verdict.ensures)))
