@@ -79,6 +79,9 @@ fn next_far_difference(
     requires same { SameUnlisted (place_behind behind) marked.now.entries kept.now.registers row.now.registers }
     ensures { FirstDifference (place_behind behind) kept.now.registers row.now.registers result }
 {
+    if marked.is_empty() {
+        return None;
+    }
     let mut marks = marked.range((start_behind(behind), Bound::Unbounded));
     'marks: while let Some((register, _)) = marks.next() {
         if !kept.rule(*register).is_same(&row.rule(*register)) {

@@ -2,4 +2,3 @@ pub mod Answers
 pub mod Failing
 pub mod Inner
 pub mod Output
-pub mod Terminal
