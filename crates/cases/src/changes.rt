@@ -36,33 +36,6 @@ pub fn keeps_first_two(mut changes: Changes<'_>) -> Result<(bool, bool), Fail> {
     Ok((keeps_first, changes.keeps(&second)))
 }
 
-// The registers that a change gives other rules than the change before it.
-fn differing(alloc: Global, changes: &Changes<'_>) -> Result<String, Fail> {
-    let mut text = String::new(alloc);
-    let mut behind = None;
-    for _ in 0..100 {
-        let Some(register) = changes.next_difference(behind) else {
-            return Ok(text);
-        };
-        text.push_str(&format!(in alloc; " r{register}")?)?;
-        behind = Some(register);
-    }
-    Err(Fail::new("no last register"))
-}
-
-/// The address of each change, with those registers.
-pub fn differing_text(alloc: Global, mut changes: Changes<'_>) -> Result<String, Fail> {
-    let mut text = String::new(alloc);
-    for _ in 0..100 {
-        let Some(address) = changes.advance()? else {
-            return Ok(text);
-        };
-        let registers = differing(alloc, &changes)?;
-        text.push_str(&format!(in alloc; "{address:#x}{registers};")?)?;
-    }
-    Err(Fail::new("no last change"))
-}
-
 /// The changes of all FDEs, on which both calls agree.
 pub fn changes_text(alloc: Global, table: &Table<'_>) -> Result<String, Fail> {
     let mut text = String::new(alloc);

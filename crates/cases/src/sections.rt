@@ -1,7 +1,7 @@
 //! The sections of the cases, and calls on them: entries, headers, the first fault of a section by its fields and as a
 //! whole, its FDEs, and the changes of their rules.
 
-use crate::changes::{changes_text, differing_text, keeps_first_two};
+use crate::changes::{changes_text, keeps_first_two};
 use crate::lines::{compare, number, parts, sides};
 use crate::targets::{BIG, LITTLE};
 use crate::texts::refusal_text;
@@ -377,18 +377,4 @@ fn keeps_what_the_cie_specifies(rt: HostRuntime) -> Result<(), Fail> {
     let (first, second) = keeps_first_two(table.changes(fde))?;
     assert!(rt; first && !second);
     Ok(())
-}
-
-// r6, and r40, which has no slot, are saved at the second row alone, and restored with the state; then the CFA moves.
-#[test]
-fn tells_registers_that_differ(rt: HostRuntime) -> Result<(), Fail> {
-    let alloc = rt.alloc();
-    let bytes = section_of(alloc, "nops 30=410a0528028602420b440e10")?;
-    let table = table_of(alloc, &bytes, LITTLE)?;
-    let Some(fde) = table.fde_at(0x1000) else {
-        return Err(Fail::new("no FDE"));
-    };
-    let found = differing_text(alloc, table.changes(fde))?;
-    let wanted = "0x1000;0x1001 r6 r40;0x1003 r6 r40;0x1007;";
-    compare("registers that differ", found.as_str(), wanted)
 }
