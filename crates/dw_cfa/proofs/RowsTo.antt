@@ -1,8 +1,12 @@
 -- A run up to the last row that starts at or below an address.
-use Rattle.std.proofs.Common.{◌≡◌, ℕ, ◌<◌, ◌≤◌, Bool, true, false, List, [], ◌∷◌, length, Option, Some, None, refl, sym, ap, ◌∙◌, subst, arith}
+use Rattle.std.proofs.Common.{◌≡◌, ℕ, ◌<◌, ◌≤◌, Bool, true, List, [], ◌∷◌, length, Option, Some, None, Result, Ok, Err, refl, sym, ap, ◌∙◌, subst, arith, inl, inr}
 use Rattle.std.proofs.lemmas.Bool.{le-leb}
-use Rattle.std.specs.Prelude.{nat_le, if◌then◌else◌}
+use Rattle.std.proofs.lemmas.Bool.Decides.{leb_tells}
 use Rattle.dw_num.specs.declared.refusal.Refusal.{Refusal}
+use Rattle.std.specs.Prelude.{IfErr, IfOk, IsTrue, OnOk}
+use Rattle.dw_num.specs.declared.error.ReadError.{ReadError}
+use Rattle.dw_num.specs.declared.error.ReadError.TheVariants.{Refused, OutOfMemory}
+use Rattle.dw_num.specs.Refusals.{Refuses}
 use Rattle.dw_num.specs.Input.{Input}
 use Rattle.dw_cfa.specs.declared.instr.Factors.{Factors}
 use Rattle.dw_cfa.specs.declared.machine.Machine.{Machine}
@@ -18,25 +22,12 @@ use Rattle.dw_cfa.specs.Inner.Walking.{AllSpecify}
 use Rattle.dw_cfa.proofs.RunSteps.{rows_end}
 use Rattle.dw_cfa.proofs.Lent.RunLaws.{left_starts, some_rows_left}
 
-some_here : (a : ℕ) (first : LocatedRow) (rest : Option Rules) → first.location ≤ a → (x : Rules) × (or_here a first rest ≡ Some x)
-some_here a first (Some x) le = (x, refl)
-some_here a first None le = (first.row, rw (le-leb first.location a le) refl)
-
-abbrev or_this : Rules → Option Rules → Rules
-or_this row None = row
-or_this row (Some x) = x
-
-is_here : (below : Bool) (first row : Rules) → (if below then Some first else None) ≡ Some row → first ≡ row
-is_here true first row e = ap (or_this first) e
-is_here false first row e = absurd cc
-
 -- a row is the last one where no later one is
-pub here_last : (a : ℕ) (first : LocatedRow) (rows : List LocatedRow) (row : Rules) → last_at a rows ≡ None → last_at a (first ∷ rows) ≡ Some row → first.row ≡ row
-here_last a first rows row none e = is_here (nat_le first.location a) first.row row (sym (ap (or_here a first) none) ∙ e)
+here_is : (a : ℕ) (first : LocatedRow) (rows : List LocatedRow) → first.location ≤ a → last_at a rows ≡ None → last_at a (first ∷ rows) ≡ Some first.row
+here_is a first rows le none = rw (none, le-leb first.location a le) refl
 
--- it is not where one is
-pub later_last : (a : ℕ) (first : LocatedRow) (rows : List LocatedRow) (row : Rules) → (x : Rules) × (last_at a rows ≡ Some x) → last_at a (first ∷ rows) ≡ Some row → last_at a rows ≡ Some row
-later_last a first rows row some e = some.1 ∙ sym (ap (or_here a first) some.1) ∙ e
+pub one_last : (x : Option Rules) (row other : Rules) → x ≡ Some row → x ≡ Some other → row ≡ other
+one_last x row other e f = let same = sym e ∙ f in cc
 
 module _ (f : Factors) (i : Input) (m : Machine) where
   as_finished : (rows_left f i m).rows ≡ [] → (rows_left f i m).fault ≡ None → rows_left f i m ≡ finished
@@ -50,14 +41,6 @@ module _ (f : Factors) (i : Input) (m : Machine) where
   not_none e none = some_rows_left f i i m (as_finished e none)
 
 module _ (f : Factors) (i : Input) (m : Machine) (a : ℕ) where
-  -- one of the rows still to come is a's, where the first starts at or below it
-  pub has_row : (rows_left f i m).fault ≡ None → m.location ≤ a → (x : Rules) × (last_at a (rows_left f i m).rows ≡ Some x)
-  has_row none le = go (rows_left f i m).rows refl
-    where
-      go : (rows : List LocatedRow) → (rows_left f i m).rows ≡ rows → (x : Rules) × (last_at a rows ≡ Some x)
-      go [] e = absurd (not_none f i m e none)
-      go (first ∷ rest) e = some_here a first (last_at a rest) (subst (λ (n : ℕ). n ≤ a) (sym (left_starts f i i m first rest e)) le)
-
   -- none is, where it starts above it
   pub no_row : (low : ℕ) → NeverFalls low (rows_left f i m).rows → a < m.location → last_at a (rows_left f i m).rows ≡ None
   no_row low up past = go (rows_left f i m).rows refl up
@@ -66,17 +49,28 @@ module _ (f : Factors) (i : Input) (m : Machine) (a : ℕ) where
       go [] e up = refl
       go (first ∷ rest) e up = none_at a first.location (first ∷ rest) (subst (λ (n : ℕ). a < n) (sym (left_starts f i i m first rest e)) past) (omega arith, up.1)
 
+  -- the first starts at or below it where one of them does
+  pub starts_below : ((low : ℕ) × NeverFalls low (rows_left f i m).rows) → (row : Rules) → last_at a (rows_left f i m).rows ≡ Some row → m.location ≤ a
+  starts_below up row e = elim (leb_tells m.location a) [
+    | inl le ↦ le.1
+    | inr past ↦ let none = sym (no_row up.0 up.1 past.1) ∙ e in absurd cc
+  ]
+
+-- the first of these rows starts at or below an address
+abbrev pub FirstBelow : ℕ → List LocatedRow → Type 0
+FirstBelow a rows = (row : LocatedRow) (rest : List LocatedRow) → rows ≡ row ∷ rest → row.location ≤ a
+
+pub first_below : (f : Factors) (i : Input) (m : Machine) (a : ℕ) → m.location ≤ a → FirstBelow a (rows_left f i m).rows
+first_below f i m a le = λ row rest e. omega (arith, left_starts f i i m row rest e, le)
+
 -- ---- an instruction that ends a row
 
 module _ (f : Factors) (i : Input) (m : Machine) (j : Input) (m' : Machine) (moved : RanTo f i m true j m') (a : ℕ) where
   ended : rows_left f i m ≡ row_then (here (state_of m)) (rows_left f j m')
   ended = moved.rows
 
-  among : (row : Rules) → last_at a (rows_left f i m).rows ≡ Some row → last_at a (here (state_of m) ∷ (rows_left f j m').rows) ≡ Some row
-  among row e = sym (ap (λ (o : Outcome). last_at a o.rows) ended) ∙ e
-
-  pub none_left : (rows_left f i m).fault ≡ None → (rows_left f j m').fault ≡ None
-  none_left none = sym (ap (λ (o : Outcome). o.fault) ended) ∙ none
+  pub fault_left : (rows_left f i m).fault ≡ (rows_left f j m').fault
+  fault_left = ap (λ (o : Outcome). o.fault) ended
 
   pub falls_left : ((low : ℕ) × NeverFalls low (rows_left f i m).rows) → (low : ℕ) × NeverFalls low (rows_left f j m').rows
   falls_left up = let all = subst (λ (o : Outcome). NeverFalls up.0 o.rows) ended up.1 in (m.location, all.1)
@@ -85,15 +79,33 @@ module _ (f : Factors) (i : Input) (m : Machine) (j : Input) (m' : Machine) (mov
   keeps_left other all = let both = subst (λ (o : Outcome). AllSpecify other o.rows) ended all in both.1
 
   -- a's row ends behind it
-  pub stops_here : ((low : ℕ) × NeverFalls low (rows_left f i m).rows) → a < m'.location → (row : Rules) → last_at a (rows_left f i m).rows ≡ Some row → m'.states.row ≡ row
-  stops_here up past row e =
+  pub stops_here : ((low : ℕ) × NeverFalls low (rows_left f i m).rows) → a < m'.location → FirstBelow a (rows_left f i m).rows → last_at a (rows_left f i m).rows ≡ Some m'.states.row
+  stops_here up past first =
       let left = falls_left up in
-      moved.same_row refl ∙ here_last a (here (state_of m)) (rows_left f j m').rows row (no_row f j m' a left.0 left.1 past) (among row e)
+      let le = first (here (state_of m)) (rows_left f j m').rows (ap (λ (o : Outcome). o.rows) ended) in
+      ap (λ (o : Outcome). last_at a o.rows) ended ∙ here_is a (here (state_of m)) (rows_left f j m').rows le (no_row f j m' a left.0 left.1 past) ∙ ap Some (sym (moved.same_row refl))
 
   -- a's row is still to come
-  pub goes_on : (rows_left f i m).fault ≡ None → m'.location ≤ a → (row : Rules) → last_at a (rows_left f i m).rows ≡ Some row → last_at a (rows_left f j m').rows ≡ Some row
-  goes_on none le row e = later_last a (here (state_of m)) (rows_left f j m').rows row (has_row f j m' a (none_left none) le) (among row e)
+  pub goes_on : (row : Rules) → last_at a (rows_left f j m').rows ≡ Some row → last_at a (rows_left f i m).rows ≡ Some row
+  goes_on row e = ap (λ (o : Outcome). last_at a o.rows) ended ∙ ap (or_here a (here (state_of m))) e
 
 -- the last row of all
-pub ends_here : (f : Factors) (i : Input) (m : Machine) (a : ℕ) → length i.bytes ≡ 0 → (row : Rules) → last_at a (rows_left f i m).rows ≡ Some row → m.states.row ≡ row
-ends_here f i m a none row e = here_last a (here (state_of m)) [] row refl (sym (ap (λ (o : Outcome). last_at a o.rows) (rows_end f i m none)) ∙ e)
+pub ends_here : (f : Factors) (i : Input) (m : Machine) (a : ℕ) → length i.bytes ≡ 0 → FirstBelow a (rows_left f i m).rows → last_at a (rows_left f i m).rows ≡ Some m.states.row
+ends_here f i m a none first =
+    let end = rows_end f i m none in
+    ap (λ (o : Outcome). last_at a o.rows) end ∙ here_is a (here (state_of m)) [] (first (here (state_of m)) [] (ap (λ (o : Outcome). o.rows) end)) refl
+
+-- ---- where no fault is to come
+
+pub still_none : {X E : Type 0} (result : Result X E) (new old : Option Refusal) → OnOk result (new ≡ old) → old ≡ None → OnOk result (new ≡ None)
+still_none (Ok x) new old same none = same ∙ none
+still_none (Err e) new old same none = tt
+
+pub none_where_more : (result : Result Bool ReadError) (new old : Option Refusal) → OnOk result (new ≡ old) → old ≡ None → IfOk result (λ more. IsTrue more → new ≡ None)
+none_where_more (Ok more) new old same none = λ _. same ∙ none
+none_where_more (Err e) new old same none = tt
+
+pub only_memory : {X : Type 0} (result : Result X ReadError) (old : Option Refusal) → old ≡ None → IfErr result (Refuses (λ r. old ≡ Some r)) → IfErr result (λ e. e ≡ OutOfMemory)
+only_memory (Ok x) old none h = tt
+only_memory (Err OutOfMemory) old none h = refl
+only_memory (Err (Refused r)) old none h = let bad = sym h ∙ none in absurd cc

@@ -142,6 +142,11 @@ unfolding begun_rows
 begun_refused f cie fde m (Refused r) is = rw is refl
 begun_refused f cie fde m OutOfMemory is = tt
 
+pub begun_fault : (f : Factors) (cie fde : Input) (m : Machine) (e : ReadError) → Refuses (λ r. initial_row (placed f cie) m.states.row ≡ Err r) e → Refuses (λ r. (begun_rows f cie fde m).fault ≡ Some r) e
+unfolding begun_rows
+begun_fault f cie fde m (Refused r) is = rw is refl
+begun_fault f cie fde m OutOfMemory is = tt
+
 pub begun_ran : (f : Factors) (cie fde : Input) (m : Machine) (initial : Rules) (states : Held) → initial_row (placed f cie) m.states.row ≡ Ok states.row → initial ≡ states.row → states.stack ≡ []
     → rows_left f fde (record { initial = initial; states = states; location = m.location; limit = m.limit }) ≡ begun_rows f cie fde m
 unfolding begun_rows rows_left

@@ -1,7 +1,6 @@
 //! Programs that are run instruction by instruction (6.4.3).
 
-ghost use Rattle.std.specs.Prelude.{◌≡◌, ◌<◌, ℕ, None, Some, Ok, Err, length, OnOk, IfErr, IsOk, IsTrue};
-ghost use Rattle.dw_num.specs.declared.error.ReadError.TheVariants as TheError;
+ghost use Rattle.std.specs.Prelude.{◌≡◌, ◌<◌, ◌≤◌, ℕ, None, Some, Ok, Err, length, OnOk, IfErr, IsOk, IsTrue};
 ghost use Rattle.dw_num.specs.Refusals.{Refuses};
 ghost use Rattle.dw_cfa.specs.RuleAt.{last_at, NeverFalls};
 ghost use Rattle.dw_cfa.specs.Rows.{Rules};
@@ -77,23 +76,25 @@ pub(crate) fn next_row<'a>(
     Ok((machine.location, false))
 }
 
-/// Runs a program that is known to have no fault up to the end of the last row that starts at or below an address, which
-/// the machine has then. Answers whether the program goes on behind it.
+/// Runs a program up to the end of the last row that starts at or below an address, which the machine has then. Answers
+/// whether the program goes on behind it. Where it is known that the program has no fault, no expression is judged again.
 #[inline(always)]
 pub(crate) fn run_to<'a>(
     cursor: &mut Cursor<'a>,
     factors: Factors,
     machine: &mut Machine<'a>,
     address: u64,
+    known: bool,
 ) -> Result<bool, ReadError>
     requires so { RunsSo machine.old cursor.old }
-    requires known { (rows_left factors cursor.old machine.old).fault ≡ None }
+    requires known { IsTrue known → (rows_left factors cursor.old machine.old).fault ≡ None }
     requires never_falls { (low : ℕ) × NeverFalls low (rows_left factors cursor.old machine.old).rows }
+    ensures last { machine.old.location ≤ address → OnOk result (last_at address (rows_left factors cursor.old machine.old).rows ≡ Some machine.new.states.row) }
     ensures found { (row : Rules) → last_at address (rows_left factors cursor.old machine.old).rows ≡ Some row → OnOk result (machine.new.states.row ≡ row) }
     ensures so { OnOk result (RunsSo machine.new cursor.new) }
-    ensures known { OnOk result ((rows_left factors cursor.new machine.new).fault ≡ None) }
+    ensures fault { OnOk result ((rows_left factors cursor.new machine.new).fault ≡ (rows_left factors cursor.old machine.old).fault) }
     ensures keeps { (other : Rules) → AllSpecify other (rows_left factors cursor.old machine.old).rows → OnOk result (AllSpecify other (rows_left factors cursor.new machine.new).rows) }
-    ensures err { IfErr result (λ e. e ≡ TheError.OutOfMemory) }
+    ensures err { IfErr result (Refuses (λ r. (rows_left factors cursor.old machine.old).fault ≡ Some r)) }
     ensures initial { machine.new.initial ≡ machine.old.initial }
     ensures kept { machine.new.states.kept ≡ machine.old.states.kept }
 {
@@ -101,14 +102,14 @@ pub(crate) fn run_to<'a>(
     let code = Code::Truncated;
     let mut fault = Refusal { code, at: 0 };
     'instrs: while cursor.left() > 0 {
-        match turn(cursor, factors, machine, true, &mut fault) {
+        match turn(cursor, factors, machine, known, &mut fault) {
             End::On => {}
             End::Moved => {
                 if machine.location > address {
                     return Ok(true);
                 }
             }
-            End::Refused => unreachable!(),
+            End::Refused => return Err(ReadError::Refused(fault)),
             End::OutOfMemory => return Err(ReadError::OutOfMemory),
         }
     }

@@ -142,7 +142,7 @@ fn first_to<'a>(
     are_bytes(fde.rest());
     ready(alloc, leading, machine, *kept)?;
     *kept = true;
-    run_to(fde, leading.factors, machine, address)
+    run_to(fde, leading.factors, machine, address, true)
 }
 
 // The same from where a walk stands.
@@ -170,7 +170,7 @@ fn walk_to<'a>(
 {
     match progress {
         Progress::Begun => first_to(alloc, leading, fde, machine, kept, address),
-        Progress::Running => run_to(fde, leading.factors, machine, address),
+        Progress::Running => run_to(fde, leading.factors, machine, address, true),
         Progress::Finished => Ok(false),
         Progress::Failed(error) => Err(error),
     }

@@ -4,7 +4,7 @@ use Rattle.dw_cfa.specs.declared.rule.CfaRule.{CfaRule}
 use Rattle.dw_cfa.specs.declared.rule.RegRule.{RegRule}
 use Rattle.dw_cfa.specs.declared.states.Undo.{Undo}
 use Rattle.dw_cfa.specs.declared.states.Undo.TheVariants.{Remembered, Register}
-use Rattle.dw_cfa.specs.Rows.{Rules}
+use Rattle.dw_cfa.specs.Rows.{Rules, blank}
 use Rattle.dw_cfa.specs.Inner.Rows.{with_cfa, with_rule}
 
 -- the current row, the remembered ones, the last first, the registers that all began with, where they can be brought back,
@@ -60,3 +60,7 @@ pub record SameBehind (row : Rules) (changes : List Undo) (row' : Rules) (change
 abbrev pub TakenBack : Option CfaRule → Rules → List Undo → Rules → List Undo → Type 0
 TakenBack (Some cfa) row changes row' changes' = SameBehind row changes row' (Remembered cfa ∷ changes')
 TakenBack None row changes row' changes' = SameBehind row changes row' [] × (changes' ≡ [])
+
+-- nothing was run yet: the row is blank, and there is none to go back to
+abbrev pub IsFresh : Held → Type 0
+IsFresh s = (s.row ≡ blank) × (s.stack ≡ []) × (s.first ≡ None)

@@ -1,0 +1,27 @@
+use Rattle.std.proofs.Common.{◌≡◌, Some, subst, ◌∙◌}
+use Rattle.std.proofs.lemmas.Result.{err_from_is_err_and}
+use Rattle.dw_num.specs.Refusals.{Refuses}
+use Rattle.dw_cfa.specs.RuleAt.{last_at}
+use Rattle.dw_cfa.specs.Runs.{Outcome}
+use Rattle.dw_cfa.proofs.RowsFrom.{left_from}
+use Rattle.dw_cfa.proofs.RunSteps.{begun_fault, begun_ran}
+use Rattle.dw_cfa.proofs.room.run_both.Goals as goal
+
+pub returns-in_err-run_initial-clause-err : goal.returns-in_err-run_initial-clause-err
+returns-in_err-run_initial-clause-err c =
+    let p = err_from_is_err_and c.from_residual.result c.from_residual.ensures.1 in
+    rw (p.1, p.2) (begun_fault c.args.factors c.args.cie.now c.args.fde.now c.args.machine.now c.in_err-run_initial.field-0.0 c.in_err-run_initial.ensures.err)
+
+pub run_to-requires-clause-never_falls : goal.run_to-requires-clause-never_falls
+run_to-requires-clause-never_falls c = left_from c.args.factors c.args.fde.now _
+
+pub returns-in_err-run_to-clause-err : goal.returns-in_err-run_to-clause-err
+returns-in_err-run_to-clause-err c =
+    let ran = begun_ran c.args.factors c.args.cie.now c.args.fde.now c.args.machine.now c.become_copy.new.self c.run_initial.new.states c.in_ok-run_initial.ensures.ok (c.in_ok-become_copy.ensures ∙ c.row.ensures) (c.in_ok-run_initial.ensures.same.0 ∙ c.requires.fresh.1) in
+    let p = err_from_is_err_and c.from_residual-in_err-run_to.result c.from_residual-in_err-run_to.ensures.1 in
+    rw (p.1, p.2) (subst (λ (o : Outcome). Refuses (λ r. o.fault ≡ Some r) c.in_err-run_to.field-0.0) ran c.in_err-run_to.ensures.err)
+
+pub returns-clause-found : goal.returns-clause-found
+returns-clause-found c =
+    let ran = begun_ran c.args.factors c.args.cie.now c.args.fde.now c.args.machine.now c.become_copy.new.self c.run_initial.new.states c.in_ok-run_initial.ensures.ok (c.in_ok-become_copy.ensures ∙ c.row.ensures) (c.in_ok-run_initial.ensures.same.0 ∙ c.requires.fresh.1) in
+    subst (λ (o : Outcome). last_at c.args.address o.rows ≡ Some c.run_to.new.machine.states.row) ran (c.in_ok-run_to.ensures.last c.requires.start)

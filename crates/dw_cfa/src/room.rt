@@ -1,0 +1,148 @@
+//! Room in which two programs are run up to the row of an address (6.4.3).
+
+ghost use Rattle.std.specs.Prelude.{◌≡◌, ◌<◌, ◌≤◌, [], None, Some, IfErr, IsTrue, OnOk};
+ghost use Rattle.dw_num.specs.Refusals.{Refuses};
+ghost use Rattle.dw_num.specs.Target.{address_limit};
+ghost use Rattle.dw_cfa.specs.Gives.{RunsTo};
+ghost use Rattle.dw_cfa.specs.RuleAt.{last_at};
+ghost use Rattle.dw_cfa.specs.Rows.{blank};
+ghost use Rattle.dw_cfa.specs.Runs.{Outcome};
+ghost use Rattle.dw_cfa.specs.Stepping.{program_input};
+ghost use Rattle.dw_cfa.specs.Inner.Runs.{RunsSo, run_rows};
+ghost use Rattle.dw_cfa.specs.Inner.States.{IsFresh};
+ghost use Rattle.dw_cfa.specs.Inner.Stepping.{begun_rows};
+
+use crate::instr::Factors;
+use crate::machine::Machine;
+use crate::row::Row;
+use crate::running::{run_initial, run_to};
+use crate::states::States;
+use dw_num::{Cursor, Program, ReadError, Target, are_bytes};
+use std::alloc::Global;
+use std::marker::Model;
+
+// Makes the current row blank, where it is not known to be.
+#[inline(always)]
+fn clear<'a>(alloc: Global, states: &mut States<'a>, fresh: bool)
+    requires { IsTrue fresh → IsFresh states.old }
+    ensures { IsFresh states.new }
+{
+    if fresh {
+        return;
+    }
+    states.restart(Row::blank(alloc));
+}
+
+// Runs a CIE's program, and an FDE's up to the end of the last row that starts at or below an address.
+#[inline(always)]
+fn run_both<'a>(
+    cie: &mut Cursor<'a>,
+    fde: &mut Cursor<'a>,
+    factors: Factors,
+    machine: &mut Machine<'a>,
+    address: u64,
+) -> Result<(), ReadError>
+    requires so { RunsSo machine.old fde.old }
+    requires fresh { IsFresh machine.old.states }
+    requires start { machine.old.location ≤ address }
+    ensures found { OnOk result (last_at address (begun_rows factors cie.old fde.old machine.old).rows ≡ Some machine.new.states.row) }
+    ensures err { IfErr result (Refuses (λ r. (begun_rows factors cie.old fde.old machine.old).fault ≡ Some r)) }
+{
+    run_initial(cie, factors, &mut machine.states, false)?;
+    machine.initial.become_copy(machine.states.row())?;
+    let _ = run_to(fde, factors, machine, address, false)?;
+    Ok(())
+}
+
+/// Room in which programs are run up to the row of an address. No row is made at a run but the first. A contract sees the
+/// row that was run to.
+#[derive(Drop)]
+pub struct RowRoom<'a> {
+    // Nothing was run yet.
+    fresh: bool,
+    machine: Machine<'a>,
+    alloc: Global,
+}
+
+impl<'a> Model for RowRoom<'a> {
+    ghost use Rattle.std.specs.Prelude.{IsTrue};
+    ghost use Rattle.dw_cfa.specs.Rows.{Rules};
+    ghost use Rattle.dw_cfa.specs.Inner.States.{IsFresh};
+
+    ghost Value = { Rules };
+
+    ghost view = { λ r. r.machine.states.row };
+
+    ghost invariant = { λ r. IsTrue r.fresh → IsFresh r.machine.states };
+}
+
+impl<'a> RowRoom<'a> {
+    /// Room with a row in which nothing is set. Takes no memory.
+    #[inline(always)]
+    pub fn new(alloc: Global) -> RowRoom<'a>
+        ensures { result ≡ blank }
+    {
+        RowRoom {
+            fresh: true,
+            machine: Machine {
+                initial: Row::blank(alloc),
+                states: States::new(alloc, Row::blank(alloc), false),
+                location: 0,
+                limit: 0,
+            },
+            alloc,
+        }
+    }
+
+    // The same by the run that the code keeps to.
+    fn run(
+        &mut self,
+        cie_program: Program<'a>,
+        fde_program: Program<'a>,
+        begin: u64,
+        factors: Factors,
+        target: Target,
+        address: u64,
+    ) -> Result<(), ReadError>
+        requires begin { begin < address_limit target.size }
+        requires start { begin ≤ address }
+        ensures found { OnOk result (last_at address (run_rows factors (program_input cie_program.entry target) (program_input fde_program.entry target) begin).rows ≡ Some self.new) }
+        ensures err { IfErr result (Refuses (λ r. (run_rows factors (program_input cie_program.entry target) (program_input fde_program.entry target) begin).fault ≡ Some r)) }
+    {
+        clear(self.alloc, &mut self.machine.states, self.fresh);
+        self.fresh = false;
+        self.machine.location = u128::from(begin);
+        self.machine.limit = target.size.address_limit();
+        let mut cie = Cursor::new(cie_program.bytes, cie_program.at, target);
+        let mut fde = Cursor::new(fde_program.bytes, fde_program.at, target);
+        run_both(&mut cie, &mut fde, factors, &mut self.machine, address)
+    }
+
+    /// Runs two programs, from an address `begin` of the target on, up to the last row that starts at or below an address,
+    /// which `row` lends then. A refusal that comes up to there is answered, or want of memory.
+    pub fn run_to(
+        &mut self,
+        cie_program: Program<'a>,
+        fde_program: Program<'a>,
+        begin: u64,
+        factors: Factors,
+        target: Target,
+        address: u64,
+    ) -> Result<(), ReadError>
+        requires begin { begin < address_limit target.size }
+        requires start { begin ≤ address }
+        ensures found { (o : Outcome) → RunsTo factors (program_input cie_program.entry target) (program_input fde_program.entry target) begin o → OnOk result (last_at address o.rows ≡ Some self.new) }
+        ensures err { (o : Outcome) → RunsTo factors (program_input cie_program.entry target) (program_input fde_program.entry target) begin o → IfErr result (Refuses (λ r. o.fault ≡ Some r)) }
+    {
+        are_bytes(cie_program.bytes);
+        are_bytes(fde_program.bytes);
+        self.run(cie_program, fde_program, begin, factors, target, address)
+    }
+
+    /// The row that was run to.
+    pub fn row(&self) -> &Row<'a>
+        ensures { result.now ≡ self.now }
+    {
+        self.machine.states.row()
+    }
+}
