@@ -28,5 +28,5 @@ pub use heading::{Header, headers, one_first_fault, one_order};
 pub use indexing::Ranged;
 pub use laws::section_laws;
 pub use lookup::{Fde, FdeRef, Fdes};
-pub use standing::{FdeRow, LookUpError, look_up};
+pub use standing::{LookUpError, StandingFde, look_up};
 pub use table::{Table, check, one_check_fault};

@@ -1,10 +1,8 @@
 //! FDEs that are read at their places in bytes that were not checked (6.4.1).
 
-ghost use Rattle.std.specs.Prelude.{◌≡◌, ◌+◌, ◌<◌, ◌≤◌, ℕ, true, false, List, ◌∷◌, length, map, slice_index_or, Some, None, IfOk, IfErr, IfSome, IsSome, OnOk, MatchOption, MatchResult};
+ghost use Rattle.std.specs.Prelude.{◌≡◌, ◌+◌, ◌<◌, ◌≤◌, ℕ, true, false, List, length, map, slice_index_or, Some, None, IfOk, IfErr, IfSome, IsSome, OnOk, MatchOption, MatchResult};
 ghost use Rattle.dw_cfa.specs.RuleAt.{last_at};
-ghost use Rattle.dw_cfa.specs.Runs.{finished};
 ghost use Rattle.dw_cfa.specs.Gives.{RunsTo};
-ghost use Rattle.dw_cfa.specs.declared.running.LocatedRow.{LocatedRow as TheRow};
 ghost use Rattle.dw_section.specs.Cut.{Piece};
 ghost use Rattle.dw_section.specs.declared.cutting.Kind.TheVariants as kind;
 ghost use Rattle.dw_section.specs.declared.fields.FdeFields.{FdeFields};
@@ -22,22 +20,19 @@ ghost use Rattle.dw_section.specs.Accepted.{RulesHold};
 ghost use Rattle.dw_section.specs.Inner.Table.{IsTable};
 ghost use Rattle.dw_section.specs.declared.lookup.Fde.{Fde as TheFde};
 ghost use Rattle.dw_section.specs.declared.standing.LookUpError.TheVariants as LookUpError;
-ghost use Rattle.dw_cfa.specs.Rows.{blank};
-ghost use Rattle.dw_cfa.specs.Stepping.{stepping};
 ghost use Rattle.dw_section.specs.Overlap.{Ascends, AreApart, Range};
 ghost use Rattle.std.specs.Bool.{MatchBool};
 ghost use Rattle.dw_section.specs.Inner.Pieces.{piece_in};
 ghost use Rattle.dw_section.specs.Standing.{RulesOf, StandsIn};
-ghost use Rattle.dw_section.specs.Inner.Standing.{AreJoined, FoundStands, RowsTo, StandsAt, is_fde, of_steps};
+ghost use Rattle.dw_section.specs.Inner.Standing.{AreJoined, FoundStands, StandsAt, is_fde, of_steps};
 
 use crate::cutting::{Kind, MOST, Part, Placed, kind_in, next_part, width_of};
 use crate::heading::{Header, cie_header, fde_header};
 use crate::indexing::Ranged;
 use crate::lookup::Fde;
 use crate::rereading::FoundFde;
-use dw_cfa::{Factors, Row, RowSteps};
+use dw_cfa::{Factors, RowRoom};
 use dw_num::{Code, Cursor, ReadError, Refusal, Target, are_bytes};
-use std::alloc::Global;
 use std::marker::Model;
 
 // The entry that stands at a place, or none, or what is wrong there.
@@ -171,36 +166,6 @@ fn standing<'a>(bytes: &'a [u8], at: u64, target: Target) -> Result<Option<Found
     }
 }
 
-// Whether another row starts at or below an address.
-fn goes_on(steps: &RowSteps<'_>, address: u64) -> bool
-    ensures next { (row : TheRow) (rows : List TheRow) → steps.now.outcome.rows ≡ row ∷ rows → MatchBool result (row.location ≤ address) (address < row.location) }
-    ensures some { result ≡ true → steps.now.outcome ≡ finished → ⊥ }
-{
-    match steps.next_start() {
-        Some(next) => next <= u128::from(address),
-        None => false,
-    }
-}
-
-// Goes to the last row that starts at or below an address, where one does.
-fn go_to(steps: &mut RowSteps<'_>, address: u64) -> Result<(), ReadError>
-    requires no_error { steps.old.error ≡ None }
-    requires some { RowsTo address steps.old.outcome }
-    ensures ok { OnOk result (last_at address steps.old.outcome.rows ≡ Some steps.new.current) }
-    ensures err { IfErr result (Refuses (λ r. steps.old.outcome.fault ≡ Some r)) }
-{
-    'rows: loop {
-        match steps.advance() {
-            Ok(Some(_)) => {}
-            Ok(None) => return Ok(()),
-            Err(error) => return Err(error),
-        }
-        if !goes_on(steps, address) {
-            return Ok(());
-        }
-    }
-}
-
 // How many entries of an index begin at or below an address, where begins ascend.
 fn begun(index: &[Ranged], address: u64) -> usize
     ensures bound { result ≤ length index.now }
@@ -265,46 +230,40 @@ impl From<ReadError> for LookUpError {
     }
 }
 
-/// An FDE that stands in bytes, and the rules at an address that it covers.
+/// An FDE that stands in bytes. A contract sees the FDE.
 #[derive(Drop)]
-pub struct FdeRow<'a> {
-    fde: FoundFde<'a>,
-    steps: RowSteps<'a>,
+pub struct StandingFde {
+    begin: u64,
+    range: u64,
+    return_register: u16,
 }
 
-impl<'a> Model for FdeRow<'a> {
-    ghost use Rattle.dw_section.specs.Standing.{Ruled};
-    ghost use Rattle.dw_section.specs.Inner.Lookup.{fde_of};
+impl Model for StandingFde {
+    ghost use Rattle.std.specs.Prelude.{◌+◌};
+    ghost use Rattle.dw_section.specs.declared.lookup.Fde.{Fde as TheFde};
 
-    ghost Value = { Ruled };
+    ghost Value = { TheFde };
 
-    ghost view = { λ r. record { fde = fde_of r.fde; row = r.steps.current } };
+    ghost view = { λ f. record { begin = f.begin; end = f.begin + f.range; return_register = f.return_register } };
 }
 
-impl<'a> FdeRow<'a> {
-    /// The FDE.
+impl StandingFde {
+    /// Its first address, the one past its last, and the return register.
     pub fn fde(&self) -> Fde
-        ensures { result ≡ self.now.fde }
+        ensures { result ≡ self.now }
     {
         Fde {
-            begin: self.fde.begin,
-            end: u128::from(self.fde.begin) + u128::from(self.fde.range),
-            return_register: self.fde.return_register,
+            begin: self.begin,
+            end: u128::from(self.begin) + u128::from(self.range),
+            return_register: self.return_register,
         }
     }
 
     /// How many addresses it covers.
     pub fn range(&self) -> u64
-        ensures { self.now.fde.end ≡ self.now.fde.begin + result }
+        ensures { self.now.end ≡ self.now.begin + result }
     {
-        self.fde.range
-    }
-
-    /// The rules.
-    pub fn row(&self) -> &Row<'a>
-        ensures { result.now ≡ self.now.row }
-    {
-        self.steps.row()
+        self.range
     }
 }
 
@@ -315,29 +274,38 @@ fn reaches(fde: &FoundFde<'_>, address: u64) -> bool
     fde.begin <= address && address - fde.begin < fde.range
 }
 
-// The rows of an FDE that stands, whose programs are still to run.
-fn steps_of<'a>(alloc: Global, fde: &FoundFde<'a>, target: Target) -> RowSteps<'a>
-    requires { fde.now.begin < address_limit target.size }
-    ensures steps { result ≡ stepping blank (rows_of target fde.now) }
-    ensures runs { RunsTo fde.now.factors (input_of target (span_of fde.now.cie_program)) (input_of target (span_of fde.now.program)) fde.now.begin result.outcome }
+// Runs the programs of an FDE that stands up to the row of an address.
+#[inline(always)]
+fn run_fde<'a>(
+    fde: &FoundFde<'a>,
+    target: Target,
+    address: u64,
+    room: &mut RowRoom<'a>,
+) -> Result<(), ReadError>
+    requires in_space { fde.now.begin < address_limit target.size }
+    requires begin { fde.now.begin ≤ address }
+    ensures runs { RunsTo fde.now.factors (input_of target (span_of fde.now.cie_program)) (input_of target (span_of fde.now.program)) fde.now.begin (rows_of target fde.now) }
+    ensures found { OnOk result (last_at address (rows_of target fde.now).rows ≡ Some room.new) }
+    ensures err { IfErr result (Refuses (λ r. (rows_of target fde.now).fault ≡ Some r)) }
 {
     let (cie, program) = (fde.cie_program, fde.program);
     are_bytes(cie.bytes);
     are_bytes(program.bytes);
-    RowSteps::new(alloc, cie, program, fde.begin, fde.factors, target)
+    room.run_to(cie, program, fde.begin, fde.factors, target, address)
 }
 
 // The rules at an address by the FDE that stands at a place.
+#[inline(always)]
 fn row_of<'a>(
-    alloc: Global,
     bytes: &'a [u8],
     target: Target,
     at: u64,
     address: u64,
-) -> Result<FdeRow<'a>, LookUpError>
+    room: &mut RowRoom<'a>,
+) -> Result<StandingFde, LookUpError>
     requires { length bytes.now ≤ 2147483647 }
-    ensures found { IfOk result (RulesOf target bytes.now at address) }
-    ensures own { (hs : List Head) (a : Range) (register : ℕ) → RulesHold target bytes.now hs → Returns hs a register → a.at ≡ at → a.begin ≤ address → address < a.begin + a.range → MatchResult result (λ r. (r.fde ≡ fde_in (record { begin = a.begin; range = a.range; at = a.at; return_register = register })) × RulesAt target bytes.now address r.row) (λ e. e ≡ LookUpError.OutOfMemory) }
+    ensures found { IfOk result (λ fde. RulesOf target bytes.now at address (record { fde = fde; row = room.new })) }
+    ensures own { (hs : List Head) (a : Range) (register : ℕ) → RulesHold target bytes.now hs → Returns hs a register → a.at ≡ at → a.begin ≤ address → address < a.begin + a.range → MatchResult result (λ fde. (fde ≡ fde_in (record { begin = a.begin; range = a.range; at = a.at; return_register = register })) × RulesAt target bytes.now address room.new) (λ e. e ≡ LookUpError.OutOfMemory) }
 {
     are_bytes(bytes);
     let Some(fde) = standing(bytes, at, target)? else {
@@ -346,26 +314,31 @@ fn row_of<'a>(
     if !reaches(&fde, address) {
         return Err(LookUpError::BadIndex);
     }
-    let mut steps = steps_of(alloc, &fde, target);
-    go_to(&mut steps, address)?;
-    Ok(FdeRow { fde, steps })
+    run_fde(&fde, target, address, room)?;
+    Ok(StandingFde {
+        begin: fde.begin,
+        range: fde.range,
+        return_register: fde.return_register,
+    })
 }
 
-/// The rules at an address by an index of a section's nonempty FDEs, ascending by begin, or none where the index has no
-/// entry that covers it. The entry is found by halving; the FDE at its place, and the CIE that this names, are read and
-/// judged anew, up to the row. So bytes and index need not belong together: where they do not, the answer is that of the
-/// FDE that stands at the place, or an error. Takes memory for registers above 31, expressions and remembered rows alone.
+/// The FDE that covers an address by an index of a section's nonempty FDEs, ascending by begin, whose rules there `room` lends
+/// then; or none where the index has no entry that covers it. The entry is found by halving; the FDE at its place, and the CIE
+/// that this names, are read and judged anew, up to the row. So bytes and index need not belong together: where they do not,
+/// the answer is that of the FDE that stands at the place, or an error. Takes memory for registers above 31, expressions and
+/// remembered rows alone.
+#[inline(always)]
 pub fn look_up<'a>(
-    alloc: Global,
     bytes: &'a [u8],
     target: Target,
     index: &[Ranged],
     address: u64,
-) -> Result<Option<FdeRow<'a>>, LookUpError>
+    room: &mut RowRoom<'a>,
+) -> Result<Option<StandingFde>, LookUpError>
     // By the index of an accepted section it is what the section says.
-    ensures own { IsTable target bytes.now index.now → MatchResult result (λ o. MatchOption o ((fs : List TheFde) → AreFdes target bytes.now fs → NoneCovers address fs) (λ r. RulesAt target bytes.now address r.row × ((fs : List TheFde) → AreFdes target bytes.now fs → IsListed r.fde fs))) (λ e. e ≡ LookUpError.OutOfMemory) }
+    ensures own { IsTable target bytes.now index.now → MatchResult result (λ o. MatchOption o ((fs : List TheFde) → AreFdes target bytes.now fs → NoneCovers address fs) (λ fde. RulesAt target bytes.now address room.new × ((fs : List TheFde) → AreFdes target bytes.now fs → IsListed fde fs))) (λ e. e ≡ LookUpError.OutOfMemory) }
     // By any other it is what an FDE says that stands in the bytes.
-    ensures found { IfOk result (λ o. IfSome o (λ r. (at : ℕ) × RulesOf target bytes.now at address r)) }
+    ensures found { IfOk result (λ o. IfSome o (λ fde. (at : ℕ) × RulesOf target bytes.now at address (record { fde = fde; row = room.new }))) }
 {
     if bytes.len() > MOST {
         return Err(LookUpError::Refused(Refusal {
@@ -376,6 +349,6 @@ pub fn look_up<'a>(
     let Some(entry) = entry_at(index, address) else {
         return Ok(None);
     };
-    let found = row_of(alloc, bytes, target, u64::from(entry.at), address)?;
+    let found = row_of(bytes, target, u64::from(entry.at), address, room)?;
     Ok(Some(found))
 }

@@ -1,12 +1,9 @@
 -- How the code finds an FDE that stands in bytes.
-use Rattle.std.specs.Prelude.{◌≡◌, ℕ, ◌≤◌, List, ◌∷◌, Bool, true, false}
+use Rattle.std.specs.Prelude.{◌≡◌, ℕ, List, Bool, true, false}
 use Rattle.dw_num.specs.declared.error.ReadError.{ReadError}
 use Rattle.dw_num.specs.declared.error.ReadError.TheVariants as read_error
 use Rattle.dw_num.specs.declared.target.Form.{Form}
 use Rattle.dw_num.specs.declared.target.Target.{Target}
-use Rattle.dw_cfa.specs.RuleAt.{NeverFalls}
-use Rattle.dw_cfa.specs.Runs.{Outcome, finished}
-use Rattle.dw_cfa.specs.declared.running.LocatedRow.{LocatedRow}
 use Rattle.dw_section.specs.declared.rereading.FoundFde.{FoundFde}
 use Rattle.dw_section.specs.declared.standing.LookUpError.{LookUpError}
 use Rattle.dw_section.specs.declared.standing.LookUpError.TheVariants.{Refused, OutOfMemory}
@@ -30,13 +27,6 @@ is_fde (fde f) = true
 abbrev pub AreJoined : Head → Head → FoundFde → Type 0
 AreJoined own named e =
     (form : Form) × (cie_form : Form) × (cie_at : ℕ) × (place : ℕ) × (own ≡ fde (found_head form cie_at e)) × (named ≡ cie (found_cie cie_form place e.return_register e))
-
--- rows still to come of programs, of which the first starts at or below an address
-pub record RowsTo (a : ℕ) (o : Outcome) : Type 0 where
-  pub low : ℕ
-  pub falls : NeverFalls low o.rows
-  pub first : (row : LocatedRow) (rest : List LocatedRow) → o.rows ≡ row ∷ rest → row.location ≤ a
-  pub some : o ≡ finished → ⊥
 
 abbrev pub of_steps : ReadError → LookUpError
 of_steps (read_error.Refused r) = Refused r

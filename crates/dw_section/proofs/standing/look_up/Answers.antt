@@ -37,4 +37,4 @@ returns-clause-own c = λ t.
     let covers = c.in-Some.ensures.covers in
     let own = c.in_ok-found.ensures.own t.indexed.headers (range_in entry) entry.return_register t.indexed.hold ranged (sym c.from.ensures) covers.0 covers.1 in
     let listed = subst (λ (f : Fde). IsListed f (map fde_in list)) (sym own.0) (entry_listed list entry i.0 i.1 i.2) in
-    (own.1, λ fs are. subst (IsListed c.in_ok-found.found.fde) (one_fdes target s (map fde_in list) fs (are_fdes target s list t) are) listed)
+    (own.1, λ fs are. subst (IsListed c.in_ok-found.found) (one_fdes target s (map fde_in list) fs (are_fdes target s list t) are) listed)

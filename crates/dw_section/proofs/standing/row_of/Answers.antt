@@ -1,17 +1,14 @@
-use Rattle.std.proofs.Common.{◌≡◌, refl, sym, ap, subst, ◌∙◌, arith, Some}
+use Rattle.std.proofs.Common.{refl, sym, subst, ◌∙◌, arith}
 use Rattle.std.proofs.lemmas.Result.{err_from_is_err_and}
-use Rattle.dw_num.specs.Span.{span_of}
 use Rattle.dw_cfa.specs.RuleAt.{last_at}
-use Rattle.dw_cfa.specs.Stepping.{Stepping}
 use Rattle.dw_section.specs.Inner.Index.{found_cie, found_head}
 use Rattle.dw_section.specs.Inner.Lookup.{rows_of}
 use Rattle.dw_section.specs.Meaning.{RulesAt}
-use Rattle.dw_section.specs.Programs.{input_of}
-use Rattle.dw_section.specs.Inner.Standing.{RowsTo, StandsAt}
+use Rattle.dw_section.specs.Inner.Standing.{StandsAt}
 use Rattle.dw_section.proofs.Lent.FdeLookup.{same_fde}
 use Rattle.dw_section.proofs.RowLookup.{runs_so}
 use Rattle.dw_section.proofs.StandLaws.{listed_stands, stands_in_space, stands_listed}
-use Rattle.dw_section.proofs.StandRows.{no_refusal, one_row, run_to}
+use Rattle.dw_section.proofs.StandRows.{no_refusal, one_row}
 use Rattle.dw_section.proofs.standing.row_of.Goals as goal
 
 pub returns-in_err-fde-clause-own : goal.returns-in_err-fde-clause-own
@@ -29,27 +26,20 @@ returns-then-not-reaches-clause-own c = λ hs a register hold returns at le lt.
     let same = listed_stands c.args.target c.args.bytes.now hs a register c.in-Some.fde hold.0.0.0 returns found.1 (found.0 ∙ sym at) in
     absurd (c.if-not-reaches.ensures (omega (arith, same.begin, le), omega (arith, same.begin, same.range, lt)))
 
-pub go_to-requires-clause-some : goal.go_to-requires-clause-some
-go_to-requires-clause-some c =
-    let e = c.in-Some.fde in
-    let target = c.args.target in
-    let runs = run_to e.factors (input_of target (span_of e.cie_program)) (input_of target (span_of e.program)) e.begin c.args.address c.if-not-reaches.ensures.0 in
-    subst (λ (s : Stepping). RowsTo c.args.address s.outcome) (sym c.steps_of-steps.ensures.steps) runs
-
-pub returns-in_err-go_to-clause-own : goal.returns-in_err-go_to-clause-own
-returns-in_err-go_to-clause-own c = λ hs a register hold returns at le lt.
-    let found = rw c.in-Some.is at c.in_ok-fde.ensures.found in
-    let same = listed_stands c.args.target c.args.bytes.now hs a register c.in-Some.fde hold.0.0.0 returns found.1 (found.0 ∙ sym at) in
-    let runs = runs_so c.args.target c.args.bytes.now c.are_bytes.ensures hs hold c.in-Some.fde same.found in
-    let e = err_from_is_err_and c.from_residual-in_err-go_to.result c.from_residual-in_err-go_to.ensures.1 in
-    let none = no_refusal c.in_err-go_to.field-0.0 _ (rows_of c.args.target c.in-Some.fde) (ap (λ (s : Stepping). s.outcome) c.steps_of-steps.ensures.steps) c.in_err-go_to.ensures.err runs.no_fault in
-    rw (e.1, e.2, none) refl
-
-pub steps_of-steps-requires : goal.steps_of-steps-requires
-steps_of-steps-requires c =
+pub run_fde-requires-clause-in_space : goal.run_fde-requires-clause-in_space
+run_fde-requires-clause-in_space c =
     let found = rw c.in-Some.is at c.in_ok-fde.ensures.found in
     let covers = c.if-not-reaches.ensures in
     omega (arith, covers.0, covers.1, stands_in_space c.args.target c.args.bytes.now c.in-Some.fde found.1)
+
+pub returns-in_err-run_fde-clause-own : goal.returns-in_err-run_fde-clause-own
+returns-in_err-run_fde-clause-own c = λ hs a register hold returns at le lt.
+    let found = rw c.in-Some.is at c.in_ok-fde.ensures.found in
+    let same = listed_stands c.args.target c.args.bytes.now hs a register c.in-Some.fde hold.0.0.0 returns found.1 (found.0 ∙ sym at) in
+    let runs = runs_so c.args.target c.args.bytes.now c.are_bytes.ensures hs hold c.in-Some.fde same.found in
+    let e = err_from_is_err_and c.from_residual-in_err-run_fde.result c.from_residual-in_err-run_fde.ensures.1 in
+    let none = no_refusal c.in_err-run_fde.field-0.0 (rows_of c.args.target c.in-Some.fde) c.in_err-run_fde.ensures.err runs.no_fault in
+    rw (e.1, e.2, none) refl
 
 pub returns-clause-found : goal.returns-clause-found
 returns-clause-found c =
@@ -65,9 +55,9 @@ returns-clause-found c =
       end = refl;
       return_register = refl;
       covers = c.if-not-reaches.ensures;
-      outcome = c.steps_of-steps.result.outcome;
-      runs = c.steps_of-steps.ensures.runs;
-      row = c.in_ok-go_to.ensures.ok;
+      outcome = rows_of c.args.target e;
+      runs = c.run_fde.ensures.runs;
+      row = c.in_ok-run_fde.ensures.found;
     }
 
 pub returns-clause-own : goal.returns-clause-own
@@ -77,6 +67,5 @@ returns-clause-own c = λ hs a register hold returns at le lt.
     let same = listed_stands c.args.target c.args.bytes.now hs a register e hold.0.0.0 returns found.1 (found.0 ∙ sym at) in
     let runs = runs_so c.args.target c.args.bytes.now c.are_bytes.ensures hs hold e same.found in
     let row = runs.rules c.args.address c.if-not-reaches.ensures.0 c.if-not-reaches.ensures.1 in
-    let last = subst (λ (s : Stepping). last_at c.args.address s.outcome.rows ≡ Some c.go_to.new.steps.current) c.steps_of-steps.ensures.steps c.in_ok-go_to.ensures.ok in
-    let one = one_row (last_at c.args.address (rows_of c.args.target e).rows) row.0 c.go_to.new.steps.current row.1 last in
+    let one = one_row (last_at c.args.address (rows_of c.args.target e).rows) row.0 c.run_fde.new.room row.1 c.in_ok-run_fde.ensures.found in
     (same_fde e.begin e.range e.return_register a.begin a.range register same.begin same.range same.register_is, subst (RulesAt c.args.target c.args.bytes.now c.args.address) one row.2)
