@@ -314,6 +314,7 @@ impl<'a> Entries<'a> {
     }
 
     // The first register from a place on that has a slot, is in a mask, and whose rule differs.
+    #[inline(always)]
     fn next_near_difference(&self, others: &Entries<'_>, mask: u32, from: u32) -> Option<u16>
         requires so { EntriesSo self.now }
         requires others { EntriesSo others.now }
@@ -678,6 +679,14 @@ impl<'a> Row<'a> {
         self.cfa.copied()
     }
 
+    /// The CFA's rule, lent.
+    #[inline(always)]
+    pub fn cfa_rule(&self) -> &CfaRule<'a>
+        ensures { result.now ≡ self.now.cfa }
+    {
+        &self.cfa
+    }
+
     /// The rule of a register, Unspecified where no instruction has set it.
     #[inline(always)]
     pub fn rule(&self, register: u16) -> RegRule<'a>
@@ -704,6 +713,7 @@ impl<'a> Row<'a> {
     }
 
     /// The least register from a place on that is in a mask, and to which another row gives another rule.
+    #[inline(always)]
     pub(crate) fn next_near_difference(&self, other: &Row<'_>, mask: u32, from: u32) -> Option<u16>
         requires { SameUnset mask self.now.registers other.now.registers }
         ensures { FirstBelow 32 from self.now.registers other.now.registers result }
@@ -731,6 +741,14 @@ impl<'a> Row<'a> {
         ensures { self.new ≡ with_cfa cfa.entry self.old }
     {
         self.cfa = cfa;
+    }
+
+    /// Takes the CFA's rule of another row.
+    #[inline(always)]
+    pub(crate) fn copy_cfa(&mut self, other: &Row<'a>)
+        ensures { self.new ≡ with_cfa other.now.cfa self.old }
+    {
+        self.cfa = other.cfa.copied();
     }
 
     // Gives a register a rule, or answers want of memory.

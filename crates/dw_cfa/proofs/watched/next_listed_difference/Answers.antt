@@ -9,7 +9,7 @@ use Rattle.dw_cfa.specs.Inner.Marks.{SameUnlisted}
 use Rattle.dw_cfa.proofs.Lent.RowLists.{Entry}
 use Rattle.dw_cfa.proofs.Differing.{FromOn, range_on}
 use Rattle.dw_cfa.proofs.Marked.{from_ascends, from_unlisted, differs_here, same_here}
-use Rattle.dw_cfa.proofs.watched.next_far_difference.Goals as goal
+use Rattle.dw_cfa.proofs.watched.next_listed_difference.Goals as goal
 
 pub marks-init : goal.marks-init
 marks-init c =
