@@ -95,7 +95,9 @@ fn ready<'a>(
     run_cie(alloc, leading, machine)
 }
 
-// Brings a CIE's row about, and runs an FDE's program up to the end of its first row.
+// Brings a CIE's row about, and runs an FDE's program up to the end of its first row. Out of line: room for its errors is
+// cleared at each row else.
+#[inline(never)]
 fn first_row<'a>(
     alloc: Global,
     leading: Leading<'a>,

@@ -22,8 +22,8 @@ use std::alloc::{AllocError, Global};
 fn push_nops(out: &mut Vec<u8>, size: Size) -> Result<(), AllocError>
     ensures { OnOk result (out.new.items ≡ out.old.items ++ replicate (missing size (4 + length out.old.items)) 0) }
 {
-    let width = u128::from(size.byte_count());
-    let mut left = (width - (4 + out.len() as u128) % width) % width;
+    let width = u64::from(size.byte_count());
+    let mut left = (width - (4 + out.len() as u64) % width) % width;
     'nops: while left > 0 {
         out.push(0)?;
         left -= 1;
