@@ -7,8 +7,9 @@ ghost use Rattle.dw_cfa.specs.Rows.{AreSpecified, blank, rule_in};
 ghost use Rattle.dw_cfa.specs.Inner.Rows.{with_cfa, with_rule};
 ghost use Rattle.dw_cfa.specs.Inner.Marks.{CopiedUpTo, SameUnlisted, SameUnmarked, watching};
 
+use crate::behind::{place_behind, start_behind};
 use crate::marks::Marks;
-use crate::row::{NEAR, Row, place_behind, start_behind};
+use crate::row::{NEAR, Row};
 use crate::rule::{CfaRule, RegRule};
 use std::alloc::{AllocError, Global};
 use std::collections::BTreeMap;
@@ -101,7 +102,7 @@ fn next_listed_difference(
 {
     let mut marks = marked.range((start_behind(behind), Bound::Unbounded));
     'marks: while let Some((register, _)) = marks.next() {
-        if !kept.rule(*register).is_same(&row.rule(*register)) {
+        if !kept.has_same_rule(row, *register) {
             return Some(*register);
         }
     }
