@@ -2,6 +2,7 @@
 #![tactic(auto)]
 
 mod advance;
+mod behind;
 mod cfa;
 mod collecting;
 mod following;

@@ -9,10 +9,11 @@ ghost use Rattle.dw_cfa.specs.Inner.Rows.{put, with_cfa, with_rule};
 ghost use Rattle.dw_cfa.specs.Narrowing.{is_agreed, is_kept, agreed, kept, same_rule};
 ghost use Rattle.dw_cfa.specs.Inner.Entries.{CopiedBelow, entries_of, slot_rule, EntriesSo, IsSlotOf, FindsNear, Covers, LeavesAt, LeavesBelow};
 ghost use Rattle.dw_cfa.specs.Differing.{FirstDifference, place_behind};
-ghost use Rattle.dw_cfa.specs.Inner.Differing.{FirstBelow, SameUnset, start_behind};
+ghost use Rattle.dw_cfa.specs.Inner.Differing.{FirstBelow, SameUnset};
 
+use crate::behind::{place_behind, start_behind};
 use crate::rule::{CfaRule, RegRule};
-use crate::tree::{rule_in_tree, set_in_tree};
+use crate::tree::{first_difference, rule_in_tree, set_in_tree};
 use std::alloc::{AllocError, Global};
 use std::collections::{BTreeMap, btree_map};
 use std::marker::Model;
@@ -196,58 +197,6 @@ fn same_slots(
     }
 }
 
-/// The least register behind another one, or the first of all.
-#[inline(always)]
-pub(crate) fn place_behind(behind: Option<u16>) -> u32
-    ensures { result ≡ place_behind behind }
-{
-    match behind {
-        Some(register) => u32::from(register) + 1,
-        None => 0,
-    }
-}
-
-/// The start of the part of a tree behind a register, or of all of it.
-pub(crate) fn start_behind(behind: Option<u16>) -> Bound<u16>
-    ensures { result ≡ start_behind behind }
-{
-    match behind {
-        Some(register) => Bound::Excluded(register),
-        None => Bound::Unbounded,
-    }
-}
-
-// The first register whose rule differs between two parts of trees.
-fn first_difference(
-    rules: btree_map::Range<'_, u16, RegRule<'_>>,
-    others: btree_map::Range<'_, u16, RegRule<'_>>,
-) -> Option<u16>
-    requires rules { AreSpecified 0 rules }
-    requires others { AreSpecified 0 others }
-    ensures { FirstDifference 0 rules.entry others.entry result }
-{
-    let mut rules = rules;
-    let mut others = others;
-    'rules: while let Some((register, rule)) = rules.next() {
-        let Some((other_register, other)) = others.next() else {
-            return Some(*register);
-        };
-        if *register < *other_register {
-            return Some(*register);
-        }
-        if *other_register < *register {
-            return Some(*other_register);
-        }
-        if !rule.is_same(other) {
-            return Some(*register);
-        }
-    }
-    let Some((register, _)) = others.next() else {
-        return None;
-    };
-    Some(*register)
-}
-
 impl<'a> Entries<'a> {
     #[inline(always)]
     fn rule(&self, register: u16) -> RegRule<'a>
@@ -262,6 +211,27 @@ impl<'a> Entries<'a> {
             );
         }
         rule_in_tree(&self.far, register)
+    }
+
+    // Whether others give a register the same rule.
+    #[inline(always)]
+    fn has_same(&self, others: &Entries<'_>, register: u16) -> bool
+        requires so { EntriesSo self.now }
+        requires others { EntriesSo others.now }
+        ensures same { IsTrue result ↔ (rule_in (entries_of self.now) register ≡ rule_in (entries_of others.now) register) }
+        ensures test { result ≡ same_rule (rule_in (entries_of self.now) register) (rule_in (entries_of others.now) register) }
+    {
+        if register >= NEAR {
+            return self.rule(register).is_same(&others.rule(register));
+        }
+        let at = usize::from(register);
+        same_slots(
+            self.near[at],
+            others.near[at],
+            &self.expressions,
+            &others.expressions,
+            register,
+        )
     }
 
     fn all(&self) -> Specified<'_, 'a>
@@ -314,6 +284,7 @@ impl<'a> Entries<'a> {
     }
 
     // The first register from a place on that has a slot, is in a mask, and whose rule differs.
+    #[inline(always)]
     fn next_near_difference(&self, others: &Entries<'_>, mask: u32, from: u32) -> Option<u16>
         requires so { EntriesSo self.now }
         requires others { EntriesSo others.now }
@@ -475,7 +446,7 @@ impl<'a> Entries<'a> {
         ensures rules { LeavesAt (is_agreed (entries_of others.now)) register (entries_of self.old) (entries_of self.new) }
         ensures so { EntriesSo self.new }
     {
-        if !self.rule(register).is_same(&others.rule(register)) {
+        if !self.has_same(others, register) {
             self.drop_near(register);
         }
     }
@@ -678,12 +649,29 @@ impl<'a> Row<'a> {
         self.cfa.copied()
     }
 
+    /// The CFA's rule, lent.
+    #[inline(always)]
+    pub fn cfa_rule(&self) -> &CfaRule<'a>
+        ensures { result.now ≡ self.now.cfa }
+    {
+        &self.cfa
+    }
+
     /// The rule of a register, Unspecified where no instruction has set it.
     #[inline(always)]
     pub fn rule(&self, register: u16) -> RegRule<'a>
         ensures { result ≡ rule self.now register }
     {
         self.entries.rule(register)
+    }
+
+    /// Whether another row gives a register the same rule. Expressions are compared by their operations.
+    #[inline(always)]
+    pub fn has_same_rule(&self, other: &Row<'_>, register: u16) -> bool
+        ensures same { IsTrue result ↔ (rule self.now register ≡ rule other.now register) }
+        ensures test { result ≡ same_rule (rule self.now register) (rule other.now register) }
+    {
+        self.entries.has_same(&other.entries, register)
     }
 
     /// Whether both rows have the same rule in every column. Expressions are compared by their operations.
@@ -704,6 +692,7 @@ impl<'a> Row<'a> {
     }
 
     /// The least register from a place on that is in a mask, and to which another row gives another rule.
+    #[inline(always)]
     pub(crate) fn next_near_difference(&self, other: &Row<'_>, mask: u32, from: u32) -> Option<u16>
         requires { SameUnset mask self.now.registers other.now.registers }
         ensures { FirstBelow 32 from self.now.registers other.now.registers result }
@@ -731,6 +720,14 @@ impl<'a> Row<'a> {
         ensures { self.new ≡ with_cfa cfa.entry self.old }
     {
         self.cfa = cfa;
+    }
+
+    /// Takes the CFA's rule of another row.
+    #[inline(always)]
+    pub(crate) fn copy_cfa(&mut self, other: &Row<'a>)
+        ensures { self.new ≡ with_cfa other.now.cfa self.old }
+    {
+        self.cfa = other.cfa.copied();
     }
 
     // Gives a register a rule, or answers want of memory.

@@ -152,6 +152,7 @@ impl<'a> States<'a> {
     }
 
     /// Keeps the current row, or answers want of memory. What is kept is some row then.
+    #[inline(always)]
     pub(crate) fn keep(&mut self) -> Result<(), AllocError>
         ensures ok { OnOk result (self.new.kept ≡ self.old.row) }
         ensures same { self.new ≡ record { row = self.old.row; stack = self.old.stack; first = self.old.first; kept = self.new.kept } }
@@ -160,6 +161,7 @@ impl<'a> States<'a> {
     }
 
     /// Whether the current row is the one that was kept.
+    #[inline(always)]
     pub(crate) fn is_kept(&self) -> bool
         ensures { IsTrue result ↔ (self.now.kept ≡ self.now.row) }
     {
@@ -168,6 +170,7 @@ impl<'a> States<'a> {
 
     /// The least register to which the current row gives another rule than the kept one, of those behind a given one where
     /// there is such; or none.
+    #[inline(always)]
     pub(crate) fn next_difference(&self, behind: Option<u16>) -> Option<u16>
         ensures first { FirstDifference (place_behind behind) self.now.kept.registers self.now.row.registers result }
         ensures ascending { AreSpecified 0 self.now.kept.registers }

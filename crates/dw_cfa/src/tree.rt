@@ -1,12 +1,13 @@
 //! Rules of registers in a tree, ascending.
 
 ghost use Rattle.std.specs.Prelude.{◌≡◌, OnOk, OnErr};
+ghost use Rattle.dw_cfa.specs.Differing.{FirstDifference};
 ghost use Rattle.dw_cfa.specs.Rows.{AreSpecified, rule_in};
 ghost use Rattle.dw_cfa.specs.Inner.Rows.{put};
 
 use crate::rule::RegRule;
 use std::alloc::AllocError;
-use std::collections::BTreeMap;
+use std::collections::{BTreeMap, btree_map};
 
 /// Gives a register a rule in a tree. Unspecified takes it out.
 pub(crate) fn set_in_tree<'a>(
@@ -34,4 +35,35 @@ pub(crate) fn rule_in_tree<'a>(entries: &BTreeMap<u16, RegRule<'a>>, register: u
         Some(rule) => rule.copied(),
         None => RegRule::Unspecified,
     }
+}
+
+/// The first register whose rule differs between two parts of trees.
+pub(crate) fn first_difference(
+    rules: btree_map::Range<'_, u16, RegRule<'_>>,
+    others: btree_map::Range<'_, u16, RegRule<'_>>,
+) -> Option<u16>
+    requires rules { AreSpecified 0 rules }
+    requires others { AreSpecified 0 others }
+    ensures { FirstDifference 0 rules.entry others.entry result }
+{
+    let mut rules = rules;
+    let mut others = others;
+    'rules: while let Some((register, rule)) = rules.next() {
+        let Some((other_register, other)) = others.next() else {
+            return Some(*register);
+        };
+        if *register < *other_register {
+            return Some(*register);
+        }
+        if *other_register < *register {
+            return Some(*other_register);
+        }
+        if !rule.is_same(other) {
+            return Some(*register);
+        }
+    }
+    let Some((register, _)) = others.next() else {
+        return None;
+    };
+    Some(*register)
 }

@@ -95,7 +95,9 @@ fn ready<'a>(
     run_cie(alloc, leading, machine)
 }
 
-// Brings a CIE's row about, and runs an FDE's program up to the end of its first row.
+// Brings a CIE's row about, and runs an FDE's program up to the end of its first row. Out of line: room for its errors is
+// cleared at each row else.
+#[inline(never)]
 fn first_row<'a>(
     alloc: Global,
     leading: Leading<'a>,
@@ -281,6 +283,7 @@ impl<'a> RowWalk<'a> {
 
     /// Goes on to the next row, which `row` lends then, and answers the location that it starts at, or none behind
     /// the last row. No row is copied. Want of memory is answered from then on, until `go_to`.
+    #[inline(always)]
     pub fn advance(&mut self) -> Result<Option<u128>, ReadError>
         ensures advances { Advances self.old.steps result self.new.steps }
         ensures kept { self.new.kept ≡ self.old.kept }
@@ -333,6 +336,7 @@ impl<'a> RowWalk<'a> {
 
     /// Keeps the row that is lent, or answers want of memory, behind which it is some row that is kept. What was set
     /// since a row was kept is copied alone.
+    #[inline(always)]
     pub fn keep(&mut self) -> Result<(), AllocError>
         ensures kept { OnOk result (self.new.kept ≡ self.old.steps.current) }
         ensures same { self.new.steps ≡ self.old.steps }
@@ -349,6 +353,7 @@ impl<'a> RowWalk<'a> {
 
     /// Whether the row that is lent is the one that was kept. Registers that were set since are compared alone. Takes no
     /// memory.
+    #[inline(always)]
     pub fn is_kept(&self) -> bool
         ensures { IsTrue result ↔ (self.now.kept ≡ self.now.steps.current) }
     {
@@ -357,6 +362,7 @@ impl<'a> RowWalk<'a> {
 
     /// The least register to which the row that is lent gives another rule than the one that was kept, of those behind a
     /// given one where there is such; or none. Registers that were set since are compared alone. Takes no memory.
+    #[inline(always)]
     pub fn next_difference(&self, behind: Option<u16>) -> Option<u16>
         ensures first { FirstDifference (place_behind behind) self.now.kept.registers self.now.steps.current.registers result }
         ensures ascending { AreSpecified 0 self.now.kept.registers }

@@ -7,8 +7,9 @@ ghost use Rattle.dw_cfa.specs.Rows.{AreSpecified, blank, rule_in};
 ghost use Rattle.dw_cfa.specs.Inner.Rows.{with_cfa, with_rule};
 ghost use Rattle.dw_cfa.specs.Inner.Marks.{CopiedUpTo, SameUnlisted, SameUnmarked, watching};
 
+use crate::behind::{place_behind, start_behind};
 use crate::marks::Marks;
-use crate::row::{NEAR, Row, place_behind, start_behind};
+use crate::row::{NEAR, Row};
 use crate::rule::{CfaRule, RegRule};
 use std::alloc::{AllocError, Global};
 use std::collections::BTreeMap;
@@ -16,6 +17,7 @@ use std::marker::Model;
 use std::ops::Bound;
 
 // Copies the rules of the registers in a mask.
+#[inline(always)]
 fn copy_near<'a>(row: &Row<'a>, kept: &mut Row<'a>, mask: u32) -> Result<(), AllocError>
     requires { SameUnset mask kept.old.registers row.now.registers }
     ensures { OnOk result (CopiedUpTo 32 row.now.registers kept.old.registers kept.new.registers) }
@@ -36,7 +38,8 @@ fn copy_near<'a>(row: &Row<'a>, kept: &mut Row<'a>, mask: u32) -> Result<(), All
 }
 
 // Copies the rules of the registers in a tree.
-fn copy_far<'a>(
+#[inline(never)]
+fn copy_listed<'a>(
     row: &Row<'a>,
     kept: &mut Row<'a>,
     marked: &BTreeMap<u16, RegRule<'_>>,
@@ -52,7 +55,24 @@ fn copy_far<'a>(
     Ok(())
 }
 
+// The same of a tree that is mostly empty.
+#[inline(always)]
+fn copy_far<'a>(
+    row: &Row<'a>,
+    kept: &mut Row<'a>,
+    marked: &BTreeMap<u16, RegRule<'_>>,
+) -> Result<(), AllocError>
+    requires { SameUnlisted 0 marked.now.entries kept.old.registers row.now.registers }
+    ensures { OnOk result ((r : ℕ) → rule_in kept.new.registers r ≡ rule_in row.now.registers r) }
+{
+    if marked.is_empty() {
+        return Ok(());
+    }
+    copy_listed(row, kept, marked)
+}
+
 // Makes a row that differs in marked registers alone a copy of another one.
+#[inline(always)]
 fn copy_marked<'a>(row: &Row<'a>, kept: &mut Row<'a>, marks: &Marks<'a>) -> Result<(), AllocError>
     requires { SameUnmarked marks.now kept.old.registers row.now.registers }
     ensures { OnOk result (kept.new ≡ row.now) }
@@ -62,13 +82,35 @@ fn copy_marked<'a>(row: &Row<'a>, kept: &mut Row<'a>, marks: &Marks<'a>) -> Resu
     }
     copy_near(row, kept, marks.near)?;
     copy_far(row, kept, &marks.far)?;
-    kept.set_cfa(row.cfa());
+    kept.copy_cfa(row);
     kept.ascends();
     row.ascends();
     Ok(())
 }
 
 // The first register behind another one, or from the first one on, that is in a tree and whose rule differs.
+#[inline(never)]
+fn next_listed_difference(
+    kept: &Row<'_>,
+    row: &Row<'_>,
+    marked: &BTreeMap<u16, RegRule<'_>>,
+    behind: Option<u16>,
+) -> Option<u16>
+    requires marked { AreSpecified 0 marked.now.entries }
+    requires same { SameUnlisted (place_behind behind) marked.now.entries kept.now.registers row.now.registers }
+    ensures { FirstDifference (place_behind behind) kept.now.registers row.now.registers result }
+{
+    let mut marks = marked.range((start_behind(behind), Bound::Unbounded));
+    'marks: while let Some((register, _)) = marks.next() {
+        if !kept.has_same_rule(row, *register) {
+            return Some(*register);
+        }
+    }
+    None
+}
+
+// The same of a tree that is mostly empty.
+#[inline(always)]
 fn next_far_difference(
     kept: &Row<'_>,
     row: &Row<'_>,
@@ -82,13 +124,7 @@ fn next_far_difference(
     if marked.is_empty() {
         return None;
     }
-    let mut marks = marked.range((start_behind(behind), Bound::Unbounded));
-    'marks: while let Some((register, _)) = marks.next() {
-        if !kept.rule(*register).is_same(&row.rule(*register)) {
-            return Some(*register);
-        }
-    }
-    None
+    next_listed_difference(kept, row, marked, behind)
 }
 
 /// The current row, and one that was kept. Which registers were set since is known, so that both are compared, and the
@@ -191,6 +227,7 @@ impl<'a> WatchedRow<'a> {
     }
 
     /// Keeps the current row, or answers want of memory. What is kept is some row then.
+    #[inline(always)]
     pub(crate) fn keep(&mut self) -> Result<(), AllocError>
         ensures ok { OnOk result (self.new ≡ watching self.old.row self.old.row) }
         ensures row { self.new.row ≡ self.old.row }
@@ -206,6 +243,7 @@ impl<'a> WatchedRow<'a> {
 
     /// The least register to which the current row gives another rule than the kept one, of those behind a given one where
     /// there is such; or none.
+    #[inline(always)]
     pub(crate) fn next_difference(&self, behind: Option<u16>) -> Option<u16>
         ensures first { FirstDifference (place_behind behind) self.now.kept.registers self.now.row.registers result }
         ensures ascending { AreSpecified 0 self.now.kept.registers }
@@ -224,9 +262,10 @@ impl<'a> WatchedRow<'a> {
     }
 
     /// Whether the current row is the one that was kept.
+    #[inline(always)]
     pub(crate) fn is_kept(&self) -> bool
         ensures { IsTrue result ↔ (self.now.kept ≡ self.now.row) }
     {
-        self.kept.cfa().is_same(&self.row.cfa()) && self.next_difference(None).is_none()
+        self.kept.cfa_rule().is_same(self.row.cfa_rule()) && self.next_difference(None).is_none()
     }
 }

@@ -154,6 +154,17 @@ impl<W: Write> Listing<W> {
         self.len = end;
     }
 
+    // Bytes that only a run tells, copied at once.
+    fn block(&mut self, bytes: &[u8])
+        requires { self.old.len + length bytes.now ≤ ROOM }
+        ensures len { self.new.len ≡ self.old.len + length bytes.now }
+        ensures told { self.new.failures ≡ self.old.failures }
+    {
+        let end = self.len + bytes.len();
+        self.room[self.len..end].copy_from_slice(bytes);
+        self.len = end;
+    }
+
     #[inline(always)]
     fn pair(&mut self, number: usize)
         requires room { self.old.len + 2 ≤ ROOM }
@@ -256,7 +267,7 @@ impl<W: Write> Sink for Listing<W> {
             return Err(SinkFault);
         }
         let part = &bytes[..bytes.len().min(PIECE)];
-        self.text(part);
+        self.block(part);
         Ok(part.len())
     }
 }

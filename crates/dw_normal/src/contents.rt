@@ -2,7 +2,8 @@
 
 ghost use Rattle.std.specs.Prelude.{◌≡◌, ◌+◌, ◌++◌, ◌<◌, ◌≤◌, ◌^◌, ◌-◌, List, length, replicate, OnOk};
 ghost use Rattle.std.specs.List.{AllByRecursion};
-ghost use Rattle.dw_num.specs.Target.{address_limit};
+ghost use Rattle.dw_num.specs.Fixed.{fixed_bytes};
+ghost use Rattle.dw_num.specs.Target.{address_limit, byte_count};
 ghost use Rattle.dw_canon.specs.Canon.{cie_instrs, fde_instrs, initial_of};
 ghost use Rattle.dw_canon.specs.Inner.Fits.{InstrFits};
 ghost use Rattle.dw_canon.specs.Members.{Member};
@@ -22,8 +23,8 @@ use std::alloc::{AllocError, Global};
 fn push_nops(out: &mut Vec<u8>, size: Size) -> Result<(), AllocError>
     ensures { OnOk result (out.new.items ≡ out.old.items ++ replicate (missing size (4 + length out.old.items)) 0) }
 {
-    let width = u128::from(size.byte_count());
-    let mut left = (width - (4 + out.len() as u128) % width) % width;
+    let width = u64::from(size.byte_count());
+    let mut left = (width - (4 + out.len() as u64) % width) % width;
     'nops: while left > 0 {
         out.push(0)?;
         left -= 1;
@@ -63,6 +64,18 @@ pub(crate) fn fill_cie<'a>(
     push_nops(out, target.size)
 }
 
+// Appends an address, or how many there are. With the width in each case no byte is moved by a call.
+#[inline(always)]
+fn push_address(out: &mut Vec<u8>, address: u64, target: Target) -> Result<(), AllocError>
+    requires { address < address_limit target.size }
+    ensures { OnOk result (out.new.items ≡ out.old.items ++ fixed_bytes target.order (byte_count target.size) address) }
+{
+    match target.size {
+        Size::Four => put_fixed(out, target.order, 4, address),
+        Size::Eight => put_fixed(out, target.order, 8, address),
+    }
+}
+
 // Appends what stands before an FDE's program.
 fn push_fde_fields(
     out: &mut Vec<u8>,
@@ -76,10 +89,9 @@ fn push_fde_fields(
     requires range { range < address_limit target.size }
     ensures { OnOk result (out.new.items ≡ out.old.items ++ fde_fields target cie_at begin range) }
 {
-    let width = usize::from(target.size.byte_count());
     put_fixed(out, target.order, 4, cie_at)?;
-    put_fixed(out, target.order, width, begin)?;
-    put_fixed(out, target.order, width, range)
+    push_address(out, begin, target)?;
+    push_address(out, range, target)
 }
 
 /// Makes a buffer what stands behind the length of an FDE, where its CIE stands at a place.

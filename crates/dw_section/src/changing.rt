@@ -17,6 +17,7 @@ use std::alloc::{AllocError, Global};
 use std::marker::Model;
 
 // The row that a walk kept, where one was.
+#[inline(always)]
 fn kept_row<'w, 'a>(steps: &'w RowWalk<'a>, kept: bool) -> Option<&'w Row<'a>>
     ensures { MatchOption result (shown_if kept steps.now.kept ≡ None) (λ row. shown_if kept steps.now.kept ≡ Some row.now) }
 {
@@ -27,6 +28,7 @@ fn kept_row<'w, 'a>(steps: &'w RowWalk<'a>, kept: bool) -> Option<&'w Row<'a>>
 }
 
 // Whether the row that is lent is the one that was kept, where one was.
+#[inline(always)]
 fn is_shown(steps: &RowWalk<'_>, kept: bool) -> bool
     ensures { IsTrue result ↔ (shown_if kept steps.now.kept ≡ Some steps.now.steps.current) }
 {
@@ -34,6 +36,7 @@ fn is_shown(steps: &RowWalk<'_>, kept: bool) -> bool
 }
 
 // Whether an address below the end shows the row that is lent, which starts here.
+#[inline(always)]
 fn is_visible(steps: &RowWalk<'_>, start: u128, end: u128) -> bool
     requires { steps.now.steps.outcome.fault ≡ None }
     ensures { IsTrue result ↔ Before end start steps.now.steps.outcome.rows }
@@ -45,6 +48,7 @@ fn is_visible(steps: &RowWalk<'_>, start: u128, end: u128) -> bool
 }
 
 // Goes on to the next row that an address shows and that is not the one that was kept, where one was.
+#[inline(always)]
 fn find_change(steps: &mut RowWalk<'_>, kept: bool, end: u128) -> Result<Option<u128>, AllocError>
     requires { steps.old.steps.outcome.fault ≡ None }
     ensures finds { FindsChange end steps.old.steps (shown_if kept steps.old.kept) result steps.new.steps }
@@ -63,6 +67,7 @@ fn find_change(steps: &mut RowWalk<'_>, kept: bool, end: u128) -> Result<Option<
 }
 
 // Keeps the row that the walk lends, where it is the one that was shown last, and goes on to the next change.
+#[inline(always)]
 fn next_change(
     steps: &mut RowWalk<'_>,
     kept: &mut bool,
@@ -134,6 +139,7 @@ impl<'a> Changes<'a> {
 
     /// Goes on to the next change, whose row `row` lends then, and answers its address, or none behind the last one. Want
     /// of memory is answered from then on.
+    #[inline(always)]
     pub fn advance(&mut self) -> Result<Option<u128>, AllocError>
         ensures gives { GivesAddress self.old result self.new }
         ensures again { self.old.failed ≡ true → IsErr result }
@@ -150,6 +156,7 @@ impl<'a> Changes<'a> {
     }
 
     /// The row of the change that `advance` or `next` went on to, also behind the last one, and none before the first one.
+    #[inline(always)]
     pub fn row(&self) -> Option<&Row<'a>>
         ensures { MatchOption result (self.now.shown ≡ None) (λ row. self.now.shown ≡ Some row.now) }
     {
@@ -160,6 +167,7 @@ impl<'a> Changes<'a> {
     }
 
     /// The row of the change before the one that `row` lends. None at the first change, and behind the last one.
+    #[inline(always)]
     pub fn before(&self) -> Option<&Row<'a>>
         ensures { MatchOption result (self.now.before ≡ None) (λ row. self.now.before ≡ Some row.now) }
     {
@@ -171,6 +179,7 @@ impl<'a> Changes<'a> {
 
     /// The least register to which the change that is shown gives another rule than the change before it, of those behind
     /// a given one where there is such; or none. Takes no memory.
+    #[inline(always)]
     pub fn next_difference(&self, behind: Option<u16>) -> Option<u16>
         ensures first { (before after : Rules) → self.now.before ≡ Some before → self.now.shown ≡ Some after → FirstDifference (place_behind behind) before.registers after.registers result }
         ensures none { self.now.before ≡ None → result ≡ None }

@@ -2,7 +2,7 @@ use Rattle.std.proofs.Common.{length}
 use Rattle.std.specs.Prelude.{ℕ, Option}
 use Rattle.dw_cfa.specs.Rows.{AreSpecified}
 use Rattle.dw_cfa.specs.Differing.{FirstDifference}
-use Rattle.dw_cfa.proofs.row.first_difference.Given as goal
+use Rattle.dw_cfa.proofs.tree.first_difference.Given as goal
 
 abbrev pub invariant-rules : goal.invariant-rules
 invariant-rules l = AreSpecified 0 l.rules × AreSpecified 0 l.others × ((o : Option ℕ) → FirstDifference 0 l.rules l.others o → FirstDifference 0 l.fn.rules l.fn.others o)

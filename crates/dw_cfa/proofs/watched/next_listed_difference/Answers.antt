@@ -9,7 +9,7 @@ use Rattle.dw_cfa.specs.Inner.Marks.{SameUnlisted}
 use Rattle.dw_cfa.proofs.Lent.RowLists.{Entry}
 use Rattle.dw_cfa.proofs.Differing.{FromOn, range_on}
 use Rattle.dw_cfa.proofs.Marked.{from_ascends, from_unlisted, differs_here, same_here}
-use Rattle.dw_cfa.proofs.watched.next_far_difference.Goals as goal
+use Rattle.dw_cfa.proofs.watched.next_listed_difference.Goals as goal
 
 pub marks-init : goal.marks-init
 marks-init c =
@@ -21,14 +21,14 @@ marks-init c =
       subst (λ (l : List Entry). SameUnlisted from l c.args.kept.now.registers c.args.row.now.registers) is (from_unlisted p from on 0 far c.args.kept.now.registers c.args.row.now.registers c.requires.marked c.requires.same),
     )
 
-pub returns-then-not-is_same : goal.returns-then-not-is_same
-returns-then-not-is_same c =
+pub returns-then-not-has_same_rule : goal.returns-then-not-has_same_rule
+returns-then-not-has_same_rule c =
     let x : Entry = (c.in-Some.register.now, c.in-Some.field-0-1.now) in let inv = c.marks.invariant in
     differs_here (place_behind c.args.behind) c.marks.marks c.next.new.self c.args.kept.now.registers c.args.row.now.registers x c.in-Some.ensures.steps inv.0 inv.1
-    (rw (sym c.rule.ensures, sym c.rule-in-Some.ensures) (sym c.if-not-is_same.ensures.test))
+    (sym c.if-not-has_same_rule.ensures.test)
 
 pub marks-preserved : goal.marks-preserved
 marks-preserved c =
     let x : Entry = (c.in-Some.register.now, c.in-Some.field-0-1.now) in let inv = c.marks.invariant in
     same_here (place_behind c.args.behind) c.marks.marks c.next.new.self c.args.kept.now.registers c.args.row.now.registers x c.in-Some.ensures.steps inv.0 inv.1
-    (sym c.rule.ensures ∙ c.if-not-is_same.ensures.same.0 refl ∙ c.rule-in-Some.ensures)
+    (c.if-not-has_same_rule.ensures.same.0 refl)

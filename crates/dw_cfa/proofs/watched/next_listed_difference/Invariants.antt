@@ -2,7 +2,7 @@ use Rattle.std.proofs.Common.{length}
 use Rattle.dw_cfa.specs.Differing.{place_behind}
 use Rattle.dw_cfa.specs.Rows.{AreSpecified}
 use Rattle.dw_cfa.specs.Inner.Marks.{SameUnlisted}
-use Rattle.dw_cfa.proofs.watched.next_far_difference.Given as goal
+use Rattle.dw_cfa.proofs.watched.next_listed_difference.Given as goal
 
 abbrev pub invariant-marks : goal.invariant-marks
 invariant-marks l = AreSpecified (place_behind l.fn.behind) l.marks × SameUnlisted (place_behind l.fn.behind) l.marks l.kept.registers l.row.registers

@@ -5,7 +5,7 @@ use Rattle.dw_cfa.specs.Inner.Rows.{put}
 use Rattle.dw_cfa.specs.Inner.Marks.{SameUnlisted}
 use Rattle.dw_cfa.proofs.Lent.RowLists.{Entry}
 use Rattle.dw_cfa.proofs.Marked.{far_copied}
-use Rattle.dw_cfa.proofs.watched.copy_far.Goals as goal
+use Rattle.dw_cfa.proofs.watched.copy_listed.Goals as goal
 
 pub marks-preserved : goal.marks-preserved
 marks-preserved c =

@@ -1,6 +1,6 @@
 use Rattle.std.proofs.Common.{length}
 use Rattle.dw_cfa.specs.Inner.Marks.{SameUnlisted}
-use Rattle.dw_cfa.proofs.watched.copy_far.Given as goal
+use Rattle.dw_cfa.proofs.watched.copy_listed.Given as goal
 
 abbrev pub invariant-marks : goal.invariant-marks
 invariant-marks l = SameUnlisted 0 l.marks l.kept.registers l.row.registers
