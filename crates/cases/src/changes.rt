@@ -36,6 +36,15 @@ pub fn keeps_first_two(mut changes: Changes<'_>) -> Result<(bool, bool), Fail> {
     Ok((keeps_first, changes.keeps(&second)))
 }
 
+/// The address of the next change, and the first three registers to which it gives another rule than the change before.
+pub fn differing(alloc: Global, changes: &mut Changes<'_>) -> Result<String, Fail> {
+    let address = changes.advance()?.ok_or("a change")?;
+    let first = changes.next_difference(None);
+    let second = changes.next_difference(first);
+    let third = changes.next_difference(second);
+    Ok(format!(in alloc; "{address:#x} {first:?} {second:?} {third:?}")?)
+}
+
 /// The changes of all FDEs, on which both calls agree.
 pub fn changes_text(alloc: Global, table: &Table<'_>) -> Result<String, Fail> {
     let mut text = String::new(alloc);

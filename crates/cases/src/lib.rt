@@ -20,4 +20,6 @@ mod targets;
 #[cfg(test)]
 mod texts;
 #[cfg(test)]
+mod walks;
+#[cfg(test)]
 mod wide;

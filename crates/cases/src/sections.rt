@@ -1,12 +1,12 @@
 //! The sections of the cases, and calls on them: entries, headers, the first fault of a section by its fields and as a
 //! whole, its FDEs, and the changes of their rules.
 
-use crate::changes::{changes_text, keeps_first_two};
+use crate::changes::{changes_text, differing, keeps_first_two};
 use crate::lines::{compare, number, parts, sides};
 use crate::targets::{BIG, LITTLE};
 use crate::texts::refusal_text;
 use dw_num::{ReadError, Target};
-use dw_section::{Header, Table, check, entries, headers};
+use dw_section::{Changes, Header, Table, check, entries, headers};
 use std::alloc::Global;
 use std::test::Fail;
 
@@ -377,4 +377,29 @@ fn keeps_what_the_cie_specifies(rt: HostRuntime) -> Result<(), Fail> {
     let (first, second) = keeps_first_two(table.changes(fde))?;
     assert!(rt; first && !second);
     Ok(())
+}
+
+// Fails where the next change differs otherwise from the one before it.
+fn differs(alloc: Global, changes: &mut Changes<'_>, wanted: &str) -> Result<(), Fail> {
+    compare(
+        "registers that differ",
+        differing(alloc, changes)?.as_str(),
+        wanted,
+    )
+}
+
+// r6, and r40, which has no slot, are saved at the second row alone, and restored with the state; then the CFA moves.
+#[test]
+fn tells_registers_that_differ(rt: HostRuntime) -> Result<(), Fail> {
+    let alloc = rt.alloc();
+    let bytes = section_of(alloc, "nops 30=410a0528028602420b440e10")?;
+    let table = table_of(alloc, &bytes, LITTLE)?;
+    let Some(fde) = table.fde_at(0x1000) else {
+        return Err(Fail::new("no FDE"));
+    };
+    let mut changes = table.changes(fde);
+    differs(alloc, &mut changes, "0x1000 None None None")?;
+    differs(alloc, &mut changes, "0x1001 Some(6) Some(40) None")?;
+    differs(alloc, &mut changes, "0x1003 Some(6) Some(40) None")?;
+    differs(alloc, &mut changes, "0x1007 None None None")
 }

@@ -4,7 +4,7 @@ use crate::lines::{compare, number, parts};
 use crate::sections::{section_of, table_of};
 use crate::targets::LITTLE;
 use crate::texts::row_text;
-use dw_section::{Lookups, Table};
+use dw_section::{Lookups, Ranged, Table, look_up};
 use std::alloc::Global;
 use std::test::Fail;
 
@@ -94,6 +94,55 @@ fn looks_addresses_up(rt: HostRuntime) -> Result<(), Fail> {
         let (address, wanted) = parts(line)?;
         let text = looked_up(alloc, &mut lookups, number(address)?)?;
         compare(line, text.as_str(), wanted)?;
+    }
+    Ok(())
+}
+
+// ---- look-ups in bytes, by an index
+
+// What a look-up finds by an index: the FDE, and the row.
+fn by_index(alloc: Global, bytes: &[u8], index: &[Ranged], address: u64) -> Result<String, Fail> {
+    match look_up(alloc, bytes, LITTLE, index, address) {
+        Ok(Some(found)) => {
+            let (begin, row) = (found.fde().begin, row_text(alloc, found.row())?);
+            Ok(format!(in alloc; "{begin:#x} {row}")?)
+        }
+        Ok(None) => Ok(String::from_str(alloc, "none")?),
+        Err(error) => Ok(format!(in alloc; "{error:?}")?),
+    }
+}
+
+// Looks an address up in a section, by the index of the section `two`.
+fn agree_by_index(alloc: Global, index: &[Ranged], line: &str) -> Result<(), Fail> {
+    let (words, wanted) = parts(line)?;
+    let (address, section) = words.split_once(' ').ok_or("an address without a section")?;
+    let bytes = section_of(alloc, section)?;
+    let text = by_index(alloc, &bytes, index, number(address)?)?;
+    compare(line, text.as_str(), wanted)
+}
+
+// In its own section; in one that ends before the FDE's place; where another FDE stands at the place; and where what stands
+// there is refused.
+const BY_INDEX: &str = "\
+401004 two: 0x401000 cfa=r6+16 r6=[cfa-16] r16=[cfa-8]
+401000 two: 0x401000 cfa=r7+8 r16=[cfa-8]
+1003 two: 0x1000 cfa=r7+8 r16=[cfa-8]
+100f two: 0x1000 cfa=r7+8 r16=[cfa-8]
+fff two: none
+401010 two: none
+401000 plain: 0x401000 cfa=r7+8 r16=[cfa-8]
+1003 plain: BadIndex
+401004 two 21=20: BadIndex
+401004 two 30=2e: Refused(Refusal { code: UnknownInstruction, at: 48 })";
+
+#[test]
+fn looks_addresses_up_by_an_index(rt: HostRuntime) -> Result<(), Fail> {
+    let alloc = rt.alloc();
+    let bytes = section_of(alloc, "two")?;
+    let table = table_of(alloc, &bytes, LITTLE)?;
+    let index = table.index();
+    for line in BY_INDEX.lines() {
+        agree_by_index(alloc, index, line)?;
     }
     Ok(())
 }

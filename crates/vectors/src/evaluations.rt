@@ -10,7 +10,9 @@ use std::alloc::Global;
 use std::test::Fail;
 
 // Each operation once or more, where register 7 holds 0x1000. 17 on 29 on 1000 is the stack of the examples in D.1.2 of
-// the standard. Then size 4, limits and starts, what an expression stands in, and reads that fail.
+// the standard. Then size 4, limits and starts, what an expression stands in, and reads that fail. The last four are the
+// expressions of gimli's tests test_eval_arith, test_eval_arith64, test_eval_compare and test_eval_stack: the first three
+// branch to the end with 1 at the first operation that gives a wrong value.
 const VALUES: &str = "\
 032a00000000000000: 0x2a
 08ff: 0xff
@@ -118,7 +120,11 @@ const VALUES: &str = "\
 770806 fails=2: 0x2a2a2a2a2a2a2a2a; 0 failed
 770894019402 fails=2: Device at 2; 1 failed
 770894019402 fails=3: 0x2a2a; 0 failed
-09ff9402 fails=1: Unreadable at 1; 0 failed";
+09ff9402 fails=1: Unreadable at 1; 0 failed
+081709e9222800f30a00170bffe9222800e90c111122220deeeeddde222800db09ff0801222800d309ff23012800cc090008011c09ff2e2800c109ff1908011c2800b80cf078fffe0c0f8700011a2800aa0cf078fffe0cf00000fe1a0cf00000fe2e28009609fe09021b230128008c09fd09021d1f23012800810c80000001321e322e2800750cf0f0f0f00cf0f0f0f0272800670cf0f0f0f00c0f0f0f0f21202800580effffffff00000000321b28004a08ff31240a01fe2e28003f08ff08322428003708ff09ff2428002f09ff31250c7fffffff2e28002209ff08ff2528001a09ff312609ff2e28001009ff08ff2609ff2e28000530962f000131 big=4 steps=999: 0x0
+0e44443333222211110fbcbbccccddddeeee2228650010c488cd99a3c4c8881111bcf7b2e6dcbbb7f76e22284d003123ffffffffffffffffff01283e00311f202838000e0000000000000080083f25312e2827000e0000000000000080083e26230228160031083f240e00000000000000802e28050030962f010031 steps=999: 0x0
+090109ff2d28300009ff09012b282800090109ff2c28200009ff09012a28180009ff0901292810000d0100000009012e28050030962f010031 steps=999: 0x0
+4112141c1612230117150215031c1316131c big=4 steps=999: 0x1";
 
 // The pieces that a description describes, or its fault.
 const LOCATIONS: &str = "\
