@@ -18,9 +18,9 @@ use dw_section::{FdeRow, LookUpError, Ranged, check, look_up};
 use std::alloc::Global;
 
 /// No entry of the index covers the address.
-const NO_FDE: u32 = 5;
+pub(crate) const NO_FDE: u32 = 5;
 /// The index is not the one of these bytes.
-const BAD_INDEX: u32 = 10;
+pub(crate) const BAD_INDEX: u32 = 10;
 
 /// The rule of a register: its number, the kind, and the other register or the offset that the kind names.
 #[repr(C)]

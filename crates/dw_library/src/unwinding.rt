@@ -33,7 +33,7 @@ const NO_REGISTER: u32 = 8;
 const DEVICE: u32 = 9;
 
 /// The column of a fault that is that of the CFA.
-const CFA: u32 = 65536;
+pub(crate) const CFA: u32 = 65536;
 
 /// Where a machine stopped, and what is asked: the address that is looked up, how many steps each expression may take, the size
 /// of an address, 4 or 8, the order of bytes, 0 for little-endian and 1 for big-endian, and what a register is taken as that no

@@ -3,7 +3,7 @@
 ghost use Rattle.std.specs.Prelude.{◌≡◌};
 ghost use Rattle.dw_num.specs.Target.{address_limit, byte_count};
 
-/// The size of an address in bytes. N is eight times that.
+/// The size of an address in bytes (`address_size` of a CIE, 6.4.1). N is eight times that.
 #[derive(Clone, Copy, Debug, PartialEq, Eq)]
 pub enum Size {
     Four,
@@ -39,14 +39,14 @@ pub enum Order {
     Big,
 }
 
-/// The 32-bit and the 64-bit form of an entry (7.4).
+/// The 32-bit and the 64-bit form of an entry (7.4), called 32-bit and 64-bit DWARF there.
 #[derive(Clone, Copy, Debug, PartialEq, Eq)]
 pub enum Form {
     Dwarf32,
     Dwarf64,
 }
 
-/// The length at the front of an entry (7.4). It does not count its own bytes.
+/// The `length` at the front of an entry (6.4.1, 7.4). It does not count its own bytes.
 #[derive(Clone, Copy, Debug, PartialEq, Eq)]
 pub struct UnitLength {
     pub form: Form,
