@@ -16,6 +16,7 @@ mod registers;
 mod row;
 mod rule;
 mod running;
+mod showing;
 mod states;
 mod steps;
 mod tree;

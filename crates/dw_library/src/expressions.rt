@@ -18,14 +18,16 @@ use dw_op::ExprRef;
 use dw_section::{LookUpError, Ranged, look_up};
 use std::alloc::{AllocError, Global};
 
-/// Where the block of an expression stands among the bytes: its column, which is a register's number or 65536 for the CFA, its
-/// first byte and how many it has. The rule is set by `DW_CFA_def_cfa_expression`, `DW_CFA_expression` or
+/// Where the block of an expression stands among the bytes. Its rule is set by `DW_CFA_def_cfa_expression`, `DW_CFA_expression` or
 /// `DW_CFA_val_expression` (6.4.2.2, 6.4.2.3).
 #[repr(C)]
 #[derive(Clone, Copy)]
 pub struct Block {
+    /// A register's number, or 65536 for the CFA.
     pub column: u32,
+    /// Its first byte, counted from the buffer's first one.
     pub place: usize,
+    /// How many bytes it has.
     pub len: usize,
 }
 
@@ -33,7 +35,9 @@ pub struct Block {
 #[repr(C)]
 #[derive(Clone, Copy)]
 pub struct Blocks {
+    /// How many expressions.
     pub count: usize,
+    /// How many bytes.
     pub len: usize,
 }
 
