@@ -101,6 +101,10 @@ static void call_row_at(const uint8_t *bytes, size_t len, const uint8_t *copy, s
     judge(dwframe_index_size(bytes, len, size, order, &entries, &refusal), &refusal);
     dwframe_entry *index = block(entries * sizeof *index);
     dwframe_rule *rules = block(room * sizeof *rules);
+    size_t bytes_room = below(40), blocks_room = below(4);
+    uint8_t *expressions = block(bytes_room);
+    dwframe_block *blocks = block(blocks_room * sizeof *blocks);
+    dwframe_blocks all;
     judge(dwframe_index(bytes, len, size, order, index, entries, &entries, &refusal), &refusal);
     for (uint64_t times = below(4); times && entries; times--) {
         dwframe_entry *entry = &index[below(entries)];
@@ -126,9 +130,14 @@ static void call_row_at(const uint8_t *bytes, size_t len, const uint8_t *copy, s
         const dwframe_entry *entry = entries ? &index[below(entries)] : NULL;
         uint64_t address = entry && below(8) ? entry->begin + below(entry->range) : number();
         judge(dwframe_row_at(copy, copy_len, size, order, index, entries, address, rules, room, &row, &refusal), &refusal);
+        judge(dwframe_expressions_at(copy, copy_len, size, order, index, entries, address, expressions, bytes_room, blocks,
+                  blocks_room, &all, &refusal),
+            &refusal);
     }
     free(index);
     free(rules);
+    free(expressions);
+    free(blocks);
 }
 
 static void call_all(const uint8_t *bytes, size_t len, uint8_t size, uint8_t order)

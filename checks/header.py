@@ -22,6 +22,8 @@ STRUCTS = {
     "Ranged": ("dwframe_entry", "Entry"),
     "Rule": ("dwframe_rule", "RawRule"),
     "Row": ("dwframe_row", "RawRow"),
+    "Block": ("dwframe_block", "RawBlock"),
+    "Blocks": ("dwframe_blocks", "RawBlocks"),
 }
 # Constants of Rattle beside the statuses, and where C has them under another name.
 OTHERS = {"CFA": "DWFRAME_CFA"}

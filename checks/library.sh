@@ -5,6 +5,7 @@
 set -euo pipefail
 root=$(cd "$(dirname "$0")/.." && pwd)
 program=${DWFRAME:-$root/dwframe}
+export DWFRAME=$program
 python3 "$root/checks/header.py"
 "$root/library"
 command -v gcc >/dev/null || { echo "library: left out, for there is no gcc"; exit 0; }
@@ -62,6 +63,15 @@ as_command() {
 
 compared=0
 [ $# -gt 0 ] || set -- "$root/examples"
+# Sections of each size and order, with expressions among their rules.
+mkdir made
+for size in 4 8; do
+    for order in little big; do
+        python3 "$root/bench/synth.py" "made/$size-$order.bin" 200 --size "$size" --order "$order" >/dev/null
+        echo "$size $order" >"made/$size-$order.target"
+    done
+done
+set -- "$@" made
 for target in $(find -L "$@" -name '*.target' | sort); do
     section=${target%.target}.bin
     read -r size order <"$target"

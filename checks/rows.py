@@ -3,30 +3,35 @@
 
     rows.py LOOKUP SIZE ORDER SECTION ROWS
 
-LOOKUP is the example's program and ROWS the text of `dwframe rows`. A look-up tells of an expression only that it is one, so rows that
-differ in expressions alone count as one.
+LOOKUP is the example's program and ROWS the text of `dwframe rows`. A look-up tells the block of an expression, which `dwframe expr` has
+to take for the shortest one of the operations that the row has.
 """
+import functools
+import os
+import pathlib
 import re
 import subprocess
 import sys
 
+PROGRAM = os.environ.get("DWFRAME", pathlib.Path(__file__).resolve().parent.parent / "dwframe")
 
-def shown(text):
-    """The lines, without the operations of expressions, and without rows that are as the one before."""
-    lines, before = [], None
-    for line in re.sub(r"expr\([^()]*\)", "expr()", text).splitlines():
-        row = line.split(" ", 2)[2] if line.startswith(" ") else None
-        if row is None or row != before:
-            lines.append(line)
-        before = row
-    return lines
+
+@functools.cache
+def operations(size, order, block):
+    """The operations of a block, as a row prints them."""
+    words = [PROGRAM, "expr", "--size", size, "--order", order, "--frame", block]
+    told = subprocess.run(words, stdout=subprocess.PIPE, text=True, check=True).stdout.splitlines()
+    if told[-1] != f"least {block}".rstrip():
+        sys.exit(f"rows: {block} is not the least block: {told[-1]}")
+    return "; ".join(line.split(" ", 1)[1] for line in told[:-1])
 
 
 def main():
     lookup, size, order, section, rows = sys.argv[1:]
     found = subprocess.run([lookup, size, order, section], stdout=subprocess.PIPE, text=True, check=True).stdout
+    found = re.sub(r"expr\(([0-9a-f]*)\)", lambda block: f"expr({operations(size, order, block[1])})", found)
     with open(rows) as wanted:
-        if shown(found) != shown(wanted.read()):
+        if found != wanted.read():
             sys.exit(f"rows: {section}: the look-ups are not as the command's rows")
 
 

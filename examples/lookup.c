@@ -3,7 +3,7 @@
  *     lookup 4|8 little|big FILE ADDRESS..     prints the row at each address
  *     lookup 4|8 little|big FILE               prints each FDE and its rows, as `dwframe rows`, by a look-up of each address
  *
- * FILE is a raw .debug_frame. Of an expression it is told only that it is one, which is printed as `expr()`. */
+ * FILE is a raw .debug_frame. An expression is printed as the shortest block of its operations, in hexadecimal digits: `expr(2301)`. */
 #include <inttypes.h>
 #include <stdio.h>
 #include <stdlib.h>
@@ -12,12 +12,15 @@
 #include "dwframe.h"
 
 /* A row has a rule for each of 65,536 registers at most; those of real programs have some twenty. */
-enum { RULES = 512, TEXT = 32 * RULES };
+enum { RULES = 512, BYTES = 1 << 14, TEXT = 32 * RULES + 2 * BYTES };
 
 static uint8_t address_size, byte_order;
 static uint8_t *section;
 static size_t section_len, entries;
 static dwframe_entry *table;
+static uint8_t expressions[BYTES];
+static dwframe_block blocks[RULES];
+static dwframe_blocks all;
 
 static int fail(int status, const char *text)
 {
@@ -47,6 +50,8 @@ static int tell(dwframe_status status, const dwframe_refusal *refusal)
     char name[DWFRAME_NAME_SIZE] = "";
     if (status == DWFRAME_BAD_ARGUMENT)
         return fail(3, "bad address size or byte order");
+    if (status == DWFRAME_TOO_SHORT)
+        return fail(5, "a row is too long for this example");
     if (status != DWFRAME_REFUSED)
         return fail(5, "out of memory");
     dwframe_refusal_name(refusal->code, name, sizeof name);
@@ -55,6 +60,16 @@ static int tell(dwframe_status status, const dwframe_refusal *refusal)
 }
 
 /* ---- the text of a row, as the command prints it */
+
+/* The expression of a column, a register's number or DWFRAME_CFA. */
+static char *put_expression(char *text, uint32_t column)
+{
+    text += sprintf(text, "expr(");
+    for (size_t i = 0; i < all.count; i++)
+        for (size_t j = 0; blocks[i].column == column && j < blocks[i].len; j++)
+            text += sprintf(text, "%02x", expressions[blocks[i].place + j]);
+    return text + sprintf(text, ")");
+}
 
 static void put_rule(char *text, const dwframe_rule *rule)
 {
@@ -76,10 +91,11 @@ static void put_rule(char *text, const dwframe_rule *rule)
         sprintf(text, "r%" PRIu32, rule->other);
         break;
     case DWFRAME_RULE_EXPRESSION:
-        sprintf(text, "[expr()]");
+        *text++ = '[';
+        sprintf(put_expression(text, rule->number), "]");
         break;
     default:
-        sprintf(text, "expr()");
+        put_expression(text, rule->number);
     }
 }
 
@@ -88,9 +104,17 @@ static void put_row(char *text, const dwframe_row *row, const dwframe_rule *rule
     if (row->cfa_kind == DWFRAME_CFA_REGISTER)
         sprintf(text, " cfa=r%u%+" PRId64, row->cfa_register, row->cfa_offset);
     else
-        sprintf(text, " cfa=expr()");
+        put_expression(text + sprintf(text, " cfa="), DWFRAME_CFA);
     for (uint64_t i = 0; i < row->count; i++)
         put_rule(text + strlen(text), &rules[i]);
+}
+
+static int has_expression(const dwframe_row *row, const dwframe_rule *rules)
+{
+    int found = row->cfa_kind == DWFRAME_CFA_EXPRESSION;
+    for (uint64_t i = 0; i < row->count; i++)
+        found |= rules[i].kind == DWFRAME_RULE_EXPRESSION || rules[i].kind == DWFRAME_RULE_VAL_EXPRESSION;
+    return found;
 }
 
 /* The row at an address as a text, or an empty text where no FDE covers it. */
@@ -103,6 +127,9 @@ static int look_up(uint64_t address, char *text, dwframe_row *row)
     *text = 0;
     if (status == DWFRAME_NO_FDE)
         return 0;
+    if (status == DWFRAME_OK && has_expression(row, rules))
+        status = dwframe_expressions_at(section, section_len, address_size, byte_order, table, entries, address, expressions, BYTES,
+            blocks, RULES, &all, &refusal);
     if (status != DWFRAME_OK)
         return tell(status, &refusal);
     put_row(text, row, rules);

@@ -150,9 +150,9 @@ enum {
     DWFRAME_RULE_VAL_OFFSET = 4,
     /* It is in the register `other`. */
     DWFRAME_RULE_REGISTER = 5,
-    /* It is saved in memory where an expression says. */
+    /* It is saved in memory where an expression says, which dwframe_expressions_at tells. */
     DWFRAME_RULE_EXPRESSION = 6,
-    /* It is the value of an expression. */
+    /* It is the value of an expression, which dwframe_expressions_at tells. */
     DWFRAME_RULE_VAL_EXPRESSION = 7
 };
 
@@ -194,6 +194,39 @@ dwframe_status dwframe_row_at(const uint8_t *bytes, size_t len, uint8_t address_
     const dwframe_entry *index, size_t entries, uint64_t address, dwframe_rule *rules, size_t room, dwframe_row *row,
     dwframe_refusal *refusal) DWFRAME_NONNULL;
 
+/* The column of the CFA, beside the numbers of registers. */
+#define DWFRAME_CFA 65536
+
+/* Where the block of an expression stands in a buffer. */
+typedef struct dwframe_block {
+    /* A register's number, or DWFRAME_CFA. */
+    uint32_t column;
+    /* Its first byte, counted from the buffer's first one, and how many bytes it has. */
+    size_t place;
+    size_t len;
+} dwframe_block;
+
+/* How many expressions a row has, and how many bytes their blocks have together. Both are 0 where there is no row. */
+typedef struct dwframe_blocks {
+    size_t count;
+    size_t len;
+} dwframe_blocks;
+
+/*
+ * The expressions of the row at an address, of which dwframe_row_at tells the kinds: that of the CFA (DW_CFA_def_cfa_expression),
+ * and then those of the registers (DW_CFA_expression, DW_CFA_val_expression), ascending by number. Each is a block of operations
+ * (DWARF 5, 2.5 and 7.7.1) in the section's order of bytes: of all blocks that spell the expression's operations, the shortest. So
+ * two expressions say the same exactly where their blocks are equal.
+ *
+ * The blocks are written one after another to the front of the `bytes_room` bytes at `expressions`, and where each stands to the front
+ * of the `blocks_room` entries at `blocks`; `all` says how many there are of both. DWFRAME_TOO_SHORT where either has less room: `all`
+ * says what is needed, and both stay. They stay with any other status too, and with DWFRAME_NO_FDE. Rooms of 0 do for a row that has
+ * no expression. The index is taken as dwframe_row_at takes it.
+ */
+dwframe_status dwframe_expressions_at(const uint8_t *bytes, size_t len, uint8_t address_size, uint8_t byte_order,
+    const dwframe_entry *index, size_t entries, uint64_t address, uint8_t *expressions, size_t bytes_room, dwframe_block *blocks,
+    size_t blocks_room, dwframe_blocks *all, dwframe_refusal *refusal) DWFRAME_NONNULL;
+
 /* What a register is taken as that no instruction has set: the ABI decides. */
 enum { DWFRAME_UNCHANGED = 0, DWFRAME_UNDEFINED = 1 };
 
@@ -231,9 +264,6 @@ typedef struct dwframe_frame {
     /* The number of the register that holds the return address. */
     uint32_t return_register;
 } dwframe_frame;
-
-/* The column of the CFA, beside the numbers of registers. */
-#define DWFRAME_CFA 65536
 
 /* What is wrong in a column. All are 0 where nothing is. */
 typedef struct dwframe_fault {

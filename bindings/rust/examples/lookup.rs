@@ -5,40 +5,59 @@
 //!
 //! What it prints is what `examples/lookup.c` prints.
 
-use dwframe::{CfaRule, Entry, Failure, Index, Order, RegisterRule, Row, Rule, Section, Size, Target};
+use dwframe::{
+    Block, CfaRule, Column, Entry, Expressions, Failure, Index, Order, RegisterRule, Row, Rule, Section, Size, Target,
+};
 use std::fmt::Write;
 use std::process::ExitCode;
 use std::{env, fs};
 
-fn text_of(row: &Row<'_>) -> String {
+fn hex_of(expressions: &Expressions<'_>, column: Column) -> String {
+    let block = expressions.of(column).unwrap_or_default();
+    let digits: String = block.iter().map(|byte| format!("{byte:02x}")).collect();
+    format!("expr({digits})")
+}
+
+fn text_of(row: &Row<'_>, expressions: &Expressions<'_>) -> String {
     let mut text = match row.cfa {
         CfaRule::Register { register, offset } => format!(" cfa=r{register}{offset:+}"),
-        CfaRule::Expression => " cfa=expr()".to_string(),
+        CfaRule::Expression => format!(" cfa={}", hex_of(expressions, Column::Cfa)),
     };
     for rule in row.registers {
+        let column = Column::Register(rule.register());
         let told = match rule.rule() {
             Rule::Undefined => "u".to_string(),
             Rule::SameValue => "s".to_string(),
             Rule::Offset(offset) => format!("[cfa{offset:+}]"),
             Rule::ValOffset(offset) => format!("cfa{offset:+}"),
             Rule::Register(register) => format!("r{register}"),
-            Rule::Expression => "[expr()]".to_string(),
-            Rule::ValExpression => "expr()".to_string(),
+            Rule::Expression => format!("[{}]", hex_of(expressions, column)),
+            Rule::ValExpression => hex_of(expressions, column),
         };
         let _ = write!(text, " r{}={told}", rule.register());
     }
     text
 }
 
-fn look_up(index: &Index<'_, '_>, address: u64, room: &mut [RegisterRule]) -> Result<Option<String>, Failure> {
-    match index.row_at(address, room) {
-        Ok(row) => Ok(Some(text_of(&row))),
+/// The room that look-ups write to.
+struct Room {
+    rules: [RegisterRule; 512],
+    blocks: [Block; 512],
+    bytes: [u8; 1 << 14],
+}
+
+fn look_up(index: &Index<'_, '_>, address: u64, room: &mut Room) -> Result<Option<String>, Failure> {
+    match index.row_at(address, &mut room.rules) {
+        Ok(row) => {
+            let expressions = index.expressions_at(address, &mut room.bytes, &mut room.blocks)?;
+            Ok(Some(text_of(&row, &expressions)))
+        }
         Err(Failure::NoFde) => Ok(None),
         Err(failure) => Err(failure),
     }
 }
 
-fn print_fde(index: &Index<'_, '_>, fde: &Entry, room: &mut [RegisterRule]) -> Result<(), Failure> {
+fn print_fde(index: &Index<'_, '_>, fde: &Entry, room: &mut Room) -> Result<(), Failure> {
     let end = u128::from(fde.begin) + u128::from(fde.range);
     println!("fde {:#x} {end:#x} ra=r{}", fde.begin, fde.return_register);
     let mut before = None;
@@ -56,7 +75,8 @@ fn run(bytes: &[u8], target: Target, addresses: &[u64]) -> Result<(), Failure> {
     let section = Section::check(bytes, target)?;
     let mut entries = vec![Entry::default(); section.index_size()?];
     let index = section.index(&mut entries)?;
-    let mut room = [RegisterRule::default(); 512];
+    let mut room =
+        Room { rules: [RegisterRule::default(); 512], blocks: [Block::default(); 512], bytes: [0; 1 << 14] };
     for address in addresses {
         let text = look_up(&index, *address, &mut room)?;
         println!("{address:#x}{}", text.as_deref().unwrap_or(" no FDE"));

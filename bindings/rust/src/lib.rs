@@ -107,6 +107,13 @@ pub enum Failure {
         /// How many bytes, or registers, are needed.
         needed: usize,
     },
+    /// The room that is lent for expressions is too short.
+    ExpressionsTooShort {
+        /// How many blocks are needed.
+        blocks: usize,
+        /// How many bytes are needed.
+        bytes: usize,
+    },
     /// No FDE covers the address.
     NoFde,
     /// The index is not the one of these bytes.
@@ -200,6 +207,9 @@ impl fmt::Display for Failure {
             Failure::Refused(refusal) => write!(f, "refused: {refusal}"),
             Failure::OutOfMemory => write!(f, "out of memory"),
             Failure::TooShort { needed } => write!(f, "room for {needed} is needed"),
+            Failure::ExpressionsTooShort { blocks, bytes } => {
+                write!(f, "room for {blocks} blocks of {bytes} bytes is needed")
+            }
             Failure::NoFde => write!(f, "fault: NoFde"),
             Failure::BadIndex => write!(f, "the index is of other bytes"),
             Failure::Fault(fault) => write!(f, "fault: {fault}"),
@@ -295,7 +305,7 @@ pub enum CfaRule {
         /// The offset.
         offset: i64,
     },
-    /// By an expression.
+    /// By an expression (`DW_CFA_def_cfa_expression`), which `Index::expressions_at` tells.
     Expression,
 }
 
@@ -312,9 +322,9 @@ pub enum Rule {
     ValOffset(i64),
     /// It is in another register.
     Register(u16),
-    /// It is saved in memory where an expression says.
+    /// It is saved in memory where an expression says (`DW_CFA_expression`), which `Index::expressions_at` tells.
     Expression,
-    /// It is the value of an expression.
+    /// It is the value of an expression (`DW_CFA_val_expression`), which `Index::expressions_at` tells.
     ValExpression,
 }
 
@@ -425,6 +435,69 @@ impl<'i, 'a> Index<'i, 'a> {
         };
         let (begin, range, return_register) = (row.begin, row.range, row.return_register);
         Ok(Row { begin, range, cfa, return_register, registers: &out[..row.count as usize] })
+    }
+}
+
+/// Where the block of an expression stands, as a look-up writes it.
+#[derive(Clone, Copy, Debug, Default, PartialEq, Eq)]
+#[repr(transparent)]
+pub struct Block(RawBlock);
+
+impl Block {
+    /// Whose rule it belongs to.
+    pub fn column(&self) -> Column {
+        column_of(self.0.column)
+    }
+}
+
+/// The expressions of a row. Each is a block of operations (DWARF 5, 2.5 and 7.7.1) in the section's order of bytes: of all blocks
+/// that spell its operations, the shortest.
+#[derive(Clone, Copy, Debug, PartialEq, Eq)]
+pub struct Expressions<'o> {
+    bytes: &'o [u8],
+    blocks: &'o [Block],
+}
+
+impl<'o> Expressions<'o> {
+    /// All of them: that of the canonical frame address, and then those of the registers, ascending.
+    pub fn iter(&self) -> impl Iterator<Item = (Column, &'o [u8])> + 'o {
+        let bytes = self.bytes;
+        self.blocks.iter().map(move |block| (block.column(), &bytes[block.0.place..][..block.0.len]))
+    }
+
+    /// That of a column, where its rule has one.
+    pub fn of(&self, column: Column) -> Option<&'o [u8]> {
+        self.iter().find_map(|(of, block)| (of == column).then_some(block))
+    }
+}
+
+impl Index<'_, '_> {
+    /// The expressions of the row at an address. Their blocks are written to the front of `bytes`, and where each stands to the
+    /// front of `blocks`. Where either does not fit, `Failure::ExpressionsTooShort` says how many there are, and both stay.
+    pub fn expressions_at<'o>(
+        &self,
+        address: u64,
+        bytes: &'o mut [u8],
+        blocks: &'o mut [Block],
+    ) -> Result<Expressions<'o>, Failure> {
+        let (size, order) = self.target.numbers();
+        let (mut all, mut refusal) = (RawBlocks::default(), RawRefusal::default());
+        let (section, len) = (self.bytes.as_ptr(), self.bytes.len());
+        let (entries, count) = (self.entries.as_ptr(), self.entries.len());
+        let (out, room) = (bytes.as_mut_ptr(), bytes.len());
+        let (places, most) = (blocks.as_mut_ptr().cast::<RawBlock>(), blocks.len());
+        // SAFETY: all slices and both structs are lent for the call, and those that are written are ours alone. A block is a RawBlock.
+        let status = unsafe {
+            dwframe_expressions_at(
+                section, len, size, order, entries, count, address, out, room, places, most, &mut all, &mut refusal,
+            )
+        };
+        match answer(status, refusal, all.count) {
+            Err(Failure::TooShort { .. }) => {
+                Err(Failure::ExpressionsTooShort { blocks: all.count, bytes: all.len })
+            }
+            told => told.map(|()| Expressions { bytes: &bytes[..all.len], blocks: &blocks[..all.count] }),
+        }
     }
 }
 
@@ -553,12 +626,17 @@ impl Section<'_> {
     }
 }
 
-// What a status of a frame says.
-fn fault_of(status: u32, fault: RawFault) -> Option<Failure> {
-    let column = match u16::try_from(fault.column) {
+// The CFA's column is 65536.
+fn column_of(number: u32) -> Column {
+    match u16::try_from(number) {
         Ok(register) => Column::Register(register),
         Err(_) => Column::Cfa,
-    };
+    }
+}
+
+// What a status of a frame says.
+fn fault_of(status: u32, fault: RawFault) -> Option<Failure> {
+    let column = column_of(fault.column);
     Some(match status {
         5 => Failure::NoFde,
         6 => Failure::Fault(Fault::NoValue { kind: kind_of(fault.kind), index: fault.index, column }),
@@ -673,6 +751,21 @@ struct RawRow {
 }
 
 #[repr(C)]
+#[derive(Clone, Copy, Debug, Default, PartialEq, Eq)]
+struct RawBlock {
+    column: u32,
+    place: usize,
+    len: usize,
+}
+
+#[repr(C)]
+#[derive(Clone, Copy, Default)]
+struct RawBlocks {
+    count: usize,
+    len: usize,
+}
+
+#[repr(C)]
 #[derive(Clone, Copy, Default)]
 struct RawFault {
     column: u32,
@@ -755,6 +848,21 @@ unsafe extern "C" {
         rules: *mut RawRule,
         room: usize,
         row: *mut RawRow,
+        refusal: *mut RawRefusal,
+    ) -> u32;
+    fn dwframe_expressions_at(
+        bytes: *const u8,
+        len: usize,
+        address_size: u8,
+        byte_order: u8,
+        index: *const Entry,
+        entries: usize,
+        address: u64,
+        expressions: *mut u8,
+        bytes_room: usize,
+        blocks: *mut RawBlock,
+        blocks_room: usize,
+        all: *mut RawBlocks,
         refusal: *mut RawRefusal,
     ) -> u32;
 }

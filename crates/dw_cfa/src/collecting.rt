@@ -15,7 +15,7 @@ use crate::steps::RowSteps;
 use dw_num::{Program, ReadError, Target, are_bytes};
 use std::alloc::Global;
 
-/// Rows with the locations that they start at, which never fall.
+/// Rows of the call frame table (6.4.3) with the locations that they start at, which never fall.
 pub type Rows<'a> = Vec<LocatedRow<'a>>;
 
 /// The rows that a CIE's and an FDE's program give, from an address `begin` of the target on: one before each

@@ -18,6 +18,7 @@ mod room;
 mod row;
 mod rule;
 mod running;
+mod showing;
 mod states;
 mod steps;
 mod tree;

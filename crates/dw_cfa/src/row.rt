@@ -542,7 +542,7 @@ impl<'a> Entries<'a> {
     }
 }
 
-/// The rules at an address: how the canonical frame address and the registers of the caller are found. A
+/// The rules at an address, a row of the table of 6.4.1: how the canonical frame address and the registers of the caller are found. A
 /// contract sees the CFA's rule and the registers that are not Unspecified, ascending, with theirs.
 #[derive(Drop)]
 pub struct Row<'a> {

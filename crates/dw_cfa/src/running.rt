@@ -16,10 +16,12 @@ use crate::states::States;
 use crate::turn::turn;
 use dw_num::{Code, Cursor, ReadError, Refusal, are_bytes};
 
-/// A row, and the location that it starts at. It holds up to the location of the next row.
+/// A row of the call frame table (6.4.1, 6.4.3), and the location that it starts at. It holds up to the location of the next row.
 #[derive(Drop)]
 pub struct LocatedRow<'a> {
+    /// Where it starts: `initial_location`, or what `DW_CFA_set_loc` and `DW_CFA_advance_loc` made of it.
     pub location: u128,
+    /// The rules from there on.
     pub row: Row<'a>,
 }
 

@@ -90,7 +90,7 @@ pub fn initial_row<'a>(
     run_cie(alloc, cie_program, factors, target)
 }
 
-/// The rows that a CIE's and an FDE's program give, one at a time: one before each instruction that moves the
+/// The rows that a CIE's `initial_instructions` and an FDE's `instructions` give (6.4.3), one at a time: one before each instruction that moves the
 /// location, and one at the end. A contract sees the rows still to come, the refusal behind them, the row that is
 /// lent, and the error that was answered.
 #[derive(Drop)]

@@ -11,9 +11,9 @@ use std::fmt;
 pub enum Kind {
     /// The stack has fewer entries than the operation names.
     StackUnderflow,
-    /// The divisor of a div or a mod is 0.
+    /// The divisor of a `DW_OP_div` or a `DW_OP_mod` is 0.
     DivideByZero,
-    /// A register holds nothing.
+    /// A register that `DW_OP_breg0` to `DW_OP_bregx` name holds nothing.
     NoRegister,
     /// A byte of memory is missing, or the bytes pass 2^N, where an address has N bits.
     Unreadable,
@@ -23,15 +23,15 @@ pub enum Kind {
     StepLimit,
     /// The stack is empty at the end.
     EmptyResult,
-    /// The operation makes a place, where a value is asked for.
+    /// The operation makes a place, as `DW_OP_reg0` or `DW_OP_piece`, where a value is asked for.
     NotAValue,
-    /// The frame base is not known.
+    /// The frame base, which `DW_OP_fbreg` asks for, is not known.
     NoFrameBase,
-    /// The canonical frame address is not known.
+    /// The canonical frame address, which `DW_OP_call_frame_cfa` asks for, is not known.
     NoCfa,
-    /// The object's address is not known.
+    /// The object's address, which `DW_OP_push_object_address` asks for, is not known.
     NoObject,
-    /// A piece has to follow, and something else does (2.6.1.2).
+    /// A `DW_OP_piece` or a `DW_OP_bit_piece` has to follow, and something else does (2.6.1.2).
     MissingPiece,
 }
 

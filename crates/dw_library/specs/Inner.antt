@@ -1,2 +1,3 @@
 -- How the code keeps what the contracts say. No public clause reaches these.
 pub mod Unwinding
+pub mod Expressions

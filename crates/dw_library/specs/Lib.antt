@@ -7,3 +7,4 @@ pub mod Registers
 pub mod Unwinding
 pub mod Inner
 pub mod Index
+pub mod Expressions

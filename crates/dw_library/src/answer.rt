@@ -21,8 +21,11 @@ pub(crate) const TOO_SHORT: u32 = 4;
 #[repr(C)]
 #[derive(Clone, Copy)]
 pub struct Refused {
+    /// The number of the code, 1 to 27.
     pub code: u32,
+    /// Which section: 1, or 2 for the second of two.
     pub section: u32,
+    /// The place of the first bad byte.
     pub at: u64,
 }
 
@@ -30,7 +33,9 @@ pub struct Refused {
 #[repr(C)]
 #[derive(Clone, Copy)]
 pub struct Counts {
+    /// Common information entries, whose `CIE_id` is all ones (6.4.1).
     pub cies: u64,
+    /// Frame description entries, each with a `CIE_pointer`.
     pub fdes: u64,
 }
 

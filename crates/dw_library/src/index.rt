@@ -18,17 +18,22 @@ use dw_section::{FdeRow, LookUpError, Ranged, check, look_up};
 use std::alloc::Global;
 
 /// No entry of the index covers the address.
-const NO_FDE: u32 = 5;
+pub(crate) const NO_FDE: u32 = 5;
 /// The index is not the one of these bytes.
-const BAD_INDEX: u32 = 10;
+pub(crate) const BAD_INDEX: u32 = 10;
 
-/// The rule of a register: its number, the kind, and the other register or the offset that the kind names.
+/// The rule of a register (6.4.2.3): its number, the kind, and the other register or the offset that the kind names.
 #[repr(C)]
 #[derive(Clone, Copy)]
 pub struct Rule {
+    /// The register's DWARF number.
     pub number: u16,
+    /// 1 `DW_CFA_undefined`, 2 `DW_CFA_same_value`, 3 `DW_CFA_offset`, 4 `DW_CFA_val_offset`, 5 `DW_CFA_register`,
+    /// 6 `DW_CFA_expression`, 7 `DW_CFA_val_expression`.
     pub kind: u16,
+    /// The register of `DW_CFA_register`.
     pub other: u32,
+    /// The offset of `DW_CFA_offset` and `DW_CFA_val_offset`, in bytes.
     pub offset: i64,
 }
 
@@ -37,12 +42,19 @@ pub struct Rule {
 #[repr(C)]
 #[derive(Clone, Copy)]
 pub struct Row {
+    /// `initial_location` of the FDE (6.4.1).
     pub begin: u64,
+    /// Its `address_range`.
     pub range: u64,
+    /// The offset of `DW_CFA_def_cfa`, in bytes.
     pub cfa_offset: i64,
+    /// How many registers have a rule.
     pub count: u64,
+    /// 1 `DW_CFA_def_cfa`, 2 `DW_CFA_def_cfa_expression`.
     pub cfa_kind: u32,
+    /// The register of `DW_CFA_def_cfa`.
     pub cfa_register: u16,
+    /// `return_address_register` of the CIE.
     pub return_register: u16,
 }
 

@@ -6,6 +6,7 @@
 
 mod answer;
 mod checking;
+mod expressions;
 mod forms;
 mod index;
 mod naming;

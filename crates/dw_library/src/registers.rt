@@ -12,8 +12,11 @@ use std::alloc::{AllocError, Global};
 #[repr(C)]
 #[derive(Clone, Copy)]
 pub struct Register {
+    /// The register's DWARF number.
     pub number: u16,
+    /// Not 0 where the value is known.
     pub known: u16,
+    /// The value, taken modulo 2^N.
     pub value: u64,
 }
 

@@ -33,18 +33,21 @@ const NO_REGISTER: u32 = 8;
 const DEVICE: u32 = 9;
 
 /// The column of a fault that is that of the CFA.
-const CFA: u32 = 65536;
+pub(crate) const CFA: u32 = 65536;
 
-/// Where a machine stopped, and what is asked: the address that is looked up, how many steps each expression may take, the size
-/// of an address, 4 or 8, the order of bytes, 0 for little-endian and 1 for big-endian, and what a register is taken as that no
-/// instruction has set: 0 for unchanged and 1 for undefined.
+/// Where a machine stopped, and what is asked.
 #[repr(C)]
 #[derive(Clone, Copy)]
 pub struct Stop {
+    /// The address that is looked up.
     pub pc: u64,
+    /// How many steps each expression may take.
     pub steps: u64,
+    /// The size of an address, 4 or 8, as `address_size` of a CIE (6.4.1).
     pub address_size: u8,
+    /// 0 for little-endian and 1 for big-endian.
     pub byte_order: u8,
+    /// What an unset register is taken as: 0 for unchanged and 1 for undefined.
     pub unset: u8,
 }
 
@@ -53,8 +56,11 @@ pub struct Stop {
 #[repr(C)]
 #[derive(Clone, Copy)]
 pub struct Frame {
+    /// The canonical frame address (6.4).
     pub cfa: u64,
+    /// How many registers there are.
     pub count: usize,
+    /// `return_address_register` of the CIE.
     pub return_register: u32,
 }
 
@@ -63,8 +69,11 @@ pub struct Frame {
 #[repr(C)]
 #[derive(Clone, Copy)]
 pub struct Fault {
+    /// A register's number, or 65536 for the CFA.
     pub column: u32,
+    /// Of an expression (2.5) its fault, 1 to 12.
     pub kind: u32,
+    /// Of an expression the operation's index.
     pub index: u64,
 }
 

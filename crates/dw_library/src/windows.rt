@@ -14,8 +14,11 @@ use dw_num::Order;
 #[repr(C)]
 #[derive(Clone, Copy)]
 pub struct Window {
+    /// The first address.
     pub address: u64,
+    /// Where its byte stands in the buffer.
     pub place: u64,
+    /// How many addresses.
     pub len: u64,
 }
 

@@ -6,44 +6,46 @@ ghost use Rattle.dw_num.specs.Codes.{number_of, name_of};
 use std::error::Error;
 use std::fmt;
 
-/// What is wrong.
+/// What is wrong. Fields are named as in 6.4.1, instructions as in 6.4.2.
 #[derive(Clone, Copy, Debug, PartialEq, Eq)]
 pub enum Code {
     /// A field runs out of its container; the place is the field's first byte.
     Truncated,
-    /// A unit length from 0xfffffff0 to 0xfffffffe; the place is the length (7.4).
+    /// A `length` from 0xfffffff0 to 0xfffffffe; the place is the length (7.4).
     ReservedLength,
-    /// An entry's length passes the section's end; the place is the entry.
+    /// An entry's `length` passes the section's end; the place is the entry.
     EntryPastEnd,
-    /// A CIE's version is none of 1, 3 and 4; the place is the version byte.
+    /// A CIE's `version` is none of 1, 3 and 4; the place is its byte.
     BadVersion,
-    /// A CIE's augmentation string is not empty; the place is the string.
+    /// A CIE's `augmentation` is not empty; the place is the string.
     Augmentation,
-    /// A CIE's address size is not the target's; the place is its byte.
+    /// A CIE's `address_size` is not the target's; the place is its byte.
     AddressSize,
-    /// A CIE's segment selector size is not 0; the place is its byte.
+    /// A CIE's `segment_selector_size` is not 0; the place is its byte.
     SegmentSelector,
     /// A LEB128 number ends but does not fit 64 bits; the place is its first byte (7.6).
     NumberTooLarge,
-    /// A register above 65,535; the place is the operand.
+    /// A register above 65,535, also as `return_address_register`; the place is the operand.
     RegisterTooLarge,
-    /// A CIE pointer names no CIE; the place is the pointer.
+    /// A `CIE_pointer` names no CIE; the place is the pointer.
     NoSuchCie,
-    /// An FDE's range passes the address space; the place is the range.
+    /// `initial_location` plus `address_range` passes the address space; the place is the range.
     RangeTooLarge,
     /// An opcode that is no call frame instruction's; the place is the opcode (7.24).
     UnknownInstruction,
-    /// An instruction that a CIE's program may not hold; the place is its opcode.
+    /// An instruction that `initial_instructions` may not hold: an advance, `DW_CFA_set_loc`, `DW_CFA_restore`, `DW_CFA_restore_extended`,
+    /// `DW_CFA_remember_state` or `DW_CFA_restore_state`; the place is its opcode.
     NotInCie,
-    /// A set_loc below the current location; the place is its opcode.
+    /// A `DW_CFA_set_loc` below the current location; the place is its opcode.
     LocationBackwards,
-    /// A location above the address space; the place is the opcode.
+    /// A location above the address space, by `DW_CFA_advance_loc` or the like; the place is the opcode.
     LocationTooLarge,
-    /// A restore_state with no remembered state; the place is its opcode.
+    /// A `DW_CFA_restore_state` with no remembered state; the place is its opcode.
     EmptyStateStack,
-    /// The 65th state remembered at once; the place is its opcode.
+    /// The 65th state that `DW_CFA_remember_state` keeps at once; the place is its opcode.
     StateStackFull,
-    /// Half a CFA rule where the CFA is not register and offset; the place is the opcode.
+    /// `DW_CFA_def_cfa_register`, `DW_CFA_def_cfa_offset` or `DW_CFA_def_cfa_offset_sf` where the CFA is not register and offset
+    /// (6.4.2.2); the place is the opcode.
     CfaNotRegister,
     /// An offset outside -(2^63-1) to 2^63-1; the place is the instruction's opcode.
     OffsetTooLarge,
@@ -51,9 +53,9 @@ pub enum Code {
     UnknownOperation,
     /// An operation that call frame expressions may not hold; the place is its opcode (6.4.2).
     NotInFrame,
-    /// A branch that leads to no operation of its block; the place is its opcode.
+    /// A `DW_OP_bra` or `DW_OP_skip` that leads to no operation of its block (2.5.1.5); the place is its opcode.
     BadBranch,
-    /// A deref_size of 0 or above the address size; the place is its operand.
+    /// A `DW_OP_deref_size` of 0 or above the address size (2.5.1.3); the place is its operand.
     BadDerefSize,
     /// An FDE has a covered address without a CFA rule; the place is the FDE.
     NoCfaRule,
@@ -146,7 +148,9 @@ impl fmt::Display for Code {
 /// A fault, and the byte that it is found at: a place in the section.
 #[derive(Clone, Copy, Debug, PartialEq, Eq)]
 pub struct Refusal {
+    /// What is wrong.
     pub code: Code,
+    /// The place of the byte.
     pub at: u64,
 }
 

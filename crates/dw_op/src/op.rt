@@ -12,7 +12,8 @@ pub enum Op<'a> {
     Addr(u64),
     /// `DW_OP_deref`: replace the top, an address, by the N/8 bytes there.
     Deref,
-    /// `DW_OP_lit<n>`, `DW_OP_const<n>u`, `DW_OP_const<n>s`, `DW_OP_constu`, `DW_OP_consts`: push this number, modulo 2^N.
+    /// `DW_OP_lit0` to `DW_OP_lit31`, `DW_OP_const1u`, `DW_OP_const1s`, `DW_OP_const2u`, `DW_OP_const2s`, `DW_OP_const4u`,
+    /// `DW_OP_const4s`, `DW_OP_const8u`, `DW_OP_const8s`, `DW_OP_constu`, `DW_OP_consts`: push this number, modulo 2^N.
     Const(u64),
     /// `DW_OP_dup`: push the top once more.
     Dup,
@@ -72,9 +73,9 @@ pub enum Op<'a> {
     Ne,
     /// `DW_OP_skip`: go on at the operation of this index.
     Skip(usize),
-    /// `DW_OP_reg<n>`, `DW_OP_regx`: the place is this register.
+    /// `DW_OP_reg0` to `DW_OP_reg31`, `DW_OP_regx`: the place is this register.
     Reg(u16),
-    /// `DW_OP_breg<n>`, `DW_OP_bregx`: push the value of a register plus an offset in bytes.
+    /// `DW_OP_breg0` to `DW_OP_breg31`, `DW_OP_bregx`: push the value of a register plus an offset in bytes.
     Breg(u16, i64),
     /// `DW_OP_fbreg`: push the frame base plus an offset in bytes.
     Fbreg(i64),

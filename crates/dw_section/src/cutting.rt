@@ -27,9 +27,9 @@ use std::alloc::Global;
 /// What an entry is.
 #[derive(Clone, Copy, Debug, PartialEq, Eq)]
 pub enum Kind {
-    /// A common information entry: its first field is all ones.
+    /// A common information entry: its first field, `CIE_id`, is all ones.
     Cie,
-    /// A frame description entry: its first field names a CIE.
+    /// A frame description entry: its first field, `CIE_pointer`, names a CIE.
     Fde,
 }
 
@@ -38,16 +38,20 @@ pub enum Kind {
 pub struct Entry {
     /// The place of its first byte.
     pub at: u64,
+    /// Whether it is a CIE or an FDE.
     pub kind: Kind,
+    /// Whether its `length` is of the 32-bit or the 64-bit form (7.4).
     pub form: Form,
-    /// How many bytes follow its length field.
+    /// Its `length`: how many bytes follow that field.
     pub length: u64,
 }
 
 /// How many entries of each kind a section has.
 #[derive(Clone, Copy, Debug, PartialEq, Eq)]
 pub struct EntryCounts {
+    /// Common information entries (CIEs).
     pub cies: usize,
+    /// Frame description entries (FDEs).
     pub fdes: usize,
 }
 

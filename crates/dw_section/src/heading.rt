@@ -32,20 +32,33 @@ use std::alloc::Global;
 /// addresses, and their sum is at most 2^N.
 #[derive(Clone, Copy, Debug)]
 pub enum Header<'a> {
+    /// A common information entry, whose `CIE_id` is all ones. Its `version`, `augmentation`, `address_size` and
+    /// `segment_selector_size` are judged, and not kept.
     Cie {
+        /// The place of its `length`.
         at: u64,
         form: Form,
+        /// `code_alignment_factor`.
         code_factor: u64,
+        /// `data_alignment_factor`.
         data_factor: i64,
+        /// `return_address_register`.
         return_register: u16,
+        /// `initial_instructions`, with the padding.
         program: Program<'a>,
     },
+    /// A frame description entry.
     Fde {
+        /// The place of its `length`.
         at: u64,
         form: Form,
+        /// `CIE_pointer`: the place of the CIE in the section.
         cie_at: u64,
+        /// `initial_location`.
         begin: u64,
+        /// `address_range`.
         range: u64,
+        /// `instructions`, with the padding.
         program: Program<'a>,
     },
 }

@@ -27,9 +27,13 @@ use std::alloc::{AllocError, Global};
 #[repr(C)]
 #[derive(Clone, Copy, Debug, PartialEq, Eq)]
 pub struct Ranged {
+    /// `initial_location` (6.4.1).
     pub begin: u64,
+    /// `address_range`.
     pub range: u64,
+    /// The place of the FDE's `length` in the section.
     pub at: u32,
+    /// `return_address_register` of the CIE that `CIE_pointer` names.
     pub return_register: u16,
 }
 

@@ -25,7 +25,7 @@ use dw_num::{Code, ReadError, Refusal, Target, are_bytes};
 use std::alloc::Global;
 use std::marker::Model;
 
-/// A section that was checked: its nonempty FDEs in the order of their begins. A contract sees its target and its
+/// A section `.debug_frame` (6.4.1) that was checked: its nonempty FDEs in the order of their begins (`initial_location`). A contract sees its target and its
 /// bytes.
 #[derive(Drop)]
 pub struct Table<'a> {

@@ -21,8 +21,11 @@ use std::alloc::Global;
 /// The values of a stopped machine: its program counter, if it is given, its registers and its memory.
 #[derive(Drop)]
 pub struct Dump {
+    /// The program counter, the address that is looked up.
     pub pc: Option<u64>,
+    /// Registers by their DWARF numbers.
     pub registers: Registers,
+    /// Bytes by their addresses.
     pub memory: DumpMemory,
 }
 

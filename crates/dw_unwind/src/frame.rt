@@ -9,19 +9,21 @@ use std::error::Error;
 use std::fmt;
 use std::marker::Model;
 
-/// What a register is taken as that no instruction has set.
+/// What a register is taken as that no instruction has set: the ABI says it (6.4.1).
 #[derive(Clone, Copy, Debug, PartialEq, Eq)]
 pub enum Policy {
-    /// It has not been changed.
+    /// It has not been changed, as by `DW_CFA_same_value`.
     SameValue,
-    /// It has no recoverable value.
+    /// It has no recoverable value, as by `DW_CFA_undefined`.
     Undefined,
 }
 
-/// A column of a row: the canonical frame address, or a register.
+/// A column of a row of the table of 6.4.1: the canonical frame address, or a register.
 #[derive(Clone, Copy, Debug, PartialEq, Eq)]
 pub enum Column {
+    /// The canonical frame address.
     Cfa,
+    /// A register by its DWARF number.
     Register(u16),
 }
 
@@ -75,8 +77,11 @@ impl FrameRegisters {
 /// the registers that the machine gave, that the row specifies, or that holds the return address.
 #[derive(Debug, Drop)]
 pub struct Frame {
+    /// The canonical frame address (CFA).
     pub cfa: u64,
+    /// `return_address_register` of the CIE: the column whose value is the caller's program counter.
     pub return_register: u16,
+    /// The caller's registers, ascending.
     pub registers: FrameRegisters,
 }
 

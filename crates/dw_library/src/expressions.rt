@@ -1,0 +1,188 @@
+//! The expressions of a row, in buffers that the caller lends.
+
+ghost use Rattle.std.specs.Prelude.{◌≡◌, [], ◌∷◌, IfOk, OnOk, OnErr, MatchResult};
+ghost use Rattle.dw_section.specs.Inner.Table.{IsTable};
+ghost use Rattle.dw_section.specs.declared.standing.LookUpError.TheVariants as TheLookUpError;
+ghost use Rattle.dw_library.specs.Answers.{target_of};
+ghost use Rattle.dw_library.specs.Expressions.{AreAnyExpressions, AreBlocks, AreExpressions, ArePut, Buffers, TellsAt, TellsStanding, Told, expressions_of, in_cfa, in_rule, no_blocks};
+ghost use Rattle.dw_library.specs.Inner.Expressions.{Adds};
+
+use crate::answer::{
+    BAD_ARGUMENT, OK, OUT_OF_MEMORY, REFUSED, Refused, TOO_SHORT, not_refused, target_of, told,
+};
+use crate::index::{BAD_INDEX, NO_FDE};
+use crate::unwinding::CFA;
+use dw_cfa::{CfaRule, RegRule, Row};
+use dw_num::Target;
+use dw_op::ExprRef;
+use dw_section::{LookUpError, Ranged, look_up};
+use std::alloc::{AllocError, Global};
+
+/// Where the block of an expression stands among the bytes. Its rule is set by `DW_CFA_def_cfa_expression`, `DW_CFA_expression` or
+/// `DW_CFA_val_expression` (6.4.2.2, 6.4.2.3).
+#[repr(C)]
+#[derive(Clone, Copy)]
+pub struct Block {
+    /// A register's number, or 65536 for the CFA.
+    pub column: u32,
+    /// Its first byte, counted from the buffer's first one.
+    pub place: usize,
+    /// How many bytes it has.
+    pub len: usize,
+}
+
+/// How many expressions a row has, and how many bytes their blocks have together. Both are 0 where there is no row.
+#[repr(C)]
+#[derive(Clone, Copy)]
+pub struct Blocks {
+    /// How many expressions.
+    pub count: usize,
+    /// How many bytes.
+    pub len: usize,
+}
+
+// Least blocks one after another, and where each stands.
+#[derive(Drop)]
+struct Gathered {
+    blocks: Vec<Block>,
+    bytes: Vec<u8>,
+}
+
+impl Gathered {
+    fn add(&mut self, column: u32, expression: &ExprRef<'_>) -> Result<(), AllocError>
+        ensures { OnOk result (Adds ((column, expression.now) ∷ []) self.old self.new) }
+    {
+        let place = self.bytes.len();
+        expression.put_least(&mut self.bytes)?;
+        let len = self.bytes.len() - place;
+        self.blocks.push(Block { column, place, len })?;
+        Ok(())
+    }
+
+    fn add_cfa(&mut self, rule: &CfaRule<'_>) -> Result<(), AllocError>
+        ensures { OnOk result (Adds (in_cfa rule.now) self.old self.new) }
+    {
+        match rule {
+            CfaRule::Expression(expression) => self.add(CFA, expression),
+            _ => Ok(()),
+        }
+    }
+
+    fn add_rule(&mut self, register: u16, rule: &RegRule<'_>) -> Result<(), AllocError>
+        ensures { OnOk result (Adds (in_rule register rule.now) self.old self.new) }
+    {
+        match rule {
+            RegRule::Expression(expression) | RegRule::ValExpression(expression) => {
+                self.add(u32::from(register), expression)
+            }
+            _ => Ok(()),
+        }
+    }
+}
+
+// The blocks of a row's expressions.
+fn gather(alloc: Global, row: &Row<'_>) -> Result<Gathered, AllocError>
+    ensures { IfOk result (λ g. AreBlocks 0 (expressions_of row.now) g.blocks.items g.bytes.items) }
+{
+    let mut all = Gathered {
+        blocks: Vec::new(alloc),
+        bytes: Vec::new(alloc),
+    };
+    all.add_cfa(&row.cfa())?;
+    for (register, rule) in row.specified() {
+        all.add_rule(register, &rule)?;
+    }
+    Ok(all)
+}
+
+fn no_blocks() -> Blocks
+    ensures { result ≡ no_blocks }
+{
+    Blocks { count: 0, len: 0 }
+}
+
+// Writes blocks and bytes to the fronts of two buffers, where both fit.
+fn put(all: &Gathered, bytes: &mut [u8], blocks: &mut [Block]) -> u32
+    ensures { ArePut all.now.blocks.items all.now.bytes.items (record { blocks = blocks.old; bytes = bytes.old }) result (record { blocks = blocks.new; bytes = bytes.new }) }
+{
+    if blocks.len() < all.blocks.len() || bytes.len() < all.bytes.len() {
+        return TOO_SHORT;
+    }
+    blocks[..all.blocks.len()].copy_from_slice(&all.blocks);
+    bytes[..all.bytes.len()].copy_from_slice(&all.bytes);
+    OK
+}
+
+// Writes the expressions of the row of an address, or answers why there is none.
+fn put_expressions(
+    alloc: Global,
+    section: &[u8],
+    target: Target,
+    index: &[Ranged],
+    address: u64,
+    bytes: &mut [u8],
+    blocks: &mut [Block],
+    all: &mut Blocks,
+) -> Result<u32, LookUpError>
+    ensures own { IsTable target section.now index.now → all.old ≡ no_blocks → MatchResult result (λ status. TellsAt target section.now address (record { blocks = blocks.old; bytes = bytes.old }) (record { status = status; buffers = record { blocks = blocks.new; bytes = bytes.new }; all = all.new })) (λ e. e ≡ TheLookUpError.OutOfMemory) }
+    ensures any { all.old ≡ no_blocks → IfOk result (λ status. TellsStanding target section.now address (record { blocks = blocks.old; bytes = bytes.old }) (record { status = status; buffers = record { blocks = blocks.new; bytes = bytes.new }; all = all.new })) }
+    ensures kept { OnErr result ((blocks.new ≡ blocks.old) × (bytes.new ≡ bytes.old) × (all.new ≡ all.old)) }
+{
+    let Some(found) = look_up(alloc, section, target, index, address)? else {
+        return Ok(NO_FDE);
+    };
+    let Ok(gathered) = gather(alloc, found.row()) else {
+        return Err(LookUpError::OutOfMemory);
+    };
+    *all = Blocks {
+        count: gathered.blocks.len(),
+        len: gathered.bytes.len(),
+    };
+    Ok(put(&gathered, bytes, blocks))
+}
+
+/// The expressions of the row at an address, by an index: that of the CFA, and then those of the registers, ascending. Each is
+/// told by the shortest block of its operations. The blocks are written to `expressions`, one after another, and where each stands to
+/// `blocks`. Where either does not fit it answers `TOO_SHORT`, `all` says what is needed, and both stay.
+#[unsafe(no_mangle)]
+pub extern "C" fn dwframe_expressions_at(
+    alloc: Global,
+    bytes: &[u8],
+    address_size: u8,
+    byte_order: u8,
+    index: &[Ranged],
+    address: u64,
+    expressions: &mut [u8],
+    blocks: &mut [Block],
+    all: &mut Blocks,
+    refused: &mut Refused,
+) -> u32
+    // By the index of an accepted section they are those of the section's rules.
+    ensures own { let old : Buffers = record { blocks = blocks.old; bytes = expressions.old } in let told : Told = record { status = result; buffers = record { blocks = blocks.new; bytes = expressions.new }; all = all.new } in AreExpressions (target_of address_size byte_order) bytes.now index.now address old told refused.new }
+    // By any other they are those of an FDE that stands in the bytes.
+    ensures any { let old : Buffers = record { blocks = blocks.old; bytes = expressions.old } in let told : Told = record { status = result; buffers = record { blocks = blocks.new; bytes = expressions.new }; all = all.new } in AreAnyExpressions (target_of address_size byte_order) bytes.now address old told refused.new }
+{
+    *all = no_blocks();
+    *refused = not_refused();
+    let Some(target) = target_of(address_size, byte_order) else {
+        return BAD_ARGUMENT;
+    };
+    match put_expressions(
+        alloc,
+        bytes,
+        target,
+        index,
+        address,
+        expressions,
+        blocks,
+        all,
+    ) {
+        Ok(status) => status,
+        Err(LookUpError::Refused(refusal)) => {
+            *refused = told(1, refusal);
+            REFUSED
+        }
+        Err(LookUpError::BadIndex) => BAD_INDEX,
+        Err(LookUpError::OutOfMemory) => OUT_OF_MEMORY,
+    }
+}
