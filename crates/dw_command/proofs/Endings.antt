@@ -55,15 +55,15 @@ loaded P Q (Ok x) v h is = let same : v ≡ x = cc in rw same h
 loaded P Q (Err e) v h is = absurd is
 
 -- a normal form that is not written whole
-pub unwritten : (target : Target) (cap : ℕ) (s : List ℕ) (e : WriteError) (failed failed' : ℕ) (old new : Option (List ℕ))
-    → Writes target cap s (Err e) failed failed' old new → Then (Normalises target cap s) (λ (_ : Unit {0}). Prints {A = Unit {0}} failed failed' tt) (Err (of_write e))
-unwritten target cap s (write_error.Refused r) failed failed' old new h = inr (failures.Refused r, (read_error.Refused r, h.1, refl), refl)
-unwritten target cap s (write_error.Write written) failed failed' old new h = inl (tt, (h.1.normal, h.1.is, h.1.within), h.0)
-unwritten target cap s (write_error.Memory written) failed failed' old new h = inr (failures.OutOfMemory, (read_error.OutOfMemory, tt, refl), refl)
+pub unwritten : (target : Target) (cap : ℕ) (s : List ℕ) (e : WriteError) (failed failed' left : ℕ) (old new : Option (List ℕ))
+    → Writes target cap s (Err e) failed failed' old new → Then (Normalises target cap s) (λ (_ : Unit {0}). Prints {A = Unit {0}} failed failed' left tt) (Err (of_write e))
+unwritten target cap s (write_error.Refused r) failed failed' left old new h = inr (failures.Refused r, (read_error.Refused r, h.1, refl), refl)
+unwritten target cap s (write_error.Write written) failed failed' left old new h = inl (tt, (h.1.normal, h.1.is, h.1.within), h.0)
+unwritten target cap s (write_error.Memory written) failed failed' left old new h = inr (failures.OutOfMemory, (read_error.OutOfMemory, tt, refl), refl)
 
 -- printed is what equals it
-pub prints_same : {A : Type 0} (old new : ℕ) (a b : A) (r : Result A Failure) → a ≡ b → Prints old new a r → Prints old new b r
-prints_same {A} old new a b r is h = subst (λ (x : A). Prints {A = A} old new x r) is h
+pub prints_same : {A : Type 0} (old new left : ℕ) (a b : A) (r : Result A Failure) → a ≡ b → Prints old new left a r → Prints old new left b r
+prints_same {A} old new left a b r is h = subst (λ (x : A). Prints {A = A} old new left x r) is h
 
 -- status 0 where there is an answer
 pub done : (Ends : Result (Unit {0}) Failure → Type 0) (answer : Result (Unit {0}) Failure) (r : Result ℕ Failure)
@@ -86,20 +86,20 @@ pub values_at : (t u : Target) (ops : List Op) (start : Option ℕ) (dump : Dump
 values_at t u ops start dump steps r is h = subst (λ (t : Target). Values t ops start dump steps r) is h
 
 -- behind a text and a block that is decoded
-pub behind_block : (gives : Text → Result (List ℕ) LoadError → Type 0) (old new : ℕ) (target : Target) (steps : ℕ) (start : Option ℕ) (block : List ℕ) (path : Option Text)
+pub behind_block : (gives : Text → Result (List ℕ) LoadError → Type 0) (old new left : ℕ) (target : Target) (steps : ℕ) (start : Option ℕ) (block : List ℕ) (path : Option Text)
     (text text' block' : List ℕ) (ops : List Op) (r : Result (Unit {0}) Failure)
     → text' ≡ text → LoadsText gives path (Ok text) → block' ≡ block → IsBlock Location target ops block'
-    → Then (Parses target text') (λ dump. Then (Values target ops start dump steps) (λ _. Prints {A = Unit {0}} old new tt)) r
-    → EvalEnds gives old new target steps start block path r
-behind_block gives old new target steps start block path text text' block' ops r lent loads same found ends =
+    → Then (Parses target text') (λ dump. Then (Values target ops start dump steps) (λ _. Prints {A = Unit {0}} old new left tt)) r
+    → EvalEnds gives old new left target steps start block path r
+behind_block gives old new left target steps start block path text text' block' ops r lent loads same found ends =
     inl (text', subst (λ (t : List ℕ). LoadsText gives path (Ok t)) (sym lent) loads, inl (ops, subst (λ (b : List ℕ). IsBlock Location target ops b) same found, ends))
 
 -- behind a text and a block that is refused
-pub block_refused : (gives : Text → Result (List ℕ) LoadError → Type 0) (old new : ℕ) (target : Target) (steps : ℕ) (start : Option ℕ) (block : List ℕ) (path : Option Text)
+pub block_refused : (gives : Text → Result (List ℕ) LoadError → Type 0) (old new left : ℕ) (target : Target) (steps : ℕ) (start : Option ℕ) (block : List ℕ) (path : Option Text)
     (text block' : List ℕ) (e : ReadError) (f : Failure)
     → LoadsText gives path (Ok text) → block' ≡ block → Refuses (BlockFault Location target block') e → f ≡ of_read e
-    → EvalEnds gives old new target steps start block path (Err f)
-block_refused gives old new target steps start block path text block' e f loads same refused is =
+    → EvalEnds gives old new left target steps start block path (Err f)
+block_refused gives old new left target steps start block path text block' e f loads same refused is =
     inl (text, loads, inr (f, (e, subst (λ (b : List ℕ). Refuses (BlockFault Location target b) e) same refused, is), refl))
 
 -- ---- frames
@@ -113,12 +113,12 @@ unwound t u s pc dump policy steps e is (inr h) =
     inr (subst (λ (t : Target). Unwound t s pc (stopped t dump.registers (byte_in dump.memory)) policy steps (Err e)) is h)
 
 -- behind both files
-pub behind_files : (gives : Text → Result (List ℕ) LoadError → Type 0) (old new : ℕ) (target : Target) (policy : Policy) (steps : ℕ) (path dump : Text)
+pub behind_files : (gives : Text → Result (List ℕ) LoadError → Type 0) (old new left : ℕ) (target : Target) (policy : Policy) (steps : ℕ) (path dump : Text)
     (s s' text text' : List ℕ) (r : Result (Unit {0}) Failure)
     → s' ≡ s → Loads gives path (Ok s) → text' ≡ text → LoadsDump gives dump (Ok text)
-    → Then (Checks target s') (λ _. Then (Parses target text') (λ dump. Then (Frames target s' dump policy steps) (λ _. Prints {A = Unit {0}} old new tt))) r
-    → UnwindEnds gives old new target policy steps path dump r
-behind_files gives old new target policy steps path dump s s' text text' r same loads same' loads' ends =
+    → Then (Checks target s') (λ _. Then (Parses target text') (λ dump. Then (Frames target s' dump policy steps) (λ _. Prints {A = Unit {0}} old new left tt))) r
+    → UnwindEnds gives old new left target policy steps path dump r
+behind_files gives old new left target policy steps path dump s s' text text' r same loads same' loads' ends =
     inl (s', lent gives path s s' same loads, inl (text', dump_lent gives dump text text' same' loads', ends))
 
 -- over the section that was checked
@@ -129,8 +129,8 @@ frames_at target s table dump policy steps r is h = subst (λ (t : Section). Fra
 -- ---- costs
 
 -- behind a normal form that is measured
-pub behind_length : (gives : Text → Result (List ℕ) LoadError → Type 0) (old new : ℕ) (target : Target) (path : Text) (s one two : List ℕ) (r : Result (Unit {0}) Failure)
-    → one ≡ s → two ≡ s → Loads gives path (Ok s) → IsWithin target 2147483647 one → Then (Checks target two) (λ _. Prints {A = Unit {0}} old new tt) r
-    → CostEnds gives old new target path r
-behind_length gives old new target path s one two r first second loads within ends =
+pub behind_length : (gives : Text → Result (List ℕ) LoadError → Type 0) (old new left : ℕ) (target : Target) (path : Text) (s one two : List ℕ) (r : Result (Unit {0}) Failure)
+    → one ≡ s → two ≡ s → Loads gives path (Ok s) → IsWithin target 2147483647 one → Then (Checks target two) (λ _. Prints {A = Unit {0}} old new left tt) r
+    → CostEnds gives old new left target path r
+behind_length gives old new left target path s one two r first second loads within ends =
     inl (two, lent gives path s two second loads, inl (tt, subst (IsWithin target 2147483647) (first ∙ sym second) within, ends))

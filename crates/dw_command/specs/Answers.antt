@@ -47,13 +47,17 @@ abbrev pub Calls : {A E : Type 0} → (A → Type 0) → (E → Type 0) → (E �
 Calls {A} {E} Answer Error Becomes (Ok a) = Answer a
 Calls {A} {E} Answer Error Becomes (Err f) = (e : E) × Error e × Becomes e f
 
--- the answer is printed, or cannot be written, or memory runs out before. An output cannot be written to where its count of failures
--- grew, and where the answer is printed it did not grow
-abbrev pub Prints : {A : Type 0} → ℕ → ℕ → A → Result A Failure → Type 0
-Prints old new a (Ok b) = (b ≡ a) × (new ≡ old)
-Prints old new a (Err failures.CannotWrite) = old < new
-Prints old new a (Err failures.OutOfMemory) = ⊤
-Prints old new a (Err failure) = ⊥
+-- an answer is not printed: the output cannot be written to where its count of failures grew, or memory ran out
+abbrev pub Unprinted : ℕ → ℕ → Failure → Type 0
+Unprinted old new failures.CannotWrite = old < new
+Unprinted old new failures.OutOfMemory = ⊤
+Unprinted old new failure = ⊥
+
+-- the answer is printed, the count of the output's failures did not grow, and no byte is left that the output was not given; or it
+-- is not printed
+abbrev pub Prints : {A : Type 0} → ℕ → ℕ → ℕ → A → Result A Failure → Type 0
+Prints old new left a (Ok b) = (b ≡ a) × (new ≡ old) × (left ≡ 0)
+Prints old new left a (Err failure) = Unprinted old new failure
 
 -- ---- files, by what they may give for a path
 
@@ -130,41 +134,41 @@ Frames target s dump policy steps r = Then (Counts dump) (λ pc. Unwinds target 
 
 -- ---- the subcommands
 
--- counts of failures of the output, before and behind a run, come first
-abbrev pub ExprEnds : ℕ → ℕ → Target → Profile → List ℕ → Result (Unit {0}) Failure → Type 0
-ExprEnds old new target profile block r = Then (Decodes profile target block) (λ _. Prints old new tt) r
+-- counts of failures of the output, before and behind a run, come first, and then how many bytes it was not given at the end
+abbrev pub ExprEnds : ℕ → ℕ → ℕ → Target → Profile → List ℕ → Result (Unit {0}) Failure → Type 0
+ExprEnds old new left target profile block r = Then (Decodes profile target block) (λ _. Prints old new left tt) r
 
-module _ (gives : Text → Result (List ℕ) LoadError → Type 0) (old new : ℕ) (target : Target) where
+module _ (gives : Text → Result (List ℕ) LoadError → Type 0) (old new left : ℕ) (target : Target) where
   abbrev pub CheckEnds : Text → Result (Unit {0}) Failure → Type 0
-  CheckEnds path r = Then (Loads gives path) (λ s. Then (Checks target s) (λ _. Prints old new tt)) r
+  CheckEnds path r = Then (Loads gives path) (λ s. Then (Checks target s) (λ _. Prints old new left tt)) r
 
   abbrev pub RowsEnds : Text → Result (Unit {0}) Failure → Type 0
-  RowsEnds path r = Then (Loads gives path) (λ s. Then (Checks target s) (λ _. Prints old new tt)) r
+  RowsEnds path r = Then (Loads gives path) (λ s. Then (Checks target s) (λ _. Prints old new left tt)) r
 
   abbrev pub EntriesEnds : Text → Result (Unit {0}) Failure → Type 0
-  EntriesEnds path r = Then (Loads gives path) (λ s. Then (Cuts target s) (λ _. Prints old new tt)) r
+  EntriesEnds path r = Then (Loads gives path) (λ s. Then (Cuts target s) (λ _. Prints old new left tt)) r
 
   abbrev pub NormalEnds : ℕ → Text → Result (Unit {0}) Failure → Type 0
-  NormalEnds cap path r = Then (Loads gives path) (λ s. Then (Normalises target cap s) (λ _. Prints old new tt)) r
+  NormalEnds cap path r = Then (Loads gives path) (λ s. Then (Normalises target cap s) (λ _. Prints old new left tt)) r
 
   abbrev pub CostEnds : Text → Result (Unit {0}) Failure → Type 0
   CostEnds path r =
-      Then (Loads gives path) (λ s. Then (Normalises target 2147483647 s) (λ _. Then (Checks target s) (λ _. Prints old new tt))) r
+      Then (Loads gives path) (λ s. Then (Normalises target 2147483647 s) (λ _. Then (Checks target s) (λ _. Prints old new left tt))) r
 
   -- 0 where both say the same, 1 where not
   abbrev pub SameEnds : Text → Text → Result ℕ Failure → Type 0
   SameEnds path other r =
-      Then (Loads gives path) (λ s. Then (Loads gives other) (λ t. Then (Compares target s t) (λ b. Prints old new (if b then 0 else 1)))) r
+      Then (Loads gives path) (λ s. Then (Loads gives other) (λ t. Then (Compares target s t) (λ b. Prints old new left (if b then 0 else 1)))) r
 
   abbrev pub EvalEnds : ℕ → Option ℕ → List ℕ → Option Text → Result (Unit {0}) Failure → Type 0
   EvalEnds steps start block dump r =
       Then (LoadsText gives dump) (λ text. Then (Decodes Location target block) (λ ops.
-      Then (Parses target text) (λ dump. Then (Values target ops start dump steps) (λ _. Prints old new tt)))) r
+      Then (Parses target text) (λ dump. Then (Values target ops start dump steps) (λ _. Prints old new left tt)))) r
 
   abbrev pub UnwindEnds : Policy → ℕ → Text → Text → Result (Unit {0}) Failure → Type 0
   UnwindEnds policy steps path dump r =
       Then (Loads gives path) (λ s. Then (LoadsDump gives dump) (λ text. Then (Checks target s) (λ _.
-      Then (Parses target text) (λ dump. Then (Frames target s dump policy steps) (λ _. Prints old new tt))))) r
+      Then (Parses target text) (λ dump. Then (Frames target s dump policy steps) (λ _. Prints old new left tt))))) r
 
   -- status 0 comes after an answer
   abbrev pub Done : (Result (Unit {0}) Failure → Type 0) → Result ℕ Failure → Type 0
@@ -176,7 +180,7 @@ module _ (gives : Text → Result (List ℕ) LoadError → Type 0) (old new : �
   TaskEnds (cost path) r = Done (CostEnds path) r
   TaskEnds (entries path) r = Done (EntriesEnds path) r
   TaskEnds (eval steps start block dump) r = Done (EvalEnds steps start block dump) r
-  TaskEnds (expr profile block) r = Done (ExprEnds old new target profile block) r
+  TaskEnds (expr profile block) r = Done (ExprEnds old new left target profile block) r
   TaskEnds (normal cap path) r = Done (NormalEnds cap path) r
   TaskEnds (rows path) r = Done (RowsEnds path) r
   TaskEnds (same path other) r = SameEnds path other r
@@ -188,11 +192,11 @@ module _ (gives : Text → Result (List ℕ) LoadError → Type 0) (old new : �
 abbrev pub Plans : List Text → Result Request Failure → Type 0
 Plans words r = Calls (λ request. Planned words (Ok request)) (λ e. Planned words (Err e)) (λ e f. f ≡ of_plan e) r
 
-module _ (gives : Text → Result (List ℕ) LoadError → Type 0) (old new : ℕ) where
+module _ (gives : Text → Result (List ℕ) LoadError → Type 0) (old new left : ℕ) where
   -- a text that is asked for is printed, a subcommand is run
   abbrev pub Follows : Request → Result ℕ Failure → Type 0
-  Follows (requests.Run job) r = TaskEnds gives old new job.target (task_held job.task) r
-  Follows (requests.Help text) r = Prints old new 0 r
+  Follows (requests.Run job) r = TaskEnds gives old new left job.target (task_held job.task) r
+  Follows (requests.Help text) r = Prints old new left 0 r
 
   -- what a run of these words answers
   abbrev pub Ends : List Text → Result ℕ Failure → Type 0

@@ -39,7 +39,7 @@ fn run_job<'a, L: Load, W: Write>(
     out: &mut Listing<W>,
 ) -> Result<u8, Failure<'a>>
     requires room { out.old.failures < 2 ^ 64 - 1 }
-    ensures ends { TaskEnds (L.gives files.old) out.old.failures out.new.failures job.entry.target (task_held job.entry.task) result }
+    ensures ends { TaskEnds (L.gives files.old) out.old.failures out.new.failures out.new.len job.entry.target (task_held job.entry.task) result }
     ensures most { IfOk result (λ status. status ≤ 1) }
 {
     let Job { target, task } = job;
@@ -63,7 +63,7 @@ fn put_help<W: Write>(
     out: &mut Listing<W>,
 ) -> Result<u8, Failure<'static>>
     requires room { out.old.failures < 2 ^ 64 - 1 }
-    ensures { Prints out.old.failures out.new.failures 0 result }
+    ensures { Prints out.old.failures out.new.failures out.new.len 0 result }
 {
     let text = format!(in alloc; "{text}")?;
     out.long_text(text.as_bytes())?;
@@ -78,7 +78,7 @@ fn run<'a, L: Load, W: Write>(
     out: &mut Listing<W>,
 ) -> Result<u8, Failure<'a>>
     requires room { out.old.failures < 2 ^ 64 - 1 }
-    ensures ends { Ends (L.gives files.old) out.old.failures out.new.failures (map string_bytes words.entry.now) result }
+    ensures ends { Ends (L.gives files.old) out.old.failures out.new.failures out.new.len (map string_bytes words.entry.now) result }
     ensures most { IfOk result (λ status. status ≤ 1) }
 {
     match plan(alloc, words)? {
@@ -107,7 +107,7 @@ pub fn engine<L: Load, W: Write, E: Write>(
 ) -> u8
     requires room { out.old.failures < 2 ^ 64 - 1 }
     // It is the status of an answer to these words, over these files. The output failed where it says so, and not where there is an answer.
-    ensures ends { (answer : Result ℕ TheFailure) × Ends (L.gives files.old) out.old.failures out.new.failures (map string_bytes words.now) answer × (result ≡ exit_of answer) }
+    ensures ends { (answer : Result ℕ TheFailure) × Ends (L.gives files.old) out.old.failures out.new.failures out.new.len (map string_bytes words.now) answer × (result ≡ exit_of answer) }
     ensures most { result ≤ 5 }
 {
     match run(alloc, words, files, out) {

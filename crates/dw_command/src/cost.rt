@@ -63,7 +63,7 @@ fn put_costs<W: Write>(
     len: u64,
 ) -> Result<(), Failure<'static>>
     requires room { out.old.failures < 2 ^ 64 - 1 }
-    ensures { Prints out.old.failures out.new.failures tt result }
+    ensures { Prints out.old.failures out.new.failures out.new.len tt result }
 {
     let changes = count_all(table)?;
     put_pair(out, b"bytes ", bytes as u64, len)?;
@@ -80,7 +80,7 @@ pub fn run_cost<'a, L: Load, W: Write>(
     out: &mut Listing<W>,
 ) -> Result<(), Failure<'a>>
     requires room { out.old.failures < 2 ^ 64 - 1 }
-    ensures { CostEnds (L.gives files.old) out.old.failures out.new.failures target path.now result }
+    ensures { CostEnds (L.gives files.old) out.old.failures out.new.failures out.new.len target path.now result }
 {
     let bytes = files
         .load(path)

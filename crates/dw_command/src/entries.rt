@@ -34,7 +34,7 @@ fn put_entry<W: Write>(out: &mut Listing<W>, entry: &Entry) -> Result<(), Output
 
 fn put_entries<W: Write>(out: &mut Listing<W>, list: &[Entry]) -> Result<(), Failure<'static>>
     requires room { out.old.failures < 2 ^ 64 - 1 }
-    ensures { Prints out.old.failures out.new.failures tt result }
+    ensures { Prints out.old.failures out.new.failures out.new.len tt result }
 {
     for entry in list {
         put_entry(out, entry)?;
@@ -51,7 +51,7 @@ pub fn run_entries<'a, L: Load, W: Write>(
     out: &mut Listing<W>,
 ) -> Result<(), Failure<'a>>
     requires room { out.old.failures < 2 ^ 64 - 1 }
-    ensures { EntriesEnds (L.gives files.old) out.old.failures out.new.failures target path.now result }
+    ensures { EntriesEnds (L.gives files.old) out.old.failures out.new.failures out.new.len target path.now result }
 {
     let bytes = files
         .load(path)

@@ -17,7 +17,7 @@ use std::io::Write;
 
 fn put_value<W: Write>(out: &mut Listing<W>, value: u64) -> Result<(), Failure<'static>>
     requires room { out.old.failures < 2 ^ 64 - 1 }
-    ensures { Prints out.old.failures out.new.failures tt result }
+    ensures { Prints out.old.failures out.new.failures out.new.len tt result }
 {
     out.make_room()?;
     out.text(b"0x");
@@ -55,7 +55,7 @@ pub fn run_eval<'a, L: Load, W: Write>(
     out: &mut Listing<W>,
 ) -> Result<(), Failure<'a>>
     requires room { out.old.failures < 2 ^ 64 - 1 }
-    ensures { EvalEnds (L.gives files.old) out.old.failures out.new.failures target evaluation.now.steps evaluation.now.start evaluation.now.block.items (option_map (λ p. p.now) evaluation.now.dump) result }
+    ensures { EvalEnds (L.gives files.old) out.old.failures out.new.failures out.new.len target evaluation.now.steps evaluation.now.start evaluation.now.block.items (option_map (λ p. p.now) evaluation.now.dump) result }
 {
     let text = load_text(alloc, files, evaluation.dump)?;
     let list = decode(alloc, &evaluation.block, target, Profile::Location)?;

@@ -47,7 +47,7 @@ fn put_expression<W: Write>(
     least: &[u8],
 ) -> Result<(), Failure<'static>>
     requires room { out.old.failures < 2 ^ 64 - 1 }
-    ensures { Prints out.old.failures out.new.failures tt result }
+    ensures { Prints out.old.failures out.new.failures out.new.len tt result }
 {
     for (index, op) in list.ops().iter().enumerate() {
         put_line(out, index, op)?;
@@ -66,7 +66,7 @@ pub fn run_expr<'a, W: Write>(
     out: &mut Listing<W>,
 ) -> Result<(), Failure<'a>>
     requires room { out.old.failures < 2 ^ 64 - 1 }
-    ensures { ExprEnds out.old.failures out.new.failures target profile block.now result }
+    ensures { ExprEnds out.old.failures out.new.failures out.new.len target profile block.now result }
 {
     let list = decode(alloc, block, target, profile)?;
     let least = match encode(alloc, &list) {

@@ -1,8 +1,8 @@
 //! A text of many lines on its way to an output.
 
-ghost use Rattle.std.specs.Prelude.{◌≡◌, ◌+◌, ◌-◌, ◌^◌, ◌<◌, ◌≤◌, length, take, None, OnOk};
-ghost use Rattle.std.specs.Io.KnownBytes.{Appends};
-ghost use Rattle.dw_command.specs.Output.{Told};
+ghost use Rattle.std.specs.Prelude.{◌≡◌, ◌+◌, ◌++◌, ◌-◌, ◌^◌, ◌<◌, ◌≤◌, length, take, None, OnOk};
+ghost use Rattle.std.specs.Io.KnownBytes.{Appends, Keeps};
+ghost use Rattle.dw_command.specs.Output.{Told, put_so_far};
 ghost use Rattle.dw_command.specs.declared.failure.Failure.TheVariants.{CannotWrite};
 ghost use Rattle.dw_command.specs.declared.listing.TheConstants.{PIECE, ROOM};
 
@@ -104,6 +104,8 @@ impl<W: Write> Listing<W> {
         requires room { self.old.failures < 2 ^ 64 - 1 }
         ensures told { Told self.old.failures self.new.failures result }
         ensures made { OnOk result (self.new.len + PIECE ≤ ROOM) }
+        // What was put stays.
+        ensures kept { OnOk result (self.old.len ≤ ROOM → Keeps (put_so_far (W.contents self.old.out) self.old.len self.old.room) (put_so_far (W.contents self.new.out) self.new.len self.new.room)) }
     {
         if self.len > ROOM - PIECE {
             return self.write_out();
@@ -116,6 +118,8 @@ impl<W: Write> Listing<W> {
         requires room { self.old.failures < 2 ^ 64 - 1 }
         ensures told { Told self.old.failures self.new.failures result }
         ensures empty { OnOk result (self.new.len ≡ 0) }
+        // The output gets what is left.
+        ensures all { OnOk result (self.old.len ≤ ROOM → Appends (W.contents self.old.out) (W.contents self.new.out) (take self.old.len self.old.room)) }
     {
         self.write_out()?;
         if self.out.flush().is_err() {
@@ -130,6 +134,8 @@ impl<W: Write> Listing<W> {
         requires room { self.old.failures < 2 ^ 64 - 1 }
         ensures told { Told self.old.failures self.new.failures result }
         ensures empty { OnOk result (self.new.len ≡ 0) }
+        // The output gets what is left, and then the text.
+        ensures all { OnOk result (self.old.len ≤ ROOM → Appends (W.contents self.old.out) (W.contents self.new.out) (take self.old.len self.old.room ++ text.now)) }
     {
         self.write_out()?;
         if self.out.write_all(text).is_err() {

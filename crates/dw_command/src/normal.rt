@@ -15,7 +15,7 @@ use std::io::Write;
 
 fn finish<W: Write>(out: &mut Listing<W>) -> Result<(), Failure<'static>>
     requires room { out.old.failures < 2 ^ 64 - 1 }
-    ensures { Prints out.old.failures out.new.failures tt result }
+    ensures { Prints out.old.failures out.new.failures out.new.len tt result }
 {
     Ok(out.finish()?)
 }
@@ -29,7 +29,7 @@ pub fn run_normal<'a, L: Load, W: Write>(
     out: &mut Listing<W>,
 ) -> Result<(), Failure<'a>>
     requires room { out.old.failures < 2 ^ 64 - 1 }
-    ensures { NormalEnds (L.gives files.old) out.old.failures out.new.failures target writing.now.cap writing.now.path.now result }
+    ensures { NormalEnds (L.gives files.old) out.old.failures out.new.failures out.new.len target writing.now.cap writing.now.path.now result }
 {
     let bytes = load_file(files, writing.path)?;
     let _ = normalise_to(alloc, &bytes, target, writing.cap, out)?;

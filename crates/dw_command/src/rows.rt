@@ -1,7 +1,7 @@
 //! `dwframe rows`: the rules at each address of a section.
 
-ghost use Rattle.std.specs.Prelude.{◌<◌, ◌-◌, ◌^◌};
-ghost use Rattle.dw_command.specs.Answers.{Prints, RowsEnds};
+ghost use Rattle.std.specs.Prelude.{◌≡◌, ◌<◌, ◌-◌, ◌^◌, MatchResult};
+ghost use Rattle.dw_command.specs.Answers.{Prints, RowsEnds, Unprinted};
 
 use crate::failure::Failure;
 use crate::files::Load;
@@ -18,7 +18,7 @@ fn put_changes<W: Write>(
     changes: &mut Changes<'_>,
 ) -> Result<(), Failure<'static>>
     requires room { out.old.failures < 2 ^ 64 - 1 }
-    ensures { Prints out.old.failures out.new.failures tt result }
+    ensures { MatchResult result (λ _. out.new.failures ≡ out.old.failures) (Unprinted out.old.failures out.new.failures) }
 {
     'changes: while let Some(address) = changes.advance()? {
         if let Some(row) = changes.row() {
@@ -30,7 +30,7 @@ fn put_changes<W: Write>(
 
 fn put_table<W: Write>(out: &mut Listing<W>, table: &Table<'_>) -> Result<(), Failure<'static>>
     requires room { out.old.failures < 2 ^ 64 - 1 }
-    ensures { Prints out.old.failures out.new.failures tt result }
+    ensures { Prints out.old.failures out.new.failures out.new.len tt result }
 {
     let mut changes = table.no_changes();
     for place in 0..table.fde_count() {
@@ -52,7 +52,7 @@ pub fn run_rows<'a, L: Load, W: Write>(
     out: &mut Listing<W>,
 ) -> Result<(), Failure<'a>>
     requires room { out.old.failures < 2 ^ 64 - 1 }
-    ensures { RowsEnds (L.gives files.old) out.old.failures out.new.failures target path.now result }
+    ensures { RowsEnds (L.gives files.old) out.old.failures out.new.failures out.new.len target path.now result }
 {
     let bytes = files
         .load(path)

@@ -19,7 +19,7 @@ fn put_verdict<W: Write>(
 ) -> Result<u8, Failure<'static>>
     requires room { out.old.failures < 2 ^ 64 - 1 }
     requires short { length text.now ≤ 10 }
-    ensures { Prints out.old.failures out.new.failures status result }
+    ensures { Prints out.old.failures out.new.failures out.new.len status result }
 {
     out.make_room()?;
     out.text(text);
@@ -50,7 +50,7 @@ pub fn run_same<'a, L: Load, W: Write>(
     out: &mut Listing<W>,
 ) -> Result<u8, Failure<'a>>
     requires room { out.old.failures < 2 ^ 64 - 1 }
-    ensures ends { SameEnds (L.gives files.old) out.old.failures out.new.failures target path.now other.now result }
+    ensures ends { SameEnds (L.gives files.old) out.old.failures out.new.failures out.new.len target path.now other.now result }
     ensures most { IfOk result (λ status. status ≤ 1) }
 {
     let first = load_file(files, path)?;

@@ -39,7 +39,7 @@ fn put_value<W: Write>(
 
 fn put_frame<W: Write>(out: &mut Listing<W>, frame: &Frame) -> Result<(), Failure<'static>>
     requires room { out.old.failures < 2 ^ 64 - 1 }
-    ensures { Prints out.old.failures out.new.failures tt result }
+    ensures { Prints out.old.failures out.new.failures out.new.len tt result }
 {
     out.make_room()?;
     out.text(b"cfa 0x");
@@ -85,7 +85,7 @@ pub fn run_unwind<'a, L: Load, W: Write>(
     out: &mut Listing<W>,
 ) -> Result<(), Failure<'a>>
     requires room { out.old.failures < 2 ^ 64 - 1 }
-    ensures { UnwindEnds (L.gives files.old) out.old.failures out.new.failures target unwinding.now.default unwinding.now.steps unwinding.now.path.now unwinding.now.dump.now result }
+    ensures { UnwindEnds (L.gives files.old) out.old.failures out.new.failures out.new.len target unwinding.now.default unwinding.now.steps unwinding.now.path.now unwinding.now.dump.now result }
 {
     let bytes = load_file(files, unwinding.path)?;
     let text = load_dump(files, unwinding.dump)?;

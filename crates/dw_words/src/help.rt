@@ -14,7 +14,7 @@ Exit status:
   0  done
   1  the two sections of 'same' differ
   2  refused: a section, expression or dump is malformed; or fault: there is no value or frame
-  3  wrong words
+  3  wrong arguments
   4  a file cannot be read, or the output cannot be written
   5  out of memory
 
@@ -50,7 +50,7 @@ pub const CAP: &str =
 pub const CHECK: &str = "Tell whether a section is well formed, and count its entries";
 
 pub const AFTER_CHECK: &str =
-    "Exit status: 0 well formed, 2 refused, 3 wrong words, 4 file or output fails, 5 out of memory
+    "Exit status: 0 well formed, 2 refused, 3 wrong arguments, 4 file or output fails, 5 out of memory
 
 Example:
   dwframe check --size 8 --order little a.bin";
@@ -59,7 +59,7 @@ pub const ROWS: &str =
     "Print the rules of the CFA and of registers at each address where they change";
 
 pub const AFTER_ROWS: &str =
-    "Exit status: 0 done, 2 refused, 3 wrong words, 4 file or output fails, 5 out of memory
+    "Exit status: 0 done, 2 refused, 3 wrong arguments, 4 file or output fails, 5 out of memory
 
 Example:
   dwframe rows --size 8 --order little a.bin";
@@ -67,7 +67,7 @@ Example:
 pub const ENTRIES: &str = "List the CIEs and FDEs of a section by place";
 
 pub const AFTER_ENTRIES: &str =
-    "Exit status: 0 done, 2 refused, 3 wrong words, 4 file or output fails, 5 out of memory
+    "Exit status: 0 done, 2 refused, 3 wrong arguments, 4 file or output fails, 5 out of memory
 
 Example:
   dwframe entries --size 8 --order little a.bin";
@@ -75,7 +75,7 @@ Example:
 pub const EXPR: &str = "Print the operations of an expression and its shortest encoding";
 
 pub const AFTER_EXPR: &str =
-    "Exit status: 0 done, 2 refused, 3 wrong words, 4 output fails, 5 out of memory
+    "Exit status: 0 done, 2 refused, 3 wrong arguments, 4 output fails, 5 out of memory
 
 Example, which prints '0 const 5' and 'least 35':
   dwframe expr --size 8 --order little 0805";
@@ -87,7 +87,7 @@ pub const AFTER_EVAL: &str = "Lines of a dump:
   r<n> 0x<hex>         the value of register n
   mem 0x<hex> <bytes>  memory from an address on, two hexadecimal digits a byte
 
-Exit status: 0 done, 2 refused or fault, 3 wrong words, 4 file or output fails, 5 out of memory
+Exit status: 0 done, 2 refused or fault, 3 wrong arguments, 4 file or output fails, 5 out of memory
 
 Example, which prints '0xa':
   dwframe eval --size 8 --order little 35321e";
@@ -100,7 +100,7 @@ pub const AFTER_UNWIND: &str = "Lines of a dump:
   r<n> 0x<hex>         the value of register n
   mem 0x<hex> <bytes>  memory from an address on, two hexadecimal digits a byte
 
-Exit status: 0 done, 2 refused or fault, 3 wrong words, 4 file or output fails, 5 out of memory
+Exit status: 0 done, 2 refused or fault, 3 wrong arguments, 4 file or output fails, 5 out of memory
 
 Example:
   dwframe unwind --size 8 --order little --default same a.bin stopped.dump";
@@ -109,7 +109,7 @@ pub const NORMAL: &str =
     "Write the normal form of a section, which is equal for sections that mean the same";
 
 pub const AFTER_NORMAL: &str =
-    "Exit status: 0 done, 2 refused, 3 wrong words, 4 file or output fails, 5 out of memory
+    "Exit status: 0 done, 2 refused, 3 wrong arguments, 4 file or output fails, 5 out of memory
 
 Example:
   dwframe normal --size 8 --order little a.bin > a.normal";
@@ -118,7 +118,7 @@ pub const SAME: &str =
     "Tell whether two sections mean the same: ranges, return registers, rules at each address";
 
 pub const AFTER_SAME: &str =
-    "Exit status: 0 same, 1 different, 2 refused, 3 wrong words, 4 file or output fails, 5 out of memory
+    "Exit status: 0 same, 1 different, 2 refused, 3 wrong arguments, 4 file or output fails, 5 out of memory
 
 Example:
   dwframe same --size 8 --order little a.bin b.bin";
@@ -126,7 +126,7 @@ Example:
 pub const COST: &str = "Print the bytes and the rows of a section and of its normal form";
 
 pub const AFTER_COST: &str =
-    "Exit status: 0 done, 2 refused, 3 wrong words, 4 file or output fails, 5 out of memory
+    "Exit status: 0 done, 2 refused, 3 wrong arguments, 4 file or output fails, 5 out of memory
 
 Example:
   dwframe cost --size 8 --order little a.bin";

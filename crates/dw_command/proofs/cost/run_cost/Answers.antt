@@ -14,12 +14,12 @@ returns-in_err-table g c =
     let p = err_from_is_err_and c.from_residual-in_err-table.result c.from_residual-in_err-table.ensures.1 in
     let loads = loaded _ _ c.load.result c.in_ok-bytes.bytes c.load.ensures.gives c.in_ok-bytes.ensures.cases in
     let n = c.in_ok-len.ensures.found in
-    rw p.1 (behind_length (g.L.Load.gives c.args.files.now) _ _ c.args.target c.args.path.now c.in_ok-bytes.bytes.items c.deref.result.now c.deref-2.result.now (Err p.0)
+    rw p.1 (behind_length (g.L.Load.gives c.args.files.now) _ _ 0 c.args.target c.args.path.now c.in_ok-bytes.bytes.items c.deref.result.now c.deref-2.result.now (Err p.0)
     c.deref.ensures.value c.deref-2.ensures.value loads (n.0, n.1, n.2) (inr (p.0, (c.in_err-table.field-0.0, c.in_err-table.ensures.first, p.2), refl)))
 
 pub returns : goal.returns
 returns g c =
     let loads = loaded _ _ c.load.result c.in_ok-bytes.bytes c.load.ensures.gives c.in_ok-bytes.ensures.cases in
     let n = c.in_ok-len.ensures.found in
-    behind_length (g.L.Load.gives c.args.files.now) _ _ c.args.target c.args.path.now c.in_ok-bytes.bytes.items c.deref.result.now c.deref-2.result.now _
+    behind_length (g.L.Load.gives c.args.files.now) _ _ _ c.args.target c.args.path.now c.in_ok-bytes.bytes.items c.deref.result.now c.deref-2.result.now _
     c.deref.ensures.value c.deref-2.ensures.value loads (n.0, n.1, n.2) (inl (tt, c.in_ok-table.ensures.found.1, c.put_costs.ensures))

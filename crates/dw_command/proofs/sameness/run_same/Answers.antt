@@ -21,4 +21,4 @@ returns-clause-ends g c =
     let first = lent (g.L.Load.gives c.args.files.now) c.args.path.now _ c.deref.result.now c.deref.ensures.value c.in_ok-first.ensures.loads in
     let second = lent (g.L.Load.gives c.args.files.now) c.args.other.now _ c.deref-2.result.now c.deref-2.ensures.value (c.in_ok-first.ensures.same c.args.other.now (Ok c.in_ok-second.second.items) c.in_ok-second.ensures.loads) in
     let same = c.in_ok-is_same.ensures in
-    inl (c.deref.result.now, first, inl (c.deref-2.result.now, second, inl (c.in_ok-is_same.is_same, (same.within.0, same.within.1, same.found.2), prints_same _ _ _ _ _ c.verdict-status.ensures.status c.put_verdict.ensures)))
+    inl (c.deref.result.now, first, inl (c.deref-2.result.now, second, inl (c.in_ok-is_same.is_same, (same.within.0, same.within.1, same.found.2), prints_same _ _ _ _ _ _ c.verdict-status.ensures.status c.put_verdict.ensures)))
