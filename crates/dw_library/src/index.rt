@@ -12,9 +12,9 @@ ghost use Rattle.dw_library.specs.Index.{AreEntries, HasSize, IsAnyRow, IsIndexe
 use crate::answer::{
     BAD_ARGUMENT, OK, OUT_OF_MEMORY, REFUSED, Refused, TOO_SHORT, not_refused, target_of, told,
 };
-use dw_cfa::{CfaRule, RegRule, Row as CfaRow};
+use dw_cfa::{CfaRule, RegRule, Row as CfaRow, RowRoom};
 use dw_num::{ReadError, Target};
-use dw_section::{FdeRow, LookUpError, Ranged, check, look_up};
+use dw_section::{LookUpError, Ranged, StandingFde, check, look_up};
 use std::alloc::Global;
 
 /// No entry of the index covers the address.
@@ -266,13 +266,13 @@ fn cfa_offset_of(rule: &CfaRule<'_>) -> i64
     }
 }
 
-// Writes a row.
-fn tell(found: &FdeRow<'_>, out: &mut [Rule], row: &mut Row) -> u32
-    ensures { TellsRow found.now out.old (record { status = result; row = row.new; rules = out.new }) }
+// Writes an FDE and a row of it.
+fn tell(found: &StandingFde, rules: &CfaRow<'_>, out: &mut [Rule], row: &mut Row) -> u32
+    ensures { TellsRow (record { fde = found.now; row = rules.now }) out.old (record { status = result; row = row.new; rules = out.new }) }
 {
     let fde = found.fde();
-    let cfa = found.row().cfa();
-    let count = put_rules(found.row(), out);
+    let cfa = rules.cfa();
+    let count = put_rules(rules, out);
     *row = Row {
         begin: fde.begin,
         range: found.range(),
@@ -303,10 +303,11 @@ fn put_row(
     ensures any { row.old ≡ no_row → IfOk result (λ status. TellsFde target bytes.now address out.old (record { status = status; row = row.new; rules = out.new })) }
     ensures kept { OnErr result ((out.new ≡ out.old) × (row.new ≡ row.old)) }
 {
-    let Some(found) = look_up(alloc, bytes, target, index, address)? else {
+    let mut room = RowRoom::new(alloc);
+    let Some(found) = look_up(bytes, target, index, address, &mut room)? else {
         return Ok(NO_FDE);
     };
-    Ok(tell(&found, out, row))
+    Ok(tell(&found, room.row(), out, row))
 }
 
 /// The rules at an address, by an index: those of the FDE that stands at the place of the entry that covers the address. It is
