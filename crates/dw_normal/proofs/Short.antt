@@ -1,5 +1,6 @@
 -- The shares of FDEs, one after another.
-use Rattle.std.proofs.Common.{◌≡◌, ℕ, zero, suc, ◌+◌, ◌*◌, ◌<◌, ◌≤◌, List, [], ◌∷◌, ◌++◌, length, map, take, get_or, refl, sym, ap, subst, arith}
+use Rattle.std.proofs.Common.{◌≡◌, ℕ, zero, suc, ◌+◌, ◌*◌, ◌<◌, ◌≤◌, List, [], ◌∷◌, ◌++◌, length, map, take, get_or, refl, sym, ap, subst, arith, Option, Some, None}
+use Rattle.std.specs.Prelude.{IfSome, IsTrue, is_some}
 use Rattle.std.proofs.lemmas.List.{take_more}
 use Rattle.dw_num.specs.Input.{AreBytes}
 use Rattle.dw_num.specs.declared.target.Target.{Target}
@@ -35,3 +36,18 @@ short_enough t s count total cap b ok counted shares le ms are =
     let fs = map fde_of ms in
     let all = subst (λ (l : List Fde). Shares t s l total) (all_taken count fs (omega (arith, counted fs are.fdes))) (shares fs are.fdes) in
     omega (arith, within_shares t s ms total b ok are all)
+
+-- the same where there may be no sum
+module _ (t : Target) (s : List ℕ) where
+  pub share_added : (fs : List Fde) (place : ℕ) (d : Fde) (own initial : ℕ) (total sum : Option ℕ) → place < length fs → IfSome total (λ (n : ℕ). Shares t s (take place fs) n) → HasLengths t s (get_or fs place d) own initial
+      → ((before : ℕ) → total ≡ Some before → IfSome sum (λ (n : ℕ). n ≡ before + share own initial)) → (IsTrue (is_some sum) → IsTrue (is_some total)) → IfSome sum (λ (n : ℕ). Shares t s (take (place + 1) fs) n)
+  share_added fs place d own initial total None lt h k is some = tt
+  share_added fs place d own initial None (Some n) lt h k is some = let no = some refl in absurd cc
+  share_added fs place d own initial (Some m) (Some n) lt h k is some =
+      subst (λ (x : ℕ). Shares t s (take (place + 1) fs) x) (sym (is m refl)) (next_share t s fs place d own initial m lt h k)
+
+  pub short_where : (count cap : ℕ) (total : Option ℕ) → AreBytes s → Accepted t s → ((fs : List Fde) → AreFdes t s fs → count ≡ length fs)
+      → ((fs : List Fde) → AreFdes t s fs → IfSome total (λ (n : ℕ). Shares t s (take count fs) n)) → IfSome total (λ (n : ℕ). n ≤ 24 * cap) → IsTrue (is_some total)
+      → (ms : List Member) → AreMembers t s ms → length (canon t ms) ≤ cap
+  short_where count cap (Some n) b ok counted shares le some ms are = short_enough t s count n cap b ok counted shares le ms are
+  short_where count cap None b ok counted shares le some ms are = absurd cc

@@ -66,7 +66,7 @@ pub(crate) fn begin_fde<'r, 'a>(
     ensures is { (ms : List Member) → AreMembers table.now.target table.now.bytes ms → (d : Member) → OnOk result (Begins ms (slice_index_or ms fde.place d) begun.new) }
 {
     table.accepted();
-    go_behind_first(&mut begun.changes, table, fde)?;
+    let _ = go_behind_first(&mut begun.changes, table, fde)?;
     begun.fde = table.fde(fde);
     begun.shared = shared_row(rows, table, fde);
     Ok(())

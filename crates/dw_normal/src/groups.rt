@@ -1,35 +1,38 @@
 //! The initial row of each return register, found in one pass over all changes.
 
-ghost use Rattle.std.specs.Prelude.{◌≡◌, ℕ, true, false, ◌<◌, List, length, slice_index_or, Some, IfOk, OnOk};
+ghost use Rattle.std.specs.Prelude.{◌≡◌, ℕ, true, false, ◌<◌, ◌≤◌, List, length, slice_index_or, Some, IfOk, IsTrue, OnOk};
 ghost use Rattle.std.specs.BTreeMap.{insert_entry};
 ghost use Rattle.std.specs.Ordering.{nat_cmp};
 ghost use Rattle.dw_cfa.specs.Rows.{Rules};
 ghost use Rattle.dw_section.specs.declared.lookup.Fde.{Fde as TheFde};
-ghost use Rattle.dw_section.specs.Meaning.{AreFdes};
+ghost use Rattle.dw_section.specs.Meaning.{AreFdes, HasLengths};
+ghost use Rattle.dw_canon.specs.Canon.{canon};
 ghost use Rattle.dw_canon.specs.Group.{kept_by};
 ghost use Rattle.dw_canon.specs.Members.{Member, AreMembers};
 ghost use Rattle.dw_cfa.specs.Narrowing.{agreed, kept};
 ghost use Rattle.dw_normal.specs.Inner.Grouping.{SpecifiesAll, NarrowedBy, with_member, initial_rows};
 ghost use Rattle.dw_normal.specs.Inner.Passing.{AreToCome, BehindFirst};
 
+use crate::bound::add_share;
 use dw_cfa::Row;
 use dw_section::{Changes, FdeRef, Table};
 use std::alloc::{AllocError, Global};
 use std::collections::BTreeMap;
 
-/// Goes to the changes of an FDE behind its begin, whose row is lent.
+/// Goes to the changes of an FDE behind its begin, whose row is lent, and answers how long its programs are.
 pub(crate) fn go_behind_first<'a>(
     changes: &mut Changes<'a>,
     table: &Table<'a>,
     fde: FdeRef,
-) -> Result<(), AllocError>
+) -> Result<(usize, usize), AllocError>
     requires { (fs : List TheFde) → AreFdes table.now.target table.now.bytes fs → fde.place < length fs }
-    ensures { (ms : List Member) → AreMembers table.now.target table.now.bytes ms → (d : Member) → OnOk result (BehindFirst (slice_index_or ms fde.place d) changes.new) }
+    ensures behind { (ms : List Member) → AreMembers table.now.target table.now.bytes ms → (d : Member) → OnOk result (BehindFirst (slice_index_or ms fde.place d) changes.new) }
+    ensures lengths { (fs : List TheFde) → AreFdes table.now.target table.now.bytes fs → (d : TheFde) → IfOk result (λ n. HasLengths table.now.target table.now.bytes (slice_index_or fs fde.place d) n.0 n.1) }
 {
     table.accepted();
-    table.go_to(changes, fde);
+    let lengths = table.go_to_lengths(changes, fde);
     let _ = changes.advance()?;
-    Ok(())
+    Ok(lengths)
 }
 
 // Whether a change may leave a register Unspecified that the row before it specifies. It looks at the registers that the
@@ -129,35 +132,44 @@ fn begin_group<'a>(
     Ok(())
 }
 
-// Narrows the row of an FDE's group to what the FDE shares with it.
+// Narrows the row of an FDE's group to what the FDE, behind whose begin the changes are, shares with it.
 fn add_fde<'a>(
     rows: &mut BTreeMap<u16, Row<'a>>,
     changes: &mut Changes<'a>,
     table: &Table<'a>,
     fde: FdeRef,
 ) -> Result<(), AllocError>
-    requires { (fs : List TheFde) → AreFdes table.now.target table.now.bytes fs → fde.place < length fs }
+    requires place { (fs : List TheFde) → AreFdes table.now.target table.now.bytes fs → fde.place < length fs }
+    requires behind { (ms : List Member) → AreMembers table.now.target table.now.bytes ms → (d : Member) → BehindFirst (slice_index_or ms fde.place d) changes.old }
     ensures { (ms : List Member) → AreMembers table.now.target table.now.bytes ms → (d : Member) → OnOk result (rows.new.entries ≡ with_member rows.old.entries (slice_index_or ms fde.place d)) }
 {
     let register = table.fde(fde).return_register;
-    go_behind_first(changes, table, fde)?;
     if let Some(shared) = rows.get_mut(&register) {
         return share_with(shared, changes);
     }
     begin_group(rows, changes, register)
 }
 
-/// The initial row of each return register: one pass over all changes.
+/// The initial row of each return register, in one pass over all changes, and whether the lengths of the programs alone show
+/// that the normal form is within a cap.
 pub(crate) fn initial_rows<'a>(
     alloc: Global,
     table: &Table<'a>,
-) -> Result<BTreeMap<u16, Row<'a>>, AllocError>
-    ensures { (ms : List Member) → AreMembers table.now.target table.now.bytes ms → IfOk result (λ rows. rows.entries ≡ initial_rows ms) }
+    cap: u64,
+) -> Result<(BTreeMap<u16, Row<'a>>, bool), AllocError>
+    requires cap { cap ≤ 2147483647 }
+    ensures rows { (ms : List Member) → AreMembers table.now.target table.now.bytes ms → IfOk result (λ found. found.0.entries ≡ initial_rows ms) }
+    ensures short { (ms : List Member) → AreMembers table.now.target table.now.bytes ms → IfOk result (λ found. IsTrue found.1 → length (canon table.now.target ms) ≤ cap) }
 {
+    table.accepted();
     let mut rows = BTreeMap::new(alloc);
     let mut changes = table.no_changes();
+    let mut total = Some(0);
     'fdes: for place in 0..table.fde_count() {
-        add_fde(&mut rows, &mut changes, table, FdeRef { place })?;
+        let fde = FdeRef { place };
+        let (own, initial) = go_behind_first(&mut changes, table, fde)?;
+        total = add_share(total, own, initial, cap);
+        add_fde(&mut rows, &mut changes, table, fde)?;
     }
-    Ok(rows)
+    Ok((rows, total.is_some()))
 }

@@ -1,6 +1,8 @@
 //! A section on the way to its normal form: checked, found short enough, and with its initial rows.
 
-ghost use Rattle.std.specs.Prelude.{◌≡◌, ◌≤◌, IfOk, IfErr};
+ghost use Rattle.std.specs.Prelude.{◌≡◌, ◌≤◌, List, IfOk, IfErr};
+ghost use Rattle.dw_canon.specs.Members.{Member, AreMembers};
+ghost use Rattle.dw_normal.specs.Inner.Grouping.{initial_rows};
 ghost use Rattle.dw_num.specs.Refusals.{Refuses};
 ghost use Rattle.dw_normal.specs.Answers.{IsTooLong, NormalFault, too_long};
 ghost use Rattle.dw_normal.specs.Inner.Answers.{IsShort, IsPrepared, IsMeasured};
@@ -28,16 +30,19 @@ pub(crate) struct Measured<'a> {
     pub(crate) len: u64,
 }
 
-// A table with the length of its normal form, where that is within a cap.
-fn measure<'a>(alloc: Global, table: Table<'a>, cap: u64) -> Result<Measured<'a>, ReadError>
+// A table with its initial rows and the length of its normal form, where that is within a cap.
+fn measure_behind<'a>(
+    alloc: Global,
+    table: Table<'a>,
+    rows: BTreeMap<u16, Row<'a>>,
+    cap: u64,
+) -> Result<Measured<'a>, ReadError>
     requires cap { cap ≤ 2147483647 }
+    requires rows { (ms : List Member) → AreMembers table.target table.bytes ms → rows.entries ≡ initial_rows ms }
     ensures found { IfOk result (λ m. (m.ready.table ≡ table.entry) × IsMeasured table.entry.target cap table.entry.bytes m.ready.rows.entries m.len) }
     ensures first { IfErr result (Refuses (λ r. IsTooLong table.entry.target cap table.entry.bytes × (r ≡ too_long))) }
 {
     table.accepted();
-    let Ok(rows) = initial_rows(alloc, &table) else {
-        return Err(ReadError::OutOfMemory);
-    };
     match measured(alloc, &table, &rows, cap) {
         Ok(Some(len)) => Ok(Measured {
             ready: Ready { table, rows },
@@ -47,6 +52,18 @@ fn measure<'a>(alloc: Global, table: Table<'a>, cap: u64) -> Result<Measured<'a>
             code: Code::NormalTooLong,
             at: 0,
         })),
+        Err(_) => Err(ReadError::OutOfMemory),
+    }
+}
+
+// A table with the length of its normal form, where that is within a cap.
+fn measure<'a>(alloc: Global, table: Table<'a>, cap: u64) -> Result<Measured<'a>, ReadError>
+    requires cap { cap ≤ 2147483647 }
+    ensures found { IfOk result (λ m. (m.ready.table ≡ table.entry) × IsMeasured table.entry.target cap table.entry.bytes m.ready.rows.entries m.len) }
+    ensures first { IfErr result (Refuses (λ r. IsTooLong table.entry.target cap table.entry.bytes × (r ≡ too_long))) }
+{
+    match initial_rows(alloc, &table, cap) {
+        Ok((rows, _)) => measure_behind(alloc, table, rows, cap),
         Err(_) => Err(ReadError::OutOfMemory),
     }
 }
@@ -94,15 +111,15 @@ fn ready_table<'a>(alloc: Global, table: Table<'a>, cap: u64) -> Result<Ready<'a
     ensures first { IfErr result (Refuses (λ r. IsTooLong table.entry.target cap table.entry.bytes × (r ≡ too_long))) }
 {
     table.accepted();
-    if !is_short(&table, cap) {
-        return match measure(alloc, table, cap) {
-            Ok(measured) => Ok(measured.ready),
-            Err(error) => Err(error),
-        };
+    let Ok((rows, short)) = initial_rows(alloc, &table, cap) else {
+        return Err(ReadError::OutOfMemory);
+    };
+    if short {
+        return Ok(Ready { table, rows });
     }
-    match initial_rows(alloc, &table) {
-        Ok(rows) => Ok(Ready { table, rows }),
-        Err(_) => Err(ReadError::OutOfMemory),
+    match measure_behind(alloc, table, rows, cap) {
+        Ok(measured) => Ok(measured.ready),
+        Err(error) => Err(error),
     }
 }
 

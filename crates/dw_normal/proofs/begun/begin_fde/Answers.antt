@@ -18,7 +18,7 @@ returns-clause-is c = λ ms are d.
     let m = get_or ms c.args.fde.place d in
     let fde = c.fde-begun.ensures (map fde_of ms) are.fdes (fde_of d) ∙ get_or-map fde_of ms c.args.fde.place d in
     begins ms m (record { fde = c.fde-begun.result; shared = record { ref_ptr = c.shared_row-begun.result.ref_ptr; now = c.shared_row-begun.result.now }; changes = c.go_behind_first.new.changes })
-    fde (c.shared_row-begun.ensures ms are d) (c.in_ok-go_behind_first.ensures ms are d)
+    fde (c.shared_row-begun.ensures ms are d) (c.in_ok-go_behind_first.ensures.behind ms are d)
 
 pub returns-clause-ready : goal.returns-clause-ready
 returns-clause-ready c =
@@ -30,4 +30,4 @@ returns-clause-ready c =
     let fde = c.fde-begun.ensures (map fde_of ms) some.1.fdes (fde_of no_member) ∙ get_or-map fde_of ms c.args.fde.place no_member in
     let begun : Begun = record { fde = c.fde-begun.result; shared = record { ref_ptr = c.shared_row-begun.result.ref_ptr; now = c.shared_row-begun.result.now }; changes = c.go_behind_first.new.changes } in
     ready_at t s c.accepted.ensures.bytes c.accepted.ensures.accepted ms some.1 c.args.fde.place no_member (below t s c.args.fde.place ms some.1 c.requires.place) begun
-    (begins ms m begun fde (c.shared_row-begun.ensures ms some.1 no_member) (c.in_ok-go_behind_first.ensures ms some.1 no_member))
+    (begins ms m begun fde (c.shared_row-begun.ensures ms some.1 no_member) (c.in_ok-go_behind_first.ensures.behind ms some.1 no_member))
