@@ -14,7 +14,8 @@ use Rattle.dw_unwind.specs.Dump.{SaysWithin, Say, FirstFault}
 use Rattle.dw_unwind.specs.Inner.Gathered.{Gathers, Keeps, IsWhole, ranges_of, bytes_of}
 use Rattle.dw_unwind.specs.Ranges.{covers, byte_among}
 use Rattle.dw_unwind.specs.Inner.Ranges.{cover_count, AreApart, Meet, IsWithin}
-use Rattle.dw_unwind.specs.Statement.{Statement, Item, nothing, counter_is, register_is, memory_is, counter, register, byte, told, or_else, given, times}
+use Rattle.std.specs.Option.{option_or}
+use Rattle.dw_unwind.specs.Statement.{Statement, Item, nothing, counter_is, register_is, memory_is, counter, register, byte, told, given, times}
 use Rattle.dw_unwind.proofs.LineLaws.{zip_length}
 use Rattle.dw_unwind.proofs.RangeLaws.{covers_tells}
 
@@ -89,11 +90,11 @@ given_byte a line front (memory_is start bytes ∷ ss) =
     elim (covers_tells a r) [
       | inl held ↦
           let lt : a - start < length bytes = omega (arith, held.1, held.2) in
-          rw (held.0) (ap (λ (o : Option ℕ). or_else o (given ss (byte a))) (told_here a start bytes held.1 held.2)
+          rw (held.0) (ap (λ (o : Option ℕ). option_or o (given ss (byte a))) (told_here a start bytes held.1 held.2)
           ∙ sym (slice_behind front (bytes ++ bytes_of ss) (a - start) ∙ slice_front bytes (bytes_of ss) (a - start) lt ∙ slice_get-get_or bytes (a - start) 0 lt))
       | inr off ↦
           let rest = rw (append_assoc front bytes (bytes_of ss), length-append front bytes) at (given_byte a (suc line) (front ++ bytes) ss) in
-          rw (off.0) (ap (λ (o : Option ℕ). or_else o (given ss (byte a))) (not_told a line (length front) start bytes off.0) ∙ rest)
+          rw (off.0) (ap (λ (o : Option ℕ). option_or o (given ss (byte a))) (not_told a line (length front) start bytes off.0) ∙ rest)
     ]
 
 -- ---- a range by its statement

@@ -1,5 +1,6 @@
 -- A fault of an unwinding names a column of the frame.
 use Rattle.std.proofs.Common.{◌≡◌, ℕ, List, Option, Some, None, Result, Ok, Err, refl, sym, ◌∙◌, ap, subst, inl, inr}
+use Rattle.std.specs.Option.{ok_or}
 use Rattle.std.specs.Prelude.{option_map}
 use Rattle.dw_num.specs.Target.{byte_count}
 use Rattle.dw_op.specs.Expression.{Expression}
@@ -17,7 +18,7 @@ use Rattle.dw_unwind.specs.declared.frame.Frame.{Frame}
 use Rattle.dw_unwind.specs.declared.frame.Policy.{Policy}
 use Rattle.dw_unwind.specs.declared.frame.UnwindError.{UnwindError}
 use Rattle.dw_unwind.specs.declared.frame.UnwindError.TheVariants.{Unreadable, Device, NoRegister}
-use Rattle.dw_unwind.specs.Columns.{in_column, known_or, recovered, on_value, saved_at, value_in, plus, ValueIs, SavedBy, CfaIs, RegisterIs, ValueFails, SavedByFails, CfaFails, RegisterFails}
+use Rattle.dw_unwind.specs.Columns.{in_column, recovered, on_value, saved_at, value_in, plus, ValueIs, SavedBy, CfaIs, RegisterIs, ValueFails, SavedByFails, CfaFails, RegisterFails}
 use Rattle.dw_unwind.specs.Laws.{column_of, IsInFrame, FaultsInFrame}
 use Rattle.dw_unwind.specs.Unwound.{FrameIs, FrameFails}
 
@@ -26,7 +27,7 @@ abbrev Names : {X : Type 0} → Column → Result X UnwindError → Type 0
 Names column (Ok v) = Unit {0}
 Names column (Err e) = (other : Column) → column_of e ≡ Some other → other ≡ column
 
-known_names : (column : Column) (e : UnwindError) (o : Option ℕ) → column_of e ≡ Some column → Names column (known_or e o)
+known_names : (column : Column) (e : UnwindError) (o : Option ℕ) → column_of e ≡ Some column → Names column (ok_or o e)
 known_names column e None is = λ other named. cc (sym is ∙ named)
 known_names column e (Some v) is = tt
 
@@ -66,7 +67,7 @@ module _ (c : Context) (limit : ℕ) where
   register_names policy cfa r (rules.Offset n) answer h = subst (Names (Register r)) (sym h) (recovered_names (Register r) (saved_at c limit (Register r) (plus c limit cfa n)) (saved_names (Register r) (plus c limit cfa n)))
   register_names policy cfa r (rules.ValOffset n) answer h = subst (Names (Register r)) (sym h) tt
   register_names policy cfa r (rules.Register q) answer h =
-      subst (Names (Register r)) (sym h) (recovered_names (Register r) (known_or (NoRegister (Register r)) (value_in c limit q)) (known_names (Register r) (NoRegister (Register r)) (value_in c limit q) refl))
+      subst (Names (Register r)) (sym h) (recovered_names (Register r) (ok_or (value_in c limit q) (NoRegister (Register r))) (known_names (Register r) (NoRegister (Register r)) (value_in c limit q) refl))
   register_names policy cfa r (rules.Expression e) answer h = subst (Names (Register r)) (sym h.2) (recovered_names (Register r) h.0 (saved_by_names (Register r) cfa e h.0 h.1))
   register_names policy cfa r (rules.ValExpression e) answer h = subst (Names (Register r)) (sym h.2) (recovered_names (Register r) h.0 (value_names (Register r) e _ h.0 h.1))
 

@@ -11,19 +11,20 @@ use Rattle.dw_unwind.specs.declared.gathering.Gathered.{Gathered}
 use Rattle.dw_unwind.specs.declared.ranges.Range.{Range}
 use Rattle.dw_unwind.specs.Spelling.{Says}
 use Rattle.dw_unwind.specs.Inner.Gathered.{Keeps, IsWhole, HasBytes, ranges_of, bytes_by, bytes_of}
-use Rattle.dw_unwind.specs.Statement.{Statement, Item, nothing, counter_is, register_is, memory_is, counter, register, told, or_else, given, times}
+use Rattle.std.specs.Option.{option_or}
+use Rattle.dw_unwind.specs.Statement.{Statement, Item, nothing, counter_is, register_is, memory_is, counter, register, told, given, times}
 
-or_else_none : (x : Option ℕ) → or_else x None ≡ x
+or_else_none : (x : Option ℕ) → option_or x None ≡ x
 or_else_none None = refl
 or_else_none (Some v) = refl
 
-or_else_assoc : (x y z : Option ℕ) → or_else x (or_else y z) ≡ or_else (or_else x y) z
+or_else_assoc : (x y z : Option ℕ) → option_or x (option_or y z) ≡ option_or (option_or x y) z
 or_else_assoc None y z = refl
 or_else_assoc (Some v) y z = refl
 
-pub given_push : (ss : List Statement) (s : Statement) (item : Item) → given (ss ++ s ∷ []) item ≡ or_else (given ss item) (told s item)
+pub given_push : (ss : List Statement) (s : Statement) (item : Item) → given (ss ++ s ∷ []) item ≡ option_or (given ss item) (told s item)
 given_push [] s item = or_else_none (told s item)
-given_push (t ∷ ss) s item = ap (or_else (told t item)) (given_push ss s item) ∙ or_else_assoc (told t item) (given ss item) (told s item)
+given_push (t ∷ ss) s item = ap (option_or (told t item)) (given_push ss s item) ∙ or_else_assoc (told t item) (given ss item) (told s item)
 
 once : Statement → Item → ℕ
 once s item = cond (is_some (told s item)) 1 0
@@ -34,11 +35,11 @@ times_cons s ss item = sum_by-cons (λ (t : Statement). cond (is_some (told t it
 pub times_push : (ss : List Statement) (s : Statement) (item : Item) → times (ss ++ s ∷ []) item ≡ times ss item + cond (is_some (told s item)) 1 0
 times_push ss s item = sum_by_push (λ (t : Statement). cond (is_some (told t item)) 1 0) ss s
 
-none_both : (x y : Option ℕ) → or_else x y ≡ None → (x ≡ None) × (y ≡ None)
+none_both : (x y : Option ℕ) → option_or x y ≡ None → (x ≡ None) × (y ≡ None)
 none_both None y e = (refl, e)
 none_both (Some v) y e = absurd cc
 
-some_either : (x y : Option ℕ) → is_some (or_else x y) ≡ true → (is_some x ≡ true) ⊎ (is_some y ≡ true)
+some_either : (x y : Option ℕ) → is_some (option_or x y) ≡ true → (is_some x ≡ true) ⊎ (is_some y ≡ true)
 some_either None y e = inr e
 some_either (Some v) y e = inl refl
 
@@ -99,8 +100,8 @@ all_push P (t ∷ ss) s h k = (h.0, all_push P ss s h.1 k)
 
 -- one more statement
 pub keeps_more : (limit : ℕ) (old new : Gathered) (ss : List Statement) (s : Statement) → Keeps limit old ss
-    → new.pc ≡ or_else old.pc (told s counter)
-    → ((r : ℕ) → held new.registers r ≡ or_else (held old.registers r) (told s (register r)))
+    → new.pc ≡ option_or old.pc (told s counter)
+    → ((r : ℕ) → held new.registers r ≡ option_or (held old.registers r) (told s (register r)))
     → new.ranges.items ≡ old.ranges.items ++ ranges_of (length ss + 1) (length old.bytes.items) (s ∷ [])
     → new.bytes.items ≡ old.bytes.items ++ bytes_by s
     → IsWhole limit s
@@ -108,8 +109,8 @@ pub keeps_more : (limit : ℕ) (old new : Gathered) (ss : List Statement) (s : S
     → ((r : ℕ) → is_some (told s (register r)) ≡ true → held old.registers r ≡ None)
     → Keeps limit new (ss ++ s ∷ [])
 keeps_more limit old new ss s k pc registers ranges bytes whole new_pc new_register = record {
-  pc = pc ∙ ap (λ (o : Option ℕ). or_else o (told s counter)) k.pc ∙ sym (given_push ss s counter);
-  registers = λ r. registers r ∙ ap (λ (o : Option ℕ). or_else o (told s (register r))) (k.registers r) ∙ sym (given_push ss s (register r));
+  pc = pc ∙ ap (λ (o : Option ℕ). option_or o (told s counter)) k.pc ∙ sym (given_push ss s counter);
+  registers = λ r. registers r ∙ ap (λ (o : Option ℕ). option_or o (told s (register r))) (k.registers r) ∙ sym (given_push ss s (register r));
   ranges = ranges ∙ ap (λ (rs : List Range). rs ++ ranges_of (length ss + 1) (length old.bytes.items) (s ∷ [])) k.ranges
       ∙ at_places 1 0 (length ss + 1) (1 + length ss) (length old.bytes.items) (0 + length (bytes_of ss)) ss s (omega arith) (ap length k.bytes ∙ omega arith) ∙ sym (ranges_push 1 0 ss s);
   bytes = bytes ∙ ap (λ (bs : List ℕ). bs ++ bytes_by s) k.bytes ∙ sym (bytes_push ss s);
@@ -140,7 +141,7 @@ keeps_register limit old new ss q v k fits free pc set ranges bytes =
     keeps_more limit old new ss (register_is q v) k (pc ∙ sym (or_else_none old.pc)) register_set
     (ranges ∙ sym (append-nil old.ranges.items)) (bytes ∙ sym (append-nil old.bytes.items)) (fits, tt) (λ e. absurd cc) register_new
   where
-    register_set : (r : ℕ) → held new.registers r ≡ or_else (held old.registers r) (told (register_is q v) (register r))
+    register_set : (r : ℕ) → held new.registers r ≡ option_or (held old.registers r) (told (register_is q v) (register r))
     register_set r = elim (eqb_tells r q) [
       | inl same ↦ let gone : held old.registers r ≡ None = subst (λ (n : ℕ). held old.registers n ≡ None) (sym same.1) (none_of (held old.registers q) free) in set r ∙ rw (same.0, gone) refl
       | inr other ↦ set r ∙ rw (other.0) (sym (or_else_none (held old.registers r)))

@@ -1,5 +1,6 @@
 -- The value of each column of a row, or its fault: DWARF 5, 6.4.1.
 use Rattle.std.specs.Prelude.{◌≡◌, ◌⊎◌, ◌≤◌, ℕ, ◌+◌, ◌%◌, List, [], Option, Some, None, option_map, ℤ, pos, ◌+ℤ◌, Result, Ok, Err}
+use Rattle.std.specs.Option.{ok_or}
 use Rattle.dw_num.specs.Target.{address_limit, byte_count}
 use Rattle.dw_op.specs.Expression.{Expression}
 use Rattle.dw_op.specs.Operands.{modulo}
@@ -24,11 +25,6 @@ abbrev pub in_column : Column → Result ℕ EvalError → Result ℕ UnwindErro
 in_column column (Ok v) = Ok v
 in_column column (Err (eval.Fault kind i)) = Err (Eval kind i column)
 in_column column (Err eval.OutOfMemory) = Err OutOfMemory
-
--- a value, or this fault where there is none
-abbrev pub known_or : UnwindError → Option ℕ → Result ℕ UnwindError
-known_or e None = Err e
-known_or e (Some v) = Ok v
 
 -- a register's value that can be recovered, or a fault
 abbrev pub recovered : Result ℕ UnwindError → Result (Option ℕ) UnwindError
@@ -57,7 +53,7 @@ module _ (c : Context) (limit : ℕ) where
 
   -- the address that memory holds at an address
   abbrev pub saved_at : Column → ℕ → Result ℕ UnwindError
-  saved_at column a = known_or (Unreadable column) (read_at c a (byte_count c.target.size))
+  saved_at column a = ok_or (read_at c a (byte_count c.target.size)) (Unreadable column)
 
   -- the value of an expression from this stack on, or its fault
   pub record ValueIs (column : Column) (e : Expression) (first : List ℕ) (answer : Result ℕ UnwindError) : Type 0 where
@@ -68,7 +64,7 @@ module _ (c : Context) (limit : ℕ) where
   -- the CFA by its rule; at a covered address one is set
   abbrev pub CfaIs : CfaRule → Result ℕ UnwindError → Type 0
   CfaIs cfa.Unset answer = ⊥
-  CfaIs (cfa.Register r n) answer = answer ≡ known_or (NoRegister Cfa) (option_map (λ v. plus v n) (c.register r))
+  CfaIs (cfa.Register r n) answer = answer ≡ ok_or (option_map (λ v. plus v n) (c.register r)) (NoRegister Cfa)
   CfaIs (cfa.Expression e) answer = ValueIs Cfa e [] answer
 
   -- the stack that holds the CFA
@@ -87,7 +83,7 @@ module _ (c : Context) (limit : ℕ) where
   RegisterIs policy cfa r rules.SameValue answer = answer ≡ Ok (value_in r)
   RegisterIs policy cfa r (rules.Offset n) answer = answer ≡ recovered (saved_at (Register r) (plus cfa n))
   RegisterIs policy cfa r (rules.ValOffset n) answer = answer ≡ Ok (Some (plus cfa n))
-  RegisterIs policy cfa r (rules.Register q) answer = answer ≡ recovered (known_or (NoRegister (Register r)) (value_in q))
+  RegisterIs policy cfa r (rules.Register q) answer = answer ≡ recovered (ok_or (value_in q) (NoRegister (Register r)))
   RegisterIs policy cfa r (rules.Expression e) answer =
       (value : Result ℕ UnwindError) × SavedBy (Register r) cfa e value × (answer ≡ recovered value)
   RegisterIs policy cfa r (rules.ValExpression e) answer =

@@ -10,7 +10,7 @@ use Rattle.dw_unwind.specs.declared.frame.Column.{Column}
 use Rattle.dw_unwind.specs.declared.frame.Column.TheVariants.{Cfa, Register}
 use Rattle.dw_unwind.specs.declared.frame.Policy.{Policy}
 use Rattle.dw_unwind.specs.declared.frame.UnwindError.{UnwindError}
-use Rattle.dw_unwind.specs.declared.frame.UnwindError.TheVariants.{NoFde, Eval, Unreadable, Device, NoRegister, OutOfMemory}
+use Rattle.dw_unwind.specs.declared.frame.UnwindError.TheVariants.{Eval, Unreadable, Device, NoRegister}
 use Rattle.dw_unwind.specs.Dump.{Say, FirstFault}
 use Rattle.dw_unwind.specs.Statement.{Statement}
 use Rattle.dw_unwind.specs.Unwound.{IsCovered, is_listed, Unwound, UnwindFails}
@@ -19,12 +19,11 @@ use Rattle.dw_unwind.specs.Unwound.{IsCovered, is_listed, Unwound, UnwindFails}
 
 -- the column that a fault names
 abbrev pub column_of : UnwindError → Option Column
-column_of NoFde = None
 column_of (Eval kind i column) = Some column
 column_of (Unreadable column) = Some column
 column_of (Device column) = Some column
 column_of (NoRegister column) = Some column
-column_of OutOfMemory = None
+column_of other = None
 
 -- the CFA, or a register that the frame lists
 abbrev pub IsInFrame : (ℕ → Option ℕ) → Rules → ℕ → Column → Type 0

@@ -1,4 +1,5 @@
 -- What the lines of a dump tell.
+use Rattle.std.specs.Option.{option_or}
 use Rattle.std.specs.Prelude.{ℕ, ◌+◌, ◌-◌, ◌<◌, ◌≤◌, ◌==◌, nat_le, if◌then◌else◌, List, [], ◌∷◌, length, Option, Some, None, is_some, slice_get, count_by, ⊤}
 
 -- what a line says
@@ -16,26 +17,15 @@ pub data Item : Type 0 where
 
 -- the value that a statement tells of an item
 abbrev pub told : Statement → Item → Option ℕ
-told nothing item = None
 told (counter_is v) counter = Some v
-told (counter_is v) (register r) = None
-told (counter_is v) (byte a) = None
-told (register_is q v) counter = None
 told (register_is q v) (register r) = if r == q then Some v else None
-told (register_is q v) (byte a) = None
-told (memory_is start bytes) counter = None
-told (memory_is start bytes) (register r) = None
 told (memory_is start bytes) (byte a) = if nat_le start a then slice_get bytes (a - start) else None
-
--- a value, or else another
-abbrev pub or_else : Option ℕ → Option ℕ → Option ℕ
-or_else None other = other
-or_else (Some v) other = Some v
+told s item = None
 
 -- the value that statements tell of an item
 abbrev pub given : List Statement → Item → Option ℕ
 given [] item = None
-given (s ∷ ss) item = or_else (told s item) (given ss item)
+given (s ∷ ss) item = option_or (told s item) (given ss item)
 
 -- how many statements tell a value of an item
 abbrev pub times : List Statement → Item → ℕ
