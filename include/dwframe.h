@@ -216,12 +216,12 @@ typedef struct dwframe_blocks {
  * The expressions of the row at an address, of which dwframe_row_at tells the kinds: that of the CFA (DW_CFA_def_cfa_expression),
  * and then those of the registers (DW_CFA_expression, DW_CFA_val_expression), ascending by number. Each is a block of operations
  * (DWARF 5, 2.5 and 7.7.1) in the section's order of bytes: of all blocks that spell the expression's operations, the shortest. So
- * two expressions say the same exactly where their blocks are equal.
+ * two expressions have the same operations exactly where their blocks are equal.
  *
  * The blocks are written one after another to the front of the `bytes_room` bytes at `expressions`, and where each stands to the front
- * of the `blocks_room` entries at `blocks`; `all` says how many there are of both. DWFRAME_TOO_SHORT where either has less room: `all`
- * says what is needed, and both stay. They stay with any other status too, and with DWFRAME_NO_FDE. Rooms of 0 do for a row that has
- * no expression. The index is taken as dwframe_row_at takes it.
+ * of the `blocks_room` entries at `blocks`; `all` says how many there are of both. DWFRAME_TOO_SHORT where either has less room, and
+ * `all` says what is needed. Both stay with each status but DWFRAME_OK. Rooms of 0 do for a row that has no expression. The index is
+ * taken as dwframe_row_at takes it.
  */
 dwframe_status dwframe_expressions_at(const uint8_t *bytes, size_t len, uint8_t address_size, uint8_t byte_order,
     const dwframe_entry *index, size_t entries, uint64_t address, uint8_t *expressions, size_t bytes_room, dwframe_block *blocks,
