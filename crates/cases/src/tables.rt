@@ -4,6 +4,7 @@ use crate::lines::{compare, number, parts};
 use crate::sections::{section_of, table_of};
 use crate::targets::LITTLE;
 use crate::texts::row_text;
+use dw_cfa::RowRoom;
 use dw_section::{Lookups, Ranged, Table, look_up};
 use std::alloc::Global;
 use std::test::Fail;
@@ -102,9 +103,10 @@ fn looks_addresses_up(rt: HostRuntime) -> Result<(), Fail> {
 
 // What a look-up finds by an index: the FDE, and the row.
 fn by_index(alloc: Global, bytes: &[u8], index: &[Ranged], address: u64) -> Result<String, Fail> {
-    match look_up(alloc, bytes, LITTLE, index, address) {
-        Ok(Some(found)) => {
-            let (begin, row) = (found.fde().begin, row_text(alloc, found.row())?);
+    let mut room = RowRoom::new(alloc);
+    match look_up(bytes, LITTLE, index, address, &mut room) {
+        Ok(Some(fde)) => {
+            let (begin, row) = (fde.fde().begin, row_text(alloc, room.row())?);
             Ok(format!(in alloc; "{begin:#x} {row}")?)
         }
         Ok(None) => Ok(String::from_str(alloc, "none")?),

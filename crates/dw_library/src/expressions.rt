@@ -12,7 +12,7 @@ use crate::answer::{
 };
 use crate::index::{BAD_INDEX, NO_FDE};
 use crate::unwinding::CFA;
-use dw_cfa::{CfaRule, RegRule, Row};
+use dw_cfa::{CfaRule, RegRule, Row, RowRoom};
 use dw_num::Target;
 use dw_op::ExprRef;
 use dw_section::{LookUpError, Ranged, look_up};
@@ -128,10 +128,11 @@ fn put_expressions(
     ensures any { all.old ≡ no_blocks → IfOk result (λ status. TellsStanding target section.now address (record { blocks = blocks.old; bytes = bytes.old }) (record { status = status; buffers = record { blocks = blocks.new; bytes = bytes.new }; all = all.new })) }
     ensures kept { OnErr result ((blocks.new ≡ blocks.old) × (bytes.new ≡ bytes.old) × (all.new ≡ all.old)) }
 {
-    let Some(found) = look_up(alloc, section, target, index, address)? else {
+    let mut room = RowRoom::new(alloc);
+    let Some(_) = look_up(section, target, index, address, &mut room)? else {
         return Ok(NO_FDE);
     };
-    let Ok(gathered) = gather(alloc, found.row()) else {
+    let Ok(gathered) = gather(alloc, room.row()) else {
         return Err(LookUpError::OutOfMemory);
     };
     *all = Blocks {
