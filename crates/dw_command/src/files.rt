@@ -89,7 +89,9 @@ pub struct Disk<'a, R: Files + AllocGlobal> {
 }
 
 impl<'a, R: Files + AllocGlobal> Disk<'a, R> {
-    pub fn new(rt: &'a R) -> Disk<'a, R> {
+    pub fn new(rt: &'a R) -> Disk<'a, R>
+        ensures { result.rt.now ≡ rt.now }
+    {
         Disk { rt }
     }
 }

@@ -1,5 +1,7 @@
 //! Hints at files that are no raw section.
 
+ghost use Rattle.std.specs.Prelude.{◌≡◌};
+
 use crate::files::{Load, LoadError};
 use std::io::Write;
 
@@ -36,7 +38,10 @@ pub struct Hinted<L: Load, E: Write> {
 
 impl<L: Load, E: Write> Hinted<L, E> {
     /// The hints go to `err`.
-    pub fn new(files: L, err: E) -> Hinted<L, E> {
+    pub fn new(files: L, err: E) -> Hinted<L, E>
+        ensures files { result.files ≡ files }
+        ensures err { result.err ≡ err }
+    {
         Hinted { files, err }
     }
 }
