@@ -1,6 +1,6 @@
 //! A text of many lines on its way to an output.
 
-ghost use Rattle.std.specs.Prelude.{◌≡◌, ◌+◌, ◌++◌, ◌-◌, ◌^◌, ◌<◌, ◌≤◌, length, take, None, OnOk};
+ghost use Rattle.std.specs.Prelude.{◌≡◌, ◌+◌, ◌++◌, ◌-◌, ◌^◌, ◌<◌, ◌≤◌, length, take, None, IfErr, IfOk, OnOk};
 ghost use Rattle.std.specs.Io.KnownBytes.{Appends, Keeps};
 ghost use Rattle.dw_command.specs.Output.{Told, put_so_far};
 ghost use Rattle.dw_command.specs.declared.failure.Failure.TheVariants.{CannotWrite};
@@ -165,6 +165,8 @@ impl<W: Write> Listing<W> {
         requires { self.old.len + length bytes.now ≤ ROOM }
         ensures len { self.new.len ≡ self.old.len + length bytes.now }
         ensures told { self.new.failures ≡ self.old.failures }
+        ensures put { take self.new.len self.new.room ≡ take self.old.len self.old.room ++ bytes.now }
+        ensures out { self.new.out ≡ self.old.out }
     {
         let end = self.len + bytes.len();
         self.room[self.len..end].copy_from_slice(bytes);
@@ -268,7 +270,14 @@ impl<W: Write> Sink for Listing<W> {
 
     ghost failures = { λ listing. listing.failures };
 
-    fn put(&mut self, bytes: &[u8]) -> Result<usize, SinkFault> {
+    fn put(&mut self, bytes: &[u8]) -> Result<usize, SinkFault>
+        requires some { 0 < length bytes.now }
+        requires room { self.old.failures < 2 ^ 64 - 1 }
+        ensures took { IfOk result (λ n. (1 ≤ n) × (n ≤ length bytes.now) × (self.new.failures ≡ self.old.failures)) }
+        ensures fault { IfErr result (λ _. self.old.failures < self.new.failures) }
+        // It is put behind what was put before.
+        ensures put { IfOk result (λ n. self.old.len ≤ ROOM → Appends (put_so_far (W.contents self.old.out) self.old.len self.old.room) (put_so_far (W.contents self.new.out) self.new.len self.new.room) (take n bytes.now)) }
+    {
         if self.make_room().is_err() {
             return Err(SinkFault);
         }

@@ -3,6 +3,9 @@
 //! `dw_command::engine` is the whole command over a list of words, files and two outputs; `main` runs it over the real ones.
 #![tactic(auto)]
 
+ghost use Rattle.std.specs.Prelude.{◌≡◌, ◌≢◌, ◌≤◌, IfOk};
+ghost use Rattle.std.specs.IoError.{error_kind};
+
 use dw_command::{Disk, Hinted, Listing, Shown, engine};
 use std::io::{ErrorKind, IsTerminal, Write};
 use std::process::ExitCode;
@@ -10,7 +13,9 @@ use std::{env, io};
 
 // Hints are for people alone, so that a program that reads standard error finds the one line. A terminal is told no control
 // characters of a path.
-fn run(rt: &HostRuntime) -> io::Result<u8> {
+fn run(rt: &HostRuntime) -> io::Result<u8>
+    ensures { IfOk result (λ status. status ≤ 5) }
+{
     let alloc = rt.alloc();
     let words: Vec<String> = env::args(rt)?.collect(alloc)?;
     let mut files = Disk::new(rt);
@@ -25,7 +30,10 @@ fn run(rt: &HostRuntime) -> io::Result<u8> {
 }
 
 // Without words there is no run: memory ran out, or a word is not text.
-fn status_without_run(rt: &HostRuntime, error: &io::Error) -> u8 {
+fn status_without_run(rt: &HostRuntime, error: &io::Error) -> u8
+    ensures memory { error_kind error.now ≡ ErrorKind.OutOfMemory → result ≡ 5 }
+    ensures word { error_kind error.now ≢ ErrorKind.OutOfMemory → result ≡ 3 }
+{
     let mut err = rt.stderr();
     if error.kind() == ErrorKind::OutOfMemory {
         let _ = err.write_all(b"out of memory\n");
