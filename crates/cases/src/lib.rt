@@ -20,6 +20,5 @@ mod targets;
 #[cfg(test)]
 mod texts;
 #[cfg(test)]
-mod walks;
 #[cfg(test)]
 mod wide;

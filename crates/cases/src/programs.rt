@@ -11,8 +11,8 @@ use dw_num::{Program, ReadError, Target};
 use std::alloc::Global;
 use std::test::Fail;
 
-/// The initial instructions of the plain CIE: CFA r7 plus 8, r16 at CFA minus 8.
-pub const CIE: &[u8] = b"\x0c\x07\x08\x90\x01\0\0\0\0";
+// The initial instructions of the plain CIE: CFA r7 plus 8, r16 at CFA minus 8.
+const CIE: &[u8] = b"\x0c\x07\x08\x90\x01\0\0\0\0";
 
 /// The program of a CIE, behind fields of one byte, and that of an FDE behind the plain CIE, from `begin` on.
 #[derive(Clone, Copy)]
