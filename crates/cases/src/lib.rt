@@ -20,5 +20,4 @@ mod targets;
 #[cfg(test)]
 mod texts;
 #[cfg(test)]
-#[cfg(test)]
 mod wide;
