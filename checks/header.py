@@ -102,7 +102,7 @@ def c_structs(text):
 def main():
     sources = {path.name: plain(path.read_text()) for path in sorted((ROOT / "crates/dw_library/src").glob("*.rt"))}
     # The entries of an index are those of a table.
-    sources["indexing.rt"] = plain((ROOT / "crates/dw_section/src/indexing.rt").read_text())
+    sources["indexing.rt"] = plain((ROOT / "crates/dw_section/src/fde_range.rt").read_text())
     rattle = " ".join(sources.values())
     header = plain((ROOT / "include/dwframe.h").read_text())
     rust = plain((ROOT / "bindings/rust/src/lib.rs").read_text())

@@ -3,8 +3,8 @@ use Rattle.std.proofs.Common.{◌≡◌, ℕ, ◌+◌, ◌-◌, ◌<◌, true, f
 use Rattle.std.proofs.lemmas.Bool.{cases_Bool, lt-ltb, le-ltb, le-leb}
 use Rattle.dw_op.specs.Operands.{in_range}
 use Rattle.dw_op.proofs.Lent.ReadingLaws.{some_is, EachEntry, looked_up, range_is}
-use Rattle.dw_cfa.specs.declared.reading.Opcode.{Opcode}
-use Rattle.dw_cfa.specs.declared.reading.Opcode.TheVariants as opcodes
+use Rattle.dw_cfa.specs.declared.opcode.Opcode.{Opcode}
+use Rattle.dw_cfa.specs.declared.opcode.Opcode.TheVariants as opcodes
 use Rattle.dw_cfa.specs.Operands.{opcode_table, opcode_of}
 
 -- ---- what a code says

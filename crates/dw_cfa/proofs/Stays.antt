@@ -15,10 +15,10 @@ use Rattle.dw_cfa.specs.declared.instr.Instr.TheVariants.{Set, Restore, Remember
 use Rattle.dw_cfa.specs.declared.machine.Machine.{Machine}
 use Rattle.dw_cfa.specs.declared.rule.RegRule.{RegRule}
 use Rattle.dw_cfa.specs.declared.rule.RegRule.TheVariants as rules
-use Rattle.dw_cfa.specs.declared.running.LocatedRow.{LocatedRow}
+use Rattle.dw_cfa.specs.declared.execution.LocatedRow.{LocatedRow}
 use Rattle.dw_cfa.specs.declared.steps.Progress.{Progress}
 use Rattle.dw_cfa.specs.declared.steps.Progress.TheVariants as progress
-use Rattle.dw_cfa.specs.declared.walking.Leading.{Leading}
+use Rattle.dw_cfa.specs.declared.row_walk.Leading.{Leading}
 use Rattle.dw_cfa.specs.Location.{moves_location}
 use Rattle.dw_cfa.specs.Inner.Machine.{State, after, fde_fault}
 use Rattle.dw_cfa.specs.Narrowing.{is_kept, kept}

@@ -6,8 +6,8 @@ use Rattle.dw_num.specs.Reading.{Read, fixed_at, register_at, uleb_at, sleb_at, 
 use Rattle.dw_cfa.specs.declared.instr.Factors.{Factors}
 use Rattle.dw_cfa.specs.declared.instr.Instr.{Instr}
 use Rattle.dw_cfa.specs.declared.instr.Instr.TheVariants.{SetLoc, DefCfa, DefCfaRegister, DefCfaOffset, DefCfaExpression, Restore}
-use Rattle.dw_cfa.specs.declared.reading.Opcode.{Opcode}
-use Rattle.dw_cfa.specs.declared.reading.Opcode.TheVariants as opcodes
+use Rattle.dw_cfa.specs.declared.opcode.Opcode.{Opcode}
+use Rattle.dw_cfa.specs.declared.opcode.Opcode.TheVariants as opcodes
 use Rattle.dw_cfa.specs.declared.rule.RegRule.TheVariants as rules
 use Rattle.dw_cfa.specs.Operands.{opcode_of, form_of, offset_of, advanced}
 use Rattle.dw_cfa.specs.Inner.Reading.{leaving, block_at, with_instr, form_at, judged, known_at, instr_at}

@@ -7,7 +7,7 @@ use Rattle.dw_num.specs.Reading.{Read, fixed_at}
 use Rattle.dw_cfa.specs.declared.instr.Factors.{Factors}
 use Rattle.dw_cfa.specs.declared.instr.Instr.{Instr}
 use Rattle.dw_cfa.specs.declared.machine.Machine.{Machine}
-use Rattle.dw_cfa.specs.declared.reading.Opcode.{Opcode}
+use Rattle.dw_cfa.specs.declared.opcode.Opcode.{Opcode}
 use Rattle.dw_cfa.specs.declared.machine.End.{End}
 use Rattle.dw_cfa.specs.declared.machine.End.TheVariants as ends
 use Rattle.dw_cfa.specs.Location.{moves_location}

@@ -8,7 +8,7 @@ use Rattle.dw_op.specs.OpSpells.{Both}
 use Rattle.dw_op.specs.Block.{FrameBlock}
 use Rattle.dw_cfa.specs.declared.instr.Factors.{Factors}
 use Rattle.dw_cfa.specs.declared.instr.Instr.{Instr}
-use Rattle.dw_cfa.specs.declared.reading.Opcode.{Opcode}
+use Rattle.dw_cfa.specs.declared.opcode.Opcode.{Opcode}
 use Rattle.dw_cfa.specs.Operands.{opcode_of, Operand, address, fixed, register, unsigned, signed, expression, Value, Form, none, one, two, form_of, offset_of}
 
 -- ---- operands

@@ -2,7 +2,7 @@
 use Rattle.std.specs.Prelude.{ℕ, ◌&&◌, ◌||◌, Bool, true, false, List, [], ◌∷◌, nat_lt}
 use Rattle.dw_cfa.specs.declared.rule.CfaRule.{CfaRule}
 use Rattle.dw_cfa.specs.declared.rule.CfaRule.TheVariants.{Unset}
-use Rattle.dw_cfa.specs.declared.running.LocatedRow.{LocatedRow}
+use Rattle.dw_cfa.specs.declared.execution.LocatedRow.{LocatedRow}
 
 abbrev pub is_unset : CfaRule → Bool
 is_unset Unset = true

@@ -5,7 +5,7 @@ use Rattle.dw_num.specs.Target.{address_limit}
 use Rattle.dw_num.specs.Input.{Input, AreBytes}
 use Rattle.dw_cfa.specs.declared.instr.Factors.{Factors}
 use Rattle.dw_cfa.specs.declared.instr.Instr.{Instr}
-use Rattle.dw_cfa.specs.declared.running.LocatedRow.{LocatedRow}
+use Rattle.dw_cfa.specs.declared.execution.LocatedRow.{LocatedRow}
 use Rattle.dw_cfa.specs.InstrSpells.{Program}
 use Rattle.dw_cfa.specs.Location.{Counts}
 use Rattle.dw_cfa.specs.Kept.{CieKept, FdeKept}

@@ -1,6 +1,6 @@
 -- The row of an address among the rows of a run: DWARF 5, 6.4.3.
 use Rattle.std.specs.Prelude.{ℕ, ◌≤◌, List, [], ◌∷◌, Option, Some, None, nat_le, if◌then◌else◌}
-use Rattle.dw_cfa.specs.declared.running.LocatedRow.{LocatedRow}
+use Rattle.dw_cfa.specs.declared.execution.LocatedRow.{LocatedRow}
 use Rattle.dw_cfa.specs.Rows.{Rules}
 
 abbrev pub or_here : ℕ → LocatedRow → Option Rules → Option Rules

@@ -1,7 +1,7 @@
 -- What a run gives: DWARF 5, 6.4.3.
 use Rattle.std.specs.Prelude.{List, [], ◌∷◌, Option, Some, None}
 use Rattle.dw_num.specs.declared.refusal.Refusal.{Refusal}
-use Rattle.dw_cfa.specs.declared.running.LocatedRow.{LocatedRow}
+use Rattle.dw_cfa.specs.declared.execution.LocatedRow.{LocatedRow}
 
 -- the rows still to come, and the refusal that comes behind them where the program is not run to its end
 pub record Outcome : Type 0 where

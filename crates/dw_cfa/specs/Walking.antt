@@ -1,7 +1,7 @@
 -- Programs that are known to give rows, run one after another in one room.
 use Rattle.std.specs.Prelude.{◌≡◌, List}
 use Rattle.std.specs.List.{AllByRecursion}
-use Rattle.dw_cfa.specs.declared.running.LocatedRow.{LocatedRow}
+use Rattle.dw_cfa.specs.declared.execution.LocatedRow.{LocatedRow}
 use Rattle.dw_cfa.specs.Narrowing.{kept}
 use Rattle.dw_cfa.specs.Rows.{Rules}
 use Rattle.dw_cfa.specs.Stepping.{Stepping}

@@ -10,7 +10,7 @@ ghost use Rattle.dw_cfa.specs.Inner.Turns.{Applied};
 
 use crate::instr::Factors;
 use crate::machine::{End, Machine, refused};
-use crate::reading::distance;
+use crate::opcode::distance;
 use dw_num::{Code, Cursor, Refusal};
 
 /// Moves the location on by a delta that is still to be factored.

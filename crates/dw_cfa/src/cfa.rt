@@ -6,7 +6,7 @@ ghost use Rattle.dw_cfa.specs.Inner.Turns.{Applied};
 
 use crate::instr::Factors;
 use crate::machine::{End, Machine, refused};
-use crate::reading::{block, plain, signed};
+use crate::opcode::{block, plain, signed};
 use crate::rule::CfaRule;
 use dw_num::{Code, Cursor, Refusal};
 

@@ -9,7 +9,7 @@ ghost use Rattle.dw_cfa.specs.Listing.{ProgramFault, complete, faulty, answers};
 ghost use Rattle.dw_cfa.specs.Inner.Listing.{Yields, left_of};
 
 use crate::instr::{Factors, Instr};
-use crate::reading::read_instr;
+use crate::opcode::read_instr;
 use dw_num::{Cursor, Program, Refusal, Target, are_bytes};
 use std::marker::Model;
 

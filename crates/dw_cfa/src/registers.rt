@@ -9,7 +9,7 @@ ghost use Rattle.dw_cfa.specs.Inner.Turns.{Applied};
 
 use crate::instr::Factors;
 use crate::machine::{End, Machine, refused};
-use crate::reading::{block, factored, signed};
+use crate::opcode::{block, factored, signed};
 use crate::rule::RegRule;
 use dw_num::{Cursor, Refusal};
 

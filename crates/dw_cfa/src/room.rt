@@ -12,10 +12,10 @@ ghost use Rattle.dw_cfa.specs.Inner.Runs.{RunsSo, run_rows};
 ghost use Rattle.dw_cfa.specs.Inner.States.{IsFresh};
 ghost use Rattle.dw_cfa.specs.Inner.Stepping.{begun_rows};
 
+use crate::execution::{run_initial, run_to};
 use crate::instr::Factors;
 use crate::machine::Machine;
 use crate::row::Row;
-use crate::running::{run_initial, run_to};
 use crate::states::States;
 use dw_num::{Cursor, Program, ReadError, Target, are_bytes};
 use std::alloc::Global;

@@ -3,7 +3,7 @@
 ghost use Rattle.std.specs.Prelude.{◌≡◌, ◌<◌, Some, None, Ok, Err, List, [], ◌∷◌, IfOk, IfErr, IsTrue};
 ghost use Rattle.dw_num.specs.Target.{address_limit};
 ghost use Rattle.dw_num.specs.Refusals.{Refuses};
-ghost use Rattle.dw_cfa.specs.declared.running.LocatedRow.{LocatedRow};
+ghost use Rattle.dw_cfa.specs.declared.execution.LocatedRow.{LocatedRow};
 ghost use Rattle.dw_cfa.specs.Runs.{finished};
 ghost use Rattle.dw_cfa.specs.Inner.Runs.{RunsSo, GivesRow, placed, initial_row, run_rows};
 ghost use Rattle.dw_cfa.specs.Behind.{LeavesTo};
@@ -12,10 +12,10 @@ ghost use Rattle.dw_cfa.specs.Rows.{blank};
 ghost use Rattle.dw_cfa.specs.Stepping.{Advances, Answers, stepping, program_input};
 ghost use Rattle.dw_cfa.specs.Inner.Stepping.{begun_rows, progress_after};
 
+use crate::execution::{LocatedRow, next_row, run_initial};
 use crate::instr::Factors;
 use crate::machine::Machine;
 use crate::row::Row;
-use crate::running::{LocatedRow, next_row, run_initial};
 use crate::states::States;
 use dw_num::{Cursor, Program, ReadError, Target, are_bytes};
 use std::alloc::Global;

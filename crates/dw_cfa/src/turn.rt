@@ -16,7 +16,7 @@ use crate::cfa::{
 };
 use crate::instr::Factors;
 use crate::machine::{End, Machine, refused};
-use crate::reading::{Opcode, known_opcode};
+use crate::opcode::{Opcode, known_opcode};
 use crate::registers::{
     run_expression, run_offset, run_offset_extended, run_offset_extended_sf, run_register,
     run_restore, run_restore_extended, run_same_value, run_undefined, run_val_expression,

@@ -11,7 +11,7 @@ use Rattle.dw_op.specs.declared.profile.Profile.TheVariants.{Location}
 use Rattle.dw_op.specs.Faults.{BlockFault, IsBlock}
 use Rattle.dw_eval.specs.declared.error.EvalError.TheVariants as eval_error
 use Rattle.dw_eval.specs.Evaluation.{Evaluates, first_stack}
-use Rattle.dw_section.specs.declared.cutting.Entry.{Entry}
+use Rattle.dw_section.specs.declared.entry.Entry.{Entry}
 use Rattle.dw_section.specs.Accepted.{Accepted, CheckFault}
 use Rattle.dw_section.specs.Pieces.{Entries}
 use Rattle.dw_section.specs.Faults.{CutFault}

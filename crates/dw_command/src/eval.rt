@@ -5,8 +5,8 @@ ghost use Rattle.dw_command.specs.Answers.{EvalEnds, Prints, Values};
 
 use crate::failure::Failure;
 use crate::files::Load;
+use crate::input::load_text;
 use crate::listing::Listing;
-use crate::loading::load_text;
 use dw_eval::{Env, evaluate};
 use dw_num::Target;
 use dw_op::{OpList, Profile, decode};

@@ -5,8 +5,8 @@ ghost use Rattle.dw_command.specs.Answers.{NormalEnds, Prints};
 
 use crate::failure::Failure;
 use crate::files::Load;
+use crate::input::load_file;
 use crate::listing::Listing;
-use crate::loading::load_file;
 use dw_normal::normalise_to;
 use dw_num::Target;
 use dw_words::Writing;

@@ -5,8 +5,8 @@ ghost use Rattle.dw_command.specs.Answers.{Prints, SameEnds};
 
 use crate::failure::Failure;
 use crate::files::Load;
+use crate::input::load_file;
 use crate::listing::Listing;
-use crate::loading::load_file;
 use dw_normal::same;
 use dw_num::Target;
 use std::alloc::Global;

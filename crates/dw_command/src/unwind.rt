@@ -6,8 +6,8 @@ ghost use Rattle.dw_command.specs.Output.{Told};
 
 use crate::failure::Failure;
 use crate::files::Load;
+use crate::input::{load_dump, load_file};
 use crate::listing::{Listing, OutputFault};
-use crate::loading::{load_dump, load_file};
 use dw_num::Target;
 use dw_section::{Table, check};
 use dw_unwind::{Dump, Frame, unwind};

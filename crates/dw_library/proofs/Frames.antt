@@ -4,8 +4,8 @@ use Rattle.std.specs.Prelude.{IsErrAnd}
 use Rattle.dw_unwind.specs.declared.frame.Frame.{Frame as CallerFrame}
 use Rattle.dw_unwind.specs.declared.frame.UnwindError.{UnwindError}
 use Rattle.dw_unwind.specs.declared.frame.UnwindError.TheVariants.{OutOfMemory}
-use Rattle.dw_library.specs.declared.unwinding.NoFrame.{NoFrame}
-use Rattle.dw_library.specs.declared.unwinding.NoFrame.TheVariants.{Frame}
+use Rattle.dw_library.specs.declared.caller.NoFrame.{NoFrame}
+use Rattle.dw_library.specs.declared.caller.NoFrame.TheVariants.{Frame}
 
 -- a frame is no want of memory
 pub found_is : (U : Result CallerFrame UnwindError → Type 0) (f : CallerFrame) → ((Ok f ≡ Err OutOfMemory) ⊎ U (Ok f)) → U (Ok f)

@@ -11,7 +11,7 @@ use Rattle.dw_section.specs.Meaning.{AreFdes, NoneCovers, RulesAt}
 use Rattle.dw_section.specs.Meanings.{IsListed}
 use Rattle.dw_section.specs.Standing.{Ruled, RulesOf}
 use Rattle.dw_section.specs.Inner.Table.{IsTable}
-use Rattle.dw_section.specs.declared.indexing.Ranged.{Ranged}
+use Rattle.dw_section.specs.declared.fde_range.Ranged.{Ranged}
 use Rattle.dw_section.specs.declared.lookup.Fde.{Fde}
 use Rattle.dw_library.specs.declared.answer.Refused.{Refused}
 use Rattle.dw_library.specs.declared.index.Row.{Row}

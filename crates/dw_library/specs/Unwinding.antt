@@ -15,9 +15,9 @@ use Rattle.dw_unwind.specs.declared.frame.UnwindError.{UnwindError}
 use Rattle.dw_unwind.specs.declared.frame.UnwindError.TheVariants as errors
 use Rattle.dw_library.specs.declared.answer.Refused.{Refused}
 use Rattle.dw_library.specs.declared.registers.Register.{Register}
-use Rattle.dw_library.specs.declared.unwinding.Fault.{Fault}
-use Rattle.dw_library.specs.declared.unwinding.Frame.{Frame}
-use Rattle.dw_library.specs.declared.unwinding.Stop.{Stop}
+use Rattle.dw_library.specs.declared.caller.Fault.{Fault}
+use Rattle.dw_library.specs.declared.caller.Frame.{Frame}
+use Rattle.dw_library.specs.declared.caller.Stop.{Stop}
 use Rattle.dw_library.specs.declared.windows.Window.{Window}
 use Rattle.dw_library.specs.Answers.{refused, out_of_memory, bad_argument, not_refused, told}
 use Rattle.dw_library.specs.Registers.{given_in, told_register, AreTold}

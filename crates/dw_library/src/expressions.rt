@@ -2,7 +2,7 @@
 
 ghost use Rattle.std.specs.Prelude.{◌≡◌, [], ◌∷◌, IfOk, OnOk, OnErr, MatchResult};
 ghost use Rattle.dw_section.specs.Inner.Table.{IsTable};
-ghost use Rattle.dw_section.specs.declared.standing.LookUpError.TheVariants as TheLookUpError;
+ghost use Rattle.dw_section.specs.declared.standing_fde.LookUpError.TheVariants as TheLookUpError;
 ghost use Rattle.dw_library.specs.Answers.{target_of};
 ghost use Rattle.dw_library.specs.Expressions.{AreAnyExpressions, AreBlocks, AreExpressions, ArePut, Buffers, TellsAt, TellsStanding, Told, expressions_of, in_cfa, in_rule, no_blocks};
 ghost use Rattle.dw_library.specs.Inner.Expressions.{Adds};
@@ -10,8 +10,8 @@ ghost use Rattle.dw_library.specs.Inner.Expressions.{Adds};
 use crate::answer::{
     BAD_ARGUMENT, OK, OUT_OF_MEMORY, REFUSED, Refused, TOO_SHORT, not_refused, target_of, told,
 };
+use crate::caller::CFA;
 use crate::index::{BAD_INDEX, NO_FDE};
-use crate::unwinding::CFA;
 use dw_cfa::{CfaRule, RegRule, Row, RowRoom};
 use dw_num::Target;
 use dw_op::ExprRef;

@@ -4,8 +4,8 @@ ghost use Rattle.std.specs.Prelude.{◌≡◌, ◌<◌, ◌≤◌, List, IfOk, I
 ghost use Rattle.dw_num.specs.Refusals.{Refuses};
 ghost use Rattle.dw_section.specs.Accepted.{CheckFault};
 ghost use Rattle.dw_section.specs.Inner.Table.{IsTable};
-ghost use Rattle.dw_section.specs.declared.indexing.Ranged.{Ranged as TheRanged};
-ghost use Rattle.dw_section.specs.declared.standing.LookUpError.TheVariants as TheLookUpError;
+ghost use Rattle.dw_section.specs.declared.fde_range.Ranged.{Ranged as TheRanged};
+ghost use Rattle.dw_section.specs.declared.standing_fde.LookUpError.TheVariants as TheLookUpError;
 ghost use Rattle.dw_library.specs.Answers.{target_of};
 ghost use Rattle.dw_library.specs.Index.{AreEntries, HasSize, IsAnyRow, IsIndexed, IsRow, TellsFde, TellsRow, TellsRules, Told, cfa_kind_of, cfa_offset_of, cfa_register_of, kind_of, no_row, offset_of, other_of, over, rule_of};
 

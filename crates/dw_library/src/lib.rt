@@ -4,12 +4,12 @@
 //! say: a value that is none of those asked for is answered by a status.
 #![tactic(auto)]
 
+mod acceptance;
 mod answer;
-mod checking;
+mod caller;
 mod expressions;
 mod forms;
 mod index;
-mod naming;
+mod refusal_name;
 mod registers;
-mod unwinding;
 mod windows;

@@ -13,8 +13,8 @@ ghost use Rattle.dw_normal.specs.Inner.Beginning.{Begins, IsReady};
 ghost use Rattle.dw_normal.specs.Inner.Measuring.{cie_with};
 
 use crate::begun::Begun;
-use crate::putting::push_uleb;
-use crate::writing::{push_difference, push_first, push_later};
+use crate::instruction::push_uleb;
+use crate::program::{push_difference, push_first, push_later};
 use dw_cfa::Row;
 use dw_num::{Size, Target, put_fixed};
 use std::alloc::{AllocError, Global};

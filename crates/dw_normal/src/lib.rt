@@ -3,21 +3,21 @@
 
 mod begun;
 mod bound;
+mod cfa_change;
 mod contents;
-mod differing;
 mod entry;
 mod error;
 mod groups;
+mod instruction;
 mod length;
 mod likeness;
-mod measuring;
 mod normal;
-mod putting;
-mod readying;
+mod preparation;
+mod program;
 mod room;
 mod sink;
+mod size;
 mod tape;
-mod writing;
 
 pub use error::{SameError, Which, WriteError};
 pub use normal::{normal_length, normalise, normalise_to, same};

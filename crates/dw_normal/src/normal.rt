@@ -15,7 +15,7 @@ ghost use Rattle.dw_section.specs.Meanings.{SameMeaning};
 use crate::entry::{PutError, write_entries};
 use crate::error::{SameError, Which, WriteError};
 use crate::likeness::same_tables;
-use crate::readying::{measured_section, prepared, short_table};
+use crate::preparation::{measured_section, prepared, short_table};
 use crate::sink::Sink;
 use crate::tape::Tape;
 use dw_num::{ReadError, Target, are_bytes};

@@ -13,8 +13,8 @@ ghost use Rattle.dw_canon.specs.Written.{cie, missing, entry_bytes};
 ghost use Rattle.dw_normal.specs.Inner.Measuring.{Leaves, LaterLeaves, FdeLeaves};
 ghost use Rattle.dw_normal.specs.Inner.Passing.{Stand, row_or_blank, shown_row};
 
-use crate::differing::cfa_difference;
-use crate::measuring::{cfa_offset_len, instr_len, packed_len, rule_len, unsigned_len};
+use crate::cfa_change::cfa_difference;
+use crate::size::{cfa_offset_len, instr_len, packed_len, rule_len, unsigned_len};
 use dw_cfa::{CfaRule, Instr, Row};
 use dw_num::Target;
 use dw_section::Changes;

@@ -3,9 +3,9 @@ use Rattle.std.proofs.Common.{◌≡◌, ◌⊎◌, ℕ, List, [], ◌∷◌, �
 use Rattle.std.proofs.lemmas.List.{append-nil, length-append, length-map}
 use Rattle.std.proofs.lemmas.List.Elements.{filter_map-append}
 use Rattle.dw_num.specs.declared.target.Target.{Target}
-use Rattle.dw_section.specs.declared.cutting.Kind.{Kind}
-use Rattle.dw_section.specs.declared.cutting.Kind.TheVariants as kind
-use Rattle.dw_section.specs.declared.judging.Initial.{Initial}
+use Rattle.dw_section.specs.declared.entry.Kind.{Kind}
+use Rattle.dw_section.specs.declared.entry.Kind.TheVariants as kind
+use Rattle.dw_section.specs.declared.program.Initial.{Initial}
 use Rattle.dw_section.specs.Cut.{Piece}
 use Rattle.dw_section.specs.Headers as head
 use Rattle.dw_section.specs.Headers.{Head}

@@ -1,7 +1,7 @@
 -- How long the programs are of an FDE of a table.
 use Rattle.std.proofs.Common.{ℕ, List, length, refl, sym, ap}
 use Rattle.dw_num.specs.declared.target.Target.{Target}
-use Rattle.dw_section.specs.declared.rereading.FoundFde.{FoundFde}
+use Rattle.dw_section.specs.declared.listed_fde.FoundFde.{FoundFde}
 use Rattle.dw_section.specs.Meaning.{HasLengths}
 use Rattle.dw_section.specs.Headers.{Head}
 use Rattle.dw_section.specs.Inner.Heads.{head_program}

@@ -15,8 +15,8 @@ use Rattle.dw_num.specs.declared.target.Target.{Target}
 use Rattle.dw_num.specs.declared.refusal.Refusal.{Refusal}
 use Rattle.std.specs.Prelude.{IfOk, IfErr, MatchResult}
 use Rattle.dw_section.specs.Pieces.{Pieces, Entries, entry_of}
-use Rattle.dw_section.specs.declared.cutting.Entry.{Entry}
-use Rattle.dw_section.specs.declared.cutting.Kind.{Kind}
+use Rattle.dw_section.specs.declared.entry.Entry.{Entry}
+use Rattle.dw_section.specs.declared.entry.Kind.{Kind}
 use Rattle.dw_section.specs.Faults.{item_at, IsStuck, CutFault}
 use Rattle.dw_num.specs.declared.target.Size.TheVariants.{Four}
 use Rattle.dw_num.specs.declared.target.Order.{Order}

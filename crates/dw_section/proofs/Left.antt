@@ -9,7 +9,7 @@ use Rattle.dw_num.specs.declared.target.Target.{Target}
 use Rattle.dw_num.specs.declared.refusal.Refusal.{Refusal}
 use Rattle.dw_num.specs.Fixed.{length_bytes}
 use Rattle.dw_num.specs.Input.{Input, Takes}
-use Rattle.dw_section.specs.declared.cutting.Kind.{Kind}
+use Rattle.dw_section.specs.declared.entry.Kind.{Kind}
 use Rattle.dw_section.specs.Cut.{Item, gap, entry, IsItem, item_bytes, is_cie, all_bytes, Piece, piece_of, with_some, pieces}
 use Rattle.dw_section.specs.Faults.{item_at}
 use Rattle.dw_section.specs.Pieces.{Pieces}

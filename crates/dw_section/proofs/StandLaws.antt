@@ -11,12 +11,12 @@ use Rattle.dw_num.specs.declared.refusal.Refusal.{Refusal}
 use Rattle.dw_num.specs.Input.{Input, Takes}
 use Rattle.dw_num.specs.Span.{Span}
 use Rattle.dw_num.specs.Fixed.{length_bytes}
-use Rattle.dw_section.specs.declared.cutting.Kind.{Kind}
-use Rattle.dw_section.specs.declared.cutting.Kind.TheVariants as kind
+use Rattle.dw_section.specs.declared.entry.Kind.{Kind}
+use Rattle.dw_section.specs.declared.entry.Kind.TheVariants as kind
 use Rattle.dw_section.specs.Cut.{Item, gap, entry, IsItem, Piece, item_bytes, piece_of, pieces, is_cie, all_bytes}
 use Rattle.dw_section.specs.declared.fields.CieFields.{CieFields}
 use Rattle.dw_section.specs.declared.fields.FdeFields.{FdeFields}
-use Rattle.dw_section.specs.declared.rereading.FoundFde.{FoundFde}
+use Rattle.dw_section.specs.declared.listed_fde.FoundFde.{FoundFde}
 use Rattle.dw_section.specs.Faults.{item_at}
 use Rattle.dw_num.specs.Target.{address_limit}
 use Rattle.dw_section.specs.Fields.{is_among}
@@ -26,7 +26,7 @@ use Rattle.dw_section.specs.Inner.Index.{IsFound, found_cie, found_head}
 use Rattle.dw_section.specs.Meaning.{Returns}
 use Rattle.dw_section.specs.Meanings.{IsListed as IsListedFde}
 use Rattle.dw_section.specs.Inner.Lookup.{fde_in}
-use Rattle.dw_section.specs.declared.indexing.Ranged.{Ranged}
+use Rattle.dw_section.specs.declared.fde_range.Ranged.{Ranged}
 use Rattle.dw_section.specs.Overlap.{Range}
 use Rattle.dw_section.specs.Places.{cie_places}
 use Rattle.dw_section.specs.Programs.{IsAmong}

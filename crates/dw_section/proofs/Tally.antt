@@ -6,9 +6,9 @@ use Rattle.dw_num.specs.declared.target.Form.{Form}
 use Rattle.dw_num.specs.declared.target.Target.{Target}
 use Rattle.dw_num.specs.Fixed.{length_bytes}
 use Rattle.dw_num.specs.Input.{Input, Takes}
-use Rattle.dw_section.specs.declared.cutting.EntryCounts.{EntryCounts}
-use Rattle.dw_section.specs.declared.cutting.Kind.{Kind}
-use Rattle.dw_section.specs.declared.cutting.Kind.TheVariants.{Cie, Fde}
+use Rattle.dw_section.specs.declared.entry.EntryCounts.{EntryCounts}
+use Rattle.dw_section.specs.declared.entry.Kind.{Kind}
+use Rattle.dw_section.specs.declared.entry.Kind.TheVariants.{Cie, Fde}
 use Rattle.dw_section.specs.Counts.{AreCounts}
 use Rattle.dw_section.specs.Inner.Counts.{counted_by}
 use Rattle.dw_section.specs.Cut.{gap, entry, IsItem, item_bytes, is_cie, Piece}

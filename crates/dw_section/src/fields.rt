@@ -7,7 +7,7 @@ ghost use Rattle.dw_num.specs.Target.{address_limit};
 ghost use Rattle.dw_section.specs.Fields.{is_among};
 ghost use Rattle.dw_section.specs.Inner.Fields.{wanted_at, version_of, version_at, empty_string_at, sizes_at, return_register_at, factors_at, cie_fields_at, pointer_at, range_at, fde_fields_at};
 
-use crate::cutting::width_of;
+use crate::entry::width_of;
 use dw_num::{Code, Cursor, Form, Refusal, Size};
 
 /// A version of a CIE.

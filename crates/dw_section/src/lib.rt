@@ -6,27 +6,27 @@
 //! then `specs/Headers.antt`, `specs/Accepted.antt`, and `specs/Meaning.antt`.
 #![tactic(auto)]
 
-mod changing;
-mod counting;
-mod cutting;
+mod change;
+mod entry;
+mod fde_range;
 mod fields;
-mod finding;
-mod heading;
-mod indexing;
-mod judging;
+mod header;
 mod laws;
-mod lending;
+mod listed_fde;
 mod lookup;
-mod rereading;
-mod standing;
+mod program;
+mod program_length;
+mod row_count;
+mod standing_fde;
 mod table;
+mod table_lookup;
 
-pub use changing::Changes;
-pub use cutting::{Entry, EntryCounts, Kind, entries, one_cut, one_cut_fault};
-pub use finding::Lookups;
-pub use heading::{Header, headers, one_first_fault, one_order};
-pub use indexing::Ranged;
+pub use change::Changes;
+pub use entry::{Entry, EntryCounts, Kind, entries, one_cut, one_cut_fault};
+pub use fde_range::Ranged;
+pub use header::{Header, headers, one_first_fault, one_order};
 pub use laws::section_laws;
 pub use lookup::{Fde, FdeRef, Fdes};
-pub use standing::{LookUpError, StandingFde, look_up};
+pub use standing_fde::{LookUpError, StandingFde, look_up};
 pub use table::{Table, check, one_check_fault};
+pub use table_lookup::Lookups;

@@ -17,10 +17,10 @@ ghost use Rattle.dw_section.specs.Pieces.{Pieces};
 ghost use Rattle.dw_section.specs.Table.{Section};
 ghost use Rattle.dw_section.specs.Inner.Table.{AreRanges, IsKept, IsTable};
 
-use crate::cutting::{EntryCounts, cut};
-use crate::heading::{fdes_hold, find_cies};
-use crate::indexing::{Ranged, first_overlap, put_in_order, run_fdes};
-use crate::judging::{Initial, run_cies};
+use crate::entry::{EntryCounts, cut};
+use crate::fde_range::{Ranged, first_overlap, put_in_order, run_fdes};
+use crate::header::{fdes_hold, find_cies};
+use crate::program::{Initial, run_cies};
 use dw_num::{Code, ReadError, Refusal, Target, are_bytes};
 use std::alloc::Global;
 use std::marker::Model;

@@ -8,7 +8,7 @@ use Rattle.std.proofs.lemmas.List.{append-nil}
 use Rattle.std.proofs.lemmas.Option.{slice_get_past, slice_get-get_or}
 use Rattle.dw_unwind.specs.declared.fault.DumpCode.TheVariants.{Repeated}
 use Rattle.dw_unwind.specs.declared.fault.DumpFault.{DumpFault}
-use Rattle.dw_unwind.specs.declared.gathering.Gathered.{Gathered}
+use Rattle.dw_unwind.specs.declared.partial_dump.Gathered.{Gathered}
 use Rattle.dw_unwind.specs.declared.ranges.Range.{Range}
 use Rattle.dw_unwind.specs.Dump.{SaysWithin, Say, FirstFault}
 use Rattle.dw_unwind.specs.Inner.Gathered.{Gathers, Keeps, IsWhole, ranges_of, bytes_of}

@@ -7,7 +7,7 @@ use Rattle.std.proofs.lemmas.Bool.Decides.{eqb_tells}
 use Rattle.std.proofs.lemmas.List.{append-nil}
 use Rattle.std.proofs.lemmas.List.Sums.{sum_by-cons, sum_by_push}
 use Rattle.dw_eval.specs.Registers.{held}
-use Rattle.dw_unwind.specs.declared.gathering.Gathered.{Gathered}
+use Rattle.dw_unwind.specs.declared.partial_dump.Gathered.{Gathered}
 use Rattle.dw_unwind.specs.declared.ranges.Range.{Range}
 use Rattle.dw_unwind.specs.Spelling.{Says}
 use Rattle.dw_unwind.specs.Inner.Gathered.{Keeps, IsWhole, HasBytes, ranges_of, bytes_by, bytes_of}

@@ -3,7 +3,7 @@ use Rattle.std.proofs.Common.{◌≡◌, ℕ, zero, suc, ◌+◌, ◌<◌, ◌�
 use Rattle.std.specs.Prelude.{◌==◌}
 use Rattle.std.specs.List.{AllZip}
 use Rattle.std.proofs.lemmas.Bool.Decides.{eqb_tells}
-use Rattle.dw_unwind.specs.declared.gathering.Gathered.{Gathered}
+use Rattle.dw_unwind.specs.declared.partial_dump.Gathered.{Gathered}
 use Rattle.dw_unwind.specs.Dump.{SaysWithin}
 use Rattle.dw_unwind.specs.Inner.Gathered.{Keeps, SoFar}
 use Rattle.dw_unwind.specs.Lines.{lines_of, in_front}

@@ -9,10 +9,10 @@ ghost use Rattle.dw_unwind.specs.Laws.{NamesLine};
 ghost use Rattle.dw_unwind.specs.Lines.{lines_of};
 ghost use Rattle.dw_unwind.specs.Statement.{Statement as TheStatement};
 
-use crate::adding::{gather, nothing_gathered};
+use crate::addition::{gather, nothing_gathered};
 use crate::fault::{DumpCode, DumpError, DumpFault};
-use crate::gathering::Gathered;
 use crate::memory::DumpMemory;
+use crate::partial_dump::Gathered;
 use crate::ranges::first_overlap;
 use dw_eval::Registers;
 use dw_num::Target;

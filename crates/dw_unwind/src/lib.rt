@@ -4,21 +4,21 @@
 //! memory's count of failures grew. Read `specs/Unwound.antt` first, and `specs/Dump.antt` for dumps.
 #![tactic(auto)]
 
-mod adding;
+mod addition;
+mod caller;
 mod dump;
 mod fault;
 mod frame;
-mod gathering;
 mod laws;
 mod line;
 mod machine;
 mod memory;
+mod partial_dump;
 mod ranges;
-mod unwinding;
 
+pub use caller::unwind;
 pub use dump::Dump;
 pub use fault::{DumpCode, DumpError, DumpFault};
 pub use frame::{Column, Frame, FrameRegisters, Policy, UnwindError};
 pub use laws::unwind_laws;
 pub use memory::DumpMemory;
-pub use unwinding::unwind;

@@ -5,10 +5,10 @@
 #![tactic(auto)]
 
 mod command_line;
+mod command_words;
 mod help;
-mod planning;
 mod request;
 mod values;
 
-pub use planning::plan;
+pub use command_words::plan;
 pub use request::{Evaluation, Job, Name, PlanError, Request, Task, Unwinding, Writing};

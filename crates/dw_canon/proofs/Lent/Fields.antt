@@ -17,8 +17,8 @@ use Rattle.dw_num.specs.Target.{address_limit, byte_count}
 use Rattle.dw_num.proofs.Lent.FixedLaws.{length-fixed}
 use Rattle.dw_num.proofs.Lent.Shortest.{shortest_uleb-spells}
 use Rattle.dw_cfa.specs.declared.instr.Instr.{Instr}
-use Rattle.dw_section.specs.declared.cutting.Kind.{Kind}
-use Rattle.dw_section.specs.declared.cutting.Kind.TheVariants as kind
+use Rattle.dw_section.specs.declared.entry.Kind.{Kind}
+use Rattle.dw_section.specs.declared.entry.Kind.TheVariants as kind
 use Rattle.dw_section.specs.Fields as table
 use Rattle.dw_section.specs.Fields.{is_among, FieldsSpell, unless}
 use Rattle.dw_section.specs.Cut.{IsItem, is_cie, Piece, pieces, Cut}

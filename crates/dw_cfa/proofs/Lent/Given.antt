@@ -11,7 +11,7 @@ use Rattle.dw_num.specs.declared.error.ReadError.TheVariants.{Refused, OutOfMemo
 use Rattle.dw_num.specs.Refusals.{Refuses}
 use Rattle.dw_cfa.specs.declared.instr.Factors.{Factors}
 use Rattle.dw_cfa.specs.declared.instr.Instr.{Instr}
-use Rattle.dw_cfa.specs.declared.running.LocatedRow.{LocatedRow}
+use Rattle.dw_cfa.specs.declared.execution.LocatedRow.{LocatedRow}
 use Rattle.dw_cfa.specs.Location.{onto, location_back, moves_location}
 use Rattle.dw_cfa.specs.Rows.{Rules, AreSpecified, blank}
 use Rattle.dw_cfa.specs.Runs.{Outcome, finished, fails}

@@ -22,8 +22,8 @@ use Rattle.dw_op.proofs.Lent.Blocks.{block_found}
 use Rattle.dw_cfa.specs.declared.instr.Factors.{Factors}
 use Rattle.dw_cfa.specs.declared.instr.Instr.{Instr}
 use Rattle.dw_cfa.specs.declared.instr.Instr.TheVariants.{Nop, SetLoc, DefCfa, DefCfaRegister, DefCfaOffset, DefCfaExpression, Restore, RememberState, RestoreState}
-use Rattle.dw_cfa.specs.declared.reading.Opcode.{Opcode}
-use Rattle.dw_cfa.specs.declared.reading.Opcode.TheVariants as opcodes
+use Rattle.dw_cfa.specs.declared.opcode.Opcode.{Opcode}
+use Rattle.dw_cfa.specs.declared.opcode.Opcode.TheVariants as opcodes
 use Rattle.dw_cfa.specs.declared.rule.RegRule.TheVariants as rules
 use Rattle.dw_cfa.specs.InstrSpells.{IsOffset, BlockSpells, InstrSpells}
 use Rattle.dw_cfa.specs.Operands.{opcode_of, advanced}

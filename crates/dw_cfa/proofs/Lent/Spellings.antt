@@ -9,8 +9,8 @@ use Rattle.dw_op.specs.Inner.ByOperation.{Alone}
 use Rattle.dw_cfa.specs.declared.instr.Factors.{Factors}
 use Rattle.dw_cfa.specs.declared.instr.Instr.{Instr}
 use Rattle.dw_cfa.specs.declared.instr.Instr.TheVariants.{Nop, SetLoc, Advance, DefCfa, DefCfaRegister, DefCfaOffset, DefCfaExpression, Set, Restore, RememberState, RestoreState}
-use Rattle.dw_cfa.specs.declared.reading.Opcode.{Opcode}
-use Rattle.dw_cfa.specs.declared.reading.Opcode.TheVariants as opcodes
+use Rattle.dw_cfa.specs.declared.opcode.Opcode.{Opcode}
+use Rattle.dw_cfa.specs.declared.opcode.Opcode.TheVariants as opcodes
 use Rattle.dw_cfa.specs.declared.rule.RegRule.{RegRule}
 use Rattle.dw_cfa.specs.declared.rule.RegRule.TheVariants as rules
 use Rattle.dw_cfa.specs.InstrSpells.{IsOffset, BlockSpells, FormSpells, InstrSpells}

@@ -4,7 +4,7 @@ use Rattle.dw_num.specs.Input.{Input}
 use Rattle.dw_num.specs.declared.error.ReadError.{ReadError}
 use Rattle.dw_cfa.specs.declared.instr.Factors.{Factors}
 use Rattle.dw_cfa.specs.declared.machine.Machine.{Machine}
-use Rattle.dw_cfa.specs.declared.running.LocatedRow.{LocatedRow}
+use Rattle.dw_cfa.specs.declared.execution.LocatedRow.{LocatedRow}
 use Rattle.dw_cfa.specs.declared.steps.Progress.{Progress}
 use Rattle.dw_cfa.specs.declared.steps.Progress.TheVariants as progress
 use Rattle.dw_cfa.specs.Runs.{Outcome, finished}

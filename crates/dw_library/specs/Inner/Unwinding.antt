@@ -4,10 +4,10 @@ use Rattle.dw_num.specs.declared.target.Target.{Target}
 use Rattle.dw_section.specs.Accepted.{CheckFault}
 use Rattle.dw_unwind.specs.declared.frame.Policy.{Policy}
 use Rattle.dw_unwind.specs.declared.frame.UnwindError.TheVariants as errors
-use Rattle.dw_library.specs.declared.unwinding.Stop.{Stop}
-use Rattle.dw_library.specs.declared.unwinding.Held.{Held}
-use Rattle.dw_library.specs.declared.unwinding.NoFrame.{NoFrame}
-use Rattle.dw_library.specs.declared.unwinding.NoFrame.TheVariants.{Section, Frame as NoFrameOf}
+use Rattle.dw_library.specs.declared.caller.Stop.{Stop}
+use Rattle.dw_library.specs.declared.caller.Held.{Held}
+use Rattle.dw_library.specs.declared.caller.NoFrame.{NoFrame}
+use Rattle.dw_library.specs.declared.caller.NoFrame.TheVariants.{Section, Frame as NoFrameOf}
 use Rattle.dw_num.specs.Refusals.{Refuses}
 use Rattle.dw_library.specs.Unwinding.{Machine, IsFrame}
 

@@ -11,7 +11,7 @@ use Rattle.dw_cfa.specs.declared.rule.RegRule.{RegRule}
 use Rattle.dw_cfa.specs.Behind.{Leaves, HoldsBehind}
 use Rattle.dw_cfa.specs.Inner.Exact.{RulesBehind}
 use Rattle.dw_cfa.specs.Column.{cfa_after, rule_after}
-use Rattle.dw_cfa.specs.declared.running.LocatedRow.{LocatedRow}
+use Rattle.dw_cfa.specs.declared.execution.LocatedRow.{LocatedRow}
 use Rattle.dw_cfa.specs.Location.{Counts}
 use Rattle.dw_cfa.specs.Laws.{HoldsAfter}
 use Rattle.dw_cfa.specs.Rows.{Rules, AreSpecified}

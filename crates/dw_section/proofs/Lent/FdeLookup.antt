@@ -4,7 +4,7 @@ use Rattle.std.specs.List.{AllByRecursion, AllZip}
 use Rattle.std.specs.List.Sorted.{IsNonDecreasingBy}
 use Rattle.std.proofs.lemmas.List.{length-map}
 use Rattle.dw_num.specs.declared.target.Target.{Target}
-use Rattle.dw_section.specs.declared.indexing.Ranged.{Ranged}
+use Rattle.dw_section.specs.declared.fde_range.Ranged.{Ranged}
 use Rattle.dw_section.specs.declared.lookup.Fde.{Fde}
 use Rattle.dw_section.specs.Headers.{Head, CieHead, FdeHead}
 use Rattle.dw_section.specs.Inner.Heads.{HeadsRise}
@@ -13,8 +13,8 @@ use Rattle.dw_section.specs.Inner.Lookup.{fde_in}
 use Rattle.dw_section.specs.Meaning.{Returns, Lists, AreFdes, Covers, NoneCovers}
 use Rattle.dw_section.specs.Overlap.{Range, Precedes, Ascends, AreApart, IsIndex, end_of}
 use Rattle.dw_section.specs.Inner.Table.{IsTable, IsKept}
-use Rattle.dw_section.specs.declared.cutting.EntryCounts.{EntryCounts}
-use Rattle.dw_section.specs.declared.judging.Initial.{Initial}
+use Rattle.dw_section.specs.declared.entry.EntryCounts.{EntryCounts}
+use Rattle.dw_section.specs.declared.program.Initial.{Initial}
 use Rattle.dw_section.specs.Inner.Initials.{AreInitials}
 use Rattle.dw_section.specs.Inner.Left.{AreHeaders}
 use Rattle.dw_section.proofs.Lent.Judged.{all_get}

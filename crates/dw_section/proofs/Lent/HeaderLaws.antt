@@ -12,7 +12,7 @@ use Rattle.dw_num.specs.declared.error.ReadError.{ReadError}
 use Rattle.dw_num.specs.declared.error.ReadError.TheVariants.{Refused, OutOfMemory}
 use Rattle.dw_num.specs.Refusals.{Refuses}
 use Rattle.dw_num.proofs.Lent.LebLaws.{done, ok_is}
-use Rattle.dw_section.specs.declared.cutting.Kind.TheVariants as kind
+use Rattle.dw_section.specs.declared.entry.Kind.TheVariants as kind
 use Rattle.dw_section.specs.declared.fields.CieFields.{CieFields}
 use Rattle.dw_section.specs.declared.fields.FdeFields.{FdeFields}
 use Rattle.dw_section.specs.Cut.{Piece, id_width}

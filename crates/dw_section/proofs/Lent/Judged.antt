@@ -14,7 +14,7 @@ use Rattle.dw_num.specs.Target.{address_limit}
 use Rattle.dw_cfa.specs.declared.instr.Instr.{Instr}
 use Rattle.dw_cfa.specs.declared.rule.CfaRule.{CfaRule}
 use Rattle.dw_cfa.specs.declared.rule.CfaRule.TheVariants.{Unset}
-use Rattle.dw_cfa.specs.declared.running.LocatedRow.{LocatedRow}
+use Rattle.dw_cfa.specs.declared.execution.LocatedRow.{LocatedRow}
 use Rattle.dw_cfa.specs.Inner.Exact.{RulesBehind}
 use Rattle.dw_cfa.specs.Column.{cfa_after}
 use Rattle.dw_cfa.specs.Faults.{FdeFault}
@@ -25,7 +25,7 @@ use Rattle.dw_cfa.specs.Location.{Counts}
 use Rattle.dw_cfa.specs.Lacking.{is_unset, lacks_from}
 use Rattle.dw_cfa.specs.declared.instr.Factors.{Factors}
 use Rattle.dw_cfa.specs.Rows.{Rules}
-use Rattle.dw_section.specs.declared.judging.Initial.{Initial}
+use Rattle.dw_section.specs.declared.program.Initial.{Initial}
 use Rattle.dw_section.specs.Fields.{is_among}
 use Rattle.dw_section.specs.Headers.{Head, fde, FdeHead}
 use Rattle.dw_section.specs.Inner.Heads.{head_at, cie_at_of, cie_ats}

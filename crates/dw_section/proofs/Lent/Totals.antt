@@ -15,7 +15,7 @@ use Rattle.dw_section.specs.Overlap.{Range, IsIndex, end_of}
 use Rattle.dw_section.proofs.Lent.HeaderLaws.{one_headers}
 use Rattle.dw_section.proofs.Lent.Index.{one_index}
 use Rattle.dw_section.specs.Meanings.{IsListed}
-use Rattle.dw_cfa.specs.declared.running.LocatedRow.{LocatedRow}
+use Rattle.dw_cfa.specs.declared.execution.LocatedRow.{LocatedRow}
 use Rattle.dw_section.specs.Changes.{Among}
 use Rattle.dw_section.proofs.Lent.ChangeLaws.{changes_found}
 use Rattle.dw_section.proofs.Lent.Exists.{given, among_exists}

@@ -5,7 +5,7 @@ use Rattle.dw_num.specs.declared.target.Target.{Target}
 use Rattle.dw_cfa.specs.declared.instr.Instr.{Instr}
 use Rattle.dw_cfa.specs.InstrSpells.{Program}
 use Rattle.dw_cfa.specs.Location.{moves_location, row_starts}
-use Rattle.dw_section.specs.declared.rereading.FoundFde.{FoundFde}
+use Rattle.dw_section.specs.declared.listed_fde.FoundFde.{FoundFde}
 
 abbrev pub starts_row : Result Instr Refusal → Bool
 starts_row (Ok instr) = moves_location instr

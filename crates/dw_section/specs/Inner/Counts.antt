@@ -1,8 +1,8 @@
 -- What the code and its proofs say beside Counts.
 use Rattle.std.specs.Prelude.{◌+◌}
-use Rattle.dw_section.specs.declared.cutting.EntryCounts.{EntryCounts}
-use Rattle.dw_section.specs.declared.cutting.Kind.{Kind}
-use Rattle.dw_section.specs.declared.cutting.Kind.TheVariants.{Cie, Fde}
+use Rattle.dw_section.specs.declared.entry.EntryCounts.{EntryCounts}
+use Rattle.dw_section.specs.declared.entry.Kind.{Kind}
+use Rattle.dw_section.specs.declared.entry.Kind.TheVariants.{Cie, Fde}
 
 -- one more
 abbrev pub counted_by : EntryCounts → Kind → EntryCounts

@@ -3,8 +3,8 @@ use Rattle.std.specs.Prelude.{◌≡◌, ℕ, suc, ◌≤◌, ◌⊎◌, List, [
 use Rattle.std.specs.List.{AllByRecursion}
 use Rattle.dw_num.specs.declared.target.Form.{Form}
 use Rattle.dw_num.specs.Span.{span_of}
-use Rattle.dw_section.specs.declared.indexing.Ranged.{Ranged}
-use Rattle.dw_section.specs.declared.rereading.FoundFde.{FoundFde}
+use Rattle.dw_section.specs.declared.fde_range.Ranged.{Ranged}
+use Rattle.dw_section.specs.declared.listed_fde.FoundFde.{FoundFde}
 use Rattle.dw_section.specs.Meaning.{Returns}
 use Rattle.dw_section.specs.Headers.{CieHead, FdeHead, Head, cie, fde}
 use Rattle.dw_section.specs.Overlap.{Range, IsIn, end_of, nonempty}

@@ -9,9 +9,9 @@ use Rattle.dw_cfa.specs.declared.instr.Instr.{Instr}
 use Rattle.dw_cfa.specs.Behind.{Leaves}
 use Rattle.dw_cfa.specs.Following.{Following}
 use Rattle.dw_cfa.specs.Rows.{Rules}
-use Rattle.dw_section.specs.declared.judging.Initial.{Initial}
-use Rattle.dw_section.specs.declared.judging.Long.{Long}
-use Rattle.dw_section.specs.declared.judging.Runner.{Runner}
+use Rattle.dw_section.specs.declared.program.Initial.{Initial}
+use Rattle.dw_section.specs.declared.program.Long.{Long}
+use Rattle.dw_section.specs.declared.program.Runner.{Runner}
 use Rattle.dw_section.specs.Stage.{FirstStuck}
 use Rattle.dw_section.specs.Headers.{CieHead, Head, cie}
 use Rattle.dw_section.specs.Inner.Heads.{head_at, cie_ats}

@@ -12,8 +12,8 @@ use Rattle.dw_section.specs.Headers.{Head}
 use Rattle.dw_section.specs.Inner.Index.{IsFound}
 use Rattle.dw_section.specs.Meaning.{RulesAt}
 use Rattle.dw_section.specs.Programs.{input_of}
-use Rattle.dw_section.specs.declared.indexing.Ranged.{Ranged}
-use Rattle.dw_section.specs.declared.rereading.FoundFde.{FoundFde}
+use Rattle.dw_section.specs.declared.fde_range.Ranged.{Ranged}
+use Rattle.dw_section.specs.declared.listed_fde.FoundFde.{FoundFde}
 use Rattle.dw_section.specs.declared.lookup.Fde.{Fde}
 
 abbrev pub fde_in : Ranged → Fde

@@ -3,9 +3,9 @@ use Rattle.std.specs.Prelude.{◌≡◌, ◌+◌, length}
 use Rattle.dw_num.specs.Fixed.{length_bytes}
 use Rattle.dw_num.specs.Input.{Input}
 use Rattle.dw_num.specs.Span.{span_of}
-use Rattle.dw_section.specs.declared.cutting.Placed.{Placed}
-use Rattle.dw_section.specs.declared.cutting.Part.{Part}
-use Rattle.dw_section.specs.declared.cutting.Part.TheVariants as parts
+use Rattle.dw_section.specs.declared.entry.Placed.{Placed}
+use Rattle.dw_section.specs.declared.entry.Part.{Part}
+use Rattle.dw_section.specs.declared.entry.Part.TheVariants as parts
 use Rattle.dw_section.specs.Cut.{Piece}
 
 abbrev pub piece_in : Placed → Piece

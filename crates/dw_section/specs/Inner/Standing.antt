@@ -4,9 +4,9 @@ use Rattle.dw_num.specs.declared.error.ReadError.{ReadError}
 use Rattle.dw_num.specs.declared.error.ReadError.TheVariants as read_error
 use Rattle.dw_num.specs.declared.target.Form.{Form}
 use Rattle.dw_num.specs.declared.target.Target.{Target}
-use Rattle.dw_section.specs.declared.rereading.FoundFde.{FoundFde}
-use Rattle.dw_section.specs.declared.standing.LookUpError.{LookUpError}
-use Rattle.dw_section.specs.declared.standing.LookUpError.TheVariants.{Refused, OutOfMemory}
+use Rattle.dw_section.specs.declared.listed_fde.FoundFde.{FoundFde}
+use Rattle.dw_section.specs.declared.standing_fde.LookUpError.{LookUpError}
+use Rattle.dw_section.specs.declared.standing_fde.LookUpError.TheVariants.{Refused, OutOfMemory}
 use Rattle.dw_section.specs.Headers.{CieHead, FdeHead, Head, cie, fde}
 use Rattle.dw_section.specs.Inner.Index.{found_cie, found_head}
 use Rattle.dw_section.specs.Standing.{FdeStands}

@@ -5,7 +5,7 @@ use Rattle.dw_eval.specs.Registers.{held}
 use Rattle.dw_unwind.specs.declared.fault.DumpCode.{DumpCode}
 use Rattle.dw_unwind.specs.declared.fault.DumpFault.{DumpFault}
 use Rattle.dw_unwind.specs.declared.ranges.Range.{Range}
-use Rattle.dw_unwind.specs.declared.gathering.Gathered.{Gathered}
+use Rattle.dw_unwind.specs.declared.partial_dump.Gathered.{Gathered}
 use Rattle.dw_unwind.specs.Dump.{SaysWithin, IsFaulty}
 use Rattle.dw_unwind.specs.Inner.Dump.{IsWrong}
 use Rattle.dw_unwind.specs.Lines.{lines_of}

@@ -1,0 +1,14 @@
+use Rattle.std.proofs.Common.{arith, subst}
+use Rattle.dw_cfa.specs.Following.{Following}
+use Rattle.dw_cfa.specs.Rows.{AreSpecified}
+use Rattle.dw_cfa.specs.Stepping.{program_input}
+use Rattle.dw_cfa.proofs.Lent.Given.{follow_run, follow_runs}
+use Rattle.dw_cfa.proofs.cie_machine.CieMachine.begin.Goals as goal
+
+pub returns-clause-ok : goal.returns-clause-ok
+returns-clause-ok c = follow_run c.start.result c.args.self.now c.start.new.self _ c.start.ensures.ok
+
+pub returns-clause-runs : goal.returns-clause-runs
+returns-clause-runs c =
+    let listed = subst (λ (m : Following). AreSpecified 0 m.initial.registers) c.self.view_is c.are_specified.ensures in
+    follow_runs c.start.result c.args.self.now c.start.new.self (program_input c.args.fde_program c.args.self.now.target) c.args.begin c.are_bytes.ensures listed (omega (arith, c.requires)) c.start.ensures.ok

@@ -1,0 +1,14 @@
+use Rattle.std.proofs.Common.{◌≡◌, ◌||◌, None, length, false}
+use Rattle.dw_cfa.specs.Lacking.{lacks_from}
+use Rattle.dw_cfa.specs.Inner.Runs.{RunsSo, rows_left}
+use Rattle.dw_cfa.proofs.coverage.lacks_rule.Given as goal
+
+abbrev pub invariant-instrs : goal.invariant-instrs
+invariant-instrs l =
+    RunsSo l.machine l.cursor × (l.machine.initial ≡ l.initial.machine.initial)
+    × ((rows_left l.factors l.initial.cursor l.initial.machine).fault ≡ (rows_left l.factors l.cursor l.machine).fault)
+    × ((rows_left l.factors l.cursor l.machine).fault ≡ None
+    → (l.lacks || lacks_from l.end 0 false (rows_left l.factors l.cursor l.machine).rows) ≡ lacks_from l.end 0 false (rows_left l.factors l.initial.cursor l.initial.machine).rows)
+
+abbrev pub decreases-instrs : goal.decreases-instrs
+decreases-instrs l = length l.cursor.bytes

@@ -1,0 +1,118 @@
+use Rattle.std.proofs.Common.{◌≡◌, ◌≤◌, ℕ, Some, refl, sym, ap, subst, ◌∙◌, arith}
+use Rattle.dw_cfa.specs.RuleAt.{last_at, NeverFalls}
+use Rattle.dw_cfa.specs.Runs.{Outcome}
+use Rattle.dw_cfa.specs.Inner.Runs.{rows_left}
+use Rattle.dw_cfa.specs.Inner.Walking.{AllSpecify}
+use Rattle.dw_cfa.proofs.RowsTo.{FirstBelow, fault_left, falls_left, first_below, keeps_left, one_last, starts_below, stops_here, goes_on, ends_here}
+use Rattle.dw_cfa.proofs.execution.run_to.Goals as goal
+
+pub instrs-init : goal.instrs-init
+instrs-init c = (
+  c.requires.so,
+  refl,
+  refl,
+  c.requires.never_falls,
+  λ le. first_below c.args.factors c.args.cursor.now c.args.machine.now c.from-address.result le,
+  λ row e. e,
+  λ other all. all,
+  refl,
+)
+
+pub turn-requires-clause-known : goal.turn-requires-clause-known
+turn-requires-clause-known c k = c.instrs.invariant.2 ∙ c.requires.known k
+
+pub returns-then-machine-address-clause-last : goal.returns-then-machine-address-clause-last
+returns-then-machine-address-clause-last c le =
+    let l = c.instrs in
+    let f = c.args.factors in
+    let first = l.invariant.4 (subst (λ (n : ℕ). c.args.machine.now.location ≤ n) (sym c.from-address.ensures) le) in
+    let here = stops_here f l.cursor l.machine c.turn.new.cursor c.turn.new.machine c.in-Moved.ensures.turned c.from-address.result l.invariant.3 c.if-machine-address.true first in
+    subst (λ (n : ℕ). last_at n (rows_left f c.args.cursor.now c.args.machine.now).rows ≡ Some c.turn.new.machine.states.row) c.from-address.ensures (l.invariant.5 c.turn.new.machine.states.row here)
+
+pub returns-then-machine-address-clause-found : goal.returns-then-machine-address-clause-found
+returns-then-machine-address-clause-found c row e =
+    let l = c.instrs in
+    let f = c.args.factors in
+    let a = c.from-address.result in
+    let all = rows_left f c.args.cursor.now c.args.machine.now in
+    let is = subst (λ (n : ℕ). last_at n all.rows ≡ Some row) (sym c.from-address.ensures) e in
+    let first = l.invariant.4 (starts_below f c.args.cursor.now c.args.machine.now a c.requires.never_falls row is) in
+    let here = stops_here f l.cursor l.machine c.turn.new.cursor c.turn.new.machine c.in-Moved.ensures.turned a l.invariant.3 c.if-machine-address.true first in
+    one_last (last_at a all.rows) c.turn.new.machine.states.row row (l.invariant.5 c.turn.new.machine.states.row here) is
+
+pub returns-then-machine-address-clause-fault : goal.returns-then-machine-address-clause-fault
+returns-then-machine-address-clause-fault c =
+    let l = c.instrs in
+    sym (fault_left c.args.factors l.cursor l.machine c.turn.new.cursor c.turn.new.machine c.in-Moved.ensures.turned c.from-address.result) ∙ l.invariant.2
+
+pub returns-in-Refused-clause-err : goal.returns-in-Refused-clause-err
+returns-in-Refused-clause-err c = sym c.instrs.invariant.2 ∙ ap (λ (o : Outcome). o.fault) c.in-Refused.ensures.turned
+
+pub instrs-preserved : goal.instrs-preserved
+instrs-preserved c =
+    let l = c.instrs in
+    let moved = c.in-Moved.ensures.turned in
+    let a = c.from-address.result in
+    let f = c.args.factors in
+    let j = c.turn.new.cursor in
+    let m = c.turn.new.machine in (
+      moved.so,
+      c.in-Moved.ensures.initial ∙ l.invariant.1,
+      sym (fault_left f l.cursor l.machine j m moved a) ∙ l.invariant.2,
+      falls_left f l.cursor l.machine j m moved a l.invariant.3,
+      λ le. first_below f j m a (omega (arith, c.if-machine-address.false)),
+      λ row e. l.invariant.5 row (goes_on f l.cursor l.machine j m moved a row e),
+      λ other all. keeps_left f l.cursor l.machine j m moved a other (l.invariant.6 other all),
+      c.in-Moved.ensures.kept ∙ l.invariant.7,
+    )
+
+pub instrs-preserved-in-On : goal.instrs-preserved-in-On
+instrs-preserved-in-On c =
+    let l = c.instrs in
+    let on = c.in-On.ensures.turned in
+    let a = c.from-address.result in
+    let same = on.rows in (
+      on.so,
+      c.in-On.ensures.initial ∙ l.invariant.1,
+      sym (ap (λ (o : Outcome). o.fault) same) ∙ l.invariant.2,
+      subst (λ (o : Outcome). (low : ℕ) × NeverFalls low o.rows) same l.invariant.3,
+      λ le. subst (λ (o : Outcome). FirstBelow a o.rows) same (l.invariant.4 le),
+      λ row e. l.invariant.5 row (ap (λ (o : Outcome). last_at a o.rows) same ∙ e),
+      λ other all. subst (λ (o : Outcome). AllSpecify other o.rows) same (l.invariant.6 other all),
+      c.in-On.ensures.kept ∙ l.invariant.7,
+    )
+
+pub returns-clause-last : goal.returns-clause-last
+returns-clause-last c le =
+    let l = c.instrs in
+    let f = c.args.factors in
+    let first = l.invariant.4 (subst (λ (n : ℕ). c.args.machine.now.location ≤ n) (sym c.from-address.ensures) le) in
+    let here = ends_here f l.cursor l.machine c.from-address.result (omega arith) first in
+    subst (λ (n : ℕ). last_at n (rows_left f c.args.cursor.now c.args.machine.now).rows ≡ Some l.machine.states.row) c.from-address.ensures (l.invariant.5 l.machine.states.row here)
+
+pub returns-clause-found : goal.returns-clause-found
+returns-clause-found c row e =
+    let l = c.instrs in
+    let f = c.args.factors in
+    let a = c.from-address.result in
+    let all = rows_left f c.args.cursor.now c.args.machine.now in
+    let is = subst (λ (n : ℕ). last_at n all.rows ≡ Some row) (sym c.from-address.ensures) e in
+    let first = l.invariant.4 (starts_below f c.args.cursor.now c.args.machine.now a c.requires.never_falls row is) in
+    one_last (last_at a all.rows) l.machine.states.row row (l.invariant.5 l.machine.states.row (ends_here f l.cursor l.machine a (omega arith) first)) is
+
+pub returns-then-machine-address-clause-keeps : goal.returns-then-machine-address-clause-keeps
+returns-then-machine-address-clause-keeps c other all =
+    let l = c.instrs in
+    keeps_left c.args.factors l.cursor l.machine c.turn.new.cursor c.turn.new.machine c.in-Moved.ensures.turned c.from-address.result other (l.invariant.6 other all)
+
+pub returns-then-machine-address-clause-kept : goal.returns-then-machine-address-clause-kept
+returns-then-machine-address-clause-kept c = c.turn.ensures.kept ∙ c.instrs.invariant.7
+
+pub returns-in-Refused-clause-kept : goal.returns-in-Refused-clause-kept
+returns-in-Refused-clause-kept c = c.turn.ensures.kept ∙ c.instrs.invariant.7
+
+pub returns-in-OutOfMemory-clause-kept : goal.returns-in-OutOfMemory-clause-kept
+returns-in-OutOfMemory-clause-kept c = c.turn.ensures.kept ∙ c.instrs.invariant.7
+
+pub returns-clause-kept : goal.returns-clause-kept
+returns-clause-kept c = c.instrs.invariant.7

@@ -1,0 +1,30 @@
+use Rattle.std.proofs.Common.{◌≡◌, None, subst, sym}
+use Rattle.std.specs.Prelude.{OnOk}
+use Rattle.dw_cfa.specs.declared.steps.Progress.{Progress}
+use Rattle.dw_cfa.specs.Rows.{Rules}
+use Rattle.dw_cfa.specs.Inner.Runs.{rows_left}
+use Rattle.dw_cfa.specs.Inner.Walking.{AllSpecify, WalkKeeps, walk_of}
+use Rattle.dw_cfa.proofs.RowsTo.{none_where_more, only_memory}
+use Rattle.dw_cfa.proofs.Stays.{where_more}
+use Rattle.dw_cfa.proofs.row_walk.walk_to.Goals as goal
+
+pub returns-in-Running-clause-keeps : goal.returns-in-Running-clause-keeps
+returns-in-Running-clause-keeps c =
+    let l = c.args.leading in
+    let at = c.run_to.new.machine in
+    let stand = subst (λ (p : Progress). WalkKeeps p l c.args.fde.now c.args.machine.now) c.in-Running.is c.requires.so.keeps in
+    let ran = c.run_to.ensures.keeps c.args.machine.now.initial stand in
+    where_more _ c.run_to.result
+    (subst (λ (r : Rules). OnOk c.run_to.result (AllSpecify r (rows_left l.factors c.run_to.new.cursor at).rows)) (sym c.run_to.ensures.initial) ran)
+
+pub returns-in-Running-clause-known : goal.returns-in-Running-clause-known
+returns-in-Running-clause-known c =
+    let l = c.args.leading in
+    let none = subst (λ (p : Progress). (walk_of p l c.args.fde.now c.args.machine.now).outcome.fault ≡ None) c.in-Running.is c.requires.so.no_fault in
+    none_where_more c.run_to.result (rows_left l.factors c.run_to.new.cursor c.run_to.new.machine).fault (rows_left l.factors c.args.fde.now c.args.machine.now).fault c.run_to.ensures.fault none
+
+pub returns-in-Running-clause-err : goal.returns-in-Running-clause-err
+returns-in-Running-clause-err c =
+    let l = c.args.leading in
+    let none = subst (λ (p : Progress). (walk_of p l c.args.fde.now c.args.machine.now).outcome.fault ≡ None) c.in-Running.is c.requires.so.no_fault in
+    only_memory c.run_to.result (rows_left l.factors c.args.fde.now c.args.machine.now).fault none c.run_to.ensures.err

@@ -1,0 +1,179 @@
+//! FDEs' programs, one after another behind the initial row of their CIE (6.4.1).
+
+ghost use Rattle.std.specs.Prelude.{◌≡◌, ◌<◌, ℕ, None, Some, Ok, Err, false, OnOk, OnErr, IfOk, IfErr, MatchResult};
+ghost use Rattle.dw_num.specs.Target.{address_limit};
+ghost use Rattle.dw_num.specs.Refusals.{Refuses};
+ghost use Rattle.dw_num.specs.declared.error.ReadError.TheVariants.{OutOfMemory};
+ghost use Rattle.dw_cfa.specs.Following.{Following, with_steps};
+ghost use Rattle.dw_cfa.specs.Lacking.{lacks_from};
+ghost use Rattle.dw_cfa.specs.Behind.{LeavesTo, RunsBehind};
+ghost use Rattle.dw_cfa.specs.Rows.{AreSpecified};
+ghost use Rattle.dw_cfa.specs.Runs.{finished};
+ghost use Rattle.dw_cfa.specs.Inner.Runs.{rows_behind};
+ghost use Rattle.dw_cfa.specs.Stepping.{Advances, program_input, stepping};
+
+use crate::coverage::lacks_rule;
+use crate::execution::next_row;
+use crate::instr::Factors;
+use crate::machine::Machine;
+use crate::row::Row;
+use crate::states::States;
+use crate::steps::{Progress, initial_row, progress_after};
+use dw_num::{Cursor, Program, ReadError, Target, are_bytes};
+use std::alloc::{AllocError, Global};
+use std::marker::Model;
+
+// A row lists each register once.
+fn are_specified(row: &Row<'_>)
+    ensures { AreSpecified 0 row.now.registers }
+{
+    let _ = row.specified();
+}
+
+/// The machine behind a CIE's program: it runs the programs of the CIE's FDEs one after another, and runs the CIE's
+/// own once. A contract sees the initial row, the factors and the target, and of the FDE that is run what `RowSteps`
+/// shows: the rows still to come, the refusal behind them, the row that is lent, and the error that was answered.
+#[derive(Drop)]
+pub struct CieMachine<'a> {
+    progress: Progress,
+    factors: Factors,
+    target: Target,
+    fde: Cursor<'a>,
+    machine: Machine<'a>,
+}
+
+impl<'a> Model for CieMachine<'a> {
+    ghost use Rattle.dw_cfa.specs.Following.{Following};
+    ghost use Rattle.dw_cfa.specs.Inner.Following.{following_of, FollowsSo};
+
+    ghost Value = { Following };
+
+    ghost view = { λ c. following_of c.progress c.factors c.target c.fde c.machine };
+
+    ghost invariant = { λ c. FollowsSo c.progress c.fde c.machine };
+}
+
+impl<'a> CieMachine<'a> {
+    /// Runs a CIE's program. No row is to come until an FDE's program begins. Otherwise the first refusal, or want of
+    /// memory.
+    pub fn new(
+        alloc: Global,
+        cie_program: Program<'a>,
+        factors: Factors,
+        target: Target,
+    ) -> Result<CieMachine<'a>, ReadError>
+        ensures ok { IfOk result (λ c. LeavesTo factors (program_input cie_program.entry target) (Ok c.initial) × (c.factors ≡ factors) × (c.target ≡ target) × (c.steps ≡ stepping c.initial finished)) }
+        ensures err { IfErr result (Refuses (λ r. LeavesTo factors (program_input cie_program.entry target) (Err r))) }
+    {
+        let initial = initial_row(alloc, cie_program, factors, target)?;
+        let row = initial.copied()?;
+        let tracked = initial.is_wide();
+        Ok(CieMachine {
+            progress: Progress::Finished,
+            factors,
+            target,
+            fde: Cursor::new(&[], 0, target),
+            machine: Machine {
+                initial,
+                states: States::new(alloc, row, tracked),
+                location: 0,
+                limit: target.size.address_limit(),
+            },
+        })
+    }
+
+    /// The row that the CIE's program leaves.
+    pub fn initial(&self) -> &Row<'a>
+        ensures { result.now ≡ self.now.initial }
+    {
+        &self.machine.initial
+    }
+
+    // The same by the run that the code keeps to.
+    fn start(&mut self, fde_program: Program<'a>, begin: u64) -> Result<(), AllocError>
+        requires { begin < address_limit self.old.target.size }
+        ensures ok { OnOk result (self.new ≡ with_steps self.old (stepping self.old.initial (rows_behind self.old.factors self.old.initial (program_input fde_program.entry self.old.target) begin))) }
+        ensures failed { OnErr result (self.new.steps.error ≡ Some OutOfMemory) }
+        ensures same { self.new ≡ with_steps self.old self.new.steps }
+    {
+        let machine = &mut self.machine;
+        if let Err(error) = machine.states.rewind(&machine.initial) {
+            machine.states.untrack();
+            self.progress = Progress::Failed(ReadError::OutOfMemory);
+            return Err(error);
+        }
+        machine.location = u128::from(begin);
+        machine.limit = self.target.size.address_limit();
+        self.fde = Cursor::new(fde_program.bytes, fde_program.at, self.target);
+        self.progress = Progress::Running;
+        Ok(())
+    }
+
+    /// Begins an FDE's program at an address `begin` of the target, or answers want of memory. What an FDE before it
+    /// changed is taken back first. Behind want of memory `advance` answers it, until a program begins again.
+    pub fn begin(&mut self, fde_program: Program<'a>, begin: u64) -> Result<(), AllocError>
+        requires { begin < address_limit self.old.target.size }
+        ensures ok { OnOk result (self.new ≡ with_steps self.old (stepping self.old.initial self.new.steps.outcome)) }
+        ensures runs { OnOk result (RunsBehind self.old.factors self.old.initial (program_input fde_program.entry self.old.target) begin self.new.steps.outcome) }
+        ensures failed { OnErr result (self.new.steps.error ≡ Some OutOfMemory) }
+        ensures same { self.new ≡ with_steps self.old self.new.steps }
+    {
+        are_bytes(fde_program.bytes);
+        are_specified(&self.machine.initial);
+        self.start(fde_program, begin)
+    }
+
+    /// Goes on to the next row of the FDE, which `row` lends then, and answers the location that it starts at, or none
+    /// behind the last row. No row is copied. A refusal, or want of memory, is answered from then on.
+    pub fn advance(&mut self) -> Result<Option<u128>, ReadError>
+        ensures advances { Advances self.old.steps result self.new.steps }
+        ensures same { self.new ≡ with_steps self.old self.new.steps }
+    {
+        match self.progress {
+            Progress::Running => {}
+            Progress::Begun | Progress::Finished => return Ok(None),
+            Progress::Failed(error) => return Err(error),
+        }
+        let answer = next_row(&mut self.fde, self.factors, &mut self.machine, false);
+        if answer.is_err() {
+            self.machine.states.untrack();
+        }
+        self.progress = progress_after(answer);
+        Ok(Some(answer?.0))
+    }
+
+    /// Runs the program that began to its end, and says whether the rows still to come leave an address below the end
+    /// without a rule for the CFA. No row is to come then, and a refusal, or want of memory, is answered from then on.
+    pub fn lacks_rule(&mut self, end: u128) -> Result<bool, ReadError>
+        requires { self.old.steps.error ≡ None }
+        ensures found { IfOk result (λ lacks. (self.old.steps.outcome.fault ≡ None) × ((low : ℕ) → lacks ≡ lacks_from end low false self.old.steps.outcome.rows)) }
+        ensures refused { IfErr result (Refuses (λ r. self.old.steps.outcome.fault ≡ Some r)) }
+        ensures after { MatchResult result (λ _. self.new.steps ≡ stepping self.new.steps.current finished) (λ e. self.new.steps.error ≡ Some e) }
+        ensures same { self.new ≡ with_steps self.old self.new.steps }
+    {
+        match self.progress {
+            Progress::Running => {}
+            Progress::Begun | Progress::Finished => return Ok(false),
+            Progress::Failed(error) => return Err(error),
+        }
+        let (fde, machine) = (&mut self.fde, &mut self.machine);
+        match lacks_rule(fde, self.factors, machine, end) {
+            Ok(lacks) => {
+                self.progress = Progress::Finished;
+                Ok(lacks)
+            }
+            Err(error) => {
+                self.machine.states.untrack();
+                self.progress = Progress::Failed(error);
+                Err(error)
+            }
+        }
+    }
+
+    /// The row that `advance` went on to.
+    pub fn row(&self) -> &Row<'a>
+        ensures { result.now ≡ self.now.steps.current }
+    {
+        self.machine.states.row()
+    }
+}

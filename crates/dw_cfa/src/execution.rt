@@ -1,0 +1,165 @@
+//! Programs that are run instruction by instruction (6.4.3).
+
+ghost use Rattle.std.specs.Prelude.{◌≡◌, ◌<◌, ◌≤◌, ℕ, None, Some, Ok, Err, length, OnOk, IfErr, IsOk, IsTrue};
+ghost use Rattle.dw_num.specs.Refusals.{Refuses};
+ghost use Rattle.dw_cfa.specs.RuleAt.{last_at, NeverFalls};
+ghost use Rattle.dw_cfa.specs.Rows.{Rules};
+ghost use Rattle.dw_cfa.specs.Kept.{in_cie};
+ghost use Rattle.dw_cfa.specs.Inner.Runs.{RunsSo, GivesRow, Wrote, rows_left, initial_row, placed, run_error};
+ghost use Rattle.dw_cfa.specs.Inner.Walking.{AllSpecify};
+
+use crate::instr::{Factors, Instr};
+use crate::machine::{End, Machine, StepError, write_rule};
+use crate::opcode::read_instr;
+use crate::row::Row;
+use crate::states::States;
+use crate::turn::turn;
+use dw_num::{Code, Cursor, ReadError, Refusal, are_bytes};
+
+/// A row of the call frame table (6.4.1, 6.4.3), and the location that it starts at. It holds up to the location of the next row.
+#[derive(Drop)]
+pub struct LocatedRow<'a> {
+    /// Where it starts: `initial_location`, or what `DW_CFA_set_loc` and `DW_CFA_advance_loc` made of it.
+    pub location: u128,
+    /// The rules from there on.
+    pub row: Row<'a>,
+}
+
+// The error of the instruction at a place.
+fn run_error(at: u64, error: StepError) -> ReadError
+    ensures { result ≡ run_error at error }
+{
+    match error {
+        StepError::Fault(code) => ReadError::Refused(Refusal { code, at }),
+        StepError::OutOfMemory => ReadError::OutOfMemory,
+    }
+}
+
+// Whether a CIE's program may hold an instruction.
+fn is_in_cie(instr: &Instr<'_>) -> bool
+    ensures { result ≡ in_cie instr.now }
+{
+    match instr {
+        Instr::Nop => true,
+        Instr::DefCfa { .. } => true,
+        Instr::DefCfaRegister(_) => true,
+        Instr::DefCfaOffset(_) => true,
+        Instr::DefCfaExpression(_) => true,
+        Instr::Set(_, _) => true,
+        _ => false,
+    }
+}
+
+/// Runs a program up to the end of a row, which the machine has then. Answers where the row starts, and whether
+/// the program goes on behind it. Where it is known that the program has no fault, no expression is judged again.
+pub(crate) fn next_row<'a>(
+    cursor: &mut Cursor<'a>,
+    factors: Factors,
+    machine: &mut Machine<'a>,
+    known: bool,
+) -> Result<(u128, bool), ReadError>
+    requires so { RunsSo machine.old cursor.old }
+    requires known { IsTrue known → (rows_left factors cursor.old machine.old).fault ≡ None }
+    ensures row { GivesRow (rows_left factors cursor.old machine.old) factors cursor.new machine.new result }
+    ensures initial { machine.new.initial ≡ machine.old.initial }
+    ensures kept { machine.new.states.kept ≡ machine.old.states.kept }
+{
+    let code = Code::Truncated;
+    let mut fault = Refusal { code, at: 0 };
+    'instrs: while cursor.left() > 0 {
+        let location = machine.location;
+        match turn(cursor, factors, machine, known, &mut fault) {
+            End::On => {}
+            End::Moved => return Ok((location, true)),
+            End::Refused => return Err(ReadError::Refused(fault)),
+            End::OutOfMemory => return Err(ReadError::OutOfMemory),
+        }
+    }
+    Ok((machine.location, false))
+}
+
+/// Runs a program up to the end of the last row that starts at or below an address, which the machine has then. Answers
+/// whether the program goes on behind it. Where it is known that the program has no fault, no expression is judged again.
+#[inline(always)]
+pub(crate) fn run_to<'a>(
+    cursor: &mut Cursor<'a>,
+    factors: Factors,
+    machine: &mut Machine<'a>,
+    address: u64,
+    known: bool,
+) -> Result<bool, ReadError>
+    requires so { RunsSo machine.old cursor.old }
+    requires known { IsTrue known → (rows_left factors cursor.old machine.old).fault ≡ None }
+    requires never_falls { (low : ℕ) × NeverFalls low (rows_left factors cursor.old machine.old).rows }
+    ensures last { machine.old.location ≤ address → OnOk result (last_at address (rows_left factors cursor.old machine.old).rows ≡ Some machine.new.states.row) }
+    ensures found { (row : Rules) → last_at address (rows_left factors cursor.old machine.old).rows ≡ Some row → OnOk result (machine.new.states.row ≡ row) }
+    ensures so { OnOk result (RunsSo machine.new cursor.new) }
+    ensures fault { OnOk result ((rows_left factors cursor.new machine.new).fault ≡ (rows_left factors cursor.old machine.old).fault) }
+    ensures keeps { (other : Rules) → AllSpecify other (rows_left factors cursor.old machine.old).rows → OnOk result (AllSpecify other (rows_left factors cursor.new machine.new).rows) }
+    ensures err { IfErr result (Refuses (λ r. (rows_left factors cursor.old machine.old).fault ≡ Some r)) }
+    ensures initial { machine.new.initial ≡ machine.old.initial }
+    ensures kept { machine.new.states.kept ≡ machine.old.states.kept }
+{
+    let address = u128::from(address);
+    let code = Code::Truncated;
+    let mut fault = Refusal { code, at: 0 };
+    'instrs: while cursor.left() > 0 {
+        match turn(cursor, factors, machine, known, &mut fault) {
+            End::On => {}
+            End::Moved => {
+                if machine.location > address {
+                    return Ok(true);
+                }
+            }
+            End::Refused => return Err(ReadError::Refused(fault)),
+            End::OutOfMemory => return Err(ReadError::OutOfMemory),
+        }
+    }
+    Ok(false)
+}
+
+// Reads an instruction of a CIE's program, and writes its rule into the row.
+fn write_one<'a>(
+    cursor: &mut Cursor<'a>,
+    factors: Factors,
+    states: &mut States<'a>,
+    known: bool,
+) -> Result<(), ReadError>
+    requires some { 0 < length cursor.old.bytes }
+    requires known { IsTrue known → IsOk (initial_row (placed factors cursor.old) states.old.row) }
+    ensures wrote { Wrote factors cursor.old states.old result cursor.new states.new }
+    ensures kept { states.new.kept ≡ states.old.kept }
+{
+    are_bytes(cursor.rest());
+    let at = cursor.at();
+    let instr = read_instr(cursor, factors, known)?;
+    if !is_in_cie(&instr) {
+        return Err(ReadError::Refused(Refusal {
+            code: Code::NotInCie,
+            at,
+        }));
+    }
+    match write_rule(states, instr) {
+        Ok(()) => Ok(()),
+        Err(error) => Err(run_error(at, error)),
+    }
+}
+
+/// Runs a CIE's program on a row. Where it is known that it has no fault, no expression is judged again.
+pub(crate) fn run_initial<'a>(
+    cursor: &mut Cursor<'a>,
+    factors: Factors,
+    states: &mut States<'a>,
+    known: bool,
+) -> Result<(), ReadError>
+    requires { IsTrue known → IsOk (initial_row (placed factors cursor.old) states.old.row) }
+    ensures ok { OnOk result (initial_row (placed factors cursor.old) states.old.row ≡ Ok states.new.row) }
+    ensures kept { states.new.kept ≡ states.old.kept }
+    ensures same { OnOk result ((states.new.stack ≡ states.old.stack) × (states.new.first ≡ states.old.first)) }
+    ensures err { IfErr result (Refuses (λ r. initial_row (placed factors cursor.old) states.old.row ≡ Err r)) }
+{
+    'instrs: while cursor.left() > 0 {
+        write_one(cursor, factors, states, known)?;
+    }
+    Ok(())
+}

@@ -1,0 +1,398 @@
+//! Rows of one FDE after another, in room that is kept (6.4.1, 6.4.3).
+
+ghost use Rattle.std.specs.Prelude.{◌≡◌, ◌<◌, ℕ, None, Ok, List, ◌∷◌, IfErr, IfOk, IsOk, IsTrue, ◌↔◌, MatchResult, OnOk, Some};
+ghost use Rattle.dw_num.specs.Target.{address_limit};
+ghost use Rattle.dw_num.specs.declared.error.ReadError.TheVariants.{OutOfMemory};
+ghost use Rattle.dw_cfa.specs.declared.execution.LocatedRow.{LocatedRow};
+ghost use Rattle.dw_cfa.specs.Gives.{Gives, RunsTo};
+ghost use Rattle.dw_cfa.specs.RuleAt.{last_at, NeverFalls};
+ghost use Rattle.dw_cfa.specs.Differing.{FirstDifference, place_behind};
+ghost use Rattle.dw_cfa.specs.Rows.{AreSpecified, Rules, blank};
+ghost use Rattle.dw_cfa.specs.Inner.Runs.{GivesRow, RunsSo, initial_row, placed, rows_left, run_rows};
+ghost use Rattle.dw_cfa.specs.Runs.{finished};
+ghost use Rattle.dw_cfa.specs.Inner.States.{BeganWith};
+ghost use Rattle.dw_cfa.specs.Stepping.{Advances, program_input, stepping};
+ghost use Rattle.dw_cfa.specs.Inner.Stepping.{progress_after};
+ghost use Rattle.dw_cfa.specs.Walking.{AllKeep};
+ghost use Rattle.dw_cfa.specs.Inner.Walking.{AllSpecify, HasInitial, LeadsSame, Readied, WalkKeeps, WalksSo, led_rows, walk_of};
+
+use crate::execution::{next_row, run_initial, run_to};
+use crate::instr::Factors;
+use crate::machine::Machine;
+use crate::row::Row;
+use crate::states::States;
+use crate::steps::{Progress, progress_after};
+use dw_num::{Cursor, Program, ReadError, Target, are_bytes};
+use std::alloc::{AllocError, Global};
+use std::marker::Model;
+
+/// A CIE's program, and what it is read with.
+#[derive(Clone, Copy)]
+pub(crate) struct Leading<'a> {
+    pub(crate) program: Program<'a>,
+    pub(crate) factors: Factors,
+    pub(crate) target: Target,
+}
+
+// Whether the bytes are equal, and what they are read with.
+fn is_equal(leading: Leading<'_>, other: Leading<'_>) -> bool
+    ensures { IsTrue result → (leading.entry.program.bytes.now ≡ other.entry.program.bytes.now) × (leading.entry.target ≡ other.entry.target) × (leading.entry.factors ≡ other.entry.factors) }
+{
+    if leading.factors != other.factors || leading.target != other.target {
+        return false;
+    }
+    leading.program.bytes == other.program.bytes
+}
+
+// Whether both leave the same row: equal programs are read alike, wherever they stand.
+fn leads_same(leading: Leading<'_>, other: Leading<'_>) -> bool
+    ensures { IsTrue result → LeadsSame leading.entry other.entry }
+{
+    are_bytes(leading.program.bytes);
+    is_equal(leading, other)
+}
+
+// Runs a CIE's program in a machine, which has its row then.
+#[inline(never)]
+fn run_cie<'a>(
+    alloc: Global,
+    leading: Leading<'a>,
+    machine: &mut Machine<'a>,
+) -> Result<(), ReadError>
+    requires { IsOk (initial_row (placed leading.factors (program_input leading.program leading.target)) blank) }
+    ensures ok { OnOk result (Readied leading.entry machine.old machine.new) }
+    ensures err { IfErr result (λ e. e ≡ OutOfMemory) }
+    ensures kept_row { machine.new.states.kept ≡ machine.old.states.kept }
+{
+    machine.states.restart(Row::blank(alloc));
+    let program = leading.program;
+    let mut cursor = Cursor::new(program.bytes, program.at, leading.target);
+    run_initial(&mut cursor, leading.factors, &mut machine.states, true)?;
+    machine.initial.become_copy(machine.states.row())?;
+    machine.states.track(machine.initial.is_wide());
+    Ok(())
+}
+
+// Runs a CIE's program, or brings its row back where the machine has it.
+fn ready<'a>(
+    alloc: Global,
+    leading: Leading<'a>,
+    machine: &mut Machine<'a>,
+    kept: bool,
+) -> Result<(), ReadError>
+    requires runs { IsOk (initial_row (placed leading.factors (program_input leading.program leading.target)) blank) }
+    requires kept { IsTrue kept → HasInitial leading machine.old }
+    requires first { BeganWith machine.old.initial machine.old.states.first }
+    ensures ok { OnOk result (Readied leading.entry machine.old machine.new) }
+    ensures err { IfErr result (λ e. e ≡ OutOfMemory) }
+    ensures same { IsTrue kept → machine.new.initial ≡ machine.old.initial }
+    ensures kept_row { machine.new.states.kept ≡ machine.old.states.kept }
+{
+    if kept {
+        machine.states.rewind(&machine.initial)?;
+        return Ok(());
+    }
+    run_cie(alloc, leading, machine)
+}
+
+// Brings a CIE's row about, and runs an FDE's program up to the end of its first row. Out of line: room for its errors is
+// cleared at each row else.
+#[inline(never)]
+fn first_row<'a>(
+    alloc: Global,
+    leading: Leading<'a>,
+    fde: &mut Cursor<'a>,
+    machine: &mut Machine<'a>,
+    kept: &mut bool,
+) -> Result<(u128, bool), ReadError>
+    requires known { (led_rows leading fde.old machine.old.location).fault ≡ None }
+    requires so { RunsSo machine.old fde.old }
+    requires kept { IsTrue kept.old → HasInitial leading machine.old }
+    ensures row { GivesRow (led_rows leading.entry fde.old machine.old.location) leading.entry.factors fde.new machine.new result }
+    ensures kept { IsTrue kept.new → HasInitial leading.entry machine.new }
+    ensures keeps { WalkKeeps (progress_after result) leading.entry fde.new machine.new }
+    ensures kept_row { machine.new.states.kept ≡ machine.old.states.kept }
+{
+    are_bytes(fde.rest());
+    ready(alloc, leading, machine, *kept)?;
+    *kept = true;
+    next_row(fde, leading.factors, machine, true)
+}
+
+// Brings a CIE's row about, and runs an FDE's program up to the end of the last row that starts at or below an address.
+#[inline(always)]
+fn first_to<'a>(
+    alloc: Global,
+    leading: Leading<'a>,
+    fde: &mut Cursor<'a>,
+    machine: &mut Machine<'a>,
+    kept: &mut bool,
+    address: u64,
+) -> Result<bool, ReadError>
+    requires known { (led_rows leading fde.old machine.old.location).fault ≡ None }
+    requires so { RunsSo machine.old fde.old }
+    requires kept { IsTrue kept.old → HasInitial leading machine.old }
+    requires never_falls { (low : ℕ) × NeverFalls low (led_rows leading fde.old machine.old.location).rows }
+    ensures found { (row : Rules) → last_at address (led_rows leading.entry fde.old machine.old.location).rows ≡ Some row → OnOk result (machine.new.states.row ≡ row) }
+    ensures so { OnOk result (RunsSo machine.new fde.new) }
+    ensures known { OnOk result ((rows_left leading.entry.factors fde.new machine.new).fault ≡ None) }
+    ensures err { IfErr result (λ e. e ≡ OutOfMemory) }
+    ensures kept { IsTrue kept.new → HasInitial leading.entry machine.new }
+    ensures keeps { OnOk result (AllSpecify machine.new.initial (rows_left leading.entry.factors fde.new machine.new).rows) }
+    ensures kept_row { machine.new.states.kept ≡ machine.old.states.kept }
+{
+    are_bytes(fde.rest());
+    ready(alloc, leading, machine, *kept)?;
+    *kept = true;
+    run_to(fde, leading.factors, machine, address, true)
+}
+
+// The same from where a walk stands.
+#[inline(always)]
+fn walk_to<'a>(
+    progress: Progress,
+    alloc: Global,
+    leading: Leading<'a>,
+    fde: &mut Cursor<'a>,
+    machine: &mut Machine<'a>,
+    kept: &mut bool,
+    address: u64,
+) -> Result<bool, ReadError>
+    requires so { WalksSo progress kept.old leading fde.old machine.old }
+    requires no_error { (walk_of progress leading fde.old machine.old).error ≡ None }
+    requires never_falls { (low : ℕ) × NeverFalls low (walk_of progress leading fde.old machine.old).outcome.rows }
+    ensures found { (row : Rules) → last_at address (walk_of progress leading.entry fde.old machine.old).outcome.rows ≡ Some row → OnOk result (machine.new.states.row ≡ row) }
+    ensures so { IfOk result (λ more. IsTrue more → RunsSo machine.new fde.new) }
+    ensures first { OnOk result (BeganWith machine.new.initial machine.new.states.first) }
+    ensures known { IfOk result (λ more. IsTrue more → (rows_left leading.entry.factors fde.new machine.new).fault ≡ None) }
+    ensures err { IfErr result (λ e. e ≡ OutOfMemory) }
+    ensures kept { IsTrue kept.new → HasInitial leading.entry machine.new }
+    ensures keeps { IfOk result (λ more. IsTrue more → AllSpecify machine.new.initial (rows_left leading.entry.factors fde.new machine.new).rows) }
+    ensures kept_row { machine.new.states.kept ≡ machine.old.states.kept }
+{
+    match progress {
+        Progress::Begun => first_to(alloc, leading, fde, machine, kept, address),
+        Progress::Running => run_to(fde, leading.factors, machine, address, true),
+        Progress::Finished => Ok(false),
+        Progress::Failed(error) => Err(error),
+    }
+}
+
+/// The rows of one FDE after another, in room that is kept, where it is known that their programs give rows to their
+/// end: no expression is judged again. A CIE's program is run where the FDE before had another CIE; else what the FDE
+/// before changed is taken back. A row can be kept, and the rows behind it are compared with it by what was set since. A
+/// contract sees what it sees of `RowSteps`, and the row that was kept.
+#[derive(Drop)]
+pub struct RowWalk<'a> {
+    progress: Progress,
+    // The machine has the initial row of the CIE.
+    kept: bool,
+    leading: Leading<'a>,
+    fde: Cursor<'a>,
+    machine: Machine<'a>,
+    alloc: Global,
+}
+
+impl<'a> Model for RowWalk<'a> {
+    ghost use Rattle.dw_cfa.specs.Walking.{Walking};
+    ghost use Rattle.dw_cfa.specs.Inner.Walking.{WalksSo, walk_of};
+
+    ghost Value = { Walking };
+
+    ghost view = { λ w. record { steps = walk_of w.progress w.leading w.fde w.machine; kept = w.machine.states.kept } };
+
+    ghost invariant = { λ w. WalksSo w.progress w.kept w.leading w.fde w.machine };
+}
+
+impl<'a> RowWalk<'a> {
+    /// No row is to come until `go_to` names programs. Takes no memory.
+    pub fn new(alloc: Global, target: Target) -> RowWalk<'a>
+        ensures { result ≡ record { steps = stepping blank finished; kept = blank } }
+    {
+        let factors = Factors {
+            code_factor: 0,
+            data_factor: 0,
+        };
+        let program = Program { bytes: &[], at: 0 };
+        RowWalk {
+            progress: Progress::Finished,
+            kept: false,
+            leading: Leading {
+                program,
+                factors,
+                target,
+            },
+            fde: Cursor::new(&[], 0, target),
+            machine: Machine {
+                initial: Row::blank(alloc),
+                states: States::new(alloc, Row::blank(alloc), false),
+                location: 0,
+                limit: target.size.address_limit(),
+            },
+            alloc,
+        }
+    }
+
+    /// Goes to the rows of two programs that are known to give rows to their end, from an address `begin` of the target
+    /// on. Takes no memory: they are run by `advance`, also where an error was answered before.
+    pub fn go_to(
+        &mut self,
+        cie_program: Program<'a>,
+        fde_program: Program<'a>,
+        begin: u64,
+        factors: Factors,
+        target: Target,
+    )
+        requires begin { begin < address_limit target.size }
+        requires known { (rows : List LocatedRow) × Gives factors (program_input cie_program target) (program_input fde_program target) begin rows }
+        ensures steps { self.new.steps ≡ stepping self.old.steps.current self.new.steps.outcome }
+        ensures runs { RunsTo factors (program_input cie_program.entry target) (program_input fde_program.entry target) begin self.new.steps.outcome }
+        ensures kept { self.new.kept ≡ self.old.kept }
+    {
+        are_bytes(cie_program.bytes);
+        are_bytes(fde_program.bytes);
+        self.lead_to(cie_program, fde_program, begin, factors, target);
+    }
+
+    // The same by the run that the code keeps to.
+    fn lead_to(
+        &mut self,
+        cie_program: Program<'a>,
+        fde_program: Program<'a>,
+        begin: u64,
+        factors: Factors,
+        target: Target,
+    )
+        requires begin { begin < address_limit target.size }
+        requires known { (run_rows factors (program_input cie_program target) (program_input fde_program target) begin).fault ≡ None }
+        ensures kept { self.new.kept ≡ self.old.kept }
+        ensures steps { self.new.steps ≡ stepping self.old.steps.current (run_rows factors (program_input cie_program.entry target) (program_input fde_program.entry target) begin) }
+    {
+        let leading = Leading {
+            program: cie_program,
+            factors,
+            target,
+        };
+        self.kept = self.kept && leads_same(self.leading, leading);
+        self.leading = leading;
+        self.fde = Cursor::new(fde_program.bytes, fde_program.at, target);
+        self.machine.location = u128::from(begin);
+        self.machine.limit = target.size.address_limit();
+        self.progress = Progress::Begun;
+    }
+
+    /// Goes on to the next row, which `row` lends then, and answers the location that it starts at, or none behind
+    /// the last row. No row is copied. Want of memory is answered from then on, until `go_to`.
+    #[inline(always)]
+    pub fn advance(&mut self) -> Result<Option<u128>, ReadError>
+        ensures advances { Advances self.old.steps result self.new.steps }
+        ensures kept { self.new.kept ≡ self.old.kept }
+    {
+        let (fde, machine) = (&mut self.fde, &mut self.machine);
+        let answer = match self.progress {
+            Progress::Begun => first_row(self.alloc, self.leading, fde, machine, &mut self.kept),
+            Progress::Running => next_row(fde, self.leading.factors, machine, true),
+            Progress::Finished => return Ok(None),
+            Progress::Failed(error) => return Err(error),
+        };
+        if answer.is_err() {
+            self.machine.states.untrack();
+        }
+        self.progress = progress_after(answer);
+        Ok(Some(answer?.0))
+    }
+
+    /// Goes on to the last row that starts at or below an address, which `row` lends then, where one of those still to come
+    /// does. No row is copied. Want of memory is answered from then on, until `go_to`.
+    pub fn advance_to(&mut self, address: u64) -> Result<(), ReadError>
+        requires no_error { self.old.steps.error ≡ None }
+        requires never_falls { (low : ℕ) × NeverFalls low self.old.steps.outcome.rows }
+        ensures found { (row : Rules) → last_at address self.old.steps.outcome.rows ≡ Some row → OnOk result (self.new.steps.current ≡ row) }
+        ensures err { IfErr result (λ e. e ≡ OutOfMemory) }
+        ensures again { MatchResult result (λ _. self.new.steps.error ≡ None) (λ e. self.new.steps.error ≡ Some e) }
+        ensures kept { self.new.kept ≡ self.old.kept }
+    {
+        let (fde, machine) = (&mut self.fde, &mut self.machine);
+        let (progress, leading, kept) = (self.progress, self.leading, &mut self.kept);
+        let answer = walk_to(progress, self.alloc, leading, fde, machine, kept, address);
+        match answer {
+            Ok(true) => self.progress = Progress::Running,
+            Ok(false) => self.progress = Progress::Finished,
+            Err(error) => {
+                self.machine.states.untrack();
+                self.progress = Progress::Failed(error);
+                return Err(error);
+            }
+        }
+        Ok(())
+    }
+
+    /// The row that `advance` went on to.
+    pub fn row(&self) -> &Row<'a>
+        ensures { result.now ≡ self.now.steps.current }
+    {
+        self.machine.states.row()
+    }
+
+    /// Keeps the row that is lent, or answers want of memory, behind which it is some row that is kept. What was set
+    /// since a row was kept is copied alone.
+    #[inline(always)]
+    pub fn keep(&mut self) -> Result<(), AllocError>
+        ensures kept { OnOk result (self.new.kept ≡ self.old.steps.current) }
+        ensures same { self.new.steps ≡ self.old.steps }
+    {
+        self.machine.states.keep()
+    }
+
+    /// The row that `keep` kept, and before it some row.
+    pub fn kept(&self) -> &Row<'a>
+        ensures { result.now ≡ self.now.kept }
+    {
+        self.machine.states.kept()
+    }
+
+    /// Whether the row that is lent is the one that was kept. Registers that were set since are compared alone. Takes no
+    /// memory.
+    #[inline(always)]
+    pub fn is_kept(&self) -> bool
+        ensures { IsTrue result ↔ (self.now.kept ≡ self.now.steps.current) }
+    {
+        self.machine.states.is_kept()
+    }
+
+    /// The least register to which the row that is lent gives another rule than the one that was kept, of those behind a
+    /// given one where there is such; or none. Registers that were set since are compared alone. Takes no memory.
+    #[inline(always)]
+    pub fn next_difference(&self, behind: Option<u16>) -> Option<u16>
+        ensures first { FirstDifference (place_behind behind) self.now.kept.registers self.now.steps.current.registers result }
+        ensures ascending { AreSpecified 0 self.now.kept.registers }
+        ensures other_ascending { AreSpecified 0 self.now.steps.current.registers }
+    {
+        self.machine.states.next_difference(behind)
+    }
+
+    /// The location that the next row starts at, which is where the row that is lent ends. None behind the last row, and
+    /// after an error.
+    pub fn next_start(&self) -> Option<u128>
+        ensures next { (row : LocatedRow) (rows : List LocatedRow) → self.now.steps.outcome.rows ≡ row ∷ rows → result ≡ Some row.location }
+        ensures last { self.now.steps.outcome ≡ finished → result ≡ None }
+        ensures none { result ≡ None → self.now.steps.outcome ≡ finished }
+    {
+        match self.progress {
+            Progress::Begun | Progress::Running => Some(self.machine.location),
+            Progress::Finished | Progress::Failed(_) => None,
+        }
+    }
+
+    /// Whether each row still to come is known to specify every register that a row specifies: what a CIE's program
+    /// specifies stays so. `false` says nothing. Takes no memory.
+    pub fn keeps(&self, row: &Row<'_>) -> bool
+        ensures { IsTrue result → AllKeep row.now self.now.steps.outcome.rows }
+    {
+        match self.progress {
+            Progress::Begun => false,
+            Progress::Running => self.machine.initial.specifies_all(row),
+            Progress::Finished | Progress::Failed(_) => true,
+        }
+    }
+}

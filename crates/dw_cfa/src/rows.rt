@@ -1,0 +1,45 @@
+//! All rows of an FDE (6.4.3).
+
+ghost use Rattle.std.specs.Prelude.{◌≡◌, ◌<◌, List, IfOk, IfErr, MatchResult};
+ghost use Rattle.dw_num.specs.Target.{address_limit};
+ghost use Rattle.dw_num.specs.Refusals.{Refuses};
+ghost use Rattle.dw_num.specs.declared.error.ReadError.TheVariants.{OutOfMemory};
+ghost use Rattle.dw_cfa.specs.Faults.{RunFault};
+ghost use Rattle.dw_cfa.specs.Gives.{Gives};
+ghost use Rattle.dw_cfa.specs.Stepping.{program_input};
+ghost use Rattle.dw_cfa.specs.declared.execution.LocatedRow.{LocatedRow as TheLocatedRow};
+
+use crate::execution::LocatedRow;
+use crate::instr::Factors;
+use crate::steps::RowSteps;
+use dw_num::{Program, ReadError, Target, are_bytes};
+use std::alloc::Global;
+
+/// Rows of the call frame table (6.4.3) with the locations that they start at, which never fall.
+pub type Rows<'a> = Vec<LocatedRow<'a>>;
+
+/// The rows that a CIE's and an FDE's program give, from an address `begin` of the target on: one before each
+/// instruction that moves the location, and one at the end. Otherwise the first refusal, the CIE's program
+/// first, or want of memory.
+pub fn run<'a>(
+    alloc: Global,
+    cie_program: Program<'a>,
+    fde_program: Program<'a>,
+    begin: u64,
+    factors: Factors,
+    target: Target,
+) -> Result<Rows<'a>, ReadError>
+    requires { begin < address_limit target.size }
+    ensures rows { IfOk result (λ rows. Gives factors (program_input cie_program.entry target) (program_input fde_program.entry target) begin rows.items) }
+    ensures only { (rows : List TheLocatedRow) → Gives factors (program_input cie_program.entry target) (program_input fde_program.entry target) begin rows → MatchResult result (λ v. v.items ≡ rows) (λ e. e ≡ OutOfMemory) }
+    ensures refused { IfErr result (Refuses (RunFault factors (program_input cie_program.entry target) (program_input fde_program.entry target) begin)) }
+{
+    are_bytes(cie_program.bytes);
+    are_bytes(fde_program.bytes);
+    let mut steps = RowSteps::new(alloc, cie_program, fde_program, begin, factors, target);
+    let mut rows = Vec::new(alloc);
+    'rows: while let Some(row) = steps.next()? {
+        rows.push(row)?;
+    }
+    Ok(rows)
+}

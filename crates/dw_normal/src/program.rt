@@ -1,0 +1,232 @@
+//! Programs of the normal form, appended.
+
+ghost use Rattle.std.specs.Prelude.{◌≡◌, ◌++◌, ◌<◌, ◌≤◌, Some, OnOk};
+ghost use Rattle.dw_num.specs.Target.{address_limit};
+ghost use Rattle.std.specs.List.{AllByRecursion};
+ghost use Rattle.dw_canon.specs.Difference.{difference, move, cfa_difference, rule_to};
+ghost use Rattle.dw_cfa.specs.Rows.{rule};
+ghost use Rattle.dw_normal.specs.Inner.Walking.{rules_from};
+ghost use Rattle.dw_normal.specs.Inner.Passing.{Stand, Appends, row_or_blank, shown_row};
+ghost use Rattle.dw_canon.specs.Inner.Fits.{InstrFits};
+ghost use Rattle.dw_section.specs.Sound.{RowFits};
+ghost use Rattle.dw_canon.specs.Spelling.{instr_bytes, program_bytes};
+
+use crate::cfa_change::cfa_difference;
+use crate::instruction::{
+    push_advance, push_cfa_offset, push_instr, push_packed, push_rule, push_set_loc,
+};
+use dw_cfa::{CfaRule, Row};
+use dw_num::Target;
+use dw_section::Changes;
+use std::alloc::AllocError;
+
+// Appends what leads from one rule of the CFA to another.
+#[inline(never)]
+fn push_other_cfa(
+    out: &mut Vec<u8>,
+    old: &CfaRule<'_>,
+    new: &CfaRule<'_>,
+    target: Target,
+) -> Result<(), AllocError>
+    requires { AllByRecursion (InstrFits target) (cfa_difference old.now new.now) }
+    ensures { OnOk result (out.new.items ≡ out.old.items ++ program_bytes target (cfa_difference old.now new.now)) }
+{
+    match cfa_difference(old, new) {
+        Some(instr) => push_instr(out, &instr, target),
+        None => Ok(()),
+    }
+}
+
+// Appends the same: mostly another offset from the same register.
+#[inline(always)]
+fn push_cfa_rule(
+    out: &mut Vec<u8>,
+    old: &CfaRule<'_>,
+    new: &CfaRule<'_>,
+    target: Target,
+) -> Result<(), AllocError>
+    requires { AllByRecursion (InstrFits target) (cfa_difference old.now new.now) }
+    ensures { OnOk result (out.new.items ≡ out.old.items ++ program_bytes target (cfa_difference old.now new.now)) }
+{
+    match (old, new) {
+        (
+            CfaRule::Register { register, offset },
+            CfaRule::Register {
+                register: r,
+                offset: n,
+            },
+        ) => {
+            if *register != *r {
+                return push_other_cfa(out, old, new, target);
+            }
+            if *offset == *n {
+                return Ok(());
+            }
+            push_cfa_offset(out, *n, target)
+        }
+        _ => push_other_cfa(out, old, new, target),
+    }
+}
+
+// Appends what leads from the CFA's rule of one row to that of another.
+#[inline(always)]
+fn push_cfa<'a>(
+    out: &mut Vec<u8>,
+    before: &Row<'a>,
+    after: &Row<'a>,
+    target: Target,
+) -> Result<(), AllocError>
+    requires { AllByRecursion (InstrFits target) (cfa_difference before.now.cfa after.now.cfa) }
+    ensures { OnOk result (out.new.items ≡ out.old.items ++ program_bytes target (cfa_difference before.now.cfa after.now.cfa)) }
+{
+    push_cfa_rule(out, before.cfa_rule(), after.cfa_rule(), target)
+}
+
+// Appends what gives a register its rule of a row: `Restore` where it is the initial one.
+#[tactic(auto, unfolding(dw_canon::specs::Spelling::instr_bytes))]
+fn push_register<'a>(
+    out: &mut Vec<u8>,
+    shared: &Row<'a>,
+    row: &Row<'a>,
+    register: u16,
+    target: Target,
+) -> Result<(), AllocError>
+    requires { InstrFits target (rule_to shared.now register (rule row.now register)) }
+    ensures { OnOk result (out.new.items ≡ out.old.items ++ instr_bytes target (rule_to shared.now register (rule row.now register))) }
+{
+    if row.has_same_rule(shared, register) {
+        return push_packed(out, 0xc0, 0x06, register);
+    }
+    push_rule(out, register, &row.rule(register), target)
+}
+
+// Appends what gives each register whose rule differs its rule of another row.
+fn push_rules<'a>(
+    out: &mut Vec<u8>,
+    shared: &Row<'a>,
+    before: &Row<'a>,
+    after: &Row<'a>,
+    target: Target,
+) -> Result<(), AllocError>
+    requires { AllByRecursion (InstrFits target) (rules_from shared.now before.now after.now 0) }
+    ensures { OnOk result (out.new.items ≡ out.old.items ++ program_bytes target (rules_from shared.now before.now after.now 0)) }
+{
+    let mut last = None;
+    'registers: while let Some(register) = before.next_difference(after, last) {
+        push_register(out, shared, after, register, target)?;
+        last = Some(register);
+    }
+    Ok(())
+}
+
+/// Appends what leads from one row to another, where a third has the initial rules. It may leave some of it where memory
+/// runs out.
+pub(crate) fn push_difference<'a>(
+    out: &mut Vec<u8>,
+    shared: &Row<'a>,
+    before: &Row<'a>,
+    after: &Row<'a>,
+    target: Target,
+) -> Result<(), AllocError>
+    requires { AllByRecursion (InstrFits target) (difference shared.now before.now after.now) }
+    ensures { OnOk result (out.new.items ≡ out.old.items ++ program_bytes target (difference shared.now before.now after.now)) }
+{
+    push_cfa(out, before, after, target)?;
+    push_rules(out, shared, before, after, target)
+}
+
+// Appends what moves the location.
+#[inline(always)]
+#[tactic(auto, unfolding(dw_canon::specs::Spelling::instr_bytes))]
+fn push_move(out: &mut Vec<u8>, from: u128, to: u128, target: Target) -> Result<(), AllocError>
+    requires rises { from < to }
+    requires in_space { to < address_limit target.size }
+    ensures { OnOk result (out.new.items ≡ out.old.items ++ instr_bytes target (move from to)) }
+{
+    if to - from < 4294967296 {
+        return push_advance(out, target.order, (to - from) as u32);
+    }
+    push_set_loc(out, to as u64, target)
+}
+
+/// Appends what leads from an initial row to the one that is shown.
+pub(crate) fn push_first<'a>(
+    out: &mut Vec<u8>,
+    shared: &Row<'a>,
+    changes: &Changes<'a>,
+    target: Target,
+) -> Result<(), AllocError>
+    requires { AllByRecursion (InstrFits target) (difference shared.now shared.now (shown_row changes.now)) }
+    ensures { OnOk result (out.new.items ≡ out.old.items ++ program_bytes target (difference shared.now shared.now (shown_row changes.now))) }
+{
+    match changes.row() {
+        Some(first) => push_difference(out, shared, shared, first, target),
+        None => Err(AllocError),
+    }
+}
+
+// Appends what leads from the row before a change to the change's.
+#[inline(always)]
+fn push_between<'a>(
+    out: &mut Vec<u8>,
+    shared: &Row<'a>,
+    changes: &Changes<'a>,
+    before: &Row<'a>,
+    row: &Row<'a>,
+    target: Target,
+) -> Result<(), AllocError>
+    requires before { changes.now.before ≡ Some before.now }
+    requires row { changes.now.shown ≡ Some row.now }
+    requires fits { AllByRecursion (InstrFits target) (difference shared.now before.now row.now) }
+    ensures { OnOk result (out.new.items ≡ out.old.items ++ program_bytes target (difference shared.now before.now row.now)) }
+{
+    push_cfa(out, before, row, target)?;
+    let mut last = None;
+    'registers: while let Some(register) = changes.next_difference(last) {
+        push_register(out, shared, row, register, target)?;
+        last = Some(register);
+    }
+    Ok(())
+}
+
+// Appends what leads to the row that is shown from the one before it.
+#[inline(always)]
+fn push_change<'a>(
+    out: &mut Vec<u8>,
+    shared: &Row<'a>,
+    changes: &Changes<'a>,
+    target: Target,
+) -> Result<(), AllocError>
+    requires { AllByRecursion (InstrFits target) (difference shared.now (row_or_blank changes.now.before) (shown_row changes.now)) }
+    ensures { OnOk result (out.new.items ≡ out.old.items ++ program_bytes target (difference shared.now (row_or_blank changes.now.before) (shown_row changes.now))) }
+{
+    let Some(before) = changes.before() else {
+        return Err(AllocError);
+    };
+    match changes.row() {
+        Some(row) => push_between(out, shared, changes, before, row, target),
+        None => Err(AllocError),
+    }
+}
+
+/// Appends the changes that are still to come behind an address, whose row is shown.
+pub(crate) fn push_later<'a>(
+    out: &mut Vec<u8>,
+    changes: &mut Changes<'a>,
+    shared: &Row<'a>,
+    begin: u128,
+    target: Target,
+) -> Result<(), AllocError>
+    requires fits { RowFits target (shown_row changes.old) }
+    requires in_space { changes.old.end ≤ address_limit target.size }
+    requires stand { Stand target shared.now begin (shown_row changes.old) changes.old }
+    ensures { OnOk result (Appends target shared.now begin (shown_row changes.old) changes.old out.old.items out.new.items) }
+{
+    let mut at = begin;
+    'changes: while let Some(address) = changes.advance()? {
+        push_move(out, at, address, target)?;
+        push_change(out, shared, changes, target)?;
+        at = address;
+    }
+    Ok(())
+}

@@ -1,9 +1,0 @@
-use Rattle.dw_section.proofs.Items.{cut_or_pieces}
-use Rattle.dw_section.proofs.FirstFault.{one_cut_fault}
-use Rattle.dw_section.proofs.cutting.one_cut_fault.Goals as goal
-
-pub returns-clause-one : goal.returns-clause-one
-returns-clause-one c = one_cut_fault
-
-pub returns-clause-apart : goal.returns-clause-apart
-returns-clause-apart c = λ target s r es fault p. cut_or_pieces target s r p.parts fault p.cut

@@ -1,0 +1,7 @@
+use Rattle.std.proofs.Common.{map, take}
+use Rattle.dw_section.specs.Inner.Index.{range_in, EndsAt}
+use Rattle.dw_section.specs.Overlap.{AreApart}
+use Rattle.dw_section.proofs.fde_range.first_overlap.Given as goal
+
+abbrev pub invariant-loop-fde : goal.invariant-loop-fde
+invariant-loop-fde l = AreApart (map range_in (take l.fde-index l.list)) × EndsAt (map range_in (take l.fde-index l.list)) l.greatest

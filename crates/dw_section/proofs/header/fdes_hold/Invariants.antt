@@ -1,0 +1,16 @@
+use Rattle.std.proofs.Common.{length, List}
+use Rattle.std.specs.List.{AllByRecursion, AllZip}
+use Rattle.dw_section.specs.Cut.{Piece}
+use Rattle.dw_section.specs.Inner.Left.{PiecesLeft, Stays}
+use Rattle.dw_section.specs.Headers.{Head, Has, CieHolds}
+use Rattle.dw_section.specs.Pieces.{Pieces}
+use Rattle.dw_section.proofs.Between.{Between}
+use Rattle.dw_section.proofs.header.fdes_hold.Given as goal
+
+abbrev pub invariant-pieces : goal.invariant-pieces
+invariant-pieces l =
+    Stays (record { at = 0; bytes = l.bytes; target = l.fn.target }) l.cursor
+    × ((ps : List Piece) → Pieces l.fn.target l.bytes ps → AllByRecursion (CieHolds l.fn.target) ps → Between (PiecesLeft l.cursor) (λ front. (hs : List Head) × AllZip (Has l.fn.target l.places) front hs) ps)
+
+abbrev pub decreases-pieces : goal.decreases-pieces
+decreases-pieces l = length l.cursor.bytes

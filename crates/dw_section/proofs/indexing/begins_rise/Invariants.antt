@@ -1,6 +1,0 @@
-use Rattle.std.proofs.Common.{ℕ, ◌+◌, ◌<◌, get_or}
-use Rattle.dw_section.specs.declared.indexing.Ranged.{Ranged}
-use Rattle.dw_section.proofs.indexing.begins_rise.Given as goal
-
-abbrev pub invariant-loop-i : goal.invariant-loop-i
-invariant-loop-i l = (k : ℕ) (d : Ranged) → k + 1 < l.i → (get_or l.list k d).begin < (get_or l.list (k + 1) d).begin

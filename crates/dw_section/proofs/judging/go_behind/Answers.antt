@@ -1,8 +1,0 @@
-use Rattle.std.proofs.Common.{Some, ℕ, refl, subst}
-use Rattle.dw_section.specs.Inner.Initials.{IsBehind}
-use Rattle.dw_section.proofs.judging.go_behind.Goals as goal
-
-pub returns : goal.returns
-returns c = λ hs all runner.
-    let behind = c.in_ok-runner.ensures hs (c.initial_at.ensures.is c.args.target hs all) in
-    (refl, (subst (λ (n : ℕ). IsBehind c.args.target hs (Some n) c.in_ok-runner.field-0) c.initial_at.ensures.place behind, runner.1))

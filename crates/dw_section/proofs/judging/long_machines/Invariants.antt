@@ -1,8 +1,0 @@
-use Rattle.std.proofs.Common.{List}
-use Rattle.std.specs.List.{AllByRecursion}
-use Rattle.dw_section.specs.Headers.{Head}
-use Rattle.dw_section.specs.Inner.Initials.{IsInitial, IsLong}
-use Rattle.dw_section.proofs.judging.long_machines.Given as goal
-
-abbrev pub invariant-loop-initial : goal.invariant-loop-initial
-invariant-loop-initial l = (hs : List Head) → AllByRecursion (IsInitial l.fn.target hs) l.initials → AllByRecursion (IsLong l.fn.target hs) l.long.items

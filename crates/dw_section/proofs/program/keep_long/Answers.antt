@@ -1,0 +1,6 @@
+use Rattle.dw_section.specs.Inner.Initials.{IsLong}
+use Rattle.dw_section.proofs.Stages.{all_push}
+use Rattle.dw_section.proofs.program.keep_long.Goals as goal
+
+pub returns : goal.returns
+returns c = λ hs is all. rw c.in_ok-push.ensures.items (all_push (IsLong c.args.target hs) c.args.long.now.items _ all (c.in_ok-machine.ensures hs is))

@@ -1,0 +1,40 @@
+use Rattle.std.proofs.Common.{map, refl, sym, subst}
+use Rattle.std.proofs.lemmas.Result.{err_from_is_err_and}
+use Rattle.dw_section.specs.declared.lookup.Fde.{Fde}
+use Rattle.dw_section.specs.Inner.Index.{range_in, IsRanged}
+use Rattle.dw_section.specs.Inner.Lookup.{fde_in}
+use Rattle.dw_section.specs.Meaning.{NoneCovers}
+use Rattle.dw_section.specs.Meanings.{IsListed}
+use Rattle.dw_section.proofs.Lent.FdeLookup.{are_fdes, one_fdes, ranged_of}
+use Rattle.dw_section.proofs.StandLaws.{entry_listed}
+use Rattle.dw_section.proofs.standing_fde.look_up.Goals as goal
+
+pub returns-in_default-clause-own : goal.returns-in_default-clause-own
+returns-in_default-clause-own c = λ t fs are.
+    let target = c.args.target in
+    let s = c.args.bytes.now in
+    let list = c.args.index.now in
+    subst (NoneCovers c.args.address) (one_fdes target s (map fde_in list) fs (are_fdes target s list t) are) (c.in_default.ensures.none t.indexed.is_index.ascends t.apart refl)
+
+pub returns-in_err-found-clause-own : goal.returns-in_err-found-clause-own
+returns-in_err-found-clause-own c = λ t.
+    let entry = c.in-Some.entry in
+    let i = c.in-Some.ensures.among in
+    let ranged = subst (IsRanged t.indexed.headers) (sym (i.2 entry)) (ranged_of c.args.target c.args.bytes.now c.args.index.now t i.0 entry i.1) in
+    let covers = c.in-Some.ensures.covers in
+    let own = c.in_err-found.ensures.own t.indexed.headers (range_in entry) entry.return_register t.indexed.hold ranged (sym c.from.ensures) covers.0 covers.1 in
+    let e = err_from_is_err_and c.from_residual.result c.from_residual.ensures.1 in
+    rw (e.1, e.2, own) refl
+
+pub returns-clause-own : goal.returns-clause-own
+returns-clause-own c = λ t.
+    let target = c.args.target in
+    let s = c.args.bytes.now in
+    let list = c.args.index.now in
+    let entry = c.in-Some.entry in
+    let i = c.in-Some.ensures.among in
+    let ranged = subst (IsRanged t.indexed.headers) (sym (i.2 entry)) (ranged_of target s list t i.0 entry i.1) in
+    let covers = c.in-Some.ensures.covers in
+    let own = c.in_ok-found.ensures.own t.indexed.headers (range_in entry) entry.return_register t.indexed.hold ranged (sym c.from.ensures) covers.0 covers.1 in
+    let listed = subst (λ (f : Fde). IsListed f (map fde_in list)) (sym own.0) (entry_listed list entry i.0 i.1 i.2) in
+    (own.1, λ fs are. subst (IsListed c.in_ok-found.found) (one_fdes target s (map fde_in list) fs (are_fdes target s list t) are) listed)

@@ -1,0 +1,71 @@
+use Rattle.std.proofs.Common.{refl, sym, subst, ◌∙◌, arith}
+use Rattle.std.proofs.lemmas.Result.{err_from_is_err_and}
+use Rattle.dw_cfa.specs.RuleAt.{last_at}
+use Rattle.dw_section.specs.Inner.Index.{found_cie, found_head}
+use Rattle.dw_section.specs.Inner.Lookup.{rows_of}
+use Rattle.dw_section.specs.Meaning.{RulesAt}
+use Rattle.dw_section.specs.Inner.Standing.{StandsAt}
+use Rattle.dw_section.proofs.Lent.FdeLookup.{same_fde}
+use Rattle.dw_section.proofs.RowLookup.{runs_so}
+use Rattle.dw_section.proofs.StandLaws.{listed_stands, stands_in_space, stands_listed}
+use Rattle.dw_section.proofs.StandRows.{no_refusal, one_row}
+use Rattle.dw_section.proofs.standing_fde.row_of.Goals as goal
+
+pub returns-in_err-fde-clause-own : goal.returns-in_err-fde-clause-own
+returns-in_err-fde-clause-own c = λ hs a register hold returns at le lt.
+    absurd (c.in_err-fde.ensures.only (subst (StandsAt c.args.target c.args.bytes.now) at (stands_listed c.args.target c.args.bytes.now hs a register hold.0.0.0 returns)))
+
+pub returns-in_default-clause-own : goal.returns-in_default-clause-own
+returns-in_default-clause-own c = λ hs a register hold returns at le lt.
+    let some = rw c.in_default.is at (c.in_ok-fde.ensures.only (subst (StandsAt c.args.target c.args.bytes.now) at (stands_listed c.args.target c.args.bytes.now hs a register hold.0.0.0 returns))) in
+    absurd cc
+
+pub returns-then-not-reaches-clause-own : goal.returns-then-not-reaches-clause-own
+returns-then-not-reaches-clause-own c = λ hs a register hold returns at le lt.
+    let found = rw c.in-Some.is at c.in_ok-fde.ensures.found in
+    let same = listed_stands c.args.target c.args.bytes.now hs a register c.in-Some.fde hold.0.0.0 returns found.1 (found.0 ∙ sym at) in
+    absurd (c.if-not-reaches.ensures (omega (arith, same.begin, le), omega (arith, same.begin, same.range, lt)))
+
+pub run_fde-requires-clause-in_space : goal.run_fde-requires-clause-in_space
+run_fde-requires-clause-in_space c =
+    let found = rw c.in-Some.is at c.in_ok-fde.ensures.found in
+    let covers = c.if-not-reaches.ensures in
+    omega (arith, covers.0, covers.1, stands_in_space c.args.target c.args.bytes.now c.in-Some.fde found.1)
+
+pub returns-in_err-run_fde-clause-own : goal.returns-in_err-run_fde-clause-own
+returns-in_err-run_fde-clause-own c = λ hs a register hold returns at le lt.
+    let found = rw c.in-Some.is at c.in_ok-fde.ensures.found in
+    let same = listed_stands c.args.target c.args.bytes.now hs a register c.in-Some.fde hold.0.0.0 returns found.1 (found.0 ∙ sym at) in
+    let runs = runs_so c.args.target c.args.bytes.now c.are_bytes.ensures hs hold c.in-Some.fde same.found in
+    let e = err_from_is_err_and c.from_residual-in_err-run_fde.result c.from_residual-in_err-run_fde.ensures.1 in
+    let none = no_refusal c.in_err-run_fde.field-0.0 (rows_of c.args.target c.in-Some.fde) c.in_err-run_fde.ensures.err runs.no_fault in
+    rw (e.1, e.2, none) refl
+
+pub returns-clause-found : goal.returns-clause-found
+returns-clause-found c =
+    let found = rw c.in-Some.is at c.in_ok-fde.ensures.found in
+    let e = c.in-Some.fde in
+    let stands = found.1 in
+    record {
+      own = found_head stands.0 stands.2 e;
+      named = found_cie stands.1 stands.2 e.return_register e;
+      stands = stands.3;
+      place = found.0;
+      begin = refl;
+      end = refl;
+      return_register = refl;
+      covers = c.if-not-reaches.ensures;
+      outcome = rows_of c.args.target e;
+      runs = c.run_fde.ensures.runs;
+      row = c.in_ok-run_fde.ensures.found;
+    }
+
+pub returns-clause-own : goal.returns-clause-own
+returns-clause-own c = λ hs a register hold returns at le lt.
+    let found = rw c.in-Some.is at c.in_ok-fde.ensures.found in
+    let e = c.in-Some.fde in
+    let same = listed_stands c.args.target c.args.bytes.now hs a register e hold.0.0.0 returns found.1 (found.0 ∙ sym at) in
+    let runs = runs_so c.args.target c.args.bytes.now c.are_bytes.ensures hs hold e same.found in
+    let row = runs.rules c.args.address c.if-not-reaches.ensures.0 c.if-not-reaches.ensures.1 in
+    let one = one_row (last_at c.args.address (rows_of c.args.target e).rows) row.0 c.run_fde.new.room row.1 c.in_ok-run_fde.ensures.found in
+    (same_fde e.begin e.range e.return_register a.begin a.range register same.begin same.range same.register_is, subst (RulesAt c.args.target c.args.bytes.now c.args.address) one row.2)

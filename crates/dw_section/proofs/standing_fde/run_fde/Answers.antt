@@ -1,0 +1,21 @@
+use Rattle.std.proofs.Common.{arith}
+use Rattle.dw_num.specs.Span.{span_of}
+use Rattle.dw_cfa.proofs.Lent.Given.{run_runs}
+use Rattle.dw_section.specs.Inner.Lookup.{rows_of}
+use Rattle.dw_section.specs.Programs.{input_of}
+use Rattle.dw_section.proofs.standing_fde.run_fde.Goals as goal
+
+pub returns-clause-runs : goal.returns-clause-runs
+returns-clause-runs c =
+    let e = c.args.fde.now in
+    run_runs e.factors (input_of c.args.target (span_of e.cie_program)) (input_of c.args.target (span_of e.program)) e.begin c.are_bytes.ensures c.are_bytes-2.ensures (omega (arith, c.requires.in_space))
+
+pub returns-clause-found : goal.returns-clause-found
+returns-clause-found c =
+    let e = c.args.fde.now in
+    c.run_to.ensures.found (rows_of c.args.target e) (run_runs e.factors (input_of c.args.target (span_of e.cie_program)) (input_of c.args.target (span_of e.program)) e.begin c.are_bytes.ensures c.are_bytes-2.ensures (omega (arith, c.requires.in_space)))
+
+pub returns-clause-err : goal.returns-clause-err
+returns-clause-err c =
+    let e = c.args.fde.now in
+    c.run_to.ensures.err (rows_of c.args.target e) (run_runs e.factors (input_of c.args.target (span_of e.cie_program)) (input_of c.args.target (span_of e.program)) e.begin c.are_bytes.ensures c.are_bytes-2.ensures (omega (arith, c.requires.in_space)))

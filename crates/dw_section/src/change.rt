@@ -1,0 +1,232 @@
+//! The addresses at which the rules of an FDE change (6.4.3), one at a time.
+
+ghost use Rattle.std.specs.Prelude.{◌≡◌, ◌+◌, ◌<◌, ◌↔◌, [], IsTrue, Some, None, true, IsErr, IfOk, MatchOption};
+ghost use Rattle.dw_num.specs.Target.{address_limit};
+ghost use Rattle.dw_cfa.specs.Differing.{FirstDifference, place_behind};
+ghost use Rattle.dw_cfa.specs.Rows.{AreSpecified, Rules};
+ghost use Rattle.dw_cfa.specs.Walking.{AllKeep};
+ghost use Rattle.dw_section.specs.Changes.{Before, GivesAddress, GivesChange, changing, before_then};
+ghost use Rattle.dw_section.specs.Inner.Changes.{FindsChange};
+ghost use Rattle.dw_section.specs.Inner.Shown.{shown_if, shown_of};
+ghost use Rattle.dw_section.specs.Inner.Lookup.{rows_of};
+
+use crate::listed_fde::{FoundFde, go_to_rows};
+use dw_cfa::{Row, RowWalk};
+use dw_num::Target;
+use std::alloc::{AllocError, Global};
+use std::marker::Model;
+
+// The row that a walk kept, where one was.
+#[inline(always)]
+fn kept_row<'w, 'a>(steps: &'w RowWalk<'a>, kept: bool) -> Option<&'w Row<'a>>
+    ensures { MatchOption result (shown_if kept steps.now.kept ≡ None) (λ row. shown_if kept steps.now.kept ≡ Some row.now) }
+{
+    if kept {
+        return Some(steps.kept());
+    }
+    None
+}
+
+// Whether the row that is lent is the one that was kept, where one was.
+#[inline(always)]
+fn is_shown(steps: &RowWalk<'_>, kept: bool) -> bool
+    ensures { IsTrue result ↔ (shown_if kept steps.now.kept ≡ Some steps.now.steps.current) }
+{
+    kept && steps.is_kept()
+}
+
+// Whether an address below the end shows the row that is lent, which starts here.
+#[inline(always)]
+fn is_visible(steps: &RowWalk<'_>, start: u128, end: u128) -> bool
+    requires { steps.now.steps.outcome.fault ≡ None }
+    ensures { IsTrue result ↔ Before end start steps.now.steps.outcome.rows }
+{
+    match steps.next_start() {
+        Some(next) => start < next && start < end,
+        None => start < end,
+    }
+}
+
+// Goes on to the next row that an address shows and that is not the one that was kept, where one was.
+#[inline(always)]
+fn find_change(steps: &mut RowWalk<'_>, kept: bool, end: u128) -> Result<Option<u128>, AllocError>
+    requires { steps.old.steps.outcome.fault ≡ None }
+    ensures finds { FindsChange end steps.old.steps (shown_if kept steps.old.kept) result steps.new.steps }
+    ensures kept { steps.new.kept ≡ steps.old.kept }
+{
+    'rows: loop {
+        let start = match steps.advance() {
+            Ok(Some(start)) => start,
+            Ok(None) => return Ok(None),
+            Err(_) => return Err(AllocError),
+        };
+        if is_visible(steps, start, end) && !is_shown(steps, kept) {
+            return Ok(Some(start));
+        }
+    }
+}
+
+// Keeps the row that the walk lends, where it is the one that was shown last, and goes on to the next change.
+#[inline(always)]
+fn next_change(
+    steps: &mut RowWalk<'_>,
+    kept: &mut bool,
+    lent: bool,
+    end: u128,
+) -> Result<Option<u128>, AllocError>
+    requires { steps.old.steps.outcome.fault ≡ None }
+    ensures finds { FindsChange end steps.old.steps (shown_of lent steps.old.steps.current (shown_if kept.old steps.old.kept)) result steps.new.steps }
+    ensures kept { IfOk result (λ _. shown_if kept.new steps.new.kept ≡ shown_of lent steps.old.steps.current (shown_if kept.old steps.old.kept)) }
+{
+    if lent {
+        steps.keep()?;
+        *kept = true;
+    }
+    find_change(steps, *kept, end)
+}
+
+/// The changes of an FDE: its begin, and each address below its end at which the rule of some column is not that
+/// one address before, ascending, each with the rules there. A contract sees the rows that are still to come.
+#[derive(Drop)]
+pub struct Changes<'a> {
+    steps: RowWalk<'a>,
+    // The row that was shown last is the one that the walk lends, and the one before it is kept.
+    lent: bool,
+    // The walk kept a row that was shown.
+    kept: bool,
+    end: u128,
+    failed: bool,
+}
+
+impl<'a> Model for Changes<'a> {
+    ghost use Rattle.std.specs.Prelude.{◌≡◌, None};
+    ghost use Rattle.dw_section.specs.Changes.{Changing};
+    ghost use Rattle.dw_section.specs.Inner.Shown.{shown_if, shown_of, before_of};
+
+    ghost Value = { Changing };
+
+    ghost view = { λ c. record { rows = c.steps.steps.outcome.rows; shown = shown_of c.lent c.steps.steps.current (shown_if c.kept c.steps.kept); before = before_of c.lent (shown_if c.kept c.steps.kept); end = c.end; failed = c.failed } };
+
+    ghost invariant = { λ c. c.steps.steps.outcome.fault ≡ None };
+}
+
+impl<'a> Changes<'a> {
+    // No change is to come until `go_to` names an FDE.
+    pub(crate) fn none(alloc: Global, target: Target) -> Changes<'a>
+        ensures { result ≡ changing [] 0 }
+    {
+        Changes {
+            steps: RowWalk::new(alloc, target),
+            lent: false,
+            kept: false,
+            end: 0,
+            failed: false,
+        }
+    }
+
+    // Goes to the changes of an FDE, also where memory ran out before.
+    pub(crate) fn go_to(&mut self, fde: &FoundFde<'a>, target: Target)
+        requires in_space { fde.now.begin < address_limit target.size }
+        requires no_fault { (rows_of target fde.now).fault ≡ None }
+        ensures { self.new ≡ changing (rows_of target fde.now).rows (fde.now.begin + fde.now.range) }
+    {
+        go_to_rows(&mut self.steps, fde, target);
+        self.lent = false;
+        self.kept = false;
+        self.end = u128::from(fde.begin) + u128::from(fde.range);
+        self.failed = false;
+    }
+
+    /// Goes on to the next change, whose row `row` lends then, and answers its address, or none behind the last one. Want
+    /// of memory is answered from then on.
+    #[inline(always)]
+    pub fn advance(&mut self) -> Result<Option<u128>, AllocError>
+        ensures gives { GivesAddress self.old result self.new }
+        ensures again { self.old.failed ≡ true → IsErr result }
+        ensures end { self.new.end ≡ self.old.end }
+        ensures before { IfOk result (λ address. self.new.before ≡ before_then address self.old.shown) }
+    {
+        if self.failed {
+            return Err(AllocError);
+        }
+        let change = next_change(&mut self.steps, &mut self.kept, self.lent, self.end);
+        self.lent = matches!(change, Ok(Some(_)));
+        self.failed = change.is_err();
+        change
+    }
+
+    /// The row of the change that `advance` or `next` went on to, also behind the last one, and none before the first one.
+    #[inline(always)]
+    pub fn row(&self) -> Option<&Row<'a>>
+        ensures { MatchOption result (self.now.shown ≡ None) (λ row. self.now.shown ≡ Some row.now) }
+    {
+        if self.lent {
+            return Some(self.steps.row());
+        }
+        kept_row(&self.steps, self.kept)
+    }
+
+    /// The row of the change before the one that `row` lends. None at the first change, and behind the last one.
+    #[inline(always)]
+    pub fn before(&self) -> Option<&Row<'a>>
+        ensures { MatchOption result (self.now.before ≡ None) (λ row. self.now.before ≡ Some row.now) }
+    {
+        if self.lent {
+            return kept_row(&self.steps, self.kept);
+        }
+        None
+    }
+
+    /// The least register to which the change that is shown gives another rule than the change before it, of those behind
+    /// a given one where there is such; or none. Takes no memory.
+    #[inline(always)]
+    pub fn next_difference(&self, behind: Option<u16>) -> Option<u16>
+        ensures first { (before after : Rules) → self.now.before ≡ Some before → self.now.shown ≡ Some after → FirstDifference (place_behind behind) before.registers after.registers result }
+        ensures none { self.now.before ≡ None → result ≡ None }
+        ensures ascending { (before : Rules) → self.now.before ≡ Some before → AreSpecified 0 before.registers }
+        ensures other_ascending { (after : Rules) → self.now.shown ≡ Some after → AreSpecified 0 after.registers }
+    {
+        self.steps.row().ascends();
+        self.steps.kept().ascends();
+        if self.lent && self.kept {
+            return self.steps.next_difference(behind);
+        }
+        None
+    }
+
+    // The row that is shown once more.
+    fn copied_row(&self) -> Result<Row<'a>, AllocError>
+        ensures { (shows : Rules) → self.now.shown ≡ Some shows → IfOk result (λ row. row ≡ shows) }
+    {
+        match self.row() {
+            Some(row) => row.copied(),
+            None => Err(AllocError),
+        }
+    }
+
+    /// The next change with its row, or none behind the last one. Want of memory is answered from then on.
+    pub fn next(&mut self) -> Result<Option<(u128, Row<'a>)>, AllocError>
+        ensures gives { GivesChange self.old result self.new }
+        ensures again { self.old.failed ≡ true → IsErr result }
+        ensures before { IfOk result (λ change. self.new.before ≡ before_then change self.old.shown) }
+    {
+        let Some(address) = self.advance()? else {
+            return Ok(None);
+        };
+        match self.copied_row() {
+            Ok(row) => Ok(Some((address, row))),
+            Err(error) => {
+                self.failed = true;
+                Err(error)
+            }
+        }
+    }
+
+    /// Whether each change still to come is known to specify every register that a row specifies: what a CIE's program
+    /// specifies stays so. `false` says nothing. Takes no memory.
+    pub fn keeps(&self, row: &Row<'_>) -> bool
+        ensures { IsTrue result → AllKeep row.now self.now.rows }
+    {
+        self.steps.keeps(row)
+    }
+}

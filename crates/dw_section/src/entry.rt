@@ -1,0 +1,259 @@
+//! Cutting a section into its entries (6.4.1, 7.4).
+
+ghost use Rattle.std.specs.Prelude.{◌≡◌, ℕ, ◌+◌, ◌<◌, ◌≤◌, ◌==◌, List, length, MatchResult, IfOk, IfErr, IfSome};
+ghost use Rattle.std.specs.List.{list_all};
+ghost use Rattle.dw_num.specs.declared.target.Order.{Order};
+ghost use Rattle.dw_num.specs.declared.target.Target.{Target};
+ghost use Rattle.dw_num.specs.declared.refusal.Refusal.{Refusal};
+ghost use Rattle.dw_num.specs.declared.refusal.Code.TheVariants.{SectionTooLarge};
+ghost use Rattle.dw_num.specs.Input.{Takes};
+ghost use Rattle.dw_num.specs.Inner.Reading.{Gives};
+ghost use Rattle.dw_num.specs.Refusals.{Refuses};
+ghost use Rattle.dw_num.specs.declared.error.ReadError.TheVariants.{OutOfMemory};
+ghost use Rattle.dw_section.specs.Cut.{Cut, Item, IsItem, Piece, item_bytes, is_cie, id_width};
+ghost use Rattle.dw_section.specs.Counts.{AreCounts};
+ghost use Rattle.dw_section.specs.Inner.Counts.{counted_by};
+ghost use Rattle.dw_section.specs.Inner.Left.{PiecesLeft, GivesPiece, GoesOn};
+ghost use Rattle.dw_section.specs.Pieces.{Pieces, Entries};
+ghost use Rattle.dw_section.specs.Inner.Pieces.{IsPlaced};
+ghost use Rattle.dw_section.specs.Faults.{item_at, CutFault};
+ghost use Rattle.dw_section.specs.Inner.Faults.{item_of};
+ghost use Rattle.dw_section.specs.FaultPlaces.{IsWithin};
+ghost use Rattle.dw_section.specs.declared.entry.Entry.{Entry};
+
+use dw_num::{Code, Cursor, Form, Program, ReadError, Refusal, Target};
+use std::alloc::Global;
+
+/// What an entry is.
+#[derive(Clone, Copy, Debug, PartialEq, Eq)]
+pub enum Kind {
+    /// A common information entry: its first field, `CIE_id`, is all ones.
+    Cie,
+    /// A frame description entry: its first field, `CIE_pointer`, names a CIE.
+    Fde,
+}
+
+/// An entry of a section: a CIE or an FDE (6.4.1).
+#[derive(Clone, Copy, Debug, PartialEq, Eq)]
+pub struct Entry {
+    /// The place of its first byte.
+    pub at: u64,
+    /// Whether it is a CIE or an FDE.
+    pub kind: Kind,
+    /// Whether its `length` is of the 32-bit or the 64-bit form (7.4).
+    pub form: Form,
+    /// Its `length`: how many bytes follow that field.
+    pub length: u64,
+}
+
+/// How many entries of each kind a section has.
+#[derive(Clone, Copy, Debug, PartialEq, Eq)]
+pub struct EntryCounts {
+    /// Common information entries (CIEs).
+    pub cies: usize,
+    /// Frame description entries (FDEs).
+    pub fdes: usize,
+}
+
+// The longest section that is read.
+pub(crate) const MOST: usize = 2_147_483_647;
+
+// The width of the first field.
+pub(crate) fn width_of(form: Form) -> usize
+    ensures { result ≡ id_width form }
+{
+    match form {
+        Form::Dwarf32 => 4,
+        Form::Dwarf64 => 8,
+    }
+}
+
+fn all_ones(bytes: &[u8]) -> bool
+    ensures { result ≡ list_all (λ b. b == 255) bytes.now }
+{
+    bytes.iter().all(|b| *b == 0xff)
+}
+
+pub(crate) fn kind_in(form: Form, body: &[u8]) -> Kind
+    requires { id_width form ≤ length body.now }
+    ensures { result ≡ is_cie form body.now }
+{
+    if all_ones(&body[..width_of(form)]) {
+        Kind::Cie
+    } else {
+        Kind::Fde
+    }
+}
+
+/// What stands in a section: a gap, or an entry.
+#[derive(Clone, Copy)]
+pub(crate) enum Part<'a> {
+    Gap,
+    Entry(Form, Program<'a>),
+}
+
+/// An entry with its place, and its contents with theirs.
+#[derive(Clone, Copy)]
+pub(crate) struct Placed<'a> {
+    pub(crate) at: u64,
+    pub(crate) form: Form,
+    pub(crate) kind: Kind,
+    pub(crate) contents: Program<'a>,
+}
+
+// The item at the front.
+#[tactic(auto, unfolding(crate::specs::Faults::item_at, dw_num::specs::Reading::take_at))]
+pub(crate) fn next_part<'a>(cursor: &mut Cursor<'a>) -> Result<Part<'a>, Refusal>
+    requires { cursor.old.at + length cursor.old.bytes ≤ 2147483647 }
+    ensures found { IfOk result (λ p. IsItem (item_of p) × Takes cursor.old (item_bytes cursor.old.target.order (item_of p)) cursor.new) }
+    ensures placed { IfOk result (IsPlaced cursor.old) }
+    ensures exact { Gives item_of result (item_at cursor.old) cursor.new }
+{
+    let at = cursor.at();
+    let unit = cursor.unit_length()?;
+    if unit.length == 0 && unit.form == Form::Dwarf32 {
+        return Ok(Part::Gap);
+    }
+    if (cursor.left() as u64) < unit.length {
+        return Err(Refusal {
+            code: Code::EntryPastEnd,
+            at,
+        });
+    }
+    if unit.length < width_of(unit.form) as u64 {
+        return Err(Refusal {
+            code: Code::Truncated,
+            at: cursor.at(),
+        });
+    }
+    let at = cursor.at();
+    let bytes = cursor.take(unit.length as usize)?;
+    Ok(Part::Entry(unit.form, Program { bytes, at }))
+}
+
+// The next entry of a section that has a cut, or none behind the last one.
+#[inline(always)]
+pub(crate) fn next_piece<'a>(cursor: &mut Cursor<'a>) -> Option<Placed<'a>>
+    requires room { cursor.old.at + length cursor.old.bytes ≤ 2147483647 }
+    requires cut { (ps : List Piece) × PiecesLeft cursor.old ps }
+    ensures gives { (ps : List Piece) → PiecesLeft cursor.old ps → GivesPiece cursor.new result ps }
+    ensures on { GoesOn cursor.old result cursor.new }
+    ensures below { IfSome result (λ p. p.at ≤ 2147483647) }
+{
+    'gaps: while cursor.left() > 0 {
+        let at = cursor.at();
+        match next_part(cursor) {
+            Ok(Part::Gap) => {}
+            Ok(Part::Entry(form, contents)) => {
+                return Some(Placed {
+                    at,
+                    form,
+                    kind: kind_in(form, contents.bytes),
+                    contents,
+                });
+            }
+            Err(_) => return None,
+        }
+    }
+    None
+}
+
+// A cursor over a section that is not too long.
+fn start<'a>(bytes: &'a [u8], target: Target) -> Result<Cursor<'a>, Refusal>
+    ensures found { IfOk result (λ c. (c ≡ record { at = 0; bytes = bytes.now; target = target }) × (length bytes.now ≤ 2147483647)) }
+    ensures stuck { IfErr result (λ r. (2147483647 < length bytes.now) × (r ≡ record { code = SectionTooLarge; at = 0 })) }
+{
+    if bytes.len() > MOST {
+        return Err(Refusal {
+            code: Code::SectionTooLarge,
+            at: 0,
+        });
+    }
+    Ok(Cursor::new(bytes, 0, target))
+}
+
+// One entry more.
+fn counted(counts: EntryCounts, kind: Kind) -> EntryCounts
+    requires { counts.cies + counts.fdes ≤ 2147483647 }
+    ensures { result ≡ counted_by counts kind }
+{
+    match kind {
+        Kind::Cie => EntryCounts {
+            cies: counts.cies + 1,
+            fdes: counts.fdes,
+        },
+        Kind::Fde => EntryCounts {
+            cies: counts.cies,
+            fdes: counts.fdes + 1,
+        },
+    }
+}
+
+/// Cuts a section, and counts its entries. Takes no memory.
+pub(crate) fn cut(bytes: &[u8], target: Target) -> Result<EntryCounts, Refusal>
+    ensures found { IfOk result (λ n. (ps : List Piece) × Pieces target bytes.now ps × AreCounts ps n) }
+    ensures first { IfErr result (CutFault target bytes.now) }
+{
+    let mut cursor = start(bytes, target)?;
+    let mut counts = EntryCounts { cies: 0, fdes: 0 };
+    'items: while cursor.left() > 0 {
+        match next_part(&mut cursor)? {
+            Part::Gap => {}
+            Part::Entry(form, contents) => {
+                counts = counted(counts, kind_in(form, contents.bytes));
+            }
+        }
+    }
+    Ok(counts)
+}
+
+fn all_entries(alloc: Global, bytes: &[u8], target: Target) -> Result<Vec<Entry>, ReadError>
+    ensures found { IfOk result (λ v. Entries target bytes.now v.items) }
+    ensures first { IfErr result (Refuses (CutFault target bytes.now)) }
+{
+    let mut cursor = start(bytes, target)?;
+    let mut found = Vec::new(alloc);
+    'items: while cursor.left() > 0 {
+        let at = cursor.at();
+        match next_part(&mut cursor)? {
+            Part::Gap => {}
+            Part::Entry(form, contents) => found.push(Entry {
+                at,
+                kind: kind_in(form, contents.bytes),
+                form,
+                length: contents.bytes.len() as u64,
+            })?,
+        }
+    }
+    Ok(found)
+}
+
+/// The entries of a section in order of place, CIEs and FDEs of both forms, gaps left out. Their fields and
+/// programs are not looked at.
+///
+/// A refusal is the first fault of the cut: `SectionTooLarge` above 2,147,483,647 bytes, then by place
+/// `Truncated` or `ReservedLength` in a length, `EntryPastEnd`, and `Truncated` for an entry that is too short
+/// for its first field. The one memory that it takes is the list's.
+pub fn entries(alloc: Global, bytes: &[u8], target: Target) -> Result<Vec<Entry>, ReadError>
+    // They are the entries of the section's cut.
+    ensures found { IfOk result (λ v. Entries target bytes.now v.items) }
+    // A section that has a cut is not refused.
+    ensures only { (es : List Entry) → Entries target bytes.now es → MatchResult result (λ v. v.items ≡ es) (λ e. e ≡ OutOfMemory) }
+    // A refusal is the first fault.
+    ensures first { IfErr result (Refuses (CutFault target bytes.now)) }
+    // Its place is in the section or at its end.
+    ensures within { IfErr result (Refuses (IsWithin bytes.now)) }
+{
+    all_entries(alloc, bytes, target)
+}
+
+/// A section has at most one cut.
+pub fn one_cut()
+    ensures { (order : Order) (s : List ℕ) (items others : List Item) → Cut order s items → Cut order s others → items ≡ others }
+{}
+
+/// A section has at most one first fault of its cut, and none where it has entries.
+pub fn one_cut_fault()
+    ensures one { (target : Target) (s : List ℕ) (r q : Refusal) → CutFault target s r → CutFault target s q → r ≡ q }
+    ensures apart { (target : Target) (s : List ℕ) (r : Refusal) (es : List Entry) → CutFault target s r → Entries target s es → ⊥ }
+{}

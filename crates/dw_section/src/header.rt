@@ -1,0 +1,298 @@
+//! The headers of a section: the fields of its entries.
+
+ghost use Rattle.std.specs.Prelude.{◌≡◌, ℕ, ◌+◌, ◌≤◌, List, [], ◌∷◌, ◌++◌, length, map, IfOk, IfErr, IfSome, OnOk, MatchResult};
+ghost use Rattle.dw_section.specs.Cut.{Piece};
+ghost use Rattle.std.specs.List.{AllByRecursion, AllZip};
+ghost use Rattle.dw_num.specs.Span.{span_of};
+ghost use Rattle.dw_num.specs.declared.error.ReadError.TheVariants.{OutOfMemory};
+ghost use Rattle.dw_num.specs.Refusals.{Refuses};
+ghost use Rattle.dw_section.specs.declared.entry.Kind.TheVariants as kind;
+ghost use Rattle.dw_num.specs.declared.target.Target.{Target};
+ghost use Rattle.dw_num.specs.declared.refusal.Refusal.{Refusal};
+ghost use Rattle.dw_section.specs.Overlap.{Range, IsIndex};
+ghost use Rattle.dw_section.specs.Stage.{FirstStuck};
+ghost use Rattle.dw_section.specs.Inner.Stage.{Answers};
+ghost use Rattle.dw_section.specs.FaultPlaces.{IsWithin};
+ghost use Rattle.dw_section.specs.Pieces.{Pieces};
+ghost use Rattle.dw_section.specs.Inner.Pieces.{piece_in};
+ghost use Rattle.dw_section.specs.Places.{cie_places};
+ghost use Rattle.dw_section.specs.Inner.Places.{Rises};
+ghost use Rattle.dw_section.specs.Inner.Heads.{head_at};
+ghost use Rattle.dw_section.specs.Inner.Left.{HeadsLeft, GivesHead, GoesOn};
+ghost use Rattle.dw_section.specs.Inner.Reading.{cie_at, fde_at, program_of};
+ghost use Rattle.dw_section.specs.Headers.{Head, Has, Headers, head_in, CieHolds, CieStuck, FdeHolds, FdeStuck, HeadersFault};
+
+use crate::entry::{Kind, Placed, cut, next_piece, width_of};
+use crate::fields::{read_cie, read_fde};
+use dw_num::{Cursor, Form, Program, ReadError, Refusal, Target, are_bytes};
+use std::alloc::Global;
+
+/// The fields of an entry (6.4.1). Its program is the rest of the entry's contents, nops among it. `at` is the
+/// place of the entry's first byte, `cie_at` that of the CIE that an FDE names; `begin` and `range` are in
+/// addresses, and their sum is at most 2^N.
+#[derive(Clone, Copy, Debug)]
+pub enum Header<'a> {
+    /// A common information entry, whose `CIE_id` is all ones. Its `version`, `augmentation`, `address_size` and
+    /// `segment_selector_size` are judged, and not kept.
+    Cie {
+        /// The place of its `length`.
+        at: u64,
+        form: Form,
+        /// `code_alignment_factor`.
+        code_factor: u64,
+        /// `data_alignment_factor`.
+        data_factor: i64,
+        /// `return_address_register`.
+        return_register: u16,
+        /// `initial_instructions`, with the padding.
+        program: Program<'a>,
+    },
+    /// A frame description entry.
+    Fde {
+        /// The place of its `length`.
+        at: u64,
+        form: Form,
+        /// `CIE_pointer`: the place of the CIE in the section.
+        cie_at: u64,
+        /// `initial_location`.
+        begin: u64,
+        /// `address_range`.
+        range: u64,
+        /// `instructions`, with the padding.
+        program: Program<'a>,
+    },
+}
+
+// What is left, as a program.
+fn rest_of<'a>(cursor: &Cursor<'a>) -> Program<'a>
+    requires { cursor.now.at + length cursor.now.bytes ≤ 2147483647 }
+    ensures { span_of result ≡ program_of cursor.now }
+{
+    Program {
+        bytes: cursor.rest(),
+        at: cursor.at(),
+    }
+}
+
+#[tactic(auto, unfolding(crate::specs::Inner::Reading::cie_at))]
+pub(crate) fn cie_header<'a>(piece: &Placed<'a>, target: Target) -> Result<Header<'a>, Refusal>
+    requires { piece.now.kind ≡ kind.Cie }
+    ensures exact { Answers head_in result (cie_at target (piece_in piece.now)) }
+    ensures found { (places : List ℕ) → IfOk result (λ h. Has target places (piece_in piece.now) (head_in h)) }
+{
+    let contents = piece.contents;
+    are_bytes(contents.bytes);
+    let mut cursor = Cursor::new(contents.bytes, contents.at, target);
+    let _ = cursor.take(width_of(piece.form))?;
+    let fields = read_cie(&mut cursor)?;
+    Ok(Header::Cie {
+        at: piece.at,
+        form: piece.form,
+        code_factor: fields.code_factor,
+        data_factor: fields.data_factor,
+        return_register: fields.return_register,
+        program: rest_of(&cursor),
+    })
+}
+
+#[tactic(auto, unfolding(crate::specs::Inner::Reading::fde_at))]
+#[inline(always)]
+pub(crate) fn fde_header<'a>(
+    piece: &Placed<'a>,
+    places: &[u64],
+    target: Target,
+) -> Result<Header<'a>, Refusal>
+    requires kind { piece.now.kind ≡ kind.Fde }
+    requires ascending { Rises 0 places.now }
+    ensures exact { Answers head_in result (fde_at target places.now (piece_in piece.now)) }
+    ensures found { IfOk result (λ h. Has target places.now (piece_in piece.now) (head_in h)) }
+{
+    let contents = piece.contents;
+    are_bytes(contents.bytes);
+    let mut cursor = Cursor::new(contents.bytes, contents.at, target);
+    let fields = read_fde(&mut cursor, places, piece.form)?;
+    Ok(Header::Fde {
+        at: piece.at,
+        form: piece.form,
+        cie_at: fields.cie_at,
+        begin: fields.begin,
+        range: fields.range,
+        program: rest_of(&cursor),
+    })
+}
+
+// The header of an entry whose fields hold if it is a CIE.
+#[inline(always)]
+fn header_of<'a>(piece: &Placed<'a>, places: &[u64], target: Target) -> Result<Header<'a>, Refusal>
+    requires holds { CieHolds target (piece_in piece.now) }
+    requires ascending { Rises 0 places.now }
+    ensures found { IfOk result (λ h. Has target places.now (piece_in piece.now) (head_in h)) }
+    ensures stuck { IfErr result (FdeStuck target places.now (piece_in piece.now)) }
+{
+    match piece.kind {
+        Kind::Cie => {
+            // A copy, so that an FDE's piece need not be in memory.
+            let cie = *piece;
+            cie_header(&cie, target)
+        }
+        Kind::Fde => fde_header(piece, places, target),
+    }
+}
+
+// Keeps the place of a piece that is a CIE, whose fields are read.
+fn keep_cie(places: &mut Vec<u64>, piece: &Placed<'_>, target: Target) -> Result<(), ReadError>
+    ensures found { (ps : List Piece) → AllByRecursion (CieHolds target) ps → places.old.items ≡ cie_places ps → OnOk result (AllByRecursion (CieHolds target) (ps ++ piece_in piece.now ∷ []) × (places.new.items ≡ cie_places (ps ++ piece_in piece.now ∷ []))) }
+    ensures first { IfErr result (Refuses (CieStuck target (piece_in piece.now))) }
+{
+    match piece.kind {
+        Kind::Cie => {
+            let cie = *piece;
+            let _ = cie_header(&cie, target)?;
+            places.push(piece.at)?;
+            Ok(())
+        }
+        Kind::Fde => Ok(()),
+    }
+}
+
+/// Reads the fields of the CIEs of a section that has a cut and so many of them, and tells where they stand.
+pub(crate) fn find_cies(
+    alloc: Global,
+    bytes: &[u8],
+    target: Target,
+    count: usize,
+) -> Result<Vec<u64>, ReadError>
+    requires pieces { (ps : List Piece) × Pieces target bytes.now ps }
+    requires count { (ps : List Piece) → Pieces target bytes.now ps → count ≡ length (cie_places ps) }
+    ensures found { (ps : List Piece) → Pieces target bytes.now ps → IfOk result (λ v. AllByRecursion (CieHolds target) ps × (v.items ≡ cie_places ps)) }
+    ensures first { (ps : List Piece) → Pieces target bytes.now ps → IfErr result (Refuses (FirstStuck (CieHolds target) (CieStuck target) ps)) }
+{
+    let mut cursor = Cursor::new(bytes, 0, target);
+    let mut places = Vec::with_capacity(alloc, count)?;
+    'pieces: while let Some(piece) = next_piece(&mut cursor) {
+        keep_cie(&mut places, &piece, target)?;
+        // Often all CIEs stand before the FDEs.
+        if places.len() == count {
+            return Ok(places);
+        }
+    }
+    Ok(places)
+}
+
+// Reads the fields of a piece that is an FDE.
+fn fde_holds(piece: &Placed<'_>, places: &[u64], target: Target) -> Result<(), Refusal>
+    requires { Rises 0 places.now }
+    ensures found { CieHolds target (piece_in piece.now) → IfOk result (λ _. (h : Head) × Has target places.now (piece_in piece.now) h) }
+    ensures stuck { IfErr result (FdeStuck target places.now (piece_in piece.now)) }
+{
+    match piece.kind {
+        Kind::Cie => Ok(()),
+        Kind::Fde => {
+            let _ = fde_header(piece, places, target)?;
+            Ok(())
+        }
+    }
+}
+
+/// Reads the fields of the FDEs of a section that has a cut, behind those of its CIEs.
+pub(crate) fn fdes_hold(bytes: &[u8], target: Target, places: &[u64]) -> Result<(), Refusal>
+    requires ascending { Rises 0 places.now }
+    requires cies { (ps : List Piece) × Pieces target bytes.now ps × AllByRecursion (CieHolds target) ps }
+    ensures found { (ps : List Piece) → Pieces target bytes.now ps → AllByRecursion (CieHolds target) ps → IfOk result (λ _. (hs : List Head) × AllZip (Has target places.now) ps hs) }
+    ensures first { (ps : List Piece) → Pieces target bytes.now ps → AllByRecursion (CieHolds target) ps → IfErr result (FirstStuck (FdeHolds target places.now) (FdeStuck target places.now) ps) }
+{
+    let mut cursor = Cursor::new(bytes, 0, target);
+    'pieces: while let Some(piece) = next_piece(&mut cursor) {
+        fde_holds(&piece, places, target)?;
+    }
+    Ok(())
+}
+
+// The next header of a section that has headers, or none behind the last one.
+#[inline(always)]
+pub(crate) fn next_header<'a>(cursor: &mut Cursor<'a>, places: &[u64]) -> Option<Header<'a>>
+    requires room { cursor.old.at + length cursor.old.bytes ≤ 2147483647 }
+    requires ascending { Rises 0 places.now }
+    requires headers { (hs : List Head) × HeadsLeft places.now cursor.old hs }
+    ensures gives { (hs : List Head) → HeadsLeft places.now cursor.old hs → GivesHead places.now cursor.new result hs }
+    ensures on { GoesOn cursor.old result cursor.new }
+    ensures below { IfSome result (λ h. head_at (head_in h) ≤ 2147483647) }
+{
+    let target = cursor.target();
+    let Some(piece) = next_piece(cursor) else {
+        return None;
+    };
+    match header_of(&piece, places, target) {
+        Ok(header) => Some(header),
+        Err(_) => None,
+    }
+}
+
+// Reads the fields of the entries of a section that has a cut, behind those of its CIEs.
+fn read_headers<'a>(
+    alloc: Global,
+    bytes: &'a [u8],
+    target: Target,
+    places: &[u64],
+    count: usize,
+) -> Result<Vec<Header<'a>>, ReadError>
+    requires ascending { Rises 0 places.now }
+    requires cies { (ps : List Piece) × Pieces target bytes.now ps × AllByRecursion (CieHolds target) ps }
+    ensures found { (ps : List Piece) → Pieces target bytes.now ps → AllByRecursion (CieHolds target) ps → IfOk result (λ v. AllZip (Has target places.now) ps (map head_in v.items)) }
+    ensures first { (ps : List Piece) → Pieces target bytes.now ps → AllByRecursion (CieHolds target) ps → IfErr result (Refuses (FirstStuck (FdeHolds target places.now) (FdeStuck target places.now) ps)) }
+{
+    let mut cursor = Cursor::new(bytes, 0, target);
+    let mut headers = Vec::with_capacity(alloc, count)?;
+    'pieces: while let Some(piece) = next_piece(&mut cursor) {
+        headers.push(header_of(&piece, places, target)?)?;
+    }
+    Ok(headers)
+}
+
+fn all_headers<'a>(
+    alloc: Global,
+    bytes: &'a [u8],
+    target: Target,
+) -> Result<Vec<Header<'a>>, ReadError>
+    ensures found { IfOk result (λ v. Headers target bytes.now (map head_in v.items)) }
+    ensures first { IfErr result (Refuses (HeadersFault target bytes.now)) }
+{
+    let counts = cut(bytes, target)?;
+    let places = find_cies(alloc, bytes, target, counts.cies)?;
+    read_headers(alloc, bytes, target, &places, counts.cies + counts.fdes)
+}
+
+/// The headers of a section in order of place: the fields of each entry, CIEs of versions 1, 3 and 4 in both
+/// forms, and FDEs. Programs are not looked at.
+///
+/// A refusal is the first fault of size and cut, as `entries` has it, then of the fields of CIEs by place (each
+/// from left to right: `Truncated`, `BadVersion`, `Augmentation`, `AddressSize`, `SegmentSelector`,
+/// `NumberTooLarge`, `RegisterTooLarge`), then of the fields of FDEs by place (`Truncated`, `NoSuchCie`,
+/// `RangeTooLarge`). It takes memory for its list and for the places of CIEs; a pointer is looked up by halving.
+pub fn headers<'a>(
+    alloc: Global,
+    bytes: &'a [u8],
+    target: Target,
+) -> Result<Vec<Header<'a>>, ReadError>
+    // They are the headers of the section.
+    ensures found { IfOk result (λ v. Headers target bytes.now (map head_in v.items)) }
+    // A section that has headers is not refused.
+    ensures only { (hs : List Head) → Headers target bytes.now hs → MatchResult result (λ v. map head_in v.items ≡ hs) (λ e. e ≡ OutOfMemory) }
+    // A refusal is the first fault.
+    ensures first { IfErr result (Refuses (HeadersFault target bytes.now)) }
+    // Its place is in the section or at its end.
+    ensures within { IfErr result (Refuses (IsWithin bytes.now)) }
+{
+    all_headers(alloc, bytes, target)
+}
+
+/// A section has at most one first fault, and none where it has headers.
+pub fn one_first_fault()
+    ensures one { (target : Target) (s : List ℕ) (r q : Refusal) → HeadersFault target s r → HeadersFault target s q → r ≡ q }
+    ensures apart { (target : Target) (s : List ℕ) (r : Refusal) (hs : List Head) → HeadersFault target s r → Headers target s hs → ⊥ }
+{}
+
+/// The nonempty FDEs of a section have one order.
+pub fn one_order()
+    ensures { (hs : List Head) (index other : List Range) → IsIndex hs index → IsIndex hs other → index ≡ other }
+{}

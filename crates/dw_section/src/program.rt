@@ -1,0 +1,420 @@
+//! Running the programs of a section's entries (6.4.2, 6.4.3).
+
+ghost use Rattle.std.specs.Prelude.{◌≡◌, ◌+◌, ◌<◌, ℕ, true, false, List, [], ◌∷◌, ◌++◌, length, slice_index_or, map, Some, None, IfOk, IfErr, IfSome, OnOk};
+ghost use Rattle.dw_section.specs.Inner.Left.{AreHeaders};
+ghost use Rattle.std.specs.List.{AllByRecursion};
+ghost use Rattle.dw_num.specs.declared.target.Form.{Form as TheForm};
+ghost use Rattle.dw_num.specs.Refusals.{Refuses};
+ghost use Rattle.dw_num.specs.declared.target.Target.{Target as TheTarget};
+ghost use Rattle.dw_section.specs.declared.program.Initial.{Initial as TheInitial};
+ghost use Rattle.dw_section.specs.declared.program.Long.{Long as TheLong};
+ghost use Rattle.dw_num.specs.Span.{span_of};
+ghost use Rattle.dw_num.specs.Target.{address_limit};
+ghost use Rattle.dw_cfa.specs.declared.instr.Instr.{Instr};
+ghost use Rattle.dw_cfa.specs.declared.execution.LocatedRow.{LocatedRow};
+ghost use Rattle.dw_cfa.specs.Inner.Exact.{RulesBehind};
+ghost use Rattle.dw_cfa.specs.Faults.{CieFault, FdeFault};
+ghost use Rattle.dw_cfa.specs.Following.{with_steps};
+ghost use Rattle.dw_cfa.specs.Lacking.{lacks_from};
+ghost use Rattle.dw_section.specs.Fields.{is_among};
+ghost use Rattle.dw_section.specs.Headers.{Head, Has, CieHolds, cie, fde, head_in};
+ghost use Rattle.dw_section.specs.Inner.Pieces.{piece_in};
+ghost use Rattle.dw_section.specs.Inner.Heads.{FdeFits, IsTyped};
+ghost use Rattle.std.specs.Prelude.{FitsSigned};
+ghost use Rattle.std.specs.Int.{w64};
+ghost use Rattle.dw_section.specs.Inner.Initials.{place_of, IsInitial, IsBehind, IsLong, IsRunner, AreInitials, HasOrLacks};
+ghost use Rattle.dw_section.specs.Inner.Places.{Rises};
+ghost use Rattle.dw_section.specs.Programs.{input_of, IsAmong, CieRuns, CieBroken, FdeRuns, FdeBroken};
+ghost use Rattle.dw_section.specs.Stage.{FirstStuck};
+
+use crate::entry::{Kind, Placed, next_piece};
+use crate::header::{Header, cie_header};
+use dw_cfa::{CieMachine, Factors, behind_laws, initial_row};
+use dw_num::{Cursor, Program, ReadError, Target, are_bytes};
+use std::alloc::{AllocError, Global};
+
+// A CIE program of more bytes is run once, on a machine that is kept for it; others are run again.
+const LONG: usize = 64;
+
+/// What is kept of a CIE: its fields and its program.
+#[derive(Clone, Copy)]
+pub(crate) struct Initial<'a> {
+    pub(crate) at: u64,
+    pub(crate) factors: Factors,
+    pub(crate) return_register: u16,
+    pub(crate) program: Program<'a>,
+}
+
+// A machine behind the program of the CIE at a place.
+#[derive(Drop)]
+struct Long<'a> {
+    at: u64,
+    machine: CieMachine<'a>,
+}
+
+/// The machines that run the programs of FDEs: one that goes from CIE to CIE, and one for each CIE with a long
+/// program, in order of place.
+#[derive(Drop)]
+pub(crate) struct Runner<'a> {
+    machine: CieMachine<'a>,
+    behind: Option<u64>,
+    long: Vec<Long<'a>>,
+}
+
+// Runs a CIE's program.
+fn run_cie<'a>(
+    alloc: Global,
+    at: u64,
+    factors: Factors,
+    return_register: u16,
+    program: Program<'a>,
+    target: Target,
+) -> Result<Initial<'a>, ReadError>
+    ensures place { IfOk result (λ c. c.at ≡ at) }
+    ensures runs { (form : TheForm) → IfOk result (λ _. CieRuns target (cie (record { at = at; form = form; code_factor = factors.code_factor; data_factor = factors.data_factor; return_register = return_register; program = span_of program.entry }))) }
+    ensures found { (hs : List Head) (form : TheForm) → IsAmong (cie (record { at = at; form = form; code_factor = factors.code_factor; data_factor = factors.data_factor; return_register = return_register; program = span_of program.entry })) hs → IfOk result (λ c. IsInitial target hs c) }
+    ensures stuck { IfErr result (Refuses (CieFault factors (input_of target (span_of program.entry)))) }
+{
+    let _row = initial_row(alloc, program, factors, target)?;
+    Ok(Initial {
+        at,
+        factors,
+        return_register,
+        program,
+    })
+}
+
+fn is_signed(number: i64)
+    ensures { FitsSigned w64 number }
+{
+    let _ = number;
+}
+
+// The data factor of a CIE is of its type.
+fn is_typed(header: &Header<'_>)
+    ensures { IsTyped (head_in header.now) }
+{
+    match *header {
+        Header::Cie { data_factor, .. } => is_signed(data_factor),
+        Header::Fde { .. } => (),
+    }
+}
+
+// Runs the program of a header that is a CIE's, and keeps what its FDEs begin with.
+fn keep_initial<'a>(
+    initials: &mut Vec<Initial<'a>>,
+    header: &Header<'a>,
+    target: Target,
+) -> Result<(), ReadError>
+    ensures found { (hs front : List Head) → IsAmong (head_in header.now) hs → AreInitials target hs front initials.old.items → OnOk result (AreInitials target hs (front ++ head_in header.now ∷ []) initials.new.items) }
+    ensures first { IfErr result (Refuses (CieBroken target (head_in header.now))) }
+{
+    is_typed(header);
+    let alloc = *initials.allocator();
+    match *header {
+        Header::Cie {
+            at,
+            form: _,
+            code_factor,
+            data_factor,
+            return_register,
+            program,
+        } => {
+            let factors = Factors {
+                code_factor,
+                data_factor,
+            };
+            initials.push(run_cie(alloc, at, factors, return_register, program, target)?)?;
+            Ok(())
+        }
+        Header::Fde { .. } => Ok(()),
+    }
+}
+
+// The same of a piece; an FDE's fields are not read.
+fn keep_piece<'a>(
+    initials: &mut Vec<Initial<'a>>,
+    piece: &Placed<'a>,
+    target: Target,
+) -> Result<(), ReadError>
+    requires { CieHolds target (piece_in piece.now) }
+    ensures found { (hs front : List Head) (places : List ℕ) (h : Head) → Has target places (piece_in piece.now) h → IsAmong h hs → AreInitials target hs front initials.old.items → OnOk result (AreInitials target hs (front ++ h ∷ []) initials.new.items) }
+    ensures first { (places : List ℕ) (h : Head) → Has target places (piece_in piece.now) h → IfErr result (Refuses (CieBroken target h)) }
+{
+    match piece.kind {
+        Kind::Cie => {
+            let cie = *piece;
+            match cie_header(&cie, target) {
+                Ok(header) => keep_initial(initials, &header, target),
+                Err(_) => Ok(()),
+            }
+        }
+        Kind::Fde => Ok(()),
+    }
+}
+
+/// Runs the programs of the CIEs of a section that has headers, and keeps what their FDEs begin with.
+pub(crate) fn run_cies<'a>(
+    alloc: Global,
+    bytes: &'a [u8],
+    target: Target,
+    places: &[u64],
+) -> Result<Vec<Initial<'a>>, ReadError>
+    requires ascending { Rises 0 places.now }
+    requires headers { (hs : List Head) × AreHeaders target bytes.now places.now hs }
+    ensures found { (hs : List Head) → AreHeaders target bytes.now places.now hs → IfOk result (λ v. AreInitials target hs hs v.items) }
+    ensures first { (hs : List Head) → AreHeaders target bytes.now places.now hs → IfErr result (Refuses (FirstStuck (CieRuns target) (CieBroken target) hs)) }
+{
+    let mut cursor = Cursor::new(bytes, 0, target);
+    let mut initials = Vec::with_capacity(alloc, places.len())?;
+    'pieces: while let Some(piece) = next_piece(&mut cursor) {
+        keep_piece(&mut initials, &piece, target)?;
+        // Often all CIEs stand before the FDEs.
+        if initials.len() == places.len() {
+            return Ok(initials);
+        }
+    }
+    Ok(initials)
+}
+
+// Where among them the one of the CIE at a place stands.
+fn index_of(initials: &[Initial<'_>], place: u64) -> usize
+    requires ascending { Rises 0 (map place_of initials.now) }
+    requires among { is_among place (map place_of initials.now) ≡ true }
+    ensures in_list { result < length initials.now }
+    ensures place { (d : TheInitial) → (slice_index_or initials.now result d).at ≡ place }
+{
+    initials.partition_point(|initial| initial.at < place)
+}
+
+/// What the FDEs of the CIE at a place begin with.
+pub(crate) fn initial_at<'c, 'a>(initials: &'c [Initial<'a>], place: u64) -> &'c Initial<'a>
+    requires ascending { Rises 0 (map place_of initials.now) }
+    requires among { is_among place (map place_of initials.now) ≡ true }
+    ensures place { result.now.at ≡ place }
+    ensures is { (target : TheTarget) (hs : List Head) → AllByRecursion (IsInitial target hs) initials.now → IsInitial target hs result.now }
+{
+    &initials[index_of(initials, place)]
+}
+
+// Runs an FDE's program, and says whether one of its addresses has no rule for the CFA.
+fn run_fde<'a>(
+    machine: &mut CieMachine<'a>,
+    program: Program<'a>,
+    begin: u64,
+    range: u64,
+) -> Result<bool, ReadError>
+    requires { begin < address_limit machine.old.target.size }
+    ensures found { IfOk result (λ lacks. (instrs : List Instr) × (rows : List LocatedRow) × RulesBehind machine.old.factors machine.old.initial (input_of machine.old.target (span_of program.entry)) begin instrs rows × (lacks ≡ lacks_from (begin + range) begin false rows)) }
+    ensures stuck { IfErr result (Refuses (FdeFault machine.old.factors machine.old.initial.cfa (input_of machine.old.target (span_of program.entry)) begin)) }
+    ensures same { machine.new ≡ with_steps machine.old machine.new.steps }
+{
+    are_bytes(program.bytes);
+    behind_laws();
+    let _ = machine.initial().specified();
+    machine.begin(program, begin)?;
+    let lacks = machine.lacks_rule(u128::from(begin) + u128::from(range))?;
+    Ok(lacks)
+}
+
+// A machine behind a CIE's program, which ran before.
+fn machine_of<'a>(
+    alloc: Global,
+    initial: &Initial<'a>,
+    target: Target,
+) -> Result<CieMachine<'a>, AllocError>
+    ensures { (hs : List Head) → IsInitial target hs initial.now → IfOk result (IsBehind target hs (Some initial.now.at)) }
+{
+    are_bytes(initial.program.bytes);
+    match CieMachine::new(alloc, initial.program, initial.factors, target) {
+        Ok(machine) => Ok(machine),
+        Err(_) => Err(AllocError),
+    }
+}
+
+// Keeps a machine for a CIE, where its program is long.
+fn keep_long<'a>(
+    long: &mut Vec<Long<'a>>,
+    initial: &Initial<'a>,
+    target: Target,
+) -> Result<(), AllocError>
+    ensures { (hs : List Head) → IsInitial target hs initial.now → AllByRecursion (IsLong target hs) long.old.items → OnOk result (AllByRecursion (IsLong target hs) long.new.items) }
+{
+    if initial.program.bytes.len() <= LONG {
+        return Ok(());
+    }
+    let alloc = *long.allocator();
+    let machine = machine_of(alloc, initial, target)?;
+    long.push(Long {
+        at: initial.at,
+        machine,
+    })?;
+    Ok(())
+}
+
+// A machine for each CIE with a long program.
+fn long_machines<'a>(
+    alloc: Global,
+    initials: &[Initial<'a>],
+    target: Target,
+) -> Result<Vec<Long<'a>>, AllocError>
+    ensures { (hs : List Head) → AllByRecursion (IsInitial target hs) initials.now → IfOk result (λ v. AllByRecursion (IsLong target hs) v.items) }
+{
+    let mut long = Vec::new(alloc);
+    for initial in initials {
+        keep_long(&mut long, initial, target)?;
+    }
+    Ok(long)
+}
+
+impl<'a> Runner<'a> {
+    /// The machines for the FDEs of these CIEs.
+    pub(crate) fn new(
+        alloc: Global,
+        initials: &[Initial<'a>],
+        target: Target,
+    ) -> Result<Runner<'a>, AllocError>
+        ensures { (hs : List Head) → AllByRecursion (IsInitial target hs) initials.now → IfOk result (IsRunner target hs) }
+    {
+        let nothing = Initial {
+            at: 0,
+            factors: Factors {
+                code_factor: 1,
+                data_factor: 1,
+            },
+            return_register: 0,
+            program: Program { bytes: &[], at: 0 },
+        };
+        Ok(Runner {
+            machine: machine_of(alloc, &nothing, target)?,
+            behind: None,
+            long: long_machines(alloc, initials, target)?,
+        })
+    }
+}
+
+// Runs the program of the CIE at a place on a new machine, which FDEs of another CIE than the one before need. Out of
+// line: room for the machine is cleared at each call.
+#[inline(never)]
+fn go_behind<'a>(
+    alloc: Global,
+    runner: &mut Runner<'a>,
+    initials: &[Initial<'a>],
+    place: u64,
+    target: Target,
+) -> Result<(), AllocError>
+    requires ascending { Rises 0 (map place_of initials.now) }
+    requires among { is_among place (map place_of initials.now) ≡ true }
+    ensures { (hs : List Head) → AllByRecursion (IsInitial target hs) initials.now → IsRunner target hs runner.old → OnOk result ((runner.new.behind ≡ Some place) × IsRunner target hs runner.new) }
+{
+    runner.machine = machine_of(alloc, initial_at(initials, place), target)?;
+    runner.behind = Some(place);
+    Ok(())
+}
+
+// Puts the machine that goes from CIE to CIE behind the program of the one at a place.
+fn follow<'a>(
+    alloc: Global,
+    runner: &mut Runner<'a>,
+    initials: &[Initial<'a>],
+    place: u64,
+    target: Target,
+) -> Result<(), AllocError>
+    requires ascending { Rises 0 (map place_of initials.now) }
+    requires among { is_among place (map place_of initials.now) ≡ true }
+    ensures { (hs : List Head) → AllByRecursion (IsInitial target hs) initials.now → IsRunner target hs runner.old → OnOk result ((runner.new.behind ≡ Some place) × IsRunner target hs runner.new) }
+{
+    if let Some(before) = runner.behind
+        && before == place
+    {
+        return Ok(());
+    }
+    go_behind(alloc, runner, initials, place, target)
+}
+
+// Where the machine of the CIE at a place stands, if one is kept for it.
+fn long_at(long: &[Long<'_>], place: u64) -> Option<usize>
+    ensures { IfSome result (λ i. (i < length long.now) × ((d : TheLong) → (slice_index_or long.now i d).at ≡ place)) }
+{
+    let index = long.partition_point(|long| long.at < place);
+    if index < long.len() && long[index].at == place {
+        Some(index)
+    } else {
+        None
+    }
+}
+
+// Runs an FDE's program on one of the machines that are kept.
+fn run_long<'a>(
+    long: &mut Vec<Long<'a>>,
+    index: usize,
+    program: Program<'a>,
+    begin: u64,
+    range: u64,
+    target: Target,
+) -> Result<bool, ReadError>
+    requires in_list { index < length long.old.items }
+    requires begin { begin < address_limit target.size }
+    requires each { (hs : List Head) × AllByRecursion (IsLong target hs) long.old.items }
+    ensures found { (hs : List Head) (at : ℕ) (form : TheForm) (place : ℕ) → ((d : TheLong) → (slice_index_or long.old.items index d).at ≡ place) → AllByRecursion (IsLong target hs) long.old.items → IfOk result (λ lacks. FdeRuns target hs (fde (record { at = at; form = form; cie_at = place; begin = begin; range = range; program = span_of program.entry })) × HasOrLacks target hs (fde (record { at = at; form = form; cie_at = place; begin = begin; range = range; program = span_of program.entry })) lacks) }
+    ensures stuck { (hs : List Head) (at : ℕ) (form : TheForm) (place : ℕ) → ((d : TheLong) → (slice_index_or long.old.items index d).at ≡ place) → AllByRecursion (IsLong target hs) long.old.items → IfErr result (Refuses (FdeBroken target hs (fde (record { at = at; form = form; cie_at = place; begin = begin; range = range; program = span_of program.entry })))) }
+    ensures each { (hs : List Head) → AllByRecursion (IsLong target hs) long.old.items → AllByRecursion (IsLong target hs) long.new.items }
+{
+    let kept = &mut long[index];
+    run_fde(&mut kept.machine, program, begin, range)
+}
+
+// Runs an FDE's program behind the program of the CIE at a place, and says whether one of its addresses has no rule for
+// the CFA.
+fn run_behind<'a>(
+    alloc: Global,
+    runner: &mut Runner<'a>,
+    initials: &[Initial<'a>],
+    place: u64,
+    program: Program<'a>,
+    begin: u64,
+    range: u64,
+    target: Target,
+) -> Result<bool, ReadError>
+    requires ascending { Rises 0 (map place_of initials.now) }
+    requires among { is_among place (map place_of initials.now) ≡ true }
+    requires begin { begin < address_limit target.size }
+    requires each { (hs : List Head) × AllByRecursion (IsInitial target hs) initials.now × IsRunner target hs runner.old }
+    ensures found { (hs : List Head) (at : ℕ) (form : TheForm) → AllByRecursion (IsInitial target hs) initials.now → IsRunner target hs runner.old → IfOk result (λ lacks. FdeRuns target hs (fde (record { at = at; form = form; cie_at = place; begin = begin; range = range; program = span_of program.entry })) × HasOrLacks target hs (fde (record { at = at; form = form; cie_at = place; begin = begin; range = range; program = span_of program.entry })) lacks × IsRunner target hs runner.new) }
+    ensures stuck { (hs : List Head) (at : ℕ) (form : TheForm) → AllByRecursion (IsInitial target hs) initials.now → IsRunner target hs runner.old → IfErr result (Refuses (FdeBroken target hs (fde (record { at = at; form = form; cie_at = place; begin = begin; range = range; program = span_of program.entry })))) }
+{
+    if let Some(index) = long_at(&runner.long, place) {
+        return run_long(&mut runner.long, index, program, begin, range, target);
+    }
+    follow(alloc, runner, initials, place, target)?;
+    run_fde(&mut runner.machine, program, begin, range)
+}
+
+// Runs the program of an FDE, and says whether one of its addresses has no rule for the CFA.
+pub(crate) fn judge<'a>(
+    alloc: Global,
+    runner: &mut Runner<'a>,
+    header: &Header<'a>,
+    initials: &[Initial<'a>],
+    target: Target,
+) -> Result<bool, ReadError>
+    requires ascending { Rises 0 (map place_of initials.now) }
+    requires fits { FdeFits target (map place_of initials.now) (head_in header.now) }
+    requires each { (hs : List Head) × AllByRecursion (IsInitial target hs) initials.now × IsRunner target hs runner.old }
+    ensures found { (hs : List Head) → AllByRecursion (IsInitial target hs) initials.now → IsRunner target hs runner.old → IfOk result (λ lacks. FdeRuns target hs (head_in header.now) × HasOrLacks target hs (head_in header.now) lacks × IsRunner target hs runner.new) }
+    ensures stuck { (hs : List Head) → AllByRecursion (IsInitial target hs) initials.now → IsRunner target hs runner.old → IfErr result (Refuses (FdeBroken target hs (head_in header.now))) }
+{
+    match *header {
+        Header::Cie { .. } => Ok(false),
+        Header::Fde {
+            at: _,
+            form: _,
+            cie_at,
+            begin,
+            range,
+            program,
+        } => run_behind(
+            alloc, runner, initials, cie_at, program, begin, range, target,
+        ),
+    }
+}

@@ -1,0 +1,88 @@
+//! Counting the rows that programs start (6.4.3).
+
+ghost use Rattle.std.specs.Prelude.{◌≡◌, ◌+◌, ◌≤◌, ℕ, List, length, map};
+ghost use Rattle.std.specs.List.{AllByRecursion, AllZip};
+ghost use Rattle.dw_cfa.specs.Listing.{answers};
+ghost use Rattle.dw_section.specs.Inner.Counted.{starts_row, moves_in, IsProgram, StartsOf};
+ghost use Rattle.dw_section.specs.Meaning.{RowStarts, Starts, total};
+ghost use Rattle.dw_num.specs.Input.{AreBytes};
+ghost use Rattle.dw_section.specs.Accepted.{RulesHold};
+ghost use Rattle.dw_section.specs.Headers.{Head};
+ghost use Rattle.dw_section.specs.Inner.Index.{range_in, IsRanged};
+ghost use Rattle.dw_section.specs.Inner.Initials.{AreInitials};
+ghost use Rattle.dw_section.specs.Inner.Left.{AreHeaders};
+
+use crate::fde_range::Ranged;
+use crate::listed_fde::{FoundFde, found_fde};
+use crate::program::Initial;
+use crate::table::Table;
+use dw_cfa::{Instr, Instructions};
+use dw_num::{Refusal, Target, are_bytes};
+
+fn starts_row(answer: &Result<Instr<'_>, Refusal>) -> bool
+    ensures { result ≡ starts_row answer.now }
+{
+    matches!(answer, Ok(Instr::SetLoc(_) | Instr::Advance(_)))
+}
+
+// One more than the instructions that start a row.
+fn count_starts(instrs: &mut Instructions<'_>) -> u64
+    requires { length (answers instrs.old) ≤ 2147483647 }
+    ensures bound { result ≤ 2147483648 }
+    ensures counted { result ≡ 1 + moves_in (answers instrs.old) }
+{
+    let mut starts: u64 = 1;
+    'instrs: while let Some(answer) = instrs.next() {
+        if starts_row(&answer) {
+            starts += 1;
+        }
+    }
+    starts
+}
+
+// How many rows an FDE's program starts.
+fn starts_of(fde: &FoundFde<'_>, target: Target) -> u64
+    requires { IsProgram target fde.now }
+    ensures bound { result ≤ 2147483648 }
+    ensures counted { StartsOf target fde.now result }
+{
+    let mut instrs = Instructions::new(fde.program, fde.factors, target);
+    count_starts(&mut instrs)
+}
+
+fn sum_starts<'a>(
+    bytes: &'a [u8],
+    target: Target,
+    places: &[u64],
+    initials: &[Initial<'a>],
+    index: &[Ranged],
+) -> u64
+    requires few { length index.now ≤ 2147483647 }
+    requires bytes { AreBytes bytes.now }
+    requires headers { (hs : List Head) × AreHeaders target bytes.now places.now hs × RulesHold target bytes.now hs × AreInitials target hs hs initials.now × AllByRecursion (IsRanged hs) index.now }
+    ensures { (hs : List Head) → AreHeaders target bytes.now places.now hs → RulesHold target bytes.now hs → AreInitials target hs hs initials.now → AllByRecursion (IsRanged hs) index.now → (counts : List ℕ) × AllZip (Starts target bytes.now) (map range_in index.now) counts × (result ≡ total counts) }
+{
+    let mut sum = 0;
+    for fde in index {
+        let found = found_fde(bytes, target, places, initials, fde);
+        sum += starts_of(&found, target);
+    }
+    sum
+}
+
+impl<'a> Table<'a> {
+    /// How many rows the programs of all nonempty FDEs start, one each and one for each instruction that moves the
+    /// location. Takes no memory.
+    pub fn row_starts(&self) -> u64
+        ensures { RowStarts self.now.target self.now.bytes result }
+    {
+        are_bytes(self.bytes);
+        sum_starts(
+            self.bytes,
+            self.target,
+            &self.places,
+            &self.initials,
+            &self.index,
+        )
+    }
+}

@@ -1,0 +1,354 @@
+//! FDEs that are read at their places in bytes that were not checked (6.4.1).
+
+ghost use Rattle.std.specs.Prelude.{◌≡◌, ◌+◌, ◌<◌, ◌≤◌, ℕ, true, false, List, length, map, slice_index_or, Some, None, IfOk, IfErr, IfSome, IsSome, OnOk, MatchOption, MatchResult};
+ghost use Rattle.dw_cfa.specs.RuleAt.{last_at};
+ghost use Rattle.dw_cfa.specs.Gives.{RunsTo};
+ghost use Rattle.dw_section.specs.Cut.{Piece};
+ghost use Rattle.dw_section.specs.declared.entry.Kind.TheVariants as kind;
+ghost use Rattle.dw_section.specs.declared.fields.FdeFields.{FdeFields};
+ghost use Rattle.dw_num.specs.Refusals.{Refuses};
+ghost use Rattle.dw_num.specs.Span.{Span, span_of};
+ghost use Rattle.dw_num.specs.Target.{address_limit};
+ghost use Rattle.dw_section.specs.Headers.{Head, IsFde, head_in};
+ghost use Rattle.dw_section.specs.Programs.{input_of};
+ghost use Rattle.dw_section.specs.declared.fde_range.Ranged.{Ranged as TheRanged};
+ghost use Rattle.dw_section.specs.Inner.Index.{range_in};
+ghost use Rattle.dw_section.specs.Inner.Lookup.{fde_in, fde_of, rows_of};
+ghost use Rattle.dw_section.specs.Meaning.{AreFdes, Covers, NoneCovers, Returns, RulesAt};
+ghost use Rattle.dw_section.specs.Meanings.{IsListed};
+ghost use Rattle.dw_section.specs.Accepted.{RulesHold};
+ghost use Rattle.dw_section.specs.Inner.Table.{IsTable};
+ghost use Rattle.dw_section.specs.declared.lookup.Fde.{Fde as TheFde};
+ghost use Rattle.dw_section.specs.declared.standing_fde.LookUpError.TheVariants as LookUpError;
+ghost use Rattle.dw_section.specs.Overlap.{Ascends, AreApart, Range};
+ghost use Rattle.std.specs.Bool.{MatchBool};
+ghost use Rattle.dw_section.specs.Inner.Pieces.{piece_in};
+ghost use Rattle.dw_section.specs.Standing.{RulesOf, StandsIn};
+ghost use Rattle.dw_section.specs.Inner.Standing.{AreJoined, FoundStands, StandsAt, is_fde, of_steps};
+
+use crate::entry::{Kind, MOST, Part, Placed, kind_in, next_part, width_of};
+use crate::fde_range::Ranged;
+use crate::header::{Header, cie_header, fde_header};
+use crate::listed_fde::FoundFde;
+use crate::lookup::Fde;
+use dw_cfa::{Factors, RowRoom};
+use dw_num::{Code, Cursor, ReadError, Refusal, Target, are_bytes};
+use std::marker::Model;
+
+// The entry that stands at a place, or none, or what is wrong there.
+#[inline(always)]
+fn piece_at<'a>(bytes: &'a [u8], at: u64, target: Target) -> Result<Option<Placed<'a>>, Refusal>
+    requires { length bytes.now ≤ 2147483647 }
+    ensures found { IfOk result (λ o. IfSome o (λ p. (p.at ≡ at) × StandsIn target.order bytes.now (piece_in p))) }
+    ensures only { (p : Piece) → StandsIn target.order bytes.now p → p.at ≡ at → MatchResult result (λ o. MatchOption o ⊥ (λ q. piece_in q ≡ p)) (λ _. ⊥) }
+{
+    if at >= bytes.len() as u64 {
+        return Ok(None);
+    }
+    let mut cursor = Cursor::new(&bytes[at as usize..], at, target);
+    match next_part(&mut cursor)? {
+        Part::Gap => Ok(None),
+        Part::Entry(form, contents) => Ok(Some(Placed {
+            at,
+            form,
+            kind: kind_in(form, contents.bytes),
+            contents,
+        })),
+    }
+}
+
+// The CIE that stands at a place, or none, or what is wrong there.
+#[inline(always)]
+fn cie_at<'a>(bytes: &'a [u8], at: u64, target: Target) -> Result<Option<Placed<'a>>, Refusal>
+    requires { length bytes.now ≤ 2147483647 }
+    ensures found { IfOk result (λ o. IfSome o (λ p. (p.at ≡ at) × (p.kind ≡ kind.Cie) × StandsIn target.order bytes.now (piece_in p))) }
+    ensures only { (p : Piece) → StandsIn target.order bytes.now p → p.at ≡ at → p.kind ≡ kind.Cie → MatchResult result (λ o. MatchOption o ⊥ (λ q. piece_in q ≡ p)) (λ _. ⊥) }
+{
+    let Some(piece) = piece_at(bytes, at, target)? else {
+        return Ok(None);
+    };
+    match piece.kind {
+        Kind::Cie => Ok(Some(piece)),
+        Kind::Fde => Ok(None),
+    }
+}
+
+// The first field of an FDE: the place of its CIE.
+#[inline(always)]
+fn pointer_of(piece: &Placed<'_>, target: Target) -> Result<u64, Refusal>
+    ensures { (places : List ℕ) (f : FdeFields) (program : Span) → IsFde target places (piece_in piece.now) f program → MatchResult result (λ at. at ≡ f.cie_at) (λ _. ⊥) }
+{
+    let contents = piece.contents;
+    let mut cursor = Cursor::new(contents.bytes, contents.at, target);
+    cursor.fixed(width_of(piece.form))
+}
+
+// What is said of an FDE by its own header and by that of its CIE.
+#[inline(always)]
+fn joined<'a>(own: &Header<'a>, named: &Header<'a>) -> Option<FoundFde<'a>>
+    ensures found { IfSome result (λ e. AreJoined (head_in own.now) (head_in named.now) e) }
+    ensures only { is_fde (head_in own.now) ≡ true → is_fde (head_in named.now) ≡ false → IsSome result }
+{
+    let Header::Fde {
+        at,
+        form: _,
+        cie_at: _,
+        begin,
+        range,
+        program,
+    } = *own
+    else {
+        return None;
+    };
+    let Header::Cie {
+        at: _,
+        form: _,
+        code_factor,
+        data_factor,
+        return_register,
+        program: cie_program,
+    } = *named
+    else {
+        return None;
+    };
+    Some(FoundFde {
+        at,
+        begin,
+        range,
+        program,
+        cie_program,
+        factors: Factors {
+            code_factor,
+            data_factor,
+        },
+        return_register,
+    })
+}
+
+// The FDE that is this entry, with what the CIE that it names says, or what is wrong in either.
+#[inline(always)]
+fn fde_in<'a>(
+    bytes: &'a [u8],
+    own: &Placed<'a>,
+    target: Target,
+) -> Result<Option<FoundFde<'a>>, Refusal>
+    requires few { length bytes.now ≤ 2147483647 }
+    requires kind { own.now.kind ≡ kind.Fde }
+    requires stands { StandsIn target.order bytes.now (piece_in own.now) }
+    ensures found { IfOk result (λ o. IfSome o (λ e. (e.at ≡ own.now.at) × FoundStands target bytes.now e)) }
+    ensures only { StandsAt target bytes.now own.now.at → MatchResult result IsSome (λ _. ⊥) }
+{
+    let pointer = pointer_of(own, target)?;
+    let Some(named) = cie_at(bytes, pointer, target)? else {
+        return Err(Refusal {
+            code: Code::NoSuchCie,
+            at: own.contents.at,
+        });
+    };
+    let header = fde_header(own, &[pointer], target)?;
+    let cie = cie_header(&named, target)?;
+    Ok(joined(&header, &cie))
+}
+
+// The FDE that stands at a place, or none, or what is wrong there.
+#[inline(always)]
+fn standing<'a>(bytes: &'a [u8], at: u64, target: Target) -> Result<Option<FoundFde<'a>>, Refusal>
+    requires { length bytes.now ≤ 2147483647 }
+    ensures found { IfOk result (λ o. IfSome o (λ e. (e.at ≡ at) × FoundStands target bytes.now e)) }
+    ensures only { StandsAt target bytes.now at → MatchResult result IsSome (λ _. ⊥) }
+{
+    let Some(piece) = piece_at(bytes, at, target)? else {
+        return Ok(None);
+    };
+    match piece.kind {
+        Kind::Cie => Ok(None),
+        Kind::Fde => fde_in(bytes, &piece, target),
+    }
+}
+
+// How many entries of an index begin at or below an address, where begins ascend.
+fn begun(index: &[Ranged], address: u64) -> usize
+    ensures bound { result ≤ length index.now }
+    ensures below { Ascends (map range_in index.now) → (k : ℕ) (d : TheRanged) → k < result → (slice_index_or index.now k d).begin ≤ address }
+    ensures above { Ascends (map range_in index.now) → (k : ℕ) (d : TheRanged) → result ≤ k → k < length index.now → address < (slice_index_or index.now k d).begin }
+{
+    index.partition_point(|fde| fde.begin <= address)
+}
+
+// Whether an entry covers an address.
+fn covers(fde: &Ranged, address: u64) -> bool
+    ensures { MatchBool result (Covers address (fde_in fde.now)) (Covers address (fde_in fde.now) → ⊥) }
+{
+    fde.begin <= address && address - fde.begin < fde.range
+}
+
+// The entry of an index that covers an address.
+fn entry_at(index: &[Ranged], address: u64) -> Option<Ranged>
+    ensures covers { IfSome result (λ e. Covers address (fde_in e)) }
+    ensures among { IfSome result (λ e. (i : ℕ) × (i < length index.now) × ((d : TheRanged) → e ≡ slice_index_or index.now i d)) }
+    ensures none { Ascends (map range_in index.now) → AreApart (map range_in index.now) → result ≡ None → NoneCovers address (map fde_in index.now) }
+{
+    let begun = begun(index, address);
+    if begun == 0 {
+        return None;
+    }
+    let fde = index[begun - 1];
+    if covers(&fde, address) {
+        Some(fde)
+    } else {
+        None
+    }
+}
+
+/// Why a look-up in bytes by an index has no answer.
+#[derive(Clone, Copy, Debug, PartialEq, Eq)]
+pub enum LookUpError {
+    /// The index is not the one of these bytes: no FDE that covers the address stands where it says.
+    BadIndex,
+    /// What stands there is refused.
+    Refused(Refusal),
+    /// A request for memory was refused.
+    OutOfMemory,
+}
+
+impl From<Refusal> for LookUpError {
+    ghost from_gives = { λ r e. e ≡ LookUpError.Refused r };
+
+    fn from(refusal: Refusal) -> LookUpError {
+        LookUpError::Refused(refusal)
+    }
+}
+
+impl From<ReadError> for LookUpError {
+    ghost from_gives = { λ r e. e ≡ of_steps r };
+
+    fn from(error: ReadError) -> LookUpError {
+        match error {
+            ReadError::Refused(refusal) => LookUpError::Refused(refusal),
+            ReadError::OutOfMemory => LookUpError::OutOfMemory,
+        }
+    }
+}
+
+/// An FDE that stands in bytes. A contract sees the FDE.
+#[derive(Drop)]
+pub struct StandingFde {
+    begin: u64,
+    range: u64,
+    return_register: u16,
+}
+
+impl Model for StandingFde {
+    ghost use Rattle.std.specs.Prelude.{◌+◌};
+    ghost use Rattle.dw_section.specs.declared.lookup.Fde.{Fde as TheFde};
+
+    ghost Value = { TheFde };
+
+    ghost view = { λ f. record { begin = f.begin; end = f.begin + f.range; return_register = f.return_register } };
+}
+
+impl StandingFde {
+    /// Its first address, the one past its last, and the return register.
+    pub fn fde(&self) -> Fde
+        ensures { result ≡ self.now }
+    {
+        Fde {
+            begin: self.begin,
+            end: u128::from(self.begin) + u128::from(self.range),
+            return_register: self.return_register,
+        }
+    }
+
+    /// How many addresses it covers.
+    pub fn range(&self) -> u64
+        ensures { self.now.end ≡ self.now.begin + result }
+    {
+        self.range
+    }
+}
+
+// Whether an FDE covers an address.
+fn reaches(fde: &FoundFde<'_>, address: u64) -> bool
+    ensures { MatchBool result (Covers address (fde_of fde.now)) (Covers address (fde_of fde.now) → ⊥) }
+{
+    fde.begin <= address && address - fde.begin < fde.range
+}
+
+// Runs the programs of an FDE that stands up to the row of an address.
+#[inline(always)]
+fn run_fde<'a>(
+    fde: &FoundFde<'a>,
+    target: Target,
+    address: u64,
+    room: &mut RowRoom<'a>,
+) -> Result<(), ReadError>
+    requires in_space { fde.now.begin < address_limit target.size }
+    requires begin { fde.now.begin ≤ address }
+    ensures runs { RunsTo fde.now.factors (input_of target (span_of fde.now.cie_program)) (input_of target (span_of fde.now.program)) fde.now.begin (rows_of target fde.now) }
+    ensures found { OnOk result (last_at address (rows_of target fde.now).rows ≡ Some room.new) }
+    ensures err { IfErr result (Refuses (λ r. (rows_of target fde.now).fault ≡ Some r)) }
+{
+    let (cie, program) = (fde.cie_program, fde.program);
+    are_bytes(cie.bytes);
+    are_bytes(program.bytes);
+    room.run_to(cie, program, fde.begin, fde.factors, target, address)
+}
+
+// The rules at an address by the FDE that stands at a place.
+#[inline(always)]
+fn row_of<'a>(
+    bytes: &'a [u8],
+    target: Target,
+    at: u64,
+    address: u64,
+    room: &mut RowRoom<'a>,
+) -> Result<StandingFde, LookUpError>
+    requires { length bytes.now ≤ 2147483647 }
+    ensures found { IfOk result (λ fde. RulesOf target bytes.now at address (record { fde = fde; row = room.new })) }
+    ensures own { (hs : List Head) (a : Range) (register : ℕ) → RulesHold target bytes.now hs → Returns hs a register → a.at ≡ at → a.begin ≤ address → address < a.begin + a.range → MatchResult result (λ fde. (fde ≡ fde_in (record { begin = a.begin; range = a.range; at = a.at; return_register = register })) × RulesAt target bytes.now address room.new) (λ e. e ≡ LookUpError.OutOfMemory) }
+{
+    are_bytes(bytes);
+    let Some(fde) = standing(bytes, at, target)? else {
+        return Err(LookUpError::BadIndex);
+    };
+    if !reaches(&fde, address) {
+        return Err(LookUpError::BadIndex);
+    }
+    run_fde(&fde, target, address, room)?;
+    Ok(StandingFde {
+        begin: fde.begin,
+        range: fde.range,
+        return_register: fde.return_register,
+    })
+}
+
+/// The FDE that covers an address by an index of a section's nonempty FDEs, ascending by begin, whose rules there `room` lends
+/// then; or none where the index has no entry that covers it. The entry is found by halving; the FDE at its place, and the CIE
+/// that this names, are read and judged anew, up to the row. So bytes and index need not belong together: where they do not,
+/// the answer is that of the FDE that stands at the place, or an error. Takes memory for registers above 31, expressions and
+/// remembered rows alone.
+#[inline(always)]
+pub fn look_up<'a>(
+    bytes: &'a [u8],
+    target: Target,
+    index: &[Ranged],
+    address: u64,
+    room: &mut RowRoom<'a>,
+) -> Result<Option<StandingFde>, LookUpError>
+    // By the index of an accepted section it is what the section says.
+    ensures own { IsTable target bytes.now index.now → MatchResult result (λ o. MatchOption o ((fs : List TheFde) → AreFdes target bytes.now fs → NoneCovers address fs) (λ fde. RulesAt target bytes.now address room.new × ((fs : List TheFde) → AreFdes target bytes.now fs → IsListed fde fs))) (λ e. e ≡ LookUpError.OutOfMemory) }
+    // By any other it is what an FDE says that stands in the bytes.
+    ensures found { IfOk result (λ o. IfSome o (λ fde. (at : ℕ) × RulesOf target bytes.now at address (record { fde = fde; row = room.new }))) }
+{
+    if bytes.len() > MOST {
+        return Err(LookUpError::Refused(Refusal {
+            code: Code::SectionTooLarge,
+            at: 0,
+        }));
+    }
+    let Some(entry) = entry_at(index, address) else {
+        return Ok(None);
+    };
+    let found = row_of(bytes, target, u64::from(entry.at), address, room)?;
+    Ok(Some(found))
+}

@@ -1,0 +1,96 @@
+//! Look-ups of addresses in a table, one after another (6.4.1).
+
+ghost use Rattle.std.specs.Prelude.{◌≡◌, ℕ, false, List, Some, None, IfOk, OnOk, MatchOption};
+ghost use Rattle.dw_section.specs.declared.lookup.Fde.{Fde as TheFde};
+ghost use Rattle.dw_section.specs.Finding.{LooksUp};
+ghost use Rattle.dw_section.specs.Inner.Lookup.{RunsTo};
+ghost use Rattle.dw_section.specs.Meaning.{AreFdes, RulesAt};
+
+use crate::listed_fde::{FoundFde, go_to_rows};
+use crate::table::Table;
+use dw_cfa::{Row, RowWalk};
+use dw_num::Target;
+use std::alloc::{AllocError, Global};
+use std::marker::Model;
+
+// Goes to the row of an address that an FDE covers.
+fn row_in<'a>(
+    steps: &mut RowWalk<'a>,
+    fde: &FoundFde<'a>,
+    address: u64,
+    target: Target,
+) -> Result<(), AllocError>
+    requires { (s : List ℕ) × RunsTo target s address fde.now }
+    ensures { (s : List ℕ) → RunsTo target s address fde.now → OnOk result (RulesAt target s address steps.new.steps.current) }
+{
+    go_to_rows(steps, fde, target);
+    match steps.advance_to(address) {
+        Ok(()) => Ok(()),
+        Err(_) => Err(AllocError),
+    }
+}
+
+/// Look-ups of addresses in a table, one after another, in room that is kept. A contract sees the section, and the row
+/// that was found last.
+#[derive(Drop)]
+pub struct Lookups<'t, 'a> {
+    table: &'t Table<'a>,
+    steps: RowWalk<'a>,
+    found: bool,
+}
+
+impl<'t, 'a> Model for Lookups<'t, 'a> {
+    ghost use Rattle.dw_section.specs.Finding.{Finding};
+    ghost use Rattle.dw_section.specs.Inner.Shown.{shown_if};
+
+    ghost Value = { Finding };
+
+    ghost view = { λ l. record { section = l.table.now; row = shown_if l.found l.steps.steps.current } };
+}
+
+impl<'t, 'a> Lookups<'t, 'a> {
+    pub(crate) fn new(alloc: Global, table: &'t Table<'a>) -> Lookups<'t, 'a>
+        ensures { result ≡ record { section = table.entry.now; row = None } }
+    {
+        Lookups {
+            table,
+            steps: RowWalk::new(alloc, table.target()),
+            found: false,
+        }
+    }
+
+    /// Whether an FDE covers an address, or want of memory. `row` lends the rules there then. The FDE is found by halving,
+    /// and its program run up to the address, that of its CIE only where the look-up before found an FDE of another one.
+    pub fn find(&mut self, address: u64) -> Result<bool, AllocError>
+        ensures found { (fs : List TheFde) → AreFdes self.old.section.target self.old.section.bytes fs → IfOk result (λ found. LooksUp self.old.section fs address found self.new.row) }
+        ensures same { self.new.section ≡ self.old.section }
+    {
+        self.found = false;
+        let Some(fde) = self.table.covering(address) else {
+            return Ok(false);
+        };
+        row_in(&mut self.steps, &fde, address, self.table.target())?;
+        self.found = true;
+        Ok(true)
+    }
+
+    /// The row that `find` found, and none where it found none.
+    pub fn row(&self) -> Option<&Row<'a>>
+        ensures { MatchOption result (self.now.row ≡ None) (λ row. self.now.row ≡ Some row.now) }
+    {
+        if self.found {
+            return Some(self.steps.row());
+        }
+        None
+    }
+
+    // The same row once more.
+    pub(crate) fn copied(&self) -> Result<Option<Row<'a>>, AllocError>
+        ensures { IfOk result (λ row. MatchOption row (self.now.row ≡ None) (λ row. self.now.row ≡ Some row)) }
+    {
+        match self.row() {
+            Some(row) => Ok(Some(row.copied()?)),
+            None => Ok(None),
+        }
+    }
+}
