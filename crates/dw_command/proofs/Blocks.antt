@@ -3,8 +3,8 @@ use Rattle.std.proofs.Common.{◌≡◌, ℕ, List, Result, Ok, Err, sym, subst}
 use Rattle.std.specs.Prelude.{IfErr}
 use Rattle.dw_num.specs.declared.target.Target.{Target}
 use Rattle.dw_op.specs.declared.op.Op.{Op}
-use Rattle.dw_op.specs.declared.encoding.EncodeError.{EncodeError}
-use Rattle.dw_op.specs.declared.encoding.EncodeError.TheVariants.{BranchTooFar, OutOfMemory}
+use Rattle.dw_op.specs.declared.least_block.EncodeError.{EncodeError}
+use Rattle.dw_op.specs.declared.least_block.EncodeError.TheVariants.{BranchTooFar, OutOfMemory}
 use Rattle.dw_op.specs.declared.profile.Profile.{Profile}
 use Rattle.dw_op.specs.declared.profile.Profile.TheVariants.{Frame, Location}
 use Rattle.dw_op.specs.Block.{Block}

@@ -14,7 +14,7 @@ ghost use Rattle.dw_eval.specs.Evaluation.{value_turn, first_stack, top_of, Eval
 ghost use Rattle.dw_eval.specs.Inner.Evaluation.{EvaluatesOver};
 ghost use Rattle.dw_eval.specs.Inner.Stepping.{reached, StepsTo};
 
-use crate::acting::act;
+use crate::action::act;
 use crate::env::Env;
 use crate::error::{EvalError, Kind};
 use crate::memory::Memory;

@@ -6,27 +6,27 @@
 //! `specs/Effect.antt` first, the table of operations, and `specs/Runs.antt`, which says what a run answers.
 #![tactic(auto)]
 
-mod acting;
+mod action;
 mod arithmetic;
-mod describing;
+mod description;
 mod env;
 mod error;
 mod evaluation;
 mod laws;
-mod locating;
+mod location;
 mod memory;
 mod operations;
 mod place;
 mod registers;
 mod stack;
 
-pub use acting::is_in_space;
+pub use action::is_in_space;
 pub use arithmetic::{offset_by, reduced};
 pub use env::Env;
 pub use error::{EvalError, Kind};
 pub use evaluation::evaluate;
 pub use laws::evaluation_laws;
-pub use locating::locate;
+pub use location::locate;
 pub use memory::{Memory, ReadFault};
 pub use place::{Part, Piece, Place};
 pub use registers::Registers;

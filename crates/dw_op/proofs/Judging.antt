@@ -6,9 +6,9 @@ use Rattle.dw_num.specs.Input.{Input, AreBytes}
 use Rattle.dw_num.proofs.Lent.LebLaws.{done}
 use Rattle.dw_op.specs.declared.op.Op.{Op}
 use Rattle.dw_op.specs.declared.profile.Profile.TheVariants.{Frame}
-use Rattle.dw_op.specs.declared.reading.Step.{Step}
-use Rattle.dw_op.specs.declared.reading.Step.TheVariants.{Plain}
-use Rattle.dw_op.specs.declared.walking.Walker.{Walker}
+use Rattle.dw_op.specs.declared.operation.Step.{Step}
+use Rattle.dw_op.specs.declared.operation.Step.TheVariants.{Plain}
+use Rattle.dw_op.specs.declared.walk.Walker.{Walker}
 use Rattle.dw_op.specs.Block.{FrameBlock}
 use Rattle.dw_op.specs.Expression.{Expression, bare}
 use Rattle.dw_op.specs.Inner.Reading.{step_at}

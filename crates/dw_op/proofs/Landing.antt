@@ -7,7 +7,7 @@ use Rattle.dw_num.specs.declared.target.Target.{Target}
 use Rattle.dw_num.specs.Input.{Input, AreBytes}
 use Rattle.dw_num.proofs.Lent.LebLaws.{done}
 use Rattle.dw_op.specs.declared.profile.Profile.TheVariants.{Frame}
-use Rattle.dw_op.specs.declared.reading.Step.{Step}
+use Rattle.dw_op.specs.declared.operation.Step.{Step}
 use Rattle.dw_op.specs.Block.{joined}
 use Rattle.dw_op.specs.Inner.Reading.{step_at}
 use Rattle.dw_op.specs.Inner.Walk.{Item, Walk, walk, end_of, plus, passed, one}

@@ -8,9 +8,9 @@ use Rattle.dw_op.specs.declared.op.Op.{Op}
 use Rattle.dw_op.specs.declared.op.Op.TheVariants.{Bra, Skip}
 use Rattle.dw_op.specs.declared.profile.Profile.{Profile}
 use Rattle.dw_op.specs.declared.profile.Profile.TheVariants.{Location}
-use Rattle.dw_op.specs.declared.reading.Branch.{Branch}
-use Rattle.dw_op.specs.declared.reading.Branch.TheVariants as branches
-use Rattle.dw_op.specs.declared.reading.Step.TheVariants.{Plain, Jump}
+use Rattle.dw_op.specs.declared.operation.Branch.{Branch}
+use Rattle.dw_op.specs.declared.operation.Branch.TheVariants as branches
+use Rattle.dw_op.specs.declared.operation.Step.TheVariants.{Plain, Jump}
 use Rattle.dw_op.specs.OpSpells.{OpSpells}
 use Rattle.dw_op.specs.Block.{start, branch_target, Displaced, Stands, joined}
 use Rattle.dw_op.specs.Faults.{IsPart, IsBranch, Leads}

@@ -21,13 +21,13 @@ use Rattle.dw_op.specs.declared.op.Op.{Op}
 use Rattle.dw_op.specs.declared.op.Op.TheVariants.{Addr, Const, Pick, PlusUconst, Bra, Skip, Reg, Breg, Fbreg, Piece, DerefSize, BitPiece}
 use Rattle.dw_op.specs.declared.profile.Profile.{Profile}
 use Rattle.dw_op.specs.declared.profile.Profile.TheVariants.{Frame, Location}
-use Rattle.dw_op.specs.declared.reading.Branch.{Branch}
-use Rattle.dw_op.specs.declared.reading.Branch.TheVariants as branches
-use Rattle.dw_op.specs.declared.reading.ByteCount.{ByteCount}
-use Rattle.dw_op.specs.declared.reading.ByteCount.TheVariants.{One, Two, Four, Eight}
-use Rattle.dw_op.specs.declared.reading.Step.{Step}
-use Rattle.dw_op.specs.declared.reading.Opcode.{Opcode}
-use Rattle.dw_op.specs.declared.reading.Opcode.TheVariants as opcodes
+use Rattle.dw_op.specs.declared.operation.Branch.{Branch}
+use Rattle.dw_op.specs.declared.operation.Branch.TheVariants as branches
+use Rattle.dw_op.specs.declared.operation.ByteCount.{ByteCount}
+use Rattle.dw_op.specs.declared.operation.ByteCount.TheVariants.{One, Two, Four, Eight}
+use Rattle.dw_op.specs.declared.operation.Step.{Step}
+use Rattle.dw_op.specs.declared.operation.Opcode.{Opcode}
+use Rattle.dw_op.specs.declared.operation.Opcode.TheVariants as opcodes
 use Rattle.dw_op.specs.Expression.{bare}
 use Rattle.dw_op.specs.Inner.ByOperation.{Constu, Consts, IsSpelled}
 use Rattle.dw_op.specs.Profile.{in_frame}

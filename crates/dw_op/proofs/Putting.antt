@@ -4,8 +4,8 @@ use Rattle.std.specs.Prelude.{pos, ◌-ℤ◌, FitsSigned}
 use Rattle.std.specs.Int.{w16}
 use Rattle.std.proofs.Math.Seq.{take-length}
 use Rattle.dw_num.specs.declared.target.Target.{Target}
-use Rattle.dw_op.specs.declared.measuring.Places.{Places}
-use Rattle.dw_op.specs.declared.measuring.Point.{Point}
+use Rattle.dw_op.specs.declared.layout.Places.{Places}
+use Rattle.dw_op.specs.declared.layout.Point.{Point}
 use Rattle.dw_op.specs.declared.op.Op.{Op}
 use Rattle.dw_op.specs.Block.{branch_target, start}
 use Rattle.dw_op.specs.Encoding.{bits_of, blank_parts}

@@ -10,8 +10,8 @@ use Rattle.dw_num.specs.Fixed.{Fixed, FixedSigned, fixed_bytes}
 use Rattle.dw_num.specs.Reading.{fixed_at}
 use Rattle.dw_num.proofs.Lent.LebLaws.{done}
 use Rattle.dw_num.proofs.Lent.FixedLaws.{fixed_found}
-use Rattle.dw_op.specs.declared.reading.ByteCount.{ByteCount}
-use Rattle.dw_op.specs.declared.reading.ByteCount.TheVariants.{One, Two, Four, Eight}
+use Rattle.dw_op.specs.declared.operation.ByteCount.{ByteCount}
+use Rattle.dw_op.specs.declared.operation.ByteCount.TheVariants.{One, Two, Four, Eight}
 use Rattle.dw_op.specs.Inner.Reading.{width_of, signed_of}
 
 pub count_found : (count : ByteCount) (i new : Input) (v : ℕ) → AreBytes i.bytes → fixed_at (width_of count) i ≡ done (v, new) → (b : List ℕ) × Fixed i.target.order (width_of count) v b × Takes i b new

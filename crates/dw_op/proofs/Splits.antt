@@ -8,7 +8,7 @@ use Rattle.dw_num.specs.Reading.{Read, fixed_at}
 use Rattle.dw_num.proofs.Lent.LebLaws.{done}
 use Rattle.dw_num.proofs.Lent.FixedLaws.{taken_bytes}
 use Rattle.dw_op.specs.declared.profile.Profile.{Profile}
-use Rattle.dw_op.specs.declared.reading.Step.{Step}
+use Rattle.dw_op.specs.declared.operation.Step.{Step}
 use Rattle.dw_op.specs.Block.{joined}
 use Rattle.dw_op.specs.Inner.Reading.{step_at}
 use Rattle.dw_op.specs.Inner.Steps.{StepSpells, step_allowed}

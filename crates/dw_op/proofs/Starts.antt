@@ -7,16 +7,16 @@ use Rattle.dw_num.specs.declared.target.Target.{Target}
 use Rattle.dw_num.specs.Input.{Input, AreBytes, Takes, behind}
 use Rattle.dw_num.proofs.Lent.FixedLaws.{length-fixed}
 use Rattle.dw_num.proofs.Lent.LebLaws.{done}
-use Rattle.dw_op.specs.declared.measuring.Places.{Places}
-use Rattle.dw_op.specs.declared.measuring.Point.{Point}
-use Rattle.dw_op.specs.declared.measuring.StartMark.{StartMark}
+use Rattle.dw_op.specs.declared.layout.Places.{Places}
+use Rattle.dw_op.specs.declared.layout.Point.{Point}
+use Rattle.dw_op.specs.declared.layout.StartMark.{StartMark}
 use Rattle.dw_op.specs.declared.op.Op.{Op}
 use Rattle.dw_op.specs.declared.op.Op.TheVariants as ops
 use Rattle.dw_op.specs.declared.profile.Profile.TheVariants.{Frame}
-use Rattle.dw_op.specs.declared.reading.Branch.{Branch}
-use Rattle.dw_op.specs.declared.reading.Branch.TheVariants.{Bra, Skip}
-use Rattle.dw_op.specs.declared.reading.Step.{Step}
-use Rattle.dw_op.specs.declared.reading.Step.TheVariants.{Plain, Jump}
+use Rattle.dw_op.specs.declared.operation.Branch.{Branch}
+use Rattle.dw_op.specs.declared.operation.Branch.TheVariants.{Bra, Skip}
+use Rattle.dw_op.specs.declared.operation.Step.{Step}
+use Rattle.dw_op.specs.declared.operation.Step.TheVariants.{Plain, Jump}
 use Rattle.dw_op.specs.Inner.Accepted.{IsAccepted, ops_of}
 use Rattle.dw_op.specs.LeastOf.{least_bytes, least_spelling}
 use Rattle.dw_op.specs.Inner.Lengths.{least_lengths, total, together, step_length, item_lengths, lengths_at}

@@ -3,8 +3,8 @@ use Rattle.std.specs.Prelude.{◌≡◌, ℕ, suc, ◌<◌, List, [], ◌∷◌,
 use Rattle.std.specs.Int.{w16, cast_unsigned}
 use Rattle.dw_num.specs.declared.target.Target.{Target}
 use Rattle.dw_op.specs.declared.op.Op.{Op}
-use Rattle.dw_op.specs.declared.encoding.EncodeError.{EncodeError}
-use Rattle.dw_op.specs.declared.encoding.EncodeError.TheVariants.{BranchTooFar, OutOfMemory}
+use Rattle.dw_op.specs.declared.least_block.EncodeError.{EncodeError}
+use Rattle.dw_op.specs.declared.least_block.EncodeError.TheVariants.{BranchTooFar, OutOfMemory}
 use Rattle.dw_op.specs.Block.{EachPart, branch_target, displacement, joined}
 use Rattle.dw_op.specs.Least.{Least}
 use Rattle.dw_op.specs.LeastOf.{least_bytes}

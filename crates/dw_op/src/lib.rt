@@ -1,26 +1,26 @@
 //! Operations of DWARF expressions, and the blocks that spell them.
 #![tactic(auto)]
 
-mod accepting;
-mod comparing;
-mod decoding;
-mod encoding;
+mod block;
+mod equality;
 mod expression;
+mod judged_block;
 mod laws;
+mod layout;
 mod least;
+mod least_block;
+mod least_expression;
 mod list;
-mod marking;
-mod measuring;
+mod marks;
 mod op;
+mod operation;
 mod profile;
-mod reading;
-mod rewriting;
-mod walking;
+mod walk;
 
-pub use decoding::{decode, one_answer};
-pub use encoding::{EncodeError, encode};
+pub use block::{decode, one_answer};
 pub use expression::{ExprRef, OpSteps};
 pub use laws::block_laws;
+pub use least_block::{EncodeError, encode};
 pub use list::{BadOperand, OpList};
 pub use op::Op;
 pub use profile::Profile;

@@ -3,7 +3,7 @@ use Rattle.std.specs.Prelude.{◌≡◌, ℕ, map, option_map, Result, Ok, Err}
 use Rattle.dw_eval.specs.declared.error.EvalError.{EvalError}
 use Rattle.dw_eval.specs.declared.error.EvalError.TheVariants.{Fault, OutOfMemory}
 use Rattle.dw_eval.specs.declared.error.Kind.{Kind}
-use Rattle.dw_eval.specs.declared.describing.Description.{Description}
+use Rattle.dw_eval.specs.declared.description.Description.{Description}
 use Rattle.dw_eval.specs.declared.place.Role.{Role}
 use Rattle.dw_eval.specs.declared.place.Role.TheVariants.{SetsPlace, SetsValue, AddsPiece, Waits, Computes}
 use Rattle.dw_eval.specs.Location.{PlaceState, bare_place, bare_piece}

@@ -12,9 +12,9 @@ use Rattle.dw_op.specs.declared.op.Op.{Op}
 use Rattle.dw_op.specs.declared.profile.Profile.{Profile}
 use Rattle.dw_op.specs.declared.profile.Profile.TheVariants.{Frame, Location}
 use Rattle.dw_op.specs.declared.op.Op.TheVariants as ops
-use Rattle.dw_op.specs.declared.reading.Step.{Step}
-use Rattle.dw_op.specs.declared.reading.Step.TheVariants.{Plain, Jump}
-use Rattle.dw_op.specs.declared.reading.Branch.TheVariants.{Bra, Skip}
+use Rattle.dw_op.specs.declared.operation.Step.{Step}
+use Rattle.dw_op.specs.declared.operation.Step.TheVariants.{Plain, Jump}
+use Rattle.dw_op.specs.declared.operation.Branch.TheVariants.{Bra, Skip}
 use Rattle.dw_op.specs.Block.{start, Stands, EachPart, joined, Block}
 use Rattle.dw_op.specs.Inner.Reading.{step_at}
 use Rattle.dw_op.specs.Inner.Walk.{Item, Walk, walk, end_of, index_at, op_of, put_first, resolve, unless, block_input, decode_at}

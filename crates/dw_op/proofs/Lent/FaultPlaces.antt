@@ -10,9 +10,9 @@ use Rattle.dw_num.specs.Reading.{Read, fixed_at, take_at, uleb_at, address_at, r
 use Rattle.dw_num.proofs.Lent.Stays.{Inside, Stays, inside_all, stays_in, stays-then, either_stays, fixed_stays, take_stays, uleb_stays, sleb_stays, register_stays}
 use Rattle.dw_op.specs.declared.op.Op.{Op}
 use Rattle.dw_op.specs.declared.profile.Profile.{Profile}
-use Rattle.dw_op.specs.declared.reading.Step.{Step}
-use Rattle.dw_op.specs.declared.reading.Opcode.{Opcode}
-use Rattle.dw_op.specs.declared.reading.Opcode.TheVariants as opcodes
+use Rattle.dw_op.specs.declared.operation.Step.{Step}
+use Rattle.dw_op.specs.declared.operation.Opcode.{Opcode}
+use Rattle.dw_op.specs.declared.operation.Opcode.TheVariants as opcodes
 use Rattle.dw_op.specs.Block.{start, joined}
 use Rattle.dw_op.specs.Faults.{BlockFault}
 use Rattle.dw_op.specs.Inner.Reading.{opcode_of, allows, with_op, with_jump, after_register, size_in, after_size, after_length, operands_at, judged, after_code, step_at}

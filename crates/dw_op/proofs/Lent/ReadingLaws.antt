@@ -19,13 +19,13 @@ use Rattle.dw_op.specs.declared.op.Op.{Op}
 use Rattle.dw_op.specs.declared.op.Op.TheVariants.{Addr, Const, Pick, PlusUconst, Reg, Breg, Fbreg, Piece, DerefSize, BitPiece, Implicit}
 use Rattle.dw_op.specs.declared.profile.Profile.{Profile}
 use Rattle.dw_op.specs.declared.profile.Profile.TheVariants.{Frame, Location}
-use Rattle.dw_op.specs.declared.reading.Branch.{Branch}
-use Rattle.dw_op.specs.declared.reading.Step.{Step}
-use Rattle.dw_op.specs.declared.reading.Step.TheVariants.{Plain, Jump}
-use Rattle.dw_op.specs.declared.reading.ByteCount.{ByteCount}
-use Rattle.dw_op.specs.declared.reading.ByteCount.TheVariants.{One, Two, Four, Eight}
-use Rattle.dw_op.specs.declared.reading.Opcode.{Opcode}
-use Rattle.dw_op.specs.declared.reading.Opcode.TheVariants as opcodes
+use Rattle.dw_op.specs.declared.operation.Branch.{Branch}
+use Rattle.dw_op.specs.declared.operation.Step.{Step}
+use Rattle.dw_op.specs.declared.operation.Step.TheVariants.{Plain, Jump}
+use Rattle.dw_op.specs.declared.operation.ByteCount.{ByteCount}
+use Rattle.dw_op.specs.declared.operation.ByteCount.TheVariants.{One, Two, Four, Eight}
+use Rattle.dw_op.specs.declared.operation.Opcode.{Opcode}
+use Rattle.dw_op.specs.declared.operation.Opcode.TheVariants as opcodes
 use Rattle.dw_op.specs.Expression.{bare}
 use Rattle.dw_op.specs.Inner.ByOperation.{IsSpelled, Const1u, Const1s, Const2u, Const2s, Const4u, Const4s, Const8u, Const8s, Constu, Consts, Lit}
 use Rattle.dw_op.specs.Block.{branch_target}

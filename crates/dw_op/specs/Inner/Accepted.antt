@@ -4,7 +4,7 @@ use Rattle.dw_num.specs.declared.refusal.Refusal.{Refusal}
 use Rattle.dw_num.specs.declared.target.Target.{Target}
 use Rattle.dw_op.specs.declared.op.Op.{Op}
 use Rattle.dw_op.specs.declared.profile.Profile.TheVariants.{Frame}
-use Rattle.dw_op.specs.declared.walking.Walker.{Walker}
+use Rattle.dw_op.specs.declared.walk.Walker.{Walker}
 use Rattle.dw_op.specs.Inner.Walk.{walk, index_in, resolve, block_input, decode_at}
 use Rattle.dw_op.specs.Inner.Windows.{block_of, WalkSo}
 

@@ -2,7 +2,7 @@
 use Rattle.std.specs.Prelude.{ℕ, List, [], ◌∷◌, ◌++◌, length}
 use Rattle.std.specs.List.{flat_map}
 use Rattle.std.specs.Hash as fed
-use Rattle.dw_op.specs.declared.comparing.Line.{Line}
+use Rattle.dw_op.specs.declared.equality.Line.{Line}
 use Rattle.dw_op.specs.Expression.{Expression}
 use Rattle.dw_op.specs.Comparing.{line, expression_lines}
 

@@ -4,8 +4,8 @@ use Rattle.dw_num.specs.declared.target.Target.{Target}
 use Rattle.dw_num.specs.Input.{Input}
 use Rattle.dw_op.specs.declared.op.Op.{Op}
 use Rattle.dw_op.specs.declared.profile.Profile.TheVariants.{Frame}
-use Rattle.dw_op.specs.declared.reading.Step.{Step}
-use Rattle.dw_op.specs.declared.reading.Step.TheVariants.{Plain, Jump}
+use Rattle.dw_op.specs.declared.operation.Step.{Step}
+use Rattle.dw_op.specs.declared.operation.Step.TheVariants.{Plain, Jump}
 use Rattle.dw_op.specs.LeastOf.{least_bytes}
 use Rattle.dw_op.specs.Inner.Walk.{Item, walk}
 

@@ -2,9 +2,9 @@
 use Rattle.std.specs.Prelude.{◌≡◌, ℕ, ◌-◌, ◌≤◌, ◌<◌, ◌^◌, List, length, drop, slice_get, Option, Some, None, pos, ◌-ℤ◌, FitsSigned}
 use Rattle.std.specs.Int.{w16, cast_unsigned}
 use Rattle.dw_num.specs.Input.{Input, AreBytes, behind}
-use Rattle.dw_op.specs.declared.measuring.Point.{Point}
-use Rattle.dw_op.specs.declared.measuring.StartMark.{StartMark}
-use Rattle.dw_op.specs.declared.measuring.Places.{Places}
+use Rattle.dw_op.specs.declared.layout.Point.{Point}
+use Rattle.dw_op.specs.declared.layout.StartMark.{StartMark}
+use Rattle.dw_op.specs.declared.layout.Places.{Places}
 use Rattle.dw_op.specs.declared.profile.Profile.TheVariants.{Frame}
 use Rattle.dw_op.specs.Inner.Lengths.{lengths_at, total, together}
 use Rattle.dw_op.specs.Inner.Walk.{walk}

@@ -7,10 +7,10 @@ use Rattle.dw_num.specs.Input.{Input}
 use Rattle.dw_op.specs.declared.op.Op.{Op}
 use Rattle.dw_op.specs.declared.op.Op.TheVariants as ops
 use Rattle.dw_op.specs.declared.profile.Profile.{Profile}
-use Rattle.dw_op.specs.declared.reading.Branch.{Branch}
-use Rattle.dw_op.specs.declared.reading.Branch.TheVariants.{Bra, Skip}
-use Rattle.dw_op.specs.declared.reading.Step.{Step}
-use Rattle.dw_op.specs.declared.reading.Step.TheVariants.{Plain, Jump}
+use Rattle.dw_op.specs.declared.operation.Branch.{Branch}
+use Rattle.dw_op.specs.declared.operation.Branch.TheVariants.{Bra, Skip}
+use Rattle.dw_op.specs.declared.operation.Step.{Step}
+use Rattle.dw_op.specs.declared.operation.Step.TheVariants.{Plain, Jump}
 use Rattle.dw_op.specs.Inner.Reading.{step_at}
 use Rattle.dw_op.specs.Walks.{Walked}
 use Rattle.dw_op.specs.Inner.Walks.{walked}

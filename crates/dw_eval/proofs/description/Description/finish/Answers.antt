@@ -1,0 +1,18 @@
+use Rattle.std.proofs.Common.{◌<◌, length, Ok, Err, inr, arith}
+use Rattle.std.specs.Prelude.{option_map}
+use Rattle.std.proofs.lemmas.Grind.{common_steps}
+use Rattle.dw_eval.specs.declared.error.EvalError.TheVariants.{Fault}
+use Rattle.dw_eval.specs.declared.error.Kind.TheVariants.{MissingPiece}
+use Rattle.dw_eval.specs.Location.{bare_place}
+use Rattle.dw_eval.proofs.PlaceLoop.{behind_pieces}
+use Rattle.dw_eval.proofs.description.Description.finish.Goals as goal
+
+pub returns-then-leaves_some : goal.returns-then-leaves_some
+returns-then-leaves_some c =
+    let some : 0 < length c.args.self.pieces.items = grind (arith, common_steps) in
+    inr (behind_pieces c.args.len (option_map bare_place c.args.self.pending) c.args.self.stack c.args.self.pieces.items (λ pieces. Err (Fault MissingPiece c.args.len)) some (c.leaves_some.ensures.some c.if-leaves_some.true c.args.len))
+
+pub returns : goal.returns
+returns c =
+    let some : 0 < length c.args.self.pieces.items = grind (arith, common_steps) in
+    behind_pieces c.args.len (option_map bare_place c.args.self.pending) c.args.self.stack c.args.self.pieces.items (λ pieces. Ok pieces) some (c.leaves_some.ensures.none c.if-leaves_some.false c.args.len)

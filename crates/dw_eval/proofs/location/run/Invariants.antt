@@ -1,0 +1,14 @@
+use Rattle.std.proofs.Common.{◌≡◌, ◌≤◌, length, map}
+use Rattle.dw_op.specs.Expression.{bare}
+use Rattle.dw_eval.specs.Context.{context}
+use Rattle.dw_eval.specs.Inner.Describing.{state_of}
+use Rattle.dw_eval.specs.Inner.Location.{PlaceRuns}
+use Rattle.dw_eval.proofs.location.run.Given as goal
+
+abbrev pub invariant-steps : goal.invariant-steps
+invariant-steps g l = record {
+  runs : PlaceRuns (map bare l.ops) (context l.env (g.M.Memory.byte l.initial.memory)) l.taken (state_of l.index l.description);
+  within : l.index ≤ length l.ops;
+  same : g.M.Memory.byte l.memory ≡ g.M.Memory.byte l.initial.memory;
+  count : g.M.Memory.failures l.memory ≡ g.M.Memory.failures l.initial.memory;
+}

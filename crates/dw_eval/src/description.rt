@@ -1,0 +1,247 @@
+//! A location description on the way (2.6).
+
+ghost use Rattle.std.specs.Prelude.{◌≡◌, ◌⊎◌, ℕ, ◌+◌, ◌-◌, ◌^◌, ◌<◌, ◌≤◌, map, option_map, Ok, Err, List, [], ◌∷◌, None, MatchResult, IsTrue, false};
+ghost use Rattle.dw_num.specs.Target.{byte_count};
+ghost use Rattle.dw_op.specs.declared.op.Op.TheVariants.{DerefSize};
+ghost use Rattle.dw_op.specs.Expression.{bare};
+ghost use Rattle.dw_eval.specs.declared.error.EvalError.TheVariants.{Fault, OutOfMemory};
+ghost use Rattle.dw_eval.specs.declared.error.Kind.TheVariants.{MissingPiece};
+ghost use Rattle.dw_eval.specs.Context.{context};
+ghost use Rattle.dw_eval.specs.Effect.{effect, Reads};
+ghost use Rattle.dw_eval.specs.Location.{place_turn, place_reads, place_led, place_here, with_piece, with_place, with_value, pieces_of};
+ghost use Rattle.dw_eval.specs.Inner.Roles.{free_by, held_by, refused_by, turn_of};
+ghost use Rattle.dw_eval.specs.Inner.Stepping.{StepsTo};
+
+use crate::action::act;
+use crate::env::Env;
+use crate::error::{EvalError, Kind};
+use crate::evaluation::reached;
+use crate::memory::Memory;
+use crate::place::{Part, Piece, Place, Role, role_of};
+use crate::stack::Stack;
+use dw_op::Op;
+use std::alloc::Global;
+
+/// A description on the way: the stack, the place that waits for its piece, and the pieces so far.
+#[derive(Drop)]
+pub(crate) struct Description<'a> {
+    pub(crate) stack: Stack,
+    pub(crate) pending: Option<Place<'a>>,
+    pub(crate) pieces: Vec<Piece<'a>>,
+}
+
+impl<'a> Description<'a> {
+    ghost use Rattle.dw_eval.specs.declared.place.Piece.{Piece};
+    ghost use Rattle.dw_eval.specs.Location.{bare_place, bare_piece};
+    ghost use Rattle.dw_eval.specs.Inner.Describing.{bare_role, state_of, Turns};
+
+    /// Nothing is described yet. Takes no memory.
+    pub(crate) fn new(alloc: Global) -> Description<'a>
+        ensures { (result.stack ≡ []) × (result.pending ≡ None) × (result.pieces.items ≡ []) }
+    {
+        Description {
+            stack: Stack::new(alloc),
+            pending: None,
+            pieces: Vec::new(alloc),
+        }
+    }
+
+    // The pending place, else memory at the top, else nothing.
+    fn place(&self) -> Place<'a>
+        ensures { bare_place result ≡ place_here (option_map bare_place self.now.pending) self.now.stack }
+    {
+        match self.pending {
+            Some(place) => place,
+            None => match self.stack.get(0) {
+                Some(address) => Place::Memory(address),
+                None => Place::Empty,
+            },
+        }
+    }
+
+    // Adds a piece, and empties the stack.
+    fn add(&mut self, part: Part, index: usize) -> Result<usize, EvalError>
+        requires { index < 2 ^ 64 - 1 }
+        ensures { Turns (Ok (with_piece part (state_of index self.old))) index (λ next. state_of next self.new) result }
+    {
+        let place = self.place();
+        if self.pieces.push(Piece { place, part }).is_err() {
+            return Err(EvalError::OutOfMemory);
+        }
+        self.stack.clear();
+        self.pending = None;
+        Ok(index + 1)
+    }
+
+    fn set(&mut self, place: Place<'a>, index: usize) -> Result<usize, EvalError>
+        requires { index < 2 ^ 64 - 1 }
+        ensures { Turns (Ok (with_place (bare_place place.entry) self.old.stack (state_of index self.old))) index (λ next. state_of next self.new) result }
+    {
+        self.pending = Some(place);
+        Ok(index + 1)
+    }
+
+    fn set_value(&mut self, index: usize) -> Result<usize, EvalError>
+        requires { index < 2 ^ 64 - 1 }
+        ensures { Turns (with_value self.old.stack (state_of index self.old)) index (λ next. state_of next self.new) result }
+    {
+        match self.stack.pop() {
+            Some(value) => {
+                self.pending = Some(Place::Value(value));
+                Ok(index + 1)
+            }
+            None => Err(EvalError::Fault {
+                kind: Kind::StackUnderflow,
+                index,
+            }),
+        }
+    }
+
+    // No piece follows a place: the stack is too short for the operation, or the piece is missing.
+    fn refuse(&mut self, entries: usize, index: usize) -> Result<usize, EvalError>
+        ensures { Turns (refused_by entries self.old.stack) index (λ next. state_of next self.new) result }
+    {
+        if self.stack.len() < entries {
+            return Err(EvalError::Fault {
+                kind: Kind::StackUnderflow,
+                index,
+            });
+        }
+        Err(EvalError::Fault {
+            kind: Kind::MissingPiece,
+            index,
+        })
+    }
+
+    // An operation while a place is pending.
+    fn hold(&mut self, role: Role<'a>, index: usize) -> Result<usize, EvalError>
+        requires { index < 2 ^ 64 - 1 }
+        ensures { Turns (held_by (bare_role role.entry) (state_of index self.old)) index (λ next. state_of next self.new) result }
+    {
+        match role {
+            Role::SetsPlace(_) => self.refuse(0, index),
+            Role::SetsValue => self.refuse(1, index),
+            Role::AddsPiece(part) => self.add(part, index),
+            Role::Waits => Ok(index + 1),
+            Role::Computes(entries) => self.refuse(entries, index),
+        }
+    }
+
+    // Computes on the stack.
+    fn compute<M: Memory>(
+        &mut self,
+        op: &Op<'a>,
+        index: usize,
+        env: &Env<'_>,
+        memory: &mut M,
+    ) -> Result<usize, EvalError>
+        requires inside { index < 2 ^ 64 - 1 }
+        requires access { (len : ℕ) → op.now ≡ DerefSize len → (1 ≤ len) × (len ≤ byte_count env.now.target.size) }
+        requires room { M.failures memory.old < 2 ^ 64 - 1 }
+        ensures same { M.byte memory.new ≡ M.byte memory.old }
+        ensures so { let c = context env.now (M.byte memory.old) in StepsTo (place_led (state_of index self.old) (effect c (bare op.now) self.old.stack)) (Reads c (bare op.now) self.old.stack) index (M.failures memory.old) (λ next. state_of next self.new) result (M.failures memory.new) }
+    {
+        let answer = act(op, &mut self.stack, env, memory);
+        reached(answer, index)
+    }
+
+    // An operation while no place is pending.
+    #[tactic(auto, using(crate::proofs::PlaceSteps::steps_so))]
+    fn go_on<M: Memory>(
+        &mut self,
+        op: &Op<'a>,
+        role: Role<'a>,
+        index: usize,
+        env: &Env<'_>,
+        memory: &mut M,
+    ) -> Result<usize, EvalError>
+        requires inside { index < 2 ^ 64 - 1 }
+        requires access { (len : ℕ) → op.now ≡ DerefSize len → (1 ≤ len) × (len ≤ byte_count env.now.target.size) }
+        requires room { M.failures memory.old < 2 ^ 64 - 1 }
+        ensures same { M.byte memory.new ≡ M.byte memory.old }
+        ensures so { let c = context env.now (M.byte memory.old) in StepsTo (free_by c (bare op.now) (bare_role role.entry) (state_of index self.old)) (Reads c (bare op.now) self.old.stack) index (M.failures memory.old) (λ next. state_of next self.new) result (M.failures memory.new) }
+    {
+        match role {
+            Role::SetsPlace(place) => self.set(place, index),
+            Role::SetsValue => self.set_value(index),
+            Role::AddsPiece(part) => self.add(part, index),
+            Role::Waits => Ok(index + 1),
+            Role::Computes(_) => self.compute(op, index, env, memory),
+        }
+    }
+
+    // Executes an operation by its role.
+    fn turn<M: Memory>(
+        &mut self,
+        op: &Op<'a>,
+        index: usize,
+        env: &Env<'_>,
+        memory: &mut M,
+    ) -> Result<usize, EvalError>
+        requires inside { index < 2 ^ 64 - 1 }
+        requires access { (len : ℕ) → op.now ≡ DerefSize len → (1 ≤ len) × (len ≤ byte_count env.now.target.size) }
+        requires room { M.failures memory.old < 2 ^ 64 - 1 }
+        ensures same { M.byte memory.new ≡ M.byte memory.old }
+        ensures so { let c = context env.now (M.byte memory.old) in StepsTo (let s = state_of index self.old in turn_of c (bare op.now) s.pending s) (place_reads c (bare op.now) (state_of index self.old)) index (M.failures memory.old) (λ next. state_of next self.new) result (M.failures memory.new) }
+    {
+        let role = role_of(op);
+        match self.pending {
+            Some(_) => self.hold(role, index),
+            None => self.go_on(op, role, index, env, memory),
+        }
+    }
+
+    /// Executes the operation at an index, and says which one is next.
+    #[tactic(auto, using(crate::proofs::Roles::turn_steps))]
+    pub(crate) fn step<M: Memory>(
+        &mut self,
+        op: &Op<'a>,
+        index: usize,
+        env: &Env<'_>,
+        memory: &mut M,
+    ) -> Result<usize, EvalError>
+        requires inside { index < 2 ^ 64 - 1 }
+        requires access { (len : ℕ) → op.now ≡ DerefSize len → (1 ≤ len) × (len ≤ byte_count env.now.target.size) }
+        requires room { M.failures memory.old < 2 ^ 64 - 1 }
+        ensures same { M.byte memory.new ≡ M.byte memory.old }
+        ensures so { let c = context env.now (M.byte memory.old) in StepsTo (place_turn c (bare op.now) (state_of index self.old)) (place_reads c (bare op.now) (state_of index self.old)) index (M.failures memory.old) (λ next. state_of next self.new) result (M.failures memory.new) }
+    {
+        self.turn(op, index, env, memory)
+    }
+
+    // Whether a pending place or an entry of the stack is left.
+    fn leaves_some(&self) -> bool
+        ensures some { IsTrue result → (len : ℕ) (piece : Piece) (pieces : List Piece) → pieces_of len (option_map bare_place self.now.pending) self.now.stack (piece ∷ pieces) ≡ Err (Fault MissingPiece len) }
+        ensures none { result ≡ false → (len : ℕ) (piece : Piece) (pieces : List Piece) → pieces_of len (option_map bare_place self.now.pending) self.now.stack (piece ∷ pieces) ≡ Ok (piece ∷ pieces) }
+    {
+        match self.pending {
+            Some(_) => true,
+            None => self.stack.len() > 0,
+        }
+    }
+
+    /// The pieces at the end of a list of this length: one whole piece where there is none yet, and nothing
+    /// may be left behind pieces.
+    pub(crate) fn finish(mut self, len: usize) -> Result<Vec<Piece<'a>>, EvalError>
+        ensures { let answer = pieces_of len (option_map bare_place self.entry.pending) self.entry.stack (map bare_piece self.entry.pieces.items) in MatchResult result (λ v. answer ≡ Ok (map bare_piece v.items)) (λ e. (e ≡ OutOfMemory) ⊎ (answer ≡ Err e)) }
+    {
+        if self.pieces.is_empty() {
+            let place = self.place();
+            let whole = Piece {
+                place,
+                part: Part::Whole,
+            };
+            if self.pieces.push(whole).is_err() {
+                return Err(EvalError::OutOfMemory);
+            }
+            return Ok(self.pieces);
+        }
+        if self.leaves_some() {
+            return Err(EvalError::Fault {
+                kind: Kind::MissingPiece,
+                index: len,
+            });
+        }
+        Ok(self.pieces)
+    }
+}

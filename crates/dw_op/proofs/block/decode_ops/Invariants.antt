@@ -1,0 +1,11 @@
+use Rattle.std.proofs.Common.{length, map}
+use Rattle.dw_op.specs.Expression.{bare}
+use Rattle.dw_op.specs.Inner.Walk.{block_input, place_index}
+use Rattle.dw_op.proofs.Decoded.{OpsSo}
+use Rattle.dw_op.proofs.block.decode_ops.Given as goal
+
+abbrev pub invariant-ops : goal.invariant-ops
+invariant-ops l = OpsSo l.profile (block_input l.fn.target l.fn.bytes) l.cursor (place_index l.places.items) (map bare l.ops.items)
+
+abbrev pub decreases-ops : goal.decreases-ops
+decreases-ops l = length l.cursor.bytes

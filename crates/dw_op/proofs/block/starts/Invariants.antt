@@ -1,0 +1,10 @@
+use Rattle.std.proofs.Common.{length}
+use Rattle.dw_op.specs.Inner.Walk.{block_input}
+use Rattle.dw_op.proofs.Decoded.{StartsSo}
+use Rattle.dw_op.proofs.block.starts.Given as goal
+
+abbrev pub invariant-ops : goal.invariant-ops
+invariant-ops l = StartsSo l.profile (block_input l.fn.target l.fn.bytes) l.cursor (length l.fn.bytes) l.starts.items
+
+abbrev pub decreases-ops : goal.decreases-ops
+decreases-ops l = length l.cursor.bytes

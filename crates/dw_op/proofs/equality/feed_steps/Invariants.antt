@@ -1,0 +1,11 @@
+use Rattle.std.proofs.Common.{length, map, ◌≡◌}
+use Rattle.std.specs.List.{fold}
+use Rattle.dw_op.specs.Comparing.{op_line}
+use Rattle.dw_op.specs.Inner.Comparing.{lines_fed}
+use Rattle.dw_op.proofs.equality.feed_steps.Given as goal
+
+abbrev pub invariant-ops : goal.invariant-ops
+invariant-ops g l = fold g.H.Hasher.write l.state (lines_fed (map op_line l.steps)) ≡ fold g.H.Hasher.write l.initial.state (lines_fed (map op_line l.initial.steps))
+
+abbrev pub decreases-ops : goal.decreases-ops
+decreases-ops g l = length l.steps

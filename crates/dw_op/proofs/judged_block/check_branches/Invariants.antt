@@ -1,0 +1,10 @@
+use Rattle.std.proofs.Common.{length}
+use Rattle.dw_op.specs.Inner.Walk.{block_input}
+use Rattle.dw_op.proofs.Judging.{CheckSo}
+use Rattle.dw_op.proofs.judged_block.check_branches.Given as goal
+
+abbrev pub invariant-ops : goal.invariant-ops
+invariant-ops l = CheckSo (block_input l.fn.target l.fn.bytes) l.walker
+
+abbrev pub decreases-ops : goal.decreases-ops
+decreases-ops l = length l.walker.here.bytes

@@ -1,0 +1,10 @@
+use Rattle.std.proofs.Common.{length}
+use Rattle.dw_op.specs.Inner.Walk.{block_input}
+use Rattle.dw_op.proofs.Judging.{ReadSo}
+use Rattle.dw_op.proofs.judged_block.has_branch.Given as goal
+
+abbrev pub invariant-ops : goal.invariant-ops
+invariant-ops l = ReadSo (block_input l.fn.target l.fn.bytes) l.cursor l.found
+
+abbrev pub decreases-ops : goal.decreases-ops
+decreases-ops l = length l.cursor.bytes

@@ -1,0 +1,10 @@
+use Rattle.std.proofs.Common.{length}
+use Rattle.dw_op.specs.Inner.Lengths.{lengths_at}
+use Rattle.dw_op.proofs.Starts.{Passing}
+use Rattle.dw_op.proofs.layout.Point.come_up.Given as goal
+
+abbrev pub invariant-ops : goal.invariant-ops
+invariant-ops l = Passing l.initial.self l.self
+
+abbrev pub decreases-ops : goal.decreases-ops
+decreases-ops l = length (lengths_at l.self.rest)

@@ -1,0 +1,17 @@
+use Rattle.std.proofs.Common.{◌≡◌, ◌++◌}
+use Rattle.dw_op.specs.Least.{LeastBlock}
+use Rattle.dw_op.specs.Encoding.{IsAppended, blank_parts, least_block}
+use Rattle.dw_op.specs.Inner.Encoding.{EachFits}
+use Rattle.dw_op.proofs.Lent.LeastBlocks.{least_block_is}
+use Rattle.dw_op.proofs.Lent.EncodeLaws.{on_ok}
+use Rattle.dw_op.proofs.least_block.push_list.Goals as goal
+
+pub returns-clause-ok : goal.returns-clause-ok
+returns-clause-ok c =
+    let t = c.args.list.now.target in
+    let ops = c.args.list.now.ops in
+    let old = c.args.out.now.items in
+    let new = c.push_ops.new.out.items in
+    let h = rw (c.ops-ops.ensures.same, c.target-target.ensures) at c.push_ops.ensures.ok in
+    on_ok (EachFits (blank_parts t ops) 0 ops × (new ≡ old ++ least_block t ops)) (IsAppended (LeastBlock t ops) old new) c.push_ops.result
+    (λ p. record { appended = least_block t ops; is = least_block_is t ops c.ops-ops.ensures.in_range p.0; whole = p.1 }) h

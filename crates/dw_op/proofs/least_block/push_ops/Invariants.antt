@@ -1,0 +1,11 @@
+use Rattle.std.proofs.Common.{◌≡◌, ℕ, ◌<◌, length, take, drop, map, get_or}
+use Rattle.dw_op.specs.declared.op.Op.TheVariants.{Addr}
+use Rattle.dw_op.specs.Expression.{bare}
+use Rattle.dw_op.specs.Block.{branch_target}
+use Rattle.dw_op.specs.Encoding.{blank_parts}
+use Rattle.dw_op.specs.Inner.Encoding.{BranchFits}
+use Rattle.dw_op.proofs.Lent.EncodeLaws.{IsGoing}
+use Rattle.dw_op.proofs.least_block.push_ops.Given as goal
+
+abbrev pub invariant-loop-index : goal.invariant-loop-index
+invariant-loop-index l = record { going : IsGoing l.target (map bare l.ops) l.fn.out.items l.index (drop l.index (map bare l.ops)) l.out.items; front : take (length l.fn.out.items) l.out.items ≡ l.fn.out.items; fits : (j : ℕ) → j < l.index → BranchFits (blank_parts l.target (map bare l.ops)) j (branch_target (bare (get_or l.ops j (Addr 0)))) }

@@ -1,0 +1,12 @@
+use Rattle.std.proofs.Common.{◌-◌, arith}
+use Rattle.dw_op.proofs.Marked.{fill_none, fill_more}
+use Rattle.dw_op.proofs.marks.fill.Goals as goal
+
+pub marks-init : goal.marks-init
+marks-init c = rw (c.clear.ensures, c.copied-cursor.ensures, c.at-low.ensures.place) (fill_none c.args.window.now c.requires.bytes c.requires.read)
+
+pub marks-preserved : goal.marks-preserved
+marks-preserved c =
+    rw (c.push.ensures, c.in-Some.ensures)
+    (fill_more c.args.window.now c.marks.marks c.marks.low c.marks.count c.advance-count.result (c.left-left.result - c.left.result) c.marks.cursor c.advance-count.new.window c.marks.invariant c.advance-count.ensures
+    (omega (arith, c.left-left.ensures, c.left.ensures)))

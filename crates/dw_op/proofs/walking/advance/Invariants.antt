@@ -1,9 +1,0 @@
-use Rattle.std.proofs.Common.{length}
-use Rattle.dw_op.specs.Inner.Windows.{Shifted}
-use Rattle.dw_op.proofs.walking.advance.Given as goal
-
-abbrev pub invariant-ops : goal.invariant-ops
-invariant-ops l = Shifted l.initial.window l.low l.count l.window
-
-abbrev pub decreases-ops : goal.decreases-ops
-decreases-ops l = length l.window.bytes

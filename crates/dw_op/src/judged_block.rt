@@ -1,0 +1,52 @@
+//! Judging a block of the frame profile without memory.
+
+ghost use Rattle.std.specs.Prelude.{◌≡◌, None, Some, Ok, Err, IfOk, IfErr, false};
+ghost use Rattle.dw_op.specs.declared.profile.Profile.TheVariants.{Frame};
+ghost use Rattle.dw_op.specs.Inner.Walk.{walk, block_input, decode_at};
+ghost use Rattle.dw_op.specs.Inner.Accepted.{IsAccepted};
+
+use crate::operation::{Step, next_step};
+use crate::profile::Profile;
+use crate::walk::Walker;
+use dw_num::{Cursor, Refusal, Target, are_bytes};
+
+// Reads a block to its end, and says whether it has a branch.
+fn has_branch(bytes: &[u8], target: Target) -> Result<bool, Refusal>
+    ensures read { IfOk result (λ b. (walk Frame (block_input target bytes.now)).fault ≡ None) }
+    ensures plain { IfOk result (λ b. b ≡ false → IsAccepted target bytes.now) }
+    ensures first { IfErr result (λ r. (walk Frame (block_input target bytes.now)).fault ≡ Some r) }
+{
+    are_bytes(bytes);
+    let mut cursor = Cursor::new(bytes, 0, target);
+    let mut found = false;
+    'ops: while cursor.left() > 0 {
+        match next_step(&mut cursor, Profile::Frame)? {
+            Step::Plain(_) => {}
+            Step::Jump(_, _) => found = true,
+        }
+    }
+    Ok(found)
+}
+
+// Whether each branch of a block leads to an operation's start or to the end.
+fn check_branches(bytes: &[u8], target: Target) -> Result<(), Refusal>
+    requires { (walk Frame (block_input target bytes.now)).fault ≡ None }
+    ensures found { IfOk result (λ _. IsAccepted target bytes.now) }
+    ensures first { IfErr result (λ r. decode_at Frame (block_input target bytes.now) ≡ Err r) }
+{
+    are_bytes(bytes);
+    let mut walker = Walker::new(bytes, target);
+    'ops: while let Some(_) = walker.next_op()? {}
+    Ok(())
+}
+
+/// Whether bytes are a block of the frame profile, or their first fault.
+pub(crate) fn judge(bytes: &[u8], target: Target) -> Result<(), Refusal>
+    ensures found { IfOk result (λ _. IsAccepted target bytes.now) }
+    ensures first { IfErr result (λ r. decode_at Frame (block_input target bytes.now) ≡ Err r) }
+{
+    if has_branch(bytes, target)? {
+        check_branches(bytes, target)?;
+    }
+    Ok(())
+}

@@ -1,0 +1,142 @@
+//! Marks along a block: operations that a search can begin at, and how many are before each.
+
+ghost use Rattle.std.specs.Prelude.{◌≡◌, ◌<◌, ◌≤◌, ◌+◌, ◌++◌, ◌∷◌, [], Some, None, IfSome, length, slice_get};
+ghost use Rattle.dw_num.specs.Input.{AreBytes, behind};
+ghost use Rattle.dw_op.specs.declared.profile.Profile.TheVariants.{Frame};
+ghost use Rattle.dw_op.specs.Inner.Walk.{walk, end_of, index_at};
+ghost use Rattle.dw_op.specs.Inner.Windows.{AreMarks};
+
+use crate::walk::{advance, copied, index_from};
+use dw_num::Cursor;
+use std::marker::Model;
+
+/// How many bytes marks are apart.
+pub(crate) const APART: u64 = 512;
+/// How many marks there are room for.
+pub(crate) const ROOM: u64 = 192;
+
+/// An operation, by how many bytes and operations are before it.
+#[derive(Clone, Copy)]
+pub(crate) struct Mark {
+    pub(crate) bytes: u32,
+    pub(crate) count: u32,
+}
+
+/// Up to 192 marks, which are kept in place.
+#[derive(Drop)]
+pub(crate) struct Marks<M: Copy> {
+    all: [M; 192],
+    len: usize,
+}
+
+impl<M: Copy> Model for Marks<M> {
+    ghost use Rattle.std.specs.Prelude.{List, take, length, ◌≤◌, ◌≡◌};
+
+    ghost Value = { List M };
+
+    ghost view = { λ m. take m.len m.all };
+
+    ghost invariant = { λ m. (m.len ≤ 192) × (length m.all ≡ 192) };
+}
+
+impl<M: Copy> Marks<M> {
+    /// None, where blank marks fill the room.
+    pub(crate) fn new(blank: M) -> Marks<M>
+        ensures { result ≡ [] }
+    {
+        Marks {
+            all: [blank; 192],
+            len: 0,
+        }
+    }
+
+    pub(crate) fn len(&self) -> usize
+        ensures { result ≡ length self.now }
+    {
+        self.len
+    }
+
+    pub(crate) fn clear(&mut self)
+        ensures { self.new ≡ [] }
+    {
+        self.len = 0;
+    }
+
+    pub(crate) fn push(&mut self, mark: M)
+        requires { length self.old < 192 }
+        ensures { self.new ≡ self.old ++ mark ∷ [] }
+    {
+        self.all[self.len] = mark;
+        self.len += 1;
+    }
+
+    pub(crate) fn at(&self, k: usize) -> M
+        requires { k < length self.now }
+        ensures { slice_get self.now k ≡ Some result }
+    {
+        let all = &self.all;
+        all[k]
+    }
+}
+
+// A mark, for an operation that is not four gigabytes away.
+fn mark_at(bytes: usize, count: usize) -> Option<Mark>
+    ensures { IfSome result (λ m. m ≡ record { bytes = bytes; count = count }) }
+{
+    match (u32::try_from(bytes), u32::try_from(count)) {
+        (Ok(bytes), Ok(count)) => Some(Mark { bytes, count }),
+        _ => None,
+    }
+}
+
+/// Marks what a cursor has left, as far as there is room.
+pub(crate) fn fill(window: &Cursor<'_>, marks: &mut Marks<Mark>)
+    requires bytes { AreBytes window.now.bytes }
+    requires read { (walk Frame window.now).fault ≡ None }
+    ensures { AreMarks window.now marks.new }
+{
+    marks.clear();
+    let left = window.left();
+    let end = window.at() + left as u64;
+    let mut cursor = copied(window);
+    let mut count = 0;
+    let mut low = window.at() + APART;
+    'marks: while marks.len() < 192 {
+        if end < low {
+            return;
+        }
+        count += advance(&mut cursor, low);
+        match mark_at(left - cursor.left(), count) {
+            Some(mark) => marks.push(mark),
+            None => return,
+        }
+        low += APART;
+    }
+}
+
+/// A cursor behind so many bytes of another.
+pub(crate) fn cursor_behind<'a>(window: &Cursor<'a>, bytes: usize) -> Cursor<'a>
+    requires { bytes ≤ length window.now.bytes }
+    ensures { result ≡ behind bytes window.now }
+{
+    let (_, rest) = window.rest().split_at(bytes);
+    Cursor::new(rest, window.at() + bytes as u64, window.target())
+}
+
+/// Which of the operations from the cursor on begins at the place, or how many there are for the end.
+pub(crate) fn index_by(window: &Cursor<'_>, marks: &Marks<Mark>, place: u64) -> Option<usize>
+    requires bytes { AreBytes window.now.bytes }
+    requires read { (walk Frame window.now).fault ≡ None }
+    requires marks { AreMarks window.now marks.now }
+    ensures exact { result ≡ index_at (walk Frame window.now).items (end_of window.now) place }
+    ensures few { IfSome result (λ i. i ≤ length window.now.bytes) }
+{
+    let far = place.saturating_sub(window.at()) / APART;
+    let k = marks.len().min(far as usize);
+    if k == 0 {
+        return index_from(window, place);
+    }
+    let mark = marks.at(k - 1);
+    let index = index_from(&cursor_behind(window, mark.bytes as usize), place)?;
+    Some(mark.count as usize + index)
+}
