@@ -3,30 +3,37 @@
 //! `dw_command::engine` is the whole command over a list of words, files and two outputs; `main` runs it over the real ones.
 #![tactic(auto)]
 
-ghost use Rattle.std.specs.Prelude.{◌≡◌, ◌≢◌, ◌≤◌, IfOk};
+ghost use Rattle.std.specs.Prelude.{◌≡◌, ◌≢◌, ⊤, ℕ, ◌<◌, ◌≤◌, ◌-◌, ◌^◌, Result, map, string_bytes};
 ghost use Rattle.std.specs.IoError.{error_kind};
+ghost use Rattle.dw_command.specs.Answers.{Ends, exit_of};
+ghost use Rattle.dw_command.specs.declared.failure.Failure.{Failure};
 
 use dw_command::{Disk, Hinted, Listing, Shown, engine};
 use std::io::{ErrorKind, IsTerminal, Write};
 use std::process::ExitCode;
 use std::{env, io};
 
-// Hints are for people alone, so that a program that reads standard error finds the one line. A terminal is told no control
-// characters of a path.
-fn run(rt: &HostRuntime) -> io::Result<u8>
-    ensures { IfOk result (λ status. status ≤ 5) }
+// No clause of the system's arguments says what they are, so none can say that these are they.
+fn words_of(rt: &HostRuntime) -> io::Result<Vec<String>> {
+    Ok(env::args(rt)?.collect(rt.alloc())?)
+}
+
+// The exit status of the command over the files of the system. Hints are for people alone, so that a program that reads
+// standard error finds the one line. A terminal is told no control characters of a path.
+fn run<W: Write>(rt: &HostRuntime, words: &[String], out: &mut Listing<W>) -> u8
+    requires room { out.old.failures < 2 ^ 64 - 1 }
+    // It is the status of an answer to these words, whatever the files hold.
+    ensures ends { (answer : Result ℕ Failure) × Ends (λ _ _. ⊤) out.old.failures out.new.failures out.new.len (map string_bytes words.now) answer × (result ≡ exit_of answer) }
+    ensures most { result ≤ 5 }
 {
-    let alloc = rt.alloc();
-    let words: Vec<String> = env::args(rt)?.collect(alloc)?;
     let mut files = Disk::new(rt);
-    let mut out = Listing::new(rt.stdout());
     let mut err = rt.stderr();
     if err.is_terminal() {
         let mut err = Shown::new(err);
         let mut files = Hinted::new(files, Shown::new(rt.stderr()));
-        return Ok(engine(alloc, words.as_slice(), &mut files, &mut out, &mut err));
+        return engine(rt.alloc(), words, &mut files, out, &mut err);
     }
-    Ok(engine(alloc, words.as_slice(), &mut files, &mut out, &mut err))
+    engine(rt.alloc(), words, &mut files, out, &mut err)
 }
 
 // Without words there is no run: memory ran out, or a word is not text.
@@ -44,8 +51,11 @@ fn status_without_run(rt: &HostRuntime, error: &io::Error) -> u8
 }
 
 fn main(rt: HostRuntime) -> ExitCode {
-    match run(&rt) {
-        Ok(status) => ExitCode::from(status),
+    match words_of(&rt) {
+        Ok(words) => {
+            let mut out = Listing::new(rt.stdout());
+            ExitCode::from(run(&rt, words.as_slice(), &mut out))
+        }
         Err(error) => ExitCode::from(status_without_run(&rt, &error)),
     }
 }
