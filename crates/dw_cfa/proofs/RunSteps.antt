@@ -1,8 +1,7 @@
 -- One instruction of a program, in the rows still to come.
-use Rattle.std.proofs.Common.{◌≡◌, ℕ, ◌<◌, true, false, List, [], length, Option, None, Some, Result, Ok, Err, IsOk, refl, sym, ap, ◌∙◌, subst}
+use Rattle.std.proofs.Common.{◌≡◌, ℕ, ◌<◌, List, [], length, Option, None, Some, Result, Ok, Err, IsOk, refl, sym, ap, ◌∙◌, subst}
 use Rattle.std.specs.Prelude.{IsTrue}
 use Rattle.dw_num.specs.declared.refusal.Code.{Code}
-use Rattle.dw_num.specs.declared.refusal.Code.TheVariants.{NotInCie}
 use Rattle.dw_num.specs.declared.refusal.Refusal.{Refusal}
 use Rattle.dw_num.specs.Input.{Input, AreBytes}
 use Rattle.dw_num.specs.Reading.{Read}
@@ -14,18 +13,15 @@ use Rattle.dw_cfa.specs.declared.instr.Factors.{Factors}
 use Rattle.dw_cfa.specs.declared.instr.Instr.{Instr}
 use Rattle.dw_cfa.specs.declared.instr.Instr.TheVariants.{Nop, SetLoc, Advance, DefCfa, DefCfaRegister, DefCfaOffset, DefCfaExpression, Set, Restore, RememberState, RestoreState}
 use Rattle.dw_cfa.specs.declared.machine.Machine.{Machine}
-use Rattle.dw_cfa.specs.declared.machine.StepError.{StepError}
-use Rattle.dw_cfa.specs.declared.machine.StepError.TheVariants as step
 use Rattle.dw_cfa.specs.Location.{moves_location}
-use Rattle.dw_cfa.specs.Kept.{in_cie}
 use Rattle.dw_cfa.specs.Inner.Reading.{instr_at}
 use Rattle.dw_cfa.specs.Rows.{Rules, blank}
 use Rattle.dw_cfa.specs.declared.rule.RegRule.{RegRule}
 use Rattle.dw_cfa.specs.Inner.Stepping.{begun_rows}
-use Rattle.dw_cfa.specs.Inner.Machine.{State, begun, written, after, half_fault, fde_fault, FaultIs}
+use Rattle.dw_cfa.specs.Inner.Machine.{State, begun, written, after, cie_fault, fde_fault}
 use Rattle.dw_cfa.specs.Inner.States.{Held, BeganWith}
 use Rattle.dw_cfa.specs.Inner.Steps.{state_of, IsAfter}
-use Rattle.dw_cfa.specs.Inner.Runs.{Placing, placed, cie_run, initial_row, on_initial, here, row_if, fault_or, fde_rows, rows_left, rows_behind, run_rows, RunsSo, run_error, RanTo, WroteTo}
+use Rattle.dw_cfa.specs.Inner.Runs.{Placing, placed, cie_run, initial_row, on_initial, here, row_if, fault_or, fde_rows, rows_left, rows_behind, run_rows, RunsSo, RanTo, WroteTo}
 use Rattle.dw_cfa.specs.Runs.{Outcome, fails, finished, row_then}
 use Rattle.dw_cfa.proofs.Placings.{reads, placed_end, placed_step, placed_stuck}
 
@@ -83,20 +79,15 @@ unfolding cie_run
 initial_stuck f i row r some e = rw (placed_stuck f i r some e) refl
 
 module _ (f : Factors) (i : Input) (row : Rules) (x : Instr × Input) (h : AreBytes i.bytes) (some : 0 < length i.bytes) (e : instr_at f i ≡ Ok x) where
-  pub initial_not : in_cie x.0 ≡ false → initial_row (placed f i) row ≡ Err (record { code = NotInCie; at = i.at })
+  pub initial_fault : (code : Code) → cie_fault x.0 row ≡ Some code → initial_row (placed f i) row ≡ Err (record { code = code; at = i.at })
   unfolding cie_run
-  initial_not not = rw (placed_step f i x h some e, not) refl
+  initial_fault code is = rw (placed_step f i x h some e, is) refl
 
-  pub initial_fault : (error : StepError) → in_cie x.0 ≡ true → FaultIs error (half_fault x.0 row.cfa) → Refuses (λ r. initial_row (placed f i) row ≡ Err r) (run_error i.at error)
+  pub initial_wrote : (row' : Rules) → cie_fault x.0 row ≡ None → row' ≡ written x.0 row → WroteTo f i row x.1 row'
   unfolding cie_run
-  initial_fault (step.Fault code) is fault = rw (placed_step f i x h some e, is, fault) refl
-  initial_fault step.OutOfMemory is fault = tt
-
-  pub initial_wrote : (row' : Rules) → in_cie x.0 ≡ true → half_fault x.0 row.cfa ≡ None → row' ≡ written x.0 row → WroteTo f i row x.1 row'
-  unfolding cie_run
-  initial_wrote row' is none new = record {
+  initial_wrote row' none new = record {
     shorter = (reads f i x h e).shorter;
-    initial = rw (placed_step f i x h some e, is, none, new) refl;
+    initial = rw (placed_step f i x h some e, none, new) refl;
   }
 
 -- ---- a CIE's program, and then an FDE's

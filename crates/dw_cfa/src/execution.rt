@@ -4,13 +4,13 @@ ghost use Rattle.std.specs.Prelude.{◌≡◌, ◌<◌, ◌≤◌, ℕ, None, So
 ghost use Rattle.dw_num.specs.Refusals.{Refuses};
 ghost use Rattle.dw_cfa.specs.RuleAt.{last_at, NeverFalls};
 ghost use Rattle.dw_cfa.specs.Rows.{Rules};
-ghost use Rattle.dw_cfa.specs.Kept.{in_cie};
-ghost use Rattle.dw_cfa.specs.Inner.Runs.{RunsSo, GivesRow, Wrote, rows_left, initial_row, placed, run_error};
+ghost use Rattle.dw_cfa.specs.Inner.Runs.{RunsSo, GivesRow, Wrote, rows_left, initial_row, placed};
 ghost use Rattle.dw_cfa.specs.Inner.Walking.{AllSpecify};
 
-use crate::instr::{Factors, Instr};
-use crate::machine::{End, Machine, StepError, write_rule};
-use crate::opcode::read_instr;
+use crate::cie_instruction::write_operands;
+use crate::instr::Factors;
+use crate::machine::{End, Machine};
+use crate::opcode::known_opcode;
 use crate::row::Row;
 use crate::states::States;
 use crate::turn::turn;
@@ -23,31 +23,6 @@ pub struct LocatedRow<'a> {
     pub location: u128,
     /// The rules from there on.
     pub row: Row<'a>,
-}
-
-// The error of the instruction at a place.
-fn run_error(at: u64, error: StepError) -> ReadError
-    ensures { result ≡ run_error at error }
-{
-    match error {
-        StepError::Fault(code) => ReadError::Refused(Refusal { code, at }),
-        StepError::OutOfMemory => ReadError::OutOfMemory,
-    }
-}
-
-// Whether a CIE's program may hold an instruction.
-fn is_in_cie(instr: &Instr<'_>) -> bool
-    ensures { result ≡ in_cie instr.now }
-{
-    match instr {
-        Instr::Nop => true,
-        Instr::DefCfa { .. } => true,
-        Instr::DefCfaRegister(_) => true,
-        Instr::DefCfaOffset(_) => true,
-        Instr::DefCfaExpression(_) => true,
-        Instr::Set(_, _) => true,
-        _ => false,
-    }
 }
 
 /// Runs a program up to the end of a row, which the machine has then. Answers where the row starts, and whether
@@ -119,6 +94,7 @@ pub(crate) fn run_to<'a>(
 }
 
 // Reads an instruction of a CIE's program, and writes its rule into the row.
+#[inline(always)]
 fn write_one<'a>(
     cursor: &mut Cursor<'a>,
     factors: Factors,
@@ -132,16 +108,16 @@ fn write_one<'a>(
 {
     are_bytes(cursor.rest());
     let at = cursor.at();
-    let instr = read_instr(cursor, factors, known)?;
-    if !is_in_cie(&instr) {
-        return Err(ReadError::Refused(Refusal {
-            code: Code::NotInCie,
-            at,
-        }));
-    }
-    match write_rule(states, instr) {
-        Ok(()) => Ok(()),
-        Err(error) => Err(run_error(at, error)),
+    let code = match cursor.byte() {
+        Ok(code) => code,
+        Err(refusal) => return Err(ReadError::Refused(refusal)),
+    };
+    match known_opcode(code) {
+        Some(opcode) => write_operands(opcode, cursor, factors, states, at, known),
+        None => {
+            let code = Code::UnknownInstruction;
+            Err(ReadError::Refused(Refusal { code, at }))
+        }
     }
 }
 

@@ -4,6 +4,7 @@
 mod advance;
 mod behind;
 mod cfa;
+mod cie_instruction;
 mod cie_machine;
 mod coverage;
 mod debug;

@@ -453,7 +453,7 @@ fn read_val_expression<'a>(cursor: &mut Cursor<'a>, known: bool) -> Result<Instr
 
 // The instruction of a code that stands at this place.
 #[tactic(auto, unfolding(crate::specs::Inner::ByOpcode::operands_at))]
-fn operands<'a>(
+pub(crate) fn operands<'a>(
     cursor: &mut Cursor<'a>,
     factors: Factors,
     at: u64,

@@ -1,15 +1,18 @@
 -- One turn of the loop that runs an FDE's program.
-use Rattle.std.specs.Prelude.{◌≡◌, ℕ, true, false, Some, Ok, Err}
+use Rattle.std.specs.Prelude.{◌≡◌, ℕ, true, false, None, Some, Result, Ok, Err}
 use Rattle.dw_num.specs.declared.refusal.Refusal.{Refusal}
 use Rattle.dw_num.specs.Input.{Input}
 use Rattle.dw_num.specs.Reading.{Read}
+use Rattle.dw_num.specs.declared.error.ReadError.{ReadError}
+use Rattle.dw_num.specs.Refusals.{Refuses}
 use Rattle.dw_cfa.specs.declared.instr.Factors.{Factors}
 use Rattle.dw_cfa.specs.declared.instr.Instr.{Instr}
 use Rattle.dw_cfa.specs.declared.machine.Machine.{Machine}
 use Rattle.dw_cfa.specs.declared.machine.End.{End}
 use Rattle.dw_cfa.specs.declared.machine.End.TheVariants as ends
 use Rattle.dw_cfa.specs.Location.{moves_location}
-use Rattle.dw_cfa.specs.Inner.Machine.{fde_fault}
+use Rattle.dw_cfa.specs.Inner.Machine.{cie_fault, fde_fault, written}
+use Rattle.dw_cfa.specs.Inner.States.{Held}
 use Rattle.dw_cfa.specs.Inner.Steps.{state_of, IsAfter}
 use Rattle.dw_cfa.specs.Runs.{fails}
 use Rattle.dw_cfa.specs.Inner.Runs.{rows_left, RanTo}
@@ -30,3 +33,11 @@ Turned f i m ends.On fault j m' = RanTo f i m false j m'
 Turned f i m ends.Moved fault j m' = RanTo f i m true j m'
 Turned f i m ends.Refused fault j m' = rows_left f i m ≡ fails fault
 Turned f i m ends.OutOfMemory fault j m' = Unit {0}
+
+-- the same for an instruction of a CIE's program, whose rule was written into the row
+abbrev pub Entered : {X : Type 0} → Read Instr → ℕ → Held → Result X ReadError → Input → Held → Type 0
+Entered (Ok x) at s (Ok u) j s' =
+    (x.1 ≡ j) × (cie_fault x.0 s.row ≡ None) × (s' ≡ record { row = written x.0 s.row; stack = s.stack; first = s.first; kept = s.kept })
+Entered (Ok x) at s (Err e) j s' = Refuses (λ r. (r.at ≡ at) × (cie_fault x.0 s.row ≡ Some r.code)) e
+Entered (Err r) at s (Ok u) j s' = ⊥
+Entered (Err r) at s (Err e) j s' = Refuses (λ q. r ≡ q) e
