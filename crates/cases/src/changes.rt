@@ -5,25 +5,45 @@ use dw_section::{Changes, FdeRef, Table};
 use std::alloc::Global;
 use std::test::Fail;
 
-fn given(alloc: Global, mut changes: Changes<'_>) -> Result<String, Fail> {
-    let mut text = String::new(alloc);
-    for _ in 0..100 {
-        match changes.next()? {
-            Some((address, row)) => text.push_str(&located_text(alloc, address, &row)?)?,
-            None => return Ok(text),
-        }
+// The next change by the call that copies its row, and nothing behind the last one.
+fn next_given(alloc: Global, changes: &mut Changes<'_>) -> Result<String, Fail> {
+    match changes.next()? {
+        Some((address, row)) => located_text(alloc, address, &row),
+        None => Ok(String::new(alloc)),
     }
-    Err(Fail::new("no last change"))
 }
 
-fn lent(alloc: Global, mut changes: Changes<'_>) -> Result<String, Fail> {
+// The next change by the calls that lend its row.
+fn next_lent(alloc: Global, changes: &mut Changes<'_>) -> Result<String, Fail> {
+    let Some(address) = changes.advance()? else {
+        return Ok(String::new(alloc));
+    };
+    let row = changes.row().ok_or("the row of a change")?;
+    located_text(alloc, address, row)
+}
+
+// The next change, on which both calls agree.
+fn next_change(
+    alloc: Global,
+    given: &mut Changes<'_>,
+    lent: &mut Changes<'_>,
+) -> Result<String, Fail> {
+    let text = next_given(alloc, given)?;
+    if text != next_lent(alloc, lent)? {
+        return Err(Fail::new("both calls differ"));
+    }
+    Ok(text)
+}
+
+// The changes of an FDE.
+fn fde_text(alloc: Global, mut given: Changes<'_>, mut lent: Changes<'_>) -> Result<String, Fail> {
     let mut text = String::new(alloc);
     for _ in 0..100 {
-        let Some(address) = changes.advance()? else {
+        let change = next_change(alloc, &mut given, &mut lent)?;
+        if change.is_empty() {
             return Ok(text);
-        };
-        let row = changes.row().ok_or("the row of a change")?;
-        text.push_str(&located_text(alloc, address, row)?)?;
+        }
+        text.push_str(&change)?;
     }
     Err(Fail::new("no last change"))
 }
@@ -45,15 +65,12 @@ pub fn differing(alloc: Global, changes: &mut Changes<'_>) -> Result<String, Fai
     Ok(format!(in alloc; "{address:#x} {first:?} {second:?} {third:?}")?)
 }
 
-/// The changes of all FDEs, on which both calls agree.
+/// The changes of all FDEs.
 pub fn changes_text(alloc: Global, table: &Table<'_>) -> Result<String, Fail> {
     let mut text = String::new(alloc);
     for place in 0..table.fde_count() {
         let fde = FdeRef { place };
-        let all = given(alloc, table.changes(fde))?;
-        if all != lent(alloc, table.changes(fde))? {
-            return Err(Fail::new("both calls differ"));
-        }
+        let all = fde_text(alloc, table.changes(fde), table.changes(fde))?;
         text.push_str(&all)?;
     }
     Ok(text)

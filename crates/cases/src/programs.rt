@@ -84,43 +84,54 @@ fn steps_of<'a>(alloc: Global, pair: Pair<'a>) -> RowSteps<'a> {
     RowSteps::new(alloc, cie, fde, pair.begin, pair.factors, pair.target)
 }
 
-// Appends the rows that are to come, and answers the error behind them.
-fn put_rows(
-    alloc: Global,
-    text: &mut String,
-    steps: &mut RowSteps<'_>,
-) -> Result<Option<ReadError>, Fail> {
-    for _ in 0..100 {
-        match steps.next() {
-            Ok(Some(row)) => text.push_str(&located_text(alloc, row.location, &row.row)?)?,
-            Ok(None) => return Ok(None),
-            Err(error) => return Ok(Some(error)),
+// Appends the next row, or the refusal in its place, and answers whether there was a row.
+fn put_next(alloc: Global, text: &mut String, steps: &mut RowSteps<'_>) -> Result<bool, Fail> {
+    match steps.next() {
+        Ok(Some(row)) => {
+            text.push_str(&located_text(alloc, row.location, &row.row)?)?;
+            Ok(true)
+        }
+        Ok(None) => Ok(false),
+        Err(error) => {
+            text.push_str(&error_text(alloc, error)?)?;
+            Ok(false)
         }
     }
-    Err(Fail::new("no last row"))
 }
 
 // The rows, and the refusal behind them.
 fn one_by_one(alloc: Global, pair: Pair<'_>) -> Result<String, Fail> {
     let mut text = String::new(alloc);
     let mut steps = steps_of(alloc, pair);
-    if let Some(error) = put_rows(alloc, &mut text, &mut steps)? {
-        text.push_str(&error_text(alloc, error)?)?;
+    for _ in 0..100 {
+        if !put_next(alloc, &mut text, &mut steps)? {
+            return Ok(text);
+        }
     }
-    Ok(text)
+    Err(Fail::new("no last row"))
+}
+
+// The same of the FDE that a machine has begun.
+fn put_begun(alloc: Global, text: &mut String, machine: &mut CieMachine<'_>) -> Result<bool, Fail> {
+    match machine.advance() {
+        Ok(Some(at)) => {
+            text.push_str(&located_text(alloc, at, machine.row())?)?;
+            Ok(true)
+        }
+        Ok(None) => Ok(false),
+        Err(error) => {
+            text.push_str(&error_text(alloc, error)?)?;
+            Ok(false)
+        }
+    }
 }
 
 /// The rows of the FDE that a machine has begun, and the refusal behind them.
 pub fn begun(alloc: Global, machine: &mut CieMachine<'_>) -> Result<String, Fail> {
     let mut text = String::new(alloc);
     for _ in 0..100 {
-        match machine.advance() {
-            Ok(Some(at)) => text.push_str(&located_text(alloc, at, machine.row())?)?,
-            Ok(None) => return Ok(text),
-            Err(error) => {
-                text.push_str(&error_text(alloc, error)?)?;
-                return Ok(text);
-            }
+        if !put_begun(alloc, &mut text, machine)? {
+            return Ok(text);
         }
     }
     Err(Fail::new("no last row"))
