@@ -7,7 +7,7 @@ ghost use Rattle.dw_section.specs.Inner.Table.{IsTable};
 ghost use Rattle.dw_section.specs.declared.fde_range.Ranged.{Ranged as TheRanged};
 ghost use Rattle.dw_section.specs.declared.standing_fde.LookUpError.TheVariants as TheLookUpError;
 ghost use Rattle.dw_library.specs.Answers.{target_of};
-ghost use Rattle.dw_library.specs.Index.{AreEntries, HasSize, IsAnyRow, IsIndexed, IsRow, TellsFde, TellsRow, TellsRules, Told, cfa_kind_of, cfa_offset_of, cfa_register_of, kind_of, no_row, offset_of, other_of, over, rule_of};
+ghost use Rattle.dw_library.specs.Index.{AreEntries, HasSize, IsAnyRow, IsIndexed, IsRow, TellsFde, TellsRow, TellsRules, Told, cfa_kind_of, cfa_offset_of, cfa_register_of, no_row, over, rule_of};
 
 use crate::answer::{
     BAD_ARGUMENT, OK, OUT_OF_MEMORY, REFUSED, Refused, TOO_SHORT, not_refused, target_of, told,
@@ -155,49 +155,33 @@ pub extern "C" fn dwframe_index(
     }
 }
 
-fn kind_of(rule: &RegRule<'_>) -> u16
-    ensures { result ≡ kind_of rule.now }
+// The rule of a register whose rule has no more than a kind and what that names.
+#[inline(always)]
+fn told_rule(number: u16, kind: u16, other: u32, offset: i64) -> Rule
+    ensures { result ≡ record { number = number; kind = kind; other = other; offset = offset } }
 {
-    match rule {
-        RegRule::Unspecified => 0,
-        RegRule::Undefined => 1,
-        RegRule::SameValue => 2,
-        RegRule::Offset(_) => 3,
-        RegRule::ValOffset(_) => 4,
-        RegRule::Register(_) => 5,
-        RegRule::Expression(_) => 6,
-        RegRule::ValExpression(_) => 7,
+    Rule {
+        number,
+        kind,
+        other,
+        offset,
     }
 }
 
-fn other_of(rule: &RegRule<'_>) -> u32
-    ensures { result ≡ other_of rule.now }
-{
-    match rule {
-        RegRule::Register(register) => u32::from(*register),
-        _ => 0,
-    }
-}
-
-fn offset_of(rule: &RegRule<'_>) -> i64
-    ensures { result ≡ offset_of rule.now }
-{
-    match rule {
-        RegRule::Offset(offset) => *offset,
-        RegRule::ValOffset(offset) => *offset,
-        _ => 0,
-    }
-}
-
+#[inline(always)]
 fn rule_of(number: u16, rule: &RegRule<'_>) -> Rule
     ensures told { result ≡ rule_of (number, rule.now) }
     ensures fits { number < 65536 }
 {
-    Rule {
-        number,
-        kind: kind_of(rule),
-        other: other_of(rule),
-        offset: offset_of(rule),
+    match rule {
+        RegRule::Unspecified => told_rule(number, 0, 0, 0),
+        RegRule::Undefined => told_rule(number, 1, 0, 0),
+        RegRule::SameValue => told_rule(number, 2, 0, 0),
+        RegRule::Offset(offset) => told_rule(number, 3, 0, *offset),
+        RegRule::ValOffset(offset) => told_rule(number, 4, 0, *offset),
+        RegRule::Register(register) => told_rule(number, 5, u32::from(*register), 0),
+        RegRule::Expression(_) => told_rule(number, 6, 0, 0),
+        RegRule::ValExpression(_) => told_rule(number, 7, 0, 0),
     }
 }
 
@@ -271,15 +255,15 @@ fn tell(found: &StandingFde, rules: &CfaRow<'_>, out: &mut [Rule], row: &mut Row
     ensures { TellsRow (record { fde = found.now; row = rules.now }) out.old (record { status = result; row = row.new; rules = out.new }) }
 {
     let fde = found.fde();
-    let cfa = rules.cfa();
+    let cfa = rules.cfa_rule();
     let count = put_rules(rules, out);
     *row = Row {
         begin: fde.begin,
         range: found.range(),
-        cfa_offset: cfa_offset_of(&cfa),
+        cfa_offset: cfa_offset_of(cfa),
         count,
-        cfa_kind: cfa_kind_of(&cfa),
-        cfa_register: cfa_register_of(&cfa),
+        cfa_kind: cfa_kind_of(cfa),
+        cfa_register: cfa_register_of(cfa),
         return_register: fde.return_register,
     };
     if count <= out.len() as u64 {
