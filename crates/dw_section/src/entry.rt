@@ -103,6 +103,7 @@ pub(crate) struct Placed<'a> {
 
 // The item at the front.
 #[tactic(auto, unfolding(crate::specs::Faults::item_at, dw_num::specs::Reading::take_at))]
+#[inline(always)]
 pub(crate) fn next_part<'a>(cursor: &mut Cursor<'a>) -> Result<Part<'a>, Refusal>
     requires { cursor.old.at + length cursor.old.bytes ≤ 2147483647 }
     ensures found { IfOk result (λ p. IsItem (item_of p) × Takes cursor.old (item_bytes cursor.old.target.order (item_of p)) cursor.new) }

@@ -46,6 +46,7 @@ fn version_in(byte: u8) -> Option<Version>
 }
 
 #[tactic(auto, unfolding(crate::specs::Inner::Fields::wanted_at))]
+#[inline(always)]
 fn want_byte(cursor: &mut Cursor<'_>, wanted: u8, code: Code) -> Result<(), Refusal>
     ensures { Gives (λ _. tt) result (wanted_at wanted code cursor.old) cursor.new }
 {
@@ -59,6 +60,7 @@ fn want_byte(cursor: &mut Cursor<'_>, wanted: u8, code: Code) -> Result<(), Refu
 }
 
 #[tactic(auto, unfolding(crate::specs::Inner::Fields::version_at))]
+#[inline(always)]
 fn read_version(cursor: &mut Cursor<'_>) -> Result<Version, Refusal>
     ensures { Gives (λ v. v) result (version_at cursor.old) cursor.new }
 {
@@ -81,6 +83,7 @@ fn string_len(bytes: &[u8]) -> Option<usize>
 }
 
 #[tactic(auto, unfolding(crate::specs::Inner::Fields::empty_string_at, dw_num::specs::Reading::take_at))]
+#[inline(always)]
 fn empty_string(cursor: &mut Cursor<'_>) -> Result<(), Refusal>
     ensures { Gives (λ _. tt) result (empty_string_at cursor.old) cursor.new }
 {
@@ -102,6 +105,7 @@ fn empty_string(cursor: &mut Cursor<'_>) -> Result<(), Refusal>
 }
 
 #[tactic(auto, unfolding(crate::specs::Inner::Fields::sizes_at))]
+#[inline(always)]
 fn read_sizes(cursor: &mut Cursor<'_>, version: Version) -> Result<(), Refusal>
     ensures { Gives (λ _. tt) result (sizes_at version cursor.old) cursor.new }
 {
@@ -117,6 +121,7 @@ fn read_sizes(cursor: &mut Cursor<'_>, version: Version) -> Result<(), Refusal>
 }
 
 #[tactic(auto, unfolding(crate::specs::Inner::Fields::return_register_at))]
+#[inline(always)]
 fn read_register(cursor: &mut Cursor<'_>, version: Version) -> Result<u16, Refusal>
     ensures { Gives (λ r. r) result (return_register_at version cursor.old) cursor.new }
 {
@@ -131,6 +136,7 @@ fn read_register(cursor: &mut Cursor<'_>, version: Version) -> Result<u16, Refus
 }
 
 #[tactic(auto, unfolding(crate::specs::Inner::Fields::factors_at))]
+#[inline(always)]
 fn read_factors(cursor: &mut Cursor<'_>, version: Version) -> Result<CieFields, Refusal>
     ensures { Gives (λ f. f) result (factors_at version cursor.old) cursor.new }
 {
@@ -145,6 +151,7 @@ fn read_factors(cursor: &mut Cursor<'_>, version: Version) -> Result<CieFields, 
 }
 
 #[tactic(auto, unfolding(crate::specs::Inner::Fields::cie_fields_at))]
+#[inline(always)]
 pub(crate) fn read_cie(cursor: &mut Cursor<'_>) -> Result<CieFields, Refusal>
     ensures { Gives (λ f. f) result (cie_fields_at cursor.old) cursor.new }
 {

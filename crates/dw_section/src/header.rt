@@ -75,6 +75,7 @@ fn rest_of<'a>(cursor: &Cursor<'a>) -> Program<'a>
 }
 
 #[tactic(auto, unfolding(crate::specs::Inner::Reading::cie_at))]
+#[inline(always)]
 pub(crate) fn cie_header<'a>(piece: &Placed<'a>, target: Target) -> Result<Header<'a>, Refusal>
     requires { piece.now.kind ≡ kind.Cie }
     ensures exact { Answers head_in result (cie_at target (piece_in piece.now)) }
