@@ -1,15 +1,28 @@
 -- Programs that are known to give rows, run one after another in one room.
-use Rattle.std.specs.Prelude.{◌≡◌, List}
+use Rattle.std.specs.Prelude.{◌≡◌, ℤ, pos, List, []}
 use Rattle.std.specs.List.{AllByRecursion}
+use Rattle.dw_num.specs.declared.target.Target.{Target}
+use Rattle.dw_num.specs.Input.{Input}
 use Rattle.dw_cfa.specs.declared.execution.LocatedRow.{LocatedRow}
+use Rattle.dw_cfa.specs.declared.instr.Factors.{Factors}
 use Rattle.dw_cfa.specs.Narrowing.{kept}
 use Rattle.dw_cfa.specs.Rows.{Rules}
 use Rattle.dw_cfa.specs.Stepping.{Stepping}
 
--- a walk, and the row that was kept of it
+-- the program of a CIE, where it stands, and the CIE's factors
+pub record Led : Type 0 where
+  pub program : Input
+  pub factors : Factors
+
+-- none
+abbrev pub unled : Target → Led
+unled target = record { program = record { at = 0; bytes = []; target = target }; factors = record { code_factor = 0; data_factor = pos 0 } }
+
+-- a walk, the row that was kept of it, and the CIE that it was led to last
 pub record Walking : Type 0 where
   pub steps : Stepping
   pub kept : Rules
+  pub led : Led
 
 -- none of these rows leaves a register Unspecified that a row specifies
 abbrev pub AllKeep : Rules → List LocatedRow → Type 0

@@ -13,7 +13,7 @@ ghost use Rattle.dw_cfa.specs.Runs.{finished};
 ghost use Rattle.dw_cfa.specs.Inner.States.{BeganWith};
 ghost use Rattle.dw_cfa.specs.Stepping.{Advances, program_input, stepping};
 ghost use Rattle.dw_cfa.specs.Inner.Stepping.{progress_after};
-ghost use Rattle.dw_cfa.specs.Walking.{AllKeep};
+ghost use Rattle.dw_cfa.specs.Walking.{AllKeep, unled};
 ghost use Rattle.dw_cfa.specs.Inner.Walking.{AllSpecify, HasInitial, LeadsSame, Readied, WalkKeeps, WalksSo, led_rows, walk_of};
 
 use crate::execution::{next_row, run_initial, run_to};
@@ -195,11 +195,11 @@ pub struct RowWalk<'a> {
 
 impl<'a> Model for RowWalk<'a> {
     ghost use Rattle.dw_cfa.specs.Walking.{Walking};
-    ghost use Rattle.dw_cfa.specs.Inner.Walking.{WalksSo, walk_of};
+    ghost use Rattle.dw_cfa.specs.Inner.Walking.{WalksSo, led_of, walk_of};
 
     ghost Value = { Walking };
 
-    ghost view = { λ w. record { steps = walk_of w.progress w.leading w.fde w.machine; kept = w.machine.states.kept } };
+    ghost view = { λ w. record { steps = walk_of w.progress w.leading w.fde w.machine; kept = w.machine.states.kept; led = led_of w.leading } };
 
     ghost invariant = { λ w. WalksSo w.progress w.kept w.leading w.fde w.machine };
 }
@@ -207,7 +207,7 @@ impl<'a> Model for RowWalk<'a> {
 impl<'a> RowWalk<'a> {
     /// No row is to come until `go_to` names programs. Takes no memory.
     pub fn new(alloc: Global, target: Target) -> RowWalk<'a>
-        ensures { result ≡ record { steps = stepping blank finished; kept = blank } }
+        ensures { result ≡ record { steps = stepping blank finished; kept = blank; led = unled target } }
     {
         let factors = Factors {
             code_factor: 0,
@@ -248,10 +248,26 @@ impl<'a> RowWalk<'a> {
         ensures steps { self.new.steps ≡ stepping self.old.steps.current self.new.steps.outcome }
         ensures runs { RunsTo factors (program_input cie_program.entry target) (program_input fde_program.entry target) begin self.new.steps.outcome }
         ensures kept { self.new.kept ≡ self.old.kept }
+        ensures led { self.new.led ≡ record { program = program_input cie_program.entry target; factors = factors } }
     {
         are_bytes(cie_program.bytes);
         are_bytes(fde_program.bytes);
         self.lead_to(cie_program, fde_program, begin, factors, target);
+    }
+
+    /// Goes to the rows of another FDE's program behind the CIE that `go_to` named last, in the same way. No program of a
+    /// CIE is compared.
+    pub fn go_on(&mut self, fde_program: Program<'a>, begin: u64)
+        requires begin { begin < address_limit self.old.led.program.target.size }
+        requires known { (rows : List LocatedRow) × Gives self.old.led.factors self.old.led.program (program_input fde_program self.old.led.program.target) begin rows }
+        ensures steps { self.new.steps ≡ stepping self.old.steps.current self.new.steps.outcome }
+        ensures runs { RunsTo self.old.led.factors self.old.led.program (program_input fde_program.entry self.old.led.program.target) begin self.new.steps.outcome }
+        ensures kept { self.new.kept ≡ self.old.kept }
+        ensures led { self.new.led ≡ self.old.led }
+    {
+        are_bytes(self.leading.program.bytes);
+        are_bytes(fde_program.bytes);
+        self.lead_on(fde_program, begin);
     }
 
     // The same by the run that the code keeps to.
@@ -267,6 +283,7 @@ impl<'a> RowWalk<'a> {
         requires known { (run_rows factors (program_input cie_program target) (program_input fde_program target) begin).fault ≡ None }
         ensures kept { self.new.kept ≡ self.old.kept }
         ensures steps { self.new.steps ≡ stepping self.old.steps.current (run_rows factors (program_input cie_program.entry target) (program_input fde_program.entry target) begin) }
+        ensures led { self.new.led ≡ record { program = program_input cie_program.entry target; factors = factors } }
     {
         let leading = Leading {
             program: cie_program,
@@ -281,12 +298,28 @@ impl<'a> RowWalk<'a> {
         self.progress = Progress::Begun;
     }
 
+    // The same behind the CIE that was named last.
+    fn lead_on(&mut self, fde_program: Program<'a>, begin: u64)
+        requires begin { begin < address_limit self.old.led.program.target.size }
+        requires known { (run_rows self.old.led.factors self.old.led.program (program_input fde_program self.old.led.program.target) begin).fault ≡ None }
+        ensures kept { self.new.kept ≡ self.old.kept }
+        ensures led { self.new.led ≡ self.old.led }
+        ensures steps { self.new.steps ≡ stepping self.old.steps.current (run_rows self.old.led.factors self.old.led.program (program_input fde_program.entry self.old.led.program.target) begin) }
+    {
+        let target = self.leading.target;
+        self.fde = Cursor::new(fde_program.bytes, fde_program.at, target);
+        self.machine.location = u128::from(begin);
+        self.machine.limit = target.size.address_limit();
+        self.progress = Progress::Begun;
+    }
+
     /// Goes on to the next row, which `row` lends then, and answers the location that it starts at, or none behind
     /// the last row. No row is copied. Want of memory is answered from then on, until `go_to`.
     #[inline(always)]
     pub fn advance(&mut self) -> Result<Option<u128>, ReadError>
         ensures advances { Advances self.old.steps result self.new.steps }
         ensures kept { self.new.kept ≡ self.old.kept }
+        ensures led { self.new.led ≡ self.old.led }
     {
         let (fde, machine) = (&mut self.fde, &mut self.machine);
         let answer = match self.progress {
@@ -311,6 +344,7 @@ impl<'a> RowWalk<'a> {
         ensures err { IfErr result (λ e. e ≡ OutOfMemory) }
         ensures again { MatchResult result (λ _. self.new.steps.error ≡ None) (λ e. self.new.steps.error ≡ Some e) }
         ensures kept { self.new.kept ≡ self.old.kept }
+        ensures led { self.new.led ≡ self.old.led }
     {
         let (fde, machine) = (&mut self.fde, &mut self.machine);
         let (progress, leading, kept) = (self.progress, self.leading, &mut self.kept);
@@ -340,6 +374,7 @@ impl<'a> RowWalk<'a> {
     pub fn keep(&mut self) -> Result<(), AllocError>
         ensures kept { OnOk result (self.new.kept ≡ self.old.steps.current) }
         ensures same { self.new.steps ≡ self.old.steps }
+        ensures led { self.new.led ≡ self.old.led }
     {
         self.machine.states.keep()
     }

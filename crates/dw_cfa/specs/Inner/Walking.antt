@@ -13,6 +13,10 @@ use Rattle.dw_cfa.specs.Stepping.{Stepping, program_input, stepping}
 use Rattle.dw_cfa.specs.Inner.Runs.{RunsSo, initial_row, placed, rows_left, run_rows}
 use Rattle.dw_cfa.specs.Inner.States.{BeganWith}
 use Rattle.dw_cfa.specs.Inner.Stepping.{left_of}
+use Rattle.dw_cfa.specs.Walking.{Led}
+
+abbrev pub led_of : Leading → Led
+led_of l = record { program = program_input l.program l.target; factors = l.factors }
 
 abbrev pub led_rows : Leading → Input → ℕ → Outcome
 led_rows l fde begin = run_rows l.factors (program_input l.program l.target) fde begin
