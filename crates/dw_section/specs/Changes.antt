@@ -7,6 +7,7 @@ use Rattle.dw_cfa.specs.Location.{Counts}
 use Rattle.dw_cfa.specs.Column.{cfa_after, rule_after}
 use Rattle.dw_cfa.specs.Laws.{initial_cfa, initial_rule, HoldsAfter}
 use Rattle.dw_cfa.specs.Rows.{Rules}
+use Rattle.dw_section.specs.Table.{Section}
 
 -- after j and after k instructions each column has the same rule
 pub record SameRules (initial instrs : List Instr) (j k : ℕ) : Type 0 where
@@ -70,8 +71,9 @@ Among end shown (row ∷ rows) changes =
 
 -- ---- changes given one at a time
 
--- the rows still to come, the row that was shown and the one before it, the end, and whether memory ran out
+-- of a section, the rows still to come, the row that was shown and the one before it, the end, and whether memory ran out
 pub record Changing : Type 0 where
+  pub section : Section
   pub rows : List LocatedRow
   pub shown : Option Rules
   pub before : Option Rules
@@ -79,8 +81,8 @@ pub record Changing : Type 0 where
   pub failed : Bool
 
 -- nothing was shown yet
-abbrev pub changing : List LocatedRow → ℕ → Changing
-changing rows end = record { rows = rows; shown = None; before = None; end = end; failed = false }
+abbrev pub changing : Section → List LocatedRow → ℕ → Changing
+changing s rows end = record { section = s; rows = rows; shown = None; before = None; end = end; failed = false }
 
 -- these are the changes still to come
 abbrev pub ToCome : Changing → List (ℕ × Rules) → Type 0

@@ -8,9 +8,10 @@ ghost use Rattle.dw_cfa.specs.Walking.{AllKeep};
 ghost use Rattle.dw_section.specs.Changes.{Before, GivesAddress, GivesChange, changing, before_then};
 ghost use Rattle.dw_section.specs.Inner.Changes.{FindsChange};
 ghost use Rattle.dw_section.specs.Inner.Shown.{shown_if, shown_of};
-ghost use Rattle.dw_section.specs.Inner.Lookup.{rows_of};
+ghost use Rattle.dw_section.specs.Inner.Index.{led_to};
+ghost use Rattle.dw_section.specs.Inner.Lookup.{LedBy, rows_of};
 
-use crate::listed_fde::{FoundFde, go_to_rows};
+use crate::listed_fde::{FoundFde, lead};
 use dw_cfa::{Row, RowWalk};
 use dw_num::Target;
 use std::alloc::{AllocError, Global};
@@ -53,6 +54,7 @@ fn find_change(steps: &mut RowWalk<'_>, kept: bool, end: u128) -> Result<Option<
     requires { steps.old.steps.outcome.fault ≡ None }
     ensures finds { FindsChange end steps.old.steps (shown_if kept steps.old.kept) result steps.new.steps }
     ensures kept { steps.new.kept ≡ steps.old.kept }
+    ensures led { steps.new.led ≡ steps.old.led }
 {
     'rows: loop {
         let start = match steps.advance() {
@@ -77,6 +79,7 @@ fn next_change(
     requires { steps.old.steps.outcome.fault ≡ None }
     ensures finds { FindsChange end steps.old.steps (shown_of lent steps.old.steps.current (shown_if kept.old steps.old.kept)) result steps.new.steps }
     ensures kept { IfOk result (λ _. shown_if kept.new steps.new.kept ≡ shown_of lent steps.old.steps.current (shown_if kept.old steps.old.kept)) }
+    ensures led { steps.new.led ≡ steps.old.led }
 {
     if lent {
         steps.keep()?;
@@ -86,10 +89,14 @@ fn next_change(
 }
 
 /// The changes of an FDE: its begin, and each address below its end at which the rule of some column is not that
-/// one address before, ascending, each with the rules there. A contract sees the rows that are still to come.
+/// one address before, ascending, each with the rules there. A contract sees the section, and the rows that are still to come.
 #[derive(Drop)]
 pub struct Changes<'a> {
+    bytes: &'a [u8],
+    target: Target,
     steps: RowWalk<'a>,
+    // The CIE of the section whose program the walk was led to, by its place.
+    cie_at: Option<u64>,
     // The row that was shown last is the one that the walk lends, and the one before it is kept.
     lent: bool,
     // The walk kept a row that was shown.
@@ -99,24 +106,27 @@ pub struct Changes<'a> {
 }
 
 impl<'a> Model for Changes<'a> {
-    ghost use Rattle.std.specs.Prelude.{◌≡◌, None};
     ghost use Rattle.dw_section.specs.Changes.{Changing};
     ghost use Rattle.dw_section.specs.Inner.Shown.{shown_if, shown_of, before_of};
+    ghost use Rattle.dw_section.specs.Inner.Changes.{ChangesSo};
 
     ghost Value = { Changing };
 
-    ghost view = { λ c. record { rows = c.steps.steps.outcome.rows; shown = shown_of c.lent c.steps.steps.current (shown_if c.kept c.steps.kept); before = before_of c.lent (shown_if c.kept c.steps.kept); end = c.end; failed = c.failed } };
+    ghost view = { λ c. record { section = record { target = c.target; bytes = c.bytes.now }; rows = c.steps.steps.outcome.rows; shown = shown_of c.lent c.steps.steps.current (shown_if c.kept c.steps.kept); before = before_of c.lent (shown_if c.kept c.steps.kept); end = c.end; failed = c.failed } };
 
-    ghost invariant = { λ c. c.steps.steps.outcome.fault ≡ None };
+    ghost invariant = { λ c. ChangesSo (record { target = c.target; bytes = c.bytes.now }) c.cie_at c.steps };
 }
 
 impl<'a> Changes<'a> {
-    // No change is to come until `go_to` names an FDE.
-    pub(crate) fn none(alloc: Global, target: Target) -> Changes<'a>
-        ensures { result ≡ changing [] 0 }
+    // No change of a section is to come until `go_to` or `go_on` names an FDE.
+    pub(crate) fn none(alloc: Global, bytes: &'a [u8], target: Target) -> Changes<'a>
+        ensures { result ≡ changing (record { target = target; bytes = bytes.now }) [] 0 }
     {
         Changes {
+            bytes,
+            target,
             steps: RowWalk::new(alloc, target),
+            cie_at: None,
             lent: false,
             kept: false,
             end: 0,
@@ -124,13 +134,24 @@ impl<'a> Changes<'a> {
         }
     }
 
-    // Goes to the changes of an FDE, also where memory ran out before.
-    pub(crate) fn go_to(&mut self, fde: &FoundFde<'a>, target: Target)
-        requires in_space { fde.now.begin < address_limit target.size }
-        requires no_fault { (rows_of target fde.now).fault ≡ None }
-        ensures { self.new ≡ changing (rows_of target fde.now).rows (fde.now.begin + fde.now.range) }
+    // The changes of a section, which may be another one, from now on. None is to come that is known.
+    pub(crate) fn turn_to(&mut self, bytes: &'a [u8], target: Target)
+        ensures { self.new.section ≡ record { target = target; bytes = bytes.now } }
     {
-        go_to_rows(&mut self.steps, fde, target);
+        self.bytes = bytes;
+        self.target = target;
+        self.cie_at = None;
+    }
+
+    // Goes to the changes of an FDE of the section, also where memory ran out before.
+    pub(crate) fn go_on(&mut self, fde: &FoundFde<'a>)
+        requires in_space { fde.now.begin < address_limit self.old.section.target.size }
+        requires no_fault { (rows_of self.old.section.target fde.now).fault ≡ None }
+        requires led { LedBy self.old.section fde.now.cie_at (led_to self.old.section.target fde.now) }
+        ensures { self.new ≡ changing self.old.section (rows_of self.old.section.target fde.now).rows (fde.now.begin + fde.now.range) }
+    {
+        lead(&mut self.steps, self.cie_at, fde, self.target);
+        self.cie_at = Some(fde.cie_at);
         self.lent = false;
         self.kept = false;
         self.end = u128::from(fde.begin) + u128::from(fde.range);
@@ -144,6 +165,7 @@ impl<'a> Changes<'a> {
         ensures gives { GivesAddress self.old result self.new }
         ensures again { self.old.failed ≡ true → IsErr result }
         ensures end { self.new.end ≡ self.old.end }
+        ensures section { self.new.section ≡ self.old.section }
         ensures before { IfOk result (λ address. self.new.before ≡ before_then address self.old.shown) }
     {
         if self.failed {
@@ -208,6 +230,7 @@ impl<'a> Changes<'a> {
     pub fn next(&mut self) -> Result<Option<(u128, Row<'a>)>, AllocError>
         ensures gives { GivesChange self.old result self.new }
         ensures again { self.old.failed ≡ true → IsErr result }
+        ensures section { self.new.section ≡ self.old.section }
         ensures before { IfOk result (λ change. self.new.before ≡ before_then change self.old.shown) }
     {
         let Some(address) = self.advance()? else {

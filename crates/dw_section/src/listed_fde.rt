@@ -3,10 +3,11 @@
 ghost use Rattle.std.specs.Prelude.{◌≡◌, ◌<◌, ◌≤◌, List, length, drop, slice_index_or, None};
 ghost use Rattle.dw_section.specs.declared.lookup.Fde.{Fde as TheFde};
 ghost use Rattle.dw_section.specs.Headers.{Head};
-ghost use Rattle.dw_section.specs.Inner.Index.{IsRanged, IsFound};
+ghost use Rattle.dw_section.specs.Inner.Index.{IsRanged, IsFound, NamesCie, led_to};
 ghost use Rattle.dw_section.specs.Inner.Initials.{AreInitials};
 ghost use Rattle.dw_section.specs.Inner.Left.{AreHeaders};
-ghost use Rattle.dw_section.specs.Inner.Lookup.{fde_of, IsFoundIn, rows_of};
+ghost use Rattle.dw_section.specs.Inner.Lookup.{fde_of, IsFoundIn, LedBy, LedSo, rows_of};
+ghost use Rattle.dw_section.specs.Table.{Section};
 ghost use Rattle.dw_num.specs.Target.{address_limit};
 ghost use Rattle.dw_cfa.specs.Stepping.{stepping};
 ghost use Rattle.dw_section.specs.Meaning.{AreFdes};
@@ -26,6 +27,7 @@ pub(crate) struct FoundFde<'a> {
     pub(crate) begin: u64,
     pub(crate) range: u64,
     pub(crate) program: Program<'a>,
+    pub(crate) cie_at: u64,
     pub(crate) cie_program: Program<'a>,
     pub(crate) factors: Factors,
     pub(crate) return_register: u16,
@@ -35,12 +37,46 @@ pub(crate) struct FoundFde<'a> {
 pub(crate) fn go_to_rows<'a>(steps: &mut RowWalk<'a>, fde: &FoundFde<'a>, target: Target)
     requires in_space { fde.now.begin < address_limit target.size }
     requires no_fault { (rows_of target fde.now).fault ≡ None }
-    ensures { steps.new.steps ≡ stepping steps.old.steps.current (rows_of target fde.now) }
+    ensures steps { steps.new.steps ≡ stepping steps.old.steps.current (rows_of target fde.now) }
+    ensures led { steps.new.led ≡ led_to target fde.now }
 {
     let (cie, program) = (fde.cie_program, fde.program);
     are_bytes(cie.bytes);
     are_bytes(program.bytes);
     steps.go_to(cie, program, fde.begin, fde.factors, target);
+}
+
+/// The same, where the walk was led to the CIE of this FDE before.
+pub(crate) fn go_on_rows<'a>(steps: &mut RowWalk<'a>, fde: &FoundFde<'a>, target: Target)
+    requires in_space { fde.now.begin < address_limit target.size }
+    requires no_fault { (rows_of target fde.now).fault ≡ None }
+    requires led { steps.old.led ≡ led_to target fde.now }
+    ensures steps { steps.new.steps ≡ stepping steps.old.steps.current (rows_of target fde.now) }
+    ensures led { steps.new.led ≡ led_to target fde.now }
+{
+    are_bytes(fde.cie_program.bytes);
+    are_bytes(fde.program.bytes);
+    steps.go_on(fde.program, fde.begin);
+}
+
+/// Goes to the rows of an FDE of a section, where the walk was led to the CIE at a place of it, if to any. No bytes are
+/// compared where the FDE names that CIE.
+pub(crate) fn lead<'a>(
+    steps: &mut RowWalk<'a>,
+    behind: Option<u64>,
+    fde: &FoundFde<'a>,
+    target: Target,
+)
+    requires in_space { fde.now.begin < address_limit target.size }
+    requires no_fault { (rows_of target fde.now).fault ≡ None }
+    requires led { (s : Section) × (s.target ≡ target) × LedBy s fde.now.cie_at (led_to target fde.now) × LedSo s behind steps.old.led }
+    ensures steps { steps.new.steps ≡ stepping steps.old.steps.current (rows_of target fde.now) }
+    ensures led { steps.new.led ≡ led_to target fde.now }
+{
+    match behind {
+        Some(cie_at) if cie_at == fde.cie_at => go_on_rows(steps, fde, target),
+        _ => go_to_rows(steps, fde, target),
+    }
 }
 
 // A cursor over a section from a place on.
@@ -67,6 +103,7 @@ pub(crate) fn found_fde<'a>(
     ensures range { result.range ≡ fde.now.range }
     ensures register { result.return_register ≡ fde.now.return_register }
     ensures is { (hs : List Head) → AreHeaders target bytes.now places.now hs → AreInitials target hs hs initials.now → IsRanged hs fde.now → IsFound hs result }
+    ensures names { (hs : List Head) → AreHeaders target bytes.now places.now hs → AreInitials target hs hs initials.now → IsRanged hs fde.now → NamesCie hs result.cie_at (led_to target result) }
 {
     let mut cursor = cursor_at(bytes, fde.at, target);
     let Some(header) = next_header(&mut cursor, places) else {
@@ -87,6 +124,7 @@ pub(crate) fn found_fde<'a>(
                 begin,
                 range,
                 program,
+                cie_at,
                 cie_program: initial.program,
                 factors: initial.factors,
                 return_register: fde.return_register,
@@ -101,6 +139,7 @@ impl<'a> Table<'a> {
     pub(crate) fn found(&self, fde: FdeRef) -> FoundFde<'a>
         requires { (fs : List TheFde) → AreFdes self.now.target self.now.bytes fs → fde.place < length fs }
         ensures found { IsFoundIn self.now.target self.now.bytes result }
+        ensures led { LedBy self.now result.cie_at (led_to self.now.target result) }
         ensures listed { (fs : List TheFde) → AreFdes self.now.target self.now.bytes fs → (d : TheFde) → fde_of result ≡ slice_index_or fs fde.place d }
     {
         found_fde(

@@ -11,7 +11,6 @@ use crate::change::Changes;
 use crate::listed_fde::FoundFde;
 use crate::lookup::FdeRef;
 use crate::table::Table;
-use dw_num::are_bytes;
 
 fn lengths_in(found: FoundFde<'_>) -> (usize, usize)
     ensures own { result.0 ≡ length found.entry.program.bytes.now }
@@ -29,18 +28,18 @@ impl<'a> Table<'a> {
         lengths_in(self.found(fde))
     }
 
-    /// Goes to the changes of an FDE as `go_to` does, and answers what `program_lengths` does: its fields are read once.
-    pub fn go_to_lengths(&self, changes: &mut Changes<'a>, fde: FdeRef) -> (usize, usize)
-        requires { (fs : List TheFde) → AreFdes self.now.target self.now.bytes fs → fde.place < length fs }
+    /// Goes to the changes of an FDE as `go_on` does, and answers what `program_lengths` does: its fields are read once.
+    pub fn go_on_lengths(&self, changes: &mut Changes<'a>, fde: FdeRef) -> (usize, usize)
+        requires place { (fs : List TheFde) → AreFdes self.now.target self.now.bytes fs → fde.place < length fs }
+        requires section { changes.old.section ≡ self.now }
         ensures begun { (changes.new.failed ≡ false) × (changes.new.shown ≡ None) }
+        ensures before { changes.new.before ≡ None }
+        ensures section { changes.new.section ≡ self.now }
         ensures changes { (fs : List TheFde) → AreFdes self.now.target self.now.bytes fs → (d : TheFde) (all : List (ℕ × Rules)) → ToCome changes.new all → ChangesOf self.now.target self.now.bytes (slice_index_or fs fde.place d) all }
         ensures listed { (all : List (ℕ × Rules)) → ToCome changes.new all → AreListed all }
         ensures end { (fs : List TheFde) → AreFdes self.now.target self.now.bytes fs → (d : TheFde) → changes.new.end ≡ (slice_index_or fs fde.place d).end }
         ensures lengths { (fs : List TheFde) → AreFdes self.now.target self.now.bytes fs → (d : TheFde) → HasLengths self.now.target self.now.bytes (slice_index_or fs fde.place d) result.0 result.1 }
     {
-        are_bytes(self.bytes);
-        let found = self.found(fde);
-        changes.go_to(&found, self.target);
-        lengths_in(found)
+        lengths_in(self.led(changes, fde))
     }
 }

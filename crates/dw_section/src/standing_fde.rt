@@ -92,7 +92,7 @@ fn joined<'a>(own: &Header<'a>, named: &Header<'a>) -> Option<FoundFde<'a>>
     let Header::Fde {
         at,
         form: _,
-        cie_at: _,
+        cie_at,
         begin,
         range,
         program,
@@ -116,6 +116,7 @@ fn joined<'a>(own: &Header<'a>, named: &Header<'a>) -> Option<FoundFde<'a>>
         begin,
         range,
         program,
+        cie_at,
         cie_program,
         factors: Factors {
             code_factor,

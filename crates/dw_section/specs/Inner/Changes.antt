@@ -2,7 +2,15 @@
 use Rattle.std.specs.Prelude.{◌≡◌, ℕ, ◌<◌, length, List, [], ◌∷◌, Option, Some, None, Result, Ok, Err}
 use Rattle.dw_cfa.specs.Rows.{Rules}
 use Rattle.dw_cfa.specs.Stepping.{Stepping}
+use Rattle.dw_cfa.specs.Walking.{Walking}
 use Rattle.dw_section.specs.Changes.{Among}
+use Rattle.dw_section.specs.Inner.Lookup.{LedSo}
+use Rattle.dw_section.specs.Table.{Section}
+
+-- the rows of a walk that was led by a section have no fault
+pub record ChangesSo (s : Section) (cie_at : Option ℕ) (walk : Walking) : Type 0 where
+  pub no_fault : walk.steps.outcome.fault ≡ None
+  pub led : LedSo s cie_at walk.led
 
 abbrev pub FindsChange : {E : Type 0} → ℕ → Stepping → Option Rules → Result (Option ℕ) E → Stepping → Type 0
 FindsChange end old shown (Ok None) new = (new.outcome.fault ≡ None) × Among end shown old.outcome.rows [] × (new.outcome.rows ≡ [])

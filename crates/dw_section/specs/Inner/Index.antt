@@ -8,7 +8,8 @@ use Rattle.dw_section.specs.declared.listed_fde.FoundFde.{FoundFde}
 use Rattle.dw_section.specs.Meaning.{Returns}
 use Rattle.dw_section.specs.Headers.{CieHead, FdeHead, Head, cie, fde}
 use Rattle.dw_section.specs.Overlap.{Range, IsIn, end_of, nonempty}
-use Rattle.dw_section.specs.Programs.{IsAmong, FdeRuns}
+use Rattle.dw_section.specs.Programs.{IsAmong, FdeRuns, input_of}
+use Rattle.dw_cfa.specs.Walking.{Led}
 use Rattle.dw_section.specs.Inner.Initials.{FirstLacking}
 use Rattle.dw_num.specs.declared.target.Target.{Target}
 
@@ -31,6 +32,15 @@ abbrev pub IsFound : List Head → FoundFde → Type 0
 IsFound hs e =
     (form : Form) × (cie_form : Form) × (cie_at : ℕ) × (register : ℕ) × IsAmong (fde (found_head form cie_at e)) hs
     × IsAmong (cie (found_cie cie_form cie_at register e)) hs
+
+-- the CIE that a walk is led to
+abbrev pub led_to : Target → FoundFde → Led
+led_to target e = record { program = input_of target (span_of e.cie_program); factors = e.factors }
+
+-- the CIE at a place among the headers
+abbrev pub NamesCie : List Head → ℕ → Led → Type 0
+NamesCie hs place led =
+    (form : Form) × (register : ℕ) × IsAmong (cie (record { at = place; form = form; code_factor = led.factors.code_factor; data_factor = led.factors.data_factor; return_register = register; program = record { at = led.program.at; bytes = led.program.bytes } })) hs
 
 -- places from low on, ascending
 abbrev pub PlacesRise : ℕ → List Range → Type 0

@@ -127,6 +127,15 @@ returns-clause-is c = λ hs heads initials r.
       subst (λ (n : ℕ). IsAmong (cie (record { at = n; form = is.0; code_factor = x.factors.code_factor; data_factor = x.factors.data_factor; return_register = x.return_register; program = span_of x.program })) hs) c.initial_at-initial.ensures.place is.2,
     )
 
+pub returns-clause-names : goal.returns-clause-names
+returns-clause-names c = λ hs heads initials r.
+    let x = c.initial_at-initial.result.now in
+    let is = c.initial_at-initial.ensures.is c.args.target hs initials.each in (
+      is.0,
+      x.return_register,
+      subst (λ (n : ℕ). IsAmong (cie (record { at = n; form = is.0; code_factor = x.factors.code_factor; data_factor = x.factors.data_factor; return_register = x.return_register; program = span_of x.program })) hs) c.initial_at-initial.ensures.place is.2,
+    )
+
 pub unreachable-requires-in-Cie : goal.unreachable-requires-in-Cie
 unreachable-requires-in-Cie c =
     let q = c.requires.headers in

@@ -1,0 +1,13 @@
+use Rattle.std.proofs.Common.{◌≡◌, ℕ, Option, subst, arith}
+use Rattle.dw_section.specs.Inner.Index.{led_to}
+use Rattle.dw_section.specs.Inner.Lookup.{LedBy, LedSo}
+use Rattle.dw_section.proofs.CieLaws.{one_led}
+use Rattle.dw_section.proofs.listed_fde.lead.Goals as goal
+
+pub go_on_rows-requires-clause-led : goal.go_on_rows-requires-clause-led
+go_on_rows-requires-clause-led c =
+    let q = c.requires.led in
+    let walk = c.args.steps.now.led in
+    let same : c.in-Some.cie_at ≡ c.args.fde.now.cie_at = omega (arith, c.if-cie_at-fde.true) in
+    let led : LedBy q.0 c.in-Some.cie_at walk = subst (λ (behind : Option ℕ). LedSo q.0 behind walk) c.in-Some.is q.3 in
+    one_led q.0 c.args.fde.now.cie_at walk (led_to c.args.target c.args.fde.now) (subst (λ (n : ℕ). LedBy q.0 n walk) same led) q.2
