@@ -30,7 +30,7 @@ fn count_all(table: &Table<'_>) -> Result<u64, AllocError> {
     let mut count = 0u64;
     let mut changes = table.no_changes();
     for place in 0..table.fde_count() {
-        table.go_to(&mut changes, FdeRef { place });
+        table.go_on(&mut changes, FdeRef { place });
         count = count.saturating_add(count_changes(&mut changes)?);
     }
     Ok(count)

@@ -36,7 +36,7 @@ fn put_table<W: Write>(out: &mut Listing<W>, table: &Table<'_>) -> Result<(), Fa
     for place in 0..table.fde_count() {
         let fde = FdeRef { place };
         put_fde(out, &table.fde(fde))?;
-        table.go_to(&mut changes, fde);
+        table.go_on(&mut changes, fde);
         put_changes(out, &mut changes)?;
     }
     Ok(out.finish()?)
