@@ -1,6 +1,6 @@
 //! A text of many lines on its way to an output.
 
-ghost use Rattle.std.specs.Prelude.{◌≡◌, ◌+◌, ◌++◌, ◌-◌, ◌^◌, ◌<◌, ◌≤◌, length, take, None, IfErr, IfOk, OnOk};
+ghost use Rattle.std.specs.Prelude.{◌≡◌, ◌+◌, ◌++◌, ◌-◌, ◌^◌, ◌<◌, ◌≤◌, length, take, None, IfErr, IfOk, OnErr, OnOk, ◌⊎◌};
 ghost use Rattle.std.specs.Io.KnownBytes.{Appends, Keeps};
 ghost use Rattle.dw_command.specs.Output.{Told, put_so_far};
 ghost use Rattle.dw_command.specs.declared.failure.Failure.TheVariants.{CannotWrite};
@@ -87,6 +87,7 @@ impl<W: Write> Listing<W> {
         ensures told { Told self.old.failures self.new.failures result }
         ensures empty { OnOk result (self.new.len ≡ 0) }
         ensures all { OnOk result (self.old.len ≤ ROOM → Appends (W.contents self.old.out) (W.contents self.new.out) (take self.old.len self.old.room)) }
+        ensures held { OnErr result ((self.new.len ≡ self.old.len) × (self.new.room ≡ self.old.room)) }
     {
         // No more than all, which no clause says between two calls.
         let put = &self.room[..self.len.min(ROOM)];
@@ -106,6 +107,9 @@ impl<W: Write> Listing<W> {
         ensures made { OnOk result (self.new.len + PIECE ≤ ROOM) }
         // What was put stays.
         ensures kept { OnOk result (self.old.len ≤ ROOM → Keeps (put_so_far (W.contents self.old.out) self.old.len self.old.room) (put_so_far (W.contents self.new.out) self.new.len self.new.room)) }
+        // Where the output fails, the room is full, and all that it holds stays.
+        ensures full { OnErr result (ROOM < self.old.len + PIECE) }
+        ensures held { OnErr result ((self.new.len ≡ self.old.len) × (self.new.room ≡ self.old.room)) }
     {
         if self.len > ROOM - PIECE {
             return self.write_out();
@@ -120,6 +124,8 @@ impl<W: Write> Listing<W> {
         ensures empty { OnOk result (self.new.len ≡ 0) }
         // The output gets what is left.
         ensures all { OnOk result (self.old.len ≤ ROOM → Appends (W.contents self.old.out) (W.contents self.new.out) (take self.old.len self.old.room)) }
+        // Where the output fails, what is left stays, or the output has got all of it.
+        ensures held { OnErr result ((self.new.len ≡ self.old.len) × (self.new.room ≡ self.old.room) ⊎ (self.new.len ≡ 0) × (self.old.len ≤ ROOM → Appends (W.contents self.old.out) (W.contents self.new.out) (take self.old.len self.old.room))) }
     {
         self.write_out()?;
         if self.out.flush().is_err() {
@@ -277,6 +283,8 @@ impl<W: Write> Sink for Listing<W> {
         ensures fault { IfErr result (λ _. self.old.failures < self.new.failures) }
         // It is put behind what was put before.
         ensures put { IfOk result (λ n. self.old.len ≤ ROOM → Appends (put_so_far (W.contents self.old.out) self.old.len self.old.room) (put_so_far (W.contents self.new.out) self.new.len self.new.room) (take n bytes.now)) }
+        // Where the output fails, all that was put before stays.
+        ensures held { IfErr result (λ _. (self.new.len ≡ self.old.len) × (self.new.room ≡ self.old.room)) }
     {
         if self.make_room().is_err() {
             return Err(SinkFault);
