@@ -1,4 +1,5 @@
 pub mod LebLemmas
+pub mod OneByte
 pub mod Groups
 pub mod SignedGroups
 pub mod Lent
