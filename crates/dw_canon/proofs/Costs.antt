@@ -15,7 +15,7 @@ use Rattle.dw_cfa.specs.declared.rule.CfaRule.TheVariants as cfa
 use Rattle.dw_cfa.specs.declared.rule.RegRule.{RegRule}
 use Rattle.dw_cfa.specs.declared.rule.RegRule.TheVariants as rules
 use Rattle.dw_cfa.specs.InstrSpells.{IsOffset}
-use Rattle.dw_cfa.specs.Narrowing.{same_cfa, same_rule}
+use Rattle.dw_cfa.specs.Agreement.{same_cfa, same_rule}
 use Rattle.dw_cfa.specs.Rows.{Rules, rule, is_specified}
 use Rattle.dw_section.specs.Sound.{CfaFits, RowFits}
 use Rattle.dw_canon.specs.Difference.{cfa_to, cfa_difference, rule_difference, either, difference}

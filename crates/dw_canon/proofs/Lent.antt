@@ -4,8 +4,8 @@ pub mod Readback
 pub mod Extra
 pub mod Differences
 pub mod Programs
-pub mod Fitting
-pub mod Standing
+pub mod InstrFits
+pub mod MemberPlaces
 pub mod Bounds
 pub mod Rendered
 pub mod Canonical

@@ -24,7 +24,7 @@ use Rattle.dw_cfa.specs.Rows.{Rules, AreSpecified, rule, blank}
 use Rattle.dw_cfa.specs.RuleAt.{last_at, or_here, NeverFalls}
 use Rattle.dw_cfa.specs.Inner.RuleAt.{CountsFrom}
 use Rattle.dw_cfa.specs.Inner.Runs.{Placed}
-use Rattle.dw_cfa.proofs.Lent.Counting.{counts_exists, one_count}
+use Rattle.dw_cfa.proofs.Lent.InstrCounts.{counts_exists, one_count}
 use Rattle.dw_cfa.proofs.Lent.FaultLaws.{begun_stands}
 use Rattle.dw_cfa.proofs.Lent.Forward.{Follows, Holds, after_follows, begun_follows}
 use Rattle.dw_cfa.proofs.Lent.KeptLaws.{fde_kept, all_in_limit}
@@ -41,7 +41,7 @@ use Rattle.dw_canon.specs.Members.{Member, changes_of}
 use Rattle.dw_canon.specs.Spelling.{program_bytes}
 use Rattle.dw_canon.specs.Written.{factors}
 use Rattle.dw_canon.proofs.Lent.Differences.{Quiet, quiet_more, on, difference_quiet}
-use Rattle.dw_canon.proofs.Lent.Fitting.{all_more, blank_fits, nops_fit, member_fits, cie_fits, cie_allowed}
+use Rattle.dw_canon.proofs.Lent.InstrFits.{all_more, blank_fits, nops_fit, member_fits, cie_fits, cie_allowed}
 use Rattle.dw_canon.proofs.Lent.Programs.{NoFaults, plain_rows, plain_gives, RunsTo, quiet_runs, nops_quiet, located, below_end, member_runs, row_before}
 use Rattle.dw_canon.proofs.Spelled.{program_spelled}
 

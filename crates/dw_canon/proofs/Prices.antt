@@ -6,7 +6,7 @@ use Rattle.dw_num.specs.declared.target.Target.{Target}
 use Rattle.dw_num.specs.Input.{AreBytes}
 use Rattle.dw_cfa.specs.declared.instr.Instr.{Instr}
 use Rattle.dw_cfa.specs.Rows.{Rules, blank}
-use Rattle.dw_cfa.proofs.Lent.Counting.{counts_exists}
+use Rattle.dw_cfa.proofs.Lent.InstrCounts.{counts_exists}
 use Rattle.dw_section.specs.Accepted.{Accepted}
 use Rattle.dw_section.specs.Meaning.{HasLengths}
 use Rattle.dw_section.specs.Sound.{RowFits}
@@ -22,7 +22,7 @@ use Rattle.dw_canon.specs.Members.{Member, IsMember, fde_of, changes_of}
 use Rattle.dw_canon.specs.Spelling.{program_bytes}
 use Rattle.dw_canon.proofs.Costs.{bytes_more}
 use Rattle.dw_canon.proofs.Shared.{MemberFits, initial_fits, initial_or, initial_cfa_or}
-use Rattle.dw_canon.proofs.Lent.Standing.{all_both}
+use Rattle.dw_canon.proofs.Lent.MemberPlaces.{all_both}
 use Rattle.dw_canon.proofs.Sums.{sum_more}
 use Rattle.dw_canon.proofs.Weights.{rule_weight, cfa_weight, program_most}
 use Rattle.dw_canon.proofs.Within.{all_len, IsWithin, holds_within, step_len, later_len}

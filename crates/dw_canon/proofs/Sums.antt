@@ -2,7 +2,7 @@
 use Rattle.std.proofs.Common.{◌≡◌, ℕ, suc, ◌+◌, ◌<◌, ◌≤◌, List, [], ◌∷◌, ◌++◌, refl, arith, inl, inr}
 use Rattle.std.specs.Prelude.{nat_eq, if◌then◌else◌}
 use Rattle.std.proofs.lemmas.Bool.Decides.{eqb_tells}
-use Rattle.dw_canon.proofs.Rising.{Rise}
+use Rattle.dw_canon.proofs.AscendingRegisters.{Rise}
 
 abbrev pub sum_of : {X : Type 0} → (X → ℕ) → List X → ℕ
 sum_of f [] = 0

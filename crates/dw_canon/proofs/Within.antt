@@ -28,7 +28,7 @@ use Rattle.dw_section.proofs.Lent.Sounds.{all_onto, back_keeps}
 use Rattle.dw_canon.specs.Difference.{registers_of, either, difference, move, later_changes}
 use Rattle.dw_canon.specs.Spelling.{advance_bytes, instr_bytes, program_bytes}
 use Rattle.dw_canon.proofs.Costs.{RowWithin, bytes_more, difference_len}
-use Rattle.dw_canon.proofs.Rising.{Rise, with_all_rise, keys_rise}
+use Rattle.dw_canon.proofs.AscendingRegisters.{Rise, with_all_rise, keys_rise}
 use Rattle.dw_canon.proofs.Sums.{sum_of, sum_more, sum_none, once_own, sum_once}
 use Rattle.dw_canon.proofs.Weights.{rule_len, cfa_len, rule_weight, own_weight, cfa_weight}
 

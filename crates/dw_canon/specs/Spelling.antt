@@ -8,7 +8,7 @@ use Rattle.dw_num.specs.declared.target.Target.{Target}
 use Rattle.dw_num.specs.Fixed.{fixed_bytes}
 use Rattle.dw_num.specs.Shortest.{shortest_uleb, shortest_sleb}
 use Rattle.dw_num.specs.Target.{byte_count}
-use Rattle.dw_op.specs.Encoding.{least_block}
+use Rattle.dw_op.specs.LeastBlock.{least_block}
 use Rattle.dw_op.specs.Expression.{Expression}
 use Rattle.dw_cfa.specs.declared.instr.Instr.{Instr}
 use Rattle.dw_cfa.specs.declared.instr.Instr.TheVariants.{Nop, SetLoc, Advance, DefCfa, DefCfaRegister, DefCfaOffset, DefCfaExpression, Set, Restore, RememberState, RestoreState}

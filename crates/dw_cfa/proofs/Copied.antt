@@ -13,7 +13,7 @@ use Rattle.dw_cfa.specs.declared.row.Slot.{Slot}
 use Rattle.dw_cfa.specs.declared.rule.RegRule.{RegRule}
 use Rattle.dw_cfa.specs.Rows.{rule_in}
 use Rattle.dw_cfa.specs.Inner.Entries.{CopiedBelow, Covers, EntriesSo, entries_of, listed_near, slot_rule}
-use Rattle.dw_cfa.proofs.Differing.{not_used}
+use Rattle.dw_cfa.proofs.Difference.{not_used}
 use Rattle.dw_cfa.proofs.Lent.SameRows.{same_entries}
 use Rattle.dw_cfa.proofs.Slots.{bit_inside, far_rule, near_ascends, near_rule, no_slot, shifted}
 

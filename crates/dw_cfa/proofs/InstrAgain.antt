@@ -6,7 +6,7 @@ use Rattle.dw_num.specs.declared.target.Target.{Target}
 use Rattle.dw_num.specs.Input.{Input}
 use Rattle.dw_num.specs.Fixed.{Fixed, Address}
 use Rattle.dw_num.specs.Leb.{Register}
-use Rattle.dw_num.specs.Reading.{Read, fixed_at, register_at, uleb_at, address_at, ◌>>=◌}
+use Rattle.dw_num.specs.Front.{Read, fixed_at, register_at, uleb_at, address_at, ◌>>=◌}
 use Rattle.dw_num.proofs.Lent.Steps.{Again, again-then, take_again, byte_again, address_again}
 use Rattle.dw_num.proofs.Lent.LebLaws.{done, uleb_again, register_again}
 use Rattle.dw_num.proofs.Lent.SlebLaws.{sleb_again}
@@ -22,7 +22,7 @@ use Rattle.dw_cfa.specs.declared.rule.RegRule.{RegRule}
 use Rattle.dw_cfa.specs.declared.rule.RegRule.TheVariants as rules
 use Rattle.dw_cfa.specs.InstrSpells.{IsOffset, BlockSpells, InstrSpells}
 use Rattle.dw_cfa.specs.Operands.{opcode_of, advanced}
-use Rattle.dw_cfa.specs.Inner.Reading.{expression_in, after_length, block_at, with_instr, instr_at}
+use Rattle.dw_cfa.specs.Inner.FrontInstr.{expression_in, after_length, block_at, with_instr, instr_at}
 use Rattle.dw_cfa.specs.Inner.ByOpcode.{offset_in, plain_at, factored_at, signed_at, set_loc_at, advance_at, def_cfa_register_at, def_cfa_offset_at, def_cfa_offset_sf_at, def_cfa_expression_at, def_cfa_at, def_cfa_sf_at, restore_at, set_to, undefined_at, same_value_at, set_offset, set_val_offset, set_register, set_expression, set_val_expression, offset_at, offset_extended_at, offset_extended_sf_at, val_offset_at, val_offset_sf_at, register_rule_at, expression_at, val_expression_at, operands_at}
 use Rattle.dw_cfa.proofs.Codes.{advance_known, offset_known, restore_known}
 use Rattle.dw_cfa.proofs.Expressions.{expression_found}

@@ -14,5 +14,5 @@ pub mod FaultLaws
 pub mod BehindLaws
 pub mod SameRows
 pub mod Skipped
-pub mod Counting
+pub mod InstrCounts
 pub mod Narrowed

@@ -11,12 +11,12 @@ use Rattle.dw_cfa.specs.declared.rule.RegRule.{RegRule}
 use Rattle.dw_cfa.specs.declared.rule.RegRule.TheVariants.{Unspecified, SameValue}
 use Rattle.dw_cfa.specs.Rows.{Rules, AreSpecified, rule_in}
 use Rattle.dw_cfa.specs.Inner.Rows.{put, with_rule}
-use Rattle.dw_cfa.specs.Narrowing.{same_rule}
-use Rattle.dw_cfa.specs.Differing.{DiffersFirst, FirstDifference, SameBetween}
-use Rattle.dw_cfa.specs.Inner.Differing.{SameUnset}
+use Rattle.dw_cfa.specs.Agreement.{same_rule}
+use Rattle.dw_cfa.specs.Difference.{DiffersFirst, FirstDifference, SameBetween}
+use Rattle.dw_cfa.specs.Inner.Difference.{SameUnset}
 use Rattle.dw_cfa.specs.Inner.Marks.{CopiedUpTo, MarksMore, MarksSo, SameUnlisted, SameUnmarked, Unmarked, WatchedSo}
 use Rattle.dw_cfa.proofs.Lent.RowLists.{Entry, lower, put_keeps, put_rule, unlisted}
-use Rattle.dw_cfa.proofs.Differing.{FromOn}
+use Rattle.dw_cfa.proofs.Difference.{FromOn}
 use Rattle.dw_cfa.proofs.Lent.Narrowed.{filter_keeps, filter_rule}
 use Rattle.dw_cfa.proofs.Lent.Skipped.{same_exactly}
 

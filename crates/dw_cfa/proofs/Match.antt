@@ -3,7 +3,7 @@ use Rattle.std.proofs.Common.{◌≡◌, ℕ, zero, suc, ◌+◌, List, [], ◌�
 use Rattle.dw_cfa.specs.declared.instr.Instr.{Instr}
 use Rattle.dw_cfa.specs.declared.instr.Instr.TheVariants.{RememberState, RestoreState}
 use Rattle.dw_cfa.specs.Column.{look_back, cfa_change, rule_change}
-use Rattle.dw_cfa.specs.Matching.{IsBetween, remembered, restored, RestoresMatched}
+use Rattle.dw_cfa.specs.Match.{IsBetween, remembered, restored, RestoresMatched}
 
 -- one instruction less
 rest_between : (i : Instr) (inner inner' : ℕ) (between : List Instr) → (restored between + inner' ≡ remembered between)

@@ -5,7 +5,7 @@ use Rattle.std.proofs.lemmas.Bool.{cases_lt}
 use Rattle.std.specs.Prelude.{◌^◌}
 use Rattle.dw_num.specs.declared.target.Size.{Size}
 use Rattle.dw_num.specs.declared.target.Size.TheVariants.{Four, Eight}
-use Rattle.dw_num.specs.Reading.{Read}
+use Rattle.dw_num.specs.Front.{Read}
 use Rattle.dw_num.specs.declared.refusal.Refusal.{Refusal}
 use Rattle.dw_num.specs.declared.target.Target.{Target}
 use Rattle.dw_num.specs.Input.{Input, AreBytes}
@@ -14,7 +14,7 @@ use Rattle.dw_cfa.specs.declared.instr.Factors.{Factors}
 use Rattle.dw_cfa.specs.declared.instr.Instr.{Instr}
 use Rattle.dw_cfa.specs.declared.instr.Instr.TheVariants.{SetLoc}
 use Rattle.dw_cfa.specs.InstrSpells.{InstrSpells}
-use Rattle.dw_cfa.specs.Inner.Reading.{instr_at}
+use Rattle.dw_cfa.specs.Inner.FrontInstr.{instr_at}
 use Rattle.dw_cfa.specs.Inner.Steps.{InLimit}
 use Rattle.dw_cfa.specs.Inner.Runs.{Placing, place_of, placed}
 use Rattle.dw_op.specs.Inner.Walks.{ended, put, on_left, walked_by}

@@ -18,7 +18,7 @@ use Rattle.dw_cfa.specs.Inner.Runs.{rows_left}
 use Rattle.dw_cfa.proofs.Lent.RowsAt.{none_at}
 use Rattle.dw_cfa.specs.Inner.Runs.{RanTo, here}
 use Rattle.dw_cfa.specs.Inner.Steps.{state_of}
-use Rattle.dw_cfa.specs.Inner.Walking.{AllSpecify}
+use Rattle.dw_cfa.specs.Inner.RowWalk.{AllSpecify}
 use Rattle.dw_cfa.proofs.RunSteps.{rows_end}
 use Rattle.dw_cfa.proofs.Lent.RunLaws.{left_starts, some_rows_left}
 

@@ -7,7 +7,7 @@ use Rattle.dw_num.specs.declared.refusal.Code.{Code}
 use Rattle.dw_num.specs.declared.refusal.Refusal.{Refusal}
 use Rattle.dw_num.specs.declared.target.Target.{Target}
 use Rattle.dw_num.specs.Input.{Input, AreBytes}
-use Rattle.dw_num.specs.Reading.{Read}
+use Rattle.dw_num.specs.Front.{Read}
 use Rattle.dw_num.specs.declared.error.ReadError.{ReadError}
 use Rattle.dw_cfa.specs.declared.instr.Factors.{Factors}
 use Rattle.dw_cfa.specs.declared.instr.Instr.{Instr}
@@ -21,18 +21,18 @@ use Rattle.dw_cfa.specs.declared.steps.Progress.TheVariants as progress
 use Rattle.dw_cfa.specs.declared.row_walk.Leading.{Leading}
 use Rattle.dw_cfa.specs.Location.{moves_location}
 use Rattle.dw_cfa.specs.Inner.Machine.{State, after, fde_fault}
-use Rattle.dw_cfa.specs.Narrowing.{is_kept, kept}
-use Rattle.dw_cfa.specs.Inner.Reading.{instr_at}
+use Rattle.dw_cfa.specs.Agreement.{is_kept, kept}
+use Rattle.dw_cfa.specs.Inner.FrontInstr.{instr_at}
 use Rattle.dw_cfa.specs.Rows.{Rules, is_specified, rule, rule_in}
 use Rattle.dw_cfa.specs.Inner.Rows.{listed, put}
 use Rattle.dw_op.specs.Inner.Walks.{ended, on_read, on_left, walked_by}
 use Rattle.dw_cfa.specs.Inner.Runs.{GivesRow, Placed, Placing, fault_or, fde_rows, last_row, placed, row_if, rows_left}
 use Rattle.dw_cfa.specs.Runs.{Outcome, finished, row_then}
-use Rattle.dw_cfa.specs.Stepping.{Stepping}
-use Rattle.dw_cfa.specs.Inner.Stepping.{progress_after}
+use Rattle.dw_cfa.specs.RowSteps.{Stepping}
+use Rattle.dw_cfa.specs.Inner.RowSteps.{progress_after}
 use Rattle.dw_cfa.specs.Inner.Steps.{state_of}
-use Rattle.dw_cfa.specs.Walking.{AllKeep}
-use Rattle.dw_cfa.specs.Inner.Walking.{AllSpecify, Specifies, WalkKeeps, walk_of}
+use Rattle.dw_cfa.specs.RowWalk.{AllKeep}
+use Rattle.dw_cfa.specs.Inner.RowWalk.{AllSpecify, Specifies, WalkKeeps, walk_of}
 use Rattle.dw_cfa.proofs.Lent.InstrLaws.{instr_found}
 use Rattle.dw_cfa.proofs.Lent.Narrowed.{left_too}
 use Rattle.dw_cfa.proofs.Placings.{after_item, placed_by, reads}

@@ -7,7 +7,7 @@ use Rattle.dw_num.specs.declared.refusal.Refusal.{Refusal}
 use Rattle.dw_num.specs.declared.target.Target.{Target}
 use Rattle.dw_num.specs.Fixed.{IsWidth}
 use Rattle.dw_num.specs.Input.{Input, AreBytes, Takes}
-use Rattle.dw_num.specs.Reading.{Read, fault, take_at, uleb_at, ◌>>=◌}
+use Rattle.dw_num.specs.Front.{Read, fault, take_at, uleb_at, ◌>>=◌}
 use Rattle.dw_num.proofs.Lent.Steps.{Again, again-then, bind_ok, take_again, take_found, byte_again, address_again, Takes-then}
 use Rattle.dw_num.proofs.Lent.LebLaws.{done, ok_is, uleb_found, uleb_again, register_again}
 use Rattle.dw_num.proofs.Lent.SlebLaws.{sleb_found, sleb_again}
@@ -24,7 +24,7 @@ use Rattle.dw_cfa.specs.declared.opcode.Opcode.TheVariants as opcodes
 use Rattle.dw_cfa.specs.Operands.{opcode_of, Operand, address, fixed, register, unsigned, signed, expression, Value, Form, none, one, two, form_of, offset_of}
 use Rattle.dw_cfa.specs.InstrSpells.{Spells, FormSpells}
 use Rattle.dw_cfa.specs.InstrFaults.{ContentsFault, OperandFault, FormFault, CodeFault}
-use Rattle.dw_cfa.specs.Inner.Reading.{leaving, expression_of, expression_in, block_in, after_length, block_at, operand_at, with_instr, then_operand, form_at, judged, instr_at, known_at}
+use Rattle.dw_cfa.specs.Inner.FrontInstr.{leaving, expression_of, expression_in, block_in, after_length, block_at, operand_at, with_instr, then_operand, form_at, judged, instr_at, known_at}
 use Rattle.dw_cfa.proofs.Expressions.{expression_refused}
 use Rattle.dw_cfa.proofs.Lent.InstrLaws.{Finds, finds_made, finds_alone, block_finds, register_finds, address_finds, fixed_finds, front_bytes}
 use Rattle.dw_cfa.proofs.InstrAgain.{block_again, made_again}

@@ -5,7 +5,7 @@ use Rattle.dw_num.specs.declared.refusal.Refusal.{Refusal}
 use Rattle.dw_num.specs.declared.error.ReadError.{ReadError}
 use Rattle.dw_num.specs.declared.error.ReadError.TheVariants.{Refused, OutOfMemory}
 use Rattle.dw_num.specs.Input.{Input, AreBytes}
-use Rattle.dw_num.specs.Reading.{Read, fixed_at}
+use Rattle.dw_num.specs.Front.{Read, fixed_at}
 use Rattle.dw_cfa.specs.declared.instr.Factors.{Factors}
 use Rattle.dw_cfa.specs.declared.instr.Instr.{Instr}
 use Rattle.dw_cfa.specs.declared.machine.Machine.{Machine}
@@ -14,7 +14,7 @@ use Rattle.dw_cfa.specs.declared.machine.End.{End}
 use Rattle.dw_cfa.specs.declared.machine.End.TheVariants as ends
 use Rattle.dw_cfa.specs.Location.{moves_location}
 use Rattle.dw_cfa.specs.Operands.{opcode_of}
-use Rattle.dw_cfa.specs.Inner.Reading.{known_at, instr_at}
+use Rattle.dw_cfa.specs.Inner.FrontInstr.{known_at, instr_at}
 use Rattle.dw_cfa.specs.Inner.ByOpcode.{operands_at}
 use Rattle.dw_cfa.specs.Runs.{fails}
 use Rattle.dw_cfa.specs.Inner.Runs.{rows_left, RunsSo, RanTo, initial_row, placed, Wrote, WroteTo}

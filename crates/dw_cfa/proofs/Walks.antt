@@ -17,9 +17,9 @@ use Rattle.dw_cfa.specs.Rows.{Rules, blank}
 use Rattle.dw_cfa.specs.Runs.{Outcome, finished}
 use Rattle.dw_cfa.specs.Inner.Runs.{RunsSo, fde_rows, initial_row, on_initial, placed, rows_left, run_rows}
 use Rattle.dw_cfa.specs.Inner.Machine.{begun}
-use Rattle.dw_cfa.specs.Stepping.{Stepping, program_input}
-use Rattle.dw_cfa.specs.Inner.Stepping.{begun_rows}
-use Rattle.dw_cfa.specs.Inner.Walking.{Readied, WalkKeeps, WalksSo, WalkStands, led_rows, walk_of}
+use Rattle.dw_cfa.specs.RowSteps.{Stepping, program_input}
+use Rattle.dw_cfa.specs.Inner.RowSteps.{begun_rows}
+use Rattle.dw_cfa.specs.Inner.RowWalk.{Readied, WalkKeeps, WalksSo, WalkStands, led_rows, walk_of}
 use Rattle.dw_cfa.proofs.Lent.FaultLaws.{initial_leaves, leaves_initial}
 use Rattle.dw_cfa.proofs.Lent.RunLaws.{begun_starts, left_starts, some_begun_left, some_rows_left}
 use Rattle.dw_cfa.proofs.RunSteps.{begun_is_run}

@@ -1,5 +1,5 @@
 -- How the code keeps what the contracts say. No public clause reaches these.
-pub mod Reading
+pub mod FrontInstr
 pub mod ByOpcode
 pub mod Listing
 pub mod Machine
@@ -8,11 +8,11 @@ pub mod Exact
 pub mod Entries
 pub mod Marks
 pub mod States
-pub mod Stepping
-pub mod Following
-pub mod Walking
+pub mod RowSteps
+pub mod CieMachine
+pub mod RowWalk
 pub mod Steps
 pub mod Turns
-pub mod Differing
+pub mod Difference
 pub mod Rows
 pub mod RuleAt

@@ -4,7 +4,7 @@ use Rattle.dw_num.specs.declared.refusal.Code.TheVariants.{UnknownInstruction, O
 use Rattle.dw_num.specs.declared.refusal.Refusal.{Refusal}
 use Rattle.dw_num.specs.Input.{Input, Takes}
 use Rattle.dw_num.specs.Leb.{Uleb}
-use Rattle.dw_num.specs.Reading.{fixed_at, take_at, register_at, uleb_at, sleb_at, address_at}
+use Rattle.dw_num.specs.Front.{fixed_at, take_at, register_at, uleb_at, sleb_at, address_at}
 use Rattle.dw_op.specs.declared.profile.Profile.TheVariants.{Frame}
 use Rattle.dw_op.specs.Faults.{BlockFault}
 use Rattle.dw_cfa.specs.declared.instr.Factors.{Factors}

@@ -1,8 +1,8 @@
 //! The registers behind another one, where those are gone over one at a time.
 
 ghost use Rattle.std.specs.Prelude.{◌≡◌};
-ghost use Rattle.dw_cfa.specs.Differing.{place_behind};
-ghost use Rattle.dw_cfa.specs.Inner.Differing.{start_behind};
+ghost use Rattle.dw_cfa.specs.Difference.{place_behind};
+ghost use Rattle.dw_cfa.specs.Inner.Difference.{start_behind};
 
 use std::ops::Bound;
 

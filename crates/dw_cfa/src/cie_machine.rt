@@ -4,13 +4,13 @@ ghost use Rattle.std.specs.Prelude.{◌≡◌, ◌<◌, ℕ, None, Some, Ok, Err
 ghost use Rattle.dw_num.specs.Target.{address_limit};
 ghost use Rattle.dw_num.specs.Refusals.{Refuses};
 ghost use Rattle.dw_num.specs.declared.error.ReadError.TheVariants.{OutOfMemory};
-ghost use Rattle.dw_cfa.specs.Following.{Following, with_steps};
-ghost use Rattle.dw_cfa.specs.Lacking.{lacks_from};
+ghost use Rattle.dw_cfa.specs.CieMachine.{Following, with_steps};
+ghost use Rattle.dw_cfa.specs.Coverage.{lacks_from};
 ghost use Rattle.dw_cfa.specs.Behind.{LeavesTo, RunsBehind};
 ghost use Rattle.dw_cfa.specs.Rows.{AreSpecified};
 ghost use Rattle.dw_cfa.specs.Runs.{finished};
 ghost use Rattle.dw_cfa.specs.Inner.Runs.{rows_behind};
-ghost use Rattle.dw_cfa.specs.Stepping.{Advances, program_input, stepping};
+ghost use Rattle.dw_cfa.specs.RowSteps.{Advances, program_input, stepping};
 
 use crate::coverage::lacks_rule;
 use crate::execution::next_row;
@@ -43,8 +43,8 @@ pub struct CieMachine<'a> {
 }
 
 impl<'a> Model for CieMachine<'a> {
-    ghost use Rattle.dw_cfa.specs.Following.{Following};
-    ghost use Rattle.dw_cfa.specs.Inner.Following.{following_of, FollowsSo};
+    ghost use Rattle.dw_cfa.specs.CieMachine.{Following};
+    ghost use Rattle.dw_cfa.specs.Inner.CieMachine.{following_of, FollowsSo};
 
     ghost Value = { Following };
 

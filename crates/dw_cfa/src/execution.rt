@@ -5,7 +5,7 @@ ghost use Rattle.dw_num.specs.Refusals.{Refuses};
 ghost use Rattle.dw_cfa.specs.RuleAt.{last_at, NeverFalls};
 ghost use Rattle.dw_cfa.specs.Rows.{Rules};
 ghost use Rattle.dw_cfa.specs.Inner.Runs.{RunsSo, GivesRow, Wrote, rows_left, initial_row, placed};
-ghost use Rattle.dw_cfa.specs.Inner.Walking.{AllSpecify};
+ghost use Rattle.dw_cfa.specs.Inner.RowWalk.{AllSpecify};
 
 use crate::cie_instruction::write_operands;
 use crate::instr::Factors;

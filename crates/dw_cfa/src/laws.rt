@@ -1,6 +1,6 @@
 //! Laws of rows, for the layers above. The functions do nothing: their contracts are proved.
 
-ghost use Rattle.dw_cfa.specs.Matching.{RestoresMatched};
+ghost use Rattle.dw_cfa.specs.Match.{RestoresMatched};
 ghost use Rattle.dw_cfa.specs.FaultPlaces.{CieFaultsWithin, FdeFaultsWithin, RunFaultsWithin};
 ghost use Rattle.dw_cfa.specs.RowLaws.{OneRun, RefusedWhereFault, RowsWhereKept, NoneFalls, LastHolds, OneHolds, OneInitial, OneBehind, BehindWhereFault};
 

@@ -3,10 +3,10 @@
 ghost use Rattle.std.specs.Prelude.{◌≡◌, ◌+◌, ◌*◌, ◌<◌, ◌^◌, ◌*ℤ◌, length, unsigned_abs, [], ◌∷◌, IfSome, IsTrue, IsOk};
 ghost use Rattle.dw_num.specs.Leb.{Sleb};
 ghost use Rattle.dw_num.specs.Fixed.{IsWidth};
-ghost use Rattle.dw_num.specs.Reading.{sleb_at, uleb_at};
-ghost use Rattle.dw_num.specs.Inner.Reading.{Gives};
+ghost use Rattle.dw_num.specs.Front.{sleb_at, uleb_at};
+ghost use Rattle.dw_num.specs.Inner.Front.{Gives};
 ghost use Rattle.dw_cfa.specs.Operands.{opcode_of};
-ghost use Rattle.dw_cfa.specs.Inner.Reading.{expression_in, block_at, instr_at};
+ghost use Rattle.dw_cfa.specs.Inner.FrontInstr.{expression_in, block_at, instr_at};
 ghost use Rattle.dw_cfa.specs.Inner.ByOpcode.{offset_in, plain_at, factored_at, signed_at, set_loc_at, advance_at, def_cfa_at, def_cfa_sf_at, def_cfa_register_at, def_cfa_offset_at, def_cfa_offset_sf_at, def_cfa_expression_at, offset_at, offset_extended_at, offset_extended_sf_at, val_offset_at, val_offset_sf_at, restore_at, undefined_at, same_value_at, register_rule_at, expression_at, val_expression_at, operands_at};
 
 use crate::instr::{Factors, Instr};
@@ -162,7 +162,7 @@ fn accept_at<'a>(
     }
 }
 
-#[tactic(auto, unfolding(crate::specs::Inner::Reading::block_at))]
+#[tactic(auto, unfolding(crate::specs::Inner::FrontInstr::block_at))]
 pub(crate) fn block<'a>(cursor: &mut Cursor<'a>, known: bool) -> Result<ExprRef<'a>, Refusal>
     requires { IsTrue known → IsOk (block_at cursor.old) }
     ensures { Gives (λ e. e) result (block_at cursor.old) cursor.new }
@@ -451,7 +451,7 @@ pub(crate) fn operands<'a>(
 /// The instruction at the front of a program, its factors multiplied out, or its first fault: an opcode that
 /// is no instruction's, then its operands' from left to right, then an offset that is too large. Where it is known to be
 /// read, its expression is not judged again.
-#[tactic(auto, unfolding(crate::specs::Inner::Reading::instr_at))]
+#[tactic(auto, unfolding(crate::specs::Inner::FrontInstr::instr_at))]
 pub(crate) fn read_instr<'a>(
     cursor: &mut Cursor<'a>,
     factors: Factors,

@@ -7,10 +7,10 @@ ghost use Rattle.dw_cfa.specs.Gives.{RunsTo};
 ghost use Rattle.dw_cfa.specs.RuleAt.{last_at};
 ghost use Rattle.dw_cfa.specs.Rows.{blank};
 ghost use Rattle.dw_cfa.specs.Runs.{Outcome};
-ghost use Rattle.dw_cfa.specs.Stepping.{program_input};
+ghost use Rattle.dw_cfa.specs.RowSteps.{program_input};
 ghost use Rattle.dw_cfa.specs.Inner.Runs.{RunsSo, run_rows};
 ghost use Rattle.dw_cfa.specs.Inner.States.{IsFresh};
-ghost use Rattle.dw_cfa.specs.Inner.Stepping.{begun_rows};
+ghost use Rattle.dw_cfa.specs.Inner.RowSteps.{begun_rows};
 
 use crate::execution::{run_initial, run_to};
 use crate::instr::Factors;

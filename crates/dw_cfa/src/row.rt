@@ -6,10 +6,10 @@ ghost use Rattle.std.specs.Iterator.{YieldsFirst, item_count};
 ghost use Rattle.dw_cfa.specs.declared.rule.RegRule.TheVariants.{Unspecified};
 ghost use Rattle.dw_cfa.specs.Rows.{AreSpecified, rule, rule_in, blank};
 ghost use Rattle.dw_cfa.specs.Inner.Rows.{put, with_cfa, with_rule};
-ghost use Rattle.dw_cfa.specs.Narrowing.{is_agreed, is_kept, agreed, kept, same_rule};
+ghost use Rattle.dw_cfa.specs.Agreement.{is_agreed, is_kept, agreed, kept, same_rule};
 ghost use Rattle.dw_cfa.specs.Inner.Entries.{CopiedBelow, entries_of, slot_rule, EntriesSo, IsSlotOf, FindsNear, Covers, LeavesAt, LeavesBelow};
-ghost use Rattle.dw_cfa.specs.Differing.{FirstDifference, place_behind};
-ghost use Rattle.dw_cfa.specs.Inner.Differing.{FirstBelow, SameUnset};
+ghost use Rattle.dw_cfa.specs.Difference.{FirstDifference, place_behind};
+ghost use Rattle.dw_cfa.specs.Inner.Difference.{FirstBelow, SameUnset};
 
 use crate::behind::{place_behind, start_behind};
 use crate::rule::{CfaRule, RegRule};

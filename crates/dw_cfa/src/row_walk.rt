@@ -6,15 +6,15 @@ ghost use Rattle.dw_num.specs.declared.error.ReadError.TheVariants.{OutOfMemory}
 ghost use Rattle.dw_cfa.specs.declared.execution.LocatedRow.{LocatedRow};
 ghost use Rattle.dw_cfa.specs.Gives.{Gives, RunsTo};
 ghost use Rattle.dw_cfa.specs.RuleAt.{last_at, NeverFalls};
-ghost use Rattle.dw_cfa.specs.Differing.{FirstDifference, place_behind};
+ghost use Rattle.dw_cfa.specs.Difference.{FirstDifference, place_behind};
 ghost use Rattle.dw_cfa.specs.Rows.{AreSpecified, Rules, blank};
 ghost use Rattle.dw_cfa.specs.Inner.Runs.{GivesRow, RunsSo, initial_row, placed, rows_left, run_rows};
 ghost use Rattle.dw_cfa.specs.Runs.{finished};
 ghost use Rattle.dw_cfa.specs.Inner.States.{BeganWith};
-ghost use Rattle.dw_cfa.specs.Stepping.{Advances, program_input, stepping};
-ghost use Rattle.dw_cfa.specs.Inner.Stepping.{progress_after};
-ghost use Rattle.dw_cfa.specs.Walking.{AllKeep, unled};
-ghost use Rattle.dw_cfa.specs.Inner.Walking.{AllSpecify, HasInitial, LeadsSame, Readied, WalkKeeps, WalksSo, led_rows, walk_of};
+ghost use Rattle.dw_cfa.specs.RowSteps.{Advances, program_input, stepping};
+ghost use Rattle.dw_cfa.specs.Inner.RowSteps.{progress_after};
+ghost use Rattle.dw_cfa.specs.RowWalk.{AllKeep, unled};
+ghost use Rattle.dw_cfa.specs.Inner.RowWalk.{AllSpecify, HasInitial, LeadsSame, Readied, WalkKeeps, WalksSo, led_rows, walk_of};
 
 use crate::execution::{next_row, run_initial, run_to};
 use crate::instr::Factors;
@@ -194,8 +194,8 @@ pub struct RowWalk<'a> {
 }
 
 impl<'a> Model for RowWalk<'a> {
-    ghost use Rattle.dw_cfa.specs.Walking.{Walking};
-    ghost use Rattle.dw_cfa.specs.Inner.Walking.{WalksSo, led_of, walk_of};
+    ghost use Rattle.dw_cfa.specs.RowWalk.{Walking};
+    ghost use Rattle.dw_cfa.specs.Inner.RowWalk.{WalksSo, led_of, walk_of};
 
     ghost Value = { Walking };
 

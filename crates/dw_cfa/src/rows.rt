@@ -6,7 +6,7 @@ ghost use Rattle.dw_num.specs.Refusals.{Refuses};
 ghost use Rattle.dw_num.specs.declared.error.ReadError.TheVariants.{OutOfMemory};
 ghost use Rattle.dw_cfa.specs.Faults.{RunFault};
 ghost use Rattle.dw_cfa.specs.Gives.{Gives};
-ghost use Rattle.dw_cfa.specs.Stepping.{program_input};
+ghost use Rattle.dw_cfa.specs.RowSteps.{program_input};
 ghost use Rattle.dw_cfa.specs.declared.execution.LocatedRow.{LocatedRow as TheLocatedRow};
 
 use crate::execution::LocatedRow;

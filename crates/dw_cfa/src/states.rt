@@ -1,7 +1,7 @@
 //! The current row and the remembered ones (6.4.2.4).
 
 ghost use Rattle.std.specs.Prelude.{◌≡◌, ◌+◌, ◌<◌, [], ◌∷◌, length, reverse, Some, None, OnOk, OnErr, IfOk, IsTrue, ◌↔◌, true, false};
-ghost use Rattle.dw_cfa.specs.Differing.{FirstDifference, place_behind};
+ghost use Rattle.dw_cfa.specs.Difference.{FirstDifference, place_behind};
 ghost use Rattle.dw_cfa.specs.Rows.{AreSpecified, blank};
 ghost use Rattle.dw_cfa.specs.Inner.Rows.{with_cfa, with_rule};
 ghost use Rattle.dw_cfa.specs.Inner.States.{Held, first_if, BeganWith, Restored, TakenBack, count_remembered, first_registers};

@@ -9,8 +9,8 @@ ghost use Rattle.dw_cfa.specs.Inner.Runs.{RunsSo, GivesRow, placed, initial_row,
 ghost use Rattle.dw_cfa.specs.Behind.{LeavesTo};
 ghost use Rattle.dw_cfa.specs.Gives.{Gives, RunsTo};
 ghost use Rattle.dw_cfa.specs.Rows.{blank};
-ghost use Rattle.dw_cfa.specs.Stepping.{Advances, Answers, stepping, program_input};
-ghost use Rattle.dw_cfa.specs.Inner.Stepping.{begun_rows, progress_after};
+ghost use Rattle.dw_cfa.specs.RowSteps.{Advances, Answers, stepping, program_input};
+ghost use Rattle.dw_cfa.specs.Inner.RowSteps.{begun_rows, progress_after};
 
 use crate::execution::{LocatedRow, next_row, run_initial};
 use crate::instr::Factors;
@@ -106,8 +106,8 @@ pub struct RowSteps<'a> {
 
 impl<'a> Model for RowSteps<'a> {
     ghost use Rattle.std.specs.Prelude.{◌≡◌, IsTrue, None};
-    ghost use Rattle.dw_cfa.specs.Stepping.{Stepping};
-    ghost use Rattle.dw_cfa.specs.Inner.Stepping.{left_of, StandsSo};
+    ghost use Rattle.dw_cfa.specs.RowSteps.{Stepping};
+    ghost use Rattle.dw_cfa.specs.Inner.RowSteps.{left_of, StandsSo};
 
     ghost Value = { Stepping };
 

@@ -1,7 +1,7 @@
 //! Rules of registers in a tree, ascending.
 
 ghost use Rattle.std.specs.Prelude.{◌≡◌, OnOk, OnErr};
-ghost use Rattle.dw_cfa.specs.Differing.{FirstDifference};
+ghost use Rattle.dw_cfa.specs.Difference.{FirstDifference};
 ghost use Rattle.dw_cfa.specs.Rows.{AreSpecified, rule_in};
 ghost use Rattle.dw_cfa.specs.Inner.Rows.{put};
 

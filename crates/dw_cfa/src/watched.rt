@@ -1,8 +1,8 @@
 //! The current row beside one that was kept (6.4.1).
 
 ghost use Rattle.std.specs.Prelude.{◌≡◌, ℕ, ◌↔◌, IfOk, IsTrue, OnErr, OnOk};
-ghost use Rattle.dw_cfa.specs.Differing.{FirstDifference, place_behind};
-ghost use Rattle.dw_cfa.specs.Inner.Differing.{SameUnset};
+ghost use Rattle.dw_cfa.specs.Difference.{FirstDifference, place_behind};
+ghost use Rattle.dw_cfa.specs.Inner.Difference.{SameUnset};
 ghost use Rattle.dw_cfa.specs.Rows.{AreSpecified, blank, rule_in};
 ghost use Rattle.dw_cfa.specs.Inner.Rows.{with_cfa, with_rule};
 ghost use Rattle.dw_cfa.specs.Inner.Marks.{CopiedUpTo, SameUnlisted, SameUnmarked, watching};

@@ -27,8 +27,8 @@ use Rattle.dw_command.specs.declared.files.LoadError.{LoadError}
 use Rattle.dw_command.specs.declared.failure.Failure.{Failure}
 use Rattle.dw_command.specs.declared.failure.Failure.TheVariants as failures
 use Rattle.dw_command.specs.Answers.{Checks, CostEnds, EvalEnds, Frames, Loads, LoadsDump, LoadsText, Normalises, Parses, Prints, Then, UnwindEnds, Values}
-use Rattle.dw_command.specs.Failing.{of_read}
-use Rattle.dw_command.specs.Inner.Failing.{of_write}
+use Rattle.dw_command.specs.Failure.{of_read}
+use Rattle.dw_command.specs.Inner.Failure.{of_write}
 
 -- what later files give, the earlier ones may give
 module _ (old new : Text → Result (List ℕ) LoadError → Type 0) (same : (p : Text) (r : Result (List ℕ) LoadError) → new p r → old p r) where

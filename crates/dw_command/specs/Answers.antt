@@ -34,7 +34,7 @@ use Rattle.dw_command.specs.declared.files.LoadError.{LoadError}
 use Rattle.dw_command.specs.declared.files.LoadError.TheVariants.{CannotRead}
 use Rattle.dw_command.specs.declared.failure.Failure.{Failure}
 use Rattle.dw_command.specs.declared.failure.Failure.TheVariants as failures
-use Rattle.dw_command.specs.Failing.{OfLoad, OfSame, OfUnwind, of_read, of_dump, of_eval, of_plan, status_of}
+use Rattle.dw_command.specs.Failure.{OfLoad, OfSame, OfUnwind, of_read, of_dump, of_eval, of_plan, status_of}
 
 -- ---- one thing after another
 

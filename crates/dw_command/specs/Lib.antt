@@ -1,4 +1,4 @@
 pub mod Answers
-pub mod Failing
+pub mod Failure
 pub mod Inner
 pub mod Output

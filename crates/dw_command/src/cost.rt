@@ -1,6 +1,6 @@
 //! `dwframe cost`: what a section costs beside its normal form.
 
-ghost use Rattle.std.specs.Prelude.{◌<◌, ◌≤◌, ◌-◌, ◌^◌, length};
+ghost use Rattle.std.specs.Prelude.{◌≡◌, ◌<◌, ◌≤◌, ◌-◌, ◌^◌, length};
 ghost use Rattle.dw_command.specs.Answers.{CostEnds, Prints};
 ghost use Rattle.dw_command.specs.Output.{Told};
 
@@ -17,7 +17,9 @@ use std::io::Write;
 const CAP: u64 = 2_147_483_647;
 
 // How many changes are still to come.
-fn count_changes(changes: &mut Changes<'_>) -> Result<u64, AllocError> {
+fn count_changes(changes: &mut Changes<'_>) -> Result<u64, AllocError>
+    ensures { changes.new.section ≡ changes.old.section }
+{
     let mut count = 0u64;
     'changes: while let Some(_) = changes.advance()? {
         count = count.saturating_add(1);

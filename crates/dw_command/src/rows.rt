@@ -18,7 +18,8 @@ fn put_changes<W: Write>(
     changes: &mut Changes<'_>,
 ) -> Result<(), Failure<'static>>
     requires room { out.old.failures < 2 ^ 64 - 1 }
-    ensures { MatchResult result (λ _. out.new.failures ≡ out.old.failures) (Unprinted out.old.failures out.new.failures) }
+    ensures told { MatchResult result (λ _. out.new.failures ≡ out.old.failures) (Unprinted out.old.failures out.new.failures) }
+    ensures section { changes.new.section ≡ changes.old.section }
 {
     'changes: while let Some(address) = changes.advance()? {
         if let Some(row) = changes.row() {

@@ -14,10 +14,10 @@ use Rattle.dw_eval.specs.declared.place.Role.{Role}
 use Rattle.dw_eval.specs.declared.place.Role.TheVariants.{SetsPlace, SetsValue, AddsPiece, Waits, Computes}
 use Rattle.dw_eval.specs.Context.{Context}
 use Rattle.dw_eval.specs.Effect.{Outcome, Next, Jump, Faults, effect}
-use Rattle.dw_eval.specs.Inner.Describing.{Turns}
+use Rattle.dw_eval.specs.Inner.Description.{Turns}
 use Rattle.dw_eval.specs.Location.{PlaceState, place_led, with_value, place_turn}
 use Rattle.dw_eval.specs.Inner.Roles.{role, free_by, held_by, turn_of}
-use Rattle.dw_eval.specs.Inner.Stepping.{StepsTo}
+use Rattle.dw_eval.specs.Inner.Steps.{StepsTo}
 use Rattle.dw_eval.proofs.Roles.{turn_is}
 use Rattle.dw_eval.proofs.Effects.{IsTame, effect_tame, in_range_at}
 

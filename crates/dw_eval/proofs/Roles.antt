@@ -14,7 +14,7 @@ use Rattle.dw_eval.specs.Context.{Context, read_at}
 use Rattle.dw_eval.specs.Effect.{Outcome, Next, Jump, Faults, on_top, on_two, on_three, known, tell, effect}
 use Rattle.dw_eval.specs.Location.{PlaceState, refused, free_turn, held_turn, turn_by, place_turn}
 use Rattle.dw_eval.specs.Inner.Roles.{role, free_by, refused_by, held_by, turn_of}
-use Rattle.dw_eval.specs.Inner.Stepping.{StepsTo}
+use Rattle.dw_eval.specs.Inner.Steps.{StepsTo}
 
 -- an outcome that is no short stack
 abbrev IsMissing : Outcome → Type 0

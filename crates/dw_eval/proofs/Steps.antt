@@ -14,7 +14,7 @@ use Rattle.dw_eval.specs.declared.stack.Flow.TheVariants as flow
 use Rattle.dw_eval.specs.declared.stack.Stop.{Stop}
 use Rattle.dw_eval.specs.declared.stack.Stop.TheVariants as stop
 use Rattle.dw_eval.specs.Effect.{Outcome}
-use Rattle.dw_eval.specs.Inner.Stepping.{Does, Acts, StepsTo}
+use Rattle.dw_eval.specs.Inner.Steps.{Does, Acts, StepsTo}
 
 -- an operation without memory is one over a memory that stays
 pub acts_so : (outcome : Outcome) (Read : Type 0) (before : ℕ) (result : Result Flow Stop) (stack : List ℕ) (after : ℕ) → Does outcome result stack → after ≡ before → Acts outcome Read before result stack after

@@ -17,7 +17,7 @@ use Rattle.dw_eval.specs.Context.{Context}
 use Rattle.dw_eval.specs.Effect.{Reads}
 use Rattle.dw_eval.specs.Evaluation.{State, index_of, value_turn, value_start, value_reads, top_of}
 use Rattle.dw_eval.specs.Inner.Evaluation.{ValueRuns, EvaluatesOver}
-use Rattle.dw_eval.specs.Inner.Stepping.{StepsTo}
+use Rattle.dw_eval.specs.Inner.Steps.{StepsTo}
 use Rattle.dw_eval.proofs.Effects.{value_stays}
 use Rattle.dw_eval.proofs.Steps.{runs_more, answered_stop, answered_limit}
 

@@ -6,7 +6,7 @@ ghost use Rattle.dw_op.specs.declared.op.Op.TheVariants.{DerefSize};
 ghost use Rattle.dw_eval.specs.declared.error.Kind.TheVariants.{Unreadable};
 ghost use Rattle.dw_eval.specs.Context.{context, read_at};
 ghost use Rattle.dw_eval.specs.Effect.{on_top, known, push, effect, ReadsAt, Reads};
-ghost use Rattle.dw_eval.specs.Inner.Stepping.{Acts};
+ghost use Rattle.dw_eval.specs.Inner.Steps.{Acts};
 
 use crate::env::Env;
 use crate::error::Kind;

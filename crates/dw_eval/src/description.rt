@@ -10,7 +10,7 @@ ghost use Rattle.dw_eval.specs.Context.{context};
 ghost use Rattle.dw_eval.specs.Effect.{effect, Reads};
 ghost use Rattle.dw_eval.specs.Location.{place_turn, place_reads, place_led, place_here, with_piece, with_place, with_value, pieces_of};
 ghost use Rattle.dw_eval.specs.Inner.Roles.{free_by, held_by, refused_by, turn_of};
-ghost use Rattle.dw_eval.specs.Inner.Stepping.{StepsTo};
+ghost use Rattle.dw_eval.specs.Inner.Steps.{StepsTo};
 
 use crate::action::act;
 use crate::env::Env;
@@ -33,7 +33,7 @@ pub(crate) struct Description<'a> {
 impl<'a> Description<'a> {
     ghost use Rattle.dw_eval.specs.declared.place.Piece.{Piece};
     ghost use Rattle.dw_eval.specs.Location.{bare_place, bare_piece};
-    ghost use Rattle.dw_eval.specs.Inner.Describing.{bare_role, state_of, Turns};
+    ghost use Rattle.dw_eval.specs.Inner.Description.{bare_role, state_of, Turns};
 
     /// Nothing is described yet. Takes no memory.
     pub(crate) fn new(alloc: Global) -> Description<'a>

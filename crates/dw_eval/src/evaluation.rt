@@ -12,7 +12,7 @@ ghost use Rattle.dw_eval.specs.Context.{context};
 ghost use Rattle.dw_eval.specs.Effect.{Reads};
 ghost use Rattle.dw_eval.specs.Evaluation.{value_turn, first_stack, top_of, Evaluates, MayFailAt};
 ghost use Rattle.dw_eval.specs.Inner.Evaluation.{EvaluatesOver};
-ghost use Rattle.dw_eval.specs.Inner.Stepping.{reached, StepsTo};
+ghost use Rattle.dw_eval.specs.Inner.Steps.{reached, StepsTo};
 
 use crate::action::act;
 use crate::env::Env;

@@ -6,7 +6,7 @@ ghost use Rattle.dw_num.specs.Target.{address_limit};
 ghost use Rattle.dw_eval.specs.declared.error.Kind.TheVariants.{StackUnderflow, DivideByZero, NotAValue};
 ghost use Rattle.dw_eval.specs.Context.{signed};
 ghost use Rattle.dw_eval.specs.Effect.{Next, Jump, Faults, on_top, on_two, on_three, known, push, push_signed, tell, shifted_left, shifted_right, shifted_signed};
-ghost use Rattle.dw_eval.specs.Inner.Stepping.{Does};
+ghost use Rattle.dw_eval.specs.Inner.Steps.{Does};
 
 use crate::arithmetic;
 use crate::error::Kind;

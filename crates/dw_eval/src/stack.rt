@@ -3,7 +3,7 @@
 ghost use Rattle.std.specs.Prelude.{◌≡◌, ℕ, List, [], ◌∷◌, length, slice_get, MatchOption, IfOk, IfErr};
 ghost use Rattle.dw_eval.specs.declared.error.Kind.TheVariants.{StackUnderflow};
 ghost use Rattle.dw_eval.specs.Effect.{Outcome, Next, Faults, on_top, on_two, on_three};
-ghost use Rattle.dw_eval.specs.Inner.Stepping.{Does};
+ghost use Rattle.dw_eval.specs.Inner.Steps.{Does};
 
 use crate::error::Kind;
 use std::alloc::Global;

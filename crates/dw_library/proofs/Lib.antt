@@ -1,4 +1,4 @@
 mod WindowLaws
 mod Frames
 mod Overlays
-mod Growing
+mod JoinedBlocks

@@ -9,7 +9,7 @@ use Rattle.dw_cfa.specs.declared.rule.RegRule.TheVariants.{Unspecified, Undefine
 use Rattle.dw_section.specs.Accepted.{CheckFault}
 use Rattle.dw_section.specs.Meaning.{AreFdes, NoneCovers, RulesAt}
 use Rattle.dw_section.specs.Meanings.{IsListed}
-use Rattle.dw_section.specs.Standing.{Ruled, RulesOf}
+use Rattle.dw_section.specs.StandingFde.{Ruled, RulesOf}
 use Rattle.dw_section.specs.Inner.Table.{IsTable}
 use Rattle.dw_section.specs.declared.fde_range.Ranged.{Ranged}
 use Rattle.dw_section.specs.declared.lookup.Fde.{Fde}

@@ -4,7 +4,7 @@ pub mod Named
 pub mod Forms
 pub mod Windows
 pub mod Registers
-pub mod Unwinding
+pub mod CallerFrame
 pub mod Inner
 pub mod Index
 pub mod Expressions

@@ -6,8 +6,8 @@ use Rattle.dw_cfa.specs.Rows.{Rules}
 use Rattle.dw_section.specs.declared.lookup.Fde.{Fde}
 use Rattle.dw_section.specs.Changes.{Changing, GivesAddress}
 use Rattle.dw_canon.specs.Members.{Member, fde_of, changes_of}
-use Rattle.dw_normal.specs.Inner.Passing.{AreToCome}
-use Rattle.dw_normal.proofs.Coming.{Next, next_comes, none_comes}
+use Rattle.dw_normal.specs.Inner.ChangeWalk.{AreToCome}
+use Rattle.dw_normal.proofs.ChangesToCome.{Next, next_comes, none_comes}
 
 -- ---- answers
 

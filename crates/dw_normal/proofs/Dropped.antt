@@ -3,13 +3,13 @@ use Rattle.std.proofs.Common.{◌≡◌, ℕ, suc, ◌<◌, Bool, true, List, []
 use Rattle.std.specs.List.{filter}
 use Rattle.std.proofs.lemmas.Bool.{cases_Bool, cases_lt}
 use Rattle.dw_cfa.specs.declared.rule.RegRule.{RegRule}
-use Rattle.dw_cfa.specs.Differing.{DiffersFirst}
-use Rattle.dw_cfa.specs.Narrowing.{is_kept, kept}
+use Rattle.dw_cfa.specs.Difference.{DiffersFirst}
+use Rattle.dw_cfa.specs.Agreement.{is_kept, kept}
 use Rattle.dw_cfa.specs.Rows.{Rules, rule, is_specified}
 use Rattle.dw_cfa.proofs.Lent.Narrowed.{left_too}
 use Rattle.dw_cfa.proofs.Lent.RowLists.{Entry}
 use Rattle.dw_section.specs.Changes.{before_then}
-use Rattle.dw_normal.specs.Inner.Grouping.{SpecifiesAll}
+use Rattle.dw_normal.specs.Inner.Groups.{SpecifiesAll}
 
 -- one register more is specified still
 pub specified_more : (before row : Rules) (from q r : ℕ) → DiffersFirst from before.registers row.registers q → ((n : ℕ) → n < from → is_specified (rule before n) ≡ true → is_specified (rule row n) ≡ true)

@@ -19,8 +19,8 @@ use Rattle.dw_canon.specs.Written.{Written, contents, entry_bytes}
 use Rattle.dw_canon.proofs.Lent.Fields.{entry_length}
 use Rattle.dw_canon.proofs.Lent.Readback.{rendered_laid}
 use Rattle.dw_canon.proofs.Lent.Rendered.{renders}
-use Rattle.dw_normal.specs.Inner.Grouping.{initial_rows}
-use Rattle.dw_normal.specs.Inner.Measuring.{cie_with, cies_bytes, fdes_bytes}
+use Rattle.dw_normal.specs.Inner.Groups.{initial_rows}
+use Rattle.dw_normal.specs.Inner.Lengths.{cie_with, cies_bytes, fdes_bytes}
 use Rattle.dw_normal.specs.Inner.Places.{place_in, fde_with}
 use Rattle.dw_normal.specs.Inner.Puts.{Puts, taken_by, after}
 use Rattle.dw_normal.specs.declared.entry.PutError.{PutError}

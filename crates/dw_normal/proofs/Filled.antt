@@ -11,8 +11,8 @@ use Rattle.dw_canon.specs.Difference.{difference, later_changes}
 use Rattle.dw_canon.specs.Members.{Member}
 use Rattle.dw_canon.specs.Spelling.{program_bytes}
 use Rattle.dw_canon.specs.Written.{fde, missing, nop_count, filled, fde_fields, contents}
-use Rattle.dw_normal.specs.Inner.Beginning.{Begins}
-use Rattle.dw_normal.specs.Inner.Passing.{Appends, shown_row}
+use Rattle.dw_normal.specs.Inner.Begun.{Begins}
+use Rattle.dw_normal.specs.Inner.ChangeWalk.{Appends, shown_row}
 use Rattle.dw_normal.specs.declared.begun.Begun.{Begun}
 use Rattle.dw_normal.proofs.Passes.{program_more}
 

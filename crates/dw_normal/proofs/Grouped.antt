@@ -14,7 +14,7 @@ use Rattle.dw_canon.specs.Canon.{initial_of, return_registers}
 use Rattle.dw_canon.specs.Difference.{with_register, with_registers}
 use Rattle.dw_canon.specs.Group.{group, initial_row, kept_by}
 use Rattle.dw_canon.specs.Members.{Member}
-use Rattle.dw_normal.specs.Inner.Grouping.{initial_rows, begun_with, row_of, with_member}
+use Rattle.dw_normal.specs.Inner.Groups.{initial_rows, begun_with, row_of, with_member}
 use Rattle.dw_normal.proofs.Passes.{group_more, next_member}
 
 -- ---- the order of two registers

@@ -1,4 +1,4 @@
-mod Remaining
+mod RegistersBehind
 mod Appended
 mod OneByte
 mod Lengths
@@ -7,10 +7,10 @@ mod Measured
 mod Summed
 mod Short
 mod Taken
-mod Coming
+mod ChangesToCome
 mod Dropped
 mod Grouped
-mod Reporting
+mod Reports
 mod Placed
 mod Alike
 mod Joined

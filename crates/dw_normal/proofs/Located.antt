@@ -14,9 +14,9 @@ use Rattle.dw_canon.specs.Laid.{place_of}
 use Rattle.dw_canon.specs.Inner.Laid.{IsPart}
 use Rattle.dw_canon.specs.Members.{Member, AreMembers, fde_of}
 use Rattle.dw_canon.specs.Written.{contents}
-use Rattle.dw_normal.specs.Inner.Beginning.{Begins}
-use Rattle.dw_normal.specs.Inner.Grouping.{initial_rows, row_of}
-use Rattle.dw_normal.specs.Inner.Measuring.{cies_bytes}
+use Rattle.dw_normal.specs.Inner.Begun.{Begins}
+use Rattle.dw_normal.specs.Inner.Groups.{initial_rows, row_of}
+use Rattle.dw_normal.specs.Inner.Lengths.{cies_bytes}
 use Rattle.dw_normal.specs.Inner.Places.{place_in, cie_place, fde_with}
 use Rattle.dw_normal.specs.declared.begun.Begun.{Begun}
 use Rattle.dw_normal.proofs.Entries.{one_long, contents_less, part_at}

@@ -12,8 +12,8 @@ use Rattle.dw_canon.specs.Difference.{difference, move, later_changes}
 use Rattle.dw_canon.specs.Spelling.{instr_bytes, program_bytes}
 use Rattle.dw_canon.specs.Written.{fde, missing, entry_bytes}
 use Rattle.dw_canon.proofs.Lent.Extra.{fde_length}
-use Rattle.dw_normal.specs.Inner.Measuring.{Leaves, LaterLeaves, EntryLeaves, FdeLeaves}
-use Rattle.dw_normal.specs.Inner.Passing.{Stand, Under}
+use Rattle.dw_normal.specs.Inner.Lengths.{Leaves, LaterLeaves, EntryLeaves, FdeLeaves}
+use Rattle.dw_normal.specs.Inner.ChangeWalk.{Stand, Under}
 use Rattle.dw_normal.proofs.Passes.{begins_under, ends_under, step_under, program_more}
 
 -- the loop: what would have been written, and the room that it left

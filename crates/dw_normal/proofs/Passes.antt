@@ -10,16 +10,16 @@ use Rattle.dw_cfa.specs.declared.instr.Instr.{Instr}
 use Rattle.dw_cfa.specs.Rows.{Rules}
 use Rattle.dw_canon.specs.Difference.{difference, move, later_changes}
 use Rattle.dw_canon.specs.Group.{group, kept_by, shared_by, initial_row}
-use Rattle.dw_cfa.specs.Narrowing.{agreed}
+use Rattle.dw_cfa.specs.Agreement.{agreed}
 use Rattle.dw_canon.specs.Members.{Member}
-use Rattle.dw_normal.specs.Inner.Passing.{last_of, Stand, Appends, Under, row_or_blank, shown_row}
+use Rattle.dw_normal.specs.Inner.ChangeWalk.{last_of, Stand, Appends, Under, row_or_blank, shown_row}
 use Rattle.dw_num.specs.Target.{address_limit}
 use Rattle.dw_section.specs.Changes.{Changing, ToCome, GivesAddress, before_then}
 use Rattle.dw_section.proofs.Lent.Exists.{among_exists}
 use Rattle.dw_section.specs.Sound.{RowFits}
 use Rattle.dw_canon.specs.Fits.{ChangesStand}
 use Rattle.dw_canon.specs.Inner.Fits.{InstrFits}
-use Rattle.dw_canon.proofs.Lent.Fitting.{difference_fits}
+use Rattle.dw_canon.proofs.Lent.InstrFits.{difference_fits}
 use Rattle.dw_canon.proofs.Lent.Programs.{below_end}
 use Rattle.dw_canon.specs.Spelling.{instr_bytes, program_bytes}
 

@@ -19,12 +19,12 @@ use Rattle.dw_canon.specs.Fits.{ChangesStand, MemberStands}
 use Rattle.dw_canon.specs.Inner.Fits.{InstrFits}
 use Rattle.dw_canon.specs.Group.{group}
 use Rattle.dw_canon.specs.Members.{Member, fde_of, AreMembers}
-use Rattle.dw_canon.proofs.Lent.Fitting.{difference_fits, cie_fits}
+use Rattle.dw_canon.proofs.Lent.InstrFits.{difference_fits, cie_fits}
 use Rattle.dw_canon.proofs.Lent.Rendered.{fits, stand}
-use Rattle.dw_canon.proofs.Lent.Standing.{group_fits}
-use Rattle.dw_normal.specs.Inner.Grouping.{initial_rows, row_of}
-use Rattle.dw_normal.specs.Inner.Beginning.{Begins, IsReady}
-use Rattle.dw_normal.specs.Inner.Passing.{Stand, shown_row}
+use Rattle.dw_canon.proofs.Lent.MemberPlaces.{group_fits}
+use Rattle.dw_normal.specs.Inner.Groups.{initial_rows, row_of}
+use Rattle.dw_normal.specs.Inner.Begun.{Begins, IsReady}
+use Rattle.dw_normal.specs.Inner.ChangeWalk.{Stand, shown_row}
 use Rattle.dw_normal.specs.declared.begun.Begun.{Begun}
 use Rattle.dw_normal.proofs.Grouped.{some_of, look_members}
 

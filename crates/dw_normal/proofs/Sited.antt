@@ -11,8 +11,8 @@ use Rattle.dw_canon.specs.Canon.{initial_of, return_registers, group_of}
 use Rattle.dw_canon.specs.Laid.{place_of, GroupsRise}
 use Rattle.dw_canon.specs.Members.{Member}
 use Rattle.dw_canon.specs.Written.{entry_bytes}
-use Rattle.dw_normal.specs.Inner.Grouping.{initial_rows, row_of}
-use Rattle.dw_normal.specs.Inner.Measuring.{cie_with, cies_bytes}
+use Rattle.dw_normal.specs.Inner.Groups.{initial_rows, row_of}
+use Rattle.dw_normal.specs.Inner.Lengths.{cie_with, cies_bytes}
 use Rattle.dw_normal.specs.Inner.Places.{place_in, cie_place, RowsRise}
 use Rattle.dw_normal.proofs.Grouped.{told}
 

@@ -8,8 +8,8 @@ use Rattle.dw_canon.specs.Laid.{cie_of, fde_of, place_of}
 use Rattle.dw_canon.specs.Members.{Member}
 use Rattle.dw_canon.specs.Written.{Written, entry_bytes, section_bytes}
 use Rattle.dw_canon.proofs.Lent.Extra.{section_append}
-use Rattle.dw_normal.specs.Inner.Grouping.{initial_rows}
-use Rattle.dw_normal.specs.Inner.Measuring.{MemberLeaves, Measures, cie_with, cies_bytes, fdes_bytes}
+use Rattle.dw_normal.specs.Inner.Groups.{initial_rows}
+use Rattle.dw_normal.specs.Inner.Lengths.{MemberLeaves, Measures, cie_with, cies_bytes, fdes_bytes}
 
 -- none of none
 pub none_of : {X : Type 0} (xs : List X) → length xs ≡ 0 → xs ≡ []

@@ -1,9 +1,9 @@
 -- How the code keeps what the contracts say. No public clause reaches these.
-pub mod Walking
-pub mod Passing
-pub mod Beginning
-pub mod Measuring
-pub mod Grouping
+pub mod RegisterWalk
+pub mod ChangeWalk
+pub mod Begun
+pub mod Lengths
+pub mod Groups
 pub mod Puts
 pub mod Places
 pub mod Answers

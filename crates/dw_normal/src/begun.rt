@@ -5,8 +5,8 @@ ghost use Rattle.dw_section.specs.declared.lookup.Fde.{Fde as TheFde};
 ghost use Rattle.dw_section.specs.Meaning.{AreFdes};
 ghost use Rattle.dw_canon.specs.Canon.{initial_of};
 ghost use Rattle.dw_canon.specs.Members.{Member, AreMembers};
-ghost use Rattle.dw_normal.specs.Inner.Beginning.{Begins, IsReady};
-ghost use Rattle.dw_normal.specs.Inner.Grouping.{initial_rows};
+ghost use Rattle.dw_normal.specs.Inner.Begun.{Begins, IsReady};
+ghost use Rattle.dw_normal.specs.Inner.Groups.{initial_rows};
 
 use crate::groups::go_behind_first;
 use dw_cfa::Row;

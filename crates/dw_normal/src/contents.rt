@@ -9,8 +9,8 @@ ghost use Rattle.dw_canon.specs.Inner.Fits.{InstrFits};
 ghost use Rattle.dw_canon.specs.Members.{Member};
 ghost use Rattle.dw_canon.specs.Spelling.{program_bytes};
 ghost use Rattle.dw_canon.specs.Written.{fde, missing, cie_fields, fde_fields, contents};
-ghost use Rattle.dw_normal.specs.Inner.Beginning.{Begins, IsReady};
-ghost use Rattle.dw_normal.specs.Inner.Measuring.{cie_with};
+ghost use Rattle.dw_normal.specs.Inner.Begun.{Begins, IsReady};
+ghost use Rattle.dw_normal.specs.Inner.Lengths.{cie_with};
 
 use crate::begun::Begun;
 use crate::instruction::push_uleb;

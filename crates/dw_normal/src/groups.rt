@@ -9,9 +9,9 @@ ghost use Rattle.dw_section.specs.Meaning.{AreFdes, HasLengths};
 ghost use Rattle.dw_canon.specs.Canon.{canon};
 ghost use Rattle.dw_canon.specs.Group.{kept_by};
 ghost use Rattle.dw_canon.specs.Members.{Member, AreMembers};
-ghost use Rattle.dw_cfa.specs.Narrowing.{agreed, kept};
-ghost use Rattle.dw_normal.specs.Inner.Grouping.{SpecifiesAll, NarrowedBy, with_member, initial_rows};
-ghost use Rattle.dw_normal.specs.Inner.Passing.{AreToCome, BehindFirst};
+ghost use Rattle.dw_cfa.specs.Agreement.{agreed, kept};
+ghost use Rattle.dw_normal.specs.Inner.Groups.{SpecifiesAll, NarrowedBy, with_member, initial_rows};
+ghost use Rattle.dw_normal.specs.Inner.ChangeWalk.{AreToCome, BehindFirst};
 
 use crate::bound::add_share;
 use dw_cfa::Row;

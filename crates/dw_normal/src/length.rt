@@ -9,8 +9,8 @@ ghost use Rattle.dw_section.specs.Meaning.{AreFdes};
 ghost use Rattle.dw_canon.specs.Canon.{canon, cie_instrs};
 ghost use Rattle.dw_canon.specs.Inner.Fits.{InstrFits};
 ghost use Rattle.dw_canon.specs.Members.{Member, AreMembers};
-ghost use Rattle.dw_normal.specs.Inner.Grouping.{initial_rows};
-ghost use Rattle.dw_normal.specs.Inner.Measuring.{Leaves, MemberLeaves, Measures, cies_bytes, fdes_bytes};
+ghost use Rattle.dw_normal.specs.Inner.Groups.{initial_rows};
+ghost use Rattle.dw_normal.specs.Inner.Lengths.{Leaves, MemberLeaves, Measures, cies_bytes, fdes_bytes};
 
 use crate::begun::{Begun, begin_fde, room_for};
 use crate::room::{behind_cie, behind_fde};

@@ -6,7 +6,7 @@ ghost use Rattle.dw_cfa.specs.Rows.{Rules};
 ghost use Rattle.dw_section.specs.declared.lookup.Fde.{Fde as TheFde};
 ghost use Rattle.dw_section.specs.Meaning.{AreFdes};
 ghost use Rattle.dw_canon.specs.Members.{Member, AreMembers};
-ghost use Rattle.dw_normal.specs.Inner.Passing.{AreToCome};
+ghost use Rattle.dw_normal.specs.Inner.ChangeWalk.{AreToCome};
 
 use dw_section::{Changes, Fde, FdeRef, Table};
 use std::alloc::AllocError;

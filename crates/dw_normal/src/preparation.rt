@@ -2,7 +2,7 @@
 
 ghost use Rattle.std.specs.Prelude.{◌≡◌, ◌≤◌, List, IfOk, IfErr};
 ghost use Rattle.dw_canon.specs.Members.{Member, AreMembers};
-ghost use Rattle.dw_normal.specs.Inner.Grouping.{initial_rows};
+ghost use Rattle.dw_normal.specs.Inner.Groups.{initial_rows};
 ghost use Rattle.dw_num.specs.Refusals.{Refuses};
 ghost use Rattle.dw_normal.specs.Answers.{IsTooLong, NormalFault, too_long};
 ghost use Rattle.dw_normal.specs.Inner.Answers.{IsShort, IsPrepared, IsMeasured};

@@ -10,8 +10,8 @@ ghost use Rattle.dw_canon.specs.Difference.{difference, cfa_difference, rule_to,
 ghost use Rattle.dw_canon.specs.Inner.Fits.{InstrFits};
 ghost use Rattle.dw_canon.specs.Spelling.{instr_bytes, program_bytes};
 ghost use Rattle.dw_canon.specs.Written.{cie, missing, entry_bytes};
-ghost use Rattle.dw_normal.specs.Inner.Measuring.{Leaves, LaterLeaves, FdeLeaves};
-ghost use Rattle.dw_normal.specs.Inner.Passing.{Stand, row_or_blank, shown_row};
+ghost use Rattle.dw_normal.specs.Inner.Lengths.{Leaves, LaterLeaves, FdeLeaves};
+ghost use Rattle.dw_normal.specs.Inner.ChangeWalk.{Stand, row_or_blank, shown_row};
 
 use crate::cfa_change::cfa_difference;
 use crate::size::{cfa_offset_len, instr_len, packed_len, rule_len, unsigned_len};

@@ -7,7 +7,7 @@ use Rattle.std.proofs.lemmas.Nat.{mul-le}
 use Rattle.std.proofs.lemmas.Grind.{pow_more}
 use Rattle.std.proofs.lemmas.List.{length-append, append-nil}
 use Rattle.dw_num.specs.Leb.{IsLeb, groups_from, groups, Uleb}
-use Rattle.dw_num.specs.Writing.{PutsUleb}
+use Rattle.dw_num.specs.ShortestLeb.{PutsUleb}
 use Rattle.dw_num.proofs.LebLemmas.{groups_from-append}
 
 -- a byte that is not the last of a LEB

@@ -3,7 +3,7 @@ use Rattle.std.proofs.Common.{to_z, of_z, w64, ◌≡◌, ℕ, ◌<◌, ◌≤�
 use Rattle.std.proofs.lemmas.Int.{ints, to_z-of_z}
 use Rattle.std.proofs.lemmas.Bool.{le-leb, lt-leb, lt-ltb}
 use Rattle.dw_num.specs.Leb.{groups}
-use Rattle.dw_num.specs.Reading.{leb_len}
+use Rattle.dw_num.specs.Front.{leb_len}
 use Rattle.dw_num.specs.Inner.Scan.{IsUlebScan, IsSlebScan}
 use Rattle.dw_num.specs.declared.leb.UlebScan.TheVariants.{Number}
 use Rattle.dw_num.specs.declared.leb.SlebScan.TheVariants as signed

@@ -12,7 +12,7 @@ use Rattle.std.proofs.lemmas.List.{length-append, append-nil}
 use Rattle.dw_num.specs.Leb.{IsLeb, last_byte, is_negative, Sleb}
 use Rattle.dw_num.specs.Shortest.{turned}
 use Rattle.dw_num.specs.Inner.Scan.{turned_from, as_signed}
-use Rattle.dw_num.specs.Writing.{PutsSleb}
+use Rattle.dw_num.specs.ShortestLeb.{PutsSleb}
 use Rattle.dw_num.proofs.Groups.{IsMore, high-push, leb-push, split_product}
 use Rattle.dw_num.proofs.Lent.Turned.{turned_from-append, signed_groups-turned}
 

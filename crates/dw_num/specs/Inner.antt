@@ -1,3 +1,3 @@
 -- How the code keeps what the contracts say. No public clause reaches these.
 pub mod Scan
-pub mod Reading
+pub mod Front

@@ -1,8 +1,8 @@
 -- What holds of reads and of spellings, for the layers above.
 use Rattle.std.specs.Prelude.{◌≡◌, ℕ, ℤ, ◌+◌, ◌≤◌, List, length, Ok, Err}
 use Rattle.dw_num.specs.Input.{Input}
-use Rattle.dw_num.specs.Reading.{Read, take_at, fixed_at, address_at, unit_length_at, uleb_at, sleb_at, register_at}
-use Rattle.dw_num.specs.Writing.{PutsUleb, PutsSleb}
+use Rattle.dw_num.specs.Front.{Read, take_at, fixed_at, address_at, unit_length_at, uleb_at, sleb_at, register_at}
+use Rattle.dw_num.specs.ShortestLeb.{PutsUleb, PutsSleb}
 
 -- j is what is left of i: it begins in i or at its end, and both end at one place
 pub record IsRest (i j : Input) : Type 0 where

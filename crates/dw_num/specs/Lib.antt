@@ -4,8 +4,8 @@ pub mod Target
 pub mod Input
 pub mod Fixed
 pub mod Leb
-pub mod Reading
-pub mod Writing
+pub mod Front
+pub mod ShortestLeb
 pub mod Span
 pub mod Shortest
 pub mod Laws

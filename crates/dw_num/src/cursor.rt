@@ -5,7 +5,7 @@ ghost use Rattle.byteorder.specs.Endian.{big_number, little_number};
 ghost use Rattle.dw_num.specs.Input.{Input, AreBytes, Takes, behind};
 ghost use Rattle.dw_num.specs.Fixed.{Address, Fixed, IsWidth, SpellsLength, fixed_number};
 ghost use Rattle.dw_num.specs.Leb.{Register, Sleb, Uleb};
-ghost use Rattle.dw_num.specs.Reading.{Reads, fixed_at, take_at, register_at, uleb_at, sleb_at, address_at, unit_length_at};
+ghost use Rattle.dw_num.specs.Front.{Reads, fixed_at, take_at, register_at, uleb_at, sleb_at, address_at, unit_length_at};
 
 use crate::leb::{SlebScan, UlebScan, scan_sleb, scan_uleb};
 use crate::refusal::{Code, Refusal};
@@ -130,7 +130,7 @@ impl<'a> Cursor<'a> {
     }
 
     /// The next `n` bytes. `Truncated` at the first of them where fewer are left.
-    #[tactic(auto, unfolding(crate::specs::Reading::take_at))]
+    #[tactic(auto, unfolding(crate::specs::Front::take_at))]
     #[inline(always)]
     pub fn take(&mut self, n: usize) -> Result<&'a [u8], Refusal>
         ensures found { IfOk result (λ s. (length s.now ≡ n) × Takes self.old s.now self.new) }
@@ -145,7 +145,7 @@ impl<'a> Cursor<'a> {
         Ok(front)
     }
 
-    #[tactic(auto, unfolding(crate::specs::Reading::fixed_at))]
+    #[tactic(auto, unfolding(crate::specs::Front::fixed_at))]
     #[inline(always)]
     fn read_fixed(&mut self, n: usize) -> Result<u64, Refusal>
         requires { IsWidth n }
@@ -160,7 +160,7 @@ impl<'a> Cursor<'a> {
     }
 
     /// The next byte. `Truncated` at its place where there is none.
-    #[tactic(auto, using(crate::proofs::Lent::FixedLaws::one_byte), unfolding(crate::specs::Reading::fixed_at, crate::specs::Reading::take_at))]
+    #[tactic(auto, using(crate::proofs::Lent::FixedLaws::one_byte), unfolding(crate::specs::Front::fixed_at, crate::specs::Front::take_at))]
     #[inline(always)]
     pub fn byte(&mut self) -> Result<u8, Refusal>
         ensures found { IfOk result (λ b. Takes self.old (b ∷ []) self.new) }
@@ -193,7 +193,7 @@ impl<'a> Cursor<'a> {
         self.at += n as u64;
     }
 
-    #[tactic(auto, unfolding(crate::specs::Reading::uleb_at))]
+    #[tactic(auto, unfolding(crate::specs::Front::uleb_at))]
     #[inline(always)]
     fn read_uleb(&mut self) -> Result<u64, Refusal>
         ensures { Reads (λ v. v) result self.old (uleb_at self.old) self.new }
@@ -208,7 +208,7 @@ impl<'a> Cursor<'a> {
         }
     }
 
-    #[tactic(auto, unfolding(crate::specs::Reading::address_at))]
+    #[tactic(auto, unfolding(crate::specs::Front::address_at))]
     #[inline(always)]
     fn read_address(&mut self) -> Result<u64, Refusal>
         ensures { Reads (λ v. v) result self.old (address_at self.old) self.new }
@@ -236,7 +236,7 @@ impl<'a> Cursor<'a> {
         Refusal { code, at: self.at }
     }
 
-    #[tactic(auto, unfolding(crate::specs::Reading::unit_length_at))]
+    #[tactic(auto, unfolding(crate::specs::Front::unit_length_at))]
     #[inline(always)]
     fn read_unit_length(&mut self) -> Result<UnitLength, Refusal>
         ensures { Reads (λ v. v) result self.old (unit_length_at self.old) self.new }
@@ -290,7 +290,7 @@ impl<'a> Cursor<'a> {
         self.read_uleb()
     }
 
-    #[tactic(auto, unfolding(crate::specs::Reading::register_at, crate::specs::Reading::uleb_at))]
+    #[tactic(auto, unfolding(crate::specs::Front::register_at, crate::specs::Front::uleb_at))]
     #[inline(always)]
     fn read_register(&mut self) -> Result<u16, Refusal>
         ensures { Reads (λ r. r) result self.old (register_at self.old) self.new }
@@ -320,7 +320,7 @@ impl<'a> Cursor<'a> {
         self.read_register()
     }
 
-    #[tactic(auto, unfolding(crate::specs::Reading::sleb_at))]
+    #[tactic(auto, unfolding(crate::specs::Front::sleb_at))]
     #[inline(always)]
     fn read_sleb(&mut self) -> Result<i64, Refusal>
         ensures { Reads (λ v. v) result self.old (sleb_at self.old) self.new }

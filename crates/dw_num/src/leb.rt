@@ -2,7 +2,7 @@
 
 ghost use Rattle.std.specs.Prelude.{length, IfSome, Option, MatchOption, ⊤, ◌≡◌, ℕ, ◌+◌, ◌*◌, ◌%◌, ◌<◌, ◌≤◌, ◌^◌};
 ghost use Rattle.dw_num.specs.Leb.{is_negative, signed_groups};
-ghost use Rattle.dw_num.specs.Reading.{leb_len};
+ghost use Rattle.dw_num.specs.Front.{leb_len};
 ghost use Rattle.dw_num.specs.Shortest.{turned};
 ghost use Rattle.dw_num.specs.Inner.Scan.{IsUlebScan, IsSlebScan, IsTotal, IsSignedTotal, turned_from};
 

@@ -3,7 +3,7 @@
 ghost use Rattle.std.specs.Prelude.{◌≡◌, ◌++◌, ◌<◌, ◌^◌, length, take, OnOk, OnErr};
 ghost use Rattle.dw_num.specs.Fixed.{IsWidth, fixed_bytes};
 ghost use Rattle.dw_num.specs.Inner.Scan.{as_signed};
-ghost use Rattle.dw_num.specs.Writing.{PutsUleb, PutsSleb};
+ghost use Rattle.dw_num.specs.ShortestLeb.{PutsUleb, PutsSleb};
 
 use crate::leb::turn;
 use crate::target::Order;

@@ -15,7 +15,7 @@ use Rattle.dw_num.proofs.Lent.FixedLaws.{taken_bytes}
 use Rattle.dw_op.specs.declared.op.Op.{Op}
 use Rattle.dw_op.specs.declared.profile.Profile.{Profile}
 use Rattle.dw_op.specs.declared.operation.Step.{Step}
-use Rattle.dw_op.specs.Inner.Reading.{step_at}
+use Rattle.dw_op.specs.Inner.FrontOp.{step_at}
 use Rattle.dw_op.specs.Block.{branch_target, Displaced, Stands, EachPart, Block}
 use Rattle.dw_op.specs.Ranges.{TargetWithin, InRange, AllInRange}
 use Rattle.dw_op.specs.Inner.Walk.{Walk, walk, end_of, index_at, starts_of, place_index, op_of, put_first, resolve, unless, block_input, decode_at}

@@ -25,7 +25,7 @@ use Rattle.dw_op.specs.Least.{AtMost, Least}
 use Rattle.dw_op.specs.LeastOf.{spelling, spelling_bytes, constant, long_constant, longest_constant, address, register_form, register_offset, least_spelling, least_bytes}
 use Rattle.dw_op.specs.Block.{Displaced, branch_target}
 use Rattle.dw_op.specs.Ranges.{InRange}
-use Rattle.dw_op.specs.Encoding.{bits_of}
+use Rattle.dw_op.specs.LeastBlock.{bits_of}
 use Rattle.dw_op.proofs.Lent.Spellings.{InRangeSo, LeastSo, range_so, least_so}
 use Rattle.dw_op.proofs.Lent.Ranges.{modulo_below}
 use Rattle.dw_op.proofs.Reached.{sleb_within, Within}

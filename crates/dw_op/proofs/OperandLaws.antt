@@ -14,7 +14,7 @@ use Rattle.dw_num.specs.Target.{byte_count, address_limit}
 use Rattle.dw_num.specs.Input.{Input}
 use Rattle.dw_num.specs.Fixed.{Fixed, fixed_bytes}
 use Rattle.dw_num.specs.Leb.{Uleb, Sleb}
-use Rattle.dw_num.specs.Reading.{Read, fault, fixed_at, take_at, uleb_at, sleb_at, address_at, ◌>>=◌, register_at}
+use Rattle.dw_num.specs.Front.{Read, fault, fixed_at, take_at, uleb_at, sleb_at, address_at, ◌>>=◌, register_at}
 use Rattle.dw_num.proofs.Lent.LebLaws.{done}
 use Rattle.dw_num.proofs.Lent.Steps.{cond_ok, byte_again}
 use Rattle.dw_op.specs.declared.op.Op.{Op}
@@ -34,13 +34,13 @@ use Rattle.dw_op.specs.Profile.{in_frame}
 use Rattle.dw_op.specs.Operands as fields
 use Rattle.dw_op.specs.Operands.{Form, form_table, form_of, form_at, field_at, past, sized, counted, modulo, natural, constant, implicit, look_up, in_range}
 use Rattle.dw_op.specs.Faults.{op_allowed, HasCode, OpFault}
-use Rattle.dw_op.specs.Inner.Reading.{plain_table, plain_op, operand_table, alone, or_else, opcode_of, code_in_frame, allows, with_op, width_of, signed_of, with_jump, after_register, size_in, after_size, after_length, operands_at, judged, step_at}
+use Rattle.dw_op.specs.Inner.FrontOp.{plain_table, plain_op, operand_table, alone, or_else, opcode_of, code_in_frame, allows, with_op, width_of, signed_of, with_jump, after_register, size_in, after_size, after_length, operands_at, judged, step_at}
 use Rattle.dw_op.specs.Inner.ByOpcode.{address_step, unsigned_step, signed_step, uconst_step, sconst_step, pick_step, plus_step, jump_step, breg_step, long_reg_step, long_breg_step, fbreg_step, piece_step, deref_size_step, bit_piece_step, implicit_step}
 use Rattle.dw_op.proofs.Lent.ReadingLaws.{some_is, EachEntry, looked_up, unsigned_code, signed_code, CodeOf, opcode_known, const_of, signed_const_of, bare_in_frame}
 use Rattle.dw_op.proofs.ReadingAgain.{step_again}
 use Rattle.dw_op.proofs.Lent.Spellings.{in_table}
 use Rattle.dw_op.proofs.Splits.{input}
-use Rattle.dw_op.proofs.Standing.{part_step}
+use Rattle.dw_op.proofs.ResolvedSteps.{part_step}
 
 -- ---- fields are read as operands are
 

@@ -10,7 +10,7 @@ use Rattle.dw_num.specs.Target.{byte_count, address_limit}
 use Rattle.dw_num.specs.Input.{Input}
 use Rattle.dw_num.specs.Fixed.{Fixed, fixed_number, fixed_bytes}
 use Rattle.dw_num.specs.Leb.{Uleb, Sleb, Register}
-use Rattle.dw_num.specs.Reading.{Read, fixed_at, take_at, uleb_at, sleb_at, address_at, ◌>>=◌, register_at}
+use Rattle.dw_num.specs.Front.{Read, fixed_at, take_at, uleb_at, sleb_at, address_at, ◌>>=◌, register_at}
 use Rattle.dw_num.proofs.Lent.LebLaws.{uleb_again}
 use Rattle.dw_num.proofs.Lent.SlebLaws.{sleb_again}
 use Rattle.dw_num.proofs.Lent.FixedLaws.{fixed_at_again, fixed_again, length-fixed}
@@ -31,7 +31,7 @@ use Rattle.dw_op.specs.OpSpells.{Code, Both}
 use Rattle.dw_op.specs.Inner.ByOperation.{IsSpelled, Counted, ConstForm, Written, Const1u, Const1s, Const2u, Const2s, Const4u, Const4s, Const8u, Const8s, Constu, Consts, Lit}
 use Rattle.dw_op.specs.Block.{branch_target}
 use Rattle.dw_op.specs.Inner.Steps.{StepSpells, branch_code, step_in_frame, step_allowed}
-use Rattle.dw_op.specs.Inner.Reading.{plain_op, opcode_of, code_in_frame, allows, with_op, width_of, signed_of, after_register, after_size, after_length, operands_at, step_at}
+use Rattle.dw_op.specs.Inner.FrontOp.{plain_op, opcode_of, code_in_frame, allows, with_op, width_of, signed_of, after_register, after_size, after_length, operands_at, step_at}
 use Rattle.dw_op.specs.Operands.{modulo, in_range, implicit}
 use Rattle.dw_op.specs.Inner.ByOpcode.{address_step, unsigned_step, signed_step, uconst_step, sconst_step, pick_step, plus_step, jump_step, breg_step, long_reg_step, long_breg_step, fbreg_step, piece_step, deref_size_step, bit_piece_step, implicit_step}
 use Rattle.dw_op.proofs.Signed.{Complement, complement_of}

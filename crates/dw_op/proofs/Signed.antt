@@ -7,12 +7,12 @@ use Rattle.std.proofs.lemmas.Bool.{cases_lt, lt-ltb, le-ltb}
 use Rattle.dw_num.specs.declared.target.Order.{Order}
 use Rattle.dw_num.specs.Input.{Input, AreBytes, Takes}
 use Rattle.dw_num.specs.Fixed.{Fixed, FixedSigned, fixed_bytes}
-use Rattle.dw_num.specs.Reading.{fixed_at}
+use Rattle.dw_num.specs.Front.{fixed_at}
 use Rattle.dw_num.proofs.Lent.LebLaws.{done}
 use Rattle.dw_num.proofs.Lent.FixedLaws.{fixed_found}
 use Rattle.dw_op.specs.declared.operation.ByteCount.{ByteCount}
 use Rattle.dw_op.specs.declared.operation.ByteCount.TheVariants.{One, Two, Four, Eight}
-use Rattle.dw_op.specs.Inner.Reading.{width_of, signed_of}
+use Rattle.dw_op.specs.Inner.FrontOp.{width_of, signed_of}
 
 pub count_found : (count : ByteCount) (i new : Input) (v : ℕ) → AreBytes i.bytes → fixed_at (width_of count) i ≡ done (v, new) → (b : List ℕ) × Fixed i.target.order (width_of count) v b × Takes i b new
 count_found One i new v h e = fixed_found 1 i new v (inl refl) h e

@@ -4,13 +4,13 @@ use Rattle.std.proofs.lemmas.List.{length-append}
 use Rattle.dw_num.specs.declared.refusal.Refusal.{Refusal}
 use Rattle.dw_num.specs.declared.target.Target.{Target}
 use Rattle.dw_num.specs.Input.{Input, AreBytes, Takes}
-use Rattle.dw_num.specs.Reading.{Read, fixed_at}
+use Rattle.dw_num.specs.Front.{Read, fixed_at}
 use Rattle.dw_num.proofs.Lent.LebLaws.{done}
 use Rattle.dw_num.proofs.Lent.FixedLaws.{taken_bytes}
 use Rattle.dw_op.specs.declared.profile.Profile.{Profile}
 use Rattle.dw_op.specs.declared.operation.Step.{Step}
 use Rattle.dw_op.specs.Block.{joined}
-use Rattle.dw_op.specs.Inner.Reading.{step_at}
+use Rattle.dw_op.specs.Inner.FrontOp.{step_at}
 use Rattle.dw_op.specs.Inner.Steps.{StepSpells, step_allowed}
 use Rattle.dw_op.specs.Inner.Walk.{Item, item_of, Walk, walk}
 use Rattle.dw_op.specs.Inner.Walks.{ended, put, on_read, on_left, walked_by}

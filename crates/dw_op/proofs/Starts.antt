@@ -21,10 +21,10 @@ use Rattle.dw_op.specs.Inner.Accepted.{IsAccepted, ops_of}
 use Rattle.dw_op.specs.LeastOf.{least_bytes, least_spelling}
 use Rattle.dw_op.specs.Inner.Lengths.{least_lengths, total, together, step_length, item_lengths, lengths_at}
 use Rattle.dw_op.specs.Inner.Points.{IsLater, IsPoint, InRoom, IsStartMark, AreStartMarks, ArePlaces}
-use Rattle.dw_op.specs.Inner.Reading.{step_at}
+use Rattle.dw_op.specs.Inner.FrontOp.{step_at}
 use Rattle.dw_op.specs.Inner.Walk.{Item, Walk, walk, index_in, find_at, goes_to, branch_to, op_of, put_first, resolve, unless, block_input, decode_at}
 use Rattle.dw_op.proofs.Decoded.{within_all, within_more, answered, same_ops}
-use Rattle.dw_op.proofs.Judging.{accepted_ops, accepted_read}
+use Rattle.dw_op.proofs.Judgement.{accepted_ops, accepted_read}
 use Rattle.dw_op.proofs.Splits.{walk_step, walk_end}
 
 -- ---- points

@@ -9,7 +9,7 @@ use Rattle.dw_num.specs.declared.target.Size.TheVariants.{Four}
 use Rattle.dw_num.specs.declared.target.Order.TheVariants.{Little}
 use Rattle.dw_num.specs.Input.{Input}
 use Rattle.dw_num.specs.Fixed.{FixedSigned}
-use Rattle.dw_num.specs.Reading.{fixed_at, take_at, uleb_at, sleb_at, register_at}
+use Rattle.dw_num.specs.Front.{fixed_at, take_at, uleb_at, sleb_at, register_at}
 use Rattle.dw_op.specs.declared.op.Op.TheVariants.{Bra, Const, Reg, Dup, StackValue}
 use Rattle.dw_op.specs.declared.profile.Profile.TheVariants.{Location}
 use Rattle.dw_op.specs.OpSpells.{Code, AnyTwo}

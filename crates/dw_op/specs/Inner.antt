@@ -4,12 +4,12 @@ pub mod ByOperation
 pub mod Steps
 pub mod Windows
 pub mod Accepted
-pub mod ComparingLaws
+pub mod EqualityLaws
 pub mod Lengths
 pub mod Points
 pub mod Ranges
-pub mod Encoding
-pub mod Comparing
+pub mod LeastBlock
+pub mod Equality
 pub mod Walks
-pub mod Reading
+pub mod FrontOp
 pub mod Walk

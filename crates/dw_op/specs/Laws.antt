@@ -9,7 +9,7 @@ use Rattle.dw_op.specs.Block.{Block}
 use Rattle.dw_op.specs.Faults.{IsBlock, BlockFault, IsWithin, op_allowed}
 use Rattle.dw_op.specs.Least.{LeastBlock}
 use Rattle.dw_op.specs.Ranges.{AllInRange}
-use Rattle.dw_op.specs.Encoding.{TooFar}
+use Rattle.dw_op.specs.LeastBlock.{TooFar}
 
 -- the operations of a block are in range
 abbrev pub BlockInRange : Type 0

@@ -6,10 +6,10 @@ pub mod Block
 pub mod Least
 pub mod Ranges
 pub mod LeastOf
-pub mod Encoding
+pub mod LeastBlock
 pub mod Laws
 pub mod Walks
 pub mod Operands
 pub mod Faults
-pub mod Comparing
+pub mod Equality
 pub mod Inner

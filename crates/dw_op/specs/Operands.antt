@@ -6,7 +6,7 @@ use Rattle.dw_num.specs.declared.refusal.Refusal.{Refusal}
 use Rattle.dw_num.specs.declared.target.Target.{Target}
 use Rattle.dw_num.specs.Target.{byte_count, address_limit}
 use Rattle.dw_num.specs.Input.{Input}
-use Rattle.dw_num.specs.Reading.{Read, fault, fixed_at, take_at, uleb_at, sleb_at, register_at, ◌>>=◌}
+use Rattle.dw_num.specs.Front.{Read, fault, fixed_at, take_at, uleb_at, sleb_at, register_at, ◌>>=◌}
 use Rattle.dw_op.specs.declared.op.Op.{Op}
 use Rattle.dw_op.specs.declared.op.Op.TheVariants.{Addr, Deref, Const, Dup, Drop, Over, Pick, Swap, Rot, Abs, And, Div, Minus, Mod, Mul, Neg, Not, Or, Plus, PlusUconst, Shl, Shr, Shra, Xor, Bra, Eq, Ge, Gt, Le, Lt, Ne, Skip, Reg, Breg, Fbreg, Piece, DerefSize, Nop, PushObjectAddress, CallFrameCfa, BitPiece, Implicit, StackValue}
 

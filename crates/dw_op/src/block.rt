@@ -5,7 +5,7 @@ ghost use Rattle.dw_num.specs.declared.refusal.Refusal.{Refusal};
 ghost use Rattle.dw_num.specs.Refusals.{Refuses};
 ghost use Rattle.dw_op.specs.declared.op.Op.{Op};
 ghost use Rattle.dw_op.specs.Expression.{bare};
-ghost use Rattle.dw_op.specs.Inner.Reading.{bare_step};
+ghost use Rattle.dw_op.specs.Inner.FrontOp.{bare_step};
 ghost use Rattle.dw_op.specs.Inner.Walk.{walk, starts_of, goes_to, place_index, op_of, branch_to, block_input, decode_at, Rises};
 ghost use Rattle.dw_op.specs.Faults.{IsBlock, BlockFault, IsWithin};
 

@@ -8,7 +8,7 @@ ghost use Rattle.dw_op.specs.Expression.{bare};
 ghost use Rattle.dw_op.specs.Block.{FrameBlock};
 ghost use Rattle.dw_op.specs.Least.{LeastBlock};
 ghost use Rattle.dw_op.specs.Faults.{BlockFault, IsWithin};
-ghost use Rattle.dw_op.specs.Encoding.{IsAppended};
+ghost use Rattle.dw_op.specs.LeastBlock.{IsAppended};
 ghost use Rattle.dw_op.specs.Inner.Accepted.{IsAccepted, ops_of};
 
 use crate::block::decode;
@@ -230,8 +230,8 @@ impl<'a> Clone for ExprRef<'a> {
 
 impl<'a> PartialEq for ExprRef<'a> {
     ghost use Rattle.std.specs.Prelude.{◌≡◌, IsTrue, ◌↔◌};
-    ghost use Rattle.dw_op.specs.Comparing.{same_expression};
-    ghost use Rattle.dw_op.specs.Inner.ComparingLaws.{same_laws};
+    ghost use Rattle.dw_op.specs.Equality.{same_expression};
+    ghost use Rattle.dw_op.specs.Inner.EqualityLaws.{same_laws};
 
     ghost eq = { same_expression };
 
@@ -248,14 +248,14 @@ impl<'a> PartialEq for ExprRef<'a> {
 }
 
 impl<'a> Eq for ExprRef<'a> {
-    ghost use Rattle.dw_op.specs.Inner.ComparingLaws.{equal_laws};
+    ghost use Rattle.dw_op.specs.Inner.EqualityLaws.{equal_laws};
 
     ghost laws = { equal_laws };
 }
 
 impl<'a> Hash for ExprRef<'a> {
-    ghost use Rattle.dw_op.specs.Inner.Comparing.{expression_fed};
-    ghost use Rattle.dw_op.specs.Inner.ComparingLaws.{fed_alike};
+    ghost use Rattle.dw_op.specs.Inner.Equality.{expression_fed};
+    ghost use Rattle.dw_op.specs.Inner.EqualityLaws.{fed_alike};
 
     ghost hash_input = { expression_fed };
 

@@ -7,7 +7,7 @@ ghost use Rattle.dw_num.specs.Input.{behind};
 ghost use Rattle.dw_op.specs.Inner.Accepted.{IsAccepted};
 ghost use Rattle.dw_op.specs.Inner.Lengths.{lengths_at, step_length, total};
 ghost use Rattle.dw_op.specs.Inner.Points.{IsLater, IsPoint, InRoom, IsStartMark, AreStartMarks, ArePlaces, AreInRoom, IsReached};
-ghost use Rattle.dw_op.specs.Inner.Reading.{bare_step};
+ghost use Rattle.dw_op.specs.Inner.FrontOp.{bare_step};
 ghost use Rattle.dw_op.specs.Inner.Walk.{block_input};
 
 use crate::least::op_least_len;

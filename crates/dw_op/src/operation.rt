@@ -1,11 +1,11 @@
 //! The operation at the front of what is left of a block.
 
 ghost use Rattle.std.specs.Prelude.{◌≡◌, ◌+◌, ◌%◌, length};
-ghost use Rattle.dw_num.specs.Inner.Reading.{Gives};
+ghost use Rattle.dw_num.specs.Inner.Front.{Gives};
 ghost use Rattle.dw_num.specs.Target.{address_limit, byte_count};
 ghost use Rattle.dw_num.specs.Fixed.{IsWidth, fixed_number};
 ghost use Rattle.dw_op.specs.Operands.{modulo};
-ghost use Rattle.dw_op.specs.Inner.Reading.{bare_step, width_of, half_of, top_of, signed_of, plain_op, opcode_of, allows, operands_at, step_at};
+ghost use Rattle.dw_op.specs.Inner.FrontOp.{bare_step, width_of, half_of, top_of, signed_of, plain_op, opcode_of, allows, operands_at, step_at};
 ghost use Rattle.dw_op.specs.Inner.ByOpcode.{address_step, unsigned_step, signed_step, uconst_step, sconst_step, pick_step, plus_step, jump_step, breg_step, long_reg_step, long_breg_step, fbreg_step, piece_step, deref_size_step, bit_piece_step, implicit_step};
 
 use crate::op::Op;
@@ -58,7 +58,7 @@ pub(crate) enum Opcode<'a> {
 }
 
 // The operation of a code without operands.
-#[tactic(auto, unfolding(crate::specs::Inner::Reading::plain_op))]
+#[tactic(auto, unfolding(crate::specs::Inner::FrontOp::plain_op))]
 fn plain<'a>(code: u8) -> Option<Op<'a>>
     ensures { result ≡ plain_op code }
 {
@@ -99,7 +99,7 @@ fn plain<'a>(code: u8) -> Option<Op<'a>>
 }
 
 // What a code says: DWARF 5, 7.7.1.
-#[tactic(auto, unfolding(crate::specs::Inner::Reading::opcode_of))]
+#[tactic(auto, unfolding(crate::specs::Inner::FrontOp::opcode_of))]
 fn known_opcode<'a>(code: u8) -> Option<Opcode<'a>>
     ensures { result ≡ opcode_of code }
 {
@@ -390,7 +390,7 @@ fn read_implicit<'a>(cursor: &mut Cursor<'a>) -> Result<Step<'a>, Refusal>
     Ok(Step::Plain(Op::Implicit(block)))
 }
 
-#[tactic(auto, unfolding(crate::specs::Inner::Reading::operands_at, crate::specs::Inner::ByOpcode::address_step, crate::specs::Inner::ByOpcode::unsigned_step, crate::specs::Inner::ByOpcode::signed_step, crate::specs::Inner::ByOpcode::uconst_step, crate::specs::Inner::ByOpcode::sconst_step, crate::specs::Inner::ByOpcode::pick_step, crate::specs::Inner::ByOpcode::plus_step, crate::specs::Inner::ByOpcode::jump_step, crate::specs::Inner::ByOpcode::breg_step, crate::specs::Inner::ByOpcode::long_reg_step, crate::specs::Inner::ByOpcode::long_breg_step, crate::specs::Inner::ByOpcode::fbreg_step, crate::specs::Inner::ByOpcode::piece_step, crate::specs::Inner::ByOpcode::deref_size_step, crate::specs::Inner::ByOpcode::bit_piece_step, crate::specs::Inner::ByOpcode::implicit_step))]
+#[tactic(auto, unfolding(crate::specs::Inner::FrontOp::operands_at, crate::specs::Inner::ByOpcode::address_step, crate::specs::Inner::ByOpcode::unsigned_step, crate::specs::Inner::ByOpcode::signed_step, crate::specs::Inner::ByOpcode::uconst_step, crate::specs::Inner::ByOpcode::sconst_step, crate::specs::Inner::ByOpcode::pick_step, crate::specs::Inner::ByOpcode::plus_step, crate::specs::Inner::ByOpcode::jump_step, crate::specs::Inner::ByOpcode::breg_step, crate::specs::Inner::ByOpcode::long_reg_step, crate::specs::Inner::ByOpcode::long_breg_step, crate::specs::Inner::ByOpcode::fbreg_step, crate::specs::Inner::ByOpcode::piece_step, crate::specs::Inner::ByOpcode::deref_size_step, crate::specs::Inner::ByOpcode::bit_piece_step, crate::specs::Inner::ByOpcode::implicit_step))]
 fn operands<'a>(cursor: &mut Cursor<'a>, opcode: Opcode<'a>) -> Result<Step<'a>, Refusal>
     ensures { Gives bare_step result (operands_at opcode.entry cursor.old) cursor.new }
 {
@@ -415,7 +415,7 @@ fn operands<'a>(cursor: &mut Cursor<'a>, opcode: Opcode<'a>) -> Result<Step<'a>,
     }
 }
 
-#[tactic(auto, unfolding(crate::specs::Inner::Reading::step_at))]
+#[tactic(auto, unfolding(crate::specs::Inner::FrontOp::step_at))]
 pub(crate) fn next_step<'a>(cursor: &mut Cursor<'a>, profile: Profile) -> Result<Step<'a>, Refusal>
     ensures { Gives bare_step result (step_at profile cursor.old) cursor.new }
 {

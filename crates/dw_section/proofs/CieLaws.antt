@@ -1,7 +1,7 @@
 -- The CIE at a place of a section is one.
 use Rattle.std.proofs.Common.{◌≡◌, ℕ, List, ◌∙◌, refl, sym, ap, subst}
 use Rattle.dw_num.specs.declared.target.Target.{Target}
-use Rattle.dw_cfa.specs.Walking.{Led, unled}
+use Rattle.dw_cfa.specs.RowWalk.{Led, unled}
 use Rattle.dw_section.specs.Headers.{Head, cie, fde}
 use Rattle.dw_section.specs.Inner.Index.{NamesCie}
 use Rattle.dw_section.specs.Inner.Lookup.{LedBy}

@@ -9,7 +9,7 @@ use Rattle.dw_cfa.specs.declared.rule.CfaRule.TheVariants.{Unset}
 use Rattle.dw_cfa.specs.declared.execution.LocatedRow.{LocatedRow}
 use Rattle.dw_cfa.specs.RuleAt.{or_here, last_at, NeverFalls}
 use Rattle.dw_cfa.specs.Rows.{Rules}
-use Rattle.dw_cfa.specs.Lacking.{is_unset, leaves_one, lacks_from}
+use Rattle.dw_cfa.specs.Coverage.{is_unset, leaves_one, lacks_from}
 
 lt_tells : (m n : ℕ) → ((nat_lt m n ≡ true) × (m < n)) ⊎ ((nat_lt m n ≡ false) × (n ≤ m))
 lt_tells m n = elim (cases_lt m n) [ inl lt ↦ inl (lt-ltb m n lt, lt) | inr le ↦ inr (le-ltb m n le, le) ]

@@ -10,7 +10,7 @@ use Rattle.dw_num.specs.declared.target.Target.{Target}
 use Rattle.dw_num.specs.declared.target.UnitLength.{UnitLength}
 use Rattle.dw_num.specs.Fixed.{length_bytes}
 use Rattle.dw_num.specs.Input.{Input, AreBytes}
-use Rattle.dw_num.specs.Reading.{Read, unit_length_at}
+use Rattle.dw_num.specs.Front.{Read, unit_length_at}
 use Rattle.dw_num.specs.Span.{Span}
 use Rattle.dw_num.proofs.Lent.Stays.{Inside, Stays, stays-then, either_stays, unit_length_stays}
 use Rattle.dw_cfa.proofs.Lent.FaultPlaces.{cie_within, fde_within}

@@ -9,7 +9,7 @@ use Rattle.dw_num.specs.declared.refusal.Refusal.{Refusal}
 use Rattle.dw_num.specs.declared.target.Target.{Target}
 use Rattle.dw_num.specs.Fixed.{IsWidth}
 use Rattle.dw_num.specs.Input.{Input, AreBytes, Takes, behind}
-use Rattle.dw_num.specs.Reading.{Read, fault, ◌>>=◌}
+use Rattle.dw_num.specs.Front.{Read, fault, ◌>>=◌}
 use Rattle.dw_num.proofs.Lent.LebLaws.{done, ok_is, uleb_again, uleb_found}
 use Rattle.dw_num.proofs.Lent.SlebLaws.{sleb_again, sleb_found}
 use Rattle.dw_num.proofs.Lent.FixedLaws.{front_byte, fixed_found, fixed_at_again, taken_bytes}

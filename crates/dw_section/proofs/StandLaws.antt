@@ -21,7 +21,7 @@ use Rattle.dw_section.specs.Faults.{item_at}
 use Rattle.dw_num.specs.Target.{address_limit}
 use Rattle.dw_section.specs.Fields.{is_among}
 use Rattle.dw_section.specs.Headers.{CieHead, FdeHead, Head, Has, Headers, IsCie, IsFde, cie, fde, cie_head}
-use Rattle.dw_section.specs.Inner.Reading.{cie_at, fde_at}
+use Rattle.dw_section.specs.Inner.PieceHeader.{cie_at, fde_at}
 use Rattle.dw_section.specs.Inner.Index.{IsFound, found_cie, found_head}
 use Rattle.dw_section.specs.Meaning.{Returns}
 use Rattle.dw_section.specs.Meanings.{IsListed as IsListedFde}
@@ -30,8 +30,8 @@ use Rattle.dw_section.specs.declared.fde_range.Ranged.{Ranged}
 use Rattle.dw_section.specs.Overlap.{Range}
 use Rattle.dw_section.specs.Places.{cie_places}
 use Rattle.dw_section.specs.Programs.{IsAmong}
-use Rattle.dw_section.specs.Standing.{StandsIn}
-use Rattle.dw_section.specs.Inner.Standing.{AreJoined, FoundStands, StandsAt, is_fde}
+use Rattle.dw_section.specs.StandingFde.{StandsIn}
+use Rattle.dw_section.specs.Inner.StandingFde.{AreJoined, FoundStands, StandsAt, is_fde}
 use Rattle.dw_section.proofs.Lent.FieldTable.{Ranges, fde_said}
 use Rattle.dw_section.proofs.Lent.HeaderLaws.{has_one, cie_at_again, fde_at_again}
 use Rattle.dw_section.proofs.Lent.Heads.{cie_or, fde_or, has_at}

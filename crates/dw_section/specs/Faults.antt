@@ -8,7 +8,7 @@ use Rattle.dw_num.specs.declared.target.UnitLength.{UnitLength}
 use Rattle.dw_num.specs.declared.refusal.Code.TheVariants.{Truncated, EntryPastEnd, SectionTooLarge}
 use Rattle.dw_num.specs.declared.refusal.Refusal.{Refusal}
 use Rattle.dw_num.specs.Input.{Input, behind}
-use Rattle.dw_num.specs.Reading.{Read, fault, unit_length_at, ◌>>=◌}
+use Rattle.dw_num.specs.Front.{Read, fault, unit_length_at, ◌>>=◌}
 use Rattle.dw_section.specs.Cut.{Item, gap, entry, IsItem, id_width, all_bytes}
 
 abbrev pub is_32 : Form → Bool

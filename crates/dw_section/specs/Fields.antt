@@ -12,7 +12,7 @@ use Rattle.dw_num.specs.Target.{address_limit, byte_count}
 use Rattle.dw_op.specs.OpSpells.{Both}
 use Rattle.dw_num.specs.Fixed.{Fixed}
 use Rattle.dw_num.specs.Leb.{Uleb, Sleb}
-use Rattle.dw_num.specs.Reading.{Read, fixed_at, uleb_at, sleb_at}
+use Rattle.dw_num.specs.Front.{Read, fixed_at, uleb_at, sleb_at}
 use Rattle.dw_section.specs.Cut.{id_width}
 use Rattle.dw_section.specs.declared.fields.CieFields.{CieFields}
 use Rattle.dw_section.specs.declared.fields.FdeFields.{FdeFields}

@@ -1,6 +1,6 @@
 -- How the code keeps what the contracts say. No public clause reaches these.
 pub mod Fields
-pub mod Reading
+pub mod PieceHeader
 pub mod Heads
 pub mod Initials
 pub mod Index
@@ -18,4 +18,4 @@ pub mod Pieces
 pub mod Places
 pub mod Stage
 pub mod Table
-pub mod Standing
+pub mod StandingFde

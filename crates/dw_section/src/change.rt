@@ -2,9 +2,9 @@
 
 ghost use Rattle.std.specs.Prelude.{◌≡◌, ◌+◌, ◌<◌, ◌↔◌, [], IsTrue, Some, None, true, IsErr, IfOk, MatchOption};
 ghost use Rattle.dw_num.specs.Target.{address_limit};
-ghost use Rattle.dw_cfa.specs.Differing.{FirstDifference, place_behind};
+ghost use Rattle.dw_cfa.specs.Difference.{FirstDifference, place_behind};
 ghost use Rattle.dw_cfa.specs.Rows.{AreSpecified, Rules};
-ghost use Rattle.dw_cfa.specs.Walking.{AllKeep};
+ghost use Rattle.dw_cfa.specs.RowWalk.{AllKeep};
 ghost use Rattle.dw_section.specs.Changes.{Before, GivesAddress, GivesChange, changing, before_then};
 ghost use Rattle.dw_section.specs.Inner.Changes.{FindsChange};
 ghost use Rattle.dw_section.specs.Inner.Shown.{shown_if, shown_of};

@@ -7,7 +7,7 @@ ghost use Rattle.dw_num.specs.declared.target.Target.{Target};
 ghost use Rattle.dw_num.specs.declared.refusal.Refusal.{Refusal};
 ghost use Rattle.dw_num.specs.declared.refusal.Code.TheVariants.{SectionTooLarge};
 ghost use Rattle.dw_num.specs.Input.{Takes};
-ghost use Rattle.dw_num.specs.Inner.Reading.{Gives};
+ghost use Rattle.dw_num.specs.Inner.Front.{Gives};
 ghost use Rattle.dw_num.specs.Refusals.{Refuses};
 ghost use Rattle.dw_num.specs.declared.error.ReadError.TheVariants.{OutOfMemory};
 ghost use Rattle.dw_section.specs.Cut.{Cut, Item, IsItem, Piece, item_bytes, is_cie, id_width};
@@ -102,7 +102,7 @@ pub(crate) struct Placed<'a> {
 }
 
 // The item at the front.
-#[tactic(auto, unfolding(crate::specs::Faults::item_at, dw_num::specs::Reading::take_at))]
+#[tactic(auto, unfolding(crate::specs::Faults::item_at, dw_num::specs::Front::take_at))]
 #[inline(always)]
 pub(crate) fn next_part<'a>(cursor: &mut Cursor<'a>) -> Result<Part<'a>, Refusal>
     requires { cursor.old.at + length cursor.old.bytes ≤ 2147483647 }

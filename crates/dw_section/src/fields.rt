@@ -2,7 +2,7 @@
 
 ghost use Rattle.std.specs.Prelude.{◌≡◌, ◌<◌, nat_le, ◌+◌, position, ◌==◌};
 ghost use Rattle.dw_section.specs.Inner.Places.{Rises};
-ghost use Rattle.dw_num.specs.Inner.Reading.{Gives};
+ghost use Rattle.dw_num.specs.Inner.Front.{Gives};
 ghost use Rattle.dw_num.specs.Target.{address_limit};
 ghost use Rattle.dw_section.specs.Fields.{is_among};
 ghost use Rattle.dw_section.specs.Inner.Fields.{wanted_at, version_of, version_at, empty_string_at, sizes_at, return_register_at, factors_at, cie_fields_at, pointer_at, range_at, fde_fields_at};
@@ -82,7 +82,7 @@ fn string_len(bytes: &[u8]) -> Option<usize>
     bytes.iter().position(|byte| *byte == 0)
 }
 
-#[tactic(auto, unfolding(crate::specs::Inner::Fields::empty_string_at, dw_num::specs::Reading::take_at))]
+#[tactic(auto, unfolding(crate::specs::Inner::Fields::empty_string_at, dw_num::specs::Front::take_at))]
 #[inline(always)]
 fn empty_string(cursor: &mut Cursor<'_>) -> Result<(), Refusal>
     ensures { Gives (λ _. tt) result (empty_string_at cursor.old) cursor.new }

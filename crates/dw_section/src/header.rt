@@ -19,7 +19,7 @@ ghost use Rattle.dw_section.specs.Places.{cie_places};
 ghost use Rattle.dw_section.specs.Inner.Places.{Rises};
 ghost use Rattle.dw_section.specs.Inner.Heads.{head_at};
 ghost use Rattle.dw_section.specs.Inner.Left.{HeadsLeft, GivesHead, GoesOn};
-ghost use Rattle.dw_section.specs.Inner.Reading.{cie_at, fde_at, program_of};
+ghost use Rattle.dw_section.specs.Inner.PieceHeader.{cie_at, fde_at, program_of};
 ghost use Rattle.dw_section.specs.Headers.{Head, Has, Headers, head_in, CieHolds, CieStuck, FdeHolds, FdeStuck, HeadersFault};
 
 use crate::entry::{Kind, Placed, cut, next_piece, width_of};
@@ -74,7 +74,7 @@ fn rest_of<'a>(cursor: &Cursor<'a>) -> Program<'a>
     }
 }
 
-#[tactic(auto, unfolding(crate::specs::Inner::Reading::cie_at))]
+#[tactic(auto, unfolding(crate::specs::Inner::PieceHeader::cie_at))]
 #[inline(always)]
 pub(crate) fn cie_header<'a>(piece: &Placed<'a>, target: Target) -> Result<Header<'a>, Refusal>
     requires { piece.now.kind ≡ kind.Cie }
@@ -96,7 +96,7 @@ pub(crate) fn cie_header<'a>(piece: &Placed<'a>, target: Target) -> Result<Heade
     })
 }
 
-#[tactic(auto, unfolding(crate::specs::Inner::Reading::fde_at))]
+#[tactic(auto, unfolding(crate::specs::Inner::PieceHeader::fde_at))]
 #[inline(always)]
 pub(crate) fn fde_header<'a>(
     piece: &Placed<'a>,

@@ -9,7 +9,7 @@ ghost use Rattle.dw_section.specs.Inner.Left.{AreHeaders};
 ghost use Rattle.dw_section.specs.Inner.Lookup.{fde_of, IsFoundIn, LedBy, LedSo, rows_of};
 ghost use Rattle.dw_section.specs.Table.{Section};
 ghost use Rattle.dw_num.specs.Target.{address_limit};
-ghost use Rattle.dw_cfa.specs.Stepping.{stepping};
+ghost use Rattle.dw_cfa.specs.RowSteps.{stepping};
 ghost use Rattle.dw_section.specs.Meaning.{AreFdes};
 
 use crate::fde_range::Ranged;

@@ -23,8 +23,8 @@ ghost use Rattle.dw_section.specs.declared.standing_fde.LookUpError.TheVariants 
 ghost use Rattle.dw_section.specs.Overlap.{Ascends, AreApart, Range};
 ghost use Rattle.std.specs.Bool.{MatchBool};
 ghost use Rattle.dw_section.specs.Inner.Pieces.{piece_in};
-ghost use Rattle.dw_section.specs.Standing.{RulesOf, StandsIn};
-ghost use Rattle.dw_section.specs.Inner.Standing.{AreJoined, FoundStands, StandsAt, is_fde, of_steps};
+ghost use Rattle.dw_section.specs.StandingFde.{RulesOf, StandsIn};
+ghost use Rattle.dw_section.specs.Inner.StandingFde.{AreJoined, FoundStands, StandsAt, is_fde, of_steps};
 
 use crate::entry::{Kind, MOST, Part, Placed, kind_in, next_part, width_of};
 use crate::fde_range::Ranged;

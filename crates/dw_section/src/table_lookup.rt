@@ -2,7 +2,7 @@
 
 ghost use Rattle.std.specs.Prelude.{◌≡◌, ℕ, false, List, Some, None, IfOk, OnOk, MatchOption};
 ghost use Rattle.dw_section.specs.declared.lookup.Fde.{Fde as TheFde};
-ghost use Rattle.dw_section.specs.Finding.{LooksUp};
+ghost use Rattle.dw_section.specs.Lookups.{LooksUp};
 ghost use Rattle.dw_section.specs.Inner.Lookup.{RunsTo};
 ghost use Rattle.dw_section.specs.Meaning.{AreFdes, RulesAt};
 
@@ -40,7 +40,7 @@ pub struct Lookups<'t, 'a> {
 }
 
 impl<'t, 'a> Model for Lookups<'t, 'a> {
-    ghost use Rattle.dw_section.specs.Finding.{Finding};
+    ghost use Rattle.dw_section.specs.Lookups.{Finding};
     ghost use Rattle.dw_section.specs.Inner.Shown.{shown_if};
 
     ghost Value = { Finding };

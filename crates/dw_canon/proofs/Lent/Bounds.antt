@@ -22,13 +22,13 @@ use Rattle.dw_canon.specs.Spelling.{program_bytes}
 use Rattle.dw_canon.specs.Written.{cie_id, cie_spelling, cie_fields, entry_bytes, section_bytes}
 use Rattle.dw_canon.proofs.Lent.Differences.{In}
 use Rattle.dw_canon.proofs.Lent.Extra.{section_append, up, entry_up, fde_length}
-use Rattle.dw_canon.proofs.Lent.Fitting as fitting
+use Rattle.dw_canon.proofs.Lent.InstrFits as fitting
 use Rattle.dw_canon.proofs.Prices.{IsPriced, is_priced, fde_len, cie_len}
 use Rattle.dw_canon.proofs.Lent.Rendered.{fits, stand, nonempty, low_registers}
-use Rattle.dw_canon.proofs.Rising.{Rise, with_all_rise}
+use Rattle.dw_canon.proofs.AscendingRegisters.{Rise, with_all_rise}
 use Rattle.dw_canon.proofs.Shared.{MemberFits}
 use Rattle.dw_canon.proofs.Squares.{changes_most}
-use Rattle.dw_canon.proofs.Lent.Standing.{all_some}
+use Rattle.dw_canon.proofs.Lent.MemberPlaces.{all_some}
 use Rattle.dw_canon.proofs.Sums.{sum_of, if_own, once_own, sum_once}
 use Rattle.dw_canon.proofs.Weights.{register_len}
 use Rattle.dw_canon.proofs.Within.{all_len}

@@ -30,10 +30,10 @@ use Rattle.dw_canon.specs.Members.{Member, fde_of, changes_of, IsMember, AreMemb
 use Rattle.dw_section.specs.Laws.{AreListed}
 use Rattle.dw_canon.specs.Normal.{IsNormalForm}
 use Rattle.dw_canon.proofs.Kept.{reads_back}
-use Rattle.dw_canon.proofs.Programming.{member_program}
+use Rattle.dw_canon.proofs.ProgramLaws.{member_program}
 use Rattle.dw_canon.proofs.Lent.Rendered.{renders, fits, stand}
 use Rattle.dw_canon.proofs.Shared.{MemberFits, is_shared}
-use Rattle.dw_canon.proofs.Lent.Standing.{group_fits, all_some}
+use Rattle.dw_canon.proofs.Lent.MemberPlaces.{group_fits, all_some}
 use Rattle.dw_canon.specs.Group.{initial_row, IsShared}
 
 -- ---- members exist

@@ -19,11 +19,11 @@ use Rattle.dw_canon.specs.Fits.{MemberStands}
 use Rattle.dw_canon.specs.Members.{Member, fde_of, changes_of, IsMember, AreMembers}
 use Rattle.dw_canon.proofs.Lent.Differences.{In}
 use Rattle.dw_canon.proofs.Lent.Differences as lists
-use Rattle.dw_canon.proofs.Lent.Fitting as fitting
-use Rattle.dw_canon.proofs.Programming.{initial_program, member_program}
-use Rattle.dw_canon.proofs.Rising.{Rise, with_all_rise}
+use Rattle.dw_canon.proofs.Lent.InstrFits as fitting
+use Rattle.dw_canon.proofs.ProgramLaws.{initial_program, member_program}
+use Rattle.dw_canon.proofs.AscendingRegisters.{Rise, with_all_rise}
 use Rattle.dw_canon.proofs.Shared.{MemberFits, RestsOnAll}
-use Rattle.dw_canon.proofs.Lent.Standing.{member_fits, member_stands, group_fits, all_rest, all_both, IsSound, all_to}
+use Rattle.dw_canon.proofs.Lent.MemberPlaces.{member_fits, member_stands, group_fits, all_rest, all_both, IsSound, all_to}
 use Rattle.dw_section.proofs.Lent.Sounds.{sound_section}
 
 -- ---- the return registers ascend

@@ -15,8 +15,8 @@ use Rattle.dw_cfa.specs.declared.execution.LocatedRow.{LocatedRow}
 use Rattle.dw_cfa.specs.Location.{onto, location_back, moves_location}
 use Rattle.dw_cfa.specs.Rows.{Rules, AreSpecified, blank}
 use Rattle.dw_cfa.specs.Runs.{Outcome, finished, fails}
-use Rattle.dw_cfa.specs.Stepping.{Stepping, Answers, Failed, stepping}
-use Rattle.dw_cfa.specs.Following.{Following, with_steps}
+use Rattle.dw_cfa.specs.RowSteps.{Stepping, Answers, Failed, stepping}
+use Rattle.dw_cfa.specs.CieMachine.{Following, with_steps}
 use Rattle.dw_cfa.specs.Faults.{RunFault}
 use Rattle.dw_cfa.specs.Behind.{Leaves, LeavesTo, ends, IsRowAfter, AreRowsAfter, GivesBehind, GivesBefore, GivesUpTo, RunsBehind}
 use Rattle.dw_cfa.specs.Gives.{Gives, RunsTo}
@@ -24,7 +24,7 @@ use Rattle.dw_cfa.specs.RowLaws.{OneRun, RefusedWhereFault, RowsWhereKept, NoneF
 use Rattle.dw_cfa.specs.Inner.Exact.{RulesBehind}
 use Rattle.dw_cfa.specs.Inner.Machine.{State, begun, after, fde_fault}
 use Rattle.dw_cfa.specs.Inner.Runs.{Placed, placed, row_if, on_initial, initial_row, run_rows, rows_behind, fde_rows}
-use Rattle.dw_cfa.specs.Inner.Stepping.{rows_before}
+use Rattle.dw_cfa.specs.Inner.RowSteps.{rows_before}
 use Rattle.dw_cfa.proofs.Lent.Forward.{Follows, Holds, after_follows, begun_follows}
 use Rattle.dw_cfa.proofs.Lent.RowsAt.{instrs_of, Gives as RunGives}
 use Rattle.dw_cfa.proofs.Lent.KeptRuns.{next_gives}

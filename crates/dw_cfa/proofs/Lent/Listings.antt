@@ -5,14 +5,14 @@ use Rattle.std.proofs.lemmas.List.{length-append, append-nil, get_or-append-add}
 use Rattle.dw_num.specs.declared.refusal.Refusal.{Refusal}
 use Rattle.dw_num.specs.declared.target.Target.{Target}
 use Rattle.dw_num.specs.Input.{Input, AreBytes, Takes}
-use Rattle.dw_num.specs.Reading.{Read, fixed_at}
+use Rattle.dw_num.specs.Front.{Read, fixed_at}
 use Rattle.dw_num.proofs.Lent.LebLaws.{done}
 use Rattle.dw_num.proofs.Lent.FixedLaws.{taken_bytes}
 use Rattle.dw_num.proofs.Lent.Stays.{Stays}
 use Rattle.dw_cfa.specs.declared.instr.Factors.{Factors}
 use Rattle.dw_cfa.specs.declared.instr.Instr.{Instr}
 use Rattle.dw_cfa.specs.InstrSpells.{InstrSpells, Program}
-use Rattle.dw_cfa.specs.Inner.Reading.{instr_at}
+use Rattle.dw_cfa.specs.Inner.FrontInstr.{instr_at}
 use Rattle.dw_cfa.specs.Listing.{Listing, complete, faulty, ProgramFault}
 use Rattle.dw_cfa.specs.Inner.Listing.{listing, left_of}
 use Rattle.dw_op.specs.Inner.Walks.{ended, put, on_read, on_left, walked_by}

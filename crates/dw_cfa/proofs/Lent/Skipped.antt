@@ -4,7 +4,7 @@ use Rattle.std.specs.Prelude.{nat_eq, nat_lt, not, is_some, ◌/◌, ◌^◌, Is
 use Rattle.std.specs.Int.{bit_at, trailing_zeros, w32}
 use Rattle.std.specs.Cmp.Lexicographic.{pointwise}
 use Rattle.std.proofs.lemmas.Bool.Decides.{Decides-eqb, Decides-int_eq}
-use Rattle.dw_op.specs.Comparing.{expression_lines}
+use Rattle.dw_op.specs.Equality.{expression_lines}
 use Rattle.std.proofs.lemmas.Bool.{cases_lt, lt-ltb, le-ltb, ne_eqb, eq-eqb}
 use Rattle.std.proofs.Math.Nat.{div-le_self}
 use Rattle.std.proofs.lemmas.Nat.Bits.{bit_at-zero, bit_at-trailing_zeros}
@@ -13,14 +13,14 @@ use Rattle.dw_cfa.specs.declared.rule.RegRule.TheVariants as rules
 use Rattle.dw_cfa.specs.declared.rule.RegRule.TheVariants.{Unspecified}
 use Rattle.dw_cfa.specs.declared.row.Entries.{Entries}
 use Rattle.dw_cfa.specs.Rows.{AreSpecified, rule_in}
-use Rattle.dw_cfa.specs.Narrowing.{same_rule}
+use Rattle.dw_cfa.specs.Agreement.{same_rule}
 use Rattle.dw_cfa.specs.Inner.Entries.{entries_of, EntriesSo, LeavesAt, LeavesBelow}
-use Rattle.dw_cfa.specs.Differing.{FirstDifference}
+use Rattle.dw_cfa.specs.Difference.{FirstDifference}
 use Rattle.dw_cfa.proofs.Lent.RowLists.{Entry}
 use Rattle.dw_cfa.proofs.Lent.SameRows.{same_entries}
 use Rattle.dw_cfa.proofs.Slots.{no_slot, near_rule, shifted, bit_inside}
 use Rattle.dw_cfa.proofs.Lent.Narrowed.{none_left}
-use Rattle.dw_cfa.proofs.Differing.{not_used}
+use Rattle.dw_cfa.proofs.Difference.{not_used}
 
 -- registers that have no rule are left as they are
 over_unspecified : (p : Entry → Bool) (k n : ℕ) (old new : List Entry) → k ≤ n → ((q : ℕ) → k ≤ q → q < n → rule_in new q ≡ Unspecified) → LeavesBelow p k old new → LeavesBelow p n old new

@@ -3,7 +3,7 @@ use Rattle.std.specs.Prelude.{ℕ, ◌^◌, Result, Ok, nat_lt, if◌then◌else
 use Rattle.dw_num.specs.declared.refusal.Code.TheVariants.{OffsetTooLarge}
 use Rattle.dw_num.specs.declared.refusal.Refusal.{Refusal}
 use Rattle.dw_num.specs.Input.{Input}
-use Rattle.dw_num.specs.Reading.{Read, fault, fixed_at, register_at, uleb_at, sleb_at, address_at, ◌>>=◌}
+use Rattle.dw_num.specs.Front.{Read, fault, fixed_at, register_at, uleb_at, sleb_at, address_at, ◌>>=◌}
 use Rattle.dw_op.specs.Expression.{Expression}
 use Rattle.dw_cfa.specs.declared.instr.Factors.{Factors}
 use Rattle.dw_cfa.specs.declared.instr.Instr.{Instr}
@@ -13,7 +13,7 @@ use Rattle.dw_cfa.specs.declared.opcode.Opcode.TheVariants as opcodes
 use Rattle.dw_cfa.specs.declared.rule.RegRule.{RegRule}
 use Rattle.dw_cfa.specs.declared.rule.RegRule.TheVariants as rules
 use Rattle.dw_cfa.specs.Operands.{advanced}
-use Rattle.dw_cfa.specs.Inner.Reading.{leaving, block_at, with_instr}
+use Rattle.dw_cfa.specs.Inner.FrontInstr.{leaving, block_at, with_instr}
 
 -- ---- offsets
 

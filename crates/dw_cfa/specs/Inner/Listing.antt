@@ -6,7 +6,7 @@ use Rattle.dw_op.specs.Inner.Walks.{ended, put, walked}
 use Rattle.dw_cfa.specs.declared.instr.Factors.{Factors}
 use Rattle.dw_cfa.specs.declared.instr.Instr.{Instr}
 use Rattle.dw_cfa.specs.Listing.{Listing}
-use Rattle.dw_cfa.specs.Inner.Reading.{instr_at}
+use Rattle.dw_cfa.specs.Inner.FrontInstr.{instr_at}
 
 unfoldable pub listing : Factors → Input → Listing
 listing f i = walked (instr_at f) (λ at instr. instr) i

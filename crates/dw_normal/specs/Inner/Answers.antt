@@ -14,7 +14,7 @@ use Rattle.dw_normal.specs.declared.error.WriteError.{WriteError}
 use Rattle.dw_normal.specs.declared.error.WriteError.TheVariants as write_error
 use Rattle.dw_canon.specs.Canon.{canon}
 use Rattle.dw_canon.specs.Members.{Member, AreMembers}
-use Rattle.dw_normal.specs.Inner.Grouping.{initial_rows}
+use Rattle.dw_normal.specs.Inner.Groups.{initial_rows}
 use Rattle.dw_normal.specs.Answers.{too_long, IsTooLong, IsWithin}
 
 -- an accepted section whose normal form is within the cap

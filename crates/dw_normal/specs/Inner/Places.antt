@@ -9,7 +9,7 @@ use Rattle.dw_canon.specs.Canon.{groups_of, part_of}
 use Rattle.dw_canon.specs.Laid.{fde_of}
 use Rattle.dw_canon.specs.Members.{Member}
 use Rattle.dw_canon.specs.Written.{Written, entry_bytes}
-use Rattle.dw_normal.specs.Inner.Measuring.{cie_with}
+use Rattle.dw_normal.specs.Inner.Lengths.{cie_with}
 
 -- the place that is kept of a return register
 abbrev pub place_in : List (ℕ × ℕ) → ℕ → Option ℕ

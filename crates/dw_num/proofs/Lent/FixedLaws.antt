@@ -18,7 +18,7 @@ use Rattle.dw_num.specs.declared.target.Form.TheVariants.{Dwarf32, Dwarf64}
 use Rattle.dw_num.specs.declared.refusal.Code.TheVariants.{Truncated, ReservedLength}
 use Rattle.dw_num.specs.Input.{Input, AreBytes, Takes, behind}
 use Rattle.dw_num.specs.Fixed.{Address, Fixed, IsWidth, fixed_bytes, fixed_number, length_bytes, LengthFits, SpellsLength}
-use Rattle.dw_num.specs.Reading.{fault, fixed_at, address_at, length_of, long_length_at, unit_length_at}
+use Rattle.dw_num.specs.Front.{fault, fixed_at, address_at, length_of, long_length_at, unit_length_at}
 use Rattle.dw_num.proofs.Lent.LebLaws.{done, ok_is}
 
 take-bytes : (n : ℕ) (bytes : List ℕ) → AreBytes bytes → AreBytes (take n bytes)

@@ -7,7 +7,7 @@ use Rattle.std.proofs.lemmas.Int.{ints}
 use Rattle.std.proofs.lemmas.Bool.{cases_lt, lt-ltb, le-ltb, leb-true, leb-false, le-leb, lt-leb}
 use Rattle.dw_num.specs.Leb.{IsLeb, groups_from, groups, is_negative, Uleb, Sleb}
 use Rattle.dw_num.specs.Shortest.{leb_of, turned_leb, shortest_uleb, shortest_sleb, turned}
-use Rattle.dw_num.specs.Writing.{PutsUleb, PutsSleb}
+use Rattle.dw_num.specs.ShortestLeb.{PutsUleb, PutsSleb}
 use Rattle.dw_num.specs.Inner.Scan.{turned_from, as_signed}
 use Rattle.dw_num.proofs.Lent.Turned.{signed_groups-turned}
 

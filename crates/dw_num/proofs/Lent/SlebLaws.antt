@@ -8,7 +8,7 @@ use Rattle.dw_num.specs.declared.target.Target.{Target}
 use Rattle.dw_num.specs.declared.refusal.Code.TheVariants.{NumberTooLarge}
 use Rattle.dw_num.specs.Input.{Input, AreBytes, Takes, behind}
 use Rattle.dw_num.specs.Leb.{signed_groups, Sleb}
-use Rattle.dw_num.specs.Reading.{leb_len, sleb_of, sleb_at, fits_signed, fault}
+use Rattle.dw_num.specs.Front.{leb_len, sleb_of, sleb_at, fits_signed, fault}
 use Rattle.dw_num.proofs.Lent.LebLaws.{leb_len-front, leb_len-spelled, done, ok_is}
 
 fits_signed-true : (v : ℤ) → FitsSigned w64 v → fits_signed v ≡ true

@@ -6,7 +6,7 @@ use Rattle.std.proofs.lemmas.List.{length-append, length-take, take_at as taken_
 use Rattle.dw_num.specs.declared.target.Target.{Target}
 use Rattle.dw_num.specs.declared.refusal.Refusal.{Refusal}
 use Rattle.dw_num.specs.Input.{Input, Takes, behind}
-use Rattle.dw_num.specs.Reading.{Read, fault, address_at, fixed_at, take_at, ◌>>=◌}
+use Rattle.dw_num.specs.Front.{Read, fault, address_at, fixed_at, take_at, ◌>>=◌}
 use Rattle.dw_num.specs.Target.{byte_count}
 use Rattle.dw_num.specs.Fixed.{Address}
 use Rattle.dw_num.specs.declared.refusal.Code.TheVariants.{Truncated}

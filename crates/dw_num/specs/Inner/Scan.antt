@@ -6,7 +6,7 @@ use Rattle.dw_num.specs.declared.leb.UlebScan.TheVariants.{Number, TooLarge, End
 use Rattle.dw_num.specs.declared.leb.SlebScan.{SlebScan}
 use Rattle.dw_num.specs.declared.leb.SlebScan.TheVariants as signed
 use Rattle.dw_num.specs.Leb.{groups, signed_groups}
-use Rattle.dw_num.specs.Reading.{leb_len}
+use Rattle.dw_num.specs.Front.{leb_len}
 use Rattle.dw_num.specs.Shortest.{turned}
 
 abbrev pub IsUlebScan : List ℕ → UlebScan → Type 0

@@ -16,16 +16,16 @@ use Rattle.dw_op.specs.declared.operation.Step.{Step}
 use Rattle.dw_op.specs.declared.operation.Step.TheVariants.{Plain, Jump}
 use Rattle.dw_op.specs.declared.operation.Branch.TheVariants.{Bra, Skip}
 use Rattle.dw_op.specs.Block.{start, Stands, EachPart, joined, Block}
-use Rattle.dw_op.specs.Inner.Reading.{step_at}
+use Rattle.dw_op.specs.Inner.FrontOp.{step_at}
 use Rattle.dw_op.specs.Inner.Walk.{Item, Walk, walk, end_of, index_at, op_of, put_first, resolve, unless, block_input, decode_at}
 use Rattle.dw_op.specs.Faults.{IsBlock, op_allowed, IsPart, Leads, ReadingFault, BranchFault, BlockFault}
 use Rattle.dw_op.proofs.Splits.{Spelled, EachSpells, items_from, input, Ends, Split, split_of, joined_walk}
 use Rattle.dw_op.proofs.Places.{index_start, index_begins}
 use Rattle.dw_op.proofs.Lent.Spellings.{in_table}
-use Rattle.dw_op.proofs.Standing.{Finds, Placed, one_step, as_location, part_step, allowed_plain, step_stands, stands_step}
+use Rattle.dw_op.proofs.ResolvedSteps.{Finds, Placed, one_step, as_location, part_step, allowed_plain, step_stands, stands_step}
 use Rattle.dw_op.proofs.Branches.{fixed_any}
 use Rattle.dw_op.proofs.OperandLaws.{stuck_fault, fault_stuck}
-use Rattle.dw_op.proofs.Leading.{Stood, EachNumbered, stood_leads, leads_stood, each_at, each_from, all_at, in_front, front_only, at_part, start_at, around}
+use Rattle.dw_op.proofs.BranchParts.{Stood, EachNumbered, stood_leads, leads_stood, each_at, each_from, all_at, in_front, front_only, at_part, start_at, around}
 
 -- ---- where parts stand
 

@@ -13,8 +13,8 @@ use Rattle.dw_op.specs.LeastOf.{least_bytes}
 use Rattle.dw_op.specs.Ranges.{InRange, AllInRange}
 use Rattle.dw_op.specs.declared.least_block.EncodeError.{EncodeError}
 use Rattle.dw_op.specs.declared.least_block.EncodeError.TheVariants.{BranchTooFar, OutOfMemory}
-use Rattle.dw_op.specs.Encoding.{IsFar, IsEncodeError, TooFar, blank_parts, bits_of, least_from, least_block}
-use Rattle.dw_op.specs.Inner.Encoding.{BranchFits, EachFits, AreStarts}
+use Rattle.dw_op.specs.LeastBlock.{IsFar, IsEncodeError, TooFar, blank_parts, bits_of, least_from, least_block}
+use Rattle.dw_op.specs.Inner.LeastBlock.{BranchFits, EachFits, AreStarts}
 use Rattle.dw_op.proofs.Lent.Ranges.{listed_at}
 use Rattle.dw_op.proofs.LeastOf.{least}
 use Rattle.dw_op.proofs.Lent.LeastBlocks.{EachInRange, each_fits, each_parts, joined-cons}

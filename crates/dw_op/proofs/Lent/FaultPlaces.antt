@@ -6,7 +6,7 @@ use Rattle.dw_num.specs.declared.refusal.Refusal.{Refusal}
 use Rattle.dw_num.specs.declared.target.Target.{Target}
 use Rattle.dw_num.specs.Input.{Input}
 use Rattle.dw_num.specs.Target.{byte_count}
-use Rattle.dw_num.specs.Reading.{Read, fixed_at, take_at, uleb_at, address_at, register_at, ◌>>=◌}
+use Rattle.dw_num.specs.Front.{Read, fixed_at, take_at, uleb_at, address_at, register_at, ◌>>=◌}
 use Rattle.dw_num.proofs.Lent.Stays.{Inside, Stays, inside_all, stays_in, stays-then, either_stays, fixed_stays, take_stays, uleb_stays, sleb_stays, register_stays}
 use Rattle.dw_op.specs.declared.op.Op.{Op}
 use Rattle.dw_op.specs.declared.profile.Profile.{Profile}
@@ -15,7 +15,7 @@ use Rattle.dw_op.specs.declared.operation.Opcode.{Opcode}
 use Rattle.dw_op.specs.declared.operation.Opcode.TheVariants as opcodes
 use Rattle.dw_op.specs.Block.{start, joined}
 use Rattle.dw_op.specs.Faults.{BlockFault}
-use Rattle.dw_op.specs.Inner.Reading.{opcode_of, allows, with_op, with_jump, after_register, size_in, after_size, after_length, operands_at, judged, after_code, step_at}
+use Rattle.dw_op.specs.Inner.FrontOp.{opcode_of, allows, with_op, with_jump, after_register, size_in, after_size, after_length, operands_at, judged, after_code, step_at}
 use Rattle.dw_op.specs.Inner.ByOpcode.{address_step, unsigned_step, signed_step, uconst_step, sconst_step, pick_step, plus_step, jump_step, breg_step, long_reg_step, long_breg_step, fbreg_step, piece_step, deref_size_step, bit_piece_step, implicit_step}
 use Rattle.dw_op.proofs.OperandLaws.{fault_stuck}
 

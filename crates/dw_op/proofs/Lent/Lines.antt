@@ -2,7 +2,7 @@
 use Rattle.std.proofs.Common.{◌≡◌, ℕ, Bool, true, false, List, [], ◌∷◌, map, refl, sym, ap, ◌∙◌}
 use Rattle.std.specs.Prelude.{ℤ, pos, negsuc, nat_eq, if◌then◌else◌, IsTrue, ◌↔◌}
 use Rattle.std.specs.Bool.{Decides, one_answer}
-use Rattle.dw_op.specs.Inner.ComparingLaws.{lines_decide}
+use Rattle.dw_op.specs.Inner.EqualityLaws.{lines_decide}
 use Rattle.dw_num.specs.declared.target.Target.{Target}
 use Rattle.dw_num.specs.declared.target.Size.{Size}
 use Rattle.dw_num.specs.declared.target.Size.TheVariants.{Four, Eight}
@@ -13,7 +13,7 @@ use Rattle.dw_op.specs.declared.op.Op.TheVariants.{Addr, Deref, Const, Dup, Drop
 use Rattle.dw_op.specs.Expression.{Expression, bare}
 use Rattle.dw_op.specs.Block.{FrameBlock}
 use Rattle.dw_op.specs.Profile.{in_frame, InFrame}
-use Rattle.dw_op.specs.Comparing.{sign_of, size_of, line, op_line, target_line, expression_lines, same_expression}
+use Rattle.dw_op.specs.Equality.{sign_of, size_of, line, op_line, target_line, expression_lines, same_expression}
 
 -- a signed number from its sign and number
 abbrev signed_with : ℕ → ℕ → ℤ

@@ -11,7 +11,7 @@ use Rattle.dw_num.specs.Target.{byte_count, address_limit}
 use Rattle.dw_num.specs.Input.{Input, AreBytes, Takes}
 use Rattle.dw_num.specs.Fixed.{Fixed, fixed_number}
 use Rattle.dw_num.specs.Leb.{Uleb, Sleb, Register}
-use Rattle.dw_num.specs.Reading.{Read, fixed_at, take_at, uleb_at, sleb_at, address_at, ◌>>=◌, register_of, register_at}
+use Rattle.dw_num.specs.Front.{Read, fixed_at, take_at, uleb_at, sleb_at, address_at, ◌>>=◌, register_of, register_at}
 use Rattle.dw_num.proofs.Lent.LebLaws.{done, ok_is, uleb_found}
 use Rattle.dw_num.proofs.Lent.SlebLaws.{sleb_found}
 use Rattle.dw_num.proofs.Lent.FixedLaws.{taken_bytes, fixed_found, address_found, byte_found, is_fixed}
@@ -32,7 +32,7 @@ use Rattle.dw_op.specs.Block.{branch_target}
 use Rattle.dw_op.specs.Profile.{in_frame}
 use Rattle.dw_op.specs.Inner.Steps.{StepSpells, branch_code, step_in_frame, step_allowed}
 use Rattle.dw_op.specs.Operands.{modulo, look_up, in_range, implicit}
-use Rattle.dw_op.specs.Inner.Reading.{plain_table, plain_op, operand_table, alone, or_else, opcode_of, code_in_frame, allows, with_op, width_of, signed_of, with_jump, after_register, size_in, after_size, after_length, operands_at, judged, after_code, step_at}
+use Rattle.dw_op.specs.Inner.FrontOp.{plain_table, plain_op, operand_table, alone, or_else, opcode_of, code_in_frame, allows, with_op, width_of, signed_of, with_jump, after_register, size_in, after_size, after_length, operands_at, judged, after_code, step_at}
 use Rattle.dw_op.specs.Inner.ByOpcode.{address_step, unsigned_step, signed_step, uconst_step, sconst_step, pick_step, plus_step, jump_step, breg_step, long_reg_step, long_breg_step, fbreg_step, piece_step, deref_size_step, bit_piece_step, implicit_step}
 use Rattle.dw_op.proofs.Signed.{count_found, signed_spelled}
 

@@ -2,13 +2,13 @@
 use Rattle.std.specs.Prelude.{ℕ, ◌%◌}
 use Rattle.dw_num.specs.Target.{address_limit, byte_count}
 use Rattle.dw_num.specs.Input.{Input}
-use Rattle.dw_num.specs.Reading.{Read, fixed_at, take_at, uleb_at, sleb_at, address_at, ◌>>=◌, register_at}
+use Rattle.dw_num.specs.Front.{Read, fixed_at, take_at, uleb_at, sleb_at, address_at, ◌>>=◌, register_at}
 use Rattle.dw_op.specs.declared.op.Op.TheVariants.{Addr, Const, Pick, PlusUconst, Reg, Breg, Fbreg, Piece}
 use Rattle.dw_op.specs.declared.operation.Branch.{Branch}
 use Rattle.dw_op.specs.declared.operation.Step.{Step}
 use Rattle.dw_op.specs.declared.operation.ByteCount.{ByteCount}
 use Rattle.dw_op.specs.Operands.{modulo}
-use Rattle.dw_op.specs.Inner.Reading.{with_op, width_of, signed_of, with_jump, after_register, size_in, after_size, after_length}
+use Rattle.dw_op.specs.Inner.FrontOp.{with_op, width_of, signed_of, with_jump, after_register, size_in, after_size, after_length}
 
 unfoldable pub address_step : Input → Read Step
 address_step i = address_at i >>= with_op Addr

@@ -11,7 +11,7 @@ use Rattle.dw_op.specs.declared.operation.Branch.{Branch}
 use Rattle.dw_op.specs.declared.operation.Branch.TheVariants.{Bra, Skip}
 use Rattle.dw_op.specs.declared.operation.Step.{Step}
 use Rattle.dw_op.specs.declared.operation.Step.TheVariants.{Plain, Jump}
-use Rattle.dw_op.specs.Inner.Reading.{step_at}
+use Rattle.dw_op.specs.Inner.FrontOp.{step_at}
 use Rattle.dw_op.specs.Walks.{Walked}
 use Rattle.dw_op.specs.Inner.Walks.{walked}
 

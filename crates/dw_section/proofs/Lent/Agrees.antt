@@ -7,7 +7,7 @@ use Rattle.dw_cfa.specs.Column.{look_back, cfa_change, rule_change, cfa_after, r
 use Rattle.dw_cfa.specs.Laws.{initial_cfa, initial_rule}
 use Rattle.dw_cfa.specs.Location.{onto, back_from}
 use Rattle.dw_cfa.specs.Rows.{Rules}
-use Rattle.dw_cfa.proofs.Lent.Counting.{counts_exists, one_count}
+use Rattle.dw_cfa.proofs.Lent.InstrCounts.{counts_exists, one_count}
 use Rattle.dw_section.specs.Changes.{Stays, Differs, StayFrom, HoldsAt, ChangesBehind, AreChanges}
 use Rattle.dw_section.specs.Programs.{HasCfa}
 use Rattle.dw_section.specs.Inner.Agree.{SameAfter, AgreeAt, Agree}

@@ -16,7 +16,7 @@ use Rattle.dw_cfa.specs.Location.{Counts}
 use Rattle.dw_cfa.specs.Laws.{HoldsAfter}
 use Rattle.dw_cfa.specs.Rows.{Rules, AreSpecified}
 use Rattle.dw_cfa.specs.Runs.{Outcome, row_then}
-use Rattle.dw_cfa.specs.Stepping.{Stepping, Advances}
+use Rattle.dw_cfa.specs.RowSteps.{Stepping, Advances}
 use Rattle.dw_cfa.specs.RuleAt.{or_here, last_at, NeverFalls}
 use Rattle.dw_num.specs.Target.{address_limit}
 use Rattle.dw_cfa.specs.InstrSpells.{Program}
@@ -24,7 +24,7 @@ use Rattle.dw_cfa.specs.Inner.Exact.{RowsOf}
 use Rattle.dw_cfa.proofs.Lent.BehindLaws.{behind_gives}
 use Rattle.dw_cfa.proofs.Lent.FaultLaws.{initial_leaves}
 use Rattle.dw_cfa.proofs.Lent.RunLaws.{run_halves, program_placed}
-use Rattle.dw_cfa.proofs.Lent.Counting.{one_count, counts_exists}
+use Rattle.dw_cfa.proofs.Lent.InstrCounts.{one_count, counts_exists}
 use Rattle.dw_cfa.proofs.Lent.SameRows.{same_rows}
 use Rattle.dw_section.specs.Changes.{Stays, Differs, StayFrom, HoldsAt, ChangesBehind, AreChanges, Before, Passed, Among}
 use Rattle.dw_section.specs.Laws.{AreListed}

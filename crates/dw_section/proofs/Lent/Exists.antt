@@ -25,7 +25,7 @@ use Rattle.dw_section.specs.Programs.{CieRuns, Begins, input_of, factors_of}
 use Rattle.dw_section.proofs.Lent.ChangeLaws.{changes_found}
 use Rattle.dw_section.proofs.Lent.Heads.{all_in, heads_rise, heads_bytes, one_begin}
 use Rattle.dw_section.specs.Meanings.{IsListed, SameMeaning}
-use Rattle.dw_section.proofs.Deciding.{row_told}
+use Rattle.dw_section.proofs.RowEquality.{row_told}
 use Rattle.dw_section.proofs.Lent.Rowed.{IsListedRow, one_listed, agree_row}
 use Rattle.dw_section.proofs.Lent.Sames.{AllAgree, one_list, changes_there}
 use Rattle.dw_section.proofs.Lent.Sections.{hs, headers_of, here, one_programs, kept_programs, begin_low, row_exists, rules_programs, programs_rules, programs_changes, listed_programs}

@@ -12,7 +12,7 @@ use Rattle.dw_num.specs.declared.target.Size.{Size}
 use Rattle.dw_num.specs.declared.target.Target.{Target}
 use Rattle.dw_num.specs.Fixed.{IsWidth, fixed_number}
 use Rattle.dw_num.specs.Input.{Input, behind}
-use Rattle.dw_num.specs.Reading.{Read, fault, fixed_at, take_at, address_at, ◌>>=◌, uleb_at, sleb_at, register_at, register_of}
+use Rattle.dw_num.specs.Front.{Read, fault, fixed_at, take_at, address_at, ◌>>=◌, uleb_at, sleb_at, register_at, register_of}
 use Rattle.dw_num.specs.Target.{address_limit, byte_count}
 use Rattle.dw_section.specs.declared.fields.CieFields.{CieFields}
 use Rattle.dw_section.specs.declared.fields.FdeFields.{FdeFields}

@@ -18,11 +18,11 @@ use Rattle.dw_cfa.specs.declared.execution.LocatedRow.{LocatedRow}
 use Rattle.dw_cfa.specs.Inner.Exact.{RulesBehind}
 use Rattle.dw_cfa.specs.Column.{cfa_after}
 use Rattle.dw_cfa.specs.Faults.{FdeFault}
-use Rattle.dw_cfa.specs.Following.{Following, with_steps}
+use Rattle.dw_cfa.specs.CieMachine.{Following, with_steps}
 use Rattle.dw_cfa.specs.Kept.{FdeKept}
 use Rattle.dw_cfa.specs.Laws.{initial_cfa}
 use Rattle.dw_cfa.specs.Location.{Counts}
-use Rattle.dw_cfa.specs.Lacking.{is_unset, lacks_from}
+use Rattle.dw_cfa.specs.Coverage.{is_unset, lacks_from}
 use Rattle.dw_cfa.specs.declared.instr.Factors.{Factors}
 use Rattle.dw_cfa.specs.Rows.{Rules}
 use Rattle.dw_section.specs.declared.program.Initial.{Initial}
@@ -32,7 +32,7 @@ use Rattle.dw_section.specs.Inner.Heads.{head_at, cie_at_of, cie_ats}
 use Rattle.dw_section.specs.Inner.Initials.{or_place, place_of, IsInitial, IsBehind, AreInitials, HasOrLacks, FirstLacking, initial_head}
 use Rattle.dw_section.specs.Inner.Places.{Rises}
 use Rattle.dw_section.specs.Programs.{input_of, Begins, Instrs, CieRuns, FdeRuns, FdeBroken, HasRules, LacksRule}
-use Rattle.dw_cfa.proofs.Lent.Counting.{counts_exists}
+use Rattle.dw_cfa.proofs.Lent.InstrCounts.{counts_exists}
 use Rattle.dw_section.proofs.Covered.{lacks_found, lacks_none, unset_is, is_unset_of}
 use Rattle.dw_section.proofs.Stages.{all_push}
 

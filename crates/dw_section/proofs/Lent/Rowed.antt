@@ -4,7 +4,7 @@ use Rattle.std.specs.List.{AllByRecursion, AllZip}
 use Rattle.std.proofs.lemmas.Bool.{cases_lt, cases_order, lt-ltb, le-ltb}
 use Rattle.dw_cfa.specs.declared.instr.Instr.{Instr}
 use Rattle.dw_cfa.specs.Rows.{Rules, AreSpecified}
-use Rattle.dw_cfa.proofs.Lent.Counting.{counts_exists}
+use Rattle.dw_cfa.proofs.Lent.InstrCounts.{counts_exists}
 use Rattle.dw_cfa.proofs.Lent.SameRows.{same_rows}
 use Rattle.dw_section.specs.Changes.{Stays, StayFrom, HoldsAt, ChangesBehind, AreChanges}
 use Rattle.dw_section.specs.Inner.Agree.{AgreeAt, Agree}

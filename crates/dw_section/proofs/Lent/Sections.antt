@@ -13,7 +13,7 @@ use Rattle.dw_cfa.specs.Kept.{CieKept, FdeKept}
 use Rattle.dw_cfa.specs.Laws.{initial_cfa, HoldsAfter}
 use Rattle.dw_cfa.specs.Rows.{Rules, AreSpecified}
 use Rattle.dw_cfa.proofs.Lent.BehindLaws.{gives_rows}
-use Rattle.dw_cfa.proofs.Lent.Counting.{counts_exists, one_count}
+use Rattle.dw_cfa.proofs.Lent.InstrCounts.{counts_exists, one_count}
 use Rattle.dw_cfa.proofs.Lent.FaultLaws.{leaves_initial}
 use Rattle.dw_section.specs.declared.lookup.Fde.{Fde}
 use Rattle.dw_section.specs.Accepted.{Accepted}

@@ -16,7 +16,7 @@ use Rattle.dw_cfa.specs.Laws.{initial_cfa, initial_rule}
 use Rattle.dw_cfa.specs.Location.{onto}
 use Rattle.dw_cfa.specs.Rows.{Rules, AreSpecified, is_specified, rule_in, rule}
 use Rattle.dw_cfa.proofs.Lent.Spellings.{RuleSpells, IsSpelled, by_table}
-use Rattle.dw_cfa.proofs.Lent.Counting.{counts_exists}
+use Rattle.dw_cfa.proofs.Lent.InstrCounts.{counts_exists}
 use Rattle.dw_op.specs.Expression.{Expression}
 use Rattle.dw_section.specs.declared.lookup.Fde.{Fde}
 use Rattle.dw_section.specs.Changes.{HoldsAt, ChangesBehind, AreChanges}

@@ -1,8 +1,8 @@
 -- What the code and its proofs say beside Changes.
 use Rattle.std.specs.Prelude.{◌≡◌, ℕ, ◌<◌, length, List, [], ◌∷◌, Option, Some, None, Result, Ok, Err}
 use Rattle.dw_cfa.specs.Rows.{Rules}
-use Rattle.dw_cfa.specs.Stepping.{Stepping}
-use Rattle.dw_cfa.specs.Walking.{Walking}
+use Rattle.dw_cfa.specs.RowSteps.{Stepping}
+use Rattle.dw_cfa.specs.RowWalk.{Walking}
 use Rattle.dw_section.specs.Changes.{Among}
 use Rattle.dw_section.specs.Inner.Lookup.{LedSo}
 use Rattle.dw_section.specs.Table.{Section}

@@ -4,7 +4,7 @@ use Rattle.dw_num.specs.declared.refusal.Code.{Code}
 use Rattle.dw_num.specs.declared.refusal.Code.TheVariants.{Truncated, BadVersion, Augmentation, AddressSize, SegmentSelector, NoSuchCie, RangeTooLarge}
 use Rattle.dw_num.specs.declared.target.Form.{Form}
 use Rattle.dw_num.specs.Input.{Input, behind}
-use Rattle.dw_num.specs.Reading.{Read, fault, fixed_at, uleb_at, sleb_at, address_at, register_at, ◌>>=◌}
+use Rattle.dw_num.specs.Front.{Read, fault, fixed_at, uleb_at, sleb_at, address_at, register_at, ◌>>=◌}
 use Rattle.dw_section.specs.declared.fields.Version.{Version}
 use Rattle.dw_section.specs.declared.fields.Version.TheVariants.{One, Three, Four}
 use Rattle.dw_section.specs.declared.fields.CieFields.{CieFields}

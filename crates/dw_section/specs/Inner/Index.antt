@@ -9,7 +9,7 @@ use Rattle.dw_section.specs.Meaning.{Returns}
 use Rattle.dw_section.specs.Headers.{CieHead, FdeHead, Head, cie, fde}
 use Rattle.dw_section.specs.Overlap.{Range, IsIn, end_of, nonempty}
 use Rattle.dw_section.specs.Programs.{IsAmong, FdeRuns, input_of}
-use Rattle.dw_cfa.specs.Walking.{Led}
+use Rattle.dw_cfa.specs.RowWalk.{Led}
 use Rattle.dw_section.specs.Inner.Initials.{FirstLacking}
 use Rattle.dw_num.specs.declared.target.Target.{Target}
 

@@ -7,7 +7,7 @@ use Rattle.dw_num.specs.declared.target.Target.{Target}
 use Rattle.dw_num.specs.Span.{span_of}
 use Rattle.dw_cfa.specs.declared.instr.Instr.{Instr}
 use Rattle.dw_cfa.specs.Behind.{Leaves}
-use Rattle.dw_cfa.specs.Following.{Following}
+use Rattle.dw_cfa.specs.CieMachine.{Following}
 use Rattle.dw_cfa.specs.Rows.{Rules}
 use Rattle.dw_section.specs.declared.program.Initial.{Initial}
 use Rattle.dw_section.specs.declared.program.Long.{Long}

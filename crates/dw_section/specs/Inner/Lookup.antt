@@ -6,7 +6,7 @@ use Rattle.dw_num.specs.Target.{address_limit}
 use Rattle.dw_cfa.specs.RuleAt.{last_at, NeverFalls}
 use Rattle.dw_cfa.specs.Rows.{Rules}
 use Rattle.dw_cfa.specs.Runs.{Outcome}
-use Rattle.dw_cfa.specs.Walking.{Led}
+use Rattle.dw_cfa.specs.RowWalk.{Led}
 use Rattle.dw_cfa.specs.Inner.Runs.{run_rows}
 use Rattle.dw_section.specs.Accepted.{RulesHold}
 use Rattle.dw_section.specs.Headers.{Head}

@@ -3,7 +3,7 @@ use Rattle.dw_num.specs.Input.{AreBytes}
 use Rattle.dw_cfa.specs.Rows.{Rules}
 use Rattle.dw_cfa.specs.Runs.{Outcome}
 use Rattle.dw_cfa.specs.Inner.Runs.{GivesRow, rows_left}
-use Rattle.dw_cfa.specs.Inner.Walking.{AllSpecify}
+use Rattle.dw_cfa.specs.Inner.RowWalk.{AllSpecify}
 use Rattle.dw_cfa.proofs.Stays.{led_keeps, row_behind}
 use Rattle.dw_cfa.proofs.Walks.{led_initial, led_ran}
 use Rattle.dw_cfa.proofs.row_walk.first_row.Goals as goal

@@ -5,7 +5,7 @@ use Rattle.dw_num.specs.Input.{AreBytes}
 use Rattle.dw_cfa.specs.Rows.{Rules}
 use Rattle.dw_cfa.specs.Runs.{Outcome}
 use Rattle.dw_cfa.specs.Inner.Runs.{rows_left}
-use Rattle.dw_cfa.specs.Inner.Walking.{AllSpecify}
+use Rattle.dw_cfa.specs.Inner.RowWalk.{AllSpecify}
 use Rattle.dw_cfa.proofs.RowsTo.{only_memory, still_none}
 use Rattle.dw_cfa.proofs.Stays.{led_keeps}
 use Rattle.dw_cfa.proofs.Walks.{led_initial, led_ran}

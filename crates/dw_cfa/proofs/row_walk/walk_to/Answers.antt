@@ -3,7 +3,7 @@ use Rattle.std.specs.Prelude.{OnOk}
 use Rattle.dw_cfa.specs.declared.steps.Progress.{Progress}
 use Rattle.dw_cfa.specs.Rows.{Rules}
 use Rattle.dw_cfa.specs.Inner.Runs.{rows_left}
-use Rattle.dw_cfa.specs.Inner.Walking.{AllSpecify, WalkKeeps, walk_of}
+use Rattle.dw_cfa.specs.Inner.RowWalk.{AllSpecify, WalkKeeps, walk_of}
 use Rattle.dw_cfa.proofs.RowsTo.{none_where_more, only_memory}
 use Rattle.dw_cfa.proofs.Stays.{where_more}
 use Rattle.dw_cfa.proofs.row_walk.walk_to.Goals as goal

@@ -1,6 +1,6 @@
 use Rattle.std.proofs.Common.{arith}
 use Rattle.std.proofs.lemmas.Result.{err_from_is_err_and}
-use Rattle.dw_cfa.specs.Stepping.{program_input}
+use Rattle.dw_cfa.specs.RowSteps.{program_input}
 use Rattle.dw_cfa.proofs.Lent.Given.{run_ended, run_failed, gives_one, gives_memory}
 use Rattle.dw_cfa.proofs.rows.run.Goals as goal
 

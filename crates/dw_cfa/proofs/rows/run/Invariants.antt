@@ -1,5 +1,5 @@
 use Rattle.std.proofs.Common.{◌≡◌, None, length}
-use Rattle.dw_cfa.specs.Inner.Stepping.{rows_before}
+use Rattle.dw_cfa.specs.Inner.RowSteps.{rows_before}
 use Rattle.dw_cfa.proofs.rows.run.Given as goal
 
 abbrev pub invariant-rows : goal.invariant-rows

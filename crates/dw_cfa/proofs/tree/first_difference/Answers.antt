@@ -1,6 +1,6 @@
 use Rattle.std.proofs.Common.{Some, None, refl, sym, arith}
 use Rattle.dw_cfa.proofs.Lent.RowLists.{Entry}
-use Rattle.dw_cfa.proofs.Differing.{above, none_above, rest_up, taken_left, taken_right, taken_both, taken_same}
+use Rattle.dw_cfa.proofs.Difference.{above, none_above, rest_up, taken_left, taken_right, taken_both, taken_same}
 use Rattle.dw_cfa.proofs.tree.first_difference.Goals as goal
 
 pub returns-in_default-next : goal.returns-in_default-next

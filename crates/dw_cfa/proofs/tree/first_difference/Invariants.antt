@@ -1,7 +1,7 @@
 use Rattle.std.proofs.Common.{length}
 use Rattle.std.specs.Prelude.{ℕ, Option}
 use Rattle.dw_cfa.specs.Rows.{AreSpecified}
-use Rattle.dw_cfa.specs.Differing.{FirstDifference}
+use Rattle.dw_cfa.specs.Difference.{FirstDifference}
 use Rattle.dw_cfa.proofs.tree.first_difference.Given as goal
 
 abbrev pub invariant-rules : goal.invariant-rules

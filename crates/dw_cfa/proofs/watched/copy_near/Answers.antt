@@ -6,7 +6,7 @@ use Rattle.dw_cfa.specs.Rows.{Rules}
 use Rattle.dw_cfa.specs.Inner.Rows.{put}
 use Rattle.dw_cfa.specs.Inner.Marks.{CopiedUpTo}
 use Rattle.dw_cfa.proofs.Lent.RowLists.{Entry}
-use Rattle.dw_cfa.proofs.Differing.{none_left, up_to_next}
+use Rattle.dw_cfa.proofs.Difference.{none_left, up_to_next}
 use Rattle.dw_cfa.proofs.Marked.{copied_on, copied_next}
 use Rattle.dw_cfa.proofs.watched.copy_near.Goals as goal
 

@@ -3,11 +3,11 @@ use Rattle.std.specs.Ordering.{nat_cmp}
 use Rattle.std.specs.BTreeMap.Range.{range_contains}
 use Rattle.std.specs.declared.ops.Bound.{Bound}
 use Rattle.std.specs.declared.ops.Bound.TheVariants.{Unbounded}
-use Rattle.dw_cfa.specs.Differing.{place_behind}
+use Rattle.dw_cfa.specs.Difference.{place_behind}
 use Rattle.dw_cfa.specs.Rows.{AreSpecified}
 use Rattle.dw_cfa.specs.Inner.Marks.{SameUnlisted}
 use Rattle.dw_cfa.proofs.Lent.RowLists.{Entry}
-use Rattle.dw_cfa.proofs.Differing.{FromOn, range_on}
+use Rattle.dw_cfa.proofs.Difference.{FromOn, range_on}
 use Rattle.dw_cfa.proofs.Marked.{from_ascends, from_unlisted, differs_here, same_here}
 use Rattle.dw_cfa.proofs.watched.next_listed_difference.Goals as goal
 

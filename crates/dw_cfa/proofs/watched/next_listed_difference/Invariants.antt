@@ -1,5 +1,5 @@
 use Rattle.std.proofs.Common.{length}
-use Rattle.dw_cfa.specs.Differing.{place_behind}
+use Rattle.dw_cfa.specs.Difference.{place_behind}
 use Rattle.dw_cfa.specs.Rows.{AreSpecified}
 use Rattle.dw_cfa.specs.Inner.Marks.{SameUnlisted}
 use Rattle.dw_cfa.proofs.watched.next_listed_difference.Given as goal

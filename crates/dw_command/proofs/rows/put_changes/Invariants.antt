@@ -5,4 +5,4 @@ abbrev pub decreases-changes : goal.decreases-changes
 decreases-changes g l = length l.changes.rows
 
 abbrev pub invariant-changes : goal.invariant-changes
-invariant-changes g l = l.out.failures ≡ l.fn.out.failures
+invariant-changes g l = (l.out.failures ≡ l.fn.out.failures) × (l.changes.section ≡ l.initial.changes.section)

@@ -1,7 +1,7 @@
 use Rattle.std.proofs.Common.{ap, ◌∙◌, arith, refl}
 use Rattle.std.proofs.lemmas.Result.{err_from_is_err_and}
 use Rattle.dw_eval.specs.Context.{context}
-use Rattle.dw_eval.specs.Inner.Describing.{state_of}
+use Rattle.dw_eval.specs.Inner.Description.{state_of}
 use Rattle.dw_eval.proofs.ValueLoop.{access_at}
 use Rattle.dw_eval.proofs.PlaceLoop.{place_more, place_stop, place_limit}
 use Rattle.dw_eval.proofs.location.run.Goals as goal

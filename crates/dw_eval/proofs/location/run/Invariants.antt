@@ -1,7 +1,7 @@
 use Rattle.std.proofs.Common.{◌≡◌, ◌≤◌, length, map}
 use Rattle.dw_op.specs.Expression.{bare}
 use Rattle.dw_eval.specs.Context.{context}
-use Rattle.dw_eval.specs.Inner.Describing.{state_of}
+use Rattle.dw_eval.specs.Inner.Description.{state_of}
 use Rattle.dw_eval.specs.Inner.Location.{PlaceRuns}
 use Rattle.dw_eval.proofs.location.run.Given as goal
 

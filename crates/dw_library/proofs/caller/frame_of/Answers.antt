@@ -1,7 +1,7 @@
 use Rattle.std.proofs.Common.{Err}
 use Rattle.dw_unwind.specs.Unwound.{Unwound, stopped}
-use Rattle.dw_library.specs.Unwinding.{IsFrame}
-use Rattle.dw_library.specs.Inner.Unwinding.{Fails, held_in}
+use Rattle.dw_library.specs.CallerFrame.{IsFrame}
+use Rattle.dw_library.specs.Inner.CallerFrame.{Fails, held_in}
 use Rattle.dw_library.specs.Windows.{byte_among}
 use Rattle.dw_library.proofs.Frames.{found_is, error_is, passed_on}
 use Rattle.dw_library.proofs.caller.frame_of.Goals as goal

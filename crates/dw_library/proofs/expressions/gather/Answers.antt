@@ -2,7 +2,7 @@ use Rattle.std.proofs.Common.{◌≡◌, ℕ, List, ◌∷◌, ◌++◌, length,
 use Rattle.dw_cfa.specs.declared.rule.RegRule.{RegRule}
 use Rattle.dw_library.specs.declared.expressions.Block.{Block}
 use Rattle.dw_library.specs.Expressions.{AreBlocks, expressions_of, in_rule, in_rules}
-use Rattle.dw_library.proofs.Growing.{grown, all_there}
+use Rattle.dw_library.proofs.JoinedBlocks.{grown, all_there}
 use Rattle.dw_library.proofs.expressions.gather.Goals as goal
 
 pub loop-register-preserved : goal.loop-register-preserved

@@ -3,8 +3,8 @@ use Rattle.std.proofs.Math.ListN.{get_or-map}
 use Rattle.dw_canon.specs.Canon.{initial_of}
 use Rattle.dw_canon.specs.Members.{Member, fde_of}
 use Rattle.dw_canon.proofs.Lent.Canonical.{members_exist}
-use Rattle.dw_normal.specs.Inner.Beginning.{Begins}
-use Rattle.dw_normal.specs.Inner.Passing.{BehindFirst, row_or_blank}
+use Rattle.dw_normal.specs.Inner.Begun.{Begins}
+use Rattle.dw_normal.specs.Inner.ChangeWalk.{BehindFirst, row_or_blank}
 use Rattle.dw_normal.specs.declared.begun.Begun.{Begun}
 use Rattle.dw_normal.proofs.Grouped.{no_member}
 use Rattle.dw_normal.proofs.Placed.{below, ready_at}

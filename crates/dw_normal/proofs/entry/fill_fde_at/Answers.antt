@@ -6,7 +6,7 @@ use Rattle.dw_canon.specs.Canon.{fde_instrs, initial_of}
 use Rattle.dw_canon.specs.Spelling.{program_bytes}
 use Rattle.dw_canon.specs.Written.{fde, contents}
 use Rattle.dw_canon.proofs.Lent.Canonical.{members_exist}
-use Rattle.dw_normal.specs.Inner.Beginning.{IsReady}
+use Rattle.dw_normal.specs.Inner.Begun.{IsReady}
 use Rattle.dw_normal.specs.Inner.Places.{fde_with}
 use Rattle.dw_normal.proofs.Filled.{on_ok}
 use Rattle.dw_normal.proofs.Grouped.{no_member}

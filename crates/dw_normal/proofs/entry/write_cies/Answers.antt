@@ -3,7 +3,7 @@ use Rattle.std.specs.Prelude.{◌^◌}
 use Rattle.std.specs.BTreeMap.{Updates}
 use Rattle.std.specs.Ordering.{nat_cmp}
 use Rattle.dw_cfa.specs.Rows.{Rules}
-use Rattle.dw_normal.specs.Inner.Measuring.{cies_bytes}
+use Rattle.dw_normal.specs.Inner.Lengths.{cies_bytes}
 use Rattle.dw_normal.proofs.Entries.{CiesPut, cie_small, cie_counted, cies_fail, cies_more, cies_stop, cies_end}
 use Rattle.dw_normal.proofs.Joined.{ok_of, same_err}
 use Rattle.dw_normal.proofs.Sited.{placing_begins, placing_ends}

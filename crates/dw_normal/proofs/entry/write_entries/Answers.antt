@@ -7,7 +7,7 @@ use Rattle.dw_canon.specs.Canon.{canon, cie_instrs}
 use Rattle.dw_canon.specs.Inner.Fits.{InstrFits}
 use Rattle.dw_canon.proofs.Lent.Canonical.{members_exist}
 use Rattle.dw_canon.proofs.Lent.Rendered.{renders}
-use Rattle.dw_normal.specs.Inner.Measuring.{cies_bytes, fdes_bytes}
+use Rattle.dw_normal.specs.Inner.Lengths.{cies_bytes, fdes_bytes}
 use Rattle.dw_normal.specs.Inner.Places.{cie_place, RowsRise}
 use Rattle.dw_normal.specs.Inner.Puts.{Puts, after}
 use Rattle.dw_normal.specs.declared.entry.PutError.{PutError}

@@ -1,6 +1,6 @@
 use Rattle.std.proofs.Common.{List, take, Ok}
 use Rattle.dw_canon.specs.Members.{Member, AreMembers}
-use Rattle.dw_normal.specs.Inner.Measuring.{fdes_bytes}
+use Rattle.dw_normal.specs.Inner.Lengths.{fdes_bytes}
 use Rattle.dw_normal.specs.Inner.Puts.{Puts}
 use Rattle.dw_normal.proofs.entry.write_fdes.Given as goal
 

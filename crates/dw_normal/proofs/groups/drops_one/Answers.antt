@@ -1,5 +1,5 @@
 use Rattle.std.proofs.Common.{◌≡◌, true, sym, ap, ◌∙◌, rules}
-use Rattle.dw_cfa.specs.Differing.{place_behind}
+use Rattle.dw_cfa.specs.Difference.{place_behind}
 use Rattle.dw_cfa.specs.Rows.{rule, is_specified}
 use Rattle.dw_normal.proofs.Dropped.{specified_more}
 use Rattle.dw_normal.proofs.groups.drops_one.Goals as goal

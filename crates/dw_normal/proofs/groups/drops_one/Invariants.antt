@@ -1,5 +1,5 @@
 use Rattle.std.proofs.Common.{◌≡◌, ◌<◌, ◌-◌, ℕ, true, Some}
-use Rattle.dw_cfa.specs.Differing.{place_behind}
+use Rattle.dw_cfa.specs.Difference.{place_behind}
 use Rattle.dw_cfa.specs.Rows.{Rules, rule, is_specified}
 use Rattle.dw_normal.proofs.groups.drops_one.Given as goal
 

@@ -4,7 +4,7 @@ use Rattle.std.proofs.Math.ListN.{get_or-map}
 use Rattle.dw_section.specs.declared.lookup.Fde.{Fde}
 use Rattle.std.proofs.lemmas.List.{length-map}
 use Rattle.dw_canon.specs.Members.{fde_of}
-use Rattle.dw_normal.proofs.Coming.{behind}
+use Rattle.dw_normal.proofs.ChangesToCome.{behind}
 use Rattle.dw_normal.proofs.groups.go_behind_first.Goals as goal
 
 pub returns-clause-behind : goal.returns-clause-behind

@@ -2,7 +2,7 @@ use Rattle.std.proofs.Common.{◌≡◌, ℕ, ◌+◌, ap, ◌<◌, List, length
 use Rattle.std.proofs.lemmas.List.{length-map, take_all}
 use Rattle.dw_canon.specs.Members.{Member, fde_of}
 use Rattle.dw_canon.proofs.Lent.Canonical.{members_exist}
-use Rattle.dw_normal.specs.Inner.Measuring.{MemberLeaves, fdes_bytes}
+use Rattle.dw_normal.specs.Inner.Lengths.{MemberLeaves, fdes_bytes}
 use Rattle.dw_normal.proofs.Grouped.{no_member}
 use Rattle.dw_normal.proofs.Summed.{none_bytes, fdes_more, fdes_over}
 use Rattle.dw_normal.proofs.length.behind_fdes.Goals as goal

@@ -1,6 +1,6 @@
 use Rattle.std.proofs.Common.{◌≡◌, ◌+◌, List, length, take}
 use Rattle.dw_canon.specs.Members.{Member, AreMembers}
-use Rattle.dw_normal.specs.Inner.Measuring.{fdes_bytes}
+use Rattle.dw_normal.specs.Inner.Lengths.{fdes_bytes}
 use Rattle.dw_normal.proofs.length.behind_fdes.Given as goal
 
 abbrev pub invariant-fdes : goal.invariant-fdes

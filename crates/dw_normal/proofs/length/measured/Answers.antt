@@ -5,7 +5,7 @@ use Rattle.dw_cfa.specs.Rows.{Rules}
 use Rattle.dw_canon.specs.Canon.{cie_instrs}
 use Rattle.dw_canon.specs.Inner.Fits.{InstrFits}
 use Rattle.dw_canon.proofs.Lent.Canonical.{members_exist}
-use Rattle.dw_normal.specs.Inner.Measuring.{Leaves, fdes_bytes}
+use Rattle.dw_normal.specs.Inner.Lengths.{Leaves, fdes_bytes}
 use Rattle.dw_normal.proofs.Placed.{rows_fit}
 use Rattle.dw_normal.proofs.Summed.{over_cies, over_fdes, within}
 use Rattle.dw_normal.proofs.length.measured.Goals as goal

@@ -1,6 +1,6 @@
 use Rattle.std.proofs.Common.{ℕ, List, length}
 use Rattle.dw_cfa.specs.Rows.{Rules}
-use Rattle.dw_normal.specs.Inner.Passing.{AreToCome}
+use Rattle.dw_normal.specs.Inner.ChangeWalk.{AreToCome}
 use Rattle.dw_normal.proofs.Alike.{Beside}
 use Rattle.dw_normal.proofs.likeness.same_changes.Given as goal
 

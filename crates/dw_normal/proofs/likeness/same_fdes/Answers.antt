@@ -4,7 +4,7 @@ use Rattle.std.proofs.Math.ListN.{get_or-map}
 use Rattle.std.proofs.lemmas.List.{length-map}
 use Rattle.dw_canon.specs.Members.{fde_of, changes_of}
 use Rattle.dw_normal.proofs.Alike.{untrue, not_so, if_ok, same_member}
-use Rattle.dw_normal.proofs.Coming.{come_all}
+use Rattle.dw_normal.proofs.ChangesToCome.{come_all}
 use Rattle.dw_normal.proofs.likeness.same_fdes.Goals as goal
 
 pub returns-then-not-same_heads : goal.returns-then-not-same_heads

@@ -1,7 +1,7 @@
 use Rattle.std.proofs.Common.{sym, subst}
 use Rattle.dw_num.specs.declared.target.Target.{Target}
 use Rattle.dw_normal.specs.Answers.{IsWithin}
-use Rattle.dw_normal.proofs.Reporting.{is_within, second_too_long, tables_decided}
+use Rattle.dw_normal.proofs.Reports.{is_within, second_too_long, tables_decided}
 use Rattle.dw_normal.proofs.normal.compared.Goals as goal
 
 pub returns-in-Err-short_table-clause-refused : goal.returns-in-Err-short_table-clause-refused

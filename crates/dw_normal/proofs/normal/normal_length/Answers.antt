@@ -1,4 +1,4 @@
-use Rattle.dw_normal.proofs.Reporting.{length_found, only_memory}
+use Rattle.dw_normal.proofs.Reports.{length_found, only_memory}
 use Rattle.dw_normal.proofs.normal.normal_length.Goals as goal
 
 pub returns-in-Ok-clause-found : goal.returns-in-Ok-clause-found

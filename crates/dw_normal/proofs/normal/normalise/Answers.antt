@@ -1,5 +1,5 @@
 use Rattle.std.proofs.Common.{Some}
-use Rattle.dw_normal.proofs.Reporting.{tape_only, tape_fault, only_memory, only_long}
+use Rattle.dw_normal.proofs.Reports.{tape_only, tape_fault, only_memory, only_long}
 use Rattle.dw_normal.proofs.normal.normalise.Goals as goal
 
 pub returns-in-Ok-clause-only : goal.returns-in-Ok-clause-only

@@ -1,5 +1,5 @@
 use Rattle.std.proofs.Common.{refl}
-use Rattle.dw_normal.proofs.Reporting.{is_within}
+use Rattle.dw_normal.proofs.Reports.{is_within}
 use Rattle.dw_normal.proofs.normal.same_as_itself.Goals as goal
 
 pub returns-in-Ok-clause-found : goal.returns-in-Ok-clause-found

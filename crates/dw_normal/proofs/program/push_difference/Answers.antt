@@ -5,10 +5,10 @@ use Rattle.dw_cfa.specs.declared.instr.Instr.{Instr}
 use Rattle.dw_canon.specs.Difference.{difference, cfa_difference, rule_difference, either}
 use Rattle.dw_canon.specs.Inner.Fits.{InstrFits}
 use Rattle.dw_canon.specs.Spelling.{program_bytes}
-use Rattle.dw_normal.specs.Inner.Walking.{rules_from}
+use Rattle.dw_normal.specs.Inner.RegisterWalk.{rules_from}
 use Rattle.dw_normal.proofs.Filled.{on_ok}
 use Rattle.dw_normal.proofs.Passes.{program_more, both_halves}
-use Rattle.dw_normal.proofs.Remaining.{from_first}
+use Rattle.dw_normal.proofs.RegistersBehind.{from_first}
 use Rattle.dw_normal.proofs.program.push_difference.Goals as goal
 
 pub push_rules-requires : goal.push_rules-requires

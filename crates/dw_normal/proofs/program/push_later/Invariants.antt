@@ -1,5 +1,5 @@
 use Rattle.std.proofs.Common.{length}
-use Rattle.dw_normal.specs.Inner.Passing.{Under, shown_row}
+use Rattle.dw_normal.specs.Inner.ChangeWalk.{Under, shown_row}
 use Rattle.dw_normal.proofs.program.push_later.Given as goal
 
 abbrev pub invariant-changes : goal.invariant-changes

@@ -2,13 +2,13 @@ use Rattle.std.proofs.Common.{ℕ, List, ◌++◌, length, suc, sym, ap, ◌∙�
 use Rattle.std.specs.List.{AllByRecursion}
 use Rattle.std.proofs.lemmas.List.{append_assoc, append-nil}
 use Rattle.dw_cfa.specs.declared.instr.Instr.{Instr}
-use Rattle.dw_cfa.specs.Differing.{place_behind}
+use Rattle.dw_cfa.specs.Difference.{place_behind}
 use Rattle.dw_cfa.specs.Rows.{rule}
 use Rattle.dw_canon.specs.Difference.{rule_to}
 use Rattle.dw_canon.specs.Inner.Fits.{InstrFits}
 use Rattle.dw_canon.specs.Spelling.{instr_bytes, program_bytes}
-use Rattle.dw_normal.specs.Inner.Walking.{rules_from}
-use Rattle.dw_normal.proofs.Remaining.{none_differs, one_differs}
+use Rattle.dw_normal.specs.Inner.RegisterWalk.{rules_from}
+use Rattle.dw_normal.proofs.RegistersBehind.{none_differs, one_differs}
 use Rattle.dw_normal.proofs.program.push_rules.Goals as goal
 
 pub push_register-requires : goal.push_register-requires

@@ -2,15 +2,15 @@ use Rattle.std.proofs.Common.{◌≡◌, ◌+◌, ◌<◌, List, length, suc, sy
 use Rattle.std.specs.List.{AllByRecursion, flat_map}
 use Rattle.std.proofs.lemmas.List.{length-append}
 use Rattle.dw_cfa.specs.declared.instr.Instr.{Instr}
-use Rattle.dw_cfa.specs.Differing.{place_behind}
+use Rattle.dw_cfa.specs.Difference.{place_behind}
 use Rattle.dw_cfa.specs.Rows.{rule}
 use Rattle.dw_canon.specs.Difference.{difference, rule_to, cfa_difference, rule_difference, either}
 use Rattle.dw_canon.specs.Inner.Fits.{InstrFits}
 use Rattle.dw_canon.specs.Spelling.{instr_bytes, program_bytes}
-use Rattle.dw_normal.specs.Inner.Measuring.{Leaves}
-use Rattle.dw_normal.specs.Inner.Walking.{rules_from}
+use Rattle.dw_normal.specs.Inner.Lengths.{Leaves}
+use Rattle.dw_normal.specs.Inner.RegisterWalk.{rules_from}
 use Rattle.dw_normal.proofs.Passes.{program_more, both_halves}
-use Rattle.dw_normal.proofs.Remaining.{from_first, none_differs, one_differs}
+use Rattle.dw_normal.proofs.RegistersBehind.{from_first, none_differs, one_differs}
 use Rattle.dw_normal.proofs.room.behind_difference.Goals as goal
 
 pub registers-init : goal.registers-init

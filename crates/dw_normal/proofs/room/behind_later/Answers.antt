@@ -5,8 +5,8 @@ use Rattle.dw_cfa.specs.Rows.{Rules}
 use Rattle.dw_canon.specs.Difference.{difference}
 use Rattle.dw_canon.specs.Inner.Fits.{InstrFits}
 use Rattle.dw_canon.specs.Spelling.{program_bytes}
-use Rattle.dw_normal.specs.Inner.Measuring.{Leaves}
-use Rattle.dw_normal.specs.Inner.Passing.{row_or_blank, shown_row}
+use Rattle.dw_normal.specs.Inner.Lengths.{Leaves}
+use Rattle.dw_normal.specs.Inner.ChangeWalk.{row_or_blank, shown_row}
 use Rattle.dw_normal.proofs.Passes.{step_up, step_fits, shown_there, shown_before}
 use Rattle.dw_normal.proofs.Measured.{begins_leaving, step_leaving, step_over}
 use Rattle.dw_normal.proofs.room.behind_later.Goals as goal

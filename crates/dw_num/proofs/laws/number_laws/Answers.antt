@@ -1,7 +1,7 @@
 use Rattle.std.proofs.Common.{Ok, Err, ◌∙◌, sym, arith}
 use Rattle.dw_num.specs.Input.{Input}
 use Rattle.dw_num.specs.Laws.{IsRest, StaysIn, ReadsStay, OneUleb, OneSleb}
-use Rattle.dw_num.specs.Reading.{Read}
+use Rattle.dw_num.specs.Front.{Read}
 use Rattle.dw_num.proofs.Lent.Shortest.{puts_uleb, puts_sleb}
 use Rattle.dw_num.proofs.Lent.Stays.{Stays, take_stays, fixed_stays, address_stays, unit_length_stays, uleb_stays, sleb_stays, register_stays}
 use Rattle.dw_num.proofs.laws.number_laws.Goals as goal

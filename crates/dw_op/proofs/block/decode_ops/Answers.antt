@@ -3,7 +3,7 @@ use Rattle.std.proofs.lemmas.Result.{err_from_is_err_and}
 use Rattle.std.proofs.lemmas.List.{map-append}
 use Rattle.dw_num.proofs.Lent.Refusals.{refuses_by}
 use Rattle.dw_op.specs.Expression.{bare}
-use Rattle.dw_op.specs.Inner.Reading.{bare_step}
+use Rattle.dw_op.specs.Inner.FrontOp.{bare_step}
 use Rattle.dw_op.specs.Inner.Walk.{block_input, place_index, walk, end_of, starts_of, op_of}
 use Rattle.dw_op.specs.Inner.Walk.{Rises}
 use Rattle.dw_op.proofs.Search.{starts_rise}

@@ -1,6 +1,6 @@
 use Rattle.std.proofs.Common.{arith, length}
 use Rattle.std.proofs.lemmas.Result.{err_from_is_err_and}
-use Rattle.dw_op.specs.Inner.Reading.{bare_step}
+use Rattle.dw_op.specs.Inner.FrontOp.{bare_step}
 use Rattle.dw_op.specs.Inner.Walk.{block_input}
 use Rattle.dw_op.proofs.Decoded.{starts_more, starts_end, starts_stuck, step_shorter}
 use Rattle.dw_op.proofs.block.starts.Goals as goal

@@ -3,7 +3,7 @@ use Rattle.std.proofs.lemmas.Result.{err_from_is_err_and}
 use Rattle.dw_op.specs.Expression.{bare}
 use Rattle.dw_op.specs.Inner.Walk.{block_input}
 use Rattle.dw_op.specs.Inner.Windows.{Walks, Walked}
-use Rattle.dw_op.proofs.Judging.{check_more, check_bad, check_end, check_shorter}
+use Rattle.dw_op.proofs.Judgement.{check_more, check_bad, check_end, check_shorter}
 use Rattle.dw_op.proofs.judged_block.check_branches.Goals as goal
 
 pub returns-in_err-next_op-clause-first : goal.returns-in_err-next_op-clause-first

@@ -1,6 +1,6 @@
 use Rattle.std.proofs.Common.{length}
 use Rattle.dw_op.specs.Inner.Walk.{block_input}
-use Rattle.dw_op.proofs.Judging.{CheckSo}
+use Rattle.dw_op.proofs.Judgement.{CheckSo}
 use Rattle.dw_op.proofs.judged_block.check_branches.Given as goal
 
 abbrev pub invariant-ops : goal.invariant-ops

@@ -2,10 +2,10 @@ use Rattle.std.proofs.Common.{arith, ap}
 use Rattle.std.proofs.lemmas.Result.{err_from_is_err_and}
 use Rattle.dw_op.specs.declared.profile.Profile.TheVariants.{Frame}
 use Rattle.dw_op.specs.Expression.{bare}
-use Rattle.dw_op.specs.Inner.Reading.{bare_step}
+use Rattle.dw_op.specs.Inner.FrontOp.{bare_step}
 use Rattle.dw_op.specs.Inner.Walk.{block_input}
 use Rattle.dw_op.proofs.Decoded.{step_shorter}
-use Rattle.dw_op.proofs.Judging.{read_plain, read_jump, read_end, read_plain_end, read_stuck}
+use Rattle.dw_op.proofs.Judgement.{read_plain, read_jump, read_end, read_plain_end, read_stuck}
 use Rattle.dw_op.proofs.judged_block.has_branch.Goals as goal
 
 pub returns-in_err-next_step-clause-first : goal.returns-in_err-next_step-clause-first

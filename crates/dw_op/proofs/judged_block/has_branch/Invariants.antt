@@ -1,6 +1,6 @@
 use Rattle.std.proofs.Common.{length}
 use Rattle.dw_op.specs.Inner.Walk.{block_input}
-use Rattle.dw_op.proofs.Judging.{ReadSo}
+use Rattle.dw_op.proofs.Judgement.{ReadSo}
 use Rattle.dw_op.proofs.judged_block.has_branch.Given as goal
 
 abbrev pub invariant-ops : goal.invariant-ops

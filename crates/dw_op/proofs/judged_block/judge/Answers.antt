@@ -1,6 +1,6 @@
 use Rattle.std.proofs.lemmas.Result.{err_from_is_err_and}
 use Rattle.dw_op.specs.Inner.Walk.{block_input}
-use Rattle.dw_op.proofs.Judging.{decoded_bad}
+use Rattle.dw_op.proofs.Judgement.{decoded_bad}
 use Rattle.dw_op.proofs.judged_block.judge.Goals as goal
 
 pub returns-in_err-has_branch-clause-first : goal.returns-in_err-has_branch-clause-first

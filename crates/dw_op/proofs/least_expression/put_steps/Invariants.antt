@@ -1,5 +1,5 @@
 use Rattle.std.proofs.Common.{length}
-use Rattle.dw_op.proofs.Putting.{Putting}
+use Rattle.dw_op.proofs.LeastSpellings.{Putting}
 use Rattle.dw_op.proofs.least_expression.put_steps.Given as goal
 
 abbrev pub invariant-ops : goal.invariant-ops

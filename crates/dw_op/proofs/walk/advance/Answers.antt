@@ -1,8 +1,8 @@
 use Rattle.std.proofs.Common.{arith}
-use Rattle.dw_op.specs.Inner.Reading.{bare_step}
+use Rattle.dw_op.specs.Inner.FrontOp.{bare_step}
 use Rattle.dw_op.proofs.Decoded.{step_shorter}
 use Rattle.dw_op.specs.declared.profile.Profile.TheVariants.{Frame}
-use Rattle.dw_op.proofs.Landing.{shifted_more, never_stuck}
+use Rattle.dw_op.proofs.WalkStarts.{shifted_more, never_stuck}
 use Rattle.dw_op.proofs.walk.advance.Goals as goal
 
 pub ops-smaller : goal.ops-smaller

@@ -1,8 +1,8 @@
 use Rattle.std.proofs.Common.{arith}
-use Rattle.dw_op.specs.Inner.Reading.{bare_step}
+use Rattle.dw_op.specs.Inner.FrontOp.{bare_step}
 use Rattle.dw_op.proofs.Decoded.{step_shorter}
 use Rattle.dw_op.specs.declared.profile.Profile.TheVariants.{Frame}
-use Rattle.dw_op.proofs.Landing.{count_more, count_stuck, count_here, count_past}
+use Rattle.dw_op.proofs.WalkStarts.{count_more, count_stuck, count_here, count_past}
 use Rattle.dw_op.proofs.walk.index_from.Goals as goal
 
 pub ops-smaller : goal.ops-smaller

@@ -1,5 +1,5 @@
 use Rattle.std.proofs.Common.{length}
-use Rattle.dw_op.proofs.Landing.{CountSo}
+use Rattle.dw_op.proofs.WalkStarts.{CountSo}
 use Rattle.dw_op.proofs.walk.index_from.Given as goal
 
 abbrev pub invariant-ops : goal.invariant-ops

@@ -2,7 +2,7 @@ use Rattle.std.proofs.Common.{◌≡◌, [], ◌∷◌, refl, sym, ◌∙◌}
 use Rattle.dw_section.specs.declared.listed_fde.FoundFde.{FoundFde}
 use Rattle.dw_section.specs.Headers.{head_in}
 use Rattle.dw_section.specs.Inner.Pieces.{piece_in}
-use Rattle.dw_section.specs.Inner.Standing.{AreJoined, FoundStands}
+use Rattle.dw_section.specs.Inner.StandingFde.{AreJoined, FoundStands}
 use Rattle.dw_section.proofs.StandLaws.{own_of, named_of, fde_never, cie_never, stands_joined, fde_is, cie_is, if_some}
 use Rattle.dw_section.proofs.standing_fde.fde_in.Goals as goal
 

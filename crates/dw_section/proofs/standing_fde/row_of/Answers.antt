@@ -4,7 +4,7 @@ use Rattle.dw_cfa.specs.RuleAt.{last_at}
 use Rattle.dw_section.specs.Inner.Index.{found_cie, found_head}
 use Rattle.dw_section.specs.Inner.Lookup.{rows_of}
 use Rattle.dw_section.specs.Meaning.{RulesAt}
-use Rattle.dw_section.specs.Inner.Standing.{StandsAt}
+use Rattle.dw_section.specs.Inner.StandingFde.{StandsAt}
 use Rattle.dw_section.proofs.Lent.FdeLookup.{same_fde}
 use Rattle.dw_section.proofs.RowLookup.{runs_so}
 use Rattle.dw_section.proofs.StandLaws.{listed_stands, stands_in_space, stands_listed}

@@ -1,8 +1,8 @@
 use Rattle.std.proofs.Common.{refl, ap, ◌∙◌}
 use Rattle.dw_cfa.specs.Rows.{Rules}
 use Rattle.dw_cfa.specs.Inner.Runs.{rows_behind}
-use Rattle.dw_cfa.specs.Stepping.{program_input, stepping}
-use Rattle.dw_cfa.specs.Following.{Following, with_steps}
+use Rattle.dw_cfa.specs.RowSteps.{program_input, stepping}
+use Rattle.dw_cfa.specs.CieMachine.{Following, with_steps}
 use Rattle.dw_cfa.proofs.RunSteps.{started}
 use Rattle.dw_cfa.proofs.cie_machine.CieMachine.start.Goals as goal
 

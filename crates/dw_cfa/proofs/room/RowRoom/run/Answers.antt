@@ -4,7 +4,7 @@ use Rattle.dw_num.specs.Refusals.{Refuses}
 use Rattle.dw_cfa.specs.declared.machine.Machine.{Machine}
 use Rattle.dw_cfa.specs.RuleAt.{last_at}
 use Rattle.dw_cfa.specs.Runs.{Outcome}
-use Rattle.dw_cfa.specs.Stepping.{program_input}
+use Rattle.dw_cfa.specs.RowSteps.{program_input}
 use Rattle.dw_cfa.proofs.RunSteps.{begun_is_run}
 use Rattle.dw_cfa.proofs.room.RowRoom.run.Goals as goal
 

@@ -3,7 +3,7 @@ use Rattle.std.specs.Prelude.{IfErr, OnOk}
 use Rattle.dw_num.specs.Refusals.{Refuses}
 use Rattle.dw_cfa.specs.RuleAt.{last_at}
 use Rattle.dw_cfa.specs.Runs.{Outcome}
-use Rattle.dw_cfa.specs.Stepping.{program_input}
+use Rattle.dw_cfa.specs.RowSteps.{program_input}
 use Rattle.dw_cfa.proofs.Lent.Given.{runs_run}
 use Rattle.dw_cfa.proofs.room.RowRoom.run_to.Goals as goal
 

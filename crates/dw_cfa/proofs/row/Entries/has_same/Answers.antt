@@ -1,5 +1,5 @@
 use Rattle.std.proofs.Common.{sym}
-use Rattle.dw_cfa.proofs.Differing.{slot_at}
+use Rattle.dw_cfa.proofs.Difference.{slot_at}
 use Rattle.dw_cfa.proofs.row.Entries.has_same.Goals as goal
 
 pub returns : goal.returns

@@ -1,7 +1,7 @@
 use Rattle.std.proofs.Common.{◌≡◌, List, false, sym, ap, subst, ◌∙◌}
 use Rattle.std.specs.List.{filter}
 use Rattle.dw_cfa.specs.Inner.Entries.{entries_of}
-use Rattle.dw_cfa.specs.Narrowing.{is_kept}
+use Rattle.dw_cfa.specs.Agreement.{is_kept}
 use Rattle.dw_cfa.specs.Rows.{is_specified}
 use Rattle.dw_cfa.proofs.Lent.Narrowed.{first_dropped}
 use Rattle.dw_cfa.proofs.Lent.RowLists.{Entry}

@@ -1,7 +1,7 @@
 use Rattle.std.proofs.Common.{refl, sym, ap, ◌∙◌}
 use Rattle.dw_cfa.specs.Rows.{is_specified, rule_in}
 use Rattle.dw_cfa.specs.Inner.Entries.{entries_of}
-use Rattle.dw_cfa.specs.Narrowing.{is_kept}
+use Rattle.dw_cfa.specs.Agreement.{is_kept}
 use Rattle.dw_cfa.proofs.Slots.{slots_ascend}
 use Rattle.dw_cfa.proofs.Lent.Narrowed.{leaves_none}
 use Rattle.dw_cfa.proofs.row.Entries.keep_at.Goals as goal

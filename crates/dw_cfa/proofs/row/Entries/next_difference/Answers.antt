@@ -1,8 +1,8 @@
 use Rattle.std.proofs.Common.{ℕ, refl, subst}
 use Rattle.std.specs.Prelude.{bit_or}
 use Rattle.dw_cfa.specs.Inner.Entries.{entries_of}
-use Rattle.dw_cfa.specs.Differing.{SameBetween, place_behind}
-use Rattle.dw_cfa.proofs.Differing.{first_of_all, unused}
+use Rattle.dw_cfa.specs.Difference.{SameBetween, place_behind}
+use Rattle.dw_cfa.proofs.Difference.{first_of_all, unused}
 use Rattle.dw_cfa.proofs.row.Entries.next_difference.Goals as goal
 
 pub returns : goal.returns

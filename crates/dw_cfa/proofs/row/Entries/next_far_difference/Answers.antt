@@ -4,10 +4,10 @@ use Rattle.std.specs.BTreeMap.Range.{range_contains}
 use Rattle.std.specs.declared.ops.Bound.{Bound}
 use Rattle.std.specs.declared.ops.Bound.TheVariants.{Unbounded}
 use Rattle.dw_cfa.specs.Rows.{AreSpecified}
-use Rattle.dw_cfa.specs.Differing.{place_behind}
+use Rattle.dw_cfa.specs.Difference.{place_behind}
 use Rattle.dw_cfa.proofs.Lent.RowLists.{Entry, lower}
 use Rattle.dw_cfa.proofs.Lent.Narrowed.{filter_keeps}
-use Rattle.dw_cfa.proofs.Differing.{FromOn, range_on, first_from}
+use Rattle.dw_cfa.proofs.Difference.{FromOn, range_on, first_from}
 use Rattle.dw_cfa.proofs.row.Entries.next_far_difference.Goals as goal
 
 pub first_difference-requires-clause-rules : goal.first_difference-requires-clause-rules

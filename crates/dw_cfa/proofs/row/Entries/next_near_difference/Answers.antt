@@ -3,8 +3,8 @@ use Rattle.std.specs.Prelude.{◌/◌, ◌^◌, false}
 use Rattle.std.specs.Int.{trailing_zeros, w32}
 use Rattle.dw_cfa.specs.Rows.{rule_in}
 use Rattle.dw_cfa.specs.Inner.Entries.{entries_of}
-use Rattle.dw_cfa.specs.Narrowing.{same_rule}
-use Rattle.dw_cfa.proofs.Differing.{none_left, up_to_next, same_on, one_more, slot_at}
+use Rattle.dw_cfa.specs.Agreement.{same_rule}
+use Rattle.dw_cfa.proofs.Difference.{none_left, up_to_next, same_on, one_more, slot_at}
 use Rattle.dw_cfa.proofs.row.Entries.next_near_difference.Goals as goal
 
 pub returns-then-left-eq0 : goal.returns-then-left-eq0

@@ -1,6 +1,6 @@
 use Rattle.std.proofs.Common.{◌-◌, ◌≤◌}
 use Rattle.dw_cfa.specs.Inner.Entries.{entries_of}
-use Rattle.dw_cfa.specs.Differing.{SameBetween}
+use Rattle.dw_cfa.specs.Difference.{SameBetween}
 use Rattle.dw_cfa.proofs.row.Entries.next_near_difference.Given as goal
 
 abbrev pub invariant-slots : goal.invariant-slots

@@ -1,7 +1,7 @@
 use Rattle.std.proofs.Common.{arith, subst}
 use Rattle.dw_num.specs.Input.{AreBytes}
-use Rattle.dw_cfa.specs.Stepping.{program_input}
-use Rattle.dw_cfa.specs.Walking.{Walking}
+use Rattle.dw_cfa.specs.RowSteps.{program_input}
+use Rattle.dw_cfa.specs.RowWalk.{Walking}
 use Rattle.dw_cfa.proofs.Lent.Given.{steps_run, gives_no_fault}
 use Rattle.dw_cfa.proofs.row_walk.RowWalk.go_on.Goals as goal
 

@@ -1,5 +1,5 @@
 use Rattle.std.proofs.Common.{arith}
-use Rattle.dw_cfa.specs.Stepping.{program_input}
+use Rattle.dw_cfa.specs.RowSteps.{program_input}
 use Rattle.dw_cfa.proofs.Lent.Given.{steps_run, gives_no_fault}
 use Rattle.dw_cfa.proofs.row_walk.RowWalk.go_to.Goals as goal
 

@@ -1,8 +1,8 @@
 use Rattle.std.proofs.Common.{sym, ap, subst, ◌∙◌}
 use Rattle.dw_cfa.specs.declared.machine.Machine.{Machine}
 use Rattle.dw_cfa.specs.Inner.States.{Held}
-use Rattle.dw_cfa.specs.Walking.{Walking}
-use Rattle.dw_cfa.specs.Inner.Walking.{WalksSo, walk_of}
+use Rattle.dw_cfa.specs.RowWalk.{Walking}
+use Rattle.dw_cfa.specs.Inner.RowWalk.{WalksSo, walk_of}
 use Rattle.dw_cfa.proofs.Walks.{kept_walk, kept_walks}
 use Rattle.dw_cfa.proofs.row_walk.RowWalk.keep.Goals as goal
 

@@ -1,5 +1,5 @@
 use Rattle.std.proofs.Common.{ap}
-use Rattle.dw_cfa.specs.Walking.{Walking}
+use Rattle.dw_cfa.specs.RowWalk.{Walking}
 use Rattle.dw_cfa.proofs.Stays.{walk_keeps}
 use Rattle.dw_cfa.proofs.row_walk.RowWalk.keeps.Goals as goal
 

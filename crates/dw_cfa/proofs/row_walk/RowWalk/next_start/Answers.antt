@@ -1,5 +1,5 @@
 use Rattle.std.proofs.Common.{Some, ap, sym}
-use Rattle.dw_cfa.specs.Walking.{Walking}
+use Rattle.dw_cfa.specs.RowWalk.{Walking}
 use Rattle.dw_cfa.proofs.Walks.{walk_some, walk_starts}
 use Rattle.dw_cfa.proofs.row_walk.RowWalk.next_start.Goals as goal
 

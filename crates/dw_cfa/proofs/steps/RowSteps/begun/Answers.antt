@@ -2,7 +2,7 @@ use Rattle.std.proofs.Common.{ap, ◌∙◌}
 use Rattle.dw_cfa.specs.Rows.{Rules}
 use Rattle.dw_cfa.specs.Inner.States.{Held}
 use Rattle.dw_cfa.specs.Inner.Runs.{run_rows}
-use Rattle.dw_cfa.specs.Stepping.{program_input, stepping}
+use Rattle.dw_cfa.specs.RowSteps.{program_input, stepping}
 use Rattle.dw_cfa.proofs.RunSteps.{begun_is_run}
 use Rattle.dw_cfa.proofs.steps.RowSteps.begun.Goals as goal
 

@@ -1,6 +1,6 @@
 use Rattle.std.proofs.Common.{arith}
 use Rattle.dw_cfa.specs.Rows.{blank}
-use Rattle.dw_cfa.specs.Stepping.{program_input}
+use Rattle.dw_cfa.specs.RowSteps.{program_input}
 use Rattle.dw_cfa.proofs.Lent.Given.{steps_run, gives_no_fault}
 use Rattle.dw_cfa.proofs.steps.RowSteps.known.Goals as goal
 

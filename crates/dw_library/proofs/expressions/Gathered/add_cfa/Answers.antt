@@ -1,4 +1,4 @@
-use Rattle.dw_library.proofs.Growing.{no_cfa}
+use Rattle.dw_library.proofs.JoinedBlocks.{no_cfa}
 use Rattle.dw_library.proofs.expressions.Gathered.add_cfa.Goals as goal
 
 pub returns-in_default : goal.returns-in_default

@@ -1,4 +1,4 @@
-use Rattle.dw_library.proofs.Growing.{no_rule}
+use Rattle.dw_library.proofs.JoinedBlocks.{no_rule}
 use Rattle.dw_library.proofs.expressions.Gathered.add_rule.Goals as goal
 
 pub returns-in_default : goal.returns-in_default

@@ -1,7 +1,7 @@
 use Rattle.std.proofs.Common.{subst}
 use Rattle.dw_num.specs.Input.{Input, AreBytes}
 use Rattle.dw_num.specs.Fixed.{Address}
-use Rattle.dw_num.specs.Reading.{address_at}
+use Rattle.dw_num.specs.Front.{address_at}
 use Rattle.dw_num.proofs.Lent.LebLaws.{found_of, only_of}
 use Rattle.dw_num.proofs.Lent.FixedLaws.{address_found, address_only}
 use Rattle.dw_num.proofs.cursor.Cursor.address.Goals as goal

@@ -1,7 +1,7 @@
 use Rattle.std.proofs.Common.{subst}
 use Rattle.dw_num.specs.Input.{Input, AreBytes}
 use Rattle.dw_num.specs.Fixed.{SpellsLength}
-use Rattle.dw_num.specs.Reading.{unit_length_at}
+use Rattle.dw_num.specs.Front.{unit_length_at}
 use Rattle.dw_num.proofs.Lent.FixedLaws.{unit_length_found, unit_length_only}
 use Rattle.dw_num.proofs.Lent.LebLaws.{found_of, only_of}
 use Rattle.dw_num.proofs.cursor.Cursor.unit_length.Goals as goal

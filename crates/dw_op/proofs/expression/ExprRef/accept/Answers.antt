@@ -3,7 +3,7 @@ use Rattle.std.proofs.lemmas.Result.{err_from_is_err_and}
 use Rattle.dw_op.specs.declared.profile.Profile.TheVariants.{Frame}
 use Rattle.dw_op.proofs.Lent.Blocks.{fault_found}
 use Rattle.dw_op.proofs.Lent.FaultPlaces.{fault_within}
-use Rattle.dw_op.proofs.Judging.{accepted_block, block_ops, refused_none}
+use Rattle.dw_op.proofs.Judgement.{accepted_block, block_ops, refused_none}
 use Rattle.dw_op.proofs.expression.ExprRef.accept.Goals as goal
 
 pub returns-in_err-judge-clause-only : goal.returns-in_err-judge-clause-only

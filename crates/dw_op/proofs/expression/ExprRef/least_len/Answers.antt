@@ -1,6 +1,6 @@
 use Rattle.std.proofs.Common.{◌≡◌, ◌<◌, ◌^◌, arith, length}
 use Rattle.dw_op.specs.Inner.Accepted.{ops_of}
-use Rattle.dw_op.proofs.Judging.{accepted_block}
+use Rattle.dw_op.proofs.Judgement.{accepted_block}
 use Rattle.dw_op.proofs.PlainBlocks.{least_small, has_least}
 use Rattle.dw_op.proofs.expression.ExprRef.least_len.Goals as goal
 

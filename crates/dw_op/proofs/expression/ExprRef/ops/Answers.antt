@@ -1,4 +1,4 @@
-use Rattle.dw_op.proofs.Judging.{list_is}
+use Rattle.dw_op.proofs.Judgement.{list_is}
 use Rattle.dw_op.proofs.expression.ExprRef.ops.Goals as goal
 
 pub returns-in-Ok : goal.returns-in-Ok

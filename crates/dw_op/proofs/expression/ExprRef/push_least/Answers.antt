@@ -1,12 +1,12 @@
 use Rattle.std.proofs.Common.{◌≡◌, ◌<◌, ◌^◌, ◌++◌, arith, rules, length, take}
 use Rattle.dw_op.specs.Inner.Accepted.{ops_of}
-use Rattle.dw_op.specs.Encoding.{IsAppended, least_block}
+use Rattle.dw_op.specs.LeastBlock.{IsAppended, least_block}
 use Rattle.dw_op.specs.Least.{LeastBlock}
 use Rattle.dw_op.proofs.Lent.EncodeLaws.{on_ok}
-use Rattle.dw_op.proofs.Judging.{accepted_block}
+use Rattle.dw_op.proofs.Judgement.{accepted_block}
 use Rattle.dw_op.proofs.Lent.LeastBlocks.{block_fits}
 use Rattle.dw_op.proofs.PlainBlocks.{appended_plain, least_small}
-use Rattle.dw_op.proofs.Putting.{small_lengths}
+use Rattle.dw_op.proofs.LeastSpellings.{small_lengths}
 use Rattle.dw_op.proofs.Starts.{lengths_all}
 use Rattle.dw_op.proofs.expression.ExprRef.push_least.Goals as goal
 

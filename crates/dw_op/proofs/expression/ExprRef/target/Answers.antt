@@ -1,4 +1,4 @@
-use Rattle.dw_op.proofs.Judging.{accepted_block}
+use Rattle.dw_op.proofs.Judgement.{accepted_block}
 use Rattle.dw_op.proofs.expression.ExprRef.target.Goals as goal
 
 pub returns-clause-block : goal.returns-clause-block

@@ -1,4 +1,4 @@
-use Rattle.dw_op.proofs.Judging.{accepted_read, steps_none, steps_all}
+use Rattle.dw_op.proofs.Judgement.{accepted_read, steps_none, steps_all}
 use Rattle.dw_op.proofs.expression.OpSteps.new.Goals as goal
 
 pub new-requires : goal.new-requires

@@ -1,7 +1,7 @@
 use Rattle.std.proofs.Common.{Ok, Some, None, Option}
 use Rattle.dw_op.specs.declared.op.Op.{Op}
 use Rattle.dw_op.specs.Inner.Windows.{Walks}
-use Rattle.dw_op.proofs.Judging.{steps_after, steps_answer, left_bad}
+use Rattle.dw_op.proofs.Judgement.{steps_after, steps_answer, left_bad}
 use Rattle.dw_op.proofs.expression.OpSteps.step.Goals.{in-Ok-Some, in-Ok-None, in-Err}
 use Rattle.dw_op.proofs.expression.OpSteps.step.Goals as goal
 

@@ -1,4 +1,4 @@
-use Rattle.dw_op.proofs.Judging.{accepted_read}
+use Rattle.dw_op.proofs.Judgement.{accepted_read}
 use Rattle.dw_op.proofs.layout.Lengths.new.Goals as goal
 
 pub invariant_of-result : goal.invariant_of-result

@@ -2,9 +2,9 @@ use Rattle.std.proofs.Common.{refl, arith}
 use Rattle.dw_num.specs.Input.{Input}
 use Rattle.dw_op.specs.declared.profile.Profile.TheVariants.{Frame}
 use Rattle.dw_op.specs.declared.operation.Step.{Step}
-use Rattle.dw_op.specs.Inner.Reading.{bare_step}
+use Rattle.dw_op.specs.Inner.FrontOp.{bare_step}
 use Rattle.dw_op.proofs.Decoded.{within_all, within_more}
-use Rattle.dw_op.proofs.Landing.{never_stuck, read_on}
+use Rattle.dw_op.proofs.WalkStarts.{never_stuck, read_on}
 use Rattle.dw_op.proofs.Lent.ReadingLaws.{step_found}
 use Rattle.dw_op.proofs.Starts.{later_none, later_one, lengths_end, lengths_more}
 use Rattle.dw_op.proofs.layout.Lengths.step.Goals as goal

@@ -1,12 +1,12 @@
 use Rattle.std.proofs.Common.{ℕ, ◌+◌, arith, refl, ◌≡◌, Option, Some, None, ap}
 use Rattle.dw_op.specs.declared.profile.Profile.TheVariants.{Frame}
 use Rattle.dw_op.specs.Expression.{bare}
-use Rattle.dw_op.specs.Inner.Reading.{bare_step}
+use Rattle.dw_op.specs.Inner.FrontOp.{bare_step}
 use Rattle.dw_op.specs.declared.operation.Step.{Step}
 use Rattle.dw_op.specs.declared.walk.Walker.{Walker}
 use Rattle.dw_op.specs.Inner.Walk.{index_in, op_of, find_at, goes_to}
 use Rattle.dw_op.specs.Inner.Windows.{block_of, SoughtSo}
-use Rattle.dw_op.proofs.Landing.{never_stuck}
+use Rattle.dw_op.proofs.WalkStarts.{never_stuck}
 use Rattle.dw_op.proofs.Walkers.{to_seek, walked_plain, walked_branch, walked_nowhere}
 use Rattle.dw_op.proofs.walk.Walker.next_op.Goals as goal
 

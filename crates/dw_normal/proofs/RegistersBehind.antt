@@ -5,12 +5,12 @@ use Rattle.std.specs.List.{flat_map}
 use Rattle.std.proofs.lemmas.Bool.{cases_lt, lt-ltb, le-ltb, eq-eqb, ne_eqb}
 use Rattle.dw_cfa.specs.declared.rule.RegRule.{RegRule}
 use Rattle.dw_cfa.specs.Rows.{Rules, AreSpecified, rule}
-use Rattle.dw_cfa.specs.Narrowing.{same_rule}
-use Rattle.dw_cfa.specs.Differing.{FirstDifference, DiffersFirst}
+use Rattle.dw_cfa.specs.Agreement.{same_rule}
+use Rattle.dw_cfa.specs.Difference.{FirstDifference, DiffersFirst}
 use Rattle.dw_cfa.proofs.Lent.Skipped.{rule_self}
 use Rattle.dw_canon.specs.Difference.{rule_to, rule_difference, with_register, with_registers, registers_of, either}
 use Rattle.dw_canon.proofs.Lent.Differences.{In, either_or}
-use Rattle.dw_normal.specs.Inner.Walking.{from_on, rules_from}
+use Rattle.dw_normal.specs.Inner.RegisterWalk.{from_on, rules_from}
 
 -- ---- ascending registers
 

@@ -9,7 +9,7 @@ use Rattle.dw_num.proofs.Lent.LebLaws.{done}
 use Rattle.dw_op.specs.declared.profile.Profile.TheVariants.{Frame}
 use Rattle.dw_op.specs.declared.operation.Step.{Step}
 use Rattle.dw_op.specs.Block.{joined}
-use Rattle.dw_op.specs.Inner.Reading.{step_at}
+use Rattle.dw_op.specs.Inner.FrontOp.{step_at}
 use Rattle.dw_op.specs.Inner.Walk.{Item, Walk, walk, end_of, plus, passed, one}
 use Rattle.dw_op.specs.Inner.Windows.{Shifted}
 use Rattle.dw_op.proofs.Lent.ReadingLaws.{step_found}

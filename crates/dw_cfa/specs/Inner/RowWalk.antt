@@ -9,11 +9,11 @@ use Rattle.dw_cfa.specs.declared.steps.Progress.TheVariants as progress
 use Rattle.dw_cfa.specs.declared.row_walk.Leading.{Leading}
 use Rattle.dw_cfa.specs.Rows.{Rules, blank, is_specified, rule}
 use Rattle.dw_cfa.specs.Runs.{Outcome}
-use Rattle.dw_cfa.specs.Stepping.{Stepping, program_input, stepping}
+use Rattle.dw_cfa.specs.RowSteps.{Stepping, program_input, stepping}
 use Rattle.dw_cfa.specs.Inner.Runs.{RunsSo, initial_row, placed, rows_left, run_rows}
 use Rattle.dw_cfa.specs.Inner.States.{BeganWith}
-use Rattle.dw_cfa.specs.Inner.Stepping.{left_of}
-use Rattle.dw_cfa.specs.Walking.{Led}
+use Rattle.dw_cfa.specs.Inner.RowSteps.{left_of}
+use Rattle.dw_cfa.specs.RowWalk.{Led}
 
 abbrev pub led_of : Leading → Led
 led_of l = record { program = program_input l.program l.target; factors = l.factors }

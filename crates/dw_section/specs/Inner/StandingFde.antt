@@ -9,7 +9,7 @@ use Rattle.dw_section.specs.declared.standing_fde.LookUpError.{LookUpError}
 use Rattle.dw_section.specs.declared.standing_fde.LookUpError.TheVariants.{Refused, OutOfMemory}
 use Rattle.dw_section.specs.Headers.{CieHead, FdeHead, Head, cie, fde}
 use Rattle.dw_section.specs.Inner.Index.{found_cie, found_head}
-use Rattle.dw_section.specs.Standing.{FdeStands}
+use Rattle.dw_section.specs.StandingFde.{FdeStands}
 
 -- some FDE stands at a place
 abbrev pub StandsAt : Target → List ℕ → ℕ → Type 0

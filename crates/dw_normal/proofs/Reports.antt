@@ -28,8 +28,8 @@ use Rattle.dw_normal.specs.declared.error.WriteError.{WriteError}
 use Rattle.dw_normal.specs.declared.error.WriteError.TheVariants as write_error
 use Rattle.dw_section.specs.Table.{Section}
 use Rattle.std.specs.Prelude.{IfOk, IfErr}
-use Rattle.dw_normal.specs.Inner.Grouping.{initial_rows}
-use Rattle.dw_normal.specs.Inner.Measuring.{Measures}
+use Rattle.dw_normal.specs.Inner.Groups.{initial_rows}
+use Rattle.dw_normal.specs.Inner.Lengths.{Measures}
 
 -- ---- the members of a section
 

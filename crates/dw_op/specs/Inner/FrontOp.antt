@@ -5,7 +5,7 @@ use Rattle.dw_num.specs.declared.target.Order.{Order}
 use Rattle.dw_num.specs.Target.{address_limit, byte_count}
 use Rattle.dw_num.specs.Input.{Input}
 use Rattle.dw_num.specs.Fixed.{fixed_number}
-use Rattle.dw_num.specs.Reading.{Read, fault, fixed_at, take_at, uleb_at, sleb_at, address_at, ◌>>=◌, register_at}
+use Rattle.dw_num.specs.Front.{Read, fault, fixed_at, take_at, uleb_at, sleb_at, address_at, ◌>>=◌, register_at}
 use Rattle.dw_op.specs.declared.op.Op.{Op}
 use Rattle.dw_op.specs.declared.op.Op.TheVariants.{Addr, Deref, Const, Dup, Drop, Over, Pick, Swap, Rot, Abs, And, Div, Minus, Mod, Mul, Neg, Not, Or, Plus, PlusUconst, Shl, Shr, Shra, Xor, Eq, Ge, Gt, Le, Lt, Ne, Reg, Breg, Fbreg, Piece, DerefSize, Nop, PushObjectAddress, CallFrameCfa, BitPiece, StackValue}
 use Rattle.dw_op.specs.declared.profile.Profile.{Profile}

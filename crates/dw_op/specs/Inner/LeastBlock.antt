@@ -5,7 +5,7 @@ use Rattle.dw_num.specs.declared.target.Target.{Target}
 use Rattle.dw_op.specs.declared.op.Op.{Op}
 use Rattle.dw_op.specs.Block.{branch_target, start, displacement}
 use Rattle.dw_op.specs.LeastOf.{least_bytes}
-use Rattle.dw_op.specs.Encoding.{bits_of}
+use Rattle.dw_op.specs.LeastBlock.{bits_of}
 
 -- the sum of the least lengths
 abbrev pub least_len : Target → List Op → ℕ

@@ -17,7 +17,7 @@ use Rattle.dw_op.specs.Faults.{IsPart, IsBranch, Leads}
 use Rattle.dw_op.proofs.Lent.ReadingLaws.{some_is}
 use Rattle.dw_op.proofs.Splits.{spelled}
 use Rattle.dw_op.proofs.Lent.Spellings.{by_table, in_table}
-use Rattle.dw_op.proofs.Standing.{one_step, any_code}
+use Rattle.dw_op.proofs.ResolvedSteps.{one_step, any_code}
 
 -- some operation stands at part k
 abbrev pub Stood : Target → List (List ℕ) → ℕ → List ℕ → Type 0

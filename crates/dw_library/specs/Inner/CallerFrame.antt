@@ -1,4 +1,4 @@
--- What the code and its proofs say beside Unwinding.
+-- What the code and its proofs say beside CallerFrame.
 use Rattle.std.specs.Prelude.{◌≡◌, ◌⊎◌, ℕ, List, Err}
 use Rattle.dw_num.specs.declared.target.Target.{Target}
 use Rattle.dw_section.specs.Accepted.{CheckFault}
@@ -9,7 +9,7 @@ use Rattle.dw_library.specs.declared.caller.Held.{Held}
 use Rattle.dw_library.specs.declared.caller.NoFrame.{NoFrame}
 use Rattle.dw_library.specs.declared.caller.NoFrame.TheVariants.{Section, Frame as NoFrameOf}
 use Rattle.dw_num.specs.Refusals.{Refuses}
-use Rattle.dw_library.specs.Unwinding.{Machine, IsFrame}
+use Rattle.dw_library.specs.CallerFrame.{Machine, IsFrame}
 
 abbrev pub held_in : Held → Machine
 held_in h = record { registers = h.registers.now; windows = h.windows.now; memory = h.memory.now }

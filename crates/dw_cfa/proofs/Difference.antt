@@ -16,10 +16,10 @@ use Rattle.dw_cfa.specs.declared.row.Slot.{Slot}
 use Rattle.dw_cfa.specs.declared.row.Kind.{Kind}
 use Rattle.dw_cfa.specs.declared.row.Kind.TheVariants as kinds
 use Rattle.dw_cfa.specs.Rows.{is_specified, AreSpecified, rule_in}
-use Rattle.dw_cfa.specs.Narrowing.{same_rule}
+use Rattle.dw_cfa.specs.Agreement.{same_rule}
 use Rattle.dw_cfa.specs.Inner.Entries.{entries_of, slot_rule, kind_rule, EntriesSo}
-use Rattle.dw_cfa.specs.Differing.{SameBetween, DiffersFirst, FirstDifference, place_behind}
-use Rattle.dw_cfa.specs.Inner.Differing.{SameUnset, start_behind}
+use Rattle.dw_cfa.specs.Difference.{SameBetween, DiffersFirst, FirstDifference, place_behind}
+use Rattle.dw_cfa.specs.Inner.Difference.{SameUnset, start_behind}
 use Rattle.dw_cfa.proofs.Lent.RowLists.{Entry, lower, unlisted}
 use Rattle.dw_cfa.proofs.Slots.{no_slot, near_rule, far_rule, shifted, bit_inside}
 use Rattle.dw_cfa.proofs.WideRows.{less_at, equal_at, greater_at}

@@ -1,7 +1,7 @@
--- The first register whose rule differs between two rows. Rules are compared by the test of `Narrowing`.
+-- The first register whose rule differs between two rows. Rules are compared by the test of `Agreement`.
 use Rattle.std.specs.Prelude.{◌≡◌, ℕ, suc, ◌<◌, ◌≤◌, List, Option, Some, None, false}
 use Rattle.dw_cfa.specs.declared.rule.RegRule.{RegRule}
-use Rattle.dw_cfa.specs.Narrowing.{same_rule}
+use Rattle.dw_cfa.specs.Agreement.{same_rule}
 use Rattle.dw_cfa.specs.Rows.{rule_in}
 
 -- registers from one place on, below another one, have the same rules

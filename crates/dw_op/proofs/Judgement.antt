@@ -11,7 +11,7 @@ use Rattle.dw_op.specs.declared.operation.Step.TheVariants.{Plain}
 use Rattle.dw_op.specs.declared.walk.Walker.{Walker}
 use Rattle.dw_op.specs.Block.{FrameBlock}
 use Rattle.dw_op.specs.Expression.{Expression, bare}
-use Rattle.dw_op.specs.Inner.Reading.{step_at}
+use Rattle.dw_op.specs.Inner.FrontOp.{step_at}
 use Rattle.dw_op.specs.Inner.Walk.{Walk, walk, index_in, op_of, put_first, resolve, unless, block_input, decode_at}
 use Rattle.dw_op.specs.Inner.Windows.{block_of, WalkSo, Walked, WalkedBad, Walks}
 use Rattle.dw_op.specs.Inner.Accepted.{IsAccepted, ok_ops, ops_of, left_of, StepsSo}

@@ -3,7 +3,7 @@ use Rattle.std.specs.Prelude.{ℕ, List, Result, Ok}
 use Rattle.dw_num.specs.declared.refusal.Refusal.{Refusal}
 use Rattle.dw_num.specs.declared.target.Target.{Target}
 use Rattle.dw_num.specs.Input.{Input}
-use Rattle.dw_num.specs.Reading.{take_at, ◌>>=◌}
+use Rattle.dw_num.specs.Front.{take_at, ◌>>=◌}
 use Rattle.dw_num.specs.Span.{Span}
 use Rattle.dw_section.specs.declared.fields.CieFields.{CieFields}
 use Rattle.dw_section.specs.declared.fields.FdeFields.{FdeFields}

@@ -2,7 +2,7 @@
 use Rattle.dw_num.specs.declared.target.Target.{Target}
 use Rattle.dw_cfa.specs.declared.instr.Factors.{Factors}
 use Rattle.dw_cfa.specs.Rows.{Rules}
-use Rattle.dw_cfa.specs.Stepping.{Stepping}
+use Rattle.dw_cfa.specs.RowSteps.{Stepping}
 
 -- the initial row, what instructions are read with, and the rows of the FDE that is run
 pub record Following : Type 0 where

@@ -1,4 +1,4 @@
--- What the code and its proofs say beside Failing.
+-- What the code and its proofs say beside Failure.
 use Rattle.dw_normal.specs.declared.error.WriteError.{WriteError}
 use Rattle.dw_normal.specs.declared.error.WriteError.TheVariants as write_error
 use Rattle.dw_command.specs.declared.failure.Failure.{Failure}

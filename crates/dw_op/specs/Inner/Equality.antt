@@ -4,7 +4,7 @@ use Rattle.std.specs.List.{flat_map}
 use Rattle.std.specs.Hash as fed
 use Rattle.dw_op.specs.declared.equality.Line.{Line}
 use Rattle.dw_op.specs.Expression.{Expression}
-use Rattle.dw_op.specs.Comparing.{line, expression_lines}
+use Rattle.dw_op.specs.Equality.{line, expression_lines}
 
 -- what a line feeds a hasher
 abbrev pub line_fed : List ℕ → List (List ℕ)

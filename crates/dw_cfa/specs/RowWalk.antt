@@ -5,9 +5,9 @@ use Rattle.dw_num.specs.declared.target.Target.{Target}
 use Rattle.dw_num.specs.Input.{Input}
 use Rattle.dw_cfa.specs.declared.execution.LocatedRow.{LocatedRow}
 use Rattle.dw_cfa.specs.declared.instr.Factors.{Factors}
-use Rattle.dw_cfa.specs.Narrowing.{kept}
+use Rattle.dw_cfa.specs.Agreement.{kept}
 use Rattle.dw_cfa.specs.Rows.{Rules}
-use Rattle.dw_cfa.specs.Stepping.{Stepping}
+use Rattle.dw_cfa.specs.RowSteps.{Stepping}
 
 -- the program of a CIE, where it stands, and the CIE's factors
 pub record Led : Type 0 where

@@ -8,7 +8,7 @@ use Rattle.dw_cfa.specs.declared.execution.LocatedRow.{LocatedRow}
 use Rattle.dw_cfa.specs.declared.steps.Progress.{Progress}
 use Rattle.dw_cfa.specs.declared.steps.Progress.TheVariants as progress
 use Rattle.dw_cfa.specs.Runs.{Outcome, finished}
-use Rattle.dw_cfa.specs.Stepping.{Stepping, stepping}
+use Rattle.dw_cfa.specs.RowSteps.{Stepping, stepping}
 use Rattle.dw_cfa.specs.Inner.Machine.{begun}
 use Rattle.dw_cfa.specs.Inner.Runs.{placed, initial_row, on_initial, fde_rows, rows_left, RunsSo}
 

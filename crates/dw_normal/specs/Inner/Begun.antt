@@ -8,7 +8,7 @@ use Rattle.dw_canon.specs.Canon.{initial_of}
 use Rattle.dw_canon.specs.Difference.{difference}
 use Rattle.dw_canon.specs.Inner.Fits.{InstrFits}
 use Rattle.dw_canon.specs.Members.{Member, fde_of}
-use Rattle.dw_normal.specs.Inner.Passing.{AreToCome, Stand, shown_row}
+use Rattle.dw_normal.specs.Inner.ChangeWalk.{AreToCome, Stand, shown_row}
 use Rattle.dw_normal.specs.declared.begun.Begun.{Begun}
 
 -- its row at its begin and its later changes can be spelled behind the initial row

@@ -19,7 +19,7 @@ use Rattle.dw_section.specs.Sound.{CfaFits, RuleFits, RowFits}
 use Rattle.dw_canon.specs.Fits.{RestsOn, ChangesStand, MemberStands}
 use Rattle.dw_canon.specs.Inner.Fits.{InstrFits}
 use Rattle.dw_canon.specs.Members.{Member}
-use Rattle.dw_cfa.specs.Narrowing.{same_cfa, same_rule}
+use Rattle.dw_cfa.specs.Agreement.{same_cfa, same_rule}
 use Rattle.dw_canon.proofs.Tested.{rule_fits}
 use Rattle.dw_canon.proofs.Lent.Programs.{below_end}
 

@@ -5,7 +5,7 @@ use Rattle.dw_num.specs.declared.refusal.Code.TheVariants.{UnknownInstruction, O
 use Rattle.dw_num.specs.declared.refusal.Refusal.{Refusal}
 use Rattle.dw_num.specs.declared.target.Target.{Target}
 use Rattle.dw_num.specs.Input.{Input}
-use Rattle.dw_num.specs.Reading.{Read, fault, fixed_at, take_at, register_at, uleb_at, sleb_at, address_at, ◌>>=◌}
+use Rattle.dw_num.specs.Front.{Read, fault, fixed_at, take_at, register_at, uleb_at, sleb_at, address_at, ◌>>=◌}
 use Rattle.dw_op.specs.declared.op.Op.{Op}
 use Rattle.dw_op.specs.declared.profile.Profile.TheVariants.{Frame}
 use Rattle.dw_op.specs.Expression.{Expression}
