@@ -4,6 +4,8 @@ ghost use Rattle.std.specs.Prelude.{◌≡◌, ℕ, ◌<◌, ◌≤◌, ◌-◌,
 ghost use Rattle.dw_eval.specs.Bytes.{number_at};
 
 use dw_num::Order;
+use std::error::Error;
+use std::fmt;
 
 /// Why a read has no answer.
 #[derive(Clone, Copy, Debug, PartialEq, Eq)]
@@ -13,6 +15,17 @@ pub enum ReadFault {
     /// The device failed.
     Device,
 }
+
+impl fmt::Display for ReadFault {
+    fn fmt<W: fmt::Write>(&self, f: &mut fmt::Formatter<W>) -> fmt::Result {
+        match self {
+            ReadFault::Unreadable => write!(f, "a byte is missing"),
+            ReadFault::Device => write!(f, "the device failed"),
+        }
+    }
+}
+
+impl Error for ReadFault {}
 
 /// Bytes by their addresses, and a count of how often the device failed. A read changes no byte.
 pub trait Memory {

@@ -33,6 +33,8 @@ use crate::listed_fde::FoundFde;
 use crate::lookup::Fde;
 use dw_cfa::{Factors, RowRoom};
 use dw_num::{Code, Cursor, ReadError, Refusal, Target, are_bytes};
+use std::error::Error;
+use std::fmt;
 use std::marker::Model;
 
 // The entry that stands at a place, or none, or what is wrong there.
@@ -211,6 +213,18 @@ pub enum LookUpError {
     /// A request for memory was refused.
     OutOfMemory,
 }
+
+impl fmt::Display for LookUpError {
+    fn fmt<W: fmt::Write>(&self, f: &mut fmt::Formatter<W>) -> fmt::Result {
+        match self {
+            LookUpError::BadIndex => write!(f, "the index is not the one of these bytes"),
+            LookUpError::Refused(refusal) => write!(f, "{refusal}"),
+            LookUpError::OutOfMemory => write!(f, "out of memory"),
+        }
+    }
+}
+
+impl Error for LookUpError {}
 
 impl From<Refusal> for LookUpError {
     ghost from_gives = { λ r e. e ≡ LookUpError.Refused r };
