@@ -35,11 +35,15 @@ fn next_change(
     Ok(text)
 }
 
-// The changes of an FDE.
-fn fde_text(alloc: Global, mut given: Changes<'_>, mut lent: Changes<'_>) -> Result<String, Fail> {
+// The changes still to come, on which both calls agree.
+fn all_changes(
+    alloc: Global,
+    given: &mut Changes<'_>,
+    lent: &mut Changes<'_>,
+) -> Result<String, Fail> {
     let mut text = String::new(alloc);
     for _ in 0..100 {
-        let change = next_change(alloc, &mut given, &mut lent)?;
+        let change = next_change(alloc, given, lent)?;
         if change.is_empty() {
             return Ok(text);
         }
@@ -48,12 +52,15 @@ fn fde_text(alloc: Global, mut given: Changes<'_>, mut lent: Changes<'_>) -> Res
     Err(Fail::new("no last change"))
 }
 
-/// Whether the changes behind it keep what the first one specifies, and what the second one does.
-pub fn keeps_first_two(mut changes: Changes<'_>) -> Result<(bool, bool), Fail> {
-    let (_, first) = changes.next()?.ok_or("the first change")?;
-    let keeps_first = changes.keeps(&first);
-    let (_, second) = changes.next()?.ok_or("the second change")?;
-    Ok((keeps_first, changes.keeps(&second)))
+// The changes of an FDE. The loop has a function of its own, since one that owns what it walks over proves slowly.
+fn fde_text(alloc: Global, table: &Table<'_>, fde: FdeRef) -> Result<String, Fail> {
+    all_changes(alloc, &mut table.changes(fde), &mut table.changes(fde))
+}
+
+/// Whether the changes behind the next one keep what it specifies.
+pub fn keeps_next(changes: &mut Changes<'_>) -> Result<bool, Fail> {
+    let (_, row) = changes.next()?.ok_or("a change")?;
+    Ok(changes.keeps(&row))
 }
 
 /// The address of the next change, and the first three registers to which it gives another rule than the change before.
@@ -69,9 +76,7 @@ pub fn differing(alloc: Global, changes: &mut Changes<'_>) -> Result<String, Fai
 pub fn changes_text(alloc: Global, table: &Table<'_>) -> Result<String, Fail> {
     let mut text = String::new(alloc);
     for place in 0..table.fde_count() {
-        let fde = FdeRef { place };
-        let all = fde_text(alloc, table.changes(fde), table.changes(fde))?;
-        text.push_str(&all)?;
+        text.push_str(&fde_text(alloc, table, FdeRef { place })?)?;
     }
     Ok(text)
 }

@@ -349,15 +349,18 @@ fn ended(alloc: Global, steps: &mut RowSteps<'_>) -> Result<String, Fail> {
     Ok(format!(in alloc; "{row} to {:?}", steps.next_start())?)
 }
 
+// Fails where one of the rows ends elsewhere.
+fn agree_ends(alloc: Global, steps: &mut RowSteps<'_>) -> Result<(), Fail> {
+    for wanted in ENDS {
+        compare("a row", ended(alloc, steps)?.as_str(), wanted)?;
+    }
+    Ok(())
+}
+
 #[test]
 fn tells_where_a_row_ends(rt: HostRuntime) -> Result<(), Fail> {
     let pair = pair_of(CIE, b"\x0a\x0e\x10\x44\x0b\x44", 0x1000, PLAIN, LITTLE)?;
-    let mut steps = steps_of(rt.alloc(), pair);
-    for wanted in ENDS {
-        let text = ended(rt.alloc(), &mut steps)?;
-        compare("a row", text.as_str(), wanted)?;
-    }
-    Ok(())
+    agree_ends(rt.alloc(), &mut steps_of(rt.alloc(), pair))
 }
 
 // ---- one CIE and several FDEs
@@ -386,13 +389,19 @@ pub fn begin<'a>(machine: &mut CieMachine<'a>, fde: &'a [u8]) -> Result<(), Fail
     Ok(())
 }
 
+// Begins the FDEs one after another, and fails where the rows of one are others.
+fn agree_following(alloc: Global, machine: &mut CieMachine<'_>) -> Result<(), Fail> {
+    for (fde, wanted) in FOLLOWING {
+        begin(machine, fde)?;
+        compare("an FDE", begun(alloc, machine)?.as_str(), wanted)?;
+    }
+    Ok(())
+}
+
 #[test]
 fn starts_fdes_from_one_row(rt: HostRuntime) -> Result<(), Fail> {
     let mut machine = machine_of(rt.alloc(), CIE)?;
-    for (fde, wanted) in FOLLOWING {
-        begin(&mut machine, fde)?;
-        compare("an FDE", begun(rt.alloc(), &mut machine)?.as_str(), wanted)?;
-    }
+    agree_following(rt.alloc(), &mut machine)?;
     let initial = row_text(rt.alloc(), machine.initial())?;
     compare("the initial row", initial.as_str(), "cfa=r7+8 r16=[cfa-8]")
 }

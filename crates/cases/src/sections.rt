@@ -1,7 +1,7 @@
 //! The sections of the cases, and calls on them: entries, headers, the first fault of a section by its fields and as a
 //! whole, its FDEs, and the changes of their rules.
 
-use crate::changes::{changes_text, differing, keeps_first_two};
+use crate::changes::{changes_text, differing, keeps_next};
 use crate::lines::{compare, number, parts, sides};
 use crate::targets::{BIG, LITTLE};
 use crate::texts::refusal_text;
@@ -374,8 +374,9 @@ fn keeps_what_the_cie_specifies(rt: HostRuntime) -> Result<(), Fail> {
     let Some(fde) = table.fde_at(0x1000) else {
         return Err(Fail::new("no FDE"));
     };
-    let (first, second) = keeps_first_two(table.changes(fde))?;
-    assert!(rt; first && !second);
+    let mut changes = table.changes(fde);
+    assert!(rt; keeps_next(&mut changes)?);
+    assert!(rt; !keeps_next(&mut changes)?);
     Ok(())
 }
 

@@ -4,8 +4,8 @@ use crate::lines::{compare, number, parts};
 use crate::sections::{section_of, table_of};
 use crate::targets::LITTLE;
 use crate::texts::row_text;
-use dw_cfa::RowRoom;
-use dw_section::{Lookups, Ranged, Table, look_up};
+use dw_cfa::{Row, RowRoom};
+use dw_section::{Fde, Lookups, Ranged, Table, look_up};
 use std::alloc::Global;
 use std::test::Fail;
 
@@ -85,30 +85,37 @@ const LOOK_UPS: &str = "\
 fff: none
 401003: cfa=r7+16 r6=[cfa-16] r16=[cfa-8]";
 
-#[test]
-fn looks_addresses_up(rt: HostRuntime) -> Result<(), Fail> {
-    let alloc = rt.alloc();
-    let bytes = section_of(alloc, "two")?;
-    let table = table_of(alloc, &bytes, LITTLE)?;
-    let mut lookups = table.lookups();
+// Fails where one of the look-ups, one after another, finds what its line does not say.
+fn agree_in_turn(alloc: Global, lookups: &mut Lookups<'_, '_>) -> Result<(), Fail> {
     for line in LOOK_UPS.lines() {
         let (address, wanted) = parts(line)?;
-        let text = looked_up(alloc, &mut lookups, number(address)?)?;
+        let text = looked_up(alloc, lookups, number(address)?)?;
         compare(line, text.as_str(), wanted)?;
     }
     Ok(())
 }
 
+#[test]
+fn looks_addresses_up(rt: HostRuntime) -> Result<(), Fail> {
+    let alloc = rt.alloc();
+    let bytes = section_of(alloc, "two")?;
+    let table = table_of(alloc, &bytes, LITTLE)?;
+    agree_in_turn(alloc, &mut table.lookups())
+}
+
 // ---- look-ups in bytes, by an index
 
-// What a look-up finds by an index: the FDE, and the row.
+// The FDE and the row that a look-up found.
+fn found_text(alloc: Global, fde: Fde, row: &Row<'_>) -> Result<String, Fail> {
+    let (begin, row) = (fde.begin, row_text(alloc, row)?);
+    Ok(format!(in alloc; "{begin:#x} {row}")?)
+}
+
+// What a look-up finds by an index.
 fn by_index(alloc: Global, bytes: &[u8], index: &[Ranged], address: u64) -> Result<String, Fail> {
     let mut room = RowRoom::new(alloc);
     match look_up(bytes, LITTLE, index, address, &mut room) {
-        Ok(Some(fde)) => {
-            let (begin, row) = (fde.fde().begin, row_text(alloc, room.row())?);
-            Ok(format!(in alloc; "{begin:#x} {row}")?)
-        }
+        Ok(Some(fde)) => found_text(alloc, fde.fde(), room.row()),
         Ok(None) => Ok(String::from_str(alloc, "none")?),
         Err(error) => Ok(format!(in alloc; "{error:?}")?),
     }
