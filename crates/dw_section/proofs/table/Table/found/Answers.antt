@@ -49,5 +49,5 @@ returns-clause-led c =
     let place = listed_place t.target t.bytes.now t.index.items c.args.fde.place c.self.invariant.0 (rw (sym c.self.view_is) at c.requires) in
     let here = here_of t.target t.bytes.now t.index.items t.counts t.places.items t.initials.items c.self.invariant.0 c.self.invariant.1 c.deref.result.now c.deref-2.result.now c.deref.ensures.value c.deref-2.ensures.value c.args.fde.place e place c.index.ensures in
     let led : LedBy (record { target = t.target; bytes = t.bytes.now }) c.found_fde.result.cie_at (led_to t.target c.found_fde.result) =
-      record { headers = w.headers; hold = w.hold; names = c.found_fde.ensures.names w.headers here.0 here.1 here.2; target_is = refl } in
+    record { headers = w.headers; hold = w.hold; names = c.found_fde.ensures.names w.headers here.0 here.1 here.2; target_is = refl } in
     subst (λ (s : Section). LedBy s c.found_fde.result.cie_at (led_to s.target c.found_fde.result)) c.self.view_is led
