@@ -9,7 +9,7 @@ ghost use Rattle.dw_cfa.specs.Inner.Marks.{CopiedUpTo, SameUnlisted, SameUnmarke
 
 use crate::behind::{place_behind, start_behind};
 use crate::marks::Marks;
-use crate::row::{NEAR, Row};
+use crate::row::Row;
 use crate::rule::{CfaRule, RegRule};
 use std::alloc::{AllocError, Global};
 use std::collections::BTreeMap;
