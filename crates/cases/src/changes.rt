@@ -57,10 +57,16 @@ fn fde_text(alloc: Global, table: &Table<'_>, fde: FdeRef) -> Result<String, Fai
     all_changes(alloc, &mut table.changes(fde), &mut table.changes(fde))
 }
 
-/// Whether the changes behind the next one keep what it specifies.
-pub fn keeps_next(changes: &mut Changes<'_>) -> Result<bool, Fail> {
+// Whether the changes behind the next one keep what it specifies.
+fn keeps_next(changes: &mut Changes<'_>) -> Result<bool, Fail> {
     let (_, row) = changes.next()?.ok_or("a change")?;
     Ok(changes.keeps(&row))
+}
+
+/// Whether the changes behind it keep what the first one specifies, and what the second one does.
+pub fn keeps_first_two(changes: &mut Changes<'_>) -> Result<(bool, bool), Fail> {
+    let first = keeps_next(changes)?;
+    Ok((first, keeps_next(changes)?))
 }
 
 /// The address of the next change, and the first three registers to which it gives another rule than the change before.

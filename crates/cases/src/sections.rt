@@ -1,7 +1,7 @@
 //! The sections of the cases, and calls on them: entries, headers, the first fault of a section by its fields and as a
 //! whole, its FDEs, and the changes of their rules.
 
-use crate::changes::{changes_text, differing, keeps_next};
+use crate::changes::{changes_text, differing, keeps_first_two};
 use crate::lines::{compare, number, parts, sides};
 use crate::targets::{BIG, LITTLE};
 use crate::texts::refusal_text;
@@ -374,9 +374,8 @@ fn keeps_what_the_cie_specifies(rt: HostRuntime) -> Result<(), Fail> {
     let Some(fde) = table.fde_at(0x1000) else {
         return Err(Fail::new("no FDE"));
     };
-    let mut changes = table.changes(fde);
-    assert!(rt; keeps_next(&mut changes)?);
-    assert!(rt; !keeps_next(&mut changes)?);
+    let (first, second) = keeps_first_two(&mut table.changes(fde))?;
+    assert!(rt; first && !second);
     Ok(())
 }
 
@@ -390,6 +389,13 @@ fn differs(alloc: Global, changes: &mut Changes<'_>, wanted: &str) -> Result<(),
 }
 
 // r6, and r40, which has no slot, are saved at the second row alone, and restored with the state; then the CFA moves.
+fn all_differ(alloc: Global, changes: &mut Changes<'_>) -> Result<(), Fail> {
+    differs(alloc, changes, "0x1000 None None None")?;
+    differs(alloc, changes, "0x1001 Some(6) Some(40) None")?;
+    differs(alloc, changes, "0x1003 Some(6) Some(40) None")?;
+    differs(alloc, changes, "0x1007 None None None")
+}
+
 #[test]
 fn tells_registers_that_differ(rt: HostRuntime) -> Result<(), Fail> {
     let alloc = rt.alloc();
@@ -398,9 +404,5 @@ fn tells_registers_that_differ(rt: HostRuntime) -> Result<(), Fail> {
     let Some(fde) = table.fde_at(0x1000) else {
         return Err(Fail::new("no FDE"));
     };
-    let mut changes = table.changes(fde);
-    differs(alloc, &mut changes, "0x1000 None None None")?;
-    differs(alloc, &mut changes, "0x1001 Some(6) Some(40) None")?;
-    differs(alloc, &mut changes, "0x1003 Some(6) Some(40) None")?;
-    differs(alloc, &mut changes, "0x1007 None None None")
+    all_differ(alloc, &mut table.changes(fde))
 }
