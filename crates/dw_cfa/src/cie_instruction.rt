@@ -133,26 +133,6 @@ fn write_any<'a>(
     }
 }
 
-// The same by a cursor of its own, so that the caller's need not be in memory.
-#[inline(always)]
-fn write_apart<'a>(
-    opcode: Opcode,
-    cursor: &mut Cursor<'a>,
-    factors: Factors,
-    states: &mut States<'a>,
-    at: u64,
-    known: bool,
-) -> Result<(), ReadError>
-    requires known { IsTrue known → IsOk (operands_at factors at opcode cursor.old) }
-    ensures did { Entered (operands_at factors at opcode cursor.old) at states.old result cursor.new states.new }
-    ensures kept { states.new.kept ≡ states.old.kept }
-{
-    let mut rest = Cursor::new(cursor.rest(), cursor.at(), cursor.target());
-    let written = write_any(opcode, &mut rest, factors, states, at, known);
-    *cursor = rest;
-    written
-}
-
 /// Reads the operands behind an opcode, and writes the rule of the instruction into the row. Where it is known that the program
 /// has no fault, no expression is judged again.
 #[tactic(auto, unfolding(crate::specs::Inner::ByOpcode::operands_at))]
@@ -175,6 +155,6 @@ pub(crate) fn write_operands<'a>(
         Opcode::DefCfa => write_def_cfa(cursor, states, at),
         Opcode::Offset(register) => write_offset(cursor, factors, states, at, register),
         Opcode::OffsetExtended => write_offset_extended(cursor, factors, states, at),
-        _ => write_apart(opcode, cursor, factors, states, at, known),
+        _ => write_any(opcode, cursor, factors, states, at, known),
     }
 }

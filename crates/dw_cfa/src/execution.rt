@@ -122,7 +122,6 @@ fn write_one<'a>(
 }
 
 /// Runs a CIE's program on a row. Where it is known that it has no fault, no expression is judged again.
-#[inline(always)]
 pub(crate) fn run_initial<'a>(
     cursor: &mut Cursor<'a>,
     factors: Factors,

@@ -108,12 +108,57 @@ fn times(operand: i128, factor: i64) -> i128
     operand * i128::from(factor)
 }
 
+// An unsigned LEB128 number, which mostly has one byte.
+#[inline(always)]
+fn quick_uleb(cursor: &mut Cursor<'_>) -> Result<u64, Refusal>
+    ensures { Gives (λ v. v) result (uleb_at cursor.old) cursor.new }
+{
+    let before = Cursor::new(cursor.rest(), cursor.at(), cursor.target());
+    if let Ok(byte) = cursor.byte() {
+        if byte < 128 {
+            return Ok(u64::from(byte));
+        }
+    }
+    *cursor = before;
+    cursor.uleb()
+}
+
+// The signed number that a byte alone spells.
+#[tactic(auto, using(crate::proofs::ShortNumbers::one_byte_positive, crate::proofs::ShortNumbers::one_byte_negative))]
+#[inline(always)]
+fn signed_in(byte: u8) -> Option<i64>
+    ensures { IfSome result (λ v. Sleb v (byte ∷ [])) }
+{
+    if byte < 64 {
+        return Some(i64::from(byte));
+    }
+    if byte < 128 {
+        return Some(i64::from(byte) - 128);
+    }
+    None
+}
+
+// A signed LEB128 number, which mostly has one byte too.
+#[inline(always)]
+fn quick_sleb(cursor: &mut Cursor<'_>) -> Result<i64, Refusal>
+    ensures { Gives (λ v. v) result (sleb_at cursor.old) cursor.new }
+{
+    let before = Cursor::new(cursor.rest(), cursor.at(), cursor.target());
+    if let Ok(byte) = cursor.byte() {
+        if let Some(number) = signed_in(byte) {
+            return Ok(number);
+        }
+    }
+    *cursor = before;
+    cursor.sleb()
+}
+
 #[tactic(auto, unfolding(crate::specs::Inner::ByOpcode::plain_at))]
 #[inline(always)]
 pub(crate) fn plain(cursor: &mut Cursor<'_>, at: u64) -> Result<i64, Refusal>
     ensures { Gives (λ z. z) result (plain_at at cursor.old) cursor.new }
 {
-    let operand = cursor.uleb()?;
+    let operand = quick_uleb(cursor)?;
     checked_offset(i128::from(operand), at)
 }
 
@@ -122,7 +167,7 @@ pub(crate) fn plain(cursor: &mut Cursor<'_>, at: u64) -> Result<i64, Refusal>
 pub(crate) fn factored(cursor: &mut Cursor<'_>, factors: Factors, at: u64) -> Result<i64, Refusal>
     ensures { Gives (λ z. z) result (factored_at factors at cursor.old) cursor.new }
 {
-    let operand = cursor.uleb()?;
+    let operand = quick_uleb(cursor)?;
     checked_offset(times(i128::from(operand), factors.data_factor), at)
 }
 
@@ -131,7 +176,7 @@ pub(crate) fn factored(cursor: &mut Cursor<'_>, factors: Factors, at: u64) -> Re
 pub(crate) fn signed(cursor: &mut Cursor<'_>, factors: Factors, at: u64) -> Result<i64, Refusal>
     ensures { Gives (λ z. z) result (signed_at factors at cursor.old) cursor.new }
 {
-    let operand = cursor.sleb()?;
+    let operand = quick_sleb(cursor)?;
     checked_offset(times(i128::from(operand), factors.data_factor), at)
 }
 

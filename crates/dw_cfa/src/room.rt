@@ -95,7 +95,6 @@ impl<'a> RowRoom<'a> {
     }
 
     // The same by the run that the code keeps to.
-    #[inline(always)]
     fn run(
         &mut self,
         cie_program: Program<'a>,
@@ -121,7 +120,6 @@ impl<'a> RowRoom<'a> {
 
     /// Runs two programs, from an address `begin` of the target on, up to the last row that starts at or below an address,
     /// which `row` lends then. A refusal that comes up to there is answered, or want of memory.
-    #[inline(always)]
     pub fn run_to(
         &mut self,
         cie_program: Program<'a>,

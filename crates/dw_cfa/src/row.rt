@@ -142,7 +142,6 @@ fn next_near<'a>(
 }
 
 // A tree of ascending entries.
-#[inline(never)]
 fn tree_of<'a>(
     entries: Specified<'_, 'a>,
     alloc: Global,
@@ -374,7 +373,6 @@ impl<'a> Entries<'a> {
     }
 
     // Makes them a copy of others.
-    #[inline(always)]
     fn become_copy(&mut self, others: &Entries<'a>, alloc: Global) -> Result<(), AllocError>
         requires before { EntriesSo self.old }
         requires others { EntriesSo others.now }
@@ -758,7 +756,6 @@ impl<'a> Row<'a> {
     }
 
     /// Makes it a copy of another row, in the room that is there, or answers want of memory. It is some row then.
-    #[inline(always)]
     pub fn become_copy(&mut self, other: &Row<'a>) -> Result<(), AllocError>
         ensures { OnOk result (self.new ≡ other.now) }
     {

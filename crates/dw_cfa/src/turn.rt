@@ -65,8 +65,8 @@ fn run_restore_state(machine: &mut Machine<'_>, at: u64, fault: &mut Refusal) ->
 
 // Reads the operands behind an opcode, and applies the instruction to the machine.
 #[tactic(auto, unfolding(crate::specs::Inner::ByOpcode::operands_at))]
-#[inline(never)]
-fn apply_any<'a>(
+#[inline(always)]
+fn apply<'a>(
     opcode: Opcode,
     cursor: &mut Cursor<'a>,
     factors: Factors,
@@ -109,66 +109,6 @@ fn apply_any<'a>(
         Opcode::RestoreExtended => run_restore_extended(cursor, machine, fault),
         Opcode::RememberState => run_remember_state(machine, at, fault),
         Opcode::RestoreState => run_restore_state(machine, at, fault),
-    }
-}
-
-// The same by a cursor of its own, so that the caller's need not be in memory.
-#[inline(always)]
-fn apply_apart<'a>(
-    opcode: Opcode,
-    cursor: &mut Cursor<'a>,
-    factors: Factors,
-    machine: &mut Machine<'a>,
-    at: u64,
-    known: bool,
-    fault: &mut Refusal,
-) -> End
-    requires location { machine.old.location ≤ machine.old.limit }
-    requires limit { machine.old.limit ≡ address_limit cursor.old.target.size }
-    requires known { IsTrue known → IsOk (operands_at factors at opcode cursor.old) }
-    ensures did { Applied (operands_at factors at opcode cursor.old) at machine.old result fault.new cursor.new machine.new }
-    ensures initial { machine.new.initial ≡ machine.old.initial }
-    ensures kept { machine.new.states.kept ≡ machine.old.states.kept }
-{
-    let mut rest = Cursor::new(cursor.rest(), cursor.at(), cursor.target());
-    let end = apply_any(opcode, &mut rest, factors, machine, at, known, fault);
-    *cursor = rest;
-    end
-}
-
-// The same, with the instructions that most programs have in line.
-#[tactic(auto, unfolding(crate::specs::Inner::ByOpcode::operands_at))]
-#[inline(always)]
-fn apply<'a>(
-    opcode: Opcode,
-    cursor: &mut Cursor<'a>,
-    factors: Factors,
-    machine: &mut Machine<'a>,
-    at: u64,
-    known: bool,
-    fault: &mut Refusal,
-) -> End
-    requires location { machine.old.location ≤ machine.old.limit }
-    requires limit { machine.old.limit ≡ address_limit cursor.old.target.size }
-    requires known { IsTrue known → IsOk (operands_at factors at opcode cursor.old) }
-    ensures did { Applied (operands_at factors at opcode cursor.old) at machine.old result fault.new cursor.new machine.new }
-    ensures initial { machine.new.initial ≡ machine.old.initial }
-    ensures kept { machine.new.states.kept ≡ machine.old.states.kept }
-{
-    match opcode {
-        Opcode::Nop => End::On,
-        Opcode::AdvanceLoc(delta) => run_advance(factors, machine, at, u64::from(delta), fault),
-        Opcode::AdvanceLoc1 => run_fixed_advance(cursor, factors, machine, at, 1, fault),
-        Opcode::AdvanceLoc2 => run_fixed_advance(cursor, factors, machine, at, 2, fault),
-        Opcode::AdvanceLoc4 => run_fixed_advance(cursor, factors, machine, at, 4, fault),
-        Opcode::DefCfa => run_def_cfa(cursor, machine, at, fault),
-        Opcode::DefCfaRegister => run_def_cfa_register(cursor, machine, at, fault),
-        Opcode::DefCfaOffset => run_def_cfa_offset(cursor, machine, at, fault),
-        Opcode::Offset(register) => run_offset(cursor, factors, machine, at, register, fault),
-        Opcode::Restore(register) => run_restore(machine, register),
-        Opcode::RememberState => run_remember_state(machine, at, fault),
-        Opcode::RestoreState => run_restore_state(machine, at, fault),
-        _ => apply_apart(opcode, cursor, factors, machine, at, known, fault),
     }
 }
 
