@@ -1,7 +1,9 @@
 //! The instruction at the front of what is left of a program.
 
-ghost use Rattle.std.specs.Prelude.{◌≡◌, ◌+◌, ◌*◌, ◌<◌, ◌^◌, ◌*ℤ◌, length, unsigned_abs, IsTrue, IsOk};
+ghost use Rattle.std.specs.Prelude.{◌≡◌, ◌+◌, ◌*◌, ◌<◌, ◌^◌, ◌*ℤ◌, length, unsigned_abs, [], ◌∷◌, IfSome, IsTrue, IsOk};
+ghost use Rattle.dw_num.specs.Leb.{Sleb};
 ghost use Rattle.dw_num.specs.Fixed.{IsWidth};
+ghost use Rattle.dw_num.specs.Front.{sleb_at, uleb_at};
 ghost use Rattle.dw_num.specs.Inner.Front.{Gives};
 ghost use Rattle.dw_cfa.specs.Operands.{opcode_of};
 ghost use Rattle.dw_cfa.specs.Inner.FrontInstr.{expression_in, block_at, instr_at};

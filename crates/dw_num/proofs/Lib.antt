@@ -1,5 +1,4 @@
 pub mod LebLemmas
-pub mod OneByte
 pub mod Groups
 pub mod SignedGroups
 pub mod Lent

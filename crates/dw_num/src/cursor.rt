@@ -23,7 +23,6 @@ pub fn are_bytes(bytes: &[u8])
     let _ = bytes;
 }
 
-#[inline(always)]
 fn little_in(bytes: &[u8], n: usize) -> u64
     requires some { 1 ≤ n }
     requires most { n ≤ 8 }
@@ -37,7 +36,6 @@ fn little_in(bytes: &[u8], n: usize) -> u64
     }
 }
 
-#[inline(always)]
 fn big_in(bytes: &[u8], n: usize) -> u64
     requires some { 1 ≤ n }
     requires most { n ≤ 8 }
@@ -52,7 +50,6 @@ fn big_in(bytes: &[u8], n: usize) -> u64
 }
 
 // The number that the first n bytes spell.
-#[inline(always)]
 fn number_in(order: Order, bytes: &[u8], n: usize) -> u64
     requires some { 1 ≤ n }
     requires most { n ≤ 8 }
@@ -131,7 +128,6 @@ impl<'a> Cursor<'a> {
 
     /// The next `n` bytes. `Truncated` at the first of them where fewer are left.
     #[tactic(auto, unfolding(crate::specs::Front::take_at))]
-    #[inline(always)]
     pub fn take(&mut self, n: usize) -> Result<&'a [u8], Refusal>
         ensures found { IfOk result (λ s. (length s.now ≡ n) × Takes self.old s.now self.new) }
         ensures exact { Reads (λ s. s.now) result self.old (take_at n self.old) self.new }
@@ -146,7 +142,6 @@ impl<'a> Cursor<'a> {
     }
 
     #[tactic(auto, unfolding(crate::specs::Front::fixed_at))]
-    #[inline(always)]
     fn read_fixed(&mut self, n: usize) -> Result<u64, Refusal>
         requires { IsWidth n }
         ensures { Reads (λ v. v) result self.old (fixed_at n self.old) self.new }
@@ -161,7 +156,6 @@ impl<'a> Cursor<'a> {
 
     /// The next byte. `Truncated` at its place where there is none.
     #[tactic(auto, using(crate::proofs::Lent::FixedLaws::one_byte), unfolding(crate::specs::Front::fixed_at, crate::specs::Front::take_at))]
-    #[inline(always)]
     pub fn byte(&mut self) -> Result<u8, Refusal>
         ensures found { IfOk result (λ b. Takes self.old (b ∷ []) self.new) }
         ensures exact { Reads (λ b. b) result self.old (fixed_at 1 self.old) self.new }
@@ -172,7 +166,6 @@ impl<'a> Cursor<'a> {
 
     /// The number that the next `n` bytes are, 1, 2, 4 or 8 of them, in the target's order (7.5). `Truncated`
     /// at the first of them where fewer are left.
-    #[inline(always)]
     pub fn fixed(&mut self, n: usize) -> Result<u64, Refusal>
         requires { IsWidth n }
         ensures found { IfOk result (λ v. (b : List ℕ) × Fixed self.old.target.order n v b × Takes self.old b self.new) }
@@ -184,7 +177,6 @@ impl<'a> Cursor<'a> {
     }
 
     // Goes on by bytes that are there.
-    #[inline(always)]
     fn pass(&mut self, n: usize)
         requires { n ≤ length self.old.bytes }
         ensures { self.new ≡ behind n self.old }
@@ -194,7 +186,6 @@ impl<'a> Cursor<'a> {
     }
 
     #[tactic(auto, unfolding(crate::specs::Front::uleb_at))]
-    #[inline(always)]
     fn read_uleb(&mut self) -> Result<u64, Refusal>
         ensures { Reads (λ v. v) result self.old (uleb_at self.old) self.new }
     {
@@ -209,7 +200,6 @@ impl<'a> Cursor<'a> {
     }
 
     #[tactic(auto, unfolding(crate::specs::Front::address_at))]
-    #[inline(always)]
     fn read_address(&mut self) -> Result<u64, Refusal>
         ensures { Reads (λ v. v) result self.old (address_at self.old) self.new }
     {
@@ -220,7 +210,6 @@ impl<'a> Cursor<'a> {
     }
 
     /// An address, as wide as the target's. `Truncated` at its first byte where fewer bytes are left.
-    #[inline(always)]
     pub fn address(&mut self) -> Result<u64, Refusal>
         ensures found { IfOk result (λ v. (b : List ℕ) × Address self.old.target v b × Takes self.old b self.new) }
         ensures only { (v : ℕ) (b rest : List ℕ) → Address self.old.target v b → self.old.bytes ≡ b ++ rest → result ≡ Ok v }
@@ -237,7 +226,6 @@ impl<'a> Cursor<'a> {
     }
 
     #[tactic(auto, unfolding(crate::specs::Front::unit_length_at))]
-    #[inline(always)]
     fn read_unit_length(&mut self) -> Result<UnitLength, Refusal>
         ensures { Reads (λ v. v) result self.old (unit_length_at self.old) self.new }
     {
@@ -268,7 +256,6 @@ impl<'a> Cursor<'a> {
 
     /// The length at the front of an entry (7.4). `Truncated` at its first byte where it runs out, also behind
     /// the four bytes that announce the 64-bit form; `ReservedLength` there from 0xfffffff0 to 0xfffffffe.
-    #[inline(always)]
     pub fn unit_length(&mut self) -> Result<UnitLength, Refusal>
         ensures found { IfOk result (λ u. (b : List ℕ) × SpellsLength self.old.target.order u b × Takes self.old b self.new) }
         ensures only { (u : UnitLength) (b rest : List ℕ) → SpellsLength self.old.target.order u b → self.old.bytes ≡ b ++ rest → result ≡ Ok u }
@@ -280,7 +267,6 @@ impl<'a> Cursor<'a> {
 
     /// An unsigned LEB128 number, of any number of bytes (7.6). `Truncated` at its first byte where it does
     /// not end, `NumberTooLarge` there where it does not fit 64 bits.
-    #[inline(always)]
     pub fn uleb(&mut self) -> Result<u64, Refusal>
         ensures found { IfOk result (λ v. (b : List ℕ) × Uleb v b × Takes self.old b self.new) }
         ensures only { (v : ℕ) (b rest : List ℕ) → Uleb v b → self.old.bytes ≡ b ++ rest → result ≡ Ok v }
@@ -291,7 +277,6 @@ impl<'a> Cursor<'a> {
     }
 
     #[tactic(auto, unfolding(crate::specs::Front::register_at, crate::specs::Front::uleb_at))]
-    #[inline(always)]
     fn read_register(&mut self) -> Result<u16, Refusal>
         ensures { Reads (λ r. r) result self.old (register_at self.old) self.new }
     {
@@ -310,7 +295,6 @@ impl<'a> Cursor<'a> {
 
     /// The number of a register, 0 to 65,535, as an unsigned LEB128 number. `RegisterTooLarge` at its first
     /// byte above that, and the faults of `uleb`.
-    #[inline(always)]
     pub fn register(&mut self) -> Result<u16, Refusal>
         ensures found { IfOk result (λ r. (b : List ℕ) × Register r b × Takes self.old b self.new) }
         ensures only { (r : ℕ) (b rest : List ℕ) → Register r b → self.old.bytes ≡ b ++ rest → result ≡ Ok r }
@@ -321,7 +305,6 @@ impl<'a> Cursor<'a> {
     }
 
     #[tactic(auto, unfolding(crate::specs::Front::sleb_at))]
-    #[inline(always)]
     fn read_sleb(&mut self) -> Result<i64, Refusal>
         ensures { Reads (λ v. v) result self.old (sleb_at self.old) self.new }
     {
@@ -337,7 +320,6 @@ impl<'a> Cursor<'a> {
 
     /// A signed LEB128 number, of any number of bytes (7.6). `Truncated` at its first byte where it does not
     /// end, `NumberTooLarge` there where it does not fit 64 signed bits.
-    #[inline(always)]
     pub fn sleb(&mut self) -> Result<i64, Refusal>
         ensures found { IfOk result (λ v. (b : List ℕ) × Sleb v b × Takes self.old b self.new) }
         ensures only { (v : ℤ) (b rest : List ℕ) → Sleb v b → self.old.bytes ≡ b ++ rest → result ≡ Ok v }

@@ -1,6 +1,6 @@
 //! The LEB128 number at the front of a slice.
 
-ghost use Rattle.std.specs.Prelude.{length, IfSome, Option, MatchOption, ⊤, ◌≡◌, ℕ, ◌+◌, ◌*◌, ◌%◌, ◌<◌, ◌≤◌, ◌^◌};
+ghost use Rattle.std.specs.Prelude.{length, Option, MatchOption, ⊤, ◌≡◌, ℕ, ◌+◌, ◌*◌, ◌%◌, ◌<◌, ◌≤◌, ◌^◌};
 ghost use Rattle.dw_num.specs.Leb.{is_negative, signed_groups};
 ghost use Rattle.dw_num.specs.Front.{leb_len};
 ghost use Rattle.dw_num.specs.Shortest.{turned};
@@ -69,32 +69,8 @@ fn scan_long_uleb(bytes: &[u8]) -> UlebScan
     UlebScan::Endless
 }
 
-// The number of the byte at the front, where that one spells it.
-#[inline(always)]
-fn short_uleb(bytes: &[u8]) -> Option<u64>
-    ensures { IfSome result (λ v. IsUlebScan bytes.now (UlebScan.Number v 1)) }
-{
-    if bytes.len() > 0 && bytes[0] < 128 {
-        Some(u64::from(bytes[0]))
-    } else {
-        None
-    }
-}
-
-/// Most numbers have one byte, and are found without a loop.
 #[inline(always)]
 pub(crate) fn scan_uleb(bytes: &[u8]) -> UlebScan
-    ensures { IsUlebScan bytes.now result }
-{
-    match short_uleb(bytes) {
-        Some(value) => UlebScan::Number(value, 1),
-        None => scan_groups(bytes),
-    }
-}
-
-// A number of any number of bytes.
-#[inline(never)]
-fn scan_groups(bytes: &[u8]) -> UlebScan
     ensures { IsUlebScan bytes.now result }
 {
     let mut total = 0u64;
@@ -172,37 +148,7 @@ fn signed_sum(spelling: &[u8]) -> Option<i64>
     }
 }
 
-// The signed number of the byte at the front, where that one spells it.
-#[inline(always)]
-fn short_sleb(bytes: &[u8]) -> Option<i64>
-    ensures { IfSome result (λ v. IsSlebScan bytes.now (SlebScan.Number v 1)) }
-{
-    if bytes.len() > 0 {
-        let byte = bytes[0];
-        if byte < 64 {
-            return Some(i64::from(byte));
-        }
-        if byte < 128 {
-            return Some(i64::from(byte) - 128);
-        }
-    }
-    None
-}
-
-/// The same of signed numbers.
-#[inline(always)]
 pub(crate) fn scan_sleb(bytes: &[u8]) -> SlebScan
-    ensures { IsSlebScan bytes.now result }
-{
-    match short_sleb(bytes) {
-        Some(value) => SlebScan::Number(value, 1),
-        None => scan_signed_groups(bytes),
-    }
-}
-
-// A signed number of any number of bytes.
-#[inline(never)]
-fn scan_signed_groups(bytes: &[u8]) -> SlebScan
     ensures { IsSlebScan bytes.now result }
 {
     let Some(len) = count_bytes(bytes) else {
