@@ -53,8 +53,8 @@ fn all_changes(
 }
 
 // The changes of an FDE. The loop has a function of its own, since one that owns what it walks over proves slowly.
-fn fde_text(alloc: Global, table: &Table<'_>, fde: FdeRef) -> Result<String, Fail> {
-    all_changes(alloc, &mut table.changes(fde), &mut table.changes(fde))
+fn fde_text(alloc: Global, mut given: Changes<'_>, mut lent: Changes<'_>) -> Result<String, Fail> {
+    all_changes(alloc, &mut given, &mut lent)
 }
 
 // Whether the changes behind the next one keep what it specifies.
@@ -82,7 +82,9 @@ pub fn differing(alloc: Global, changes: &mut Changes<'_>) -> Result<String, Fai
 pub fn changes_text(alloc: Global, table: &Table<'_>) -> Result<String, Fail> {
     let mut text = String::new(alloc);
     for place in 0..table.fde_count() {
-        text.push_str(&fde_text(alloc, table, FdeRef { place })?)?;
+        let fde = FdeRef { place };
+        let all = fde_text(alloc, table.changes(fde), table.changes(fde))?;
+        text.push_str(&all)?;
     }
     Ok(text)
 }
