@@ -5,7 +5,8 @@ files of specs/; comments, imports and blank lines are not counted.
 
     checks/definitions.py [--write] [--root FOLDER]
 
-It compares the file with what the sources say, and --write writes it.
+It compares the file with what the sources say, and --write writes it. It fails where a clause rests on a definition of specs/Inner,
+which are the code's own.
 """
 import argparse
 import os
@@ -147,7 +148,8 @@ def written(root):
             parts.append("\n".join([f"## `{crate}`\n", "| Call | Clauses | Its clauses name | All behind them, in lines |", "|---|---|---|---|", *rows, ""]))
     table = ["| Crate | Calls | Definitions of its own | in lines | with those of lower crates |", "|---|---|---|---|---|", *sums]
     total = f"\nAll crates together: {len(everything)} definitions in {specs.lines(everything)} lines.\n"
-    return "\n".join([HEAD, *table, total, *parts])
+    inner = {it for it in everything if ".Inner." in it[0]}
+    return "\n".join([HEAD, *table, total, *parts]), inner
 
 
 def main():
@@ -155,7 +157,10 @@ def main():
     parser.add_argument("--root", default=os.path.join(os.path.dirname(os.path.abspath(__file__)), ".."))
     parser.add_argument("--write", action="store_true")
     given = parser.parse_args()
-    path, text = f"{given.root}/docs/DEFINITIONS.md", written(given.root)
+    path, (text, inner) = f"{given.root}/docs/DEFINITIONS.md", written(given.root)
+    if inner:
+        print("clauses of public calls rest on definitions of specs/Inner:", short(inner))
+        return 1
     if given.write:
         with open(path, "w", encoding="utf-8") as it:
             it.write(text)

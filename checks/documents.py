@@ -2,13 +2,14 @@
 """Runs the commands that the documents show, and compares what they print with what is printed there.
 
     documents.py [PROGRAM]
+    documents.py --texts
 
 A session is a code block of README.md, docs/CALLING.md or docs/dwframe.1 with lines that begin with `$ `; its commands run one after another in a
 folder of their own, by the built PROGRAM. A line `...` stands for any further lines. Where a session compiles something, numbers may differ. A
 session that needs a tool that is missing is left out, and named.
 
 Compared besides: Rust blocks with the sources, names of refusals, faults and calls with those of the code, links with files and headings, and the
-toolchain's line with `rt version`.
+toolchain's line with `rt version`. With `--texts` that alone is compared, in a second and without a program.
 """
 import os
 import pathlib
@@ -151,7 +152,8 @@ def section_under(text, heading):
 
 
 def rows_of(text):
-    """The rows of a table whose first cells are names."""
+    """The rows of a table whose first cells are names, without their links."""
+    text = re.sub(r"\[([^\]]*)\]\([^)]*\)", r"\1", text)
     cells = [line.strip("| ").split(" | ") for line in text.splitlines() if line.startswith("| `")]
     return [[cell.strip().replace("`", "") for cell in row] for row in cells]
 
@@ -211,14 +213,7 @@ def compare_version(tally):
         tally.tell(line and f"`{line}`" in text_of("README.md"), f"README.md: the toolchain is {line}")
 
 
-def main():
-    program = pathlib.Path(sys.argv[1] if len(sys.argv) > 1 else PROGRAM).resolve()
-    if not program.exists():
-        raise SystemExit(f"there is no {program}: ./dwframe builds it")
-    tally = Tally()
-    for name in PAGES:
-        run_sessions(name, page_blocks(text_of(name)), program, tally)
-    run_sessions(MANUAL, manual_blocks(text_of(MANUAL)), program, tally)
+def compare_texts(tally):
     sources = "\n".join(squeezed(path.read_text()) for path in sorted(ROOT.glob("crates/*/src/*.rt")))
     for name in PAGES:
         compare_quotes(name, sources, tally)
@@ -227,6 +222,21 @@ def main():
     for name in LINKED:
         compare_links(name, tally)
     compare_version(tally)
+
+
+def run_pages(program, tally):
+    if not program.exists():
+        raise SystemExit(f"there is no {program}: ./dwframe builds it")
+    for name in PAGES:
+        run_sessions(name, page_blocks(text_of(name)), program, tally)
+    run_sessions(MANUAL, manual_blocks(text_of(MANUAL)), program, tally)
+
+
+def main():
+    tally = Tally()
+    if sys.argv[1:] != ["--texts"]:
+        run_pages(pathlib.Path(sys.argv[1] if len(sys.argv) > 1 else PROGRAM).resolve(), tally)
+    compare_texts(tally)
     print(f"documents: {tally.compared} compared, {tally.wrong} wrong")
     return 1 if tally.wrong else 0
 

@@ -21,8 +21,12 @@ import tempfile
 DWFRAME = os.environ.get("DWFRAME", pathlib.Path(__file__).resolve().parent.parent / "dwframe")
 
 
-def read_dump(text):
+def read_dump(path):
     """The pc, the registers and the lines of memory."""
+    try:
+        text = path.read_text()
+    except (OSError, UnicodeDecodeError):
+        raise SystemExit(f"cannot read {path}")
     pc, registers, memory = None, {}, []
     for line in text.splitlines():
         name, _, rest = line.partition(" ")
@@ -70,7 +74,7 @@ def main():
     words.add_argument("dump", type=pathlib.Path)
     asked = words.parse_args()
     target = ["--size", asked.size, "--order", asked.order]
-    pc, registers, memory = read_dump(asked.dump.read_text())
+    pc, registers, memory = read_dump(asked.dump)
     looked_up, number, last_cfa = pc, 0, -1
     while pc is not None:
         print(f"#{number} {pc:#x}")

@@ -184,10 +184,11 @@ typedef struct dwframe_row {
 /*
  * The rules at an address: the CFA's in `row`, and those of the registers at `rules`, ascending by number, as many as fit into
  * the `room` there; DWFRAME_TOO_SHORT where there are more, and `row` says how many. A room of 0 asks for the CFA alone.
- * DWFRAME_NO_FDE where no entry of the index covers the address.
+ * DWFRAME_NO_FDE where no entry of the index covers the address. The entry is found by halving, so in an index whose entries do not
+ * ascend, or overlap, one that covers the address may be missed.
  *
- * The entry is found by halving. The FDE at its place, and the CIE that this names, are read and judged anew up to the row. By the
- * index of these bytes, which dwframe_index wrote, the rules are those of the section. Any other index does no harm: what stands
+ * The FDE at the entry's place, and the CIE that this names, are read and judged anew up to the row. By the index of these bytes,
+ * which dwframe_index wrote, the rules are those of the section. Any other index does no harm: what stands
  * at the entry's place is told if it is an FDE that covers the address, and else DWFRAME_BAD_INDEX or DWFRAME_REFUSED is answered.
  */
 dwframe_status dwframe_row_at(const uint8_t *bytes, size_t len, uint8_t address_size, uint8_t byte_order,

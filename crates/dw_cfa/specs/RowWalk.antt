@@ -1,5 +1,5 @@
 -- Programs that are known to give rows, run one after another in one room.
-use Rattle.std.specs.Prelude.{◌≡◌, ℤ, pos, List, []}
+use Rattle.std.specs.Prelude.{◌≡◌, pos, List, []}
 use Rattle.std.specs.List.{AllByRecursion}
 use Rattle.dw_num.specs.declared.target.Target.{Target}
 use Rattle.dw_num.specs.Input.{Input}

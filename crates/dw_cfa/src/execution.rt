@@ -27,6 +27,7 @@ pub struct LocatedRow<'a> {
 
 /// Runs a program up to the end of a row, which the machine has then. Answers where the row starts, and whether
 /// the program goes on behind it. Where it is known that the program has no fault, no expression is judged again.
+#[inline(always)]
 pub(crate) fn next_row<'a>(
     cursor: &mut Cursor<'a>,
     factors: Factors,

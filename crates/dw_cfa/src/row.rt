@@ -13,7 +13,7 @@ ghost use Rattle.dw_cfa.specs.Inner.Difference.{FirstBelow, SameUnset};
 
 use crate::behind::{place_behind, start_behind};
 use crate::rule::{CfaRule, RegRule};
-use crate::tree::{first_difference, rule_in_tree, set_in_tree};
+use crate::tree::{first_difference, rule_in_tree, set_in_tree, tree_of};
 use std::alloc::{AllocError, Global};
 use std::collections::{BTreeMap, btree_map};
 use std::marker::Model;
@@ -139,21 +139,6 @@ fn next_near<'a>(
         register += 1;
     }
     None
-}
-
-// A tree of ascending entries.
-fn tree_of<'a>(
-    entries: Specified<'_, 'a>,
-    alloc: Global,
-) -> Result<BTreeMap<u16, RegRule<'a>>, AllocError>
-    requires { AreSpecified 0 entries }
-    ensures { IfOk result (λ tree. tree.entries ≡ entries.entry) }
-{
-    let mut tree = BTreeMap::new(alloc);
-    for (register, rule) in entries {
-        tree.insert(register, rule)?;
-    }
-    Ok(tree)
 }
 
 // Whether two slots of a register give it the same rule, whatever they hold.
@@ -372,7 +357,23 @@ impl<'a> Entries<'a> {
         self.expressions.is_empty() && self.far.is_empty()
     }
 
+    // Makes them a copy of others, where some of the registers are in trees.
+    #[inline(never)]
+    fn become_wide_copy(&mut self, others: &Entries<'a>, alloc: Global) -> Result<(), AllocError>
+        requires before { EntriesSo self.old }
+        requires others { EntriesSo others.now }
+        ensures ok { OnOk result (entries_of self.new ≡ entries_of others.now) }
+        ensures so { EntriesSo self.new }
+    {
+        self.expressions = tree_of(others.all_expressions(), alloc)?;
+        self.far = tree_of(others.all_far(), alloc)?;
+        self.near.copy_from_slice(&others.near);
+        self.used = others.used;
+        Ok(())
+    }
+
     // Makes them a copy of others.
+    #[inline(always)]
     fn become_copy(&mut self, others: &Entries<'a>, alloc: Global) -> Result<(), AllocError>
         requires before { EntriesSo self.old }
         requires others { EntriesSo others.now }
@@ -384,11 +385,7 @@ impl<'a> Entries<'a> {
             self.used = others.used;
             return Ok(());
         }
-        self.expressions = tree_of(others.all_expressions(), alloc)?;
-        self.far = tree_of(others.all_far(), alloc)?;
-        self.near.copy_from_slice(&others.near);
-        self.used = others.used;
-        Ok(())
+        self.become_wide_copy(others, alloc)
     }
 
     // Gives a register that has a slot a rule.

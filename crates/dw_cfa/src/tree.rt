@@ -1,13 +1,29 @@
 //! Rules of registers in a tree, ascending.
 
-ghost use Rattle.std.specs.Prelude.{◌≡◌, OnOk, OnErr};
+ghost use Rattle.std.specs.Prelude.{◌≡◌, IfOk, OnOk, OnErr};
 ghost use Rattle.dw_cfa.specs.Difference.{FirstDifference};
 ghost use Rattle.dw_cfa.specs.Rows.{AreSpecified, rule_in};
 ghost use Rattle.dw_cfa.specs.Inner.Rows.{put};
 
+use crate::row::Specified;
 use crate::rule::RegRule;
-use std::alloc::AllocError;
+use std::alloc::{AllocError, Global};
 use std::collections::{BTreeMap, btree_map};
+
+/// A tree of ascending entries.
+pub(crate) fn tree_of<'a>(
+    entries: Specified<'_, 'a>,
+    alloc: Global,
+) -> Result<BTreeMap<u16, RegRule<'a>>, AllocError>
+    requires { AreSpecified 0 entries }
+    ensures { IfOk result (λ tree. tree.entries ≡ entries.entry) }
+{
+    let mut tree = BTreeMap::new(alloc);
+    for (register, rule) in entries {
+        tree.insert(register, rule)?;
+    }
+    Ok(tree)
+}
 
 /// Gives a register a rule in a tree. Unspecified takes it out.
 pub(crate) fn set_in_tree<'a>(

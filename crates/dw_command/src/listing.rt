@@ -1,6 +1,6 @@
 //! A text of many lines on its way to an output.
 
-ghost use Rattle.std.specs.Prelude.{◌≡◌, ◌+◌, ◌++◌, ◌-◌, ◌^◌, ◌<◌, ◌≤◌, length, take, None, IfErr, IfOk, OnErr, OnOk, ◌⊎◌};
+ghost use Rattle.std.specs.Prelude.{◌≡◌, ◌+◌, ◌++◌, ◌-◌, ◌^◌, ◌<◌, ◌≤◌, ℕ, List, length, take, None, IfErr, IfOk, OnErr, OnOk, ◌⊎◌};
 ghost use Rattle.std.specs.Io.KnownBytes.{Appends, Keeps};
 ghost use Rattle.dw_command.specs.Output.{Told, put_so_far};
 ghost use Rattle.dw_command.specs.declared.failure.Failure.TheVariants.{CannotWrite};
@@ -107,6 +107,8 @@ impl<W: Write> Listing<W> {
         ensures made { OnOk result (self.new.len + PIECE ≤ ROOM) }
         // What was put stays.
         ensures kept { OnOk result (self.old.len ≤ ROOM → Keeps (put_so_far (W.contents self.old.out) self.old.len self.old.room) (put_so_far (W.contents self.new.out) self.new.len self.new.room)) }
+        // The room is as it was, or empty.
+        ensures room { OnOk result ((self.new.len ≡ self.old.len) × (self.new.room ≡ self.old.room) ⊎ (self.new.len ≡ 0)) }
         // Where the output fails, the room is full, and all that it holds stays.
         ensures full { OnErr result (ROOM < self.old.len + PIECE) }
         ensures held { OnErr result ((self.new.len ≡ self.old.len) × (self.new.room ≡ self.old.room)) }
@@ -129,22 +131,6 @@ impl<W: Write> Listing<W> {
     {
         self.write_out()?;
         if self.out.flush().is_err() {
-            self.failures += 1;
-            return Err(OutputFault);
-        }
-        Ok(())
-    }
-
-    /// Bytes of any number.
-    pub fn long_text(&mut self, text: &[u8]) -> Result<(), OutputFault>
-        requires room { self.old.failures < 2 ^ 64 - 1 }
-        ensures told { Told self.old.failures self.new.failures result }
-        ensures empty { OnOk result (self.new.len ≡ 0) }
-        // The output gets what is left, and then the text.
-        ensures all { OnOk result (self.old.len ≤ ROOM → Appends (W.contents self.old.out) (W.contents self.new.out) (take self.old.len self.old.room ++ text.now)) }
-    {
-        self.write_out()?;
-        if self.out.write_all(text).is_err() {
             self.failures += 1;
             return Err(OutputFault);
         }
@@ -283,7 +269,11 @@ impl<W: Write> Sink for Listing<W> {
         ensures fault { IfErr result (λ _. self.old.failures < self.new.failures) }
         // It is put behind what was put before.
         ensures put { IfOk result (λ n. self.old.len ≤ ROOM → Appends (put_so_far (W.contents self.old.out) self.old.len self.old.room) (put_so_far (W.contents self.new.out) self.new.len self.new.room) (take n bytes.now)) }
-        // Where the output fails, all that was put before stays.
+        ensures fits { OnOk result (self.new.len ≤ ROOM) }
+        // What the room holds no longer is the front of what was put.
+        ensures room { IfOk result (λ n. self.old.len ≤ ROOM → (gone : List ℕ) × (take self.old.len self.old.room ++ take n bytes.now ≡ gone ++ take self.new.len self.new.room)) }
+        // Where the output fails, the room is full, and all that was put before stays.
+        ensures full { OnErr result (ROOM < self.old.len + PIECE) }
         ensures held { IfErr result (λ _. (self.new.len ≡ self.old.len) × (self.new.room ≡ self.old.room)) }
     {
         if self.make_room().is_err() {
@@ -292,5 +282,27 @@ impl<W: Write> Sink for Listing<W> {
         let part = &bytes[..bytes.len().min(PIECE)];
         self.block(part);
         Ok(part.len())
+    }
+}
+
+impl<W: Write> Listing<W> {
+    /// Bytes of any number.
+    pub fn long_text(&mut self, text: &[u8]) -> Result<(), OutputFault>
+        requires room { self.old.failures < 2 ^ 64 - 1 }
+        ensures told { Told self.old.failures self.new.failures result }
+        // The text is put behind what was put before.
+        ensures put { OnOk result (self.old.len ≤ ROOM → Appends (put_so_far (W.contents self.old.out) self.old.len self.old.room) (put_so_far (W.contents self.new.out) self.new.len self.new.room) text.now) }
+        // Where the output fails, the room is full. It holds the end of what was put before with the front of the text behind it.
+        ensures full { OnErr result (ROOM < self.new.len + PIECE) }
+        ensures held { OnErr result (self.old.len ≤ ROOM → (n : ℕ) × (gone : List ℕ) × (n ≤ length text.now) × (take self.old.len self.old.room ++ take n text.now ≡ gone ++ take self.new.len self.new.room)) }
+    {
+        let mut done = 0;
+        'pieces: while done < text.len() {
+            match self.put(&text[done..]) {
+                Ok(n) => done += n,
+                Err(_) => return Err(OutputFault),
+            }
+        }
+        Ok(())
     }
 }

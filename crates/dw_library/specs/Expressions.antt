@@ -9,9 +9,10 @@ use Rattle.dw_cfa.specs.declared.rule.CfaRule.{CfaRule}
 use Rattle.dw_cfa.specs.declared.rule.CfaRule.TheVariants as cfa
 use Rattle.dw_cfa.specs.declared.rule.RegRule.{RegRule}
 use Rattle.dw_cfa.specs.declared.rule.RegRule.TheVariants.{Expression, ValExpression}
+use Rattle.dw_section.specs.FaultPlaces.{IsWithin}
 use Rattle.dw_section.specs.Meaning.{AreFdes, NoneCovers, RulesAt}
-use Rattle.dw_section.specs.StandingFde.{Ruled, RulesOf}
-use Rattle.dw_section.specs.Inner.Table.{IsTable}
+use Rattle.dw_section.specs.Ranges.{LeadsTo, Uncovered, IsTable}
+use Rattle.dw_section.specs.StandingFde.{Misleads, Ruled, RulesOf}
 use Rattle.dw_section.specs.declared.fde_range.Ranged.{Ranged}
 use Rattle.dw_section.specs.declared.lookup.Fde.{Fde}
 use Rattle.dw_library.specs.declared.answer.Refused.{Refused}
@@ -88,9 +89,10 @@ TellsAt target s a old t =
     ((row : Rules) × RulesAt target s a row × TellsBlocks row old t)
     ⊎ (((fs : List Fde) → AreFdes target s fs → NoneCovers a fs) × (t ≡ says 5 old))
 
--- those of an FDE that stands in the bytes, or that the index has none
-abbrev pub TellsStanding : Target → List ℕ → ℕ → Buffers → Told → Type 0
-TellsStanding target s a old t = ((found : Ruled) × (at : ℕ) × RulesOf target s at a found × TellsBlocks found.row old t) ⊎ (t ≡ says 5 old)
+-- those of the FDE that stands where an index leads, or that the index has none
+abbrev pub TellsStanding : Target → List ℕ → List Ranged → ℕ → Buffers → Told → Type 0
+TellsStanding target s index a old t =
+    ((found : Ruled) × (at : ℕ) × LeadsTo index a at × RulesOf target s at a found × TellsBlocks found.row old t) ⊎ (Uncovered index a × (t ≡ says 5 old))
 
 -- by the index of an accepted section
 abbrev pub AreExpressions : Option Target → List ℕ → List Ranged → ℕ → Buffers → Told → Refused → Type 0
@@ -98,8 +100,8 @@ AreExpressions None s index a old t why = (t ≡ says bad_argument old) × (why 
 AreExpressions (Some target) s index a old t why = IsTable target s index → (TellsAt target s a old t ⊎ (t ≡ says out_of_memory old)) × (why ≡ not_refused)
 
 -- by any index: also that it is a bad one, or that what stands at its place is refused
-abbrev pub AreAnyExpressions : Option Target → List ℕ → ℕ → Buffers → Told → Refused → Type 0
-AreAnyExpressions None s a old t why = (t ≡ says bad_argument old) × (why ≡ not_refused)
-AreAnyExpressions (Some target) s a old t why =
-    ((TellsStanding target s a old t ⊎ (t ≡ says out_of_memory old) ⊎ (t ≡ says 10 old)) × (why ≡ not_refused))
-    ⊎ ((r : Refusal) × (t ≡ says refused old) × (why ≡ told 1 r))
+abbrev pub AreAnyExpressions : Option Target → List ℕ → List Ranged → ℕ → Buffers → Told → Refused → Type 0
+AreAnyExpressions None s index a old t why = (t ≡ says bad_argument old) × (why ≡ not_refused)
+AreAnyExpressions (Some target) s index a old t why =
+    ((TellsStanding target s index a old t ⊎ (t ≡ says out_of_memory old) ⊎ (Misleads target s index a × (t ≡ says 10 old))) × (why ≡ not_refused))
+    ⊎ ((r : Refusal) × IsWithin s r × (t ≡ says refused old) × (why ≡ told 1 r))

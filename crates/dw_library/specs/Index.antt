@@ -7,10 +7,11 @@ use Rattle.dw_cfa.specs.declared.rule.CfaRule.TheVariants as cfa
 use Rattle.dw_cfa.specs.declared.rule.RegRule.{RegRule}
 use Rattle.dw_cfa.specs.declared.rule.RegRule.TheVariants.{Unspecified, Undefined, SameValue, Offset, ValOffset, Register, Expression, ValExpression}
 use Rattle.dw_section.specs.Accepted.{CheckFault}
+use Rattle.dw_section.specs.FaultPlaces.{IsWithin}
 use Rattle.dw_section.specs.Meaning.{AreFdes, NoneCovers, RulesAt}
 use Rattle.dw_section.specs.Meanings.{IsListed}
-use Rattle.dw_section.specs.StandingFde.{Ruled, RulesOf}
-use Rattle.dw_section.specs.Inner.Table.{IsTable}
+use Rattle.dw_section.specs.Ranges.{LeadsTo, Uncovered, IsTable}
+use Rattle.dw_section.specs.StandingFde.{Misleads, Ruled, RulesOf}
 use Rattle.dw_section.specs.declared.fde_range.Ranged.{Ranged}
 use Rattle.dw_section.specs.declared.lookup.Fde.{Fde}
 use Rattle.dw_library.specs.declared.answer.Refused.{Refused}
@@ -118,9 +119,10 @@ TellsRules target s a old t =
     ((found : Ruled) × RulesAt target s a found.row × ((fs : List Fde) → AreFdes target s fs → IsListed found.fde fs) × TellsRow found old t)
     ⊎ (((fs : List Fde) → AreFdes target s fs → NoneCovers a fs) × (t ≡ says 5 old))
 
--- it tells those of an FDE that stands in the bytes, or that the index has none
-abbrev pub TellsFde : Target → List ℕ → ℕ → List Rule → Told → Type 0
-TellsFde target s a old t = ((found : Ruled) × (at : ℕ) × RulesOf target s at a found × TellsRow found old t) ⊎ (t ≡ says 5 old)
+-- it tells those of the FDE that stands where an index leads, or that the index has none
+abbrev pub TellsFde : Target → List ℕ → List Ranged → ℕ → List Rule → Told → Type 0
+TellsFde target s index a old t =
+    ((found : Ruled) × (at : ℕ) × LeadsTo index a at × RulesOf target s at a found × TellsRow found old t) ⊎ (Uncovered index a × (t ≡ says 5 old))
 
 -- by the index of an accepted section
 abbrev pub IsRow : Option Target → List ℕ → List Ranged → ℕ → List Rule → Told → Refused → Type 0
@@ -128,8 +130,8 @@ IsRow None s index a old t why = (t ≡ says bad_argument old) × (why ≡ not_r
 IsRow (Some target) s index a old t why = IsTable target s index → (TellsRules target s a old t ⊎ (t ≡ says out_of_memory old)) × (why ≡ not_refused)
 
 -- by any index: also that it is a bad one, or that what stands at its place is refused
-abbrev pub IsAnyRow : Option Target → List ℕ → ℕ → List Rule → Told → Refused → Type 0
-IsAnyRow None s a old t why = (t ≡ says bad_argument old) × (why ≡ not_refused)
-IsAnyRow (Some target) s a old t why =
-    ((TellsFde target s a old t ⊎ (t ≡ says out_of_memory old) ⊎ (t ≡ says 10 old)) × (why ≡ not_refused))
-    ⊎ ((r : Refusal) × (t ≡ says refused old) × (why ≡ told 1 r))
+abbrev pub IsAnyRow : Option Target → List ℕ → List Ranged → ℕ → List Rule → Told → Refused → Type 0
+IsAnyRow None s index a old t why = (t ≡ says bad_argument old) × (why ≡ not_refused)
+IsAnyRow (Some target) s index a old t why =
+    ((TellsFde target s index a old t ⊎ (t ≡ says out_of_memory old) ⊎ (Misleads target s index a × (t ≡ says 10 old))) × (why ≡ not_refused))
+    ⊎ ((r : Refusal) × IsWithin s r × (t ≡ says refused old) × (why ≡ told 1 r))

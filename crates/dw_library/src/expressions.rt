@@ -1,7 +1,8 @@
 //! The expressions of a row, in buffers that the caller lends.
 
-ghost use Rattle.std.specs.Prelude.{◌≡◌, [], ◌∷◌, IfOk, OnOk, OnErr, MatchResult};
-ghost use Rattle.dw_section.specs.Inner.Table.{IsTable};
+ghost use Rattle.std.specs.Prelude.{◌≡◌, [], ◌∷◌, IfOk, IfErr, OnOk, OnErr, MatchResult};
+ghost use Rattle.dw_section.specs.StandingFde.{Misleads, RefusesWithin};
+ghost use Rattle.dw_section.specs.Ranges.{IsTable};
 ghost use Rattle.dw_section.specs.declared.standing_fde.LookUpError.TheVariants as TheLookUpError;
 ghost use Rattle.dw_library.specs.Answers.{target_of};
 ghost use Rattle.dw_library.specs.Expressions.{AreAnyExpressions, AreBlocks, AreExpressions, ArePut, Buffers, TellsAt, TellsStanding, Told, expressions_of, in_cfa, in_rule, no_blocks};
@@ -125,7 +126,9 @@ fn put_expressions(
     all: &mut Blocks,
 ) -> Result<u32, LookUpError>
     ensures own { IsTable target section.now index.now → all.old ≡ no_blocks → MatchResult result (λ status. TellsAt target section.now address (record { blocks = blocks.old; bytes = bytes.old }) (record { status = status; buffers = record { blocks = blocks.new; bytes = bytes.new }; all = all.new })) (λ e. e ≡ TheLookUpError.OutOfMemory) }
-    ensures any { all.old ≡ no_blocks → IfOk result (λ status. TellsStanding target section.now address (record { blocks = blocks.old; bytes = bytes.old }) (record { status = status; buffers = record { blocks = blocks.new; bytes = bytes.new }; all = all.new })) }
+    ensures any { all.old ≡ no_blocks → IfOk result (λ status. TellsStanding target section.now index.now address (record { blocks = blocks.old; bytes = bytes.old }) (record { status = status; buffers = record { blocks = blocks.new; bytes = bytes.new }; all = all.new })) }
+    ensures bad { IfErr result (λ e. e ≡ TheLookUpError.BadIndex → Misleads target section.now index.now address) }
+    ensures within { IfErr result (RefusesWithin section.now) }
     ensures kept { OnErr result ((blocks.new ≡ blocks.old) × (bytes.new ≡ bytes.old) × (all.new ≡ all.old)) }
 {
     let mut room = RowRoom::new(alloc);
@@ -160,8 +163,8 @@ pub extern "C" fn dwframe_expressions_at(
 ) -> u32
     // By the index of an accepted section they are those of the section's rules.
     ensures own { let old : Buffers = record { blocks = blocks.old; bytes = expressions.old } in let told : Told = record { status = result; buffers = record { blocks = blocks.new; bytes = expressions.new }; all = all.new } in AreExpressions (target_of address_size byte_order) bytes.now index.now address old told refused.new }
-    // By any other they are those of an FDE that stands in the bytes.
-    ensures any { let old : Buffers = record { blocks = blocks.old; bytes = expressions.old } in let told : Told = record { status = result; buffers = record { blocks = blocks.new; bytes = expressions.new }; all = all.new } in AreAnyExpressions (target_of address_size byte_order) bytes.now address old told refused.new }
+    // By any other they are those of the FDE that stands where an entry that covers the address leads, or none.
+    ensures any { let old : Buffers = record { blocks = blocks.old; bytes = expressions.old } in let told : Told = record { status = result; buffers = record { blocks = blocks.new; bytes = expressions.new }; all = all.new } in AreAnyExpressions (target_of address_size byte_order) bytes.now index.now address old told refused.new }
 {
     *all = no_blocks();
     *refused = not_refused();

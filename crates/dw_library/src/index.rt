@@ -3,7 +3,8 @@
 ghost use Rattle.std.specs.Prelude.{◌≡◌, ◌<◌, ◌≤◌, List, IfOk, IfErr, OnErr, MatchResult, length, map, slice_set};
 ghost use Rattle.dw_num.specs.Refusals.{Refuses};
 ghost use Rattle.dw_section.specs.Accepted.{CheckFault};
-ghost use Rattle.dw_section.specs.Inner.Table.{IsTable};
+ghost use Rattle.dw_section.specs.StandingFde.{Misleads, RefusesWithin};
+ghost use Rattle.dw_section.specs.Ranges.{IsTable};
 ghost use Rattle.dw_section.specs.declared.fde_range.Ranged.{Ranged as TheRanged};
 ghost use Rattle.dw_section.specs.declared.standing_fde.LookUpError.TheVariants as TheLookUpError;
 ghost use Rattle.dw_library.specs.Answers.{target_of};
@@ -284,7 +285,9 @@ fn put_row(
     row: &mut Row,
 ) -> Result<u32, LookUpError>
     ensures own { IsTable target bytes.now index.now → row.old ≡ no_row → MatchResult result (λ status. TellsRules target bytes.now address out.old (record { status = status; row = row.new; rules = out.new })) (λ e. e ≡ TheLookUpError.OutOfMemory) }
-    ensures any { row.old ≡ no_row → IfOk result (λ status. TellsFde target bytes.now address out.old (record { status = status; row = row.new; rules = out.new })) }
+    ensures any { row.old ≡ no_row → IfOk result (λ status. TellsFde target bytes.now index.now address out.old (record { status = status; row = row.new; rules = out.new })) }
+    ensures bad { IfErr result (λ e. e ≡ TheLookUpError.BadIndex → Misleads target bytes.now index.now address) }
+    ensures within { IfErr result (RefusesWithin bytes.now) }
     ensures kept { OnErr result ((out.new ≡ out.old) × (row.new ≡ row.old)) }
 {
     let mut room = RowRoom::new(alloc);
@@ -310,8 +313,8 @@ pub extern "C" fn dwframe_row_at(
 ) -> u32
     // By the index of an accepted section it tells what the section says.
     ensures own { let told : Told = record { status = result; row = row.new; rules = rules.new } in IsRow (target_of address_size byte_order) bytes.now index.now address rules.old told refused.new }
-    // By any other it tells what an FDE says that stands in the bytes.
-    ensures any { let told : Told = record { status = result; row = row.new; rules = rules.new } in IsAnyRow (target_of address_size byte_order) bytes.now address rules.old told refused.new }
+    // By any other it tells what the FDE says that stands where an entry that covers the address leads, or that no entry or no such FDE does.
+    ensures any { let told : Told = record { status = result; row = row.new; rules = rules.new } in IsAnyRow (target_of address_size byte_order) bytes.now index.now address rules.old told refused.new }
 {
     *row = no_row();
     *refused = not_refused();

@@ -4,15 +4,15 @@ use Rattle.std.specs.Prelude.{OnOk}
 use Rattle.std.specs.Result.{is_ok, IsErrAnd}
 use Rattle.std.proofs.Math.Seq.{take-append-add, take-append_seam, drop-append_seam}
 use Rattle.std.proofs.lemmas.List.{length-append, take-append-le, take_rest, take_at}
-use Rattle.dw_normal.specs.Answers.{Took}
+use Rattle.std.specs.Io.KnownBytes.{Appends}
 use Rattle.dw_normal.specs.Inner.Puts.{Puts, taken_by, after}
 use Rattle.dw_normal.specs.declared.entry.PutError.{PutError}
 use Rattle.dw_normal.specs.declared.entry.PutError.TheVariants.{Write, Memory}
-use Rattle.dw_normal.proofs.Taken.{took_none, took_both}
+use Rattle.std.proofs.KnownBytes.{Appends-nil, Appends-trans}
 
 -- none was put
 pub none_put : (bytes : List ℕ) (f : ℕ) (o : Option (List ℕ)) → Puts bytes (Err (Memory 0)) f f o o
-none_put bytes f o = (refl, omega arith, took_none o)
+none_put bytes f o = (refl, omega arith, Appends-nil o)
 
 -- an answer takes no more than the bytes
 pub most_taken : (bytes : List ℕ) (r : Result ℕ PutError) (f g : ℕ) (o n : Option (List ℕ)) → Puts bytes r f g o n → taken_by r ≤ length bytes
@@ -20,25 +20,25 @@ most_taken bytes (Ok k) f g o n h = omega (arith, h.1)
 most_taken bytes (Err (Write w)) f g o n h = h.1
 most_taken bytes (Err (Memory w)) f g o n h = h.1
 
-took_front : (xs ys : List ℕ) (w : ℕ) (o n : Option (List ℕ)) → w ≤ length xs → Took o (take w xs) n → Took o (take w (xs ++ ys)) n
-took_front xs ys w o n le h = subst (λ (l : List ℕ). Took o l n) (sym (take-append-le w xs ys le)) h
+took_front : (xs ys : List ℕ) (w : ℕ) (o n : Option (List ℕ)) → w ≤ length xs → Appends o n (take w xs) → Appends o n (take w (xs ++ ys))
+took_front xs ys w o n le h = subst (λ (l : List ℕ). Appends o n l) (sym (take-append-le w xs ys le)) h
 
 -- a failure among bytes is one among more of them
 pub put_begins : (xs ys : List ℕ) (e : PutError) (f g : ℕ) (o n : Option (List ℕ)) → Puts xs (Err e) f g o n → Puts (xs ++ ys) (Err e) f g o n
 put_begins xs ys (Write w) f g o n h = (h.0, omega (arith, h.1, length-append xs ys), took_front xs ys w o n h.1 h.2)
 put_begins xs ys (Memory w) f g o n h = (h.0, omega (arith, h.1, length-append xs ys), took_front xs ys w o n h.1 h.2)
 
-took_behind : (xs ys : List ℕ) (c w : ℕ) (o m n : Option (List ℕ)) → c ≡ length xs → Took o xs m → Took m (take w ys) n → Took o (take (c + w) (xs ++ ys)) n
+took_behind : (xs ys : List ℕ) (c w : ℕ) (o m n : Option (List ℕ)) → c ≡ length xs → Appends o m xs → Appends m n (take w ys) → Appends o n (take (c + w) (xs ++ ys))
 took_behind xs ys c w o m n is h k =
     let here : xs ++ take w ys ≡ take (c + w) (xs ++ ys) = sym (take-append-add xs ys w) ∙ ap (λ (k : ℕ). take (k + w) (xs ++ ys)) (sym is) in
-    subst (λ (l : List ℕ). Took o l n) here (took_both o m n xs (take w ys) h k)
+    subst (λ (l : List ℕ). Appends o n l) here (Appends-trans o m n xs (take w ys) h k)
 
 -- bytes behind others that were all taken
 pub puts_both : (xs ys : List ℕ) (c : ℕ) (r : Result ℕ PutError) (f g h : ℕ) (o m n : Option (List ℕ)) → Puts xs (Ok c) f g o m → Puts ys r g h m n → Puts (xs ++ ys) (after c r) f h o n
 puts_both xs ys c (Ok k) f g h o m n p q =
     let one = p.1 in
     let two = q.1 in
-    (q.0 ∙ p.0, omega (arith, one, two, length-append xs ys), took_both o m n xs ys p.2 q.2)
+    (q.0 ∙ p.0, omega (arith, one, two, length-append xs ys), Appends-trans o m n xs ys p.2 q.2)
 puts_both xs ys c (Err (Write w)) f g h o m n p q =
     let one = p.1 in
     let two = q.1 in
@@ -55,7 +55,7 @@ pub put_stops : (xs ys : List ℕ) (c : ℕ) (f g : ℕ) (o n : Option (List ℕ
 put_stops xs ys c f g o n h =
     let one = h.1 in
     let front : xs ≡ take c (xs ++ ys) = sym (ap (λ (k : ℕ). take k (xs ++ ys)) one ∙ take-append_seam xs ys) in
-    (h.0, omega (arith, one, length-append xs ys), subst (λ (l : List ℕ). Took o l n) front h.2)
+    (h.0, omega (arith, one, length-append xs ys), subst (λ (l : List ℕ). Appends o n l) front h.2)
 
 -- ---- a step of a loop that puts bytes
 

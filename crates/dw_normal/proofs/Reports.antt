@@ -1,6 +1,8 @@
 -- From what is known of a section's members to what the calls over normal forms answer.
 use Rattle.std.proofs.Common.{◌≡◌, ◌⊎◌, ℕ, ◌≤◌, Bool, List, [], length, take, Option, Some, None, Result, Ok, Err, refl, sym, ap, ◌∙◌, subst, inl, inr, arith}
 use Rattle.std.specs.Bool.{Decides}
+use Rattle.std.specs.Io.KnownBytes.{Appends}
+use Rattle.std.proofs.KnownBytes.{Keeps-refl}
 use Rattle.dw_num.specs.Input.{AreBytes}
 use Rattle.dw_num.specs.declared.refusal.Refusal.{Refusal}
 use Rattle.dw_num.specs.declared.target.Target.{Target}
@@ -15,7 +17,7 @@ use Rattle.dw_canon.specs.Canon.{canon}
 use Rattle.dw_canon.specs.Members.{Member, AreMembers}
 use Rattle.dw_canon.specs.Normal.{IsNormalForm}
 use Rattle.dw_canon.proofs.Lent.Canonical.{members_exist, normal_form_is_one, same_exactly}
-use Rattle.dw_normal.specs.Answers.{IsTooLong, IsWithin, NormalFault, SameFault, Took, WentOut, Writes, too_long}
+use Rattle.dw_normal.specs.Answers.{IsTooLong, IsWithin, NormalFault, SameFault, WentOut, Writes, too_long}
 use Rattle.dw_normal.specs.Inner.Answers.{IsShort, IsMeasured, LengthFault, blamed, unread, unwritten}
 use Rattle.dw_normal.specs.Inner.Puts.{Puts, put_is}
 use Rattle.dw_normal.specs.declared.entry.PutError.{PutError}
@@ -101,11 +103,11 @@ pub none_written : (t : Target) (cap : ℕ) (s : List ℕ) (e : ReadError) (resu
 none_written t cap s e result failed old fault is = subst (λ (x : WriteError). Writes t cap s (Err x) failed failed old old) (sym is) (by_error e fault)
   where
     by_error : (x : ReadError) → Refuses (NormalFault t cap s) x → Writes t cap s (Err (unwritten x)) failed failed old old
-    by_error read_error.OutOfMemory h = (refl, inl (refl, refl))
-    by_error (read_error.Refused r) h = (refl, h, refl)
+    by_error read_error.OutOfMemory h = (refl, inl (refl, Keeps-refl old))
+    by_error (read_error.Refused r) h = (refl, h, Keeps-refl old)
 
 module _ (t : Target) (cap : ℕ) (s : List ℕ) (h : IsShort t cap s) (failed failed' : ℕ) (old new : Option (List ℕ)) where
-  went_out : (w : Whole t cap s) (written : ℕ) → written ≤ length (canon t w.members) → Took old (take written (canon t w.members)) new → WentOut t cap s written old new
+  went_out : (w : Whole t cap s) (written : ℕ) → written ≤ length (canon t w.members) → Appends old new (take written (canon t w.members)) → WentOut t cap s written old new
   went_out w written le took = record { normal = canon t w.members; is = w.is; within = w.within; front = le; took = took }
 
   all_written : (w : Whole t cap s) (put : Result ℕ PutError) → Puts (canon t w.members) put failed failed' old new → Writes t cap s (put_is put) failed failed' old new
@@ -122,18 +124,15 @@ module _ (t : Target) (cap : ℕ) (s : List ℕ) (h : IsShort t cap s) (failed f
 
 -- ---- what a tape took
 
-pub on_tape : (bytes items : List ℕ) (new : Option (List ℕ)) → Took (Some []) bytes new → new ≡ Some items → items ≡ bytes
-on_tape bytes items new took is = some_is items bytes (sym is ∙ took)
-  where
-    some_is : (xs ys : List ℕ) → Some xs ≡ Some ys → xs ≡ ys
-    some_is xs ys e = ap (λ (o : Option (List ℕ)). elim o [ Some l ↦ l | None ↦ [] ]) e
+pub on_tape : (bytes items : List ℕ) (new : Option (List ℕ)) → Appends (Some []) new bytes → new ≡ Some items → items ≡ bytes
+on_tape bytes items new took is = subst (λ (o : Option (List ℕ)). Appends (Some []) o bytes) is took
 
 -- what a call that wrote on an empty tape answered
 module _ (t : Target) (cap : ℕ) (s : List ℕ) (b : AreBytes s) (failed failed' : ℕ) (old new : Option (List ℕ)) (empty : old ≡ Some []) where
   pub tape_only : (count : ℕ) (items : List ℕ) → Writes t cap s (Ok count) failed failed' old new → new ≡ Some items → (n : List ℕ) → IsNormalForm t s n → items ≡ n
   tape_only count items w is n normal =
       let out = w.1 in
-      on_tape out.0 items new (subst (λ (x : Option (List ℕ)). Took x out.0 new) empty out.4) is ∙ normal_form_is_one t s out.0 n b out.1 normal
+      on_tape out.0 items new (subst (λ (x : Option (List ℕ)). Appends x new out.0) empty out.4) is ∙ normal_form_is_one t s out.0 n b out.1 normal
 
 pub tape_fault : (t : Target) (cap : ℕ) (s : List ℕ) (failed failed' : ℕ) (old new : Option (List ℕ)) (e : WriteError) (result : ReadError)
     → Writes t cap s (Err e) failed failed' old new → result ≡ unread e → Refuses (NormalFault t cap s) result

@@ -1,5 +1,6 @@
 -- What calls over normal forms answer.
-use Rattle.std.specs.Prelude.{◌≡◌, ◌⊎◌, ℕ, ◌<◌, ◌≤◌, List, ◌++◌, length, Option, Some, None, take, Result, Ok, Err}
+use Rattle.std.specs.Prelude.{◌≡◌, ◌⊎◌, ℕ, ◌<◌, ◌≤◌, List, length, Option, take, Result, Ok, Err}
+use Rattle.std.specs.Io.KnownBytes.{Appends, Keeps}
 use Rattle.dw_num.specs.declared.refusal.Code.TheVariants.{NormalTooLong}
 use Rattle.dw_num.specs.declared.refusal.Refusal.{Refusal}
 use Rattle.dw_num.specs.declared.target.Target.{Target}
@@ -37,24 +38,19 @@ SameFault target cap a b (same_error.Refused Second r) =
 
 -- ---- sinks
 
--- the bytes that a sink took, where it tells them: these more
-abbrev pub Took : Option (List ℕ) → List ℕ → Option (List ℕ) → Type 0
-Took None bytes new = new ≡ None
-Took (Some old) bytes new = new ≡ Some (old ++ bytes)
-
 -- what went out before a failure: a beginning of the normal form within the cap, of which so many bytes were taken
 pub record WentOut (target : Target) (cap : ℕ) (s : List ℕ) (written : ℕ) (old new : Option (List ℕ)) : Type 0 where
   pub normal : List ℕ
   pub is : IsNormalForm target s normal
   pub within : length normal ≤ cap
   pub front : written ≤ length normal
-  pub took : Took old (take written normal) new
+  pub took : Appends old new (take written normal)
 
 -- what a call that writes answers; the counts of failures and the bytes are those of the sink
 abbrev pub Writes : Target → ℕ → List ℕ → Result ℕ WriteError → ℕ → ℕ → Option (List ℕ) → Option (List ℕ) → Type 0
 Writes target cap s (Ok count) failed failed' old new =
-    (failed' ≡ failed) × ((n : List ℕ) × IsNormalForm target s n × (length n ≤ cap) × (count ≡ length n) × Took old n new)
-Writes target cap s (Err (write_error.Refused r)) failed failed' old new = (failed' ≡ failed) × NormalFault target cap s r × (new ≡ old)
+    (failed' ≡ failed) × ((n : List ℕ) × IsNormalForm target s n × (length n ≤ cap) × (count ≡ length n) × Appends old new n)
+Writes target cap s (Err (write_error.Refused r)) failed failed' old new = (failed' ≡ failed) × NormalFault target cap s r × Keeps old new
 Writes target cap s (Err (write_error.Write written)) failed failed' old new = (failed < failed') × WentOut target cap s written old new
 Writes target cap s (Err (write_error.Memory written)) failed failed' old new =
-    (failed' ≡ failed) × (((written ≡ 0) × (new ≡ old)) ⊎ WentOut target cap s written old new)
+    (failed' ≡ failed) × (((written ≡ 0) × Keeps old new) ⊎ WentOut target cap s written old new)

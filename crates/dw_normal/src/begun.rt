@@ -42,6 +42,7 @@ fn shared_row<'r, 'a>(
 pub(crate) fn room_for<'r, 'a>(rows: &'r BTreeMap<u16, Row<'a>>, table: &Table<'a>) -> Begun<'r, 'a>
     requires place { (fs : List TheFde) → AreFdes table.now.target table.now.bytes fs → 0 < length fs }
     requires rows { (ms : List Member) → AreMembers table.now.target table.now.bytes ms → rows.now.entries ≡ initial_rows ms }
+    ensures { result.changes.section ≡ table.now }
 {
     let fde = FdeRef { place: 0 };
     Begun {
@@ -60,10 +61,13 @@ pub(crate) fn begin_fde<'r, 'a>(
 ) -> Result<(), AllocError>
     requires place { (fs : List TheFde) → AreFdes table.now.target table.now.bytes fs → fde.place < length fs }
     requires rows { (ms : List Member) → AreMembers table.now.target table.now.bytes ms → rows.now.entries ≡ initial_rows ms }
+    requires section { begun.old.changes.section ≡ table.now }
     // It can be spelled.
     ensures ready { OnOk result (IsReady table.now.target begun.new) }
     // It is the table's FDE at this place.
     ensures is { (ms : List Member) → AreMembers table.now.target table.now.bytes ms → (d : Member) → OnOk result (Begins ms (slice_index_or ms fde.place d) begun.new) }
+    // Its changes are still those of the section.
+    ensures section { begun.new.changes.section ≡ table.now }
 {
     table.accepted();
     let _ = go_behind_first(&mut begun.changes, table, fde)?;

@@ -106,7 +106,8 @@ pub(crate) fn fill_fde(
     requires begin { begun.old.fde.begin < address_limit target.size }
     requires rises { begun.old.fde.begin ≤ begun.old.fde.end }
     requires range { begun.old.fde.end < begun.old.fde.begin + address_limit target.size }
-    ensures { (ms : List Member) (m : Member) → Begins ms m begun.old → OnOk result (out.new.items ≡ contents target (fde cie_at m.begin (m.end - m.begin) (fde_instrs (initial_of ms m.register) m) (program_bytes target (fde_instrs (initial_of ms m.register) m)))) }
+    ensures contents { (ms : List Member) (m : Member) → Begins ms m begun.old → OnOk result (out.new.items ≡ contents target (fde cie_at m.begin (m.end - m.begin) (fde_instrs (initial_of ms m.register) m) (program_bytes target (fde_instrs (initial_of ms m.register) m)))) }
+    ensures section { begun.new.changes.section ≡ begun.old.changes.section }
 {
     let (listed, shared) = (begun.fde, begun.shared);
     let begin = u128::from(listed.begin);

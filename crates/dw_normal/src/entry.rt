@@ -138,7 +138,9 @@ fn fill_fde_at<'r, 'a>(
     requires rows { (ms : List Member) → AreMembers table.now.target table.now.bytes ms → rows.now.entries ≡ initial_rows ms }
     requires places { (register : ℕ) → place_in places.now.entries register ≡ cie_place table.now.target 0 rows.now.entries register }
     requires small { (ms : List Member) → AreMembers table.now.target table.now.bytes ms → length (canon table.now.target ms) ≤ 2147483647 }
-    ensures { (ms : List Member) → AreMembers table.now.target table.now.bytes ms → (d : Member) → OnOk result (out.new.items ≡ contents table.now.target (fde_with table.now.target ms (slice_index_or ms fde.place d))) }
+    requires section { begun.old.changes.section ≡ table.now }
+    ensures contents { (ms : List Member) → AreMembers table.now.target table.now.bytes ms → (d : Member) → OnOk result (out.new.items ≡ contents table.now.target (fde_with table.now.target ms (slice_index_or ms fde.place d))) }
+    ensures section { begun.new.changes.section ≡ table.now }
 {
     table.accepted();
     begin_fde(begun, rows, table, fde)?;
@@ -161,7 +163,9 @@ fn write_fde<'r, 'a, S: Sink>(
     requires rows { (ms : List Member) → AreMembers table.now.target table.now.bytes ms → rows.now.entries ≡ initial_rows ms }
     requires places { (register : ℕ) → place_in places.now.entries register ≡ cie_place table.now.target 0 rows.now.entries register }
     requires small { (ms : List Member) → AreMembers table.now.target table.now.bytes ms → length (canon table.now.target ms) ≤ 2147483647 }
-    ensures { (ms : List Member) → AreMembers table.now.target table.now.bytes ms → (d : Member) → Puts (entry_bytes table.now.target (fde_with table.now.target ms (slice_index_or ms fde.place d))) result (S.failures sink.old) (S.failures sink.new) (S.taken sink.old) (S.taken sink.new) }
+    requires section { begun.old.changes.section ≡ table.now }
+    ensures puts { (ms : List Member) → AreMembers table.now.target table.now.bytes ms → (d : Member) → Puts (entry_bytes table.now.target (fde_with table.now.target ms (slice_index_or ms fde.place d))) result (S.failures sink.old) (S.failures sink.new) (S.taken sink.old) (S.taken sink.new) }
+    ensures section { begun.new.changes.section ≡ table.now }
 {
     table.accepted();
     if fill_fde_at(buffer, begun, table, rows, places, fde).is_err() {

@@ -19,18 +19,20 @@ use dw_section::{Changes, FdeRef, Table};
 use std::alloc::{AllocError, Global};
 use std::collections::BTreeMap;
 
-/// Goes to the changes of an FDE behind its begin, whose row is lent, and answers how long its programs are.
+/// Goes on to the changes of an FDE behind its begin, whose row is lent, and answers how long its programs are.
 pub(crate) fn go_behind_first<'a>(
     changes: &mut Changes<'a>,
     table: &Table<'a>,
     fde: FdeRef,
 ) -> Result<(usize, usize), AllocError>
-    requires { (fs : List TheFde) → AreFdes table.now.target table.now.bytes fs → fde.place < length fs }
+    requires place { (fs : List TheFde) → AreFdes table.now.target table.now.bytes fs → fde.place < length fs }
+    requires section { changes.old.section ≡ table.now }
     ensures behind { (ms : List Member) → AreMembers table.now.target table.now.bytes ms → (d : Member) → OnOk result (BehindFirst (slice_index_or ms fde.place d) changes.new) }
     ensures lengths { (fs : List TheFde) → AreFdes table.now.target table.now.bytes fs → (d : TheFde) → IfOk result (λ n. HasLengths table.now.target table.now.bytes (slice_index_or fs fde.place d) n.0 n.1) }
+    ensures section { changes.new.section ≡ table.now }
 {
     table.accepted();
-    let lengths = table.go_to_lengths(changes, fde);
+    let lengths = table.go_on_lengths(changes, fde);
     let _ = changes.advance()?;
     Ok(lengths)
 }
@@ -81,7 +83,8 @@ pub(crate) fn keep_all<'a>(
     shared: &mut Row<'a>,
     changes: &mut Changes<'a>,
 ) -> Result<(), AllocError>
-    ensures { (later : List (ℕ × Rules)) → AreToCome changes.old later → OnOk result (shared.new ≡ kept_by shared.old later) }
+    ensures row { (later : List (ℕ × Rules)) → AreToCome changes.old later → OnOk result (shared.new ≡ kept_by shared.old later) }
+    ensures section { changes.new.section ≡ changes.old.section }
 {
     if changes.keeps(shared) {
         return Ok(());
@@ -96,7 +99,8 @@ pub(crate) fn keep_all<'a>(
 
 // Narrows the row of a group to what one more FDE shares with it, whose row at its begin is shown.
 fn share_with<'a>(shared: &mut Row<'a>, changes: &mut Changes<'a>) -> Result<(), AllocError>
-    ensures { (first : Rules) (later : List (ℕ × Rules)) → changes.old.shown ≡ Some first → AreToCome changes.old later → OnOk result (shared.new ≡ kept_by (agreed shared.old first) later) }
+    ensures row { (first : Rules) (later : List (ℕ × Rules)) → changes.old.shown ≡ Some first → AreToCome changes.old later → OnOk result (shared.new ≡ kept_by (agreed shared.old first) later) }
+    ensures section { changes.new.section ≡ changes.old.section }
 {
     let Some(first) = changes.row() else {
         return Err(AllocError);
@@ -107,7 +111,8 @@ fn share_with<'a>(shared: &mut Row<'a>, changes: &mut Changes<'a>) -> Result<(),
 
 // The row of a group that begins with an FDE, whose row at its begin is shown.
 fn first_shared<'a>(changes: &mut Changes<'a>) -> Result<Row<'a>, AllocError>
-    ensures { (first : Rules) (later : List (ℕ × Rules)) → changes.old.shown ≡ Some first → AreToCome changes.old later → IfOk result (λ row. row ≡ kept_by first later) }
+    ensures row { (first : Rules) (later : List (ℕ × Rules)) → changes.old.shown ≡ Some first → AreToCome changes.old later → IfOk result (λ row. row ≡ kept_by first later) }
+    ensures section { changes.new.section ≡ changes.old.section }
 {
     let Some(first) = changes.row() else {
         return Err(AllocError);
@@ -125,7 +130,8 @@ fn begin_group<'a>(
     changes: &mut Changes<'a>,
     register: u16,
 ) -> Result<(), AllocError>
-    ensures { (first : Rules) (later : List (ℕ × Rules)) → changes.old.shown ≡ Some first → AreToCome changes.old later → OnOk result (rows.new.entries ≡ insert_entry nat_cmp rows.old.entries register (kept_by first later)) }
+    ensures rows { (first : Rules) (later : List (ℕ × Rules)) → changes.old.shown ≡ Some first → AreToCome changes.old later → OnOk result (rows.new.entries ≡ insert_entry nat_cmp rows.old.entries register (kept_by first later)) }
+    ensures section { changes.new.section ≡ changes.old.section }
 {
     let row = first_shared(changes)?;
     rows.insert(register, row)?;
@@ -141,7 +147,8 @@ fn add_fde<'a>(
 ) -> Result<(), AllocError>
     requires place { (fs : List TheFde) → AreFdes table.now.target table.now.bytes fs → fde.place < length fs }
     requires behind { (ms : List Member) → AreMembers table.now.target table.now.bytes ms → (d : Member) → BehindFirst (slice_index_or ms fde.place d) changes.old }
-    ensures { (ms : List Member) → AreMembers table.now.target table.now.bytes ms → (d : Member) → OnOk result (rows.new.entries ≡ with_member rows.old.entries (slice_index_or ms fde.place d)) }
+    ensures rows { (ms : List Member) → AreMembers table.now.target table.now.bytes ms → (d : Member) → OnOk result (rows.new.entries ≡ with_member rows.old.entries (slice_index_or ms fde.place d)) }
+    ensures section { changes.new.section ≡ changes.old.section }
 {
     let register = table.fde(fde).return_register;
     if let Some(shared) = rows.get_mut(&register) {

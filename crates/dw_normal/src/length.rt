@@ -49,7 +49,9 @@ fn behind_member<'r, 'a>(
     requires room { room < 2 ^ 64 }
     requires place { (fs : List TheFde) → AreFdes table.now.target table.now.bytes fs → fde.place < length fs }
     requires rows { (ms : List Member) → AreMembers table.now.target table.now.bytes ms → rows.now.entries ≡ initial_rows ms }
-    ensures { (ms : List Member) → AreMembers table.now.target table.now.bytes ms → (d : Member) → IfOk result (MemberLeaves table.now.target ms (slice_index_or ms fde.place d) room) }
+    requires section { begun.old.changes.section ≡ table.now }
+    ensures leaves { (ms : List Member) → AreMembers table.now.target table.now.bytes ms → (d : Member) → IfOk result (MemberLeaves table.now.target ms (slice_index_or ms fde.place d) room) }
+    ensures section { begun.new.changes.section ≡ table.now }
 {
     begin_fde(begun, rows, table, fde)?;
     let (listed, shared) = (begun.fde, begun.shared);

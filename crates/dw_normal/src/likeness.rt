@@ -24,7 +24,9 @@ fn same_rows(first: &Changes<'_>, second: &Changes<'_>) -> bool
 
 // Whether the same changes are to come. It ends at the first one that differs.
 fn same_changes(first: &mut Changes<'_>, second: &mut Changes<'_>) -> Result<bool, AllocError>
-    ensures { (xs ys : List (ℕ × Rules)) → AreToCome first.old xs → AreToCome second.old ys → IfOk result (λ b. Decides b (xs ≡ ys)) }
+    ensures same { (xs ys : List (ℕ × Rules)) → AreToCome first.old xs → AreToCome second.old ys → IfOk result (λ b. Decides b (xs ≡ ys)) }
+    ensures first { first.new.section ≡ first.old.section }
+    ensures second { second.new.section ≡ second.old.section }
 {
     'changes: while let Some(address) = first.advance()? {
         let Some(other) = second.advance()? else {
@@ -58,15 +60,19 @@ fn same_fdes<'a, 'b>(
 ) -> Result<bool, AllocError>
     requires first { (fs : List TheFde) → AreFdes first.now.target first.now.bytes fs → fde.place < length fs }
     requires second { (fs : List TheFde) → AreFdes second.now.target second.now.bytes fs → fde.place < length fs }
-    ensures { (ms ns : List Member) → AreMembers first.now.target first.now.bytes ms → AreMembers second.now.target second.now.bytes ns → (d : Member) → IfOk result (λ b. Decides b (slice_index_or ms fde.place d ≡ slice_index_or ns fde.place d)) }
+    requires section { changes.old.section ≡ first.now }
+    requires other_section { others.old.section ≡ second.now }
+    ensures same { (ms ns : List Member) → AreMembers first.now.target first.now.bytes ms → AreMembers second.now.target second.now.bytes ns → (d : Member) → IfOk result (λ b. Decides b (slice_index_or ms fde.place d ≡ slice_index_or ns fde.place d)) }
+    ensures section { changes.new.section ≡ first.now }
+    ensures other_section { others.new.section ≡ second.now }
 {
     if !same_heads(first.fde(fde), second.fde(fde)) {
         return Ok(false);
     }
     first.accepted();
     second.accepted();
-    first.go_to(changes, fde);
-    second.go_to(others, fde);
+    first.go_on(changes, fde);
+    second.go_on(others, fde);
     same_changes(changes, others)
 }
 

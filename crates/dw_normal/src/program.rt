@@ -220,7 +220,8 @@ pub(crate) fn push_later<'a>(
     requires fits { RowFits target (shown_row changes.old) }
     requires in_space { changes.old.end ≤ address_limit target.size }
     requires stand { Stand target shared.now begin (shown_row changes.old) changes.old }
-    ensures { OnOk result (Appends target shared.now begin (shown_row changes.old) changes.old out.old.items out.new.items) }
+    ensures appends { OnOk result (Appends target shared.now begin (shown_row changes.old) changes.old out.old.items out.new.items) }
+    ensures section { changes.new.section ≡ changes.old.section }
 {
     let mut at = begin;
     'changes: while let Some(address) = changes.advance()? {

@@ -192,7 +192,8 @@ pub(crate) fn behind_later<'a>(
     requires fits { RowFits target (shown_row changes.old) }
     requires in_space { changes.old.end ≤ address_limit target.size }
     requires stand { Stand target shared.now begin (shown_row changes.old) changes.old }
-    ensures { IfOk result (LaterLeaves target shared.now begin (shown_row changes.old) changes.old room) }
+    ensures leaves { IfOk result (LaterLeaves target shared.now begin (shown_row changes.old) changes.old room) }
+    ensures section { changes.new.section ≡ changes.old.section }
 {
     let mut left = room;
     let mut at = begin;
@@ -254,7 +255,8 @@ pub(crate) fn behind_fde<'a>(
     requires fits { RowFits target (shown_row changes.old) }
     requires in_space { changes.old.end ≤ address_limit target.size }
     requires stand { Stand target shared.now begin (shown_row changes.old) changes.old }
-    ensures { IfOk result (FdeLeaves target shared.now begin (shown_row changes.old) changes.old room) }
+    ensures leaves { IfOk result (FdeLeaves target shared.now begin (shown_row changes.old) changes.old room) }
+    ensures section { changes.new.section ≡ changes.old.section }
 {
     let Some(left) = behind_first(room, shared, changes, target)? else {
         return Ok(None);

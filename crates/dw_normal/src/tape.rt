@@ -1,6 +1,6 @@
 //! Sinks: one that keeps its bytes, and one over a writer.
 
-ghost use Rattle.std.specs.Prelude.{◌≡◌, [], Some, None};
+ghost use Rattle.std.specs.Prelude.{◌≡◌, [], Some};
 
 use crate::sink::{Sink, SinkFault};
 use std::alloc::Global;
@@ -49,7 +49,8 @@ impl Sink for Tape {
     }
 }
 
-/// A sink over a writer. It fails where the writer does, and where it writes 0 bytes; it tells no bytes.
+/// A sink over a writer. It fails where the writer does, and where it writes 0 bytes. It tells the bytes that the writer holds,
+/// where those are known.
 #[derive(Drop)]
 pub struct Through<W> {
     writer: W,
@@ -59,6 +60,7 @@ pub struct Through<W> {
 impl<W: Write> Through<W> {
     /// A sink over a writer.
     pub fn new(writer: W) -> Through<W>
+        ensures taken { ⟦<Through<W> as Sink>⟧.taken result ≡ W.contents writer }
         ensures failures { ⟦<Through<W> as Sink>⟧.failures result ≡ 0 }
     {
         Through {
@@ -68,13 +70,15 @@ impl<W: Write> Through<W> {
     }
 
     /// The writer.
-    pub fn into_writer(self) -> W {
+    pub fn into_writer(self) -> W
+        ensures { ⟦<Through<W> as Sink>⟧.taken self ≡ W.contents result }
+    {
         self.writer
     }
 }
 
 impl<W: Write> Sink for Through<W> {
-    ghost taken = { λ _. None };
+    ghost taken = { λ t. W.contents t.writer };
 
     ghost failures = { λ t. t.failures };
 

@@ -44,7 +44,7 @@ body_stays i u j h =
       | inr long ↦ rw (le-ltb (length j.bytes) u.length long) (either_stays (nat_lt u.length (id_width u.form)) i _ _ (omega (arith, h.0), omega (arith, h.1)) (omega (arith, h.0), omega (arith, h.1, length-drop u.length j.bytes)))
     ])
 
-item_stays : (i : Input) → Stays i (item_at i)
+pub item_stays : (i : Input) → Stays i (item_at i)
 unfolding item_at
 item_stays i = stays-then i (unit_length_at i) (λ u. body_at i.at u.0 u.1) (unit_length_stays i) (λ u e k. body_stays i u.0 u.1 k)
 
@@ -59,7 +59,7 @@ cut_within target s r (inr h) =
 
 -- ---- entries
 
-abbrev EndsBy : ℕ → Piece → Type 0
+abbrev pub EndsBy : ℕ → Piece → Type 0
 EndsBy end p = (p.at ≤ end) × (p.contents.at + length p.contents.bytes ≤ end)
 
 pieces_end : (order : Order) (at end : ℕ) (items : List Item) → at + length (all_bytes order items) ≤ end → AllByRecursion (EndsBy end) (pieces order at items)
@@ -86,7 +86,7 @@ stuck_within : {X : Type 0} (P : X → Type 0) (Holds : X → Type 0) (Stuck : X
 stuck_within P Holds Stuck xs s r all one h = one h.it (stuck_one P h.before h.it h.after (subst (AllByRecursion P) h.whole all)) h.stuck
 
 -- the fault of fields lies in the contents
-fields_within : {X : Type 0} (fs : Fields X) (target : Target) (p : Piece) (r : Refusal) → FieldsFault fs (contents_of target p) r → r.at ≤ p.contents.at + length p.contents.bytes
+pub fields_within : {X : Type 0} (fs : Fields X) (target : Target) (p : Piece) (r : Refusal) → FieldsFault fs (contents_of target p) r → r.at ≤ p.contents.at + length p.contents.bytes
 fields_within {X} fs target p r fault =
     let stays : Stays {X = X} (contents_of target p) (Err r) = subst (λ (read : Read X). Stays (contents_of target p) read) (fault_read fs (contents_of target p) r fault) (fields_stay fs (contents_of target p)) in
     stays.1
@@ -103,18 +103,18 @@ headers_within target s r (inr h) =
 
 -- ---- headers
 
-abbrev at_of : Head → ℕ
+abbrev pub at_of : Head → ℕ
 at_of (cie c) = c.at
 at_of (fde f) = f.at
 
-abbrev program_in : Head → Span
+abbrev pub program_in : Head → Span
 program_in (cie c) = c.program
 program_in (fde f) = f.program
 
-abbrev Lies : ℕ → Head → Type 0
+abbrev pub Lies : ℕ → Head → Type 0
 Lies end h = (at_of h ≤ end) × ((program_in h).at + length (program_in h).bytes ≤ end)
 
-has_lies : (target : Target) (places : List ℕ) (end : ℕ) (p : Piece) (h : Head) → EndsBy end p → Has target places p h → Lies end h
+pub has_lies : (target : Target) (places : List ℕ) (end : ℕ) (p : Piece) (h : Head) → EndsBy end p → Has target places p h → Lies end h
 has_lies target places end p h ends (inl c) = let e = fields_end target p _ c.0 c.1 c.2.1 in subst (Lies end) (sym c.3) (ends.0, omega (arith, e, ends.1))
 has_lies target places end p h ends (inr c) = let e = fields_end target p _ c.0 c.1 c.2.1 in subst (Lies end) (sym c.3) (ends.0, omega (arith, e, ends.1))
 

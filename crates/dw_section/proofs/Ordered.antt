@@ -10,7 +10,8 @@ use Rattle.std.proofs.lemmas.List.Sorted.{IsPermutation-map, IsPermutation-sym, 
 use Rattle.std.proofs.lemmas.List.Sums.{sum_by-cons}
 use Rattle.dw_num.specs.declared.refusal.Code.TheVariants.{Overlap}
 use Rattle.dw_section.specs.declared.fde_range.Ranged.{Ranged}
-use Rattle.dw_section.specs.Inner.Index.{range_in, PlacesRise, SameMembers, EndsAt}
+use Rattle.dw_section.specs.Inner.Index.{PlacesRise, SameMembers, EndsAt}
+use Rattle.dw_section.specs.Ranges.{range_in}
 use Rattle.dw_section.specs.Overlap.{Range, Precedes, Ascends, IsIn, AreApart, FirstOverlap, end_of}
 use Rattle.dw_section.proofs.Lent.Index.{all_from}
 use Rattle.dw_section.proofs.Lent.Judged.{all_get}

@@ -25,12 +25,12 @@ use Rattle.dw_section.specs.Inner.PieceHeader.{cie_at, fde_at}
 use Rattle.dw_section.specs.Inner.Index.{IsFound, found_cie, found_head}
 use Rattle.dw_section.specs.Meaning.{Returns}
 use Rattle.dw_section.specs.Meanings.{IsListed as IsListedFde}
-use Rattle.dw_section.specs.Inner.Lookup.{fde_in}
+use Rattle.dw_section.specs.Ranges.{fde_in}
 use Rattle.dw_section.specs.declared.fde_range.Ranged.{Ranged}
 use Rattle.dw_section.specs.Overlap.{Range}
 use Rattle.dw_section.specs.Places.{cie_places}
 use Rattle.dw_section.specs.Programs.{IsAmong}
-use Rattle.dw_section.specs.StandingFde.{StandsIn}
+use Rattle.dw_section.specs.StandingFde.{FdeStands, StandsIn}
 use Rattle.dw_section.specs.Inner.StandingFde.{AreJoined, FoundStands, StandsAt, is_fde}
 use Rattle.dw_section.proofs.Lent.FieldTable.{Ranges, fde_said}
 use Rattle.dw_section.proofs.Lent.HeaderLaws.{has_one, cie_at_again, fde_at_again}
@@ -284,6 +284,16 @@ listed_stands target s hs a register e p r (form, cie_form, named_at, w) at =
       range = ap (λ (x : FdeHead). x.range) one ∙ ap (λ (x : Range). x.range) r.covers;
       register_is = ap (λ (x : CieHead). x.return_register) two ∙ sym r.is;
     }
+
+-- what stands at a place has one range
+pub stands_once : (target : Target) (s : List ℕ) (e : FoundFde) (own : FdeHead) (named : CieHead) → FoundStands target s e → FdeStands target s own named → own.at ≡ e.at → (own.begin ≡ e.begin) × (own.range ≡ e.range)
+stands_once target s e own named (form, cie_form, named_at, w) v at =
+    let mine = found_head form named_at e in
+    let here = has_at target (named_at ∷ []) w.piece (fde mine) w.own_is in
+    let there = has_at target (own.cie_at ∷ []) v.piece (fde own) v.own_is in
+    let same = one_piece target.order s w.piece v.piece w.stands v.stands (sym here ∙ sym at ∙ there) in
+    let one : own ≡ mine = sym (same_fde target (named_at ∷ []) (own.cie_at ∷ []) v.piece mine own (subst (λ (q : Piece). Has target (named_at ∷ []) q (fde mine)) same w.own_is) v.own_is) in
+    (ap (λ (x : FdeHead). x.begin) one, ap (λ (x : FdeHead). x.range) one)
 
 -- and one stands there
 pub stands_listed : (target : Target) (s : List ℕ) (hs : List Head) (a : Range) (register : ℕ) → Headers target s hs → Returns hs a register → StandsAt target s a.at

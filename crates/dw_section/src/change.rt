@@ -144,6 +144,7 @@ impl<'a> Changes<'a> {
     }
 
     // Goes to the changes of an FDE of the section, also where memory ran out before.
+    #[inline(always)]
     pub(crate) fn go_on(&mut self, fde: &FoundFde<'a>)
         requires in_space { fde.now.begin < address_limit self.old.section.target.size }
         requires no_fault { (rows_of self.old.section.target fde.now).fault ≡ None }

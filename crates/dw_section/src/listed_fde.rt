@@ -3,7 +3,8 @@
 ghost use Rattle.std.specs.Prelude.{◌≡◌, ◌<◌, ◌≤◌, List, length, drop, slice_index_or, None};
 ghost use Rattle.dw_section.specs.declared.lookup.Fde.{Fde as TheFde};
 ghost use Rattle.dw_section.specs.Headers.{Head};
-ghost use Rattle.dw_section.specs.Inner.Index.{IsRanged, IsFound, NamesCie, led_to};
+ghost use Rattle.dw_section.specs.Inner.Index.{IsFound, NamesCie, led_to};
+ghost use Rattle.dw_section.specs.Ranges.{IsRanged};
 ghost use Rattle.dw_section.specs.Inner.Initials.{AreInitials};
 ghost use Rattle.dw_section.specs.Inner.Left.{AreHeaders};
 ghost use Rattle.dw_section.specs.Inner.Lookup.{fde_of, IsFoundIn, LedBy, LedSo, rows_of};
@@ -90,6 +91,7 @@ fn cursor_at<'a>(bytes: &'a [u8], at: u32, target: Target) -> Cursor<'a>
 }
 
 /// The FDE of an entry of the list, read again at its place.
+#[inline(always)]
 pub(crate) fn found_fde<'a>(
     bytes: &'a [u8],
     target: Target,
@@ -136,6 +138,7 @@ pub(crate) fn found_fde<'a>(
 
 impl<'a> Table<'a> {
     /// An FDE of the list of `fdes`, with its program and what its CIE says.
+    #[inline(always)]
     pub(crate) fn found(&self, fde: FdeRef) -> FoundFde<'a>
         requires { (fs : List TheFde) → AreFdes self.now.target self.now.bytes fs → fde.place < length fs }
         ensures found { IsFoundIn self.now.target self.now.bytes result }

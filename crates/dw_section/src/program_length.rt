@@ -28,9 +28,10 @@ impl<'a> Table<'a> {
         lengths_in(self.found(fde))
     }
 
-    /// Goes to the changes of an FDE as `go_to` does, and answers what `program_lengths` does: its fields are read once.
-    pub fn go_to_lengths(&self, changes: &mut Changes<'a>, fde: FdeRef) -> (usize, usize)
-        requires { (fs : List TheFde) → AreFdes self.now.target self.now.bytes fs → fde.place < length fs }
+    /// Goes on to the changes of an FDE as `go_on` does, and answers what `program_lengths` does: its fields are read once.
+    pub fn go_on_lengths(&self, changes: &mut Changes<'a>, fde: FdeRef) -> (usize, usize)
+        requires place { (fs : List TheFde) → AreFdes self.now.target self.now.bytes fs → fde.place < length fs }
+        requires section { changes.old.section ≡ self.now }
         ensures begun { (changes.new.failed ≡ false) × (changes.new.shown ≡ None) }
         ensures before { changes.new.before ≡ None }
         ensures section { changes.new.section ≡ self.now }
@@ -39,7 +40,6 @@ impl<'a> Table<'a> {
         ensures end { (fs : List TheFde) → AreFdes self.now.target self.now.bytes fs → (d : TheFde) → changes.new.end ≡ (slice_index_or fs fde.place d).end }
         ensures lengths { (fs : List TheFde) → AreFdes self.now.target self.now.bytes fs → (d : TheFde) → HasLengths self.now.target self.now.bytes (slice_index_or fs fde.place d) result.0 result.1 }
     {
-        changes.turn_to(self.bytes, self.target);
         lengths_in(self.led(changes, fde))
     }
 }

@@ -8,7 +8,7 @@ ghost use Rattle.dw_section.specs.Meaning.{RowStarts, Starts, total};
 ghost use Rattle.dw_num.specs.Input.{AreBytes};
 ghost use Rattle.dw_section.specs.Accepted.{RulesHold};
 ghost use Rattle.dw_section.specs.Headers.{Head};
-ghost use Rattle.dw_section.specs.Inner.Index.{range_in, IsRanged};
+ghost use Rattle.dw_section.specs.Ranges.{IsRanged, range_in};
 ghost use Rattle.dw_section.specs.Inner.Initials.{AreInitials};
 ghost use Rattle.dw_section.specs.Inner.Left.{AreHeaders};
 

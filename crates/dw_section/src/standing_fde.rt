@@ -12,19 +12,19 @@ ghost use Rattle.dw_num.specs.Target.{address_limit};
 ghost use Rattle.dw_section.specs.Headers.{Head, IsFde, head_in};
 ghost use Rattle.dw_section.specs.Programs.{input_of};
 ghost use Rattle.dw_section.specs.declared.fde_range.Ranged.{Ranged as TheRanged};
-ghost use Rattle.dw_section.specs.Inner.Index.{range_in};
-ghost use Rattle.dw_section.specs.Inner.Lookup.{fde_in, fde_of, rows_of};
+ghost use Rattle.dw_section.specs.Ranges.{IsEntry, LeadsTo, Uncovered, fde_in, range_in, IsTable};
+ghost use Rattle.dw_section.specs.Inner.Lookup.{fde_of, rows_of};
 ghost use Rattle.dw_section.specs.Meaning.{AreFdes, Covers, NoneCovers, Returns, RulesAt};
 ghost use Rattle.dw_section.specs.Meanings.{IsListed};
 ghost use Rattle.dw_section.specs.Accepted.{RulesHold};
-ghost use Rattle.dw_section.specs.Inner.Table.{IsTable};
 ghost use Rattle.dw_section.specs.declared.lookup.Fde.{Fde as TheFde};
 ghost use Rattle.dw_section.specs.declared.standing_fde.LookUpError.TheVariants as LookUpError;
-ghost use Rattle.dw_section.specs.Overlap.{Ascends, AreApart, Range};
+ghost use Rattle.dw_section.specs.Overlap.{Ascends, Range};
 ghost use Rattle.std.specs.Bool.{MatchBool};
 ghost use Rattle.dw_section.specs.Inner.Pieces.{piece_in};
-ghost use Rattle.dw_section.specs.StandingFde.{RulesOf, StandsIn};
-ghost use Rattle.dw_section.specs.Inner.StandingFde.{AreJoined, FoundStands, StandsAt, is_fde, of_steps};
+ghost use Rattle.dw_section.specs.StandingFde.{Misleads, NoneStands, RefusesWithin, RulesOf, StandsIn};
+ghost use Rattle.dw_section.specs.FaultPlaces.{IsWithin};
+ghost use Rattle.dw_section.specs.Inner.StandingFde.{AreJoined, FoundStands, LiesInPrograms, StandsAt, is_fde, of_steps};
 
 use crate::entry::{Kind, MOST, Part, Placed, kind_in, next_part, width_of};
 use crate::fde_range::Ranged;
@@ -42,6 +42,7 @@ use std::marker::Model;
 fn piece_at<'a>(bytes: &'a [u8], at: u64, target: Target) -> Result<Option<Placed<'a>>, Refusal>
     requires { length bytes.now ≤ 2147483647 }
     ensures found { IfOk result (λ o. IfSome o (λ p. (p.at ≡ at) × StandsIn target.order bytes.now (piece_in p))) }
+    ensures within { IfErr result (IsWithin bytes.now) }
     ensures only { (p : Piece) → StandsIn target.order bytes.now p → p.at ≡ at → MatchResult result (λ o. MatchOption o ⊥ (λ q. piece_in q ≡ p)) (λ _. ⊥) }
 {
     if at >= bytes.len() as u64 {
@@ -64,6 +65,7 @@ fn piece_at<'a>(bytes: &'a [u8], at: u64, target: Target) -> Result<Option<Place
 fn cie_at<'a>(bytes: &'a [u8], at: u64, target: Target) -> Result<Option<Placed<'a>>, Refusal>
     requires { length bytes.now ≤ 2147483647 }
     ensures found { IfOk result (λ o. IfSome o (λ p. (p.at ≡ at) × (p.kind ≡ kind.Cie) × StandsIn target.order bytes.now (piece_in p))) }
+    ensures within { IfErr result (IsWithin bytes.now) }
     ensures only { (p : Piece) → StandsIn target.order bytes.now p → p.at ≡ at → p.kind ≡ kind.Cie → MatchResult result (λ o. MatchOption o ⊥ (λ q. piece_in q ≡ p)) (λ _. ⊥) }
 {
     let Some(piece) = piece_at(bytes, at, target)? else {
@@ -78,7 +80,8 @@ fn cie_at<'a>(bytes: &'a [u8], at: u64, target: Target) -> Result<Option<Placed<
 // The first field of an FDE: the place of its CIE.
 #[inline(always)]
 fn pointer_of(piece: &Placed<'_>, target: Target) -> Result<u64, Refusal>
-    ensures { (places : List ℕ) (f : FdeFields) (program : Span) → IsFde target places (piece_in piece.now) f program → MatchResult result (λ at. at ≡ f.cie_at) (λ _. ⊥) }
+    ensures within { IfErr result (λ r. r.at ≤ piece.now.contents.at + length piece.now.contents.bytes.now) }
+    ensures only { (places : List ℕ) (f : FdeFields) (program : Span) → IsFde target places (piece_in piece.now) f program → MatchResult result (λ at. at ≡ f.cie_at) (λ _. ⊥) }
 {
     let contents = piece.contents;
     let mut cursor = Cursor::new(contents.bytes, contents.at, target);
@@ -139,6 +142,7 @@ fn fde_in<'a>(
     requires kind { own.now.kind ≡ kind.Fde }
     requires stands { StandsIn target.order bytes.now (piece_in own.now) }
     ensures found { IfOk result (λ o. IfSome o (λ e. (e.at ≡ own.now.at) × FoundStands target bytes.now e)) }
+    ensures within { IfErr result (IsWithin bytes.now) }
     ensures only { StandsAt target bytes.now own.now.at → MatchResult result IsSome (λ _. ⊥) }
 {
     let pointer = pointer_of(own, target)?;
@@ -158,6 +162,7 @@ fn fde_in<'a>(
 fn standing<'a>(bytes: &'a [u8], at: u64, target: Target) -> Result<Option<FoundFde<'a>>, Refusal>
     requires { length bytes.now ≤ 2147483647 }
     ensures found { IfOk result (λ o. IfSome o (λ e. (e.at ≡ at) × FoundStands target bytes.now e)) }
+    ensures within { IfErr result (IsWithin bytes.now) }
     ensures only { StandsAt target bytes.now at → MatchResult result IsSome (λ _. ⊥) }
 {
     let Some(piece) = piece_at(bytes, at, target)? else {
@@ -188,8 +193,8 @@ fn covers(fde: &Ranged, address: u64) -> bool
 // The entry of an index that covers an address.
 fn entry_at(index: &[Ranged], address: u64) -> Option<Ranged>
     ensures covers { IfSome result (λ e. Covers address (fde_in e)) }
-    ensures among { IfSome result (λ e. (i : ℕ) × (i < length index.now) × ((d : TheRanged) → e ≡ slice_index_or index.now i d)) }
-    ensures none { Ascends (map range_in index.now) → AreApart (map range_in index.now) → result ≡ None → NoneCovers address (map fde_in index.now) }
+    ensures among { IfSome result (λ e. IsEntry e index.now) }
+    ensures none { result ≡ None → Uncovered index.now address }
 {
     let begun = begun(index, address);
     if begun == 0 {
@@ -302,6 +307,7 @@ fn run_fde<'a>(
     ensures runs { RunsTo fde.now.factors (input_of target (span_of fde.now.cie_program)) (input_of target (span_of fde.now.program)) fde.now.begin (rows_of target fde.now) }
     ensures found { OnOk result (last_at address (rows_of target fde.now).rows ≡ Some room.new) }
     ensures err { IfErr result (Refuses (λ r. (rows_of target fde.now).fault ≡ Some r)) }
+    ensures within { IfErr result (Refuses (LiesInPrograms target fde.now)) }
 {
     let (cie, program) = (fde.cie_program, fde.program);
     are_bytes(cie.bytes);
@@ -320,6 +326,8 @@ fn row_of<'a>(
 ) -> Result<StandingFde, LookUpError>
     requires { length bytes.now ≤ 2147483647 }
     ensures found { IfOk result (λ fde. RulesOf target bytes.now at address (record { fde = fde; row = room.new })) }
+    ensures bad { IfErr result (λ e. e ≡ LookUpError.BadIndex → NoneStands target bytes.now at address) }
+    ensures within { IfErr result (RefusesWithin bytes.now) }
     ensures own { (hs : List Head) (a : Range) (register : ℕ) → RulesHold target bytes.now hs → Returns hs a register → a.at ≡ at → a.begin ≤ address → address < a.begin + a.range → MatchResult result (λ fde. (fde ≡ fde_in (record { begin = a.begin; range = a.range; at = a.at; return_register = register })) × RulesAt target bytes.now address room.new) (λ e. e ≡ LookUpError.OutOfMemory) }
 {
     are_bytes(bytes);
@@ -352,8 +360,12 @@ pub fn look_up<'a>(
 ) -> Result<Option<StandingFde>, LookUpError>
     // By the index of an accepted section it is what the section says.
     ensures own { IsTable target bytes.now index.now → MatchResult result (λ o. MatchOption o ((fs : List TheFde) → AreFdes target bytes.now fs → NoneCovers address fs) (λ fde. RulesAt target bytes.now address room.new × ((fs : List TheFde) → AreFdes target bytes.now fs → IsListed fde fs))) (λ e. e ≡ LookUpError.OutOfMemory) }
-    // By any other it is what an FDE says that stands in the bytes.
-    ensures found { IfOk result (λ o. IfSome o (λ fde. (at : ℕ) × RulesOf target bytes.now at address (record { fde = fde; row = room.new }))) }
+    // By any other it is what the FDE says that stands where an entry that covers the address leads, or none where no entry does.
+    ensures found { IfOk result (λ o. MatchOption o (Uncovered index.now address) (λ fde. (at : ℕ) × LeadsTo index.now address at × RulesOf target bytes.now at address (record { fde = fde; row = room.new }))) }
+    // A bad index leads to a place where no FDE that covers the address stands.
+    ensures bad { IfErr result (λ e. e ≡ LookUpError.BadIndex → Misleads target bytes.now index.now address) }
+    // A refusal has its place in the bytes or at their end.
+    ensures within { IfErr result (RefusesWithin bytes.now) }
 {
     if bytes.len() > MOST {
         return Err(LookUpError::Refused(Refusal {

@@ -15,7 +15,8 @@ ghost use Rattle.dw_section.specs.declared.lookup.Fde.{Fde as TheFde};
 ghost use Rattle.dw_section.specs.Meaning.{AreFdes};
 ghost use Rattle.dw_section.specs.Pieces.{Pieces};
 ghost use Rattle.dw_section.specs.Table.{Section};
-ghost use Rattle.dw_section.specs.Inner.Table.{AreRanges, IsKept, IsTable};
+ghost use Rattle.dw_section.specs.Inner.Table.{AreRanges, IsKept};
+ghost use Rattle.dw_section.specs.Ranges.{IsTable};
 
 use crate::entry::{EntryCounts, cut};
 use crate::fde_range::{Ranged, first_overlap, put_in_order, run_fdes};
@@ -39,7 +40,8 @@ pub struct Table<'a> {
 
 impl<'a> Model for Table<'a> {
     ghost use Rattle.dw_section.specs.Table.{Section};
-    ghost use Rattle.dw_section.specs.Inner.Table.{IsTable, IsKept};
+    ghost use Rattle.dw_section.specs.Inner.Table.{IsKept};
+    ghost use Rattle.dw_section.specs.Ranges.{IsTable};
 
     ghost Value = { Section };
 

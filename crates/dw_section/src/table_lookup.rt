@@ -1,6 +1,6 @@
 //! Look-ups of addresses in a table, one after another (6.4.1).
 
-ghost use Rattle.std.specs.Prelude.{◌≡◌, ℕ, false, List, Some, None, IfOk, OnOk, MatchOption};
+ghost use Rattle.std.specs.Prelude.{◌≡◌, ℕ, false, List, Some, None, IfOk, OnErr, OnOk, MatchOption};
 ghost use Rattle.dw_section.specs.declared.lookup.Fde.{Fde as TheFde};
 ghost use Rattle.dw_section.specs.Lookups.{LooksUp};
 ghost use Rattle.dw_section.specs.Inner.Lookup.{RunsTo};
@@ -59,10 +59,11 @@ impl<'t, 'a> Lookups<'t, 'a> {
         }
     }
 
-    /// Whether an FDE covers an address, or want of memory. `row` lends the rules there then. The FDE is found by halving,
+    /// Whether an FDE covers an address, or want of memory. `row` lends the rules there then, and else none. The FDE is found by halving,
     /// and its program run up to the address, that of its CIE only where the look-up before found an FDE of another one.
     pub fn find(&mut self, address: u64) -> Result<bool, AllocError>
         ensures found { (fs : List TheFde) → AreFdes self.old.section.target self.old.section.bytes fs → IfOk result (λ found. LooksUp self.old.section fs address found self.new.row) }
+        ensures lost { OnErr result (self.new.row ≡ None) }
         ensures same { self.new.section ≡ self.old.section }
     {
         self.found = false;

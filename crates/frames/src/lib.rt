@@ -5,4 +5,6 @@
 #[cfg(test)]
 mod dumps;
 #[cfg(test)]
+mod errors;
+#[cfg(test)]
 mod frames;

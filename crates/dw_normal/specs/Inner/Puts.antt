@@ -1,16 +1,16 @@
 -- Bytes that are put into a sink one after another.
 use Rattle.std.specs.Prelude.{◌≡◌, ℕ, ◌+◌, ◌<◌, ◌≤◌, List, length, Option, take, Result, Ok, Err}
+use Rattle.std.specs.Io.KnownBytes.{Appends}
 use Rattle.dw_normal.specs.declared.entry.PutError.{PutError}
 use Rattle.dw_normal.specs.declared.entry.PutError.TheVariants.{Write, Memory}
 use Rattle.dw_normal.specs.declared.error.WriteError.{WriteError}
 use Rattle.dw_normal.specs.declared.error.WriteError.TheVariants as write_error
-use Rattle.dw_normal.specs.Answers.{Took}
 
 -- all of them were taken, or a beginning, up to where the sink failed or memory ran out
 abbrev pub Puts : List ℕ → Result ℕ PutError → ℕ → ℕ → Option (List ℕ) → Option (List ℕ) → Type 0
-Puts bytes (Ok count) failed failed' old new = (failed' ≡ failed) × (count ≡ length bytes) × Took old bytes new
-Puts bytes (Err (Write written)) failed failed' old new = (failed < failed') × (written ≤ length bytes) × Took old (take written bytes) new
-Puts bytes (Err (Memory written)) failed failed' old new = (failed' ≡ failed) × (written ≤ length bytes) × Took old (take written bytes) new
+Puts bytes (Ok count) failed failed' old new = (failed' ≡ failed) × (count ≡ length bytes) × Appends old new bytes
+Puts bytes (Err (Write written)) failed failed' old new = (failed < failed') × (written ≤ length bytes) × Appends old new (take written bytes)
+Puts bytes (Err (Memory written)) failed failed' old new = (failed' ≡ failed) × (written ≤ length bytes) × Appends old new (take written bytes)
 
 -- how many were taken
 abbrev pub taken_by : Result ℕ PutError → ℕ

@@ -8,11 +8,10 @@ use Rattle.dw_section.specs.declared.fde_range.Ranged.{Ranged}
 use Rattle.dw_section.specs.declared.lookup.Fde.{Fde}
 use Rattle.dw_section.specs.Headers.{Head, CieHead, FdeHead}
 use Rattle.dw_section.specs.Inner.Heads.{HeadsRise}
-use Rattle.dw_section.specs.Inner.Index.{range_in, IsRanged}
-use Rattle.dw_section.specs.Inner.Lookup.{fde_in}
+use Rattle.dw_section.specs.Ranges.{IsRanged, range_in, fde_in, IsTable}
 use Rattle.dw_section.specs.Meaning.{Returns, Lists, AreFdes, Covers, NoneCovers}
 use Rattle.dw_section.specs.Overlap.{Range, Precedes, Ascends, AreApart, IsIndex, end_of}
-use Rattle.dw_section.specs.Inner.Table.{IsTable, IsKept}
+use Rattle.dw_section.specs.Inner.Table.{IsKept}
 use Rattle.dw_section.specs.declared.entry.EntryCounts.{EntryCounts}
 use Rattle.dw_section.specs.declared.program.Initial.{Initial}
 use Rattle.dw_section.specs.Inner.Initials.{AreInitials}

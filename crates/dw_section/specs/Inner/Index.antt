@@ -5,20 +5,13 @@ use Rattle.dw_num.specs.declared.target.Form.{Form}
 use Rattle.dw_num.specs.Span.{span_of}
 use Rattle.dw_section.specs.declared.fde_range.Ranged.{Ranged}
 use Rattle.dw_section.specs.declared.listed_fde.FoundFde.{FoundFde}
-use Rattle.dw_section.specs.Meaning.{Returns}
 use Rattle.dw_section.specs.Headers.{CieHead, FdeHead, Head, cie, fde}
 use Rattle.dw_section.specs.Overlap.{Range, IsIn, end_of, nonempty}
+use Rattle.dw_section.specs.Ranges.{IsRanged, range_in}
 use Rattle.dw_section.specs.Programs.{IsAmong, FdeRuns, input_of}
 use Rattle.dw_cfa.specs.RowWalk.{Led}
 use Rattle.dw_section.specs.Inner.Initials.{FirstLacking}
 use Rattle.dw_num.specs.declared.target.Target.{Target}
-
-abbrev pub range_in : Ranged → Range
-range_in e = record { at = e.at; begin = e.begin; range = e.range }
-
--- it is of an FDE among the headers, and of the CIE that this names
-abbrev pub IsRanged : List Head → Ranged → Type 0
-IsRanged hs e = Returns hs (range_in e) e.return_register
 
 abbrev pub found_head : Form → ℕ → FoundFde → FdeHead
 found_head form cie_at e = record { at = e.at; form = form; cie_at = cie_at; begin = e.begin; range = e.range; program = span_of e.program }

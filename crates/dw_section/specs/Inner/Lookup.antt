@@ -10,16 +10,12 @@ use Rattle.dw_cfa.specs.RowWalk.{Led}
 use Rattle.dw_cfa.specs.Inner.Runs.{run_rows}
 use Rattle.dw_section.specs.Accepted.{RulesHold}
 use Rattle.dw_section.specs.Headers.{Head}
-use Rattle.dw_section.specs.Inner.Index.{IsFound, NamesCie, led_to}
+use Rattle.dw_section.specs.Inner.Index.{IsFound, NamesCie}
 use Rattle.dw_section.specs.Meaning.{RulesAt}
 use Rattle.dw_section.specs.Programs.{input_of}
 use Rattle.dw_section.specs.Table.{Section}
-use Rattle.dw_section.specs.declared.fde_range.Ranged.{Ranged}
 use Rattle.dw_section.specs.declared.listed_fde.FoundFde.{FoundFde}
 use Rattle.dw_section.specs.declared.lookup.Fde.{Fde}
-
-abbrev pub fde_in : Ranged → Fde
-fde_in e = record { begin = e.begin; end = e.begin + e.range; return_register = e.return_register }
 
 abbrev pub fde_of : FoundFde → Fde
 fde_of e = record { begin = e.begin; end = e.begin + e.range; return_register = e.return_register }

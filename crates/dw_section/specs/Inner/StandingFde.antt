@@ -1,14 +1,18 @@
 -- How the code finds an FDE that stands in bytes.
-use Rattle.std.specs.Prelude.{◌≡◌, ℕ, List, Bool, true, false}
+use Rattle.std.specs.Prelude.{◌≡◌, ◌⊎◌, ℕ, List, Bool, true, false}
 use Rattle.dw_num.specs.declared.error.ReadError.{ReadError}
 use Rattle.dw_num.specs.declared.error.ReadError.TheVariants as read_error
+use Rattle.dw_num.specs.declared.refusal.Refusal.{Refusal}
 use Rattle.dw_num.specs.declared.target.Form.{Form}
 use Rattle.dw_num.specs.declared.target.Target.{Target}
+use Rattle.dw_num.specs.Span.{span_of}
+use Rattle.dw_cfa.specs.FaultPlaces.{IsWithin}
 use Rattle.dw_section.specs.declared.listed_fde.FoundFde.{FoundFde}
 use Rattle.dw_section.specs.declared.standing_fde.LookUpError.{LookUpError}
 use Rattle.dw_section.specs.declared.standing_fde.LookUpError.TheVariants.{Refused, OutOfMemory}
 use Rattle.dw_section.specs.Headers.{CieHead, FdeHead, Head, cie, fde}
 use Rattle.dw_section.specs.Inner.Index.{found_cie, found_head}
+use Rattle.dw_section.specs.Programs.{input_of}
 use Rattle.dw_section.specs.StandingFde.{FdeStands}
 
 -- some FDE stands at a place
@@ -18,6 +22,10 @@ StandsAt target s at = (own : FdeHead) × (named : CieHead) × FdeStands target 
 -- this one does, with what its CIE says
 abbrev pub FoundStands : Target → List ℕ → FoundFde → Type 0
 FoundStands target s e = (form : Form) × (cie_form : Form) × (cie_at : ℕ) × FdeStands target s (found_head form cie_at e) (found_cie cie_form cie_at e.return_register e)
+
+-- what is wrong lies in the FDE's program or in that of its CIE
+abbrev pub LiesInPrograms : Target → FoundFde → Refusal → Type 0
+LiesInPrograms target e r = IsWithin (input_of target (span_of e.cie_program)) r ⊎ IsWithin (input_of target (span_of e.program)) r
 
 abbrev pub is_fde : Head → Bool
 is_fde (cie c) = false

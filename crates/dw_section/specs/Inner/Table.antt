@@ -1,5 +1,5 @@
 -- What the code and its proofs say beside Table.
-use Rattle.std.specs.Prelude.{◌≡◌, ℕ, ◌≤◌, List, length, map}
+use Rattle.std.specs.Prelude.{◌≡◌, ℕ, List, map}
 use Rattle.std.specs.List.{AllByRecursion}
 use Rattle.dw_num.specs.declared.target.Target.{Target}
 use Rattle.dw_section.specs.declared.fde_range.Ranged.{Ranged}
@@ -12,8 +12,9 @@ use Rattle.dw_section.specs.Pieces.{Pieces}
 use Rattle.dw_section.specs.Inner.Initials.{AreInitials}
 use Rattle.dw_section.specs.Inner.Left.{AreHeaders}
 use Rattle.dw_section.specs.Headers.{Head}
-use Rattle.dw_section.specs.Inner.Index.{range_in, IsRanged, PlacesRise}
-use Rattle.dw_section.specs.Overlap.{nonempty, IsIndex, AreApart}
+use Rattle.dw_section.specs.Inner.Index.{PlacesRise}
+use Rattle.dw_section.specs.Ranges.{IsRanged, range_in}
+use Rattle.dw_section.specs.Overlap.{nonempty}
 
 -- these are the nonempty FDEs of a section in order of place
 pub record AreRanges (target : Target) (s : List ℕ) (list : List Ranged) : Type 0 where
@@ -22,19 +23,6 @@ pub record AreRanges (target : Target) (s : List ℕ) (list : List Ranged) : Typ
   pub are : map range_in list ≡ nonempty headers
   pub rise : PlacesRise 0 (map range_in list)
   pub each : AllByRecursion (IsRanged headers) list
-
--- the same in order of begin
-pub record AreIndexed (target : Target) (s : List ℕ) (list : List Ranged) : Type 0 where
-  pub headers : List Head
-  pub hold : RulesHold target s headers
-  pub is_index : IsIndex headers (map range_in list)
-  pub few : length list ≤ 2147483647
-  pub each : AllByRecursion (IsRanged headers) list
-
--- the same, and no two share an address
-pub record IsTable (target : Target) (s : List ℕ) (list : List Ranged) : Type 0 where
-  pub indexed : AreIndexed target s list
-  pub apart : AreApart (map range_in list)
 
 -- the places of a section's CIEs, how many entries it has, and what its FDEs begin with
 pub record IsKept (target : Target) (s : List ℕ) (counts : EntryCounts) (places : List ℕ) (cs : List Initial) : Type 0 where

@@ -82,8 +82,8 @@ fill_fde-requires-clause-range c =
     let is = c.in_ok-begin_fde.ensures.is some.0 some.1 no_member in
     subst (λ (u : Target). begun.fde.end < begun.fde.begin + address_limit u.size) (sym c.target.ensures) (range_fits t s b ok some.0 some.1 (c.requires.small some.0 some.1) k no_member lt begun is c.args.rows.now.entries (c.requires.rows some.0 some.1) c.args.places.now.entries c.requires.places)
 
-pub returns : goal.returns
-returns c = λ ms are d.
+pub returns-clause-contents : goal.returns-clause-contents
+returns-clause-contents c = λ ms are d.
     let t = c.args.table.now.target in
     let s = c.args.table.now.bytes in
     let k = c.args.fde.place in
@@ -95,4 +95,4 @@ returns c = λ ms are d.
     let own = place_own t s c.accepted.ensures.bytes c.accepted.ensures.accepted ms are (c.requires.small ms are) k d lt begun is c.args.rows.now.entries (c.requires.rows ms are) c.args.places.now.entries c.requires.places at c.index-cie_at.ensures in
     let new = c.fill_fde.new.out.items in
     let made = λ (u : Target) (p : ℕ). contents u (fde p m.begin (m.end - m.begin) (fde_instrs (initial_of ms m.register) m) (program_bytes u (fde_instrs (initial_of ms m.register) m))) in
-    on_ok c.fill_fde.result (new ≡ made c.target.result at) (new ≡ contents t (fde_with t ms m)) (λ e. e ∙ ap (λ (u : Target). made u at) c.target.ensures ∙ ap (made t) own) (c.fill_fde.ensures ms m is)
+    on_ok c.fill_fde.result (new ≡ made c.target.result at) (new ≡ contents t (fde_with t ms m)) (λ e. e ∙ ap (λ (u : Target). made u at) c.target.ensures ∙ ap (made t) own) (c.fill_fde.ensures.contents ms m is)

@@ -7,14 +7,14 @@ use Rattle.dw_normal.specs.Inner.Lengths.{cies_bytes}
 use Rattle.dw_normal.proofs.Entries.{CiesPut, cie_small, cie_counted, cies_fail, cies_more, cies_stop, cies_end}
 use Rattle.dw_normal.proofs.Joined.{ok_of, same_err}
 use Rattle.dw_normal.proofs.Sited.{placing_begins, placing_ends}
-use Rattle.dw_normal.proofs.Taken.{took_none}
+use Rattle.std.proofs.KnownBytes.{Appends-nil}
 use Rattle.dw_normal.proofs.entry.write_cies.Goals as goal
 
 pub rows-init : goal.rows-init
 rows-init g c =
     let iterator : c.into_iter-register-iterator.result ≡ c.args.rows.now.entries = search rules in
     let start : CiesPut c.args.target c.args.rows.now.entries c.args.rows.now.entries c.args.places.now.entries 0 (g.S.Sink.failures c.args.sink.now) (g.S.Sink.failures c.args.sink.now) (g.S.Sink.taken c.args.sink.now) (g.S.Sink.taken c.args.sink.now) =
-    record { done = []; puts = (refl, refl, took_none (g.S.Sink.taken c.args.sink.now)); whole = refl; fits = c.requires.fits; placing = placing_begins c.args.target c.args.rows.now.entries c.args.places.now.entries c.requires.rise c.requires.none } in
+    record { done = []; puts = (refl, refl, Appends-nil (g.S.Sink.taken c.args.sink.now)); whole = refl; fits = c.requires.fits; placing = placing_begins c.args.target c.args.rows.now.entries c.args.places.now.entries c.requires.rise c.requires.none } in
     subst (λ (l : List (ℕ × Rules)). CiesPut c.args.target c.args.rows.now.entries l c.args.places.now.entries 0 (g.S.Sink.failures c.args.sink.now) (g.S.Sink.failures c.args.sink.now) (g.S.Sink.taken c.args.sink.now) (g.S.Sink.taken c.args.sink.now)) (sym iterator) start
 
 pub write_cie-requires-clause-room : goal.write_cie-requires-clause-room

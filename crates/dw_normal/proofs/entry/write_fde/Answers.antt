@@ -20,17 +20,17 @@ put_entry-requires-clause-small g c =
     let some = members_exist t s c.accepted.ensures.bytes c.accepted.ensures.accepted in
     let lt = member_below t s c.args.fde.place some.0 some.1 c.requires.place in
     let own = contents t (fde_with t some.0 (get_or some.0 c.args.fde.place no_member)) in
-    let is = ok_of c.fill_fde_at.result (c.fill_fde_at.new.out.items ≡ own) (c.fill_fde_at.ensures some.0 some.1 no_member) c.if-is_err.ensures.negation in
+    let is = ok_of c.fill_fde_at.result (c.fill_fde_at.new.out.items ≡ own) (c.fill_fde_at.ensures.contents some.0 some.1 no_member) c.if-is_err.ensures.negation in
     subst (λ (l : List ℕ). length l < 2 ^ 32) (sym is) (contents_low t some.0 c.args.fde.place no_member lt (c.requires.small some.0 some.1))
 
-pub returns-then-is_err : goal.returns-then-is_err
-returns-then-is_err g c = λ ms are d. none_put (entry_bytes c.args.table.now.target (fde_with c.args.table.now.target ms (get_or ms c.args.fde.place d))) (g.S.Sink.failures c.args.sink.now) (g.S.Sink.taken c.args.sink.now)
+pub returns-then-is_err-clause-puts : goal.returns-then-is_err-clause-puts
+returns-then-is_err-clause-puts g c = λ ms are d. none_put (entry_bytes c.args.table.now.target (fde_with c.args.table.now.target ms (get_or ms c.args.fde.place d))) (g.S.Sink.failures c.args.sink.now) (g.S.Sink.taken c.args.sink.now)
 
-pub returns : goal.returns
-returns g c = λ ms are d.
+pub returns-clause-puts : goal.returns-clause-puts
+returns-clause-puts g c = λ ms are d.
     let t = c.args.table.now.target in
     let own = contents t (fde_with t ms (get_or ms c.args.fde.place d)) in
-    let is = ok_of c.fill_fde_at.result (c.fill_fde_at.new.out.items ≡ own) (c.fill_fde_at.ensures ms are d) c.if-is_err.ensures.negation in
+    let is = ok_of c.fill_fde_at.result (c.fill_fde_at.new.out.items ≡ own) (c.fill_fde_at.ensures.contents ms are d) c.if-is_err.ensures.negation in
     let order : c.target.result.order ≡ t.order = ap (λ (u : Target). u.order) c.target.ensures in
     let P = λ (o : Order) (l : List ℕ). Puts (item_bytes o (entry Dwarf32 l)) c.put_entry.result (g.S.Sink.failures c.args.sink.now) (g.S.Sink.failures c.put_entry.new.sink) (g.S.Sink.taken c.args.sink.now) (g.S.Sink.taken c.put_entry.new.sink) in
     subst (λ (o : Order). P o own) order (subst (P c.target.result.order) is c.put_entry.ensures)

@@ -10,7 +10,7 @@ use Rattle.dw_normal.proofs.length.behind_fdes.Goals as goal
 pub behind_member-requires-clause-room : goal.behind_member-requires-clause-room
 behind_member-requires-clause-room c =
     let some = members_exist c.args.table.now.target c.args.table.now.bytes c.accepted.ensures.bytes c.accepted.ensures.accepted in
-    let left = c.fdes.invariant some.0 some.1 in
+    let left = c.fdes.invariant.0 some.0 some.1 in
     omega (arith, left, c.requires.room)
 
 pub returns-in_default : goal.returns-in_default
@@ -18,16 +18,19 @@ returns-in_default c = λ ms are.
     let t = c.args.table.now.target in
     let count = c.fde_count-count.ensures (map fde_of ms) are.fdes ∙ length-map ms fde_of in
     let lt : c.fdes.place < length ms = omega (arith, count, c.fdes-test.true) in
-    let none = subst (λ (o : Option ℕ). MemberLeaves t ms (get_or ms c.fdes.place no_member) c.fdes.left o) c.in_default.is (c.in_ok-rest.ensures ms are no_member) in
-    fdes_over t ms ms c.fdes.place no_member lt c.args.room c.fdes.left (c.fdes.invariant ms are) none
+    let none = subst (λ (o : Option ℕ). MemberLeaves t ms (get_or ms c.fdes.place no_member) c.fdes.left o) c.in_default.is (c.in_ok-rest.ensures.leaves ms are no_member) in
+    fdes_over t ms ms c.fdes.place no_member lt c.args.room c.fdes.left (c.fdes.invariant.0 ms are) none
 
 pub fdes-preserved : goal.fdes-preserved
-fdes-preserved c = λ ms are.
-    let t = c.args.table.now.target in
-    let count = c.fde_count-count.ensures (map fde_of ms) are.fdes ∙ length-map ms fde_of in
-    let lt : c.fdes.place < length ms = omega (arith, count, c.fdes-test.true) in
-    let some = subst (λ (o : Option ℕ). MemberLeaves t ms (get_or ms c.fdes.place no_member) c.fdes.left o) c.in-Some.is (c.in_ok-rest.ensures ms are no_member) in
-    fdes_more t ms ms c.fdes.place no_member lt c.args.room c.fdes.left (c.fdes.invariant ms are) c.in-Some.rest some
+fdes-preserved c = (
+  λ ms are.
+      let t = c.args.table.now.target in
+      let count = c.fde_count-count.ensures (map fde_of ms) are.fdes ∙ length-map ms fde_of in
+      let lt : c.fdes.place < length ms = omega (arith, count, c.fdes-test.true) in
+      let some = subst (λ (o : Option ℕ). MemberLeaves t ms (get_or ms c.fdes.place no_member) c.fdes.left o) c.in-Some.is (c.in_ok-rest.ensures.leaves ms are no_member) in
+      fdes_more t ms ms c.fdes.place no_member lt c.args.room c.fdes.left (c.fdes.invariant.0 ms are) c.in-Some.rest some,
+  c.in_ok-rest.ensures.section,
+)
 
 pub returns-then-count-eq0 : goal.returns-then-count-eq0
 returns-then-count-eq0 c = λ ms are.
@@ -40,4 +43,4 @@ returns c = λ ms are.
     let t = c.args.table.now.target in
     let count = c.fde_count-count.ensures (map fde_of ms) are.fdes ∙ length-map ms fde_of in
     let all : take c.fdes.place ms ≡ ms = take_all c.fdes.place ms (omega (arith, count, c.fdes-test.false)) in
-    subst (λ (l : List Member). c.fdes.left + length (fdes_bytes t ms l) ≡ c.args.room) all (c.fdes.invariant ms are)
+    subst (λ (l : List Member). c.fdes.left + length (fdes_bytes t ms l) ≡ c.args.room) all (c.fdes.invariant.0 ms are)

@@ -7,16 +7,16 @@ use Rattle.dw_normal.proofs.Alike.{untrue, not_so, if_ok, same_member}
 use Rattle.dw_normal.proofs.ChangesToCome.{come_all}
 use Rattle.dw_normal.proofs.likeness.same_fdes.Goals as goal
 
-pub returns-then-not-same_heads : goal.returns-then-not-same_heads
-returns-then-not-same_heads c = λ ms ns are others d.
+pub returns-then-not-same_heads-clause-same : goal.returns-then-not-same_heads-clause-same
+returns-then-not-same_heads-clause-same c = λ ms ns are others d.
     let m = get_or ms c.args.fde.place d in
     let n = get_or ns c.args.fde.place d in
     let mine : c.fde.result ≡ fde_of m = c.fde.ensures (map fde_of ms) are.fdes (fde_of d) ∙ get_or-map fde_of ms c.args.fde.place d in
     let other : c.fde-2.result ≡ fde_of n = c.fde-2.ensures (map fde_of ns) others.fdes (fde_of d) ∙ get_or-map fde_of ns c.args.fde.place d in
     not_so (m ≡ n) (λ same. untrue (c.if-not-same_heads.ensures.1 (mine ∙ ap fde_of same ∙ sym other)))
 
-pub returns : goal.returns
-returns c = λ ms ns are others d.
+pub returns-clause-same : goal.returns-clause-same
+returns-clause-same c = λ ms ns are others d.
     let k = c.args.fde.place in
     let m = get_or ms k d in
     let n = get_or ns k d in
@@ -25,7 +25,7 @@ returns c = λ ms ns are others d.
     let fde : fde_of m ≡ fde_of n = sym mine ∙ c.if-not-same_heads.ensures.0 refl ∙ other in
     let lt = subst (λ (l : ℕ). k < l) (length-map ms fde_of) (c.requires.first (map fde_of ms) are.fdes) in
     let lt' = subst (λ (l : ℕ). k < l) (length-map ns fde_of) (c.requires.second (map fde_of ns) others.fdes) in
-    let come = come_all c.args.first.now.target c.args.first.now.bytes c.accepted.ensures.bytes c.accepted.ensures.accepted ms are k d lt c.go_to.new.changes c.go_to.ensures.changes c.go_to.ensures.listed in
-    let come' = come_all c.args.second.now.target c.args.second.now.bytes c.accepted-2.ensures.bytes c.accepted-2.ensures.accepted ns others k d lt' c.go_to-2.new.changes c.go_to-2.ensures.changes c.go_to-2.ensures.listed in
+    let come = come_all c.args.first.now.target c.args.first.now.bytes c.accepted.ensures.bytes c.accepted.ensures.accepted ms are k d lt c.go_on.new.changes c.go_on.ensures.changes c.go_on.ensures.listed in
+    let come' = come_all c.args.second.now.target c.args.second.now.bytes c.accepted-2.ensures.bytes c.accepted-2.ensures.accepted ns others k d lt' c.go_on-2.new.changes c.go_on-2.ensures.changes c.go_on-2.ensures.listed in
     if_ok (λ b. Decides b (changes_of m ≡ changes_of n)) (λ b. Decides b (m ≡ n)) c.same_changes.result (λ b h. (λ e. same_member m n fde (h.0 e), λ same. h.1 (ap changes_of same)))
-    (c.same_changes.ensures (changes_of m) (changes_of n) come come')
+    (c.same_changes.ensures.same (changes_of m) (changes_of n) come come')

@@ -6,8 +6,8 @@ use Rattle.dw_normal.specs.Inner.ChangeWalk.{shown_row}
 use Rattle.dw_normal.proofs.Measured.{first_over}
 use Rattle.dw_normal.proofs.room.behind_fde.Goals as goal
 
-pub returns-in_default : goal.returns-in_default
-returns-in_default c =
+pub returns-in_default-clause-leaves : goal.returns-in_default-clause-leaves
+returns-in_default-clause-leaves c =
     let row = shown_row c.args.changes.now in
     let over = subst (λ (o : Option ℕ). Leaves c.args.room (length (program_bytes c.args.target (difference c.args.shared.now c.args.shared.now row))) o) c.in_default.is c.in_ok-left.ensures in
     first_over c.args.target c.args.shared.now c.args.begin row c.args.room c.args.changes.now over

@@ -1,7 +1,7 @@
 use Rattle.std.proofs.Common.{rules, true, ◌≡◌, inl, add-one}
 use Rattle.std.proofs.lemmas.List.Sorted.{IsNonDecreasingBy-from_sort_by_key, answers_always}
 use Rattle.dw_section.specs.declared.fde_range.Ranged.{Ranged}
-use Rattle.dw_section.specs.Inner.Index.{IsRanged}
+use Rattle.dw_section.specs.Ranges.{IsRanged}
 use Rattle.dw_section.proofs.Ordered.{ascends_from, sorted_ascends, same_members, permuted_members, all_permuted}
 use Rattle.dw_section.proofs.fde_range.put_in_order.Goals as goal
 

@@ -1,7 +1,7 @@
 use Rattle.std.proofs.Common.{◌++◌, ◌∷◌, [], take, map, get_or, arith}
 use Rattle.std.proofs.lemmas.List.{get_or_default}
 use Rattle.dw_section.specs.declared.fde_range.Ranged.{Ranged}
-use Rattle.dw_section.specs.Inner.Index.{range_in, IsRanged}
+use Rattle.dw_section.specs.Ranges.{IsRanged, range_in}
 use Rattle.dw_section.specs.Meaning.{Starts}
 use Rattle.dw_section.proofs.Counts.{total_push}
 use Rattle.dw_section.proofs.Lent.Judged.{all_get}

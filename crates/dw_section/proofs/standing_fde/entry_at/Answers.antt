@@ -9,7 +9,7 @@ abbrev none : Ranged
 none = record { begin = 0; range = 0; at = 0; return_register = 0 }
 
 pub returns-then-begun-eq0-clause-none : goal.returns-then-begun-eq0-clause-none
-returns-then-begun-eq0-clause-none c = λ up apart is. none_above c.args.address c.args.index.now (λ k d lt. c.begun-begun.ensures.above up k d (omega (arith, c.if-begun-eq0.true)) lt)
+returns-then-begun-eq0-clause-none c = λ is up apart. none_above c.args.address c.args.index.now (λ k d lt. c.begun-begun.ensures.above up k d (omega (arith, c.if-begun-eq0.true)) lt)
 
 pub returns-then-covers-clause-among : goal.returns-then-covers-clause-among
 returns-then-covers-clause-among c =
@@ -19,7 +19,7 @@ returns-then-covers-clause-among c =
     (i, lt, λ d. get_or_default xs i none d lt)
 
 pub returns-else-covers-clause-none : goal.returns-else-covers-clause-none
-returns-else-covers-clause-none c = λ up apart is.
+returns-else-covers-clause-none c = λ is up apart.
     let xs = c.args.index.now in
     let i = c.begun-begun.result - 1 in
     let some = c.if-begun-eq0.false in

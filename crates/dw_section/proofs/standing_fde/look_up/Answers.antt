@@ -1,8 +1,7 @@
 use Rattle.std.proofs.Common.{map, refl, sym, subst}
 use Rattle.std.proofs.lemmas.Result.{err_from_is_err_and}
 use Rattle.dw_section.specs.declared.lookup.Fde.{Fde}
-use Rattle.dw_section.specs.Inner.Index.{range_in, IsRanged}
-use Rattle.dw_section.specs.Inner.Lookup.{fde_in}
+use Rattle.dw_section.specs.Ranges.{IsRanged, range_in, fde_in}
 use Rattle.dw_section.specs.Meaning.{NoneCovers}
 use Rattle.dw_section.specs.Meanings.{IsListed}
 use Rattle.dw_section.proofs.Lent.FdeLookup.{are_fdes, one_fdes, ranged_of}
@@ -14,7 +13,7 @@ returns-in_default-clause-own c = λ t fs are.
     let target = c.args.target in
     let s = c.args.bytes.now in
     let list = c.args.index.now in
-    subst (NoneCovers c.args.address) (one_fdes target s (map fde_in list) fs (are_fdes target s list t) are) (c.in_default.ensures.none t.indexed.is_index.ascends t.apart refl)
+    subst (NoneCovers c.args.address) (one_fdes target s (map fde_in list) fs (are_fdes target s list t) are) (c.in_default.ensures.none refl t.indexed.is_index.ascends t.apart)
 
 pub returns-in_err-found-clause-own : goal.returns-in_err-found-clause-own
 returns-in_err-found-clause-own c = λ t.
@@ -25,6 +24,11 @@ returns-in_err-found-clause-own c = λ t.
     let own = c.in_err-found.ensures.own t.indexed.headers (range_in entry) entry.return_register t.indexed.hold ranged (sym c.from.ensures) covers.0 covers.1 in
     let e = err_from_is_err_and c.from_residual.result c.from_residual.ensures.1 in
     rw (e.1, e.2, own) refl
+
+pub returns-in_err-found-clause-bad : goal.returns-in_err-found-clause-bad
+returns-in_err-found-clause-bad c =
+    let e = err_from_is_err_and c.from_residual.result c.from_residual.ensures.1 in
+    rw (e.1, e.2) (λ is. (c.from.result, (c.in-Some.entry, c.in-Some.ensures.among, c.in-Some.ensures.covers, c.from.ensures), c.in_err-found.ensures.bad is))
 
 pub returns-clause-own : goal.returns-clause-own
 returns-clause-own c = λ t.

@@ -1,9 +1,16 @@
 use Rattle.std.proofs.Common.{refl, sym, arith}
 use Rattle.dw_section.proofs.StandLaws.{rest_is, never_stuck, stands_here, one_piece}
+use Rattle.std.proofs.lemmas.Result.{err_from_is_err_and}
+use Rattle.dw_section.proofs.StandPlaces.{item_within}
 use Rattle.dw_section.proofs.standing_fde.piece_at.Goals as goal
 
 pub returns-in_err-next_part-clause-only : goal.returns-in_err-next_part-clause-only
 returns-in_err-next_part-clause-only c = λ p stands at. absurd (never_stuck c.args.target c.args.bytes.now p c.args.at c.new-cursor.result _ (rest_is c.new-cursor.result c.args.target c.args.bytes.now c.args.at (omega (arith, c.if-at-bytes.false)) c.new-cursor.ensures) c.in_err-next_part.ensures.exact stands at)
+
+pub returns-in_err-next_part-clause-within : goal.returns-in_err-next_part-clause-within
+returns-in_err-next_part-clause-within c =
+    let e = err_from_is_err_and c.from_residual.result c.from_residual.ensures.1 in
+    rw (e.1, e.2) (item_within c.args.target c.args.bytes.now c.args.at c.new-cursor.result _ (rest_is c.new-cursor.result c.args.target c.args.bytes.now c.args.at (omega (arith, c.if-at-bytes.false)) c.new-cursor.ensures) (omega (arith, c.if-at-bytes.false)) c.in_err-next_part.ensures.exact)
 
 pub returns-in-Entry-clause-found : goal.returns-in-Entry-clause-found
 returns-in-Entry-clause-found c =

@@ -1,9 +1,13 @@
 use Rattle.std.proofs.Common.{sym, ◌++◌, append_assoc, ◌∙◌, ap, List, ℕ}
 use Rattle.dw_section.specs.declared.fields.FdeFields.{FdeFields}
+use Rattle.dw_section.proofs.StandPlaces.{fixed_within}
 use Rattle.dw_section.proofs.standing_fde.pointer_of.Goals as goal
 
-pub returns : goal.returns
-returns c = λ places f program is.
+pub returns-clause-within : goal.returns-clause-within
+returns-clause-within c = fixed_within c.width_of.result (record { at = c.args.piece.now.contents.at; bytes = c.args.piece.now.contents.bytes.now; target = c.args.target }) c.new-cursor.result c.fixed.new.self c.fixed.result c.new-cursor.ensures c.fixed.ensures.exact
+
+pub returns-clause-only : goal.returns-clause-only
+returns-clause-only c = λ places f program is.
     let v = is.1.spells in
     let b = v.2 in
     let whole = is.1.whole ∙ ap (λ (l : List ℕ). l ++ program.bytes) b.whole ∙ append_assoc b.front b.back program.bytes in

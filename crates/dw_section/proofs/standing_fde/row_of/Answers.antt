@@ -7,7 +7,7 @@ use Rattle.dw_section.specs.Meaning.{RulesAt}
 use Rattle.dw_section.specs.Inner.StandingFde.{StandsAt}
 use Rattle.dw_section.proofs.Lent.FdeLookup.{same_fde}
 use Rattle.dw_section.proofs.RowLookup.{runs_so}
-use Rattle.dw_section.proofs.StandLaws.{listed_stands, stands_in_space, stands_listed}
+use Rattle.dw_section.proofs.StandLaws.{listed_stands, stands_in_space, stands_listed, stands_once}
 use Rattle.dw_section.proofs.StandRows.{no_refusal, one_row}
 use Rattle.dw_section.proofs.standing_fde.row_of.Goals as goal
 
@@ -19,6 +19,17 @@ pub returns-in_default-clause-own : goal.returns-in_default-clause-own
 returns-in_default-clause-own c = λ hs a register hold returns at le lt.
     let some = rw c.in_default.is at (c.in_ok-fde.ensures.only (subst (StandsAt c.args.target c.args.bytes.now) at (stands_listed c.args.target c.args.bytes.now hs a register hold.0.0.0 returns))) in
     absurd cc
+
+pub returns-in_default-clause-bad : goal.returns-in_default-clause-bad
+returns-in_default-clause-bad c = λ is own named stands place le lt.
+    let some = rw c.in_default.is at (c.in_ok-fde.ensures.only (own, named, stands, place)) in
+    absurd cc
+
+pub returns-then-not-reaches-clause-bad : goal.returns-then-not-reaches-clause-bad
+returns-then-not-reaches-clause-bad c = λ is own named stands place le lt.
+    let found = rw c.in-Some.is at c.in_ok-fde.ensures.found in
+    let once = stands_once c.args.target c.args.bytes.now c.in-Some.fde own named found.1 stands (place ∙ sym found.0) in
+    absurd (c.if-not-reaches.ensures (omega (arith, once.0, le), omega (arith, once.0, once.1, lt)))
 
 pub returns-then-not-reaches-clause-own : goal.returns-then-not-reaches-clause-own
 returns-then-not-reaches-clause-own c = λ hs a register hold returns at le lt.

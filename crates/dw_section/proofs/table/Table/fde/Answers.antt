@@ -1,7 +1,7 @@
 use Rattle.std.proofs.Common.{length, map, get_or, ap, sym, ◌∙◌, arith}
 use Rattle.std.proofs.lemmas.List.{get_or_default}
 use Rattle.dw_section.specs.declared.fde_range.Ranged.{Ranged}
-use Rattle.dw_section.specs.Inner.Lookup.{fde_in}
+use Rattle.dw_section.specs.Ranges.{fde_in}
 use Rattle.dw_section.proofs.Lent.FdeLookup.{are_fdes, one_fdes, listed_place, listed_fde}
 use Rattle.dw_section.proofs.table.Table.fde.Goals as goal
 

@@ -1,6 +1,6 @@
 use Rattle.std.proofs.Common.{List, length, map, subst, sym, get_or, ◌<◌}
 use Rattle.dw_section.specs.declared.lookup.Fde.{Fde}
-use Rattle.dw_section.specs.Inner.Lookup.{fde_in}
+use Rattle.dw_section.specs.Ranges.{fde_in}
 use Rattle.dw_section.specs.Meaning.{Covers, NoneCovers}
 use Rattle.dw_section.proofs.Lent.FdeLookup.{are_fdes, one_fdes, covers_listed}
 use Rattle.dw_section.proofs.table.Table.fde_at.Goals as goal

@@ -1,6 +1,7 @@
 use Rattle.std.proofs.Common.{rules, ◌∙◌, map, get_or, refl, ap, sym, subst, arith}
 use Rattle.dw_section.specs.Inner.Index.{led_to}
-use Rattle.dw_section.specs.Inner.Lookup.{LedBy, fde_in}
+use Rattle.dw_section.specs.Inner.Lookup.{LedBy}
+use Rattle.dw_section.specs.Ranges.{fde_in}
 use Rattle.dw_section.specs.Table.{Section}
 use Rattle.dw_section.proofs.Lent.FdeLookup.{are_fdes, one_fdes, listed_place, listed_fde, here_of, same_fde}
 use Rattle.dw_section.proofs.RowLookup.{table_some}

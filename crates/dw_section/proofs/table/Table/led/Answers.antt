@@ -2,7 +2,7 @@ use Rattle.std.proofs.Common.{◌∙◌, ap, sym, subst}
 use Rattle.dw_section.specs.declared.lookup.Fde.{Fde}
 use Rattle.dw_section.specs.Changes.{Changing, ToCome}
 use Rattle.dw_section.specs.Inner.Index.{led_to}
-use Rattle.dw_section.specs.Inner.Lookup.{LedBy, rows_of}
+use Rattle.dw_section.specs.Inner.Lookup.{LedBy}
 use Rattle.dw_section.specs.Meaning.{ChangesOf}
 use Rattle.dw_section.specs.Table.{Section}
 use Rattle.dw_section.proofs.RowLookup.{runs_found}

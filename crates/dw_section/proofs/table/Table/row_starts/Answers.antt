@@ -1,6 +1,6 @@
 use Rattle.std.proofs.Common.{ℕ, List, map, sym, subst}
 use Rattle.std.specs.List.{AllByRecursion}
-use Rattle.dw_section.specs.Inner.Index.{range_in, IsRanged}
+use Rattle.dw_section.specs.Ranges.{IsRanged, range_in}
 use Rattle.dw_section.specs.Inner.Initials.{AreInitials}
 use Rattle.dw_section.specs.Inner.Left.{AreHeaders}
 use Rattle.dw_section.proofs.Lent.FdeLookup.{kept_of}

@@ -1,7 +1,7 @@
 use Rattle.std.proofs.Common.{◌≡◌, ◌++◌, ◌∷◌, List, ap, sym, ◌∙◌}
 use Rattle.dw_cfa.proofs.Lent.RowLists.{Entry}
 use Rattle.dw_cfa.proofs.WideRows.{one_more}
-use Rattle.dw_cfa.proofs.row.tree_of.Goals as goal
+use Rattle.dw_cfa.proofs.tree.tree_of.Goals as goal
 
 pub loop-register-preserved : goal.loop-register-preserved
 loop-register-preserved c =

@@ -2,7 +2,7 @@ use Rattle.std.proofs.Common.{length, subst}
 use Rattle.dw_section.specs.declared.lookup.Fde.{Fde}
 use Rattle.dw_section.specs.Meaning.{HasLengths}
 use Rattle.dw_section.proofs.Extents.{found_lengths}
-use Rattle.dw_section.proofs.table.Table.go_to_lengths.Goals as goal
+use Rattle.dw_section.proofs.table.Table.go_on_lengths.Goals as goal
 
 pub returns-clause-lengths : goal.returns-clause-lengths
 returns-clause-lengths c = λ fs are d.

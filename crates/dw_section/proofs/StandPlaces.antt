@@ -1,0 +1,76 @@
+-- What stands in bytes lies in them, and so does what is wrong there.
+use Rattle.std.proofs.Common.{◌≡◌, ℕ, ◌+◌, ◌≤◌, List, ◌++◌, length, drop, Some, Result, Ok, Err, ap, subst, arith}
+use Rattle.std.specs.Prelude.{IfErr}
+use Rattle.std.proofs.lemmas.List.{length-append, length-drop}
+use Rattle.dw_num.specs.declared.target.Order.{Order}
+use Rattle.dw_num.specs.declared.target.Target.{Target}
+use Rattle.dw_num.specs.declared.refusal.Refusal.{Refusal}
+use Rattle.dw_num.specs.declared.error.ReadError.{ReadError}
+use Rattle.dw_num.specs.declared.error.ReadError.TheVariants.{Refused, OutOfMemory}
+use Rattle.dw_num.specs.Front.{Read, Reads, fixed_at}
+use Rattle.dw_num.specs.Input.{Input, AreBytes}
+use Rattle.dw_num.specs.Refusals.{Refuses}
+use Rattle.dw_num.specs.Span.{span_of}
+use Rattle.dw_num.specs.Target.{address_limit}
+use Rattle.dw_num.proofs.Lent.Stays.{Stays, fixed_stays}
+use Rattle.dw_cfa.proofs.Lent.FaultPlaces.{run_within}
+use Rattle.dw_cfa.proofs.Lent.Given.{refused_where_fault, run_runs}
+use Rattle.dw_section.specs.declared.listed_fde.FoundFde.{FoundFde}
+use Rattle.dw_section.specs.Cut.{Item, gap, entry, Piece, item_bytes, piece_of}
+use Rattle.dw_section.specs.FaultPlaces.{IsWithin}
+use Rattle.dw_section.specs.Faults.{item_at}
+use Rattle.dw_section.specs.Fields.{cie_fields, fde_fields}
+use Rattle.dw_section.specs.Headers.{cie, fde}
+use Rattle.dw_section.specs.Programs.{input_of}
+use Rattle.dw_section.specs.StandingFde.{StandsIn}
+use Rattle.dw_section.specs.Inner.Lookup.{rows_of}
+use Rattle.dw_section.specs.Inner.PieceHeader.{cie_at, fde_at}
+use Rattle.dw_section.specs.Inner.StandingFde.{LiesInPrograms}
+use Rattle.dw_section.proofs.FaultPlaces.{EndsBy, fields_within, item_stays}
+use Rattle.dw_section.proofs.Lent.HeaderLaws.{cie_faulty, fde_faulty}
+
+-- an entry ends in the bytes
+pub stand_ends : (order : Order) (s : List ℕ) (p : Piece) → StandsIn order s p → EndsBy (length s) p
+stand_ends order s p w = of w.item (ap length w.whole) w.piece
+  where
+    some_is : (x y : Piece) → Some x ≡ Some y → x ≡ y
+    some_is x y h = cc
+
+    of : (item : Item) → length s ≡ length (w.front ++ (item_bytes order item ++ w.rest)) → piece_of order (length w.front) item ≡ Some p → EndsBy (length s) p
+    of gap whole e = absurd cc
+    of (entry form body) whole e =
+        let len = simp length-append at whole in
+        subst (EndsBy (length s)) (some_is _ p e) (omega (arith, len), omega (arith, len))
+
+-- what keeps an item from standing at a place
+pub item_within : (target : Target) (s : List ℕ) (at : ℕ) (i : Input) (r : Refusal) → i ≡ record { at = at; bytes = drop at s; target = target } → at ≤ length s → item_at i ≡ Err r → IsWithin s r
+item_within target s at i r is inside stuck =
+    let there : Input = record { at = at; bytes = drop at s; target = target } in
+    let here : item_at there ≡ Err r = subst (λ (j : Input). item_at j ≡ Err r) is stuck in
+    let stays : Stays {X = Item} there (Err r) = subst (λ (read : Read Item). Stays there read) here (item_stays there) in
+    omega (arith, stays.1, inside, length-drop at s)
+
+-- a number that is not there
+pub fixed_within : (n : ℕ) (i j new : Input) (result : Result ℕ Refusal) → j ≡ i → Reads (λ (v : ℕ). v) result j (fixed_at n j) new → IfErr result (λ r. r.at ≤ i.at + length i.bytes)
+fixed_within n i j new (Ok v) is h = tt
+fixed_within n i j new (Err r) is h =
+    let stays : Stays {X = ℕ} i (Err r) = subst (λ (read : Read ℕ). Stays i read) (subst (λ (k : Input). fixed_at n k ≡ Err r) is h.0) (fixed_stays n i) in
+    stays.1
+
+-- what is wrong in the fields of an entry
+pub cie_within : (target : Target) (s : List ℕ) (p : Piece) (r : Refusal) → StandsIn target.order s p → cie_at target p ≡ Err r → IsWithin s r
+cie_within target s p r w stuck = omega (arith, fields_within (cie_fields target.size p.form) target p r (cie_faulty target p r stuck), (stand_ends target.order s p w).1)
+
+pub fde_within : (target : Target) (places s : List ℕ) (p : Piece) (r : Refusal) → StandsIn target.order s p → fde_at target places p ≡ Err r → IsWithin s r
+fde_within target places s p r w stuck = omega (arith, fields_within (fde_fields target.size places p.form) target p r (fde_faulty target places p r stuck), (stand_ends target.order s p w).1)
+
+-- what is wrong in the programs of an FDE
+pub lies_in_programs : {V : Type 0} (target : Target) (e : FoundFde) → AreBytes (span_of e.cie_program).bytes → AreBytes (span_of e.program).bytes → e.begin ≤ address_limit target.size → (result : Result V ReadError)
+    → IfErr result (Refuses (λ r. (rows_of target e).fault ≡ Some r)) → IfErr result (Refuses (LiesInPrograms target e))
+lies_in_programs target e cb fb le (Ok v) h = tt
+lies_in_programs target e cb fb le (Err OutOfMemory) h = tt
+lies_in_programs target e cb fb le (Err (Refused r)) h =
+    let cie = input_of target (span_of e.cie_program) in
+    let fde = input_of target (span_of e.program) in
+    let fault = (refused_where_fault e.factors cie fde e.begin cb fb le (rows_of target e) (run_runs e.factors cie fde e.begin cb fb le) r).0 h in
+    run_within e.factors cie fde e.begin r cb fb fault
