@@ -1,6 +1,7 @@
 /* Look-ups by the library for C, of the addresses that `requests lookup` takes and with the sum that it prints:
  *
- *     lookup COUNT FILE 4|8 little|big
+ *     lookup COUNT FILE 4|8 little|big          a call for each address, by an index
+ *     lookup COUNT FILE 4|8 little|big all      one call for all addresses
  *
  * Callgrind's count of a run less that of one with COUNT 0 is the cost of COUNT look-ups. */
 #include <inttypes.h>
@@ -21,34 +22,83 @@ static uint64_t below(uint64_t limit)
     return limit ? number % limit : 0;
 }
 
-int main(int argc, char **argv)
+enum { RULES = 64 };
+
+static uint8_t bytes[1 << 24], size, order;
+static size_t len, entries;
+static dwframe_entry *table;
+static dwframe_refusal refusal;
+
+static int make_index(void)
 {
-    static uint8_t bytes[1 << 24];
-    FILE *file = argc == 5 ? fopen(argv[2], "rb") : NULL;
-    if (!file)
-        return 1;
-    size_t len = fread(bytes, 1, sizeof bytes, file), entries;
-    fclose(file);
-    uint64_t count = strtoull(argv[1], NULL, 10), sum = 0;
-    uint8_t size = (uint8_t)atoi(argv[3]), order = !strcmp(argv[4], "big");
-    dwframe_refusal refusal;
     if (dwframe_index_size(bytes, len, size, order, &entries, &refusal))
         return 2;
-    dwframe_entry *index = malloc(entries * sizeof *index + 1);
-    if (!index || dwframe_index(bytes, len, size, order, index, entries, &entries, &refusal))
-        return 2;
-    for (uint64_t left = count; left; left--) {
-        dwframe_rule rules[64];
-        dwframe_row row;
-        const dwframe_entry *fde = &index[below(entries)];
-        uint64_t address = fde->begin + below(fde->range), found = 1;
-        if (dwframe_row_at(bytes, len, size, order, index, entries, address, rules, 64, &row, &refusal))
+    table = malloc(entries * sizeof *table + 1);
+    return !table || dwframe_index(bytes, len, size, order, table, entries, &entries, &refusal) ? 2 : 0;
+}
+
+static uint64_t next_address(void)
+{
+    const dwframe_entry *fde = &table[below(entries)];
+    return fde->begin + below(fde->range);
+}
+
+static uint64_t with(uint64_t sum, uint64_t address, const dwframe_row *row)
+{
+    uint64_t found = 1;
+    if (row->cfa_kind == DWFRAME_CFA_REGISTER)
+        found = row->cfa_register ^ (row->cfa_offset < 0 ? -(uint64_t)row->cfa_offset : (uint64_t)row->cfa_offset);
+    return sum * 31 + (address ^ found << 32);
+}
+
+static int look_up_each(uint64_t count, uint64_t *sum)
+{
+    dwframe_rule rules[RULES];
+    dwframe_row row;
+    for (; count; count--) {
+        uint64_t address = next_address();
+        if (dwframe_row_at(bytes, len, size, order, table, entries, address, rules, RULES, &row, &refusal))
             return 3;
-        if (row.cfa_kind == DWFRAME_CFA_REGISTER)
-            found = row.cfa_register ^ (row.cfa_offset < 0 ? -(uint64_t)row.cfa_offset : (uint64_t)row.cfa_offset);
-        sum = sum * 31 + (address ^ found << 32);
+        *sum = with(*sum, address, &row);
     }
-    printf("lookups=%" PRIu64 " sum=%016" PRIx64 "\n", count, sum);
-    free(index);
     return 0;
+}
+
+static int look_up_all(uint64_t count, uint64_t *sum)
+{
+    uint64_t *addresses = malloc(count * sizeof *addresses + 1);
+    dwframe_row *rows = malloc(count * sizeof *rows + 1);
+    dwframe_rule *rules = malloc(count * RULES * sizeof *rules + 1);
+    size_t done = 0;
+    if (!addresses || !rows || !rules)
+        return 2;
+    for (uint64_t i = 0; i < count; i++)
+        addresses[i] = next_address();
+    if (dwframe_rows_at(bytes, len, size, order, addresses, count, rows, count, rules, count * RULES, &done, &refusal))
+        return 3;
+    for (uint64_t i = 0; i < done; i++)
+        *sum = with(*sum, addresses[i], &rows[i]);
+    free(addresses);
+    free(rows);
+    free(rules);
+    return 0;
+}
+
+int main(int argc, char **argv)
+{
+    FILE *file = argc == 5 || argc == 6 ? fopen(argv[2], "rb") : NULL;
+    if (!file)
+        return 1;
+    len = fread(bytes, 1, sizeof bytes, file);
+    fclose(file);
+    uint64_t count = strtoull(argv[1], NULL, 10), sum = 0;
+    size = (uint8_t)atoi(argv[3]);
+    order = !strcmp(argv[4], "big");
+    int status = make_index();
+    if (!status)
+        status = argc == 6 ? look_up_all(count, &sum) : look_up_each(count, &sum);
+    if (!status)
+        printf("lookups=%" PRIu64 " sum=%016" PRIx64 "\n", count, sum);
+    free(table);
+    return status;
 }

@@ -140,6 +140,43 @@ static void call_row_at(const uint8_t *bytes, size_t len, const uint8_t *copy, s
     free(blocks);
 }
 
+/* The rows of some addresses by one call, each as a look-up in the index has it. Blocks of a section that says something else
+ * have no index here. */
+static void call_rows_at(const uint8_t *bytes, size_t len, uint8_t size, uint8_t order)
+{
+    size_t entries = 0, count = below(6), rows_room = count + below(3) - (count && !below(8)), room = below(40), done = 0, told = 0;
+    dwframe_refusal refusal;
+    uint64_t *addresses = block(count * sizeof *addresses);
+    dwframe_row *rows = block(rows_room * sizeof *rows), row;
+    dwframe_rule *rules = block(room * sizeof *rules), own[64];
+    if (dwframe_index_size(bytes, len, size, order, &entries, &refusal))
+        entries = 0;
+    dwframe_entry *index = block(entries * sizeof *index);
+    if (entries && dwframe_index(bytes, len, size, order, index, entries, &entries, &refusal))
+        stop_at("no index");
+    for (size_t i = 0; i < count; i++) {
+        const dwframe_entry *entry = entries ? &index[below(entries)] : NULL;
+        addresses[i] = entry && below(8) ? entry->begin + below(entry->range) : number();
+    }
+    dwframe_status status =
+        dwframe_rows_at(bytes, len, size, order, addresses, count, rows, rows_room, rules, room, &done, &refusal);
+    judge(status, &refusal);
+    for (size_t i = 0; i < done; i++) {
+        dwframe_status alone = dwframe_row_at(bytes, len, size, order, index, entries, addresses[i], own, 64, &row, &refusal);
+        if (alone != (rows[i].range ? DWFRAME_OK : DWFRAME_NO_FDE) || memcmp(&row, &rows[i], sizeof row))
+            stop_at("a row that is not that of the look-up");
+        for (uint64_t rule = 0; rule < row.count; rule++, told++)
+            if (told < room && memcmp(&own[rule], &rules[told], sizeof *own))
+                stop_at("a rule that is not that of the look-up");
+    }
+    if (status == DWFRAME_OK ? done != count || told > room : status == DWFRAME_TOO_SHORT ? done && told <= room : done != 0)
+        stop_at("a status that is not so");
+    free(addresses);
+    free(rows);
+    free(rules);
+    free(index);
+}
+
 static void call_all(const uint8_t *bytes, size_t len, uint8_t size, uint8_t order)
 {
     dwframe_counts entries;
@@ -151,6 +188,7 @@ static void call_all(const uint8_t *bytes, size_t len, uint8_t size, uint8_t ord
     judge(dwframe_normalise(copy, damaged_len, size, order, out, room, &needed, &refusal), &refusal);
     judge(dwframe_same(bytes, len, copy, damaged_len, size, order, &alike, &refusal), &refusal);
     call_unwind(copy, damaged_len, size, order);
+    call_rows_at(copy, damaged_len, size, order);
     call_row_at(bytes, len, below(2) ? copy : bytes, damaged_len < len ? damaged_len : len, size, order);
     free(copy);
     free(out);

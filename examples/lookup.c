@@ -1,7 +1,7 @@
-/* Looks addresses up, by an index that is made once, by the library for C:
+/* Looks addresses up, by the library for C:
  *
- *     lookup 4|8 little|big FILE ADDRESS..     prints the row at each address
- *     lookup 4|8 little|big FILE               prints each FDE and its rows, as `dwframe rows`, by a look-up of each address
+ *     lookup 4|8 little|big FILE ADDRESS..     prints the row at each address, by one call for all
+ *     lookup 4|8 little|big FILE               prints each FDE and its rows, as `dwframe rows`, by a look-up of each address in an index
  *
  * FILE is a raw .debug_frame. An expression is printed as the shortest block of its operations, in hexadecimal digits: `expr(2301)`. */
 #include <inttypes.h>
@@ -12,7 +12,7 @@
 #include "dwframe.h"
 
 /* A row has a rule for each of 65,536 registers at most; those of real programs have some twenty. */
-enum { RULES = 512, BYTES = 1 << 14, TEXT = 32 * RULES + 2 * BYTES };
+enum { RULES = 512, BYTES = 1 << 14, TEXT = 32 * RULES + 2 * BYTES, WORDS = 64 };
 
 static uint8_t address_size, byte_order;
 static uint8_t *section;
@@ -117,7 +117,21 @@ static int has_expression(const dwframe_row *row, const dwframe_rule *rules)
     return found;
 }
 
-/* The row at an address as a text, or an empty text where no FDE covers it. */
+/* The row at an address as a text. */
+static int put_text(uint64_t address, char *text, const dwframe_row *row, const dwframe_rule *rules)
+{
+    dwframe_refusal refusal;
+    dwframe_status status = DWFRAME_OK;
+    if (has_expression(row, rules))
+        status = dwframe_expressions_at(section, section_len, address_size, byte_order, table, entries, address, expressions, BYTES,
+            blocks, RULES, &all, &refusal);
+    if (status != DWFRAME_OK)
+        return tell(status, &refusal);
+    put_row(text, row, rules);
+    return 0;
+}
+
+/* The same by a look-up, or an empty text where no FDE covers it. */
 static int look_up(uint64_t address, char *text, dwframe_row *row)
 {
     dwframe_rule rules[RULES];
@@ -127,13 +141,7 @@ static int look_up(uint64_t address, char *text, dwframe_row *row)
     *text = 0;
     if (status == DWFRAME_NO_FDE)
         return 0;
-    if (status == DWFRAME_OK && has_expression(row, rules))
-        status = dwframe_expressions_at(section, section_len, address_size, byte_order, table, entries, address, expressions, BYTES,
-            blocks, RULES, &all, &refusal);
-    if (status != DWFRAME_OK)
-        return tell(status, &refusal);
-    put_row(text, row, rules);
-    return 0;
+    return status == DWFRAME_OK ? put_text(address, text, row, rules) : tell(status, &refusal);
 }
 
 static int print_fde(const dwframe_entry *fde)
@@ -166,22 +174,36 @@ static int print_all(void)
     return status;
 }
 
-static int print_these(char **words)
+static int print_rows(const uint64_t *addresses, const dwframe_row *rows, const dwframe_rule *rules, size_t count)
 {
     static char text[TEXT];
-    dwframe_row row;
-    int status = 0;
-    for (; *words && !status; words++) {
-        uint64_t address = strtoull(*words, NULL, 0);
-        status = look_up(address, text, &row);
-        if (!status)
-            printf("0x%" PRIx64 "%s\n", address, *text ? text : " no FDE");
+    for (size_t i = 0; i < count; i++) {
+        strcpy(text, " no FDE");
+        int status = rows[i].range ? put_text(addresses[i], text, &rows[i], rules) : 0;
+        if (status)
+            return status;
+        printf("0x%" PRIx64 "%s\n", addresses[i], text);
+        rules += rows[i].count;
     }
-    return status;
+    return 0;
+}
+
+static int print_these(char **words, size_t count)
+{
+    uint64_t addresses[WORDS];
+    dwframe_row rows[WORDS];
+    static dwframe_rule rules[WORDS * RULES];
+    dwframe_refusal refusal;
+    size_t done;
+    for (size_t i = 0; i < count; i++)
+        addresses[i] = strtoull(words[i], NULL, 0);
+    dwframe_status status = dwframe_rows_at(section, section_len, address_size, byte_order, addresses, count, rows, WORDS, rules,
+        WORDS * RULES, &done, &refusal);
+    return status == DWFRAME_OK ? print_rows(addresses, rows, rules, done) : tell(status, &refusal);
 }
 
 /* Makes the index, and prints what is asked for. */
-static int run(char **words)
+static int run(char **words, size_t count)
 {
     dwframe_refusal refusal;
     dwframe_status status = dwframe_index_size(section, section_len, address_size, byte_order, &entries, &refusal);
@@ -193,19 +215,19 @@ static int run(char **words)
     status = dwframe_index(section, section_len, address_size, byte_order, table, entries, &entries, &refusal);
     if (status != DWFRAME_OK)
         return tell(status, &refusal);
-    return *words ? print_these(words) : print_all();
+    return count ? print_these(words, count) : print_all();
 }
 
 int main(int argc, char **argv)
 {
-    if (argc < 4)
-        return fail(3, "usage: lookup 4|8 little|big FILE [ADDRESS..]");
+    if (argc < 4 || argc - 4 > WORDS)
+        return fail(3, "usage: lookup 4|8 little|big FILE [ADDRESS..], of 64 addresses at most");
     address_size = (uint8_t)atoi(argv[1]);
     byte_order = strcmp(argv[2], "little") ? DWFRAME_BIG : DWFRAME_LITTLE;
     section = load(argv[3], &section_len);
     if (!section)
         return fail(4, "the file cannot be read");
-    int status = run(argv + 4);
+    int status = run(argv + 4, (size_t)argc - 4);
     free(table);
     free(section);
     return status;

@@ -195,6 +195,22 @@ dwframe_status dwframe_row_at(const uint8_t *bytes, size_t len, uint8_t address_
     const dwframe_entry *index, size_t entries, uint64_t address, dwframe_rule *rules, size_t room, dwframe_row *row,
     dwframe_refusal *refusal) DWFRAME_NONNULL;
 
+/*
+ * The rows of many addresses in any order, as of a profile: the section is judged once, as dwframe_check does, and then each address is
+ * looked up in it. It needs no index. For one address now and then dwframe_row_at costs less.
+ *
+ * `rows[i]` is the row of `addresses[i]`, whose `range` is 0 where no FDE covers it. The rules of the registers of all these rows stand
+ * one after another at `rules`, `rows[i].count` for each, as many as fit into the `room` there; DWFRAME_TOO_SHORT where there are more. A
+ * room of 0 asks for the rows alone.
+ *
+ * `done` says how many rows are told: `count` with DWFRAME_OK, and with DWFRAME_TOO_SHORT where rules do not fit; with
+ * DWFRAME_OUT_OF_MEMORY those before the address whose row needed it. Else it is 0, also with DWFRAME_TOO_SHORT where `rows_room` is less
+ * than `count`. Rows behind these stay.
+ */
+dwframe_status dwframe_rows_at(const uint8_t *bytes, size_t len, uint8_t address_size, uint8_t byte_order,
+    const uint64_t *addresses, size_t count, dwframe_row *rows, size_t rows_room, dwframe_rule *rules, size_t room, size_t *done,
+    dwframe_refusal *refusal) DWFRAME_NONNULL;
+
 /* The column of the CFA, beside the numbers of registers. */
 #define DWFRAME_CFA 65536
 

@@ -104,7 +104,7 @@ pub enum Failure {
     OutOfMemory,
     /// The room that is lent is too short.
     TooShort {
-        /// How many bytes, or registers, are needed.
+        /// How many bytes, registers, rows or rules are needed.
         needed: usize,
     },
     /// The room that is lent for expressions is too short.
@@ -397,6 +397,70 @@ impl Section<'_> {
     }
 }
 
+/// The row of one of many addresses, as `Section::rows_at` writes it.
+#[derive(Clone, Copy, Debug, Default, PartialEq, Eq)]
+#[repr(transparent)]
+pub struct AddressRow(RawRow);
+
+/// The rows of many addresses.
+#[derive(Clone, Copy, Debug, PartialEq, Eq)]
+pub struct Rows<'o> {
+    rows: &'o [AddressRow],
+    rules: &'o [RegisterRule],
+}
+
+impl<'o> Rows<'o> {
+    /// The row of each address in turn, or none where no FDE covers it.
+    pub fn iter(&self) -> impl Iterator<Item = Option<Row<'o>>> + 'o {
+        let mut left = self.rules;
+        self.rows.iter().map(move |AddressRow(row)| {
+            let (own, behind) = left.split_at(row.count as usize);
+            left = behind;
+            (row.range > 0).then(|| row_of(row, own))
+        })
+    }
+}
+
+impl Section<'_> {
+    /// The rows of many addresses in any order. It judges the section again, and makes no index. They are written to the front of
+    /// `rows`, and the rules of their registers one after another to `rules`. `Failure::TooShort` says how many rows are needed where
+    /// there are fewer than addresses, and else how many rules.
+    pub fn rows_at<'o>(
+        &self,
+        addresses: &[u64],
+        rows: &'o mut [AddressRow],
+        rules: &'o mut [RegisterRule],
+    ) -> Result<Rows<'o>, Failure> {
+        let (size, order) = self.target.numbers();
+        let (mut done, mut refusal) = (0, RawRefusal::default());
+        let (bytes, len) = (self.bytes.as_ptr(), self.bytes.len());
+        let (asked, count) = (addresses.as_ptr(), addresses.len());
+        let (out, rows_room) = (rows.as_mut_ptr().cast::<RawRow>(), rows.len());
+        let (told, room) = (rules.as_mut_ptr().cast::<RawRule>(), rules.len());
+        // SAFETY: all slices and both structs are lent for the call, and those that are written are ours alone. A row is a RawRow, and a
+        // rule a RawRule.
+        let status = unsafe {
+            dwframe_rows_at(
+                bytes, len, size, order, asked, count, out, rows_room, told, room, &mut done, &mut refusal,
+            )
+        };
+        let all: u64 = rows[..done].iter().map(|row| row.0.count).sum();
+        let needed = if rows_room < count { count } else { all as usize };
+        answer(status, refusal, needed)?;
+        Ok(Rows { rows: &rows[..done], rules: &rules[..needed] })
+    }
+}
+
+// A row that was told, with the rules of its registers.
+fn row_of<'o>(row: &RawRow, registers: &'o [RegisterRule]) -> Row<'o> {
+    let cfa = match row.cfa_kind {
+        1 => CfaRule::Register { register: row.cfa_register, offset: row.cfa_offset },
+        _ => CfaRule::Expression,
+    };
+    let RawRow { begin, range, return_register, .. } = *row;
+    Row { begin, range, cfa, return_register, registers }
+}
+
 /// Bytes with an index, for look-ups. The bytes are not judged as a whole.
 #[derive(Clone, Copy, Debug, PartialEq, Eq)]
 pub struct Index<'i, 'a> {
@@ -429,12 +493,7 @@ impl<'i, 'a> Index<'i, 'a> {
             dwframe_row_at(bytes, len, size, order, entries, count, address, rules, room, &mut row, &mut refusal)
         };
         answer(status, refusal, row.count as usize)?;
-        let cfa = match row.cfa_kind {
-            1 => CfaRule::Register { register: row.cfa_register, offset: row.cfa_offset },
-            _ => CfaRule::Expression,
-        };
-        let (begin, range, return_register) = (row.begin, row.range, row.return_register);
-        Ok(Row { begin, range, cfa, return_register, registers: &out[..row.count as usize] })
+        Ok(row_of(&row, &out[..row.count as usize]))
     }
 }
 
@@ -739,7 +798,7 @@ struct RawRule {
 }
 
 #[repr(C)]
-#[derive(Clone, Copy, Default)]
+#[derive(Clone, Copy, Debug, Default, PartialEq, Eq)]
 struct RawRow {
     begin: u64,
     range: u64,
@@ -848,6 +907,20 @@ unsafe extern "C" {
         rules: *mut RawRule,
         room: usize,
         row: *mut RawRow,
+        refusal: *mut RawRefusal,
+    ) -> u32;
+    fn dwframe_rows_at(
+        bytes: *const u8,
+        len: usize,
+        address_size: u8,
+        byte_order: u8,
+        addresses: *const u64,
+        count: usize,
+        rows: *mut RawRow,
+        rows_room: usize,
+        rules: *mut RawRule,
+        room: usize,
+        done: *mut usize,
         refusal: *mut RawRefusal,
     ) -> u32;
     fn dwframe_expressions_at(

@@ -2,3 +2,4 @@ mod WindowLaws
 mod Frames
 mod Overlays
 mod JoinedBlocks
+mod Written

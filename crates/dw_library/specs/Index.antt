@@ -101,15 +101,19 @@ pub record Told : Type 0 where
 abbrev pub says : ℕ → List Rule → Told
 says status old = record { status = status; row = no_row; rules = old }
 
--- it tells an FDE and its rules at an address
+-- a row tells an FDE and the rules at an address, but for those of the registers
+pub record IsTold (found : Ruled) (row : Row) : Type 0 where
+  pub begin : row.begin ≡ found.fde.begin
+  pub range : found.fde.end ≡ found.fde.begin + row.range
+  pub return_register : row.return_register ≡ found.fde.return_register
+  pub cfa_kind : row.cfa_kind ≡ cfa_kind_of found.row.cfa
+  pub cfa_register : row.cfa_register ≡ cfa_register_of found.row.cfa
+  pub cfa_offset : row.cfa_offset ≡ cfa_offset_of found.row.cfa
+  pub count : row.count ≡ length found.row.registers
+
+-- a call tells them with those of the registers
 pub record TellsRow (found : Ruled) (old : List Rule) (t : Told) : Type 0 where
-  pub begin : t.row.begin ≡ found.fde.begin
-  pub range : found.fde.end ≡ found.fde.begin + t.row.range
-  pub return_register : t.row.return_register ≡ found.fde.return_register
-  pub cfa_kind : t.row.cfa_kind ≡ cfa_kind_of found.row.cfa
-  pub cfa_register : t.row.cfa_register ≡ cfa_register_of found.row.cfa
-  pub cfa_offset : t.row.cfa_offset ≡ cfa_offset_of found.row.cfa
-  pub count : t.row.count ≡ length found.row.registers
+  pub row : IsTold found t.row
   pub rules : t.rules ≡ over (map rule_of found.row.registers) old
   pub status : t.status ≡ (if nat_le (length found.row.registers) (length old) then ok else too_short)
 

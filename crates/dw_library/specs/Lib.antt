@@ -8,3 +8,4 @@ pub mod CallerFrame
 pub mod Inner
 pub mod Index
 pub mod Expressions
+pub mod Looks

@@ -1,6 +1,6 @@
 //! Look-ups by an index that the caller keeps.
 
-ghost use Rattle.std.specs.Prelude.{◌≡◌, ◌<◌, ◌≤◌, List, IfOk, IfErr, OnErr, MatchResult, length, map, slice_set};
+ghost use Rattle.std.specs.Prelude.{◌≡◌, ◌+◌, ◌<◌, ◌≤◌, List, IfOk, IfErr, OnErr, MatchResult, length, map, slice_set};
 ghost use Rattle.dw_num.specs.Refusals.{Refuses};
 ghost use Rattle.dw_section.specs.Accepted.{CheckFault};
 ghost use Rattle.dw_section.specs.StandingFde.{Misleads, RefusesWithin};
@@ -8,14 +8,14 @@ ghost use Rattle.dw_section.specs.Ranges.{IsTable};
 ghost use Rattle.dw_section.specs.declared.fde_range.Ranged.{Ranged as TheRanged};
 ghost use Rattle.dw_section.specs.declared.standing_fde.LookUpError.TheVariants as TheLookUpError;
 ghost use Rattle.dw_library.specs.Answers.{target_of};
-ghost use Rattle.dw_library.specs.Index.{AreEntries, HasSize, IsAnyRow, IsIndexed, IsRow, TellsFde, TellsRow, TellsRules, Told, cfa_kind_of, cfa_offset_of, cfa_register_of, no_row, over, rule_of};
+ghost use Rattle.dw_library.specs.Index.{AreEntries, HasSize, IsAnyRow, IsIndexed, IsRow, IsTold, TellsFde, TellsRow, TellsRules, Told, cfa_kind_of, cfa_offset_of, cfa_register_of, no_row, over, rule_of};
 
 use crate::answer::{
     BAD_ARGUMENT, OK, OUT_OF_MEMORY, REFUSED, Refused, TOO_SHORT, not_refused, target_of, told,
 };
 use dw_cfa::{CfaRule, RegRule, Row as CfaRow, RowRoom};
 use dw_num::{ReadError, Target};
-use dw_section::{LookUpError, Ranged, StandingFde, check, look_up};
+use dw_section::{Fde, LookUpError, Ranged, StandingFde, check, look_up};
 use std::alloc::Global;
 
 /// No entry of the index covers the address.
@@ -196,8 +196,8 @@ fn put_rule(out: &mut [Rule], place: u64, rule: Rule)
     }
 }
 
-// Writes the rules of a row to the front of a buffer, as many as fit, and tells how many there are.
-fn put_rules(row: &CfaRow<'_>, out: &mut [Rule]) -> u64
+/// Writes the rules of a row to the front of a buffer, as many as fit, and tells how many there are.
+pub(crate) fn put_rules(row: &CfaRow<'_>, out: &mut [Rule]) -> u64
     ensures count { result ≡ length row.now.registers }
     ensures rules { out.new ≡ over (map rule_of row.now.registers) out.old }
 {
@@ -209,7 +209,7 @@ fn put_rules(row: &CfaRow<'_>, out: &mut [Rule]) -> u64
     count
 }
 
-fn no_row() -> Row
+pub(crate) fn no_row() -> Row
     ensures { result ≡ no_row }
 {
     Row {
@@ -251,22 +251,31 @@ fn cfa_offset_of(rule: &CfaRule<'_>) -> i64
     }
 }
 
-// Writes an FDE and a row of it.
-fn tell(found: &StandingFde, rules: &CfaRow<'_>, out: &mut [Rule], row: &mut Row) -> u32
-    ensures { TellsRow (record { fde = found.now; row = rules.now }) out.old (record { status = result; row = row.new; rules = out.new }) }
+/// What is told of an FDE and of a row of it, which has rules for so many registers.
+#[inline(always)]
+pub(crate) fn told_row(fde: Fde, range: u64, rules: &CfaRow<'_>, count: u64) -> Row
+    requires range { fde.end ≡ fde.begin + range }
+    requires count { count ≡ length rules.now.registers }
+    ensures { IsTold (record { fde = fde; row = rules.now }) result }
 {
-    let fde = found.fde();
     let cfa = rules.cfa_rule();
-    let count = put_rules(rules, out);
-    *row = Row {
+    Row {
         begin: fde.begin,
-        range: found.range(),
+        range,
         cfa_offset: cfa_offset_of(cfa),
         count,
         cfa_kind: cfa_kind_of(cfa),
         cfa_register: cfa_register_of(cfa),
         return_register: fde.return_register,
-    };
+    }
+}
+
+// Writes an FDE and a row of it.
+fn tell(found: &StandingFde, rules: &CfaRow<'_>, out: &mut [Rule], row: &mut Row) -> u32
+    ensures { TellsRow (record { fde = found.now; row = rules.now }) out.old (record { status = result; row = row.new; rules = out.new }) }
+{
+    let count = put_rules(rules, out);
+    *row = told_row(found.fde(), found.range(), rules, count);
     if count <= out.len() as u64 {
         OK
     } else {

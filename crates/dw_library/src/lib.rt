@@ -10,6 +10,7 @@ mod caller;
 mod expressions;
 mod forms;
 mod index;
+mod looks;
 mod refusal_name;
 mod registers;
 mod windows;

@@ -250,7 +250,7 @@ impl From<ReadError> for LookUpError {
     }
 }
 
-/// An FDE that stands in bytes. A contract sees the FDE.
+/// An FDE that was found. A contract sees the FDE.
 #[derive(Drop)]
 pub struct StandingFde {
     begin: u64,
@@ -267,7 +267,28 @@ impl Model for StandingFde {
     ghost view = { λ f. record { begin = f.begin; end = f.begin + f.range; return_register = f.return_register } };
 }
 
+/// What is told of an FDE.
+#[inline(always)]
+pub(crate) fn standing_fde(fde: &FoundFde<'_>) -> StandingFde
+    ensures { result ≡ fde_of fde.now }
+{
+    StandingFde {
+        begin: fde.begin,
+        range: fde.range,
+        return_register: fde.return_register,
+    }
+}
+
 impl StandingFde {
+    /// Of no addresses, where none was found.
+    pub(crate) fn none() -> StandingFde {
+        StandingFde {
+            begin: 0,
+            range: 0,
+            return_register: 0,
+        }
+    }
+
     /// Its first address, the one past its last, and the return register.
     pub fn fde(&self) -> Fde
         ensures { result ≡ self.now }

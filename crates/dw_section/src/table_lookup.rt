@@ -2,11 +2,12 @@
 
 ghost use Rattle.std.specs.Prelude.{◌≡◌, ℕ, false, List, Some, None, IfOk, OnErr, OnOk, MatchOption};
 ghost use Rattle.dw_section.specs.declared.lookup.Fde.{Fde as TheFde};
-ghost use Rattle.dw_section.specs.Lookups.{LooksUp};
+ghost use Rattle.dw_section.specs.Lookups.{FindsFde, LooksUp};
 ghost use Rattle.dw_section.specs.Inner.Lookup.{RunsTo};
 ghost use Rattle.dw_section.specs.Meaning.{AreFdes, RulesAt};
 
 use crate::listed_fde::{FoundFde, go_to_rows};
+use crate::standing_fde::{StandingFde, standing_fde};
 use crate::table::Table;
 use dw_cfa::{Row, RowWalk};
 use dw_num::Target;
@@ -30,12 +31,13 @@ fn row_in<'a>(
     }
 }
 
-/// Look-ups of addresses in a table, one after another, in room that is kept. A contract sees the section, and the row
-/// that was found last.
+/// Look-ups of addresses in a table, one after another, in room that is kept. A contract sees the section, and the FDE and the row
+/// that were found last.
 #[derive(Drop)]
 pub struct Lookups<'t, 'a> {
     table: &'t Table<'a>,
     steps: RowWalk<'a>,
+    fde: StandingFde,
     found: bool,
 }
 
@@ -45,25 +47,27 @@ impl<'t, 'a> Model for Lookups<'t, 'a> {
 
     ghost Value = { Finding };
 
-    ghost view = { λ l. record { section = l.table.now; row = shown_if l.found l.steps.steps.current } };
+    ghost view = { λ l. record { section = l.table.now; fde = shown_if l.found l.fde; row = shown_if l.found l.steps.steps.current } };
 }
 
 impl<'t, 'a> Lookups<'t, 'a> {
     pub(crate) fn new(alloc: Global, table: &'t Table<'a>) -> Lookups<'t, 'a>
-        ensures { result ≡ record { section = table.entry.now; row = None } }
+        ensures { result ≡ record { section = table.entry.now; fde = None; row = None } }
     {
         Lookups {
             table,
             steps: RowWalk::new(alloc, table.target()),
+            fde: StandingFde::none(),
             found: false,
         }
     }
 
-    /// Whether an FDE covers an address, or want of memory. `row` lends the rules there then, and else none. The FDE is found by halving,
+    /// Whether an FDE covers an address, or want of memory. `fde` lends it then and `row` the rules there, and else none. The FDE is found by halving,
     /// and its program run up to the address, that of its CIE only where the look-up before found an FDE of another one.
     pub fn find(&mut self, address: u64) -> Result<bool, AllocError>
         ensures found { (fs : List TheFde) → AreFdes self.old.section.target self.old.section.bytes fs → IfOk result (λ found. LooksUp self.old.section fs address found self.new.row) }
-        ensures lost { OnErr result (self.new.row ≡ None) }
+        ensures fde { (fs : List TheFde) → AreFdes self.old.section.target self.old.section.bytes fs → IfOk result (λ found. FindsFde fs address found self.new.fde) }
+        ensures lost { OnErr result ((self.new.row ≡ None) × (self.new.fde ≡ None)) }
         ensures same { self.new.section ≡ self.old.section }
     {
         self.found = false;
@@ -71,8 +75,19 @@ impl<'t, 'a> Lookups<'t, 'a> {
             return Ok(false);
         };
         row_in(&mut self.steps, &fde, address, self.table.target())?;
+        self.fde = standing_fde(&fde);
         self.found = true;
         Ok(true)
+    }
+
+    /// The FDE that `find` found, and none where it found none.
+    pub fn fde(&self) -> Option<&StandingFde>
+        ensures { MatchOption result (self.now.fde ≡ None) (λ fde. self.now.fde ≡ Some fde.now) }
+    {
+        if self.found {
+            return Some(&self.fde);
+        }
+        None
     }
 
     /// The row that `find` found, and none where it found none.

@@ -10,6 +10,7 @@ use Rattle.dw_section.specs.Headers.{Head, CieHead, FdeHead}
 use Rattle.dw_section.specs.Inner.Heads.{HeadsRise}
 use Rattle.dw_section.specs.Ranges.{IsRanged, range_in, fde_in, IsTable}
 use Rattle.dw_section.specs.Meaning.{Returns, Lists, AreFdes, Covers, NoneCovers}
+use Rattle.dw_section.specs.Meanings.{IsListed}
 use Rattle.dw_section.specs.Overlap.{Range, Precedes, Ascends, AreApart, IsIndex, end_of}
 use Rattle.dw_section.specs.Inner.Table.{IsKept}
 use Rattle.dw_section.specs.declared.entry.EntryCounts.{EntryCounts}
@@ -98,6 +99,12 @@ covers_listed a [] i lt h = absurd (omega arith)
 covers_listed a (e ∷ list) zero lt h = (omega arith, λ d. h e)
 covers_listed a (e ∷ list) (suc i) lt h = let rest = covers_listed a list i (omega arith) h in (omega (arith, rest.0), rest.1)
 
+-- an FDE at a place of a list is listed
+pub fde_listed : (f : Fde) (fs : List Fde) (i : ℕ) → i < length fs → ((d : Fde) → f ≡ get_or fs i d) → IsListed f fs
+fde_listed f [] i lt is = absurd (omega arith)
+fde_listed f (x ∷ fs) zero lt is = inl (is x)
+fde_listed f (x ∷ fs) (suc i) lt is = inr (fde_listed f fs i (omega arith) is)
+
 -- a place in any such list is one in that of the table
 pub listed_place : (target : Target) (s : List ℕ) (list : List Ranged) (place : ℕ) → IsTable target s list → ((fs : List Fde) → AreFdes target s fs → place < length fs) → place < length list
 listed_place target s list place t lt = omega (arith, lt (map fde_in list) (are_fdes target s list t), length-map list fde_in)
@@ -136,6 +143,3 @@ here_of target s list counts places cs t k ps ds p-is d-is i e lt is =
 
 pub same_fde : (b r q b' r' q' : ℕ) → b ≡ b' → r ≡ r' → q ≡ q' → ◌≡◌ {A = Fde} (record { begin = b; end = b + r; return_register = q }) (record { begin = b'; end = b' + r'; return_register = q' })
 same_fde b r q b' r' q' e f g = rw (e, f, g) refl
-
-pub fdes_of : (target : Target) (s : List ℕ) (list : List Ranged) → IsTable target s list → (fs : List Fde) × AreFdes target s fs
-fdes_of target s list t = (map fde_in list, are_fdes target s list t)

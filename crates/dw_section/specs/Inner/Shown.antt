@@ -3,7 +3,7 @@ use Rattle.std.specs.Prelude.{Bool, true, false, Option, Some, None}
 use Rattle.dw_cfa.specs.Rows.{Rules}
 
 -- room that holds a row, or none
-abbrev pub shown_if : Bool → Rules → Option Rules
+abbrev pub shown_if : {A : Type 0} → Bool → A → Option A
 shown_if true row = Some row
 shown_if false row = None
 

@@ -1,23 +1,20 @@
-use Rattle.std.proofs.Common.{subst, sym}
-use Rattle.dw_section.specs.Inner.Lookup.{RunsTo}
+use Rattle.std.proofs.Common.{sym, subst}
 use Rattle.dw_section.specs.Inner.Lookup.{fde_of}
-use Rattle.dw_section.specs.Meaning.{Covers, AreFdes}
-use Rattle.dw_section.proofs.Lent.FdeLookup.{fdes_of}
+use Rattle.dw_section.specs.Meaning.{Covers}
+use Rattle.dw_section.proofs.Lent.FdeLookup.{fde_listed}
 use Rattle.dw_section.proofs.RowLookup.{runs_found}
 use Rattle.dw_section.proofs.table.Table.covering.Goals as goal
 
+pub returns-clause-fde : goal.returns-clause-fde
+returns-clause-fde c = λ fs are.
+    let fde = fde_of c.found.result in
+    let at = c.in-Some.ensures fs are in
+    (fde_listed fde fs c.in-Some.fde.place at.0 (λ d. c.found.ensures.listed fs are d), subst (Covers c.args.address) (sym (c.found.ensures.listed fs are fde)) (at.1 fde))
+
 pub returns-clause-some : goal.returns-clause-some
 returns-clause-some c =
-    let t = c.self.inside in
-    let f = c.found.result in
-    let runs = runs_found t.target t.bytes.now c.are_bytes.ensures f (rw (sym c.self.view_is) at c.found.ensures.found) in
-    let fs = fdes_of t.target t.bytes.now t.index.items c.self.invariant.0 in
-    let are : AreFdes c.args.self.now.target c.args.self.now.bytes fs.0 = rw (← c.self.view_is) fs.1 in
-    let covers = subst (Covers c.args.address) (sym (c.found.ensures.listed fs.0 are (fde_of f))) ((c.in-Some.ensures fs.0 are).1 (fde_of f)) in
-    let to : RunsTo t.target t.bytes.now c.args.address f = record {
-      in_space = runs.in_space;
-      no_fault = runs.no_fault;
-      never_falls = runs.never_falls;
-      row = runs.rules c.args.address covers.0 covers.1;
-    } in
-    rw (← c.self.view_is) to
+    let fde = fde_of c.found.result in
+    let fs = c.accepted.ensures.fdes in
+    let covers = subst (Covers c.args.address) (sym (c.found.ensures.listed fs.0 fs.1 fde)) ((c.in-Some.ensures fs.0 fs.1).1 fde) in
+    let runs = runs_found c.args.self.now.target c.args.self.now.bytes c.accepted.ensures.bytes c.found.result c.found.ensures.found in
+    record { in_space = runs.in_space; no_fault = runs.no_fault; never_falls = runs.never_falls; row = runs.rules c.args.address covers.0 covers.1 }

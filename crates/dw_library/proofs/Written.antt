@@ -1,0 +1,122 @@
+-- Rows of many addresses, and their rules one after another over a buffer.
+use Rattle.std.proofs.Common.{◌≡◌, ◌⊎◌, ℕ, zero, suc, ◌+◌, ◌-◌, ◌<◌, ◌≤◌, List, [], ◌∷◌, ◌++◌, length, take, drop, map, get_or, slice_set, refl, sym, ap, subst, ◌∙◌, arith, true, inl, inr, Option, Some, None}
+use Rattle.std.specs.List.{AllZip}
+use Rattle.std.proofs.Math.Seq.{append_snoc, drop-cons, set-append_seam, take-length, take-suc}
+use Rattle.std.proofs.lemmas.List.{append-nil, drop_all, flat_map_more, length-drop, length-map, length-take-le, map_push, take_all}
+use Rattle.std.proofs.lemmas.Slice.Zip.{AllZip-long}
+use borrow.Rule.Slice.PartMut.{mid_of, post_of, put_mid}
+use Rattle.dw_num.specs.declared.target.Target.{Target}
+use Rattle.dw_section.specs.Lookups.{FindsFde}
+use Rattle.dw_section.specs.Meaning.{Covers}
+use Rattle.dw_section.specs.Meanings.{IsListed}
+use Rattle.dw_section.specs.declared.lookup.Fde.{Fde}
+use Rattle.dw_library.specs.declared.index.Row.{Row}
+use Rattle.dw_library.specs.declared.index.Rule.{Rule}
+use Rattle.dw_library.specs.declared.looks.Room.{Room}
+use Rattle.dw_library.specs.Index.{over}
+use Rattle.dw_library.specs.Looks.{IsLook, Look, rules_in}
+use Rattle.dw_library.specs.Inner.Looks.{IsLeft}
+
+pub over_length : (rules old : List Rule) → length (over rules old) ≡ length old
+over_length [] old = refl
+over_length (rule ∷ rules) [] = refl
+over_length (rule ∷ rules) (x ∷ old) = ap suc (over_length rules old)
+
+over_empty : (rules : List Rule) → over rules [] ≡ []
+over_empty [] = refl
+over_empty (rule ∷ rules) = refl
+
+-- more rules behind some that fit, and behind some that do not
+over_fits : (before own old : List Rule) → length before ≤ length old → take (length before) (over before old) ++ over own (drop (length before) (over before old)) ≡ over (before ++ own) old
+over_fits [] own old le = refl
+over_fits (rule ∷ before) own [] le = absurd (omega arith)
+over_fits (rule ∷ before) own (x ∷ old) le = ap (λ (l : List Rule). rule ∷ l) (over_fits before own old (omega arith))
+
+over_full : (before own old : List Rule) → length old ≤ length before → over before old ≡ over (before ++ own) old
+over_full [] own [] le = sym (over_empty own)
+over_full [] own (x ∷ old) le = absurd (omega arith)
+over_full (rule ∷ before) own [] le = refl
+over_full (rule ∷ before) own (x ∷ old) le = ap (λ (l : List Rule). rule ∷ l) (over_full before own old (omega arith))
+
+pub left_within : (size : ℕ) (before : List Rule) (room : Room) → IsLeft size before room → room.place ≤ size
+left_within size before room (inl fits) = omega (arith, fits.1, fits.2)
+left_within size before room (inr full) = omega (arith, full.1)
+
+-- what is left of a buffer from a place on
+rest_of : {X : Type 0} (place : ℕ) (now : List X) → place ≤ length now → mid_of place (length now - place) now ≡ drop place now
+rest_of place now le = take_all (length now - place) (drop place now) (omega (arith, length-drop place now))
+
+-- rules written to what is left of a buffer
+over_left : (before own buffer now : List Rule) (room : Room) → IsLeft (length now) before room → now ≡ over before buffer → take room.place now ++ over own (drop room.place now) ≡ over (before ++ own) buffer
+over_left before own buffer now room (inl fits) is =
+    let le : length before ≤ length buffer = omega (arith, fits.2, ap (λ (l : List Rule). length l) is, over_length before buffer) in
+    let behind = subst (λ (l : List Rule). take (length before) l ++ over own (drop (length before) l) ≡ over (before ++ own) buffer) (sym is) (over_fits before own buffer le) in
+    subst (λ (k : ℕ). take k now ++ over own (drop k now) ≡ over (before ++ own) buffer) (sym fits.1) behind
+over_left before own buffer now room (inr full) is =
+    let le : length buffer ≤ length before = omega (arith, full.2, ap (λ (l : List Rule). length l) is, over_length before buffer) in
+    let none : over own (drop (length now) now) ≡ [] = ap (λ (l : List Rule). over own l) (drop_all (length now) now (omega arith)) ∙ over_empty own in
+    let all : take (length now) now ++ over own (drop (length now) now) ≡ now =
+    ap (λ (l : List Rule). l ++ over own (drop (length now) now)) (take-length now) ∙ ap (λ (l : List Rule). now ++ l) none ∙ append-nil now in
+    subst (λ (k : ℕ). take k now ++ over own (drop k now) ≡ over (before ++ own) buffer) (sym full.1) (all ∙ is ∙ over_full before own buffer le)
+
+pub written_left : (before own buffer now part : List Rule) (room : Room) → IsLeft (length now) before room → now ≡ over before buffer → room.place ≤ length now
+    → part ≡ over own (mid_of room.place (length now - room.place) now) → put_mid room.place (length now - room.place) now part ≡ over (before ++ own) buffer
+written_left before own buffer now part room left is le same =
+    let none : post_of room.place (length now - room.place) now ≡ [] = drop_all (length now - room.place) (drop room.place now) (omega (arith, length-drop room.place now)) in
+    let all : part ≡ over own (drop room.place now) = same ∙ ap (λ (l : List Rule). over own l) (rest_of room.place now le) in
+    ap (λ (l : List Rule). take room.place now ++ (part ++ l)) none ∙ ap (λ (l : List Rule). take room.place now ++ l) (append-nil part ∙ all) ∙ over_left before own buffer now room left is
+
+abbrev some_or : {A : Type 0} → Option A → A → A
+some_or None d = d
+some_or (Some x) d = x
+
+pub one_some : {A : Type 0} (a b : A) → Some a ≡ Some b → a ≡ b
+one_some a b same = ap (λ o. some_or o a) same
+
+-- the FDE that a look-up lends is listed, and covers the address
+pub lent_listed : (fs : List Fde) (a : ℕ) (lent : Option Fde) (fde : Fde) → FindsFde fs a true lent → lent ≡ Some fde → IsListed fde fs × Covers a fde
+lent_listed fs a lent fde (found, is, listed, covers) same =
+    let one : found ≡ fde = one_some found fde (sym is ∙ same) in
+    (subst (λ (f : Fde). IsListed f fs) one listed, subst (Covers a) one covers)
+
+zip_more : {X Y : Type 0} (R : X → Y → Type 0) (xs : List X) (ys : List Y) (x : X) (y : Y) → AllZip R xs ys → R x y → AllZip R (xs ++ x ∷ []) (ys ++ y ∷ [])
+zip_more R [] [] x y all r = (r, tt)
+zip_more R [] (b ∷ ys) x y all r = absurd all
+zip_more R (a ∷ xs) [] x y all r = absurd all
+zip_more R (a ∷ xs) (b ∷ ys) x y all r = (all.0, zip_more R xs ys x y all.1 r)
+
+-- what a call wrote so far, of the first n addresses
+pub record Wrote (target : Target) (s asked : List ℕ) (rows : List Row) (rules : List Rule) (n : ℕ) (rows_now : List Row) (rules_now : List Rule) (room : Room) : Type 0 where
+  pub looks : List Look
+  pub each : AllZip (IsLook target s) (take n asked) looks
+  pub rows_are : rows_now ≡ map (λ l. l.row) looks ++ drop n rows
+  pub rules_are : rules_now ≡ over (rules_in looks) rules
+  pub left : IsLeft (length rules) (rules_in looks) room
+
+-- the room that is left, by the buffer as it is now
+pub room_now : (target : Target) (s asked : List ℕ) (rows : List Row) (rules : List Rule) (n : ℕ) (rows_now : List Row) (rules_now : List Rule) (room : Room) (w : Wrote target s asked rows rules n rows_now rules_now room)
+    → IsLeft (length rules_now) (rules_in w.looks) room
+room_now target s asked rows rules n rows_now rules_now room w =
+    subst (λ (k : ℕ). IsLeft k (rules_in w.looks) room) (sym (ap (λ (l : List Rule). length l) w.rules_are ∙ over_length (rules_in w.looks) rules)) w.left
+
+pub wrote_more : (target : Target) (s asked : List ℕ) (rows : List Row) (rules : List Rule) (n : ℕ) (rows_now : List Row) (rules_now : List Rule) (room : Room) (w : Wrote target s asked rows rules n rows_now rules_now room)
+    (l : Look) (row_new : Row) (rules_new : List Rule) (behind : Room) → n < length asked → n < length rows → IsLook target s (get_or asked n 0) l
+    → row_new ≡ l.row → rules_new ≡ over (rules_in w.looks ++ l.rules) rules → IsLeft (length rules_now) (rules_in w.looks ++ l.rules) behind
+    → Wrote target s asked rows rules (n + 1) (slice_set rows_now n row_new) rules_new behind
+wrote_more target s asked rows rules n rows_now rules_now room w l row_new rules_new behind lt fits is row_is rules_are left =
+    let next : suc n ≡ n + 1 = omega arith in
+    let before = map (λ (k : Look). k.row) w.looks in
+    let long : length before ≡ n = length-map w.looks (λ (k : Look). k.row) ∙ AllZip-long (IsLook target s) (take n asked) w.looks w.each ∙ length-take-le n asked (omega arith) in
+    let first : take (n + 1) asked ≡ take n asked ++ get_or asked n 0 ∷ [] = ap (λ (k : ℕ). take k asked) (sym next) ∙ take-suc asked n 0 lt in
+    let all : rules_in w.looks ++ l.rules ≡ rules_in (w.looks ++ l ∷ []) = flat_map_more (λ (k : Look). k.rules) [] w.looks l in
+    let rest : rows_now ≡ before ++ get_or rows n l.row ∷ drop (n + 1) rows =
+    w.rows_are ∙ ap (λ (k : List Row). before ++ k) (drop-cons rows n l.row fits ∙ ap (λ (k : ℕ). get_or rows n l.row ∷ drop k rows) next) in
+    let set : slice_set rows_now n l.row ≡ before ++ l.row ∷ drop (n + 1) rows =
+    ap (λ (k : List Row). slice_set k n l.row) rest ∙ subst (λ (k : ℕ). slice_set (before ++ get_or rows n l.row ∷ drop (n + 1) rows) k l.row ≡ before ++ l.row ∷ drop (n + 1) rows) long (set-append_seam before (get_or rows n l.row) (drop (n + 1) rows) l.row) in
+    record {
+      looks = w.looks ++ l ∷ [];
+      each = subst (λ (k : List ℕ). AllZip (IsLook target s) k (w.looks ++ l ∷ [])) (sym first) (zip_more (IsLook target s) (take n asked) w.looks (get_or asked n 0) l w.each is);
+      rows_are = ap (λ (k : Row). slice_set rows_now n k) row_is ∙ set ∙ sym (append_snoc before l.row (drop (n + 1) rows)) ∙ ap (λ (k : List Row). k ++ drop (n + 1) rows) (sym (map_push (λ (k : Look). k.row) w.looks l));
+      rules_are = rules_are ∙ ap (λ (k : List Rule). over k rules) all;
+      left = subst (λ (k : List Rule). IsLeft (length rules) k behind) all (subst (λ (k : ℕ). IsLeft k (rules_in w.looks ++ l.rules) behind) (ap (λ (k : List Rule). length k) w.rules_are ∙ over_length (rules_in w.looks) rules) left);
+    }

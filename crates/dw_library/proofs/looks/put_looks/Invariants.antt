@@ -1,0 +1,10 @@
+use Rattle.std.proofs.Common.{◌≡◌}
+use Rattle.dw_library.proofs.Written.{Wrote}
+use Rattle.dw_library.proofs.looks.put_looks.Given as goal
+
+abbrev pub invariant-addresses : goal.invariant-addresses
+invariant-addresses l = record {
+  wrote : Wrote l.table.target l.table.bytes l.addresses l.initial.rows l.initial.rules l.place l.rows l.rules l.room;
+  done : l.done ≡ l.place;
+  section : l.lookups.section ≡ l.table;
+}

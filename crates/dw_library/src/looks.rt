@@ -1,0 +1,169 @@
+//! The rows of many addresses by one call.
+
+ghost use Rattle.std.specs.Prelude.{◌≡◌, ◌≤◌, ◌<◌, ◌++◌, ℕ, List, length, drop, IfOk, IfErr, OnErr};
+ghost use Rattle.dw_num.specs.Refusals.{Refuses};
+ghost use Rattle.dw_section.specs.Accepted.{Accepted, CheckFault};
+ghost use Rattle.dw_library.specs.declared.index.Rule.{Rule as TheRule};
+ghost use Rattle.dw_library.specs.Answers.{target_of};
+ghost use Rattle.dw_library.specs.Index.{over};
+ghost use Rattle.dw_library.specs.Looks.{AreLooks, IsLook, Look, TellsLooks, ToldRows};
+ghost use Rattle.dw_library.specs.Inner.Looks.{IsLeft, status_of};
+
+use crate::answer::{
+    BAD_ARGUMENT, OK, OUT_OF_MEMORY, REFUSED, Refused, TOO_SHORT, not_refused, target_of, told,
+};
+use crate::index::{Row, Rule, no_row, put_rules, told_row};
+use dw_num::{ReadError, Target};
+use dw_section::{Lookups, Table, check};
+use std::alloc::{AllocError, Global};
+
+// Where the next rules go in a buffer, and whether those before did not all fit.
+#[derive(Clone, Copy)]
+struct Room {
+    place: usize,
+    short: bool,
+}
+
+// What is left of a room of so many rules behind so many more of them.
+fn behind(room: Room, count: u64, size: usize) -> Room
+    requires { room.place ≤ size }
+    ensures { (before own : List TheRule) → IsLeft size before room → count ≡ length own → IsLeft size (before ++ own) result }
+{
+    let left = (size - room.place) as u64;
+    if count <= left {
+        return Room {
+            place: room.place + count as usize,
+            short: room.short,
+        };
+    }
+    Room {
+        place: size,
+        short: true,
+    }
+}
+
+// Writes the row of an address, and its rules to the front of a buffer, and tells how many rules there are.
+fn put_look(
+    lookups: &mut Lookups<'_, '_>,
+    table: &Table<'_>,
+    address: u64,
+    row: &mut Row,
+    rules: &mut [Rule],
+) -> Result<u64, AllocError>
+    requires section { lookups.old.section ≡ table.now }
+    ensures look { IfOk result (λ count. (l : Look) × IsLook table.now.target table.now.bytes address l × (row.new ≡ l.row) × (rules.new ≡ over l.rules rules.old) × (count ≡ length l.rules)) }
+    ensures kept { OnErr result ((row.new ≡ row.old) × (rules.new ≡ rules.old)) }
+    ensures section { lookups.new.section ≡ table.now }
+{
+    table.accepted();
+    if !lookups.find(address)? {
+        *row = no_row();
+        return Ok(0);
+    }
+    let Some(found) = lookups.fde() else {
+        return Err(AllocError);
+    };
+    let Some(specified) = lookups.row() else {
+        return Err(AllocError);
+    };
+    let count = put_rules(specified, rules);
+    *row = told_row(found.fde(), found.range(), specified, count);
+    Ok(count)
+}
+
+// The same, behind the rules of the addresses before.
+fn put_next(
+    lookups: &mut Lookups<'_, '_>,
+    table: &Table<'_>,
+    address: u64,
+    row: &mut Row,
+    rules: &mut [Rule],
+    room: Room,
+) -> Result<Room, AllocError>
+    requires section { lookups.old.section ≡ table.now }
+    requires room { (before : List TheRule) × IsLeft (length rules.old) before room }
+    ensures look { (before buffer : List TheRule) → IsLeft (length rules.old) before room → rules.old ≡ over before buffer → IfOk result (λ left. (l : Look) × IsLook table.now.target table.now.bytes address l × (row.new ≡ l.row) × (rules.new ≡ over (before ++ l.rules) buffer) × IsLeft (length rules.old) (before ++ l.rules) left) }
+    ensures length { length rules.new ≡ length rules.old }
+    ensures kept { OnErr result ((row.new ≡ row.old) × (rules.new ≡ rules.old)) }
+    ensures section { lookups.new.section ≡ table.now }
+{
+    let size = rules.len();
+    let count = put_look(lookups, table, address, row, &mut rules[room.place..])?;
+    Ok(behind(room, count, size))
+}
+
+// Writes a row for each address, and their rules one after another, and tells whether not all of them fit.
+fn put_looks(
+    table: &Table<'_>,
+    addresses: &[u64],
+    rows: &mut [Row],
+    rules: &mut [Rule],
+    done: &mut usize,
+) -> Result<bool, AllocError>
+    requires rows { length addresses.now ≤ length rows.old }
+    requires done { done.old ≡ 0 }
+    ensures { TellsLooks table.now.target table.now.bytes addresses.now rows.old rules.old (record { status = status_of result; done = done.new; rows = rows.new; rules = rules.new }) }
+{
+    let mut lookups = table.lookups();
+    let mut room = Room {
+        place: 0,
+        short: false,
+    };
+    'addresses: for place in 0..addresses.len() {
+        room = put_next(
+            &mut lookups,
+            table,
+            addresses[place],
+            &mut rows[place],
+            rules,
+            room,
+        )?;
+        *done = place + 1;
+    }
+    Ok(room.short)
+}
+
+// The status of a call that wrote rows.
+fn status_of(short: Result<bool, AllocError>) -> u32
+    ensures { result ≡ status_of short }
+{
+    match short {
+        Ok(false) => OK,
+        Ok(true) => TOO_SHORT,
+        Err(_) => OUT_OF_MEMORY,
+    }
+}
+
+/// The rows of many addresses: the section is judged once, and each address is looked up in it. Where there are fewer rows
+/// than addresses it answers `TOO_SHORT`, and nothing is written.
+#[unsafe(no_mangle)]
+pub extern "C" fn dwframe_rows_at(
+    alloc: Global,
+    bytes: &[u8],
+    address_size: u8,
+    byte_order: u8,
+    addresses: &[u64],
+    rows: &mut [Row],
+    rules: &mut [Rule],
+    done: &mut usize,
+    refused: &mut Refused,
+) -> u32
+    ensures { let told : ToldRows = record { status = result; done = done.new; rows = rows.new; rules = rules.new } in AreLooks (target_of address_size byte_order) bytes.now addresses.now rows.old rules.old told refused.new }
+{
+    *done = 0;
+    *refused = not_refused();
+    let Some(target) = target_of(address_size, byte_order) else {
+        return BAD_ARGUMENT;
+    };
+    if rows.len() < addresses.len() {
+        return TOO_SHORT;
+    }
+    match check(alloc, bytes, target) {
+        Ok(table) => status_of(put_looks(&table, addresses, rows, rules, done)),
+        Err(ReadError::Refused(refusal)) => {
+            *refused = told(1, refusal);
+            REFUSED
+        }
+        Err(ReadError::OutOfMemory) => OUT_OF_MEMORY,
+    }
+}
