@@ -63,27 +63,33 @@ fn finds_addresses(rt: HostRuntime) -> Result<(), Fail> {
 
 // ---- one look-up after another
 
-// What a look-up finds: the row that it lends.
+// The FDE and the row that a look-up found.
+fn found_text(alloc: Global, fde: Fde, row: &Row<'_>) -> Result<String, Fail> {
+    let (begin, row) = (fde.begin, row_text(alloc, row)?);
+    Ok(format!(in alloc; "{begin:#x} {row}")?)
+}
+
+// What a look-up finds: the FDE and the row that it lends.
 fn looked_up(alloc: Global, lookups: &mut Lookups<'_, '_>, address: u64) -> Result<String, Fail> {
-    match (lookups.find(address)?, lookups.row()) {
-        (true, Some(row)) => row_text(alloc, row),
-        (false, None) => Ok(String::from_str(alloc, "none")?),
+    match (lookups.find(address)?, lookups.fde(), lookups.row()) {
+        (true, Some(fde), Some(row)) => found_text(alloc, fde.fde(), row),
+        (false, None, None) => Ok(String::from_str(alloc, "none")?),
         _ => Err(Fail::new("a row that is not found, or none that is")),
     }
 }
 
 // In no order, of FDEs of two CIEs: back in one FDE, once more, beside all FDEs, and from one CIE to the other.
 const LOOK_UPS: &str = "\
-401004: cfa=r6+16 r6=[cfa-16] r16=[cfa-8]
-401000: cfa=r7+8 r16=[cfa-8]
+401004: 0x401000 cfa=r6+16 r6=[cfa-16] r16=[cfa-8]
+401000: 0x401000 cfa=r7+8 r16=[cfa-8]
 401010: none
-1004: cfa=r7+16 r6=[cfa-16] r16=[cfa-8]
-1004: cfa=r7+16 r6=[cfa-16] r16=[cfa-8]
-1003: cfa=r7+8 r16=[cfa-8]
-40100f: cfa=r7+8 r6=[cfa-16] r16=[cfa-8]
-100f: cfa=r7+8 r16=[cfa-8]
+1004: 0x1000 cfa=r7+16 r6=[cfa-16] r16=[cfa-8]
+1004: 0x1000 cfa=r7+16 r6=[cfa-16] r16=[cfa-8]
+1003: 0x1000 cfa=r7+8 r16=[cfa-8]
+40100f: 0x401000 cfa=r7+8 r6=[cfa-16] r16=[cfa-8]
+100f: 0x1000 cfa=r7+8 r16=[cfa-8]
 fff: none
-401003: cfa=r7+16 r6=[cfa-16] r16=[cfa-8]";
+401003: 0x401000 cfa=r7+16 r6=[cfa-16] r16=[cfa-8]";
 
 // Fails where one of the look-ups, one after another, finds what its line does not say.
 fn agree_in_turn(alloc: Global, lookups: &mut Lookups<'_, '_>) -> Result<(), Fail> {
@@ -104,12 +110,6 @@ fn looks_addresses_up(rt: HostRuntime) -> Result<(), Fail> {
 }
 
 // ---- look-ups in bytes, by an index
-
-// The FDE and the row that a look-up found.
-fn found_text(alloc: Global, fde: Fde, row: &Row<'_>) -> Result<String, Fail> {
-    let (begin, row) = (fde.begin, row_text(alloc, row)?);
-    Ok(format!(in alloc; "{begin:#x} {row}")?)
-}
 
 // What a look-up finds by an index.
 fn by_index(alloc: Global, bytes: &[u8], index: &[Ranged], address: u64) -> Result<String, Fail> {

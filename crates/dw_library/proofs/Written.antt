@@ -1,5 +1,5 @@
 -- Rows of many addresses, and their rules one after another over a buffer.
-use Rattle.std.proofs.Common.{◌≡◌, ◌⊎◌, ℕ, zero, suc, ◌+◌, ◌-◌, ◌<◌, ◌≤◌, List, [], ◌∷◌, ◌++◌, length, take, drop, map, get_or, slice_set, refl, sym, ap, subst, ◌∙◌, arith, true, inl, inr, Option, Some, None}
+use Rattle.std.proofs.Common.{◌≡◌, ℕ, suc, ◌+◌, ◌-◌, ◌<◌, ◌≤◌, List, [], ◌∷◌, ◌++◌, length, take, drop, map, get_or, slice_set, refl, sym, ap, subst, ◌∙◌, arith, true, inl, inr, Option, Some, None}
 use Rattle.std.specs.List.{AllZip}
 use Rattle.std.proofs.Math.Seq.{append_snoc, drop-cons, set-append_seam, take-length, take-suc}
 use Rattle.std.proofs.lemmas.List.{append-nil, drop_all, flat_map_more, length-drop, length-map, length-take-le, map_push, take_all}

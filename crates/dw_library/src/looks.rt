@@ -1,8 +1,6 @@
 //! The rows of many addresses by one call.
 
-ghost use Rattle.std.specs.Prelude.{◌≡◌, ◌≤◌, ◌<◌, ◌++◌, ℕ, List, length, drop, IfOk, IfErr, OnErr};
-ghost use Rattle.dw_num.specs.Refusals.{Refuses};
-ghost use Rattle.dw_section.specs.Accepted.{Accepted, CheckFault};
+ghost use Rattle.std.specs.Prelude.{◌≡◌, ◌≤◌, ◌++◌, List, length, IfOk, OnErr};
 ghost use Rattle.dw_library.specs.declared.index.Rule.{Rule as TheRule};
 ghost use Rattle.dw_library.specs.Answers.{target_of};
 ghost use Rattle.dw_library.specs.Index.{over};

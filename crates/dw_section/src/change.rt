@@ -12,9 +12,11 @@ ghost use Rattle.dw_section.specs.Inner.Index.{led_to};
 ghost use Rattle.dw_section.specs.Inner.Lookup.{LedBy, rows_of};
 
 use crate::listed_fde::{FoundFde, lead};
+use crate::walks::{is_long, turn_walk};
 use dw_cfa::{Row, RowWalk};
 use dw_num::Target;
 use std::alloc::{AllocError, Global};
+use std::collections::BTreeMap;
 use std::marker::Model;
 
 // The row that a walk kept, where one was.
@@ -97,6 +99,11 @@ pub struct Changes<'a> {
     steps: RowWalk<'a>,
     // The CIE of the section whose program the walk was led to, by its place.
     cie_at: Option<u64>,
+    // The program of that CIE is long.
+    long: bool,
+    // The walks of other CIEs of the section with long programs, by the CIEs' places.
+    away: BTreeMap<u64, RowWalk<'a>>,
+    alloc: Global,
     // The row that was shown last is the one that the walk lends, and the one before it is kept.
     lent: bool,
     // The walk kept a row that was shown.
@@ -114,7 +121,7 @@ impl<'a> Model for Changes<'a> {
 
     ghost view = { λ c. record { section = record { target = c.target; bytes = c.bytes.now }; rows = c.steps.steps.outcome.rows; shown = shown_of c.lent c.steps.steps.current (shown_if c.kept c.steps.kept); before = before_of c.lent (shown_if c.kept c.steps.kept); end = c.end; failed = c.failed } };
 
-    ghost invariant = { λ c. ChangesSo (record { target = c.target; bytes = c.bytes.now }) c.cie_at c.steps };
+    ghost invariant = { λ c. ChangesSo (record { target = c.target; bytes = c.bytes.now }) c.cie_at c.steps c.away };
 }
 
 impl<'a> Changes<'a> {
@@ -127,6 +134,9 @@ impl<'a> Changes<'a> {
             target,
             steps: RowWalk::new(alloc, target),
             cie_at: None,
+            long: false,
+            away: BTreeMap::new(alloc),
+            alloc,
             lent: false,
             kept: false,
             end: 0,
@@ -134,16 +144,19 @@ impl<'a> Changes<'a> {
         }
     }
 
-    // The changes of a section, which may be another one, from now on. None is to come that is known.
+    // The changes of a section, which may be another one, from now on. None is to come that is known, and no walk of another
+    // CIE is kept.
     pub(crate) fn turn_to(&mut self, bytes: &'a [u8], target: Target)
         ensures { self.new.section ≡ record { target = target; bytes = bytes.now } }
     {
         self.bytes = bytes;
         self.target = target;
         self.cie_at = None;
+        self.away.clear();
     }
 
-    // Goes to the changes of an FDE of the section, also where memory ran out before.
+    // Goes to the changes of an FDE of the section, also where memory ran out before. The walk of a CIE with a long program
+    // is kept while other CIEs' FDEs are gone to, where there is memory for that.
     #[inline(always)]
     pub(crate) fn go_on(&mut self, fde: &FoundFde<'a>)
         requires in_space { fde.now.begin < address_limit self.old.section.target.size }
@@ -151,8 +164,21 @@ impl<'a> Changes<'a> {
         requires led { LedBy self.old.section fde.now.cie_at (led_to self.old.section.target fde.now) }
         ensures { self.new ≡ changing self.old.section (rows_of self.old.section.target fde.now).rows (fde.now.begin + fde.now.range) }
     {
+        let long = is_long(fde.cie_program);
+        if self.long || long {
+            self.cie_at = turn_walk(
+                self.alloc,
+                &mut self.away,
+                &mut self.steps,
+                self.cie_at,
+                self.long,
+                fde.cie_at,
+                self.target,
+            );
+        }
         lead(&mut self.steps, self.cie_at, fde, self.target);
         self.cie_at = Some(fde.cie_at);
+        self.long = long;
         self.lent = false;
         self.kept = false;
         self.end = u128::from(fde.begin) + u128::from(fde.range);

@@ -20,6 +20,7 @@ mod row_count;
 mod standing_fde;
 mod table;
 mod table_lookup;
+mod walks;
 
 pub use change::Changes;
 pub use entry::{Entry, EntryCounts, Kind, entries, one_cut, one_cut_fault};
