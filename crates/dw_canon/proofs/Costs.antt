@@ -17,7 +17,7 @@ use Rattle.dw_cfa.specs.declared.rule.RegRule.TheVariants as rules
 use Rattle.dw_cfa.specs.InstrSpells.{IsOffset}
 use Rattle.dw_cfa.specs.Agreement.{same_cfa, same_rule}
 use Rattle.dw_cfa.specs.Rows.{Rules, rule, is_specified}
-use Rattle.dw_section.specs.Sound.{CfaFits, RowFits}
+use Rattle.dw_section.specs.Inner.Sound.{CfaFits, RowFits}
 use Rattle.dw_canon.specs.Difference.{cfa_to, cfa_difference, rule_difference, either, difference}
 use Rattle.dw_canon.specs.Spelling.{expression_bytes, packed, instr_bytes, program_bytes}
 use Rattle.dw_canon.proofs.Shared.{specified_or}

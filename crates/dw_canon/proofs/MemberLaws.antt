@@ -34,8 +34,8 @@ use Rattle.dw_section.specs.Changes.{Among, AreChanges, Before}
 use Rattle.dw_section.specs.Programs.{HasCfa}
 use Rattle.dw_section.proofs.Lent.ChangeLaws.{HasRow, all_found}
 use Rattle.dw_canon.specs.Canon.{fde_instrs, cie_instrs}
-use Rattle.dw_section.specs.Sound.{RowFits}
-use Rattle.dw_canon.specs.Fits.{ChangesStand, MemberStands}
+use Rattle.dw_section.specs.Inner.Sound.{RowFits}
+use Rattle.dw_canon.specs.Inner.Fits.{ChangesStand, MemberStands}
 use Rattle.dw_canon.specs.Inner.Fits.{InstrFits}
 use Rattle.dw_canon.specs.Members.{Member, changes_of}
 use Rattle.dw_canon.specs.Spelling.{program_bytes}

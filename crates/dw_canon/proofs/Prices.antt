@@ -9,14 +9,14 @@ use Rattle.dw_cfa.specs.Rows.{Rules, blank}
 use Rattle.dw_cfa.proofs.Lent.InstrCounts.{counts_exists}
 use Rattle.dw_section.specs.Accepted.{Accepted}
 use Rattle.dw_section.specs.Meaning.{HasLengths}
-use Rattle.dw_section.specs.Sound.{RowFits}
+use Rattle.dw_section.specs.Inner.Sound.{RowFits}
 use Rattle.dw_section.proofs.Lent.OneLengths.{one_lengths}
 use Rattle.dw_section.proofs.Lent.Sections.{here, changes_programs}
 use Rattle.dw_section.proofs.Lent.Sounds.{Held, held_all}
 use Rattle.dw_section.proofs.Lent.Totals.{least_starts}
 use Rattle.dw_canon.specs.Canon.{cie_instrs, fde_instrs}
 use Rattle.dw_canon.specs.Difference.{difference, later_changes}
-use Rattle.dw_canon.specs.Fits.{RestsOn}
+use Rattle.dw_canon.specs.Inner.Fits.{RestsOn}
 use Rattle.dw_canon.specs.Group.{initial_row}
 use Rattle.dw_canon.specs.Members.{Member, IsMember, fde_of, changes_of}
 use Rattle.dw_canon.specs.Spelling.{program_bytes}

@@ -10,7 +10,7 @@ use Rattle.dw_cfa.specs.Location.{row_starts}
 use Rattle.dw_cfa.specs.Rows.{rule}
 use Rattle.dw_section.specs.Changes.{AreChanges}
 use Rattle.dw_canon.specs.Canon.{cie_instrs, fde_instrs}
-use Rattle.dw_canon.specs.Laws.{InitialProgram, MemberProgram, ChangesAreOne}
+use Rattle.dw_canon.specs.Inner.Laws.{InitialProgram, MemberProgram, ChangesAreOne}
 use Rattle.dw_canon.specs.Members.{changes_of}
 use Rattle.dw_canon.specs.Spelling.{program_bytes}
 use Rattle.dw_canon.specs.Written.{factors}

@@ -2,3 +2,5 @@
 pub mod Fits
 pub mod Laid
 pub mod Written
+pub mod Laws
+pub mod Renders

@@ -1,8 +1,6 @@
 pub mod Written
 pub mod Laid
-pub mod Renders
 pub mod Members
-pub mod Fits
 pub mod Difference
 pub mod Group
 pub mod Spelling

@@ -2,8 +2,9 @@
 
 ghost use Rattle.dw_canon.specs.Bound.{WithinShares};
 ghost use Rattle.dw_canon.specs.Headline.{Headline};
-ghost use Rattle.dw_canon.specs.Laws.{NormalFormExists, NormalFormIsOne, MeaningIsKept, NormalAgain, SameNormalForm, InitialProgram, MemberProgram, ChangesAreOne, FewestRows, NormalRows, InitialIsShared};
-ghost use Rattle.dw_canon.specs.Renders.{Readback};
+ghost use Rattle.dw_canon.specs.Laws.{NormalFormExists, NormalFormIsOne, MeaningIsKept, NormalAgain, SameNormalForm, FewestRows, NormalRows, InitialIsShared};
+ghost use Rattle.dw_canon.specs.Inner.Laws.{InitialProgram, MemberProgram, ChangesAreOne};
+ghost use Rattle.dw_canon.specs.Inner.Renders.{Readback};
 
 /// Two accepted sections have byte-equal normal forms exactly where they say the same; each normal form is accepted, says what
 /// its source says, and is its own normal form.
@@ -21,21 +22,24 @@ pub fn normal_laws()
     ensures fewest { FewestRows }
     ensures rows { NormalRows }
     ensures shared { InitialIsShared }
-{}
+{
+    program_laws();
+    meaning_kept();
+}
 
 /// A normal form is no longer than the lengths of its section's programs allow.
 pub fn length_law()
     ensures { WithinShares }
 {}
 
-/// What holds of the programs of a normal form, and of changes.
-pub fn program_laws()
+// What holds of the programs of a normal form, and of changes: the laws of normal forms rest on it.
+fn program_laws()
     ensures initial { InitialProgram }
     ensures member { MemberProgram }
     ensures one { ChangesAreOne }
 {}
 
-/// What is written of an accepted section, with the changes of each FDE, is accepted and means the same.
-pub fn meaning_kept()
+// What is written of an accepted section, with the changes of each FDE, is accepted and means the same: so do they on this.
+fn meaning_kept()
     ensures { Readback }
 {}

@@ -6,4 +6,4 @@
 
 mod laws;
 
-pub use laws::{headline, length_law, meaning_kept, normal_laws, program_laws};
+pub use laws::{headline, length_law, normal_laws};

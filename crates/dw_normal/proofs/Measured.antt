@@ -6,7 +6,7 @@ use Rattle.dw_num.specs.Target.{address_limit, byte_count}
 use Rattle.dw_cfa.specs.declared.instr.Instr.{Instr}
 use Rattle.dw_cfa.specs.Rows.{Rules}
 use Rattle.dw_section.specs.Changes.{Changing, ToCome, GivesAddress}
-use Rattle.dw_section.specs.Sound.{RowFits}
+use Rattle.dw_section.specs.Inner.Sound.{RowFits}
 use Rattle.dw_section.proofs.Lent.Exists.{among_exists}
 use Rattle.dw_canon.specs.Difference.{difference, move, later_changes}
 use Rattle.dw_canon.specs.Spelling.{instr_bytes, program_bytes}

@@ -16,8 +16,8 @@ use Rattle.dw_normal.specs.Inner.ChangeWalk.{last_of, Stand, Appends, Under, row
 use Rattle.dw_num.specs.Target.{address_limit}
 use Rattle.dw_section.specs.Changes.{Changing, ToCome, GivesAddress, before_then}
 use Rattle.dw_section.proofs.Lent.Exists.{among_exists}
-use Rattle.dw_section.specs.Sound.{RowFits}
-use Rattle.dw_canon.specs.Fits.{ChangesStand}
+use Rattle.dw_section.specs.Inner.Sound.{RowFits}
+use Rattle.dw_canon.specs.Inner.Fits.{ChangesStand}
 use Rattle.dw_canon.specs.Inner.Fits.{InstrFits}
 use Rattle.dw_canon.proofs.Lent.InstrFits.{difference_fits}
 use Rattle.dw_canon.proofs.Lent.Programs.{below_end}

@@ -2,7 +2,7 @@
 
 ghost use Rattle.std.specs.Prelude.{◌≡◌, ◌++◌, ◌<◌, ◌≤◌, OnOk};
 ghost use Rattle.dw_num.specs.Shortest.{shortest_uleb, shortest_sleb};
-ghost use Rattle.dw_section.specs.Sound.{HasBlock, RuleFits};
+ghost use Rattle.dw_section.specs.Inner.Sound.{HasBlock, RuleFits};
 ghost use Rattle.dw_cfa.specs.declared.instr.Instr.TheVariants.{SetLoc, DefCfaOffset};
 ghost use Rattle.dw_canon.specs.Inner.Fits.{InstrFits};
 ghost use Rattle.dw_canon.specs.Spelling.{expression_bytes, advance_bytes, packed, rule_bytes, instr_bytes};

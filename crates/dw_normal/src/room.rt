@@ -3,7 +3,7 @@
 ghost use Rattle.std.specs.Prelude.{◌≡◌, ◌+◌, ◌<◌, ◌≤◌, ◌^◌, length, Some, IfOk};
 ghost use Rattle.std.specs.List.{AllByRecursion};
 ghost use Rattle.dw_num.specs.Target.{address_limit};
-ghost use Rattle.dw_section.specs.Sound.{RowFits};
+ghost use Rattle.dw_section.specs.Inner.Sound.{RowFits};
 ghost use Rattle.dw_canon.specs.Canon.{cie_instrs};
 ghost use Rattle.dw_cfa.specs.Rows.{rule};
 ghost use Rattle.dw_canon.specs.Difference.{difference, cfa_difference, rule_to, move};

@@ -19,3 +19,4 @@ pub mod Places
 pub mod Stage
 pub mod Table
 pub mod StandingFde
+pub mod Sound

@@ -46,10 +46,6 @@ OneFdes = (target : Target) (s : List ℕ) (fs gs : List Fde) → AreFdes target
 abbrev pub FdesExist : Type 0
 FdesExist = (target : Target) (s : List ℕ) → AreBytes s → Accepted target s → (fs : List Fde) × AreFdes target s fs
 
--- return registers are below 65,536
-abbrev pub RegistersFit : Type 0
-RegistersFit = (target : Target) (s : List ℕ) (fs : List Fde) → AreFdes target s fs → AllByRecursion (λ (f : Fde). f.return_register < 65536) fs
-
 -- each FDE of an accepted section has changes
 abbrev pub ChangesExist : Type 0
 ChangesExist = (target : Target) (s : List ℕ) → AreBytes s → Accepted target s → (fs : List Fde) (f : Fde) → AreFdes target s fs → IsListed f fs

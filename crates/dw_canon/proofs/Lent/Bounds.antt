@@ -13,7 +13,7 @@ use Rattle.dw_num.proofs.Lent.FixedLaws.{length-fixed}
 use Rattle.dw_section.specs.Accepted.{Accepted}
 use Rattle.dw_canon.specs.Bound.{share, Shares, WithinShares}
 use Rattle.dw_canon.specs.Canon.{canon, cie_instrs, initial_of, return_registers, group_of, groups_of, part_of, parts_of}
-use Rattle.dw_canon.specs.Fits.{MemberStands}
+use Rattle.dw_canon.specs.Inner.Fits.{MemberStands}
 use Rattle.dw_canon.specs.Group.{group}
 use Rattle.dw_canon.specs.Laid.{cie_of}
 use Rattle.dw_canon.specs.Laid as layout

@@ -12,7 +12,7 @@ use Rattle.dw_section.specs.Changes.{AreChanges}
 use Rattle.dw_section.specs.Meaning.{AreFdes, ChangesOf, RowStarts, total}
 use Rattle.dw_section.proofs.Lent.FdeLookup.{one_fdes}
 use Rattle.dw_section.specs.Meanings.{IsListed, SameMeaning}
-use Rattle.dw_canon.specs.Renders.{ReadsBack}
+use Rattle.dw_canon.specs.Inner.Renders.{ReadsBack}
 use Rattle.dw_section.proofs.Lent.Sections.{fdes_exist, listed_programs}
 use Rattle.dw_section.proofs.Lent.Exists.{listed_change, one_change_list, meaning_changes}
 use Rattle.dw_canon.specs.Laid.{Group, Part, cie_of, laid}
@@ -23,7 +23,7 @@ use Rattle.dw_canon.proofs.Lent.Extra.{starts_of, written_starts}
 use Rattle.dw_canon.proofs.Lays.{laid_section}
 use Rattle.dw_canon.proofs.Lent.Readback.{rendered_laid}
 use Rattle.dw_canon.specs.Canon.{canon, initial_of, part_of, groups_of, parts_of}
-use Rattle.dw_canon.specs.Fits.{MemberStands}
+use Rattle.dw_canon.specs.Inner.Fits.{MemberStands}
 use Rattle.dw_canon.specs.Headline.{Headline}
 use Rattle.dw_canon.specs.Laws.{NormalFormExists, NormalFormIsOne, MeaningIsKept, NormalAgain, SameNormalForm, FewestRows, NormalRows, InitialIsShared}
 use Rattle.dw_canon.specs.Members.{Member, fde_of, changes_of, IsMember, AreMembers}

@@ -20,7 +20,7 @@ use Rattle.dw_cfa.specs.Inner.Rows.{with_cfa, with_rule}
 use Rattle.dw_cfa.proofs.Lent.RowLists.{put_rule, put_keeps}
 use Rattle.dw_cfa.proofs.Lent.SameRows.{same_rows}
 use Rattle.dw_canon.specs.Difference.{cfa_to, cfa_difference, rule_difference, with_register, with_registers, registers_of, either, difference}
-use Rattle.dw_section.specs.Sound.{CfaFits, RowFits}
+use Rattle.dw_section.specs.Inner.Sound.{CfaFits, RowFits}
 use Rattle.dw_cfa.specs.Agreement.{same_cfa, same_rule}
 use Rattle.dw_canon.proofs.Tested.{cfa_is, rule_is, rule_fits}
 

@@ -15,8 +15,8 @@ use Rattle.dw_cfa.specs.Kept.{in_cie}
 use Rattle.dw_cfa.specs.Rows.{Rules, rule, is_specified, blank}
 use Rattle.dw_canon.specs.Canon.{fde_instrs, cie_instrs}
 use Rattle.dw_canon.specs.Difference.{cfa_to, cfa_difference, rule_difference, with_register, with_registers, registers_of, either, difference, move, later_changes}
-use Rattle.dw_section.specs.Sound.{CfaFits, RuleFits, RowFits}
-use Rattle.dw_canon.specs.Fits.{RestsOn, ChangesStand, MemberStands}
+use Rattle.dw_section.specs.Inner.Sound.{CfaFits, RuleFits, RowFits}
+use Rattle.dw_canon.specs.Inner.Fits.{RestsOn, ChangesStand, MemberStands}
 use Rattle.dw_canon.specs.Inner.Fits.{InstrFits}
 use Rattle.dw_canon.specs.Members.{Member}
 use Rattle.dw_cfa.specs.Agreement.{same_cfa, same_rule}

@@ -16,8 +16,8 @@ use Rattle.dw_cfa.specs.Inner.Runs.{Placed, here, row_if, fault_or, fde_rows}
 use Rattle.dw_cfa.specs.Runs.{Outcome}
 use Rattle.dw_cfa.proofs.Lent.RowsAt.{instrs_of, Gives}
 use Rattle.dw_canon.specs.Difference.{difference, move, later_changes}
-use Rattle.dw_section.specs.Sound.{RowFits}
-use Rattle.dw_canon.specs.Fits.{RowStands, ChangesStand}
+use Rattle.dw_section.specs.Inner.Sound.{RowFits}
+use Rattle.dw_canon.specs.Inner.Fits.{RowStands, ChangesStand}
 use Rattle.dw_canon.proofs.Lent.Differences.{Quiet, on, no_half, difference_quiet}
 
 -- ---- the machine over instructions without their places

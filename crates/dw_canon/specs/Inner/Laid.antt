@@ -1,15 +1,33 @@
--- What the code and its proofs say beside Laid.
-use Rattle.std.specs.Prelude.{◌≡◌, ◌⊎◌, ℕ, ◌+◌, ◌<◌, ◌≤◌, List, [], ◌∷◌, length}
+-- What is asked of the groups and FDEs that a normal form is laid out of.
+use Rattle.std.specs.Prelude.{◌≡◌, ◌⊎◌, ℕ, suc, ◌+◌, ◌<◌, ◌≤◌, List, [], ◌∷◌, length}
 use Rattle.std.specs.List.{AllByRecursion}
 use Rattle.dw_num.specs.declared.target.Target.{Target}
 use Rattle.dw_num.specs.Target.{address_limit}
 use Rattle.dw_cfa.specs.declared.instr.Instr.{Instr}
 use Rattle.dw_cfa.specs.InstrSpells.{Program}
-use Rattle.dw_cfa.specs.Kept.{FdeKept}
+use Rattle.dw_cfa.specs.Kept.{CieKept, FdeKept}
 use Rattle.dw_cfa.specs.Laws.{initial_cfa}
+use Rattle.dw_section.specs.declared.lookup.Fde.{Fde}
 use Rattle.dw_section.specs.Programs.{HasCfa}
 use Rattle.dw_canon.specs.Written.{factors, section_bytes}
-use Rattle.dw_canon.specs.Laid.{Group, Part, laid, HasGroup, GroupsRise, IsGroup}
+use Rattle.dw_canon.specs.Laid.{Group, Part, laid}
+
+-- an FDE as a table lists it
+abbrev pub fde_in : Part → Fde
+fde_in p = record { begin = p.begin; end = p.begin + p.range; return_register = p.register }
+
+-- the CIE of a return register has these instructions
+abbrev pub HasGroup : List Group → ℕ → List Instr → Type 0
+HasGroup [] register initial = ⊥
+HasGroup (g ∷ gs) register initial = ((register ≡ g.register) × (initial ≡ g.instrs)) ⊎ HasGroup gs register initial
+
+-- registers from low on, ascending
+abbrev pub GroupsRise : ℕ → List Group → Type 0
+GroupsRise low [] = Unit {0}
+GroupsRise low (g ∷ gs) = (low ≤ g.register) × GroupsRise (suc g.register) gs
+
+abbrev pub IsGroup : Target → Group → Type 0
+IsGroup target g = (g.register < 65536) × Program target factors g.instrs g.program × CieKept g.instrs
 
 pub record IsPart (target : Target) (gs : List Group) (p : Part) : Type 0 where
   pub some : 0 < p.range

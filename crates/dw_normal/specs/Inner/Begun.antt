@@ -3,7 +3,7 @@ use Rattle.std.specs.Prelude.{◌≡◌, ◌≤◌, List}
 use Rattle.std.specs.List.{AllByRecursion}
 use Rattle.dw_num.specs.Target.{address_limit}
 use Rattle.dw_num.specs.declared.target.Target.{Target}
-use Rattle.dw_section.specs.Sound.{RowFits}
+use Rattle.dw_section.specs.Inner.Sound.{RowFits}
 use Rattle.dw_canon.specs.Canon.{initial_of}
 use Rattle.dw_canon.specs.Difference.{difference}
 use Rattle.dw_canon.specs.Inner.Fits.{InstrFits}

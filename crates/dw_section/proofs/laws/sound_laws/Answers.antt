@@ -1,0 +1,6 @@
+use Rattle.dw_section.proofs.Lent.Registers.{fdes_registers}
+use Rattle.dw_section.proofs.Lent.Sounds.{sound_section}
+use Rattle.dw_section.proofs.laws.sound_laws.Goals as goal
+
+pub returns : goal.returns
+returns c = record { registers = fdes_registers; sound = sound_section }
