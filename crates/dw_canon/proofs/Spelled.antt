@@ -28,7 +28,7 @@ use Rattle.dw_cfa.proofs.Lent.Spellings.{Plain, Factored, SignedFactored, Advanc
 use Rattle.dw_section.specs.Inner.Sound.{HasBlock, RuleFits}
 use Rattle.dw_canon.specs.Inner.Fits.{InstrFits}
 use Rattle.dw_canon.specs.Spelling.{expression_bytes, advance_bytes, packed, rule_bytes, instr_bytes, program_bytes}
-use Rattle.dw_canon.specs.Written.{factors}
+use Rattle.dw_canon.specs.Inner.Written.{factors}
 
 code : (c : ℕ) (P : List ℕ → Type 0) (rest : List ℕ) → P rest → Code c P (c ∷ rest)
 code c P rest h = record { rest = rest; operands = h; whole = refl }

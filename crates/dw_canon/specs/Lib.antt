@@ -1,5 +1,4 @@
 pub mod Written
-pub mod Laid
 pub mod Members
 pub mod Difference
 pub mod Group

@@ -12,11 +12,13 @@ use Rattle.dw_cfa.specs.Rows.{Rules}
 use Rattle.dw_section.specs.Accepted.{Accepted}
 use Rattle.dw_section.proofs.Lent.Judged.{all_get}
 use Rattle.dw_canon.specs.Inner.Fits.{InstrFits}
-use Rattle.dw_canon.specs.Canon.{canon, cie_instrs, part_of, groups_of, parts_of}
+use Rattle.dw_canon.specs.Inner.Laid.{part_of, groups_of, parts_of}
+use Rattle.dw_canon.specs.Canon.{canon, cie_instrs}
 use Rattle.dw_canon.specs.Inner.Laid.{IsPart}
 use Rattle.dw_canon.specs.Members.{Member, AreMembers}
-use Rattle.dw_canon.specs.Written.{Written, contents, entry_bytes}
+use Rattle.dw_canon.specs.Inner.Written.{Written, contents, entry_bytes}
 use Rattle.dw_canon.proofs.Lent.Fields.{entry_length}
+use Rattle.dw_canon.proofs.Lent.Layout.{laid_is}
 use Rattle.dw_canon.proofs.Lent.Readback.{rendered_laid}
 use Rattle.dw_canon.proofs.Lent.Rendered.{renders}
 use Rattle.dw_normal.specs.Inner.Groups.{initial_rows}
@@ -50,9 +52,8 @@ one_long t ms k d lt =
 
 module _ (t : Target) (s : List ℕ) (b : AreBytes s) (ok : Accepted t s) (ms : List Member) (are : AreMembers t s ms) (small : length (canon t ms) ≤ 2147483647) (k : ℕ) (d : Member) (lt : k < length ms) where
   all_parts : IsPart t (groups_of t ms) (get_or (map (part_of t ms) ms) k (part_of t ms d))
-  unfolding canon
   all_parts =
-      let is = rendered_laid t s (groups_of t ms) (parts_of t ms) b ok (renders t s b ok ms are) small in
+      let is = rendered_laid t s (groups_of t ms) (parts_of t ms) b ok (renders t s b ok ms are) (subst (λ (l : List ℕ). length l ≤ 2147483647) (laid_is t ms) small) in
       all_get (IsPart t (groups_of t ms)) (map (part_of t ms) ms) k (part_of t ms d) is.parts (subst (λ (n : ℕ). k < n) (sym (length-map ms (part_of t ms))) lt)
 
   pub part_at : IsPart t (groups_of t ms) (part_of t ms (get_or ms k d))

@@ -9,11 +9,12 @@ use Rattle.dw_cfa.specs.Rows.{Rules}
 use Rattle.dw_section.specs.Accepted.{Accepted}
 use Rattle.dw_section.specs.Meaning.{AreFdes}
 use Rattle.dw_section.specs.declared.lookup.Fde.{Fde}
-use Rattle.dw_canon.specs.Canon.{canon, initial_of, groups_of, part_of}
-use Rattle.dw_canon.specs.Laid.{place_of}
+use Rattle.dw_canon.specs.Inner.Laid.{groups_of, part_of}
+use Rattle.dw_canon.specs.Canon.{canon, initial_of}
+use Rattle.dw_canon.specs.Inner.Laid.{place_of}
 use Rattle.dw_canon.specs.Inner.Laid.{IsPart}
 use Rattle.dw_canon.specs.Members.{Member, AreMembers, fde_of}
-use Rattle.dw_canon.specs.Written.{contents}
+use Rattle.dw_canon.specs.Inner.Written.{contents}
 use Rattle.dw_normal.specs.Inner.Begun.{Begins}
 use Rattle.dw_normal.specs.Inner.Groups.{initial_rows, row_of}
 use Rattle.dw_normal.specs.Inner.Lengths.{cies_bytes}

@@ -7,11 +7,12 @@ use Rattle.std.proofs.lemmas.Bool.Decides.{eqb_tells}
 use Rattle.std.proofs.lemmas.List.{length-append}
 use Rattle.dw_num.specs.declared.target.Target.{Target}
 use Rattle.dw_cfa.specs.Rows.{Rules}
-use Rattle.dw_canon.specs.Canon.{initial_of, return_registers, group_of}
+use Rattle.dw_canon.specs.Inner.Laid.{group_of}
+use Rattle.dw_canon.specs.Canon.{initial_of, return_registers}
 use Rattle.dw_canon.specs.Inner.Laid.{GroupsRise}
-use Rattle.dw_canon.specs.Laid.{place_of}
+use Rattle.dw_canon.specs.Inner.Laid.{place_of}
 use Rattle.dw_canon.specs.Members.{Member}
-use Rattle.dw_canon.specs.Written.{entry_bytes}
+use Rattle.dw_canon.specs.Inner.Written.{entry_bytes}
 use Rattle.dw_normal.specs.Inner.Groups.{initial_rows, row_of}
 use Rattle.dw_normal.specs.Inner.Lengths.{cie_with, cies_bytes}
 use Rattle.dw_normal.specs.Inner.Places.{place_in, cie_place, RowsRise}

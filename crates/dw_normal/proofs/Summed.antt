@@ -3,11 +3,13 @@ use Rattle.std.proofs.Common.{◌≡◌, ℕ, zero, suc, ◌+◌, ◌-◌, ◌<�
 use Rattle.std.proofs.lemmas.List.{length-append, take_more}
 use Rattle.dw_num.specs.declared.target.Target.{Target}
 use Rattle.dw_cfa.specs.Rows.{Rules}
-use Rattle.dw_canon.specs.Canon.{canon, initial_of, return_registers, group_of, groups_of, part_of, parts_of}
-use Rattle.dw_canon.specs.Laid.{cie_of, fde_of, place_of}
+use Rattle.dw_canon.specs.Inner.Laid.{group_of, groups_of, part_of, parts_of}
+use Rattle.dw_canon.specs.Canon.{canon, initial_of, return_registers}
+use Rattle.dw_canon.specs.Inner.Laid.{cie_of, fde_of, place_of}
 use Rattle.dw_canon.specs.Members.{Member}
-use Rattle.dw_canon.specs.Written.{Written, entry_bytes, section_bytes}
+use Rattle.dw_canon.specs.Inner.Written.{Written, entry_bytes, section_bytes}
 use Rattle.dw_canon.proofs.Lent.Extra.{section_append}
+use Rattle.dw_canon.proofs.Lent.Layout.{laid_is}
 use Rattle.dw_normal.specs.Inner.Groups.{initial_rows}
 use Rattle.dw_normal.specs.Inner.Lengths.{MemberLeaves, Measures, cie_with, cies_bytes, fdes_bytes}
 
@@ -21,10 +23,9 @@ cies_same t ms [] = refl
 cies_same t ms (r ∷ rs) = ap (λ (l : List Written). cie_with t (r, initial_of ms r) ∷ l) (cies_same t ms rs)
 
 pub canon_is : (t : Target) (ms : List Member) → canon t ms ≡ cies_bytes t (initial_rows ms) ++ fdes_bytes t ms ms
-unfolding canon
 canon_is t ms =
     let fdes = map (fde_of t (groups_of t ms)) (parts_of t ms) in
-    section_append t (map cie_of (groups_of t ms)) fdes ∙ ap (λ (l : List Written). section_bytes t l ++ section_bytes t fdes) (cies_same t ms (return_registers ms))
+    laid_is t ms ∙ section_append t (map cie_of (groups_of t ms)) fdes ∙ ap (λ (l : List Written). section_bytes t l ++ section_bytes t fdes) (cies_same t ms (return_registers ms))
 
 -- ---- the FDEs, one after another
 

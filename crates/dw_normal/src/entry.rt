@@ -10,7 +10,7 @@ ghost use Rattle.dw_section.specs.Meaning.{AreFdes};
 ghost use Rattle.dw_canon.specs.Canon.{canon, cie_instrs};
 ghost use Rattle.dw_canon.specs.Inner.Fits.{InstrFits};
 ghost use Rattle.dw_canon.specs.Members.{Member, AreMembers};
-ghost use Rattle.dw_canon.specs.Written.{contents, entry_bytes};
+ghost use Rattle.dw_canon.specs.Inner.Written.{contents, entry_bytes};
 ghost use Rattle.dw_normal.specs.Inner.Groups.{initial_rows};
 ghost use Rattle.dw_normal.specs.Inner.Lengths.{cie_with, cies_bytes, fdes_bytes};
 ghost use Rattle.dw_normal.specs.Inner.Places.{place_in, cie_place, RowsRise, fde_with};

@@ -12,16 +12,19 @@ use Rattle.dw_num.specs.Target.{byte_count}
 use Rattle.dw_num.proofs.Lent.FixedLaws.{length-fixed}
 use Rattle.dw_section.specs.Accepted.{Accepted}
 use Rattle.dw_canon.specs.Bound.{share, Shares, WithinShares}
-use Rattle.dw_canon.specs.Canon.{canon, cie_instrs, initial_of, return_registers, group_of, groups_of, part_of, parts_of}
+use Rattle.dw_canon.specs.Inner.Laid.{group_of, groups_of, part_of, parts_of}
+use Rattle.dw_canon.specs.Canon.{canon, cie_instrs, initial_of, return_registers}
 use Rattle.dw_canon.specs.Inner.Fits.{MemberStands}
 use Rattle.dw_canon.specs.Group.{group}
-use Rattle.dw_canon.specs.Laid.{cie_of}
-use Rattle.dw_canon.specs.Laid as layout
+use Rattle.dw_canon.specs.Inner.Laid.{cie_of}
+use Rattle.dw_canon.specs.Inner.Laid as layout
 use Rattle.dw_canon.specs.Members.{Member, IsMember, AreMembers, fde_of, changes_of}
 use Rattle.dw_canon.specs.Spelling.{program_bytes}
-use Rattle.dw_canon.specs.Written.{cie_id, cie_spelling, cie_fields, entry_bytes, section_bytes}
+use Rattle.dw_canon.specs.Inner.Written.{cie_id, cie_spelling, entry_bytes, section_bytes}
+use Rattle.dw_canon.specs.Written.{cie_fields}
 use Rattle.dw_canon.proofs.Lent.Differences.{In}
 use Rattle.dw_canon.proofs.Lent.Extra.{section_append, up, entry_up, fde_length}
+use Rattle.dw_canon.proofs.Lent.Layout.{laid_is}
 use Rattle.dw_canon.proofs.Lent.InstrFits as fitting
 use Rattle.dw_canon.proofs.Prices.{IsPriced, is_priced, fde_len, cie_len}
 use Rattle.dw_canon.proofs.Lent.Rendered.{fits, stand, nonempty, low_registers}
@@ -156,14 +159,13 @@ module _ (t : Target) (s : List ℕ) (b : AreBytes s) (ok : Accepted t s) (ms : 
       )
 
   canon_within : (n : ℕ) → Shares t s (map fde_of ms) n → 24 * length (canon t ms) ≤ n
-  unfolding canon
   canon_within n shares =
       let h = all_priced ms n are.each (fits t s b ok ms are) (nonempty t s b ok ms are) shares in
       let cies = map cie_of (groups_of t ms) in
       let fdes = map (layout.fde_of t (groups_of t ms)) (parts_of t ms) in
       omega (
         arith,
-        ap length (section_append t cies fdes),
+        ap length (laid_is t ms ∙ section_append t cies fdes),
         length-append (section_bytes t cies) (section_bytes t fdes),
         cies_within n h,
         fdes_within ms n h (stand t s b ok ms are),

@@ -15,14 +15,15 @@ use Rattle.dw_section.specs.Meanings.{IsListed, SameMeaning}
 use Rattle.dw_canon.specs.Inner.Renders.{ReadsBack}
 use Rattle.dw_section.proofs.Lent.Sections.{fdes_exist, listed_programs}
 use Rattle.dw_section.proofs.Lent.Exists.{listed_change, one_change_list, meaning_changes}
-use Rattle.dw_canon.specs.Laid.{Group, Part, cie_of, laid}
-use Rattle.dw_canon.specs.Laid as layout
-use Rattle.dw_canon.specs.Written.{Written, section_bytes}
+use Rattle.dw_canon.specs.Inner.Laid.{Group, Part, cie_of, laid}
+use Rattle.dw_canon.specs.Inner.Laid as layout
+use Rattle.dw_canon.specs.Inner.Written.{Written, section_bytes}
 use Rattle.dw_section.proofs.Lent.Totals.{least_starts}
 use Rattle.dw_canon.proofs.Lent.Extra.{starts_of, written_starts}
 use Rattle.dw_canon.proofs.Lays.{laid_section}
 use Rattle.dw_canon.proofs.Lent.Readback.{rendered_laid}
-use Rattle.dw_canon.specs.Canon.{canon, initial_of, part_of, groups_of, parts_of}
+use Rattle.dw_canon.specs.Inner.Laid.{part_of, groups_of, parts_of}
+use Rattle.dw_canon.specs.Canon.{canon, initial_of}
 use Rattle.dw_canon.specs.Inner.Fits.{MemberStands}
 use Rattle.dw_canon.specs.Headline.{Headline}
 use Rattle.dw_canon.specs.Laws.{NormalFormExists, NormalFormIsOne, MeaningIsKept, NormalAgain, SameNormalForm, FewestRows, NormalRows, InitialIsShared}
@@ -30,6 +31,7 @@ use Rattle.dw_canon.specs.Members.{Member, fde_of, changes_of, IsMember, AreMemb
 use Rattle.dw_section.specs.Laws.{AreListed}
 use Rattle.dw_canon.specs.Normal.{IsNormalForm}
 use Rattle.dw_canon.proofs.Kept.{reads_back}
+use Rattle.dw_canon.proofs.Lent.Layout.{laid_is}
 use Rattle.dw_canon.proofs.ProgramLaws.{member_program}
 use Rattle.dw_canon.proofs.Lent.Rendered.{renders, fits, stand}
 use Rattle.dw_canon.proofs.Shared.{MemberFits, is_shared}
@@ -228,9 +230,9 @@ member_starts t ms (m ∷ xs) all h =
     let law = member_program t (initial_of ms m.register) m (group_fits t ms m.register all) h.0 in
     ap (λ (n : ℕ). n ∷ part_starts (map (part_of t ms) xs)) law.3 ∙ ap (λ (l : List ℕ). length (changes_of m) ∷ l) (member_starts t ms xs all h.1)
 
-canon_rows : (t : Target) (s : List ℕ) (b : AreBytes s) (ok : Accepted t s) (ms : List Member) (are : AreMembers t s ms) → length (canon t ms) ≤ 2147483647 → RowStarts t (canon t ms) (total (map (λ (m : Member). length (changes_of m)) ms))
-unfolding canon
-canon_rows t s b ok ms are small =
+laid_rows : (t : Target) (s : List ℕ) (b : AreBytes s) (ok : Accepted t s) (ms : List Member) (are : AreMembers t s ms) → length (section_bytes t (laid t (groups_of t ms) (parts_of t ms))) ≤ 2147483647
+    → RowStarts t (section_bytes t (laid t (groups_of t ms) (parts_of t ms))) (total (map (λ (m : Member). length (changes_of m)) ms))
+laid_rows t s b ok ms are small =
     let gs = groups_of t ms in
     let ps = parts_of t ms in
     let laid_is = rendered_laid t s gs ps b ok (renders t s b ok ms are) small in
@@ -240,8 +242,9 @@ canon_rows t s b ok ms are small =
 
 pub normal_rows : NormalRows
 normal_rows t s n b h small =
-    subst (λ (l : List ℕ). RowStarts t l (total (map (λ (m : Member). length (changes_of m)) h.members))) (sym h.whole)
-    (canon_rows t s b h.accepted h.members h.are (subst (λ (l : List ℕ). length l ≤ 2147483647) h.whole small))
+    let same = h.whole ∙ laid_is t h.members in
+    subst (λ (l : List ℕ). RowStarts t l (total (map (λ (m : Member). length (changes_of m)) h.members))) (sym same)
+    (laid_rows t s b h.accepted h.members h.are (subst (λ (l : List ℕ). length l ≤ 2147483647) same small))
 
 -- ---- the initial rows
 

@@ -16,7 +16,8 @@ use Rattle.dw_section.specs.Headers.{Head}
 use Rattle.dw_section.specs.Inner.Heads.{head_at}
 use Rattle.dw_section.specs.Meaning.{Says, Starts, RowStarts, total}
 use Rattle.dw_section.specs.Programs.{IsAmong}
-use Rattle.dw_canon.specs.Written.{Written, cie, fde, missing, fde_fields, fields_of, program_of, nops_of, filled, contents, entry_bytes, section_bytes}
+use Rattle.dw_canon.specs.Inner.Written.{Written, cie, fde, fields_of, program_of, nops_of, filled, contents, entry_bytes, section_bytes}
+use Rattle.dw_canon.specs.Written.{missing, fde_fields}
 use Rattle.dw_canon.specs.Inner.Written.{span_of, head_of, heads_at, ranges_at, Fits, Runs, IsSection}
 use Rattle.dw_canon.proofs.Accepts.{begun, instrs_so, written_index}
 use Rattle.dw_canon.proofs.Lent.Fields.{entry_length, written_headers}

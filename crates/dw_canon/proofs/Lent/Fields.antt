@@ -25,7 +25,8 @@ use Rattle.dw_section.specs.Cut.{IsItem, is_cie, Piece, pieces, Cut}
 use Rattle.dw_section.specs.Inner.Least.{least_cie}
 use Rattle.dw_section.specs.Headers.{Has, Headers}
 use Rattle.dw_section.specs.Places.{cie_places, place_if}
-use Rattle.dw_canon.specs.Written.{Written, cie, fde, cie_id, cie_spelling, fde_fields, fields_of, program_of, nops_of, filled, contents, item_of, entry_bytes, section_bytes, cie_fields}
+use Rattle.dw_canon.specs.Inner.Written.{Written, cie, fde, cie_id, cie_spelling, fields_of, program_of, nops_of, filled, contents, item_of, entry_bytes, section_bytes}
+use Rattle.dw_canon.specs.Written.{fde_fields, cie_fields}
 use Rattle.dw_canon.specs.Inner.Written.{span_of, head_of, heads_at, cies_at, StandsAt, Fits}
 use Rattle.dw_num.specs.declared.refusal.Code.TheVariants.{AddressSize}
 

@@ -18,12 +18,12 @@ use Rattle.dw_section.specs.Places.{cie_places}
 use Rattle.dw_section.proofs.Lent.Heads.{all_in}
 use Rattle.dw_section.proofs.Lent.FdeLookup.{one_fdes}
 use Rattle.dw_section.specs.Inner.Agree.{AgreeAt, Agree}
-use Rattle.dw_canon.specs.Laid.{Group, Part, laid}
+use Rattle.dw_canon.specs.Inner.Laid.{Group, Part, laid}
 use Rattle.dw_canon.specs.Inner.Laid.{fde_in}
 use Rattle.dw_canon.specs.Inner.Laid.{IsPart, PartsApart, IsLaid, IsPartOf}
 use Rattle.dw_section.specs.Meanings.{IsListed}
 use Rattle.dw_canon.specs.Inner.Renders.{IsRendered, Renders, ReadsBack, Readback}
-use Rattle.dw_canon.specs.Written.{section_bytes}
+use Rattle.dw_canon.specs.Inner.Written.{section_bytes}
 use Rattle.dw_canon.proofs.Accepts.{written_accepted, written_fdes}
 use Rattle.dw_section.proofs.Lent.Agrees.{agree_nops, agree_then, cfa_agree}
 use Rattle.dw_canon.proofs.Bytes.{section_are_bytes}

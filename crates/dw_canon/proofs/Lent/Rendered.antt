@@ -14,7 +14,8 @@ use Rattle.dw_section.proofs.Lent.Registers.{fdes_registers}
 use Rattle.dw_canon.specs.Inner.Laid.{fde_in, HasGroup, GroupsRise, IsGroup}
 use Rattle.dw_section.specs.Meanings.{IsListed}
 use Rattle.dw_canon.specs.Inner.Renders.{IsRendered, Renders}
-use Rattle.dw_canon.specs.Canon.{return_registers, initial_of, cie_instrs, group_of, fde_instrs, part_of, groups_of, parts_of}
+use Rattle.dw_canon.specs.Inner.Laid.{group_of, part_of, groups_of, parts_of}
+use Rattle.dw_canon.specs.Canon.{return_registers, initial_of, cie_instrs, fde_instrs}
 use Rattle.dw_canon.specs.Inner.Fits.{MemberStands}
 use Rattle.dw_canon.specs.Members.{Member, fde_of, changes_of, IsMember, AreMembers}
 use Rattle.dw_canon.proofs.Lent.Differences.{In}

@@ -1,5 +1,5 @@
--- What is asked of the groups and FDEs that a normal form is laid out of.
-use Rattle.std.specs.Prelude.{◌≡◌, ◌⊎◌, ℕ, suc, ◌+◌, ◌<◌, ◌≤◌, List, [], ◌∷◌, length}
+-- How a normal form is laid out: first a CIE for each return register, ascending, then the FDEs by begin; and what is asked of them.
+use Rattle.std.specs.Prelude.{◌≡◌, ◌⊎◌, ◌==◌, ℕ, suc, ◌+◌, ◌-◌, ◌<◌, ◌≤◌, List, [], ◌∷◌, ◌++◌, length, map, if◌then◌else◌}
 use Rattle.std.specs.List.{AllByRecursion}
 use Rattle.dw_num.specs.declared.target.Target.{Target}
 use Rattle.dw_num.specs.Target.{address_limit}
@@ -9,8 +9,59 @@ use Rattle.dw_cfa.specs.Kept.{CieKept, FdeKept}
 use Rattle.dw_cfa.specs.Laws.{initial_cfa}
 use Rattle.dw_section.specs.declared.lookup.Fde.{Fde}
 use Rattle.dw_section.specs.Programs.{HasCfa}
-use Rattle.dw_canon.specs.Written.{factors, section_bytes}
-use Rattle.dw_canon.specs.Laid.{Group, Part, laid}
+use Rattle.dw_canon.specs.Canon.{return_registers, initial_of, cie_instrs, fde_instrs}
+use Rattle.dw_canon.specs.Inner.Written.{Written, cie, fde, factors, entry_bytes, section_bytes}
+use Rattle.dw_canon.specs.Members.{Member}
+use Rattle.dw_canon.specs.Spelling.{program_bytes}
+
+-- the CIE of a return register: its instructions, and the bytes that spell them
+pub record Group : Type 0 where
+  pub register : ℕ
+  pub instrs : List Instr
+  pub program : List ℕ
+
+-- an FDE: the return register of its CIE, its range, its instructions, and the bytes that spell them
+pub record Part : Type 0 where
+  pub register : ℕ
+  pub begin : ℕ
+  pub range : ℕ
+  pub instrs : List Instr
+  pub program : List ℕ
+
+abbrev pub cie_of : Group → Written
+cie_of g = cie g.register g.instrs g.program
+
+-- where the CIE of a return register stands
+abbrev pub place_of : Target → ℕ → List Group → ℕ → ℕ
+place_of target at [] register = at
+place_of target at (g ∷ gs) register = if g.register == register then at else place_of target (at + length (entry_bytes target (cie_of g))) gs register
+
+abbrev pub fde_of : Target → List Group → Part → Written
+fde_of target gs p = fde (place_of target 0 gs p.register) p.begin p.range p.instrs p.program
+
+-- the entries
+abbrev pub laid : Target → List Group → List Part → List Written
+laid target gs ps = map cie_of gs ++ map (fde_of target gs) ps
+
+-- ---- the groups and FDEs of a section
+
+abbrev pub group_of : Target → List Member → ℕ → Group
+group_of t ms register = record { register = register; instrs = cie_instrs (initial_of ms register); program = program_bytes t (cie_instrs (initial_of ms register)) }
+
+abbrev pub part_of : Target → List Member → Member → Part
+part_of t ms m = record {
+  register = m.register;
+  begin = m.begin;
+  range = m.end - m.begin;
+  instrs = fde_instrs (initial_of ms m.register) m;
+  program = program_bytes t (fde_instrs (initial_of ms m.register) m);
+}
+
+abbrev pub groups_of : Target → List Member → List Group
+groups_of t ms = map (group_of t ms) (return_registers ms)
+
+abbrev pub parts_of : Target → List Member → List Part
+parts_of t ms = map (part_of t ms) ms
 
 -- an FDE as a table lists it
 abbrev pub fde_in : Part → Fde

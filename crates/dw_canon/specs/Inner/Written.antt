@@ -1,20 +1,78 @@
--- What the code and its proofs say beside Written.
-use Rattle.std.specs.Prelude.{◌≡◌, ◌⊎◌, ℕ, ◌+◌, ◌<◌, ◌≤◌, negsuc, List, [], ◌∷◌, length}
+-- Sections as they are written, entry by entry, each with the instructions that its program spells.
+use Rattle.std.specs.Prelude.{◌≡◌, ◌⊎◌, ℕ, ◌+◌, ◌<◌, ◌≤◌, negsuc, List, [], ◌∷◌, ◌++◌, length, map, replicate}
 use Rattle.std.specs.List.{AllByRecursion}
 use Rattle.dw_num.specs.declared.target.Target.{Target}
 use Rattle.dw_num.specs.declared.target.Form.TheVariants.{Dwarf32}
+use Rattle.dw_num.specs.declared.target.Size.{Size}
+use Rattle.dw_num.specs.Fixed.{fixed_bytes}
+use Rattle.dw_num.specs.Shortest.{shortest_uleb}
 use Rattle.dw_num.specs.Span.{Span}
-use Rattle.dw_num.specs.Target.{address_limit}
+use Rattle.dw_num.specs.Target.{address_limit, byte_count}
+use Rattle.dw_cfa.specs.declared.instr.Factors.{Factors}
 use Rattle.dw_cfa.specs.declared.instr.Instr.{Instr}
 use Rattle.dw_cfa.specs.InstrSpells.{Program}
 use Rattle.dw_cfa.specs.Kept.{CieKept, FdeKept}
 use Rattle.dw_cfa.specs.Laws.{initial_cfa}
+use Rattle.dw_section.specs.Cut.{Item, entry, item_bytes, all_bytes}
 use Rattle.dw_section.specs.Headers.{Head}
 use Rattle.dw_section.specs.Headers as head
 use Rattle.dw_section.specs.Overlap.{Range, AreApart}
 use Rattle.dw_section.specs.declared.lookup.Fde.{Fde}
 use Rattle.dw_section.specs.Programs.{HasCfa}
-use Rattle.dw_canon.specs.Written.{factors, Written, cie, fde, filled, fields_of, program_of, nops_of, entry_bytes, section_bytes}
+use Rattle.dw_canon.specs.Written.{missing, cie_fields, fde_fields}
+
+-- the factors of each CIE: what the operands of offsets and advances are multiplied by
+abbrev pub factors : Factors
+factors = record { code_factor = 1; data_factor = negsuc 0 }
+
+-- an entry to be written: a CIE by its return register, or an FDE by the place of its CIE, its begin and its range; then its
+-- instructions and the bytes that spell them, without nops
+pub data Written : Type 0 where
+  cie : ℕ → List Instr → List ℕ → Written
+  fde : ℕ → ℕ → ℕ → List Instr → List ℕ → Written
+
+-- the nops behind these fields and this program, with four bytes of length before them
+abbrev pub nop_count : Size → List ℕ → List ℕ → ℕ
+nop_count size fields program = missing size (4 + (length fields + length program))
+
+-- a program with n nops behind it
+abbrev pub filled : ℕ → List ℕ → List ℕ
+filled n program = program ++ replicate n 0
+
+abbrev pub cie_id : Target → List ℕ
+cie_id target = fixed_bytes target.order 4 0xffffffff
+
+-- version 4, no augmentation, the sizes, the factors, the register
+abbrev pub cie_spelling : Target → ℕ → List ℕ
+cie_spelling target register = (4 ∷ []) ++ ((0 ∷ []) ++ ((byte_count target.size ∷ 0 ∷ []) ++ ((1 ∷ []) ++ ((127 ∷ []) ++ shortest_uleb register))))
+
+abbrev pub fields_of : Target → Written → List ℕ
+fields_of target (cie register instrs program) = cie_fields target register
+fields_of target (fde cie_at begin range instrs program) = fde_fields target cie_at begin range
+
+abbrev pub program_of : Written → List ℕ
+program_of (cie register instrs program) = program
+program_of (fde cie_at begin range instrs program) = program
+
+abbrev pub nops_of : Target → Written → ℕ
+nops_of target w = nop_count target.size (fields_of target w) (program_of w)
+
+-- what stands behind the length
+abbrev pub contents : Target → Written → List ℕ
+contents target w = fields_of target w ++ filled (nops_of target w) (program_of w)
+
+abbrev pub item_of : Target → Written → Item
+item_of target w = entry Dwarf32 (contents target w)
+
+-- the bytes of an entry
+abbrev pub entry_bytes : Target → Written → List ℕ
+entry_bytes target w = item_bytes target.order (item_of target w)
+
+-- the bytes of entries, one after the other
+abbrev pub section_bytes : Target → List Written → List ℕ
+section_bytes target ws = all_bytes target.order (map (item_of target) ws)
+
+-- ---- what is asked of them
 
 -- the program as it stands in an entry at a place
 abbrev pub span_of : Target → ℕ → Written → Span

@@ -5,10 +5,10 @@ use Rattle.std.specs.Map.{lookup}
 use Rattle.std.specs.Ordering.{nat_cmp}
 use Rattle.dw_num.specs.declared.target.Target.{Target}
 use Rattle.dw_cfa.specs.Rows.{Rules}
-use Rattle.dw_canon.specs.Canon.{groups_of, part_of}
-use Rattle.dw_canon.specs.Laid.{fde_of}
+use Rattle.dw_canon.specs.Inner.Laid.{groups_of, part_of}
+use Rattle.dw_canon.specs.Inner.Laid.{fde_of}
 use Rattle.dw_canon.specs.Members.{Member}
-use Rattle.dw_canon.specs.Written.{Written, entry_bytes}
+use Rattle.dw_canon.specs.Inner.Written.{Written, entry_bytes}
 use Rattle.dw_normal.specs.Inner.Lengths.{cie_with}
 
 -- the place that is kept of a return register

@@ -4,7 +4,7 @@ use Rattle.dw_num.specs.declared.target.Form.TheVariants.{Dwarf32}
 use Rattle.dw_num.specs.declared.target.Order.{Order}
 use Rattle.dw_num.specs.declared.target.Target.{Target}
 use Rattle.dw_section.specs.Cut.{entry, item_bytes}
-use Rattle.dw_canon.specs.Written.{contents, entry_bytes}
+use Rattle.dw_canon.specs.Inner.Written.{contents, entry_bytes}
 use Rattle.dw_canon.proofs.Lent.Canonical.{members_exist}
 use Rattle.dw_normal.specs.Inner.Places.{fde_with}
 use Rattle.dw_normal.specs.Inner.Puts.{Puts}
