@@ -5,7 +5,7 @@ use Rattle.dw_op.specs.Operands.{in_range}
 use Rattle.dw_op.proofs.Lent.ReadingLaws.{some_is, EachEntry, looked_up, range_is}
 use Rattle.dw_cfa.specs.declared.opcode.Opcode.{Opcode}
 use Rattle.dw_cfa.specs.declared.opcode.Opcode.TheVariants as opcodes
-use Rattle.dw_cfa.specs.Operands.{opcode_table, opcode_of}
+use Rattle.dw_cfa.specs.Inner.Operands.{opcode_table, opcode_of}
 
 -- ---- what a code says
 

@@ -1,6 +1,6 @@
 -- What can't be read as an instruction has the fault that the table of operands gives it.
 use Rattle.std.proofs.Common.{◌≡◌, ℕ, ◌+◌, ◌^◌, List, ◌∷◌, ◌++◌, length, Option, Some, None, Result, Ok, Err, refl, sym, ap, subst, ◌∙◌, arith, inl, inr}
-use Rattle.std.specs.Prelude.{unsigned_abs}
+use Rattle.std.specs.Prelude.{option_map, unsigned_abs}
 use Rattle.std.proofs.lemmas.Bool.{cases_lt, lt-ltb, le-ltb}
 use Rattle.dw_num.specs.declared.refusal.Code.TheVariants.{UnknownInstruction, OffsetTooLarge}
 use Rattle.dw_num.specs.declared.refusal.Refusal.{Refusal}
@@ -21,10 +21,12 @@ use Rattle.dw_cfa.specs.declared.instr.Factors.{Factors}
 use Rattle.dw_cfa.specs.declared.instr.Instr.{Instr}
 use Rattle.dw_cfa.specs.declared.opcode.Opcode.{Opcode}
 use Rattle.dw_cfa.specs.declared.opcode.Opcode.TheVariants as opcodes
-use Rattle.dw_cfa.specs.Operands.{opcode_of, Operand, address, fixed, register, unsigned, signed, expression, Value, Form, none, one, two, form_of, offset_of}
+use Rattle.dw_cfa.specs.Inner.Operands.{opcode_of, form_of}
+use Rattle.dw_cfa.specs.Operands.{Operand, address, fixed, register, unsigned, signed, expression, Value, Form, none, one, two, form_for, offset_of}
 use Rattle.dw_cfa.specs.InstrSpells.{Spells, FormSpells}
 use Rattle.dw_cfa.specs.InstrFaults.{ContentsFault, OperandFault, FormFault, CodeFault}
 use Rattle.dw_cfa.specs.Inner.FrontInstr.{leaving, expression_of, expression_in, block_in, after_length, block_at, operand_at, with_instr, then_operand, form_at, judged, instr_at, known_at}
+use Rattle.dw_cfa.proofs.CodeForms.{form_known}
 use Rattle.dw_cfa.proofs.Expressions.{expression_refused}
 use Rattle.dw_cfa.proofs.Lent.InstrLaws.{Finds, finds_made, finds_alone, block_finds, register_finds, address_finds, fixed_finds, front_bytes}
 use Rattle.dw_cfa.proofs.InstrAgain.{block_again, made_again}
@@ -209,10 +211,10 @@ module _ (f : Factors) (t : Target) (at code : ℕ) (operands : List ℕ) where
   unfolding instr_at
   read_code = let one = byte_again t code at operands in rw one refl
 
-  pub stuck_fault : (r : Refusal) → AreBytes operands → instr_at f (input at (code ∷ operands) t) ≡ Err r → CodeFault f at (opcode_of code) behind r
-  stuck_fault r h e = of (opcode_of code) (sym read_code ∙ e)
+  pub stuck_fault : (r : Refusal) → AreBytes operands → instr_at f (input at (code ∷ operands) t) ≡ Err r → CodeFault at (form_for f code) behind r
+  stuck_fault r h e = subst (λ (o : Option Form). CodeFault at o behind r) (sym (form_known f code)) (of (opcode_of code) (sym read_code ∙ e))
     where
-      of-form : (opcode : Opcode) (read : Read Instr) → form_at (form_of f opcode) behind ≡ read → read >>= judged at ≡ Err r → CodeFault f at (Some opcode) behind r
+      of-form : (opcode : Opcode) (read : Read Instr) → form_at (form_of f opcode) behind ≡ read → read >>= judged at ≡ Err r → CodeFault at (Some (form_of f opcode)) behind r
       of-form opcode (Err q) is bad = inl (form_fault (form_of f opcode) behind r (form_wide f opcode) h (is ∙ errs q r bad))
       of-form opcode (Ok x) is bad = elim (cases_lt (unsigned_abs (offset_of x.0)) (2 ^ 63)) [
         | inl small ↦ let no : done x ≡ Err r = rw (lt-ltb (unsigned_abs (offset_of x.0)) (2 ^ 63) small) at bad in absurd cc
@@ -222,14 +224,14 @@ module _ (f : Factors) (t : Target) (at code : ℕ) (operands : List ℕ) where
             inr (x.0, u.0, x.1.bytes, u.2.bytes, u.1, (λ range. omega (arith, range, big)), sym (same_refusal (record { code = OffsetTooLarge; at = at }) r no))
       ]
 
-      of : (o : Option Opcode) → known_at f at o behind ≡ Err r → CodeFault f at o behind r
+      of : (o : Option Opcode) → known_at f at o behind ≡ Err r → CodeFault at (option_map (form_of f) o) behind r
       of None bad = sym (same_refusal (record { code = UnknownInstruction; at = at }) r bad)
       of (Some opcode) bad = of-form opcode (form_at (form_of f opcode) behind) refl bad
 
-  pub fault_stuck : (r : Refusal) → CodeFault f at (opcode_of code) behind r → instr_at f (input at (code ∷ operands) t) ≡ Err r
-  fault_stuck r h = read_code ∙ of (opcode_of code) h
+  pub fault_stuck : (r : Refusal) → CodeFault at (form_for f code) behind r → instr_at f (input at (code ∷ operands) t) ≡ Err r
+  fault_stuck r h = read_code ∙ of (opcode_of code) (subst (λ (o : Option Form). CodeFault at o behind r) (form_known f code) h)
     where
-      of : (o : Option Opcode) → CodeFault f at o behind r → known_at f at o behind ≡ Err r
+      of : (o : Option Opcode) → CodeFault at (option_map (form_of f) o) behind r → known_at f at o behind ≡ Err r
       of None is = ap (λ (x : Refusal). Err x) (sym is)
       of (Some opcode) (inl bad) = rw (fault_form f (form_of f opcode) behind r bad) refl
       of (Some opcode) (inr (instr, front, rest, whole, spelled, big, is)) =

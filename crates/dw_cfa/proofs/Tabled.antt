@@ -9,7 +9,8 @@ use Rattle.dw_cfa.specs.declared.instr.Instr.TheVariants.{SetLoc, DefCfa, DefCfa
 use Rattle.dw_cfa.specs.declared.opcode.Opcode.{Opcode}
 use Rattle.dw_cfa.specs.declared.opcode.Opcode.TheVariants as opcodes
 use Rattle.dw_cfa.specs.declared.rule.RegRule.TheVariants as rules
-use Rattle.dw_cfa.specs.Operands.{opcode_of, form_of, offset_of, advanced}
+use Rattle.dw_cfa.specs.Inner.Operands.{opcode_of, form_of}
+use Rattle.dw_cfa.specs.Operands.{offset_of, advanced}
 use Rattle.dw_cfa.specs.Inner.FrontInstr.{leaving, block_at, with_instr, form_at, judged, known_at, instr_at}
 use Rattle.dw_cfa.specs.Inner.ByOpcode.{offset_in, plain_in, plain_at, factored_in, factored_at, signed_in, signed_at, set_loc_at, advance_at, def_cfa_register_at, def_cfa_offset_at, def_cfa_offset_sf_at, def_cfa_expression_at, then_plain, def_cfa_at, then_signed, def_cfa_sf_at, restore_at, set_to, undefined_at, same_value_at, set_offset, set_val_offset, set_register, set_expression, set_val_expression, offset_at, then_offset, offset_extended_at, offset_extended_sf_at, then_factored, val_offset_at, val_offset_sf_at, then_register, register_rule_at, then_block, expression_at, val_expression_at, operands_at}
 

@@ -13,7 +13,7 @@ use Rattle.dw_cfa.specs.declared.opcode.Opcode.{Opcode}
 use Rattle.dw_cfa.specs.declared.machine.End.{End}
 use Rattle.dw_cfa.specs.declared.machine.End.TheVariants as ends
 use Rattle.dw_cfa.specs.Location.{moves_location}
-use Rattle.dw_cfa.specs.Operands.{opcode_of}
+use Rattle.dw_cfa.specs.Inner.Operands.{opcode_of}
 use Rattle.dw_cfa.specs.Inner.FrontInstr.{known_at, instr_at}
 use Rattle.dw_cfa.specs.Inner.ByOpcode.{operands_at}
 use Rattle.dw_cfa.specs.Runs.{fails}

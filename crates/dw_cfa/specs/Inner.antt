@@ -1,4 +1,5 @@
 -- How the code keeps what the contracts say. No public clause reaches these.
+pub mod Operands
 pub mod FrontInstr
 pub mod ByOpcode
 pub mod Listing

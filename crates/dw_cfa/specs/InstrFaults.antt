@@ -7,10 +7,8 @@ use Rattle.dw_num.specs.Leb.{Uleb}
 use Rattle.dw_num.specs.Front.{fixed_at, take_at, register_at, uleb_at, sleb_at, address_at}
 use Rattle.dw_op.specs.declared.profile.Profile.TheVariants.{Frame}
 use Rattle.dw_op.specs.Faults.{BlockFault}
-use Rattle.dw_cfa.specs.declared.instr.Factors.{Factors}
 use Rattle.dw_cfa.specs.declared.instr.Instr.{Instr}
-use Rattle.dw_cfa.specs.declared.opcode.Opcode.{Opcode}
-use Rattle.dw_cfa.specs.Operands.{Operand, address, fixed, register, unsigned, signed, expression, Value, Form, none, one, two, form_of, offset_of}
+use Rattle.dw_cfa.specs.Operands.{Operand, address, fixed, register, unsigned, signed, expression, Value, Form, none, one, two, offset_of}
 use Rattle.dw_cfa.specs.InstrSpells.{Spells, FormSpells, IsOffset}
 
 -- fewer than n bytes are left, or the n bytes are no block of the frame profile: the place of its fault counts from its first byte
@@ -35,8 +33,8 @@ FormFault (one o make) i r = OperandFault o i r
 FormFault (two o p make) i r = OperandFault o i r ⊎ ((x : Value o) × (front : List ℕ) × (new : Input) × Spells i.target o x front × Takes i front new × OperandFault p new r)
 
 -- the code at this place is no instruction's; or an operand behind it can't be read; or all can, and the offset is too large
-abbrev pub CodeFault : Factors → ℕ → Option Opcode → Input → Refusal → Type 0
-CodeFault f at None i r = r ≡ record { code = UnknownInstruction; at = at }
-CodeFault f at (Some opcode) i r =
-    FormFault (form_of f opcode) i r
-    ⊎ ((instr : Instr) × (front rest : List ℕ) × (i.bytes ≡ front ++ rest) × FormSpells i.target (form_of f opcode) instr front × (IsOffset (offset_of instr) → ⊥) × (r ≡ record { code = OffsetTooLarge; at = at }))
+abbrev pub CodeFault : ℕ → Option Form → Input → Refusal → Type 0
+CodeFault at None i r = r ≡ record { code = UnknownInstruction; at = at }
+CodeFault at (Some form) i r =
+    FormFault form i r
+    ⊎ ((instr : Instr) × (front rest : List ℕ) × (i.bytes ≡ front ++ rest) × FormSpells i.target form instr front × (IsOffset (offset_of instr) → ⊥) × (r ≡ record { code = OffsetTooLarge; at = at }))

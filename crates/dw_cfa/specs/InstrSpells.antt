@@ -8,8 +8,7 @@ use Rattle.dw_op.specs.OpSpells.{Both}
 use Rattle.dw_op.specs.Block.{FrameBlock}
 use Rattle.dw_cfa.specs.declared.instr.Factors.{Factors}
 use Rattle.dw_cfa.specs.declared.instr.Instr.{Instr}
-use Rattle.dw_cfa.specs.declared.opcode.Opcode.{Opcode}
-use Rattle.dw_cfa.specs.Operands.{opcode_of, Operand, address, fixed, register, unsigned, signed, expression, Value, Form, none, one, two, form_of, offset_of}
+use Rattle.dw_cfa.specs.Operands.{Operand, address, fixed, register, unsigned, signed, expression, Value, Form, none, one, two, form_for, offset_of}
 
 -- ---- operands
 
@@ -46,11 +45,11 @@ IsOffset z = unsigned_abs z < 2 ^ 63
 -- the bytes spell the instruction: an opcode, and behind it its operands
 pub record InstrSpells (t : Target) (f : Factors) (instr : Instr) (bytes : List ℕ) : Type 0 where
   pub code : ℕ
-  pub opcode : Opcode
+  pub form : Form
   pub rest : List ℕ
-  pub known : opcode_of code ≡ Some opcode
+  pub known : form_for f code ≡ Some form
   pub whole : bytes ≡ code ∷ rest
-  pub operands : FormSpells t (form_of f opcode) instr rest
+  pub operands : FormSpells t form instr rest
   pub range : IsOffset (offset_of instr)
 
 -- the bytes are spellings of the instructions, one after the other

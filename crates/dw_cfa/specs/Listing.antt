@@ -7,7 +7,7 @@ use Rattle.dw_cfa.specs.declared.instr.Factors.{Factors}
 use Rattle.dw_cfa.specs.declared.instr.Instr.{Instr}
 use Rattle.dw_cfa.specs.InstrSpells.{Program}
 use Rattle.dw_cfa.specs.InstrFaults.{CodeFault}
-use Rattle.dw_cfa.specs.Operands.{opcode_of}
+use Rattle.dw_cfa.specs.Operands.{form_for}
 
 -- the longest beginning of instructions, and the fault of what follows it, if anything does
 abbrev pub Listing : Type 0
@@ -26,7 +26,7 @@ pub record ProgramFault (t : Target) (f : Factors) (at : ℕ) (bytes : List ℕ)
   pub operands : List ℕ
   pub whole : bytes ≡ front ++ code ∷ operands
   pub read : Program t f instrs front
-  pub fault : CodeFault f (at + length front) (opcode_of code) (record { at = (at + length front) + 1; bytes = operands; target = t }) r
+  pub fault : CodeFault (at + length front) (form_for f code) (record { at = (at + length front) + 1; bytes = operands; target = t }) r
 
 -- ---- one after another
 

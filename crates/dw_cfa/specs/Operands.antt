@@ -1,35 +1,12 @@
--- Opcodes of call frame instructions, and the operands behind each: DWARF 5, 6.4.2 and 7.24.
+-- Codes of call frame instructions, and the operands behind each: DWARF 5, 6.4.2 and 7.24.
 use Rattle.std.specs.Prelude.{ℕ, ◌*◌, ◌-◌, List, [], ◌∷◌, Option, Some, if◌then◌else◌, ℤ, pos, ◌*ℤ◌}
 use Rattle.dw_op.specs.Expression.{Expression}
 use Rattle.dw_op.specs.Operands.{look_up, in_range}
 use Rattle.dw_cfa.specs.declared.instr.Factors.{Factors}
 use Rattle.dw_cfa.specs.declared.instr.Instr.{Instr}
 use Rattle.dw_cfa.specs.declared.instr.Instr.TheVariants.{Nop, SetLoc, Advance, DefCfa, DefCfaRegister, DefCfaOffset, DefCfaExpression, Set, Restore, RememberState, RestoreState}
-use Rattle.dw_cfa.specs.declared.opcode.Opcode.{Opcode}
-use Rattle.dw_cfa.specs.declared.opcode.Opcode.TheVariants as opcodes
+use Rattle.dw_cfa.specs.declared.rule.RegRule.{RegRule}
 use Rattle.dw_cfa.specs.declared.rule.RegRule.TheVariants as rules
-
--- ---- codes
-
--- the codes that hold no operand
-abbrev pub opcode_table : List (ℕ × Opcode)
-opcode_table =
-    (0x00, opcodes.Nop) ∷ (0x01, opcodes.SetLoc) ∷ (0x02, opcodes.AdvanceLoc1) ∷ (0x03, opcodes.AdvanceLoc2) ∷ (0x04, opcodes.AdvanceLoc4)
-    ∷ (0x05, opcodes.OffsetExtended) ∷ (0x06, opcodes.RestoreExtended) ∷ (0x07, opcodes.Undefined) ∷ (0x08, opcodes.SameValue)
-    ∷ (0x09, opcodes.Register) ∷ (0x0a, opcodes.RememberState) ∷ (0x0b, opcodes.RestoreState) ∷ (0x0c, opcodes.DefCfa)
-    ∷ (0x0d, opcodes.DefCfaRegister) ∷ (0x0e, opcodes.DefCfaOffset) ∷ (0x0f, opcodes.DefCfaExpression) ∷ (0x10, opcodes.Expression)
-    ∷ (0x11, opcodes.OffsetExtendedSf) ∷ (0x12, opcodes.DefCfaSf) ∷ (0x13, opcodes.DefCfaOffsetSf) ∷ (0x14, opcodes.ValOffset)
-    ∷ (0x15, opcodes.ValOffsetSf) ∷ (0x16, opcodes.ValExpression) ∷ []
-
--- what a code says of its operands, none for a code that is no instruction's. Three have an operand in their low six bits.
-unfoldable pub opcode_of : ℕ → Option Opcode
-opcode_of code =
-    if in_range 0x40 0x80 code then Some (opcodes.AdvanceLoc (code - 0x40))
-    else if in_range 0x80 0xc0 code then Some (opcodes.Offset (code - 0x80))
-    else if in_range 0xc0 0x100 code then Some (opcodes.Restore (code - 0xc0))
-    else look_up opcode_table code
-
--- ---- operands
 
 -- an address of the target; a number of n bytes; the LEB of a register, of a number, of a signed number; an expression's block behind its length
 pub data Operand : Type 0 where
@@ -46,7 +23,7 @@ Value signed = ℤ
 Value expression = Expression
 Value other = ℕ
 
--- the operands of an opcode, and the instruction that they make
+-- the operands of a code, and the instruction that they make
 pub data Form : Type 0 where
   none : Instr → Form
   one : (o : Operand) → (Value o → Instr) → Form
@@ -55,34 +32,29 @@ pub data Form : Type 0 where
 abbrev pub advanced : Factors → ℕ → Instr
 advanced f delta = Advance (delta * f.code_factor)
 
--- the table, with the factors multiplied out
-abbrev pub form_of : Factors → Opcode → Form
-form_of f opcodes.Nop = none Nop
-form_of f opcodes.SetLoc = one address SetLoc
-form_of f (opcodes.AdvanceLoc delta) = none (advanced f delta)
-form_of f opcodes.AdvanceLoc1 = one (fixed 1) (advanced f)
-form_of f opcodes.AdvanceLoc2 = one (fixed 2) (advanced f)
-form_of f opcodes.AdvanceLoc4 = one (fixed 4) (advanced f)
-form_of f (opcodes.Offset r) = one unsigned (λ n. Set r (rules.Offset (pos n *ℤ f.data_factor)))
-form_of f opcodes.OffsetExtended = two register unsigned (λ r n. Set r (rules.Offset (pos n *ℤ f.data_factor)))
-form_of f opcodes.OffsetExtendedSf = two register signed (λ r z. Set r (rules.Offset (z *ℤ f.data_factor)))
-form_of f (opcodes.Restore r) = none (Restore r)
-form_of f opcodes.RestoreExtended = one register Restore
-form_of f opcodes.Undefined = one register (λ r. Set r rules.Undefined)
-form_of f opcodes.SameValue = one register (λ r. Set r rules.SameValue)
-form_of f opcodes.Register = two register register (λ r q. Set r (rules.Register q))
-form_of f opcodes.RememberState = none RememberState
-form_of f opcodes.RestoreState = none RestoreState
-form_of f opcodes.DefCfa = two register unsigned (λ r n. DefCfa r (pos n))
-form_of f opcodes.DefCfaSf = two register signed (λ r z. DefCfa r (z *ℤ f.data_factor))
-form_of f opcodes.DefCfaRegister = one register DefCfaRegister
-form_of f opcodes.DefCfaOffset = one unsigned (λ n. DefCfaOffset (pos n))
-form_of f opcodes.DefCfaOffsetSf = one signed (λ z. DefCfaOffset (z *ℤ f.data_factor))
-form_of f opcodes.DefCfaExpression = one expression DefCfaExpression
-form_of f opcodes.Expression = two register expression (λ r e. Set r (rules.Expression e))
-form_of f opcodes.ValOffset = two register unsigned (λ r n. Set r (rules.ValOffset (pos n *ℤ f.data_factor)))
-form_of f opcodes.ValOffsetSf = two register signed (λ r z. Set r (rules.ValOffset (z *ℤ f.data_factor)))
-form_of f opcodes.ValExpression = two register expression (λ r e. Set r (rules.ValExpression e))
+-- a register's rule with an offset
+abbrev pub offset_rule : Factors → (ℤ → RegRule) → ℕ → ℤ → Instr
+offset_rule f make r z = Set r (make (z *ℤ f.data_factor))
+
+-- the codes that hold no operand, with the factors multiplied out
+abbrev pub form_table : Factors → List (ℕ × Form)
+form_table f =
+    (0x00, none Nop) ∷ (0x01, one address SetLoc) ∷ (0x02, one (fixed 1) (advanced f)) ∷ (0x03, one (fixed 2) (advanced f)) ∷ (0x04, one (fixed 4) (advanced f))
+    ∷ (0x05, two register unsigned (λ r n. offset_rule f rules.Offset r (pos n))) ∷ (0x06, one register Restore)
+    ∷ (0x07, one register (λ r. Set r rules.Undefined)) ∷ (0x08, one register (λ r. Set r rules.SameValue)) ∷ (0x09, two register register (λ r q. Set r (rules.Register q)))
+    ∷ (0x0a, none RememberState) ∷ (0x0b, none RestoreState) ∷ (0x0c, two register unsigned (λ r n. DefCfa r (pos n))) ∷ (0x0d, one register DefCfaRegister)
+    ∷ (0x0e, one unsigned (λ n. DefCfaOffset (pos n))) ∷ (0x0f, one expression DefCfaExpression) ∷ (0x10, two register expression (λ r e. Set r (rules.Expression e)))
+    ∷ (0x11, two register signed (offset_rule f rules.Offset)) ∷ (0x12, two register signed (λ r z. DefCfa r (z *ℤ f.data_factor)))
+    ∷ (0x13, one signed (λ z. DefCfaOffset (z *ℤ f.data_factor))) ∷ (0x14, two register unsigned (λ r n. offset_rule f rules.ValOffset r (pos n)))
+    ∷ (0x15, two register signed (offset_rule f rules.ValOffset)) ∷ (0x16, two register expression (λ r e. Set r (rules.ValExpression e))) ∷ []
+
+-- what stands behind a code, none for one that is no instruction's. Three have an operand in their low six bits.
+unfoldable pub form_for : Factors → ℕ → Option Form
+form_for f code =
+    if in_range 0x40 0x80 code then Some (none (advanced f (code - 0x40)))
+    else if in_range 0x80 0xc0 code then Some (one unsigned (λ n. offset_rule f rules.Offset (code - 0x80) (pos n)))
+    else if in_range 0xc0 0x100 code then Some (none (Restore (code - 0xc0)))
+    else look_up (form_table f) code
 
 -- the offset in an instruction, 0 where it has none
 abbrev pub offset_of : Instr → ℤ

@@ -5,7 +5,7 @@ ghost use Rattle.dw_num.specs.Leb.{Sleb};
 ghost use Rattle.dw_num.specs.Fixed.{IsWidth};
 ghost use Rattle.dw_num.specs.Front.{sleb_at, uleb_at};
 ghost use Rattle.dw_num.specs.Inner.Front.{Gives};
-ghost use Rattle.dw_cfa.specs.Operands.{opcode_of};
+ghost use Rattle.dw_cfa.specs.Inner.Operands.{opcode_of};
 ghost use Rattle.dw_cfa.specs.Inner.FrontInstr.{expression_in, block_at, instr_at};
 ghost use Rattle.dw_cfa.specs.Inner.ByOpcode.{offset_in, plain_at, factored_at, signed_at, set_loc_at, advance_at, def_cfa_at, def_cfa_sf_at, def_cfa_register_at, def_cfa_offset_at, def_cfa_offset_sf_at, def_cfa_expression_at, offset_at, offset_extended_at, offset_extended_sf_at, val_offset_at, val_offset_sf_at, restore_at, undefined_at, same_value_at, register_rule_at, expression_at, val_expression_at, operands_at};
 
@@ -49,7 +49,7 @@ pub(crate) enum Opcode {
 }
 
 // What a code says: DWARF 5, 7.24.
-#[tactic(auto, unfolding(crate::specs::Operands::opcode_of))]
+#[tactic(auto, unfolding(crate::specs::Inner::Operands::opcode_of))]
 pub(crate) fn known_opcode(code: u8) -> Option<Opcode>
     ensures { result ≡ opcode_of code }
 {

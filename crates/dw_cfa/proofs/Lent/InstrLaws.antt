@@ -26,7 +26,8 @@ use Rattle.dw_cfa.specs.declared.opcode.Opcode.{Opcode}
 use Rattle.dw_cfa.specs.declared.opcode.Opcode.TheVariants as opcodes
 use Rattle.dw_cfa.specs.declared.rule.RegRule.TheVariants as rules
 use Rattle.dw_cfa.specs.InstrSpells.{IsOffset, BlockSpells, InstrSpells}
-use Rattle.dw_cfa.specs.Operands.{opcode_of, advanced}
+use Rattle.dw_cfa.specs.Inner.Operands.{opcode_of}
+use Rattle.dw_cfa.specs.Operands.{advanced}
 use Rattle.dw_cfa.specs.Inner.FrontInstr.{leaving, expression_of, expression_in, block_in, after_length, block_at, with_instr, known_at, after_code, instr_at}
 use Rattle.dw_cfa.specs.Inner.ByOpcode.{offset_in, plain_in, plain_at, factored_in, factored_at, signed_in, signed_at, set_loc_at, advance_at, def_cfa_register_at, def_cfa_offset_at, def_cfa_offset_sf_at, def_cfa_expression_at, def_cfa_at, def_cfa_sf_at, restore_at, set_to, undefined_at, same_value_at, set_offset, set_val_offset, set_register, set_expression, set_val_expression, offset_at, offset_extended_at, offset_extended_sf_at, val_offset_at, val_offset_sf_at, register_rule_at, expression_at, val_expression_at, operands_at}
 use Rattle.dw_cfa.proofs.Codes.{CodeOf, opcode_known}

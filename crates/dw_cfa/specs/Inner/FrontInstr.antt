@@ -13,7 +13,8 @@ use Rattle.dw_op.specs.Inner.Walk.{block_input, decode_at}
 use Rattle.dw_cfa.specs.declared.instr.Factors.{Factors}
 use Rattle.dw_cfa.specs.declared.instr.Instr.{Instr}
 use Rattle.dw_cfa.specs.declared.opcode.Opcode.{Opcode}
-use Rattle.dw_cfa.specs.Operands.{opcode_of, Operand, address, fixed, register, unsigned, signed, expression, Value, Form, none, one, two, form_of, offset_of}
+use Rattle.dw_cfa.specs.Inner.Operands.{opcode_of, form_of}
+use Rattle.dw_cfa.specs.Operands.{Operand, address, fixed, register, unsigned, signed, expression, Value, Form, none, one, two, offset_of}
 
 -- ---- operands
 
