@@ -31,7 +31,8 @@ use Rattle.dw_cfa.proofs.Divided.{divided, joined}
 use Rattle.dw_cfa.proofs.Lent.Forward.{Follows, begun_follows}
 use Rattle.dw_cfa.proofs.Initial.{cie_follows}
 use Rattle.dw_cfa.proofs.Lent.KeptLaws.{CieKeptFrom, cie_kept_from, cie_kept_gives, counted, fde_kept, kept_fde, all_in_limit}
-use Rattle.dw_cfa.proofs.Lent.KeptRuns.{Stands, remembered, restored, kept_from, kept_gives}
+use Rattle.dw_cfa.specs.Match.{remembered, restored}
+use Rattle.dw_cfa.proofs.Lent.KeptRuns.{Stands, kept_from, kept_gives}
 use Rattle.dw_cfa.proofs.Lent.Listings.{fault_listed}
 use Rattle.dw_cfa.proofs.Lent.RowsAt.{instrs_of, Gives}
 use Rattle.dw_cfa.proofs.Lent.RunLaws.{same_listing, placed_program, program_placed}

@@ -12,19 +12,13 @@ use Rattle.dw_cfa.specs.declared.execution.LocatedRow.{LocatedRow}
 use Rattle.dw_cfa.specs.Location.{onto, location_back, moves_location}
 use Rattle.dw_cfa.specs.Column.{look_back, cfa_change}
 use Rattle.dw_cfa.specs.Kept.{is_remember, is_restore, keeps_half, IsRegisterRule}
+use Rattle.dw_cfa.specs.Match.{remembered, restored}
 use Rattle.dw_cfa.specs.Rows.{Rules}
 use Rattle.dw_cfa.specs.Inner.Machine.{State, after, half_fault, fde_fault}
 use Rattle.dw_cfa.specs.Inner.Steps.{InLimit}
 use Rattle.dw_cfa.specs.Inner.Runs.{Placed, fde_rows, here}
 use Rattle.dw_cfa.proofs.Lent.Forward.{Follows, after_follows}
 use Rattle.dw_cfa.proofs.Lent.RowsAt.{instrs_of, Gives, gives_first, forwards, stays, row_if_moves, row_if_stays}
-
--- how many states the instructions remember, and restore
-abbrev pub remembered : List Instr → ℕ
-remembered instrs = count_by is_remember instrs
-
-abbrev pub restored : List Instr → ℕ
-restored instrs = count_by is_restore instrs
 
 -- what a state has to do with the instructions that led to it
 pub record Stands (limit begin : ℕ) (initial : Rules) (earlier : List Instr) (s : State) : Type 0 where
@@ -46,10 +40,10 @@ abbrev pub AllInLimit : ℕ → List Instr → Type 0
 AllInLimit limit [] = Unit {0}
 AllInLimit limit (i ∷ instrs) = InLimit limit i × AllInLimit limit instrs
 
-more_remembered : (i : Instr) (earlier : List Instr) → remembered (i ∷ earlier) ≡ cond (is_remember i) 1 0 + remembered earlier
+pub more_remembered : (i : Instr) (earlier : List Instr) → remembered (i ∷ earlier) ≡ cond (is_remember i) 1 0 + remembered earlier
 more_remembered i earlier = sum_by-cons (λ (x : Instr). cond (is_remember x) 1 0) i earlier
 
-more_restored : (i : Instr) (earlier : List Instr) → restored (i ∷ earlier) ≡ cond (is_restore i) 1 0 + restored earlier
+pub more_restored : (i : Instr) (earlier : List Instr) → restored (i ∷ earlier) ≡ cond (is_restore i) 1 0 + restored earlier
 more_restored i earlier = sum_by-cons (λ (x : Instr). cond (is_restore x) 1 0) i earlier
 
 -- ---- one instruction
