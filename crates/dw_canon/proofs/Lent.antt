@@ -2,6 +2,7 @@
 pub mod Fields
 pub mod Readback
 pub mod Extra
+pub mod Layout
 pub mod Differences
 pub mod Programs
 pub mod InstrFits
