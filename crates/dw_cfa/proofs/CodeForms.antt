@@ -1,5 +1,5 @@
 -- What the table says of a code is what the code knows of its opcode.
-use Rattle.std.proofs.Common.{◌≡◌, ℕ, List, [], ◌∷◌, map, true, false, Option, None, Some, refl, sym, ◌∙◌, inl, inr}
+use Rattle.std.proofs.Common.{◌≡◌, ℕ, List, [], ◌∷◌, map, Option, None, Some, refl, sym, ◌∙◌, inl, inr}
 use Rattle.std.specs.Prelude.{option_map, nat_eq}
 use Rattle.std.proofs.lemmas.Bool.{cases_Bool}
 use Rattle.dw_op.specs.Operands.{look_up, in_range}
@@ -10,7 +10,6 @@ use Rattle.dw_cfa.specs.Inner.Operands.{opcode_table, opcode_of, form_of}
 use Rattle.dw_cfa.specs.Operands.{Form, form_for}
 
 module _ (f : Factors) (code : ℕ) where
-
   looked : (table : List (ℕ × Opcode)) → look_up (map (λ (entry : ℕ × Opcode). (entry.0, form_of f entry.1)) table) code ≡ option_map (form_of f) (look_up table code)
   looked [] = refl
   looked (entry ∷ table) = elim (cases_Bool (nat_eq code entry.0)) [

@@ -1,6 +1,6 @@
 -- Programs that keep their rules are run to their end, and others are not.
 use Rattle.std.proofs.Common.{◌≡◌, ℕ, zero, suc, ◌+◌, ◌<◌, ◌≤◌, Bool, true, false, cond, List, [], ◌∷◌, length, Some, None, refl, sym, subst, inl, inr, arith}
-use Rattle.std.specs.Prelude.{IsTrue, count_by, slice_get, nat_lt}
+use Rattle.std.specs.Prelude.{IsTrue, slice_get, nat_lt}
 use Rattle.std.proofs.lemmas.List.Sums.{sum_by-cons}
 use Rattle.std.proofs.lemmas.Bool.{cases_Bool, lt-ltb, le-ltb, ltb-true, ltb-false}
 use Rattle.dw_num.specs.declared.refusal.Code.TheVariants.{LocationTooLarge, StateStackFull, CfaNotRegister}
