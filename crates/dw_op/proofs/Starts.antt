@@ -212,9 +212,8 @@ record First (at : ℕ) (o : Option Op) (r : Result (List Op) Refusal) (ops : Li
   is : ops ≡ op ∷ more
 
 first : (at : ℕ) (o : Option Op) (r : Result (List Op) Refusal) (ops : List Op) → put_first o at r ≡ answered ops → First at o r ops
-first at None r ops e = absurd cc
 first at (Some op) (Ok more) ops e = record { op = op; more = more; first = refl; rest = refl; is = sym (same_ops (op ∷ more) ops e) }
-first at (Some op) (Err r) ops e = absurd cc
+first at o r ops e = absurd cc
 
 resolved_lengths : (t : Target) (find : ℕ → Option ℕ) (items : List Item) (ops : List Op) → resolve find items ≡ answered ops → item_lengths t items ≡ least_lengths t ops
 resolved_lengths t find [] ops e = ap (λ (l : List Op). least_lengths t l) (same_ops [] ops e)
