@@ -8,6 +8,7 @@ use Rattle.dw_op.specs.declared.operation.Step.{Step}
 use Rattle.dw_op.specs.Block.{joined, start}
 use Rattle.dw_op.specs.Inner.Walk.{plus, index_at}
 use Rattle.dw_op.proofs.Splits.{EachSpells, items_from}
+use Rattle.dw_op.proofs.Lent.ReadingLaws.{some_is}
 
 -- the number of the part that begins at a start
 pub index_start : (profile : Profile) (t : Target) (steps : List Step) (parts : List (List ℕ)) (at end place k : ℕ) → EachSpells profile t steps parts → k ≤ length parts
@@ -19,9 +20,6 @@ index_start profile t (step ∷ steps) (part ∷ parts) at end place (suc k) h l
     let more = index_start profile t steps parts (at + length part) end place k h.1 (omega arith) (omega (arith, length-append part (joined parts))) (omega arith) in
     rw (ne_eqb place at ne, more) (ap (λ (n : ℕ). Some n) (omega arith))
 index_start profile t steps parts at end place k h le end_is is = absurd (first_of (assumption, omega arith))
-
-some_is : (a b : ℕ) → Some a ≡ Some b → a ≡ b
-some_is a b e = cc
 
 -- a number that is found is that of a part, which begins there
 abbrev Begins : ℕ → List (List ℕ) → ℕ → ℕ → Type 0

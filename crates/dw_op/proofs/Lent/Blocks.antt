@@ -1,5 +1,5 @@
 -- What is decoded is the block's operations, or its first fault.
-use Rattle.std.proofs.Common.{◌≡◌, ℕ, suc, ◌+◌, ◌<◌, true, List, [], ◌∷◌, ◌++◌, length, Option, Some, None, Result, Ok, Err, refl, sym, ap, subst, ◌∙◌, arith, inl, inr, ◌⊎◌}
+use Rattle.std.proofs.Common.{◌≡◌, ℕ, suc, ◌+◌, ◌<◌, List, [], ◌∷◌, ◌++◌, length, Option, Some, None, Result, Ok, Err, refl, sym, ap, subst, ◌∙◌, arith, inl, inr, ◌⊎◌}
 use Rattle.std.specs.Prelude.{IsTrue, slice_get}
 use Rattle.std.proofs.lemmas.Option.{slice_get_within}
 use Rattle.std.specs.List.{AllByRecursion}
