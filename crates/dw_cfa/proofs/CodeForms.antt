@@ -1,5 +1,5 @@
 -- What the table says of a code is what the code knows of its opcode.
-use Rattle.std.proofs.Common.{◌≡◌, ℕ, List, [], ◌∷◌, map, Option, None, Some, refl, sym, ◌∙◌, inl, inr}
+use Rattle.std.proofs.Common.{◌≡◌, ℕ, List, [], ◌∷◌, map, Option, None, Some, refl, sym, ap, ◌∙◌, inl, inr}
 use Rattle.std.specs.Prelude.{option_map, nat_eq}
 use Rattle.std.proofs.lemmas.Bool.{cases_Bool}
 use Rattle.dw_op.specs.Operands.{look_up, in_range}
@@ -29,6 +29,9 @@ module _ (f : Factors) (code : ℕ) where
       ])
     ])
   ]
+
+  pub form_is : (opcode : Opcode) → opcode_of code ≡ Some opcode → form_for f code ≡ Some (form_of f opcode)
+  form_is opcode e = form_known ∙ ap (option_map (form_of f)) e
 
   -- an opcode whose operands these are
   pub record Known (form : Form) : Type 0 where

@@ -3,7 +3,7 @@ use Rattle.std.proofs.Common.{◌≡◌, ℕ, List, [], ◌∷◌, length, Optio
 use Rattle.dw_num.specs.declared.refusal.Code.{Code}
 use Rattle.dw_num.specs.declared.refusal.Refusal.{Refusal}
 use Rattle.dw_cfa.specs.declared.instr.Instr.{Instr}
-use Rattle.dw_cfa.specs.declared.instr.Instr.TheVariants.{Nop, SetLoc, Advance, DefCfa, DefCfaRegister, DefCfaOffset, DefCfaExpression, Set, Restore, RememberState, RestoreState}
+use Rattle.dw_cfa.specs.declared.instr.Instr.TheVariants.{SetLoc, Advance, Restore, RememberState, RestoreState}
 use Rattle.dw_cfa.specs.Location.{onto}
 use Rattle.dw_cfa.specs.Rows.{Rules, blank}
 use Rattle.dw_cfa.specs.Inner.Machine.{begun, written, after, cie_fault, fde_fault}
@@ -13,17 +13,12 @@ use Rattle.dw_cfa.proofs.Lent.RowsAt.{instrs_of}
 
 -- an instruction that a CIE may hold has the same effect in an FDE
 pub cie_step : (i : Instr) (row : Rules) → cie_fault i row ≡ None → (fde_fault 0 i (begun row 0) ≡ None) × (after blank i (begun row 0) ≡ begun (written i row) 0)
-cie_step Nop row e = (e, refl)
 cie_step (SetLoc a) row e = absurd cc
 cie_step (Advance d) row e = absurd cc
-cie_step (DefCfa r n) row e = (e, refl)
-cie_step (DefCfaRegister r) row e = (e, refl)
-cie_step (DefCfaOffset n) row e = (e, refl)
-cie_step (DefCfaExpression x) row e = (e, refl)
-cie_step (Set r rule) row e = (e, refl)
 cie_step (Restore r) row e = absurd cc
 cie_step RememberState row e = absurd cc
 cie_step RestoreState row e = absurd cc
+cie_step i row e = (e, refl)
 
 pub refused_none : {A : Type 0} (at : ℕ) (fault : Option Code) (next : Result A Refusal) (x : A) → refused_at at fault next ≡ Ok x → (fault ≡ None) × (next ≡ Ok x)
 refused_none at None next x e = (refl, e)

@@ -11,7 +11,7 @@ use Rattle.dw_num.specs.declared.error.ReadError.TheVariants.{Refused, OutOfMemo
 use Rattle.dw_num.specs.Refusals.{Refuses}
 use Rattle.dw_cfa.specs.declared.instr.Factors.{Factors}
 use Rattle.dw_cfa.specs.declared.instr.Instr.{Instr}
-use Rattle.dw_cfa.specs.declared.instr.Instr.TheVariants.{Nop, SetLoc, Advance, DefCfa, DefCfaRegister, DefCfaOffset, DefCfaExpression, Set, Restore, RememberState, RestoreState}
+use Rattle.dw_cfa.specs.declared.instr.Instr.TheVariants.{SetLoc, Advance}
 use Rattle.dw_cfa.specs.declared.machine.Machine.{Machine}
 use Rattle.dw_cfa.specs.Location.{moves_location}
 use Rattle.dw_cfa.specs.Inner.FrontInstr.{instr_at}
@@ -47,15 +47,7 @@ module _ (f : Factors) (i : Input) (m : Machine) (x : Instr × Input) (h : AreBy
   same_row : (i : Instr) (s t : Machine) → state_of t ≡ after s.initial i (state_of s) → IsTrue (moves_location i) → t.states.row ≡ s.states.row
   same_row (SetLoc a) s t is moves = ap (λ (u : State). u.row) is
   same_row (Advance d) s t is moves = ap (λ (u : State). u.row) is
-  same_row Nop s t is moves = absurd cc
-  same_row (DefCfa r n) s t is moves = absurd cc
-  same_row (DefCfaRegister r) s t is moves = absurd cc
-  same_row (DefCfaOffset n) s t is moves = absurd cc
-  same_row (DefCfaExpression n) s t is moves = absurd cc
-  same_row (Set r rule) s t is moves = absurd cc
-  same_row (Restore r) s t is moves = absurd cc
-  same_row RememberState s t is moves = absurd cc
-  same_row RestoreState s t is moves = absurd cc
+  same_row i s t is moves = absurd cc
 
   pub rows_ran : (m' : Machine) → RunsSo m i → IsAfter m x.0 m' → RanTo f i m (moves_location x.0) x.1 m'
   unfolding rows_left

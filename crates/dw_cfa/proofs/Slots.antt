@@ -139,12 +139,7 @@ slots_end k near expressions far le = ap (λ (l : List Slot). listed_near k l ex
 
 held_rule : (k : Kind) (r : ℕ) (n : ℤ) (rule : RegRule) → (k ≡ kinds.Expression → ⊥) → HoldsRule k r n rule → (block : RegRule) → kind_rule k r n block ≡ rule
 held_rule kinds.Expression r n rule not is block = absurd (not refl)
-held_rule kinds.Empty r n rule not is block = is block
-held_rule kinds.Undefined r n rule not is block = is block
-held_rule kinds.SameValue r n rule not is block = is block
-held_rule kinds.Offset r n rule not is block = is block
-held_rule kinds.ValOffset r n rule not is block = is block
-held_rule kinds.Register r n rule not is block = is block
+held_rule k r n rule not is block = is block
 
 module _ (near : List Slot) (expressions far : List Entry) (r p : ℕ) (s : Slot) (rule : RegRule) (len : length near ≡ 32) (up : AreSpecified 32 far) (lt : r < 32) (at : p ≡ r) where
   pub set_plain : (s.kind ≡ kinds.Expression → ⊥) → IsSlotOf rule s → listed_near 0 (set near p s) expressions far ≡ put r rule (listed_near 0 near expressions far)

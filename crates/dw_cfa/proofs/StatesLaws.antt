@@ -13,9 +13,8 @@ use Rattle.dw_cfa.specs.Inner.States.{Held, remembered_rows, first_registers, co
 -- a change of the CFA's rule is no change of what is remembered
 pub cfa_left : (cfa : CfaRule) (row : Rules) (changes : List Undo) → remembered_rows (with_cfa cfa row) changes ≡ remembered_rows row changes
 unfolding remembered_rows
-cfa_left cfa row [] = refl
-cfa_left cfa row (Remembered c ∷ changes) = refl
 cfa_left cfa row (Register r rule ∷ changes) = cfa_left cfa (with_rule r rule row) changes
+cfa_left cfa row changes = refl
 
 pub first_left : (cfa : CfaRule) (row : Rules) (changes : List Undo) → first_registers (with_cfa cfa row) changes ≡ first_registers row changes
 unfolding first_registers

@@ -1,17 +1,15 @@
 -- What can't be read as an instruction has the fault that the table of operands gives it.
-use Rattle.std.proofs.Common.{◌≡◌, ℕ, ◌+◌, ◌^◌, List, ◌∷◌, ◌++◌, length, Option, Some, None, Result, Ok, Err, refl, sym, ap, subst, ◌∙◌, arith, inl, inr}
+use Rattle.std.proofs.Common.{◌≡◌, ℕ, ◌+◌, ◌^◌, List, ◌∷◌, length, Option, Some, None, Result, Ok, Err, refl, sym, ap, subst, ◌∙◌, arith, inl, inr}
 use Rattle.std.specs.Prelude.{option_map, unsigned_abs}
 use Rattle.std.proofs.lemmas.Bool.{cases_lt, lt-ltb, le-ltb}
 use Rattle.dw_num.specs.declared.refusal.Code.TheVariants.{UnknownInstruction, OffsetTooLarge}
 use Rattle.dw_num.specs.declared.refusal.Refusal.{Refusal}
 use Rattle.dw_num.specs.declared.target.Target.{Target}
-use Rattle.dw_num.specs.Fixed.{IsWidth}
 use Rattle.dw_num.specs.Input.{Input, AreBytes, Takes}
 use Rattle.dw_num.specs.Front.{Read, fault, take_at, uleb_at, ◌>>=◌}
-use Rattle.dw_num.proofs.Lent.Steps.{Again, again-then, bind_ok, take_again, take_found, byte_again, address_again, Takes-then}
-use Rattle.dw_num.proofs.Lent.LebLaws.{done, ok_is, uleb_found, uleb_again, register_again}
-use Rattle.dw_num.proofs.Lent.SlebLaws.{sleb_found, sleb_again}
-use Rattle.dw_num.proofs.Lent.FixedLaws.{taken_bytes, fixed_at_again}
+use Rattle.dw_num.proofs.Lent.Steps.{Again, take_again, take_found, byte_again}
+use Rattle.dw_num.proofs.Lent.LebLaws.{done, uleb_found, uleb_again}
+use Rattle.dw_num.proofs.Lent.FixedLaws.{taken_bytes}
 use Rattle.dw_op.specs.declared.op.Op.{Op}
 use Rattle.dw_op.specs.declared.profile.Profile.TheVariants.{Frame}
 use Rattle.dw_op.specs.Faults.{BlockFault}
@@ -22,14 +20,13 @@ use Rattle.dw_cfa.specs.declared.instr.Instr.{Instr}
 use Rattle.dw_cfa.specs.declared.opcode.Opcode.{Opcode}
 use Rattle.dw_cfa.specs.declared.opcode.Opcode.TheVariants as opcodes
 use Rattle.dw_cfa.specs.Inner.Operands.{opcode_of, form_of}
-use Rattle.dw_cfa.specs.Operands.{Operand, address, fixed, register, unsigned, signed, expression, Value, Form, none, one, two, form_for, offset_of}
-use Rattle.dw_cfa.specs.InstrSpells.{Spells, FormSpells}
+use Rattle.dw_cfa.specs.Operands.{Operand, address, expression, Value, Form, none, one, two, form_for, offset_of}
 use Rattle.dw_cfa.specs.InstrFaults.{ContentsFault, OperandFault, FormFault, CodeFault}
 use Rattle.dw_cfa.specs.Inner.FrontInstr.{leaving, expression_of, expression_in, block_in, after_length, block_at, operand_at, with_instr, then_operand, form_at, judged, instr_at, known_at}
 use Rattle.dw_cfa.proofs.CodeForms.{form_known}
 use Rattle.dw_cfa.proofs.Expressions.{expression_refused}
-use Rattle.dw_cfa.proofs.Lent.InstrLaws.{Finds, finds_made, finds_alone, block_finds, register_finds, address_finds, fixed_finds, front_bytes}
-use Rattle.dw_cfa.proofs.InstrAgain.{block_again, made_again}
+use Rattle.dw_cfa.proofs.Lent.InstrLaws.{FormWide, operand_finds, form_wide, form_finds, front_bytes}
+use Rattle.dw_cfa.proofs.InstrAgain.{operand_again, form_again}
 
 abbrev input : ℕ → List ℕ → Target → Input
 input at bytes t = record { at = at; bytes = bytes; target = t }
@@ -43,26 +40,6 @@ read_taken read x front i new t again =
     ap (λ (l : List ℕ). read (input i.at l i.target)) t.bytes ∙ again i.at new.bytes ∙ ap (λ (j : Input). done (x, j)) (taken_is i new front t)
 
 -- ---- operands
-
-abbrev Wide : Operand → Type 0
-Wide (fixed n) = IsWidth n
-Wide other = Unit {0}
-
-operand_finds : (o : Operand) → Wide o → Finds (operand_at o) (λ t x b. Spells t o x b)
-operand_finds address w i new x h e = address_finds i new x h e
-operand_finds (fixed n) w i new x h e = fixed_finds n w i new x h e
-operand_finds register w i new x h e = register_finds i new x h e
-operand_finds unsigned w i new x h e = uleb_found i new x h e
-operand_finds signed w i new x h e = sleb_found i new x h e
-operand_finds expression w i new x h e = block_finds i new x h e
-
-operand_again : (t : Target) (f : Factors) (o : Operand) (x : Value o) (b : List ℕ) → Spells t o x b → Again t (operand_at o) x b
-operand_again t f address x b s at rest = address_again t x b s at rest
-operand_again t f (fixed n) x b s at rest = fixed_at_again n at t x b rest s
-operand_again t f register x b s at rest = register_again at t x b rest s
-operand_again t f unsigned x b s at rest = uleb_again at t x b rest s
-operand_again t f signed x b s at rest = sleb_again at t x b rest s
-operand_again t f expression x b s at rest = block_again t f x b s at rest
 
 abbrev refused : {A : Type 0} → Refusal → Result A Refusal
 refused r = Err r
@@ -101,62 +78,22 @@ fault_contents n i r (inr (block, rest, q, whole, len, bad, is)) =
 operand_fault : (o : Operand) (i : Input) (r : Refusal) → AreBytes i.bytes → operand_at o i ≡ Err r → OperandFault o i r
 unfolding block_at
 operand_fault address i r h e = e
-operand_fault (fixed n) i r h e = e
-operand_fault register i r h e = e
-operand_fault unsigned i r h e = e
-operand_fault signed i r h e = e
 operand_fault expression i r h e = of (uleb_at i) refl e
   where
     of : (read : Read ℕ) → uleb_at i ≡ read → read >>= after_length ≡ Err r → OperandFault expression i r
     of (Err q) is bad = inl (is ∙ errs q r bad)
     of (Ok n) is bad = let u = uleb_found i n.1 n.0 h is in inr (n.0, u.0, n.1, u.1, u.2, contents_fault n.0 n.1 r (taken_bytes i n.1 u.0 u.2 h) bad)
+operand_fault o i r h e = e
 
 fault_operand : (o : Operand) (i : Input) (r : Refusal) → OperandFault o i r → operand_at o i ≡ Err r
 unfolding block_at
-fault_operand address i r e = e
-fault_operand (fixed n) i r e = e
-fault_operand register i r e = e
-fault_operand unsigned i r e = e
-fault_operand signed i r e = e
 fault_operand expression i r (inl e) = rw e refl
 fault_operand expression i r (inr (n, front, new, spelled, takes, bad)) =
     let one = read_taken uleb_at n front i new takes (λ at rest. uleb_again at i.target n front rest spelled) in
     rw one (fault_contents n new r bad)
+fault_operand o i r e = e
 
 -- ---- the operands of a form
-
-abbrev FormWide : Form → Type 0
-FormWide (none made) = Unit {0}
-FormWide (one o make) = Wide o
-FormWide (two o p make) = Wide o × Wide p
-
-form_wide : (f : Factors) (opcode : Opcode) → FormWide (form_of f opcode)
-form_wide f opcodes.Nop = tt
-form_wide f opcodes.SetLoc = tt
-form_wide f (opcodes.AdvanceLoc delta) = tt
-form_wide f opcodes.AdvanceLoc1 = inl refl
-form_wide f opcodes.AdvanceLoc2 = inr (inl refl)
-form_wide f opcodes.AdvanceLoc4 = inr (inr (inl refl))
-form_wide f (opcodes.Offset r) = tt
-form_wide f opcodes.OffsetExtended = (tt, tt)
-form_wide f opcodes.OffsetExtendedSf = (tt, tt)
-form_wide f (opcodes.Restore r) = tt
-form_wide f opcodes.RestoreExtended = tt
-form_wide f opcodes.Undefined = tt
-form_wide f opcodes.SameValue = tt
-form_wide f opcodes.Register = (tt, tt)
-form_wide f opcodes.RememberState = tt
-form_wide f opcodes.RestoreState = tt
-form_wide f opcodes.DefCfa = (tt, tt)
-form_wide f opcodes.DefCfaSf = (tt, tt)
-form_wide f opcodes.DefCfaRegister = tt
-form_wide f opcodes.DefCfaOffset = tt
-form_wide f opcodes.DefCfaOffsetSf = tt
-form_wide f opcodes.DefCfaExpression = tt
-form_wide f opcodes.Expression = (tt, tt)
-form_wide f opcodes.ValOffset = (tt, tt)
-form_wide f opcodes.ValOffsetSf = (tt, tt)
-form_wide f opcodes.ValExpression = (tt, tt)
 
 made_stuck : {X : Type 0} (read : Read X) (make : X → Instr) (r : Refusal) → read >>= with_instr make ≡ Err r → read ≡ Err r
 made_stuck (Ok x) make r e = absurd cc
@@ -180,26 +117,6 @@ fault_form f (two o p make) i r (inl h) = rw (fault_operand o i r h) refl
 fault_form f (two o p make) i r (inr (x, front, new, spelled, takes, bad)) =
     let one = read_taken (operand_at o) x front i new takes (operand_again i.target f o x front spelled) in
     rw (one, fault_operand p new r bad) refl
-
-form_finds : (form : Form) → FormWide form → Finds (form_at form) (λ t instr b. FormSpells t form instr b)
-form_finds (none made) w i new instr h e = finds_alone made (λ t x b. FormSpells t (none made) x b) (λ t. (refl, refl)) i new instr h e
-form_finds (one o make) w i new instr h e =
-    finds_made (operand_at o) make (λ t x b. Spells t o x b) (λ t z b. FormSpells t (one o make) z b) (operand_finds o w) (λ t x b s. (x, refl, s)) i new instr h e
-form_finds (two o p make) w i new instr h e =
-    let first = bind_ok (operand_at o i) (then_operand p make) (instr, new) e in
-    let q = operand_finds o w.0 i first.0.1 first.0.0 h first.1 in
-    let second = bind_ok (operand_at p first.0.1) (with_instr (make first.0.0)) (instr, new) first.2 in
-    let u = operand_finds p w.1 first.0.1 second.0.1 second.0.0 (taken_bytes i first.0.1 q.0 q.2 h) second.1 in
-    let spelled = subst (λ (t : Target). Spells t p second.0.0 u.0) q.2.target u.1 in
-    subst (λ (z : Instr × Input). (b : List ℕ) × FormSpells i.target (two o p make) z.0 b × Takes i b z.1) (ok_is (make first.0.0 second.0.0, second.0.1) (instr, new) second.2)
-    (q.0 ++ u.0, (first.0.0, second.0.0, refl, record { front = q.0; back = u.0; first = q.1; second = spelled; whole = refl }), Takes-then i first.0.1 second.0.1 q.0 u.0 q.2 u.2)
-
-form_again : (t : Target) (f : Factors) (form : Form) (instr : Instr) (b : List ℕ) → FormSpells t form instr b → Again t (form_at form) instr b
-form_again t f (none made) instr b h at rest = let place : at + 0 ≡ at = omega arith in rw (h.0, h.1, place) refl
-form_again t f (one o make) instr b (x, is, s) at rest = rw is (made_again t f (operand_at o) make x b (operand_again t f o x b s) at rest)
-form_again t f (two o p make) instr b (x, y, is, s) at rest =
-    rw (is, s.whole) (again-then t (operand_at o) (then_operand p make) x (make x y) s.front s.back (operand_again t f o x s.front s.first)
-    (made_again t f (operand_at p) (make x) y s.back (operand_again t f p y s.back s.second)) at rest)
 
 -- ---- an instruction
 

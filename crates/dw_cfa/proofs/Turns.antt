@@ -3,7 +3,7 @@ use Rattle.std.proofs.Common.{◌≡◌, ℕ, ◌<◌, Bool, length, Option, Som
 use Rattle.dw_num.specs.declared.refusal.Code.TheVariants.{UnknownInstruction}
 use Rattle.dw_num.specs.declared.refusal.Refusal.{Refusal}
 use Rattle.dw_num.specs.declared.error.ReadError.{ReadError}
-use Rattle.dw_num.specs.declared.error.ReadError.TheVariants.{Refused, OutOfMemory}
+use Rattle.dw_num.specs.declared.error.ReadError.TheVariants.{Refused}
 use Rattle.dw_num.specs.Input.{Input, AreBytes}
 use Rattle.dw_num.specs.Front.{Read, fixed_at}
 use Rattle.dw_cfa.specs.declared.instr.Factors.{Factors}
@@ -31,11 +31,10 @@ module _ (f : Factors) (i : Input) (m : Machine) (h : AreBytes i.bytes) (some : 
       subst (λ (b : Bool). RanTo f i m b j m') did.1 (subst (λ (k : Input). RanTo f i m (moves_location x.0) k m') did.0 (rows_ran f i m x h some e m' so did.2))
   by_read (Ok x) e ends.Refused fault j m' did =
       rows_fault f i m x h some e fault.code did.1 ∙ ap (λ (n : ℕ). fails (record { code = fault.code; at = n })) (sym did.0)
-  by_read (Ok x) e ends.OutOfMemory fault j m' did = tt
   by_read (Err r) e ends.On fault j m' did = absurd did
   by_read (Err r) e ends.Moved fault j m' did = absurd did
   by_read (Err r) e ends.Refused fault j m' did = rows_stuck f i m r some e ∙ ap fails did
-  by_read (Err r) e ends.OutOfMemory fault j m' did = tt
+  by_read r e end fault j m' did = tt
 
   -- not even an opcode
   pub unread : (r : Refusal) → fixed_at 1 i ≡ Err r → rows_left f i m ≡ fails r
@@ -75,10 +74,9 @@ module _ (f : Factors) (i : Input) (s : Held) (h : AreBytes i.bytes) (some : 0 <
   )
   entered_read (Ok x) e (Err (Refused r)) j s' did =
       initial_fault f i s.row x h some e r.code did.1 ∙ ap (λ (n : ℕ). Err (record { code = r.code; at = n })) (sym did.0)
-  entered_read (Ok x) e (Err OutOfMemory) j s' did = tt
   entered_read (Err r) e (Ok u) j s' did = absurd did
   entered_read (Err r) e (Err (Refused q)) j s' did = initial_stuck f i s.row r some e ∙ ap Err did
-  entered_read (Err r) e (Err OutOfMemory) j s' did = tt
+  entered_read r e result j s' did = tt
 
   -- not even an opcode
   pub unread_in_cie : (r : Refusal) → fixed_at 1 i ≡ Err r → initial_row (placed f i) s.row ≡ Err r

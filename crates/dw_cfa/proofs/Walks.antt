@@ -99,25 +99,20 @@ with_kept m kept = record { initial = m.initial; states = record { row = m.state
 pub kept_walk : (p : Progress) (l : Leading) (fde : Input) (m : Machine) (kept : Rules) → walk_of p l fde (with_kept m kept) ≡ walk_of p l fde m
 unfolding rows_left
 kept_walk progress.Begun l fde m kept = refl
-kept_walk progress.Running l fde m kept = refl
-kept_walk progress.Finished l fde m kept = refl
-kept_walk (progress.Failed e) l fde m kept = refl
+kept_walk p l fde m kept = refl
 
 kept_so : (fde : Input) (m : Machine) (kept : Rules) → RunsSo m fde → RunsSo (with_kept m kept) fde
 kept_so fde m kept h = record { limit = h.limit; within = h.within; first = h.first }
 
 kept_stands : (p : Progress) (fde : Input) (m : Machine) (kept : Rules) → WalkStands p fde m → WalkStands p fde (with_kept m kept)
-kept_stands progress.Begun fde m kept h = kept_so fde m kept h
-kept_stands progress.Running fde m kept h = kept_so fde m kept h
 kept_stands progress.Finished fde m kept h = h
 kept_stands (progress.Failed e) fde m kept h = h
+kept_stands p fde m kept h = kept_so fde m kept h
 
 kept_keeps : (p : Progress) (l : Leading) (fde : Input) (m : Machine) (kept : Rules) → WalkKeeps p l fde m → WalkKeeps p l fde (with_kept m kept)
 unfolding rows_left
-kept_keeps progress.Begun l fde m kept h = tt
 kept_keeps progress.Running l fde m kept h = h
-kept_keeps progress.Finished l fde m kept h = tt
-kept_keeps (progress.Failed e) l fde m kept h = tt
+kept_keeps p l fde m kept h = tt
 
 pub kept_walks : (p : Progress) (has : Bool) (l : Leading) (fde : Input) (m : Machine) (kept : Rules) → WalksSo p has l fde m → WalksSo p has l fde (with_kept m kept)
 kept_walks p has l fde m kept h = record {

@@ -11,9 +11,7 @@ use Rattle.dw_num.specs.Fixed.{Fixed, FixedSigned, fixed_bytes, fixed_number}
 use Rattle.dw_num.proofs.Lent.FixedLaws.{length-fixed, is_fixed}
 use Rattle.dw_op.specs.OpSpells.{AnyTwo}
 use Rattle.dw_op.specs.Inner.Walk.{goes_to}
-
-some_is : (a b : ℕ) → Some a ≡ Some b → a ≡ b
-some_is a b e = cc
+use Rattle.dw_op.proofs.Lent.ReadingLaws.{some_is}
 
 none_is : (b : ℕ) → None ≡ Some b → ⊥
 none_is b e = cc

@@ -150,11 +150,10 @@ part_within t parts k (Some i) part d = d.0
 
 parts_in_range : (t : Target) (all : List (List ℕ)) (k : ℕ) (ops : List Op) (parts : List (List ℕ)) → EachPart (Stands t all) k ops parts → AllByRecursion (InRange t (length all)) ops × (length ops ≡ length parts)
 parts_in_range t all k [] [] h = (tt, refl)
-parts_in_range t all k [] (part ∷ parts) h = absurd h
-parts_in_range t all k (op ∷ ops) [] h = absurd h
 parts_in_range t all k (op ∷ ops) (part ∷ parts) h =
     let more = parts_in_range t all (suc k) ops parts h.1 in
     ((record { bytes = part; spelled = h.0.spells; within_list = part_within t all k (branch_target op) part h.0.displaced }, more.0), omega (arith, more.1))
+parts_in_range t all k ops parts h = absurd h
 
 pub block_in_range : (t : Target) (ops : List Op) (bytes : List ℕ) → Block t ops bytes → AllInRange t ops
 block_in_range t ops bytes b =

@@ -1,5 +1,4 @@
 pub mod LeastConst
-pub mod Reached
 pub mod LeastOf
 pub mod LeastOnly
 pub mod Shorter

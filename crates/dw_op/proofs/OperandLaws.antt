@@ -186,9 +186,7 @@ some_address sizes.Eight = omega arith
 
 some_width : (count : ByteCount) → 0 < 256 ^ width_of count
 some_width One = omega arith
-some_width Two = omega arith
-some_width Four = omega arith
-some_width Eight = omega arith
+some_width count = omega arith
 
 zero_uleb : Uleb 0 (0 ∷ [])
 zero_uleb = record { shape = omega arith; value = refl; fits = omega arith }

@@ -8,22 +8,18 @@ use Rattle.dw_op.specs.declared.operation.Step.{Step}
 use Rattle.dw_op.specs.Block.{joined, start}
 use Rattle.dw_op.specs.Inner.Walk.{plus, index_at}
 use Rattle.dw_op.proofs.Splits.{EachSpells, items_from}
+use Rattle.dw_op.proofs.Lent.ReadingLaws.{some_is}
 
 -- the number of the part that begins at a start
 pub index_start : (profile : Profile) (t : Target) (steps : List Step) (parts : List (List ℕ)) (at end place k : ℕ) → EachSpells profile t steps parts → k ≤ length parts
     → end ≡ at + length (joined parts) → place ≡ at + start parts k → index_at (items_from at steps parts) end place ≡ Some k
 index_start profile t [] [] at end place zero h le end_is is = rw (eq-eqb place end (omega arith)) refl
-index_start profile t [] [] at end place (suc k) h le end_is is = absurd (omega arith)
-index_start profile t [] (part ∷ parts) at end place k h le end_is is = absurd h
-index_start profile t (step ∷ steps) [] at end place k h le end_is is = absurd h
 index_start profile t (step ∷ steps) (part ∷ parts) at end place zero h le end_is is = rw (eq-eqb place at (omega arith)) refl
 index_start profile t (step ∷ steps) (part ∷ parts) at end place (suc k) h le end_is is =
     let ne : place ≡ at → ⊥ = λ same. omega (arith, h.0.some) in
     let more = index_start profile t steps parts (at + length part) end place k h.1 (omega arith) (omega (arith, length-append part (joined parts))) (omega arith) in
     rw (ne_eqb place at ne, more) (ap (λ (n : ℕ). Some n) (omega arith))
-
-some_is : (a b : ℕ) → Some a ≡ Some b → a ≡ b
-some_is a b e = cc
+index_start profile t steps parts at end place k h le end_is is = absurd (first_of (assumption, omega arith))
 
 -- a number that is found is that of a part, which begins there
 abbrev Begins : ℕ → List (List ℕ) → ℕ → ℕ → Type 0
@@ -43,10 +39,9 @@ index_begins profile t [] [] at end place k h end_is e = elim (cases_eq place en
   | inl same ↦ let is : 0 ≡ k = some_is 0 k (rw (eq-eqb place end same) at e) in subst (λ (m : ℕ). Begins at [] place m) is (omega arith, omega arith)
   | inr ne ↦ let none : Option ℕ = None in let k2 : none ≡ Some k = rw (ne_eqb place end ne) at e in absurd cc
 ]
-index_begins profile t [] (part ∷ parts) at end place k h end_is e = absurd h
-index_begins profile t (step ∷ steps) [] at end place k h end_is e = absurd h
 index_begins profile t (step ∷ steps) (part ∷ parts) at end place k h end_is e = elim (cases_eq place at) [
   | inl same ↦ let is : 0 ≡ k = some_is 0 k (rw (eq-eqb place at same) at e) in subst (λ (m : ℕ). Begins at (part ∷ parts) place m) is (omega arith, omega arith)
   | inr ne ↦ behind_first at part parts place k (index_at (items_from (at + length part) steps parts) end place) (rw (ne_eqb place at ne) at e)
       (λ j f. index_begins profile t steps parts (at + length part) end place j h.1 (omega (arith, length-append part (joined parts))) f)
 ]
+index_begins profile t steps parts at end place k h end_is e = absurd h

@@ -15,7 +15,7 @@ use Rattle.dw_num.proofs.Lent.LebLaws.{uleb_again}
 use Rattle.dw_num.proofs.Lent.SlebLaws.{sleb_again}
 use Rattle.dw_num.proofs.Lent.FixedLaws.{fixed_at_again, fixed_again, length-fixed}
 use Rattle.dw_op.specs.declared.op.Op.{Op}
-use Rattle.dw_op.specs.declared.op.Op.TheVariants.{Addr, Deref, Const, Dup, Drop, Over, Pick, Swap, Rot, Abs, And, Div, Minus, Mod, Mul, Neg, Not, Or, Plus, PlusUconst, Shl, Shr, Shra, Xor, Bra, Eq, Ge, Gt, Le, Lt, Ne, Skip, Reg, Breg, Fbreg, Piece, DerefSize, Nop, PushObjectAddress, CallFrameCfa, BitPiece, Implicit, StackValue}
+use Rattle.dw_op.specs.declared.op.Op.TheVariants.{Addr, Const, Pick, PlusUconst, Bra, Skip, Reg, Breg, Fbreg, Piece, DerefSize, BitPiece, Implicit}
 use Rattle.dw_op.specs.declared.profile.Profile.{Profile}
 use Rattle.dw_op.specs.declared.profile.Profile.TheVariants.{Frame, Location}
 use Rattle.dw_op.specs.declared.operation.Branch.{Branch}
@@ -26,6 +26,7 @@ use Rattle.dw_op.specs.declared.operation.ByteCount.{ByteCount}
 use Rattle.dw_op.specs.declared.operation.ByteCount.TheVariants.{One, Two, Four, Eight}
 use Rattle.dw_op.specs.declared.operation.Opcode.{Opcode}
 use Rattle.dw_op.specs.declared.operation.Opcode.TheVariants as opcodes
+use Rattle.dw_op.specs.Codes.{alone_code}
 use Rattle.dw_op.specs.Expression.{bare}
 use Rattle.dw_op.specs.OpSpells.{Code, Both}
 use Rattle.dw_op.specs.Inner.ByOperation.{IsSpelled, Counted, ConstForm, Written, Const1u, Const1s, Const2u, Const2s, Const4u, Const4s, Const8u, Const8s, Constu, Consts, Lit}
@@ -177,36 +178,6 @@ module _ (t : Target) (profile : Profile) where
   -- what spells an operation that is no branch is read
   pub op_spelled_again : (op : Op) (b : List ℕ) → IsSpelled t op b → branch_target op ≡ None → step_allowed profile (Plain op) ≡ true → Again t (step_at profile) (Plain op) b
   unfolding operands_at opcode_of plain_op address_step pick_step plus_step breg_step long_reg_step fbreg_step piece_step unsigned_step signed_step uconst_step sconst_step jump_step long_breg_step deref_size_step bit_piece_step implicit_step
-  op_spelled_again Deref b h target allowed = alone_again 0x06 Deref b h refl refl allowed
-  op_spelled_again Dup b h target allowed = alone_again 0x12 Dup b h refl refl allowed
-  op_spelled_again Drop b h target allowed = alone_again 0x13 Drop b h refl refl allowed
-  op_spelled_again Over b h target allowed = alone_again 0x14 Over b h refl refl allowed
-  op_spelled_again Swap b h target allowed = alone_again 0x16 Swap b h refl refl allowed
-  op_spelled_again Rot b h target allowed = alone_again 0x17 Rot b h refl refl allowed
-  op_spelled_again Abs b h target allowed = alone_again 0x19 Abs b h refl refl allowed
-  op_spelled_again And b h target allowed = alone_again 0x1a And b h refl refl allowed
-  op_spelled_again Div b h target allowed = alone_again 0x1b Div b h refl refl allowed
-  op_spelled_again Minus b h target allowed = alone_again 0x1c Minus b h refl refl allowed
-  op_spelled_again Mod b h target allowed = alone_again 0x1d Mod b h refl refl allowed
-  op_spelled_again Mul b h target allowed = alone_again 0x1e Mul b h refl refl allowed
-  op_spelled_again Neg b h target allowed = alone_again 0x1f Neg b h refl refl allowed
-  op_spelled_again Not b h target allowed = alone_again 0x20 Not b h refl refl allowed
-  op_spelled_again Or b h target allowed = alone_again 0x21 Or b h refl refl allowed
-  op_spelled_again Plus b h target allowed = alone_again 0x22 Plus b h refl refl allowed
-  op_spelled_again Shl b h target allowed = alone_again 0x24 Shl b h refl refl allowed
-  op_spelled_again Shr b h target allowed = alone_again 0x25 Shr b h refl refl allowed
-  op_spelled_again Shra b h target allowed = alone_again 0x26 Shra b h refl refl allowed
-  op_spelled_again Xor b h target allowed = alone_again 0x27 Xor b h refl refl allowed
-  op_spelled_again Eq b h target allowed = alone_again 0x29 Eq b h refl refl allowed
-  op_spelled_again Ge b h target allowed = alone_again 0x2a Ge b h refl refl allowed
-  op_spelled_again Gt b h target allowed = alone_again 0x2b Gt b h refl refl allowed
-  op_spelled_again Le b h target allowed = alone_again 0x2c Le b h refl refl allowed
-  op_spelled_again Lt b h target allowed = alone_again 0x2d Lt b h refl refl allowed
-  op_spelled_again Ne b h target allowed = alone_again 0x2e Ne b h refl refl allowed
-  op_spelled_again Nop b h target allowed = alone_again 0x96 Nop b h refl refl allowed
-  op_spelled_again PushObjectAddress b h target allowed = alone_again 0x97 PushObjectAddress b h refl refl allowed
-  op_spelled_again CallFrameCfa b h target allowed = alone_again 0x9c CallFrameCfa b h refl refl allowed
-  op_spelled_again StackValue b h target allowed = alone_again 0x9f StackValue b h refl refl allowed
   op_spelled_again (Const v) b h target allowed = const_again h.form v h.number b h.written h.value allowed
   op_spelled_again (Bra i) b h target allowed = absurd (some_none i target)
   op_spelled_again (Skip i) b h target allowed = absurd (some_none i target)
@@ -235,6 +206,7 @@ module _ (t : Target) (profile : Profile) where
       let same : implicit block.now ≡ Implicit block = ap (λ (p : ℕ × ℕ). Implicit (record { ref_ptr = p; now = block.now })) (sym h.0) in
       subst (λ (op : Op). Again t (step_at profile) (Plain op) b) same
       (coded 0x9e opcodes.Implicit (Plain (implicit block.now)) b (Counted block.now) h.1 refl refl (subst (λ (op : Op). step_allowed profile (Plain op) ≡ true) (sym same) allowed) (λ c f. implicit_again block.now c f))
+  op_spelled_again other b h target allowed = alone_again (alone_code other) other b h refl refl allowed
 
   -- ---- branches
 

@@ -18,11 +18,13 @@ use Rattle.dw_op.specs.Inner.ByOperation.{IsSpelled}
 use Rattle.dw_op.specs.Block.{start, displacement, Displaced, Stands}
 use Rattle.dw_op.specs.Inner.Steps.{branch_code, step_allowed}
 use Rattle.dw_op.specs.Inner.Walk.{goes_to, find_at, branch_to, op_of}
+use Rattle.dw_op.specs.Profile.{in_frame}
 use Rattle.dw_op.specs.Faults.{op_allowed}
 use Rattle.dw_op.proofs.ReadingAgain.{step_again}
 use Rattle.dw_op.proofs.Lent.Spellings.{by_table, in_table}
 use Rattle.dw_op.proofs.Splits.{Spelled, spelled, input}
 use Rattle.dw_op.proofs.Branches.{goes_displaced, displaced_goes, displaced_fixed, fixed_displaced, fixed_any, any_fixed, length-two}
+use Rattle.dw_op.proofs.Lent.ReadingLaws.{some_is}
 
 -- ---- one part, one step
 
@@ -48,6 +50,11 @@ plain_allowed Location op e = e
 pub allowed_plain : (profile : Profile) (op : Op) → step_allowed profile (Plain op) ≡ true → op_allowed profile op ≡ true
 allowed_plain Frame op e = e
 allowed_plain Location op e = e
+
+-- what a frame's expression may hold is allowed
+pub framed : (profile : Profile) (op : Op) → in_frame op ≡ true → op_allowed profile op ≡ true
+framed Frame op e = e
+framed Location op e = refl
 
 pub any_code : (t : Target) (branch : Branch) (part : List ℕ) (h : Code (branch_code branch) AnyTwo part) → Spelled Location t (Jump branch (fixed_number t.order 2 h.rest)) part
 any_code t branch part h =
@@ -101,31 +108,20 @@ jump_displaced t all find k branch n op part h f placed b =
     let d = goes_displaced (start all (k + 1)) n (start all b.index) (omega (arith, h.operands.fits)) goes in
     (found.0, branch_code branch, record { rest = h.rest; operands = fixed_displaced t.order n (displacement all k b.index) h.rest h.operands d.0 d.1; whole = h.whole })
 
-op_is : (a b : Op) → Some a ≡ Some b → a ≡ b
-op_is a b e = cc
-
 -- a step that is resolved stands there as the operation
 pub step_stands : (profile : Profile) (t : Target) (all : List (List ℕ)) (find : ℕ → Option ℕ) (k : ℕ) (step : Step) (op : Op) (part : List ℕ) → Finds all find → Spelled profile t step part → Placed all k part
     → op_of find (start all k) step ≡ Some op → Stands t all k op part × (op_allowed profile op ≡ true)
 step_stands profile t all find k (Plain other) op part f h placed e =
-    subst (λ (x : Op). Stands t all k x part × (op_allowed profile x ≡ true)) (op_is other op e)
+    subst (λ (x : Op). Stands t all k x part × (op_allowed profile x ≡ true)) (some_is other op e)
     (record { spells = in_table t other part h.spells.0; displaced = subst (λ (o : Option ℕ). Displaced t.order all k o part) (sym h.spells.1) tt }, allowed_plain profile other h.allowed)
 step_stands profile t all find k (Jump Bra n) op part f h placed e =
     let b = branch_says find Bra (start all k + 3) n (goes_to (start all k + 3) n) (find_at find (goes_to (start all k + 3) n)) op refl refl e in
-    subst (λ (x : Op). Stands t all k x part × (op_allowed profile x ≡ true)) (op_is (ops.Bra b.index) op b.is)
-    (record { spells = in_table t (ops.Bra b.index) part (record { rest = h.spells.rest; operands = fixed_any t.order n h.spells.rest h.spells.operands; whole = h.spells.whole }); displaced = jump_displaced t all find k Bra n op part h.spells f placed b }, branches_allowed profile b.index)
-  where
-    branches_allowed : (p : Profile) (i : ℕ) → op_allowed p (ops.Bra i) ≡ true
-    branches_allowed Frame i = refl
-    branches_allowed Location i = refl
+    subst (λ (x : Op). Stands t all k x part × (op_allowed profile x ≡ true)) (some_is (ops.Bra b.index) op b.is)
+    (record { spells = in_table t (ops.Bra b.index) part (record { rest = h.spells.rest; operands = fixed_any t.order n h.spells.rest h.spells.operands; whole = h.spells.whole }); displaced = jump_displaced t all find k Bra n op part h.spells f placed b }, framed profile (ops.Bra b.index) refl)
 step_stands profile t all find k (Jump Skip n) op part f h placed e =
     let b = branch_says find Skip (start all k + 3) n (goes_to (start all k + 3) n) (find_at find (goes_to (start all k + 3) n)) op refl refl e in
-    subst (λ (x : Op). Stands t all k x part × (op_allowed profile x ≡ true)) (op_is (ops.Skip b.index) op b.is)
-    (record { spells = in_table t (ops.Skip b.index) part (record { rest = h.spells.rest; operands = fixed_any t.order n h.spells.rest h.spells.operands; whole = h.spells.whole }); displaced = jump_displaced t all find k Skip n op part h.spells f placed b }, branches_allowed profile b.index)
-  where
-    branches_allowed : (p : Profile) (i : ℕ) → op_allowed p (ops.Skip i) ≡ true
-    branches_allowed Frame i = refl
-    branches_allowed Location i = refl
+    subst (λ (x : Op). Stands t all k x part × (op_allowed profile x ≡ true)) (some_is (ops.Skip b.index) op b.is)
+    (record { spells = in_table t (ops.Skip b.index) part (record { rest = h.spells.rest; operands = fixed_any t.order n h.spells.rest h.spells.operands; whole = h.spells.whole }); displaced = jump_displaced t all find k Skip n op part h.spells f placed b }, framed profile (ops.Skip b.index) refl)
 
 tail_is : (a b : ℕ) (x y : List ℕ) → a ∷ x ≡ b ∷ y → x ≡ y
 tail_is a b x y e = cc

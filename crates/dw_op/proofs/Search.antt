@@ -21,13 +21,12 @@ rises_lower low lower (p ∷ ps) le h = (omega (arith, h.0), h.1)
 
 parts_rise : (profile : Profile) (t : Target) (steps : List Step) (parts : List (List ℕ)) (at end : ℕ) → EachSpells profile t steps parts → at + length (joined parts) ≤ end → Rises at (starts_of (items_from at steps parts) end)
 parts_rise profile t [] [] at end h le = (omega arith, tt)
-parts_rise profile t [] (part ∷ parts) at end h le = absurd h
-parts_rise profile t (step ∷ steps) [] at end h le = absurd h
 parts_rise profile t (step ∷ steps) (part ∷ parts) at end h le = (
   omega arith,
   rises_lower (at + length part) (suc at) (starts_of (items_from (at + length part) steps parts) end) (omega (arith, h.0.some))
       (parts_rise profile t steps parts (at + length part) end h.1 (omega (arith, length-append part (joined parts)))),
 )
+parts_rise profile t steps parts at end h le = absurd h
 
 pub starts_rise : (profile : Profile) (i : Input) → AreBytes i.bytes → Rises i.at (starts_of (walk profile i).items (end_of i))
 starts_rise profile i h =
@@ -47,10 +46,9 @@ at_least low (p ∷ ps) zero h lt = omega (arith, h.0)
 at_least low (p ∷ ps) (suc i) h lt = let more = at_least (suc p) ps i h.1 (omega arith) in omega (arith, h.0)
 
 rises : (low : ℕ) (ps : List ℕ) (i j : ℕ) → Rises low ps → i < j → j < length ps → get_or ps i 0 < get_or ps j 0
-rises low [] i j h ij lt = absurd (omega arith)
-rises low (p ∷ ps) i zero h ij lt = absurd (omega arith)
 rises low (p ∷ ps) zero (suc j) h ij lt = let more = at_least (suc p) ps j h.1 (omega arith) in omega arith
 rises low (p ∷ ps) (suc i) (suc j) h ij lt = rises (suc p) ps i j h.1 (omega arith) (omega arith)
+rises low ps i j h ij lt = absurd (omega arith)
 
 rises_le : (ps : List ℕ) → Rises 0 ps → (i j : ℕ) → i ≤ j → j < length ps → get_or ps i 0 ≤ get_or ps j 0
 rises_le ps h i j ij lt = elim (cases_eq i j) [

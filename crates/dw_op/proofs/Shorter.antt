@@ -15,28 +15,23 @@ EachShorter (a ∷ as') (b ∷ bs) = (length a ≤ length b) × EachShorter as' 
 
 -- the start of a place does not come later
 pub start_le : (short long : List (List ℕ)) (i : ℕ) → EachShorter short long → start short i ≤ start long i
-start_le short long zero h = omega arith
-start_le [] [] (suc i) h = omega arith
 start_le [] (b ∷ bs) (suc i) h = absurd h
 start_le (a ∷ short) [] (suc i) h = absurd h
 start_le (a ∷ short) (b ∷ long) (suc i) h = omega (arith, start_le short long i h.1, h.0)
+start_le short long i h = omega arith
 
 -- what lies between two places grows with the parts
 pub between : (short long : List (List ℕ)) (i j : ℕ) → EachShorter short long → i ≤ j → start short j + start long i ≤ start long j + start short i
 between short long zero j h le = omega (arith, start_le short long j h)
-between [] [] (suc i) zero h le = absurd (omega arith)
 between [] [] (suc i) (suc j) h le = omega arith
-between [] (b ∷ bs) (suc i) j h le = absurd h
-between (a ∷ short) [] (suc i) j h le = absurd h
-between (a ∷ short) (b ∷ long) (suc i) zero h le = absurd (omega arith)
 between (a ∷ short) (b ∷ long) (suc i) (suc j) h le = omega (arith, between short long i j h.1 (omega arith), h.0)
+between short long i j h le = absurd (first_of (assumption, omega arith))
 
 pub start_mono : (parts : List (List ℕ)) (i j : ℕ) → i ≤ j → start parts i ≤ start parts j
-start_mono parts zero j le = omega arith
 start_mono [] (suc i) zero le = absurd (omega arith)
-start_mono [] (suc i) (suc j) le = omega arith
 start_mono (a ∷ parts) (suc i) zero le = absurd (omega arith)
 start_mono (a ∷ parts) (suc i) (suc j) le = omega (arith, start_mono parts i j (omega arith))
+start_mono parts i j le = omega arith
 
 -- the displacement of a branch fits where it fitted before
 pub displacement_fits : (short long : List (List ℕ)) (k i : ℕ) → EachShorter short long

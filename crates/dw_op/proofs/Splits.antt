@@ -160,8 +160,6 @@ pub joined_walk_by : (profile : Profile) (t : Target) (steps : List Step) (parts
     → length (joined parts ++ rest) ≤ n → Ends profile (input (at + length (joined parts)) rest t) f
     → walk_by profile n (input at (joined parts ++ rest) t) ≡ record { items = items_from at steps parts; fault = f }
 joined_walk_by profile t [] [] n at rest f h le ends = ends_walk_by profile n at rest t f le ends
-joined_walk_by profile t [] (part ∷ parts) n at rest f h le ends = absurd h
-joined_walk_by profile t (step ∷ steps) [] n at rest f h le ends = absurd h
 joined_walk_by profile t (step ∷ steps) (part ∷ parts) zero at rest f h le ends =
     absurd (omega (arith, h.0.some, length-append (part ++ joined parts) rest, length-append part (joined parts)))
 joined_walk_by profile t (step ∷ steps) (part ∷ parts) (suc n) at rest f h le ends =
@@ -174,6 +172,7 @@ joined_walk_by profile t (step ∷ steps) (part ∷ parts) (suc n) at rest f h l
     ap (λ (l : List ℕ). walk_by profile (suc n) (input at l t)) same
     ∙ step_walk_by profile n (input at (part ++ more) t) (step, input (at + length part) more t) (omega (arith, h.0.some, length-append part more)) read
     ∙ ap (λ (w : Walk). after_item at step w) later
+joined_walk_by profile t steps parts n at rest f h le ends = absurd h
 
 pub joined_walk : (profile : Profile) (t : Target) (steps : List Step) (parts : List (List ℕ)) (at : ℕ) (rest : List ℕ) (f : Option Refusal) → EachSpells profile t steps parts
     → Ends profile (input (at + length (joined parts)) rest t) f

@@ -1,5 +1,5 @@
 -- Where operations begin in their least spelling, by the lengths before them.
-use Rattle.std.proofs.Common.{◌≡◌, ℕ, zero, suc, ◌+◌, ◌-◌, ◌<◌, ◌≤◌, ◌^◌, ◌⊎◌, List, [], ◌∷◌, ◌++◌, length, drop, slice_get, Option, Some, None, Result, Ok, Err, refl, sym, ap, subst, ◌∙◌, inl, inr, arith}
+use Rattle.std.proofs.Common.{◌≡◌, ℕ, zero, suc, ◌+◌, ◌-◌, ◌<◌, ◌≤◌, ◌^◌, List, [], ◌∷◌, ◌++◌, length, drop, Option, Some, None, Result, Ok, refl, sym, ap, subst, ◌∙◌, inl, inr, arith}
 use Rattle.std.proofs.Math.Seq.{drop-append_seam}
 use Rattle.std.proofs.lemmas.List.{length-append, drop-drop}
 use Rattle.dw_num.specs.declared.refusal.Refusal.{Refusal}
@@ -26,6 +26,7 @@ use Rattle.dw_op.specs.Inner.Walk.{Item, Walk, walk, index_in, find_at, goes_to,
 use Rattle.dw_op.proofs.Decoded.{within_all, within_more, answered, same_ops}
 use Rattle.dw_op.proofs.Judgement.{accepted_ops, accepted_read}
 use Rattle.dw_op.proofs.Splits.{walk_step, walk_end}
+use Rattle.dw_op.proofs.Marked.{input_is, got_from}
 
 -- ---- points
 
@@ -81,12 +82,6 @@ pub record Toward (from : Point) (goal : ℕ) (p : Point) : Type 0 where
   pub ahead : p.index ≤ goal
 
 -- ---- what is left later
-
-input_is : (i j : Input) → i.at ≡ j.at → i.bytes ≡ j.bytes → i.target ≡ j.target → i ≡ j
-input_is i j at bytes target =
-    ap (λ (n : ℕ). record { at = n; bytes = i.bytes; target = i.target }) at
-    ∙ ap (λ (l : List ℕ). record { at = j.at; bytes = l; target = i.target }) bytes
-    ∙ ap (λ (t : Target). record { at = j.at; bytes = j.bytes; target = t }) target
 
 pub later_none : (i : Input) → AreBytes i.bytes → (walk Frame i).fault ≡ None → IsLater i i
 later_none i h read = record { bytes = h; read = read; within = omega arith; is = subst (λ (n : ℕ). i ≡ behind n i) zero_left (input_is i (behind 0 i) (omega arith) refl refl) }
@@ -152,22 +147,13 @@ mark_at lengths first p bytes is later h =
       point = subst (λ (j : Input). IsPoint lengths (record { index = p.index; start = p.start; rest = j })) there h;
     }
 
-some_is : (a b : StartMark) → Some a ≡ Some b → a ≡ b
-some_is a b e = cc
-
-got_from : (marks : List StartMark) (last : StartMark) (k : ℕ) (mark : StartMark) → slice_get (marks ++ last ∷ []) k ≡ Some mark → (slice_get marks k ≡ Some mark) ⊎ (mark ≡ last)
-got_from [] last zero mark e = inr (sym (some_is last mark e))
-got_from [] last (suc k) mark e = absurd cc
-got_from (s ∷ marks) last zero mark e = inl e
-got_from (s ∷ marks) last (suc k) mark e = got_from marks last k mark e
-
 pub marks_none : (lengths : List ℕ) (first : Input) → AreStartMarks lengths first []
 marks_none lengths first k mark e = absurd cc
 
 marks_more : (lengths : List ℕ) (first : Input) (marks : List StartMark) (last : StartMark) → AreStartMarks lengths first marks → IsStartMark lengths first last → AreStartMarks lengths first (marks ++ last ∷ [])
 marks_more lengths first marks last h is k mark e = elim (got_from marks last k mark e) [
   | inl q ↦ h k mark q
-  | inr q ↦ subst (λ (s : StartMark). IsStartMark lengths first s) (sym q) is
+  | inr q ↦ subst (λ (s : StartMark). IsStartMark lengths first s) (sym q.1) is
 ]
 
 pub mark_more : (first : Input) (low p q : Point) (marks : List StartMark) (bytes : ℕ) → Marking first low p marks
@@ -212,9 +198,8 @@ record First (at : ℕ) (o : Option Op) (r : Result (List Op) Refusal) (ops : Li
   is : ops ≡ op ∷ more
 
 first : (at : ℕ) (o : Option Op) (r : Result (List Op) Refusal) (ops : List Op) → put_first o at r ≡ answered ops → First at o r ops
-first at None r ops e = absurd cc
 first at (Some op) (Ok more) ops e = record { op = op; more = more; first = refl; rest = refl; is = sym (same_ops (op ∷ more) ops e) }
-first at (Some op) (Err r) ops e = absurd cc
+first at o r ops e = absurd cc
 
 resolved_lengths : (t : Target) (find : ℕ → Option ℕ) (items : List Item) (ops : List Op) → resolve find items ≡ answered ops → item_lengths t items ≡ least_lengths t ops
 resolved_lengths t find [] ops e = ap (λ (l : List Op). least_lengths t l) (same_ops [] ops e)

@@ -40,11 +40,10 @@ starts_here j h read = go j.bytes refl (step_at Frame j) refl
 -- before it begins there is no start
 parts_past : (t : Target) (steps : List Step) (parts : List (List ℕ)) (at end place : ℕ) → EachSpells Frame t steps parts → at + length (joined parts) ≤ end → place < at → passed one (items_from at steps parts) end place ≡ None
 parts_past t [] [] at end place h le lt = let ne : place ≡ end → ⊥ = λ same. omega arith in rw (ne_eqb place end ne) refl
-parts_past t [] (part ∷ parts) at end place h le lt = absurd h
-parts_past t (step ∷ steps) [] at end place h le lt = absurd h
 parts_past t (step ∷ steps) (part ∷ parts) at end place h le lt =
     let ne : place ≡ at → ⊥ = λ same. omega arith in
     rw (ne_eqb place at ne, parts_past t steps parts (at + length part) end place h.1 (omega (arith, length-append part (joined parts))) (omega arith)) refl
+parts_past t steps parts at end place h le lt = absurd h
 
 starts_before : (j : Input) (place : ℕ) → AreBytes j.bytes → place < j.at → starts_at (end_of j) j place ≡ None
 starts_before j place h lt =
@@ -55,11 +54,10 @@ starts_before j place h lt =
 -- past the end there is none
 parts_beyond : (t : Target) (steps : List Step) (parts : List (List ℕ)) (at end place : ℕ) → EachSpells Frame t steps parts → at + length (joined parts) ≤ end → end < place → passed one (items_from at steps parts) end place ≡ None
 parts_beyond t [] [] at end place h le lt = let ne : place ≡ end → ⊥ = λ same. omega arith in rw (ne_eqb place end ne) refl
-parts_beyond t [] (part ∷ parts) at end place h le lt = absurd h
-parts_beyond t (step ∷ steps) [] at end place h le lt = absurd h
 parts_beyond t (step ∷ steps) (part ∷ parts) at end place h le lt =
     let ne : place ≡ at → ⊥ = λ same. omega (arith, length-append part (joined parts)) in
     rw (ne_eqb place at ne, parts_beyond t steps parts (at + length part) end place h.1 (omega (arith, length-append part (joined parts))) lt) refl
+parts_beyond t steps parts at end place h le lt = absurd h
 
 starts_beyond : (j : Input) (place : ℕ) → AreBytes j.bytes → end_of j < place → starts_at (end_of j) j place ≡ None
 starts_beyond j place h lt =

@@ -51,8 +51,7 @@ half_broken (cfa.Expression x) i code e = not_half (cfa.Expression x) i code (ke
 
 broken_half : (c : CfaRule) (i : Instr) (code : Code) → BreaksHalf c i code → half_fault i c ≡ Some code
 broken_half (cfa.Register r n) i code h = absurd (h.2 (r, n, refl))
-broken_half cfa.Unset i code h = let keeps : keeps_half i ≡ true = h.1 in rw keeps (ap Some (sym h.0))
-broken_half (cfa.Expression x) i code h = let keeps : keeps_half i ≡ true = h.1 in rw keeps (ap Some (sym h.0))
+broken_half c i code h = let keeps : keeps_half i ≡ true = h.1 in rw keeps (ap Some (sym h.0))
 
 -- what an instruction of an FDE's program breaks
 abbrev BreaksFrom : ℕ → ℕ → CfaRule → List Instr → Instr → Code → Type 0

@@ -48,8 +48,7 @@ module _ (initial : Rules) (begin : ℕ) where
   one_more : (i : Instr) (earlier instrs : List Instr) (ks : List ℕ) (rows : List LocatedRow) → AreFrom (i ∷ earlier) instrs ks rows → AreFrom earlier (i ∷ instrs) (map suc ks) rows
   one_more i earlier instrs [] [] h = tt
   one_more i earlier instrs (k ∷ ks) (row ∷ rows) h = (h.0, h.1, one_more i earlier instrs ks rows h.2)
-  one_more i earlier instrs [] (row ∷ rows) h = absurd h
-  one_more i earlier instrs (k ∷ ks) [] h = absurd h
+  one_more i earlier instrs ks rows h = absurd h
 
   -- a row ends before the first of them, or it does not
   row_if_from : (b : Bool) (i : Instr) (earlier instrs : List Instr) (last : List ℕ) (s : State) (next : Outcome) → Follows initial begin earlier s
@@ -108,8 +107,7 @@ module _ (initial : Rules) (begin : ℕ) (instrs : List Instr) where
   are_after : (ks : List ℕ) (rows : List LocatedRow) → AreFrom initial begin [] instrs ks rows → AreRowsAfter initial begin instrs ks rows
   are_after [] [] h = tt
   are_after (k ∷ ks) (row ∷ rows) h = (record { location = h.0; holds = record { cfa = h.1.cfa; rules = h.1.rules; listed = h.1.listed } }, are_after ks rows h.2)
-  are_after [] (row ∷ rows) h = absurd h
-  are_after (k ∷ ks) [] h = absurd h
+  are_after ks rows h = absurd h
 
   -- two lists of rows after the same instructions are one
   same_row : (k : ℕ) (row other : LocatedRow) → IsRowAfter initial begin instrs k row → IsRowAfter initial begin instrs k other → row ≡ other
@@ -122,10 +120,7 @@ module _ (initial : Rules) (begin : ℕ) (instrs : List Instr) where
   same_after [] [] [] v w = refl
   same_after (k ∷ ks) (row ∷ rows) (other ∷ others) v w =
       ap (λ (x : LocatedRow). x ∷ rows) (same_row k row other v.0 w.0) ∙ ap (λ (xs : List LocatedRow). other ∷ xs) (same_after ks rows others v.1 w.1)
-  same_after [] [] (other ∷ others) v w = absurd w
-  same_after [] (row ∷ rows) others v w = absurd v
-  same_after (k ∷ ks) [] others v w = absurd v
-  same_after (k ∷ ks) (row ∷ rows) [] v w = absurd w
+  same_after ks rows others v w = absurd assumption
 
 one_outcome : (o : Outcome) (rows : List LocatedRow) (fault : Option Refusal) → o.rows ≡ rows → o.fault ≡ fault → o ≡ record { rows = rows; fault = fault }
 one_outcome o rows fault are is =
@@ -353,10 +348,6 @@ run_steps f cie fde begin row s cb fb le e runs = e ∙ ap (stepping row) (runs_
 pub refusal_weaker : (e : ReadError) (P Q : Refusal → Type 0) → ((r : Refusal) → P r → Q r) → Refuses P e → Refuses Q e
 refusal_weaker (Refused r) P Q weaker h = weaker r h
 refusal_weaker OutOfMemory P Q weaker h = tt
-
-pub follow_run : {X E : Type 0} (result : Result X E) (old new : Following) (o : Outcome) → OnOk result (new ≡ with_steps old (stepping old.initial o)) → OnOk result (new ≡ with_steps old (stepping old.initial new.steps.outcome))
-follow_run (Ok x) old new o e = e ∙ ap (λ (p : Outcome). with_steps old (stepping old.initial p)) (sym (ap (λ (m : Following). m.steps.outcome) e))
-follow_run (Err x) old new o e = tt
 
 pub follow_runs : {X E : Type 0} (result : Result X E) (old new : Following) (fde : Input) (begin : ℕ) → AreBytes fde.bytes → AreSpecified 0 old.initial.registers → begin ≤ address_limit fde.target.size
     → OnOk result (new ≡ with_steps old (stepping old.initial (rows_behind old.factors old.initial fde begin))) → OnOk result (RunsBehind old.factors old.initial fde begin new.steps.outcome)

@@ -5,7 +5,7 @@ use Rattle.std.proofs.lemmas.List.Sums.{sum_by-cons}
 use Rattle.std.proofs.lemmas.Bool.{cases_Bool, lt-ltb, le-ltb, ltb-true, ltb-false}
 use Rattle.dw_num.specs.declared.refusal.Code.TheVariants.{LocationTooLarge, StateStackFull, CfaNotRegister}
 use Rattle.dw_cfa.specs.declared.instr.Instr.{Instr}
-use Rattle.dw_cfa.specs.declared.instr.Instr.TheVariants.{Nop, SetLoc, Advance, DefCfa, DefCfaRegister, DefCfaOffset, DefCfaExpression, Set, Restore, RememberState, RestoreState}
+use Rattle.dw_cfa.specs.declared.instr.Instr.TheVariants.{SetLoc, Advance, DefCfaRegister, DefCfaOffset, RememberState, RestoreState}
 use Rattle.dw_cfa.specs.declared.rule.CfaRule.{CfaRule}
 use Rattle.dw_cfa.specs.declared.rule.CfaRule.TheVariants as cfa
 use Rattle.dw_cfa.specs.declared.execution.LocatedRow.{LocatedRow}
@@ -86,21 +86,12 @@ stands_after limit begin initial i earlier s h address e =
 -- half of the CFA's rule is kept only of a register and an offset
 pub half_kept : (i : Instr) (c : CfaRule) → half_fault i c ≡ None → IsTrue (keeps_half i) → IsRegisterRule c
 half_kept i (cfa.Register r n) e keeps = (r, n, refl)
-half_kept i cfa.Unset e keeps = let not : keeps_half i ≡ true = keeps in let f = rw not at e in absurd cc
-half_kept i (cfa.Expression x) e keeps = let not : keeps_half i ≡ true = keeps in let f = rw not at e in absurd cc
+half_kept i c e keeps = let not : keeps_half i ≡ true = keeps in let f = rw not at e in absurd cc
 
 halves_kept : (limit : ℕ) (i : Instr) (s : State) → fde_fault limit i s ≡ None → IsTrue (keeps_half i) → IsRegisterRule s.row.cfa
 halves_kept limit (DefCfaRegister r) s e keeps = half_kept (DefCfaRegister r) s.row.cfa e keeps
 halves_kept limit (DefCfaOffset n) s e keeps = half_kept (DefCfaOffset n) s.row.cfa e keeps
-halves_kept limit (SetLoc a) s e keeps = absurd cc
-halves_kept limit (Advance d) s e keeps = absurd cc
-halves_kept limit RememberState s e keeps = absurd cc
-halves_kept limit RestoreState s e keeps = absurd cc
-halves_kept limit Nop s e keeps = absurd cc
-halves_kept limit (DefCfa r n) s e keeps = absurd cc
-halves_kept limit (DefCfaExpression x) s e keeps = absurd cc
-halves_kept limit (Set r rule) s e keeps = absurd cc
-halves_kept limit (Restore r) s e keeps = absurd cc
+halves_kept limit i s e keeps = absurd cc
 
 -- ---- a run that gives rows keeps the rules
 

@@ -100,23 +100,20 @@ lines_self : (xs : List (List ℕ)) → pointwise (pointwise nat_eq) xs xs ≡ t
 lines_self xs = pointwise_self (pointwise nat_eq) (λ l. pointwise_self nat_eq (λ n. (Decides-eqb n n).1 refl) l) xs
 
 pub rule_self : (a : RegRule) → same_rule a a ≡ true
-rule_self rules.Unspecified = refl
-rule_self rules.Undefined = refl
-rule_self rules.SameValue = refl
 rule_self (rules.Offset n) = (Decides-int_eq n n).1 refl
 rule_self (rules.ValOffset n) = (Decides-int_eq n n).1 refl
 rule_self (rules.Register r) = (Decides-eqb r r).1 refl
 rule_self (rules.Expression a) = lines_self (expression_lines a)
 rule_self (rules.ValExpression a) = lines_self (expression_lines a)
+rule_self a = refl
 
 -- rows are the same where no register's rule differs
 pub same_exactly : (xs ys : List Entry) (o : Option ℕ) (none : Bool) → AreSpecified 0 xs → AreSpecified 0 ys → FirstDifference 0 xs ys o → is_some o ≡ not none → IsTrue none ↔ (xs ≡ ys)
 same_exactly xs ys None true up up' h is = ((λ t. same_entries 0 xs ys up up' (λ r. h r (omega arith))), (λ e. refl))
-same_exactly xs ys None false up up' h is = absurd cc
-same_exactly xs ys (Some q) true up up' h is = absurd cc
 same_exactly xs ys (Some q) false up up' h is = (
   (λ t. absurd cc),
   (λ e.
       let itself : same_rule (rule_in xs q) (rule_in ys q) ≡ true = subst (λ (l : List Entry). same_rule (rule_in xs q) (rule_in l q) ≡ true) e (rule_self (rule_in xs q)) in
       let differs : same_rule (rule_in xs q) (rule_in ys q) ≡ false = h.2 in absurd cc),
 )
+same_exactly xs ys o none up up' h is = absurd cc

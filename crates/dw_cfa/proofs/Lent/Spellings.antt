@@ -1,6 +1,6 @@
 -- The spellings of each instruction, instruction by instruction.
-use Rattle.std.proofs.Common.{◌≡◌, ℕ, ◌+◌, ◌*◌, ◌<◌, ◌⊎◌, List, [], ◌∷◌, Some, refl, sym, ap, subst, ◌∙◌, arith, inl, inr}
-use Rattle.std.specs.Prelude.{ℤ, pos, ◌*ℤ◌, option_map}
+use Rattle.std.proofs.Common.{◌≡◌, ℕ, ◌+◌, ◌*◌, ◌<◌, ◌⊎◌, List, [], ◌∷◌, Some, refl, sym, ap, subst, arith, inl, inr}
+use Rattle.std.specs.Prelude.{ℤ, pos, ◌*ℤ◌}
 use Rattle.dw_num.specs.declared.target.Target.{Target}
 use Rattle.dw_num.specs.Leb.{Uleb, Sleb, Register}
 use Rattle.dw_num.specs.Fixed.{Fixed, Address}
@@ -15,8 +15,8 @@ use Rattle.dw_cfa.specs.declared.rule.RegRule.{RegRule}
 use Rattle.dw_cfa.specs.declared.rule.RegRule.TheVariants as rules
 use Rattle.dw_cfa.specs.InstrSpells.{IsOffset, BlockSpells, FormSpells, InstrSpells}
 use Rattle.dw_cfa.specs.Inner.Operands.{opcode_of, form_of}
-use Rattle.dw_cfa.specs.Operands.{Form, form_for, offset_of, advanced}
-use Rattle.dw_cfa.proofs.CodeForms.{form_known, opcode_behind}
+use Rattle.dw_cfa.specs.Operands.{Form, offset_of, advanced}
+use Rattle.dw_cfa.proofs.CodeForms.{form_is, opcode_behind}
 use Rattle.dw_cfa.proofs.Codes.{CodeOf, opcode_known, advance_known, offset_known, restore_known}
 
 -- ---- offsets
@@ -167,16 +167,13 @@ module _ (t : Target) (f : Factors) where
 -- ---- into it
 
 module _ (t : Target) (f : Factors) where
-  form_is : (code : ℕ) (opcode : Opcode) → opcode_of code ≡ Some opcode → form_for f code ≡ Some (form_of f opcode)
-  form_is code opcode e = form_known f code ∙ ap (option_map (form_of f)) e
-
   coded : (code : ℕ) (opcode : Opcode) (instr : Instr) (b : List ℕ) (Operands : List ℕ → Type 0) → Code code Operands b → opcode_of code ≡ Some opcode → IsOffset (offset_of instr)
       → ((c : List ℕ) → Operands c → FormSpells t (form_of f opcode) instr c) → InstrSpells t f instr b
   coded code opcode instr b Operands h known range to =
-      record { code = code; form = form_of f opcode; rest = h.rest; known = form_is code opcode known; whole = h.whole; operands = to h.rest h.operands; range = range }
+      record { code = code; form = form_of f opcode; rest = h.rest; known = form_is f code opcode known; whole = h.whole; operands = to h.rest h.operands; range = range }
 
   alone : (code : ℕ) (opcode : Opcode) (instr : Instr) (b : List ℕ) → Alone code b → opcode_of code ≡ Some opcode → IsOffset (offset_of instr) → FormSpells t (form_of f opcode) instr [] → InstrSpells t f instr b
-  alone code opcode instr b h known range is = record { code = code; form = form_of f opcode; rest = []; known = form_is code opcode known; whole = h; operands = is; range = range }
+  alone code opcode instr b h known range is = record { code = code; form = form_of f opcode; rest = []; known = form_is f code opcode known; whole = h; operands = is; range = range }
 
   zero_small : IsOffset (pos 0)
   zero_small = omega arith

@@ -1,5 +1,5 @@
 -- What is decoded is the block's operations, or its first fault.
-use Rattle.std.proofs.Common.{◌≡◌, ℕ, suc, ◌+◌, ◌<◌, true, List, [], ◌∷◌, ◌++◌, length, Option, Some, None, Result, Ok, Err, refl, sym, ap, subst, ◌∙◌, arith, inl, inr, ◌⊎◌}
+use Rattle.std.proofs.Common.{◌≡◌, ℕ, suc, ◌+◌, ◌<◌, List, [], ◌∷◌, ◌++◌, length, Option, Some, None, Result, Ok, Err, refl, sym, ap, subst, ◌∙◌, arith, inl, inr, ◌⊎◌}
 use Rattle.std.specs.Prelude.{IsTrue, slice_get}
 use Rattle.std.proofs.lemmas.Option.{slice_get_within}
 use Rattle.std.specs.List.{AllByRecursion}
@@ -22,7 +22,7 @@ use Rattle.dw_op.specs.Faults.{IsBlock, op_allowed, IsPart, Leads, ReadingFault,
 use Rattle.dw_op.proofs.Splits.{Spelled, EachSpells, items_from, input, Ends, Split, split_of, joined_walk}
 use Rattle.dw_op.proofs.Places.{index_start, index_begins}
 use Rattle.dw_op.proofs.Lent.Spellings.{in_table}
-use Rattle.dw_op.proofs.ResolvedSteps.{Finds, Placed, one_step, as_location, part_step, allowed_plain, step_stands, stands_step}
+use Rattle.dw_op.proofs.ResolvedSteps.{Finds, Placed, one_step, as_location, part_step, allowed_plain, framed, step_stands, stands_step}
 use Rattle.dw_op.proofs.Branches.{fixed_any}
 use Rattle.dw_op.proofs.OperandLaws.{stuck_fault, fault_stuck}
 use Rattle.dw_op.proofs.BranchParts.{Stood, EachNumbered, stood_leads, leads_stood, each_at, each_from, all_at, in_front, front_only, at_part, start_at, around}
@@ -85,9 +85,8 @@ oks_are : (a b : List Op) → answered a ≡ answered b → a ≡ b
 oks_are a b e = cc
 
 resolved_first : (find : ℕ → Option ℕ) (at : ℕ) (step : Step) (items : List Item) (o : Option Op) (r : Result (List Op) Refusal) (ops : List Op) → op_of find at step ≡ o → resolve find items ≡ r → put_first o at r ≡ Ok ops → Resolved find at step items ops
-resolved_first find at step items None r ops one two e = absurd cc
 resolved_first find at step items (Some op) (Ok more) ops one two e = record { op = op; more = more; first = one; later = two; is = sym (oks_are (op ∷ more) ops e) }
-resolved_first find at step items (Some op) (Err r) ops one two e = absurd cc
+resolved_first find at step items o r ops one two e = absurd cc
 
 abbrev bad_branch : ℕ → Refusal
 bad_branch at = record { code = BadBranch; at = at }
@@ -113,8 +112,6 @@ module _ (profile : Profile) (t : Target) (all : List (List ℕ)) (find : ℕ �
   resolved_stand : (k : ℕ) (steps : List Step) (parts : List (List ℕ)) (ops : List Op) → EachSpells profile t steps parts → Follow all k parts → resolve find (items_from (start all k) steps parts) ≡ Ok ops
       → EachPart (Stands t all) k ops parts × Allowed ops
   resolved_stand k [] [] ops h follow e = subst (λ (l : List Op). EachPart (Stands t all) k l [] × Allowed l) (oks_are [] ops e) (tt, tt)
-  resolved_stand k [] (part ∷ parts) ops h follow e = absurd h
-  resolved_stand k (step ∷ steps) [] ops h follow e = absurd h
   resolved_stand k (step ∷ steps) (part ∷ parts) ops h follow e =
       let at = start all k in
       let items = items_from (at + length part) steps parts in
@@ -124,6 +121,7 @@ module _ (profile : Profile) (t : Target) (all : List (List ℕ)) (find : ℕ �
       let later : resolve find (items_from (start all (suc k)) steps parts) ≡ Ok r.more = subst (λ (n : ℕ). resolve find (items_from n steps parts) ≡ Ok r.more) (next_place all k part placed) r.later in
       let more = resolved_stand (suc k) steps parts r.more h.1 (follow_next all k part parts follow) later in
       subst (λ (l : List Op). EachPart (Stands t all) k l (part ∷ parts) × Allowed l) (sym r.is) ((here.0, more.0), (here.1, more.1))
+  resolved_stand k steps parts ops h follow e = absurd h
 
   -- the steps of operations that stand, resolved
   abbrev StepsOf : ℕ → List Op → List (List ℕ) → Type 0
@@ -131,14 +129,13 @@ module _ (profile : Profile) (t : Target) (all : List (List ℕ)) (find : ℕ �
 
   stand_resolved : (k : ℕ) (ops : List Op) (parts : List (List ℕ)) → EachPart (Stands t all) k ops parts → Allowed ops → Follow all k parts → StepsOf k ops parts
   stand_resolved k [] [] h allowed follow = ([], tt, refl)
-  stand_resolved k [] (part ∷ parts) h allowed follow = absurd h
-  stand_resolved k (op ∷ ops) [] h allowed follow = absurd h
   stand_resolved k (op ∷ ops) (part ∷ parts) h allowed follow =
       let placed = follow_placed all k part parts follow in
       let here = stands_step profile t all find k op part f placed h.0 allowed.0 in
       let more = stand_resolved (suc k) ops parts h.1 allowed.1 (follow_next all k part parts follow) in
       let later : resolve find (items_from (start all k + length part) more.0 parts) ≡ Ok ops = subst (λ (n : ℕ). resolve find (items_from n more.0 parts) ≡ Ok ops) (sym (next_place all k part placed)) more.2 in
       (here.0 ∷ more.0, (here.1, more.1), rw (here.2, later) refl)
+  stand_resolved k ops parts h allowed follow = absurd h
 
   -- ---- a branch that is not resolved leads nowhere
 
@@ -160,9 +157,6 @@ module _ (profile : Profile) (t : Target) (all : List (List ℕ)) (find : ℕ �
       absurd cc
 
   unresolved_bad : (k : ℕ) (steps : List Step) (parts : List (List ℕ)) (r : Refusal) → EachSpells profile t steps parts → Follow all k parts → resolve find (items_from (start all k) steps parts) ≡ Err r → FirstBad k parts r
-  unresolved_bad k [] [] r h follow e = absurd cc
-  unresolved_bad k [] (part ∷ parts) r h follow e = absurd h
-  unresolved_bad k (step ∷ steps) [] r h follow e = absurd h
   unresolved_bad k (step ∷ steps) (part ∷ parts) r h follow e =
       let at = start all k in
       let items = items_from (at + length part) steps parts in
@@ -196,6 +190,7 @@ module _ (profile : Profile) (t : Target) (all : List (List ℕ)) (find : ℕ �
 
       moved : (k j : ℕ) → suc k + j ≡ k + suc j
       moved k j = omega arith
+  unresolved_bad k steps parts r h follow e = absurd (first_of (assumption, cc))
 
   -- a step at which no operation stands is not resolved
   not_resolved : (k : ℕ) (step : Step) (part : List ℕ) (o : Option Op) → Spelled profile t step part → Placed all k part → op_of find (start all k) step ≡ o → (Stood t all k part → ⊥) → o ≡ None
@@ -342,12 +337,11 @@ one_reading profile t (step ∷ steps) (other ∷ others) (part ∷ parts) h k =
 -- the steps of operations
 steps_of : (profile : Profile) (t : Target) (ops : List Op) (parts all : List (List ℕ)) (k : ℕ) → EachPart (Stands t all) k ops parts → AllByRecursion (λ op. IsTrue (op_allowed profile op)) ops → (steps : List Step) × EachSpells profile t steps parts
 steps_of profile t [] [] all k h allowed = ([], tt)
-steps_of profile t [] (part ∷ parts) all k h allowed = absurd h
-steps_of profile t (op ∷ ops) [] all k h allowed = absurd h
 steps_of profile t (op ∷ ops) (part ∷ parts) all k h allowed =
     let one = part_step profile t part op h.0.spells allowed.0 in
     let more = steps_of profile t ops parts all (suc k) h.1 allowed.1 in
     (one.0 ∷ more.0, (one.1, more.1))
+steps_of profile t ops parts all k h allowed = absurd h
 
 -- the steps of parts
 part_steps : (profile : Profile) (t : Target) (parts : List (List ℕ)) → AllByRecursion (IsPart profile t) parts → (steps : List Step) × EachSpells profile t steps parts
@@ -389,22 +383,13 @@ block_only profile t bytes ops h =
 
 step_part : (profile : Profile) (t : Target) (step : Step) (part : List ℕ) → Spelled profile t step part → IsPart profile t part
 step_part profile t (Plain op) part h = (op, in_table t op part h.spells.0, allowed_plain profile op h.allowed)
-step_part profile t (Jump Bra n) part h = (ops.Bra 0, in_table t (ops.Bra 0) part (record { rest = h.spells.rest; operands = fixed_any t.order n h.spells.rest h.spells.operands; whole = h.spells.whole }), allowed_bra profile)
-  where
-    allowed_bra : (p : Profile) → op_allowed p (ops.Bra 0) ≡ true
-    allowed_bra Frame = refl
-    allowed_bra Location = refl
-step_part profile t (Jump Skip n) part h = (ops.Skip 0, in_table t (ops.Skip 0) part (record { rest = h.spells.rest; operands = fixed_any t.order n h.spells.rest h.spells.operands; whole = h.spells.whole }), allowed_skip profile)
-  where
-    allowed_skip : (p : Profile) → op_allowed p (ops.Skip 0) ≡ true
-    allowed_skip Frame = refl
-    allowed_skip Location = refl
+step_part profile t (Jump Bra n) part h = (ops.Bra 0, in_table t (ops.Bra 0) part (record { rest = h.spells.rest; operands = fixed_any t.order n h.spells.rest h.spells.operands; whole = h.spells.whole }), framed profile (ops.Bra 0) refl)
+step_part profile t (Jump Skip n) part h = (ops.Skip 0, in_table t (ops.Skip 0) part (record { rest = h.spells.rest; operands = fixed_any t.order n h.spells.rest h.spells.operands; whole = h.spells.whole }), framed profile (ops.Skip 0) refl)
 
 step_parts : (profile : Profile) (t : Target) (steps : List Step) (parts : List (List ℕ)) → EachSpells profile t steps parts → AllByRecursion (IsPart profile t) parts
 step_parts profile t [] [] h = tt
-step_parts profile t [] (part ∷ parts) h = absurd h
-step_parts profile t (step ∷ steps) [] h = absurd h
 step_parts profile t (step ∷ steps) (part ∷ parts) h = (step_part profile t step part h.0, step_parts profile t steps parts h.1)
+step_parts profile t steps parts h = absurd h
 
 -- bytes that are read as no operation begin with a code that has a fault
 stuck_reading : (profile : Profile) (t : Target) (bytes : List ℕ) (r : Refusal) (parts : List (List ℕ)) (rest : List ℕ) → bytes ≡ joined parts ++ rest → AllByRecursion (IsPart profile t) parts → 0 < length rest

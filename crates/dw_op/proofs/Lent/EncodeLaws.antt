@@ -67,10 +67,9 @@ each_fits_of all k (op ∷ ops) d h =
     (rw zero_is at (h 0 (omega arith)), each_fits_of all (suc k) ops d (λ j lt. let e : k + suc j ≡ suc k + j = omega arith in rw e at (h (suc j) (omega arith))))
 
 fits_at : (all : List (List ℕ)) (k j : ℕ) (ops : List Op) (op : Op) → EachFits all k ops → slice_get ops j ≡ Some op → BranchFits all (k + j) (branch_target op)
-fits_at all k zero [] op h e = absurd cc
-fits_at all k (suc j) [] op h e = absurd cc
 fits_at all k zero (o ∷ ops) op h e = let is : o ≡ op = cc in let z : k + 0 ≡ k = omega arith in rw z (subst (λ (x : Op). BranchFits all k (branch_target x)) is h.0)
 fits_at all k (suc j) (o ∷ ops) op h e = let z : k + suc j ≡ suc k + j = omega arith in rw z (fits_at all (suc k) j ops op h.1 e)
+fits_at all k j ops op h e = absurd cc
 
 -- where one branch is too far no block is there
 pub far_has_no_block : (t : Target) (ops : List Op) (k : ℕ) (bytes : List ℕ) → TooFar t ops k → Block t ops bytes → ⊥

@@ -1,5 +1,5 @@
 -- Operations that have a block have a least one.
-use Rattle.std.proofs.Common.{◌≡◌, ℕ, zero, suc, ◌+◌, ◌≤◌, List, [], ◌∷◌, ◌++◌, length, Option, Some, None, refl, inl, inr, arith}
+use Rattle.std.proofs.Common.{◌≡◌, ℕ, suc, ◌+◌, ◌≤◌, List, [], ◌∷◌, ◌++◌, length, Option, Some, None, refl, inl, inr, arith}
 use Rattle.std.specs.List.{AllByRecursion}
 use Rattle.std.proofs.lemmas.List.{length-append}
 use Rattle.std.proofs.lemmas.List.Concat.{flat_map-cons}
@@ -26,22 +26,20 @@ EachInRange t len ops = AllByRecursion (InRange t len) ops
 
 pub parts_length : (P : ℕ → Op → List ℕ → Type 0) (k : ℕ) (ops : List Op) (parts : List (List ℕ)) → EachPart P k ops parts → length parts ≡ length ops
 parts_length P k [] [] h = refl
-parts_length P k [] (p ∷ parts) h = absurd h
-parts_length P k (op ∷ ops) [] h = absurd h
 parts_length P k (op ∷ ops) (p ∷ parts) h = let e = parts_length P (suc k) ops parts h.1 in omega arith
+parts_length P k ops parts h = absurd h
 
 -- ---- the operations of a block are in range
 
 each_in_range : (t : Target) (all : List (List ℕ)) (len k : ℕ) (ops : List Op) (parts : List (List ℕ)) → length all ≡ len → EachPart (Stands t all) k ops parts → EachInRange t len ops
 each_in_range t all len k [] [] e h = tt
-each_in_range t all len k [] (p ∷ parts) e h = absurd h
-each_in_range t all len k (op ∷ ops) [] e h = absurd h
 each_in_range t all len k (op ∷ ops) (p ∷ parts) e h =
     (record { bytes = p; spelled = h.0.spells; within_list = within (branch_target op) h.0.displaced }, each_in_range t all len (suc k) ops parts e h.1)
   where
     within : (target : Option ℕ) → Displaced t.order all k target p → TargetWithin len target
     within None d = tt
     within (Some i) d = let le = d.0 in omega arith
+each_in_range t all len k ops parts e h = absurd h
 
 pub in_range_of_block : (t : Target) (ops : List Op) (bytes : List ℕ) → Block t ops bytes → AllInRange t ops
 in_range_of_block t ops bytes b = each_in_range t b.parts (length ops) 0 ops b.parts (parts_length (Stands t b.parts) 0 ops b.parts b.each) b.each
@@ -51,23 +49,21 @@ in_range_of_block t ops bytes b = each_in_range t b.parts (length ops) 0 ops b.p
 each_shorter : (t : Target) (P : ℕ → Op → List ℕ → Type 0) (spells : (k : ℕ) (op : Op) (p : List ℕ) → P k op p → OpSpells t op p) (len k : ℕ) (ops : List Op) (parts : List (List ℕ))
     → EachInRange t len ops → EachPart P k ops parts → EachShorter (blank_parts t ops) parts
 each_shorter t P spells len k [] [] r h = tt
-each_shorter t P spells len k [] (p ∷ parts) r h = absurd h
-each_shorter t P spells len k (op ∷ ops) [] r h = absurd h
 each_shorter t P spells len k (op ∷ ops) (p ∷ parts) r h =
     (length_of (least_bytes t 0 op) p ((least t len 0 op r.0).least p (spells k op p h.0)), each_shorter t P spells len (suc k) ops parts r.1 h.1)
+each_shorter t P spells len k ops parts r h = absurd h
 
 pub block_shorter : (t : Target) (ops : List Op) (bytes : List ℕ) (b : Block t ops bytes) → EachShorter (blank_parts t ops) b.parts
 block_shorter t ops bytes b = each_shorter t (Stands t b.parts) (λ k op p s. s.spells) (length ops) 0 ops b.parts (in_range_of_block t ops bytes b) b.each
 
 pub each_fits : (t : Target) (least all : List (List ℕ)) (k : ℕ) (ops : List Op) (parts : List (List ℕ)) → EachShorter least all → EachPart (Stands t all) k ops parts → EachFits least k ops
 each_fits t least all k [] [] short h = tt
-each_fits t least all k [] (p ∷ parts) short h = absurd h
-each_fits t least all k (op ∷ ops) [] short h = absurd h
 each_fits t least all k (op ∷ ops) (p ∷ parts) short h = (fits (branch_target op) h.0.displaced, each_fits t least all (suc k) ops parts short h.1)
   where
     fits : (target : Option ℕ) → Displaced t.order all k target p → BranchFits least k target
     fits None d = tt
     fits (Some i) d = displacement_fits least all k i short d.2.operands.fits
+each_fits t least all k ops parts short h = absurd h
 
 -- every branch of a block fits the least spellings too
 pub block_fits : (t : Target) (ops : List Op) (bytes : List ℕ) → Block t ops bytes → EachFits (blank_parts t ops) 0 ops
@@ -82,17 +78,15 @@ SameLengths (a ∷ as') [] = ⊥
 SameLengths (a ∷ as') (b ∷ bs) = (length a ≡ length b) × SameLengths as' bs
 
 pub same_start : (as' bs : List (List ℕ)) (i : ℕ) → SameLengths as' bs → start as' i ≡ start bs i
-same_start as' bs zero h = refl
-same_start [] [] (suc i) h = refl
 same_start [] (b ∷ bs) (suc i) h = absurd h
 same_start (a ∷ as') [] (suc i) h = absurd h
 same_start (a ∷ as') (b ∷ bs) (suc i) h = let e = same_start as' bs i h.1 in let l = h.0 in omega arith
+same_start as' bs i h = refl
 
 same_length : (as' bs : List (List ℕ)) → SameLengths as' bs → length as' ≡ length bs
 same_length [] [] h = refl
-same_length [] (b ∷ bs) h = absurd h
-same_length (a ∷ as') [] h = absurd h
 same_length (a ∷ as') (b ∷ bs) h = let e = same_length as' bs h.1 in omega arith
+same_length as' bs h = absurd h
 
 pub same_displacement : (as' bs : List (List ℕ)) (k i : ℕ) → SameLengths as' bs → displacement as' k i ≡ displacement bs k i
 same_displacement as' bs k i h = rw (same_start as' bs i h, same_start as' bs (k + 1) h) refl
@@ -100,8 +94,6 @@ same_displacement as' bs k i h = rw (same_start as' bs i h, same_start as' bs (k
 -- the displacements are those of the new parts too
 move : (t : Target) (a b : List (List ℕ)) (k : ℕ) (ops : List Op) (parts : List (List ℕ)) → SameLengths a b → EachPart (Stands t b) k ops parts → EachPart (Stands t a) k ops parts
 move t a b k [] [] same s = tt
-move t a b k [] (p ∷ parts) same s = absurd s
-move t a b k (op ∷ ops) [] same s = absurd s
 move t a b k (op ∷ ops) (p ∷ parts) same s =
     (record { spells = s.0.spells; displaced = moved (branch_target op) s.0.displaced }, move t a b (suc k) ops parts same s.1)
   where
@@ -111,6 +103,7 @@ move t a b k (op ∷ ops) (p ∷ parts) same s =
         let n = same_length a b same in let low = h.0 in
         let d = same_displacement a b k i same in
         (omega arith, h.1, rw d h.2)
+move t a b k ops parts same s = absurd s
 
 -- ---- the least spellings with their displacements
 
@@ -166,18 +159,14 @@ joined_length (p ∷ parts) = rw (joined-cons p parts) (omega (arith, length-app
 
 shorter_total : (short long : List (List ℕ)) → EachShorter short long → start short (length short) ≤ start long (length long)
 shorter_total [] [] h = omega arith
-shorter_total [] (b ∷ long) h = absurd h
-shorter_total (a ∷ short) [] h = absurd h
 shorter_total (a ∷ short) (b ∷ long) h = let le = h.0 in omega (arith, shorter_total short long h.1)
+shorter_total short long h = absurd h
 
 -- least spellings are no longer than the parts of a block
 pub each_parts : (t : Target) (all : List (List ℕ)) (k : ℕ) (ops : List Op) (short long : List (List ℕ)) → EachPart (λ k. Least t) k ops short → EachPart (Stands t all) k ops long → EachShorter short long
 each_parts t all k [] [] [] l s = tt
-each_parts t all k [] [] (p ∷ long) l s = absurd s
-each_parts t all k [] (q ∷ short) long l s = absurd l
-each_parts t all k (op ∷ ops) [] long l s = absurd l
-each_parts t all k (op ∷ ops) (q ∷ short) [] l s = absurd s
 each_parts t all k (op ∷ ops) (q ∷ short) (p ∷ long) l s = (length_of q p (l.0.least p s.0.spells), each_parts t all (suc k) ops short long l.1 s.1)
+each_parts t all k ops short long l s = absurd assumption
 
 -- a least block is no longer than any block of the same operations
 pub least_no_longer : (t : Target) (ops : List Op) (a b : List ℕ) → LeastBlock t ops a → Block t ops b → length a ≤ length b

@@ -15,10 +15,9 @@ use Rattle.dw_op.proofs.Lent.LeastBlocks.{EachInRange, SameLengths, same_displac
 
 same_lengths : (t : Target) (len k : ℕ) (ops : List Op) (parts : List (List ℕ)) → EachInRange t len ops → EachPart (λ j. Least t) k ops parts → SameLengths parts (blank_parts t ops)
 same_lengths t len k [] [] r l = tt
-same_lengths t len k [] (p ∷ parts) r l = absurd l
-same_lengths t len k (op ∷ ops) [] r l = absurd l
 same_lengths t len k (op ∷ ops) (p ∷ parts) r l =
     ((same_head t op p (least_bytes t 0 op) l.0 (least t len 0 op r.0)).length_is, same_lengths t len (suc k) ops parts r.1 l.1)
+same_lengths t len k ops parts r l = absurd l
 
 same_bits : (a b : List (List ℕ)) (k : ℕ) (target : Option ℕ) → SameLengths a b → bits_of a k target ≡ bits_of b k target
 same_bits a b k None same = refl
@@ -27,13 +26,12 @@ same_bits a b k (Some i) same = ap (cast_unsigned w16) (same_displacement a b k 
 each_only : (t : Target) (all blank : List (List ℕ)) (len k : ℕ) (ops : List Op) (parts : List (List ℕ)) → SameLengths all blank → EachInRange t len ops
     → EachPart (λ j. Least t) k ops parts → EachPart (Stands t all) k ops parts → parts ≡ least_from t blank k ops
 each_only t all blank len k [] [] same r l s = refl
-each_only t all blank len k [] (p ∷ parts) same r l s = absurd l
-each_only t all blank len k (op ∷ ops) [] same r l s = absurd l
 each_only t all blank len k (op ∷ ops) (p ∷ parts) same r l s =
     let here : p ≡ least_bytes t (bits_of blank k (branch_target op)) op =
     only t all len k op p r.0 l.0 s.0.displaced ∙ ap (λ (d : ℕ). least_bytes t d op) (same_bits all blank k (branch_target op) same) in
     let rest = each_only t all blank len (suc k) ops parts same r.1 l.1 s.1 in
     rw (here, rest) refl
+each_only t all blank len k ops parts same r l s = absurd l
 
 -- a least block is what the table gives
 pub least_block_only : (t : Target) (ops : List Op) (bytes : List ℕ) → LeastBlock t ops bytes → bytes ≡ least_block t ops

@@ -1,5 +1,5 @@
 -- An operation comes back from its line, so that equal lines are of equal operations.
-use Rattle.std.proofs.Common.{◌≡◌, ℕ, Bool, true, false, List, [], ◌∷◌, map, refl, sym, ap, ◌∙◌}
+use Rattle.std.proofs.Common.{◌≡◌, ℕ, Bool, true, false, List, [], ◌∷◌, map, Option, Some, None, refl, sym, ap, ◌∙◌}
 use Rattle.std.specs.Prelude.{ℤ, pos, negsuc, nat_eq, if◌then◌else◌, IsTrue, ◌↔◌}
 use Rattle.std.specs.Bool.{Decides, one_answer}
 use Rattle.dw_op.specs.Inner.EqualityLaws.{lines_decide}
@@ -9,7 +9,9 @@ use Rattle.dw_num.specs.declared.target.Size.TheVariants.{Four, Eight}
 use Rattle.dw_num.specs.declared.target.Order.{Order}
 use Rattle.dw_num.specs.declared.target.Order.TheVariants.{Little, Big}
 use Rattle.dw_op.specs.declared.op.Op.{Op}
-use Rattle.dw_op.specs.declared.op.Op.TheVariants.{Addr, Deref, Const, Dup, Drop, Over, Pick, Swap, Rot, Abs, And, Div, Minus, Mod, Mul, Neg, Not, Or, Plus, PlusUconst, Shl, Shr, Shra, Xor, Bra, Eq, Ge, Gt, Le, Lt, Ne, Skip, Reg, Breg, Fbreg, Piece, DerefSize, Nop, PushObjectAddress, CallFrameCfa, BitPiece, Implicit, StackValue}
+use Rattle.dw_op.specs.declared.op.Op.TheVariants.{Addr, Const, Pick, PlusUconst, Bra, Skip, Reg, Breg, Fbreg, Piece, DerefSize, Nop, BitPiece, Implicit}
+use Rattle.dw_op.specs.Operands.{look_up}
+use Rattle.dw_op.specs.Inner.FrontOp.{plain_table}
 use Rattle.dw_op.specs.Expression.{Expression, bare}
 use Rattle.dw_op.specs.Block.{FrameBlock}
 use Rattle.dw_op.specs.Profile.{in_frame, InFrame}
@@ -19,38 +21,12 @@ use Rattle.dw_op.specs.Equality.{sign_of, size_of, line, op_line, target_line, e
 abbrev signed_with : ℕ → ℕ → ℤ
 signed_with sign number = if nat_eq sign 0 then pos number else negsuc number
 
+abbrev or_this : Option Op → Op → Op
+or_this None op = op
+or_this (Some alone) op = alone
+
 abbrev op_with : List ℕ → Op
-op_with (kind ∷ first ∷ second ∷ sign ∷ number ∷ bytes) =
-    if nat_eq kind 0x06 then Deref else
-    if nat_eq kind 0x12 then Dup else
-    if nat_eq kind 0x13 then Drop else
-    if nat_eq kind 0x14 then Over else
-    if nat_eq kind 0x16 then Swap else
-    if nat_eq kind 0x17 then Rot else
-    if nat_eq kind 0x19 then Abs else
-    if nat_eq kind 0x1a then And else
-    if nat_eq kind 0x1b then Div else
-    if nat_eq kind 0x1c then Minus else
-    if nat_eq kind 0x1d then Mod else
-    if nat_eq kind 0x1e then Mul else
-    if nat_eq kind 0x1f then Neg else
-    if nat_eq kind 0x20 then Not else
-    if nat_eq kind 0x21 then Or else
-    if nat_eq kind 0x22 then Plus else
-    if nat_eq kind 0x24 then Shl else
-    if nat_eq kind 0x25 then Shr else
-    if nat_eq kind 0x26 then Shra else
-    if nat_eq kind 0x27 then Xor else
-    if nat_eq kind 0x29 then Eq else
-    if nat_eq kind 0x2a then Ge else
-    if nat_eq kind 0x2b then Gt else
-    if nat_eq kind 0x2c then Le else
-    if nat_eq kind 0x2d then Lt else
-    if nat_eq kind 0x2e then Ne else
-    if nat_eq kind 0x96 then Nop else
-    if nat_eq kind 0x97 then PushObjectAddress else
-    if nat_eq kind 0x9c then CallFrameCfa else
-    if nat_eq kind 0x9f then StackValue else
+op_with (kind ∷ first ∷ second ∷ sign ∷ number ∷ bytes) = or_this (look_up plain_table kind) (
     if nat_eq kind 0x03 then Addr first else
     if nat_eq kind 0x08 then Const first else
     if nat_eq kind 0x15 then Pick first else
@@ -63,59 +39,17 @@ op_with (kind ∷ first ∷ second ∷ sign ∷ number ∷ bytes) =
     if nat_eq kind 0x93 then Piece first else
     if nat_eq kind 0x94 then DerefSize first else
     if nat_eq kind 0x9d then BitPiece first second else
-    Implicit (record { ref_ptr = (0, 0); now = bytes })
+    Implicit (record { ref_ptr = (0, 0); now = bytes }))
 op_with other = Nop
-
-op_back : (op : Op) → op_with (op_line op) ≡ bare op
-op_back Deref = refl
-op_back Dup = refl
-op_back Drop = refl
-op_back Over = refl
-op_back Swap = refl
-op_back Rot = refl
-op_back Abs = refl
-op_back And = refl
-op_back Div = refl
-op_back Minus = refl
-op_back Mod = refl
-op_back Mul = refl
-op_back Neg = refl
-op_back Not = refl
-op_back Or = refl
-op_back Plus = refl
-op_back Shl = refl
-op_back Shr = refl
-op_back Shra = refl
-op_back Xor = refl
-op_back Eq = refl
-op_back Ge = refl
-op_back Gt = refl
-op_back Le = refl
-op_back Lt = refl
-op_back Ne = refl
-op_back Nop = refl
-op_back PushObjectAddress = refl
-op_back CallFrameCfa = refl
-op_back StackValue = refl
-op_back (Addr a) = refl
-op_back (Const v) = refl
-op_back (Pick i) = refl
-op_back (PlusUconst n) = refl
-op_back (Bra i) = refl
-op_back (Skip i) = refl
-op_back (Reg r) = refl
-op_back (Breg r (pos n)) = refl
-op_back (Breg r (negsuc n)) = refl
-op_back (Fbreg (pos n)) = refl
-op_back (Fbreg (negsuc n)) = refl
-op_back (Piece n) = refl
-op_back (DerefSize k) = refl
-op_back (BitPiece size offset) = refl
-op_back (Implicit block) = refl
 
 signed_back : (z : ℤ) → signed_with (sign_of z) (size_of z) ≡ z
 signed_back (pos n) = refl
 signed_back (negsuc n) = refl
+
+op_back : (op : Op) → op_with (op_line op) ≡ bare op
+op_back (Breg r z) = ap (Breg r) (signed_back z)
+op_back (Fbreg z) = ap Fbreg (signed_back z)
+op_back op = refl
 
 -- equal parts, equal lines
 abbrev pub SameParts : ℕ → ℕ → ℕ → ℤ → List ℕ → ℕ → ℕ → ℕ → ℤ → List ℕ → Type 0
@@ -159,12 +93,11 @@ tail_is a b x y e = cc
 
 same_list : (a b : List Op) → InFrame a → InFrame b → map op_line a ≡ map op_line b → a ≡ b
 same_list [] [] h k e = refl
-same_list [] (y ∷ b) h k e = absurd cc
-same_list (x ∷ a) [] h k e = absurd cc
 same_list (x ∷ a) (y ∷ b) h k e =
     let first : x ≡ y = sym (bare_frame x h.0) ∙ same_op x y (head_is (op_line x) (op_line y) (map op_line a) (map op_line b) e) ∙ bare_frame y k.0 in
     let more = same_list a b h.1 k.1 (tail_is (op_line x) (op_line y) (map op_line a) (map op_line b) e) in
     cc
+same_list a b h k e = absurd cc
 
 target_with : List ℕ → Target
 target_with [] = record { size = Four; order = Little }

@@ -1,5 +1,5 @@
 -- What it takes for an operation to have a spelling.
-use Rattle.std.proofs.Common.{◌≡◌, ℕ, zero, suc, map, get_or, subst, ◌%◌, ◌^◌, ◌<◌, List, [], ◌∷◌, ◌++◌, length, refl, inr, arith, ℤ, pos, negsuc}
+use Rattle.std.proofs.Common.{◌≡◌, ℕ, zero, suc, map, get_or, subst, ◌%◌, ◌^◌, ◌<◌, List, [], ◌∷◌, ◌++◌, length, refl, inr, arith, ℤ, pos}
 use Rattle.std.specs.Prelude.{Some, slice_get}
 use Rattle.std.proofs.lemmas.List.{length-map}
 use Rattle.std.proofs.lemmas.Option.{slice_get-map, slice_get-get_or}
@@ -14,7 +14,8 @@ use Rattle.dw_num.specs.Leb.{Uleb, Sleb, Register}
 use Rattle.dw_num.specs.Shortest.{shortest_uleb, shortest_sleb}
 use Rattle.dw_num.proofs.Lent.Shortest.{shortest_uleb-spells, shortest_sleb-spells}
 use Rattle.dw_op.specs.declared.op.Op.{Op}
-use Rattle.dw_op.specs.declared.op.Op.TheVariants.{Addr, Deref, Const, Dup, Drop, Over, Pick, Swap, Rot, Abs, And, Div, Minus, Mod, Mul, Neg, Not, Or, Plus, PlusUconst, Shl, Shr, Shra, Xor, Bra, Eq, Ge, Gt, Le, Lt, Ne, Skip, Reg, Breg, Fbreg, Piece, DerefSize, Nop, PushObjectAddress, CallFrameCfa, BitPiece, Implicit, StackValue}
+use Rattle.dw_op.specs.declared.op.Op.TheVariants.{Addr, Const, Pick, PlusUconst, Bra, Skip, Reg, Breg, Fbreg, Piece, DerefSize, BitPiece, Implicit}
+use Rattle.dw_op.specs.Codes.{alone_code}
 use Rattle.dw_op.specs.Expression.{bare}
 use Rattle.dw_op.specs.Inner.ByOperation.{Const8u, Unsigned, Counted}
 use Rattle.dw_op.specs.Operands.{modulo}
@@ -35,38 +36,12 @@ limit_most Eight a h = omega arith
 
 in_range_so : (t : Target) (len : ℕ) (op : Op) → IsTyped op → Fits t len op → InRangeSo t len (bare op)
 in_range_so t len (Addr a) y h = record { bytes = 0x03 ∷ fixed_bytes t.order (byte_count t.size) a; spelled = record { rest = fixed_bytes t.order (byte_count t.size) a; operands = record { bytes = refl; fits = limit_bytes t.size a h }; whole = refl }; within_list = tt }
-in_range_so t len Deref y h = record { bytes = 0x06 ∷ []; spelled = refl; within_list = tt }
 in_range_so t len (Const v) y h =
     let operand : Code 0x0e (Unsigned (Fixed t.order 8) (pos v)) (0x0e ∷ fixed_bytes t.order 8 v) = record { rest = fixed_bytes t.order 8 v; operands = record { number = v; is = refl; spelled = record { bytes = refl; fits = limit_most t.size v h } }; whole = refl } in
     record { bytes = 0x0e ∷ fixed_bytes t.order 8 v; spelled = record { form = Const8u; number = pos v; written = operand; value = let e : v % address_limit t.size ≡ v = mod-eq_of_lt h in omega arith }; within_list = tt }
-in_range_so t len Dup y h = record { bytes = 0x12 ∷ []; spelled = refl; within_list = tt }
-in_range_so t len Drop y h = record { bytes = 0x13 ∷ []; spelled = refl; within_list = tt }
-in_range_so t len Over y h = record { bytes = 0x14 ∷ []; spelled = refl; within_list = tt }
 in_range_so t len (Pick i) y h = record { bytes = 0x15 ∷ fixed_bytes t.order 1 i; spelled = record { rest = fixed_bytes t.order 1 i; operands = record { bytes = refl; fits = omega arith }; whole = refl }; within_list = tt }
-in_range_so t len Swap y h = record { bytes = 0x16 ∷ []; spelled = refl; within_list = tt }
-in_range_so t len Rot y h = record { bytes = 0x17 ∷ []; spelled = refl; within_list = tt }
-in_range_so t len Abs y h = record { bytes = 0x19 ∷ []; spelled = refl; within_list = tt }
-in_range_so t len And y h = record { bytes = 0x1a ∷ []; spelled = refl; within_list = tt }
-in_range_so t len Div y h = record { bytes = 0x1b ∷ []; spelled = refl; within_list = tt }
-in_range_so t len Minus y h = record { bytes = 0x1c ∷ []; spelled = refl; within_list = tt }
-in_range_so t len Mod y h = record { bytes = 0x1d ∷ []; spelled = refl; within_list = tt }
-in_range_so t len Mul y h = record { bytes = 0x1e ∷ []; spelled = refl; within_list = tt }
-in_range_so t len Neg y h = record { bytes = 0x1f ∷ []; spelled = refl; within_list = tt }
-in_range_so t len Not y h = record { bytes = 0x20 ∷ []; spelled = refl; within_list = tt }
-in_range_so t len Or y h = record { bytes = 0x21 ∷ []; spelled = refl; within_list = tt }
-in_range_so t len Plus y h = record { bytes = 0x22 ∷ []; spelled = refl; within_list = tt }
 in_range_so t len (PlusUconst n) y h = record { bytes = 0x23 ∷ shortest_uleb n; spelled = record { rest = shortest_uleb n; operands = shortest_uleb-spells n y; whole = refl }; within_list = tt }
-in_range_so t len Shl y h = record { bytes = 0x24 ∷ []; spelled = refl; within_list = tt }
-in_range_so t len Shr y h = record { bytes = 0x25 ∷ []; spelled = refl; within_list = tt }
-in_range_so t len Shra y h = record { bytes = 0x26 ∷ []; spelled = refl; within_list = tt }
-in_range_so t len Xor y h = record { bytes = 0x27 ∷ []; spelled = refl; within_list = tt }
 in_range_so t len (Bra i) y h = record { bytes = 0x28 ∷ 0 ∷ 0 ∷ []; spelled = record { rest = 0 ∷ 0 ∷ []; operands = (0, 0, omega arith, omega arith, refl); whole = refl }; within_list = h }
-in_range_so t len Eq y h = record { bytes = 0x29 ∷ []; spelled = refl; within_list = tt }
-in_range_so t len Ge y h = record { bytes = 0x2a ∷ []; spelled = refl; within_list = tt }
-in_range_so t len Gt y h = record { bytes = 0x2b ∷ []; spelled = refl; within_list = tt }
-in_range_so t len Le y h = record { bytes = 0x2c ∷ []; spelled = refl; within_list = tt }
-in_range_so t len Lt y h = record { bytes = 0x2d ∷ []; spelled = refl; within_list = tt }
-in_range_so t len Ne y h = record { bytes = 0x2e ∷ []; spelled = refl; within_list = tt }
 in_range_so t len (Skip i) y h = record { bytes = 0x2f ∷ 0 ∷ 0 ∷ []; spelled = record { rest = 0 ∷ 0 ∷ []; operands = (0, 0, omega arith, omega arith, refl); whole = refl }; within_list = h }
 in_range_so t len (Reg r) y h = record { bytes = 0x90 ∷ shortest_uleb r; spelled = inr (record { rest = shortest_uleb r; operands = (shortest_uleb-spells r (omega arith), y); whole = refl }); within_list = tt }
 in_range_so t len (Breg r n) y h =
@@ -75,16 +50,13 @@ in_range_so t len (Breg r n) y h =
 in_range_so t len (Fbreg n) y h = record { bytes = 0x91 ∷ shortest_sleb n; spelled = record { rest = shortest_sleb n; operands = shortest_sleb-spells n y; whole = refl }; within_list = tt }
 in_range_so t len (Piece n) y h = record { bytes = 0x93 ∷ shortest_uleb n; spelled = record { rest = shortest_uleb n; operands = shortest_uleb-spells n y; whole = refl }; within_list = tt }
 in_range_so t len (DerefSize k) y h = record { bytes = 0x94 ∷ fixed_bytes t.order 1 k; spelled = (record { rest = fixed_bytes t.order 1 k; operands = record { bytes = refl; fits = omega arith }; whole = refl }, h.0, h.1); within_list = tt }
-in_range_so t len Nop y h = record { bytes = 0x96 ∷ []; spelled = refl; within_list = tt }
-in_range_so t len PushObjectAddress y h = record { bytes = 0x97 ∷ []; spelled = refl; within_list = tt }
-in_range_so t len CallFrameCfa y h = record { bytes = 0x9c ∷ []; spelled = refl; within_list = tt }
 in_range_so t len (BitPiece size offset) y h =
     let both : Both (Uleb size) (Uleb offset) (shortest_uleb size ++ shortest_uleb offset) = record { front = shortest_uleb size; back = shortest_uleb offset; first = shortest_uleb-spells size y.0; second = shortest_uleb-spells offset y.1; whole = refl } in
     record { bytes = 0x9d ∷ (shortest_uleb size ++ shortest_uleb offset); spelled = record { rest = shortest_uleb size ++ shortest_uleb offset; operands = both; whole = refl }; within_list = tt }
 in_range_so t len (Implicit block) y h =
     let counted : Counted block.now (shortest_uleb (length block.now) ++ block.now) = record { front = shortest_uleb (length block.now); back = block.now; first = shortest_uleb-spells (length block.now) y; second = refl; whole = refl } in
     record { bytes = 0x9e ∷ (shortest_uleb (length block.now) ++ block.now); spelled = (refl, record { rest = shortest_uleb (length block.now) ++ block.now; operands = counted; whole = refl }); within_list = tt }
-in_range_so t len StackValue y h = record { bytes = 0x9f ∷ []; spelled = refl; within_list = tt }
+in_range_so t len other y h = record { bytes = alone_code other ∷ []; spelled = refl; within_list = tt }
 
 pub in_range : (t : Target) (len : ℕ) (op : Op) → IsTyped op → Fits t len op → InRange t len (bare op)
 in_range t len op y h = so_range t len (bare op) (in_range_so t len op y h)
@@ -94,8 +66,7 @@ in_range t len op y h = so_range t len (bare op) (in_range_so t len op y h)
 pub modulo_below : (s : Size) (z : ℤ) → modulo (address_limit s) z < address_limit s
 modulo_below Four (pos n) = mod-lt n (omega arith)
 modulo_below Eight (pos n) = mod-lt n (omega arith)
-modulo_below Four (negsuc n) = omega arith
-modulo_below Eight (negsuc n) = omega arith
+modulo_below s z = omega arith
 
 address_below : (s : Size) (a : ℕ) → a < 256 ^ byte_count s → a < address_limit s
 address_below Four a h = omega arith

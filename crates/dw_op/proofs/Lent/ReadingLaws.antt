@@ -202,10 +202,8 @@ jump_found branch i new step h e =
     front_bytes (x ∷ front) rest h (suc k) = front_bytes front rest (λ j. h (suc j)) k
 
     two_all : (t : Target) (b : List ℕ) → length b ≡ 2 → AreBytes b → Fixed t.order 2 (fixed_number t.order 2 b) b
-    two_all t [] len are = absurd (omega arith)
-    two_all t (x ∷ []) len are = absurd (omega arith)
     two_all t (x ∷ y ∷ []) len are = is_fixed t.order 2 (x ∷ y ∷ []) (inr (inl refl)) (omega arith) are
-    two_all t (x ∷ y ∷ z ∷ b) len are = absurd (omega arith)
+    two_all t b len are = absurd (omega arith)
 
 long_breg_found : (i new : Input) (step : Step) → AreBytes i.bytes → long_breg_step i ≡ done (step, new) → StepFound i.target 0x92 i step new
 unfolding long_breg_step breg_step

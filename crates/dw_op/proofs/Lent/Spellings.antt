@@ -7,7 +7,8 @@ use Rattle.dw_num.specs.declared.target.Target.{Target}
 use Rattle.dw_num.specs.Leb.{Uleb, Sleb, Register}
 use Rattle.dw_num.specs.Fixed.{Fixed, FixedSigned, Address}
 use Rattle.dw_op.specs.declared.op.Op.{Op}
-use Rattle.dw_op.specs.declared.op.Op.TheVariants.{Addr, Deref, Const, Dup, Drop, Over, Pick, Swap, Rot, Abs, And, Div, Minus, Mod, Mul, Neg, Not, Or, Plus, PlusUconst, Shl, Shr, Shra, Xor, Bra, Eq, Ge, Gt, Le, Lt, Ne, Skip, Reg, Breg, Fbreg, Piece, DerefSize, Nop, PushObjectAddress, CallFrameCfa, BitPiece, Implicit, StackValue}
+use Rattle.dw_op.specs.declared.op.Op.TheVariants.{Addr, Const, Pick, PlusUconst, Bra, Skip, Reg, Breg, Fbreg, Piece, DerefSize, BitPiece, Implicit}
+use Rattle.dw_op.specs.Codes.{alone_code}
 use Rattle.dw_op.specs.Operands.{Field, fixed, twos, address, unsigned, signed, register, size, block, Value, Form, none, one, two, branch, constant, natural, implicit, form_table, in_range, form_of}
 use Rattle.dw_op.specs.Block.{branch_target}
 use Rattle.dw_op.specs.Least.{AtMost, Least}
@@ -18,191 +19,61 @@ use Rattle.dw_op.proofs.Lent.ReadingLaws.{EachEntry, looked_up, range_is, some_i
 
 -- ---- from the table
 
-module _ (t : Target) where
-  -- what spells a form behind a code spells its operation
-  abbrev FormSo : Form → ℕ → Type 0
-  FormSo form code = (op : Op) (b : List ℕ) → FormSpells t form op b → IsSpelled t op (code ∷ b)
+infixr 2 ◌&◌
+◌&◌ : {A B : Type 0} → A → B → A × B
+a & b = (a, b)
 
+module _ (t : Target) where
   made_so : (made op : Op) (b : List ℕ) → op ≡ made → IsSpelled t made b → IsSpelled t op b
   made_so made op b e h = subst (λ (o : Op). IsSpelled t o b) (sym e) h
 
-  alone_so : (made : Op) (code : ℕ) → IsSpelled t made (code ∷ []) → FormSo (none made) code
-  alone_so made code h op b s = made_so made op (code ∷ b) s.0 (subst (λ (c : List ℕ). IsSpelled t made (code ∷ c)) (sym s.1) h)
+  -- what a form's operands spell behind a code
+  abbrev FormSo : Form → ℕ → Type 0
+  FormSo (none made) code = IsSpelled t made (code ∷ [])
+  FormSo (one o make) code = (x : Value o) (b : List ℕ) → Spells t o x b → IsSpelled t (make x) (code ∷ b)
+  FormSo (two o p make) code = (x : Value o) (y : Value p) (b : List ℕ) → Both (Spells t o x) (Spells t p y) b → IsSpelled t (make x y) (code ∷ b)
+  FormSo (branch to) code = (i : ℕ) (b : List ℕ) → AnyTwo b → IsSpelled t (to i) (code ∷ b)
 
-  one_so : (o : Field) (make : Value o → Op) (code : ℕ) → ((x : Value o) (b : List ℕ) → Spells t o x b → IsSpelled t (make x) (code ∷ b)) → FormSo (one o make) code
-  one_so o make code h op b s = made_so (make s.0) op (code ∷ b) s.1 (h s.0 b s.2)
+  form_so : (form : Form) (code : ℕ) (op : Op) (b : List ℕ) → FormSo form code → FormSpells t form op b → IsSpelled t op (code ∷ b)
+  form_so (none made) code op b h s = made_so made op (code ∷ b) s.0 (subst (λ (c : List ℕ). IsSpelled t made (code ∷ c)) (sym s.1) h)
+  form_so (one o make) code op b h s = made_so (make s.0) op (code ∷ b) s.1 (h s.0 b s.2)
+  form_so (two o p make) code op b h s = made_so (make s.0 s.1) op (code ∷ b) s.2 (h s.0 s.1 b s.3)
+  form_so (branch to) code op b h s = made_so (to s.0) op (code ∷ b) s.1 (h s.0 b s.2)
 
-  two_so : (o p : Field) (make : Value o → Value p → Op) (code : ℕ) → ((x : Value o) (y : Value p) (b : List ℕ) → Both (Spells t o x) (Spells t p y) b → IsSpelled t (make x y) (code ∷ b)) → FormSo (two o p make) code
-  two_so o p make code h op b s = made_so (make s.0 s.1) op (code ∷ b) s.2 (h s.0 s.1 b s.3)
+  natural_so : (form : ConstForm) (x : ℕ) (b : List ℕ) → Written t.order form (pos x) b → IsSpelled t (natural t x) b
+  natural_so form x b h = record { form = form; number = pos x; written = h; value = refl }
 
-  branch_so : (to : ℕ → Op) (code : ℕ) → ((i : ℕ) (b : List ℕ) → AnyTwo b → IsSpelled t (to i) (code ∷ b)) → FormSo (branch to) code
-  branch_so to code h op b s = made_so (to s.0) op (code ∷ b) s.1 (h s.0 b s.2)
+  constant_so : (form : ConstForm) (x : ℤ) (b : List ℕ) → Written t.order form x b → IsSpelled t (constant t x) b
+  constant_so form x b h = record { form = form; number = x; written = h; value = refl }
+
+  behind : {Operands : List ℕ → Type 0} (code : ℕ) (b : List ℕ) → Operands b → Code code Operands (code ∷ b)
+  behind code b s = record { rest = b; operands = s; whole = refl }
+
+  number : (Spells : ℕ → List ℕ → Type 0) (x : ℕ) (b : List ℕ) → Spells x b → Unsigned Spells (pos x) b
+  number Spells x b s = record { number = x; is = refl; spelled = s }
 
   table_so : EachEntry FormSo (form_table t)
-  table_so = (
-    one_so address Addr 0x03 (λ x b s. record { rest = b; operands = s; whole = refl }),
-    (
-      alone_so Deref 0x06 refl,
-      (
-        one_so (fixed 1) (natural t) 0x08 (λ x b s. record { form = Const1u; number = pos x; written = record { rest = b; operands = record { number = x; is = refl; spelled = s }; whole = refl }; value = refl }),
-        (
-          one_so (twos w8) (constant t) 0x09 (λ x b s. record { form = Const1s; number = x; written = record { rest = b; operands = s; whole = refl }; value = refl }),
-          (
-            one_so (fixed 2) (natural t) 0x0a (λ x b s. record { form = Const2u; number = pos x; written = record { rest = b; operands = record { number = x; is = refl; spelled = s }; whole = refl }; value = refl }),
-            (
-              one_so (twos w16) (constant t) 0x0b (λ x b s. record { form = Const2s; number = x; written = record { rest = b; operands = s; whole = refl }; value = refl }),
-              (
-                one_so (fixed 4) (natural t) 0x0c (λ x b s. record { form = Const4u; number = pos x; written = record { rest = b; operands = record { number = x; is = refl; spelled = s }; whole = refl }; value = refl }),
-                (
-                  one_so (twos w32) (constant t) 0x0d (λ x b s. record { form = Const4s; number = x; written = record { rest = b; operands = s; whole = refl }; value = refl }),
-                  (
-                    one_so (fixed 8) (natural t) 0x0e (λ x b s. record { form = Const8u; number = pos x; written = record { rest = b; operands = record { number = x; is = refl; spelled = s }; whole = refl }; value = refl }),
-                    (
-                      one_so (twos w64) (constant t) 0x0f (λ x b s. record { form = Const8s; number = x; written = record { rest = b; operands = s; whole = refl }; value = refl }),
-                      (
-                        one_so unsigned (natural t) 0x10 (λ x b s. record { form = Constu; number = pos x; written = record { rest = b; operands = record { number = x; is = refl; spelled = s }; whole = refl }; value = refl }),
-                        (
-                          one_so signed (constant t) 0x11 (λ x b s. record { form = Consts; number = x; written = record { rest = b; operands = s; whole = refl }; value = refl }),
-                          (
-                            alone_so Dup 0x12 refl,
-                            (
-                              alone_so Drop 0x13 refl,
-                              (
-                                alone_so Over 0x14 refl,
-                                (
-                                  one_so (fixed 1) Pick 0x15 (λ x b s. record { rest = b; operands = s; whole = refl }),
-                                  (
-                                    alone_so Swap 0x16 refl,
-                                    (
-                                      alone_so Rot 0x17 refl,
-                                      (
-                                        alone_so Abs 0x19 refl,
-                                        (
-                                          alone_so And 0x1a refl,
-                                          (
-                                            alone_so Div 0x1b refl,
-                                            (
-                                              alone_so Minus 0x1c refl,
-                                              (
-                                                alone_so Mod 0x1d refl,
-                                                (
-                                                  alone_so Mul 0x1e refl,
-                                                  (
-                                                    alone_so Neg 0x1f refl,
-                                                    (
-                                                      alone_so Not 0x20 refl,
-                                                      (
-                                                        alone_so Or 0x21 refl,
-                                                        (
-                                                          alone_so Plus 0x22 refl,
-                                                          (
-                                                            one_so unsigned PlusUconst 0x23 (λ x b s. record { rest = b; operands = s; whole = refl }),
-                                                            (
-                                                              alone_so Shl 0x24 refl,
-                                                              (
-                                                                alone_so Shr 0x25 refl,
-                                                                (
-                                                                  alone_so Shra 0x26 refl,
-                                                                  (
-                                                                    alone_so Xor 0x27 refl,
-                                                                    (
-                                                                      branch_so Bra 0x28 (λ i b s. record { rest = b; operands = s; whole = refl }),
-                                                                      (
-                                                                        alone_so Eq 0x29 refl,
-                                                                        (
-                                                                          alone_so Ge 0x2a refl,
-                                                                          (
-                                                                            alone_so Gt 0x2b refl,
-                                                                            (
-                                                                              alone_so Le 0x2c refl,
-                                                                              (
-                                                                                alone_so Lt 0x2d refl,
-                                                                                (
-                                                                                  alone_so Ne 0x2e refl,
-                                                                                  (
-                                                                                    branch_so Skip 0x2f (λ i b s. record { rest = b; operands = s; whole = refl }),
-                                                                                    (
-                                                                                      one_so register Reg 0x90 (λ x b s. inr (record { rest = b; operands = s; whole = refl })),
-                                                                                      (
-                                                                                        one_so signed Fbreg 0x91 (λ x b s. record { rest = b; operands = s; whole = refl }),
-                                                                                        (
-                                                                                          two_so register signed Breg 0x92 (λ x y b s. inr (record { rest = b; operands = s; whole = refl })),
-                                                                                          (
-                                                                                            one_so unsigned Piece 0x93 (λ x b s. record { rest = b; operands = s; whole = refl }),
-                                                                                            (
-                                                                                              one_so size DerefSize 0x94 (λ x b s. (record { rest = b; operands = s.0; whole = refl }, s.1, s.2)),
-                                                                                              (
-                                                                                                alone_so Nop 0x96 refl,
-                                                                                                (
-                                                                                                  alone_so PushObjectAddress 0x97 refl,
-                                                                                                  (
-                                                                                                    alone_so CallFrameCfa 0x9c refl,
-                                                                                                    (
-                                                                                                      two_so unsigned unsigned BitPiece 0x9d (λ x y b s. record { rest = b; operands = s; whole = refl }),
-                                                                                                      (
-                                                                                                        one_so block implicit 0x9e (λ x b s. (refl, record { rest = b; operands = s; whole = refl })),
-                                                                                                        (alone_so StackValue 0x9f refl, tt),
-                                                                                                      ),
-                                                                                                    ),
-                                                                                                  ),
-                                                                                                ),
-                                                                                              ),
-                                                                                            ),
-                                                                                          ),
-                                                                                        ),
-                                                                                      ),
-                                                                                    ),
-                                                                                  ),
-                                                                                ),
-                                                                              ),
-                                                                            ),
-                                                                          ),
-                                                                        ),
-                                                                      ),
-                                                                    ),
-                                                                  ),
-                                                                ),
-                                                              ),
-                                                            ),
-                                                          ),
-                                                        ),
-                                                      ),
-                                                    ),
-                                                  ),
-                                                ),
-                                              ),
-                                            ),
-                                          ),
-                                        ),
-                                      ),
-                                    ),
-                                  ),
-                                ),
-                              ),
-                            ),
-                          ),
-                        ),
-                      ),
-                    ),
-                  ),
-                ),
-              ),
-            ),
-          ),
-        ),
-      ),
-    ),
-  )
+  table_so =
+      (λ x. behind 0x03) & refl
+      & (λ x b s. natural_so Const1u x (0x08 ∷ b) (behind 0x08 b (number (Fixed t.order 1) x b s)))
+      & (λ x b s. constant_so Const1s x (0x09 ∷ b) (behind 0x09 b s))
+      & (λ x b s. natural_so Const2u x (0x0a ∷ b) (behind 0x0a b (number (Fixed t.order 2) x b s)))
+      & (λ x b s. constant_so Const2s x (0x0b ∷ b) (behind 0x0b b s))
+      & (λ x b s. natural_so Const4u x (0x0c ∷ b) (behind 0x0c b (number (Fixed t.order 4) x b s)))
+      & (λ x b s. constant_so Const4s x (0x0d ∷ b) (behind 0x0d b s))
+      & (λ x b s. natural_so Const8u x (0x0e ∷ b) (behind 0x0e b (number (Fixed t.order 8) x b s)))
+      & (λ x b s. constant_so Const8s x (0x0f ∷ b) (behind 0x0f b s))
+      & (λ x b s. natural_so Constu x (0x10 ∷ b) (behind 0x10 b (number Uleb x b s)))
+      & (λ x b s. constant_so Consts x (0x11 ∷ b) (behind 0x11 b s))
+      & refl & refl & refl & (λ x. behind 0x15)
+      & refl & refl & refl & refl & refl & refl & refl & refl & refl & refl & refl & refl & (λ x. behind 0x23)
+      & refl & refl & refl & refl & (λ i. behind 0x28) & refl & refl & refl & refl & refl & refl & (λ i. behind 0x2f)
+      & (λ x b s. inr (behind 0x90 b s)) & (λ x. behind 0x91) & (λ x y b s. inr (behind 0x92 b s)) & (λ x. behind 0x93)
+      & (λ x b s. (behind 0x94 b s.0, s.1, s.2)) & refl & refl & refl & (λ x y. behind 0x9d)
+      & (λ x b s. (refl, behind 0x9e b s)) & refl & tt
 
   lit_so : (code n : ℕ) → code ≡ 0x30 + n → n < 32 → FormSo (none (Const n)) code
-  lit_so code n is lt =
-      alone_so (Const n) code (record { form = Lit; number = pos n; written = record { number = n; is = refl; spelled = (lt, ap (λ (c : ℕ). c ∷ []) is) }; value = small_const t.size n (omega arith) })
-
-  reg_so : (code n : ℕ) → code ≡ 0x50 + n → n < 32 → FormSo (none (Reg n)) code
-  reg_so code n is lt = alone_so (Reg n) code (inl (lt, ap (λ (c : ℕ). c ∷ []) is))
-
-  breg_so : (code n : ℕ) → code ≡ 0x70 + n → n < 32 → FormSo (one signed (Breg n)) code
-  breg_so code n is lt = one_so signed (Breg n) code (λ z b s. inl (lt, record { rest = b; operands = s; whole = ap (λ (c : ℕ). c ∷ b) is }))
+  lit_so code n is lt = record { form = Lit; number = pos n; written = record { number = n; is = refl; spelled = (lt, ap (λ (c : ℕ). c ∷ []) is) }; value = small_const t.size n (omega arith) }
 
   known_so : (code : ℕ) (form : Form) → form_of t code ≡ Some form → FormSo form code
   unfolding form_of
@@ -213,11 +84,11 @@ module _ (t : Target) where
     | inr n ↦ let e1 = rw n at e in elim (cases_Bool (in_range 0x50 0x70 code)) [
       | inl y ↦
           let r = range_is 0x50 0x70 code y in
-          subst (λ (x : Form). FormSo x code) (some_is (none (Reg (code - 0x50))) form (rw y at e1)) (reg_so code (code - 0x50) (omega (arith, r.0)) (omega (arith, r.0, r.1)))
+          subst (λ (x : Form). FormSo x code) (some_is (none (Reg (code - 0x50))) form (rw y at e1)) (inl (omega (arith, r.0, r.1), ap (λ (c : ℕ). c ∷ []) (omega (arith, r.0))))
       | inr n ↦ let e2 = rw n at e1 in elim (cases_Bool (in_range 0x70 0x90 code)) [
         | inl y ↦
             let r = range_is 0x70 0x90 code y in
-            subst (λ (x : Form). FormSo x code) (some_is (one signed (Breg (code - 0x70))) form (rw y at e2)) (breg_so code (code - 0x70) (omega (arith, r.0)) (omega (arith, r.0, r.1)))
+            subst (λ (x : Form). FormSo x code) (some_is (one signed (Breg (code - 0x70))) form (rw y at e2)) (λ z b s. inl (omega (arith, r.0, r.1), record { rest = b; operands = s; whole = ap (λ (c : ℕ). c ∷ b) (omega (arith, r.0)) }))
         | inr n ↦ looked_up FormSo (form_table t) code form table_so (rw n at e2)
       ]
     ]
@@ -225,7 +96,7 @@ module _ (t : Target) where
 
   -- what is spelled by the table is spelled so
   pub by_table : (op : Op) (b : List ℕ) → OpSpells t op b → IsSpelled t op b
-  by_table op b h = subst (IsSpelled t op) (sym h.whole) (known_so h.code h.form h.known op h.rest h.operands)
+  by_table op b h = subst (IsSpelled t op) (sym h.whole) (form_so h.form h.code op h.rest (known_so h.code h.form h.known) h.operands)
 
 -- ---- into it
 
@@ -282,36 +153,6 @@ module _ (t : Target) where
   -- what is spelled so is spelled by the table
   pub in_table : (op : Op) (b : List ℕ) → IsSpelled t op b → OpSpells t op b
   unfolding form_of
-  in_table Deref b h = alone 0x06 Deref b h refl
-  in_table Dup b h = alone 0x12 Dup b h refl
-  in_table Drop b h = alone 0x13 Drop b h refl
-  in_table Over b h = alone 0x14 Over b h refl
-  in_table Swap b h = alone 0x16 Swap b h refl
-  in_table Rot b h = alone 0x17 Rot b h refl
-  in_table Abs b h = alone 0x19 Abs b h refl
-  in_table And b h = alone 0x1a And b h refl
-  in_table Div b h = alone 0x1b Div b h refl
-  in_table Minus b h = alone 0x1c Minus b h refl
-  in_table Mod b h = alone 0x1d Mod b h refl
-  in_table Mul b h = alone 0x1e Mul b h refl
-  in_table Neg b h = alone 0x1f Neg b h refl
-  in_table Not b h = alone 0x20 Not b h refl
-  in_table Or b h = alone 0x21 Or b h refl
-  in_table Plus b h = alone 0x22 Plus b h refl
-  in_table Shl b h = alone 0x24 Shl b h refl
-  in_table Shr b h = alone 0x25 Shr b h refl
-  in_table Shra b h = alone 0x26 Shra b h refl
-  in_table Xor b h = alone 0x27 Xor b h refl
-  in_table Eq b h = alone 0x29 Eq b h refl
-  in_table Ge b h = alone 0x2a Ge b h refl
-  in_table Gt b h = alone 0x2b Gt b h refl
-  in_table Le b h = alone 0x2c Le b h refl
-  in_table Lt b h = alone 0x2d Lt b h refl
-  in_table Ne b h = alone 0x2e Ne b h refl
-  in_table Nop b h = alone 0x96 Nop b h refl
-  in_table PushObjectAddress b h = alone 0x97 PushObjectAddress b h refl
-  in_table CallFrameCfa b h = alone 0x9c CallFrameCfa b h refl
-  in_table StackValue b h = alone 0x9f StackValue b h refl
   in_table (Addr a) b h = coded 0x03 (one address Addr) (Addr a) b (Address t a) h refl (λ c s. (a, refl, s))
   in_table (Const v) b h = subst (λ (n : ℕ). OpSpells t (Const n) b) (sym h.value) (constant_in h.form h.number b h.written)
   in_table (Pick i) b h = coded 0x15 (one (fixed 1) Pick) (Pick i) b (Fixed t.order 1 i) h refl (λ c s. (i, refl, s))
@@ -329,6 +170,7 @@ module _ (t : Target) where
   in_table (Implicit bytes) b h =
       let same : Implicit bytes ≡ implicit bytes.now = ap (λ (p : ℕ × ℕ). Implicit (record { ref_ptr = p; now = bytes.now })) h.0 in
       coded 0x9e (one block implicit) (Implicit bytes) b (Counted bytes.now) h.1 refl (λ c s. (bytes.now, same, s))
+  in_table other b h = alone (alone_code other) other b h refl
 
 -- ---- ranges and least spellings
 

@@ -18,9 +18,6 @@ instrs-init c = (
   refl,
 )
 
-pub turn-requires-clause-known : goal.turn-requires-clause-known
-turn-requires-clause-known c k = c.instrs.invariant.2 ∙ c.requires.known k
-
 pub returns-then-machine-address-clause-last : goal.returns-then-machine-address-clause-last
 returns-then-machine-address-clause-last c le =
     let l = c.instrs in
@@ -39,14 +36,6 @@ returns-then-machine-address-clause-found c row e =
     let first = l.invariant.4 (starts_below f c.args.cursor.now c.args.machine.now a c.requires.never_falls row is) in
     let here = stops_here f l.cursor l.machine c.turn.new.cursor c.turn.new.machine c.in-Moved.ensures.turned a l.invariant.3 c.if-machine-address.true first in
     one_last (last_at a all.rows) c.turn.new.machine.states.row row (l.invariant.5 c.turn.new.machine.states.row here) is
-
-pub returns-then-machine-address-clause-fault : goal.returns-then-machine-address-clause-fault
-returns-then-machine-address-clause-fault c =
-    let l = c.instrs in
-    sym (fault_left c.args.factors l.cursor l.machine c.turn.new.cursor c.turn.new.machine c.in-Moved.ensures.turned c.from-address.result) ∙ l.invariant.2
-
-pub returns-in-Refused-clause-err : goal.returns-in-Refused-clause-err
-returns-in-Refused-clause-err c = sym c.instrs.invariant.2 ∙ ap (λ (o : Outcome). o.fault) c.in-Refused.ensures.turned
 
 pub instrs-preserved : goal.instrs-preserved
 instrs-preserved c =
@@ -104,15 +93,3 @@ pub returns-then-machine-address-clause-keeps : goal.returns-then-machine-addres
 returns-then-machine-address-clause-keeps c other all =
     let l = c.instrs in
     keeps_left c.args.factors l.cursor l.machine c.turn.new.cursor c.turn.new.machine c.in-Moved.ensures.turned c.from-address.result other (l.invariant.6 other all)
-
-pub returns-then-machine-address-clause-kept : goal.returns-then-machine-address-clause-kept
-returns-then-machine-address-clause-kept c = c.turn.ensures.kept ∙ c.instrs.invariant.7
-
-pub returns-in-Refused-clause-kept : goal.returns-in-Refused-clause-kept
-returns-in-Refused-clause-kept c = c.turn.ensures.kept ∙ c.instrs.invariant.7
-
-pub returns-in-OutOfMemory-clause-kept : goal.returns-in-OutOfMemory-clause-kept
-returns-in-OutOfMemory-clause-kept c = c.turn.ensures.kept ∙ c.instrs.invariant.7
-
-pub returns-clause-kept : goal.returns-clause-kept
-returns-clause-kept c = c.instrs.invariant.7

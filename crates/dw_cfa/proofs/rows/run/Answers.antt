@@ -11,11 +11,6 @@ returns-in_err-row-clause-refused c =
     c.new-steps.result c.rows.steps c.next.new.self c.rows.rows.items c.in_err-row.field-0.0
     c.new-steps.ensures.runs c.rows.invariant.1 c.rows.invariant.0 c.in_err-row.ensures.answers)
 
-pub returns-clause-rows : goal.returns-clause-rows
-returns-clause-rows c =
-    run_ended c.args.factors (program_input c.args.cie_program c.args.target) (program_input c.args.fde_program c.args.target) c.args.begin c.are_bytes.ensures c.are_bytes-2.ensures
-    (omega (arith, c.requires)) c.new-steps.result c.rows.steps c.next.new.self c.rows.rows.items c.in_ok-row.field-0 c.new-steps.ensures.runs c.rows.invariant.1 c.in_default.not-Some c.in_ok-row.ensures.answers
-
 pub returns-clause-only : goal.returns-clause-only
 returns-clause-only c rows given =
     let found = run_ended c.args.factors (program_input c.args.cie_program c.args.target) (program_input c.args.fde_program c.args.target) c.args.begin c.are_bytes.ensures c.are_bytes-2.ensures

@@ -2,11 +2,8 @@ use Rattle.std.proofs.Common.{arith, subst}
 use Rattle.dw_cfa.specs.CieMachine.{Following}
 use Rattle.dw_cfa.specs.Rows.{AreSpecified}
 use Rattle.dw_cfa.specs.RowSteps.{program_input}
-use Rattle.dw_cfa.proofs.Lent.Given.{follow_run, follow_runs}
+use Rattle.dw_cfa.proofs.Lent.Given.{follow_runs}
 use Rattle.dw_cfa.proofs.cie_machine.CieMachine.begin.Goals as goal
-
-pub returns-clause-ok : goal.returns-clause-ok
-returns-clause-ok c = follow_run c.start.result c.args.self.now c.start.new.self _ c.start.ensures.ok
 
 pub returns-clause-runs : goal.returns-clause-runs
 returns-clause-runs c =

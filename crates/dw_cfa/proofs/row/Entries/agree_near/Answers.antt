@@ -1,7 +1,7 @@
-use Rattle.std.proofs.Common.{◌≡◌, ◌+◌, ◌<◌, arith, subst, ℕ}
+use Rattle.std.proofs.Common.{◌≡◌, ◌+◌, ◌<◌, arith}
 use Rattle.std.specs.Prelude.{◌/◌, ◌^◌}
 use Rattle.std.specs.Int.{trailing_zeros, w32}
-use Rattle.dw_cfa.specs.Inner.Entries.{entries_of, LeavesBelow}
+use Rattle.dw_cfa.specs.Inner.Entries.{entries_of}
 use Rattle.dw_cfa.specs.Agreement.{is_agreed}
 use Rattle.dw_cfa.proofs.Lent.Skipped.{none_more, up_to_used, below_more}
 use Rattle.dw_cfa.proofs.row.Entries.agree_near.Goals as goal
@@ -25,8 +25,3 @@ slots-preserved c =
     let next = up_to_used e c.slots.invariant.1 test k (entries_of c.args.self.now) fits c.slots-test.true some c.slots.invariant.2 in
     let q = k + trailing_zeros w32 (e.used / 2 ^ k) in
     (omega (arith, next.0), c.agree_at.ensures.so, below_more test q (entries_of c.args.self.now) (entries_of e) (entries_of c.agree_at.new.self) next.1 c.agree_at.ensures.rules)
-
-pub returns-clause-rules : goal.returns-clause-rules
-returns-clause-rules c =
-    let all : c.slots.register ≡ 32 = omega (arith, c.slots.invariant.0) in
-    subst (λ (n : ℕ). LeavesBelow (is_agreed (entries_of c.args.others.now)) n (entries_of c.args.self.now) (entries_of c.slots.self)) all c.slots.invariant.2
