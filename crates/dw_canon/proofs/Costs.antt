@@ -19,7 +19,9 @@ use Rattle.dw_cfa.specs.Agreement.{same_cfa, same_rule}
 use Rattle.dw_cfa.specs.Rows.{Rules, rule, is_specified}
 use Rattle.dw_section.specs.Inner.Sound.{CfaFits, RowFits}
 use Rattle.dw_canon.specs.Difference.{cfa_to, cfa_difference, rule_difference, either, difference}
-use Rattle.dw_canon.specs.Spelling.{expression_bytes, packed, instr_bytes, program_bytes}
+use Rattle.dw_canon.specs.Inner.Spelling.{expression_bytes, instr_bytes, program_bytes}
+use Rattle.dw_canon.specs.Spelling.{instr_bytes as instr_with}
+use Rattle.dw_canon.specs.Spelling.{packed}
 use Rattle.dw_canon.proofs.Shared.{specified_or}
 use Rattle.dw_canon.proofs.Sums.{sum_of}
 use Rattle.dw_canon.proofs.Weights.{rule_len, cfa_len, register_len, abs_len, neg_len, packed_len}
@@ -72,22 +74,22 @@ restore_either t r n a b e h k = elim (specified_or b) [
 -- ---- the CFA
 
 define_len : (t : Target) (r : ℕ) (n : ℤ) → r < 65536 → IsOffset n → length (instr_bytes t (DefCfa r n)) ≤ 14
-unfolding instr_bytes
+unfolding instr_with
 define_len t r n lt h = elim (cases_Bool (is_negative n)) [
   | inl e ↦ rw e (omega (arith, register_len r lt, neg_len n h, length-append (shortest_uleb r) (shortest_sleb (neg_ℤ n))))
   | inr e ↦ rw e (omega (arith, register_len r lt, abs_len n h, length-append (shortest_uleb r) (shortest_uleb (unsigned_abs n))))
 ]
 
 register_to_len : (t : Target) (r : ℕ) → r < 65536 → length (instr_bytes t (DefCfaRegister r)) ≤ 14
-unfolding instr_bytes
+unfolding instr_with
 register_to_len t r lt = omega (arith, register_len r lt)
 
 offset_to_len : (t : Target) (n : ℤ) → IsOffset n → length (instr_bytes t (DefCfaOffset n)) ≤ 14
-unfolding instr_bytes
+unfolding instr_with
 offset_to_len t n h = elim (cases_Bool (is_negative n)) [ inl e ↦ rw e (omega (arith, neg_len n h)) | inr e ↦ rw e (omega (arith, abs_len n h)) ]
 
 cfa_to_len : (t : Target) (old new : CfaRule) → CfaFits t new → length (program_bytes t (cfa_to old new)) ≤ 14 + cfa_len t new
-unfolding instr_bytes
+unfolding instr_with
 cfa_to_len t (cfa.Register r n) (cfa.Register q m) h = elim (cases_Bool (nat_eq r q)) [
   | inl e ↦ rw e (bytes_one t (DefCfaOffset m) 14 (offset_to_len t m h.1))
   | inr e ↦ elim (cases_Bool (int_eq n m)) [
@@ -112,7 +114,7 @@ cfa_difference_len t old new most h le = elim (cases_Bool (same_cfa old new)) [
 
 module _ (t : Target) (most : ℕ) (each : ℕ → ℕ) (initial old new : Rules) (left : (r : ℕ) → rule new r ≡ rules.Unspecified → rule_len t r (rule old r) ≤ each r) (k : RowWithin t most each new) where
   one_len : (r : ℕ) → length (program_bytes t (rule_difference initial old new r)) ≤ each r
-  unfolding instr_bytes
+  unfolding instr_with
   one_len r = elim (cases_Bool (same_rule (rule old r) (rule new r))) [
     | inl e ↦ rw e (omega arith)
     | inr e ↦ rw e (elim (cases_Bool (same_rule (rule new r) (rule initial r))) [

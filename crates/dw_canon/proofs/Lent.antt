@@ -3,6 +3,7 @@ pub mod Fields
 pub mod Readback
 pub mod Extra
 pub mod Layout
+pub mod Blocks
 pub mod Differences
 pub mod Programs
 pub mod InstrFits

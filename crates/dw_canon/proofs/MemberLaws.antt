@@ -38,7 +38,7 @@ use Rattle.dw_section.specs.Inner.Sound.{RowFits}
 use Rattle.dw_canon.specs.Inner.Fits.{ChangesStand, MemberStands}
 use Rattle.dw_canon.specs.Inner.Fits.{InstrFits}
 use Rattle.dw_canon.specs.Members.{Member, changes_of}
-use Rattle.dw_canon.specs.Spelling.{program_bytes}
+use Rattle.dw_canon.specs.Inner.Spelling.{program_bytes}
 use Rattle.dw_canon.specs.Inner.Written.{factors}
 use Rattle.dw_canon.proofs.Lent.Differences.{Quiet, quiet_more, on, difference_quiet}
 use Rattle.dw_canon.proofs.Lent.InstrFits.{all_more, blank_fits, nops_fit, member_fits, cie_fits, cie_allowed}

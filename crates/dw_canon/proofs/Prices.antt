@@ -19,7 +19,7 @@ use Rattle.dw_canon.specs.Difference.{difference, later_changes}
 use Rattle.dw_canon.specs.Inner.Fits.{RestsOn}
 use Rattle.dw_canon.specs.Group.{initial_row}
 use Rattle.dw_canon.specs.Members.{Member, IsMember, fde_of, changes_of}
-use Rattle.dw_canon.specs.Spelling.{program_bytes}
+use Rattle.dw_canon.specs.Inner.Spelling.{program_bytes}
 use Rattle.dw_canon.proofs.Costs.{bytes_more}
 use Rattle.dw_canon.proofs.Shared.{MemberFits, initial_fits, initial_or, initial_cfa_or}
 use Rattle.dw_canon.proofs.Lent.MemberPlaces.{all_both}

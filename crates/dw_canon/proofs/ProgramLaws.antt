@@ -12,7 +12,7 @@ use Rattle.dw_section.specs.Changes.{AreChanges}
 use Rattle.dw_canon.specs.Canon.{cie_instrs, fde_instrs}
 use Rattle.dw_canon.specs.Inner.Laws.{InitialProgram, MemberProgram, ChangesAreOne}
 use Rattle.dw_canon.specs.Members.{changes_of}
-use Rattle.dw_canon.specs.Spelling.{program_bytes}
+use Rattle.dw_canon.specs.Inner.Spelling.{program_bytes}
 use Rattle.dw_canon.specs.Inner.Written.{factors}
 use Rattle.dw_canon.proofs.MemberLaws.{cie_spelled, cie_kept, cie_cfa, cie_rules, member_spelled, member_kept, member_changes, member_starts}
 use Rattle.dw_section.proofs.Lent.Rowed.{one_changes, one_listed}

@@ -27,7 +27,9 @@ use Rattle.dw_cfa.specs.InstrSpells.{IsOffset, BlockSpells, InstrSpells, Program
 use Rattle.dw_cfa.proofs.Lent.Spellings.{Plain, Factored, SignedFactored, AdvanceSpells, RuleSpells, IsSpelled, in_table}
 use Rattle.dw_section.specs.Inner.Sound.{HasBlock, RuleFits}
 use Rattle.dw_canon.specs.Inner.Fits.{InstrFits}
-use Rattle.dw_canon.specs.Spelling.{expression_bytes, advance_bytes, packed, rule_bytes, instr_bytes, program_bytes}
+use Rattle.dw_canon.specs.Inner.Spelling.{expression_bytes, rule_bytes, instr_bytes, program_bytes}
+use Rattle.dw_canon.specs.Spelling.{instr_bytes as instr_with}
+use Rattle.dw_canon.specs.Spelling.{advance_bytes, packed}
 use Rattle.dw_canon.specs.Inner.Written.{factors}
 
 code : (c : ℕ) (P : List ℕ → Type 0) (rest : List ℕ) → P rest → Code c P (c ∷ rest)
@@ -142,7 +144,7 @@ fits_width Eight a lt = omega arith
 -- ---- instructions
 
 instr_spelled : (t : Target) (i : Instr) → InstrFits t i → IsSpelled t factors i (instr_bytes t i)
-unfolding instr_bytes
+unfolding instr_with
 instr_spelled t Nop h = refl
 instr_spelled t (SetLoc a) h = code 0x01 (Address t a) (fixed_bytes t.order (byte_count t.size) a) (record { bytes = refl; fits = fits_width t.size a h })
 instr_spelled t (Advance delta) h = (delta, advance_is t delta h, sym (times_one delta))

@@ -22,7 +22,8 @@ use Rattle.dw_cfa.specs.declared.rule.RegRule.TheVariants as rules
 use Rattle.dw_cfa.specs.InstrSpells.{IsOffset, BlockSpells, InstrSpells, Program}
 use Rattle.dw_cfa.proofs.Lent.Spellings.{AdvanceSpells, RuleSpells, IsSpelled, by_table}
 use Rattle.dw_cfa.specs.Location.{moves_location}
-use Rattle.dw_canon.specs.Spelling.{expression_bytes, packed, rule_bytes}
+use Rattle.dw_canon.specs.Inner.Spelling.{expression_bytes, rule_bytes}
+use Rattle.dw_canon.specs.Spelling.{packed}
 use Rattle.dw_canon.proofs.MemberLaws.{count_more}
 use Rattle.dw_canon.proofs.Sums.{sum_of, if_own}
 

@@ -26,7 +26,9 @@ use Rattle.dw_cfa.specs.Rows.{Rules, rule}
 use Rattle.dw_section.specs.Inner.Sound.{RowFits}
 use Rattle.dw_section.proofs.Lent.Sounds.{all_onto, back_keeps}
 use Rattle.dw_canon.specs.Difference.{registers_of, either, difference, move, later_changes}
-use Rattle.dw_canon.specs.Spelling.{advance_bytes, instr_bytes, program_bytes}
+use Rattle.dw_canon.specs.Inner.Spelling.{instr_bytes, program_bytes}
+use Rattle.dw_canon.specs.Spelling.{instr_bytes as instr_with}
+use Rattle.dw_canon.specs.Spelling.{advance_bytes}
 use Rattle.dw_canon.proofs.Costs.{RowWithin, bytes_more, difference_len}
 use Rattle.dw_canon.proofs.AscendingRegisters.{Rise, with_all_rise, keys_rise}
 use Rattle.dw_canon.proofs.Sums.{sum_of, sum_more, sum_none, once_own, sum_once}
@@ -96,7 +98,7 @@ advance_len order delta = elim (cases_Bool (nat_lt delta 64)) [
 ]
 
 move_len : (t : Target) (at to : ℕ) → length (instr_bytes t (move at to)) ≤ 9
-unfolding instr_bytes
+unfolding instr_with
 move_len t at to = elim (cases_Bool (nat_lt (to - at) (2 ^ 32))) [
   | inl e ↦ rw e (omega (arith, advance_len t.order (to - at)))
   | inr e ↦ rw e (omega (arith, width_len t.order t.size to))

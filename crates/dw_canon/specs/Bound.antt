@@ -4,10 +4,9 @@ use Rattle.std.specs.Prelude.{◌≡◌, ℕ, ◌+◌, ◌*◌, ◌≤◌, List,
 use Rattle.dw_num.specs.declared.target.Target.{Target}
 use Rattle.dw_num.specs.Input.{AreBytes}
 use Rattle.dw_section.specs.declared.lookup.Fde.{Fde}
-use Rattle.dw_section.specs.Accepted.{Accepted}
 use Rattle.dw_section.specs.Meaning.{HasLengths}
-use Rattle.dw_canon.specs.Canon.{canon}
-use Rattle.dw_canon.specs.Members.{Member, AreMembers, fde_of}
+use Rattle.dw_canon.specs.Members.{fde_of}
+use Rattle.dw_canon.specs.Normal.{IsNormalForm}
 
 -- six bytes for each of the programs', where a rule takes at most six times the bytes that give it, and some for one change more
 abbrev pub spread : ℕ → ℕ → ℕ
@@ -24,5 +23,4 @@ Shares target s (f ∷ fs) n = (own : ℕ) × (initial : ℕ) × (rest : ℕ) ×
 
 -- 24 times the length of the normal form of an accepted section is at most the shares of its FDEs
 abbrev pub WithinShares : Type 0
-WithinShares = (target : Target) (s : List ℕ) (ms : List Member) (n : ℕ) → AreBytes s → Accepted target s → AreMembers target s ms
-    → Shares target s (map fde_of ms) n → 24 * length (canon target ms) ≤ n
+WithinShares = (target : Target) (s n : List ℕ) (sum : ℕ) → AreBytes s → (h : IsNormalForm target s n) → Shares target s (map fde_of h.members) sum → 24 * length n ≤ sum

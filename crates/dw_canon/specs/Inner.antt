@@ -4,3 +4,5 @@ pub mod Laid
 pub mod Written
 pub mod Laws
 pub mod Renders
+pub mod Spelling
+pub mod Canon

@@ -1,5 +1,5 @@
 -- The bytes of an instruction in the normal form: DWARF 5, 7.24, where the code factor is 1 and the data factor is -1. Each
--- number has its shortest spelling, and each block its least one.
+-- number has its shortest spelling, and `block` gives an expression's operations theirs.
 use Rattle.std.specs.Prelude.{ℕ, ◌+◌, ◌++◌, neg_ℤ, unsigned_abs, List, [], ◌∷◌, length, nat_lt, if◌then◌else◌}
 use Rattle.std.specs.Int.{is_negative, is_positive}
 use Rattle.std.specs.List.{flat_map}
@@ -8,7 +8,7 @@ use Rattle.dw_num.specs.declared.target.Target.{Target}
 use Rattle.dw_num.specs.Fixed.{fixed_bytes}
 use Rattle.dw_num.specs.Shortest.{shortest_uleb, shortest_sleb}
 use Rattle.dw_num.specs.Target.{byte_count}
-use Rattle.dw_op.specs.LeastBlock.{least_block}
+use Rattle.dw_op.specs.declared.op.Op.{Op}
 use Rattle.dw_op.specs.Expression.{Expression}
 use Rattle.dw_cfa.specs.declared.instr.Instr.{Instr}
 use Rattle.dw_cfa.specs.declared.instr.Instr.TheVariants.{Nop, SetLoc, Advance, DefCfa, DefCfaRegister, DefCfaOffset, DefCfaExpression, Set, Restore, RememberState, RestoreState}
@@ -19,8 +19,8 @@ use Rattle.dw_cfa.specs.declared.rule.RegRule.TheVariants as rules
 abbrev pub counted : List ℕ → List ℕ
 counted block = shortest_uleb (length block) ++ block
 
-abbrev pub expression_bytes : Target → Expression → List ℕ
-expression_bytes t e = counted (least_block t e.ops)
+abbrev pub expression_bytes : (List Op → List ℕ) → Expression → List ℕ
+expression_bytes block e = counted (block e.ops)
 
 -- the shortest advance
 abbrev pub advance_bytes : Order → ℕ → List ℕ
@@ -33,35 +33,35 @@ advance_bytes order delta =
 abbrev pub packed : ℕ → ℕ → ℕ → List ℕ
 packed low code r = if nat_lt r 64 then (low + r) ∷ [] else code ∷ shortest_uleb r
 
-abbrev pub rule_bytes : Target → ℕ → RegRule → List ℕ
+abbrev pub rule_bytes : (List Op → List ℕ) → ℕ → RegRule → List ℕ
 -- no instruction gives it
-rule_bytes t r rules.Unspecified = []
-rule_bytes t r rules.Undefined = 0x07 ∷ shortest_uleb r
-rule_bytes t r rules.SameValue = 0x08 ∷ shortest_uleb r
+rule_bytes block r rules.Unspecified = []
+rule_bytes block r rules.Undefined = 0x07 ∷ shortest_uleb r
+rule_bytes block r rules.SameValue = 0x08 ∷ shortest_uleb r
 -- an offset that is not above 0 is an unsigned operand times -1
-rule_bytes t r (rules.Offset n) =
+rule_bytes block r (rules.Offset n) =
     if is_positive n then 0x11 ∷ (shortest_uleb r ++ shortest_sleb (neg_ℤ n)) else packed 0x80 0x05 r ++ shortest_uleb (unsigned_abs n)
-rule_bytes t r (rules.ValOffset n) =
+rule_bytes block r (rules.ValOffset n) =
     if is_positive n then 0x15 ∷ (shortest_uleb r ++ shortest_sleb (neg_ℤ n)) else 0x14 ∷ (shortest_uleb r ++ shortest_uleb (unsigned_abs n))
-rule_bytes t r (rules.Register q) = 0x09 ∷ (shortest_uleb r ++ shortest_uleb q)
-rule_bytes t r (rules.Expression e) = 0x10 ∷ (shortest_uleb r ++ expression_bytes t e)
-rule_bytes t r (rules.ValExpression e) = 0x16 ∷ (shortest_uleb r ++ expression_bytes t e)
+rule_bytes block r (rules.Register q) = 0x09 ∷ (shortest_uleb r ++ shortest_uleb q)
+rule_bytes block r (rules.Expression e) = 0x10 ∷ (shortest_uleb r ++ expression_bytes block e)
+rule_bytes block r (rules.ValExpression e) = 0x16 ∷ (shortest_uleb r ++ expression_bytes block e)
 
-unfoldable pub instr_bytes : Target → Instr → List ℕ
-instr_bytes t Nop = 0x00 ∷ []
-instr_bytes t (SetLoc a) = 0x01 ∷ fixed_bytes t.order (byte_count t.size) a
-instr_bytes t (Advance delta) = advance_bytes t.order delta
+unfoldable pub instr_bytes : (List Op → List ℕ) → Target → Instr → List ℕ
+instr_bytes block t Nop = 0x00 ∷ []
+instr_bytes block t (SetLoc a) = 0x01 ∷ fixed_bytes t.order (byte_count t.size) a
+instr_bytes block t (Advance delta) = advance_bytes t.order delta
 -- the CFA's offset has no factor where it is not negative, else the factor -1
-instr_bytes t (DefCfa r n) =
+instr_bytes block t (DefCfa r n) =
     if is_negative n then 0x12 ∷ (shortest_uleb r ++ shortest_sleb (neg_ℤ n)) else 0x0c ∷ (shortest_uleb r ++ shortest_uleb (unsigned_abs n))
-instr_bytes t (DefCfaRegister r) = 0x0d ∷ shortest_uleb r
-instr_bytes t (DefCfaOffset n) = if is_negative n then 0x13 ∷ shortest_sleb (neg_ℤ n) else 0x0e ∷ shortest_uleb (unsigned_abs n)
-instr_bytes t (DefCfaExpression e) = 0x0f ∷ expression_bytes t e
-instr_bytes t (Set r rule) = rule_bytes t r rule
-instr_bytes t (Restore r) = packed 0xc0 0x06 r
+instr_bytes block t (DefCfaRegister r) = 0x0d ∷ shortest_uleb r
+instr_bytes block t (DefCfaOffset n) = if is_negative n then 0x13 ∷ shortest_sleb (neg_ℤ n) else 0x0e ∷ shortest_uleb (unsigned_abs n)
+instr_bytes block t (DefCfaExpression e) = 0x0f ∷ expression_bytes block e
+instr_bytes block t (Set r rule) = rule_bytes block r rule
+instr_bytes block t (Restore r) = packed 0xc0 0x06 r
 -- the normal form has neither
-instr_bytes t RememberState = 0x0a ∷ []
-instr_bytes t RestoreState = 0x0b ∷ []
+instr_bytes block t RememberState = 0x0a ∷ []
+instr_bytes block t RestoreState = 0x0b ∷ []
 
-abbrev pub program_bytes : Target → List Instr → List ℕ
-program_bytes t instrs = flat_map (instr_bytes t) instrs
+abbrev pub program_bytes : (List Op → List ℕ) → Target → List Instr → List ℕ
+program_bytes block t instrs = flat_map (instr_bytes block t) instrs

@@ -9,7 +9,7 @@ use Rattle.dw_section.specs.declared.lookup.Fde.{Fde}
 use Rattle.dw_canon.specs.Canon.{fde_instrs, initial_of}
 use Rattle.dw_canon.specs.Difference.{difference, later_changes}
 use Rattle.dw_canon.specs.Members.{Member}
-use Rattle.dw_canon.specs.Spelling.{program_bytes}
+use Rattle.dw_canon.specs.Inner.Spelling.{program_bytes}
 use Rattle.dw_canon.specs.Inner.Written.{fde, nop_count, filled, contents}
 use Rattle.dw_canon.specs.Written.{missing, fde_fields}
 use Rattle.dw_normal.specs.Inner.Begun.{Begins}

@@ -9,7 +9,7 @@ use Rattle.dw_section.specs.Changes.{Changing, ToCome, GivesAddress}
 use Rattle.dw_section.specs.Inner.Sound.{RowFits}
 use Rattle.dw_section.proofs.Lent.Exists.{among_exists}
 use Rattle.dw_canon.specs.Difference.{difference, move, later_changes}
-use Rattle.dw_canon.specs.Spelling.{instr_bytes, program_bytes}
+use Rattle.dw_canon.specs.Inner.Spelling.{instr_bytes, program_bytes}
 use Rattle.dw_canon.specs.Inner.Written.{fde, entry_bytes}
 use Rattle.dw_canon.specs.Written.{missing}
 use Rattle.dw_canon.proofs.Lent.Extra.{fde_length}

@@ -21,7 +21,7 @@ use Rattle.dw_canon.specs.Inner.Fits.{ChangesStand}
 use Rattle.dw_canon.specs.Inner.Fits.{InstrFits}
 use Rattle.dw_canon.proofs.Lent.InstrFits.{difference_fits}
 use Rattle.dw_canon.proofs.Lent.Programs.{below_end}
-use Rattle.dw_canon.specs.Spelling.{instr_bytes, program_bytes}
+use Rattle.dw_canon.specs.Inner.Spelling.{instr_bytes, program_bytes}
 
 -- ---- the pass over members
 

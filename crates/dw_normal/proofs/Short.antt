@@ -9,9 +9,9 @@ use Rattle.dw_section.specs.Meaning.{HasLengths}
 use Rattle.dw_section.specs.Meaning.{AreFdes}
 use Rattle.dw_section.specs.declared.lookup.Fde.{Fde}
 use Rattle.dw_canon.specs.Bound.{share, Shares}
-use Rattle.dw_canon.specs.Canon.{canon}
+use Rattle.dw_canon.specs.Inner.Canon.{canon}
 use Rattle.dw_canon.specs.Members.{Member, AreMembers, fde_of}
-use Rattle.dw_canon.proofs.Lent.Bounds.{within_shares}
+use Rattle.dw_canon.proofs.Lent.Bounds.{canon_within}
 
 shares_more : (t : Target) (s : List ℕ) (fs : List Fde) (f : Fde) (own initial total : ℕ) → Shares t s fs total → HasLengths t s f own initial → Shares t s (fs ++ f ∷ []) (total + share own initial)
 shares_more t s [] f own initial total h k = (own, initial, 0, k, omega (arith, h), refl)
@@ -35,7 +35,7 @@ pub short_enough : (t : Target) (s : List ℕ) (count total cap : ℕ) → AreBy
 short_enough t s count total cap b ok counted shares le ms are =
     let fs = map fde_of ms in
     let all = subst (λ (l : List Fde). Shares t s l total) (all_taken count fs (omega (arith, counted fs are.fdes))) (shares fs are.fdes) in
-    omega (arith, within_shares t s ms total b ok are all)
+    omega (arith, canon_within t s b ok ms are total all)
 
 -- the same where there may be no sum
 module _ (t : Target) (s : List ℕ) where

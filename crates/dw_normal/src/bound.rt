@@ -2,7 +2,7 @@
 
 ghost use Rattle.std.specs.Prelude.{◌≡◌, ℕ, ◌+◌, ◌*◌, ◌≤◌, ◌^◌, List, length, is_some, IsTrue, IfSome, Some};
 ghost use Rattle.dw_canon.specs.Bound.{share};
-ghost use Rattle.dw_canon.specs.Canon.{canon};
+ghost use Rattle.dw_canon.specs.Inner.Canon.{canon};
 ghost use Rattle.dw_canon.specs.Members.{Member, AreMembers};
 
 use dw_section::{FdeRef, Table};

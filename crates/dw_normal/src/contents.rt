@@ -7,7 +7,7 @@ ghost use Rattle.dw_num.specs.Target.{address_limit, byte_count};
 ghost use Rattle.dw_canon.specs.Canon.{cie_instrs, fde_instrs, initial_of};
 ghost use Rattle.dw_canon.specs.Inner.Fits.{InstrFits};
 ghost use Rattle.dw_canon.specs.Members.{Member};
-ghost use Rattle.dw_canon.specs.Spelling.{program_bytes};
+ghost use Rattle.dw_canon.specs.Inner.Spelling.{program_bytes};
 ghost use Rattle.dw_canon.specs.Inner.Written.{fde, contents};
 ghost use Rattle.dw_canon.specs.Written.{missing, cie_fields, fde_fields};
 ghost use Rattle.dw_normal.specs.Inner.Begun.{Begins, IsReady};

@@ -6,7 +6,7 @@ ghost use Rattle.std.specs.Ordering.{nat_cmp};
 ghost use Rattle.dw_cfa.specs.Rows.{Rules};
 ghost use Rattle.dw_section.specs.declared.lookup.Fde.{Fde as TheFde};
 ghost use Rattle.dw_section.specs.Meaning.{AreFdes, HasLengths};
-ghost use Rattle.dw_canon.specs.Canon.{canon};
+ghost use Rattle.dw_canon.specs.Inner.Canon.{canon};
 ghost use Rattle.dw_canon.specs.Group.{kept_by};
 ghost use Rattle.dw_canon.specs.Members.{Member, AreMembers};
 ghost use Rattle.dw_cfa.specs.Agreement.{agreed, kept};

@@ -5,7 +5,8 @@ ghost use Rattle.dw_num.specs.Shortest.{shortest_uleb, shortest_sleb};
 ghost use Rattle.dw_section.specs.Inner.Sound.{HasBlock, RuleFits};
 ghost use Rattle.dw_cfa.specs.declared.instr.Instr.TheVariants.{SetLoc, DefCfaOffset};
 ghost use Rattle.dw_canon.specs.Inner.Fits.{InstrFits};
-ghost use Rattle.dw_canon.specs.Spelling.{expression_bytes, advance_bytes, packed, rule_bytes, instr_bytes};
+ghost use Rattle.dw_canon.specs.Inner.Spelling.{expression_bytes, rule_bytes, instr_bytes};
+ghost use Rattle.dw_canon.specs.Spelling.{advance_bytes, packed};
 
 use dw_cfa::{Instr, RegRule};
 use dw_num::{Order, Target, put_fixed, put_sleb, put_uleb};

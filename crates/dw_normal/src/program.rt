@@ -9,7 +9,7 @@ ghost use Rattle.dw_normal.specs.Inner.RegisterWalk.{rules_from};
 ghost use Rattle.dw_normal.specs.Inner.ChangeWalk.{Stand, Appends, row_or_blank, shown_row};
 ghost use Rattle.dw_canon.specs.Inner.Fits.{InstrFits};
 ghost use Rattle.dw_section.specs.Inner.Sound.{RowFits};
-ghost use Rattle.dw_canon.specs.Spelling.{instr_bytes, program_bytes};
+ghost use Rattle.dw_canon.specs.Inner.Spelling.{instr_bytes, program_bytes};
 
 use crate::cfa_change::cfa_difference;
 use crate::instruction::{

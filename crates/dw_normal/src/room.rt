@@ -8,7 +8,7 @@ ghost use Rattle.dw_canon.specs.Canon.{cie_instrs};
 ghost use Rattle.dw_cfa.specs.Rows.{rule};
 ghost use Rattle.dw_canon.specs.Difference.{difference, cfa_difference, rule_to, move};
 ghost use Rattle.dw_canon.specs.Inner.Fits.{InstrFits};
-ghost use Rattle.dw_canon.specs.Spelling.{instr_bytes, program_bytes};
+ghost use Rattle.dw_canon.specs.Inner.Spelling.{instr_bytes, program_bytes};
 ghost use Rattle.dw_canon.specs.Inner.Written.{cie, entry_bytes};
 ghost use Rattle.dw_canon.specs.Written.{missing};
 ghost use Rattle.dw_normal.specs.Inner.Lengths.{Leaves, LaterLeaves, FdeLeaves};

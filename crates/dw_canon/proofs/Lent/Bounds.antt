@@ -13,17 +13,19 @@ use Rattle.dw_num.proofs.Lent.FixedLaws.{length-fixed}
 use Rattle.dw_section.specs.Accepted.{Accepted}
 use Rattle.dw_canon.specs.Bound.{share, Shares, WithinShares}
 use Rattle.dw_canon.specs.Inner.Laid.{group_of, groups_of, part_of, parts_of}
-use Rattle.dw_canon.specs.Canon.{canon, cie_instrs, initial_of, return_registers}
+use Rattle.dw_canon.specs.Inner.Canon.{canon}
+use Rattle.dw_canon.specs.Canon.{cie_instrs, initial_of, return_registers}
 use Rattle.dw_canon.specs.Inner.Fits.{MemberStands}
 use Rattle.dw_canon.specs.Group.{group}
 use Rattle.dw_canon.specs.Inner.Laid.{cie_of}
 use Rattle.dw_canon.specs.Inner.Laid as layout
 use Rattle.dw_canon.specs.Members.{Member, IsMember, AreMembers, fde_of, changes_of}
-use Rattle.dw_canon.specs.Spelling.{program_bytes}
+use Rattle.dw_canon.specs.Inner.Spelling.{program_bytes}
 use Rattle.dw_canon.specs.Inner.Written.{cie_id, cie_spelling, entry_bytes, section_bytes}
 use Rattle.dw_canon.specs.Written.{cie_fields}
 use Rattle.dw_canon.proofs.Lent.Differences.{In}
 use Rattle.dw_canon.proofs.Lent.Extra.{section_append, up, entry_up, fde_length}
+use Rattle.dw_canon.proofs.Lent.Blocks.{whole_is}
 use Rattle.dw_canon.proofs.Lent.Layout.{laid_is}
 use Rattle.dw_canon.proofs.Lent.InstrFits as fitting
 use Rattle.dw_canon.proofs.Prices.{IsPriced, is_priced, fde_len, cie_len}
@@ -158,7 +160,7 @@ module _ (t : Target) (s : List ℕ) (b : AreBytes s) (ok : Accepted t s) (ms : 
         fdes_within xs h.2 h.5 stands.1,
       )
 
-  canon_within : (n : ℕ) → Shares t s (map fde_of ms) n → 24 * length (canon t ms) ≤ n
+  pub canon_within : (n : ℕ) → Shares t s (map fde_of ms) n → 24 * length (canon t ms) ≤ n
   canon_within n shares =
       let h = all_priced ms n are.each (fits t s b ok ms are) (nonempty t s b ok ms are) shares in
       let cies = map cie_of (groups_of t ms) in
@@ -172,4 +174,7 @@ module _ (t : Target) (s : List ℕ) (b : AreBytes s) (ok : Accepted t s) (ms : 
       )
 
 pub within_shares : WithinShares
-within_shares t s ms n b ok are shares = canon_within t s b ok ms are n shares
+within_shares t s n sum b h shares =
+    let same = ap length (whole_is t s n b h) in
+    let most = canon_within t s b h.accepted h.members h.are sum shares in
+    omega (arith, same, most)

@@ -23,7 +23,8 @@ use Rattle.dw_canon.proofs.Lent.Extra.{starts_of, written_starts}
 use Rattle.dw_canon.proofs.Lays.{laid_section}
 use Rattle.dw_canon.proofs.Lent.Readback.{rendered_laid}
 use Rattle.dw_canon.specs.Inner.Laid.{part_of, groups_of, parts_of}
-use Rattle.dw_canon.specs.Canon.{canon, initial_of}
+use Rattle.dw_canon.specs.Inner.Canon.{canon}
+use Rattle.dw_canon.specs.Canon.{initial_of}
 use Rattle.dw_canon.specs.Inner.Fits.{MemberStands}
 use Rattle.dw_canon.specs.Headline.{Headline}
 use Rattle.dw_canon.specs.Laws.{NormalFormExists, NormalFormIsOne, MeaningIsKept, NormalAgain, SameNormalForm, FewestRows, NormalRows, InitialIsShared}
@@ -31,6 +32,7 @@ use Rattle.dw_canon.specs.Members.{Member, fde_of, changes_of, IsMember, AreMemb
 use Rattle.dw_section.specs.Laws.{AreListed}
 use Rattle.dw_canon.specs.Normal.{IsNormalForm}
 use Rattle.dw_canon.proofs.Kept.{reads_back}
+use Rattle.dw_canon.proofs.Lent.Blocks.{is_normal, whole_is}
 use Rattle.dw_canon.proofs.Lent.Layout.{laid_is}
 use Rattle.dw_canon.proofs.ProgramLaws.{member_program}
 use Rattle.dw_canon.proofs.Lent.Rendered.{renders, fits, stand}
@@ -121,13 +123,15 @@ members_there t s n fs (m ∷ xs) into to h =
 -- ---- the laws
 
 pub normal_form_exists : NormalFormExists
-normal_form_exists t s b ok = let found = members_exist t s b ok in (canon t found.0, record { accepted = ok; members = found.0; are = found.1; whole = refl })
+normal_form_exists t s b ok = let found = members_exist t s b ok in (canon t found.0, is_normal t s found.0 ok found.1)
 
 pub normal_form_is_one : NormalFormIsOne
-normal_form_is_one t s n m b h k = h.whole ∙ ap (canon t) (one_members t s b h.accepted h.members k.members h.are k.are) ∙ sym k.whole
+normal_form_is_one t s n m b h k = whole_is t s n b h ∙ ap (canon t) (one_members t s b h.accepted h.members k.members h.are k.are) ∙ sym (whole_is t s m b k)
 
 back : (t : Target) (s n : List ℕ) → AreBytes s → IsNormalForm t s n → length n ≤ 2147483647 → ReadsBack t s n
-back t s n b h small = subst (ReadsBack t s) (sym h.whole) (reads_back t s b h.accepted h.members h.are (subst (λ (l : List ℕ). length l ≤ 2147483647) h.whole small))
+back t s n b h small =
+    let whole = whole_is t s n b h in
+    subst (ReadsBack t s) (sym whole) (reads_back t s b h.accepted h.members h.are (subst (λ (l : List ℕ). length l ≤ 2147483647) whole small))
 
 pub meaning_is_kept : MeaningIsKept
 meaning_is_kept t s n b h small = let r = back t s n b h small in (r.accepted, r.meaning)
@@ -142,6 +146,8 @@ normal_again t s n b h small =
         fdes = (r.meaning.fdes (map fde_of h.members)).0 h.are.fdes;
         each = members_there t s n (map fde_of h.members) h.members (λ f i. i) (λ f changes i. (r.changes (map fde_of h.members) f changes h.are.fdes i).0) h.are.each;
       };
+      block = h.block;
+      least = h.least;
       whole = h.whole;
     }
 
@@ -169,7 +175,7 @@ same_normal_form t s u n m bs bu h k small little = (
       same_then t s n u one (subst (λ (l : List ℕ). SameMeaning t l u) (sym e) (same_back t u m two)),
   λ same.
       let are = same_members t s u h.members bs bu h.accepted k.accepted h.are same in
-      let there : IsNormalForm t u n = record { accepted = k.accepted; members = h.members; are = are; whole = h.whole } in
+      let there : IsNormalForm t u n = record { accepted = k.accepted; members = h.members; are = are; block = h.block; least = h.least; whole = h.whole } in
       normal_form_is_one t u n m bu there k,
 )
 
@@ -178,8 +184,8 @@ pub same_exactly : (t : Target) (s u : List ℕ) (ms ns : List Member) → AreBy
     → length (canon t ms) ≤ 2147483647 → length (canon t ns) ≤ 2147483647 → (ms ≡ ns) ↔ SameMeaning t s u
 same_exactly t s u ms ns bs bu ok okay h k small little = (
   λ e.
-      let one : IsNormalForm t s (canon t ms) = record { accepted = ok; members = ms; are = h; whole = refl } in
-      let other : IsNormalForm t u (canon t ns) = record { accepted = okay; members = ns; are = k; whole = refl } in
+      let one : IsNormalForm t s (canon t ms) = is_normal t s ms ok h in
+      let other : IsNormalForm t u (canon t ns) = is_normal t u ns okay k in
       (same_normal_form t s u (canon t ms) (canon t ns) bs bu one other small little).0 (ap (canon t) e),
   λ same. one_members t u bu okay ms ns (same_members t s u ms bs bu ok okay h same) k,
 )
@@ -242,7 +248,7 @@ laid_rows t s b ok ms are small =
 
 pub normal_rows : NormalRows
 normal_rows t s n b h small =
-    let same = h.whole ∙ laid_is t h.members in
+    let same = whole_is t s n b h ∙ laid_is t h.members in
     subst (λ (l : List ℕ). RowStarts t l (total (map (λ (m : Member). length (changes_of m)) h.members))) (sym same)
     (laid_rows t s b h.accepted h.members h.are (subst (λ (l : List ℕ). length l ≤ 2147483647) same small))
 

@@ -12,7 +12,7 @@ use Rattle.dw_section.specs.Programs.{HasCfa}
 use Rattle.dw_canon.specs.Canon.{return_registers, initial_of, cie_instrs, fde_instrs}
 use Rattle.dw_canon.specs.Inner.Written.{Written, cie, fde, factors, entry_bytes, section_bytes}
 use Rattle.dw_canon.specs.Members.{Member}
-use Rattle.dw_canon.specs.Spelling.{program_bytes}
+use Rattle.dw_canon.specs.Inner.Spelling.{program_bytes}
 
 -- the CIE of a return register: its instructions, and the bytes that spell them
 pub record Group : Type 0 where

@@ -14,7 +14,7 @@ use Rattle.dw_section.specs.Inner.Sound.{RowFits}
 use Rattle.dw_canon.specs.Canon.{cie_instrs, fde_instrs}
 use Rattle.dw_canon.specs.Inner.Fits.{MemberStands}
 use Rattle.dw_canon.specs.Members.{Member, changes_of}
-use Rattle.dw_canon.specs.Spelling.{program_bytes}
+use Rattle.dw_canon.specs.Inner.Spelling.{program_bytes}
 use Rattle.dw_canon.specs.Inner.Written.{factors}
 
 -- the CIE's program of an initial row leaves that row

@@ -12,7 +12,7 @@ use Rattle.dw_normal.specs.declared.error.Which.{Which}
 use Rattle.dw_normal.specs.declared.error.Which.TheVariants.{First, Second}
 use Rattle.dw_normal.specs.declared.error.WriteError.{WriteError}
 use Rattle.dw_normal.specs.declared.error.WriteError.TheVariants as write_error
-use Rattle.dw_canon.specs.Canon.{canon}
+use Rattle.dw_canon.specs.Inner.Canon.{canon}
 use Rattle.dw_canon.specs.Members.{Member, AreMembers}
 use Rattle.dw_normal.specs.Inner.Groups.{initial_rows}
 use Rattle.dw_normal.specs.Answers.{too_long, IsTooLong, IsWithin}

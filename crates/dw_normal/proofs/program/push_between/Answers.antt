@@ -6,7 +6,7 @@ use Rattle.dw_cfa.specs.Difference.{place_behind}
 use Rattle.dw_cfa.specs.Rows.{rule}
 use Rattle.dw_canon.specs.Difference.{rule_to, cfa_difference, rule_difference, either}
 use Rattle.dw_canon.specs.Inner.Fits.{InstrFits}
-use Rattle.dw_canon.specs.Spelling.{instr_bytes, program_bytes}
+use Rattle.dw_canon.specs.Inner.Spelling.{instr_bytes, program_bytes}
 use Rattle.dw_normal.specs.Inner.RegisterWalk.{rules_from}
 use Rattle.dw_normal.proofs.Passes.{program_more, both_halves}
 use Rattle.dw_normal.proofs.RegistersBehind.{from_first, none_differs, one_differs}

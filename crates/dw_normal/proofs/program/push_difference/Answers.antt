@@ -4,7 +4,7 @@ use Rattle.std.proofs.lemmas.List.{append_assoc}
 use Rattle.dw_cfa.specs.declared.instr.Instr.{Instr}
 use Rattle.dw_canon.specs.Difference.{difference, cfa_difference, rule_difference, either}
 use Rattle.dw_canon.specs.Inner.Fits.{InstrFits}
-use Rattle.dw_canon.specs.Spelling.{program_bytes}
+use Rattle.dw_canon.specs.Inner.Spelling.{program_bytes}
 use Rattle.dw_normal.specs.Inner.RegisterWalk.{rules_from}
 use Rattle.dw_normal.proofs.Filled.{on_ok}
 use Rattle.dw_normal.proofs.Passes.{program_more, both_halves}

@@ -5,7 +5,7 @@ use Rattle.dw_cfa.specs.Rows.{Rules}
 use Rattle.dw_canon.specs.Difference.{difference}
 use Rattle.dw_canon.specs.Inner.Fits.{InstrFits}
 use Rattle.dw_normal.specs.Inner.ChangeWalk.{shown_row}
-use Rattle.dw_canon.specs.Spelling.{program_bytes}
+use Rattle.dw_canon.specs.Inner.Spelling.{program_bytes}
 use Rattle.dw_normal.proofs.Passes.{begins_under, ends_under, ended, step_up, step_fits, step_under, shown_there, shown_before}
 use Rattle.dw_normal.proofs.program.push_later.Goals as goal
 

@@ -3,7 +3,7 @@ use Rattle.std.specs.List.{AllByRecursion}
 use Rattle.dw_cfa.specs.Difference.{place_behind}
 use Rattle.dw_canon.specs.Difference.{difference}
 use Rattle.dw_canon.specs.Inner.Fits.{InstrFits}
-use Rattle.dw_canon.specs.Spelling.{program_bytes}
+use Rattle.dw_canon.specs.Inner.Spelling.{program_bytes}
 use Rattle.dw_normal.specs.Inner.RegisterWalk.{rules_from}
 use Rattle.dw_normal.proofs.room.behind_between.Given as goal
 

@@ -4,7 +4,7 @@ use Rattle.std.specs.List.{AllByRecursion}
 use Rattle.dw_cfa.specs.Rows.{Rules}
 use Rattle.dw_canon.specs.Difference.{difference}
 use Rattle.dw_canon.specs.Inner.Fits.{InstrFits}
-use Rattle.dw_canon.specs.Spelling.{program_bytes}
+use Rattle.dw_canon.specs.Inner.Spelling.{program_bytes}
 use Rattle.dw_normal.specs.Inner.Lengths.{Leaves}
 use Rattle.dw_normal.specs.Inner.ChangeWalk.{row_or_blank, shown_row}
 use Rattle.dw_normal.proofs.Passes.{step_up, step_fits, shown_there, shown_before}
