@@ -66,9 +66,8 @@ pieces_few order at (entry form body ∷ items) =
 
 same_length : (target : Target) (places : List ℕ) (ps : List Piece) (hs : List Head) → AllZip (Has target places) ps hs → length hs ≡ length ps
 same_length target places [] [] z = refl
-same_length target places [] (h ∷ hs) z = absurd z
-same_length target places (p ∷ ps) [] z = absurd z
 same_length target places (p ∷ ps) (h ∷ hs) z = ap suc (same_length target places ps hs z.1)
+same_length target places ps hs z = absurd z
 
 nonempty_few : (hs : List Head) → length (nonempty hs) ≤ length hs
 nonempty_few [] = omega arith

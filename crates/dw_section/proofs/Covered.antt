@@ -94,8 +94,7 @@ lacks_none end low unset (row ∷ rows) up e a le lt =
 
 pub unset_is : (c : CfaRule) → is_unset c ≡ true → c ≡ Unset
 unset_is Unset e = refl
-unset_is (cfa.Register r n) e = absurd cc
-unset_is (cfa.Expression x) e = absurd cc
+unset_is c e = absurd cc
 
 pub is_unset_of : (c : CfaRule) → c ≡ Unset → is_unset c ≡ true
 is_unset_of c e = rw e refl

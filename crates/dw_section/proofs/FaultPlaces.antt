@@ -1,5 +1,5 @@
 -- The first fault of a section lies in it or at its end.
-use Rattle.std.proofs.Common.{◌≡◌, ℕ, ◌+◌, ◌≤◌, List, [], ◌∷◌, ◌++◌, length, Result, Ok, Err, sym, ap, subst, arith, inl, inr}
+use Rattle.std.proofs.Common.{◌≡◌, ℕ, ◌+◌, ◌≤◌, List, [], ◌∷◌, ◌++◌, length, Result, Err, sym, ap, subst, arith, inl, inr}
 use Rattle.std.specs.Prelude.{◌==◌, ◌&&◌, nat_lt, IfErr}
 use Rattle.std.specs.List.{AllByRecursion, AllZip}
 use Rattle.std.proofs.lemmas.Bool.{cases_lt, lt-ltb, le-ltb}
@@ -15,7 +15,7 @@ use Rattle.dw_num.specs.Span.{Span}
 use Rattle.dw_num.proofs.Lent.Stays.{Inside, Stays, stays-then, either_stays, unit_length_stays}
 use Rattle.dw_cfa.proofs.Lent.FaultPlaces.{cie_within, fde_within}
 use Rattle.dw_num.specs.declared.error.ReadError.{ReadError}
-use Rattle.dw_num.specs.declared.error.ReadError.TheVariants.{Refused, OutOfMemory}
+use Rattle.dw_num.specs.declared.error.ReadError.TheVariants.{Refused}
 use Rattle.dw_section.specs.Accepted.{CheckFault, CieProgramsFault, FdeProgramsFault, RulesFault}
 use Rattle.dw_section.specs.Cut.{Item, gap, entry, Piece, pieces, item_bytes, all_bytes, id_width}
 use Rattle.dw_section.specs.FaultPlaces.{IsWithin}
@@ -120,9 +120,8 @@ has_lies target places end p h ends (inr c) = let e = fields_end target p _ c.0 
 
 all_lie : (target : Target) (places : List ℕ) (end : ℕ) (ps : List Piece) (hs : List Head) → AllByRecursion (EndsBy end) ps → AllZip (Has target places) ps hs → AllByRecursion (Lies end) hs
 all_lie target places end [] [] ends z = tt
-all_lie target places end [] (h ∷ hs) ends z = absurd z
-all_lie target places end (p ∷ ps) [] ends z = absurd z
 all_lie target places end (p ∷ ps) (h ∷ hs) ends z = (has_lies target places end p h ends.0 z.0, all_lie target places end ps hs ends.1 z.1)
+all_lie target places end ps hs ends z = absurd z
 
 abbrev Good : ℕ → Head → Type 0
 Good end h = Lies end h × HasBytes h
@@ -183,6 +182,5 @@ check_within target s bytes r (inr h) =
     omega (arith, is, most)
 
 pub errors_within : {V : Type 0} (s : List ℕ) (result : Result V ReadError) (Fault : Refusal → Type 0) → ((r : Refusal) → Fault r → IsWithin s r) → IfErr result (Refuses Fault) → IfErr result (Refuses (IsWithin s))
-errors_within s (Ok v) Fault within h = tt
-errors_within s (Err OutOfMemory) Fault within h = tt
 errors_within s (Err (Refused r)) Fault within h = within r h
+errors_within s result Fault within h = tt

@@ -1,5 +1,5 @@
 -- Fields are read as they are spelled, spelled as they are read, and refused with their first fault.
-use Rattle.std.proofs.Common.{◌≡◌, ℕ, zero, suc, ◌+◌, ◌==◌, true, false, List, [], ◌∷◌, ◌++◌, length, drop, get_or, Option, Some, None, Ok, Err, refl, sym, ap, subst, ◌∙◌, append_assoc, arith, inl, inr}
+use Rattle.std.proofs.Common.{◌≡◌, ℕ, zero, ◌+◌, ◌==◌, true, false, List, [], ◌∷◌, ◌++◌, length, drop, get_or, Option, Some, None, Ok, Err, refl, sym, ap, subst, ◌∙◌, append_assoc, arith, inl, inr}
 use Rattle.std.specs.Prelude.{position}
 use Rattle.std.proofs.lemmas.Bool.Decides.{eqb_tells}
 use Rattle.std.proofs.lemmas.List.{length-append, length-drop}
@@ -102,9 +102,8 @@ takes-none : (i : Input) → Takes i [] i
 takes-none i = record { bytes = refl; at = omega arith; target = refl }
 
 none_wrong : (o : Option ℕ) → string_fault o ≡ None → o ≡ Some 0
-none_wrong None e = absurd cc
 none_wrong (Some zero) e = refl
-none_wrong (Some (suc n)) e = absurd cc
+none_wrong o e = absurd cc
 
 empty_taken : (i : Input) → string_fault (position (λ b. b == 0) i.bytes) ≡ None → Takes i (0 ∷ []) (behind 1 i)
 empty_taken i e =

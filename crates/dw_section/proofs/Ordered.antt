@@ -125,10 +125,9 @@ counted x e xs same = elim (eqb_tells e.at x) [
 ]
 
 count_two : (x : ℕ) (ys : List Ranged) (k : ℕ) (d : Ranged) → suc k < length ys → (get_or ys k d).at ≡ x → (get_or ys (suc k) d).at ≡ x → 2 ≤ sum_by (is_at x) ys
-count_two x [] k d lt e f = absurd (omega arith)
-count_two x (y ∷ []) k d lt e f = absurd (omega arith)
 count_two x (y ∷ z ∷ ys) zero d lt e f = let p = counted x y (z ∷ ys) e in let q = counted x z ys f in omega arith
 count_two x (y ∷ z ∷ ys) (suc k) d lt e f = let rest = count_two x (z ∷ ys) k d (omega arith) e f in let all = sum_by-cons (is_at x) y (z ∷ ys) in omega arith
+count_two x ys k d lt e f = absurd (omega arith)
 
 -- ---- a stable sort by begin
 

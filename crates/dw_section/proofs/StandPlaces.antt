@@ -6,7 +6,7 @@ use Rattle.dw_num.specs.declared.target.Order.{Order}
 use Rattle.dw_num.specs.declared.target.Target.{Target}
 use Rattle.dw_num.specs.declared.refusal.Refusal.{Refusal}
 use Rattle.dw_num.specs.declared.error.ReadError.{ReadError}
-use Rattle.dw_num.specs.declared.error.ReadError.TheVariants.{Refused, OutOfMemory}
+use Rattle.dw_num.specs.declared.error.ReadError.TheVariants.{Refused}
 use Rattle.dw_num.specs.Front.{Read, Reads, fixed_at}
 use Rattle.dw_num.specs.Input.{Input, AreBytes}
 use Rattle.dw_num.specs.Refusals.{Refuses}
@@ -67,10 +67,9 @@ fde_within target places s p r w stuck = omega (arith, fields_within (fde_fields
 -- what is wrong in the programs of an FDE
 pub lies_in_programs : {V : Type 0} (target : Target) (e : FoundFde) → AreBytes (span_of e.cie_program).bytes → AreBytes (span_of e.program).bytes → e.begin ≤ address_limit target.size → (result : Result V ReadError)
     → IfErr result (Refuses (λ r. (rows_of target e).fault ≡ Some r)) → IfErr result (Refuses (LiesInPrograms target e))
-lies_in_programs target e cb fb le (Ok v) h = tt
-lies_in_programs target e cb fb le (Err OutOfMemory) h = tt
 lies_in_programs target e cb fb le (Err (Refused r)) h =
     let cie = input_of target (span_of e.cie_program) in
     let fde = input_of target (span_of e.program) in
     let fault = (refused_where_fault e.factors cie fde e.begin cb fb le (rows_of target e) (run_runs e.factors cie fde e.begin cb fb le) r).0 h in
     run_within e.factors cie fde e.begin r cb fb fault
+lies_in_programs target e cb fb le result h = tt

@@ -147,19 +147,19 @@ opcode_known t code opcode e = elim (cases_Bool (in_range 0x30 0x50 code)) [
 
 -- ---- operands
 
--- behind a code stand the operands of a step
-abbrev StepFound : Target → ℕ → Input → Step → Input → Type 0
-StepFound t code i step new = (b : List ℕ) × StepSpells t step (code ∷ b) × Takes i b new
+-- behind a code stand the operands of a step, which a frame's expression may hold or not
+abbrev StepFound : Target → ℕ → Bool → Input → Step → Input → Type 0
+StepFound t code framed i step new = (b : List ℕ) × StepSpells t step (code ∷ b) × Takes i b new × (step_in_frame step ≡ framed)
 
 -- an operation of one operand
-op_found : {X : Type 0} (t : Target) (code : ℕ) (i new : Input) (step : Step) (read : Read X) (make : X → Op) (Spells : X → List ℕ → Type 0)
+op_found : {X : Type 0} (t : Target) (code : ℕ) (framed : Bool) (i new : Input) (step : Step) (read : Read X) (make : X → Op) (Spells : X → List ℕ → Type 0)
     → ((x : X) (behind : Input) → read ≡ done (x, behind) → (b : List ℕ) × Spells x b × Takes i b behind)
-    → ((x : X) (b : List ℕ) → Spells x b → StepSpells t (Plain (make x)) (code ∷ b))
-    → read >>= with_op make ≡ done (step, new) → StepFound t code i step new
-op_found t code i new step read make Spells law spelled e =
+    → ((x : X) (b : List ℕ) → Spells x b → StepSpells t (Plain (make x)) (code ∷ b)) → ((x : X) → in_frame (make x) ≡ framed)
+    → read >>= with_op make ≡ done (step, new) → StepFound t code framed i step new
+op_found t code framed i new step read make Spells law spelled same e =
     let p = bind_ok read (with_op make) (step, new) e in
     let q = law p.0.0 p.0.1 p.1 in
-    subst (λ (z : Step × Input). StepFound t code i z.0 z.1) (ok_is (Plain (make p.0.0), p.0.1) (step, new) p.2) (q.0, spelled p.0.0 q.0 q.1, q.2)
+    subst (λ (z : Step × Input). StepFound t code framed i z.0 z.1) (ok_is (Plain (make p.0.0), p.0.1) (step, new) p.2) (q.0, spelled p.0.0 q.0 q.1, q.2, same p.0.0)
 
 pub const_of : (t : Target) (count : ByteCount) (n : ℕ) (b : List ℕ) → Fixed t.order (width_of count) n b → StepSpells t (Plain (Const (n % address_limit t.size))) (unsigned_code count ∷ b)
 const_of t One n b f = (record { form = Const1u; number = pos n; written = record { rest = b; operands = record { number = n; is = refl; spelled = f }; whole = refl }; value = refl }, refl)
@@ -182,19 +182,19 @@ register_found i new r h e =
     subst (λ (z : ℕ × Input). (b : List ℕ) × Register z.0 b × Takes i b z.1) (ok_is p.0 (r, new) k.1) (q.0, (q.1, omega (arith, ltb-true p.0.0 65536 k.0)), q.2)
 
 breg_found : (t : Target) (code r : ℕ) (i new : Input) (step : Step) (Offset : ℤ → List ℕ → Type 0) → AreBytes i.bytes
-    → ((z : ℤ) (b : List ℕ) → Sleb z b → StepSpells t (Plain (Breg r z)) (code ∷ b)) → breg_step r i ≡ done (step, new) → StepFound t code i step new
+    → ((z : ℤ) (b : List ℕ) → Sleb z b → StepSpells t (Plain (Breg r z)) (code ∷ b)) → breg_step r i ≡ done (step, new) → StepFound t code true i step new
 unfolding breg_step
 breg_found t code r i new step Offset h spelled e =
-    op_found t code i new step (sleb_at i) (Breg r) Sleb (λ z behind s. sleb_found i behind z h s) spelled e
+    op_found t code true i new step (sleb_at i) (Breg r) Sleb (λ z behind s. sleb_found i behind z h s) spelled (λ z. refl) e
 
-jump_found : (branch : Branch) (i new : Input) (step : Step) → AreBytes i.bytes → jump_step branch i ≡ done (step, new) → StepFound i.target (branch_code branch) i step new
+jump_found : (branch : Branch) (i new : Input) (step : Step) → AreBytes i.bytes → jump_step branch i ≡ done (step, new) → StepFound i.target (branch_code branch) true i step new
 unfolding jump_step
 jump_found branch i new step h e =
     let order = i.target.order in
     let p = bind_ok (take_at 2 i) (with_jump branch order) (step, new) e in
     let q = take_found 2 i p.0.1 p.0.0 p.1 in
-    subst (λ (z : Step × Input). StepFound i.target (branch_code branch) i z.0 z.1) (ok_is (Jump branch (fixed_number order 2 p.0.0), p.0.1) (step, new) p.2)
-    (p.0.0, record { rest = p.0.0; operands = two_all i.target p.0.0 q.1 (front_bytes p.0.0 p.0.1.bytes (subst AreBytes q.0.bytes h)); whole = refl }, q.0)
+    subst (λ (z : Step × Input). StepFound i.target (branch_code branch) true i z.0 z.1) (ok_is (Jump branch (fixed_number order 2 p.0.0), p.0.1) (step, new) p.2)
+    (p.0.0, record { rest = p.0.0; operands = two_all i.target p.0.0 q.1 (front_bytes p.0.0 p.0.1.bytes (subst AreBytes q.0.bytes h)); whole = refl }, q.0, refl)
   where
     front_bytes : (front rest : List ℕ) → AreBytes (front ++ rest) → AreBytes front
     front_bytes [] rest h k = omega arith
@@ -205,27 +205,27 @@ jump_found branch i new step h e =
     two_all t (x ∷ y ∷ []) len are = is_fixed t.order 2 (x ∷ y ∷ []) (inr (inl refl)) (omega arith) are
     two_all t b len are = absurd (omega arith)
 
-long_breg_found : (i new : Input) (step : Step) → AreBytes i.bytes → long_breg_step i ≡ done (step, new) → StepFound i.target 0x92 i step new
+long_breg_found : (i new : Input) (step : Step) → AreBytes i.bytes → long_breg_step i ≡ done (step, new) → StepFound i.target 0x92 true i step new
 unfolding long_breg_step breg_step
 long_breg_found i new step h e =
     let p = bind_ok (register_at i) after_register (step, new) e in
     let q = register_found i p.0.1 p.0.0 h p.1 in
     let s = bind_ok (sleb_at p.0.1) (with_op (Breg p.0.0)) (step, new) p.2 in
     let u = sleb_found p.0.1 s.0.1 s.0.0 (taken_bytes i p.0.1 q.0 q.2 h) s.1 in
-    subst (λ (z : Step × Input). StepFound i.target 0x92 i z.0 z.1) (ok_is (Plain (Breg p.0.0 s.0.0), s.0.1) (step, new) s.2)
-    (q.0 ++ u.0, (inr (record { rest = q.0 ++ u.0; operands = record { front = q.0; back = u.0; first = q.1; second = u.1; whole = refl }; whole = refl }), refl), Takes-then i p.0.1 s.0.1 q.0 u.0 q.2 u.2)
+    subst (λ (z : Step × Input). StepFound i.target 0x92 true i z.0 z.1) (ok_is (Plain (Breg p.0.0 s.0.0), s.0.1) (step, new) s.2)
+    (q.0 ++ u.0, (inr (record { rest = q.0 ++ u.0; operands = record { front = q.0; back = u.0; first = q.1; second = u.1; whole = refl }; whole = refl }), refl), Takes-then i p.0.1 s.0.1 q.0 u.0 q.2 u.2, refl)
 
-bit_piece_found : (i new : Input) (step : Step) → AreBytes i.bytes → bit_piece_step i ≡ done (step, new) → StepFound i.target 0x9d i step new
+bit_piece_found : (i new : Input) (step : Step) → AreBytes i.bytes → bit_piece_step i ≡ done (step, new) → StepFound i.target 0x9d false i step new
 unfolding bit_piece_step
 bit_piece_found i new step h e =
     let p = bind_ok (uleb_at i) after_size (step, new) e in
     let q = uleb_found i p.0.1 p.0.0 h p.1 in
     let s = bind_ok (uleb_at p.0.1) (with_op (BitPiece p.0.0)) (step, new) p.2 in
     let u = uleb_found p.0.1 s.0.1 s.0.0 (taken_bytes i p.0.1 q.0 q.2 h) s.1 in
-    subst (λ (z : Step × Input). StepFound i.target 0x9d i z.0 z.1) (ok_is (Plain (BitPiece p.0.0 s.0.0), s.0.1) (step, new) s.2)
-    (q.0 ++ u.0, (record { rest = q.0 ++ u.0; operands = record { front = q.0; back = u.0; first = q.1; second = u.1; whole = refl }; whole = refl }, refl), Takes-then i p.0.1 s.0.1 q.0 u.0 q.2 u.2)
+    subst (λ (z : Step × Input). StepFound i.target 0x9d false i z.0 z.1) (ok_is (Plain (BitPiece p.0.0 s.0.0), s.0.1) (step, new) s.2)
+    (q.0 ++ u.0, (record { rest = q.0 ++ u.0; operands = record { front = q.0; back = u.0; first = q.1; second = u.1; whole = refl }; whole = refl }, refl), Takes-then i p.0.1 s.0.1 q.0 u.0 q.2 u.2, refl)
 
-implicit_found : (i new : Input) (step : Step) → AreBytes i.bytes → implicit_step i ≡ done (step, new) → StepFound i.target 0x9e i step new
+implicit_found : (i new : Input) (step : Step) → AreBytes i.bytes → implicit_step i ≡ done (step, new) → StepFound i.target 0x9e false i step new
 unfolding implicit_step
 implicit_found i new step h e =
     let p = bind_ok (uleb_at i) after_length (step, new) e in
@@ -233,10 +233,10 @@ implicit_found i new step h e =
     let s = bind_ok (take_at p.0.0 p.0.1) (with_op implicit) (step, new) p.2 in
     let u = take_found p.0.0 p.0.1 s.0.1 s.0.0 s.1 in
     let len : Uleb (length s.0.0) q.0 = subst (λ (n : ℕ). Uleb n q.0) (sym u.1) q.1 in
-    subst (λ (z : Step × Input). StepFound i.target 0x9e i z.0 z.1) (ok_is (Plain (implicit s.0.0), s.0.1) (step, new) s.2)
-    (q.0 ++ s.0.0, ((refl, record { rest = q.0 ++ s.0.0; operands = record { front = q.0; back = s.0.0; first = len; second = refl; whole = refl }; whole = refl }), refl), Takes-then i p.0.1 s.0.1 q.0 s.0.0 q.2 u.0)
+    subst (λ (z : Step × Input). StepFound i.target 0x9e false i z.0 z.1) (ok_is (Plain (implicit s.0.0), s.0.1) (step, new) s.2)
+    (q.0 ++ s.0.0, ((refl, record { rest = q.0 ++ s.0.0; operands = record { front = q.0; back = s.0.0; first = len; second = refl; whole = refl }; whole = refl }), refl), Takes-then i p.0.1 s.0.1 q.0 s.0.0 q.2 u.0, refl)
 
-deref_size_found : (i new : Input) (step : Step) → AreBytes i.bytes → deref_size_step i ≡ done (step, new) → StepFound i.target 0x94 i step new
+deref_size_found : (i new : Input) (step : Step) → AreBytes i.bytes → deref_size_step i ≡ done (step, new) → StepFound i.target 0x94 true i step new
 unfolding deref_size_step
 deref_size_found i new step h e =
     let most = byte_count i.target.size in
@@ -244,8 +244,8 @@ deref_size_found i new step h e =
     let q = fixed_found 1 i p.0.1 p.0.0 (inl refl) h p.1 in
     let k = cond_ok (nat_le 1 p.0.0 && nat_le p.0.0 most) (with_op DerefSize p.0) (record { code = BadDerefSize; at = i.at }) (step, new) p.2 in
     let within = both_true (nat_le 1 p.0.0) (nat_le p.0.0 most) k.0 in
-    subst (λ (z : Step × Input). StepFound i.target 0x94 i z.0 z.1) (ok_is (Plain (DerefSize p.0.0), p.0.1) (step, new) k.1)
-    (q.0, ((record { rest = q.0; operands = q.1; whole = refl }, leb-true 1 p.0.0 within.0, leb-true p.0.0 most within.1), refl), q.2)
+    subst (λ (z : Step × Input). StepFound i.target 0x94 true i z.0 z.1) (ok_is (Plain (DerefSize p.0.0), p.0.1) (step, new) k.1)
+    (q.0, ((record { rest = q.0; operands = q.1; whole = refl }, leb-true 1 p.0.0 within.0, leb-true p.0.0 most within.1), refl), q.2, refl)
   where
     both_true : (a b : Bool) → (a && b) ≡ true → (a ≡ true) × (b ≡ true)
     both_true true b e = (refl, e)
@@ -255,93 +255,56 @@ takes_none : (i : Input) → Takes i [] i
 takes_none i = record { bytes = refl; at = omega arith; target = refl }
 
 -- the code that stands there is the one of the table
-at_code : (code known : ℕ) (i new : Input) (step : Step) → code ≡ known → StepFound i.target known i step new → StepFound i.target code i step new
-at_code code known i new step is h = subst (λ (c : ℕ). StepFound i.target c i step new) (sym is) h
-
-operands_found : (code : ℕ) (opcode : Opcode) (i new : Input) (step : Step) → CodeOf i.target opcode code → AreBytes i.bytes → operands_at opcode i ≡ done (step, new) → StepFound i.target code i step new
-unfolding operands_at address_step unsigned_step signed_step uconst_step sconst_step pick_step plus_step long_reg_step fbreg_step piece_step jump_step breg_step long_breg_step deref_size_step bit_piece_step implicit_step
-operands_found code (opcodes.Alone op) i new step is h e =
-    subst (λ (z : Step × Input). StepFound i.target code i z.0 z.1) (ok_is (Plain (bare op), i) (step, new) e) ([], is, takes_none i)
-operands_found code opcodes.Addr i new step is h e =
-    at_code code 0x03 i new step is (op_found i.target 0x03 i new step (address_at i) Addr (λ n b. Fixed i.target.order (byte_count i.target.size) n b) (λ n behind r. address_found i behind n h r)
-    (λ n b f. (record { rest = b; operands = f; whole = refl }, refl)) e)
-operands_found code (opcodes.Unsigned count) i new step is h e =
-    at_code code (unsigned_code count) i new step is (op_found i.target (unsigned_code count) i new step (fixed_at (width_of count) i) (λ n. Const (n % address_limit i.target.size)) (λ n b. Fixed i.target.order (width_of count) n b) (λ n behind r. count_found count i behind n h r)
-    (λ n b f. const_of i.target count n b f) e)
-operands_found code (opcodes.Signed count) i new step is h e =
-    at_code code (signed_code count) i new step is (op_found i.target (signed_code count) i new step (fixed_at (width_of count) i) (λ n. Const (modulo (address_limit i.target.size) (signed_of count n))) (λ n b. Fixed i.target.order (width_of count) n b) (λ n behind r. count_found count i behind n h r)
-    (λ n b f. signed_const_of i.target count n b f) e)
-operands_found code opcodes.Uconst i new step is h e =
-    at_code code 0x10 i new step is (op_found i.target 0x10 i new step (uleb_at i) (λ n. Const (n % address_limit i.target.size)) Uleb (λ n behind r. uleb_found i behind n h r)
-    (λ n b f. (record { form = Constu; number = pos n; written = record { rest = b; operands = record { number = n; is = refl; spelled = f }; whole = refl }; value = refl }, refl)) e)
-operands_found code opcodes.Sconst i new step is h e =
-    at_code code 0x11 i new step is (op_found i.target 0x11 i new step (sleb_at i) (λ z. Const (modulo (address_limit i.target.size) z)) Sleb (λ z behind r. sleb_found i behind z h r)
-    (λ z b f. (record { form = Consts; number = z; written = record { rest = b; operands = f; whole = refl }; value = refl }, refl)) e)
-operands_found code opcodes.Pick i new step is h e =
-    at_code code 0x15 i new step is (op_found i.target 0x15 i new step (fixed_at 1 i) Pick (λ n b. Fixed i.target.order 1 n b) (λ n behind r. fixed_found 1 i behind n (inl refl) h r)
-    (λ n b f. (record { rest = b; operands = f; whole = refl }, refl)) e)
-operands_found code opcodes.PlusUconst i new step is h e =
-    at_code code 0x23 i new step is (op_found i.target 0x23 i new step (uleb_at i) PlusUconst Uleb (λ n behind r. uleb_found i behind n h r)
-    (λ n b f. (record { rest = b; operands = f; whole = refl }, refl)) e)
-operands_found code (opcodes.Jump branch) i new step is h e = at_code code (branch_code branch) i new step is (jump_found branch i new step h e)
-operands_found code (opcodes.Breg r) i new step is h e =
-    at_code code (0x70 + r) i new step is.0 (breg_found i.target (0x70 + r) r i new step Sleb h (λ z b s. (inl (is.1, record { rest = b; operands = s; whole = refl }), refl)) e)
-operands_found code opcodes.LongReg i new step is h e =
-    at_code code 0x90 i new step is (op_found i.target 0x90 i new step (register_at i) Reg Register (λ r behind q. register_found i behind r h q)
-    (λ r b f. (inr (record { rest = b; operands = f; whole = refl }), refl)) e)
-operands_found code opcodes.LongBreg i new step is h e = at_code code 0x92 i new step is (long_breg_found i new step h e)
-operands_found code opcodes.Fbreg i new step is h e =
-    at_code code 0x91 i new step is (op_found i.target 0x91 i new step (sleb_at i) Fbreg Sleb (λ z behind r. sleb_found i behind z h r)
-    (λ z b f. (record { rest = b; operands = f; whole = refl }, refl)) e)
-operands_found code opcodes.Piece i new step is h e =
-    at_code code 0x93 i new step is (op_found i.target 0x93 i new step (uleb_at i) Piece Uleb (λ n behind r. uleb_found i behind n h r)
-    (λ n b f. (record { rest = b; operands = f; whole = refl }, refl)) e)
-operands_found code opcodes.DerefSize i new step is h e = at_code code 0x94 i new step is (deref_size_found i new step h e)
-operands_found code opcodes.BitPiece i new step is h e = at_code code 0x9d i new step is (bit_piece_found i new step h e)
-operands_found code opcodes.Implicit i new step is h e = at_code code 0x9e i new step is (implicit_found i new step h e)
-
--- ---- which profile allows it
+at_code : (code known : ℕ) (framed : Bool) (i new : Input) (step : Step) → code ≡ known → StepFound i.target known framed i step new → StepFound i.target code framed i step new
+at_code code known framed i new step is h = subst (λ (c : ℕ). StepFound i.target c framed i step new) (sym is) h
 
 pub bare_in_frame : (op : Op) → in_frame (bare op) ≡ in_frame op
 bare_in_frame (Implicit block) = refl
 bare_in_frame op = refl
 
-op_frame : {X : Type 0} (new : Input) (step : Step) (read : Read X) (make : X → Op) (b : Bool) → ((x : X) → in_frame (make x) ≡ b) → read >>= with_op make ≡ done (step, new) → step_in_frame step ≡ b
-op_frame new step read make b same e =
-    let p = bind_ok read (with_op make) (step, new) e in
-    subst (λ (z : Step × Input). step_in_frame z.0 ≡ b) (ok_is (Plain (make p.0.0), p.0.1) (step, new) p.2) (same p.0.0)
+operands_found : (code : ℕ) (opcode : Opcode) (i new : Input) (step : Step) → CodeOf i.target opcode code → AreBytes i.bytes → operands_at opcode i ≡ done (step, new) → StepFound i.target code (code_in_frame opcode) i step new
+unfolding operands_at address_step unsigned_step signed_step uconst_step sconst_step pick_step plus_step long_reg_step fbreg_step piece_step jump_step breg_step long_breg_step deref_size_step bit_piece_step implicit_step
+operands_found code (opcodes.Alone op) i new step is h e =
+    subst (λ (z : Step × Input). StepFound i.target code (in_frame op) i z.0 z.1) (ok_is (Plain (bare op), i) (step, new) e) ([], is, takes_none i, bare_in_frame op)
+operands_found code opcodes.Addr i new step is h e =
+    at_code code 0x03 true i new step is (op_found i.target 0x03 true i new step (address_at i) Addr (λ n b. Fixed i.target.order (byte_count i.target.size) n b) (λ n behind r. address_found i behind n h r)
+    (λ n b f. (record { rest = b; operands = f; whole = refl }, refl)) (λ x. refl) e)
+operands_found code (opcodes.Unsigned count) i new step is h e =
+    at_code code (unsigned_code count) true i new step is (op_found i.target (unsigned_code count) true i new step (fixed_at (width_of count) i) (λ n. Const (n % address_limit i.target.size)) (λ n b. Fixed i.target.order (width_of count) n b) (λ n behind r. count_found count i behind n h r)
+    (λ n b f. const_of i.target count n b f) (λ x. refl) e)
+operands_found code (opcodes.Signed count) i new step is h e =
+    at_code code (signed_code count) true i new step is (op_found i.target (signed_code count) true i new step (fixed_at (width_of count) i) (λ n. Const (modulo (address_limit i.target.size) (signed_of count n))) (λ n b. Fixed i.target.order (width_of count) n b) (λ n behind r. count_found count i behind n h r)
+    (λ n b f. signed_const_of i.target count n b f) (λ x. refl) e)
+operands_found code opcodes.Uconst i new step is h e =
+    at_code code 0x10 true i new step is (op_found i.target 0x10 true i new step (uleb_at i) (λ n. Const (n % address_limit i.target.size)) Uleb (λ n behind r. uleb_found i behind n h r)
+    (λ n b f. (record { form = Constu; number = pos n; written = record { rest = b; operands = record { number = n; is = refl; spelled = f }; whole = refl }; value = refl }, refl)) (λ x. refl) e)
+operands_found code opcodes.Sconst i new step is h e =
+    at_code code 0x11 true i new step is (op_found i.target 0x11 true i new step (sleb_at i) (λ z. Const (modulo (address_limit i.target.size) z)) Sleb (λ z behind r. sleb_found i behind z h r)
+    (λ z b f. (record { form = Consts; number = z; written = record { rest = b; operands = f; whole = refl }; value = refl }, refl)) (λ x. refl) e)
+operands_found code opcodes.Pick i new step is h e =
+    at_code code 0x15 true i new step is (op_found i.target 0x15 true i new step (fixed_at 1 i) Pick (λ n b. Fixed i.target.order 1 n b) (λ n behind r. fixed_found 1 i behind n (inl refl) h r)
+    (λ n b f. (record { rest = b; operands = f; whole = refl }, refl)) (λ x. refl) e)
+operands_found code opcodes.PlusUconst i new step is h e =
+    at_code code 0x23 true i new step is (op_found i.target 0x23 true i new step (uleb_at i) PlusUconst Uleb (λ n behind r. uleb_found i behind n h r)
+    (λ n b f. (record { rest = b; operands = f; whole = refl }, refl)) (λ x. refl) e)
+operands_found code (opcodes.Jump branch) i new step is h e = at_code code (branch_code branch) true i new step is (jump_found branch i new step h e)
+operands_found code (opcodes.Breg r) i new step is h e =
+    at_code code (0x70 + r) true i new step is.0 (breg_found i.target (0x70 + r) r i new step Sleb h (λ z b s. (inl (is.1, record { rest = b; operands = s; whole = refl }), refl)) e)
+operands_found code opcodes.LongReg i new step is h e =
+    at_code code 0x90 false i new step is (op_found i.target 0x90 false i new step (register_at i) Reg Register (λ r behind q. register_found i behind r h q)
+    (λ r b f. (inr (record { rest = b; operands = f; whole = refl }), refl)) (λ x. refl) e)
+operands_found code opcodes.LongBreg i new step is h e = at_code code 0x92 true i new step is (long_breg_found i new step h e)
+operands_found code opcodes.Fbreg i new step is h e =
+    at_code code 0x91 false i new step is (op_found i.target 0x91 false i new step (sleb_at i) Fbreg Sleb (λ z behind r. sleb_found i behind z h r)
+    (λ z b f. (record { rest = b; operands = f; whole = refl }, refl)) (λ x. refl) e)
+operands_found code opcodes.Piece i new step is h e =
+    at_code code 0x93 false i new step is (op_found i.target 0x93 false i new step (uleb_at i) Piece Uleb (λ n behind r. uleb_found i behind n h r)
+    (λ n b f. (record { rest = b; operands = f; whole = refl }, refl)) (λ x. refl) e)
+operands_found code opcodes.DerefSize i new step is h e = at_code code 0x94 true i new step is (deref_size_found i new step h e)
+operands_found code opcodes.BitPiece i new step is h e = at_code code 0x9d false i new step is (bit_piece_found i new step h e)
+operands_found code opcodes.Implicit i new step is h e = at_code code 0x9e false i new step is (implicit_found i new step h e)
 
-operands_frame : (opcode : Opcode) (i new : Input) (step : Step) → operands_at opcode i ≡ done (step, new) → step_in_frame step ≡ code_in_frame opcode
-unfolding operands_at address_step unsigned_step signed_step uconst_step sconst_step pick_step plus_step jump_step breg_step long_reg_step long_breg_step fbreg_step piece_step deref_size_step bit_piece_step implicit_step
-operands_frame (opcodes.Alone op) i new step e = subst (λ (z : Step × Input). step_in_frame z.0 ≡ in_frame op) (ok_is (Plain (bare op), i) (step, new) e) (bare_in_frame op)
-operands_frame opcodes.Addr i new step e = op_frame new step (address_at i) Addr true (λ n. refl) e
-operands_frame (opcodes.Unsigned count) i new step e = op_frame new step (fixed_at (width_of count) i) (λ n. Const (n % address_limit i.target.size)) true (λ n. refl) e
-operands_frame (opcodes.Signed count) i new step e = op_frame new step (fixed_at (width_of count) i) (λ n. Const (modulo (address_limit i.target.size) (signed_of count n))) true (λ n. refl) e
-operands_frame opcodes.Uconst i new step e = op_frame new step (uleb_at i) (λ n. Const (n % address_limit i.target.size)) true (λ n. refl) e
-operands_frame opcodes.Sconst i new step e = op_frame new step (sleb_at i) (λ z. Const (modulo (address_limit i.target.size) z)) true (λ n. refl) e
-operands_frame opcodes.Pick i new step e = op_frame new step (fixed_at 1 i) Pick true (λ n. refl) e
-operands_frame opcodes.PlusUconst i new step e = op_frame new step (uleb_at i) PlusUconst true (λ n. refl) e
-operands_frame (opcodes.Jump branch) i new step e =
-    let p = bind_ok (take_at 2 i) (with_jump branch i.target.order) (step, new) e in
-    subst (λ (z : Step × Input). step_in_frame z.0 ≡ true) (ok_is (Jump branch (fixed_number i.target.order 2 p.0.0), p.0.1) (step, new) p.2) refl
-operands_frame (opcodes.Breg r) i new step e = op_frame new step (sleb_at i) (Breg r) true (λ n. refl) e
-operands_frame opcodes.LongReg i new step e = op_frame new step (register_at i) Reg false (λ n. refl) e
-operands_frame opcodes.LongBreg i new step e =
-    let p = bind_ok (register_at i) after_register (step, new) e in
-    op_frame new step (sleb_at p.0.1) (Breg p.0.0) true (λ n. refl) p.2
-operands_frame opcodes.Fbreg i new step e = op_frame new step (sleb_at i) Fbreg false (λ n. refl) e
-operands_frame opcodes.Piece i new step e = op_frame new step (uleb_at i) Piece false (λ n. refl) e
-operands_frame opcodes.DerefSize i new step e =
-    let most = byte_count i.target.size in
-    let p = bind_ok (fixed_at 1 i) (size_in most i.at) (step, new) e in
-    let k = cond_ok (nat_le 1 p.0.0 && nat_le p.0.0 most) (with_op DerefSize p.0) (record { code = BadDerefSize; at = i.at }) (step, new) p.2 in
-    subst (λ (z : Step × Input). step_in_frame z.0 ≡ true) (ok_is (Plain (DerefSize p.0.0), p.0.1) (step, new) k.1) refl
-operands_frame opcodes.BitPiece i new step e =
-    let p = bind_ok (uleb_at i) after_size (step, new) e in
-    op_frame new step (uleb_at p.0.1) (BitPiece p.0.0) false (λ n. refl) p.2
-operands_frame opcodes.Implicit i new step e =
-    let p = bind_ok (uleb_at i) after_length (step, new) e in
-    op_frame new step (take_at p.0.0 p.0.1) implicit false (λ n. refl) p.2
+-- ---- which profile allows it
 
 allowed_by : (profile : Profile) (opcode : Opcode) (step : Step) → step_in_frame step ≡ code_in_frame opcode → allows profile opcode ≡ true → step_allowed profile step ≡ true
 allowed_by Frame opcode step same e = same ∙ e
@@ -358,11 +321,12 @@ pub record StepTaken (profile : Profile) (i : Input) (step : Step) (new : Input)
   pub some : 0 < length part
 
 judged_found : (profile : Profile) (at code : ℕ) (o : Option Opcode) (i new : Input) (step : Step) → opcode_of code ≡ o → AreBytes i.bytes → judged profile at o i ≡ done (step, new)
-    → StepFound i.target code i step new × (step_allowed profile step ≡ true)
+    → ((b : List ℕ) × StepSpells i.target step (code ∷ b) × Takes i b new) × (step_allowed profile step ≡ true)
 judged_found profile at code None i new step known h e = absurd cc
 judged_found profile at code (Some opcode) i new step known h e =
     let k = cond_ok (allows profile opcode) (operands_at opcode i) (record { code = NotInFrame; at = at }) (step, new) e in
-    (operands_found code opcode i new step (opcode_known i.target code opcode known) h k.1, allowed_by profile opcode step (operands_frame opcode i new step k.1) k.0)
+    let q = operands_found code opcode i new step (opcode_known i.target code opcode known) h k.1 in
+    ((q.0, q.1, q.2), allowed_by profile opcode step q.3 k.0)
 
 pub step_found : (profile : Profile) (i new : Input) (step : Step) → AreBytes i.bytes → step_at profile i ≡ done (step, new) → StepTaken profile i step new
 unfolding step_at

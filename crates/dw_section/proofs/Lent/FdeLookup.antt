@@ -68,11 +68,10 @@ later_begin a (e ∷ list) zero d h lt = elim h.0 [ inl x ↦ omega arith | inr 
 later_begin a (e ∷ list) (suc k) d h lt = later_begin a list k d h.1 (omega arith)
 
 pub begins_ascend : (list : List Ranged) → Ascends (map range_in list) → IsNonDecreasingBy (λ (e : Ranged). e.begin) list
-begins_ascend [] up i j d le lt = absurd (omega arith)
 begins_ascend (e ∷ list) up zero zero d le lt = omega arith
 begins_ascend (e ∷ list) up zero (suc j) d le lt = later_begin (range_in e) list j d up.0 (omega arith)
-begins_ascend (e ∷ list) up (suc i) zero d le lt = absurd (omega arith)
 begins_ascend (e ∷ list) up (suc i) (suc j) d le lt = begins_ascend list up.1 i j d (omega arith) (omega arith)
+begins_ascend list up i j d le lt = absurd (omega arith)
 
 pub none_above : (a : ℕ) (list : List Ranged) → ((k : ℕ) (d : Ranged) → k < length list → a < (get_or list k d).begin) → NoneCovers a (map fde_in list)
 none_above a [] h = tt

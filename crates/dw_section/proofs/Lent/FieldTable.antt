@@ -1,5 +1,5 @@
 -- The code reads the fields of the table; and what the table says of their numbers.
-use Rattle.std.proofs.Common.{◌≡◌, ℕ, zero, suc, ◌+◌, ◌<◌, ◌≤◌, ◌==◌, ◌^◌, Bool, true, false, List, length, Option, Some, None, Ok, Err, refl, sym, ap, subst, ◌∙◌, arith, inl, inr, Result}
+use Rattle.std.proofs.Common.{◌≡◌, ℕ, zero, ◌+◌, ◌<◌, ◌≤◌, ◌==◌, ◌^◌, Bool, true, false, List, length, Option, Some, None, Ok, Err, refl, sym, ap, subst, ◌∙◌, arith, inl, inr, Result}
 use Rattle.std.specs.Prelude.{◌||◌, ℤ, FitsSigned, position, nat_le, cond, nat_lt}
 use Rattle.std.specs.Int.{w64}
 use Rattle.std.proofs.lemmas.Bool.{cases_lt, lt-ltb, le-ltb, leb-true, ltb-true}
@@ -76,9 +76,8 @@ sizes_step i rest G same =
     ∙ sym (then_then (wanted_at (byte_count i.target.size) AddressSize i) selector_of G)
 
 string_of : {A : Type 0} (o : Option ℕ) (i : Input) (F : Input → Read A) (G : Unit {0} × Input → Read A) → F (behind 1 i) ≡ G (tt, behind 1 i) → judged (string_fault o) i.at (F (behind 1 i)) ≡ empty_of o i >>= G
-string_of None i F G same = refl
 string_of (Some zero) i F G same = same
-string_of (Some (suc n)) i F G same = refl
+string_of o i F G same = refl
 
 string_step : {A : Type 0} (i : Input) (F : Input → Read A) (G : Unit {0} × Input → Read A) → F (behind 1 i) ≡ G (tt, behind 1 i)
     → judged (string_fault (position (λ b. b == 0) i.bytes)) i.at (F (behind 1 i)) ≡ empty_string_at i >>= G

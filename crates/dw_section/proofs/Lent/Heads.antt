@@ -57,11 +57,10 @@ has_at target places p h (inr c) = ap head_at c.3
 
 heads_up : (target : Target) (places : List ℕ) (low : ℕ) (ps : List Piece) (hs : List Head) → AllZip (Has target places) ps hs → PiecesRise low ps → HeadsRise low hs
 heads_up target places low [] [] z up = tt
-heads_up target places low [] (h ∷ hs) z up = absurd z
-heads_up target places low (p ∷ ps) [] z up = absurd z
 heads_up target places low (p ∷ ps) (h ∷ hs) z up =
     let e = has_at target places p h z.0 in
     (subst (λ (n : ℕ). low ≤ n) (sym e) up.0, subst (λ (n : ℕ). HeadsRise (suc n) hs) (sym e) (heads_up target places (suc p.at) ps hs z.1 up.1))
+heads_up target places low ps hs z up = absurd z
 
 pub heads_rise : (target : Target) (s : List ℕ) (hs : List Head) → Headers target s hs → HeadsRise 0 hs
 heads_rise target s hs p = heads_up target (cie_places p.entries) 0 p.entries hs p.each (subst (PiecesRise 0) (sym p.cut.are) (pieces_up target.order 0 p.cut.items))
@@ -98,9 +97,8 @@ has_bytes target places p h (inr c) b = subst HasBytes (sym c.3) (rest_bytes c.2
 
 all_bytes_of : (target : Target) (places : List ℕ) (ps : List Piece) (hs : List Head) → AllZip (Has target places) ps hs → AllByRecursion (λ (p : Piece). AreBytes p.contents.bytes) ps → AllByRecursion HasBytes hs
 all_bytes_of target places [] [] z b = tt
-all_bytes_of target places [] (h ∷ hs) z b = absurd z
-all_bytes_of target places (p ∷ ps) [] z b = absurd z
 all_bytes_of target places (p ∷ ps) (h ∷ hs) z b = (has_bytes target places p h z.0 b.0, all_bytes_of target places ps hs z.1 b.1)
+all_bytes_of target places ps hs z b = absurd z
 
 pub heads_bytes : (target : Target) (s : List ℕ) (hs : List Head) → AreBytes s → Headers target s hs → AllByRecursion HasBytes hs
 heads_bytes target s hs b p =
@@ -121,9 +119,8 @@ has_fits target places p h (inr c) =
 
 all_fit : (target : Target) (places : List ℕ) (ps : List Piece) (hs : List Head) → AllZip (Has target places) ps hs → AllByRecursion (FdeFits target places) hs
 all_fit target places [] [] z = tt
-all_fit target places [] (h ∷ hs) z = absurd z
-all_fit target places (p ∷ ps) [] z = absurd z
 all_fit target places (p ∷ ps) (h ∷ hs) z = (has_fits target places p h z.0, all_fit target places ps hs z.1)
+all_fit target places ps hs z = absurd z
 
 has_place : (target : Target) (places : List ℕ) (p : Piece) (h : Head) → Has target places p h → cie_at_of h ≡ cie_place p
 has_place target places p h (inl c) = rw (c.3, c.2.0) refl
@@ -131,9 +128,8 @@ has_place target places p h (inr c) = rw (c.3, c.2.0) refl
 
 pub same_places : (target : Target) (places : List ℕ) (ps : List Piece) (hs : List Head) → AllZip (Has target places) ps hs → cie_ats hs ≡ cie_places ps
 same_places target places [] [] z = refl
-same_places target places [] (h ∷ hs) z = absurd z
-same_places target places (p ∷ ps) [] z = absurd z
 same_places target places (p ∷ ps) (h ∷ hs) z = rw (has_place target places p h z.0) (ap (λ (l : List ℕ). cons_option (cie_place p) l) (same_places target places ps hs z.1))
+same_places target places ps hs z = absurd z
 
 pub heads_fit : (target : Target) (s : List ℕ) (hs : List Head) → Headers target s hs → AllByRecursion (FdeFits target (cie_ats hs)) hs
 heads_fit target s hs p =

@@ -68,11 +68,10 @@ from_low low (c ∷ cs) zero d up lt = up.0
 from_low low (c ∷ cs) (suc j) d up lt = let p = from_low c.at cs j d up.1 (omega arith) in omega (arith, up.0)
 
 pub initials_ascend : (low : ℕ) (cs : List Initial) → Rises low (map place_of cs) → IsNonDecreasingBy place_of cs
-initials_ascend low [] up i j d le lt = absurd (omega arith)
 initials_ascend low (c ∷ cs) up zero zero d le lt = omega arith
 initials_ascend low (c ∷ cs) up zero (suc j) d le lt = from_low c.at cs j d up.1 (omega arith)
-initials_ascend low (c ∷ cs) up (suc i) zero d le lt = absurd (omega arith)
 initials_ascend low (c ∷ cs) up (suc i) (suc j) d le lt = initials_ascend c.at cs up.1 i j d (omega arith) (omega arith)
+initials_ascend low cs up i j d le lt = absurd (omega arith)
 
 pub found_initial : (place low : ℕ) (cs : List Initial) (i : ℕ) → Rises low (map place_of cs) → is_among place (map place_of cs) ≡ true
     → ((k : ℕ) (d : Initial) → k < i → nat_lt (get_or cs k d).at place ≡ true) → ((k : ℕ) (d : Initial) → i ≤ k → k < length cs → nat_lt (get_or cs k d).at place ≡ false)

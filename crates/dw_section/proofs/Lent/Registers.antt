@@ -21,18 +21,16 @@ has_register target places p h (inr c) = subst RegisterFits (sym c.3) tt
 
 all_registers : (target : Target) (places : List ℕ) (ps : List Piece) (hs : List Head) → AllZip (Has target places) ps hs → AllByRecursion RegisterFits hs
 all_registers target places [] [] z = tt
-all_registers target places [] (h ∷ hs) z = absurd z
-all_registers target places (p ∷ ps) [] z = absurd z
 all_registers target places (p ∷ ps) (h ∷ hs) z = (has_register target places p h z.0, all_registers target places ps hs z.1)
+all_registers target places ps hs z = absurd z
 
 pub headers_registers : (target : Target) (s : List ℕ) (hs : List Head) → Headers target s hs → AllByRecursion RegisterFits hs
 headers_registers target s hs p = all_registers target (cie_places p.entries) p.entries hs p.each
 
 listed_registers : (hs : List Head) (rs : List Range) (fs : List Fde) → AllByRecursion RegisterFits hs → AllZip (Lists hs) rs fs → AllByRecursion (λ (f : Fde). f.return_register < 65536) fs
 listed_registers hs [] [] all z = tt
-listed_registers hs [] (f ∷ fs) all z = absurd z
-listed_registers hs (r ∷ rs) [] all z = absurd z
 listed_registers hs (r ∷ rs) (f ∷ fs) all z = (omega (arith, all_in RegisterFits hs _ all z.0.returns.named_among, z.0.returns.is), listed_registers hs rs fs all z.1)
+listed_registers hs rs fs all z = absurd z
 
 pub fdes_registers : (target : Target) (s : List ℕ) (fs : List Fde) → AreFdes target s fs → AllByRecursion (λ (f : Fde). f.return_register < 65536) fs
 fdes_registers target s fs h = listed_registers h.headers h.index fs (headers_registers target s h.headers h.are) h.each

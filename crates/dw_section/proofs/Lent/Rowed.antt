@@ -90,8 +90,7 @@ IsListedRow change = AreSpecified 0 change.1.registers
 -- lists whose rows list each register once are one
 pub one_listed : (xs ys : List (ℕ × Rules)) → AllZip SameChange xs ys → AllByRecursion IsListedRow xs → AllByRecursion IsListedRow ys → xs ≡ ys
 one_listed [] [] z h k = refl
-one_listed [] (y ∷ ys) z h k = absurd z
-one_listed (x ∷ xs) [] z h k = absurd z
 one_listed (x ∷ xs) (y ∷ ys) z h k =
     let rows : x.1 ≡ y.1 = same_rows x.1 y.1 h.0 k.0 z.0.1.cfa z.0.1.rules in
     ap (λ (n : ℕ). (n, x.1) ∷ xs) z.0.0 ∙ ap (λ (r : Rules). (y.0, r) ∷ xs) rows ∙ ap (λ (l : List (ℕ × Rules)). y ∷ l) (one_listed xs ys z.1 h.1 k.1)
+one_listed xs ys z h k = absurd z

@@ -5,7 +5,7 @@ use Rattle.std.proofs.lemmas.Bool.Decides.{eqb_tells}
 use Rattle.dw_num.specs.declared.target.Target.{Target}
 use Rattle.dw_cfa.specs.declared.instr.Factors.{Factors}
 use Rattle.dw_cfa.specs.declared.instr.Instr.{Instr}
-use Rattle.dw_cfa.specs.declared.instr.Instr.TheVariants.{Nop, SetLoc, Advance, DefCfa, DefCfaRegister, DefCfaOffset, DefCfaExpression, Set, Restore, RememberState, RestoreState}
+use Rattle.dw_cfa.specs.declared.instr.Instr.TheVariants.{DefCfa, DefCfaRegister, DefCfaOffset, DefCfaExpression, Set, Restore, RememberState, RestoreState}
 use Rattle.dw_cfa.specs.declared.rule.CfaRule.{CfaRule}
 use Rattle.dw_cfa.specs.declared.rule.CfaRule.TheVariants as cfa
 use Rattle.dw_cfa.specs.declared.rule.RegRule.{RegRule}
@@ -61,16 +61,12 @@ instr_gives t f (DefCfaOffset n) b (inl h) = h.operands.range
 instr_gives t f (DefCfaOffset n) b (inr h) = h.operands.range
 instr_gives t f (DefCfaExpression e) b h = block_gives t e h.rest h.operands
 instr_gives t f (Set r rule) b h = rule_gives t f r rule b h
-instr_gives t f Nop b h = tt
-instr_gives t f (SetLoc a) b h = tt
-instr_gives t f (Advance d) b h = tt
-instr_gives t f (Restore r) b h = tt
-instr_gives t f RememberState b h = tt
-instr_gives t f RestoreState b h = tt
+instr_gives t f i b h = tt
 
-program_gives : (t : Target) (f : Factors) (instrs : List Instr) (b : List ℕ) → Program t f instrs b → AllByRecursion (Gives t) instrs
-program_gives t f [] b h = tt
-program_gives t f (i ∷ instrs) b h = (instr_gives t f i h.front (by_table t f i h.front h.first), program_gives t f instrs h.back h.second)
+-- what each spelling says, a program says of all its instructions
+pub program_all : (P : Instr → Type 0) (t : Target) (f : Factors) → ((i : Instr) (b : List ℕ) → IsSpelled t f i b → P i) → (instrs : List Instr) (b : List ℕ) → Program t f instrs b → AllByRecursion P instrs
+program_all P t f says [] b h = tt
+program_all P t f says (i ∷ instrs) b h = (says i h.front (by_table t f i h.front h.first), program_all P t f says instrs h.back h.second)
 
 -- ---- what is found looking back
 
@@ -103,13 +99,7 @@ cfa_keeps t (DefCfa r n) g old h = g
 cfa_keeps t (DefCfaRegister r) g old h = register_keeps t r old g h
 cfa_keeps t (DefCfaOffset n) g old h = offset_keeps t n old g h
 cfa_keeps t (DefCfaExpression e) g old h = g
-cfa_keeps t Nop g old h = h
-cfa_keeps t (SetLoc a) g old h = h
-cfa_keeps t (Advance d) g old h = h
-cfa_keeps t (Set r rule) g old h = h
-cfa_keeps t (Restore r) g old h = h
-cfa_keeps t RememberState g old h = h
-cfa_keeps t RestoreState g old h = h
+cfa_keeps t i g old h = h
 
 -- a rule of a register fits, and so does the register where the rule is specified
 abbrev Fitting : Target → ℕ → RegRule → Type 0
@@ -124,15 +114,7 @@ set_keeps t r q given old lt g h = elim (eqb_tells q r) [
 rule_keeps : (t : Target) (r : ℕ) (initial : RegRule) → Fitting t r initial → (i : Instr) → Gives t i → (old : RegRule) → Fitting t r old → Fitting t r (rule_change r initial i old)
 rule_keeps t r initial start (Set q given) g old h = set_keeps t r q given old g.0 g.1 h
 rule_keeps t r initial start (Restore q) g old h = elim (eqb_tells q r) [ inl is ↦ rw (is.0) start | inr not ↦ rw (not.0) h ]
-rule_keeps t r initial start Nop g old h = h
-rule_keeps t r initial start (SetLoc a) g old h = h
-rule_keeps t r initial start (Advance d) g old h = h
-rule_keeps t r initial start (DefCfa q n) g old h = h
-rule_keeps t r initial start (DefCfaRegister q) g old h = h
-rule_keeps t r initial start (DefCfaOffset n) g old h = h
-rule_keeps t r initial start (DefCfaExpression e) g old h = h
-rule_keeps t r initial start RememberState g old h = h
-rule_keeps t r initial start RestoreState g old h = h
+rule_keeps t r initial start i g old h = h
 
 module _ (t : Target) (i j : List Instr) (gi : AllByRecursion (Gives t) i) (gj : AllByRecursion (Gives t) j) where
   first_cfa : CfaFits t (initial_cfa i)
@@ -238,8 +220,8 @@ sound_section target s b ok fs f changes are listed h rows =
     let i = p.0 in
     let j = p.1 in
     let x = here target s b ok f.begin f.end i j p.2 in
-    let gi = program_gives target (factors_of x.spelled.head) i x.spelled.head.program.bytes x.spelled.begins.spelled in
-    let gj = program_gives target (factors_of x.spelled.head) j x.head.program.bytes x.spelled.spelled in
+    let gi = program_all (Gives target) target (factors_of x.spelled.head) (instr_gives target (factors_of x.spelled.head)) i x.spelled.head.program.bytes x.spelled.begins.spelled in
+    let gj = program_all (Gives target) target (factors_of x.spelled.head) (instr_gives target (factors_of x.spelled.head)) j x.head.program.bytes x.spelled.spelled in
     let some = (listed_programs target s b ok fs f are listed).0 in
     let low = begin_low target s b ok f.begin f.end i j p.2 in
     let each : (change : ℕ × Rules) → Held i j f.begin f.end change → AreSpecified 0 change.1.registers → ChangeFits target f.end change = λ change held specified. (

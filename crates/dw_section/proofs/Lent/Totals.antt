@@ -31,9 +31,8 @@ among_few end shown (row ∷ rows) changes (inr h) = let rest = among_few end (S
 
 same_length : (xs ys : List (ℕ × Rules)) → AllZip SameChange xs ys → length xs ≡ length ys
 same_length [] [] z = refl
-same_length [] (y ∷ ys) z = absurd z
-same_length (x ∷ xs) [] z = absurd z
 same_length (x ∷ xs) (y ∷ ys) z = ap suc (same_length xs ys z.1)
+same_length xs ys z = absurd z
 
 -- an FDE of an accepted section starts at least as many rows as it has changes
 pub least_starts : (target : Target) (s : List ℕ) (b : AreBytes s) (ok : Accepted target s) (begin end : ℕ) (i j : List Instr) (changes : List (ℕ × Rules)) → begin < end
@@ -66,13 +65,8 @@ module _ (target : Target) (s : List ℕ) (b : AreBytes s) (ok : Accepted target
   starts_all : (rs : List Range) (fs : List Fde) (ns : List ℕ) (lists : List (List (ℕ × Rules))) → AllByRecursion (λ (f : Fde). f.begin < f.end) fs → AllZip (Lists ks) rs fs → AllZip (Starts target s) rs ns → AllZip Change fs lists
       → total (map length lists) ≤ total ns
   starts_all [] [] [] [] some z w c = omega arith
-  starts_all [] [] [] (l ∷ lists) some z w c = absurd c
-  starts_all [] [] (n ∷ ns) lists some z w c = absurd w
-  starts_all [] (f ∷ fs) ns lists some z w c = absurd z
-  starts_all (r ∷ rs) [] ns lists some z w c = absurd z
-  starts_all (r ∷ rs) (f ∷ fs) [] lists some z w c = absurd w
-  starts_all (r ∷ rs) (f ∷ fs) (n ∷ ns) [] some z w c = absurd c
   starts_all (r ∷ rs) (f ∷ fs) (n ∷ ns) (l ∷ lists) some z w c = let rest = starts_all rs fs ns lists some.1 z.1 w.1 c.1 in let here = starts_one r f n l some.0 z.0 w.0 c.0 in omega arith
+  starts_all rs fs ns lists some z w c = absurd assumption
 
   some_all : (fs gs : List Fde) → AreFdes target s gs → ((f : Fde) → IsListed f fs → IsListed f gs) → AllByRecursion (λ (f : Fde). f.begin < f.end) fs
   some_all [] gs are into = tt

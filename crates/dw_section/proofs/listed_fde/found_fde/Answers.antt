@@ -1,4 +1,4 @@
-use Rattle.std.proofs.Common.{ℕ, List, ◌≡◌, ◌∷◌, ◌∙◌, map, drop, sym, ap, subst, arith}
+use Rattle.std.proofs.Common.{ℕ, List, ◌≡◌, ◌∷◌, ◌∙◌, map, drop, sym, ap, subst, arith, rules}
 use Rattle.std.proofs.lemmas.List.{length-drop}
 use Rattle.dw_num.specs.declared.target.Target.{Target}
 use Rattle.dw_num.specs.Input.{Input}
@@ -86,55 +86,29 @@ initial_at-initial-requires-clause-among c =
     let among = rw f.is at (subst (λ (h : Head). IsAmong h q.0) same q.3.own_among) in
     (all_in (FdeFits c.args.target (map place_of c.args.initials.now)) q.0 (fde (record { at = f.at; form = f.form; cie_at = f.cie_at; begin = f.begin; range = f.range; program = span_of f.program })) (places_so c.args.target c.args.bytes.now q.0 c.args.initials.now q.1.are q.2).1 among).2
 
-pub returns-clause-at : goal.returns-clause-at
-returns-clause-at c =
+-- what is read at the place is the header of the list's entry
+pub returns : goal.returns
+returns c =
     let q = c.requires.headers in
-    let w = left_here c.args.target c.args.bytes.now c.args.places.now q.0 _ _ q.3 c.cursor_at-cursor.result q.1 c.cursor_at-cursor.ensures in
-    let given = c.in-Some.ensures.gives (header_of q.0 _ _ q.3 ∷ w.0) w.1 in
-    let same = rw c.in-Fde.is at (head_same (header_of q.0 _ _ q.3) (head_in c.in-Some.header) w.0 given.0 given.1) in
-    ap head_at (sym same) ∙ place_is q.0 _ _ q.3
-
-pub returns-clause-begin : goal.returns-clause-begin
-returns-clause-begin c =
-    let q = c.requires.headers in
-    let w = left_here c.args.target c.args.bytes.now c.args.places.now q.0 _ _ q.3 c.cursor_at-cursor.result q.1 c.cursor_at-cursor.ensures in
-    let given = c.in-Some.ensures.gives (header_of q.0 _ _ q.3 ∷ w.0) w.1 in
-    let same = rw c.in-Fde.is at (head_same (header_of q.0 _ _ q.3) (head_in c.in-Some.header) w.0 given.0 given.1) in
-    ap begin_of (sym same) ∙ ap (λ (x : Range). x.begin) q.3.covers
-
-pub returns-clause-range : goal.returns-clause-range
-returns-clause-range c =
-    let q = c.requires.headers in
-    let w = left_here c.args.target c.args.bytes.now c.args.places.now q.0 _ _ q.3 c.cursor_at-cursor.result q.1 c.cursor_at-cursor.ensures in
-    let given = c.in-Some.ensures.gives (header_of q.0 _ _ q.3 ∷ w.0) w.1 in
-    let same = rw c.in-Fde.is at (head_same (header_of q.0 _ _ q.3) (head_in c.in-Some.header) w.0 given.0 given.1) in
-    ap range_of (sym same) ∙ ap (λ (x : Range). x.range) q.3.covers
-
-pub returns-clause-is : goal.returns-clause-is
-returns-clause-is c = λ hs heads initials r.
-    let f = c.in-Fde in
     let x = c.initial_at-initial.result.now in
-    let w = left_here c.args.target c.args.bytes.now c.args.places.now hs _ _ r c.cursor_at-cursor.result heads c.cursor_at-cursor.ensures in
-    let given = c.in-Some.ensures.gives (header_of hs _ _ r ∷ w.0) w.1 in
-    let same = head_same (header_of hs _ _ r) (head_in c.in-Some.header) w.0 given.0 given.1 in
-    let among = rw f.is at (subst (λ (h : Head). IsAmong h hs) same r.own_among) in
-    let is = c.initial_at-initial.ensures.is c.args.target hs initials.each in (
-      f.form,
-      is.0,
-      f.cie_at,
-      x.return_register,
-      among,
-      subst (λ (n : ℕ). IsAmong (cie (record { at = n; form = is.0; code_factor = x.factors.code_factor; data_factor = x.factors.data_factor; return_register = x.return_register; program = span_of x.program })) hs) c.initial_at-initial.ensures.place is.2,
-    )
-
-pub returns-clause-names : goal.returns-clause-names
-returns-clause-names c = λ hs heads initials r.
-    let x = c.initial_at-initial.result.now in
-    let is = c.initial_at-initial.ensures.is c.args.target hs initials.each in (
-      is.0,
-      x.return_register,
-      subst (λ (n : ℕ). IsAmong (cie (record { at = n; form = is.0; code_factor = x.factors.code_factor; data_factor = x.factors.data_factor; return_register = x.return_register; program = span_of x.program })) hs) c.initial_at-initial.ensures.place is.2,
-    )
+    let w = left_here c.args.target c.args.bytes.now c.args.places.now q.0 _ _ q.3 c.cursor_at-cursor.result q.1 c.cursor_at-cursor.ensures in
+    let given = c.in-Some.ensures.gives (header_of q.0 _ _ q.3 ∷ w.0) w.1 in
+    let same = rw c.in-Fde.is at (head_same (header_of q.0 _ _ q.3) (head_in c.in-Some.header) w.0 given.0 given.1) in
+    record {
+      at = ap head_at (sym same) ∙ place_is q.0 _ _ q.3;
+      begin = ap begin_of (sym same) ∙ ap (λ (x : Range). x.begin) q.3.covers;
+      range = ap range_of (sym same) ∙ ap (λ (x : Range). x.range) q.3.covers;
+      register = search rules;
+      is = λ hs heads initials r.
+          let f = c.in-Fde in
+          let w = left_here c.args.target c.args.bytes.now c.args.places.now hs _ _ r c.cursor_at-cursor.result heads c.cursor_at-cursor.ensures in
+          let given = c.in-Some.ensures.gives (header_of hs _ _ r ∷ w.0) w.1 in
+          let same = head_same (header_of hs _ _ r) (head_in c.in-Some.header) w.0 given.0 given.1 in
+          let among = rw f.is at (subst (λ (h : Head). IsAmong h hs) same r.own_among) in
+          let is = c.initial_at-initial.ensures.is c.args.target hs initials.each in
+          (f.form, is.0, f.cie_at, x.return_register, among, subst (λ (n : ℕ). IsAmong (cie (record { at = n; form = is.0; code_factor = x.factors.code_factor; data_factor = x.factors.data_factor; return_register = x.return_register; program = span_of x.program })) hs) c.initial_at-initial.ensures.place is.2);
+      names = λ hs heads initials r. let is = c.initial_at-initial.ensures.is c.args.target hs initials.each in (is.0, x.return_register, subst (λ (n : ℕ). IsAmong (cie (record { at = n; form = is.0; code_factor = x.factors.code_factor; data_factor = x.factors.data_factor; return_register = x.return_register; program = span_of x.program })) hs) c.initial_at-initial.ensures.place is.2);
+    }
 
 pub unreachable-requires-in-Cie : goal.unreachable-requires-in-Cie
 unreachable-requires-in-Cie c =
