@@ -9,3 +9,4 @@ pub mod MemberPlaces
 pub mod Bounds
 pub mod Rendered
 pub mod Canonical
+pub mod Joins
