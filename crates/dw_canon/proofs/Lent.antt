@@ -11,3 +11,4 @@ pub mod MemberPlaces
 pub mod Bounds
 pub mod Rendered
 pub mod Canonical
+pub mod Joins

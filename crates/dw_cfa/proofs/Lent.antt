@@ -16,3 +16,4 @@ pub mod SameRows
 pub mod Skipped
 pub mod InstrCounts
 pub mod Narrowed
+pub mod Openings

@@ -50,7 +50,7 @@ rule_given : (t : Target) (f : Factors) (r : ℕ) (given : RegRule) (b : List �
 rule_given t f r rules.Unspecified b h = absurd h
 rule_given t f r given b h = refl
 
-spells_rule : (t : Target) (f : Factors) (i : Instr) (b : List ℕ) → IsSpelled t f i b → GivesRule i
+pub spells_rule : (t : Target) (f : Factors) (i : Instr) (b : List ℕ) → IsSpelled t f i b → GivesRule i
 spells_rule t f (Set r given) b h = rule_given t f r given b h
 spells_rule t f i b h = tt
 

@@ -10,6 +10,7 @@ mod Taken
 mod ChangesToCome
 mod Dropped
 mod Grouped
+mod Again
 mod Reports
 mod Placed
 mod Alike

@@ -70,7 +70,7 @@ pub(crate) fn begin_fde<'r, 'a>(
     ensures section { begun.new.changes.section ≡ table.now }
 {
     table.accepted();
-    let _ = go_behind_first(&mut begun.changes, table, fde)?;
+    go_behind_first(&mut begun.changes, table, fde)?;
     begun.fde = table.fde(fde);
     begun.shared = shared_row(rows, table, fde);
     Ok(())

@@ -1,16 +1,19 @@
-//! The initial row of each return register, found in one pass over all changes.
+//! The initial row of each return register, found in one pass over the FDEs.
 
-ghost use Rattle.std.specs.Prelude.{◌≡◌, ℕ, true, false, ◌<◌, ◌≤◌, List, length, slice_index_or, Some, IfOk, IsTrue, OnOk};
+ghost use Rattle.std.specs.Prelude.{◌≡◌, ℕ, true, false, ◌<◌, ◌≤◌, List, length, slice_index_or, take, Some, IfOk, IfSome, IsTrue, OnOk};
 ghost use Rattle.std.specs.BTreeMap.{insert_entry};
 ghost use Rattle.std.specs.Ordering.{nat_cmp};
 ghost use Rattle.dw_cfa.specs.Rows.{Rules};
 ghost use Rattle.dw_section.specs.declared.lookup.Fde.{Fde as TheFde};
-ghost use Rattle.dw_section.specs.Meaning.{AreFdes, HasLengths};
+ghost use Rattle.dw_section.specs.Changes.{ToCome};
+ghost use Rattle.dw_section.specs.Laws.{AreListed};
+ghost use Rattle.dw_section.specs.Meaning.{AreFdes, ChangesOf};
+ghost use Rattle.dw_section.specs.Opening.{OpensBehind};
 ghost use Rattle.dw_canon.specs.Inner.Canon.{canon};
 ghost use Rattle.dw_canon.specs.Group.{kept_by};
 ghost use Rattle.dw_canon.specs.Members.{Member, AreMembers};
 ghost use Rattle.dw_cfa.specs.Agreement.{agreed, kept};
-ghost use Rattle.dw_normal.specs.Inner.Groups.{SpecifiesAll, NarrowedBy, with_member, initial_rows};
+ghost use Rattle.dw_normal.specs.Inner.Groups.{SpecifiesAll, NarrowedBy, HasJoined, joined_by, with_member, initial_rows};
 ghost use Rattle.dw_normal.specs.Inner.ChangeWalk.{AreToCome, BehindFirst};
 
 use crate::bound::add_share;
@@ -19,22 +22,38 @@ use dw_section::{Changes, FdeRef, Table};
 use std::alloc::{AllocError, Global};
 use std::collections::BTreeMap;
 
-/// Goes on to the changes of an FDE behind its begin, whose row is lent, and answers how long its programs are.
+// Goes to the begin of an FDE that changes were gone on to.
+#[inline(always)]
+fn show_first<'a>(
+    changes: &mut Changes<'a>,
+    table: &Table<'a>,
+    fde: FdeRef,
+) -> Result<(), AllocError>
+    requires place { (fs : List TheFde) → AreFdes table.now.target table.now.bytes fs → fde.place < length fs }
+    requires changes { (fs : List TheFde) → AreFdes table.now.target table.now.bytes fs → (d : TheFde) (all : List (ℕ × Rules)) → ToCome changes.old all → ChangesOf table.now.target table.now.bytes (slice_index_or fs fde.place d) all }
+    requires listed { (all : List (ℕ × Rules)) → ToCome changes.old all → AreListed all }
+    requires end { (fs : List TheFde) → AreFdes table.now.target table.now.bytes fs → (d : TheFde) → changes.old.end ≡ (slice_index_or fs fde.place d).end }
+    ensures behind { (ms : List Member) → AreMembers table.now.target table.now.bytes ms → (d : Member) → OnOk result (BehindFirst (slice_index_or ms fde.place d) changes.new) }
+    ensures section { changes.new.section ≡ changes.old.section }
+{
+    table.accepted();
+    let _ = changes.advance()?;
+    Ok(())
+}
+
+/// Goes on to the changes of an FDE behind its begin, whose row is lent.
 pub(crate) fn go_behind_first<'a>(
     changes: &mut Changes<'a>,
     table: &Table<'a>,
     fde: FdeRef,
-) -> Result<(usize, usize), AllocError>
+) -> Result<(), AllocError>
     requires place { (fs : List TheFde) → AreFdes table.now.target table.now.bytes fs → fde.place < length fs }
     requires section { changes.old.section ≡ table.now }
     ensures behind { (ms : List Member) → AreMembers table.now.target table.now.bytes ms → (d : Member) → OnOk result (BehindFirst (slice_index_or ms fde.place d) changes.new) }
-    ensures lengths { (fs : List TheFde) → AreFdes table.now.target table.now.bytes fs → (d : TheFde) → IfOk result (λ n. HasLengths table.now.target table.now.bytes (slice_index_or fs fde.place d) n.0 n.1) }
     ensures section { changes.new.section ≡ table.now }
 {
-    table.accepted();
-    let lengths = table.go_on_lengths(changes, fde);
-    let _ = changes.advance()?;
-    Ok(lengths)
+    table.go_on(changes, fde);
+    show_first(changes, table, fde)
 }
 
 // Whether a change may leave a register Unspecified that the row before it specifies. It looks at the registers that the
@@ -157,7 +176,68 @@ fn add_fde<'a>(
     begin_group(rows, changes, register)
 }
 
-/// The initial row of each return register, in one pass over all changes, and whether the lengths of the programs alone show
+/// A CIE whose row FDEs begin with, which the row of a group was narrowed to, and the return register of the group.
+#[derive(Clone, Copy)]
+pub(crate) struct Joined {
+    pub(crate) cie_at: u64,
+    pub(crate) register: u16,
+}
+
+// Whether an FDE that begins with the row of a CIE is one of those.
+#[inline(always)]
+fn is_joined(joined: Option<Joined>, cie_at: Option<u64>, register: u16) -> bool
+    ensures { IsTrue result → (at : ℕ) × (cie_at ≡ Some at) × (joined ≡ Some (record { cie_at = at; register = register })) }
+{
+    match (joined, cie_at) {
+        (Some(joined), Some(at)) => joined.cie_at == at && joined.register == register,
+        _ => false,
+    }
+}
+
+// The CIE whose row an FDE of a group begins with, where that is known.
+#[inline(always)]
+fn joined_by(cie_at: Option<u64>, register: u16) -> Option<Joined>
+    ensures { result ≡ joined_by cie_at register }
+{
+    match cie_at {
+        Some(cie_at) => Some(Joined { cie_at, register }),
+        None => None,
+    }
+}
+
+// Narrows the row of an FDE's group to what the FDE shares with it, and answers which FDEs share all that is left then. An FDE
+// that is known to do so is not run.
+#[inline(always)]
+fn join_fde<'a>(
+    rows: &mut BTreeMap<u16, Row<'a>>,
+    changes: &mut Changes<'a>,
+    table: &Table<'a>,
+    fde: FdeRef,
+    cie_at: Option<u64>,
+    joined: Option<Joined>,
+) -> Result<Option<Joined>, AllocError>
+    requires place { (fs : List TheFde) → AreFdes table.now.target table.now.bytes fs → fde.place < length fs }
+    requires changes { (fs : List TheFde) → AreFdes table.now.target table.now.bytes fs → (d : TheFde) (all : List (ℕ × Rules)) → ToCome changes.old all → ChangesOf table.now.target table.now.bytes (slice_index_or fs fde.place d) all }
+    requires listed { (all : List (ℕ × Rules)) → ToCome changes.old all → AreListed all }
+    requires end { (fs : List TheFde) → AreFdes table.now.target table.now.bytes fs → (d : TheFde) → changes.old.end ≡ (slice_index_or fs fde.place d).end }
+    requires opens { (fs : List TheFde) → AreFdes table.now.target table.now.bytes fs → (d : TheFde) → IfSome cie_at (OpensBehind table.now.target table.now.bytes (slice_index_or fs fde.place d)) }
+    requires rows { (ms : List Member) → AreMembers table.now.target table.now.bytes ms → rows.old.entries ≡ initial_rows (take fde.place ms) }
+    requires joined { HasJoined table.now.target table.now.bytes rows.old.entries joined }
+    ensures rows { (ms : List Member) → AreMembers table.now.target table.now.bytes ms → (d : Member) → OnOk result (rows.new.entries ≡ with_member rows.old.entries (slice_index_or ms fde.place d)) }
+    ensures joined { IfOk result (HasJoined table.now.target table.now.bytes rows.new.entries) }
+    ensures section { changes.new.section ≡ changes.old.section }
+{
+    table.accepted();
+    let register = table.fde(fde).return_register;
+    if is_joined(joined, cie_at, register) {
+        return Ok(joined);
+    }
+    show_first(changes, table, fde)?;
+    add_fde(rows, changes, table, fde)?;
+    Ok(joined_by(cie_at, register))
+}
+
+/// The initial row of each return register, in one pass over the FDEs, and whether the lengths of the programs alone show
 /// that the normal form is within a cap.
 pub(crate) fn initial_rows<'a>(
     alloc: Global,
@@ -172,11 +252,12 @@ pub(crate) fn initial_rows<'a>(
     let mut rows = BTreeMap::new(alloc);
     let mut changes = table.no_changes();
     let mut total = Some(0);
+    let mut joined = None;
     'fdes: for place in 0..table.fde_count() {
         let fde = FdeRef { place };
-        let (own, initial) = go_behind_first(&mut changes, table, fde)?;
-        total = add_share(total, own, initial, cap);
-        add_fde(&mut rows, &mut changes, table, fde)?;
+        let opening = table.go_on_opening(&mut changes, fde);
+        total = add_share(total, opening.own, opening.initial, cap);
+        joined = join_fde(&mut rows, &mut changes, table, fde, opening.cie_at, joined)?;
     }
     Ok((rows, total.is_some()))
 }

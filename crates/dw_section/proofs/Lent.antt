@@ -17,3 +17,4 @@ pub mod Exists
 pub mod Sounds
 pub mod Totals
 pub mod OneLengths
+pub mod OpeningLaws

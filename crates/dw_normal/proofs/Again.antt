@@ -1,0 +1,125 @@
+-- An FDE that begins with the row of a CIE leaves the rows of the groups as they are, where another one of the CIE came before.
+use Rattle.std.proofs.Common.{Equal, eq-eqb, ◌≡◌, ℕ, zero, suc, ◌<◌, ◌≤◌, true, false, List, [], ◌∷◌, length, take, get_or, Option, Some, None, refl, sym, ap, ◌∙◌, subst, inl, inr, arith}
+use Rattle.std.specs.Prelude.{nat_eq, nat_lt, IfSome}
+use Rattle.std.specs.BTreeMap.{insert_entry, is_at}
+use Rattle.std.specs.List.{AllByRecursion}
+use Rattle.std.specs.Map.{lookup}
+use Rattle.std.specs.Ordering.{nat_cmp}
+use Rattle.std.proofs.lemmas.Bool.{le-ltb}
+use Rattle.dw_num.specs.declared.target.Target.{Target}
+use Rattle.dw_num.specs.Input.{AreBytes}
+use Rattle.dw_cfa.specs.Agreement.{agreed}
+use Rattle.dw_cfa.specs.Rows.{Rules}
+use Rattle.dw_section.specs.Accepted.{Accepted}
+use Rattle.dw_section.specs.Opening.{OpensBehind}
+use Rattle.dw_section.specs.Inner.Sound.{RowFits}
+use Rattle.dw_section.proofs.Lent.Judged.{all_get}
+use Rattle.dw_section.proofs.Lent.OpeningLaws.{Opened, Specifies, one_first, opened}
+use Rattle.dw_canon.specs.Canon.{initial_of}
+use Rattle.dw_canon.specs.Group.{group, kept_by}
+use Rattle.dw_canon.specs.Members.{Member, AreMembers, IsMember, fde_of}
+use Rattle.dw_canon.proofs.Shared.{MemberFits}
+use Rattle.dw_canon.proofs.Lent.Joins.{PartOf, first_part, joined_again, next_part}
+use Rattle.dw_canon.proofs.Lent.MemberPlaces.{group_fits}
+use Rattle.dw_canon.proofs.Lent.Rendered.{fits, nonempty}
+use Rattle.dw_normal.specs.Inner.Groups.{HasJoined, begun_with, initial_rows, joined_by, row_of, with_member}
+use Rattle.dw_normal.specs.declared.groups.Joined.{Joined}
+use Rattle.dw_normal.proofs.Grouped.{Lower, look_members, some_of, told}
+
+-- ---- a row that is written twice
+
+self_is : (k : ℕ) → nat_cmp k k ≡ Equal
+self_is k = let lt : nat_lt k k ≡ false = le-ltb k k (omega arith) in let eq : nat_eq k k ≡ true = eq-eqb k k refl in rw (lt, eq) refl
+
+there_is : (k e : ℕ) → k ≡ e → nat_cmp k e ≡ Equal
+there_is k e same = subst (λ (n : ℕ). nat_cmp k n ≡ Equal) same (self_is k)
+
+pub found_written : (k : ℕ) (v : Rules) (es : List (ℕ × Rules)) → row_of (insert_entry nat_cmp es k v) k ≡ Some v
+found_written k v [] = let here = self_is k in rw here refl
+found_written k v (e ∷ es) = elim (told k e.0) [
+  | inl low ↦ let less = low.less in let here = self_is k in rw (less, here) refl
+  | inr (inl same) ↦ let here = self_is k in let there = there_is k e.0 same in rw (there, there) refl
+  | inr (inr high) ↦ let greater = high.greater in rw (greater, greater) (found_written k v es)
+]
+
+pub written_twice : (k : ℕ) (v : Rules) (es : List (ℕ × Rules)) → insert_entry nat_cmp (insert_entry nat_cmp es k v) k v ≡ insert_entry nat_cmp es k v
+written_twice k v [] = let here = self_is k in rw here refl
+written_twice k v (e ∷ es) = elim (told k e.0) [
+  | inl low ↦ let less = low.less in let here = self_is k in rw (less, here) refl
+  | inr (inl same) ↦ let here = self_is k in let there = there_is k e.0 same in rw (there, there) refl
+  | inr (inr high) ↦ let greater = high.greater in rw (greater, greater) (ap (λ (l : List (ℕ × Rules)). e ∷ l) (written_twice k v es))
+]
+
+-- ---- what the row of a group is part of
+
+part_then : (t : Target) (o : Option Rules) (m : Member) → IfSome o (RowFits t) → MemberFits t m → PartOf t (kept_by (begun_with o m.first) m.later) m.first
+part_then t None m h k = first_part t m.first m.later k.0
+part_then t (Some s) m h k = next_part t s m h k
+
+all_taken : {X : Type 0} (P : X → Type 0) (n : ℕ) (xs : List X) → AllByRecursion P xs → AllByRecursion P (take n xs)
+all_taken P zero [] h = tt
+all_taken P zero (x ∷ xs) h = tt
+all_taken P (suc n) [] h = tt
+all_taken P (suc n) (x ∷ xs) h = (h.0, all_taken P n xs h.1)
+
+some_fits : (t : Target) (row : Rules) (ms : List Member) → RowFits t row → IfSome (some_of row ms) (RowFits t)
+some_fits t row [] h = tt
+some_fits t row (m ∷ ms) h = h
+
+row_fits : (t : Target) (xs : List Member) (q : ℕ) → AllByRecursion (MemberFits t) xs → IfSome (row_of (initial_rows xs) q) (RowFits t)
+row_fits t xs q h = subst (λ (o : Option Rules). IfSome o (RowFits t)) (sym (look_members (initial_of xs) q xs)) (some_fits t (initial_of xs q) (group q xs) (group_fits t xs q h))
+
+-- ---- another FDE of a CIE
+
+-- with the same first row, and later ones that specify what it does
+again_same : (t : Target) (rows : List (ℕ × Rules)) (n m : Member) → IfSome (row_of rows n.register) (RowFits t) → MemberFits t n → m.register ≡ n.register → m.first ≡ n.first
+    → AllByRecursion (λ (change : ℕ × Rules). Specifies change.1 m.first) m.later → with_member (with_member rows n) m ≡ with_member rows n
+again_same t rows n m h k register first specify =
+    let q = n.register in
+    let v = kept_by (begun_with (row_of rows q) n.first) n.later in
+    let made = insert_entry nat_cmp rows q v in
+    let all = subst (λ (x : Rules). AllByRecursion (λ (change : ℕ × Rules). Specifies change.1 x) m.later) first specify in
+    let stays : kept_by (agreed v n.first) m.later ≡ v = joined_again t v n.first (part_then t (row_of rows q) n h k) k.0 m.later all in
+    let there : kept_by (begun_with (row_of made q) m.first) m.later ≡ v =
+    ap (λ (o : Option Rules). kept_by (begun_with o m.first) m.later) (found_written q v rows) ∙ ap (λ (x : Rules). kept_by (agreed v x) m.later) first ∙ stays in
+    ap (λ (r : ℕ). insert_entry nat_cmp made r (kept_by (begun_with (row_of made r) m.first) m.later)) register ∙ ap (insert_entry nat_cmp made q) there ∙ written_twice q v rows
+
+module _ (t : Target) (s : List ℕ) (b : AreBytes s) (ok : Accepted t s) (ms : List Member) (are : AreMembers t s ms) where
+  opened_member : (d : Member) (k at : ℕ) → k < length ms → (o : OpensBehind t s (fde_of (get_or ms k d)) at) → Opened o.initial ((get_or ms k d).begin, (get_or ms k d).first) (get_or ms k d).later
+  opened_member d k at lt o =
+      let m = get_or ms k d in
+      let is = all_get (IsMember t s) ms k d are.each lt in
+      let some : m.begin < m.end = all_get (λ (n : Member). n.begin < n.end) ms k d (nonempty t s b ok ms are) lt in
+      opened t s b ok (fde_of m) at (m.begin, m.first) m.later o some is.changes
+
+  pub joined : (d : Member) (place k at : ℕ) → place < length ms → k < length ms → (rows : List (ℕ × Rules)) → rows ≡ initial_rows (take place ms) → OpensBehind t s (fde_of (get_or ms place d)) at
+      → OpensBehind t s (fde_of (get_or ms k d)) at → (get_or ms k d).register ≡ (get_or ms place d).register → with_member (with_member rows (get_or ms place d)) (get_or ms k d) ≡ with_member rows (get_or ms place d)
+  joined d place k at lt less rows is o p register =
+      let n = get_or ms place d in
+      let m = get_or ms k d in
+      let own = opened_member d place at lt o in
+      let other = opened_member d k at less p in
+      let all = fits t s b ok ms are in
+      let first : m.first ≡ n.first = one_first t s b ok (fde_of m) (fde_of n) at (m.begin, m.first) (n.begin, n.first) m.later n.later p o other own in
+      let here = subst (λ (l : List (ℕ × Rules)). IfSome (row_of l n.register) (RowFits t)) (sym is) (row_fits t (take place ms) n.register (all_taken (MemberFits t) place ms all)) in
+      again_same t rows n m here (all_get (MemberFits t) ms place d all lt) register first other.specify
+
+-- ---- what a group was joined with
+
+pub joined_is : (t : Target) (s : List ℕ) (rows : List (ℕ × Rules)) (joined : Option Joined) (cie_at : Option ℕ) (register : ℕ) → (at : ℕ) × (cie_at ≡ Some at) × (joined ≡ Some (record { cie_at = at; register = register }))
+    → HasJoined t s rows joined → (ms : List Member) → AreMembers t s ms → (d : Member) (k : ℕ) → k < length ms → IfSome cie_at (OpensBehind t s (fde_of (get_or ms k d))) → (get_or ms k d).register ≡ register
+    → with_member rows (get_or ms k d) ≡ rows
+joined_is t s rows joined cie_at register x has ms are d k lt opens same =
+    let there = subst (HasJoined t s rows) x.2 has in
+    let own = subst (λ (o : Option ℕ). IfSome o (OpensBehind t s (fde_of (get_or ms k d)))) x.1 opens in
+    there ms are d k lt own same
+
+pub then_joined : (t : Target) (s : List ℕ) → AreBytes s → Accepted t s → (place register : ℕ) (cie_at : Option ℕ) (old new : List (ℕ × Rules)) → ((ms : List Member) → AreMembers t s ms → place < length ms)
+    → ((ms : List Member) → AreMembers t s ms → (d : Member) → IfSome cie_at (OpensBehind t s (fde_of (get_or ms place d)))) → ((ms : List Member) → AreMembers t s ms → old ≡ initial_rows (take place ms))
+    → ((ms : List Member) → AreMembers t s ms → (d : Member) → new ≡ with_member old (get_or ms place d)) → ((ms : List Member) → AreMembers t s ms → (d : Member) → (get_or ms place d).register ≡ register)
+    → HasJoined t s new (joined_by cie_at register)
+then_joined t s b ok place register None old new lt opens rows made own = tt
+then_joined t s b ok place register (Some at) old new lt opens rows made own = λ ms are d k less p same.
+    let m = get_or ms k d in
+    let is = made ms are d in
+    ap (λ (l : List (ℕ × Rules)). with_member l m) is ∙ joined t s b ok ms are d place k at (lt ms are) less old (rows ms are) (opens ms are d) p (same ∙ sym (own ms are d)) ∙ sym is

@@ -1,0 +1,64 @@
+//! How an FDE's program begins.
+
+ghost use Rattle.std.specs.Prelude.{◌≡◌, ◌<◌, ℕ, false, List, length, slice_index_or, None, IfSome};
+ghost use Rattle.dw_num.specs.declared.target.Target.{Target as TheTarget};
+ghost use Rattle.dw_cfa.specs.declared.instr.Instr.{Instr};
+ghost use Rattle.dw_cfa.specs.InstrSpells.{Program as ProgramSpells};
+ghost use Rattle.dw_cfa.specs.Opening.{MovesFirst};
+ghost use Rattle.dw_cfa.specs.Rows.{Rules};
+ghost use Rattle.dw_section.specs.declared.lookup.Fde.{Fde as TheFde};
+ghost use Rattle.dw_section.specs.Changes.{ToCome};
+ghost use Rattle.dw_section.specs.Laws.{AreListed};
+ghost use Rattle.dw_section.specs.Meaning.{AreFdes, ChangesOf, HasLengths};
+ghost use Rattle.dw_section.specs.Opening.{OpensBehind};
+
+use crate::change::Changes;
+use crate::listed_fde::FoundFde;
+use crate::lookup::FdeRef;
+use crate::table::Table;
+use dw_cfa::moves_first;
+
+/// How long an FDE's programs are, and how its own begins.
+#[derive(Clone, Copy, Debug, PartialEq, Eq)]
+pub struct Opening {
+    /// How many bytes its own program has.
+    pub own: usize,
+    /// How many bytes the program of its CIE has.
+    pub initial: usize,
+    /// The place of its CIE, where its own program is known to move the location before it changes a rule: then the rules at
+    /// its begin are those that the CIE's program leaves.
+    pub cie_at: Option<u64>,
+}
+
+#[inline(always)]
+fn opening_in(found: FoundFde<'_>) -> Opening
+    ensures own { result.own ≡ length found.entry.program.bytes.now }
+    ensures initial { result.initial ≡ length found.entry.cie_program.bytes.now }
+    ensures cie_at { IfSome result.cie_at (λ at. at ≡ found.entry.cie_at) }
+    ensures moves { IfSome result.cie_at (λ _. (t : TheTarget) (instrs : List Instr) → ProgramSpells t found.entry.factors instrs found.entry.program.bytes.now → MovesFirst instrs) }
+{
+    let moves = moves_first(found.program, found.factors);
+    Opening {
+        own: found.program.bytes.len(),
+        initial: found.cie_program.bytes.len(),
+        cie_at: if moves { Some(found.cie_at) } else { None },
+    }
+}
+
+impl<'a> Table<'a> {
+    /// Goes on to the changes of an FDE as `go_on` does, and answers how its programs begin: its fields are read once.
+    pub fn go_on_opening(&self, changes: &mut Changes<'a>, fde: FdeRef) -> Opening
+        requires place { (fs : List TheFde) → AreFdes self.now.target self.now.bytes fs → fde.place < length fs }
+        requires section { changes.old.section ≡ self.now }
+        ensures begun { (changes.new.failed ≡ false) × (changes.new.shown ≡ None) }
+        ensures before { changes.new.before ≡ None }
+        ensures section { changes.new.section ≡ self.now }
+        ensures changes { (fs : List TheFde) → AreFdes self.now.target self.now.bytes fs → (d : TheFde) (all : List (ℕ × Rules)) → ToCome changes.new all → ChangesOf self.now.target self.now.bytes (slice_index_or fs fde.place d) all }
+        ensures listed { (all : List (ℕ × Rules)) → ToCome changes.new all → AreListed all }
+        ensures end { (fs : List TheFde) → AreFdes self.now.target self.now.bytes fs → (d : TheFde) → changes.new.end ≡ (slice_index_or fs fde.place d).end }
+        ensures lengths { (fs : List TheFde) → AreFdes self.now.target self.now.bytes fs → (d : TheFde) → HasLengths self.now.target self.now.bytes (slice_index_or fs fde.place d) result.own result.initial }
+        ensures opens { (fs : List TheFde) → AreFdes self.now.target self.now.bytes fs → (d : TheFde) → IfSome result.cie_at (OpensBehind self.now.target self.now.bytes (slice_index_or fs fde.place d)) }
+    {
+        opening_in(self.led(changes, fde))
+    }
+}
