@@ -17,7 +17,9 @@ use Rattle.dw_cfa.specs.InstrSpells.{FormSpells, Program}
 use Rattle.dw_cfa.specs.Location.{onto, back_from, location_back, Counts}
 use Rattle.dw_cfa.specs.Opening.{MovesFirst}
 use Rattle.dw_cfa.specs.Inner.Operands.{form_of, opcode_of}
+use Rattle.dw_cfa.specs.Operands.{Form}
 use Rattle.dw_cfa.specs.Rows.{is_specified}
+use Rattle.dw_cfa.proofs.CodeForms.{opcode_behind}
 use Rattle.dw_cfa.proofs.Codes.{CodeOf, opcode_known}
 use Rattle.dw_cfa.proofs.Lent.Spellings.{by_table}
 use Rattle.dw_cfa.proofs.Stays.{GivesRule, spells_rule}
@@ -104,12 +106,13 @@ pub record FirstCode (t : Target) (f : Factors) (i : Instr) (instrs : List Instr
 first_code : (t : Target) (f : Factors) (i : Instr) (instrs : List Instr) (code : ℕ) (rest : List ℕ) → Program t f (i ∷ instrs) (code ∷ rest) → FirstCode t f i instrs code rest
 first_code t f i instrs code rest p =
     let own = p.first in
+    let o = opcode_behind f own.code own.form own.known in
     let all : code ∷ rest ≡ own.code ∷ (own.rest ++ p.back) = p.whole ∙ ap (λ (l : List ℕ). l ++ p.back) own.whole in
     record {
-      opcode = own.opcode;
-      known = subst (λ (c : ℕ). opcode_of c ≡ Some own.opcode) (sym (cons_head code own.code rest (own.rest ++ p.back) all)) own.known;
+      opcode = o.opcode;
+      known = subst (λ (c : ℕ). opcode_of c ≡ Some o.opcode) (sym (cons_head code own.code rest (own.rest ++ p.back) all)) o.known;
       operands = own.rest;
-      spelled = own.operands;
+      spelled = subst (λ (form : Form). FormSpells t form i own.rest) o.is own.operands;
       behind = p.back;
       whole = cons_tail code own.code rest (own.rest ++ p.back) all;
       more = p.second;
