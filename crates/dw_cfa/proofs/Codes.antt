@@ -1,8 +1,8 @@
 -- What a code says.
-use Rattle.std.proofs.Common.{◌≡◌, ℕ, ◌+◌, ◌-◌, ◌<◌, true, false, Some, refl, ap, subst, arith, inl, inr}
-use Rattle.std.proofs.lemmas.Bool.{cases_Bool, lt-ltb, le-ltb, le-leb}
+use Rattle.std.proofs.Common.{◌≡◌, ℕ, ◌+◌, ◌-◌, ◌<◌, Some, refl, ap, subst, arith, inl, inr}
+use Rattle.std.proofs.lemmas.Bool.{cases_Bool}
 use Rattle.dw_op.specs.Operands.{in_range}
-use Rattle.dw_op.proofs.Lent.ReadingLaws.{some_is, EachEntry, looked_up, range_is}
+use Rattle.dw_op.proofs.Lent.ReadingLaws.{some_is, EachEntry, looked_up, range_is, within, above}
 use Rattle.dw_cfa.specs.declared.opcode.Opcode.{Opcode}
 use Rattle.dw_cfa.specs.declared.opcode.Opcode.TheVariants as opcodes
 use Rattle.dw_cfa.specs.Inner.Operands.{opcode_table, opcode_of}
@@ -65,20 +65,14 @@ opcode_known code opcode e = elim (cases_Bool (in_range 0x40 0x80 code)) [
 pub advance_known : (delta : ℕ) → delta < 64 → opcode_of (0x40 + delta) ≡ Some (opcodes.AdvanceLoc delta)
 unfolding opcode_of
 advance_known delta lt =
-    let here : in_range 0x40 0x80 (0x40 + delta) ≡ true = rw (le-leb 0x40 (0x40 + delta) (omega arith), lt-ltb (0x40 + delta) 0x80 (omega arith)) refl in
-    rw here (ap (λ (m : ℕ). Some (opcodes.AdvanceLoc m)) (omega arith))
+    rw (within 0x40 0x80 (0x40 + delta) (omega arith) (omega arith)) (ap (λ (m : ℕ). Some (opcodes.AdvanceLoc m)) (omega arith))
 
 pub offset_known : (r : ℕ) → r < 64 → opcode_of (0x80 + r) ≡ Some (opcodes.Offset r)
 unfolding opcode_of
 offset_known r lt =
-    let past : in_range 0x40 0x80 (0x80 + r) ≡ false = rw (le-leb 0x40 (0x80 + r) (omega arith), le-ltb (0x80 + r) 0x80 (omega arith)) refl in
-    let here : in_range 0x80 0xc0 (0x80 + r) ≡ true = rw (le-leb 0x80 (0x80 + r) (omega arith), lt-ltb (0x80 + r) 0xc0 (omega arith)) refl in
-    rw (past, here) (ap (λ (m : ℕ). Some (opcodes.Offset m)) (omega arith))
+    rw (above 0x40 0x80 (0x80 + r) (omega arith) (omega arith), within 0x80 0xc0 (0x80 + r) (omega arith) (omega arith)) (ap (λ (m : ℕ). Some (opcodes.Offset m)) (omega arith))
 
 pub restore_known : (r : ℕ) → r < 64 → opcode_of (0xc0 + r) ≡ Some (opcodes.Restore r)
 unfolding opcode_of
 restore_known r lt =
-    let past : in_range 0x40 0x80 (0xc0 + r) ≡ false = rw (le-leb 0x40 (0xc0 + r) (omega arith), le-ltb (0xc0 + r) 0x80 (omega arith)) refl in
-    let past2 : in_range 0x80 0xc0 (0xc0 + r) ≡ false = rw (le-leb 0x80 (0xc0 + r) (omega arith), le-ltb (0xc0 + r) 0xc0 (omega arith)) refl in
-    let here : in_range 0xc0 0x100 (0xc0 + r) ≡ true = rw (le-leb 0xc0 (0xc0 + r) (omega arith), lt-ltb (0xc0 + r) 0x100 (omega arith)) refl in
-    rw (past, past2, here) (ap (λ (m : ℕ). Some (opcodes.Restore m)) (omega arith))
+    rw (above 0x40 0x80 (0xc0 + r) (omega arith) (omega arith), above 0x80 0xc0 (0xc0 + r) (omega arith) (omega arith), within 0xc0 0x100 (0xc0 + r) (omega arith) (omega arith)) (ap (λ (m : ℕ). Some (opcodes.Restore m)) (omega arith))

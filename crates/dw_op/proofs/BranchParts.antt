@@ -55,26 +55,20 @@ leads_stood profile t parts k part here h leads = of h.0 h.1
 
 -- ---- parts by their numbers
 
+pub plus_none : (k : ℕ) → k + 0 ≡ k
+plus_none k = omega arith
+
+pub moved : (k j : ℕ) → k + suc j ≡ suc k + j
+moved k j = omega arith
+
 pub each_at : (P : ℕ → List ℕ → Type 0) (k : ℕ) (parts : List (List ℕ)) → EachNumbered P k parts → (j : ℕ) (x : List ℕ) → slice_get parts j ≡ Some x → P (k + j) x
 each_at P k [] h j x e = absurd cc
-each_at P k (part ∷ parts) h zero x e = subst (λ (b : List ℕ). P (k + 0) b) (some_is part x e) (subst (λ (n : ℕ). P n part) (plus_none k) h.0)
-  where
-    plus_none : (k : ℕ) → k ≡ k + 0
-    plus_none k = omega arith
-each_at P k (part ∷ parts) h (suc j) x e = subst (λ (n : ℕ). P n x) (moved k j) (each_at P (suc k) parts h.1 j x e)
-  where
-    moved : (k j : ℕ) → suc k + j ≡ k + suc j
-    moved k j = omega arith
+each_at P k (part ∷ parts) h zero x e = subst (λ (b : List ℕ). P (k + 0) b) (some_is part x e) (subst (λ (n : ℕ). P n part) (sym (plus_none k)) h.0)
+each_at P k (part ∷ parts) h (suc j) x e = subst (λ (n : ℕ). P n x) (sym (moved k j)) (each_at P (suc k) parts h.1 j x e)
 
 pub each_from : (P : ℕ → List ℕ → Type 0) (k : ℕ) (parts : List (List ℕ)) → ((j : ℕ) (x : List ℕ) → slice_get parts j ≡ Some x → P (k + j) x) → EachNumbered P k parts
 each_from P k [] h = tt
 each_from P k (part ∷ parts) h = (subst (λ (n : ℕ). P n part) (plus_none k) (h 0 part refl), each_from P (suc k) parts (λ j x e. subst (λ (n : ℕ). P n x) (moved k j) (h (suc j) x e)))
-  where
-    plus_none : (k : ℕ) → k + 0 ≡ k
-    plus_none k = omega arith
-
-    moved : (k j : ℕ) → k + suc j ≡ suc k + j
-    moved k j = omega arith
 
 pub all_at : (P : List ℕ → Type 0) (parts : List (List ℕ)) (k : ℕ) (x : List ℕ) → AllByRecursion P parts → slice_get parts k ≡ Some x → P x
 all_at P [] k x h e = absurd cc

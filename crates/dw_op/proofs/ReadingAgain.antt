@@ -1,7 +1,8 @@
 -- What is spelled is read.
-use Rattle.std.proofs.Common.{◌≡◌, ℕ, ◌+◌, ◌%◌, ◌<◌, ◌≤◌, true, false, List, [], ◌∷◌, ◌++◌, length, Some, None, refl, sym, ap, subst, ◌∙◌, arith, inl, inr}
+use Rattle.std.proofs.Common.{◌≡◌, ℕ, ◌+◌, ◌%◌, ◌<◌, ◌≤◌, true, List, [], ◌∷◌, ◌++◌, length, Some, None, refl, sym, ap, subst, ◌∙◌, arith, inl, inr}
 use Rattle.std.specs.Prelude.{ℤ, pos}
-use Rattle.std.proofs.lemmas.Bool.{lt-ltb, le-ltb, le-leb}
+use Rattle.std.proofs.lemmas.List.{append-nil}
+use Rattle.std.proofs.lemmas.Bool.{lt-ltb, le-leb}
 use Rattle.dw_num.proofs.Lent.Steps.{Again, again-then, take_again, byte_again, address_again}
 use Rattle.dw_num.specs.declared.target.Target.{Target}
 use Rattle.dw_num.specs.declared.target.Size.{Size}
@@ -36,6 +37,7 @@ use Rattle.dw_op.specs.Inner.FrontOp.{plain_op, opcode_of, code_in_frame, allows
 use Rattle.dw_op.specs.Operands.{modulo, in_range, implicit}
 use Rattle.dw_op.specs.Inner.ByOpcode.{address_step, unsigned_step, signed_step, uconst_step, sconst_step, pick_step, plus_step, jump_step, breg_step, long_reg_step, long_breg_step, fbreg_step, piece_step, deref_size_step, bit_piece_step, implicit_step}
 use Rattle.dw_op.proofs.Signed.{Complement, complement_of}
+use Rattle.dw_op.proofs.Lent.ReadingLaws.{within, above}
 
 some_none : (i : ℕ) → Some i ≡ None → ⊥
 some_none i e = cc
@@ -82,7 +84,7 @@ module _ (t : Target) (profile : Profile) where
   -- ---- codes in a range
 
   in_lit : (n : ℕ) → n < 32 → in_range 0x30 0x50 (0x30 + n) ≡ true
-  in_lit n lt = rw (le-leb 0x30 (0x30 + n) (omega arith), lt-ltb (0x30 + n) 0x50 (omega arith)) refl
+  in_lit n lt = within 0x30 0x50 (0x30 + n) (omega arith) (omega arith)
 
   lit_known : (n : ℕ) → n < 32 → opcode_of (0x30 + n) ≡ Some (opcodes.Alone (Const n))
   unfolding opcode_of
@@ -91,17 +93,12 @@ module _ (t : Target) (profile : Profile) where
   reg_known : (n : ℕ) → n < 32 → opcode_of (0x50 + n) ≡ Some (opcodes.Alone (Reg n))
   unfolding opcode_of
   reg_known n lt =
-      let past : in_range 0x30 0x50 (0x50 + n) ≡ false = rw (le-leb 0x30 (0x50 + n) (omega arith), le-ltb (0x50 + n) 0x50 (omega arith)) refl in
-      let here : in_range 0x50 0x70 (0x50 + n) ≡ true = rw (le-leb 0x50 (0x50 + n) (omega arith), lt-ltb (0x50 + n) 0x70 (omega arith)) refl in
-      rw (past, here) (ap (λ (m : ℕ). Some (opcodes.Alone (Reg m))) (omega arith))
+      rw (above 0x30 0x50 (0x50 + n) (omega arith) (omega arith), within 0x50 0x70 (0x50 + n) (omega arith) (omega arith)) (ap (λ (m : ℕ). Some (opcodes.Alone (Reg m))) (omega arith))
 
   breg_known : (n : ℕ) → n < 32 → opcode_of (0x70 + n) ≡ Some (opcodes.Breg n)
   unfolding opcode_of
   breg_known n lt =
-      let past : in_range 0x30 0x50 (0x70 + n) ≡ false = rw (le-leb 0x30 (0x70 + n) (omega arith), le-ltb (0x70 + n) 0x50 (omega arith)) refl in
-      let past2 : in_range 0x50 0x70 (0x70 + n) ≡ false = rw (le-leb 0x50 (0x70 + n) (omega arith), le-ltb (0x70 + n) 0x70 (omega arith)) refl in
-      let here : in_range 0x70 0x90 (0x70 + n) ≡ true = rw (le-leb 0x70 (0x70 + n) (omega arith), lt-ltb (0x70 + n) 0x90 (omega arith)) refl in
-      rw (past, past2, here) (ap (λ (m : ℕ). Some (opcodes.Breg m)) (omega arith))
+      rw (above 0x30 0x50 (0x70 + n) (omega arith) (omega arith), above 0x50 0x70 (0x70 + n) (omega arith) (omega arith), within 0x70 0x90 (0x70 + n) (omega arith) (omega arith)) (ap (λ (m : ℕ). Some (opcodes.Breg m)) (omega arith))
 
   -- ---- constants
 
@@ -211,11 +208,7 @@ module _ (t : Target) (profile : Profile) where
   -- ---- branches
 
   two_again : (n : ℕ) (b : List ℕ) → Fixed t.order 2 n b → fixed_number t.order 2 b ≡ n
-  two_again n b f = ap (λ (l : List ℕ). fixed_number t.order 2 l) (f.bytes ∙ sym (nothing_after (fixed_bytes t.order 2 n))) ∙ fixed_again t.order 2 n [] f.fits
-    where
-      nothing_after : (l : List ℕ) → l ++ [] ≡ l
-      nothing_after [] = refl
-      nothing_after (x ∷ l) = ap (λ (k : List ℕ). x ∷ k) (nothing_after l)
+  two_again n b f = ap (λ (l : List ℕ). fixed_number t.order 2 l) (f.bytes ∙ sym (append-nil (fixed_bytes t.order 2 n))) ∙ fixed_again t.order 2 n [] f.fits
 
   jump_operand_again : (branch : Branch) (n : ℕ) (b : List ℕ) → Fixed t.order 2 n b → Again t (jump_step branch) (Jump branch n) b
   unfolding jump_step

@@ -36,6 +36,7 @@ use Rattle.dw_section.proofs.Lent.FieldTable.{Ranges, fde_said}
 use Rattle.dw_section.proofs.Lent.HeaderLaws.{has_one, cie_at_again, fde_at_again}
 use Rattle.dw_section.proofs.Lent.Heads.{cie_or, fde_or, has_at}
 use Rattle.dw_section.proofs.Items.{front_item, item_again}
+use Rattle.dw_op.proofs.Lent.ReadingLaws.{some_is}
 
 -- ---- the entries of a section stand at their places
 
@@ -86,9 +87,6 @@ one_piece order s p q v w e =
     let same = front_item order v.item w.item v.rest w.rest v.is w.is (sym (left_behind order s p v) ∙ ap (λ (n : ℕ). drop n s) e ∙ left_behind order s q w) in
     let places : length v.front ≡ length w.front = sym (place_front order s p v) ∙ e ∙ place_front order s q w in
     some_is p q (sym v.piece ∙ ap (λ (n : ℕ). piece_of order n v.item) places ∙ ap (piece_of order (length w.front)) same.0 ∙ w.piece)
-  where
-    some_is : (x y : Piece) → Some x ≡ Some y → x ≡ y
-    some_is x y h = cc
 
 -- ---- reading where an entry stands
 

@@ -28,14 +28,12 @@ use Rattle.dw_section.specs.Inner.PieceHeader.{cie_at, fde_at}
 use Rattle.dw_section.specs.Inner.StandingFde.{LiesInPrograms}
 use Rattle.dw_section.proofs.FaultPlaces.{EndsBy, fields_within, item_stays}
 use Rattle.dw_section.proofs.Lent.HeaderLaws.{cie_faulty, fde_faulty}
+use Rattle.dw_op.proofs.Lent.ReadingLaws.{some_is}
 
 -- an entry ends in the bytes
 pub stand_ends : (order : Order) (s : List ℕ) (p : Piece) → StandsIn order s p → EndsBy (length s) p
 stand_ends order s p w = of w.item (ap length w.whole) w.piece
   where
-    some_is : (x y : Piece) → Some x ≡ Some y → x ≡ y
-    some_is x y h = cc
-
     of : (item : Item) → length s ≡ length (w.front ++ (item_bytes order item ++ w.rest)) → piece_of order (length w.front) item ≡ Some p → EndsBy (length s) p
     of gap whole e = absurd cc
     of (entry form body) whole e =

@@ -102,10 +102,6 @@ breaks_fault limit begin initial i earlier row stack location code h b =
     broken_half row.cfa i code (subst (λ (c : CfaRule). BreaksHalf c i code) (sym h.follows.row.cfa) b)
 
 -- both ways of counting states
-take_all : (instrs : List Instr) → take (length instrs) instrs ≡ instrs
-take_all [] = refl
-take_all (i ∷ instrs) = ap (λ (l : List Instr). i ∷ l) (take_all instrs)
-
 counted_all : (p : Instr → Bool) (instrs : List Instr) → count_by p (onto [] instrs (length instrs)) ≡ count_by p (take (length instrs) instrs)
 counted_all p instrs = omega (arith, counted p [] instrs (length instrs))
 

@@ -3,7 +3,7 @@ use Rattle.std.proofs.Common.{◌≡◌, ℕ, suc, ◌+◌, ◌<◌, List, [], �
 use Rattle.std.specs.Prelude.{IsTrue, slice_get}
 use Rattle.std.proofs.lemmas.Option.{slice_get_within}
 use Rattle.std.specs.List.{AllByRecursion}
-use Rattle.std.proofs.lemmas.List.{length-append}
+use Rattle.std.proofs.lemmas.List.{length-append, append-nil}
 use Rattle.dw_num.specs.declared.refusal.Code.TheVariants.{BadBranch}
 use Rattle.dw_num.specs.declared.refusal.Refusal.{Refusal}
 use Rattle.dw_num.specs.declared.target.Target.{Target}
@@ -25,9 +25,15 @@ use Rattle.dw_op.proofs.Lent.Spellings.{in_table}
 use Rattle.dw_op.proofs.ResolvedSteps.{Finds, Placed, one_step, as_location, part_step, allowed_plain, framed, step_stands, stands_step}
 use Rattle.dw_op.proofs.Branches.{fixed_any}
 use Rattle.dw_op.proofs.OperandLaws.{stuck_fault, fault_stuck}
-use Rattle.dw_op.proofs.BranchParts.{Stood, EachNumbered, stood_leads, leads_stood, each_at, each_from, all_at, in_front, front_only, at_part, start_at, around}
+use Rattle.dw_op.proofs.BranchParts.{Stood, EachNumbered, stood_leads, leads_stood, each_at, each_from, all_at, in_front, front_only, at_part, start_at, around, plus_none, moved}
 
 -- ---- where parts stand
+
+zero_plus : (n : ℕ) → 0 + n ≡ n
+zero_plus n = omega arith
+
+one_more : (k : ℕ) → k + 1 ≡ suc k
+one_more k = omega arith
 
 -- the starts of the parts from part k on
 abbrev Follow : List (List ℕ) → ℕ → List (List ℕ) → Type 0
@@ -39,31 +45,19 @@ start_zero (part ∷ all) = refl
 
 follow_all : (all : List (List ℕ)) → Follow all 0 all
 follow_all all j = ap (λ (m : ℕ). start all m) (zero_plus j) ∙ omega (arith, start_zero all)
-  where
-    zero_plus : (j : ℕ) → 0 + j ≡ j
-    zero_plus j = omega arith
 
 follow_placed : (all : List (List ℕ)) (k : ℕ) (part : List ℕ) (parts : List (List ℕ)) → Follow all k (part ∷ parts) → Placed all k part
 follow_placed all k part parts h = omega (arith, h 1, start_zero parts)
 
 follow_next : (all : List (List ℕ)) (k : ℕ) (part : List ℕ) (parts : List (List ℕ)) → Follow all k (part ∷ parts) → Follow all (suc k) parts
 follow_next all k part parts h j =
-    let here : start all (suc k) ≡ start all k + length part = ap (λ (m : ℕ). start all m) (one_more k) ∙ follow_placed all k part parts h in
-    let there : start all (suc k + j) ≡ start all (k + suc j) = ap (λ (m : ℕ). start all m) (moved k j) in
+    let here : start all (suc k) ≡ start all k + length part = ap (λ (m : ℕ). start all m) (sym (one_more k)) ∙ follow_placed all k part parts h in
+    let there : start all (suc k + j) ≡ start all (k + suc j) = ap (λ (m : ℕ). start all m) (sym (moved k j)) in
     omega (arith, h (suc j))
-  where
-    one_more : (k : ℕ) → suc k ≡ k + 1
-    one_more k = omega arith
-
-    moved : (k j : ℕ) → suc k + j ≡ k + suc j
-    moved k j = omega arith
 
 -- the place of part k + 1 by the one of part k
 next_place : (all : List (List ℕ)) (k : ℕ) (part : List ℕ) → Placed all k part → start all k + length part ≡ start all (suc k)
 next_place all k part h = sym h ∙ ap (λ (m : ℕ). start all m) (one_more k)
-  where
-    one_more : (k : ℕ) → k + 1 ≡ suc k
-    one_more k = omega arith
 
 -- ---- what resolving says
 
@@ -168,8 +162,8 @@ module _ (profile : Profile) (t : Target) (all : List (List ℕ)) (find : ℕ �
           after = parts;
           whole = refl;
           good = tt;
-          bad = subst (λ (n : ℕ). Stood t all n part → ⊥) (plus_none k) (nothing_stands k step part h.0 placed u.0);
-          is = u.1 ∙ ap bad_branch (plus_none at);
+          bad = subst (λ (n : ℕ). Stood t all n part → ⊥) (sym (plus_none k)) (nothing_stands k step part h.0 placed u.0);
+          is = u.1 ∙ ap bad_branch (sym (plus_none at));
         }
         | inr u ↦
             let later : resolve find (items_from (start all (suc k)) steps parts) ≡ Err r = subst (λ (n : ℕ). resolve find (items_from n steps parts) ≡ Err r) (next_place all k part placed) u.2 in
@@ -180,16 +174,10 @@ module _ (profile : Profile) (t : Target) (all : List (List ℕ)) (find : ℕ �
               after = more.after;
               whole = ap (λ (l : List (List ℕ)). part ∷ l) more.whole;
               good = ((u.0, (step_stands profile t all find k step u.0 part f h.0 placed u.1).0), more.good);
-              bad = subst (λ (n : ℕ). Stood t all n more.part → ⊥) (moved k (length more.before)) more.bad;
+              bad = subst (λ (n : ℕ). Stood t all n more.part → ⊥) (sym (moved k (length more.before))) more.bad;
               is = more.is ∙ ap bad_branch (omega (arith, next_place all k part placed, length-append part (joined more.before)));
             }
       ]
-    where
-      plus_none : (n : ℕ) → n ≡ n + 0
-      plus_none n = omega arith
-
-      moved : (k j : ℕ) → suc k + j ≡ k + suc j
-      moved k j = omega arith
   unresolved_bad k steps parts r h follow e = absurd (first_of (assumption, cc))
 
   -- a step at which no operation stands is not resolved
@@ -212,9 +200,6 @@ module _ (profile : Profile) (t : Target) (all : List (List ℕ)) (find : ℕ �
       let placed = follow_placed all k part after follow in
       let none = not_resolved k step part (op_of find (start all k) step) h.0 placed refl (subst (λ (n : ℕ). Stood t all n part → ⊥) (plus_none k) bad) in
       rw none (ap (λ (n : ℕ). Err (bad_branch n)) (sym (plus_none (start all k))))
-    where
-      plus_none : (n : ℕ) → n + 0 ≡ n
-      plus_none n = omega arith
   bad_unresolved k (step ∷ steps) (first ∷ before) part after h follow good bad =
       let placed = follow_placed all k first (before ++ part ∷ after) follow in
       let here = is_resolved k step first h.0 placed good.0 in
@@ -223,15 +208,8 @@ module _ (profile : Profile) (t : Target) (all : List (List ℕ)) (find : ℕ �
       let later : resolve find (items_from (start all k + length first) steps (before ++ part ∷ after)) ≡ Err (bad_branch (start all k + length (first ++ joined before))) =
       ap (λ (n : ℕ). resolve find (items_from n steps (before ++ part ∷ after))) (next_place all k first placed) ∙ more ∙ ap (λ (n : ℕ). Err (bad_branch n)) place in
       rw (here.1, later) refl
-    where
-      moved : (k j : ℕ) → k + suc j ≡ suc k + j
-      moved k j = omega arith
 
 -- ---- a whole block
-
-nothing_after : (l : List ℕ) → l ++ [] ≡ l
-nothing_after [] = refl
-nothing_after (x ∷ l) = ap (λ (k : List ℕ). x ∷ k) (nothing_after l)
 
 abbrev finder : List Step → List (List ℕ) → ℕ → Option ℕ
 finder steps parts place = index_at (items_from 0 steps parts) (length (joined parts)) place
@@ -255,7 +233,7 @@ decode_some profile i r e = rw e refl
 decoded_parts : (profile : Profile) (t : Target) (bytes : List ℕ) (steps : List Step) (parts : List (List ℕ)) → EachSpells profile t steps parts → bytes ≡ joined parts
     → decode_at profile (block_input t bytes) ≡ resolve (finder steps parts) (items_from 0 steps parts)
 decoded_parts profile t bytes steps parts h e =
-    let same : bytes ≡ joined parts ++ [] = e ∙ sym (nothing_after (joined parts)) in
+    let same : bytes ≡ joined parts ++ [] = e ∙ sym (append-nil (joined parts)) in
     decode_none profile (block_input t bytes) (items_from 0 steps parts) (length (joined parts))
     (ap (λ (l : List ℕ). walk profile (input 0 l t)) same ∙ joined_walk profile t steps parts 0 [] None h refl)
     (omega (arith, ap length e))
@@ -282,7 +260,7 @@ record Stuck (profile : Profile) (t : Target) (bytes : List ℕ) : Type 0 where
 read_or_stuck : (profile : Profile) (t : Target) (bytes : List ℕ) (w : Walk) (f : Option Refusal) → Split profile (block_input t bytes) w → w.fault ≡ f → walk profile (block_input t bytes) ≡ w → Read profile t bytes ⊎ Stuck profile t bytes
 read_or_stuck profile t bytes w None s none is =
     let empty : s.rest ≡ [] = subst (λ (o : Option Refusal). Ends profile (input (0 + length (joined s.parts)) s.rest t) o) none s.ends in
-    let whole : bytes ≡ joined s.parts = s.whole ∙ ap (λ (l : List ℕ). joined s.parts ++ l) empty ∙ nothing_after (joined s.parts) in
+    let whole : bytes ≡ joined s.parts = s.whole ∙ ap (λ (l : List ℕ). joined s.parts ++ l) empty ∙ append-nil (joined s.parts) in
     inl (record { steps = s.steps; parts = s.parts; each = s.each; whole = whole; decoded = decoded_parts profile t bytes s.steps s.parts s.each whole })
 read_or_stuck profile t bytes w (Some r) s some is =
     let ends : (0 < length s.rest) × (step_at profile (input (0 + length (joined s.parts)) s.rest t) ≡ Err r) = subst (λ (o : Option Refusal). Ends profile (input (0 + length (joined s.parts)) s.rest t) o) some s.ends in
@@ -396,9 +374,6 @@ stuck_reading : (profile : Profile) (t : Target) (bytes : List ℕ) (r : Refusal
     → step_at profile (input (length (joined parts)) rest t) ≡ Err r → ReadingFault profile t bytes r
 stuck_reading profile t bytes r parts [] whole each some e = absurd (omega arith)
 stuck_reading profile t bytes r parts (code ∷ operands) whole each some e = record { parts = parts; code = code; operands = operands; whole = whole; each = each; fault = stuck_fault profile t (length (joined parts)) code operands r e }
-
-zero_plus : (n : ℕ) → 0 + n ≡ n
-zero_plus n = omega arith
 
 -- no earlier branch leads nowhere, and this one does
 abbrev FirstAt : Target → List (List ℕ) → ℕ → Type 0

@@ -18,7 +18,7 @@ use Rattle.dw_op.specs.Profile.{in_frame, InFrame}
 use Rattle.dw_op.specs.Equality.{sign_of, size_of, line, op_line, target_line, expression_lines, same_expression}
 
 -- a signed number from its sign and number
-abbrev signed_with : ℕ → ℕ → ℤ
+abbrev pub signed_with : ℕ → ℕ → ℤ
 signed_with sign number = if nat_eq sign 0 then pos number else negsuc number
 
 abbrev or_this : Option Op → Op → Op
@@ -42,7 +42,7 @@ op_with (kind ∷ first ∷ second ∷ sign ∷ number ∷ bytes) = or_this (loo
     Implicit (record { ref_ptr = (0, 0); now = bytes }))
 op_with other = Nop
 
-signed_back : (z : ℤ) → signed_with (sign_of z) (size_of z) ≡ z
+pub signed_back : (z : ℤ) → signed_with (sign_of z) (size_of z) ≡ z
 signed_back (pos n) = refl
 signed_back (negsuc n) = refl
 

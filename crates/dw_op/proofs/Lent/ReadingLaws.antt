@@ -1,7 +1,7 @@
 -- What is read is spelled so.
 use Rattle.std.proofs.Common.{◌≡◌, ℕ, zero, suc, ◌+◌, ◌-◌, ◌%◌, ◌<◌, ◌≤◌, Bool, true, false, eqb, List, [], ◌∷◌, ◌++◌, length, Option, Some, None, refl, sym, ap, subst, ◌∙◌, arith, inl, inr, ltb-true}
 use Rattle.std.specs.Prelude.{ℤ, pos, nat_le, nat_lt, ◌&&◌}
-use Rattle.std.proofs.lemmas.Bool.{cases_Bool, leb-true, eqb-true}
+use Rattle.std.proofs.lemmas.Bool.{cases_Bool, leb-true, eqb-true, le-leb, lt-ltb, le-ltb}
 use Rattle.dw_num.proofs.Lent.Steps.{bind_ok, cond_ok, Takes-then, take_found}
 use Rattle.dw_num.specs.declared.refusal.Code.TheVariants.{RegisterTooLarge, BadDerefSize, NotInFrame}
 use Rattle.dw_num.specs.declared.target.Target.{Target}
@@ -102,6 +102,12 @@ range_is low high code e = elim (cases_Bool (nat_le low code)) [
   | inl y ↦ let k : nat_lt code high ≡ true = rw y at e in (leb-true low code y, ltb-true code high k)
   | inr n ↦ let k : false ≡ true = rw n at e in absurd cc
 ]
+
+pub within : (low high code : ℕ) → low ≤ code → code < high → in_range low high code ≡ true
+within low high code from to = rw (le-leb low code from, lt-ltb code high to) refl
+
+pub above : (low high code : ℕ) → low ≤ high → high ≤ code → in_range low high code ≡ false
+above low high code le from = rw (le-leb low code (omega arith), le-ltb code high from) refl
 
 pub small_const : (s : Size) (n : ℕ) → n < 256 → n ≡ n % address_limit s
 small_const sizes.Four n lt = omega arith

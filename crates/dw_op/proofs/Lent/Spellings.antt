@@ -1,8 +1,8 @@
 -- What is spelled by the table is what is spelled operation by operation.
-use Rattle.std.proofs.Common.{◌≡◌, ℕ, ◌+◌, ◌-◌, ◌<◌, true, false, List, [], ◌∷◌, Some, refl, sym, ap, subst, ◌∙◌, arith, inl, inr}
+use Rattle.std.proofs.Common.{◌≡◌, ℕ, ◌+◌, ◌-◌, ◌<◌, List, [], ◌∷◌, Some, refl, sym, ap, subst, ◌∙◌, arith, inl, inr}
 use Rattle.std.specs.Prelude.{ℤ, pos}
 use Rattle.std.specs.Int.{w8, w16, w32, w64}
-use Rattle.std.proofs.lemmas.Bool.{cases_Bool, le-leb, le-ltb, lt-ltb}
+use Rattle.std.proofs.lemmas.Bool.{cases_Bool}
 use Rattle.dw_num.specs.declared.target.Target.{Target}
 use Rattle.dw_num.specs.Leb.{Uleb, Sleb, Register}
 use Rattle.dw_num.specs.Fixed.{Fixed, FixedSigned, Address}
@@ -15,7 +15,7 @@ use Rattle.dw_op.specs.Least.{AtMost, Least}
 use Rattle.dw_op.specs.Ranges.{TargetWithin, InRange}
 use Rattle.dw_op.specs.OpSpells.{Code, Both, AnyTwo, Spells, FormSpells, OpSpells}
 use Rattle.dw_op.specs.Inner.ByOperation.{Alone, Counted, ConstForm, Const1u, Const1s, Const2u, Const2s, Const4u, Const4s, Const8u, Const8s, Constu, Consts, Lit, Unsigned, Written, IsSpelled}
-use Rattle.dw_op.proofs.Lent.ReadingLaws.{EachEntry, looked_up, range_is, some_is, small_const}
+use Rattle.dw_op.proofs.Lent.ReadingLaws.{EachEntry, looked_up, range_is, some_is, small_const, within, above}
 
 -- ---- from the table
 
@@ -110,23 +110,17 @@ module _ (t : Target) where
   lit_known : (n : ℕ) → n < 32 → form_of t (0x30 + n) ≡ Some (none (Const n))
   unfolding form_of
   lit_known n lt =
-      let here : in_range 0x30 0x50 (0x30 + n) ≡ true = rw (le-leb 0x30 (0x30 + n) (omega arith), lt-ltb (0x30 + n) 0x50 (omega arith)) refl in
-      rw here (ap (λ (m : ℕ). Some (none (Const m))) (omega arith))
+      rw (within 0x30 0x50 (0x30 + n) (omega arith) (omega arith)) (ap (λ (m : ℕ). Some (none (Const m))) (omega arith))
 
   reg_known : (n : ℕ) → n < 32 → form_of t (0x50 + n) ≡ Some (none (Reg n))
   unfolding form_of
   reg_known n lt =
-      let past : in_range 0x30 0x50 (0x50 + n) ≡ false = rw (le-leb 0x30 (0x50 + n) (omega arith), le-ltb (0x50 + n) 0x50 (omega arith)) refl in
-      let here : in_range 0x50 0x70 (0x50 + n) ≡ true = rw (le-leb 0x50 (0x50 + n) (omega arith), lt-ltb (0x50 + n) 0x70 (omega arith)) refl in
-      rw (past, here) (ap (λ (m : ℕ). Some (none (Reg m))) (omega arith))
+      rw (above 0x30 0x50 (0x50 + n) (omega arith) (omega arith), within 0x50 0x70 (0x50 + n) (omega arith) (omega arith)) (ap (λ (m : ℕ). Some (none (Reg m))) (omega arith))
 
   breg_known : (n : ℕ) → n < 32 → form_of t (0x70 + n) ≡ Some (one signed (Breg n))
   unfolding form_of
   breg_known n lt =
-      let past : in_range 0x30 0x50 (0x70 + n) ≡ false = rw (le-leb 0x30 (0x70 + n) (omega arith), le-ltb (0x70 + n) 0x50 (omega arith)) refl in
-      let past2 : in_range 0x50 0x70 (0x70 + n) ≡ false = rw (le-leb 0x50 (0x70 + n) (omega arith), le-ltb (0x70 + n) 0x70 (omega arith)) refl in
-      let here : in_range 0x70 0x90 (0x70 + n) ≡ true = rw (le-leb 0x70 (0x70 + n) (omega arith), lt-ltb (0x70 + n) 0x90 (omega arith)) refl in
-      rw (past, past2, here) (ap (λ (m : ℕ). Some (one signed (Breg m))) (omega arith))
+      rw (above 0x30 0x50 (0x70 + n) (omega arith) (omega arith), above 0x50 0x70 (0x70 + n) (omega arith) (omega arith), within 0x70 0x90 (0x70 + n) (omega arith) (omega arith)) (ap (λ (m : ℕ). Some (one signed (Breg m))) (omega arith))
 
   natural_in : (code : ℕ) (o : Field) (make : Value o → Op) (Number : ℕ → List ℕ → Type 0) (z : ℤ) (b : List ℕ) → Code code (Unsigned Number z) b → form_of t code ≡ Some (one o make)
       → ((n : ℕ) (c : List ℕ) → Number n c → FormSpells t (one o make) (constant t (pos n)) c) → OpSpells t (constant t z) b
