@@ -1,11 +1,11 @@
 -- A number of one byte.
-use Rattle.std.proofs.Common.{◌≡◌, ℕ, ◌<◌, ◌≤◌, ◌%◌, [], ◌∷◌, Ok, sym, ap, ◌∙◌, arith, pos, ◌-ℤ◌}
-use Rattle.std.proofs.lemmas.Bool.{le-leb, lt-leb}
+use Rattle.std.proofs.Common.{◌≡◌, ℕ, ◌<◌, ◌≤◌, ◌%◌, [], ◌∷◌, Ok, refl, sym, ap, ◌∙◌, arith, pos, ◌-ℤ◌}
+use Rattle.std.proofs.lemmas.Bool.{le-leb, lt-leb, lt-ltb}
 use Rattle.std.proofs.lemmas.Int.{ints}
 use Rattle.std.specs.Prelude.{ℤ}
 use Rattle.dw_num.specs.Input.{Input, Takes}
 use Rattle.dw_num.specs.Leb.{Uleb, Sleb, groups}
-use Rattle.dw_num.specs.Front.{uleb_at, sleb_at}
+use Rattle.dw_num.specs.Front.{uleb_at, sleb_at, register_at}
 use Rattle.dw_num.proofs.Lent.LebLaws.{uleb_only}
 use Rattle.dw_num.proofs.Lent.SlebLaws.{sleb_only}
 
@@ -20,6 +20,11 @@ one_byte_read i j b takes lt =
     uleb_only i b (b ∷ []) j.bytes (one_byte_spells b lt) takes.bytes
     ∙ ap (λ (n : ℕ). Ok (b, behind_one i j n)) (sym takes.at)
     ∙ ap (λ t. Ok (b, record { at = j.at; bytes = j.bytes; target = t })) (sym takes.target)
+
+-- the number of a register
+pub one_byte_register : (i j : Input) (b : ℕ) → Takes i (b ∷ []) j → b < 128 → register_at i ≡ Ok (b, j)
+unfolding register_at
+one_byte_register i j b takes lt = rw (one_byte_read i j b takes lt, lt-ltb b 65536 (omega arith)) refl
 
 -- ---- a signed one
 

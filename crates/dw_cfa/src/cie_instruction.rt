@@ -8,7 +8,7 @@ ghost use Rattle.dw_cfa.specs.Inner.Turns.{Entered};
 
 use crate::instr::{Factors, Instr};
 use crate::machine::{StepError, write_rule};
-use crate::opcode::{Opcode, factored, operands, plain};
+use crate::opcode::{Opcode, factored, operands, plain, quick_register};
 use crate::rule::{CfaRule, RegRule};
 use crate::states::States;
 use dw_num::{Code, Cursor, ReadError, Refusal};
@@ -49,7 +49,7 @@ fn write_def_cfa<'a>(
     ensures did { Entered (def_cfa_at at cursor.old) at states.old result cursor.new states.new }
     ensures kept { states.new.kept ≡ states.old.kept }
 {
-    let register = match cursor.register() {
+    let register = match quick_register(cursor) {
         Ok(register) => register,
         Err(refusal) => return Err(ReadError::Refused(refusal)),
     };

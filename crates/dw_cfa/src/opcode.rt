@@ -3,7 +3,7 @@
 ghost use Rattle.std.specs.Prelude.{◌≡◌, ◌+◌, ◌*◌, ◌<◌, ◌^◌, ◌*ℤ◌, length, unsigned_abs, [], ◌∷◌, IfSome, IsTrue, IsOk};
 ghost use Rattle.dw_num.specs.Leb.{Sleb};
 ghost use Rattle.dw_num.specs.Fixed.{IsWidth};
-ghost use Rattle.dw_num.specs.Front.{sleb_at, uleb_at};
+ghost use Rattle.dw_num.specs.Front.{register_at, sleb_at, uleb_at};
 ghost use Rattle.dw_num.specs.Inner.Front.{Gives};
 ghost use Rattle.dw_cfa.specs.Inner.Operands.{opcode_of};
 ghost use Rattle.dw_cfa.specs.Inner.FrontInstr.{expression_in, block_at, instr_at};
@@ -123,6 +123,21 @@ fn quick_uleb(cursor: &mut Cursor<'_>) -> Result<u64, Refusal>
     }
     *cursor = before;
     cursor.uleb()
+}
+
+// The number of a register, which mostly has one byte too.
+#[inline(always)]
+pub(crate) fn quick_register(cursor: &mut Cursor<'_>) -> Result<u16, Refusal>
+    ensures { Gives (λ r. r) result (register_at cursor.old) cursor.new }
+{
+    let before = Cursor::new(cursor.rest(), cursor.at(), cursor.target());
+    if let Ok(byte) = cursor.byte() {
+        if byte < 128 {
+            return Ok(u16::from(byte));
+        }
+    }
+    *cursor = before;
+    cursor.register()
 }
 
 // The signed number that a byte alone spells.

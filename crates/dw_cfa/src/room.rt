@@ -23,14 +23,14 @@ use std::marker::Model;
 
 // Makes the current row blank, where it is not known to be.
 #[inline(always)]
-fn clear<'a>(alloc: Global, states: &mut States<'a>, fresh: bool)
+fn clear(states: &mut States<'_>, fresh: bool)
     requires { IsTrue fresh → IsFresh states.old }
     ensures { IsFresh states.new }
 {
     if fresh {
         return;
     }
-    states.restart(Row::blank(alloc));
+    states.restart();
 }
 
 // Runs a CIE's program, and an FDE's up to the end of the last row that starts at or below an address.
@@ -61,7 +61,6 @@ pub struct RowRoom<'a> {
     // Nothing was run yet.
     fresh: bool,
     machine: Machine<'a>,
-    alloc: Global,
 }
 
 impl<'a> Model for RowRoom<'a> {
@@ -90,7 +89,6 @@ impl<'a> RowRoom<'a> {
                 location: 0,
                 limit: 0,
             },
-            alloc,
         }
     }
 
@@ -109,7 +107,7 @@ impl<'a> RowRoom<'a> {
         ensures found { OnOk result (last_at address (run_rows factors (program_input cie_program.entry target) (program_input fde_program.entry target) begin).rows ≡ Some self.new) }
         ensures err { IfErr result (Refuses (λ r. (run_rows factors (program_input cie_program.entry target) (program_input fde_program.entry target) begin).fault ≡ Some r)) }
     {
-        clear(self.alloc, &mut self.machine.states, self.fresh);
+        clear(&mut self.machine.states, self.fresh);
         self.fresh = false;
         self.machine.location = u128::from(begin);
         self.machine.limit = target.size.address_limit();

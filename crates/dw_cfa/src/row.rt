@@ -1,17 +1,18 @@
 //! Rows of rules (6.4.1).
 
-ghost use Rattle.std.specs.Prelude.{◌≡◌, ◌<◌, ℕ, [], ◌∷◌, IfOk, OnOk, OnErr, MatchOption, IsTrue, ◌↔◌, length};
+ghost use Rattle.std.specs.Prelude.{◌≡◌, ◌<◌, ℕ, [], ◌∷◌, IfOk, IfSome, OnOk, OnErr, MatchOption, IsTrue, ◌↔◌, length};
 ghost use Rattle.std.specs.List.{filter};
 ghost use Rattle.std.specs.Iterator.{YieldsFirst, item_count};
 ghost use Rattle.dw_cfa.specs.declared.rule.RegRule.TheVariants.{Unspecified};
 ghost use Rattle.dw_cfa.specs.Rows.{AreSpecified, rule, rule_in, blank};
 ghost use Rattle.dw_cfa.specs.Inner.Rows.{put, with_cfa, with_rule};
 ghost use Rattle.dw_cfa.specs.Agreement.{is_agreed, is_kept, agreed, kept, same_rule};
-ghost use Rattle.dw_cfa.specs.Inner.Entries.{CopiedBelow, entries_of, slot_rule, EntriesSo, IsSlotOf, FindsNear, Covers, LeavesAt, LeavesBelow};
+ghost use Rattle.dw_cfa.specs.Inner.Entries.{entries_of, slot_rule, EntriesSo, IsSlotOf, LeavesAt, LeavesBelow};
 ghost use Rattle.dw_cfa.specs.Difference.{FirstDifference, place_behind};
 ghost use Rattle.dw_cfa.specs.Inner.Difference.{FirstBelow, SameUnset};
 
 use crate::behind::{place_behind, start_behind};
+use crate::near_slots::{NearRules, copy_slots, empty_slots, next_near, same_slots};
 use crate::rule::{CfaRule, RegRule};
 use crate::tree::{first_difference, rule_in_tree, set_in_tree, tree_of};
 use std::alloc::{AllocError, Global};
@@ -22,9 +23,9 @@ use std::ops::Bound;
 /// The registers below this have slots of their own.
 pub(crate) const NEAR: u16 = 32;
 
-// What kind of rule a slot holds. A rule with an expression is kept beside the slots.
+/// What kind of rule a slot holds. A rule with an expression is kept beside the slots.
 #[derive(Clone, Copy)]
-enum Kind {
+pub(crate) enum Kind {
     Empty,
     Undefined,
     SameValue,
@@ -34,15 +35,16 @@ enum Kind {
     Expression,
 }
 
-// The rule of a register: its kind, and its register or its offset.
+/// The rule of a register: its kind, and its register or its offset.
 #[derive(Clone, Copy)]
-struct Slot {
-    kind: Kind,
-    register: u16,
-    offset: i64,
+pub(crate) struct Slot {
+    pub(crate) kind: Kind,
+    pub(crate) register: u16,
+    pub(crate) offset: i64,
 }
 
-const EMPTY: Slot = Slot {
+/// The slot of a register that is Unspecified.
+pub(crate) const EMPTY: Slot = Slot {
     kind: Kind::Empty,
     register: 0,
     offset: 0,
@@ -58,27 +60,13 @@ struct Entries<'a> {
     far: BTreeMap<u16, RegRule<'a>>,
 }
 
-// Copies the slots of the registers in a mask.
-fn copy_slots(near: &mut [Slot; 32], others: &[Slot; 32], used: u32)
-    requires near { length near.old ≡ 32 }
-    requires others { length others.now ≡ 32 }
-    ensures { CopiedBelow used near.old others.now 32 near.new }
-{
-    let mut register = 0;
-    'slots: while register < 32 {
-        let left = used >> register;
-        if left == 0 {
-            return;
-        }
-        register += left.trailing_zeros();
-        near[register as usize] = others[register as usize];
-        register += 1;
-    }
-}
-
-// The rule that a slot holds of a register.
+/// The rule that a slot holds of a register.
 #[inline(always)]
-fn rule_of<'a>(slot: Slot, expressions: &BTreeMap<u16, RegRule<'a>>, register: u16) -> RegRule<'a>
+pub(crate) fn rule_of<'a>(
+    slot: Slot,
+    expressions: &BTreeMap<u16, RegRule<'a>>,
+    register: u16,
+) -> RegRule<'a>
     ensures { result ≡ slot_rule slot (rule_in expressions.now.entries register) }
 {
     match slot.kind {
@@ -111,74 +99,6 @@ fn slot_of(rule: &RegRule<'_>) -> Slot
         kind,
         register,
         offset,
-    }
-}
-
-// The first register from a place on that is not Unspecified, and its rule.
-#[inline(always)]
-fn next_near<'a>(
-    at: u16,
-    near: &[Slot; 32],
-    used: u32,
-    expressions: &BTreeMap<u16, RegRule<'a>>,
-) -> Option<(u16, RegRule<'a>)>
-    requires { Covers used near.now }
-    ensures { FindsNear result at near.now expressions.now.entries }
-{
-    let mut register = at;
-    'slots: while register < NEAR {
-        let left = used >> register;
-        if left == 0 {
-            return None;
-        }
-        register += left.trailing_zeros() as u16;
-        let rule = rule_of(near[usize::from(register)], expressions, register);
-        if rule.is_specified() {
-            return Some((register, rule));
-        }
-        register += 1;
-    }
-    None
-}
-
-// Whether two slots of a register give it the same rule, whatever they hold.
-#[inline(never)]
-fn same_rules(
-    slot: Slot,
-    other: Slot,
-    expressions: &BTreeMap<u16, RegRule<'_>>,
-    others: &BTreeMap<u16, RegRule<'_>>,
-    register: u16,
-) -> bool
-    ensures same { IsTrue result ↔ (slot_rule slot (rule_in expressions.now.entries register) ≡ slot_rule other (rule_in others.now.entries register)) }
-    ensures test { result ≡ same_rule (slot_rule slot (rule_in expressions.now.entries register)) (slot_rule other (rule_in others.now.entries register)) }
-{
-    rule_of(slot, expressions, register).is_same(&rule_of(other, others, register))
-}
-
-// The same, with no look at the trees where neither holds an expression.
-#[inline(always)]
-fn same_slots(
-    slot: Slot,
-    other: Slot,
-    expressions: &BTreeMap<u16, RegRule<'_>>,
-    others: &BTreeMap<u16, RegRule<'_>>,
-    register: u16,
-) -> bool
-    ensures same { IsTrue result ↔ (slot_rule slot (rule_in expressions.now.entries register) ≡ slot_rule other (rule_in others.now.entries register)) }
-    ensures test { result ≡ same_rule (slot_rule slot (rule_in expressions.now.entries register)) (slot_rule other (rule_in others.now.entries register)) }
-{
-    match (slot.kind, other.kind) {
-        (Kind::Expression, _) | (_, Kind::Expression) => {
-            same_rules(slot, other, expressions, others, register)
-        }
-        (Kind::Empty, Kind::Empty) => true,
-        (Kind::Undefined, Kind::Undefined) => true,
-        (Kind::SameValue, Kind::SameValue) => true,
-        (Kind::Offset, Kind::Offset) => slot.offset == other.offset,
-        (Kind::ValOffset, Kind::ValOffset) => slot.offset == other.offset,
-        (Kind::Register, Kind::Register) => slot.register == other.register,
-        _ => false,
     }
 }
 
@@ -219,6 +139,7 @@ impl<'a> Entries<'a> {
         )
     }
 
+    #[inline(always)]
     fn all(&self) -> Specified<'_, 'a>
         requires { EntriesSo self.now }
         ensures { result ≡ entries_of self.now }
@@ -230,6 +151,23 @@ impl<'a> Entries<'a> {
             expressions: &self.expressions,
             far: self.far.iter(),
         }
+    }
+
+    // The same where every register has a slot.
+    #[inline(always)]
+    fn all_near(&self) -> Option<NearRules<'_, 'a>>
+        requires { EntriesSo self.now }
+        ensures { IfSome result (λ near. near ≡ entries_of self.now) }
+    {
+        if !self.far.is_empty() {
+            return None;
+        }
+        Some(NearRules {
+            at: 0,
+            near: &self.near,
+            used: self.used,
+            expressions: &self.expressions,
+        })
     }
 
     // The expressions of the slots alone.
@@ -386,6 +324,32 @@ impl<'a> Entries<'a> {
             return Ok(());
         }
         self.become_wide_copy(others, alloc)
+    }
+
+    // Empties both trees.
+    #[inline(never)]
+    fn clear_trees(&mut self)
+        ensures expressions { self.new.expressions.entries ≡ [] }
+        ensures far { self.new.far.entries ≡ [] }
+        ensures near { (self.new.near ≡ self.old.near) × (self.new.used ≡ self.old.used) }
+    {
+        self.expressions.clear();
+        self.far.clear();
+    }
+
+    // Takes all registers out.
+    #[inline(always)]
+    fn clear(&mut self)
+        requires { EntriesSo self.old }
+        ensures entries { entries_of self.new ≡ [] }
+        ensures so { EntriesSo self.new }
+    {
+        empty_slots(&mut self.near, self.used);
+        self.used = 0;
+        if self.is_narrow() {
+            return;
+        }
+        self.clear_trees();
     }
 
     // Gives a register that has a slot a rule.
@@ -628,6 +592,15 @@ impl<'a> Row<'a> {
         }
     }
 
+    /// Takes out all that is set. Takes no memory.
+    #[inline(always)]
+    pub(crate) fn clear(&mut self)
+        ensures { self.new ≡ blank }
+    {
+        self.cfa = CfaRule::Unset;
+        self.entries.clear();
+    }
+
     /// The same row once more, or want of memory.
     pub fn copied(&self) -> Result<Row<'a>, AllocError>
         ensures { IfOk result (λ row. row ≡ self.now) }
@@ -706,11 +679,20 @@ impl<'a> Row<'a> {
     }
 
     /// The registers that are not Unspecified, ascending, with their rules. Takes no memory.
+    #[inline(always)]
     pub fn specified(&self) -> Specified<'_, 'a>
         ensures all { result ≡ self.now.registers }
         ensures ascending { AreSpecified 0 self.now.registers }
     {
         self.entries.all()
+    }
+
+    /// The same where every register has a slot, at less cost. None says that some may have none. Takes no memory.
+    #[inline(always)]
+    pub fn near_rules(&self) -> Option<NearRules<'_, 'a>>
+        ensures { IfSome result (λ near. near ≡ self.now.registers) }
+    {
+        self.entries.all_near()
     }
 
     pub(crate) fn set_cfa(&mut self, cfa: CfaRule<'a>)

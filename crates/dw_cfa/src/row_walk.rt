@@ -54,17 +54,13 @@ fn leads_same(leading: Leading<'_>, other: Leading<'_>) -> bool
 
 // Runs a CIE's program in a machine, which has its row then.
 #[inline(never)]
-fn run_cie<'a>(
-    alloc: Global,
-    leading: Leading<'a>,
-    machine: &mut Machine<'a>,
-) -> Result<(), ReadError>
+fn run_cie<'a>(leading: Leading<'a>, machine: &mut Machine<'a>) -> Result<(), ReadError>
     requires { IsOk (initial_row (placed leading.factors (program_input leading.program leading.target)) blank) }
     ensures ok { OnOk result (Readied leading.entry machine.old machine.new) }
     ensures err { IfErr result (λ e. e ≡ OutOfMemory) }
     ensures kept_row { machine.new.states.kept ≡ machine.old.states.kept }
 {
-    machine.states.restart(Row::blank(alloc));
+    machine.states.restart();
     let program = leading.program;
     let mut cursor = Cursor::new(program.bytes, program.at, leading.target);
     run_initial(&mut cursor, leading.factors, &mut machine.states, true)?;
@@ -74,12 +70,7 @@ fn run_cie<'a>(
 }
 
 // Runs a CIE's program, or brings its row back where the machine has it.
-fn ready<'a>(
-    alloc: Global,
-    leading: Leading<'a>,
-    machine: &mut Machine<'a>,
-    kept: bool,
-) -> Result<(), ReadError>
+fn ready<'a>(leading: Leading<'a>, machine: &mut Machine<'a>, kept: bool) -> Result<(), ReadError>
     requires runs { IsOk (initial_row (placed leading.factors (program_input leading.program leading.target)) blank) }
     requires kept { IsTrue kept → HasInitial leading machine.old }
     requires first { BeganWith machine.old.initial machine.old.states.first }
@@ -92,14 +83,13 @@ fn ready<'a>(
         machine.states.rewind(&machine.initial)?;
         return Ok(());
     }
-    run_cie(alloc, leading, machine)
+    run_cie(leading, machine)
 }
 
 // Brings a CIE's row about, and runs an FDE's program up to the end of its first row. Out of line: room for its errors is
 // cleared at each row else.
 #[inline(never)]
 fn first_row<'a>(
-    alloc: Global,
     leading: Leading<'a>,
     fde: &mut Cursor<'a>,
     machine: &mut Machine<'a>,
@@ -114,7 +104,7 @@ fn first_row<'a>(
     ensures kept_row { machine.new.states.kept ≡ machine.old.states.kept }
 {
     are_bytes(fde.rest());
-    ready(alloc, leading, machine, *kept)?;
+    ready(leading, machine, *kept)?;
     *kept = true;
     next_row(fde, leading.factors, machine, true)
 }
@@ -122,7 +112,6 @@ fn first_row<'a>(
 // Brings a CIE's row about, and runs an FDE's program up to the end of the last row that starts at or below an address.
 #[inline(always)]
 fn first_to<'a>(
-    alloc: Global,
     leading: Leading<'a>,
     fde: &mut Cursor<'a>,
     machine: &mut Machine<'a>,
@@ -142,7 +131,7 @@ fn first_to<'a>(
     ensures kept_row { machine.new.states.kept ≡ machine.old.states.kept }
 {
     are_bytes(fde.rest());
-    ready(alloc, leading, machine, *kept)?;
+    ready(leading, machine, *kept)?;
     *kept = true;
     run_to(fde, leading.factors, machine, address, true)
 }
@@ -151,7 +140,6 @@ fn first_to<'a>(
 #[inline(always)]
 fn walk_to<'a>(
     progress: Progress,
-    alloc: Global,
     leading: Leading<'a>,
     fde: &mut Cursor<'a>,
     machine: &mut Machine<'a>,
@@ -171,7 +159,7 @@ fn walk_to<'a>(
     ensures kept_row { machine.new.states.kept ≡ machine.old.states.kept }
 {
     match progress {
-        Progress::Begun => first_to(alloc, leading, fde, machine, kept, address),
+        Progress::Begun => first_to(leading, fde, machine, kept, address),
         Progress::Running => run_to(fde, leading.factors, machine, address, true),
         Progress::Finished => Ok(false),
         Progress::Failed(error) => Err(error),
@@ -190,7 +178,6 @@ pub struct RowWalk<'a> {
     leading: Leading<'a>,
     fde: Cursor<'a>,
     machine: Machine<'a>,
-    alloc: Global,
 }
 
 impl<'a> Model for RowWalk<'a> {
@@ -229,7 +216,6 @@ impl<'a> RowWalk<'a> {
                 location: 0,
                 limit: target.size.address_limit(),
             },
-            alloc,
         }
     }
 
@@ -323,7 +309,7 @@ impl<'a> RowWalk<'a> {
     {
         let (fde, machine) = (&mut self.fde, &mut self.machine);
         let answer = match self.progress {
-            Progress::Begun => first_row(self.alloc, self.leading, fde, machine, &mut self.kept),
+            Progress::Begun => first_row(self.leading, fde, machine, &mut self.kept),
             Progress::Running => next_row(fde, self.leading.factors, machine, true),
             Progress::Finished => return Ok(None),
             Progress::Failed(error) => return Err(error),
@@ -348,7 +334,7 @@ impl<'a> RowWalk<'a> {
     {
         let (fde, machine) = (&mut self.fde, &mut self.machine);
         let (progress, leading, kept) = (self.progress, self.leading, &mut self.kept);
-        let answer = walk_to(progress, self.alloc, leading, fde, machine, kept, address);
+        let answer = walk_to(progress, leading, fde, machine, kept, address);
         match answer {
             Ok(true) => self.progress = Progress::Running,
             Ok(false) => self.progress = Progress::Finished,

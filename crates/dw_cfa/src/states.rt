@@ -134,11 +134,12 @@ impl<'a> States<'a> {
         self.rows.into_row()
     }
 
-    /// Goes on with another row, remembers none, and tracks no changes.
-    pub(crate) fn restart(&mut self, row: Row<'a>)
-        ensures { self.new ≡ record { row = row.entry; stack = []; first = None; kept = self.old.kept } }
+    /// Goes on with a blank row, remembers none, and tracks no changes. Takes no memory.
+    #[inline(always)]
+    pub(crate) fn restart(&mut self)
+        ensures { self.new ≡ record { row = blank; stack = []; first = None; kept = self.old.kept } }
     {
-        self.rows.become_row(row);
+        self.rows.clear();
         self.undo.clear();
         self.depth = 0;
         self.tracked = false;

@@ -43,7 +43,8 @@ pub(crate) fn set_in_tree<'a>(
     Ok(())
 }
 
-/// The rule of a register in a tree.
+/// The rule of a register in a tree. Out of line: room for a rule with an expression is cleared at each turn of a loop else.
+#[inline(never)]
 pub(crate) fn rule_in_tree<'a>(entries: &BTreeMap<u16, RegRule<'a>>, register: u16) -> RegRule<'a>
     ensures { result ≡ rule_in entries.now.entries register }
 {

@@ -209,12 +209,13 @@ impl<'a> WatchedRow<'a> {
         self.row.exchange(register, rule)
     }
 
-    /// Goes on with another row.
-    pub(crate) fn become_row(&mut self, row: Row<'a>)
-        ensures { self.new ≡ watching row.entry self.old.kept }
+    /// Goes on with a blank row. Takes no memory.
+    #[inline(always)]
+    pub(crate) fn clear(&mut self)
+        ensures { self.new ≡ watching blank self.old.kept }
     {
         self.marks.forget();
-        self.row = row;
+        self.row.clear();
     }
 
     /// Goes on with a copy of another row, or answers want of memory.

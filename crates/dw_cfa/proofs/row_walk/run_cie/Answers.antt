@@ -12,7 +12,7 @@ returns-clause-ok c =
     let held = c.run_initial.new.states in
     let copy = c.in_ok-become_copy.ensures ∙ c.row.ensures in
     record {
-      initial = initial_is l.factors c.new-cursor.result (program_input l.program l.target) c.restart.new.self.row held.row c.become_copy.new.self c.new-cursor.ensures (ap (λ (h : Held). h.row) c.restart.ensures ∙ c.blank.ensures) copy c.in_ok-run_initial.ensures.ok;
+      initial = initial_is l.factors c.new-cursor.result (program_input l.program l.target) c.restart.new.self.row held.row c.become_copy.new.self c.new-cursor.ensures (ap (λ (h : Held). h.row) c.restart.ensures) copy c.in_ok-run_initial.ensures.ok;
       row = ap (λ (h : Held). h.row) c.track.ensures ∙ sym copy;
       none = ap (λ (h : Held). h.stack) c.track.ensures;
       first = subst (λ (first : Option (List (ℕ × RegRule))). BeganWith c.become_copy.new.self first) (sym (ap (λ (h : Held). h.first) c.track.ensures))

@@ -4,7 +4,7 @@ use Rattle.std.specs.Prelude.{◌/◌, ◌^◌}
 use Rattle.std.specs.Int.{trailing_zeros, w32}
 use Rattle.dw_cfa.proofs.Slots.{no_slot}
 use Rattle.dw_cfa.proofs.Copied.{all_copied, up_to_bit, one_copied}
-use Rattle.dw_cfa.proofs.row.copy_slots.Goals as goal
+use Rattle.dw_cfa.proofs.near_slots.copy_slots.Goals as goal
 
 pub returns-then-left-eq0 : goal.returns-then-left-eq0
 returns-then-left-eq0 c =

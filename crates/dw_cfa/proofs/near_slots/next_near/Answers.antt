@@ -5,7 +5,7 @@ use Rattle.std.proofs.Math.Nat.{div-le_self}
 use Rattle.dw_cfa.specs.Rows.{rule_in}
 use Rattle.dw_cfa.specs.Inner.Entries.{slot_rule, listed_near}
 use Rattle.dw_cfa.proofs.Slots.{no_slot, slot_found, slot_skipped, slots_end, none_used, next_used}
-use Rattle.dw_cfa.proofs.row.next_near.Goals as goal
+use Rattle.dw_cfa.proofs.near_slots.next_near.Goals as goal
 
 pub returns-then-left-eq0 : goal.returns-then-left-eq0
 returns-then-left-eq0 c =

@@ -1,7 +1,7 @@
 use Rattle.std.proofs.Common.{◌≡◌, ◌-◌, List, drop}
 use Rattle.dw_cfa.specs.Inner.Entries.{listed_near}
 use Rattle.dw_cfa.proofs.Lent.RowLists.{Entry}
-use Rattle.dw_cfa.proofs.row.next_near.Given as goal
+use Rattle.dw_cfa.proofs.near_slots.next_near.Given as goal
 
 abbrev pub invariant-slots : goal.invariant-slots
 invariant-slots l = (far : List Entry) → listed_near l.at (drop l.at l.near) l.expressions.entries far ≡ listed_near l.register (drop l.register l.near) l.expressions.entries far
