@@ -46,8 +46,8 @@ pub record TellsLooks (target : Target) (s asked : List ℕ) (rows : List Row) (
   pub each : AllZip (IsLook target s) (take t.done asked) looks
   pub rows_are : t.rows ≡ map (λ l. l.row) looks ++ drop t.done rows
   pub rules_are : t.rules ≡ over (rules_in looks) rules
-  -- for all of them, unless memory ran out
-  pub status_is : ((t.done ≡ length asked) × (t.status ≡ (if nat_le (length (rules_in looks)) (length rules) then ok else too_short))) ⊎ (t.status ≡ out_of_memory)
+  -- for all of them, unless memory ran out at one
+  pub status_is : ((t.done ≡ length asked) × (t.status ≡ (if nat_le (length (rules_in looks)) (length rules) then ok else too_short))) ⊎ ((t.done < length asked) × (t.status ≡ out_of_memory))
 
 -- the rows of addresses by a section that is accepted; or why there are none
 abbrev pub AreLooks : Option Target → List ℕ → List ℕ → List Row → List Rule → ToldRows → Refused → Type 0
