@@ -47,8 +47,6 @@ same_packed a b c d r = elim (cases_Bool (nat_lt r 64)) [ inl e ↦ rw e refl | 
 -- restore is no longer than a rule
 restore_len : (t : Target) (r : ℕ) (x : RegRule) → is_specified x ≡ true → length (packed 0xc0 0x06 r) ≤ rule_len t r x
 restore_len t r rules.Unspecified e = absurd cc
-restore_len t r rules.Undefined e = omega (arith, packed_len 0xc0 0x06 r)
-restore_len t r rules.SameValue e = omega (arith, packed_len 0xc0 0x06 r)
 restore_len t r (rules.Offset n) e = elim (cases_Bool (is_positive n)) [
   | inl f ↦ rw f (omega (arith, packed_len 0xc0 0x06 r, length-append (shortest_uleb r) (shortest_sleb (neg_ℤ n))))
   | inr f ↦ rw f (omega (arith, same_packed 0xc0 0x06 0x80 0x05 r, length-append (packed 0x80 0x05 r) (shortest_uleb (unsigned_abs n))))
@@ -60,6 +58,7 @@ restore_len t r (rules.ValOffset n) e = elim (cases_Bool (is_positive n)) [
 restore_len t r (rules.Register q) e = omega (arith, packed_len 0xc0 0x06 r, length-append (shortest_uleb r) (shortest_uleb q))
 restore_len t r (rules.Expression x) e = omega (arith, packed_len 0xc0 0x06 r, length-append (shortest_uleb r) (expression_bytes t x))
 restore_len t r (rules.ValExpression x) e = omega (arith, packed_len 0xc0 0x06 r, length-append (shortest_uleb r) (expression_bytes t x))
+restore_len t r x e = omega (arith, packed_len 0xc0 0x06 r)
 
 -- where one rule goes to another, and the other is none, only the first is long enough for it
 restore_either : (t : Target) (r n : ℕ) (a b : RegRule) → same_rule a b ≡ false → (b ≡ rules.Unspecified → rule_len t r a ≤ n) → rule_len t r b ≤ n → length (packed 0xc0 0x06 r) ≤ n

@@ -20,7 +20,7 @@ use Rattle.dw_op.specs.OpSpells.{Code, Both}
 use Rattle.dw_op.specs.Inner.ByOperation.{Alone}
 use Rattle.dw_op.proofs.Lent.LeastBlocks.{least_block_exists, least_no_longer, block_of_least}
 use Rattle.dw_cfa.specs.declared.instr.Instr.{Instr}
-use Rattle.dw_cfa.specs.declared.instr.Instr.TheVariants.{Nop, SetLoc, Advance, DefCfa, DefCfaRegister, DefCfaOffset, DefCfaExpression, Set, Restore, RememberState, RestoreState}
+use Rattle.dw_cfa.specs.declared.instr.Instr.TheVariants.{SetLoc, Advance, DefCfa, DefCfaRegister, DefCfaOffset, DefCfaExpression, Set, Restore}
 use Rattle.dw_cfa.specs.declared.rule.RegRule.{RegRule}
 use Rattle.dw_cfa.specs.declared.rule.RegRule.TheVariants as rules
 use Rattle.dw_cfa.specs.InstrSpells.{IsOffset, BlockSpells, InstrSpells, Program}
@@ -145,7 +145,6 @@ fits_width Eight a lt = omega arith
 
 instr_spelled : (t : Target) (i : Instr) → InstrFits t i → IsSpelled t factors i (instr_bytes t i)
 unfolding instr_with
-instr_spelled t Nop h = refl
 instr_spelled t (SetLoc a) h = code 0x01 (Address t a) (fixed_bytes t.order (byte_count t.size) a) (record { bytes = refl; fits = fits_width t.size a h })
 instr_spelled t (Advance delta) h = (delta, advance_is t delta h, sym (times_one delta))
 instr_spelled t (DefCfa r (pos n)) h = rw (not_below n) (inl (with_register t 0x0c r (Plain (pos n)) (shortest_uleb n) h.0 (plain_is t n h.1)))
@@ -156,8 +155,7 @@ instr_spelled t (DefCfaOffset (negsuc n)) h = inr (code 0x13 (SignedFactored fac
 instr_spelled t (DefCfaExpression e) h = code 0x0f (BlockSpells t e) (expression_bytes t e) (block_is t e h)
 instr_spelled t (Set r rule) h = rule_spelled t r rule h.0 h.1 h.2
 instr_spelled t (Restore r) h = packed_alone t 0xc0 0x06 r h
-instr_spelled t RememberState h = refl
-instr_spelled t RestoreState h = refl
+instr_spelled t i h = refl
 
 pub program_spelled : (t : Target) (instrs : List Instr) → AllByRecursion (InstrFits t) instrs → Program t factors instrs (program_bytes t instrs)
 program_spelled t [] h = refl

@@ -14,7 +14,7 @@ use Rattle.dw_op.specs.OpSpells.{Code, Both}
 use Rattle.dw_op.proofs.Lent.LeastBlocks.{least_block_exists, least_no_longer}
 use Rattle.dw_cfa.specs.declared.instr.Factors.{Factors}
 use Rattle.dw_cfa.specs.declared.instr.Instr.{Instr}
-use Rattle.dw_cfa.specs.declared.instr.Instr.TheVariants.{Nop, SetLoc, Advance, DefCfa, DefCfaRegister, DefCfaOffset, DefCfaExpression, Set, Restore, RememberState, RestoreState}
+use Rattle.dw_cfa.specs.declared.instr.Instr.TheVariants.{SetLoc, Advance, DefCfaExpression, Set}
 use Rattle.dw_cfa.specs.declared.rule.CfaRule.{CfaRule}
 use Rattle.dw_cfa.specs.declared.rule.CfaRule.TheVariants as cfa
 use Rattle.dw_cfa.specs.declared.rule.RegRule.{RegRule}
@@ -102,8 +102,6 @@ behind c r P b h = omega (arith, ap length h.whole, both_len (Register r) P h.re
 module _ (t : Target) (f : Factors) where
   rule_most : (r : ℕ) (rule : RegRule) (b : List ℕ) → RuleSpells t f r rule b → rule_len t r rule ≤ 6 * length b
   rule_most r rules.Unspecified b h = absurd h
-  rule_most r rules.Undefined b h = omega (arith, ap length h.whole, register_len r h.operands.1, leb_some h.rest h.operands.0.shape)
-  rule_most r rules.SameValue b h = omega (arith, ap length h.whole, register_len r h.operands.1, leb_some h.rest h.operands.0.shape)
   rule_most r (rules.Offset n) b (inl h) =
       omega (arith, offset_len t r n h.1.operands.range, shortest_uleb-one r (omega (arith, h.0)), ap length h.1.whole, leb_some h.1.rest h.1.operands.spelled.shape)
   rule_most r (rules.Offset n) b (inr (inl h)) =
@@ -120,6 +118,7 @@ module _ (t : Target) (f : Factors) where
       omega (arith, length-append (shortest_uleb r) (expression_bytes t e), register_len r h.operands.first.1, behind 0x10 r _ b h, expression_len t e h.operands.back h.operands.second, block_some t e h.operands.back h.operands.second)
   rule_most r (rules.ValExpression e) b h =
       omega (arith, length-append (shortest_uleb r) (expression_bytes t e), register_len r h.operands.first.1, behind 0x16 r _ b h, expression_len t e h.operands.back h.operands.second, block_some t e h.operands.back h.operands.second)
+  rule_most r rule b h = omega (arith, ap length h.whole, register_len r h.operands.1, leb_some h.rest h.operands.0.shape)
 
   advance_some : (delta : ℕ) (b : List ℕ) → AdvanceSpells t delta b → 1 ≤ length b
   advance_some delta b (inl h) = omega (arith, ap length h.1)
@@ -129,17 +128,11 @@ module _ (t : Target) (f : Factors) where
 
   -- six bytes for each of its own are enough for the rule that it gives, and six are left where it moves the location
   instr_most : (i : Instr) (b : List ℕ) → IsSpelled t f i b → rule_weight t i + cfa_weight t i + 6 * cond (moves_location i) 1 0 ≤ 6 * length b
-  instr_most Nop b h = omega arith
   instr_most (SetLoc a) b h = omega (arith, ap length h.whole)
   instr_most (Advance d) b h = omega (arith, advance_some h.0 b h.1)
-  instr_most (DefCfa r n) b h = omega arith
-  instr_most (DefCfaRegister r) b h = omega arith
-  instr_most (DefCfaOffset n) b h = omega arith
   instr_most (DefCfaExpression e) b h = omega (arith, ap length h.whole, expression_len t e h.rest h.operands, block_some t e h.rest h.operands)
   instr_most (Set r rule) b h = omega (arith, rule_most r rule b h)
-  instr_most (Restore r) b h = omega arith
-  instr_most RememberState b h = omega arith
-  instr_most RestoreState b h = omega arith
+  instr_most i b h = omega arith
 
   pub program_most : (instrs : List Instr) (b : List ℕ) → Program t f instrs b → sum_of (rule_weight t) instrs + sum_of (cfa_weight t) instrs + 6 * count_by moves_location instrs ≤ 6 * length b
   program_most [] b h = omega arith

@@ -14,7 +14,7 @@ use Rattle.dw_num.specs.Fixed.{fixed_bytes}
 use Rattle.dw_num.specs.Target.{byte_count}
 use Rattle.dw_num.proofs.Lent.FixedLaws.{length-fixed}
 use Rattle.dw_cfa.specs.declared.instr.Instr.{Instr}
-use Rattle.dw_cfa.specs.declared.instr.Instr.TheVariants.{Nop, SetLoc, Advance, DefCfa, DefCfaRegister, DefCfaOffset, DefCfaExpression, Set, Restore, RememberState, RestoreState}
+use Rattle.dw_cfa.specs.declared.instr.Instr.TheVariants.{DefCfa, DefCfaRegister, DefCfaOffset, DefCfaExpression, Set, Restore}
 use Rattle.dw_cfa.specs.declared.rule.CfaRule.{CfaRule}
 use Rattle.dw_cfa.specs.declared.rule.CfaRule.TheVariants as cfa
 use Rattle.dw_cfa.specs.declared.rule.RegRule.{RegRule}
@@ -42,26 +42,18 @@ each_below f n (x ∷ xs) le = (omega arith, each_below f n xs (omega arith))
 
 register_stays : (t : Target) (n q : ℕ) (old : CfaRule) → cfa_len t old ≤ n → cfa_len t (with_register q old) ≤ n
 register_stays t n q cfa.Unset h = h
-register_stays t n q (cfa.Register r m) h = h
-register_stays t n q (cfa.Expression e) h = h
+register_stays t n q old h = h
 
 offset_stays : (t : Target) (n : ℕ) (m : ℤ) (old : CfaRule) → cfa_len t old ≤ n → cfa_len t (with_offset m old) ≤ n
 offset_stays t n m cfa.Unset h = h
-offset_stays t n m (cfa.Register r k) h = h
-offset_stays t n m (cfa.Expression e) h = h
+offset_stays t n m old h = h
 
 cfa_keeps : (t : Target) (n : ℕ) (i : Instr) → cfa_weight t i ≤ n → (old : CfaRule) → cfa_len t old ≤ n → cfa_len t (cfa_change i old) ≤ n
 cfa_keeps t n (DefCfa r m) w old h = omega arith
 cfa_keeps t n (DefCfaRegister r) w old h = register_stays t n r old h
 cfa_keeps t n (DefCfaOffset m) w old h = offset_stays t n m old h
 cfa_keeps t n (DefCfaExpression e) w old h = w
-cfa_keeps t n Nop w old h = h
-cfa_keeps t n (SetLoc a) w old h = h
-cfa_keeps t n (Advance d) w old h = h
-cfa_keeps t n (Set r given) w old h = h
-cfa_keeps t n (Restore r) w old h = h
-cfa_keeps t n RememberState w old h = h
-cfa_keeps t n RestoreState w old h = h
+cfa_keeps t n i w old h = h
 
 rule_keeps : (t : Target) (n r : ℕ) (initial : RegRule) → rule_len t r initial ≤ n → (i : Instr) → own_weight t r i ≤ n → (old : RegRule) → rule_len t r old ≤ n → rule_len t r (rule_change r initial i old) ≤ n
 rule_keeps t n r initial start (Set q given) w old h = elim (eqb_tells q r) [
@@ -69,15 +61,7 @@ rule_keeps t n r initial start (Set q given) w old h = elim (eqb_tells q r) [
   | inr not ↦ rw (not.0) h
 ]
 rule_keeps t n r initial start (Restore q) w old h = elim (eqb_tells q r) [ inl is ↦ rw (is.0) start | inr not ↦ rw (not.0) h ]
-rule_keeps t n r initial start Nop w old h = h
-rule_keeps t n r initial start (SetLoc a) w old h = h
-rule_keeps t n r initial start (Advance d) w old h = h
-rule_keeps t n r initial start (DefCfa q m) w old h = h
-rule_keeps t n r initial start (DefCfaRegister q) w old h = h
-rule_keeps t n r initial start (DefCfaOffset m) w old h = h
-rule_keeps t n r initial start (DefCfaExpression e) w old h = h
-rule_keeps t n r initial start RememberState w old h = h
-rule_keeps t n r initial start RestoreState w old h = h
+rule_keeps t n r initial start i w old h = h
 
 -- ---- a move
 
@@ -153,16 +137,7 @@ module _ (t : Target) (i j : List Instr) where
 
   once : (rs : List ℕ) → Rise 0 rs → (x : Instr) → sum_of (λ (r : ℕ). own_weight t r x) rs ≤ rule_weight t x
   once rs up (Set q given) = once_own q (rule_len t q given) 0 rs up
-  once rs up Nop = omega (arith, sum_none rs)
-  once rs up (SetLoc a) = omega (arith, sum_none rs)
-  once rs up (Advance d) = omega (arith, sum_none rs)
-  once rs up (DefCfa q m) = omega (arith, sum_none rs)
-  once rs up (DefCfaRegister q) = omega (arith, sum_none rs)
-  once rs up (DefCfaOffset m) = omega (arith, sum_none rs)
-  once rs up (DefCfaExpression e) = omega (arith, sum_none rs)
-  once rs up (Restore q) = omega (arith, sum_none rs)
-  once rs up RememberState = omega (arith, sum_none rs)
-  once rs up RestoreState = omega (arith, sum_none rs)
+  once rs up x = omega (arith, sum_none rs)
 
   pub step_len : (initial old new : Rules) → ((r : ℕ) → rule new r ≡ rules.Unspecified → rule_len t r (rule old r) ≤ each r) → IsWithin new → length (program_bytes t (difference initial old new)) ≤ 14 + all_len
   step_len initial old new left k =

@@ -7,7 +7,7 @@ use Rattle.dw_num.specs.declared.target.Target.{Target}
 use Rattle.dw_num.specs.declared.target.Size.{Size}
 use Rattle.dw_num.specs.Target.{byte_count, address_limit}
 use Rattle.dw_op.specs.declared.op.Op.{Op}
-use Rattle.dw_op.specs.declared.op.Op.TheVariants.{Addr, Deref, Const, Dup, Drop, Over, Pick, Swap, Rot, Abs, And, Div, Minus, Mod, Mul, Neg, Not, Or, Plus, PlusUconst, Shl, Shr, Shra, Xor, Bra, Eq, Ge, Gt, Le, Lt, Ne, Skip, Reg, Breg, Fbreg, Piece, DerefSize, Nop, PushObjectAddress, CallFrameCfa, BitPiece, Implicit, StackValue}
+use Rattle.dw_op.specs.declared.op.Op.TheVariants.{Addr, Deref, Const, Dup, Drop, Pick, Rot, Abs, Div, Mod, Neg, Not, PlusUconst, Bra, Eq, Ge, Gt, Le, Lt, Ne, Skip, Reg, Breg, Fbreg, Piece, DerefSize, Nop, PushObjectAddress, CallFrameCfa, BitPiece, Implicit, StackValue}
 use Rattle.dw_op.specs.Block.{branch_target}
 use Rattle.dw_op.specs.Ranges.{InRange, AllInRange, TargetWithin}
 use Rattle.dw_eval.specs.declared.error.Kind.{Kind}
@@ -31,15 +31,12 @@ on_top_tame target [] f h = λ e. cc
 on_top_tame target (t ∷ below) f h = h t below
 
 on_two_tame : (target : Option ℕ) (stack : List ℕ) (f : ℕ → ℕ → List ℕ → Outcome) → ((s t : ℕ) (below : List ℕ) → IsTame target (f s t below)) → IsTame target (on_two stack f)
-on_two_tame target [] f h = λ e. cc
-on_two_tame target (t ∷ []) f h = λ e. cc
 on_two_tame target (t ∷ s ∷ below) f h = h s t below
+on_two_tame target stack f h = λ e. cc
 
 on_three_tame : (target : Option ℕ) (stack : List ℕ) (f : ℕ → ℕ → ℕ → List ℕ → Outcome) → ((third s t : ℕ) (below : List ℕ) → IsTame target (f third s t below)) → IsTame target (on_three stack f)
-on_three_tame target [] f h = λ e. cc
-on_three_tame target (t ∷ []) f h = λ e. cc
-on_three_tame target (t ∷ s ∷ []) f h = λ e. cc
 on_three_tame target (t ∷ s ∷ third ∷ below) f h = h third s t below
+on_three_tame target stack f h = λ e. cc
 
 known_tame : (target : Option ℕ) (kind : Kind) (o : Option ℕ) (f : ℕ → Outcome) → (kind ≡ Device → ⊥) → ((v : ℕ) → IsTame target (f v)) → IsTame target (known kind o f)
 known_tame target kind None f other h = other
@@ -67,25 +64,14 @@ effect_tame c Deref stack = on_top_tame None stack _ (λ t below. read_tame c.ta
 effect_tame c (Const v) stack = tt
 effect_tame c Dup stack = on_top_tame None stack _ (λ t below. tt)
 effect_tame c Drop stack = on_top_tame None stack _ (λ t below. tt)
-effect_tame c Over stack = on_two_tame None stack _ (λ s t below. tt)
 effect_tame c (Pick i) stack = known_tame None StackUnderflow (slice_get stack i) _ (λ e. cc) (λ v. tt)
-effect_tame c Swap stack = on_two_tame None stack _ (λ s t below. tt)
 effect_tame c Rot stack = on_three_tame None stack _ (λ third s t below. tt)
 effect_tame c Abs stack = on_top_tame None stack _ (λ t below. tt)
-effect_tame c And stack = on_two_tame None stack _ (λ s t below. tt)
 effect_tame c Div stack = on_two_tame None stack _ (λ s t below. unless_zero (nat_eq (t % address_limit c.target.size) 0) _)
-effect_tame c Minus stack = on_two_tame None stack _ (λ s t below. tt)
 effect_tame c Mod stack = on_two_tame None stack _ (λ s t below. unless_zero (nat_eq t 0) _)
-effect_tame c Mul stack = on_two_tame None stack _ (λ s t below. tt)
 effect_tame c Neg stack = on_top_tame None stack _ (λ t below. tt)
 effect_tame c Not stack = on_top_tame None stack _ (λ t below. tt)
-effect_tame c Or stack = on_two_tame None stack _ (λ s t below. tt)
-effect_tame c Plus stack = on_two_tame None stack _ (λ s t below. tt)
 effect_tame c (PlusUconst n) stack = on_top_tame None stack _ (λ t below. tt)
-effect_tame c Shl stack = on_two_tame None stack _ (λ s t below. tt)
-effect_tame c Shr stack = on_two_tame None stack _ (λ s t below. tt)
-effect_tame c Shra stack = on_two_tame None stack _ (λ s t below. tt)
-effect_tame c Xor stack = on_two_tame None stack _ (λ s t below. tt)
 effect_tame c (Bra i) stack = on_top_tame (Some i) stack _ (λ t below. branch_tame (nat_eq t 0) i below)
 effect_tame c Eq stack = on_two_tame None stack _ (λ s t below. tell_tame None _ below)
 effect_tame c Ge stack = on_two_tame None stack _ (λ s t below. tell_tame None _ below)
@@ -105,6 +91,7 @@ effect_tame c CallFrameCfa stack = known_tame None NoCfa c.cfa _ (λ e. cc) (λ 
 effect_tame c (BitPiece size offset) stack = λ e. cc
 effect_tame c (Implicit block) stack = λ e. cc
 effect_tame c StackValue stack = on_top_tame None stack _ (λ t below. λ e. cc)
+effect_tame c op stack = on_two_tame None stack _ (λ s t below. tt)
 
 pub in_range_at : (t : Target) (len : ℕ) (ops : List Op) (k : ℕ) (op : Op) → AllByRecursion (InRange t len) ops → slice_get ops k ≡ Some op → InRange t len op
 in_range_at t len [] k op h e = absurd (cc)

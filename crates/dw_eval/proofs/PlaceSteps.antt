@@ -11,7 +11,7 @@ use Rattle.dw_eval.specs.declared.error.Kind.{Kind}
 use Rattle.dw_eval.specs.declared.error.Kind.TheVariants.{StackUnderflow, MissingPiece}
 use Rattle.dw_eval.specs.declared.place.Place.{Place}
 use Rattle.dw_eval.specs.declared.place.Role.{Role}
-use Rattle.dw_eval.specs.declared.place.Role.TheVariants.{SetsPlace, SetsValue, AddsPiece, Waits, Computes}
+use Rattle.dw_eval.specs.declared.place.Role.TheVariants.{SetsPlace, SetsValue, Computes}
 use Rattle.dw_eval.specs.Context.{Context}
 use Rattle.dw_eval.specs.Effect.{Outcome, Next, Jump, Faults, effect}
 use Rattle.dw_eval.specs.Inner.Description.{Turns}
@@ -42,11 +42,9 @@ value_within len s [] lt = omega arith
 value_within len s (t ∷ below) lt = omega (arith, lt)
 
 free_within : (len : ℕ) (c : Context) (op : Op) (s : PlaceState) (r : Role) → s.index < len → TargetWithin len (branch_target op) → index_in (free_by c op r s) ≤ len
-free_within len c op s (SetsPlace place) lt within = omega (arith, lt)
 free_within len c op s SetsValue lt within = value_within len s s.stack lt
-free_within len c op s (AddsPiece part) lt within = omega (arith, lt)
-free_within len c op s Waits lt within = omega (arith, lt)
 free_within len c op s (Computes entries) lt within = led_within len (branch_target op) s (effect c op s.stack) lt within (effect_tame c op s.stack)
+free_within len c op s r lt within = omega (arith, lt)
 
 refused_within : (b : Bool) (len : ℕ) → index_in (if b then Err StackUnderflow else Err MissingPiece) ≤ len
 refused_within true len = omega arith
@@ -55,9 +53,8 @@ refused_within false len = omega arith
 held_within : (len : ℕ) (s : PlaceState) (r : Role) → s.index < len → index_in (held_by r s) ≤ len
 held_within len s (SetsPlace place) lt = refused_within (nat_lt (length s.stack) 0) len
 held_within len s SetsValue lt = refused_within (nat_lt (length s.stack) 1) len
-held_within len s (AddsPiece part) lt = omega (arith, lt)
-held_within len s Waits lt = omega (arith, lt)
 held_within len s (Computes entries) lt = refused_within (nat_lt (length s.stack) entries) len
+held_within len s r lt = omega (arith, lt)
 
 turn_within : (len : ℕ) (c : Context) (op : Op) (s : PlaceState) (pending : Option Place) → s.index < len → TargetWithin len (branch_target op) → index_in (turn_of c op pending s) ≤ len
 turn_within len c op s None lt within = free_within len c op s (role op) lt within

@@ -5,7 +5,7 @@ use Rattle.std.proofs.lemmas.Bool.{cases_lt, lt-ltb, le-ltb}
 use Rattle.std.proofs.lemmas.Option.{slice_get-get_or, slice_get_past}
 use Rattle.dw_num.specs.Target.{byte_count, address_limit}
 use Rattle.dw_op.specs.declared.op.Op.{Op}
-use Rattle.dw_op.specs.declared.op.Op.TheVariants.{Addr, Deref, Const, Dup, Drop, Over, Pick, Swap, Rot, Abs, And, Div, Minus, Mod, Mul, Neg, Not, Or, Plus, PlusUconst, Shl, Shr, Shra, Xor, Bra, Eq, Ge, Gt, Le, Lt, Ne, Skip, Reg, Breg, Fbreg, Piece, DerefSize, Nop, PushObjectAddress, CallFrameCfa, BitPiece, Implicit, StackValue}
+use Rattle.dw_op.specs.declared.op.Op.TheVariants.{Addr, Deref, Const, Dup, Drop, Pick, Rot, Abs, Div, Mod, Neg, Not, PlusUconst, Bra, Eq, Ge, Gt, Le, Lt, Ne, Skip, Reg, Breg, Fbreg, Piece, DerefSize, Nop, PushObjectAddress, CallFrameCfa, BitPiece, Implicit, StackValue}
 use Rattle.dw_eval.specs.declared.error.EvalError.{EvalError}
 use Rattle.dw_eval.specs.declared.error.Kind.{Kind}
 use Rattle.dw_eval.specs.declared.error.Kind.TheVariants.{StackUnderflow, MissingPiece, DivideByZero, NoRegister, Unreadable, NoFrameBase, NoCfa, NoObject}
@@ -28,15 +28,12 @@ top_held [] f h = refl
 top_held (t ∷ below) f h = rw (le-ltb (length (t ∷ below)) 1 (omega arith)) (sym (h t below))
 
 two_held : (stack : List ℕ) (f : ℕ → ℕ → List ℕ → Outcome) → ((s t : ℕ) (below : List ℕ) → IsMissing (f s t below)) → refused_by 2 stack ≡ refused (on_two stack f)
-two_held [] f h = refl
-two_held (t ∷ []) f h = refl
 two_held (t ∷ s ∷ below) f h = rw (le-ltb (length (t ∷ s ∷ below)) 2 (omega arith)) (sym (h s t below))
+two_held stack f h = refl
 
 three_held : (stack : List ℕ) (f : ℕ → ℕ → ℕ → List ℕ → Outcome) → ((third s t : ℕ) (below : List ℕ) → IsMissing (f third s t below)) → refused_by 3 stack ≡ refused (on_three stack f)
-three_held [] f h = refl
-three_held (t ∷ []) f h = refl
-three_held (t ∷ s ∷ []) f h = refl
 three_held (t ∷ s ∷ third ∷ below) f h = rw (le-ltb (length (t ∷ s ∷ third ∷ below)) 3 (omega arith)) (sym (h third s t below))
+three_held stack f h = refl
 
 pick_held : (stack : List ℕ) (i : ℕ) → refused_by (i + 1) stack ≡ refused (known StackUnderflow (slice_get stack i) (λ v. Next (v ∷ stack)))
 pick_held stack i = elim (cases_lt (length stack) (i + 1)) [
@@ -69,17 +66,6 @@ held_is c (Pick i) s = pick_held s.stack i
 held_is c Rot s = three_held s.stack _ (λ third s t below. refl)
 held_is c Div s = two_held s.stack _ (λ s t below. unless_zero (nat_eq (t % address_limit c.target.size) 0) _ refl)
 held_is c Mod s = two_held s.stack _ (λ s t below. unless_zero (nat_eq t 0) _ refl)
-held_is c Over s = two_held s.stack _ (λ s t below. refl)
-held_is c Swap s = two_held s.stack _ (λ s t below. refl)
-held_is c And s = two_held s.stack _ (λ s t below. refl)
-held_is c Minus s = two_held s.stack _ (λ s t below. refl)
-held_is c Mul s = two_held s.stack _ (λ s t below. refl)
-held_is c Or s = two_held s.stack _ (λ s t below. refl)
-held_is c Plus s = two_held s.stack _ (λ s t below. refl)
-held_is c Shl s = two_held s.stack _ (λ s t below. refl)
-held_is c Shr s = two_held s.stack _ (λ s t below. refl)
-held_is c Shra s = two_held s.stack _ (λ s t below. refl)
-held_is c Xor s = two_held s.stack _ (λ s t below. refl)
 held_is c Dup s = top_held s.stack _ (λ t below. refl)
 held_is c Drop s = top_held s.stack _ (λ t below. refl)
 held_is c Abs s = top_held s.stack _ (λ t below. refl)
@@ -104,6 +90,7 @@ held_is c CallFrameCfa s = none_held s.stack (effect c CallFrameCfa s.stack) (wh
 held_is c (BitPiece size offset) s = refl
 held_is c (Implicit block) s = none_held s.stack (effect c (Implicit block) s.stack) refl
 held_is c StackValue s = top_held s.stack _ (λ t below. refl)
+held_is c op s = two_held s.stack _ (λ s t below. refl)
 
 free_is : (c : Context) (op : Op) (s : PlaceState) → free_by c op (role op) s ≡ free_turn c op s
 free_is c StackValue s = refl

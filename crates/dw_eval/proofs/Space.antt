@@ -6,7 +6,7 @@ use Rattle.dw_num.specs.declared.target.Size.{Size}
 use Rattle.dw_num.specs.declared.target.Size.TheVariants.{Four, Eight}
 use Rattle.dw_num.specs.Target.{byte_count, address_limit}
 use Rattle.dw_op.specs.declared.op.Op.{Op}
-use Rattle.dw_op.specs.declared.op.Op.TheVariants.{Addr, Deref, Const, Dup, Drop, Over, Pick, Swap, Rot, Abs, And, Div, Minus, Mod, Mul, Neg, Not, Or, Plus, PlusUconst, Shl, Shr, Shra, Xor, Bra, Eq, Ge, Gt, Le, Lt, Ne, Skip, Reg, Breg, Fbreg, Piece, DerefSize, Nop, PushObjectAddress, CallFrameCfa, BitPiece, Implicit, StackValue}
+use Rattle.dw_op.specs.declared.op.Op.TheVariants.{Addr, Deref, Const, Dup, Drop, Over, Pick, Swap, Rot, Abs, Div, Minus, Mod, Neg, Not, PlusUconst, Shra, Bra, Eq, Ge, Gt, Le, Lt, Ne, Skip, Reg, Breg, Fbreg, Piece, DerefSize, Nop, PushObjectAddress, CallFrameCfa, BitPiece, Implicit, StackValue}
 use Rattle.dw_op.proofs.Lent.Ranges.{modulo_below}
 use Rattle.dw_eval.specs.declared.error.Kind.{Kind}
 use Rattle.dw_eval.specs.declared.error.Kind.TheVariants.{StackUnderflow, DivideByZero, NoRegister, Unreadable, NoFrameBase, NoCfa, NoObject, MissingPiece}
@@ -58,15 +58,12 @@ on_top_leaves size [] f h leaves = tt
 on_top_leaves size (t ∷ below) f h leaves = leaves t below h.0 h.1
 
 on_two_leaves : (size : Size) (stack : List ℕ) (f : ℕ → ℕ → List ℕ → Outcome) → AreInSpace size stack → ((s t : ℕ) (below : List ℕ) → s < address_limit size → t < address_limit size → AreInSpace size below → LeavesInSpace size (f s t below)) → LeavesInSpace size (on_two stack f)
-on_two_leaves size [] f h leaves = tt
-on_two_leaves size (t ∷ []) f h leaves = tt
 on_two_leaves size (t ∷ s ∷ below) f h leaves = leaves s t below h.1.0 h.0 h.1.1
+on_two_leaves size stack f h leaves = tt
 
 on_three_leaves : (size : Size) (stack : List ℕ) (f : ℕ → ℕ → ℕ → List ℕ → Outcome) → AreInSpace size stack → ((third s t : ℕ) (below : List ℕ) → third < address_limit size → s < address_limit size → t < address_limit size → AreInSpace size below → LeavesInSpace size (f third s t below)) → LeavesInSpace size (on_three stack f)
-on_three_leaves size [] f h leaves = tt
-on_three_leaves size (t ∷ []) f h leaves = tt
-on_three_leaves size (t ∷ s ∷ []) f h leaves = tt
 on_three_leaves size (t ∷ s ∷ third ∷ below) f h leaves = leaves third s t below h.1.1.0 h.1.0 h.0 h.1.1.1
+on_three_leaves size stack f h leaves = tt
 
 known_leaves : (size : Size) (kind : Kind) (o : Option ℕ) (f : ℕ → Outcome) → ((v : ℕ) → LeavesInSpace size (f v)) → LeavesInSpace size (known kind o f)
 known_leaves size kind None f leaves = tt
@@ -104,20 +101,13 @@ effect_leaves c (Pick i) stack h = pick_leaves c.target.size stack i (slice_get 
 effect_leaves c Swap stack h = on_two_leaves c.target.size stack _ h (λ s t below ls lt w. (ls, (lt, w)))
 effect_leaves c Rot stack h = on_three_leaves c.target.size stack _ h (λ third s t below lthird ls lt w. (ls, (lthird, (lt, w))))
 effect_leaves c Abs stack h = on_top_leaves c.target.size stack _ h (λ t below lt w. pushed c.target.size _ below w)
-effect_leaves c And stack h = on_two_leaves c.target.size stack _ h (λ s t below ls lt w. pushed c.target.size _ below w)
 effect_leaves c Div stack h = on_two_leaves c.target.size stack _ h (λ s t below ls lt w. unless_zero c.target.size (nat_eq (t % address_limit c.target.size) 0) _ (pushed_signed c.target.size _ below w))
 effect_leaves c Minus stack h = on_two_leaves c.target.size stack _ h (λ s t below ls lt w. pushed_signed c.target.size _ below w)
 effect_leaves c Mod stack h = on_two_leaves c.target.size stack _ h (λ s t below ls lt w. unless_zero c.target.size (nat_eq t 0) _ (pushed c.target.size _ below w))
-effect_leaves c Mul stack h = on_two_leaves c.target.size stack _ h (λ s t below ls lt w. pushed c.target.size _ below w)
 effect_leaves c Neg stack h = on_top_leaves c.target.size stack _ h (λ t below lt w. pushed_signed c.target.size _ below w)
 effect_leaves c Not stack h = on_top_leaves c.target.size stack _ h (λ t below lt w. pushed_signed c.target.size _ below w)
-effect_leaves c Or stack h = on_two_leaves c.target.size stack _ h (λ s t below ls lt w. pushed c.target.size _ below w)
-effect_leaves c Plus stack h = on_two_leaves c.target.size stack _ h (λ s t below ls lt w. pushed c.target.size _ below w)
 effect_leaves c (PlusUconst n) stack h = on_top_leaves c.target.size stack _ h (λ t below lt w. pushed c.target.size _ below w)
-effect_leaves c Shl stack h = on_two_leaves c.target.size stack _ h (λ s t below ls lt w. pushed c.target.size _ below w)
-effect_leaves c Shr stack h = on_two_leaves c.target.size stack _ h (λ s t below ls lt w. pushed c.target.size _ below w)
 effect_leaves c Shra stack h = on_two_leaves c.target.size stack _ h (λ s t below ls lt w. pushed_signed c.target.size _ below w)
-effect_leaves c Xor stack h = on_two_leaves c.target.size stack _ h (λ s t below ls lt w. pushed c.target.size _ below w)
 effect_leaves c (Bra i) stack h = on_top_leaves c.target.size stack _ h (λ t below lt w. branched c.target.size (nat_eq t 0) i below w)
 effect_leaves c Eq stack h = on_two_leaves c.target.size stack _ h (λ s t below ls lt w. told c.target.size _ below w)
 effect_leaves c Ge stack h = on_two_leaves c.target.size stack _ h (λ s t below ls lt w. told c.target.size _ below w)
@@ -137,15 +127,15 @@ effect_leaves c CallFrameCfa stack h = known_leaves c.target.size NoCfa c.cfa _ 
 effect_leaves c (BitPiece size offset) stack h = tt
 effect_leaves c (Implicit block) stack h = tt
 effect_leaves c StackValue stack h = on_top_leaves c.target.size stack _ h (λ t below lt w. tt)
+effect_leaves c op stack h = on_two_leaves c.target.size stack _ h (λ s t below ls lt w. pushed c.target.size _ below w)
 
 abbrev KeptIn : Size → Result State Kind → Type 0
 KeptIn size (Ok s) = AreInSpace size s.stack
 KeptIn size (Err kind) = Unit {0}
 
 led_kept : (size : Size) (i : ℕ) (o : Outcome) → LeavesInSpace size o → KeptIn size (led i o)
-led_kept size i (Next stack) h = h
-led_kept size i (Jump j stack) h = h
 led_kept size i (Faults kind) h = tt
+led_kept size i o h = h
 
 value_keeps : (c : Context) (op : Op) (s s' : State) → AreInSpace c.target.size s.stack → value_turn c op s ≡ Ok s' → AreInSpace c.target.size s'.stack
 value_keeps c op s s' h e =
@@ -250,8 +240,7 @@ last_in_space size len pending stack [] ended h w p e =
 last_in_space size len None [] (piece ∷ pieces) ended h w p e =
     let same : piece ∷ pieces ≡ ended = cc (sym e) in
     subst (ArePlacesInSpace size) same p
-last_in_space size len None (t ∷ below) (piece ∷ pieces) ended h w p e = absurd (cc)
-last_in_space size len (Some place) stack (piece ∷ pieces) ended h w p e = absurd (cc)
+last_in_space size len pending stack pieces ended h w p e = absurd (cc)
 
 place_answers : (ops : List Op) (c : Context) (limit : ℕ) (pieces : List declared.Piece) → Located ops c limit (Ok pieces) → ArePlacesInSpace c.target.size pieces
 place_answers ops c limit pieces (inl e) =

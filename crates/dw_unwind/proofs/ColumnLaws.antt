@@ -72,8 +72,7 @@ over_error P Q F G f g before (Eval kinds.Device i column) after h = (g (Eval ki
 over_error P Q F G f g before e after h = (f e h.0, h.1)
 
 pub over_answered : {A : Type 0} (P : Result A UnwindError → Type 0) (F : UnwindError → Type 0) (before : ℕ) (r : Result A UnwindError) (after : ℕ) → Over P F before r after → after ≡ before → (r ≡ Err OutOfMemory) ⊎ P r
-over_answered P F before (Ok v) after h e = inr h.0
 over_answered P F before (Err OutOfMemory) after h e = inl refl
 over_answered P F before (Err (Device column)) after h e = absurd (omega (arith, h.1))
 over_answered P F before (Err (Eval kinds.Device i column)) after h e = absurd (omega (arith, h.1))
-over_answered P F before (Err x) after h e = inr h.0
+over_answered P F before r after h e = inr h.0

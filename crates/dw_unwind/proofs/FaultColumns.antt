@@ -61,15 +61,12 @@ module _ (c : Context) (limit : ℕ) where
       subst (Names column) (sym h.2) (on_value_names column h.0 (saved_at c limit column) (value_names column e _ h.0 h.1) (saved_names column))
 
   register_names : (policy : Policy) (cfa r : ℕ) (x : RegRule) (answer : Result (Option ℕ) UnwindError) → RegisterIs c limit policy cfa r x answer → Names (Register r) answer
-  register_names policy cfa r rules.Unspecified answer h = subst (Names (Register r)) (sym h) tt
-  register_names policy cfa r rules.Undefined answer h = subst (Names (Register r)) (sym h) tt
-  register_names policy cfa r rules.SameValue answer h = subst (Names (Register r)) (sym h) tt
   register_names policy cfa r (rules.Offset n) answer h = subst (Names (Register r)) (sym h) (recovered_names (Register r) (saved_at c limit (Register r) (plus c limit cfa n)) (saved_names (Register r) (plus c limit cfa n)))
-  register_names policy cfa r (rules.ValOffset n) answer h = subst (Names (Register r)) (sym h) tt
   register_names policy cfa r (rules.Register q) answer h =
       subst (Names (Register r)) (sym h) (recovered_names (Register r) (ok_or (value_in c limit q) (NoRegister (Register r))) (known_names (Register r) (NoRegister (Register r)) (value_in c limit q) refl))
   register_names policy cfa r (rules.Expression e) answer h = subst (Names (Register r)) (sym h.2) (recovered_names (Register r) h.0 (saved_by_names (Register r) cfa e h.0 h.1))
   register_names policy cfa r (rules.ValExpression e) answer h = subst (Names (Register r)) (sym h.2) (recovered_names (Register r) h.0 (value_names (Register r) e _ h.0 h.1))
+  register_names policy cfa r x answer h = subst (Names (Register r)) (sym h) tt
 
   -- ---- the device
 
@@ -87,19 +84,14 @@ module _ (c : Context) (limit : ℕ) where
   saved_by_failing column cfa x e (inr h) = told column e (Device column) refl h.2.1
 
   cfa_failing : (r : CfaRule) (e : UnwindError) → CfaFails c limit r e → Failing Cfa e
-  cfa_failing cfa.Unset e h = absurd h
-  cfa_failing (cfa.Register r n) e h = absurd h
   cfa_failing (cfa.Expression x) e h = value_failing Cfa _ x e h
+  cfa_failing r e h = absurd h
 
   register_failing : (cfa r : ℕ) (x : RegRule) (e : UnwindError) → RegisterFails c limit cfa r x e → Failing (Register r) e
-  register_failing cfa r rules.Unspecified e h = absurd h
-  register_failing cfa r rules.Undefined e h = absurd h
-  register_failing cfa r rules.SameValue e h = absurd h
   register_failing cfa r (rules.Offset n) e h = told (Register r) e (Device (Register r)) refl h.1
-  register_failing cfa r (rules.ValOffset n) e h = absurd h
-  register_failing cfa r (rules.Register q) e h = absurd h
   register_failing cfa r (rules.Expression x) e h = saved_by_failing (Register r) cfa x e h
   register_failing cfa r (rules.ValExpression x) e h = value_failing (Register r) _ x e h
+  register_failing cfa r x e h = absurd h
 
   module _ (policy : Policy) (row : Rules) (return_register : ℕ) (e : UnwindError) (column : Column) (named : column_of e ≡ Some column) where
     abbrev Within : Column → Type 0

@@ -168,7 +168,5 @@ told_own q v = elim (eqb_tells q q) [
 ]
 
 pub says_bytes : (line : List ℕ) (s : Statement) → Says line s → HasBytes s
-says_bytes line nothing said = tt
-says_bytes line (counter_is v) said = tt
-says_bytes line (register_is r v) said = tt
 says_bytes line (memory_is start bytes) said = said.3.some
+says_bytes line s said = tt

@@ -26,15 +26,13 @@ lines_first text n is some = rw (is, add-one) (first_line text some)
 
 pub zip_push : {X Y : Type 0} (R : X → Y → Type 0) (xs : List X) (ys : List Y) (x : X) (y : Y) → AllZip R xs ys → R x y → AllZip R (xs ++ x ∷ []) (ys ++ y ∷ [])
 zip_push R [] [] x y h k = (k, tt)
-zip_push R [] (v ∷ ys) x y h k = absurd h
-zip_push R (u ∷ xs) [] x y h k = absurd h
 zip_push R (u ∷ xs) (v ∷ ys) x y h k = (h.0, zip_push R xs ys x y h.1 k)
+zip_push R xs ys x y h k = absurd h
 
 pub zip_length : {X Y : Type 0} (R : X → Y → Type 0) (xs : List X) (ys : List Y) → AllZip R xs ys → length xs ≡ length ys
 zip_length R [] [] h = refl
-zip_length R [] (y ∷ ys) h = absurd h
-zip_length R (x ∷ xs) [] h = absurd h
 zip_length R (x ∷ xs) (y ∷ ys) h = ap suc (zip_length R xs ys h.1)
+zip_length R xs ys h = absurd h
 
 -- one more line
 pub so_far_more : (limit : ℕ) (text rest behind : List ℕ) (line n : ℕ) (old new : Gathered) (s : Statement) (h : SoFar limit text rest line old) → n ≡ len_until 10 rest → n ≤ length rest → 0 < length rest

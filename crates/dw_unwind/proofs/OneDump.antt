@@ -69,15 +69,12 @@ pub record Parts (limit : ℕ) (before : List (List ℕ)) (line : List ℕ) (ss 
 
 -- what lines say begins with what the first of them say
 said_parts : (limit : ℕ) (before : List (List ℕ)) (line : List ℕ) (after : List (List ℕ)) (ss known : List Statement) → AllZip (SaysWithin limit) (before ++ line ∷ after) ss → AllZip (SaysWithin limit) before known → Parts limit before line ss known
-said_parts limit [] line after [] known h k = absurd h
 said_parts limit [] line after (s ∷ ss) [] h k = record { statement = s; after = ss; whole = refl; holds = h.0 }
-said_parts limit [] line after (s ∷ ss) (t ∷ known) h k = absurd k
-said_parts limit (b ∷ before) line after [] known h k = absurd h
-said_parts limit (b ∷ before) line after (s ∷ ss) [] h k = absurd k
 said_parts limit (b ∷ before) line after (s ∷ ss) (t ∷ known) h k =
     let more = said_parts limit before line after ss known h.1 k.1 in
     let same : s ≡ t = says_one b s t h.0.0 k.0.0 in
     record { statement = more.statement; after = more.after; whole = ap (λ (u : Statement). u ∷ ss) same ∙ ap (λ (us : List Statement). t ∷ us) more.whole; holds = more.holds }
+said_parts limit before line after ss known h k = absurd assumption
 
 not_faulty : (limit : ℕ) (ss known : List Statement) (line : List ℕ) (code : DumpCode) (s : Statement) (after : List Statement) → ss ≡ known ++ s ∷ after → ((item : Item) → times ss item ≤ 1) → SaysWithin limit line s → IsFaulty limit known line code → ⊥
 not_faulty limit ss known line BadLine s after whole once says wrong = wrong s says.0
@@ -100,11 +97,8 @@ said_has_no_fault limit lines ss fault say first =
 
 pub said_one : (limit : ℕ) (lines : List (List ℕ)) (ss ts : List Statement) → AllZip (SaysWithin limit) lines ss → AllZip (SaysWithin limit) lines ts → ss ≡ ts
 said_one limit [] [] [] h k = refl
-said_one limit [] [] (t ∷ ts) h k = absurd k
-said_one limit [] (s ∷ ss) ts h k = absurd h
-said_one limit (l ∷ ls) [] ts h k = absurd h
-said_one limit (l ∷ ls) (s ∷ ss) [] h k = absurd k
 said_one limit (l ∷ ls) (s ∷ ss) (t ∷ ts) h k = ap (λ (u : Statement). u ∷ ss) (says_one l s t h.0.0 k.0.0) ∙ ap (λ (us : List Statement). t ∷ us) (said_one limit ls ss ts h.1 k.1)
+said_one limit lines ss ts h k = absurd assumption
 
 -- where lines tell nothing twice, a dump is theirs, and no refusal is a fault
 pub only_dump : (limit : ℕ) (lines : List (List ℕ)) (result : Result Dump DumpError)
@@ -132,13 +126,12 @@ pub record SameCut {X : Type 0} (xs ys : List X) (x y : X) : Type 0 where
 
 cut_equal : {X : Type 0} (xs ys : List X) (x y : X) (more others : List X) → xs ++ x ∷ more ≡ ys ++ y ∷ others → length xs ≡ length ys → SameCut xs ys x y
 cut_equal [] [] x y more others same len = record { before = refl; here = cc }
-cut_equal [] (z ∷ ys) x y more others same len = absurd (omega arith)
-cut_equal (w ∷ xs) [] x y more others same len = absurd (omega arith)
 cut_equal (w ∷ xs) (z ∷ ys) x y more others same len =
     let first : w ≡ z = cc in
     let rest : xs ++ x ∷ more ≡ ys ++ y ∷ others = cc in
     let found = cut_equal xs ys x y more others rest (omega arith) in
     record { before = ap (λ (v : _). v ∷ xs) first ∙ ap (λ (vs : List _). z ∷ vs) found.before; here = found.here }
+cut_equal xs ys x y more others same len = absurd (omega arith)
 
 -- a fault before the first one would be among lines that have none
 no_earlier : (limit : ℕ) (lines : List (List ℕ)) (f g : DumpFault) (v : FirstFault limit lines f) (w : FirstFault limit lines g) → length v.before < length w.before → ⊥
@@ -193,6 +186,5 @@ fault_within limit lines fault first =
     (omega (arith, number), omega (arith, number, len))
 
 pub refuses_within : (limit : ℕ) (lines : List (List ℕ)) (result : Result Dump DumpError) → IfErr result (Refuses limit lines) → IfErr result (NamesLine lines)
-refuses_within limit lines (Ok dump) h = tt
 refuses_within limit lines (Err (Fault fault)) h = fault_within limit lines fault h
-refuses_within limit lines (Err OutOfMemory) h = tt
+refuses_within limit lines result h = tt

@@ -45,14 +45,9 @@ module _ (c : Context) (limit : ℕ) where
       v.2 ∙ ap (λ (r : Result ℕ UnwindError). on_value r (saved_at c limit column)) (one_value column e (on_cfa c limit cfa) v.0 w.0 v.1 w.1) ∙ sym w.2
 
   one_register : (policy : Policy) (cfa r : ℕ) (rule : RegRule) (a b : Result (Option ℕ) UnwindError) → RegisterIs c limit policy cfa r rule a → RegisterIs c limit policy cfa r rule b → a ≡ b
-  one_register policy cfa r rules.Unspecified a b v w = v ∙ sym w
-  one_register policy cfa r rules.Undefined a b v w = v ∙ sym w
-  one_register policy cfa r rules.SameValue a b v w = v ∙ sym w
-  one_register policy cfa r (rules.Offset n) a b v w = v ∙ sym w
-  one_register policy cfa r (rules.ValOffset n) a b v w = v ∙ sym w
-  one_register policy cfa r (rules.Register q) a b v w = v ∙ sym w
   one_register policy cfa r (rules.Expression e) a b v w = v.2 ∙ ap recovered (one_saved _ cfa e v.0 w.0 v.1 w.1) ∙ sym w.2
   one_register policy cfa r (rules.ValExpression e) a b v w = v.2 ∙ ap recovered (one_value _ e (on_cfa c limit cfa) v.0 w.0 v.1 w.1) ∙ sym w.2
+  one_register policy cfa r rule a b v w = v ∙ sym w
 
 -- ---- registers
 

@@ -70,10 +70,9 @@ rise_from (r ∷ q ∷ rs) h =
 -- ---- neighbours that meet
 
 counts_two : (a : ℕ) (rs : List Range) (k : ℕ) (d : Range) → suc k < length rs → covers a (get_or rs k d) ≡ true → covers a (get_or rs (suc k) d) ≡ true → 1 < cover_count a rs
-counts_two a [] k d lt e f = absurd (omega arith)
-counts_two a (r ∷ []) k d lt e f = absurd (omega arith)
 counts_two a (r ∷ q ∷ rs) zero d lt e f = let one = count_yes a r (q ∷ rs) e in let two = count_yes a q rs f in omega arith
 counts_two a (r ∷ q ∷ rs) (suc k) d lt e f = let rest = counts_two a (q ∷ rs) k d (omega arith) e f in let all = count_of a r (q ∷ rs) in omega arith
+counts_two a rs k d lt e f = absurd (omega arith)
 
 all_at : (P : Range → Type 0) (rs : List Range) (k : ℕ) (d : Range) → AllByRecursion P rs → k < length rs → P (get_or rs k d)
 all_at P [] k d h lt = absurd (omega arith)
@@ -115,9 +114,8 @@ coded (Some b) = suc b
 coded_same : (x y : Option ℕ) → coded x ≡ coded y → x ≡ y
 unfolding coded
 coded_same None None e = refl
-coded_same None (Some b) e = absurd (omega arith)
-coded_same (Some b) None e = absurd (omega arith)
 coded_same (Some b) (Some c) e = ap Some (omega arith)
+coded_same x y e = absurd (omega arith)
 
 weight : List ℕ → ℕ → Range → ℕ
 weight bytes a r = cond (covers a r) (coded (byte_of bytes a r)) 0

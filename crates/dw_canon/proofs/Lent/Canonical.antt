@@ -94,8 +94,6 @@ tail_is m k ms ks e = cc
 one_list : (t : Target) (s : List ℕ) (b : AreBytes s) (ok : Accepted t s) (ms ks : List Member) → map fde_of ms ≡ map fde_of ks → AllByRecursion (λ (m : Member). m.begin < m.end) ms
     → AllByRecursion (IsMember t s) ms → AllByRecursion (IsMember t s) ks → ms ≡ ks
 one_list t s b ok [] [] e some h k = refl
-one_list t s b ok [] (x ∷ ks) e some h k = absurd cc
-one_list t s b ok (m ∷ ms) [] e some h k = absurd cc
 one_list t s b ok (m ∷ ms) (x ∷ ks) e some h k =
     let same = head_is m x ms ks e in
     let there = subst (λ (f : Fde). ChangesOf t s f (changes_of x)) (sym same) k.0.changes in
@@ -103,6 +101,7 @@ one_list t s b ok (m ∷ ms) (x ∷ ks) e some h k =
     let first = member_is m x same changes in
     let rest = one_list t s b ok ms ks (tail_is m x ms ks e) some.1 h.1 k.1 in
     ap (λ (y : Member). y ∷ ms) first ∙ ap (λ (l : List Member). x ∷ l) rest
+one_list t s b ok ms ks e some h k = absurd cc
 
 nonempty : (t : Target) (s : List ℕ) (b : AreBytes s) (ok : Accepted t s) (ms xs : List Member) → AreFdes t s (map fde_of ms) → ((f : Fde) → IsListed f (map fde_of xs) → IsListed f (map fde_of ms)) → AllByRecursion (λ (m : Member). m.begin < m.end) xs
 nonempty t s b ok ms [] are into = tt

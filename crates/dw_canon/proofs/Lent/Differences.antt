@@ -41,8 +41,7 @@ on row at = record { row = row; stack = []; location = at }
 -- no fault stands against an instruction that keeps no half of the CFA's rule
 pub no_half : (i : Instr) (c : CfaRule) → keeps_half i ≡ false → half_fault i c ≡ None
 no_half i (cfa.Register r n) e = refl
-no_half i cfa.Unset e = rw e refl
-no_half i (cfa.Expression x) e = rw e refl
+no_half i c e = rw e refl
 
 -- ---- the CFA
 

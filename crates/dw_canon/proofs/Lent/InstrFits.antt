@@ -65,12 +65,8 @@ cfa_to_fits t (cfa.Register r n) (cfa.Register q m) h = elim (cases_Bool (nat_eq
   | inl e ↦ rw e (h.1, tt)
   | inr e ↦ elim (cases_Bool (int_eq n m)) [ inl f ↦ rw (e, f) (h.0, tt) | inr f ↦ rw (e, f) (h, tt) ]
 ]
-cfa_to_fits t cfa.Unset (cfa.Register q m) h = (h, tt)
-cfa_to_fits t (cfa.Expression e) (cfa.Register q m) h = (h, tt)
-cfa_to_fits t (cfa.Register r n) (cfa.Expression e) h = (h, tt)
-cfa_to_fits t cfa.Unset (cfa.Expression e) h = (h, tt)
-cfa_to_fits t (cfa.Expression x) (cfa.Expression e) h = (h, tt)
 cfa_to_fits t old cfa.Unset h = tt
+cfa_to_fits t old new h = (h, tt)
 
 cfa_fits : (t : Target) (old new : CfaRule) → CfaFits t new → AllByRecursion (InstrFits t) (cfa_difference old new)
 cfa_fits t old new h = elim (cases_Bool (same_cfa old new)) [ inl e ↦ rw e tt | inr e ↦ rw e (cfa_to_fits t old new h) ]
@@ -78,13 +74,7 @@ cfa_fits t old new h = elim (cases_Bool (same_cfa old new)) [ inl e ↦ rw e tt 
 -- a rule other than the initial one is not Unspecified
 set_specified : (x first : RegRule) → (x ≡ rules.Unspecified → first ≡ rules.Unspecified) → same_rule x first ≡ false → IsTrue (is_specified x)
 set_specified rules.Unspecified first rests e = let same : same_rule rules.Unspecified first ≡ true = rw (rests refl) refl in absurd cc
-set_specified rules.Undefined first rests e = refl
-set_specified rules.SameValue first rests e = refl
-set_specified (rules.Offset n) first rests e = refl
-set_specified (rules.ValOffset n) first rests e = refl
-set_specified (rules.Register q) first rests e = refl
-set_specified (rules.Expression x) first rests e = refl
-set_specified (rules.ValExpression x) first rests e = refl
+set_specified x first rests e = refl
 
 module _ (t : Target) (initial old new : Rules) (h : RowFits t old) (k : RowFits t new) (rests : RestsOn initial new) where
   one_fits : (r : ℕ) → r < 65536 → AllByRecursion (InstrFits t) (rule_difference initial old new r)
@@ -132,22 +122,12 @@ cie_cfa_to (cfa.Register r n) (cfa.Register q m) = elim (cases_Bool (nat_eq r q)
   | inl e ↦ rw e (refl, tt)
   | inr e ↦ elim (cases_Bool (int_eq n m)) [ inl f ↦ rw (e, f) (refl, tt) | inr f ↦ rw (e, f) (refl, tt) ]
 ]
-cie_cfa_to cfa.Unset (cfa.Register q m) = (refl, tt)
-cie_cfa_to (cfa.Expression e) (cfa.Register q m) = (refl, tt)
-cie_cfa_to (cfa.Register r n) (cfa.Expression e) = (refl, tt)
-cie_cfa_to cfa.Unset (cfa.Expression e) = (refl, tt)
-cie_cfa_to (cfa.Expression x) (cfa.Expression e) = (refl, tt)
 cie_cfa_to old cfa.Unset = tt
+cie_cfa_to old new = (refl, tt)
 
 unspecified_only : (x : RegRule) → same_rule x rules.Unspecified ≡ true → same_rule rules.Unspecified x ≡ true
 unspecified_only rules.Unspecified e = refl
-unspecified_only rules.Undefined e = absurd cc
-unspecified_only rules.SameValue e = absurd cc
-unspecified_only (rules.Offset n) e = absurd cc
-unspecified_only (rules.ValOffset n) e = absurd cc
-unspecified_only (rules.Register q) e = absurd cc
-unspecified_only (rules.Expression x) e = absurd cc
-unspecified_only (rules.ValExpression x) e = absurd cc
+unspecified_only x e = absurd cc
 
 cie_one : (initial : Rules) (r : ℕ) → AllByRecursion (λ i. IsTrue (in_cie i)) (rule_difference blank blank initial r)
 cie_one initial r = elim (cases_Bool (same_rule (rule blank r) (rule initial r))) [

@@ -51,9 +51,8 @@ has_range target places p h (inr c) = subst (RangeFits target) (sym c.3) (subst 
 
 all_range : (target : Target) (places : List ℕ) (ps : List Piece) (hs : List Head) → AllZip (Has target places) ps hs → AllByRecursion (RangeFits target) hs
 all_range target places [] [] z = tt
-all_range target places [] (h ∷ hs) z = absurd z
-all_range target places (p ∷ ps) [] z = absurd z
 all_range target places (p ∷ ps) (h ∷ hs) z = (has_range target places p h z.0, all_range target places ps hs z.1)
+all_range target places ps hs z = absurd z
 
 pub range_low : (target : Target) (s : List ℕ) (begin end : ℕ) (i j : List Instr) → Says target s begin end i j → end < begin + address_limit target.size
 range_low target s begin end i j h =
@@ -64,17 +63,15 @@ range_low target s begin end i j h =
 
 later_parts : (hs : List Head) (end : ℕ) (rs : List Range) (ps : List Part) → AllZip (Lists hs) rs (map fde_in ps) → AllByRecursion (λ (b : Range). end ≤ b.begin) rs → AllByRecursion (λ (q : Part). end ≤ q.begin) ps
 later_parts hs end [] [] z h = tt
-later_parts hs end [] (p ∷ ps) z h = absurd z
-later_parts hs end (r ∷ rs) [] z h = absurd z
 later_parts hs end (r ∷ rs) (p ∷ ps) z h = (omega (arith, h.0, z.0.begin), later_parts hs end rs ps z.1 h.1)
+later_parts hs end rs ps z h = absurd z
 
 parts_apart : (hs : List Head) (rs : List Range) (ps : List Part) → AllZip (Lists hs) rs (map fde_in ps) → AreApart rs → PartsApart ps
 parts_apart hs [] [] z h = tt
-parts_apart hs [] (p ∷ ps) z h = absurd z
-parts_apart hs (r ∷ rs) [] z h = absurd z
 parts_apart hs (r ∷ rs) (p ∷ ps) z h =
     let end : p.begin + p.range ≡ end_of r = z.0.end in
     (subst (λ (n : ℕ). AllByRecursion (λ (q : Part). n ≤ q.begin) ps) (sym end) (later_parts hs (end_of r) rs ps z.1 h.0), parts_apart hs rs ps z.1 h.1)
+parts_apart hs rs ps z h = absurd z
 
 -- ---- members
 
