@@ -12,7 +12,7 @@ use Rattle.dw_cfa.specs.declared.rule.RegRule.TheVariants.{Expression, ValExpres
 use Rattle.dw_section.specs.FaultPlaces.{IsWithin}
 use Rattle.dw_section.specs.Meaning.{AreFdes, NoneCovers, RulesAt}
 use Rattle.dw_section.specs.Ranges.{LeadsTo, Uncovered, IsTable}
-use Rattle.dw_section.specs.StandingFde.{Misleads, Ruled, RulesOf}
+use Rattle.dw_section.specs.StandingFde.{MayRefuse, Misleads, Ruled, RulesOf}
 use Rattle.dw_section.specs.declared.fde_range.Ranged.{Ranged}
 use Rattle.dw_section.specs.declared.lookup.Fde.{Fde}
 use Rattle.dw_library.specs.declared.answer.Refused.{Refused}
@@ -104,4 +104,4 @@ abbrev pub AreAnyExpressions : Option Target → List ℕ → List Ranged → �
 AreAnyExpressions None s index a old t why = (t ≡ says bad_argument old) × (why ≡ not_refused)
 AreAnyExpressions (Some target) s index a old t why =
     ((TellsStanding target s index a old t ⊎ (t ≡ says out_of_memory old) ⊎ (Misleads target s index a × (t ≡ says 10 old))) × (why ≡ not_refused))
-    ⊎ ((r : Refusal) × IsWithin s r × (t ≡ says refused old) × (why ≡ told 1 r))
+    ⊎ ((r : Refusal) × IsWithin s r × MayRefuse s index a × (t ≡ says refused old) × (why ≡ told 1 r))

@@ -3,7 +3,7 @@
 ghost use Rattle.std.specs.Prelude.{◌≡◌, ◌+◌, ◌<◌, ◌≤◌, List, IfOk, IfErr, OnErr, MatchResult, length, map, slice_set};
 ghost use Rattle.dw_num.specs.Refusals.{Refuses};
 ghost use Rattle.dw_section.specs.Accepted.{CheckFault};
-ghost use Rattle.dw_section.specs.StandingFde.{Misleads, RefusesWithin};
+ghost use Rattle.dw_section.specs.StandingFde.{Misleads, RefusesLed, RefusesWithin};
 ghost use Rattle.dw_section.specs.Ranges.{IsTable};
 ghost use Rattle.dw_section.specs.declared.fde_range.Ranged.{Ranged as TheRanged};
 ghost use Rattle.dw_section.specs.declared.standing_fde.LookUpError.TheVariants as TheLookUpError;
@@ -297,6 +297,7 @@ fn put_row(
     ensures any { row.old ≡ no_row → IfOk result (λ status. TellsFde target bytes.now index.now address out.old (record { status = status; row = row.new; rules = out.new })) }
     ensures bad { IfErr result (λ e. e ≡ TheLookUpError.BadIndex → Misleads target bytes.now index.now address) }
     ensures within { IfErr result (RefusesWithin bytes.now) }
+    ensures led { IfErr result (RefusesLed bytes.now index.now address) }
     ensures kept { OnErr result ((out.new ≡ out.old) × (row.new ≡ row.old)) }
 {
     let mut room = RowRoom::new(alloc);

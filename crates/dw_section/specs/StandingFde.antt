@@ -1,5 +1,5 @@
 -- An FDE that stands in bytes, by its place alone: DWARF 5, 6.4.1. The bytes need be no section that is accepted.
-use Rattle.std.specs.Prelude.{◌≡◌, ℕ, ◌+◌, ◌<◌, ◌≤◌, List, [], ◌∷◌, ◌++◌, length, Some}
+use Rattle.std.specs.Prelude.{◌≡◌, ◌⊎◌, ℕ, ◌+◌, ◌<◌, ◌≤◌, List, [], ◌∷◌, ◌++◌, length, Some}
 use Rattle.dw_num.specs.declared.target.Order.{Order}
 use Rattle.dw_num.specs.declared.target.Target.{Target}
 use Rattle.dw_cfa.specs.Gives.{RunsTo}
@@ -69,3 +69,13 @@ abbrev pub RefusesWithin : List ℕ → LookUpError → Type 0
 RefusesWithin s (Refused r) = IsWithin s r
 RefusesWithin s BadIndex = Unit {0}
 RefusesWithin s OutOfMemory = Unit {0}
+
+-- an entry of the index covers the address, or there are more bytes than a section has
+abbrev pub MayRefuse : List ℕ → List Ranged → ℕ → Type 0
+MayRefuse s index a = ((at : ℕ) × LeadsTo index a at) ⊎ (2147483647 < length s)
+
+-- where no entry covers the address, nothing is read that could be refused
+abbrev pub RefusesLed : List ℕ → List Ranged → ℕ → LookUpError → Type 0
+RefusesLed s index a (Refused r) = MayRefuse s index a
+RefusesLed s index a BadIndex = Unit {0}
+RefusesLed s index a OutOfMemory = Unit {0}

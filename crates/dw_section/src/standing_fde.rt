@@ -22,7 +22,7 @@ ghost use Rattle.dw_section.specs.declared.standing_fde.LookUpError.TheVariants 
 ghost use Rattle.dw_section.specs.Overlap.{Ascends, Range};
 ghost use Rattle.std.specs.Bool.{MatchBool};
 ghost use Rattle.dw_section.specs.Inner.Pieces.{piece_in};
-ghost use Rattle.dw_section.specs.StandingFde.{Misleads, NoneStands, RefusesWithin, RulesOf, StandsIn};
+ghost use Rattle.dw_section.specs.StandingFde.{Misleads, NoneStands, RefusesLed, RefusesWithin, RulesOf, StandsIn};
 ghost use Rattle.dw_section.specs.FaultPlaces.{IsWithin};
 ghost use Rattle.dw_section.specs.Inner.StandingFde.{AreJoined, FoundStands, LiesInPrograms, StandsAt, is_fde, of_steps};
 
@@ -387,6 +387,8 @@ pub fn look_up<'a>(
     ensures bad { IfErr result (λ e. e ≡ LookUpError.BadIndex → Misleads target bytes.now index.now address) }
     // A refusal has its place in the bytes or at their end.
     ensures within { IfErr result (RefusesWithin bytes.now) }
+    // It is of what stands where an entry leads that covers the address, or of more bytes than a section has.
+    ensures led { IfErr result (RefusesLed bytes.now index.now address) }
 {
     if bytes.len() > MOST {
         return Err(LookUpError::Refused(Refusal {

@@ -5,7 +5,7 @@ use Rattle.dw_section.specs.Ranges.{IsRanged, range_in, fde_in}
 use Rattle.dw_section.specs.Meaning.{NoneCovers}
 use Rattle.dw_section.specs.Meanings.{IsListed}
 use Rattle.dw_section.proofs.Lent.FdeLookup.{are_fdes, one_fdes, ranged_of}
-use Rattle.dw_section.proofs.StandLaws.{entry_listed}
+use Rattle.dw_section.proofs.StandLaws.{entry_listed, refuses_led}
 use Rattle.dw_section.proofs.standing_fde.look_up.Goals as goal
 
 pub returns-in_default-clause-own : goal.returns-in_default-clause-own
@@ -29,6 +29,11 @@ pub returns-in_err-found-clause-bad : goal.returns-in_err-found-clause-bad
 returns-in_err-found-clause-bad c =
     let e = err_from_is_err_and c.from_residual.result c.from_residual.ensures.1 in
     rw (e.1, e.2) (λ is. (c.from.result, (c.in-Some.entry, c.in-Some.ensures.among, c.in-Some.ensures.covers, c.from.ensures), c.in_err-found.ensures.bad is))
+
+pub returns-in_err-found-clause-led : goal.returns-in_err-found-clause-led
+returns-in_err-found-clause-led c =
+    let e = err_from_is_err_and c.from_residual.result c.from_residual.ensures.1 in
+    rw (e.1, e.2) (refuses_led c.args.bytes.now c.args.index.now c.args.address c.from.result (c.in-Some.entry, c.in-Some.ensures.among, c.in-Some.ensures.covers, c.from.ensures) c.in_err-found.field-0.0)
 
 pub returns-clause-own : goal.returns-clause-own
 returns-clause-own c = λ t.
