@@ -1,6 +1,7 @@
 //! Look-ups by an index that the caller keeps.
 
 ghost use Rattle.std.specs.Prelude.{◌≡◌, ◌+◌, ◌<◌, ◌≤◌, List, IfOk, IfErr, OnErr, MatchResult, length, map, slice_set};
+ghost use Rattle.dw_cfa.specs.Rows.{AreSpecified};
 ghost use Rattle.dw_num.specs.Refusals.{Refuses};
 ghost use Rattle.dw_section.specs.Accepted.{CheckFault};
 ghost use Rattle.dw_section.specs.StandingFde.{Misleads, RefusesLed, RefusesWithin};
@@ -13,7 +14,7 @@ ghost use Rattle.dw_library.specs.Index.{AreEntries, HasSize, IsAnyRow, IsIndexe
 use crate::answer::{
     BAD_ARGUMENT, OK, OUT_OF_MEMORY, REFUSED, Refused, TOO_SHORT, not_refused, target_of, told,
 };
-use dw_cfa::{CfaRule, RegRule, Row as CfaRow, RowRoom};
+use dw_cfa::{CfaRule, NearRules, RegRule, Row as CfaRow, RowRoom};
 use dw_num::{ReadError, Target};
 use dw_section::{Fde, LookUpError, Ranged, StandingFde, check, look_up};
 use std::alloc::Global;
@@ -187,6 +188,7 @@ fn rule_of(number: u16, rule: &RegRule<'_>) -> Rule
 }
 
 // Writes a rule to its place in a buffer, where it has one.
+#[inline(always)]
 fn put_rule(out: &mut [Rule], place: u64, rule: Rule)
     ensures inside { place < length out.old → out.new ≡ slice_set out.old place rule }
     ensures outside { length out.old ≤ place → out.new ≡ out.old }
@@ -196,8 +198,9 @@ fn put_rule(out: &mut [Rule], place: u64, rule: Rule)
     }
 }
 
-/// Writes the rules of a row to the front of a buffer, as many as fit, and tells how many there are.
-pub(crate) fn put_rules(row: &CfaRow<'_>, out: &mut [Rule]) -> u64
+// Writes the rules of a row to the front of a buffer, as many as fit, and tells how many there are.
+#[inline(never)]
+fn put_all_rules(row: &CfaRow<'_>, out: &mut [Rule]) -> u64
     ensures count { result ≡ length row.now.registers }
     ensures rules { out.new ≡ over (map rule_of row.now.registers) out.old }
 {
@@ -207,6 +210,33 @@ pub(crate) fn put_rules(row: &CfaRow<'_>, out: &mut [Rule]) -> u64
         count += 1;
     }
     count
+}
+
+// The same where each of the registers has a slot.
+#[inline(always)]
+fn put_near_rules(rules: NearRules<'_, '_>, out: &mut [Rule]) -> u64
+    requires { AreSpecified 0 rules }
+    ensures count { result ≡ length rules.entry }
+    ensures rules { out.new ≡ over (map rule_of rules.entry) out.old }
+{
+    let mut count: u64 = 0;
+    for (number, rule) in rules {
+        put_rule(out, count, rule_of(number, &rule));
+        count += 1;
+    }
+    count
+}
+
+/// Writes the rules of a row to the front of a buffer, as many as fit, and tells how many there are.
+pub(crate) fn put_rules(row: &CfaRow<'_>, out: &mut [Rule]) -> u64
+    ensures count { result ≡ length row.now.registers }
+    ensures rules { out.new ≡ over (map rule_of row.now.registers) out.old }
+{
+    row.ascends();
+    match row.near_rules() {
+        Some(rules) => put_near_rules(rules, out),
+        None => put_all_rules(row, out),
+    }
 }
 
 pub(crate) fn no_row() -> Row

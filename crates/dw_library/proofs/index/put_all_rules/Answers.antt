@@ -3,7 +3,7 @@ use Rattle.dw_cfa.specs.Rows.{AreSpecified}
 use Rattle.dw_cfa.specs.declared.rule.RegRule.{RegRule}
 use Rattle.dw_library.specs.Index.{rule_of}
 use Rattle.dw_library.proofs.Overlays.{over_at, over_end, put_more}
-use Rattle.dw_library.proofs.index.put_rules.Goals as goal
+use Rattle.dw_library.proofs.index.put_all_rules.Goals as goal
 
 pub loop-number-preserved : goal.loop-number-preserved
 loop-number-preserved c =

@@ -2,7 +2,7 @@ use Rattle.std.proofs.Common.{◌≡◌, ◌+◌, ◌≤◌, ℕ, length, map}
 use Rattle.dw_cfa.specs.Rows.{AreSpecified}
 use Rattle.dw_library.specs.Index.{over, rule_of}
 use Rattle.dw_library.proofs.Overlays.{over_at}
-use Rattle.dw_library.proofs.index.put_rules.Given as goal
+use Rattle.dw_library.proofs.index.put_all_rules.Given as goal
 
 abbrev pub invariant-loop-number : goal.invariant-loop-number
 invariant-loop-number l = record {
