@@ -16,3 +16,4 @@ pub mod Turns
 pub mod Difference
 pub mod Rows
 pub mod RuleAt
+pub mod NextRow

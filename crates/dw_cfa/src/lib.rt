@@ -14,6 +14,7 @@ mod instructions;
 mod laws;
 mod machine;
 mod marks;
+mod next_row;
 mod opcode;
 mod opening;
 mod registers;
