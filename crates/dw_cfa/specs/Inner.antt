@@ -17,3 +17,4 @@ pub mod Turns
 pub mod Difference
 pub mod Rows
 pub mod RuleAt
+pub mod NextRow

@@ -15,6 +15,7 @@ mod laws;
 mod machine;
 mod marks;
 mod near_slots;
+mod next_row;
 mod opcode;
 mod opening;
 mod registers;

@@ -19,6 +19,7 @@ ghost use Rattle.dw_cfa.specs.Inner.RowWalk.{AllSpecify, HasInitial, LeadsSame, 
 use crate::execution::{next_row, run_initial, run_to};
 use crate::instr::Factors;
 use crate::machine::Machine;
+use crate::next_row::go_on_row;
 use crate::row::Row;
 use crate::states::States;
 use crate::steps::{Progress, progress_after};
@@ -310,7 +311,17 @@ impl<'a> RowWalk<'a> {
         let (fde, machine) = (&mut self.fde, &mut self.machine);
         let answer = match self.progress {
             Progress::Begun => first_row(self.leading, fde, machine, &mut self.kept),
-            Progress::Running => next_row(fde, self.leading.factors, machine, true),
+            Progress::Running => {
+                let factors = self.leading.factors;
+                return match go_on_row(&mut self.progress, fde, factors, machine) {
+                    Ok(start) => Ok(start),
+                    Err(error) => {
+                        self.machine.states.untrack();
+                        self.progress = Progress::Failed(error);
+                        Err(error)
+                    }
+                };
+            }
             Progress::Finished => return Ok(None),
             Progress::Failed(error) => return Err(error),
         };

@@ -1,9 +1,8 @@
 -- An FDE that begins with the row of a CIE leaves the rows of the groups as they are, where another one of the CIE came before.
-use Rattle.std.proofs.Common.{Equal, eq-eqb, ◌≡◌, ℕ, zero, suc, ◌<◌, ◌≤◌, true, false, List, [], ◌∷◌, length, take, get_or, Option, Some, None, refl, sym, ap, ◌∙◌, subst, inl, inr, arith}
+use Rattle.std.proofs.Common.{Equal, eq-eqb, ◌≡◌, ℕ, zero, suc, ◌<◌, true, false, List, [], ◌∷◌, length, take, get_or, Option, Some, None, refl, sym, ap, ◌∙◌, subst, inl, inr, arith}
 use Rattle.std.specs.Prelude.{nat_eq, nat_lt, IfSome}
-use Rattle.std.specs.BTreeMap.{insert_entry, is_at}
+use Rattle.std.specs.BTreeMap.{insert_entry}
 use Rattle.std.specs.List.{AllByRecursion}
-use Rattle.std.specs.Map.{lookup}
 use Rattle.std.specs.Ordering.{nat_cmp}
 use Rattle.std.proofs.lemmas.Bool.{le-ltb}
 use Rattle.dw_num.specs.declared.target.Target.{Target}
@@ -24,7 +23,7 @@ use Rattle.dw_canon.proofs.Lent.MemberPlaces.{group_fits}
 use Rattle.dw_canon.proofs.Lent.Rendered.{fits, nonempty}
 use Rattle.dw_normal.specs.Inner.Groups.{HasJoined, begun_with, initial_rows, joined_by, row_of, with_member}
 use Rattle.dw_normal.specs.declared.groups.Joined.{Joined}
-use Rattle.dw_normal.proofs.Grouped.{Lower, look_members, some_of, told}
+use Rattle.dw_normal.proofs.Grouped.{look_members, some_of, told}
 
 -- ---- a row that is written twice
 

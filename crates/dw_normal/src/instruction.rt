@@ -1,6 +1,6 @@
 //! Instructions as the normal form spells them.
 
-ghost use Rattle.std.specs.Prelude.{◌≡◌, ◌++◌, ◌<◌, ◌≤◌, OnOk};
+ghost use Rattle.std.specs.Prelude.{◌≡◌, ◌∷◌, ◌++◌, ◌<◌, ◌≤◌, OnOk};
 ghost use Rattle.dw_num.specs.Shortest.{shortest_uleb, shortest_sleb};
 ghost use Rattle.dw_section.specs.Inner.Sound.{HasBlock, RuleFits};
 ghost use Rattle.dw_cfa.specs.declared.instr.Instr.TheVariants.{SetLoc, DefCfaOffset};
@@ -32,6 +32,19 @@ pub(crate) fn push_uleb(out: &mut Vec<u8>, value: u64) -> Result<(), AllocError>
         out.push(value as u8)?;
         return Ok(());
     }
+    push_long_uleb(out, value)
+}
+
+// Appends a code and the shortest spelling of an unsigned number behind it: mostly two bytes, at once.
+#[inline(always)]
+#[tactic(auto, using(crate::proofs::OneByte::one_byte))]
+fn push_with(out: &mut Vec<u8>, code: u8, value: u64) -> Result<(), AllocError>
+    ensures { OnOk result (out.new.items ≡ out.old.items ++ code ∷ shortest_uleb value) }
+{
+    if value < 128 {
+        return out.extend_from_slice(&[code, value as u8]);
+    }
+    out.push(code)?;
     push_long_uleb(out, value)
 }
 
@@ -150,6 +163,9 @@ pub(crate) fn push_rule(
                 push_uleb(out, u64::from(register))?;
                 return push_sleb(out, -*offset);
             }
+            if register < 64 {
+                return push_with(out, 0x80 + register as u8, offset.unsigned_abs());
+            }
             push_packed(out, 0x80, 0x05, register)?;
             push_uleb(out, offset.unsigned_abs())
         }
@@ -196,8 +212,7 @@ pub(crate) fn push_cfa_offset(
         out.push(0x13)?;
         return push_sleb(out, -offset);
     }
-    out.push(0x0e)?;
-    push_uleb(out, offset.unsigned_abs())
+    push_with(out, 0x0e, offset.unsigned_abs())
 }
 
 /// Appends an instruction, and may leave some of it where memory runs out.

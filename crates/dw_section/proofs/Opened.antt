@@ -2,16 +2,14 @@
 use Rattle.std.proofs.Common.{◌≡◌, ℕ, List, Option, Some, None, refl, sym, ap, subst}
 use Rattle.std.specs.Prelude.{IfSome}
 use Rattle.dw_num.specs.declared.target.Target.{Target}
-use Rattle.dw_num.specs.Input.{AreBytes}
 use Rattle.dw_cfa.specs.declared.instr.Factors.{Factors}
 use Rattle.dw_cfa.specs.declared.instr.Instr.{Instr}
 use Rattle.dw_cfa.specs.InstrSpells.{Program}
 use Rattle.dw_cfa.specs.Opening.{MovesFirst}
 use Rattle.dw_section.specs.declared.listed_fde.FoundFde.{FoundFde}
-use Rattle.dw_section.specs.Headers.{Head, CieHead, cie}
+use Rattle.dw_section.specs.Headers.{Head}
 use Rattle.dw_section.specs.Opening.{OpensBehind}
-use Rattle.dw_section.specs.Programs.{Begins, FdeRuns, IsAmong, factors_of}
-use Rattle.dw_section.specs.Table.{Section}
+use Rattle.dw_section.specs.Programs.{FdeRuns, IsAmong, factors_of}
 use Rattle.dw_section.specs.Inner.Index.{found_head, led_to}
 use Rattle.dw_section.specs.Inner.Lookup.{IsFoundIn, LedBy, fde_of}
 use Rattle.dw_section.proofs.Lent.HeaderLaws.{one_headers}

@@ -1,4 +1,4 @@
-use Rattle.std.proofs.Common.{ℕ, length, subst, sym, Option, Some, None, ◌≡◌}
+use Rattle.std.proofs.Common.{length, subst}
 use Rattle.std.specs.Prelude.{IfSome}
 use Rattle.dw_section.specs.declared.lookup.Fde.{Fde}
 use Rattle.dw_section.specs.Meaning.{HasLengths}

@@ -1,0 +1,11 @@
+use Rattle.std.proofs.Common.{◌≡◌, length}
+use Rattle.dw_cfa.specs.Inner.Runs.{RunsSo, rows_left}
+use Rattle.dw_cfa.proofs.next_row.go_on_row.Given as goal
+
+abbrev pub invariant-instrs : goal.invariant-instrs
+invariant-instrs l =
+    RunsSo l.machine l.cursor × (l.machine.initial ≡ l.initial.machine.initial) × (rows_left l.factors l.initial.cursor l.initial.machine ≡ rows_left l.factors l.cursor l.machine)
+    × (l.machine.states.kept ≡ l.initial.machine.states.kept)
+
+abbrev pub decreases-instrs : goal.decreases-instrs
+decreases-instrs l = length l.cursor.bytes

@@ -1,0 +1,42 @@
+//! The next row of a walk whose program runs (6.4.3).
+
+ghost use Rattle.std.specs.Prelude.{◌≡◌, None};
+ghost use Rattle.dw_cfa.specs.Inner.NextRow.{GoesOn};
+ghost use Rattle.dw_cfa.specs.Inner.Runs.{RunsSo, rows_left};
+
+use crate::instr::Factors;
+use crate::machine::{End, Machine};
+use crate::steps::Progress;
+use crate::turn::turn;
+use dw_num::{Code, Cursor, ReadError, Refusal};
+
+/// Runs a program that is known to have no fault up to the end of a row, which the machine has then, and answers where the row
+/// starts. Only behind the last row is a walk's progress another one.
+#[inline(always)]
+pub(crate) fn go_on_row<'a>(
+    progress: &mut Progress,
+    cursor: &mut Cursor<'a>,
+    factors: Factors,
+    machine: &mut Machine<'a>,
+) -> Result<Option<u128>, ReadError>
+    requires running { progress.old ≡ Progress.Running }
+    requires so { RunsSo machine.old cursor.old }
+    requires known { (rows_left factors cursor.old machine.old).fault ≡ None }
+    ensures row { GoesOn (rows_left factors cursor.old machine.old) factors cursor.new machine.new progress.new result }
+    ensures initial { machine.new.initial ≡ machine.old.initial }
+    ensures kept { machine.new.states.kept ≡ machine.old.states.kept }
+{
+    let code = Code::Truncated;
+    let mut fault = Refusal { code, at: 0 };
+    'instrs: while cursor.left() > 0 {
+        let start = machine.location;
+        match turn(cursor, factors, machine, true, &mut fault) {
+            End::On => {}
+            End::Moved => return Ok(Some(start)),
+            End::Refused => return Err(ReadError::Refused(fault)),
+            End::OutOfMemory => return Err(ReadError::OutOfMemory),
+        }
+    }
+    *progress = Progress::Finished;
+    Ok(Some(machine.location))
+}
