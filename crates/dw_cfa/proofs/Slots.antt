@@ -4,7 +4,7 @@ use Rattle.std.proofs.Math.Seq.{drop-cons}
 use Rattle.std.proofs.Math.ListN.{drop_of_length-le, replicate}
 use Rattle.std.proofs.lemmas.List.{length-set, get_or-set_same, get_or-set_other, get_or-replicate, length-replicate}
 use Rattle.std.proofs.lemmas.Bool.{cases_Bool, cases_lt, ne_eqb, eq-eqb, eqb-true, eqb-false}
-use Rattle.std.specs.Prelude.{nat_eq, ℤ, pos, Result, Ok, Err, OnOk, OnErr}
+use Rattle.std.specs.Prelude.{IsTrue, nat_eq, ℤ, pos, Result, Ok, Err, OnOk, OnErr}
 use Rattle.std.specs.Prelude.{◌-◌, ◌*◌, ◌/◌, ◌%◌, ◌^◌, bit_or, bit_and}
 use Rattle.std.specs.Int.{bit_at, bit_not, trailing_zeros, w32}
 use Rattle.std.proofs.lemmas.Nat.{pow_pos}
@@ -13,7 +13,7 @@ use Rattle.dw_cfa.specs.declared.rule.RegRule.{RegRule}
 use Rattle.dw_cfa.specs.declared.row.Slot.{Slot}
 use Rattle.dw_cfa.specs.declared.row.Kind.{Kind}
 use Rattle.dw_cfa.specs.declared.row.Kind.TheVariants as kinds
-use Rattle.dw_cfa.specs.Rows.{is_specified, AreSpecified, rule_in}
+use Rattle.dw_cfa.specs.Rows.{is_specified, AreSpecified, HasFar, rule_in}
 use Rattle.dw_cfa.specs.Inner.Rows.{listed, put}
 use Rattle.dw_cfa.specs.Inner.Entries.{kind_rule, slot_rule, listed_near, HoldsRule, IsSlotOf, Covers}
 use Rattle.dw_cfa.proofs.Lent.RowLists.{Entry, lower, listed_is, not_listed, listed_keeps, listed_rule, put_keeps, put_rule}
@@ -59,6 +59,14 @@ module _ (near : List Slot) (expressions far : List Entry) (len : length near �
 
   pub far_rule : (q : ℕ) → 32 ≤ q → rule_in (listed_near 0 near expressions far) q ≡ rule_in far q
   far_rule q le = rule_behind 0 near expressions far 32 (omega arith) up q (omega arith)
+
+-- an entry of the tree is a rule of the row
+pub has_far : (near : List Slot) (expressions far : List Entry) → length near ≡ 32 → AreSpecified 32 far → (far ≡ [] → ⊥) → HasFar (listed_near 0 near expressions far)
+has_far near expressions [] len up some = absurd (some refl)
+has_far near expressions (entry ∷ rest) len up some =
+    let here : nat_eq entry.0 entry.0 ≡ true = eq-eqb entry.0 entry.0 refl in
+    let is : rule_in (entry ∷ rest) entry.0 ≡ entry.1 = rw here refl in
+    (entry.0, up.0, subst (λ (rule : RegRule). IsTrue (is_specified rule)) (sym (far_rule near expressions (entry ∷ rest) len up entry.0 up.0 ∙ is)) up.1)
 
 -- what an index outside would find
 abbrev pub no_slot : Slot

@@ -1,10 +1,10 @@
 //! Rows of rules (6.4.1).
 
-ghost use Rattle.std.specs.Prelude.{◌≡◌, ◌<◌, ℕ, [], ◌∷◌, IfOk, IfSome, OnOk, OnErr, MatchOption, IsTrue, ◌↔◌, length};
+ghost use Rattle.std.specs.Prelude.{◌≡◌, ◌<◌, ℕ, [], ◌∷◌, None, IfOk, IfSome, OnOk, OnErr, MatchOption, IsTrue, ◌↔◌, length};
 ghost use Rattle.std.specs.List.{filter};
 ghost use Rattle.std.specs.Iterator.{YieldsFirst, item_count};
 ghost use Rattle.dw_cfa.specs.declared.rule.RegRule.TheVariants.{Unspecified};
-ghost use Rattle.dw_cfa.specs.Rows.{AreSpecified, rule, rule_in, blank};
+ghost use Rattle.dw_cfa.specs.Rows.{AreSpecified, HasFar, rule, rule_in, blank};
 ghost use Rattle.dw_cfa.specs.Inner.Rows.{put, with_cfa, with_rule};
 ghost use Rattle.dw_cfa.specs.Agreement.{is_agreed, is_kept, agreed, kept, same_rule};
 ghost use Rattle.dw_cfa.specs.Inner.Entries.{entries_of, slot_rule, EntriesSo, IsSlotOf, LeavesAt, LeavesBelow};
@@ -157,7 +157,8 @@ impl<'a> Entries<'a> {
     #[inline(always)]
     fn all_near(&self) -> Option<NearRules<'_, 'a>>
         requires { EntriesSo self.now }
-        ensures { IfSome result (λ near. near ≡ entries_of self.now) }
+        ensures near { IfSome result (λ near. near ≡ entries_of self.now) }
+        ensures none { result ≡ None → HasFar (entries_of self.now) }
     {
         if !self.far.is_empty() {
             return None;
@@ -687,10 +688,11 @@ impl<'a> Row<'a> {
         self.entries.all()
     }
 
-    /// The same where every register has a slot, at less cost. None says that some may have none. Takes no memory.
+    /// The same at less cost, where all of them are below 32. None says that one of them is not. Takes no memory.
     #[inline(always)]
     pub fn near_rules(&self) -> Option<NearRules<'_, 'a>>
-        ensures { IfSome result (λ near. near ≡ self.now.registers) }
+        ensures near { IfSome result (λ near. near ≡ self.now.registers) }
+        ensures none { result ≡ None → HasFar self.now.registers }
     {
         self.entries.all_near()
     }

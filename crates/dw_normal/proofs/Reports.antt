@@ -16,7 +16,7 @@ use Rattle.dw_section.proofs.Lent.CheckFirst.{fault_or_accepted}
 use Rattle.dw_canon.specs.Inner.Canon.{canon}
 use Rattle.dw_canon.specs.Members.{Member, AreMembers}
 use Rattle.dw_canon.specs.Normal.{IsNormalForm}
-use Rattle.dw_canon.proofs.Lent.Blocks.{is_normal}
+use Rattle.dw_canon.proofs.Lent.Blocks.{is_normal, whole_is}
 use Rattle.dw_canon.proofs.Lent.Canonical.{members_exist, normal_form_is_one, same_exactly}
 use Rattle.dw_normal.specs.Answers.{IsTooLong, IsWithin, NormalFault, SameFault, WentOut, Writes, too_long}
 use Rattle.dw_normal.specs.Inner.Answers.{IsShort, IsMeasured, LengthFault, blamed, unread, unwritten}
@@ -96,6 +96,9 @@ module _ (t : Target) (s n : List ℕ) (cap : ℕ) (b : AreBytes s) (is : IsNorm
 pub length_found : (t : Target) (cap : ℕ) (s : List ℕ) (rows : List (ℕ × Rules)) (len : ℕ) → IsMeasured t cap s rows len
     → (n : List ℕ) × IsNormalForm t s n × (length n ≤ cap) × (len ≡ length n)
 length_found t cap s rows len h = let w = whole_of t cap s h.prepared.short in (canon t w.members, w.is, w.within, h.len_is w.members w.are)
+
+pub length_only : (t : Target) (s : List ℕ) (cap len : ℕ) (rows : List (ℕ × Rules)) → AreBytes s → IsMeasured t cap s rows len → (n : List ℕ) → IsNormalForm t s n → len ≡ length n
+length_only t s cap len rows b h n normal = h.len_is normal.members normal.are ∙ ap length (sym (whole_is t s n b normal))
 
 -- ---- what went out
 
