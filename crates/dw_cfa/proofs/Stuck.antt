@@ -18,7 +18,6 @@ use Rattle.dw_op.proofs.Lent.Blocks.{fault_found}
 use Rattle.dw_cfa.specs.declared.instr.Factors.{Factors}
 use Rattle.dw_cfa.specs.declared.instr.Instr.{Instr}
 use Rattle.dw_cfa.specs.declared.opcode.Opcode.{Opcode}
-use Rattle.dw_cfa.specs.declared.opcode.Opcode.TheVariants as opcodes
 use Rattle.dw_cfa.specs.Inner.Operands.{opcode_of, form_of}
 use Rattle.dw_cfa.specs.Operands.{Operand, address, expression, Value, Form, none, one, two, form_for, offset_of}
 use Rattle.dw_cfa.specs.InstrFaults.{ContentsFault, OperandFault, FormFault, CodeFault}

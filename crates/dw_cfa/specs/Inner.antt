@@ -3,6 +3,7 @@ pub mod Operands
 pub mod FrontInstr
 pub mod ByOpcode
 pub mod Listing
+pub mod Opening
 pub mod Machine
 pub mod Runs
 pub mod Exact

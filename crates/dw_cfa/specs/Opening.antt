@@ -1,11 +1,11 @@
 -- How an FDE's program begins: DWARF 5, 6.4.3.
-use Rattle.std.specs.Prelude.{◌<◌, List, [], ◌∷◌}
+use Rattle.std.specs.Prelude.{Bool, true, false, List, [], ◌∷◌, nat_lt}
 use Rattle.dw_cfa.specs.declared.instr.Instr.{Instr}
 use Rattle.dw_cfa.specs.declared.instr.Instr.TheVariants.{Nop, Advance}
 
--- the first instruction that is no nop moves the location on, or there is none
-abbrev pub MovesFirst : List Instr → Type 0
-MovesFirst [] = Unit {0}
-MovesFirst (Nop ∷ instrs) = MovesFirst instrs
-MovesFirst (Advance delta ∷ instrs) = 0 < delta
-MovesFirst (i ∷ instrs) = ⊥
+-- whether the first instruction that is no nop moves the location on, or there is none
+abbrev pub moves_first : List Instr → Bool
+moves_first [] = true
+moves_first (Nop ∷ instrs) = moves_first instrs
+moves_first (Advance delta ∷ instrs) = nat_lt 0 delta
+moves_first (i ∷ instrs) = false

@@ -1,38 +1,35 @@
 //! How an FDE's program begins (6.4.3).
 
-ghost use Rattle.std.specs.Prelude.{◌<◌, List, IsTrue};
-ghost use Rattle.dw_num.specs.declared.target.Target.{Target};
-ghost use Rattle.dw_cfa.specs.declared.instr.Instr.{Instr};
+ghost use Rattle.std.specs.Prelude.{◌≡◌, List};
+ghost use Rattle.dw_cfa.specs.declared.instr.Instr.{Instr as TheInstr};
 ghost use Rattle.dw_cfa.specs.InstrSpells.{Program as ProgramSpells};
-ghost use Rattle.dw_cfa.specs.Opening.{MovesFirst};
+ghost use Rattle.dw_cfa.specs.Listing.{answers};
+ghost use Rattle.dw_cfa.specs.Opening.{moves_first};
+ghost use Rattle.dw_cfa.specs.Inner.Opening.{answers_move};
 
-use crate::instr::Factors;
-use dw_num::Program;
+use crate::instr::{Factors, Instr};
+use crate::instructions::Instructions;
+use dw_num::{Program, Target};
 
-// The opcode of `DW_CFA_nop`.
-const NOP: u8 = 0x00;
-
-// Whether an opcode is that of `DW_CFA_advance_loc` by a delta that is not 0.
-#[inline(always)]
-fn is_short_advance(code: u8) -> bool
-    ensures { IsTrue result → (64 < code) × (code < 128) }
+// Whether the first of the instructions to come that is no nop moves the location on.
+fn next_moves(instrs: &mut Instructions<'_>) -> bool
+    ensures { result ≡ answers_move (answers instrs.old) }
 {
-    code > 0x40 && code < 0x80
-}
-
-/// Whether an FDE's program is known to move the location on before it changes a rule, or to change none: then each column
-/// has its initial rule at the FDE's begin. `false` says nothing. Takes no memory.
-pub fn moves_first(program: Program<'_>, factors: Factors) -> bool
-    ensures { IsTrue result → (target : Target) (instrs : List Instr) → ProgramSpells target factors instrs program.entry.bytes.now → MovesFirst instrs }
-{
-    let bytes = program.bytes;
-    let mut place = 0;
-    'codes: while place < bytes.len() {
-        let code = bytes[place];
-        if code != NOP {
-            return is_short_advance(code) && factors.code_factor > 0;
+    'instrs: while let Some(answer) = instrs.next() {
+        match answer {
+            Ok(Instr::Nop) => {}
+            Ok(Instr::Advance(delta)) => return delta > 0,
+            _ => return false,
         }
-        place += 1;
     }
     true
+}
+
+/// Whether the first instruction of an FDE's program that is not `DW_CFA_nop` moves the location on, or it has none: then each
+/// column has its initial rule at the FDE's begin. Takes no memory.
+pub fn moves_first(program: Program<'_>, factors: Factors, target: Target) -> bool
+    ensures { (instrs : List TheInstr) → ProgramSpells target factors instrs program.entry.bytes.now → result ≡ moves_first instrs }
+{
+    let mut instrs = Instructions::new(program, factors, target);
+    next_moves(&mut instrs)
 }

@@ -71,6 +71,7 @@ fn run_cie<'a>(leading: Leading<'a>, machine: &mut Machine<'a>) -> Result<(), Re
 }
 
 // Runs a CIE's program, or brings its row back where the machine has it.
+#[inline(always)]
 fn ready<'a>(leading: Leading<'a>, machine: &mut Machine<'a>, kept: bool) -> Result<(), ReadError>
     requires runs { IsOk (initial_row (placed leading.factors (program_input leading.program leading.target)) blank) }
     requires kept { IsTrue kept → HasInitial leading machine.old }

@@ -1,13 +1,21 @@
 //! Instructions as the normal form spells them.
 
-ghost use Rattle.std.specs.Prelude.{◌≡◌, ◌∷◌, ◌++◌, ◌<◌, ◌≤◌, OnOk};
+ghost use Rattle.std.specs.Prelude.{◌≡◌, ◌∷◌, ◌++◌, ◌<◌, ◌≤◌, neg_ℤ, unsigned_abs, if◌then◌else◌, OnOk};
+ghost use Rattle.std.specs.Int.{is_positive};
 ghost use Rattle.dw_num.specs.Shortest.{shortest_uleb, shortest_sleb};
+ghost use Rattle.dw_cfa.specs.InstrSpells.{IsOffset};
 ghost use Rattle.dw_section.specs.Inner.Sound.{HasBlock, RuleFits};
 ghost use Rattle.dw_cfa.specs.declared.instr.Instr.TheVariants.{SetLoc, DefCfaOffset};
 ghost use Rattle.dw_canon.specs.Inner.Fits.{InstrFits};
 ghost use Rattle.dw_canon.specs.Inner.Spelling.{expression_bytes, rule_bytes, instr_bytes};
 ghost use Rattle.dw_canon.specs.Spelling.{advance_bytes, packed};
 
+use crate::opcode::{
+    ADVANCE_LOC, ADVANCE_LOC1, ADVANCE_LOC2, ADVANCE_LOC4, DEF_CFA, DEF_CFA_EXPRESSION,
+    DEF_CFA_OFFSET, DEF_CFA_OFFSET_SF, DEF_CFA_REGISTER, DEF_CFA_SF, EXPRESSION, NOP, OFFSET,
+    OFFSET_EXTENDED, OFFSET_EXTENDED_SF, REGISTER, REMEMBER_STATE, RESTORE, RESTORE_EXTENDED,
+    RESTORE_STATE, SAME_VALUE, SET_LOC, UNDEFINED, VAL_EXPRESSION, VAL_OFFSET, VAL_OFFSET_SF,
+};
 use dw_cfa::{Instr, RegRule};
 use dw_num::{Order, Target, put_fixed, put_sleb, put_uleb};
 use dw_op::ExprRef;
@@ -81,14 +89,14 @@ fn push_long_advance(out: &mut Vec<u8>, order: Order, delta: u32) -> Result<(), 
     ensures { OnOk result (out.new.items ≡ out.old.items ++ advance_bytes order delta) }
 {
     if delta < 256 {
-        out.push(0x02)?;
+        out.push(ADVANCE_LOC1)?;
         return put_fixed(out, order, 1, u64::from(delta));
     }
     if delta < 65536 {
-        out.push(0x03)?;
+        out.push(ADVANCE_LOC2)?;
         return put_fixed(out, order, 2, u64::from(delta));
     }
-    out.push(0x04)?;
+    out.push(ADVANCE_LOC4)?;
     put_fixed(out, order, 4, u64::from(delta))
 }
 
@@ -98,7 +106,7 @@ pub(crate) fn push_advance(out: &mut Vec<u8>, order: Order, delta: u32) -> Resul
     ensures { OnOk result (out.new.items ≡ out.old.items ++ advance_bytes order delta) }
 {
     if delta < 64 {
-        out.push(0x40 + delta as u8)?;
+        out.push(ADVANCE_LOC + delta as u8)?;
         return Ok(());
     }
     push_long_advance(out, order, delta)
@@ -115,7 +123,7 @@ pub(crate) fn push_set_loc(
     requires { InstrFits target (SetLoc address) }
     ensures { OnOk result (out.new.items ≡ out.old.items ++ instr_bytes target (SetLoc address)) }
 {
-    out.push(0x01)?;
+    out.push(SET_LOC)?;
     put_fixed(
         out,
         target.order,
@@ -137,6 +145,22 @@ fn push_expression(
     expression.put_least(out)
 }
 
+// Appends a register that is saved at an offset from the CFA.
+fn push_offset(out: &mut Vec<u8>, register: u16, offset: i64) -> Result<(), AllocError>
+    requires { IsOffset offset }
+    ensures { OnOk result (out.new.items ≡ out.old.items ++ (if is_positive offset then 0x11 ∷ (shortest_uleb register ++ shortest_sleb (neg_ℤ offset)) else packed 0x80 0x05 register ++ shortest_uleb (unsigned_abs offset))) }
+{
+    if offset > 0 {
+        push_with(out, OFFSET_EXTENDED_SF, u64::from(register))?;
+        return push_sleb(out, -offset);
+    }
+    if register < 64 {
+        return push_with(out, OFFSET + register as u8, offset.unsigned_abs());
+    }
+    push_packed(out, OFFSET, OFFSET_EXTENDED, register)?;
+    push_uleb(out, offset.unsigned_abs())
+}
+
 /// Appends what gives a register a rule.
 pub(crate) fn push_rule(
     out: &mut Vec<u8>,
@@ -147,51 +171,30 @@ pub(crate) fn push_rule(
     requires { RuleFits target rule.now }
     ensures { OnOk result (out.new.items ≡ out.old.items ++ rule_bytes target register rule.now) }
 {
+    let number = u64::from(register);
     match rule {
         RegRule::Unspecified => Ok(()),
-        RegRule::Undefined => {
-            out.push(0x07)?;
-            push_uleb(out, u64::from(register))
-        }
-        RegRule::SameValue => {
-            out.push(0x08)?;
-            push_uleb(out, u64::from(register))
-        }
-        RegRule::Offset(offset) => {
-            if *offset > 0 {
-                out.push(0x11)?;
-                push_uleb(out, u64::from(register))?;
-                return push_sleb(out, -*offset);
-            }
-            if register < 64 {
-                return push_with(out, 0x80 + register as u8, offset.unsigned_abs());
-            }
-            push_packed(out, 0x80, 0x05, register)?;
-            push_uleb(out, offset.unsigned_abs())
+        RegRule::Undefined => push_with(out, UNDEFINED, number),
+        RegRule::SameValue => push_with(out, SAME_VALUE, number),
+        RegRule::Offset(offset) => push_offset(out, register, *offset),
+        RegRule::ValOffset(offset) if *offset > 0 => {
+            push_with(out, VAL_OFFSET_SF, number)?;
+            push_sleb(out, -*offset)
         }
         RegRule::ValOffset(offset) => {
-            if *offset > 0 {
-                out.push(0x15)?;
-                push_uleb(out, u64::from(register))?;
-                return push_sleb(out, -*offset);
-            }
-            out.push(0x14)?;
-            push_uleb(out, u64::from(register))?;
+            push_with(out, VAL_OFFSET, number)?;
             push_uleb(out, offset.unsigned_abs())
         }
         RegRule::Register(other) => {
-            out.push(0x09)?;
-            push_uleb(out, u64::from(register))?;
+            push_with(out, REGISTER, number)?;
             push_uleb(out, u64::from(*other))
         }
         RegRule::Expression(expression) => {
-            out.push(0x10)?;
-            push_uleb(out, u64::from(register))?;
+            push_with(out, EXPRESSION, number)?;
             push_expression(out, expression, target)
         }
         RegRule::ValExpression(expression) => {
-            out.push(0x16)?;
-            push_uleb(out, u64::from(register))?;
+            push_with(out, VAL_EXPRESSION, number)?;
             push_expression(out, expression, target)
         }
     }
@@ -209,10 +212,10 @@ pub(crate) fn push_cfa_offset(
     ensures { OnOk result (out.new.items ≡ out.old.items ++ instr_bytes target (DefCfaOffset offset)) }
 {
     if offset < 0 {
-        out.push(0x13)?;
+        out.push(DEF_CFA_OFFSET_SF)?;
         return push_sleb(out, -offset);
     }
-    push_with(out, 0x0e, offset.unsigned_abs())
+    push_with(out, DEF_CFA_OFFSET, offset.unsigned_abs())
 }
 
 /// Appends an instruction, and may leave some of it where memory runs out.
@@ -226,40 +229,28 @@ pub(crate) fn push_instr(
     ensures { OnOk result (out.new.items ≡ out.old.items ++ instr_bytes target instr.now) }
 {
     match instr {
-        Instr::Nop => {
-            out.push(0x00)?;
-            Ok(())
-        }
+        Instr::Nop => Ok(out.push(NOP)?),
         Instr::SetLoc(address) => push_set_loc(out, *address, target),
         Instr::Advance(delta) => push_advance(out, target.order, *delta as u32),
         Instr::DefCfa { register, offset } => {
             if *offset < 0 {
-                out.push(0x12)?;
-                push_uleb(out, u64::from(*register))?;
+                push_with(out, DEF_CFA_SF, u64::from(*register))?;
                 return push_sleb(out, -*offset);
             }
-            out.push(0x0c)?;
-            push_uleb(out, u64::from(*register))?;
+            push_with(out, DEF_CFA, u64::from(*register))?;
             push_uleb(out, offset.unsigned_abs())
         }
         Instr::DefCfaRegister(register) => {
-            out.push(0x0d)?;
-            push_uleb(out, u64::from(*register))
+            push_with(out, DEF_CFA_REGISTER, u64::from(*register))
         }
         Instr::DefCfaOffset(offset) => push_cfa_offset(out, *offset, target),
         Instr::DefCfaExpression(expression) => {
-            out.push(0x0f)?;
+            out.push(DEF_CFA_EXPRESSION)?;
             push_expression(out, expression, target)
         }
         Instr::Set(register, rule) => push_rule(out, *register, rule, target),
-        Instr::Restore(register) => push_packed(out, 0xc0, 0x06, *register),
-        Instr::RememberState => {
-            out.push(0x0a)?;
-            Ok(())
-        }
-        Instr::RestoreState => {
-            out.push(0x0b)?;
-            Ok(())
-        }
+        Instr::Restore(register) => push_packed(out, RESTORE, RESTORE_EXTENDED, *register),
+        Instr::RememberState => Ok(out.push(REMEMBER_STATE)?),
+        Instr::RestoreState => Ok(out.push(RESTORE_STATE)?),
     }
 }

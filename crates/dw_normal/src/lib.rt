@@ -12,6 +12,7 @@ mod instruction;
 mod length;
 mod likeness;
 mod normal;
+mod opcode;
 mod preparation;
 mod program;
 mod room;

@@ -15,6 +15,7 @@ use crate::cfa_change::cfa_difference;
 use crate::instruction::{
     push_advance, push_cfa_offset, push_instr, push_packed, push_rule, push_set_loc,
 };
+use crate::opcode::{RESTORE, RESTORE_EXTENDED};
 use dw_cfa::{CfaRule, Row};
 use dw_num::Target;
 use dw_section::Changes;
@@ -95,7 +96,7 @@ fn push_register<'a>(
     ensures { OnOk result (out.new.items ≡ out.old.items ++ instr_bytes target (rule_to shared.now register (rule row.now register))) }
 {
     if row.has_same_rule(shared, register) {
-        return push_packed(out, 0xc0, 0x06, register);
+        return push_packed(out, RESTORE, RESTORE_EXTENDED, register);
     }
     push_rule(out, register, &row.rule(register), target)
 }

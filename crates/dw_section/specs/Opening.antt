@@ -1,8 +1,8 @@
 -- How an FDE's program begins: DWARF 5, 6.4.3.
-use Rattle.std.specs.Prelude.{ℕ, List}
+use Rattle.std.specs.Prelude.{◌≡◌, ℕ, true, List}
 use Rattle.dw_num.specs.declared.target.Target.{Target}
 use Rattle.dw_cfa.specs.declared.instr.Instr.{Instr}
-use Rattle.dw_cfa.specs.Opening.{MovesFirst}
+use Rattle.dw_cfa.specs.Opening.{moves_first}
 use Rattle.dw_section.specs.declared.lookup.Fde.{Fde}
 use Rattle.dw_section.specs.Headers.{CieHead}
 use Rattle.dw_section.specs.Meaning.{Says}
@@ -16,4 +16,4 @@ pub record OpensBehind (target : Target) (s : List ℕ) (f : Fde) (place : ℕ) 
   pub says : Says target s f.begin f.end initial instrs
   pub head : CieHead
   pub begins : Begins target says.headers place head initial
-  pub moves : MovesFirst instrs
+  pub moves : moves_first instrs ≡ true

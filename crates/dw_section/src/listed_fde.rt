@@ -35,6 +35,7 @@ pub(crate) struct FoundFde<'a> {
 }
 
 /// Goes to the rows of an FDE, whose programs are known to give rows.
+#[inline(always)]
 pub(crate) fn go_to_rows<'a>(steps: &mut RowWalk<'a>, fde: &FoundFde<'a>, target: Target)
     requires in_space { fde.now.begin < address_limit target.size }
     requires no_fault { (rows_of target fde.now).fault ≡ None }

@@ -1,10 +1,10 @@
 //! How an FDE's program begins.
 
-ghost use Rattle.std.specs.Prelude.{◌≡◌, ◌<◌, ℕ, false, List, length, slice_index_or, None, IfSome};
-ghost use Rattle.dw_num.specs.declared.target.Target.{Target as TheTarget};
+ghost use Rattle.std.specs.Prelude.{◌≡◌, ◌<◌, ℕ, false, if◌then◌else◌, List, length, slice_index_or, Some, None, IfSome};
+ghost use Rattle.std.specs.Option.{IsSome};
 ghost use Rattle.dw_cfa.specs.declared.instr.Instr.{Instr};
 ghost use Rattle.dw_cfa.specs.InstrSpells.{Program as ProgramSpells};
-ghost use Rattle.dw_cfa.specs.Opening.{MovesFirst};
+ghost use Rattle.dw_cfa.specs.Opening.{moves_first};
 ghost use Rattle.dw_cfa.specs.Rows.{Rules};
 ghost use Rattle.dw_section.specs.declared.lookup.Fde.{Fde as TheFde};
 ghost use Rattle.dw_section.specs.Changes.{ToCome};
@@ -17,6 +17,7 @@ use crate::listed_fde::FoundFde;
 use crate::lookup::FdeRef;
 use crate::table::Table;
 use dw_cfa::moves_first;
+use dw_num::Target;
 
 /// How long an FDE's programs are, and how its own begins.
 #[derive(Clone, Copy, Debug, PartialEq, Eq)]
@@ -25,19 +26,18 @@ pub struct Opening {
     pub own: usize,
     /// How many bytes the program of its CIE has.
     pub initial: usize,
-    /// The place of its CIE, where its own program is known to move the location before it changes a rule: then the rules at
-    /// its begin are those that the CIE's program leaves.
+    /// The place of its CIE, where the first instruction of its own program that is not `DW_CFA_nop` moves the location on, or it
+    /// has none: then the rules at its begin are those that the CIE's program leaves.
     pub cie_at: Option<u64>,
 }
 
 #[inline(always)]
-fn opening_in(found: FoundFde<'_>) -> Opening
+fn opening_in(found: FoundFde<'_>, target: Target) -> Opening
     ensures own { result.own ≡ length found.entry.program.bytes.now }
     ensures initial { result.initial ≡ length found.entry.cie_program.bytes.now }
-    ensures cie_at { IfSome result.cie_at (λ at. at ≡ found.entry.cie_at) }
-    ensures moves { IfSome result.cie_at (λ _. (t : TheTarget) (instrs : List Instr) → ProgramSpells t found.entry.factors instrs found.entry.program.bytes.now → MovesFirst instrs) }
+    ensures cie_at { (instrs : List Instr) → ProgramSpells target found.entry.factors instrs found.entry.program.bytes.now → result.cie_at ≡ (if moves_first instrs then Some found.entry.cie_at else None) }
 {
-    let moves = moves_first(found.program, found.factors);
+    let moves = moves_first(found.program, found.factors, target);
     Opening {
         own: found.program.bytes.len(),
         initial: found.cie_program.bytes.len(),
@@ -58,7 +58,9 @@ impl<'a> Table<'a> {
         ensures end { (fs : List TheFde) → AreFdes self.now.target self.now.bytes fs → (d : TheFde) → changes.new.end ≡ (slice_index_or fs fde.place d).end }
         ensures lengths { (fs : List TheFde) → AreFdes self.now.target self.now.bytes fs → (d : TheFde) → HasLengths self.now.target self.now.bytes (slice_index_or fs fde.place d) result.own result.initial }
         ensures opens { (fs : List TheFde) → AreFdes self.now.target self.now.bytes fs → (d : TheFde) → IfSome result.cie_at (OpensBehind self.now.target self.now.bytes (slice_index_or fs fde.place d)) }
+        ensures only { (fs : List TheFde) → AreFdes self.now.target self.now.bytes fs → (d : TheFde) (place : ℕ) → OpensBehind self.now.target self.now.bytes (slice_index_or fs fde.place d) place → IsSome result.cie_at }
     {
-        opening_in(self.led(changes, fde))
+        self.accepted();
+        opening_in(self.led(changes, fde), self.target)
     }
 }

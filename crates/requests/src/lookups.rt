@@ -1,7 +1,9 @@
 //! Look-ups of addresses one after another, to be counted beside those of another reader (`bench/run`).
 
+ghost use Rattle.dw_cfa.specs.Rows.{AreSpecified};
+
 use crate::Calls;
-use dw_cfa::CfaRule;
+use dw_cfa::{CfaRule, NearRules, RegRule, Row};
 use dw_num::Target;
 use dw_section::{Fde, Lookups, Table, check};
 use std::alloc::AllocError;
@@ -45,7 +47,61 @@ fn found_at(lookups: &mut Lookups<'_, '_>, address: u64) -> Result<u64, AllocErr
     })
 }
 
-fn sum_of(table: &Table<'_>, fdes: &[Fde], count: u64) -> Result<u64, AllocError> {
+// A number that tells a rule.
+fn told(rule: &RegRule<'_>) -> u64 {
+    match rule {
+        RegRule::Offset(offset) | RegRule::ValOffset(offset) => offset.unsigned_abs(),
+        RegRule::Register(register) => u64::from(*register),
+        _ => 1,
+    }
+}
+
+fn next_sum(sum: u64, register: u16, rule: &RegRule<'_>) -> u64 {
+    sum.wrapping_mul(31)
+        .wrapping_add(u64::from(register) ^ told(rule))
+}
+
+fn near_sum(rules: NearRules<'_, '_>) -> u64
+    requires { AreSpecified 0 rules }
+{
+    let mut sum: u64 = 0;
+    for (register, rule) in rules {
+        sum = next_sum(sum, register, &rule);
+    }
+    sum
+}
+
+fn far_sum(row: &Row<'_>) -> u64 {
+    let mut sum: u64 = 0;
+    for (register, rule) in row.specified() {
+        sum = next_sum(sum, register, &rule);
+    }
+    sum
+}
+
+fn rules_sum(row: &Row<'_>) -> u64 {
+    row.ascends();
+    match row.near_rules() {
+        Some(rules) => near_sum(rules),
+        None => far_sum(row),
+    }
+}
+
+// A number that tells the FDE and the rules of all registers at an address too, which a look-up from C writes.
+fn all_at(lookups: &mut Lookups<'_, '_>, address: u64) -> Result<u64, AllocError> {
+    let cfa = found_at(lookups, address)?;
+    let (Some(found), Some(row)) = (lookups.fde(), lookups.row()) else {
+        return Ok(cfa);
+    };
+    Ok(cfa ^ found.range() ^ rules_sum(row))
+}
+
+fn sum_of(
+    table: &Table<'_>,
+    fdes: &[Fde],
+    count: u64,
+    with_rules: bool,
+) -> Result<u64, AllocError> {
     let mut numbers = Numbers {
         state: 0x9e37_79b9_7f4a_7c15,
     };
@@ -55,18 +111,28 @@ fn sum_of(table: &Table<'_>, fdes: &[Fde], count: u64) -> Result<u64, AllocError
         let place = numbers.below(fdes.len() as u64);
         if let Some(fde) = fdes.get(place as usize) {
             let address = fde.begin.wrapping_add(numbers.below(range_of(fde)));
-            let found = found_at(&mut lookups, address)?;
+            let found = if with_rules {
+                all_at(&mut lookups, address)?
+            } else {
+                found_at(&mut lookups, address)?
+            };
             sum = sum.wrapping_mul(31).wrapping_add(address ^ found << 32);
         }
     }
     Ok(sum)
 }
 
-/// Makes so many look-ups of covered addresses, and prints a sum of what they found. Those of no look-up are the cost of
-/// the table and of the list of FDEs.
-pub fn all(rt: &impl Calls, bytes: &[u8], target: Target, count: u64) -> Result<(), Fail> {
+/// Makes so many look-ups of covered addresses, and prints a sum of what they found: of the CFA, or of all rules. Those of no
+/// look-up are the cost of the table and of the list of FDEs.
+pub fn all(
+    rt: &impl Calls,
+    bytes: &[u8],
+    target: Target,
+    count: u64,
+    with_rules: bool,
+) -> Result<(), Fail> {
     let table = check(rt.alloc(), bytes, target)?;
     let fdes: Vec<Fde> = table.fdes().collect(rt.alloc())?;
-    let sum = sum_of(&table, &fdes, count)?;
+    let sum = sum_of(&table, &fdes, count, with_rules)?;
     Ok(println!(rt; "lookups={count} sum={sum:016x}")?)
 }

@@ -4,9 +4,9 @@
 //!     requests CALL
 //!     requests CALL 4|8 little|big FILE
 //!
-//! With a count behind these words it looks up so many addresses, for `bench/run`:
+//! With a count behind these words it looks up so many addresses, for `bench/run`, and reads the rule of the CFA, or all rules:
 //!
-//!     requests lookup 4|8 little|big FILE COUNT
+//!     requests lookup|rules 4|8 little|big FILE COUNT
 //!
 //! An error that no call is to answer ends the run, and is told on standard error.
 #![tactic(auto)]
@@ -79,7 +79,7 @@ fn main(rt: HostRuntime) -> Result<(), Fail> {
     let bytes = fs::read(rt, path)?;
     let target = target_of(size, order);
     match words.get(5).and_then(|word| word.parse().ok()) {
-        Some(count) => lookups::all(rt, &bytes, target, count),
+        Some(count) => lookups::all(rt, &bytes, target, count, call == "rules"),
         None => made(rt, call, &bytes, target),
     }
 }

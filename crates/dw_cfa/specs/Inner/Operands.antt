@@ -1,5 +1,5 @@
 -- What the code knows of an opcode, beside the table of codes.
-use Rattle.std.specs.Prelude.{ℕ, ◌-◌, List, [], ◌∷◌, Option, Some, if◌then◌else◌, ℤ, pos, ◌*ℤ◌}
+use Rattle.std.specs.Prelude.{ℕ, ◌-◌, List, [], ◌∷◌, Option, Some, if◌then◌else◌, pos, ◌*ℤ◌}
 use Rattle.dw_op.specs.Operands.{look_up, in_range}
 use Rattle.dw_cfa.specs.declared.instr.Factors.{Factors}
 use Rattle.dw_cfa.specs.declared.instr.Instr.TheVariants.{Nop, SetLoc, DefCfa, DefCfaRegister, DefCfaOffset, DefCfaExpression, Set, Restore, RememberState, RestoreState}

@@ -1,5 +1,5 @@
 -- FDEs whose programs move the location first begin with the row of their CIE, and each later row specifies what that does.
-use Rattle.std.proofs.Common.{◌≡◌, ℕ, suc, ◌<◌, ◌≤◌, List, [], ◌∷◌, sym, ◌∙◌, subst, arith}
+use Rattle.std.proofs.Common.{◌≡◌, ℕ, suc, ◌<◌, ◌≤◌, true, List, [], ◌∷◌, sym, ◌∙◌, subst, arith}
 use Rattle.std.specs.Prelude.{IsTrue}
 use Rattle.std.specs.List.{AllByRecursion}
 use Rattle.dw_num.specs.declared.target.Target.{Target}
@@ -7,7 +7,7 @@ use Rattle.dw_num.specs.Input.{AreBytes}
 use Rattle.dw_cfa.specs.declared.instr.Instr.{Instr}
 use Rattle.dw_cfa.specs.declared.rule.RegRule.{RegRule}
 use Rattle.dw_cfa.specs.Laws.{initial_cfa, initial_rule}
-use Rattle.dw_cfa.specs.Opening.{MovesFirst}
+use Rattle.dw_cfa.specs.Opening.{moves_first}
 use Rattle.dw_cfa.specs.Rows.{Rules, AreSpecified, is_specified, rule}
 use Rattle.dw_cfa.proofs.Lent.InstrCounts.{counts_exists}
 use Rattle.dw_cfa.proofs.Lent.Openings.{AllSet, all_set, first_cfa, first_rule, stays_specified}
@@ -37,7 +37,7 @@ abbrev pub Specifies : Rules → Rules → Type 0
 Specifies row first = (r : ℕ) → IsTrue (is_specified (rule first r)) → IsTrue (is_specified (rule row r))
 
 module _ (initial instrs : List Instr) (begin : ℕ) where
-  first_left : (row : Rules) → MovesFirst instrs → HoldsAt initial instrs begin begin row → IsLeft initial row
+  first_left : (row : Rules) → moves_first instrs ≡ true → HoldsAt initial instrs begin begin row → IsLeft initial row
   first_left row moves holds =
       let c = counts_exists begin instrs begin (omega arith) in
       let h = holds c.0 c.1 in

@@ -1,10 +1,12 @@
-use Rattle.std.proofs.Common.{length, subst}
+use Rattle.std.proofs.Common.{length, sym, ap, subst}
 use Rattle.std.specs.Prelude.{IfSome}
+use Rattle.dw_num.specs.declared.target.Target.{Target}
 use Rattle.dw_section.specs.declared.lookup.Fde.{Fde}
 use Rattle.dw_section.specs.Meaning.{HasLengths}
 use Rattle.dw_section.specs.Opening.{OpensBehind}
+use Rattle.dw_section.specs.Table.{Section}
 use Rattle.dw_section.proofs.Extents.{found_lengths}
-use Rattle.dw_section.proofs.Opened.{found_opening, if_both}
+use Rattle.dw_section.proofs.Opened.{Opens, found_opening, only_opening}
 use Rattle.dw_section.proofs.table.Table.go_on_opening.Goals as goal
 
 pub returns-clause-lengths : goal.returns-clause-lengths
@@ -18,6 +20,12 @@ pub returns-clause-opens : goal.returns-clause-opens
 returns-clause-opens c = λ fs are d.
     let t = c.args.self.now.target in
     let s = c.args.self.now.bytes in
-    let e = c.led.result in
     subst (λ (f : Fde). IfSome c.opening_in.result.cie_at (OpensBehind t s f)) (c.led.ensures.is fs are d)
-    (if_both c.opening_in.result.cie_at _ _ _ (λ place is moves. found_opening t s e place c.led.ensures.found c.led.ensures.led is moves) c.opening_in.ensures.cie_at c.opening_in.ensures.moves)
+    (found_opening t s c.led.result c.led.ensures.found c.led.ensures.led c.opening_in.result.cie_at (subst (λ (own : Target). Opens own c.led.result c.opening_in.result.cie_at) (ap (λ (x : Section). x.target) c.self.view_is) c.opening_in.ensures.cie_at))
+
+pub returns-clause-only : goal.returns-clause-only
+returns-clause-only c = λ fs are d place opens.
+    let t = c.args.self.now.target in
+    let s = c.args.self.now.bytes in
+    only_opening t s c.accepted.ensures.bytes c.accepted.ensures.accepted c.led.result c.led.ensures.found c.opening_in.result.cie_at (subst (λ (own : Target). Opens own c.led.result c.opening_in.result.cie_at) (ap (λ (x : Section). x.target) c.self.view_is) c.opening_in.ensures.cie_at) place
+    (subst (λ (f : Fde). OpensBehind t s f place) (sym (c.led.ensures.is fs are d)) opens)

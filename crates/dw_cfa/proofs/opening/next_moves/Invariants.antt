@@ -1,0 +1,10 @@
+use Rattle.std.proofs.Common.{◌≡◌, length}
+use Rattle.dw_cfa.specs.Listing.{answers}
+use Rattle.dw_cfa.specs.Inner.Opening.{answers_move}
+use Rattle.dw_cfa.proofs.opening.next_moves.Given as goal
+
+abbrev pub invariant-instrs : goal.invariant-instrs
+invariant-instrs l = answers_move (answers l.instrs) ≡ answers_move (answers l.initial.instrs)
+
+abbrev pub decreases-instrs : goal.decreases-instrs
+decreases-instrs l = length (answers l.instrs)
