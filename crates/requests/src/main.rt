@@ -79,7 +79,7 @@ fn main(rt: HostRuntime) -> Result<(), Fail> {
     let bytes = fs::read(rt, path)?;
     let target = target_of(size, order);
     match words.get(5).and_then(|word| word.parse().ok()) {
-        Some(count) => lookups::all(rt, &bytes, target, count, call == "rules"),
+        Some(count) => lookups::all(rt, &bytes, target, count, call.as_str() == "rules"),
         None => made(rt, call, &bytes, target),
     }
 }
