@@ -4,7 +4,8 @@
  * A section is the raw contents of `.debug_frame` (DWARF 5, 6.4.1), decompressed, as `./section` of the repository or objcopy
  * takes them out of a file. Link with libdwframe.a, which `./library` builds.
  *
- * Every call answers a status. What it tells beside that it writes through pointers, at each call, also where it fails.
+ * Every call but dwframe_refusal_name answers a status. What it tells beside that it writes through pointers, at each call, also
+ * where it fails.
  *
  * What a caller keeps:
  *
@@ -109,14 +110,16 @@ dwframe_status dwframe_normalise(const uint8_t *bytes, size_t len, uint8_t addre
 
 /*
  * Whether two sections say the same: the same FDEs with the same return registers, and the same rules at each address that they
- * cover. `alike` is 1 where they do, and else 0.
+ * cover. `alike` is 1 where they do, and else 0. A section whose normal form is above 2147483647 bytes is refused. FDEs that cover
+ * no address say nothing.
  */
 dwframe_status dwframe_same(const uint8_t *first, size_t first_len, const uint8_t *second, size_t second_len,
     uint8_t address_size, uint8_t byte_order, uint32_t *alike, dwframe_refusal *refusal) DWFRAME_NONNULL;
 
 /*
- * An entry of an index: an FDE's first address, how many it covers, the place of its entry in the section, and the number of
- * the register that holds the return address. 24 bytes, in the machine's own order of bytes. An index is plain data: it may be
+ * An entry of an index: an FDE's first address (initial_location), how many it covers (address_range), the place of its entry in
+ * the section, and the number of the register that holds the return address (return_address_register). 24 bytes, in the
+ * machine's own order of bytes. An index is plain data: it may be
  * stored and read back by the same kind of machine.
  */
 typedef struct dwframe_entry {
@@ -140,23 +143,27 @@ dwframe_status dwframe_index(const uint8_t *bytes, size_t len, uint8_t address_s
 
 /* How a register of the caller is found (DWARF 5, 6.4.1). CFA is the canonical frame address. */
 enum {
-    /* It has no value. */
+    /* It has no value (DW_CFA_undefined). */
     DWFRAME_RULE_UNDEFINED = 1,
-    /* It has not been changed. */
+    /* It has not been changed (DW_CFA_same_value). */
     DWFRAME_RULE_SAME_VALUE = 2,
-    /* It is saved in memory at CFA plus `offset`. */
+    /* It is saved in memory at CFA plus `offset` (DW_CFA_offset). */
     DWFRAME_RULE_OFFSET = 3,
-    /* It is CFA plus `offset`. */
+    /* It is CFA plus `offset` (DW_CFA_val_offset). */
     DWFRAME_RULE_VAL_OFFSET = 4,
-    /* It is in the register `other`. */
+    /* It is in the register `other` (DW_CFA_register). */
     DWFRAME_RULE_REGISTER = 5,
-    /* It is saved in memory where an expression says, which dwframe_expressions_at tells. */
+    /* It is saved in memory where an expression says (DW_CFA_expression), which dwframe_expressions_at tells. */
     DWFRAME_RULE_EXPRESSION = 6,
-    /* It is the value of an expression, which dwframe_expressions_at tells. */
+    /* It is the value of an expression (DW_CFA_val_expression), which dwframe_expressions_at tells. */
     DWFRAME_RULE_VAL_EXPRESSION = 7
 };
 
-/* How the CFA is found: the register `cfa_register` plus `cfa_offset`, or by an expression. */
+/*
+ * How the CFA is found (DWARF 5, 6.4.2.2): the register `cfa_register` plus `cfa_offset` (DW_CFA_def_cfa), or by an expression
+ * (DW_CFA_def_cfa_expression). 0 where no instruction says it, which only a look-up by an index can tell, in bytes that dwframe_check
+ * does not accept.
+ */
 enum { DWFRAME_CFA_REGISTER = 1, DWFRAME_CFA_EXPRESSION = 2 };
 
 /* The rule of a register: its DWARF number and the kind. `other` and `offset` are 0 where the kind does not name them. */
@@ -169,7 +176,7 @@ typedef struct dwframe_rule {
 
 /* The row of an address. All are 0 where there is none. */
 typedef struct dwframe_row {
-    /* The first address of its FDE, and how many it covers. */
+    /* The first address of its FDE (initial_location), and how many it covers (address_range). */
     uint64_t begin;
     uint64_t range;
     int64_t cfa_offset;

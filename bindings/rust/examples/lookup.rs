@@ -20,6 +20,7 @@ fn hex_of(expressions: &Expressions<'_>, column: Column) -> String {
 
 fn text_of(row: &Row<'_>, expressions: &Expressions<'_>) -> String {
     let mut text = match row.cfa {
+        CfaRule::Unset => String::new(),
         CfaRule::Register { register, offset } => format!(" cfa=r{register}{offset:+}"),
         CfaRule::Expression => format!(" cfa={}", hex_of(expressions, Column::Cfa)),
     };

@@ -2,7 +2,10 @@
 //!
 //! The functions here are safe, and keep what the library for C asks of its callers (`include/dwframe.h`): slices are never
 //! null, do not change while they are lent, and do not overlap one that is written to. They need `malloc`, `realloc` and `free`
-//! of the program, and neither `std` nor `alloc`.
+//! of the program, and neither `std` nor `alloc`. So unsafe code that runs in a signal handler, or in the child of a fork of a
+//! process with threads, must not call them.
+//!
+//! Each call that fails may answer `Failure::OutOfMemory`, and each that judges a section or an entry `Failure::Refused`.
 #![no_std]
 #![warn(missing_docs)]
 
@@ -77,7 +80,8 @@ impl Refusal {
         let mut room = [0; NAME_SIZE];
         // SAFETY: the pointer is to so many bytes, which nothing else uses.
         let len = unsafe { dwframe_refusal_name(self.code, room.as_mut_ptr(), room.len()) };
-        use_name(room.get(..len).and_then(|name| str::from_utf8(name).ok()).unwrap_or("unknown"))
+        let name = room.get(..len).filter(|name| !name.is_empty()).and_then(|name| str::from_utf8(name).ok());
+        use_name(name.unwrap_or("unknown"))
     }
 }
 
@@ -167,12 +171,14 @@ pub enum Fault {
 impl fmt::Display for Fault {
     fn fmt(&self, f: &mut fmt::Formatter<'_>) -> fmt::Result {
         match self {
-            Fault::NoValue { kind, index, column } => write!(f, "{kind:?} at {index} in {column}"),
+            Fault::NoValue { kind, index, column } => write!(f, "{kind} at {index} in {column}"),
             Fault::Unreadable { column } => write!(f, "Unreadable in {column}"),
             Fault::NoRegister { column } => write!(f, "NoRegister in {column}"),
         }
     }
 }
+
+impl Error for Fault {}
 
 /// Why an expression has no value (DWARF 5, 2.5).
 #[derive(Clone, Copy, Debug, PartialEq, Eq)]
@@ -201,6 +207,14 @@ pub enum Kind {
     MissingPiece,
 }
 
+impl fmt::Display for Kind {
+    fn fmt(&self, f: &mut fmt::Formatter<'_>) -> fmt::Result {
+        write!(f, "{self:?}")
+    }
+}
+
+impl Error for Kind {}
+
 impl fmt::Display for Failure {
     fn fmt(&self, f: &mut fmt::Formatter<'_>) -> fmt::Result {
         match self {
@@ -217,7 +231,15 @@ impl fmt::Display for Failure {
     }
 }
 
-impl Error for Failure {}
+impl Error for Failure {
+    fn source(&self) -> Option<&(dyn Error + 'static)> {
+        match self {
+            Failure::Refused(refusal) => Some(refusal),
+            Failure::Fault(fault) => Some(fault),
+            _ => None,
+        }
+    }
+}
 
 /// How many entries a section has.
 #[derive(Clone, Copy, Debug, PartialEq, Eq)]
@@ -266,7 +288,7 @@ impl<'a> Section<'a> {
     }
 
     /// Writes the normal form of the section to the front of `out`, and answers how many bytes it has. Where it does not fit,
-    /// `Failure::TooShort` says how many are needed, and `out` stays.
+    /// `Failure::TooShort` says how many are needed, and `out` stays. A normal form above 2147483647 bytes is refused.
     pub fn normalise(&self, out: &mut [u8]) -> Result<usize, Failure> {
         let (size, order) = self.target.numbers();
         let mut needed = 0;
@@ -285,42 +307,44 @@ impl<'a> Section<'a> {
 #[repr(C)]
 #[derive(Clone, Copy, Debug, Default, PartialEq, Eq)]
 pub struct Entry {
-    /// The first address of an FDE.
+    /// The first address of an FDE: its `initial_location` (6.4.1).
     pub begin: u64,
-    /// How many it covers.
+    /// How many it covers: its `address_range`.
     pub range: u64,
     /// The place of its entry in the section.
     pub at: u32,
-    /// The number of the register that holds the return address.
+    /// The number of the register that holds the return address: `return_address_register` of its CIE.
     pub return_register: u16,
 }
 
-/// How the canonical frame address is found.
+/// How the canonical frame address is found (DWARF 5, 6.4.2.2).
 #[derive(Clone, Copy, Debug, PartialEq, Eq)]
 pub enum CfaRule {
-    /// A register plus an offset.
+    /// No instruction says it. Only a look-up by an index in bytes that `Section::check` does not accept can tell that.
+    Unset,
+    /// A register plus an offset (`DW_CFA_def_cfa` and those like it).
     Register {
         /// The register.
         register: u16,
-        /// The offset.
+        /// The offset in bytes.
         offset: i64,
     },
     /// By an expression (`DW_CFA_def_cfa_expression`), which `Index::expressions_at` tells.
     Expression,
 }
 
-/// How a register of the caller is found (DWARF 5, 6.4.1). CFA is the canonical frame address.
+/// How a register of the caller is found (DWARF 5, 6.4.1 and 6.4.2.3). CFA is the canonical frame address.
 #[derive(Clone, Copy, Debug, PartialEq, Eq)]
 pub enum Rule {
-    /// It has no value.
+    /// It has no value (`DW_CFA_undefined`).
     Undefined,
-    /// It has not been changed.
+    /// It has not been changed (`DW_CFA_same_value`).
     SameValue,
-    /// It is saved in memory at CFA plus an offset.
+    /// It is saved in memory at CFA plus an offset in bytes (`DW_CFA_offset`).
     Offset(i64),
-    /// It is CFA plus an offset.
+    /// It is CFA plus an offset in bytes (`DW_CFA_val_offset`).
     ValOffset(i64),
-    /// It is in another register.
+    /// It is in another register (`DW_CFA_register`).
     Register(u16),
     /// It is saved in memory where an expression says (`DW_CFA_expression`), which `Index::expressions_at` tells.
     Expression,
@@ -357,13 +381,13 @@ impl RegisterRule {
 /// The row of an address.
 #[derive(Clone, Copy, Debug, PartialEq, Eq)]
 pub struct Row<'a> {
-    /// The first address of its FDE.
+    /// The first address of its FDE: `initial_location` (6.4.1).
     pub begin: u64,
-    /// How many addresses this covers.
+    /// How many addresses this covers: `address_range`.
     pub range: u64,
     /// How the canonical frame address is found.
     pub cfa: CfaRule,
-    /// The number of the register that holds the return address.
+    /// The number of the register that holds the return address: `return_address_register` of the CIE.
     pub return_register: u16,
     /// The rules of the registers, ascending.
     pub registers: &'a [RegisterRule],
@@ -455,7 +479,8 @@ impl Section<'_> {
 fn row_of<'o>(row: &RawRow, registers: &'o [RegisterRule]) -> Row<'o> {
     let cfa = match row.cfa_kind {
         1 => CfaRule::Register { register: row.cfa_register, offset: row.cfa_offset },
-        _ => CfaRule::Expression,
+        2 => CfaRule::Expression,
+        _ => CfaRule::Unset,
     };
     let RawRow { begin, range, return_register, .. } = *row;
     Row { begin, range, cfa, return_register, registers }
@@ -481,7 +506,8 @@ impl<'i, 'a> Index<'i, 'a> {
     }
 
     /// The row at an address. The rules of its registers are written to the front of `out`; `Failure::TooShort` says how many there
-    /// are where they do not fit, and then `out` has as many as do.
+    /// are where they do not fit, and then `out` has as many as do; `NoFde` that no entry covers the address; `BadIndex` that no
+    /// FDE that covers it stands where the index leads; and `Refused` a fault of that FDE, of its CIE or of their programs.
     pub fn row_at<'o>(&self, address: u64, out: &'o mut [RegisterRule]) -> Result<Row<'o>, Failure> {
         let (size, order) = self.target.numbers();
         let (mut row, mut refusal) = (RawRow::default(), RawRefusal::default());
@@ -532,7 +558,8 @@ impl<'o> Expressions<'o> {
 
 impl Index<'_, '_> {
     /// The expressions of the row at an address. Their blocks are written to the front of `bytes`, and where each stands to the
-    /// front of `blocks`. Where either does not fit, `Failure::ExpressionsTooShort` says how many there are, and both stay.
+    /// front of `blocks`. Where either does not fit, `Failure::ExpressionsTooShort` says how many there are, and both stay. It
+    /// fails else as `row_at` does.
     pub fn expressions_at<'o>(
         &self,
         address: u64,
@@ -641,7 +668,8 @@ impl Frame<'_> {
 
 impl Section<'_> {
     /// The caller's frame of a machine that stopped, by the section's rules for its pc. Each expression may take `steps` steps.
-    /// The registers are written to `out`, which stays where they do not fit or where there is no frame.
+    /// The registers are written to `out`, which stays where they do not fit (`TooShort`), where no FDE covers the pc (`NoFde`), or
+    /// where a column has no value (`Fault`).
     pub fn unwind<'o>(
         &self,
         machine: &Machine<'_>,
@@ -723,7 +751,8 @@ fn kind_of(kind: u32) -> Kind {
 }
 
 /// Whether two sections for one machine say the same: the same FDEs with the same return registers, and the same rules at each
-/// address that they cover.
+/// address that they cover. `Refused` says which section is refused, the first one's fault before the second's; so is one whose
+/// normal form is above 2147483647 bytes.
 pub fn same(first: &[u8], second: &[u8], target: Target) -> Result<bool, Failure> {
     let (size, order) = target.numbers();
     let mut alike = 0;

@@ -3,7 +3,7 @@ use Rattle.std.specs.Prelude.{Bool, true, false, List, [], ◌∷◌, nat_lt}
 use Rattle.dw_cfa.specs.declared.instr.Instr.{Instr}
 use Rattle.dw_cfa.specs.declared.instr.Instr.TheVariants.{Nop, Advance}
 
--- whether the first instruction that is no nop moves the location on, or there is none
+-- whether the first instruction that is no nop advances the location by more than 0, or there is none
 abbrev pub moves_first : List Instr → Bool
 moves_first [] = true
 moves_first (Nop ∷ instrs) = moves_first instrs

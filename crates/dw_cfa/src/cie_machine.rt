@@ -55,7 +55,7 @@ impl<'a> Model for CieMachine<'a> {
 
 impl<'a> CieMachine<'a> {
     /// Runs a CIE's program. No row is to come until an FDE's program begins. Otherwise the first refusal, or want of
-    /// memory.
+    /// memory. Refusals are those of `initial_row`.
     pub fn new(
         alloc: Global,
         cie_program: Program<'a>,
@@ -124,7 +124,8 @@ impl<'a> CieMachine<'a> {
     }
 
     /// Goes on to the next row of the FDE, which `row` lends then, and answers the location that it starts at, or none
-    /// behind the last row. No row is copied. A refusal, or want of memory, is answered from then on.
+    /// behind the last row. No row is copied. A refusal, or want of memory, is answered from then on. Refusals are those of
+    /// `Instructions`, and `LocationBackwards`, `LocationTooLarge`, `EmptyStateStack`, `StateStackFull` and `CfaNotRegister`.
     pub fn advance(&mut self) -> Result<Option<u128>, ReadError>
         ensures advances { Advances self.old.steps result self.new.steps }
         ensures same { self.new ≡ with_steps self.old self.new.steps }
@@ -143,7 +144,8 @@ impl<'a> CieMachine<'a> {
     }
 
     /// Runs the program that began to its end, and says whether the rows still to come leave an address below the end
-    /// without a rule for the CFA. No row is to come then, and a refusal, or want of memory, is answered from then on.
+    /// without a rule for the CFA. No row is to come then, and a refusal, or want of memory, is answered from then on. Refusals are
+    /// those of `advance`.
     pub fn lacks_rule(&mut self, end: u128) -> Result<bool, ReadError>
         requires { self.old.steps.error ≡ None }
         ensures found { IfOk result (λ lacks. (self.old.steps.outcome.fault ≡ None) × ((low : ℕ) → lacks ≡ lacks_from end low false self.old.steps.outcome.rows)) }

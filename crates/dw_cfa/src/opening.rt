@@ -11,7 +11,7 @@ use crate::instr::{Factors, Instr};
 use crate::instructions::Instructions;
 use dw_num::{Program, Target};
 
-// Whether the first of the instructions to come that is no nop moves the location on.
+// Whether the first of the instructions to come that is no nop advances the location by more than 0.
 fn next_moves(instrs: &mut Instructions<'_>) -> bool
     ensures { result ≡ answers_move (answers instrs.old) }
 {
@@ -25,8 +25,8 @@ fn next_moves(instrs: &mut Instructions<'_>) -> bool
     true
 }
 
-/// Whether the first instruction of an FDE's program that is not `DW_CFA_nop` moves the location on, or it has none: then each
-/// column has its initial rule at the FDE's begin. Takes no memory.
+/// Whether the first instruction of an FDE's program that is not `DW_CFA_nop` advances the location by more than 0, or it has
+/// none: then each column has its initial rule at the FDE's begin. False for a `DW_CFA_set_loc`. Takes no memory.
 pub fn moves_first(program: Program<'_>, factors: Factors, target: Target) -> bool
     ensures { (instrs : List TheInstr) → ProgramSpells target factors instrs program.entry.bytes.now → result ≡ moves_first instrs }
 {

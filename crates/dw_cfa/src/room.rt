@@ -117,7 +117,8 @@ impl<'a> RowRoom<'a> {
     }
 
     /// Runs two programs, from an address `begin` of the target on, up to the last row that starts at or below an address,
-    /// which `row` lends then. A refusal that comes up to there is answered, or want of memory.
+    /// which `row` lends then. `begin` is not above that address. A refusal that comes up to there is answered, or want of
+    /// memory. Refusals are those of `run`.
     pub fn run_to(
         &mut self,
         cie_program: Program<'a>,

@@ -524,6 +524,18 @@ impl<'a> Model for Row<'a> {
     ghost invariant = { λ r. EntriesSo r.entries };
 }
 
+impl<'a> Clone for Row<'a> {
+    ghost use Rattle.std.specs.Prelude.{◌≡◌};
+
+    ghost is_clone = { λ row copy. copy ≡ row };
+
+    ghost is_infallible = { λ _. ⊥ };
+
+    fn clone(&self) -> Result<Row<'a>, AllocError> {
+        self.copied()
+    }
+}
+
 /// An iterator over the registers that a row specifies, ascending, with their rules. Takes no memory.
 #[derive(Drop)]
 pub struct Specified<'r, 'a> {

@@ -21,6 +21,9 @@ pub type Rows<'a> = Vec<LocatedRow<'a>>;
 /// The rows that a CIE's and an FDE's program give, from an address `begin` of the target on: one before each
 /// instruction that moves the location, and one at the end. Otherwise the first refusal, the CIE's program
 /// first, or want of memory.
+///
+/// Refusals are those of `Instructions`; of the CIE's program also `NotInCie` and `CfaNotRegister`; of the FDE's also
+/// `LocationBackwards`, `LocationTooLarge`, `EmptyStateStack`, `StateStackFull` and `CfaNotRegister`.
 pub fn run<'a>(
     alloc: Global,
     cie_program: Program<'a>,

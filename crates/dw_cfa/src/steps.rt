@@ -76,7 +76,8 @@ fn run_cie<'a>(
     Ok(states.into_row())
 }
 
-/// The row that a CIE's program leaves, or its first fault, or want of memory.
+/// The row that a CIE's program leaves, or its first fault, or want of memory. Its faults are those of `Instructions`, and
+/// `NotInCie` and `CfaNotRegister`.
 pub fn initial_row<'a>(
     alloc: Global,
     cie_program: Program<'a>,
@@ -90,9 +91,9 @@ pub fn initial_row<'a>(
     run_cie(alloc, cie_program, factors, target)
 }
 
-/// The rows that a CIE's `initial_instructions` and an FDE's `instructions` give (6.4.3), one at a time: one before each instruction that moves the
-/// location, and one at the end. A contract sees the rows still to come, the refusal behind them, the row that is
-/// lent, and the error that was answered.
+/// The rows that a CIE's `initial_instructions` and an FDE's `instructions` give (6.4.3), one at a time: one before each
+/// instruction that moves the location, and one at the end. A contract sees the rows still to come, the refusal behind them, the
+/// row that is lent, and the error that was answered.
 #[derive(Drop)]
 pub struct RowSteps<'a> {
     progress: Progress,
@@ -201,7 +202,8 @@ impl<'a> RowSteps<'a> {
     }
 
     /// Goes on to the next row, which `row` lends then, and answers the location that it starts at, or none behind
-    /// the last row. No row is copied. A refusal, or want of memory, is answered from then on.
+    /// the last row. No row is copied. A refusal, or want of memory, is answered from then on. Refusals are those of `run`; where
+    /// `known` made the steps none comes.
     pub fn advance(&mut self) -> Result<Option<u128>, ReadError>
         ensures advances { Advances self.old result self.new }
         ensures again { (e : ReadError) → self.old.error ≡ Some e → result ≡ Err e }
@@ -247,7 +249,8 @@ impl<'a> RowSteps<'a> {
         }
     }
 
-    /// The next row, or none behind the last one. A refusal, or want of memory, which is answered from then on.
+    /// The next row, or none behind the last one. A refusal, or want of memory, which is answered from then on. Refusals are those
+    /// of `advance`.
     pub fn next(&mut self) -> Result<Option<LocatedRow<'a>>, ReadError>
         ensures answers { Answers self.old result self.new }
         ensures again { (e : ReadError) → self.old.error ≡ Some e → result ≡ Err e }

@@ -16,7 +16,7 @@ use std::fmt;
 use thiserror::Error;
 
 /// A column as it is printed.
-#[derive(Clone, Copy, Debug)]
+#[derive(Clone, Copy, Debug, PartialEq, Eq)]
 pub struct Place(Column);
 
 impl fmt::Display for Place {
@@ -31,11 +31,13 @@ impl fmt::Display for Place {
 /// Why a run ends without its answer. Its text is the line that the command prints.
 #[derive(Debug, Drop, Error)]
 pub enum Failure<'a> {
+    /// A section or a block is refused, or a normal form passes its cap.
     #[error("refused: {} at {:#x}", .0.code.name(), .0.at)]
     Refused(Refusal),
     /// What is wrong with one of two sections, and with which.
     #[error("refused: {} at {:#x} in {}", .0.code.name(), .0.at, .1)]
     RefusedIn(Refusal, &'static str),
+    /// A dump is refused.
     #[error("refused: {} at line {}", .0.code.name(), .0.line)]
     Dump(DumpFault),
     /// What an expression ends with, and the operation's index.
@@ -47,16 +49,22 @@ pub enum Failure<'a> {
     /// What is wrong in a column.
     #[error("fault: {0} in {1}")]
     Column(&'static str, Place),
+    /// No FDE covers the dump's pc.
     #[error("fault: NoFde")]
     NoFde,
+    /// The dump gives no pc.
     #[error("fault: NoPc")]
     NoCounter,
+    /// The value of an option or operand, by its name, is none that it may have.
     #[error("bad value for {0}")]
     BadValue(&'static str),
+    /// The file of this path cannot be read.
     #[error("cannot read {0}")]
     CannotRead(&'a str),
+    /// The output failed.
     #[error("cannot write")]
     CannotWrite,
+    /// A request for memory was refused.
     #[error("out of memory")]
     OutOfMemory,
     /// What is wrong with the words: a text of several lines, which ends the last of them.

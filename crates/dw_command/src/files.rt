@@ -5,6 +5,8 @@ ghost use Rattle.std.specs.IoError.{error_kind};
 ghost use Rattle.dw_command.specs.declared.files.LoadError.{LoadError as TheLoadError};
 
 use std::alloc::Global;
+use std::error::Error;
+use std::fmt;
 use std::fs::File;
 use std::io::{self, ErrorKind, Read};
 use std::rt::Files;
@@ -15,9 +17,22 @@ pub const LIMIT: u64 = 2_147_483_647;
 /// Why a file has no bytes.
 #[derive(Clone, Copy, Debug, PartialEq, Eq)]
 pub enum LoadError {
+    /// The file cannot be opened or read.
     CannotRead,
+    /// A request for memory was refused.
     OutOfMemory,
 }
+
+impl fmt::Display for LoadError {
+    fn fmt<W: fmt::Write>(&self, f: &mut fmt::Formatter<W>) -> fmt::Result {
+        match self {
+            LoadError::CannotRead => write!(f, "the file cannot be read"),
+            LoadError::OutOfMemory => write!(f, "out of memory"),
+        }
+    }
+}
+
+impl Error for LoadError {}
 
 /// Files by their paths.
 pub trait Load {
@@ -27,7 +42,8 @@ pub trait Load {
     ghost gives: { Self → List ℕ → Result (List ℕ) LoadError → Type 0 } = { λ _ _ _. ⊤ };
 
     /// All bytes of the file, or its first 2,147,483,648 where it has more. So a section that is too long is told by
-    /// its length, whatever else the file holds.
+    /// its length, whatever else the file holds. `CannotRead` is answered where the file cannot be opened or read, and
+    /// `OutOfMemory` where a request for memory was refused.
     fn load(&mut self, path: &str) -> Result<Vec<u8>, LoadError>
         ensures gives { MatchResult result (λ bytes. gives self.old path.now (Ok bytes.items)) (λ e. gives self.old path.now (Err e)) }
         // What it finds in a file it might have found before.
@@ -89,6 +105,7 @@ pub struct Disk<'a, R: Files + AllocGlobal> {
 }
 
 impl<'a, R: Files + AllocGlobal> Disk<'a, R> {
+    /// The files of the system that `rt` leads to. Takes no memory.
     pub fn new(rt: &'a R) -> Disk<'a, R>
         ensures { result.rt.now ≡ rt.now }
     {

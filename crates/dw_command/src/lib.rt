@@ -24,8 +24,8 @@ mod texts;
 mod unwind;
 
 pub use command::engine;
-pub use failure::Failure;
+pub use failure::{Failure, Place};
 pub use files::{Disk, Load, LoadError};
 pub use hints::Hinted;
-pub use listing::Listing;
+pub use listing::{Listing, OutputFault};
 pub use terminal::Shown;

@@ -9,6 +9,8 @@ ghost use Rattle.dw_command.specs.declared.listing.TheConstants.{PIECE, ROOM};
 use crate::failure::Failure;
 use dw_normal::{Sink, SinkFault};
 use itoa::Buffer;
+use std::error::Error;
+use std::fmt;
 use std::io::Write;
 
 // How many bytes the output gets at once, or fewer.
@@ -30,8 +32,16 @@ const PAIRS: &[u8; 200] = b"00010203040506070809\
 90919293949596979899";
 
 /// The output failed.
-#[derive(Clone, Copy, Debug)]
+#[derive(Clone, Copy, Debug, PartialEq, Eq)]
 pub struct OutputFault;
+
+impl fmt::Display for OutputFault {
+    fn fmt<W: fmt::Write>(&self, f: &mut fmt::Formatter<W>) -> fmt::Result {
+        write!(f, "the output failed")
+    }
+}
+
+impl Error for OutputFault {}
 
 impl From<OutputFault> for Failure<'_> {
     ghost from_gives = { λ _ e. e ≡ CannotWrite };
@@ -119,7 +129,7 @@ impl<W: Write> Listing<W> {
         Ok(())
     }
 
-    /// Writes out what is left.
+    /// Writes out what is left, and flushes the output.
     pub fn finish(&mut self) -> Result<(), OutputFault>
         requires room { self.old.failures < 2 ^ 64 - 1 }
         ensures told { Told self.old.failures self.new.failures result }
@@ -137,7 +147,7 @@ impl<W: Write> Listing<W> {
         Ok(())
     }
 
-    /// These bytes.
+    /// These bytes, at most as many as are left of the room that `make_room` made.
     #[inline(always)]
     pub fn text(&mut self, text: &[u8])
         requires { self.old.len + length text.now ≤ ROOM }
@@ -175,7 +185,7 @@ impl<W: Write> Listing<W> {
         self.text(&[PAIRS[2 * number], PAIRS[2 * number + 1]]);
     }
 
-    /// A number in decimal digits.
+    /// A number in decimal digits. Takes up to 40 bytes of room, which must be left.
     #[inline(always)]
     pub fn decimal(&mut self, number: u64)
         requires { self.old.len + 40 ≤ ROOM }
@@ -204,7 +214,7 @@ impl<W: Write> Listing<W> {
         self.text(digits.format(number).as_bytes());
     }
 
-    /// An offset with its sign.
+    /// An offset with its sign. Takes up to 41 bytes of room, which must be left.
     #[inline(always)]
     pub fn offset(&mut self, offset: i64)
         requires { self.old.len + 41 ≤ ROOM }
@@ -226,7 +236,7 @@ impl<W: Write> Listing<W> {
         self.len -= zeros as usize;
     }
 
-    /// A number in hexadecimal digits, without leading zeros.
+    /// A number in hexadecimal digits, without leading zeros. Takes up to 16 bytes of room, which must be left.
     pub fn hex(&mut self, number: u64)
         requires { self.old.len + 16 ≤ ROOM }
         ensures len { self.new.len ≤ self.old.len + 16 }
@@ -242,7 +252,8 @@ impl<W: Write> Listing<W> {
         }
     }
 
-    /// An address or the end of a range, of up to 2 ^ 64, in hexadecimal digits, without leading zeros.
+    /// An address or the end of a range, of up to 2 ^ 64, in hexadecimal digits, without leading zeros. Takes up to 17 bytes of
+    /// room, which must be left.
     #[inline(always)]
     pub fn address(&mut self, address: u128)
         requires { self.old.len + 17 ≤ ROOM }

@@ -86,7 +86,8 @@ impl fmt::Display for Kind {
 /// Why an evaluation has no answer.
 #[derive(Clone, Copy, Debug, PartialEq, Eq)]
 pub enum EvalError {
-    /// A fault, and the index of the operation that it comes from, or the list's length for a fault at the end.
+    /// A fault. `kind` is what is wrong; `index` is that of the operation which it comes from, counted from 0, or the list's
+    /// length for a fault at the end.
     Fault { kind: Kind, index: usize },
     /// A request for memory was refused.
     OutOfMemory,

@@ -27,7 +27,7 @@ pub enum Part {
     Whole,
     /// The next bytes, so many: `DW_OP_piece`.
     Bytes(u64),
-    /// The next bits, so many, which begin so many bits into the place: `DW_OP_bit_piece`.
+    /// The next bits, `size` of them, which begin `offset` bits into the place: `DW_OP_bit_piece`.
     Bits { size: u64, offset: u64 },
 }
 

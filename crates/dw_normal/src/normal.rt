@@ -25,7 +25,10 @@ use std::alloc::Global;
 // The most bytes that a section has.
 const LIMIT: u64 = 2_147_483_647;
 
-/// The normal form of a section, of at most `cap` bytes.
+/// The normal form of a section, of at most `cap` bytes, where `cap` is at most 2,147,483,647.
+///
+/// A refusal is the section's first fault, as `dw_section::check` has it, else `NormalTooLong` at 0 where the normal form has
+/// more than `cap` bytes. `OutOfMemory` is answered where a request for memory was refused.
 pub fn normalise(
     alloc: Global,
     bytes: &[u8],
@@ -50,7 +53,8 @@ pub fn normalise(
     }
 }
 
-/// How many bytes the normal form of a section has, of at most `cap`.
+/// How many bytes the normal form of a section has, of at most `cap`, where `cap` is at most 2,147,483,647. Errors are those of
+/// `normalise`.
 pub fn normal_length(
     alloc: Global,
     bytes: &[u8],
@@ -101,7 +105,11 @@ fn put_is(put: Result<u64, PutError>) -> Result<u64, WriteError>
 }
 
 /// Writes the normal form of a section, of at most `cap` bytes, to a sink, and answers how many bytes were written. Each refusal
-/// comes before the first byte.
+/// comes before the first byte. `cap` is at most 2,147,483,647.
+///
+/// `Refused` has the refusals of `normalise`. `Write` is answered where the sink failed, and `Memory` where a request for memory
+/// was refused. Both say how many bytes the sink took before, 0 or more: a beginning of the normal form. Want of memory before
+/// the section is known to have a normal form within the cap is `Memory` behind 0 bytes.
 pub fn normalise_to<S: Sink>(
     alloc: Global,
     bytes: &[u8],
@@ -162,8 +170,12 @@ fn same_as_itself(alloc: Global, table: Table<'_>) -> Result<bool, SameError>
     }
 }
 
-/// Whether two sections say the same: the same nonempty FDEs with the same return registers, and the same rules at each address that
-/// they cover.
+/// Whether two sections say the same: the same nonempty FDEs with the same return registers, and the same rules at each address
+/// that they cover.
+///
+/// `Refused` has the first fault, as `dw_section::check` has it, and says whose it is: the first section's comes before the
+/// second's. Where neither has one, a section whose normal form has more than 2,147,483,647 bytes is refused too, with
+/// `NormalTooLong` at 0, again the first one before the second. `OutOfMemory` is answered where a request for memory was refused.
 pub fn same(alloc: Global, first: &[u8], second: &[u8], target: Target) -> Result<bool, SameError>
     ensures found { IfOk result (λ b. Accepted target first.now × Accepted target second.now × Decides b (SameMeaning target first.now second.now)) }
     // Where a normal form has more than 2,147,483,647 bytes there is no answer.

@@ -6,7 +6,7 @@ ghost use Rattle.dw_num.specs.Codes.{number_of, name_of};
 use std::error::Error;
 use std::fmt;
 
-/// What is wrong. Fields are named as in 6.4.1, instructions as in 6.4.2.
+/// What is wrong. Fields are named as in 6.4.1, instructions as in 6.4.2. N is the number of bits of an address.
 #[derive(Clone, Copy, Debug, PartialEq, Eq)]
 pub enum Code {
     /// A field runs out of its container; the place is the field's first byte.
@@ -19,9 +19,9 @@ pub enum Code {
     BadVersion,
     /// A CIE's `augmentation` is not empty; the place is the string.
     Augmentation,
-    /// A CIE's `address_size` is not the target's; the place is its byte.
+    /// The `address_size` of a CIE of version 4 is not the target's; the place is its byte.
     AddressSize,
-    /// A CIE's `segment_selector_size` is not 0; the place is its byte.
+    /// The `segment_selector_size` of a CIE of version 4 is not 0; the place is its byte.
     SegmentSelector,
     /// A LEB128 number ends but does not fit 64 bits; the place is its first byte (7.6).
     NumberTooLarge,
@@ -29,16 +29,17 @@ pub enum Code {
     RegisterTooLarge,
     /// A `CIE_pointer` names no CIE; the place is the pointer.
     NoSuchCie,
-    /// `initial_location` plus `address_range` passes the address space; the place is the range.
+    /// `initial_location` plus `address_range` is above 2^N, which itself is no fault; the place is the range.
     RangeTooLarge,
-    /// An opcode that is no call frame instruction's; the place is the opcode (7.24).
+    /// An opcode of no call frame instruction (7.24), or of a vendor's, from `DW_CFA_lo_user` to `DW_CFA_hi_user`; the place
+    /// is the opcode.
     UnknownInstruction,
-    /// An instruction that `initial_instructions` may not hold: an advance, `DW_CFA_set_loc`, `DW_CFA_restore`, `DW_CFA_restore_extended`,
-    /// `DW_CFA_remember_state` or `DW_CFA_restore_state`; the place is its opcode.
+    /// An instruction that `initial_instructions` may not hold: an advance, `DW_CFA_set_loc`, `DW_CFA_restore`,
+    /// `DW_CFA_restore_extended`, `DW_CFA_remember_state` or `DW_CFA_restore_state`; the place is its opcode.
     NotInCie,
     /// A `DW_CFA_set_loc` below the current location; the place is its opcode.
     LocationBackwards,
-    /// A location above the address space, by `DW_CFA_advance_loc` or the like; the place is the opcode.
+    /// A location above 2^N, which itself is no fault, by `DW_CFA_advance_loc` or the like; the place is the opcode.
     LocationTooLarge,
     /// A `DW_CFA_restore_state` with no remembered state; the place is its opcode.
     EmptyStateStack,
@@ -49,17 +50,20 @@ pub enum Code {
     CfaNotRegister,
     /// An offset outside -(2^63-1) to 2^63-1; the place is the instruction's opcode.
     OffsetTooLarge,
-    /// An opcode that is no operation's; the place is the opcode (7.7.1).
+    /// An opcode of no operation (7.7.1), or of one that is not read: `DW_OP_xderef`, `DW_OP_xderef_size`, `DW_OP_call2`,
+    /// `DW_OP_call4`, `DW_OP_call_ref`, `DW_OP_form_tls_address`, `DW_OP_implicit_pointer`, `DW_OP_addrx`, `DW_OP_constx`,
+    /// `DW_OP_entry_value`, `DW_OP_const_type`, `DW_OP_regval_type`, `DW_OP_deref_type`, `DW_OP_xderef_type`,
+    /// `DW_OP_convert`, `DW_OP_reinterpret`, and those from `DW_OP_lo_user` to `DW_OP_hi_user`; the place is the opcode.
     UnknownOperation,
-    /// An operation that call frame expressions may not hold; the place is its opcode (6.4.2).
+    /// An operation that call frame expressions may not hold (6.4.2), see `Profile::Frame` of `dw_op`; the place is its opcode.
     NotInFrame,
-    /// A `DW_OP_bra` or `DW_OP_skip` that leads to no operation of its block (2.5.1.5); the place is its opcode.
+    /// A `DW_OP_bra` or `DW_OP_skip` that leads to no operation of its block, nor to its end (2.5.1.5); the place is its opcode.
     BadBranch,
     /// A `DW_OP_deref_size` of 0 or above the address size (2.5.1.3); the place is its operand.
     BadDerefSize,
     /// An FDE has a covered address without a CFA rule; the place is the FDE.
     NoCfaRule,
-    /// Two FDEs cover one address; the place is the later FDE.
+    /// Two FDEs cover one address; the place is the second of the two, in the order of `initial_location` and then of place.
     Overlap,
     /// A section above 2,147,483,647 bytes; the place is 0.
     SectionTooLarge,

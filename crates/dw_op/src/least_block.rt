@@ -21,7 +21,7 @@ use std::fmt;
 /// Why a list of operations is not encoded.
 #[derive(Clone, Copy, Debug, PartialEq, Eq)]
 pub enum EncodeError {
-    /// The displacement of a branch, the operation at this index, does not fit 16 signed bits.
+    /// The displacement of a branch does not fit 16 signed bits. `index` is the branch's in the list, counted from 0.
     BranchTooFar { index: usize },
     /// Memory ran out.
     OutOfMemory,

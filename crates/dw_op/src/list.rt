@@ -37,6 +37,7 @@ impl<'a> Model for OpList<'a> {
 /// The first operation of a list that is out of range.
 #[derive(Clone, Copy, Debug, PartialEq, Eq)]
 pub struct BadOperand {
+    /// Its index in the list, counted from 0.
     pub index: usize,
 }
 

@@ -8,7 +8,7 @@ use Rattle.dw_section.specs.Headers.{CieHead}
 use Rattle.dw_section.specs.Meaning.{Says}
 use Rattle.dw_section.specs.Programs.{Begins}
 
--- an FDE has the initial instructions of the CIE at this place, and its own move the location first: so at its begin the rules
+-- an FDE has the initial instructions of the CIE at this place, and its own advance the location first: so at its begin the rules
 -- are those that the CIE's program leaves
 pub record OpensBehind (target : Target) (s : List ℕ) (f : Fde) (place : ℕ) : Type 0 where
   pub initial : List Instr

@@ -186,7 +186,7 @@ impl<'a> Changes<'a> {
     }
 
     /// Goes on to the next change, whose row `row` lends then, and answers its address, or none behind the last one. Want
-    /// of memory is answered from then on.
+    /// of memory is answered from then on. An address is below the FDE's end, so below 2^N, where an address has N bits.
     #[inline(always)]
     pub fn advance(&mut self) -> Result<Option<u128>, AllocError>
         ensures gives { GivesAddress self.old result self.new }

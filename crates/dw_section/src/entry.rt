@@ -24,10 +24,10 @@ ghost use Rattle.dw_section.specs.declared.entry.Entry.{Entry};
 use dw_num::{Code, Cursor, Form, Program, ReadError, Refusal, Target};
 use std::alloc::Global;
 
-/// What an entry is.
+/// What an entry is (6.4.1).
 #[derive(Clone, Copy, Debug, PartialEq, Eq)]
 pub enum Kind {
-    /// A common information entry: its first field, `CIE_id`, is all ones.
+    /// A common information entry: its first field, `CIE_id`, is 0xffffffff, or 0xffffffffffffffff in the 64-bit form (7.24).
     Cie,
     /// A frame description entry: its first field, `CIE_pointer`, names a CIE.
     Fde,

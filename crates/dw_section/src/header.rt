@@ -37,6 +37,7 @@ pub enum Header<'a> {
     Cie {
         /// The place of its `length`.
         at: u64,
+        /// Whether its `length` is of the 32-bit or the 64-bit form (7.4).
         form: Form,
         /// `code_alignment_factor`.
         code_factor: u64,
@@ -51,6 +52,7 @@ pub enum Header<'a> {
     Fde {
         /// The place of its `length`.
         at: u64,
+        /// Whether its `length` is of the 32-bit or the 64-bit form (7.4).
         form: Form,
         /// `CIE_pointer`: the place of the CIE in the section.
         cie_at: u64,

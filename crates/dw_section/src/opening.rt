@@ -26,8 +26,8 @@ pub struct Opening {
     pub own: usize,
     /// How many bytes the program of its CIE has.
     pub initial: usize,
-    /// The place of its CIE, where the first instruction of its own program that is not `DW_CFA_nop` moves the location on, or it
-    /// has none: then the rules at its begin are those that the CIE's program leaves.
+    /// The place of its CIE, where the first instruction of its own program that is not `DW_CFA_nop` advances the location by
+    /// more than 0, or it has none: then the rules at its begin are those that the CIE's program leaves.
     pub cie_at: Option<u64>,
 }
 

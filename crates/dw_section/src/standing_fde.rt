@@ -213,7 +213,8 @@ fn entry_at(index: &[Ranged], address: u64) -> Option<Ranged>
 pub enum LookUpError {
     /// The index is not the one of these bytes: no FDE that covers the address stands where it says.
     BadIndex,
-    /// What stands there is refused.
+    /// What stands there is refused: a fault of the entry, of its CIE, or of their programs up to the row. Or there are more than
+    /// 2,147,483,647 bytes: `SectionTooLarge` at 0.
     Refused(Refusal),
     /// A request for memory was refused.
     OutOfMemory,
@@ -371,6 +372,11 @@ fn row_of<'a>(
 /// that this names, are read and judged anew, up to the row. So bytes and index need not belong together: where they do not,
 /// the answer is that of the FDE that stands at the place, or an error. Takes memory for registers above 31, expressions and
 /// remembered rows alone.
+///
+/// `BadIndex` says that no FDE that covers the address stands at the place. `Refused` has a fault of the entry there, of its CIE,
+/// or of their programs up to the row, or `SectionTooLarge` at 0 where there are more than 2,147,483,647 bytes. `OutOfMemory` is
+/// answered where a request for memory was refused. Unless the index is that of an accepted section, the CFA's rule in the row
+/// may be `Unset`.
 #[inline(always)]
 pub fn look_up<'a>(
     bytes: &'a [u8],

@@ -52,7 +52,9 @@ impl fmt::Display for DumpCode {
 /// A fault, and the line that it is found at, counted from 1.
 #[derive(Clone, Copy, Debug, PartialEq, Eq)]
 pub struct DumpFault {
+    /// What is wrong.
     pub code: DumpCode,
+    /// The line, counted from 1.
     pub line: u64,
 }
 

@@ -92,20 +92,26 @@ pub enum UnwindError {
     NoFde,
     /// An expression has no value: its fault, and the operation's index.
     Eval {
+        /// What is wrong.
         kind: Kind,
+        /// The index of the operation that it comes from, counted from 0, or how many there are for a fault at the end.
         index: usize,
+        /// The column whose rule has the expression.
         column: Column,
     },
     /// A byte of a saved register is missing, or its bytes pass 2^N.
     Unreadable {
+        /// The column of the saved register.
         column: Column,
     },
     /// The memory's device failed while a saved register was read.
     Device {
+        /// The column of the saved register.
         column: Column,
     },
     /// A register that is asked for holds nothing.
     NoRegister {
+        /// The column whose rule asks for it.
         column: Column,
     },
     /// A request for memory was refused.

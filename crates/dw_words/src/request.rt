@@ -12,6 +12,7 @@ use std::fmt;
 
 /// What is asked for.
 pub enum Request<'a> {
+    /// A subcommand is to be run.
     Run(Job<'a>),
     /// A text: of help, or the version.
     Help(clap::Error),
@@ -19,34 +20,54 @@ pub enum Request<'a> {
 
 /// A run.
 pub struct Job<'a> {
+    /// What `--size` and `--order` say.
     pub target: Target,
+    /// The subcommand with its values.
     pub task: Task<'a>,
 }
 
 /// A subcommand.
 #[derive(Clone, Copy, Debug, PartialEq, Eq)]
 pub enum Name {
+    /// `dwframe check`.
     Check,
+    /// `dwframe cost`.
     Cost,
+    /// `dwframe entries`.
     Entries,
+    /// `dwframe eval`.
     Eval,
+    /// `dwframe expr`.
     Expr,
+    /// `dwframe normal`.
     Normal,
+    /// `dwframe rows`.
     Rows,
+    /// `dwframe same`.
     Same,
+    /// `dwframe unwind`.
     Unwind,
 }
 
 /// A subcommand with its own options and operands. Files are named by their paths.
 pub enum Task<'a> {
+    /// `dwframe check`: the path of the section.
     Check { path: &'a str },
+    /// `dwframe cost`: the path of the section.
     Cost { path: &'a str },
+    /// `dwframe entries`: the path of the section.
     Entries { path: &'a str },
+    /// `dwframe eval`: the expression, and what it is evaluated over.
     Eval(Evaluation<'a>),
+    /// `dwframe expr`: `Frame` where `--frame` is given and else `Location`, and the bytes of `HEX`.
     Expr { profile: Profile, block: Vec<u8> },
+    /// `dwframe normal`: the path of the section, and the most bytes of the normal form.
     Normal(Writing<'a>),
+    /// `dwframe rows`: the path of the section.
     Rows { path: &'a str },
+    /// `dwframe same`: the paths of the first section and of the second.
     Same { path: &'a str, other: &'a str },
+    /// `dwframe unwind`: the paths of the section and of the dump, with `--default` and `--steps`.
     Unwind(Unwinding<'a>),
 }
 
@@ -57,14 +78,18 @@ pub struct Evaluation<'a> {
     pub steps: u64,
     /// What is on the stack at the start, an address of the target.
     pub start: Option<u64>,
+    /// The bytes of `HEX`.
     pub block: Vec<u8>,
+    /// The path of the dump, where one is named.
     pub dump: Option<&'a str>,
 }
 
 /// A section, and the most bytes that its normal form may have.
 #[derive(Drop)]
 pub struct Writing<'a> {
+    /// `--cap`, in bytes, at most 2,147,483,647.
     pub cap: u64,
+    /// The path of the section.
     pub path: &'a str,
     ghost capped: { cap ≤ 2147483647 },
 }
@@ -73,9 +98,13 @@ pub struct Writing<'a> {
 /// expression executes.
 #[derive(Drop)]
 pub struct Unwinding<'a> {
+    /// `--default`.
     pub default: Policy,
+    /// `--steps`.
     pub steps: u64,
+    /// The path of the section.
     pub path: &'a str,
+    /// The path of the dump.
     pub dump: &'a str,
 }
 
@@ -86,6 +115,7 @@ pub enum PlanError {
     BadValue(&'static str),
     /// The words are none of the command's.
     Words(clap::Error),
+    /// A request for memory was refused.
     OutOfMemory,
 }
 
