@@ -110,6 +110,29 @@ def rows_of_expressions(scale):
     return CIE + fde(b"".join(registers + changes))
 
 
+def rows_that_stay(scale):
+    """A register, and then 100,000 rows that set it to the rule that it has."""
+    return CIE + fde(offset(3, 1) + (b"\x41" + offset(3, 1)) * scale(100_000), length=0x40000)
+
+
+def advances(scale):
+    """600,000 advances."""
+    return CIE + fde(b"\x41" * scale(600_000), length=0x100000)
+
+
+def remembered_states(scale):
+    """63 remembered states, and 20,000 pairs of remember_state and restore_state behind them."""
+    states = [offset(100 + i, 1) + b"\x0a" for i in range(63)]
+    return CIE + fde(b"".join(states) + b"\x0a\x0b" * scale(20_000))
+
+
+def wide_cie(scale):
+    """A CIE of 5,000 registers, and 5,000 FDEs without instructions."""
+    registers = b"".join(offset(register, 1) for register in range(100, 100 + scale(5_000)))
+    fdes = [fde(b"", 0x1000 + 16 * i, 16) for i in range(scale(5_000))]
+    return WRITER.cie(registers) + b"".join(fdes)
+
+
 BOMBS = [
     remember,
     long_cie,
@@ -124,6 +147,10 @@ BOMBS = [
     near_branches,
     forward_branches,
     rows_of_expressions,
+    rows_that_stay,
+    advances,
+    remembered_states,
+    wide_cie,
 ]
 
 
