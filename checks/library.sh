@@ -30,6 +30,7 @@ built sanitized gcc -fsanitize=address,undefined
 if command -v clang >/dev/null; then built clang clang; else echo "library by clang: left out"; fi
 if command -v cargo >/dev/null; then
     (cd "$root/bindings/rust" && cargo build --quiet --offline --release --examples --target-dir "$folder/target")
+    (cd "$root/bindings/rust" && cargo test --quiet --offline --test answers --target-dir "$folder/target" >"$folder/tested") || { cat "$folder/tested"; exit 1; }
     for example in library frames lookup; do cp "target/release/examples/$example" "$example-rust"; done
     names+=(rust)
 else

@@ -417,7 +417,7 @@ pub fn row_of(alloc: Global, cie: &[u8]) -> Result<Row<'_>, Fail> {
 pub fn are_alike(alloc: Global, one: &[u8], other: &[u8]) -> Result<bool, Fail> {
     let row = row_of(alloc, one)?;
     let mut copy = Row::blank(alloc);
-    copy.become_copy(&row.copied()?)?;
+    copy.become_copy(&row.clone()?)?;
     if !copy.is_same(&row) {
         return Err(Fail::new("a copy differs"));
     }
@@ -442,4 +442,26 @@ fn copies_and_compares_rows(rt: HostRuntime) -> Result<(), Fail> {
         );
     }
     Ok(())
+}
+
+// A clone of a row that was given, and what `{:?}` shows of it.
+fn cloned(alloc: Global, pair: Pair<'_>) -> Result<String, Fail> {
+    let Pair { cie, fde, .. } = pair;
+    let rows = run(alloc, cie, fde, pair.begin, pair.factors, pair.target)?;
+    let Some(row) = rows.last() else {
+        return Err(Fail::new("no row"));
+    };
+    let row = row.clone()?;
+    let text = located_text(alloc, row.location, &row.row)?;
+    Ok(format!(in alloc; "{text} {row:?}")?)
+}
+
+#[test]
+fn clones_a_row_with_its_location(rt: HostRuntime) -> Result<(), Fail> {
+    let pair = pair_of(CIE, b"\x41\x0e\x10", 0x1000, PLAIN, LITTLE)?;
+    compare(
+        "the clone",
+        cloned(rt.alloc(), pair)?.as_str(),
+        "0x1001 cfa=r7+16 r16=[cfa-8]; LocatedRow { location: 4097, row: Row { cfa: Register { register: 7, offset: 16 }, registers: { 16: Offset(-8), } } }",
+    )
 }

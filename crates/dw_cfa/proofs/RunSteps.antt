@@ -1,5 +1,5 @@
 -- One instruction of a program, in the rows still to come.
-use Rattle.std.proofs.Common.{◌≡◌, ℕ, ◌<◌, List, [], length, Option, None, Some, Result, Ok, Err, IsOk, refl, sym, ap, ◌∙◌, subst}
+use Rattle.std.proofs.Common.{◌≡◌, ℕ, ◌<◌, ◌≤◌, List, [], length, Option, None, Some, Result, Ok, Err, IsOk, refl, sym, ap, ◌∙◌, subst}
 use Rattle.std.specs.Prelude.{IsTrue}
 use Rattle.dw_num.specs.declared.refusal.Code.{Code}
 use Rattle.dw_num.specs.declared.refusal.Refusal.{Refusal}
@@ -17,12 +17,13 @@ use Rattle.dw_cfa.specs.Location.{moves_location}
 use Rattle.dw_cfa.specs.Inner.FrontInstr.{instr_at}
 use Rattle.dw_cfa.specs.Rows.{Rules, blank}
 use Rattle.dw_cfa.specs.declared.rule.RegRule.{RegRule}
-use Rattle.dw_cfa.specs.Inner.RowSteps.{begun_rows}
+use Rattle.dw_cfa.specs.Inner.RowSteps.{begun_rows, begun_stop}
 use Rattle.dw_cfa.specs.Inner.Machine.{State, begun, written, after, cie_fault, fde_fault}
 use Rattle.dw_cfa.specs.Inner.States.{Held, BeganWith}
 use Rattle.dw_cfa.specs.Inner.Steps.{state_of, IsAfter}
-use Rattle.dw_cfa.specs.Inner.Runs.{Placing, placed, cie_run, initial_row, on_initial, here, row_if, fault_or, fde_rows, rows_left, rows_behind, run_rows, RunsSo, RanTo, WroteTo}
+use Rattle.dw_cfa.specs.Inner.Runs.{Placing, placed, cie_run, initial_row, on_initial, here, row_if, fault_or, fde_rows, fde_stop, rows_left, rows_behind, run_rows, run_stop, stop_left, stop_or, RunsSo, RanTo, WroteTo}
 use Rattle.dw_cfa.specs.Runs.{Outcome, fails, finished, row_then}
+use Rattle.dw_cfa.proofs.Lent.RowsAt.{stays}
 use Rattle.dw_cfa.proofs.Placings.{reads, placed_end, placed_step, placed_stuck}
 
 rows_of : ℕ → Rules → Placing → State → Outcome
@@ -41,6 +42,10 @@ module _ (f : Factors) (i : Input) (m : Machine) (x : Instr × Input) (h : AreBy
   unfolding rows_left fde_rows
   rows_then = rw (placed_step f i x h some e) refl
 
+  stop_then : stop_left f i m ≡ stop_or (fde_fault m.limit x.0 (state_of m)) m.location (fde_stop m.limit m.initial (placed f x.1).items (after m.initial x.0 (state_of m)))
+  unfolding stop_left fde_stop
+  stop_then = rw (placed_step f i x h some e) refl
+
   pub rows_fault : (code : Code) → fde_fault m.limit x.0 (state_of m) ≡ Some code → rows_left f i m ≡ fails (record { code = code; at = i.at })
   rows_fault code is = rw (rows_then, is) refl
 
@@ -50,7 +55,7 @@ module _ (f : Factors) (i : Input) (m : Machine) (x : Instr × Input) (h : AreBy
   same_row i s t is moves = absurd cc
 
   pub rows_ran : (m' : Machine) → RunsSo m i → IsAfter m x.0 m' → RanTo f i m (moves_location x.0) x.1 m'
-  unfolding rows_left
+  unfolding rows_left stop_left
   rows_ran m' so behind =
       let read = reads f i x h e in
       record {
@@ -58,6 +63,8 @@ module _ (f : Factors) (i : Input) (m : Machine) (x : Instr × Input) (h : AreBy
         shorter = read.shorter;
         rows = rows_then ∙ rw (behind.allowed, behind.limit, behind.initial, behind.state) refl;
         same_row = same_row x.0 m m' behind.state;
+        same_location = λ no. ap (λ (s : State). s.location) behind.state ∙ stays m.initial x.0 (state_of m) no;
+        stop = stop_then ∙ rw (behind.allowed, behind.limit, behind.initial, behind.state) refl;
       }
 
 -- ---- a CIE's program
@@ -88,6 +95,11 @@ pub begun_is_run : (f : Factors) (cie fde cie' fde' : Input) (m : Machine) (begi
     → m.limit ≡ address_limit fde'.target.size → begun_rows f cie fde m ≡ run_rows f cie' fde' begin
 unfolding begun_rows run_rows
 begun_is_run f cie fde cie' fde' m begin a b i l n = rw (a, b, i, l, n) refl
+
+pub begun_stops_run : (f : Factors) (cie fde cie' fde' : Input) (m : Machine) (begin : ℕ) → cie ≡ cie' → fde ≡ fde' → m.states.row ≡ blank → m.location ≡ begin
+    → m.limit ≡ address_limit fde'.target.size → begun_stop f cie fde m ≡ run_stop f cie' fde' begin
+unfolding begun_stop run_stop
+begun_stops_run f cie fde cie' fde' m begin a b i l n = rw (a, b, i, l, n) refl
 
 -- what is run to the end is read
 abbrev ReadsHere : Factors → Input → Type 0
@@ -134,6 +146,16 @@ pub begun_ran : (f : Factors) (cie fde : Input) (m : Machine) (initial : Rules) 
     → rows_left f fde (record { initial = initial; states = states; location = m.location; limit = m.limit }) ≡ begun_rows f cie fde m
 unfolding begun_rows rows_left
 begun_ran f cie fde m initial states is same none = rw (is, same, none) refl
+
+pub begun_stops : (f : Factors) (cie fde : Input) (m : Machine) (initial : Rules) (states : Held) → initial_row (placed f cie) m.states.row ≡ Ok states.row → initial ≡ states.row → states.stack ≡ []
+    → stop_left f fde (record { initial = initial; states = states; location = m.location; limit = m.limit }) ≡ begun_stop f cie fde m
+unfolding begun_stop stop_left
+begun_stops f cie fde m initial states is same none = rw (is, same, none) refl
+
+pub begun_stays : (f : Factors) (cie fde : Input) (m : Machine) (a : ℕ) (e : ReadError) → m.location ≤ a → Refuses (λ r. initial_row (placed f cie) m.states.row ≡ Err r) e → Refuses (λ r. begun_stop f cie fde m ≤ a) e
+unfolding begun_stop
+begun_stays f cie fde m a (Refused r) le is = rw is le
+begun_stays f cie fde m a OutOfMemory le is = tt
 
 pub started : (f : Factors) (fde fde' : Input) (m : Machine) (initial : Rules) (begin : ℕ) → fde ≡ fde' → m.initial ≡ initial → m.states.row ≡ initial → m.states.stack ≡ [] → m.location ≡ begin
     → m.limit ≡ address_limit fde'.target.size → rows_left f fde m ≡ rows_behind f initial fde' begin

@@ -1,6 +1,6 @@
 -- The first fault of two programs: DWARF 5, 6.4.2 and 6.4.3. The CIE's program is judged first, each from its front: the
 -- longest beginning of instructions that keep the rules, and the fault of what follows it.
-use Rattle.std.specs.Prelude.{◌≡◌, ◌⊎◌, ℕ, ◌+◌, ◌<◌, List, ◌++◌, length, IsTrue, not}
+use Rattle.std.specs.Prelude.{◌≡◌, ◌⊎◌, ℕ, ◌+◌, ◌<◌, ◌≤◌, List, ◌++◌, length, IsTrue, not}
 use Rattle.dw_num.specs.declared.refusal.Code.{Code}
 use Rattle.dw_num.specs.declared.refusal.Code.TheVariants.{NotInCie, LocationBackwards, LocationTooLarge, EmptyStateStack, StateStackFull, CfaNotRegister}
 use Rattle.dw_num.specs.declared.refusal.Refusal.{Refusal}
@@ -66,3 +66,16 @@ FdeFault f initial fde begin r = (instrs : List Instr) × FdeFaultBehind f initi
 abbrev pub RunFault : Factors → Input → Input → ℕ → Refusal → Type 0
 RunFault f cie fde begin r =
     CieFault f cie r ⊎ ((instrs : List Instr) × Program cie.target f instrs cie.bytes × CieKept instrs × FdeFault f (initial_cfa instrs) fde begin r)
+
+-- the first fault of an FDE's program where it comes up to an address: behind instructions that lead to no location above it
+abbrev pub FdeFaultUpTo : Factors → CfaRule → Input → ℕ → ℕ → Refusal → Type 0
+FdeFaultUpTo f initial fde begin a r = (instrs : List Instr) × FdeFaultBehind f initial fde begin instrs r × (location begin instrs (length instrs) ≤ a)
+
+-- the first fault of both where it comes up to an address, as that of the CIE's program does to any
+abbrev pub FaultUpTo : Factors → Input → Input → ℕ → ℕ → Refusal → Type 0
+FaultUpTo f cie fde begin a r =
+    CieFault f cie r ⊎ ((instrs : List Instr) × Program cie.target f instrs cie.bytes × CieKept instrs × FdeFaultUpTo f (initial_cfa instrs) fde begin a r)
+
+-- no fault of both comes up to an address
+abbrev pub NoFaultUpTo : Factors → Input → Input → ℕ → ℕ → Type 0
+NoFaultUpTo f cie fde begin a = (r : Refusal) → FaultUpTo f cie fde begin a r → ⊥

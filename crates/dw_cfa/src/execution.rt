@@ -4,7 +4,7 @@ ghost use Rattle.std.specs.Prelude.{◌≡◌, ◌<◌, ◌≤◌, ℕ, None, So
 ghost use Rattle.dw_num.specs.Refusals.{Refuses};
 ghost use Rattle.dw_cfa.specs.RuleAt.{last_at, NeverFalls};
 ghost use Rattle.dw_cfa.specs.Rows.{Rules};
-ghost use Rattle.dw_cfa.specs.Inner.Runs.{RunsSo, GivesRow, Wrote, rows_left, initial_row, placed};
+ghost use Rattle.dw_cfa.specs.Inner.Runs.{RunsSo, GivesRow, StopsAbove, Wrote, rows_left, stop_left, initial_row, placed};
 ghost use Rattle.dw_cfa.specs.Inner.RowWalk.{AllSpecify};
 
 use crate::cie_instruction::write_operands;
@@ -74,21 +74,23 @@ pub(crate) fn run_to<'a>(
     ensures fault { OnOk result ((rows_left factors cursor.new machine.new).fault ≡ (rows_left factors cursor.old machine.old).fault) }
     ensures keeps { (other : Rules) → AllSpecify other (rows_left factors cursor.old machine.old).rows → OnOk result (AllSpecify other (rows_left factors cursor.new machine.new).rows) }
     ensures err { IfErr result (Refuses (λ r. (rows_left factors cursor.old machine.old).fault ≡ Some r)) }
+    ensures up_to { machine.old.location ≤ address → IfErr result (Refuses (λ r. stop_left factors cursor.old machine.old ≤ address)) }
+    ensures none { OnOk result (StopsAbove (rows_left factors cursor.old machine.old).fault (stop_left factors cursor.old machine.old) address) }
     ensures initial { machine.new.initial ≡ machine.old.initial }
     ensures kept { machine.new.states.kept ≡ machine.old.states.kept }
 {
     let address = u128::from(address);
     let code = Code::Truncated;
-    let mut fault = Refusal { code, at: 0 };
+    let mut refusal = Refusal { code, at: 0 };
     'instrs: while cursor.left() > 0 {
-        match turn(cursor, factors, machine, known, &mut fault) {
+        match turn(cursor, factors, machine, known, &mut refusal) {
             End::On => {}
             End::Moved => {
                 if machine.location > address {
                     return Ok(true);
                 }
             }
-            End::Refused => return Err(ReadError::Refused(fault)),
+            End::Refused => return Err(ReadError::Refused(refusal)),
             End::OutOfMemory => return Err(ReadError::OutOfMemory),
         }
     }

@@ -3,14 +3,15 @@
 ghost use Rattle.std.specs.Prelude.{◌≡◌, ◌<◌, ◌≤◌, Some, IfErr, IsTrue, OnOk};
 ghost use Rattle.dw_num.specs.Refusals.{Refuses};
 ghost use Rattle.dw_num.specs.Target.{address_limit};
+ghost use Rattle.dw_cfa.specs.Faults.{FaultUpTo, NoFaultUpTo};
 ghost use Rattle.dw_cfa.specs.Gives.{RunsTo};
 ghost use Rattle.dw_cfa.specs.RuleAt.{last_at};
 ghost use Rattle.dw_cfa.specs.Rows.{blank};
 ghost use Rattle.dw_cfa.specs.Runs.{Outcome};
 ghost use Rattle.dw_cfa.specs.RowSteps.{program_input};
-ghost use Rattle.dw_cfa.specs.Inner.Runs.{RunsSo, run_rows};
+ghost use Rattle.dw_cfa.specs.Inner.Runs.{RunsSo, StopsAbove, run_rows, run_stop};
 ghost use Rattle.dw_cfa.specs.Inner.States.{IsFresh};
-ghost use Rattle.dw_cfa.specs.Inner.RowSteps.{begun_rows};
+ghost use Rattle.dw_cfa.specs.Inner.RowSteps.{begun_rows, begun_stop};
 
 use crate::execution::{run_initial, run_to};
 use crate::instr::Factors;
@@ -47,6 +48,8 @@ fn run_both<'a>(
     requires start { machine.old.location ≤ address }
     ensures found { OnOk result (last_at address (begun_rows factors cie.old fde.old machine.old).rows ≡ Some machine.new.states.row) }
     ensures err { IfErr result (Refuses (λ r. (begun_rows factors cie.old fde.old machine.old).fault ≡ Some r)) }
+    ensures up_to { IfErr result (Refuses (λ r. begun_stop factors cie.old fde.old machine.old ≤ address)) }
+    ensures none { OnOk result (StopsAbove (begun_rows factors cie.old fde.old machine.old).fault (begun_stop factors cie.old fde.old machine.old) address) }
 {
     run_initial(cie, factors, &mut machine.states, false)?;
     machine.initial.become_copy(machine.states.row())?;
@@ -106,6 +109,8 @@ impl<'a> RowRoom<'a> {
         requires start { begin ≤ address }
         ensures found { OnOk result (last_at address (run_rows factors (program_input cie_program.entry target) (program_input fde_program.entry target) begin).rows ≡ Some self.new) }
         ensures err { IfErr result (Refuses (λ r. (run_rows factors (program_input cie_program.entry target) (program_input fde_program.entry target) begin).fault ≡ Some r)) }
+        ensures up_to { IfErr result (Refuses (λ r. run_stop factors (program_input cie_program.entry target) (program_input fde_program.entry target) begin ≤ address)) }
+        ensures none { OnOk result (StopsAbove (run_rows factors (program_input cie_program.entry target) (program_input fde_program.entry target) begin).fault (run_stop factors (program_input cie_program.entry target) (program_input fde_program.entry target) begin) address) }
     {
         clear(&mut self.machine.states, self.fresh);
         self.fresh = false;
@@ -132,6 +137,8 @@ impl<'a> RowRoom<'a> {
         requires start { begin ≤ address }
         ensures found { (o : Outcome) → RunsTo factors (program_input cie_program.entry target) (program_input fde_program.entry target) begin o → OnOk result (last_at address o.rows ≡ Some self.new) }
         ensures err { (o : Outcome) → RunsTo factors (program_input cie_program.entry target) (program_input fde_program.entry target) begin o → IfErr result (Refuses (λ r. o.fault ≡ Some r)) }
+        ensures up_to { IfErr result (Refuses (FaultUpTo factors (program_input cie_program.entry target) (program_input fde_program.entry target) begin address)) }
+        ensures none { OnOk result (NoFaultUpTo factors (program_input cie_program.entry target) (program_input fde_program.entry target) begin address) }
     {
         are_bytes(cie_program.bytes);
         are_bytes(fde_program.bytes);

@@ -2,6 +2,7 @@
 use Rattle.std.specs.Prelude.{◌≡◌, ◌⊎◌, ℕ, ◌+◌, ◌<◌, ◌≤◌, List, [], ◌∷◌, ◌++◌, length, Some}
 use Rattle.dw_num.specs.declared.target.Order.{Order}
 use Rattle.dw_num.specs.declared.target.Target.{Target}
+use Rattle.dw_cfa.specs.Faults.{NoFaultUpTo}
 use Rattle.dw_cfa.specs.Gives.{RunsTo}
 use Rattle.dw_cfa.specs.RuleAt.{last_at}
 use Rattle.dw_cfa.specs.Rows.{Rules}
@@ -50,7 +51,8 @@ pub record Ruled : Type 0 where
   pub fde : Fde
   pub row : Rules
 
--- they are those of the FDE at a place: of the rows that its programs give, the last that starts at or below the address
+-- they are those of the FDE at a place: of the rows that its programs give, the last that starts at or below the address; and no
+-- fault of these programs comes up to it
 pub record RulesOf (target : Target) (s : List ℕ) (at a : ℕ) (found : Ruled) : Type 0 where
   pub own : FdeHead
   pub named : CieHead
@@ -63,6 +65,7 @@ pub record RulesOf (target : Target) (s : List ℕ) (at a : ℕ) (found : Ruled)
   pub outcome : Outcome
   pub runs : RunsTo (factors_of named) (input_of target named.program) (input_of target own.program) own.begin outcome
   pub row : last_at a outcome.rows ≡ Some found.row
+  pub unfaulted : NoFaultUpTo (factors_of named) (input_of target named.program) (input_of target own.program) own.begin a
 
 -- what a look-up refuses has its place in the bytes or at their end
 abbrev pub RefusesWithin : List ℕ → LookUpError → Type 0

@@ -2,6 +2,7 @@
 
 ghost use Rattle.std.specs.Prelude.{◌≡◌, ◌+◌, ◌<◌, ◌≤◌, ℕ, true, false, List, length, map, slice_index_or, Some, None, IfOk, IfErr, IfSome, IsSome, OnOk, MatchOption, MatchResult};
 ghost use Rattle.dw_cfa.specs.RuleAt.{last_at};
+ghost use Rattle.dw_cfa.specs.Faults.{NoFaultUpTo};
 ghost use Rattle.dw_cfa.specs.Gives.{RunsTo};
 ghost use Rattle.dw_section.specs.Cut.{Piece};
 ghost use Rattle.dw_section.specs.declared.entry.Kind.TheVariants as kind;
@@ -328,6 +329,7 @@ fn run_fde<'a>(
     requires begin { fde.now.begin ≤ address }
     ensures runs { RunsTo fde.now.factors (input_of target (span_of fde.now.cie_program)) (input_of target (span_of fde.now.program)) fde.now.begin (rows_of target fde.now) }
     ensures found { OnOk result (last_at address (rows_of target fde.now).rows ≡ Some room.new) }
+    ensures unfaulted { OnOk result (NoFaultUpTo fde.now.factors (input_of target (span_of fde.now.cie_program)) (input_of target (span_of fde.now.program)) fde.now.begin address) }
     ensures err { IfErr result (Refuses (λ r. (rows_of target fde.now).fault ≡ Some r)) }
     ensures within { IfErr result (Refuses (LiesInPrograms target fde.now)) }
 {

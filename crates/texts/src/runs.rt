@@ -1,6 +1,6 @@
 //! Runs of the command over a file and outputs in memory: entries, words, and outputs that fail.
 
-use dw_command::{Hinted, Listing, Load, LoadError, engine};
+use dw_command::{Hinted, Listing, Load, LoadError, OutputFault, engine};
 use std::alloc::{AllocError, Global};
 use std::io::{self, ErrorKind, Write};
 use std::test::Fail;
@@ -528,5 +528,17 @@ fn hints_at_files_that_are_no_section(rt: HostRuntime) -> Result<(), Fail> {
         };
         assert!(rt; is, "{wanted}");
     }
+    Ok(())
+}
+
+#[test]
+fn says_what_failed(rt: HostRuntime) -> Result<(), Fail> {
+    let alloc = rt.alloc();
+    let input = format!(in alloc; "{}", LoadError::CannotRead)?;
+    assert_eq!(rt; input.as_str(), "the file cannot be read");
+    let memory = format!(in alloc; "{}", LoadError::OutOfMemory)?;
+    assert_eq!(rt; memory.as_str(), "out of memory");
+    let output = format!(in alloc; "{OutputFault}")?;
+    assert_eq!(rt; output.as_str(), "the output failed");
     Ok(())
 }

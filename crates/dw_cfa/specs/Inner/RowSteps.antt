@@ -10,12 +10,16 @@ use Rattle.dw_cfa.specs.declared.steps.Progress.TheVariants as progress
 use Rattle.dw_cfa.specs.Runs.{Outcome, finished}
 use Rattle.dw_cfa.specs.RowSteps.{Stepping, stepping}
 use Rattle.dw_cfa.specs.Inner.Machine.{begun}
-use Rattle.dw_cfa.specs.Inner.Runs.{placed, initial_row, on_initial, fde_rows, rows_left, RunsSo}
+use Rattle.dw_cfa.specs.Inner.Runs.{placed, initial_row, on_initial, fde_rows, fde_stop, rows_left, stop_on, RunsSo}
 
 -- the rows of a machine whose CIE's program is still to run
 unfoldable pub begun_rows : Factors → Input → Input → Machine → Outcome
 begun_rows f cie fde m =
     on_initial (initial_row (placed f cie) m.states.row) (λ initial. fde_rows m.limit initial (placed f fde).items (placed f fde).fault (begun initial m.location))
+
+-- where such a machine stops
+unfoldable pub begun_stop : Factors → Input → Input → Machine → ℕ
+begun_stop f cie fde m = stop_on (initial_row (placed f cie) m.states.row) m.location (λ initial. fde_stop m.limit initial (placed f fde).items (begun initial m.location))
 
 abbrev pub left_of : Progress → Factors → Input → Input → Machine → Stepping
 left_of progress.Begun f cie fde m = stepping m.states.row (begun_rows f cie fde m)

@@ -1,5 +1,5 @@
 -- Runs of whole programs, and the rows that they give, as the code runs them.
-use Rattle.std.specs.Prelude.{◌≡◌, ℕ, ◌<◌, ◌≤◌, List, [], ◌∷◌, length, Bool, IsTrue, Option, Some, None, Result, Ok, Err, if◌then◌else◌}
+use Rattle.std.specs.Prelude.{◌≡◌, ℕ, ◌<◌, ◌≤◌, List, [], ◌∷◌, length, Bool, false, IsTrue, Option, Some, None, Result, Ok, Err, if◌then◌else◌}
 use Rattle.dw_num.specs.declared.refusal.Code.{Code}
 use Rattle.dw_num.specs.declared.refusal.Refusal.{Refusal}
 use Rattle.dw_num.specs.Target.{address_limit}
@@ -83,6 +83,19 @@ fde_rows limit initial (item ∷ items) fault s =
 unfoldable pub rows_left : Factors → Input → Machine → Outcome
 rows_left f i m = fde_rows m.limit m.initial (placed f i).items (placed f i).fault (state_of m)
 
+abbrev pub stop_or : Option Code → ℕ → ℕ → ℕ
+stop_or (Some code) location next = location
+stop_or None location next = next
+
+-- where an FDE's program stops: the location behind its last instruction, or behind those before its fault
+unfoldable pub fde_stop : ℕ → Rules → List Placed → State → ℕ
+fde_stop limit initial [] s = s.location
+fde_stop limit initial (item ∷ items) s = stop_or (fde_fault limit item.instr s) s.location (fde_stop limit initial items (after initial item.instr s))
+
+-- where a machine stops
+unfoldable pub stop_left : Factors → Input → Machine → ℕ
+stop_left f i m = fde_stop m.limit m.initial (placed f i).items (state_of m)
+
 abbrev pub on_initial : Result Rules Refusal → (Rules → Outcome) → Outcome
 on_initial (Ok initial) go = go initial
 on_initial (Err refusal) go = fails refusal
@@ -91,6 +104,18 @@ on_initial (Err refusal) go = fails refusal
 unfoldable pub run_rows : Factors → Input → Input → ℕ → Outcome
 run_rows f cie fde begin =
     on_initial (initial_row (placed f cie) blank) (λ initial. fde_rows (address_limit fde.target.size) initial (placed f fde).items (placed f fde).fault (begun initial begin))
+
+-- where an FDE's program stops behind a CIE's, which may be before its first instruction
+abbrev pub stop_on : Result Rules Refusal → ℕ → (Rules → ℕ) → ℕ
+stop_on (Ok initial) begin go = go initial
+stop_on (Err refusal) begin go = begin
+
+unfoldable pub run_stop : Factors → Input → Input → ℕ → ℕ
+run_stop f cie fde begin = stop_on (initial_row (placed f cie) blank) begin (λ initial. fde_stop (address_limit fde.target.size) initial (placed f fde).items (begun initial begin))
+
+-- the fault, if there is one, comes above an address
+abbrev pub StopsAbove : Option Refusal → ℕ → ℕ → Type 0
+StopsAbove fault stop a = (r : Refusal) → fault ≡ Some r → a < stop
 
 -- the rows of an FDE's program behind an initial row
 unfoldable pub rows_behind : Factors → Rules → Input → ℕ → Outcome
@@ -114,6 +139,8 @@ pub record RanTo (f : Factors) (i : Input) (m : Machine) (moves : Bool) (i' : In
   pub shorter : length i'.bytes < length i.bytes
   pub rows : rows_left f i m ≡ row_if moves (state_of m) (rows_left f i' m')
   pub same_row : IsTrue moves → m'.states.row ≡ m.states.row
+  pub same_location : moves ≡ false → m'.location ≡ m.location
+  pub stop : stop_left f i m ≡ stop_left f i' m'
 
 -- the machine has a row and more are left, or it is the last, or the refusal was answered
 abbrev pub GivesRow : Outcome → Factors → Input → Machine → Result (ℕ × Bool) ReadError → Type 0

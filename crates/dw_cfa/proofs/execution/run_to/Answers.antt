@@ -4,6 +4,8 @@ use Rattle.dw_cfa.specs.Runs.{Outcome}
 use Rattle.dw_cfa.specs.Inner.Runs.{rows_left}
 use Rattle.dw_cfa.specs.Inner.RowWalk.{AllSpecify}
 use Rattle.dw_cfa.proofs.RowsTo.{FirstBelow, fault_left, falls_left, first_below, keeps_left, one_last, starts_below, stops_here, goes_on, ends_here}
+use Rattle.dw_cfa.proofs.RunSteps.{rows_end}
+use Rattle.dw_cfa.proofs.StopsTo.{not_below, refused_here}
 use Rattle.dw_cfa.proofs.execution.run_to.Goals as goal
 
 pub instrs-init : goal.instrs-init
@@ -15,6 +17,8 @@ instrs-init c = (
   λ le. first_below c.args.factors c.args.cursor.now c.args.machine.now c.from-address.result le,
   λ row e. e,
   λ other all. all,
+  refl,
+  λ le. le,
   refl,
 )
 
@@ -53,6 +57,8 @@ instrs-preserved c =
       λ row e. l.invariant.5 row (goes_on f l.cursor l.machine j m moved a row e),
       λ other all. keeps_left f l.cursor l.machine j m moved a other (l.invariant.6 other all),
       c.in-Moved.ensures.kept ∙ l.invariant.7,
+      λ le. omega (arith, c.if-machine-address.false),
+      sym moved.stop ∙ l.invariant.9,
     )
 
 pub instrs-preserved-in-On : goal.instrs-preserved-in-On
@@ -69,6 +75,8 @@ instrs-preserved-in-On c =
       λ row e. l.invariant.5 row (ap (λ (o : Outcome). last_at a o.rows) same ∙ e),
       λ other all. subst (λ (o : Outcome). AllSpecify other o.rows) same (l.invariant.6 other all),
       c.in-On.ensures.kept ∙ l.invariant.7,
+      λ le. let at = l.invariant.8 le in omega (arith, at, on.same_location refl),
+      sym on.stop ∙ l.invariant.9,
     )
 
 pub returns-clause-last : goal.returns-clause-last
@@ -93,3 +101,23 @@ pub returns-then-machine-address-clause-keeps : goal.returns-then-machine-addres
 returns-then-machine-address-clause-keeps c other all =
     let l = c.instrs in
     keeps_left c.args.factors l.cursor l.machine c.turn.new.cursor c.turn.new.machine c.in-Moved.ensures.turned c.from-address.result other (l.invariant.6 other all)
+
+pub returns-then-machine-address-clause-none : goal.returns-then-machine-address-clause-none
+returns-then-machine-address-clause-none c r e =
+    let l = c.instrs in
+    let f = c.args.factors in
+    let later = not_below f c.turn.new.cursor c.turn.new.machine in
+    omega (arith, later, c.if-machine-address.true, c.from-address.ensures, c.in-Moved.ensures.turned.stop, l.invariant.9)
+
+pub returns-in-Refused-clause-up_to : goal.returns-in-Refused-clause-up_to
+returns-in-Refused-clause-up_to c le =
+    let l = c.instrs in
+    let f = c.args.factors in
+    let at = l.invariant.8 (subst (λ (n : ℕ). c.args.machine.now.location ≤ n) (sym c.from-address.ensures) le) in
+    omega (arith, at, c.from-address.ensures, l.invariant.9, refused_here f l.cursor l.machine c.turn.new.fault c.in-Refused.ensures.turned)
+
+pub returns-clause-none : goal.returns-clause-none
+returns-clause-none c r e =
+    let l = c.instrs in
+    let none = sym (ap (λ (o : Outcome). o.fault) (rows_end c.args.factors l.cursor l.machine (omega arith))) ∙ (l.invariant.2 ∙ e) in
+    absurd cc

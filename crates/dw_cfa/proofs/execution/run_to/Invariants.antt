@@ -1,7 +1,7 @@
 use Rattle.std.proofs.Common.{◌≡◌, ◌≤◌, ℕ, Some, length}
 use Rattle.dw_cfa.specs.RuleAt.{last_at, NeverFalls}
 use Rattle.dw_cfa.specs.Rows.{Rules}
-use Rattle.dw_cfa.specs.Inner.Runs.{RunsSo, rows_left}
+use Rattle.dw_cfa.specs.Inner.Runs.{RunsSo, rows_left, stop_left}
 use Rattle.dw_cfa.specs.Inner.RowWalk.{AllSpecify}
 use Rattle.dw_cfa.proofs.RowsTo.{FirstBelow}
 use Rattle.dw_cfa.proofs.execution.run_to.Given as goal
@@ -14,6 +14,8 @@ invariant-instrs l =
     × ((row : Rules) → last_at l.address (rows_left l.factors l.cursor l.machine).rows ≡ Some row → last_at l.address (rows_left l.factors l.initial.cursor l.initial.machine).rows ≡ Some row)
     × ((other : Rules) → AllSpecify other (rows_left l.factors l.initial.cursor l.initial.machine).rows → AllSpecify other (rows_left l.factors l.cursor l.machine).rows)
     × (l.machine.states.kept ≡ l.initial.machine.states.kept)
+    × (l.initial.machine.location ≤ l.address → l.machine.location ≤ l.address)
+    × (stop_left l.factors l.cursor l.machine ≡ stop_left l.factors l.initial.cursor l.initial.machine)
 
 abbrev pub decreases-instrs : goal.decreases-instrs
 decreases-instrs l = length l.cursor.bytes

@@ -69,6 +69,7 @@ returns-clause-found c =
       outcome = rows_of c.args.target e;
       runs = c.run_fde.ensures.runs;
       row = c.in_ok-run_fde.ensures.found;
+      unfaulted = c.in_ok-run_fde.ensures.unfaulted;
     }
 
 pub returns-clause-own : goal.returns-clause-own

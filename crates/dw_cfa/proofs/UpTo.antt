@@ -1,0 +1,127 @@
+-- Faults that come up to an address are those where a run stops up to there.
+use Rattle.std.proofs.Common.{◌≡◌, ℕ, ◌≤◌, List, [], ◌∷◌, ◌++◌, length, Some, Result, Ok, Err, refl, sym, ap, ◌∙◌, subst, inl, inr, arith}
+use Rattle.std.proofs.lemmas.List.{append-nil}
+use Rattle.std.specs.Prelude.{IfErr, OnOk}
+use Rattle.dw_num.specs.declared.refusal.Code.{Code}
+use Rattle.dw_num.specs.declared.refusal.Refusal.{Refusal}
+use Rattle.dw_num.specs.declared.error.ReadError.{ReadError}
+use Rattle.dw_num.specs.declared.error.ReadError.TheVariants.{Refused, OutOfMemory}
+use Rattle.dw_num.specs.Refusals.{Refuses}
+use Rattle.dw_num.specs.Target.{address_limit}
+use Rattle.dw_num.specs.Input.{Input, AreBytes}
+use Rattle.dw_cfa.specs.declared.instr.Factors.{Factors}
+use Rattle.dw_cfa.specs.declared.instr.Instr.{Instr}
+use Rattle.dw_cfa.specs.declared.rule.CfaRule.{CfaRule}
+use Rattle.dw_cfa.specs.declared.execution.LocatedRow.{LocatedRow}
+use Rattle.dw_cfa.specs.Location.{location, onto}
+use Rattle.dw_cfa.specs.Rows.{Rules, AreSpecified, blank}
+use Rattle.dw_cfa.specs.Runs.{Outcome}
+use Rattle.dw_cfa.specs.Faults.{FdeFaultBehind, FdeFaultUpTo, FaultUpTo, NoFaultUpTo}
+use Rattle.dw_cfa.specs.Inner.Machine.{State, begun, after, fde_fault}
+use Rattle.dw_cfa.specs.Inner.Runs.{Placed, StopsAbove, fde_rows, fde_stop, initial_row, on_initial, placed, rows_behind, run_rows, run_stop, stop_on}
+use Rattle.dw_cfa.proofs.Lent.Forward.{Follows, after_follows, begun_follows}
+use Rattle.dw_cfa.proofs.Lent.RowsAt.{instrs_of, Gives}
+use Rattle.dw_cfa.proofs.Lent.KeptRuns.{next_gives}
+use Rattle.dw_cfa.proofs.Lent.FaultLaws.{leaves, leaves_initial, Stopped, stopped_behind, stops_of, fde_fault_found, fde_fault_only, cie_fault_found, cie_fault_only}
+use Rattle.dw_cfa.proofs.Stops.{ends}
+
+-- ---- an FDE's program
+
+-- a run that is not refused stops where what follows it does
+past : (limit : ℕ) (initial : Rules) (before tail : List Placed) (s : State) (rows : List LocatedRow) → Gives limit initial before s rows
+    → fde_stop limit initial (before ++ tail) s ≡ fde_stop limit initial tail (ends initial before s)
+unfolding fde_stop
+past limit initial [] tail s rows e = refl
+past limit initial (p ∷ before) tail s rows e =
+    let next = next_gives limit initial p before s rows e in
+    rw next.0 (past limit initial before tail (after initial p.instr s) next.1.0 next.1.1)
+
+ended_follows : (limit begin : ℕ) (initial : Rules) (items : List Placed) (earlier : List Instr) (s : State) (rows : List LocatedRow) → Follows initial begin earlier s → Gives limit initial items s rows
+    → Follows initial begin (onto earlier (instrs_of items) (length (instrs_of items))) (ends initial items s)
+ended_follows limit begin initial [] earlier s rows h e = h
+ended_follows limit begin initial (p ∷ items) earlier s rows h e =
+    let next = next_gives limit initial p items s rows e in
+    ended_follows limit begin initial items (p.instr ∷ earlier) (after initial p.instr s) next.1.0 (after_follows initial begin p.instr earlier s limit h next.0) next.1.1
+
+at_fault : (limit : ℕ) (initial : Rules) (item : Placed) (items : List Placed) (s : State) (code : Code) → fde_fault limit item.instr s ≡ Some code → fde_stop limit initial (item ∷ items) s ≡ s.location
+unfolding fde_stop
+at_fault limit initial item items s code is = rw is refl
+
+at_end : (limit : ℕ) (initial : Rules) (s : State) → fde_stop limit initial [] s ≡ s.location
+unfolding fde_stop
+at_end limit initial s = refl
+
+module _ (f : Factors) (initial : Rules) (i : Input) (begin : ℕ) (h : AreBytes i.bytes) (le : begin ≤ address_limit i.target.size) (listed : AreSpecified 0 initial.registers) where
+  abbrev stop : ℕ
+  stop = fde_stop (address_limit i.target.size) initial (placed f i).items (begun initial begin)
+
+  location_there : (before : List Placed) (rows : List LocatedRow) → Gives (address_limit i.target.size) initial before (begun initial begin) rows
+      → (ends initial before (begun initial begin)).location ≡ location begin (instrs_of before) (length (instrs_of before))
+  location_there before rows gives = (ended_follows (address_limit i.target.size) begin initial before [] (begun initial begin) rows (begun_follows initial begin listed) gives).location
+
+  stopped_there : (r : Refusal) (d : Stopped f initial i begin h le listed r)
+      → stop ≡ location begin (stopped_behind f initial i begin h le listed r d) (length (stopped_behind f initial i begin h le listed r d))
+  stopped_there r (inl d) =
+      let limit = address_limit i.target.size in
+      let s = begun initial begin in
+      ap (λ (l : List Placed). fde_stop limit initial l s) d.whole ∙ past limit initial d.before (d.item ∷ d.after) s d.rows d.gives
+      ∙ at_fault limit initial d.item d.after (ends initial d.before s) r.code d.fault ∙ location_there d.before d.rows d.gives
+  stopped_there r (inr d) =
+      let limit = address_limit i.target.size in
+      let s = begun initial begin in
+      let items = (placed f i).items in
+      ap (λ (l : List Placed). fde_stop limit initial l s) (sym (append-nil items)) ∙ past limit initial items [] s d.rows d.gives
+      ∙ at_end limit initial (ends initial items s) ∙ location_there items d.rows d.gives
+
+  -- behind which instructions a fault stands says where the run stops
+  fault_there : (r : Refusal) (instrs : List Instr) → FdeFaultBehind f initial.cfa i begin instrs r → stop ≡ location begin instrs (length instrs)
+  fault_there r instrs fault =
+      let d = stops_of f initial i begin h le listed r instrs fault in
+      stopped_there r d.0 ∙ ap (λ (l : List Instr). location begin l (length l)) d.1
+
+  fde_found : (a : ℕ) (r : Refusal) → (rows_behind f initial i begin).fault ≡ Some r → stop ≤ a → FdeFaultUpTo f initial.cfa i begin a r
+  fde_found a r e below =
+      let found = fde_fault_found f initial i begin h le listed r e in
+      (found.0, found.1, omega (arith, fault_there r found.0 found.1))
+
+  fde_only : (a : ℕ) (r : Refusal) → FdeFaultUpTo f initial.cfa i begin a r → ((rows_behind f initial i begin).fault ≡ Some r) × (stop ≤ a)
+  fde_only a r (instrs, fault, below) = (fde_fault_only f initial i begin h le listed r (instrs, fault), omega (arith, below, fault_there r instrs fault))
+
+-- ---- both programs
+
+module _ (f : Factors) (cie fde : Input) (begin : ℕ) (cb : AreBytes cie.bytes) (fb : AreBytes fde.bytes) (le : begin ≤ address_limit fde.target.size) (a : ℕ) where
+  abbrev go : Rules → Outcome
+  go initial = fde_rows (address_limit fde.target.size) initial (placed f fde).items (placed f fde).fault (begun initial begin)
+
+  abbrev halt : Rules → ℕ
+  halt initial = fde_stop (address_limit fde.target.size) initial (placed f fde).items (begun initial begin)
+
+  from_initial : (r : Refusal) (x : Result Rules Refusal) → initial_row (placed f cie) blank ≡ x → (on_initial x go).fault ≡ Some r → stop_on x begin halt ≤ a → FaultUpTo f cie fde begin a r
+  unfolding rows_behind
+  from_initial r (Ok initial) is e below =
+      let left = leaves f cie initial cb is in
+      inr (instrs_of (placed f cie).items, left.program, left.kept, subst (λ (c : CfaRule). FdeFaultUpTo f c fde begin a r) left.cfa (fde_found f initial fde begin fb le left.listed a r e below))
+  from_initial r (Err q) is e below = let same : q ≡ r = cc in inl (cie_fault_found f cie cb r (is ∙ ap Err same))
+
+  found : (r : Refusal) → (run_rows f cie fde begin).fault ≡ Some r → run_stop f cie fde begin ≤ a → FaultUpTo f cie fde begin a r
+  unfolding run_rows run_stop
+  found r e below = from_initial r (initial_row (placed f cie) blank) refl e below
+
+  only : (r : Refusal) → begin ≤ a → FaultUpTo f cie fde begin a r → ((run_rows f cie fde begin).fault ≡ Some r) × (run_stop f cie fde begin ≤ a)
+  unfolding run_rows run_stop rows_behind
+  only r start (inl fault) = rw (cie_fault_only f cie cb r fault) (refl, start)
+  only r start (inr (instrs, program, kept, fault)) =
+      let left = leaves_initial f cie instrs cb program kept in
+      rw left.1 (fde_only f left.0 fde begin fb le left.2.listed a r (subst (λ (c : CfaRule). FdeFaultUpTo f c fde begin a r) (sym left.2.cfa) fault))
+
+  -- what a run up to the address refuses, and what it does not pass over
+  pub refused_up_to : {X : Type 0} (result : Result X ReadError) → IfErr result (Refuses (λ r. (run_rows f cie fde begin).fault ≡ Some r)) → IfErr result (Refuses (λ r. run_stop f cie fde begin ≤ a))
+      → IfErr result (Refuses (FaultUpTo f cie fde begin a))
+  refused_up_to (Ok x) e below = tt
+  refused_up_to (Err OutOfMemory) e below = tt
+  refused_up_to (Err (Refused r)) e below = found r e below
+
+  pub none_up_to : {X : Type 0} (result : Result X ReadError) → begin ≤ a → OnOk result (StopsAbove (run_rows f cie fde begin).fault (run_stop f cie fde begin) a)
+      → OnOk result (NoFaultUpTo f cie fde begin a)
+  none_up_to (Ok x) start above = λ r fault. let there = only r start fault in let far = above r there.0 in absurd (omega (arith, far, there.1))
+  none_up_to (Err e) start above = tt
