@@ -1,8 +1,15 @@
--- A number whose shortest spelling is one byte.
-use Rattle.std.proofs.Common.{◌≡◌, ℕ, ◌<◌, [], ◌∷◌, refl}
+-- A number whose shortest spelling is one byte, and what is appended with it.
+use Rattle.std.proofs.Common.{◌≡◌, ℕ, ◌<◌, List, [], ◌∷◌, ◌++◌, refl, ap, ◌∙◌}
 use Rattle.std.proofs.lemmas.Bool.{lt-ltb}
+use Rattle.std.proofs.lemmas.List.{append_assoc}
 use Rattle.dw_num.specs.Shortest.{shortest_uleb}
 
 pub one_byte : (v : ℕ) → v < 128 → v ∷ [] ≡ shortest_uleb v
 unfolding shortest_uleb
 one_byte v lt = rw (lt-ltb v 128 lt) refl
+
+-- two bytes that are appended one after another
+pub two_bytes : (out room one two : List ℕ) (code v : ℕ) → v < 128 → room ≡ out → one ≡ room ++ code ∷ [] → two ≡ one ++ v ∷ [] → two ≡ out ++ code ∷ shortest_uleb v
+two_bytes out room one two code v lt same first second =
+    second ∙ ap (λ (l : List ℕ). l ++ v ∷ []) (first ∙ ap (λ (l : List ℕ). l ++ code ∷ []) same) ∙ append_assoc out (code ∷ []) (v ∷ [])
+    ∙ ap (λ (l : List ℕ). out ++ code ∷ l) (one_byte v lt)

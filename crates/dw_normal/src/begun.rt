@@ -53,6 +53,7 @@ pub(crate) fn room_for<'r, 'a>(rows: &'r BTreeMap<u16, Row<'a>>, table: &Table<'
 }
 
 /// Begins an FDE of a table, where these are the initial rows of its groups.
+#[inline(always)]
 pub(crate) fn begin_fde<'r, 'a>(
     begun: &mut Begun<'r, 'a>,
     rows: &'r BTreeMap<u16, Row<'a>>,

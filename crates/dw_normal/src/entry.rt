@@ -62,6 +62,7 @@ fn put_bytes<S: Sink>(sink: &mut S, bytes: &[u8]) -> Result<u64, PutError>
 }
 
 // Puts the entry with the contents that a buffer holds, whose length is appended to it.
+#[inline(always)]
 fn put_entry<S: Sink>(sink: &mut S, buffer: &mut Vec<u8>, order: Order) -> Result<u64, PutError>
     requires room { S.failures sink.old < 2 ^ 64 - 1 }
     requires small { length buffer.old.items < 2 ^ 32 }

@@ -43,14 +43,16 @@ pub(crate) fn push_uleb(out: &mut Vec<u8>, value: u64) -> Result<(), AllocError>
     push_long_uleb(out, value)
 }
 
-// Appends a code and the shortest spelling of an unsigned number behind it: mostly two bytes, at once.
+// Appends a code and the shortest spelling of an unsigned number behind it: mostly two bytes, for which room is made once.
 #[inline(always)]
-#[tactic(auto, using(crate::proofs::OneByte::one_byte))]
 fn push_with(out: &mut Vec<u8>, code: u8, value: u64) -> Result<(), AllocError>
     ensures { OnOk result (out.new.items ≡ out.old.items ++ code ∷ shortest_uleb value) }
 {
     if value < 128 {
-        return out.extend_from_slice(&[code, value as u8]);
+        out.reserve(2)?;
+        out.push_reserved(code);
+        out.push_reserved(value as u8);
+        return Ok(());
     }
     out.push(code)?;
     push_long_uleb(out, value)
@@ -146,6 +148,7 @@ fn push_expression(
 }
 
 // Appends a register that is saved at an offset from the CFA.
+#[inline(always)]
 fn push_offset(out: &mut Vec<u8>, register: u16, offset: i64) -> Result<(), AllocError>
     requires { IsOffset offset }
     ensures { OnOk result (out.new.items ≡ out.old.items ++ (if is_positive offset then 0x11 ∷ (shortest_uleb register ++ shortest_sleb (neg_ℤ offset)) else packed 0x80 0x05 register ++ shortest_uleb (unsigned_abs offset))) }
@@ -162,6 +165,7 @@ fn push_offset(out: &mut Vec<u8>, register: u16, offset: i64) -> Result<(), Allo
 }
 
 /// Appends what gives a register a rule.
+#[inline(always)]
 pub(crate) fn push_rule(
     out: &mut Vec<u8>,
     register: u16,

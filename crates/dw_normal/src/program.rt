@@ -84,6 +84,7 @@ fn push_cfa<'a>(
 }
 
 // Appends what gives a register its rule of a row: `Restore` where it is the initial one.
+#[inline(always)]
 #[tactic(auto, unfolding(dw_canon::specs::Spelling::instr_bytes))]
 fn push_register<'a>(
     out: &mut Vec<u8>,
