@@ -418,7 +418,7 @@ pub fn are_alike(alloc: Global, one: &[u8], other: &[u8]) -> Result<bool, Fail> 
     let row = row_of(alloc, one)?;
     let mut copy = Row::blank(alloc);
     copy.become_copy(&row.clone()?)?;
-    if !copy.is_same(&row) {
+    if copy != row {
         return Err(Fail::new("a copy differs"));
     }
     Ok(row.is_same(&row_of(alloc, other)?))
@@ -451,9 +451,12 @@ fn cloned(alloc: Global, pair: Pair<'_>) -> Result<String, Fail> {
     let Some(row) = rows.last() else {
         return Err(Fail::new("no row"));
     };
-    let row = row.clone()?;
-    let text = located_text(alloc, row.location, &row.row)?;
-    Ok(format!(in alloc; "{text} {row:?}")?)
+    let copy = row.clone()?;
+    if copy != *row {
+        return Err(Fail::new("the clone differs"));
+    }
+    let text = located_text(alloc, copy.location, &copy.row)?;
+    Ok(format!(in alloc; "{text} {copy:?}")?)
 }
 
 #[test]

@@ -4,7 +4,7 @@ use Rattle.std.specs.Prelude.{nat_eq, nat_lt}
 use Rattle.std.proofs.lemmas.Bool.{cases_Bool, cases_lt, eqb-false, ltb-true, ltb-false}
 use Rattle.dw_cfa.specs.declared.rule.RegRule.{RegRule}
 use Rattle.dw_cfa.specs.Rows.{AreSpecified}
-use Rattle.dw_canon.specs.Difference.{with_register, with_registers}
+use Rattle.dw_canon.specs.Inner.Difference.{with_register, with_registers}
 
 abbrev pub Rise : ℕ → List ℕ → Type 0
 Rise low [] = Unit {0}
@@ -28,7 +28,7 @@ with_one_rise low r (x ∷ rs) le h = elim (cases_Bool (nat_lt r x)) [
 
 pub with_all_rise : (rs qs : List ℕ) → Rise 0 qs → Rise 0 (with_registers rs qs)
 with_all_rise [] qs h = h
-with_all_rise (r ∷ rs) qs h = with_one_rise 0 r (with_registers rs qs) (omega arith) (with_all_rise rs qs h)
+with_all_rise (r ∷ rs) qs h = with_all_rise rs (with_register r qs) (with_one_rise 0 r qs (omega arith) h)
 
 pub keys_rise : (low : ℕ) (xs : List (ℕ × RegRule)) → AreSpecified low xs → Rise low (map (λ (entry : ℕ × RegRule). entry.0) xs)
 keys_rise low [] h = tt

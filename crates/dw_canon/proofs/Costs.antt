@@ -15,10 +15,11 @@ use Rattle.dw_cfa.specs.declared.rule.CfaRule.TheVariants as cfa
 use Rattle.dw_cfa.specs.declared.rule.RegRule.{RegRule}
 use Rattle.dw_cfa.specs.declared.rule.RegRule.TheVariants as rules
 use Rattle.dw_cfa.specs.InstrSpells.{IsOffset}
-use Rattle.dw_cfa.specs.Agreement.{same_cfa, same_rule}
+use Rattle.dw_cfa.specs.Inner.Agreement.{same_cfa, same_rule}
 use Rattle.dw_cfa.specs.Rows.{Rules, rule, is_specified}
 use Rattle.dw_section.specs.Inner.Sound.{CfaFits, RowFits}
-use Rattle.dw_canon.specs.Difference.{cfa_to, cfa_difference, rule_difference, either, difference}
+use Rattle.dw_canon.specs.Difference.{cfa_to, either}
+use Rattle.dw_canon.specs.Inner.Difference.{cfa_difference, rule_difference, difference}
 use Rattle.dw_canon.specs.Inner.Spelling.{expression_bytes, instr_bytes, program_bytes}
 use Rattle.dw_canon.specs.Spelling.{instr_bytes as instr_with}
 use Rattle.dw_canon.specs.Spelling.{packed}

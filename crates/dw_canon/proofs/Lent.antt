@@ -4,6 +4,8 @@ pub mod Readback
 pub mod Extra
 pub mod Layout
 pub mod Blocks
+pub mod Tests
+pub mod Forms
 pub mod Differences
 pub mod Programs
 pub mod InstrFits

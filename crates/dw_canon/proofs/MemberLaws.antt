@@ -33,7 +33,7 @@ use Rattle.dw_cfa.proofs.Lent.RowsAt.{instrs_of, Gives, rows_at, never_falls}
 use Rattle.dw_section.specs.Changes.{Among, AreChanges, Before}
 use Rattle.dw_section.specs.Programs.{HasCfa}
 use Rattle.dw_section.proofs.Lent.ChangeLaws.{HasRow, all_found}
-use Rattle.dw_canon.specs.Canon.{fde_instrs, cie_instrs}
+use Rattle.dw_canon.specs.Inner.Canon.{fde_instrs, cie_instrs}
 use Rattle.dw_section.specs.Inner.Sound.{RowFits}
 use Rattle.dw_canon.specs.Inner.Fits.{ChangesStand, MemberStands}
 use Rattle.dw_canon.specs.Inner.Fits.{InstrFits}

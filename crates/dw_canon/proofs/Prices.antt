@@ -14,10 +14,10 @@ use Rattle.dw_section.proofs.Lent.OneLengths.{one_lengths}
 use Rattle.dw_section.proofs.Lent.Sections.{here, changes_programs}
 use Rattle.dw_section.proofs.Lent.Sounds.{Held, held_all}
 use Rattle.dw_section.proofs.Lent.Totals.{least_starts}
-use Rattle.dw_canon.specs.Canon.{cie_instrs, fde_instrs}
-use Rattle.dw_canon.specs.Difference.{difference, later_changes}
+use Rattle.dw_canon.specs.Inner.Canon.{cie_instrs, fde_instrs}
+use Rattle.dw_canon.specs.Inner.Difference.{difference, later_changes}
 use Rattle.dw_canon.specs.Inner.Fits.{RestsOn}
-use Rattle.dw_canon.specs.Group.{initial_row}
+use Rattle.dw_canon.specs.Inner.Group.{initial_row}
 use Rattle.dw_canon.specs.Members.{Member, IsMember, fde_of, changes_of}
 use Rattle.dw_canon.specs.Inner.Spelling.{program_bytes}
 use Rattle.dw_canon.proofs.Costs.{bytes_more}

@@ -9,7 +9,7 @@ use Rattle.dw_cfa.specs.Laws.{initial_cfa, initial_rule}
 use Rattle.dw_cfa.specs.Location.{row_starts}
 use Rattle.dw_cfa.specs.Rows.{rule}
 use Rattle.dw_section.specs.Changes.{AreChanges}
-use Rattle.dw_canon.specs.Canon.{cie_instrs, fde_instrs}
+use Rattle.dw_canon.specs.Inner.Canon.{cie_instrs, fde_instrs}
 use Rattle.dw_canon.specs.Inner.Laws.{InitialProgram, MemberProgram, ChangesAreOne}
 use Rattle.dw_canon.specs.Members.{changes_of}
 use Rattle.dw_canon.specs.Inner.Spelling.{program_bytes}

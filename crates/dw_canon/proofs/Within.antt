@@ -2,6 +2,7 @@
 use Rattle.std.proofs.Common.{◌≡◌, ℕ, ◌+◌, ◌-◌, ◌*◌, ◌≤◌, ◌^◌, List, [], ◌∷◌, ◌++◌, length, sym, subst, inl, inr, arith}
 use Rattle.std.specs.Prelude.{ℤ, nat_lt}
 use Rattle.std.specs.List.{AllByRecursion}
+use Rattle.std.specs.Map.{keys_of}
 use Rattle.std.proofs.lemmas.Bool.{cases_Bool}
 use Rattle.std.proofs.lemmas.Bool.Decides.{eqb_tells}
 use Rattle.std.proofs.lemmas.List.{length-append}
@@ -25,7 +26,8 @@ use Rattle.dw_cfa.specs.Location.{onto}
 use Rattle.dw_cfa.specs.Rows.{Rules, rule}
 use Rattle.dw_section.specs.Inner.Sound.{RowFits}
 use Rattle.dw_section.proofs.Lent.Sounds.{all_onto, back_keeps}
-use Rattle.dw_canon.specs.Difference.{registers_of, either, difference, move, later_changes}
+use Rattle.dw_canon.specs.Difference.{either, move}
+use Rattle.dw_canon.specs.Inner.Difference.{difference, later_changes}
 use Rattle.dw_canon.specs.Inner.Spelling.{instr_bytes, program_bytes}
 use Rattle.dw_canon.specs.Spelling.{instr_bytes as instr_with}
 use Rattle.dw_canon.specs.Spelling.{advance_bytes}
@@ -141,7 +143,7 @@ module _ (t : Target) (i j : List Instr) where
 
   pub step_len : (initial old new : Rules) → ((r : ℕ) → rule new r ≡ rules.Unspecified → rule_len t r (rule old r) ≤ each r) → IsWithin new → length (program_bytes t (difference initial old new)) ≤ 14 + all_len
   step_len initial old new left k =
-      let up = with_all_rise (registers_of old) (registers_of new) (keys_rise 0 new.registers k.fits.listed) in
+      let up = with_all_rise (keys_of old.registers) (keys_of new.registers) (keys_rise 0 new.registers k.fits.listed) in
       omega (arith, difference_len t most each initial old new left k, sum_once (own_weight t) (rule_weight t) (either old new) (once (either old new) up) (i ++ j))
 
   pub later_len : (initial : Rules) (at : ℕ) (row : Rules) (changes : List (ℕ × Rules)) → IsWithin row → AllByRecursion (λ (change : ℕ × Rules). IsWithin change.1) changes

@@ -8,13 +8,10 @@ use Rattle.dw_section.specs.Meaning.{HasLengths}
 use Rattle.dw_canon.specs.Members.{fde_of}
 use Rattle.dw_canon.specs.Normal.{IsNormalForm}
 
--- six bytes for each of the programs', where a rule takes at most six times the bytes that give it, and some for one change more
-abbrev pub spread : ℕ → ℕ → ℕ
-spread own initial = 6 * (own + initial) + 35
-
--- at most 24 times the bytes of an FDE and of a CIE, by the bytes of the FDE's program and of its CIE's
+-- at most 24 times the bytes of an FDE and of a CIE, by the bytes of the FDE's program and of its CIE's: a rule takes at most six
+-- times the bytes that give it
 abbrev pub share : ℕ → ℕ → ℕ
-share own initial = spread own initial * spread own initial + 1320
+share own initial = let spread = 6 * (own + initial) + 35 in spread * spread + 1320
 
 -- the shares of these FDEs of a section add up to so much
 abbrev pub Shares : Target → List ℕ → List Fde → ℕ → Type 0

@@ -5,4 +5,6 @@ pub mod Written
 pub mod Laws
 pub mod Renders
 pub mod Spelling
+pub mod Difference
+pub mod Group
 pub mod Canon

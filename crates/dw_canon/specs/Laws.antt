@@ -1,5 +1,5 @@
 -- What holds of normal forms.
-use Rattle.std.specs.Prelude.{◌≡◌, ◌↔◌, ℕ, ◌<◌, ◌≤◌, List, ◌∷◌, length, map}
+use Rattle.std.specs.Prelude.{◌≡◌, ◌↔◌, ℕ, ◌<◌, ◌≤◌, List, length, map}
 use Rattle.dw_num.specs.Input.{AreBytes}
 use Rattle.dw_num.specs.declared.target.Target.{Target}
 use Rattle.dw_cfa.specs.Location.{row_starts}
@@ -7,9 +7,7 @@ use Rattle.dw_cfa.specs.Rows.{Rules}
 use Rattle.dw_section.specs.Accepted.{Accepted}
 use Rattle.dw_section.specs.Meaning.{ChangesOf, RowStarts, total}
 use Rattle.dw_section.specs.declared.lookup.Fde.{Fde}
-use Rattle.dw_canon.specs.Canon.{initial_of}
-use Rattle.dw_canon.specs.Group.{group, IsShared}
-use Rattle.dw_canon.specs.Members.{Member, AreMembers, changes_of}
+use Rattle.dw_canon.specs.Members.{Member, changes_of}
 use Rattle.dw_canon.specs.Normal.{IsNormalForm}
 use Rattle.dw_section.specs.Meanings.{SameMeaning}
 
@@ -33,11 +31,6 @@ NormalAgain = (target : Target) (s n : List ℕ) → AreBytes s → IsNormalForm
 abbrev pub SameNormalForm : Type 0
 SameNormalForm = (target : Target) (s t n m : List ℕ) → AreBytes s → AreBytes t → IsNormalForm target s n → IsNormalForm target t m → length n ≤ 2147483647 → length m ≤ 2147483647
     → (n ≡ m) ↔ SameMeaning target s t
-
--- the initial row of a group of FDEs is what the group shares
-abbrev pub InitialIsShared : Type 0
-InitialIsShared = (target : Target) (s : List ℕ) (ms : List Member) (r : ℕ) (m : Member) (rest : List Member) → AreBytes s → Accepted target s → AreMembers target s ms
-    → group r ms ≡ m ∷ rest → IsShared (group r ms) (initial_of ms r)
 
 -- an FDE of an accepted section starts at least as many rows as it has changes
 abbrev pub FewestRows : Type 0

@@ -9,7 +9,6 @@ use Rattle.dw_num.specs.Fixed.{fixed_bytes}
 use Rattle.dw_num.specs.Shortest.{shortest_uleb, shortest_sleb}
 use Rattle.dw_num.specs.Target.{byte_count}
 use Rattle.dw_op.specs.declared.op.Op.{Op}
-use Rattle.dw_op.specs.Expression.{Expression}
 use Rattle.dw_cfa.specs.declared.instr.Instr.{Instr}
 use Rattle.dw_cfa.specs.declared.instr.Instr.TheVariants.{Nop, SetLoc, Advance, DefCfa, DefCfaRegister, DefCfaOffset, DefCfaExpression, Set, Restore, RememberState, RestoreState}
 use Rattle.dw_cfa.specs.declared.rule.RegRule.{RegRule}
@@ -18,9 +17,6 @@ use Rattle.dw_cfa.specs.declared.rule.RegRule.TheVariants as rules
 -- a block behind its length
 abbrev pub counted : List ℕ → List ℕ
 counted block = shortest_uleb (length block) ++ block
-
-abbrev pub expression_bytes : (List Op → List ℕ) → Expression → List ℕ
-expression_bytes block e = counted (block e.ops)
 
 -- the shortest advance
 abbrev pub advance_bytes : Order → ℕ → List ℕ
@@ -44,8 +40,8 @@ rule_bytes block r (rules.Offset n) =
 rule_bytes block r (rules.ValOffset n) =
     if is_positive n then 0x15 ∷ (shortest_uleb r ++ shortest_sleb (neg_ℤ n)) else 0x14 ∷ (shortest_uleb r ++ shortest_uleb (unsigned_abs n))
 rule_bytes block r (rules.Register q) = 0x09 ∷ (shortest_uleb r ++ shortest_uleb q)
-rule_bytes block r (rules.Expression e) = 0x10 ∷ (shortest_uleb r ++ expression_bytes block e)
-rule_bytes block r (rules.ValExpression e) = 0x16 ∷ (shortest_uleb r ++ expression_bytes block e)
+rule_bytes block r (rules.Expression e) = 0x10 ∷ (shortest_uleb r ++ counted (block e.ops))
+rule_bytes block r (rules.ValExpression e) = 0x16 ∷ (shortest_uleb r ++ counted (block e.ops))
 
 unfoldable pub instr_bytes : (List Op → List ℕ) → Target → Instr → List ℕ
 instr_bytes block t Nop = 0x00 ∷ []
@@ -56,7 +52,7 @@ instr_bytes block t (DefCfa r n) =
     if is_negative n then 0x12 ∷ (shortest_uleb r ++ shortest_sleb (neg_ℤ n)) else 0x0c ∷ (shortest_uleb r ++ shortest_uleb (unsigned_abs n))
 instr_bytes block t (DefCfaRegister r) = 0x0d ∷ shortest_uleb r
 instr_bytes block t (DefCfaOffset n) = if is_negative n then 0x13 ∷ shortest_sleb (neg_ℤ n) else 0x0e ∷ shortest_uleb (unsigned_abs n)
-instr_bytes block t (DefCfaExpression e) = 0x0f ∷ expression_bytes block e
+instr_bytes block t (DefCfaExpression e) = 0x0f ∷ counted (block e.ops)
 instr_bytes block t (Set r rule) = rule_bytes block r rule
 instr_bytes block t (Restore r) = packed 0xc0 0x06 r
 -- the normal form has neither

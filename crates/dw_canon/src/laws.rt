@@ -2,7 +2,7 @@
 
 ghost use Rattle.dw_canon.specs.Bound.{WithinShares};
 ghost use Rattle.dw_canon.specs.Headline.{Headline};
-ghost use Rattle.dw_canon.specs.Laws.{NormalFormExists, NormalFormIsOne, MeaningIsKept, NormalAgain, SameNormalForm, FewestRows, NormalRows, InitialIsShared};
+ghost use Rattle.dw_canon.specs.Laws.{NormalFormExists, NormalFormIsOne, MeaningIsKept, NormalAgain, SameNormalForm, FewestRows, NormalRows};
 ghost use Rattle.dw_canon.specs.Inner.Laws.{InitialProgram, MemberProgram, ChangesAreOne};
 ghost use Rattle.dw_canon.specs.Inner.Renders.{Readback};
 
@@ -21,7 +21,6 @@ pub fn normal_laws()
     ensures same { SameNormalForm }
     ensures fewest { FewestRows }
     ensures rows { NormalRows }
-    ensures shared { InitialIsShared }
 {
     program_laws();
     meaning_kept();

@@ -15,25 +15,17 @@ use Rattle.dw_cfa.specs.declared.row.Entries.{Entries}
 use Rattle.dw_cfa.specs.declared.row.Slot.{Slot}
 use Rattle.dw_cfa.specs.declared.row.Kind.{Kind}
 use Rattle.dw_cfa.specs.declared.row.Kind.TheVariants as kinds
-use Rattle.dw_cfa.specs.Rows.{is_specified, AreSpecified, rule_in}
-use Rattle.dw_cfa.specs.Agreement.{same_rule}
+use Rattle.dw_cfa.specs.Rows.{AreSpecified, rule_in}
 use Rattle.dw_cfa.specs.Inner.Entries.{entries_of, slot_rule, kind_rule, EntriesSo}
 use Rattle.dw_cfa.specs.Difference.{SameBetween, DiffersFirst, FirstDifference, place_behind}
 use Rattle.dw_cfa.specs.Inner.Difference.{SameUnset, start_behind}
 use Rattle.dw_cfa.proofs.Lent.RowLists.{Entry, lower, unlisted}
+use Rattle.dw_cfa.proofs.Lent.SameRows.{not_specified}
 use Rattle.dw_cfa.proofs.Slots.{no_slot, near_rule, far_rule, shifted, bit_inside}
 use Rattle.dw_cfa.proofs.WideRows.{less_at, equal_at, greater_at}
 use Rattle.dw_cfa.proofs.Lent.Narrowed.{filter_rule}
 
 -- ---- two lists, from both fronts
-
-specified_differs : (rule : RegRule) → is_specified rule ≡ true → same_rule rule Unspecified ≡ false
-specified_differs Unspecified is = absurd cc
-specified_differs rule is = refl
-
-differs_specified : (rule : RegRule) → is_specified rule ≡ true → same_rule Unspecified rule ≡ false
-differs_specified Unspecified is = absurd cc
-differs_specified rule is = refl
 
 first_rule : (x : Entry) (xs : List Entry) → rule_in (x ∷ xs) x.0 ≡ x.1
 first_rule x xs = rw (eq-eqb x.0 x.0 refl) refl
@@ -47,20 +39,20 @@ pub left_alone : (x : Entry) (xs ys : List Entry) → AreSpecified 0 (x ∷ xs) 
 left_alone x xs ys up up' =
     let here : rule_in (x ∷ xs) x.0 ≡ x.1 = first_rule x xs in
     let none : rule_in ys x.0 ≡ Unspecified = unlisted x.0 (suc x.0) ys up' (omega arith) in
-    (omega arith, below_both x.0 (x ∷ xs) ys (omega arith, up.1, up.2) (lower (suc x.0) x.0 ys (omega arith) up'), rw (here, none) (specified_differs x.1 up.1))
+    (omega arith, below_both x.0 (x ∷ xs) ys (omega arith, up.1, up.2) (lower (suc x.0) x.0 ys (omega arith) up'), λ e. not_specified x.1 up.1 (sym here ∙ e ∙ none))
 
 pub right_alone : (y : Entry) (xs ys : List Entry) → AreSpecified (suc y.0) xs → AreSpecified 0 (y ∷ ys) → DiffersFirst 0 xs (y ∷ ys) y.0
 right_alone y xs ys up up' =
     let here : rule_in (y ∷ ys) y.0 ≡ y.1 = first_rule y ys in
     let none : rule_in xs y.0 ≡ Unspecified = unlisted y.0 (suc y.0) xs up (omega arith) in
-    (omega arith, below_both y.0 xs (y ∷ ys) (lower (suc y.0) y.0 xs (omega arith) up) (omega arith, up'.1, up'.2), rw (here, none) (differs_specified y.1 up'.1))
+    (omega arith, below_both y.0 xs (y ∷ ys) (lower (suc y.0) y.0 xs (omega arith) up) (omega arith, up'.1, up'.2), λ e. not_specified y.1 up'.1 (sym here ∙ sym e ∙ none))
 
 -- the first of both, with another rule
-pub heads_differ : (x y : Entry) (xs ys : List Entry) → AreSpecified 0 (x ∷ xs) → AreSpecified 0 (y ∷ ys) → x.0 ≡ y.0 → same_rule x.1 y.1 ≡ false → DiffersFirst 0 (x ∷ xs) (y ∷ ys) x.0
+pub heads_differ : (x y : Entry) (xs ys : List Entry) → AreSpecified 0 (x ∷ xs) → AreSpecified 0 (y ∷ ys) → x.0 ≡ y.0 → (x.1 ≡ y.1 → ⊥) → DiffersFirst 0 (x ∷ xs) (y ∷ ys) x.0
 heads_differ x y xs ys up up' at differ =
     let here : rule_in (x ∷ xs) x.0 ≡ x.1 = first_rule x xs in
     let there : rule_in (y ∷ ys) x.0 ≡ y.1 = ap (rule_in (y ∷ ys)) at ∙ first_rule y ys in
-    (omega arith, below_both x.0 (x ∷ xs) (y ∷ ys) (omega arith, up.1, up.2) (omega arith, up'.1, up'.2), rw (here, there) differ)
+    (omega arith, below_both x.0 (x ∷ xs) (y ∷ ys) (omega arith, up.1, up.2) (omega arith, up'.1, up'.2), λ e. differ (sym here ∙ e ∙ there))
 
 -- behind a first that both have with the same rule
 module _ (x y : Entry) (xs ys : List Entry) (up : AreSpecified 0 (x ∷ xs)) (up' : AreSpecified 0 (y ∷ ys)) (at : x.0 ≡ y.0) (same : x.1 ≡ y.1) where
@@ -70,13 +62,13 @@ module _ (x y : Entry) (xs ys : List Entry) (up : AreSpecified 0 (x ∷ xs)) (up
     | inr f ↦ let g : nat_eq y.0 r ≡ false = subst (λ (n : ℕ). nat_eq n r ≡ false) at f in rw (f, g) e
   ]
 
-  rest_differs : (q : ℕ) → same_rule (rule_in xs q) (rule_in ys q) ≡ false → same_rule (rule_in (x ∷ xs) q) (rule_in (y ∷ ys) q) ≡ false
+  rest_differs : (q : ℕ) → (rule_in xs q ≡ rule_in ys q → ⊥) → rule_in (x ∷ xs) q ≡ rule_in (y ∷ ys) q → ⊥
   rest_differs q e = elim (cases_Bool (nat_eq x.0 q)) [
     | inl f ↦
         let here = eqb-true x.0 q f in
         let one : rule_in xs q ≡ Unspecified = unlisted q (suc x.0) xs up.2 (omega arith) in
         let two : rule_in ys q ≡ Unspecified = unlisted q (suc y.0) ys up'.2 (omega arith) in
-        let both : same_rule (rule_in xs q) (rule_in ys q) ≡ true = rw (one, two) refl in absurd cc
+        λ same. e (one ∙ sym two)
     | inr f ↦ let g : nat_eq y.0 q ≡ false = subst (λ (n : ℕ). nat_eq n q ≡ false) at f in rw (f, g) e
   ]
 
@@ -102,7 +94,7 @@ pub taken_right : (xs ys rest : List Entry) (y : Entry) → ys ≡ y ∷ rest �
 taken_right xs ys rest y e up up' = subst (λ (l : List Entry). DiffersFirst 0 xs l y.0) (sym e) (right_alone y xs rest up (subst (AreSpecified 0) e up'))
 
 module _ (xs ys rest rest' : List Entry) (x y : Entry) (e : xs ≡ x ∷ rest) (e' : ys ≡ y ∷ rest') (up : AreSpecified 0 xs) (up' : AreSpecified 0 ys) (le : x.0 ≤ y.0) (ge : y.0 ≤ x.0) where
-  pub taken_both : same_rule x.1 y.1 ≡ false → DiffersFirst 0 xs ys x.0
+  pub taken_both : (x.1 ≡ y.1 → ⊥) → DiffersFirst 0 xs ys x.0
   taken_both differ =
       subst (λ (l : List Entry). DiffersFirst 0 l ys x.0) (sym e) (subst (λ (l : List Entry). DiffersFirst 0 (x ∷ rest) l x.0) (sym e')
       (heads_differ x y rest rest' (subst (AreSpecified 0) e up) (subst (AreSpecified 0) e' up') (omega arith) differ))
@@ -173,16 +165,13 @@ module _ (p : Entry → Bool) (from low : ℕ) (on : FromOn p from) where
     | inl lt ↦
         let one : rule_in xs' q ≡ Unspecified = ap (λ (l : List Entry). rule_in l q) e ∙ dropped_rule xs up q lt in
         let two : rule_in ys' q ≡ Unspecified = ap (λ (l : List Entry). rule_in l q) e' ∙ dropped_rule ys up' q lt in
-        let both : same_rule (rule_in xs' q) (rule_in ys' q) ≡ true = rw (one, two) refl in
-        let not : same_rule (rule_in xs' q) (rule_in ys' q) ≡ false = h.2 in
-        absurd cc
+        absurd (h.2 (one ∙ sym two))
     | inr ge ↦
         let one : rule_in xs' q ≡ rule_in xs q = ap (λ (l : List Entry). rule_in l q) e ∙ kept_rule xs up q ge in
-        let two : rule_in ys' q ≡ rule_in ys q = ap (λ (l : List Entry). rule_in l q) e' ∙ kept_rule ys up' q ge in
-        let not : same_rule (rule_in xs' q) (rule_in ys' q) ≡ false = h.2 in (
+        let two : rule_in ys' q ≡ rule_in ys q = ap (λ (l : List Entry). rule_in l q) e' ∙ kept_rule ys up' q ge in (
           ge,
           (λ r le lt. sym (kept_rule xs up r le) ∙ sym (ap (λ (l : List Entry). rule_in l r) e) ∙ h.1 r (omega arith) lt ∙ ap (λ (l : List Entry). rule_in l r) e' ∙ kept_rule ys up' r le),
-          rw (sym one, sym two) not,
+          λ same. h.2 (one ∙ same ∙ sym two),
         )
   ]
 
@@ -209,10 +198,8 @@ module _ (e f : Entries) (so : EntriesSo e) (so' : EntriesSo f) (from : ℕ) (ne
     | inl low ↦
         let one : rule_in e.far.entries q ≡ Unspecified = unlisted q 32 e.far.entries so.far low in
         let two : rule_in f.far.entries q ≡ Unspecified = unlisted q 32 f.far.entries so'.far low in
-        let both : same_rule (rule_in e.far.entries q) (rule_in f.far.entries q) ≡ true = rw (one, two) refl in
-        let not : same_rule (rule_in e.far.entries q) (rule_in f.far.entries q) ≡ false = far.2 in
-        absurd cc
+        absurd (far.2 (one ∙ sym two))
     | inr high ↦
         let one = (behind q high).0 in let two = (behind q high).1 in
-        (far.0, all_same q far.1, rw (one, two) far.2)
+        (far.0, all_same q far.1, λ same. far.2 (sym one ∙ same ∙ two))
   ]

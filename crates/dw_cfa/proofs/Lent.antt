@@ -16,4 +16,5 @@ pub mod SameRows
 pub mod Skipped
 pub mod InstrCounts
 pub mod Narrowed
+pub mod Equal
 pub mod Openings

@@ -1,5 +1,5 @@
 -- The registers that were set since a row was kept: those without a mark have the same rules in both rows.
-use Rattle.std.proofs.Common.{◌≡◌, ℕ, suc, ◌+◌, ◌<◌, ◌≤◌, Bool, false, List, [], ◌∷◌, max, Option, refl, sym, ap, ◌∙◌, subst, arith, inl, inr}
+use Rattle.std.proofs.Common.{◌≡◌, ℕ, suc, ◌+◌, ◌<◌, ◌≤◌, Bool, List, [], ◌∷◌, max, Option, refl, sym, ap, ◌∙◌, subst, arith, inl, inr}
 use Rattle.std.specs.Prelude.{nat_eq, ◌*◌, ◌%◌, ◌^◌, bit_or, not, is_some, IsTrue, Result, Ok, Err, IfOk, OnOk, OnErr}
 use Rattle.std.specs.Int.{bit_at, w32}
 use Rattle.std.specs.List.{filter}
@@ -11,7 +11,6 @@ use Rattle.dw_cfa.specs.declared.rule.RegRule.{RegRule}
 use Rattle.dw_cfa.specs.declared.rule.RegRule.TheVariants.{Unspecified, SameValue}
 use Rattle.dw_cfa.specs.Rows.{Rules, AreSpecified, rule_in}
 use Rattle.dw_cfa.specs.Inner.Rows.{put, with_rule}
-use Rattle.dw_cfa.specs.Agreement.{same_rule}
 use Rattle.dw_cfa.specs.Difference.{DiffersFirst, FirstDifference, SameBetween}
 use Rattle.dw_cfa.specs.Inner.Difference.{SameUnset}
 use Rattle.dw_cfa.specs.Inner.Marks.{CopiedUpTo, MarksMore, MarksSo, SameUnlisted, SameUnmarked, Unmarked, WatchedSo}
@@ -186,7 +185,7 @@ module _ (from : ℕ) (left rest kept row : List Entry) (x : Entry) (e : left �
   first_up : AreSpecified from (x ∷ rest)
   first_up = subst (AreSpecified from) e up
 
-  pub differs_here : same_rule (rule_in kept x.0) (rule_in row x.0) ≡ false → DiffersFirst from kept row x.0
+  pub differs_here : (rule_in kept x.0 ≡ rule_in row x.0 → ⊥) → DiffersFirst from kept row x.0
   differs_here differ =
       let at = first_up in
       (at.0, (λ r le lt. same r le (unlisted r x.0 left (subst (AreSpecified x.0) (sym e) (omega arith, at.1, at.2)) lt)), differ)

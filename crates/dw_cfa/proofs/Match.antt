@@ -4,8 +4,8 @@ use Rattle.dw_cfa.specs.declared.instr.Instr.{Instr}
 use Rattle.dw_cfa.specs.declared.instr.Instr.TheVariants.{RememberState, RestoreState}
 use Rattle.dw_cfa.specs.Column.{look_back, cfa_change, rule_change}
 use Rattle.std.specs.Prelude.{◌↔◌, cond}
-use Rattle.dw_cfa.specs.Kept.{is_remember, is_restore}
-use Rattle.dw_cfa.specs.Match.{IsBetween, remembered, restored, RestoresMatched}
+use Rattle.dw_cfa.specs.Kept.{is_remember, is_restore, remembered, restored}
+use Rattle.dw_cfa.specs.Match.{IsBetween, RestoresMatched}
 use Rattle.dw_cfa.proofs.Lent.KeptRuns.{more_remembered, more_restored}
 
 -- how an instruction counts among what has to be passed

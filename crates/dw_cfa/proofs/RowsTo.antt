@@ -1,7 +1,6 @@
 -- A run up to the last row that starts at or below an address.
-use Rattle.std.proofs.Common.{◌≡◌, ℕ, ◌<◌, ◌≤◌, Bool, true, List, [], ◌∷◌, length, Option, Some, None, Result, Ok, Err, refl, sym, ap, ◌∙◌, subst, arith, inl, inr}
+use Rattle.std.proofs.Common.{◌≡◌, ℕ, ◌<◌, ◌≤◌, Bool, true, List, [], ◌∷◌, length, Option, Some, None, Result, Ok, Err, refl, sym, ap, ◌∙◌, subst, arith}
 use Rattle.std.proofs.lemmas.Bool.{le-leb}
-use Rattle.std.proofs.lemmas.Bool.Decides.{leb_tells}
 use Rattle.dw_num.specs.declared.refusal.Refusal.{Refusal}
 use Rattle.std.specs.Prelude.{IfErr, IfOk, IsTrue, OnOk}
 use Rattle.dw_num.specs.declared.error.ReadError.{ReadError}
@@ -26,8 +25,14 @@ use Rattle.dw_cfa.proofs.Lent.RunLaws.{left_starts, some_rows_left}
 here_is : (a : ℕ) (first : LocatedRow) (rows : List LocatedRow) → first.location ≤ a → last_at a rows ≡ None → last_at a (first ∷ rows) ≡ Some first.row
 here_is a first rows le none = rw (none, le-leb first.location a le) refl
 
-pub one_last : (x : Option Rules) (row other : Rules) → x ≡ Some row → x ≡ Some other → row ≡ other
-one_last x row other e f = let same = sym e ∙ f in cc
+-- a walk that has the last row has the one that is asked for, of which there is one
+pub found_last : {X E : Type 0} (result : Result X E) (x : Option Rules) (new row : Rules) → OnOk result (x ≡ Some new) → x ≡ Some row → OnOk result (new ≡ row)
+found_last (Ok y) x new row last e = let same = sym last ∙ e in cc
+found_last (Err y) x new row last e = tt
+
+pub none_last : {X E : Type 0} (result : Result X E) (x : Option Rules) (new row : Rules) → OnOk result (x ≡ Some new) → x ≡ None → OnOk result (new ≡ row)
+none_last (Ok y) x new row last none = let bad = sym last ∙ none in absurd cc
+none_last (Err y) x new row last none = tt
 
 module _ (f : Factors) (i : Input) (m : Machine) where
   as_finished : (rows_left f i m).rows ≡ [] → (rows_left f i m).fault ≡ None → rows_left f i m ≡ finished
@@ -48,13 +53,6 @@ module _ (f : Factors) (i : Input) (m : Machine) (a : ℕ) where
       go : (rows : List LocatedRow) → (rows_left f i m).rows ≡ rows → NeverFalls low rows → last_at a rows ≡ None
       go [] e up = refl
       go (first ∷ rest) e up = none_at a first.location (first ∷ rest) (subst (λ (n : ℕ). a < n) (sym (left_starts f i i m first rest e)) past) (omega arith, up.1)
-
-  -- the first starts at or below it where one of them does
-  pub starts_below : ((low : ℕ) × NeverFalls low (rows_left f i m).rows) → (row : Rules) → last_at a (rows_left f i m).rows ≡ Some row → m.location ≤ a
-  starts_below up row e = elim (leb_tells m.location a) [
-    | inl le ↦ le.1
-    | inr past ↦ let none = sym (no_row up.0 up.1 past.1) ∙ e in absurd cc
-  ]
 
 -- the first of these rows starts at or below an address
 abbrev pub FirstBelow : ℕ → List LocatedRow → Type 0

@@ -2,6 +2,7 @@
 -- DWARF 5, 6.4.3. A row ends before each instruction that moves the location, and the last one behind the last
 -- instruction. It starts at the location there, and holds the rules there.
 use Rattle.std.specs.Prelude.{◌≡◌, ℕ, suc, List, [], ◌∷◌, map, Option, Some, None, Result, Ok, Err, if◌then◌else◌}
+use Rattle.std.specs.List.{AllZip}
 use Rattle.dw_num.specs.declared.refusal.Refusal.{Refusal}
 use Rattle.dw_num.specs.Target.{address_limit}
 use Rattle.dw_num.specs.Input.{Input}
@@ -34,17 +35,11 @@ LeavesTo f cie (Err r) = CieFault f cie r
 
 -- ---- an FDE's program
 
--- after how many instructions rows end: before each that moves the location, and then `last`, behind all
+-- after how many instructions rows end: before each that moves the location, and then `last`, which is one row behind all of a
+-- program that is run to its end, and none of one that is refused there
 abbrev pub ends : List ℕ → List Instr → List ℕ
 ends last [] = last
 ends last (i ∷ instrs) = if moves_location i then 0 ∷ map suc (ends last instrs) else map suc (ends last instrs)
-
--- of a program that is run to its end, and of one that is refused behind these instructions, which ends no row
-abbrev pub row_ends : List Instr → List ℕ
-row_ends instrs = ends (0 ∷ []) instrs
-
-abbrev pub ends_before_fault : List Instr → List ℕ
-ends_before_fault instrs = ends [] instrs
 
 -- the row has in each column the rule after k instructions that begin with the initial row
 pub record HoldsBehind (initial : Rules) (instrs : List Instr) (k : ℕ) (row : Rules) : Type 0 where
@@ -57,24 +52,18 @@ pub record IsRowAfter (initial : Rules) (begin : ℕ) (instrs : List Instr) (k :
   pub location : row.location ≡ location begin instrs k
   pub holds : HoldsBehind initial instrs k row.row
 
--- rows that end after so many instructions each
-abbrev pub AreRowsAfter : Rules → ℕ → List Instr → List ℕ → List LocatedRow → Type 0
-AreRowsAfter initial begin instrs [] [] = Unit {0}
-AreRowsAfter initial begin instrs (k ∷ ks) (row ∷ rows) = IsRowAfter initial begin instrs k row × AreRowsAfter initial begin instrs ks rows
-AreRowsAfter initial begin instrs ks rows = ⊥
-
 -- a program of an FDE that keeps its rules, and the rows that it gives behind an initial row
 pub record GivesBehind (f : Factors) (initial : Rules) (fde : Input) (begin : ℕ) (rows : List LocatedRow) : Type 0 where
   pub instrs : List Instr
   pub program : Program fde.target f instrs fde.bytes
   pub kept : FdeKept (address_limit fde.target.size) begin initial.cfa instrs
-  pub each : AreRowsAfter initial begin instrs (row_ends instrs) rows
+  pub each : AllZip (IsRowAfter initial begin instrs) (ends (0 ∷ []) instrs) rows
 
 -- one that is refused, and the rows before that
 pub record GivesBefore (f : Factors) (initial : Rules) (fde : Input) (begin : ℕ) (r : Refusal) (rows : List LocatedRow) : Type 0 where
   pub instrs : List Instr
   pub fault : FdeFaultBehind f initial.cfa fde begin instrs r
-  pub each : AreRowsAfter initial begin instrs (ends_before_fault instrs) rows
+  pub each : AllZip (IsRowAfter initial begin instrs) (ends [] instrs) rows
 
 abbrev pub GivesUpTo : Factors → Rules → Input → ℕ → Option Refusal → List LocatedRow → Type 0
 GivesUpTo f initial fde begin None rows = GivesBehind f initial fde begin rows

@@ -1,7 +1,6 @@
--- The first register whose rule differs between two rows. Rules are compared by the test of `Agreement`.
-use Rattle.std.specs.Prelude.{◌≡◌, ℕ, suc, ◌<◌, ◌≤◌, List, Option, Some, None, false}
+-- The first register whose rule differs between two rows.
+use Rattle.std.specs.Prelude.{◌≡◌, ℕ, suc, ◌<◌, ◌≤◌, List, Option, Some, None}
 use Rattle.dw_cfa.specs.declared.rule.RegRule.{RegRule}
-use Rattle.dw_cfa.specs.Agreement.{same_rule}
 use Rattle.dw_cfa.specs.Rows.{rule_in}
 
 -- registers from one place on, below another one, have the same rules
@@ -10,7 +9,7 @@ SameBetween from to xs ys = (r : ℕ) → from ≤ r → r < to → rule_in xs r
 
 -- a register's rule differs, and those of the registers before it, from a place on, do not
 abbrev pub DiffersFirst : ℕ → List (ℕ × RegRule) → List (ℕ × RegRule) → ℕ → Type 0
-DiffersFirst from xs ys q = (from ≤ q) × SameBetween from q xs ys × (same_rule (rule_in xs q) (rule_in ys q) ≡ false)
+DiffersFirst from xs ys q = (from ≤ q) × SameBetween from q xs ys × (rule_in xs q ≡ rule_in ys q → ⊥)
 
 -- the first register from a place on whose rule differs; none where no rule does
 abbrev pub FirstDifference : ℕ → List (ℕ × RegRule) → List (ℕ × RegRule) → Option ℕ → Type 0

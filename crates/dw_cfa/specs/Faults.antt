@@ -15,7 +15,7 @@ use Rattle.dw_cfa.specs.InstrSpells.{InstrSpells, Program}
 use Rattle.dw_cfa.specs.Listing.{ProgramFault}
 use Rattle.dw_cfa.specs.Location.{location}
 use Rattle.dw_cfa.specs.Column.{cfa_after}
-use Rattle.dw_cfa.specs.Kept.{in_cie, keeps_half, IsRegisterRule, remembers, restores, CieKept, FdeKept}
+use Rattle.dw_cfa.specs.Kept.{in_cie, keeps_half, IsRegisterRule, remembered, restored, CieKept, FdeKept}
 use Rattle.dw_cfa.specs.Laws.{initial_cfa}
 
 -- half of the CFA's rule is kept, and that rule is no register and offset
@@ -30,8 +30,8 @@ CieBreaks instrs i code = ((code ≡ NotInCie) × IsTrue (not (in_cie i))) ⊎ (
 abbrev pub FdeBreaks : ℕ → ℕ → CfaRule → List Instr → Instr → Code → Type 0
 FdeBreaks limit begin initial instrs (SetLoc a) code = (code ≡ LocationBackwards) × (a < location begin instrs (length instrs))
 FdeBreaks limit begin initial instrs (Advance delta) code = (code ≡ LocationTooLarge) × (limit < location begin instrs (length instrs) + delta)
-FdeBreaks limit begin initial instrs RememberState code = (code ≡ StateStackFull) × (remembers instrs (length instrs) ≡ restores instrs (length instrs) + 64)
-FdeBreaks limit begin initial instrs RestoreState code = (code ≡ EmptyStateStack) × (remembers instrs (length instrs) ≡ restores instrs (length instrs))
+FdeBreaks limit begin initial instrs RememberState code = (code ≡ StateStackFull) × (remembered instrs ≡ restored instrs + 64)
+FdeBreaks limit begin initial instrs RestoreState code = (code ≡ EmptyStateStack) × (remembered instrs ≡ restored instrs)
 FdeBreaks limit begin initial instrs i code = BreaksHalf (cfa_after initial instrs (length instrs)) i code
 
 -- behind the instructions stands one that breaks a rule; the refusal names the place of its opcode

@@ -15,7 +15,9 @@ pub mod CieMachine
 pub mod RowWalk
 pub mod Steps
 pub mod Turns
+pub mod Agreement
 pub mod Difference
 pub mod Rows
+pub mod RowEquality
 pub mod RuleAt
 pub mod NextRow

@@ -1,17 +1,11 @@
 -- What a restore_state restores: DWARF 5, 6.4.2.4. Lists of instructions are given with the last of them first.
-use Rattle.std.specs.Prelude.{◌≡◌, ◌≢◌, ℕ, ◌+◌, List, ◌∷◌, ◌++◌, count_by}
+use Rattle.std.specs.Prelude.{◌≡◌, ◌≢◌, ℕ, ◌+◌, List, ◌∷◌, ◌++◌}
 use Rattle.dw_cfa.specs.declared.instr.Instr.{Instr}
 use Rattle.dw_cfa.specs.declared.instr.Instr.TheVariants.{RememberState, RestoreState}
 use Rattle.dw_cfa.specs.declared.rule.CfaRule.{CfaRule}
 use Rattle.dw_cfa.specs.declared.rule.RegRule.{RegRule}
-use Rattle.dw_cfa.specs.Kept.{is_remember, is_restore}
+use Rattle.dw_cfa.specs.Kept.{remembered, restored}
 use Rattle.dw_cfa.specs.Column.{look_back, cfa_change, rule_change}
-
-abbrev pub remembered : List Instr → ℕ
-remembered instrs = count_by is_remember instrs
-
-abbrev pub restored : List Instr → ℕ
-restored instrs = count_by is_restore instrs
 
 -- `between` stands, the last first, between a restore_state, with `inner` more to be passed, and its remember_state
 pub record IsBetween (inner : ℕ) (between : List Instr) : Type 0 where

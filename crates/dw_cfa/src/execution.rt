@@ -6,6 +6,7 @@ ghost use Rattle.dw_cfa.specs.RuleAt.{last_at, NeverFalls};
 ghost use Rattle.dw_cfa.specs.Rows.{Rules};
 ghost use Rattle.dw_cfa.specs.Inner.Runs.{RunsSo, GivesRow, StopsAbove, Wrote, rows_left, stop_left, initial_row, placed};
 ghost use Rattle.dw_cfa.specs.Inner.RowWalk.{AllSpecify};
+ghost use Rattle.dw_cfa.specs.Inner.RuleAt.{LeavesAbove};
 
 use crate::cie_instruction::write_operands;
 use crate::instr::Factors;
@@ -17,7 +18,7 @@ use crate::turn::turn;
 use dw_num::{Code, Cursor, ReadError, Refusal, are_bytes};
 
 /// A row of the call frame table (6.4.1, 6.4.3), and the location that it starts at. It holds up to the location of the next row.
-#[derive(Clone, Debug, Drop)]
+#[derive(Clone, Debug, Drop, PartialEq, Eq)]
 pub struct LocatedRow<'a> {
     /// Where it starts: `initial_location`, or what `DW_CFA_set_loc` and `DW_CFA_advance_loc` made of it. It is at most 2^N, where
     /// an address has N bits.
@@ -69,7 +70,7 @@ pub(crate) fn run_to<'a>(
     requires known { IsTrue known → (rows_left factors cursor.old machine.old).fault ≡ None }
     requires never_falls { (low : ℕ) × NeverFalls low (rows_left factors cursor.old machine.old).rows }
     ensures last { machine.old.location ≤ address → OnOk result (last_at address (rows_left factors cursor.old machine.old).rows ≡ Some machine.new.states.row) }
-    ensures found { (row : Rules) → last_at address (rows_left factors cursor.old machine.old).rows ≡ Some row → OnOk result (machine.new.states.row ≡ row) }
+    ensures behind { machine.old.location ≤ address → LeavesAbove address (rows_left factors cursor.old machine.old) factors cursor.new machine.new result }
     ensures so { OnOk result (RunsSo machine.new cursor.new) }
     ensures fault { OnOk result ((rows_left factors cursor.new machine.new).fault ≡ (rows_left factors cursor.old machine.old).fault) }
     ensures keeps { (other : Rules) → AllSpecify other (rows_left factors cursor.old machine.old).rows → OnOk result (AllSpecify other (rows_left factors cursor.new machine.new).rows) }

@@ -3,7 +3,6 @@
 ghost use Rattle.std.specs.Prelude.{◌≡◌, ◌↔◌, [], ◌∷◌, IsTrue, MatchOption, length};
 ghost use Rattle.std.specs.Iterator.{YieldsFirst, item_count};
 ghost use Rattle.dw_cfa.specs.Rows.{rule_in};
-ghost use Rattle.dw_cfa.specs.Agreement.{same_rule};
 ghost use Rattle.dw_cfa.specs.Inner.Entries.{CopiedBelow, Covers, FindsNear, slot_rule};
 
 use crate::row::{EMPTY, Kind, NEAR, Slot, rule_of};
@@ -81,8 +80,7 @@ fn same_rules(
     others: &BTreeMap<u16, RegRule<'_>>,
     register: u16,
 ) -> bool
-    ensures same { IsTrue result ↔ (slot_rule slot (rule_in expressions.now.entries register) ≡ slot_rule other (rule_in others.now.entries register)) }
-    ensures test { result ≡ same_rule (slot_rule slot (rule_in expressions.now.entries register)) (slot_rule other (rule_in others.now.entries register)) }
+    ensures { IsTrue result ↔ (slot_rule slot (rule_in expressions.now.entries register) ≡ slot_rule other (rule_in others.now.entries register)) }
 {
     rule_of(slot, expressions, register).is_same(&rule_of(other, others, register))
 }
@@ -96,8 +94,7 @@ pub(crate) fn same_slots(
     others: &BTreeMap<u16, RegRule<'_>>,
     register: u16,
 ) -> bool
-    ensures same { IsTrue result ↔ (slot_rule slot (rule_in expressions.now.entries register) ≡ slot_rule other (rule_in others.now.entries register)) }
-    ensures test { result ≡ same_rule (slot_rule slot (rule_in expressions.now.entries register)) (slot_rule other (rule_in others.now.entries register)) }
+    ensures { IsTrue result ↔ (slot_rule slot (rule_in expressions.now.entries register) ≡ slot_rule other (rule_in others.now.entries register)) }
 {
     match (slot.kind, other.kind) {
         (Kind::Expression, _) | (_, Kind::Expression) => {

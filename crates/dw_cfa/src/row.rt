@@ -6,7 +6,8 @@ ghost use Rattle.std.specs.Iterator.{YieldsFirst, item_count};
 ghost use Rattle.dw_cfa.specs.declared.rule.RegRule.TheVariants.{Unspecified};
 ghost use Rattle.dw_cfa.specs.Rows.{AreSpecified, HasFar, rule, rule_in, blank};
 ghost use Rattle.dw_cfa.specs.Inner.Rows.{put, with_cfa, with_rule};
-ghost use Rattle.dw_cfa.specs.Agreement.{is_agreed, is_kept, agreed, kept, same_rule};
+ghost use Rattle.dw_cfa.specs.Agreement.{IsAgreed, is_kept, kept};
+ghost use Rattle.dw_cfa.specs.Inner.Agreement.{is_agreed, same_rule};
 ghost use Rattle.dw_cfa.specs.Inner.Entries.{entries_of, slot_rule, EntriesSo, IsSlotOf, LeavesAt, LeavesBelow};
 ghost use Rattle.dw_cfa.specs.Difference.{FirstDifference, place_behind};
 ghost use Rattle.dw_cfa.specs.Inner.Difference.{FirstBelow, SameUnset};
@@ -432,6 +433,15 @@ impl<'a> Entries<'a> {
         }
     }
 
+    // Whether they give a register this rule.
+    #[inline(always)]
+    fn give(&self, register: u16, rule: &RegRule<'_>) -> bool
+        requires { EntriesSo self.now }
+        ensures { result ≡ same_rule rule.now (rule_in (entries_of self.now) register) }
+    {
+        rule.is_same(&self.rule(register))
+    }
+
     // Takes those out to which others give another rule.
     fn agree(&mut self, others: &Entries<'_>)
         requires so { EntriesSo self.old }
@@ -441,7 +451,7 @@ impl<'a> Entries<'a> {
     {
         self.agree_near(others);
         self.far
-            .retain(|register, rule| rule.is_same(&others.rule(*register)));
+            .retain(|register, rule| others.give(*register, rule));
     }
 
     // Takes a register out that has a slot, if others leave it Unspecified.
@@ -651,8 +661,7 @@ impl<'a> Row<'a> {
     /// Whether another row gives a register the same rule. Expressions are compared by their operations.
     #[inline(always)]
     pub fn has_same_rule(&self, other: &Row<'_>, register: u16) -> bool
-        ensures same { IsTrue result ↔ (rule self.now register ≡ rule other.now register) }
-        ensures test { result ≡ same_rule (rule self.now register) (rule other.now register) }
+        ensures { IsTrue result ↔ (rule self.now register ≡ rule other.now register) }
     {
         self.entries.has_same(&other.entries, register)
     }
@@ -759,7 +768,7 @@ impl<'a> Row<'a> {
 
     /// Keeps what another row has too: the CFA's rule, and the registers with their rules. Takes no memory.
     pub fn agree(&mut self, other: &Row<'_>)
-        ensures { self.new ≡ agreed self.old other.now }
+        ensures { IsAgreed self.old other.now self.new }
     {
         self.entries.agree(&other.entries);
         if !self.cfa.is_same(&other.cfa) {

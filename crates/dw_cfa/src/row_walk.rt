@@ -1,11 +1,11 @@
 //! Rows of one FDE after another, in room that is kept (6.4.1, 6.4.3).
 
-ghost use Rattle.std.specs.Prelude.{◌≡◌, ◌<◌, ℕ, None, Ok, List, ◌∷◌, IfErr, IfOk, IsOk, IsTrue, ◌↔◌, MatchResult, OnOk, Some};
+ghost use Rattle.std.specs.Prelude.{◌≡◌, ◌<◌, ◌≤◌, ℕ, None, Ok, List, ◌∷◌, IfErr, IfOk, IsOk, IsTrue, ◌↔◌, MatchResult, OnOk, Some};
 ghost use Rattle.dw_num.specs.Target.{address_limit};
 ghost use Rattle.dw_num.specs.declared.error.ReadError.TheVariants.{OutOfMemory};
 ghost use Rattle.dw_cfa.specs.declared.execution.LocatedRow.{LocatedRow};
 ghost use Rattle.dw_cfa.specs.Gives.{Gives, RunsTo};
-ghost use Rattle.dw_cfa.specs.RuleAt.{last_at, NeverFalls};
+ghost use Rattle.dw_cfa.specs.RuleAt.{last_at, left_above, NeverFalls};
 ghost use Rattle.dw_cfa.specs.Difference.{FirstDifference, place_behind};
 ghost use Rattle.dw_cfa.specs.Rows.{AreSpecified, Rules, blank};
 ghost use Rattle.dw_cfa.specs.Inner.Runs.{GivesRow, RunsSo, initial_row, placed, rows_left, run_rows};
@@ -13,6 +13,7 @@ ghost use Rattle.dw_cfa.specs.Runs.{finished};
 ghost use Rattle.dw_cfa.specs.Inner.States.{BeganWith};
 ghost use Rattle.dw_cfa.specs.RowSteps.{Advances, program_input, stepping};
 ghost use Rattle.dw_cfa.specs.Inner.RowSteps.{progress_after};
+ghost use Rattle.dw_cfa.specs.Inner.RuleAt.{LeavesAbove};
 ghost use Rattle.dw_cfa.specs.RowWalk.{AllKeep, unled};
 ghost use Rattle.dw_cfa.specs.Inner.RowWalk.{AllSpecify, HasInitial, LeadsSame, Readied, WalkKeeps, WalksSo, led_rows, walk_of};
 
@@ -124,7 +125,8 @@ fn first_to<'a>(
     requires so { RunsSo machine.old fde.old }
     requires kept { IsTrue kept.old → HasInitial leading machine.old }
     requires never_falls { (low : ℕ) × NeverFalls low (led_rows leading fde.old machine.old.location).rows }
-    ensures found { (row : Rules) → last_at address (led_rows leading.entry fde.old machine.old.location).rows ≡ Some row → OnOk result (machine.new.states.row ≡ row) }
+    ensures last { machine.old.location ≤ address → OnOk result (last_at address (led_rows leading.entry fde.old machine.old.location).rows ≡ Some machine.new.states.row) }
+    ensures behind { machine.old.location ≤ address → LeavesAbove address (led_rows leading.entry fde.old machine.old.location) leading.entry.factors fde.new machine.new result }
     ensures so { OnOk result (RunsSo machine.new fde.new) }
     ensures known { OnOk result ((rows_left leading.entry.factors fde.new machine.new).fault ≡ None) }
     ensures err { IfErr result (λ e. e ≡ OutOfMemory) }
@@ -151,7 +153,9 @@ fn walk_to<'a>(
     requires so { WalksSo progress kept.old leading fde.old machine.old }
     requires no_error { (walk_of progress leading fde.old machine.old).error ≡ None }
     requires never_falls { (low : ℕ) × NeverFalls low (walk_of progress leading fde.old machine.old).outcome.rows }
-    ensures found { (row : Rules) → last_at address (walk_of progress leading.entry fde.old machine.old).outcome.rows ≡ Some row → OnOk result (machine.new.states.row ≡ row) }
+    ensures found { machine.old.location ≤ address → (row : Rules) → last_at address (walk_of progress leading.entry fde.old machine.old).outcome.rows ≡ Some row → OnOk result (machine.new.states.row ≡ row) }
+    ensures stays { machine.old.location ≤ address → last_at address (walk_of progress leading.entry fde.old machine.old).outcome.rows ≡ None → OnOk result (machine.new.states.row ≡ machine.old.states.row) }
+    ensures behind { machine.old.location ≤ address → LeavesAbove address (walk_of progress leading.entry fde.old machine.old).outcome leading.entry.factors fde.new machine.new result }
     ensures so { IfOk result (λ more. IsTrue more → RunsSo machine.new fde.new) }
     ensures first { OnOk result (BeganWith machine.new.initial machine.new.states.first) }
     ensures known { IfOk result (λ more. IsTrue more → (rows_left leading.entry.factors fde.new machine.new).fault ≡ None) }
@@ -334,16 +338,22 @@ impl<'a> RowWalk<'a> {
     }
 
     /// Goes on to the last row that starts at or below an address, which `row` lends then, where one of those still to come
-    /// does. No row is copied. Want of memory is answered from then on, until `go_to`.
+    /// does, and else stays. Those that start above it are still to come. No row is copied. Want of memory is answered from
+    /// then on, until `go_to`.
     pub fn advance_to(&mut self, address: u64) -> Result<(), ReadError>
         requires no_error { self.old.steps.error ≡ None }
         requires never_falls { (low : ℕ) × NeverFalls low self.old.steps.outcome.rows }
         ensures found { (row : Rules) → last_at address self.old.steps.outcome.rows ≡ Some row → OnOk result (self.new.steps.current ≡ row) }
+        ensures stays { last_at address self.old.steps.outcome.rows ≡ None → OnOk result (self.new.steps.current ≡ self.old.steps.current) }
+        ensures behind { MatchResult result (λ _. self.new.steps.outcome ≡ left_above address self.old.steps.outcome) (λ _. self.new.steps.outcome ≡ finished) }
         ensures err { IfErr result (λ e. e ≡ OutOfMemory) }
         ensures again { MatchResult result (λ _. self.new.steps.error ≡ None) (λ e. self.new.steps.error ≡ Some e) }
         ensures kept { self.new.kept ≡ self.old.kept }
         ensures led { self.new.led ≡ self.old.led }
     {
+        if self.machine.location > u128::from(address) {
+            return Ok(());
+        }
         let (fde, machine) = (&mut self.fde, &mut self.machine);
         let (progress, leading, kept) = (self.progress, self.leading, &mut self.kept);
         let answer = walk_to(progress, leading, fde, machine, kept, address);

@@ -1,5 +1,5 @@
 -- Runs that end: a load of later files, and what a call that writes becomes.
-use Rattle.std.proofs.Common.{◌≡◌, ◌∙◌, ◌⊎◌, ℕ, List, Option, Result, Ok, Err, refl, inl, inr, subst, sym}
+use Rattle.std.proofs.Common.{◌≡◌, ◌∙◌, ◌⊎◌, ℕ, List, Option, option_map, Result, Ok, Err, refl, inl, inr, subst, sym}
 use Rattle.std.specs.Result.{MatchResult, result_map_both}
 use Rattle.clap.specs.Words.{Text}
 use Rattle.dw_num.specs.declared.target.Target.{Target}
@@ -26,7 +26,9 @@ use Rattle.dw_unwind.specs.Unwound.{Unwound, stopped}
 use Rattle.dw_command.specs.declared.files.LoadError.{LoadError}
 use Rattle.dw_command.specs.declared.failure.Failure.{Failure}
 use Rattle.dw_command.specs.declared.failure.Failure.TheVariants as failures
-use Rattle.dw_command.specs.Answers.{Checks, CostEnds, EvalEnds, Frames, Loads, LoadsDump, LoadsText, Normalises, Parses, Prints, Then, UnwindEnds, Values}
+use Rattle.dw_words.specs.declared.request.Evaluation.{Evaluation}
+use Rattle.dw_words.specs.declared.request.Unwinding.{Unwinding}
+use Rattle.dw_command.specs.Answers.{Checks, Costs, EvalEnds, Frames, Loads, LoadsDump, LoadsText, Normalises, OverFile, Parses, Prints, Then, UnwindEnds, Values}
 use Rattle.dw_command.specs.Failure.{of_read}
 use Rattle.dw_command.specs.Inner.Failure.{of_write}
 
@@ -86,21 +88,21 @@ pub values_at : (t u : Target) (ops : List Op) (start : Option ℕ) (dump : Dump
 values_at t u ops start dump steps r is h = subst (λ (t : Target). Values t ops start dump steps r) is h
 
 -- behind a text and a block that is decoded
-pub behind_block : (gives : Text → Result (List ℕ) LoadError → Type 0) (old new left : ℕ) (target : Target) (steps : ℕ) (start : Option ℕ) (block : List ℕ) (path : Option Text)
+pub behind_block : (gives : Text → Result (List ℕ) LoadError → Type 0) (old new left : ℕ) (target : Target) (e : Evaluation)
     (text text' block' : List ℕ) (ops : List Op) (r : Result (Unit {0}) Failure)
-    → text' ≡ text → LoadsText gives path (Ok text) → block' ≡ block → IsBlock Location target ops block'
-    → Then (Parses target text') (λ dump. Then (Values target ops start dump steps) (λ _. Prints {A = Unit {0}} old new left tt)) r
-    → EvalEnds gives old new left target steps start block path r
-behind_block gives old new left target steps start block path text text' block' ops r lent loads same found ends =
-    inl (text', subst (λ (t : List ℕ). LoadsText gives path (Ok t)) (sym lent) loads, inl (ops, subst (λ (b : List ℕ). IsBlock Location target ops b) same found, ends))
+    → text' ≡ text → LoadsText gives (option_map (λ p. p.now) e.dump) (Ok text) → block' ≡ e.block.items → IsBlock Location target ops block'
+    → Then (Parses target text') (λ dump. Then (Values target ops e.start dump e.steps) (λ _. Prints {A = Unit {0}} old new left tt)) r
+    → EvalEnds gives old new left target e r
+behind_block gives old new left target e text text' block' ops r lent loads same found ends =
+    inl (text', subst (λ (t : List ℕ). LoadsText gives (option_map (λ p. p.now) e.dump) (Ok t)) (sym lent) loads, inl (ops, subst (λ (b : List ℕ). IsBlock Location target ops b) same found, ends))
 
 -- behind a text and a block that is refused
-pub block_refused : (gives : Text → Result (List ℕ) LoadError → Type 0) (old new left : ℕ) (target : Target) (steps : ℕ) (start : Option ℕ) (block : List ℕ) (path : Option Text)
-    (text block' : List ℕ) (e : ReadError) (f : Failure)
-    → LoadsText gives path (Ok text) → block' ≡ block → Refuses (BlockFault Location target block') e → f ≡ of_read e
-    → EvalEnds gives old new left target steps start block path (Err f)
-block_refused gives old new left target steps start block path text block' e f loads same refused is =
-    inl (text, loads, inr (f, (e, subst (λ (b : List ℕ). Refuses (BlockFault Location target b) e) same refused, is), refl))
+pub block_refused : (gives : Text → Result (List ℕ) LoadError → Type 0) (old new left : ℕ) (target : Target) (e : Evaluation)
+    (text block' : List ℕ) (why : ReadError) (f : Failure)
+    → LoadsText gives (option_map (λ p. p.now) e.dump) (Ok text) → block' ≡ e.block.items → Refuses (BlockFault Location target block') why → f ≡ of_read why
+    → EvalEnds gives old new left target e (Err f)
+block_refused gives old new left target e text block' why f loads same refused is =
+    inl (text, loads, inr (f, (why, subst (λ (b : List ℕ). Refuses (BlockFault Location target b) why) same refused, is), refl))
 
 -- ---- frames
 
@@ -113,13 +115,13 @@ unwound t u s pc dump policy steps e is (inr h) =
     inr (subst (λ (t : Target). Unwound t s pc (stopped t dump.registers (byte_in dump.memory)) policy steps (Err e)) is h)
 
 -- behind both files
-pub behind_files : (gives : Text → Result (List ℕ) LoadError → Type 0) (old new left : ℕ) (target : Target) (policy : Policy) (steps : ℕ) (path dump : Text)
+pub behind_files : (gives : Text → Result (List ℕ) LoadError → Type 0) (old new left : ℕ) (target : Target) (u : Unwinding)
     (s s' text text' : List ℕ) (r : Result (Unit {0}) Failure)
-    → s' ≡ s → Loads gives path (Ok s) → text' ≡ text → LoadsDump gives dump (Ok text)
-    → Then (Checks target s') (λ _. Then (Parses target text') (λ dump. Then (Frames target s' dump policy steps) (λ _. Prints {A = Unit {0}} old new left tt))) r
-    → UnwindEnds gives old new left target policy steps path dump r
-behind_files gives old new left target policy steps path dump s s' text text' r same loads same' loads' ends =
-    inl (s', lent gives path s s' same loads, inl (text', dump_lent gives dump text text' same' loads', ends))
+    → s' ≡ s → Loads gives u.path.now (Ok s) → text' ≡ text → LoadsDump gives u.dump.now (Ok text)
+    → Then (Checks target s') (λ _. Then (Parses target text') (λ dump. Then (Frames target s' dump u.default u.steps) (λ _. Prints {A = Unit {0}} old new left tt))) r
+    → UnwindEnds gives old new left target u r
+behind_files gives old new left target u s s' text text' r same loads same' loads' ends =
+    inl (s', lent gives u.path.now s s' same loads, inl (text', dump_lent gives u.dump.now text text' same' loads', ends))
 
 -- over the section that was checked
 pub frames_at : (target : Target) (s : List ℕ) (table : Section) (dump : Dump) (policy : Policy) (steps : ℕ) (r : Result Frame Failure)
@@ -131,6 +133,10 @@ frames_at target s table dump policy steps r is h = subst (λ (t : Section). Fra
 -- behind a normal form that is measured
 pub behind_length : (gives : Text → Result (List ℕ) LoadError → Type 0) (old new left : ℕ) (target : Target) (path : Text) (s one two : List ℕ) (r : Result (Unit {0}) Failure)
     → one ≡ s → two ≡ s → Loads gives path (Ok s) → IsWithin target 2147483647 one → Then (Checks target two) (λ _. Prints {A = Unit {0}} old new left tt) r
-    → CostEnds gives old new left target path r
+    → OverFile gives old new left path (Costs target) r
 behind_length gives old new left target path s one two r first second loads within ends =
-    inl (two, lent gives path s two second loads, inl (tt, subst (IsWithin target 2147483647) (first ∙ sym second) within, ends))
+    inl (two, lent gives path s two second loads, costs (subst (IsWithin target 2147483647) (first ∙ sym second) within) r ends)
+  where
+    costs : IsWithin target 2147483647 two → (r : Result (Unit {0}) Failure) → Then (Checks target two) (λ _. Prints {A = Unit {0}} old new left tt) r → Then (Costs target two) (λ _. Prints {A = Unit {0}} old new left tt) r
+    costs short r (inl (a, checks, prints)) = inl (a, inl (tt, short, checks), prints)
+    costs short r (inr (e, checks, is)) = inr (e, inl (tt, short, checks), is)

@@ -1,5 +1,5 @@
 -- What a run answers: which call comes after which, and that the first failure ends it. What is printed is not told.
-use Rattle.std.specs.Prelude.{◌≡◌, ◌⊎◌, ⊤, ℕ, ◌<◌, ◌≤◌, List, [], Bool, Option, Some, None, length, if◌then◌else◌, Result, Ok, Err}
+use Rattle.std.specs.Prelude.{◌≡◌, ◌⊎◌, ⊤, ℕ, ◌<◌, ◌≤◌, List, [], Bool, Option, Some, None, length, option_map, if◌then◌else◌, Result, Ok, Err}
 use Rattle.std.specs.Bool.{Decides}
 use Rattle.clap.specs.Words.{Text}
 use Rattle.dw_num.specs.Target.{address_limit}
@@ -29,7 +29,11 @@ use Rattle.dw_unwind.specs.Statement.{Statement}
 use Rattle.dw_unwind.specs.Unwound.{Unwound, stopped}
 use Rattle.dw_words.specs.declared.request.Request.{Request}
 use Rattle.dw_words.specs.declared.request.Request.TheVariants as requests
-use Rattle.dw_words.specs.Plan.{Planned, Task, check, cost, entries, eval, expr, normal, rows, same, unwind, task_held}
+use Rattle.dw_words.specs.declared.request.Evaluation.{Evaluation}
+use Rattle.dw_words.specs.declared.request.Task.{Task}
+use Rattle.dw_words.specs.declared.request.Task.TheVariants as tasks
+use Rattle.dw_words.specs.declared.request.Unwinding.{Unwinding}
+use Rattle.dw_words.specs.Plan.{Planned}
 use Rattle.dw_command.specs.declared.files.LoadError.{LoadError}
 use Rattle.dw_command.specs.declared.files.LoadError.TheVariants.{CannotRead}
 use Rattle.dw_command.specs.declared.failure.Failure.{Failure}
@@ -92,6 +96,10 @@ Cuts target s r = Calls (Entries target s) (Refuses (CutFault target s)) (λ e f
 abbrev pub Normalises : Target → ℕ → List ℕ → Result (Unit {0}) Failure → Type 0
 Normalises target cap s r = Calls (λ (_ : Unit {0}). IsWithin target cap s) (Refuses (NormalFault target cap s)) (λ e f. f ≡ of_read e) r
 
+-- one of at most 2,147,483,647 bytes, of a section that is then checked
+abbrev pub Costs : Target → List ℕ → Result (Unit {0}) Failure → Type 0
+Costs target s r = Then (Normalises target 2147483647 s) (λ _. Checks target s) r
+
 -- two sections with normal forms of at most 2,147,483,647 bytes are compared
 abbrev pub Compares : Target → List ℕ → List ℕ → Result Bool Failure → Type 0
 Compares target s t r =
@@ -135,56 +143,44 @@ Frames target s dump policy steps r = Then (Counts dump) (λ pc. Unwinds target 
 -- ---- the subcommands
 
 -- counts of failures of the output, before and behind a run, come first, and then how many bytes it was not given at the end
-abbrev pub ExprEnds : ℕ → ℕ → ℕ → Target → Profile → List ℕ → Result (Unit {0}) Failure → Type 0
-ExprEnds old new left target profile block r = Then (Decodes profile target block) (λ _. Prints old new left tt) r
+abbrev pub OverBlock : ℕ → ℕ → ℕ → Target → Profile → List ℕ → Result (Unit {0}) Failure → Type 0
+OverBlock old new left target profile block r = Then (Decodes profile target block) (λ _. Prints old new left tt) r
 
-module _ (gives : Text → Result (List ℕ) LoadError → Type 0) (old new left : ℕ) (target : Target) where
-  abbrev pub CheckEnds : Text → Result (Unit {0}) Failure → Type 0
-  CheckEnds path r = Then (Loads gives path) (λ s. Then (Checks target s) (λ _. Prints old new left tt)) r
-
-  abbrev pub RowsEnds : Text → Result (Unit {0}) Failure → Type 0
-  RowsEnds path r = Then (Loads gives path) (λ s. Then (Checks target s) (λ _. Prints old new left tt)) r
-
-  abbrev pub EntriesEnds : Text → Result (Unit {0}) Failure → Type 0
-  EntriesEnds path r = Then (Loads gives path) (λ s. Then (Cuts target s) (λ _. Prints old new left tt)) r
-
-  abbrev pub NormalEnds : ℕ → Text → Result (Unit {0}) Failure → Type 0
-  NormalEnds cap path r = Then (Loads gives path) (λ s. Then (Normalises target cap s) (λ _. Prints old new left tt)) r
-
-  abbrev pub CostEnds : Text → Result (Unit {0}) Failure → Type 0
-  CostEnds path r =
-      Then (Loads gives path) (λ s. Then (Normalises target 2147483647 s) (λ _. Then (Checks target s) (λ _. Prints old new left tt))) r
+module _ (gives : Text → Result (List ℕ) LoadError → Type 0) (old new left : ℕ) where
+  -- a file is read and judged
+  abbrev pub OverFile : {A : Type 0} → Text → (List ℕ → Result A Failure → Type 0) → Result (Unit {0}) Failure → Type 0
+  OverFile path Judges r = Then (Loads gives path) (λ s. Then (Judges s) (λ _. Prints old new left tt)) r
 
   -- 0 where both say the same, 1 where not
-  abbrev pub SameEnds : Text → Text → Result ℕ Failure → Type 0
-  SameEnds path other r =
+  abbrev pub SameEnds : Target → Text → Text → Result ℕ Failure → Type 0
+  SameEnds target path other r =
       Then (Loads gives path) (λ s. Then (Loads gives other) (λ t. Then (Compares target s t) (λ b. Prints old new left (if b then 0 else 1)))) r
 
-  abbrev pub EvalEnds : ℕ → Option ℕ → List ℕ → Option Text → Result (Unit {0}) Failure → Type 0
-  EvalEnds steps start block dump r =
-      Then (LoadsText gives dump) (λ text. Then (Decodes Location target block) (λ ops.
-      Then (Parses target text) (λ dump. Then (Values target ops start dump steps) (λ _. Prints old new left tt)))) r
+  abbrev pub EvalEnds : Target → Evaluation → Result (Unit {0}) Failure → Type 0
+  EvalEnds target e r =
+      Then (LoadsText gives (option_map (λ path. path.now) e.dump)) (λ text. Then (Decodes Location target e.block.items) (λ ops.
+      Then (Parses target text) (λ dump. Then (Values target ops e.start dump e.steps) (λ _. Prints old new left tt)))) r
 
-  abbrev pub UnwindEnds : Policy → ℕ → Text → Text → Result (Unit {0}) Failure → Type 0
-  UnwindEnds policy steps path dump r =
-      Then (Loads gives path) (λ s. Then (LoadsDump gives dump) (λ text. Then (Checks target s) (λ _.
-      Then (Parses target text) (λ dump. Then (Frames target s dump policy steps) (λ _. Prints old new left tt))))) r
+  abbrev pub UnwindEnds : Target → Unwinding → Result (Unit {0}) Failure → Type 0
+  UnwindEnds target u r =
+      Then (Loads gives u.path.now) (λ s. Then (LoadsDump gives u.dump.now) (λ text. Then (Checks target s) (λ _.
+      Then (Parses target text) (λ dump. Then (Frames target s dump u.default u.steps) (λ _. Prints old new left tt))))) r
 
   -- status 0 comes after an answer
   abbrev pub Done : (Result (Unit {0}) Failure → Type 0) → Result ℕ Failure → Type 0
   Done Ends r = Then Ends (λ _ status. status ≡ Ok 0) r
 
   -- the exit status of a subcommand, or why it has no answer
-  abbrev pub TaskEnds : Task → Result ℕ Failure → Type 0
-  TaskEnds (check path) r = Done (CheckEnds path) r
-  TaskEnds (cost path) r = Done (CostEnds path) r
-  TaskEnds (entries path) r = Done (EntriesEnds path) r
-  TaskEnds (eval steps start block dump) r = Done (EvalEnds steps start block dump) r
-  TaskEnds (expr profile block) r = Done (ExprEnds old new left target profile block) r
-  TaskEnds (normal cap path) r = Done (NormalEnds cap path) r
-  TaskEnds (rows path) r = Done (RowsEnds path) r
-  TaskEnds (same path other) r = SameEnds path other r
-  TaskEnds (unwind policy steps path dump) r = Done (UnwindEnds policy steps path dump) r
+  abbrev pub TaskEnds : Target → Task → Result ℕ Failure → Type 0
+  TaskEnds target (tasks.Check path) r = Done (OverFile path.now (Checks target)) r
+  TaskEnds target (tasks.Cost path) r = Done (OverFile path.now (Costs target)) r
+  TaskEnds target (tasks.Entries path) r = Done (OverFile path.now (Cuts target)) r
+  TaskEnds target (tasks.Eval e) r = Done (EvalEnds target e) r
+  TaskEnds target (tasks.Expr profile block) r = Done (OverBlock old new left target profile block.items) r
+  TaskEnds target (tasks.Normal w) r = Done (OverFile w.path.now (Normalises target w.cap)) r
+  TaskEnds target (tasks.Rows path) r = Done (OverFile path.now (Checks target)) r
+  TaskEnds target (tasks.Same path other) r = SameEnds target path.now other.now r
+  TaskEnds target (tasks.Unwind u) r = Done (UnwindEnds target u) r
 
 -- ---- the command
 
@@ -195,7 +191,7 @@ Plans words r = Calls (λ request. Planned words (Ok request)) (λ e. Planned wo
 module _ (gives : Text → Result (List ℕ) LoadError → Type 0) (old new left : ℕ) where
   -- a text that is asked for is printed, a subcommand is run
   abbrev pub Follows : Request → Result ℕ Failure → Type 0
-  Follows (requests.Run job) r = TaskEnds gives old new left job.target (task_held job.task) r
+  Follows (requests.Run job) r = TaskEnds gives old new left job.target job.task r
   Follows (requests.Help text) r = Prints old new left 0 r
 
   -- what a run of these words answers

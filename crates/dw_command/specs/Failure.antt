@@ -24,19 +24,12 @@ use Rattle.dw_command.specs.declared.failure.Failure.TheVariants as failures
 -- the exit status of a failure: 2 for what is wrong with a section, a dump or an expression, 3 for wrong words,
 -- 4 for a file or an output that fails, 5 for want of memory
 abbrev pub status_of : Failure → ℕ
-status_of (failures.Refused refusal) = 2
-status_of (failures.RefusedIn refusal which) = 2
-status_of (failures.Dump fault) = 2
-status_of (failures.Evaluation kind index) = 2
-status_of (failures.Value kind index place) = 2
-status_of (failures.Column what place) = 2
-status_of failures.NoFde = 2
-status_of failures.NoCounter = 2
 status_of (failures.BadValue what) = 3
 status_of (failures.Words error) = 3
 status_of (failures.CannotRead path) = 4
 status_of failures.CannotWrite = 4
 status_of failures.OutOfMemory = 5
+status_of _ = 2
 
 -- ---- errors of the calls below
 

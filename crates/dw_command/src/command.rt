@@ -2,7 +2,6 @@
 
 ghost use Rattle.std.specs.Prelude.{◌≡◌, ℕ, ◌<◌, ◌≤◌, ◌-◌, ◌^◌, Result, Ok, IfOk, map, string_bytes};
 ghost use Rattle.std.specs.Result.{result_map_both};
-ghost use Rattle.dw_words.specs.Plan.{task_held};
 ghost use Rattle.dw_command.specs.Answers.{Ends, Prints, TaskEnds, exit_of};
 ghost use Rattle.dw_command.specs.declared.failure.Failure.{Failure as TheFailure};
 
@@ -39,7 +38,7 @@ fn run_job<'a, L: Load, W: Write>(
     out: &mut Listing<W>,
 ) -> Result<u8, Failure<'a>>
     requires room { out.old.failures < 2 ^ 64 - 1 }
-    ensures ends { TaskEnds (L.gives files.old) out.old.failures out.new.failures out.new.len job.entry.target (task_held job.entry.task) result }
+    ensures ends { TaskEnds (L.gives files.old) out.old.failures out.new.failures out.new.len job.entry.target job.entry.task result }
     ensures most { IfOk result (λ status. status ≤ 1) }
 {
     let Job { target, task } = job;

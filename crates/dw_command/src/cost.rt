@@ -1,7 +1,7 @@
 //! `dwframe cost`: what a section costs beside its normal form.
 
 ghost use Rattle.std.specs.Prelude.{◌≡◌, ◌<◌, ◌≤◌, ◌-◌, ◌^◌, length};
-ghost use Rattle.dw_command.specs.Answers.{CostEnds, Prints};
+ghost use Rattle.dw_command.specs.Answers.{Costs, OverFile, Prints};
 ghost use Rattle.dw_command.specs.Output.{Told};
 
 use crate::failure::Failure;
@@ -82,7 +82,7 @@ pub fn run_cost<'a, L: Load, W: Write>(
     out: &mut Listing<W>,
 ) -> Result<(), Failure<'a>>
     requires room { out.old.failures < 2 ^ 64 - 1 }
-    ensures { CostEnds (L.gives files.old) out.old.failures out.new.failures out.new.len target path.now result }
+    ensures { OverFile (L.gives files.old) out.old.failures out.new.failures out.new.len path.now (Costs target) result }
 {
     let bytes = files
         .load(path)

@@ -1,7 +1,7 @@
 //! `dwframe entries`: a line for each entry of a section.
 
 ghost use Rattle.std.specs.Prelude.{◌<◌, ◌-◌, ◌^◌};
-ghost use Rattle.dw_command.specs.Answers.{EntriesEnds, Prints};
+ghost use Rattle.dw_command.specs.Answers.{Cuts, OverFile, Prints};
 ghost use Rattle.dw_command.specs.Output.{Told};
 
 use crate::failure::Failure;
@@ -51,7 +51,7 @@ pub fn run_entries<'a, L: Load, W: Write>(
     out: &mut Listing<W>,
 ) -> Result<(), Failure<'a>>
     requires room { out.old.failures < 2 ^ 64 - 1 }
-    ensures { EntriesEnds (L.gives files.old) out.old.failures out.new.failures out.new.len target path.now result }
+    ensures { OverFile (L.gives files.old) out.old.failures out.new.failures out.new.len path.now (Cuts target) result }
 {
     let bytes = files
         .load(path)

@@ -1,6 +1,6 @@
 //! `dwframe eval`: the value of an expression.
 
-ghost use Rattle.std.specs.Prelude.{◌<◌, ◌-◌, ◌^◌, option_map};
+ghost use Rattle.std.specs.Prelude.{◌<◌, ◌-◌, ◌^◌};
 ghost use Rattle.dw_command.specs.Answers.{EvalEnds, Prints, Values};
 
 use crate::failure::Failure;
@@ -55,7 +55,7 @@ pub fn run_eval<'a, L: Load, W: Write>(
     out: &mut Listing<W>,
 ) -> Result<(), Failure<'a>>
     requires room { out.old.failures < 2 ^ 64 - 1 }
-    ensures { EvalEnds (L.gives files.old) out.old.failures out.new.failures out.new.len target evaluation.now.steps evaluation.now.start evaluation.now.block.items (option_map (λ p. p.now) evaluation.now.dump) result }
+    ensures { EvalEnds (L.gives files.old) out.old.failures out.new.failures out.new.len target evaluation.now result }
 {
     let text = load_text(alloc, files, evaluation.dump)?;
     let list = decode(alloc, &evaluation.block, target, Profile::Location)?;

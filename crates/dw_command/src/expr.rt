@@ -1,7 +1,7 @@
 //! `dwframe expr`: the operations of a block, and its least spelling.
 
 ghost use Rattle.std.specs.Prelude.{◌<◌, ◌-◌, ◌^◌};
-ghost use Rattle.dw_command.specs.Answers.{ExprEnds, Prints};
+ghost use Rattle.dw_command.specs.Answers.{OverBlock, Prints};
 ghost use Rattle.dw_command.specs.Output.{Told};
 
 use crate::failure::Failure;
@@ -66,7 +66,7 @@ pub fn run_expr<'a, W: Write>(
     out: &mut Listing<W>,
 ) -> Result<(), Failure<'a>>
     requires room { out.old.failures < 2 ^ 64 - 1 }
-    ensures { ExprEnds out.old.failures out.new.failures out.new.len target profile block.now result }
+    ensures { OverBlock out.old.failures out.new.failures out.new.len target profile block.now result }
 {
     let list = decode(alloc, block, target, profile)?;
     let least = match encode(alloc, &list) {

@@ -1,7 +1,11 @@
 //! A text of many lines on its way to an output.
 
-ghost use Rattle.std.specs.Prelude.{◌≡◌, ◌+◌, ◌++◌, ◌-◌, ◌^◌, ◌<◌, ◌≤◌, ℕ, List, length, take, None, IfErr, IfOk, OnErr, OnOk, ◌⊎◌};
+ghost use Rattle.std.specs.Prelude.{◌≡◌, ◌+◌, ◌++◌, ◌-◌, ◌*◌, ◌/◌, ◌%◌, ◌^◌, ◌<◌, ◌≤◌, ℕ, List, [], ◌∷◌, length, take, codes, false, decimal, unsigned_abs, if◌then◌else◌, None, IfErr, IfOk, OnErr, OnOk, ◌⊎◌};
+ghost use Rattle.std.specs.Fmt.{digits};
+ghost use Rattle.std.specs.Int.{is_negative, to_be_bytes, w64};
+ghost use Rattle.std.specs.Int.Bits.{bit_and, bit_or};
 ghost use Rattle.std.specs.Io.KnownBytes.{Appends, Keeps};
+ghost use Rattle.dw_command.specs.Inner.Hex.{last_digits};
 ghost use Rattle.dw_command.specs.Output.{Told, put_so_far};
 ghost use Rattle.dw_command.specs.declared.failure.Failure.TheVariants.{CannotWrite};
 ghost use Rattle.dw_command.specs.declared.listing.TheConstants.{PIECE, ROOM};
@@ -51,19 +55,55 @@ impl From<OutputFault> for Failure<'_> {
     }
 }
 
-// Eight hexadecimal digits, of all bytes at once: first the bits are spread, four to a byte, and then a byte above nine
-// goes on at the letters.
-fn hex_digits(number: u32) -> [u8; 8] {
-    let mut digits = u64::from(number);
-    digits = (digits | digits << 16) & 0x0000_ffff_0000_ffff;
-    digits = (digits | digits << 8) & 0x00ff_00ff_00ff_00ff;
-    digits = (digits | digits << 4) & 0x0f0f_0f0f_0f0f_0f0f;
-    let letters = (digits.wrapping_add(0x0606_0606_0606_0606) >> 4) & 0x0101_0101_0101_0101;
+// The halves of each block of a number, apart by as many zeros.
+#[inline(always)]
+fn spread(digits: u64, bits: u32, mask: u64) -> u64
+    requires { bits < 64 }
+    ensures { result ≡ bit_and (bit_or digits (digits * 2 ^ bits % 2 ^ 64)) mask }
+{
+    (digits | digits << bits) & mask
+}
+
+// A one in each byte above nine.
+#[inline(always)]
+fn letters(digits: u64) -> u64
+    ensures { result ≡ bit_and ((digits + 0x0606060606060606) % 2 ^ 64 / 16) 0x0101010101010101 }
+{
+    (digits.wrapping_add(0x0606_0606_0606_0606) >> 4) & 0x0101_0101_0101_0101
+}
+
+// Each byte as a digit, where a letter is one.
+#[inline(always)]
+fn spelled(digits: u64, letters: u64) -> [u8; 8]
+    ensures { result ≡ to_be_bytes w64 (((digits + 0x3030303030303030) % 2 ^ 64 + letters * 39 % 2 ^ 64) % 2 ^ 64) }
+{
     let to_letters = u64::from(b'a' - b'9' - 1);
     digits
         .wrapping_add(0x3030_3030_3030_3030)
         .wrapping_add(letters.wrapping_mul(to_letters))
         .to_be_bytes()
+}
+
+// Eight hexadecimal digits, of all bytes at once: first the bits are spread, four to a byte, and then a byte above nine
+// goes on at the letters.
+fn hex_digits(number: u32) -> [u8; 8]
+    ensures { result ≡ last_digits 8 number }
+{
+    let digits = spread(u64::from(number), 16, 0x0000_ffff_0000_ffff);
+    let digits = spread(digits, 8, 0x00ff_00ff_00ff_00ff);
+    let digits = spread(digits, 4, 0x0f0f_0f0f_0f0f_0f0f);
+    spelled(digits, letters(digits))
+}
+
+// A loop over a text that is known becomes a store or two; `copy_from_slice` asks first whether both overlap.
+#[inline(always)]
+fn copy(room: &mut [u8], text: &[u8])
+    requires { length room.old ≡ length text.now }
+    ensures { room.new ≡ text.now }
+{
+    for (i, byte) in text.iter().enumerate() {
+        room[i] = *byte;
+    }
 }
 
 /// A text of many lines, which the output gets in long parts, since a write costs more than a line's bytes. What is put
@@ -153,12 +193,11 @@ impl<W: Write> Listing<W> {
         requires { self.old.len + length text.now ≤ ROOM }
         ensures len { self.new.len ≡ self.old.len + length text.now }
         ensures told { self.new.failures ≡ self.old.failures }
+        ensures put { take self.new.len self.new.room ≡ take self.old.len self.old.room ++ text.now }
+        ensures out { self.new.out ≡ self.old.out }
     {
         let end = self.len + text.len();
-        // A loop over a text that is known becomes a store or two; `copy_from_slice` asks first whether both overlap.
-        for (place, byte) in self.room[self.len..end].iter_mut().zip(text) {
-            *place = *byte;
-        }
+        copy(&mut self.room[self.len..end], text);
         self.len = end;
     }
 
@@ -181,6 +220,8 @@ impl<W: Write> Listing<W> {
         requires below { number < 100 }
         ensures len { self.new.len ≡ self.old.len + 2 }
         ensures told { self.new.failures ≡ self.old.failures }
+        ensures put { take self.new.len self.new.room ≡ take self.old.len self.old.room ++ (48 + number / 10) ∷ (48 + number % 10) ∷ [] }
+        ensures out { self.new.out ≡ self.old.out }
     {
         self.text(&[PAIRS[2 * number], PAIRS[2 * number + 1]]);
     }
@@ -191,6 +232,8 @@ impl<W: Write> Listing<W> {
         requires { self.old.len + 40 ≤ ROOM }
         ensures len { self.new.len ≤ self.old.len + 40 }
         ensures told { self.new.failures ≡ self.old.failures }
+        ensures put { take self.new.len self.new.room ≡ take self.old.len self.old.room ++ decimal number }
+        ensures out { self.new.out ≡ self.old.out }
     {
         if number < 10 {
             self.text(&[b'0' + number as u8]);
@@ -209,6 +252,8 @@ impl<W: Write> Listing<W> {
         requires { self.old.len + 40 ≤ ROOM }
         ensures len { self.new.len ≤ self.old.len + 40 }
         ensures told { self.new.failures ≡ self.old.failures }
+        ensures put { take self.new.len self.new.room ≡ take self.old.len self.old.room ++ decimal number }
+        ensures out { self.new.out ≡ self.old.out }
     {
         let mut digits = Buffer::new();
         self.text(digits.format(number).as_bytes());
@@ -220,6 +265,8 @@ impl<W: Write> Listing<W> {
         requires { self.old.len + 41 ≤ ROOM }
         ensures len { self.new.len ≤ self.old.len + 41 }
         ensures told { self.new.failures ≡ self.old.failures }
+        ensures put { take self.new.len self.new.room ≡ take self.old.len self.old.room ++ (if is_negative offset then codes "-" else codes "+") ++ decimal (unsigned_abs offset) }
+        ensures out { self.new.out ≡ self.old.out }
     {
         self.text(if offset < 0 { b"-" } else { b"+" });
         self.decimal(offset.unsigned_abs());
@@ -230,6 +277,8 @@ impl<W: Write> Listing<W> {
         requires { self.old.len + 8 ≤ ROOM }
         ensures len { self.new.len ≤ self.old.len + 8 }
         ensures told { self.new.failures ≡ self.old.failures }
+        ensures put { take self.new.len self.new.room ≡ take self.old.len self.old.room ++ digits 16 false number }
+        ensures out { self.new.out ≡ self.old.out }
     {
         let zeros = (number.leading_zeros() / 4).min(7);
         self.text(&hex_digits(number << (4 * zeros)));
@@ -241,6 +290,8 @@ impl<W: Write> Listing<W> {
         requires { self.old.len + 16 ≤ ROOM }
         ensures len { self.new.len ≤ self.old.len + 16 }
         ensures told { self.new.failures ≡ self.old.failures }
+        ensures put { take self.new.len self.new.room ≡ take self.old.len self.old.room ++ digits 16 false number }
+        ensures out { self.new.out ≡ self.old.out }
     {
         let high = (number >> 32) as u32;
         let low = (number % 0x1_0000_0000) as u32;
@@ -259,6 +310,8 @@ impl<W: Write> Listing<W> {
         requires { self.old.len + 17 ≤ ROOM }
         ensures len { self.new.len ≤ self.old.len + 17 }
         ensures told { self.new.failures ≡ self.old.failures }
+        ensures put { address ≤ 2 ^ 64 → take self.new.len self.new.room ≡ take self.old.len self.old.room ++ digits 16 false address }
+        ensures out { self.new.out ≡ self.old.out }
     {
         match u64::try_from(address) {
             Ok(number) => self.hex(number),

@@ -1,7 +1,7 @@
 //! `dwframe normal`: the normal form of a section.
 
 ghost use Rattle.std.specs.Prelude.{◌<◌, ◌-◌, ◌^◌};
-ghost use Rattle.dw_command.specs.Answers.{NormalEnds, Prints};
+ghost use Rattle.dw_command.specs.Answers.{Normalises, OverFile, Prints};
 
 use crate::failure::Failure;
 use crate::files::Load;
@@ -29,7 +29,7 @@ pub fn run_normal<'a, L: Load, W: Write>(
     out: &mut Listing<W>,
 ) -> Result<(), Failure<'a>>
     requires room { out.old.failures < 2 ^ 64 - 1 }
-    ensures { NormalEnds (L.gives files.old) out.old.failures out.new.failures out.new.len target writing.now.cap writing.now.path.now result }
+    ensures { OverFile (L.gives files.old) out.old.failures out.new.failures out.new.len writing.now.path.now (Normalises target writing.now.cap) result }
 {
     let bytes = load_file(files, writing.path)?;
     let _ = normalise_to(alloc, &bytes, target, writing.cap, out)?;

@@ -1,7 +1,7 @@
 //! `dwframe rows`: the rules at each address of a section.
 
 ghost use Rattle.std.specs.Prelude.{◌≡◌, ◌<◌, ◌-◌, ◌^◌, MatchResult};
-ghost use Rattle.dw_command.specs.Answers.{Prints, RowsEnds, Unprinted};
+ghost use Rattle.dw_command.specs.Answers.{Checks, OverFile, Prints, Unprinted};
 
 use crate::failure::Failure;
 use crate::files::Load;
@@ -53,7 +53,7 @@ pub fn run_rows<'a, L: Load, W: Write>(
     out: &mut Listing<W>,
 ) -> Result<(), Failure<'a>>
     requires room { out.old.failures < 2 ^ 64 - 1 }
-    ensures { RowsEnds (L.gives files.old) out.old.failures out.new.failures out.new.len target path.now result }
+    ensures { OverFile (L.gives files.old) out.old.failures out.new.failures out.new.len path.now (Checks target) result }
 {
     let bytes = files
         .load(path)

@@ -85,7 +85,7 @@ pub fn run_unwind<'a, L: Load, W: Write>(
     out: &mut Listing<W>,
 ) -> Result<(), Failure<'a>>
     requires room { out.old.failures < 2 ^ 64 - 1 }
-    ensures { UnwindEnds (L.gives files.old) out.old.failures out.new.failures out.new.len target unwinding.now.default unwinding.now.steps unwinding.now.path.now unwinding.now.dump.now result }
+    ensures { UnwindEnds (L.gives files.old) out.old.failures out.new.failures out.new.len target unwinding.now result }
 {
     let bytes = load_file(files, unwinding.path)?;
     let text = load_dump(files, unwinding.dump)?;

@@ -14,7 +14,8 @@ use Rattle.dw_eval.specs.declared.error.Kind.{Kind}
 use Rattle.dw_eval.specs.declared.error.Kind.TheVariants.{StackUnderflow, DivideByZero, NoRegister, Unreadable, Device, NoFrameBase, NoCfa, NoObject}
 use Rattle.dw_eval.specs.Context.{Context, read_at}
 use Rattle.dw_eval.specs.Effect.{Outcome, Next, Jump, Faults, on_top, on_two, on_three, known, push, tell, effect}
-use Rattle.dw_eval.specs.Evaluation.{State, led, value_turn}
+use Rattle.dw_eval.specs.Evaluation.{State, value_turn}
+use Rattle.dw_eval.specs.Inner.Evaluation.{led}
 
 abbrev index_after : Result State Kind → State → ℕ
 index_after (Ok s) other = s.index

@@ -12,8 +12,8 @@ use Rattle.dw_eval.specs.declared.error.Kind.TheVariants.{StepLimit}
 use Rattle.dw_eval.specs.declared.place.Piece.{Piece}
 use Rattle.dw_eval.specs.declared.place.Place.{Place}
 use Rattle.dw_eval.specs.Context.{Context}
-use Rattle.dw_eval.specs.Location.{bare_piece, PlaceState, place_index, place_turn, place_start, place_reads, pieces_of}
-use Rattle.dw_eval.specs.Inner.Location.{PlaceRuns, LocatesOver}
+use Rattle.dw_eval.specs.Location.{bare_piece, PlaceState, place_turn, place_start, pieces_of}
+use Rattle.dw_eval.specs.Inner.Location.{PlaceRuns, LocatesOver, place_index, place_reads}
 use Rattle.dw_eval.specs.Inner.Steps.{StepsTo}
 use Rattle.dw_eval.proofs.PlaceSteps.{place_stays}
 use Rattle.dw_eval.proofs.Steps.{runs_more, answered_stop, answered_limit}

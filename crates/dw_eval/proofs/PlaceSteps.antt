@@ -15,7 +15,8 @@ use Rattle.dw_eval.specs.declared.place.Role.TheVariants.{SetsPlace, SetsValue, 
 use Rattle.dw_eval.specs.Context.{Context}
 use Rattle.dw_eval.specs.Effect.{Outcome, Next, Jump, Faults, effect}
 use Rattle.dw_eval.specs.Inner.Description.{Turns}
-use Rattle.dw_eval.specs.Location.{PlaceState, place_led, with_value, place_turn}
+use Rattle.dw_eval.specs.Location.{PlaceState, with_value, place_turn}
+use Rattle.dw_eval.specs.Inner.Location.{place_led}
 use Rattle.dw_eval.specs.Inner.Roles.{role, free_by, held_by, turn_of}
 use Rattle.dw_eval.specs.Inner.Steps.{StepsTo}
 use Rattle.dw_eval.proofs.Roles.{turn_is}

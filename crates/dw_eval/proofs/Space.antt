@@ -17,8 +17,10 @@ use Rattle.dw_eval.specs.declared.place.Role.{Role}
 use Rattle.dw_eval.specs.declared.place.Role.TheVariants.{SetsPlace, SetsValue, AddsPiece, Waits, Computes}
 use Rattle.dw_eval.specs.Context.{Context, read_at}
 use Rattle.dw_eval.specs.Effect.{Outcome, Next, Jump, Faults, on_top, on_two, on_three, known, push, push_signed, tell, effect}
-use Rattle.dw_eval.specs.Evaluation.{State, index_of, led, value_turn, value_start, top_of, Evaluates}
-use Rattle.dw_eval.specs.Location.{PlaceState, place_index, place_here, with_piece, place_led, with_value, place_turn, place_start, pieces_of, Located}
+use Rattle.dw_eval.specs.Evaluation.{State, value_turn, top_of, Evaluates}
+use Rattle.dw_eval.specs.Inner.Evaluation.{index_of, value_start, led}
+use Rattle.dw_eval.specs.Location.{PlaceState, place_here, with_piece, with_value, place_turn, place_start, pieces_of, Located}
+use Rattle.dw_eval.specs.Inner.Location.{place_index, place_led}
 use Rattle.dw_eval.specs.Inner.Roles.{role, free_by, held_by, turn_of}
 use Rattle.dw_eval.proofs.Roles.{turn_is}
 use Rattle.dw_eval.specs.Runs.{Runs}

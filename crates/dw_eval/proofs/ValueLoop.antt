@@ -15,8 +15,8 @@ use Rattle.dw_eval.specs.declared.error.EvalError.TheVariants.{Fault}
 use Rattle.dw_eval.specs.declared.error.Kind.TheVariants.{StepLimit}
 use Rattle.dw_eval.specs.Context.{Context}
 use Rattle.dw_eval.specs.Effect.{Reads}
-use Rattle.dw_eval.specs.Evaluation.{State, index_of, value_turn, value_start, value_reads, top_of}
-use Rattle.dw_eval.specs.Inner.Evaluation.{ValueRuns, EvaluatesOver}
+use Rattle.dw_eval.specs.Evaluation.{State, value_turn, top_of}
+use Rattle.dw_eval.specs.Inner.Evaluation.{ValueRuns, EvaluatesOver, index_of, value_start, value_reads}
 use Rattle.dw_eval.specs.Inner.Steps.{StepsTo}
 use Rattle.dw_eval.proofs.Effects.{value_stays}
 use Rattle.dw_eval.proofs.Steps.{runs_more, answered_stop, answered_limit}

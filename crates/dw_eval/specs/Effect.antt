@@ -1,5 +1,5 @@
 -- What one operation does: DWARF 5, 2.5.1.
-use Rattle.std.specs.Prelude.{◌≡◌, ◌≤◌, ℕ, ◌+◌, ◌*◌, ◌/◌, ◌%◌, ◌^◌, List, [], ◌∷◌, slice_get, Option, Some, None, ℤ, pos, ◌+ℤ◌, ◌-ℤ◌, Bool, true, false, not, nat_le, nat_eq, if◌then◌else◌, int_lt, int_le, int_div, unsigned_abs, bit_and, bit_or, bit_xor, min}
+use Rattle.std.specs.Prelude.{◌≡◌, ◌≤◌, ℕ, ◌+◌, ◌*◌, ◌/◌, ◌%◌, ◌^◌, List, [], ◌∷◌, slice_get, Option, Some, None, Result, Ok, Err, ℤ, pos, ◌+ℤ◌, ◌-ℤ◌, Bool, true, false, not, nat_le, nat_eq, if◌then◌else◌, int_lt, int_le, int_div, unsigned_abs, bit_and, bit_or, bit_xor, min}
 use Rattle.std.specs.Int.{int_shr}
 use Rattle.dw_num.specs.declared.target.Size.{Size}
 use Rattle.dw_num.specs.Target.{address_limit, byte_count}
@@ -15,6 +15,12 @@ pub data Outcome : Type 0 where
   Next : List ℕ → Outcome
   Jump : ℕ → List ℕ → Outcome
   Faults : Kind → Outcome
+
+-- where one leads that an operation at this index has
+abbrev pub leads : {S : Type 0} → (ℕ → List ℕ → S) → ℕ → Outcome → Result S Kind
+leads at i (Next stack) = Ok (at (i + 1) stack)
+leads at i (Jump j stack) = Ok (at j stack)
+leads at i (Faults kind) = Err kind
 
 -- of the top and what is below
 abbrev pub on_top : List ℕ → (ℕ → List ℕ → Outcome) → Outcome

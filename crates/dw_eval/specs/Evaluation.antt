@@ -8,7 +8,7 @@ use Rattle.dw_eval.specs.declared.error.EvalError.TheVariants.{Fault}
 use Rattle.dw_eval.specs.declared.error.Kind.{Kind}
 use Rattle.dw_eval.specs.declared.error.Kind.TheVariants.{EmptyResult}
 use Rattle.dw_eval.specs.Context.{Context}
-use Rattle.dw_eval.specs.Effect.{Outcome, Next, Jump, Faults, effect, Reads}
+use Rattle.dw_eval.specs.Effect.{effect, leads, Reads}
 use Rattle.dw_eval.specs.Runs.{Answers, MayFail}
 
 -- before an operation: its index and the stack, the top first
@@ -16,41 +16,25 @@ pub record State : Type 0 where
   pub index : ℕ
   pub stack : List ℕ
 
-abbrev pub index_of : State → ℕ
-index_of s = s.index
-
--- where an operation leads that stands at an index
-abbrev pub led : ℕ → Outcome → Result State Kind
-led i (Next stack) = Ok (record { index = i + 1; stack = stack })
-led i (Jump j stack) = Ok (record { index = j; stack = stack })
-led i (Faults kind) = Err kind
-
 abbrev pub value_turn : Context → Op → State → Result State Kind
-value_turn c op s = led s.index (effect c op s.stack)
+value_turn c op s = leads {S = State} (λ i stack. record { index = i; stack = stack }) s.index (effect c op s.stack)
 
 -- a stack that holds a value, or is empty
 abbrev pub first_stack : Size → Option ℕ → List ℕ
 first_stack size None = []
 first_stack size (Some v) = v % address_limit size ∷ []
 
-abbrev pub value_start : List ℕ → State
-value_start first = record { index = 0; stack = first }
-
 -- the top
 abbrev pub top_of : ℕ → List ℕ → Result ℕ EvalError
 top_of len [] = Err (Fault EmptyResult len)
 top_of len (v ∷ below) = Ok v
 
--- an operation reads from memory
-abbrev pub value_reads : Context → Op → State → Type 0
-value_reads c op s = Reads c op s.stack
-
 -- with the stack at the start
 module _ (ops : List Op) (c : Context) (first : List ℕ) where
   -- the value, or the kind of the fault and the operation's index
   abbrev pub Evaluates : ℕ → Result ℕ EvalError → Type 0
-  Evaluates = Answers index_of (value_turn c) ops (value_start first) (λ s. top_of (length ops) s.stack)
+  Evaluates = Answers (λ (s : State). s.index) (value_turn c) ops (record { index = 0; stack = first }) (λ s. top_of (length ops) s.stack)
 
   -- operation i is reached before the limit, and reads from memory
   abbrev pub MayFailAt : ℕ → ℕ → Type 0
-  MayFailAt = MayFail index_of (value_turn c) ops (value_start first) (value_reads c)
+  MayFailAt = MayFail (λ (s : State). s.index) (value_turn c) ops (record { index = 0; stack = first }) (λ op s. Reads c op s.stack)

@@ -17,9 +17,3 @@ kind_entry NoFrameBase = (9, codes "NoFrameBase")
 kind_entry NoCfa = (10, codes "NoCfa")
 kind_entry NoObject = (11, codes "NoObject")
 kind_entry MissingPiece = (12, codes "MissingPiece")
-
-abbrev pub number_of : Kind → ℕ
-number_of code = (kind_entry code).0
-
-abbrev pub name_of : Kind → List ℕ
-name_of code = (kind_entry code).1

@@ -5,15 +5,10 @@ use Rattle.dw_op.specs.Ranges.{AllInRange}
 use Rattle.dw_num.specs.Target.{address_limit}
 use Rattle.dw_eval.specs.declared.place.Piece.{Piece}
 use Rattle.dw_eval.specs.Context.{Context}
+use Rattle.dw_num.specs.Laws.{HoldsOfOne}
 use Rattle.dw_eval.specs.Evaluation.{Evaluates}
 use Rattle.dw_eval.specs.Location.{Located}
 use Rattle.dw_eval.specs.Space.{AreInSpace, ArePlacesInSpace}
-
--- something holds of one value and of no other
-pub record HoldsOfOne {X : Type 0} (P : X → Type 0) : Type 0 where
-  pub value : X
-  pub holds : P value
-  pub only : (other : X) → P other → other ≡ value
 
 -- an expression has exactly one answer, whatever is on the stack at the start
 abbrev pub OneResult : Type 0

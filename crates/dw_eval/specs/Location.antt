@@ -14,7 +14,7 @@ use Rattle.dw_eval.specs.declared.place.Piece.{Piece}
 use Rattle.dw_eval.specs.declared.place.Place.{Place}
 use Rattle.dw_eval.specs.declared.place.Place.TheVariants.{Empty, Memory, Register, Value, Bytes}
 use Rattle.dw_eval.specs.Context.{Context}
-use Rattle.dw_eval.specs.Effect.{Outcome, Next, Jump, Faults, effect, Reads}
+use Rattle.dw_eval.specs.Effect.{Outcome, Faults, effect, leads, Reads}
 use Rattle.dw_eval.specs.Runs.{Answers, MayFail}
 
 -- before an operation: its index, the stack, the place that waits for its piece, and the pieces so far
@@ -23,9 +23,6 @@ pub record PlaceState : Type 0 where
   pub stack : List ℕ
   pub pending : Option Place
   pub pieces : List Piece
-
-abbrev pub place_index : PlaceState → ℕ
-place_index s = s.index
 
 -- the pending place, else memory at the top, else nothing
 abbrev pub place_here : Option Place → List ℕ → Place
@@ -46,11 +43,6 @@ with_place place stack s = record { index = s.index + 1; stack = stack; pending 
 abbrev pub with_stack : ℕ → List ℕ → PlaceState → PlaceState
 with_stack i stack s = record { index = i; stack = stack; pending = s.pending; pieces = s.pieces }
 
-abbrev pub place_led : PlaceState → Outcome → Result PlaceState Kind
-place_led s (Next stack) = Ok (with_stack (s.index + 1) stack s)
-place_led s (Jump j stack) = Ok (with_stack j stack s)
-place_led s (Faults kind) = Err kind
-
 -- the value on the top is a place
 abbrev pub with_value : List ℕ → PlaceState → Result PlaceState Kind
 with_value [] s = Err StackUnderflow
@@ -63,7 +55,7 @@ free_turn c (Implicit block) s = Ok (with_place (Bytes block) s.stack s)
 free_turn c StackValue s = with_value s.stack s
 free_turn c (op.Piece n) s = Ok (with_piece (part.Bytes n) s)
 free_turn c (BitPiece size offset) s = Ok (with_piece (Bits size offset) s)
-free_turn c other s = place_led s (effect c other s.stack)
+free_turn c other s = leads (λ i stack. with_stack i stack s) s.index (effect c other s.stack)
 
 -- what is no piece: the stack is too short for it, or the piece is missing
 abbrev pub refused : Outcome → Result PlaceState Kind
@@ -94,10 +86,6 @@ pieces_of len None [] (piece ∷ pieces) = Ok (piece ∷ pieces)
 pieces_of len None (t ∷ below) (piece ∷ pieces) = Err (Fault MissingPiece len)
 pieces_of len (Some place) stack (piece ∷ pieces) = Err (Fault MissingPiece len)
 
--- an operation reads from memory, where it is not refused
-abbrev pub place_reads : Context → Op → PlaceState → Type 0
-place_reads c op s = (s.pending ≡ None) × Reads c op s.stack
-
 -- a place without where its bytes lie in memory
 abbrev pub bare_place : Place → Place
 bare_place Empty = Empty
@@ -112,8 +100,8 @@ bare_piece p = record { place = bare_place p.place; part = p.part }
 module _ (ops : List Op) (c : Context) where
   -- the pieces, or the kind of the fault and the operation's index
   abbrev pub Located : ℕ → Result (List Piece) EvalError → Type 0
-  Located = Answers place_index (place_turn c) ops place_start (λ s. pieces_of (length ops) s.pending s.stack s.pieces)
+  Located = Answers (λ (s : PlaceState). s.index) (place_turn c) ops place_start (λ s. pieces_of (length ops) s.pending s.stack s.pieces)
 
-  -- operation i is reached before the limit, and reads from memory
+  -- operation i is reached before the limit while no place is pending, and reads from memory
   abbrev pub PlaceMayFailAt : ℕ → ℕ → Type 0
-  PlaceMayFailAt = MayFail place_index (place_turn c) ops place_start (place_reads c)
+  PlaceMayFailAt = MayFail (λ (s : PlaceState). s.index) (place_turn c) ops place_start (λ op s. (s.pending ≡ None) × Reads c op s.stack)

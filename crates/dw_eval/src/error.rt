@@ -1,7 +1,7 @@
 //! Why an evaluation has no answer.
 
 ghost use Rattle.std.specs.Prelude.{◌≡◌};
-ghost use Rattle.dw_eval.specs.Kinds.{number_of, name_of};
+ghost use Rattle.dw_eval.specs.Kinds.{kind_entry};
 
 use std::error::Error;
 use std::fmt;
@@ -38,7 +38,7 @@ pub enum Kind {
 impl Kind {
     /// The fault's number, 1 to 12.
     pub fn number(self) -> u8
-        ensures { result ≡ number_of self }
+        ensures { result ≡ (kind_entry self).0 }
     {
         match self {
             Kind::StackUnderflow => 1,
@@ -58,7 +58,7 @@ impl Kind {
 
     /// The fault's name, as the variant is written.
     pub fn name(self) -> &'static str
-        ensures { result.now ≡ name_of self }
+        ensures { result.now ≡ (kind_entry self).1 }
     {
         match self {
             Kind::StackUnderflow => "StackUnderflow",

@@ -1,4 +1,3 @@
-mod WindowLaws
 mod Frames
 mod Overlays
 mod JoinedBlocks

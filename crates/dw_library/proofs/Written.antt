@@ -8,7 +8,7 @@ use borrow.Rule.Slice.PartMut.{mid_of, post_of, put_mid}
 use Rattle.dw_num.specs.declared.target.Target.{Target}
 use Rattle.dw_section.specs.Lookups.{FindsFde}
 use Rattle.dw_section.specs.Meaning.{Covers}
-use Rattle.dw_section.specs.Meanings.{IsListed}
+use Rattle.dw_section.specs.Among.{IsAmong}
 use Rattle.dw_section.specs.declared.lookup.Fde.{Fde}
 use Rattle.dw_library.specs.declared.index.Row.{Row}
 use Rattle.dw_library.specs.declared.index.Rule.{Rule}
@@ -74,10 +74,10 @@ pub one_some : {A : Type 0} (a b : A) → Some a ≡ Some b → a ≡ b
 one_some a b same = ap (λ o. some_or o a) same
 
 -- the FDE that a look-up lends is listed, and covers the address
-pub lent_listed : (fs : List Fde) (a : ℕ) (lent : Option Fde) (fde : Fde) → FindsFde fs a true lent → lent ≡ Some fde → IsListed fde fs × Covers a fde
+pub lent_listed : (fs : List Fde) (a : ℕ) (lent : Option Fde) (fde : Fde) → FindsFde fs a true lent → lent ≡ Some fde → IsAmong fde fs × Covers a fde
 lent_listed fs a lent fde (found, is, listed, covers) same =
     let one : found ≡ fde = one_some found fde (sym is ∙ same) in
-    (subst (λ (f : Fde). IsListed f fs) one listed, subst (Covers a) one covers)
+    (subst (λ (f : Fde). IsAmong f fs) one listed, subst (Covers a) one covers)
 
 zip_more : {X Y : Type 0} (R : X → Y → Type 0) (xs : List X) (ys : List Y) (x : X) (y : Y) → AllZip R xs ys → R x y → AllZip R (xs ++ x ∷ []) (ys ++ y ∷ [])
 zip_more R [] [] x y all r = (r, tt)

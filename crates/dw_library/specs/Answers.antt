@@ -1,6 +1,6 @@
 -- What a caller in C gives and is told, in the numbers of the header.
 use Rattle.std.specs.Prelude.{ℕ, Option, Some, None, nat_eq, if◌then◌else◌}
-use Rattle.dw_num.specs.Codes.{number_of}
+use Rattle.dw_num.specs.Codes.{code_entry}
 use Rattle.dw_num.specs.declared.refusal.Refusal.{Refusal}
 use Rattle.dw_num.specs.declared.target.Order.TheVariants.{Little, Big}
 use Rattle.dw_num.specs.declared.target.Size.{Size}
@@ -46,7 +46,7 @@ not_refused = record { code = 0; section = 0; at = 0 }
 
 -- a refusal of the first or the second section
 abbrev pub told : ℕ → Refusal → Refused
-told section r = record { code = number_of r.code; section = section; at = r.at }
+told section r = record { code = (code_entry r.code).0; section = section; at = r.at }
 
 abbrev pub no_entries : Counts
 no_entries = record { cies = 0; fdes = 0 }

@@ -2,7 +2,7 @@
 use Rattle.std.specs.Prelude.{◌≡◌, ◌⊎◌, ℕ, List, Result, map, length, Option, Some, None, Ok, Err, nat_eq, if◌then◌else◌}
 use Rattle.dw_num.specs.declared.refusal.Refusal.{Refusal}
 use Rattle.dw_num.specs.declared.target.Target.{Target}
-use Rattle.dw_eval.specs.Kinds.{number_of}
+use Rattle.dw_eval.specs.Kinds.{kind_entry}
 use Rattle.dw_eval.specs.Registers.{held}
 use Rattle.dw_section.specs.Accepted.{Accepted, CheckFault}
 use Rattle.dw_unwind.specs.Unwound.{Unwound, stopped}
@@ -40,7 +40,7 @@ abbrev pub fault_in : Column → Fault
 fault_in column = record { column = column_of column; kind = 0; index = 0 }
 
 abbrev pub told_fault : UnwindError → Fault
-told_fault (errors.Eval kind index column) = record { column = column_of column; kind = number_of kind; index = index }
+told_fault (errors.Eval kind index column) = record { column = column_of column; kind = (kind_entry kind).0; index = index }
 told_fault (errors.Unreadable column) = fault_in column
 told_fault (errors.NoRegister column) = fault_in column
 told_fault (errors.Device column) = fault_in column

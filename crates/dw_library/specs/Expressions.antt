@@ -9,10 +9,10 @@ use Rattle.dw_cfa.specs.declared.rule.CfaRule.{CfaRule}
 use Rattle.dw_cfa.specs.declared.rule.CfaRule.TheVariants as cfa
 use Rattle.dw_cfa.specs.declared.rule.RegRule.{RegRule}
 use Rattle.dw_cfa.specs.declared.rule.RegRule.TheVariants.{Expression, ValExpression}
-use Rattle.dw_section.specs.FaultPlaces.{IsWithin}
+use Rattle.dw_op.specs.Faults.{IsWithin}
 use Rattle.dw_section.specs.Meaning.{AreFdes, NoneCovers, RulesAt}
 use Rattle.dw_section.specs.Ranges.{LeadsTo, Uncovered, IsTable}
-use Rattle.dw_section.specs.StandingFde.{MayRefuse, Misleads, Ruled, RulesOf}
+use Rattle.dw_section.specs.StandingFde.{LookUpFault, Misleads, Ruled, RulesOf}
 use Rattle.dw_section.specs.declared.fde_range.Ranged.{Ranged}
 use Rattle.dw_section.specs.declared.lookup.Fde.{Fde}
 use Rattle.dw_library.specs.declared.answer.Refused.{Refused}
@@ -104,4 +104,4 @@ abbrev pub AreAnyExpressions : Option Target → List ℕ → List Ranged → �
 AreAnyExpressions None s index a old t why = (t ≡ says bad_argument old) × (why ≡ not_refused)
 AreAnyExpressions (Some target) s index a old t why =
     ((TellsStanding target s index a old t ⊎ (t ≡ says out_of_memory old) ⊎ (Misleads target s index a × (t ≡ says 10 old))) × (why ≡ not_refused))
-    ⊎ ((r : Refusal) × IsWithin s r × MayRefuse s index a × (t ≡ says refused old) × (why ≡ told 1 r))
+    ⊎ ((r : Refusal) × IsWithin s r × LookUpFault target s index a r × (t ≡ says refused old) × (why ≡ told 1 r))

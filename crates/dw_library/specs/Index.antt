@@ -7,11 +7,11 @@ use Rattle.dw_cfa.specs.declared.rule.CfaRule.TheVariants as cfa
 use Rattle.dw_cfa.specs.declared.rule.RegRule.{RegRule}
 use Rattle.dw_cfa.specs.declared.rule.RegRule.TheVariants.{Unspecified, Undefined, SameValue, Offset, ValOffset, Register, Expression, ValExpression}
 use Rattle.dw_section.specs.Accepted.{CheckFault}
-use Rattle.dw_section.specs.FaultPlaces.{IsWithin}
+use Rattle.dw_op.specs.Faults.{IsWithin}
 use Rattle.dw_section.specs.Meaning.{AreFdes, NoneCovers, RulesAt}
-use Rattle.dw_section.specs.Meanings.{IsListed}
+use Rattle.dw_section.specs.Among.{IsAmong}
 use Rattle.dw_section.specs.Ranges.{LeadsTo, Uncovered, IsTable}
-use Rattle.dw_section.specs.StandingFde.{MayRefuse, Misleads, Ruled, RulesOf}
+use Rattle.dw_section.specs.StandingFde.{LookUpFault, Misleads, Ruled, RulesOf}
 use Rattle.dw_section.specs.declared.fde_range.Ranged.{Ranged}
 use Rattle.dw_section.specs.declared.lookup.Fde.{Fde}
 use Rattle.dw_library.specs.declared.answer.Refused.{Refused}
@@ -120,7 +120,7 @@ pub record TellsRow (found : Ruled) (old : List Rule) (t : Told) : Type 0 where
 -- it tells the rules that a section has at an address, or that no FDE covers it
 abbrev pub TellsRules : Target → List ℕ → ℕ → List Rule → Told → Type 0
 TellsRules target s a old t =
-    ((found : Ruled) × RulesAt target s a found.row × ((fs : List Fde) → AreFdes target s fs → IsListed found.fde fs) × TellsRow found old t)
+    ((found : Ruled) × RulesAt target s a found.row × ((fs : List Fde) → AreFdes target s fs → IsAmong found.fde fs) × TellsRow found old t)
     ⊎ (((fs : List Fde) → AreFdes target s fs → NoneCovers a fs) × (t ≡ says 5 old))
 
 -- it tells those of the FDE that stands where an index leads, or that the index has none
@@ -138,4 +138,4 @@ abbrev pub IsAnyRow : Option Target → List ℕ → List Ranged → ℕ → Lis
 IsAnyRow None s index a old t why = (t ≡ says bad_argument old) × (why ≡ not_refused)
 IsAnyRow (Some target) s index a old t why =
     ((TellsFde target s index a old t ⊎ (t ≡ says out_of_memory old) ⊎ (Misleads target s index a × (t ≡ says 10 old))) × (why ≡ not_refused))
-    ⊎ ((r : Refusal) × IsWithin s r × MayRefuse s index a × (t ≡ says refused old) × (why ≡ told 1 r))
+    ⊎ ((r : Refusal) × IsWithin s r × LookUpFault target s index a r × (t ≡ says refused old) × (why ≡ told 1 r))

@@ -5,7 +5,7 @@ use Rattle.dw_num.specs.declared.refusal.Refusal.{Refusal}
 use Rattle.dw_num.specs.declared.target.Target.{Target}
 use Rattle.dw_section.specs.Accepted.{Accepted, CheckFault}
 use Rattle.dw_section.specs.Meaning.{AreFdes, Covers, NoneCovers, RulesAt}
-use Rattle.dw_section.specs.Meanings.{IsListed}
+use Rattle.dw_section.specs.Among.{IsAmong}
 use Rattle.dw_section.specs.StandingFde.{Ruled}
 use Rattle.dw_section.specs.declared.lookup.Fde.{Fde}
 use Rattle.dw_library.specs.declared.answer.Refused.{Refused}
@@ -22,7 +22,7 @@ pub record Look : Type 0 where
 -- those of the FDE that covers it, or none where none does
 abbrev pub IsLook : Target → List ℕ → ℕ → Look → Type 0
 IsLook target s a l =
-    ((found : Ruled) × RulesAt target s a found.row × ((fs : List Fde) → AreFdes target s fs → IsListed found.fde fs) × Covers a found.fde × IsTold found l.row × (l.rules ≡ map rule_of found.row.registers))
+    ((found : Ruled) × RulesAt target s a found.row × ((fs : List Fde) → AreFdes target s fs → IsAmong found.fde fs) × Covers a found.fde × IsTold found l.row × (l.rules ≡ map rule_of found.row.registers))
     ⊎ (((fs : List Fde) → AreFdes target s fs → NoneCovers a fs) × (l.row ≡ no_row) × (l.rules ≡ []))
 
 -- of how many addresses a call told, with which status, rows and rules

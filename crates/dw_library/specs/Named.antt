@@ -1,6 +1,6 @@
 -- What a caller in C is told of a refusal's code.
 use Rattle.std.specs.Prelude.{◌≡◌, ◌⊎◌, ◌+◌, ◌<◌, ◌≤◌, ℕ, List, ◌∷◌, ◌++◌, length, drop}
-use Rattle.dw_num.specs.Codes.{number_of, name_of}
+use Rattle.dw_num.specs.Codes.{code_entry}
 use Rattle.dw_num.specs.declared.refusal.Code.{Code}
 
 -- a text and a zero byte at the front of a buffer, where both fit; else the buffer stays
@@ -12,5 +12,5 @@ HoldsText text old new =
 -- the length of the name of a code, or 0 where there is no such code
 abbrev pub IsNamed : ℕ → List ℕ → List ℕ → ℕ → Type 0
 IsNamed number old new count =
-    ((c : Code) × (number ≡ number_of c) × (count ≡ length (name_of c)) × HoldsText (name_of c) old new)
-    ⊎ (((c : Code) → number ≡ number_of c → ⊥) × (count ≡ 0) × (new ≡ old))
+    ((c : Code) × (number ≡ (code_entry c).0) × (count ≡ length (code_entry c).1) × HoldsText (code_entry c).1 old new)
+    ⊎ (((c : Code) → number ≡ (code_entry c).0 → ⊥) × (count ≡ 0) × (new ≡ old))

@@ -1,7 +1,8 @@
 //! The expressions of a row, in buffers that the caller lends.
 
 ghost use Rattle.std.specs.Prelude.{◌≡◌, [], ◌∷◌, IfOk, IfErr, OnOk, OnErr, MatchResult};
-ghost use Rattle.dw_section.specs.StandingFde.{Misleads, RefusesLed, RefusesWithin};
+ghost use Rattle.dw_op.specs.Faults.{IsWithin};
+ghost use Rattle.dw_section.specs.StandingFde.{LookUpFault, Misleads, RefusesAs};
 ghost use Rattle.dw_section.specs.Ranges.{IsTable};
 ghost use Rattle.dw_section.specs.declared.standing_fde.LookUpError.TheVariants as TheLookUpError;
 ghost use Rattle.dw_library.specs.Answers.{target_of};
@@ -128,8 +129,8 @@ fn put_expressions(
     ensures own { IsTable target section.now index.now → all.old ≡ no_blocks → MatchResult result (λ status. TellsAt target section.now address (record { blocks = blocks.old; bytes = bytes.old }) (record { status = status; buffers = record { blocks = blocks.new; bytes = bytes.new }; all = all.new })) (λ e. e ≡ TheLookUpError.OutOfMemory) }
     ensures any { all.old ≡ no_blocks → IfOk result (λ status. TellsStanding target section.now index.now address (record { blocks = blocks.old; bytes = bytes.old }) (record { status = status; buffers = record { blocks = blocks.new; bytes = bytes.new }; all = all.new })) }
     ensures bad { IfErr result (λ e. e ≡ TheLookUpError.BadIndex → Misleads target section.now index.now address) }
-    ensures within { IfErr result (RefusesWithin section.now) }
-    ensures led { IfErr result (RefusesLed section.now index.now address) }
+    ensures within { IfErr result (RefusesAs (IsWithin section.now)) }
+    ensures refused { IfErr result (RefusesAs (LookUpFault target section.now index.now address)) }
     ensures kept { OnErr result ((blocks.new ≡ blocks.old) × (bytes.new ≡ bytes.old) × (all.new ≡ all.old)) }
 {
     let mut room = RowRoom::new(alloc);

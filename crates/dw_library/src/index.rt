@@ -4,7 +4,8 @@ ghost use Rattle.std.specs.Prelude.{◌≡◌, ◌+◌, ◌<◌, ◌≤◌, List
 ghost use Rattle.dw_cfa.specs.Rows.{AreSpecified};
 ghost use Rattle.dw_num.specs.Refusals.{Refuses};
 ghost use Rattle.dw_section.specs.Accepted.{CheckFault};
-ghost use Rattle.dw_section.specs.StandingFde.{Misleads, RefusesLed, RefusesWithin};
+ghost use Rattle.dw_op.specs.Faults.{IsWithin};
+ghost use Rattle.dw_section.specs.StandingFde.{LookUpFault, Misleads, RefusesAs};
 ghost use Rattle.dw_section.specs.Ranges.{IsTable};
 ghost use Rattle.dw_section.specs.declared.fde_range.Ranged.{Ranged as TheRanged};
 ghost use Rattle.dw_section.specs.declared.standing_fde.LookUpError.TheVariants as TheLookUpError;
@@ -327,8 +328,8 @@ fn put_row(
     ensures own { IsTable target bytes.now index.now → row.old ≡ no_row → MatchResult result (λ status. TellsRules target bytes.now address out.old (record { status = status; row = row.new; rules = out.new })) (λ e. e ≡ TheLookUpError.OutOfMemory) }
     ensures any { row.old ≡ no_row → IfOk result (λ status. TellsFde target bytes.now index.now address out.old (record { status = status; row = row.new; rules = out.new })) }
     ensures bad { IfErr result (λ e. e ≡ TheLookUpError.BadIndex → Misleads target bytes.now index.now address) }
-    ensures within { IfErr result (RefusesWithin bytes.now) }
-    ensures led { IfErr result (RefusesLed bytes.now index.now address) }
+    ensures within { IfErr result (RefusesAs (IsWithin bytes.now)) }
+    ensures refused { IfErr result (RefusesAs (LookUpFault target bytes.now index.now address)) }
     ensures kept { OnErr result ((out.new ≡ out.old) × (row.new ≡ row.old)) }
 {
     let mut room = RowRoom::new(alloc);

@@ -1,7 +1,7 @@
 //! The names of refusals.
 
 ghost use Rattle.std.specs.Prelude.{◌≡◌, MatchOption};
-ghost use Rattle.dw_num.specs.Codes.{number_of};
+ghost use Rattle.dw_num.specs.Codes.{code_entry};
 ghost use Rattle.dw_num.specs.declared.refusal.Code.{Code as TheCode};
 ghost use Rattle.dw_library.specs.Named.{HoldsText, IsNamed};
 
@@ -9,7 +9,7 @@ use dw_num::Code;
 
 // The code with a number, 1 to 27.
 fn code_of(number: u32) -> Option<Code>
-    ensures { MatchOption result ((c : TheCode) → number ≡ number_of c → ⊥) (λ c. number ≡ number_of c) }
+    ensures { MatchOption result ((c : TheCode) → number ≡ (code_entry c).0 → ⊥) (λ c. number ≡ (code_entry c).0) }
 {
     Some(match number {
         1 => Code::Truncated,

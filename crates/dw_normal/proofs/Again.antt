@@ -7,15 +7,16 @@ use Rattle.std.specs.Ordering.{nat_cmp}
 use Rattle.std.proofs.lemmas.Bool.{le-ltb}
 use Rattle.dw_num.specs.declared.target.Target.{Target}
 use Rattle.dw_num.specs.Input.{AreBytes}
-use Rattle.dw_cfa.specs.Agreement.{agreed}
+use Rattle.dw_cfa.specs.Inner.Agreement.{agreed}
 use Rattle.dw_cfa.specs.Rows.{Rules}
 use Rattle.dw_section.specs.Accepted.{Accepted}
 use Rattle.dw_section.specs.Opening.{OpensBehind}
 use Rattle.dw_section.specs.Inner.Sound.{RowFits}
 use Rattle.dw_section.proofs.Lent.Judged.{all_get}
 use Rattle.dw_section.proofs.Lent.OpeningLaws.{Opened, Specifies, one_first, opened}
-use Rattle.dw_canon.specs.Canon.{initial_of}
-use Rattle.dw_canon.specs.Group.{group, kept_by}
+use Rattle.dw_canon.specs.Inner.Canon.{initial_of}
+use Rattle.dw_canon.specs.Group.{group}
+use Rattle.dw_canon.specs.Inner.Group.{kept_by}
 use Rattle.dw_canon.specs.Members.{Member, AreMembers, IsMember, fde_of}
 use Rattle.dw_canon.proofs.Shared.{MemberFits}
 use Rattle.dw_canon.proofs.Lent.Joins.{PartOf, first_part, joined_again, next_part}

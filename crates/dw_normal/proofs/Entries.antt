@@ -13,8 +13,7 @@ use Rattle.dw_section.specs.Accepted.{Accepted}
 use Rattle.dw_section.proofs.Lent.Judged.{all_get}
 use Rattle.dw_canon.specs.Inner.Fits.{InstrFits}
 use Rattle.dw_canon.specs.Inner.Laid.{part_of, groups_of, parts_of}
-use Rattle.dw_canon.specs.Inner.Canon.{canon}
-use Rattle.dw_canon.specs.Canon.{cie_instrs}
+use Rattle.dw_canon.specs.Inner.Canon.{canon, cie_instrs}
 use Rattle.dw_canon.specs.Inner.Laid.{IsPart}
 use Rattle.dw_canon.specs.Members.{Member, AreMembers}
 use Rattle.dw_canon.specs.Inner.Written.{Written, contents, entry_bytes}

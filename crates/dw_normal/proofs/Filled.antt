@@ -6,8 +6,8 @@ use Rattle.dw_num.specs.declared.target.Size.{Size}
 use Rattle.dw_num.specs.declared.target.Target.{Target}
 use Rattle.dw_cfa.specs.Rows.{Rules}
 use Rattle.dw_section.specs.declared.lookup.Fde.{Fde}
-use Rattle.dw_canon.specs.Canon.{fde_instrs, initial_of}
-use Rattle.dw_canon.specs.Difference.{difference, later_changes}
+use Rattle.dw_canon.specs.Inner.Canon.{fde_instrs, initial_of}
+use Rattle.dw_canon.specs.Inner.Difference.{difference, later_changes}
 use Rattle.dw_canon.specs.Members.{Member}
 use Rattle.dw_canon.specs.Inner.Spelling.{program_bytes}
 use Rattle.dw_canon.specs.Inner.Written.{fde, nop_count, filled, contents}

@@ -10,9 +10,11 @@ use Rattle.std.specs.Ordering.{nat_cmp}
 use Rattle.std.proofs.lemmas.Bool.{cases_lt, lt-ltb, le-ltb, ne_eqb, cases_Bool}
 use Rattle.std.proofs.lemmas.List.{append-nil, take_more}
 use Rattle.dw_cfa.specs.Rows.{Rules, blank}
-use Rattle.dw_canon.specs.Canon.{initial_of, return_registers}
-use Rattle.dw_canon.specs.Difference.{with_register, with_registers}
-use Rattle.dw_canon.specs.Group.{group, initial_row, kept_by}
+use Rattle.dw_canon.specs.Canon.{return_registers}
+use Rattle.dw_canon.specs.Inner.Canon.{initial_of}
+use Rattle.dw_canon.specs.Inner.Difference.{with_register, with_registers}
+use Rattle.dw_canon.specs.Group.{group}
+use Rattle.dw_canon.specs.Inner.Group.{initial_row, kept_by}
 use Rattle.dw_canon.specs.Members.{Member}
 use Rattle.dw_normal.specs.Inner.Groups.{initial_rows, begun_with, row_of, with_member}
 use Rattle.dw_normal.proofs.Passes.{group_more, next_member}
@@ -75,33 +77,14 @@ written k (e ∷ es) x w up found = elim (told k e.0) [
       rw greater (ap (λ (l : List (ℕ × Rules)). e ∷ l) (written k es x w (sorted_tail nat_cmp e.0 (keys_of es) up) (sym step ∙ found)))
 ]
 
--- ---- two registers come in in either order
+-- ---- the register of one FDE more comes in last
 
-low_first : (a b : ℕ) (xs : List ℕ) → Lower a b → with_register a (with_register b xs) ≡ with_register b (with_register a xs)
-low_first a b [] o = rw (o.is, o.back, o.other) refl
-low_first a b (x ∷ xs) o = elim (told b x) [
-  | inl bx ↦ let ax = lower a x (omega (arith, o.lt, bx.lt)) in rw (bx.is, ax.is, o.is, o.back, o.other, bx.is) refl
-  | inr (inl same) ↦ subst (λ (n : ℕ). with_register a (with_register b (n ∷ xs)) ≡ with_register b (with_register a (n ∷ xs))) same (rw (self_lt b, self_eq b, o.is, o.back, o.other, self_lt b, self_eq b) refl)
-  | inr (inr xb) ↦ elim (told a x) [
-    | inl ax ↦ rw (xb.back, xb.other, ax.is, o.back, o.other, xb.back, xb.other) refl
-    | inr (inl same) ↦ rw (xb.back, xb.other) (subst (λ (n : ℕ). with_register n (x ∷ with_register b xs) ≡ with_register b (with_register n (x ∷ xs))) (sym same) (rw (self_lt x, self_eq x, xb.back, xb.other) refl))
-    | inr (inr xa) ↦ rw (xb.back, xb.other, xa.back, xa.other, xb.back, xb.other) (ap (λ (l : List ℕ). x ∷ l) (low_first a b xs o))
-  ]
-]
-
-either_first : (a b : ℕ) (xs : List ℕ) → with_register a (with_register b xs) ≡ with_register b (with_register a xs)
-either_first a b xs = elim (told a b) [
-  | inl o ↦ low_first a b xs o
-  | inr (inl same) ↦ subst (λ (n : ℕ). with_register a (with_register n xs) ≡ with_register n (with_register a xs)) same refl
-  | inr (inr o) ↦ sym (low_first b a xs o)
-]
-
-last_first : (q : ℕ) (rs : List ℕ) → with_registers (rs ++ q ∷ []) [] ≡ with_register q (with_registers rs [])
-last_first q [] = refl
-last_first q (r ∷ rs) = ap (with_register r) (last_first q rs) ∙ either_first r q (with_registers rs [])
+last_in : (q : ℕ) (rs qs : List ℕ) → with_registers (rs ++ q ∷ []) qs ≡ with_register q (with_registers rs qs)
+last_in q [] qs = refl
+last_in q (r ∷ rs) qs = last_in q rs (with_register r qs)
 
 pub registers_more : (xs : List Member) (m : Member) → return_registers (xs ++ m ∷ []) ≡ with_register m.register (return_registers xs)
-registers_more xs m = ap (λ (l : List ℕ). with_registers l []) (each xs) ∙ last_first m.register (map (λ (n : Member). n.register) xs)
+registers_more xs m = ap (λ (l : List ℕ). with_registers l []) (each xs) ∙ last_in m.register (map (λ (n : Member). n.register) xs) []
   where
     each : (ys : List Member) → map (λ (n : Member). n.register) (ys ++ m ∷ []) ≡ map (λ (n : Member). n.register) ys ++ m.register ∷ []
     each [] = refl
@@ -121,9 +104,9 @@ rise_one low r (x ∷ rs) le h = elim (told r x) [
   | inr (inr o) ↦ rw (o.back, o.other) (h.0, rise_one (suc x) r rs (omega (arith, o.lt)) h.1)
 ]
 
-registers_rise : (rs : List ℕ) → Rise 0 (with_registers rs [])
-registers_rise [] = tt
-registers_rise (r ∷ rs) = rise_one 0 r (with_registers rs []) (omega arith) (registers_rise rs)
+registers_rise : (rs qs : List ℕ) → Rise 0 qs → Rise 0 (with_registers rs qs)
+registers_rise [] qs h = h
+registers_rise (r ∷ rs) qs h = registers_rise rs (with_register r qs) (rise_one 0 r qs (omega arith) h)
 
 abbrev paired : (ℕ → Rules) → List ℕ → List (ℕ × Rules)
 paired f rs = map {B = ℕ × Rules} (λ (r : ℕ). (r, f r)) rs
@@ -138,16 +121,14 @@ module _ (f g : ℕ → Rules) (q : ℕ) (v : Rules) (here : g q ≡ v) (else : 
   pub comes_in : (low : ℕ) (rs : List ℕ) → Rise low rs → insert_entry nat_cmp (paired f rs) q v ≡ paired g (with_register q rs)
   comes_in low [] h = ap (λ (x : Rules). (q, x) ∷ []) (sym here)
   comes_in low (x ∷ rs) h = elim (told q x) [
-    | inl o ↦ rw (o.less, o.is) (ap (λ (y : Rules). (q, y) ∷ paired f (x ∷ rs)) (sym here) ∙ ap (λ (l : List (ℕ × Rules)). (q, g q) ∷ l) (above x (x ∷ rs) o.lt (omega arith, h.1)))
+    | inl o ↦ rw (o.less) (ap (λ (y : Rules). (q, y) ∷ paired f (x ∷ rs)) (sym here) ∙ ap (λ (l : List (ℕ × Rules)). (q, g q) ∷ l) (above x (x ∷ rs) o.lt (omega arith, h.1)))
     | inr (inl same) ↦
         let eq : nat_cmp q x ≡ Equal = subst (λ (n : ℕ). nat_cmp q n ≡ Equal) same (rw (self_lt q, self_eq q) refl) in
-        let no : nat_lt q x ≡ false = subst (λ (n : ℕ). nat_lt q n ≡ false) same (self_lt q) in
-        let yes : nat_eq q x ≡ true = subst (λ (n : ℕ). nat_eq q n ≡ true) same (self_eq q) in
         let value : v ≡ g x = sym here ∙ ap g same in
-        rw (eq, no, yes) (ap (λ (y : Rules). (x, y) ∷ paired f rs) value ∙ ap (λ (l : List (ℕ × Rules)). (x, g x) ∷ l) (above (suc x) rs (omega (arith, same)) h.1))
+        rw eq (ap (λ (y : Rules). (x, y) ∷ paired f rs) value ∙ ap (λ (l : List (ℕ × Rules)). (x, g x) ∷ l) (above (suc x) rs (omega (arith, same)) h.1))
     | inr (inr o) ↦
         let own = else x (λ e. omega (arith, o.lt)) in
-        rw (o.greater, o.back, o.other) (ap (λ (y : Rules). (x, y) ∷ insert_entry nat_cmp (paired f rs) q v) (sym own) ∙ ap (λ (l : List (ℕ × Rules)). (x, g x) ∷ l) (comes_in (suc x) rs h.1))
+        rw (o.greater) (ap (λ (y : Rules). (x, y) ∷ insert_entry nat_cmp (paired f rs) q v) (sym own) ∙ ap (λ (l : List (ℕ × Rules)). (x, g x) ∷ l) (comes_in (suc x) rs h.1))
   ]
 
 -- ---- a row is found
@@ -194,12 +175,27 @@ module _ (f : ℕ → Rules) (q : ℕ) where
         rw (o.back, o.other) (head_look x (rows_at (with_register r rs)) ∙ ap (found (nat_eq x q)) (look_one r rs) ∙ both_orders (nat_eq x q) (nat_eq r q) (row_of (rows_at rs) q) ∙ ap (found (nat_eq r q)) (sym (head_look x (rows_at rs))))
   ]
 
+  -- a group's row, where it has an element, else what was found without it
+  abbrev before : List Member → Option Rules → Option Rules
+  before [] rest = rest
+  before (m ∷ ms) rest = Some (f q)
+
+  before_some : (ms : List Member) → before ms (Some (f q)) ≡ Some (f q)
+  before_some [] = refl
+  before_some (m ∷ ms) = refl
+
+  before_none : (ms : List Member) → before ms None ≡ some_of (f q) ms
+  before_none [] = refl
+  before_none (m ∷ ms) = refl
+
+  look_before : (xs : List Member) (rs : List ℕ) → row_of (rows_at (with_registers (map (λ (m : Member). m.register) xs) rs)) q ≡ before (group q xs) (row_of (rows_at rs) q)
+  look_before [] rs = refl
+  look_before (x ∷ xs) rs =
+      look_before xs (with_register x.register rs) ∙ ap (before (group q xs)) (look_one x.register rs)
+      ∙ elim (cases_Bool (nat_eq x.register q)) [ inl e ↦ rw e (before_some (group q xs)) | inr e ↦ rw e refl ]
+
   pub look_members : (xs : List Member) → row_of (rows_at (return_registers xs)) q ≡ some_of (f q) (group q xs)
-  look_members [] = refl
-  look_members (x ∷ xs) = look_one x.register (return_registers xs) ∙ elim (cases_Bool (nat_eq x.register q)) [
-    | inl e ↦ rw e refl
-    | inr e ↦ rw e (look_members xs)
-  ]
+  look_members xs = look_before xs [] ∙ before_none (group q xs)
 
 -- ---- one FDE more
 
@@ -215,7 +211,7 @@ member_more xs m =
     let here : initial_of (xs ++ m ∷ []) q ≡ kept_by (begun_with (row_of (initial_rows xs) q) m.first) m.later =
     ap initial_row (group_more q xs (m ∷ []) ∙ ap (λ (l : List Member). group q xs ++ l) own) ∙ joined m (group q xs)
     ∙ ap (λ (o : Option Rules). kept_by (begun_with o m.first) m.later) (sym look) in
-    comes_in (initial_of xs) (initial_of (xs ++ m ∷ [])) q (kept_by (begun_with (row_of (initial_rows xs) q) m.first) m.later) here others 0 (return_registers xs) (registers_rise (map (λ (n : Member). n.register) xs))
+    comes_in (initial_of xs) (initial_of (xs ++ m ∷ [])) q (kept_by (begun_with (row_of (initial_rows xs) q) m.first) m.later) here others 0 (return_registers xs) (registers_rise (map (λ (n : Member). n.register) xs) [] tt)
     ∙ ap (paired (initial_of (xs ++ m ∷ []))) (sym (registers_more xs m))
   where
     others : (r : ℕ) → (r ≡ m.register → ⊥) → initial_of (xs ++ m ∷ []) r ≡ initial_of xs r

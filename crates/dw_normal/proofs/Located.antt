@@ -10,8 +10,7 @@ use Rattle.dw_section.specs.Accepted.{Accepted}
 use Rattle.dw_section.specs.Meaning.{AreFdes}
 use Rattle.dw_section.specs.declared.lookup.Fde.{Fde}
 use Rattle.dw_canon.specs.Inner.Laid.{groups_of, part_of}
-use Rattle.dw_canon.specs.Inner.Canon.{canon}
-use Rattle.dw_canon.specs.Canon.{initial_of}
+use Rattle.dw_canon.specs.Inner.Canon.{canon, initial_of}
 use Rattle.dw_canon.specs.Inner.Laid.{place_of}
 use Rattle.dw_canon.specs.Inner.Laid.{IsPart}
 use Rattle.dw_canon.specs.Members.{Member, AreMembers, fde_of}

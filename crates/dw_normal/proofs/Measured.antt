@@ -8,7 +8,8 @@ use Rattle.dw_cfa.specs.Rows.{Rules}
 use Rattle.dw_section.specs.Changes.{Changing, ToCome, GivesAddress}
 use Rattle.dw_section.specs.Inner.Sound.{RowFits}
 use Rattle.dw_section.proofs.Lent.Exists.{among_exists}
-use Rattle.dw_canon.specs.Difference.{difference, move, later_changes}
+use Rattle.dw_canon.specs.Difference.{move}
+use Rattle.dw_canon.specs.Inner.Difference.{difference, later_changes}
 use Rattle.dw_canon.specs.Inner.Spelling.{instr_bytes, program_bytes}
 use Rattle.dw_canon.specs.Inner.Written.{fde, entry_bytes}
 use Rattle.dw_canon.specs.Written.{missing}

@@ -8,9 +8,11 @@ use Rattle.std.proofs.lemmas.List.{append_assoc, append-nil}
 use Rattle.dw_num.specs.declared.target.Target.{Target}
 use Rattle.dw_cfa.specs.declared.instr.Instr.{Instr}
 use Rattle.dw_cfa.specs.Rows.{Rules}
-use Rattle.dw_canon.specs.Difference.{difference, move, later_changes}
-use Rattle.dw_canon.specs.Group.{group, kept_by, shared_by, initial_row}
-use Rattle.dw_cfa.specs.Agreement.{agreed}
+use Rattle.dw_canon.specs.Difference.{move}
+use Rattle.dw_canon.specs.Inner.Difference.{difference, later_changes}
+use Rattle.dw_canon.specs.Group.{group}
+use Rattle.dw_canon.specs.Inner.Group.{kept_by, shared_by, initial_row}
+use Rattle.dw_cfa.specs.Inner.Agreement.{agreed}
 use Rattle.dw_canon.specs.Members.{Member}
 use Rattle.dw_normal.specs.Inner.ChangeWalk.{last_of, Stand, Appends, Under, row_or_blank, shown_row}
 use Rattle.dw_num.specs.Target.{address_limit}

@@ -1,14 +1,17 @@
 -- The registers of two rows from one on, and the first of them whose rule differs.
-use Rattle.std.proofs.Common.{◌≡◌, ℕ, suc, ◌<◌, ◌≤◌, true, false, List, [], ◌∷◌, map, None, refl, sym, ap, ◌∙◌, subst, arith, inl, inr}
+use Rattle.std.proofs.Common.{◌≡◌, ℕ, suc, ◌<◌, ◌≤◌, true, false, List, [], ◌∷◌, map, None, refl, sym, ap, ◌∙◌, arith, inl, inr}
 use Rattle.std.specs.Prelude.{nat_lt}
 use Rattle.std.specs.List.{flat_map}
+use Rattle.std.specs.Map.{keys_of}
 use Rattle.std.proofs.lemmas.Bool.{cases_lt, lt-ltb, le-ltb, eq-eqb, ne_eqb}
 use Rattle.dw_cfa.specs.declared.rule.RegRule.{RegRule}
 use Rattle.dw_cfa.specs.Rows.{Rules, AreSpecified, rule}
-use Rattle.dw_cfa.specs.Agreement.{same_rule}
+use Rattle.dw_cfa.specs.Inner.Agreement.{same_rule}
 use Rattle.dw_cfa.specs.Difference.{FirstDifference, DiffersFirst}
-use Rattle.dw_cfa.proofs.Lent.Skipped.{rule_self}
-use Rattle.dw_canon.specs.Difference.{rule_to, rule_difference, with_register, with_registers, registers_of, either}
+use Rattle.dw_cfa.proofs.Lent.Equal.{differs_of}
+use Rattle.dw_cfa.specs.Inner.RowEquality.{rule_tells}
+use Rattle.dw_canon.specs.Difference.{either}
+use Rattle.dw_canon.specs.Inner.Difference.{rule_to, rule_difference, with_register, with_registers}
 use Rattle.dw_canon.proofs.Lent.Differences.{In, either_or}
 use Rattle.dw_normal.specs.Inner.RegisterWalk.{from_on, rules_from}
 
@@ -38,10 +41,10 @@ one_ascend low q (y ∷ ys) le h = elim (cases_lt q y) [
 
 both_ascend : (low : ℕ) (xs ys : List ℕ) → Ascend low xs → Ascend low ys → Ascend low (with_registers xs ys)
 both_ascend low [] ys h k = k
-both_ascend low (x ∷ xs) ys h k = one_ascend low x (with_registers xs ys) h.0 (both_ascend low xs ys (ascend_down low (suc x) xs (let le : low ≤ x = h.0 in omega arith) h.1) k)
+both_ascend low (x ∷ xs) ys h k = both_ascend low xs (with_register x ys) (ascend_down low (suc x) xs (let le : low ≤ x = h.0 in omega arith) h.1) (one_ascend low x ys h.0 k)
 
 either_ascends : (old new : Rules) → AreSpecified 0 old.registers → AreSpecified 0 new.registers → Ascend 0 (either old new)
-either_ascends old new up up' = both_ascend 0 (registers_of old) (registers_of new) (keys_ascend 0 old.registers up) (keys_ascend 0 new.registers up')
+either_ascends old new up up' = both_ascend 0 (keys_of old.registers) (keys_of new.registers) (keys_ascend 0 old.registers up) (keys_ascend 0 new.registers up')
 
 in_above : (low q : ℕ) (rs : List ℕ) → Ascend low rs → In q rs → low ≤ q
 in_above low q [] h e = absurd e
@@ -62,7 +65,7 @@ from_first (r ∷ rs) = rw (le-ltb r 0 (omega arith)) (ap (λ (l : List ℕ). r 
 module _ (initial old new : Rules) (low : ℕ) where
   quiet : (r : ℕ) → rule old r ≡ rule new r → rule_difference initial old new r ≡ []
   quiet r same =
-      let test : same_rule (rule old r) (rule new r) ≡ true = subst (λ (x : RegRule). same_rule (rule old r) x ≡ true) same (rule_self (rule old r)) in
+      let test : same_rule (rule old r) (rule new r) ≡ true = (rule_tells (rule old r) (rule new r)).1 same in
       rw test refl
 
   none_on : (rs : List ℕ) → ((r : ℕ) → low ≤ r → rule old r ≡ rule new r) → flat_map (rule_difference initial old new) (from_on low rs) ≡ []
@@ -78,7 +81,7 @@ module _ (initial old new : Rules) (low : ℕ) where
   module _ (q : ℕ) (first : DiffersFirst low old.registers new.registers q) where
     loud : (r : ℕ) → r ≡ q → rule_difference initial old new r ≡ rule_to initial q (rule new q) ∷ []
     loud r at =
-        let test : same_rule (rule old q) (rule new q) ≡ false = first.2 in
+        let test : same_rule (rule old q) (rule new q) ≡ false = differs_of (rule old q) (rule new q) first.2 in
         ap (rule_difference initial old new) at ∙ rw test refl
 
     one_on : (rs : List ℕ) (above : ℕ) → Ascend above rs → In q rs
@@ -97,14 +100,8 @@ module _ (initial old new : Rules) (low : ℕ) where
           | inr ge ↦ rw (past, le-ltb r low ge, quiet r (first.1 r ge lt)) (one_on rs (suc r) h.1 more)
         ]
 
-    differs_not : rule old q ≡ rule new q → ⊥
-    differs_not same =
-        let yes : same_rule (rule old q) (rule new q) ≡ true = subst (λ (x : RegRule). same_rule (rule old q) x ≡ true) same (rule_self (rule old q)) in
-        let no : same_rule (rule old q) (rule new q) ≡ false = first.2 in
-        absurd cc
-
     pub one_differs : AreSpecified 0 old.registers → AreSpecified 0 new.registers → rules_from initial old new low ≡ rule_to initial q (rule new q) ∷ rules_from initial old new (suc q)
     one_differs up up' = elim (either_or old new q) [
       | inl is ↦ one_on (either old new) 0 (either_ascends old new up up') is
-      | inr same ↦ absurd (differs_not same)
+      | inr same ↦ absurd (first.2 same)
     ]

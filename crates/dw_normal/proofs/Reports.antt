@@ -16,7 +16,7 @@ use Rattle.dw_section.proofs.Lent.CheckFirst.{fault_or_accepted}
 use Rattle.dw_canon.specs.Inner.Canon.{canon}
 use Rattle.dw_canon.specs.Members.{Member, AreMembers}
 use Rattle.dw_canon.specs.Normal.{IsNormalForm}
-use Rattle.dw_canon.proofs.Lent.Blocks.{is_normal, whole_is}
+use Rattle.dw_canon.proofs.Lent.Forms.{is_normal, whole_is}
 use Rattle.dw_canon.proofs.Lent.Canonical.{members_exist, normal_form_is_one, same_exactly}
 use Rattle.dw_normal.specs.Answers.{IsTooLong, IsWithin, NormalFault, SameFault, WentOut, Writes, too_long}
 use Rattle.dw_normal.specs.Inner.Answers.{IsShort, IsMeasured, LengthFault, blamed, unread, unwritten}
@@ -45,7 +45,7 @@ pub is_too_long : (t : Target) (s : List ℕ) (cap : ℕ) (last : Option ℕ) �
 is_too_long t s cap last b ok e measured =
     let found = members_exist t s b ok in
     let long = subst (AreMeasured t s cap) e measured in
-    (canon t found.0, is_normal t s found.0 ok found.1, long found.0 found.1)
+    (canon t found.0, is_normal t s found.0 b ok found.1, long found.0 found.1)
 
 pub is_measured : (t : Target) (s : List ℕ) (cap len : ℕ) (some : Option ℕ) (rows : List (ℕ × Rules)) → AreBytes s → Accepted t s → ((ms : List Member) → AreMembers t s ms → rows ≡ initial_rows ms)
     → some ≡ Some len → ((ms : List Member) → AreMembers t s ms → Measures cap (length (canon t ms)) some) → IsMeasured t cap s rows len
@@ -65,7 +65,7 @@ module _ (t : Target) (cap : ℕ) (s : List ℕ) (h : IsShort t cap s) where
   pub whole_of : Whole t cap s
   whole_of =
       let found = members_exist t s h.bytes h.accepted in
-      record { members = found.0; are = found.1; is = is_normal t s found.0 h.accepted found.1; within = h.within found.0 found.1 }
+      record { members = found.0; are = found.1; is = is_normal t s found.0 h.bytes h.accepted found.1; within = h.within found.0 found.1 }
 
   pub is_within : IsWithin t cap s
   is_within = let w = whole_of in (canon t w.members, w.is, w.within)

@@ -8,7 +8,8 @@ use Rattle.std.proofs.lemmas.List.{length-append}
 use Rattle.dw_num.specs.declared.target.Target.{Target}
 use Rattle.dw_cfa.specs.Rows.{Rules}
 use Rattle.dw_canon.specs.Inner.Laid.{group_of}
-use Rattle.dw_canon.specs.Canon.{initial_of, return_registers}
+use Rattle.dw_canon.specs.Canon.{return_registers}
+use Rattle.dw_canon.specs.Inner.Canon.{initial_of}
 use Rattle.dw_canon.specs.Inner.Laid.{GroupsRise}
 use Rattle.dw_canon.specs.Inner.Laid.{place_of}
 use Rattle.dw_canon.specs.Members.{Member}

@@ -4,8 +4,8 @@ use Rattle.std.proofs.lemmas.List.{length-append, take_more}
 use Rattle.dw_num.specs.declared.target.Target.{Target}
 use Rattle.dw_cfa.specs.Rows.{Rules}
 use Rattle.dw_canon.specs.Inner.Laid.{group_of, groups_of, part_of, parts_of}
-use Rattle.dw_canon.specs.Inner.Canon.{canon}
-use Rattle.dw_canon.specs.Canon.{initial_of, return_registers}
+use Rattle.dw_canon.specs.Inner.Canon.{canon, initial_of}
+use Rattle.dw_canon.specs.Canon.{return_registers}
 use Rattle.dw_canon.specs.Inner.Laid.{cie_of, fde_of, place_of}
 use Rattle.dw_canon.specs.Members.{Member}
 use Rattle.dw_canon.specs.Inner.Written.{Written, entry_bytes, section_bytes}

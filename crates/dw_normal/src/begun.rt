@@ -3,7 +3,7 @@
 ghost use Rattle.std.specs.Prelude.{◌≡◌, ◌<◌, List, length, slice_index_or, OnOk};
 ghost use Rattle.dw_section.specs.declared.lookup.Fde.{Fde as TheFde};
 ghost use Rattle.dw_section.specs.Meaning.{AreFdes};
-ghost use Rattle.dw_canon.specs.Canon.{initial_of};
+ghost use Rattle.dw_canon.specs.Inner.Canon.{initial_of};
 ghost use Rattle.dw_canon.specs.Members.{Member, AreMembers};
 ghost use Rattle.dw_normal.specs.Inner.Begun.{Begins, IsReady};
 ghost use Rattle.dw_normal.specs.Inner.Groups.{initial_rows};

@@ -10,9 +10,10 @@ ghost use Rattle.dw_section.specs.Laws.{AreListed};
 ghost use Rattle.dw_section.specs.Meaning.{AreFdes, ChangesOf};
 ghost use Rattle.dw_section.specs.Opening.{OpensBehind};
 ghost use Rattle.dw_canon.specs.Inner.Canon.{canon};
-ghost use Rattle.dw_canon.specs.Group.{kept_by};
+ghost use Rattle.dw_canon.specs.Inner.Group.{kept_by};
 ghost use Rattle.dw_canon.specs.Members.{Member, AreMembers};
-ghost use Rattle.dw_cfa.specs.Agreement.{agreed, kept};
+ghost use Rattle.dw_cfa.specs.Agreement.{kept};
+ghost use Rattle.dw_cfa.specs.Inner.Agreement.{agreed};
 ghost use Rattle.dw_normal.specs.Inner.Groups.{SpecifiesAll, NarrowedBy, HasJoined, joined_by, with_member, initial_rows};
 ghost use Rattle.dw_normal.specs.Inner.ChangeWalk.{AreToCome, BehindFirst};
 
@@ -124,6 +125,7 @@ fn share_with<'a>(shared: &mut Row<'a>, changes: &mut Changes<'a>) -> Result<(),
     let Some(first) = changes.row() else {
         return Err(AllocError);
     };
+    shared.ascends();
     shared.agree(first);
     keep_all(shared, changes)
 }

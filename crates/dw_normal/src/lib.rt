@@ -15,6 +15,7 @@ mod normal;
 mod opcode;
 mod preparation;
 mod program;
+mod restored;
 mod room;
 mod sink;
 mod size;

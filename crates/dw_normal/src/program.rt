@@ -3,7 +3,8 @@
 ghost use Rattle.std.specs.Prelude.{◌≡◌, ◌++◌, ◌<◌, ◌≤◌, Some, OnOk};
 ghost use Rattle.dw_num.specs.Target.{address_limit};
 ghost use Rattle.std.specs.List.{AllByRecursion};
-ghost use Rattle.dw_canon.specs.Difference.{difference, move, cfa_difference, rule_to};
+ghost use Rattle.dw_canon.specs.Difference.{move};
+ghost use Rattle.dw_canon.specs.Inner.Difference.{difference, cfa_difference, rule_to};
 ghost use Rattle.dw_cfa.specs.Rows.{rule};
 ghost use Rattle.dw_normal.specs.Inner.RegisterWalk.{rules_from};
 ghost use Rattle.dw_normal.specs.Inner.ChangeWalk.{Stand, Appends, row_or_blank, shown_row};
@@ -16,6 +17,7 @@ use crate::instruction::{
     push_advance, push_cfa_offset, push_instr, push_packed, push_rule, push_set_loc,
 };
 use crate::opcode::{RESTORE, RESTORE_EXTENDED};
+use crate::restored::is_restored;
 use dw_cfa::{CfaRule, Row};
 use dw_num::Target;
 use dw_section::Changes;
@@ -96,7 +98,7 @@ fn push_register<'a>(
     requires { InstrFits target (rule_to shared.now register (rule row.now register)) }
     ensures { OnOk result (out.new.items ≡ out.old.items ++ instr_bytes target (rule_to shared.now register (rule row.now register))) }
 {
-    if row.has_same_rule(shared, register) {
+    if is_restored(row, shared, register) {
         return push_packed(out, RESTORE, RESTORE_EXTENDED, register);
     }
     push_rule(out, register, &row.rule(register), target)

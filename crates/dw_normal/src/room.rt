@@ -4,9 +4,10 @@ ghost use Rattle.std.specs.Prelude.{◌≡◌, ◌+◌, ◌<◌, ◌≤◌, ◌^
 ghost use Rattle.std.specs.List.{AllByRecursion};
 ghost use Rattle.dw_num.specs.Target.{address_limit};
 ghost use Rattle.dw_section.specs.Inner.Sound.{RowFits};
-ghost use Rattle.dw_canon.specs.Canon.{cie_instrs};
+ghost use Rattle.dw_canon.specs.Inner.Canon.{cie_instrs};
 ghost use Rattle.dw_cfa.specs.Rows.{rule};
-ghost use Rattle.dw_canon.specs.Difference.{difference, cfa_difference, rule_to, move};
+ghost use Rattle.dw_canon.specs.Difference.{move};
+ghost use Rattle.dw_canon.specs.Inner.Difference.{difference, cfa_difference, rule_to};
 ghost use Rattle.dw_canon.specs.Inner.Fits.{InstrFits};
 ghost use Rattle.dw_canon.specs.Inner.Spelling.{instr_bytes, program_bytes};
 ghost use Rattle.dw_canon.specs.Inner.Written.{cie, entry_bytes};
@@ -15,6 +16,7 @@ ghost use Rattle.dw_normal.specs.Inner.Lengths.{Leaves, LaterLeaves, FdeLeaves};
 ghost use Rattle.dw_normal.specs.Inner.ChangeWalk.{Stand, row_or_blank, shown_row};
 
 use crate::cfa_change::cfa_difference;
+use crate::restored::is_restored;
 use crate::size::{cfa_offset_len, instr_len, packed_len, rule_len, unsigned_len};
 use dw_cfa::{CfaRule, Instr, Row};
 use dw_num::Target;
@@ -84,11 +86,10 @@ fn register_len<'a>(shared: &Row<'a>, row: &Row<'a>, register: u16, target: Targ
     requires { InstrFits target (rule_to shared.now register (rule row.now register)) }
     ensures { result ≡ length (instr_bytes target (rule_to shared.now register (rule row.now register))) }
 {
-    let own = row.rule(register);
-    if own.is_same(&shared.rule(register)) {
+    if is_restored(row, shared, register) {
         return packed_len(register);
     }
-    rule_len(register, &own, target)
+    rule_len(register, &row.rule(register), target)
 }
 
 /// What is left of room behind what leads from one row to another, where a third has the initial rules.

@@ -32,9 +32,3 @@ code_entry NoCfaRule = (24, codes "NoCfaRule")
 code_entry Overlap = (25, codes "Overlap")
 code_entry SectionTooLarge = (26, codes "SectionTooLarge")
 code_entry NormalTooLong = (27, codes "NormalTooLong")
-
-abbrev pub number_of : Code → ℕ
-number_of code = (code_entry code).0
-
-abbrev pub name_of : Code → List ℕ
-name_of code = (code_entry code).1

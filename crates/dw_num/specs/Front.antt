@@ -1,5 +1,5 @@
 -- Reading from the front of an input, with the fault of what can't be read.
-use Rattle.std.specs.Prelude.{◌≡◌, ℕ, ◌+◌, ◌^◌, List, [], ◌∷◌, length, take, Option, Some, None, Result, Ok, Err, nat_lt, Bool, ℤ, pos, negsuc, drop, ◌==◌, if◌then◌else◌}
+use Rattle.std.specs.Prelude.{◌≡◌, ℕ, ◌+◌, ◌^◌, List, [], ◌∷◌, length, take, Option, Some, None, option_map, Result, Ok, Err, nat_lt, Bool, ℤ, pos, negsuc, drop, ◌==◌, if◌then◌else◌}
 use Rattle.dw_num.specs.declared.refusal.Code.{Code}
 use Rattle.dw_num.specs.declared.refusal.Code.TheVariants.{Truncated, ReservedLength, NumberTooLarge, RegisterTooLarge}
 use Rattle.dw_num.specs.declared.refusal.Refusal.{Refusal}
@@ -35,15 +35,10 @@ fixed_at n i = if nat_lt (length i.bytes) n then fault Truncated i.at else Ok (f
 unfoldable pub take_at : ℕ → Input → Read (List ℕ)
 take_at n i = if nat_lt (length i.bytes) n then fault Truncated i.at else Ok (take n i.bytes, behind n i)
 
--- i more
-abbrev pub further : ℕ → Option ℕ → Option ℕ
-further i None = None
-further i (Some n) = Some (i + n)
-
 -- how many bytes the LEB at the front has: up to the first without a top bit
 abbrev pub leb_len : List ℕ → Option ℕ
 leb_len [] = None
-leb_len (b ∷ bs) = if nat_lt b 128 then Some 1 else further 1 (leb_len bs)
+leb_len (b ∷ bs) = if nat_lt b 128 then Some 1 else option_map (λ n. 1 + n) (leb_len bs)
 
 abbrev pub uleb_of : Option ℕ → Input → Read ℕ
 uleb_of None i = fault Truncated i.at

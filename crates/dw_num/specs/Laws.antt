@@ -4,6 +4,12 @@ use Rattle.dw_num.specs.Input.{Input}
 use Rattle.dw_num.specs.Front.{Read, take_at, fixed_at, address_at, unit_length_at, uleb_at, sleb_at, register_at}
 use Rattle.dw_num.specs.ShortestLeb.{PutsUleb, PutsSleb}
 
+-- something holds of one value and of no other
+pub record HoldsOfOne {X : Type 0} (P : X → Type 0) : Type 0 where
+  pub value : X
+  pub holds : P value
+  pub only : (other : X) → P other → other ≡ value
+
 -- j is what is left of i: it begins in i or at its end, and both end at one place
 pub record IsRest (i j : Input) : Type 0 where
   pub begins : i.at ≤ j.at

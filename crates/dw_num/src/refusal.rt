@@ -1,7 +1,7 @@
 //! Why a section is refused, and where.
 
 ghost use Rattle.std.specs.Prelude.{◌≡◌};
-ghost use Rattle.dw_num.specs.Codes.{number_of, name_of};
+ghost use Rattle.dw_num.specs.Codes.{code_entry};
 
 use std::error::Error;
 use std::fmt;
@@ -74,7 +74,7 @@ pub enum Code {
 impl Code {
     /// The refusal's number, 1 to 27.
     pub fn number(self) -> u8
-        ensures { result ≡ number_of self }
+        ensures { result ≡ (code_entry self).0 }
     {
         match self {
             Code::Truncated => 1,
@@ -109,7 +109,7 @@ impl Code {
 
     /// The refusal's name, as the variant is written.
     pub fn name(self) -> &'static str
-        ensures { result.now ≡ name_of self }
+        ensures { result.now ≡ (code_entry self).1 }
     {
         match self {
             Code::Truncated => "Truncated",

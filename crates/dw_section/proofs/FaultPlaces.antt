@@ -11,22 +11,24 @@ use Rattle.dw_num.specs.declared.target.UnitLength.{UnitLength}
 use Rattle.dw_num.specs.Fixed.{length_bytes}
 use Rattle.dw_num.specs.Input.{Input, AreBytes}
 use Rattle.dw_num.specs.Front.{Read, unit_length_at}
-use Rattle.dw_num.specs.Span.{Span}
+use Rattle.dw_num.specs.Span.{Span, input_of}
 use Rattle.dw_num.proofs.Lent.Stays.{Inside, Stays, stays-then, either_stays, unit_length_stays}
 use Rattle.dw_cfa.proofs.Lent.FaultPlaces.{cie_within, fde_within}
 use Rattle.dw_num.specs.declared.error.ReadError.{ReadError}
 use Rattle.dw_num.specs.declared.error.ReadError.TheVariants.{Refused}
 use Rattle.dw_section.specs.Accepted.{CheckFault, CieProgramsFault, FdeProgramsFault, RulesFault}
 use Rattle.dw_section.specs.Cut.{Item, gap, entry, Piece, pieces, item_bytes, all_bytes, id_width}
-use Rattle.dw_section.specs.FaultPlaces.{IsWithin}
+use Rattle.dw_op.specs.Faults.{IsWithin}
 use Rattle.dw_num.specs.Refusals.{Refuses}
 use Rattle.dw_section.specs.Faults.{is_32, body_at, item_at, CutFault}
-use Rattle.dw_section.specs.Headers.{Head, cie, fde, Has, Headers, contents_of, CieStuck, FdeStuck, CieFieldsFault, HeadersFault}
+use Rattle.dw_section.specs.Headers.{Head, cie, fde, Has, Headers, CieStuck, FdeStuck, CieFieldsFault, HeadersFault}
+use Rattle.dw_section.specs.Inner.PieceHeader.{contents_of}
 use Rattle.dw_section.specs.Inner.Heads.{HasBytes}
-use Rattle.dw_section.specs.Overlap.{Range, nonempty, IsIn, range_of}
+use Rattle.dw_section.specs.Overlap.{Range, nonempty, range_of}
+use Rattle.dw_section.specs.Among.{IsAmong}
 use Rattle.dw_section.specs.Pieces.{Pieces}
 use Rattle.dw_section.specs.Places.{cie_places}
-use Rattle.dw_section.specs.Programs.{CieBroken, FdeBroken, LacksRule, input_of, factors_of}
+use Rattle.dw_section.specs.Programs.{CieBroken, FdeBroken, LacksRule, factors_of}
 use Rattle.dw_section.specs.Stage.{FirstStuck}
 use Rattle.dw_section.proofs.Lent.HeaderLaws.{fields_end}
 use Rattle.dw_section.proofs.Lent.Heads.{heads_bytes}
@@ -164,11 +166,11 @@ rules_within target s r bytes (inl h) = fde_programs_within target s r bytes h
 rules_within target s r bytes (inr h) = stuck_within (Good (length s)) _ (LacksRule target h.0) h.0 s r (heads_good target s h.0 bytes h.1.0.0) (lacking_within target h.0 s r) h.2
 
 -- an FDE's range has the FDE's place
-range_within : (end : ℕ) (hs : List Head) (x : Range) → AllByRecursion (Good end) hs → IsIn x (nonempty hs) → x.at ≤ end
+range_within : (end : ℕ) (hs : List Head) (x : Range) → AllByRecursion (Good end) hs → IsAmong x (nonempty hs) → x.at ≤ end
 range_within end [] x good is = absurd is
 range_within end (cie c ∷ hs) x good is = range_within end hs x good.1 is
 range_within end (fde f ∷ hs) x good is =
-    with_range_so (λ (rs : List Range). IsIn x rs → x.at ≤ end) (range_of f) (nonempty hs) (λ none. range_within end hs x good.1)
+    with_range_so (λ (rs : List Range). IsAmong x rs → x.at ≤ end) (range_of f) (nonempty hs) (λ none. range_within end hs x good.1)
     (λ some. elim [ inl same ↦ omega (arith, ap (λ (y : Range). y.at) same, good.0.0.0) | inr i ↦ range_within end hs x good.1 i ]) is
 
 pub check_within : (target : Target) (s : List ℕ) → AreBytes s → (r : Refusal) → CheckFault target s r → IsWithin s r
@@ -176,7 +178,7 @@ check_within target s bytes r (inl h) = rules_within target s r bytes h
 check_within target s bytes r (inr h) =
     let hs = h.1.0 in
     let good = heads_good target s hs bytes h.1.1.0.0.0 in
-    let from = stuck_one (λ (x : Range). IsIn x (nonempty hs)) h.2.before h.2.it h.2.after (subst (AllByRecursion (λ (x : Range). IsIn x (nonempty hs))) h.2.whole h.1.2.from) in
+    let from = stuck_one (λ (x : Range). IsAmong x (nonempty hs)) h.2.before h.2.it h.2.after (subst (AllByRecursion (λ (x : Range). IsAmong x (nonempty hs))) h.2.whole h.1.2.from) in
     let is : r.at ≡ h.2.it.at = ap (λ (x : Refusal). x.at) h.2.is in
     let most = range_within (length s) hs h.2.it good from in
     omega (arith, is, most)

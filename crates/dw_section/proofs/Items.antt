@@ -1,6 +1,6 @@
 -- An item at the front, and items in a row.
 use Rattle.std.proofs.Common.{eqb, false, inl, inr, ◌≡◌, ℕ, ◌+◌, add-zero, zero-add, ◌<◌, ◌≤◌, Result, Ok, Err, List, [], ◌∷◌, ◌++◌, length, map, Option, Some, None, refl, sym, ap, subst, ◌∙◌, append_assoc, arith}
-use Rattle.std.specs.List.{AllByRecursion}
+use Rattle.std.specs.List.{AllByRecursion, cons_option}
 use Rattle.std.proofs.lemmas.List.{length-append, append-nil, map-append, take_at, drop_at}
 use Rattle.std.proofs.lemmas.Bool.{le-ltb}
 use Rattle.std.proofs.lemmas.Bool.Decides.{eqb_tells}
@@ -23,7 +23,7 @@ use Rattle.dw_num.specs.declared.target.Order.{Order}
 use Rattle.dw_num.specs.declared.target.Order.TheVariants.{Little, Big}
 use Rattle.dw_num.specs.declared.target.Form.TheVariants.{Dwarf32, Dwarf64}
 use Rattle.dw_num.specs.Input.{Input, Takes}
-use Rattle.dw_section.specs.Cut.{Item, gap, entry, IsItem, item_bytes, is_cie, id_width, all_bytes, Piece, piece_of, with_some, pieces, Cut}
+use Rattle.dw_section.specs.Cut.{Item, gap, entry, IsItem, item_bytes, is_cie, id_width, all_bytes, Piece, piece_of, pieces, Cut}
 
 gap_bytes : (order : Order) → length_bytes order Dwarf32 0 ≡ 0 ∷ 0 ∷ 0 ∷ 0 ∷ []
 gap_bytes Little = refl
@@ -48,18 +48,18 @@ each-push : (xs : List Item) (x : Item) → AllByRecursion IsItem xs → IsItem 
 each-push [] x h k = (k, tt)
 each-push (y ∷ xs) x h k = (h.0, each-push xs x h.1 k)
 
-with_some-append : (o : Option Piece) (es fs : List Piece) → with_some o (es ++ fs) ≡ with_some o es ++ fs
-with_some-append None es fs = refl
-with_some-append (Some e) es fs = refl
+cons_option-append : (o : Option Piece) (es fs : List Piece) → cons_option o (es ++ fs) ≡ cons_option o es ++ fs
+cons_option-append None es fs = refl
+cons_option-append (Some e) es fs = refl
 
-pieces-push : (order : Order) (at : ℕ) (xs : List Item) (x : Item) → pieces order at (xs ++ x ∷ []) ≡ pieces order at xs ++ with_some (piece_of order (at + length (all_bytes order xs)) x) []
+pieces-push : (order : Order) (at : ℕ) (xs : List Item) (x : Item) → pieces order at (xs ++ x ∷ []) ≡ pieces order at xs ++ cons_option (piece_of order (at + length (all_bytes order xs)) x) []
 pieces-push order at [] x = rw add-zero refl
 pieces-push order at (y ∷ xs) x =
     let b = item_bytes order y in
     let e : at + length (b ++ all_bytes order xs) ≡ (at + length b) + length (all_bytes order xs) = omega (arith, length-append b (all_bytes order xs)) in
-    rw (e, pieces-push order (at + length b) xs x) (with_some-append (piece_of order at y) (pieces order (at + length b) xs) (with_some (piece_of order ((at + length b) + length (all_bytes order xs)) x) []))
+    rw (e, pieces-push order (at + length b) xs x) (cons_option-append (piece_of order at y) (pieces order (at + length b) xs) (cons_option (piece_of order ((at + length b) + length (all_bytes order xs)) x) []))
 
-pub walked_more : (target : Target) (s : List ℕ) (old new : Input) (found : List Piece) (item : Item) → IsWalked target s old found → IsItem item → Takes old (item_bytes old.target.order item) new → IsWalked target s new (found ++ with_some (piece_of old.target.order old.at item) [])
+pub walked_more : (target : Target) (s : List ℕ) (old new : Input) (found : List Piece) (item : Item) → IsWalked target s old found → IsItem item → Takes old (item_bytes old.target.order item) new → IsWalked target s new (found ++ cons_option (piece_of old.target.order old.at item) [])
 walked_more target s old new found item w is t =
     let order = target.order in
     let t' : Takes old (item_bytes order item) new = subst (λ (g : Target). Takes old (item_bytes g.order item) new) w.same t in
@@ -70,7 +70,7 @@ walked_more target s old new found item w is t =
       whole = w.whole ∙ ap (λ (r : List ℕ). all_bytes order w.items ++ r) t'.bytes ∙ sym (append_assoc (all_bytes order w.items) (item_bytes order item) new.bytes) ∙ ap (λ (b : List ℕ). b ++ new.bytes) (sym grown);
       place = t'.at ∙ ap (λ (n : ℕ). n + length (item_bytes order item)) w.place ∙ sym (length-append (all_bytes order w.items) (item_bytes order item)) ∙ ap length (sym grown);
       same = t'.target ∙ w.same;
-      are = ap (λ (g : Target). found ++ with_some (piece_of g.order old.at item) []) w.same ∙ ap (λ (es : List Piece). es ++ with_some (piece_of order old.at item) []) w.are ∙ ap (λ (n : ℕ). pieces order 0 w.items ++ with_some (piece_of order n item) []) (w.place ∙ sym (zero-add _)) ∙ sym (pieces-push order 0 w.items item);
+      are = ap (λ (g : Target). found ++ cons_option (piece_of g.order old.at item) []) w.same ∙ ap (λ (es : List Piece). es ++ cons_option (piece_of order old.at item) []) w.are ∙ ap (λ (n : ℕ). pieces order 0 w.items ++ cons_option (piece_of order n item) []) (w.place ∙ sym (zero-add _)) ∙ sym (pieces-push order 0 w.items item);
     }
 
 pub walked_entry : (target : Target) (s : List ℕ) (old new : Input) (found : List Piece) (form : Form) (kind : Kind) (at place : ℕ) (body : List ℕ) → IsWalked target s old found

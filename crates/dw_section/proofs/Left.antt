@@ -1,6 +1,6 @@
 -- A walk over a section that has a cut gives its pieces, and one over a section that has headers gives these.
 use Rattle.std.proofs.Common.{◌≡◌, ℕ, ◌+◌, ◌<◌, ◌≤◌, List, [], ◌∷◌, ◌++◌, length, drop, Err, refl, inl, inr, sym, ap, subst, ◌∙◌, arith}
-use Rattle.std.specs.List.{AllByRecursion, AllZip}
+use Rattle.std.specs.List.{AllByRecursion, AllZip, cons_option}
 use Rattle.std.proofs.Math.Seq.{drop-append-add}
 use Rattle.std.proofs.lemmas.List.{length-append}
 use Rattle.dw_num.specs.declared.target.Form.{Form}
@@ -10,7 +10,7 @@ use Rattle.dw_num.specs.declared.refusal.Refusal.{Refusal}
 use Rattle.dw_num.specs.Fixed.{length_bytes}
 use Rattle.dw_num.specs.Input.{Input, Takes}
 use Rattle.dw_section.specs.declared.entry.Kind.{Kind}
-use Rattle.dw_section.specs.Cut.{Item, gap, entry, IsItem, item_bytes, is_cie, all_bytes, Piece, piece_of, with_some, pieces}
+use Rattle.dw_section.specs.Cut.{Item, gap, entry, IsItem, item_bytes, is_cie, all_bytes, Piece, piece_of, pieces}
 use Rattle.dw_section.specs.Faults.{item_at}
 use Rattle.dw_section.specs.Pieces.{Pieces}
 use Rattle.dw_section.specs.Places.{cie_places}
@@ -18,7 +18,7 @@ use Rattle.dw_section.specs.Headers.{Head, Has}
 use Rattle.dw_section.specs.Inner.Left.{PiecesLeft, HeadsLeft, Stays, AreHeaders}
 use Rattle.dw_section.proofs.Items.{front_item, item_some, stuck_before}
 use Rattle.dw_section.specs.Inner.Heads.{head_at}
-use Rattle.dw_section.specs.Programs.{IsAmong}
+use Rattle.dw_section.specs.Among.{IsAmong}
 use Rattle.dw_section.proofs.Lent.HeaderLaws.{has_one}
 use Rattle.dw_section.proofs.Lent.Heads.{has_at}
 
@@ -30,12 +30,12 @@ left_by order item after (x ∷ xs) is h e =
     (xs, ap (λ (y : Item). y ∷ xs) (sym p.0), h.1, p.1)
 
 pub left_item : (old new : Input) (item : Item) (ps : List Piece) → IsItem item → Takes old (item_bytes old.target.order item) new → PiecesLeft old ps
-    → (rest : List Piece) × (ps ≡ with_some (piece_of old.target.order old.at item) rest) × PiecesLeft new rest
+    → (rest : List Piece) × (ps ≡ cons_option (piece_of old.target.order old.at item) rest) × PiecesLeft new rest
 left_item old new item ps is t w =
     let order = old.target.order in
     let q = left_by order item new.bytes w.items is w.cut.each (sym t.bytes ∙ w.cut.whole) in (
       pieces order new.at q.0,
-      w.are ∙ ap (pieces order old.at) q.1 ∙ ap (λ (n : ℕ). with_some (piece_of order old.at item) (pieces order n q.0)) (sym t.at),
+      w.are ∙ ap (pieces order old.at) q.1 ∙ ap (λ (n : ℕ). cons_option (piece_of order old.at item) (pieces order n q.0)) (sym t.at),
       record { items = q.0; cut = rw t.target (record { each = q.2; whole = q.3 }); are = rw t.target refl },
     )
 

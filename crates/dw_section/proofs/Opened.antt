@@ -14,7 +14,8 @@ use Rattle.dw_section.specs.Accepted.{Accepted}
 use Rattle.dw_section.specs.Headers.{Head}
 use Rattle.dw_section.specs.Meaning.{Says}
 use Rattle.dw_section.specs.Opening.{OpensBehind}
-use Rattle.dw_section.specs.Programs.{FdeRuns, IsAmong, factors_of}
+use Rattle.dw_section.specs.Programs.{FdeRuns, factors_of}
+use Rattle.dw_section.specs.Among.{IsAmong}
 use Rattle.dw_section.specs.Inner.Index.{found_head, led_to}
 use Rattle.dw_section.specs.Inner.Lookup.{IsFoundIn, LedBy, fde_of}
 use Rattle.dw_section.proofs.Lent.HeaderLaws.{one_headers}

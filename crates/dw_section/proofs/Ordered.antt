@@ -12,7 +12,8 @@ use Rattle.dw_num.specs.declared.refusal.Code.TheVariants.{Overlap}
 use Rattle.dw_section.specs.declared.fde_range.Ranged.{Ranged}
 use Rattle.dw_section.specs.Inner.Index.{PlacesRise, SameMembers, EndsAt}
 use Rattle.dw_section.specs.Ranges.{range_in}
-use Rattle.dw_section.specs.Overlap.{Range, Precedes, Ascends, IsIn, AreApart, FirstOverlap, end_of}
+use Rattle.dw_section.specs.Overlap.{Range, Precedes, Ascends, AreApart, FirstOverlap, end_of}
+use Rattle.dw_section.specs.Among.{IsAmong}
 use Rattle.dw_section.proofs.Lent.Index.{all_from}
 use Rattle.dw_section.proofs.Lent.Judged.{all_get}
 use Rattle.dw_section.proofs.Stages.{all_push, parts}
@@ -27,7 +28,7 @@ ends_from : (rs : List Range) (low high : ℕ) → low ≤ high → AllByRecursi
 ends_from [] low high le h = tt
 ends_from (a ∷ rs) low high le h = (omega (arith, h.0), ends_from rs low high le h.1)
 
-is_last : (rs : List Range) (x : Range) → IsIn x (rs ++ x ∷ [])
+is_last : (rs : List Range) (x : Range) → IsAmong x (rs ++ x ∷ [])
 is_last [] x = inl refl
 is_last (a ∷ rs) x = inr (is_last rs x)
 
@@ -86,8 +87,8 @@ all_contains P (x ∷ xs) h = (h x (0, omega arith, refl), all_contains P xs (λ
 pub all_permuted : {X : Type 0} (P : X → Type 0) (xs ys : List X) → IsPermutation xs ys → AllByRecursion P xs → AllByRecursion P ys
 all_permuted P xs ys p h = all_contains P ys (λ y c. contains_all P xs y h (Contains-permutation ys xs y (IsPermutation-sym xs ys p) c))
 
-members : (rs : List Range) → AllByRecursion (λ a. IsIn a rs) rs
-members rs = all_from (λ a. IsIn a rs) rs (λ a i. i)
+members : (rs : List Range) → AllByRecursion (λ a. IsAmong a rs) rs
+members rs = all_from (λ a. IsAmong a rs) rs (λ a i. i)
 
 pub same_members : (xs : List Ranged) → SameMembers (map range_in xs) (map range_in xs)
 same_members xs = (members (map range_in xs), members (map range_in xs))
@@ -97,7 +98,7 @@ permuted_members xs ys p =
     let rs = map range_in xs in
     let ss = map range_in ys in
     let q = IsPermutation-map range_in xs ys p in
-    (all_permuted (λ a. IsIn a rs) rs ss q (members rs), all_permuted (λ a. IsIn a ss) ss rs (IsPermutation-sym rs ss q) (members ss))
+    (all_permuted (λ a. IsAmong a rs) rs ss q (members rs), all_permuted (λ a. IsAmong a ss) ss rs (IsPermutation-sym rs ss q) (members ss))
 
 -- ---- places are apart
 

@@ -24,15 +24,12 @@ use Rattle.dw_section.specs.Headers.{CieHead, FdeHead, Head, Has, Headers, IsCie
 use Rattle.dw_section.specs.Inner.PieceHeader.{cie_at, fde_at}
 use Rattle.dw_section.specs.Inner.Index.{IsFound, found_cie, found_head}
 use Rattle.dw_section.specs.Meaning.{Returns}
-use Rattle.dw_section.specs.Meanings.{IsListed as IsListedFde}
-use Rattle.dw_section.specs.Ranges.{LeadsTo, fde_in}
+use Rattle.dw_section.specs.Ranges.{fde_in}
 use Rattle.dw_section.specs.declared.fde_range.Ranged.{Ranged}
 use Rattle.dw_section.specs.Overlap.{Range}
 use Rattle.dw_section.specs.Places.{cie_places}
-use Rattle.dw_section.specs.Programs.{IsAmong}
-use Rattle.dw_section.specs.StandingFde.{FdeStands, RefusesLed, StandsIn}
-use Rattle.dw_section.specs.declared.standing_fde.LookUpError.{LookUpError}
-use Rattle.dw_section.specs.declared.standing_fde.LookUpError.TheVariants.{Refused, BadIndex, OutOfMemory}
+use Rattle.dw_section.specs.Among.{IsAmong}
+use Rattle.dw_section.specs.StandingFde.{FdeStands, StandsIn}
 use Rattle.dw_section.specs.Inner.StandingFde.{AreJoined, FoundStands, StandsAt, is_fde}
 use Rattle.dw_section.proofs.Lent.FieldTable.{Ranges, fde_said}
 use Rattle.dw_section.proofs.Lent.HeaderLaws.{has_one, cie_at_again, fde_at_again}
@@ -316,14 +313,7 @@ stands_listed target s hs a register p r =
     )
 
 -- an entry of an index is listed
-pub entry_listed : (list : List Ranged) (e : Ranged) (i : ℕ) → i < length list → ((d : Ranged) → e ≡ get_or list i d) → IsListedFde (fde_in e) (map fde_in list)
+pub entry_listed : (list : List Ranged) (e : Ranged) (i : ℕ) → i < length list → ((d : Ranged) → e ≡ get_or list i d) → IsAmong (fde_in e) (map fde_in list)
 entry_listed [] e i lt is = absurd (omega arith)
 entry_listed (x ∷ list) e zero lt is = inl (ap fde_in (is x))
 entry_listed (x ∷ list) e (suc i) lt is = inr (entry_listed list e i (omega arith) is)
-
--- ---- what a look-up refuses
-
-pub refuses_led : (s : List ℕ) (index : List Ranged) (a at : ℕ) → LeadsTo index a at → (e : LookUpError) → RefusesLed s index a e
-refuses_led s index a at led (Refused r) = inl (at, led)
-refuses_led s index a at led BadIndex = tt
-refuses_led s index a at led OutOfMemory = tt

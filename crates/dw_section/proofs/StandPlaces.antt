@@ -1,5 +1,5 @@
 -- What stands in bytes lies in them, and so does what is wrong there.
-use Rattle.std.proofs.Common.{◌≡◌, ℕ, ◌+◌, ◌≤◌, List, ◌++◌, length, drop, Some, Result, Ok, Err, ap, subst, arith}
+use Rattle.std.proofs.Common.{◌≡◌, ℕ, ◌≤◌, List, ◌++◌, length, drop, Some, Result, Err, ap, subst, arith}
 use Rattle.std.specs.Prelude.{IfErr}
 use Rattle.std.proofs.lemmas.List.{length-append, length-drop}
 use Rattle.dw_num.specs.declared.target.Order.{Order}
@@ -7,21 +7,19 @@ use Rattle.dw_num.specs.declared.target.Target.{Target}
 use Rattle.dw_num.specs.declared.refusal.Refusal.{Refusal}
 use Rattle.dw_num.specs.declared.error.ReadError.{ReadError}
 use Rattle.dw_num.specs.declared.error.ReadError.TheVariants.{Refused}
-use Rattle.dw_num.specs.Front.{Read, Reads, fixed_at}
+use Rattle.dw_num.specs.Front.{Read}
 use Rattle.dw_num.specs.Input.{Input, AreBytes}
 use Rattle.dw_num.specs.Refusals.{Refuses}
-use Rattle.dw_num.specs.Span.{span_of}
+use Rattle.dw_num.specs.Span.{span_of, input_of}
 use Rattle.dw_num.specs.Target.{address_limit}
-use Rattle.dw_num.proofs.Lent.Stays.{Stays, fixed_stays}
+use Rattle.dw_num.proofs.Lent.Stays.{Stays}
 use Rattle.dw_cfa.proofs.Lent.FaultPlaces.{run_within}
 use Rattle.dw_cfa.proofs.Lent.Given.{refused_where_fault, run_runs}
 use Rattle.dw_section.specs.declared.listed_fde.FoundFde.{FoundFde}
 use Rattle.dw_section.specs.Cut.{Item, gap, entry, Piece, item_bytes, piece_of}
-use Rattle.dw_section.specs.FaultPlaces.{IsWithin}
+use Rattle.dw_op.specs.Faults.{IsWithin}
 use Rattle.dw_section.specs.Faults.{item_at}
 use Rattle.dw_section.specs.Fields.{cie_fields, fde_fields}
-use Rattle.dw_section.specs.Headers.{cie, fde}
-use Rattle.dw_section.specs.Programs.{input_of}
 use Rattle.dw_section.specs.StandingFde.{StandsIn}
 use Rattle.dw_section.specs.Inner.Lookup.{rows_of}
 use Rattle.dw_section.specs.Inner.PieceHeader.{cie_at, fde_at}
@@ -47,13 +45,6 @@ item_within target s at i r is inside stuck =
     let here : item_at there ≡ Err r = subst (λ (j : Input). item_at j ≡ Err r) is stuck in
     let stays : Stays {X = Item} there (Err r) = subst (λ (read : Read Item). Stays there read) here (item_stays there) in
     omega (arith, stays.1, inside, length-drop at s)
-
--- a number that is not there
-pub fixed_within : (n : ℕ) (i j new : Input) (result : Result ℕ Refusal) → j ≡ i → Reads (λ (v : ℕ). v) result j (fixed_at n j) new → IfErr result (λ r. r.at ≤ i.at + length i.bytes)
-fixed_within n i j new (Ok v) is h = tt
-fixed_within n i j new (Err r) is h =
-    let stays : Stays {X = ℕ} i (Err r) = subst (λ (read : Read ℕ). Stays i read) (subst (λ (k : Input). fixed_at n k ≡ Err r) is h.0) (fixed_stays n i) in
-    stays.1
 
 -- what is wrong in the fields of an entry
 pub cie_within : (target : Target) (s : List ℕ) (p : Piece) (r : Refusal) → StandsIn target.order s p → cie_at target p ≡ Err r → IsWithin s r

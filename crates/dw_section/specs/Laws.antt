@@ -3,17 +3,19 @@ use Rattle.std.specs.Prelude.{◌≡◌, ℕ, ◌<◌, ◌≤◌, List, length, 
 use Rattle.std.specs.List.{AllByRecursion, AllZip}
 use Rattle.dw_num.specs.declared.target.Target.{Target}
 use Rattle.dw_num.specs.Input.{AreBytes}
+use Rattle.dw_num.specs.Laws.{HoldsOfOne}
 use Rattle.dw_cfa.specs.declared.instr.Instr.{Instr}
 use Rattle.dw_cfa.specs.Location.{row_starts}
 use Rattle.dw_cfa.specs.Rows.{Rules, AreSpecified, rule}
 use Rattle.dw_section.specs.declared.lookup.Fde.{Fde}
 use Rattle.dw_num.specs.declared.refusal.Refusal.{Refusal}
 use Rattle.dw_section.specs.Accepted.{Accepted, CheckFault}
-use Rattle.dw_section.specs.FaultPlaces.{IsWithin}
+use Rattle.dw_op.specs.Faults.{IsWithin}
 use Rattle.dw_section.specs.Changes.{AreChanges, Changing, ToCome}
 use Rattle.dw_section.specs.Headers.{Head, Headers}
 use Rattle.dw_section.specs.Meaning.{Says, AreFdes, Covers, RulesAt, ChangesOf, RowStarts, total}
-use Rattle.dw_section.specs.Meanings.{IsListed, SameRow, SameMeaning}
+use Rattle.dw_section.specs.Meanings.{SameRow, SameMeaning}
+use Rattle.dw_section.specs.Among.{IsAmong}
 use Rattle.dw_cfa.specs.declared.rule.CfaRule.{CfaRule}
 use Rattle.dw_cfa.specs.declared.rule.CfaRule.TheVariants as cfa
 use Rattle.dw_cfa.specs.declared.rule.CfaRule.TheVariants.{Unset}
@@ -25,13 +27,8 @@ abbrev pub FaultsWithin : Type 0
 FaultsWithin = (target : Target) (s : List ℕ) (r : Refusal) → AreBytes s → CheckFault target s r → IsWithin s r
 
 -- whatever rows are still to come, the changes among them are one list
-pub record HasOneToCome (c : Changing) : Type 0 where
-  pub changes : List (ℕ × Rules)
-  pub come : ToCome c changes
-  pub only : (others : List (ℕ × Rules)) → ToCome c others → others ≡ changes
-
 abbrev pub OneToCome : Type 0
-OneToCome = (c : Changing) → HasOneToCome c
+OneToCome = (c : Changing) → HoldsOfOne (ToCome c)
 
 -- rows that list each register once, ascending
 abbrev pub AreListed : List (ℕ × Rules) → Type 0
@@ -48,7 +45,7 @@ FdesExist = (target : Target) (s : List ℕ) → AreBytes s → Accepted target 
 
 -- each FDE of an accepted section has changes
 abbrev pub ChangesExist : Type 0
-ChangesExist = (target : Target) (s : List ℕ) → AreBytes s → Accepted target s → (fs : List Fde) (f : Fde) → AreFdes target s fs → IsListed f fs
+ChangesExist = (target : Target) (s : List ℕ) → AreBytes s → Accepted target s → (fs : List Fde) (f : Fde) → AreFdes target s fs → IsAmong f fs
     → (changes : List (ℕ × Rules)) × ChangesOf target s f changes × AreListed changes
 
 -- and one list of them
@@ -57,7 +54,7 @@ OneChanges = (target : Target) (s : List ℕ) → AreBytes s → Accepted target
 
 -- each address of an FDE has rules
 abbrev pub RulesExist : Type 0
-RulesExist = (target : Target) (s : List ℕ) → AreBytes s → Accepted target s → (fs : List Fde) (f : Fde) (a : ℕ) → AreFdes target s fs → IsListed f fs → Covers a f
+RulesExist = (target : Target) (s : List ℕ) → AreBytes s → Accepted target s → (fs : List Fde) (f : Fde) (a : ℕ) → AreFdes target s fs → IsAmong f fs → Covers a f
     → (row : Rules) × RulesAt target s a row × AreSpecified 0 row.registers
 
 -- the rules at an address are one
@@ -77,7 +74,7 @@ LeastTotal = (target : Target) (s : List ℕ) → AreBytes s → Accepted target
 -- sections that say the same have the same changes
 abbrev pub MeaningChanges : Type 0
 MeaningChanges = (target : Target) (s t : List ℕ) → AreBytes s → AreBytes t → Accepted target s → Accepted target t → SameMeaning target s t
-    → (fs : List Fde) (f : Fde) (changes : List (ℕ × Rules)) → AreFdes target s fs → IsListed f fs → ChangesOf target s f changes → ChangesOf target t f changes
+    → (fs : List Fde) (f : Fde) (changes : List (ℕ × Rules)) → AreFdes target s fs → IsAmong f fs → ChangesOf target s f changes → ChangesOf target t f changes
 
 -- the expression of a rule is for the target
 abbrev pub CfaIsFor : Target → CfaRule → Type 0

@@ -3,7 +3,7 @@ use Rattle.std.specs.Prelude.{◌≡◌, ℕ, List, Bool, true, false, Option, S
 use Rattle.dw_cfa.specs.Rows.{Rules}
 use Rattle.dw_section.specs.declared.lookup.Fde.{Fde}
 use Rattle.dw_section.specs.Meaning.{Covers, NoneCovers, RulesAt}
-use Rattle.dw_section.specs.Meanings.{IsListed}
+use Rattle.dw_section.specs.Among.{IsAmong}
 use Rattle.dw_section.specs.Table.{Section}
 
 -- a section, and the FDE and the row of the last look-up, where one was found
@@ -20,4 +20,4 @@ LooksUp s fs a true row = (rules : Rules) × (row ≡ Some rules) × RulesAt s.t
 -- and the FDE that covers the address
 abbrev pub FindsFde : List Fde → ℕ → Bool → Option Fde → Type 0
 FindsFde fs a false found = found ≡ None
-FindsFde fs a true found = (f : Fde) × (found ≡ Some f) × IsListed f fs × Covers a f
+FindsFde fs a true found = (f : Fde) × (found ≡ Some f) × IsAmong f fs × Covers a f

@@ -10,7 +10,8 @@ use Rattle.dw_section.specs.declared.lookup.Fde.{Fde}
 use Rattle.dw_section.specs.Changes.{AreChanges}
 use Rattle.dw_section.specs.Headers.{CieHead, FdeHead, Head, cie, fde, Headers}
 use Rattle.dw_section.specs.Overlap.{Range, range_of, IsIndex, end_of}
-use Rattle.dw_section.specs.Programs.{IsAmong, Instrs}
+use Rattle.dw_section.specs.Programs.{Instrs}
+use Rattle.dw_section.specs.Among.{IsAmong}
 
 -- ---- the FDEs
 

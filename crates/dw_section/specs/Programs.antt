@@ -4,7 +4,7 @@ use Rattle.dw_num.specs.declared.target.Target.{Target}
 use Rattle.dw_num.specs.declared.refusal.Code.TheVariants.{NoCfaRule}
 use Rattle.dw_num.specs.declared.refusal.Refusal.{Refusal}
 use Rattle.dw_num.specs.Input.{Input}
-use Rattle.dw_num.specs.Span.{Span}
+use Rattle.dw_num.specs.Span.{Span, input_of}
 use Rattle.dw_num.specs.Target.{address_limit}
 use Rattle.dw_cfa.specs.declared.instr.Factors.{Factors}
 use Rattle.dw_cfa.specs.declared.instr.Instr.{Instr}
@@ -15,18 +15,11 @@ use Rattle.dw_cfa.specs.Column.{cfa_after}
 use Rattle.dw_cfa.specs.Kept.{CieKept, FdeKept}
 use Rattle.dw_cfa.specs.Faults.{CieFault, FdeFault}
 use Rattle.dw_cfa.specs.Laws.{initial_cfa}
+use Rattle.dw_section.specs.Among.{IsAmong}
 use Rattle.dw_section.specs.Headers.{CieHead, Head, cie, fde}
-
--- where a program stands
-abbrev pub input_of : Target → Span → Input
-input_of target program = record { at = program.at; bytes = program.bytes; target = target }
 
 abbrev pub factors_of : CieHead → Factors
 factors_of c = record { code_factor = c.code_factor; data_factor = c.data_factor }
-
-abbrev pub IsAmong : Head → List Head → Type 0
-IsAmong h [] = ⊥
-IsAmong h (other ∷ hs) = (h ≡ other) ⊎ IsAmong h hs
 
 -- ---- programs of CIEs
 

@@ -1,22 +1,29 @@
 -- An FDE that stands in bytes, by its place alone: DWARF 5, 6.4.1. The bytes need be no section that is accepted.
-use Rattle.std.specs.Prelude.{◌≡◌, ◌⊎◌, ℕ, ◌+◌, ◌<◌, ◌≤◌, List, [], ◌∷◌, ◌++◌, length, Some}
+use Rattle.std.specs.Prelude.{◌≡◌, ◌⊎◌, ℕ, ◌+◌, ◌<◌, ◌≤◌, List, [], ◌∷◌, ◌++◌, length, take, drop, Option, Some, None, Err}
+use Rattle.dw_num.specs.declared.refusal.Code.TheVariants.{SectionTooLarge}
+use Rattle.dw_num.specs.declared.refusal.Refusal.{Refusal}
 use Rattle.dw_num.specs.declared.target.Order.{Order}
 use Rattle.dw_num.specs.declared.target.Target.{Target}
-use Rattle.dw_cfa.specs.Faults.{NoFaultUpTo}
+use Rattle.dw_num.specs.Fixed.{Fixed}
+use Rattle.dw_num.specs.Span.{input_of}
+use Rattle.dw_cfa.specs.Faults.{FaultUpTo, NoFaultUpTo}
 use Rattle.dw_cfa.specs.Gives.{RunsTo}
 use Rattle.dw_cfa.specs.RuleAt.{last_at}
 use Rattle.dw_cfa.specs.Rows.{Rules}
 use Rattle.dw_cfa.specs.Runs.{Outcome}
+use Rattle.dw_section.specs.declared.entry.Kind.{Kind}
+use Rattle.dw_section.specs.declared.entry.Kind.TheVariants as kind
 use Rattle.dw_section.specs.declared.lookup.Fde.{Fde}
 use Rattle.dw_section.specs.declared.standing_fde.LookUpError.{LookUpError}
 use Rattle.dw_section.specs.declared.standing_fde.LookUpError.TheVariants.{Refused, BadIndex, OutOfMemory}
-use Rattle.dw_section.specs.FaultPlaces.{IsWithin}
-use Rattle.dw_section.specs.Cut.{Item, IsItem, Piece, item_bytes, piece_of}
-use Rattle.dw_section.specs.Headers.{CieHead, FdeHead, Has, cie, fde}
-use Rattle.dw_section.specs.Meaning.{Covers}
-use Rattle.dw_section.specs.Programs.{factors_of, input_of}
-use Rattle.dw_section.specs.Ranges.{LeadsTo}
 use Rattle.dw_section.specs.declared.fde_range.Ranged.{Ranged}
+use Rattle.dw_section.specs.Cut.{Item, IsItem, Piece, id_width, item_bytes, piece_of}
+use Rattle.dw_section.specs.Faults.{item_at}
+use Rattle.dw_section.specs.Headers.{CieHead, FdeHead, Has, cie, fde, CieStuck, FdeHolds, FdeStuck}
+use Rattle.dw_section.specs.Meaning.{Covers}
+use Rattle.dw_section.specs.Programs.{factors_of}
+use Rattle.dw_section.specs.Ranges.{LeadsTo}
+use Rattle.dw_section.specs.Stage.{Then}
 
 -- an entry stands at its place
 pub record StandsIn (order : Order) (s : List ℕ) (p : Piece) : Type 0 where
@@ -67,18 +74,51 @@ pub record RulesOf (target : Target) (s : List ℕ) (at a : ℕ) (found : Ruled)
   pub row : last_at a outcome.rows ≡ Some found.row
   pub unfaulted : NoFaultUpTo (factors_of named) (input_of target named.program) (input_of target own.program) own.begin a
 
--- what a look-up refuses has its place in the bytes or at their end
-abbrev pub RefusesWithin : List ℕ → LookUpError → Type 0
-RefusesWithin s (Refused r) = IsWithin s r
-RefusesWithin s BadIndex = Unit {0}
-RefusesWithin s OutOfMemory = Unit {0}
+-- ---- what a look-up refuses
 
--- an entry of the index covers the address, or there are more bytes than a section has
-abbrev pub MayRefuse : List ℕ → List Ranged → ℕ → Type 0
-MayRefuse s index a = ((at : ℕ) × LeadsTo index a at) ⊎ (2147483647 < length s)
+-- an entry of this kind stands at a place
+abbrev pub StandsAs : Target → List ℕ → Kind → ℕ → Piece → Type 0
+StandsAs target s k at p = StandsIn target.order s p × (p.kind ≡ k) × (p.at ≡ at)
 
--- where no entry covers the address, nothing is read that could be refused
-abbrev pub RefusesLed : List ℕ → List Ranged → ℕ → LookUpError → Type 0
-RefusesLed s index a (Refused r) = MayRefuse s index a
-RefusesLed s index a BadIndex = Unit {0}
-RefusesLed s index a OutOfMemory = Unit {0}
+-- what begins at a place is no item
+abbrev pub ItemFault : Target → List ℕ → ℕ → Refusal → Type 0
+ItemFault target s at r = (at < length s) × (item_at (record { at = at; bytes = drop at s; target = target }) ≡ Err r)
+
+-- the CIE at a place, or none where something else stands or the bytes end
+abbrev pub CieAt : Target → List ℕ → ℕ → Option Piece → Type 0
+CieAt target s at (Some p) = StandsAs target s kind.Cie at p
+CieAt target s at None = ((p : Piece) → StandsAs target s kind.Cie at p → ⊥) × ((r : Refusal) → ItemFault target s at r → ⊥)
+
+-- the first field of an FDE is the place of its CIE
+abbrev pub Names : Target → Piece → ℕ → Type 0
+Names target own at = Fixed target.order (id_width own.form) at (take (id_width own.form) own.contents.bytes)
+
+-- the first fault of the fields of an FDE, and then of those of its CIE, if one stands where it says
+abbrev pub BothStuck : Target → Piece → Option Piece → Refusal → Type 0
+BothStuck target own None r = FdeStuck target [] own r
+BothStuck target own (Some named) r = FdeStuck target (named.at ∷ []) own r ⊎ (FdeHolds target (named.at ∷ []) own × CieStuck target named r)
+
+-- the first fault of an FDE and its CIE: of what begins where the FDE says, or of the fields of both
+abbrev pub PairFault : Target → List ℕ → Piece → Refusal → Type 0
+PairFault target s own r = (at : ℕ) × Names target own at × Then (ItemFault target s at) (CieAt target s at) (BothStuck target own) r
+
+-- the first fault of the programs of both, where it comes up to an address that the FDE covers
+abbrev pub ProgramsFault : Target → List ℕ → ℕ → ℕ → Refusal → Type 0
+ProgramsFault target s at a r =
+    (own : FdeHead) × (named : CieHead) × FdeStands target s own named × (own.at ≡ at) × (own.begin ≤ a) × (a < own.begin + own.range)
+    × FaultUpTo (factors_of named) (input_of target named.program) (input_of target own.program) own.begin a r
+
+-- the first fault at a place: of what begins there, of an FDE and its CIE, or of their programs
+abbrev pub StandingFault : Target → List ℕ → ℕ → ℕ → Refusal → Type 0
+StandingFault target s at a r = Then (ItemFault target s at) (StandsAs target s kind.Fde at) (PairFault target s) r ⊎ ProgramsFault target s at a r
+
+-- the first fault of a look-up: of the size, or at a place where the index leads
+abbrev pub LookUpFault : Target → List ℕ → List Ranged → ℕ → Refusal → Type 0
+LookUpFault target s index a r =
+    ((2147483647 < length s) × (r ≡ record { code = SectionTooLarge; at = 0 })) ⊎ ((length s ≤ 2147483647) × ((at : ℕ) × LeadsTo index a at × StandingFault target s at a r))
+
+-- an error refuses with such a fault, unless it is no refusal
+abbrev pub RefusesAs : (Refusal → Type 0) → LookUpError → Type 0
+RefusesAs Fault (Refused r) = Fault r
+RefusesAs Fault BadIndex = Unit {0}
+RefusesAs Fault OutOfMemory = Unit {0}

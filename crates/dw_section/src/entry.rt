@@ -18,7 +18,7 @@ ghost use Rattle.dw_section.specs.Pieces.{Pieces, Entries};
 ghost use Rattle.dw_section.specs.Inner.Pieces.{IsPlaced};
 ghost use Rattle.dw_section.specs.Faults.{item_at, CutFault};
 ghost use Rattle.dw_section.specs.Inner.Faults.{item_of};
-ghost use Rattle.dw_section.specs.FaultPlaces.{IsWithin};
+ghost use Rattle.dw_op.specs.Faults.{IsWithin};
 ghost use Rattle.dw_section.specs.declared.entry.Entry.{Entry};
 
 use dw_num::{Code, Cursor, Form, Program, ReadError, Refusal, Target};

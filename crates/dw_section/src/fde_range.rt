@@ -16,7 +16,8 @@ ghost use Rattle.dw_section.specs.Ranges.{IsRanged, range_in};
 ghost use Rattle.dw_section.specs.Inner.Initials.{place_of, or_place, IsInitial, AreInitials};
 ghost use Rattle.dw_section.specs.Overlap.{nonempty, Ascends, AreApart, FirstOverlap};
 ghost use Rattle.dw_section.specs.Inner.Places.{Rises};
-ghost use Rattle.dw_section.specs.Programs.{IsAmong, FdeRuns, FdeBroken};
+ghost use Rattle.dw_section.specs.Programs.{FdeRuns, FdeBroken};
+ghost use Rattle.dw_section.specs.Among.{IsAmong};
 
 use crate::header::{Header, next_header};
 use crate::program::{Initial, Runner, initial_at, judge};

@@ -12,7 +12,7 @@ ghost use Rattle.dw_num.specs.declared.refusal.Refusal.{Refusal};
 ghost use Rattle.dw_section.specs.Overlap.{Range, IsIndex};
 ghost use Rattle.dw_section.specs.Stage.{FirstStuck};
 ghost use Rattle.dw_section.specs.Inner.Stage.{Answers};
-ghost use Rattle.dw_section.specs.FaultPlaces.{IsWithin};
+ghost use Rattle.dw_op.specs.Faults.{IsWithin};
 ghost use Rattle.dw_section.specs.Pieces.{Pieces};
 ghost use Rattle.dw_section.specs.Inner.Pieces.{piece_in};
 ghost use Rattle.dw_section.specs.Places.{cie_places};

@@ -8,7 +8,7 @@ ghost use Rattle.dw_num.specs.Refusals.{Refuses};
 ghost use Rattle.dw_num.specs.declared.target.Target.{Target as TheTarget};
 ghost use Rattle.dw_section.specs.declared.program.Initial.{Initial as TheInitial};
 ghost use Rattle.dw_section.specs.declared.program.Long.{Long as TheLong};
-ghost use Rattle.dw_num.specs.Span.{span_of};
+ghost use Rattle.dw_num.specs.Span.{span_of, input_of};
 ghost use Rattle.dw_num.specs.Target.{address_limit};
 ghost use Rattle.dw_cfa.specs.declared.instr.Instr.{Instr};
 ghost use Rattle.dw_cfa.specs.declared.execution.LocatedRow.{LocatedRow};
@@ -24,7 +24,8 @@ ghost use Rattle.std.specs.Prelude.{FitsSigned};
 ghost use Rattle.std.specs.Int.{w64};
 ghost use Rattle.dw_section.specs.Inner.Initials.{place_of, IsInitial, IsBehind, IsLong, IsRunner, AreInitials, HasOrLacks};
 ghost use Rattle.dw_section.specs.Inner.Places.{Rises};
-ghost use Rattle.dw_section.specs.Programs.{input_of, IsAmong, CieRuns, CieBroken, FdeRuns, FdeBroken};
+ghost use Rattle.dw_section.specs.Programs.{CieRuns, CieBroken, FdeRuns, FdeBroken};
+ghost use Rattle.dw_section.specs.Among.{IsAmong};
 ghost use Rattle.dw_section.specs.Stage.{FirstStuck};
 
 use crate::entry::{Kind, Placed, next_piece};

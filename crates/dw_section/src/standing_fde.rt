@@ -1,30 +1,31 @@
 //! FDEs that are read at their places in bytes that were not checked (6.4.1).
 
-ghost use Rattle.std.specs.Prelude.{◌≡◌, ◌+◌, ◌<◌, ◌≤◌, ℕ, true, false, List, length, map, slice_index_or, Some, None, IfOk, IfErr, IfSome, IsSome, OnOk, MatchOption, MatchResult};
+ghost use Rattle.std.specs.Prelude.{◌≡◌, ◌+◌, ◌<◌, ◌≤◌, ℕ, true, false, List, length, map, slice_index_or, Some, None, IfOk, IfErr, IfSome, IsSome, OnOk, option_map, MatchOption, MatchResult};
 ghost use Rattle.dw_cfa.specs.RuleAt.{last_at};
-ghost use Rattle.dw_cfa.specs.Faults.{NoFaultUpTo};
+ghost use Rattle.dw_cfa.specs.Faults.{FaultUpTo, NoFaultUpTo};
 ghost use Rattle.dw_cfa.specs.Gives.{RunsTo};
-ghost use Rattle.dw_section.specs.Cut.{Piece};
+ghost use Rattle.dw_section.specs.Cut.{Piece, id_width};
 ghost use Rattle.dw_section.specs.declared.entry.Kind.TheVariants as kind;
 ghost use Rattle.dw_section.specs.declared.fields.FdeFields.{FdeFields};
+ghost use Rattle.dw_num.specs.declared.refusal.Refusal.{Refusal as TheRefusal};
 ghost use Rattle.dw_num.specs.Refusals.{Refuses};
-ghost use Rattle.dw_num.specs.Span.{Span, span_of};
+ghost use Rattle.dw_num.specs.Span.{Span, span_of, input_of};
 ghost use Rattle.dw_num.specs.Target.{address_limit};
 ghost use Rattle.dw_section.specs.Headers.{Head, IsFde, head_in};
-ghost use Rattle.dw_section.specs.Programs.{input_of};
 ghost use Rattle.dw_section.specs.declared.fde_range.Ranged.{Ranged as TheRanged};
 ghost use Rattle.dw_section.specs.Ranges.{IsEntry, LeadsTo, Uncovered, fde_in, range_in, IsTable};
 ghost use Rattle.dw_section.specs.Inner.Lookup.{fde_of, rows_of};
 ghost use Rattle.dw_section.specs.Meaning.{AreFdes, Covers, NoneCovers, Returns, RulesAt};
-ghost use Rattle.dw_section.specs.Meanings.{IsListed};
+ghost use Rattle.dw_section.specs.Among.{IsAmong};
 ghost use Rattle.dw_section.specs.Accepted.{RulesHold};
 ghost use Rattle.dw_section.specs.declared.lookup.Fde.{Fde as TheFde};
 ghost use Rattle.dw_section.specs.declared.standing_fde.LookUpError.TheVariants as LookUpError;
 ghost use Rattle.dw_section.specs.Overlap.{Ascends, Range};
 ghost use Rattle.std.specs.Bool.{MatchBool};
 ghost use Rattle.dw_section.specs.Inner.Pieces.{piece_in};
-ghost use Rattle.dw_section.specs.StandingFde.{Misleads, NoneStands, RefusesLed, RefusesWithin, RulesOf, StandsIn};
-ghost use Rattle.dw_section.specs.FaultPlaces.{IsWithin};
+ghost use Rattle.dw_section.specs.StandingFde.{CieAt, ItemFault, LookUpFault, Misleads, Names, NoneStands, PairFault, RefusesAs, RulesOf, StandingFault, StandsAs, StandsIn};
+ghost use Rattle.dw_section.specs.Stage.{Then};
+ghost use Rattle.dw_op.specs.Faults.{IsWithin};
 ghost use Rattle.dw_section.specs.Inner.StandingFde.{AreJoined, FoundStands, LiesInPrograms, StandsAt, is_fde, of_steps};
 
 use crate::entry::{Kind, MOST, Part, Placed, kind_in, next_part, width_of};
@@ -44,6 +45,8 @@ fn piece_at<'a>(bytes: &'a [u8], at: u64, target: Target) -> Result<Option<Place
     requires { length bytes.now ≤ 2147483647 }
     ensures found { IfOk result (λ o. IfSome o (λ p. (p.at ≡ at) × StandsIn target.order bytes.now (piece_in p))) }
     ensures within { IfErr result (IsWithin bytes.now) }
+    ensures fault { IfErr result (ItemFault target bytes.now at) }
+    ensures none { IfOk result (λ o. (r : TheRefusal) → ItemFault target bytes.now at r → ⊥) }
     ensures only { (p : Piece) → StandsIn target.order bytes.now p → p.at ≡ at → MatchResult result (λ o. MatchOption o ⊥ (λ q. piece_in q ≡ p)) (λ _. ⊥) }
 {
     if at >= bytes.len() as u64 {
@@ -67,6 +70,8 @@ fn cie_at<'a>(bytes: &'a [u8], at: u64, target: Target) -> Result<Option<Placed<
     requires { length bytes.now ≤ 2147483647 }
     ensures found { IfOk result (λ o. IfSome o (λ p. (p.at ≡ at) × (p.kind ≡ kind.Cie) × StandsIn target.order bytes.now (piece_in p))) }
     ensures within { IfErr result (IsWithin bytes.now) }
+    ensures fault { IfErr result (ItemFault target bytes.now at) }
+    ensures stands { IfOk result (λ o. CieAt target bytes.now at (option_map piece_in o)) }
     ensures only { (p : Piece) → StandsIn target.order bytes.now p → p.at ≡ at → p.kind ≡ kind.Cie → MatchResult result (λ o. MatchOption o ⊥ (λ q. piece_in q ≡ p)) (λ _. ⊥) }
 {
     let Some(piece) = piece_at(bytes, at, target)? else {
@@ -81,7 +86,7 @@ fn cie_at<'a>(bytes: &'a [u8], at: u64, target: Target) -> Result<Option<Placed<
 // The first field of an FDE: the place of its CIE.
 #[inline(always)]
 fn pointer_of(piece: &Placed<'_>, target: Target) -> Result<u64, Refusal>
-    ensures within { IfErr result (λ r. r.at ≤ piece.now.contents.at + length piece.now.contents.bytes.now) }
+    ensures names { id_width piece.now.form ≤ length piece.now.contents.bytes.now → MatchResult result (Names target (piece_in piece.now)) (λ r. ⊥) }
     ensures only { (places : List ℕ) (f : FdeFields) (program : Span) → IsFde target places (piece_in piece.now) f program → MatchResult result (λ at. at ≡ f.cie_at) (λ _. ⊥) }
 {
     let contents = piece.contents;
@@ -144,6 +149,7 @@ fn fde_in<'a>(
     requires stands { StandsIn target.order bytes.now (piece_in own.now) }
     ensures found { IfOk result (λ o. IfSome o (λ e. (e.at ≡ own.now.at) × FoundStands target bytes.now e)) }
     ensures within { IfErr result (IsWithin bytes.now) }
+    ensures fault { IfErr result (PairFault target bytes.now (piece_in own.now)) }
     ensures only { StandsAt target bytes.now own.now.at → MatchResult result IsSome (λ _. ⊥) }
 {
     let pointer = pointer_of(own, target)?;
@@ -164,6 +170,7 @@ fn standing<'a>(bytes: &'a [u8], at: u64, target: Target) -> Result<Option<Found
     requires { length bytes.now ≤ 2147483647 }
     ensures found { IfOk result (λ o. IfSome o (λ e. (e.at ≡ at) × FoundStands target bytes.now e)) }
     ensures within { IfErr result (IsWithin bytes.now) }
+    ensures fault { IfErr result (Then (ItemFault target bytes.now at) (StandsAs target bytes.now kind.Fde at) (PairFault target bytes.now)) }
     ensures only { StandsAt target bytes.now at → MatchResult result IsSome (λ _. ⊥) }
 {
     let Some(piece) = piece_at(bytes, at, target)? else {
@@ -331,6 +338,7 @@ fn run_fde<'a>(
     ensures found { OnOk result (last_at address (rows_of target fde.now).rows ≡ Some room.new) }
     ensures unfaulted { OnOk result (NoFaultUpTo fde.now.factors (input_of target (span_of fde.now.cie_program)) (input_of target (span_of fde.now.program)) fde.now.begin address) }
     ensures err { IfErr result (Refuses (λ r. (rows_of target fde.now).fault ≡ Some r)) }
+    ensures up_to { IfErr result (Refuses (FaultUpTo fde.now.factors (input_of target (span_of fde.now.cie_program)) (input_of target (span_of fde.now.program)) fde.now.begin address)) }
     ensures within { IfErr result (Refuses (LiesInPrograms target fde.now)) }
 {
     let (cie, program) = (fde.cie_program, fde.program);
@@ -351,7 +359,8 @@ fn row_of<'a>(
     requires { length bytes.now ≤ 2147483647 }
     ensures found { IfOk result (λ fde. RulesOf target bytes.now at address (record { fde = fde; row = room.new })) }
     ensures bad { IfErr result (λ e. e ≡ LookUpError.BadIndex → NoneStands target bytes.now at address) }
-    ensures within { IfErr result (RefusesWithin bytes.now) }
+    ensures within { IfErr result (RefusesAs (IsWithin bytes.now)) }
+    ensures refused { IfErr result (RefusesAs (StandingFault target bytes.now at address)) }
     ensures own { (hs : List Head) (a : Range) (register : ℕ) → RulesHold target bytes.now hs → Returns hs a register → a.at ≡ at → a.begin ≤ address → address < a.begin + a.range → MatchResult result (λ fde. (fde ≡ fde_in (record { begin = a.begin; range = a.range; at = a.at; return_register = register })) × RulesAt target bytes.now address room.new) (λ e. e ≡ LookUpError.OutOfMemory) }
 {
     are_bytes(bytes);
@@ -388,15 +397,15 @@ pub fn look_up<'a>(
     room: &mut RowRoom<'a>,
 ) -> Result<Option<StandingFde>, LookUpError>
     // By the index of an accepted section it is what the section says.
-    ensures own { IsTable target bytes.now index.now → MatchResult result (λ o. MatchOption o ((fs : List TheFde) → AreFdes target bytes.now fs → NoneCovers address fs) (λ fde. RulesAt target bytes.now address room.new × ((fs : List TheFde) → AreFdes target bytes.now fs → IsListed fde fs))) (λ e. e ≡ LookUpError.OutOfMemory) }
+    ensures own { IsTable target bytes.now index.now → MatchResult result (λ o. MatchOption o ((fs : List TheFde) → AreFdes target bytes.now fs → NoneCovers address fs) (λ fde. RulesAt target bytes.now address room.new × ((fs : List TheFde) → AreFdes target bytes.now fs → IsAmong fde fs))) (λ e. e ≡ LookUpError.OutOfMemory) }
     // By any other it is what the FDE says that stands where an entry that covers the address leads, or none where no entry does.
     ensures found { IfOk result (λ o. MatchOption o (Uncovered index.now address) (λ fde. (at : ℕ) × LeadsTo index.now address at × RulesOf target bytes.now at address (record { fde = fde; row = room.new }))) }
     // A bad index leads to a place where no FDE that covers the address stands.
     ensures bad { IfErr result (λ e. e ≡ LookUpError.BadIndex → Misleads target bytes.now index.now address) }
     // A refusal has its place in the bytes or at their end.
-    ensures within { IfErr result (RefusesWithin bytes.now) }
-    // It is of what stands where an entry leads that covers the address, or of more bytes than a section has.
-    ensures led { IfErr result (RefusesLed bytes.now index.now address) }
+    ensures within { IfErr result (RefusesAs (IsWithin bytes.now)) }
+    // It is that there are too many bytes, or the first fault of what stands where an entry leads that covers the address.
+    ensures refused { IfErr result (RefusesAs (LookUpFault target bytes.now index.now address)) }
 {
     if bytes.len() > MOST {
         return Err(LookUpError::Refused(Refusal {

@@ -10,7 +10,7 @@ ghost use Rattle.dw_num.specs.Refusals.{Refuses};
 ghost use Rattle.dw_section.specs.Accepted.{RulesFault, CheckFault, Accepted};
 ghost use Rattle.dw_section.specs.Counts.{AreCounts};
 ghost use Rattle.dw_section.specs.Cut.{Piece};
-ghost use Rattle.dw_section.specs.FaultPlaces.{IsWithin};
+ghost use Rattle.dw_op.specs.Faults.{IsWithin};
 ghost use Rattle.dw_section.specs.declared.lookup.Fde.{Fde as TheFde};
 ghost use Rattle.dw_section.specs.Meaning.{AreFdes};
 ghost use Rattle.dw_section.specs.Pieces.{Pieces};

@@ -5,13 +5,13 @@ use Rattle.std.proofs.lemmas.Bool.{cases_lt}
 use Rattle.dw_cfa.specs.Rows.{Rules}
 use Rattle.dw_eval.specs.Context.{Context}
 use Rattle.dw_section.specs.declared.lookup.Fde.{Fde}
-use Rattle.dw_section.specs.Meanings.{IsListed as IsAmongFdes}
+use Rattle.dw_section.specs.Among.{IsAmong}
 use Rattle.dw_unwind.specs.declared.frame.Policy.{Policy}
 use Rattle.dw_unwind.specs.Unwound.{is_listed, Rise, Has, IsListed, Recovers, AreRegisters, Reached}
 use Rattle.dw_unwind.specs.Inner.Recovery.{SoFar}
 
 -- an FDE at a place of a list is among its FDEs
-pub listed_at : (fs : List Fde) (place : ℕ) (d : Fde) → place < length fs → IsAmongFdes (get_or fs place d) fs
+pub listed_at : (fs : List Fde) (place : ℕ) (d : Fde) → place < length fs → IsAmong (get_or fs place d) fs
 listed_at [] place d lt = absurd (omega arith)
 listed_at (f ∷ fs) zero d lt = inl refl
 listed_at (f ∷ fs) (suc place) d lt = inr (listed_at fs place d (omega arith))

@@ -14,7 +14,8 @@ use Rattle.dw_eval.proofs.Lent.Results.{same_value}
 use Rattle.dw_section.specs.declared.lookup.Fde.{Fde}
 use Rattle.dw_section.specs.Accepted.{Accepted}
 use Rattle.dw_section.specs.Headers.{Head}
-use Rattle.dw_section.specs.Meanings.{SameRow, IsListed as IsAmongFdes}
+use Rattle.dw_section.specs.Meanings.{SameRow}
+use Rattle.dw_section.specs.Among.{IsAmong}
 use Rattle.dw_section.specs.Meaning.{Lists, Covers, NoneCovers}
 use Rattle.dw_section.specs.Overlap.{Range, AreApart, IsIndex, end_of}
 use Rattle.dw_section.proofs.Lent.HeaderLaws.{one_headers}
@@ -165,7 +166,7 @@ module _ (c : Context) (limit : ℕ) (policy : Policy) (row : Rules) (register :
 
 module _ (hs : List Head) where
   -- what begins behind the others
-  later : (x : Range) (index : List Range) (fs : List Fde) (g : Fde) → AllByRecursion (λ (b : Range). end_of x ≤ b.begin) index → AllZip (Lists hs) index fs → IsAmongFdes g fs → end_of x ≤ g.begin
+  later : (x : Range) (index : List Range) (fs : List Fde) (g : Fde) → AllByRecursion (λ (b : Range). end_of x ≤ b.begin) index → AllZip (Lists hs) index fs → IsAmong g fs → end_of x ≤ g.begin
   later x [] [] g h z i = absurd i
   later x [] (f ∷ fs) g h z i = absurd z
   later x (b ∷ index) [] g h z i = absurd i
@@ -173,7 +174,7 @@ module _ (hs : List Head) where
   later x (b ∷ index) (f ∷ fs) g h z (inr i) = later x index fs g h.1 z.1 i
 
   -- at most one FDE covers an address
-  one_fde : (a : ℕ) (index : List Range) (fs : List Fde) (f g : Fde) → AreApart index → AllZip (Lists hs) index fs → IsAmongFdes f fs → IsAmongFdes g fs → Covers a f → Covers a g → f ≡ g
+  one_fde : (a : ℕ) (index : List Range) (fs : List Fde) (f g : Fde) → AreApart index → AllZip (Lists hs) index fs → IsAmong f fs → IsAmong g fs → Covers a f → Covers a g → f ≡ g
   one_fde a [] [] f g apart z i j cf cg = absurd i
   one_fde a [] (d ∷ fs) f g apart z i j cf cg = absurd z
   one_fde a (x ∷ index) [] f g apart z i j cf cg = absurd i
@@ -186,7 +187,7 @@ module _ (hs : List Head) where
       let here = subst (Covers a) same cg in absurd (omega (arith, le, here.1, cf.0, z.0.end))
   one_fde a (x ∷ index) (d ∷ fs) f g apart z (inr i) (inr j) cf cg = one_fde a index fs f g apart.1 z.1 i j cf cg
 
-none_there : (a : ℕ) (fs : List Fde) (f : Fde) → NoneCovers a fs → IsAmongFdes f fs → Covers a f → ⊥
+none_there : (a : ℕ) (fs : List Fde) (f : Fde) → NoneCovers a fs → IsAmong f fs → Covers a f → ⊥
 none_there a [] f none i covers = absurd i
 none_there a (d ∷ fs) f none (inl is) covers = none.0 (subst (Covers a) is covers)
 none_there a (d ∷ fs) f none (inr i) covers = none_there a fs f none.1 i covers
@@ -199,7 +200,7 @@ module _ (target : Target) (s : List ℕ) (a : ℕ) where
   one_returns : (register other : ℕ) (row another : Rules) → Accepted target s → IsCovered target s a register row → IsCovered target s a other another → register ≡ other
   one_returns register other row another accepted v w =
       let same : w.fdes ≡ v.fdes = one_fdes target s w.fdes v.fdes w.are v.are in
-      let among = subst (λ (l : List Fde). IsAmongFdes w.fde l) same w.among in
+      let among = subst (λ (l : List Fde). IsAmong w.fde l) same w.among in
       let heads = one_headers target s v.are.headers accepted.1.0 v.are.are accepted.1.1.0.0.0 in
       let index : v.are.index ≡ accepted.0 = one_index accepted.1.0 v.are.index accepted.0 (subst (λ (l : List Head). IsIndex l v.are.index) heads v.are.is_index) accepted.1.2 in
       let fde = one_fde v.are.headers a v.are.index v.fdes v.fde w.fde (subst AreApart (sym index) accepted.2) v.are.each v.among among v.covers w.covers in

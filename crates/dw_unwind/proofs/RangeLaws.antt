@@ -10,7 +10,6 @@ use Rattle.std.proofs.lemmas.List.Elements.{recursion_from_All, All-from_recursi
 use Rattle.std.specs.Bool.{MatchBool}
 use Rattle.std.proofs.lemmas.List.Sums.{sum_by-cons}
 use Rattle.std.proofs.lemmas.Option.{slice_get-get_or}
-use Rattle.dw_eval.specs.Bytes.{with_byte, bytes_from}
 use Rattle.dw_unwind.specs.declared.ranges.Range.{Range}
 use Rattle.dw_unwind.specs.Ranges.{end_of, covers, byte_of, byte_among}
 use Rattle.dw_unwind.specs.Inner.Ranges.{cover_count, AreApart, Meet, Rise, IsWithin}
@@ -221,23 +220,3 @@ pub byte_here : (limit : ℕ) (bytes : List ℕ) (a : ℕ) (rs : List Range) (i 
 byte_here limit bytes a rs i d h within lt low high =
     let places = (all_at (IsWithin limit (length bytes)) rs i d within lt).places in
     sym (byte_found bytes a rs i d h lt low high ∙ slice_get-get_or bytes ((get_or rs i d).place + (a - (get_or rs i d).address)) 0 (omega arith))
-
--- ---- bytes in a row
-
-with_none : (o : Option ℕ) → with_byte o None ≡ None
-with_none None = refl
-with_none (Some b) = refl
-
-pub bytes_missing : (byte : ℕ → Option ℕ) (address n k : ℕ) → k < n → byte (address + k) ≡ None → bytes_from byte address n ≡ None
-bytes_missing byte address zero k lt none = absurd (omega arith)
-bytes_missing byte address (suc n) zero lt none = ap (λ o. with_byte o (bytes_from byte (address + 1) n)) (rw add-zero at none)
-bytes_missing byte address (suc n) (suc k) lt none =
-    let same : address + suc k ≡ address + 1 + k = omega arith in
-    rw (bytes_missing byte (address + 1) n k (omega arith) (rw same at none)) (with_none (byte address))
-
-pub bytes_all : (byte : ℕ → Option ℕ) (address : ℕ) (buffer : List ℕ) → ((k : ℕ) → k < length buffer → byte (address + k) ≡ Some (get_or buffer k 0)) → bytes_from byte address (length buffer) ≡ Some buffer
-bytes_all byte address [] h = refl
-bytes_all byte address (b ∷ bs) h =
-    let first = rw add-zero at (h 0 (omega arith)) in
-    let rest = bytes_all byte (address + 1) bs (λ k lt. let same : address + 1 + k ≡ address + suc k = omega arith in rw same (h (suc k) (omega arith))) in
-    rw (first, rest) refl

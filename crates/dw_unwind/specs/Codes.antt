@@ -3,12 +3,8 @@ use Rattle.std.specs.Prelude.{ℕ, List, codes}
 use Rattle.dw_unwind.specs.declared.fault.DumpCode.{DumpCode}
 use Rattle.dw_unwind.specs.declared.fault.DumpCode.TheVariants.{BadLine, ValueTooLarge, Repeated}
 
-abbrev pub number_of : DumpCode → ℕ
-number_of BadLine = 1
-number_of ValueTooLarge = 2
-number_of Repeated = 3
-
-abbrev pub name_of : DumpCode → List ℕ
-name_of BadLine = codes "BadLine"
-name_of ValueTooLarge = codes "ValueTooLarge"
-name_of Repeated = codes "Repeated"
+-- number and name of each
+abbrev pub code_entry : DumpCode → ℕ × List ℕ
+code_entry BadLine = (1, codes "BadLine")
+code_entry ValueTooLarge = (2, codes "ValueTooLarge")
+code_entry Repeated = (3, codes "Repeated")

@@ -10,7 +10,7 @@ use Rattle.dw_eval.specs.Registers.{held}
 use Rattle.dw_section.specs.declared.lookup.Fde.{Fde}
 use Rattle.dw_section.specs.Accepted.{Accepted}
 use Rattle.dw_section.specs.Meaning.{AreFdes, Covers, NoneCovers, RulesAt}
-use Rattle.dw_section.specs.Meanings.{IsListed as IsAmongFdes}
+use Rattle.dw_section.specs.Among.{IsAmong}
 use Rattle.dw_unwind.specs.declared.frame.Frame.{Frame}
 use Rattle.dw_unwind.specs.declared.frame.Policy.{Policy}
 use Rattle.dw_unwind.specs.declared.frame.UnwindError.{UnwindError}
@@ -24,7 +24,7 @@ pub record IsCovered (target : Target) (s : List ℕ) (a return_register : ℕ) 
   pub fdes : List Fde
   pub are : AreFdes target s fdes
   pub fde : Fde
-  pub among : IsAmongFdes fde fdes
+  pub among : IsAmong fde fdes
   pub covers : Covers a fde
   pub returns : return_register ≡ fde.return_register
   pub rules : RulesAt target s a row

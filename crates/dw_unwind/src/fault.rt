@@ -1,7 +1,7 @@
 //! Why a dump is refused, and where.
 
 ghost use Rattle.std.specs.Prelude.{◌≡◌};
-ghost use Rattle.dw_unwind.specs.Codes.{number_of, name_of};
+ghost use Rattle.dw_unwind.specs.Codes.{code_entry};
 ghost use Rattle.dw_unwind.specs.declared.fault.DumpError.TheVariants.{Fault, OutOfMemory};
 
 use std::alloc::{AllocError, AllocFailed};
@@ -22,7 +22,7 @@ pub enum DumpCode {
 impl DumpCode {
     /// The fault's number, 1 to 3.
     pub fn number(self) -> u8
-        ensures { result ≡ number_of self }
+        ensures { result ≡ (code_entry self).0 }
     {
         match self {
             DumpCode::BadLine => 1,
@@ -33,7 +33,7 @@ impl DumpCode {
 
     /// The fault's name, as the variant is written.
     pub fn name(self) -> &'static str
-        ensures { result.now ≡ name_of self }
+        ensures { result.now ≡ (code_entry self).1 }
     {
         match self {
             DumpCode::BadLine => "BadLine",

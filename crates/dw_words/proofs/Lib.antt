@@ -1,2 +1,4 @@
+mod Digits
 mod Commands
+mod Jobs
 mod Plans

@@ -2,14 +2,15 @@
 use Rattle.std.proofs.Common.{◌≡◌, ◌∙◌, true, false, List, [], Option, Some, None, option_map, Result, Ok, Err, refl, ap, ap₂, sym, inl, inr}
 use Rattle.clap.proofs.OnLiterals.{clap_on_literals}
 use Rattle.clap.specs.declared.error.Error.{Error}
-use Rattle.clap.specs.Words.{HasKind, Kinds, Row, Text, fault_of, is_simple, is_simple_and_free}
+use Rattle.clap.specs.Words.{HasKind, Row, Text, fault_of, is_simple, is_simple_and_free, subcommand_of}
 use Rattle.dw_words.specs.CommandLine.{dwframe}
 use Rattle.dw_words.specs.declared.request.PlanError.{PlanError}
 use Rattle.dw_words.specs.declared.request.PlanError.TheVariants as errors
 use Rattle.dw_words.specs.declared.request.Request.{Request}
 use Rattle.dw_words.specs.declared.request.Request.TheVariants as requests
-use Rattle.dw_words.specs.Plan.{Planned, is_help, Run, run_in, run_of, run_where}
-use Rattle.dw_words.specs.Inner.Plan.{Fails, FromFault}
+use Rattle.dw_words.specs.Plan.{Planned, is_help}
+use Rattle.dw_words.specs.Inner.Plan.{Fails, FromFault, run_in}
+use Rattle.dw_words.proofs.Jobs.{none_asked}
 
 pub free : is_simple_and_free dwframe ≡ true
 unfolding clap_on_literals
@@ -31,15 +32,12 @@ module _ {X : Type 0} (f : X → Text) (g : X → List Row) where
       let P : Text → List Row → Option (Text × List Row) = λ a b. Some (a, b) in
       ap₂ P p q
 
--- the run of words that clap takes
-pub one_run : (kinds : Kinds) (found : Option (Text × List Row)) (name : Text) (rows : List Row) → kinds ≡ [] → found ≡ Some (name, rows) → run_where kinds found ≡ run_in name rows
-one_run kinds found name rows none is = rw (none, is) refl
-
 -- words that clap takes, with a value that is none
-pub failed : (words : List Text) (inner : Option Run) (e : PlanError) → fault_of dwframe words ≡ [] → run_of words ≡ inner → Fails inner e → Planned words (Err e)
-failed words inner (errors.BadValue what) none is h = (none, is ∙ h)
-failed words inner (errors.Words error) none is h = absurd h
-failed words inner errors.OutOfMemory none is h = tt
+pub failed : (words : List Text) (name : Text) (values : List Row) (e : PlanError) → fault_of dwframe words ≡ [] → subcommand_of dwframe words ≡ Some (name, values) → Fails (run_in name values) e
+    → Planned words (Err e)
+failed words name values (errors.BadValue what) taken is h = (taken, λ job asked. none_asked words name values job is h asked)
+failed words name values (errors.Words error) taken is h = absurd h
+failed words name values errors.OutOfMemory taken is h = tt
 
 -- words that clap does not take
 pub refused : (words : List Text) (error : Error) (r : Result Request PlanError) → HasKind (fault_of dwframe words) error → FromFault error r → Planned words r

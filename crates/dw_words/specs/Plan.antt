@@ -1,138 +1,60 @@
 -- What the words of a run ask for.
-use Rattle.std.specs.Prelude.{◌≡◌, ⊤, ℕ, List, [], ◌∷◌, Bool, true, false, Option, Some, None, codes, option_and_then, option_map, if◌then◌else◌, Result, Ok, Err}
-use Rattle.std.specs.Str.{bytes_eq}
+use Rattle.std.specs.Prelude.{◌≡◌, ⊤, List, [], Bool, true, false, Option, Some, None, codes, option_and_then, option_map, Result, Ok, Err}
+use Rattle.std.specs.Option.{option_map_or}
 use Rattle.clap.specs.declared.error.ErrorKind.{ErrorKind}
 use Rattle.clap.specs.declared.error.ErrorKind.TheVariants as kinds
-use Rattle.clap.specs.Words.{IsAmong, Kinds, Row, Text, fault_of, first_of, kind_of, subcommand_of}
+use Rattle.clap.specs.Words.{IsAmong, Row, Text, fault_of, first_of, kind_of, subcommand_of}
 use Rattle.dw_num.specs.declared.target.Size.{Size}
-use Rattle.dw_num.specs.declared.target.Target.{Target}
-use Rattle.dw_op.specs.declared.profile.Profile.{Profile}
-use Rattle.dw_unwind.specs.declared.frame.Policy.{Policy}
+use Rattle.dw_unwind.specs.Spelling.{below}
 use Rattle.dw_words.specs.CommandLine.{dwframe}
-use Rattle.dw_words.specs.Values.{address, below, block_of, decimal, default_of, order_of, profile_of, size_of}
+use Rattle.dw_words.specs.Values.{address, block_of, decimal, default_of, order_of, profile_of, size_of}
 use Rattle.dw_words.specs.declared.request.Job.{Job}
-use Rattle.dw_words.specs.declared.request.Name.{Name}
-use Rattle.dw_words.specs.declared.request.Name.TheVariants as names
 use Rattle.dw_words.specs.declared.request.Request.{Request}
 use Rattle.dw_words.specs.declared.request.Request.TheVariants as requests
 use Rattle.dw_words.specs.declared.request.PlanError.{PlanError}
 use Rattle.dw_words.specs.declared.request.PlanError.TheVariants as errors
-use Rattle.dw_words.specs.declared.request.Task as declared
+use Rattle.dw_words.specs.declared.request.Task.{Task}
 use Rattle.dw_words.specs.declared.request.Task.TheVariants as tasks
 
--- ---- values
+-- ---- a subcommand's values
 
--- the name of a subcommand
-abbrev pub name_of : Text → Option Name
-name_of text =
-    if bytes_eq text (codes "check") then Some names.Check
-    else (if bytes_eq text (codes "cost") then Some names.Cost
-    else (if bytes_eq text (codes "entries") then Some names.Entries
-    else (if bytes_eq text (codes "eval") then Some names.Eval
-    else (if bytes_eq text (codes "expr") then Some names.Expr
-    else (if bytes_eq text (codes "normal") then Some names.Normal
-    else (if bytes_eq text (codes "rows") then Some names.Rows
-    else (if bytes_eq text (codes "same") then Some names.Same
-    else (if bytes_eq text (codes "unwind") then Some names.Unwind else None))))))))
+module _ (values : List Row) where
+  -- the value of this name is there, and is read so
+  abbrev pub Says : {T : Type 0} → Text → (Text → Option T) → T → Type 0
+  Says name read v = option_and_then read (first_of name values) ≡ Some v
 
--- the target that the options give
-abbrev pub target_in : List Row → Option Target
-target_in values = option_and_then (λ size. option_map (λ order. record { size = size; order = order }) (option_and_then order_of (first_of (codes "order") values))) (option_and_then size_of (first_of (codes "size") values))
+  -- one that may be left out, which is the same as this
+  abbrev pub MaySay : {T : Type 0} → Text → (Text → Option T) → T → T → Type 0
+  MaySay name read without v = option_map_or read (first_of name values) (Some without) ≡ Some v
 
--- a value that may be left out
-abbrev pub or_none : {T : Type 0} → (Text → Option T) → Option Text → Option (Option T)
-or_none read None = Some None
-or_none read (Some text) = option_map (λ v. Some v) (read text)
+  -- the path of this name
+  abbrev pub Names : Text → Text → Type 0
+  Names name path = first_of name values ≡ Some path
 
--- one that stands for a number where it is left out
-abbrev pub or_number : ℕ → (Text → Option ℕ) → Option Text → Option ℕ
-or_number n read None = Some n
-or_number n read (Some text) = read text
+  -- these values of the subcommand of this name are those of a task
+  abbrev pub IsTask : Text → Size → Task → Type 0
+  IsTask name size (tasks.Check path) = (name ≡ codes "check") × Names (codes "FILE") path.now
+  IsTask name size (tasks.Cost path) = (name ≡ codes "cost") × Names (codes "FILE") path.now
+  IsTask name size (tasks.Entries path) = (name ≡ codes "entries") × Names (codes "FILE") path.now
+  IsTask name size (tasks.Eval e) =
+      (name ≡ codes "eval") × MaySay (codes "steps") decimal 10000 e.steps × MaySay (codes "start") (λ text. option_map (λ v. Some v) (address size text)) None e.start
+      × Says (codes "HEX") block_of e.block.items × (first_of (codes "DUMP") values ≡ option_map (λ path. path.now) e.dump)
+  IsTask name size (tasks.Expr profile block) = (name ≡ codes "expr") × Says (codes "frame") profile_of profile × Says (codes "HEX") block_of block.items
+  IsTask name size (tasks.Normal w) = (name ≡ codes "normal") × MaySay (codes "cap") (λ text. option_and_then (below 2147483648) (decimal text)) 2147483647 w.cap × Names (codes "FILE") w.path.now
+  IsTask name size (tasks.Rows path) = (name ≡ codes "rows") × Names (codes "FILE") path.now
+  IsTask name size (tasks.Same path other) = (name ≡ codes "same") × Names (codes "FILE") path.now × Names (codes "FILE2") other.now
+  IsTask name size (tasks.Unwind u) =
+      (name ≡ codes "unwind") × Says (codes "default") default_of u.default × MaySay (codes "steps") decimal 10000 u.steps × Names (codes "FILE") u.path.now × Names (codes "DUMP") u.dump.now
 
-abbrev pub cap_in : List Row → Option ℕ
-cap_in values = or_number 2147483647 (λ text. option_and_then (below 2147483648) (decimal text)) (first_of (codes "cap") values)
-
-abbrev pub steps_in : List Row → Option ℕ
-steps_in values = or_number 10000 decimal (first_of (codes "steps") values)
-
-abbrev pub start_in : Size → List Row → Option (Option ℕ)
-start_in size values = or_none (address size) (first_of (codes "start") values)
-
-abbrev pub default_in : List Row → Option Policy
-default_in values = option_and_then default_of (first_of (codes "default") values)
-
-abbrev pub profile_in : List Row → Option Profile
-profile_in values = option_and_then profile_of (first_of (codes "frame") values)
-
-abbrev pub block_in : List Row → Option (List ℕ)
-block_in values = option_and_then block_of (first_of (codes "HEX") values)
-
-abbrev pub file_in : List Row → Option Text
-file_in values = first_of (codes "FILE") values
-
-abbrev pub dump_in : List Row → Option Text
-dump_in values = first_of (codes "DUMP") values
+  -- they are those of a run
+  abbrev pub IsJob : Text → Job → Type 0
+  IsJob name job = Says (codes "size") size_of job.target.size × Says (codes "order") order_of job.target.order × IsTask name job.target.size job.task
 
 -- ---- plans
 
--- a subcommand with its options and operands; files by their paths
-pub data Task : Type 0 where
-  check : Text → Task
-  cost : Text → Task
-  entries : Text → Task
-  -- the most steps, the value on the stack, the block, the dump
-  eval : ℕ → Option ℕ → List ℕ → Option Text → Task
-  expr : Profile → List ℕ → Task
-  -- the cap
-  normal : ℕ → Text → Task
-  rows : Text → Task
-  same : Text → Text → Task
-  -- what a register without a rule is, the most steps, the section, the dump
-  unwind : Policy → ℕ → Text → Text → Task
-
-pub record Run : Type 0 where
-  pub target : Target
-  pub task : Task
-
-abbrev pub eval_in : Size → List Row → Option Task
-eval_in size values = option_and_then (λ steps. option_and_then (λ start. option_map (λ block. eval steps start block (dump_in values)) (block_in values)) (start_in size values)) (steps_in values)
-
-abbrev pub expr_in : List Row → Option Task
-expr_in values = option_and_then (λ profile. option_map (λ block. expr profile block) (block_in values)) (profile_in values)
-
-abbrev pub normal_in : List Row → Option Task
-normal_in values = option_and_then (λ cap. option_map (λ path. normal cap path) (file_in values)) (cap_in values)
-
-abbrev pub same_in : List Row → Option Task
-same_in values = option_and_then (λ path. option_map (λ other. same path other) (first_of (codes "FILE2") values)) (file_in values)
-
-abbrev pub unwind_in : List Row → Option Task
-unwind_in values = option_and_then (λ steps. option_and_then (λ default. option_and_then (λ path. option_map (λ dump. unwind default steps path dump) (dump_in values)) (file_in values)) (default_in values)) (steps_in values)
-
--- the task of a subcommand with these values
-abbrev pub task_in : Name → Size → List Row → Option Task
-task_in names.Check size values = option_map check (file_in values)
-task_in names.Cost size values = option_map cost (file_in values)
-task_in names.Entries size values = option_map entries (file_in values)
-task_in names.Eval size values = eval_in size values
-task_in names.Expr size values = expr_in values
-task_in names.Normal size values = normal_in values
-task_in names.Rows size values = option_map rows (file_in values)
-task_in names.Same size values = same_in values
-task_in names.Unwind size values = unwind_in values
-
--- the run of a subcommand of this name with these values
-abbrev pub run_in : Text → List Row → Option Run
-run_in text values = option_and_then (λ name. option_and_then (λ target. option_map (λ task. record { target = target; task = task }) (task_in name target.size values)) (target_in values)) (name_of text)
-
--- where clap's definition finds no fault, the words are read as a subcommand, whose values have to be right
-abbrev pub run_where : Kinds → Option (Text × List Row) → Option Run
-run_where [] found = option_and_then (λ p. run_in p.0 p.1) found
-run_where (kind ∷ kinds) found = None
-
--- the run that words ask for
-abbrev pub run_of : List Text → Option Run
-run_of words = run_where (fault_of dwframe words) (subcommand_of dwframe words)
+-- words ask for this run: clap's definition finds no fault in them, and reads them as a subcommand with its values
+abbrev pub AskFor : List Text → Job → Type 0
+AskFor words job = (fault_of dwframe words ≡ []) × (name : Text) × (values : List Row) × (subcommand_of dwframe words ≡ Some (name, values)) × IsJob values name job
 
 -- a kind by which clap says that help or the version is asked for
 abbrev pub is_help : ErrorKind → Bool
@@ -140,26 +62,10 @@ is_help kinds.DisplayHelp = true
 is_help kinds.DisplayVersion = true
 is_help _ = false
 
--- ---- how the code keeps them
-
-abbrev pub task_held : declared.Task → Task
-task_held (tasks.Check path) = check path.now
-task_held (tasks.Cost path) = cost path.now
-task_held (tasks.Entries path) = entries path.now
-task_held (tasks.Eval e) = eval e.steps e.start e.block.items (option_map (λ s. s.now) e.dump)
-task_held (tasks.Expr profile block) = expr profile block.items
-task_held (tasks.Normal w) = normal w.cap w.path.now
-task_held (tasks.Rows path) = rows path.now
-task_held (tasks.Same path other) = same path.now other.now
-task_held (tasks.Unwind u) = unwind u.default u.steps u.path.now u.dump.now
-
-abbrev pub run_held : Job → Run
-run_held job = record { target = job.target; task = task_held job.task }
-
 -- what is planned for words: the run that they ask for, and a text of help exactly where clap's kind of fault says so
 abbrev pub Planned : List Text → Result Request PlanError → Type 0
-Planned words (Ok (requests.Run job)) = run_of words ≡ Some (run_held job)
+Planned words (Ok (requests.Run job)) = AskFor words job
 Planned words (Ok (requests.Help error)) = IsAmong (kind_of error) (fault_of dwframe words) × (is_help (kind_of error) ≡ true)
 Planned words (Err (errors.Words error)) = IsAmong (kind_of error) (fault_of dwframe words) × (is_help (kind_of error) ≡ false)
-Planned words (Err (errors.BadValue what)) = (fault_of dwframe words ≡ []) × (run_of words ≡ None)
+Planned words (Err (errors.BadValue what)) = (fault_of dwframe words ≡ []) × ((job : Job) → AskFor words job → ⊥)
 Planned words (Err errors.OutOfMemory) = ⊤

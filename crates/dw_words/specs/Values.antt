@@ -1,9 +1,9 @@
 -- What the texts of options and operands say.
-use Rattle.std.specs.Prelude.{ℕ, ◌+◌, ◌*◌, ◌==◌, ◌&&◌, nat_lt, if◌then◌else◌, List, [], ◌∷◌, length, drop, slice_index, codes, Option, Some, None, option_and_then, Result, Ok, Err}
+use Rattle.std.specs.Prelude.{ℕ, ◌==◌, ◌&&◌, nat_lt, if◌then◌else◌, List, length, drop, slice_index, codes, Option, Some, None, option_and_then}
+use Rattle.std.specs.Result.{result_ok}
 use Rattle.std.specs.Str.{bytes_eq}
 use Rattle.clap.specs.Words.{Text}
-use Rattle.hex.specs.declared.error.FromHexError.{FromHexError}
-use Rattle.hex.specs.Hex.{decode_of, hex_digit_value}
+use Rattle.hex.specs.Hex.{decode_of}
 use Rattle.dw_num.specs.Target.{address_limit}
 use Rattle.dw_num.specs.declared.target.Order.{Order}
 use Rattle.dw_num.specs.declared.target.Order.TheVariants.{Little, Big}
@@ -13,6 +13,7 @@ use Rattle.dw_op.specs.declared.profile.Profile.{Profile}
 use Rattle.dw_op.specs.declared.profile.Profile.TheVariants.{Frame, Location}
 use Rattle.dw_unwind.specs.declared.frame.Policy.{Policy}
 use Rattle.dw_unwind.specs.declared.frame.Policy.TheVariants.{SameValue, Undefined}
+use Rattle.dw_unwind.specs.Spelling.{below, number_behind}
 
 -- ---- words of a list
 
@@ -31,22 +32,9 @@ profile_of text = if bytes_eq text (codes "true") then Some Frame else (if bytes
 
 -- ---- numbers
 
--- a number, if it is below a limit
-abbrev pub below : ℕ → ℕ → Option ℕ
-below limit n = if nat_lt n limit then Some n else None
-
--- a number with one digit more behind it; hexadecimal digits are of either case
-abbrev pub digit_behind : ℕ → ℕ → ℕ → Option ℕ
-digit_behind base n c = option_and_then (λ d. below 18446744073709551616 (n * base + d)) (option_and_then (below base) (hex_digit_value c))
-
--- the number of the digits behind a number, the highest first, unless it passes 64 bits
-abbrev pub number_behind : ℕ → ℕ → Text → Option ℕ
-number_behind base n [] = Some n
-number_behind base n (c ∷ cs) = option_and_then (λ m. number_behind base m cs) (digit_behind base n c)
-
--- one or more decimal digits
+-- one or more decimal digits, of a number of 64 bits
 abbrev pub decimal : Text → Option ℕ
-decimal text = if length text == 0 then None else number_behind 10 0 text
+decimal text = if length text == 0 then None else option_and_then (below 18446744073709551616) (number_behind 10 0 text)
 
 -- `0x` and 1 to 16 hexadecimal digits, of an address
 abbrev pub address : Size → Text → Option ℕ
@@ -56,10 +44,6 @@ address size text =
 
 -- ---- bytes
 
-abbrev pub ok_of : Result (List ℕ) FromHexError → Option (List ℕ)
-ok_of (Ok bytes) = Some bytes
-ok_of (Err e) = None
-
 -- two hexadecimal digits a byte
 abbrev pub block_of : Text → Option (List ℕ)
-block_of text = ok_of (decode_of text)
+block_of text = result_ok (decode_of text)

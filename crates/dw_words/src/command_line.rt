@@ -3,8 +3,8 @@
 ghost use Rattle.std.specs.Prelude.{◌≡◌, IfOk};
 ghost use Rattle.clap.specs.Words.{App, app_of};
 ghost use Rattle.clap.specs.declared.builder.command.Command.TheViews.{out-Command};
-ghost use Rattle.dw_words.specs.CommandLine.{choice, cost, dwframe, eval, expr, flag, normal, operand, option, over_file, program, same, subcommand, unwind, with_expressions, with_normal_forms, with_sections};
-ghost use Rattle.dw_words.specs.Inner.CommandLine.{IsArg, IsCommand};
+ghost use Rattle.dw_words.specs.CommandLine.{dwframe, flag, operand, program};
+ghost use Rattle.dw_words.specs.Inner.CommandLine.{IsArg, IsCommand, choice, eval, expr, needed, normal, over_file, same, subcommand, unwind, with_expressions, with_normal_forms, with_sections};
 
 use crate::help;
 use clap::{Arg, ArgAction, Command};
@@ -21,7 +21,7 @@ fn choice<'a>(alloc: Global, name: &'a str, value: &'a str, help: &'a str) -> Ar
 }
 
 fn option<'a>(alloc: Global, name: &'a str, value: &'a str, help: &'a str) -> Arg<'a>
-    ensures { IsArg (option name.entry.now) result }
+    ensures { IsArg (needed name.entry.now) result }
 {
     Arg::new(alloc, name)
         .long(name)

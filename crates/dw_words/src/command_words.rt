@@ -2,8 +2,8 @@
 
 ghost use Rattle.std.specs.Prelude.{◌≡◌, ◌≤◌, IfSome, codes, map, option_map, string_bytes};
 ghost use Rattle.clap.specs.Words.{first_of, found_of, rows_of};
-ghost use Rattle.dw_words.specs.Plan.{Planned, block_in, cap_in, default_in, eval_in, expr_in, is_help, name_of, normal_in, profile_in, run_held, run_in, same_in, start_in, steps_in, target_in, task_held, task_in, unwind_in};
-ghost use Rattle.dw_words.specs.Inner.Plan.{Answers, FromFault};
+ghost use Rattle.dw_words.specs.Plan.{Planned, is_help};
+ghost use Rattle.dw_words.specs.Inner.Plan.{Answers, FromFault, block_in, cap_in, default_in, eval_in, expr_in, name_of, normal_in, profile_in, run_held, run_in, same_in, start_in, steps_in, target_in, task_held, task_in, unwind_in};
 
 use crate::command_line::command_line;
 use crate::request::{Evaluation, Job, Name, PlanError, Request, Task, Unwinding, Writing};

@@ -1,7 +1,9 @@
 //! What the texts of options and operands say.
 
-ghost use Rattle.std.specs.Prelude.{◌≡◌, ◌⊎◌, ◌<◌, Some, None, MatchResult};
-ghost use Rattle.dw_words.specs.Values.{size_of, order_of, default_of, profile_of, digit_behind, number_behind, decimal, address, block_of};
+ghost use Rattle.std.specs.Prelude.{◌≡◌, ◌⊎◌, ◌<◌, Some, None, MatchResult, option_and_then};
+ghost use Rattle.dw_unwind.specs.Spelling.{below, number_behind};
+ghost use Rattle.dw_words.specs.Values.{size_of, order_of, default_of, profile_of, decimal, address, block_of};
+ghost use Rattle.dw_words.specs.Inner.Values.{digit_behind, checked_behind};
 ghost use Rattle.hex.specs.Hex.{hex_digit_value};
 ghost use Rattle.hex.specs.declared.error.FromHexError.TheVariants.{OutOfMemory as NoMemory};
 
@@ -76,9 +78,9 @@ fn digit_behind(base: u8, number: u64, byte: u8) -> Option<u64>
     u64::try_from(number).ok()
 }
 
-// The number of the digits, unless it passes 64 bits.
-fn number_of(base: u8, text: &[u8]) -> Option<u64>
-    ensures { result ≡ number_behind base 0 text.now }
+// The number of the digits, which is given up where it passes 64 bits.
+fn scanned(base: u8, text: &[u8]) -> Option<u64>
+    ensures { result ≡ checked_behind base 0 text.now }
 {
     let mut number = 0u64;
     for byte in text {
@@ -88,6 +90,14 @@ fn number_of(base: u8, text: &[u8]) -> Option<u64>
         number = next;
     }
     Some(number)
+}
+
+// The number of the digits, unless it passes 64 bits.
+fn number_of(base: u8, text: &[u8]) -> Option<u64>
+    requires base { 0 < base }
+    ensures { result ≡ option_and_then (below 18446744073709551616) (number_behind base 0 text.now) }
+{
+    scanned(base, text)
 }
 
 /// The number of one or more decimal digits.

@@ -13,8 +13,8 @@ use Rattle.dw_num.proofs.Lent.FixedLaws.{length-fixed}
 use Rattle.dw_section.specs.Accepted.{Accepted}
 use Rattle.dw_canon.specs.Bound.{share, Shares, WithinShares}
 use Rattle.dw_canon.specs.Inner.Laid.{group_of, groups_of, part_of, parts_of}
-use Rattle.dw_canon.specs.Inner.Canon.{canon}
-use Rattle.dw_canon.specs.Canon.{cie_instrs, initial_of, return_registers}
+use Rattle.dw_canon.specs.Inner.Canon.{canon, cie_instrs, initial_of}
+use Rattle.dw_canon.specs.Canon.{return_registers}
 use Rattle.dw_canon.specs.Inner.Fits.{MemberStands}
 use Rattle.dw_canon.specs.Group.{group}
 use Rattle.dw_canon.specs.Inner.Laid.{cie_of}
@@ -25,7 +25,7 @@ use Rattle.dw_canon.specs.Inner.Written.{cie_id, cie_spelling, entry_bytes, sect
 use Rattle.dw_canon.specs.Written.{cie_fields}
 use Rattle.dw_canon.proofs.Lent.Differences.{In}
 use Rattle.dw_canon.proofs.Lent.Extra.{section_append, up, entry_up, fde_length}
-use Rattle.dw_canon.proofs.Lent.Blocks.{whole_is}
+use Rattle.dw_canon.proofs.Lent.Forms.{whole_is}
 use Rattle.dw_canon.proofs.Lent.Layout.{laid_is}
 use Rattle.dw_canon.proofs.Lent.InstrFits as fitting
 use Rattle.dw_canon.proofs.Prices.{IsPriced, is_priced, fde_len, cie_len}

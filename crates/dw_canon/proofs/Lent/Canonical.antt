@@ -1,6 +1,6 @@
 -- The laws of normal forms.
 use Rattle.std.proofs.Common.{◌≡◌, ℕ, ◌<◌, ◌≤◌, List, [], ◌∷◌, ◌++◌, map, length, refl, sym, ap, ◌∙◌, subst, inl, inr}
-use Rattle.std.specs.Prelude.{◌↔◌, nat_eq}
+use Rattle.std.specs.Prelude.{◌↔◌}
 use Rattle.std.specs.List.{AllByRecursion}
 use Rattle.dw_num.specs.Input.{AreBytes}
 use Rattle.dw_num.specs.declared.target.Target.{Target}
@@ -11,7 +11,8 @@ use Rattle.dw_section.specs.Accepted.{Accepted}
 use Rattle.dw_section.specs.Changes.{AreChanges}
 use Rattle.dw_section.specs.Meaning.{AreFdes, ChangesOf, RowStarts, total}
 use Rattle.dw_section.proofs.Lent.FdeLookup.{one_fdes}
-use Rattle.dw_section.specs.Meanings.{IsListed, SameMeaning}
+use Rattle.dw_section.specs.Meanings.{SameMeaning}
+use Rattle.dw_section.specs.Among.{IsAmong}
 use Rattle.dw_canon.specs.Inner.Renders.{ReadsBack}
 use Rattle.dw_section.proofs.Lent.Sections.{fdes_exist, listed_programs}
 use Rattle.dw_section.proofs.Lent.Exists.{listed_change, one_change_list, meaning_changes}
@@ -23,22 +24,19 @@ use Rattle.dw_canon.proofs.Lent.Extra.{starts_of, written_starts}
 use Rattle.dw_canon.proofs.Lays.{laid_section}
 use Rattle.dw_canon.proofs.Lent.Readback.{rendered_laid}
 use Rattle.dw_canon.specs.Inner.Laid.{part_of, groups_of, parts_of}
-use Rattle.dw_canon.specs.Inner.Canon.{canon}
-use Rattle.dw_canon.specs.Canon.{initial_of}
+use Rattle.dw_canon.specs.Inner.Canon.{canon, initial_of}
 use Rattle.dw_canon.specs.Inner.Fits.{MemberStands}
-use Rattle.dw_canon.specs.Headline.{Headline}
-use Rattle.dw_canon.specs.Laws.{NormalFormExists, NormalFormIsOne, MeaningIsKept, NormalAgain, SameNormalForm, FewestRows, NormalRows, InitialIsShared}
+use Rattle.dw_canon.specs.Laws.{NormalFormExists, NormalFormIsOne, MeaningIsKept, NormalAgain, SameNormalForm, FewestRows, NormalRows}
 use Rattle.dw_canon.specs.Members.{Member, fde_of, changes_of, IsMember, AreMembers}
 use Rattle.dw_section.specs.Laws.{AreListed}
 use Rattle.dw_canon.specs.Normal.{IsNormalForm}
 use Rattle.dw_canon.proofs.Kept.{reads_back}
-use Rattle.dw_canon.proofs.Lent.Blocks.{is_normal, whole_is}
+use Rattle.dw_canon.proofs.Lent.Forms.{is_normal, whole_is}
 use Rattle.dw_canon.proofs.Lent.Layout.{laid_is}
 use Rattle.dw_canon.proofs.ProgramLaws.{member_program}
 use Rattle.dw_canon.proofs.Lent.Rendered.{renders, fits, stand}
-use Rattle.dw_canon.proofs.Shared.{MemberFits, is_shared}
-use Rattle.dw_canon.proofs.Lent.MemberPlaces.{group_fits, all_some}
-use Rattle.dw_canon.specs.Group.{initial_row, IsShared}
+use Rattle.dw_canon.proofs.Shared.{MemberFits}
+use Rattle.dw_canon.proofs.Lent.MemberPlaces.{group_fits}
 
 -- ---- members exist
 
@@ -55,7 +53,7 @@ made_of t s f (first ∷ later) h up c =
     let same : (first ∷ later) ≡ changes_of m = ap (λ (n : ℕ). (n, first.1) ∷ later) c.0 in
     record { member = m; is = record { changes = subst (ChangesOf t s f) same h; listed = subst AreListed same up }; of = refl }
 
-members_of : (t : Target) (s : List ℕ) (fs : List Fde) → ((f : Fde) → IsListed f fs → Made t s f) → (ms : List Member) × (map fde_of ms ≡ fs) × AllByRecursion (IsMember t s) ms
+members_of : (t : Target) (s : List ℕ) (fs : List Fde) → ((f : Fde) → IsAmong f fs → Made t s f) → (ms : List Member) × (map fde_of ms ≡ fs) × AllByRecursion (IsMember t s) ms
 members_of t s [] h = ([], refl, tt)
 members_of t s (f ∷ fs) h =
     let one = h f (inl refl) in
@@ -103,7 +101,7 @@ one_list t s b ok (m ∷ ms) (x ∷ ks) e some h k =
     ap (λ (y : Member). y ∷ ms) first ∙ ap (λ (l : List Member). x ∷ l) rest
 one_list t s b ok ms ks e some h k = absurd cc
 
-nonempty : (t : Target) (s : List ℕ) (b : AreBytes s) (ok : Accepted t s) (ms xs : List Member) → AreFdes t s (map fde_of ms) → ((f : Fde) → IsListed f (map fde_of xs) → IsListed f (map fde_of ms)) → AllByRecursion (λ (m : Member). m.begin < m.end) xs
+nonempty : (t : Target) (s : List ℕ) (b : AreBytes s) (ok : Accepted t s) (ms xs : List Member) → AreFdes t s (map fde_of ms) → ((f : Fde) → IsAmong f (map fde_of xs) → IsAmong f (map fde_of ms)) → AllByRecursion (λ (m : Member). m.begin < m.end) xs
 nonempty t s b ok ms [] are into = tt
 nonempty t s b ok ms (m ∷ xs) are into = ((listed_programs t s b ok (map fde_of ms) (fde_of m) are (into (fde_of m) (inl refl))).0, nonempty t s b ok ms xs are (λ f i. into f (inr i)))
 
@@ -113,8 +111,8 @@ one_members t s b ok ms ks h k =
 
 -- ---- members of a section that says the same
 
-members_there : (t : Target) (s n : List ℕ) (fs : List Fde) (xs : List Member) → ((f : Fde) → IsListed f (map fde_of xs) → IsListed f fs)
-    → ((f : Fde) (changes : List (ℕ × Rules)) → IsListed f fs → ChangesOf t s f changes → ChangesOf t n f changes) → AllByRecursion (IsMember t s) xs → AllByRecursion (IsMember t n) xs
+members_there : (t : Target) (s n : List ℕ) (fs : List Fde) (xs : List Member) → ((f : Fde) → IsAmong f (map fde_of xs) → IsAmong f fs)
+    → ((f : Fde) (changes : List (ℕ × Rules)) → IsAmong f fs → ChangesOf t s f changes → ChangesOf t n f changes) → AllByRecursion (IsMember t s) xs → AllByRecursion (IsMember t n) xs
 members_there t s n fs [] into to h = tt
 members_there t s n fs (m ∷ xs) into to h =
     (record { changes = to (fde_of m) (changes_of m) (into (fde_of m) (inl refl)) h.0.changes; listed = h.0.listed }, members_there t s n fs xs (λ f i. into f (inr i)) to h.1)
@@ -122,7 +120,7 @@ members_there t s n fs (m ∷ xs) into to h =
 -- ---- the laws
 
 pub normal_form_exists : NormalFormExists
-normal_form_exists t s b ok = let found = members_exist t s b ok in (canon t found.0, is_normal t s found.0 ok found.1)
+normal_form_exists t s b ok = let found = members_exist t s b ok in (canon t found.0, is_normal t s found.0 b ok found.1)
 
 pub normal_form_is_one : NormalFormIsOne
 normal_form_is_one t s n m b h k = whole_is t s n b h ∙ ap (canon t) (one_members t s b h.accepted h.members k.members h.are k.are) ∙ sym (whole_is t s m b k)
@@ -135,20 +133,30 @@ back t s n b h small =
 pub meaning_is_kept : MeaningIsKept
 meaning_is_kept t s n b h small = let r = back t s n b h small in (r.accepted, r.meaning)
 
+-- the normal form of a section is that of another with the same members
+moved : (t : Target) (s u n : List ℕ) (h : IsNormalForm t s n) → Accepted t u → AreMembers t u h.members → IsNormalForm t u n
+moved t s u n h ok are = record {
+  accepted = ok;
+  members = h.members;
+  are = are;
+  same_cfa = h.same_cfa;
+  tells_cfa = h.tells_cfa;
+  same_rule = h.same_rule;
+  tells_rule = h.tells_rule;
+  block = h.block;
+  least = h.least;
+  initial = h.initial;
+  shared = h.shared;
+  whole = h.whole;
+}
+
 pub normal_again : NormalAgain
 normal_again t s n b h small =
     let r = back t s n b h small in
-    record {
-      accepted = r.accepted;
-      members = h.members;
-      are = record {
-        fdes = (r.meaning.fdes (map fde_of h.members)).0 h.are.fdes;
-        each = members_there t s n (map fde_of h.members) h.members (λ f i. i) (λ f changes i. (r.changes (map fde_of h.members) f changes h.are.fdes i).0) h.are.each;
-      };
-      block = h.block;
-      least = h.least;
-      whole = h.whole;
-    }
+    moved t s n n h r.accepted (record {
+      fdes = (r.meaning.fdes (map fde_of h.members)).0 h.are.fdes;
+      each = members_there t s n (map fde_of h.members) h.members (λ f i. i) (λ f changes i. (r.changes (map fde_of h.members) f changes h.are.fdes i).0) h.are.each;
+    })
 
 same_back : (t : Target) (a b : List ℕ) → SameMeaning t a b → SameMeaning t b a
 same_back t a b h = record { fdes = λ fs. ((h.fdes fs).1, (h.fdes fs).0); rules = λ x row. ((h.rules x row).1, (h.rules x row).0) }
@@ -174,7 +182,7 @@ same_normal_form t s u n m bs bu h k small little = (
       same_then t s n u one (subst (λ (l : List ℕ). SameMeaning t l u) (sym e) (same_back t u m two)),
   λ same.
       let are = same_members t s u h.members bs bu h.accepted k.accepted h.are same in
-      let there : IsNormalForm t u n = record { accepted = k.accepted; members = h.members; are = are; block = h.block; least = h.least; whole = h.whole } in
+      let there : IsNormalForm t u n = moved t s u n h k.accepted are in
       normal_form_is_one t u n m bu there k,
 )
 
@@ -183,30 +191,11 @@ pub same_exactly : (t : Target) (s u : List ℕ) (ms ns : List Member) → AreBy
     → length (canon t ms) ≤ 2147483647 → length (canon t ns) ≤ 2147483647 → (ms ≡ ns) ↔ SameMeaning t s u
 same_exactly t s u ms ns bs bu ok okay h k small little = (
   λ e.
-      let one : IsNormalForm t s (canon t ms) = is_normal t s ms ok h in
-      let other : IsNormalForm t u (canon t ns) = is_normal t u ns okay k in
+      let one : IsNormalForm t s (canon t ms) = is_normal t s ms bs ok h in
+      let other : IsNormalForm t u (canon t ns) = is_normal t u ns bu okay k in
       (same_normal_form t s u (canon t ms) (canon t ns) bs bu one other small little).0 (ap (canon t) e),
   λ same. one_members t u bu okay ms ns (same_members t s u ms bs bu ok okay h same) k,
 )
-
-pub headline_holds : Headline
-headline_holds t a b ba bb ok okay =
-    let one = normal_form_exists t a ba ok in
-    let other = normal_form_exists t b bb okay in
-    record {
-      n = one.0;
-      m = other.0;
-      of_a = record { is = one.1; only = λ k h. normal_form_is_one t a k one.0 ba h one.1 };
-      of_b = record { is = other.1; only = λ k h. normal_form_is_one t b k other.0 bb h other.1 };
-      canonical = λ small little.
-          let kept = meaning_is_kept t a one.0 ba one.1 small in
-          record {
-            equal = same_normal_form t a b one.0 other.0 ba bb one.1 other.1 small little;
-            accepted = kept.0;
-            kept = kept.1;
-            again = normal_again t a one.0 ba one.1 small;
-          };
-    }
 
 pub fewest_rows : FewestRows
 fewest_rows t s f changes b ok some h =
@@ -250,10 +239,3 @@ normal_rows t s n b h small =
     let same = whole_is t s n b h ∙ laid_is t h.members in
     subst (λ (l : List ℕ). RowStarts t l (total (map (λ (m : Member). length (changes_of m)) h.members))) (sym same)
     (laid_rows t s b h.accepted h.members h.are (subst (λ (l : List ℕ). length l ≤ 2147483647) same small))
-
--- ---- the initial rows
-
-pub initial_is_shared : InitialIsShared
-initial_is_shared t s ms r m rest b ok are e =
-    let all = subst (AllByRecursion (MemberFits t)) e (all_some (MemberFits t) (λ (k : Member). nat_eq k.register r) ms (fits t s b ok ms are)) in
-    subst (λ (l : List Member). IsShared l (initial_row l)) (sym e) (is_shared t m rest all)

@@ -2,6 +2,7 @@
 use Rattle.std.proofs.Common.{◌≡◌, ◌⊎◌, ℕ, Bool, true, false, List, [], ◌∷◌, ◌++◌, None, refl, sym, ap, ◌∙◌, subst, inl, inr, arith}
 use Rattle.std.specs.Prelude.{nat_eq, nat_lt, if◌then◌else◌, map}
 use Rattle.std.specs.List.{flat_map}
+use Rattle.std.specs.Map.{keys_of}
 use Rattle.std.specs.Ordering.{int_eq}
 use Rattle.std.proofs.lemmas.Bool.{cases_Bool, eqb-true, eqb-false}
 use Rattle.std.proofs.lemmas.Bool.Decides.{Decides-int_eq}
@@ -19,9 +20,10 @@ use Rattle.dw_cfa.specs.Rows.{Rules, AreSpecified, rule, rule_in}
 use Rattle.dw_cfa.specs.Inner.Rows.{with_cfa, with_rule}
 use Rattle.dw_cfa.proofs.Lent.RowLists.{put_rule, put_keeps}
 use Rattle.dw_cfa.proofs.Lent.SameRows.{same_rows}
-use Rattle.dw_canon.specs.Difference.{cfa_to, cfa_difference, rule_difference, with_register, with_registers, registers_of, either, difference}
+use Rattle.dw_canon.specs.Difference.{cfa_to, either}
+use Rattle.dw_canon.specs.Inner.Difference.{cfa_difference, rule_difference, difference, with_register, with_registers}
 use Rattle.dw_section.specs.Inner.Sound.{CfaFits, RowFits}
-use Rattle.dw_cfa.specs.Agreement.{same_cfa, same_rule}
+use Rattle.dw_cfa.specs.Inner.Agreement.{same_cfa, same_rule}
 use Rattle.dw_canon.proofs.Tested.{cfa_is, rule_is, rule_fits}
 
 -- ---- instructions that move no location, and run without a fault from one state to another
@@ -175,9 +177,9 @@ with_one q r (x ∷ rs) h = elim (cases_Bool (nat_lt r x)) [
 pub with_all : (q : ℕ) (rs qs : List ℕ) → In q rs ⊎ In q qs → In q (with_registers rs qs)
 with_all q [] qs (inl h) = absurd h
 with_all q [] qs (inr h) = h
-with_all q (r ∷ rs) qs (inl (inl e)) = with_one q r (with_registers rs qs) (inl e)
-with_all q (r ∷ rs) qs (inl (inr h)) = with_one q r (with_registers rs qs) (inr (with_all q rs qs (inl h)))
-with_all q (r ∷ rs) qs (inr h) = with_one q r (with_registers rs qs) (inr (with_all q rs qs (inr h)))
+with_all q (r ∷ rs) qs (inl (inl e)) = with_all q rs (with_register r qs) (inr (with_one q r qs (inl e)))
+with_all q (r ∷ rs) qs (inl (inr h)) = with_all q rs (with_register r qs) (inl h)
+with_all q (r ∷ rs) qs (inr h) = with_all q rs (with_register r qs) (inr (with_one q r qs (inr h)))
 
 listed_or : (q : ℕ) (xs : List (ℕ × RegRule)) → In q (map (λ (entry : ℕ × RegRule). entry.0) xs) ⊎ (rule_in xs q ≡ rules.Unspecified)
 listed_or q [] = inr refl
@@ -189,9 +191,9 @@ listed_or q (x ∷ xs) = elim (cases_Bool (nat_eq x.0 q)) [
 -- a register is listed, or is Unspecified in both rows
 pub either_or : (old new : Rules) (q : ℕ) → In q (either old new) ⊎ (rule old q ≡ rule new q)
 either_or old new q = elim (listed_or q old.registers) [
-  | inl h ↦ inl (with_all q (registers_of old) (registers_of new) (inl h))
+  | inl h ↦ inl (with_all q (keys_of old.registers) (keys_of new.registers) (inl h))
   | inr none ↦ elim (listed_or q new.registers) [
-    | inl h ↦ inl (with_all q (registers_of old) (registers_of new) (inr h))
+    | inl h ↦ inl (with_all q (keys_of old.registers) (keys_of new.registers) (inr h))
     | inr also ↦ inr (none ∙ sym also)
   ]
 ]

@@ -15,7 +15,7 @@ use Rattle.dw_cfa.specs.Location.{row_starts}
 use Rattle.dw_section.specs.Headers.{Head}
 use Rattle.dw_section.specs.Inner.Heads.{head_at}
 use Rattle.dw_section.specs.Meaning.{Says, Starts, RowStarts, total}
-use Rattle.dw_section.specs.Programs.{IsAmong}
+use Rattle.dw_section.specs.Among.{IsAmong}
 use Rattle.dw_canon.specs.Inner.Written.{Written, cie, fde, fields_of, program_of, nops_of, filled, contents, entry_bytes, section_bytes}
 use Rattle.dw_canon.specs.Written.{missing, fde_fields}
 use Rattle.dw_canon.specs.Inner.Written.{span_of, head_of, heads_at, ranges_at, Fits, Runs, IsSection}

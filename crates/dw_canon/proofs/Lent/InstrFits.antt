@@ -2,6 +2,7 @@
 use Rattle.std.proofs.Common.{◌≡◌, ℕ, zero, suc, ◌-◌, ◌<◌, ◌≤◌, ◌^◌, true, false, List, [], ◌∷◌, ◌++◌, map, replicate, refl, inl, inr, arith}
 use Rattle.std.specs.Prelude.{nat_eq, nat_lt, IsTrue}
 use Rattle.std.specs.List.{flat_map, AllByRecursion}
+use Rattle.std.specs.Map.{keys_of}
 use Rattle.std.specs.Ordering.{int_eq}
 use Rattle.std.proofs.lemmas.Bool.{cases_Bool, ltb-true}
 use Rattle.dw_num.specs.declared.target.Target.{Target}
@@ -13,13 +14,14 @@ use Rattle.dw_cfa.specs.declared.rule.RegRule.{RegRule}
 use Rattle.dw_cfa.specs.declared.rule.RegRule.TheVariants as rules
 use Rattle.dw_cfa.specs.Kept.{in_cie}
 use Rattle.dw_cfa.specs.Rows.{Rules, rule, is_specified, blank}
-use Rattle.dw_canon.specs.Canon.{fde_instrs, cie_instrs}
-use Rattle.dw_canon.specs.Difference.{cfa_to, cfa_difference, rule_difference, with_register, with_registers, registers_of, either, difference, move, later_changes}
+use Rattle.dw_canon.specs.Inner.Canon.{fde_instrs, cie_instrs}
+use Rattle.dw_canon.specs.Difference.{cfa_to, either, move}
+use Rattle.dw_canon.specs.Inner.Difference.{cfa_difference, rule_difference, difference, later_changes, with_register, with_registers}
 use Rattle.dw_section.specs.Inner.Sound.{CfaFits, RuleFits, RowFits}
 use Rattle.dw_canon.specs.Inner.Fits.{RestsOn, ChangesStand, MemberStands}
 use Rattle.dw_canon.specs.Inner.Fits.{InstrFits}
 use Rattle.dw_canon.specs.Members.{Member}
-use Rattle.dw_cfa.specs.Agreement.{same_cfa, same_rule}
+use Rattle.dw_cfa.specs.Inner.Agreement.{same_cfa, same_rule}
 use Rattle.dw_canon.proofs.Tested.{rule_fits}
 use Rattle.dw_canon.proofs.Lent.Programs.{below_end}
 
@@ -49,14 +51,14 @@ with_one P r (x ∷ rs) h k = elim (cases_Bool (nat_lt r x)) [
 
 pub with_all : (P : ℕ → Type 0) (rs qs : List ℕ) → AllByRecursion P rs → AllByRecursion P qs → AllByRecursion P (with_registers rs qs)
 with_all P [] qs h k = k
-with_all P (r ∷ rs) qs h k = with_one P r (with_registers rs qs) h.0 (with_all P rs qs h.1 k)
+with_all P (r ∷ rs) qs h k = with_all P rs (with_register r qs) h.1 (with_one P r qs h.0 k)
 
 entries_fit : (t : Target) (xs : List (ℕ × RegRule)) → AllByRecursion (λ (entry : ℕ × RegRule). (entry.0 < 65536) × RuleFits t entry.1) xs → AllByRecursion (λ (r : ℕ). r < 65536) (map (λ (entry : ℕ × RegRule). entry.0) xs)
 entries_fit t [] h = tt
 entries_fit t (x ∷ xs) h = (h.0.0, entries_fit t xs h.1)
 
 pub either_fits : (t : Target) (old new : Rules) → RowFits t old → RowFits t new → AllByRecursion (λ (r : ℕ). r < 65536) (either old new)
-either_fits t old new h k = with_all (λ (r : ℕ). r < 65536) (registers_of old) (registers_of new) (entries_fit t old.registers h.registers) (entries_fit t new.registers k.registers)
+either_fits t old new h k = with_all (λ (r : ℕ). r < 65536) (keys_of old.registers) (keys_of new.registers) (entries_fit t old.registers h.registers) (entries_fit t new.registers k.registers)
 
 -- ---- a difference
 

@@ -3,11 +3,9 @@ use Rattle.std.proofs.Common.{◌≡◌, ℕ, ◌+◌, ◌-◌, List, [], ◌∷
 use Rattle.std.specs.Prelude.{◌==◌, if◌then◌else◌}
 use Rattle.std.specs.List.{flat_map}
 use Rattle.dw_num.specs.declared.target.Target.{Target}
-use Rattle.dw_op.specs.declared.op.Op.{Op}
-use Rattle.dw_op.specs.LeastBlock.{least_block}
-use Rattle.dw_canon.specs.Canon.{return_registers, initial_of, cie_bytes, cie_at, fde_instrs, fde_bytes}
+use Rattle.dw_canon.specs.Canon.{return_registers}
+use Rattle.dw_canon.specs.Inner.Canon.{initial_of, cie_bytes, cie_at, fde_instrs, fde_bytes, canon}
 use Rattle.dw_canon.specs.Canon.{canon as canon_with}
-use Rattle.dw_canon.specs.Inner.Canon.{canon}
 use Rattle.dw_canon.specs.Members.{Member}
 use Rattle.dw_canon.specs.Inner.Spelling.{program_bytes}
 use Rattle.dw_canon.specs.Written.{written, fde_fields}
@@ -17,29 +15,26 @@ use Rattle.dw_canon.specs.Inner.Written.{entry_bytes, section_bytes}
 use Rattle.dw_canon.proofs.Lent.Extra.{section_append}
 
 module _ (t : Target) (ms : List Member) where
-  abbrev least : List Op → List ℕ
-  least = least_block t
-
-  at_place : (at : ℕ) (rs : List ℕ) (register : ℕ) → cie_at least t ms at rs register ≡ place_of t at (map (group_of t ms) rs) register
+  at_place : (at : ℕ) (rs : List ℕ) (register : ℕ) → cie_at t ms at rs register ≡ place_of t at (map (group_of t ms) rs) register
   at_place at [] register = refl
-  at_place at (r ∷ rs) register = ap (λ (n : ℕ). if r == register then at else n) (at_place (at + length (cie_bytes least t ms r)) rs register)
+  at_place at (r ∷ rs) register = ap (λ (n : ℕ). if r == register then at else n) (at_place (at + length (cie_bytes t ms r)) rs register)
 
-  cies_laid : (rs : List ℕ) → flat_map (cie_bytes least t ms) rs ≡ section_bytes t (map cie_of (map (group_of t ms) rs))
+  cies_laid : (rs : List ℕ) → flat_map (cie_bytes t ms) rs ≡ section_bytes t (map cie_of (map (group_of t ms) rs))
   cies_laid [] = refl
-  cies_laid (r ∷ rs) = ap (λ (l : List ℕ). cie_bytes least t ms r ++ l) (cies_laid rs)
+  cies_laid (r ∷ rs) = ap (λ (l : List ℕ). cie_bytes t ms r ++ l) (cies_laid rs)
 
-  fde_laid : (m : Member) → fde_bytes least t ms m ≡ entry_bytes t (layout.fde_of t (groups_of t ms) (part_of t ms m))
+  fde_laid : (m : Member) → fde_bytes t ms m ≡ entry_bytes t (layout.fde_of t (groups_of t ms) (part_of t ms m))
   fde_laid m =
       ap (λ (at : ℕ). written t (fde_fields t at m.begin (m.end - m.begin)) (program_bytes t (fde_instrs (initial_of ms m.register) m))) (at_place 0 (return_registers ms) m.register)
 
-  fdes_laid : (xs : List Member) → flat_map (fde_bytes least t ms) xs ≡ section_bytes t (map (layout.fde_of t (groups_of t ms)) (map (part_of t ms) xs))
+  fdes_laid : (xs : List Member) → flat_map (fde_bytes t ms) xs ≡ section_bytes t (map (layout.fde_of t (groups_of t ms)) (map (part_of t ms) xs))
   fdes_laid [] = refl
   fdes_laid (m ∷ xs) =
-      ap (λ (l : List ℕ). l ++ flat_map (fde_bytes least t ms) xs) (fde_laid m) ∙ ap (λ (l : List ℕ). entry_bytes t (layout.fde_of t (groups_of t ms) (part_of t ms m)) ++ l) (fdes_laid xs)
+      ap (λ (l : List ℕ). l ++ flat_map (fde_bytes t ms) xs) (fde_laid m) ∙ ap (λ (l : List ℕ). entry_bytes t (layout.fde_of t (groups_of t ms) (part_of t ms m)) ++ l) (fdes_laid xs)
 
   pub laid_is : canon t ms ≡ section_bytes t (laid t (groups_of t ms) (parts_of t ms))
   unfolding canon_with
   laid_is =
       let cies = map cie_of (groups_of t ms) in
       let fdes = map (layout.fde_of t (groups_of t ms)) (parts_of t ms) in
-      ap (λ (l : List ℕ). l ++ flat_map (fde_bytes least t ms) ms) (cies_laid (return_registers ms)) ∙ ap (λ (l : List ℕ). section_bytes t cies ++ l) (fdes_laid ms) ∙ sym (section_append t cies fdes)
+      ap (λ (l : List ℕ). l ++ flat_map (fde_bytes t ms) ms) (cies_laid (return_registers ms)) ∙ ap (λ (l : List ℕ). section_bytes t cies ++ l) (fdes_laid ms) ∙ sym (section_append t cies fdes)

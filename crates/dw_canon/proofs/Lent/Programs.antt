@@ -4,7 +4,7 @@ use Rattle.std.specs.Prelude.{nat_lt}
 use Rattle.std.proofs.lemmas.Bool.{le-ltb}
 use Rattle.std.proofs.lemmas.List.{append_assoc, append-nil}
 use Rattle.dw_canon.specs.Members.{Member, changes_of}
-use Rattle.dw_canon.specs.Canon.{fde_instrs}
+use Rattle.dw_canon.specs.Inner.Canon.{fde_instrs}
 use Rattle.dw_num.specs.declared.target.Target.{Target}
 use Rattle.dw_cfa.specs.declared.instr.Instr.{Instr}
 use Rattle.dw_cfa.specs.declared.instr.Instr.TheVariants.{Nop}
@@ -15,7 +15,8 @@ use Rattle.dw_cfa.specs.Rows.{Rules}
 use Rattle.dw_cfa.specs.Inner.Runs.{Placed, here, row_if, fault_or, fde_rows}
 use Rattle.dw_cfa.specs.Runs.{Outcome}
 use Rattle.dw_cfa.proofs.Lent.RowsAt.{instrs_of, Gives}
-use Rattle.dw_canon.specs.Difference.{difference, move, later_changes}
+use Rattle.dw_canon.specs.Difference.{move}
+use Rattle.dw_canon.specs.Inner.Difference.{difference, later_changes}
 use Rattle.dw_section.specs.Inner.Sound.{RowFits}
 use Rattle.dw_canon.specs.Inner.Fits.{RowStands, ChangesStand}
 use Rattle.dw_canon.proofs.Lent.Differences.{Quiet, on, no_half, difference_quiet}

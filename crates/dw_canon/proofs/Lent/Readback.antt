@@ -21,7 +21,7 @@ use Rattle.dw_section.specs.Inner.Agree.{AgreeAt, Agree}
 use Rattle.dw_canon.specs.Inner.Laid.{Group, Part, laid}
 use Rattle.dw_canon.specs.Inner.Laid.{fde_in}
 use Rattle.dw_canon.specs.Inner.Laid.{IsPart, PartsApart, IsLaid, IsPartOf}
-use Rattle.dw_section.specs.Meanings.{IsListed}
+use Rattle.dw_section.specs.Among.{IsAmong}
 use Rattle.dw_canon.specs.Inner.Renders.{IsRendered, Renders, ReadsBack, Readback}
 use Rattle.dw_canon.specs.Inner.Written.{section_bytes}
 use Rattle.dw_canon.proofs.Accepts.{written_accepted, written_fdes}
@@ -75,12 +75,12 @@ parts_apart hs rs ps z h = absurd z
 
 -- ---- members
 
-listed_part : (p : Part) (ps : List Part) → IsPartOf p ps → IsListed (fde_in p) (map fde_in ps)
+listed_part : (p : Part) (ps : List Part) → IsPartOf p ps → IsAmong (fde_in p) (map fde_in ps)
 listed_part p [] i = absurd i
 listed_part p (q ∷ ps) (inl is) = inl (ap fde_in is)
 listed_part p (q ∷ ps) (inr i) = inr (listed_part p ps i)
 
-part_listed : (f : Fde) (ps : List Part) → IsListed f (map fde_in ps) → (p : Part) × IsPartOf p ps × (f ≡ fde_in p)
+part_listed : (f : Fde) (ps : List Part) → IsAmong f (map fde_in ps) → (p : Part) × IsPartOf p ps × (f ≡ fde_in p)
 part_listed f [] i = absurd i
 part_listed f (q ∷ ps) (inl is) = (q, inl refl, is)
 part_listed f (q ∷ ps) (inr i) = let rest = part_listed f ps i in (rest.0, inr rest.1, rest.2)
@@ -186,7 +186,7 @@ module _ (target : Target) (s : List ℕ) (gs : List Group) (ps : List Part) (b 
       meaning = same_meaning target s n b bn ok okn (map fde_in ps) r.fdes in_n all_agree;
       changes = λ fs f changes are listed.
           let same = one_fdes target s fs (map fde_in ps) are r.fdes in
-          let mine = subst (IsListed f) same listed in (
+          let mine = subst (IsAmong f) same listed in (
             changes_there target s n b bn ok okn (map fde_in ps) r.fdes in_n all_agree f changes mine,
             changes_there target n s bn b okn ok (map fde_in ps) in_n r.fdes (all_agree_sym target s n (map fde_in ps) all_agree) f changes mine,
           );

@@ -12,10 +12,11 @@ use Rattle.dw_section.specs.Changes.{AreChanges}
 use Rattle.dw_section.specs.Meaning.{AreFdes, ChangesOf}
 use Rattle.dw_section.proofs.Lent.Registers.{fdes_registers}
 use Rattle.dw_canon.specs.Inner.Laid.{fde_in, HasGroup, GroupsRise, IsGroup}
-use Rattle.dw_section.specs.Meanings.{IsListed}
+use Rattle.dw_section.specs.Among.{IsAmong}
 use Rattle.dw_canon.specs.Inner.Renders.{IsRendered, Renders}
 use Rattle.dw_canon.specs.Inner.Laid.{group_of, part_of, groups_of, parts_of}
-use Rattle.dw_canon.specs.Canon.{return_registers, initial_of, cie_instrs, fde_instrs}
+use Rattle.dw_canon.specs.Canon.{return_registers}
+use Rattle.dw_canon.specs.Inner.Canon.{initial_of, cie_instrs, fde_instrs}
 use Rattle.dw_canon.specs.Inner.Fits.{MemberStands}
 use Rattle.dw_canon.specs.Members.{Member, fde_of, changes_of, IsMember, AreMembers}
 use Rattle.dw_canon.proofs.Lent.Differences.{In}
@@ -74,7 +75,7 @@ module _ (t : Target) (s : List ℕ) (b : AreBytes s) (ok : Accepted t s) (ms : 
   sound : AllByRecursion (IsSound t) ms
   sound = each ms are.each (λ f i. i)
     where
-      each : (xs : List Member) → AllByRecursion (IsMember t s) xs → ((f : Fde) → IsListed f (map fde_of xs) → IsListed f (map fde_of ms)) → AllByRecursion (IsSound t) xs
+      each : (xs : List Member) → AllByRecursion (IsMember t s) xs → ((f : Fde) → IsAmong f (map fde_of xs) → IsAmong f (map fde_of ms)) → AllByRecursion (IsSound t) xs
       each [] h inside = tt
       each (m ∷ xs) h inside = (sound_section t s b ok (map fde_of ms) (fde_of m) (changes_of m) are.fdes (inside (fde_of m) (inl refl)) h.0.changes h.0.listed, each xs h.1 (λ f i. inside f (inr i)))
 

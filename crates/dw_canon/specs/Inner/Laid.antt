@@ -9,7 +9,8 @@ use Rattle.dw_cfa.specs.Kept.{CieKept, FdeKept}
 use Rattle.dw_cfa.specs.Laws.{initial_cfa}
 use Rattle.dw_section.specs.declared.lookup.Fde.{Fde}
 use Rattle.dw_section.specs.Programs.{HasCfa}
-use Rattle.dw_canon.specs.Canon.{return_registers, initial_of, cie_instrs, fde_instrs}
+use Rattle.dw_canon.specs.Canon.{return_registers}
+use Rattle.dw_canon.specs.Inner.Canon.{initial_of, cie_instrs, fde_instrs}
 use Rattle.dw_canon.specs.Inner.Written.{Written, cie, fde, factors, entry_bytes, section_bytes}
 use Rattle.dw_canon.specs.Members.{Member}
 use Rattle.dw_canon.specs.Inner.Spelling.{program_bytes}

@@ -11,7 +11,7 @@ use Rattle.dw_cfa.specs.Rows.{Rules, rule}
 use Rattle.dw_section.specs.Changes.{AreChanges}
 use Rattle.dw_section.specs.Laws.{AreListed}
 use Rattle.dw_section.specs.Inner.Sound.{RowFits}
-use Rattle.dw_canon.specs.Canon.{cie_instrs, fde_instrs}
+use Rattle.dw_canon.specs.Inner.Canon.{cie_instrs, fde_instrs}
 use Rattle.dw_canon.specs.Inner.Fits.{MemberStands}
 use Rattle.dw_canon.specs.Members.{Member, changes_of}
 use Rattle.dw_canon.specs.Inner.Spelling.{program_bytes}

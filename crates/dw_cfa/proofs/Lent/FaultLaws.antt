@@ -1,6 +1,7 @@
 -- A run is refused exactly with the first fault of its programs.
 use Rattle.std.proofs.Common.{◌≡◌, ◌⊎◌, ℕ, ◌+◌, ◌<◌, ◌≤◌, Bool, true, false, cond, List, [], ◌∷◌, length, take, Option, Some, None, Result, Ok, Err, refl, sym, ap, ◌∙◌, subst, inl, inr, arith}
 use Rattle.std.specs.Prelude.{IsTrue, not, nat_lt, count_by}
+use Rattle.std.proofs.lemmas.List.{take_all}
 use Rattle.std.proofs.lemmas.Bool.{lt-ltb, ltb-true, ltb-false, le-ltb}
 use Rattle.dw_num.specs.declared.refusal.Code.{Code}
 use Rattle.dw_num.specs.declared.refusal.Code.TheVariants.{NotInCie, LocationBackwards, LocationTooLarge, EmptyStateStack, StateStackFull, CfaNotRegister}
@@ -18,7 +19,7 @@ use Rattle.dw_cfa.specs.Listing as plain
 use Rattle.dw_cfa.specs.Inner.Listing.{listing}
 use Rattle.dw_cfa.specs.Location.{onto, location_back}
 use Rattle.dw_cfa.specs.Column.{look_back, cfa_change}
-use Rattle.dw_cfa.specs.Kept.{is_remember, is_restore, in_cie, keeps_half, IsRegisterRule, CieKept, FdeKept}
+use Rattle.dw_cfa.specs.Kept.{is_remember, is_restore, in_cie, keeps_half, IsRegisterRule, CieKept, FdeKept, remembered, restored}
 use Rattle.dw_cfa.specs.Laws.{initial_cfa}
 use Rattle.dw_cfa.specs.Behind.{Leaves}
 use Rattle.dw_cfa.specs.Inner.Exact.{InitialLeaves, LeavesInitial, InitialRefused, BehindRefused}
@@ -31,7 +32,6 @@ use Rattle.dw_cfa.proofs.Divided.{divided, joined}
 use Rattle.dw_cfa.proofs.Lent.Forward.{Follows, begun_follows}
 use Rattle.dw_cfa.proofs.Initial.{cie_follows}
 use Rattle.dw_cfa.proofs.Lent.KeptLaws.{CieKeptFrom, cie_kept_from, cie_kept_gives, counted, fde_kept, kept_fde, all_in_limit}
-use Rattle.dw_cfa.specs.Match.{remembered, restored}
 use Rattle.dw_cfa.proofs.Lent.KeptRuns.{Stands, kept_from, kept_gives}
 use Rattle.dw_cfa.proofs.Lent.Listings.{fault_listed}
 use Rattle.dw_cfa.proofs.Lent.RowsAt.{instrs_of, Gives}
@@ -102,8 +102,10 @@ breaks_fault limit begin initial i earlier row stack location code h b =
     broken_half row.cfa i code (subst (λ (c : CfaRule). BreaksHalf c i code) (sym h.follows.row.cfa) b)
 
 -- both ways of counting states
-counted_all : (p : Instr → Bool) (instrs : List Instr) → count_by p (onto [] instrs (length instrs)) ≡ count_by p (take (length instrs) instrs)
-counted_all p instrs = omega (arith, counted p [] instrs (length instrs))
+counted_all : (p : Instr → Bool) (instrs : List Instr) → count_by p (onto [] instrs (length instrs)) ≡ count_by p instrs
+counted_all p instrs =
+    let all : count_by p (take (length instrs) instrs) ≡ count_by p instrs = ap (λ (l : List Instr). count_by p l) (take_all (length instrs) instrs (omega arith)) in
+    omega (arith, counted p [] instrs (length instrs), all)
 
 breaks_to : (limit begin : ℕ) (initial : CfaRule) (instrs : List Instr) (i : Instr) (code : Code) → BreaksFrom limit begin initial (onto [] instrs (length instrs)) i code → FdeBreaks limit begin initial instrs i code
 breaks_to limit begin initial instrs RememberState code b = (b.0, omega (arith, b.1, counted_all is_remember instrs, counted_all is_restore instrs))

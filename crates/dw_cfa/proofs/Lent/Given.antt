@@ -1,6 +1,7 @@
 -- What a run gives is what its programs give, in the standard's terms.
 use Rattle.std.proofs.Common.{◌≡◌, ℕ, suc, ◌≤◌, Bool, true, false, List, [], ◌∷◌, ◌++◌, length, map, Option, Some, None, Result, Ok, Err, refl, sym, ap, ◌∙◌, subst, inl, inr}
 use Rattle.std.specs.Prelude.{if◌then◌else◌, OnOk}
+use Rattle.std.specs.List.{AllZip}
 use Rattle.std.proofs.lemmas.List.{append-nil}
 use Rattle.dw_num.specs.declared.refusal.Code.{Code}
 use Rattle.dw_num.specs.declared.refusal.Refusal.{Refusal}
@@ -18,7 +19,7 @@ use Rattle.dw_cfa.specs.Runs.{Outcome, finished, fails}
 use Rattle.dw_cfa.specs.RowSteps.{Stepping, Answers, Failed, stepping}
 use Rattle.dw_cfa.specs.CieMachine.{Following, with_steps}
 use Rattle.dw_cfa.specs.Faults.{RunFault}
-use Rattle.dw_cfa.specs.Behind.{Leaves, LeavesTo, ends, IsRowAfter, AreRowsAfter, GivesBehind, GivesBefore, GivesUpTo, RunsBehind}
+use Rattle.dw_cfa.specs.Behind.{Leaves, LeavesTo, ends, IsRowAfter, GivesBehind, GivesBefore, GivesUpTo, RunsBehind}
 use Rattle.dw_cfa.specs.Gives.{Gives, RunsTo}
 use Rattle.dw_cfa.specs.RowLaws.{OneRun, RefusedWhereFault, RowsWhereKept, NoneFalls, LastHolds, OneInitial, OneBehind, BehindWhereFault}
 use Rattle.dw_cfa.specs.Inner.Exact.{RulesBehind}
@@ -34,6 +35,10 @@ use Rattle.dw_cfa.proofs.Lent.FaultLaws.{leaves, initial_leaves, leaves_initial,
 use Rattle.dw_cfa.proofs.Lent.BehindLaws.{behind_gives, gives_behind, gives_rows}
 use Rattle.dw_cfa.proofs.Lent.RunLaws.{no_fault, program_placed, none_falls, last_holds}
 use Rattle.dw_cfa.proofs.Lent.SameRows.{same_rows}
+
+-- rows that end after so many instructions each
+abbrev pub AreRowsAfter : Rules → ℕ → List Instr → List ℕ → List LocatedRow → Type 0
+AreRowsAfter initial begin instrs ks rows = AllZip (IsRowAfter initial begin instrs) ks rows
 
 -- ---- a run behind some instructions
 

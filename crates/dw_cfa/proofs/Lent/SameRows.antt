@@ -28,7 +28,7 @@ first_rule x xs = rw (eq_here x.0) refl
 rest_rule : (x : Entry) (xs : List Entry) (r : ℕ) → (x.0 ≡ r → ⊥) → rule_in (x ∷ xs) r ≡ rule_in xs r
 rest_rule x xs r other = elim (eqb_tells x.0 r) [ inl p ↦ absurd (other p.1) | inr p ↦ rw p.0 refl ]
 
-not_specified : (rule : RegRule) → is_specified rule ≡ true → rule ≡ Unspecified → ⊥
+pub not_specified : (rule : RegRule) → is_specified rule ≡ true → rule ≡ Unspecified → ⊥
 not_specified rule is e = let f = ap is_specified e in let g = sym is ∙ f in absurd cc
 
 -- a list that begins later lacks the first register of the other

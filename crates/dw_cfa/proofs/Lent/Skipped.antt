@@ -1,19 +1,13 @@
 -- Tests of the registers whose slots are used leave what tests of all do; and rows that differ at no register are the same.
-use Rattle.std.proofs.Common.{◌≡◌, ℕ, ◌+◌, ◌-◌, ◌<◌, ◌≤◌, Bool, true, false, List, [], ◌∷◌, get_or, Option, Some, None, refl, sym, ap, ◌∙◌, subst, arith, inl, inr}
+use Rattle.std.proofs.Common.{◌≡◌, ℕ, ◌+◌, ◌-◌, ◌<◌, ◌≤◌, Bool, true, false, List, get_or, Option, Some, None, refl, sym, ap, ◌∙◌, arith, inl, inr}
 use Rattle.std.specs.Prelude.{nat_eq, nat_lt, not, is_some, ◌/◌, ◌^◌, IsTrue, ◌↔◌}
 use Rattle.std.specs.Int.{bit_at, trailing_zeros, w32}
-use Rattle.std.specs.Cmp.Lexicographic.{pointwise}
-use Rattle.std.proofs.lemmas.Bool.Decides.{Decides-eqb, Decides-int_eq}
-use Rattle.dw_op.specs.Equality.{expression_lines}
 use Rattle.std.proofs.lemmas.Bool.{cases_lt, lt-ltb, le-ltb, ne_eqb, eq-eqb}
 use Rattle.std.proofs.Math.Nat.{div-le_self}
 use Rattle.std.proofs.lemmas.Nat.Bits.{bit_at-zero, bit_at-trailing_zeros}
-use Rattle.dw_cfa.specs.declared.rule.RegRule.{RegRule}
-use Rattle.dw_cfa.specs.declared.rule.RegRule.TheVariants as rules
 use Rattle.dw_cfa.specs.declared.rule.RegRule.TheVariants.{Unspecified}
 use Rattle.dw_cfa.specs.declared.row.Entries.{Entries}
 use Rattle.dw_cfa.specs.Rows.{AreSpecified, rule_in}
-use Rattle.dw_cfa.specs.Agreement.{same_rule}
 use Rattle.dw_cfa.specs.Inner.Entries.{entries_of, EntriesSo, LeavesAt, LeavesBelow}
 use Rattle.dw_cfa.specs.Difference.{FirstDifference}
 use Rattle.dw_cfa.proofs.Lent.RowLists.{Entry}
@@ -90,30 +84,11 @@ module _ (e : Entries) (so : EntriesSo e) where
             (λ q low high. unused q (omega (arith, inside)) (shifted e.used k q low ∙ z.2 (q - k) (omega arith))) below,
       )
 
--- ---- a rule is the same as itself
-
-pointwise_self : {X : Type 0} (E : X → X → Bool) → ((x : X) → E x x ≡ true) → (xs : List X) → pointwise E xs xs ≡ true
-pointwise_self E e [] = refl
-pointwise_self E e (x ∷ xs) = rw (e x, pointwise_self E e xs) refl
-
-lines_self : (xs : List (List ℕ)) → pointwise (pointwise nat_eq) xs xs ≡ true
-lines_self xs = pointwise_self (pointwise nat_eq) (λ l. pointwise_self nat_eq (λ n. (Decides-eqb n n).1 refl) l) xs
-
-pub rule_self : (a : RegRule) → same_rule a a ≡ true
-rule_self (rules.Offset n) = (Decides-int_eq n n).1 refl
-rule_self (rules.ValOffset n) = (Decides-int_eq n n).1 refl
-rule_self (rules.Register r) = (Decides-eqb r r).1 refl
-rule_self (rules.Expression a) = lines_self (expression_lines a)
-rule_self (rules.ValExpression a) = lines_self (expression_lines a)
-rule_self a = refl
-
 -- rows are the same where no register's rule differs
 pub same_exactly : (xs ys : List Entry) (o : Option ℕ) (none : Bool) → AreSpecified 0 xs → AreSpecified 0 ys → FirstDifference 0 xs ys o → is_some o ≡ not none → IsTrue none ↔ (xs ≡ ys)
 same_exactly xs ys None true up up' h is = ((λ t. same_entries 0 xs ys up up' (λ r. h r (omega arith))), (λ e. refl))
 same_exactly xs ys (Some q) false up up' h is = (
   (λ t. absurd cc),
-  (λ e.
-      let itself : same_rule (rule_in xs q) (rule_in ys q) ≡ true = subst (λ (l : List Entry). same_rule (rule_in xs q) (rule_in l q) ≡ true) e (rule_self (rule_in xs q)) in
-      let differs : same_rule (rule_in xs q) (rule_in ys q) ≡ false = h.2 in absurd cc),
+  (λ e. absurd (h.2 (ap (λ (l : List Entry). rule_in l q) e))),
 )
 same_exactly xs ys o none up up' h is = absurd cc

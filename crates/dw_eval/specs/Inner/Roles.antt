@@ -12,8 +12,8 @@ use Rattle.dw_eval.specs.declared.place.Place.TheVariants.{Register, Bytes}
 use Rattle.dw_eval.specs.declared.place.Role.{Role}
 use Rattle.dw_eval.specs.declared.place.Role.TheVariants.{SetsPlace, SetsValue, AddsPiece, Waits, Computes}
 use Rattle.dw_eval.specs.Context.{Context}
-use Rattle.dw_eval.specs.Effect.{effect}
-use Rattle.dw_eval.specs.Location.{PlaceState, with_piece, with_place, with_stack, place_led, with_value}
+use Rattle.dw_eval.specs.Effect.{effect, leads}
+use Rattle.dw_eval.specs.Location.{PlaceState, with_piece, with_place, with_stack, with_value}
 
 -- what each operation does in a description; a computation names so many entries of the stack, most of them two
 abbrev pub role : Op → Role
@@ -49,7 +49,7 @@ free_by c op (SetsPlace place) s = Ok (with_place place s.stack s)
 free_by c op SetsValue s = with_value s.stack s
 free_by c op (AddsPiece part) s = Ok (with_piece part s)
 free_by c op Waits s = Ok (with_stack (s.index + 1) s.stack s)
-free_by c op (Computes entries) s = place_led s (effect c op s.stack)
+free_by c op (Computes entries) s = leads (λ i stack. with_stack i stack s) s.index (effect c op s.stack)
 
 -- a piece has to follow: the stack is too short, or the piece is missing
 abbrev pub refused_by : ℕ → List ℕ → Result PlaceState Kind

@@ -4,8 +4,8 @@ use Rattle.std.specs.List.{AllByRecursion}
 use Rattle.dw_num.specs.Target.{address_limit}
 use Rattle.dw_num.specs.declared.target.Target.{Target}
 use Rattle.dw_section.specs.Inner.Sound.{RowFits}
-use Rattle.dw_canon.specs.Canon.{initial_of}
-use Rattle.dw_canon.specs.Difference.{difference}
+use Rattle.dw_canon.specs.Inner.Canon.{initial_of}
+use Rattle.dw_canon.specs.Inner.Difference.{difference}
 use Rattle.dw_canon.specs.Inner.Fits.{InstrFits}
 use Rattle.dw_canon.specs.Members.{Member, fde_of}
 use Rattle.dw_normal.specs.Inner.ChangeWalk.{AreToCome, Stand, shown_row}

@@ -3,11 +3,11 @@ use Rattle.std.specs.Prelude.{◌≡◌, ℕ, ◌+◌, ◌<◌, ◌≤◌, List,
 use Rattle.dw_num.specs.declared.target.Target.{Target}
 use Rattle.dw_cfa.specs.Rows.{Rules}
 use Rattle.dw_section.specs.Changes.{Changing, ToCome}
-use Rattle.dw_canon.specs.Difference.{difference, later_changes}
+use Rattle.dw_canon.specs.Inner.Difference.{difference, later_changes}
 use Rattle.dw_canon.specs.Inner.Spelling.{program_bytes}
 use Rattle.dw_canon.specs.Inner.Written.{Written, cie, fde, entry_bytes, section_bytes}
 use Rattle.dw_canon.specs.Inner.Laid.{groups_of, part_of}
-use Rattle.dw_canon.specs.Canon.{cie_instrs, fde_instrs, initial_of}
+use Rattle.dw_canon.specs.Inner.Canon.{cie_instrs, fde_instrs, initial_of}
 use Rattle.dw_canon.specs.Inner.Laid.{fde_of}
 use Rattle.dw_canon.specs.Members.{Member}
 use Rattle.dw_cfa.specs.declared.instr.Instr.{Instr}

@@ -7,7 +7,8 @@ use Rattle.dw_num.specs.declared.target.Target.{Target}
 use Rattle.dw_num.specs.declared.refusal.Refusal.{Refusal}
 use Rattle.dw_num.specs.Input.{Input, AreBytes, Takes, behind}
 use Rattle.dw_num.specs.Leb.{IsLeb, groups, Register, Uleb}
-use Rattle.dw_num.specs.Front.{further, leb_len, uleb_of, uleb_at, register_of, register_at, fault, Read, Reads, ◌>>=◌}
+use Rattle.dw_num.specs.Front.{leb_len, uleb_of, uleb_at, register_of, register_at, fault, Read, Reads, ◌>>=◌}
+use Rattle.dw_num.specs.Inner.Scan.{further}
 use Rattle.dw_num.specs.declared.refusal.Code.TheVariants.{NumberTooLarge, RegisterTooLarge}
 
 IsLeb-cons : (x : ℕ) (bs : List ℕ) → 128 ≤ x → x < 256 → IsLeb bs → IsLeb (x ∷ bs)

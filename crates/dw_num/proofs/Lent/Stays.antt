@@ -7,7 +7,8 @@ use Rattle.dw_num.specs.Input.{Input, behind}
 use Rattle.dw_num.specs.Fixed.{fixed_number}
 use Rattle.dw_num.specs.Leb.{groups, signed_groups}
 use Rattle.dw_num.specs.Target.{byte_count}
-use Rattle.dw_num.specs.Front.{Read, fixed_at, take_at, leb_len, further, uleb_of, uleb_at, sleb_of, sleb_at, address_at, long_length_at, length_of, unit_length_at, fits_signed, register_of, register_at, ◌>>=◌}
+use Rattle.dw_num.specs.Front.{Read, fixed_at, take_at, leb_len, uleb_of, uleb_at, sleb_of, sleb_at, address_at, long_length_at, length_of, unit_length_at, fits_signed, register_of, register_at, ◌>>=◌}
+use Rattle.dw_num.specs.Inner.Scan.{further}
 use Rattle.dw_num.proofs.Lent.LebLaws.{done}
 
 -- j begins in i or at its end, and both end at one place

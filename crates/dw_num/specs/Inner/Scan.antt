@@ -1,5 +1,5 @@
 -- What a scan for the LEB at the front of a list finds.
-use Rattle.std.specs.Prelude.{◌≡◌, ℕ, ◌≤◌, ◌^◌, List, take, length, Option, Some, None, suc, ◌+◌, ◌*◌, [], ◌∷◌, Bool, true, false, ℤ, pos, negsuc, FitsSigned}
+use Rattle.std.specs.Prelude.{◌≡◌, ℕ, ◌≤◌, ◌^◌, List, take, length, Option, Some, None, option_map, suc, ◌+◌, ◌*◌, [], ◌∷◌, Bool, true, false, ℤ, pos, negsuc, FitsSigned}
 use Rattle.std.specs.Int.{w64}
 use Rattle.dw_num.specs.declared.leb.UlebScan.{UlebScan}
 use Rattle.dw_num.specs.declared.leb.UlebScan.TheVariants.{Number, TooLarge, Endless}
@@ -8,6 +8,10 @@ use Rattle.dw_num.specs.declared.leb.SlebScan.TheVariants as signed
 use Rattle.dw_num.specs.Leb.{groups, signed_groups}
 use Rattle.dw_num.specs.Front.{leb_len}
 use Rattle.dw_num.specs.Shortest.{turned}
+
+-- i more
+abbrev pub further : ℕ → Option ℕ → Option ℕ
+further i o = option_map (λ n. i + n) o
 
 abbrev pub IsUlebScan : List ℕ → UlebScan → Type 0
 IsUlebScan bytes (Number v n) = (leb_len bytes ≡ Some n) × (v ≡ groups (take n bytes)) × (n ≤ length bytes)

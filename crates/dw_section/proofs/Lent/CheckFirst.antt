@@ -6,7 +6,7 @@ use Rattle.dw_num.specs.declared.refusal.Code.TheVariants.{Overlap}
 use Rattle.dw_num.specs.declared.refusal.Refusal.{Refusal}
 use Rattle.dw_num.specs.declared.target.Target.{Target}
 use Rattle.dw_num.specs.Input.{AreBytes}
-use Rattle.dw_num.specs.Span.{Span}
+use Rattle.dw_num.specs.Span.{Span, input_of}
 use Rattle.dw_num.specs.declared.error.ReadError.{ReadError}
 use Rattle.dw_num.specs.declared.error.ReadError.TheVariants.{Refused, OutOfMemory}
 use Rattle.dw_num.specs.Refusals.{Refuses}
@@ -21,8 +21,9 @@ use Rattle.dw_cfa.specs.Laws.{initial_cfa}
 use Rattle.dw_section.specs.Stage.{FirstStuck, Then}
 use Rattle.dw_section.specs.Headers.{Head, cie, fde, Headers, HeadersFault}
 use Rattle.dw_section.specs.Inner.Heads.{HeadsRise, FdeFits, HasBytes, cie_ats}
-use Rattle.dw_section.specs.Overlap.{Range, IsIn, IsIndex, AreApart, FirstOverlap, end_of}
-use Rattle.dw_section.specs.Programs.{input_of, Instrs, CieRuns, CieBroken, FdeRuns, FdeBroken, HasRules, LacksRule, factors_of}
+use Rattle.dw_section.specs.Overlap.{Range, IsIndex, AreApart, FirstOverlap, end_of}
+use Rattle.dw_section.specs.Among.{IsAmong}
+use Rattle.dw_section.specs.Programs.{Instrs, CieRuns, CieBroken, FdeRuns, FdeBroken, HasRules, LacksRule, factors_of}
 use Rattle.dw_section.specs.Accepted.{CiesRun, FdesRun, RulesHold, Indexed, Accepted, CieProgramsFault, FdeProgramsFault, RulesFault, CheckFault}
 use Rattle.dw_section.proofs.Cfa.{cie_fault_apart, cie_fault_one, fde_fault_apart, fde_fault_one, one_program}
 use Rattle.dw_section.proofs.FirstFault.{then_apart, then_one, one_fault}
@@ -188,7 +189,7 @@ module _ (target : Target) (s : List ℕ) (b : AreBytes s) where
 
 -- ---- overlaps
 
-apart_at : (before : List Range) (it : Range) (after : List Range) (other : Range) → AreApart (before ++ it ∷ after) → IsIn other before → end_of other ≤ it.begin
+apart_at : (before : List Range) (it : Range) (after : List Range) (other : Range) → AreApart (before ++ it ∷ after) → IsAmong other before → end_of other ≤ it.begin
 apart_at [] it after other h i = absurd i
 apart_at (b ∷ before) it after other h (inl is) = subst (λ (x : Range). end_of x ≤ it.begin) (sym is) (holds_at (λ (x : Range). end_of b ≤ x.begin) before it after h.0)
 apart_at (b ∷ before) it after other h (inr i) = apart_at before it after other h.1 i

@@ -21,11 +21,14 @@ use Rattle.dw_section.specs.Changes.{HoldsAt, ChangesBehind, AreChanges, Before,
 use Rattle.dw_section.specs.Laws.{OneToCome}
 use Rattle.dw_section.specs.Inner.Heads.{HasBytes}
 use Rattle.dw_section.specs.Meaning.{Says, AreFdes, ChangesOf}
-use Rattle.dw_section.specs.Programs.{CieRuns, Begins, input_of, factors_of}
+use Rattle.dw_section.specs.Programs.{CieRuns, Begins, factors_of}
+use Rattle.dw_num.specs.Span.{input_of}
 use Rattle.dw_section.proofs.Lent.ChangeLaws.{changes_found}
 use Rattle.dw_section.proofs.Lent.Heads.{all_in, heads_rise, heads_bytes, one_begin}
-use Rattle.dw_section.specs.Meanings.{IsListed, SameMeaning}
-use Rattle.dw_section.proofs.RowEquality.{row_told}
+use Rattle.dw_section.specs.Meanings.{SameMeaning}
+use Rattle.dw_section.specs.Among.{IsAmong}
+use Rattle.dw_cfa.specs.Inner.RowEquality.{same_rows, rows_tell}
+use Rattle.dw_cfa.proofs.Lent.Equal.{told_of}
 use Rattle.dw_section.proofs.Lent.Rowed.{IsListedRow, one_listed, agree_row}
 use Rattle.dw_section.proofs.Lent.Sames.{AllAgree, one_list, changes_there}
 use Rattle.dw_section.proofs.Lent.Sections.{hs, headers_of, here, one_programs, kept_programs, begin_low, row_exists, rules_programs, programs_rules, programs_changes, listed_programs}
@@ -42,7 +45,7 @@ before_told end a (next ∷ rows) = elim (cases_lt a next.location) [
 
 shown_told : (shown : Option Rules) (row : Rules) → (shown ≡ Some row) ⊎ (shown ≡ Some row → ⊥)
 shown_told None row = inr (λ e. cc)
-shown_told (Some before) row = elim (row_told before row) [ inl same ↦ inl (ap Some same) | inr other ↦ inr (λ e. other cc) ]
+shown_told (Some before) row = elim (told_of same_rows rows_tell before row) [ inl same ↦ inl (ap Some same) | inr other ↦ inr (λ e. other cc) ]
 
 pub among_exists : (end : ℕ) (shown : Option Rules) (rows : List LocatedRow) → (changes : List (ℕ × Rules)) × Among end shown rows changes
 among_exists end shown [] = ([], refl)
@@ -70,7 +73,7 @@ among_one end shown (row ∷ rows) xs ys (inr v) (inr w) =
 pub one_to_come : OneToCome
 one_to_come c =
     let some = among_exists c.end c.shown c.rows in
-    record { changes = some.0; come = some.1; only = λ others h. among_one c.end c.shown c.rows others some.0 h some.1 }
+    record { value = some.0; holds = some.1; only = λ others h. among_one c.end c.shown c.rows others some.0 h some.1 }
 
 -- ---- of an FDE
 
@@ -131,7 +134,7 @@ module _ (target : Target) (s : List ℕ) (b : AreBytes s) (ok : Accepted target
       listed_changes i j begin end (λ a le. row_exists target s b ok begin end a i j h le) among.0 all
 
   -- so each FDE that is listed has
-  pub listed_change : (fs : List Fde) (f : Fde) → AreFdes target s fs → IsListed f fs → (changes : List (ℕ × Rules)) × ChangesOf target s f changes × AllByRecursion IsListedRow changes
+  pub listed_change : (fs : List Fde) (f : Fde) → AreFdes target s fs → IsAmong f fs → (changes : List (ℕ × Rules)) × ChangesOf target s f changes × AllByRecursion IsListedRow changes
   listed_change fs f are listed =
       let p = listed_programs target s b ok fs f are listed in
       let programs = p.1 in
@@ -156,5 +159,5 @@ module _ (target : Target) (s t : List ℕ) (bs : AreBytes s) (bt : AreBytes t) 
       agree_row f.begin a i j k l row.0 row.1 holds
 
   -- so they have the same changes
-  pub meaning_changes : (fs : List Fde) (f : Fde) (changes : List (ℕ × Rules)) → AreFdes target s fs → IsListed f fs → ChangesOf target s f changes → ChangesOf target t f changes
+  pub meaning_changes : (fs : List Fde) (f : Fde) (changes : List (ℕ × Rules)) → AreFdes target s fs → IsAmong f fs → ChangesOf target s f changes → ChangesOf target t f changes
   meaning_changes fs f changes are listed = changes_there target s t bs bt oks okt fs are ((same.fdes fs).0 are) (meaning_agree fs) f changes listed

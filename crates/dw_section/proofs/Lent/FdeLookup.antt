@@ -10,7 +10,7 @@ use Rattle.dw_section.specs.Headers.{Head, CieHead, FdeHead}
 use Rattle.dw_section.specs.Inner.Heads.{HeadsRise}
 use Rattle.dw_section.specs.Ranges.{IsRanged, range_in, fde_in, IsTable}
 use Rattle.dw_section.specs.Meaning.{Returns, Lists, AreFdes, Covers, NoneCovers}
-use Rattle.dw_section.specs.Meanings.{IsListed}
+use Rattle.dw_section.specs.Among.{IsAmong}
 use Rattle.dw_section.specs.Overlap.{Range, Precedes, Ascends, AreApart, IsIndex, end_of}
 use Rattle.dw_section.specs.Inner.Table.{IsKept}
 use Rattle.dw_section.specs.declared.entry.EntryCounts.{EntryCounts}
@@ -99,7 +99,7 @@ covers_listed a (e ∷ list) zero lt h = (omega arith, λ d. h e)
 covers_listed a (e ∷ list) (suc i) lt h = let rest = covers_listed a list i (omega arith) h in (omega (arith, rest.0), rest.1)
 
 -- an FDE at a place of a list is listed
-pub fde_listed : (f : Fde) (fs : List Fde) (i : ℕ) → i < length fs → ((d : Fde) → f ≡ get_or fs i d) → IsListed f fs
+pub fde_listed : (f : Fde) (fs : List Fde) (i : ℕ) → i < length fs → ((d : Fde) → f ≡ get_or fs i d) → IsAmong f fs
 fde_listed f [] i lt is = absurd (omega arith)
 fde_listed f (x ∷ fs) zero lt is = inl (is x)
 fde_listed f (x ∷ fs) (suc i) lt is = inr (fde_listed f fs i (omega arith) is)

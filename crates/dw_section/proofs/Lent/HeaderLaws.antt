@@ -23,8 +23,8 @@ use Rattle.dw_section.specs.Stage.{FirstStuck}
 use Rattle.dw_section.specs.Inner.Stage.{Answers}
 use Rattle.dw_section.specs.Fields.{Fields, cie_fields, fde_fields, FieldsFault}
 use Rattle.dw_section.specs.Inner.Fields.{cie_fields_at, fde_fields_at}
-use Rattle.dw_section.specs.Inner.PieceHeader.{program_of, cie_of_piece, cie_at, fde_of_piece, fde_at}
-use Rattle.dw_section.specs.Headers.{Head, cie_head, fde_head, HasFields, IsCie, IsFde, Has, Headers, contents_of, CieHolds, CieStuck, FdeHolds, FdeStuck, HeadersFault}
+use Rattle.dw_section.specs.Inner.PieceHeader.{program_of, cie_of_piece, cie_at, fde_of_piece, fde_at, contents_of}
+use Rattle.dw_section.specs.Headers.{Head, cie_head, fde_head, HasFields, IsCie, IsFde, Has, Headers, CieHolds, CieStuck, FdeHolds, FdeStuck, HeadersFault}
 use Rattle.dw_section.proofs.FieldLaws.{AreNumbers, fields_at, fault_read, read_fault, fields_found, fields_again}
 use Rattle.dw_section.proofs.Lent.FieldTable.{then_then, cie_same, fde_same, cie_numbers, fde_numbers}
 use Rattle.dw_num.proofs.Lent.Steps.{take_again}

@@ -13,11 +13,12 @@ use Rattle.dw_cfa.specs.declared.instr.Instr.{Instr}
 use Rattle.dw_cfa.specs.InstrSpells.{Program}
 use Rattle.dw_cfa.proofs.Lent.InstrLaws.{front_bytes}
 use Rattle.dw_section.specs.Cut.{Item, gap, entry, Piece, pieces, item_bytes, all_bytes}
-use Rattle.dw_section.specs.Places.{cie_place, cie_places}
+use Rattle.dw_section.specs.Places.{place_if, cie_places}
 use Rattle.dw_section.specs.Inner.Places.{Rises}
 use Rattle.dw_section.specs.Headers.{Head, cie, fde, Has, Headers, CieHead, FdeHead}
 use Rattle.dw_section.specs.Inner.Heads.{head_at, cie_at_of, cie_ats, HeadsRise, FdeFits, HasBytes}
-use Rattle.dw_section.specs.Programs.{IsAmong, Begins, factors_of}
+use Rattle.dw_section.specs.Programs.{Begins, factors_of}
+use Rattle.dw_section.specs.Among.{IsAmong}
 use Rattle.dw_section.proofs.Items.{item_some}
 use Rattle.dw_section.proofs.Lent.HeaderLaws.{pieces_rise as places_of_pieces}
 use Rattle.dw_section.proofs.Cfa.{one_program}
@@ -122,13 +123,13 @@ all_fit target places [] [] z = tt
 all_fit target places (p ∷ ps) (h ∷ hs) z = (has_fits target places p h z.0, all_fit target places ps hs z.1)
 all_fit target places ps hs z = absurd z
 
-has_place : (target : Target) (places : List ℕ) (p : Piece) (h : Head) → Has target places p h → cie_at_of h ≡ cie_place p
+has_place : (target : Target) (places : List ℕ) (p : Piece) (h : Head) → Has target places p h → cie_at_of h ≡ place_if p.kind p.at
 has_place target places p h (inl c) = rw (c.3, c.2.0) refl
 has_place target places p h (inr c) = rw (c.3, c.2.0) refl
 
 pub same_places : (target : Target) (places : List ℕ) (ps : List Piece) (hs : List Head) → AllZip (Has target places) ps hs → cie_ats hs ≡ cie_places ps
 same_places target places [] [] z = refl
-same_places target places (p ∷ ps) (h ∷ hs) z = rw (has_place target places p h z.0) (ap (λ (l : List ℕ). cons_option (cie_place p) l) (same_places target places ps hs z.1))
+same_places target places (p ∷ ps) (h ∷ hs) z = rw (has_place target places p h z.0) (ap (λ (l : List ℕ). cons_option (place_if p.kind p.at) l) (same_places target places ps hs z.1))
 same_places target places ps hs z = absurd z
 
 pub heads_fit : (target : Target) (s : List ℕ) (hs : List Head) → Headers target s hs → AllByRecursion (FdeFits target (cie_ats hs)) hs

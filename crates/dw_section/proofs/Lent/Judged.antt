@@ -31,7 +31,8 @@ use Rattle.dw_section.specs.Headers.{Head, fde, FdeHead}
 use Rattle.dw_section.specs.Inner.Heads.{head_at, cie_at_of, cie_ats}
 use Rattle.dw_section.specs.Inner.Initials.{or_place, place_of, IsInitial, IsBehind, AreInitials, HasOrLacks, FirstLacking, initial_head}
 use Rattle.dw_section.specs.Inner.Places.{Rises}
-use Rattle.dw_section.specs.Programs.{input_of, Begins, Instrs, CieRuns, FdeRuns, FdeBroken, HasRules, LacksRule}
+use Rattle.dw_section.specs.Programs.{Begins, Instrs, CieRuns, FdeRuns, FdeBroken, HasRules, LacksRule}
+use Rattle.dw_num.specs.Span.{input_of}
 use Rattle.dw_cfa.proofs.Lent.InstrCounts.{counts_exists}
 use Rattle.dw_section.proofs.Covered.{lacks_found, lacks_none, unset_is, is_unset_of}
 use Rattle.dw_section.proofs.Stages.{all_push}

@@ -8,7 +8,7 @@ use Rattle.dw_section.specs.Accepted.{Accepted}
 use Rattle.dw_section.specs.Headers.{CieHead, FdeHead, cie, fde}
 use Rattle.dw_section.specs.Meaning.{Says, HasLengths}
 use Rattle.dw_section.specs.Overlap.{Range, range_of}
-use Rattle.dw_section.specs.Programs.{IsAmong}
+use Rattle.dw_section.specs.Among.{IsAmong}
 use Rattle.dw_section.proofs.Lent.HeaderLaws.{one_headers}
 use Rattle.dw_section.proofs.Lent.Heads.{heads_rise, one_among, cie_or, fde_or}
 use Rattle.dw_section.proofs.Lent.Sections.{hs, index, headers_of, here, in_index, one_cover}

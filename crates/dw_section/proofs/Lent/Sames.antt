@@ -11,7 +11,8 @@ use Rattle.dw_section.specs.Changes.{HoldsAt, AreChanges}
 use Rattle.dw_section.specs.Meaning.{Says, AreFdes, RulesAt, ChangesOf}
 use Rattle.dw_section.proofs.Lent.FdeLookup.{one_fdes}
 use Rattle.dw_section.specs.Inner.Agree.{Agree}
-use Rattle.dw_section.specs.Meanings.{IsListed, SameMeaning}
+use Rattle.dw_section.specs.Meanings.{SameMeaning}
+use Rattle.dw_section.specs.Among.{IsAmong}
 use Rattle.dw_section.proofs.Lent.Agrees.{agree_sym, holds_agree, changes_agree}
 use Rattle.dw_section.proofs.Lent.Rowed.{SameChange, one_changes}
 use Rattle.dw_section.proofs.Lent.Sections.{one_programs, rules_programs, programs_rules, changes_programs, programs_changes, listed_programs, programs_listed}
@@ -27,7 +28,7 @@ one_list target s b ok f xs ys some v w =
 -- programs of the same FDEs agree
 abbrev pub AllAgree : Target → List ℕ → List ℕ → List Fde → Type 0
 AllAgree target s t fs =
-    (f : Fde) → IsListed f fs → (i j k l : List Instr) → Says target s f.begin f.end i j → Says target t f.begin f.end k l → Agree f.begin f.end i j k l
+    (f : Fde) → IsAmong f fs → (i j k l : List Instr) → Says target s f.begin f.end i j → Says target t f.begin f.end k l → Agree f.begin f.end i j k l
 
 pub all_agree_sym : (target : Target) (s t : List ℕ) (fs : List Fde) → AllAgree target s t fs → AllAgree target t s fs
 all_agree_sym target s t fs h f listed i j k l p q a le lt = agree_sym f.begin a k l i j (h f listed k l i j q p a le lt)
@@ -51,7 +52,7 @@ module _ (target : Target) (s t : List ℕ) (bs : AreBytes s) (bt : AreBytes t) 
       let holds = subst (λ (n : ℕ). HoldsAt p.initial p.instrs n a row) (sym begins) p.holds in
       programs_rules target t bt okt f.begin f.end a there.0 there.1 row there.2 le lt (holds_agree f.begin a p.initial p.instrs there.0 there.1 row le (agree f listed.1 p.initial p.instrs there.0 there.1 mine there.2 a le lt) holds)
 
-  pub changes_there : (f : Fde) (changes : List (ℕ × Rules)) → IsListed f fs → ChangesOf target s f changes → ChangesOf target t f changes
+  pub changes_there : (f : Fde) (changes : List (ℕ × Rules)) → IsAmong f fs → ChangesOf target s f changes → ChangesOf target t f changes
   changes_there f changes listed h =
       let p = changes_programs target s bs oks f changes h in
       let all = listed_programs target t bt okt fs f in_t listed in

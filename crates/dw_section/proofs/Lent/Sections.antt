@@ -22,23 +22,25 @@ use Rattle.dw_section.specs.Fields.{is_among}
 use Rattle.dw_section.specs.Headers.{Head, Headers, CieHead, FdeHead, cie, fde}
 use Rattle.dw_section.specs.Inner.Heads.{HeadsRise, HasBytes, FdeFits, cie_ats}
 use Rattle.dw_section.specs.Meaning.{Says, Lists, AreFdes, RulesAt, ChangesOf, Covers}
-use Rattle.dw_section.specs.Overlap.{Range, nonempty, IsIn, IsIndex, AreApart, end_of, range_of}
-use Rattle.dw_section.specs.Programs.{IsAmong, CieRuns, FdeRuns, HasRules, Begins, Instrs, HasCfa, input_of, factors_of}
+use Rattle.dw_section.specs.Overlap.{Range, nonempty, IsIndex, AreApart, end_of, range_of}
+use Rattle.dw_section.specs.Programs.{CieRuns, FdeRuns, HasRules, Begins, Instrs, HasCfa, factors_of}
+use Rattle.dw_num.specs.Span.{input_of}
+use Rattle.dw_section.specs.Among.{IsAmong}
 use Rattle.dw_section.proofs.Lent.CheckFirst.{one_instrs}
 use Rattle.dw_section.proofs.Lent.HeaderLaws.{one_headers}
 use Rattle.dw_section.proofs.Lent.Heads.{all_in, heads_rise, heads_bytes, heads_fit, one_among, one_begin, fde_or}
 use Rattle.dw_section.proofs.Lent.Index.{all_at, all_from, one_index, with_range_so}
-use Rattle.dw_section.specs.Meanings.{IsListed, SameRow}
+use Rattle.dw_section.specs.Meanings.{SameRow}
 use Rattle.dw_section.proofs.Lent.Rowed.{one_row}
 
 -- ---- ranges and headers
 
-pub head_range : (hs : List Head) (f : FdeHead) → 0 < f.range → IsAmong (fde f) hs → IsIn (range_of f) (nonempty hs)
+pub head_range : (hs : List Head) (f : FdeHead) → 0 < f.range → IsAmong (fde f) hs → IsAmong (range_of f) (nonempty hs)
 head_range [] f some i = absurd i
 head_range (cie c ∷ hs) f some (inl is) = absurd cc
 head_range (cie c ∷ hs) f some (inr i) = head_range hs f some i
 head_range (fde g ∷ hs) f some i =
-    with_range_so (λ (rs : List Range). IsIn (range_of f) rs) (range_of g) (nonempty hs)
+    with_range_so (λ (rs : List Range). IsAmong (range_of f) rs) (range_of g) (nonempty hs)
     (λ none. elim i [ inl is ↦ absurd (omega (arith, none, ap (λ (h : Head). (fde_or g h).range) is)) | inr j ↦ head_range hs f some j ])
     (λ more. elim i [ inl is ↦ inl (ap (λ (h : Head). range_of (fde_or g h)) is) | inr j ↦ inr (head_range hs f some j) ])
 
@@ -52,18 +54,18 @@ pub record HeadOf (hs : List Head) (a : Range) : Type 0 where
 more_head : (h : Head) (hs : List Head) (a : Range) → HeadOf hs a → HeadOf (h ∷ hs) a
 more_head h hs a o = record { head = o.head; among = inr o.among; covers = o.covers; some = o.some }
 
-pub range_head : (hs : List Head) (a : Range) → IsIn a (nonempty hs) → HeadOf hs a
+pub range_head : (hs : List Head) (a : Range) → IsAmong a (nonempty hs) → HeadOf hs a
 range_head [] a i = absurd i
 range_head (cie c ∷ hs) a i = more_head (cie c) hs a (range_head hs a i)
 range_head (fde f ∷ hs) a i =
-    with_range_so (λ (rs : List Range). IsIn a rs → HeadOf (fde f ∷ hs) a) (range_of f) (nonempty hs) (λ none j. more_head (fde f) hs a (range_head hs a j))
+    with_range_so (λ (rs : List Range). IsAmong a rs → HeadOf (fde f ∷ hs) a) (range_of f) (nonempty hs) (λ none j. more_head (fde f) hs a (range_head hs a j))
     (λ some. elim [
       | inl is ↦ record { head = f; among = inl refl; covers = sym is; some = omega (arith, some, ap (λ (x : Range). x.range) is) }
       | inr j ↦ more_head (fde f) hs a (range_head hs a j)
     ]) i
 
 -- an address lies in one range
-pub one_cover : (rs : List Range) (x y : Range) (a : ℕ) → AreApart rs → IsIn x rs → IsIn y rs → x.begin ≤ a → a < end_of x → y.begin ≤ a → a < end_of y → x ≡ y
+pub one_cover : (rs : List Range) (x y : Range) (a : ℕ) → AreApart rs → IsAmong x rs → IsAmong y rs → x.begin ≤ a → a < end_of x → y.begin ≤ a → a < end_of y → x ≡ y
 one_cover [] x y a apart i j fx bx fy by = absurd i
 one_cover (z ∷ rs) x y a apart (inl i) (inl j) fx bx fy by = i ∙ sym j
 one_cover (z ∷ rs) x y a apart (inl i) (inr j) fx bx fy by =
@@ -95,13 +97,13 @@ cie_among (fde f ∷ hs) at e = more_cie (fde f) hs at (cie_among hs at e)
 
 -- ---- lists side by side
 
-pub zip_left : (R : Range → Fde → Type 0) (rs : List Range) (fs : List Fde) (a : Range) → AllZip R rs fs → IsIn a rs → (f : Fde) × IsListed f fs × R a f
+pub zip_left : (R : Range → Fde → Type 0) (rs : List Range) (fs : List Fde) (a : Range) → AllZip R rs fs → IsAmong a rs → (f : Fde) × IsAmong f fs × R a f
 zip_left R [] fs a z i = absurd i
 zip_left R (r ∷ rs) [] a z i = absurd z
 zip_left R (r ∷ rs) (f ∷ fs) a z (inl is) = (f, inl refl, subst (λ (x : Range). R x f) (sym is) z.0)
 zip_left R (r ∷ rs) (f ∷ fs) a z (inr i) = let rest = zip_left R rs fs a z.1 i in (rest.0, inr rest.1, rest.2)
 
-pub zip_right : (R : Range → Fde → Type 0) (rs : List Range) (fs : List Fde) (f : Fde) → AllZip R rs fs → IsListed f fs → (a : Range) × IsIn a rs × R a f
+pub zip_right : (R : Range → Fde → Type 0) (rs : List Range) (fs : List Fde) (f : Fde) → AllZip R rs fs → IsAmong f fs → (a : Range) × IsAmong a rs × R a f
 zip_right R rs [] f z i = absurd i
 zip_right R [] (g ∷ fs) f z i = absurd z
 zip_right R (r ∷ rs) (g ∷ fs) f z (inl is) = (r, inl refl, subst (R r) (sym is) z.0)
@@ -148,8 +150,8 @@ module _ (target : Target) (s : List ℕ) (b : AreBytes s) (ok : Accepted target
         spelled = subst (λ (l : List Head). Instrs target l h.head.cie_at h.head.program i j) same h.spelled;
       }
 
-  pub in_index : (f : FdeHead) → 0 < f.range → IsAmong (fde f) hs → IsIn (range_of f) index
-  in_index f some among = all_at (λ a. IsIn a index) (nonempty hs) (range_of f) ok.1.2.all (head_range hs f some among)
+  pub in_index : (f : FdeHead) → 0 < f.range → IsAmong (fde f) hs → IsAmong (range_of f) index
+  in_index f some among = all_at (λ a. IsAmong a index) (nonempty hs) (range_of f) ok.1.2.all (head_range hs f some among)
 
   -- at an address two FDEs are one
   pub record SamePrograms (begin end from till : ℕ) (i j k l : List Instr) : Type 0 where
@@ -283,10 +285,10 @@ module _ (target : Target) (s : List ℕ) (b : AreBytes s) (ok : Accepted target
       let runs = all_in (FdeRuns target hs) hs (fde o.head) ok.1.1.0.1 o.among in
       (runs.0, runs.1, record { headers = hs; are = headers_of; head = o.head; among = o.among; begin_is = ap (λ (r : Range). r.begin) (sym o.covers); end_is = ap end_of (sym o.covers); spelled = runs.2 })
 
-  index_head : (a : Range) → IsIn a index → HeadOf hs a
-  index_head a i = range_head hs a (all_at (λ x. IsIn x (nonempty hs)) index a ok.1.2.from i)
+  index_head : (a : Range) → IsAmong a index → HeadOf hs a
+  index_head a i = range_head hs a (all_at (λ x. IsAmong x (nonempty hs)) index a ok.1.2.from i)
 
-  list_one : (a : Range) → IsIn a index → (f : Fde) × Lists hs a f
+  list_one : (a : Range) → IsAmong a index → (f : Fde) × Lists hs a f
   list_one a i =
       let o = index_head a i in
       let fits = all_in (FdeFits target (cie_ats hs)) hs (fde o.head) (heads_fit target s hs headers_of) o.among in
@@ -313,7 +315,7 @@ module _ (target : Target) (s : List ℕ) (b : AreBytes s) (ok : Accepted target
       subst (λ (rs : List Range). AllZip (Lists hs) rs fs) same_index (subst (λ (l : List Head). AllZip (Lists l) h.index fs) same h.each)
 
   -- an FDE of the list is not empty and has programs
-  pub listed_programs : (fs : List Fde) (f : Fde) → AreFdes target s fs → IsListed f fs → (f.begin < f.end) × ((i : List Instr) × (j : List Instr) × Says target s f.begin f.end i j)
+  pub listed_programs : (fs : List Fde) (f : Fde) → AreFdes target s fs → IsAmong f fs → (f.begin < f.end) × ((i : List Instr) × (j : List Instr) × Says target s f.begin f.end i j)
   listed_programs fs f h l =
       let z = zip_right (Lists hs) index fs f (fdes_zip fs h) l in
       let a = z.0 in
@@ -323,14 +325,14 @@ module _ (target : Target) (s : List ℕ) (b : AreBytes s) (ok : Accepted target
       (omega (arith, lists.begin, lists.end, o.some), (p.0, p.1, subst (λ (n : ℕ). Says target s n f.end p.0 p.1) (sym lists.begin) (subst (λ (n : ℕ). Says target s a.begin n p.0 p.1) (sym lists.end) p.2)))
 
   -- and an FDE that is not empty is in the list
-  pub programs_listed : (fs : List Fde) (begin end : ℕ) (i j : List Instr) → AreFdes target s fs → begin < end → Says target s begin end i j → (f : Fde) × IsListed f fs × (f.begin ≡ begin) × (f.end ≡ end)
+  pub programs_listed : (fs : List Fde) (begin end : ℕ) (i j : List Instr) → AreFdes target s fs → begin < end → Says target s begin end i j → (f : Fde) × IsAmong f fs × (f.begin ≡ begin) × (f.end ≡ end)
   programs_listed fs begin end i j h lt p =
       let x = here begin end i j p in
       let z = zip_left (Lists hs) index fs (range_of x.head) (fdes_zip fs h) (in_index x.head (omega (arith, x.begin_is, x.end_is)) x.among) in
       (z.0, z.1, z.2.begin ∙ sym x.begin_is, z.2.end ∙ sym x.end_is)
 
   -- each address of an FDE has rules, with a row that lists each register once
-  pub rules_exist : (fs : List Fde) (f : Fde) (a : ℕ) → AreFdes target s fs → IsListed f fs → Covers a f → (row : Rules) × RulesAt target s a row × AreSpecified 0 row.registers
+  pub rules_exist : (fs : List Fde) (f : Fde) (a : ℕ) → AreFdes target s fs → IsAmong f fs → Covers a f → (row : Rules) × RulesAt target s a row × AreSpecified 0 row.registers
   rules_exist fs f a are listed covers =
       let p = (listed_programs fs f are listed).1 in
       let row = row_exists f.begin f.end a p.0 p.1 p.2 covers.0 in

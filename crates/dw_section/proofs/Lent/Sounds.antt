@@ -21,7 +21,7 @@ use Rattle.dw_op.specs.Expression.{Expression}
 use Rattle.dw_section.specs.declared.lookup.Fde.{Fde}
 use Rattle.dw_section.specs.Changes.{HoldsAt, ChangesBehind, AreChanges}
 use Rattle.dw_section.proofs.Lent.Registers.{fdes_registers}
-use Rattle.dw_section.specs.Meanings.{IsListed}
+use Rattle.dw_section.specs.Among.{IsAmong}
 use Rattle.dw_section.specs.Inner.Sound.{HasBlock, CfaFits, RuleFits, RowFits, ChangeFits, Steps, AllStep, SoundSection}
 use Rattle.dw_section.proofs.Lent.Rowed.{holds_on}
 use Rattle.dw_section.proofs.Lent.Sections.{here, cfa_programs, begin_low, changes_programs, listed_programs}
@@ -209,7 +209,7 @@ all_two : {X : Type 0} (P Q R : X → Type 0) → ((x : X) → P x → Q x → R
 all_two P Q R to [] h k = tt
 all_two P Q R to (x ∷ xs) h k = (to x h.0 k.0, all_two P Q R to xs h.1 k.1)
 
-listed_in : (P : Fde → Type 0) (fs : List Fde) (f : Fde) → AllByRecursion P fs → IsListed f fs → P f
+listed_in : (P : Fde → Type 0) (fs : List Fde) (f : Fde) → AllByRecursion P fs → IsAmong f fs → P f
 listed_in P [] f h i = absurd i
 listed_in P (g ∷ fs) f h (inl is) = subst P (sym is) h.0
 listed_in P (g ∷ fs) f h (inr i) = listed_in P fs f h.1 i

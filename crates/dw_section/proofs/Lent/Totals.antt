@@ -14,7 +14,7 @@ use Rattle.dw_section.specs.Meaning.{Says, Lists, AreFdes, ChangesOf, Starts, Ro
 use Rattle.dw_section.specs.Overlap.{Range, IsIndex, end_of}
 use Rattle.dw_section.proofs.Lent.HeaderLaws.{one_headers}
 use Rattle.dw_section.proofs.Lent.Index.{one_index}
-use Rattle.dw_section.specs.Meanings.{IsListed}
+use Rattle.dw_section.specs.Among.{IsAmong}
 use Rattle.dw_cfa.specs.declared.execution.LocatedRow.{LocatedRow}
 use Rattle.dw_section.specs.Changes.{Among}
 use Rattle.dw_section.proofs.Lent.ChangeLaws.{changes_found}
@@ -68,7 +68,7 @@ module _ (target : Target) (s : List ℕ) (b : AreBytes s) (ok : Accepted target
   starts_all (r ∷ rs) (f ∷ fs) (n ∷ ns) (l ∷ lists) some z w c = let rest = starts_all rs fs ns lists some.1 z.1 w.1 c.1 in let here = starts_one r f n l some.0 z.0 w.0 c.0 in omega arith
   starts_all rs fs ns lists some z w c = absurd assumption
 
-  some_all : (fs gs : List Fde) → AreFdes target s gs → ((f : Fde) → IsListed f fs → IsListed f gs) → AllByRecursion (λ (f : Fde). f.begin < f.end) fs
+  some_all : (fs gs : List Fde) → AreFdes target s gs → ((f : Fde) → IsAmong f fs → IsAmong f gs) → AllByRecursion (λ (f : Fde). f.begin < f.end) fs
   some_all [] gs are into = tt
   some_all (f ∷ fs) gs are into = ((listed_programs target s b ok gs f are (into f (inl refl))).0, some_all fs gs are (λ g i. into g (inr i)))
 

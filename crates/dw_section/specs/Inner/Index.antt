@@ -2,13 +2,14 @@
 use Rattle.std.specs.Prelude.{◌≡◌, ℕ, suc, ◌≤◌, ◌⊎◌, List, [], ◌∷◌, map, Option}
 use Rattle.std.specs.List.{AllByRecursion}
 use Rattle.dw_num.specs.declared.target.Form.{Form}
-use Rattle.dw_num.specs.Span.{span_of}
+use Rattle.dw_num.specs.Span.{span_of, input_of}
 use Rattle.dw_section.specs.declared.fde_range.Ranged.{Ranged}
 use Rattle.dw_section.specs.declared.listed_fde.FoundFde.{FoundFde}
 use Rattle.dw_section.specs.Headers.{CieHead, FdeHead, Head, cie, fde}
-use Rattle.dw_section.specs.Overlap.{Range, IsIn, end_of, nonempty}
+use Rattle.dw_section.specs.Overlap.{Range, end_of, nonempty}
 use Rattle.dw_section.specs.Ranges.{IsRanged, range_in}
-use Rattle.dw_section.specs.Programs.{IsAmong, FdeRuns, input_of}
+use Rattle.dw_section.specs.Programs.{FdeRuns}
+use Rattle.dw_section.specs.Among.{IsAmong}
 use Rattle.dw_cfa.specs.RowWalk.{Led}
 use Rattle.dw_section.specs.Inner.Initials.{FirstLacking}
 use Rattle.dw_num.specs.declared.target.Target.{Target}
@@ -42,12 +43,12 @@ PlacesRise low (a ∷ rs) = (low ≤ a.at) × PlacesRise (suc a.at) rs
 
 -- two lists have the same members
 abbrev pub SameMembers : List Range → List Range → Type 0
-SameMembers rs ss = AllByRecursion (λ a. IsIn a rs) ss × AllByRecursion (λ a. IsIn a ss) rs
+SameMembers rs ss = AllByRecursion (λ a. IsAmong a rs) ss × AllByRecursion (λ a. IsAmong a ss) rs
 
 -- no range ends behind a number, and one ends there unless it is 0
 abbrev pub EndsAt : List Range → ℕ → Type 0
 EndsAt rs greatest =
-    AllByRecursion (λ a. end_of a ≤ greatest) rs × ((greatest ≡ 0) ⊎ ((other : Range) × IsIn other rs × (end_of other ≡ greatest)))
+    AllByRecursion (λ a. end_of a ≤ greatest) rs × ((greatest ≡ 0) ⊎ ((other : Range) × IsAmong other rs × (end_of other ≡ greatest)))
 
 -- the programs of these run, the first among them that lacks a rule is this one, and their nonempty FDEs are these
 pub record AreJudged (target : Target) (hs front : List Head) (lacking : Option ℕ) (list : List Ranged) : Type 0 where

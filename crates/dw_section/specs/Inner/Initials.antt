@@ -4,7 +4,7 @@ use Rattle.std.specs.List.{AllByRecursion}
 use Rattle.dw_num.specs.declared.refusal.Code.TheVariants.{NoCfaRule}
 use Rattle.dw_num.specs.declared.target.Form.{Form}
 use Rattle.dw_num.specs.declared.target.Target.{Target}
-use Rattle.dw_num.specs.Span.{span_of}
+use Rattle.dw_num.specs.Span.{span_of, input_of}
 use Rattle.dw_cfa.specs.declared.instr.Instr.{Instr}
 use Rattle.dw_cfa.specs.Behind.{Leaves}
 use Rattle.dw_cfa.specs.CieMachine.{Following}
@@ -15,7 +15,8 @@ use Rattle.dw_section.specs.declared.program.Runner.{Runner}
 use Rattle.dw_section.specs.Stage.{FirstStuck}
 use Rattle.dw_section.specs.Headers.{CieHead, Head, cie}
 use Rattle.dw_section.specs.Inner.Heads.{head_at, cie_ats}
-use Rattle.dw_section.specs.Programs.{IsAmong, input_of, CieRuns, HasRules, LacksRule}
+use Rattle.dw_section.specs.Programs.{CieRuns, HasRules, LacksRule}
+use Rattle.dw_section.specs.Among.{IsAmong}
 
 abbrev pub place_of : Initial → ℕ
 place_of c = c.at

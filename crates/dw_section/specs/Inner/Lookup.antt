@@ -1,7 +1,7 @@
 -- What the code lists of nonempty FDEs.
 use Rattle.std.specs.Prelude.{◌≡◌, ℕ, ◌+◌, ◌<◌, List, Option, Some, None}
 use Rattle.dw_num.specs.declared.target.Target.{Target}
-use Rattle.dw_num.specs.Span.{span_of}
+use Rattle.dw_num.specs.Span.{span_of, input_of}
 use Rattle.dw_num.specs.Target.{address_limit}
 use Rattle.dw_cfa.specs.RuleAt.{last_at, NeverFalls}
 use Rattle.dw_cfa.specs.Rows.{Rules}
@@ -12,7 +12,6 @@ use Rattle.dw_section.specs.Accepted.{RulesHold}
 use Rattle.dw_section.specs.Headers.{Head}
 use Rattle.dw_section.specs.Inner.Index.{IsFound, NamesCie}
 use Rattle.dw_section.specs.Meaning.{RulesAt}
-use Rattle.dw_section.specs.Programs.{input_of}
 use Rattle.dw_section.specs.Table.{Section}
 use Rattle.dw_section.specs.declared.listed_fde.FoundFde.{FoundFde}
 use Rattle.dw_section.specs.declared.lookup.Fde.{Fde}

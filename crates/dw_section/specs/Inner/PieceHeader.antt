@@ -4,12 +4,15 @@ use Rattle.dw_num.specs.declared.refusal.Refusal.{Refusal}
 use Rattle.dw_num.specs.declared.target.Target.{Target}
 use Rattle.dw_num.specs.Input.{Input}
 use Rattle.dw_num.specs.Front.{take_at, ◌>>=◌}
-use Rattle.dw_num.specs.Span.{Span}
+use Rattle.dw_num.specs.Span.{Span, input_of}
 use Rattle.dw_section.specs.declared.fields.CieFields.{CieFields}
 use Rattle.dw_section.specs.declared.fields.FdeFields.{FdeFields}
 use Rattle.dw_section.specs.Cut.{Piece, id_width}
-use Rattle.dw_section.specs.Headers.{Head, cie_head, fde_head, contents_of}
+use Rattle.dw_section.specs.Headers.{Head, cie_head, fde_head}
 use Rattle.dw_section.specs.Inner.Fields.{cie_fields_at, fde_fields_at}
+
+abbrev pub contents_of : Target → Piece → Input
+contents_of target p = input_of target p.contents
 
 abbrev pub program_of : Input → Span
 program_of i = record { at = i.at; bytes = i.bytes }

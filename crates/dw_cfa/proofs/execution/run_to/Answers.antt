@@ -1,9 +1,10 @@
 use Rattle.std.proofs.Common.{◌≡◌, ◌≤◌, ℕ, Some, refl, sym, ap, subst, ◌∙◌, arith}
-use Rattle.dw_cfa.specs.RuleAt.{last_at, NeverFalls}
-use Rattle.dw_cfa.specs.Runs.{Outcome}
+use Rattle.dw_cfa.specs.RuleAt.{last_at, left_above, NeverFalls}
+use Rattle.dw_cfa.specs.Runs.{Outcome, finished}
 use Rattle.dw_cfa.specs.Inner.Runs.{rows_left}
 use Rattle.dw_cfa.specs.Inner.RowWalk.{AllSpecify}
-use Rattle.dw_cfa.proofs.RowsTo.{FirstBelow, fault_left, falls_left, first_below, keeps_left, one_last, starts_below, stops_here, goes_on, ends_here}
+use Rattle.dw_cfa.proofs.RowsAbove.{last_below, row_below, stands_above}
+use Rattle.dw_cfa.proofs.RowsTo.{FirstBelow, fault_left, falls_left, first_below, keeps_left, stops_here, goes_on, ends_here}
 use Rattle.dw_cfa.proofs.RunSteps.{rows_end}
 use Rattle.dw_cfa.proofs.StopsTo.{not_below, refused_here}
 use Rattle.dw_cfa.proofs.execution.run_to.Goals as goal
@@ -20,6 +21,7 @@ instrs-init c = (
   refl,
   λ le. le,
   refl,
+  λ le. refl,
 )
 
 pub returns-then-machine-address-clause-last : goal.returns-then-machine-address-clause-last
@@ -29,17 +31,6 @@ returns-then-machine-address-clause-last c le =
     let first = l.invariant.4 (subst (λ (n : ℕ). c.args.machine.now.location ≤ n) (sym c.from-address.ensures) le) in
     let here = stops_here f l.cursor l.machine c.turn.new.cursor c.turn.new.machine c.in-Moved.ensures.turned c.from-address.result l.invariant.3 c.if-machine-address.true first in
     subst (λ (n : ℕ). last_at n (rows_left f c.args.cursor.now c.args.machine.now).rows ≡ Some c.turn.new.machine.states.row) c.from-address.ensures (l.invariant.5 c.turn.new.machine.states.row here)
-
-pub returns-then-machine-address-clause-found : goal.returns-then-machine-address-clause-found
-returns-then-machine-address-clause-found c row e =
-    let l = c.instrs in
-    let f = c.args.factors in
-    let a = c.from-address.result in
-    let all = rows_left f c.args.cursor.now c.args.machine.now in
-    let is = subst (λ (n : ℕ). last_at n all.rows ≡ Some row) (sym c.from-address.ensures) e in
-    let first = l.invariant.4 (starts_below f c.args.cursor.now c.args.machine.now a c.requires.never_falls row is) in
-    let here = stops_here f l.cursor l.machine c.turn.new.cursor c.turn.new.machine c.in-Moved.ensures.turned a l.invariant.3 c.if-machine-address.true first in
-    one_last (last_at a all.rows) c.turn.new.machine.states.row row (l.invariant.5 c.turn.new.machine.states.row here) is
 
 pub instrs-preserved : goal.instrs-preserved
 instrs-preserved c =
@@ -59,6 +50,7 @@ instrs-preserved c =
       c.in-Moved.ensures.kept ∙ l.invariant.7,
       λ le. omega (arith, c.if-machine-address.false),
       sym moved.stop ∙ l.invariant.9,
+      λ le. l.invariant.10 le ∙ row_below f l.cursor l.machine a j m moved (l.invariant.8 le),
     )
 
 pub instrs-preserved-in-On : goal.instrs-preserved-in-On
@@ -77,6 +69,7 @@ instrs-preserved-in-On c =
       c.in-On.ensures.kept ∙ l.invariant.7,
       λ le. let at = l.invariant.8 le in omega (arith, at, on.same_location refl),
       sym on.stop ∙ l.invariant.9,
+      λ le. l.invariant.10 le ∙ ap (left_above a) same,
     )
 
 pub returns-clause-last : goal.returns-clause-last
@@ -86,16 +79,6 @@ returns-clause-last c le =
     let first = l.invariant.4 (subst (λ (n : ℕ). c.args.machine.now.location ≤ n) (sym c.from-address.ensures) le) in
     let here = ends_here f l.cursor l.machine c.from-address.result (omega arith) first in
     subst (λ (n : ℕ). last_at n (rows_left f c.args.cursor.now c.args.machine.now).rows ≡ Some l.machine.states.row) c.from-address.ensures (l.invariant.5 l.machine.states.row here)
-
-pub returns-clause-found : goal.returns-clause-found
-returns-clause-found c row e =
-    let l = c.instrs in
-    let f = c.args.factors in
-    let a = c.from-address.result in
-    let all = rows_left f c.args.cursor.now c.args.machine.now in
-    let is = subst (λ (n : ℕ). last_at n all.rows ≡ Some row) (sym c.from-address.ensures) e in
-    let first = l.invariant.4 (starts_below f c.args.cursor.now c.args.machine.now a c.requires.never_falls row is) in
-    one_last (last_at a all.rows) l.machine.states.row row (l.invariant.5 l.machine.states.row (ends_here f l.cursor l.machine a (omega arith) first)) is
 
 pub returns-then-machine-address-clause-keeps : goal.returns-then-machine-address-clause-keeps
 returns-then-machine-address-clause-keeps c other all =
@@ -121,3 +104,25 @@ returns-clause-none c r e =
     let l = c.instrs in
     let none = sym (ap (λ (o : Outcome). o.fault) (rows_end c.args.factors l.cursor l.machine (omega arith))) ∙ (l.invariant.2 ∙ e) in
     absurd cc
+
+pub returns-then-machine-address-clause-behind : goal.returns-then-machine-address-clause-behind
+returns-then-machine-address-clause-behind c le =
+    let l = c.instrs in
+    let f = c.args.factors in
+    let a = c.from-address.result in
+    let j = c.turn.new.cursor in
+    let m = c.turn.new.machine in
+    let moved = c.in-Moved.ensures.turned in
+    let start = subst (λ (n : ℕ). c.args.machine.now.location ≤ n) (sym c.from-address.ensures) le in
+    let up = falls_left f l.cursor l.machine j m moved a l.invariant.3 in
+    subst (λ (n : ℕ). left_above n (rows_left f c.args.cursor.now c.args.machine.now) ≡ rows_left f j m) c.from-address.ensures
+    (l.invariant.10 start ∙ row_below f l.cursor l.machine a j m moved (l.invariant.8 start) ∙ stands_above f j m a up c.if-machine-address.true)
+
+pub returns-clause-behind : goal.returns-clause-behind
+returns-clause-behind c le =
+    let l = c.instrs in
+    let f = c.args.factors in
+    let a = c.from-address.result in
+    let start = subst (λ (n : ℕ). c.args.machine.now.location ≤ n) (sym c.from-address.ensures) le in
+    subst (λ (n : ℕ). left_above n (rows_left f c.args.cursor.now c.args.machine.now) ≡ finished) c.from-address.ensures
+    (l.invariant.10 start ∙ last_below f l.cursor l.machine a (omega arith) (l.invariant.8 start))

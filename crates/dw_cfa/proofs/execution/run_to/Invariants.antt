@@ -1,5 +1,5 @@
 use Rattle.std.proofs.Common.{◌≡◌, ◌≤◌, ℕ, Some, length}
-use Rattle.dw_cfa.specs.RuleAt.{last_at, NeverFalls}
+use Rattle.dw_cfa.specs.RuleAt.{last_at, left_above, NeverFalls}
 use Rattle.dw_cfa.specs.Rows.{Rules}
 use Rattle.dw_cfa.specs.Inner.Runs.{RunsSo, rows_left, stop_left}
 use Rattle.dw_cfa.specs.Inner.RowWalk.{AllSpecify}
@@ -16,6 +16,7 @@ invariant-instrs l =
     × (l.machine.states.kept ≡ l.initial.machine.states.kept)
     × (l.initial.machine.location ≤ l.address → l.machine.location ≤ l.address)
     × (stop_left l.factors l.cursor l.machine ≡ stop_left l.factors l.initial.cursor l.initial.machine)
+    × (l.initial.machine.location ≤ l.address → left_above l.address (rows_left l.factors l.initial.cursor l.initial.machine) ≡ left_above l.address (rows_left l.factors l.cursor l.machine))
 
 abbrev pub decreases-instrs : goal.decreases-instrs
 decreases-instrs l = length l.cursor.bytes

@@ -1,10 +1,11 @@
-use Rattle.std.proofs.Common.{◌≡◌, ℕ, Some, sym, ap, subst, ◌∙◌}
+use Rattle.std.proofs.Common.{◌≡◌, ◌≤◌, ℕ, Some, sym, ap, subst, ◌∙◌}
 use Rattle.std.specs.Prelude.{OnOk}
 use Rattle.dw_cfa.specs.RuleAt.{last_at, NeverFalls}
 use Rattle.dw_num.specs.Input.{AreBytes}
 use Rattle.dw_cfa.specs.Rows.{Rules}
 use Rattle.dw_cfa.specs.Runs.{Outcome}
 use Rattle.dw_cfa.specs.Inner.Runs.{rows_left}
+use Rattle.dw_cfa.specs.Inner.RuleAt.{LeavesAbove}
 use Rattle.dw_cfa.specs.Inner.RowWalk.{AllSpecify}
 use Rattle.dw_cfa.proofs.RowsTo.{only_memory, still_none}
 use Rattle.dw_cfa.proofs.Stays.{led_keeps}
@@ -23,11 +24,11 @@ run_to-requires-clause-never_falls c =
     subst (λ (o : Outcome). (low : ℕ) × NeverFalls low o.rows)
     (sym (led_ran c.args.leading c.args.fde.now c.args.machine.now c.ready.new.machine c.requires.so c.in_ok-ready.ensures.ok)) c.requires.never_falls
 
-pub returns-clause-found : goal.returns-clause-found
-returns-clause-found c row e =
-    c.run_to.ensures.found row
-    (subst (λ (o : Outcome). last_at c.args.address o.rows ≡ Some row)
-    (sym (led_ran c.args.leading c.args.fde.now c.args.machine.now c.ready.new.machine c.requires.so c.in_ok-ready.ensures.ok)) e)
+pub returns-clause-last : goal.returns-clause-last
+returns-clause-last c le =
+    let so = c.in_ok-ready.ensures.ok in
+    subst (λ (o : Outcome). OnOk c.run_to.result (last_at c.args.address o.rows ≡ Some c.run_to.new.machine.states.row))
+    (led_ran c.args.leading c.args.fde.now c.args.machine.now c.ready.new.machine c.requires.so so) (c.run_to.ensures.last (subst (λ (n : ℕ). n ≤ c.args.address) (sym so.location) le))
 
 pub returns-clause-keeps : goal.returns-clause-keeps
 returns-clause-keeps c =
@@ -47,3 +48,9 @@ pub returns-clause-err : goal.returns-clause-err
 returns-clause-err c =
     let same = led_ran c.args.leading c.args.fde.now c.args.machine.now c.ready.new.machine c.requires.so c.in_ok-ready.ensures.ok in
     only_memory c.run_to.result (rows_left c.args.leading.factors c.args.fde.now c.ready.new.machine).fault (ap (λ (o : Outcome). o.fault) same ∙ c.requires.known) c.run_to.ensures.err
+
+pub returns-clause-behind : goal.returns-clause-behind
+returns-clause-behind c le =
+    let so = c.in_ok-ready.ensures.ok in
+    subst (λ (o : Outcome). LeavesAbove c.args.address o c.args.leading.factors c.run_to.new.cursor c.run_to.new.machine c.run_to.result)
+    (led_ran c.args.leading c.args.fde.now c.args.machine.now c.ready.new.machine c.requires.so so) (c.run_to.ensures.behind (subst (λ (n : ℕ). n ≤ c.args.address) (sym so.location) le))

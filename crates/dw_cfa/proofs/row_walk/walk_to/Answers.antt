@@ -1,10 +1,11 @@
-use Rattle.std.proofs.Common.{◌≡◌, None, subst, sym}
+use Rattle.std.proofs.Common.{◌≡◌, None, Some, subst, sym}
 use Rattle.std.specs.Prelude.{OnOk}
 use Rattle.dw_cfa.specs.declared.steps.Progress.{Progress}
+use Rattle.dw_cfa.specs.RuleAt.{last_at}
 use Rattle.dw_cfa.specs.Rows.{Rules}
 use Rattle.dw_cfa.specs.Inner.Runs.{rows_left}
-use Rattle.dw_cfa.specs.Inner.RowWalk.{AllSpecify, WalkKeeps, walk_of}
-use Rattle.dw_cfa.proofs.RowsTo.{none_where_more, only_memory}
+use Rattle.dw_cfa.specs.Inner.RowWalk.{AllSpecify, WalkKeeps, led_rows, walk_of}
+use Rattle.dw_cfa.proofs.RowsTo.{found_last, none_last, none_where_more, only_memory}
 use Rattle.dw_cfa.proofs.Stays.{where_more}
 use Rattle.dw_cfa.proofs.row_walk.walk_to.Goals as goal
 
@@ -28,3 +29,31 @@ returns-in-Running-clause-err c =
     let l = c.args.leading in
     let none = subst (λ (p : Progress). (walk_of p l c.args.fde.now c.args.machine.now).outcome.fault ≡ None) c.in-Running.is c.requires.so.no_fault in
     only_memory c.run_to.result (rows_left l.factors c.args.fde.now c.args.machine.now).fault none c.run_to.ensures.err
+
+pub returns-in-Begun-clause-found : goal.returns-in-Begun-clause-found
+returns-in-Begun-clause-found c le row e =
+    let l = c.args.leading in
+    let of_both = led_rows l c.args.fde.now c.args.machine.now.location in
+    found_last c.first_to.result (last_at c.args.address of_both.rows) c.first_to.new.machine.states.row row (c.first_to.ensures.last le)
+    (subst (λ (p : Progress). last_at c.args.address (walk_of p l c.args.fde.now c.args.machine.now).outcome.rows ≡ Some row) c.in-Begun.is e)
+
+pub returns-in-Begun-clause-stays : goal.returns-in-Begun-clause-stays
+returns-in-Begun-clause-stays c le e =
+    let l = c.args.leading in
+    let of_both = led_rows l c.args.fde.now c.args.machine.now.location in
+    none_last c.first_to.result (last_at c.args.address of_both.rows) c.first_to.new.machine.states.row c.args.machine.now.states.row (c.first_to.ensures.last le)
+    (subst (λ (p : Progress). last_at c.args.address (walk_of p l c.args.fde.now c.args.machine.now).outcome.rows ≡ None) c.in-Begun.is e)
+
+pub returns-in-Running-clause-found : goal.returns-in-Running-clause-found
+returns-in-Running-clause-found c le row e =
+    let l = c.args.leading in
+    let left = rows_left l.factors c.args.fde.now c.args.machine.now in
+    found_last c.run_to.result (last_at c.args.address left.rows) c.run_to.new.machine.states.row row (c.run_to.ensures.last le)
+    (subst (λ (p : Progress). last_at c.args.address (walk_of p l c.args.fde.now c.args.machine.now).outcome.rows ≡ Some row) c.in-Running.is e)
+
+pub returns-in-Running-clause-stays : goal.returns-in-Running-clause-stays
+returns-in-Running-clause-stays c le e =
+    let l = c.args.leading in
+    let left = rows_left l.factors c.args.fde.now c.args.machine.now in
+    none_last c.run_to.result (last_at c.args.address left.rows) c.run_to.new.machine.states.row c.args.machine.now.states.row (c.run_to.ensures.last le)
+    (subst (λ (p : Progress). last_at c.args.address (walk_of p l c.args.fde.now c.args.machine.now).outcome.rows ≡ None) c.in-Running.is e)

@@ -1,5 +1,6 @@
-use Rattle.std.proofs.Common.{Some, None, refl, sym, arith}
+use Rattle.std.proofs.Common.{Some, None, refl, arith}
 use Rattle.dw_cfa.proofs.Lent.RowLists.{Entry}
+use Rattle.dw_cfa.proofs.Lent.Equal.{not_one}
 use Rattle.dw_cfa.proofs.Difference.{above, none_above, rest_up, taken_left, taken_right, taken_both, taken_same}
 use Rattle.dw_cfa.proofs.tree.first_difference.Goals as goal
 
@@ -22,7 +23,7 @@ pub returns-then-not-is_same : goal.returns-then-not-is_same
 returns-then-not-is_same c =
     let inv = c.rules.invariant in let x : Entry = (c.in-Some.register.now, c.in-Some.rule.now) in let y : Entry = (c.in-Some-next.other_register.now, c.in-Some-next.other.now) in
     inv.2 (Some x.0) (taken_both c.rules.rules c.rules.others c.next.new.self c.next-in-Some.new.self x y c.in-Some.ensures.steps c.in-Some-next.ensures.steps inv.0 inv.1
-    c.if-other_register-register.false c.if-register-other_register.false (sym c.if-not-is_same.ensures.test))
+    c.if-other_register-register.false c.if-register-other_register.false (not_one c.if-not-is_same.ensures))
 
 pub rules-preserved : goal.rules-preserved
 rules-preserved c =
@@ -30,7 +31,7 @@ rules-preserved c =
       rest_up c.rules.rules c.next.new.self x c.in-Some.ensures.steps inv.0,
       rest_up c.rules.others c.next-in-Some.new.self y c.in-Some-next.ensures.steps inv.1,
       λ o h. inv.2 o (taken_same c.rules.rules c.rules.others c.next.new.self c.next-in-Some.new.self x y c.in-Some.ensures.steps c.in-Some-next.ensures.steps inv.0 inv.1
-          c.if-other_register-register.false c.if-register-other_register.false (c.if-not-is_same.ensures.same.0 refl) o h),
+          c.if-other_register-register.false c.if-register-other_register.false (c.if-not-is_same.ensures.0 refl) o h),
     )
 
 pub returns-in_default-next-2 : goal.returns-in_default-next-2

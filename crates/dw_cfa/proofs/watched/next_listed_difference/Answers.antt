@@ -7,6 +7,7 @@ use Rattle.dw_cfa.specs.Difference.{place_behind}
 use Rattle.dw_cfa.specs.Rows.{AreSpecified}
 use Rattle.dw_cfa.specs.Inner.Marks.{SameUnlisted}
 use Rattle.dw_cfa.proofs.Lent.RowLists.{Entry}
+use Rattle.dw_cfa.proofs.Lent.Equal.{not_one}
 use Rattle.dw_cfa.proofs.Difference.{FromOn, range_on}
 use Rattle.dw_cfa.proofs.Marked.{from_ascends, from_unlisted, differs_here, same_here}
 use Rattle.dw_cfa.proofs.watched.next_listed_difference.Goals as goal
@@ -25,10 +26,10 @@ pub returns-then-not-has_same_rule : goal.returns-then-not-has_same_rule
 returns-then-not-has_same_rule c =
     let x : Entry = (c.in-Some.register.now, c.in-Some.field-0-1.now) in let inv = c.marks.invariant in
     differs_here (place_behind c.args.behind) c.marks.marks c.next.new.self c.args.kept.now.registers c.args.row.now.registers x c.in-Some.ensures.steps inv.0 inv.1
-    (sym c.if-not-has_same_rule.ensures.test)
+    (not_one c.if-not-has_same_rule.ensures)
 
 pub marks-preserved : goal.marks-preserved
 marks-preserved c =
     let x : Entry = (c.in-Some.register.now, c.in-Some.field-0-1.now) in let inv = c.marks.invariant in
     same_here (place_behind c.args.behind) c.marks.marks c.next.new.self c.args.kept.now.registers c.args.row.now.registers x c.in-Some.ensures.steps inv.0 inv.1
-    (c.if-not-has_same_rule.ensures.same.0 refl)
+    (c.if-not-has_same_rule.ensures.0 refl)

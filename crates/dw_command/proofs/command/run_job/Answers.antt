@@ -1,25 +1,24 @@
-use Rattle.std.proofs.Common.{option_map}
-use Rattle.dw_command.specs.Answers.{CheckEnds, CostEnds, EntriesEnds, EvalEnds, NormalEnds, RowsEnds, UnwindEnds}
+use Rattle.dw_command.specs.Answers.{Checks, Costs, Cuts, EvalEnds, Normalises, OverFile, UnwindEnds}
 use Rattle.dw_command.proofs.Endings.{done}
 use Rattle.dw_command.proofs.command.run_job.Goals as goal
 
 pub returns-in-Check-clause-ends : goal.returns-in-Check-clause-ends
-returns-in-Check-clause-ends g c = rw c.in-Check.is (done (CheckEnds (g.L.Load.gives c.args.files.now) _ _ _ c.args.job.target c.in-Check.path.now) c.run_check.result c.done.result c.done.ensures c.run_check.ensures)
+returns-in-Check-clause-ends g c = rw c.in-Check.is (done (OverFile (g.L.Load.gives c.args.files.now) _ _ _ c.in-Check.path.now (Checks c.args.job.target)) c.run_check.result c.done.result c.done.ensures c.run_check.ensures)
 
 pub returns-in-Cost-clause-ends : goal.returns-in-Cost-clause-ends
-returns-in-Cost-clause-ends g c = rw c.in-Cost.is (done (CostEnds (g.L.Load.gives c.args.files.now) _ _ _ c.args.job.target c.in-Cost.path.now) c.run_cost.result c.done-in-Cost.result c.done-in-Cost.ensures c.run_cost.ensures)
+returns-in-Cost-clause-ends g c = rw c.in-Cost.is (done (OverFile (g.L.Load.gives c.args.files.now) _ _ _ c.in-Cost.path.now (Costs c.args.job.target)) c.run_cost.result c.done-in-Cost.result c.done-in-Cost.ensures c.run_cost.ensures)
 
 pub returns-in-Entries-clause-ends : goal.returns-in-Entries-clause-ends
-returns-in-Entries-clause-ends g c = rw c.in-Entries.is (done (EntriesEnds (g.L.Load.gives c.args.files.now) _ _ _ c.args.job.target c.in-Entries.path.now) c.run_entries.result c.done-in-Entries.result c.done-in-Entries.ensures c.run_entries.ensures)
+returns-in-Entries-clause-ends g c = rw c.in-Entries.is (done (OverFile (g.L.Load.gives c.args.files.now) _ _ _ c.in-Entries.path.now (Cuts c.args.job.target)) c.run_entries.result c.done-in-Entries.result c.done-in-Entries.ensures c.run_entries.ensures)
 
 pub returns-in-Eval-clause-ends : goal.returns-in-Eval-clause-ends
-returns-in-Eval-clause-ends g c = rw c.in-Eval.is (done (EvalEnds (g.L.Load.gives c.args.files.now) _ _ _ c.args.job.target c.in-Eval.evaluation.steps c.in-Eval.evaluation.start c.in-Eval.evaluation.block.items (option_map (λ p. p.now) c.in-Eval.evaluation.dump)) c.run_eval.result c.done-in-Eval.result c.done-in-Eval.ensures c.run_eval.ensures)
+returns-in-Eval-clause-ends g c = rw c.in-Eval.is (done (EvalEnds (g.L.Load.gives c.args.files.now) _ _ _ c.args.job.target c.in-Eval.evaluation) c.run_eval.result c.done-in-Eval.result c.done-in-Eval.ensures c.run_eval.ensures)
 
 pub returns-in-Normal-clause-ends : goal.returns-in-Normal-clause-ends
-returns-in-Normal-clause-ends g c = rw c.in-Normal.is (done (NormalEnds (g.L.Load.gives c.args.files.now) _ _ _ c.args.job.target c.in-Normal.writing.cap c.in-Normal.writing.path.now) c.run_normal.result c.done-in-Normal.result c.done-in-Normal.ensures c.run_normal.ensures)
+returns-in-Normal-clause-ends g c = rw c.in-Normal.is (done (OverFile (g.L.Load.gives c.args.files.now) _ _ _ c.in-Normal.writing.path.now (Normalises c.args.job.target c.in-Normal.writing.cap)) c.run_normal.result c.done-in-Normal.result c.done-in-Normal.ensures c.run_normal.ensures)
 
 pub returns-in-Rows-clause-ends : goal.returns-in-Rows-clause-ends
-returns-in-Rows-clause-ends g c = rw c.in-Rows.is (done (RowsEnds (g.L.Load.gives c.args.files.now) _ _ _ c.args.job.target c.in-Rows.path.now) c.run_rows.result c.done-in-Rows.result c.done-in-Rows.ensures c.run_rows.ensures)
+returns-in-Rows-clause-ends g c = rw c.in-Rows.is (done (OverFile (g.L.Load.gives c.args.files.now) _ _ _ c.in-Rows.path.now (Checks c.args.job.target)) c.run_rows.result c.done-in-Rows.result c.done-in-Rows.ensures c.run_rows.ensures)
 
 pub returns-in-Unwind-clause-ends : goal.returns-in-Unwind-clause-ends
-returns-in-Unwind-clause-ends g c = rw c.in-Unwind.is (done (UnwindEnds (g.L.Load.gives c.args.files.now) _ _ _ c.args.job.target c.in-Unwind.unwinding.default c.in-Unwind.unwinding.steps c.in-Unwind.unwinding.path.now c.in-Unwind.unwinding.dump.now) c.run_unwind.result c.done-in-Unwind.result c.done-in-Unwind.ensures c.run_unwind.ensures)
+returns-in-Unwind-clause-ends g c = rw c.in-Unwind.is (done (UnwindEnds (g.L.Load.gives c.args.files.now) _ _ _ c.args.job.target c.in-Unwind.unwinding) c.run_unwind.result c.done-in-Unwind.result c.done-in-Unwind.ensures c.run_unwind.ensures)

@@ -7,7 +7,7 @@ pub returns-in_err-len : goal.returns-in_err-len
 returns-in_err-len g c =
     let p = err_from_is_err_and c.from_residual-in_err-len.result c.from_residual-in_err-len.ensures.1 in
     let loads = loaded _ _ c.load.result c.in_ok-bytes.bytes c.load.ensures.gives c.in_ok-bytes.ensures.cases in
-    rw p.1 (inl (c.deref.result.now, lent (g.L.Load.gives c.args.files.now) c.args.path.now _ c.deref.result.now c.deref.ensures.value loads, inr (p.0, (c.in_err-len.field-0.0, c.in_err-len.ensures.first, p.2), refl)))
+    rw p.1 (inl (c.deref.result.now, lent (g.L.Load.gives c.args.files.now) c.args.path.now _ c.deref.result.now c.deref.ensures.value loads, inr (p.0, inr (p.0, (c.in_err-len.field-0.0, c.in_err-len.ensures.first, p.2), refl), refl)))
 
 pub returns-in_err-table : goal.returns-in_err-table
 returns-in_err-table g c =

@@ -15,7 +15,7 @@ returns-in_err-table g c =
     let p = err_from_is_err_and c.from_residual-in_err-table.result c.from_residual-in_err-table.ensures.1 in
     let u = c.args.unwinding.now in
     let text = dump_before _ _ c.in_ok-bytes.ensures.same u.dump.now (Ok c.in_ok-text.text.items) c.in_ok-text.ensures.loads in
-    rw p.1 (behind_files (g.L.Load.gives c.args.files.now) _ _ 0 c.args.target u.default u.steps u.path.now u.dump.now
+    rw p.1 (behind_files (g.L.Load.gives c.args.files.now) _ _ 0 c.args.target u
     c.in_ok-bytes.bytes.items c.deref.result.now c.in_ok-text.text.items c.in_ok-text.text.items (Err p.0)
     c.deref.ensures.value c.in_ok-bytes.ensures.loads refl text (inr (p.0, (c.in_err-table.field-0.0, c.in_err-table.ensures.first, p.2), refl)))
 
@@ -24,7 +24,7 @@ returns-in_err-dump g c =
     let p = err_from_is_err_and c.from_residual-in_err-dump.result c.from_residual-in_err-dump.ensures.1 in
     let u = c.args.unwinding.now in
     let text = dump_before _ _ c.in_ok-bytes.ensures.same u.dump.now (Ok c.in_ok-text.text.items) c.in_ok-text.ensures.loads in
-    rw p.1 (behind_files (g.L.Load.gives c.args.files.now) _ _ 0 c.args.target u.default u.steps u.path.now u.dump.now
+    rw p.1 (behind_files (g.L.Load.gives c.args.files.now) _ _ 0 c.args.target u
     c.in_ok-bytes.bytes.items c.deref.result.now c.in_ok-text.text.items c.deref-2.result.now (Err p.0)
     c.deref.ensures.value c.in_ok-bytes.ensures.loads c.deref-2.ensures.value text (inl (tt, c.in_ok-table.ensures.found.1, inr (p.0, (c.in_err-dump.field-0.0, c.in_err-dump.ensures.first, p.2), refl))))
 
@@ -34,7 +34,7 @@ returns-in_err-frame g c =
     let u = c.args.unwinding.now in
     let text = dump_before _ _ c.in_ok-bytes.ensures.same u.dump.now (Ok c.in_ok-text.text.items) c.in_ok-text.ensures.loads in
     let frame = frames_at c.args.target c.deref.result.now c.in_ok-table.table c.in_ok-dump.dump u.default u.steps (Err c.in_err-frame.field-0.0) c.in_ok-table.ensures.found.0 c.in_err-frame.ensures in
-    rw (p.1, p.2) (behind_files (g.L.Load.gives c.args.files.now) _ _ 0 c.args.target u.default u.steps u.path.now u.dump.now
+    rw (p.1, p.2) (behind_files (g.L.Load.gives c.args.files.now) _ _ 0 c.args.target u
     c.in_ok-bytes.bytes.items c.deref.result.now c.in_ok-text.text.items c.deref-2.result.now (Err c.in_err-frame.field-0.0)
     c.deref.ensures.value c.in_ok-bytes.ensures.loads c.deref-2.ensures.value text (inl (tt, c.in_ok-table.ensures.found.1, inl (c.in_ok-dump.dump, c.in_ok-dump.ensures.found, inr (c.in_err-frame.field-0.0, frame, refl)))))
 
@@ -43,6 +43,6 @@ returns g c =
     let u = c.args.unwinding.now in
     let text = dump_before _ _ c.in_ok-bytes.ensures.same u.dump.now (Ok c.in_ok-text.text.items) c.in_ok-text.ensures.loads in
     let frame = frames_at c.args.target c.deref.result.now c.in_ok-table.table c.in_ok-dump.dump u.default u.steps (Ok c.in_ok-frame.frame) c.in_ok-table.ensures.found.0 c.in_ok-frame.ensures in
-    behind_files (g.L.Load.gives c.args.files.now) _ _ _ c.args.target u.default u.steps u.path.now u.dump.now
+    behind_files (g.L.Load.gives c.args.files.now) _ _ _ c.args.target u
     c.in_ok-bytes.bytes.items c.deref.result.now c.in_ok-text.text.items c.deref-2.result.now _
     c.deref.ensures.value c.in_ok-bytes.ensures.loads c.deref-2.ensures.value text (inl (tt, c.in_ok-table.ensures.found.1, inl (c.in_ok-dump.dump, c.in_ok-dump.ensures.found, inl (c.in_ok-frame.frame, frame, c.put_frame.ensures))))

@@ -1,6 +1,6 @@
 use Rattle.std.proofs.Common.{◌≡◌, get_or, List, map, ap, ◌∙◌}
 use Rattle.std.proofs.Math.ListN.{get_or-map}
-use Rattle.dw_canon.specs.Canon.{initial_of}
+use Rattle.dw_canon.specs.Inner.Canon.{initial_of}
 use Rattle.dw_canon.specs.Members.{Member, fde_of}
 use Rattle.dw_canon.proofs.Lent.Canonical.{members_exist}
 use Rattle.dw_normal.specs.Inner.Begun.{Begins}

@@ -1,6 +1,6 @@
 use Rattle.std.proofs.Common.{◌≡◌, ◌+◌, ◌++◌, ◌-◌, length}
 use Rattle.std.specs.Prelude.{replicate}
-use Rattle.dw_canon.specs.Canon.{fde_instrs, initial_of}
+use Rattle.dw_canon.specs.Inner.Canon.{fde_instrs, initial_of}
 use Rattle.dw_canon.specs.Inner.Spelling.{program_bytes}
 use Rattle.dw_canon.specs.Inner.Written.{fde, contents}
 use Rattle.dw_canon.specs.Written.{missing}

@@ -2,7 +2,7 @@ use Rattle.std.proofs.Common.{◌≡◌, ℕ, ◌+◌, ◌-◌, ◌<◌, get_or,
 use Rattle.std.specs.Prelude.{IsSome}
 use Rattle.dw_num.specs.declared.target.Target.{Target}
 use Rattle.dw_num.specs.Target.{address_limit}
-use Rattle.dw_canon.specs.Canon.{fde_instrs, initial_of}
+use Rattle.dw_canon.specs.Inner.Canon.{fde_instrs, initial_of}
 use Rattle.dw_canon.specs.Inner.Spelling.{program_bytes}
 use Rattle.dw_canon.specs.Inner.Written.{fde, contents}
 use Rattle.dw_canon.proofs.Lent.Canonical.{members_exist}

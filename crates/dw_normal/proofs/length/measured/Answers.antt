@@ -2,7 +2,7 @@ use Rattle.std.proofs.Common.{ℕ, length, Option, sym, subst, arith}
 use Rattle.std.specs.List.{AllByRecursion}
 use Rattle.dw_num.specs.declared.target.Target.{Target}
 use Rattle.dw_cfa.specs.Rows.{Rules}
-use Rattle.dw_canon.specs.Canon.{cie_instrs}
+use Rattle.dw_canon.specs.Inner.Canon.{cie_instrs}
 use Rattle.dw_canon.specs.Inner.Fits.{InstrFits}
 use Rattle.dw_canon.proofs.Lent.Canonical.{members_exist}
 use Rattle.dw_normal.specs.Inner.Lengths.{Leaves, fdes_bytes}

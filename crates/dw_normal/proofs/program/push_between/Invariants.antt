@@ -1,7 +1,7 @@
 use Rattle.std.proofs.Common.{◌≡◌, ◌++◌, length}
 use Rattle.std.specs.List.{AllByRecursion}
 use Rattle.dw_cfa.specs.Difference.{place_behind}
-use Rattle.dw_canon.specs.Difference.{difference}
+use Rattle.dw_canon.specs.Inner.Difference.{difference}
 use Rattle.dw_canon.specs.Inner.Fits.{InstrFits}
 use Rattle.dw_canon.specs.Inner.Spelling.{program_bytes}
 use Rattle.dw_normal.specs.Inner.RegisterWalk.{rules_from}

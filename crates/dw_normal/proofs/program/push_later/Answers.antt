@@ -2,7 +2,7 @@ use Rattle.std.specs.declared.alloc.AllocError.{AllocError}
 use Rattle.std.proofs.Common.{ℕ, List, ◌++◌, refl, sym, ap, ◌∙◌, subst}
 use Rattle.std.specs.List.{AllByRecursion}
 use Rattle.dw_cfa.specs.Rows.{Rules}
-use Rattle.dw_canon.specs.Difference.{difference}
+use Rattle.dw_canon.specs.Inner.Difference.{difference}
 use Rattle.dw_canon.specs.Inner.Fits.{InstrFits}
 use Rattle.dw_normal.specs.Inner.ChangeWalk.{shown_row}
 use Rattle.dw_canon.specs.Inner.Spelling.{program_bytes}

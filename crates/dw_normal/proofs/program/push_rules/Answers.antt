@@ -4,7 +4,7 @@ use Rattle.std.proofs.lemmas.List.{append_assoc, append-nil}
 use Rattle.dw_cfa.specs.declared.instr.Instr.{Instr}
 use Rattle.dw_cfa.specs.Difference.{place_behind}
 use Rattle.dw_cfa.specs.Rows.{rule}
-use Rattle.dw_canon.specs.Difference.{rule_to}
+use Rattle.dw_canon.specs.Inner.Difference.{rule_to}
 use Rattle.dw_canon.specs.Inner.Fits.{InstrFits}
 use Rattle.dw_canon.specs.Inner.Spelling.{instr_bytes, program_bytes}
 use Rattle.dw_normal.specs.Inner.RegisterWalk.{rules_from}

@@ -4,7 +4,8 @@ use Rattle.std.proofs.lemmas.List.{length-append}
 use Rattle.dw_cfa.specs.declared.instr.Instr.{Instr}
 use Rattle.dw_cfa.specs.Difference.{place_behind}
 use Rattle.dw_cfa.specs.Rows.{rule}
-use Rattle.dw_canon.specs.Difference.{difference, rule_to, cfa_difference, rule_difference, either}
+use Rattle.dw_canon.specs.Difference.{either}
+use Rattle.dw_canon.specs.Inner.Difference.{difference, rule_to, cfa_difference, rule_difference}
 use Rattle.dw_canon.specs.Inner.Fits.{InstrFits}
 use Rattle.dw_canon.specs.Inner.Spelling.{instr_bytes, program_bytes}
 use Rattle.dw_normal.specs.Inner.Lengths.{Leaves}

@@ -1,5 +1,5 @@
 use Rattle.std.proofs.Common.{ℕ, length, Option, subst}
-use Rattle.dw_canon.specs.Difference.{difference}
+use Rattle.dw_canon.specs.Inner.Difference.{difference}
 use Rattle.dw_canon.specs.Inner.Spelling.{program_bytes}
 use Rattle.dw_normal.specs.Inner.Lengths.{Leaves}
 use Rattle.dw_normal.specs.Inner.ChangeWalk.{shown_row}

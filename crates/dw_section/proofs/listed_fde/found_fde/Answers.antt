@@ -10,7 +10,7 @@ use Rattle.dw_section.specs.Inner.Left.{HeadsLeft, AreHeaders}
 use Rattle.dw_section.specs.Meaning.{Returns}
 use Rattle.dw_section.specs.Overlap.{Range}
 use Rattle.dw_section.specs.Inner.Places.{Rises}
-use Rattle.dw_section.specs.Programs.{IsAmong}
+use Rattle.dw_section.specs.Among.{IsAmong}
 use Rattle.dw_section.proofs.Lent.HeaderLaws.{pieces_rise}
 use Rattle.dw_section.proofs.Lent.Heads.{all_in}
 use Rattle.dw_section.proofs.Left.{left_at}

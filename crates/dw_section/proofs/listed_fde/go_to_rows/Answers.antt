@@ -1,6 +1,5 @@
 use Rattle.std.proofs.Common.{arith}
-use Rattle.dw_num.specs.Span.{span_of}
-use Rattle.dw_section.specs.Programs.{input_of}
+use Rattle.dw_num.specs.Span.{span_of, input_of}
 use Rattle.dw_cfa.proofs.Lent.Given.{known_gives, run_steps}
 use Rattle.dw_section.proofs.listed_fde.go_to_rows.Goals as goal
 

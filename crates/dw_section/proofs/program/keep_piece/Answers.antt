@@ -5,7 +5,8 @@ use Rattle.dw_section.specs.Cut.{Piece}
 use Rattle.dw_section.specs.Headers.{Head, Has, head_in}
 use Rattle.dw_section.specs.Inner.Heads.{cie_at_of}
 use Rattle.dw_section.specs.Inner.Pieces.{piece_in}
-use Rattle.dw_section.specs.Programs.{IsAmong, CieRuns}
+use Rattle.dw_section.specs.Programs.{CieRuns}
+use Rattle.dw_section.specs.Among.{IsAmong}
 use Rattle.dw_section.proofs.Lent.HeaderLaws.{has_one, cie_apart, cie_faulty}
 use Rattle.dw_section.proofs.Lent.Judged.{initials_fde}
 use Rattle.dw_section.proofs.program.keep_piece.Goals as goal

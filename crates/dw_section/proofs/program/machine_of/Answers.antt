@@ -1,6 +1,5 @@
 use Rattle.std.proofs.Common.{refl}
-use Rattle.dw_num.specs.Span.{span_of}
-use Rattle.dw_section.specs.Programs.{input_of}
+use Rattle.dw_num.specs.Span.{span_of, input_of}
 use Rattle.dw_cfa.proofs.Lent.Given.{leaves_one}
 use Rattle.dw_section.proofs.program.machine_of.Goals as goal
 

@@ -1,7 +1,6 @@
 use Rattle.std.proofs.lemmas.Result.{err_from_is_err_and}
-use Rattle.dw_num.specs.Span.{span_of}
+use Rattle.dw_num.specs.Span.{span_of, input_of}
 use Rattle.dw_cfa.specs.Faults.{CieFault}
-use Rattle.dw_section.specs.Programs.{input_of}
 use Rattle.dw_num.proofs.Lent.Refusals.{refuses_by}
 use Rattle.dw_section.proofs.program.run_cie.Goals as goal
 

@@ -1,10 +1,9 @@
 use Rattle.std.proofs.Common.{subst, arith}
 use Rattle.std.proofs.lemmas.Result.{err_from_is_err_and}
-use Rattle.dw_num.specs.Span.{span_of}
+use Rattle.dw_num.specs.Span.{span_of, input_of}
 use Rattle.dw_cfa.specs.Faults.{FdeFault}
 use Rattle.dw_cfa.proofs.Lent.Given.{rules_behind}
 use Rattle.dw_cfa.specs.Rows.{Rules, AreSpecified}
-use Rattle.dw_section.specs.Programs.{input_of}
 use Rattle.dw_num.proofs.Lent.Refusals.{refuses_by}
 use Rattle.dw_section.proofs.program.run_fde.Goals as goal
 

@@ -1,11 +1,13 @@
-use Rattle.std.proofs.Common.{map, refl, sym, subst}
+use Rattle.std.proofs.Common.{◌≤◌, length, map, refl, sym, subst, inr, arith}
 use Rattle.std.proofs.lemmas.Result.{err_from_is_err_and}
 use Rattle.dw_section.specs.declared.lookup.Fde.{Fde}
 use Rattle.dw_section.specs.Ranges.{IsRanged, range_in, fde_in}
 use Rattle.dw_section.specs.Meaning.{NoneCovers}
-use Rattle.dw_section.specs.Meanings.{IsListed}
+use Rattle.dw_section.specs.Among.{IsAmong}
 use Rattle.dw_section.proofs.Lent.FdeLookup.{are_fdes, one_fdes, ranged_of}
-use Rattle.dw_section.proofs.StandLaws.{entry_listed, refuses_led}
+use Rattle.dw_section.specs.StandingFde.{LookUpFault, StandingFault}
+use Rattle.dw_section.proofs.StandFaults.{refuses_more}
+use Rattle.dw_section.proofs.StandLaws.{entry_listed}
 use Rattle.dw_section.proofs.standing_fde.look_up.Goals as goal
 
 pub returns-in_default-clause-own : goal.returns-in_default-clause-own
@@ -30,10 +32,15 @@ returns-in_err-found-clause-bad c =
     let e = err_from_is_err_and c.from_residual.result c.from_residual.ensures.1 in
     rw (e.1, e.2) (λ is. (c.from.result, (c.in-Some.entry, c.in-Some.ensures.among, c.in-Some.ensures.covers, c.from.ensures), c.in_err-found.ensures.bad is))
 
-pub returns-in_err-found-clause-led : goal.returns-in_err-found-clause-led
-returns-in_err-found-clause-led c =
+pub returns-in_err-found-clause-refused : goal.returns-in_err-found-clause-refused
+returns-in_err-found-clause-refused c =
     let e = err_from_is_err_and c.from_residual.result c.from_residual.ensures.1 in
-    rw (e.1, e.2) (refuses_led c.args.bytes.now c.args.index.now c.args.address c.from.result (c.in-Some.entry, c.in-Some.ensures.among, c.in-Some.ensures.covers, c.from.ensures) c.in_err-found.field-0.0)
+    let target = c.args.target in
+    let s = c.args.bytes.now in
+    let few : length s ≤ 2147483647 = omega (arith, c.if-bytes-gt-MOST.false) in
+    rw (e.1, e.2)
+    (refuses_more (StandingFault target s c.from.result c.args.address) (LookUpFault target s c.args.index.now c.args.address) c.in_err-found.field-0.0
+    (λ r fault. inr (few, (c.from.result, (c.in-Some.entry, c.in-Some.ensures.among, c.in-Some.ensures.covers, c.from.ensures), fault))) c.in_err-found.ensures.refused)
 
 pub returns-clause-own : goal.returns-clause-own
 returns-clause-own c = λ t.
@@ -45,5 +52,5 @@ returns-clause-own c = λ t.
     let ranged = subst (IsRanged t.indexed.headers) (sym (i.2 entry)) (ranged_of target s list t i.0 entry i.1) in
     let covers = c.in-Some.ensures.covers in
     let own = c.in_ok-found.ensures.own t.indexed.headers (range_in entry) entry.return_register t.indexed.hold ranged (sym c.from.ensures) covers.0 covers.1 in
-    let listed = subst (λ (f : Fde). IsListed f (map fde_in list)) (sym own.0) (entry_listed list entry i.0 i.1 i.2) in
-    (own.1, λ fs are. subst (IsListed c.in_ok-found.found) (one_fdes target s (map fde_in list) fs (are_fdes target s list t) are) listed)
+    let listed = subst (λ (f : Fde). IsAmong f (map fde_in list)) (sym own.0) (entry_listed list entry i.0 i.1 i.2) in
+    (own.1, λ fs are. subst (IsAmong c.in_ok-found.found) (one_fdes target s (map fde_in list) fs (are_fdes target s list t) are) listed)

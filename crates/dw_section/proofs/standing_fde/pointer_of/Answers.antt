@@ -1,10 +1,13 @@
 use Rattle.std.proofs.Common.{sym, ◌++◌, append_assoc, ◌∙◌, ap, List, ℕ}
 use Rattle.dw_section.specs.declared.fields.FdeFields.{FdeFields}
-use Rattle.dw_section.proofs.StandPlaces.{fixed_within}
+use Rattle.dw_section.specs.Inner.Pieces.{piece_in}
+use Rattle.dw_section.proofs.StandFaults.{is_named}
 use Rattle.dw_section.proofs.standing_fde.pointer_of.Goals as goal
 
-pub returns-clause-within : goal.returns-clause-within
-returns-clause-within c = fixed_within c.width_of.result (record { at = c.args.piece.now.contents.at; bytes = c.args.piece.now.contents.bytes.now; target = c.args.target }) c.new-cursor.result c.fixed.new.self c.fixed.result c.new-cursor.ensures c.fixed.ensures.exact
+pub returns-clause-names : goal.returns-clause-names
+returns-clause-names c = λ wide.
+    let p = piece_in c.args.piece.now in
+    is_named c.args.target p c.new-cursor.result c.fixed.new.self c.fixed.result c.new-cursor.ensures (rw c.width_of.ensures at c.fixed.ensures.exact) (rw c.width_of.ensures at c.fixed.ensures.found) wide
 
 pub returns-clause-only : goal.returns-clause-only
 returns-clause-only c = λ places f program is.

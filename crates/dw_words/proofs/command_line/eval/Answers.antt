@@ -1,7 +1,7 @@
 use Rattle.std.proofs.Common.{rules, codes, true, false}
 use Rattle.clap.specs.Words.{AddsArg, with_rule}
-use Rattle.dw_words.specs.CommandLine.{choice, operand, subcommand, eval}
-use Rattle.dw_words.specs.Inner.CommandLine.{IsArg, IsCommand}
+use Rattle.dw_words.specs.CommandLine.{operand}
+use Rattle.dw_words.specs.Inner.CommandLine.{IsArg, IsCommand, choice, subcommand, eval}
 use Rattle.dw_words.proofs.Commands.{added, ok_map}
 use Rattle.dw_words.proofs.command_line.eval.Goals as goal
 

@@ -1,7 +1,7 @@
 use Rattle.std.proofs.Common.{rules, codes, true}
 use Rattle.clap.specs.Words.{AddsArg, with_rule}
-use Rattle.dw_words.specs.CommandLine.{flag, operand, subcommand, expr}
-use Rattle.dw_words.specs.Inner.CommandLine.{IsArg, IsCommand}
+use Rattle.dw_words.specs.CommandLine.{flag, operand}
+use Rattle.dw_words.specs.Inner.CommandLine.{IsArg, IsCommand, subcommand, expr}
 use Rattle.dw_words.proofs.Commands.{added, ok_map}
 use Rattle.dw_words.proofs.command_line.expr.Goals as goal
 

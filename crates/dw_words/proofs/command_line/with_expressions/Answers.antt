@@ -1,6 +1,5 @@
 use Rattle.clap.specs.Words.{AddsSubcommand, App, with_subcommand}
-use Rattle.dw_words.specs.CommandLine.{expr, eval, unwind, with_expressions}
-use Rattle.dw_words.specs.Inner.CommandLine.{IsCommand}
+use Rattle.dw_words.specs.Inner.CommandLine.{IsCommand, expr, eval, unwind, with_expressions}
 use Rattle.dw_words.proofs.Commands.{nested, ok_map}
 use Rattle.dw_words.proofs.command_line.with_expressions.Goals as goal
 

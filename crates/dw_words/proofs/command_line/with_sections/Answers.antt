@@ -1,7 +1,6 @@
 use Rattle.std.proofs.Common.{codes}
 use Rattle.clap.specs.Words.{AddsSubcommand, App, with_subcommand}
-use Rattle.dw_words.specs.CommandLine.{over_file, with_sections}
-use Rattle.dw_words.specs.Inner.CommandLine.{IsCommand}
+use Rattle.dw_words.specs.Inner.CommandLine.{IsCommand, over_file, with_sections}
 use Rattle.dw_words.proofs.Commands.{nested, ok_map}
 use Rattle.dw_words.proofs.command_line.with_sections.Goals as goal
 

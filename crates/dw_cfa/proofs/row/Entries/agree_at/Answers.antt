@@ -1,7 +1,7 @@
 use Rattle.std.proofs.Common.{refl, sym}
 use Rattle.dw_cfa.specs.Rows.{rule_in}
 use Rattle.dw_cfa.specs.Inner.Entries.{entries_of}
-use Rattle.dw_cfa.specs.Agreement.{is_agreed}
+use Rattle.dw_cfa.specs.Inner.Agreement.{is_agreed}
 use Rattle.dw_cfa.proofs.Slots.{slots_ascend}
 use Rattle.dw_cfa.proofs.Lent.Narrowed.{leaves_none}
 use Rattle.dw_cfa.proofs.row.Entries.agree_at.Goals as goal

@@ -2,7 +2,7 @@ use Rattle.std.proofs.Common.{◌≡◌, ◌+◌, ◌<◌, arith}
 use Rattle.std.specs.Prelude.{◌/◌, ◌^◌}
 use Rattle.std.specs.Int.{trailing_zeros, w32}
 use Rattle.dw_cfa.specs.Inner.Entries.{entries_of}
-use Rattle.dw_cfa.specs.Agreement.{is_agreed}
+use Rattle.dw_cfa.specs.Inner.Agreement.{is_agreed}
 use Rattle.dw_cfa.proofs.Lent.Skipped.{none_more, up_to_used, below_more}
 use Rattle.dw_cfa.proofs.row.Entries.agree_near.Goals as goal
 

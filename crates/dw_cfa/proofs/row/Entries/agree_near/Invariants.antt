@@ -1,6 +1,6 @@
 use Rattle.std.proofs.Common.{◌-◌, ◌≤◌}
 use Rattle.dw_cfa.specs.Inner.Entries.{entries_of, EntriesSo, LeavesBelow}
-use Rattle.dw_cfa.specs.Agreement.{is_agreed}
+use Rattle.dw_cfa.specs.Inner.Agreement.{is_agreed}
 use Rattle.dw_cfa.proofs.row.Entries.agree_near.Given as goal
 
 abbrev pub invariant-slots : goal.invariant-slots

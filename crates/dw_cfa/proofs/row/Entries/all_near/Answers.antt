@@ -1,4 +1,4 @@
-use Rattle.std.proofs.Common.{rules, ◌≡◌, List, []}
+use Rattle.std.proofs.Common.{rules}
 use Rattle.dw_cfa.proofs.Slots.{has_far}
 use Rattle.dw_cfa.proofs.row.Entries.all_near.Goals as goal
 

@@ -1,9 +1,9 @@
 use Rattle.std.proofs.Common.{◌≡◌, ◌+◌, ◌<◌, arith, sym, refl, ◌∙◌}
-use Rattle.std.specs.Prelude.{◌/◌, ◌^◌, false}
+use Rattle.std.specs.Prelude.{◌/◌, ◌^◌}
 use Rattle.std.specs.Int.{trailing_zeros, w32}
 use Rattle.dw_cfa.specs.Rows.{rule_in}
 use Rattle.dw_cfa.specs.Inner.Entries.{entries_of}
-use Rattle.dw_cfa.specs.Agreement.{same_rule}
+use Rattle.dw_cfa.proofs.Lent.Equal.{not_one}
 use Rattle.dw_cfa.proofs.Difference.{none_left, up_to_next, same_on, one_more, slot_at}
 use Rattle.dw_cfa.proofs.row.Entries.next_near_difference.Goals as goal
 
@@ -33,7 +33,7 @@ returns-then-not-same_slots c =
     let q = k + trailing_zeros w32 (c.args.mask / 2 ^ k) in
     let one = slot_at e c.requires.so q c.from-at.result next.0 c.from-at.ensures in
     let two = slot_at f c.requires.others q c.from-at.result next.0 c.from-at.ensures in
-    let differs : same_rule (rule_in (entries_of e) q) (rule_in (entries_of f) q) ≡ false = rw (sym one, sym two) (sym c.if-not-same_slots.ensures.test) in
+    let differs : rule_in (entries_of e) q ≡ rule_in (entries_of f) q → ⊥ = λ same. not_one c.if-not-same_slots.ensures (one ∙ same ∙ sym two) in
     (next.0, (omega (arith, c.slots.invariant.0), same_on c.args.from k q (entries_of e) (entries_of f) c.slots.invariant.1 next.1, differs))
 
 pub slots-preserved : goal.slots-preserved
@@ -44,5 +44,5 @@ slots-preserved c =
     let q = k + trailing_zeros w32 (c.args.mask / 2 ^ k) in
     let one = slot_at e c.requires.so q c.from-at.result next.0 c.from-at.ensures in
     let two = slot_at f c.requires.others q c.from-at.result next.0 c.from-at.ensures in
-    let same = sym one ∙ c.if-not-same_slots.ensures.same.0 refl ∙ two in
+    let same = sym one ∙ c.if-not-same_slots.ensures.0 refl ∙ two in
     (omega (arith, c.slots.invariant.0), one_more c.args.from q (entries_of e) (entries_of f) (same_on c.args.from k q (entries_of e) (entries_of f) c.slots.invariant.1 next.1) same)

@@ -4,7 +4,7 @@ use Rattle.dw_eval.specs.Context.{context}
 use Rattle.dw_section.specs.declared.lookup.Fde.{Fde}
 use Rattle.dw_section.specs.Laws.{RowIsFor}
 use Rattle.dw_section.specs.Meaning.{Covers}
-use Rattle.dw_section.specs.Meanings.{IsListed as IsAmongFdes}
+use Rattle.dw_section.specs.Among.{IsAmong}
 use Rattle.dw_unwind.specs.Unwound.{IsCovered, FrameIs, FrameFails, Unwound, UnwindFails}
 use Rattle.dw_unwind.proofs.ColumnLaws.{over_map}
 use Rattle.dw_unwind.proofs.FrameLaws.{listed_at}
@@ -39,7 +39,7 @@ returns-clause-so g c =
       fdes = fs.0;
       are = fs.1;
       fde = c.fde.result;
-      among = subst (λ (f : Fde). IsAmongFdes f fs.0) (sym at) (listed_at fs.0 c.in-Some.fde.place c.fde.result found.0);
+      among = subst (λ (f : Fde). IsAmong f fs.0) (sym at) (listed_at fs.0 c.in-Some.fde.place c.fde.result found.0);
       covers = subst (Covers c.args.pc) (sym at) (found.1 c.fde.result);
       returns = refl;
       rules = rules;

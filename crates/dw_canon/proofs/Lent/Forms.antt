@@ -1,0 +1,130 @@
+-- Whatever tells equal rules, gives each list of operations its least block and each return register the row that its FDEs share
+-- gives the normal form the same bytes.
+use Rattle.std.proofs.Common.{◌≡◌, ℕ, ◌+◌, ◌-◌, Bool, List, [], ◌∷◌, ◌++◌, length, map, refl, sym, ap, ◌∙◌}
+use Rattle.std.specs.Prelude.{◌↔◌, ◌==◌, IsTrue, nat_eq, if◌then◌else◌}
+use Rattle.std.specs.List.{AllByRecursion, flat_map}
+use Rattle.dw_num.specs.Input.{AreBytes}
+use Rattle.dw_num.specs.declared.target.Target.{Target}
+use Rattle.dw_op.specs.declared.op.Op.{Op}
+use Rattle.dw_op.specs.Least.{LeastBlock}
+use Rattle.dw_op.specs.LeastBlock.{least_block}
+use Rattle.dw_op.proofs.Lent.LeastOne.{least_block_only}
+use Rattle.dw_cfa.specs.declared.instr.Instr.{Instr}
+use Rattle.dw_cfa.specs.declared.rule.CfaRule.{CfaRule}
+use Rattle.dw_cfa.specs.declared.rule.RegRule.{RegRule}
+use Rattle.dw_cfa.specs.Rows.{Rules}
+use Rattle.dw_section.specs.Accepted.{Accepted}
+use Rattle.dw_canon.specs.Canon.{return_registers}
+use Rattle.dw_canon.specs.Canon.{canon as canon_with}
+use Rattle.dw_canon.specs.Canon as form
+use Rattle.dw_canon.specs.Group.{group, IsShared}
+use Rattle.dw_canon.specs.Inner.Canon.{initial_of, cie_instrs, fde_instrs, cie_bytes, cie_at, fde_bytes, canon}
+use Rattle.dw_canon.specs.Inner.Fits.{InstrFits, MemberStands}
+use Rattle.dw_canon.specs.Members.{Member, AreMembers}
+use Rattle.dw_canon.specs.Normal.{IsNormalForm}
+use Rattle.dw_canon.specs.Spelling.{program_bytes}
+use Rattle.dw_canon.specs.Written.{written, cie_fields, fde_fields}
+use Rattle.dw_canon.proofs.Shared.{MemberFits, shared_is}
+use Rattle.dw_canon.proofs.Lent.Blocks.{same_program}
+use Rattle.dw_canon.proofs.Lent.InstrFits.{cie_fits, member_fits, with_all}
+use Rattle.dw_canon.proofs.Lent.MemberPlaces.{all_initial, all_some, all_to, group_fits}
+use Rattle.dw_canon.proofs.Lent.Rendered.{fits, stand}
+use Rattle.dw_canon.proofs.Lent.Tests.{cfa_test, cfa_test_tells, rule_test, rule_test_tells, same_cie, same_fde}
+
+-- the tests, the blocks and the initial rows are given
+module _ (t : Target) (ms : List Member) (all : AllByRecursion (MemberFits t) ms)
+    (test_cfa : CfaRule → CfaRule → Bool) (tells_cfa : (a b : CfaRule) → IsTrue (test_cfa a b) ↔ (a ≡ b))
+    (test_rule : RegRule → RegRule → Bool) (tells_rule : (a b : RegRule) → IsTrue (test_rule a b) ↔ (a ≡ b))
+    (block : List Op → List ℕ) (least : (ops : List Op) (bytes : List ℕ) → LeastBlock t ops bytes → block ops ≡ bytes) (initial : ℕ → Rules) where
+  -- a return register's FDEs have their initial row
+  abbrev HasOwn : ℕ → Type 0
+  HasOwn r = initial r ≡ initial_of ms r
+
+  -- a program by the given tests and blocks, and by ours
+  same_spelled : (given own : List Instr) → given ≡ own → AllByRecursion (InstrFits t) own → program_bytes block t given ≡ program_bytes (least_block t) t own
+  same_spelled given own e h = ap (program_bytes block t) e ∙ same_program t block least own h
+
+  same_cie_bytes : (r : ℕ) → HasOwn r → form.cie_bytes test_cfa test_rule block initial t r ≡ cie_bytes t ms r
+  same_cie_bytes r own =
+      let fits = group_fits t ms r all in
+      ap (λ (row : Rules). written t (cie_fields t r) (program_bytes block t (form.cie_instrs test_cfa test_rule row))) own
+      ∙ ap (written t (cie_fields t r))
+      (same_spelled (form.cie_instrs test_cfa test_rule (initial_of ms r)) (cie_instrs (initial_of ms r)) (same_cie t test_cfa tells_cfa test_rule tells_rule (initial_of ms r) fits) (cie_fits t (initial_of ms r) fits))
+
+  same_cies : (rs : List ℕ) → AllByRecursion HasOwn rs → flat_map (form.cie_bytes test_cfa test_rule block initial t) rs ≡ flat_map (cie_bytes t ms) rs
+  same_cies [] own = refl
+  same_cies (r ∷ rs) own =
+      ap (λ (b : List ℕ). b ++ flat_map (form.cie_bytes test_cfa test_rule block initial t) rs) (same_cie_bytes r own.0) ∙ ap (λ (b : List ℕ). cie_bytes t ms r ++ b) (same_cies rs own.1)
+
+  same_at : (at : ℕ) (rs : List ℕ) (register : ℕ) → AllByRecursion HasOwn rs → form.cie_at test_cfa test_rule block initial t at rs register ≡ cie_at t ms at rs register
+  same_at at [] register own = refl
+  same_at at (r ∷ rs) register own =
+      ap (λ (b : List ℕ). if r == register then at else form.cie_at test_cfa test_rule block initial t (at + length b) rs register) (same_cie_bytes r own.0)
+      ∙ ap (λ (n : ℕ). if r == register then at else n) (same_at (at + length (cie_bytes t ms r)) rs register own.1)
+
+  module _ (owns : AllByRecursion HasOwn (return_registers ms)) where
+    same_fde_bytes : (m : Member) → HasOwn m.register → MemberFits t m → MemberStands t (initial_of ms m.register) m
+        → form.fde_bytes test_cfa test_rule block initial t ms m ≡ fde_bytes t ms m
+    same_fde_bytes m own fit stands =
+        let row = initial_of ms m.register in
+        let row_fits = group_fits t ms m.register all in
+        ap (λ (x : Rules). written t (fde_fields t (form.cie_at test_cfa test_rule block initial t 0 (return_registers ms) m.register) m.begin (m.end - m.begin)) (program_bytes block t (form.fde_instrs test_cfa test_rule x m))) own
+        ∙ ap (λ (at : ℕ). written t (fde_fields t at m.begin (m.end - m.begin)) (program_bytes block t (form.fde_instrs test_cfa test_rule row m))) (same_at 0 (return_registers ms) m.register owns)
+        ∙ ap (written t (fde_fields t (cie_at t ms 0 (return_registers ms) m.register) m.begin (m.end - m.begin)))
+        (same_spelled (form.fde_instrs test_cfa test_rule row m) (fde_instrs row m) (same_fde t test_cfa tells_cfa test_rule tells_rule row row_fits m fit) (member_fits t row m row_fits stands))
+
+    same_fdes : (xs : List Member) → AllByRecursion (λ (m : Member). HasOwn m.register) xs → AllByRecursion (MemberFits t) xs
+        → AllByRecursion (λ (m : Member). MemberStands t (initial_of ms m.register) m) xs → flat_map (form.fde_bytes test_cfa test_rule block initial t ms) xs ≡ flat_map (fde_bytes t ms) xs
+    same_fdes [] own fit h = refl
+    same_fdes (m ∷ xs) own fit h =
+        ap (λ (b : List ℕ). b ++ flat_map (form.fde_bytes test_cfa test_rule block initial t ms) xs) (same_fde_bytes m own.0 fit.0 h.0)
+        ∙ ap (λ (b : List ℕ). fde_bytes t ms m ++ b) (same_fdes xs own.1 fit.1 h.1)
+
+  registers_own : (xs : List Member) → AllByRecursion (λ (m : Member). HasOwn m.register) xs → AllByRecursion HasOwn (map (λ (m : Member). m.register) xs)
+  registers_own [] h = tt
+  registers_own (m ∷ xs) h = (h.0, registers_own xs h.1)
+
+  pub same_canon : AllByRecursion (λ (m : Member). HasOwn m.register) ms → AllByRecursion (λ (m : Member). MemberStands t (initial_of ms m.register) m) ms
+      → form.canon test_cfa test_rule block initial t ms ≡ canon t ms
+  unfolding canon_with
+  same_canon own h =
+      let owns : AllByRecursion HasOwn (return_registers ms) = with_all HasOwn (map (λ (m : Member). m.register) ms) [] (registers_own ms own) tt in
+      ap (λ (b : List ℕ). b ++ flat_map (form.fde_bytes test_cfa test_rule block initial t ms) ms) (same_cies (return_registers ms) owns)
+      ∙ ap (λ (b : List ℕ). flat_map (cie_bytes t ms) (return_registers ms) ++ b) (same_fdes owns ms own all h)
+
+own_rows : (t : Target) (ms xs : List Member) (initial : ℕ → Rules) → AllByRecursion (MemberFits t) ms → AllByRecursion (λ (m : Member). IsShared (group m.register ms) (initial m.register)) xs
+    → AllByRecursion (λ (m : Member). initial m.register ≡ initial_of ms m.register) xs
+own_rows t ms xs initial all h =
+    all_to (λ (m : Member). IsShared (group m.register ms) (initial m.register)) (λ (m : Member). initial m.register ≡ initial_of ms m.register) xs
+    (λ m shared. shared_is t (group m.register ms) (all_some (MemberFits t) (λ (k : Member). nat_eq k.register m.register) ms all) (initial m.register) shared) h
+
+-- a normal form is the one of the code
+pub whole_is : (t : Target) (s n : List ℕ) → AreBytes s → (h : IsNormalForm t s n) → n ≡ canon t h.members
+whole_is t s n b h =
+    let all = fits t s b h.accepted h.members h.are in
+    h.whole ∙ same_canon t h.members all h.same_cfa h.tells_cfa h.same_rule h.tells_rule h.block h.least h.initial
+    (own_rows t h.members h.members h.initial all h.shared) (stand t s b h.accepted h.members h.are)
+
+own_self : (ms xs : List Member) → AllByRecursion (λ (m : Member). initial_of ms m.register ≡ initial_of ms m.register) xs
+own_self ms [] = tt
+own_self ms (m ∷ xs) = (refl, own_self ms xs)
+
+-- and that one is a normal form
+pub is_normal : (t : Target) (s : List ℕ) (ms : List Member) → AreBytes s → Accepted t s → AreMembers t s ms → IsNormalForm t s (canon t ms)
+is_normal t s ms b ok are =
+    let all = fits t s b ok ms are in
+    let blocks : (ops : List Op) (bytes : List ℕ) → LeastBlock t ops bytes → least_block t ops ≡ bytes = λ ops bytes h. sym (least_block_only t ops bytes h) in
+    record {
+      accepted = ok;
+      members = ms;
+      are = are;
+      same_cfa = cfa_test;
+      tells_cfa = cfa_test_tells;
+      same_rule = rule_test;
+      tells_rule = rule_test_tells;
+      block = least_block t;
+      least = blocks;
+      initial = initial_of ms;
+      shared = all_initial t ms all;
+      whole = sym (same_canon t ms all cfa_test cfa_test_tells rule_test rule_test_tells (least_block t) blocks (initial_of ms) (own_self ms ms) (stand t s b ok ms are));
+    }

@@ -1,0 +1,68 @@
+-- What tells equal rules is our test, and what two rows have in common is what the tests leave.
+use Rattle.std.proofs.Common.{◌≡◌, ◌⊎◌, Bool, false, refl, sym, ◌∙◌, inl, inr}
+use Rattle.std.specs.Prelude.{IsTrue, ◌↔◌, if◌then◌else◌}
+use Rattle.std.specs.Bool.{Decides, one_answer}
+use Rattle.std.proofs.lemmas.Bool.{cases_Bool}
+use Rattle.std.proofs.lemmas.Bool.Decides.{not_from_Decides}
+use Rattle.dw_cfa.specs.declared.rule.CfaRule.{CfaRule}
+use Rattle.dw_cfa.specs.declared.rule.CfaRule.TheVariants as cfa
+use Rattle.dw_cfa.specs.declared.rule.RegRule.{RegRule}
+use Rattle.dw_cfa.specs.declared.rule.RegRule.TheVariants as rules
+use Rattle.dw_cfa.specs.Agreement.{InCommon, IsAgreed}
+use Rattle.dw_cfa.specs.Inner.Agreement.{agreed, is_agreed, same_cfa, same_rule}
+use Rattle.dw_cfa.specs.Inner.RowEquality.{cfa_tells, rule_tells}
+use Rattle.dw_cfa.specs.Rows.{Rules, AreSpecified, rule}
+use Rattle.dw_cfa.proofs.Lent.Narrowed.{filter_keeps, filter_rule}
+use Rattle.dw_cfa.proofs.Lent.SameRows.{same_rows}
+
+-- what tells equal rules is the test
+pub cfa_test_of : (a b : CfaRule) (r : Bool) → (IsTrue r ↔ (a ≡ b)) → r ≡ same_cfa a b
+cfa_test_of a b r is = one_answer r (same_cfa a b) is (cfa_tells a b)
+
+pub test_of : (a b : RegRule) (r : Bool) → (IsTrue r ↔ (a ≡ b)) → r ≡ same_rule a b
+test_of a b r is = one_answer r (same_rule a b) is (rule_tells a b)
+
+-- the same of values that are known to be those
+pub test_at : (x y a b : RegRule) (r : Bool) → (IsTrue r ↔ (x ≡ y)) → x ≡ a → y ≡ b → r ≡ same_rule a b
+test_at x y a b r is one two = rw (sym one, sym two) (test_of x y r is)
+
+pub differs_of : (a b : RegRule) → (a ≡ b → ⊥) → same_rule a b ≡ false
+differs_of a b differ = elim (cases_Bool (same_rule a b)) [ inl e ↦ absurd (differ ((rule_tells a b).0 e)) | inr e ↦ e ]
+
+-- a test that answers no
+pub not_one : {P : Type 0} → (IsTrue false ↔ P) → P → ⊥
+not_one is = not_from_Decides false is refl
+
+-- two values are one, or they are not
+abbrev pub Told : Type 0 → Type 0
+Told X = (x y : X) → (x ≡ y) ⊎ (x ≡ y → ⊥)
+
+-- a test that tells equal values decides that
+pub told_of : {X : Type 0} (same : X → X → Bool) → ((x y : X) → Decides (same x y) (x ≡ y)) → Told X
+told_of same tells x y = elim (cases_Bool (same x y)) [ inl e ↦ inl ((tells x y).0 e) | inr e ↦ inr (not_from_Decides (same x y) (tells x y) e) ]
+
+pub cfa_told : Told CfaRule
+cfa_told = told_of same_cfa cfa_tells
+
+pub rule_told : Told RegRule
+rule_told = told_of same_rule rule_tells
+
+-- ---- rows
+
+cfa_agrees : (old other new : CfaRule) → InCommon cfa.Unset old other new → new ≡ (if same_cfa old other then old else cfa.Unset)
+cfa_agrees old other new h = elim (cases_Bool (same_cfa old other)) [
+  | inl e ↦ rw e (h.0 ((cfa_tells old other).0 e))
+  | inr e ↦ rw e (h.1 (not_from_Decides (same_cfa old other) (cfa_tells old other) e))
+]
+
+rule_agrees : (old other new : RegRule) → InCommon rules.Unspecified old other new → new ≡ (if same_rule old other then old else rules.Unspecified)
+rule_agrees old other new h = elim (cases_Bool (same_rule old other)) [
+  | inl e ↦ rw e (h.0 ((rule_tells old other).0 e))
+  | inr e ↦ rw e (h.1 (not_from_Decides (same_rule old other) (rule_tells old other) e))
+]
+
+-- it is one row, where the registers are listed
+pub agreed_of : (old other new : Rules) → AreSpecified 0 old.registers → IsAgreed old other new → new ≡ agreed old other
+agreed_of old other new up h =
+    same_rows new (agreed old other) h.listed (filter_keeps (is_agreed other.registers) 0 old.registers up) (cfa_agrees old.cfa other.cfa new.cfa h.cfa)
+    (λ r. rule_agrees (rule old r) (rule other r) (rule new r) (h.rules r) ∙ sym (filter_rule (is_agreed other.registers) 0 old.registers r up))

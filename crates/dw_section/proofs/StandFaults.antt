@@ -1,0 +1,70 @@
+-- What is refused where an entry stands is its first fault.
+use Rattle.std.proofs.Common.{◌≡◌, ℕ, ◌+◌, ◌≤◌, List, [], ◌∷◌, length, drop, take, Some, Result, Ok, Err, refl, sym, ap, subst, ◌∙◌, inl, inr}
+use Rattle.std.specs.Prelude.{IfOk, MatchResult}
+use Rattle.std.proofs.lemmas.Bool.{le-ltb}
+use Rattle.std.proofs.lemmas.List.{take-append-drop, take_at}
+use Rattle.dw_num.specs.declared.refusal.Code.TheVariants.{NoSuchCie}
+use Rattle.dw_num.specs.declared.refusal.Refusal.{Refusal}
+use Rattle.dw_num.specs.declared.target.Order.{Order}
+use Rattle.dw_num.specs.declared.target.Target.{Target}
+use Rattle.dw_num.specs.Fixed.{Fixed}
+use Rattle.dw_num.specs.Front.{Reads, fixed_at}
+use Rattle.dw_num.specs.Input.{Input, Takes}
+use Rattle.dw_num.specs.Span.{input_of}
+use Rattle.dw_num.proofs.Lent.FixedLaws.{fixed_only, length-fixed}
+use Rattle.dw_op.proofs.Lent.ReadingLaws.{some_is}
+use Rattle.dw_section.specs.declared.entry.Kind.TheVariants as kind
+use Rattle.dw_section.specs.declared.standing_fde.LookUpError.{LookUpError}
+use Rattle.dw_section.specs.declared.standing_fde.LookUpError.TheVariants.{Refused, BadIndex, OutOfMemory}
+use Rattle.dw_section.specs.Cut.{Item, IsItem, gap, entry, Piece, id_width, piece_of}
+use Rattle.dw_section.specs.Headers.{Head, Has, FdeStuck}
+use Rattle.dw_section.specs.Inner.PieceHeader.{cie_at, fde_at}
+use Rattle.dw_section.specs.StandingFde.{BothStuck, Names, RefusesAs, StandsAs, StandsIn}
+use Rattle.dw_section.proofs.Lent.HeaderLaws.{cie_faulty, fde_faulty, has_fde}
+
+-- ---- the first field
+
+-- an entry has one
+pub stands_wide : (order : Order) (s : List ℕ) (p : Piece) → StandsIn order s p → id_width p.form ≤ length p.contents.bytes
+stands_wide order s p w = of w.item w.is w.piece
+  where
+    of : (item : Item) → IsItem item → piece_of order (length w.front) item ≡ Some p → id_width p.form ≤ length p.contents.bytes
+    of gap is e = absurd cc
+    of (entry form body) is e = subst (λ (q : Piece). id_width q.form ≤ length q.contents.bytes) (some_is _ p e) is.1
+
+-- a number that is there is read
+fixed_there : (n : ℕ) (i : Input) (r : Refusal) → n ≤ length i.bytes → fixed_at n i ≡ Err r → ⊥
+unfolding fixed_at
+fixed_there n i r long e = let bad = rw (le-ltb (length i.bytes) n long) at e in absurd cc
+
+pub is_named : (target : Target) (p : Piece) (i new : Input) (result : Result ℕ Refusal) → i ≡ input_of target p.contents → Reads (λ (v : ℕ). v) result i (fixed_at (id_width p.form) i) new
+    → IfOk result (λ v. (b : List ℕ) × Fixed i.target.order (id_width p.form) v b × Takes i b new) → id_width p.form ≤ length p.contents.bytes → MatchResult result (Names target p) (λ r. ⊥)
+is_named target p i new (Ok v) is reads found wide =
+    let n = id_width p.form in
+    let len : length found.0 ≡ n = ap length found.1.bytes ∙ length-fixed i.target.order n v in
+    let first : take n i.bytes ≡ found.0 = ap (take n) found.2.bytes ∙ take_at found.0 new.bytes n len in
+    subst (λ (j : Input). Fixed j.target.order n v (take n j.bytes)) is (subst (Fixed i.target.order n v) (sym first) found.1)
+is_named target p i new (Err r) is reads found wide = fixed_there (id_width p.form) (input_of target p.contents) r wide (subst (λ (j : Input). fixed_at (id_width p.form) j ≡ Err r) is reads.0)
+
+-- ---- fields
+
+-- no CIE stands where it says
+pub no_cie : (target : Target) (own : Piece) (at : ℕ) → own.kind ≡ kind.Fde → Names target own at → FdeStuck target [] own (record { code = NoSuchCie; at = own.contents.at })
+no_cie target own at is names =
+    let n = id_width own.form in
+    let bytes = own.contents.bytes in
+    (is, inr (at, record { at = own.contents.at + length (take n bytes); bytes = drop n bytes; target = target }, fixed_only n (input_of target own.contents) at (take n bytes) (drop n bytes) names (sym (take-append-drop n bytes)), refl))
+
+pub own_stuck : (target : Target) (s : List ℕ) (own named : Piece) (at : ℕ) (r : Refusal) → own.kind ≡ kind.Fde → StandsAs target s kind.Cie at named → fde_at target (at ∷ []) own ≡ Err r → BothStuck target own (Some named) r
+own_stuck target s own named at r is stands stuck = inl (is, fde_faulty target (named.at ∷ []) own r (subst (λ (n : ℕ). fde_at target (n ∷ []) own ≡ Err r) (sym stands.2) stuck))
+
+pub named_stuck : (target : Target) (s : List ℕ) (own named : Piece) (at : ℕ) (h : Head) (r : Refusal) → StandsAs target s kind.Cie at named → Has target (at ∷ []) own h → cie_at target named ≡ Err r → BothStuck target own (Some named) r
+named_stuck target s own named at h r stands has stuck =
+    inr (has_fde target (named.at ∷ []) own h (subst (λ (n : ℕ). Has target (n ∷ []) own h) (sym stands.2) has), (stands.1, cie_faulty target named r stuck))
+
+-- ---- errors
+
+pub refuses_more : (P Q : Refusal → Type 0) (e : LookUpError) → ((r : Refusal) → P r → Q r) → RefusesAs P e → RefusesAs Q e
+refuses_more P Q (Refused r) f h = f r h
+refuses_more P Q BadIndex f h = tt
+refuses_more P Q OutOfMemory f h = tt
