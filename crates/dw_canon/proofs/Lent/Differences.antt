@@ -24,7 +24,7 @@ use Rattle.dw_canon.specs.Difference.{cfa_to, either}
 use Rattle.dw_canon.specs.Inner.Difference.{cfa_difference, rule_difference, difference, with_register, with_registers}
 use Rattle.dw_section.specs.Inner.Sound.{CfaFits, RowFits}
 use Rattle.dw_cfa.specs.Inner.Agreement.{same_cfa, same_rule}
-use Rattle.dw_canon.proofs.Tested.{cfa_is, rule_is, rule_fits}
+use Rattle.dw_cfa.specs.Inner.RowEquality.{cfa_tells, rule_tells}
 
 -- ---- instructions that move no location, and run without a fault from one state to another
 
@@ -68,7 +68,7 @@ module _ (limit : ℕ) (initial old : Rules) (at : ℕ) where
   pub cfa_quiet : (t : Target) (new : CfaRule) → CfaFits t old.cfa → CfaFits t new → ((new ≡ cfa.Unset) → old.cfa ≡ cfa.Unset)
       → Quiet limit initial (cfa_difference old.cfa new) (on old at) (on (with_cfa new old) at)
   cfa_quiet t new h k set = elim (cases_Bool (same_cfa old.cfa new)) [
-    | inl e ↦ rw e (ap (λ (c : CfaRule). on (with_cfa c old) at) (cfa_is t old.cfa new h k e))
+    | inl e ↦ rw e (ap (λ (c : CfaRule). on (with_cfa c old) at) ((cfa_tells old.cfa new).0 e))
     | inr e ↦ rw e (cfa_leads t old.cfa new refl h k (λ unset. let both : same_cfa old.cfa new ≡ true = rw (unset, set unset) refl in absurd cc))
   ]
 
@@ -87,7 +87,7 @@ module _ (t : Target) (limit : ℕ) (initial old new : Rules) (at : ℕ) (h : Ro
   one_quiet r row = elim (cases_Bool (same_rule (rule old r) (rule new r))) [
     | inl e ↦ rw e refl
     | inr e ↦ rw e (elim (cases_Bool (same_rule (rule new r) (rule initial r))) [
-      | inl f ↦ rw f (refl, no_half (Restore r) row.cfa refl, ap (λ (x : RegRule). on (with_rule r x row) at) (sym (rule_is t (rule new r) (rule initial r) (rule_fits t new k r) (rule_fits t initial h r) f)))
+      | inl f ↦ rw f (refl, no_half (Restore r) row.cfa refl, ap (λ (x : RegRule). on (with_rule r x row) at) (sym ((rule_tells (rule new r) (rule initial r)).0 f)))
       | inr f ↦ rw f (refl, no_half (Set r (rule new r)) row.cfa refl, refl)
     ])
   ]
@@ -136,7 +136,7 @@ module _ (t : Target) (initial old new : Rules) (h : RowFits t initial) (j : Row
   one_left : (r : ℕ) (rs : List ℕ) (row : Rules) → same_rule (rule old r) (rule new r) ≡ true → Owes (r ∷ rs) row → Owes rs row
   one_left r rs row e (inl now) = inl now
   one_left r rs row e (inr (was, inl here)) =
-      let same = rule_is t (rule old r) (rule new r) (rule_fits t old j r) (rule_fits t new k r) e in
+      let same = (rule_tells (rule old r) (rule new r)).0 e in
       inl (was ∙ subst (λ (x : ℕ). rule old x ≡ rule new x) here same)
   one_left r rs row e (inr (was, inr more)) = inr (was, more)
 

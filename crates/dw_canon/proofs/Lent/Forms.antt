@@ -12,6 +12,8 @@ use Rattle.dw_op.proofs.Lent.LeastOne.{least_block_only}
 use Rattle.dw_cfa.specs.declared.instr.Instr.{Instr}
 use Rattle.dw_cfa.specs.declared.rule.CfaRule.{CfaRule}
 use Rattle.dw_cfa.specs.declared.rule.RegRule.{RegRule}
+use Rattle.dw_cfa.specs.Inner.Agreement.{same_cfa, same_rule}
+use Rattle.dw_cfa.specs.Inner.RowEquality.{cfa_tells, rule_tells}
 use Rattle.dw_cfa.specs.Rows.{Rules}
 use Rattle.dw_section.specs.Accepted.{Accepted}
 use Rattle.dw_canon.specs.Canon.{return_registers}
@@ -29,7 +31,7 @@ use Rattle.dw_canon.proofs.Lent.Blocks.{same_program}
 use Rattle.dw_canon.proofs.Lent.InstrFits.{cie_fits, member_fits, with_all}
 use Rattle.dw_canon.proofs.Lent.MemberPlaces.{all_initial, all_some, all_to, group_fits}
 use Rattle.dw_canon.proofs.Lent.Rendered.{fits, stand}
-use Rattle.dw_canon.proofs.Lent.Tests.{cfa_test, cfa_test_tells, rule_test, rule_test_tells, same_cie, same_fde}
+use Rattle.dw_canon.proofs.Lent.Tests.{same_cie, same_fde}
 
 -- the tests, the blocks and the initial rows are given
 module _ (t : Target) (ms : List Member) (all : AllByRecursion (MemberFits t) ms)
@@ -49,7 +51,7 @@ module _ (t : Target) (ms : List Member) (all : AllByRecursion (MemberFits t) ms
       let fits = group_fits t ms r all in
       ap (λ (row : Rules). written t (cie_fields t r) (program_bytes block t (form.cie_instrs test_cfa test_rule row))) own
       ∙ ap (written t (cie_fields t r))
-      (same_spelled (form.cie_instrs test_cfa test_rule (initial_of ms r)) (cie_instrs (initial_of ms r)) (same_cie t test_cfa tells_cfa test_rule tells_rule (initial_of ms r) fits) (cie_fits t (initial_of ms r) fits))
+      (same_spelled (form.cie_instrs test_cfa test_rule (initial_of ms r)) (cie_instrs (initial_of ms r)) (same_cie test_cfa tells_cfa test_rule tells_rule (initial_of ms r)) (cie_fits t (initial_of ms r) fits))
 
   same_cies : (rs : List ℕ) → AllByRecursion HasOwn rs → flat_map (form.cie_bytes test_cfa test_rule block initial t) rs ≡ flat_map (cie_bytes t ms) rs
   same_cies [] own = refl
@@ -63,22 +65,20 @@ module _ (t : Target) (ms : List Member) (all : AllByRecursion (MemberFits t) ms
       ∙ ap (λ (n : ℕ). if r == register then at else n) (same_at (at + length (cie_bytes t ms r)) rs register own.1)
 
   module _ (owns : AllByRecursion HasOwn (return_registers ms)) where
-    same_fde_bytes : (m : Member) → HasOwn m.register → MemberFits t m → MemberStands t (initial_of ms m.register) m
-        → form.fde_bytes test_cfa test_rule block initial t ms m ≡ fde_bytes t ms m
-    same_fde_bytes m own fit stands =
+    same_fde_bytes : (m : Member) → HasOwn m.register → MemberStands t (initial_of ms m.register) m → form.fde_bytes test_cfa test_rule block initial t ms m ≡ fde_bytes t ms m
+    same_fde_bytes m own stands =
         let row = initial_of ms m.register in
-        let row_fits = group_fits t ms m.register all in
         ap (λ (x : Rules). written t (fde_fields t (form.cie_at test_cfa test_rule block initial t 0 (return_registers ms) m.register) m.begin (m.end - m.begin)) (program_bytes block t (form.fde_instrs test_cfa test_rule x m))) own
         ∙ ap (λ (at : ℕ). written t (fde_fields t at m.begin (m.end - m.begin)) (program_bytes block t (form.fde_instrs test_cfa test_rule row m))) (same_at 0 (return_registers ms) m.register owns)
         ∙ ap (written t (fde_fields t (cie_at t ms 0 (return_registers ms) m.register) m.begin (m.end - m.begin)))
-        (same_spelled (form.fde_instrs test_cfa test_rule row m) (fde_instrs row m) (same_fde t test_cfa tells_cfa test_rule tells_rule row row_fits m fit) (member_fits t row m row_fits stands))
+        (same_spelled (form.fde_instrs test_cfa test_rule row m) (fde_instrs row m) (same_fde test_cfa tells_cfa test_rule tells_rule row m) (member_fits t row m (group_fits t ms m.register all) stands))
 
-    same_fdes : (xs : List Member) → AllByRecursion (λ (m : Member). HasOwn m.register) xs → AllByRecursion (MemberFits t) xs
+    same_fdes : (xs : List Member) → AllByRecursion (λ (m : Member). HasOwn m.register) xs
         → AllByRecursion (λ (m : Member). MemberStands t (initial_of ms m.register) m) xs → flat_map (form.fde_bytes test_cfa test_rule block initial t ms) xs ≡ flat_map (fde_bytes t ms) xs
-    same_fdes [] own fit h = refl
-    same_fdes (m ∷ xs) own fit h =
-        ap (λ (b : List ℕ). b ++ flat_map (form.fde_bytes test_cfa test_rule block initial t ms) xs) (same_fde_bytes m own.0 fit.0 h.0)
-        ∙ ap (λ (b : List ℕ). fde_bytes t ms m ++ b) (same_fdes xs own.1 fit.1 h.1)
+    same_fdes [] own h = refl
+    same_fdes (m ∷ xs) own h =
+        ap (λ (b : List ℕ). b ++ flat_map (form.fde_bytes test_cfa test_rule block initial t ms) xs) (same_fde_bytes m own.0 h.0)
+        ∙ ap (λ (b : List ℕ). fde_bytes t ms m ++ b) (same_fdes xs own.1 h.1)
 
   registers_own : (xs : List Member) → AllByRecursion (λ (m : Member). HasOwn m.register) xs → AllByRecursion HasOwn (map (λ (m : Member). m.register) xs)
   registers_own [] h = tt
@@ -90,7 +90,7 @@ module _ (t : Target) (ms : List Member) (all : AllByRecursion (MemberFits t) ms
   same_canon own h =
       let owns : AllByRecursion HasOwn (return_registers ms) = with_all HasOwn (map (λ (m : Member). m.register) ms) [] (registers_own ms own) tt in
       ap (λ (b : List ℕ). b ++ flat_map (form.fde_bytes test_cfa test_rule block initial t ms) ms) (same_cies (return_registers ms) owns)
-      ∙ ap (λ (b : List ℕ). flat_map (cie_bytes t ms) (return_registers ms) ++ b) (same_fdes owns ms own all h)
+      ∙ ap (λ (b : List ℕ). flat_map (cie_bytes t ms) (return_registers ms) ++ b) (same_fdes owns ms own h)
 
 own_rows : (t : Target) (ms xs : List Member) (initial : ℕ → Rules) → AllByRecursion (MemberFits t) ms → AllByRecursion (λ (m : Member). IsShared (group m.register ms) (initial m.register)) xs
     → AllByRecursion (λ (m : Member). initial m.register ≡ initial_of ms m.register) xs
@@ -118,13 +118,13 @@ is_normal t s ms b ok are =
       accepted = ok;
       members = ms;
       are = are;
-      same_cfa = cfa_test;
-      tells_cfa = cfa_test_tells;
-      same_rule = rule_test;
-      tells_rule = rule_test_tells;
+      same_cfa = same_cfa;
+      tells_cfa = cfa_tells;
+      same_rule = same_rule;
+      tells_rule = rule_tells;
       block = least_block t;
       least = blocks;
       initial = initial_of ms;
       shared = all_initial t ms all;
-      whole = sym (same_canon t ms all cfa_test cfa_test_tells rule_test rule_test_tells (least_block t) blocks (initial_of ms) (own_self ms ms) (stand t s b ok ms are));
+      whole = sym (same_canon t ms all same_cfa cfa_tells same_rule rule_tells (least_block t) blocks (initial_of ms) (own_self ms ms) (stand t s b ok ms are));
     }

@@ -22,7 +22,7 @@ use Rattle.dw_canon.specs.Inner.Fits.{RestsOn, ChangesStand, MemberStands}
 use Rattle.dw_canon.specs.Inner.Fits.{InstrFits}
 use Rattle.dw_canon.specs.Members.{Member}
 use Rattle.dw_cfa.specs.Inner.Agreement.{same_cfa, same_rule}
-use Rattle.dw_canon.proofs.Tested.{rule_fits}
+use Rattle.dw_canon.proofs.RowFits.{rule_fits}
 use Rattle.dw_canon.proofs.Lent.Programs.{below_end}
 
 pub all_more : {X : Type 0} (P : X → Type 0) (xs ys : List X) → AllByRecursion P xs → AllByRecursion P ys → AllByRecursion P (xs ++ ys)

@@ -15,7 +15,7 @@ use Rattle.dw_section.proofs.Lent.OpeningLaws.{Specifies}
 use Rattle.dw_canon.specs.Inner.Group.{kept_by}
 use Rattle.dw_canon.specs.Members.{Member}
 use Rattle.dw_canon.proofs.Shared.{MemberFits, agreed_below, agreed_fits, agreed_stays, kept_by_below, kept_by_cfa, kept_by_fits, kept_by_or, kept_by_stays, next_cfa, next_fits, next_or, same_self, specified_or}
-use Rattle.dw_canon.proofs.Tested.{cfa_self}
+use Rattle.dw_cfa.specs.Inner.RowEquality.{cfa_tells}
 
 -- a row has no rules but some of another row's
 pub record PartOf (t : Target) (s row : Rules) : Type 0 where
@@ -45,7 +45,7 @@ module _ (t : Target) (s row : Rules) (h : PartOf t s row) (k : RowFits t row) w
   agreed_cfa : (agreed s row).cfa ≡ s.cfa
   agreed_cfa = elim h.cfa [
     | inl none ↦ unset_stays (same_cfa s.cfa row.cfa) s.cfa none
-    | inr same ↦ rw (same, cfa_self t s.cfa h.fits.cfa) refl
+    | inr same ↦ rw (same, (cfa_tells s.cfa s.cfa).1 refl) refl
   ]
 
   agreed_same : agreed s row ≡ s
