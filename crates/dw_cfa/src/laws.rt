@@ -1,6 +1,6 @@
 //! Laws of rows, for the layers above. The functions do nothing: their contracts are proved.
 
-ghost use Rattle.dw_cfa.specs.Match.{RestoresMatched};
+ghost use Rattle.dw_cfa.specs.Match.{MatchExists, RestoresMatched};
 ghost use Rattle.dw_cfa.specs.FaultPlaces.{CieFaultsWithin, FdeFaultsWithin, RunFaultsWithin};
 ghost use Rattle.dw_cfa.specs.RowLaws.{OneRun, RefusedWhereFault, RowsWhereKept, NoneFalls, LastHolds, OneHolds, OneInitial, OneBehind, BehindWhereFault};
 
@@ -14,6 +14,7 @@ pub fn row_laws()
     ensures one { OneHolds }
     ensures within { RunFaultsWithin }
     ensures matched { RestoresMatched }
+    ensures found { MatchExists }
 {}
 
 /// What holds of the row that a CIE's program leaves, and of its refusal.

@@ -1,6 +1,6 @@
 use Rattle.std.proofs.Common.{sym, ◌∙◌}
 use Rattle.dw_cfa.specs.RowLaws.{OneHolds}
-use Rattle.dw_cfa.proofs.Match.{restores_matched}
+use Rattle.dw_cfa.proofs.Match.{restores_matched, match_exists}
 use Rattle.dw_cfa.proofs.Lent.Given.{one_run, refused_where_fault, given_where_kept, given_falls, given_holds}
 use Rattle.dw_cfa.proofs.Lent.FaultPlaces.{run_within}
 use Rattle.dw_cfa.proofs.Lent.SameRows.{same_rows}
@@ -19,4 +19,5 @@ returns c = record {
   one = one_holds;
   within = run_within;
   matched = restores_matched;
+  found = match_exists;
 }
