@@ -6,7 +6,7 @@ files of specs/; comments, imports and blank lines are not counted.
     checks/definitions.py [--write] [--root FOLDER]
 
 It compares the file with what the sources say, and --write writes it. It fails where a clause rests on a definition of specs/Inner,
-which are the code's own.
+which are the code's own, and where a definition stands in specs/ outside that folder that no public call rests on.
 """
 import argparse
 import os
@@ -149,7 +149,8 @@ def written(root):
     table = ["| Crate | Calls | Definitions of its own | in lines | with those of lower crates |", "|---|---|---|---|---|", *sums]
     total = f"\nAll crates together: {len(everything)} definitions in {specs.lines(everything)} lines.\n"
     inner = {it for it in everything if ".Inner." in it[0]}
-    return "\n".join([HEAD, *table, total, *parts]), inner
+    idle = {it for it in specs.items if ".Inner." not in f"{it[0]}."} - everything
+    return "\n".join([HEAD, *table, total, *parts]), inner, idle
 
 
 def main():
@@ -157,9 +158,12 @@ def main():
     parser.add_argument("--root", default=os.path.join(os.path.dirname(os.path.abspath(__file__)), ".."))
     parser.add_argument("--write", action="store_true")
     given = parser.parse_args()
-    path, (text, inner) = f"{given.root}/docs/DEFINITIONS.md", written(given.root)
+    path, (text, inner, idle) = f"{given.root}/docs/DEFINITIONS.md", written(given.root)
     if inner:
         print("clauses of public calls rest on definitions of specs/Inner:", short(inner))
+        return 1
+    if idle:
+        print("definitions outside of specs/Inner that no public call rests on:", short(idle))
         return 1
     if given.write:
         with open(path, "w", encoding="utf-8") as it:

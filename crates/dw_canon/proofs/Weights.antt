@@ -8,7 +8,7 @@ use Rattle.dw_num.specs.declared.target.Target.{Target}
 use Rattle.dw_num.specs.Leb.{Register}
 use Rattle.dw_num.specs.Shortest.{shortest_uleb, shortest_sleb}
 use Rattle.dw_num.proofs.Lent.Shortest.{shortest_uleb-most, shortest_uleb-one, shortest_uleb-ten, shortest_signed-ten, leb_some}
-use Rattle.dw_op.specs.LeastBlock.{least_block}
+use Rattle.dw_op.specs.Inner.LeastBlock.{least_block}
 use Rattle.dw_op.specs.Expression.{Expression}
 use Rattle.dw_op.specs.OpSpells.{Code, Both}
 use Rattle.dw_op.proofs.Lent.LeastBlocks.{least_block_exists, least_no_longer}

@@ -149,7 +149,7 @@ impl fmt::Display for Code {
     }
 }
 
-/// A fault, and the byte that it is found at: a place in the section.
+/// A fault, and the byte that it is found at: a place in the section, or in the block where a block alone was given.
 #[derive(Clone, Copy, Debug, PartialEq, Eq)]
 pub struct Refusal {
     /// What is wrong.

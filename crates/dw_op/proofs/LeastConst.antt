@@ -26,7 +26,7 @@ use Rattle.dw_op.specs.OpSpells.{Code}
 use Rattle.dw_op.specs.Inner.ByOperation.{Unsigned, ConstForm, Const1u, Const1s, Const2u, Const2s, Const4u, Const4s, Const8u, Const8s, Constu, Consts, Lit, Written}
 use Rattle.dw_op.specs.Operands.{modulo}
 use Rattle.dw_op.specs.Least.{AtMost}
-use Rattle.dw_op.specs.LeastOf.{spelling, operand_bytes, spelling_bytes, constant, long_constant, longest_constant}
+use Rattle.dw_op.specs.Inner.LeastOf.{spelling, operand_bytes, spelling_bytes, constant, long_constant, longest_constant}
 use Rattle.dw_op.proofs.Lent.Spellings.{LeastSo}
 
 -- ---- what a form can write

@@ -23,7 +23,7 @@ use Rattle.dw_op.specs.declared.least.Operand.TheVariants as operand
 use Rattle.dw_op.specs.OpSpells.{Code, Both, AnyTwo}
 use Rattle.dw_op.specs.Inner.ByOperation.{IsSpelled, Counted}
 use Rattle.dw_op.specs.Least.{AtMost, Least}
-use Rattle.dw_op.specs.LeastOf.{operand_bytes, spelling_bytes, address, register_form, register_offset, least_spelling, least_bytes}
+use Rattle.dw_op.specs.Inner.LeastOf.{operand_bytes, spelling_bytes, address, register_form, register_offset, least_spelling, least_bytes}
 use Rattle.dw_op.specs.Expression.{bare}
 use Rattle.dw_op.specs.Ranges.{InRange}
 use Rattle.dw_op.proofs.Lent.Spellings.{InRangeSo, LeastSo, range_so, so_least}

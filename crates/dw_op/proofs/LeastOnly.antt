@@ -18,10 +18,10 @@ use Rattle.dw_op.specs.declared.least.Operand.TheVariants as operand
 use Rattle.dw_op.specs.OpSpells.{Code, Both, AnyTwo}
 use Rattle.dw_op.specs.Inner.ByOperation.{IsSpelled, Counted}
 use Rattle.dw_op.specs.Least.{Least}
-use Rattle.dw_op.specs.LeastOf.{spelling_bytes, address, register_form, register_offset, least_spelling, least_bytes}
+use Rattle.dw_op.specs.Inner.LeastOf.{spelling_bytes, address, register_form, register_offset, least_spelling, least_bytes}
 use Rattle.dw_op.specs.Block.{Displaced, branch_target}
 use Rattle.dw_op.specs.Ranges.{InRange}
-use Rattle.dw_op.specs.LeastBlock.{bits_of}
+use Rattle.dw_op.specs.Inner.LeastBlock.{bits_of}
 use Rattle.dw_op.proofs.Lent.Spellings.{InRangeSo, LeastSo, range_so, least_so}
 use Rattle.dw_op.proofs.Lent.Ranges.{modulo_below}
 use Rattle.dw_op.proofs.LeastConst.{SameHead, same_of, same_head_so, by_test, constant_best}

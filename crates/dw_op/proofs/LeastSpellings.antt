@@ -8,9 +8,8 @@ use Rattle.dw_op.specs.declared.layout.Places.{Places}
 use Rattle.dw_op.specs.declared.layout.Point.{Point}
 use Rattle.dw_op.specs.declared.op.Op.{Op}
 use Rattle.dw_op.specs.Block.{branch_target, start}
-use Rattle.dw_op.specs.LeastBlock.{bits_of, blank_parts}
-use Rattle.dw_op.specs.Inner.LeastBlock.{BranchFits, EachFits, least_len}
-use Rattle.dw_op.specs.LeastOf.{least_bytes}
+use Rattle.dw_op.specs.Inner.LeastBlock.{bits_of, blank_parts, BranchFits, EachFits, least_len}
+use Rattle.dw_op.specs.Inner.LeastOf.{least_bytes}
 use Rattle.dw_op.specs.Inner.Lengths.{least_lengths, lengths_at, total, together}
 use Rattle.dw_op.specs.Inner.Points.{AreSmall, ArePlaces, IsBranching, bits_at}
 use Rattle.dw_op.proofs.Lent.EncodeLaws.{IsGoing, going_none, going_more, front_more}

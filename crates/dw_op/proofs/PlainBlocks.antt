@@ -6,9 +6,9 @@ use Rattle.dw_num.specs.declared.target.Target.{Target}
 use Rattle.dw_op.specs.declared.op.Op.{Op}
 use Rattle.dw_op.specs.Block.{branch_target, joined, FrameBlock}
 use Rattle.dw_op.specs.Least.{LeastBlock}
-use Rattle.dw_op.specs.LeastOf.{least_bytes}
-use Rattle.dw_op.specs.LeastBlock.{blank_parts, bits_of, least_from, least_block, IsAppended}
-use Rattle.dw_op.specs.Inner.LeastBlock.{least_len}
+use Rattle.dw_op.specs.Inner.LeastOf.{least_bytes}
+use Rattle.dw_op.specs.LeastBlock.{IsAppended}
+use Rattle.dw_op.specs.Inner.LeastBlock.{blank_parts, bits_of, least_from, least_block, least_len}
 use Rattle.dw_op.proofs.Lent.LeastBlocks.{least_block_exists}
 use Rattle.dw_op.proofs.Lent.LeastOne.{least_block_length, least_len_within}
 

@@ -27,7 +27,7 @@ use Rattle.dw_op.specs.declared.operation.ByteCount.{ByteCount}
 use Rattle.dw_op.specs.declared.operation.ByteCount.TheVariants.{One, Two, Four, Eight}
 use Rattle.dw_op.specs.declared.operation.Opcode.{Opcode}
 use Rattle.dw_op.specs.declared.operation.Opcode.TheVariants as opcodes
-use Rattle.dw_op.specs.Codes.{alone_code}
+use Rattle.dw_op.specs.Inner.Codes.{alone_code}
 use Rattle.dw_op.specs.Expression.{bare}
 use Rattle.dw_op.specs.OpSpells.{Code, Both}
 use Rattle.dw_op.specs.Inner.ByOperation.{IsSpelled, Counted, ConstForm, Written, Const1u, Const1s, Const2u, Const2s, Const4u, Const4s, Const8u, Const8s, Constu, Consts, Lit}

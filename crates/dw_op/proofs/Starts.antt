@@ -18,7 +18,7 @@ use Rattle.dw_op.specs.declared.operation.Branch.TheVariants.{Bra, Skip}
 use Rattle.dw_op.specs.declared.operation.Step.{Step}
 use Rattle.dw_op.specs.declared.operation.Step.TheVariants.{Plain, Jump}
 use Rattle.dw_op.specs.Inner.Accepted.{IsAccepted, ops_of}
-use Rattle.dw_op.specs.LeastOf.{least_bytes, least_spelling}
+use Rattle.dw_op.specs.Inner.LeastOf.{least_bytes, least_spelling}
 use Rattle.dw_op.specs.Inner.Lengths.{least_lengths, total, together, step_length, item_lengths, lengths_at}
 use Rattle.dw_op.specs.Inner.Points.{IsLater, IsPoint, InRoom, IsStartMark, AreStartMarks, ArePlaces}
 use Rattle.dw_op.specs.Inner.FrontOp.{step_at}

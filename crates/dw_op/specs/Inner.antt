@@ -1,4 +1,6 @@
 -- How the code keeps what the contracts say. No public clause reaches these.
+pub mod Codes
+pub mod LeastOf
 pub mod ByOpcode
 pub mod ByOperation
 pub mod Steps

@@ -1,15 +1,12 @@
 pub mod Expression
 pub mod Profile
 pub mod OpSpells
-pub mod Codes
 pub mod Block
 pub mod Least
 pub mod Ranges
-pub mod LeastOf
 pub mod LeastBlock
 pub mod Laws
 pub mod Walks
 pub mod Operands
 pub mod Faults
-pub mod Equality
 pub mod Inner

@@ -4,8 +4,7 @@ ghost use Rattle.std.specs.Prelude.{◌≡◌, ◌++◌, [], pos, IsTrue, ◌↔
 ghost use Rattle.std.specs.List.{fold};
 ghost use Rattle.std.specs.Hash as fed;
 ghost use Rattle.dw_op.specs.Expression.{bare};
-ghost use Rattle.dw_op.specs.Equality.{line, alone, op_line, order_number, target_line, sign_of, size_of};
-ghost use Rattle.dw_op.specs.Inner.Equality.{line_fed, lines_fed, line_of};
+ghost use Rattle.dw_op.specs.Inner.Equality.{line, alone, op_line, order_number, target_line, sign_of, size_of, line_fed, lines_fed, line_of};
 
 use crate::expression::OpSteps;
 use crate::op::Op;

@@ -230,7 +230,7 @@ impl<'a> Clone for ExprRef<'a> {
 
 impl<'a> PartialEq for ExprRef<'a> {
     ghost use Rattle.std.specs.Prelude.{◌≡◌, IsTrue, ◌↔◌};
-    ghost use Rattle.dw_op.specs.Equality.{same_expression};
+    ghost use Rattle.dw_op.specs.Inner.Equality.{same_expression};
     ghost use Rattle.dw_op.specs.Inner.EqualityLaws.{same_laws};
 
     ghost eq = { same_expression };

@@ -5,7 +5,7 @@ ghost use Rattle.dw_num.specs.Target.{address_limit};
 ghost use Rattle.dw_num.specs.declared.target.Order.{Order};
 ghost use Rattle.dw_num.specs.Shortest.{shortest_uleb, shortest_sleb};
 ghost use Rattle.dw_op.specs.Expression.{bare};
-ghost use Rattle.dw_op.specs.LeastOf.{spelling, address, operand_bytes, spelling_bytes, least_bytes, constant, long_constant, longest_constant, register_form, register_offset, least_spelling};
+ghost use Rattle.dw_op.specs.Inner.LeastOf.{spelling, address, operand_bytes, spelling_bytes, least_bytes, constant, long_constant, longest_constant, register_form, register_offset, least_spelling};
 
 use crate::op::Op;
 use dw_num::{Order, Size, Target, put_fixed, put_sleb, put_uleb, sleb_len, uleb_len};
@@ -151,7 +151,7 @@ fn register_offset<'a>(register: u16, offset: i64) -> Spelling<'a>
 
 /// The least spelling of an operation, with these sixteen bits for a branch's displacement
 /// (DWARF 5, 7.7.1).
-#[tactic(auto, unfolding(crate::specs::LeastOf::least_spelling))]
+#[tactic(auto, unfolding(crate::specs::Inner::LeastOf::least_spelling))]
 pub(crate) fn least_spelling<'a>(op: &Op<'a>, displacement: u16, target: Target) -> Spelling<'a>
     ensures { result ≡ least_spelling target displacement op.now }
 {

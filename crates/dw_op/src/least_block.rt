@@ -7,8 +7,8 @@ ghost use Rattle.dw_op.specs.Expression.{bare};
 ghost use Rattle.dw_op.specs.Block.{Block, branch_target};
 ghost use Rattle.dw_op.specs.Least.{LeastBlock};
 ghost use Rattle.dw_op.specs.Ranges.{AllInRange, TargetWithin};
-ghost use Rattle.dw_op.specs.LeastBlock.{IsAppended, IsEncodeError, blank_parts, least_block};
-ghost use Rattle.dw_op.specs.Inner.LeastBlock.{AreStarts, AreBits, EachFits};
+ghost use Rattle.dw_op.specs.LeastBlock.{IsAppended, IsEncodeError};
+ghost use Rattle.dw_op.specs.Inner.LeastBlock.{blank_parts, least_block, AreStarts, AreBits, EachFits};
 
 use crate::least::{op_least_len, put_op};
 use crate::list::OpList;

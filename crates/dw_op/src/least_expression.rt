@@ -3,8 +3,7 @@
 ghost use Rattle.std.specs.Prelude.{◌≡◌, ℕ, ◌<◌, ◌^◌, ◌++◌, List, true, length, take, IfOk, OnOk, is_some};
 ghost use Rattle.dw_op.specs.Block.{branch_target};
 ghost use Rattle.dw_op.specs.Expression.{bare};
-ghost use Rattle.dw_op.specs.LeastBlock.{blank_parts, least_block};
-ghost use Rattle.dw_op.specs.Inner.LeastBlock.{EachFits, least_len};
+ghost use Rattle.dw_op.specs.Inner.LeastBlock.{blank_parts, least_block, EachFits, least_len};
 ghost use Rattle.dw_op.specs.Inner.Lengths.{least_lengths, lengths_at};
 ghost use Rattle.dw_op.specs.Inner.Points.{AreSmall, ArePlaces, IsBranching, bits_at};
 

@@ -4,7 +4,7 @@ use Rattle.std.specs.List.{AllByRecursion}
 use Rattle.dw_num.specs.declared.target.Target.{Target}
 use Rattle.dw_op.specs.declared.op.Op.{Op}
 use Rattle.dw_op.specs.Least.{LeastBlock}
-use Rattle.dw_op.specs.LeastBlock.{least_block}
+use Rattle.dw_op.specs.Inner.LeastBlock.{least_block}
 use Rattle.dw_op.specs.Expression.{Expression}
 use Rattle.dw_num.specs.Shortest.{shortest_uleb}
 use Rattle.dw_op.proofs.Lent.LeastBlocks.{least_block_exists}

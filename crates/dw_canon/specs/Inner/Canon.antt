@@ -1,7 +1,7 @@
 -- The normal form with the tests, the least blocks and the initial rows of the code.
 use Rattle.std.specs.Prelude.{ℕ, List}
 use Rattle.dw_num.specs.declared.target.Target.{Target}
-use Rattle.dw_op.specs.LeastBlock.{least_block}
+use Rattle.dw_op.specs.Inner.LeastBlock.{least_block}
 use Rattle.dw_cfa.specs.declared.instr.Instr.{Instr}
 use Rattle.dw_cfa.specs.Inner.Agreement.{same_cfa, same_rule}
 use Rattle.dw_cfa.specs.Rows.{Rules}

@@ -4,7 +4,7 @@ use Rattle.std.specs.List.{filter}
 use Rattle.std.specs.Ordering.{int_eq}
 use Rattle.dw_op.specs.declared.op.Op.{Op}
 use Rattle.dw_op.specs.declared.op.Op.TheVariants.{Implicit}
-use Rattle.dw_op.specs.Equality.{op_line, same_lines, target_line}
+use Rattle.dw_op.specs.Inner.Equality.{op_line, same_lines, target_line}
 use Rattle.dw_op.specs.Expression.{Expression}
 use Rattle.dw_cfa.specs.declared.rule.CfaRule.{CfaRule}
 use Rattle.dw_cfa.specs.declared.rule.CfaRule.TheVariants as cfa

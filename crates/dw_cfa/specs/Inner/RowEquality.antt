@@ -7,7 +7,7 @@ use Rattle.std.proofs.lemmas.Bool.Decides.{Decides-and, Decides-eqb, Decides-int
 use Rattle.dw_num.specs.declared.target.Target.{Target}
 use Rattle.dw_op.specs.declared.op.Op.{Op}
 use Rattle.dw_op.specs.declared.op.Op.TheVariants.{Implicit}
-use Rattle.dw_op.specs.Equality.{op_line, target_line}
+use Rattle.dw_op.specs.Inner.Equality.{op_line, target_line}
 use Rattle.dw_op.specs.Expression.{Expression, bare}
 use Rattle.dw_op.specs.Inner.EqualityLaws.{lines_decide}
 use Rattle.dw_op.proofs.Lent.Lines.{same_op, same_target}

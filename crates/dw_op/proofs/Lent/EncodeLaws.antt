@@ -9,12 +9,12 @@ use Rattle.dw_op.specs.declared.op.Op.{Op}
 use Rattle.dw_op.specs.Expression.{bare}
 use Rattle.dw_op.specs.Block.{EachPart, start, branch_target, joined, Block}
 use Rattle.dw_op.specs.Least.{Least}
-use Rattle.dw_op.specs.LeastOf.{least_bytes}
+use Rattle.dw_op.specs.Inner.LeastOf.{least_bytes}
 use Rattle.dw_op.specs.Ranges.{InRange, AllInRange}
 use Rattle.dw_op.specs.declared.least_block.EncodeError.{EncodeError}
 use Rattle.dw_op.specs.declared.least_block.EncodeError.TheVariants.{BranchTooFar, OutOfMemory}
-use Rattle.dw_op.specs.LeastBlock.{IsFar, IsEncodeError, TooFar, blank_parts, bits_of, least_from, least_block}
-use Rattle.dw_op.specs.Inner.LeastBlock.{BranchFits, EachFits, AreStarts}
+use Rattle.dw_op.specs.LeastBlock.{IsFar, IsEncodeError, TooFar}
+use Rattle.dw_op.specs.Inner.LeastBlock.{blank_parts, bits_of, least_from, least_block, BranchFits, EachFits, AreStarts}
 use Rattle.dw_op.proofs.Lent.Ranges.{listed_at}
 use Rattle.dw_op.proofs.LeastOf.{least}
 use Rattle.dw_op.proofs.Lent.LeastBlocks.{EachInRange, each_fits, each_parts, joined-cons}

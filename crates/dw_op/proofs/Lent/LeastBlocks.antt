@@ -10,10 +10,9 @@ use Rattle.dw_op.specs.declared.op.Op.TheVariants.{Bra, Skip}
 use Rattle.dw_op.specs.OpSpells.{OpSpells}
 use Rattle.dw_op.specs.Block.{EachPart, Stands, Displaced, start, displacement, branch_target, joined, Block}
 use Rattle.dw_op.specs.Least.{AtMost, Least, LeastBlock}
-use Rattle.dw_op.specs.LeastOf.{least_bytes, least_spelling}
+use Rattle.dw_op.specs.Inner.LeastOf.{least_bytes, least_spelling}
 use Rattle.dw_op.specs.Ranges.{InRange, AllInRange, TargetWithin}
-use Rattle.dw_op.specs.LeastBlock.{blank_parts, bits_of, least_from, least_block}
-use Rattle.dw_op.specs.Inner.LeastBlock.{BranchFits, EachFits}
+use Rattle.dw_op.specs.Inner.LeastBlock.{blank_parts, bits_of, least_from, least_block, BranchFits, EachFits}
 use Rattle.dw_op.proofs.LeastOf.{least, length_bits}
 use Rattle.dw_op.proofs.Shorter.{EachShorter, displacement_fits}
 

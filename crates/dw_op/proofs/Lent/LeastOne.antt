@@ -6,9 +6,8 @@ use Rattle.dw_num.specs.declared.target.Target.{Target}
 use Rattle.dw_op.specs.declared.op.Op.{Op}
 use Rattle.dw_op.specs.Block.{EachPart, Stands, branch_target, joined, Block}
 use Rattle.dw_op.specs.Least.{Least, LeastBlock}
-use Rattle.dw_op.specs.LeastOf.{least_bytes}
-use Rattle.dw_op.specs.LeastBlock.{blank_parts, bits_of, least_from, least_block}
-use Rattle.dw_op.specs.Inner.LeastBlock.{least_len}
+use Rattle.dw_op.specs.Inner.LeastOf.{least_bytes}
+use Rattle.dw_op.specs.Inner.LeastBlock.{blank_parts, bits_of, least_from, least_block, least_len}
 use Rattle.dw_op.proofs.LeastOf.{least, length_bits}
 use Rattle.dw_op.proofs.LeastOnly.{only, same_head}
 use Rattle.dw_op.proofs.Lent.LeastBlocks.{EachInRange, SameLengths, same_displacement, joined-cons, in_range_of_block, block_of_least, least_block_is, block_fits, least_no_longer}

@@ -15,7 +15,7 @@ use Rattle.dw_op.specs.Inner.FrontOp.{plain_table}
 use Rattle.dw_op.specs.Expression.{Expression, bare}
 use Rattle.dw_op.specs.Block.{FrameBlock}
 use Rattle.dw_op.specs.Profile.{in_frame, InFrame}
-use Rattle.dw_op.specs.Equality.{sign_of, size_of, line, op_line, target_line, expression_lines, same_expression}
+use Rattle.dw_op.specs.Inner.Equality.{sign_of, size_of, line, op_line, target_line, expression_lines, same_expression}
 
 -- a signed number from its sign and number
 abbrev pub signed_with : ℕ → ℕ → ℤ

@@ -15,7 +15,7 @@ use Rattle.dw_num.specs.Shortest.{shortest_uleb, shortest_sleb}
 use Rattle.dw_num.proofs.Lent.Shortest.{shortest_uleb-spells, shortest_sleb-spells}
 use Rattle.dw_op.specs.declared.op.Op.{Op}
 use Rattle.dw_op.specs.declared.op.Op.TheVariants.{Addr, Const, Pick, PlusUconst, Bra, Skip, Reg, Breg, Fbreg, Piece, DerefSize, BitPiece, Implicit}
-use Rattle.dw_op.specs.Codes.{alone_code}
+use Rattle.dw_op.specs.Inner.Codes.{alone_code}
 use Rattle.dw_op.specs.Expression.{bare}
 use Rattle.dw_op.specs.Inner.ByOperation.{Const8u, Unsigned, Counted}
 use Rattle.dw_op.specs.Operands.{modulo}

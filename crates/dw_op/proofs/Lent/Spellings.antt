@@ -8,7 +8,7 @@ use Rattle.dw_num.specs.Leb.{Uleb, Sleb, Register}
 use Rattle.dw_num.specs.Fixed.{Fixed, FixedSigned, Address}
 use Rattle.dw_op.specs.declared.op.Op.{Op}
 use Rattle.dw_op.specs.declared.op.Op.TheVariants.{Addr, Const, Pick, PlusUconst, Bra, Skip, Reg, Breg, Fbreg, Piece, DerefSize, BitPiece, Implicit}
-use Rattle.dw_op.specs.Codes.{alone_code}
+use Rattle.dw_op.specs.Inner.Codes.{alone_code}
 use Rattle.dw_op.specs.Operands.{Field, fixed, twos, address, unsigned, signed, register, size, block, Value, Form, none, one, two, branch, constant, natural, implicit, form_table, in_range, form_of}
 use Rattle.dw_op.specs.Block.{branch_target}
 use Rattle.dw_op.specs.Least.{AtMost, Least}

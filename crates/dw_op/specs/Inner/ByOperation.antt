@@ -10,7 +10,7 @@ use Rattle.dw_op.specs.declared.op.Op.{Op}
 use Rattle.dw_op.specs.declared.op.Op.TheVariants.{Addr, Const, Pick, PlusUconst, Bra, Skip, Reg, Breg, Fbreg, Piece, DerefSize, BitPiece, Implicit}
 use Rattle.dw_op.specs.Operands.{modulo}
 use Rattle.dw_op.specs.OpSpells.{Code, Both, AnyTwo}
-use Rattle.dw_op.specs.Codes.{alone_code}
+use Rattle.dw_op.specs.Inner.Codes.{alone_code}
 
 abbrev pub Alone : ℕ → List ℕ → Type 0
 Alone code bytes = bytes ≡ code ∷ []

@@ -1,10 +1,67 @@
--- What an expression feeds a hasher, and the lines that the code has.
-use Rattle.std.specs.Prelude.{ℕ, List, [], ◌∷◌, ◌++◌, length}
+-- The lines by which expressions are compared, what an expression feeds a hasher, and the lines that the code has.
+use Rattle.std.specs.Prelude.{ℕ, ℤ, pos, negsuc, List, [], ◌∷◌, map, nat_eq, Bool, ◌++◌, length}
+use Rattle.std.specs.Cmp.Lexicographic.{pointwise}
+use Rattle.dw_num.specs.declared.target.Target.{Target}
+use Rattle.dw_num.specs.declared.target.Order.{Order}
+use Rattle.dw_num.specs.declared.target.Order.TheVariants.{Little, Big}
+use Rattle.dw_num.specs.Target.{byte_count}
+use Rattle.dw_op.specs.declared.op.Op.{Op}
+use Rattle.dw_op.specs.declared.op.Op.TheVariants.{Addr, Const, Pick, PlusUconst, Bra, Skip, Reg, Breg, Fbreg, Piece, DerefSize, BitPiece, Implicit}
+use Rattle.dw_op.specs.Expression.{Expression}
+use Rattle.dw_op.specs.Inner.Codes.{alone_code}
 use Rattle.std.specs.List.{flat_map}
 use Rattle.std.specs.Hash as fed
 use Rattle.dw_op.specs.declared.equality.Line.{Line}
-use Rattle.dw_op.specs.Expression.{Expression}
-use Rattle.dw_op.specs.Equality.{line, expression_lines}
+
+-- a signed number as a sign and a number
+abbrev pub sign_of : ℤ → ℕ
+sign_of (pos n) = 0
+sign_of (negsuc n) = 1
+
+abbrev pub size_of : ℤ → ℕ
+size_of (pos n) = n
+size_of (negsuc n) = n
+
+-- an operation in a line: its kind, two numbers, a sign and a number, and bytes
+abbrev pub line : ℕ → ℕ → ℕ → ℤ → List ℕ → List ℕ
+line kind first second signed bytes = kind ∷ first ∷ second ∷ sign_of signed ∷ size_of signed ∷ bytes
+
+abbrev pub alone : ℕ → List ℕ
+alone kind = line kind 0 0 (pos 0) []
+
+-- the kinds are the operations' codes, the first where there are several
+abbrev pub op_line : Op → List ℕ
+op_line (Addr a) = line 0x03 a 0 (pos 0) []
+op_line (Const v) = line 0x08 v 0 (pos 0) []
+op_line (Pick i) = line 0x15 i 0 (pos 0) []
+op_line (PlusUconst n) = line 0x23 n 0 (pos 0) []
+op_line (Bra i) = line 0x28 i 0 (pos 0) []
+op_line (Skip i) = line 0x2f i 0 (pos 0) []
+op_line (Reg r) = line 0x50 r 0 (pos 0) []
+op_line (Breg r n) = line 0x70 r 0 n []
+op_line (Fbreg n) = line 0x91 0 0 n []
+op_line (Piece n) = line 0x93 n 0 (pos 0) []
+op_line (DerefSize k) = line 0x94 k 0 (pos 0) []
+op_line (BitPiece size offset) = line 0x9d size offset (pos 0) []
+op_line (Implicit block) = line 0x9e 0 0 (pos 0) block.now
+op_line other = alone (alone_code other)
+
+abbrev pub order_number : Order → ℕ
+order_number Little = 0
+order_number Big = 1
+
+abbrev pub target_line : Target → List ℕ
+target_line t = byte_count t.size ∷ order_number t.order ∷ []
+
+abbrev pub expression_lines : Expression → List (List ℕ)
+expression_lines e = target_line e.target ∷ map op_line e.ops
+
+-- the test for equality
+abbrev pub same_lines : List (List ℕ) → List (List ℕ) → Bool
+same_lines a b = pointwise (pointwise nat_eq) a b
+
+abbrev pub same_expression : Expression → Expression → Bool
+same_expression a b = same_lines (expression_lines a) (expression_lines b)
 
 -- what a line feeds a hasher
 abbrev pub line_fed : List ℕ → List (List ℕ)

@@ -5,8 +5,7 @@ use Rattle.std.specs.Bool.{Decides}
 use Rattle.std.specs.Cmp.{IsPartialEquivalence, IsEquivalence, on_equiv, nat_eq_equiv, partial_equiv_from_equiv, unsigned_Decides}
 use Rattle.std.specs.Cmp.Lexicographic.{pointwise_decides, lists_equiv}
 use Rattle.dw_op.specs.Expression.{Expression}
-use Rattle.dw_op.specs.Equality.{expression_lines, same_lines, same_expression}
-use Rattle.dw_op.specs.Inner.Equality.{lines_fed, expression_fed}
+use Rattle.dw_op.specs.Inner.Equality.{expression_lines, same_lines, same_expression, lines_fed, expression_fed}
 
 -- the test on lines tells equal ones
 pub lines_decide : (a b : List (List ℕ)) → Decides (same_lines a b) (a ≡ b)

@@ -1,11 +1,30 @@
--- How the code writes least spellings: where they begin, and whether branches fit.
+-- Least blocks as a function, and how the code writes them: where spellings begin, and whether branches fit.
 use Rattle.std.specs.Prelude.{◌≡◌, ℕ, suc, ◌+◌, ◌≤◌, slice_index, List, [], ◌∷◌, length, Option, Some, None, FitsSigned}
-use Rattle.std.specs.Int.{w16}
+use Rattle.std.specs.Int.{w16, cast_unsigned}
 use Rattle.dw_num.specs.declared.target.Target.{Target}
 use Rattle.dw_op.specs.declared.op.Op.{Op}
-use Rattle.dw_op.specs.Block.{branch_target, start, displacement}
-use Rattle.dw_op.specs.LeastOf.{least_bytes}
-use Rattle.dw_op.specs.LeastBlock.{bits_of}
+use Rattle.dw_op.specs.Block.{branch_target, start, displacement, joined}
+use Rattle.dw_op.specs.Inner.LeastOf.{least_bytes}
+
+-- least spellings without displacements
+abbrev pub blank_parts : Target → List Op → List (List ℕ)
+blank_parts t [] = []
+blank_parts t (op ∷ ops) = least_bytes t 0 op ∷ blank_parts t ops
+
+-- the sixteen bits from operation k to where a branch goes
+abbrev pub bits_of : List (List ℕ) → ℕ → Option ℕ → ℕ
+bits_of parts k None = 0
+bits_of parts k (Some i) = cast_unsigned w16 (displacement parts k i)
+
+-- least spellings from operation k on, over parts of these lengths
+abbrev pub least_from : Target → List (List ℕ) → ℕ → List Op → List (List ℕ)
+least_from t parts k [] = []
+least_from t parts k (op ∷ ops) = least_bytes t (bits_of parts k (branch_target op)) op ∷ least_from t parts (suc k) ops
+
+unfoldable pub least_block : Target → List Op → List ℕ
+least_block t ops = joined (least_from t (blank_parts t ops) 0 ops)
+
+-- ---- how the code writes them
 
 -- the sum of the least lengths
 abbrev pub least_len : Target → List Op → ℕ

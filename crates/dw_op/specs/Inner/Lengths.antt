@@ -6,7 +6,7 @@ use Rattle.dw_op.specs.declared.op.Op.{Op}
 use Rattle.dw_op.specs.declared.profile.Profile.TheVariants.{Frame}
 use Rattle.dw_op.specs.declared.operation.Step.{Step}
 use Rattle.dw_op.specs.declared.operation.Step.TheVariants.{Plain, Jump}
-use Rattle.dw_op.specs.LeastOf.{least_bytes}
+use Rattle.dw_op.specs.Inner.LeastOf.{least_bytes}
 use Rattle.dw_op.specs.Inner.Walk.{Item, walk}
 
 -- the lengths of the least spellings, one after another

@@ -1,7 +1,6 @@
 use Rattle.std.proofs.Common.{length, map, ◌≡◌}
 use Rattle.std.specs.List.{fold}
-use Rattle.dw_op.specs.Equality.{op_line}
-use Rattle.dw_op.specs.Inner.Equality.{lines_fed}
+use Rattle.dw_op.specs.Inner.Equality.{op_line, lines_fed}
 use Rattle.dw_op.proofs.equality.feed_steps.Given as goal
 
 abbrev pub invariant-ops : goal.invariant-ops

@@ -1,5 +1,5 @@
 use Rattle.dw_op.specs.declared.profile.Profile.TheVariants.{Frame, Location}
-use Rattle.dw_op.specs.LeastBlock.{least_block}
+use Rattle.dw_op.specs.Inner.LeastBlock.{least_block}
 use Rattle.dw_op.specs.Laws.{LeastGivesBack}
 use Rattle.dw_op.proofs.Lent.Blocks.{is_block}
 use Rattle.dw_op.proofs.Lent.FaultPlaces.{fault_within}

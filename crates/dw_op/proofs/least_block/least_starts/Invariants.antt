@@ -1,8 +1,7 @@
 use Rattle.std.proofs.Common.{◌≡◌, map}
 use Rattle.dw_op.specs.Expression.{bare}
 use Rattle.dw_op.specs.Block.{start}
-use Rattle.dw_op.specs.LeastBlock.{blank_parts}
-use Rattle.dw_op.specs.Inner.LeastBlock.{AreStarts}
+use Rattle.dw_op.specs.Inner.LeastBlock.{blank_parts, AreStarts}
 use Rattle.dw_op.proofs.least_block.least_starts.Given as goal
 
 abbrev pub invariant-loop-op : goal.invariant-loop-op

@@ -1,8 +1,7 @@
 use Rattle.std.proofs.Common.{◌≡◌, ◌+◌, ◌-◌, map, drop, get_or, length, arith, below_more}
 use Rattle.dw_op.specs.declared.op.Op.TheVariants.{Addr}
 use Rattle.dw_op.specs.Expression.{bare}
-use Rattle.dw_op.specs.LeastBlock.{blank_parts}
-use Rattle.dw_op.specs.Inner.LeastBlock.{AreStarts}
+use Rattle.dw_op.specs.Inner.LeastBlock.{blank_parts, AreStarts}
 use Rattle.dw_op.proofs.Lent.EncodeLaws.{front_more, going_none, going_more, going_all, drop-bare, drop-all, in_range_at, each_fits_of, too_far}
 use Rattle.std.proofs.Math.Seq.{take-length}
 use Rattle.dw_op.proofs.least_block.push_ops.Goals as goal

@@ -1,6 +1,7 @@
 use Rattle.std.proofs.Common.{◌≡◌, ◌<◌, ◌^◌, ◌++◌, arith, rules, length, take}
 use Rattle.dw_op.specs.Inner.Accepted.{ops_of}
-use Rattle.dw_op.specs.LeastBlock.{IsAppended, least_block}
+use Rattle.dw_op.specs.LeastBlock.{IsAppended}
+use Rattle.dw_op.specs.Inner.LeastBlock.{least_block}
 use Rattle.dw_op.specs.Least.{LeastBlock}
 use Rattle.dw_op.proofs.Lent.EncodeLaws.{on_ok}
 use Rattle.dw_op.proofs.Judgement.{accepted_block}

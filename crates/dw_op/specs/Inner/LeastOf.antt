@@ -12,7 +12,7 @@ use Rattle.dw_op.specs.declared.op.Op.TheVariants.{Addr, Const, Pick, PlusUconst
 use Rattle.dw_op.specs.declared.least.Spelling.{Spelling}
 use Rattle.dw_op.specs.declared.least.Operand.{Operand}
 use Rattle.dw_op.specs.declared.least.Operand.TheVariants as operand
-use Rattle.dw_op.specs.Codes.{alone_code}
+use Rattle.dw_op.specs.Inner.Codes.{alone_code}
 
 abbrev pub operand_bytes : Order → Operand → List ℕ
 operand_bytes order operand.Nothing = []
