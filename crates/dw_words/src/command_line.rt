@@ -1,7 +1,7 @@
 //! The command line as `clap` reads it, with its texts of help.
 
 ghost use Rattle.std.specs.Prelude.{◌≡◌, IfOk};
-ghost use Rattle.clap.specs.Words.{App, app_of};
+ghost use Rattle.clap.specs.Words.{App, app_of, with_subcommand};
 ghost use Rattle.clap.specs.declared.builder.command.Command.TheViews.{out-Command};
 ghost use Rattle.dw_words.specs.CommandLine.{dwframe, flag, operand, program};
 ghost use Rattle.dw_words.specs.Inner.CommandLine.{IsArg, IsCommand, choice, eval, expr, needed, normal, over_file, same, subcommand, unwind, with_expressions, with_normal_forms, with_sections};
@@ -129,31 +129,39 @@ fn same<'a>(alloc: Global) -> Result<Command<'a>, AllocError>
     ))
 }
 
+// A command with one more subcommand, where there was memory to make it.
+fn added<'a>(
+    command: Command<'a>,
+    made: Result<Command<'a>, AllocError>,
+) -> Result<Command<'a>, AllocError>
+    ensures { IfOk result (λ c. (a b : App) → IsCommand a command.entry → IfOk made.entry (IsCommand b) → IsCommand (with_subcommand a b.top) c) }
+{
+    command.subcommand(made?)
+}
+
 fn with_sections<'a>(alloc: Global, command: Command<'a>) -> Result<Command<'a>, AllocError>
     ensures { IfOk result (λ c. (a : App) → IsCommand a command.entry → IsCommand (with_sections a) c) }
 {
-    command
-        .subcommand(over_file(alloc, "check", help::CHECK, help::AFTER_CHECK)?)?
-        .subcommand(over_file(alloc, "rows", help::ROWS, help::AFTER_ROWS)?)?
-        .subcommand(over_file(alloc, "entries", help::ENTRIES, help::AFTER_ENTRIES)?)
+    let command = added(command, over_file(alloc, "check", help::CHECK, help::AFTER_CHECK))?;
+    let command = added(command, over_file(alloc, "rows", help::ROWS, help::AFTER_ROWS))?;
+    let entries = over_file(alloc, "entries", help::ENTRIES, help::AFTER_ENTRIES);
+    added(command, entries)
 }
 
 fn with_expressions<'a>(alloc: Global, command: Command<'a>) -> Result<Command<'a>, AllocError>
     ensures { IfOk result (λ c. (a : App) → IsCommand a command.entry → IsCommand (with_expressions a) c) }
 {
-    command
-        .subcommand(expr(alloc)?)?
-        .subcommand(eval(alloc)?)?
-        .subcommand(unwind(alloc)?)
+    let command = added(command, expr(alloc))?;
+    let command = added(command, eval(alloc))?;
+    added(command, unwind(alloc))
 }
 
 fn with_normal_forms<'a>(alloc: Global, command: Command<'a>) -> Result<Command<'a>, AllocError>
     ensures { IfOk result (λ c. (a : App) → IsCommand a command.entry → IsCommand (with_normal_forms a) c) }
 {
-    command
-        .subcommand(normal(alloc)?)?
-        .subcommand(same(alloc)?)?
-        .subcommand(over_file(alloc, "cost", help::COST, help::AFTER_COST)?)
+    let command = added(command, normal(alloc))?;
+    let command = added(command, same(alloc))?;
+    added(command, over_file(alloc, "cost", help::COST, help::AFTER_COST))
 }
 
 fn program<'a>(alloc: Global) -> Command<'a>

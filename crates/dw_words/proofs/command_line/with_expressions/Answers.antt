@@ -1,12 +1,13 @@
-use Rattle.clap.specs.Words.{AddsSubcommand, App, with_subcommand}
-use Rattle.dw_words.specs.Inner.CommandLine.{IsCommand, expr, eval, unwind, with_expressions}
-use Rattle.dw_words.proofs.Commands.{nested, ok_map}
+use Rattle.std.specs.Prelude.{IfOk}
+use Rattle.dw_words.specs.Inner.CommandLine.{IsCommand, eval, expr, unwind, with_expressions}
+use Rattle.clap.specs.Words.{App, with_subcommand}
+use Rattle.dw_words.proofs.Commands.{ok_map}
 use Rattle.dw_words.proofs.command_line.with_expressions.Goals as goal
 
 pub returns : goal.returns
 returns c =
-    ok_map (λ r. AddsSubcommand c.in_ok-subcommand-2.field-0 c.in_ok-unwind.field-0 r) (λ r. (a : App) → IsCommand a c.args.command → IsCommand (with_expressions a) r) c.subcommand-3.result
+    ok_map (λ r. (a b : App) → IsCommand a c.in_ok-command-2.command → IfOk c.unwind.result (IsCommand b) → IsCommand (with_subcommand a b.top) r) (λ r. (a : App) → IsCommand a c.args.command → IsCommand (with_expressions a) r) c.added-3.result
     (λ r adds a h.
-    let first = nested a expr c.args.command c.in_ok-subcommand.field-0 c.in_ok-expr.field-0 h c.in_ok-expr.ensures c.in_ok-subcommand.ensures in
-    let second = nested (with_subcommand a expr.top) eval c.in_ok-subcommand.field-0 c.in_ok-subcommand-2.field-0 c.in_ok-eval.field-0 first c.in_ok-eval.ensures c.in_ok-subcommand-2.ensures in
-    nested (with_subcommand (with_subcommand a expr.top) eval.top) unwind c.in_ok-subcommand-2.field-0 r c.in_ok-unwind.field-0 second c.in_ok-unwind.ensures adds) c.subcommand-3.ensures
+    let first = c.in_ok-command.ensures a expr h c.expr.ensures in
+    let second = c.in_ok-command-2.ensures (with_subcommand a expr.top) eval first c.eval.ensures in
+    adds (with_subcommand (with_subcommand a expr.top) eval.top) unwind second c.unwind.ensures) c.added-3.ensures
