@@ -30,7 +30,8 @@ use Rattle.dw_cfa.proofs.Lent.Forward.{Follows, Holds, after_follows, begun_foll
 use Rattle.dw_cfa.proofs.Lent.KeptLaws.{fde_kept, all_in_limit}
 use Rattle.dw_cfa.proofs.Lent.KeptRuns.{AllInLimit, KeptFrom, kept_from}
 use Rattle.dw_cfa.proofs.Lent.RowsAt.{instrs_of, Gives, rows_at, never_falls}
-use Rattle.dw_section.specs.Changes.{Among, AreChanges, Before}
+use Rattle.dw_section.specs.Changes.{AreChanges}
+use Rattle.dw_section.specs.Inner.Changes.{Among, Before}
 use Rattle.dw_section.specs.Programs.{HasCfa}
 use Rattle.dw_section.proofs.Lent.ChangeLaws.{HasRow, all_found}
 use Rattle.dw_canon.specs.Inner.Canon.{fde_instrs, cie_instrs}

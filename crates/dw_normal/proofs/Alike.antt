@@ -6,8 +6,8 @@ use Rattle.dw_cfa.specs.Rows.{Rules}
 use Rattle.dw_section.specs.declared.lookup.Fde.{Fde}
 use Rattle.dw_section.specs.Changes.{Changing, GivesAddress}
 use Rattle.dw_canon.specs.Members.{Member, fde_of, changes_of}
-use Rattle.dw_normal.specs.Inner.ChangeWalk.{AreToCome}
-use Rattle.dw_normal.proofs.ChangesToCome.{Next, next_comes, none_comes}
+use Rattle.dw_normal.specs.Inner.ChangeWalk.{row_or_blank, shown_row}
+use Rattle.dw_normal.proofs.ChangesToCome.{Given, given, head_same, none_given, tail_same}
 
 -- ---- answers
 
@@ -32,64 +32,35 @@ apart b e f = absurd cc
 
 -- ---- changes side by side
 
-head_same : (x y : ℕ × Rules) (xs ys : List (ℕ × Rules)) → x ∷ xs ≡ y ∷ ys → x ≡ y
-head_same x y xs ys e = cc
-
-tail_same : (x y : ℕ × Rules) (xs ys : List (ℕ × Rules)) → x ∷ xs ≡ y ∷ ys → xs ≡ ys
-tail_same x y xs ys e = cc
-
 abbrev pair : ℕ → Rules → ℕ × Rules
 pair at row = (at, row)
 
 -- what is still to come of both is equal exactly where all of both is
 pub record Beside (xs ys : List (ℕ × Rules)) (first second : Changing) : Type 0 where
-  pub rest : List (ℕ × Rules)
-  pub other : List (ℕ × Rules)
-  pub come : AreToCome first rest
-  pub come_other : AreToCome second other
-  pub all : rest ≡ other → xs ≡ ys
-  pub part : xs ≡ ys → rest ≡ other
+  pub all : first.to_come ≡ second.to_come → xs ≡ ys
+  pub part : xs ≡ ys → first.to_come ≡ second.to_come
 
-module _ (E : Type 0) (xs ys : List (ℕ × Rules)) (first second next later : Changing) (h : Beside xs ys first second) (o p : Option ℕ) (g : GivesAddress {E = E} first (Ok o) next) where
+module _ (E : Type 0) (xs ys : List (ℕ × Rules)) (first second next later : Changing) (h : Beside xs ys first second) (o p : Option ℕ) (g : GivesAddress {E = E} first (Ok o) next) (k : GivesAddress {E = E} second (Ok p) later) where
   -- the second one gives none any more
-  pub too_short : (a : ℕ) → o ≡ Some a → GivesAddress {E = E} second (Ok p) later → p ≡ None → xs ≡ ys → ⊥
-  too_short a e k none same =
-      let n = next_comes E first next o a h.rest h.come g e in
-      let empty : [] ≡ h.other = none_comes E second later p h.other h.come_other k none in
-      let both = h.part same in
-      let is = n.is in
-      absurd (differ ((a, n.row)) n.more (empty ∙ sym both ∙ is))
-    where
-      differ : (x : ℕ × Rules) (l : List (ℕ × Rules)) → [] ≡ x ∷ l → ⊥
-      differ x l e = absurd cc
+  pub too_short : (a : ℕ) → o ≡ Some a → p ≡ None → xs ≡ ys → ⊥
+  too_short a e none same = let both = sym (none_given E second later p k none) ∙ sym (h.part same) ∙ (given E first next o a g e).come in absurd cc
 
   -- the second one gives more
-  pub too_long : o ≡ None → (b : ℕ) → GivesAddress {E = E} second (Ok p) later → p ≡ Some b → xs ≡ ys → ⊥
-  too_long e b k some same =
-      let empty : [] ≡ h.rest = none_comes E first next o h.rest h.come g e in
-      let m = next_comes E second later p b h.other h.come_other k some in
-      let both = h.part same in
-      absurd (differ ((b, m.row)) m.more (empty ∙ both ∙ m.is))
-    where
-      differ : (x : ℕ × Rules) (l : List (ℕ × Rules)) → [] ≡ x ∷ l → ⊥
-      differ x l e = absurd cc
+  too_long : o ≡ None → (b : ℕ) → p ≡ Some b → xs ≡ ys → ⊥
+  too_long e b some same = let both = sym (none_given E first next o g e) ∙ h.part same ∙ (given E second later p b k some).come in absurd cc
 
-  -- both end
-  pub both_end : o ≡ None → GivesAddress {E = E} second (Ok p) later → p ≡ None → xs ≡ ys
-  both_end e k none = h.all (sym (none_comes E first next o h.rest h.come g e) ∙ none_comes E second later p h.other h.come_other k none)
+  pub ends : o ≡ None → (b : Bool) → is_some p ≡ not b → Decides b (xs ≡ ys)
+  ends e b some = decided b p some (λ none. h.all (none_given E first next o g e ∙ sym (none_given E second later p k none))) (too_long e)
 
-  pub ends : o ≡ None → GivesAddress {E = E} second (Ok p) later → (b : Bool) → is_some p ≡ not b → Decides b (xs ≡ ys)
-  ends e k b some = decided b p some (λ none. both_end e k none) (λ n more. too_long e n k more)
+  module _ (a b : ℕ) (ea : o ≡ Some a) (eb : p ≡ Some b) where
+    n : Given first next a
+    n = given E first next o a g ea
 
-  module _ (a b : ℕ) (ea : o ≡ Some a) (k : GivesAddress {E = E} second (Ok p) later) (eb : p ≡ Some b) where
-    n : Next next a h.rest
-    n = next_comes E first next o a h.rest h.come g ea
+    m : Given second later b
+    m = given E second later p b k eb
 
-    m : Next later b h.other
-    m = next_comes E second later p b h.other h.come_other k eb
-
-    heads : xs ≡ ys → pair a n.row ≡ pair b m.row
-    heads same = head_same (a, n.row) (b, m.row) n.more m.more (sym n.is ∙ h.part same ∙ m.is)
+    heads : xs ≡ ys → pair a (shown_row next) ≡ pair b (shown_row later)
+    heads same = head_same (pair a (shown_row next)) (pair b (shown_row later)) next.to_come later.to_come (sym n.come ∙ h.part same ∙ m.come)
 
     pub same_address : xs ≡ ys → a ≡ b
     same_address same = ap (λ (x : ℕ × Rules). x.0) (heads same)
@@ -99,15 +70,10 @@ module _ (E : Type 0) (xs ys : List (ℕ × Rules)) (first second next later : C
 
     pub beside_more : a ≡ b → next.shown ≡ later.shown → Beside xs ys next later
     beside_more at rows =
-        let row : n.row ≡ m.row = let e = sym n.shown ∙ rows ∙ m.shown in cc in
-        let head : pair a n.row ≡ pair b m.row = ap (λ (q : ℕ). pair q n.row) at ∙ ap (λ (r : Rules). pair b r) row in
+        let head : pair a (shown_row next) ≡ pair b (shown_row later) = ap (λ (q : ℕ). pair q (shown_row next)) at ∙ ap (λ (r : Option Rules). pair b (row_or_blank r)) rows in
         record {
-          rest = n.more;
-          other = m.more;
-          come = n.come;
-          come_other = m.come;
-          all = λ e. h.all (n.is ∙ ap (λ (x : ℕ × Rules). x ∷ n.more) head ∙ ap (λ (l : List (ℕ × Rules)). (b, m.row) ∷ l) e ∙ sym m.is);
-          part = λ same. tail_same (a, n.row) (b, m.row) n.more m.more (sym n.is ∙ h.part same ∙ m.is);
+          all = λ e. h.all (n.come ∙ ap (λ (x : ℕ × Rules). x ∷ next.to_come) head ∙ ap (λ (l : List (ℕ × Rules)). pair b (shown_row later) ∷ l) e ∙ sym m.come);
+          part = λ same. tail_same (pair a (shown_row next)) (pair b (shown_row later)) next.to_come later.to_come (sym n.come ∙ h.part same ∙ m.come);
         }
 
 -- ---- members

@@ -13,7 +13,7 @@ use Rattle.dw_canon.specs.Inner.Spelling.{program_bytes}
 use Rattle.dw_canon.specs.Inner.Written.{fde, nop_count, filled, contents}
 use Rattle.dw_canon.specs.Written.{missing, fde_fields}
 use Rattle.dw_normal.specs.Inner.Begun.{Begins}
-use Rattle.dw_normal.specs.Inner.ChangeWalk.{Appends, shown_row}
+use Rattle.dw_normal.specs.Inner.ChangeWalk.{later_bytes, shown_row}
 use Rattle.dw_normal.specs.declared.begun.Begun.{Begun}
 use Rattle.dw_normal.proofs.Passes.{program_more}
 
@@ -35,21 +35,21 @@ parts t cie_at begin range shared first from later =
     contents t (fde cie_at begin range (difference shared shared first ++ later_changes shared from first later) (program_bytes t (difference shared shared first ++ later_changes shared from first later)))
 
 pub fde_filled : (t : Target) (ms : List Member) (m : Member) (b : Begun) (cie_at from : ℕ) (cleared fields first out new : List ℕ) → Begins ms m b → from ≡ b.fde.begin → cleared ≡ []
-    → fields ≡ cleared ++ fde_fields t cie_at b.fde.begin (b.fde.end - from) → first ≡ fields ++ program_bytes t (difference b.shared.now b.shared.now (shown_row b.changes)) → Appends t b.shared.now from (shown_row b.changes) b.changes first out
+    → fields ≡ cleared ++ fde_fields t cie_at b.fde.begin (b.fde.end - from) → first ≡ fields ++ program_bytes t (difference b.shared.now b.shared.now (shown_row b.changes)) → out ≡ first ++ later_bytes t b.shared.now from b.changes
     → new ≡ out ++ replicate (missing t.size (4 + length out)) 0 → new ≡ contents t (fde cie_at m.begin (m.end - m.begin) (fde_instrs (initial_of ms m.register) m) (program_bytes t (fde_instrs (initial_of ms m.register) m)))
 fde_filled t ms m b cie_at from cleared fields first out new is at none f d l n =
     let own = fde_fields t cie_at b.fde.begin (b.fde.end - from) in
     let begins = difference b.shared.now b.shared.now (shown_row b.changes) in
-    let goes = later_changes b.shared.now from (shown_row b.changes) l.later in
+    let goes = later_changes b.shared.now from (shown_row b.changes) b.changes.to_come in
     let front : first ≡ own ++ program_bytes t begins = d ∙ ap (λ (k : List ℕ). k ++ program_bytes t begins) (f ∙ ap (λ (k : List ℕ). k ++ own) none) in
     let all : out ≡ own ++ program_bytes t (begins ++ goes) =
-    l.whole ∙ ap (λ (k : List ℕ). k ++ program_bytes t goes) front ∙ append_assoc own (program_bytes t begins) (program_bytes t goes) ∙ ap (λ (k : List ℕ). own ++ k) (sym (program_more t begins goes)) in
+    l ∙ ap (λ (k : List ℕ). k ++ program_bytes t goes) front ∙ append_assoc own (program_bytes t begins) (program_bytes t goes) ∙ ap (λ (k : List ℕ). own ++ k) (sym (program_more t begins goes)) in
     let begin : b.fde.begin ≡ m.begin = ap (λ (x : Fde). x.begin) is.fde in
     let end : b.fde.end ≡ m.end = ap (λ (x : Fde). x.end) is.fde in
     let start : from ≡ m.begin = at ∙ begin in
     let range : b.fde.end - from ≡ m.end - m.begin = ap (λ (x : ℕ). x - from) end ∙ ap (λ (x : ℕ). m.end - x) start in
     filled_is t.size own (program_bytes t (begins ++ goes)) out new all n
-    ∙ same_all (parts t cie_at) b.fde.begin (b.fde.end - from) b.shared.now (shown_row b.changes) from l.later m.begin (m.end - m.begin) (initial_of ms m.register) m.first m.begin m.later begin range is.shared is.first start (is.later l.later l.come)
+    ∙ same_all (parts t cie_at) b.fde.begin (b.fde.end - from) b.shared.now (shown_row b.changes) from b.changes.to_come m.begin (m.end - m.begin) (initial_of ms m.register) m.first m.begin m.later begin range is.shared is.first start is.later
 
 pub on_ok : {A E : Type 0} (r : Result A E) (P Q : Type 0) → (P → Q) → OnOk r P → OnOk r Q
 on_ok (Ok x) P Q to h = to h

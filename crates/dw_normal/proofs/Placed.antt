@@ -25,7 +25,7 @@ use Rattle.dw_canon.proofs.Lent.Rendered.{fits, stand}
 use Rattle.dw_canon.proofs.Lent.MemberPlaces.{group_fits}
 use Rattle.dw_normal.specs.Inner.Groups.{initial_rows, row_of}
 use Rattle.dw_normal.specs.Inner.Begun.{Begins, IsReady}
-use Rattle.dw_normal.specs.Inner.ChangeWalk.{Stand, shown_row}
+use Rattle.dw_normal.specs.Inner.ChangeWalk.{shown_row}
 use Rattle.dw_normal.specs.declared.begun.Begun.{Begun}
 use Rattle.dw_normal.proofs.Grouped.{some_of, look_members}
 
@@ -38,6 +38,12 @@ own_group row r (m ∷ ms) (suc k) d lt own = elim (cases_Bool (nat_eq m.registe
   | inl e ↦ rw e refl
   | inr e ↦ rw e (own_group row r ms k d (omega arith) own)
 ]
+
+-- ---- changes below an end
+
+stand_within : (t : Target) (initial : Rules) (end limit : ℕ) → end ≤ limit → (at : ℕ) (row : Rules) (changes : List (ℕ × Rules)) → ChangesStand t initial end at row changes → ChangesStand t initial limit at row changes
+stand_within t initial end limit le at row [] h = omega (arith, le, h)
+stand_within t initial end limit le at row (change ∷ changes) h = (h.0, h.1, h.2, stand_within t initial end limit le change.0 change.1 changes h.3)
 
 -- ---- an FDE by its place
 
@@ -81,20 +87,13 @@ module _ (t : Target) (s : List ℕ) (b : AreBytes s) (ok : Accepted t s) (ms : 
     pub row_in : (rows : List (ℕ × Rules)) (r : ℕ) → rows ≡ initial_rows ms → r ≡ m.register → row_of rows r ≡ Some initial
     row_in rows r are own = ap (λ (l : List (ℕ × Rules)). row_of l r) are ∙ ap (row_of (initial_rows ms)) own ∙ row_at
 
-    stand_behind : (begun : Begun) → Begins ms m begun → Stand t begun.shared.now begun.fde.begin (shown_row begun.changes) begun.changes
-    stand_behind begun is later come =
-        let one = subst (λ (l : List (ℕ × Rules)). ChangesStand t initial m.end m.begin m.first l) (sym (is.later later come)) stands_at.later in
-        let two = subst (λ (n : ℕ). ChangesStand t initial n m.begin m.first later) (sym is.end) one in
-        let three = subst (λ (r : Rules). ChangesStand t initial begun.changes.end m.begin r later) (sym is.first) two in
-        let four = subst (λ (f : Fde). ChangesStand t initial begun.changes.end f.begin (shown_row begun.changes) later) (sym is.fde) three in
-        subst (λ (r : Rules). ChangesStand t r begun.changes.end begun.fde.begin (shown_row begun.changes) later) (sym is.shared) four
-
     pub ready_at : (begun : Begun) → Begins ms m begun → IsReady t begun
     ready_at begun is = record {
       first =
           subst (λ (r : Rules). AllByRecursion (InstrFits t) (difference r r (shown_row begun.changes))) (sym is.shared)
           (subst (λ (r : Rules). AllByRecursion (InstrFits t) (difference initial initial r)) (sym is.first) first_at);
-      fits = subst (RowFits t) (sym is.first) stands_at.first.fits;
-      in_space = subst (λ (n : ℕ). n ≤ address_limit t.size) (sym is.end) stands_at.in_space;
-      stand = stand_behind begun is;
+      stand = record {
+        fits = subst (RowFits t) (sym is.first) stands_at.first.fits;
+        later = rw (is.shared, is.fde, is.first, is.later) (stand_within t initial m.end (address_limit t.size) stands_at.in_space m.begin m.first m.later stands_at.later);
+      };
     }

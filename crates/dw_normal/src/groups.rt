@@ -5,7 +5,6 @@ ghost use Rattle.std.specs.BTreeMap.{insert_entry};
 ghost use Rattle.std.specs.Ordering.{nat_cmp};
 ghost use Rattle.dw_cfa.specs.Rows.{Rules};
 ghost use Rattle.dw_section.specs.declared.lookup.Fde.{Fde as TheFde};
-ghost use Rattle.dw_section.specs.Changes.{ToCome};
 ghost use Rattle.dw_section.specs.Laws.{AreListed};
 ghost use Rattle.dw_section.specs.Meaning.{AreFdes, ChangesOf};
 ghost use Rattle.dw_section.specs.Opening.{OpensBehind};
@@ -15,7 +14,7 @@ ghost use Rattle.dw_canon.specs.Members.{Member, AreMembers};
 ghost use Rattle.dw_cfa.specs.Agreement.{kept};
 ghost use Rattle.dw_cfa.specs.Inner.Agreement.{agreed};
 ghost use Rattle.dw_normal.specs.Inner.Groups.{SpecifiesAll, NarrowedBy, HasJoined, joined_by, with_member, initial_rows};
-ghost use Rattle.dw_normal.specs.Inner.ChangeWalk.{AreToCome, BehindFirst};
+ghost use Rattle.dw_normal.specs.Inner.ChangeWalk.{BehindFirst};
 
 use crate::bound::add_share;
 use dw_cfa::Row;
@@ -31,9 +30,8 @@ fn show_first<'a>(
     fde: FdeRef,
 ) -> Result<(), AllocError>
     requires place { (fs : List TheFde) → AreFdes table.now.target table.now.bytes fs → fde.place < length fs }
-    requires changes { (fs : List TheFde) → AreFdes table.now.target table.now.bytes fs → (d : TheFde) (all : List (ℕ × Rules)) → ToCome changes.old all → ChangesOf table.now.target table.now.bytes (slice_index_or fs fde.place d) all }
-    requires listed { (all : List (ℕ × Rules)) → ToCome changes.old all → AreListed all }
-    requires end { (fs : List TheFde) → AreFdes table.now.target table.now.bytes fs → (d : TheFde) → changes.old.end ≡ (slice_index_or fs fde.place d).end }
+    requires changes { (fs : List TheFde) → AreFdes table.now.target table.now.bytes fs → (d : TheFde) → ChangesOf table.now.target table.now.bytes (slice_index_or fs fde.place d) changes.old.to_come }
+    requires listed { AreListed changes.old.to_come }
     ensures behind { (ms : List Member) → AreMembers table.now.target table.now.bytes ms → (d : Member) → OnOk result (BehindFirst (slice_index_or ms fde.place d) changes.new) }
     ensures section { changes.new.section ≡ changes.old.section }
 {
@@ -103,7 +101,7 @@ pub(crate) fn keep_all<'a>(
     shared: &mut Row<'a>,
     changes: &mut Changes<'a>,
 ) -> Result<(), AllocError>
-    ensures row { (later : List (ℕ × Rules)) → AreToCome changes.old later → OnOk result (shared.new ≡ kept_by shared.old later) }
+    ensures row { OnOk result (shared.new ≡ kept_by shared.old changes.old.to_come) }
     ensures section { changes.new.section ≡ changes.old.section }
 {
     if changes.keeps(shared) {
@@ -119,7 +117,7 @@ pub(crate) fn keep_all<'a>(
 
 // Narrows the row of a group to what one more FDE shares with it, whose row at its begin is shown.
 fn share_with<'a>(shared: &mut Row<'a>, changes: &mut Changes<'a>) -> Result<(), AllocError>
-    ensures row { (first : Rules) (later : List (ℕ × Rules)) → changes.old.shown ≡ Some first → AreToCome changes.old later → OnOk result (shared.new ≡ kept_by (agreed shared.old first) later) }
+    ensures row { (first : Rules) → changes.old.shown ≡ Some first → OnOk result (shared.new ≡ kept_by (agreed shared.old first) changes.old.to_come) }
     ensures section { changes.new.section ≡ changes.old.section }
 {
     let Some(first) = changes.row() else {
@@ -132,7 +130,7 @@ fn share_with<'a>(shared: &mut Row<'a>, changes: &mut Changes<'a>) -> Result<(),
 
 // The row of a group that begins with an FDE, whose row at its begin is shown.
 fn first_shared<'a>(changes: &mut Changes<'a>) -> Result<Row<'a>, AllocError>
-    ensures row { (first : Rules) (later : List (ℕ × Rules)) → changes.old.shown ≡ Some first → AreToCome changes.old later → IfOk result (λ row. row ≡ kept_by first later) }
+    ensures row { (first : Rules) → changes.old.shown ≡ Some first → IfOk result (λ row. row ≡ kept_by first changes.old.to_come) }
     ensures section { changes.new.section ≡ changes.old.section }
 {
     let Some(first) = changes.row() else {
@@ -151,7 +149,7 @@ fn begin_group<'a>(
     changes: &mut Changes<'a>,
     register: u16,
 ) -> Result<(), AllocError>
-    ensures rows { (first : Rules) (later : List (ℕ × Rules)) → changes.old.shown ≡ Some first → AreToCome changes.old later → OnOk result (rows.new.entries ≡ insert_entry nat_cmp rows.old.entries register (kept_by first later)) }
+    ensures rows { (first : Rules) → changes.old.shown ≡ Some first → OnOk result (rows.new.entries ≡ insert_entry nat_cmp rows.old.entries register (kept_by first changes.old.to_come)) }
     ensures section { changes.new.section ≡ changes.old.section }
 {
     let row = first_shared(changes)?;
@@ -219,9 +217,8 @@ fn join_fde<'a>(
     joined: Option<Joined>,
 ) -> Result<Option<Joined>, AllocError>
     requires place { (fs : List TheFde) → AreFdes table.now.target table.now.bytes fs → fde.place < length fs }
-    requires changes { (fs : List TheFde) → AreFdes table.now.target table.now.bytes fs → (d : TheFde) (all : List (ℕ × Rules)) → ToCome changes.old all → ChangesOf table.now.target table.now.bytes (slice_index_or fs fde.place d) all }
-    requires listed { (all : List (ℕ × Rules)) → ToCome changes.old all → AreListed all }
-    requires end { (fs : List TheFde) → AreFdes table.now.target table.now.bytes fs → (d : TheFde) → changes.old.end ≡ (slice_index_or fs fde.place d).end }
+    requires changes { (fs : List TheFde) → AreFdes table.now.target table.now.bytes fs → (d : TheFde) → ChangesOf table.now.target table.now.bytes (slice_index_or fs fde.place d) changes.old.to_come }
+    requires listed { AreListed changes.old.to_come }
     requires opens { (fs : List TheFde) → AreFdes table.now.target table.now.bytes fs → (d : TheFde) → IfSome cie_at (OpensBehind table.now.target table.now.bytes (slice_index_or fs fde.place d)) }
     requires rows { (ms : List Member) → AreMembers table.now.target table.now.bytes ms → rows.old.entries ≡ initial_rows (take fde.place ms) }
     requires joined { HasJoined table.now.target table.now.bytes rows.old.entries joined }

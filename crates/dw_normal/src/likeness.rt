@@ -1,12 +1,10 @@
 //! Whether two tables say the same.
 
-ghost use Rattle.std.specs.Prelude.{◌≡◌, ◌↔◌, ◌<◌, ℕ, List, length, slice_index_or, IsTrue, IfOk};
+ghost use Rattle.std.specs.Prelude.{◌≡◌, ◌↔◌, ◌<◌, List, length, slice_index_or, IsTrue, IfOk};
 ghost use Rattle.std.specs.Bool.{Decides};
-ghost use Rattle.dw_cfa.specs.Rows.{Rules};
 ghost use Rattle.dw_section.specs.declared.lookup.Fde.{Fde as TheFde};
 ghost use Rattle.dw_section.specs.Meaning.{AreFdes};
 ghost use Rattle.dw_canon.specs.Members.{Member, AreMembers};
-ghost use Rattle.dw_normal.specs.Inner.ChangeWalk.{AreToCome};
 
 use dw_section::{Changes, Fde, FdeRef, Table};
 use std::alloc::AllocError;
@@ -24,7 +22,7 @@ fn same_rows(first: &Changes<'_>, second: &Changes<'_>) -> bool
 
 // Whether the same changes are to come. It ends at the first one that differs.
 fn same_changes(first: &mut Changes<'_>, second: &mut Changes<'_>) -> Result<bool, AllocError>
-    ensures same { (xs ys : List (ℕ × Rules)) → AreToCome first.old xs → AreToCome second.old ys → IfOk result (λ b. Decides b (xs ≡ ys)) }
+    ensures same { IfOk result (λ b. Decides b (first.old.to_come ≡ second.old.to_come)) }
     ensures first { first.new.section ≡ first.old.section }
     ensures second { second.new.section ≡ second.old.section }
 {

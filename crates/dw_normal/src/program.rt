@@ -7,9 +7,8 @@ ghost use Rattle.dw_canon.specs.Difference.{move};
 ghost use Rattle.dw_canon.specs.Inner.Difference.{difference, cfa_difference, rule_to};
 ghost use Rattle.dw_cfa.specs.Rows.{rule};
 ghost use Rattle.dw_normal.specs.Inner.RegisterWalk.{rules_from};
-ghost use Rattle.dw_normal.specs.Inner.ChangeWalk.{Stand, Appends, row_or_blank, shown_row};
+ghost use Rattle.dw_normal.specs.Inner.ChangeWalk.{Stand, later_bytes, row_or_blank, shown_row};
 ghost use Rattle.dw_canon.specs.Inner.Fits.{InstrFits};
-ghost use Rattle.dw_section.specs.Inner.Sound.{RowFits};
 ghost use Rattle.dw_canon.specs.Inner.Spelling.{instr_bytes, program_bytes};
 
 use crate::cfa_change::cfa_difference;
@@ -221,10 +220,8 @@ pub(crate) fn push_later<'a>(
     begin: u128,
     target: Target,
 ) -> Result<(), AllocError>
-    requires fits { RowFits target (shown_row changes.old) }
-    requires in_space { changes.old.end ≤ address_limit target.size }
-    requires stand { Stand target shared.now begin (shown_row changes.old) changes.old }
-    ensures appends { OnOk result (Appends target shared.now begin (shown_row changes.old) changes.old out.old.items out.new.items) }
+    requires { Stand target shared.now begin changes.old }
+    ensures appends { OnOk result (out.new.items ≡ out.old.items ++ later_bytes target shared.now begin changes.old) }
     ensures section { changes.new.section ≡ changes.old.section }
 {
     let mut at = begin;

@@ -3,7 +3,6 @@
 ghost use Rattle.std.specs.Prelude.{◌≡◌, ◌+◌, ◌<◌, ◌≤◌, ◌^◌, length, Some, IfOk};
 ghost use Rattle.std.specs.List.{AllByRecursion};
 ghost use Rattle.dw_num.specs.Target.{address_limit};
-ghost use Rattle.dw_section.specs.Inner.Sound.{RowFits};
 ghost use Rattle.dw_canon.specs.Inner.Canon.{cie_instrs};
 ghost use Rattle.dw_cfa.specs.Rows.{rule};
 ghost use Rattle.dw_canon.specs.Difference.{move};
@@ -12,8 +11,8 @@ ghost use Rattle.dw_canon.specs.Inner.Fits.{InstrFits};
 ghost use Rattle.dw_canon.specs.Inner.Spelling.{instr_bytes, program_bytes};
 ghost use Rattle.dw_canon.specs.Inner.Written.{cie, entry_bytes};
 ghost use Rattle.dw_canon.specs.Written.{missing};
-ghost use Rattle.dw_normal.specs.Inner.Lengths.{Leaves, LaterLeaves, FdeLeaves};
-ghost use Rattle.dw_normal.specs.Inner.ChangeWalk.{Stand, row_or_blank, shown_row};
+ghost use Rattle.dw_normal.specs.Inner.Lengths.{Leaves, FdeLeaves};
+ghost use Rattle.dw_normal.specs.Inner.ChangeWalk.{Stand, later_bytes, row_or_blank, shown_row};
 
 use crate::cfa_change::cfa_difference;
 use crate::restored::is_restored;
@@ -191,10 +190,8 @@ pub(crate) fn behind_later<'a>(
     begin: u128,
     target: Target,
 ) -> Result<Option<u128>, AllocError>
-    requires fits { RowFits target (shown_row changes.old) }
-    requires in_space { changes.old.end ≤ address_limit target.size }
-    requires stand { Stand target shared.now begin (shown_row changes.old) changes.old }
-    ensures leaves { IfOk result (LaterLeaves target shared.now begin (shown_row changes.old) changes.old room) }
+    requires { Stand target shared.now begin changes.old }
+    ensures leaves { IfOk result (Leaves room (length (later_bytes target shared.now begin changes.old))) }
     ensures section { changes.new.section ≡ changes.old.section }
 {
     let mut left = room;
@@ -254,10 +251,8 @@ pub(crate) fn behind_fde<'a>(
 ) -> Result<Option<u128>, AllocError>
     requires room { room < 2 ^ 64 }
     requires first { AllByRecursion (InstrFits target) (difference shared.now shared.now (shown_row changes.old)) }
-    requires fits { RowFits target (shown_row changes.old) }
-    requires in_space { changes.old.end ≤ address_limit target.size }
-    requires stand { Stand target shared.now begin (shown_row changes.old) changes.old }
-    ensures leaves { IfOk result (FdeLeaves target shared.now begin (shown_row changes.old) changes.old room) }
+    requires stand { Stand target shared.now begin changes.old }
+    ensures leaves { IfOk result (FdeLeaves target shared.now begin changes.old room) }
     ensures section { changes.new.section ≡ changes.old.section }
 {
     let Some(left) = behind_first(room, shared, changes, target)? else {

@@ -1,8 +1,9 @@
 -- The addresses of an FDE at which its rules change, and the rules there: DWARF 5, 6.4.1 and 6.4.3. An FDE is given by the
 -- instructions of its CIE and of its own program, and by its range.
-use Rattle.std.specs.Prelude.{◌≡◌, ◌⊎◌, ℕ, suc, ◌<◌, ◌≤◌, length, List, [], ◌∷◌, Option, Some, None, Bool, true, false, Result, Ok, Err}
+use Rattle.std.specs.Prelude.{◌≡◌, ℕ, suc, ◌<◌, ◌≤◌, List, [], ◌∷◌, Option, Some, None, Bool, true, false, Result, Ok, Err}
+use Rattle.std.specs.List.{AllByRecursion}
 use Rattle.dw_cfa.specs.declared.instr.Instr.{Instr}
-use Rattle.dw_cfa.specs.declared.execution.LocatedRow.{LocatedRow}
+use Rattle.dw_cfa.specs.Agreement.{kept}
 use Rattle.dw_cfa.specs.Location.{Counts}
 use Rattle.dw_cfa.specs.Column.{cfa_after, rule_after}
 use Rattle.dw_cfa.specs.Laws.{initial_cfa, initial_rule, HoldsAfter}
@@ -47,64 +48,33 @@ AreChanges initial instrs begin end [] = ⊥
 AreChanges initial instrs begin end (first ∷ changes) =
     (first.0 ≡ begin) × HoldsAt initial instrs begin begin first.1 × ChangesBehind initial instrs begin end begin changes
 
--- ---- how the code finds them: among rows
-
--- an address below the end and before the row that comes next
-abbrev pub Before : ℕ → ℕ → List LocatedRow → Type 0
-Before end a [] = a < end
-Before end a (next ∷ rows) = (a < next.location) × (a < end)
-
--- no address below the end shows the row, or it repeats the one that was shown
-abbrev pub Passed : ℕ → Option Rules → LocatedRow → List LocatedRow → Type 0
-Passed end shown row rows = (Before end row.location rows → ⊥) ⊎ (shown ≡ Some row.row)
-
--- an address shows the row, and it is not the one that was shown
-abbrev pub Shows : ℕ → Option Rules → LocatedRow → List LocatedRow → Type 0
-Shows end shown row rows = Before end row.location rows × (shown ≡ Some row.row → ⊥)
-
--- the changes among rows, where this row was shown before
-abbrev pub Among : ℕ → Option Rules → List LocatedRow → List (ℕ × Rules) → Type 0
-Among end shown [] changes = changes ≡ []
-Among end shown (row ∷ rows) changes =
-    (Passed end shown row rows × Among end shown rows changes)
-    ⊎ (Shows end shown row rows × ((more : List (ℕ × Rules)) × (changes ≡ (row.location, row.row) ∷ more) × Among end (Some row.row) rows more))
-
 -- ---- changes given one at a time
 
--- of a section, the rows still to come, the row that was shown and the one before it, the end, and whether memory ran out
+-- of a section, the changes still to come, the row that was shown and the one before it, and whether memory ran out
 pub record Changing : Type 0 where
   pub section : Section
-  pub rows : List LocatedRow
+  pub to_come : List (ℕ × Rules)
   pub shown : Option Rules
   pub before : Option Rules
-  pub end : ℕ
   pub failed : Bool
-
--- nothing was shown yet
-abbrev pub changing : Section → List LocatedRow → ℕ → Changing
-changing s rows end = record { section = s; rows = rows; shown = None; before = None; end = end; failed = false }
-
--- these are the changes still to come
-abbrev pub ToCome : Changing → List (ℕ × Rules) → Type 0
-ToCome c changes = Among c.end c.shown c.rows changes
 
 -- what a call answers, what is still to come then, and the row that is shown: behind the last change the one before
 abbrev pub GivesChange : {E : Type 0} → Changing → Result (Option (ℕ × Rules)) E → Changing → Type 0
-GivesChange old (Ok None) new = (new.failed ≡ false) × ToCome old [] × (new.rows ≡ []) × (new.shown ≡ old.shown)
-GivesChange old (Ok (Some change)) new =
-    (new.failed ≡ false) × (length new.rows < length old.rows) × ((changes : List (ℕ × Rules)) → ToCome new changes → ToCome old (change ∷ changes))
-    × (new.shown ≡ Some change.1)
+GivesChange old (Ok None) new = (new.failed ≡ false) × (old.to_come ≡ []) × (new.to_come ≡ []) × (new.shown ≡ old.shown)
+GivesChange old (Ok (Some change)) new = (new.failed ≡ false) × (old.to_come ≡ change ∷ new.to_come) × (new.shown ≡ Some change.1)
 GivesChange old (Err e) new = new.failed ≡ true
 
--- the same of a call that answers the address alone: the row there is the one that was shown then
+-- the same of a call that answers the address alone: the row there is the one that is shown then
 abbrev pub GivesAddress : {E : Type 0} → Changing → Result (Option ℕ) E → Changing → Type 0
-GivesAddress old (Ok None) new = (new.failed ≡ false) × ToCome old [] × (new.rows ≡ []) × (new.shown ≡ old.shown)
-GivesAddress old (Ok (Some address)) new =
-    (new.failed ≡ false) × (length new.rows < length old.rows)
-    × ((row : Rules) × (new.shown ≡ Some row) × ((changes : List (ℕ × Rules)) → ToCome new changes → ToCome old ((address, row) ∷ changes)))
+GivesAddress old (Ok None) new = (new.failed ≡ false) × (old.to_come ≡ []) × (new.to_come ≡ []) × (new.shown ≡ old.shown)
+GivesAddress old (Ok (Some address)) new = (new.failed ≡ false) × ((row : Rules) × (old.to_come ≡ (address, row) ∷ new.to_come) × (new.shown ≡ Some row))
 GivesAddress old (Err e) new = new.failed ≡ true
 
 -- at a change the row before it is the one that was shown, and behind the last one there is none
 abbrev pub before_then : {A : Type 0} → Option A → Option Rules → Option Rules
 before_then None shown = None
 before_then (Some change) shown = shown
+
+-- none of these changes leaves a register Unspecified that a row specifies
+abbrev pub ChangesKeep : Rules → List (ℕ × Rules) → Type 0
+ChangesKeep row changes = AllByRecursion (λ (change : ℕ × Rules). kept row change.1 ≡ row) changes

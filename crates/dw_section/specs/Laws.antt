@@ -3,7 +3,6 @@ use Rattle.std.specs.Prelude.{◌≡◌, ℕ, ◌<◌, ◌≤◌, List, length, 
 use Rattle.std.specs.List.{AllByRecursion, AllZip}
 use Rattle.dw_num.specs.declared.target.Target.{Target}
 use Rattle.dw_num.specs.Input.{AreBytes}
-use Rattle.dw_num.specs.Laws.{HoldsOfOne}
 use Rattle.dw_cfa.specs.declared.instr.Instr.{Instr}
 use Rattle.dw_cfa.specs.Location.{row_starts}
 use Rattle.dw_cfa.specs.Rows.{Rules, AreSpecified, rule}
@@ -11,7 +10,7 @@ use Rattle.dw_section.specs.declared.lookup.Fde.{Fde}
 use Rattle.dw_num.specs.declared.refusal.Refusal.{Refusal}
 use Rattle.dw_section.specs.Accepted.{Accepted, CheckFault}
 use Rattle.dw_op.specs.Faults.{IsWithin}
-use Rattle.dw_section.specs.Changes.{AreChanges, Changing, ToCome}
+use Rattle.dw_section.specs.Changes.{AreChanges}
 use Rattle.dw_section.specs.Headers.{Head, Headers}
 use Rattle.dw_section.specs.Meaning.{Says, AreFdes, Covers, RulesAt, ChangesOf, RowStarts, total}
 use Rattle.dw_section.specs.Meanings.{SameRow, SameMeaning}
@@ -25,10 +24,6 @@ use Rattle.dw_cfa.specs.declared.rule.RegRule.TheVariants.{Expression, ValExpres
 -- the first fault of a section lies in it or at its end
 abbrev pub FaultsWithin : Type 0
 FaultsWithin = (target : Target) (s : List ℕ) (r : Refusal) → AreBytes s → CheckFault target s r → IsWithin s r
-
--- whatever rows are still to come, the changes among them are one list
-abbrev pub OneToCome : Type 0
-OneToCome = (c : Changing) → HoldsOfOne (ToCome c)
 
 -- rows that list each register once, ascending
 abbrev pub AreListed : List (ℕ × Rules) → Type 0

@@ -4,9 +4,8 @@ ghost use Rattle.std.specs.Prelude.{◌≡◌, ◌+◌, ◌<◌, ◌↔◌, [], 
 ghost use Rattle.dw_num.specs.Target.{address_limit};
 ghost use Rattle.dw_cfa.specs.Difference.{FirstDifference, place_behind};
 ghost use Rattle.dw_cfa.specs.Rows.{AreSpecified, Rules};
-ghost use Rattle.dw_cfa.specs.RowWalk.{AllKeep};
-ghost use Rattle.dw_section.specs.Changes.{Before, GivesAddress, GivesChange, changing, before_then};
-ghost use Rattle.dw_section.specs.Inner.Changes.{FindsChange};
+ghost use Rattle.dw_section.specs.Changes.{ChangesKeep, GivesAddress, GivesChange, before_then};
+ghost use Rattle.dw_section.specs.Inner.Changes.{Before, FindsChange, changing};
 ghost use Rattle.dw_section.specs.Inner.Shown.{shown_if, shown_of};
 ghost use Rattle.dw_section.specs.Inner.Index.{led_to};
 ghost use Rattle.dw_section.specs.Inner.Lookup.{LedBy, rows_of};
@@ -91,7 +90,7 @@ fn next_change(
 }
 
 /// The changes of an FDE: its begin, and each address below its end at which the rule of some column is not that
-/// one address before, ascending, each with the rules there. A contract sees the section, and the rows that are still to come.
+/// one address before, ascending, each with the rules there. A contract sees the section, and the changes still to come.
 #[derive(Drop)]
 pub struct Changes<'a> {
     bytes: &'a [u8],
@@ -115,11 +114,11 @@ pub struct Changes<'a> {
 impl<'a> Model for Changes<'a> {
     ghost use Rattle.dw_section.specs.Changes.{Changing};
     ghost use Rattle.dw_section.specs.Inner.Shown.{shown_if, shown_of, before_of};
-    ghost use Rattle.dw_section.specs.Inner.Changes.{ChangesSo};
+    ghost use Rattle.dw_section.specs.Inner.Changes.{ChangesSo, changes_among};
 
     ghost Value = { Changing };
 
-    ghost view = { λ c. record { section = record { target = c.target; bytes = c.bytes.now }; rows = c.steps.steps.outcome.rows; shown = shown_of c.lent c.steps.steps.current (shown_if c.kept c.steps.kept); before = before_of c.lent (shown_if c.kept c.steps.kept); end = c.end; failed = c.failed } };
+    ghost view = { λ c. record { section = record { target = c.target; bytes = c.bytes.now }; to_come = changes_among c.end (shown_of c.lent c.steps.steps.current (shown_if c.kept c.steps.kept)) c.steps.steps.outcome.rows; shown = shown_of c.lent c.steps.steps.current (shown_if c.kept c.steps.kept); before = before_of c.lent (shown_if c.kept c.steps.kept); failed = c.failed } };
 
     ghost invariant = { λ c. ChangesSo (record { target = c.target; bytes = c.bytes.now }) c.cie_at c.steps c.away };
 }
@@ -191,7 +190,6 @@ impl<'a> Changes<'a> {
     pub fn advance(&mut self) -> Result<Option<u128>, AllocError>
         ensures gives { GivesAddress self.old result self.new }
         ensures again { self.old.failed ≡ true → IsErr result }
-        ensures end { self.new.end ≡ self.old.end }
         ensures section { self.new.section ≡ self.old.section }
         ensures before { IfOk result (λ address. self.new.before ≡ before_then address self.old.shown) }
     {
@@ -275,7 +273,7 @@ impl<'a> Changes<'a> {
     /// Whether each change still to come is known to specify every register that a row specifies: what a CIE's program
     /// specifies stays so. `false` says nothing. Takes no memory.
     pub fn keeps(&self, row: &Row<'_>) -> bool
-        ensures { IsTrue result → AllKeep row.now self.now.rows }
+        ensures { IsTrue result → ChangesKeep row.now self.now.to_come }
     {
         self.steps.keeps(row)
     }

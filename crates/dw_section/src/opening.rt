@@ -5,9 +5,7 @@ ghost use Rattle.std.specs.Option.{IsSome};
 ghost use Rattle.dw_cfa.specs.declared.instr.Instr.{Instr};
 ghost use Rattle.dw_cfa.specs.InstrSpells.{Program as ProgramSpells};
 ghost use Rattle.dw_cfa.specs.Opening.{moves_first};
-ghost use Rattle.dw_cfa.specs.Rows.{Rules};
 ghost use Rattle.dw_section.specs.declared.lookup.Fde.{Fde as TheFde};
-ghost use Rattle.dw_section.specs.Changes.{ToCome};
 ghost use Rattle.dw_section.specs.Laws.{AreListed};
 ghost use Rattle.dw_section.specs.Meaning.{AreFdes, ChangesOf, HasLengths};
 ghost use Rattle.dw_section.specs.Opening.{OpensBehind};
@@ -53,9 +51,8 @@ impl<'a> Table<'a> {
         ensures begun { (changes.new.failed ≡ false) × (changes.new.shown ≡ None) }
         ensures before { changes.new.before ≡ None }
         ensures section { changes.new.section ≡ self.now }
-        ensures changes { (fs : List TheFde) → AreFdes self.now.target self.now.bytes fs → (d : TheFde) (all : List (ℕ × Rules)) → ToCome changes.new all → ChangesOf self.now.target self.now.bytes (slice_index_or fs fde.place d) all }
-        ensures listed { (all : List (ℕ × Rules)) → ToCome changes.new all → AreListed all }
-        ensures end { (fs : List TheFde) → AreFdes self.now.target self.now.bytes fs → (d : TheFde) → changes.new.end ≡ (slice_index_or fs fde.place d).end }
+        ensures changes { (fs : List TheFde) → AreFdes self.now.target self.now.bytes fs → (d : TheFde) → ChangesOf self.now.target self.now.bytes (slice_index_or fs fde.place d) changes.new.to_come }
+        ensures listed { AreListed changes.new.to_come }
         ensures lengths { (fs : List TheFde) → AreFdes self.now.target self.now.bytes fs → (d : TheFde) → HasLengths self.now.target self.now.bytes (slice_index_or fs fde.place d) result.own result.initial }
         ensures opens { (fs : List TheFde) → AreFdes self.now.target self.now.bytes fs → (d : TheFde) → IfSome result.cie_at (OpensBehind self.now.target self.now.bytes (slice_index_or fs fde.place d)) }
         ensures only { (fs : List TheFde) → AreFdes self.now.target self.now.bytes fs → (d : TheFde) (place : ℕ) → OpensBehind self.now.target self.now.bytes (slice_index_or fs fde.place d) place → IsSome result.cie_at }

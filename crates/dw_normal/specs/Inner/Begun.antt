@@ -1,27 +1,22 @@
 -- An FDE behind its begin.
-use Rattle.std.specs.Prelude.{◌≡◌, ◌≤◌, List}
+use Rattle.std.specs.Prelude.{◌≡◌, List}
 use Rattle.std.specs.List.{AllByRecursion}
-use Rattle.dw_num.specs.Target.{address_limit}
 use Rattle.dw_num.specs.declared.target.Target.{Target}
-use Rattle.dw_section.specs.Inner.Sound.{RowFits}
 use Rattle.dw_canon.specs.Inner.Canon.{initial_of}
 use Rattle.dw_canon.specs.Inner.Difference.{difference}
 use Rattle.dw_canon.specs.Inner.Fits.{InstrFits}
 use Rattle.dw_canon.specs.Members.{Member, fde_of}
-use Rattle.dw_normal.specs.Inner.ChangeWalk.{AreToCome, Stand, shown_row}
+use Rattle.dw_normal.specs.Inner.ChangeWalk.{Stand, shown_row}
 use Rattle.dw_normal.specs.declared.begun.Begun.{Begun}
 
 -- its row at its begin and its later changes can be spelled behind the initial row
 pub record IsReady (t : Target) (b : Begun) : Type 0 where
   pub first : AllByRecursion (InstrFits t) (difference b.shared.now b.shared.now (shown_row b.changes))
-  pub fits : RowFits t (shown_row b.changes)
-  pub in_space : b.changes.end ≤ address_limit t.size
-  pub stand : Stand t b.shared.now b.fde.begin (shown_row b.changes) b.changes
+  pub stand : Stand t b.shared.now b.fde.begin b.changes
 
 -- it is this FDE among those
 pub record Begins (ms : List Member) (m : Member) (b : Begun) : Type 0 where
   pub fde : b.fde ≡ fde_of m
   pub shared : b.shared.now ≡ initial_of ms m.register
   pub first : shown_row b.changes ≡ m.first
-  pub later : AreToCome b.changes m.later
-  pub end : b.changes.end ≡ m.end
+  pub later : b.changes.to_come ≡ m.later

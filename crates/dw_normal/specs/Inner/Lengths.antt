@@ -2,7 +2,7 @@
 use Rattle.std.specs.Prelude.{◌≡◌, ℕ, ◌+◌, ◌<◌, ◌≤◌, List, ◌++◌, length, map, Option, Some, None}
 use Rattle.dw_num.specs.declared.target.Target.{Target}
 use Rattle.dw_cfa.specs.Rows.{Rules}
-use Rattle.dw_section.specs.Changes.{Changing, ToCome}
+use Rattle.dw_section.specs.Changes.{Changing}
 use Rattle.dw_canon.specs.Inner.Difference.{difference, later_changes}
 use Rattle.dw_canon.specs.Inner.Spelling.{program_bytes}
 use Rattle.dw_canon.specs.Inner.Written.{Written, cie, fde, entry_bytes, section_bytes}
@@ -11,27 +11,20 @@ use Rattle.dw_canon.specs.Inner.Canon.{cie_instrs, fde_instrs, initial_of}
 use Rattle.dw_canon.specs.Inner.Laid.{fde_of}
 use Rattle.dw_canon.specs.Members.{Member}
 use Rattle.dw_cfa.specs.declared.instr.Instr.{Instr}
+use Rattle.dw_normal.specs.Inner.ChangeWalk.{shown_row}
 
 -- what so many bytes leave of room: none where they are more
 abbrev pub Leaves : ℕ → ℕ → Option ℕ → Type 0
 Leaves room len None = room < len
 Leaves room len (Some left) = left + len ≡ room
 
--- what the changes that come leave of room, as they stood at the start
-pub record LaterLeaves (t : Target) (shared : Rules) (at : ℕ) (row : Rules) (changes : Changing) (room : ℕ) (result : Option ℕ) : Type 0 where
-  pub later : List (ℕ × Rules)
-  pub come : ToCome changes later
-  pub leaves : Leaves room (length (program_bytes t (later_changes shared at row later))) result
-
 -- an FDE's bytes leave so much of room, wherever its CIE stands
 abbrev pub EntryLeaves : Target → ℕ → List Instr → ℕ → Option ℕ → Type 0
 EntryLeaves t at instrs room result = (cie_at range : ℕ) → Leaves room (length (entry_bytes t (fde cie_at at range instrs (program_bytes t instrs)))) result
 
--- what an FDE with the changes that come leaves of room, as they stood at the start
-pub record FdeLeaves (t : Target) (shared : Rules) (at : ℕ) (row : Rules) (changes : Changing) (room : ℕ) (result : Option ℕ) : Type 0 where
-  pub later : List (ℕ × Rules)
-  pub come : ToCome changes later
-  pub leaves : EntryLeaves t at (difference shared shared row ++ later_changes shared at row later) room result
+-- what an FDE with its row at its begin, which is shown, and the changes still to come leaves of room
+abbrev pub FdeLeaves : Target → Rules → ℕ → Changing → ℕ → Option ℕ → Type 0
+FdeLeaves t shared at changes room result = EntryLeaves t at (difference shared shared (shown_row changes) ++ later_changes shared at (shown_row changes) changes.to_come) room result
 
 -- an FDE among others, behind the initial row of its return register
 abbrev pub MemberLeaves : Target → List Member → Member → ℕ → Option ℕ → Type 0

@@ -1,5 +1,5 @@
 -- What changes among the rows of an FDE are the changes of the FDE.
-use Rattle.std.proofs.Common.{◌≡◌, ℕ, zero, suc, ◌<◌, ◌≤◌, false, List, [], ◌∷◌, Option, Some, None, Ok, refl, sym, ap, subst, ◌∙◌, arith, inl, inr}
+use Rattle.std.proofs.Common.{◌≡◌, ℕ, zero, suc, ◌<◌, ◌≤◌, false, List, [], ◌∷◌, Option, Some, None, refl, sym, ap, subst, ◌∙◌, arith, inl, inr}
 use Rattle.std.specs.Prelude.{nat_le}
 use Rattle.std.proofs.lemmas.Bool.{cases_lt, le-leb}
 use Rattle.std.proofs.lemmas.Bool.Decides.{leb_tells}
@@ -15,8 +15,6 @@ use Rattle.dw_cfa.specs.declared.execution.LocatedRow.{LocatedRow}
 use Rattle.dw_cfa.specs.Location.{Counts}
 use Rattle.dw_cfa.specs.Laws.{HoldsAfter}
 use Rattle.dw_cfa.specs.Rows.{Rules, AreSpecified}
-use Rattle.dw_cfa.specs.Runs.{Outcome, row_then}
-use Rattle.dw_cfa.specs.RowSteps.{Stepping, Advances}
 use Rattle.dw_cfa.specs.RuleAt.{or_here, last_at, NeverFalls}
 use Rattle.dw_num.specs.Target.{address_limit}
 use Rattle.dw_cfa.specs.InstrSpells.{Program}
@@ -26,7 +24,8 @@ use Rattle.dw_cfa.proofs.Lent.FaultLaws.{initial_leaves}
 use Rattle.dw_cfa.proofs.Lent.RunLaws.{run_halves, program_placed}
 use Rattle.dw_cfa.proofs.Lent.InstrCounts.{one_count, counts_exists}
 use Rattle.dw_cfa.proofs.Lent.SameRows.{same_rows}
-use Rattle.dw_section.specs.Changes.{Stays, Differs, StayFrom, HoldsAt, ChangesBehind, AreChanges, Before, Passed, Among}
+use Rattle.dw_section.specs.Changes.{Stays, Differs, StayFrom, HoldsAt, ChangesBehind, AreChanges}
+use Rattle.dw_section.specs.Inner.Changes.{Before, Passed, Among}
 use Rattle.dw_section.specs.Laws.{AreListed}
 
 -- ---- the last row at an address
@@ -255,17 +254,3 @@ run_listed f cie fde initial instrs begin end rows changes of first program le i
     let left = initial_leaves f cie half.0 of.cie_bytes half.1 in
     let given = behind_gives f half.0 fde begin rows of.fde_bytes left.1.listed le half.2 in
     changes_listed f cie fde left.0 given.0 half.0 begin end rows changes left.1 given.1 is
-
--- ---- as the code finds them
-
--- a row that an address shows and that is not the one that was shown
-pub found_change : (end start : ℕ) (shown : Option Rules) (old new : Outcome) (current : Rules) → old ≡ row_then (record { location = start; row = current }) new → Before end start new.rows → (shown ≡ Some current → ⊥)
-    → (changes : List (ℕ × Rules)) → Among end (Some current) new.rows changes → Among end shown old.rows ((start, current) ∷ changes)
-found_change end start shown old new current is before other changes among =
-    let row : LocatedRow = record { location = start; row = current } in
-    let rows : old.rows ≡ row ∷ new.rows = ap (λ (o : Outcome). o.rows) is in
-    subst (λ (l : List LocatedRow). Among end shown l ((start, current) ∷ changes)) (sym rows) (inr ((before, other), (changes, refl, among)))
-
-pub moved : (old new : Stepping) (o : Option ℕ) (start : ℕ) → Advances old (Ok o) new → o ≡ Some start → old.outcome ≡ row_then (record { location = start; row = new.current }) new.outcome
-moved old new None start h e = absurd cc
-moved old new (Some a) start h e = let same : a ≡ start = cc in h.2 ∙ ap (λ (n : ℕ). row_then (record { location = n; row = new.current }) new.outcome) same

@@ -1,7 +1,6 @@
 -- Each FDE of an accepted section has changes, with rows that list each register once.
-use Rattle.std.proofs.Common.{◌≡◌, ℕ, suc, ◌<◌, ◌≤◌, ◌⊎◌, List, [], ◌∷◌, Option, Some, None, refl, sym, ap, ◌∙◌, subst, arith, inl, inr}
+use Rattle.std.proofs.Common.{◌≡◌, ℕ, suc, ◌<◌, ◌≤◌, List, [], ◌∷◌, None, refl, sym, subst, arith}
 use Rattle.std.specs.List.{AllByRecursion}
-use Rattle.std.proofs.lemmas.Bool.{cases_lt}
 use Rattle.dw_num.specs.declared.target.Target.{Target}
 use Rattle.dw_num.specs.Input.{Input, AreBytes}
 use Rattle.dw_num.specs.Target.{address_limit}
@@ -17,63 +16,21 @@ use Rattle.dw_cfa.proofs.Lent.BehindLaws.{gives_rows}
 use Rattle.dw_cfa.proofs.Lent.FaultLaws.{leaves_initial}
 use Rattle.dw_section.specs.declared.lookup.Fde.{Fde}
 use Rattle.dw_section.specs.Accepted.{Accepted}
-use Rattle.dw_section.specs.Changes.{HoldsAt, ChangesBehind, AreChanges, Before, Passed, Shows, Among}
-use Rattle.dw_section.specs.Laws.{OneToCome}
+use Rattle.dw_section.specs.Changes.{HoldsAt, ChangesBehind, AreChanges}
+use Rattle.dw_section.specs.Inner.Changes.{changes_among}
 use Rattle.dw_section.specs.Inner.Heads.{HasBytes}
 use Rattle.dw_section.specs.Meaning.{Says, AreFdes, ChangesOf}
 use Rattle.dw_section.specs.Programs.{CieRuns, Begins, factors_of}
 use Rattle.dw_num.specs.Span.{input_of}
+use Rattle.dw_section.proofs.ChangesAmong.{are_among}
 use Rattle.dw_section.proofs.Lent.ChangeLaws.{changes_found}
 use Rattle.dw_section.proofs.Lent.Heads.{all_in, heads_rise, heads_bytes, one_begin}
 use Rattle.dw_section.specs.Meanings.{SameMeaning}
 use Rattle.dw_section.specs.Among.{IsAmong}
-use Rattle.dw_cfa.specs.Inner.RowEquality.{same_rows, rows_tell}
-use Rattle.dw_cfa.proofs.Lent.Equal.{told_of}
 use Rattle.dw_section.proofs.Lent.Rowed.{IsListedRow, one_listed, agree_row}
 use Rattle.dw_section.proofs.Lent.Sames.{AllAgree, one_list, changes_there}
 use Rattle.dw_section.proofs.Lent.Sections.{hs, headers_of, here, one_programs, kept_programs, begin_low, row_exists, rules_programs, programs_rules, programs_changes, listed_programs}
 use Rattle.dw_section.specs.Headers.{cie, fde}
-
--- ---- among rows
-
-before_told : (end a : ℕ) (rows : List LocatedRow) → Before end a rows ⊎ (Before end a rows → ⊥)
-before_told end a [] = elim (cases_lt a end) [ inl lt ↦ inl lt | inr le ↦ inr (λ lt. omega arith) ]
-before_told end a (next ∷ rows) = elim (cases_lt a next.location) [
-  | inl lt ↦ elim (cases_lt a end) [ inl also ↦ inl (lt, also) | inr le ↦ inr (λ h. omega (arith, h.1)) ]
-  | inr le ↦ inr (λ h. omega (arith, h.0))
-]
-
-shown_told : (shown : Option Rules) (row : Rules) → (shown ≡ Some row) ⊎ (shown ≡ Some row → ⊥)
-shown_told None row = inr (λ e. cc)
-shown_told (Some before) row = elim (told_of same_rows rows_tell before row) [ inl same ↦ inl (ap Some same) | inr other ↦ inr (λ e. other cc) ]
-
-pub among_exists : (end : ℕ) (shown : Option Rules) (rows : List LocatedRow) → (changes : List (ℕ × Rules)) × Among end shown rows changes
-among_exists end shown [] = ([], refl)
-among_exists end shown (row ∷ rows) = elim (before_told end row.location rows) [
-  | inl before ↦ elim (shown_told shown row.row) [
-    | inl same ↦ let rest = among_exists end shown rows in (rest.0, inl (inr same, rest.1))
-    | inr other ↦ let rest = among_exists end (Some row.row) rows in ((row.location, row.row) ∷ rest.0, inr ((before, other), (rest.0, refl, rest.1)))
-  ]
-  | inr hidden ↦ let rest = among_exists end shown rows in (rest.0, inl (inl hidden, rest.1))
-]
-
--- what is passed is not shown
-passed_apart : (end : ℕ) (shown : Option Rules) (row : LocatedRow) (rows : List LocatedRow) → Passed end shown row rows → Shows end shown row rows → ⊥
-passed_apart end shown row rows (inl hidden) shows = hidden shows.0
-passed_apart end shown row rows (inr same) shows = shows.1 same
-
-among_one : (end : ℕ) (shown : Option Rules) (rows : List LocatedRow) (xs ys : List (ℕ × Rules)) → Among end shown rows xs → Among end shown rows ys → xs ≡ ys
-among_one end shown [] xs ys v w = v ∙ sym w
-among_one end shown (row ∷ rows) xs ys (inl v) (inl w) = among_one end shown rows xs ys v.1 w.1
-among_one end shown (row ∷ rows) xs ys (inl v) (inr w) = absurd (passed_apart end shown row rows v.0 w.0)
-among_one end shown (row ∷ rows) xs ys (inr v) (inl w) = absurd (passed_apart end shown row rows w.0 v.0)
-among_one end shown (row ∷ rows) xs ys (inr v) (inr w) =
-    v.1.1 ∙ ap (λ (more : List (ℕ × Rules)). (row.location, row.row) ∷ more) (among_one end (Some row.row) rows v.1.0 w.1.0 v.1.2 w.1.2) ∙ sym w.1.1
-
-pub one_to_come : OneToCome
-one_to_come c =
-    let some = among_exists c.end c.shown c.rows in
-    record { value = some.0; holds = some.1; only = λ others h. among_one c.end c.shown c.rows others some.0 h some.1 }
 
 -- ---- of an FDE
 
@@ -129,9 +86,9 @@ module _ (target : Target) (s : List ℕ) (b : AreBytes s) (ok : Accepted target
   pub changes_exist : (begin end : ℕ) (i j : List Instr) → begin < end → Says target s begin end i j → (changes : List (ℕ × Rules)) × AreChanges i j begin end changes × AllByRecursion IsListedRow changes
   changes_exist begin end i j lt h =
       let g = given begin end i j h in
-      let among = among_exists end None g.rows in
-      let all = changes_found g.f g.cie g.fde i j g.first begin end g.rows among.0 g.leaves g.gives lt among.1 in
-      listed_changes i j begin end (λ a le. row_exists target s b ok begin end a i j h le) among.0 all
+      let changes = changes_among end None g.rows in
+      let all = changes_found g.f g.cie g.fde i j g.first begin end g.rows changes g.leaves g.gives lt (are_among end None g.rows) in
+      listed_changes i j begin end (λ a le. row_exists target s b ok begin end a i j h le) changes all
 
   -- so each FDE that is listed has
   pub listed_change : (fs : List Fde) (f : Fde) → AreFdes target s fs → IsAmong f fs → (changes : List (ℕ × Rules)) × ChangesOf target s f changes × AllByRecursion IsListedRow changes

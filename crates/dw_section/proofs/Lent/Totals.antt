@@ -1,4 +1,4 @@
--- The rows that a section starts are no fewer than its changes; and changes that are given one at a time.
+-- The rows that a section starts are no fewer than its changes.
 use Rattle.std.proofs.Common.{◌≡◌, ℕ, suc, ◌<◌, ◌≤◌, List, [], ◌∷◌, length, map, Option, Some, None, refl, sym, ap, subst, ◌∙◌, arith, inl, inr}
 use Rattle.std.specs.List.{AllByRecursion, AllZip}
 use Rattle.dw_num.specs.declared.target.Target.{Target}
@@ -16,9 +16,10 @@ use Rattle.dw_section.proofs.Lent.HeaderLaws.{one_headers}
 use Rattle.dw_section.proofs.Lent.Index.{one_index}
 use Rattle.dw_section.specs.Among.{IsAmong}
 use Rattle.dw_cfa.specs.declared.execution.LocatedRow.{LocatedRow}
-use Rattle.dw_section.specs.Changes.{Among}
+use Rattle.dw_section.specs.Inner.Changes.{Among, changes_among}
+use Rattle.dw_section.proofs.ChangesAmong.{are_among}
 use Rattle.dw_section.proofs.Lent.ChangeLaws.{changes_found}
-use Rattle.dw_section.proofs.Lent.Exists.{given, among_exists}
+use Rattle.dw_section.proofs.Lent.Exists.{given}
 use Rattle.dw_section.proofs.Lent.Rowed.{SameChange, one_changes}
 use Rattle.dw_section.proofs.Lent.Sections.{hs, headers_of, index, fdes_zip, one_programs, changes_programs, listed_programs}
 
@@ -39,10 +40,11 @@ pub least_starts : (target : Target) (s : List ℕ) (b : AreBytes s) (ok : Accep
     → Says target s begin end i j → AreChanges i j begin end changes → length changes ≤ row_starts j
 least_starts target s b ok begin end i j changes lt h c =
     let g = given target s b ok begin end i j h in
-    let among = among_exists end None g.rows in
-    let all = changes_found g.f g.cie g.fde i j g.first begin end g.rows among.0 g.leaves g.gives lt among.1 in
-    let few = among_few end None g.rows among.0 among.1 in
-    let same = same_length among.0 changes (one_changes i j begin end among.0 changes all c) in
+    let found = changes_among end None g.rows in
+    let are = are_among end None g.rows in
+    let all = changes_found g.f g.cie g.fde i j g.first begin end g.rows found g.leaves g.gives lt are in
+    let few = among_few end None g.rows found are in
+    let same = same_length found changes (one_changes i j begin end found changes all c) in
     omega (arith, g.gives.starts)
 
 module _ (target : Target) (s : List ℕ) (b : AreBytes s) (ok : Accepted target s) where

@@ -1,13 +1,58 @@
 -- What the code and its proofs say beside Changes.
-use Rattle.std.specs.Prelude.{◌≡◌, ℕ, ◌<◌, length, List, [], ◌∷◌, Option, Some, None, IfSome, Result, Ok, Err}
+use Rattle.std.specs.Prelude.{◌≡◌, ◌⊎◌, ℕ, ◌<◌, nat_lt, ◌&&◌, not, if◌then◌else◌, List, [], ◌∷◌, Option, Some, None, IfSome, Result, Ok, Err, Bool, false}
 use Rattle.std.specs.BTreeMap.{BTreeMap, get}
 use Rattle.std.specs.Ordering.{nat_cmp}
+use Rattle.dw_cfa.specs.declared.execution.LocatedRow.{LocatedRow}
+use Rattle.dw_cfa.specs.Inner.RowEquality.{same_rows}
 use Rattle.dw_cfa.specs.Rows.{Rules}
 use Rattle.dw_cfa.specs.RowSteps.{Stepping}
 use Rattle.dw_cfa.specs.RowWalk.{Walking}
-use Rattle.dw_section.specs.Changes.{Among}
+use Rattle.dw_section.specs.Changes.{Changing}
 use Rattle.dw_section.specs.Inner.Lookup.{LedBy, LedSo}
 use Rattle.dw_section.specs.Table.{Section}
+
+-- ---- changes among rows
+
+-- an address below the end and before the row that comes next
+abbrev pub Before : ℕ → ℕ → List LocatedRow → Type 0
+Before end a [] = a < end
+Before end a (next ∷ rows) = (a < next.location) × (a < end)
+
+-- no address below the end shows the row, or it repeats the one that was shown
+abbrev pub Passed : ℕ → Option Rules → LocatedRow → List LocatedRow → Type 0
+Passed end shown row rows = (Before end row.location rows → ⊥) ⊎ (shown ≡ Some row.row)
+
+-- an address shows the row, and it is not the one that was shown
+abbrev pub Shows : ℕ → Option Rules → LocatedRow → List LocatedRow → Type 0
+Shows end shown row rows = Before end row.location rows × (shown ≡ Some row.row → ⊥)
+
+-- the changes among rows, where this row was shown before
+abbrev pub Among : ℕ → Option Rules → List LocatedRow → List (ℕ × Rules) → Type 0
+Among end shown [] changes = changes ≡ []
+Among end shown (row ∷ rows) changes =
+    (Passed end shown row rows × Among end shown rows changes)
+    ⊎ (Shows end shown row rows × ((more : List (ℕ × Rules)) × (changes ≡ (row.location, row.row) ∷ more) × Among end (Some row.row) rows more))
+
+-- the tests of both
+abbrev pub is_before : ℕ → ℕ → List LocatedRow → Bool
+is_before end a [] = nat_lt a end
+is_before end a (next ∷ rows) = nat_lt a next.location && nat_lt a end
+
+abbrev pub repeats : Option Rules → Rules → Bool
+repeats None row = false
+repeats (Some shown) row = same_rows shown row
+
+-- so they are this list
+abbrev pub changes_among : ℕ → Option Rules → List LocatedRow → List (ℕ × Rules)
+changes_among end shown [] = []
+changes_among end shown (row ∷ rows) =
+    if is_before end row.location rows && not (repeats shown row.row) then (row.location, row.row) ∷ changes_among end (Some row.row) rows else changes_among end shown rows
+
+-- nothing was shown yet of what changes among rows
+abbrev pub changing : Section → List LocatedRow → ℕ → Changing
+changing s rows end = record { section = s; to_come = changes_among end None rows; shown = None; before = None; failed = false }
+
+-- ---- how the code finds them
 
 -- each walk that was put away was led to the CIE at its place
 abbrev pub AreLed : Section → BTreeMap ℕ Walking → Type 0
@@ -19,9 +64,9 @@ pub record ChangesSo (s : Section) (cie_at : Option ℕ) (walk : Walking) (away 
   pub led : LedSo s cie_at walk.led
   pub others : AreLed s away
 
+-- where this row was shown before, the next change
 abbrev pub FindsChange : {E : Type 0} → ℕ → Stepping → Option Rules → Result (Option ℕ) E → Stepping → Type 0
-FindsChange end old shown (Ok None) new = (new.outcome.fault ≡ None) × Among end shown old.outcome.rows [] × (new.outcome.rows ≡ [])
+FindsChange end old shown (Ok None) new = (new.outcome.fault ≡ None) × (changes_among end shown old.outcome.rows ≡ []) × (new.outcome.rows ≡ [])
 FindsChange end old shown (Ok (Some start)) new =
-    (new.outcome.fault ≡ None) × (length new.outcome.rows < length old.outcome.rows)
-    × ((changes : List (ℕ × Rules)) → Among end (Some new.current) new.outcome.rows changes → Among end shown old.outcome.rows ((start, new.current) ∷ changes))
+    (new.outcome.fault ≡ None) × (changes_among end shown old.outcome.rows ≡ (start, new.current) ∷ changes_among end (Some new.current) new.outcome.rows)
 FindsChange end old shown (Err e) new = new.outcome.fault ≡ None

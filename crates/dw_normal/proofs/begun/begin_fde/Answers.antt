@@ -11,7 +11,7 @@ use Rattle.dw_normal.proofs.Placed.{below, ready_at}
 use Rattle.dw_normal.proofs.begun.begin_fde.Goals as goal
 
 begins : (ms : List Member) (m : Member) (begun : Begun) → begun.fde ≡ fde_of m → begun.shared.now ≡ initial_of ms m.register → BehindFirst m begun.changes → Begins ms m begun
-begins ms m begun fde shared behind = record { fde = fde; shared = shared; first = ap row_or_blank behind.shown; later = behind.later; end = behind.end }
+begins ms m begun fde shared behind = record { fde = fde; shared = shared; first = ap row_or_blank behind.shown; later = behind.later }
 
 pub returns-clause-is : goal.returns-clause-is
 returns-clause-is c = λ ms are d.

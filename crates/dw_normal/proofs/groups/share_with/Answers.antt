@@ -7,8 +7,8 @@ use Rattle.dw_cfa.proofs.Lent.Equal.{agreed_of}
 use Rattle.dw_normal.proofs.groups.share_with.Goals as goal
 
 pub returns-clause-row : goal.returns-clause-row
-returns-clause-row c = λ first later shown come.
+returns-clause-row c = λ first shown.
     let both = sym c.in-Some.ensures ∙ shown in
     let one : c.in-Some.first.now ≡ first = cc in
     let is : c.agree.new.self ≡ agreed c.args.shared.now first = agreed_of c.args.shared.now c.in-Some.first.now c.agree.new.self c.ascends.ensures c.agree.ensures ∙ ap (agreed c.args.shared.now) one in
-    subst (λ (row : Rules). OnOk c.keep_all.result (c.keep_all.new.shared ≡ kept_by row later)) is (c.keep_all.ensures.row later come)
+    subst (λ (row : Rules). OnOk c.keep_all.result (c.keep_all.new.shared ≡ kept_by row c.args.changes.now.to_come)) is c.keep_all.ensures.row

@@ -1,7 +1,5 @@
 use Rattle.std.specs.declared.alloc.AllocError.{AllocError}
-use Rattle.std.proofs.Common.{◌<◌, map, subst, ap, ◌∙◌, ℕ}
-use Rattle.std.proofs.Math.ListN.{get_or-map}
-use Rattle.dw_section.specs.declared.lookup.Fde.{Fde}
+use Rattle.std.proofs.Common.{◌<◌, map, subst, ℕ}
 use Rattle.std.proofs.lemmas.List.{length-map}
 use Rattle.dw_canon.specs.Members.{fde_of}
 use Rattle.dw_normal.proofs.ChangesToCome.{behind}
@@ -12,4 +10,3 @@ returns-clause-behind c = λ ms are d.
     let lt = subst (λ (n : ℕ). c.args.fde.place < n) (length-map ms fde_of) (c.requires.place (map fde_of ms) are.fdes) in
     behind c.args.table.now.target c.args.table.now.bytes c.accepted.ensures.bytes c.accepted.ensures.accepted ms are c.args.fde.place d lt c.args.changes.now c.requires.changes c.requires.listed
     AllocError c.advance.new.self c.in_ok-advance.field-0 c.in_ok-advance.ensures.gives
-    (c.in_ok-advance.ensures.end ∙ c.requires.end (map fde_of ms) are.fdes (fde_of d) ∙ ap (λ (f : Fde). f.end) (get_or-map fde_of ms c.args.fde.place d))

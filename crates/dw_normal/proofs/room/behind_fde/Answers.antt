@@ -8,6 +8,5 @@ use Rattle.dw_normal.proofs.room.behind_fde.Goals as goal
 
 pub returns-in_default-clause-leaves : goal.returns-in_default-clause-leaves
 returns-in_default-clause-leaves c =
-    let row = shown_row c.args.changes.now in
-    let over = subst (λ (o : Option ℕ). Leaves c.args.room (length (program_bytes c.args.target (difference c.args.shared.now c.args.shared.now row))) o) c.in_default.is c.in_ok-left.ensures in
-    first_over c.args.target c.args.shared.now c.args.begin row c.args.room c.args.changes.now over
+    first_over c.args.target c.args.shared.now c.args.begin c.args.room c.args.changes.now
+    (subst (λ (o : Option ℕ). Leaves c.args.room (length (program_bytes c.args.target (difference c.args.shared.now c.args.shared.now (shown_row c.args.changes.now)))) o) c.in_default.is c.in_ok-left.ensures)

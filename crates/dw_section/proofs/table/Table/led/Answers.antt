@@ -1,9 +1,6 @@
-use Rattle.std.proofs.Common.{◌∙◌, ap, sym, subst}
-use Rattle.dw_section.specs.declared.lookup.Fde.{Fde}
-use Rattle.dw_section.specs.Changes.{Changing, ToCome}
+use Rattle.std.proofs.Common.{sym, subst}
 use Rattle.dw_section.specs.Inner.Index.{led_to}
 use Rattle.dw_section.specs.Inner.Lookup.{LedBy}
-use Rattle.dw_section.specs.Meaning.{ChangesOf}
 use Rattle.dw_section.specs.Table.{Section}
 use Rattle.dw_section.proofs.RowLookup.{runs_found}
 use Rattle.dw_section.proofs.table.Table.led.Goals as goal
@@ -23,20 +20,14 @@ go_on-requires-clause-led c =
     subst (λ (s : Section). LedBy s c.found-found.result.cie_at (led_to s.target c.found-found.result)) (sym c.requires.section) c.found-found.ensures.led
 
 pub returns-clause-changes : goal.returns-clause-changes
-returns-clause-changes c = λ fs are d changes come.
+returns-clause-changes c = λ fs are d.
     let t = c.self.inside in
     let found = rw (sym c.self.view_is) at c.found-found.ensures.found in
     let runs = runs_found t.target t.bytes.now c.are_bytes.ensures c.found-found.result found in
-    let come_here = rw (c.requires.section, sym c.self.view_is) at (subst (λ (x : Changing). ToCome x changes) c.go_on.ensures come) in
-    let change = runs.changes found.some changes come_here in
-    rw (← c.self.view_is) (subst (λ (f : Fde). ChangesOf t.target t.bytes.now f changes) (c.found-found.ensures.listed fs are d) change)
+    rw (← c.found-found.ensures.listed fs are d, c.go_on.ensures, c.requires.section, ← c.self.view_is) (runs.changes found.some)
 
 pub returns-clause-listed : goal.returns-clause-listed
-returns-clause-listed c = λ changes come.
+returns-clause-listed c =
     let t = c.self.inside in
     let runs = runs_found t.target t.bytes.now c.are_bytes.ensures c.found-found.result (rw (sym c.self.view_is) at c.found-found.ensures.found) in
-    runs.listed changes (rw (c.requires.section, sym c.self.view_is) at (subst (λ (x : Changing). ToCome x changes) c.go_on.ensures come))
-
-pub returns-clause-end : goal.returns-clause-end
-returns-clause-end c = λ fs are d.
-    ap (λ (x : Changing). x.end) c.go_on.ensures ∙ ap (λ (f : Fde). f.end) (c.found-found.ensures.listed fs are d)
+    rw (c.go_on.ensures, c.requires.section, ← c.self.view_is) runs.listed

@@ -1,0 +1,79 @@
+-- The list of the changes among rows, and how the code finds one after another.
+use Rattle.std.proofs.Common.{◌≡◌, ◌⊎◌, ℕ, Bool, false, List, [], ◌∷◌, Option, Some, None, Ok, refl, sym, ap, ◌∙◌, subst, inl, inr}
+use Rattle.std.specs.Prelude.{◌&&◌, not, nat_lt}
+use Rattle.std.specs.Bool.{Decides}
+use Rattle.std.proofs.lemmas.Bool.{cases_Bool}
+use Rattle.std.proofs.lemmas.Bool.Decides.{Decides-and, Decides-ltb, Decides-not}
+use Rattle.dw_cfa.specs.declared.execution.LocatedRow.{LocatedRow}
+use Rattle.dw_cfa.specs.Inner.RowEquality.{rows_tell}
+use Rattle.dw_cfa.specs.Rows.{Rules}
+use Rattle.dw_cfa.specs.RowSteps.{Stepping, Advances}
+use Rattle.dw_cfa.specs.RowWalk.{AllKeep}
+use Rattle.dw_cfa.specs.Runs.{Outcome, row_then}
+use Rattle.dw_section.specs.Changes.{ChangesKeep}
+use Rattle.dw_section.specs.Inner.Changes.{Among, Before, Shows, changes_among, is_before, repeats}
+
+before_tells : (end a : ℕ) (rows : List LocatedRow) → Decides (is_before end a rows) (Before end a rows)
+before_tells end a [] = Decides-ltb a end
+before_tells end a (next ∷ rows) = Decides-and (nat_lt a next.location) (nat_lt a end) (Decides-ltb a next.location) (Decides-ltb a end)
+
+repeats_tells : (shown : Option Rules) (row : Rules) → Decides (repeats shown row) (shown ≡ Some row)
+repeats_tells None row = (λ e. cc, λ e. cc)
+repeats_tells (Some shown) row = let told = rows_tell shown row in (λ e. ap Some (told.0 e), λ e. told.1 cc)
+
+module _ (end : ℕ) (shown : Option Rules) (row : LocatedRow) (rows : List LocatedRow) where
+  abbrev shows : Bool
+  shows = is_before end row.location rows && not (repeats shown row.row)
+
+  tells : Decides shows (Shows end shown row rows)
+  tells = Decides-and (is_before end row.location rows) (not (repeats shown row.row)) (before_tells end row.location rows) (Decides-not (repeats shown row.row) (repeats_tells shown row.row))
+
+  -- a row that is shown is a change
+  more : Shows end shown row rows → changes_among end shown (row ∷ rows) ≡ (row.location, row.row) ∷ changes_among end (Some row.row) rows
+  more is = rw (tells.1 is) refl
+
+  -- and no other one
+  no_more : (Shows end shown row rows → ⊥) → changes_among end shown (row ∷ rows) ≡ changes_among end shown rows
+  no_more not = elim (cases_Bool shows) [ inl e ↦ absurd (not (tells.0 e)) | inr e ↦ rw e refl ]
+
+  passed : shows ≡ false → (Before end row.location rows → ⊥) ⊎ (shown ≡ Some row.row)
+  passed e = elim (cases_Bool (repeats shown row.row)) [
+    | inl same ↦ inr ((repeats_tells shown row.row).0 same)
+    | inr other ↦ inl (λ before. let is = (before_tells end row.location rows).1 before in let both = rw (is, other) at e in absurd cc)
+  ]
+
+pub are_among : (end : ℕ) (shown : Option Rules) (rows : List LocatedRow) → Among end shown rows (changes_among end shown rows)
+are_among end shown [] = refl
+are_among end shown (row ∷ rows) = elim (cases_Bool (is_before end row.location rows && not (repeats shown row.row))) [
+  | inl e ↦ rw e (inr ((tells end shown row rows).0 e, (changes_among end (Some row.row) rows, refl, are_among end (Some row.row) rows)))
+  | inr e ↦ rw e (inl (passed end shown row rows e, are_among end shown rows))
+]
+
+-- rows that keep all registers drop none
+pub changes_keep : (shared : Rules) (end : ℕ) (shown : Option Rules) (rows : List LocatedRow) → AllKeep shared rows → ChangesKeep shared (changes_among end shown rows)
+changes_keep shared end shown [] h = tt
+changes_keep shared end shown (row ∷ rows) h = elim (cases_Bool (is_before end row.location rows && not (repeats shown row.row))) [
+  | inl e ↦ rw e (h.0, changes_keep shared end (Some row.row) rows h.1)
+  | inr e ↦ rw e (changes_keep shared end shown rows h.1)
+]
+
+-- ---- as the code finds them
+
+module _ (start : ℕ) (old new : Stepping) (o : Option ℕ) (advances : Advances old (Ok o) new) (some : o ≡ Some start) where
+  abbrev row : LocatedRow
+  row = record { location = start; row = new.current }
+
+  moved : old.outcome ≡ row_then row new.outcome
+  moved = (subst (λ (p : Option ℕ). Advances old (Ok p) new) some advances).2
+
+  pub no_fault : old.outcome.fault ≡ None → new.outcome.fault ≡ None
+  no_fault none = sym (ap (λ (o : Outcome). o.fault) moved) ∙ none
+
+  module _ (end : ℕ) (shown : Option Rules) where
+    -- a row that an address shows and that is not the one that was shown
+    pub found : Before end start new.outcome.rows → (shown ≡ Some new.current → ⊥) → changes_among end shown old.outcome.rows ≡ (start, new.current) ∷ changes_among end (Some new.current) new.outcome.rows
+    found before other = ap (λ (o : Outcome). changes_among end shown o.rows) moved ∙ more end shown row new.outcome.rows (before, other)
+
+    -- and one that is not
+    pub passes : (Shows end shown row new.outcome.rows → ⊥) → changes_among end shown old.outcome.rows ≡ changes_among end shown new.outcome.rows
+    passes not = ap (λ (o : Outcome). changes_among end shown o.rows) moved ∙ no_more end shown row new.outcome.rows not
