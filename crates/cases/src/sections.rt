@@ -365,16 +365,21 @@ fn lists_fdes_and_changes(rt: HostRuntime) -> Result<(), Fail> {
     agree_all(rt.alloc(), Call::Changes, CHANGES)
 }
 
+// Whether the first two changes at an address are known to keep what their row has.
+fn keeps_at(table: &Table<'_>, address: u64) -> Result<(bool, bool), Fail> {
+    let Some(fde) = table.fde_at(address) else {
+        return Err(Fail::new("no FDE"));
+    };
+    keeps_first_two(&mut table.changes(fde))
+}
+
 // r6 is saved at the second row alone, and r16 in the CIE.
 #[test]
 fn keeps_what_the_cie_specifies(rt: HostRuntime) -> Result<(), Fail> {
     let alloc = rt.alloc();
     let bytes = section_of(alloc, "nops 30=410e108602440e08c6")?;
     let table = table_of(alloc, &bytes, LITTLE)?;
-    let Some(fde) = table.fde_at(0x1000) else {
-        return Err(Fail::new("no FDE"));
-    };
-    let (first, second) = keeps_first_two(&mut table.changes(fde))?;
+    let (first, second) = keeps_at(&table, 0x1000)?;
     assert!(rt; first && !second);
     Ok(())
 }

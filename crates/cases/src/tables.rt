@@ -111,14 +111,23 @@ fn looks_addresses_up(rt: HostRuntime) -> Result<(), Fail> {
 
 // ---- look-ups in bytes, by an index
 
-// What a look-up finds by an index.
-fn by_index(alloc: Global, bytes: &[u8], index: &[Ranged], address: u64) -> Result<String, Fail> {
-    let mut room = RowRoom::new(alloc);
-    match look_up(bytes, LITTLE, index, address, &mut room) {
+// What a look-up finds by an index, in room that is lent.
+fn found_by_index<'a>(
+    alloc: Global,
+    bytes: &'a [u8],
+    index: &[Ranged],
+    address: u64,
+    room: &mut RowRoom<'a>,
+) -> Result<String, Fail> {
+    match look_up(bytes, LITTLE, index, address, room) {
         Ok(Some(fde)) => found_text(alloc, fde.fde(), room.row()),
         Ok(None) => Ok(String::from_str(alloc, "none")?),
         Err(error) => Ok(format!(in alloc; "{error:?}")?),
     }
+}
+
+fn by_index(alloc: Global, bytes: &[u8], index: &[Ranged], address: u64) -> Result<String, Fail> {
+    found_by_index(alloc, bytes, index, address, &mut RowRoom::new(alloc))
 }
 
 // Looks an address up in a section, by the index of the section `two`.

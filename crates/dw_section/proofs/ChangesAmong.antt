@@ -28,7 +28,7 @@ module _ (end : ℕ) (shown : Option Rules) (row : LocatedRow) (rows : List Loca
   tells : Decides shows (Shows end shown row rows)
   tells = Decides-and (is_before end row.location rows) (not (repeats shown row.row)) (before_tells end row.location rows) (Decides-not (repeats shown row.row) (repeats_tells shown row.row))
 
-  -- a row that is shown is a change
+  -- a row that an address shows is a change, where it is not the one that was shown
   more : Shows end shown row rows → changes_among end shown (row ∷ rows) ≡ (row.location, row.row) ∷ changes_among end (Some row.row) rows
   more is = rw (tells.1 is) refl
 

@@ -50,7 +50,7 @@ pub fn rows_of_addresses(rt: &impl Calls, bytes: &[u8], target: Target) -> Resul
     Ok(())
 }
 
-fn each_change(rt: &impl Calls, mut changes: Changes<'_>) -> Result<(), Fail> {
+fn each_change(rt: &impl Calls, changes: &mut Changes<'_>) -> Result<(), Fail> {
     for _ in 0..9 {
         match changes.next() {
             Ok(Some((at, row))) => print_row(rt, at, &row)?,
@@ -67,7 +67,7 @@ fn each_change(rt: &impl Calls, mut changes: Changes<'_>) -> Result<(), Fail> {
 pub fn all_changes(rt: &impl Calls, bytes: &[u8], target: Target) -> Result<(), Fail> {
     let table = check(rt.alloc(), bytes, target)?;
     for place in 0..table.fde_count() {
-        each_change(rt, table.changes(FdeRef { place }))?;
+        each_change(rt, &mut table.changes(FdeRef { place }))?;
     }
     Ok(())
 }

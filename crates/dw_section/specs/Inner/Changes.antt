@@ -33,22 +33,23 @@ Among end shown (row ∷ rows) changes =
     (Passed end shown row rows × Among end shown rows changes)
     ⊎ (Shows end shown row rows × ((more : List (ℕ × Rules)) × (changes ≡ (row.location, row.row) ∷ more) × Among end (Some row.row) rows more))
 
--- the tests of both
+-- the tests of both: whether an address is before the row that comes next
 abbrev pub is_before : ℕ → ℕ → List LocatedRow → Bool
 is_before end a [] = nat_lt a end
 is_before end a (next ∷ rows) = nat_lt a next.location && nat_lt a end
 
+-- and whether a row repeats the one that was shown
 abbrev pub repeats : Option Rules → Rules → Bool
 repeats None row = false
 repeats (Some shown) row = same_rows shown row
 
--- so they are this list
+-- so the changes among rows are this list
 abbrev pub changes_among : ℕ → Option Rules → List LocatedRow → List (ℕ × Rules)
 changes_among end shown [] = []
 changes_among end shown (row ∷ rows) =
     if is_before end row.location rows && not (repeats shown row.row) then (row.location, row.row) ∷ changes_among end (Some row.row) rows else changes_among end shown rows
 
--- nothing was shown yet of what changes among rows
+-- nothing was shown yet of the changes among rows
 abbrev pub changing : Section → List LocatedRow → ℕ → Changing
 changing s rows end = record { section = s; to_come = changes_among end None rows; shown = None; before = None; failed = false }
 
