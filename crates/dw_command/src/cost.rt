@@ -27,15 +27,20 @@ fn count_changes(changes: &mut Changes<'_>) -> Result<u64, AllocError>
     Ok(count)
 }
 
-// How many changes all FDEs have.
-fn count_all(table: &Table<'_>) -> Result<u64, AllocError> {
+// How many changes all FDEs have, by changes that are gone on in.
+fn count_each<'a>(table: &Table<'a>, changes: &mut Changes<'a>) -> Result<u64, AllocError>
+    requires section { changes.old.section ≡ table.now }
+{
     let mut count = 0u64;
-    let mut changes = table.no_changes();
     for place in 0..table.fde_count() {
-        table.go_on(&mut changes, FdeRef { place });
-        count = count.saturating_add(count_changes(&mut changes)?);
+        table.go_on(changes, FdeRef { place });
+        count = count.saturating_add(count_changes(changes)?);
     }
     Ok(count)
+}
+
+fn count_all(table: &Table<'_>) -> Result<u64, AllocError> {
+    count_each(table, &mut table.no_changes())
 }
 
 fn put_pair<W: Write>(

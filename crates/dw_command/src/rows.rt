@@ -29,17 +29,30 @@ fn put_changes<W: Write>(
     Ok(())
 }
 
+// Puts the lines of each FDE, over changes that are gone on in.
+fn put_fdes<'a, W: Write>(
+    out: &mut Listing<W>,
+    table: &Table<'a>,
+    changes: &mut Changes<'a>,
+) -> Result<(), Failure<'static>>
+    requires room { out.old.failures < 2 ^ 64 - 1 }
+    requires section { changes.old.section ≡ table.now }
+    ensures told { MatchResult result (λ _. out.new.failures ≡ out.old.failures) (Unprinted out.old.failures out.new.failures) }
+{
+    for place in 0..table.fde_count() {
+        let fde = FdeRef { place };
+        put_fde(out, &table.fde(fde))?;
+        table.go_on(changes, fde);
+        put_changes(out, changes)?;
+    }
+    Ok(())
+}
+
 fn put_table<W: Write>(out: &mut Listing<W>, table: &Table<'_>) -> Result<(), Failure<'static>>
     requires room { out.old.failures < 2 ^ 64 - 1 }
     ensures { Prints out.old.failures out.new.failures out.new.len tt result }
 {
-    let mut changes = table.no_changes();
-    for place in 0..table.fde_count() {
-        let fde = FdeRef { place };
-        put_fde(out, &table.fde(fde))?;
-        table.go_on(&mut changes, fde);
-        put_changes(out, &mut changes)?;
-    }
+    put_fdes(out, table, &mut table.no_changes())?;
     Ok(out.finish()?)
 }
 
