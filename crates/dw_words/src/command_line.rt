@@ -142,8 +142,14 @@ fn added<'a>(
 fn with_sections<'a>(alloc: Global, command: Command<'a>) -> Result<Command<'a>, AllocError>
     ensures { IfOk result (λ c. (a : App) → IsCommand a command.entry → IsCommand (with_sections a) c) }
 {
-    let command = added(command, over_file(alloc, "check", help::CHECK, help::AFTER_CHECK))?;
-    let command = added(command, over_file(alloc, "rows", help::ROWS, help::AFTER_ROWS))?;
+    let command = added(
+        command,
+        over_file(alloc, "check", help::CHECK, help::AFTER_CHECK),
+    )?;
+    let command = added(
+        command,
+        over_file(alloc, "rows", help::ROWS, help::AFTER_ROWS),
+    )?;
     let entries = over_file(alloc, "entries", help::ENTRIES, help::AFTER_ENTRIES);
     added(command, entries)
 }
@@ -161,7 +167,10 @@ fn with_normal_forms<'a>(alloc: Global, command: Command<'a>) -> Result<Command<
 {
     let command = added(command, normal(alloc))?;
     let command = added(command, same(alloc))?;
-    added(command, over_file(alloc, "cost", help::COST, help::AFTER_COST))
+    added(
+        command,
+        over_file(alloc, "cost", help::COST, help::AFTER_COST),
+    )
 }
 
 fn program<'a>(alloc: Global) -> Command<'a>
