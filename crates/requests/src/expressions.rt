@@ -2,6 +2,7 @@
 
 use crate::Calls;
 use crate::numbers::{lent, tell};
+use dw_num::Target;
 use dw_op::{ExprRef, OpList, Profile, decode, encode};
 use std::test::Fail;
 
@@ -12,21 +13,33 @@ fn print_list(rt: &impl Calls, list: &OpList<'_>) -> Result<(), Fail> {
     Ok(())
 }
 
-/// A call by its name. `decode` is of the least block.
-pub fn on_expression(rt: &impl Calls, call: &str, expression: &ExprRef<'_>) -> Result<(), Fail> {
-    if call == "put_least" {
-        let mut out = lent(rt)?;
-        let put = expression.put_least(&mut out);
-        return Ok(tell(rt, put, &out)?);
-    }
-    let list = expression.ops(rt.alloc())?;
-    if call == "ops" {
-        return print_list(rt, &list);
-    }
-    let block = encode(rt.alloc(), &list)?;
+fn put(rt: &impl Calls, expression: &ExprRef<'_>) -> Result<(), Fail> {
+    let mut out = lent(rt)?;
+    let put = expression.put_least(&mut out);
+    Ok(tell(rt, put, &out)?)
+}
+
+fn on_block(rt: &impl Calls, call: &str, block: &[u8], target: Target) -> Result<(), Fail> {
     if call == "encode" {
         return Ok(println!(rt; "{block:?}")?);
     }
-    let again = decode(rt.alloc(), &block, expression.target(), Profile::Frame)?;
-    print_list(rt, &again)
+    let list = decode(rt.alloc(), block, target, Profile::Frame)?;
+    print_list(rt, &list)
+}
+
+fn on_list(rt: &impl Calls, call: &str, list: &OpList<'_>, target: Target) -> Result<(), Fail> {
+    if call == "ops" {
+        return print_list(rt, list);
+    }
+    let block = encode(rt.alloc(), list)?;
+    on_block(rt, call, &block, target)
+}
+
+/// A call by its name. `decode` is of the least block.
+pub fn on_expression(rt: &impl Calls, call: &str, expression: &ExprRef<'_>) -> Result<(), Fail> {
+    if call == "put_least" {
+        return put(rt, expression);
+    }
+    let list = expression.ops(rt.alloc())?;
+    on_list(rt, call, &list, expression.target())
 }

@@ -96,8 +96,15 @@ fn all_at(lookups: &mut Lookups<'_, '_>, address: u64) -> Result<u64, AllocError
     Ok(cfa ^ found.range() ^ rules_sum(row))
 }
 
+fn look(lookups: &mut Lookups<'_, '_>, address: u64, with_rules: bool) -> Result<u64, AllocError> {
+    if with_rules {
+        return all_at(lookups, address);
+    }
+    found_at(lookups, address)
+}
+
 fn sum_of(
-    table: &Table<'_>,
+    lookups: &mut Lookups<'_, '_>,
     fdes: &[Fde],
     count: u64,
     with_rules: bool,
@@ -105,21 +112,26 @@ fn sum_of(
     let mut numbers = Numbers {
         state: 0x9e37_79b9_7f4a_7c15,
     };
-    let mut lookups = table.lookups();
     let mut sum: u64 = 0;
     for _ in 0..count {
         let place = numbers.below(fdes.len() as u64);
         if let Some(fde) = fdes.get(place as usize) {
             let address = fde.begin.wrapping_add(numbers.below(range_of(fde)));
-            let found = if with_rules {
-                all_at(&mut lookups, address)?
-            } else {
-                found_at(&mut lookups, address)?
-            };
+            let found = look(lookups, address, with_rules)?;
             sum = sum.wrapping_mul(31).wrapping_add(address ^ found << 32);
         }
     }
     Ok(sum)
+}
+
+fn sum_in(
+    table: &Table<'_>,
+    fdes: &[Fde],
+    count: u64,
+    with_rules: bool,
+) -> Result<u64, AllocError> {
+    let mut lookups = table.lookups();
+    sum_of(&mut lookups, fdes, count, with_rules)
 }
 
 /// Makes so many look-ups of covered addresses, and prints a sum of what they found: of the CFA, or of all rules. Those of no
@@ -133,6 +145,6 @@ pub fn all(
 ) -> Result<(), Fail> {
     let table = check(rt.alloc(), bytes, target)?;
     let fdes: Vec<Fde> = table.fdes().collect(rt.alloc())?;
-    let sum = sum_of(&table, &fdes, count, with_rules)?;
+    let sum = sum_in(&table, &fdes, count, with_rules)?;
     Ok(println!(rt; "lookups={count} sum={sum:016x}")?)
 }
