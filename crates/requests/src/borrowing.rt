@@ -21,17 +21,20 @@ fn hash_of(expression: &ExprRef<'_>) -> u64 {
     state.finish()
 }
 
-fn pair(rt: &impl Print, a: &[u8], b: &[u8]) -> Result<(), Fail> {
-    let (first, second) = match (ExprRef::accept(a, TARGET), ExprRef::accept(b, TARGET)) {
-        (Ok(first), Ok(second)) => (first, second),
-        (Err(refusal), _) | (Ok(_), Err(refusal)) => {
-            return Ok(println!(rt; "{} at {}", refusal.code.name(), refusal.at)?);
-        }
-    };
-    let equal = first == second;
-    let alike = hash_of(&first) == hash_of(&second);
+fn print_pair(rt: &impl Print, first: &ExprRef<'_>, second: &ExprRef<'_>) -> Result<(), Fail> {
+    let equal = *first == *second;
+    let alike = hash_of(first) == hash_of(second);
     let lengths = (first.least_len(), second.least_len());
     Ok(println!(rt; "{equal} {alike} {} {}", lengths.0, lengths.1)?)
+}
+
+fn pair(rt: &impl Print, a: &[u8], b: &[u8]) -> Result<(), Fail> {
+    match (ExprRef::accept(a, TARGET), ExprRef::accept(b, TARGET)) {
+        (Ok(first), Ok(second)) => print_pair(rt, &first, &second),
+        (Err(refusal), _) | (Ok(_), Err(refusal)) => {
+            Ok(println!(rt; "{} at {}", refusal.code.name(), refusal.at)?)
+        }
+    }
 }
 
 /// Accepts, compares and hashes each pair of blocks.

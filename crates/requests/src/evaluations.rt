@@ -40,14 +40,17 @@ fn read(rt: &impl Calls, memory: &mut DumpMemory) -> io::Result<()> {
     println!(rt; "{:?}", memory.read(0x1008, 8, Order::Little))
 }
 
-fn print_dump(rt: &impl Calls, text: &[u8]) -> Result<(), Fail> {
-    let mut dump = match Dump::parse(rt.alloc(), text, TARGET) {
-        Err(DumpError::Fault(fault)) => return Ok(println!(rt; "{fault:?}")?),
-        answer => answer?,
-    };
+fn print_parts(rt: &impl Calls, dump: &mut Dump) -> Result<(), Fail> {
     let registers = (dump.registers.get(7), dump.registers.get(300));
     println!(rt; "{:?} {:?} {:?}", dump.pc, registers.0, registers.1)?;
     Ok(read(rt, &mut dump.memory)?)
+}
+
+fn print_dump(rt: &impl Calls, text: &[u8]) -> Result<(), Fail> {
+    match Dump::parse(rt.alloc(), text, TARGET) {
+        Err(DumpError::Fault(fault)) => Ok(println!(rt; "{fault:?}")?),
+        answer => print_parts(rt, &mut answer?),
+    }
 }
 
 pub fn dumps(rt: &impl Calls) -> Result<(), Fail> {

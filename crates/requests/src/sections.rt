@@ -20,9 +20,7 @@ pub fn all_headers(rt: &impl Calls, bytes: &[u8], target: Target) -> Result<(), 
     Ok(())
 }
 
-/// The table, and the calls on it that take no memory.
-pub fn checked(rt: &impl Calls, bytes: &[u8], target: Target) -> Result<(), Fail> {
-    let table = check(rt.alloc(), bytes, target)?;
+fn print_table(rt: &impl Calls, table: &Table<'_>) -> Result<(), Fail> {
     let counts = (table.fde_count(), table.row_starts());
     println!(rt; "{:?} {} {}", table.target(), counts.0, counts.1)?;
     for fde in table.fdes() {
@@ -31,13 +29,23 @@ pub fn checked(rt: &impl Calls, bytes: &[u8], target: Target) -> Result<(), Fail
     Ok(())
 }
 
+/// The table, and the calls on it that take no memory.
+pub fn checked(rt: &impl Calls, bytes: &[u8], target: Target) -> Result<(), Fail> {
+    print_table(rt, &check(rt.alloc(), bytes, target)?)
+}
+
+fn row_at(rt: &impl Calls, table: &Table<'_>, address: u64) -> Result<(), Fail> {
+    match table.row_at(address)? {
+        Some(row) => print_row(rt, u128::from(address), &row)?,
+        None => println!(rt; "{address} none")?,
+    }
+    Ok(())
+}
+
 // The rows at and behind an address, past the end of a short FDE.
 fn rows_from(rt: &impl Calls, table: &Table<'_>, begin: u64) -> Result<(), Fail> {
     for address in begin..begin.saturating_add(17) {
-        match table.row_at(address)? {
-            Some(row) => print_row(rt, u128::from(address), &row)?,
-            None => println!(rt; "{address} none")?,
-        }
+        row_at(rt, table, address)?;
     }
     Ok(())
 }
