@@ -1,6 +1,6 @@
 //! The addresses at which the rules of an FDE change, each with its row, by both calls.
 
-use crate::texts::located_text;
+use crate::texts::{located_text, row_text};
 use dw_section::{Changes, FdeRef, Table};
 use std::alloc::Global;
 use std::test::Fail;
@@ -57,25 +57,11 @@ fn fde_text(alloc: Global, mut given: Changes<'_>, mut lent: Changes<'_>) -> Res
     all_changes(alloc, &mut given, &mut lent)
 }
 
-// Whether the changes behind the next one keep what it specifies.
-fn keeps_next(changes: &mut Changes<'_>) -> Result<bool, Fail> {
-    let (_, row) = changes.next()?.ok_or("a change")?;
-    Ok(changes.keeps(&row))
-}
-
-/// Whether the changes behind it keep what the first one specifies, and what the second one does.
-pub fn keeps_first_two(changes: &mut Changes<'_>) -> Result<(bool, bool), Fail> {
-    let first = keeps_next(changes)?;
-    Ok((first, keeps_next(changes)?))
-}
-
-/// The address of the next change, and the first three registers to which it gives another rule than the change before.
-pub fn differing(alloc: Global, changes: &mut Changes<'_>) -> Result<String, Fail> {
-    let address = changes.advance()?.ok_or("a change")?;
-    let first = changes.next_difference(None);
-    let second = changes.next_difference(first);
-    let third = changes.next_difference(second);
-    Ok(format!(in alloc; "{address:#x} {first:?} {second:?} {third:?}")?)
+/// The row of the next change, without the registers that a change behind it leaves Unspecified.
+pub fn narrowed(alloc: Global, changes: &mut Changes<'_>) -> Result<String, Fail> {
+    let (_, mut row) = changes.next()?.ok_or("a change")?;
+    changes.narrow(&mut row)?;
+    row_text(alloc, &row)
 }
 
 /// The changes of all FDEs.

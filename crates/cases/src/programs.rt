@@ -408,20 +408,35 @@ fn starts_fdes_from_one_row(rt: HostRuntime) -> Result<(), Fail> {
 
 // ---- rows that are copied and compared
 
-/// The row that a CIE's program leaves.
-pub fn row_of(alloc: Global, cie: &[u8]) -> Result<Row<'_>, Fail> {
+// The row that a CIE's program leaves.
+fn row_of(alloc: Global, cie: &[u8]) -> Result<Row<'_>, Fail> {
     Ok(initial_row(alloc, program(cie, 0xf)?, PLAIN, LITTLE)?)
+}
+
+// Whether a copy of a row, in room that is there, is that row.
+fn is_copied(alloc: Global, row: &Row<'_>) -> Result<bool, Fail> {
+    let mut copy = Row::blank(alloc);
+    copy.become_copy(row)?;
+    Ok(copy == *row)
+}
+
+// The same of a clone.
+fn is_cloned(row: &Row<'_>) -> Result<bool, Fail> {
+    Ok(row.clone()? == *row)
+}
+
+// Whether a program of a CIE leaves a row.
+fn leaves(alloc: Global, cie: &[u8], row: &Row<'_>) -> Result<bool, Fail> {
+    Ok(row.is_same(&row_of(alloc, cie)?))
 }
 
 /// Whether two programs of CIEs leave one row. A copy of the first row is that row.
 pub fn are_alike(alloc: Global, one: &[u8], other: &[u8]) -> Result<bool, Fail> {
     let row = row_of(alloc, one)?;
-    let mut copy = Row::blank(alloc);
-    copy.become_copy(&row.clone()?)?;
-    if copy != row {
+    if !is_copied(alloc, &row)? || !is_cloned(&row)? {
         return Err(Fail::new("a copy differs"));
     }
-    Ok(row.is_same(&row_of(alloc, other)?))
+    leaves(alloc, other, &row)
 }
 
 const ALIKE: [(&[u8], &[u8], bool); 6] = [

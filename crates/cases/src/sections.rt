@@ -1,12 +1,12 @@
 //! The sections of the cases, and calls on them: entries, headers, the first fault of a section by its fields and as a
 //! whole, its FDEs, and the changes of their rules.
 
-use crate::changes::{changes_text, differing, keeps_first_two};
+use crate::changes::{changes_text, narrowed};
 use crate::lines::{compare, number, parts, sides};
 use crate::targets::{BIG, LITTLE};
 use crate::texts::refusal_text;
 use dw_num::{ReadError, Target};
-use dw_section::{Changes, Header, Table, check, entries, headers};
+use dw_section::{Header, Table, check, entries, headers};
 use std::alloc::Global;
 use std::test::Fail;
 
@@ -365,49 +365,22 @@ fn lists_fdes_and_changes(rt: HostRuntime) -> Result<(), Fail> {
     agree_all(rt.alloc(), Call::Changes, CHANGES)
 }
 
-// Whether the first two changes at an address are known to keep what their row has.
-fn keeps_at(table: &Table<'_>, address: u64) -> Result<(bool, bool), Fail> {
+// The second of the changes at an address, narrowed.
+fn second_narrowed(alloc: Global, table: &Table<'_>, address: u64) -> Result<String, Fail> {
     let Some(fde) = table.fde_at(address) else {
         return Err(Fail::new("no FDE"));
     };
-    keeps_first_two(&mut table.changes(fde))
+    let mut changes = table.changes(fde);
+    let _ = changes.advance()?;
+    narrowed(alloc, &mut changes)
 }
 
 // r6 is saved at the second row alone, and r16 in the CIE.
 #[test]
-fn keeps_what_the_cie_specifies(rt: HostRuntime) -> Result<(), Fail> {
+fn narrows_a_row(rt: HostRuntime) -> Result<(), Fail> {
     let alloc = rt.alloc();
     let bytes = section_of(alloc, "nops 30=410e108602440e08c6")?;
     let table = table_of(alloc, &bytes, LITTLE)?;
-    let (first, second) = keeps_at(&table, 0x1000)?;
-    assert!(rt; first && !second);
-    Ok(())
-}
-
-// Fails where the next change differs otherwise from the one before it.
-fn differs(alloc: Global, changes: &mut Changes<'_>, wanted: &str) -> Result<(), Fail> {
-    compare(
-        "registers that differ",
-        differing(alloc, changes)?.as_str(),
-        wanted,
-    )
-}
-
-// r6, and r40, which has no slot, are saved at the second row alone, and restored with the state; then the CFA moves.
-fn all_differ(alloc: Global, changes: &mut Changes<'_>) -> Result<(), Fail> {
-    differs(alloc, changes, "0x1000 None None None")?;
-    differs(alloc, changes, "0x1001 Some(6) Some(40) None")?;
-    differs(alloc, changes, "0x1003 Some(6) Some(40) None")?;
-    differs(alloc, changes, "0x1007 None None None")
-}
-
-#[test]
-fn tells_registers_that_differ(rt: HostRuntime) -> Result<(), Fail> {
-    let alloc = rt.alloc();
-    let bytes = section_of(alloc, "nops 30=410a0528028602420b440e10")?;
-    let table = table_of(alloc, &bytes, LITTLE)?;
-    let Some(fde) = table.fde_at(0x1000) else {
-        return Err(Fail::new("no FDE"));
-    };
-    all_differ(alloc, &mut table.changes(fde))
+    let text = second_narrowed(alloc, &table, 0x1000)?;
+    compare("the second row", text.as_str(), "cfa=r7+16 r16=[cfa-8]")
 }

@@ -1,8 +1,8 @@
-//! Rows of many registers, which lie in a tree, and rows that are narrowed.
+//! Rows of many registers, which lie in a tree.
 
 use crate::lines::compare;
-use crate::programs::{are_alike, begin, machine_of, row_of};
-use crate::texts::{register_text, row_text};
+use crate::programs::{are_alike, begin, machine_of};
+use crate::texts::register_text;
 use dw_cfa::{CieMachine, Row};
 use std::alloc::Global;
 use std::test::Fail;
@@ -70,25 +70,4 @@ fn compares_many_registers(rt: HostRuntime) -> Result<(), Fail> {
     assert!(rt; are_alike(rt.alloc(), &cie, &cie)?);
     assert!(rt; !are_alike(rt.alloc(), b"".as_slice(), &cie)?);
     Ok(())
-}
-
-#[test]
-fn narrows_rows(rt: HostRuntime) -> Result<(), Fail> {
-    let alloc = rt.alloc();
-    let other = row_of(alloc, b"\x0c\x06\x08\x83\x01\x84\x03".as_slice())?;
-    let mut row = row_of(alloc, b"\x0c\x07\x08\x83\x01\x84\x02\x85\x01".as_slice())?;
-    assert!(rt; !other.specifies_all(&row));
-    row.keep(&other);
-    assert!(rt; other.specifies_all(&row));
-    compare(
-        "kept",
-        row_text(alloc, &row)?.as_str(),
-        "cfa=r7+8 r3=[cfa-8] r4=[cfa-16]",
-    )?;
-    row.agree(&other);
-    compare(
-        "agreed",
-        row_text(alloc, &row)?.as_str(),
-        "cfa=unset r3=[cfa-8]",
-    )
 }

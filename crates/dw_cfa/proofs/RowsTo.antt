@@ -34,6 +34,10 @@ pub none_last : {X E : Type 0} (result : Result X E) (x : Option Rules) (new row
 none_last (Ok y) x new row last none = let bad = sym last ∙ none in absurd cc
 none_last (Err y) x new row last none = tt
 
+pub some_last : {E : Type 0} → (P : Bool → Type 0) (result : Result Bool E) (x : Option Rules) (new : Rules) → OnOk result (x ≡ Some new) → x ≡ None → IfOk result P
+some_last P (Ok more) x new last none = let bad = sym last ∙ none in absurd cc
+some_last P (Err e) x new last none = tt
+
 module _ (f : Factors) (i : Input) (m : Machine) where
   as_finished : (rows_left f i m).rows ≡ [] → (rows_left f i m).fault ≡ None → rows_left f i m ≡ finished
   as_finished e none =

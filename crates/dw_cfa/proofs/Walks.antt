@@ -1,5 +1,7 @@
 -- A walk from one FDE's program to another's, behind a CIE's row that is run or brought back.
-use Rattle.std.proofs.Common.{◌≡◌, ◌⊎◌, ℕ, Bool, List, [], ◌∷◌, None, Ok, Err, Result, IsOk, refl, sym, ap, subst, ◌∙◌, inl, inr}
+use Rattle.std.proofs.Common.{◌≡◌, ◌⊎◌, ℕ, Bool, true, false, List, [], ◌∷◌, Option, Some, None, Ok, Err, Result, IsOk, refl, sym, ap, subst, ◌∙◌, inl, inr}
+use Rattle.std.specs.Prelude.{◌↔◌, IfOk, IsTrue, MatchOption, if◌then◌else◌}
+use Rattle.dw_num.specs.declared.error.ReadError.{ReadError}
 use Rattle.dw_num.specs.declared.refusal.Refusal.{Refusal}
 use Rattle.dw_num.specs.declared.target.Target.{Target}
 use Rattle.dw_num.specs.Input.{Input, AreBytes}
@@ -18,9 +20,13 @@ use Rattle.dw_cfa.specs.Runs.{Outcome, finished}
 use Rattle.dw_cfa.specs.Inner.Runs.{RunsSo, fde_rows, initial_row, on_initial, placed, rows_left, run_rows}
 use Rattle.dw_cfa.specs.Inner.Machine.{begun}
 use Rattle.dw_cfa.specs.RowSteps.{Stepping, program_input}
-use Rattle.dw_cfa.specs.Inner.RowSteps.{begun_rows}
-use Rattle.dw_cfa.specs.Inner.RowWalk.{Readied, WalkKeeps, WalksSo, WalkStands, led_rows, walk_of}
+use Rattle.dw_cfa.specs.Inner.RowSteps.{begun_rows, progress_after}
+use Rattle.dw_cfa.specs.Inner.NextRow.{GoesOn}
+use Rattle.dw_cfa.specs.Agreement.{kept}
+use Rattle.dw_cfa.specs.RowWalk.{StandsOn}
+use Rattle.dw_cfa.specs.Inner.RowWalk.{AreLeft, HasInitial, Readied, WalkKeeps, WalksSo, WalkStands, initial_of, led_of, led_rows, walk_of}
 use Rattle.dw_cfa.proofs.Lent.FaultLaws.{initial_leaves, leaves_initial}
+use Rattle.dw_cfa.proofs.Lent.Given.{leaves_to}
 use Rattle.dw_cfa.proofs.Lent.RunLaws.{begun_starts, left_starts, some_begun_left, some_rows_left}
 use Rattle.dw_cfa.proofs.RunSteps.{begun_is_run}
 use Rattle.dw_cfa.proofs.Lent.SameRows.{same_entries}
@@ -120,4 +126,63 @@ kept_walks p has l fde m kept h = record {
   no_fault = ap (λ (s : Stepping). s.outcome.fault) (kept_walk p l fde m kept) ∙ h.no_fault;
   initial = h.initial;
   keeps = kept_keeps p l fde m kept h.keeps;
+  left = h.left;
 }
+
+-- ---- the CIE's row, while the rows behind one are run
+
+pub row_left : (l : Leading) (m m' : Machine) → AreBytes l.program.bytes.now → HasInitial l m → m'.initial ≡ m.initial → AreLeft l (Some m'.initial)
+row_left l m m' bytes is same = subst (λ (r : Rules). AreLeft l (Some r)) (sym same) (leaves_to l.factors (program_input l.program l.target) bytes (Ok m.initial) is)
+
+pub left_any : (p : Progress) (l : Leading) (initial : Rules) → AreLeft l (Some initial) → AreLeft l (initial_of p initial)
+left_any progress.Running l initial h = h
+left_any p l initial h = tt
+
+pub left_where : {E : Type 0} → (P : Type 0) (r : Result Bool E) → P → IfOk r (λ (more : Bool). IsTrue more → P)
+left_where P (Ok more) h = λ t. h
+left_where P (Err e) h = tt
+
+module _ (l : Leading) (fde : Input) (m : Machine) where
+  stands_more : (more : Bool) → AreLeft l (Some m.initial)
+      → StandsOn (led_of l) (walk_of (if more then progress.Running else progress.Finished) l fde m).outcome (initial_of (if more then progress.Running else progress.Finished) m.initial)
+  stands_more true h = (some_rows_left l.factors fde fde m, h)
+  stands_more false h = refl
+
+  left_more : (more : Bool) → AreLeft l (initial_of (if more then progress.Running else progress.Finished) m.initial)
+      → StandsOn (led_of l) (walk_of (if more then progress.Running else progress.Finished) l fde m).outcome (initial_of (if more then progress.Running else progress.Finished) m.initial)
+  left_more true h = stands_more true h
+  left_more false h = refl
+
+  stands_behind : (r : Result (ℕ × Bool) ReadError) → AreLeft l (initial_of (progress_after r) m.initial) → StandsOn (led_of l) (walk_of (progress_after r) l fde m).outcome (initial_of (progress_after r) m.initial)
+  stands_behind (Ok x) h = left_more x.1 h
+  stands_behind (Err e) h = refl
+
+  -- behind the end of a row
+  pub stands_on : (p : Progress) (r : Result (ℕ × Bool) ReadError) → p ≡ progress_after r → AreLeft l (initial_of (progress_after r) m.initial) → StandsOn (led_of l) (walk_of p l fde m).outcome (initial_of p m.initial)
+  stands_on p r is h = subst (λ (q : Progress). StandsOn (led_of l) (walk_of q l fde m).outcome (initial_of q m.initial)) (sym is) (stands_behind r h)
+
+  pub goes_on_stands : (p : Progress) (old : Outcome) (start : Option ℕ) → GoesOn old l.factors fde m p (Ok start) → AreLeft l (Some m.initial) → StandsOn (led_of l) (walk_of p l fde m).outcome (initial_of p m.initial)
+  goes_on_stands p old (Some start) (more, gives, is) h = stands_on p (Ok (start, more)) is (left_any (progress_after (Ok (start, more))) l m.initial h)
+  goes_on_stands p old None gives h = absurd gives
+
+-- ---- whether what it specifies is known to be kept
+
+abbrev pub KeptWhere : Stepping → Rules → Option Rules → Type 0
+KeptWhere s row initial = MatchOption initial (s.outcome ≡ finished) (λ (r : Rules). kept row r ≡ row)
+
+module _ (l : Leading) (fde : Input) (m : Machine) (s : Stepping) (initial : Option Rules) (row : Rules) where
+  -- no row was gone on to
+  pub begun_unknown : (p : Progress) → p ≡ progress.Begun → walk_of p l fde m ≡ s → initial_of p m.initial ≡ initial → IsTrue false ↔ KeptWhere s row initial
+  begun_unknown p is e same =
+      let none : None ≡ initial = ap (λ (q : Progress). initial_of q m.initial) (sym is) ∙ same in
+      subst (λ (o : Option Rules). IsTrue false ↔ KeptWhere s row o) none ((λ t. absurd cc), λ all. absurd (walk_some p l fde m s (inl is) e all))
+
+  -- rows are run behind one
+  pub running_known : (p : Progress) (b : Bool) → p ≡ progress.Running → initial_of p m.initial ≡ initial → IsTrue b ↔ (kept row m.initial ≡ row) → IsTrue b ↔ KeptWhere s row initial
+  running_known p b is same told =
+      let some : Some m.initial ≡ initial = ap (λ (q : Progress). initial_of q m.initial) (sym is) ∙ same in
+      subst (λ (o : Option Rules). IsTrue b ↔ KeptWhere s row o) some told
+
+  -- no row is to come
+  pub ended_known : (p : Progress) → initial_of p m.initial ≡ None → s.outcome ≡ finished → initial_of p m.initial ≡ initial → IsTrue true ↔ KeptWhere s row initial
+  ended_known p none all same = subst (λ (o : Option Rules). IsTrue true ↔ KeptWhere s row o) (sym none ∙ same) ((λ t. all), λ t. refl)

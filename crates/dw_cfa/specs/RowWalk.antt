@@ -1,12 +1,14 @@
 -- Programs that are known to give rows, run one after another in one room.
-use Rattle.std.specs.Prelude.{◌≡◌, pos, List, []}
+use Rattle.std.specs.Prelude.{◌≡◌, pos, List, [], Option, Some, None, Ok, MatchOption}
 use Rattle.std.specs.List.{AllByRecursion}
 use Rattle.dw_num.specs.declared.target.Target.{Target}
 use Rattle.dw_num.specs.Input.{Input}
 use Rattle.dw_cfa.specs.declared.execution.LocatedRow.{LocatedRow}
 use Rattle.dw_cfa.specs.declared.instr.Factors.{Factors}
 use Rattle.dw_cfa.specs.Agreement.{kept}
+use Rattle.dw_cfa.specs.Behind.{LeavesTo}
 use Rattle.dw_cfa.specs.Rows.{Rules}
+use Rattle.dw_cfa.specs.Runs.{Outcome, finished}
 use Rattle.dw_cfa.specs.RowSteps.{Stepping}
 
 -- the program of a CIE, where it stands, and the CIE's factors
@@ -18,12 +20,22 @@ pub record Led : Type 0 where
 abbrev pub unled : Target → Led
 unled target = record { program = record { at = 0; bytes = []; target = target }; factors = record { code_factor = 0; data_factor = pos 0 } }
 
--- a walk, the row that was kept of it, and the CIE that it was led to last
+-- a walk, the row that was kept of it, the CIE that it was led to last, and that CIE's row, while rows are to come behind another
 pub record Walking : Type 0 where
   pub steps : Stepping
   pub kept : Rules
   pub led : Led
+  pub initial : Option Rules
+
+-- behind a row that was gone on to: the row that the CIE's program leaves, or none where no row is to come
+abbrev pub StandsOn : Led → Outcome → Option Rules → Type 0
+StandsOn led outcome None = outcome ≡ finished
+StandsOn led outcome (Some row) = (outcome ≡ finished → ⊥) × LeavesTo led.factors led.program (Ok row)
 
 -- none of these rows leaves a register Unspecified that a row specifies
 abbrev pub AllKeep : Rules → List LocatedRow → Type 0
 AllKeep row rows = AllByRecursion (λ (next : LocatedRow). kept row next.row ≡ row) rows
+
+-- no row is to come, or the CIE's row specifies every register that a row specifies
+abbrev pub CieKeeps : Walking → Rules → Type 0
+CieKeeps walk row = MatchOption walk.initial (walk.steps.outcome ≡ finished) (λ initial. kept row initial ≡ row)

@@ -1,6 +1,6 @@
 //! Rows of one FDE after another, in room that is kept (6.4.1, 6.4.3).
 
-ghost use Rattle.std.specs.Prelude.{◌≡◌, ◌<◌, ◌≤◌, ℕ, None, Ok, List, ◌∷◌, IfErr, IfOk, IsOk, IsTrue, ◌↔◌, MatchResult, OnOk, Some};
+ghost use Rattle.std.specs.Prelude.{◌≡◌, ◌<◌, ◌≤◌, ℕ, false, None, Ok, List, ◌∷◌, IfErr, IfOk, IsOk, IsTrue, ◌↔◌, MatchResult, OnErr, OnOk, Some};
 ghost use Rattle.dw_num.specs.Target.{address_limit};
 ghost use Rattle.dw_num.specs.declared.error.ReadError.TheVariants.{OutOfMemory};
 ghost use Rattle.dw_cfa.specs.declared.execution.LocatedRow.{LocatedRow};
@@ -14,8 +14,8 @@ ghost use Rattle.dw_cfa.specs.Inner.States.{BeganWith};
 ghost use Rattle.dw_cfa.specs.RowSteps.{Advances, program_input, stepping};
 ghost use Rattle.dw_cfa.specs.Inner.RowSteps.{progress_after};
 ghost use Rattle.dw_cfa.specs.Inner.RuleAt.{LeavesAbove};
-ghost use Rattle.dw_cfa.specs.RowWalk.{AllKeep, unled};
-ghost use Rattle.dw_cfa.specs.Inner.RowWalk.{AllSpecify, HasInitial, LeadsSame, Readied, WalkKeeps, WalksSo, led_rows, walk_of};
+ghost use Rattle.dw_cfa.specs.RowWalk.{AllKeep, CieKeeps, StandsOn, unled};
+ghost use Rattle.dw_cfa.specs.Inner.RowWalk.{AllSpecify, AreLeft, HasInitial, LeadsSame, Readied, WalkKeeps, WalksSo, initial_of, led_rows, walk_of};
 
 use crate::execution::{next_row, run_initial, run_to};
 use crate::instr::Factors;
@@ -104,8 +104,10 @@ fn first_row<'a>(
     ensures row { GivesRow (led_rows leading.entry fde.old machine.old.location) leading.entry.factors fde.new machine.new result }
     ensures kept { IsTrue kept.new → HasInitial leading.entry machine.new }
     ensures keeps { WalkKeeps (progress_after result) leading.entry fde.new machine.new }
+    ensures left { AreLeft leading.entry (initial_of (progress_after result) machine.new.initial) }
     ensures kept_row { machine.new.states.kept ≡ machine.old.states.kept }
 {
+    are_bytes(leading.program.bytes);
     are_bytes(fde.rest());
     ready(leading, machine, *kept)?;
     *kept = true;
@@ -132,8 +134,10 @@ fn first_to<'a>(
     ensures err { IfErr result (λ e. e ≡ OutOfMemory) }
     ensures kept { IsTrue kept.new → HasInitial leading.entry machine.new }
     ensures keeps { OnOk result (AllSpecify machine.new.initial (rows_left leading.entry.factors fde.new machine.new).rows) }
+    ensures left { IfOk result (λ more. IsTrue more → AreLeft leading.entry (Some machine.new.initial)) }
     ensures kept_row { machine.new.states.kept ≡ machine.old.states.kept }
 {
+    are_bytes(leading.program.bytes);
     are_bytes(fde.rest());
     ready(leading, machine, *kept)?;
     *kept = true;
@@ -162,6 +166,8 @@ fn walk_to<'a>(
     ensures err { IfErr result (λ e. e ≡ OutOfMemory) }
     ensures kept { IsTrue kept.new → HasInitial leading.entry machine.new }
     ensures keeps { IfOk result (λ more. IsTrue more → AllSpecify machine.new.initial (rows_left leading.entry.factors fde.new machine.new).rows) }
+    ensures left { IfOk result (λ more. IsTrue more → AreLeft leading.entry (Some machine.new.initial)) }
+    ensures none { machine.old.location ≤ address → last_at address (walk_of progress leading.entry fde.old machine.old).outcome.rows ≡ None → IfOk result (λ more. (more ≡ false) × (initial_of progress machine.old.initial ≡ None)) }
     ensures kept_row { machine.new.states.kept ≡ machine.old.states.kept }
 {
     match progress {
@@ -175,7 +181,7 @@ fn walk_to<'a>(
 /// The rows of one FDE after another, in room that is kept, where it is known that their programs give rows to their
 /// end: no expression is judged again. A CIE's program is run where the FDE before had another CIE; else what the FDE
 /// before changed is taken back. A row can be kept, and the rows behind it are compared with it by what was set since. A
-/// contract sees what it sees of `RowSteps`, and the row that was kept.
+/// contract sees what it sees of `RowSteps`, the row that was kept, and the CIE's row while rows are to come behind another.
 #[derive(Drop)]
 pub struct RowWalk<'a> {
     progress: Progress,
@@ -188,11 +194,11 @@ pub struct RowWalk<'a> {
 
 impl<'a> Model for RowWalk<'a> {
     ghost use Rattle.dw_cfa.specs.RowWalk.{Walking};
-    ghost use Rattle.dw_cfa.specs.Inner.RowWalk.{WalksSo, led_of, walk_of};
+    ghost use Rattle.dw_cfa.specs.Inner.RowWalk.{WalksSo, initial_of, led_of, walk_of};
 
     ghost Value = { Walking };
 
-    ghost view = { λ w. record { steps = walk_of w.progress w.leading w.fde w.machine; kept = w.machine.states.kept; led = led_of w.leading } };
+    ghost view = { λ w. record { steps = walk_of w.progress w.leading w.fde w.machine; kept = w.machine.states.kept; led = led_of w.leading; initial = initial_of w.progress w.machine.initial } };
 
     ghost invariant = { λ w. WalksSo w.progress w.kept w.leading w.fde w.machine };
 }
@@ -200,7 +206,7 @@ impl<'a> Model for RowWalk<'a> {
 impl<'a> RowWalk<'a> {
     /// No row is to come until `go_to` names programs. Takes no memory.
     pub fn new(alloc: Global, target: Target) -> RowWalk<'a>
-        ensures { result ≡ record { steps = stepping blank finished; kept = blank; led = unled target } }
+        ensures { result ≡ record { steps = stepping blank finished; kept = blank; led = unled target; initial = None } }
     {
         let factors = Factors {
             code_factor: 0,
@@ -241,6 +247,7 @@ impl<'a> RowWalk<'a> {
         ensures runs { RunsTo factors (program_input cie_program.entry target) (program_input fde_program.entry target) begin self.new.steps.outcome }
         ensures kept { self.new.kept ≡ self.old.kept }
         ensures led { self.new.led ≡ record { program = program_input cie_program.entry target; factors = factors } }
+        ensures initial { self.new.initial ≡ None }
     {
         are_bytes(cie_program.bytes);
         are_bytes(fde_program.bytes);
@@ -256,6 +263,7 @@ impl<'a> RowWalk<'a> {
         ensures runs { RunsTo self.old.led.factors self.old.led.program (program_input fde_program.entry self.old.led.program.target) begin self.new.steps.outcome }
         ensures kept { self.new.kept ≡ self.old.kept }
         ensures led { self.new.led ≡ self.old.led }
+        ensures initial { self.new.initial ≡ None }
     {
         are_bytes(self.leading.program.bytes);
         are_bytes(fde_program.bytes);
@@ -276,6 +284,7 @@ impl<'a> RowWalk<'a> {
         ensures kept { self.new.kept ≡ self.old.kept }
         ensures steps { self.new.steps ≡ stepping self.old.steps.current (run_rows factors (program_input cie_program.entry target) (program_input fde_program.entry target) begin) }
         ensures led { self.new.led ≡ record { program = program_input cie_program.entry target; factors = factors } }
+        ensures initial { self.new.initial ≡ None }
     {
         let leading = Leading {
             program: cie_program,
@@ -296,6 +305,7 @@ impl<'a> RowWalk<'a> {
         requires known { (run_rows self.old.led.factors self.old.led.program (program_input fde_program self.old.led.program.target) begin).fault ≡ None }
         ensures kept { self.new.kept ≡ self.old.kept }
         ensures led { self.new.led ≡ self.old.led }
+        ensures initial { self.new.initial ≡ None }
         ensures steps { self.new.steps ≡ stepping self.old.steps.current (run_rows self.old.led.factors self.old.led.program (program_input fde_program.entry self.old.led.program.target) begin) }
     {
         let target = self.leading.target;
@@ -312,6 +322,7 @@ impl<'a> RowWalk<'a> {
         ensures advances { Advances self.old.steps result self.new.steps }
         ensures kept { self.new.kept ≡ self.old.kept }
         ensures led { self.new.led ≡ self.old.led }
+        ensures stands { StandsOn self.new.led self.new.steps.outcome self.new.initial }
     {
         let (fde, machine) = (&mut self.fde, &mut self.machine);
         let answer = match self.progress {
@@ -350,6 +361,9 @@ impl<'a> RowWalk<'a> {
         ensures again { MatchResult result (λ _. self.new.steps.error ≡ None) (λ e. self.new.steps.error ≡ Some e) }
         ensures kept { self.new.kept ≡ self.old.kept }
         ensures led { self.new.led ≡ self.old.led }
+        ensures stands { (row : Rules) → last_at address self.old.steps.outcome.rows ≡ Some row → StandsOn self.new.led self.new.steps.outcome self.new.initial }
+        ensures initial { last_at address self.old.steps.outcome.rows ≡ None → OnOk result (self.new.initial ≡ self.old.initial) }
+        ensures none { OnErr result (self.new.initial ≡ None) }
     {
         if self.machine.location > u128::from(address) {
             return Ok(());
@@ -383,6 +397,7 @@ impl<'a> RowWalk<'a> {
         ensures kept { OnOk result (self.new.kept ≡ self.old.steps.current) }
         ensures same { self.new.steps ≡ self.old.steps }
         ensures led { self.new.led ≡ self.old.led }
+        ensures initial { self.new.initial ≡ self.old.initial }
     {
         self.machine.states.keep()
     }
@@ -427,10 +442,11 @@ impl<'a> RowWalk<'a> {
         }
     }
 
-    /// Whether each row still to come is known to specify every register that a row specifies: what a CIE's program
-    /// specifies stays so. `false` says nothing. Takes no memory.
+    /// Whether no row is to come, or rows are to come behind one that was gone on to and the CIE's row specifies every
+    /// register that a row specifies. Then each row still to come specifies them too. Takes no memory.
     pub fn keeps(&self, row: &Row<'_>) -> bool
-        ensures { IsTrue result → AllKeep row.now self.now.steps.outcome.rows }
+        ensures keeps { IsTrue result → AllKeep row.now self.now.steps.outcome.rows }
+        ensures exact { IsTrue result ↔ CieKeeps self.now row.now }
     {
         match self.progress {
             Progress::Begun => false,

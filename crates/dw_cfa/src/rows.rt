@@ -1,12 +1,13 @@
 //! All rows of an FDE (6.4.3).
 
-ghost use Rattle.std.specs.Prelude.{◌≡◌, ◌<◌, List, IfOk, IfErr, MatchResult};
+ghost use Rattle.std.specs.Prelude.{◌≡◌, ◌<◌, List, IfOk, IfErr, MatchResult, None, Some};
 ghost use Rattle.dw_num.specs.Target.{address_limit};
 ghost use Rattle.dw_num.specs.Refusals.{Refuses};
 ghost use Rattle.dw_num.specs.declared.error.ReadError.TheVariants.{OutOfMemory};
 ghost use Rattle.dw_cfa.specs.Faults.{RunFault};
 ghost use Rattle.dw_cfa.specs.Gives.{Gives};
 ghost use Rattle.dw_cfa.specs.RowSteps.{program_input};
+ghost use Rattle.dw_cfa.specs.Inner.RowSteps.{gives};
 ghost use Rattle.dw_cfa.specs.declared.execution.LocatedRow.{LocatedRow as TheLocatedRow};
 
 use crate::execution::LocatedRow;
@@ -17,6 +18,19 @@ use std::alloc::Global;
 
 /// Rows of the call frame table (6.4.3) with the locations that they start at, which never fall.
 pub type Rows<'a> = Vec<LocatedRow<'a>>;
+
+// The rows that are still to come, where none of them is refused.
+fn collected<'a>(alloc: Global, steps: &mut RowSteps<'a>) -> Result<Rows<'a>, ReadError>
+    requires { steps.old.error ≡ None }
+    ensures ok { IfOk result (λ rows. steps.old.outcome ≡ gives rows.items) }
+    ensures err { IfErr result (Refuses (λ r. steps.old.outcome.fault ≡ Some r)) }
+{
+    let mut rows = Vec::new(alloc);
+    'rows: while let Some(row) = steps.next()? {
+        rows.push(row)?;
+    }
+    Ok(rows)
+}
 
 /// The rows that a CIE's and an FDE's program give, from an address `begin` of the target on: one before each
 /// instruction that moves the location, and one at the end. Otherwise the first refusal, the CIE's program
@@ -40,9 +54,5 @@ pub fn run<'a>(
     are_bytes(cie_program.bytes);
     are_bytes(fde_program.bytes);
     let mut steps = RowSteps::new(alloc, cie_program, fde_program, begin, factors, target);
-    let mut rows = Vec::new(alloc);
-    'rows: while let Some(row) = steps.next()? {
-        rows.push(row)?;
-    }
-    Ok(rows)
+    collected(alloc, &mut steps)
 }

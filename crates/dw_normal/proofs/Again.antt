@@ -16,7 +16,7 @@ use Rattle.dw_section.proofs.Lent.Judged.{all_get}
 use Rattle.dw_section.proofs.Lent.OpeningLaws.{Opened, Specifies, one_first, opened}
 use Rattle.dw_canon.specs.Inner.Canon.{initial_of}
 use Rattle.dw_canon.specs.Group.{group}
-use Rattle.dw_canon.specs.Inner.Group.{kept_by}
+use Rattle.dw_section.specs.Changes.{kept_by}
 use Rattle.dw_canon.specs.Members.{Member, AreMembers, IsMember, fde_of}
 use Rattle.dw_canon.proofs.Shared.{MemberFits}
 use Rattle.dw_canon.proofs.Lent.Joins.{PartOf, first_part, joined_again, next_part}

@@ -14,7 +14,8 @@ use Rattle.dw_canon.specs.Canon.{return_registers}
 use Rattle.dw_canon.specs.Inner.Canon.{initial_of}
 use Rattle.dw_canon.specs.Inner.Difference.{with_register, with_registers}
 use Rattle.dw_canon.specs.Group.{group}
-use Rattle.dw_canon.specs.Inner.Group.{initial_row, kept_by}
+use Rattle.dw_canon.specs.Inner.Group.{initial_row}
+use Rattle.dw_section.specs.Changes.{kept_by}
 use Rattle.dw_canon.specs.Members.{Member}
 use Rattle.dw_normal.specs.Inner.Groups.{initial_rows, begun_with, row_of, with_member}
 use Rattle.dw_normal.proofs.Passes.{group_more, next_member}

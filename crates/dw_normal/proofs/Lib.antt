@@ -8,7 +8,6 @@ mod Summed
 mod Short
 mod Taken
 mod ChangesToCome
-mod Dropped
 mod Grouped
 mod Again
 mod Reports

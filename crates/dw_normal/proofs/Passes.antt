@@ -11,7 +11,8 @@ use Rattle.dw_cfa.specs.Rows.{Rules}
 use Rattle.dw_canon.specs.Difference.{move}
 use Rattle.dw_canon.specs.Inner.Difference.{difference, later_changes}
 use Rattle.dw_canon.specs.Group.{group}
-use Rattle.dw_canon.specs.Inner.Group.{kept_by, shared_by, initial_row}
+use Rattle.dw_canon.specs.Inner.Group.{shared_by, initial_row}
+use Rattle.dw_section.specs.Changes.{kept_by}
 use Rattle.dw_cfa.specs.Inner.Agreement.{agreed}
 use Rattle.dw_canon.specs.Members.{Member}
 use Rattle.dw_normal.specs.Inner.ChangeWalk.{Stand, later_bytes, row_or_blank, shown_row}

@@ -175,7 +175,35 @@ fn write_fde<'r, 'a, S: Sink>(
     put_entry(sink, buffer, table.target().order)
 }
 
-// Puts the FDEs of a table.
+// Puts the FDEs of a table one after another in the room that is lent.
+fn write_all<'r, 'a, S: Sink>(
+    sink: &mut S,
+    buffer: &mut Vec<u8>,
+    begun: &mut Begun<'r, 'a>,
+    table: &Table<'a>,
+    rows: &'r BTreeMap<u16, Row<'a>>,
+    places: &BTreeMap<u16, u64>,
+    count: usize,
+) -> Result<u64, PutError>
+    requires room { S.failures sink.old < 2 ^ 64 - 1 }
+    requires count { (fs : List TheFde) → AreFdes table.now.target table.now.bytes fs → count ≡ length fs }
+    requires rows { (ms : List Member) → AreMembers table.now.target table.now.bytes ms → rows.now.entries ≡ initial_rows ms }
+    requires places { (register : ℕ) → place_in places.now.entries register ≡ cie_place table.now.target 0 rows.now.entries register }
+    requires small { (ms : List Member) → AreMembers table.now.target table.now.bytes ms → length (canon table.now.target ms) ≤ 2147483647 }
+    requires section { begun.old.changes.section ≡ table.now }
+    ensures { (ms : List Member) → AreMembers table.now.target table.now.bytes ms → Puts (fdes_bytes table.now.target ms ms) result (S.failures sink.old) (S.failures sink.new) (S.taken sink.old) (S.taken sink.new) }
+{
+    table.accepted();
+    let mut written = 0;
+    'fdes: for place in 0..count {
+        let fde = FdeRef { place };
+        let put = write_fde(sink, buffer, begun, table, rows, places, fde);
+        written = after(written, put)?;
+    }
+    Ok(written)
+}
+
+// Puts the FDEs of a table, which may have none.
 fn write_fdes<'a, S: Sink>(
     sink: &mut S,
     buffer: &mut Vec<u8>,
@@ -195,13 +223,7 @@ fn write_fdes<'a, S: Sink>(
         return Ok(0);
     }
     let mut begun = room_for(rows, table);
-    let mut written = 0;
-    'fdes: for place in 0..count {
-        let fde = FdeRef { place };
-        let put = write_fde(sink, buffer, &mut begun, table, rows, places, fde);
-        written = after(written, put)?;
-    }
-    Ok(written)
+    write_all(sink, buffer, &mut begun, table, rows, places, count)
 }
 
 /// Writes all entries of a table's normal form, and answers how many bytes that were.

@@ -1,19 +1,18 @@
 //! The initial row of each return register, found in one pass over the FDEs.
 
-ghost use Rattle.std.specs.Prelude.{◌≡◌, ℕ, true, false, ◌<◌, ◌≤◌, List, length, slice_index_or, take, Some, IfOk, IfSome, IsTrue, OnOk};
+ghost use Rattle.std.specs.Prelude.{◌≡◌, ℕ, [], ◌<◌, ◌≤◌, List, length, slice_index_or, take, Some, IfOk, IfSome, IsTrue, OnOk};
 ghost use Rattle.std.specs.BTreeMap.{insert_entry};
 ghost use Rattle.std.specs.Ordering.{nat_cmp};
 ghost use Rattle.dw_cfa.specs.Rows.{Rules};
 ghost use Rattle.dw_section.specs.declared.lookup.Fde.{Fde as TheFde};
+ghost use Rattle.dw_section.specs.Changes.{kept_by};
 ghost use Rattle.dw_section.specs.Laws.{AreListed};
 ghost use Rattle.dw_section.specs.Meaning.{AreFdes, ChangesOf};
 ghost use Rattle.dw_section.specs.Opening.{OpensBehind};
 ghost use Rattle.dw_canon.specs.Inner.Canon.{canon};
-ghost use Rattle.dw_canon.specs.Inner.Group.{kept_by};
 ghost use Rattle.dw_canon.specs.Members.{Member, AreMembers};
-ghost use Rattle.dw_cfa.specs.Agreement.{kept};
 ghost use Rattle.dw_cfa.specs.Inner.Agreement.{agreed};
-ghost use Rattle.dw_normal.specs.Inner.Groups.{SpecifiesAll, NarrowedBy, HasJoined, joined_by, with_member, initial_rows};
+ghost use Rattle.dw_normal.specs.Inner.Groups.{HasJoined, joined_by, with_member, initial_rows};
 ghost use Rattle.dw_normal.specs.Inner.ChangeWalk.{BehindFirst};
 
 use crate::bound::add_share;
@@ -55,66 +54,6 @@ pub(crate) fn go_behind_first<'a>(
     show_first(changes, table, fde)
 }
 
-// Whether a change may leave a register Unspecified that the row before it specifies. It looks at the registers that the
-// change alters alone.
-fn drops_one(changes: &Changes<'_>) -> bool
-    ensures { (before row : Rules) → changes.now.before ≡ Some before → changes.now.shown ≡ Some row → result ≡ false → SpecifiesAll before row }
-{
-    let Some(_) = changes.before() else {
-        return true;
-    };
-    let Some(row) = changes.row() else {
-        return true;
-    };
-    let mut last = None;
-    'registers: while let Some(register) = changes.next_difference(last) {
-        if !row.rule(register).is_specified() {
-            return true;
-        }
-        last = Some(register);
-    }
-    false
-}
-
-// Drops from a row the registers that a change leaves Unspecified. Where it was narrowed by the row before, most changes drop
-// none, which needs no pass over the row.
-fn keep_change<'a>(
-    shared: &mut Row<'a>,
-    changes: &Changes<'a>,
-    narrowed: bool,
-) -> Result<(), AllocError>
-    ensures { (row : Rules) → changes.now.shown ≡ Some row → (narrowed ≡ true → NarrowedBy shared.old changes.now.before) → OnOk result (shared.new ≡ kept shared.old row) }
-{
-    if narrowed && !drops_one(changes) {
-        return Ok(());
-    }
-    let Some(row) = changes.row() else {
-        return Err(AllocError);
-    };
-    shared.keep(row);
-    Ok(())
-}
-
-/// Drops from a row the registers that one of the changes still to come leaves Unspecified. No change drops one that the
-/// CIE's program specifies, so the row of most groups needs no walk.
-pub(crate) fn keep_all<'a>(
-    shared: &mut Row<'a>,
-    changes: &mut Changes<'a>,
-) -> Result<(), AllocError>
-    ensures row { OnOk result (shared.new ≡ kept_by shared.old changes.old.to_come) }
-    ensures section { changes.new.section ≡ changes.old.section }
-{
-    if changes.keeps(shared) {
-        return Ok(());
-    }
-    let mut narrowed = false;
-    'changes: while let Some(_) = changes.advance()? {
-        keep_change(shared, changes, narrowed)?;
-        narrowed = true;
-    }
-    Ok(())
-}
-
 // Narrows the row of a group to what one more FDE shares with it, whose row at its begin is shown.
 fn share_with<'a>(shared: &mut Row<'a>, changes: &mut Changes<'a>) -> Result<(), AllocError>
     ensures row { (first : Rules) → changes.old.shown ≡ Some first → OnOk result (shared.new ≡ kept_by (agreed shared.old first) changes.old.to_come) }
@@ -125,7 +64,7 @@ fn share_with<'a>(shared: &mut Row<'a>, changes: &mut Changes<'a>) -> Result<(),
     };
     shared.ascends();
     shared.agree(first);
-    keep_all(shared, changes)
+    changes.narrow(shared)
 }
 
 // The row of a group that begins with an FDE, whose row at its begin is shown.
@@ -137,7 +76,7 @@ fn first_shared<'a>(changes: &mut Changes<'a>) -> Result<Row<'a>, AllocError>
         return Err(AllocError);
     };
     let mut row = first.copied()?;
-    keep_all(&mut row, changes)?;
+    changes.narrow(&mut row)?;
     Ok(row)
 }
 
@@ -236,6 +175,31 @@ fn join_fde<'a>(
     Ok(joined_by(cie_at, register))
 }
 
+// The same over changes of the table, into rows that are lent.
+fn gather<'a>(
+    rows: &mut BTreeMap<u16, Row<'a>>,
+    changes: &mut Changes<'a>,
+    table: &Table<'a>,
+    cap: u64,
+) -> Result<bool, AllocError>
+    requires cap { cap ≤ 2147483647 }
+    requires none { rows.old.entries ≡ [] }
+    requires section { changes.old.section ≡ table.now }
+    ensures rows { (ms : List Member) → AreMembers table.now.target table.now.bytes ms → OnOk result (rows.new.entries ≡ initial_rows ms) }
+    ensures short { (ms : List Member) → AreMembers table.now.target table.now.bytes ms → IfOk result (λ short. IsTrue short → length (canon table.now.target ms) ≤ cap) }
+{
+    table.accepted();
+    let mut total = Some(0);
+    let mut joined = None;
+    'fdes: for place in 0..table.fde_count() {
+        let fde = FdeRef { place };
+        let opening = table.go_on_opening(changes, fde);
+        total = add_share(total, opening.own, opening.initial, cap);
+        joined = join_fde(rows, changes, table, fde, opening.cie_at, joined)?;
+    }
+    Ok(total.is_some())
+}
+
 /// The initial row of each return register, in one pass over the FDEs, and whether the lengths of the programs alone show
 /// that the normal form is within a cap.
 pub(crate) fn initial_rows<'a>(
@@ -247,16 +211,7 @@ pub(crate) fn initial_rows<'a>(
     ensures rows { (ms : List Member) → AreMembers table.now.target table.now.bytes ms → IfOk result (λ found. found.0.entries ≡ initial_rows ms) }
     ensures short { (ms : List Member) → AreMembers table.now.target table.now.bytes ms → IfOk result (λ found. IsTrue found.1 → length (canon table.now.target ms) ≤ cap) }
 {
-    table.accepted();
     let mut rows = BTreeMap::new(alloc);
-    let mut changes = table.no_changes();
-    let mut total = Some(0);
-    let mut joined = None;
-    'fdes: for place in 0..table.fde_count() {
-        let fde = FdeRef { place };
-        let opening = table.go_on_opening(&mut changes, fde);
-        total = add_share(total, opening.own, opening.initial, cap);
-        joined = join_fde(&mut rows, &mut changes, table, fde, opening.cie_at, joined)?;
-    }
-    Ok((rows, total.is_some()))
+    let short = gather(&mut rows, &mut table.no_changes(), table, cap)?;
+    Ok((rows, short))
 }

@@ -64,7 +64,32 @@ fn behind_member<'r, 'a>(
     )
 }
 
-// What is left of room behind all FDEs.
+// What is left of room behind all FDEs, one after another in the room that is lent.
+fn behind_all<'r, 'a>(
+    room: u128,
+    begun: &mut Begun<'r, 'a>,
+    rows: &'r BTreeMap<u16, Row<'a>>,
+    table: &Table<'a>,
+    count: usize,
+) -> Result<Option<u128>, AllocError>
+    requires room { room < 2 ^ 64 }
+    requires count { (fs : List TheFde) → AreFdes table.now.target table.now.bytes fs → count ≡ length fs }
+    requires rows { (ms : List Member) → AreMembers table.now.target table.now.bytes ms → rows.now.entries ≡ initial_rows ms }
+    requires section { begun.old.changes.section ≡ table.now }
+    ensures { (ms : List Member) → AreMembers table.now.target table.now.bytes ms → IfOk result (Leaves room (length (fdes_bytes table.now.target ms ms))) }
+{
+    table.accepted();
+    let mut left = room;
+    'fdes: for place in 0..count {
+        let Some(rest) = behind_member(left, begun, rows, table, FdeRef { place })? else {
+            return Ok(None);
+        };
+        left = rest;
+    }
+    Ok(Some(left))
+}
+
+// What is left of room behind all FDEs, of which there may be none.
 fn behind_fdes<'a>(
     room: u128,
     rows: &BTreeMap<u16, Row<'a>>,
@@ -79,15 +104,7 @@ fn behind_fdes<'a>(
     if count == 0 {
         return Ok(Some(room));
     }
-    let mut begun = room_for(rows, table);
-    let mut left = room;
-    'fdes: for place in 0..count {
-        let Some(rest) = behind_member(left, &mut begun, rows, table, FdeRef { place })? else {
-            return Ok(None);
-        };
-        left = rest;
-    }
-    Ok(Some(left))
+    behind_all(room, &mut room_for(rows, table), rows, table, count)
 }
 
 /// How many bytes the normal form of a table has, or none where that is more than `cap`. The rows are the initial ones of its

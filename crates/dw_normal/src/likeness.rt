@@ -74,6 +74,28 @@ fn same_fdes<'a, 'b>(
     same_changes(changes, others)
 }
 
+// The same of all FDEs of tables that have as many, over changes of both.
+fn same_over<'a, 'b>(
+    first: &Table<'a>,
+    second: &Table<'b>,
+    changes: &mut Changes<'a>,
+    others: &mut Changes<'b>,
+    count: usize,
+) -> Result<bool, AllocError>
+    requires count { (fs : List TheFde) → AreFdes first.now.target first.now.bytes fs → count ≡ length fs }
+    requires other_count { (fs : List TheFde) → AreFdes second.now.target second.now.bytes fs → count ≡ length fs }
+    requires section { changes.old.section ≡ first.now }
+    requires other_section { others.old.section ≡ second.now }
+    ensures { (ms ns : List Member) → AreMembers first.now.target first.now.bytes ms → AreMembers second.now.target second.now.bytes ns → IfOk result (λ b. Decides b (ms ≡ ns)) }
+{
+    'fdes: for place in 0..count {
+        if !same_fdes(first, second, changes, others, FdeRef { place })? {
+            return Ok(false);
+        }
+    }
+    Ok(true)
+}
+
 /// Whether two tables say the same: the same nonempty FDEs with the same return-address registers, and the
 /// same rules at each address that they cover. It ends at the first FDE that differs.
 pub(crate) fn same_tables(first: &Table<'_>, second: &Table<'_>) -> Result<bool, AllocError>
@@ -85,11 +107,5 @@ pub(crate) fn same_tables(first: &Table<'_>, second: &Table<'_>) -> Result<bool,
     }
     let mut changes = first.no_changes();
     let mut others = second.no_changes();
-    'fdes: for place in 0..count {
-        let fde = FdeRef { place };
-        if !same_fdes(first, second, &mut changes, &mut others, fde)? {
-            return Ok(false);
-        }
-    }
-    Ok(true)
+    same_over(first, second, &mut changes, &mut others, count)
 }

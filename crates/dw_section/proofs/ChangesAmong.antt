@@ -10,8 +10,8 @@ use Rattle.dw_cfa.specs.Rows.{Rules}
 use Rattle.dw_cfa.specs.RowSteps.{Stepping, Advances}
 use Rattle.dw_cfa.specs.RowWalk.{AllKeep}
 use Rattle.dw_cfa.specs.Runs.{Outcome, row_then}
-use Rattle.dw_section.specs.Changes.{ChangesKeep}
 use Rattle.dw_section.specs.Inner.Changes.{Among, Before, Shows, changes_among, is_before, repeats}
+use Rattle.dw_section.specs.Inner.NarrowRow.{ChangesKeep}
 
 before_tells : (end a : ℕ) (rows : List LocatedRow) → Decides (is_before end a rows) (Before end a rows)
 before_tells end a [] = Decides-ltb a end

@@ -1,7 +1,6 @@
 -- The addresses of an FDE at which its rules change, and the rules there: DWARF 5, 6.4.1 and 6.4.3. An FDE is given by the
 -- instructions of its CIE and of its own program, and by its range.
 use Rattle.std.specs.Prelude.{◌≡◌, ℕ, suc, ◌<◌, ◌≤◌, List, [], ◌∷◌, Option, Some, None, Bool, true, false, Result, Ok, Err}
-use Rattle.std.specs.List.{AllByRecursion}
 use Rattle.dw_cfa.specs.declared.instr.Instr.{Instr}
 use Rattle.dw_cfa.specs.Agreement.{kept}
 use Rattle.dw_cfa.specs.Location.{Counts}
@@ -75,6 +74,7 @@ abbrev pub before_then : {A : Type 0} → Option A → Option Rules → Option R
 before_then None shown = None
 before_then (Some change) shown = shown
 
--- none of these changes leaves a register Unspecified that a row specifies
-abbrev pub ChangesKeep : Rules → List (ℕ × Rules) → Type 0
-ChangesKeep row changes = AllByRecursion (λ (change : ℕ × Rules). kept row change.1 ≡ row) changes
+-- a row without the registers that one of these changes leaves Unspecified
+abbrev pub kept_by : Rules → List (ℕ × Rules) → Rules
+kept_by row [] = row
+kept_by row (change ∷ changes) = kept_by (kept row change.1) changes

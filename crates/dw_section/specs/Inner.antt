@@ -11,6 +11,7 @@ pub mod Least
 pub mod Agree
 pub mod Left
 pub mod Changes
+pub mod NarrowRow
 pub mod Counts
 pub mod Faults
 pub mod Meanings

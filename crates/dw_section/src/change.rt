@@ -4,8 +4,9 @@ ghost use Rattle.std.specs.Prelude.{◌≡◌, ◌+◌, ◌<◌, ◌↔◌, [], 
 ghost use Rattle.dw_num.specs.Target.{address_limit};
 ghost use Rattle.dw_cfa.specs.Difference.{FirstDifference, place_behind};
 ghost use Rattle.dw_cfa.specs.Rows.{AreSpecified, Rules};
-ghost use Rattle.dw_section.specs.Changes.{ChangesKeep, GivesAddress, GivesChange, before_then};
+ghost use Rattle.dw_section.specs.Changes.{GivesAddress, GivesChange, before_then};
 ghost use Rattle.dw_section.specs.Inner.Changes.{Before, FindsChange, changing};
+ghost use Rattle.dw_section.specs.Inner.NarrowRow.{ChangesKeep};
 ghost use Rattle.dw_section.specs.Inner.Shown.{shown_if, shown_of};
 ghost use Rattle.dw_section.specs.Inner.Index.{led_to};
 ghost use Rattle.dw_section.specs.Inner.Lookup.{LedBy, rows_of};
@@ -270,9 +271,9 @@ impl<'a> Changes<'a> {
         }
     }
 
-    /// Whether each change still to come is known to specify every register that a row specifies: what a CIE's program
-    /// specifies stays so. `false` says nothing. Takes no memory.
-    pub fn keeps(&self, row: &Row<'_>) -> bool
+    // Whether each change still to come is known to specify every register that a row specifies: what a CIE's program
+    // specifies stays so. `false` says nothing.
+    pub(crate) fn keeps(&self, row: &Row<'_>) -> bool
         ensures { IsTrue result → ChangesKeep row.now self.now.to_come }
     {
         self.steps.keeps(row)

@@ -13,7 +13,7 @@ ghost use Rattle.dw_section.specs.Inner.Left.{AreHeaders};
 ghost use Rattle.dw_section.specs.Stage.{FirstStuck};
 ghost use Rattle.dw_section.specs.Inner.Index.{AreJudged, PlacesRise, SameMembers};
 ghost use Rattle.dw_section.specs.Ranges.{IsRanged, range_in};
-ghost use Rattle.dw_section.specs.Inner.Initials.{place_of, or_place, IsInitial, AreInitials};
+ghost use Rattle.dw_section.specs.Inner.Initials.{place_of, or_place, IsInitial, IsRunner, AreInitials};
 ghost use Rattle.dw_section.specs.Overlap.{nonempty, Ascends, AreApart, FirstOverlap};
 ghost use Rattle.dw_section.specs.Inner.Places.{Rises};
 ghost use Rattle.dw_section.specs.Programs.{FdeRuns, FdeBroken};
@@ -111,6 +111,32 @@ fn or_place(place: Option<u64>, lacks: bool, at: u64) -> Option<u64>
     }
 }
 
+// The same on machines that are lent, into a list that is.
+fn run_on<'a>(
+    runner: &mut Runner<'a>,
+    list: &mut Vec<Ranged>,
+    bytes: &'a [u8],
+    target: Target,
+    places: &[u64],
+    initials: &[Initial<'a>],
+) -> Result<Option<u64>, ReadError>
+    requires ascending { Rises 0 places.now }
+    requires headers { (hs : List Head) × AreHeaders target bytes.now places.now hs × AreInitials target hs hs initials.now × IsRunner target hs runner.old }
+    requires none { list.old.items ≡ [] }
+    ensures found { (hs : List Head) → AreHeaders target bytes.now places.now hs → AreInitials target hs hs initials.now → IsRunner target hs runner.old → IfOk result (λ lacking. AreJudged target hs hs lacking list.new.items) }
+    ensures first { (hs : List Head) → AreHeaders target bytes.now places.now hs → AreInitials target hs hs initials.now → IsRunner target hs runner.old → IfErr result (Refuses (FirstStuck (FdeRuns target hs) (FdeBroken target hs) hs)) }
+{
+    let alloc = *list.allocator();
+    let mut cursor = Cursor::new(bytes, 0, target);
+    let mut lacking = None;
+    'headers: while let Some(header) = next_header(&mut cursor, places) {
+        let lacks = judge(alloc, runner, &header, initials, target)?;
+        lacking = or_place(lacking, lacks, entry_at(&header));
+        keep_range(list, &header, initials)?;
+    }
+    Ok(lacking)
+}
+
 /// Runs the programs of the FDEs of a section that has headers, behind those of its CIEs, and lists the nonempty ones in
 /// order of place, or tells the place of the first one with an address that has no rule for the CFA.
 pub(crate) fn run_fdes<'a>(
@@ -127,14 +153,8 @@ pub(crate) fn run_fdes<'a>(
     ensures first { (hs : List Head) → AreHeaders target bytes.now places.now hs → AreInitials target hs hs initials.now → IfErr result (Refuses (FirstStuck (FdeRuns target hs) (FdeBroken target hs) hs)) }
 {
     let mut runner = Runner::new(alloc, initials, target)?;
-    let mut cursor = Cursor::new(bytes, 0, target);
     let mut list = Vec::with_capacity(alloc, count)?;
-    let mut lacking = None;
-    'headers: while let Some(header) = next_header(&mut cursor, places) {
-        let lacks = judge(alloc, &mut runner, &header, initials, target)?;
-        lacking = or_place(lacking, lacks, entry_at(&header));
-        keep_range(&mut list, &header, initials)?;
-    }
+    let lacking = run_on(&mut runner, &mut list, bytes, target, places, initials)?;
     Ok((list, lacking))
 }
 

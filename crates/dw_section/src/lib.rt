@@ -14,6 +14,7 @@ mod header;
 mod laws;
 mod listed_fde;
 mod lookup;
+mod narrow_row;
 mod opening;
 mod program;
 mod program_length;

@@ -1,9 +1,11 @@
 //! The calls on dumps and over them: what is read of a dump, and what expressions and location descriptions say.
 
+ghost use Rattle.std.specs.Prelude.{◌≡◌};
+
 use crate::{Calls, TARGET};
 use dw_eval::{Env, EvalError, Memory, evaluate, locate};
 use dw_num::Order;
-use dw_op::{Profile, decode};
+use dw_op::{OpList, Profile, decode};
 use dw_unwind::{Dump, DumpError, DumpMemory};
 use std::io;
 use std::test::Fail;
@@ -67,6 +69,34 @@ fn tell(rt: &impl Calls, error: EvalError) -> io::Result<()> {
     }
 }
 
+fn print_value(
+    rt: &impl Calls,
+    list: &OpList<'_>,
+    env: &Env<'_>,
+    memory: &mut DumpMemory,
+) -> io::Result<()>
+    requires { list.now.target ≡ env.now.target }
+{
+    match evaluate(rt.alloc(), list, Some(1), env, memory, STEPS) {
+        Ok(value) => println!(rt; "{value}"),
+        Err(error) => tell(rt, error),
+    }
+}
+
+fn print_pieces(
+    rt: &impl Calls,
+    list: &OpList<'_>,
+    env: &Env<'_>,
+    memory: &mut DumpMemory,
+) -> io::Result<()>
+    requires { list.now.target ≡ env.now.target }
+{
+    match locate(rt.alloc(), list, env, memory, STEPS) {
+        Ok(pieces) => println!(rt; "{pieces:?}"),
+        Err(error) => tell(rt, error),
+    }
+}
+
 // Evaluates or locates, without a frame base, a CFA or an object.
 fn evaluated(rt: &impl Calls, call: &str, dump: &mut Dump, block: &[u8]) -> Result<(), Fail> {
     let list = decode(rt.alloc(), block, TARGET, Profile::Location)?;
@@ -79,15 +109,9 @@ fn evaluated(rt: &impl Calls, call: &str, dump: &mut Dump, block: &[u8]) -> Resu
     };
     let memory = &mut dump.memory;
     if call == "evaluate" {
-        match evaluate(rt.alloc(), &list, Some(1), &env, memory, STEPS) {
-            Ok(value) => println!(rt; "{value}")?,
-            Err(error) => tell(rt, error)?,
-        }
+        print_value(rt, &list, &env, memory)?;
     } else {
-        match locate(rt.alloc(), &list, &env, memory, STEPS) {
-            Ok(pieces) => println!(rt; "{pieces:?}")?,
-            Err(error) => tell(rt, error)?,
-        }
+        print_pieces(rt, &list, &env, memory)?;
     }
     Ok(read(rt, &mut dump.memory)?)
 }

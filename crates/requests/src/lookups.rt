@@ -134,6 +134,12 @@ fn sum_in(
     sum_of(&mut lookups, fdes, count, with_rules)
 }
 
+fn print_sum(rt: &impl Calls, table: &Table<'_>, count: u64, with_rules: bool) -> Result<(), Fail> {
+    let fdes: Vec<Fde> = table.fdes().collect(rt.alloc())?;
+    let sum = sum_in(table, &fdes, count, with_rules)?;
+    Ok(println!(rt; "lookups={count} sum={sum:016x}")?)
+}
+
 /// Makes so many look-ups of covered addresses, and prints a sum of what they found: of the CFA, or of all rules. Those of no
 /// look-up are the cost of the table and of the list of FDEs.
 pub fn all(
@@ -144,7 +150,5 @@ pub fn all(
     with_rules: bool,
 ) -> Result<(), Fail> {
     let table = check(rt.alloc(), bytes, target)?;
-    let fdes: Vec<Fde> = table.fdes().collect(rt.alloc())?;
-    let sum = sum_in(&table, &fdes, count, with_rules)?;
-    Ok(println!(rt; "lookups={count} sum={sum:016x}")?)
+    print_sum(rt, &table, count, with_rules)
 }

@@ -95,15 +95,19 @@ fn next_row(rt: &impl Calls, steps: &mut RowSteps<'_>) -> Result<(), Fail> {
 }
 
 // More answers than there are rows.
+fn each_next(rt: &impl Calls, steps: &mut RowSteps<'_>) -> Result<(), Fail> {
+    for _ in 0..9 {
+        next_row(rt, steps)?;
+    }
+    Ok(())
+}
+
 fn each_row(rt: &impl Calls, entry: Entry<'_>, begin: u64, target: Target) -> Result<(), Fail>
     requires { begin < address_limit target.size }
 {
     let (cie, factors) = (entry.cie, entry.factors);
     let mut steps = RowSteps::new(rt.alloc(), cie, entry.program, begin, factors, target);
-    for _ in 0..9 {
-        next_row(rt, &mut steps)?;
-    }
-    Ok(())
+    each_next(rt, &mut steps)
 }
 
 fn next_lent(rt: &impl Calls, machine: &mut CieMachine<'_>) -> Result<(), Fail> {
@@ -126,14 +130,34 @@ fn each_lent(rt: &impl Calls, machine: &mut CieMachine<'_>) -> Result<(), Fail> 
 }
 
 // The FDE's program is begun twice, so that what it changed is taken back.
+fn begun_twice<'a>(
+    rt: &impl Calls,
+    machine: &mut CieMachine<'a>,
+    program: Program<'a>,
+    begin: u64,
+) -> Result<(), Fail>
+    requires { begin < address_limit machine.old.target.size }
+{
+    machine.begin(program, begin)?;
+    machine.advance()?;
+    machine.begin(program, begin)?;
+    each_lent(rt, machine)
+}
+
 fn rows_behind(rt: &impl Calls, entry: Entry<'_>, begin: u64, target: Target) -> Result<(), Fail>
     requires { begin < address_limit target.size }
 {
     let mut machine = CieMachine::new(rt.alloc(), entry.cie, entry.factors, target)?;
-    machine.begin(entry.program, begin)?;
-    machine.advance()?;
-    machine.begin(entry.program, begin)?;
-    each_lent(rt, &mut machine)
+    begun_twice(rt, &mut machine, entry.program, begin)
+}
+
+fn print_initial(rt: &impl Calls, entry: Entry<'_>, target: Target) -> Result<(), Fail> {
+    let row = initial_row(rt.alloc(), entry.cie, entry.factors, target)?;
+    Ok(print_row(rt, 0, &row)?)
+}
+
+fn print_copied(rt: &impl Calls, row: &Row<'_>) -> Result<(), Fail> {
+    Ok(print_row(rt, 0, &row.copied()?)?)
 }
 
 fn on_fde(rt: &impl Calls, call: &str, entry: Entry<'_>, target: Target) -> Result<(), Fail> {
@@ -147,11 +171,11 @@ fn on_fde(rt: &impl Calls, call: &str, entry: Entry<'_>, target: Target) -> Resu
         "run" => return all_rows(rt, entry, begin, target),
         "row_steps" => return each_row(rt, entry, begin, target),
         "cie_machine" => return rows_behind(rt, entry, begin, target),
-        _ => {}
+        "copied" => {}
+        _ => return print_initial(rt, entry, target),
     }
     let row = initial_row(rt.alloc(), entry.cie, entry.factors, target)?;
-    let row = if call == "copied" { row.copied()? } else { row };
-    Ok(print_row(rt, 0, &row)?)
+    print_copied(rt, &row)
 }
 
 fn on_instruction(rt: &impl Calls, call: &str, instruction: &Instr<'_>) -> Result<(), Fail> {

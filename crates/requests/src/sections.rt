@@ -58,16 +58,21 @@ pub fn rows_of_addresses(rt: &impl Calls, bytes: &[u8], target: Target) -> Resul
     Ok(())
 }
 
+fn next_change(rt: &impl Calls, changes: &mut Changes<'_>) -> Result<(), Fail> {
+    match changes.next() {
+        Ok(Some((at, row))) => print_row(rt, at, &row)?,
+        Ok(None) => println!(rt; "end")?,
+        Err(error) => {
+            retried(rt, changes.next().is_err())?;
+            return Err(Fail::from(error));
+        }
+    }
+    Ok(())
+}
+
 fn each_change(rt: &impl Calls, changes: &mut Changes<'_>) -> Result<(), Fail> {
     for _ in 0..9 {
-        match changes.next() {
-            Ok(Some((at, row))) => print_row(rt, at, &row)?,
-            Ok(None) => println!(rt; "end")?,
-            Err(error) => {
-                retried(rt, changes.next().is_err())?;
-                return Err(Fail::from(error));
-            }
-        }
+        next_change(rt, changes)?;
     }
     Ok(())
 }

@@ -1,11 +1,11 @@
 //! Values of expressions, places that location descriptions describe, and memories that fail.
 
-ghost use Rattle.std.specs.Prelude.{◌^◌, ◌<◌, ◌-◌};
+ghost use Rattle.std.specs.Prelude.{◌≡◌, ◌^◌, ◌<◌, ◌-◌};
 
-use crate::lines::{Case, case_of, compare};
+use crate::lines::{Around, Case, case_of, compare};
 use crate::memories::{Cells, Nothing};
 use dw_eval::{Env, EvalError, Memory, Registers, evaluate, locate};
-use dw_op::{Profile, decode};
+use dw_op::{OpList, Profile, decode};
 use std::alloc::Global;
 use std::test::Fail;
 
@@ -165,6 +165,37 @@ fn error_text(alloc: Global, error: EvalError) -> Result<String, Fail> {
     }
 }
 
+// What a call answers over a memory, of a list in its surroundings.
+fn answer_of<M: Memory>(
+    alloc: Global,
+    call: Call,
+    list: &OpList<'_>,
+    around: Around,
+    registers: &Registers,
+    memory: &mut M,
+) -> Result<String, Fail>
+    requires failures { M.failures memory.old < 2 ^ 64 - 1 }
+    requires target { list.now.target ≡ around.target }
+{
+    let env = Env {
+        target: around.target,
+        registers,
+        frame_base: around.frame_base,
+        cfa: around.cfa,
+        object: around.object,
+    };
+    match call {
+        Call::Evaluate => match evaluate(alloc, list, around.start, &env, memory, around.steps) {
+            Ok(value) => Ok(format!(in alloc; "{value:#x}")?),
+            Err(error) => error_text(alloc, error),
+        },
+        Call::Locate => match locate(alloc, list, &env, memory, around.steps) {
+            Ok(pieces) => Ok(format!(in alloc; "{pieces:?}")?),
+            Err(error) => error_text(alloc, error),
+        },
+    }
+}
+
 // What a call answers over a memory.
 fn answer<M: Memory>(
     alloc: Global,
@@ -177,41 +208,37 @@ fn answer<M: Memory>(
     let around = case.around;
     let mut registers = Registers::new(alloc);
     registers.set(7, 0x1000)?;
-    let env = Env {
-        target: around.target,
-        registers: &registers,
-        frame_base: around.frame_base,
-        cfa: around.cfa,
-        object: around.object,
-    };
     let list = decode(alloc, &case.block, around.target, Profile::Location)?;
-    match call {
-        Call::Evaluate => match evaluate(alloc, &list, around.start, &env, memory, around.steps) {
-            Ok(value) => Ok(format!(in alloc; "{value:#x}")?),
-            Err(error) => error_text(alloc, error),
-        },
-        Call::Locate => match locate(alloc, &list, &env, memory, around.steps) {
-            Ok(pieces) => Ok(format!(in alloc; "{pieces:?}")?),
-            Err(error) => error_text(alloc, error),
-        },
+    answer_of(alloc, call, &list, around, &registers, memory)
+}
+
+// The same over cells of which one is to fail, with how many reads have failed.
+fn failing_answer(
+    alloc: Global,
+    call: Call,
+    case: &Case<'_>,
+    failing: u64,
+) -> Result<String, Fail> {
+    let mut memory = Cells {
+        failing,
+        reads: 0,
+        failures: 0,
+    };
+    let text = answer(alloc, call, case, &mut memory)?;
+    Ok(format!(in alloc; "{text}; {} failed", memory.failures)?)
+}
+
+fn case_answer(alloc: Global, call: Call, case: &Case<'_>) -> Result<String, Fail> {
+    match case.around.failing {
+        None => answer(alloc, call, case, &mut Nothing),
+        Some(failing) => failing_answer(alloc, call, case, failing),
     }
 }
 
 // Fails where a call answers otherwise than a line says. How many reads have failed is told where one is to fail.
 fn agree(alloc: Global, call: Call, line: &str) -> Result<(), Fail> {
     let case = case_of(alloc, line)?;
-    let text = match case.around.failing {
-        None => answer(alloc, call, &case, &mut Nothing)?,
-        Some(failing) => {
-            let mut memory = Cells {
-                failing,
-                reads: 0,
-                failures: 0,
-            };
-            let text = answer(alloc, call, &case, &mut memory)?;
-            format!(in alloc; "{text}; {} failed", memory.failures)?
-        }
-    };
+    let text = case_answer(alloc, call, &case)?;
     compare(line, text.as_str(), case.wanted)
 }
 

@@ -52,16 +52,25 @@ fn ops_text(alloc: Global, ops: &[Op<'_>]) -> Result<String, Fail> {
     Ok(format!(in alloc; "{ops:?}")?)
 }
 
+fn block_text(
+    alloc: Global,
+    block: &[u8],
+    target: Target,
+    profile: Profile,
+) -> Result<String, Fail> {
+    match decode(alloc, block, target, profile) {
+        Ok(list) => ops_text(alloc, list.ops()),
+        Err(ReadError::Refused(refusal)) => {
+            Ok(format!(in alloc; "{:?} at {}", refusal.code, refusal.at)?)
+        }
+        Err(ReadError::OutOfMemory) => Err(Fail::new("out of memory")),
+    }
+}
+
 // Fails where the operations of a block, or its refusal, are not what a line says.
 fn agree(alloc: Global, line: &str, profile: Profile) -> Result<(), Fail> {
     let case = case_of(alloc, line)?;
-    let text = match decode(alloc, &case.block, case.around.target, profile) {
-        Ok(list) => ops_text(alloc, list.ops())?,
-        Err(ReadError::Refused(refusal)) => {
-            format!(in alloc; "{:?} at {}", refusal.code, refusal.at)?
-        }
-        Err(ReadError::OutOfMemory) => return Err(Fail::new("out of memory")),
-    };
+    let text = block_text(alloc, &case.block, case.around.target, profile)?;
     compare(line, text.as_str(), case.wanted)
 }
 
@@ -117,19 +126,36 @@ const LEAST: &str = "\
 92030896: [Breg(3, 8), Nop] 730896
 0e05000000000000002ff4ff: [Const(5), Skip(0)] 352ffcff";
 
-// Fails where an expression's operations, their count, its least spelling or that one's length is not what a line says.
+// The least spelling of an expression in hexadecimal. Its length is told without it.
+fn spelled(alloc: Global, expression: &ExprRef<'_>) -> Result<String, Fail> {
+    let mut least = Vec::new(alloc);
+    expression.copied().put_least(&mut least)?;
+    if expression.least_len() != least.len() {
+        return Err(Fail::new("another length"));
+    }
+    Ok(hex::encode(alloc, &least)?)
+}
+
+// The operations of an expression, as many as its steps.
+fn listed(alloc: Global, expression: &ExprRef<'_>) -> Result<String, Fail> {
+    let list = expression.ops(alloc)?;
+    if expression.steps().count() != list.len() {
+        return Err(Fail::new("another count"));
+    }
+    ops_text(alloc, list.ops())
+}
+
+fn least_text(alloc: Global, expression: &ExprRef<'_>) -> Result<String, Fail> {
+    let ops = listed(alloc, expression)?;
+    let least = spelled(alloc, expression)?;
+    Ok(format!(in alloc; "{ops} {least}")?)
+}
+
+// Fails where an expression's operations or its least spelling are not what a line says.
 fn agree_least(alloc: Global, line: &str) -> Result<(), Fail> {
     let case = case_of(alloc, line)?;
     let expression = ExprRef::accept(&case.block, case.around.target)?;
-    let list = expression.ops(alloc)?;
-    let mut least = Vec::new(alloc);
-    expression.copied().put_least(&mut least)?;
-    if expression.steps().count() != list.len() || expression.least_len() != least.len() {
-        return Err(Fail::new(format_args!("{line}: a count")));
-    }
-    let least = hex::encode(alloc, &least)?;
-    let ops = ops_text(alloc, list.ops())?;
-    let text = format!(in alloc; "{ops} {least}")?;
+    let text = least_text(alloc, &expression)?;
     compare(line, text.as_str(), case.wanted)
 }
 

@@ -15,7 +15,7 @@ const BIG: Target = Target {
     order: Order::Big,
 };
 
-const CONSTANTS: [(u64, &[u8]); 18] = [
+const CONSTANTS: &[(u64, &[u8])] = &[
     (31, b"\x4f"),
     (32, b"\x08\x20"),
     (255, b"\x08\xff"),
@@ -36,7 +36,7 @@ const CONSTANTS: [(u64, &[u8]); 18] = [
     (0xffff_ffff_7fff_ffff, b"\x11\xff\xff\xff\xff\x77"),
 ];
 
-const OPERATIONS: [(Op<'static>, Target, &[u8]); 13] = [
+const OPERATIONS: &[(Op<'static>, Target, &[u8])] = &[
     (Op::Breg(3, 8), LITTLE, b"\x73\x08"),
     (Op::Breg(32, -1), LITTLE, b"\x92\x20\x7f"),
     (Op::Reg(31), LITTLE, b"\x6f"),
@@ -53,22 +53,22 @@ const OPERATIONS: [(Op<'static>, Target, &[u8]); 13] = [
 ];
 
 // How many nops, where the skip goes, whether it stands before them, and which operation reaches too far.
-const FAR: [(usize, usize, bool, Option<usize>); 4] = [
+const FAR: &[(usize, usize, bool, Option<usize>)] = &[
     (32_767, 32_768, true, None),
     (32_768, 32_769, true, Some(0)),
     (32_765, 0, false, None),
     (32_766, 0, false, Some(32_766)),
 ];
 
-const BAD: [([Op<'static>; 3], Target, Option<usize>); 8] = [
-    ([Op::Bra(3), Op::Nop, Op::Skip(4)], LITTLE, Some(2)),
-    ([Op::Bra(4), Op::Nop, Op::Skip(4)], LITTLE, Some(0)),
-    ([Op::Bra(3), Op::DerefSize(8), Op::Skip(0)], LITTLE, None),
-    ([Op::Bra(3), Op::DerefSize(8), Op::Skip(0)], BIG, Some(1)),
-    ([Op::Nop, Op::DerefSize(0), Op::Nop], LITTLE, Some(1)),
-    ([Op::Nop, Op::Nop, Op::Const(1 << 32)], BIG, Some(2)),
-    ([Op::Nop, Op::Addr(1 << 32), Op::Nop], BIG, Some(1)),
-    ([Op::Nop, Op::Addr(1 << 32), Op::Reg(65_535)], LITTLE, None),
+const BAD: &[(&[Op<'static>], Target, Option<usize>)] = &[
+    (&[Op::Bra(3), Op::Nop, Op::Skip(4)], LITTLE, Some(2)),
+    (&[Op::Bra(4), Op::Nop, Op::Skip(4)], LITTLE, Some(0)),
+    (&[Op::Bra(3), Op::DerefSize(8), Op::Skip(0)], LITTLE, None),
+    (&[Op::Bra(3), Op::DerefSize(8), Op::Skip(0)], BIG, Some(1)),
+    (&[Op::Nop, Op::DerefSize(0), Op::Nop], LITTLE, Some(1)),
+    (&[Op::Nop, Op::Nop, Op::Const(1 << 32)], BIG, Some(2)),
+    (&[Op::Nop, Op::Addr(1 << 32), Op::Nop], BIG, Some(1)),
+    (&[Op::Nop, Op::Addr(1 << 32), Op::Reg(65_535)], LITTLE, None),
 ];
 
 // The block of some operations, or which of them reaches too far. None where they are out of range or memory runs
@@ -97,10 +97,10 @@ fn agree(alloc: Global, op: Op<'static>, target: Target, wanted: &[u8]) -> Resul
 #[test]
 fn least_spellings(rt: HostRuntime) -> Result<(), Fail> {
     for (value, wanted) in CONSTANTS {
-        agree(rt.alloc(), Op::Const(value), LITTLE, wanted)?;
+        agree(rt.alloc(), Op::Const(*value), LITTLE, wanted)?;
     }
     for (op, target, wanted) in OPERATIONS {
-        agree(rt.alloc(), op, target, wanted)?;
+        agree(rt.alloc(), *op, *target, wanted)?;
     }
     Ok(())
 }
@@ -128,18 +128,18 @@ fn with_nops(
 #[test]
 fn far_branches(rt: HostRuntime) -> Result<(), Fail> {
     for (nops, goal, is_first, wanted) in FAR {
-        let ops = with_nops(rt.alloc(), nops, goal, is_first)?;
+        let ops = with_nops(rt.alloc(), *nops, *goal, *is_first)?;
         match block(rt.alloc(), ops, LITTLE) {
             Some(Ok(bytes)) => {
-                assert!(rt; wanted == None);
-                let shown = if is_first {
+                assert!(rt; *wanted == None);
+                let shown = if *is_first {
                     bytes.starts_with(b"\x2f\xff\x7f\x96")
                 } else {
                     bytes.ends_with(b"\x96\x2f\x00\x80")
                 };
                 assert!(rt; shown);
             }
-            Some(Err(index)) => assert!(rt; wanted == Some(index)),
+            Some(Err(index)) => assert!(rt; *wanted == Some(index)),
             None => assert!(rt; false),
         }
     }
@@ -158,7 +158,7 @@ fn first_bad(alloc: Global, row: &[Op<'static>], target: Target) -> Result<Optio
 #[test]
 fn first_bad_operands(rt: HostRuntime) -> Result<(), Fail> {
     for (row, target, wanted) in BAD {
-        assert!(rt; first_bad(rt.alloc(), &row, target)? == wanted);
+        assert!(rt; first_bad(rt.alloc(), *row, *target)? == *wanted);
     }
     Ok(())
 }

@@ -1,16 +1,11 @@
 -- What the FDEs of one return register share, in one pass over all their rows.
-use Rattle.std.specs.Prelude.{ℕ, List, [], ◌∷◌}
-use Rattle.dw_cfa.specs.Agreement.{kept}
+use Rattle.std.specs.Prelude.{List, [], ◌∷◌}
 use Rattle.dw_cfa.specs.Inner.Agreement.{agreed}
 use Rattle.dw_cfa.specs.Rows.{Rules, blank}
+use Rattle.dw_section.specs.Changes.{kept_by}
 use Rattle.dw_canon.specs.Members.{Member}
 
--- each row of an FDE behind its first drops the registers that it leaves Unspecified
-abbrev pub kept_by : Rules → List (ℕ × Rules) → Rules
-kept_by shared [] = shared
-kept_by shared (change ∷ changes) = kept_by (kept shared change.1) changes
-
--- and where other FDEs come
+-- each row of an FDE behind its first drops the registers that it leaves Unspecified, also where other FDEs come
 abbrev pub shared_by : Rules → List Member → Rules
 shared_by shared [] = shared
 shared_by shared (m ∷ ms) = shared_by (kept_by (agreed shared m.first) m.later) ms

@@ -25,7 +25,7 @@ use Rattle.dw_cfa.specs.RowLaws.{OneRun, RefusedWhereFault, RowsWhereKept, NoneF
 use Rattle.dw_cfa.specs.Inner.Exact.{RulesBehind}
 use Rattle.dw_cfa.specs.Inner.Machine.{State, begun, after, fde_fault}
 use Rattle.dw_cfa.specs.Inner.Runs.{Placed, placed, row_if, on_initial, initial_row, run_rows, rows_behind, fde_rows}
-use Rattle.dw_cfa.specs.Inner.RowSteps.{rows_before}
+use Rattle.dw_cfa.specs.Inner.RowSteps.{gives}
 use Rattle.dw_cfa.proofs.Lent.Forward.{Follows, Holds, after_follows, begun_follows}
 use Rattle.dw_cfa.proofs.Lent.RowsAt.{instrs_of, Gives as RunGives}
 use Rattle.dw_cfa.proofs.Lent.KeptRuns.{next_gives}
@@ -291,23 +291,14 @@ given_holds f cie fde begin cb fb le rows g = last_holds f cie fde begin rows (r
 
 module _ (f : Factors) (cie fde : Input) (begin : ℕ) (cb : AreBytes cie.bytes) (fb : AreBytes fde.bytes) (le : begin ≤ address_limit fde.target.size) where
   -- that has come to its end
-  pub run_ended : (first old new : Stepping) (rows : List LocatedRow) (found : Option LocatedRow) → RunsTo f cie fde begin first.outcome → first.outcome ≡ rows_before rows old.outcome
-      → ((row : LocatedRow) → found ≡ Some row → ⊥) → Answers old (Ok found) new → Gives f cie fde begin rows
-  run_ended first old new rows (Some row) begun before none ended = absurd (none row refl)
-  run_ended first old new rows None begun before none ended =
-      let all : old.outcome ≡ finished = ap (λ (s : Stepping). s.outcome) ended.0 in
-      let none : rows_before rows old.outcome ≡ record { rows = rows ++ []; fault = None } = ap (rows_before rows) all in
-      let same : rows_before rows old.outcome ≡ record { rows = rows; fault = None } = none ∙ ap (λ (xs : List LocatedRow). let o : Outcome = record { rows = xs; fault = None } in o) (append-nil rows) in
-      run_gives f cie fde begin cb fb le rows (sym (runs_run f cie fde begin cb fb le first.outcome begun) ∙ before ∙ same)
+  pub run_ended : (o : Outcome) (rows : List LocatedRow) → RunsTo f cie fde begin o → o ≡ gives rows → Gives f cie fde begin rows
+  run_ended o rows begun is = run_gives f cie fde begin cb fb le rows (sym (runs_run f cie fde begin cb fb le o begun) ∙ is)
 
   -- that fails
-  pub run_failed : (first old new : Stepping) (rows : List LocatedRow) (e : ReadError) → RunsTo f cie fde begin first.outcome → first.outcome ≡ rows_before rows old.outcome → old.error ≡ None → Failed old e new → Refuses (RunFault f cie fde begin) e
-  run_failed first old new rows OutOfMemory begun before none failed = tt
-  run_failed first old new rows (Refused r) begun before none (is, over, inl same) =
-      let error : None ≡ Some (Refused r) = sym none ∙ ap (λ (s : Stepping). s.error) same ∙ is in absurd cc
-  run_failed first old new rows (Refused r) begun before none (is, over, inr at) =
-      let all : run_rows f cie fde begin ≡ rows_before rows (fails r) = sym (runs_run f cie fde begin cb fb le first.outcome begun) ∙ before ∙ ap (rows_before rows) at.1 in
-      run_refused f cie fde begin r cb fb le (ap (λ (o : Outcome). o.fault) all)
+  pub run_failed : (o : Outcome) (e : ReadError) → RunsTo f cie fde begin o → Refuses (λ r. o.fault ≡ Some r) e → Refuses (RunFault f cie fde begin) e
+  run_failed o OutOfMemory begun at = tt
+  run_failed o (Refused r) begun at =
+      run_refused f cie fde begin r cb fb le (ap (λ (p : Outcome). p.fault) (sym (runs_run f cie fde begin cb fb le o begun)) ∙ at)
 
   -- the rows that programs give are one list
   pub gives_one : (rows others : List LocatedRow) → Gives f cie fde begin rows → Gives f cie fde begin others → rows ≡ others

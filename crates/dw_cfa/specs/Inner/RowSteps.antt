@@ -40,3 +40,7 @@ progress_after (Err e) = progress.Failed e
 -- rows that come first
 abbrev pub rows_before : List LocatedRow → Outcome → Outcome
 rows_before rows o = record { rows = rows ++ o.rows; fault = o.fault }
+
+-- all rows, and no refusal behind them
+abbrev pub gives : List LocatedRow → Outcome
+gives rows = record { rows = rows; fault = None }

@@ -1,5 +1,5 @@
 -- Programs that are known to give rows, run one after another in one room.
-use Rattle.std.specs.Prelude.{◌≡◌, ℕ, Bool, IsTrue, List, Ok, None, []}
+use Rattle.std.specs.Prelude.{◌≡◌, ℕ, Bool, IsTrue, IfSome, List, Option, Some, Ok, None, []}
 use Rattle.std.specs.List.{AllByRecursion}
 use Rattle.dw_num.specs.Input.{Input}
 use Rattle.dw_cfa.specs.declared.machine.Machine.{Machine}
@@ -7,6 +7,7 @@ use Rattle.dw_cfa.specs.declared.execution.LocatedRow.{LocatedRow}
 use Rattle.dw_cfa.specs.declared.steps.Progress.{Progress}
 use Rattle.dw_cfa.specs.declared.steps.Progress.TheVariants as progress
 use Rattle.dw_cfa.specs.declared.row_walk.Leading.{Leading}
+use Rattle.dw_cfa.specs.Behind.{LeavesTo}
 use Rattle.dw_cfa.specs.Rows.{Rules, blank, is_specified, rule}
 use Rattle.dw_cfa.specs.Runs.{Outcome}
 use Rattle.dw_cfa.specs.RowSteps.{Stepping, program_input, stepping}
@@ -17,6 +18,15 @@ use Rattle.dw_cfa.specs.RowWalk.{Led}
 
 abbrev pub led_of : Leading → Led
 led_of l = record { program = program_input l.program l.target; factors = l.factors }
+
+-- the CIE's row, while the rows behind one are run
+abbrev pub initial_of : Progress → Rules → Option Rules
+initial_of progress.Running initial = Some initial
+initial_of other initial = None
+
+-- its program leaves that row
+abbrev pub AreLeft : Leading → Option Rules → Type 0
+AreLeft l initial = IfSome initial (λ row. LeavesTo l.factors (program_input l.program l.target) (Ok row))
 
 abbrev pub led_rows : Leading → Input → ℕ → Outcome
 led_rows l fde begin = run_rows l.factors (program_input l.program l.target) fde begin
@@ -61,6 +71,7 @@ pub record WalksSo (p : Progress) (kept : Bool) (l : Leading) (fde : Input) (m :
   pub no_fault : (walk_of p l fde m).outcome.fault ≡ None
   pub initial : IsTrue kept → HasInitial l m
   pub keeps : WalkKeeps p l fde m
+  pub left : AreLeft l (initial_of p m.initial)
 
 -- the machine stands where it stood, at the front of an FDE's program
 pub record Readied (l : Leading) (old new : Machine) : Type 0 where

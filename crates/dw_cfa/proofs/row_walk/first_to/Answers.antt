@@ -9,7 +9,7 @@ use Rattle.dw_cfa.specs.Inner.RuleAt.{LeavesAbove}
 use Rattle.dw_cfa.specs.Inner.RowWalk.{AllSpecify}
 use Rattle.dw_cfa.proofs.RowsTo.{only_memory, still_none}
 use Rattle.dw_cfa.proofs.Stays.{led_keeps}
-use Rattle.dw_cfa.proofs.Walks.{led_initial, led_ran}
+use Rattle.dw_cfa.proofs.Walks.{led_initial, led_ran, left_where, row_left}
 use Rattle.dw_cfa.proofs.row_walk.first_to.Goals as goal
 
 pub ready-requires-clause-runs : goal.ready-requires-clause-runs
@@ -35,7 +35,7 @@ returns-clause-keeps c =
     let l = c.args.leading in
     let at = c.ready.new.machine in
     let so = c.in_ok-ready.ensures.ok in
-    let bytes = subst AreBytes c.rest.ensures c.are_bytes.ensures in
+    let bytes = subst AreBytes c.rest.ensures c.are_bytes-2.ensures in
     let ran = c.run_to.ensures.keeps at.initial (led_keeps l c.args.fde.now at bytes so.row so.none) in
     subst (λ (r : Rules). OnOk c.run_to.result (AllSpecify r (rows_left l.factors c.run_to.new.cursor c.run_to.new.machine).rows)) (sym c.run_to.ensures.initial) ran
 
@@ -54,3 +54,8 @@ returns-clause-behind c le =
     let so = c.in_ok-ready.ensures.ok in
     subst (λ (o : Outcome). LeavesAbove c.args.address o c.args.leading.factors c.run_to.new.cursor c.run_to.new.machine c.run_to.result)
     (led_ran c.args.leading c.args.fde.now c.args.machine.now c.ready.new.machine c.requires.so so) (c.run_to.ensures.behind (subst (λ (n : ℕ). n ≤ c.args.address) (sym so.location) le))
+
+pub returns-clause-left : goal.returns-clause-left
+returns-clause-left c =
+    let new = c.run_to.new.machine in
+    left_where _ c.run_to.result (row_left c.args.leading c.ready.new.machine new c.are_bytes.ensures c.in_ok-ready.ensures.ok.initial c.run_to.ensures.initial)

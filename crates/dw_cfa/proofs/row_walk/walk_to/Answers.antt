@@ -4,9 +4,10 @@ use Rattle.dw_cfa.specs.declared.steps.Progress.{Progress}
 use Rattle.dw_cfa.specs.RuleAt.{last_at}
 use Rattle.dw_cfa.specs.Rows.{Rules}
 use Rattle.dw_cfa.specs.Inner.Runs.{rows_left}
-use Rattle.dw_cfa.specs.Inner.RowWalk.{AllSpecify, WalkKeeps, led_rows, walk_of}
-use Rattle.dw_cfa.proofs.RowsTo.{found_last, none_last, none_where_more, only_memory}
+use Rattle.dw_cfa.specs.Inner.RowWalk.{AllSpecify, AreLeft, WalkKeeps, initial_of, led_rows, walk_of}
+use Rattle.dw_cfa.proofs.RowsTo.{found_last, none_last, none_where_more, only_memory, some_last}
 use Rattle.dw_cfa.proofs.Stays.{where_more}
+use Rattle.dw_cfa.proofs.Walks.{left_where}
 use Rattle.dw_cfa.proofs.row_walk.walk_to.Goals as goal
 
 pub returns-in-Running-clause-keeps : goal.returns-in-Running-clause-keeps
@@ -56,4 +57,24 @@ returns-in-Running-clause-stays c le e =
     let l = c.args.leading in
     let left = rows_left l.factors c.args.fde.now c.args.machine.now in
     none_last c.run_to.result (last_at c.args.address left.rows) c.run_to.new.machine.states.row c.args.machine.now.states.row (c.run_to.ensures.last le)
+    (subst (λ (p : Progress). last_at c.args.address (walk_of p l c.args.fde.now c.args.machine.now).outcome.rows ≡ None) c.in-Running.is e)
+
+pub returns-in-Running-clause-left : goal.returns-in-Running-clause-left
+returns-in-Running-clause-left c =
+    let l = c.args.leading in
+    let left = subst (λ (p : Progress). AreLeft l (initial_of p c.args.machine.now.initial)) c.in-Running.is c.requires.so.left in
+    left_where _ c.run_to.result (subst (λ (r : Rules). AreLeft l (Some r)) (sym c.run_to.ensures.initial) left)
+
+pub returns-in-Begun-clause-none : goal.returns-in-Begun-clause-none
+returns-in-Begun-clause-none c le e =
+    let l = c.args.leading in
+    let of_both = led_rows l c.args.fde.now c.args.machine.now.location in
+    some_last _ c.first_to.result (last_at c.args.address of_both.rows) c.first_to.new.machine.states.row (c.first_to.ensures.last le)
+    (subst (λ (p : Progress). last_at c.args.address (walk_of p l c.args.fde.now c.args.machine.now).outcome.rows ≡ None) c.in-Begun.is e)
+
+pub returns-in-Running-clause-none : goal.returns-in-Running-clause-none
+returns-in-Running-clause-none c le e =
+    let l = c.args.leading in
+    let left = rows_left l.factors c.args.fde.now c.args.machine.now in
+    some_last _ c.run_to.result (last_at c.args.address left.rows) c.run_to.new.machine.states.row (c.run_to.ensures.last le)
     (subst (λ (p : Progress). last_at c.args.address (walk_of p l c.args.fde.now c.args.machine.now).outcome.rows ≡ None) c.in-Running.is e)

@@ -1,6 +1,6 @@
 use Rattle.std.proofs.Common.{◌≡◌, sym, ap, ◌∙◌, subst}
 use Rattle.std.specs.Prelude.{OnOk}
-use Rattle.dw_canon.specs.Inner.Group.{kept_by}
+use Rattle.dw_section.specs.Changes.{kept_by}
 use Rattle.dw_cfa.specs.Inner.Agreement.{agreed}
 use Rattle.dw_cfa.specs.Rows.{Rules}
 use Rattle.dw_cfa.proofs.Lent.Equal.{agreed_of}
@@ -11,4 +11,4 @@ returns-clause-row c = λ first shown.
     let both = sym c.in-Some.ensures ∙ shown in
     let one : c.in-Some.first.now ≡ first = cc in
     let is : c.agree.new.self ≡ agreed c.args.shared.now first = agreed_of c.args.shared.now c.in-Some.first.now c.agree.new.self c.ascends.ensures c.agree.ensures ∙ ap (agreed c.args.shared.now) one in
-    subst (λ (row : Rules). OnOk c.keep_all.result (c.keep_all.new.shared ≡ kept_by row c.args.changes.now.to_come)) is c.keep_all.ensures.row
+    subst (λ (row : Rules). OnOk c.narrow.result (c.narrow.new.row ≡ kept_by row c.args.changes.now.to_come)) is c.narrow.ensures.row

@@ -1,20 +1,9 @@
-use Rattle.std.proofs.Common.{◌≡◌, ◌<◌, ◌∙◌, List, length, map, get_or, ap, sym, refl, arith}
-use Rattle.std.proofs.lemmas.List.{length-map, take_more_same}
+use Rattle.std.proofs.Common.{◌≡◌, ◌∙◌, map, ap, sym, arith, length}
+use Rattle.std.proofs.lemmas.List.{length-map}
 use Rattle.dw_section.specs.Changes.{Changing}
-use Rattle.dw_canon.specs.Members.{Member, fde_of}
-use Rattle.dw_normal.proofs.Alike.{not_so, apart, all_same}
-use Rattle.dw_normal.proofs.Grouped.{no_member}
+use Rattle.dw_canon.specs.Members.{fde_of}
+use Rattle.dw_normal.proofs.Alike.{not_so}
 use Rattle.dw_normal.proofs.likeness.same_tables.Goals as goal
-
-pub fdes-init : goal.fdes-init
-fdes-init c = (
-  λ ms ns are others.
-      let mine = c.fde_count-count.ensures (map fde_of ms) are.fdes ∙ length-map ms fde_of in
-      let other = c.fde_count.ensures (map fde_of ns) others.fdes ∙ length-map ns fde_of in
-      (omega (arith, mine, other, c.if-fde_count-count.false), refl),
-  ap (λ (x : Changing). x.section) c.no_changes-changes.ensures,
-  ap (λ (x : Changing). x.section) c.no_changes-others.ensures,
-)
 
 pub returns-then-fde_count-count : goal.returns-then-fde_count-count
 returns-then-fde_count-count c = λ ms ns are others.
@@ -22,29 +11,11 @@ returns-then-fde_count-count c = λ ms ns are others.
     let other = c.fde_count.ensures (map fde_of ns) others.fdes ∙ length-map ns fde_of in
     not_so (ms ≡ ns) (λ same. c.if-fde_count-count.true (other ∙ ap length (sym same) ∙ sym mine))
 
-pub same_fdes-requires-clause-second : goal.same_fdes-requires-clause-second
-same_fdes-requires-clause-second c = λ fs are. omega (arith, c.fde_count.ensures fs are, c.if-fde_count-count.false, c.fdes-test.true)
+pub same_over-requires-clause-other_count : goal.same_over-requires-clause-other_count
+same_over-requires-clause-other_count c = λ fs are. omega (arith, c.fde_count.ensures fs are, c.if-fde_count-count.false)
 
-pub returns-then-not-branch : goal.returns-then-not-branch
-returns-then-not-branch c = λ ms ns are others.
-    let here = c.in_ok-same_fdes.ensures.same ms ns are others no_member in
-    not_so (ms ≡ ns) (λ same. apart c.in_ok-same_fdes.field-0 (here.1 (ap (λ (l : List Member). get_or l c.fdes.place no_member) same)) c.if-not-branch.true)
+pub same_over-requires-clause-section : goal.same_over-requires-clause-section
+same_over-requires-clause-section c = ap (λ (x : Changing). x.section) c.no_changes-changes.ensures
 
-pub fdes-preserved : goal.fdes-preserved
-fdes-preserved c = (
-  λ ms ns are others.
-      let inv = c.fdes.invariant.0 ms ns are others in
-      let count = c.fde_count-count.ensures (map fde_of ms) are.fdes ∙ length-map ms fde_of in
-      let lt : c.fdes.place < length ms = omega (arith, count, c.fdes-test.true) in
-      let here = c.in_ok-same_fdes.ensures.same ms ns are others no_member in
-      (inv.0, take_more_same ms ns c.fdes.place no_member lt (omega (arith, inv.0, lt)) inv.1 (here.0 c.if-not-branch.false)),
-  c.in_ok-same_fdes.ensures.section,
-  c.in_ok-same_fdes.ensures.other_section,
-)
-
-pub returns : goal.returns
-returns c = λ ms ns are others.
-    let inv = c.fdes.invariant.0 ms ns are others in
-    let count = c.fde_count-count.ensures (map fde_of ms) are.fdes ∙ length-map ms fde_of in
-    let same = all_same c.fdes.place ms ns (omega (arith, count, c.fdes-test.false)) inv.0 inv.1 in
-    (λ e. same, λ e. refl)
+pub same_over-requires-clause-other_section : goal.same_over-requires-clause-other_section
+same_over-requires-clause-other_section c = ap (λ (x : Changing). x.section) c.no_changes-others.ensures

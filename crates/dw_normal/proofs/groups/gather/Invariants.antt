@@ -1,0 +1,16 @@
+use Rattle.std.proofs.Common.{◌≡◌, ℕ, ◌*◌, ◌≤◌, List, take}
+use Rattle.std.specs.Prelude.{IfSome}
+use Rattle.dw_section.specs.Meaning.{AreFdes}
+use Rattle.dw_section.specs.declared.lookup.Fde.{Fde}
+use Rattle.dw_canon.specs.Bound.{Shares}
+use Rattle.dw_canon.specs.Members.{Member, AreMembers}
+use Rattle.dw_normal.specs.Inner.Groups.{HasJoined, initial_rows}
+use Rattle.dw_normal.proofs.groups.gather.Given as goal
+
+abbrev pub invariant-fdes : goal.invariant-fdes
+invariant-fdes l =
+    ((ms : List Member) → AreMembers l.fn.table.target l.fn.table.bytes ms → l.rows.entries ≡ initial_rows (take l.place ms))
+    × IfSome l.total (λ (n : ℕ). n ≤ 24 * l.cap)
+    × ((fs : List Fde) → AreFdes l.fn.table.target l.fn.table.bytes fs → IfSome l.total (λ (n : ℕ). Shares l.fn.table.target l.fn.table.bytes (take l.place fs) n))
+    × (l.changes.section ≡ l.fn.table)
+    × HasJoined l.fn.table.target l.fn.table.bytes l.rows.entries l.joined

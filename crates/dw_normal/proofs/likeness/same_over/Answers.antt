@@ -1,0 +1,46 @@
+use Rattle.std.proofs.Common.{◌≡◌, ◌<◌, ◌∙◌, List, length, map, get_or, ap, sym, refl, arith}
+use Rattle.std.proofs.lemmas.List.{length-map, take_more_same}
+use Rattle.dw_canon.specs.Members.{Member, fde_of}
+use Rattle.dw_normal.proofs.Alike.{not_so, apart, all_same}
+use Rattle.dw_normal.proofs.Grouped.{no_member}
+use Rattle.dw_normal.proofs.likeness.same_over.Goals as goal
+
+pub fdes-init : goal.fdes-init
+fdes-init c = (
+  λ ms ns are others.
+      let mine = c.requires.count (map fde_of ms) are.fdes ∙ length-map ms fde_of in
+      let other = c.requires.other_count (map fde_of ns) others.fdes ∙ length-map ns fde_of in
+      (omega (arith, mine, other), refl),
+  c.requires.section,
+  c.requires.other_section,
+)
+
+pub same_fdes-requires-clause-first : goal.same_fdes-requires-clause-first
+same_fdes-requires-clause-first c = λ fs are. omega (arith, c.requires.count fs are, c.fdes-test.true)
+
+pub same_fdes-requires-clause-second : goal.same_fdes-requires-clause-second
+same_fdes-requires-clause-second c = λ fs are. omega (arith, c.requires.other_count fs are, c.fdes-test.true)
+
+pub returns-then-not-branch : goal.returns-then-not-branch
+returns-then-not-branch c = λ ms ns are others.
+    let here = c.in_ok-same_fdes.ensures.same ms ns are others no_member in
+    not_so (ms ≡ ns) (λ same. apart c.in_ok-same_fdes.field-0 (here.1 (ap (λ (l : List Member). get_or l c.fdes.place no_member) same)) c.if-not-branch.true)
+
+pub fdes-preserved : goal.fdes-preserved
+fdes-preserved c = (
+  λ ms ns are others.
+      let inv = c.fdes.invariant.0 ms ns are others in
+      let count = c.requires.count (map fde_of ms) are.fdes ∙ length-map ms fde_of in
+      let lt : c.fdes.place < length ms = omega (arith, count, c.fdes-test.true) in
+      let here = c.in_ok-same_fdes.ensures.same ms ns are others no_member in
+      (inv.0, take_more_same ms ns c.fdes.place no_member lt (omega (arith, inv.0, lt)) inv.1 (here.0 c.if-not-branch.false)),
+  c.in_ok-same_fdes.ensures.section,
+  c.in_ok-same_fdes.ensures.other_section,
+)
+
+pub returns : goal.returns
+returns c = λ ms ns are others.
+    let inv = c.fdes.invariant.0 ms ns are others in
+    let count = c.requires.count (map fde_of ms) are.fdes ∙ length-map ms fde_of in
+    let same = all_same c.fdes.place ms ns (omega (arith, count, c.fdes-test.false)) inv.0 inv.1 in
+    (λ e. same, λ e. refl)

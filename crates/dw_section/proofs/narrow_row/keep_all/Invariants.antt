@@ -1,0 +1,11 @@
+use Rattle.std.proofs.Common.{◌≡◌, true, length}
+use Rattle.dw_section.specs.Changes.{kept_by}
+use Rattle.dw_section.specs.Inner.NarrowRow.{NarrowedBy}
+use Rattle.dw_section.proofs.narrow_row.keep_all.Given as goal
+
+abbrev pub invariant-changes : goal.invariant-changes
+invariant-changes l =
+    (kept_by l.shared l.changes.to_come ≡ kept_by l.initial.shared l.initial.changes.to_come) × (l.narrowed ≡ true → NarrowedBy l.shared l.changes.shown) × (l.changes.section ≡ l.initial.changes.section)
+
+abbrev pub decreases-changes : goal.decreases-changes
+decreases-changes l = length l.changes.to_come

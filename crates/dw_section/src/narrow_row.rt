@@ -1,0 +1,82 @@
+//! A row narrowed to the registers that all changes of an FDE specify.
+
+ghost use Rattle.std.specs.Prelude.{◌≡◌, ◌⊎◌, [], true, false, Some, OnOk};
+ghost use Rattle.dw_cfa.specs.Agreement.{kept};
+ghost use Rattle.dw_cfa.specs.Rows.{Rules};
+ghost use Rattle.dw_section.specs.Changes.{kept_by};
+ghost use Rattle.dw_section.specs.Inner.NarrowRow.{NarrowedBy, SpecifiesAll};
+
+use crate::change::Changes;
+use dw_cfa::Row;
+use std::alloc::AllocError;
+
+// Whether a change may leave a register Unspecified that the row before it specifies. It looks at the registers that the
+// change alters alone.
+fn drops_one(changes: &Changes<'_>) -> bool
+    ensures { (before row : Rules) → changes.now.before ≡ Some before → changes.now.shown ≡ Some row → result ≡ false → SpecifiesAll before row }
+{
+    let Some(_) = changes.before() else {
+        return true;
+    };
+    let Some(row) = changes.row() else {
+        return true;
+    };
+    let mut last = None;
+    'registers: while let Some(register) = changes.next_difference(last) {
+        if !row.rule(register).is_specified() {
+            return true;
+        }
+        last = Some(register);
+    }
+    false
+}
+
+// Drops from a row the registers that a change leaves Unspecified. Where it was narrowed by the row before, most changes drop
+// none, which needs no pass over the row.
+fn keep_change<'a>(
+    shared: &mut Row<'a>,
+    changes: &Changes<'a>,
+    narrowed: bool,
+) -> Result<(), AllocError>
+    ensures { (row : Rules) → changes.now.shown ≡ Some row → (narrowed ≡ true → NarrowedBy shared.old changes.now.before) → OnOk result (shared.new ≡ kept shared.old row) }
+{
+    if narrowed && !drops_one(changes) {
+        return Ok(());
+    }
+    let Some(row) = changes.row() else {
+        return Err(AllocError);
+    };
+    shared.keep(row);
+    Ok(())
+}
+
+// Drops from a row the registers that one of the changes still to come leaves Unspecified. No change drops one that the
+// CIE's program specifies, so most rows need no walk.
+fn keep_all<'a>(shared: &mut Row<'a>, changes: &mut Changes<'a>) -> Result<(), AllocError>
+    ensures row { OnOk result (shared.new ≡ kept_by shared.old changes.old.to_come) }
+    ensures behind { OnOk result ((changes.new ≡ changes.old) ⊎ (changes.new.to_come ≡ [])) }
+    ensures section { changes.new.section ≡ changes.old.section }
+{
+    if changes.keeps(shared) {
+        return Ok(());
+    }
+    let mut narrowed = false;
+    'changes: while let Some(_) = changes.advance()? {
+        keep_change(shared, changes, narrowed)?;
+        narrowed = true;
+    }
+    Ok(())
+}
+
+impl<'a> Changes<'a> {
+    /// Goes on behind the last change, and drops from a row the registers that one of the changes still to come leaves
+    /// Unspecified. Where the CIE's row shows that none does, it may stay where it is. Behind want of memory some of them
+    /// are dropped.
+    pub fn narrow(&mut self, row: &mut Row<'a>) -> Result<(), AllocError>
+        ensures row { OnOk result (row.new ≡ kept_by row.old self.old.to_come) }
+        ensures behind { OnOk result ((self.new ≡ self.old) ⊎ (self.new.to_come ≡ [])) }
+        ensures section { self.new.section ≡ self.old.section }
+    {
+        keep_all(row, self)
+    }
+}
