@@ -1,8 +1,8 @@
 #!/usr/bin/env python3
 """Compares include/dwframe.h, and what bindings/rust declares, with the exports of crates/dw_library.
 
-Each call has to have the same name, answer and parameters in all three, each struct the same fields, and each status the same
-number. A slice of Rattle is a pointer and a length in C, and an `alloc` is nothing.
+Each call has to have the same name, answer and parameters in all three, each struct the same fields, and each status, refusal and
+fault the same number. A slice of Rattle is a pointer and a length in C, and an `alloc` is nothing.
 """
 import pathlib
 import re
@@ -25,6 +25,8 @@ STRUCTS = {
     "Block": ("dwframe_block", "RawBlock"),
     "Blocks": ("dwframe_blocks", "RawBlocks"),
 }
+# Enums whose numbers the library answers, each with the file that has them and what C's names begin with.
+ENUMS = {"Code": ("crates/dw_num/src/refusal.rt", "DWFRAME_REFUSAL_"), "Kind": ("crates/dw_eval/src/error.rt", "DWFRAME_FAULT_")}
 # Constants of Rattle beside the statuses, and where C has them under another name.
 OTHERS = {"CFA": "DWFRAME_CFA"}
 
@@ -126,6 +128,12 @@ def main():
     for name, number in statuses:
         if numbers.get(OTHERS.get(name, f"DWFRAME_{name}")) != number:
             wrong.append(f"{name} is {number}, and in the header {numbers.get('DWFRAME_' + name)}")
+    named = []
+    for kind, (path, prefix) in ENUMS.items():
+        found = re.findall(rf"{kind}::(\w+) => (\d+),", (ROOT / path).read_text())
+        named += [(prefix + re.sub(r"(?<=[a-z])(?=[A-Z])|(?<=[A-Z])(?=[A-Z][a-z])", "_", name).upper(), number) for name, number in found]
+    if named != [(name, number) for name, number in numbers.items() if name.startswith(tuple(prefix for _, prefix in ENUMS.values()))]:
+        wrong.append("the refusals and faults of the header are not those of the library")
     print("\n".join(wrong) or f"header: {len(calls)} calls, {len(own)} structs and {len(statuses)} numbers as in the library")
     return 1 if wrong else 0
 

@@ -5,7 +5,7 @@
  * takes them out of a file. Link with libdwframe.a, which `./library` builds.
  *
  * Every call but dwframe_refusal_name answers a status. What it tells beside that it writes through pointers, at each call, also
- * where it fails.
+ * where it fails: a number that it has no answer for is 0 then.
  *
  * What a caller keeps:
  *
@@ -68,9 +68,23 @@ enum {
 /* The order of the bytes of a number. */
 enum { DWFRAME_LITTLE = 0, DWFRAME_BIG = 1 };
 
+/* What is wrong with a section. The README says of each what it means, and which byte is named. */
+enum {
+    DWFRAME_REFUSAL_TRUNCATED = 1, DWFRAME_REFUSAL_RESERVED_LENGTH = 2, DWFRAME_REFUSAL_ENTRY_PAST_END = 3,
+    DWFRAME_REFUSAL_BAD_VERSION = 4, DWFRAME_REFUSAL_AUGMENTATION = 5, DWFRAME_REFUSAL_ADDRESS_SIZE = 6,
+    DWFRAME_REFUSAL_SEGMENT_SELECTOR = 7, DWFRAME_REFUSAL_NUMBER_TOO_LARGE = 8, DWFRAME_REFUSAL_REGISTER_TOO_LARGE = 9,
+    DWFRAME_REFUSAL_NO_SUCH_CIE = 10, DWFRAME_REFUSAL_RANGE_TOO_LARGE = 11, DWFRAME_REFUSAL_UNKNOWN_INSTRUCTION = 12,
+    DWFRAME_REFUSAL_NOT_IN_CIE = 13, DWFRAME_REFUSAL_LOCATION_BACKWARDS = 14, DWFRAME_REFUSAL_LOCATION_TOO_LARGE = 15,
+    DWFRAME_REFUSAL_EMPTY_STATE_STACK = 16, DWFRAME_REFUSAL_STATE_STACK_FULL = 17,
+    DWFRAME_REFUSAL_CFA_NOT_REGISTER = 18, DWFRAME_REFUSAL_OFFSET_TOO_LARGE = 19,
+    DWFRAME_REFUSAL_UNKNOWN_OPERATION = 20, DWFRAME_REFUSAL_NOT_IN_FRAME = 21, DWFRAME_REFUSAL_BAD_BRANCH = 22,
+    DWFRAME_REFUSAL_BAD_DEREF_SIZE = 23, DWFRAME_REFUSAL_NO_CFA_RULE = 24, DWFRAME_REFUSAL_OVERLAP = 25,
+    DWFRAME_REFUSAL_SECTION_TOO_LARGE = 26, DWFRAME_REFUSAL_NORMAL_TOO_LONG = 27
+};
+
 /* Why a section is refused. All three are 0 where none is. */
 typedef struct dwframe_refusal {
-    /* 1 to 27; dwframe_refusal_name has its name. */
+    /* One of DWFRAME_REFUSAL_TRUNCATED to DWFRAME_REFUSAL_NORMAL_TOO_LONG; dwframe_refusal_name has its name. */
     uint32_t code;
     /* Which section: 1, or 2 for the second of two. */
     uint32_t section;
@@ -289,13 +303,21 @@ typedef struct dwframe_frame {
     uint32_t return_register;
 } dwframe_frame;
 
+/* What is wrong with an expression: the stack has too few entries, division by zero, a register is not given, a byte of memory is
+   missing, the memory failed, the steps are taken, nothing is left on the stack, a location and no value, no frame base, no CFA, no
+   object address, a piece is missing. */
+enum {
+    DWFRAME_FAULT_STACK_UNDERFLOW = 1, DWFRAME_FAULT_DIVIDE_BY_ZERO = 2, DWFRAME_FAULT_NO_REGISTER = 3,
+    DWFRAME_FAULT_UNREADABLE = 4, DWFRAME_FAULT_DEVICE = 5, DWFRAME_FAULT_STEP_LIMIT = 6,
+    DWFRAME_FAULT_EMPTY_RESULT = 7, DWFRAME_FAULT_NOT_A_VALUE = 8, DWFRAME_FAULT_NO_FRAME_BASE = 9,
+    DWFRAME_FAULT_NO_CFA = 10, DWFRAME_FAULT_NO_OBJECT = 11, DWFRAME_FAULT_MISSING_PIECE = 12
+};
+
 /* What is wrong in a column. All are 0 where nothing is. */
 typedef struct dwframe_fault {
     /* A register's number, or DWFRAME_CFA. */
     uint32_t column;
-    /* Of an expression: 1 the stack has too few entries, 2 division by zero, 3 a register is not given, 4 a byte of memory is
-       missing, 5 the memory failed, 6 the steps are taken, 7 nothing is left on the stack, 8 a location and no value, 9 no frame
-       base, 10 no CFA, 11 no object address, 12 a piece is missing. */
+    /* Of an expression: one of DWFRAME_FAULT_.. */
     uint32_t kind;
     /* Of an expression: which operation, counted from 0, or how many there are for a fault at the end. */
     uint64_t index;

@@ -66,7 +66,7 @@ pub enum Which {
 /// Why a section is refused, and where.
 #[derive(Clone, Copy, PartialEq, Eq)]
 pub struct Refusal {
-    /// The number of the code, 1 to 27.
+    /// The number of the code, 1 to 27: `DWFRAME_REFUSAL_..` of the C header.
     pub code: u32,
     /// Which section is refused.
     pub which: Which,

@@ -23,7 +23,7 @@ use Rattle.dw_canon.specs.Inner.Difference.{cfa_difference, rule_difference, dif
 use Rattle.dw_canon.specs.Inner.Spelling.{expression_bytes, instr_bytes, program_bytes}
 use Rattle.dw_canon.specs.Spelling.{instr_bytes as instr_with}
 use Rattle.dw_canon.specs.Spelling.{packed}
-use Rattle.dw_canon.proofs.Shared.{specified_or}
+use Rattle.dw_canon.proofs.Lent.Shared.{specified_or}
 use Rattle.dw_canon.proofs.Sums.{sum_of}
 use Rattle.dw_canon.proofs.Weights.{rule_len, cfa_len, register_len, abs_len, neg_len, packed_len}
 

@@ -12,5 +12,6 @@ pub mod InstrFits
 pub mod MemberPlaces
 pub mod Bounds
 pub mod Rendered
+pub mod Shared
 pub mod Canonical
 pub mod Joins

@@ -88,7 +88,6 @@ module _ (limit : ℕ) (initial : Rules) (begin : ℕ) (instrs : List Instr) (ro
             rules = λ r. holds.rules r ∙ ap (λ (x : RegRule). rule_after x instrs r counts.0) (same_rules r);
             listed = holds.listed;
           };
-          listed = holds.listed;
         },
       )
 

@@ -21,7 +21,7 @@ use Rattle.dw_canon.specs.Inner.Group.{initial_row}
 use Rattle.dw_canon.specs.Members.{Member, IsMember, fde_of, changes_of}
 use Rattle.dw_canon.specs.Inner.Spelling.{program_bytes}
 use Rattle.dw_canon.proofs.Costs.{bytes_more}
-use Rattle.dw_canon.proofs.Shared.{MemberFits, initial_fits, initial_or, initial_cfa_or}
+use Rattle.dw_canon.proofs.Lent.Shared.{MemberFits, initial_fits, initial_or, initial_cfa_or}
 use Rattle.dw_canon.proofs.Lent.MemberPlaces.{all_both}
 use Rattle.dw_canon.proofs.Sums.{sum_more}
 use Rattle.dw_canon.proofs.Weights.{rule_weight, cfa_weight, program_most}
@@ -38,7 +38,7 @@ pub record IsPriced (t : Target) (m : Member) (own initial : ℕ) : Type 0 where
 
 pub is_priced : (t : Target) (s : List ℕ) → AreBytes s → Accepted t s → (m : Member) (own initial : ℕ) → IsMember t s m → MemberFits t m → m.begin < m.end → HasLengths t s (fde_of m) own initial → IsPriced t m own initial
 is_priced t s b ok m own initial is fits some lengths =
-    let p = changes_programs t s b ok (fde_of m) (changes_of m) is.changes in
+    let p = changes_programs t s b ok (fde_of m) (changes_of m) is in
     let i = p.0 in
     let j = p.1 in
     let x = here t s b ok m.begin m.end i j p.2 in

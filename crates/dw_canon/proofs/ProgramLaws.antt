@@ -15,7 +15,7 @@ use Rattle.dw_canon.specs.Members.{changes_of}
 use Rattle.dw_canon.specs.Inner.Spelling.{program_bytes}
 use Rattle.dw_canon.specs.Inner.Written.{factors}
 use Rattle.dw_canon.proofs.MemberLaws.{cie_spelled, cie_kept, cie_cfa, cie_rules, member_spelled, member_kept, member_changes, member_starts}
-use Rattle.dw_section.proofs.Lent.Rowed.{one_changes, one_listed}
+use Rattle.dw_section.proofs.Lent.Rowed.{one_changes}
 
 -- without nops
 pub initial_program : InitialProgram
@@ -31,4 +31,4 @@ member_program t initial m fits stands =
     (member_spelled t initial fits m stands 0, member_kept t initial fits m stands 0, member_changes t initial fits m stands 0 (cie_instrs initial) first.2 first.3, member_starts t initial fits m stands 0)
 
 pub changes_are_one : ChangesAreOne
-changes_are_one initial instrs begin end xs ys some up down h g = one_listed xs ys (one_changes initial instrs begin end xs ys h g) up down
+changes_are_one initial instrs begin end xs ys some h g = one_changes initial instrs begin end xs ys h g

@@ -8,7 +8,7 @@ use Rattle.std.specs.Prelude.{◌↔◌, cond, count_by, slice_get}
 use Rattle.std.proofs.lemmas.List.Sums.{sum_by-cons}
 use Rattle.dw_cfa.specs.Kept.{is_remember, is_restore, remembered, restored}
 use Rattle.dw_cfa.specs.Location.{onto}
-use Rattle.dw_cfa.specs.Match.{IsBetween, HasMatch, MatchExists, RestoresMatched}
+use Rattle.dw_cfa.specs.Match.{IsBetween, MatchExists, RestoresMatched}
 use Rattle.dw_cfa.proofs.Lent.KeptLaws.{counted}
 use Rattle.dw_cfa.proofs.Lent.KeptRuns.{more_remembered, more_restored}
 

@@ -9,7 +9,7 @@ use Rattle.dw_cfa.specs.declared.execution.LocatedRow.{LocatedRow}
 use Rattle.dw_cfa.specs.InstrSpells.{Program}
 use Rattle.dw_cfa.specs.Location.{Counts}
 use Rattle.dw_cfa.specs.Kept.{CieKept, FdeKept}
-use Rattle.dw_cfa.specs.Rows.{Rules, AreSpecified}
+use Rattle.dw_cfa.specs.Rows.{Rules, AreSpecified, rule}
 use Rattle.dw_cfa.specs.Runs.{Outcome}
 use Rattle.dw_cfa.specs.RuleAt.{last_at, NeverFalls}
 use Rattle.dw_cfa.specs.Faults.{FdeFault, RunFault}
@@ -48,6 +48,14 @@ LastHolds = OfRuns (λ f cie fde begin. (rows : List LocatedRow) → Gives f cie
 -- and that is one row
 abbrev pub OneHolds : Type 0
 OneHolds = (cie fde : List Instr) (k : ℕ) (row other : Rules) → HoldsAfter cie fde k row → HoldsAfter cie fde k other → row ≡ other
+
+-- rows that list each register once, and have the same rule in every column, are one
+abbrev pub OneListing : Type 0
+OneListing = (row other : Rules) → AreSpecified 0 row.registers → AreSpecified 0 other.registers → row.cfa ≡ other.cfa → ((r : ℕ) → rule row r ≡ rule other r) → row ≡ other
+
+-- at each address from the begin on some first instructions count, and their number is one
+abbrev pub OneCount : Type 0
+OneCount = (begin : ℕ) (instrs : List Instr) (a : ℕ) → begin ≤ a → (k : ℕ) × Counts begin instrs a k × ((other : ℕ) → Counts begin instrs a other → other ≡ k)
 
 -- a CIE's program leaves one row, or has one first fault
 abbrev pub OneInitial : Type 0

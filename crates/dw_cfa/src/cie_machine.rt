@@ -110,7 +110,8 @@ impl<'a> CieMachine<'a> {
     }
 
     /// Begins an FDE's program at an address `begin` of the target, or answers want of memory. What an FDE before it
-    /// changed is taken back first. Behind want of memory `advance` answers it, until a program begins again.
+    /// changed is taken back first. Behind want of memory `advance` answers it, until a program begins again, and `row` lends
+    /// some row.
     pub fn begin(&mut self, fde_program: Program<'a>, begin: u64) -> Result<(), AllocError>
         requires { begin < address_limit self.old.target.size }
         ensures ok { OnOk result (self.new ≡ with_steps self.old (stepping self.old.initial self.new.steps.outcome)) }

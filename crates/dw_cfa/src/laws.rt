@@ -2,7 +2,7 @@
 
 ghost use Rattle.dw_cfa.specs.Match.{MatchExists, RestoresMatched};
 ghost use Rattle.dw_cfa.specs.FaultPlaces.{CieFaultsWithin, FdeFaultsWithin, RunFaultsWithin};
-ghost use Rattle.dw_cfa.specs.RowLaws.{OneRun, RefusedWhereFault, RowsWhereKept, NoneFalls, LastHolds, OneHolds, OneInitial, OneBehind, BehindWhereFault};
+ghost use Rattle.dw_cfa.specs.RowLaws.{OneRun, RefusedWhereFault, RowsWhereKept, NoneFalls, LastHolds, OneHolds, OneListing, OneCount, OneInitial, OneBehind, BehindWhereFault};
 
 /// What holds of the rows that two programs give, and of their refusal.
 pub fn row_laws()
@@ -12,6 +12,8 @@ pub fn row_laws()
     ensures forwards { NoneFalls }
     ensures holds { LastHolds }
     ensures one { OneHolds }
+    ensures listing { OneListing }
+    ensures count { OneCount }
     ensures within { RunFaultsWithin }
     ensures matched { RestoresMatched }
     ensures found { MatchExists }

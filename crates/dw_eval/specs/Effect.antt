@@ -73,47 +73,54 @@ bytes_read size (DerefSize k) = Some k
 bytes_read size other = None
 
 module _ (c : Context) where
+  abbrev size : Size
+  size = c.target.size
+
+  -- a number as a signed one of N bits
+  abbrev as_signed : ℕ → ℤ
+  as_signed v = signed c.target.size v
+
   -- the effect of an operation on the stack
   abbrev pub effect : Op → List ℕ → Outcome
-  effect (Addr a) stack = push c.target.size a stack
-  effect Deref stack = on_top stack (λ t below. known Unreadable (read_at c t (byte_count c.target.size)) (λ v. push c.target.size v below))
-  effect (Const v) stack = push c.target.size v stack
+  effect (Addr a) stack = push size a stack
+  effect Deref stack = on_top stack (λ t below. known Unreadable (read_at c t (byte_count size)) (λ v. push size v below))
+  effect (Const v) stack = push size v stack
   effect Dup stack = on_top stack (λ t below. Next (t ∷ t ∷ below))
   effect Drop stack = on_top stack (λ t below. Next below)
   effect Over stack = on_two stack (λ s t below. Next (s ∷ t ∷ s ∷ below))
   effect (Pick i) stack = known StackUnderflow (slice_get stack i) (λ v. Next (v ∷ stack))
   effect Swap stack = on_two stack (λ s t below. Next (s ∷ t ∷ below))
   effect Rot stack = on_three stack (λ third s t below. Next (s ∷ third ∷ t ∷ below))
-  effect Abs stack = on_top stack (λ t below. push c.target.size (unsigned_abs (signed c.target.size t)) below)
-  effect And stack = on_two stack (λ s t below. push c.target.size (bit_and s t) below)
-  effect Div stack = on_two stack (λ s t below. if nat_eq (t % address_limit c.target.size) 0 then Faults DivideByZero else push_signed c.target.size (int_div (signed c.target.size s) (signed c.target.size t)) below)
-  effect Minus stack = on_two stack (λ s t below. push_signed c.target.size (pos s -ℤ pos t) below)
-  effect Mod stack = on_two stack (λ s t below. if nat_eq t 0 then Faults DivideByZero else push c.target.size (s % t) below)
-  effect Mul stack = on_two stack (λ s t below. push c.target.size (s * t) below)
-  effect Neg stack = on_top stack (λ t below. push_signed c.target.size (pos 0 -ℤ pos t) below)
+  effect Abs stack = on_top stack (λ t below. push size (unsigned_abs (as_signed t)) below)
+  effect And stack = on_two stack (λ s t below. push size (bit_and s t) below)
+  effect Div stack = on_two stack (λ s t below. if nat_eq (t % address_limit size) 0 then Faults DivideByZero else push_signed size (int_div (as_signed s) (as_signed t)) below)
+  effect Minus stack = on_two stack (λ s t below. push_signed size (pos s -ℤ pos t) below)
+  effect Mod stack = on_two stack (λ s t below. if nat_eq t 0 then Faults DivideByZero else push size (s % t) below)
+  effect Mul stack = on_two stack (λ s t below. push size (s * t) below)
+  effect Neg stack = on_top stack (λ t below. push_signed size (pos 0 -ℤ pos t) below)
   -- all bits turned: -1 - t
-  effect Not stack = on_top stack (λ t below. push_signed c.target.size (pos 0 -ℤ pos (t + 1)) below)
-  effect Or stack = on_two stack (λ s t below. push c.target.size (bit_or s t) below)
-  effect Plus stack = on_two stack (λ s t below. push c.target.size (s + t) below)
-  effect (PlusUconst n) stack = on_top stack (λ t below. push c.target.size (t + n) below)
-  effect Shl stack = on_two stack (λ s t below. push c.target.size (shifted_left c.target.size s t) below)
-  effect Shr stack = on_two stack (λ s t below. push c.target.size (shifted_right c.target.size s t) below)
-  effect Shra stack = on_two stack (λ s t below. push_signed c.target.size (shifted_signed c.target.size s t) below)
-  effect Xor stack = on_two stack (λ s t below. push c.target.size (bit_xor s t) below)
+  effect Not stack = on_top stack (λ t below. push_signed size (pos 0 -ℤ pos (t + 1)) below)
+  effect Or stack = on_two stack (λ s t below. push size (bit_or s t) below)
+  effect Plus stack = on_two stack (λ s t below. push size (s + t) below)
+  effect (PlusUconst n) stack = on_top stack (λ t below. push size (t + n) below)
+  effect Shl stack = on_two stack (λ s t below. push size (shifted_left size s t) below)
+  effect Shr stack = on_two stack (λ s t below. push size (shifted_right size s t) below)
+  effect Shra stack = on_two stack (λ s t below. push_signed size (shifted_signed size s t) below)
+  effect Xor stack = on_two stack (λ s t below. push size (bit_xor s t) below)
   effect (Bra i) stack = on_top stack (λ t below. if nat_eq t 0 then Next below else Jump i below)
   effect Eq stack = on_two stack (λ s t below. tell (nat_eq s t) below)
-  effect Ge stack = on_two stack (λ s t below. tell (int_le (signed c.target.size t) (signed c.target.size s)) below)
-  effect Gt stack = on_two stack (λ s t below. tell (int_lt (signed c.target.size t) (signed c.target.size s)) below)
-  effect Le stack = on_two stack (λ s t below. tell (int_le (signed c.target.size s) (signed c.target.size t)) below)
-  effect Lt stack = on_two stack (λ s t below. tell (int_lt (signed c.target.size s) (signed c.target.size t)) below)
+  effect Ge stack = on_two stack (λ s t below. tell (int_le (as_signed t) (as_signed s)) below)
+  effect Gt stack = on_two stack (λ s t below. tell (int_lt (as_signed t) (as_signed s)) below)
+  effect Le stack = on_two stack (λ s t below. tell (int_le (as_signed s) (as_signed t)) below)
+  effect Lt stack = on_two stack (λ s t below. tell (int_lt (as_signed s) (as_signed t)) below)
   effect Ne stack = on_two stack (λ s t below. tell (not (nat_eq s t)) below)
   effect (Skip i) stack = Jump i stack
-  effect (Breg r n) stack = known NoRegister (c.register r) (λ v. push_signed c.target.size (pos v +ℤ n) stack)
-  effect (Fbreg n) stack = known NoFrameBase c.frame_base (λ v. push_signed c.target.size (pos v +ℤ n) stack)
-  effect (DerefSize k) stack = on_top stack (λ t below. known Unreadable (read_at c t k) (λ v. push c.target.size v below))
+  effect (Breg r n) stack = known NoRegister (c.register r) (λ v. push_signed size (pos v +ℤ n) stack)
+  effect (Fbreg n) stack = known NoFrameBase c.frame_base (λ v. push_signed size (pos v +ℤ n) stack)
+  effect (DerefSize k) stack = on_top stack (λ t below. known Unreadable (read_at c t k) (λ v. push size v below))
   effect Nop stack = Next stack
-  effect PushObjectAddress stack = known NoObject c.object (λ v. push c.target.size v stack)
-  effect CallFrameCfa stack = known NoCfa c.cfa (λ v. push c.target.size v stack)
+  effect PushObjectAddress stack = known NoObject c.object (λ v. push size v stack)
+  effect CallFrameCfa stack = known NoCfa c.cfa (λ v. push size v stack)
   effect StackValue stack = on_top stack (λ t below. Faults NotAValue)
   -- the others give a place, which is no value
   effect other stack = Faults NotAValue

@@ -1,5 +1,5 @@
 -- The value of an expression: DWARF 5, 2.5.
-use Rattle.std.specs.Prelude.{ℕ, ◌+◌, ◌%◌, List, [], ◌∷◌, length, Option, Some, None, Result, Ok, Err}
+use Rattle.std.specs.Prelude.{ℕ, ◌%◌, List, [], ◌∷◌, length, Option, Some, None, Result, Ok, Err}
 use Rattle.dw_num.specs.declared.target.Size.{Size}
 use Rattle.dw_num.specs.Target.{address_limit}
 use Rattle.dw_op.specs.declared.op.Op.{Op}

@@ -1,5 +1,5 @@
 -- What holds of evaluations, for the layers above.
-use Rattle.std.specs.Prelude.{◌≡◌, ℕ, ◌<◌, List, Ok}
+use Rattle.std.specs.Prelude.{ℕ, ◌<◌, List, Ok}
 use Rattle.dw_op.specs.declared.op.Op.{Op}
 use Rattle.dw_op.specs.Ranges.{AllInRange}
 use Rattle.dw_num.specs.Target.{address_limit}

@@ -120,7 +120,8 @@ fn run<M: Memory>(
 /// end, that is no fault. Takes memory where the stack grows, and answers `OutOfMemory` where it is refused.
 ///
 /// A fault names the operation that it comes from: `StepLimit` the one that is not executed since so many
-/// steps were taken, `EmptyResult` the end. `Device` is answered exactly where the memory's count of failures grew.
+/// steps were taken, `EmptyResult` the end. `Device` is answered exactly where the memory's count of failures grew; which of
+/// several reads failed is not said by the contract.
 /// All kinds of `Kind` may come but `MissingPiece`.
 pub fn evaluate<M: Memory>(
     alloc: Global,

@@ -18,7 +18,7 @@ use Rattle.dw_canon.specs.Inner.Canon.{initial_of}
 use Rattle.dw_canon.specs.Group.{group}
 use Rattle.dw_section.specs.Changes.{kept_by}
 use Rattle.dw_canon.specs.Members.{Member, AreMembers, IsMember, fde_of}
-use Rattle.dw_canon.proofs.Shared.{MemberFits}
+use Rattle.dw_canon.proofs.Lent.Shared.{MemberFits}
 use Rattle.dw_canon.proofs.Lent.Joins.{PartOf, first_part, joined_again, next_part}
 use Rattle.dw_canon.proofs.Lent.MemberPlaces.{group_fits}
 use Rattle.dw_canon.proofs.Lent.Rendered.{fits, nonempty}
@@ -90,7 +90,7 @@ module _ (t : Target) (s : List ℕ) (b : AreBytes s) (ok : Accepted t s) (ms : 
       let m = get_or ms k d in
       let is = all_get (IsMember t s) ms k d are.each lt in
       let some : m.begin < m.end = all_get (λ (n : Member). n.begin < n.end) ms k d (nonempty t s b ok ms are) lt in
-      opened t s b ok (fde_of m) at (m.begin, m.first) m.later o some is.changes
+      opened t s b ok (fde_of m) at (m.begin, m.first) m.later o some is
 
   pub joined : (d : Member) (place k at : ℕ) → place < length ms → k < length ms → (rows : List (ℕ × Rules)) → rows ≡ initial_rows (take place ms) → OpensBehind t s (fde_of (get_or ms place d)) at
       → OpensBehind t s (fde_of (get_or ms k d)) at → (get_or ms k d).register ≡ (get_or ms place d).register → with_member (with_member rows (get_or ms place d)) (get_or ms k d) ≡ with_member rows (get_or ms place d)

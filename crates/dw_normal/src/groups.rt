@@ -6,7 +6,6 @@ ghost use Rattle.std.specs.Ordering.{nat_cmp};
 ghost use Rattle.dw_cfa.specs.Rows.{Rules};
 ghost use Rattle.dw_section.specs.declared.lookup.Fde.{Fde as TheFde};
 ghost use Rattle.dw_section.specs.Changes.{kept_by};
-ghost use Rattle.dw_section.specs.Laws.{AreListed};
 ghost use Rattle.dw_section.specs.Meaning.{AreFdes, ChangesOf};
 ghost use Rattle.dw_section.specs.Opening.{OpensBehind};
 ghost use Rattle.dw_canon.specs.Inner.Canon.{canon};
@@ -30,7 +29,6 @@ fn show_first<'a>(
 ) -> Result<(), AllocError>
     requires place { (fs : List TheFde) → AreFdes table.now.target table.now.bytes fs → fde.place < length fs }
     requires changes { (fs : List TheFde) → AreFdes table.now.target table.now.bytes fs → (d : TheFde) → ChangesOf table.now.target table.now.bytes (slice_index_or fs fde.place d) changes.old.to_come }
-    requires listed { AreListed changes.old.to_come }
     ensures behind { (ms : List Member) → AreMembers table.now.target table.now.bytes ms → (d : Member) → OnOk result (BehindFirst (slice_index_or ms fde.place d) changes.new) }
     ensures section { changes.new.section ≡ changes.old.section }
 {
@@ -157,7 +155,6 @@ fn join_fde<'a>(
 ) -> Result<Option<Joined>, AllocError>
     requires place { (fs : List TheFde) → AreFdes table.now.target table.now.bytes fs → fde.place < length fs }
     requires changes { (fs : List TheFde) → AreFdes table.now.target table.now.bytes fs → (d : TheFde) → ChangesOf table.now.target table.now.bytes (slice_index_or fs fde.place d) changes.old.to_come }
-    requires listed { AreListed changes.old.to_come }
     requires opens { (fs : List TheFde) → AreFdes table.now.target table.now.bytes fs → (d : TheFde) → IfSome cie_at (OpensBehind table.now.target table.now.bytes (slice_index_or fs fde.place d)) }
     requires rows { (ms : List Member) → AreMembers table.now.target table.now.bytes ms → rows.old.entries ≡ initial_rows (take fde.place ms) }
     requires joined { HasJoined table.now.target table.now.bytes rows.old.entries joined }

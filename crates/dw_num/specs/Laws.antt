@@ -1,7 +1,9 @@
 -- What holds of reads and of spellings, for the layers above.
-use Rattle.std.specs.Prelude.{◌≡◌, ℕ, ℤ, ◌+◌, ◌≤◌, List, length, Ok, Err}
+use Rattle.std.specs.Prelude.{◌≡◌, ℕ, ℤ, ◌+◌, ◌^◌, ◌<◌, ◌≤◌, List, ◌++◌, length, Ok, Err, FitsSigned}
+use Rattle.std.specs.Int.{w64}
 use Rattle.dw_num.specs.Input.{Input}
 use Rattle.dw_num.specs.Front.{Read, take_at, fixed_at, address_at, unit_length_at, uleb_at, sleb_at, register_at}
+use Rattle.dw_num.specs.Shortest.{shortest_uleb, shortest_sleb}
 use Rattle.dw_num.specs.ShortestLeb.{PutsUleb, PutsSleb}
 
 -- something holds of one value and of no other
@@ -38,3 +40,10 @@ OneUleb = (v : ℕ) (old one other : List ℕ) → PutsUleb v old one → PutsUl
 
 abbrev pub OneSleb : Type 0
 OneSleb = (v : ℤ) (old one other : List ℕ) → PutsSleb v old one → PutsSleb v old other → one ≡ other
+
+-- what is computed as its shortest spelling is that
+abbrev pub ShortestUleb : Type 0
+ShortestUleb = (v : ℕ) (old : List ℕ) → v < 2 ^ 64 → PutsUleb v old (old ++ shortest_uleb v)
+
+abbrev pub ShortestSleb : Type 0
+ShortestSleb = (v : ℤ) (old : List ℕ) → FitsSigned w64 v → PutsSleb v old (old ++ shortest_sleb v)

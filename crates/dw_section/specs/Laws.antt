@@ -1,11 +1,11 @@
 -- Laws of sections, for the layers above.
-use Rattle.std.specs.Prelude.{◌≡◌, ℕ, ◌<◌, ◌≤◌, List, length, map}
+use Rattle.std.specs.Prelude.{◌≡◌, ℕ, ◌<◌, ◌≤◌, List, ◌∷◌, ◌++◌, length, map}
 use Rattle.std.specs.List.{AllByRecursion, AllZip}
 use Rattle.dw_num.specs.declared.target.Target.{Target}
 use Rattle.dw_num.specs.Input.{AreBytes}
 use Rattle.dw_cfa.specs.declared.instr.Instr.{Instr}
 use Rattle.dw_cfa.specs.Location.{row_starts}
-use Rattle.dw_cfa.specs.Rows.{Rules, AreSpecified, rule}
+use Rattle.dw_cfa.specs.Rows.{Rules, rule}
 use Rattle.dw_section.specs.declared.lookup.Fde.{Fde}
 use Rattle.dw_num.specs.declared.refusal.Refusal.{Refusal}
 use Rattle.dw_section.specs.Accepted.{Accepted, CheckFault}
@@ -13,7 +13,7 @@ use Rattle.dw_op.specs.Faults.{IsWithin}
 use Rattle.dw_section.specs.Changes.{AreChanges}
 use Rattle.dw_section.specs.Headers.{Head, Headers}
 use Rattle.dw_section.specs.Meaning.{Says, AreFdes, Covers, RulesAt, ChangesOf, RowStarts, total}
-use Rattle.dw_section.specs.Meanings.{SameRow, SameMeaning}
+use Rattle.dw_section.specs.Meanings.{SameMeaning}
 use Rattle.dw_section.specs.Among.{IsAmong}
 use Rattle.dw_cfa.specs.declared.rule.CfaRule.{CfaRule}
 use Rattle.dw_cfa.specs.declared.rule.CfaRule.TheVariants as cfa
@@ -24,10 +24,6 @@ use Rattle.dw_cfa.specs.declared.rule.RegRule.TheVariants.{Expression, ValExpres
 -- the first fault of a section lies in it or at its end
 abbrev pub FaultsWithin : Type 0
 FaultsWithin = (target : Target) (s : List ℕ) (r : Refusal) → AreBytes s → CheckFault target s r → IsWithin s r
-
--- rows that list each register once, ascending
-abbrev pub AreListed : List (ℕ × Rules) → Type 0
-AreListed changes = AllByRecursion (λ (change : ℕ × Rules). AreSpecified 0 change.1.registers) changes
 
 abbrev pub OneHeaders : Type 0
 OneHeaders = (target : Target) (s : List ℕ) (hs ks : List Head) → Headers target s hs → Headers target s ks → hs ≡ ks
@@ -41,20 +37,38 @@ FdesExist = (target : Target) (s : List ℕ) → AreBytes s → Accepted target 
 -- each FDE of an accepted section has changes
 abbrev pub ChangesExist : Type 0
 ChangesExist = (target : Target) (s : List ℕ) → AreBytes s → Accepted target s → (fs : List Fde) (f : Fde) → AreFdes target s fs → IsAmong f fs
-    → (changes : List (ℕ × Rules)) × ChangesOf target s f changes × AreListed changes
+    → (changes : List (ℕ × Rules)) × ChangesOf target s f changes
 
 -- and one list of them
 abbrev pub OneChanges : Type 0
-OneChanges = (target : Target) (s : List ℕ) → AreBytes s → Accepted target s → (f : Fde) (xs ys : List (ℕ × Rules)) → f.begin < f.end → ChangesOf target s f xs → ChangesOf target s f ys → AreListed xs → AreListed ys → xs ≡ ys
+OneChanges = (target : Target) (s : List ℕ) → AreBytes s → Accepted target s → (f : Fde) (xs ys : List (ℕ × Rules)) → f.begin < f.end → ChangesOf target s f xs → ChangesOf target s f ys → xs ≡ ys
 
 -- each address of an FDE has rules
 abbrev pub RulesExist : Type 0
 RulesExist = (target : Target) (s : List ℕ) → AreBytes s → Accepted target s → (fs : List Fde) (f : Fde) (a : ℕ) → AreFdes target s fs → IsAmong f fs → Covers a f
-    → (row : Rules) × RulesAt target s a row × AreSpecified 0 row.registers
+    → (row : Rules) × RulesAt target s a row
+
+-- and an address that has rules is one of an FDE
+abbrev pub RulesCovered : Type 0
+RulesCovered = (target : Target) (s : List ℕ) → AreBytes s → Accepted target s → (fs : List Fde) (a : ℕ) (row : Rules) → AreFdes target s fs → RulesAt target s a row
+    → (f : Fde) × IsAmong f fs × Covers a f
 
 -- the rules at an address are one
 abbrev pub OneRules : Type 0
-OneRules = (target : Target) (s : List ℕ) → AreBytes s → Accepted target s → (a : ℕ) (x y : Rules) → RulesAt target s a x → RulesAt target s a y → SameRow x y
+OneRules = (target : Target) (s : List ℕ) → AreBytes s → Accepted target s → (a : ℕ) (x y : Rules) → RulesAt target s a x → RulesAt target s a y → x ≡ y
+
+-- of changes this is the last one at or below an address
+pub record IsLastAt (a : ℕ) (changes : List (ℕ × Rules)) (change : ℕ × Rules) : Type 0 where
+  pub before : List (ℕ × Rules)
+  pub after : List (ℕ × Rules)
+  pub whole : changes ≡ before ++ change ∷ after
+  pub from : change.0 ≤ a
+  pub above : AllByRecursion (λ (later : ℕ × Rules). a < later.0) after
+
+-- whose row has the rules at each address of its FDE
+abbrev pub LastChangeRules : Type 0
+LastChangeRules = (target : Target) (s : List ℕ) (f : Fde) (changes : List (ℕ × Rules)) → ChangesOf target s f changes
+    → (a : ℕ) (change : ℕ × Rules) → Covers a f → IsLastAt a changes change → RulesAt target s a change.1
 
 -- an FDE starts at least as many rows as it has changes
 abbrev pub LeastStarts : Type 0

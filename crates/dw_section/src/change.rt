@@ -203,7 +203,8 @@ impl<'a> Changes<'a> {
         change
     }
 
-    /// The row of the change that `advance` or `next` went on to, also behind the last one, and none before the first one.
+    /// The row of the change that `advance` or `next` went on to, also behind the last one, and none before the first one. Behind
+    /// want of memory it is some row, or none.
     #[inline(always)]
     pub fn row(&self) -> Option<&Row<'a>>
         ensures { MatchOption result (self.now.shown ≡ None) (λ row. self.now.shown ≡ Some row.now) }

@@ -6,7 +6,6 @@ ghost use Rattle.dw_cfa.specs.declared.instr.Instr.{Instr};
 ghost use Rattle.dw_cfa.specs.InstrSpells.{Program as ProgramSpells};
 ghost use Rattle.dw_cfa.specs.Opening.{moves_first};
 ghost use Rattle.dw_section.specs.declared.lookup.Fde.{Fde as TheFde};
-ghost use Rattle.dw_section.specs.Laws.{AreListed};
 ghost use Rattle.dw_section.specs.Meaning.{AreFdes, ChangesOf, HasLengths};
 ghost use Rattle.dw_section.specs.Opening.{OpensBehind};
 
@@ -52,7 +51,6 @@ impl<'a> Table<'a> {
         ensures before { changes.new.before ≡ None }
         ensures section { changes.new.section ≡ self.now }
         ensures changes { (fs : List TheFde) → AreFdes self.now.target self.now.bytes fs → (d : TheFde) → ChangesOf self.now.target self.now.bytes (slice_index_or fs fde.place d) changes.new.to_come }
-        ensures listed { AreListed changes.new.to_come }
         ensures lengths { (fs : List TheFde) → AreFdes self.now.target self.now.bytes fs → (d : TheFde) → HasLengths self.now.target self.now.bytes (slice_index_or fs fde.place d) result.own result.initial }
         ensures opens { (fs : List TheFde) → AreFdes self.now.target self.now.bytes fs → (d : TheFde) → IfSome result.cie_at (OpensBehind self.now.target self.now.bytes (slice_index_or fs fde.place d)) }
         ensures only { (fs : List TheFde) → AreFdes self.now.target self.now.bytes fs → (d : TheFde) (place : ℕ) → OpensBehind self.now.target self.now.bytes (slice_index_or fs fde.place d) place → IsSome result.cie_at }

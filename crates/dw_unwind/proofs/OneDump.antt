@@ -18,6 +18,7 @@ use Rattle.dw_unwind.specs.Laws.{OneDump, NamesLine}
 use Rattle.dw_unwind.specs.Spelling.{Says, SkippedLine, number_behind, Hexadecimal, RegisterName, HexPairs}
 use Rattle.dw_unwind.specs.Statement.{Statement, Item, Fits, nothing, counter_is, register_is, memory_is, told, times}
 use Rattle.dw_unwind.proofs.Words.{digits_lack_space, register_parts, memory_parts}
+use Rattle.dw_unwind.proofs.DumpExists.{dump_exists}
 
 one_number : (v w : ℕ) (a b : List ℕ) → Hexadecimal v a → Hexadecimal w b → a ≡ b → v ≡ w
 one_number v w a b h k same = let both : Some v ≡ Some w = sym h.number ∙ subst (λ (t : List ℕ). number_behind 16 0 t ≡ Some w) (sym same) k.number in cc
@@ -172,6 +173,7 @@ one_fault limit lines f g v w = elim (cases_lt (length v.before) (length w.befor
 
 pub one_dump : OneDump
 one_dump = record {
+  exists = dump_exists;
   said = λ limit lines ss ts v w. said_one limit lines ss ts v.each w.each;
   fault = one_fault;
   apart = said_has_no_fault;

@@ -14,7 +14,6 @@ use Rattle.dw_eval.proofs.Lent.Results.{same_value}
 use Rattle.dw_section.specs.declared.lookup.Fde.{Fde}
 use Rattle.dw_section.specs.Accepted.{Accepted}
 use Rattle.dw_section.specs.Headers.{Head}
-use Rattle.dw_section.specs.Meanings.{SameRow}
 use Rattle.dw_section.specs.Among.{IsAmong}
 use Rattle.dw_section.specs.Meaning.{Lists, Covers, NoneCovers}
 use Rattle.dw_section.specs.Overlap.{Range, AreApart, IsIndex, end_of}
@@ -28,7 +27,7 @@ use Rattle.dw_unwind.specs.declared.frame.Policy.{Policy}
 use Rattle.dw_unwind.specs.declared.frame.UnwindError.{UnwindError}
 use Rattle.dw_unwind.specs.Columns.{in_column, recovered, on_value, saved_at, on_cfa, ValueIs, SavedBy, CfaIs, RegisterIs}
 use Rattle.dw_unwind.proofs.FrameLaws.{value_of}
-use Rattle.dw_unwind.specs.Unwound.{IsCovered, IsUncovered, is_listed, Rise, Has, IsListed, Recovers, AreRegisters, RegistersAre, FrameIs, OneFrame}
+use Rattle.dw_unwind.specs.Unwound.{IsCovered, IsUncovered, Rise, Has, IsListed, Recovers, AreRegisters, RegistersAre, FrameIs, OneFrame}
 
 -- ---- columns
 
@@ -206,42 +205,6 @@ module _ (target : Target) (s : List ℕ) (a : ℕ) where
       let fde = one_fde v.are.headers a v.are.index v.fdes v.fde w.fde (subst AreApart (sym index) accepted.2) v.are.each v.among among v.covers w.covers in
       v.returns ∙ ap (λ (d : Fde). d.return_register) fde ∙ sym w.returns
 
--- ---- the same rules
-
-module _ (c : Context) (limit : ℕ) (policy : Policy) (row other : Rules) (register : ℕ) (same : SameRow row other) where
-  abbrev Listed_there : (r : ℕ) → Type 0
-  Listed_there r = IsListed c limit policy row register r
-
-  listed_same : (r : ℕ) → is_listed c.register row register r ≡ is_listed c.register other register r
-  listed_same r = rw (same.rules r) refl
-
-  register_moved : (cfa r : ℕ) (answer : Result (Option ℕ) UnwindError) → Recovers c limit policy other register cfa r answer → Recovers c limit policy row register cfa r answer
-  register_moved cfa r answer h = subst (λ (x : RegRule). RegisterIs c limit policy cfa r x answer) (sym (same.rules r)) h
-
-  cfa_moved : (answer : Result ℕ UnwindError) → CfaIs c limit other.cfa answer → CfaIs c limit row.cfa answer
-  cfa_moved answer h = subst (λ (x : CfaRule). CfaIs c limit x answer) (sym same.cfa) h
-
-  each_moved : (cfa : ℕ) (es : List Entry) → AllByRecursion (λ (e : Entry). IsListed c limit policy other register e.0 × Recovers c limit policy other register cfa e.0 (Ok e.1)) es
-      → AllByRecursion (λ (e : Entry). IsListed c limit policy row register e.0 × Recovers c limit policy row register cfa e.0 (Ok e.1)) es
-  each_moved cfa [] h = tt
-  each_moved cfa (e ∷ es) h = ((listed_same e.0 ∙ h.0.0, register_moved cfa e.0 (Ok e.1) h.0.1), each_moved cfa es h.1)
-
-  registers_moved : (cfa : ℕ) (answer : Result (List Entry) UnwindError) → RegistersAre c limit policy other register cfa answer → RegistersAre c limit policy row register cfa answer
-  registers_moved cfa (Ok es) h = record { rise = h.rise; each = each_moved cfa es h.each; all = λ r is. h.all r (sym (listed_same r) ∙ is) }
-  registers_moved cfa (Err e) h = (
-    h.0,
-    record {
-      listed = listed_same h.0 ∙ h.1.listed;
-      earlier = λ q lt is. let found = h.1.earlier q lt (sym (listed_same q) ∙ is) in (found.0, register_moved cfa q (Ok found.0) found.1);
-    },
-    register_moved cfa h.0 (Err e) h.2,
-  )
-
-  frame_moved : (answer : Result Frame UnwindError) → FrameIs c limit policy other register answer → FrameIs c limit policy row register answer
-  frame_moved (Ok f) h = (cfa_moved (Ok f.cfa) h.0, h.1, registers_moved f.cfa (Ok f.registers) h.2)
-  frame_moved (Err e) (inl h) = inl (cfa_moved (Err e) h)
-  frame_moved (Err e) (inr h) = inr (h.0, cfa_moved (Ok h.0) h.1, registers_moved h.0 (Err e) h.2)
-
 pub one_frame : OneFrame
 one_frame target s pc c policy limit answer other bytes accepted (inl v) (inl w) = v.0 ∙ sym w.0
 one_frame target s pc c policy limit answer other bytes accepted (inl v) (inr w) = absurd (apart target s pc w.0 w.1 v.1 w.2)
@@ -250,4 +213,4 @@ one_frame target s pc c policy limit answer other bytes accepted (inr v) (inr w)
     let register : w.0 ≡ v.0 = sym (one_returns target s pc v.0 w.0 v.1 w.1 accepted v.2 w.2) in
     let row = one_rules target s bytes accepted pc v.1 w.1 v.2.rules w.2.rules in
     let moved : FrameIs c limit policy w.1 v.0 other = subst (λ (n : ℕ). FrameIs c limit policy w.1 n other) register w.3 in
-    one_of_row c limit policy v.1 v.0 answer other v.3 (frame_moved c limit policy v.1 w.1 v.0 row other moved)
+    one_of_row c limit policy v.1 v.0 answer other v.3 (subst (λ (r : Rules). FrameIs c limit policy r v.0 other) (sym row) moved)

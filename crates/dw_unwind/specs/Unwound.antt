@@ -117,7 +117,7 @@ is_device (Device column) = true
 is_device (Eval kinds.Device i column) = true
 is_device e = false
 
--- a section gives one frame, or one fault
+-- a section gives at most one frame or fault
 abbrev pub OneFrame : Type 0
 OneFrame = (target : Target) (s : List ℕ) (pc : ℕ) (c : Context) (policy : Policy) (limit : ℕ) (answer other : Result Frame UnwindError)
     → AreBytes s → Accepted target s → Unwound target s pc c policy limit answer → Unwound target s pc c policy limit other → answer ≡ other

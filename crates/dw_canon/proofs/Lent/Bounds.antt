@@ -31,7 +31,7 @@ use Rattle.dw_canon.proofs.Lent.InstrFits as fitting
 use Rattle.dw_canon.proofs.Prices.{IsPriced, is_priced, fde_len, cie_len}
 use Rattle.dw_canon.proofs.Lent.Rendered.{fits, stand, nonempty, low_registers}
 use Rattle.dw_canon.proofs.AscendingRegisters.{Rise, with_all_rise}
-use Rattle.dw_canon.proofs.Shared.{MemberFits}
+use Rattle.dw_canon.proofs.Lent.Shared.{MemberFits}
 use Rattle.dw_canon.proofs.Squares.{changes_most}
 use Rattle.dw_canon.proofs.Lent.MemberPlaces.{all_some}
 use Rattle.dw_canon.proofs.Sums.{sum_of, if_own, once_own, sum_once}

@@ -15,7 +15,8 @@ use Rattle.dw_section.specs.Meanings.{SameMeaning}
 use Rattle.dw_section.specs.Among.{IsAmong}
 use Rattle.dw_canon.specs.Inner.Renders.{ReadsBack}
 use Rattle.dw_section.proofs.Lent.Sections.{fdes_exist, listed_programs}
-use Rattle.dw_section.proofs.Lent.Exists.{listed_change, one_change_list, meaning_changes}
+use Rattle.dw_section.proofs.Lent.Exists.{listed_change, meaning_changes}
+use Rattle.dw_section.proofs.Lent.Sames.{one_change_list}
 use Rattle.dw_canon.specs.Inner.Laid.{Group, Part, cie_of, laid}
 use Rattle.dw_canon.specs.Inner.Laid as layout
 use Rattle.dw_canon.specs.Inner.Written.{Written, section_bytes}
@@ -28,14 +29,13 @@ use Rattle.dw_canon.specs.Inner.Canon.{canon, initial_of}
 use Rattle.dw_canon.specs.Inner.Fits.{MemberStands}
 use Rattle.dw_canon.specs.Laws.{NormalFormExists, NormalFormIsOne, MeaningIsKept, NormalAgain, SameNormalForm, FewestRows, NormalRows}
 use Rattle.dw_canon.specs.Members.{Member, fde_of, changes_of, IsMember, AreMembers}
-use Rattle.dw_section.specs.Laws.{AreListed}
 use Rattle.dw_canon.specs.Normal.{IsNormalForm}
 use Rattle.dw_canon.proofs.Kept.{reads_back}
 use Rattle.dw_canon.proofs.Lent.Forms.{is_normal, whole_is}
 use Rattle.dw_canon.proofs.Lent.Layout.{laid_is}
 use Rattle.dw_canon.proofs.ProgramLaws.{member_program}
 use Rattle.dw_canon.proofs.Lent.Rendered.{renders, fits, stand}
-use Rattle.dw_canon.proofs.Shared.{MemberFits}
+use Rattle.dw_canon.proofs.Lent.Shared.{MemberFits}
 use Rattle.dw_canon.proofs.Lent.MemberPlaces.{group_fits}
 
 -- ---- members exist
@@ -46,12 +46,12 @@ record Made (t : Target) (s : List ℕ) (f : Fde) : Type 0 where
   is : IsMember t s member
   of : fde_of member ≡ f
 
-made_of : (t : Target) (s : List ℕ) (f : Fde) (changes : List (ℕ × Rules)) (h : ChangesOf t s f changes) → AreListed changes → AreChanges h.initial h.instrs f.begin f.end changes → Made t s f
-made_of t s f [] h up c = absurd c
-made_of t s f (first ∷ later) h up c =
+made_of : (t : Target) (s : List ℕ) (f : Fde) (changes : List (ℕ × Rules)) (h : ChangesOf t s f changes) → AreChanges h.initial h.instrs f.begin f.end changes → Made t s f
+made_of t s f [] h c = absurd c
+made_of t s f (first ∷ later) h c =
     let m : Member = record { begin = f.begin; end = f.end; register = f.return_register; first = first.1; later = later } in
     let same : (first ∷ later) ≡ changes_of m = ap (λ (n : ℕ). (n, first.1) ∷ later) c.0 in
-    record { member = m; is = record { changes = subst (ChangesOf t s f) same h; listed = subst AreListed same up }; of = refl }
+    record { member = m; is = subst (ChangesOf t s f) same h; of = refl }
 
 members_of : (t : Target) (s : List ℕ) (fs : List Fde) → ((f : Fde) → IsAmong f fs → Made t s f) → (ms : List Member) × (map fde_of ms ≡ fs) × AllByRecursion (IsMember t s) ms
 members_of t s [] h = ([], refl, tt)
@@ -63,7 +63,7 @@ members_of t s (f ∷ fs) h =
 pub members_exist : (t : Target) (s : List ℕ) → AreBytes s → Accepted t s → (ms : List Member) × AreMembers t s ms
 members_exist t s b ok =
     let fdes = fdes_exist t s b ok in
-    let made = members_of t s fdes.0 (λ f i. let c = listed_change t s b ok fdes.0 f fdes.1 i in made_of t s f c.0 c.1 c.2 c.1.change) in
+    let made = members_of t s fdes.0 (λ f i. let c = listed_change t s b ok fdes.0 f fdes.1 i in made_of t s f c.0 c.1 c.1.change) in
     (made.0, record { fdes = subst (AreFdes t s) (sym made.1) fdes.1; each = made.2 })
 
 -- ---- and are one list
@@ -94,8 +94,8 @@ one_list : (t : Target) (s : List ℕ) (b : AreBytes s) (ok : Accepted t s) (ms 
 one_list t s b ok [] [] e some h k = refl
 one_list t s b ok (m ∷ ms) (x ∷ ks) e some h k =
     let same = head_is m x ms ks e in
-    let there = subst (λ (f : Fde). ChangesOf t s f (changes_of x)) (sym same) k.0.changes in
-    let changes = one_change_list t s b ok (fde_of m) (changes_of m) (changes_of x) some.0 h.0.changes there h.0.listed k.0.listed in
+    let there = subst (λ (f : Fde). ChangesOf t s f (changes_of x)) (sym same) k.0 in
+    let changes = one_change_list t s b ok (fde_of m) (changes_of m) (changes_of x) some.0 h.0 there in
     let first = member_is m x same changes in
     let rest = one_list t s b ok ms ks (tail_is m x ms ks e) some.1 h.1 k.1 in
     ap (λ (y : Member). y ∷ ms) first ∙ ap (λ (l : List Member). x ∷ l) rest
@@ -115,7 +115,7 @@ members_there : (t : Target) (s n : List ℕ) (fs : List Fde) (xs : List Member)
     → ((f : Fde) (changes : List (ℕ × Rules)) → IsAmong f fs → ChangesOf t s f changes → ChangesOf t n f changes) → AllByRecursion (IsMember t s) xs → AllByRecursion (IsMember t n) xs
 members_there t s n fs [] into to h = tt
 members_there t s n fs (m ∷ xs) into to h =
-    (record { changes = to (fde_of m) (changes_of m) (into (fde_of m) (inl refl)) h.0.changes; listed = h.0.listed }, members_there t s n fs xs (λ f i. into f (inr i)) to h.1)
+    (to (fde_of m) (changes_of m) (into (fde_of m) (inl refl)) h.0, members_there t s n fs xs (λ f i. into f (inr i)) to h.1)
 
 -- ---- the laws
 

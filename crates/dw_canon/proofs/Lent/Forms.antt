@@ -26,7 +26,7 @@ use Rattle.dw_canon.specs.Members.{Member, AreMembers}
 use Rattle.dw_canon.specs.Normal.{IsNormalForm}
 use Rattle.dw_canon.specs.Spelling.{program_bytes}
 use Rattle.dw_canon.specs.Written.{written, cie_fields, fde_fields}
-use Rattle.dw_canon.proofs.Shared.{MemberFits, shared_is}
+use Rattle.dw_canon.proofs.Lent.Shared.{MemberFits, shared_is}
 use Rattle.dw_canon.proofs.Lent.Blocks.{same_program}
 use Rattle.dw_canon.proofs.Lent.InstrFits.{cie_fits, member_fits, with_all}
 use Rattle.dw_canon.proofs.Lent.MemberPlaces.{all_initial, all_some, all_to, group_fits}

@@ -14,7 +14,7 @@ use Rattle.dw_section.specs.Inner.Sound.{RowFits}
 use Rattle.dw_section.proofs.Lent.OpeningLaws.{Specifies}
 use Rattle.dw_section.specs.Changes.{kept_by}
 use Rattle.dw_canon.specs.Members.{Member}
-use Rattle.dw_canon.proofs.Shared.{MemberFits, agreed_below, agreed_fits, agreed_stays, kept_by_below, kept_by_cfa, kept_by_fits, kept_by_or, kept_by_stays, next_cfa, next_fits, next_or, same_self, specified_or}
+use Rattle.dw_canon.proofs.Lent.Shared.{MemberFits, agreed_below, agreed_fits, agreed_stays, kept_by_below, kept_by_cfa, kept_by_fits, kept_by_or, kept_by_stays, next_cfa, next_fits, next_or, same_self, specified_or}
 use Rattle.dw_cfa.specs.Inner.RowEquality.{cfa_tells}
 
 -- a row has no rules but some of another row's

@@ -24,7 +24,7 @@ use Rattle.dw_canon.proofs.Lent.Differences as lists
 use Rattle.dw_canon.proofs.Lent.InstrFits as fitting
 use Rattle.dw_canon.proofs.ProgramLaws.{initial_program, member_program}
 use Rattle.dw_canon.proofs.AscendingRegisters.{Rise, with_all_rise}
-use Rattle.dw_canon.proofs.Shared.{MemberFits, RestsOnAll}
+use Rattle.dw_canon.proofs.Lent.Shared.{MemberFits, RestsOnAll}
 use Rattle.dw_canon.proofs.Lent.MemberPlaces.{member_fits, member_stands, group_fits, all_rest, all_both, IsSound, all_to}
 use Rattle.dw_section.proofs.Lent.Sounds.{sound_section}
 
@@ -77,7 +77,7 @@ module _ (t : Target) (s : List ℕ) (b : AreBytes s) (ok : Accepted t s) (ms : 
     where
       each : (xs : List Member) → AllByRecursion (IsMember t s) xs → ((f : Fde) → IsAmong f (map fde_of xs) → IsAmong f (map fde_of ms)) → AllByRecursion (IsSound t) xs
       each [] h inside = tt
-      each (m ∷ xs) h inside = (sound_section t s b ok (map fde_of ms) (fde_of m) (changes_of m) are.fdes (inside (fde_of m) (inl refl)) h.0.changes h.0.listed, each xs h.1 (λ f i. inside f (inr i)))
+      each (m ∷ xs) h inside = (sound_section t s b ok (map fde_of ms) (fde_of m) (changes_of m) are.fdes (inside (fde_of m) (inl refl)) h.0, each xs h.1 (λ f i. inside f (inr i)))
 
   pub nonempty : AllByRecursion (λ (m : Member). m.begin < m.end) ms
   nonempty = all_to (IsSound t) (λ (m : Member). m.begin < m.end) ms (λ m is. is.some) sound
@@ -105,7 +105,7 @@ module _ (t : Target) (s : List ℕ) (b : AreBytes s) (ok : Accepted t s) (ms : 
         group = has_group t ms m.register (return_registers ms) i;
         kept = subst (λ (c : CfaRule). FdeKept (address_limit t.size) m.begin c (fde_instrs initial m)) cie.2 law.1;
         changes = changes_of m;
-        source = subst (λ (f : Fde). ChangesOf t s f (changes_of m)) (sym (fde_is t ms m some)) is.changes;
+        source = subst (λ (f : Fde). ChangesOf t s f (changes_of m)) (sym (fde_is t ms m some)) is;
         change = subst (λ (n : ℕ). AreChanges (cie_instrs initial) (fde_instrs initial m) m.begin n (changes_of m)) end law.2;
       }
 

@@ -9,7 +9,6 @@ use Rattle.dw_cfa.specs.Laws.{initial_cfa, initial_rule}
 use Rattle.dw_cfa.specs.Location.{row_starts}
 use Rattle.dw_cfa.specs.Rows.{Rules, rule}
 use Rattle.dw_section.specs.Changes.{AreChanges}
-use Rattle.dw_section.specs.Laws.{AreListed}
 use Rattle.dw_section.specs.Inner.Sound.{RowFits}
 use Rattle.dw_canon.specs.Inner.Canon.{cie_instrs, fde_instrs}
 use Rattle.dw_canon.specs.Inner.Fits.{MemberStands}
@@ -31,4 +30,4 @@ MemberProgram = (t : Target) (initial : Rules) (m : Member) → RowFits t initia
 
 -- the changes of a range are one list
 abbrev pub ChangesAreOne : Type 0
-ChangesAreOne = (initial instrs : List Instr) (begin end : ℕ) (xs ys : List (ℕ × Rules)) → begin < end → AreListed xs → AreListed ys → AreChanges initial instrs begin end xs → AreChanges initial instrs begin end ys → xs ≡ ys
+ChangesAreOne = (initial instrs : List Instr) (begin end : ℕ) (xs ys : List (ℕ × Rules)) → begin < end → AreChanges initial instrs begin end xs → AreChanges initial instrs begin end ys → xs ≡ ys

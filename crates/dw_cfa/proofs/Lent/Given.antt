@@ -15,8 +15,8 @@ use Rattle.dw_cfa.specs.declared.instr.Instr.{Instr}
 use Rattle.dw_cfa.specs.declared.execution.LocatedRow.{LocatedRow}
 use Rattle.dw_cfa.specs.Location.{onto, location_back, moves_location}
 use Rattle.dw_cfa.specs.Rows.{Rules, AreSpecified, blank}
-use Rattle.dw_cfa.specs.Runs.{Outcome, finished, fails}
-use Rattle.dw_cfa.specs.RowSteps.{Stepping, Answers, Failed, stepping}
+use Rattle.dw_cfa.specs.Runs.{Outcome}
+use Rattle.dw_cfa.specs.RowSteps.{Stepping, stepping}
 use Rattle.dw_cfa.specs.CieMachine.{Following, with_steps}
 use Rattle.dw_cfa.specs.Faults.{RunFault}
 use Rattle.dw_cfa.specs.Behind.{Leaves, LeavesTo, ends, IsRowAfter, GivesBehind, GivesBefore, GivesUpTo, RunsBehind}

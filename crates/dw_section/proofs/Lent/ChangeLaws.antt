@@ -14,7 +14,7 @@ use Rattle.dw_cfa.specs.Column.{cfa_after, rule_after}
 use Rattle.dw_cfa.specs.declared.execution.LocatedRow.{LocatedRow}
 use Rattle.dw_cfa.specs.Location.{Counts}
 use Rattle.dw_cfa.specs.Laws.{HoldsAfter}
-use Rattle.dw_cfa.specs.Rows.{Rules, AreSpecified}
+use Rattle.dw_cfa.specs.Rows.{Rules}
 use Rattle.dw_cfa.specs.RuleAt.{or_here, last_at, NeverFalls}
 use Rattle.dw_num.specs.Target.{address_limit}
 use Rattle.dw_cfa.specs.InstrSpells.{Program}
@@ -26,7 +26,6 @@ use Rattle.dw_cfa.proofs.Lent.InstrCounts.{one_count, counts_exists}
 use Rattle.dw_cfa.proofs.Lent.SameRows.{same_rows}
 use Rattle.dw_section.specs.Changes.{Stays, Differs, StayFrom, HoldsAt, ChangesBehind, AreChanges}
 use Rattle.dw_section.specs.Inner.Changes.{Before, Passed, Among}
-use Rattle.dw_section.specs.Laws.{AreListed}
 
 -- ---- the last row at an address
 
@@ -52,7 +51,6 @@ module _ (initial instrs : List Instr) (begin end : ℕ) where
     pub k : ℕ
     pub counts : Counts begin instrs a k
     pub holds : HoldsAfter initial instrs k row
-    pub listed : AreSpecified 0 row.registers
 
   holds_at : (a : ℕ) (row : Rules) → HasRow a row → HoldsAt initial instrs begin a row
   holds_at a row h k counts = subst (λ (n : ℕ). HoldsAfter initial instrs n row) (one_count begin instrs a h.k k h.counts counts) h.holds
@@ -69,7 +67,7 @@ module _ (initial instrs : List Instr) (begin end : ℕ) where
     k = g.k;
     before = h.counts;
     after = g.counts;
-    other = λ same. other (same_rows x y h.listed g.listed (h.holds.cfa ∙ same.cfa ∙ sym g.holds.cfa) (λ r. h.holds.rules r ∙ same.rules r ∙ sym (g.holds.rules r)));
+    other = λ same. other (same_rows x y h.holds.listed g.holds.listed (h.holds.cfa ∙ same.cfa ∙ sym g.holds.cfa) (λ r. h.holds.rules r ∙ same.rules r ∙ sym (g.holds.rules r)));
   }
 
   -- from the first of the rows on, the last at or below an address has its rules
@@ -186,15 +184,7 @@ module _ (initial instrs : List Instr) (begin end : ℕ) where
         subst (λ (n : ℕ). ChangesBehind initial instrs begin end n more) starts behind,
       )
 
-  -- ---- the rows of an FDE's program
-
-  -- the rows that are shown list their registers once, ascending
-  pub listed_among : (shown : Option Rules) (rows : List LocatedRow) (changes : List (ℕ × Rules)) (low : ℕ) → NeverFalls low rows → Hold rows → Among end shown rows changes → AreListed changes
-  listed_among shown [] changes low falls h is = subst AreListed (sym is) tt
-  listed_among shown (row ∷ rows) changes low falls h (inl (passed, rest)) = listed_among shown rows changes row.location falls.1 (hold_more row rows falls.1 h) rest
-  listed_among shown (row ∷ rows) changes low falls h (inr (shows, (more, is, rest))) =
-      let here : HasRow row.location row.row = hold_first row rows falls.1 h row.location (omega arith) shows.0 in
-      subst AreListed (sym is) (here.listed, listed_among (Some row.row) rows more row.location falls.1 (hold_more row rows falls.1 h) rest)
+-- ---- the rows of an FDE's program
 
 first_starts : (begin : ℕ) (rows : List LocatedRow) (x : Rules) → NeverFalls begin rows → last_at begin rows ≡ Some x → StartsAt [] [] begin begin rows
 first_starts begin [] x falls e = absurd cc
@@ -221,18 +211,9 @@ changes_found f cie fde initial instrs first begin end rows changes leaves gives
     let at : (a : ℕ) → begin ≤ a → (x : Rules) × (last_at a rows ≡ Some x) × HasRow initial instrs begin end a x = λ a le.
     let counts = counts_exists begin instrs a le in
     let row = gives.holds a counts.0 le counts.1 in
-    (row.0, row.1, record { k = counts.0; counts = counts.1; holds = after_behind f cie initial instrs first row.0 counts.0 leaves row.2; listed = row.2.listed }) in
+    (row.0, row.1, record { k = counts.0; counts = counts.1; holds = after_behind f cie initial instrs first row.0 counts.0 leaves row.2 }) in
     let start = at begin (omega arith) in
     all_found initial instrs begin end rows changes gives.never_falls (hold_all initial instrs begin end rows gives.never_falls at) (first_starts begin rows start.0 gives.never_falls start.1) nonempty is
-
-pub changes_listed : (f : Factors) (cie fde : Input) (initial instrs : List Instr) (first : Rules) (begin end : ℕ) (rows : List LocatedRow) (changes : List (ℕ × Rules)) → Leaves f cie initial first
-    → RulesBehind f first fde begin instrs rows → Among end None rows changes → AreListed changes
-changes_listed f cie fde initial instrs first begin end rows changes leaves gives is =
-    let at : (a : ℕ) → begin ≤ a → (x : Rules) × (last_at a rows ≡ Some x) × HasRow initial instrs begin end a x = λ a le.
-    let counts = counts_exists begin instrs a le in
-    let row = gives.holds a counts.0 le counts.1 in
-    (row.0, row.1, record { k = counts.0; counts = counts.1; holds = after_behind f cie initial instrs first row.0 counts.0 leaves row.2; listed = row.2.listed }) in
-    listed_among initial instrs begin end None rows changes begin gives.never_falls (hold_all initial instrs begin end rows gives.never_falls at) is
 
 -- the same of the rows of two programs
 pub run_changes : (f : Factors) (cie fde : Input) (initial instrs : List Instr) (begin end : ℕ) (rows : List LocatedRow) (changes : List (ℕ × Rules)) → RowsOf f cie fde begin rows
@@ -246,11 +227,3 @@ run_changes f cie fde initial instrs begin end rows changes of first program le 
     let given = behind_gives f half.0 fde begin rows of.fde_bytes leaves.listed le half.2 in
     let also : given.0 ≡ instrs = sym (program_placed f fde given.0 of.fde_bytes given.1.program).0 ∙ (program_placed f fde instrs of.fde_bytes program).0 in
     changes_found f cie fde initial instrs half.0 begin end rows changes leaves (subst (λ (l : List Instr). RulesBehind f half.0 fde begin l rows) also given.1) nonempty is
-
-pub run_listed : (f : Factors) (cie fde : Input) (initial instrs : List Instr) (begin end : ℕ) (rows : List LocatedRow) (changes : List (ℕ × Rules)) → RowsOf f cie fde begin rows
-    → Program cie.target f initial cie.bytes → Program fde.target f instrs fde.bytes → begin ≤ address_limit fde.target.size → Among end None rows changes → AreListed changes
-run_listed f cie fde initial instrs begin end rows changes of first program le is =
-    let half = run_halves f cie fde begin rows of.given in
-    let left = initial_leaves f cie half.0 of.cie_bytes half.1 in
-    let given = behind_gives f half.0 fde begin rows of.fde_bytes left.1.listed le half.2 in
-    changes_listed f cie fde left.0 given.0 half.0 begin end rows changes left.1 given.1 is

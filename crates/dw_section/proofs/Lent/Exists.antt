@@ -1,6 +1,5 @@
--- Each FDE of an accepted section has changes, with rows that list each register once.
-use Rattle.std.proofs.Common.{◌≡◌, ℕ, suc, ◌<◌, ◌≤◌, List, [], ◌∷◌, None, refl, sym, subst, arith}
-use Rattle.std.specs.List.{AllByRecursion}
+-- Each FDE of an accepted section has changes.
+use Rattle.std.proofs.Common.{ℕ, ◌<◌, List, None, sym, subst, arith}
 use Rattle.dw_num.specs.declared.target.Target.{Target}
 use Rattle.dw_num.specs.Input.{Input, AreBytes}
 use Rattle.dw_num.specs.Target.{address_limit}
@@ -11,12 +10,12 @@ use Rattle.dw_cfa.specs.declared.execution.LocatedRow.{LocatedRow}
 use Rattle.dw_cfa.specs.Behind.{Leaves}
 use Rattle.dw_cfa.specs.Inner.Exact.{RulesBehind}
 use Rattle.dw_cfa.specs.Kept.{CieKept, FdeKept}
-use Rattle.dw_cfa.specs.Rows.{Rules, AreSpecified}
+use Rattle.dw_cfa.specs.Rows.{Rules}
 use Rattle.dw_cfa.proofs.Lent.BehindLaws.{gives_rows}
 use Rattle.dw_cfa.proofs.Lent.FaultLaws.{leaves_initial}
 use Rattle.dw_section.specs.declared.lookup.Fde.{Fde}
 use Rattle.dw_section.specs.Accepted.{Accepted}
-use Rattle.dw_section.specs.Changes.{HoldsAt, ChangesBehind, AreChanges}
+use Rattle.dw_section.specs.Changes.{HoldsAt, AreChanges}
 use Rattle.dw_section.specs.Inner.Changes.{changes_among}
 use Rattle.dw_section.specs.Inner.Heads.{HasBytes}
 use Rattle.dw_section.specs.Meaning.{Says, AreFdes, ChangesOf}
@@ -27,29 +26,10 @@ use Rattle.dw_section.proofs.Lent.ChangeLaws.{changes_found}
 use Rattle.dw_section.proofs.Lent.Heads.{all_in, heads_rise, heads_bytes, one_begin}
 use Rattle.dw_section.specs.Meanings.{SameMeaning}
 use Rattle.dw_section.specs.Among.{IsAmong}
-use Rattle.dw_section.proofs.Lent.Rowed.{IsListedRow, one_listed, agree_row}
-use Rattle.dw_section.proofs.Lent.Sames.{AllAgree, one_list, changes_there}
+use Rattle.dw_section.proofs.Lent.Rowed.{agree_row}
+use Rattle.dw_section.proofs.Lent.Sames.{AllAgree, changes_there}
 use Rattle.dw_section.proofs.Lent.Sections.{hs, headers_of, here, one_programs, kept_programs, begin_low, row_exists, rules_programs, programs_rules, programs_changes, listed_programs}
 use Rattle.dw_section.specs.Headers.{cie, fde}
-
--- ---- of an FDE
-
-module _ (i j : List Instr) (begin end : ℕ) (rows : (a : ℕ) → begin ≤ a → (row : Rules) × HoldsAt i j begin a row × AreSpecified 0 row.registers) where
-  listed_behind : (low : ℕ) (changes : List (ℕ × Rules)) → begin ≤ low → ChangesBehind i j begin end low changes → (others : List (ℕ × Rules)) × ChangesBehind i j begin end low others × AllByRecursion IsListedRow others
-  listed_behind low [] le c = ([], c, tt)
-  listed_behind low (change ∷ changes) le c =
-      let a = c.0 in
-      let from : begin ≤ suc a = omega (arith, c.2) in
-      let row = rows (suc a) from in
-      let rest = listed_behind (suc a) changes from c.7 in
-      ((suc a, row.0) ∷ rest.0, (a, refl, c.2, c.3, c.4, c.5, row.1, rest.1), (row.2, rest.2))
-
-  pub listed_changes : (changes : List (ℕ × Rules)) → AreChanges i j begin end changes → (others : List (ℕ × Rules)) × AreChanges i j begin end others × AllByRecursion IsListedRow others
-  listed_changes [] c = absurd c
-  listed_changes (first ∷ changes) c =
-      let row = rows begin (omega arith) in
-      let rest = listed_behind begin changes (omega arith) c.2 in
-      ((begin, row.0) ∷ rest.0, (refl, row.1, rest.1), (row.2, rest.2))
 
 module _ (target : Target) (s : List ℕ) (b : AreBytes s) (ok : Accepted target s) where
   -- the rows of an FDE
@@ -83,24 +63,19 @@ module _ (target : Target) (s : List ℕ) (b : AreBytes s) (ok : Accepted target
       record { f = f; cie = input_of target c.program; fde = input_of target x.head.program; first = left.0; rows = gave.0; leaves = left.2; gives = gave.2 }
 
   -- an FDE that is not empty has changes
-  pub changes_exist : (begin end : ℕ) (i j : List Instr) → begin < end → Says target s begin end i j → (changes : List (ℕ × Rules)) × AreChanges i j begin end changes × AllByRecursion IsListedRow changes
+  pub changes_exist : (begin end : ℕ) (i j : List Instr) → begin < end → Says target s begin end i j → (changes : List (ℕ × Rules)) × AreChanges i j begin end changes
   changes_exist begin end i j lt h =
       let g = given begin end i j h in
       let changes = changes_among end None g.rows in
-      let all = changes_found g.f g.cie g.fde i j g.first begin end g.rows changes g.leaves g.gives lt (are_among end None g.rows) in
-      listed_changes i j begin end (λ a le. row_exists target s b ok begin end a i j h le) changes all
+      (changes, changes_found g.f g.cie g.fde i j g.first begin end g.rows changes g.leaves g.gives lt (are_among end None g.rows))
 
   -- so each FDE that is listed has
-  pub listed_change : (fs : List Fde) (f : Fde) → AreFdes target s fs → IsAmong f fs → (changes : List (ℕ × Rules)) × ChangesOf target s f changes × AllByRecursion IsListedRow changes
+  pub listed_change : (fs : List Fde) (f : Fde) → AreFdes target s fs → IsAmong f fs → (changes : List (ℕ × Rules)) × ChangesOf target s f changes
   listed_change fs f are listed =
       let p = listed_programs target s b ok fs f are listed in
       let programs = p.1 in
       let c = changes_exist f.begin f.end programs.0 programs.1 p.0 programs.2 in
-      (c.0, programs_changes target s b ok f c.0 programs.0 programs.1 programs.2 c.1, c.2)
-
-  -- and one list of them whose rows list each register once
-  pub one_change_list : (f : Fde) (xs ys : List (ℕ × Rules)) → f.begin < f.end → ChangesOf target s f xs → ChangesOf target s f ys → AllByRecursion IsListedRow xs → AllByRecursion IsListedRow ys → xs ≡ ys
-  one_change_list f xs ys some v w = one_listed xs ys (one_list target s b ok f xs ys some v w)
+      (c.0, programs_changes target s b ok f c.0 programs.0 programs.1 programs.2 c.1)
 
 -- ---- sections of one meaning
 

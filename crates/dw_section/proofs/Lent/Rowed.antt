@@ -1,6 +1,6 @@
 -- The changes of an FDE determine its rules at each address, and its rules determine its changes.
 use Rattle.std.proofs.Common.{◌≡◌, ℕ, zero, suc, ◌+◌, ◌-◌, ◌<◌, ◌≤◌, List, [], ◌∷◌, refl, sym, ap, subst, ◌∙◌, arith, inl, inr}
-use Rattle.std.specs.List.{AllByRecursion, AllZip}
+use Rattle.std.specs.List.{AllByRecursion}
 use Rattle.std.proofs.lemmas.Bool.{cases_lt, cases_order, lt-ltb, le-ltb}
 use Rattle.dw_cfa.specs.declared.instr.Instr.{Instr}
 use Rattle.dw_cfa.specs.Rows.{Rules, AreSpecified}
@@ -8,8 +8,10 @@ use Rattle.dw_cfa.proofs.Lent.InstrCounts.{counts_exists}
 use Rattle.dw_cfa.proofs.Lent.SameRows.{same_rows}
 use Rattle.dw_section.specs.Changes.{Stays, StayFrom, HoldsAt, ChangesBehind, AreChanges}
 use Rattle.dw_section.specs.Inner.Agree.{AgreeAt, Agree}
-use Rattle.dw_section.specs.Meanings.{SameRow}
 use Rattle.dw_section.specs.Inner.Meanings.{row_among}
+
+abbrev pub AreListed : List (ℕ × Rules) → Type 0
+AreListed changes = AllByRecursion (λ (change : ℕ × Rules). AreSpecified 0 change.1.registers) changes
 
 module _ (i j : List Instr) (begin : ℕ) where
   stays_row : (a : ℕ) (row : Rules) → begin ≤ a → Stays i j begin a (suc a) → HoldsAt i j begin a row → HoldsAt i j begin (suc a) row
@@ -41,6 +43,20 @@ module _ (i j : List Instr) (begin : ℕ) where
   pub changed_row : (end a : ℕ) (first : ℕ × Rules) (changes : List (ℕ × Rules)) → begin ≤ a → a < end → AreChanges i j begin end (first ∷ changes) → HoldsAt i j begin a (row_among a first.1 changes)
   changed_row end a first changes from below c = behind_row end begin a first.1 changes (omega arith) from below c.1 c.2
 
+  listed_behind : (end low : ℕ) (changes : List (ℕ × Rules)) → begin ≤ low → ChangesBehind i j begin end low changes → AreListed changes
+  listed_behind end low [] le c = tt
+  listed_behind end low (change ∷ changes) le c =
+      let from : begin ≤ suc c.0 = omega (arith, c.2) in
+      let counts = counts_exists begin j (suc c.0) from in
+      ((c.6 counts.0 counts.1).listed, listed_behind end (suc c.0) changes from c.7)
+
+  -- their rows list each register once
+  pub changes_listed : (end : ℕ) (changes : List (ℕ × Rules)) → AreChanges i j begin end changes → AreListed changes
+  changes_listed end [] c = tt
+  changes_listed end (first ∷ changes) c =
+      let counts = counts_exists begin j begin (omega arith) in
+      ((c.1 counts.0 counts.1).listed, listed_behind end begin changes (omega arith) c.2)
+
 -- a row that holds at an address of both makes them agree there
 pub agree_row : (begin a : ℕ) (i j k l : List Instr) (row : Rules) → HoldsAt i j begin a row → HoldsAt k l begin a row → AgreeAt begin i j k l a
 agree_row begin a i j k l row v w x y cx cy =
@@ -54,43 +70,31 @@ agree_changes begin end i j k l [] v w a from below = absurd v
 agree_changes begin end i j k l (first ∷ changes) v w a from below =
     agree_row begin a i j k l (row_among a first.1 changes) (changed_row i j begin end a first changes from below v) (changed_row k l begin end a first changes from below w)
 
--- ---- changes are one, up to how their rows are listed
+-- ---- changes are one
 
-pub one_row : (i j : List Instr) (begin a : ℕ) (x y : Rules) → begin ≤ a → HoldsAt i j begin a x → HoldsAt i j begin a y → SameRow x y
+pub one_row : (i j : List Instr) (begin a : ℕ) (x y : Rules) → begin ≤ a → HoldsAt i j begin a x → HoldsAt i j begin a y → x ≡ y
 one_row i j begin a x y le v w =
     let c = counts_exists begin j a le in
     let p = v c.0 c.1 in
     let q = w c.0 c.1 in
-    record { cfa = p.cfa ∙ sym q.cfa; rules = λ r. p.rules r ∙ sym (q.rules r) }
+    same_rows x y p.listed q.listed (p.cfa ∙ sym q.cfa) (λ r. p.rules r ∙ sym (q.rules r))
 
-abbrev pub SameChange : ℕ × Rules → ℕ × Rules → Type 0
-SameChange x y = (x.0 ≡ y.0) × SameRow x.1 y.1
+one_more : (x y : ℕ × Rules) (xs ys : List (ℕ × Rules)) → x.0 ≡ y.0 → x.1 ≡ y.1 → xs ≡ ys → x ∷ xs ≡ y ∷ ys
+one_more x y xs ys at row rest = ap (λ (n : ℕ). (n, x.1) ∷ xs) at ∙ ap (λ (r : Rules). (y.0, r) ∷ xs) row ∙ ap (λ (l : List (ℕ × Rules)). y ∷ l) rest
 
-one_behind : (i j : List Instr) (begin end low : ℕ) (xs ys : List (ℕ × Rules)) → begin ≤ low → ChangesBehind i j begin end low xs → ChangesBehind i j begin end low ys → AllZip SameChange xs ys
-one_behind i j begin end low [] [] le v w = tt
+one_behind : (i j : List Instr) (begin end low : ℕ) (xs ys : List (ℕ × Rules)) → begin ≤ low → ChangesBehind i j begin end low xs → ChangesBehind i j begin end low ys → xs ≡ ys
+one_behind i j begin end low [] [] le v w = refl
 one_behind i j begin end low [] (y ∷ ys) le v w = let d = w.5 in absurd (d.other (v w.0 w.2 w.3 d.j d.k d.before d.after))
 one_behind i j begin end low (x ∷ xs) [] le v w = let d = v.5 in absurd (d.other (w v.0 v.2 v.3 d.j d.k d.before d.after))
 one_behind i j begin end low (x ∷ xs) (y ∷ ys) le v w = elim (cases_order v.0 w.0) [
-  | inl same ↦ (
-    (v.1 ∙ ap suc same ∙ sym w.1, one_row i j begin (suc v.0) x.1 y.1 (omega (arith, v.2)) v.6 (subst (λ (a : ℕ). HoldsAt i j begin (suc a) y.1) (sym same) w.6)),
-    one_behind i j begin end (suc v.0) xs ys (omega (arith, v.2)) v.7 (subst (λ (a : ℕ). ChangesBehind i j begin end (suc a) ys) (sym same) w.7),
-  )
+  | inl same ↦ one_more x y xs ys (v.1 ∙ ap suc same ∙ sym w.1)
+      (one_row i j begin (suc v.0) x.1 y.1 (omega (arith, v.2)) v.6 (subst (λ (a : ℕ). HoldsAt i j begin (suc a) y.1) (sym same) w.6))
+      (one_behind i j begin end (suc v.0) xs ys (omega (arith, v.2)) v.7 (subst (λ (a : ℕ). ChangesBehind i j begin end (suc a) ys) (sym same) w.7))
   | inr (inl less) ↦ let d = v.5 in absurd (d.other (w.4 v.0 v.2 (omega arith) d.j d.k d.before d.after))
   | inr (inr less) ↦ let d = w.5 in absurd (d.other (v.4 w.0 w.2 (omega arith) d.j d.k d.before d.after))
 ]
 
-pub one_changes : (i j : List Instr) (begin end : ℕ) (xs ys : List (ℕ × Rules)) → AreChanges i j begin end xs → AreChanges i j begin end ys → AllZip SameChange xs ys
+pub one_changes : (i j : List Instr) (begin end : ℕ) (xs ys : List (ℕ × Rules)) → AreChanges i j begin end xs → AreChanges i j begin end ys → xs ≡ ys
 one_changes i j begin end [] ys v w = absurd v
 one_changes i j begin end (x ∷ xs) [] v w = absurd w
-one_changes i j begin end (x ∷ xs) (y ∷ ys) v w = ((v.0 ∙ sym w.0, one_row i j begin begin x.1 y.1 (omega arith) v.1 w.1), one_behind i j begin end begin xs ys (omega arith) v.2 w.2)
-
-abbrev pub IsListedRow : ℕ × Rules → Type 0
-IsListedRow change = AreSpecified 0 change.1.registers
-
--- lists whose rows list each register once are one
-pub one_listed : (xs ys : List (ℕ × Rules)) → AllZip SameChange xs ys → AllByRecursion IsListedRow xs → AllByRecursion IsListedRow ys → xs ≡ ys
-one_listed [] [] z h k = refl
-one_listed (x ∷ xs) (y ∷ ys) z h k =
-    let rows : x.1 ≡ y.1 = same_rows x.1 y.1 h.0 k.0 z.0.1.cfa z.0.1.rules in
-    ap (λ (n : ℕ). (n, x.1) ∷ xs) z.0.0 ∙ ap (λ (r : Rules). (y.0, r) ∷ xs) rows ∙ ap (λ (l : List (ℕ × Rules)). y ∷ l) (one_listed xs ys z.1 h.1 k.1)
-one_listed xs ys z h k = absurd z
+one_changes i j begin end (x ∷ xs) (y ∷ ys) v w = one_more x y xs ys (v.0 ∙ sym w.0) (one_row i j begin begin x.1 y.1 (omega arith) v.1 w.1) (one_behind i j begin end begin xs ys (omega arith) v.2 w.2)

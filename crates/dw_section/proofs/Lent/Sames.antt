@@ -1,6 +1,5 @@
 -- Two accepted sections with the same FDEs, whose programs agree, say the same.
 use Rattle.std.proofs.Common.{◌≡◌, ℕ, ◌<◌, ◌≤◌, List, sym, subst, arith}
-use Rattle.std.specs.List.{AllZip}
 use Rattle.dw_num.specs.declared.target.Target.{Target}
 use Rattle.dw_num.specs.Input.{AreBytes}
 use Rattle.dw_cfa.specs.declared.instr.Instr.{Instr}
@@ -14,12 +13,12 @@ use Rattle.dw_section.specs.Inner.Agree.{Agree}
 use Rattle.dw_section.specs.Meanings.{SameMeaning}
 use Rattle.dw_section.specs.Among.{IsAmong}
 use Rattle.dw_section.proofs.Lent.Agrees.{agree_sym, holds_agree, changes_agree}
-use Rattle.dw_section.proofs.Lent.Rowed.{SameChange, one_changes}
+use Rattle.dw_section.proofs.Lent.Rowed.{one_changes}
 use Rattle.dw_section.proofs.Lent.Sections.{one_programs, rules_programs, programs_rules, changes_programs, programs_changes, listed_programs, programs_listed}
 
--- the changes of an FDE that is not empty are one, up to how their rows are listed
-pub one_list : (target : Target) (s : List ℕ) (b : AreBytes s) (ok : Accepted target s) (f : Fde) (xs ys : List (ℕ × Rules)) → f.begin < f.end → ChangesOf target s f xs → ChangesOf target s f ys → AllZip SameChange xs ys
-one_list target s b ok f xs ys some v w =
+-- the changes of an FDE that is not empty are one
+pub one_change_list : (target : Target) (s : List ℕ) (b : AreBytes s) (ok : Accepted target s) (f : Fde) (xs ys : List (ℕ × Rules)) → f.begin < f.end → ChangesOf target s f xs → ChangesOf target s f ys → xs ≡ ys
+one_change_list target s b ok f xs ys some v w =
     let p = changes_programs target s b ok f xs v in
     let q = changes_programs target s b ok f ys w in
     let same = one_programs target s b ok f.begin f.begin f.end f.begin f.end p.0 p.1 q.0 q.1 (omega arith) some (omega arith) some p.2 q.2 in

@@ -11,7 +11,7 @@ use Rattle.dw_cfa.specs.declared.rule.RegRule.{RegRule}
 use Rattle.dw_cfa.specs.Column.{cfa_after, rule_after}
 use Rattle.dw_cfa.specs.Kept.{CieKept, FdeKept}
 use Rattle.dw_cfa.specs.Laws.{initial_cfa, HoldsAfter}
-use Rattle.dw_cfa.specs.Rows.{Rules, AreSpecified}
+use Rattle.dw_cfa.specs.Rows.{Rules}
 use Rattle.dw_cfa.proofs.Lent.BehindLaws.{gives_rows}
 use Rattle.dw_cfa.proofs.Lent.InstrCounts.{counts_exists, one_count}
 use Rattle.dw_cfa.proofs.Lent.FaultLaws.{leaves_initial}
@@ -30,7 +30,6 @@ use Rattle.dw_section.proofs.Lent.CheckFirst.{one_instrs}
 use Rattle.dw_section.proofs.Lent.HeaderLaws.{one_headers}
 use Rattle.dw_section.proofs.Lent.Heads.{all_in, heads_rise, heads_bytes, heads_fit, one_among, one_begin, fde_or}
 use Rattle.dw_section.proofs.Lent.Index.{all_at, all_from, one_index, with_range_so}
-use Rattle.dw_section.specs.Meanings.{SameRow}
 use Rattle.dw_section.proofs.Lent.Rowed.{one_row}
 
 -- ---- ranges and headers
@@ -200,8 +199,8 @@ module _ (target : Target) (s : List ℕ) (b : AreBytes s) (ok : Accepted target
       let fits = all_in (FdeFits target (cie_ats hs)) hs (fde x.head) (heads_fit target s hs headers_of) x.among in
       (omega (arith, fits.0, x.begin_is), omega (arith, fits.1, x.end_is))
 
-  -- a row that holds at an address, in which each register is listed once
-  pub row_exists : (begin end a : ℕ) (i j : List Instr) → Says target s begin end i j → begin ≤ a → (row : Rules) × HoldsAt i j begin a row × AreSpecified 0 row.registers
+  -- a row that holds at an address
+  pub row_exists : (begin end a : ℕ) (i j : List Instr) → Says target s begin end i j → begin ≤ a → (row : Rules) × HoldsAt i j begin a row
   row_exists begin end a i j h le =
       let x = here begin end i j h in
       let low = begin_low begin end i j h in
@@ -229,7 +228,6 @@ module _ (target : Target) (s : List ℕ) (b : AreBytes s) (ok : Accepted target
               rules = λ r. behind.rules r ∙ ap (λ (q : RegRule). rule_after q j r count.0) (leaves.rules r);
               listed = behind.listed;
             }),
-        behind.listed,
       )
 
   -- ---- rules at an address
@@ -262,7 +260,7 @@ module _ (target : Target) (s : List ℕ) (b : AreBytes s) (ok : Accepted target
       record { begin = begin; end = end; initial = i; instrs = j; says = h; from = le; below = lt; k = c.0; counts = c.1; holds = holds c.0 c.1 }
 
   -- the rules at an address are one
-  pub one_rules : (a : ℕ) (x y : Rules) → RulesAt target s a x → RulesAt target s a y → SameRow x y
+  pub one_rules : (a : ℕ) (x y : Rules) → RulesAt target s a x → RulesAt target s a y → x ≡ y
   one_rules a x y v w =
       let p = rules_programs a x v in
       let q = rules_programs a y w in
@@ -331,9 +329,15 @@ module _ (target : Target) (s : List ℕ) (b : AreBytes s) (ok : Accepted target
       let z = zip_left (Lists hs) index fs (range_of x.head) (fdes_zip fs h) (in_index x.head (omega (arith, x.begin_is, x.end_is)) x.among) in
       (z.0, z.1, z.2.begin ∙ sym x.begin_is, z.2.end ∙ sym x.end_is)
 
-  -- each address of an FDE has rules, with a row that lists each register once
-  pub rules_exist : (fs : List Fde) (f : Fde) (a : ℕ) → AreFdes target s fs → IsAmong f fs → Covers a f → (row : Rules) × RulesAt target s a row × AreSpecified 0 row.registers
+  -- each address of an FDE has rules
+  pub rules_exist : (fs : List Fde) (f : Fde) (a : ℕ) → AreFdes target s fs → IsAmong f fs → Covers a f → (row : Rules) × RulesAt target s a row
   rules_exist fs f a are listed covers =
       let p = (listed_programs fs f are listed).1 in
       let row = row_exists f.begin f.end a p.0 p.1 p.2 covers.0 in
-      (row.0, programs_rules f.begin f.end a p.0 p.1 row.0 p.2 covers.0 covers.1 row.1, row.2)
+      (row.0, programs_rules f.begin f.end a p.0 p.1 row.0 p.2 covers.0 covers.1 row.1)
+
+  -- and an address that has rules is one of an FDE
+  pub rules_covered : (fs : List Fde) (a : ℕ) (row : Rules) → AreFdes target s fs → RulesAt target s a row → (f : Fde) × IsAmong f fs × Covers a f
+  rules_covered fs a row are h =
+      let listed = programs_listed fs h.begin h.end h.initial h.instrs are (omega (arith, h.from, h.below)) h.says in
+      (listed.0, listed.1, (omega (arith, listed.2, h.from), omega (arith, listed.3, h.below)))

@@ -23,7 +23,7 @@ use Rattle.dw_section.specs.Changes.{HoldsAt, ChangesBehind, AreChanges}
 use Rattle.dw_section.proofs.Lent.Registers.{fdes_registers}
 use Rattle.dw_section.specs.Among.{IsAmong}
 use Rattle.dw_section.specs.Inner.Sound.{HasBlock, CfaFits, RuleFits, RowFits, ChangeFits, Steps, AllStep, SoundSection}
-use Rattle.dw_section.proofs.Lent.Rowed.{holds_on}
+use Rattle.dw_section.proofs.Lent.Rowed.{changes_listed, holds_on}
 use Rattle.dw_section.proofs.Lent.Sections.{here, cfa_programs, begin_low, changes_programs, listed_programs}
 use Rattle.dw_section.specs.Programs.{factors_of}
 
@@ -215,7 +215,7 @@ listed_in P (g ∷ fs) f h (inl is) = subst P (sym is) h.0
 listed_in P (g ∷ fs) f h (inr i) = listed_in P fs f h.1 i
 
 pub sound_section : SoundSection
-sound_section target s b ok fs f changes are listed h rows =
+sound_section target s b ok fs f changes are listed h =
     let p = changes_programs target s b ok f changes h in
     let i = p.0 in
     let j = p.1 in
@@ -235,6 +235,6 @@ sound_section target s b ok fs f changes are listed h rows =
       some = some;
       in_space = low.1;
       register = listed_in (λ (g : Fde). g.return_register < 65536) fs f (fdes_registers target s fs are) listed;
-      each = all_two (Held i j f.begin f.end) (λ (change : ℕ × Rules). AreSpecified 0 change.1.registers) (ChangeFits target f.end) each changes (held_all i j f.begin f.end changes some p.3) rows;
+      each = all_two (Held i j f.begin f.end) (λ (change : ℕ × Rules). AreSpecified 0 change.1.registers) (ChangeFits target f.end) each changes (held_all i j f.begin f.end changes some p.3) (changes_listed i j f.begin f.end changes p.3);
       steps = steps_all i j f.begin f.end changes p.3;
     }

@@ -1,5 +1,5 @@
 -- The rows that a section starts are no fewer than its changes.
-use Rattle.std.proofs.Common.{◌≡◌, ℕ, suc, ◌<◌, ◌≤◌, List, [], ◌∷◌, length, map, Option, Some, None, refl, sym, ap, subst, ◌∙◌, arith, inl, inr}
+use Rattle.std.proofs.Common.{◌≡◌, ℕ, ◌<◌, ◌≤◌, List, [], ◌∷◌, length, map, Option, Some, None, refl, sym, ap, subst, ◌∙◌, arith, inl, inr}
 use Rattle.std.specs.List.{AllByRecursion, AllZip}
 use Rattle.dw_num.specs.declared.target.Target.{Target}
 use Rattle.dw_num.specs.Input.{AreBytes}
@@ -20,7 +20,7 @@ use Rattle.dw_section.specs.Inner.Changes.{Among, changes_among}
 use Rattle.dw_section.proofs.ChangesAmong.{are_among}
 use Rattle.dw_section.proofs.Lent.ChangeLaws.{changes_found}
 use Rattle.dw_section.proofs.Lent.Exists.{given}
-use Rattle.dw_section.proofs.Lent.Rowed.{SameChange, one_changes}
+use Rattle.dw_section.proofs.Lent.Rowed.{one_changes}
 use Rattle.dw_section.proofs.Lent.Sections.{hs, headers_of, index, fdes_zip, one_programs, changes_programs, listed_programs}
 
 -- ---- rows
@@ -29,11 +29,6 @@ among_few : (end : ℕ) (shown : Option Rules) (rows : List LocatedRow) (changes
 among_few end shown [] changes h = rw h (omega arith)
 among_few end shown (row ∷ rows) changes (inl h) = let rest = among_few end shown rows changes h.1 in omega arith
 among_few end shown (row ∷ rows) changes (inr h) = let rest = among_few end (Some row.row) rows h.1.0 h.1.2 in rw (h.1.1) (omega arith)
-
-same_length : (xs ys : List (ℕ × Rules)) → AllZip SameChange xs ys → length xs ≡ length ys
-same_length [] [] z = refl
-same_length (x ∷ xs) (y ∷ ys) z = ap suc (same_length xs ys z.1)
-same_length xs ys z = absurd z
 
 -- an FDE of an accepted section starts at least as many rows as it has changes
 pub least_starts : (target : Target) (s : List ℕ) (b : AreBytes s) (ok : Accepted target s) (begin end : ℕ) (i j : List Instr) (changes : List (ℕ × Rules)) → begin < end
@@ -44,7 +39,7 @@ least_starts target s b ok begin end i j changes lt h c =
     let are = are_among end None g.rows in
     let all = changes_found g.f g.cie g.fde i j g.first begin end g.rows found g.leaves g.gives lt are in
     let few = among_few end None g.rows found are in
-    let same = same_length found changes (one_changes i j begin end found changes all c) in
+    let same = ap length (one_changes i j begin end found changes all c) in
     omega (arith, g.gives.starts)
 
 module _ (target : Target) (s : List ℕ) (b : AreBytes s) (ok : Accepted target s) where

@@ -1,13 +1,17 @@
 use Rattle.std.proofs.Common.{sym, ◌∙◌}
-use Rattle.dw_cfa.specs.RowLaws.{OneHolds}
+use Rattle.dw_cfa.specs.RowLaws.{OneHolds, OneCount}
 use Rattle.dw_cfa.proofs.Match.{restores_matched, match_exists}
 use Rattle.dw_cfa.proofs.Lent.Given.{one_run, refused_where_fault, given_where_kept, given_falls, given_holds}
 use Rattle.dw_cfa.proofs.Lent.FaultPlaces.{run_within}
+use Rattle.dw_cfa.proofs.Lent.InstrCounts.{counts_exists, one_count}
 use Rattle.dw_cfa.proofs.Lent.SameRows.{same_rows}
 use Rattle.dw_cfa.proofs.laws.row_laws.Goals as goal
 
 one_holds : OneHolds
 one_holds cie fde k row other v w = same_rows row other v.listed w.listed (v.cfa ∙ sym w.cfa) (λ r. v.rules r ∙ sym (w.rules r))
+
+count : OneCount
+count begin instrs a from = let k = counts_exists begin instrs a from in (k.0, k.1, λ other counts. one_count begin instrs a other k.0 counts k.1)
 
 pub returns : goal.returns
 returns c = record {
@@ -17,6 +21,8 @@ returns c = record {
   forwards = given_falls;
   holds = given_holds;
   one = one_holds;
+  listing = same_rows;
+  count = count;
   within = run_within;
   matched = restores_matched;
   found = match_exists;

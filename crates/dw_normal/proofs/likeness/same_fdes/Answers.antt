@@ -25,7 +25,7 @@ returns-clause-same c = λ ms ns are others d.
     let fde : fde_of m ≡ fde_of n = sym mine ∙ c.if-not-same_heads.ensures.0 refl ∙ other in
     let lt = subst (λ (l : ℕ). k < l) (length-map ms fde_of) (c.requires.first (map fde_of ms) are.fdes) in
     let lt' = subst (λ (l : ℕ). k < l) (length-map ns fde_of) (c.requires.second (map fde_of ns) others.fdes) in
-    let come = come_all c.args.first.now.target c.args.first.now.bytes c.accepted.ensures.bytes c.accepted.ensures.accepted ms are k d lt c.go_on.new.changes c.go_on.ensures.changes c.go_on.ensures.listed in
-    let come' = come_all c.args.second.now.target c.args.second.now.bytes c.accepted-2.ensures.bytes c.accepted-2.ensures.accepted ns others k d lt' c.go_on-2.new.changes c.go_on-2.ensures.changes c.go_on-2.ensures.listed in
+    let come = come_all c.args.first.now.target c.args.first.now.bytes c.accepted.ensures.bytes c.accepted.ensures.accepted ms are k d lt c.go_on.new.changes c.go_on.ensures.changes in
+    let come' = come_all c.args.second.now.target c.args.second.now.bytes c.accepted-2.ensures.bytes c.accepted-2.ensures.accepted ns others k d lt' c.go_on-2.new.changes c.go_on-2.ensures.changes in
     if_ok (λ b. Decides b (c.go_on.new.changes.to_come ≡ c.go_on-2.new.changes.to_come)) (λ b. Decides b (m ≡ n)) c.same_changes.result
     (λ b h. (λ e. same_member m n fde (sym come ∙ h.0 e ∙ come'), λ same. h.1 (come ∙ ap changes_of same ∙ sym come'))) c.same_changes.ensures.same

@@ -1,4 +1,4 @@
-use Rattle.std.proofs.Common.{◌≡◌, ◌<◌, ◌∙◌, List, length, map, get_or, ap, sym, refl, arith}
+use Rattle.std.proofs.Common.{◌≡◌, ◌<◌, ◌∙◌, List, length, map, get_or, ap, refl, arith}
 use Rattle.std.proofs.lemmas.List.{length-map, take_more_same}
 use Rattle.dw_canon.specs.Members.{Member, fde_of}
 use Rattle.dw_normal.proofs.Alike.{not_so, apart, all_same}

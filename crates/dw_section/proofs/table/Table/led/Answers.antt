@@ -25,9 +25,3 @@ returns-clause-changes c = λ fs are d.
     let found = rw (sym c.self.view_is) at c.found-found.ensures.found in
     let runs = runs_found t.target t.bytes.now c.are_bytes.ensures c.found-found.result found in
     rw (← c.found-found.ensures.listed fs are d, c.go_on.ensures, c.requires.section, ← c.self.view_is) (runs.changes found.some)
-
-pub returns-clause-listed : goal.returns-clause-listed
-returns-clause-listed c =
-    let t = c.self.inside in
-    let runs = runs_found t.target t.bytes.now c.are_bytes.ensures c.found-found.result (rw (sym c.self.view_is) at c.found-found.ensures.found) in
-    rw (c.go_on.ensures, c.requires.section, ← c.self.view_is) runs.listed
