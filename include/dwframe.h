@@ -253,8 +253,8 @@ typedef struct dwframe_blocks {
 /*
  * The expressions of the row at an address, of which dwframe_row_at tells the kinds: that of the CFA (DW_CFA_def_cfa_expression),
  * and then those of the registers (DW_CFA_expression, DW_CFA_val_expression), ascending by number. Each is a block of operations
- * (DWARF 5, 2.5 and 7.7.1) in the section's order of bytes: of all blocks that spell the expression's operations, the shortest. So
- * two expressions have the same operations exactly where their blocks are equal.
+ * (DWARF 5, 2.5 and 7.7.1) in the section's order of bytes: of all blocks that spell the expression's operations, the shortest,
+ * and of those as short the one with the least codes. So two expressions have the same operations exactly where their blocks are equal.
  *
  * The blocks are written one after another to the front of the `bytes_room` bytes at `expressions`, and where each stands to the front
  * of the `blocks_room` entries at `blocks`; `all` says how many there are of both. DWFRAME_TOO_SHORT where either has less room, and

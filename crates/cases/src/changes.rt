@@ -53,8 +53,8 @@ fn all_changes(
 }
 
 // The changes of an FDE. The loop has a function of its own, since one that owns what it walks over proves slowly.
-fn fde_text(alloc: Global, mut given: Changes<'_>, mut lent: Changes<'_>) -> Result<String, Fail> {
-    all_changes(alloc, &mut given, &mut lent)
+fn fde_text(alloc: Global, mut given: Changes<'_>, lent: &mut Changes<'_>) -> Result<String, Fail> {
+    all_changes(alloc, &mut given, lent)
 }
 
 /// The row of the next change, without the registers that a change behind it leaves Unspecified.
@@ -64,13 +64,24 @@ pub fn narrowed(alloc: Global, changes: &mut Changes<'_>) -> Result<String, Fail
     row_text(alloc, &row)
 }
 
+// The changes of all FDEs, and the same in one room.
+fn put_changes<'a>(
+    alloc: Global,
+    text: &mut String,
+    table: &Table<'a>,
+    room: &mut Changes<'a>,
+) -> Result<(), Fail> {
+    for place in 0..table.fde_count() {
+        let fde = FdeRef { place };
+        table.go_to(room, fde);
+        text.push_str(&fde_text(alloc, table.changes(fde), room)?)?;
+    }
+    Ok(())
+}
+
 /// The changes of all FDEs.
 pub fn changes_text(alloc: Global, table: &Table<'_>) -> Result<String, Fail> {
     let mut text = String::new(alloc);
-    for place in 0..table.fde_count() {
-        let fde = FdeRef { place };
-        let all = fde_text(alloc, table.changes(fde), table.changes(fde))?;
-        text.push_str(&all)?;
-    }
+    put_changes(alloc, &mut text, table, &mut table.no_changes())?;
     Ok(text)
 }

@@ -17,7 +17,7 @@ use Rattle.dw_cfa.specs.declared.rule.RegRule.TheVariants as rules
 use Rattle.dw_cfa.specs.InstrSpells.{IsOffset}
 use Rattle.dw_cfa.specs.Inner.Agreement.{same_cfa, same_rule}
 use Rattle.dw_cfa.specs.Rows.{Rules, rule, is_specified}
-use Rattle.dw_section.specs.Inner.Sound.{CfaFits, RowFits}
+use Rattle.dw_section.specs.Fits.{CfaFits, RowFits}
 use Rattle.dw_canon.specs.Difference.{cfa_to, either}
 use Rattle.dw_canon.specs.Inner.Difference.{cfa_difference, rule_difference, difference}
 use Rattle.dw_canon.specs.Inner.Spelling.{expression_bytes, instr_bytes, program_bytes}

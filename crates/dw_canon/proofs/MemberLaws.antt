@@ -35,7 +35,7 @@ use Rattle.dw_section.specs.Inner.Changes.{Among, Before}
 use Rattle.dw_section.specs.Programs.{HasCfa}
 use Rattle.dw_section.proofs.Lent.ChangeLaws.{HasRow, all_found}
 use Rattle.dw_canon.specs.Inner.Canon.{fde_instrs, cie_instrs}
-use Rattle.dw_section.specs.Inner.Sound.{RowFits}
+use Rattle.dw_section.specs.Fits.{RowFits}
 use Rattle.dw_canon.specs.Inner.Fits.{ChangesStand, MemberStands}
 use Rattle.dw_canon.specs.Inner.Fits.{InstrFits}
 use Rattle.dw_canon.specs.Members.{Member, changes_of}

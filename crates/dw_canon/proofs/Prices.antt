@@ -9,7 +9,7 @@ use Rattle.dw_cfa.specs.Rows.{Rules, blank}
 use Rattle.dw_cfa.proofs.Lent.InstrCounts.{counts_exists}
 use Rattle.dw_section.specs.Accepted.{Accepted}
 use Rattle.dw_section.specs.Meaning.{HasLengths}
-use Rattle.dw_section.specs.Inner.Sound.{RowFits}
+use Rattle.dw_section.specs.Fits.{RowFits}
 use Rattle.dw_section.proofs.Lent.OneLengths.{one_lengths}
 use Rattle.dw_section.proofs.Lent.Sections.{here, changes_programs}
 use Rattle.dw_section.proofs.Lent.Sounds.{Held, held_all}

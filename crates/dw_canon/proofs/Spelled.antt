@@ -25,7 +25,7 @@ use Rattle.dw_cfa.specs.declared.rule.RegRule.{RegRule}
 use Rattle.dw_cfa.specs.declared.rule.RegRule.TheVariants as rules
 use Rattle.dw_cfa.specs.InstrSpells.{IsOffset, BlockSpells, InstrSpells, Program}
 use Rattle.dw_cfa.proofs.Lent.Spellings.{Plain, Factored, SignedFactored, AdvanceSpells, RuleSpells, IsSpelled, in_table}
-use Rattle.dw_section.specs.Inner.Sound.{HasBlock, RuleFits}
+use Rattle.dw_section.specs.Fits.{HasBlock, RuleFits}
 use Rattle.dw_canon.specs.Inner.Fits.{InstrFits}
 use Rattle.dw_canon.specs.Inner.Spelling.{expression_bytes, rule_bytes, instr_bytes, program_bytes}
 use Rattle.dw_canon.specs.Spelling.{instr_bytes as instr_with}

@@ -24,7 +24,7 @@ use Rattle.dw_cfa.specs.Column.{with_register, with_offset, cfa_change, rule_cha
 use Rattle.dw_cfa.specs.Laws.{initial_cfa, initial_rule, HoldsAfter}
 use Rattle.dw_cfa.specs.Location.{onto}
 use Rattle.dw_cfa.specs.Rows.{Rules, rule}
-use Rattle.dw_section.specs.Inner.Sound.{RowFits}
+use Rattle.dw_section.specs.Fits.{RowFits}
 use Rattle.dw_section.proofs.Lent.Sounds.{all_onto, back_keeps}
 use Rattle.dw_canon.specs.Difference.{either, move}
 use Rattle.dw_canon.specs.Inner.Difference.{difference, later_changes}

@@ -5,7 +5,7 @@ use Rattle.dw_num.specs.Input.{Input}
 use Rattle.dw_cfa.specs.declared.instr.Factors.{Factors}
 use Rattle.dw_cfa.specs.declared.machine.Machine.{Machine}
 use Rattle.dw_cfa.specs.declared.execution.LocatedRow.{LocatedRow}
-use Rattle.dw_cfa.specs.Coverage.{is_unset, leaves_one, lacks_from}
+use Rattle.dw_cfa.specs.Inner.Coverage.{is_unset, leaves_one, lacks_from}
 use Rattle.dw_cfa.specs.Rows.{Rules}
 use Rattle.dw_cfa.specs.Runs.{Outcome, row_then}
 use Rattle.dw_cfa.specs.Inner.Runs.{RanTo, here, rows_left}

@@ -1,18 +1,14 @@
--- Whether rows leave a covered address without a rule for the CFA: DWARF 5, 6.4.1.
-use Rattle.std.specs.Prelude.{ℕ, ◌&&◌, ◌||◌, Bool, true, false, List, [], ◌∷◌, nat_lt}
-use Rattle.dw_cfa.specs.declared.rule.CfaRule.{CfaRule}
+-- Rows that leave an address without a rule for the CFA: DWARF 5, 6.4.1.
+use Rattle.std.specs.Prelude.{◌≡◌, ℕ, ◌<◌, List, Some}
 use Rattle.dw_cfa.specs.declared.rule.CfaRule.TheVariants.{Unset}
 use Rattle.dw_cfa.specs.declared.execution.LocatedRow.{LocatedRow}
+use Rattle.dw_cfa.specs.RuleAt.{last_at}
+use Rattle.dw_cfa.specs.Rows.{Rules}
 
-abbrev pub is_unset : CfaRule → Bool
-is_unset Unset = true
-is_unset other = false
-
--- a row from `low` up to a location covers an address before the end, and has no rule for the CFA
-abbrev pub leaves_one : ℕ → ℕ → Bool → ℕ → Bool
-leaves_one end low unset location = unset && (nat_lt low location && nat_lt low end)
-
--- one of the rows does, or the one before them, which starts at `low`
-abbrev pub lacks_from : ℕ → ℕ → Bool → List LocatedRow → Bool
-lacks_from end low unset [] = unset && nat_lt low end
-lacks_from end low unset (row ∷ rows) = leaves_one end low unset row.location || lacks_from end row.location (is_unset row.row.cfa) rows
+-- of an address below the end the row has none
+pub record Lacks (end : ℕ) (rows : List LocatedRow) : Type 0 where
+  pub address : ℕ
+  pub below : address < end
+  pub row : Rules
+  pub last : last_at address rows ≡ Some row
+  pub unset : row.cfa ≡ Unset

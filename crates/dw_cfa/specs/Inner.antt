@@ -1,4 +1,4 @@
--- How the code keeps what the contracts say. No public clause reaches these.
+-- How the code keeps what the contracts say. No clause of a `pub fn` reaches these.
 pub mod Operands
 pub mod FrontInstr
 pub mod ByOpcode
@@ -18,6 +18,7 @@ pub mod Turns
 pub mod Agreement
 pub mod Difference
 pub mod Rows
+pub mod Coverage
 pub mod RowEquality
 pub mod RuleAt
 pub mod NextRow

@@ -36,7 +36,7 @@ advanced f delta = Advance (delta * f.code_factor)
 abbrev pub offset_rule : Factors → (ℤ → RegRule) → ℕ → ℤ → Instr
 offset_rule f make r z = Set r (make (z *ℤ f.data_factor))
 
--- the codes that hold no operand, with the factors multiplied out
+-- the codes that are a whole byte, with the factors multiplied out
 abbrev pub form_table : Factors → List (ℕ × Form)
 form_table f =
     (0x00, none Nop) ∷ (0x01, one address SetLoc) ∷ (0x02, one (fixed 1) (advanced f)) ∷ (0x03, one (fixed 2) (advanced f)) ∷ (0x04, one (fixed 4) (advanced f))

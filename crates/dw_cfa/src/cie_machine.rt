@@ -1,11 +1,12 @@
 //! FDEs' programs, one after another behind the initial row of their CIE (6.4.1).
 
-ghost use Rattle.std.specs.Prelude.{◌≡◌, ◌<◌, ℕ, None, Some, Ok, Err, false, OnOk, OnErr, IfOk, IfErr, MatchResult};
+ghost use Rattle.std.specs.Prelude.{◌≡◌, ◌<◌, None, Some, Ok, Err, false, OnOk, OnErr, IfOk, IfErr, MatchResult};
 ghost use Rattle.dw_num.specs.Target.{address_limit};
 ghost use Rattle.dw_num.specs.Refusals.{Refuses};
 ghost use Rattle.dw_num.specs.declared.error.ReadError.TheVariants.{OutOfMemory};
 ghost use Rattle.dw_cfa.specs.CieMachine.{Following, with_steps};
-ghost use Rattle.dw_cfa.specs.Coverage.{lacks_from};
+ghost use Rattle.dw_cfa.specs.Coverage.{Lacks};
+ghost use Rattle.std.specs.Bool.{MatchBool};
 ghost use Rattle.dw_cfa.specs.Behind.{LeavesTo, RunsBehind};
 ghost use Rattle.dw_cfa.specs.Rows.{AreSpecified};
 ghost use Rattle.dw_cfa.specs.Runs.{finished};
@@ -149,7 +150,7 @@ impl<'a> CieMachine<'a> {
     /// those of `advance`.
     pub fn lacks_rule(&mut self, end: u128) -> Result<bool, ReadError>
         requires { self.old.steps.error ≡ None }
-        ensures found { IfOk result (λ lacks. (self.old.steps.outcome.fault ≡ None) × ((low : ℕ) → lacks ≡ lacks_from end low false self.old.steps.outcome.rows)) }
+        ensures found { IfOk result (λ lacks. (self.old.steps.outcome.fault ≡ None) × MatchBool lacks (Lacks end self.old.steps.outcome.rows) (Lacks end self.old.steps.outcome.rows → ⊥)) }
         ensures refused { IfErr result (Refuses (λ r. self.old.steps.outcome.fault ≡ Some r)) }
         ensures after { MatchResult result (λ _. self.new.steps ≡ stepping self.new.steps.current finished) (λ e. self.new.steps.error ≡ Some e) }
         ensures same { self.new ≡ with_steps self.old self.new.steps }

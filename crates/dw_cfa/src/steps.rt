@@ -237,7 +237,7 @@ impl<'a> RowSteps<'a> {
     }
 
     /// The location that the next row starts at, which is where the row that is lent ends. None behind the last row, and
-    /// after an error. Where a refusal comes next it is where the program stands.
+    /// after an error. Where a refusal comes next it is some location.
     pub fn next_start(&self) -> Option<u128>
         ensures next { (row : LocatedRow) (rows : List LocatedRow) → self.now.outcome.rows ≡ row ∷ rows → result ≡ Some row.location }
         ensures last { self.now.outcome ≡ finished → result ≡ None }

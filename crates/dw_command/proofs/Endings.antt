@@ -18,7 +18,7 @@ use Rattle.dw_section.specs.Table.{Section}
 use Rattle.dw_normal.specs.Answers.{IsWithin, Writes}
 use Rattle.dw_unwind.specs.declared.dump.Dump.{Dump}
 use Rattle.dw_unwind.specs.declared.frame.Frame.{Frame}
-use Rattle.dw_unwind.specs.declared.frame.Policy.{Policy}
+use Rattle.dw_eval.specs.declared.policy.Policy.{Policy}
 use Rattle.dw_unwind.specs.declared.frame.UnwindError.{UnwindError}
 use Rattle.dw_unwind.specs.declared.frame.UnwindError.TheVariants as unwind_error
 use Rattle.dw_unwind.specs.Ranges.{byte_in}

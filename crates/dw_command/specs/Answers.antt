@@ -19,7 +19,7 @@ use Rattle.dw_section.specs.Meanings.{SameMeaning}
 use Rattle.dw_normal.specs.Answers.{IsWithin, NormalFault, SameFault}
 use Rattle.dw_unwind.specs.declared.dump.Dump.{Dump}
 use Rattle.dw_unwind.specs.declared.frame.Frame.{Frame}
-use Rattle.dw_unwind.specs.declared.frame.Policy.{Policy}
+use Rattle.dw_eval.specs.declared.policy.Policy.{Policy}
 use Rattle.dw_unwind.specs.declared.frame.UnwindError.TheVariants as unwind_error
 use Rattle.dw_unwind.specs.Describes.{Describes, Refuses as RefusesDump}
 use Rattle.dw_unwind.specs.Dump.{Say}

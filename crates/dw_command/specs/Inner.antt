@@ -1,4 +1,4 @@
--- How the code keeps what the contracts say. No public clause reaches these.
+-- How the code keeps what the contracts say. No clause of a `pub fn` reaches these.
 pub mod Failure
 pub mod Hex
 pub mod Terminal

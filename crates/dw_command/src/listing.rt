@@ -356,6 +356,7 @@ impl<W: Write> Listing<W> {
         ensures told { Told self.old.failures self.new.failures result }
         // The text is put behind what was put before.
         ensures put { OnOk result (self.old.len ≤ ROOM → Appends (put_so_far (W.contents self.old.out) self.old.len self.old.room) (put_so_far (W.contents self.new.out) self.new.len self.new.room) text.now) }
+        ensures fits { OnOk result (self.old.len ≤ ROOM → self.new.len ≤ ROOM) }
         // Where the output fails, the room is full. It holds the end of what was put before with the front of the text behind it.
         ensures full { OnErr result (ROOM < self.new.len + PIECE) }
         ensures held { OnErr result (self.old.len ≤ ROOM → (n : ℕ) × (gone : List ℕ) × (n ≤ length text.now) × (take self.old.len self.old.room ++ take n text.now ≡ gone ++ take self.new.len self.new.room)) }

@@ -14,7 +14,7 @@ use Rattle.dw_eval.specs.declared.error.Kind.{Kind}
 use Rattle.dw_eval.specs.declared.error.Kind.TheVariants.{StackUnderflow, DivideByZero, NoRegister, Unreadable, Device, NoFrameBase, NoCfa, NoObject}
 use Rattle.dw_eval.specs.Context.{Context, read_at}
 use Rattle.dw_eval.specs.Effect.{Outcome, Next, Jump, Faults, on_top, on_two, on_three, known, push, tell, effect}
-use Rattle.dw_eval.specs.Evaluation.{State, value_turn}
+use Rattle.dw_eval.specs.Evaluation.{State, value_step}
 use Rattle.dw_eval.specs.Inner.Evaluation.{led}
 
 abbrev index_after : Result State Kind → State → ℕ
@@ -109,6 +109,6 @@ stays_within len target s s' (Jump j stack) lt within tame e = elim target as (�
 stays_within len target s s' (Faults kind) lt within tame e = absurd (cc)
 
 -- an operation in range leads to an operation or to the end
-pub value_stays : (c : Context) (ops : List Op) → AllInRange c.target ops → (op : Op) (s s' : State) → slice_get ops s.index ≡ Some op → value_turn c op s ≡ Ok s' → s'.index ≤ length ops
+pub value_stays : (c : Context) (ops : List Op) → AllInRange c.target ops → (op : Op) (s s' : State) → slice_get ops s.index ≡ Some op → value_step c op s ≡ Ok s' → s'.index ≤ length ops
 value_stays c ops range op s s' stands goes =
     stays_within (length ops) (branch_target op) s s' (effect c op s.stack) (slice_get_within ops s.index op stands) (in_range_at c.target (length ops) ops s.index op range stands).within_list (effect_tame c op s.stack) goes

@@ -14,19 +14,19 @@ use Rattle.dw_eval.specs.declared.place.Role.{Role}
 use Rattle.dw_eval.specs.declared.place.Role.TheVariants.{SetsPlace, SetsValue, Computes}
 use Rattle.dw_eval.specs.Context.{Context}
 use Rattle.dw_eval.specs.Effect.{Outcome, Next, Jump, Faults, effect}
-use Rattle.dw_eval.specs.Inner.Description.{Turns}
-use Rattle.dw_eval.specs.Location.{PlaceState, with_value, place_turn}
+use Rattle.dw_eval.specs.Inner.Description.{StepsWithoutMemory}
+use Rattle.dw_eval.specs.Location.{PlaceState, with_value, place_step}
 use Rattle.dw_eval.specs.Inner.Location.{place_led}
-use Rattle.dw_eval.specs.Inner.Roles.{role, free_by, held_by, turn_of}
+use Rattle.dw_eval.specs.Inner.Roles.{role, free_by, held_by, step_of}
 use Rattle.dw_eval.specs.Inner.Steps.{StepsTo}
-use Rattle.dw_eval.proofs.Roles.{turn_is}
+use Rattle.dw_eval.proofs.Roles.{step_is}
 use Rattle.dw_eval.proofs.Effects.{IsTame, effect_tame, in_range_at}
 
 -- a step without memory is one over a memory that stays
-pub steps_so : (turn : Result PlaceState Kind) (Read : Type 0) (i before : ℕ) (state : ℕ → PlaceState) (result : Result ℕ EvalError) (after : ℕ) → Turns turn i state result → after ≡ before → StepsTo turn Read i before state result after
-steps_so turn Read i before state (Ok next) after h same = (h, same)
-steps_so turn Read i before state (Err OutOfMemory) after h same = same
-steps_so turn Read i before state (Err (Fault kind j)) after h same = (h.1, inl (h.0, same))
+pub steps_so : (step : Result PlaceState Kind) (Read : Type 0) (i before : ℕ) (state : ℕ → PlaceState) (result : Result ℕ EvalError) (after : ℕ) → StepsWithoutMemory step i state result → after ≡ before → StepsTo step Read i before state result after
+steps_so step Read i before state (Ok next) after h same = (h, same)
+steps_so step Read i before state (Err OutOfMemory) after h same = same
+steps_so step Read i before state (Err (Fault kind j)) after h same = (h.1, inl (h.0, same))
 
 abbrev index_in : Result PlaceState Kind → ℕ
 index_in (Ok s) = s.index
@@ -57,13 +57,13 @@ held_within len s SetsValue lt = refused_within (nat_lt (length s.stack) 1) len
 held_within len s (Computes entries) lt = refused_within (nat_lt (length s.stack) entries) len
 held_within len s r lt = omega (arith, lt)
 
-turn_within : (len : ℕ) (c : Context) (op : Op) (s : PlaceState) (pending : Option Place) → s.index < len → TargetWithin len (branch_target op) → index_in (turn_of c op pending s) ≤ len
-turn_within len c op s None lt within = free_within len c op s (role op) lt within
-turn_within len c op s (Some place) lt within = held_within len s (role op) lt
+step_within : (len : ℕ) (c : Context) (op : Op) (s : PlaceState) (pending : Option Place) → s.index < len → TargetWithin len (branch_target op) → index_in (step_of c op pending s) ≤ len
+step_within len c op s None lt within = free_within len c op s (role op) lt within
+step_within len c op s (Some place) lt within = held_within len s (role op) lt
 
 -- an operation in range leads to an operation or to the end
-pub place_stays : (c : Context) (ops : List Op) → AllInRange c.target ops → (op : Op) (s s' : PlaceState) → slice_get ops s.index ≡ Some op → place_turn c op s ≡ Ok s' → s'.index ≤ length ops
+pub place_stays : (c : Context) (ops : List Op) → AllInRange c.target ops → (op : Op) (s s' : PlaceState) → slice_get ops s.index ≡ Some op → place_step c op s ≡ Ok s' → s'.index ≤ length ops
 place_stays c ops range op s s' stands goes =
-    let here : index_in (turn_of c op s.pending s) ≡ s'.index = ap index_in (turn_is c op s.pending s ∙ goes) in
-    let most = turn_within (length ops) c op s s.pending (slice_get_within ops s.index op stands) (in_range_at c.target (length ops) ops s.index op range stands).within_list in
+    let here : index_in (step_of c op s.pending s) ≡ s'.index = ap index_in (step_is c op s.pending s ∙ goes) in
+    let most = step_within (length ops) c op s s.pending (slice_get_within ops s.index op stands) (in_range_at c.target (length ops) ops s.index op range stands).within_list in
     omega (arith, here, most)

@@ -1,4 +1,4 @@
--- A turn by an operation's role is the turn by its effect.
+-- A step by an operation's role is the step by its effect.
 use Rattle.std.proofs.Common.{◌≡◌, ℕ, ◌+◌, Bool, true, false, List, [], ◌∷◌, length, Option, Some, None, Result, Err, refl, sym, subst, arith, inl, inr}
 use Rattle.std.specs.Prelude.{nat_eq, slice_get, if◌then◌else◌, ◌%◌}
 use Rattle.std.proofs.lemmas.Bool.{cases_lt, lt-ltb, le-ltb}
@@ -12,8 +12,8 @@ use Rattle.dw_eval.specs.declared.error.Kind.TheVariants.{StackUnderflow, Missin
 use Rattle.dw_eval.specs.declared.place.Place.{Place}
 use Rattle.dw_eval.specs.Context.{Context, read_at}
 use Rattle.dw_eval.specs.Effect.{Outcome, Next, Jump, Faults, on_top, on_two, on_three, known, tell, effect}
-use Rattle.dw_eval.specs.Location.{PlaceState, refused, free_turn, held_turn, turn_by, place_turn}
-use Rattle.dw_eval.specs.Inner.Roles.{role, free_by, refused_by, held_by, turn_of}
+use Rattle.dw_eval.specs.Location.{PlaceState, refused, free_step, held_step, step_by, place_step}
+use Rattle.dw_eval.specs.Inner.Roles.{role, free_by, refused_by, held_by, step_of}
 use Rattle.dw_eval.specs.Inner.Steps.{StepsTo}
 
 -- an outcome that is no short stack
@@ -57,7 +57,7 @@ branches : (b : Bool) (i : ℕ) (below : List ℕ) → IsMissing (if b then Next
 branches true i below = refl
 branches false i below = refl
 
-held_is : (c : Context) (op : Op) (s : PlaceState) → held_by (role op) s ≡ held_turn c op s
+held_is : (c : Context) (op : Op) (s : PlaceState) → held_by (role op) s ≡ held_step c op s
 held_is c (Addr a) s = none_held s.stack (effect c (Addr a) s.stack) refl
 held_is c (Const v) s = none_held s.stack (effect c (Const v) s.stack) refl
 held_is c Deref s = top_held s.stack _ (λ t below. when_known Unreadable (read_at c t (byte_count c.target.size)) _ refl (λ v. refl))
@@ -92,15 +92,15 @@ held_is c (Implicit block) s = none_held s.stack (effect c (Implicit block) s.st
 held_is c StackValue s = top_held s.stack _ (λ t below. refl)
 held_is c op s = two_held s.stack _ (λ s t below. refl)
 
-free_is : (c : Context) (op : Op) (s : PlaceState) → free_by c op (role op) s ≡ free_turn c op s
+free_is : (c : Context) (op : Op) (s : PlaceState) → free_by c op (role op) s ≡ free_step c op s
 free_is c StackValue s = refl
 free_is c op s = refl
 
-pub turn_is : (c : Context) (op : Op) (pending : Option Place) (s : PlaceState) → turn_of c op pending s ≡ turn_by c op pending s
-turn_is c op None s = free_is c op s
-turn_is c op (Some place) s = held_is c op s
+pub step_is : (c : Context) (op : Op) (pending : Option Place) (s : PlaceState) → step_of c op pending s ≡ step_by c op pending s
+step_is c op None s = free_is c op s
+step_is c op (Some place) s = held_is c op s
 
 -- a step by the role is a step
-pub turn_steps : (c : Context) (op : Op) (s : PlaceState) (Read : Type 0) (i before : ℕ) (state : ℕ → PlaceState) (result : Result ℕ EvalError) (after : ℕ)
-    → StepsTo (turn_of c op s.pending s) Read i before state result after → StepsTo (place_turn c op s) Read i before state result after
-turn_steps c op s Read i before state result after h = subst (λ (turn : Result PlaceState Kind). StepsTo turn Read i before state result after) (turn_is c op s.pending s) h
+pub step_by_role : (c : Context) (op : Op) (s : PlaceState) (Read : Type 0) (i before : ℕ) (state : ℕ → PlaceState) (result : Result ℕ EvalError) (after : ℕ)
+    → StepsTo (step_of c op s.pending s) Read i before state result after → StepsTo (place_step c op s) Read i before state result after
+step_by_role c op s Read i before state result after h = subst (λ (step : Result PlaceState Kind). StepsTo step Read i before state result after) (step_is c op s.pending s) h

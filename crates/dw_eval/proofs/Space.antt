@@ -17,21 +17,21 @@ use Rattle.dw_eval.specs.declared.place.Role.{Role}
 use Rattle.dw_eval.specs.declared.place.Role.TheVariants.{SetsPlace, SetsValue, AddsPiece, Waits, Computes}
 use Rattle.dw_eval.specs.Context.{Context, read_at}
 use Rattle.dw_eval.specs.Effect.{Outcome, Next, Jump, Faults, on_top, on_two, on_three, known, push, push_signed, tell, effect}
-use Rattle.dw_eval.specs.Evaluation.{State, value_turn, top_of, Evaluates}
-use Rattle.dw_eval.specs.Inner.Evaluation.{index_of, value_start, led}
-use Rattle.dw_eval.specs.Location.{PlaceState, place_here, with_piece, with_value, place_turn, place_start, pieces_of, Located}
-use Rattle.dw_eval.specs.Inner.Location.{place_index, place_led}
-use Rattle.dw_eval.specs.Inner.Roles.{role, free_by, held_by, turn_of}
-use Rattle.dw_eval.proofs.Roles.{turn_is}
+use Rattle.dw_eval.specs.Evaluation.{State, index_of, value_step, value_start, top_of, Evaluates}
+use Rattle.dw_eval.specs.Inner.Evaluation.{led}
+use Rattle.dw_eval.specs.Location.{PlaceState, place_index, place_here, with_piece, with_value, place_step, place_start, pieces_of, Located}
+use Rattle.dw_eval.specs.Inner.Location.{place_led}
+use Rattle.dw_eval.specs.Inner.Roles.{role, free_by, held_by, step_of}
+use Rattle.dw_eval.proofs.Roles.{step_is}
 use Rattle.dw_eval.specs.Runs.{Runs}
 use Rattle.dw_eval.specs.Space.{AreInSpace, PlaceInSpace, ArePlacesInSpace}
 use Rattle.dw_eval.specs.Laws.{ValuesInSpace, LocationsInSpace}
 
 -- ---- what every state of a run keeps
 
-runs_keep : {S : Type 0} (index : S → ℕ) (turn : Op → S → Result S Kind) (ops : List Op) (start : S) (P : S → Type 0) → P start → ((op : Op) (s s' : S) → P s → turn op s ≡ Ok s' → P s') → (n : ℕ) (s : S) → Runs index turn ops start n s → P s
-runs_keep index turn ops start P h keeps zero s r = subst P (sym r) h
-runs_keep index turn ops start P h keeps (suc n) s r = keeps r.1 r.0 s (runs_keep index turn ops start P h keeps n r.0 r.2) r.4
+runs_keep : {S : Type 0} (index : S → ℕ) (step : Op → S → Result S Kind) (ops : List Op) (start : S) (P : S → Type 0) → P start → ((op : Op) (s s' : S) → P s → step op s ≡ Ok s' → P s') → (n : ℕ) (s : S) → Runs index step ops start n s → P s
+runs_keep index step ops start P h keeps zero s r = subst P (sym r) h
+runs_keep index step ops start P h keeps (suc n) s r = keeps r.1 r.0 s (runs_keep index step ops start P h keeps n r.0 r.2) r.4
 
 -- ---- values
 
@@ -139,7 +139,7 @@ led_kept : (size : Size) (i : ℕ) (o : Outcome) → LeavesInSpace size o → Ke
 led_kept size i (Faults kind) h = tt
 led_kept size i o h = h
 
-value_keeps : (c : Context) (op : Op) (s s' : State) → AreInSpace c.target.size s.stack → value_turn c op s ≡ Ok s' → AreInSpace c.target.size s'.stack
+value_keeps : (c : Context) (op : Op) (s s' : State) → AreInSpace c.target.size s.stack → value_step c op s ≡ Ok s' → AreInSpace c.target.size s'.stack
 value_keeps c op s s' h e =
     let P : Result State Kind → Type 0 = KeptIn c.target.size in
     subst P e (led_kept c.target.size s.index (effect c op s.stack) (effect_leaves c op s.stack h))
@@ -150,9 +150,9 @@ top_in_space size len (t ∷ below) v h e = let same : v ≡ t = cc in let most 
 
 value_answers : (ops : List Op) (c : Context) (first : List ℕ) (limit v : ℕ) → AreInSpace c.target.size first → Evaluates ops c first limit (Ok v) → v < address_limit c.target.size
 value_answers ops c first limit v h (inl e) =
-    top_in_space c.target.size (length ops) e.state.stack v (runs_keep index_of (value_turn c) ops (value_start first) (λ s. AreInSpace c.target.size s.stack) h (value_keeps c) e.steps e.state e.runs) e.is
-value_answers ops c first limit v h (inr (inl e)) = let is = e.is in absurd (cc)
-value_answers ops c first limit v h (inr (inr e)) = let is = e.is in absurd (cc)
+    top_in_space c.target.size (length ops) e.state.stack v (runs_keep index_of (value_step c) ops (value_start first) (λ s. AreInSpace c.target.size s.stack) h (value_keeps c) e.steps e.state e.run) e.gives
+value_answers ops c first limit v h (inr (inl e)) = let is = e.gives in absurd (cc)
+value_answers ops c first limit v h (inr (inr e)) = let is = e.gives in absurd (cc)
 
 pub values_in_space : ValuesInSpace
 values_in_space ops c first limit v h e = value_answers ops c first limit v h e
@@ -224,14 +224,14 @@ held_kept size (AddsPiece part) s h = piece_kept size part s h
 held_kept size Waits s h = record { stack = h.stack; pending = h.pending; pieces = h.pieces }
 held_kept size (Computes entries) s h = refused_kept size (nat_lt (length s.stack) entries)
 
-turn_kept : (c : Context) (op : Op) (pending : Option Place) (s : PlaceState) → StateInSpace c.target.size s → KeptPlaces c.target.size (turn_of c op pending s)
-turn_kept c op None s h = free_kept c op (role op) s (role_in_space c.target.size op) h
-turn_kept c op (Some place) s h = held_kept c.target.size (role op) s h
+step_kept : (c : Context) (op : Op) (pending : Option Place) (s : PlaceState) → StateInSpace c.target.size s → KeptPlaces c.target.size (step_of c op pending s)
+step_kept c op None s h = free_kept c op (role op) s (role_in_space c.target.size op) h
+step_kept c op (Some place) s h = held_kept c.target.size (role op) s h
 
-place_keeps : (c : Context) (op : Op) (s s' : PlaceState) → StateInSpace c.target.size s → place_turn c op s ≡ Ok s' → StateInSpace c.target.size s'
+place_keeps : (c : Context) (op : Op) (s s' : PlaceState) → StateInSpace c.target.size s → place_step c op s ≡ Ok s' → StateInSpace c.target.size s'
 place_keeps c op s s' h e =
     let P : Result PlaceState Kind → Type 0 = KeptPlaces c.target.size in
-    subst P (turn_is c op s.pending s ∙ e) (turn_kept c op s.pending s h)
+    subst P (step_is c op s.pending s ∙ e) (step_kept c op s.pending s h)
 
 last_in_space : (size : Size) (len : ℕ) (pending : Option Place) (stack : List ℕ) (pieces ended : List declared.Piece) → PendingInSpace size pending → AreInSpace size stack → ArePlacesInSpace size pieces
     → Ok ended ≡ pieces_of len pending stack pieces → ArePlacesInSpace size ended
@@ -247,10 +247,10 @@ last_in_space size len pending stack pieces ended h w p e = absurd (cc)
 place_answers : (ops : List Op) (c : Context) (limit : ℕ) (pieces : List declared.Piece) → Located ops c limit (Ok pieces) → ArePlacesInSpace c.target.size pieces
 place_answers ops c limit pieces (inl e) =
     let begun : StateInSpace c.target.size place_start = record { stack = tt; pending = tt; pieces = tt } in
-    let kept = runs_keep place_index (place_turn c) ops place_start (StateInSpace c.target.size) begun (place_keeps c) e.steps e.state e.runs in
-    last_in_space c.target.size (length ops) e.state.pending e.state.stack e.state.pieces pieces kept.pending kept.stack kept.pieces e.is
-place_answers ops c limit pieces (inr (inl e)) = let is = e.is in absurd (cc)
-place_answers ops c limit pieces (inr (inr e)) = let is = e.is in absurd (cc)
+    let kept = runs_keep place_index (place_step c) ops place_start (StateInSpace c.target.size) begun (place_keeps c) e.steps e.state e.run in
+    last_in_space c.target.size (length ops) e.state.pending e.state.stack e.state.pieces pieces kept.pending kept.stack kept.pieces e.gives
+place_answers ops c limit pieces (inr (inl e)) = let is = e.gives in absurd (cc)
+place_answers ops c limit pieces (inr (inr e)) = let is = e.gives in absurd (cc)
 
 pub locations_in_space : LocationsInSpace
 locations_in_space ops c limit pieces e = place_answers ops c limit pieces e

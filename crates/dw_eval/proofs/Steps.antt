@@ -25,32 +25,32 @@ acts_so outcome Read before (Err stop.Device) stack after d e = absurd d
 acts_so outcome Read before (Err stop.OutOfMemory) stack after d e = e
 
 -- ---- a loop of steps, whatever the machine
-module _ {S A : Type 0} (index : S → ℕ) (turn : Op → S → Result S Kind) (ops : List Op) (start : S) (reads : Op → S → Type 0) (ending : S → Result A EvalError) where
+module _ {S A : Type 0} (index : S → ℕ) (step : Op → S → Result S Kind) (ops : List Op) (start : S) (reads : Op → S → Type 0) (ending : S → Result A EvalError) where
   -- one step more
-  pub runs_more : (n : ℕ) (before : S) (op : Op) (s : S) → Runs index turn ops start n before → slice_get ops (index before) ≡ Some op → turn op before ≡ Ok s → Runs index turn ops start (n + 1) s
-  runs_more n before op s r stands goes = let P : ℕ → Type 0 = λ k. Runs index turn ops start k s in subst P (suc-eq-add-one n) (before, op, r, stands, goes)
+  pub runs_more : (n : ℕ) (before : S) (op : Op) (s : S) → Runs index step ops start n before → slice_get ops (index before) ≡ Some op → step op before ≡ Ok s → Runs index step ops start (n + 1) s
+  runs_more n before op s r stands goes = let P : ℕ → Type 0 = λ k. Runs index step ops start k s in subst P (suc-eq-add-one n) (before, op, r, stands, goes)
 
   -- a step that leads to an error ends the run
-  pub answered_stop : (limit n i before mid after : ℕ) (s : S) (op : Op) (state : ℕ → S) (e : EvalError) → Runs index turn ops start n s → n < limit → index s ≡ i → slice_get ops i ≡ Some op → mid ≡ before
-      → StepsTo (turn op s) (reads op s) i mid state (Err e) after → Answered index turn ops start reads ending limit before (Err e) after
+  pub answered_stop : (limit n i before mid after : ℕ) (s : S) (op : Op) (state : ℕ → S) (e : EvalError) → Runs index step ops start n s → n < limit → index s ≡ i → slice_get ops i ≡ Some op → mid ≡ before
+      → StepsTo (step op s) (reads op s) i mid state (Err e) after → Answered index step ops start reads ending limit before (Err e) after
   answered_stop limit n i before mid after s op state OutOfMemory r lt at stands same h = Short (h ∙ same) refl
   answered_stop limit n i before mid after s op state (Fault kind j) r lt at stands same h = elim h.1 [
     | inl w ↦ Right (w.1 ∙ same) (inr (inl (record {
       steps = n;
       state = s;
-      op = op;
+      operation = op;
       kind = kind;
-      few = lt;
-      runs = r;
-      stands = ap (slice_get ops) at ∙ stands;
+      below_limit = lt;
+      run = r;
+      reached = ap (slice_get ops) at ∙ stands;
       faults = w.0;
-      is = ap (λ k. Err (Fault kind k)) (h.0 ∙ sym at);
+      gives = ap (λ k. Err (Fault kind k)) (h.0 ∙ sym at);
     })))
     | inr w ↦ Failed (omega (arith, w.1, same)) i (ap (λ k. Err (Fault k j)) w.0 ∙ ap (λ k. Err (Fault Device k)) h.0)
-        (record { steps = n; state = s; op = op; few = lt; runs = r; at = at; stands = stands; made = w.2 })
+        (record { steps = n; state = s; operation = op; below_limit = lt; run = r; at = at; reached = stands; reads_memory = w.2 })
   ]
 
   -- the limit
-  pub answered_limit : (limit before after : ℕ) (s : S) (i : ℕ) → Runs index turn ops start limit s → index s ≡ i → i < length ops → after ≡ before → Answered index turn ops start reads ending limit before (Err (Fault StepLimit i)) after
+  pub answered_limit : (limit before after : ℕ) (s : S) (i : ℕ) → Runs index step ops start limit s → index s ≡ i → i < length ops → after ≡ before → Answered index step ops start reads ending limit before (Err (Fault StepLimit i)) after
   answered_limit limit before after s i r at inside same =
-      Right same (inr (inr (record { state = s; runs = r; inside = omega (arith, at, inside); is = ap (λ k. Err (Fault StepLimit k)) (sym at) })))
+      Right same (inr (inr (record { state = s; run = r; before_end = omega (arith, at, inside); gives = ap (λ k. Err (Fault StepLimit k)) (sym at) })))

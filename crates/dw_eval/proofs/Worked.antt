@@ -11,7 +11,7 @@ use Rattle.dw_eval.specs.Context.{Context, signed}
 use Rattle.dw_eval.specs.Effect.{Next, Jump, Faults, effect}
 use Rattle.dw_eval.specs.Evaluation.{State, Evaluates}
 use Rattle.dw_eval.specs.Inner.Evaluation.{ValueRuns}
-use Rattle.dw_eval.specs.Location.{PlaceState, place_turn, pieces_of, Located}
+use Rattle.dw_eval.specs.Location.{PlaceState, place_step, pieces_of, Located}
 use Rattle.dw_eval.specs.declared.place.Part.TheVariants as part
 use Rattle.dw_eval.specs.declared.place.Part.TheVariants.{Whole}
 use Rattle.dw_eval.specs.declared.place.Piece.{Piece}
@@ -92,35 +92,35 @@ runs zero = refl
 runs (suc n) = (record { index = 0; stack = [] }, Skip 0, runs n, refl, refl)
 
 limit : Evaluates loop nothing [] 1000 (Err (Fault StepLimit 0))
-limit = inr (inr (record { state = record { index = 0; stack = [] }; runs = runs 1000; inside = lit< tt; is = refl }))
+limit = inr (inr (record { state = record { index = 0; stack = [] }; run = runs 1000; before_end = lit< tt; gives = refl }))
 
 -- one step is enough for one operation, and none is not
 abbrev at : ℕ → List ℕ → State
 at i stack = record { index = i; stack = stack }
 
 one : Evaluates (Const 1 ∷ []) nothing [] 1 (Ok 1)
-one = inl (record { steps = 1; state = at 1 (1 ∷ []); few = lit≤ tt; runs = (at 0 [], Const 1, refl, refl, refl); at_end = refl; is = refl })
+one = inl (record { steps = 1; state = at 1 (1 ∷ []); within_limit = lit≤ tt; run = (at 0 [], Const 1, refl, refl, refl); at_end = refl; gives = refl })
 
 no_step : Evaluates (Const 1 ∷ []) nothing [] 0 (Err (Fault StepLimit 0))
-no_step = inr (inr (record { state = at 0 []; runs = refl; inside = lit< tt; is = refl }))
+no_step = inr (inr (record { state = at 0 []; run = refl; before_end = lit< tt; gives = refl }))
 
 start : Evaluates [] nothing (5 ∷ []) 0 (Ok 5)
-start = inl (record { steps = 0; state = at 0 (5 ∷ []); few = lit≤ tt; runs = refl; at_end = refl; is = refl })
+start = inl (record { steps = 0; state = at 0 (5 ∷ []); within_limit = lit≤ tt; run = refl; at_end = refl; gives = refl })
 
 nothing_at_all : Evaluates [] nothing [] 0 (Err (Fault EmptyResult 0))
-nothing_at_all = inl (record { steps = 0; state = at 0 []; few = lit≤ tt; runs = refl; at_end = refl; is = refl })
+nothing_at_all = inl (record { steps = 0; state = at 0 []; within_limit = lit≤ tt; run = refl; at_end = refl; gives = refl })
 
 by_zero : Evaluates (Const 8 ∷ Const 0 ∷ Div ∷ []) nothing [] 9 (Err (Fault DivideByZero 2))
 by_zero = inr (inl (record {
   steps = 2;
   state = at 2 (0 ∷ 8 ∷ []);
-  op = Div;
+  operation = Div;
   kind = DivideByZero;
-  few = lit< tt;
-  runs = (at 1 (8 ∷ []), Const 0, (at 0 [], Const 8, refl, refl, refl), refl, refl);
-  stands = refl;
+  below_limit = lit< tt;
+  run = (at 1 (8 ∷ []), Const 0, (at 0 [], Const 8, refl, refl, refl), refl, refl);
+  reached = refl;
   faults = refl;
-  is = refl;
+  gives = refl;
 }))
 
 -- ---- places
@@ -129,37 +129,37 @@ abbrev in_place : ℕ → List ℕ → Option Place → List Piece → PlaceStat
 in_place i stack pending pieces = record { index = i; stack = stack; pending = pending; pieces = pieces }
 
 -- a piece empties the stack
-memory_piece : place_turn nothing (op.Piece 2) (in_place 2 (1 ∷ 0 ∷ []) None []) ≡ Ok (in_place 3 [] None (record { place = Memory 1; part = part.Bytes 2 } ∷ []))
+memory_piece : place_step nothing (op.Piece 2) (in_place 2 (1 ∷ 0 ∷ []) None []) ≡ Ok (in_place 3 [] None (record { place = Memory 1; part = part.Bytes 2 } ∷ []))
 memory_piece = refl
 
-empty_piece : place_turn nothing (op.Piece 3) (in_place 0 [] None []) ≡ Ok (in_place 1 [] None (record { place = Empty; part = part.Bytes 3 } ∷ []))
+empty_piece : place_step nothing (op.Piece 3) (in_place 0 [] None []) ≡ Ok (in_place 1 [] None (record { place = Empty; part = part.Bytes 3 } ∷ []))
 empty_piece = refl
 
 -- behind a place: the stack is judged first, then the piece is missing
-second_place : place_turn nothing (Reg 3) (in_place 1 [] (Some (Register 0)) []) ≡ Err MissingPiece
+second_place : place_step nothing (Reg 3) (in_place 1 [] (Some (Register 0)) []) ≡ Err MissingPiece
 second_place = refl
 
-short : place_turn nothing Drop (in_place 1 [] (Some (Register 0)) []) ≡ Err StackUnderflow
+short : place_step nothing Drop (in_place 1 [] (Some (Register 0)) []) ≡ Err StackUnderflow
 short = refl
 
-long : place_turn nothing Drop (in_place 2 (8 ∷ []) (Some (Register 0)) []) ≡ Err MissingPiece
+long : place_step nothing Drop (in_place 2 (8 ∷ []) (Some (Register 0)) []) ≡ Err MissingPiece
 long = refl
 
-waits : place_turn nothing Nop (in_place 1 [] (Some (Register 0)) []) ≡ Ok (in_place 2 [] (Some (Register 0)) [])
+waits : place_step nothing Nop (in_place 1 [] (Some (Register 0)) []) ≡ Ok (in_place 2 [] (Some (Register 0)) [])
 waits = refl
 
 value : Located (Const 1 ∷ StackValue ∷ []) nothing 9 (Ok (record { place = Value 1; part = Whole } ∷ []))
 value = inl (record {
   steps = 2;
   state = in_place 2 [] (Some (Value 1)) [];
-  few = lit≤ tt;
-  runs = (in_place 1 (1 ∷ []) None [], StackValue, (in_place 0 [] None [], Const 1, refl, refl, refl), refl, refl);
+  within_limit = lit≤ tt;
+  run = (in_place 1 (1 ∷ []) None [], StackValue, (in_place 0 [] None [], Const 1, refl, refl, refl), refl, refl);
   at_end = refl;
-  is = refl;
+  gives = refl;
 })
 
 whole : Located [] nothing 0 (Ok (record { place = Empty; part = Whole } ∷ []))
-whole = inl (record { steps = 0; state = in_place 0 [] None []; few = lit≤ tt; runs = refl; at_end = refl; is = refl })
+whole = inl (record { steps = 0; state = in_place 0 [] None []; within_limit = lit≤ tt; run = refl; at_end = refl; gives = refl })
 
 -- nothing may be left behind pieces
 left : pieces_of 3 None (1 ∷ []) (record { place = Empty; part = part.Bytes 3 } ∷ []) ≡ Err (Fault MissingPiece 3)

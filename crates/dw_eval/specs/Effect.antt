@@ -1,10 +1,13 @@
 -- What one operation does: DWARF 5, 2.5.1.
-use Rattle.std.specs.Prelude.{◌≡◌, ◌≤◌, ℕ, ◌+◌, ◌*◌, ◌/◌, ◌%◌, ◌^◌, List, [], ◌∷◌, slice_get, Option, Some, None, Result, Ok, Err, ℤ, pos, ◌+ℤ◌, ◌-ℤ◌, Bool, true, false, not, nat_le, nat_eq, if◌then◌else◌, int_lt, int_le, int_div, unsigned_abs, bit_and, bit_or, bit_xor, min}
+use Rattle.std.specs.Prelude.{◌≡◌, ◌≤◌, ℕ, ◌+◌, ◌*◌, ◌/◌, ◌%◌, ◌^◌, List, [], ◌∷◌, slice_get, Option, Some, None, Result, Ok, Err, ℤ, pos, ◌+ℤ◌, ◌-ℤ◌}
+use Rattle.std.specs.Prelude.{Bool, true, false, not, nat_le, nat_eq, if◌then◌else◌, int_lt, int_le, int_div, unsigned_abs, bit_and, bit_or, bit_xor, min}
 use Rattle.std.specs.Int.{int_shr}
 use Rattle.dw_num.specs.declared.target.Size.{Size}
 use Rattle.dw_num.specs.Target.{address_limit, byte_count}
 use Rattle.dw_op.specs.declared.op.Op.{Op}
-use Rattle.dw_op.specs.declared.op.Op.TheVariants.{Addr, Deref, Const, Dup, Drop, Over, Pick, Swap, Rot, Abs, And, Div, Minus, Mod, Mul, Neg, Not, Or, Plus, PlusUconst, Shl, Shr, Shra, Xor, Bra, Eq, Ge, Gt, Le, Lt, Ne, Skip, Breg, Fbreg, DerefSize, Nop, PushObjectAddress, CallFrameCfa, StackValue}
+use Rattle.dw_op.specs.declared.op.Op.TheVariants.{Addr, Deref, Const, Dup, Drop, Over, Pick, Swap, Rot, Abs, And, Div, Minus, Mod, Mul, Neg, Not, Or, Plus}
+use Rattle.dw_op.specs.declared.op.Op.TheVariants.{PlusUconst, Shl, Shr, Shra, Xor, Bra, Eq, Ge, Gt, Le, Lt, Ne, Skip, Breg, Fbreg}
+use Rattle.dw_op.specs.declared.op.Op.TheVariants.{DerefSize, Nop, PushObjectAddress, CallFrameCfa, StackValue}
 use Rattle.dw_op.specs.Operands.{modulo}
 use Rattle.dw_eval.specs.declared.error.Kind.{Kind}
 use Rattle.dw_eval.specs.declared.error.Kind.TheVariants.{StackUnderflow, DivideByZero, NoRegister, Unreadable, NotAValue, NoFrameBase, NoCfa, NoObject}
@@ -52,6 +55,10 @@ abbrev pub tell : Bool → List ℕ → Outcome
 tell true stack = Next (1 ∷ stack)
 tell false stack = Next (0 ∷ stack)
 
+-- on where a divisor is not 0
+abbrev pub nonzero : ℕ → Outcome → Outcome
+nonzero divisor outcome = if nat_eq divisor 0 then Faults DivideByZero else outcome
+
 -- how many bits an address has
 abbrev pub bit_count : Size → ℕ
 bit_count size = 8 * byte_count size
@@ -78,7 +85,27 @@ module _ (c : Context) where
 
   -- a number as a signed one of N bits
   abbrev as_signed : ℕ → ℤ
-  as_signed v = signed c.target.size v
+  as_signed v = signed size v
+
+  -- pop the top t, push f t modulo 2 ^ N
+  abbrev unary : (ℕ → ℕ) → List ℕ → Outcome
+  unary f stack = on_top stack (λ t below. push size (f t) below)
+
+  -- so of an f that gives a signed number
+  abbrev unary_signed : (ℕ → ℤ) → List ℕ → Outcome
+  unary_signed f stack = on_top stack (λ t below. push_signed size (f t) below)
+
+  -- pop the top t and the second s, push f s t modulo 2 ^ N
+  abbrev binary : (ℕ → ℕ → ℕ) → List ℕ → Outcome
+  binary f stack = on_two stack (λ s t below. push size (f s t) below)
+
+  -- so of an f that gives a signed number
+  abbrev binary_signed : (ℕ → ℕ → ℤ) → List ℕ → Outcome
+  binary_signed f stack = on_two stack (λ s t below. push_signed size (f s t) below)
+
+  -- pop the top t and the second s, push 1 where f s t is true, else 0
+  abbrev compare : (ℕ → ℕ → Bool) → List ℕ → Outcome
+  compare f stack = on_two stack (λ s t below. tell (f s t) below)
 
   -- the effect of an operation on the stack
   abbrev pub effect : Op → List ℕ → Outcome
@@ -91,29 +118,29 @@ module _ (c : Context) where
   effect (Pick i) stack = known StackUnderflow (slice_get stack i) (λ v. Next (v ∷ stack))
   effect Swap stack = on_two stack (λ s t below. Next (s ∷ t ∷ below))
   effect Rot stack = on_three stack (λ third s t below. Next (s ∷ third ∷ t ∷ below))
-  effect Abs stack = on_top stack (λ t below. push size (unsigned_abs (as_signed t)) below)
-  effect And stack = on_two stack (λ s t below. push size (bit_and s t) below)
-  effect Div stack = on_two stack (λ s t below. if nat_eq (t % address_limit size) 0 then Faults DivideByZero else push_signed size (int_div (as_signed s) (as_signed t)) below)
-  effect Minus stack = on_two stack (λ s t below. push_signed size (pos s -ℤ pos t) below)
-  effect Mod stack = on_two stack (λ s t below. if nat_eq t 0 then Faults DivideByZero else push size (s % t) below)
-  effect Mul stack = on_two stack (λ s t below. push size (s * t) below)
-  effect Neg stack = on_top stack (λ t below. push_signed size (pos 0 -ℤ pos t) below)
+  effect Abs stack = unary (λ t. unsigned_abs (as_signed t)) stack
+  effect And stack = binary bit_and stack
+  effect Div stack = on_two stack (λ s t below. nonzero (t % address_limit size) (push_signed size (int_div (as_signed s) (as_signed t)) below))
+  effect Minus stack = binary_signed (λ s t. pos s -ℤ pos t) stack
+  effect Mod stack = on_two stack (λ s t below. nonzero t (push size (s % t) below))
+  effect Mul stack = binary (λ s t. s * t) stack
+  effect Neg stack = unary_signed (λ t. pos 0 -ℤ pos t) stack
   -- all bits turned: -1 - t
-  effect Not stack = on_top stack (λ t below. push_signed size (pos 0 -ℤ pos (t + 1)) below)
-  effect Or stack = on_two stack (λ s t below. push size (bit_or s t) below)
-  effect Plus stack = on_two stack (λ s t below. push size (s + t) below)
-  effect (PlusUconst n) stack = on_top stack (λ t below. push size (t + n) below)
-  effect Shl stack = on_two stack (λ s t below. push size (shifted_left size s t) below)
-  effect Shr stack = on_two stack (λ s t below. push size (shifted_right size s t) below)
-  effect Shra stack = on_two stack (λ s t below. push_signed size (shifted_signed size s t) below)
-  effect Xor stack = on_two stack (λ s t below. push size (bit_xor s t) below)
+  effect Not stack = unary_signed (λ t. pos 0 -ℤ pos (t + 1)) stack
+  effect Or stack = binary bit_or stack
+  effect Plus stack = binary (λ s t. s + t) stack
+  effect (PlusUconst n) stack = unary (λ t. t + n) stack
+  effect Shl stack = binary (shifted_left size) stack
+  effect Shr stack = binary (shifted_right size) stack
+  effect Shra stack = binary_signed (shifted_signed size) stack
+  effect Xor stack = binary bit_xor stack
   effect (Bra i) stack = on_top stack (λ t below. if nat_eq t 0 then Next below else Jump i below)
-  effect Eq stack = on_two stack (λ s t below. tell (nat_eq s t) below)
-  effect Ge stack = on_two stack (λ s t below. tell (int_le (as_signed t) (as_signed s)) below)
-  effect Gt stack = on_two stack (λ s t below. tell (int_lt (as_signed t) (as_signed s)) below)
-  effect Le stack = on_two stack (λ s t below. tell (int_le (as_signed s) (as_signed t)) below)
-  effect Lt stack = on_two stack (λ s t below. tell (int_lt (as_signed s) (as_signed t)) below)
-  effect Ne stack = on_two stack (λ s t below. tell (not (nat_eq s t)) below)
+  effect Eq stack = compare nat_eq stack
+  effect Ge stack = compare (λ s t. int_le (as_signed t) (as_signed s)) stack
+  effect Gt stack = compare (λ s t. int_lt (as_signed t) (as_signed s)) stack
+  effect Le stack = compare (λ s t. int_le (as_signed s) (as_signed t)) stack
+  effect Lt stack = compare (λ s t. int_lt (as_signed s) (as_signed t)) stack
+  effect Ne stack = compare (λ s t. not (nat_eq s t)) stack
   effect (Skip i) stack = Jump i stack
   effect (Breg r n) stack = known NoRegister (c.register r) (λ v. push_signed size (pos v +ℤ n) stack)
   effect (Fbreg n) stack = known NoFrameBase c.frame_base (λ v. push_signed size (pos v +ℤ n) stack)
@@ -130,10 +157,10 @@ module _ (c : Context) where
     pub address : ℕ
     pub below : List ℕ
     pub top : stack ≡ address ∷ below
-    pub in_space : address + k ≤ address_limit c.target.size
+    pub in_space : address + k ≤ address_limit size
 
   -- an operation reads from memory
   pub record Reads (op : Op) (stack : List ℕ) : Type 0 where
     pub count : ℕ
-    pub bytes : bytes_read c.target.size op ≡ Some count
+    pub bytes : bytes_read size op ≡ Some count
     pub made : ReadsAt count stack

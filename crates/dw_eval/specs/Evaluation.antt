@@ -7,22 +7,34 @@ use Rattle.dw_eval.specs.declared.error.EvalError.{EvalError}
 use Rattle.dw_eval.specs.declared.error.EvalError.TheVariants.{Fault}
 use Rattle.dw_eval.specs.declared.error.Kind.{Kind}
 use Rattle.dw_eval.specs.declared.error.Kind.TheVariants.{EmptyResult}
-use Rattle.dw_eval.specs.Context.{Context}
+use Rattle.dw_eval.specs.declared.env.Env.{Env}
+use Rattle.dw_eval.specs.Context.{Context, context}
 use Rattle.dw_eval.specs.Effect.{effect, leads, Reads}
-use Rattle.dw_eval.specs.Runs.{Answers, MayFail}
+use Rattle.dw_eval.specs.Runs.{IsResult, MayFail}
 
 -- before an operation: its index and the stack, the top first
 pub record State : Type 0 where
   pub index : ℕ
   pub stack : List ℕ
 
-abbrev pub value_turn : Context → Op → State → Result State Kind
-value_turn c op s = leads {S = State} (λ i stack. record { index = i; stack = stack }) s.index (effect c op s.stack)
+abbrev pub index_of : State → ℕ
+index_of s = s.index
+
+abbrev pub value_step : Context → Op → State → Result State Kind
+value_step c op s = leads {S = State} (λ i stack. record { index = i; stack = stack }) s.index (effect c op s.stack)
 
 -- a stack that holds a value, or is empty
 abbrev pub first_stack : Size → Option ℕ → List ℕ
 first_stack size None = []
 first_stack size (Some v) = v % address_limit size ∷ []
+
+-- index 0 and the stack at the start
+abbrev pub value_start : List ℕ → State
+value_start first = record { index = 0; stack = first }
+
+-- an operation reads from memory
+abbrev pub value_reads : Context → Op → State → Type 0
+value_reads c op s = Reads c op s.stack
 
 -- the top
 abbrev pub top_of : ℕ → List ℕ → Result ℕ EvalError
@@ -33,8 +45,16 @@ top_of len (v ∷ below) = Ok v
 module _ (ops : List Op) (c : Context) (first : List ℕ) where
   -- the value, or the kind of the fault and the operation's index
   abbrev pub Evaluates : ℕ → Result ℕ EvalError → Type 0
-  Evaluates = Answers (λ (s : State). s.index) (value_turn c) ops (record { index = 0; stack = first }) (λ s. top_of (length ops) s.stack)
+  Evaluates = IsResult index_of (value_step c) ops (value_start first) (λ s. top_of (length ops) s.stack)
 
   -- operation i is reached before the limit, and reads from memory
   abbrev pub MayFailAt : ℕ → ℕ → Type 0
-  MayFailAt = MayFail (λ (s : State). s.index) (value_turn c) ops (record { index = 0; stack = first }) (λ op s. Reads c op s.stack)
+  MayFailAt = MayFail index_of (value_step c) ops (value_start first) (value_reads c)
+
+-- the value of an expression that begins with this on its stack, in an environment over a memory of these bytes
+abbrev pub EvaluatesIn : List Op → Option ℕ → Env → (ℕ → Option ℕ) → ℕ → Result ℕ EvalError → Type 0
+EvaluatesIn ops start env byte = Evaluates ops (context env byte) (first_stack env.target.size start)
+
+-- operation i of it is reached before the limit, and reads from memory
+abbrev pub MayFailIn : List Op → Option ℕ → Env → (ℕ → Option ℕ) → ℕ → ℕ → Type 0
+MayFailIn ops start env byte = MayFailAt ops (context env byte) (first_stack env.target.size start)

@@ -1,5 +1,6 @@
 -- Location descriptions: DWARF 5, 2.6.1.
-use Rattle.std.specs.Prelude.{◌≡◌, ℕ, ◌+◌, List, [], ◌∷◌, ◌++◌, length, Option, Some, None, Result, Ok, Err}
+use Rattle.std.specs.Prelude.{◌≡◌, ℕ, ◌+◌, List, [], ◌∷◌, ◌++◌, length, map, Option, Some, None, Result, Ok, Err}
+use Rattle.std.specs.Global.{Vec}
 use Rattle.dw_op.specs.declared.op.Op.{Op}
 use Rattle.dw_op.specs.declared.op.Op.TheVariants.{Reg, Nop, BitPiece, Implicit, StackValue}
 use Rattle.dw_op.specs.declared.op.Op.TheVariants as op
@@ -13,9 +14,10 @@ use Rattle.dw_eval.specs.declared.place.Part.TheVariants.{Whole, Bits}
 use Rattle.dw_eval.specs.declared.place.Piece.{Piece}
 use Rattle.dw_eval.specs.declared.place.Place.{Place}
 use Rattle.dw_eval.specs.declared.place.Place.TheVariants.{Empty, Memory, Register, Value, Bytes}
-use Rattle.dw_eval.specs.Context.{Context}
+use Rattle.dw_eval.specs.declared.env.Env.{Env}
+use Rattle.dw_eval.specs.Context.{Context, context}
 use Rattle.dw_eval.specs.Effect.{Outcome, Faults, effect, leads, Reads}
-use Rattle.dw_eval.specs.Runs.{Answers, MayFail}
+use Rattle.dw_eval.specs.Runs.{IsResult, MayFail}
 
 -- before an operation: its index, the stack, the place that waits for its piece, and the pieces so far
 pub record PlaceState : Type 0 where
@@ -23,6 +25,9 @@ pub record PlaceState : Type 0 where
   pub stack : List ℕ
   pub pending : Option Place
   pub pieces : List Piece
+
+abbrev pub place_index : PlaceState → ℕ
+place_index s = s.index
 
 -- the pending place, else memory at the top, else nothing
 abbrev pub place_here : Option Place → List ℕ → Place
@@ -49,13 +54,13 @@ with_value [] s = Err StackUnderflow
 with_value (t ∷ below) s = Ok (with_place (Value t) below s)
 
 -- while no place is pending
-abbrev pub free_turn : Context → Op → PlaceState → Result PlaceState Kind
-free_turn c (Reg r) s = Ok (with_place (Register r) s.stack s)
-free_turn c (Implicit block) s = Ok (with_place (Bytes block) s.stack s)
-free_turn c StackValue s = with_value s.stack s
-free_turn c (op.Piece n) s = Ok (with_piece (part.Bytes n) s)
-free_turn c (BitPiece size offset) s = Ok (with_piece (Bits size offset) s)
-free_turn c other s = leads (λ i stack. with_stack i stack s) s.index (effect c other s.stack)
+abbrev pub free_step : Context → Op → PlaceState → Result PlaceState Kind
+free_step c (Reg r) s = Ok (with_place (Register r) s.stack s)
+free_step c (Implicit block) s = Ok (with_place (Bytes block) s.stack s)
+free_step c StackValue s = with_value s.stack s
+free_step c (op.Piece n) s = Ok (with_piece (part.Bytes n) s)
+free_step c (BitPiece size offset) s = Ok (with_piece (Bits size offset) s)
+free_step c other s = leads (λ i stack. with_stack i stack s) s.index (effect c other s.stack)
 
 -- what is no piece: the stack is too short for it, or the piece is missing
 abbrev pub refused : Outcome → Result PlaceState Kind
@@ -63,21 +68,26 @@ refused (Faults StackUnderflow) = Err StackUnderflow
 refused other = Err MissingPiece
 
 -- while a place is pending a piece has to follow
-abbrev pub held_turn : Context → Op → PlaceState → Result PlaceState Kind
-held_turn c (op.Piece n) s = Ok (with_piece (part.Bytes n) s)
-held_turn c (BitPiece size offset) s = Ok (with_piece (Bits size offset) s)
-held_turn c Nop s = Ok (with_stack (s.index + 1) s.stack s)
-held_turn c other s = refused (effect c other s.stack)
+abbrev pub held_step : Context → Op → PlaceState → Result PlaceState Kind
+held_step c (op.Piece n) s = Ok (with_piece (part.Bytes n) s)
+held_step c (BitPiece size offset) s = Ok (with_piece (Bits size offset) s)
+held_step c Nop s = Ok (with_stack (s.index + 1) s.stack s)
+held_step c other s = refused (effect c other s.stack)
 
-abbrev pub turn_by : Context → Op → Option Place → PlaceState → Result PlaceState Kind
-turn_by c op None s = free_turn c op s
-turn_by c op (Some place) s = held_turn c op s
+abbrev pub step_by : Context → Op → Option Place → PlaceState → Result PlaceState Kind
+step_by c op None s = free_step c op s
+step_by c op (Some place) s = held_step c op s
 
-abbrev pub place_turn : Context → Op → PlaceState → Result PlaceState Kind
-place_turn c op s = turn_by c op s.pending s
+abbrev pub place_step : Context → Op → PlaceState → Result PlaceState Kind
+place_step c op s = step_by c op s.pending s
 
+-- index 0 and nothing yet
 abbrev pub place_start : PlaceState
 place_start = record { index = 0; stack = []; pending = None; pieces = [] }
+
+-- an operation reads from memory, where it is not refused
+abbrev pub place_reads : Context → Op → PlaceState → Type 0
+place_reads c op s = (s.pending ≡ None) × Reads c op s.stack
 
 -- at the end of a list of this length: one whole piece where there is none yet, and nothing is left behind pieces
 abbrev pub pieces_of : ℕ → Option Place → List ℕ → List Piece → Result (List Piece) EvalError
@@ -88,20 +98,26 @@ pieces_of len (Some place) stack (piece ∷ pieces) = Err (Fault MissingPiece le
 
 -- a place without where its bytes lie in memory
 abbrev pub bare_place : Place → Place
-bare_place Empty = Empty
-bare_place (Memory a) = Memory a
-bare_place (Register r) = Register r
-bare_place (Value v) = Value v
 bare_place (Bytes block) = Bytes (record { ref_ptr = (0, 0); now = block.now })
+bare_place other = other
 
 abbrev pub bare_piece : Piece → Piece
 bare_piece p = record { place = bare_place p.place; part = p.part }
 
+-- the bare pieces, or the error
+abbrev pub bare_result : Result (Vec Piece) EvalError → Result (List Piece) EvalError
+bare_result (Ok pieces) = Ok (map bare_piece pieces.items)
+bare_result (Err e) = Err e
+
 module _ (ops : List Op) (c : Context) where
   -- the pieces, or the kind of the fault and the operation's index
   abbrev pub Located : ℕ → Result (List Piece) EvalError → Type 0
-  Located = Answers (λ (s : PlaceState). s.index) (place_turn c) ops place_start (λ s. pieces_of (length ops) s.pending s.stack s.pieces)
+  Located = IsResult place_index (place_step c) ops place_start (λ s. pieces_of (length ops) s.pending s.stack s.pieces)
 
-  -- operation i is reached before the limit while no place is pending, and reads from memory
-  abbrev pub PlaceMayFailAt : ℕ → ℕ → Type 0
-  PlaceMayFailAt = MayFail (λ (s : PlaceState). s.index) (place_turn c) ops place_start (λ op s. (s.pending ≡ None) × Reads c op s.stack)
+-- the pieces of a description, in an environment over a memory of these bytes
+abbrev pub LocatedIn : List Op → Env → (ℕ → Option ℕ) → ℕ → Result (List Piece) EvalError → Type 0
+LocatedIn ops env byte = Located ops (context env byte)
+
+-- operation i of it is reached before the limit while no place is pending, and reads from memory
+abbrev pub PlaceMayFailIn : List Op → Env → (ℕ → Option ℕ) → ℕ → ℕ → Type 0
+PlaceMayFailIn ops env byte = MayFail place_index (place_step (context env byte)) ops place_start (place_reads (context env byte))

@@ -5,7 +5,7 @@ use Rattle.dw_num.specs.declared.target.Size.{Size}
 use Rattle.dw_num.specs.Target.{address_limit}
 use Rattle.dw_eval.specs.declared.place.Piece.{Piece}
 use Rattle.dw_eval.specs.declared.place.Place.{Place}
-use Rattle.dw_eval.specs.declared.place.Place.TheVariants.{Empty, Memory, Register, Value, Bytes}
+use Rattle.dw_eval.specs.declared.place.Place.TheVariants.{Memory, Value}
 
 -- all entries of a stack
 abbrev pub AreInSpace : Size → List ℕ → Type 0
@@ -15,9 +15,7 @@ AreInSpace size = AllByRecursion (λ v. v < address_limit size)
 abbrev pub PlaceInSpace : Size → Place → Type 0
 PlaceInSpace size (Memory address) = address < address_limit size
 PlaceInSpace size (Value v) = v < address_limit size
-PlaceInSpace size Empty = Unit {0}
-PlaceInSpace size (Register r) = Unit {0}
-PlaceInSpace size (Bytes block) = Unit {0}
+PlaceInSpace size other = Unit {0}
 
 -- the places of all pieces
 abbrev pub ArePlacesInSpace : Size → List Piece → Type 0

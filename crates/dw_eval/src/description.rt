@@ -8,9 +8,8 @@ ghost use Rattle.dw_eval.specs.declared.error.EvalError.TheVariants.{Fault, OutO
 ghost use Rattle.dw_eval.specs.declared.error.Kind.TheVariants.{MissingPiece};
 ghost use Rattle.dw_eval.specs.Context.{context};
 ghost use Rattle.dw_eval.specs.Effect.{effect, Reads, leads};
-ghost use Rattle.dw_eval.specs.Location.{place_turn, place_here, with_piece, with_place, with_stack, with_value, pieces_of};
-ghost use Rattle.dw_eval.specs.Inner.Location.{place_reads};
-ghost use Rattle.dw_eval.specs.Inner.Roles.{free_by, held_by, refused_by, turn_of};
+ghost use Rattle.dw_eval.specs.Location.{place_step, place_reads, place_here, with_piece, with_place, with_stack, with_value, pieces_of};
+ghost use Rattle.dw_eval.specs.Inner.Roles.{free_by, held_by, refused_by, step_of};
 ghost use Rattle.dw_eval.specs.Inner.Steps.{StepsTo};
 
 use crate::action::act;
@@ -34,7 +33,7 @@ pub(crate) struct Description<'a> {
 impl<'a> Description<'a> {
     ghost use Rattle.dw_eval.specs.declared.place.Piece.{Piece};
     ghost use Rattle.dw_eval.specs.Location.{bare_place, bare_piece};
-    ghost use Rattle.dw_eval.specs.Inner.Description.{bare_role, state_of, Turns};
+    ghost use Rattle.dw_eval.specs.Inner.Description.{bare_role, state_of, StepsWithoutMemory};
 
     /// Nothing is described yet. Takes no memory.
     pub(crate) fn new(alloc: Global) -> Description<'a>
@@ -63,7 +62,7 @@ impl<'a> Description<'a> {
     // Adds a piece, and empties the stack.
     fn add(&mut self, part: Part, index: usize) -> Result<usize, EvalError>
         requires { index < 2 ^ 64 - 1 }
-        ensures { Turns (Ok (with_piece part (state_of index self.old))) index (λ next. state_of next self.new) result }
+        ensures { StepsWithoutMemory (Ok (with_piece part (state_of index self.old))) index (λ next. state_of next self.new) result }
     {
         let place = self.place();
         if self.pieces.push(Piece { place, part }).is_err() {
@@ -76,7 +75,7 @@ impl<'a> Description<'a> {
 
     fn set(&mut self, place: Place<'a>, index: usize) -> Result<usize, EvalError>
         requires { index < 2 ^ 64 - 1 }
-        ensures { Turns (Ok (with_place (bare_place place.entry) self.old.stack (state_of index self.old))) index (λ next. state_of next self.new) result }
+        ensures { StepsWithoutMemory (Ok (with_place (bare_place place.entry) self.old.stack (state_of index self.old))) index (λ next. state_of next self.new) result }
     {
         self.pending = Some(place);
         Ok(index + 1)
@@ -84,7 +83,7 @@ impl<'a> Description<'a> {
 
     fn set_value(&mut self, index: usize) -> Result<usize, EvalError>
         requires { index < 2 ^ 64 - 1 }
-        ensures { Turns (with_value self.old.stack (state_of index self.old)) index (λ next. state_of next self.new) result }
+        ensures { StepsWithoutMemory (with_value self.old.stack (state_of index self.old)) index (λ next. state_of next self.new) result }
     {
         match self.stack.pop() {
             Some(value) => {
@@ -100,7 +99,7 @@ impl<'a> Description<'a> {
 
     // No piece follows a place: the stack is too short for the operation, or the piece is missing.
     fn refuse(&mut self, entries: usize, index: usize) -> Result<usize, EvalError>
-        ensures { Turns (refused_by entries self.old.stack) index (λ next. state_of next self.new) result }
+        ensures { StepsWithoutMemory (refused_by entries self.old.stack) index (λ next. state_of next self.new) result }
     {
         if self.stack.len() < entries {
             return Err(EvalError::Fault {
@@ -117,7 +116,7 @@ impl<'a> Description<'a> {
     // An operation while a place is pending.
     fn hold(&mut self, role: Role<'a>, index: usize) -> Result<usize, EvalError>
         requires { index < 2 ^ 64 - 1 }
-        ensures { Turns (held_by (bare_role role.entry) (state_of index self.old)) index (λ next. state_of next self.new) result }
+        ensures { StepsWithoutMemory (held_by (bare_role role.entry) (state_of index self.old)) index (λ next. state_of next self.new) result }
     {
         match role {
             Role::SetsPlace(_) => self.refuse(0, index),
@@ -183,7 +182,7 @@ impl<'a> Description<'a> {
         requires access { (len : ℕ) → op.now ≡ DerefSize len → (1 ≤ len) × (len ≤ byte_count env.now.target.size) }
         requires room { M.failures memory.old < 2 ^ 64 - 1 }
         ensures same { M.byte memory.new ≡ M.byte memory.old }
-        ensures so { let c = context env.now (M.byte memory.old) in StepsTo (let s = state_of index self.old in turn_of c (bare op.now) s.pending s) (place_reads c (bare op.now) (state_of index self.old)) index (M.failures memory.old) (λ next. state_of next self.new) result (M.failures memory.new) }
+        ensures so { let c = context env.now (M.byte memory.old) in StepsTo (let s = state_of index self.old in step_of c (bare op.now) s.pending s) (place_reads c (bare op.now) (state_of index self.old)) index (M.failures memory.old) (λ next. state_of next self.new) result (M.failures memory.new) }
     {
         let role = role_of(op);
         match self.pending {
@@ -193,7 +192,7 @@ impl<'a> Description<'a> {
     }
 
     /// Executes the operation at an index, and says which one is next.
-    #[tactic(auto, using(crate::proofs::Roles::turn_steps))]
+    #[tactic(auto, using(crate::proofs::Roles::step_by_role))]
     pub(crate) fn step<M: Memory>(
         &mut self,
         op: &Op<'a>,
@@ -205,7 +204,7 @@ impl<'a> Description<'a> {
         requires access { (len : ℕ) → op.now ≡ DerefSize len → (1 ≤ len) × (len ≤ byte_count env.now.target.size) }
         requires room { M.failures memory.old < 2 ^ 64 - 1 }
         ensures same { M.byte memory.new ≡ M.byte memory.old }
-        ensures so { let c = context env.now (M.byte memory.old) in StepsTo (place_turn c (bare op.now) (state_of index self.old)) (place_reads c (bare op.now) (state_of index self.old)) index (M.failures memory.old) (λ next. state_of next self.new) result (M.failures memory.new) }
+        ensures so { let c = context env.now (M.byte memory.old) in StepsTo (place_step c (bare op.now) (state_of index self.old)) (place_reads c (bare op.now) (state_of index self.old)) index (M.failures memory.old) (λ next. state_of next self.new) result (M.failures memory.new) }
     {
         self.turn(op, index, env, memory)
     }

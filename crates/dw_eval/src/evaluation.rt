@@ -10,7 +10,7 @@ ghost use Rattle.dw_eval.specs.declared.error.Kind.{Kind};
 ghost use Rattle.dw_eval.specs.declared.error.Kind.TheVariants.{Device};
 ghost use Rattle.dw_eval.specs.Context.{context};
 ghost use Rattle.dw_eval.specs.Effect.{Reads};
-ghost use Rattle.dw_eval.specs.Evaluation.{value_turn, first_stack, top_of, Evaluates, MayFailAt};
+ghost use Rattle.dw_eval.specs.Evaluation.{value_step, first_stack, top_of, EvaluatesIn, MayFailIn};
 ghost use Rattle.dw_eval.specs.Inner.Evaluation.{EvaluatesOver};
 ghost use Rattle.dw_eval.specs.Inner.Steps.{reached, StepsTo};
 
@@ -79,7 +79,7 @@ fn step<M: Memory>(
     requires access { (len : ℕ) → op.now ≡ DerefSize len → (1 ≤ len) × (len ≤ byte_count env.now.target.size) }
     requires room { M.failures memory.old < 2 ^ 64 - 1 }
     ensures same { M.byte memory.new ≡ M.byte memory.old }
-    ensures so { let c = context env.now (M.byte memory.old) in StepsTo (value_turn c (bare op.now) (record { index = index; stack = stack.old })) (Reads c (bare op.now) stack.old) index (M.failures memory.old) (λ next. record { index = next; stack = stack.new }) result (M.failures memory.new) }
+    ensures so { let c = context env.now (M.byte memory.old) in StepsTo (value_step c (bare op.now) (record { index = index; stack = stack.old })) (Reads c (bare op.now) stack.old) index (M.failures memory.old) (λ next. record { index = next; stack = stack.new }) result (M.failures memory.new) }
 {
     let answer = act(op, stack, env, memory);
     reached(answer, index)
@@ -138,9 +138,9 @@ pub fn evaluate<M: Memory>(
     // The count of failures stays or grows.
     ensures counted { M.failures memory.old ≤ M.failures memory.new }
     // Where it stays, the answer is the expression's, or want of memory.
-    ensures answered { M.failures memory.new ≡ M.failures memory.old → (result ≡ Err OutOfMemory) ⊎ Evaluates list.now.ops (context env.now (M.byte memory.old)) (first_stack env.now.target.size start) steps result }
+    ensures answered { M.failures memory.new ≡ M.failures memory.old → (result ≡ Err OutOfMemory) ⊎ EvaluatesIn list.now.ops start env.now (M.byte memory.old) steps result }
     // Where it grows, a read of an operation that is reached has failed.
-    ensures failed { M.failures memory.old < M.failures memory.new → (i : ℕ) × (result ≡ Err (Fault Device i)) × MayFailAt list.now.ops (context env.now (M.byte memory.old)) (first_stack env.now.target.size start) steps i }
+    ensures failed { M.failures memory.old < M.failures memory.new → (i : ℕ) × (result ≡ Err (Fault Device i)) × MayFailIn list.now.ops start env.now (M.byte memory.old) steps i }
     // A fault's index is that of an operation, or the list's length.
     ensures within { (kind : Kind) (i : ℕ) → result ≡ Err (Fault kind i) → i ≤ length list.now.ops }
     // No other failure is named.

@@ -17,6 +17,7 @@ mod location;
 mod memory;
 mod operations;
 mod place;
+mod policy;
 mod registers;
 mod stack;
 
@@ -29,4 +30,5 @@ pub use laws::evaluation_laws;
 pub use location::locate;
 pub use memory::{Memory, ReadFault};
 pub use place::{Part, Piece, Place};
+pub use policy::Policy;
 pub use registers::Registers;

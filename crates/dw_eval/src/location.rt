@@ -7,7 +7,7 @@ ghost use Rattle.dw_eval.specs.declared.error.EvalError.TheVariants.{Fault, OutO
 ghost use Rattle.dw_eval.specs.declared.error.Kind.{Kind};
 ghost use Rattle.dw_eval.specs.declared.error.Kind.TheVariants.{Device};
 ghost use Rattle.dw_eval.specs.Context.{context};
-ghost use Rattle.dw_eval.specs.Location.{bare_piece, Located, PlaceMayFailAt};
+ghost use Rattle.dw_eval.specs.Location.{bare_piece, bare_result, LocatedIn, PlaceMayFailIn};
 ghost use Rattle.dw_eval.specs.Inner.Location.{LocatesOver};
 
 use crate::description::Description;
@@ -71,9 +71,9 @@ pub fn locate<'a, M: Memory>(
     // The count of failures stays or grows.
     ensures counted { M.failures memory.old ≤ M.failures memory.new }
     // Where it stays, the answer is the description's, or want of memory.
-    ensures answered { M.failures memory.new ≡ M.failures memory.old → let so = Located list.now.ops (context env.now (M.byte memory.old)) steps in MatchResult result (λ v. so (Ok (map bare_piece v.items))) (λ e. (e ≡ OutOfMemory) ⊎ so (Err e)) }
+    ensures answered { M.failures memory.new ≡ M.failures memory.old → (result ≡ Err OutOfMemory) ⊎ LocatedIn list.now.ops env.now (M.byte memory.old) steps (bare_result result) }
     // Where it grows, a read of an operation that is reached has failed.
-    ensures failed { M.failures memory.old < M.failures memory.new → (i : ℕ) × (result ≡ Err (Fault Device i)) × PlaceMayFailAt list.now.ops (context env.now (M.byte memory.old)) steps i }
+    ensures failed { M.failures memory.old < M.failures memory.new → (i : ℕ) × (result ≡ Err (Fault Device i)) × PlaceMayFailIn list.now.ops env.now (M.byte memory.old) steps i }
     // A fault's index is that of an operation, or the list's length.
     ensures within { (kind : Kind) (i : ℕ) → result ≡ Err (Fault kind i) → i ≤ length list.now.ops }
     // No other failure is named.

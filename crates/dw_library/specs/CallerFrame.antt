@@ -9,8 +9,8 @@ use Rattle.dw_unwind.specs.Unwound.{Unwound, stopped}
 use Rattle.dw_unwind.specs.declared.frame.Frame.{Frame as CallerFrame}
 use Rattle.dw_unwind.specs.declared.frame.Column.{Column}
 use Rattle.dw_unwind.specs.declared.frame.Column.TheVariants.{Cfa, Register as RegisterColumn}
-use Rattle.dw_unwind.specs.declared.frame.Policy.{Policy}
-use Rattle.dw_unwind.specs.declared.frame.Policy.TheVariants.{SameValue, Undefined}
+use Rattle.dw_eval.specs.declared.policy.Policy.{Policy}
+use Rattle.dw_eval.specs.declared.policy.Policy.TheVariants.{SameValue, Undefined}
 use Rattle.dw_unwind.specs.declared.frame.UnwindError.{UnwindError}
 use Rattle.dw_unwind.specs.declared.frame.UnwindError.TheVariants as errors
 use Rattle.dw_library.specs.declared.answer.Refused.{Refused}

@@ -15,10 +15,10 @@ ghost use Rattle.dw_library.specs.Windows.{byte_among};
 use crate::answer::{BAD_ARGUMENT, OUT_OF_MEMORY, REFUSED, Refused, not_refused, target_of, told};
 use crate::registers::{Register, put_registers, registers_of};
 use crate::windows::{Window, Windows};
-use dw_eval::Registers;
+use dw_eval::{Policy, Registers};
 use dw_num::{ReadError, Target};
 use dw_section::{Table, check};
-use dw_unwind::{Column, Frame as CallerFrame, Policy, UnwindError, unwind};
+use dw_unwind::{Column, Frame as CallerFrame, UnwindError, unwind};
 use std::alloc::{AllocError, Global};
 
 /// No FDE covers the address.

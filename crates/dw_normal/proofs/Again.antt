@@ -11,7 +11,7 @@ use Rattle.dw_cfa.specs.Inner.Agreement.{agreed}
 use Rattle.dw_cfa.specs.Rows.{Rules}
 use Rattle.dw_section.specs.Accepted.{Accepted}
 use Rattle.dw_section.specs.Opening.{OpensBehind}
-use Rattle.dw_section.specs.Inner.Sound.{RowFits}
+use Rattle.dw_section.specs.Fits.{RowFits}
 use Rattle.dw_section.proofs.Lent.Judged.{all_get}
 use Rattle.dw_section.proofs.Lent.OpeningLaws.{Opened, Specifies, one_first, opened}
 use Rattle.dw_canon.specs.Inner.Canon.{initial_of}

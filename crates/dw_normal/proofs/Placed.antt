@@ -11,7 +11,7 @@ use Rattle.dw_cfa.specs.Rows.{Rules}
 use Rattle.dw_section.specs.Accepted.{Accepted}
 use Rattle.dw_section.specs.declared.lookup.Fde.{Fde}
 use Rattle.dw_section.specs.Meaning.{AreFdes}
-use Rattle.dw_section.specs.Inner.Sound.{RowFits}
+use Rattle.dw_section.specs.Fits.{RowFits}
 use Rattle.dw_section.proofs.Lent.Judged.{all_get}
 use Rattle.dw_canon.specs.Canon.{return_registers}
 use Rattle.dw_canon.specs.Inner.Canon.{cie_instrs, initial_of}

@@ -1,3 +1,3 @@
--- How the code keeps what the contracts say. No public clause reaches these.
+-- How the code keeps what the contracts say. No clause of a `pub fn` reaches these.
 pub mod Scan
 pub mod Front

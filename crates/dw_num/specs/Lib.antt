@@ -6,6 +6,7 @@ pub mod Fixed
 pub mod Leb
 pub mod Front
 pub mod ShortestLeb
+pub mod Digits
 pub mod Span
 pub mod Shortest
 pub mod Laws

@@ -54,7 +54,7 @@ natural t n = constant t (pos n)
 abbrev pub implicit : List ℕ → Op
 implicit bytes = Implicit (record { ref_ptr = (0, 0); now = bytes })
 
--- the codes that hold no operand
+-- the codes that are a whole byte
 abbrev pub form_table : Target → List (ℕ × Form)
 form_table t =
     (0x03, one address Addr) ∷ (0x06, none Deref)

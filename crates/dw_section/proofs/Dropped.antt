@@ -1,5 +1,5 @@
 -- The registers that a change drops from a row that was narrowed by the row before it.
-use Rattle.std.proofs.Common.{◌≡◌, ℕ, suc, ◌<◌, Bool, true, List, [], ◌∷◌, Option, Some, None, Ok, refl, sym, ap, ◌∙◌, subst, arith, inl, inr}
+use Rattle.std.proofs.Common.{◌≡◌, ℕ, suc, ◌<◌, Bool, true, false, List, [], ◌∷◌, Option, Some, None, Ok, refl, sym, ap, ◌∙◌, subst, arith, inl, inr}
 use Rattle.std.specs.List.{filter}
 use Rattle.std.proofs.lemmas.Bool.{cases_Bool, cases_lt}
 use Rattle.dw_cfa.specs.declared.rule.RegRule.{RegRule}
@@ -8,8 +8,9 @@ use Rattle.dw_cfa.specs.Agreement.{is_kept, kept}
 use Rattle.dw_cfa.specs.Rows.{Rules, rule, is_specified}
 use Rattle.dw_cfa.proofs.Lent.Narrowed.{left_too}
 use Rattle.dw_cfa.proofs.Lent.RowLists.{Entry}
-use Rattle.dw_section.specs.Changes.{Changing, GivesAddress, before_then, kept_by}
+use Rattle.dw_section.specs.Changes.{Changing, GivesAddress, before_then, behind_all, kept_by, last_shown}
 use Rattle.dw_section.specs.Inner.NarrowRow.{ChangesKeep, SpecifiesAll}
+use Rattle.dw_section.specs.Table.{Section}
 
 -- one register more is specified still
 pub specified_more : (before row : Rules) (from q r : ℕ) → DiffersFirst from before.registers row.registers q → ((n : ℕ) → n < from → is_specified (rule before n) ≡ true → is_specified (rule row n) ≡ true)
@@ -67,3 +68,14 @@ next_of E old next (Some a) to g e =
 pub none_next : (E : Type 0) (old next : Changing) (o : Option ℕ) → GivesAddress {E = E} old (Ok o) next → o ≡ None → (old.to_come ≡ []) × (next.to_come ≡ [])
 none_next E old next None g e = (g.1, g.2)
 none_next E old next (Some a) g e = absurd cc
+
+same_changing : (n : Changing) (section : Section) (to_come : List (ℕ × Rules)) (shown before : Option Rules) (failed : Bool) → n.section ≡ section → n.to_come ≡ to_come → n.shown ≡ shown → n.before ≡ before → n.failed ≡ failed
+    → n ≡ record { section = section; to_come = to_come; shown = shown; before = before; failed = failed }
+same_changing n section to_come shown before failed s c h b f = rw (sym s, sym c, sym h, sym b, sym f) refl
+
+-- behind the last of them
+pub all_given : (E : Type 0) (first old next : Changing) (o : Option ℕ) → GivesAddress {E = E} old (Ok o) next → o ≡ None → next.before ≡ before_then o old.shown → next.section ≡ first.section
+    → last_shown old.shown old.to_come ≡ last_shown first.shown first.to_come → next ≡ behind_all first
+all_given E first old next None g e before section shown =
+    same_changing next first.section [] (last_shown first.shown first.to_come) None false section g.2 (g.3 ∙ sym (ap (last_shown old.shown) g.1) ∙ shown) before g.0
+all_given E first old next (Some a) g e before section shown = absurd cc

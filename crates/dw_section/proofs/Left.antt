@@ -1,7 +1,6 @@
 -- A walk over a section that has a cut gives its pieces, and one over a section that has headers gives these.
-use Rattle.std.proofs.Common.{◌≡◌, ℕ, ◌+◌, ◌<◌, ◌≤◌, List, [], ◌∷◌, ◌++◌, length, drop, Err, refl, inl, inr, sym, ap, subst, ◌∙◌, arith}
+use Rattle.std.proofs.Common.{◌≡◌, ℕ, ◌+◌, ◌<◌, ◌≤◌, List, [], ◌∷◌, ◌++◌, length, Err, refl, sym, ap, subst, ◌∙◌, arith}
 use Rattle.std.specs.List.{AllByRecursion, AllZip, cons_option}
-use Rattle.std.proofs.Math.Seq.{drop-append-add}
 use Rattle.std.proofs.lemmas.List.{length-append}
 use Rattle.dw_num.specs.declared.target.Form.{Form}
 use Rattle.dw_num.specs.declared.target.Order.{Order}
@@ -17,10 +16,7 @@ use Rattle.dw_section.specs.Places.{cie_places}
 use Rattle.dw_section.specs.Headers.{Head, Has}
 use Rattle.dw_section.specs.Inner.Left.{PiecesLeft, HeadsLeft, Stays, AreHeaders}
 use Rattle.dw_section.proofs.Items.{front_item, item_some, stuck_before}
-use Rattle.dw_section.specs.Inner.Heads.{head_at}
-use Rattle.dw_section.specs.Among.{IsAmong}
 use Rattle.dw_section.proofs.Lent.HeaderLaws.{has_one}
-use Rattle.dw_section.proofs.Lent.Heads.{has_at}
 
 left_by : (order : Order) (item : Item) (after : List ℕ) (items : List Item) → IsItem item → AllByRecursion IsItem items → item_bytes order item ++ after ≡ all_bytes order items
     → (more : List Item) × (items ≡ item ∷ more) × AllByRecursion IsItem more × (after ≡ all_bytes order more)
@@ -103,62 +99,3 @@ heads_all target s places hs p = record { parts = p.are.entries; left = left_all
 
 pub headers_so : (target : Target) (s : List ℕ) (ps : List Piece) (places : List ℕ) (hs : List Head) → Pieces target s ps → places ≡ cie_places ps → AllZip (Has target places) ps hs → AreHeaders target s places hs
 headers_so target s ps places hs cut e z = record { are = record { entries = ps; cut = cut; each = subst (λ (l : List ℕ). AllZip (Has target l) ps hs) e z }; places_are = e }
-
--- ---- from the place of an entry on its header is the next
-
--- from a place in what these items spell, a header and more are left
-pub record LeftFrom (target : Target) (places : List ℕ) (at : ℕ) (s : List ℕ) (h : Head) : Type 0 where
-  pub k : ℕ
-  pub place : head_at h ≡ at + k
-  pub inside : k ≤ length s
-  pub more : List Head
-  pub left : HeadsLeft places (record { at = at + k; bytes = drop k s; target = target }) (h ∷ more)
-
-left_behind : (target : Target) (places : List ℕ) (at : ℕ) (b s : List ℕ) (h : Head) → LeftFrom target places (at + length b) s h → LeftFrom target places at (b ++ s) h
-left_behind target places at b s h w = record {
-  k = length b + w.k;
-  place = omega (arith, w.place);
-  inside = omega (arith, w.inside, length-append b s);
-  more = w.more;
-  left =
-      subst (λ (d : List ℕ). HeadsLeft places (record { at = at + (length b + w.k); bytes = d; target = target }) (h ∷ w.more)) (sym (drop-append-add b s w.k))
-      (subst (λ (n : ℕ). HeadsLeft places (record { at = n; bytes = drop w.k s; target = target }) (h ∷ w.more)) (omega arith) w.left);
-}
-
-left_from : (target : Target) (places : List ℕ) (at : ℕ) (items : List Item) (hs : List Head) (h : Head) → AllByRecursion IsItem items → AllZip (Has target places) (pieces target.order at items) hs → IsAmong h hs
-    → LeftFrom target places at (all_bytes target.order items) h
-left_from target places at [] [] h each z i = absurd i
-left_from target places at [] (x ∷ hs) h each z i = absurd z
-left_from target places at (gap ∷ items) hs h each z i = left_behind target places at (item_bytes target.order gap) (all_bytes target.order items) h (left_from target places (at + 4) items hs h each.1 z i)
-left_from target places at (entry form body ∷ items) [] h each z i = absurd i
-left_from target places at (entry form body ∷ items) (x ∷ hs) h each z (inr i) =
-    left_behind target places at (item_bytes target.order (entry form body)) (all_bytes target.order items) h
-    (left_from target places (at + length (item_bytes target.order (entry form body))) items hs h each.1 z.1 i)
-left_from target places at (entry form body ∷ items) (x ∷ hs) h each z (inl is) = record {
-  k = 0;
-  place = ap head_at is ∙ has_at target places _ x z.0 ∙ omega arith;
-  inside = omega arith;
-  more = hs;
-  left =
-      subst (λ (y : Head). HeadsLeft places (record { at = at + 0; bytes = all_bytes target.order (entry form body ∷ items); target = target }) (y ∷ hs)) (sym is)
-      (subst (λ (n : ℕ). HeadsLeft places (record { at = n; bytes = all_bytes target.order (entry form body ∷ items); target = target }) (x ∷ hs)) (omega arith)
-      (record { parts = pieces target.order at (entry form body ∷ items); left = record { items = entry form body ∷ items; cut = record { each = each; whole = refl }; are = refl }; each = z }));
-}
-
-pub left_at : (target : Target) (s places : List ℕ) (hs : List Head) (h : Head) → AreHeaders target s places hs → IsAmong h hs
-    → (head_at h ≤ length s) × ((more : List Head) × HeadsLeft places (record { at = head_at h; bytes = drop (head_at h) s; target = target }) (h ∷ more))
-left_at target s places hs h p i =
-    let items = p.are.cut.items in
-    let has = subst (λ (l : List ℕ). AllZip (Has target l) p.are.entries hs) (sym p.places_are) p.are.each in
-    let each = subst (λ (ps : List Piece). AllZip (Has target places) ps hs) p.are.cut.are has in
-    let f = left_from target places 0 items hs h p.are.cut.cut.each each i in
-    let k : head_at h ≡ f.k = omega (arith, f.place) in
-    let whole = p.are.cut.cut.whole in (
-      omega (arith, k, f.inside, ap length whole),
-      (
-        f.more,
-        subst (λ (n : ℕ). HeadsLeft places (record { at = n; bytes = drop n s; target = target }) (h ∷ f.more)) (sym k)
-            (subst (λ (b : List ℕ). HeadsLeft places (record { at = f.k; bytes = drop f.k b; target = target }) (h ∷ f.more)) (sym whole)
-            (subst (λ (n : ℕ). HeadsLeft places (record { at = n; bytes = drop f.k (all_bytes target.order items); target = target }) (h ∷ f.more)) (omega arith) f.left)),
-      ),
-    )

@@ -15,6 +15,7 @@ pub mod Sections
 pub mod Sames
 pub mod Exists
 pub mod Sounds
+pub mod RowFits
 pub mod Totals
 pub mod OneLengths
 pub mod OpeningLaws

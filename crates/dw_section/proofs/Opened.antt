@@ -27,20 +27,22 @@ record Own (target : Target) (s : List ℕ) (e : FoundFde) : Type 0 where
   initial : List Instr
   instrs : List Instr
   says : Says target s e.begin (e.begin + e.range) initial instrs
+  named : e.cie_at ≡ says.head.cie_at
   first : Program target e.factors initial e.cie_program.bytes.now
   second : Program target e.factors instrs e.program.bytes.now
 
 own_of : (target : Target) (s : List ℕ) (e : FoundFde) → IsFoundIn target s e → Own target s e
 own_of target s e h =
-    let runs = all_in (FdeRuns target h.headers) h.headers _ h.hold.0.1 h.is.4 in
+    let runs = all_in (FdeRuns target h.headers) h.headers _ h.hold.0.1 h.is.3 in
     let own = runs.2.head in
-    let heads = one_among 0 h.headers _ _ (heads_rise target s h.headers h.hold.0.0.0) runs.2.begins.among h.is.5 runs.2.begins.stands in
+    let heads = one_among 0 h.headers _ _ (heads_rise target s h.headers h.hold.0.0.0) runs.2.begins.among h.is.4 runs.2.begins.stands in
     let factors : factors_of own ≡ e.factors = ap (λ (x : Head). factors_of (cie_or own x)) heads in
     let bytes : own.program.bytes ≡ e.cie_program.bytes.now = ap (λ (x : Head). (cie_or own x).program.bytes) heads in
     record {
       initial = runs.0;
       instrs = runs.1;
-      says = record { headers = h.headers; are = h.hold.0.0.0; head = found_head h.is.0 h.is.2 e; among = h.is.4; begin_is = refl; end_is = refl; spelled = runs.2 };
+      says = record { headers = h.headers; are = h.hold.0.0.0; head = found_head h.is.0 e; among = h.is.3; begin_is = refl; end_is = refl; spelled = runs.2 };
+      named = refl;
       first = subst (λ (f : Factors). Program target f runs.0 e.cie_program.bytes.now) factors (subst (Program target (factors_of own) runs.0) bytes runs.2.begins.spelled);
       second = subst (λ (f : Factors). Program target f runs.1 e.program.bytes.now) factors runs.2.spelled;
     }
@@ -56,6 +58,7 @@ opens_behind target s e h l own moves =
       initial = own.initial;
       instrs = own.instrs;
       says = own.says;
+      named = own.named;
       head = record { at = e.cie_at; form = l.names.0; code_factor = e.factors.code_factor; data_factor = e.factors.data_factor; return_register = l.names.1; program = record { at = e.cie_program.at; bytes = e.cie_program.bytes.now } };
       begins = record { among = subst (IsAmong _) same l.names.2; stands = refl; spelled = own.first };
       moves = moves;

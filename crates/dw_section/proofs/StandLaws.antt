@@ -152,23 +152,22 @@ among_one n c h = elim (eqb_tells c n) [ inl is ↦ sym is.1 | inr not ↦ (let 
 
 pub stands_joined : (target : Target) (s : List ℕ) (own named : Piece) (pointer : ℕ) (h k : Head) (e : FoundFde) → StandsIn target.order s own → StandsIn target.order s named → named.at ≡ pointer
     → Has target (pointer ∷ []) own h → Has target [] named k → AreJoined h k e → (e.at ≡ own.at) × FoundStands target s e
-stands_joined target s own named pointer h k e own-stands named-stands at has named-has (form, cie_form, named_at, place, own-is, named-is) =
+stands_joined target s own named pointer h k e own-stands named-stands at has named-has (form, cie_form, place, own-is, named-is) =
     let head = subst (Has target (pointer ∷ []) own) own-is has in
     let named-head = subst (Has target [] named) named-is named-has in
-    let fields = fde_from target (pointer ∷ []) own (found_head form named_at e) head in
-    let names : named_at ≡ pointer = ap (λ (x : FdeHead). x.cie_at) fields.3 ∙ among_one fields.0.cie_at pointer (said_of target (pointer ∷ []) own fields.0 fields.1 fields.2).names_cie in
-    let same : place ≡ named_at = has_at target [] named (cie (found_cie cie_form place e.return_register e)) named-head ∙ at ∙ sym names in (
-      has_at target (pointer ∷ []) own (fde (found_head form named_at e)) head,
+    let fields = fde_from target (pointer ∷ []) own (found_head form e) head in
+    let names : e.cie_at ≡ pointer = ap (λ (x : FdeHead). x.cie_at) fields.3 ∙ among_one fields.0.cie_at pointer (said_of target (pointer ∷ []) own fields.0 fields.1 fields.2).names_cie in
+    let same : place ≡ e.cie_at = has_at target [] named (cie (found_cie cie_form place e.return_register e)) named-head ∙ at ∙ sym names in (
+      has_at target (pointer ∷ []) own (fde (found_head form e)) head,
       (
         form,
         cie_form,
-        named_at,
         record {
           piece = own;
           named_piece = named;
           stands = own-stands;
           named_stands = named-stands;
-          own_is = subst (λ (n : ℕ). Has target (n ∷ []) own (fde (found_head form named_at e))) (sym names) head;
+          own_is = subst (λ (n : ℕ). Has target (n ∷ []) own (fde (found_head form e))) (sym names) head;
           named_is = subst (λ (n : ℕ). Has target [] named (cie (found_cie cie_form n e.return_register e))) same named-head;
           names = refl;
         },
@@ -177,9 +176,9 @@ stands_joined target s own named pointer h k e own-stands named-stands at has na
 
 -- its addresses lie in the address space
 pub stands_in_space : (target : Target) (s : List ℕ) (e : FoundFde) → FoundStands target s e → e.begin + e.range ≤ address_limit target.size
-stands_in_space target s e (form, cie_form, named_at, w) =
-    let q = fde_from target (named_at ∷ []) w.piece (found_head form named_at e) w.own_is in
-    let said = said_of target (named_at ∷ []) w.piece q.0 q.1 q.2 in
+stands_in_space target s e (form, cie_form, w) =
+    let q = fde_from target (e.cie_at ∷ []) w.piece (found_head form e) w.own_is in
+    let said = said_of target (e.cie_at ∷ []) w.piece q.0 q.1 q.2 in
     omega (arith, said.in_space, ap (λ (x : FdeHead). x.begin) q.3, ap (λ (x : FdeHead). x.range) q.3)
 
 pub if_some : {X : Type 0} (P Q : X → Type 0) (o : Option X) → ((x : X) → P x → Q x) → IfSome o P → IfSome o Q
@@ -253,15 +252,15 @@ fde_anywhere target places others p h has among =
     inr (q.0, q.1, other_places target places others p q.0 q.1 (subst (λ (n : ℕ). is_among n others ≡ true) pointer among) q.2, ap fde q.3)
 
 pub listed_stands : (target : Target) (s : List ℕ) (hs : List Head) (a : Range) (register : ℕ) (e : FoundFde) → Headers target s hs → Returns hs a register → FoundStands target s e → e.at ≡ a.at → IsListed hs a register e
-listed_stands target s hs a register e p r (form, cie_form, named_at, w) at =
+listed_stands target s hs a register e p r (form, cie_form, w) at =
     let places = cie_places p.entries in
-    let mine = found_head form named_at e in
-    let his = found_cie cie_form named_at e.return_register e in
+    let mine = found_head form e in
+    let his = found_cie cie_form e.cie_at e.return_register e in
     let own = stands_of target s hs (fde r.own) p r.own_among in
     let own-at = has_at target places own.0 (fde r.own) own.2 in
-    let here = has_at target (named_at ∷ []) w.piece (fde mine) w.own_is in
+    let here = has_at target (e.cie_at ∷ []) w.piece (fde mine) w.own_is in
     let own-same = one_piece target.order s w.piece own.0 w.stands own.1 (sym here ∙ at ∙ sym (ap (λ (x : Range). x.at) r.covers) ∙ own-at) in
-    let one : mine ≡ r.own = same_fde target (named_at ∷ []) places own.0 mine r.own (subst (λ (q : Piece). Has target (named_at ∷ []) q (fde mine)) own-same w.own_is) own.2 in
+    let one : mine ≡ r.own = same_fde target (e.cie_at ∷ []) places own.0 mine r.own (subst (λ (q : Piece). Has target (e.cie_at ∷ []) q (fde mine)) own-same w.own_is) own.2 in
     let named = stands_of target s hs (cie r.named) p r.named_among in
     let named-at = has_at target places named.0 (cie r.named) named.2 in
     let there = has_at target [] w.named_piece (cie his) w.named_is in
@@ -271,7 +270,6 @@ listed_stands target s hs a register e p r (form, cie_form, named_at, w) at =
       found = (
         form,
         cie_form,
-        named_at,
         e.return_register,
         subst (λ (x : FdeHead). IsAmong (fde x) hs) (sym one) r.own_among,
         subst (λ (x : CieHead). IsAmong (cie x) hs) (sym two) r.named_among,
@@ -284,12 +282,12 @@ listed_stands target s hs a register e p r (form, cie_form, named_at, w) at =
 
 -- what stands at a place has one range
 pub stands_once : (target : Target) (s : List ℕ) (e : FoundFde) (own : FdeHead) (named : CieHead) → FoundStands target s e → FdeStands target s own named → own.at ≡ e.at → (own.begin ≡ e.begin) × (own.range ≡ e.range)
-stands_once target s e own named (form, cie_form, named_at, w) v at =
-    let mine = found_head form named_at e in
-    let here = has_at target (named_at ∷ []) w.piece (fde mine) w.own_is in
+stands_once target s e own named (form, cie_form, w) v at =
+    let mine = found_head form e in
+    let here = has_at target (e.cie_at ∷ []) w.piece (fde mine) w.own_is in
     let there = has_at target (own.cie_at ∷ []) v.piece (fde own) v.own_is in
     let same = one_piece target.order s w.piece v.piece w.stands v.stands (sym here ∙ sym at ∙ there) in
-    let one : own ≡ mine = sym (same_fde target (named_at ∷ []) (own.cie_at ∷ []) v.piece mine own (subst (λ (q : Piece). Has target (named_at ∷ []) q (fde mine)) same w.own_is) v.own_is) in
+    let one : own ≡ mine = sym (same_fde target (e.cie_at ∷ []) (own.cie_at ∷ []) v.piece mine own (subst (λ (q : Piece). Has target (e.cie_at ∷ []) q (fde mine)) same w.own_is) v.own_is) in
     (ap (λ (x : FdeHead). x.begin) one, ap (λ (x : FdeHead). x.range) one)
 
 -- and one stands there

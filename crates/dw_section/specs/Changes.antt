@@ -74,6 +74,15 @@ abbrev pub before_then : {A : Type 0} → Option A → Option Rules → Option R
 before_then None shown = None
 before_then (Some change) shown = shown
 
+-- the row that is shown behind these changes, where another one was before
+abbrev pub last_shown : Option Rules → List (ℕ × Rules) → Option Rules
+last_shown shown [] = shown
+last_shown shown (change ∷ changes) = last_shown (Some change.1) changes
+
+-- all are given
+abbrev pub behind_all : Changing → Changing
+behind_all c = record { section = c.section; to_come = []; shown = last_shown c.shown c.to_come; before = None; failed = false }
+
 -- a row without the registers that one of these changes leaves Unspecified
 abbrev pub kept_by : Rules → List (ℕ × Rules) → Rules
 kept_by row [] = row

@@ -1,25 +1,22 @@
 -- Laws of sections, for the layers above.
-use Rattle.std.specs.Prelude.{◌≡◌, ℕ, ◌<◌, ◌≤◌, List, ◌∷◌, ◌++◌, length, map}
+use Rattle.std.specs.Prelude.{◌≡◌, ◌↔◌, ℕ, ◌<◌, ◌≤◌, List, ◌∷◌, ◌++◌, length, map}
 use Rattle.std.specs.List.{AllByRecursion, AllZip}
 use Rattle.dw_num.specs.declared.target.Target.{Target}
 use Rattle.dw_num.specs.Input.{AreBytes}
 use Rattle.dw_cfa.specs.declared.instr.Instr.{Instr}
 use Rattle.dw_cfa.specs.Location.{row_starts}
-use Rattle.dw_cfa.specs.Rows.{Rules, rule}
+use Rattle.dw_cfa.specs.Rows.{Rules}
 use Rattle.dw_section.specs.declared.lookup.Fde.{Fde}
 use Rattle.dw_num.specs.declared.refusal.Refusal.{Refusal}
 use Rattle.dw_section.specs.Accepted.{Accepted, CheckFault}
 use Rattle.dw_op.specs.Faults.{IsWithin}
 use Rattle.dw_section.specs.Changes.{AreChanges}
+use Rattle.dw_section.specs.Fits.{RowFits}
 use Rattle.dw_section.specs.Headers.{Head, Headers}
 use Rattle.dw_section.specs.Meaning.{Says, AreFdes, Covers, RulesAt, ChangesOf, RowStarts, total}
 use Rattle.dw_section.specs.Meanings.{SameMeaning}
 use Rattle.dw_section.specs.Among.{IsAmong}
-use Rattle.dw_cfa.specs.declared.rule.CfaRule.{CfaRule}
-use Rattle.dw_cfa.specs.declared.rule.CfaRule.TheVariants as cfa
 use Rattle.dw_cfa.specs.declared.rule.CfaRule.TheVariants.{Unset}
-use Rattle.dw_cfa.specs.declared.rule.RegRule.{RegRule}
-use Rattle.dw_cfa.specs.declared.rule.RegRule.TheVariants.{Expression, ValExpression}
 
 -- the first fault of a section lies in it or at its end
 abbrev pub FaultsWithin : Type 0
@@ -85,25 +82,15 @@ abbrev pub MeaningChanges : Type 0
 MeaningChanges = (target : Target) (s t : List ℕ) → AreBytes s → AreBytes t → Accepted target s → Accepted target t → SameMeaning target s t
     → (fs : List Fde) (f : Fde) (changes : List (ℕ × Rules)) → AreFdes target s fs → IsAmong f fs → ChangesOf target s f changes → ChangesOf target t f changes
 
--- the expression of a rule is for the target
-abbrev pub CfaIsFor : Target → CfaRule → Type 0
-CfaIsFor target (cfa.Expression e) = e.target ≡ target
-CfaIsFor target other = Unit {0}
+-- and accepted sections with the same FDEs and the same changes of each say the same
+abbrev pub ChangesMean : Type 0
+ChangesMean = (target : Target) (s t : List ℕ) → AreBytes s → AreBytes t → Accepted target s → Accepted target t → ((fs : List Fde) → AreFdes target s fs ↔ AreFdes target t fs)
+    → ((fs : List Fde) (f : Fde) (changes : List (ℕ × Rules)) → AreFdes target s fs → IsAmong f fs → ChangesOf target s f changes → ChangesOf target t f changes) → SameMeaning target s t
 
-abbrev pub RuleIsFor : Target → RegRule → Type 0
-RuleIsFor target (Expression e) = e.target ≡ target
-RuleIsFor target (ValExpression e) = e.target ≡ target
-RuleIsFor target other = Unit {0}
+-- the rules at an address are in range: registers below 65,536, offsets from -(2^63-1) to 2^63-1, expressions that have a block
+abbrev pub RulesFit : Type 0
+RulesFit = (target : Target) (s : List ℕ) (a : ℕ) (row : Rules) → AreBytes s → Accepted target s → RulesAt target s a row → RowFits target row
 
--- all expressions of a row are
-pub record RowIsFor (target : Target) (row : Rules) : Type 0 where
-  pub cfa : CfaIsFor target row.cfa
-  pub rules : (r : ℕ) → RuleIsFor target (rule row r)
-
--- the expressions at an address are for the section's target
-abbrev pub RulesAreFor : Type 0
-RulesAreFor = (target : Target) (s : List ℕ) (a : ℕ) (row : Rules) → RulesAt target s a row → RowIsFor target row
-
--- the CFA has a rule there
+-- and the CFA has one
 abbrev pub CfaIsSet : Type 0
 CfaIsSet = (target : Target) (s : List ℕ) (a : ℕ) (row : Rules) → AreBytes s → Accepted target s → RulesAt target s a row → row.cfa ≡ Unset → ⊥

@@ -8,12 +8,13 @@ use Rattle.dw_section.specs.Headers.{CieHead}
 use Rattle.dw_section.specs.Meaning.{Says}
 use Rattle.dw_section.specs.Programs.{Begins}
 
--- an FDE has the initial instructions of the CIE at this place, and its own advance the location first: so at its begin the rules
--- are those that the CIE's program leaves
+-- the CIE of an FDE stands at this place, and the FDE's own program advances the location first: so at its begin the rules are those
+-- that the CIE's program leaves
 pub record OpensBehind (target : Target) (s : List ℕ) (f : Fde) (place : ℕ) : Type 0 where
   pub initial : List Instr
   pub instrs : List Instr
   pub says : Says target s f.begin f.end initial instrs
+  pub named : place ≡ says.head.cie_at
   pub head : CieHead
   pub begins : Begins target says.headers place head initial
   pub moves : moves_first instrs ≡ true

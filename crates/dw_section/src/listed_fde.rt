@@ -1,25 +1,28 @@
 //! The FDEs of a table, read again at their places.
 
-ghost use Rattle.std.specs.Prelude.{◌≡◌, ◌<◌, ◌≤◌, List, length, drop, slice_index_or, None};
+ghost use Rattle.std.specs.Prelude.{◌≡◌, ◌<◌, ℕ, List, length, slice_index_or, None};
 ghost use Rattle.dw_section.specs.declared.lookup.Fde.{Fde as TheFde};
-ghost use Rattle.dw_section.specs.Headers.{Head};
+ghost use Rattle.dw_num.specs.Span.{Span, span_of};
+ghost use Rattle.dw_section.specs.declared.fields.FdeFields.{FdeFields};
+ghost use Rattle.dw_section.specs.Headers.{Head, Headers, IsFde};
 ghost use Rattle.dw_section.specs.Inner.Index.{IsFound, NamesCie, led_to};
 ghost use Rattle.dw_section.specs.Ranges.{IsRanged};
 ghost use Rattle.dw_section.specs.Inner.Initials.{AreInitials};
-ghost use Rattle.dw_section.specs.Inner.Left.{AreHeaders};
+ghost use Rattle.dw_section.specs.Inner.Pieces.{piece_in};
 ghost use Rattle.dw_section.specs.Inner.Lookup.{fde_of, IsFoundIn, LedBy, LedSo, rows_of};
 ghost use Rattle.dw_section.specs.Table.{Section};
 ghost use Rattle.dw_num.specs.Target.{address_limit};
 ghost use Rattle.dw_cfa.specs.RowSteps.{stepping};
 ghost use Rattle.dw_section.specs.Meaning.{AreFdes};
 
+use crate::entry::{Placed, width_of};
 use crate::fde_range::Ranged;
-use crate::header::{Header, next_header};
 use crate::lookup::FdeRef;
 use crate::program::{Initial, initial_at};
+use crate::standing_fde::{piece_at, pointer_of};
 use crate::table::Table;
 use dw_cfa::{Factors, RowWalk};
-use dw_num::{Cursor, Program, Target, are_bytes};
+use dw_num::{Program, Target, are_bytes};
 
 /// A nonempty FDE with its program, and what its CIE says.
 #[derive(Clone, Copy)]
@@ -81,59 +84,57 @@ pub(crate) fn lead<'a>(
     }
 }
 
-// A cursor over a section from a place on.
-fn cursor_at<'a>(bytes: &'a [u8], at: u32, target: Target) -> Cursor<'a>
-    requires inside { at ≤ length bytes.now }
-    requires few { length bytes.now ≤ 2147483647 }
-    ensures { result ≡ record { at = at; bytes = drop at bytes.now; target = target } }
+// The program of an FDE whose fields hold: what stands behind its pointer and its two addresses.
+#[inline(always)]
+fn program_behind<'a>(own: &Placed<'a>, target: Target) -> Program<'a>
+    requires { (places : List ℕ) × (f : FdeFields) × (program : Span) × IsFde target places (piece_in own.now) f program }
+    ensures { (places : List ℕ) (f : FdeFields) (program : Span) → IsFde target places (piece_in own.now) f program → span_of result ≡ program }
 {
-    let rest = &bytes[at as usize..];
-    Cursor::new(rest, u64::from(at), target)
+    let contents = own.contents;
+    let fields = width_of(own.form) + 2 * usize::from(target.size.byte_count());
+    Program {
+        bytes: &contents.bytes[fields..],
+        at: contents.at + fields as u64,
+    }
 }
 
-/// The FDE of an entry of the list, read again at its place.
+/// The FDE of an entry of the list, read again at its place. What the entry says of it is known, so of its fields the pointer
+/// alone is read.
 #[inline(always)]
 pub(crate) fn found_fde<'a>(
     bytes: &'a [u8],
     target: Target,
-    places: &[u64],
     initials: &[Initial<'a>],
     fde: &Ranged,
 ) -> FoundFde<'a>
-    requires headers { (hs : List Head) × AreHeaders target bytes.now places.now hs × AreInitials target hs hs initials.now × IsRanged hs fde.now }
+    requires headers { (hs : List Head) × Headers target bytes.now hs × AreInitials target hs hs initials.now × IsRanged hs fde.now }
     ensures at { result.at ≡ fde.now.at }
     ensures begin { result.begin ≡ fde.now.begin }
     ensures range { result.range ≡ fde.now.range }
     ensures register { result.return_register ≡ fde.now.return_register }
-    ensures is { (hs : List Head) → AreHeaders target bytes.now places.now hs → AreInitials target hs hs initials.now → IsRanged hs fde.now → IsFound hs result }
-    ensures names { (hs : List Head) → AreHeaders target bytes.now places.now hs → AreInitials target hs hs initials.now → IsRanged hs fde.now → NamesCie hs result.cie_at (led_to target result) }
+    ensures is { (hs : List Head) → Headers target bytes.now hs → AreInitials target hs hs initials.now → IsRanged hs fde.now → IsFound hs result }
+    ensures names { (hs : List Head) → Headers target bytes.now hs → AreInitials target hs hs initials.now → IsRanged hs fde.now → NamesCie hs result.cie_at (led_to target result) }
 {
-    let mut cursor = cursor_at(bytes, fde.at, target);
-    let Some(header) = next_header(&mut cursor, places) else {
+    let at = u64::from(fde.at);
+    let Ok(piece) = piece_at(bytes, at, target) else {
         unreachable!();
     };
-    match header {
-        Header::Fde {
-            at,
-            form: _,
-            cie_at,
-            begin,
-            range,
-            program,
-        } => {
-            let initial = initial_at(initials, cie_at);
-            FoundFde {
-                at,
-                begin,
-                range,
-                program,
-                cie_at,
-                cie_program: initial.program,
-                factors: initial.factors,
-                return_register: fde.return_register,
-            }
-        }
-        Header::Cie { .. } => unreachable!(),
+    let Some(own) = piece else {
+        unreachable!();
+    };
+    let Ok(cie_at) = pointer_of(&own, target) else {
+        unreachable!();
+    };
+    let initial = initial_at(initials, cie_at);
+    FoundFde {
+        at,
+        begin: fde.begin,
+        range: fde.range,
+        program: program_behind(&own, target),
+        cie_at,
+        cie_program: initial.program,
+        factors: initial.factors,
+        return_register: fde.return_register,
     }
 }
 
@@ -149,7 +150,6 @@ impl<'a> Table<'a> {
         found_fde(
             self.bytes,
             self.target,
-            &self.places,
             &self.initials,
             &self.index[fde.place],
         )

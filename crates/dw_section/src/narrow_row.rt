@@ -1,9 +1,9 @@
 //! A row narrowed to the registers that all changes of an FDE specify.
 
-ghost use Rattle.std.specs.Prelude.{◌≡◌, ◌⊎◌, [], true, false, Some, OnOk};
+ghost use Rattle.std.specs.Prelude.{◌≡◌, ◌⊎◌, true, false, Some, OnErr, OnOk};
 ghost use Rattle.dw_cfa.specs.Agreement.{kept};
 ghost use Rattle.dw_cfa.specs.Rows.{Rules};
-ghost use Rattle.dw_section.specs.Changes.{kept_by};
+ghost use Rattle.dw_section.specs.Changes.{behind_all, kept_by};
 ghost use Rattle.dw_section.specs.Inner.NarrowRow.{NarrowedBy, SpecifiesAll};
 
 use crate::change::Changes;
@@ -33,28 +33,25 @@ fn drops_one(changes: &Changes<'_>) -> bool
 
 // Drops from a row the registers that a change leaves Unspecified. Where it was narrowed by the row before, most changes drop
 // none, which needs no pass over the row.
-fn keep_change<'a>(
-    shared: &mut Row<'a>,
-    changes: &Changes<'a>,
-    narrowed: bool,
-) -> Result<(), AllocError>
-    ensures { (row : Rules) → changes.now.shown ≡ Some row → (narrowed ≡ true → NarrowedBy shared.old changes.now.before) → OnOk result (shared.new ≡ kept shared.old row) }
+fn keep_change<'a>(shared: &mut Row<'a>, changes: &Changes<'a>, narrowed: bool)
+    requires { (row : Rules) × (changes.now.shown ≡ Some row) }
+    ensures { (row : Rules) → changes.now.shown ≡ Some row → (narrowed ≡ true → NarrowedBy shared.old changes.now.before) → shared.new ≡ kept shared.old row }
 {
     if narrowed && !drops_one(changes) {
-        return Ok(());
+        return;
     }
     let Some(row) = changes.row() else {
-        return Err(AllocError);
+        unreachable!();
     };
     shared.keep(row);
-    Ok(())
 }
 
 // Drops from a row the registers that one of the changes still to come leaves Unspecified. No change drops one that the
 // CIE's program specifies, so most rows need no walk.
 fn keep_all<'a>(shared: &mut Row<'a>, changes: &mut Changes<'a>) -> Result<(), AllocError>
     ensures row { OnOk result (shared.new ≡ kept_by shared.old changes.old.to_come) }
-    ensures behind { OnOk result ((changes.new ≡ changes.old) ⊎ (changes.new.to_come ≡ [])) }
+    ensures behind { OnOk result ((changes.new ≡ changes.old) ⊎ (changes.new ≡ behind_all changes.old)) }
+    ensures failed { OnErr result (changes.new.failed ≡ true) }
     ensures section { changes.new.section ≡ changes.old.section }
 {
     if changes.keeps(shared) {
@@ -62,7 +59,7 @@ fn keep_all<'a>(shared: &mut Row<'a>, changes: &mut Changes<'a>) -> Result<(), A
     }
     let mut narrowed = false;
     'changes: while let Some(_) = changes.advance()? {
-        keep_change(shared, changes, narrowed)?;
+        keep_change(shared, changes, narrowed);
         narrowed = true;
     }
     Ok(())
@@ -70,11 +67,12 @@ fn keep_all<'a>(shared: &mut Row<'a>, changes: &mut Changes<'a>) -> Result<(), A
 
 impl<'a> Changes<'a> {
     /// Goes on behind the last change, and drops from a row the registers that one of the changes still to come leaves
-    /// Unspecified. Where the CIE's row shows that none does, it may stay where it is. Behind want of memory some of them
-    /// are dropped.
+    /// Unspecified. Where the CIE's row shows that none does, it may stay where it is. Behind want of memory, which `advance`
+    /// and `next` answer from then on, some of them are dropped.
     pub fn narrow(&mut self, row: &mut Row<'a>) -> Result<(), AllocError>
         ensures row { OnOk result (row.new ≡ kept_by row.old self.old.to_come) }
-        ensures behind { OnOk result ((self.new ≡ self.old) ⊎ (self.new.to_come ≡ [])) }
+        ensures behind { OnOk result ((self.new ≡ self.old) ⊎ (self.new ≡ behind_all self.old)) }
+        ensures failed { OnErr result (self.new.failed ≡ true) }
         ensures section { self.new.section ≡ self.old.section }
     {
         keep_all(row, self)

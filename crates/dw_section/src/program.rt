@@ -15,7 +15,8 @@ ghost use Rattle.dw_cfa.specs.declared.execution.LocatedRow.{LocatedRow};
 ghost use Rattle.dw_cfa.specs.Inner.Exact.{RulesBehind};
 ghost use Rattle.dw_cfa.specs.Faults.{CieFault, FdeFault};
 ghost use Rattle.dw_cfa.specs.CieMachine.{with_steps};
-ghost use Rattle.dw_cfa.specs.Coverage.{lacks_from};
+ghost use Rattle.dw_cfa.specs.Coverage.{Lacks};
+ghost use Rattle.std.specs.Bool.{MatchBool};
 ghost use Rattle.dw_section.specs.Fields.{is_among};
 ghost use Rattle.dw_section.specs.Headers.{Head, Has, CieHolds, cie, fde, head_in};
 ghost use Rattle.dw_section.specs.Inner.Pieces.{piece_in};
@@ -206,7 +207,7 @@ fn run_fde<'a>(
     range: u64,
 ) -> Result<bool, ReadError>
     requires { begin < address_limit machine.old.target.size }
-    ensures found { IfOk result (λ lacks. (instrs : List Instr) × (rows : List LocatedRow) × RulesBehind machine.old.factors machine.old.initial (input_of machine.old.target (span_of program.entry)) begin instrs rows × (lacks ≡ lacks_from (begin + range) begin false rows)) }
+    ensures found { IfOk result (λ lacks. (instrs : List Instr) × (rows : List LocatedRow) × RulesBehind machine.old.factors machine.old.initial (input_of machine.old.target (span_of program.entry)) begin instrs rows × MatchBool lacks (Lacks (begin + range) rows) (Lacks (begin + range) rows → ⊥)) }
     ensures stuck { IfErr result (Refuses (FdeFault machine.old.factors machine.old.initial.cfa (input_of machine.old.target (span_of program.entry)) begin)) }
     ensures same { machine.new ≡ with_steps machine.old machine.new.steps }
 {

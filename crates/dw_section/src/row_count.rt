@@ -10,7 +10,6 @@ ghost use Rattle.dw_section.specs.Accepted.{RulesHold};
 ghost use Rattle.dw_section.specs.Headers.{Head};
 ghost use Rattle.dw_section.specs.Ranges.{IsRanged, range_in};
 ghost use Rattle.dw_section.specs.Inner.Initials.{AreInitials};
-ghost use Rattle.dw_section.specs.Inner.Left.{AreHeaders};
 
 use crate::fde_range::Ranged;
 use crate::listed_fde::{FoundFde, found_fde};
@@ -53,18 +52,17 @@ fn starts_of(fde: &FoundFde<'_>, target: Target) -> u64
 fn sum_starts<'a>(
     bytes: &'a [u8],
     target: Target,
-    places: &[u64],
     initials: &[Initial<'a>],
     index: &[Ranged],
 ) -> u64
     requires few { length index.now ≤ 2147483647 }
     requires bytes { AreBytes bytes.now }
-    requires headers { (hs : List Head) × AreHeaders target bytes.now places.now hs × RulesHold target bytes.now hs × AreInitials target hs hs initials.now × AllByRecursion (IsRanged hs) index.now }
-    ensures { (hs : List Head) → AreHeaders target bytes.now places.now hs → RulesHold target bytes.now hs → AreInitials target hs hs initials.now → AllByRecursion (IsRanged hs) index.now → (counts : List ℕ) × AllZip (Starts target bytes.now) (map range_in index.now) counts × (result ≡ total counts) }
+    requires headers { (hs : List Head) × RulesHold target bytes.now hs × AreInitials target hs hs initials.now × AllByRecursion (IsRanged hs) index.now }
+    ensures { (hs : List Head) → RulesHold target bytes.now hs → AreInitials target hs hs initials.now → AllByRecursion (IsRanged hs) index.now → (counts : List ℕ) × AllZip (Starts target bytes.now) (map range_in index.now) counts × (result ≡ total counts) }
 {
     let mut sum = 0;
     for fde in index {
-        let found = found_fde(bytes, target, places, initials, fde);
+        let found = found_fde(bytes, target, initials, fde);
         sum += starts_of(&found, target);
     }
     sum
@@ -77,12 +75,6 @@ impl<'a> Table<'a> {
         ensures { RowStarts self.now.target self.now.bytes result }
     {
         are_bytes(self.bytes);
-        sum_starts(
-            self.bytes,
-            self.target,
-            &self.places,
-            &self.initials,
-            &self.index,
-        )
+        sum_starts(self.bytes, self.target, &self.initials, &self.index)
     }
 }

@@ -39,9 +39,13 @@ use std::error::Error;
 use std::fmt;
 use std::marker::Model;
 
-// The entry that stands at a place, or none, or what is wrong there.
+/// The entry that stands at a place, or none, or what is wrong there.
 #[inline(always)]
-fn piece_at<'a>(bytes: &'a [u8], at: u64, target: Target) -> Result<Option<Placed<'a>>, Refusal>
+pub(crate) fn piece_at<'a>(
+    bytes: &'a [u8],
+    at: u64,
+    target: Target,
+) -> Result<Option<Placed<'a>>, Refusal>
     requires { length bytes.now ≤ 2147483647 }
     ensures found { IfOk result (λ o. IfSome o (λ p. (p.at ≡ at) × StandsIn target.order bytes.now (piece_in p))) }
     ensures within { IfErr result (IsWithin bytes.now) }
@@ -83,9 +87,9 @@ fn cie_at<'a>(bytes: &'a [u8], at: u64, target: Target) -> Result<Option<Placed<
     }
 }
 
-// The first field of an FDE: the place of its CIE.
+/// The first field of an FDE: the place of its CIE.
 #[inline(always)]
-fn pointer_of(piece: &Placed<'_>, target: Target) -> Result<u64, Refusal>
+pub(crate) fn pointer_of(piece: &Placed<'_>, target: Target) -> Result<u64, Refusal>
     ensures names { id_width piece.now.form ≤ length piece.now.contents.bytes.now → MatchResult result (Names target (piece_in piece.now)) (λ r. ⊥) }
     ensures only { (places : List ℕ) (f : FdeFields) (program : Span) → IsFde target places (piece_in piece.now) f program → MatchResult result (λ at. at ≡ f.cie_at) (λ _. ⊥) }
 {

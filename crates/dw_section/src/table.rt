@@ -33,7 +33,6 @@ pub struct Table<'a> {
     pub(crate) bytes: &'a [u8],
     pub(crate) target: Target,
     pub(crate) counts: EntryCounts,
-    pub(crate) places: Vec<u64>,
     pub(crate) initials: Vec<Initial<'a>>,
     pub(crate) index: Vec<Ranged>,
 }
@@ -47,7 +46,7 @@ impl<'a> Model for Table<'a> {
 
     ghost view = { λ t. record { target = t.target; bytes = t.bytes.now } };
 
-    ghost invariant = { λ t. IsTable t.target t.bytes.now t.index.items × IsKept t.target t.bytes.now t.counts t.places.items t.initials.items };
+    ghost invariant = { λ t. IsTable t.target t.bytes.now t.index.items × IsKept t.target t.bytes.now t.counts t.initials.items };
 }
 
 impl<'a> Table<'a> {
@@ -92,14 +91,13 @@ fn refused(code: Code, at: u64) -> ReadError
 #[derive(Drop)]
 struct Sound<'a> {
     counts: EntryCounts,
-    places: Vec<u64>,
     initials: Vec<Initial<'a>>,
     list: Vec<Ranged>,
 }
 
 // The CIEs, and the nonempty FDEs in order of place, where all programs run and give the CFA a rule at each address.
 fn judged<'a>(alloc: Global, bytes: &'a [u8], target: Target) -> Result<Sound<'a>, ReadError>
-    ensures found { IfOk result (λ j. AreRanges target bytes.now j.list.items × IsKept target bytes.now j.counts j.places.items j.initials.items) }
+    ensures found { IfOk result (λ j. AreRanges target bytes.now j.list.items × IsKept target bytes.now j.counts j.initials.items) }
     ensures first { IfErr result (Refuses (RulesFault target bytes.now)) }
 {
     let counts = cut(bytes, target)?;
@@ -111,7 +109,6 @@ fn judged<'a>(alloc: Global, bytes: &'a [u8], target: Target) -> Result<Sound<'a
         Some(at) => Err(refused(Code::NoCfaRule, at)),
         None => Ok(Sound {
             counts,
-            places,
             initials,
             list,
         }),
@@ -131,7 +128,6 @@ fn checked<'a>(alloc: Global, bytes: &'a [u8], target: Target) -> Result<Table<'
             bytes,
             target,
             counts: judged.counts,
-            places: judged.places,
             initials: judged.initials,
             index,
         }),

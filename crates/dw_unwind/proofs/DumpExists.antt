@@ -11,7 +11,8 @@ use Rattle.dw_unwind.specs.declared.fault.DumpCode.{DumpCode}
 use Rattle.dw_unwind.specs.declared.fault.DumpCode.TheVariants.{BadLine, ValueTooLarge, Repeated}
 use Rattle.dw_unwind.specs.declared.fault.DumpFault.{DumpFault}
 use Rattle.dw_unwind.specs.Dump.{SaysWithin, Say, FirstFault, IsFaulty}
-use Rattle.dw_unwind.specs.Spelling.{number_behind, Hexadecimal, RegisterName, HexPairs, CounterLine, RegisterLine, MemoryLine, SkippedLine, Says}
+use Rattle.dw_num.specs.Digits.{number_behind}
+use Rattle.dw_unwind.specs.Spelling.{Hexadecimal, RegisterName, HexPairs, CounterLine, RegisterLine, MemoryLine, SkippedLine, Says}
 use Rattle.dw_unwind.specs.Statement.{Statement, Item, Fits, nothing, counter_is, register_is, memory_is, counter, register, byte, told, times}
 use Rattle.dw_unwind.specs.Inner.Spelling.{Lacks, len_until}
 use Rattle.dw_unwind.proofs.Words.{lacks_front, until_parts, word_within, digits_lack_space, register_parts, memory_parts, none_said}

@@ -15,7 +15,7 @@ use Rattle.dw_eval.specs.Context.{Context, read_at}
 use Rattle.dw_unwind.specs.declared.frame.Column.{Column}
 use Rattle.dw_unwind.specs.declared.frame.Column.TheVariants.{Cfa, Register}
 use Rattle.dw_unwind.specs.declared.frame.Frame.{Frame}
-use Rattle.dw_unwind.specs.declared.frame.Policy.{Policy}
+use Rattle.dw_eval.specs.declared.policy.Policy.{Policy}
 use Rattle.dw_unwind.specs.declared.frame.UnwindError.{UnwindError}
 use Rattle.dw_unwind.specs.declared.frame.UnwindError.TheVariants.{Unreadable, Device, NoRegister}
 use Rattle.dw_unwind.specs.Columns.{in_column, recovered, on_value, saved_at, value_in, plus, ValueIs, SavedBy, CfaIs, RegisterIs, ValueFails, SavedByFails, CfaFails, RegisterFails}

@@ -1,14 +1,14 @@
 -- The registers of a frame, one after another.
 use Rattle.std.proofs.Common.{◌≡◌, ℕ, zero, suc, ◌<◌, ◌≤◌, true, false, List, [], ◌∷◌, ◌++◌, length, get_or, Option, Ok, refl, sym, ap, subst, ◌∙◌, arith, inl, inr}
-use Rattle.std.specs.List.{AllByRecursion}
+use Rattle.std.specs.List.{AllByRecursion, AllPairs}
 use Rattle.std.proofs.lemmas.Bool.{cases_lt}
 use Rattle.dw_cfa.specs.Rows.{Rules}
 use Rattle.dw_eval.specs.Context.{Context}
 use Rattle.dw_section.specs.declared.lookup.Fde.{Fde}
 use Rattle.dw_section.specs.Among.{IsAmong}
-use Rattle.dw_unwind.specs.declared.frame.Policy.{Policy}
-use Rattle.dw_unwind.specs.Unwound.{is_listed, Rise, Has, IsListed, Recovers, AreRegisters, Reached}
-use Rattle.dw_unwind.specs.Inner.Recovery.{SoFar}
+use Rattle.dw_eval.specs.declared.policy.Policy.{Policy}
+use Rattle.dw_unwind.specs.Unwound.{is_listed, IsListed, Recovers, AreRegisters, Reached}
+use Rattle.dw_unwind.specs.Inner.Recovery.{Rise, SoFar}
 
 -- an FDE at a place of a list is among its FDEs
 pub listed_at : (fs : List Fde) (place : ℕ) (d : Fde) → place < length fs → IsAmong (get_or fs place d) fs
@@ -28,20 +28,39 @@ rise_push : (low n : ℕ) (entries : List (ℕ × Option ℕ)) (v : Option ℕ) 
 rise_push low n [] v h b le = (le, tt)
 rise_push low n (entry ∷ rest) v h b le = (h.0, rise_push (suc entry.0) n rest v h.1 b.1 (omega (arith, b.0)))
 
-has_front : (r : ℕ) (entries : List (ℕ × Option ℕ)) (entry : ℕ × Option ℕ) → Has r entries → Has r (entries ++ entry ∷ [])
-has_front r [] entry h = absurd h
-has_front r (x ∷ rest) entry (inl is) = inl is
-has_front r (x ∷ rest) entry (inr h) = inr (has_front r rest entry h)
+rise_from : (low : ℕ) (entries : List (ℕ × Option ℕ)) → Rise low entries → (i : ℕ) (d : ℕ × Option ℕ) → i < length entries → low ≤ (get_or entries i d).0
+rise_from low [] up i d lt = absurd (omega arith)
+rise_from low (entry ∷ rest) up zero d lt = up.0
+rise_from low (entry ∷ rest) up (suc i) d lt = let later = rise_from (suc entry.0) rest up.1 i d (omega arith) in omega (arith, later)
 
-has_last : (entries : List (ℕ × Option ℕ)) (r : ℕ) (v : Option ℕ) → Has r (entries ++ (r, v) ∷ [])
-has_last [] r v = inl refl
-has_last (x ∷ rest) r v = inr (has_last rest r v)
+rise_pairs : (low : ℕ) (entries : List (ℕ × Option ℕ)) → Rise low entries → AllPairs (λ (x y : ℕ × Option ℕ). x.0 < y.0) entries
+rise_pairs low [] up i j d lt within = absurd (omega arith)
+rise_pairs low (entry ∷ rest) up i zero d lt within = absurd (omega arith)
+rise_pairs low (entry ∷ rest) up zero (suc j) d lt within = rise_from (suc entry.0) rest up.1 j d (omega arith)
+rise_pairs low (entry ∷ rest) up (suc i) (suc j) d lt within = rise_pairs (suc entry.0) rest up.1 i j d (omega arith) (omega arith)
 
--- the value of a register that is among entries
-pub value_of : (P : ℕ → Option ℕ → Type 0) (entries : List (ℕ × Option ℕ)) (r : ℕ) → AllByRecursion (λ (entry : ℕ × Option ℕ). P entry.0 entry.1) entries → Has r entries → (v : Option ℕ) × P r v
-value_of P [] r h i = absurd i
-value_of P (entry ∷ rest) r h (inl is) = (entry.1, subst (λ (n : ℕ). P n entry.1) is h.0)
-value_of P (entry ∷ rest) r h (inr i) = value_of P rest r h.1 i
+pub pairs_rise : (low : ℕ) (entries : List (ℕ × Option ℕ)) → ((i : ℕ) (d : ℕ × Option ℕ) → i < length entries → low ≤ (get_or entries i d).0)
+    → AllPairs (λ (x y : ℕ × Option ℕ). x.0 < y.0) entries → Rise low entries
+pairs_rise low [] from up = tt
+pairs_rise low (entry ∷ rest) from up = (
+  from 0 entry (omega arith),
+  pairs_rise (suc entry.0) rest (λ i d lt. up 0 (suc i) d (omega arith) (omega arith)) (λ i j d lt within. up (suc i) (suc j) d (omega arith) (omega arith)),
+)
+
+among_front : {X : Type 0} (x : X) (xs : List X) (last : X) → IsAmong x xs → IsAmong x (xs ++ last ∷ [])
+among_front x [] last i = absurd i
+among_front x (y ∷ xs) last (inl is) = inl is
+among_front x (y ∷ xs) last (inr i) = inr (among_front x xs last i)
+
+among_last : {X : Type 0} (xs : List X) (x : X) → IsAmong x (xs ++ x ∷ [])
+among_last [] x = inl refl
+among_last (y ∷ xs) x = inr (among_last xs x)
+
+-- what holds of each element holds of one among them
+pub all_among : {X : Type 0} (P : X → Type 0) (xs : List X) (x : X) → AllByRecursion P xs → IsAmong x xs → P x
+all_among P [] x h i = absurd i
+all_among P (y ∷ xs) x h (inl is) = subst P (sym is) h.0
+all_among P (y ∷ xs) x h (inr i) = all_among P xs x h.1 i
 
 module _ (c : Context) (limit : ℕ) (policy : Policy) (row : Rules) (register cfa : ℕ) where
   abbrev So : ℕ → List (ℕ × Option ℕ) → Type 0
@@ -75,20 +94,20 @@ module _ (c : Context) (limit : ℕ) (policy : Policy) (row : Rules) (register c
     below = all_push (λ (entry : ℕ × Option ℕ). entry.0 < suc n) entries (n, v) (all_more (λ (entry : ℕ × Option ℕ). entry.0 < n) (λ entry. entry.0 < suc n) entries (λ x lt. omega arith) so.below) (omega arith);
     each = all_push (λ (entry : ℕ × Option ℕ). Value entry.0 entry.1) entries (n, v) so.each (listed, is);
     all = λ r lt listed. elim (cases_lt r n) [
-      | inl less ↦ has_front r entries (n, v) (so.all r less listed)
-      | inr more ↦ let same : n ≡ r = omega arith in subst (λ (q : ℕ). Has q (entries ++ (n, v) ∷ [])) same (has_last entries n v)
+      | inl less ↦ let found = so.all r less listed in (found.0, among_front _ entries _ found.1)
+      | inr more ↦ let same : n ≡ r = omega arith in (v, subst (λ (q : ℕ). IsAmong (q, v) (entries ++ (n, v) ∷ [])) same (among_last entries (n, v)))
     ];
   }
 
   pub so_reached : (n : ℕ) (entries : List (ℕ × Option ℕ)) → So n entries → Listed n → Reached c limit policy row register cfa n
   so_reached n entries so listed = record {
     listed = listed;
-    earlier = λ q lt is. let found = value_of Value entries q so.each (so.all q lt is) in (found.0, found.1.1);
+    earlier = λ q lt is. let found = so.all q lt is in (found.0, (all_among (λ (entry : ℕ × Option ℕ). Value entry.0 entry.1) entries (q, found.0) so.each found.1).1);
   }
 
   pub so_all : (n : ℕ) (entries : List (ℕ × Option ℕ)) → So n entries → ((r : ℕ) → n ≤ r → is_listed c.register row register r ≡ false) → AreRegisters c limit policy row register cfa entries
   so_all n entries so none = record {
-    rise = so.rise;
+    rise = rise_pairs 0 entries so.rise;
     each = so.each;
     all = λ r is. elim (cases_lt r n) [
       | inl less ↦ so.all r less is

@@ -15,7 +15,8 @@ use Rattle.dw_unwind.specs.Describes.{Describes, Refuses}
 use Rattle.dw_unwind.specs.declared.fault.DumpFault.{DumpFault}
 use Rattle.dw_unwind.specs.Dump.{SaysWithin, Say, FirstFault, IsFaulty}
 use Rattle.dw_unwind.specs.Laws.{OneDump, NamesLine}
-use Rattle.dw_unwind.specs.Spelling.{Says, SkippedLine, number_behind, Hexadecimal, RegisterName, HexPairs}
+use Rattle.dw_num.specs.Digits.{number_behind}
+use Rattle.dw_unwind.specs.Spelling.{Says, SkippedLine, Hexadecimal, RegisterName, HexPairs}
 use Rattle.dw_unwind.specs.Statement.{Statement, Item, Fits, nothing, counter_is, register_is, memory_is, told, times}
 use Rattle.dw_unwind.proofs.Words.{digits_lack_space, register_parts, memory_parts}
 use Rattle.dw_unwind.proofs.DumpExists.{dump_exists}

@@ -23,11 +23,12 @@ use Rattle.dw_section.proofs.Lent.FdeLookup.{one_fdes}
 use Rattle.dw_section.proofs.Lent.Sections.{one_rules}
 use Rattle.dw_unwind.specs.declared.frame.Column.{Column}
 use Rattle.dw_unwind.specs.declared.frame.Frame.{Frame}
-use Rattle.dw_unwind.specs.declared.frame.Policy.{Policy}
+use Rattle.dw_eval.specs.declared.policy.Policy.{Policy}
 use Rattle.dw_unwind.specs.declared.frame.UnwindError.{UnwindError}
 use Rattle.dw_unwind.specs.Columns.{in_column, recovered, on_value, saved_at, on_cfa, ValueIs, SavedBy, CfaIs, RegisterIs}
-use Rattle.dw_unwind.proofs.FrameLaws.{value_of}
-use Rattle.dw_unwind.specs.Unwound.{IsCovered, IsUncovered, Rise, Has, IsListed, Recovers, AreRegisters, RegistersAre, FrameIs, OneFrame}
+use Rattle.dw_unwind.proofs.FrameLaws.{all_among, pairs_rise}
+use Rattle.dw_unwind.specs.Unwound.{IsCovered, IsUncovered, IsListed, Recovers, AreRegisters, RegistersAre, FrameIs, OneFrame}
+use Rattle.dw_unwind.specs.Inner.Recovery.{Rise}
 
 -- ---- columns
 
@@ -54,10 +55,10 @@ module _ (c : Context) (limit : ℕ) where
 abbrev Entry : Type 0
 Entry = ℕ × Option ℕ
 
-has_above : (low r : ℕ) (es : List Entry) → Rise low es → Has r es → low ≤ r
-has_above low r [] up h = absurd h
-has_above low r (e ∷ es) up (inl is) = omega (arith, up.0, is)
-has_above low r (e ∷ es) up (inr h) = let p = has_above (suc e.0) r es up.1 h in omega (arith, up.0, p)
+above : (low : ℕ) (x : Entry) (es : List Entry) → Rise low es → IsAmong x es → low ≤ x.0
+above low x [] up i = absurd i
+above low x (e ∷ es) up (inl is) = let same : x.0 ≡ e.0 = ap (λ (y : Entry). y.0) is in omega (arith, up.0, same)
+above low x (e ∷ es) up (inr i) = let p = above (suc e.0) x es up.1 i in omega (arith, up.0, p)
 
 same_entry : (x y : Entry) → x.0 ≡ y.0 → x.1 ≡ y.1 → x ≡ y
 same_entry x y e f = let p : (x.0, x.1) ≡ (y.0, x.1) = ap (λ (n : ℕ). let z : Entry = (n, x.1) in z) e in let q : (y.0, x.1) ≡ (y.0, y.1) = ap (λ (v : Option ℕ). let z : Entry = (y.0, v) in z) f in p ∙ q
@@ -68,20 +69,23 @@ module _ (Listed : ℕ → Type 0) (P : ℕ → Option ℕ → Type 0) (one : (r
   Each es = AllByRecursion (λ (e : Entry). Listed e.0 × P e.0 e.1) es
 
   abbrev All : ℕ → List Entry → Type 0
-  All low es = (r : ℕ) → low ≤ r → Listed r → Has r es
+  All low es = (r : ℕ) → low ≤ r → Listed r → (v : Option ℕ) × IsAmong (r, v) es
 
   rest_has : (x : Entry) (es : List Entry) (low : ℕ) → low ≤ x.0 → All low (x ∷ es) → All (suc x.0) es
-  rest_has x es low le all = λ r above listed. elim (all r (omega (arith, le, above)) listed) [ inl is ↦ absurd (omega (arith, is, above)) | inr h ↦ h ]
+  rest_has x es low le all = λ r more listed. let found = all r (omega (arith, le, more)) listed in elim (found.1) [
+    | inl is ↦ let same : r ≡ x.0 = ap (λ (y : Entry). y.0) is in absurd (omega (arith, same, more))
+    | inr i ↦ (found.0, i)
+  ]
 
   same_list : (low : ℕ) (es fs : List Entry) → Rise low es → Rise low fs → Each es → Each fs → All low es → All low fs → es ≡ fs
   same_list low [] [] up down each every all others = refl
-  same_list low [] (y ∷ fs) up down each every all others = absurd (all y.0 down.0 every.0.0)
-  same_list low (x ∷ es) [] up down each every all others = absurd (others x.0 up.0 each.0.0)
+  same_list low [] (y ∷ fs) up down each every all others = absurd (all y.0 down.0 every.0.0).1
+  same_list low (x ∷ es) [] up down each every all others = absurd (others x.0 up.0 each.0.0).1
   same_list low (x ∷ es) (y ∷ fs) up down each every all others =
       let low_x : Rise x.0 (x ∷ es) = (omega arith, up.1) in
       let low_y : Rise y.0 (y ∷ fs) = (omega arith, down.1) in
-      let xy : x.0 ≤ y.0 = has_above x.0 y.0 (x ∷ es) low_x (all y.0 down.0 every.0.0) in
-      let yx : y.0 ≤ x.0 = has_above y.0 x.0 (y ∷ fs) low_y (others x.0 up.0 each.0.0) in
+      let xy : x.0 ≤ y.0 = let i = all y.0 down.0 every.0.0 in above x.0 (y.0, i.0) (x ∷ es) low_x i.1 in
+      let yx : y.0 ≤ x.0 = let i = others x.0 up.0 each.0.0 in above y.0 (x.0, i.0) (y ∷ fs) low_y i.1 in
       let same : x.0 ≡ y.0 = omega (arith, xy, yx) in
       let values : x.1 ≡ y.1 = one y.0 x.1 y.1 (subst (λ (n : ℕ). P n x.1) same each.0.1) every.0.1 in
       let rest = same_list (suc y.0) es fs (subst (λ (n : ℕ). Rise (suc n) es) same up.1) down.1 each.1 every.1
@@ -109,12 +113,13 @@ module _ (c : Context) (limit : ℕ) (policy : Policy) (row : Rules) (register :
 
   same_registers : (cfa : ℕ) (es fs : List Entry) → AreRegisters c limit policy row register cfa es → AreRegisters c limit policy row register cfa fs → es ≡ fs
   same_registers cfa es fs v w =
-      same_list Listed (λ r a. Is cfa r (Ok a)) (one_ok cfa) 0 es fs v.rise w.rise v.each w.each (λ r le is. v.all r is) (λ r le is. w.all r is)
+      same_list Listed (λ r a. Is cfa r (Ok a)) (one_ok cfa) 0 es fs (pairs_rise 0 es (λ i d lt. omega arith) v.rise) (pairs_rise 0 fs (λ i d lt. omega arith) w.rise) v.each w.each (λ r le is. v.all r is) (λ r le is. w.all r is)
 
   registers_apart : (cfa : ℕ) (es : List Entry) (e : UnwindError) → AreRegisters c limit policy row register cfa es → RegistersAre c limit policy row register cfa (Err e) → ⊥
   registers_apart cfa es e v w =
-      let found = value_of (λ r a. Listed r × Is cfa r (Ok a)) es w.0 v.each (v.all w.0 w.1.listed) in
-      ok_apart cfa w.0 found.0 e found.1.1 w.2
+      let found = v.all w.0 w.1.listed in
+      let is = all_among (λ (entry : Entry). Listed entry.0 × Is cfa entry.0 (Ok entry.1)) es (w.0, found.0) v.each found.1 in
+      ok_apart cfa w.0 found.0 e is.1 w.2
 
   registers_error : (cfa : ℕ) (e f : UnwindError) → RegistersAre c limit policy row register cfa (Err e) → RegistersAre c limit policy row register cfa (Err f) → e ≡ f
   registers_error cfa e f v w = elim (cases_lt v.0 w.0) [

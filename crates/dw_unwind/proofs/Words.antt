@@ -4,7 +4,8 @@ use Rattle.std.specs.Prelude.{option_and_then, codes}
 use Rattle.std.proofs.lemmas.List.{append_cancel_left}
 use Rattle.std.proofs.lemmas.Bool.Decides.{eqb_tells}
 use Rattle.dw_unwind.specs.Statement.{Statement, nothing, counter_is, register_is, memory_is}
-use Rattle.dw_unwind.specs.Spelling.{digit, number_behind, Hexadecimal, RegisterName, SkippedLine, CounterLine, RegisterLine, MemoryLine, Says}
+use Rattle.dw_num.specs.Digits.{digit, number_behind}
+use Rattle.dw_unwind.specs.Spelling.{Hexadecimal, RegisterName, SkippedLine, CounterLine, RegisterLine, MemoryLine, Says}
 use Rattle.dw_unwind.specs.Inner.Spelling.{MemoryHead, Lacks, len_until}
 
 -- ---- the first character of a kind

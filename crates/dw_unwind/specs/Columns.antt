@@ -15,8 +15,8 @@ use Rattle.dw_eval.specs.Context.{Context, read_at}
 use Rattle.dw_eval.specs.Evaluation.{first_stack, Evaluates, MayFailAt}
 use Rattle.dw_unwind.specs.declared.frame.Column.{Column}
 use Rattle.dw_unwind.specs.declared.frame.Column.TheVariants.{Cfa, Register}
-use Rattle.dw_unwind.specs.declared.frame.Policy.{Policy}
-use Rattle.dw_unwind.specs.declared.frame.Policy.TheVariants.{SameValue, Undefined}
+use Rattle.dw_eval.specs.declared.policy.Policy.{Policy}
+use Rattle.dw_eval.specs.declared.policy.Policy.TheVariants.{SameValue, Undefined}
 use Rattle.dw_unwind.specs.declared.frame.UnwindError.{UnwindError}
 use Rattle.dw_unwind.specs.declared.frame.UnwindError.TheVariants.{Eval, Unreadable, Device, NoRegister, OutOfMemory}
 
@@ -26,15 +26,14 @@ in_column column (Ok v) = Ok v
 in_column column (Err (eval.Fault kind i)) = Err (Eval kind i column)
 in_column column (Err eval.OutOfMemory) = Err OutOfMemory
 
--- a register's value that can be recovered, or a fault
-abbrev pub recovered : Result ℕ UnwindError → Result (Option ℕ) UnwindError
-recovered (Ok v) = Ok (Some v)
-recovered (Err e) = Err e
-
 -- what is found with a value, or its fault
-abbrev pub on_value : Result ℕ UnwindError → (ℕ → Result ℕ UnwindError) → Result ℕ UnwindError
+abbrev pub on_value : {A : Type 0} → Result ℕ UnwindError → (ℕ → Result A UnwindError) → Result A UnwindError
 on_value (Ok v) f = f v
 on_value (Err e) f = Err e
+
+-- a register's value that can be recovered, or a fault
+abbrev pub recovered : Result ℕ UnwindError → Result (Option ℕ) UnwindError
+recovered answer = on_value answer (λ v. Ok (Some v))
 
 -- what a register that no instruction has set was before, by what it holds now
 abbrev pub defaulted : Policy → Option ℕ → Option ℕ

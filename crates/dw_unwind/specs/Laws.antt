@@ -8,7 +8,7 @@ use Rattle.dw_unwind.specs.declared.fault.DumpError.TheVariants as dumps
 use Rattle.dw_unwind.specs.declared.fault.DumpFault.{DumpFault}
 use Rattle.dw_unwind.specs.declared.frame.Column.{Column}
 use Rattle.dw_unwind.specs.declared.frame.Column.TheVariants.{Cfa, Register}
-use Rattle.dw_unwind.specs.declared.frame.Policy.{Policy}
+use Rattle.dw_eval.specs.declared.policy.Policy.{Policy}
 use Rattle.dw_unwind.specs.declared.frame.UnwindError.{UnwindError}
 use Rattle.dw_unwind.specs.declared.frame.UnwindError.TheVariants.{Eval, Unreadable, Device, NoRegister}
 use Rattle.dw_unwind.specs.Dump.{Say, FirstFault}

@@ -1,20 +1,8 @@
 -- How lines are spelled.
-use Rattle.std.specs.Prelude.{◌≡◌, ◌≢◌, ◌⊎◌, ℕ, ◌+◌, ◌*◌, ◌<◌, ◌≤◌, nat_lt, if◌then◌else◌, List, [], ◌∷◌, ◌++◌, length, slice_index, codes, Option, Some, None, Ok, option_and_then}
-use Rattle.hex.specs.Hex.{decode_of, hex_digit_value}
+use Rattle.std.specs.Prelude.{◌≡◌, ◌≢◌, ◌⊎◌, ℕ, ◌<◌, ◌≤◌, List, [], ◌++◌, length, slice_index, codes, Some, Ok}
+use Rattle.hex.specs.Hex.{decode_of}
+use Rattle.dw_num.specs.Digits.{number_behind}
 use Rattle.dw_unwind.specs.Statement.{Statement, nothing, counter_is, register_is, memory_is}
-
--- a number, if it is below a limit
-abbrev pub below : ℕ → ℕ → Option ℕ
-below limit n = if nat_lt n limit then Some n else None
-
--- the digit that a character is in a base of at most 16, letters of either case
-abbrev pub digit : ℕ → ℕ → Option ℕ
-digit base c = option_and_then (below base) (hex_digit_value c)
-
--- the number of digits that follow others of the number before, the highest first
-abbrev pub number_behind : ℕ → ℕ → List ℕ → Option ℕ
-number_behind base before [] = Some before
-number_behind base before (c ∷ cs) = option_and_then (λ d. number_behind base (before * base + d) cs) (digit base c)
 
 -- 1 to 16 hexadecimal digits of the number v
 pub record Hexadecimal (v : ℕ) (text : List ℕ) : Type 0 where

@@ -1,6 +1,6 @@
 -- One frame, unwound: DWARF 5, 6.4.1. The CFA comes first, then the listed registers, ascending; the first fault is answered.
-use Rattle.std.specs.Prelude.{◌≡◌, ◌⊎◌, ◌<◌, ◌≤◌, ◌==◌, ◌||◌, ℕ, suc, List, [], ◌∷◌, Bool, true, false, Option, None, is_some, Result, Ok, Err}
-use Rattle.std.specs.List.{AllByRecursion}
+use Rattle.std.specs.Prelude.{◌≡◌, ◌⊎◌, ◌<◌, ◌==◌, ◌||◌, ℕ, List, Bool, true, false, Option, None, is_some, Result, Ok, Err}
+use Rattle.std.specs.List.{AllByRecursion, AllPairs}
 use Rattle.dw_num.specs.declared.target.Target.{Target}
 use Rattle.dw_num.specs.Input.{AreBytes}
 use Rattle.dw_cfa.specs.Rows.{Rules, rule, is_specified}
@@ -12,7 +12,7 @@ use Rattle.dw_section.specs.Accepted.{Accepted}
 use Rattle.dw_section.specs.Meaning.{AreFdes, Covers, NoneCovers, RulesAt}
 use Rattle.dw_section.specs.Among.{IsAmong}
 use Rattle.dw_unwind.specs.declared.frame.Frame.{Frame}
-use Rattle.dw_unwind.specs.declared.frame.Policy.{Policy}
+use Rattle.dw_eval.specs.declared.policy.Policy.{Policy}
 use Rattle.dw_unwind.specs.declared.frame.UnwindError.{UnwindError}
 use Rattle.dw_unwind.specs.declared.frame.UnwindError.TheVariants.{NoFde, Eval, Device}
 use Rattle.dw_unwind.specs.Columns.{CfaIs, RegisterIs, CfaFails, RegisterFails}
@@ -39,16 +39,6 @@ IsUncovered target s a = (fdes : List Fde) × AreFdes target s fdes × NoneCover
 abbrev pub is_listed : (ℕ → Option ℕ) → Rules → ℕ → ℕ → Bool
 is_listed held row return_register r = is_some (held r) || (is_specified (rule row r) || (r == return_register))
 
--- registers from `low` on, ascending
-abbrev pub Rise : ℕ → List (ℕ × Option ℕ) → Type 0
-Rise low [] = Unit {0}
-Rise low (entry ∷ rest) = (low ≤ entry.0) × Rise (suc entry.0) rest
-
--- register r is among them
-abbrev pub Has : ℕ → List (ℕ × Option ℕ) → Type 0
-Has r [] = ⊥
-Has r (entry ∷ rest) = (entry.0 ≡ r) ⊎ Has r rest
-
 -- on a machine that stopped, with a row and its return-address register
 module _ (c : Context) (limit : ℕ) (policy : Policy) (row : Rules) (return_register : ℕ) where
   abbrev pub IsListed : ℕ → Type 0
@@ -64,9 +54,9 @@ module _ (c : Context) (limit : ℕ) (policy : Policy) (row : Rules) (return_reg
 
   -- these are the listed registers, ascending, each with its value
   pub record AreRegisters (cfa : ℕ) (entries : List (ℕ × Option ℕ)) : Type 0 where
-    pub rise : Rise 0 entries
+    pub rise : AllPairs (λ (x y : ℕ × Option ℕ). x.0 < y.0) entries
     pub each : AllByRecursion (IsEntry cfa) entries
-    pub all : (r : ℕ) → IsListed r → Has r entries
+    pub all : (r : ℕ) → IsListed r → (v : Option ℕ) × IsAmong (r, v) entries
 
   -- register r is listed, and every listed one before it has a value
   pub record Reached (cfa r : ℕ) : Type 0 where

@@ -6,16 +6,16 @@ ghost use Rattle.dw_cfa.specs.declared.rule.RegRule.TheVariants.{Unspecified};
 ghost use Rattle.dw_cfa.specs.Rows.{rule, is_specified};
 ghost use Rattle.dw_eval.specs.Context.{context};
 ghost use Rattle.dw_eval.specs.Registers.{held};
-ghost use Rattle.dw_section.specs.Laws.{RowIsFor};
+ghost use Rattle.dw_section.specs.Fits.{RowFits};
 ghost use Rattle.dw_unwind.specs.declared.frame.UnwindError.{UnwindError as TheError};
 ghost use Rattle.dw_unwind.specs.declared.frame.UnwindError.TheVariants.{OutOfMemory};
 ghost use Rattle.dw_unwind.specs.Inner.Recovery.{Over, SoFar, Adds};
 ghost use Rattle.dw_unwind.specs.Unwound.{is_listed, RegistersAre, RegistersFail, FrameIs, FrameFails, Unwound, UnwindFails, is_device, stopped};
 
-use crate::frame::{Frame, FrameRegisters, Policy, UnwindError};
+use crate::frame::{Frame, FrameRegisters, UnwindError};
 use crate::machine::Machine;
 use dw_cfa::Row;
-use dw_eval::{Env, Memory, Registers};
+use dw_eval::{Env, Memory, Policy, Registers};
 use dw_num::Target;
 use dw_section::{Table, section_laws};
 use std::alloc::Global;
@@ -61,7 +61,7 @@ impl<'m> Machine<'m> {
         memory: &mut M,
         values: &mut Vec<(u16, Option<u64>)>,
     ) -> Result<(), UnwindError>
-        requires target { RowIsFor self.now.env.target row.now }
+        requires fits { RowFits self.now.env.target row.now }
         requires room { M.failures memory.old < 2 ^ 64 - 1 }
         requires so_far { let c = context self.now.env (M.byte memory.old) in SoFar c self.now.steps self.now.default row.now return_register cfa register values.old.items }
         ensures same { M.byte memory.new ≡ M.byte memory.old }
@@ -83,7 +83,7 @@ impl<'m> Machine<'m> {
         cfa: u64,
         memory: &mut M,
     ) -> Result<FrameRegisters, UnwindError>
-        requires target { RowIsFor self.now.env.target row.now }
+        requires fits { RowFits self.now.env.target row.now }
         requires room { M.failures memory.old < 2 ^ 64 - 1 }
         ensures same { M.byte memory.new ≡ M.byte memory.old }
         ensures so { let c = context self.now.env (M.byte memory.old) in Over (RegistersAre c self.now.steps self.now.default row.now return_register cfa) (RegistersFail c self.now.steps self.now.default row.now return_register cfa) (M.failures memory.old) result (M.failures memory.new) }
@@ -103,7 +103,7 @@ impl<'m> Machine<'m> {
         memory: &mut M,
     ) -> Result<Frame, UnwindError>
         requires set { row.now.cfa ≡ Unset → ⊥ }
-        requires target { RowIsFor self.now.env.target row.now }
+        requires fits { RowFits self.now.env.target row.now }
         requires room { M.failures memory.old < 2 ^ 64 - 1 }
         ensures same { M.byte memory.new ≡ M.byte memory.old }
         ensures so { let c = context self.now.env (M.byte memory.old) in Over (FrameIs c self.now.steps self.now.default row.now return_register) (FrameFails c self.now.steps self.now.default row.now return_register) (M.failures memory.old) result (M.failures memory.new) }

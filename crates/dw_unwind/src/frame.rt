@@ -9,15 +9,6 @@ use std::error::Error;
 use std::fmt;
 use std::marker::Model;
 
-/// What a register is taken as that no instruction has set: the ABI says it (6.4.1).
-#[derive(Clone, Copy, Debug, PartialEq, Eq)]
-pub enum Policy {
-    /// It has not been changed, as by `DW_CFA_same_value`.
-    SameValue,
-    /// It has no recoverable value, as by `DW_CFA_undefined`.
-    Undefined,
-}
-
 /// A column of a row of the table of 6.4.1: the canonical frame address, or a register.
 #[derive(Clone, Copy, Debug, PartialEq, Eq)]
 pub enum Column {

@@ -18,7 +18,8 @@ mod ranges;
 
 pub use caller::unwind;
 pub use dump::Dump;
+pub use dw_eval::Policy;
 pub use fault::{DumpCode, DumpError, DumpFault};
-pub use frame::{Column, Frame, FrameRegisters, Policy, UnwindError};
+pub use frame::{Column, Frame, FrameRegisters, UnwindError};
 pub use laws::unwind_laws;
 pub use memory::DumpMemory;

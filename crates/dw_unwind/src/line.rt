@@ -2,7 +2,8 @@
 
 ghost use Rattle.std.specs.Prelude.{◌≡◌, ℕ, ◌+◌, ◌<◌, ◌≤◌, ◌++◌, ◌∷◌, List, Some, IfOk, length, MatchOption};
 ghost use Rattle.std.specs.Bool.{MatchBool};
-ghost use Rattle.dw_unwind.specs.Spelling.{digit, number_behind, Hexadecimal, RegisterName, HexPairs, CounterLine, RegisterLine, MemoryLine, SkippedLine, Says};
+ghost use Rattle.dw_num.specs.Digits.{digit, number_behind};
+ghost use Rattle.dw_unwind.specs.Spelling.{Hexadecimal, RegisterName, HexPairs, CounterLine, RegisterLine, MemoryLine, SkippedLine, Says};
 ghost use Rattle.dw_unwind.specs.Inner.Spelling.{MemoryHead, Lacks, len_until};
 ghost use Rattle.dw_unwind.specs.Statement.{Statement as TheStatement};
 ghost use Rattle.dw_unwind.specs.Inner.Stated.{stated};

@@ -5,14 +5,16 @@ ghost use Rattle.dw_num.specs.Target.{byte_count};
 ghost use Rattle.dw_cfa.specs.declared.rule.CfaRule.TheVariants.{Unset};
 ghost use Rattle.dw_eval.specs.Context.{context};
 ghost use Rattle.dw_eval.specs.Evaluation.{first_stack};
-ghost use Rattle.dw_section.specs.Laws.{CfaIsFor, RuleIsFor};
+ghost use Rattle.dw_section.specs.Fits.{CfaFits, RuleFits};
 ghost use Rattle.dw_unwind.specs.declared.frame.UnwindError.TheVariants.{NoRegister};
 ghost use Rattle.dw_unwind.specs.Inner.Recovery.{Over};
 ghost use Rattle.dw_unwind.specs.Columns.{in_column, recovered, defaulted, value_in, saved_at, ValueIs, CfaIs, SavedBy, RegisterIs, SavedFails, ValueFails, SavedByFails, CfaFails, RegisterFails};
 
-use crate::frame::{Column, Policy, UnwindError};
+use crate::frame::{Column, UnwindError};
 use dw_cfa::{CfaRule, RegRule};
-use dw_eval::{Env, EvalError, Memory, ReadFault, evaluate, is_in_space, offset_by, reduced};
+use dw_eval::{
+    Env, EvalError, Memory, Policy, ReadFault, evaluate, is_in_space, offset_by, reduced,
+};
 use dw_op::ExprRef;
 use std::alloc::Global;
 
@@ -109,7 +111,7 @@ impl<'m> Machine<'m> {
         memory: &mut M,
     ) -> Result<u64, UnwindError>
         requires set { rule.now ≡ Unset → ⊥ }
-        requires target { CfaIsFor self.now.env.target rule.now }
+        requires fits { CfaFits self.now.env.target rule.now }
         requires room { M.failures memory.old < 2 ^ 64 - 1 }
         ensures same { M.byte memory.new ≡ M.byte memory.old }
         ensures so { let c = context self.now.env (M.byte memory.old) in Over (CfaIs c self.now.steps rule.now) (CfaFails c self.now.steps rule.now) (M.failures memory.old) result (M.failures memory.new) }
@@ -163,7 +165,7 @@ impl<'m> Machine<'m> {
         cfa: u64,
         memory: &mut M,
     ) -> Result<Option<u64>, UnwindError>
-        requires target { RuleIsFor self.now.env.target rule.now }
+        requires fits { RuleFits self.now.env.target rule.now }
         requires room { M.failures memory.old < 2 ^ 64 - 1 }
         ensures same { M.byte memory.new ≡ M.byte memory.old }
         ensures so { let c = context self.now.env (M.byte memory.old) in Over (RegisterIs c self.now.steps self.now.default cfa register rule.now) (RegisterFails c self.now.steps cfa register rule.now) (M.failures memory.old) result (M.failures memory.new) }

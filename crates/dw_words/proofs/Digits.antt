@@ -3,7 +3,7 @@ use Rattle.std.proofs.Common.{◌≡◌, ℕ, zero, suc, ◌+◌, ◌*◌, ◌<�
 use Rattle.std.specs.Prelude.{option_and_then}
 use Rattle.std.proofs.Math.Nat.{mul-suc}
 use Rattle.std.proofs.lemmas.Bool.{cases_lt, lt-ltb, le-ltb}
-use Rattle.dw_unwind.specs.Spelling.{below, digit, number_behind}
+use Rattle.dw_num.specs.Digits.{below, digit, number_behind}
 use Rattle.dw_words.specs.Inner.Values.{checked_behind}
 
 rises : (b n : ℕ) (text : List ℕ) (v : ℕ) → number_behind (suc b) n text ≡ Some v → n ≤ v

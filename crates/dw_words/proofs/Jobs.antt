@@ -1,5 +1,5 @@
 -- The run of a subcommand with its values, as a function and as a relation.
-use Rattle.std.proofs.Common.{◌≡◌, ◌∙◌, ℕ, List, Bool, true, false, Option, Some, None, option_map, refl, ap, ap₂, sym, codes}
+use Rattle.std.proofs.Common.{◌≡◌, ◌∙◌, ℕ, List, Bool, true, false, Option, Some, None, option_map, refl, ap, ap₂, subst, sym, codes}
 use Rattle.std.specs.Prelude.{option_and_then, if◌then◌else◌}
 use Rattle.std.specs.Option.{option_map_or}
 use Rattle.std.specs.Str.{bytes_eq}
@@ -11,16 +11,18 @@ use Rattle.dw_num.specs.declared.target.Order.{Order}
 use Rattle.dw_num.specs.declared.target.Size.{Size}
 use Rattle.dw_num.specs.declared.target.Target.{Target}
 use Rattle.dw_op.specs.declared.profile.Profile.{Profile}
-use Rattle.dw_unwind.specs.declared.frame.Policy.{Policy}
+use Rattle.dw_eval.specs.declared.policy.Policy.{Policy}
 use Rattle.dw_words.specs.CommandLine.{dwframe}
 use Rattle.dw_words.specs.Values.{order_of, size_of}
 use Rattle.dw_words.specs.declared.request.Job.{Job}
 use Rattle.dw_words.specs.declared.request.Name.{Name}
 use Rattle.dw_words.specs.declared.request.Name.TheVariants as names
+use Rattle.dw_words.specs.declared.request.PlanError.{PlanError}
+use Rattle.dw_words.specs.declared.request.PlanError.TheVariants as errors
 use Rattle.dw_words.specs.declared.request.Task as declared
 use Rattle.dw_words.specs.declared.request.Task.TheVariants as tasks
-use Rattle.dw_words.specs.Plan.{AskFor, IsJob, IsTask}
-use Rattle.dw_words.specs.Inner.Plan.{Run, Task, block_in, cap_in, check, cost, default_in, dump_in, entries, eval, expr, file_in, name_of, normal, profile_in, rows, run_held, run_in, same, start_in, steps_in, target_in, task_held, task_in, text_of, unwind}
+use Rattle.dw_words.specs.Plan.{AskFor, IsJob, IsTask, Says}
+use Rattle.dw_words.specs.Inner.Plan.{Fails, Given, GivenAt, IsSupplied, Run, Task, block_in, cap_in, check, cost, default_in, dump_in, entries, eval, expr, file_in, name_of, normal, own, profile_in, rows, run_held, run_in, same, start_in, steps_in, target_in, task_held, task_in, text_of, unwind}
 
 -- ---- options
 
@@ -131,6 +133,35 @@ job_so name values job h =
     let order : o.0 ≡ job.target.order = ap (λ (t : Target). t.order) (o.2 ∙ target) in
     let found : task_in n.0 job.target.size values ≡ Some (task_held job.task) = ap (λ (t : Target). task_in n.0 t.size values) (sym target) ∙ k.1 ∙ ap (λ (t : Task). Some t) task in
     (s.1 ∙ ap (λ (s : Size). Some s) size, o.1 ∙ ap (λ (o : Order). Some o) order, task_so values name job.target.size n.0 job.task (named name n.0 n.1) found)
+
+-- ---- what fails
+
+run_none : (name : Option Name) (target : Option Target) (task : Name → Size → Option Task) (n : Name) (t : Target) → name ≡ Some n → target ≡ Some t → task n t.size ≡ None
+    → option_and_then {U = Run} (λ name. option_and_then {U = Run} (λ target. option_map (λ x. record { target = target; task = x }) (task name target.size)) target) name ≡ None
+run_none name target task n t h i j =
+    let held : Option Task → Option Run = option_map (λ x. record { target = t; task = x }) in
+    let later : Name → Option Run = λ name. option_and_then {U = Run} (λ target. option_map (λ x. record { target = target; task = x }) (task name target.size)) target in
+    let last : Target → Option Run = λ target. option_map (λ x. record { target = target; task = x }) (task n target.size) in
+    ap (option_and_then {U = Run} later) h ∙ ap (option_and_then {U = Run} last) i ∙ ap held j
+
+size_said : (values : List Row) (t : Target) → target_in values ≡ Some t → Says values (codes "size") size_of t.size
+size_said values t h =
+    let s = bound _ (option_and_then size_of (first_of (codes "size") values)) t h in
+    let o = mapped _ (option_and_then order_of (first_of (codes "order") values)) t s.2 in
+    let size : s.0 ≡ t.size = ap (λ (t : Target). t.size) o.2 in
+    s.1 ∙ ap (λ (s : Size). Some s) size
+
+-- a task that fails is a run that does
+pub run_fails : (text : Text) (values : List Row) (n : Name) (t : Target) (e : PlanError) → name_of text ≡ Some n → target_in values ≡ Some t
+    → Fails values (GivenAt t.size (own n)) (task_in n t.size values) e → Fails values (IsSupplied text) (run_in text values) e
+run_fails text values n t (errors.BadValue what) is target h = (
+  run_none (name_of text) (target_in values) (λ n s. task_in n s values) n t is target h.0,
+  λ k.
+      let same : k.0 ≡ n = ap (λ (o : Option Name). option_map_or (λ m. m) o n) (sym k.1 ∙ is) in
+      h.1 (size_said values t target, subst (λ (m : Name). Given (own m) values) same k.3),
+)
+run_fails text values n t (errors.Words error) is target h = absurd h
+run_fails text values n t errors.OutOfMemory is target h = tt
 
 -- ---- and to it
 

@@ -1,4 +1,6 @@
 mod Digits
 mod Commands
+mod Rows
+mod Subcommands
 mod Jobs
 mod Plans

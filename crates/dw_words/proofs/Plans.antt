@@ -9,8 +9,9 @@ use Rattle.dw_words.specs.declared.request.PlanError.TheVariants as errors
 use Rattle.dw_words.specs.declared.request.Request.{Request}
 use Rattle.dw_words.specs.declared.request.Request.TheVariants as requests
 use Rattle.dw_words.specs.Plan.{Planned, is_help}
-use Rattle.dw_words.specs.Inner.Plan.{Fails, FromFault, run_in}
+use Rattle.dw_words.specs.Inner.Plan.{Fails, FromFault, IsSupplied, run_in}
 use Rattle.dw_words.proofs.Jobs.{none_asked}
+use Rattle.dw_words.proofs.Subcommands.{supplied}
 
 pub free : is_simple_and_free dwframe ≡ true
 unfolding clap_on_literals
@@ -33,9 +34,10 @@ module _ {X : Type 0} (f : X → Text) (g : X → List Row) where
       ap₂ P p q
 
 -- words that clap takes, with a value that is none
-pub failed : (words : List Text) (name : Text) (values : List Row) (e : PlanError) → fault_of dwframe words ≡ [] → subcommand_of dwframe words ≡ Some (name, values) → Fails (run_in name values) e
-    → Planned words (Err e)
-failed words name values (errors.BadValue what) taken is h = (taken, λ job asked. none_asked words name values job is h asked)
+pub failed : (words : List Text) (name : Text) (values : List Row) (e : PlanError) → fault_of dwframe words ≡ [] → subcommand_of dwframe words ≡ Some (name, values)
+    → Fails values (IsSupplied name) (run_in name values) e → Planned words (Err e)
+failed words name values (errors.BadValue what) taken is h =
+    (taken, (name, values, is, h.1 (supplied words name values taken is)), λ job asked. none_asked words name values job is h.0 asked)
 failed words name values (errors.Words error) taken is h = absurd h
 failed words name values errors.OutOfMemory taken is h = tt
 

@@ -1,13 +1,12 @@
 -- What the words of a run ask for.
-use Rattle.std.specs.Prelude.{◌≡◌, ⊤, List, [], Bool, true, false, Option, Some, None, codes, option_and_then, option_map, Result, Ok, Err}
+use Rattle.std.specs.Prelude.{◌≡◌, ◌⊎◌, ⊤, List, [], Bool, true, false, Option, Some, None, codes, option_and_then, option_map, Result, Ok, Err}
 use Rattle.std.specs.Option.{option_map_or}
 use Rattle.clap.specs.declared.error.ErrorKind.{ErrorKind}
 use Rattle.clap.specs.declared.error.ErrorKind.TheVariants as kinds
 use Rattle.clap.specs.Words.{IsAmong, Row, Text, fault_of, first_of, kind_of, subcommand_of}
 use Rattle.dw_num.specs.declared.target.Size.{Size}
-use Rattle.dw_unwind.specs.Spelling.{below}
 use Rattle.dw_words.specs.CommandLine.{dwframe}
-use Rattle.dw_words.specs.Values.{address, block_of, decimal, default_of, order_of, profile_of, size_of}
+use Rattle.dw_words.specs.Values.{address, block_of, cap_of, decimal, default_of, order_of, profile_of, size_of}
 use Rattle.dw_words.specs.declared.request.Job.{Job}
 use Rattle.dw_words.specs.declared.request.Request.{Request}
 use Rattle.dw_words.specs.declared.request.Request.TheVariants as requests
@@ -40,7 +39,7 @@ module _ (values : List Row) where
       (name ≡ codes "eval") × MaySay (codes "steps") decimal 10000 e.steps × MaySay (codes "start") (λ text. option_map (λ v. Some v) (address size text)) None e.start
       × Says (codes "HEX") block_of e.block.items × (first_of (codes "DUMP") values ≡ option_map (λ path. path.now) e.dump)
   IsTask name size (tasks.Expr profile block) = (name ≡ codes "expr") × Says (codes "frame") profile_of profile × Says (codes "HEX") block_of block.items
-  IsTask name size (tasks.Normal w) = (name ≡ codes "normal") × MaySay (codes "cap") (λ text. option_and_then (below 2147483648) (decimal text)) 2147483647 w.cap × Names (codes "FILE") w.path.now
+  IsTask name size (tasks.Normal w) = (name ≡ codes "normal") × MaySay (codes "cap") cap_of 2147483647 w.cap × Names (codes "FILE") w.path.now
   IsTask name size (tasks.Rows path) = (name ≡ codes "rows") × Names (codes "FILE") path.now
   IsTask name size (tasks.Same path other) = (name ≡ codes "same") × Names (codes "FILE") path.now × Names (codes "FILE2") other.now
   IsTask name size (tasks.Unwind u) =
@@ -50,11 +49,30 @@ module _ (values : List Row) where
   abbrev pub IsJob : Text → Job → Type 0
   IsJob name job = Says (codes "size") size_of job.target.size × Says (codes "order") order_of job.target.order × IsTask name job.target.size job.task
 
+  -- the value of this name is there, and is not read so
+  abbrev pub Misreads : {T : Type 0} → Text → (Text → Option T) → Type 0
+  Misreads name read = option_map read (first_of name values) ≡ Some None
+
+  -- what is named is an option or an operand that is there, with a value that is none that it may have; any text is a path
+  abbrev pub IsBad : Text → Type 0
+  IsBad what =
+      (what ≡ codes "--size") × Misreads (codes "size") size_of
+      ⊎ (what ≡ codes "--order") × Misreads (codes "order") order_of
+      ⊎ (what ≡ codes "--default") × Misreads (codes "default") default_of
+      ⊎ (what ≡ codes "--steps") × Misreads (codes "steps") decimal
+      ⊎ (what ≡ codes "--start") × ((size : Size) × Says (codes "size") size_of size × Misreads (codes "start") (address size))
+      ⊎ (what ≡ codes "--cap") × Misreads (codes "cap") cap_of
+      ⊎ (what ≡ codes "HEX") × Misreads (codes "HEX") block_of
+
 -- ---- plans
 
 -- words ask for this run: clap's definition finds no fault in them, and reads them as a subcommand with its values
 abbrev pub AskFor : List Text → Job → Type 0
 AskFor words job = (fault_of dwframe words ≡ []) × (name : Text) × (values : List Row) × (subcommand_of dwframe words ≡ Some (name, values)) × IsJob values name job
+
+-- what is named is bad among the values that clap's definition reads in words
+abbrev pub HasBad : List Text → Text → Type 0
+HasBad words what = (name : Text) × (values : List Row) × (subcommand_of dwframe words ≡ Some (name, values)) × IsBad values what
 
 -- a kind by which clap says that help or the version is asked for
 abbrev pub is_help : ErrorKind → Bool
@@ -67,5 +85,5 @@ abbrev pub Planned : List Text → Result Request PlanError → Type 0
 Planned words (Ok (requests.Run job)) = AskFor words job
 Planned words (Ok (requests.Help error)) = IsAmong (kind_of error) (fault_of dwframe words) × (is_help (kind_of error) ≡ true)
 Planned words (Err (errors.Words error)) = IsAmong (kind_of error) (fault_of dwframe words) × (is_help (kind_of error) ≡ false)
-Planned words (Err (errors.BadValue what)) = (fault_of dwframe words ≡ []) × ((job : Job) → AskFor words job → ⊥)
+Planned words (Err (errors.BadValue what)) = (fault_of dwframe words ≡ []) × HasBad words what.now × ((job : Job) → AskFor words job → ⊥)
 Planned words (Err errors.OutOfMemory) = ⊤

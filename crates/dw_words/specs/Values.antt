@@ -11,9 +11,9 @@ use Rattle.dw_num.specs.declared.target.Size.{Size}
 use Rattle.dw_num.specs.declared.target.Size.TheVariants.{Four, Eight}
 use Rattle.dw_op.specs.declared.profile.Profile.{Profile}
 use Rattle.dw_op.specs.declared.profile.Profile.TheVariants.{Frame, Location}
-use Rattle.dw_unwind.specs.declared.frame.Policy.{Policy}
-use Rattle.dw_unwind.specs.declared.frame.Policy.TheVariants.{SameValue, Undefined}
-use Rattle.dw_unwind.specs.Spelling.{below, number_behind}
+use Rattle.dw_eval.specs.declared.policy.Policy.{Policy}
+use Rattle.dw_eval.specs.declared.policy.Policy.TheVariants.{SameValue, Undefined}
+use Rattle.dw_num.specs.Digits.{below, number_behind}
 
 -- ---- words of a list
 
@@ -41,6 +41,10 @@ abbrev pub address : Size → Text → Option ℕ
 address size text =
     if nat_lt 2 (length text) && (nat_lt (length text) 19 && (slice_index text 0 == 48 && slice_index text 1 == 120))
     then option_and_then (below (address_limit size)) (number_behind 16 0 (drop 2 text)) else None
+
+-- a number of bytes, no more than a section has
+abbrev pub cap_of : Text → Option ℕ
+cap_of text = option_and_then (below 2147483648) (decimal text)
 
 -- ---- bytes
 

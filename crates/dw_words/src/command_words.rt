@@ -1,18 +1,19 @@
 //! What the words of a command line ask for.
 
-ghost use Rattle.std.specs.Prelude.{◌≡◌, ◌≤◌, IfSome, codes, map, option_map, string_bytes};
+ghost use Rattle.std.specs.Prelude.{◌≡◌, ◌≤◌, IfSome, map, option_map, string_bytes};
 ghost use Rattle.clap.specs.Words.{first_of, found_of, rows_of};
 ghost use Rattle.dw_words.specs.Plan.{Planned, is_help};
-ghost use Rattle.dw_words.specs.Inner.Plan.{Answers, FromFault, block_in, cap_in, default_in, eval_in, expr_in, name_of, normal_in, profile_in, run_held, run_in, same_in, start_in, steps_in, target_in, task_held, task_in, unwind_in};
+ghost use Rattle.dw_words.specs.declared.request.Name.TheVariants.{Check, Eval, Expr, Normal, Same, Unwind};
+ghost use Rattle.dw_words.specs.Inner.Plan.{Answers, FromFault, Given, GivenAt, IsSupplied, block_in, cap_in, default_in, eval_in, expr_in, file_in, name_of, normal_in, options, own, profile_in, run_held, run_in, same_in, start_in, steps_in, target_in, task_held, task_in, unwind_in};
 
 use crate::command_line::command_line;
 use crate::request::{Evaluation, Job, Name, PlanError, Request, Task, Unwinding, Writing};
 use crate::values::{address, block_of, decimal, default_of, order_of, profile_of, size_of};
 use clap::ArgMatches;
 use clap::error::ErrorKind;
+use dw_eval::Policy;
 use dw_num::{Size, Target};
 use dw_op::Profile;
-use dw_unwind::Policy;
 use hex::FromHexError;
 use std::alloc::Global;
 
@@ -46,7 +47,7 @@ fn name_of(text: &str) -> Option<Name>
 }
 
 fn target_in(matches: &ArgMatches<'_>) -> Result<Target, PlanError>
-    ensures { Answers (target_in (rows_of (found_of matches.now))) (λ target. target) result }
+    ensures { Answers (rows_of (found_of matches.now)) (Given options) target_in (λ target. target) result }
 {
     let Some(size) = text_of(matches, "size").and_then(|text| size_of(text)) else {
         return Err(PlanError::BadValue("--size"));
@@ -107,7 +108,7 @@ fn profile_in(matches: &ArgMatches<'_>) -> Option<Profile>
 }
 
 fn block_in(alloc: Global, matches: &ArgMatches<'_>) -> Result<Vec<u8>, PlanError>
-    ensures { Answers (block_in (rows_of (found_of matches.now))) (λ bytes. bytes.items) result }
+    ensures { Answers (rows_of (found_of matches.now)) (Given (own Eval)) block_in (λ bytes. bytes.items) result }
 {
     let Some(text) = text_of(matches, "HEX") else {
         return Err(PlanError::BadValue("HEX"));
@@ -120,7 +121,7 @@ fn block_in(alloc: Global, matches: &ArgMatches<'_>) -> Result<Vec<u8>, PlanErro
 }
 
 fn eval_in<'a>(alloc: Global, matches: &ArgMatches<'a>, size: Size) -> Result<Task<'a>, PlanError>
-    ensures { Answers (eval_in size (rows_of (found_of matches.now))) task_held result }
+    ensures { Answers (rows_of (found_of matches.now)) (GivenAt size (own Eval)) (eval_in size) task_held result }
 {
     let Some(steps) = steps_in(matches) else {
         return Err(PlanError::BadValue("--steps"));
@@ -139,7 +140,7 @@ fn eval_in<'a>(alloc: Global, matches: &ArgMatches<'a>, size: Size) -> Result<Ta
 }
 
 fn expr_in<'a>(alloc: Global, matches: &ArgMatches<'a>) -> Result<Task<'a>, PlanError>
-    ensures { Answers (expr_in (rows_of (found_of matches.now))) task_held result }
+    ensures { Answers (rows_of (found_of matches.now)) (Given (own Expr)) expr_in task_held result }
 {
     let Some(profile) = profile_in(matches) else {
         return Err(PlanError::BadValue("--frame"));
@@ -149,7 +150,7 @@ fn expr_in<'a>(alloc: Global, matches: &ArgMatches<'a>) -> Result<Task<'a>, Plan
 }
 
 fn normal_in<'a>(matches: &ArgMatches<'a>) -> Result<Task<'a>, PlanError>
-    ensures { Answers (normal_in (rows_of (found_of matches.now))) task_held result }
+    ensures { Answers (rows_of (found_of matches.now)) (Given (own Normal)) normal_in task_held result }
 {
     let Some(cap) = cap_in(matches) else {
         return Err(PlanError::BadValue("--cap"));
@@ -161,7 +162,7 @@ fn normal_in<'a>(matches: &ArgMatches<'a>) -> Result<Task<'a>, PlanError>
 }
 
 fn same_in<'a>(matches: &ArgMatches<'a>) -> Result<Task<'a>, PlanError>
-    ensures { Answers (same_in (rows_of (found_of matches.now))) task_held result }
+    ensures { Answers (rows_of (found_of matches.now)) (Given (own Same)) same_in task_held result }
 {
     let Some(path) = text_of(matches, "FILE") else {
         return Err(PlanError::BadValue("FILE"));
@@ -173,7 +174,7 @@ fn same_in<'a>(matches: &ArgMatches<'a>) -> Result<Task<'a>, PlanError>
 }
 
 fn unwind_in<'a>(matches: &ArgMatches<'a>) -> Result<Task<'a>, PlanError>
-    ensures { Answers (unwind_in (rows_of (found_of matches.now))) task_held result }
+    ensures { Answers (rows_of (found_of matches.now)) (Given (own Unwind)) unwind_in task_held result }
 {
     let Some(steps) = steps_in(matches) else {
         return Err(PlanError::BadValue("--steps"));
@@ -196,7 +197,7 @@ fn unwind_in<'a>(matches: &ArgMatches<'a>) -> Result<Task<'a>, PlanError>
 }
 
 fn path_in<'a>(matches: &ArgMatches<'a>) -> Result<&'a str, PlanError>
-    ensures { Answers (first_of (codes "FILE") (rows_of (found_of matches.now))) (λ path. path.now) result }
+    ensures { Answers (rows_of (found_of matches.now)) (Given (own Check)) file_in (λ path. path.now) result }
 {
     match text_of(matches, "FILE") {
         Some(path) => Ok(path),
@@ -210,7 +211,7 @@ fn task_in<'a>(
     size: Size,
     matches: &ArgMatches<'a>,
 ) -> Result<Task<'a>, PlanError>
-    ensures { Answers (task_in name size (rows_of (found_of matches.now))) task_held result }
+    ensures { Answers (rows_of (found_of matches.now)) (GivenAt size (own name)) (task_in name size) task_held result }
 {
     match name {
         Name::Check => Ok(Task::Check {
@@ -235,7 +236,7 @@ fn task_in<'a>(
 
 // The run of a subcommand of this name.
 fn run_in<'a>(alloc: Global, text: &str, matches: &ArgMatches<'a>) -> Result<Job<'a>, PlanError>
-    ensures { Answers (run_in text.now (rows_of (found_of matches.now))) run_held result }
+    ensures { Answers (rows_of (found_of matches.now)) (IsSupplied text.now) (run_in text.now) run_held result }
 {
     let Some(name) = name_of(text) else {
         return Err(PlanError::BadValue("the subcommand"));

@@ -3,9 +3,9 @@
 ghost use Rattle.std.specs.Prelude.{◌≡◌, ◌≤◌};
 ghost use Rattle.dw_words.specs.declared.request.PlanError.TheVariants.{OutOfMemory};
 
+use dw_eval::Policy;
 use dw_num::Target;
 use dw_op::Profile;
-use dw_unwind::Policy;
 use std::alloc::AllocError;
 use std::error::Error;
 use std::fmt;

@@ -1,15 +1,14 @@
 //! What the texts of options and operands say.
 
 ghost use Rattle.std.specs.Prelude.{◌≡◌, ◌⊎◌, ◌<◌, Some, None, MatchResult, option_and_then};
-ghost use Rattle.dw_unwind.specs.Spelling.{below, number_behind};
+ghost use Rattle.dw_num.specs.Digits.{below, digit_value, number_behind};
 ghost use Rattle.dw_words.specs.Values.{size_of, order_of, default_of, profile_of, decimal, address, block_of};
 ghost use Rattle.dw_words.specs.Inner.Values.{digit_behind, checked_behind};
-ghost use Rattle.hex.specs.Hex.{hex_digit_value};
 ghost use Rattle.hex.specs.declared.error.FromHexError.TheVariants.{OutOfMemory as NoMemory};
 
+use dw_eval::Policy;
 use dw_num::{Order, Size};
 use dw_op::Profile;
-use dw_unwind::Policy;
 use hex::FromHexError;
 use std::alloc::Global;
 
@@ -56,7 +55,7 @@ pub(crate) fn profile_of(text: &str) -> Option<Profile>
 
 // The value of a hexadecimal digit of either case.
 fn digit_of(byte: u8) -> Option<u8>
-    ensures { result ≡ hex_digit_value byte }
+    ensures { result ≡ digit_value byte }
 {
     match byte {
         b'0'..=b'9' => Some(byte - b'0'),

@@ -3,10 +3,10 @@
 ghost use Rattle.std.specs.Prelude.{◌+◌, ◌-◌, ◌<◌};
 ghost use Rattle.dw_unwind.specs.Ranges.{byte_in};
 
-use dw_eval::{Memory, ReadFault};
+use dw_eval::{Memory, Policy, ReadFault};
 use dw_num::{Order, Size, Target};
 use dw_section::check;
-use dw_unwind::{Dump, DumpMemory, Frame, Policy, unwind};
+use dw_unwind::{Dump, DumpMemory, Frame, unwind};
 use std::alloc::Global;
 use std::test::Fail;
 

@@ -12,7 +12,7 @@ use Rattle.dw_cfa.specs.declared.instr.Instr.{Instr}
 use Rattle.dw_cfa.specs.declared.instr.Instr.TheVariants.{DefCfaExpression, Set}
 use Rattle.dw_cfa.specs.declared.rule.RegRule.{RegRule}
 use Rattle.dw_cfa.specs.declared.rule.RegRule.TheVariants as rules
-use Rattle.dw_section.specs.Inner.Sound.{HasBlock, RuleFits}
+use Rattle.dw_section.specs.Fits.{HasBlock, RuleFits}
 use Rattle.dw_canon.specs.Inner.Fits.{InstrFits}
 use Rattle.dw_canon.specs.Spelling.{counted, rule_bytes, program_bytes}
 use Rattle.dw_canon.specs.Spelling.{instr_bytes as instr_with}

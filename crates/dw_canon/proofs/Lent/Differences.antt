@@ -22,7 +22,7 @@ use Rattle.dw_cfa.proofs.Lent.RowLists.{put_rule, put_keeps}
 use Rattle.dw_cfa.proofs.Lent.SameRows.{same_rows}
 use Rattle.dw_canon.specs.Difference.{cfa_to, either}
 use Rattle.dw_canon.specs.Inner.Difference.{cfa_difference, rule_difference, difference, with_register, with_registers}
-use Rattle.dw_section.specs.Inner.Sound.{CfaFits, RowFits}
+use Rattle.dw_section.specs.Fits.{CfaFits, RowFits}
 use Rattle.dw_cfa.specs.Inner.Agreement.{same_cfa, same_rule}
 use Rattle.dw_cfa.specs.Inner.RowEquality.{cfa_tells, rule_tells}
 

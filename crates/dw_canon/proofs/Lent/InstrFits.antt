@@ -17,12 +17,12 @@ use Rattle.dw_cfa.specs.Rows.{Rules, rule, is_specified, blank}
 use Rattle.dw_canon.specs.Inner.Canon.{fde_instrs, cie_instrs}
 use Rattle.dw_canon.specs.Difference.{cfa_to, either, move}
 use Rattle.dw_canon.specs.Inner.Difference.{cfa_difference, rule_difference, difference, later_changes, with_register, with_registers}
-use Rattle.dw_section.specs.Inner.Sound.{CfaFits, RuleFits, RowFits}
+use Rattle.dw_section.specs.Fits.{CfaFits, RuleFits, RowFits}
 use Rattle.dw_canon.specs.Inner.Fits.{RestsOn, ChangesStand, MemberStands}
 use Rattle.dw_canon.specs.Inner.Fits.{InstrFits}
 use Rattle.dw_canon.specs.Members.{Member}
 use Rattle.dw_cfa.specs.Inner.Agreement.{same_cfa, same_rule}
-use Rattle.dw_canon.proofs.RowFits.{rule_fits}
+use Rattle.dw_section.proofs.Lent.RowFits.{rule_fits}
 use Rattle.dw_canon.proofs.Lent.Programs.{below_end}
 
 pub all_more : {X : Type 0} (P : X → Type 0) (xs ys : List X) → AllByRecursion P xs → AllByRecursion P ys → AllByRecursion P (xs ++ ys)

@@ -10,7 +10,7 @@ use Rattle.dw_cfa.specs.declared.rule.RegRule.TheVariants as rules
 use Rattle.dw_cfa.specs.Inner.Agreement.{agreed, same_cfa}
 use Rattle.dw_cfa.specs.Rows.{Rules, is_specified, rule}
 use Rattle.dw_cfa.proofs.Lent.SameRows.{same_rows}
-use Rattle.dw_section.specs.Inner.Sound.{RowFits}
+use Rattle.dw_section.specs.Fits.{RowFits}
 use Rattle.dw_section.proofs.Lent.OpeningLaws.{Specifies}
 use Rattle.dw_section.specs.Changes.{kept_by}
 use Rattle.dw_canon.specs.Members.{Member}

@@ -17,7 +17,7 @@ use Rattle.dw_cfa.specs.Runs.{Outcome}
 use Rattle.dw_cfa.proofs.Lent.RowsAt.{instrs_of, Gives}
 use Rattle.dw_canon.specs.Difference.{move}
 use Rattle.dw_canon.specs.Inner.Difference.{difference, later_changes}
-use Rattle.dw_section.specs.Inner.Sound.{RowFits}
+use Rattle.dw_section.specs.Fits.{RowFits}
 use Rattle.dw_canon.specs.Inner.Fits.{RowStands, ChangesStand}
 use Rattle.dw_canon.proofs.Lent.Differences.{Quiet, on, no_half, difference_quiet}
 

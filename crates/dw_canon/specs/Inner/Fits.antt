@@ -8,7 +8,7 @@ use Rattle.dw_cfa.specs.declared.instr.Instr.TheVariants.{SetLoc, Advance, DefCf
 use Rattle.dw_cfa.specs.declared.rule.CfaRule.TheVariants as cfa
 use Rattle.dw_cfa.specs.declared.rule.RegRule.TheVariants as rules
 use Rattle.dw_cfa.specs.Rows.{Rules, rule, is_specified}
-use Rattle.dw_section.specs.Inner.Sound.{HasBlock, RowFits, RuleFits}
+use Rattle.dw_section.specs.Fits.{HasBlock, RowFits, RuleFits}
 use Rattle.dw_canon.specs.Members.{Member}
 
 -- a register that a row leaves Unspecified is Unspecified in the initial row, to which alone restore can bring it back

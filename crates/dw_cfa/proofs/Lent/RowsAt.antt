@@ -38,7 +38,7 @@ pub row_if_stays : (moves : Bool) (s : State) (next : Outcome) (o : Outcome) →
 row_if_stays true s next o is e = absurd cc
 row_if_stays false s next o is e = e
 
-not_le : (m n : ℕ) → n < m → nat_le m n ≡ false
+pub not_le : (m n : ℕ) → n < m → nat_le m n ≡ false
 not_le m n lt = elim (leb_tells m n) [ inl p ↦ absurd (omega arith) | inr p ↦ p.0 ]
 
 -- an instruction that is run moves the location forwards, or leaves it
@@ -102,6 +102,9 @@ none_at a low (row ∷ rows) past h =
     let first : low ≤ row.location = h.0 in
     let none = none_at a row.location rows (omega arith) h.1 in
     rw (none, not_le row.location a (omega arith)) refl
+
+pub last_from : (a low : ℕ) (rows : List LocatedRow) (row : Rules) → NeverFalls low rows → last_at a rows ≡ Some row → low ≤ a
+last_from a low rows row h is = elim (cases_lt a low) [ inl below ↦ (let none = none_at a low rows below h in absurd cc) | inr from ↦ from ]
 
 module _ (initial : Rules) (begin a : ℕ) where
   counts_rest : (i : Instr) (earlier instrs : List Instr) (k : ℕ) → location_back begin earlier ≤ a

@@ -8,7 +8,7 @@ use Rattle.dw_cfa.specs.declared.opcode.Opcode.TheVariants as opcodes
 use Rattle.dw_cfa.specs.declared.rule.RegRule.TheVariants as rules
 use Rattle.dw_cfa.specs.Operands.{address, fixed, register, unsigned, signed, expression, Form, none, one, two, advanced}
 
--- the codes that hold no operand
+-- the codes that are a whole byte
 abbrev pub opcode_table : List (ℕ × Opcode)
 opcode_table =
     (0x00, opcodes.Nop) ∷ (0x01, opcodes.SetLoc) ∷ (0x02, opcodes.AdvanceLoc1) ∷ (0x03, opcodes.AdvanceLoc2) ∷ (0x04, opcodes.AdvanceLoc4)

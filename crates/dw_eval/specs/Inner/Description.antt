@@ -20,7 +20,7 @@ abbrev pub state_of : ℕ → Description → PlaceState
 state_of i d = record { index = i; stack = d.stack; pending = option_map bare_place d.pending; pieces = map bare_piece d.pieces.items }
 
 -- a step from operation i without memory: it leads to a state, given its index, or to an error
-abbrev pub Turns : Result PlaceState Kind → ℕ → (ℕ → PlaceState) → Result ℕ EvalError → Type 0
-Turns turn i state (Ok next) = turn ≡ Ok (state next)
-Turns turn i state (Err OutOfMemory) = Unit {0}
-Turns turn i state (Err (Fault kind j)) = (turn ≡ Err kind) × (j ≡ i)
+abbrev pub StepsWithoutMemory : Result PlaceState Kind → ℕ → (ℕ → PlaceState) → Result ℕ EvalError → Type 0
+StepsWithoutMemory step i state (Ok next) = step ≡ Ok (state next)
+StepsWithoutMemory step i state (Err OutOfMemory) = Unit {0}
+StepsWithoutMemory step i state (Err (Fault kind j)) = (step ≡ Err kind) × (j ≡ i)

@@ -63,7 +63,7 @@ held_by (AddsPiece part) s = Ok (with_piece part s)
 held_by Waits s = Ok (with_stack (s.index + 1) s.stack s)
 held_by (Computes entries) s = refused_by entries s.stack
 
--- a turn by the role of the operation
-abbrev pub turn_of : Context → Op → Option Place → PlaceState → Result PlaceState Kind
-turn_of c op None s = free_by c op (role op) s
-turn_of c op (Some place) s = held_by (role op) s
+-- a step by the role of the operation
+abbrev pub step_of : Context → Op → Option Place → PlaceState → Result PlaceState Kind
+step_of c op None s = free_by c op (role op) s
+step_of c op (Some place) s = held_by (role op) s

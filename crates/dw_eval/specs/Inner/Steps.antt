@@ -36,7 +36,7 @@ reached i (Err stop.OutOfMemory) = Err OutOfMemory
 
 -- a step of the code from operation i: it leads to a state, given its index, or to an error
 abbrev pub StepsTo : {S : Type 0} → Result S Kind → Type 0 → ℕ → ℕ → (ℕ → S) → Result ℕ EvalError → ℕ → Type 0
-StepsTo turn Read i before state (Ok next) after = (turn ≡ Ok (state next)) × (after ≡ before)
-StepsTo turn Read i before state (Err OutOfMemory) after = after ≡ before
-StepsTo turn Read i before state (Err (Fault kind j)) after =
-    (j ≡ i) × ((turn ≡ Err kind) × (after ≡ before) ⊎ (kind ≡ Device) × (before < after) × Read)
+StepsTo step Read i before state (Ok next) after = (step ≡ Ok (state next)) × (after ≡ before)
+StepsTo step Read i before state (Err OutOfMemory) after = after ≡ before
+StepsTo step Read i before state (Err (Fault kind j)) after =
+    (j ≡ i) × ((step ≡ Err kind) × (after ≡ before) ⊎ (kind ≡ Device) × (before < after) × Read)

@@ -2,7 +2,7 @@
 use Rattle.std.specs.Prelude.{◌≡◌, ◌⊎◌, ℕ, List, Err}
 use Rattle.dw_num.specs.declared.target.Target.{Target}
 use Rattle.dw_section.specs.Accepted.{CheckFault}
-use Rattle.dw_unwind.specs.declared.frame.Policy.{Policy}
+use Rattle.dw_eval.specs.declared.policy.Policy.{Policy}
 use Rattle.dw_unwind.specs.declared.frame.UnwindError.TheVariants as errors
 use Rattle.dw_library.specs.declared.caller.Stop.{Stop}
 use Rattle.dw_library.specs.declared.caller.Held.{Held}

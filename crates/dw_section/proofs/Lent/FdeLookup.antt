@@ -16,7 +16,6 @@ use Rattle.dw_section.specs.Inner.Table.{IsKept}
 use Rattle.dw_section.specs.declared.entry.EntryCounts.{EntryCounts}
 use Rattle.dw_section.specs.declared.program.Initial.{Initial}
 use Rattle.dw_section.specs.Inner.Initials.{AreInitials}
-use Rattle.dw_section.specs.Inner.Left.{AreHeaders}
 use Rattle.dw_section.proofs.Lent.Judged.{all_get}
 use Rattle.dw_section.proofs.Lent.HeaderLaws.{one_headers}
 use Rattle.dw_section.proofs.Lent.Heads.{heads_rise, one_among, cie_or, fde_or}
@@ -119,26 +118,18 @@ listed_fde (x ∷ list) zero e d lt is = ap fde_in is
 listed_fde (x ∷ list) (suc place) e d lt is = listed_fde list place e d (omega arith) is
 
 -- what a table keeps is of its headers
-pub kept_of : (target : Target) (s : List ℕ) (list : List Ranged) (counts : EntryCounts) (places : List ℕ) (cs : List Initial) (t : IsTable target s list) → IsKept target s counts places cs
-    → AreHeaders target s places t.indexed.headers × AreInitials target t.indexed.headers t.indexed.headers cs
-kept_of target s list counts places cs t k =
-    let same = one_headers target s k.headers t.indexed.headers k.heads.are t.indexed.hold.0.0.0 in
-    (subst (λ (hs : List Head). AreHeaders target s places hs) same k.heads, subst (λ (hs : List Head). AreInitials target hs hs cs) same k.initials)
+pub kept_of : (target : Target) (s : List ℕ) (list : List Ranged) (counts : EntryCounts) (cs : List Initial) (t : IsTable target s list) → IsKept target s counts cs → AreInitials target t.indexed.headers t.indexed.headers cs
+kept_of target s list counts cs t k = subst (λ (hs : List Head). AreInitials target hs hs cs) (one_headers target s k.headers t.indexed.headers k.heads t.indexed.hold.0.0.0) k.initials
 
 -- an entry of the list is of one of them
 pub ranged_of : (target : Target) (s : List ℕ) (list : List Ranged) (t : IsTable target s list) (i : ℕ) (d : Ranged) → i < length list → IsRanged t.indexed.headers (get_or list i d)
 ranged_of target s list t i d lt = all_get (IsRanged t.indexed.headers) list i d t.indexed.each lt
 
-pub here_of : (target : Target) (s : List ℕ) (list : List Ranged) (counts : EntryCounts) (places : List ℕ) (cs : List Initial) (t : IsTable target s list) → IsKept target s counts places cs
-    → (ps : List ℕ) (ds : List Initial) → ps ≡ places → ds ≡ cs → (i : ℕ) (e : Ranged) → i < length list → e ≡ get_or list i e
-    → AreHeaders target s ps t.indexed.headers × AreInitials target t.indexed.headers t.indexed.headers ds × IsRanged t.indexed.headers e
-here_of target s list counts places cs t k ps ds p-is d-is i e lt is =
+pub here_of : (target : Target) (s : List ℕ) (list : List Ranged) (counts : EntryCounts) (cs : List Initial) (t : IsTable target s list) → IsKept target s counts cs
+    → (ds : List Initial) → ds ≡ cs → (i : ℕ) (e : Ranged) → i < length list → e ≡ get_or list i e → AreInitials target t.indexed.headers t.indexed.headers ds × IsRanged t.indexed.headers e
+here_of target s list counts cs t k ds d-is i e lt is =
     let hs = t.indexed.headers in
-    let kept = kept_of target s list counts places cs t k in (
-      subst (λ (l : List ℕ). AreHeaders target s l hs) (sym p-is) kept.0,
-      subst (AreInitials target hs hs) (sym d-is) kept.1,
-      subst (IsRanged hs) (sym is) (ranged_of target s list t i e lt),
-    )
+    (subst (AreInitials target hs hs) (sym d-is) (kept_of target s list counts cs t k), subst (IsRanged hs) (sym is) (ranged_of target s list t i e lt))
 
 pub same_fde : (b r q b' r' q' : ℕ) → b ≡ b' → r ≡ r' → q ≡ q' → ◌≡◌ {A = Fde} (record { begin = b; end = b + r; return_register = q }) (record { begin = b'; end = b' + r'; return_register = q' })
 same_fde b r q b' r' q' e f g = rw (e, f, g) refl

@@ -1,5 +1,6 @@
 -- What running programs tells of headers.
 use Rattle.std.proofs.Common.{◌≡◌, ℕ, zero, suc, ◌+◌, ◌<◌, ◌≤◌, Bool, true, false, List, [], ◌∷◌, ◌++◌, map, length, get_or, set, Option, Some, None, refl, sym, ap, subst, ◌∙◌, append_assoc, arith, inl, inr}
+use Rattle.std.specs.Bool.{MatchBool}
 use Rattle.std.specs.Prelude.{nat_lt}
 use Rattle.std.specs.List.{AllByRecursion}
 use Rattle.std.specs.List.Sorted.{IsNonDecreasingBy}
@@ -22,7 +23,7 @@ use Rattle.dw_cfa.specs.CieMachine.{Following, with_steps}
 use Rattle.dw_cfa.specs.Kept.{FdeKept}
 use Rattle.dw_cfa.specs.Laws.{initial_cfa}
 use Rattle.dw_cfa.specs.Location.{Counts}
-use Rattle.dw_cfa.specs.Coverage.{is_unset, lacks_from}
+use Rattle.dw_cfa.specs.Coverage.{Lacks}
 use Rattle.dw_cfa.specs.declared.instr.Factors.{Factors}
 use Rattle.dw_cfa.specs.Rows.{Rules}
 use Rattle.dw_section.specs.declared.program.Initial.{Initial}
@@ -34,7 +35,7 @@ use Rattle.dw_section.specs.Inner.Places.{Rises}
 use Rattle.dw_section.specs.Programs.{Begins, Instrs, CieRuns, FdeRuns, FdeBroken, HasRules, LacksRule}
 use Rattle.dw_num.specs.Span.{input_of}
 use Rattle.dw_cfa.proofs.Lent.InstrCounts.{counts_exists}
-use Rattle.dw_section.proofs.Covered.{lacks_found, lacks_none, unset_is, is_unset_of}
+use Rattle.dw_cfa.proofs.Lent.RowsAt.{last_from}
 use Rattle.dw_section.proofs.Stages.{all_push}
 
 -- ---- what is kept of CIEs
@@ -134,31 +135,29 @@ module _ (target : Target) (hs : List Head) (c : Initial) (is : IsInitial target
     pub fde_runs : FdeRuns target hs (fde f)
     fde_runs = (is.1, instrs, instrs_so, subst (λ (x : CfaRule). FdeKept (address_limit target.size) f.begin x instrs) is.4.cfa given.kept)
 
-    lacks_so : lacks_from (f.begin + f.range) f.begin false rows ≡ true → LacksRule target hs (fde f) (record { code = NoCfaRule; at = f.at })
-    lacks_so e =
-        let found = lacks_found (f.begin + f.range) f.begin false rows given.never_falls e in
-        let counts = counts_exists f.begin instrs found.0 found.1 in
-        let row = given.holds found.0 counts.0 found.1 counts.1 in
-        let unset = unset_is row.0.cfa (rw row.1 at found.3) in
+    lacks_so : Lacks (f.begin + f.range) rows → LacksRule target hs (fde f) (record { code = NoCfaRule; at = f.at })
+    lacks_so w =
+        let from = last_from w.address f.begin rows w.row given.never_falls w.last in
+        let counts = counts_exists f.begin instrs w.address from in
+        let row = given.holds w.address counts.0 from counts.1 in
+        let same : row.0 ≡ w.row = let e = sym row.1 ∙ w.last in cc in
+        let unset : row.0.cfa ≡ Unset = ap (λ (x : Rules). x.cfa) same ∙ w.unset in
         let here : cfa_after (initial_cfa is.1) instrs counts.0 ≡ Unset = ap (λ (x : CfaRule). cfa_after x instrs counts.0) (sym is.4.cfa) ∙ sym row.2.cfa ∙ unset in
-        (refl, (is.1, instrs, instrs_so, (found.0, found.1, found.2, (counts.0, counts.1, here))))
+        (refl, (is.1, instrs, instrs_so, (w.address, from, w.below, (counts.0, counts.1, here))))
 
-    has_at : lacks_from (f.begin + f.range) f.begin false rows ≡ false → (a : ℕ) → f.begin ≤ a → a < f.begin + f.range → (k : ℕ) → Counts f.begin instrs a k → cfa_after (initial_cfa is.1) instrs k ≡ Unset → ⊥
-    has_at e a le lt k counts unset =
+    has_at : (Lacks (f.begin + f.range) rows → ⊥) → (a : ℕ) → f.begin ≤ a → a < f.begin + f.range → (k : ℕ) → Counts f.begin instrs a k → cfa_after (initial_cfa is.1) instrs k ≡ Unset → ⊥
+    has_at none a le lt k counts unset =
         let row = given.holds a k le counts in
-        let none = lacks_none (f.begin + f.range) f.begin false rows given.never_falls e a le lt in
-        let no : is_unset row.0.cfa ≡ false = rw row.1 at none in
-        let yes = is_unset_of row.0.cfa (row.2.cfa ∙ ap (λ (x : CfaRule). cfa_after x instrs k) is.4.cfa ∙ unset) in
-        let e = sym no ∙ yes in cc
+        none (record { address = a; below = lt; row = row.0; last = row.1; unset = row.2.cfa ∙ ap (λ (x : CfaRule). cfa_after x instrs k) is.4.cfa ∙ unset })
 
-    pub has_or_lacks : (lacks : Bool) → lacks ≡ lacks_from (f.begin + f.range) f.begin false rows → HasOrLacks target hs (fde f) lacks
-    has_or_lacks true e = lacks_so (sym e)
-    has_or_lacks false e = (is.1, instrs, instrs_so, has_at (sym e))
+    pub has_or_lacks : (lacks : Bool) → MatchBool lacks (Lacks (f.begin + f.range) rows) (Lacks (f.begin + f.range) rows → ⊥) → HasOrLacks target hs (fde f) lacks
+    has_or_lacks true w = lacks_so w
+    has_or_lacks false none = (is.1, instrs, instrs_so, has_at none)
 
 -- what a run on a machine behind a CIE's row tells
 module _ (target : Target) (hs : List Head) (m : Following) (f : FdeHead) (is : IsBehind target hs (Some f.cie_at) m) where
   abbrev Ran : Factors → Rules → Target → Bool → Type 0
-  Ran g row t lacks = (instrs : List Instr) × (rows : List LocatedRow) × RulesBehind g row (input_of t f.program) f.begin instrs rows × (lacks ≡ lacks_from (f.begin + f.range) f.begin false rows)
+  Ran g row t lacks = (instrs : List Instr) × (rows : List LocatedRow) × RulesBehind g row (input_of t f.program) f.begin instrs rows × MatchBool lacks (Lacks (f.begin + f.range) rows) (Lacks (f.begin + f.range) rows → ⊥)
 
   pub behind_found : (lacks : Bool) → Ran m.factors m.initial m.target lacks
       → FdeRuns target hs (fde f) × HasOrLacks target hs (fde f) lacks

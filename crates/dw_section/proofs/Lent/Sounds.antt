@@ -22,7 +22,8 @@ use Rattle.dw_section.specs.declared.lookup.Fde.{Fde}
 use Rattle.dw_section.specs.Changes.{HoldsAt, ChangesBehind, AreChanges}
 use Rattle.dw_section.proofs.Lent.Registers.{fdes_registers}
 use Rattle.dw_section.specs.Among.{IsAmong}
-use Rattle.dw_section.specs.Inner.Sound.{HasBlock, CfaFits, RuleFits, RowFits, ChangeFits, Steps, AllStep, SoundSection}
+use Rattle.dw_section.specs.Fits.{HasBlock, CfaFits, RuleFits, RowFits}
+use Rattle.dw_section.specs.Inner.Sound.{ChangeFits, Steps, AllStep, SoundSection}
 use Rattle.dw_section.proofs.Lent.Rowed.{changes_listed, holds_on}
 use Rattle.dw_section.proofs.Lent.Sections.{here, cfa_programs, begin_low, changes_programs, listed_programs}
 use Rattle.dw_section.specs.Programs.{factors_of}

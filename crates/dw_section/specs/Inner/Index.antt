@@ -14,8 +14,8 @@ use Rattle.dw_cfa.specs.RowWalk.{Led}
 use Rattle.dw_section.specs.Inner.Initials.{FirstLacking}
 use Rattle.dw_num.specs.declared.target.Target.{Target}
 
-abbrev pub found_head : Form → ℕ → FoundFde → FdeHead
-found_head form cie_at e = record { at = e.at; form = form; cie_at = cie_at; begin = e.begin; range = e.range; program = span_of e.program }
+abbrev pub found_head : Form → FoundFde → FdeHead
+found_head form e = record { at = e.at; form = form; cie_at = e.cie_at; begin = e.begin; range = e.range; program = span_of e.program }
 
 abbrev pub found_cie : Form → ℕ → ℕ → FoundFde → CieHead
 found_cie form cie_at register e =
@@ -24,8 +24,7 @@ found_cie form cie_at register e =
 -- the same with programs
 abbrev pub IsFound : List Head → FoundFde → Type 0
 IsFound hs e =
-    (form : Form) × (cie_form : Form) × (cie_at : ℕ) × (register : ℕ) × IsAmong (fde (found_head form cie_at e)) hs
-    × IsAmong (cie (found_cie cie_form cie_at register e)) hs
+    (form : Form) × (cie_form : Form) × (register : ℕ) × IsAmong (fde (found_head form e)) hs × IsAmong (cie (found_cie cie_form e.cie_at register e)) hs
 
 -- the CIE that a walk is led to
 abbrev pub led_to : Target → FoundFde → Led

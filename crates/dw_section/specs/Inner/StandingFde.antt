@@ -20,7 +20,7 @@ StandsAt target s at = (own : FdeHead) × (named : CieHead) × FdeStands target 
 
 -- this one does, with what its CIE says
 abbrev pub FoundStands : Target → List ℕ → FoundFde → Type 0
-FoundStands target s e = (form : Form) × (cie_form : Form) × (cie_at : ℕ) × FdeStands target s (found_head form cie_at e) (found_cie cie_form cie_at e.return_register e)
+FoundStands target s e = (form : Form) × (cie_form : Form) × FdeStands target s (found_head form e) (found_cie cie_form e.cie_at e.return_register e)
 
 -- what is wrong lies in the FDE's program or in that of its CIE
 abbrev pub LiesInPrograms : Target → FoundFde → Refusal → Type 0
@@ -33,7 +33,7 @@ is_fde (fde f) = true
 -- an FDE's header and a CIE's, together
 abbrev pub AreJoined : Head → Head → FoundFde → Type 0
 AreJoined own named e =
-    (form : Form) × (cie_form : Form) × (cie_at : ℕ) × (place : ℕ) × (own ≡ fde (found_head form cie_at e)) × (named ≡ cie (found_cie cie_form place e.return_register e))
+    (form : Form) × (cie_form : Form) × (place : ℕ) × (own ≡ fde (found_head form e)) × (named ≡ cie (found_cie cie_form place e.return_register e))
 
 abbrev pub of_steps : ReadError → LookUpError
 of_steps (read_error.Refused r) = Refused r

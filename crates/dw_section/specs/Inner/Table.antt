@@ -10,8 +10,7 @@ use Rattle.dw_section.specs.Counts.{AreCounts}
 use Rattle.dw_section.specs.Cut.{Piece}
 use Rattle.dw_section.specs.Pieces.{Pieces}
 use Rattle.dw_section.specs.Inner.Initials.{AreInitials}
-use Rattle.dw_section.specs.Inner.Left.{AreHeaders}
-use Rattle.dw_section.specs.Headers.{Head}
+use Rattle.dw_section.specs.Headers.{Head, Headers}
 use Rattle.dw_section.specs.Inner.Index.{PlacesRise}
 use Rattle.dw_section.specs.Ranges.{IsRanged, range_in}
 use Rattle.dw_section.specs.Overlap.{nonempty}
@@ -24,10 +23,10 @@ pub record AreRanges (target : Target) (s : List ℕ) (list : List Ranged) : Typ
   pub rise : PlacesRise 0 (map range_in list)
   pub each : AllByRecursion (IsRanged headers) list
 
--- the places of a section's CIEs, how many entries it has, and what its FDEs begin with
-pub record IsKept (target : Target) (s : List ℕ) (counts : EntryCounts) (places : List ℕ) (cs : List Initial) : Type 0 where
+-- how many entries a section has, and what its FDEs begin with
+pub record IsKept (target : Target) (s : List ℕ) (counts : EntryCounts) (cs : List Initial) : Type 0 where
   pub headers : List Head
-  pub heads : AreHeaders target s places headers
+  pub heads : Headers target s headers
   pub entries : List Piece
   pub cut : Pieces target s entries
   pub counts_are : AreCounts entries counts

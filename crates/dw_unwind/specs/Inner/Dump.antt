@@ -1,5 +1,5 @@
 -- What the code and its proofs say beside Dump.
-use Rattle.std.specs.Prelude.{ℕ, ◌+◌, ◌<◌, List, [], ◌∷◌, ◌++◌}
+use Rattle.std.specs.Prelude.{ℕ, ◌<◌, List, [], ◌∷◌, ◌++◌}
 use Rattle.dw_unwind.specs.declared.fault.DumpCode.{DumpCode}
 use Rattle.dw_unwind.specs.declared.fault.DumpCode.TheVariants.{BadLine, ValueTooLarge, Repeated}
 use Rattle.dw_unwind.specs.Statement.{Statement, Item, Fits, times}

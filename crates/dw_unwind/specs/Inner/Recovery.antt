@@ -1,13 +1,14 @@
 -- What the parts of an unwinding answer, over a memory whose device may fail.
-use Rattle.std.specs.Prelude.{◌≡◌, ◌<◌, ℕ, suc, List, Option, Result, Ok, Err}
+use Rattle.std.specs.Prelude.{◌≡◌, ◌<◌, ◌≤◌, ℕ, suc, List, [], ◌∷◌, Option, Result, Ok, Err}
 use Rattle.std.specs.List.{AllByRecursion}
 use Rattle.dw_cfa.specs.Rows.{Rules}
 use Rattle.dw_eval.specs.declared.error.Kind.TheVariants as kinds
 use Rattle.dw_eval.specs.Context.{Context}
-use Rattle.dw_unwind.specs.declared.frame.Policy.{Policy}
+use Rattle.dw_eval.specs.declared.policy.Policy.{Policy}
+use Rattle.dw_section.specs.Among.{IsAmong}
 use Rattle.dw_unwind.specs.declared.frame.UnwindError.{UnwindError}
 use Rattle.dw_unwind.specs.declared.frame.UnwindError.TheVariants.{Eval, Device, OutOfMemory}
-use Rattle.dw_unwind.specs.Unwound.{Rise, Has, IsListed, IsEntry, RegistersAre}
+use Rattle.dw_unwind.specs.Unwound.{IsListed, IsEntry, RegistersAre}
 
 -- An answer between two counts of the device's failures. Where the count stays, it is want of memory or what P says; where the
 -- count grew, it is a failure of the device, as Fails says; nothing else is a failure of the device.
@@ -18,6 +19,11 @@ Over P Fails before (Err (Device column)) after = Fails (Device column) × (befo
 Over P Fails before (Err (Eval kinds.Device i column)) after = Fails (Eval kinds.Device i column) × (before < after)
 Over P Fails before (Err e) after = P (Err e) × (after ≡ before)
 
+-- registers from `low` on, ascending, one after another
+abbrev pub Rise : ℕ → List (ℕ × Option ℕ) → Type 0
+Rise low [] = Unit {0}
+Rise low (entry ∷ rest) = (low ≤ entry.0) × Rise (suc entry.0) rest
+
 -- on a machine that stopped, with a row and its return-address register
 module _ (c : Context) (limit : ℕ) (policy : Policy) (row : Rules) (return_register : ℕ) where
   -- these are the listed registers below n
@@ -25,7 +31,7 @@ module _ (c : Context) (limit : ℕ) (policy : Policy) (row : Rules) (return_reg
     pub rise : Rise 0 entries
     pub below : AllByRecursion (λ entry. entry.0 < n) entries
     pub each : AllByRecursion (IsEntry c limit policy row return_register cfa) entries
-    pub all : (r : ℕ) → r < n → IsListed c limit policy row return_register r → Has r entries
+    pub all : (r : ℕ) → r < n → IsListed c limit policy row return_register r → (v : Option ℕ) × IsAmong (r, v) entries
 
   -- register n is added where it is listed, or has the first fault
   abbrev pub Adds : ℕ → ℕ → List (ℕ × Option ℕ) → Result Unit UnwindError → Type 0

@@ -1,5 +1,5 @@
 -- What the code and its proofs say beside Plan: the run of a subcommand with its values, as a function.
-use Rattle.std.specs.Prelude.{◌≡◌, ◌≢◌, ⊤, ℕ, List, true, false, Option, Some, None, codes, option_and_then, option_map, if◌then◌else◌, Result, Ok, Err, MatchResult}
+use Rattle.std.specs.Prelude.{◌≡◌, ◌≢◌, ⊤, ℕ, ◌||◌, Bool, true, false, not, List, [], ◌∷◌, Option, Some, None, is_some, codes, option_and_then, option_map, if◌then◌else◌, Result, Ok, Err, MatchResult}
 use Rattle.std.specs.Option.{option_map_or}
 use Rattle.std.specs.Str.{bytes_eq}
 use Rattle.clap.specs.declared.error.Error.{Error}
@@ -8,10 +8,9 @@ use Rattle.clap.specs.Words.{Row, Text, first_of, kind_of}
 use Rattle.dw_num.specs.declared.target.Size.{Size}
 use Rattle.dw_num.specs.declared.target.Target.{Target}
 use Rattle.dw_op.specs.declared.profile.Profile.{Profile}
-use Rattle.dw_unwind.specs.declared.frame.Policy.{Policy}
-use Rattle.dw_unwind.specs.Spelling.{below}
-use Rattle.dw_words.specs.Plan.{is_help}
-use Rattle.dw_words.specs.Values.{address, block_of, decimal, default_of, order_of, profile_of, size_of}
+use Rattle.dw_eval.specs.declared.policy.Policy.{Policy}
+use Rattle.dw_words.specs.Plan.{IsBad, Says, is_help}
+use Rattle.dw_words.specs.Values.{address, block_of, cap_of, decimal, default_of, order_of, profile_of, size_of}
 use Rattle.dw_words.specs.declared.request.Job.{Job}
 use Rattle.dw_words.specs.declared.request.Name.{Name}
 use Rattle.dw_words.specs.declared.request.Name.TheVariants as names
@@ -53,7 +52,7 @@ abbrev pub target_in : List Row → Option Target
 target_in values = option_and_then (λ size. option_map (λ order. record { size = size; order = order }) (option_and_then order_of (first_of (codes "order") values))) (option_and_then size_of (first_of (codes "size") values))
 
 abbrev pub cap_in : List Row → Option ℕ
-cap_in values = option_map_or (λ text. option_and_then (below 2147483648) (decimal text)) (first_of (codes "cap") values) (Some 2147483647)
+cap_in values = option_map_or cap_of (first_of (codes "cap") values) (Some 2147483647)
 
 abbrev pub steps_in : List Row → Option ℕ
 steps_in values = option_map_or decimal (first_of (codes "steps") values) (Some 10000)
@@ -144,17 +143,52 @@ task_held (tasks.Unwind u) = unwind u.default u.steps u.path.now u.dump.now
 abbrev pub run_held : Job → Run
 run_held job = record { target = job.target; task = task_held job.task }
 
+-- ---- what stands in the values of words that clap takes
+
+-- a text of the flag is one that clap gives it
+abbrev pub fits : Text → Text → Bool
+fits id text = not (bytes_eq id (codes "frame")) || is_some (profile_of text)
+
+-- an argument of this name is there, with a text
+abbrev pub HasText : Text → List Row → Type 0
+HasText id values = (text : Text) × (first_of id values ≡ Some text) × (fits id text ≡ true)
+
+-- each of these is there
+abbrev pub Given : List Text → List Row → Type 0
+Given [] values = ⊤
+Given (id ∷ ids) values = HasText id values × Given ids values
+
+-- and the size is this
+abbrev pub GivenAt : Size → List Text → List Row → Type 0
+GivenAt size ids values = Says values (codes "size") size_of size × Given ids values
+
+-- what each subcommand has to have
+abbrev pub options : List Text
+options = codes "size" ∷ codes "order" ∷ []
+
+-- what this one has to have beside them
+abbrev pub own : Name → List Text
+own names.Eval = codes "HEX" ∷ []
+own names.Expr = codes "frame" ∷ codes "HEX" ∷ []
+own names.Same = codes "FILE" ∷ codes "FILE2" ∷ []
+own names.Unwind = codes "default" ∷ codes "FILE" ∷ codes "DUMP" ∷ []
+own _ = codes "FILE" ∷ []
+
+-- the values of a subcommand of this name, with all that it has to have
+abbrev pub IsSupplied : Text → List Row → Type 0
+IsSupplied text values = (name : Name) × (name_of text ≡ Some name) × Given options values × Given (own name) values
+
 -- ---- what the code answers
 
--- an error of values: nothing is wanted, or memory ran out
-abbrev pub Fails : {X : Type 0} → Option X → PlanError → Type 0
-Fails wanted (errors.BadValue what) = wanted ≡ None
-Fails wanted (errors.Words error) = ⊥
-Fails wanted errors.OutOfMemory = ⊤
+-- an error of values: nothing is wanted, and what is named is bad where the values are known to have these; or memory ran out
+abbrev pub Fails : {X : Type 0} → List Row → (List Row → Type 0) → Option X → PlanError → Type 0
+Fails values Known wanted (errors.BadValue what) = (wanted ≡ None) × (Known values → IsBad values what.now)
+Fails values Known wanted (errors.Words error) = ⊥
+Fails values Known wanted errors.OutOfMemory = ⊤
 
--- a value is what is wanted
-abbrev pub Answers : {T X : Type 0} → Option X → (T → X) → Result T PlanError → Type 0
-Answers wanted held result = MatchResult result (λ v. wanted ≡ Some (held v)) (Fails wanted)
+-- a value is what is wanted of the values
+abbrev pub Answers : {T X : Type 0} → List Row → (List Row → Type 0) → (List Row → Option X) → (T → X) → Result T PlanError → Type 0
+Answers values Known wanted held result = MatchResult result (λ v. wanted values ≡ Some (held v)) (Fails values Known (wanted values))
 
 -- what a fault of clap's becomes
 abbrev pub FromFault : Error → Result Request PlanError → Type 0

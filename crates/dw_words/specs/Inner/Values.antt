@@ -1,6 +1,6 @@
 -- Numbers as the code reads them, digit by digit.
 use Rattle.std.specs.Prelude.{ℕ, ◌+◌, ◌*◌, List, [], ◌∷◌, Option, Some, option_and_then}
-use Rattle.dw_unwind.specs.Spelling.{below, digit}
+use Rattle.dw_num.specs.Digits.{below, digit}
 
 -- a number of 64 bits with one digit more behind it
 abbrev pub digit_behind : ℕ → ℕ → ℕ → Option ℕ

@@ -1,5 +1,5 @@
 use Rattle.std.proofs.Common.{◌||◌, Bool, [], ◌∷◌, false, ap, sym, ◌∙◌, arith}
-use Rattle.dw_cfa.specs.Coverage.{is_unset, leaves_one, lacks_from}
+use Rattle.dw_cfa.specs.Inner.Coverage.{is_unset, leaves_one, lacks_from}
 use Rattle.dw_cfa.specs.Rows.{Rules}
 use Rattle.dw_cfa.specs.Runs.{Outcome}
 use Rattle.dw_cfa.specs.Inner.Runs.{rows_left}

@@ -1,119 +1,99 @@
-use Rattle.std.proofs.Common.{ℕ, List, ◌≡◌, ◌∷◌, ◌∙◌, map, drop, sym, ap, subst, arith, rules}
-use Rattle.std.proofs.lemmas.List.{length-drop}
+use Rattle.std.proofs.Common.{◌≡◌, ◌∙◌, ℕ, List, map, refl, sym, ap, subst}
+use Rattle.dw_num.specs.declared.target.Form.{Form}
 use Rattle.dw_num.specs.declared.target.Target.{Target}
-use Rattle.dw_num.specs.Input.{Input}
-use Rattle.dw_num.specs.Span.{span_of}
-use Rattle.dw_section.specs.Headers.{Head, cie, fde, head_in}
-use Rattle.dw_section.specs.Inner.Heads.{FdeFits, head_at}
+use Rattle.dw_num.specs.Span.{Span, span_of}
+use Rattle.dw_section.specs.declared.fields.FdeFields.{FdeFields}
+use Rattle.dw_section.specs.Cut.{Piece}
+use Rattle.dw_section.specs.Headers.{FdeHead, Head, Headers, Has, IsFde, cie, fde}
+use Rattle.dw_section.specs.Inner.Heads.{FdeFits}
 use Rattle.dw_section.specs.Inner.Initials.{place_of}
-use Rattle.dw_section.specs.Inner.Left.{HeadsLeft, AreHeaders}
+use Rattle.dw_section.specs.Inner.Pieces.{piece_in}
 use Rattle.dw_section.specs.Meaning.{Returns}
 use Rattle.dw_section.specs.Overlap.{Range}
-use Rattle.dw_section.specs.Inner.Places.{Rises}
+use Rattle.dw_section.specs.Places.{cie_places}
+use Rattle.dw_section.specs.StandingFde.{StandsIn}
 use Rattle.dw_section.specs.Among.{IsAmong}
-use Rattle.dw_section.proofs.Lent.HeaderLaws.{pieces_rise}
-use Rattle.dw_section.proofs.Lent.Heads.{all_in}
-use Rattle.dw_section.proofs.Left.{left_at}
+use Rattle.dw_section.proofs.Lent.Heads.{all_in, has_at}
+use Rattle.dw_section.proofs.StandLaws.{fde_from, stands_of}
 use Rattle.dw_section.proofs.Tables.{places_so}
 use Rattle.dw_section.proofs.listed_fde.found_fde.Goals as goal
 
-abbrev header_of : (hs : List Head) (a : Range) (register : ℕ) → Returns hs a register → Head
-header_of hs a register r = fde r.own
+-- the FDE of a range stands at the range's place
+module _ (target : Target) (s : List ℕ) (hs : List Head) (a : Range) (register : ℕ) (p : Headers target s hs) (r : Returns hs a register) where
+  stands : (piece : Piece) × StandsIn target.order s piece × Has target (cie_places p.entries) piece (fde r.own)
+  stands = stands_of target s hs (fde r.own) p r.own_among
 
-place_is : (hs : List Head) (a : Range) (register : ℕ) (r : Returns hs a register) → r.own.at ≡ a.at
-place_is hs a register r = ap (λ (x : Range). x.at) r.covers
+  place : stands.0.at ≡ a.at
+  place = sym (has_at target (cie_places p.entries) stands.0 (fde r.own) stands.2) ∙ ap (λ (x : Range). x.at) r.covers
 
-left_here : (target : Target) (s places : List ℕ) (hs : List Head) (a : Range) (register : ℕ) (r : Returns hs a register) (i : Input) → AreHeaders target s places hs → i ≡ record { at = a.at; bytes = drop a.at s; target = target }
-    → (more : List Head) × HeadsLeft places i (header_of hs a register r ∷ more)
-left_here target s places hs a register r i heads is =
-    let w = left_at target s places hs (header_of hs a register r) heads r.own_among in
-    let left = subst (λ (n : ℕ). HeadsLeft places (record { at = n; bytes = drop n s; target = target }) (header_of hs a register r ∷ w.1.0)) (place_is hs a register r) w.1.1 in
-    (w.1.0, subst (λ (j : Input). HeadsLeft places j (header_of hs a register r ∷ w.1.0)) (sym is) left)
+  -- what its entry says
+  said : (piece : Piece) → piece ≡ stands.0
+      → (f : FdeFields) × (program : Span) × IsFde target (cie_places p.entries) piece f program × (r.own ≡ record { at = piece.at; form = piece.form; cie_at = f.cie_at; begin = f.begin; range = f.range; program = program })
+  said piece same = fde_from target (cie_places p.entries) piece r.own (subst (λ (x : Piece). Has target (cie_places p.entries) x (fde r.own)) (sym same) stands.2)
 
-abbrev begin_of : Head → ℕ
-begin_of (cie c) = 0
-begin_of (fde f) = f.begin
-
-abbrev range_of : Head → ℕ
-range_of (cie c) = 0
-range_of (fde f) = f.range
-
-head_same : (h k : Head) (hs ks : List Head) → h ∷ hs ≡ k ∷ ks → h ≡ k
-head_same h k hs ks e = cc
-
-pub cursor_at-cursor-requires-clause-inside : goal.cursor_at-cursor-requires-clause-inside
-cursor_at-cursor-requires-clause-inside c =
-    let q = c.requires.headers in
-    omega (arith, (left_at c.args.target c.args.bytes.now c.args.places.now q.0 (header_of q.0 _ _ q.3) q.1 q.3.own_among).0, place_is q.0 _ _ q.3)
-
-pub cursor_at-cursor-requires-clause-few : goal.cursor_at-cursor-requires-clause-few
-cursor_at-cursor-requires-clause-few c = c.requires.headers.1.are.cut.small
-
-pub next_header-requires-clause-room : goal.next_header-requires-clause-room
-next_header-requires-clause-room c =
-    let q = c.requires.headers in
-    let inside = (left_at c.args.target c.args.bytes.now c.args.places.now q.0 (header_of q.0 _ _ q.3) q.1 q.3.own_among).0 in
-    rw c.cursor_at-cursor.ensures (omega (arith, length-drop c.args.fde.now.at c.args.bytes.now, inside, q.1.are.cut.small, place_is q.0 _ _ q.3))
-
-pub next_header-requires-clause-ascending : goal.next_header-requires-clause-ascending
-next_header-requires-clause-ascending c =
-    let heads = c.requires.headers.1 in
-    subst (Rises 0) (sym heads.places_are) (pieces_rise c.args.target c.args.bytes.now heads.are.entries heads.are.cut)
-
-pub next_header-requires-clause-headers : goal.next_header-requires-clause-headers
-next_header-requires-clause-headers c =
-    let q = c.requires.headers in
-    let w = left_here c.args.target c.args.bytes.now c.args.places.now q.0 _ _ q.3 c.cursor_at-cursor.result q.1 c.cursor_at-cursor.ensures in
-    (header_of q.0 _ _ q.3 ∷ w.0, w.1)
+same_head : (h : FdeHead) (at : ℕ) (form : Form) (cie_at begin range : ℕ) (program : Span) → h.at ≡ at → h.form ≡ form → h.cie_at ≡ cie_at → h.begin ≡ begin → h.range ≡ range → h.program ≡ program
+    → h ≡ record { at = at; form = form; cie_at = cie_at; begin = begin; range = range; program = program }
+same_head h at form cie_at begin range program a f c b r p = rw (sym a, sym f, sym c, sym b, sym r, sym p) refl
 
 pub unreachable-requires : goal.unreachable-requires
 unreachable-requires c =
     let q = c.requires.headers in
-    let w = left_here c.args.target c.args.bytes.now c.args.places.now q.0 _ _ q.3 c.cursor_at-cursor.result q.1 c.cursor_at-cursor.ensures in
-    let none = c.in_default.ensures.gives (header_of q.0 _ _ q.3 ∷ w.0) w.1 in absurd cc
+    let w = stands c.args.target c.args.bytes.now q.0 _ _ q.1 q.3 in
+    absurd (c.in_default.ensures.only w.0 w.1 (place c.args.target c.args.bytes.now q.0 _ _ q.1 q.3 ∙ sym c.from-at.ensures))
+
+pub unreachable-requires-in_default-piece : goal.unreachable-requires-in_default-piece
+unreachable-requires-in_default-piece c =
+    let q = c.requires.headers in
+    let w = stands c.args.target c.args.bytes.now q.0 _ _ q.1 q.3 in
+    absurd (rw c.in_default-piece.is at (c.in-Ok.ensures.only w.0 w.1 (place c.args.target c.args.bytes.now q.0 _ _ q.1 q.3 ∙ sym c.from-at.ensures)))
 
 pub initial_at-initial-requires-clause-ascending : goal.initial_at-initial-requires-clause-ascending
-initial_at-initial-requires-clause-ascending c =
-    let q = c.requires.headers in (places_so c.args.target c.args.bytes.now q.0 c.args.initials.now q.1.are q.2).0
+initial_at-initial-requires-clause-ascending c = let q = c.requires.headers in (places_so c.args.target c.args.bytes.now q.0 c.args.initials.now q.1 q.2).0
 
 pub initial_at-initial-requires-clause-among : goal.initial_at-initial-requires-clause-among
 initial_at-initial-requires-clause-among c =
     let q = c.requires.headers in
-    let f = c.in-Fde in
-    let w = left_here c.args.target c.args.bytes.now c.args.places.now q.0 _ _ q.3 c.cursor_at-cursor.result q.1 c.cursor_at-cursor.ensures in
-    let given = c.in-Some.ensures.gives (header_of q.0 _ _ q.3 ∷ w.0) w.1 in
-    let same = head_same (header_of q.0 _ _ q.3) (head_in c.in-Some.header) w.0 given.0 given.1 in
-    let among = rw f.is at (subst (λ (h : Head). IsAmong h q.0) same q.3.own_among) in
-    (all_in (FdeFits c.args.target (map place_of c.args.initials.now)) q.0 (fde (record { at = f.at; form = f.form; cie_at = f.cie_at; begin = f.begin; range = f.range; program = span_of f.program })) (places_so c.args.target c.args.bytes.now q.0 c.args.initials.now q.1.are q.2).1 among).2
+    let target = c.args.target in
+    let s = c.args.bytes.now in
+    let w = stands target s q.0 _ _ q.1 q.3 in
+    let same = rw c.in-Some.is at (c.in-Ok.ensures.only w.0 w.1 (place target s q.0 _ _ q.1 q.3 ∙ sym c.from-at.ensures)) in
+    let own = said target s q.0 _ _ q.1 q.3 (piece_in c.in-Some.own) same in
+    let pointer : c.in-Ok-pointer_of.cie_at ≡ q.3.own.cie_at = c.in-Ok-pointer_of.ensures.only (cie_places q.1.entries) own.0 own.1 own.2 ∙ ap (λ (x : FdeHead). x.cie_at) (sym own.3) in
+    let fits = all_in (FdeFits target (map place_of c.args.initials.now)) q.0 (fde q.3.own) (places_so target s q.0 c.args.initials.now q.1 q.2).1 q.3.own_among in
+    rw pointer fits.2
+
+pub program_behind-requires : goal.program_behind-requires
+program_behind-requires c =
+    let q = c.requires.headers in
+    let w = stands c.args.target c.args.bytes.now q.0 _ _ q.1 q.3 in
+    let same = rw c.in-Some.is at (c.in-Ok.ensures.only w.0 w.1 (place c.args.target c.args.bytes.now q.0 _ _ q.1 q.3 ∙ sym c.from-at.ensures)) in
+    let own = said c.args.target c.args.bytes.now q.0 _ _ q.1 q.3 (piece_in c.in-Some.own) same in
+    (cie_places q.1.entries, own.0, own.1, own.2)
 
 -- what is read at the place is the header of the list's entry
-pub returns : goal.returns
-returns c =
-    let q = c.requires.headers in
+pub returns-clause-is : goal.returns-clause-is
+returns-clause-is c = λ hs headers initials r.
+    let target = c.args.target in
+    let s = c.args.bytes.now in
     let x = c.initial_at-initial.result.now in
-    let w = left_here c.args.target c.args.bytes.now c.args.places.now q.0 _ _ q.3 c.cursor_at-cursor.result q.1 c.cursor_at-cursor.ensures in
-    let given = c.in-Some.ensures.gives (header_of q.0 _ _ q.3 ∷ w.0) w.1 in
-    let same = rw c.in-Fde.is at (head_same (header_of q.0 _ _ q.3) (head_in c.in-Some.header) w.0 given.0 given.1) in
-    record {
-      at = ap head_at (sym same) ∙ place_is q.0 _ _ q.3;
-      begin = ap begin_of (sym same) ∙ ap (λ (x : Range). x.begin) q.3.covers;
-      range = ap range_of (sym same) ∙ ap (λ (x : Range). x.range) q.3.covers;
-      register = search rules;
-      is = λ hs heads initials r.
-          let f = c.in-Fde in
-          let w = left_here c.args.target c.args.bytes.now c.args.places.now hs _ _ r c.cursor_at-cursor.result heads c.cursor_at-cursor.ensures in
-          let given = c.in-Some.ensures.gives (header_of hs _ _ r ∷ w.0) w.1 in
-          let same = head_same (header_of hs _ _ r) (head_in c.in-Some.header) w.0 given.0 given.1 in
-          let among = rw f.is at (subst (λ (h : Head). IsAmong h hs) same r.own_among) in
-          let is = c.initial_at-initial.ensures.is c.args.target hs initials.each in
-          (f.form, is.0, f.cie_at, x.return_register, among, subst (λ (n : ℕ). IsAmong (cie (record { at = n; form = is.0; code_factor = x.factors.code_factor; data_factor = x.factors.data_factor; return_register = x.return_register; program = span_of x.program })) hs) c.initial_at-initial.ensures.place is.2);
-      names = λ hs heads initials r. let is = c.initial_at-initial.ensures.is c.args.target hs initials.each in (is.0, x.return_register, subst (λ (n : ℕ). IsAmong (cie (record { at = n; form = is.0; code_factor = x.factors.code_factor; data_factor = x.factors.data_factor; return_register = x.return_register; program = span_of x.program })) hs) c.initial_at-initial.ensures.place is.2);
-    }
+    let w = stands target s hs _ _ headers r in
+    let same = rw c.in-Some.is at (c.in-Ok.ensures.only w.0 w.1 (place target s hs _ _ headers r ∙ sym c.from-at.ensures)) in
+    let own = said target s hs _ _ headers r (piece_in c.in-Some.own) same in
+    let pointer = c.in-Ok-pointer_of.ensures.only (cie_places headers.entries) own.0 own.1 own.2 in
+    let program = c.program_behind.ensures (cie_places headers.entries) own.0 own.1 own.2 in
+    let covers = r.covers in
+    let head = same_head r.own c.from-at.result c.in-Some.own.form c.in-Ok-pointer_of.cie_at c.args.fde.now.begin c.args.fde.now.range (span_of c.program_behind.result)
+    (ap (λ (a : Range). a.at) covers ∙ sym c.from-at.ensures) (ap (λ (h : FdeHead). h.form) own.3) (ap (λ (h : FdeHead). h.cie_at) own.3 ∙ sym pointer) (ap (λ (a : Range). a.begin) covers) (ap (λ (a : Range). a.range) covers) (ap (λ (h : FdeHead). h.program) own.3 ∙ sym program) in
+    let is = c.initial_at-initial.ensures.is target hs initials.each in (
+      c.in-Some.own.form,
+      is.0,
+      x.return_register,
+      subst (λ (h : FdeHead). IsAmong (fde h) hs) head r.own_among,
+      subst (λ (n : ℕ). IsAmong (cie (record { at = n; form = is.0; code_factor = x.factors.code_factor; data_factor = x.factors.data_factor; return_register = x.return_register; program = span_of x.program })) hs) c.initial_at-initial.ensures.place is.2,
+    )
 
-pub unreachable-requires-in-Cie : goal.unreachable-requires-in-Cie
-unreachable-requires-in-Cie c =
-    let q = c.requires.headers in
-    let w = left_here c.args.target c.args.bytes.now c.args.places.now q.0 _ _ q.3 c.cursor_at-cursor.result q.1 c.cursor_at-cursor.ensures in
-    let given = c.in-Some.ensures.gives (header_of q.0 _ _ q.3 ∷ w.0) w.1 in
-    let same = rw c.in-Cie.is at (head_same (header_of q.0 _ _ q.3) (head_in c.in-Some.header) w.0 given.0 given.1) in
-    absurd cc
+pub returns-clause-names : goal.returns-clause-names
+returns-clause-names c = λ hs headers initials r.
+    let x = c.initial_at-initial.result.now in
+    let is = c.initial_at-initial.ensures.is c.args.target hs initials.each in
+    (is.0, x.return_register, subst (λ (n : ℕ). IsAmong (cie (record { at = n; form = is.0; code_factor = x.factors.code_factor; data_factor = x.factors.data_factor; return_register = x.return_register; program = span_of x.program })) hs) c.initial_at-initial.ensures.place is.2)

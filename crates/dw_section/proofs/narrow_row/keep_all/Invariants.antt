@@ -1,11 +1,12 @@
 use Rattle.std.proofs.Common.{◌≡◌, true, length}
-use Rattle.dw_section.specs.Changes.{kept_by}
+use Rattle.dw_section.specs.Changes.{kept_by, last_shown}
 use Rattle.dw_section.specs.Inner.NarrowRow.{NarrowedBy}
 use Rattle.dw_section.proofs.narrow_row.keep_all.Given as goal
 
 abbrev pub invariant-changes : goal.invariant-changes
 invariant-changes l =
-    (kept_by l.shared l.changes.to_come ≡ kept_by l.initial.shared l.initial.changes.to_come) × (l.narrowed ≡ true → NarrowedBy l.shared l.changes.shown) × (l.changes.section ≡ l.initial.changes.section)
+    (kept_by l.shared l.changes.to_come ≡ kept_by l.initial.shared l.initial.changes.to_come) × (l.narrowed ≡ true → NarrowedBy l.shared l.changes.shown)
+    × (l.changes.section ≡ l.initial.changes.section) × (last_shown l.changes.shown l.changes.to_come ≡ last_shown l.initial.changes.shown l.initial.changes.to_come)
 
 abbrev pub decreases-changes : goal.decreases-changes
 decreases-changes l = length l.changes.to_come

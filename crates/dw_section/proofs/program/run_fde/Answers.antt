@@ -24,4 +24,4 @@ returns-clause-found c =
     let rows = c.begin.new.self.steps.outcome.rows in
     let up = subst (λ (row : Rules). AreSpecified 0 row.registers) c.initial.ensures c.specified.ensures.ascending in
     let given = rules_behind old.factors old.initial i c.args.begin c.begin.new.self.steps.outcome c.are_bytes.ensures up (omega (arith, c.requires)) c.in_ok-begin.ensures.runs found.0 in
-    (given.0, rows, given.1, rw (c.from.ensures, c.from-2.ensures) at (found.1 c.args.begin))
+    (given.0, rows, given.1, rw (c.from.ensures, c.from-2.ensures) at found.1)

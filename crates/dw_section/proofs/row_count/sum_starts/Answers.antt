@@ -15,24 +15,24 @@ none = record { begin = 0; range = 0; at = 0; return_register = 0 }
 pub found_fde-found-requires : goal.found_fde-found-requires
 found_fde-found-requires c =
     let q = c.requires.headers in
-    record { headers = (q.0, q.1, q.3, all_get (IsRanged q.0) c.args.index.now c.loop-fde.fde-index none q.4 c.loop-fde-test.true) }
+    record { headers = (q.0, q.1.0.0.0, q.2, all_get (IsRanged q.0) c.args.index.now c.loop-fde.fde-index none q.3 c.loop-fde-test.true) }
 
 pub starts_of-sum-requires : goal.starts_of-sum-requires
 starts_of-sum-requires c =
     let q = c.requires.headers in
-    let is = c.found_fde-found.ensures.is q.0 q.1 q.3 (all_get (IsRanged q.0) c.args.index.now c.loop-fde.fde-index none q.4 c.loop-fde-test.true) in
-    is_program c.args.target c.args.bytes.now c.requires.bytes q.0 q.2 c.found_fde-found.result is
+    let is = c.found_fde-found.ensures.is q.0 q.1.0.0.0 q.2 (all_get (IsRanged q.0) c.args.index.now c.loop-fde.fde-index none q.3 c.loop-fde-test.true) in
+    is_program c.args.target c.args.bytes.now c.requires.bytes q.0 q.1 c.found_fde-found.result is
 
 pub loop-fde-preserved : goal.loop-fde-preserved
 loop-fde-preserved c = (
   omega (arith, c.loop-fde.invariant.0, c.starts_of-sum.ensures.bound),
-  λ hs heads hold initials each.
+  λ hs hold initials each.
       let xs = c.args.index.now in
       let i = c.loop-fde.fde-index in
       let x = get_or xs i none in
       let f = c.found_fde-found in
-      let sum = c.loop-fde.invariant.1 hs heads hold initials each in
-      let is = f.ensures.is hs heads initials (all_get (IsRanged hs) xs i none each c.loop-fde-test.true) in
+      let sum = c.loop-fde.invariant.1 hs hold initials each in
+      let is = f.ensures.is hs hold.0.0.0 initials (all_get (IsRanged hs) xs i none each c.loop-fde-test.true) in
       let n = c.starts_of-sum.result in (
         sum.0 ++ n ∷ [],
         rw (front_more range_in xs i x c.loop-fde-test.true (get_or_default xs i none x c.loop-fde-test.true))

@@ -4,12 +4,11 @@ use Rattle.dw_section.specs.Accepted.{RulesHold}
 use Rattle.dw_section.specs.Headers.{Head}
 use Rattle.dw_section.specs.Ranges.{IsRanged, range_in}
 use Rattle.dw_section.specs.Inner.Initials.{AreInitials}
-use Rattle.dw_section.specs.Inner.Left.{AreHeaders}
 use Rattle.dw_section.specs.Meaning.{Starts, total}
 use Rattle.dw_section.proofs.row_count.sum_starts.Given as goal
 
 abbrev pub invariant-loop-fde : goal.invariant-loop-fde
 invariant-loop-fde l =
     (l.sum ≤ l.fde-index * 2147483648)
-    × ((hs : List Head) → AreHeaders l.fn.target l.bytes l.places hs → RulesHold l.fn.target l.bytes hs → AreInitials l.fn.target hs hs l.initials → AllByRecursion (IsRanged hs) l.index
+    × ((hs : List Head) → RulesHold l.fn.target l.bytes hs → AreInitials l.fn.target hs hs l.initials → AllByRecursion (IsRanged hs) l.index
     → (counts : List ℕ) × AllZip (Starts l.fn.target l.bytes) (map range_in (take l.fde-index l.index)) counts × (l.sum ≡ total counts))

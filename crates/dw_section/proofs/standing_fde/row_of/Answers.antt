@@ -58,9 +58,9 @@ returns-clause-found c =
     let e = c.in-Some.fde in
     let stands = found.1 in
     record {
-      own = found_head stands.0 stands.2 e;
-      named = found_cie stands.1 stands.2 e.return_register e;
-      stands = stands.3;
+      own = found_head stands.0 e;
+      named = found_cie stands.1 e.cie_at e.return_register e;
+      stands = stands.2;
       place = found.0;
       begin = refl;
       end = refl;

@@ -111,7 +111,7 @@ returns-clause-found c =
         rise = rw judged.are (nonempty_rise 0 hs (heads_rise target s hs heads.are));
         each = judged.each;
       },
-      record { headers = hs; heads = heads; entries = n.0; cut = n.1; counts_are = n.2; initials = initials },
+      record { headers = hs; heads = heads.are; entries = n.0; cut = n.1; counts_are = n.2; initials = initials },
     )
 
 pub find_cies-requires-clause-count : goal.find_cies-requires-clause-count

@@ -33,3 +33,6 @@ pieces-preserved g c =
             ap (λ (l : List ℕ). all ++ l) (sym more) ∙ gone_more all (take done text) piece (take c.pieces.self.len c.pieces.self.room) (take c.put.new.self.len c.put.new.self.room) before.2 room.0 before.3 room.1,
           ),
     )
+
+pub returns-clause-fits : goal.returns-clause-fits
+returns-clause-fits g c = λ fits. (c.pieces.invariant.2 fits).0

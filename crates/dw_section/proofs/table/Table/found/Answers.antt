@@ -19,8 +19,8 @@ found_fde-requires c =
     let e = c.index.result.now in
     let hs = c.self.invariant.0.indexed.headers in
     let place = listed_place t.target t.bytes.now t.index.items c.args.fde.place c.self.invariant.0 (rw (sym c.self.view_is) at c.requires) in
-    let here = here_of t.target t.bytes.now t.index.items t.counts t.places.items t.initials.items c.self.invariant.0 c.self.invariant.1 c.deref.result.now c.deref-2.result.now c.deref.ensures.value c.deref-2.ensures.value c.args.fde.place e place c.index.ensures in
-    record { headers = (hs, here.0, here.1, here.2) }
+    let here = here_of t.target t.bytes.now t.index.items t.counts t.initials.items c.self.invariant.0 c.self.invariant.1 c.deref.result.now c.deref.ensures.value c.args.fde.place e place c.index.ensures in
+    record { headers = (hs, c.self.invariant.0.indexed.hold.0.0.0, here.0, here.1) }
 
 pub returns-clause-found : goal.returns-clause-found
 returns-clause-found c =
@@ -28,9 +28,9 @@ returns-clause-found c =
     let e = c.index.result.now in
     let w = c.self.invariant.0.indexed in
     let place = listed_place t.target t.bytes.now t.index.items c.args.fde.place c.self.invariant.0 (rw (sym c.self.view_is) at c.requires) in
-    let here = here_of t.target t.bytes.now t.index.items t.counts t.places.items t.initials.items c.self.invariant.0 c.self.invariant.1 c.deref.result.now c.deref-2.result.now c.deref.ensures.value c.deref-2.ensures.value c.args.fde.place e place c.index.ensures in
+    let here = here_of t.target t.bytes.now t.index.items t.counts t.initials.items c.self.invariant.0 c.self.invariant.1 c.deref.result.now c.deref.ensures.value c.args.fde.place e place c.index.ensures in
     let some = table_some t.target t.bytes.now t.index.items c.self.invariant.0 c.args.fde.place e place c.index.ensures in
-    rw (← c.self.view_is) (record { headers = w.headers; hold = w.hold; is = c.found_fde.ensures.is w.headers here.0 here.1 here.2; some = omega (arith, some, c.found_fde.ensures.range) })
+    rw (← c.self.view_is) (record { headers = w.headers; hold = w.hold; is = c.found_fde.ensures.is w.headers w.hold.0.0.0 here.0 here.1; some = omega (arith, some, c.found_fde.ensures.range) })
 
 pub returns-clause-listed : goal.returns-clause-listed
 returns-clause-listed c = λ fs are d.
@@ -48,7 +48,7 @@ returns-clause-led c =
     let e = c.index.result.now in
     let w = c.self.invariant.0.indexed in
     let place = listed_place t.target t.bytes.now t.index.items c.args.fde.place c.self.invariant.0 (rw (sym c.self.view_is) at c.requires) in
-    let here = here_of t.target t.bytes.now t.index.items t.counts t.places.items t.initials.items c.self.invariant.0 c.self.invariant.1 c.deref.result.now c.deref-2.result.now c.deref.ensures.value c.deref-2.ensures.value c.args.fde.place e place c.index.ensures in
+    let here = here_of t.target t.bytes.now t.index.items t.counts t.initials.items c.self.invariant.0 c.self.invariant.1 c.deref.result.now c.deref.ensures.value c.args.fde.place e place c.index.ensures in
     let led : LedBy (record { target = t.target; bytes = t.bytes.now }) c.found_fde.result.cie_at (led_to t.target c.found_fde.result) =
-    record { headers = w.headers; hold = w.hold; names = c.found_fde.ensures.names w.headers here.0 here.1 here.2; target_is = refl } in
+    record { headers = w.headers; hold = w.hold; names = c.found_fde.ensures.names w.headers w.hold.0.0.0 here.0 here.1; target_is = refl } in
     subst (λ (s : Section). LedBy s c.found_fde.result.cie_at (led_to s.target c.found_fde.result)) c.self.view_is led

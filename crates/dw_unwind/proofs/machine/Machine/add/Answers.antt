@@ -1,13 +1,20 @@
-use Rattle.std.proofs.Common.{◌≡◌, true, Ok, Err, subst}
+use Rattle.std.proofs.Common.{◌≡◌, true, Ok, Err, sym, subst}
 use Rattle.std.proofs.lemmas.Result.{err_from_is_err_and}
 use Rattle.dw_cfa.specs.declared.rule.RegRule.{RegRule}
 use Rattle.dw_eval.specs.Context.{context}
+use Rattle.dw_section.specs.Fits.{RuleFits}
+use Rattle.dw_section.proofs.Lent.RowFits.{rule_fits}
 use Rattle.dw_unwind.specs.Columns.{RegisterIs, RegisterFails}
 use Rattle.dw_unwind.specs.Unwound.{is_listed, RegistersFail}
 use Rattle.dw_unwind.specs.Inner.Recovery.{Adds}
 use Rattle.dw_unwind.proofs.ColumnLaws.{over_error}
 use Rattle.dw_unwind.proofs.FrameLaws.{so_added, so_reached}
 use Rattle.dw_unwind.proofs.machine.Machine.add.Goals as goal
+
+pub register-requires-clause-fits : goal.register-requires-clause-fits
+register-requires-clause-fits g c =
+    let t = c.args.self.now.env.target in
+    subst (RuleFits t) (sym c.rule.ensures) (rule_fits t c.args.row.now c.requires.fits c.args.register)
 
 pub returns-in_err-value-clause-so : goal.returns-in_err-value-clause-so
 returns-in_err-value-clause-so g c =

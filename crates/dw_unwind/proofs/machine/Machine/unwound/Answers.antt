@@ -2,7 +2,7 @@ use Rattle.std.proofs.Common.{refl, sym, subst, inr}
 use Rattle.dw_num.specs.declared.target.Target.{Target}
 use Rattle.dw_eval.specs.Context.{context}
 use Rattle.dw_section.specs.declared.lookup.Fde.{Fde}
-use Rattle.dw_section.specs.Laws.{RowIsFor}
+use Rattle.dw_section.specs.Fits.{RowFits}
 use Rattle.dw_section.specs.Meaning.{Covers}
 use Rattle.dw_section.specs.Among.{IsAmong}
 use Rattle.dw_unwind.specs.Unwound.{IsCovered, FrameIs, FrameFails, Unwound, UnwindFails}
@@ -17,12 +17,12 @@ frame-requires-clause-set g c =
     let rules = rw c.in-Some-2.is at (c.in_ok-row.ensures fs.0 fs.1) in
     c.section_laws.ensures.set t.target t.bytes c.args.pc c.in-Some-2.row c.accepted.ensures.bytes c.accepted.ensures.accepted rules
 
-pub frame-requires-clause-target : goal.frame-requires-clause-target
-frame-requires-clause-target g c =
+pub frame-requires-clause-fits : goal.frame-requires-clause-fits
+frame-requires-clause-fits g c =
     let t = c.args.table.now in
     let fs = c.accepted.ensures.fdes in
     let rules = rw c.in-Some-2.is at (c.in_ok-row.ensures fs.0 fs.1) in
-    subst (λ (x : Target). RowIsFor x c.in-Some-2.row) (sym c.requires.target) (c.section_laws.ensures.target t.target t.bytes c.args.pc c.in-Some-2.row rules)
+    subst (λ (x : Target). RowFits x c.in-Some-2.row) (sym c.requires.target) (c.section_laws.ensures.fit t.target t.bytes c.args.pc c.in-Some-2.row c.accepted.ensures.bytes c.accepted.ensures.accepted rules)
 
 pub returns-clause-so : goal.returns-clause-so
 returns-clause-so g c =

@@ -1,14 +1,16 @@
--- Which instructions count at an address, and where rows leave one without a rule for the CFA.
-use Rattle.std.proofs.Common.{◌≡◌, ℕ, ◌<◌, ◌≤◌, ◌⊎◌, Bool, true, false, List, [], ◌∷◌, Option, Some, None, refl, ◌∙◌, arith, inl, inr}
-use Rattle.std.specs.Prelude.{nat_lt, nat_le, ◌&&◌, ◌||◌}
+-- Where rows leave an address without a rule for the CFA, by tests of one row after another.
+use Rattle.std.proofs.Common.{◌≡◌, ℕ, ◌<◌, ◌≤◌, ◌⊎◌, Bool, true, false, List, [], ◌∷◌, Option, Some, None, refl, sym, ap, ◌∙◌, arith, inl, inr}
+use Rattle.std.specs.Prelude.{nat_lt, ◌&&◌, ◌||◌}
+use Rattle.std.specs.Bool.{MatchBool}
 use Rattle.std.proofs.lemmas.Bool.{cases_lt, le-leb, lt-ltb, le-ltb}
-use Rattle.std.proofs.lemmas.Bool.Decides.{leb_tells}
 use Rattle.dw_cfa.specs.declared.rule.CfaRule.{CfaRule}
 use Rattle.dw_cfa.specs.declared.rule.CfaRule.TheVariants.{Unset}
 use Rattle.dw_cfa.specs.declared.execution.LocatedRow.{LocatedRow}
+use Rattle.dw_cfa.specs.Coverage.{Lacks}
 use Rattle.dw_cfa.specs.RuleAt.{or_here, last_at, NeverFalls}
 use Rattle.dw_cfa.specs.Rows.{Rules}
-use Rattle.dw_cfa.specs.Coverage.{is_unset, leaves_one, lacks_from}
+use Rattle.dw_cfa.specs.Inner.Coverage.{is_unset, leaves_one, lacks_from}
+use Rattle.dw_cfa.proofs.Lent.RowsAt.{last_from, none_at, not_le}
 
 lt_tells : (m n : ℕ) → ((nat_lt m n ≡ true) × (m < n)) ⊎ ((nat_lt m n ≡ false) × (n ≤ m))
 lt_tells m n = elim (cases_lt m n) [ inl lt ↦ inl (lt-ltb m n lt, lt) | inr le ↦ inr (le-ltb m n le, le) ]
@@ -16,23 +18,13 @@ lt_tells m n = elim (cases_lt m n) [ inl lt ↦ inl (lt-ltb m n lt, lt) | inr le
 -- ---- the row of an address
 
 -- whether the row of an address has no rule for the CFA; before the first row it is the one before
-abbrev pub unset_in : Bool → Option Rules → Bool
+abbrev unset_in : Bool → Option Rules → Bool
 unset_in unset None = unset
 unset_in unset (Some row) = is_unset row.cfa
 
 or_below : (a : ℕ) (first : LocatedRow) (unset : Bool) (rest : Option Rules) → first.location ≤ a → unset_in unset (or_here a first rest) ≡ unset_in (is_unset first.row.cfa) rest
 or_below a first unset None le = rw (le-leb first.location a le) refl
 or_below a first unset (Some row) le = refl
-
-above : (m n : ℕ) → n < m → nat_le m n ≡ false
-above m n lt = elim (leb_tells m n) [ inl p ↦ absurd (omega (arith, p.1)) | inr p ↦ p.0 ]
-
-pub none_before : (a low : ℕ) (rows : List LocatedRow) → a < low → NeverFalls low rows → last_at a rows ≡ None
-none_before a low [] past up = refl
-none_before a low (row ∷ rows) past up =
-    let first : low ≤ row.location = up.0 in
-    let none = none_before a row.location rows (omega arith) up.1 in
-    rw (none, above row.location a (omega arith)) refl
 
 or_true : (x y : Bool) → (x || y) ≡ true → (x ≡ true) ⊎ (y ≡ true)
 or_true true y e = inl refl
@@ -65,35 +57,46 @@ last_false end low false lt e = refl
 last_false end low true lt e = absurd (let z = rw (lt-ltb low end lt) at e in cc)
 
 -- where rows leave an address without a rule, its row has none
-pub lacks_found : (end low : ℕ) (unset : Bool) (rows : List LocatedRow) → NeverFalls low rows → lacks_from end low unset rows ≡ true
+lacks_found : (end low : ℕ) (unset : Bool) (rows : List LocatedRow) → NeverFalls low rows → lacks_from end low unset rows ≡ true
     → (a : ℕ) × (low ≤ a) × (a < end) × (unset_in unset (last_at a rows) ≡ true)
 lacks_found end low unset [] up e = let p = last_true end low unset e in (low, omega arith, p.1, p.0)
 lacks_found end low unset (row ∷ rows) up e = elim (or_true (leaves_one end low unset row.location) (lacks_from end row.location (is_unset row.row.cfa) rows) e) [
   | inl here ↦
       let p = left_true end low row.location unset here in
-      let none = none_before low row.location rows p.1 up.1 in
-      (low, omega arith, p.2, rw (none, above row.location low p.1) p.0)
+      let none = none_at low row.location rows p.1 up.1 in
+      (low, omega arith, p.2, rw (none, not_le row.location low p.1) p.0)
   | inr later ↦
       let q = lacks_found end row.location (is_unset row.row.cfa) rows up.1 later in
       (q.0, omega (arith, up.0, q.1), q.2, or_below q.0 row unset (last_at q.0 rows) q.1 ∙ q.3)
 ]
 
 -- where they leave none, each has one
-pub lacks_none : (end low : ℕ) (unset : Bool) (rows : List LocatedRow) → NeverFalls low rows → lacks_from end low unset rows ≡ false
+lacks_none : (end low : ℕ) (unset : Bool) (rows : List LocatedRow) → NeverFalls low rows → lacks_from end low unset rows ≡ false
     → (a : ℕ) → low ≤ a → a < end → unset_in unset (last_at a rows) ≡ false
 lacks_none end low unset [] up e a le lt = last_false end low unset (omega arith) e
 lacks_none end low unset (row ∷ rows) up e a le lt =
     let p = or_false (leaves_one end low unset row.location) (lacks_from end row.location (is_unset row.row.cfa) rows) e in
     elim (cases_lt a row.location) [
       | inl before ↦
-          let none = none_before a row.location rows before up.1 in
-          rw (none, above row.location a before) (left_false end low row.location unset (omega arith) (omega arith) p.0)
+          let none = none_at a row.location rows before up.1 in
+          rw (none, not_le row.location a before) (left_false end low row.location unset (omega arith) (omega arith) p.0)
       | inr behind ↦ or_below a row unset (last_at a rows) behind ∙ lacks_none end row.location (is_unset row.row.cfa) rows up.1 p.1 a behind lt
     ]
 
-pub unset_is : (c : CfaRule) → is_unset c ≡ true → c ≡ Unset
-unset_is Unset e = refl
-unset_is c e = absurd cc
+-- ---- whether they do
 
-pub is_unset_of : (c : CfaRule) → c ≡ Unset → is_unset c ≡ true
-is_unset_of c e = rw e refl
+found_so : (end low : ℕ) (rows : List LocatedRow) (a : ℕ) → a < end → (o : Option Rules) → last_at a rows ≡ o → unset_in false o ≡ true → Lacks end rows
+found_so end low rows a lt None is e = absurd cc
+found_so end low rows a lt (Some row) is e = record { address = a; below = lt; row = row; last = is; unset = unset_is row.cfa e }
+  where
+    unset_is : (c : CfaRule) → is_unset c ≡ true → c ≡ Unset
+    unset_is Unset e = refl
+    unset_is c e = absurd cc
+
+pub lacks_tells : (end low : ℕ) (rows : List LocatedRow) → NeverFalls low rows → (lacks : Bool) → lacks ≡ lacks_from end low false rows → MatchBool lacks (Lacks end rows) (Lacks end rows → ⊥)
+lacks_tells end low rows up true is = let w = lacks_found end low false rows up (sym is) in found_so end low rows w.0 w.2 (last_at w.0 rows) refl w.3
+lacks_tells end low rows up false is = λ w.
+    let none : unset_in false (last_at w.address rows) ≡ false = lacks_none end low false rows up (sym is) w.address (last_from w.address low rows w.row up w.last) w.below in
+    let no = rw w.last at none in
+    let yes = ap is_unset w.unset in
+    absurd cc

@@ -5,7 +5,7 @@ use Rattle.std.specs.List.{AllByRecursion}
 use Rattle.dw_num.specs.declared.target.Target.{Target}
 use Rattle.dw_cfa.specs.declared.rule.RegRule.{RegRule}
 use Rattle.dw_cfa.specs.Rows.{Rules, rule_in, rule}
-use Rattle.dw_section.specs.Inner.Sound.{RuleFits, RowFits}
+use Rattle.dw_section.specs.Fits.{RuleFits, RowFits}
 
 -- a row that fits has in each register a rule that fits
 one_fits : (t : Target) (x : ℕ × RegRule) (rest : RegRule) (b : Bool) → RuleFits t x.1 → RuleFits t rest → RuleFits t (if b then x.1 else rest)

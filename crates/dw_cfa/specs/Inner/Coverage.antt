@@ -1,0 +1,18 @@
+-- How the code finds that rows leave an address without a rule for the CFA.
+use Rattle.std.specs.Prelude.{ℕ, ◌&&◌, ◌||◌, Bool, true, false, List, [], ◌∷◌, nat_lt}
+use Rattle.dw_cfa.specs.declared.rule.CfaRule.{CfaRule}
+use Rattle.dw_cfa.specs.declared.rule.CfaRule.TheVariants.{Unset}
+use Rattle.dw_cfa.specs.declared.execution.LocatedRow.{LocatedRow}
+
+abbrev pub is_unset : CfaRule → Bool
+is_unset Unset = true
+is_unset other = false
+
+-- a row from `low` up to a location covers an address before the end, and has no rule for the CFA
+abbrev pub leaves_one : ℕ → ℕ → Bool → ℕ → Bool
+leaves_one end low unset location = unset && (nat_lt low location && nat_lt low end)
+
+-- one of the rows does, or the one before them, which starts at `low`
+abbrev pub lacks_from : ℕ → ℕ → Bool → List LocatedRow → Bool
+lacks_from end low unset [] = unset && nat_lt low end
+lacks_from end low unset (row ∷ rows) = leaves_one end low unset row.location || lacks_from end row.location (is_unset row.row.cfa) rows

@@ -1,0 +1,11 @@
+use Rattle.std.proofs.Common.{sym}
+use Rattle.std.proofs.lemmas.Result.{err_from_is_err_and}
+use Rattle.clap.specs.Words.{found_of, rows_of}
+use Rattle.dw_words.proofs.Jobs.{run_fails}
+use Rattle.dw_words.proofs.command_words.run_in.Goals as goal
+
+pub returns-in_err-task : goal.returns-in_err-task
+returns-in_err-task c =
+    let values = rows_of (found_of c.args.matches.now) in
+    let p = err_from_is_err_and c.from_residual-in_err-task.result c.from_residual-in_err-task.ensures.1 in
+    rw (p.1, p.2) (run_fails c.args.text.now values c.in-Some.name c.in_ok-target.target c.in_err-task.field-0.0 (sym c.in-Some.ensures) c.in_ok-target.ensures c.in_err-task.ensures)
