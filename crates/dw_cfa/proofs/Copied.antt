@@ -1,12 +1,10 @@
 -- Slots that are copied by a mask.
-use Rattle.std.proofs.Common.{◌≡◌, ◌⊎◌, ℕ, ◌+◌, ◌-◌, ◌<◌, ◌≤◌, List, get_or, max, refl, sym, ap, ◌∙◌, subst, arith, inl, inr}
+use Rattle.std.proofs.Common.{◌≡◌, ◌⊎◌, ℕ, ◌+◌, ◌<◌, ◌≤◌, List, get_or, refl, sym, ap, ◌∙◌, subst, arith, inl, inr}
 use Rattle.std.specs.Prelude.{nat_eq, ◌/◌, ◌^◌, bit_or, if◌then◌else◌}
 use Rattle.std.specs.Int.{bit_at, trailing_zeros, w32}
 use Rattle.std.proofs.lemmas.Bool.{cases_Bool, cases_lt, eqb-true}
 use Rattle.std.proofs.lemmas.List.{length-set, get_or-set_same, get_or-set_other}
 use Rattle.std.proofs.Math.ListN.{set}
-use Rattle.std.proofs.Math.Nat.{div-le_self}
-use Rattle.std.proofs.lemmas.Nat.Bits.{bit_at-zero, bit_at-trailing_zeros, bit_at_or}
 use Rattle.dw_cfa.specs.declared.row.Entries.{Entries}
 use Rattle.dw_cfa.specs.declared.row.Kind.TheVariants as kinds
 use Rattle.dw_cfa.specs.declared.row.Slot.{Slot}
@@ -15,7 +13,7 @@ use Rattle.dw_cfa.specs.Rows.{rule_in}
 use Rattle.dw_cfa.specs.Inner.Entries.{CopiedBelow, Covers, EntriesSo, entries_of, listed_near, slot_rule}
 use Rattle.dw_cfa.proofs.Difference.{not_used}
 use Rattle.dw_cfa.proofs.Lent.SameRows.{same_entries}
-use Rattle.dw_cfa.proofs.Slots.{bit_inside, far_rule, near_ascends, near_rule, no_slot, shifted}
+use Rattle.dw_cfa.proofs.Slots.{far_rule, lowest_bit, near_ascends, near_rule, neither, no_bits, no_slot}
 
 module _ (used : ℕ) (old others : List Slot) where
   skipped : (k n : ℕ) (new : List Slot) → k ≤ n → ((q : ℕ) → k ≤ q → q < n → bit_at used q ≡ 0) → CopiedBelow used old others k new → CopiedBelow used old others n new
@@ -27,18 +25,11 @@ module _ (used : ℕ) (old others : List Slot) where
 
   -- no bit is left
   pub all_copied : (k : ℕ) (new : List Slot) → k ≤ 32 → used / 2 ^ k ≡ 0 → CopiedBelow used old others k new → CopiedBelow used old others 32 new
-  all_copied k new le none h =
-      skipped k 32 new le (λ q low high. shifted used k q low ∙ ap (λ (m : ℕ). bit_at m (q - k)) none ∙ bit_at-zero (q - k)) h
+  all_copied k new le none h = skipped k 32 new le (λ q low high. no_bits used k none q low) h
 
   -- the lowest bit that is left
-  pub up_to_bit : (k : ℕ) (new : List Slot) → used < 2 ^ 32 → k < 32 → 0 < used / 2 ^ k → CopiedBelow used old others k new
-      → (k + trailing_zeros w32 (used / 2 ^ k) < 32) × (bit_at used (k + trailing_zeros w32 (used / 2 ^ k)) ≡ 1) × CopiedBelow used old others (k + trailing_zeros w32 (used / 2 ^ k)) new
-  up_to_bit k new fits lt some h =
-      let within : used / 2 ^ k < 2 ^ 32 = omega (arith, div-le_self used (2 ^ k)) in
-      let n = trailing_zeros w32 (used / 2 ^ k) in
-      let z = bit_at-trailing_zeros w32 (used / 2 ^ k) some within in
-      let here : bit_at used (k + n) ≡ 1 = shifted used k (k + n) (omega arith) ∙ ap (λ (m : ℕ). bit_at (used / 2 ^ k) m) (omega arith) ∙ z.1 in
-      (bit_inside used k n fits z.1, here, skipped k (k + n) new (omega arith) (λ q low high. shifted used k q low ∙ z.2 (q - k) (omega arith)) h)
+  pub up_to_bit : (k : ℕ) (new : List Slot) → used < 2 ^ 32 → 0 < used / 2 ^ k → CopiedBelow used old others k new → CopiedBelow used old others (k + trailing_zeros w32 (used / 2 ^ k)) new
+  up_to_bit k new fits some h = skipped k (k + trailing_zeros w32 (used / 2 ^ k)) new (omega arith) (lowest_bit used k fits some).2 h
 
   pub one_copied : (k p : ℕ) (s : Slot) (new : List Slot) → k < 32 → p ≡ k → bit_at used k ≡ 1 → ((d : Slot) → s ≡ get_or others k d) → CopiedBelow used old others k new → CopiedBelow used old others (k + 1) (set new p s)
   one_copied k p s new lt at one is h = record {
@@ -56,15 +47,12 @@ module _ (used : ℕ) (old others : List Slot) where
 
 -- ---- rows without trees
 
-max_zero : (a b : ℕ) → max a b ≡ 0 → (a ≡ 0) × (b ≡ 0)
-max_zero a b e = (omega (arith, e), omega (arith, e))
-
 module _ (e f : Entries) (so : EntriesSo e) (so' : EntriesSo f) (new : List Slot) (h : CopiedBelow (bit_or e.used f.used) e.near f.near 32 new) where
   -- a slot that neither uses is empty in both, and all others are copied
   either : (q : ℕ) (d : Slot) → q < 32 → (((get_or new q d).kind ≡ kinds.Empty) × ((get_or f.near q d).kind ≡ kinds.Empty)) ⊎ (get_or new q d ≡ get_or f.near q d)
   either q d lt = elim (cases_Bool (nat_eq (bit_at (bit_or e.used f.used) q) 0)) [
     | inl none ↦
-        let both = max_zero (bit_at e.used q) (bit_at f.used q) (sym (bit_at_or e.used f.used q) ∙ eqb-true (bit_at (bit_or e.used f.used) q) 0 none) in
+        let both = neither e.used f.used q (eqb-true (bit_at (bit_or e.used f.used) q) 0 none) in
         let stays : get_or new q d ≡ get_or e.near q d = h.below q d lt ∙ rw none refl in
         inl (ap (λ (s : Slot). s.kind) stays ∙ so.used q d (omega (arith, so.near)) both.0, so'.used q d (omega (arith, so'.near)) both.1)
     | inr some ↦ inr (h.below q d lt ∙ rw some refl)

@@ -1,14 +1,12 @@
 -- The first register whose rule differs between two rows.
-use Rattle.std.proofs.Common.{◌≡◌, ℕ, suc, ◌+◌, ◌-◌, ◌<◌, ◌≤◌, Bool, true, false, List, [], ◌∷◌, get_or, max, Option, Some, None, refl, sym, ap, ◌∙◌, subst, arith, inl, inr}
+use Rattle.std.proofs.Common.{◌≡◌, ℕ, suc, ◌+◌, ◌-◌, ◌<◌, ◌≤◌, Bool, true, false, List, [], ◌∷◌, get_or, Option, Some, None, refl, sym, ap, ◌∙◌, subst, arith, inl, inr}
 use Rattle.std.specs.Prelude.{nat_eq, ◌/◌, ◌^◌, bit_or}
 use Rattle.std.specs.Int.{bit_at, trailing_zeros, w32}
 use Rattle.std.specs.List.{filter}
 use Rattle.std.specs.Ordering.{nat_cmp}
 use Rattle.std.specs.BTreeMap.Range.{range_contains}
 use Rattle.std.specs.declared.ops.Bound.TheVariants.{Excluded, Unbounded}
-use Rattle.std.proofs.lemmas.Bool.{cases_Bool, cases_lt, eq-eqb, eqb-true}
-use Rattle.std.proofs.Math.Nat.{div-le_self}
-use Rattle.std.proofs.lemmas.Nat.Bits.{bit_at-zero, bit_at-trailing_zeros, bit_at_or}
+use Rattle.std.proofs.lemmas.Bool.{cases_Bool, cases_lt, eqb-true}
 use Rattle.dw_cfa.specs.declared.rule.RegRule.{RegRule}
 use Rattle.dw_cfa.specs.declared.rule.RegRule.TheVariants.{Unspecified}
 use Rattle.dw_cfa.specs.declared.row.Entries.{Entries}
@@ -20,15 +18,12 @@ use Rattle.dw_cfa.specs.Inner.Entries.{entries_of, slot_rule, kind_rule, Entries
 use Rattle.dw_cfa.specs.Difference.{SameBetween, DiffersFirst, FirstDifference, place_behind}
 use Rattle.dw_cfa.specs.Inner.Difference.{SameUnset, start_behind}
 use Rattle.dw_cfa.proofs.Lent.RowLists.{Entry, lower, unlisted}
-use Rattle.dw_cfa.proofs.Lent.SameRows.{not_specified}
-use Rattle.dw_cfa.proofs.Slots.{no_slot, near_rule, far_rule, shifted, bit_inside}
+use Rattle.dw_cfa.proofs.Lent.SameRows.{first_rule, not_specified}
+use Rattle.dw_cfa.proofs.Slots.{no_slot, near_rule, far_rule, lowest_bit, neither, no_bits}
 use Rattle.dw_cfa.proofs.WideRows.{less_at, equal_at, greater_at}
 use Rattle.dw_cfa.proofs.Lent.Narrowed.{filter_rule}
 
 -- ---- two lists, from both fronts
-
-first_rule : (x : Entry) (xs : List Entry) → rule_in (x ∷ xs) x.0 ≡ x.1
-first_rule x xs = rw (eq-eqb x.0 x.0 refl) refl
 
 -- a register below both lists has no rule in either
 below_both : (low : ℕ) (xs ys : List Entry) → AreSpecified low xs → AreSpecified low ys → SameBetween 0 low xs ys
@@ -106,9 +101,6 @@ module _ (xs ys rest rest' : List Entry) (x y : Entry) (e : xs ≡ x ∷ rest) (
 
 -- ---- slots
 
-zero_both : (a b : ℕ) → max a b ≡ 0 → (a ≡ 0) × (b ≡ 0)
-zero_both a b e = (omega (arith, e), omega (arith, e))
-
 pub not_used : (s : Slot) (block : RegRule) → s.kind ≡ kinds.Empty → slot_rule s block ≡ Unspecified
 not_used s block is = ap (λ (k : Kind). kind_rule k s.register s.offset block) is
 
@@ -127,7 +119,7 @@ slot_at e so q n lt at =
 -- a register whose slot is used in neither
 pub unused : (e f : Entries) → EntriesSo e → EntriesSo f → (mask : ℕ) → mask ≡ bit_or e.used f.used → SameUnset mask (entries_of e) (entries_of f)
 unused e f so so' mask is q lt none =
-    let both = zero_both (bit_at e.used q) (bit_at f.used q) (sym (bit_at_or e.used f.used q) ∙ sym (ap (λ (n : ℕ). bit_at n q) is) ∙ none) in
+    let both = neither e.used f.used q (sym (ap (λ (n : ℕ). bit_at n q) is) ∙ none) in
     near_rule e.near e.expressions.entries e.far.entries so.near so.far q no_slot lt
     ∙ not_used (get_or e.near q no_slot) (rule_in e.expressions.entries q) (so.used q no_slot (omega (arith, so.near)) both.0)
     ∙ sym (not_used (get_or f.near q no_slot) (rule_in f.expressions.entries q) (so'.used q no_slot (omega (arith, so'.near)) both.1))
@@ -136,15 +128,10 @@ unused e f so so' mask is q lt none =
 module _ (mask : ℕ) (xs ys : List Entry) (same : SameUnset mask xs ys) where
   -- the registers up to the next bit of the mask
   pub none_left : (k : ℕ) → mask / 2 ^ k ≡ 0 → SameBetween k 32 xs ys
-  none_left k none q le lt = same q lt (shifted mask k q le ∙ ap (λ (m : ℕ). bit_at m (q - k)) none ∙ bit_at-zero (q - k))
+  none_left k none q le lt = same q lt (no_bits mask k none q le)
 
-  pub up_to_next : (k : ℕ) → mask < 2 ^ 32 → k < 32 → 0 < mask / 2 ^ k
-      → (k + trailing_zeros w32 (mask / 2 ^ k) < 32) × SameBetween k (k + trailing_zeros w32 (mask / 2 ^ k)) xs ys
-  up_to_next k fits lt some =
-      let within : mask / 2 ^ k < 2 ^ 32 = omega (arith, div-le_self mask (2 ^ k)) in
-      let z = bit_at-trailing_zeros w32 (mask / 2 ^ k) some within in
-      let inside : k + trailing_zeros w32 (mask / 2 ^ k) < 32 = bit_inside mask k (trailing_zeros w32 (mask / 2 ^ k)) fits z.1 in
-      (inside, λ q low high. same q (omega (arith, inside)) (shifted mask k q low ∙ z.2 (q - k) (omega arith)))
+  pub up_to_next : (k : ℕ) → mask < 2 ^ 32 → 0 < mask / 2 ^ k → SameBetween k (k + trailing_zeros w32 (mask / 2 ^ k)) xs ys
+  up_to_next k fits some = let z = lowest_bit mask k fits some in λ q low high. same q (omega (arith, z.0)) (z.2 q low high)
 
 -- ---- registers that have no slot
 

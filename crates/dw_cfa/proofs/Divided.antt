@@ -13,8 +13,7 @@ use Rattle.dw_cfa.specs.Inner.FrontInstr.{instr_at}
 use Rattle.dw_cfa.specs.Inner.Runs.{Placed, Placing, placed}
 use Rattle.dw_cfa.proofs.Lent.InstrLaws.{instr_found}
 use Rattle.dw_cfa.proofs.InstrAgain.{instr_again}
-use Rattle.dw_cfa.proofs.Lent.Listings.{some_spelled, instr_bytes}
-use Rattle.dw_cfa.proofs.Placings.{placed_end, placed_step, placed_stuck}
+use Rattle.dw_cfa.proofs.Placings.{placed_end, placed_step, placed_stuck, reads, some_spelled}
 use Rattle.dw_cfa.proofs.Lent.RowsAt.{instrs_of}
 
 abbrev input : ℕ → List ℕ → Target → Input
@@ -85,7 +84,7 @@ pub divided : (f : Factors) (before : List Placed) (item : Placed) (after : List
 divided f [] item after i h e = let first = first_item f i item after h e in divided_first f i first.next item h first.read first.place
 divided f (p ∷ before) item after i h e =
     let first = first_item f i p (before ++ item ∷ after) h e in
-    divided_more f i first.next p item before h first.read (divided f before item after first.next (instr_bytes f i (p.instr, first.next) h first.read) first.rest)
+    divided_more f i first.next p item before h first.read (divided f before item after first.next (reads f i (p.instr, first.next) h first.read).bytes first.rest)
 
 -- ---- from the bytes to the list
 
@@ -105,7 +104,7 @@ module _ (f : Factors) (t : Target) (instr : Instr) (b : List ℕ) (spells : Ins
       ap (λ (l : Placing). l.items) (placed_step f (input at (b ++ rest) t) (instr, input (at + length b) rest t) h (omega (arith, some_spelled t f instr b spells, length-append b rest)) read_first)
 
   bytes_behind : AreBytes rest
-  bytes_behind = instr_bytes f (input at (b ++ rest) t) (instr, input (at + length b) rest t) h read_first
+  bytes_behind = (reads f (input at (b ++ rest) t) (instr, input (at + length b) rest t) h read_first).bytes
 
 joined_from : (f : Factors) (t : Target) (instrs : List Instr) (instr : Instr) (at : ℕ) (front spelling rest : List ℕ) → AreBytes (front ++ (spelling ++ rest)) → Program t f instrs front → InstrSpells t f instr spelling
     → Joined f (input at (front ++ (spelling ++ rest)) t) instrs (record { at = at + length front; instr = instr })

@@ -26,4 +26,4 @@ cleared_less n k lt one =
 
 -- slots of which none is used list no register
 pub none_listed : (near : List Slot) (expressions far : List Entry) → Covers 0 near → length near ≡ 32 → far ≡ [] → listed_near 0 near expressions far ≡ []
-none_listed near expressions far covers len none = none_used 0 near covers len (omega arith) 0 (omega arith) (omega arith) expressions far ∙ none
+none_listed near expressions far covers len none = none_used 0 near covers len 0 (omega arith) (omega arith) expressions far ∙ none

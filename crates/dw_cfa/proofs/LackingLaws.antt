@@ -10,7 +10,7 @@ use Rattle.dw_cfa.specs.Rows.{Rules}
 use Rattle.dw_cfa.specs.Runs.{Outcome, row_then}
 use Rattle.dw_cfa.specs.Inner.Runs.{RanTo, here, rows_left}
 use Rattle.dw_cfa.specs.Inner.Steps.{state_of}
-use Rattle.dw_cfa.proofs.Lent.RunLaws.{left_starts}
+use Rattle.dw_cfa.proofs.Lent.RunLaws.{left_from}
 use Rattle.dw_cfa.proofs.RowsTo.{not_none}
 
 or_more : (x y z : Bool) → (x || (y || z)) ≡ ((x || y) || z)
@@ -36,5 +36,5 @@ module _ (f : Factors) (i : Input) (m : Machine) (j : Input) (m' : Machine) (mov
           → (lacks || lacks_from end m.location (is_unset m'.states.row.cfa) rows) ≡ ((lacks || leaves_one end m.location (is_unset m'.states.row.cfa) m'.location) || lacks_from end 0 false rows)
       go [] e = absurd (not_none f j m' e none)
       go (row ∷ rest) e =
-          ap (λ (n : ℕ). lacks || (leaves_one end m.location (is_unset m'.states.row.cfa) n || lacks_from end row.location (is_unset row.row.cfa) rest)) (left_starts f j j m' row rest e)
+          ap (λ (n : ℕ). lacks || (leaves_one end m.location (is_unset m'.states.row.cfa) n || lacks_from end row.location (is_unset row.row.cfa) rest)) ((left_from f j m').first row rest e)
           ∙ or_more lacks (leaves_one end m.location (is_unset m'.states.row.cfa) m'.location) (lacks_from end row.location (is_unset row.row.cfa) rest)

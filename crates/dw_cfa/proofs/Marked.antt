@@ -1,12 +1,11 @@
 -- The registers that were set since a row was kept: those without a mark have the same rules in both rows.
-use Rattle.std.proofs.Common.{◌≡◌, ℕ, suc, ◌+◌, ◌<◌, ◌≤◌, Bool, List, [], ◌∷◌, max, Option, refl, sym, ap, ◌∙◌, subst, arith, inl, inr}
+use Rattle.std.proofs.Common.{◌≡◌, ℕ, suc, ◌+◌, ◌<◌, ◌≤◌, Bool, List, [], ◌∷◌, Option, refl, sym, ap, ◌∙◌, subst, arith, inl, inr}
 use Rattle.std.specs.Prelude.{nat_eq, ◌*◌, ◌%◌, ◌^◌, bit_or, not, is_some, IsTrue, Result, Ok, Err, IfOk, OnOk, OnErr}
 use Rattle.std.specs.Int.{bit_at, w32}
 use Rattle.std.specs.List.{filter}
 use Rattle.std.proofs.lemmas.Bool.{cases_Bool, cases_lt, eqb-true, eqb-false}
-use Rattle.std.proofs.lemmas.Nat.Bits.{bit_at_set_same, bit_at_or}
+use Rattle.std.proofs.lemmas.Nat.Bits.{bit_at_set_same}
 use Rattle.dw_cfa.specs.declared.marks.Marks.{Marks}
-use Rattle.dw_cfa.specs.declared.rule.CfaRule.{CfaRule}
 use Rattle.dw_cfa.specs.declared.rule.RegRule.{RegRule}
 use Rattle.dw_cfa.specs.declared.rule.RegRule.TheVariants.{Unspecified, SameValue}
 use Rattle.dw_cfa.specs.Rows.{Rules, AreSpecified, rule_in}
@@ -17,18 +16,13 @@ use Rattle.dw_cfa.specs.Inner.Marks.{CopiedUpTo, MarksMore, MarksSo, SameUnliste
 use Rattle.dw_cfa.proofs.Lent.RowLists.{Entry, lower, put_keeps, put_rule, unlisted}
 use Rattle.dw_cfa.proofs.Difference.{FromOn}
 use Rattle.dw_cfa.proofs.Lent.Narrowed.{filter_keeps, filter_rule}
+use Rattle.dw_cfa.proofs.Lent.SameRows.{one_row, rest_rule}
 use Rattle.dw_cfa.proofs.Lent.Skipped.{same_exactly}
 
 -- ---- marks
 
 pub near_marked : (near r : ℕ) → r < 32 → bit_at (bit_or near (1 * 2 ^ r % 2 ^ 32)) r ≡ 0 → ⊥
 near_marked near r lt none = let one : bit_at (bit_or near (1 * 2 ^ r % 2 ^ 32)) r ≡ 1 = bit_at_set_same w32 near r lt in absurd (omega (arith, one, none))
-
-zero_first : (a b : ℕ) → max a b ≡ 0 → a ≡ 0
-zero_first a b e = omega (arith, e)
-
-pub near_more : (near mark q : ℕ) → bit_at (bit_or near mark) q ≡ 0 → bit_at near q ≡ 0
-near_more near mark q none = zero_first (bit_at near q) (bit_at mark q) (sym (bit_at_or near mark q) ∙ none)
 
 not_marked : SameValue ≡ Unspecified → ⊥
 not_marked e = absurd cc
@@ -105,10 +99,7 @@ pub kept_exactly : (a b : Rules) (o : Option ℕ) (none : Bool) → a.cfa ≡ b.
     → (IsTrue none → a ≡ b) × (a ≡ b → IsTrue none)
 kept_exactly a b o none cfa up up' h is =
     let both = same_exactly a.registers b.registers o none up up' h is in
-    ((λ t. one_row (both.0 t)), (λ e. both.1 (ap (λ (r : Rules). r.registers) e)))
-  where
-    one_row : a.registers ≡ b.registers → a ≡ b
-    one_row e = ap (λ (c : CfaRule). let r : Rules = record { cfa = c; registers = a.registers } in r) cfa ∙ ap (λ (l : List Entry). let r : Rules = record { cfa = b.cfa; registers = l } in r) e
+    ((λ t. one_row a b cfa (both.0 t)), (λ e. both.1 (ap (λ (r : Rules). r.registers) e)))
 
 -- ---- copying marked registers
 
@@ -131,38 +122,17 @@ module _ (xs old new : List Entry) (k : ℕ) (h : CopiedUpTo k xs old new) where
     above = λ r high. other_rule q r (rule_in xs q) new up (λ e. omega (arith, e)) ∙ h.above r (omega arith);
   }
 
-behind_first : (x : Entry) (rest : List Entry) (r : ℕ) → (r ≡ x.0 → ⊥) → rule_in (x ∷ rest) r ≡ rule_in rest r
-behind_first x rest r not = elim (cases_Bool (nat_eq x.0 r)) [
-  | inl e ↦ absurd (not (sym (eqb-true x.0 r e)))
-  | inr e ↦ rw e refl
-]
-
 pub far_copied : (xs new left rest : List Entry) (x : Entry) → left ≡ x ∷ rest → AreSpecified 0 new → SameUnlisted 0 left new xs → SameUnlisted 0 rest (put x.0 (rule_in xs x.0) new) xs
 far_copied xs new left rest x e up same r le none = elim (cases_Bool (nat_eq x.0 r)) [
   | inl is ↦ let at = eqb-true x.0 r is in same_rule_set x.0 r (rule_in xs x.0) new up (sym at) ∙ ap (rule_in xs) at
   | inr is ↦
       let not : r ≡ x.0 → ⊥ = λ at. eqb-false x.0 r is (sym at) in
-      other_rule x.0 r (rule_in xs x.0) new up not ∙ same r le (ap (λ (l : List Entry). rule_in l r) e ∙ behind_first x rest r not ∙ none)
+      other_rule x.0 r (rule_in xs x.0) new up not ∙ same r le (ap (λ (l : List Entry). rule_in l r) e ∙ rest_rule x rest r (λ at. not (sym at)) ∙ none)
 ]
 
 module _ (m : Marks) (on : IsTrue m.watched) (kept row : List Entry) (same : SameUnmarked m kept row) where
   pub unset : SameUnset m.near kept row
   unset r lt none = same r (record { watched = on; near = λ l. none; far = λ le. absurd (omega arith) })
-
-  far_unmarked : (r : ℕ) → 32 ≤ r → rule_in m.far.entries r ≡ Unspecified → rule_in kept r ≡ rule_in row r
-  far_unmarked r le none = same r (record { watched = on; near = λ lt. absurd (omega arith); far = λ l. none })
-
-  pub far_left : (new : List Entry) → CopiedUpTo 32 row kept new → SameUnlisted 0 m.far.entries new row
-  far_left new h r le none = elim (cases_lt r 32) [
-    | inl lt ↦ h.below r lt
-    | inr ge ↦ h.above r ge ∙ far_unmarked r ge none
-  ]
-
-  pub far_same : (from : ℕ) → SameBetween from 32 kept row → SameUnlisted from m.far.entries kept row
-  far_same from near r le none = elim (cases_lt r 32) [
-    | inl lt ↦ near r le lt
-    | inr ge ↦ far_unmarked r ge none
-  ]
 
 -- ---- marked registers one after another
 
@@ -197,6 +167,6 @@ module _ (from : ℕ) (left rest kept row : List Entry) (x : Entry) (e : left �
         lower (suc x.0) from rest (omega arith) at.2,
         λ r le none. elim (cases_Bool (nat_eq x.0 r)) [
           | inl is ↦ let here = eqb-true x.0 r is in subst (λ (n : ℕ). rule_in kept n ≡ rule_in row n) here one
-          | inr is ↦ same r le (ap (λ (l : List Entry). rule_in l r) e ∙ behind_first x rest r (λ at. eqb-false x.0 r is (sym at)) ∙ none)
+          | inr is ↦ same r le (ap (λ (l : List Entry). rule_in l r) e ∙ rest_rule x rest r (eqb-false x.0 r is) ∙ none)
         ],
       )

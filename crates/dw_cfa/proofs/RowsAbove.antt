@@ -1,5 +1,5 @@
 -- What is left of a walk behind the row of an address.
-use Rattle.std.proofs.Common.{◌≡◌, ℕ, ◌<◌, ◌≤◌, true, List, [], ◌∷◌, length, None, refl, ap, ◌∙◌, subst, arith, inl, inr}
+use Rattle.std.proofs.Common.{◌≡◌, ℕ, ◌<◌, ◌≤◌, true, List, [], ◌∷◌, length, None, refl, ap, ◌∙◌, subst, arith, inl}
 use Rattle.std.proofs.lemmas.Bool.{le-ltb, lt-ltb}
 use Rattle.dw_num.specs.Input.{Input}
 use Rattle.dw_cfa.specs.declared.instr.Factors.{Factors}
@@ -15,9 +15,9 @@ use Rattle.dw_cfa.specs.Inner.Runs.{RanTo, here, rows_left}
 use Rattle.dw_cfa.specs.Inner.RowWalk.{walk_of}
 use Rattle.dw_cfa.specs.Inner.Steps.{state_of}
 use Rattle.dw_cfa.proofs.Lent.RowsAt.{none_at}
-use Rattle.dw_cfa.proofs.Lent.RunLaws.{left_starts}
+use Rattle.dw_cfa.proofs.Lent.RunLaws.{left_from}
 use Rattle.dw_cfa.proofs.RunSteps.{rows_end}
-use Rattle.dw_cfa.proofs.Walks.{walk_starts}
+use Rattle.dw_cfa.proofs.Walks.{walk_from}
 
 -- a row that starts at or below an address is left behind
 one_below : (a : ℕ) (row : LocatedRow) (rows : List LocatedRow) → row.location ≤ a → rows_above a (row ∷ rows) ≡ rows_above a rows
@@ -31,25 +31,12 @@ all_above a low (row ∷ rows) past up = rw (lt-ltb a row.location (omega (arith
 with_rows : (o : Outcome) (rows : List LocatedRow) → rows ≡ o.rows → (let p : Outcome = record { rows = rows; fault = o.fault } in p) ≡ o
 with_rows o rows e = ap (λ (l : List LocatedRow). let p : Outcome = record { rows = l; fault = o.fault } in p) e
 
--- the first of these rows starts above an address
-abbrev FirstAbove : ℕ → List LocatedRow → Type 0
-FirstAbove a rows = (row : LocatedRow) (rest : List LocatedRow) → rows ≡ row ∷ rest → a < row.location
-
-module _ (a low : ℕ) where
-  above_first : (rows : List LocatedRow) → NeverFalls low rows → FirstAbove a rows → (rows_above a rows ≡ rows) × (last_at a rows ≡ None)
-  above_first [] up first = (refl, refl)
-  above_first (row ∷ rows) up first =
-      let past = first row rows refl in
-      (all_above a row.location (row ∷ rows) past (omega arith, up.1), none_at a row.location (row ∷ rows) past (omega arith, up.1))
-
 -- ---- a machine
 
 module _ (f : Factors) (i : Input) (m : Machine) (a : ℕ) where
   -- that stands above an address
-  pub stands_above : ((low : ℕ) × NeverFalls low (rows_left f i m).rows) → a < m.location → left_above a (rows_left f i m) ≡ rows_left f i m
-  stands_above up past =
-      let o = rows_left f i m in
-      with_rows o (rows_above a o.rows) (above_first a up.0 o.rows up.1 (λ row rest e. omega (arith, left_starts f i i m row rest e, past))).0
+  pub stands_above : a < m.location → left_above a (rows_left f i m) ≡ rows_left f i m
+  stands_above past = let o = rows_left f i m in with_rows o (rows_above a o.rows) (all_above a m.location o.rows past (left_from f i m).falls)
 
   -- behind an instruction that ends a row
   pub row_below : (j : Input) (m' : Machine) → RanTo f i m true j m' → m.location ≤ a → left_above a (rows_left f i m) ≡ left_above a (rows_left f j m')
@@ -65,18 +52,17 @@ module _ (f : Factors) (i : Input) (m : Machine) (a : ℕ) where
 -- ---- a walk that stands above an address
 
 module _ (l : Leading) (fde : Input) (m : Machine) (a : ℕ) (past : a < m.location) where
-  above_walk : (p : Progress) → FirstAbove a (walk_of p l fde m).outcome.rows
-  above_walk progress.Begun = λ row rest e. omega (arith, walk_starts progress.Begun l fde m (walk_of progress.Begun l fde m) (inl refl) refl row rest e, past)
-  above_walk progress.Running = λ row rest e. omega (arith, walk_starts progress.Running l fde m (walk_of progress.Running l fde m) (inr refl) refl row rest e, past)
-  above_walk progress.Finished = λ row rest e. absurd cc
-  above_walk (progress.Failed x) = λ row rest e. absurd cc
+  walk_falls : (p : Progress) → NeverFalls m.location (walk_of p l fde m).outcome.rows
+  walk_falls progress.Begun = (walk_from progress.Begun l fde m (walk_of progress.Begun l fde m) (inl refl) refl).falls
+  walk_falls progress.Running = (left_from l.factors fde m).falls
+  walk_falls p = tt
 
-  module _ (p : Progress) (s : Stepping) (e : walk_of p l fde m ≡ s) (up : (low : ℕ) × NeverFalls low s.outcome.rows) where
-    above : (rows_above a s.outcome.rows ≡ s.outcome.rows) × (last_at a s.outcome.rows ≡ None)
-    above = above_first a up.0 s.outcome.rows up.1 (subst (λ (x : Stepping). FirstAbove a x.outcome.rows) e (above_walk p))
+  module _ (p : Progress) (s : Stepping) (e : walk_of p l fde m ≡ s) where
+    falls : NeverFalls m.location s.outcome.rows
+    falls = subst (λ (x : Stepping). NeverFalls m.location x.outcome.rows) e (walk_falls p)
 
     pub walk_stays : left_above a s.outcome ≡ s.outcome
-    walk_stays = with_rows s.outcome (rows_above a s.outcome.rows) above.0
+    walk_stays = with_rows s.outcome (rows_above a s.outcome.rows) (all_above a m.location s.outcome.rows past falls)
 
     pub walk_none : last_at a s.outcome.rows ≡ None
-    walk_none = above.1
+    walk_none = none_at a m.location s.outcome.rows past falls

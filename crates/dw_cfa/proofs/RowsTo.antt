@@ -1,5 +1,5 @@
 -- A run up to the last row that starts at or below an address.
-use Rattle.std.proofs.Common.{◌≡◌, ℕ, ◌<◌, ◌≤◌, Bool, true, List, [], ◌∷◌, length, Option, Some, None, Result, Ok, Err, refl, sym, ap, ◌∙◌, subst, arith}
+use Rattle.std.proofs.Common.{◌≡◌, ℕ, ◌<◌, ◌≤◌, Bool, true, List, [], ◌∷◌, length, Option, Some, None, Result, Ok, Err, refl, sym, ap, ◌∙◌, subst}
 use Rattle.std.proofs.lemmas.Bool.{le-leb}
 use Rattle.dw_num.specs.declared.refusal.Refusal.{Refusal}
 use Rattle.std.specs.Prelude.{IfErr, IfOk, IsTrue, OnOk}
@@ -10,16 +10,16 @@ use Rattle.dw_num.specs.Input.{Input}
 use Rattle.dw_cfa.specs.declared.instr.Factors.{Factors}
 use Rattle.dw_cfa.specs.declared.machine.Machine.{Machine}
 use Rattle.dw_cfa.specs.declared.execution.LocatedRow.{LocatedRow}
-use Rattle.dw_cfa.specs.RuleAt.{or_here, last_at, NeverFalls}
+use Rattle.dw_cfa.specs.RuleAt.{or_here, last_at}
 use Rattle.dw_cfa.specs.Rows.{Rules}
-use Rattle.dw_cfa.specs.Runs.{Outcome, finished, row_then}
+use Rattle.dw_cfa.specs.Runs.{Outcome, row_then}
 use Rattle.dw_cfa.specs.Inner.Runs.{rows_left}
 use Rattle.dw_cfa.proofs.Lent.RowsAt.{none_at}
 use Rattle.dw_cfa.specs.Inner.Runs.{RanTo, here}
 use Rattle.dw_cfa.specs.Inner.Steps.{state_of}
 use Rattle.dw_cfa.specs.Inner.RowWalk.{AllSpecify}
 use Rattle.dw_cfa.proofs.RunSteps.{rows_end}
-use Rattle.dw_cfa.proofs.Lent.RunLaws.{left_starts, some_rows_left}
+use Rattle.dw_cfa.proofs.Lent.RunLaws.{left_from}
 
 -- a row is the last one where no later one is
 here_is : (a : ℕ) (first : LocatedRow) (rows : List LocatedRow) → first.location ≤ a → last_at a rows ≡ None → last_at a (first ∷ rows) ≡ Some first.row
@@ -38,32 +38,12 @@ pub some_last : {E : Type 0} → (P : Bool → Type 0) (result : Result Bool E) 
 some_last P (Ok more) x new last none = let bad = sym last ∙ none in absurd cc
 some_last P (Err e) x new last none = tt
 
-module _ (f : Factors) (i : Input) (m : Machine) where
-  as_finished : (rows_left f i m).rows ≡ [] → (rows_left f i m).fault ≡ None → rows_left f i m ≡ finished
-  as_finished e none =
-      let o = rows_left f i m in
-      ap (λ (rows : List LocatedRow). let p : Outcome = record { rows = rows; fault = o.fault } in p) e
-      ∙ ap (λ (fault : Option Refusal). let p : Outcome = record { rows = []; fault = fault } in p) none
-
-  -- rows with no fault behind them are not none
-  pub not_none : (rows_left f i m).rows ≡ [] → (rows_left f i m).fault ≡ None → ⊥
-  not_none e none = some_rows_left f i i m (as_finished e none)
-
-module _ (f : Factors) (i : Input) (m : Machine) (a : ℕ) where
-  -- none is, where it starts above it
-  pub no_row : (low : ℕ) → NeverFalls low (rows_left f i m).rows → a < m.location → last_at a (rows_left f i m).rows ≡ None
-  no_row low up past = go (rows_left f i m).rows refl up
-    where
-      go : (rows : List LocatedRow) → (rows_left f i m).rows ≡ rows → NeverFalls low rows → last_at a rows ≡ None
-      go [] e up = refl
-      go (first ∷ rest) e up = none_at a first.location (first ∷ rest) (subst (λ (n : ℕ). a < n) (sym (left_starts f i i m first rest e)) past) (omega arith, up.1)
-
--- the first of these rows starts at or below an address
-abbrev pub FirstBelow : ℕ → List LocatedRow → Type 0
-FirstBelow a rows = (row : LocatedRow) (rest : List LocatedRow) → rows ≡ row ∷ rest → row.location ≤ a
-
-pub first_below : (f : Factors) (i : Input) (m : Machine) (a : ℕ) → m.location ≤ a → FirstBelow a (rows_left f i m).rows
-first_below f i m a le = λ row rest e. omega (arith, left_starts f i i m row rest e, le)
+-- rows with no fault behind them are not none
+pub not_none : (f : Factors) (i : Input) (m : Machine) → (rows_left f i m).rows ≡ [] → (rows_left f i m).fault ≡ None → ⊥
+not_none f i m e none =
+    let o = rows_left f i m in
+    (left_from f i m).some
+    (ap (λ (rows : List LocatedRow). let p : Outcome = record { rows = rows; fault = o.fault } in p) e ∙ ap (λ (fault : Option Refusal). let p : Outcome = record { rows = []; fault = fault } in p) none)
 
 -- ---- an instruction that ends a row
 
@@ -74,28 +54,22 @@ module _ (f : Factors) (i : Input) (m : Machine) (j : Input) (m' : Machine) (mov
   pub fault_left : (rows_left f i m).fault ≡ (rows_left f j m').fault
   fault_left = ap (λ (o : Outcome). o.fault) ended
 
-  pub falls_left : ((low : ℕ) × NeverFalls low (rows_left f i m).rows) → (low : ℕ) × NeverFalls low (rows_left f j m').rows
-  falls_left up = let all = subst (λ (o : Outcome). NeverFalls up.0 o.rows) ended up.1 in (m.location, all.1)
-
   pub keeps_left : (other : Rules) → AllSpecify other (rows_left f i m).rows → AllSpecify other (rows_left f j m').rows
   keeps_left other all = let both = subst (λ (o : Outcome). AllSpecify other o.rows) ended all in both.1
 
   -- a's row ends behind it
-  pub stops_here : ((low : ℕ) × NeverFalls low (rows_left f i m).rows) → a < m'.location → FirstBelow a (rows_left f i m).rows → last_at a (rows_left f i m).rows ≡ Some m'.states.row
-  stops_here up past first =
-      let left = falls_left up in
-      let le = first (here (state_of m)) (rows_left f j m').rows (ap (λ (o : Outcome). o.rows) ended) in
-      ap (λ (o : Outcome). last_at a o.rows) ended ∙ here_is a (here (state_of m)) (rows_left f j m').rows le (no_row f j m' a left.0 left.1 past) ∙ ap Some (sym (moved.same_row refl))
+  pub stops_here : m.location ≤ a → a < m'.location → last_at a (rows_left f i m).rows ≡ Some m'.states.row
+  stops_here le past =
+      let next = rows_left f j m' in
+      ap (λ (o : Outcome). last_at a o.rows) ended ∙ here_is a (here (state_of m)) next.rows le (none_at a m'.location next.rows past (left_from f j m').falls) ∙ ap Some (sym (moved.same_row refl))
 
   -- a's row is still to come
   pub goes_on : (row : Rules) → last_at a (rows_left f j m').rows ≡ Some row → last_at a (rows_left f i m).rows ≡ Some row
   goes_on row e = ap (λ (o : Outcome). last_at a o.rows) ended ∙ ap (or_here a (here (state_of m))) e
 
 -- the last row of all
-pub ends_here : (f : Factors) (i : Input) (m : Machine) (a : ℕ) → length i.bytes ≡ 0 → FirstBelow a (rows_left f i m).rows → last_at a (rows_left f i m).rows ≡ Some m.states.row
-ends_here f i m a none first =
-    let end = rows_end f i m none in
-    ap (λ (o : Outcome). last_at a o.rows) end ∙ here_is a (here (state_of m)) [] (first (here (state_of m)) [] (ap (λ (o : Outcome). o.rows) end)) refl
+pub ends_here : (f : Factors) (i : Input) (m : Machine) (a : ℕ) → length i.bytes ≡ 0 → m.location ≤ a → last_at a (rows_left f i m).rows ≡ Some m.states.row
+ends_here f i m a none le = ap (λ (o : Outcome). last_at a o.rows) (rows_end f i m none) ∙ here_is a (here (state_of m)) [] le refl
 
 -- ---- where no fault is to come
 

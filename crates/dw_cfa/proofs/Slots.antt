@@ -1,5 +1,5 @@
 -- Registers in slots: what is set in one register's slot is what setting that register leaves.
-use Rattle.std.proofs.Common.{◌≡◌, ℕ, zero, suc, ◌+◌, ◌<◌, ◌≤◌, Bool, true, false, cond, List, [], ◌∷◌, length, get_or, drop, set, refl, sym, ap, ◌∙◌, subst, arith, inl, inr}
+use Rattle.std.proofs.Common.{◌≡◌, ℕ, zero, suc, ◌+◌, ◌<◌, ◌≤◌, Bool, true, false, cond, List, [], ◌∷◌, length, get_or, drop, max, set, refl, sym, ap, ◌∙◌, subst, arith, inl, inr}
 use Rattle.std.proofs.Math.Seq.{drop-cons}
 use Rattle.std.proofs.Math.ListN.{drop_of_length-le, replicate}
 use Rattle.std.proofs.lemmas.List.{length-set, get_or-set_same, get_or-set_other, get_or-replicate, length-replicate}
@@ -7,8 +7,9 @@ use Rattle.std.proofs.lemmas.Bool.{cases_Bool, cases_lt, ne_eqb, eq-eqb, eqb-tru
 use Rattle.std.specs.Prelude.{IsTrue, nat_eq, ℤ, pos, Result, Ok, Err, OnOk, OnErr}
 use Rattle.std.specs.Prelude.{◌-◌, ◌*◌, ◌/◌, ◌%◌, ◌^◌, bit_or, bit_and}
 use Rattle.std.specs.Int.{bit_at, bit_not, trailing_zeros, w32}
+use Rattle.std.proofs.Math.Nat.{div-le_self}
 use Rattle.std.proofs.lemmas.Nat.{pow_pos}
-use Rattle.std.proofs.lemmas.Nat.Bits.{bit_at-zero, bit_at_above, bit_at_cat_high, bit_at-trailing_zeros, bit_at_set_same, bit_at_set_other, bit_at_clear_other}
+use Rattle.std.proofs.lemmas.Nat.Bits.{bit_at-zero, bit_at_above, bit_at_cat_high, bit_at-trailing_zeros, bit_at_set_same, bit_at_set_other, bit_at_clear_other, bit_at_or}
 use Rattle.dw_cfa.specs.declared.rule.RegRule.{RegRule}
 use Rattle.dw_cfa.specs.declared.row.Slot.{Slot}
 use Rattle.dw_cfa.specs.declared.row.Kind.{Kind}
@@ -178,7 +179,7 @@ far_so (Err e) r rule far far' up le ok err = subst (AreSpecified 32) (sym err) 
 
 -- ---- the mask of the slots that are used
 
-pub shifted : (n k i : ℕ) → k ≤ i → bit_at n i ≡ bit_at (n / 2 ^ k) (i - k)
+shifted : (n k i : ℕ) → k ≤ i → bit_at n i ≡ bit_at (n / 2 ^ k) (i - k)
 shifted n k i le =
     let pos : 0 < 2 ^ k = pow_pos k in
     let lt : n % 2 ^ k < 2 ^ k = omega arith in
@@ -188,7 +189,7 @@ shifted n k i le =
 not_specified : (s : Slot) (block : RegRule) → s.kind ≡ kinds.Empty → is_specified (slot_rule s block) ≡ false
 not_specified s block is = ap (λ (k : Kind). is_specified (kind_rule k s.register s.offset block)) is
 
-pub skip_many : (n k : ℕ) (near : List Slot) (expressions far : List Entry) (d : Slot) → k + n ≤ length near → ((q : ℕ) → k ≤ q → q < k + n → (get_or near q d).kind ≡ kinds.Empty)
+skip_many : (n k : ℕ) (near : List Slot) (expressions far : List Entry) (d : Slot) → k + n ≤ length near → ((q : ℕ) → k ≤ q → q < k + n → (get_or near q d).kind ≡ kinds.Empty)
     → listed_near k (drop k near) expressions far ≡ listed_near (k + n) (drop (k + n) near) expressions far
 skip_many zero k near expressions far d le none = let same : k ≡ k + 0 = omega arith in ap (λ (m : ℕ). listed_near m (drop m near) expressions far) same
 skip_many (suc n) k near expressions far d le none =
@@ -197,8 +198,11 @@ skip_many (suc n) k near expressions far d le none =
     ∙ skip_many n (suc k) near expressions far d (omega arith) (λ q low high. none q (omega arith) (omega arith))
     ∙ ap (λ (m : ℕ). listed_near m (drop m near) expressions far) same
 
+zero_both : (a b : ℕ) → max a b ≡ 0 → (a ≡ 0) × (b ≡ 0)
+zero_both a b e = (omega (arith, e), omega (arith, e))
+
 -- a bit above a place lies among the slots
-pub bit_inside : (used k n : ℕ) → used < 2 ^ 32 → bit_at (used / 2 ^ k) n ≡ 1 → k + n < 32
+bit_inside : (used k n : ℕ) → used < 2 ^ 32 → bit_at (used / 2 ^ k) n ≡ 1 → k + n < 32
 bit_inside used k n fits one = elim (cases_lt (k + n) 32) [
   | inl lt ↦ lt
   | inr ge ↦
@@ -208,27 +212,36 @@ bit_inside used k n fits one = elim (cases_lt (k + n) 32) [
       absurd (omega (arith, none, e, one))
 ]
 
-module _ (used : ℕ) (near : List Slot) (covers : Covers used near) (len : length near ≡ 32) (fits : used < 2 ^ 32) where
-  -- no bit is left
+-- no bit is left from a place on
+pub no_bits : (n k : ℕ) → n / 2 ^ k ≡ 0 → (q : ℕ) → k ≤ q → bit_at n q ≡ 0
+no_bits n k none q le = shifted n k q le ∙ ap (λ (m : ℕ). bit_at m (q - k)) none ∙ bit_at-zero (q - k)
+
+-- the lowest bit that is left
+pub lowest_bit : (n k : ℕ) → n < 2 ^ 32 → 0 < n / 2 ^ k
+    → (k + trailing_zeros w32 (n / 2 ^ k) < 32) × (bit_at n (k + trailing_zeros w32 (n / 2 ^ k)) ≡ 1) × ((q : ℕ) → k ≤ q → q < k + trailing_zeros w32 (n / 2 ^ k) → bit_at n q ≡ 0)
+lowest_bit n k fits some =
+    let within : n / 2 ^ k < 2 ^ 32 = omega (arith, div-le_self n (2 ^ k)) in
+    let j = trailing_zeros w32 (n / 2 ^ k) in
+    let z = bit_at-trailing_zeros w32 (n / 2 ^ k) some within in
+    let one = shifted n k (k + j) (omega arith) ∙ ap (λ (m : ℕ). bit_at (n / 2 ^ k) m) (omega arith) ∙ z.1 in
+    (bit_inside n k j fits z.1, one, λ q low high. shifted n k q low ∙ z.2 (q - k) (omega arith))
+
+-- a bit that neither of two masks has
+pub neither : (m n q : ℕ) → bit_at (bit_or m n) q ≡ 0 → (bit_at m q ≡ 0) × (bit_at n q ≡ 0)
+neither m n q none = zero_both (bit_at m q) (bit_at n q) (sym (bit_at_or m n q) ∙ none)
+
+module _ (used : ℕ) (near : List Slot) (covers : Covers used near) (len : length near ≡ 32) where
   pub none_used : (k : ℕ) → k < 32 → used / 2 ^ k ≡ 0 → (expressions far : List Entry) → listed_near k (drop k near) expressions far ≡ far
   none_used k lt none expressions far =
       let same : k + (32 - k) ≡ 32 = omega arith in
-      skip_many (32 - k) k near expressions far no_slot (omega arith)
-      (λ q low high. covers q no_slot (omega arith) (shifted used k q low ∙ ap (λ (m : ℕ). bit_at m (q - k)) none ∙ bit_at-zero (q - k)))
+      skip_many (32 - k) k near expressions far no_slot (omega arith) (λ q low high. covers q no_slot (omega arith) (no_bits used k none q low))
       ∙ ap (λ (m : ℕ). listed_near m (drop m near) expressions far) same ∙ slots_end 32 near expressions far (omega arith)
 
-  first_used : (k n : ℕ) → k < 32 → ((i : ℕ) → i < n → bit_at (used / 2 ^ k) i ≡ 0) → k + n ≤ 32 → (expressions far : List Entry) → listed_near k (drop k near) expressions far ≡ listed_near (k + n) (drop (k + n) near) expressions far
-  first_used k n lt zeros le expressions far =
-      skip_many n k near expressions far no_slot (omega arith) (λ q low high. covers q no_slot (omega arith) (shifted used k q low ∙ zeros (q - k) (omega arith)))
-
-  -- the lowest bit that is left
-  pub next_used : (k : ℕ) → k < 32 → 0 < used / 2 ^ k → used / 2 ^ k < 2 ^ 32
-      → (k + trailing_zeros w32 (used / 2 ^ k) < 32)
-      × ((expressions far : List Entry) → listed_near k (drop k near) expressions far ≡ listed_near (k + trailing_zeros w32 (used / 2 ^ k)) (drop (k + trailing_zeros w32 (used / 2 ^ k)) near) expressions far)
-  next_used k lt some within =
-      let z = bit_at-trailing_zeros w32 (used / 2 ^ k) some within in
-      let inside = bit_inside used k (trailing_zeros w32 (used / 2 ^ k)) fits z.1 in
-      (inside, first_used k (trailing_zeros w32 (used / 2 ^ k)) lt z.2 (omega (arith, inside)))
+  pub next_used : (k : ℕ) → used < 2 ^ 32 → 0 < used / 2 ^ k → (expressions far : List Entry)
+      → listed_near k (drop k near) expressions far ≡ listed_near (k + trailing_zeros w32 (used / 2 ^ k)) (drop (k + trailing_zeros w32 (used / 2 ^ k)) near) expressions far
+  next_used k fits some expressions far =
+      let z = lowest_bit used k fits some in
+      skip_many (trailing_zeros w32 (used / 2 ^ k)) k near expressions far no_slot (omega (arith, z.0)) (λ q low high. covers q no_slot (omega (arith, z.0)) (z.2 q low high))
 
 pub covers_set : (used : ℕ) (near : List Slot) (r p : ℕ) (s : Slot) → Covers used near → length near ≡ 32 → r < 32 → p ≡ r → Covers (bit_or used (1 * 2 ^ r % 2 ^ 32)) (set near p s)
 covers_set used near r p s covers len lt at q d in_near none = elim (cases_Bool (nat_eq r q)) [

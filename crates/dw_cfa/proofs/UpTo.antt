@@ -1,8 +1,6 @@
 -- Faults that come up to an address are those where a run stops up to there.
-use Rattle.std.proofs.Common.{◌≡◌, ℕ, ◌≤◌, List, [], ◌∷◌, ◌++◌, length, Some, Result, Ok, Err, refl, sym, ap, ◌∙◌, subst, inl, inr, arith}
-use Rattle.std.proofs.lemmas.List.{append-nil}
+use Rattle.std.proofs.Common.{◌≡◌, ℕ, ◌≤◌, List, [], ◌∷◌, ◌++◌, length, Option, Some, Result, Ok, Err, refl, sym, ap, ◌∙◌, subst, inl, inr, arith}
 use Rattle.std.specs.Prelude.{IfErr, OnOk}
-use Rattle.dw_num.specs.declared.refusal.Code.{Code}
 use Rattle.dw_num.specs.declared.refusal.Refusal.{Refusal}
 use Rattle.dw_num.specs.declared.error.ReadError.{ReadError}
 use Rattle.dw_num.specs.declared.error.ReadError.TheVariants.{Refused, OutOfMemory}
@@ -12,7 +10,6 @@ use Rattle.dw_num.specs.Input.{Input, AreBytes}
 use Rattle.dw_cfa.specs.declared.instr.Factors.{Factors}
 use Rattle.dw_cfa.specs.declared.instr.Instr.{Instr}
 use Rattle.dw_cfa.specs.declared.rule.CfaRule.{CfaRule}
-use Rattle.dw_cfa.specs.declared.execution.LocatedRow.{LocatedRow}
 use Rattle.dw_cfa.specs.Location.{location, onto}
 use Rattle.dw_cfa.specs.Rows.{Rules, AreSpecified, blank}
 use Rattle.dw_cfa.specs.Runs.{Outcome}
@@ -20,64 +17,45 @@ use Rattle.dw_cfa.specs.Faults.{FdeFaultBehind, FdeFaultUpTo, FaultUpTo, NoFault
 use Rattle.dw_cfa.specs.Inner.Machine.{State, begun, after, fde_fault}
 use Rattle.dw_cfa.specs.Inner.Runs.{Placed, StopsAbove, fde_rows, fde_stop, initial_row, on_initial, placed, rows_behind, run_rows, run_stop, stop_on}
 use Rattle.dw_cfa.proofs.Lent.Forward.{Follows, after_follows, begun_follows}
-use Rattle.dw_cfa.proofs.Lent.RowsAt.{instrs_of, Gives}
-use Rattle.dw_cfa.proofs.Lent.KeptRuns.{next_gives}
-use Rattle.dw_cfa.proofs.Lent.FaultLaws.{leaves, leaves_initial, Stopped, stopped_behind, stops_of, fde_fault_found, fde_fault_only, cie_fault_found, cie_fault_only}
-use Rattle.dw_cfa.proofs.Stops.{ends}
+use Rattle.dw_cfa.proofs.Lent.RowsAt.{instrs_of}
+use Rattle.dw_cfa.proofs.Lent.FaultLaws.{leaves, leaves_initial, stops_of, fde_fault_found, fde_fault_only, cie_fault_found, cie_fault_only}
+use Rattle.dw_cfa.proofs.Stops.{AllRun, RefusedNext, ends}
 
 -- ---- an FDE's program
 
 -- a run that is not refused stops where what follows it does
-past : (limit : ℕ) (initial : Rules) (before tail : List Placed) (s : State) (rows : List LocatedRow) → Gives limit initial before s rows
-    → fde_stop limit initial (before ++ tail) s ≡ fde_stop limit initial tail (ends initial before s)
+past : (limit : ℕ) (initial : Rules) (before tail : List Placed) (s : State) → AllRun (fde_fault limit) (after initial) before s
+    → fde_stop limit initial (before ++ tail) s ≡ fde_stop limit initial tail (ends (after initial) before s)
 unfolding fde_stop
-past limit initial [] tail s rows e = refl
-past limit initial (p ∷ before) tail s rows e =
-    let next = next_gives limit initial p before s rows e in
-    rw next.0 (past limit initial before tail (after initial p.instr s) next.1.0 next.1.1)
+past limit initial [] tail s run = refl
+past limit initial (p ∷ before) tail s run = rw run.0 (past limit initial before tail (after initial p.instr s) run.1)
 
-ended_follows : (limit begin : ℕ) (initial : Rules) (items : List Placed) (earlier : List Instr) (s : State) (rows : List LocatedRow) → Follows initial begin earlier s → Gives limit initial items s rows
-    → Follows initial begin (onto earlier (instrs_of items) (length (instrs_of items))) (ends initial items s)
-ended_follows limit begin initial [] earlier s rows h e = h
-ended_follows limit begin initial (p ∷ items) earlier s rows h e =
-    let next = next_gives limit initial p items s rows e in
-    ended_follows limit begin initial items (p.instr ∷ earlier) (after initial p.instr s) next.1.0 (after_follows initial begin p.instr earlier s limit h next.0) next.1.1
-
-at_fault : (limit : ℕ) (initial : Rules) (item : Placed) (items : List Placed) (s : State) (code : Code) → fde_fault limit item.instr s ≡ Some code → fde_stop limit initial (item ∷ items) s ≡ s.location
+-- and one whose next is refused where it is
+stops_here : (limit : ℕ) (initial : Rules) (tail : List Placed) (fault : Option Refusal) (s : State) (r : Refusal) → RefusedNext (fde_fault limit) (after initial) tail fault s r → fde_stop limit initial tail s ≡ s.location
 unfolding fde_stop
-at_fault limit initial item items s code is = rw is refl
+stops_here limit initial [] fault s r h = refl
+stops_here limit initial (item ∷ tail) fault s r h = rw h.0 refl
 
-at_end : (limit : ℕ) (initial : Rules) (s : State) → fde_stop limit initial [] s ≡ s.location
-unfolding fde_stop
-at_end limit initial s = refl
+ended_follows : (limit begin : ℕ) (initial : Rules) (items : List Placed) (earlier : List Instr) (s : State) → Follows initial begin earlier s → AllRun (fde_fault limit) (after initial) items s
+    → Follows initial begin (onto earlier (instrs_of items) (length (instrs_of items))) (ends (after initial) items s)
+ended_follows limit begin initial [] earlier s h run = h
+ended_follows limit begin initial (p ∷ items) earlier s h run =
+    ended_follows limit begin initial items (p.instr ∷ earlier) (after initial p.instr s) (after_follows initial begin p.instr earlier s limit h run.0) run.1
 
 module _ (f : Factors) (initial : Rules) (i : Input) (begin : ℕ) (h : AreBytes i.bytes) (le : begin ≤ address_limit i.target.size) (listed : AreSpecified 0 initial.registers) where
   abbrev stop : ℕ
   stop = fde_stop (address_limit i.target.size) initial (placed f i).items (begun initial begin)
 
-  location_there : (before : List Placed) (rows : List LocatedRow) → Gives (address_limit i.target.size) initial before (begun initial begin) rows
-      → (ends initial before (begun initial begin)).location ≡ location begin (instrs_of before) (length (instrs_of before))
-  location_there before rows gives = (ended_follows (address_limit i.target.size) begin initial before [] (begun initial begin) rows (begun_follows initial begin listed) gives).location
-
-  stopped_there : (r : Refusal) (d : Stopped f initial i begin h le listed r)
-      → stop ≡ location begin (stopped_behind f initial i begin h le listed r d) (length (stopped_behind f initial i begin h le listed r d))
-  stopped_there r (inl d) =
-      let limit = address_limit i.target.size in
-      let s = begun initial begin in
-      ap (λ (l : List Placed). fde_stop limit initial l s) d.whole ∙ past limit initial d.before (d.item ∷ d.after) s d.rows d.gives
-      ∙ at_fault limit initial d.item d.after (ends initial d.before s) r.code d.fault ∙ location_there d.before d.rows d.gives
-  stopped_there r (inr d) =
-      let limit = address_limit i.target.size in
-      let s = begun initial begin in
-      let items = (placed f i).items in
-      ap (λ (l : List Placed). fde_stop limit initial l s) (sym (append-nil items)) ∙ past limit initial items [] s d.rows d.gives
-      ∙ at_end limit initial (ends initial items s) ∙ location_there items d.rows d.gives
-
   -- behind which instructions a fault stands says where the run stops
   fault_there : (r : Refusal) (instrs : List Instr) → FdeFaultBehind f initial.cfa i begin instrs r → stop ≡ location begin instrs (length instrs)
   fault_there r instrs fault =
-      let d = stops_of f initial i begin h le listed r instrs fault in
-      stopped_there r d.0 ∙ ap (λ (l : List Instr). location begin l (length l)) d.1
+      let limit = address_limit i.target.size in
+      let s = begun initial begin in
+      let found = stops_of f initial i begin h le listed r instrs fault in
+      let d = found.0 in
+      ap (λ (l : List Placed). fde_stop limit initial l s) d.whole ∙ past limit initial d.before d.after s d.run
+      ∙ stops_here limit initial d.after (placed f i).fault (ends (after initial) d.before s) r d.refused
+      ∙ (ended_follows limit begin initial d.before [] s (begun_follows initial begin listed) d.run).location ∙ ap (λ (l : List Instr). location begin l (length l)) found.1
 
   fde_found : (a : ℕ) (r : Refusal) → (rows_behind f initial i begin).fault ≡ Some r → stop ≤ a → FdeFaultUpTo f initial.cfa i begin a r
   fde_found a r e below =

@@ -1,5 +1,5 @@
 -- A walk from one FDE's program to another's, behind a CIE's row that is run or brought back.
-use Rattle.std.proofs.Common.{◌≡◌, ◌⊎◌, ℕ, Bool, true, false, List, [], ◌∷◌, Option, Some, None, Ok, Err, Result, IsOk, refl, sym, ap, subst, ◌∙◌, inl, inr}
+use Rattle.std.proofs.Common.{◌≡◌, ◌⊎◌, ℕ, Bool, true, false, [], Option, Some, None, Ok, Err, Result, IsOk, refl, sym, ap, subst, ◌∙◌, inl, inr}
 use Rattle.std.specs.Prelude.{◌↔◌, IfOk, IsTrue, MatchOption, if◌then◌else◌}
 use Rattle.dw_num.specs.declared.error.ReadError.{ReadError}
 use Rattle.dw_num.specs.declared.refusal.Refusal.{Refusal}
@@ -8,9 +8,6 @@ use Rattle.dw_num.specs.Input.{Input, AreBytes}
 use Rattle.dw_num.specs.Target.{address_limit}
 use Rattle.dw_cfa.specs.declared.instr.Factors.{Factors}
 use Rattle.dw_cfa.specs.declared.machine.Machine.{Machine}
-use Rattle.dw_cfa.specs.declared.rule.CfaRule.{CfaRule}
-use Rattle.dw_cfa.specs.declared.rule.RegRule.{RegRule}
-use Rattle.dw_cfa.specs.declared.execution.LocatedRow.{LocatedRow}
 use Rattle.dw_cfa.specs.declared.steps.Progress.{Progress}
 use Rattle.dw_cfa.specs.declared.steps.Progress.TheVariants as progress
 use Rattle.dw_cfa.specs.declared.row_walk.Leading.{Leading}
@@ -20,22 +17,18 @@ use Rattle.dw_cfa.specs.Runs.{Outcome, finished}
 use Rattle.dw_cfa.specs.Inner.Runs.{RunsSo, fde_rows, initial_row, on_initial, placed, rows_left, run_rows}
 use Rattle.dw_cfa.specs.Inner.Machine.{begun}
 use Rattle.dw_cfa.specs.RowSteps.{Stepping, program_input}
-use Rattle.dw_cfa.specs.Inner.RowSteps.{begun_rows, progress_after}
+use Rattle.dw_cfa.specs.Inner.RowSteps.{left_of, progress_after}
 use Rattle.dw_cfa.specs.Inner.NextRow.{GoesOn}
 use Rattle.dw_cfa.specs.Agreement.{kept}
 use Rattle.dw_cfa.specs.RowWalk.{StandsOn}
 use Rattle.dw_cfa.specs.Inner.RowWalk.{AreLeft, HasInitial, Readied, WalkKeeps, WalksSo, WalkStands, initial_of, led_of, led_rows, walk_of}
 use Rattle.dw_cfa.proofs.Lent.FaultLaws.{initial_leaves, leaves_initial}
 use Rattle.dw_cfa.proofs.Lent.Given.{leaves_to}
-use Rattle.dw_cfa.proofs.Lent.RunLaws.{begun_starts, left_starts, some_begun_left, some_rows_left}
-use Rattle.dw_cfa.proofs.RunSteps.{begun_is_run}
-use Rattle.dw_cfa.proofs.Lent.SameRows.{same_entries}
+use Rattle.dw_cfa.proofs.Lent.RunLaws.{left_from, next_from, run_from}
+use Rattle.dw_cfa.proofs.Lent.RowsAt.{RowsFrom}
+use Rattle.dw_cfa.proofs.Lent.SameRows.{same_rows}
 
 -- ---- the CIE's half
-
-one_row : (row other : Rules) → row.cfa ≡ other.cfa → row.registers ≡ other.registers → row ≡ other
-one_row row other cfa registers =
-    ap (λ (c : CfaRule). let r : Rules = record { cfa = c; registers = row.registers } in r) cfa ∙ ap (λ (l : List (ℕ × RegRule)). let r : Rules = record { cfa = other.cfa; registers = l } in r) registers
 
 pub initial_is : (f : Factors) (i i' : Input) (row left initial : Rules) → i ≡ i' → row ≡ blank → initial ≡ left → initial_row (placed f i) row ≡ Ok left → initial_row (placed f i') blank ≡ Ok initial
 initial_is f i i' row left initial same none copy is =
@@ -47,7 +40,7 @@ initial_elsewhere f i j row bytes same target is =
     let here = initial_leaves f i row bytes is in
     let program : Program j.target f here.0 j.bytes = subst (λ (t : Target). Program t f here.0 j.bytes) target (subst (Program i.target f here.0) same here.1.program) in
     let there = leaves_initial f j here.0 (subst AreBytes same bytes) program here.1.kept in
-    there.1 ∙ ap Ok (one_row there.0 row (there.2.cfa ∙ sym here.1.cfa) (same_entries 0 there.0.registers row.registers there.2.listed here.1.listed (λ r. there.2.rules r ∙ sym (here.1.rules r))))
+    there.1 ∙ ap Ok (same_rows there.0 row there.2.listed here.1.listed (there.2.cfa ∙ sym here.1.cfa) (λ r. there.2.rules r ∙ sym (here.1.rules r)))
 
 -- a run that has no fault leaves an initial row
 pub led_initial : (l : Leading) (fde : Input) (begin : ℕ) → (led_rows l fde begin).fault ≡ None → IsOk (initial_row (placed l.factors (program_input l.program l.target)) blank)
@@ -70,32 +63,10 @@ led_ran l fde old m so r = led_is l.factors (program_input l.program l.target) f
 
 -- ---- where the next row starts
 
-module _ (f : Factors) (cie fde : Input) (begin : ℕ) where
-  -- a machine that stands so
-  abbrev at_begin : Machine
-  at_begin = record { initial = blank; states = record { row = blank; stack = []; first = None; kept = blank }; location = begin; limit = address_limit fde.target.size }
-
-  begun_here : begun_rows f cie fde at_begin ≡ run_rows f cie fde begin
-  begun_here = begun_is_run f cie fde cie fde at_begin begin refl refl refl refl refl
-
-  pub run_starts : (row : LocatedRow) (rows : List LocatedRow) → (run_rows f cie fde begin).rows ≡ row ∷ rows → row.location ≡ begin
-  run_starts row rows e = begun_starts f cie fde at_begin row rows (ap (λ (o : Outcome). o.rows) begun_here ∙ e)
-
-  pub run_some : run_rows f cie fde begin ≡ finished → ⊥
-  run_some e = some_begun_left f cie fde at_begin (begun_here ∙ e)
-
-pub walk_starts : (p : Progress) (l : Leading) (fde : Input) (m : Machine) (s : Stepping) → (p ≡ progress.Begun) ⊎ (p ≡ progress.Running) → walk_of p l fde m ≡ s
-    → (row : LocatedRow) (rows : List LocatedRow) → s.outcome.rows ≡ row ∷ rows → row.location ≡ m.location
-walk_starts p l fde m s (inl is) e row rows some =
-    run_starts l.factors (program_input l.program l.target) fde m.location row rows (ap (λ (x : Progress). (walk_of x l fde m).outcome.rows) (sym is) ∙ ap (λ (x : Stepping). x.outcome.rows) e ∙ some)
-walk_starts p l fde m s (inr is) e row rows some =
-    left_starts l.factors fde fde m row rows (ap (λ (x : Progress). (walk_of x l fde m).outcome.rows) (sym is) ∙ ap (λ (x : Stepping). x.outcome.rows) e ∙ some)
-
-pub walk_some : (p : Progress) (l : Leading) (fde : Input) (m : Machine) (s : Stepping) → (p ≡ progress.Begun) ⊎ (p ≡ progress.Running) → walk_of p l fde m ≡ s → s.outcome ≡ finished → ⊥
-walk_some p l fde m s (inl is) e none =
-    run_some l.factors (program_input l.program l.target) fde m.location (ap (λ (x : Progress). (walk_of x l fde m).outcome) (sym is) ∙ ap (λ (x : Stepping). x.outcome) e ∙ none)
-walk_some p l fde m s (inr is) e none =
-    some_rows_left l.factors fde fde m (ap (λ (x : Progress). (walk_of x l fde m).outcome) (sym is) ∙ ap (λ (x : Stepping). x.outcome) e ∙ none)
+pub walk_from : (p : Progress) (l : Leading) (fde : Input) (m : Machine) (s : Stepping) → (p ≡ progress.Begun) ⊎ (p ≡ progress.Running) → walk_of p l fde m ≡ s → RowsFrom m.location s.outcome
+walk_from p l fde m s (inl is) e =
+    subst (λ (x : Stepping). RowsFrom m.location x.outcome) (ap (λ (q : Progress). walk_of q l fde m) (sym is) ∙ e) (run_from l.factors (program_input l.program l.target) fde m.location)
+walk_from p l fde m s (inr is) e = next_from l.factors fde fde m p s (inr is) (ap (λ (q : Progress). left_of q l.factors fde fde m) is ∙ ap (λ (q : Progress). walk_of q l fde m) (sym is) ∙ e)
 
 -- ---- a row that is kept changes no row to come
 
@@ -145,7 +116,7 @@ left_where P (Err e) h = tt
 module _ (l : Leading) (fde : Input) (m : Machine) where
   stands_more : (more : Bool) → AreLeft l (Some m.initial)
       → StandsOn (led_of l) (walk_of (if more then progress.Running else progress.Finished) l fde m).outcome (initial_of (if more then progress.Running else progress.Finished) m.initial)
-  stands_more true h = (some_rows_left l.factors fde fde m, h)
+  stands_more true h = ((left_from l.factors fde m).some, h)
   stands_more false h = refl
 
   left_more : (more : Bool) → AreLeft l (initial_of (if more then progress.Running else progress.Finished) m.initial)
@@ -175,14 +146,10 @@ module _ (l : Leading) (fde : Input) (m : Machine) (s : Stepping) (initial : Opt
   pub begun_unknown : (p : Progress) → p ≡ progress.Begun → walk_of p l fde m ≡ s → initial_of p m.initial ≡ initial → IsTrue false ↔ KeptWhere s row initial
   begun_unknown p is e same =
       let none : None ≡ initial = ap (λ (q : Progress). initial_of q m.initial) (sym is) ∙ same in
-      subst (λ (o : Option Rules). IsTrue false ↔ KeptWhere s row o) none ((λ t. absurd cc), λ all. absurd (walk_some p l fde m s (inl is) e all))
+      subst (λ (o : Option Rules). IsTrue false ↔ KeptWhere s row o) none ((λ t. absurd cc), λ all. absurd ((walk_from p l fde m s (inl is) e).some all))
 
   -- rows are run behind one
   pub running_known : (p : Progress) (b : Bool) → p ≡ progress.Running → initial_of p m.initial ≡ initial → IsTrue b ↔ (kept row m.initial ≡ row) → IsTrue b ↔ KeptWhere s row initial
   running_known p b is same told =
       let some : Some m.initial ≡ initial = ap (λ (q : Progress). initial_of q m.initial) (sym is) ∙ same in
       subst (λ (o : Option Rules). IsTrue b ↔ KeptWhere s row o) some told
-
-  -- no row is to come
-  pub ended_known : (p : Progress) → initial_of p m.initial ≡ None → s.outcome ≡ finished → initial_of p m.initial ≡ initial → IsTrue true ↔ KeptWhere s row initial
-  ended_known p none all same = subst (λ (o : Option Rules). IsTrue true ↔ KeptWhere s row o) (sym none ∙ same) ((λ t. all), λ t. refl)

@@ -1,7 +1,7 @@
 -- Ascending registers in a tree: what it finds, puts in and takes out is what the list of them says.
 use Rattle.std.proofs.lemmas.List.{append_assoc}
 use Rattle.std.proofs.Common.{Less, Equal, Greater, eq-eqb, ◌≡◌, ℕ, suc, ◌<◌, ◌≤◌, Bool, true, false, cond, List, [], ◌∷◌, ◌++◌, refl, sym, ap, ◌∙◌, subst, arith, inl, inr}
-use Rattle.std.specs.Prelude.{nat_eq, nat_lt, Result, Ok, Err, IfOk, OnOk}
+use Rattle.std.specs.Prelude.{nat_eq, nat_lt}
 use Rattle.std.specs.Ordering.{nat_cmp}
 use Rattle.std.specs.Option.{unwrap_or}
 use Rattle.std.specs.Map.{lookup, remove_entry}
@@ -118,13 +118,8 @@ put_back r rule xs up =
     let changed = put_keeps r rule 0 xs up (omega arith) in
     same_entries 0 (put r (rule_in xs r) (put r rule xs)) xs (put_keeps r (rule_in xs r) 0 (put r rule xs) changed (omega arith)) up (λ q. back_rule r rule xs q up)
 
-abbrev row_of : CfaRule → List Entry → Rules
-row_of cfa registers = record { cfa = cfa; registers = registers }
-
-pub taken_back : {E : Type 0} (o : Result RegRule E) (r : ℕ) (rule : RegRule) (cfa : CfaRule) (old new : List Entry) (before : Rules)
-    → IfOk o (λ older. older ≡ rule_in old r) → OnOk o (new ≡ put r rule old) → AreSpecified 0 old → row_of cfa old ≡ before
-    → IfOk o (λ older. with_rule r older (row_of cfa new) ≡ before)
-taken_back (Ok older) r rule cfa old new before is change up same =
+pub taken_back : (r : ℕ) (older rule : RegRule) (cfa : CfaRule) (old new : List Entry) (before : Rules) → older ≡ rule_in old r → new ≡ put r rule old → AreSpecified 0 old
+    → record { cfa = cfa; registers = old } ≡ before → with_rule r older (record { cfa = cfa; registers = new }) ≡ before
+taken_back r older rule cfa old new before is change up same =
     let back = ap (λ (x : RegRule). put r x new) is ∙ ap (put r (rule_in old r)) change ∙ put_back r rule old up in
-    ap (row_of cfa) back ∙ same
-taken_back (Err e) r rule cfa old new before is change up same = tt
+    ap (λ (l : List Entry). let row : Rules = record { cfa = cfa; registers = l } in row) back ∙ same

@@ -49,20 +49,14 @@ rule_told = told_of same_rule rule_tells
 
 -- ---- rows
 
-cfa_agrees : (old other new : CfaRule) → InCommon cfa.Unset old other new → new ≡ (if same_cfa old other then old else cfa.Unset)
-cfa_agrees old other new h = elim (cases_Bool (same_cfa old other)) [
-  | inl e ↦ rw e (h.0 ((cfa_tells old other).0 e))
-  | inr e ↦ rw e (h.1 (not_from_Decides (same_cfa old other) (cfa_tells old other) e))
-]
-
-rule_agrees : (old other new : RegRule) → InCommon rules.Unspecified old other new → new ≡ (if same_rule old other then old else rules.Unspecified)
-rule_agrees old other new h = elim (cases_Bool (same_rule old other)) [
-  | inl e ↦ rw e (h.0 ((rule_tells old other).0 e))
-  | inr e ↦ rw e (h.1 (not_from_Decides (same_rule old other) (rule_tells old other) e))
+agrees : {X : Type 0} (same : X → X → Bool) → ((x y : X) → Decides (same x y) (x ≡ y)) → (none old other new : X) → InCommon none old other new → new ≡ (if same old other then old else none)
+agrees same tells none old other new h = elim (cases_Bool (same old other)) [
+  | inl e ↦ rw e (h.0 ((tells old other).0 e))
+  | inr e ↦ rw e (h.1 (not_from_Decides (same old other) (tells old other) e))
 ]
 
 -- it is one row, where the registers are listed
 pub agreed_of : (old other new : Rules) → AreSpecified 0 old.registers → IsAgreed old other new → new ≡ agreed old other
 agreed_of old other new up h =
-    same_rows new (agreed old other) h.listed (filter_keeps (is_agreed other.registers) 0 old.registers up) (cfa_agrees old.cfa other.cfa new.cfa h.cfa)
-    (λ r. rule_agrees (rule old r) (rule other r) (rule new r) (h.rules r) ∙ sym (filter_rule (is_agreed other.registers) 0 old.registers r up))
+    same_rows new (agreed old other) h.listed (filter_keeps (is_agreed other.registers) 0 old.registers up) (agrees same_cfa cfa_tells cfa.Unset old.cfa other.cfa new.cfa h.cfa)
+    (λ r. agrees same_rule rule_tells rules.Unspecified (rule old r) (rule other r) (rule new r) (h.rules r) ∙ sym (filter_rule (is_agreed other.registers) 0 old.registers r up))

@@ -1,11 +1,12 @@
 -- A run is refused exactly with the first fault of its programs.
-use Rattle.std.proofs.Common.{◌≡◌, ◌⊎◌, ℕ, ◌+◌, ◌<◌, ◌≤◌, Bool, true, false, cond, List, [], ◌∷◌, length, take, Option, Some, None, Result, Ok, Err, refl, sym, ap, ◌∙◌, subst, inl, inr, arith}
-use Rattle.std.specs.Prelude.{IsTrue, not, nat_lt, count_by}
-use Rattle.std.proofs.lemmas.List.{take_all}
+use Rattle.std.proofs.Common.{◌≡◌, ◌⊎◌, ℕ, ◌+◌, ◌≤◌, Bool, true, false, cond, List, [], ◌∷◌, ◌++◌, length, take, Option, Some, None, Result, Ok, Err, refl, sym, ap, ◌∙◌, subst, inl, inr, arith}
+use Rattle.std.specs.Prelude.{IsTrue, not, nat_lt, count_by, ◌↔◌}
+use Rattle.std.proofs.lemmas.List.{take_all, append-nil}
 use Rattle.std.proofs.lemmas.Bool.{lt-ltb, ltb-true, ltb-false, le-ltb}
 use Rattle.dw_num.specs.declared.refusal.Code.{Code}
-use Rattle.dw_num.specs.declared.refusal.Code.TheVariants.{NotInCie, LocationBackwards, LocationTooLarge, EmptyStateStack, StateStackFull, CfaNotRegister}
+use Rattle.dw_num.specs.declared.refusal.Code.TheVariants.{NotInCie, LocationBackwards, LocationTooLarge, StateStackFull, CfaNotRegister}
 use Rattle.dw_num.specs.declared.refusal.Refusal.{Refusal}
+use Rattle.dw_num.specs.declared.target.Target.{Target}
 use Rattle.dw_num.specs.Target.{address_limit}
 use Rattle.dw_num.specs.Input.{Input, AreBytes}
 use Rattle.dw_cfa.specs.declared.instr.Factors.{Factors}
@@ -13,32 +14,30 @@ use Rattle.dw_cfa.specs.declared.instr.Instr.{Instr}
 use Rattle.dw_cfa.specs.declared.instr.Instr.TheVariants.{SetLoc, Advance, RememberState, RestoreState}
 use Rattle.dw_cfa.specs.declared.rule.CfaRule.{CfaRule}
 use Rattle.dw_cfa.specs.declared.rule.CfaRule.TheVariants as cfa
-use Rattle.dw_cfa.specs.declared.execution.LocatedRow.{LocatedRow}
 use Rattle.dw_cfa.specs.InstrSpells.{Program}
 use Rattle.dw_cfa.specs.Listing as plain
 use Rattle.dw_cfa.specs.Inner.Listing.{listing}
-use Rattle.dw_cfa.specs.Location.{onto, location_back}
-use Rattle.dw_cfa.specs.Column.{look_back, cfa_change}
-use Rattle.dw_cfa.specs.Kept.{is_remember, is_restore, in_cie, keeps_half, IsRegisterRule, CieKept, FdeKept, remembered, restored}
-use Rattle.dw_cfa.specs.Laws.{initial_cfa}
+use Rattle.dw_cfa.specs.Location.{onto}
+use Rattle.dw_cfa.specs.Column.{cfa_after}
+use Rattle.dw_cfa.specs.Kept.{is_remember, is_restore, in_cie, keeps_half, IsRegisterRule, CieKept, FdeKept}
 use Rattle.dw_cfa.specs.Behind.{Leaves}
 use Rattle.dw_cfa.specs.Inner.Exact.{InitialLeaves, LeavesInitial, InitialRefused, BehindRefused}
-use Rattle.dw_cfa.specs.Faults.{BreaksHalf, CieBreaks, FdeBreaks, FdeFaultBehind, CieFault, FdeFault, RunFault}
+use Rattle.dw_cfa.specs.Faults.{BreaksHalf, CieBreaks, FdeBreaks, FaultBehind, FdeFaultBehind, CieFault, FdeFault, RunFault}
 use Rattle.dw_cfa.specs.Rows.{Rules, AreSpecified, blank}
-use Rattle.dw_cfa.specs.Inner.Machine.{begun, half_fault, cie_fault, fde_fault}
-use Rattle.dw_cfa.specs.Inner.Runs.{Placed, placed, cie_run, initial_row, on_initial, fde_rows, rows_behind, run_rows}
+use Rattle.dw_cfa.specs.Inner.Machine.{State, begun, written, after, half_fault, cie_fault, fde_fault}
+use Rattle.dw_cfa.specs.Inner.Runs.{Placed, placed, initial_row, on_initial, fde_rows, rows_behind, run_rows}
 use Rattle.dw_cfa.specs.Runs.{Outcome}
 use Rattle.dw_cfa.proofs.Divided.{divided, joined}
 use Rattle.dw_cfa.proofs.Lent.Forward.{Follows, begun_follows}
-use Rattle.dw_cfa.proofs.Initial.{cie_follows}
-use Rattle.dw_cfa.proofs.Lent.KeptLaws.{CieKeptFrom, cie_kept_from, cie_kept_gives, counted, fde_kept, kept_fde, all_in_limit}
-use Rattle.dw_cfa.proofs.Lent.KeptRuns.{Stands, kept_from, kept_gives}
+use Rattle.dw_cfa.proofs.Initial.{cie_follows, cie_refusal, cie_refused, cie_ran, cie_ends}
+use Rattle.dw_cfa.proofs.Lent.KeptLaws.{cie_kept, cie_runs, counted, fde_kept, kept_fde, all_in_limit}
+use Rattle.dw_cfa.proofs.Lent.KeptRuns.{Stands, ended_stands, kept_run, kept_runs}
 use Rattle.dw_cfa.proofs.Lent.Listings.{fault_listed}
-use Rattle.dw_cfa.proofs.Lent.RowsAt.{instrs_of, Gives}
+use Rattle.dw_cfa.proofs.Lent.RowsAt.{instrs_of, run_refusal}
 use Rattle.dw_cfa.proofs.Lent.RunLaws.{same_listing, placed_program, program_placed}
-use Rattle.dw_cfa.proofs.Stops.{StopsAt, StopsBehind, Stops, ends, ended_stands, stops, stopped, CieStopsAt, CieStopsBehind, cie_stops, cie_refused_at_item, cie_refused_behind}
+use Rattle.dw_cfa.proofs.Stops.{AllRun, RefusedNext, Stops, ends, refusal_of, stops, stopped}
 
--- ---- one instruction, behind instructions with the last of them first
+-- ---- what stands against one instruction is what it breaks
 
 not_half : (c : CfaRule) (i : Instr) (code : Code) (b : Bool) → keeps_half i ≡ b → cond b (Some CfaNotRegister) None ≡ Some code → (IsRegisterRule c → ⊥) → BreaksHalf c i code
 not_half c i code true is e none = (cc, is, none)
@@ -46,20 +45,11 @@ not_half c i code false is e none = absurd cc
 
 half_broken : (c : CfaRule) (i : Instr) (code : Code) → half_fault i c ≡ Some code → BreaksHalf c i code
 half_broken (cfa.Register r n) i code e = absurd cc
-half_broken cfa.Unset i code e = not_half cfa.Unset i code (keeps_half i) refl e (λ is. let same : cfa.Unset ≡ cfa.Register is.0 is.1 = is.2 in absurd cc)
-half_broken (cfa.Expression x) i code e = not_half (cfa.Expression x) i code (keeps_half i) refl e (λ is. let same : cfa.Expression x ≡ cfa.Register is.0 is.1 = is.2 in absurd cc)
+half_broken c i code e = not_half c i code (keeps_half i) refl e (λ is. let same : c ≡ cfa.Register is.0 is.1 = is.2 in absurd cc)
 
 broken_half : (c : CfaRule) (i : Instr) (code : Code) → BreaksHalf c i code → half_fault i c ≡ Some code
 broken_half (cfa.Register r n) i code h = absurd (h.2 (r, n, refl))
 broken_half c i code h = let keeps : keeps_half i ≡ true = h.1 in rw keeps (ap Some (sym h.0))
-
--- what an instruction of an FDE's program breaks
-abbrev BreaksFrom : ℕ → ℕ → CfaRule → List Instr → Instr → Code → Type 0
-BreaksFrom limit begin initial earlier (SetLoc a) code = (code ≡ LocationBackwards) × (a < location_back begin earlier)
-BreaksFrom limit begin initial earlier (Advance d) code = (code ≡ LocationTooLarge) × (limit < location_back begin earlier + d)
-BreaksFrom limit begin initial earlier RememberState code = (code ≡ StateStackFull) × (remembered earlier ≡ restored earlier + 64)
-BreaksFrom limit begin initial earlier RestoreState code = (code ≡ EmptyStateStack) × (remembered earlier ≡ restored earlier)
-BreaksFrom limit begin initial earlier i code = BreaksHalf (look_back cfa_change initial 0 earlier) i code
 
 if_then : (b : Bool) (x y : Code) → cond b (Some x) None ≡ Some y → (b ≡ true) × (y ≡ x)
 if_then true x y e = (refl, cc)
@@ -69,230 +59,186 @@ if_else : (b : Bool) (x y : Code) → cond b None (Some x) ≡ Some y → (b ≡
 if_else true x y e = absurd cc
 if_else false x y e = (refl, cc)
 
-fault_breaks : (limit begin : ℕ) (initial : Rules) (i : Instr) (earlier : List Instr) (row : Rules) (stack : List Rules) (location : ℕ) (code : Code)
-    → Stands limit begin initial earlier (record { row = row; stack = stack; location = location }) → fde_fault limit i (record { row = row; stack = stack; location = location }) ≡ Some code
-    → BreaksFrom limit begin initial.cfa earlier i code
-fault_breaks limit begin initial (SetLoc a) earlier row stack location code h e =
-    let p = if_then (nat_lt a location) LocationBackwards code e in
-    (p.1, omega (arith, ltb-true a location p.0, h.follows.location))
-fault_breaks limit begin initial (Advance d) earlier row stack location code h e =
-    let p = if_then (nat_lt limit (location + d)) LocationTooLarge code e in
-    (p.1, omega (arith, ltb-true limit (location + d) p.0, h.follows.location))
-fault_breaks limit begin initial RememberState earlier row stack location code h e =
-    let p = if_else (nat_lt (length stack) 64) StateStackFull code e in
-    let full : 64 ≤ length stack = ltb-false (length stack) 64 p.0 in
-    (p.1, omega (arith, full, h.room, h.balance))
-fault_breaks limit begin initial RestoreState earlier row [] location code h e = (cc, omega (arith, h.balance))
-fault_breaks limit begin initial RestoreState earlier row (top ∷ stack) location code h e = absurd cc
-fault_breaks limit begin initial i earlier row stack location code h e =
-    subst (λ (c : CfaRule). BreaksHalf c i code) h.follows.row.cfa (half_broken row.cfa i code e)
-
-breaks_fault : (limit begin : ℕ) (initial : Rules) (i : Instr) (earlier : List Instr) (row : Rules) (stack : List Rules) (location : ℕ) (code : Code)
-    → Stands limit begin initial earlier (record { row = row; stack = stack; location = location }) → BreaksFrom limit begin initial.cfa earlier i code
-    → fde_fault limit i (record { row = row; stack = stack; location = location }) ≡ Some code
-breaks_fault limit begin initial (SetLoc a) earlier row stack location code h b =
-    rw (lt-ltb a location (omega (arith, b.1, h.follows.location))) (ap Some (sym b.0))
-breaks_fault limit begin initial (Advance d) earlier row stack location code h b =
-    rw (lt-ltb limit (location + d) (omega (arith, b.1, h.follows.location))) (ap Some (sym b.0))
-breaks_fault limit begin initial RememberState earlier row stack location code h b =
-    rw (le-ltb (length stack) 64 (omega (arith, b.1, h.balance))) (ap Some (sym b.0))
-breaks_fault limit begin initial RestoreState earlier row [] location code h b = ap Some (sym b.0)
-breaks_fault limit begin initial RestoreState earlier row (top ∷ stack) location code h b = absurd (omega (arith, b.1, h.balance))
-breaks_fault limit begin initial i earlier row stack location code h b =
-    broken_half row.cfa i code (subst (λ (c : CfaRule). BreaksHalf c i code) (sym h.follows.row.cfa) b)
-
 -- both ways of counting states
 counted_all : (p : Instr → Bool) (instrs : List Instr) → count_by p (onto [] instrs (length instrs)) ≡ count_by p instrs
 counted_all p instrs =
     let all : count_by p (take (length instrs) instrs) ≡ count_by p instrs = ap (λ (l : List Instr). count_by p l) (take_all (length instrs) instrs (omega arith)) in
     omega (arith, counted p [] instrs (length instrs), all)
 
-breaks_to : (limit begin : ℕ) (initial : CfaRule) (instrs : List Instr) (i : Instr) (code : Code) → BreaksFrom limit begin initial (onto [] instrs (length instrs)) i code → FdeBreaks limit begin initial instrs i code
-breaks_to limit begin initial instrs RememberState code b = (b.0, omega (arith, b.1, counted_all is_remember instrs, counted_all is_restore instrs))
-breaks_to limit begin initial instrs RestoreState code b = (b.0, omega (arith, b.1, counted_all is_remember instrs, counted_all is_restore instrs))
-breaks_to limit begin initial instrs i code b = b
+module _ (limit begin : ℕ) (initial : Rules) (instrs : List Instr) where
+  -- how the state stands behind the instructions
+  abbrev StandsBehind : State → Type 0
+  StandsBehind s = Stands limit begin initial (onto [] instrs (length instrs)) s
 
-breaks_back : (limit begin : ℕ) (initial : CfaRule) (instrs : List Instr) (i : Instr) (code : Code) → FdeBreaks limit begin initial instrs i code → BreaksFrom limit begin initial (onto [] instrs (length instrs)) i code
-breaks_back limit begin initial instrs RememberState code b = (b.0, omega (arith, b.1, counted_all is_remember instrs, counted_all is_restore instrs))
-breaks_back limit begin initial instrs RestoreState code b = (b.0, omega (arith, b.1, counted_all is_remember instrs, counted_all is_restore instrs))
-breaks_back limit begin initial instrs i code b = b
+  fde_breaks : (i : Instr) (row : Rules) (stack : List Rules) (location : ℕ) (code : Code) → StandsBehind (record { row = row; stack = stack; location = location })
+      → (fde_fault limit i (record { row = row; stack = stack; location = location }) ≡ Some code) ↔ FdeBreaks limit begin initial.cfa instrs i code
+  fde_breaks (SetLoc a) row stack location code h = (
+    λ e. let p = if_then (nat_lt a location) LocationBackwards code e in (p.1, omega (arith, ltb-true a location p.0, h.follows.location)),
+    λ b. rw (lt-ltb a location (omega (arith, b.1, h.follows.location))) (ap Some (sym b.0)),
+  )
+  fde_breaks (Advance d) row stack location code h = (
+    λ e. let p = if_then (nat_lt limit (location + d)) LocationTooLarge code e in (p.1, omega (arith, ltb-true limit (location + d) p.0, h.follows.location)),
+    λ b. rw (lt-ltb limit (location + d) (omega (arith, b.1, h.follows.location))) (ap Some (sym b.0)),
+  )
+  fde_breaks RememberState row stack location code h =
+      let remembers = counted_all is_remember instrs in
+      let restores = counted_all is_restore instrs in (
+        λ e.
+            let p = if_else (nat_lt (length stack) 64) StateStackFull code e in
+            (p.1, omega (arith, ltb-false (length stack) 64 p.0, h.room, h.balance, remembers, restores)),
+        λ b. rw (le-ltb (length stack) 64 (omega (arith, b.1, h.balance, remembers, restores))) (ap Some (sym b.0)),
+      )
+  fde_breaks RestoreState row [] location code h = (λ e. (cc, omega (arith, h.balance, counted_all is_remember instrs, counted_all is_restore instrs)), λ b. ap Some (sym b.0))
+  fde_breaks RestoreState row (top ∷ stack) location code h = (λ e. absurd cc, λ b. absurd (omega (arith, b.1, h.balance, counted_all is_remember instrs, counted_all is_restore instrs)))
+  fde_breaks i row stack location code h = (
+    λ e. subst (λ (c : CfaRule). BreaksHalf c i code) h.follows.row.cfa (half_broken row.cfa i code e),
+    λ b. broken_half row.cfa i code (subst (λ (c : CfaRule). BreaksHalf c i code) (sym h.follows.row.cfa) b),
+  )
+
+cie_broken : (i : Instr) (c : CfaRule) (code : Code) (b : Bool) → in_cie i ≡ b → cond b (half_fault i c) (Some NotInCie) ≡ Some code
+    → ((code ≡ NotInCie) × IsTrue (not (in_cie i))) ⊎ (IsTrue (in_cie i) × BreaksHalf c i code)
+cie_broken i c code true is e = inr (is, half_broken c i code e)
+cie_broken i c code false is e = inl (cc, ap not is)
+
+broken_cie : (i : Instr) (c : CfaRule) (code : Code) (b : Bool) → in_cie i ≡ b → ((code ≡ NotInCie) × IsTrue (not (in_cie i))) ⊎ (IsTrue (in_cie i) × BreaksHalf c i code)
+    → cond b (half_fault i c) (Some NotInCie) ≡ Some code
+broken_cie i c code true is (inl h) = let no : not (in_cie i) ≡ true = h.1 in let other : not (in_cie i) ≡ false = ap not is in absurd cc
+broken_cie i c code false is (inl h) = ap Some (sym h.0)
+broken_cie i c code true is (inr h) = broken_half c i code h.1
+broken_cie i c code false is (inr h) = let in_it : in_cie i ≡ true = h.0 in absurd cc
+
+cie_breaks : (instrs : List Instr) (i : Instr) (row : Rules) (code : Code) → row.cfa ≡ cfa_after cfa.Unset instrs (length instrs) → (cie_fault i row ≡ Some code) ↔ CieBreaks instrs i code
+cie_breaks instrs i row code is =
+    subst (λ (c : CfaRule). (cie_fault i row ≡ Some code) ↔ ((code ≡ NotInCie) × IsTrue (not (in_cie i))) ⊎ (IsTrue (in_cie i) × BreaksHalf c i code)) is
+    (cie_broken i row.cfa code (in_cie i) refl, broken_cie i row.cfa code (in_cie i) refl)
+
+-- ---- a program of either kind
+
+-- its instructions are run where they keep what they have to, and what stands against the next one is what that breaks
+pub record Judges (t : Target) (f : Factors) (S : Type 0) (fault : Instr → S → Option Code) (next : Instr → S → S) (start : S) (Kept : List Instr → Type 0) (Breaks : List Instr → Instr → Code → Type 0) : Type 0 where
+  pub keeps : (items : List Placed) (front : List ℕ) → Program t f (instrs_of items) front → AllRun fault next items start ↔ Kept (instrs_of items)
+  pub breaks : (items : List Placed) (front : List ℕ) → Program t f (instrs_of items) front → AllRun fault next items start
+      → (i : Instr) (code : Code) → (fault i (ends next items start) ≡ Some code) ↔ Breaks (instrs_of items) i code
+
+module _ (f : Factors) (i : Input) (h : AreBytes i.bytes) (S : Type 0) (fault : Instr → S → Option Code) (next : Instr → S → S) (start : S)
+    (Kept : List Instr → Type 0) (Breaks : List Instr → Instr → Code → Type 0) (judges : Judges i.target f S fault next start Kept Breaks) where
+  abbrev pub FaultAfter : List Instr → Refusal → Type 0
+  FaultAfter instrs r = Kept instrs × FaultBehind f i instrs (Breaks instrs) r
+
+  abbrev pub Stopped : Refusal → Type 0
+  Stopped r = Stops S fault next (placed f i).items (placed f i).fault start r
+
+  -- where it stops is its first fault
+  found_behind : (before after : List Placed) (r : Refusal) → (placed f i).items ≡ before ++ after → AllRun fault next before start → RefusedNext fault next after (placed f i).fault (ends next before start) r
+      → FaultAfter (instrs_of before) r
+  found_behind before [] r whole run is =
+      let items : (placed f i).items ≡ before = whole ∙ append-nil before in
+      let list : listing f i ≡ plain.faulty (instrs_of before) r = same_listing f i ∙ rw (items, is) refl in
+      let stuck = (fault_listed f i (instrs_of before) r h).1 list in
+      ((judges.keeps before stuck.front stuck.read).0 run, inl stuck)
+  found_behind before (item ∷ after) r whole run is =
+      let bytes = divided f before item after i h whole in (
+        (judges.keeps before bytes.front bytes.read).0 run,
+        inr (record {
+          front = bytes.front;
+          spelling = bytes.spelling;
+          rest = bytes.rest;
+          instr = item.instr;
+          whole = bytes.whole;
+          read = bytes.read;
+          next = bytes.next;
+          breaks = (judges.breaks before bytes.front bytes.read run item.instr r.code).0 is.0;
+          place = is.1 ∙ bytes.place;
+        }),
+      )
+
+  fault_found : (r : Refusal) → refusal_of fault next (placed f i).items (placed f i).fault start ≡ Some r → (instrs : List Instr) × FaultAfter instrs r
+  fault_found r e =
+      let d = stops S fault next (placed f i).items (placed f i).fault start r e in
+      (instrs_of d.before, found_behind d.before d.after r d.whole d.run d.refused)
+
+  -- and it stops where its first fault is
+  pub stops_at : (r : Refusal) (instrs : List Instr) → FaultAfter instrs r → (d : Stopped r) × (instrs_of d.before ≡ instrs)
+  stops_at r instrs (kept, inl stuck) =
+      let list = sym (same_listing f i) ∙ (fault_listed f i instrs r h).0 stuck in
+      let items = (placed f i).items in
+      let are : instrs_of items ≡ instrs = ap (λ (l : plain.Listing). l.items) list in
+      let run = (judges.keeps items stuck.front (subst (λ (l : List Instr). Program i.target f l stuck.front) (sym are) stuck.read)).1 (subst Kept (sym are) kept) in
+      (record { before = items; after = []; whole = sym (append-nil items); run = run; refused = ap (λ (l : plain.Listing). l.fault) list }, are)
+  stops_at r instrs (kept, inr b) =
+      let j = joined f i instrs b.instr b.front b.spelling b.rest h b.whole b.read b.next in
+      let read = subst (λ (l : List Instr). Program i.target f l b.front) (sym j.are) b.read in
+      let run = (judges.keeps j.before b.front read).1 (subst Kept (sym j.are) kept) in
+      let fault = (judges.breaks j.before b.front read run b.instr r.code).1 (subst (λ (l : List Instr). Breaks l b.instr r.code) (sym j.are) b.breaks) in
+      (record { before = j.before; after = record { at = i.at + length b.front; instr = b.instr } ∷ j.after; whole = j.items; run = run; refused = (fault, b.place) }, j.are)
+
+  fault_only : (r : Refusal) → (instrs : List Instr) × FaultAfter instrs r → refusal_of fault next (placed f i).items (placed f i).fault start ≡ Some r
+  fault_only r (instrs, there) = stopped S fault next (placed f i).items (placed f i).fault start r (stops_at r instrs there).0
 
 -- ---- an FDE's program
 
 pub begun_stands : (limit begin : ℕ) (initial : Rules) → AreSpecified 0 initial.registers → begin ≤ limit → Stands limit begin initial [] (begun initial begin)
 begun_stands limit begin initial listed le = record { follows = begun_follows initial begin listed; balance = refl; room = omega arith; within = le }
 
-fault_read : (f : Factors) (i : Input) (r : Refusal) → AreBytes i.bytes → (placed f i).fault ≡ Some r → (instrs_of (placed f i).items ≡ (listing f i).items) × (listing f i ≡ plain.faulty (instrs_of (placed f i).items) r)
-fault_read f i r h e =
-    let same = same_listing f i in
-    (sym (ap (λ (l : plain.Listing). l.items) same), same ∙ ap (λ (o : Option Refusal). let l : plain.Listing = record { items = instrs_of (placed f i).items; fault = o } in l) e)
-
 module _ (f : Factors) (initial : Rules) (i : Input) (begin : ℕ) (h : AreBytes i.bytes) (le : begin ≤ address_limit i.target.size) (listed : AreSpecified 0 initial.registers) where
-  limit : ℕ
+  abbrev limit : ℕ
   limit = address_limit i.target.size
 
-  kept_before : (before : List Placed) (rows : List LocatedRow) (front : List ℕ) → Program i.target f (instrs_of before) front → Gives limit initial before (begun initial begin) rows
-      → FdeKept limit begin initial.cfa (instrs_of before) × Stands limit begin initial (onto [] (instrs_of before) (length (instrs_of before))) (ends initial before (begun initial begin))
-  unfolding limit
-  kept_before before rows front read gives =
-      let stands = begun_stands limit begin initial listed le in
-      let all = all_in_limit i.target f (instrs_of before) front read in
-      (fde_kept limit begin initial.cfa (instrs_of before) (kept_from limit begin initial before [] (begun initial begin) rows stands all gives), ended_stands limit begin initial before [] (begun initial begin) rows stands all gives)
+  abbrev pub FdeJudges : Type 0
+  FdeJudges = Judges i.target f State (fde_fault limit) (after initial) (begun initial begin) (FdeKept limit begin initial.cfa) (FdeBreaks limit begin initial.cfa)
 
-  pub found_at : (r : Refusal) (d : StopsAt (address_limit i.target.size) initial (placed f i).items (begun initial begin) r) → FdeFaultBehind f initial.cfa i begin (instrs_of d.before) r
-  unfolding limit
-  found_at r d =
-      let bytes = divided f d.before d.item d.after i h d.whole in
-      let kept = kept_before d.before d.rows bytes.front bytes.read d.gives in
-      let end = ends initial d.before (begun initial begin) in
-      let breaks = fault_breaks limit begin initial d.item.instr (onto [] (instrs_of d.before) (length (instrs_of d.before))) end.row end.stack end.location r.code kept.1 d.fault in (
-        kept.0,
-        inr (record {
-          front = bytes.front;
-          spelling = bytes.spelling;
-          rest = bytes.rest;
-          instr = d.item.instr;
-          whole = bytes.whole;
-          read = bytes.read;
-          next = bytes.next;
-          breaks = breaks_to limit begin initial.cfa (instrs_of d.before) d.item.instr r.code breaks;
-          place = d.place ∙ bytes.place;
-        }),
-      )
+  fde_judges : FdeJudges
+  fde_judges = record {
+    keeps = λ items front read.
+        let all = all_in_limit i.target f (instrs_of items) front read in
+        let stands = begun_stands limit begin initial listed le in (
+          λ run. fde_kept limit begin initial.cfa (instrs_of items) (kept_run limit begin initial items [] (begun initial begin) stands all run),
+          λ kept. kept_runs limit begin initial items [] (begun initial begin) stands all (kept_fde limit begin initial.cfa (instrs_of items) kept),
+        );
+    breaks = λ items front read run instr code.
+        let end = ends (after initial) items (begun initial begin) in
+        let stands = ended_stands limit begin initial items [] (begun initial begin) (begun_stands limit begin initial listed le) (all_in_limit i.target f (instrs_of items) front read) run in
+        fde_breaks limit begin initial (instrs_of items) instr end.row end.stack end.location code stands;
+  }
 
-  pub found_behind : (r : Refusal) → StopsBehind (address_limit i.target.size) initial (placed f i).items (placed f i).fault (begun initial begin) r → FdeFaultBehind f initial.cfa i begin (instrs_of (placed f i).items) r
-  unfolding limit
-  found_behind r d =
-      let instrs = instrs_of (placed f i).items in
-      let stuck = (fault_listed f i instrs r h).1 (fault_read f i r h d.is).1 in
-      ((kept_before (placed f i).items d.rows stuck.front stuck.read d.gives).0, inl stuck)
+  abbrev pub FdeStopped : Refusal → Type 0
+  FdeStopped r = Stops State (fde_fault limit) (after initial) (placed f i).items (placed f i).fault (begun initial begin) r
+
+  pub stops_of : (r : Refusal) (instrs : List Instr) → FdeFaultBehind f initial.cfa i begin instrs r → (d : FdeStopped r) × (instrs_of d.before ≡ instrs)
+  stops_of = stops_at f i h State (fde_fault limit) (after initial) (begun initial begin) (FdeKept limit begin initial.cfa) (FdeBreaks limit begin initial.cfa) fde_judges
 
   pub fde_fault_found : (r : Refusal) → (rows_behind f initial i begin).fault ≡ Some r → FdeFault f initial.cfa i begin r
-  unfolding rows_behind limit
-  fde_fault_found r e = elim (stops limit initial (placed f i).items (placed f i).fault (begun initial begin) r e) [
-    | inl d ↦ (instrs_of d.before, found_at r d)
-    | inr d ↦ (instrs_of (placed f i).items, found_behind r d)
-  ]
-
-  runs_before : (before : List Placed) (front : List ℕ) → Program i.target f (instrs_of before) front → FdeKept limit begin initial.cfa (instrs_of before) → (rows : List LocatedRow) × Gives limit initial before (begun initial begin) rows
-  unfolding limit
-  runs_before before front read kept =
-      kept_gives limit begin initial before [] (begun initial begin) (begun_stands limit begin initial listed le) (all_in_limit i.target f (instrs_of before) front read) (kept_fde limit begin initial.cfa (instrs_of before) kept)
-
-  abbrev pub Stopped : Refusal → Type 0
-  Stopped r = Stops (address_limit i.target.size) initial (placed f i).items (placed f i).fault (begun initial begin) r
-
-  -- the instructions behind which a run stops
-  abbrev pub stopped_behind : (r : Refusal) → Stopped r → List Instr
-  stopped_behind r (inl d) = instrs_of d.before
-  stopped_behind r (inr d) = instrs_of (placed f i).items
-
-  -- a run stops where the fault is
-  pub stops_of : (r : Refusal) (instrs : List Instr) → FdeFaultBehind f initial.cfa i begin instrs r → (d : Stopped r) × (stopped_behind r d ≡ instrs)
-  unfolding limit
-  stops_of r instrs (kept, inl stuck) =
-      let list = sym (same_listing f i) ∙ (fault_listed f i instrs r h).0 stuck in
-      let are : instrs_of (placed f i).items ≡ instrs = ap (λ (l : plain.Listing). l.items) list in
-      let fault : (placed f i).fault ≡ Some r = ap (λ (l : plain.Listing). l.fault) list in
-      let rows = runs_before (placed f i).items stuck.front (subst (λ (l : List Instr). Program i.target f l stuck.front) (sym are) stuck.read) (subst (FdeKept limit begin initial.cfa) (sym are) kept) in
-      (inr (record { rows = rows.0; gives = rows.1; is = fault }), are)
-  stops_of r instrs (kept, inr b) =
-      let j = joined f i instrs b.instr b.front b.spelling b.rest h b.whole b.read b.next in
-      let read = subst (λ (l : List Instr). Program i.target f l b.front) (sym j.are) b.read in
-      let rows = runs_before j.before b.front read (subst (FdeKept limit begin initial.cfa) (sym j.are) kept) in
-      let stands = (kept_before j.before rows.0 b.front read rows.1).1 in
-      let end = ends initial j.before (begun initial begin) in
-      let breaks = breaks_back limit begin initial.cfa (instrs_of j.before) b.instr r.code (subst (λ (l : List Instr). FdeBreaks limit begin initial.cfa l b.instr r.code) (sym j.are) b.breaks) in
-      let fault = breaks_fault limit begin initial b.instr (onto [] (instrs_of j.before) (length (instrs_of j.before))) end.row end.stack end.location r.code stands breaks in
-      (inl (record { before = j.before; item = record { at = i.at + length b.front; instr = b.instr }; after = j.after; rows = rows.0; whole = j.items; gives = rows.1; fault = fault; place = b.place }), j.are)
+  unfolding rows_behind
+  fde_fault_found r e =
+      fault_found f i h State (fde_fault limit) (after initial) (begun initial begin) (FdeKept limit begin initial.cfa) (FdeBreaks limit begin initial.cfa) fde_judges r
+      (sym (run_refusal limit initial (placed f i).items (placed f i).fault (begun initial begin)) ∙ e)
 
   pub fde_fault_only : (r : Refusal) → FdeFault f initial.cfa i begin r → (rows_behind f initial i begin).fault ≡ Some r
   unfolding rows_behind
-  fde_fault_only r (instrs, fault) = stopped (address_limit i.target.size) initial (placed f i).items (placed f i).fault (begun initial begin) r (stops_of r instrs fault).0
+  fde_fault_only r fault =
+      run_refusal limit initial (placed f i).items (placed f i).fault (begun initial begin)
+      ∙ fault_only f i h State (fde_fault limit) (after initial) (begun initial begin) (FdeKept limit begin initial.cfa) (FdeBreaks limit begin initial.cfa) fde_judges r fault
 
 -- ---- a CIE's program
 
-cie_broken : (i : Instr) (row : Rules) (code : Code) (b : Bool) → in_cie i ≡ b → cond b (half_fault i row.cfa) (Some NotInCie) ≡ Some code
-    → ((code ≡ NotInCie) × IsTrue (not (in_cie i))) ⊎ (IsTrue (in_cie i) × BreaksHalf row.cfa i code)
-cie_broken i row code true is e = inr (is, half_broken row.cfa i code e)
-cie_broken i row code false is e = inl (cc, ap not is)
-
-broken_cie : (i : Instr) (row : Rules) (code : Code) → ((code ≡ NotInCie) × IsTrue (not (in_cie i))) ⊎ (IsTrue (in_cie i) × BreaksHalf row.cfa i code) → cie_fault i row ≡ Some code
-broken_cie i row code (inl h) = by (in_cie i) refl
-  where
-    by : (b : Bool) → in_cie i ≡ b → cie_fault i row ≡ Some code
-    by true is = let no : not (in_cie i) ≡ true = h.1 in let other : not (in_cie i) ≡ false = ap not is in absurd cc
-    by false is = rw is (ap Some (sym h.0))
-broken_cie i row code (inr h) = let is : in_cie i ≡ true = h.0 in rw is (broken_half row.cfa i code h.1)
+cie_cfa : (items : List Placed) → AllRun cie_fault written items blank → (ends written items blank).cfa ≡ cfa_after cfa.Unset (instrs_of items) (length (instrs_of items))
+cie_cfa items run = (cie_follows items [] blank (begun_follows blank 0 tt) run).row.cfa
 
 module _ (f : Factors) (i : Input) (h : AreBytes i.bytes) where
-  begins : Follows blank 0 [] (begun blank 0)
-  begins = begun_follows blank 0 tt
-
-  -- what instructions that are run leave behind
-  cie_before : (before : List Placed) (end : Rules) → cie_run before None blank ≡ Ok end
-      → CieKept (instrs_of before) × (end.cfa ≡ initial_cfa (instrs_of before)) × Follows blank 0 (onto [] (instrs_of before) (length (instrs_of before))) (begun end 0)
-  unfolding begins
-  cie_before before end run =
-      let kept = cie_kept_from before None [] blank end begins run in
-      let follows = (cie_follows before None [] blank end begins run).0 in
-      (record { allowed = kept.allowed; halves = kept.halves }, follows.row.cfa, follows)
-
-  cie_found_at : (r : Refusal) → CieStopsAt (placed f i).items blank r → CieFault f i r
-  cie_found_at r d =
-      let bytes = divided f d.before d.item d.after i h d.whole in
-      let kept = cie_before d.before d.end d.run in
-      let instrs = instrs_of d.before in
-      let breaks : CieBreaks instrs d.item.instr r.code =
-      subst (λ (c : CfaRule). ((r.code ≡ NotInCie) × IsTrue (not (in_cie d.item.instr))) ⊎ (IsTrue (in_cie d.item.instr) × BreaksHalf c d.item.instr r.code)) kept.1
-      (cie_broken d.item.instr d.end r.code (in_cie d.item.instr) refl d.fault) in (
-        instrs,
-        kept.0,
-        inr (record {
-          front = bytes.front;
-          spelling = bytes.spelling;
-          rest = bytes.rest;
-          instr = d.item.instr;
-          whole = bytes.whole;
-          read = bytes.read;
-          next = bytes.next;
-          breaks = breaks;
-          place = d.place ∙ bytes.place;
-        }),
-      )
-
-  cie_found_behind : (r : Refusal) → CieStopsBehind (placed f i).items (placed f i).fault blank r → CieFault f i r
-  cie_found_behind r d =
-      let instrs = instrs_of (placed f i).items in
-      let stuck = (fault_listed f i instrs r h).1 (fault_read f i r h d.is).1 in
-      (instrs, (cie_before (placed f i).items d.end d.run).0, inl stuck)
+  cie_judges : Judges i.target f Rules cie_fault written blank CieKept CieBreaks
+  cie_judges = record {
+    keeps = λ items front read. (cie_kept items, λ kept. cie_runs items [] blank (begun_follows blank 0 tt) kept.allowed kept.halves);
+    breaks = λ items front read run instr code. cie_breaks (instrs_of items) instr (ends written items blank) code (cie_cfa items run);
+  }
 
   pub cie_fault_found : (r : Refusal) → initial_row (placed f i) blank ≡ Err r → CieFault f i r
-  cie_fault_found r e = elim (cie_stops (placed f i).items (placed f i).fault blank r e) [
-    | inl d ↦ cie_found_at r d
-    | inr d ↦ cie_found_behind r d
-  ]
-
-  cie_runs_before : (before : List Placed) → CieKept (instrs_of before) → (end : Rules) × (cie_run before None blank ≡ Ok end)
-  unfolding begins
-  cie_runs_before before kept = cie_kept_gives before [] blank begins (record { allowed = kept.allowed; halves = kept.halves })
+  cie_fault_found r e =
+      let there = fault_found f i h Rules cie_fault written blank CieKept CieBreaks cie_judges r (cie_refusal (placed f i).items (placed f i).fault blank r e) in
+      (there.0, there.1.0, there.1.1)
 
   pub cie_fault_only : (r : Refusal) → CieFault f i r → initial_row (placed f i) blank ≡ Err r
-  cie_fault_only r (instrs, kept, inl stuck) =
-      let list = sym (same_listing f i) ∙ (fault_listed f i instrs r h).0 stuck in
-      let are : instrs_of (placed f i).items ≡ instrs = ap (λ (l : plain.Listing). l.items) list in
-      let fault : (placed f i).fault ≡ Some r = ap (λ (l : plain.Listing). l.fault) list in
-      let end = cie_runs_before (placed f i).items (subst CieKept (sym are) kept) in
-      ap (λ (o : Option Refusal). cie_run (placed f i).items o blank) fault ∙ cie_refused_behind (placed f i).items blank end.0 r end.1
-  cie_fault_only r (instrs, kept, inr b) =
-      let j = joined f i instrs b.instr b.front b.spelling b.rest h b.whole b.read b.next in
-      let end = cie_runs_before j.before (subst CieKept (sym j.are) kept) in
-      let rule = (cie_before j.before end.0 end.1).1 in
-      let breaks = subst (λ (c : CfaRule). ((r.code ≡ NotInCie) × IsTrue (not (in_cie b.instr))) ⊎ (IsTrue (in_cie b.instr) × BreaksHalf c b.instr r.code)) (sym rule)
-      (subst (λ (l : List Instr). CieBreaks l b.instr r.code) (sym j.are) b.breaks) in
-      let fault = broken_cie b.instr end.0 r.code breaks in
-      ap (λ (l : List Placed). cie_run l (placed f i).fault blank) j.items
-      ∙ cie_refused_at_item j.before (record { at = i.at + length b.front; instr = b.instr }) j.after (placed f i).fault blank end.0 r end.1 fault b.place
+  cie_fault_only r (instrs, kept, there) =
+      cie_refused (placed f i).items (placed f i).fault blank r (fault_only f i h Rules cie_fault written blank CieKept CieBreaks cie_judges r (instrs, (kept, there)))
 
 -- ---- both
 
@@ -303,14 +249,15 @@ on_initial_fault (Err q) go r e = inl cc
 
 pub leaves : (f : Factors) (cie : Input) (initial : Rules) → AreBytes cie.bytes → initial_row (placed f cie) blank ≡ Ok initial → Leaves f cie (instrs_of (placed f cie).items) initial
 leaves f cie initial h e =
-    let from = cie_follows (placed f cie).items (placed f cie).fault [] blank initial (begun_follows blank 0 tt) e in
-    let kept = cie_kept_from (placed f cie).items (placed f cie).fault [] blank initial (begun_follows blank 0 tt) e in
+    let items = (placed f cie).items in
+    let ran = cie_ran items (placed f cie).fault blank initial e in
+    let follows = subst (λ (r : Rules). Follows blank 0 (onto [] (instrs_of items) (length (instrs_of items))) (begun r 0)) ran.2 (cie_follows items [] blank (begun_follows blank 0 tt) ran.0) in
     record {
-      program = placed_program f cie h from.1;
-      kept = record { allowed = kept.allowed; halves = kept.halves };
-      cfa = from.0.row.cfa;
-      rules = from.0.row.rules;
-      listed = from.0.row.listed;
+      program = placed_program f cie h ran.1;
+      kept = cie_kept items ran.0;
+      cfa = follows.row.cfa;
+      rules = follows.row.rules;
+      listed = follows.row.listed;
     }
 
 pub initial_leaves : InitialLeaves
@@ -319,9 +266,10 @@ initial_leaves f cie row h e = (instrs_of (placed f cie).items, leaves f cie row
 pub leaves_initial : LeavesInitial
 leaves_initial f cie instrs h program kept =
     let read = program_placed f cie instrs h program in
-    let end = cie_kept_gives (placed f cie).items [] blank (begun_follows blank 0 tt) (subst (CieKeptFrom []) (sym read.0) (record { allowed = kept.allowed; halves = kept.halves })) in
-    let run : initial_row (placed f cie) blank ≡ Ok end.0 = ap (λ (o : Option Refusal). cie_run (placed f cie).items o blank) read.1 ∙ end.1 in
-    (end.0, run, subst (λ (l : List Instr). Leaves f cie l end.0) read.0 (leaves f cie end.0 h run))
+    let items = (placed f cie).items in
+    let kept_read = subst CieKept (sym read.0) kept in
+    let run = cie_ends items (placed f cie).fault blank (cie_runs items [] blank (begun_follows blank 0 tt) kept_read.allowed kept_read.halves) read.1 in
+    (ends written items blank, run, subst (λ (l : List Instr). Leaves f cie l (ends written items blank)) read.0 (leaves f cie (ends written items blank) h run))
 
 pub initial_refused : InitialRefused
 initial_refused f cie r h = (cie_fault_found f cie h r, cie_fault_only f cie h r)

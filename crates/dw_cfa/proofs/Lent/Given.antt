@@ -3,7 +3,6 @@ use Rattle.std.proofs.Common.{◌≡◌, ℕ, suc, ◌≤◌, Bool, true, false,
 use Rattle.std.specs.Prelude.{if◌then◌else◌, OnOk}
 use Rattle.std.specs.List.{AllZip}
 use Rattle.std.proofs.lemmas.List.{append-nil}
-use Rattle.dw_num.specs.declared.refusal.Code.{Code}
 use Rattle.dw_num.specs.declared.refusal.Refusal.{Refusal}
 use Rattle.dw_num.specs.Target.{address_limit}
 use Rattle.dw_num.specs.Input.{Input, AreBytes}
@@ -18,7 +17,7 @@ use Rattle.dw_cfa.specs.Rows.{Rules, AreSpecified, blank}
 use Rattle.dw_cfa.specs.Runs.{Outcome}
 use Rattle.dw_cfa.specs.RowSteps.{Stepping, stepping}
 use Rattle.dw_cfa.specs.CieMachine.{Following, with_steps}
-use Rattle.dw_cfa.specs.Faults.{RunFault}
+use Rattle.dw_cfa.specs.Faults.{FdeFaultBehind, RunFault}
 use Rattle.dw_cfa.specs.Behind.{Leaves, LeavesTo, ends, IsRowAfter, GivesBehind, GivesBefore, GivesUpTo, RunsBehind}
 use Rattle.dw_cfa.specs.Gives.{Gives, RunsTo}
 use Rattle.dw_cfa.specs.RowLaws.{OneRun, RefusedWhereFault, RowsWhereKept, NoneFalls, LastHolds, OneInitial, OneBehind, BehindWhereFault}
@@ -27,13 +26,11 @@ use Rattle.dw_cfa.specs.Inner.Machine.{State, begun, after, fde_fault}
 use Rattle.dw_cfa.specs.Inner.Runs.{Placed, placed, row_if, on_initial, initial_row, run_rows, rows_behind, fde_rows}
 use Rattle.dw_cfa.specs.Inner.RowSteps.{gives}
 use Rattle.dw_cfa.proofs.Lent.Forward.{Follows, Holds, after_follows, begun_follows}
-use Rattle.dw_cfa.proofs.Lent.RowsAt.{instrs_of, Gives as RunGives}
-use Rattle.dw_cfa.proofs.Lent.KeptRuns.{next_gives}
-use Rattle.dw_cfa.proofs.Lent.KeptLaws.{rows_where_kept}
-use Rattle.dw_cfa.proofs.Stops.{ends as state_behind, StopsAt}
-use Rattle.dw_cfa.proofs.Lent.FaultLaws.{leaves, initial_leaves, leaves_initial, stopped_behind, Stopped, stops_of, fde_fault_found, fde_fault_only, cie_fault_found, cie_fault_only, run_refused, refused_run}
-use Rattle.dw_cfa.proofs.Lent.BehindLaws.{behind_gives, gives_behind, gives_rows}
-use Rattle.dw_cfa.proofs.Lent.RunLaws.{no_fault, program_placed, none_falls, last_holds}
+use Rattle.dw_cfa.proofs.Lent.RowsAt.{instrs_of}
+use Rattle.dw_cfa.proofs.Stops.{ends as state_behind, AllRun, RefusedNext, Stops}
+use Rattle.dw_cfa.proofs.Lent.FaultLaws.{leaves, initial_leaves, leaves_initial, stops_of, fde_fault_found, fde_fault_only, cie_fault_found, cie_fault_only, run_refused, refused_run}
+use Rattle.dw_cfa.proofs.Lent.BehindLaws.{behind_gives, gives_behind, gives_rows, last_holds, none_falls, rows_are, rows_where_kept, run_behind}
+use Rattle.dw_cfa.proofs.Lent.RunLaws.{program_placed}
 use Rattle.dw_cfa.proofs.Lent.SameRows.{same_rows}
 
 -- rows that end after so many instructions each
@@ -62,49 +59,40 @@ module _ (initial : Rules) (begin : ℕ) where
   row_if_from true i earlier instrs last s next h rest = (h.location, h.row, one_more i earlier instrs (ends last instrs) next.rows rest)
   row_if_from false i earlier instrs last s next h rest = one_more i earlier instrs (ends last instrs) next.rows rest
 
-  -- the rows behind the instructions before it are those that come behind them all
-  pub are_from : (limit : ℕ) (before tail : List Placed) (fault : Option Refusal) (earlier : List Instr) (s : State) (rows : List LocatedRow) (last : List ℕ) → Follows initial begin earlier s
-      → RunGives limit initial before s rows
-      → (Follows initial begin (onto earlier (instrs_of before) (length (instrs_of before))) (state_behind initial before s)
-      → AreFrom (onto earlier (instrs_of before) (length (instrs_of before))) [] last (fde_rows limit initial tail fault (state_behind initial before s)).rows)
+  -- the rows of instructions that are run, and those that come behind them all
+  are_from : (limit : ℕ) (before tail : List Placed) (fault : Option Refusal) (earlier : List Instr) (s : State) (last : List ℕ) → Follows initial begin earlier s
+      → AllRun (fde_fault limit) (after initial) before s
+      → (Follows initial begin (onto earlier (instrs_of before) (length (instrs_of before))) (state_behind (after initial) before s)
+      → AreFrom (onto earlier (instrs_of before) (length (instrs_of before))) [] last (fde_rows limit initial tail fault (state_behind (after initial) before s)).rows)
       → AreFrom earlier (instrs_of before) (ends last (instrs_of before)) (fde_rows limit initial (before ++ tail) fault s).rows
   unfolding fde_rows
-  are_from limit [] tail fault earlier s rows last h e end = end h
-  are_from limit (p ∷ before) tail fault earlier s rows last h e end =
-      let next = next_gives limit initial p before s rows e in
-      let on = after_follows initial begin p.instr earlier s limit h next.0 in
-      let rest = are_from limit before tail fault (p.instr ∷ earlier) (after initial p.instr s) next.1.0 last on next.1.1 end in
-      rw next.0 (row_if_from (moves_location p.instr) p.instr earlier (instrs_of before) last s (fde_rows limit initial (before ++ tail) fault (after initial p.instr s)) h rest)
+  are_from limit [] tail fault earlier s last h run end = end h
+  are_from limit (p ∷ before) tail fault earlier s last h run end =
+      let on = after_follows initial begin p.instr earlier s limit h run.0 in
+      let rest = are_from limit before tail fault (p.instr ∷ earlier) (after initial p.instr s) last on run.1 end in
+      rw run.0 (row_if_from (moves_location p.instr) p.instr earlier (instrs_of before) last s (fde_rows limit initial (before ++ tail) fault (after initial p.instr s)) h rest)
 
   -- those of a program that is run to its end
-  pub all_from : (limit : ℕ) (items : List Placed) (s : State) (rows : List LocatedRow) → Follows initial begin [] s → RunGives limit initial items s rows
-      → AreFrom [] (instrs_of items) (ends (0 ∷ []) (instrs_of items)) rows
+  all_from : (limit : ℕ) (items : List Placed) (s : State) → Follows initial begin [] s → AllRun (fde_fault limit) (after initial) items s
+      → AreFrom [] (instrs_of items) (ends (0 ∷ []) (instrs_of items)) (fde_rows limit initial items None s).rows
   unfolding fde_rows
-  all_from limit items s rows h e =
-      let whole = are_from limit items [] None [] s rows (0 ∷ []) h e (λ end. (end.location, end.row, tt)) in
-      let same : fde_rows limit initial (items ++ []) None s ≡ record { rows = rows; fault = None } = ap (λ (l : List Placed). fde_rows limit initial l None s) (append-nil items) ∙ e in
-      subst (AreFrom [] (instrs_of items) (ends (0 ∷ []) (instrs_of items))) (ap (λ (o : Outcome). o.rows) same) whole
+  all_from limit items s h run =
+      let whole = are_from limit items [] None [] s (0 ∷ []) h run (λ end. (end.location, end.row, tt)) in
+      subst (λ (l : List Placed). AreFrom [] (instrs_of items) (ends (0 ∷ []) (instrs_of items)) (fde_rows limit initial l None s).rows) (append-nil items) whole
 
-  -- those before an instruction that is refused
-  refused_at : (limit : ℕ) (item : Placed) (tail : List Placed) (fault : Option Refusal) (s : State) (code : Code) → fde_fault limit item.instr s ≡ Some code → (fde_rows limit initial (item ∷ tail) fault s).rows ≡ []
+  -- none comes where the next is refused
+  none_next : (limit : ℕ) (tail : List Placed) (fault : Option Refusal) (s : State) (r : Refusal) → RefusedNext (fde_fault limit) (after initial) tail fault s r → (fde_rows limit initial tail fault s).rows ≡ []
   unfolding fde_rows
-  refused_at limit item tail fault s code is = rw is refl
+  none_next limit [] fault s r h = rw h refl
+  none_next limit (item ∷ tail) fault s r h = rw h.0 refl
 
-  pub before_item : (limit : ℕ) (items : List Placed) (fault : Option Refusal) (s : State) (r : Refusal) (d : StopsAt limit initial items s r) → Follows initial begin [] s
+  before_stop : (limit : ℕ) (items : List Placed) (fault : Option Refusal) (s : State) (r : Refusal) (d : Stops State (fde_fault limit) (after initial) items fault s r) → Follows initial begin [] s
       → AreFrom [] (instrs_of d.before) (ends [] (instrs_of d.before)) (fde_rows limit initial items fault s).rows
-  before_item limit items fault s r d h =
-      let none = refused_at limit d.item d.after fault (state_behind initial d.before s) r.code d.fault in
+  before_stop limit items fault s r d h =
+      let none = none_next limit d.after fault (state_behind (after initial) d.before s) r d.refused in
       let earlier = onto [] (instrs_of d.before) (length (instrs_of d.before)) in
-      let found = are_from limit d.before (d.item ∷ d.after) fault [] s d.rows [] h d.gives (λ end. subst (AreFrom earlier [] []) (sym none) tt) in
+      let found = are_from limit d.before d.after fault [] s [] h d.run (λ end. subst (AreFrom earlier [] []) (sym none) tt) in
       subst (λ (l : List Placed). AreFrom [] (instrs_of d.before) (ends [] (instrs_of d.before)) (fde_rows limit initial l fault s).rows) (sym d.whole) found
-
-  -- and before what is no instruction
-  pub before_rest : (limit : ℕ) (items : List Placed) (r : Refusal) (s : State) (rows : List LocatedRow) → Follows initial begin [] s → RunGives limit initial items s rows
-      → AreFrom [] (instrs_of items) (ends [] (instrs_of items)) (fde_rows limit initial items (Some r) s).rows
-  unfolding fde_rows
-  before_rest limit items r s rows h e =
-      let found = are_from limit items [] (Some r) [] s rows [] h e (λ end. tt) in
-      subst (λ (l : List Placed). AreFrom [] (instrs_of items) (ends [] (instrs_of items)) (fde_rows limit initial l (Some r) s).rows) (append-nil items) found
 
 -- ---- an FDE's program
 
@@ -135,38 +123,31 @@ module _ (f : Factors) (initial : Rules) (fde : Input) (begin : ℕ) (fb : AreBy
   pub all_given : (rows : List LocatedRow) → rows_behind f initial fde begin ≡ record { rows = rows; fault = None } → GivesBehind f initial fde begin rows
   unfolding rows_behind
   all_given rows e =
-      let limit = address_limit fde.target.size in
       let items = (placed f fde).items in
-      let none = no_fault limit initial items (placed f fde).fault (begun initial begin) (ap (λ (o : Outcome). o.fault) e) in
-      let gives : RunGives limit initial items (begun initial begin) rows = subst (λ (o : Option Refusal). fde_rows limit initial items o (begun initial begin) ≡ record { rows = rows; fault = None }) none e in
-      let behind = gives_behind f initial fde begin rows fb listed le e in
+      let run = run_behind f initial fde begin rows e in
+      let behind = gives_behind f initial fde begin rows e fb listed le in
+      let from = all_from initial begin (address_limit fde.target.size) items (begun initial begin) (begun_follows initial begin listed) run.0 in
+      let are = ap (λ (o : Outcome). o.rows) (rows_are f initial fde begin rows e) in
       record {
         instrs = instrs_of items;
         program = behind.program;
         kept = behind.kept;
-        each = are_after initial begin (instrs_of items) (ends (0 ∷ []) (instrs_of items)) rows (all_from initial begin limit items (begun initial begin) rows (begun_follows initial begin listed) gives);
+        each = are_after initial begin (instrs_of items) (ends (0 ∷ []) (instrs_of items)) rows (subst (AreFrom initial begin [] (instrs_of items) (ends (0 ∷ []) (instrs_of items))) are from);
       }
 
   -- the rows before the run stops
-  rows_stopped : (r : Refusal) (d : Stopped f initial fde begin fb le listed r) → AreRowsAfter initial begin (stopped_behind f initial fde begin fb le listed r d) (ends [] (stopped_behind f initial fde begin fb le listed r d)) (rows_behind f initial fde begin).rows
+  rows_stopped : (r : Refusal) (instrs : List Instr) → FdeFaultBehind f initial.cfa fde begin instrs r → AreRowsAfter initial begin instrs (ends [] instrs) (rows_behind f initial fde begin).rows
   unfolding rows_behind
-  rows_stopped r (inl d) =
-      let limit = address_limit fde.target.size in
-      are_after initial begin (instrs_of d.before) (ends [] (instrs_of d.before)) (rows_behind f initial fde begin).rows
-      (before_item initial begin limit (placed f fde).items (placed f fde).fault (begun initial begin) r d (begun_follows initial begin listed))
-  rows_stopped r (inr d) =
-      let limit = address_limit fde.target.size in
-      let all = instrs_of (placed f fde).items in
-      let from = before_rest initial begin limit (placed f fde).items r (begun initial begin) d.rows (begun_follows initial begin listed) d.gives in
-      are_after initial begin all (ends [] all) (rows_behind f initial fde begin).rows
-      (subst (λ (o : Option Refusal). AreFrom initial begin [] all (ends [] all) (fde_rows limit initial (placed f fde).items o (begun initial begin)).rows) (sym d.is) from)
+  rows_stopped r instrs fault =
+      let o = fde_rows (address_limit fde.target.size) initial (placed f fde).items (placed f fde).fault (begun initial begin) in
+      let d = stops_of f initial fde begin fb le listed r instrs fault in
+      let from = before_stop initial begin (address_limit fde.target.size) (placed f fde).items (placed f fde).fault (begun initial begin) r d.0 (begun_follows initial begin listed) in
+      are_after initial begin instrs (ends [] instrs) o.rows (subst (λ (l : List Instr). AreFrom initial begin [] l (ends [] l) o.rows) d.1 from)
 
   before_given : (r : Refusal) (rows : List LocatedRow) → rows_behind f initial fde begin ≡ record { rows = rows; fault = Some r } → GivesBefore f initial fde begin r rows
   before_given r rows e =
       let found = fde_fault_found f initial fde begin fb le listed r (ap (λ (o : Outcome). o.fault) e) in
-      let d = stops_of f initial fde begin fb le listed r found.0 found.1 in
-      let each = subst (λ (l : List Instr). AreRowsAfter initial begin l (ends [] l) (rows_behind f initial fde begin).rows) d.1 (rows_stopped r d.0) in
-      record { instrs = found.0; fault = found.1; each = subst (AreRowsAfter initial begin found.0 (ends [] found.0)) (ap (λ (o : Outcome). o.rows) e) each }
+      record { instrs = found.0; fault = found.1; each = subst (AreRowsAfter initial begin found.0 (ends [] found.0)) (ap (λ (o : Outcome). o.rows) e) (rows_stopped r found.0 found.1) }
 
   all_only : (rows : List LocatedRow) → GivesBehind f initial fde begin rows → rows_behind f initial fde begin ≡ record { rows = rows; fault = None }
   all_only rows g =
@@ -179,9 +160,7 @@ module _ (f : Factors) (initial : Rules) (fde : Input) (begin : ℕ) (fb : AreBy
 
   before_only : (r : Refusal) (rows : List LocatedRow) → GivesBefore f initial fde begin r rows → rows_behind f initial fde begin ≡ record { rows = rows; fault = Some r }
   before_only r rows g =
-      let d = stops_of f initial fde begin fb le listed r g.instrs g.fault in
-      let each = subst (λ (l : List Instr). AreRowsAfter initial begin l (ends [] l) (rows_behind f initial fde begin).rows) d.1 (rows_stopped r d.0) in
-      let same = same_after initial begin g.instrs (ends [] g.instrs) (rows_behind f initial fde begin).rows rows each g.each in
+      let same = same_after initial begin g.instrs (ends [] g.instrs) (rows_behind f initial fde begin).rows rows (rows_stopped r g.instrs g.fault) g.each in
       one_outcome (rows_behind f initial fde begin) rows (Some r) same (fde_fault_only f initial fde begin fb le listed r (g.instrs, g.fault))
 
   up_to_given : (fault : Option Refusal) (rows : List LocatedRow) → rows_behind f initial fde begin ≡ record { rows = rows; fault = fault } → GivesUpTo f initial fde begin fault rows

@@ -1,23 +1,24 @@
 -- Programs that keep their rules are run to their end, and others are not.
-use Rattle.std.proofs.Common.{◌≡◌, ℕ, zero, suc, ◌+◌, ◌<◌, ◌≤◌, Bool, true, false, cond, List, [], ◌∷◌, length, Some, None, refl, sym, subst, inl, inr, arith}
+use Rattle.std.proofs.Common.{◌≡◌, ℕ, zero, suc, ◌+◌, ◌<◌, ◌≤◌, Bool, true, false, cond, List, [], ◌∷◌, length, Some, None, refl, sym, subst, arith}
 use Rattle.std.specs.Prelude.{IsTrue, slice_get, nat_lt}
 use Rattle.std.proofs.lemmas.List.Sums.{sum_by-cons}
-use Rattle.std.proofs.lemmas.Bool.{cases_Bool, lt-ltb, le-ltb, ltb-true, ltb-false}
+use Rattle.std.proofs.lemmas.Bool.{lt-ltb, le-ltb, ltb-true, ltb-false}
 use Rattle.dw_num.specs.declared.refusal.Code.TheVariants.{LocationTooLarge, StateStackFull, CfaNotRegister}
 use Rattle.dw_cfa.specs.declared.instr.Instr.{Instr}
 use Rattle.dw_cfa.specs.declared.instr.Instr.TheVariants.{SetLoc, Advance, DefCfaRegister, DefCfaOffset, RememberState, RestoreState}
 use Rattle.dw_cfa.specs.declared.rule.CfaRule.{CfaRule}
 use Rattle.dw_cfa.specs.declared.rule.CfaRule.TheVariants as cfa
 use Rattle.dw_cfa.specs.declared.execution.LocatedRow.{LocatedRow}
-use Rattle.dw_cfa.specs.Location.{onto, location_back, moves_location}
+use Rattle.dw_cfa.specs.Location.{onto, location_back}
 use Rattle.dw_cfa.specs.Column.{look_back, cfa_change}
 use Rattle.dw_cfa.specs.Kept.{is_remember, is_restore, keeps_half, IsRegisterRule, remembered, restored}
 use Rattle.dw_cfa.specs.Rows.{Rules}
 use Rattle.dw_cfa.specs.Inner.Machine.{State, after, half_fault, fde_fault}
 use Rattle.dw_cfa.specs.Inner.Steps.{InLimit}
-use Rattle.dw_cfa.specs.Inner.Runs.{Placed, fde_rows, here}
+use Rattle.dw_cfa.specs.Inner.Runs.{Placed}
 use Rattle.dw_cfa.proofs.Lent.Forward.{Follows, after_follows}
-use Rattle.dw_cfa.proofs.Lent.RowsAt.{instrs_of, Gives, gives_first, forwards, stays, row_if_moves, row_if_stays}
+use Rattle.dw_cfa.proofs.Lent.RowsAt.{instrs_of, Gives, gives_run, forwards, stays}
+use Rattle.dw_cfa.proofs.Stops.{AllRun, ends}
 
 -- what a state has to do with the instructions that led to it
 pub record Stands (limit begin : ℕ) (initial : Rules) (earlier : List Instr) (s : State) : Type 0 where
@@ -92,19 +93,7 @@ halves_kept limit (DefCfaRegister r) s e keeps = half_kept (DefCfaRegister r) s.
 halves_kept limit (DefCfaOffset n) s e keeps = half_kept (DefCfaOffset n) s.row.cfa e keeps
 halves_kept limit i s e keeps = absurd cc
 
--- ---- a run that gives rows keeps the rules
-
--- where no fault stands against an instruction, the rest of the run gives rows
-pub next_gives : (limit : ℕ) (initial : Rules) (item : Placed) (items : List Placed) (s : State) (rows : List LocatedRow) → Gives limit initial (item ∷ items) s rows
-    → (fde_fault limit item.instr s ≡ None) × ((rest : List LocatedRow) × Gives limit initial items (after initial item.instr s) rest)
-next_gives limit initial item items s rows e =
-    let first = gives_first limit initial item items s rows e in (
-      first.0,
-      elim (cases_Bool (moves_location item.instr)) [
-        | inl moves ↦ let rest = row_if_moves (moves_location item.instr) s (fde_rows limit initial items None (after initial item.instr s)) rows moves first.1 in (rest.0, rest.1)
-        | inr same ↦ (rows, row_if_stays (moves_location item.instr) s (fde_rows limit initial items None (after initial item.instr s)) (record { rows = rows; fault = None }) same first.1)
-      ],
-    )
+-- ---- a program that is run keeps the rules
 
 -- what holds of no instructions
 nothing_kept : (limit begin : ℕ) (initial : Rules) (earlier : List Instr) (s : State) → Stands limit begin initial earlier s → KeptFrom limit begin initial.cfa earlier []
@@ -156,29 +145,33 @@ one_kept limit begin initial i earlier instrs s h e next rest = record {
     rooms zero le = let b = h.balance in let r = h.room in omega arith
     rooms (suc k) le = rest.room k (omega arith)
 
+pub kept_run : (limit begin : ℕ) (initial : Rules) (items : List Placed) (earlier : List Instr) (s : State) → Stands limit begin initial earlier s
+    → AllInLimit limit (instrs_of items) → AllRun (fde_fault limit) (after initial) items s → KeptFrom limit begin initial.cfa earlier (instrs_of items)
+kept_run limit begin initial [] earlier s h all run = nothing_kept limit begin initial earlier s h
+kept_run limit begin initial (item ∷ items) earlier s h all run =
+    let stands = stands_after limit begin initial item.instr earlier s h all.0 run.0 in
+    one_kept limit begin initial item.instr earlier (instrs_of items) s h run.0 stands.follows (kept_run limit begin initial items (item.instr ∷ earlier) (after initial item.instr s) stands all.1 run.1)
+
 pub kept_from : (limit begin : ℕ) (initial : Rules) (items : List Placed) (earlier : List Instr) (s : State) (rows : List LocatedRow) → Stands limit begin initial earlier s
     → AllInLimit limit (instrs_of items) → Gives limit initial items s rows → KeptFrom limit begin initial.cfa earlier (instrs_of items)
-kept_from limit begin initial [] earlier s rows h all e = nothing_kept limit begin initial earlier s h
-kept_from limit begin initial (item ∷ items) earlier s rows h all e =
-    let next = next_gives limit initial item items s rows e in
-    let stands = stands_after limit begin initial item.instr earlier s h all.0 next.0 in
-    one_kept limit begin initial item.instr earlier (instrs_of items) s h next.0 stands.follows
-    (kept_from limit begin initial items (item.instr ∷ earlier) (after initial item.instr s) next.1.0 stands all.1 next.1.1)
+kept_from limit begin initial items earlier s rows h all e = kept_run limit begin initial items earlier s h all (gives_run limit initial items s rows e)
 
--- ---- and a program that keeps the rules gives rows
+-- the state behind all of them
+pub ended_stands : (limit begin : ℕ) (initial : Rules) (items : List Placed) (earlier : List Instr) (s : State) → Stands limit begin initial earlier s → AllInLimit limit (instrs_of items)
+    → AllRun (fde_fault limit) (after initial) items s → Stands limit begin initial (onto earlier (instrs_of items) (length (instrs_of items))) (ends (after initial) items s)
+ended_stands limit begin initial [] earlier s h all run = h
+ended_stands limit begin initial (item ∷ items) earlier s h all run =
+    ended_stands limit begin initial items (item.instr ∷ earlier) (after initial item.instr s) (stands_after limit begin initial item.instr earlier s h all.0 run.0) all.1 run.1
+
+-- ---- and a program that keeps the rules is run
+
+not_kept : (i : Instr) (c : CfaRule) (b : Bool) → keeps_half i ≡ b → (IsRegisterRule c → ⊥) → (IsTrue (keeps_half i) → IsRegisterRule c) → cond b (Some CfaNotRegister) None ≡ None
+not_kept i c true e never h = absurd (never (h e))
+not_kept i c false e never h = refl
 
 pub keeps_fault : (i : Instr) (c : CfaRule) → (IsTrue (keeps_half i) → IsRegisterRule c) → half_fault i c ≡ None
 keeps_fault i (cfa.Register r n) h = refl
-keeps_fault i cfa.Unset h = none (keeps_half i) refl h
-  where
-    none : (b : Bool) → keeps_half i ≡ b → (IsTrue (keeps_half i) → IsRegisterRule cfa.Unset) → cond b (Some CfaNotRegister) None ≡ None
-    none true e h = let r = h e in let x : cfa.Unset ≡ cfa.Register r.0 r.1 = r.2 in absurd cc
-    none false e h = refl
-keeps_fault i (cfa.Expression y) h = none (keeps_half i) refl h
-  where
-    none : (b : Bool) → keeps_half i ≡ b → (IsTrue (keeps_half i) → IsRegisterRule (cfa.Expression y)) → cond b (Some CfaNotRegister) None ≡ None
-    none true e h = let r = h e in let x : cfa.Expression y ≡ cfa.Register r.0 r.1 = r.2 in absurd cc
-    none false e h = refl
+keeps_fault i c h = not_kept i c (keeps_half i) refl (λ is. let same : c ≡ cfa.Register is.0 is.1 = is.2 in absurd cc) h
 
 -- no fault stands against the first instruction of a program that keeps the rules
 no_fault_first : (limit begin : ℕ) (initial : Rules) (i : Instr) (earlier instrs : List Instr) (row : Rules) (stack : List Rules) (location : ℕ)
@@ -213,21 +206,10 @@ rest_kept limit begin initial i earlier instrs h = record {
   room = λ k le. h.room (suc k) (omega arith);
 }
 
-pub put_first : (limit : ℕ) (initial : Rules) (item : Placed) (items : List Placed) (s : State) (rest : List LocatedRow) → fde_fault limit item.instr s ≡ None
-    → Gives limit initial items (after initial item.instr s) rest → (rows : List LocatedRow) × Gives limit initial (item ∷ items) s rows
-unfolding fde_rows
-put_first limit initial item items s rest none e = put (moves_location item.instr) refl
-  where
-    put : (b : Bool) → moves_location item.instr ≡ b → (rows : List LocatedRow) × Gives limit initial (item ∷ items) s rows
-    put true is = (here s ∷ rest, rw (none, is, e) refl)
-    put false is = (rest, rw (none, is) e)
-
-pub kept_gives : (limit begin : ℕ) (initial : Rules) (items : List Placed) (earlier : List Instr) (s : State) → Stands limit begin initial earlier s
-    → AllInLimit limit (instrs_of items) → KeptFrom limit begin initial.cfa earlier (instrs_of items) → (rows : List LocatedRow) × Gives limit initial items s rows
-unfolding fde_rows
-kept_gives limit begin initial [] earlier s h all k = (here s ∷ [], refl)
-kept_gives limit begin initial (item ∷ items) earlier s h all k =
+pub kept_runs : (limit begin : ℕ) (initial : Rules) (items : List Placed) (earlier : List Instr) (s : State) → Stands limit begin initial earlier s
+    → AllInLimit limit (instrs_of items) → KeptFrom limit begin initial.cfa earlier (instrs_of items) → AllRun (fde_fault limit) (after initial) items s
+kept_runs limit begin initial [] earlier s h all k = tt
+kept_runs limit begin initial (item ∷ items) earlier s h all k =
     let none = no_fault_first limit begin initial item.instr earlier (instrs_of items) s.row s.stack s.location h k in
     let stands = stands_after limit begin initial item.instr earlier s h all.0 none in
-    let rest = kept_gives limit begin initial items (item.instr ∷ earlier) (after initial item.instr s) stands all.1 (rest_kept limit begin initial.cfa item.instr earlier (instrs_of items) k) in
-    put_first limit initial item items s rest.0 none rest.1
+    (none, kept_runs limit begin initial items (item.instr ∷ earlier) (after initial item.instr s) stands all.1 (rest_kept limit begin initial.cfa item.instr earlier (instrs_of items) k))

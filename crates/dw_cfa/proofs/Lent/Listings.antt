@@ -5,25 +5,23 @@ use Rattle.std.proofs.lemmas.List.{length-append, append-nil, get_or-append-add}
 use Rattle.dw_num.specs.declared.refusal.Refusal.{Refusal}
 use Rattle.dw_num.specs.declared.target.Target.{Target}
 use Rattle.dw_num.specs.Input.{Input, AreBytes, Takes}
-use Rattle.dw_num.specs.Front.{Read, fixed_at}
+use Rattle.dw_num.specs.Front.{Read}
 use Rattle.dw_num.proofs.Lent.LebLaws.{done}
 use Rattle.dw_num.proofs.Lent.FixedLaws.{taken_bytes}
 use Rattle.dw_num.proofs.Lent.Stays.{Stays}
 use Rattle.dw_cfa.specs.declared.instr.Factors.{Factors}
 use Rattle.dw_cfa.specs.declared.instr.Instr.{Instr}
-use Rattle.dw_cfa.specs.InstrSpells.{InstrSpells, Program}
+use Rattle.dw_cfa.specs.InstrSpells.{Program}
 use Rattle.dw_cfa.specs.Inner.FrontInstr.{instr_at}
 use Rattle.dw_cfa.specs.Listing.{Listing, complete, faulty, ProgramFault}
 use Rattle.dw_cfa.specs.Inner.Listing.{listing, left_of}
-use Rattle.dw_op.specs.Inner.Walks.{ended, put, on_read, on_left, walked_by}
+use Rattle.dw_op.specs.Inner.Walks.{ended, put}
 use Rattle.dw_cfa.proofs.Lent.InstrLaws.{instr_found}
 use Rattle.dw_cfa.proofs.InstrAgain.{instr_again}
 use Rattle.dw_cfa.proofs.InstrPlaces.{instr_stays}
+use Rattle.dw_cfa.proofs.Placings.{reads, walked_end, walked_step, walked_stuck}
+pub use Rattle.dw_cfa.proofs.Placings.{some_spelled}
 use Rattle.dw_cfa.proofs.Stuck.{stuck_fault, fault_stuck}
-
--- in at most n steps
-abbrev pub listing_by : Factors → ℕ → Input → Listing
-listing_by f n i = walked_by (instr_at f) (λ at instr. instr) n i
 
 abbrev input : ℕ → List ℕ → Target → Input
 input at bytes t = record { at = at; bytes = bytes; target = t }
@@ -36,63 +34,17 @@ nothing : (l : List ℕ) → length l ≤ 0 → l ≡ []
 nothing [] le = refl
 nothing (x ∷ l) le = absurd (omega arith)
 
--- ---- one instruction further
-
--- an instruction has some bytes
-pub some_spelled : (t : Target) (f : Factors) (instr : Instr) (b : List ℕ) → InstrSpells t f instr b → 0 < length b
-unfolding instr_at fixed_at
-some_spelled t f instr [] h = let e = instr_again t f instr [] h 0 [] in absurd cc
-some_spelled t f instr (x ∷ b) h = omega arith
-
-pub instr_shorter : (f : Factors) (i : Input) (x : Instr × Input) → AreBytes i.bytes → instr_at f i ≡ done x → length x.1.bytes < length i.bytes
-instr_shorter f i x h e =
-    let found = instr_found f i x.1 x.0 h e in
-    let len : length i.bytes ≡ length found.0 + length x.1.bytes = ap length found.2.bytes ∙ length-append found.0 x.1.bytes in
-    omega (arith, some_spelled i.target f x.0 found.0 found.1)
-
-pub instr_bytes : (f : Factors) (i : Input) (x : Instr × Input) → AreBytes i.bytes → instr_at f i ≡ done x → AreBytes x.1.bytes
-instr_bytes f i x h e = let found = instr_found f i x.1 x.0 h e in taken_bytes i x.1 found.0 found.2 h
-
-same_read : (read : Read Instr) (stuck : Refusal → Listing) (go on : Instr × Input → Listing) → ((x : Instr × Input) → read ≡ done x → go x ≡ on x) → on_read read stuck go ≡ on_read read stuck on
-same_read (Ok x) stuck go on h = h x refl
-same_read (Err e) stuck go on h = refl
-
--- enough steps are as good as more
-enough : (f : Factors) (n m : ℕ) (i : Input) → length i.bytes ≤ n → length i.bytes ≤ m → AreBytes i.bytes → listing_by f n i ≡ listing_by f m i
-unfolding walked_by
-enough f zero zero i le ge h = refl
-enough f zero (suc m) i le ge h = rw (nothing i.bytes le) refl
-enough f (suc n) zero i le ge h = rw (nothing i.bytes ge) refl
-enough f (suc n) (suc m) i le ge h =
-    ap (λ (l : Listing). on_left i.bytes l) (same_read (instr_at f i) (λ e. ended (Some e)) (λ x. put x.0 (listing_by f n x.1)) (λ x. put x.0 (listing_by f m x.1)) (λ x e.
-    let shorter = instr_shorter f i x h e in
-    ap (λ (l : Listing). put x.0 l) (enough f n m x.1 (omega arith) (omega arith) (instr_bytes f i x h e))))
-
 pub listing_end : (f : Factors) (i : Input) → length i.bytes ≡ 0 → listing f i ≡ ended None
-unfolding listing walked_by
-listing_end f i e = rw e refl
+unfolding listing
+listing_end f i e = walked_end Instr (λ at instr. instr) f i e
 
 pub listing_stuck : (f : Factors) (i : Input) (r : Refusal) → 0 < length i.bytes → instr_at f i ≡ Err r → listing f i ≡ ended (Some r)
-unfolding listing walked_by
-listing_stuck f i r some e = go (length i.bytes) i.bytes refl some
-  where
-    go : (n : ℕ) (bytes : List ℕ) → i.bytes ≡ bytes → 0 < n → listing_by f n i ≡ ended (Some r)
-    go zero bytes is lt = absurd (omega arith)
-    go (suc n) [] is lt = absurd (omega (arith, ap length is, some))
-    go (suc n) (b ∷ bytes) is lt = rw (e, is) refl
+unfolding listing
+listing_stuck f i r some e = walked_stuck Instr (λ at instr. instr) f i r some e
 
 pub listing_step : (f : Factors) (i : Input) (x : Instr × Input) → AreBytes i.bytes → instr_at f i ≡ done x → listing f i ≡ put x.0 (listing f x.1)
-unfolding listing walked_by
-listing_step f i x h e = go (length i.bytes) i.bytes refl refl
-  where
-    shorter : length x.1.bytes < length i.bytes
-    shorter = instr_shorter f i x h e
-
-    go : (n : ℕ) (bytes : List ℕ) → length i.bytes ≡ n → i.bytes ≡ bytes → listing_by f n i ≡ put x.0 (listing_by f (length x.1.bytes) x.1)
-    go zero bytes n-is is = absurd (omega (arith, shorter))
-    go (suc n) [] n-is is = absurd (omega (arith, ap length is))
-    go (suc n) (b ∷ bytes) n-is is =
-        rw (e, is) (ap (λ (l : Listing). put x.0 l) (enough f n (length x.1.bytes) x.1 (omega (arith, shorter)) (omega arith) (instr_bytes f i x h e)))
+unfolding listing
+listing_step f i x h e = let so = reads f i x h e in walked_step Instr (λ at instr. instr) f i x h (omega (arith, so.shorter)) e
 
 -- ---- what is listed is spelled, and what follows it has this fault
 
@@ -148,7 +100,7 @@ listed_bytes f i (b ∷ bytes) h is more = listed_more f i (instr_at f i) h refl
 
 listed_by : (f : Factors) (n : ℕ) (i : Input) → length i.bytes ≤ n → AreBytes i.bytes → Lists f i (listing f i)
 listed_by f zero i le h = subst (λ (l : Listing). Lists f i l) (sym (listing_end f i (omega arith))) (lists_none f i (nothing i.bytes le))
-listed_by f (suc n) i le h = listed_bytes f i i.bytes h refl (λ x e. listed_by f n x.1 (omega (arith, instr_shorter f i x h e)) (instr_bytes f i x h e))
+listed_by f (suc n) i le h = listed_bytes f i i.bytes h refl (λ x e. listed_by f n x.1 (omega (arith, (reads f i x h e).shorter)) (reads f i x h e).bytes)
 
 -- ---- what is spelled is listed
 
@@ -166,7 +118,7 @@ one_listing f t (instr ∷ instrs) o at front rest h p e =
     let place : at + length front ≡ (at + length p.front) + length p.back = omega (arith, ap length p.whole, length-append p.front p.back) in
     let behind : Ends f (input ((at + length p.front) + length p.back) rest t) o = subst (λ (n : ℕ). Ends f (input n rest t) o) place e in
     listing_step f here (instr, next) h read
-    ∙ ap (λ (l : Listing). put instr l) (one_listing f t instrs o (at + length p.front) p.back rest (instr_bytes f here (instr, next) h read) p.second behind)
+    ∙ ap (λ (l : Listing). put instr l) (one_listing f t instrs o (at + length p.front) p.back rest (reads f here (instr, next) h read).bytes p.second behind)
 
 -- ---- both ways
 

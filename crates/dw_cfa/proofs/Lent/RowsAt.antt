@@ -1,6 +1,6 @@
--- Of the rows that a run gives, the last one that starts at or below an address holds the rules at that address.
+-- The rows of a run: where they start, and that the last one that starts at or below an address holds the rules at that address.
 use Rattle.std.proofs.Common.{◌≡◌, ℕ, zero, suc, ◌<◌, ◌≤◌, Bool, true, false, cond, List, [], ◌∷◌, Option, Some, None, refl, sym, ap, ◌∙◌, subst, inl, inr, arith}
-use Rattle.std.proofs.lemmas.Bool.{cases_lt, cases_Bool, le-leb, ltb-false}
+use Rattle.std.proofs.lemmas.Bool.{cases_lt, le-leb, ltb-false}
 use Rattle.std.proofs.lemmas.Bool.Decides.{leb_tells}
 use Rattle.std.specs.Prelude.{nat_le, nat_lt, map}
 use Rattle.dw_num.specs.declared.refusal.Code.{Code}
@@ -12,31 +12,15 @@ use Rattle.dw_cfa.specs.declared.execution.LocatedRow.{LocatedRow}
 use Rattle.dw_cfa.specs.Location.{onto, location_back, moves_location}
 use Rattle.dw_cfa.specs.Rows.{Rules}
 use Rattle.dw_cfa.specs.Inner.Machine.{State, after, popped, fde_fault}
-use Rattle.dw_cfa.specs.Inner.Runs.{Placed, here, row_if, fault_or, last_row, fde_rows}
-use Rattle.dw_cfa.specs.Runs.{Outcome, finished}
+use Rattle.dw_cfa.specs.Inner.Runs.{Placed, here, row_if, fault_or, fde_rows}
+use Rattle.dw_cfa.specs.Runs.{Outcome, finished, row_then}
 use Rattle.dw_cfa.specs.RuleAt.{last_at, NeverFalls}
 use Rattle.dw_cfa.specs.Inner.RuleAt.{CountsFrom}
 use Rattle.dw_cfa.proofs.Lent.Forward.{Follows, Holds, after_follows}
+use Rattle.dw_cfa.proofs.Stops.{AllRun, all_run, refusal_of, refusal_or}
 
 abbrev pub instrs_of : List Placed → List Instr
 instrs_of items = map (λ (p : Placed). p.instr) items
-
--- a run that gives rows and no refusal goes on behind the first instruction
-fault_or_none : (at : ℕ) (fault : Option Code) (next : Outcome) (rows : List LocatedRow) → fault_or at fault next ≡ record { rows = rows; fault = None } → (fault ≡ None) × (next ≡ record { rows = rows; fault = None })
-fault_or_none at None next rows e = (refl, e)
-fault_or_none at (Some code) next rows e = let none = ap (λ (o : Outcome). o.fault) e in absurd cc
-
-pub row_if_moves : (moves : Bool) (s : State) (next : Outcome) (rows : List LocatedRow) → moves ≡ true → row_if moves s next ≡ record { rows = rows; fault = None }
-    → (rest : List LocatedRow) × (next ≡ record { rows = rest; fault = None }) × (rows ≡ here s ∷ rest)
-row_if_moves true s next rows is e =
-    let all = ap (λ (o : Outcome). o.rows) e in
-    let none : next.fault ≡ None = ap (λ (o : Outcome). o.fault) e in
-    (next.rows, ap (λ (fault : Option Refusal). let o : Outcome = record { rows = next.rows; fault = fault } in o) none, sym all)
-row_if_moves false s next rows is e = absurd cc
-
-pub row_if_stays : (moves : Bool) (s : State) (next : Outcome) (o : Outcome) → moves ≡ false → row_if moves s next ≡ o → next ≡ o
-row_if_stays true s next o is e = absurd cc
-row_if_stays false s next o is e = e
 
 pub not_le : (m n : ℕ) → n < m → nat_le m n ≡ false
 not_le m n lt = elim (leb_tells m n) [ inl p ↦ absurd (omega arith) | inr p ↦ p.0 ]
@@ -66,34 +50,81 @@ stays initial RestoreState s e = same s.stack
     same (row ∷ stack) = refl
 stays initial i s e = refl
 
--- a run that gives rows and no refusal
+-- ---- a run with no fault
+
+fault_behind : (at : ℕ) (code : Option Code) (moves : Bool) (s : State) (next : Outcome) → (fault_or at code (row_if moves s next)).fault ≡ refusal_or at code next.fault
+fault_behind at (Some code) moves s next = refl
+fault_behind at None true s next = refl
+fault_behind at None false s next = refl
+
+pub run_refusal : (limit : ℕ) (initial : Rules) (items : List Placed) (fault : Option Refusal) (s : State)
+    → (fde_rows limit initial items fault s).fault ≡ refusal_of (fde_fault limit) (after initial) items fault s
+unfolding fde_rows
+run_refusal limit initial [] None s = refl
+run_refusal limit initial [] (Some r) s = refl
+run_refusal limit initial (item ∷ items) fault s =
+    let next = fde_rows limit initial items fault (after initial item.instr s) in
+    fault_behind item.at (fde_fault limit item.instr s) (moves_location item.instr) s next
+    ∙ ap (refusal_or item.at (fde_fault limit item.instr s)) (run_refusal limit initial items fault (after initial item.instr s))
+
+pub none_refused : (limit : ℕ) (initial : Rules) (items : List Placed) (fault : Option Refusal) (s : State) → (fde_rows limit initial items fault s).fault ≡ None
+    → AllRun (fde_fault limit) (after initial) items s × (fault ≡ None)
+none_refused limit initial items fault s e = all_run (fde_fault limit) (after initial) items fault s (sym (run_refusal limit initial items fault s) ∙ e)
+
 abbrev pub Gives : ℕ → Rules → List Placed → State → List LocatedRow → Type 0
 Gives limit initial items s rows = fde_rows limit initial items None s ≡ record { rows = rows; fault = None }
 
-module _ (limit : ℕ) (initial : Rules) (item : Placed) (items : List Placed) (s : State) (rows : List LocatedRow) where
-  pub gives_first : Gives limit initial (item ∷ items) s rows → (fde_fault limit item.instr s ≡ None)
-      × (row_if (moves_location item.instr) s (fde_rows limit initial items None (after initial item.instr s)) ≡ record { rows = rows; fault = None })
-  unfolding fde_rows
-  gives_first e = fault_or_none item.at (fde_fault limit item.instr s) _ rows e
+pub gives_run : (limit : ℕ) (initial : Rules) (items : List Placed) (s : State) (rows : List LocatedRow) → Gives limit initial items s rows → AllRun (fde_fault limit) (after initial) items s
+gives_run limit initial items s rows e = (none_refused limit initial items None s (ap (λ (o : Outcome). o.fault) e)).0
 
-pub gives_end : (limit : ℕ) (initial : Rules) (s : State) (rows : List LocatedRow) → Gives limit initial [] s rows → rows ≡ here s ∷ []
+-- ---- where rows start, also of a run that is refused
+
+pub record RowsFrom (low : ℕ) (o : Outcome) : Type 0 where
+  pub falls : NeverFalls low o.rows
+  pub first : (row : LocatedRow) (rest : List LocatedRow) → o.rows ≡ row ∷ rest → row.location ≡ low
+  pub some : o ≡ finished → ⊥
+
+lower : (low more : ℕ) (rows : List LocatedRow) → low ≤ more → NeverFalls more rows → NeverFalls low rows
+lower low more [] le h = tt
+lower low more (row ∷ rows) le h = (omega (arith, h.0), h.1)
+
+pub refused_from : (low : ℕ) (r : Refusal) → RowsFrom low (record { rows = []; fault = Some r })
+refused_from low r = record {
+  falls = tt;
+  first = λ row rest e. absurd cc;
+  some = λ e. let fault = ap (λ (o : Outcome). o.fault) e in absurd cc;
+}
+
+row_from : (row : LocatedRow) (next : Outcome) → NeverFalls row.location next.rows → RowsFrom row.location (row_then row next)
+row_from row next h = record {
+  falls = (omega arith, h);
+  first = λ other rest e. let same : row ≡ other = cc in sym (ap (λ (x : LocatedRow). x.location) same);
+  some = λ e. let rows = ap (λ (o : Outcome). o.rows) e in absurd cc;
+}
+
+on_fault : (at : ℕ) (code : Option Code) (next : Outcome) (low : ℕ) → (code ≡ None → RowsFrom low next) → RowsFrom low (fault_or at code next)
+on_fault at None next low f = f refl
+on_fault at (Some code) next low f = refused_from low (record { code = code; at = at })
+
+on_row : (moves : Bool) (s : State) (next : Outcome) → (moves ≡ true → NeverFalls s.location next.rows) → (moves ≡ false → RowsFrom s.location next) → RowsFrom s.location (row_if moves s next)
+on_row true s next f g = row_from (here s) next (f refl)
+on_row false s next f g = g refl
+
+pub rows_from : (limit : ℕ) (initial : Rules) (items : List Placed) (fault : Option Refusal) (s : State) → RowsFrom s.location (fde_rows limit initial items fault s)
 unfolding fde_rows
-gives_end limit initial s rows e = sym (ap (λ (o : Outcome). o.rows) e)
+rows_from limit initial [] None s = row_from (here s) finished tt
+rows_from limit initial [] (Some r) s = refused_from s.location r
+rows_from limit initial (item ∷ items) fault s =
+    let behind = after initial item.instr s in
+    let next = fde_rows limit initial items fault behind in
+    let rest = rows_from limit initial items fault behind in
+    on_fault item.at (fde_fault limit item.instr s) (row_if (moves_location item.instr) s next) s.location
+    (λ ok. on_row (moves_location item.instr) s next (λ moves. lower s.location behind.location next.rows (forwards limit initial item.instr s ok) rest.falls)
+    (λ stay. subst (λ (n : ℕ). RowsFrom n next) (stays initial item.instr s stay) rest))
 
--- locations of rows never fall
 pub never_falls : (limit : ℕ) (initial : Rules) (items : List Placed) (s : State) (rows : List LocatedRow) (low : ℕ) → low ≤ s.location → Gives limit initial items s rows → NeverFalls low rows
-never_falls limit initial [] s rows low le e = subst (NeverFalls low) (sym (gives_end limit initial s rows e)) (le, tt)
-never_falls limit initial (item ∷ items) s rows low le e =
-    let first = gives_first limit initial item items s rows e in
-    let on = forwards limit initial item.instr s first.0 in
-    elim (cases_Bool (moves_location item.instr)) [
-      | inl moves ↦
-          let rest = row_if_moves (moves_location item.instr) s (fde_rows limit initial items None (after initial item.instr s)) rows moves first.1 in
-          subst (NeverFalls low) (sym rest.2) (le, never_falls limit initial items (after initial item.instr s) rest.0 s.location on rest.1)
-      | inr same ↦
-          let next = row_if_stays (moves_location item.instr) s (fde_rows limit initial items None (after initial item.instr s)) (record { rows = rows; fault = None }) same first.1 in
-          never_falls limit initial items (after initial item.instr s) rows low (omega arith) next
-    ]
+never_falls limit initial items s rows low le e =
+    lower low s.location rows le (subst (λ (o : Outcome). NeverFalls s.location o.rows) e (rows_from limit initial items None s).falls)
 
 -- no row starts at or below a where the location has passed it
 pub none_at : (a : ℕ) (low : ℕ) (rows : List LocatedRow) → a < low → NeverFalls low rows → last_at a rows ≡ None
@@ -143,77 +174,40 @@ module _ (initial : Rules) (begin a : ℕ) where
   by_count i earlier instrs rows zero pos c go = absurd (omega arith)
   by_count i earlier instrs rows (suc m) pos c go = go m c
 
+  -- a row that ends there or not, before a's row or at it
+  row_later : (moves : Bool) (s : State) (next : Outcome) (row : Rules) → last_at a next.rows ≡ Some row → last_at a (row_if moves s next).rows ≡ Some row
+  row_later true s next row e = rw e refl
+  row_later false s next row e = e
+
+  row_here : (moves : Bool) (s : State) (next : Outcome) → (moves ≡ false → ⊥) → s.location ≤ a → last_at a next.rows ≡ None → last_at a (row_if moves s next).rows ≡ Some s.row
+  row_here true s next moved le none = rw (none, le-leb s.location a le) refl
+  row_here false s next moved le none = absurd (moved refl)
+
+  pub rows_run : (limit : ℕ) (items : List Placed) (earlier : List Instr) (s : State) (k : ℕ) → Follows initial begin earlier s → s.location ≤ a
+      → CountsFrom begin earlier (instrs_of items) a k → AllRun (fde_fault limit) (after initial) items s → RowAt earlier (instrs_of items) k (fde_rows limit initial items None s).rows
+  unfolding fde_rows
+  rows_run limit [] earlier s k follows le counts run =
+      let none : k ≡ 0 = let in_program = counts.in_program in omega arith in
+      subst (λ (n : ℕ). RowAt earlier [] n (here s ∷ [])) (sym none) (s.row, rw (le-leb s.location a le) refl, follows.row)
+  rows_run limit (item ∷ items) earlier s k follows le counts run =
+      let behind = after initial item.instr s in
+      let next = after_follows initial begin item.instr earlier s limit follows run.0 in
+      let rest = fde_rows limit initial items None behind in
+      let start : location_back begin earlier ≤ a = let at = follows.location in omega arith in
+      let there : behind.location ≡ location_back begin (item.instr ∷ earlier) = next.location in
+      rw run.0 (elim (cases_lt a behind.location) [
+        | inl past ↦
+            let none = none_at a behind.location rest.rows past (rows_from limit initial items None behind).falls in
+            let zero-is : k ≡ 0 = none_counts item.instr earlier (instrs_of items) k (omega arith) counts in
+            subst (λ (n : ℕ). RowAt earlier (instrs_of (item ∷ items)) n (row_if (moves_location item.instr) s rest).rows) (sym zero-is)
+            (s.row, row_here (moves_location item.instr) s rest (λ same. let put = stays initial item.instr s same in absurd (omega arith)) le none, follows.row)
+        | inr within ↦
+            let some = by_count item.instr earlier (instrs_of items) rest.rows k (first_counts item.instr earlier (instrs_of items) k start (omega arith) counts) counts
+            (λ m c. rows_run limit items (item.instr ∷ earlier) behind m next within (counts_rest item.instr earlier (instrs_of items) m start c) run.1) in
+            (some.0, row_later (moves_location item.instr) s rest some.0 some.1, some.2)
+      ])
+
   pub rows_at : (limit : ℕ) (items : List Placed) (earlier : List Instr) (s : State) (k : ℕ) (rows : List LocatedRow) → Follows initial begin earlier s → s.location ≤ a
       → CountsFrom begin earlier (instrs_of items) a k → Gives limit initial items s rows → RowAt earlier (instrs_of items) k rows
-  rows_at limit [] earlier s k rows follows le counts e =
-      let none : k ≡ 0 = let in_program = counts.in_program in omega arith in
-      subst (RowAt earlier [] k) (sym (gives_end limit initial s rows e))
-      (subst (λ (n : ℕ). RowAt earlier [] n (here s ∷ [])) (sym none) (s.row, rw (le-leb s.location a le) refl, follows.row))
-  rows_at limit (item ∷ items) earlier s k rows follows le counts e =
-      let first = gives_first limit initial item items s rows e in
-      let next = after_follows initial begin item.instr earlier s limit follows first.0 in
-      let start : location_back begin earlier ≤ a = subst (λ (n : ℕ). n ≤ a) follows.location le in
-      let there : (after initial item.instr s).location ≡ location_back begin (item.instr ∷ earlier) = next.location in
-      elim (cases_Bool (moves_location item.instr)) [
-        | inl moves ↦
-            let rest = row_if_moves (moves_location item.instr) s (fde_rows limit initial items None (after initial item.instr s)) rows moves first.1 in
-            elim (cases_lt a (after initial item.instr s).location) [
-              | inl past ↦
-                  let falls = never_falls limit initial items (after initial item.instr s) rest.0 (after initial item.instr s).location (omega arith) rest.1 in
-                  let none = none_at a (after initial item.instr s).location rest.0 past falls in
-                  let zero-is : k ≡ 0 = none_counts item.instr earlier (instrs_of items) k (omega arith) counts in
-                  subst (RowAt earlier (instrs_of (item ∷ items)) k) (sym rest.2)
-                  (subst (λ (n : ℕ). RowAt earlier (instrs_of (item ∷ items)) n (here s ∷ rest.0)) (sym zero-is)
-                  (s.row, rw (none, le-leb s.location a le) refl, follows.row))
-              | inr within ↦
-                  let some = by_count item.instr earlier (instrs_of items) rest.0 k (first_counts item.instr earlier (instrs_of items) k start (omega arith) counts) counts
-                  (λ m c. rows_at limit items (item.instr ∷ earlier) (after initial item.instr s) m rest.0 next within (counts_rest item.instr earlier (instrs_of items) m start c) rest.1) in
-                  subst (RowAt earlier (instrs_of (item ∷ items)) k) (sym rest.2) (some.0, rw some.1 refl, some.2)
-            ]
-        | inr same ↦
-            let put = stays initial item.instr s same in
-            let on = row_if_stays (moves_location item.instr) s (fde_rows limit initial items None (after initial item.instr s)) (record { rows = rows; fault = None }) same first.1 in
-            by_count item.instr earlier (instrs_of items) rows k (first_counts item.instr earlier (instrs_of items) k start (omega arith) counts) counts
-            (λ m c. rows_at limit items (item.instr ∷ earlier) (after initial item.instr s) m rows next (omega arith) (counts_rest item.instr earlier (instrs_of items) m start c) on)
-      ]
-
--- ---- where the first row starts
-
-fault_none : (at : ℕ) (code : Option Code) (next : Outcome) (row : LocatedRow) (rows : List LocatedRow) → (fault_or at code next).rows ≡ row ∷ rows → next.rows ≡ row ∷ rows
-fault_none at None next row rows e = e
-fault_none at (Some code) next row rows e = absurd cc
-
-last_starts : (fault : Option Refusal) (s : State) (row : LocatedRow) (rows : List LocatedRow) → (last_row fault s).rows ≡ row ∷ rows → row.location ≡ s.location
-last_starts None s row rows e = let same : here s ≡ row = cc in sym (ap (λ (r : LocatedRow). r.location) same)
-last_starts (Some r) s row rows e = absurd cc
-
-moves_starts : (moves : Bool) (s : State) (next : Outcome) (row : LocatedRow) (rows : List LocatedRow) → (row_if moves s next).rows ≡ row ∷ rows
-    → ((moves ≡ false) → next.rows ≡ row ∷ rows → row.location ≡ s.location) → row.location ≡ s.location
-moves_starts true s next row rows e rest = let same : here s ≡ row = cc in sym (ap (λ (r : LocatedRow). r.location) same)
-moves_starts false s next row rows e rest = rest refl e
-
-pub first_starts : (limit : ℕ) (initial : Rules) (items : List Placed) (fault : Option Refusal) (s : State) (row : LocatedRow) (rows : List LocatedRow) → (fde_rows limit initial items fault s).rows ≡ row ∷ rows → row.location ≡ s.location
-unfolding fde_rows
-first_starts limit initial [] fault s row rows e = last_starts fault s row rows e
-first_starts limit initial (item ∷ items) fault s row rows e =
-    let next = fde_rows limit initial items fault (after initial item.instr s) in
-    let some = fault_none item.at (fde_fault limit item.instr s) (row_if (moves_location item.instr) s next) row rows e in
-    moves_starts (moves_location item.instr) s next row rows some (λ still more.
-    first_starts limit initial items fault (after initial item.instr s) row rows more ∙ stays initial item.instr s still)
-
--- a run has a row to come, or a fault
-last_some : (fault : Option Refusal) (s : State) → last_row fault s ≡ finished → ⊥
-last_some None s e = let rows = ap (λ (o : Outcome). o.rows) e in absurd cc
-last_some (Some r) s e = let fault = ap (λ (o : Outcome). o.fault) e in absurd cc
-
-some_behind : (at : ℕ) (code : Option Code) (moves : Bool) (s : State) (next : Outcome) → (next ≡ finished → ⊥) → fault_or at code (row_if moves s next) ≡ finished → ⊥
-some_behind at None true s next some e = let rows = ap (λ (o : Outcome). o.rows) e in absurd cc
-some_behind at None false s next some e = some e
-some_behind at (Some code) moves s next some e = let fault = ap (λ (o : Outcome). o.fault) e in absurd cc
-
-pub some_left : (limit : ℕ) (initial : Rules) (items : List Placed) (fault : Option Refusal) (s : State) → fde_rows limit initial items fault s ≡ finished → ⊥
-unfolding fde_rows
-some_left limit initial [] fault s e = last_some fault s e
-some_left limit initial (item ∷ items) fault s e =
-    some_behind item.at (fde_fault limit item.instr s) (moves_location item.instr) s (fde_rows limit initial items fault (after initial item.instr s))
-    (some_left limit initial items fault (after initial item.instr s)) e
+  rows_at limit items earlier s k rows follows le counts e =
+      subst (λ (o : Outcome). RowAt earlier (instrs_of items) k o.rows) e (rows_run limit items earlier s k follows le counts (gives_run limit initial items s rows e))

@@ -1,5 +1,5 @@
 -- Rows with the same rule in every column are the same.
-use Rattle.std.proofs.Common.{◌≡◌, ℕ, suc, ◌<◌, true, false, List, [], ◌∷◌, refl, sym, ap, ◌∙◌, subst, inl, inr, arith}
+use Rattle.std.proofs.Common.{◌≡◌, ℕ, suc, ◌<◌, true, List, [], ◌∷◌, refl, sym, ap, ◌∙◌, subst, inl, inr, arith}
 use Rattle.std.specs.Prelude.{nat_eq}
 use Rattle.std.proofs.lemmas.Bool.{cases_lt}
 use Rattle.std.proofs.lemmas.Bool.Decides.{eqb_tells}
@@ -7,25 +7,15 @@ use Rattle.dw_cfa.specs.declared.rule.CfaRule.{CfaRule}
 use Rattle.dw_cfa.specs.declared.rule.RegRule.{RegRule}
 use Rattle.dw_cfa.specs.declared.rule.RegRule.TheVariants.{Unspecified}
 use Rattle.dw_cfa.specs.Rows.{Rules, AreSpecified, is_specified, rule_in, rule}
-
-abbrev Entry : Type 0
-Entry = ℕ × RegRule
+use Rattle.dw_cfa.proofs.Lent.RowLists.{Entry, unlisted}
 
 eq_here : (n : ℕ) → nat_eq n n ≡ true
 eq_here n = elim (eqb_tells n n) [ inl p ↦ p.0 | inr p ↦ absurd (p.1 refl) ]
 
-eq_not : (m n : ℕ) → m < n → nat_eq n m ≡ false
-eq_not m n lt = elim (eqb_tells n m) [ inl p ↦ absurd (omega (arith, p.1)) | inr p ↦ p.0 ]
-
--- a register below all that are listed has no rule
-none_below : (low r : ℕ) (xs : List Entry) → AreSpecified low xs → r < low → rule_in xs r ≡ Unspecified
-none_below low r [] h lt = refl
-none_below low r (x ∷ xs) h lt = rw (eq_not r x.0 (omega (arith, h.0))) (none_below (suc x.0) r xs h.2 (omega (arith, h.0)))
-
-first_rule : (x : Entry) (xs : List Entry) → rule_in (x ∷ xs) x.0 ≡ x.1
+pub first_rule : (x : Entry) (xs : List Entry) → rule_in (x ∷ xs) x.0 ≡ x.1
 first_rule x xs = rw (eq_here x.0) refl
 
-rest_rule : (x : Entry) (xs : List Entry) (r : ℕ) → (x.0 ≡ r → ⊥) → rule_in (x ∷ xs) r ≡ rule_in xs r
+pub rest_rule : (x : Entry) (xs : List Entry) (r : ℕ) → (x.0 ≡ r → ⊥) → rule_in (x ∷ xs) r ≡ rule_in xs r
 rest_rule x xs r other = elim (eqb_tells x.0 r) [ inl p ↦ absurd (other p.1) | inr p ↦ rw p.0 refl ]
 
 pub not_specified : (rule : RegRule) → is_specified rule ≡ true → rule ≡ Unspecified → ⊥
@@ -33,11 +23,11 @@ not_specified rule is e = let f = ap is_specified e in let g = sym is ∙ f in a
 
 -- a list that begins later lacks the first register of the other
 lacks_first : (x : Entry) (xs : List Entry) (low : ℕ) (ys : List Entry) → is_specified x.1 ≡ true → AreSpecified low ys → x.0 < low → rule_in (x ∷ xs) x.0 ≡ rule_in ys x.0 → ⊥
-lacks_first x xs low ys is h lt e = not_specified x.1 is (sym (first_rule x xs) ∙ e ∙ none_below low x.0 ys h lt)
+lacks_first x xs low ys is h lt e = not_specified x.1 is (sym (first_rule x xs) ∙ e ∙ unlisted x.0 low ys h lt)
 
 rest_same : (x y : Entry) (xs ys : List Entry) → AreSpecified (suc x.0) xs → AreSpecified (suc y.0) ys → x.0 ≡ y.0 → ((r : ℕ) → rule_in (x ∷ xs) r ≡ rule_in (y ∷ ys) r) → (r : ℕ) → rule_in xs r ≡ rule_in ys r
 rest_same x y xs ys h k same e r = elim (eqb_tells x.0 r) [
-  | inl p ↦ none_below (suc x.0) r xs h (omega (arith, p.1)) ∙ sym (none_below (suc y.0) r ys k (omega (arith, p.1, same)))
+  | inl p ↦ unlisted r (suc x.0) xs h (omega (arith, p.1)) ∙ sym (unlisted r (suc y.0) ys k (omega (arith, p.1, same)))
   | inr p ↦ sym (rest_rule x xs r p.1) ∙ e r ∙ rest_rule y ys r (λ q. p.1 (same ∙ q))
 ]
 
@@ -61,7 +51,9 @@ same_entries low (x ∷ xs) (y ∷ ys) h k e = elim (cases_lt x.0 y.0) [
   ]
 ]
 
-pub same_rows : (a b : Rules) → AreSpecified 0 a.registers → AreSpecified 0 b.registers → a.cfa ≡ b.cfa → ((r : ℕ) → rule a r ≡ rule b r) → a ≡ b
-same_rows a b h k cfa rules =
-    let registers = same_entries 0 a.registers b.registers h k rules in
+pub one_row : (a b : Rules) → a.cfa ≡ b.cfa → a.registers ≡ b.registers → a ≡ b
+one_row a b cfa registers =
     ap (λ (c : CfaRule). let row : Rules = record { cfa = c; registers = a.registers } in row) cfa ∙ ap (λ (l : List Entry). let row : Rules = record { cfa = b.cfa; registers = l } in row) registers
+
+pub same_rows : (a b : Rules) → AreSpecified 0 a.registers → AreSpecified 0 b.registers → a.cfa ≡ b.cfa → ((r : ℕ) → rule a r ≡ rule b r) → a ≡ b
+same_rows a b h k cfa rules = one_row a b cfa (same_entries 0 a.registers b.registers h k rules)

@@ -1,10 +1,8 @@
 -- Tests of the registers whose slots are used leave what tests of all do; and rows that differ at no register are the same.
-use Rattle.std.proofs.Common.{◌≡◌, ℕ, ◌+◌, ◌-◌, ◌<◌, ◌≤◌, Bool, true, false, List, get_or, Option, Some, None, refl, sym, ap, ◌∙◌, arith, inl, inr}
+use Rattle.std.proofs.Common.{◌≡◌, ℕ, ◌+◌, ◌<◌, ◌≤◌, Bool, true, false, List, get_or, Option, Some, None, refl, sym, ap, ◌∙◌, arith, inl, inr}
 use Rattle.std.specs.Prelude.{nat_eq, nat_lt, not, is_some, ◌/◌, ◌^◌, IsTrue, ◌↔◌}
 use Rattle.std.specs.Int.{bit_at, trailing_zeros, w32}
 use Rattle.std.proofs.lemmas.Bool.{cases_lt, lt-ltb, le-ltb, ne_eqb, eq-eqb}
-use Rattle.std.proofs.Math.Nat.{div-le_self}
-use Rattle.std.proofs.lemmas.Nat.Bits.{bit_at-zero, bit_at-trailing_zeros}
 use Rattle.dw_cfa.specs.declared.rule.RegRule.TheVariants.{Unspecified}
 use Rattle.dw_cfa.specs.declared.row.Entries.{Entries}
 use Rattle.dw_cfa.specs.Rows.{AreSpecified, rule_in}
@@ -12,7 +10,7 @@ use Rattle.dw_cfa.specs.Inner.Entries.{entries_of, EntriesSo, LeavesAt, LeavesBe
 use Rattle.dw_cfa.specs.Difference.{FirstDifference}
 use Rattle.dw_cfa.proofs.Lent.RowLists.{Entry}
 use Rattle.dw_cfa.proofs.Lent.SameRows.{same_entries}
-use Rattle.dw_cfa.proofs.Slots.{no_slot, near_rule, shifted, bit_inside}
+use Rattle.dw_cfa.proofs.Slots.{lowest_bit, near_rule, no_bits, no_slot}
 use Rattle.dw_cfa.proofs.Lent.Narrowed.{none_left}
 use Rattle.dw_cfa.proofs.Difference.{not_used}
 
@@ -68,21 +66,13 @@ module _ (e : Entries) (so : EntriesSo e) where
 
   -- no bit is left
   pub none_more : (p : Entry → Bool) (k : ℕ) (old : List Entry) → k ≤ 32 → e.used / 2 ^ k ≡ 0 → LeavesBelow p k old (entries_of e) → LeavesBelow p 32 old (entries_of e)
-  none_more p k old le none below =
-      over_unspecified p k 32 old (entries_of e) le
-      (λ q low high. unused q high (shifted e.used k q low ∙ ap (λ (m : ℕ). bit_at m (q - k)) none ∙ bit_at-zero (q - k))) below
+  none_more p k old le none below = over_unspecified p k 32 old (entries_of e) le (λ q low high. unused q high (no_bits e.used k none q low)) below
 
   -- the lowest bit that is left
-  pub up_to_used : (p : Entry → Bool) (k : ℕ) (old : List Entry) → e.used < 2 ^ 32 → k < 32 → 0 < e.used / 2 ^ k → LeavesBelow p k old (entries_of e)
-      → (k + trailing_zeros w32 (e.used / 2 ^ k) < 32) × LeavesBelow p (k + trailing_zeros w32 (e.used / 2 ^ k)) old (entries_of e)
-  up_to_used p k old fits lt some below =
-      let within : e.used / 2 ^ k < 2 ^ 32 = omega (arith, div-le_self e.used (2 ^ k)) in
-      let z = bit_at-trailing_zeros w32 (e.used / 2 ^ k) some within in
-      let inside : k + trailing_zeros w32 (e.used / 2 ^ k) < 32 = bit_inside e.used k (trailing_zeros w32 (e.used / 2 ^ k)) fits z.1 in (
-        inside,
-        over_unspecified p k (k + trailing_zeros w32 (e.used / 2 ^ k)) old (entries_of e) (omega arith)
-            (λ q low high. unused q (omega (arith, inside)) (shifted e.used k q low ∙ z.2 (q - k) (omega arith))) below,
-      )
+  pub up_to_used : (p : Entry → Bool) (k : ℕ) (old : List Entry) → e.used < 2 ^ 32 → 0 < e.used / 2 ^ k → LeavesBelow p k old (entries_of e) → LeavesBelow p (k + trailing_zeros w32 (e.used / 2 ^ k)) old (entries_of e)
+  up_to_used p k old fits some below =
+      let z = lowest_bit e.used k fits some in
+      over_unspecified p k (k + trailing_zeros w32 (e.used / 2 ^ k)) old (entries_of e) (omega arith) (λ q low high. unused q (omega (arith, z.0)) (z.2 q low high)) below
 
 -- rows are the same where no register's rule differs
 pub same_exactly : (xs ys : List Entry) (o : Option ℕ) (none : Bool) → AreSpecified 0 xs → AreSpecified 0 ys → FirstDifference 0 xs ys o → is_some o ≡ not none → IsTrue none ↔ (xs ≡ ys)

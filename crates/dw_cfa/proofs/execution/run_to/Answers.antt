@@ -1,36 +1,24 @@
 use Rattle.std.proofs.Common.{◌≡◌, ◌≤◌, ℕ, Some, refl, sym, ap, subst, ◌∙◌, arith}
-use Rattle.dw_cfa.specs.RuleAt.{last_at, left_above, NeverFalls}
+use Rattle.dw_cfa.specs.RuleAt.{last_at, left_above}
 use Rattle.dw_cfa.specs.Runs.{Outcome, finished}
 use Rattle.dw_cfa.specs.Inner.Runs.{rows_left}
 use Rattle.dw_cfa.specs.Inner.RowWalk.{AllSpecify}
 use Rattle.dw_cfa.proofs.RowsAbove.{last_below, row_below, stands_above}
-use Rattle.dw_cfa.proofs.RowsTo.{FirstBelow, fault_left, falls_left, first_below, keeps_left, stops_here, goes_on, ends_here}
+use Rattle.dw_cfa.proofs.RowsTo.{fault_left, keeps_left, stops_here, goes_on, ends_here}
 use Rattle.dw_cfa.proofs.RunSteps.{rows_end}
 use Rattle.dw_cfa.proofs.StopsTo.{not_below, refused_here}
 use Rattle.dw_cfa.proofs.execution.run_to.Goals as goal
 
 pub instrs-init : goal.instrs-init
-instrs-init c = (
-  c.requires.so,
-  refl,
-  refl,
-  c.requires.never_falls,
-  λ le. first_below c.args.factors c.args.cursor.now c.args.machine.now c.from-address.result le,
-  λ row e. e,
-  λ other all. all,
-  refl,
-  λ le. le,
-  refl,
-  λ le. refl,
-)
+instrs-init c = (c.requires.so, refl, refl, λ row e. e, λ other all. all, refl, λ le. le, refl, λ le. refl)
 
 pub returns-then-machine-address-clause-last : goal.returns-then-machine-address-clause-last
 returns-then-machine-address-clause-last c le =
     let l = c.instrs in
     let f = c.args.factors in
-    let first = l.invariant.4 (subst (λ (n : ℕ). c.args.machine.now.location ≤ n) (sym c.from-address.ensures) le) in
-    let here = stops_here f l.cursor l.machine c.turn.new.cursor c.turn.new.machine c.in-Moved.ensures.turned c.from-address.result l.invariant.3 c.if-machine-address.true first in
-    subst (λ (n : ℕ). last_at n (rows_left f c.args.cursor.now c.args.machine.now).rows ≡ Some c.turn.new.machine.states.row) c.from-address.ensures (l.invariant.5 c.turn.new.machine.states.row here)
+    let at = l.invariant.6 (omega (arith, c.from-address.ensures)) in
+    let here = stops_here f l.cursor l.machine c.turn.new.cursor c.turn.new.machine c.in-Moved.ensures.turned c.from-address.result at c.if-machine-address.true in
+    subst (λ (n : ℕ). last_at n (rows_left f c.args.cursor.now c.args.machine.now).rows ≡ Some c.turn.new.machine.states.row) c.from-address.ensures (l.invariant.3 c.turn.new.machine.states.row here)
 
 pub instrs-preserved : goal.instrs-preserved
 instrs-preserved c =
@@ -43,14 +31,12 @@ instrs-preserved c =
       moved.so,
       c.in-Moved.ensures.initial ∙ l.invariant.1,
       sym (fault_left f l.cursor l.machine j m moved a) ∙ l.invariant.2,
-      falls_left f l.cursor l.machine j m moved a l.invariant.3,
-      λ le. first_below f j m a (omega (arith, c.if-machine-address.false)),
-      λ row e. l.invariant.5 row (goes_on f l.cursor l.machine j m moved a row e),
-      λ other all. keeps_left f l.cursor l.machine j m moved a other (l.invariant.6 other all),
-      c.in-Moved.ensures.kept ∙ l.invariant.7,
+      λ row e. l.invariant.3 row (goes_on f l.cursor l.machine j m moved a row e),
+      λ other all. keeps_left f l.cursor l.machine j m moved a other (l.invariant.4 other all),
+      c.in-Moved.ensures.kept ∙ l.invariant.5,
       λ le. omega (arith, c.if-machine-address.false),
-      sym moved.stop ∙ l.invariant.9,
-      λ le. l.invariant.10 le ∙ row_below f l.cursor l.machine a j m moved (l.invariant.8 le),
+      sym moved.stop ∙ l.invariant.7,
+      λ le. l.invariant.8 le ∙ row_below f l.cursor l.machine a j m moved (l.invariant.6 le),
     )
 
 pub instrs-preserved-in-On : goal.instrs-preserved-in-On
@@ -62,42 +48,36 @@ instrs-preserved-in-On c =
       on.so,
       c.in-On.ensures.initial ∙ l.invariant.1,
       sym (ap (λ (o : Outcome). o.fault) same) ∙ l.invariant.2,
-      subst (λ (o : Outcome). (low : ℕ) × NeverFalls low o.rows) same l.invariant.3,
-      λ le. subst (λ (o : Outcome). FirstBelow a o.rows) same (l.invariant.4 le),
-      λ row e. l.invariant.5 row (ap (λ (o : Outcome). last_at a o.rows) same ∙ e),
-      λ other all. subst (λ (o : Outcome). AllSpecify other o.rows) same (l.invariant.6 other all),
-      c.in-On.ensures.kept ∙ l.invariant.7,
-      λ le. let at = l.invariant.8 le in omega (arith, at, on.same_location refl),
-      sym on.stop ∙ l.invariant.9,
-      λ le. l.invariant.10 le ∙ ap (left_above a) same,
+      λ row e. l.invariant.3 row (ap (λ (o : Outcome). last_at a o.rows) same ∙ e),
+      λ other all. subst (λ (o : Outcome). AllSpecify other o.rows) same (l.invariant.4 other all),
+      c.in-On.ensures.kept ∙ l.invariant.5,
+      λ le. let at = l.invariant.6 le in omega (arith, at, on.same_location refl),
+      sym on.stop ∙ l.invariant.7,
+      λ le. l.invariant.8 le ∙ ap (left_above a) same,
     )
 
 pub returns-clause-last : goal.returns-clause-last
 returns-clause-last c le =
     let l = c.instrs in
     let f = c.args.factors in
-    let first = l.invariant.4 (subst (λ (n : ℕ). c.args.machine.now.location ≤ n) (sym c.from-address.ensures) le) in
-    let here = ends_here f l.cursor l.machine c.from-address.result (omega arith) first in
-    subst (λ (n : ℕ). last_at n (rows_left f c.args.cursor.now c.args.machine.now).rows ≡ Some l.machine.states.row) c.from-address.ensures (l.invariant.5 l.machine.states.row here)
+    let here = ends_here f l.cursor l.machine c.from-address.result (omega arith) (l.invariant.6 (omega (arith, c.from-address.ensures))) in
+    subst (λ (n : ℕ). last_at n (rows_left f c.args.cursor.now c.args.machine.now).rows ≡ Some l.machine.states.row) c.from-address.ensures (l.invariant.3 l.machine.states.row here)
 
 pub returns-then-machine-address-clause-keeps : goal.returns-then-machine-address-clause-keeps
 returns-then-machine-address-clause-keeps c other all =
     let l = c.instrs in
-    keeps_left c.args.factors l.cursor l.machine c.turn.new.cursor c.turn.new.machine c.in-Moved.ensures.turned c.from-address.result other (l.invariant.6 other all)
+    keeps_left c.args.factors l.cursor l.machine c.turn.new.cursor c.turn.new.machine c.in-Moved.ensures.turned c.from-address.result other (l.invariant.4 other all)
 
 pub returns-then-machine-address-clause-none : goal.returns-then-machine-address-clause-none
 returns-then-machine-address-clause-none c r e =
-    let l = c.instrs in
-    let f = c.args.factors in
-    let later = not_below f c.turn.new.cursor c.turn.new.machine in
-    omega (arith, later, c.if-machine-address.true, c.from-address.ensures, c.in-Moved.ensures.turned.stop, l.invariant.9)
+    let later = not_below c.args.factors c.turn.new.cursor c.turn.new.machine in
+    omega (arith, later, c.if-machine-address.true, c.from-address.ensures, c.in-Moved.ensures.turned.stop, c.instrs.invariant.7)
 
 pub returns-in-Refused-clause-up_to : goal.returns-in-Refused-clause-up_to
 returns-in-Refused-clause-up_to c le =
     let l = c.instrs in
-    let f = c.args.factors in
-    let at = l.invariant.8 (subst (λ (n : ℕ). c.args.machine.now.location ≤ n) (sym c.from-address.ensures) le) in
-    omega (arith, at, c.from-address.ensures, l.invariant.9, refused_here f l.cursor l.machine c.turn.new.fault c.in-Refused.ensures.turned)
+    let at = l.invariant.6 (omega (arith, c.from-address.ensures)) in
+    omega (arith, at, c.from-address.ensures, l.invariant.7, refused_here c.args.factors l.cursor l.machine c.turn.new.fault c.in-Refused.ensures.turned)
 
 pub returns-clause-none : goal.returns-clause-none
 returns-clause-none c r e =
@@ -112,17 +92,15 @@ returns-then-machine-address-clause-behind c le =
     let a = c.from-address.result in
     let j = c.turn.new.cursor in
     let m = c.turn.new.machine in
-    let moved = c.in-Moved.ensures.turned in
-    let start = subst (λ (n : ℕ). c.args.machine.now.location ≤ n) (sym c.from-address.ensures) le in
-    let up = falls_left f l.cursor l.machine j m moved a l.invariant.3 in
+    let start : c.args.machine.now.location ≤ a = omega (arith, c.from-address.ensures) in
     subst (λ (n : ℕ). left_above n (rows_left f c.args.cursor.now c.args.machine.now) ≡ rows_left f j m) c.from-address.ensures
-    (l.invariant.10 start ∙ row_below f l.cursor l.machine a j m moved (l.invariant.8 start) ∙ stands_above f j m a up c.if-machine-address.true)
+    (l.invariant.8 start ∙ row_below f l.cursor l.machine a j m c.in-Moved.ensures.turned (l.invariant.6 start) ∙ stands_above f j m a c.if-machine-address.true)
 
 pub returns-clause-behind : goal.returns-clause-behind
 returns-clause-behind c le =
     let l = c.instrs in
     let f = c.args.factors in
     let a = c.from-address.result in
-    let start = subst (λ (n : ℕ). c.args.machine.now.location ≤ n) (sym c.from-address.ensures) le in
+    let start : c.args.machine.now.location ≤ a = omega (arith, c.from-address.ensures) in
     subst (λ (n : ℕ). left_above n (rows_left f c.args.cursor.now c.args.machine.now) ≡ finished) c.from-address.ensures
-    (l.invariant.10 start ∙ last_below f l.cursor l.machine a (omega arith) (l.invariant.8 start))
+    (l.invariant.8 start ∙ last_below f l.cursor l.machine a (omega arith) (l.invariant.6 start))

@@ -1,16 +1,13 @@
-use Rattle.std.proofs.Common.{◌≡◌, ◌≤◌, ℕ, Some, length}
-use Rattle.dw_cfa.specs.RuleAt.{last_at, left_above, NeverFalls}
+use Rattle.std.proofs.Common.{◌≡◌, ◌≤◌, Some, length}
+use Rattle.dw_cfa.specs.RuleAt.{last_at, left_above}
 use Rattle.dw_cfa.specs.Rows.{Rules}
 use Rattle.dw_cfa.specs.Inner.Runs.{RunsSo, rows_left, stop_left}
 use Rattle.dw_cfa.specs.Inner.RowWalk.{AllSpecify}
-use Rattle.dw_cfa.proofs.RowsTo.{FirstBelow}
 use Rattle.dw_cfa.proofs.execution.run_to.Given as goal
 
 abbrev pub invariant-instrs : goal.invariant-instrs
 invariant-instrs l =
     RunsSo l.machine l.cursor × (l.machine.initial ≡ l.initial.machine.initial) × ((rows_left l.factors l.cursor l.machine).fault ≡ (rows_left l.factors l.initial.cursor l.initial.machine).fault)
-    × ((low : ℕ) × NeverFalls low (rows_left l.factors l.cursor l.machine).rows)
-    × (l.initial.machine.location ≤ l.address → FirstBelow l.address (rows_left l.factors l.cursor l.machine).rows)
     × ((row : Rules) → last_at l.address (rows_left l.factors l.cursor l.machine).rows ≡ Some row → last_at l.address (rows_left l.factors l.initial.cursor l.initial.machine).rows ≡ Some row)
     × ((other : Rules) → AllSpecify other (rows_left l.factors l.initial.cursor l.initial.machine).rows → AllSpecify other (rows_left l.factors l.cursor l.machine).rows)
     × (l.machine.states.kept ≡ l.initial.machine.states.kept)

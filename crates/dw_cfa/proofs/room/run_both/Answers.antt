@@ -5,7 +5,7 @@ use Rattle.dw_cfa.specs.RuleAt.{last_at}
 use Rattle.dw_cfa.specs.Runs.{Outcome}
 use Rattle.dw_cfa.specs.Inner.Runs.{StopsAbove, rows_left}
 use Rattle.dw_cfa.specs.Inner.RowSteps.{begun_stop}
-use Rattle.dw_cfa.proofs.RowsFrom.{left_from}
+use Rattle.dw_cfa.proofs.Lent.RunLaws.{left_from}
 use Rattle.dw_cfa.proofs.RunSteps.{begun_fault, begun_ran, begun_stays, begun_stops}
 use Rattle.dw_cfa.proofs.room.run_both.Goals as goal
 
@@ -15,7 +15,7 @@ returns-in_err-run_initial-clause-err c =
     rw (p.1, p.2) (begun_fault c.args.factors c.args.cie.now c.args.fde.now c.args.machine.now c.in_err-run_initial.field-0.0 c.in_err-run_initial.ensures.err)
 
 pub run_to-requires-clause-never_falls : goal.run_to-requires-clause-never_falls
-run_to-requires-clause-never_falls c = left_from c.args.factors c.args.fde.now _
+run_to-requires-clause-never_falls c = (_, (left_from c.args.factors c.args.fde.now _).falls)
 
 pub returns-in_err-run_to-clause-err : goal.returns-in_err-run_to-clause-err
 returns-in_err-run_to-clause-err c =

@@ -5,7 +5,7 @@ use Rattle.dw_cfa.specs.Runs.{Outcome}
 use Rattle.dw_cfa.specs.Inner.Runs.{GivesRow, rows_left}
 use Rattle.dw_cfa.specs.Inner.RowSteps.{progress_after}
 use Rattle.dw_cfa.specs.Inner.RowWalk.{AllSpecify}
-use Rattle.dw_cfa.proofs.Stays.{led_keeps, row_behind}
+use Rattle.dw_cfa.proofs.StaySpecified.{led_keeps, row_behind}
 use Rattle.dw_cfa.proofs.Walks.{led_initial, led_ran, left_any, row_left}
 use Rattle.dw_cfa.proofs.row_walk.first_row.Goals as goal
 
@@ -25,10 +25,9 @@ pub returns-clause-keeps : goal.returns-clause-keeps
 returns-clause-keeps c =
     let l = c.args.leading in
     let at = c.ready.new.machine in
-    let so = c.in_ok-ready.ensures.ok in
     let bytes = subst AreBytes c.rest.ensures c.are_bytes-2.ensures in
     row_behind l c.next_row.new.cursor c.next_row.new.machine (rows_left l.factors c.args.fde.now at) c.next_row.result
-    (subst (λ (r : Rules). AllSpecify r (rows_left l.factors c.args.fde.now at).rows) (sym c.next_row.ensures.initial) (led_keeps l c.args.fde.now at bytes so.row so.none)) c.next_row.ensures.row
+    (subst (λ (r : Rules). AllSpecify r (rows_left l.factors c.args.fde.now at).rows) (sym c.next_row.ensures.initial) (led_keeps l c.args.fde.now c.args.machine.now at c.are_bytes.ensures bytes c.requires.so c.in_ok-ready.ensures.ok)) c.next_row.ensures.row
 
 pub returns-clause-left : goal.returns-clause-left
 returns-clause-left c =

@@ -8,7 +8,7 @@ use Rattle.dw_cfa.specs.Inner.Runs.{rows_left}
 use Rattle.dw_cfa.specs.Inner.RuleAt.{LeavesAbove}
 use Rattle.dw_cfa.specs.Inner.RowWalk.{AllSpecify}
 use Rattle.dw_cfa.proofs.RowsTo.{only_memory, still_none}
-use Rattle.dw_cfa.proofs.Stays.{led_keeps}
+use Rattle.dw_cfa.proofs.StaySpecified.{led_keeps}
 use Rattle.dw_cfa.proofs.Walks.{led_initial, led_ran, left_where, row_left}
 use Rattle.dw_cfa.proofs.row_walk.first_to.Goals as goal
 
@@ -34,9 +34,8 @@ pub returns-clause-keeps : goal.returns-clause-keeps
 returns-clause-keeps c =
     let l = c.args.leading in
     let at = c.ready.new.machine in
-    let so = c.in_ok-ready.ensures.ok in
     let bytes = subst AreBytes c.rest.ensures c.are_bytes-2.ensures in
-    let ran = c.run_to.ensures.keeps at.initial (led_keeps l c.args.fde.now at bytes so.row so.none) in
+    let ran = c.run_to.ensures.keeps at.initial (led_keeps l c.args.fde.now c.args.machine.now at c.are_bytes.ensures bytes c.requires.so c.in_ok-ready.ensures.ok) in
     subst (λ (r : Rules). OnOk c.run_to.result (AllSpecify r (rows_left l.factors c.run_to.new.cursor c.run_to.new.machine).rows)) (sym c.run_to.ensures.initial) ran
 
 pub returns-clause-known : goal.returns-clause-known

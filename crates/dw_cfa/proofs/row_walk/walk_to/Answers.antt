@@ -6,7 +6,7 @@ use Rattle.dw_cfa.specs.Rows.{Rules}
 use Rattle.dw_cfa.specs.Inner.Runs.{rows_left}
 use Rattle.dw_cfa.specs.Inner.RowWalk.{AllSpecify, AreLeft, WalkKeeps, initial_of, led_rows, walk_of}
 use Rattle.dw_cfa.proofs.RowsTo.{found_last, none_last, none_where_more, only_memory, some_last}
-use Rattle.dw_cfa.proofs.Stays.{where_more}
+use Rattle.dw_cfa.proofs.StaySpecified.{where_more}
 use Rattle.dw_cfa.proofs.Walks.{left_where}
 use Rattle.dw_cfa.proofs.row_walk.walk_to.Goals as goal
 

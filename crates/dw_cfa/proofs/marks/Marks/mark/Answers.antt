@@ -1,6 +1,7 @@
 use Rattle.std.proofs.Common.{arith, ◌*◌, ◌%◌}
 use Rattle.std.specs.Prelude.{◌^◌}
-use Rattle.dw_cfa.proofs.Marked.{near_marked, near_more}
+use Rattle.dw_cfa.proofs.Marked.{near_marked}
+use Rattle.dw_cfa.proofs.Slots.{neither}
 use Rattle.dw_cfa.proofs.marks.Marks.mark.Goals as goal
 
 pub returns-then-register-lt-NEAR-clause-marked : goal.returns-then-register-lt-NEAR-clause-marked
@@ -10,6 +11,6 @@ returns-then-register-lt-NEAR-clause-marked c none =
 pub returns-then-register-lt-NEAR-clause-more : goal.returns-then-register-lt-NEAR-clause-more
 returns-then-register-lt-NEAR-clause-more c r none = record {
   watched = none.watched;
-  near = λ lt. near_more c.args.self.now.near (1 * 2 ^ c.args.register % 2 ^ 32) r (none.near lt);
+  near = λ lt. (neither c.args.self.now.near (1 * 2 ^ c.args.register % 2 ^ 32) r (none.near lt)).0;
   far = none.far;
 }

@@ -1,6 +1,6 @@
 use Rattle.std.proofs.Common.{ap}
 use Rattle.dw_cfa.specs.RowWalk.{Walking}
-use Rattle.dw_cfa.proofs.Stays.{walk_keeps}
+use Rattle.dw_cfa.proofs.StaySpecified.{walk_keeps}
 use Rattle.dw_cfa.proofs.Walks.{begun_unknown, running_known}
 use Rattle.dw_cfa.proofs.row_walk.RowWalk.keeps.Goals as goal
 
