@@ -30,20 +30,14 @@ below_both : (low : ℕ) (xs ys : List Entry) → AreSpecified low xs → AreSpe
 below_both low xs ys up up' r le lt = unlisted r low xs up lt ∙ sym (unlisted r low ys up' lt)
 
 -- the first of one list, which the other lacks
-pub left_alone : (x : Entry) (xs ys : List Entry) → AreSpecified 0 (x ∷ xs) → AreSpecified (suc x.0) ys → DiffersFirst 0 (x ∷ xs) ys x.0
+left_alone : (x : Entry) (xs ys : List Entry) → AreSpecified 0 (x ∷ xs) → AreSpecified (suc x.0) ys → DiffersFirst 0 (x ∷ xs) ys x.0
 left_alone x xs ys up up' =
     let here : rule_in (x ∷ xs) x.0 ≡ x.1 = first_rule x xs in
     let none : rule_in ys x.0 ≡ Unspecified = unlisted x.0 (suc x.0) ys up' (omega arith) in
     (omega arith, below_both x.0 (x ∷ xs) ys (omega arith, up.1, up.2) (lower (suc x.0) x.0 ys (omega arith) up'), λ e. not_specified x.1 up.1 (sym here ∙ e ∙ none))
 
-pub right_alone : (y : Entry) (xs ys : List Entry) → AreSpecified (suc y.0) xs → AreSpecified 0 (y ∷ ys) → DiffersFirst 0 xs (y ∷ ys) y.0
-right_alone y xs ys up up' =
-    let here : rule_in (y ∷ ys) y.0 ≡ y.1 = first_rule y ys in
-    let none : rule_in xs y.0 ≡ Unspecified = unlisted y.0 (suc y.0) xs up (omega arith) in
-    (omega arith, below_both y.0 xs (y ∷ ys) (lower (suc y.0) y.0 xs (omega arith) up) (omega arith, up'.1, up'.2), λ e. not_specified y.1 up'.1 (sym here ∙ sym e ∙ none))
-
 -- the first of both, with another rule
-pub heads_differ : (x y : Entry) (xs ys : List Entry) → AreSpecified 0 (x ∷ xs) → AreSpecified 0 (y ∷ ys) → x.0 ≡ y.0 → (x.1 ≡ y.1 → ⊥) → DiffersFirst 0 (x ∷ xs) (y ∷ ys) x.0
+heads_differ : (x y : Entry) (xs ys : List Entry) → AreSpecified 0 (x ∷ xs) → AreSpecified 0 (y ∷ ys) → x.0 ≡ y.0 → (x.1 ≡ y.1 → ⊥) → DiffersFirst 0 (x ∷ xs) (y ∷ ys) x.0
 heads_differ x y xs ys up up' at differ =
     let here : rule_in (x ∷ xs) x.0 ≡ x.1 = first_rule x xs in
     let there : rule_in (y ∷ ys) x.0 ≡ y.1 = ap (rule_in (y ∷ ys)) at ∙ first_rule y ys in
@@ -67,7 +61,7 @@ module _ (x y : Entry) (xs ys : List Entry) (up : AreSpecified 0 (x ∷ xs)) (up
     | inr f ↦ let g : nat_eq y.0 q ≡ false = subst (λ (n : ℕ). nat_eq n q ≡ false) at f in rw (f, g) e
   ]
 
-  pub heads_same : (o : Option ℕ) → FirstDifference 0 xs ys o → FirstDifference 0 (x ∷ xs) (y ∷ ys) o
+  heads_same : (o : Option ℕ) → FirstDifference 0 xs ys o → FirstDifference 0 (x ∷ xs) (y ∷ ys) o
   heads_same None h = λ r le. rest_same r (h r le)
   heads_same (Some q) h = (h.0, (λ r le lt. rest_same r (h.1 r le lt)), rest_differs q h.2)
 
@@ -86,7 +80,7 @@ pub taken_left : (xs ys rest : List Entry) (x : Entry) → xs ≡ x ∷ rest →
 taken_left xs ys rest x e up up' = subst (λ (l : List Entry). DiffersFirst 0 l ys x.0) (sym e) (left_alone x rest ys (subst (AreSpecified 0) e up) up')
 
 pub taken_right : (xs ys rest : List Entry) (y : Entry) → ys ≡ y ∷ rest → AreSpecified (suc y.0) xs → AreSpecified 0 ys → DiffersFirst 0 xs ys y.0
-taken_right xs ys rest y e up up' = subst (λ (l : List Entry). DiffersFirst 0 xs l y.0) (sym e) (right_alone y xs rest up (subst (AreSpecified 0) e up'))
+taken_right xs ys rest y e up up' = let h = taken_left ys xs rest y e up' up in (h.0, (λ r le lt. sym (h.1 r le lt)), λ same. h.2 (sym same))
 
 module _ (xs ys rest rest' : List Entry) (x y : Entry) (e : xs ≡ x ∷ rest) (e' : ys ≡ y ∷ rest') (up : AreSpecified 0 xs) (up' : AreSpecified 0 ys) (le : x.0 ≤ y.0) (ge : y.0 ≤ x.0) where
   pub taken_both : (x.1 ≡ y.1 → ⊥) → DiffersFirst 0 xs ys x.0

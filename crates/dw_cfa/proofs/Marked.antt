@@ -13,7 +13,7 @@ use Rattle.dw_cfa.specs.Inner.Rows.{put, with_rule}
 use Rattle.dw_cfa.specs.Difference.{DiffersFirst, FirstDifference, SameBetween}
 use Rattle.dw_cfa.specs.Inner.Difference.{SameUnset}
 use Rattle.dw_cfa.specs.Inner.Marks.{CopiedUpTo, MarksMore, MarksSo, SameUnlisted, SameUnmarked, Unmarked, WatchedSo}
-use Rattle.dw_cfa.proofs.Lent.RowLists.{Entry, lower, put_keeps, put_rule, unlisted}
+use Rattle.dw_cfa.proofs.Lent.RowLists.{Entry, lower, put_rule, unlisted}
 use Rattle.dw_cfa.proofs.Difference.{FromOn}
 use Rattle.dw_cfa.proofs.Lent.Narrowed.{filter_keeps, filter_rule}
 use Rattle.dw_cfa.proofs.Lent.SameRows.{one_row, rest_rule}
@@ -39,27 +39,14 @@ far_more r q far up none = elim (cases_Bool (nat_eq r q)) [
   | inr e ↦ let is : rule_in (put r SameValue far) q ≡ rule_in far q = put_rule r SameValue 0 far q up ∙ rw e refl in sym is ∙ none
 ]
 
-module _ {X E : Type 0} (result : Result X E) (r : ℕ) (far far' : List Entry) (up : AreSpecified 0 far) where
-  pub tree_so : OnOk result (far' ≡ put r SameValue far) → OnErr result (far' ≡ far) → AreSpecified 0 far'
-  tree_so ok err = go result ok err
-    where
-      go : (q : Result X E) → OnOk q (far' ≡ put r SameValue far) → OnErr q (far' ≡ far) → AreSpecified 0 far'
-      go (Ok x) e n = subst (AreSpecified 0) (sym e) (put_keeps r SameValue 0 far up (omega arith))
-      go (Err x) n e = subst (AreSpecified 0) (sym e) up
+pub tree_more : {X E : Type 0} (result : Result X E) (r : ℕ) (far far' : List Entry) → AreSpecified 0 far → OnOk result (far' ≡ put r SameValue far) → OnErr result (far' ≡ far)
+    → (q : ℕ) → rule_in far' q ≡ Unspecified → rule_in far q ≡ Unspecified
+tree_more (Ok x) r far far' up e n q none = far_more r q far up (ap (λ (l : List Entry). rule_in l q) (sym e) ∙ none)
+tree_more (Err x) r far far' up n e q none = ap (λ (l : List Entry). rule_in l q) (sym e) ∙ none
 
-  pub tree_more : OnOk result (far' ≡ put r SameValue far) → OnErr result (far' ≡ far) → (q : ℕ) → rule_in far' q ≡ Unspecified → rule_in far q ≡ Unspecified
-  tree_more ok err q none = go result ok err
-    where
-      go : (x : Result X E) → OnOk x (far' ≡ put r SameValue far) → OnErr x (far' ≡ far) → rule_in far q ≡ Unspecified
-      go (Ok x) e n = far_more r q far up (ap (λ (l : List Entry). rule_in l q) (sym e) ∙ none)
-      go (Err x) n e = ap (λ (l : List Entry). rule_in l q) (sym e) ∙ none
-
-  pub tree_marked : (m : Marks) → m.far.entries ≡ far' → 32 ≤ r → OnOk result (far' ≡ put r SameValue far) → OnOk result (Unmarked m r → ⊥)
-  tree_marked m at le ok = go result ok
-    where
-      go : (x : Result X E) → OnOk x (far' ≡ put r SameValue far) → OnOk x (Unmarked m r → ⊥)
-      go (Ok x) e = λ none. far_marked r far up (ap (λ (l : List Entry). rule_in l r) (sym (at ∙ e)) ∙ none.far le)
-      go (Err x) n = tt
+pub tree_marked : {X E : Type 0} (result : Result X E) (r : ℕ) (far : List Entry) → AreSpecified 0 far → (m : Marks) → 32 ≤ r → OnOk result (m.far.entries ≡ put r SameValue far) → OnOk result (Unmarked m r → ⊥)
+tree_marked (Ok x) r far up m le e = λ none. far_marked r far up (ap (λ (l : List Entry). rule_in l r) (sym e) ∙ none.far le)
+tree_marked (Err x) r far up m le e = tt
 
 -- ---- a register that is set
 

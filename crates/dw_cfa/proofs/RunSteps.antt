@@ -18,7 +18,7 @@ use Rattle.dw_cfa.specs.Inner.FrontInstr.{instr_at}
 use Rattle.dw_cfa.specs.Rows.{Rules, blank}
 use Rattle.dw_cfa.specs.declared.rule.RegRule.{RegRule}
 use Rattle.dw_cfa.specs.Inner.RowSteps.{begun_rows, begun_stop}
-use Rattle.dw_cfa.specs.Inner.Machine.{State, begun, written, after, cie_fault, fde_fault}
+use Rattle.dw_cfa.specs.Inner.Machine.{State, written, after, cie_fault, fde_fault}
 use Rattle.dw_cfa.specs.Inner.States.{Held, BeganWith}
 use Rattle.dw_cfa.specs.Inner.Steps.{state_of, IsAfter}
 use Rattle.dw_cfa.specs.Inner.Runs.{Placing, placed, cie_run, initial_row, on_initial, here, row_if, fault_or, fde_rows, fde_stop, rows_left, rows_behind, run_rows, run_stop, stop_left, stop_or, RunsSo, RanTo, WroteTo}
@@ -123,14 +123,14 @@ initial_read f i row some ok = go (instr_at f i) refl
     go (Ok x) e = refl
     go (Err r) e = absurd (refused (initial_row (placed f i) row) r (initial_stuck f i row r some e) ok)
 
--- both halves of a run that has no fault
+-- a run that has no fault has an initial row
+pub initial_left : (r : Result Rules Refusal) (go : Rules → Outcome) → (on_initial r go).fault ≡ None → IsOk r
+initial_left (Ok row) go none = refl
+initial_left (Err r) go none = absurd cc
+
 pub begun_initial : (f : Factors) (cie fde : Input) (m : Machine) → (begun_rows f cie fde m).fault ≡ None → IsOk (initial_row (placed f cie) m.states.row)
 unfolding begun_rows
-begun_initial f cie fde m none = go (initial_row (placed f cie) m.states.row) refl none
-  where
-    go : (r : Result Rules Refusal) → initial_row (placed f cie) m.states.row ≡ r → (on_initial r (λ initial. fde_rows m.limit initial (placed f fde).items (placed f fde).fault (begun initial m.location))).fault ≡ None → IsOk r
-    go (Ok row) e n = refl
-    go (Err r) e n = absurd cc
+begun_initial f cie fde m none = initial_left (initial_row (placed f cie) m.states.row) _ none
 
 pub begun_refused : (f : Factors) (cie fde : Input) (m : Machine) (e : ReadError) → Refuses (λ r. initial_row (placed f cie) m.states.row ≡ Err r) e → Refuses (λ r. begun_rows f cie fde m ≡ fails r) e
 unfolding begun_rows

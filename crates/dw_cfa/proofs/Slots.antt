@@ -14,9 +14,11 @@ use Rattle.dw_cfa.specs.declared.rule.RegRule.{RegRule}
 use Rattle.dw_cfa.specs.declared.row.Slot.{Slot}
 use Rattle.dw_cfa.specs.declared.row.Kind.{Kind}
 use Rattle.dw_cfa.specs.declared.row.Kind.TheVariants as kinds
-use Rattle.dw_cfa.specs.Rows.{is_specified, AreSpecified, HasFar, rule_in}
+use Rattle.dw_cfa.specs.declared.rule.CfaRule.{CfaRule}
+use Rattle.dw_cfa.specs.declared.row.Entries.{Entries}
+use Rattle.dw_cfa.specs.Rows.{Rules, is_specified, AreSpecified, HasFar, rule_in}
 use Rattle.dw_cfa.specs.Inner.Rows.{listed, put}
-use Rattle.dw_cfa.specs.Inner.Entries.{kind_rule, slot_rule, listed_near, HoldsRule, IsSlotOf, Covers}
+use Rattle.dw_cfa.specs.Inner.Entries.{EntriesSo, entries_of, kind_rule, slot_rule, listed_near, HoldsRule, IsSlotOf, Covers}
 use Rattle.dw_cfa.proofs.Lent.RowLists.{Entry, lower, listed_is, not_listed, listed_keeps, listed_rule, put_keeps, put_rule}
 use Rattle.dw_cfa.proofs.Lent.SameRows.{same_entries}
 
@@ -60,6 +62,9 @@ module _ (near : List Slot) (expressions far : List Entry) (len : length near �
 
   pub far_rule : (q : ℕ) → 32 ≤ q → rule_in (listed_near 0 near expressions far) q ≡ rule_in far q
   far_rule q le = rule_behind 0 near expressions far 32 (omega arith) up q (omega arith)
+
+pub row_ascends : (cfa : CfaRule) (e : Entries) (row : Rules) → EntriesSo e → record { cfa = cfa; registers = entries_of e } ≡ row → AreSpecified 0 row.registers
+row_ascends cfa e row so is = subst (λ (r : Rules). AreSpecified 0 r.registers) is (slots_ascend e.near e.expressions.entries e.far.entries so.near so.far)
 
 -- an entry of the tree is a rule of the row
 pub has_far : (near : List Slot) (expressions far : List Entry) → length near ≡ 32 → AreSpecified 32 far → (far ≡ [] → ⊥) → HasFar (listed_near 0 near expressions far)
@@ -173,9 +178,9 @@ pub far_ok : {A E : Type 0} (o : Result A E) (near : List Slot) (expressions far
 far_ok (Ok x) near expressions far r rule far' len up le is = far_set near expressions far r rule far' len up le is
 far_ok (Err e) near expressions far r rule far' len up le is = tt
 
-pub far_so : {A E : Type 0} (o : Result A E) (r : ℕ) (rule : RegRule) (far far' : List Entry) → AreSpecified 32 far → 32 ≤ r → OnOk o (far' ≡ put r rule far) → OnErr o (far' ≡ far) → AreSpecified 32 far'
-far_so (Ok x) r rule far far' up le ok err = put_so r 32 rule far far' ok up le
-far_so (Err e) r rule far far' up le ok err = subst (AreSpecified 32) (sym err) up
+pub far_so : {A E : Type 0} (o : Result A E) (low r : ℕ) (rule : RegRule) (far far' : List Entry) → AreSpecified low far → low ≤ r → OnOk o (far' ≡ put r rule far) → OnErr o (far' ≡ far) → AreSpecified low far'
+far_so (Ok x) low r rule far far' up le ok err = put_so r low rule far far' ok up le
+far_so (Err e) low r rule far far' up le ok err = subst (AreSpecified low) (sym err) up
 
 -- ---- the mask of the slots that are used
 

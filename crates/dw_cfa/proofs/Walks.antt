@@ -2,7 +2,6 @@
 use Rattle.std.proofs.Common.{◌≡◌, ◌⊎◌, ℕ, Bool, true, false, [], Option, Some, None, Ok, Err, Result, IsOk, refl, sym, ap, subst, ◌∙◌, inl, inr}
 use Rattle.std.specs.Prelude.{◌↔◌, IfOk, IsTrue, MatchOption, if◌then◌else◌}
 use Rattle.dw_num.specs.declared.error.ReadError.{ReadError}
-use Rattle.dw_num.specs.declared.refusal.Refusal.{Refusal}
 use Rattle.dw_num.specs.declared.target.Target.{Target}
 use Rattle.dw_num.specs.Input.{Input, AreBytes}
 use Rattle.dw_num.specs.Target.{address_limit}
@@ -14,8 +13,7 @@ use Rattle.dw_cfa.specs.declared.row_walk.Leading.{Leading}
 use Rattle.dw_cfa.specs.InstrSpells.{Program}
 use Rattle.dw_cfa.specs.Rows.{Rules, blank}
 use Rattle.dw_cfa.specs.Runs.{Outcome, finished}
-use Rattle.dw_cfa.specs.Inner.Runs.{RunsSo, fde_rows, initial_row, on_initial, placed, rows_left, run_rows}
-use Rattle.dw_cfa.specs.Inner.Machine.{begun}
+use Rattle.dw_cfa.specs.Inner.Runs.{RunsSo, initial_row, placed, rows_left, run_rows}
 use Rattle.dw_cfa.specs.RowSteps.{Stepping, program_input}
 use Rattle.dw_cfa.specs.Inner.RowSteps.{left_of, progress_after}
 use Rattle.dw_cfa.specs.Inner.NextRow.{GoesOn}
@@ -26,6 +24,7 @@ use Rattle.dw_cfa.proofs.Lent.FaultLaws.{initial_leaves, leaves_initial}
 use Rattle.dw_cfa.proofs.Lent.Given.{leaves_to}
 use Rattle.dw_cfa.proofs.Lent.RunLaws.{left_from, next_from, run_from}
 use Rattle.dw_cfa.proofs.Lent.RowsAt.{RowsFrom}
+use Rattle.dw_cfa.proofs.RunSteps.{initial_left}
 use Rattle.dw_cfa.proofs.Lent.SameRows.{same_rows}
 
 -- ---- the CIE's half
@@ -45,11 +44,7 @@ initial_elsewhere f i j row bytes same target is =
 -- a run that has no fault leaves an initial row
 pub led_initial : (l : Leading) (fde : Input) (begin : ℕ) → (led_rows l fde begin).fault ≡ None → IsOk (initial_row (placed l.factors (program_input l.program l.target)) blank)
 unfolding run_rows
-led_initial l fde begin none = go (initial_row (placed l.factors (program_input l.program l.target)) blank) none
-  where
-    go : (r : Result Rules Refusal) → (on_initial r (λ initial. fde_rows (address_limit fde.target.size) initial (placed l.factors fde).items (placed l.factors fde).fault (begun initial begin))).fault ≡ None → IsOk r
-    go (Ok row) n = refl
-    go (Err r) n = absurd cc
+led_initial l fde begin none = initial_left (initial_row (placed l.factors (program_input l.program l.target)) blank) _ none
 
 -- ---- the FDE's half
 

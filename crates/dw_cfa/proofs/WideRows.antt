@@ -64,7 +64,7 @@ none_removed r low (x ∷ xs) up lt =
     let other : is_at (nat_cmp r) x.0 ≡ false = is_at_other r x.0 (ne_eqb x.0 r (λ same. omega arith)) in
     rw (other, none_removed r (suc x.0) xs up.2 (omega arith)) refl
 
-pub removed_is : (r low : ℕ) (xs : List Entry) → AreSpecified low xs → remove_entry (is_at (nat_cmp r)) xs ≡ put r Unspecified xs
+removed_is : (r low : ℕ) (xs : List Entry) → AreSpecified low xs → remove_entry (is_at (nat_cmp r)) xs ≡ put r Unspecified xs
 removed_is r low [] up = refl
 removed_is r low (x ∷ xs) up = elim (cases_Bool (nat_lt x.0 r)) [
   | inl e ↦
@@ -79,9 +79,9 @@ removed_is r low (x ∷ xs) up = elim (cases_Bool (nat_lt x.0 r)) [
       ]
 ]
 
-pub not_put : (r low : ℕ) (rule : RegRule) (xs : List Entry) → is_specified rule ≡ false → AreSpecified low xs → remove_entry (is_at (nat_cmp r)) xs ≡ put r rule xs
-not_put r low Unspecified xs e up = removed_is r low xs up
-not_put r low rule xs e up = absurd cc
+pub not_put : (r : ℕ) (rule : RegRule) (xs : List Entry) → is_specified rule ≡ false → AreSpecified 0 xs → remove_entry (is_at (nat_cmp r)) xs ≡ put r rule xs
+not_put r Unspecified xs e up = removed_is r 0 xs up
+not_put r rule xs e up = absurd cc
 
 above_front : (low : ℕ) (xs : List Entry) (x : Entry) (rest : List Entry) → AreSpecified low (xs ++ x ∷ rest) → low ≤ x.0
 above_front low [] x rest up = up.0

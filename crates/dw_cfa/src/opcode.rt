@@ -112,6 +112,7 @@ fn times(operand: i128, factor: i64) -> i128
 
 // An unsigned LEB128 number, which mostly has one byte.
 #[inline(always)]
+#[tactic(auto, using(crate::proofs::ShortNumbers::one_byte_read))]
 fn quick_uleb(cursor: &mut Cursor<'_>) -> Result<u64, Refusal>
     ensures { Gives (λ v. v) result (uleb_at cursor.old) cursor.new }
 {
@@ -127,6 +128,7 @@ fn quick_uleb(cursor: &mut Cursor<'_>) -> Result<u64, Refusal>
 
 // The number of a register, which mostly has one byte too.
 #[inline(always)]
+#[tactic(auto, using(crate::proofs::ShortNumbers::one_byte_register))]
 pub(crate) fn quick_register(cursor: &mut Cursor<'_>) -> Result<u16, Refusal>
     ensures { Gives (λ r. r) result (register_at cursor.old) cursor.new }
 {

@@ -268,6 +268,7 @@ impl<'a> Entries<'a> {
         self.next_far_difference(others, behind)
     }
 
+    #[tactic(auto, using(crate::proofs::Lent::RowLists::lower))]
     fn copied(&self, alloc: Global) -> Result<Entries<'a>, AllocError>
         requires { EntriesSo self.now }
         ensures { IfOk result (λ copy. (entries_of copy ≡ entries_of self.now) × EntriesSo copy) }
@@ -299,6 +300,7 @@ impl<'a> Entries<'a> {
 
     // Makes them a copy of others, where some of the registers are in trees.
     #[inline(never)]
+    #[tactic(auto, using(crate::proofs::Lent::RowLists::lower))]
     fn become_wide_copy(&mut self, others: &Entries<'a>, alloc: Global) -> Result<(), AllocError>
         requires before { EntriesSo self.old }
         requires others { EntriesSo others.now }

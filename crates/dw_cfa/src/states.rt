@@ -109,6 +109,7 @@ fn first_again<'a>(
 
 impl<'a> States<'a> {
     /// The row alone. Where changes are tracked, `rewind` brings it back in as many steps as it was changed.
+    #[tactic(auto, using(crate::proofs::StatesLaws::begun_count))]
     pub(crate) fn new(alloc: Global, row: Row<'a>, tracked: bool) -> States<'a>
         ensures { result ≡ record { row = row.entry; stack = []; first = first_if tracked row.entry []; kept = blank } }
     {
@@ -136,6 +137,7 @@ impl<'a> States<'a> {
 
     /// Goes on with a blank row, remembers none, and tracks no changes. Takes no memory.
     #[inline(always)]
+    #[tactic(auto, using(crate::proofs::StatesLaws::begun_count))]
     pub(crate) fn restart(&mut self)
         ensures { self.new ≡ record { row = blank; stack = []; first = None; kept = self.old.kept } }
     {
@@ -188,6 +190,7 @@ impl<'a> States<'a> {
     }
 
     /// Remembers no row, and says whether changes are tracked from the current one on.
+    #[tactic(auto, using(crate::proofs::StatesLaws::begun_count))]
     pub(crate) fn track(&mut self, tracked: bool)
         ensures { self.new ≡ record { row = self.old.row; stack = []; first = first_if tracked self.old.row []; kept = self.old.kept } }
     {
@@ -269,6 +272,7 @@ impl<'a> States<'a> {
 
     /// Goes back to the initial row, which was the first, and remembers none.
     #[inline(always)]
+    #[tactic(auto, using(crate::proofs::StatesLaws::begun_count))]
     pub(crate) fn rewind(&mut self, initial: &Row<'a>) -> Result<(), AllocError>
         requires { BeganWith initial.now self.old.first }
         ensures kept { self.new.kept ≡ self.old.kept }

@@ -26,6 +26,7 @@ pub(crate) fn tree_of<'a>(
 }
 
 /// Gives a register a rule in a tree. Unspecified takes it out.
+#[tactic(auto, using(crate::proofs::WideRows::inserted_is, crate::proofs::WideRows::not_put))]
 pub(crate) fn set_in_tree<'a>(
     entries: &mut BTreeMap<u16, RegRule<'a>>,
     register: u16,

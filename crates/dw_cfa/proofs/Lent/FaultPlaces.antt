@@ -1,30 +1,19 @@
 -- The first faults of programs lie in them.
-use Rattle.std.proofs.Common.{◌≡◌, ℕ, ◌+◌, List, ◌∷◌, ◌++◌, length, Err, ap, ◌∙◌, subst, arith, inl, inr}
-use Rattle.std.proofs.lemmas.List.{length-append, get_or-append-add}
+use Rattle.std.proofs.Common.{◌≡◌, ◌+◌, List, ◌∷◌, length, ap, arith, inl, inr}
+use Rattle.std.proofs.lemmas.List.{length-append}
 use Rattle.dw_num.specs.declared.refusal.Code.{Code}
 use Rattle.dw_num.specs.declared.refusal.Refusal.{Refusal}
 use Rattle.dw_num.specs.Input.{Input, AreBytes}
-use Rattle.dw_num.specs.Front.{Read}
-use Rattle.dw_num.proofs.Lent.Stays.{Stays}
 use Rattle.dw_cfa.specs.declared.instr.Factors.{Factors}
 use Rattle.dw_cfa.specs.declared.instr.Instr.{Instr}
 use Rattle.dw_cfa.specs.Faults.{FaultBehind, BrokenBehind}
 use Rattle.dw_cfa.specs.FaultPlaces.{IsWithin, CieFaultsWithin, FdeFaultsWithin, RunFaultsWithin}
 use Rattle.dw_cfa.specs.Listing.{ProgramFault}
-use Rattle.dw_cfa.proofs.InstrPlaces.{instr_stays}
+use Rattle.dw_cfa.proofs.Lent.Listings.{stuck_within}
 use Rattle.dw_cfa.proofs.Stuck.{fault_stuck}
 
-rest_bytes : (front rest : List ℕ) → AreBytes (front ++ rest) → AreBytes rest
-rest_bytes front rest h = λ k. let e = get_or-append-add front rest k 0 in omega (arith, h (length front + k))
-
 read_within : (i : Input) (f : Factors) (instrs : List Instr) (r : Refusal) → AreBytes i.bytes → ProgramFault i.target f i.at i.bytes instrs r → IsWithin i r
-read_within i f instrs r are h =
-    let rest = h.code ∷ h.operands in
-    let there : Input = record { at = i.at + length h.front; bytes = rest; target = i.target } in
-    let stuck = fault_stuck f i.target (i.at + length h.front) h.code h.operands r h.fault in
-    let stays : Stays {X = Instr} there (Err r) = subst (λ (read : Read Instr). Stays there read) stuck (instr_stays f there (rest_bytes h.front rest (subst AreBytes h.whole are))) in
-    let len : length i.bytes ≡ length h.front + length rest = ap length h.whole ∙ length-append h.front rest in
-    (omega (arith, stays.0), omega (arith, stays.1, len))
+read_within i f instrs r are h = stuck_within f i h.front (h.code ∷ h.operands) r are h.whole (fault_stuck f i.target (i.at + length h.front) h.code h.operands r h.fault)
 
 broken_within : (i : Input) (f : Factors) (instrs : List Instr) (Breaks : Instr → Code → Type 0) (r : Refusal) → BrokenBehind f i instrs Breaks r → IsWithin i r
 broken_within i f instrs Breaks r h =

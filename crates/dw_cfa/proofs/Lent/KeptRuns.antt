@@ -95,62 +95,49 @@ halves_kept limit i s e keeps = absurd cc
 
 -- ---- a program that is run keeps the rules
 
--- what holds of no instructions
-nothing_kept : (limit begin : ℕ) (initial : Rules) (earlier : List Instr) (s : State) → Stands limit begin initial earlier s → KeptFrom limit begin initial.cfa earlier []
-nothing_kept limit begin initial earlier s h = record {
-  halves = λ k i e keeps. none k i e;
-  forwards = λ k lt. absurd (omega arith);
-  in_space = λ k le. let z : k ≡ 0 = omega arith in subst (λ (n : ℕ). location_back begin (onto earlier [] n) ≤ limit) (sym z) here_in;
-  matched = λ k le. let z : k ≡ 0 = omega arith in subst (λ (n : ℕ). restored (onto earlier [] n) ≤ remembered (onto earlier [] n)) (sym z) (let b = h.balance in omega arith);
-  room = λ k le. let z : k ≡ 0 = omega arith in subst (λ (n : ℕ). remembered (onto earlier [] n) ≤ restored (onto earlier [] n) + 64) (sym z) (let b = h.balance in let r = h.room in omega arith);
-}
-  where
-    here_in : location_back begin earlier ≤ limit
-    here_in = subst (λ (n : ℕ). n ≤ limit) h.follows.location h.within
+-- the state behind the first k instructions
+stands_behind : (limit begin : ℕ) (initial : Rules) (items : List Placed) (earlier : List Instr) (s : State) (k : ℕ) → Stands limit begin initial earlier s → AllInLimit limit (instrs_of items)
+    → AllRun (fde_fault limit) (after initial) items s → (t : State) × Stands limit begin initial (onto earlier (instrs_of items) k) t
+stands_behind limit begin initial items earlier s zero h all run = (s, h)
+stands_behind limit begin initial [] earlier s (suc k) h all run = (s, h)
+stands_behind limit begin initial (item ∷ items) earlier s (suc k) h all run =
+    stands_behind limit begin initial items (item.instr ∷ earlier) (after initial item.instr s) k (stands_after limit begin initial item.instr earlier s h all.0 run.0) all.1 run.1
 
-    none : (k : ℕ) (i : Instr) {P : Type 0} → slice_get [] k ≡ Some i → P
-    none zero i e = absurd cc
-    none (suc k) i e = absurd cc
+-- and the next one there
+record Next (limit begin : ℕ) (initial : Rules) (i : Instr) (earlier later : List Instr) : Type 0 where
+  state : State
+  follows : Follows initial begin earlier state
+  runs : fde_fault limit i state ≡ None
+  after_it : Follows initial begin later (after initial i state)
 
--- and of one more
-one_kept : (limit begin : ℕ) (initial : Rules) (i : Instr) (earlier instrs : List Instr) (s : State) → Stands limit begin initial earlier s → fde_fault limit i s ≡ None
-    → Follows initial begin (i ∷ earlier) (after initial i s) → KeptFrom limit begin initial.cfa (i ∷ earlier) instrs → KeptFrom limit begin initial.cfa earlier (i ∷ instrs)
-one_kept limit begin initial i earlier instrs s h e next rest = record {
-  halves = halves;
-  forwards = goes;
-  in_space = space;
-  matched = match;
-  room = rooms;
-}
-  where
-    halves : (k : ℕ) (j : Instr) → slice_get (i ∷ instrs) k ≡ Some j → IsTrue (keeps_half j) → IsRegisterRule (look_back cfa_change initial.cfa 0 (onto earlier (i ∷ instrs) k))
-    halves zero j is keeps =
-        let same : i ≡ j = cc in
-        subst IsRegisterRule h.follows.row.cfa (halves_kept limit i s e (subst (λ (x : Instr). IsTrue (keeps_half x)) (sym same) keeps))
-    halves (suc k) j is keeps = rest.halves k j is keeps
+next_at : (limit begin : ℕ) (initial : Rules) (items : List Placed) (earlier : List Instr) (s : State) (k : ℕ) (i : Instr) → Follows initial begin earlier s → AllRun (fde_fault limit) (after initial) items s
+    → slice_get (instrs_of items) k ≡ Some i → Next limit begin initial i (onto earlier (instrs_of items) k) (onto earlier (instrs_of items) (suc k))
+next_at limit begin initial [] earlier s zero i h run is = absurd cc
+next_at limit begin initial [] earlier s (suc k) i h run is = absurd cc
+next_at limit begin initial (item ∷ items) earlier s zero i h run is =
+    let same : item.instr ≡ i = cc in
+    let behind = after_follows initial begin item.instr earlier s limit h run.0 in
+    subst (λ (j : Instr). Next limit begin initial j earlier (item.instr ∷ earlier)) same (record { state = s; follows = h; runs = run.0; after_it = behind })
+next_at limit begin initial (item ∷ items) earlier s (suc k) i h run is =
+    next_at limit begin initial items (item.instr ∷ earlier) (after initial item.instr s) k i (after_follows initial begin item.instr earlier s limit h run.0) run.1 is
 
-    goes : (k : ℕ) → k < length (i ∷ instrs) → location_back begin (onto earlier (i ∷ instrs) k) ≤ location_back begin (onto earlier (i ∷ instrs) (suc k))
-    goes zero lt = let a = h.follows.location in let b = next.location in let c = forwards limit initial i s e in omega arith
-    goes (suc k) lt = rest.forwards k (omega arith)
-
-    space : (k : ℕ) → k ≤ length (i ∷ instrs) → location_back begin (onto earlier (i ∷ instrs) k) ≤ limit
-    space zero le = let a = h.follows.location in let b = h.within in omega arith
-    space (suc k) le = rest.in_space k (omega arith)
-
-    match : (k : ℕ) → k ≤ length (i ∷ instrs) → restored (onto earlier (i ∷ instrs) k) ≤ remembered (onto earlier (i ∷ instrs) k)
-    match zero le = let b = h.balance in omega arith
-    match (suc k) le = rest.matched k (omega arith)
-
-    rooms : (k : ℕ) → k ≤ length (i ∷ instrs) → remembered (onto earlier (i ∷ instrs) k) ≤ restored (onto earlier (i ∷ instrs) k) + 64
-    rooms zero le = let b = h.balance in let r = h.room in omega arith
-    rooms (suc k) le = rest.room k (omega arith)
+some_at : (instrs : List Instr) (k : ℕ) → k < length instrs → (i : Instr) × (slice_get instrs k ≡ Some i)
+some_at [] k lt = absurd (omega arith)
+some_at (i ∷ instrs) zero lt = (i, refl)
+some_at (i ∷ instrs) (suc k) lt = some_at instrs k (omega arith)
 
 pub kept_run : (limit begin : ℕ) (initial : Rules) (items : List Placed) (earlier : List Instr) (s : State) → Stands limit begin initial earlier s
     → AllInLimit limit (instrs_of items) → AllRun (fde_fault limit) (after initial) items s → KeptFrom limit begin initial.cfa earlier (instrs_of items)
-kept_run limit begin initial [] earlier s h all run = nothing_kept limit begin initial earlier s h
-kept_run limit begin initial (item ∷ items) earlier s h all run =
-    let stands = stands_after limit begin initial item.instr earlier s h all.0 run.0 in
-    one_kept limit begin initial item.instr earlier (instrs_of items) s h run.0 stands.follows (kept_run limit begin initial items (item.instr ∷ earlier) (after initial item.instr s) stands all.1 run.1)
+kept_run limit begin initial items earlier s h all run = record {
+  halves = λ k i is keeps. let n = next_at limit begin initial items earlier s k i h.follows run is in subst IsRegisterRule n.follows.row.cfa (halves_kept limit i n.state n.runs keeps);
+  forwards = λ k lt.
+      let some = some_at (instrs_of items) k lt in
+      let n = next_at limit begin initial items earlier s k some.0 h.follows run some.1 in
+      omega (arith, n.follows.location, n.after_it.location, forwards limit initial some.0 n.state n.runs);
+  in_space = λ k le. let t = (stands_behind limit begin initial items earlier s k h all run).1 in omega (arith, t.within, t.follows.location);
+  matched = λ k le. let t = (stands_behind limit begin initial items earlier s k h all run).1 in omega (arith, t.balance);
+  room = λ k le. let t = (stands_behind limit begin initial items earlier s k h all run).1 in omega (arith, t.balance, t.room);
+}
 
 pub kept_from : (limit begin : ℕ) (initial : Rules) (items : List Placed) (earlier : List Instr) (s : State) (rows : List LocatedRow) → Stands limit begin initial earlier s
     → AllInLimit limit (instrs_of items) → Gives limit initial items s rows → KeptFrom limit begin initial.cfa earlier (instrs_of items)

@@ -191,16 +191,21 @@ yields_fault f i r some e = listing_stuck f i r some e
 
 -- ---- places
 
--- a fault has a place in the program or at its end
+-- what cannot be read behind a front has its fault in the program or at its end
+pub stuck_within : (f : Factors) (i : Input) (front rest : List ℕ) (r : Refusal) → AreBytes i.bytes → i.bytes ≡ front ++ rest → instr_at f (input (i.at + length front) rest i.target) ≡ Err r
+    → (i.at ≤ r.at) × (r.at ≤ i.at + length i.bytes)
+stuck_within f i front rest r h whole stuck =
+    let here = input (i.at + length front) rest i.target in
+    let are : AreBytes rest = taken_bytes i here front (record { bytes = whole; at = refl; target = refl }) h in
+    let stays : Stays {X = Instr} here (Err r) = subst (λ (x : Read Instr). Stays here x) stuck (instr_stays f here are) in
+    (omega (arith, stays.0), omega (arith, stays.1, ap length whole, length-append front rest))
+
 pub fault_place : (f : Factors) (i : Input) → AreBytes i.bytes → (o : Option Refusal) → (listing f i).fault ≡ o → IfSome o (λ r. (i.at ≤ r.at) × (r.at ≤ i.at + length i.bytes))
 fault_place f i h None e = tt
 fault_place f i h (Some r) e =
     let l = listed_by f (length i.bytes) i (omega arith) h in
-    let here = input (i.at + length l.front) l.rest i.target in
-    let ends : Ends f here (Some r) = subst (λ (o : Option Refusal). Ends f here o) e l.ends in
-    let are : AreBytes l.rest = taken_bytes i here l.front (record { bytes = l.whole; at = refl; target = refl }) h in
-    let stays : Stays {X = Instr} here (Err r) = subst (λ (x : Read Instr). Stays here x) ends.1 (instr_stays f here are) in
-    (omega (arith, stays.0), omega (arith, stays.1, ap length l.whole, length-append l.front l.rest))
+    let ends = subst (λ (o : Option Refusal). Ends f (input (i.at + length l.front) l.rest i.target) o) e l.ends in
+    stuck_within f i l.front l.rest r h l.whole ends.1
 
 pub made_place : (f : Factors) (t : Target) (at : ℕ) (bytes : List ℕ) (made : Input) → made ≡ input at bytes t → AreBytes bytes → IfSome (left_of false f made).fault (λ r. (at ≤ r.at) × (r.at ≤ at + length bytes))
 unfolding left_of

@@ -107,55 +107,32 @@ module _ (t : Target) (f : Factors) where
   signed_so z range c s = record { operand = z; spelled = s; value = refl; range = range }
 
   by_opcode : (code : ℕ) (opcode : Opcode) (instr : Instr) (b : List ℕ) → CodeOf opcode code → FormSpells t (form_of f opcode) instr b → IsOffset (offset_of instr) → IsSpelled t f instr (code ∷ b)
-  by_opcode code opcodes.Nop instr b is h range = made_so Nop instr (code ∷ b) h.0 range (λ k. alone_so code 0x00 b is h.1)
-  by_opcode code opcodes.SetLoc instr b is h range = made_so (SetLoc h.0) instr (code ∷ b) h.1 range (λ k. code_so code 0x01 (Address t h.0) b is h.2)
-  by_opcode code (opcodes.AdvanceLoc delta) instr b is h range = made_so (advanced f delta) instr (code ∷ b) h.0 range (λ k. (delta, inl (is.1, alone_so code (0x40 + delta) b is.0 h.1), refl))
-  by_opcode code opcodes.AdvanceLoc1 instr b is h range = made_so (advanced f h.0) instr (code ∷ b) h.1 range (λ k. (h.0, inr (inl (code_so code 0x02 (Fixed t.order 1 h.0) b is h.2)), refl))
-  by_opcode code opcodes.AdvanceLoc2 instr b is h range = made_so (advanced f h.0) instr (code ∷ b) h.1 range (λ k. (h.0, inr (inr (inl (code_so code 0x03 (Fixed t.order 2 h.0) b is h.2))), refl))
-  by_opcode code opcodes.AdvanceLoc4 instr b is h range = made_so (advanced f h.0) instr (code ∷ b) h.1 range (λ k. (h.0, inr (inr (inr (code_so code 0x04 (Fixed t.order 4 h.0) b is h.2))), refl))
-  by_opcode code (opcodes.Offset r) instr b is h range =
-      let z = pos h.0 *ℤ f.data_factor in
-      made_so (Set r (rules.Offset z)) instr (code ∷ b) h.1 range (λ k. inl (is.1, code_so code (0x80 + r) (Factored f z) b is.0 (factored_so h.0 k b h.2)))
-  by_opcode code opcodes.OffsetExtended instr b is h range =
-      let z = pos h.1 *ℤ f.data_factor in
-      made_so (Set h.0 (rules.Offset z)) instr (code ∷ b) h.2 range
-      (λ k. inr (inl (code_so code 0x05 (Both (Register h.0) (Factored f z)) b is (second_so (Register h.0) (Uleb h.1) (Factored f z) b (factored_so h.1 k) h.3))))
-  by_opcode code opcodes.OffsetExtendedSf instr b is h range =
-      let z = h.1 *ℤ f.data_factor in
-      made_so (Set h.0 (rules.Offset z)) instr (code ∷ b) h.2 range
-      (λ k. inr (inr (code_so code 0x11 (Both (Register h.0) (SignedFactored f z)) b is (second_so (Register h.0) (Sleb h.1) (SignedFactored f z) b (signed_so h.1 k) h.3))))
-  by_opcode code (opcodes.Restore r) instr b is h range = made_so (Restore r) instr (code ∷ b) h.0 range (λ k. inl (is.1, alone_so code (0xc0 + r) b is.0 h.1))
-  by_opcode code opcodes.RestoreExtended instr b is h range = made_so (Restore h.0) instr (code ∷ b) h.1 range (λ k. inr (code_so code 0x06 (Register h.0) b is h.2))
-  by_opcode code opcodes.Undefined instr b is h range = made_so (Set h.0 rules.Undefined) instr (code ∷ b) h.1 range (λ k. code_so code 0x07 (Register h.0) b is h.2)
-  by_opcode code opcodes.SameValue instr b is h range = made_so (Set h.0 rules.SameValue) instr (code ∷ b) h.1 range (λ k. code_so code 0x08 (Register h.0) b is h.2)
-  by_opcode code opcodes.Register instr b is h range = made_so (Set h.0 (rules.Register h.1)) instr (code ∷ b) h.2 range (λ k. code_so code 0x09 (Both (Register h.0) (Register h.1)) b is h.3)
-  by_opcode code opcodes.RememberState instr b is h range = made_so RememberState instr (code ∷ b) h.0 range (λ k. alone_so code 0x0a b is h.1)
-  by_opcode code opcodes.RestoreState instr b is h range = made_so RestoreState instr (code ∷ b) h.0 range (λ k. alone_so code 0x0b b is h.1)
-  by_opcode code opcodes.DefCfa instr b is h range =
-      made_so (DefCfa h.0 (pos h.1)) instr (code ∷ b) h.2 range
-      (λ k. inl (code_so code 0x0c (Both (Register h.0) (Plain (pos h.1))) b is (second_so (Register h.0) (Uleb h.1) (Plain (pos h.1)) b (plain_so h.1 k) h.3)))
-  by_opcode code opcodes.DefCfaSf instr b is h range =
-      let z = h.1 *ℤ f.data_factor in
-      made_so (DefCfa h.0 z) instr (code ∷ b) h.2 range
-      (λ k. inr (code_so code 0x12 (Both (Register h.0) (SignedFactored f z)) b is (second_so (Register h.0) (Sleb h.1) (SignedFactored f z) b (signed_so h.1 k) h.3)))
-  by_opcode code opcodes.DefCfaRegister instr b is h range = made_so (DefCfaRegister h.0) instr (code ∷ b) h.1 range (λ k. code_so code 0x0d (Register h.0) b is h.2)
-  by_opcode code opcodes.DefCfaOffset instr b is h range = made_so (DefCfaOffset (pos h.0)) instr (code ∷ b) h.1 range (λ k. inl (code_so code 0x0e (Plain (pos h.0)) b is (plain_so h.0 k b h.2)))
-  by_opcode code opcodes.DefCfaOffsetSf instr b is h range =
-      let z = h.0 *ℤ f.data_factor in
-      made_so (DefCfaOffset z) instr (code ∷ b) h.1 range (λ k. inr (code_so code 0x13 (SignedFactored f z) b is (signed_so h.0 k b h.2)))
-  by_opcode code opcodes.DefCfaExpression instr b is h range = made_so (DefCfaExpression h.0) instr (code ∷ b) h.1 range (λ k. code_so code 0x0f (BlockSpells t h.0) b is h.2)
-  by_opcode code opcodes.Expression instr b is h range =
-      made_so (Set h.0 (rules.Expression h.1)) instr (code ∷ b) h.2 range (λ k. code_so code 0x10 (Both (Register h.0) (BlockSpells t h.1)) b is h.3)
-  by_opcode code opcodes.ValOffset instr b is h range =
-      let z = pos h.1 *ℤ f.data_factor in
-      made_so (Set h.0 (rules.ValOffset z)) instr (code ∷ b) h.2 range
-      (λ k. inl (code_so code 0x14 (Both (Register h.0) (Factored f z)) b is (second_so (Register h.0) (Uleb h.1) (Factored f z) b (factored_so h.1 k) h.3)))
-  by_opcode code opcodes.ValOffsetSf instr b is h range =
-      let z = h.1 *ℤ f.data_factor in
-      made_so (Set h.0 (rules.ValOffset z)) instr (code ∷ b) h.2 range
-      (λ k. inr (code_so code 0x15 (Both (Register h.0) (SignedFactored f z)) b is (second_so (Register h.0) (Sleb h.1) (SignedFactored f z) b (signed_so h.1 k) h.3)))
-  by_opcode code opcodes.ValExpression instr b is h range =
-      made_so (Set h.0 (rules.ValExpression h.1)) instr (code ∷ b) h.2 range (λ k. code_so code 0x16 (Both (Register h.0) (BlockSpells t h.1)) b is h.3)
+  by_opcode code opcodes.Nop instr b is h range = made_so _ instr (code ∷ b) h.0 range (λ k. alone_so code 0x00 b is h.1)
+  by_opcode code opcodes.SetLoc instr b is h range = made_so _ instr (code ∷ b) h.1 range (λ k. code_so code 0x01 _ b is h.2)
+  by_opcode code (opcodes.AdvanceLoc delta) instr b is h range = made_so _ instr (code ∷ b) h.0 range (λ k. (delta, inl (is.1, alone_so code (0x40 + delta) b is.0 h.1), refl))
+  by_opcode code opcodes.AdvanceLoc1 instr b is h range = made_so _ instr (code ∷ b) h.1 range (λ k. (h.0, inr (inl (code_so code 0x02 _ b is h.2)), refl))
+  by_opcode code opcodes.AdvanceLoc2 instr b is h range = made_so _ instr (code ∷ b) h.1 range (λ k. (h.0, inr (inr (inl (code_so code 0x03 _ b is h.2))), refl))
+  by_opcode code opcodes.AdvanceLoc4 instr b is h range = made_so _ instr (code ∷ b) h.1 range (λ k. (h.0, inr (inr (inr (code_so code 0x04 _ b is h.2))), refl))
+  by_opcode code (opcodes.Offset r) instr b is h range = made_so _ instr (code ∷ b) h.1 range (λ k. inl (is.1, code_so code (0x80 + r) _ b is.0 (factored_so h.0 k b h.2)))
+  by_opcode code opcodes.OffsetExtended instr b is h range = made_so _ instr (code ∷ b) h.2 range (λ k. inr (inl (code_so code 0x05 _ b is (second_so _ _ _ b (factored_so h.1 k) h.3))))
+  by_opcode code opcodes.OffsetExtendedSf instr b is h range = made_so _ instr (code ∷ b) h.2 range (λ k. inr (inr (code_so code 0x11 _ b is (second_so _ _ _ b (signed_so h.1 k) h.3))))
+  by_opcode code (opcodes.Restore r) instr b is h range = made_so _ instr (code ∷ b) h.0 range (λ k. inl (is.1, alone_so code (0xc0 + r) b is.0 h.1))
+  by_opcode code opcodes.RestoreExtended instr b is h range = made_so _ instr (code ∷ b) h.1 range (λ k. inr (code_so code 0x06 _ b is h.2))
+  by_opcode code opcodes.Undefined instr b is h range = made_so _ instr (code ∷ b) h.1 range (λ k. code_so code 0x07 _ b is h.2)
+  by_opcode code opcodes.SameValue instr b is h range = made_so _ instr (code ∷ b) h.1 range (λ k. code_so code 0x08 _ b is h.2)
+  by_opcode code opcodes.Register instr b is h range = made_so _ instr (code ∷ b) h.2 range (λ k. code_so code 0x09 _ b is h.3)
+  by_opcode code opcodes.RememberState instr b is h range = made_so _ instr (code ∷ b) h.0 range (λ k. alone_so code 0x0a b is h.1)
+  by_opcode code opcodes.RestoreState instr b is h range = made_so _ instr (code ∷ b) h.0 range (λ k. alone_so code 0x0b b is h.1)
+  by_opcode code opcodes.DefCfa instr b is h range = made_so _ instr (code ∷ b) h.2 range (λ k. inl (code_so code 0x0c _ b is (second_so _ _ _ b (plain_so h.1 k) h.3)))
+  by_opcode code opcodes.DefCfaSf instr b is h range = made_so _ instr (code ∷ b) h.2 range (λ k. inr (code_so code 0x12 _ b is (second_so _ _ _ b (signed_so h.1 k) h.3)))
+  by_opcode code opcodes.DefCfaRegister instr b is h range = made_so _ instr (code ∷ b) h.1 range (λ k. code_so code 0x0d _ b is h.2)
+  by_opcode code opcodes.DefCfaOffset instr b is h range = made_so _ instr (code ∷ b) h.1 range (λ k. inl (code_so code 0x0e _ b is (plain_so h.0 k b h.2)))
+  by_opcode code opcodes.DefCfaOffsetSf instr b is h range = made_so _ instr (code ∷ b) h.1 range (λ k. inr (code_so code 0x13 _ b is (signed_so h.0 k b h.2)))
+  by_opcode code opcodes.DefCfaExpression instr b is h range = made_so _ instr (code ∷ b) h.1 range (λ k. code_so code 0x0f _ b is h.2)
+  by_opcode code opcodes.Expression instr b is h range = made_so _ instr (code ∷ b) h.2 range (λ k. code_so code 0x10 _ b is h.3)
+  by_opcode code opcodes.ValOffset instr b is h range = made_so _ instr (code ∷ b) h.2 range (λ k. inl (code_so code 0x14 _ b is (second_so _ _ _ b (factored_so h.1 k) h.3)))
+  by_opcode code opcodes.ValOffsetSf instr b is h range = made_so _ instr (code ∷ b) h.2 range (λ k. inr (code_so code 0x15 _ b is (second_so _ _ _ b (signed_so h.1 k) h.3)))
+  by_opcode code opcodes.ValExpression instr b is h range = made_so _ instr (code ∷ b) h.2 range (λ k. code_so code 0x16 _ b is h.3)
 
   -- what is spelled by the table is spelled so
   pub by_table : (instr : Instr) (b : List ℕ) → InstrSpells t f instr b → IsSpelled t f instr b

@@ -1,6 +1,7 @@
-use Rattle.std.proofs.Common.{◌≡◌, ◌≤◌, ℕ, Some, subst, ◌∙◌}
+use Rattle.std.proofs.Common.{◌≡◌, ◌≤◌, ℕ, Some, rules, subst, ◌∙◌}
 use Rattle.std.proofs.lemmas.Result.{err_from_is_err_and}
 use Rattle.dw_num.specs.Refusals.{Refuses}
+use Rattle.dw_cfa.specs.declared.machine.Machine.{Machine}
 use Rattle.dw_cfa.specs.RuleAt.{last_at}
 use Rattle.dw_cfa.specs.Runs.{Outcome}
 use Rattle.dw_cfa.specs.Inner.Runs.{StopsAbove, rows_left}
@@ -23,11 +24,6 @@ returns-in_err-run_to-clause-err c =
     let p = err_from_is_err_and c.from_residual-in_err-run_to.result c.from_residual-in_err-run_to.ensures.1 in
     rw (p.1, p.2) (subst (λ (o : Outcome). Refuses (λ r. o.fault ≡ Some r) c.in_err-run_to.field-0.0) ran c.in_err-run_to.ensures.err)
 
-pub returns-clause-found : goal.returns-clause-found
-returns-clause-found c =
-    let ran = begun_ran c.args.factors c.args.cie.now c.args.fde.now c.args.machine.now c.become_copy.new.self c.run_initial.new.states c.in_ok-run_initial.ensures.ok (c.in_ok-become_copy.ensures ∙ c.row.ensures) (c.in_ok-run_initial.ensures.same.0 ∙ c.requires.fresh.1) in
-    subst (λ (o : Outcome). last_at c.args.address o.rows ≡ Some c.run_to.new.machine.states.row) ran (c.in_ok-run_to.ensures.last c.requires.start)
-
 pub returns-in_err-run_initial-clause-up_to : goal.returns-in_err-run_initial-clause-up_to
 returns-in_err-run_initial-clause-up_to c =
     let p = err_from_is_err_and c.from_residual.result c.from_residual.ensures.1 in
@@ -39,9 +35,18 @@ returns-in_err-run_to-clause-up_to c =
     let p = err_from_is_err_and c.from_residual-in_err-run_to.result c.from_residual-in_err-run_to.ensures.1 in
     rw (p.1, p.2) (subst (λ (n : ℕ). Refuses (λ r. n ≤ c.args.address) c.in_err-run_to.field-0.0) same (c.in_err-run_to.ensures.up_to c.requires.start))
 
-pub returns-clause-none : goal.returns-clause-none
-returns-clause-none c =
-    let ran = begun_ran c.args.factors c.args.cie.now c.args.fde.now c.args.machine.now c.become_copy.new.self c.run_initial.new.states c.in_ok-run_initial.ensures.ok (c.in_ok-become_copy.ensures ∙ c.row.ensures) (c.in_ok-run_initial.ensures.same.0 ∙ c.requires.fresh.1) in
-    let same = begun_stops c.args.factors c.args.cie.now c.args.fde.now c.args.machine.now c.become_copy.new.self c.run_initial.new.states c.in_ok-run_initial.ensures.ok (c.in_ok-become_copy.ensures ∙ c.row.ensures) (c.in_ok-run_initial.ensures.same.0 ∙ c.requires.fresh.1) in
-    subst (λ (o : Outcome). StopsAbove o.fault (begun_stop c.args.factors c.args.cie.now c.args.fde.now c.args.machine.now) c.args.address) ran
-    (subst (λ (n : ℕ). StopsAbove (rows_left c.args.factors c.args.fde.now (record { initial = c.become_copy.new.self; states = c.run_initial.new.states; location = c.args.machine.now.location; limit = c.args.machine.now.limit })).fault n c.args.address) same c.in_ok-run_to.ensures.none)
+pub returns : goal.returns
+returns c =
+    let f = c.args.factors in let cie = c.args.cie.now in let fde = c.args.fde.now in let old = c.args.machine.now in
+    let m : Machine = record { initial = c.become_copy.new.self; states = c.run_initial.new.states; location = old.location; limit = old.limit } in
+    let copy = c.in_ok-become_copy.ensures ∙ c.row.ensures in
+    let none = c.in_ok-run_initial.ensures.same.0 ∙ c.requires.fresh.1 in
+    let ran = begun_ran f cie fde old c.become_copy.new.self c.run_initial.new.states c.in_ok-run_initial.ensures.ok copy none in
+    let stops = begun_stops f cie fde old c.become_copy.new.self c.run_initial.new.states c.in_ok-run_initial.ensures.ok copy none in
+    record {
+      found = subst (λ (o : Outcome). last_at c.args.address o.rows ≡ Some c.run_to.new.machine.states.row) ran (c.in_ok-run_to.ensures.last c.requires.start);
+      err = search rules;
+      up_to = search rules;
+      none = subst (λ (o : Outcome). StopsAbove o.fault (begun_stop f cie fde old) c.args.address) ran
+          (subst (λ (n : ℕ). StopsAbove (rows_left f fde m).fault n c.args.address) stops c.in_ok-run_to.ensures.none);
+    }

@@ -1,4 +1,4 @@
-use Rattle.std.proofs.Common.{◌≡◌, ◌≤◌, ℕ, Some, sym, ap, subst, ◌∙◌}
+use Rattle.std.proofs.Common.{◌≡◌, ℕ, Some, arith, rules, sym, ap, subst, ◌∙◌}
 use Rattle.std.specs.Prelude.{OnOk}
 use Rattle.dw_cfa.specs.RuleAt.{last_at, NeverFalls}
 use Rattle.dw_num.specs.Input.{AreBytes}
@@ -24,37 +24,22 @@ run_to-requires-clause-never_falls c =
     subst (λ (o : Outcome). (low : ℕ) × NeverFalls low o.rows)
     (sym (led_ran c.args.leading c.args.fde.now c.args.machine.now c.ready.new.machine c.requires.so c.in_ok-ready.ensures.ok)) c.requires.never_falls
 
-pub returns-clause-last : goal.returns-clause-last
-returns-clause-last c le =
+pub returns : goal.returns
+returns c =
+    let l = c.args.leading in let fde = c.args.fde.now in let at = c.ready.new.machine in let new = c.run_to.new.machine in
     let so = c.in_ok-ready.ensures.ok in
-    subst (λ (o : Outcome). OnOk c.run_to.result (last_at c.args.address o.rows ≡ Some c.run_to.new.machine.states.row))
-    (led_ran c.args.leading c.args.fde.now c.args.machine.now c.ready.new.machine c.requires.so so) (c.run_to.ensures.last (subst (λ (n : ℕ). n ≤ c.args.address) (sym so.location) le))
-
-pub returns-clause-keeps : goal.returns-clause-keeps
-returns-clause-keeps c =
-    let l = c.args.leading in
-    let at = c.ready.new.machine in
+    let same = led_ran l fde c.args.machine.now at c.requires.so so in
+    let none = ap (λ (o : Outcome). o.fault) same ∙ c.requires.known in
     let bytes = subst AreBytes c.rest.ensures c.are_bytes-2.ensures in
-    let ran = c.run_to.ensures.keeps at.initial (led_keeps l c.args.fde.now c.args.machine.now at c.are_bytes.ensures bytes c.requires.so c.in_ok-ready.ensures.ok) in
-    subst (λ (r : Rules). OnOk c.run_to.result (AllSpecify r (rows_left l.factors c.run_to.new.cursor c.run_to.new.machine).rows)) (sym c.run_to.ensures.initial) ran
-
-pub returns-clause-known : goal.returns-clause-known
-returns-clause-known c =
-    let same = led_ran c.args.leading c.args.fde.now c.args.machine.now c.ready.new.machine c.requires.so c.in_ok-ready.ensures.ok in
-    still_none c.run_to.result (rows_left c.args.leading.factors c.run_to.new.cursor c.run_to.new.machine).fault (rows_left c.args.leading.factors c.args.fde.now c.ready.new.machine).fault c.run_to.ensures.fault (ap (λ (o : Outcome). o.fault) same ∙ c.requires.known)
-
-pub returns-clause-err : goal.returns-clause-err
-returns-clause-err c =
-    let same = led_ran c.args.leading c.args.fde.now c.args.machine.now c.ready.new.machine c.requires.so c.in_ok-ready.ensures.ok in
-    only_memory c.run_to.result (rows_left c.args.leading.factors c.args.fde.now c.ready.new.machine).fault (ap (λ (o : Outcome). o.fault) same ∙ c.requires.known) c.run_to.ensures.err
-
-pub returns-clause-behind : goal.returns-clause-behind
-returns-clause-behind c le =
-    let so = c.in_ok-ready.ensures.ok in
-    subst (λ (o : Outcome). LeavesAbove c.args.address o c.args.leading.factors c.run_to.new.cursor c.run_to.new.machine c.run_to.result)
-    (led_ran c.args.leading c.args.fde.now c.args.machine.now c.ready.new.machine c.requires.so so) (c.run_to.ensures.behind (subst (λ (n : ℕ). n ≤ c.args.address) (sym so.location) le))
-
-pub returns-clause-left : goal.returns-clause-left
-returns-clause-left c =
-    let new = c.run_to.new.machine in
-    left_where _ c.run_to.result (row_left c.args.leading c.ready.new.machine new c.are_bytes.ensures c.in_ok-ready.ensures.ok.initial c.run_to.ensures.initial)
+    let keeps = c.run_to.ensures.keeps at.initial (led_keeps l fde c.args.machine.now at c.are_bytes.ensures bytes c.requires.so so) in
+    record {
+      last = λ le. subst (λ (o : Outcome). OnOk c.run_to.result (last_at c.args.address o.rows ≡ Some new.states.row)) same (c.run_to.ensures.last (omega (arith, so.location, le)));
+      behind = λ le. subst (λ (o : Outcome). LeavesAbove c.args.address o l.factors c.run_to.new.cursor new c.run_to.result) same (c.run_to.ensures.behind (omega (arith, so.location, le)));
+      so = search rules;
+      known = still_none c.run_to.result (rows_left l.factors c.run_to.new.cursor new).fault (rows_left l.factors fde at).fault c.run_to.ensures.fault none;
+      err = only_memory c.run_to.result (rows_left l.factors fde at).fault none c.run_to.ensures.err;
+      kept = search rules;
+      keeps = subst (λ (r : Rules). OnOk c.run_to.result (AllSpecify r (rows_left l.factors c.run_to.new.cursor new).rows)) (sym c.run_to.ensures.initial) keeps;
+      left = left_where _ c.run_to.result (row_left l at new c.are_bytes.ensures so.initial c.run_to.ensures.initial);
+      kept_row = search rules;
+    }

@@ -18,5 +18,5 @@ returns-clause-so c =
       used = c.requires.used;
       near = c.requires.near;
       expressions = c.requires.expressions;
-      far = far_so c.set_in_tree.result c.args.register c.args.rule e.far.entries c.set_in_tree.new.entries.entries c.requires.far c.if-register-lt-NEAR.false c.set_in_tree.ensures.ok c.set_in_tree.ensures.err;
+      far = far_so c.set_in_tree.result 32 c.args.register c.args.rule e.far.entries c.set_in_tree.new.entries.entries c.requires.far c.if-register-lt-NEAR.false c.set_in_tree.ensures.ok c.set_in_tree.ensures.err;
     }

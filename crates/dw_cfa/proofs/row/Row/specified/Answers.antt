@@ -1,9 +1,5 @@
-use Rattle.std.proofs.Common.{ap, subst}
-use Rattle.dw_cfa.specs.Rows.{Rules, AreSpecified}
-use Rattle.dw_cfa.proofs.Slots.{slots_ascend}
+use Rattle.dw_cfa.proofs.Slots.{row_ascends}
 use Rattle.dw_cfa.proofs.row.Row.specified.Goals as goal
 
 pub returns-clause-ascending : goal.returns-clause-ascending
-returns-clause-ascending c =
-    let e = c.self.inside.entries in
-    subst (AreSpecified 0) (ap (λ (r : Rules). r.registers) c.self.view_is) (slots_ascend e.near e.expressions.entries e.far.entries c.self.invariant.near c.self.invariant.far)
+returns-clause-ascending c = row_ascends c.self.inside.cfa c.self.inside.entries c.args.self.now c.self.invariant c.self.view_is

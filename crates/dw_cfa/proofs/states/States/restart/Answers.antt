@@ -2,11 +2,8 @@ use Rattle.std.proofs.Common.{[], None, false, ap, ◌∙◌}
 use Rattle.dw_cfa.specs.Rows.{blank}
 use Rattle.dw_cfa.specs.Inner.Marks.{Watching}
 use Rattle.dw_cfa.specs.Inner.States.{Held, held}
-use Rattle.dw_cfa.proofs.StatesLaws.{begun_held, begun_count}
+use Rattle.dw_cfa.proofs.StatesLaws.{begun_held}
 use Rattle.dw_cfa.proofs.states.States.restart.Goals as goal
-
-pub invariant_of-self : goal.invariant_of-self
-invariant_of-self c = begun_count c.clear-2.new.self.items c.clear-2.ensures.items
 
 pub returns : goal.returns
 returns c =

@@ -2,14 +2,8 @@ use Rattle.std.proofs.Common.{ap, ◌∙◌}
 use Rattle.dw_cfa.specs.Inner.Rows.{with_cfa}
 use Rattle.dw_cfa.specs.declared.rule.CfaRule.{CfaRule}
 use Rattle.dw_cfa.specs.Inner.Marks.{Watching}
-use Rattle.dw_cfa.proofs.StatesLaws.{begun_count, rewound}
+use Rattle.dw_cfa.proofs.StatesLaws.{rewound}
 use Rattle.dw_cfa.proofs.states.States.rewind.Goals as goal
-
-pub invariant_of-self : goal.invariant_of-self
-invariant_of-self c = begun_count c.clear.new.self.items c.clear.ensures.items
-
-pub invariant_of-self-2 : goal.invariant_of-self-2
-invariant_of-self-2 c = begun_count c.clear.new.self.items c.clear.ensures.items
 
 pub returns-clause-rewound : goal.returns-clause-rewound
 returns-clause-rewound c =

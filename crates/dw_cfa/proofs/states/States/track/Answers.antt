@@ -1,10 +1,7 @@
 use Rattle.std.proofs.Common.{[], ap, ◌∙◌}
 use Rattle.dw_cfa.specs.Inner.States.{Held, first_if}
-use Rattle.dw_cfa.proofs.StatesLaws.{begun_held, begun_count}
+use Rattle.dw_cfa.proofs.StatesLaws.{begun_held}
 use Rattle.dw_cfa.proofs.states.States.track.Goals as goal
-
-pub invariant_of-self : goal.invariant_of-self
-invariant_of-self c = begun_count c.clear.new.self.items c.clear.ensures.items
 
 pub returns : goal.returns
 returns c =
