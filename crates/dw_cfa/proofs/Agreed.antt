@@ -2,13 +2,12 @@
 use Rattle.std.proofs.Common.{◌≡◌, List, refl, sym, ap, ◌∙◌, subst}
 use Rattle.std.specs.Prelude.{if◌then◌else◌}
 use Rattle.std.specs.List.{filter}
-use Rattle.dw_cfa.specs.declared.rule.CfaRule.{CfaRule}
+use Rattle.dw_cfa.proofs.Types.{CfaRule, RegRule, Rules}
 use Rattle.dw_cfa.specs.declared.rule.CfaRule.TheVariants.{Unset}
-use Rattle.dw_cfa.specs.declared.rule.RegRule.{RegRule}
 use Rattle.dw_cfa.specs.declared.rule.RegRule.TheVariants.{Unspecified}
 use Rattle.dw_cfa.specs.Agreement.{InCommon, IsAgreed}
 use Rattle.dw_cfa.specs.Inner.Agreement.{is_agreed, same_rule}
-use Rattle.dw_cfa.specs.Rows.{Rules, AreSpecified, rule_in}
+use Rattle.dw_cfa.specs.Rows.{AreSpecified, rule_in}
 use Rattle.dw_cfa.proofs.Lent.Equal.{differs_of}
 use Rattle.dw_cfa.specs.Inner.RowEquality.{rule_tells}
 use Rattle.dw_cfa.proofs.Lent.Narrowed.{filter_keeps, filter_rule}

@@ -4,8 +4,7 @@ use Rattle.std.specs.Prelude.{option_map, nat_eq}
 use Rattle.std.proofs.lemmas.Bool.{cases_Bool}
 use Rattle.dw_op.specs.Operands.{look_up, in_range}
 use Rattle.dw_op.proofs.Lent.ReadingLaws.{some_is}
-use Rattle.dw_cfa.specs.declared.instr.Factors.{Factors}
-use Rattle.dw_cfa.specs.declared.opcode.Opcode.{Opcode}
+use Rattle.dw_cfa.proofs.Types.{Factors, Opcode}
 use Rattle.dw_cfa.specs.Inner.Operands.{opcode_table, opcode_of, form_of}
 use Rattle.dw_cfa.specs.Operands.{Form, form_for}
 

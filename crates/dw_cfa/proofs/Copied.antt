@@ -5,10 +5,8 @@ use Rattle.std.specs.Int.{bit_at, trailing_zeros, w32}
 use Rattle.std.proofs.lemmas.Bool.{cases_Bool, cases_lt, eqb-true}
 use Rattle.std.proofs.lemmas.List.{length-set, get_or-set_same, get_or-set_other}
 use Rattle.std.proofs.Math.ListN.{set}
-use Rattle.dw_cfa.specs.declared.row.Entries.{Entries}
+use Rattle.dw_cfa.proofs.Types.{Entries, RegRule, Slot}
 use Rattle.dw_cfa.specs.declared.row.Kind.TheVariants as kinds
-use Rattle.dw_cfa.specs.declared.row.Slot.{Slot}
-use Rattle.dw_cfa.specs.declared.rule.RegRule.{RegRule}
 use Rattle.dw_cfa.specs.Rows.{rule_in}
 use Rattle.dw_cfa.specs.Inner.Entries.{CopiedBelow, Covers, EntriesSo, entries_of, listed_near, slot_rule}
 use Rattle.dw_cfa.proofs.Difference.{not_used}

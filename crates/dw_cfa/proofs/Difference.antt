@@ -7,11 +7,8 @@ use Rattle.std.specs.Ordering.{nat_cmp}
 use Rattle.std.specs.BTreeMap.Range.{range_contains}
 use Rattle.std.specs.declared.ops.Bound.TheVariants.{Excluded, Unbounded}
 use Rattle.std.proofs.lemmas.Bool.{cases_Bool, cases_lt, eqb-true}
-use Rattle.dw_cfa.specs.declared.rule.RegRule.{RegRule}
+use Rattle.dw_cfa.proofs.Types.{Entries, Kind, RegRule, Slot}
 use Rattle.dw_cfa.specs.declared.rule.RegRule.TheVariants.{Unspecified}
-use Rattle.dw_cfa.specs.declared.row.Entries.{Entries}
-use Rattle.dw_cfa.specs.declared.row.Slot.{Slot}
-use Rattle.dw_cfa.specs.declared.row.Kind.{Kind}
 use Rattle.dw_cfa.specs.declared.row.Kind.TheVariants as kinds
 use Rattle.dw_cfa.specs.Rows.{AreSpecified, rule_in}
 use Rattle.dw_cfa.specs.Inner.Entries.{entries_of, slot_rule, kind_rule, EntriesSo}

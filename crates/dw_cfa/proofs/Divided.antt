@@ -2,15 +2,11 @@
 use Rattle.std.proofs.Common.{◌≡◌, ℕ, ◌+◌, ◌<◌, List, [], ◌∷◌, ◌++◌, length, Ok, Err, refl, sym, ap, ◌∙◌, subst, append_assoc, arith, inl, inr}
 use Rattle.std.proofs.lemmas.Bool.{cases_lt}
 use Rattle.std.proofs.lemmas.List.{length-append}
-use Rattle.dw_num.specs.declared.target.Target.{Target}
-use Rattle.dw_num.specs.Input.{Input, AreBytes}
-use Rattle.dw_num.specs.Front.{Read}
+use Rattle.dw_cfa.proofs.Types.{AreBytes, Factors, Input, Instr, Placed, Read, Target}
 use Rattle.dw_num.proofs.Lent.LebLaws.{done}
-use Rattle.dw_cfa.specs.declared.instr.Factors.{Factors}
-use Rattle.dw_cfa.specs.declared.instr.Instr.{Instr}
 use Rattle.dw_cfa.specs.InstrSpells.{InstrSpells, Program}
 use Rattle.dw_cfa.specs.Inner.FrontInstr.{instr_at}
-use Rattle.dw_cfa.specs.Inner.Runs.{Placed, Placing, placed}
+use Rattle.dw_cfa.specs.Inner.Runs.{Placing, placed}
 use Rattle.dw_cfa.proofs.Lent.InstrLaws.{instr_found}
 use Rattle.dw_cfa.proofs.InstrAgain.{instr_again}
 use Rattle.dw_cfa.proofs.Placings.{placed_end, placed_step, placed_stuck, reads, some_spelled}

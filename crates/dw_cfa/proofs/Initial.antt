@@ -1,13 +1,11 @@
 -- The row that a CIE's program leaves.
 use Rattle.std.proofs.Common.{◌≡◌, ℕ, List, [], ◌∷◌, length, Option, Some, None, Ok, Err, refl, sym, ap, ◌∙◌, subst}
-use Rattle.dw_num.specs.declared.refusal.Code.{Code}
-use Rattle.dw_num.specs.declared.refusal.Refusal.{Refusal}
-use Rattle.dw_cfa.specs.declared.instr.Instr.{Instr}
+use Rattle.dw_cfa.proofs.Types.{Code, Instr, Placed, Refusal, Rules}
 use Rattle.dw_cfa.specs.declared.instr.Instr.TheVariants.{SetLoc, Advance, Restore, RememberState, RestoreState}
 use Rattle.dw_cfa.specs.Location.{onto}
-use Rattle.dw_cfa.specs.Rows.{Rules, blank}
+use Rattle.dw_cfa.specs.Rows.{blank}
 use Rattle.dw_cfa.specs.Inner.Machine.{begun, written, after, cie_fault, fde_fault}
-use Rattle.dw_cfa.specs.Inner.Runs.{Placed, at_end, refused_at, cie_run}
+use Rattle.dw_cfa.specs.Inner.Runs.{at_end, refused_at, cie_run}
 use Rattle.dw_cfa.proofs.Lent.Forward.{Follows, after_follows}
 use Rattle.dw_cfa.proofs.Lent.RowsAt.{instrs_of}
 use Rattle.dw_cfa.proofs.Stops.{AllRun, all_run, ends, refusal_end, refusal_of, refusal_or}

@@ -2,16 +2,13 @@
 use Rattle.std.proofs.Common.{◌≡◌, ℕ, ◌+◌, ◌^◌, List, ◌∷◌, ◌++◌, length, Ok, refl, sym, subst, arith}
 use Rattle.std.specs.Prelude.{unsigned_abs}
 use Rattle.std.proofs.lemmas.Bool.{lt-ltb}
-use Rattle.dw_num.specs.declared.target.Target.{Target}
-use Rattle.dw_num.specs.Input.{Input}
-use Rattle.dw_num.specs.Front.{Read, uleb_at, ◌>>=◌}
+use Rattle.dw_cfa.proofs.Types.{Factors, Input, Instr, Read, Target}
+use Rattle.dw_num.specs.Front.{uleb_at, ◌>>=◌}
 use Rattle.dw_num.proofs.Lent.Steps.{Again, again-then, take_again, byte_again, address_again}
 use Rattle.dw_num.proofs.Lent.LebLaws.{uleb_again, register_again}
 use Rattle.dw_num.proofs.Lent.SlebLaws.{sleb_again}
 use Rattle.dw_num.proofs.Lent.FixedLaws.{fixed_at_again}
 use Rattle.dw_op.specs.Expression.{Expression}
-use Rattle.dw_cfa.specs.declared.instr.Factors.{Factors}
-use Rattle.dw_cfa.specs.declared.instr.Instr.{Instr}
 use Rattle.dw_cfa.specs.InstrSpells.{BlockSpells, Spells, FormSpells, InstrSpells}
 use Rattle.dw_cfa.specs.Inner.Operands.{form_of}
 use Rattle.dw_cfa.specs.Operands.{Operand, address, fixed, register, unsigned, signed, expression, Value, Form, none, one, two, offset_of}

@@ -2,21 +2,17 @@
 use Rattle.std.proofs.Common.{◌≡◌, ℕ, ◌^◌, Bool, true, false, List, [], ◌∷◌, length, Option, Some, None, Result, Ok, Err, refl, ap, subst, arith}
 use Rattle.std.specs.Prelude.{unsigned_abs, nat_lt}
 use Rattle.std.proofs.lemmas.List.{length-append}
-use Rattle.dw_num.specs.declared.refusal.Refusal.{Refusal}
-use Rattle.dw_num.specs.Input.{Input, AreBytes, Takes}
-use Rattle.dw_num.specs.Front.{Read, fixed_at, take_at, register_at, uleb_at, sleb_at, address_at, ◌>>=◌}
+use Rattle.dw_cfa.proofs.Types.{AreBytes, Factors, Input, Instr, Op, Opcode, Read, Refusal}
+use Rattle.dw_num.specs.Input.{Takes}
+use Rattle.dw_num.specs.Front.{fixed_at, take_at, register_at, uleb_at, sleb_at, address_at, ◌>>=◌}
 use Rattle.dw_num.proofs.Lent.LebLaws.{uleb_found}
 use Rattle.dw_num.proofs.Lent.FixedLaws.{taken_bytes, byte_found}
 use Rattle.dw_num.proofs.Lent.Steps.{take_found}
 use Rattle.dw_num.proofs.Lent.Stays.{Inside, Stays, stays_in, stays-then, fixed_stays, address_stays, take_stays, uleb_stays, sleb_stays, register_stays}
-use Rattle.dw_op.specs.declared.op.Op.{Op}
 use Rattle.dw_op.specs.declared.profile.Profile.TheVariants.{Frame}
 use Rattle.dw_op.specs.Inner.Walk.{block_input, decode_at}
 use Rattle.dw_op.proofs.Lent.Blocks.{fault_found}
 use Rattle.dw_op.proofs.Lent.FaultPlaces.{fault_within}
-use Rattle.dw_cfa.specs.declared.instr.Factors.{Factors}
-use Rattle.dw_cfa.specs.declared.instr.Instr.{Instr}
-use Rattle.dw_cfa.specs.declared.opcode.Opcode.{Opcode}
 use Rattle.dw_cfa.specs.Inner.Operands.{opcode_of, form_of}
 use Rattle.dw_cfa.specs.Operands.{Operand, address, fixed, register, unsigned, signed, expression, Form, none, one, two, offset_of}
 use Rattle.dw_cfa.specs.Inner.FrontInstr.{leaving, expression_of, expression_in, block_in, after_length, block_at, operand_at, with_instr, then_operand, form_at, judged, known_at, after_code, instr_at}

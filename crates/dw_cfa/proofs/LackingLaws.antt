@@ -1,13 +1,9 @@
 -- Whether rows leave an address without a rule for the CFA, as a program is run.
 use Rattle.std.proofs.Common.{◌≡◌, ℕ, Bool, true, false, List, [], ◌∷◌, None, refl, sym, ap, ◌∙◌}
 use Rattle.std.specs.Prelude.{◌||◌}
-use Rattle.dw_num.specs.Input.{Input}
-use Rattle.dw_cfa.specs.declared.instr.Factors.{Factors}
-use Rattle.dw_cfa.specs.declared.machine.Machine.{Machine}
-use Rattle.dw_cfa.specs.declared.execution.LocatedRow.{LocatedRow}
+use Rattle.dw_cfa.proofs.Types.{Factors, Input, LocatedRow, Machine, Outcome, Rules}
 use Rattle.dw_cfa.specs.Inner.Coverage.{is_unset, leaves_one, lacks_from}
-use Rattle.dw_cfa.specs.Rows.{Rules}
-use Rattle.dw_cfa.specs.Runs.{Outcome, row_then}
+use Rattle.dw_cfa.specs.Runs.{row_then}
 use Rattle.dw_cfa.specs.Inner.Runs.{RanTo, here, rows_left}
 use Rattle.dw_cfa.specs.Inner.Steps.{state_of}
 use Rattle.dw_cfa.proofs.Lent.RunLaws.{left_from}

@@ -5,10 +5,9 @@ use Rattle.std.specs.Int.{bit_at, w32}
 use Rattle.std.specs.List.{filter}
 use Rattle.std.proofs.lemmas.Bool.{cases_Bool, cases_lt, eqb-true, eqb-false}
 use Rattle.std.proofs.lemmas.Nat.Bits.{bit_at_set_same}
-use Rattle.dw_cfa.specs.declared.marks.Marks.{Marks}
-use Rattle.dw_cfa.specs.declared.rule.RegRule.{RegRule}
+use Rattle.dw_cfa.proofs.Types.{Marks, RegRule, Rules}
 use Rattle.dw_cfa.specs.declared.rule.RegRule.TheVariants.{Unspecified, SameValue}
-use Rattle.dw_cfa.specs.Rows.{Rules, AreSpecified, rule_in}
+use Rattle.dw_cfa.specs.Rows.{AreSpecified, rule_in}
 use Rattle.dw_cfa.specs.Inner.Rows.{put, with_rule}
 use Rattle.dw_cfa.specs.Difference.{DiffersFirst, FirstDifference, SameBetween}
 use Rattle.dw_cfa.specs.Inner.Difference.{SameUnset}

@@ -3,20 +3,14 @@ use Rattle.std.proofs.Common.{◌≡◌, ℕ, zero, suc, ◌<◌, ◌≤◌, Lis
 use Rattle.std.proofs.lemmas.List.{length-append}
 use Rattle.std.proofs.lemmas.Bool.{cases_lt}
 use Rattle.std.specs.Prelude.{◌^◌}
-use Rattle.dw_num.specs.declared.target.Size.{Size}
+use Rattle.dw_cfa.proofs.Types.{AreBytes, Factors, Input, Instr, Placed, Read, Refusal, Size, Target, address_limit}
 use Rattle.dw_num.specs.declared.target.Size.TheVariants.{Four, Eight}
-use Rattle.dw_num.specs.Front.{Read}
-use Rattle.dw_num.specs.declared.refusal.Refusal.{Refusal}
-use Rattle.dw_num.specs.declared.target.Target.{Target}
-use Rattle.dw_num.specs.Input.{Input, AreBytes}
-use Rattle.dw_num.specs.Target.{address_limit, byte_count}
-use Rattle.dw_cfa.specs.declared.instr.Factors.{Factors}
-use Rattle.dw_cfa.specs.declared.instr.Instr.{Instr}
+use Rattle.dw_num.specs.Target.{byte_count}
 use Rattle.dw_cfa.specs.declared.instr.Instr.TheVariants.{SetLoc}
 use Rattle.dw_cfa.specs.InstrSpells.{InstrSpells}
 use Rattle.dw_cfa.specs.Inner.FrontInstr.{instr_at}
 use Rattle.dw_cfa.specs.Inner.Steps.{InLimit}
-use Rattle.dw_cfa.specs.Inner.Runs.{Placed, place_of, placed}
+use Rattle.dw_cfa.specs.Inner.Runs.{place_of, placed}
 use Rattle.dw_op.specs.Walks.{Walked}
 use Rattle.dw_op.specs.Inner.Walks.{ended, put, on_left, walked, walked_by}
 use Rattle.dw_cfa.proofs.Lent.Spellings.{IsSpelled, by_table}

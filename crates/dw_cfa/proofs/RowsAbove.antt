@@ -1,16 +1,10 @@
 -- What is left of a walk behind the row of an address.
 use Rattle.std.proofs.Common.{◌≡◌, ℕ, ◌<◌, ◌≤◌, true, List, [], ◌∷◌, length, None, refl, ap, ◌∙◌, subst, arith, inl}
 use Rattle.std.proofs.lemmas.Bool.{le-ltb, lt-ltb}
-use Rattle.dw_num.specs.Input.{Input}
-use Rattle.dw_cfa.specs.declared.instr.Factors.{Factors}
-use Rattle.dw_cfa.specs.declared.machine.Machine.{Machine}
-use Rattle.dw_cfa.specs.declared.execution.LocatedRow.{LocatedRow}
-use Rattle.dw_cfa.specs.declared.row_walk.Leading.{Leading}
-use Rattle.dw_cfa.specs.declared.steps.Progress.{Progress}
+use Rattle.dw_cfa.proofs.Types.{Factors, Input, Leading, LocatedRow, Machine, Outcome, Progress, Stepping}
 use Rattle.dw_cfa.specs.declared.steps.Progress.TheVariants as progress
-use Rattle.dw_cfa.specs.RowSteps.{Stepping}
 use Rattle.dw_cfa.specs.RuleAt.{last_at, left_above, rows_above, NeverFalls}
-use Rattle.dw_cfa.specs.Runs.{Outcome, finished}
+use Rattle.dw_cfa.specs.Runs.{finished}
 use Rattle.dw_cfa.specs.Inner.Runs.{RanTo, here, rows_left}
 use Rattle.dw_cfa.specs.Inner.RowWalk.{walk_of}
 use Rattle.dw_cfa.specs.Inner.Steps.{state_of}

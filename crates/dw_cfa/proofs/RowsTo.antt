@@ -1,18 +1,11 @@
 -- A run up to the last row that starts at or below an address.
 use Rattle.std.proofs.Common.{◌≡◌, ℕ, ◌<◌, ◌≤◌, Bool, true, List, [], ◌∷◌, length, Option, Some, None, Result, Ok, Err, refl, sym, ap, ◌∙◌, subst}
 use Rattle.std.proofs.lemmas.Bool.{le-leb}
-use Rattle.dw_num.specs.declared.refusal.Refusal.{Refusal}
+use Rattle.dw_cfa.proofs.Types.{Factors, Input, LocatedRow, Machine, Outcome, ReadError, Refusal, Refuses, Rules}
 use Rattle.std.specs.Prelude.{IfErr, IfOk, IsTrue, OnOk}
-use Rattle.dw_num.specs.declared.error.ReadError.{ReadError}
 use Rattle.dw_num.specs.declared.error.ReadError.TheVariants.{Refused, OutOfMemory}
-use Rattle.dw_num.specs.Refusals.{Refuses}
-use Rattle.dw_num.specs.Input.{Input}
-use Rattle.dw_cfa.specs.declared.instr.Factors.{Factors}
-use Rattle.dw_cfa.specs.declared.machine.Machine.{Machine}
-use Rattle.dw_cfa.specs.declared.execution.LocatedRow.{LocatedRow}
 use Rattle.dw_cfa.specs.RuleAt.{or_here, last_at}
-use Rattle.dw_cfa.specs.Rows.{Rules}
-use Rattle.dw_cfa.specs.Runs.{Outcome, row_then}
+use Rattle.dw_cfa.specs.Runs.{row_then}
 use Rattle.dw_cfa.specs.Inner.Runs.{rows_left}
 use Rattle.dw_cfa.proofs.Lent.RowsAt.{none_at}
 use Rattle.dw_cfa.specs.Inner.Runs.{RanTo, here}

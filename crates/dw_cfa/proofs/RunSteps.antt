@@ -1,28 +1,18 @@
 -- One instruction of a program, in the rows still to come.
 use Rattle.std.proofs.Common.{◌≡◌, ℕ, ◌<◌, ◌≤◌, List, [], length, Option, None, Some, Result, Ok, Err, IsOk, refl, sym, ap, ◌∙◌, subst}
 use Rattle.std.specs.Prelude.{IsTrue}
-use Rattle.dw_num.specs.declared.refusal.Code.{Code}
-use Rattle.dw_num.specs.declared.refusal.Refusal.{Refusal}
-use Rattle.dw_num.specs.Input.{Input, AreBytes}
-use Rattle.dw_num.specs.Front.{Read}
-use Rattle.dw_num.specs.Target.{address_limit}
-use Rattle.dw_num.specs.declared.error.ReadError.{ReadError}
+use Rattle.dw_cfa.proofs.Types.{AreBytes, Code, Factors, Input, Instr, Machine, Outcome, Read, ReadError, Refusal, Refuses, RegRule, Rules, State, address_limit}
 use Rattle.dw_num.specs.declared.error.ReadError.TheVariants.{Refused, OutOfMemory}
-use Rattle.dw_num.specs.Refusals.{Refuses}
-use Rattle.dw_cfa.specs.declared.instr.Factors.{Factors}
-use Rattle.dw_cfa.specs.declared.instr.Instr.{Instr}
 use Rattle.dw_cfa.specs.declared.instr.Instr.TheVariants.{SetLoc, Advance}
-use Rattle.dw_cfa.specs.declared.machine.Machine.{Machine}
 use Rattle.dw_cfa.specs.Location.{moves_location}
 use Rattle.dw_cfa.specs.Inner.FrontInstr.{instr_at}
-use Rattle.dw_cfa.specs.Rows.{Rules, blank}
-use Rattle.dw_cfa.specs.declared.rule.RegRule.{RegRule}
+use Rattle.dw_cfa.specs.Rows.{blank}
 use Rattle.dw_cfa.specs.Inner.RowSteps.{begun_rows, begun_stop}
-use Rattle.dw_cfa.specs.Inner.Machine.{State, written, after, cie_fault, fde_fault}
+use Rattle.dw_cfa.specs.Inner.Machine.{written, after, cie_fault, fde_fault}
 use Rattle.dw_cfa.specs.Inner.States.{Held, BeganWith}
 use Rattle.dw_cfa.specs.Inner.Steps.{state_of, IsAfter}
 use Rattle.dw_cfa.specs.Inner.Runs.{Placing, placed, cie_run, initial_row, on_initial, here, row_if, fault_or, fde_rows, fde_stop, rows_left, rows_behind, run_rows, run_stop, stop_left, stop_or, RunsSo, RanTo, WroteTo}
-use Rattle.dw_cfa.specs.Runs.{Outcome, fails, finished, row_then}
+use Rattle.dw_cfa.specs.Runs.{fails, finished, row_then}
 use Rattle.dw_cfa.proofs.Lent.RowsAt.{stays}
 use Rattle.dw_cfa.proofs.Placings.{reads, placed_end, placed_step, placed_stuck}
 

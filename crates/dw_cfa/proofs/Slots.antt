@@ -10,13 +10,9 @@ use Rattle.std.specs.Int.{bit_at, bit_not, trailing_zeros, w32}
 use Rattle.std.proofs.Math.Nat.{div-le_self}
 use Rattle.std.proofs.lemmas.Nat.{pow_pos}
 use Rattle.std.proofs.lemmas.Nat.Bits.{bit_at-zero, bit_at_above, bit_at_cat_high, bit_at-trailing_zeros, bit_at_set_same, bit_at_set_other, bit_at_clear_other, bit_at_or}
-use Rattle.dw_cfa.specs.declared.rule.RegRule.{RegRule}
-use Rattle.dw_cfa.specs.declared.row.Slot.{Slot}
-use Rattle.dw_cfa.specs.declared.row.Kind.{Kind}
+use Rattle.dw_cfa.proofs.Types.{CfaRule, Entries, Kind, RegRule, Rules, Slot}
 use Rattle.dw_cfa.specs.declared.row.Kind.TheVariants as kinds
-use Rattle.dw_cfa.specs.declared.rule.CfaRule.{CfaRule}
-use Rattle.dw_cfa.specs.declared.row.Entries.{Entries}
-use Rattle.dw_cfa.specs.Rows.{Rules, is_specified, AreSpecified, HasFar, rule_in}
+use Rattle.dw_cfa.specs.Rows.{is_specified, AreSpecified, HasFar, rule_in}
 use Rattle.dw_cfa.specs.Inner.Rows.{listed, put}
 use Rattle.dw_cfa.specs.Inner.Entries.{EntriesSo, entries_of, kind_rule, slot_rule, listed_near, HoldsRule, IsSlotOf, Covers}
 use Rattle.dw_cfa.proofs.Lent.RowLists.{Entry, lower, listed_is, not_listed, listed_keeps, listed_rule, put_keeps, put_rule}

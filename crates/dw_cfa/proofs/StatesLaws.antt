@@ -2,11 +2,8 @@
 use Rattle.std.proofs.Common.{◌≡◌, ℕ, suc, ◌+◌, ◌-◌, ◌<◌, ◌≤◌, Bool, true, false, nat_lt, List, [], ◌∷◌, ◌++◌, length, reverse, Option, Some, None, refl, sym, ap, ◌∙◌, subst, arith}
 use Rattle.std.proofs.lemmas.List.{reverse-append, append-nil}
 use Rattle.std.proofs.lemmas.Bool.{ltb-false}
-use Rattle.dw_cfa.specs.declared.rule.CfaRule.{CfaRule}
-use Rattle.dw_cfa.specs.declared.rule.RegRule.{RegRule}
-use Rattle.dw_cfa.specs.declared.states.Undo.{Undo}
+use Rattle.dw_cfa.proofs.Types.{CfaRule, RegRule, Rules, Undo}
 use Rattle.dw_cfa.specs.declared.states.Undo.TheVariants.{Remembered, Register}
-use Rattle.dw_cfa.specs.Rows.{Rules}
 use Rattle.dw_cfa.specs.Inner.Rows.{with_cfa, with_rule}
 use Rattle.dw_cfa.specs.Inner.States.{Held, remembered_rows, first_registers, count_remembered, first_if, held, BeganWith, SameBehind, TakenBack, Restored}
 

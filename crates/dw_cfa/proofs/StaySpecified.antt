@@ -2,23 +2,14 @@
 use Rattle.std.proofs.Common.{◌≡◌, ℕ, Bool, true, false, List, [], ◌∷◌, Option, Some, None, Ok, Err, Result, refl, sym, ap, ◌∙◌, subst, arith, inl, inr}
 use Rattle.std.specs.Prelude.{IsTrue, IfOk, OnOk, if◌then◌else◌}
 use Rattle.std.specs.List.{AllZip}
-use Rattle.dw_num.specs.declared.refusal.Refusal.{Refusal}
-use Rattle.dw_num.specs.Input.{Input, AreBytes}
-use Rattle.dw_num.specs.declared.error.ReadError.{ReadError}
-use Rattle.dw_cfa.specs.declared.instr.Factors.{Factors}
-use Rattle.dw_cfa.specs.declared.instr.Instr.{Instr}
-use Rattle.dw_cfa.specs.declared.machine.Machine.{Machine}
-use Rattle.dw_cfa.specs.declared.rule.RegRule.{RegRule}
-use Rattle.dw_cfa.specs.declared.execution.LocatedRow.{LocatedRow}
-use Rattle.dw_cfa.specs.declared.steps.Progress.{Progress}
+use Rattle.dw_cfa.proofs.Types.{AreBytes, Factors, Input, Instr, Leading, LocatedRow, Machine, Outcome, Progress, ReadError, Refusal, RegRule, Rules, Stepping}
 use Rattle.dw_cfa.specs.declared.steps.Progress.TheVariants as progress
-use Rattle.dw_cfa.specs.declared.row_walk.Leading.{Leading}
 use Rattle.dw_cfa.specs.Agreement.{is_kept, kept}
 use Rattle.dw_cfa.specs.Behind.{IsRowAfter, GivesUpTo, RunsBehind, ends}
-use Rattle.dw_cfa.specs.Rows.{Rules, is_specified, rule}
+use Rattle.dw_cfa.specs.Rows.{is_specified, rule}
 use Rattle.dw_cfa.specs.Inner.Runs.{GivesRow, RunsSo, rows_behind, rows_left}
-use Rattle.dw_cfa.specs.Runs.{Outcome, finished, row_then}
-use Rattle.dw_cfa.specs.RowSteps.{Stepping, program_input}
+use Rattle.dw_cfa.specs.Runs.{finished, row_then}
+use Rattle.dw_cfa.specs.RowSteps.{program_input}
 use Rattle.dw_cfa.specs.Inner.RowSteps.{progress_after}
 use Rattle.dw_cfa.specs.RowWalk.{AllKeep}
 use Rattle.dw_cfa.specs.Inner.RowWalk.{AllSpecify, Readied, Specifies, WalkKeeps, walk_of}

@@ -1,11 +1,8 @@
 -- No instruction that is read leaves a register without a rule.
 use Rattle.std.proofs.Common.{ℕ, List, refl}
 use Rattle.std.specs.Prelude.{IsTrue}
-use Rattle.dw_num.specs.declared.target.Target.{Target}
-use Rattle.dw_cfa.specs.declared.instr.Factors.{Factors}
-use Rattle.dw_cfa.specs.declared.instr.Instr.{Instr}
+use Rattle.dw_cfa.proofs.Types.{Factors, Instr, RegRule, Target}
 use Rattle.dw_cfa.specs.declared.instr.Instr.TheVariants.{Set}
-use Rattle.dw_cfa.specs.declared.rule.RegRule.{RegRule}
 use Rattle.dw_cfa.specs.declared.rule.RegRule.TheVariants as rules
 use Rattle.dw_cfa.specs.Rows.{is_specified}
 use Rattle.dw_cfa.proofs.Lent.Spellings.{RuleSpells, IsSpelled}

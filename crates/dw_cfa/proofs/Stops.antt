@@ -1,10 +1,7 @@
 -- Where a list of placed instructions stops with a refusal as it is run, of an FDE's program and of a CIE's: at an instruction, or
 -- behind all that can be read.
 use Rattle.std.proofs.Common.{◌≡◌, ℕ, List, [], ◌∷◌, ◌++◌, Option, Some, None, refl, sym, ap, ◌∙◌}
-use Rattle.dw_num.specs.declared.refusal.Code.{Code}
-use Rattle.dw_num.specs.declared.refusal.Refusal.{Refusal}
-use Rattle.dw_cfa.specs.declared.instr.Instr.{Instr}
-use Rattle.dw_cfa.specs.Inner.Runs.{Placed}
+use Rattle.dw_cfa.proofs.Types.{Code, Instr, Placed, Refusal}
 
 -- the state behind instructions
 abbrev pub ends : {S : Type 0} → (Instr → S → S) → List Placed → S → S

@@ -1,15 +1,10 @@
 -- Where a run stops, as the code goes along.
 use Rattle.std.proofs.Common.{◌≡◌, ℕ, ◌≤◌, Bool, true, false, List, [], ◌∷◌, Option, Some, None, refl, ap, ◌∙◌, arith}
-use Rattle.dw_num.specs.declared.refusal.Code.{Code}
-use Rattle.dw_num.specs.declared.refusal.Refusal.{Refusal}
-use Rattle.dw_num.specs.Input.{Input}
-use Rattle.dw_cfa.specs.declared.instr.Factors.{Factors}
-use Rattle.dw_cfa.specs.declared.machine.Machine.{Machine}
+use Rattle.dw_cfa.proofs.Types.{Code, Factors, Input, Machine, Outcome, Placed, Refusal, Rules, State}
 use Rattle.dw_cfa.specs.Location.{moves_location}
-use Rattle.dw_cfa.specs.Rows.{Rules}
-use Rattle.dw_cfa.specs.Runs.{Outcome, fails}
-use Rattle.dw_cfa.specs.Inner.Machine.{State, after, fde_fault}
-use Rattle.dw_cfa.specs.Inner.Runs.{Placed, fault_or, fde_rows, fde_stop, placed, row_if, rows_left, stop_left, stop_or}
+use Rattle.dw_cfa.specs.Runs.{fails}
+use Rattle.dw_cfa.specs.Inner.Machine.{after, fde_fault}
+use Rattle.dw_cfa.specs.Inner.Runs.{fault_or, fde_rows, fde_stop, placed, row_if, rows_left, stop_left, stop_or}
 use Rattle.dw_cfa.specs.Inner.Steps.{state_of}
 use Rattle.dw_cfa.proofs.Lent.RowsAt.{forwards, stays}
 

@@ -3,21 +3,16 @@ use Rattle.std.proofs.Common.{◌≡◌, ℕ, ◌+◌, ◌^◌, List, ◌∷◌,
 use Rattle.std.specs.Prelude.{option_map, unsigned_abs}
 use Rattle.std.proofs.lemmas.Bool.{cases_lt, lt-ltb, le-ltb}
 use Rattle.dw_num.specs.declared.refusal.Code.TheVariants.{UnknownInstruction, OffsetTooLarge}
-use Rattle.dw_num.specs.declared.refusal.Refusal.{Refusal}
-use Rattle.dw_num.specs.declared.target.Target.{Target}
-use Rattle.dw_num.specs.Input.{Input, AreBytes, Takes}
-use Rattle.dw_num.specs.Front.{Read, fault, take_at, uleb_at, ◌>>=◌}
+use Rattle.dw_cfa.proofs.Types.{AreBytes, Factors, Input, Instr, Op, Opcode, Read, Refusal, Target}
+use Rattle.dw_num.specs.Input.{Takes}
+use Rattle.dw_num.specs.Front.{fault, take_at, uleb_at, ◌>>=◌}
 use Rattle.dw_num.proofs.Lent.Steps.{Again, take_again, take_found, byte_again}
 use Rattle.dw_num.proofs.Lent.LebLaws.{done, uleb_found, uleb_again}
 use Rattle.dw_num.proofs.Lent.FixedLaws.{taken_bytes}
-use Rattle.dw_op.specs.declared.op.Op.{Op}
 use Rattle.dw_op.specs.declared.profile.Profile.TheVariants.{Frame}
 use Rattle.dw_op.specs.Faults.{BlockFault}
 use Rattle.dw_op.specs.Inner.Walk.{block_input, decode_at}
 use Rattle.dw_op.proofs.Lent.Blocks.{fault_found}
-use Rattle.dw_cfa.specs.declared.instr.Factors.{Factors}
-use Rattle.dw_cfa.specs.declared.instr.Instr.{Instr}
-use Rattle.dw_cfa.specs.declared.opcode.Opcode.{Opcode}
 use Rattle.dw_cfa.specs.Inner.Operands.{opcode_of, form_of}
 use Rattle.dw_cfa.specs.Operands.{Operand, address, expression, Value, Form, none, one, two, form_for, offset_of}
 use Rattle.dw_cfa.specs.InstrFaults.{ContentsFault, OperandFault, FormFault, CodeFault}

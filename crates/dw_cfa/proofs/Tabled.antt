@@ -1,12 +1,9 @@
 -- What the table reads of an opcode is what the code reads.
 use Rattle.std.proofs.Common.{◌≡◌, ℕ, ◌^◌, Bool, true, false, Option, Some, Ok, Err, refl, sym, ap, ◌∙◌}
 use Rattle.std.specs.Prelude.{ℤ, pos, ◌*ℤ◌, unsigned_abs, nat_lt}
-use Rattle.dw_num.specs.Input.{Input}
-use Rattle.dw_num.specs.Front.{Read, fixed_at, register_at, uleb_at, sleb_at, address_at, ◌>>=◌}
-use Rattle.dw_cfa.specs.declared.instr.Factors.{Factors}
-use Rattle.dw_cfa.specs.declared.instr.Instr.{Instr}
+use Rattle.dw_cfa.proofs.Types.{Factors, Input, Instr, Opcode, Read}
+use Rattle.dw_num.specs.Front.{fixed_at, register_at, uleb_at, sleb_at, address_at, ◌>>=◌}
 use Rattle.dw_cfa.specs.declared.instr.Instr.TheVariants.{SetLoc, DefCfa, DefCfaRegister, DefCfaOffset, DefCfaExpression, Restore}
-use Rattle.dw_cfa.specs.declared.opcode.Opcode.{Opcode}
 use Rattle.dw_cfa.specs.declared.opcode.Opcode.TheVariants as opcodes
 use Rattle.dw_cfa.specs.declared.rule.RegRule.TheVariants as rules
 use Rattle.dw_cfa.specs.Inner.Operands.{opcode_of, form_of}

@@ -1,16 +1,9 @@
 -- One turn of the loop, in the rows still to come.
 use Rattle.std.proofs.Common.{◌≡◌, ℕ, ◌<◌, Bool, length, Option, Some, None, Result, Ok, Err, IsOk, refl, sym, ap, ◌∙◌, subst}
 use Rattle.dw_num.specs.declared.refusal.Code.TheVariants.{UnknownInstruction}
-use Rattle.dw_num.specs.declared.refusal.Refusal.{Refusal}
-use Rattle.dw_num.specs.declared.error.ReadError.{ReadError}
+use Rattle.dw_cfa.proofs.Types.{AreBytes, End, Factors, Input, Instr, Machine, Opcode, Read, ReadError, Refusal}
 use Rattle.dw_num.specs.declared.error.ReadError.TheVariants.{Refused}
-use Rattle.dw_num.specs.Input.{Input, AreBytes}
-use Rattle.dw_num.specs.Front.{Read, fixed_at}
-use Rattle.dw_cfa.specs.declared.instr.Factors.{Factors}
-use Rattle.dw_cfa.specs.declared.instr.Instr.{Instr}
-use Rattle.dw_cfa.specs.declared.machine.Machine.{Machine}
-use Rattle.dw_cfa.specs.declared.opcode.Opcode.{Opcode}
-use Rattle.dw_cfa.specs.declared.machine.End.{End}
+use Rattle.dw_num.specs.Front.{fixed_at}
 use Rattle.dw_cfa.specs.declared.machine.End.TheVariants as ends
 use Rattle.dw_cfa.specs.Location.{moves_location}
 use Rattle.dw_cfa.specs.Inner.Operands.{opcode_of}

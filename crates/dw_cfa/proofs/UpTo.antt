@@ -1,21 +1,13 @@
 -- Faults that come up to an address are those where a run stops up to there.
 use Rattle.std.proofs.Common.{◌≡◌, ℕ, ◌≤◌, List, [], ◌∷◌, ◌++◌, length, Option, Some, Result, Ok, Err, refl, sym, ap, ◌∙◌, subst, inl, inr, arith}
 use Rattle.std.specs.Prelude.{IfErr, OnOk}
-use Rattle.dw_num.specs.declared.refusal.Refusal.{Refusal}
-use Rattle.dw_num.specs.declared.error.ReadError.{ReadError}
+use Rattle.dw_cfa.proofs.Types.{AreBytes, CfaRule, Factors, Input, Instr, Outcome, Placed, ReadError, Refusal, Refuses, Rules, State, address_limit}
 use Rattle.dw_num.specs.declared.error.ReadError.TheVariants.{Refused, OutOfMemory}
-use Rattle.dw_num.specs.Refusals.{Refuses}
-use Rattle.dw_num.specs.Target.{address_limit}
-use Rattle.dw_num.specs.Input.{Input, AreBytes}
-use Rattle.dw_cfa.specs.declared.instr.Factors.{Factors}
-use Rattle.dw_cfa.specs.declared.instr.Instr.{Instr}
-use Rattle.dw_cfa.specs.declared.rule.CfaRule.{CfaRule}
 use Rattle.dw_cfa.specs.Location.{location, onto}
-use Rattle.dw_cfa.specs.Rows.{Rules, AreSpecified, blank}
-use Rattle.dw_cfa.specs.Runs.{Outcome}
+use Rattle.dw_cfa.specs.Rows.{AreSpecified, blank}
 use Rattle.dw_cfa.specs.Faults.{FdeFaultBehind, FdeFaultUpTo, FaultUpTo, NoFaultUpTo}
-use Rattle.dw_cfa.specs.Inner.Machine.{State, begun, after, fde_fault}
-use Rattle.dw_cfa.specs.Inner.Runs.{Placed, StopsAbove, fde_rows, fde_stop, initial_row, on_initial, placed, rows_behind, run_rows, run_stop, stop_on}
+use Rattle.dw_cfa.specs.Inner.Machine.{begun, after, fde_fault}
+use Rattle.dw_cfa.specs.Inner.Runs.{StopsAbove, fde_rows, fde_stop, initial_row, on_initial, placed, rows_behind, run_rows, run_stop, stop_on}
 use Rattle.dw_cfa.proofs.Lent.Forward.{Follows, after_follows, begun_follows}
 use Rattle.dw_cfa.proofs.Lent.RowsAt.{instrs_of}
 use Rattle.dw_cfa.proofs.Lent.FaultLaws.{leaves, leaves_initial, stops_of, fde_fault_found, fde_fault_only, cie_fault_found, cie_fault_only}

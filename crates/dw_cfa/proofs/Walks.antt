@@ -1,20 +1,13 @@
 -- A walk from one FDE's program to another's, behind a CIE's row that is run or brought back.
 use Rattle.std.proofs.Common.{◌≡◌, ◌⊎◌, ℕ, Bool, true, false, [], Option, Some, None, Ok, Err, Result, IsOk, refl, sym, ap, subst, ◌∙◌, inl, inr}
 use Rattle.std.specs.Prelude.{◌↔◌, IfOk, IsTrue, MatchOption, if◌then◌else◌}
-use Rattle.dw_num.specs.declared.error.ReadError.{ReadError}
-use Rattle.dw_num.specs.declared.target.Target.{Target}
-use Rattle.dw_num.specs.Input.{Input, AreBytes}
-use Rattle.dw_num.specs.Target.{address_limit}
-use Rattle.dw_cfa.specs.declared.instr.Factors.{Factors}
-use Rattle.dw_cfa.specs.declared.machine.Machine.{Machine}
-use Rattle.dw_cfa.specs.declared.steps.Progress.{Progress}
+use Rattle.dw_cfa.proofs.Types.{AreBytes, Factors, Input, Leading, Machine, Outcome, Progress, ReadError, Rules, Stepping, Target, address_limit}
 use Rattle.dw_cfa.specs.declared.steps.Progress.TheVariants as progress
-use Rattle.dw_cfa.specs.declared.row_walk.Leading.{Leading}
 use Rattle.dw_cfa.specs.InstrSpells.{Program}
-use Rattle.dw_cfa.specs.Rows.{Rules, blank}
-use Rattle.dw_cfa.specs.Runs.{Outcome, finished}
+use Rattle.dw_cfa.specs.Rows.{blank}
+use Rattle.dw_cfa.specs.Runs.{finished}
 use Rattle.dw_cfa.specs.Inner.Runs.{RunsSo, initial_row, placed, rows_left, run_rows}
-use Rattle.dw_cfa.specs.RowSteps.{Stepping, program_input}
+use Rattle.dw_cfa.specs.RowSteps.{program_input}
 use Rattle.dw_cfa.specs.Inner.RowSteps.{left_of, progress_after}
 use Rattle.dw_cfa.specs.Inner.NextRow.{GoesOn}
 use Rattle.dw_cfa.specs.Agreement.{kept}

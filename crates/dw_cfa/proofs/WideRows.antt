@@ -7,10 +7,9 @@ use Rattle.std.specs.Option.{unwrap_or}
 use Rattle.std.specs.Map.{lookup, remove_entry}
 use Rattle.std.specs.BTreeMap.{insert_entry, is_at}
 use Rattle.std.proofs.lemmas.Bool.{cases_Bool, cases_lt, lt-ltb, le-ltb, ltb-true, ltb-false, ne_eqb, eqb-true, eqb-false}
-use Rattle.dw_cfa.specs.declared.rule.CfaRule.{CfaRule}
-use Rattle.dw_cfa.specs.declared.rule.RegRule.{RegRule}
+use Rattle.dw_cfa.proofs.Types.{CfaRule, RegRule, Rules}
 use Rattle.dw_cfa.specs.declared.rule.RegRule.TheVariants.{Unspecified}
-use Rattle.dw_cfa.specs.Rows.{Rules, is_specified, AreSpecified, rule_in}
+use Rattle.dw_cfa.specs.Rows.{is_specified, AreSpecified, rule_in}
 use Rattle.dw_cfa.specs.Inner.Rows.{put, with_rule}
 use Rattle.dw_cfa.proofs.Lent.RowLists.{Entry, listed_is, put_keeps, put_rule}
 use Rattle.dw_cfa.proofs.Lent.SameRows.{same_entries}

@@ -2,14 +2,7 @@
 use Rattle.std.proofs.Common.{◌≡◌, ℕ, ◌+◌, ◌≤◌, Bool, true, false, cond, List, [], ◌∷◌, length, Option, Some, None, refl, sym, ap, ◌∙◌, subst, arith}
 use Rattle.std.specs.Prelude.{count_by}
 use Rattle.std.proofs.lemmas.List.Sums.{sum_by-cons}
-use Rattle.dw_num.specs.declared.refusal.Refusal.{Refusal}
-use Rattle.dw_num.specs.Target.{address_limit}
-use Rattle.dw_num.specs.Input.{Input, AreBytes}
-use Rattle.dw_cfa.specs.declared.instr.Factors.{Factors}
-use Rattle.dw_cfa.specs.declared.instr.Instr.{Instr}
-use Rattle.dw_cfa.specs.declared.rule.CfaRule.{CfaRule}
-use Rattle.dw_cfa.specs.declared.rule.RegRule.{RegRule}
-use Rattle.dw_cfa.specs.declared.execution.LocatedRow.{LocatedRow}
+use Rattle.dw_cfa.proofs.Types.{AreBytes, CfaRule, Factors, Input, Instr, LocatedRow, Outcome, Placed, Refusal, RegRule, Rules, State, address_limit}
 use Rattle.dw_cfa.specs.InstrSpells.{Program}
 use Rattle.dw_cfa.specs.Column.{cfa_after, rule_after}
 use Rattle.dw_cfa.specs.Kept.{FdeKept}
@@ -17,12 +10,11 @@ use Rattle.dw_cfa.specs.Laws.{HoldsAfter}
 use Rattle.dw_cfa.specs.Behind.{Leaves, HoldsBehind}
 use Rattle.dw_cfa.specs.Inner.Exact.{RowsOf, RowsKept, RulesBehind, BehindGives, GivesRows}
 use Rattle.dw_cfa.specs.Location.{moves_location, Counts}
-use Rattle.dw_cfa.specs.Rows.{Rules, AreSpecified}
+use Rattle.dw_cfa.specs.Rows.{AreSpecified}
 use Rattle.dw_cfa.specs.RuleAt.{last_at, NeverFalls}
 use Rattle.dw_cfa.specs.Inner.RuleAt.{CountsFrom}
-use Rattle.dw_cfa.specs.Inner.Machine.{State, begun, after, fde_fault}
-use Rattle.dw_cfa.specs.Inner.Runs.{Placed, placed, row_if, fde_rows, rows_behind, run_rows}
-use Rattle.dw_cfa.specs.Runs.{Outcome}
+use Rattle.dw_cfa.specs.Inner.Machine.{begun, after, fde_fault}
+use Rattle.dw_cfa.specs.Inner.Runs.{placed, row_if, fde_rows, rows_behind, run_rows}
 use Rattle.dw_cfa.proofs.Lent.FaultLaws.{begun_stands, leaves, leaves_initial}
 use Rattle.dw_cfa.proofs.Lent.Forward.{begun_follows}
 use Rattle.dw_cfa.proofs.Lent.KeptLaws.{fde_kept, kept_fde, all_in_limit}

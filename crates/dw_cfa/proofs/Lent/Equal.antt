@@ -4,14 +4,13 @@ use Rattle.std.specs.Prelude.{IsTrue, ◌↔◌, if◌then◌else◌}
 use Rattle.std.specs.Bool.{Decides, one_answer}
 use Rattle.std.proofs.lemmas.Bool.{cases_Bool}
 use Rattle.std.proofs.lemmas.Bool.Decides.{not_from_Decides}
-use Rattle.dw_cfa.specs.declared.rule.CfaRule.{CfaRule}
+use Rattle.dw_cfa.proofs.Types.{CfaRule, RegRule, Rules}
 use Rattle.dw_cfa.specs.declared.rule.CfaRule.TheVariants as cfa
-use Rattle.dw_cfa.specs.declared.rule.RegRule.{RegRule}
 use Rattle.dw_cfa.specs.declared.rule.RegRule.TheVariants as rules
 use Rattle.dw_cfa.specs.Agreement.{InCommon, IsAgreed}
 use Rattle.dw_cfa.specs.Inner.Agreement.{agreed, is_agreed, same_cfa, same_rule}
 use Rattle.dw_cfa.specs.Inner.RowEquality.{cfa_tells, rule_tells}
-use Rattle.dw_cfa.specs.Rows.{Rules, AreSpecified, rule}
+use Rattle.dw_cfa.specs.Rows.{AreSpecified, rule}
 use Rattle.dw_cfa.proofs.Lent.Narrowed.{filter_keeps, filter_rule}
 use Rattle.dw_cfa.proofs.Lent.SameRows.{same_rows}
 

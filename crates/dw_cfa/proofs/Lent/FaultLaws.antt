@@ -3,16 +3,9 @@ use Rattle.std.proofs.Common.{◌≡◌, ◌⊎◌, ℕ, ◌+◌, ◌≤◌, Boo
 use Rattle.std.specs.Prelude.{IsTrue, not, nat_lt, count_by, ◌↔◌}
 use Rattle.std.proofs.lemmas.List.{take_all, append-nil}
 use Rattle.std.proofs.lemmas.Bool.{lt-ltb, ltb-true, ltb-false, le-ltb}
-use Rattle.dw_num.specs.declared.refusal.Code.{Code}
+use Rattle.dw_cfa.proofs.Types.{AreBytes, CfaRule, Code, Factors, Input, Instr, Outcome, Placed, Refusal, Rules, State, Target, address_limit}
 use Rattle.dw_num.specs.declared.refusal.Code.TheVariants.{NotInCie, LocationBackwards, LocationTooLarge, StateStackFull, CfaNotRegister}
-use Rattle.dw_num.specs.declared.refusal.Refusal.{Refusal}
-use Rattle.dw_num.specs.declared.target.Target.{Target}
-use Rattle.dw_num.specs.Target.{address_limit}
-use Rattle.dw_num.specs.Input.{Input, AreBytes}
-use Rattle.dw_cfa.specs.declared.instr.Factors.{Factors}
-use Rattle.dw_cfa.specs.declared.instr.Instr.{Instr}
 use Rattle.dw_cfa.specs.declared.instr.Instr.TheVariants.{SetLoc, Advance, RememberState, RestoreState}
-use Rattle.dw_cfa.specs.declared.rule.CfaRule.{CfaRule}
 use Rattle.dw_cfa.specs.declared.rule.CfaRule.TheVariants as cfa
 use Rattle.dw_cfa.specs.InstrSpells.{Program}
 use Rattle.dw_cfa.specs.Listing as plain
@@ -23,10 +16,9 @@ use Rattle.dw_cfa.specs.Kept.{is_remember, is_restore, in_cie, keeps_half, IsReg
 use Rattle.dw_cfa.specs.Behind.{Leaves}
 use Rattle.dw_cfa.specs.Inner.Exact.{InitialLeaves, LeavesInitial, InitialRefused, BehindRefused}
 use Rattle.dw_cfa.specs.Faults.{BreaksHalf, CieBreaks, FdeBreaks, FaultBehind, FdeFaultBehind, CieFault, FdeFault, RunFault}
-use Rattle.dw_cfa.specs.Rows.{Rules, AreSpecified, blank}
-use Rattle.dw_cfa.specs.Inner.Machine.{State, begun, written, after, half_fault, cie_fault, fde_fault}
-use Rattle.dw_cfa.specs.Inner.Runs.{Placed, placed, initial_row, on_initial, fde_rows, rows_behind, run_rows}
-use Rattle.dw_cfa.specs.Runs.{Outcome}
+use Rattle.dw_cfa.specs.Rows.{AreSpecified, blank}
+use Rattle.dw_cfa.specs.Inner.Machine.{begun, written, after, half_fault, cie_fault, fde_fault}
+use Rattle.dw_cfa.specs.Inner.Runs.{placed, initial_row, on_initial, fde_rows, rows_behind, run_rows}
 use Rattle.dw_cfa.proofs.Divided.{divided, joined}
 use Rattle.dw_cfa.proofs.Lent.Forward.{Follows, begun_follows}
 use Rattle.dw_cfa.proofs.Initial.{cie_follows, cie_refusal, cie_refused, cie_ran, cie_ends}

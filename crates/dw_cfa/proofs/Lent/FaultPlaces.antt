@@ -1,11 +1,7 @@
 -- The first faults of programs lie in them.
 use Rattle.std.proofs.Common.{◌≡◌, ◌+◌, List, ◌∷◌, length, ap, arith, inl, inr}
 use Rattle.std.proofs.lemmas.List.{length-append}
-use Rattle.dw_num.specs.declared.refusal.Code.{Code}
-use Rattle.dw_num.specs.declared.refusal.Refusal.{Refusal}
-use Rattle.dw_num.specs.Input.{Input, AreBytes}
-use Rattle.dw_cfa.specs.declared.instr.Factors.{Factors}
-use Rattle.dw_cfa.specs.declared.instr.Instr.{Instr}
+use Rattle.dw_cfa.proofs.Types.{AreBytes, Code, Factors, Input, Instr, Refusal}
 use Rattle.dw_cfa.specs.Faults.{FaultBehind, BrokenBehind}
 use Rattle.dw_cfa.specs.FaultPlaces.{IsWithin, CieFaultsWithin, FdeFaultsWithin, RunFaultsWithin}
 use Rattle.dw_cfa.specs.Listing.{ProgramFault}

@@ -2,14 +2,12 @@
 use Rattle.std.proofs.Common.{◌≡◌, ℕ, suc, ◌+◌, Bool, true, false, cond, List, [], ◌∷◌, None, refl, sym, ap, ◌∙◌, arith}
 use Rattle.std.specs.Prelude.{nat_eq}
 use Rattle.std.proofs.lemmas.Bool.{eqb-true}
-use Rattle.dw_cfa.specs.declared.instr.Instr.{Instr}
+use Rattle.dw_cfa.proofs.Types.{CfaRule, Instr, RegRule, Rules, State}
 use Rattle.dw_cfa.specs.declared.instr.Instr.TheVariants.{Nop, SetLoc, Advance, DefCfa, DefCfaRegister, DefCfaOffset, DefCfaExpression, Set, Restore, RememberState, RestoreState}
-use Rattle.dw_cfa.specs.declared.rule.CfaRule.{CfaRule}
-use Rattle.dw_cfa.specs.declared.rule.RegRule.{RegRule}
 use Rattle.dw_cfa.specs.Location.{location_back}
 use Rattle.dw_cfa.specs.Column.{look_back, cfa_change, rule_change}
-use Rattle.dw_cfa.specs.Rows.{Rules, AreSpecified, rule}
-use Rattle.dw_cfa.specs.Inner.Machine.{State, begun, changed, moved, popped, after, empty_fault, fde_fault}
+use Rattle.dw_cfa.specs.Rows.{AreSpecified, rule}
+use Rattle.dw_cfa.specs.Inner.Machine.{begun, changed, moved, popped, after, empty_fault, fde_fault}
 use Rattle.dw_cfa.proofs.Lent.RowLists.{put_rule, put_keeps}
 
 -- The row has in every column what looking back past `inner` remember_states gives.

@@ -3,27 +3,19 @@ use Rattle.std.proofs.Common.{◌≡◌, ℕ, suc, ◌≤◌, Bool, true, false,
 use Rattle.std.specs.Prelude.{if◌then◌else◌, OnOk}
 use Rattle.std.specs.List.{AllZip}
 use Rattle.std.proofs.lemmas.List.{append-nil}
-use Rattle.dw_num.specs.declared.refusal.Refusal.{Refusal}
-use Rattle.dw_num.specs.Target.{address_limit}
-use Rattle.dw_num.specs.Input.{Input, AreBytes}
-use Rattle.dw_num.specs.declared.error.ReadError.{ReadError}
+use Rattle.dw_cfa.proofs.Types.{AreBytes, Factors, Input, Instr, LocatedRow, Outcome, Placed, ReadError, Refusal, Refuses, Rules, State, Stepping, address_limit}
 use Rattle.dw_num.specs.declared.error.ReadError.TheVariants.{Refused, OutOfMemory}
-use Rattle.dw_num.specs.Refusals.{Refuses}
-use Rattle.dw_cfa.specs.declared.instr.Factors.{Factors}
-use Rattle.dw_cfa.specs.declared.instr.Instr.{Instr}
-use Rattle.dw_cfa.specs.declared.execution.LocatedRow.{LocatedRow}
 use Rattle.dw_cfa.specs.Location.{onto, location_back, moves_location}
-use Rattle.dw_cfa.specs.Rows.{Rules, AreSpecified, blank}
-use Rattle.dw_cfa.specs.Runs.{Outcome}
-use Rattle.dw_cfa.specs.RowSteps.{Stepping, stepping}
+use Rattle.dw_cfa.specs.Rows.{AreSpecified, blank}
+use Rattle.dw_cfa.specs.RowSteps.{stepping}
 use Rattle.dw_cfa.specs.CieMachine.{Following, with_steps}
 use Rattle.dw_cfa.specs.Faults.{FdeFaultBehind, RunFault}
 use Rattle.dw_cfa.specs.Behind.{Leaves, LeavesTo, ends, IsRowAfter, GivesBehind, GivesBefore, GivesUpTo, RunsBehind}
 use Rattle.dw_cfa.specs.Gives.{Gives, RunsTo}
 use Rattle.dw_cfa.specs.RowLaws.{OneRun, RefusedWhereFault, RowsWhereKept, NoneFalls, LastHolds, OneInitial, OneBehind, BehindWhereFault}
 use Rattle.dw_cfa.specs.Inner.Exact.{RulesBehind}
-use Rattle.dw_cfa.specs.Inner.Machine.{State, begun, after, fde_fault}
-use Rattle.dw_cfa.specs.Inner.Runs.{Placed, placed, row_if, on_initial, initial_row, run_rows, rows_behind, fde_rows}
+use Rattle.dw_cfa.specs.Inner.Machine.{begun, after, fde_fault}
+use Rattle.dw_cfa.specs.Inner.Runs.{placed, row_if, on_initial, initial_row, run_rows, rows_behind, fde_rows}
 use Rattle.dw_cfa.specs.Inner.RowSteps.{gives}
 use Rattle.dw_cfa.proofs.Lent.Forward.{Follows, Holds, after_follows, begun_follows}
 use Rattle.dw_cfa.proofs.Lent.RowsAt.{instrs_of}

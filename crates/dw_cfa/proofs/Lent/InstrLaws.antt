@@ -2,25 +2,20 @@
 use Rattle.std.proofs.Common.{◌≡◌, ℕ, zero, suc, ◌^◌, List, [], ◌∷◌, ◌++◌, length, Option, Some, None, Result, Ok, Err, refl, sym, subst, ◌∙◌, arith, inl, inr}
 use Rattle.std.specs.Prelude.{unsigned_abs}
 use Rattle.std.proofs.lemmas.Bool.{cases_lt, lt-ltb, le-ltb}
-use Rattle.dw_num.specs.declared.refusal.Refusal.{Refusal}
+use Rattle.dw_cfa.proofs.Types.{AreBytes, Factors, Input, Instr, Op, Opcode, Read, Refusal, Target}
 use Rattle.dw_num.specs.declared.refusal.Code.TheVariants.{OffsetTooLarge}
-use Rattle.dw_num.specs.declared.target.Target.{Target}
-use Rattle.dw_num.specs.Input.{Input, AreBytes, Takes}
+use Rattle.dw_num.specs.Input.{Takes}
 use Rattle.dw_num.specs.Fixed.{IsWidth}
 use Rattle.dw_num.specs.Leb.{Uleb}
-use Rattle.dw_num.specs.Front.{Read, fault, fixed_at, take_at, uleb_at}
+use Rattle.dw_num.specs.Front.{fault, fixed_at, take_at, uleb_at}
 use Rattle.dw_num.proofs.Lent.Steps.{bind_ok, Takes-then, take_found}
 use Rattle.dw_num.proofs.Lent.LebLaws.{done, ok_is, uleb_found, register_found}
 use Rattle.dw_num.proofs.Lent.SlebLaws.{sleb_found}
 use Rattle.dw_num.proofs.Lent.FixedLaws.{taken_bytes, fixed_found, address_found, byte_found}
-use Rattle.dw_op.specs.declared.op.Op.{Op}
 use Rattle.dw_op.specs.declared.profile.Profile.TheVariants.{Frame}
 use Rattle.dw_op.specs.Expression.{Expression}
 use Rattle.dw_op.specs.Inner.Walk.{block_input, decode_at}
 use Rattle.dw_op.proofs.Lent.Blocks.{block_found}
-use Rattle.dw_cfa.specs.declared.instr.Factors.{Factors}
-use Rattle.dw_cfa.specs.declared.instr.Instr.{Instr}
-use Rattle.dw_cfa.specs.declared.opcode.Opcode.{Opcode}
 use Rattle.dw_cfa.specs.declared.opcode.Opcode.TheVariants as opcodes
 use Rattle.dw_cfa.specs.InstrSpells.{BlockSpells, Spells, FormSpells, InstrSpells}
 use Rattle.dw_cfa.specs.Inner.Operands.{opcode_of, form_of}

@@ -4,19 +4,14 @@ use Rattle.std.specs.Prelude.{IsTrue, count_by, slice_get}
 use Rattle.std.specs.List.{AllByRecursion}
 use Rattle.std.proofs.lemmas.List.Sums.{sum_by-cons}
 use Rattle.dw_num.specs.declared.refusal.Code.TheVariants.{NotInCie}
-use Rattle.dw_num.specs.declared.target.Target.{Target}
-use Rattle.dw_num.specs.Target.{address_limit}
-use Rattle.dw_cfa.specs.declared.instr.Factors.{Factors}
-use Rattle.dw_cfa.specs.declared.instr.Instr.{Instr}
-use Rattle.dw_cfa.specs.declared.rule.CfaRule.{CfaRule}
+use Rattle.dw_cfa.proofs.Types.{CfaRule, Factors, Instr, Placed, Rules, Target, address_limit}
 use Rattle.dw_cfa.specs.declared.rule.CfaRule.TheVariants as cfa
 use Rattle.dw_cfa.specs.InstrSpells.{Program}
 use Rattle.dw_cfa.specs.Location.{onto}
 use Rattle.dw_cfa.specs.Column.{look_back, cfa_change}
 use Rattle.dw_cfa.specs.Kept.{is_remember, is_restore, in_cie, keeps_half, IsRegisterRule, CieKept, FdeKept}
-use Rattle.dw_cfa.specs.Rows.{Rules, blank}
+use Rattle.dw_cfa.specs.Rows.{blank}
 use Rattle.dw_cfa.specs.Inner.Machine.{begun, written, half_fault, cie_fault}
-use Rattle.dw_cfa.specs.Inner.Runs.{Placed}
 use Rattle.dw_cfa.proofs.Lent.Forward.{Follows, begun_follows}
 use Rattle.dw_cfa.proofs.Initial.{written_follows}
 use Rattle.dw_cfa.proofs.Lent.KeptRuns.{KeptFrom, AllInLimit, keeps_fault, half_kept}

@@ -4,18 +4,14 @@ use Rattle.std.specs.Prelude.{IsTrue, slice_get, nat_lt}
 use Rattle.std.proofs.lemmas.List.Sums.{sum_by-cons}
 use Rattle.std.proofs.lemmas.Bool.{lt-ltb, le-ltb, ltb-true, ltb-false}
 use Rattle.dw_num.specs.declared.refusal.Code.TheVariants.{LocationTooLarge, StateStackFull, CfaNotRegister}
-use Rattle.dw_cfa.specs.declared.instr.Instr.{Instr}
+use Rattle.dw_cfa.proofs.Types.{CfaRule, Instr, LocatedRow, Placed, Rules, State}
 use Rattle.dw_cfa.specs.declared.instr.Instr.TheVariants.{SetLoc, Advance, DefCfaRegister, DefCfaOffset, RememberState, RestoreState}
-use Rattle.dw_cfa.specs.declared.rule.CfaRule.{CfaRule}
 use Rattle.dw_cfa.specs.declared.rule.CfaRule.TheVariants as cfa
-use Rattle.dw_cfa.specs.declared.execution.LocatedRow.{LocatedRow}
 use Rattle.dw_cfa.specs.Location.{onto, location_back}
 use Rattle.dw_cfa.specs.Column.{look_back, cfa_change}
 use Rattle.dw_cfa.specs.Kept.{is_remember, is_restore, keeps_half, IsRegisterRule, remembered, restored}
-use Rattle.dw_cfa.specs.Rows.{Rules}
-use Rattle.dw_cfa.specs.Inner.Machine.{State, after, half_fault, fde_fault}
+use Rattle.dw_cfa.specs.Inner.Machine.{after, half_fault, fde_fault}
 use Rattle.dw_cfa.specs.Inner.Steps.{InLimit}
-use Rattle.dw_cfa.specs.Inner.Runs.{Placed}
 use Rattle.dw_cfa.proofs.Lent.Forward.{Follows, after_follows}
 use Rattle.dw_cfa.proofs.Lent.RowsAt.{instrs_of, Gives, gives_run, forwards, stays}
 use Rattle.dw_cfa.proofs.Stops.{AllRun, ends}

@@ -2,15 +2,11 @@
 use Rattle.std.proofs.Common.{◌≡◌, ℕ, zero, suc, ◌+◌, ◌<◌, ◌≤◌, false, List, [], ◌∷◌, ◌++◌, length, Option, Some, None, Ok, Err, refl, sym, ap, subst, ◌∙◌, append_assoc, arith}
 use Rattle.std.specs.Prelude.{◌↔◌, IfSome}
 use Rattle.std.proofs.lemmas.List.{length-append, append-nil, get_or-append-add}
-use Rattle.dw_num.specs.declared.refusal.Refusal.{Refusal}
-use Rattle.dw_num.specs.declared.target.Target.{Target}
-use Rattle.dw_num.specs.Input.{Input, AreBytes, Takes}
-use Rattle.dw_num.specs.Front.{Read}
+use Rattle.dw_cfa.proofs.Types.{AreBytes, Factors, Input, Instr, Read, Refusal, Target}
+use Rattle.dw_num.specs.Input.{Takes}
 use Rattle.dw_num.proofs.Lent.LebLaws.{done}
 use Rattle.dw_num.proofs.Lent.FixedLaws.{taken_bytes}
 use Rattle.dw_num.proofs.Lent.Stays.{Stays}
-use Rattle.dw_cfa.specs.declared.instr.Factors.{Factors}
-use Rattle.dw_cfa.specs.declared.instr.Instr.{Instr}
 use Rattle.dw_cfa.specs.InstrSpells.{Program}
 use Rattle.dw_cfa.specs.Inner.FrontInstr.{instr_at}
 use Rattle.dw_cfa.specs.Listing.{Listing, complete, faulty, ProgramFault}

@@ -3,17 +3,13 @@ use Rattle.std.proofs.Common.{◌≡◌, ℕ, zero, suc, ◌<◌, ◌≤◌, Boo
 use Rattle.std.proofs.lemmas.Bool.{cases_lt, le-leb, ltb-false}
 use Rattle.std.proofs.lemmas.Bool.Decides.{leb_tells}
 use Rattle.std.specs.Prelude.{nat_le, nat_lt, map}
-use Rattle.dw_num.specs.declared.refusal.Code.{Code}
+use Rattle.dw_cfa.proofs.Types.{Code, Instr, LocatedRow, Outcome, Placed, Refusal, Rules, State}
 use Rattle.dw_num.specs.declared.refusal.Code.TheVariants.{LocationBackwards}
-use Rattle.dw_num.specs.declared.refusal.Refusal.{Refusal}
-use Rattle.dw_cfa.specs.declared.instr.Instr.{Instr}
 use Rattle.dw_cfa.specs.declared.instr.Instr.TheVariants.{SetLoc, Advance, RestoreState}
-use Rattle.dw_cfa.specs.declared.execution.LocatedRow.{LocatedRow}
 use Rattle.dw_cfa.specs.Location.{onto, location_back, moves_location}
-use Rattle.dw_cfa.specs.Rows.{Rules}
-use Rattle.dw_cfa.specs.Inner.Machine.{State, after, popped, fde_fault}
-use Rattle.dw_cfa.specs.Inner.Runs.{Placed, here, row_if, fault_or, fde_rows}
-use Rattle.dw_cfa.specs.Runs.{Outcome, finished, row_then}
+use Rattle.dw_cfa.specs.Inner.Machine.{after, popped, fde_fault}
+use Rattle.dw_cfa.specs.Inner.Runs.{here, row_if, fault_or, fde_rows}
+use Rattle.dw_cfa.specs.Runs.{finished, row_then}
 use Rattle.dw_cfa.specs.RuleAt.{last_at, NeverFalls}
 use Rattle.dw_cfa.specs.Inner.RuleAt.{CountsFrom}
 use Rattle.dw_cfa.proofs.Lent.Forward.{Follows, Holds, after_follows}

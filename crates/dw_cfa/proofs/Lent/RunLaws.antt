@@ -1,20 +1,10 @@
 -- The instructions of a program without their places, the two halves of a run, and where its rows start.
 use Rattle.std.proofs.Common.{◌≡◌, ◌⊎◌, ℕ, zero, suc, List, [], ◌∷◌, length, Option, Some, None, Result, Ok, Err, refl, sym, ap, ◌∙◌, subst, inl, inr}
-use Rattle.dw_num.specs.declared.refusal.Refusal.{Refusal}
-use Rattle.dw_num.specs.Target.{address_limit}
-use Rattle.dw_num.specs.Input.{Input, AreBytes}
-use Rattle.dw_num.specs.Front.{Read}
+use Rattle.dw_cfa.proofs.Types.{AreBytes, Factors, Input, Instr, LocatedRow, Machine, Outcome, Progress, Read, Refusal, Rules, Stepping, address_limit}
 use Rattle.dw_op.specs.Inner.Walks.{ended, put, on_read, on_left, walked_by}
-use Rattle.dw_cfa.specs.declared.instr.Factors.{Factors}
-use Rattle.dw_cfa.specs.declared.instr.Instr.{Instr}
-use Rattle.dw_cfa.specs.declared.machine.Machine.{Machine}
-use Rattle.dw_cfa.specs.declared.execution.LocatedRow.{LocatedRow}
-use Rattle.dw_cfa.specs.declared.steps.Progress.{Progress}
 use Rattle.dw_cfa.specs.declared.steps.Progress.TheVariants as progress
 use Rattle.dw_cfa.specs.InstrSpells.{Program}
-use Rattle.dw_cfa.specs.Rows.{Rules, blank}
-use Rattle.dw_cfa.specs.Runs.{Outcome}
-use Rattle.dw_cfa.specs.RowSteps.{Stepping}
+use Rattle.dw_cfa.specs.Rows.{blank}
 use Rattle.dw_cfa.specs.Listing as plain
 use Rattle.dw_cfa.specs.Inner.Listing.{listing}
 use Rattle.dw_cfa.specs.Inner.Machine.{begun}

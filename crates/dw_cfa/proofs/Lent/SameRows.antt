@@ -3,10 +3,9 @@ use Rattle.std.proofs.Common.{◌≡◌, ℕ, suc, ◌<◌, true, List, [], ◌�
 use Rattle.std.specs.Prelude.{nat_eq}
 use Rattle.std.proofs.lemmas.Bool.{cases_lt}
 use Rattle.std.proofs.lemmas.Bool.Decides.{eqb_tells}
-use Rattle.dw_cfa.specs.declared.rule.CfaRule.{CfaRule}
-use Rattle.dw_cfa.specs.declared.rule.RegRule.{RegRule}
+use Rattle.dw_cfa.proofs.Types.{CfaRule, RegRule, Rules}
 use Rattle.dw_cfa.specs.declared.rule.RegRule.TheVariants.{Unspecified}
-use Rattle.dw_cfa.specs.Rows.{Rules, AreSpecified, is_specified, rule_in, rule}
+use Rattle.dw_cfa.specs.Rows.{AreSpecified, is_specified, rule_in, rule}
 use Rattle.dw_cfa.proofs.Lent.RowLists.{Entry, unlisted}
 
 eq_here : (n : ℕ) → nat_eq n n ≡ true

@@ -1,7 +1,6 @@
 use Rattle.std.proofs.Common.{◌||◌, Bool, [], ◌∷◌, false, ap, sym, ◌∙◌, arith}
 use Rattle.dw_cfa.specs.Inner.Coverage.{is_unset, leaves_one, lacks_from}
-use Rattle.dw_cfa.specs.Rows.{Rules}
-use Rattle.dw_cfa.specs.Runs.{Outcome}
+use Rattle.dw_cfa.proofs.Types.{Outcome, Rules}
 use Rattle.dw_cfa.specs.Inner.Runs.{rows_left}
 use Rattle.dw_cfa.proofs.LackingLaws.{any_low, lacks_moved}
 use Rattle.dw_cfa.proofs.RunSteps.{rows_end}

@@ -1,7 +1,6 @@
 use Rattle.std.proofs.Common.{sym, subst, ◌∙◌, IsOk}
-use Rattle.dw_num.specs.Front.{Read}
+use Rattle.dw_cfa.proofs.Types.{Instr, Read}
 use Rattle.dw_num.specs.Inner.Front.{Gives}
-use Rattle.dw_cfa.specs.declared.instr.Instr.{Instr}
 use Rattle.dw_cfa.proofs.Tabled.{opened}
 use Rattle.dw_cfa.proofs.opcode.read_instr.Goals as goal
 

@@ -1,9 +1,7 @@
 use Rattle.std.proofs.Common.{◌≡◌, ◌≤◌, ℕ, Some, rules, subst, ◌∙◌}
 use Rattle.std.proofs.lemmas.Result.{err_from_is_err_and}
-use Rattle.dw_num.specs.Refusals.{Refuses}
-use Rattle.dw_cfa.specs.declared.machine.Machine.{Machine}
+use Rattle.dw_cfa.proofs.Types.{Machine, Outcome, Refuses}
 use Rattle.dw_cfa.specs.RuleAt.{last_at}
-use Rattle.dw_cfa.specs.Runs.{Outcome}
 use Rattle.dw_cfa.specs.Inner.Runs.{StopsAbove, rows_left}
 use Rattle.dw_cfa.specs.Inner.RowSteps.{begun_stop}
 use Rattle.dw_cfa.proofs.Lent.RunLaws.{left_from}

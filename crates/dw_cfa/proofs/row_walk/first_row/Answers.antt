@@ -1,7 +1,5 @@
 use Rattle.std.proofs.Common.{ap, subst, sym, ◌∙◌}
-use Rattle.dw_num.specs.Input.{AreBytes}
-use Rattle.dw_cfa.specs.Rows.{Rules}
-use Rattle.dw_cfa.specs.Runs.{Outcome}
+use Rattle.dw_cfa.proofs.Types.{AreBytes, Outcome, Rules}
 use Rattle.dw_cfa.specs.Inner.Runs.{GivesRow, rows_left}
 use Rattle.dw_cfa.specs.Inner.RowSteps.{progress_after}
 use Rattle.dw_cfa.specs.Inner.RowWalk.{AllSpecify}

@@ -1,9 +1,7 @@
 use Rattle.std.proofs.Common.{◌≡◌, ℕ, Some, arith, rules, sym, ap, subst, ◌∙◌}
 use Rattle.std.specs.Prelude.{OnOk}
 use Rattle.dw_cfa.specs.RuleAt.{last_at, NeverFalls}
-use Rattle.dw_num.specs.Input.{AreBytes}
-use Rattle.dw_cfa.specs.Rows.{Rules}
-use Rattle.dw_cfa.specs.Runs.{Outcome}
+use Rattle.dw_cfa.proofs.Types.{AreBytes, Outcome, Rules}
 use Rattle.dw_cfa.specs.Inner.Runs.{rows_left}
 use Rattle.dw_cfa.specs.Inner.RuleAt.{LeavesAbove}
 use Rattle.dw_cfa.specs.Inner.RowWalk.{AllSpecify}

@@ -1,6 +1,5 @@
 use Rattle.std.proofs.Common.{List, sym, ap, subst, ◌∙◌}
-use Rattle.dw_cfa.specs.declared.rule.RegRule.{RegRule}
-use Rattle.dw_cfa.specs.Rows.{Rules}
+use Rattle.dw_cfa.proofs.Types.{RegRule, Rules}
 use Rattle.dw_cfa.specs.Inner.Rows.{put}
 use Rattle.dw_cfa.specs.Inner.Marks.{SameUnlisted}
 use Rattle.dw_cfa.proofs.Lent.RowLists.{Entry}

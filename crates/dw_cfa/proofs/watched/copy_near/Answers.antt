@@ -1,8 +1,7 @@
 use Rattle.std.proofs.Common.{◌+◌, ◌<◌, List, arith, sym, ap, subst, ◌∙◌}
 use Rattle.std.specs.Prelude.{◌/◌, ◌^◌}
 use Rattle.std.specs.Int.{trailing_zeros, w32}
-use Rattle.dw_cfa.specs.declared.rule.RegRule.{RegRule}
-use Rattle.dw_cfa.specs.Rows.{Rules}
+use Rattle.dw_cfa.proofs.Types.{RegRule, Rules}
 use Rattle.dw_cfa.specs.Inner.Rows.{put}
 use Rattle.dw_cfa.specs.Inner.Marks.{CopiedUpTo}
 use Rattle.dw_cfa.proofs.Lent.RowLists.{Entry}

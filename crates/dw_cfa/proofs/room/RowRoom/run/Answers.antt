@@ -1,9 +1,7 @@
 use Rattle.std.proofs.Common.{◌≡◌, ◌≤◌, ℕ, Some, subst}
 use Rattle.std.specs.Prelude.{IfErr, OnOk}
-use Rattle.dw_num.specs.Refusals.{Refuses}
-use Rattle.dw_cfa.specs.declared.machine.Machine.{Machine}
+use Rattle.dw_cfa.proofs.Types.{Machine, Outcome, Refuses}
 use Rattle.dw_cfa.specs.RuleAt.{last_at}
-use Rattle.dw_cfa.specs.Runs.{Outcome}
 use Rattle.dw_cfa.specs.RowSteps.{program_input}
 use Rattle.dw_cfa.specs.Inner.Runs.{StopsAbove, run_stop}
 use Rattle.dw_cfa.specs.Inner.RowSteps.{begun_rows}

@@ -1,10 +1,8 @@
 use Rattle.std.proofs.Common.{◌≡◌, ◌≤◌, Some, sym, subst, arith}
 use Rattle.std.specs.Prelude.{IfErr, OnOk}
-use Rattle.dw_num.specs.Refusals.{Refuses}
+use Rattle.dw_cfa.proofs.Types.{Outcome, Refuses, address_limit}
 use Rattle.dw_cfa.specs.RuleAt.{last_at}
-use Rattle.dw_cfa.specs.Runs.{Outcome}
 use Rattle.dw_cfa.specs.RowSteps.{program_input}
-use Rattle.dw_num.specs.Target.{address_limit}
 use Rattle.dw_cfa.proofs.Lent.Given.{runs_run}
 use Rattle.dw_cfa.proofs.UpTo.{none_up_to, refused_up_to}
 use Rattle.dw_cfa.proofs.room.RowRoom.run_to.Goals as goal

@@ -1,6 +1,5 @@
 use Rattle.std.proofs.Common.{Some, sym, subst}
-use Rattle.dw_cfa.specs.declared.steps.Progress.{Progress}
-use Rattle.dw_cfa.specs.Rows.{Rules}
+use Rattle.dw_cfa.proofs.Types.{Progress, Rules}
 use Rattle.dw_cfa.specs.Inner.Runs.{rows_left}
 use Rattle.dw_cfa.specs.Inner.RowSteps.{progress_after}
 use Rattle.dw_cfa.specs.Inner.RowWalk.{AreLeft, initial_of}

@@ -1,0 +1,31 @@
+-- The types that proofs speak of.
+pub use Rattle.dw_cfa.specs.Inner.Machine.{State}
+pub use Rattle.dw_cfa.specs.Inner.Runs.{Placed}
+pub use Rattle.dw_cfa.specs.RowSteps.{Stepping}
+pub use Rattle.dw_cfa.specs.Rows.{Rules}
+pub use Rattle.dw_cfa.specs.Runs.{Outcome}
+pub use Rattle.dw_cfa.specs.declared.execution.LocatedRow.{LocatedRow}
+pub use Rattle.dw_cfa.specs.declared.instr.Factors.{Factors}
+pub use Rattle.dw_cfa.specs.declared.instr.Instr.{Instr}
+pub use Rattle.dw_cfa.specs.declared.machine.End.{End}
+pub use Rattle.dw_cfa.specs.declared.machine.Machine.{Machine}
+pub use Rattle.dw_cfa.specs.declared.marks.Marks.{Marks}
+pub use Rattle.dw_cfa.specs.declared.opcode.Opcode.{Opcode}
+pub use Rattle.dw_cfa.specs.declared.row.Entries.{Entries}
+pub use Rattle.dw_cfa.specs.declared.row.Kind.{Kind}
+pub use Rattle.dw_cfa.specs.declared.row.Slot.{Slot}
+pub use Rattle.dw_cfa.specs.declared.row_walk.Leading.{Leading}
+pub use Rattle.dw_cfa.specs.declared.rule.CfaRule.{CfaRule}
+pub use Rattle.dw_cfa.specs.declared.rule.RegRule.{RegRule}
+pub use Rattle.dw_cfa.specs.declared.states.Undo.{Undo}
+pub use Rattle.dw_cfa.specs.declared.steps.Progress.{Progress}
+pub use Rattle.dw_num.specs.Front.{Read}
+pub use Rattle.dw_num.specs.Input.{AreBytes, Input}
+pub use Rattle.dw_num.specs.Refusals.{Refuses}
+pub use Rattle.dw_num.specs.Target.{address_limit}
+pub use Rattle.dw_num.specs.declared.error.ReadError.{ReadError}
+pub use Rattle.dw_num.specs.declared.refusal.Code.{Code}
+pub use Rattle.dw_num.specs.declared.refusal.Refusal.{Refusal}
+pub use Rattle.dw_num.specs.declared.target.Size.{Size}
+pub use Rattle.dw_num.specs.declared.target.Target.{Target}
+pub use Rattle.dw_op.specs.declared.op.Op.{Op}
