@@ -2,6 +2,7 @@
 use Rattle.std.proofs.Common.{◌≡◌, ℕ, ◌<◌, ◌≤◌, ◌⊎◌, Bool, true, false, List, [], ◌∷◌, Option, Some, None, refl, sym, ap, ◌∙◌, arith, inl, inr}
 use Rattle.std.specs.Prelude.{nat_lt, ◌&&◌, ◌||◌}
 use Rattle.std.specs.Bool.{MatchBool}
+use Rattle.std.proofs.lemmas.Bool.Decides.{nat_tests}
 use Rattle.std.proofs.lemmas.Bool.{cases_lt, le-leb, lt-ltb, le-ltb}
 use Rattle.dw_cfa.proofs.Types.{CfaRule, LocatedRow, Rules}
 use Rattle.dw_cfa.specs.declared.rule.CfaRule.TheVariants.{Unset}
@@ -43,16 +44,14 @@ left_true end low location true e = elim (lt_tells low location) [
 ]
 
 left_false : (end low location : ℕ) (unset : Bool) → low < location → low < end → leaves_one end low unset location ≡ false → unset ≡ false
-left_false end low location false lt le e = refl
-left_false end low location true lt le e = absurd (let z = rw (lt-ltb low location lt, lt-ltb low end le) at e in cc)
+left_false end low location unset lt le e = grind (arith, nat_tests)
 
 last_true : (end low : ℕ) (unset : Bool) → (unset && nat_lt low end) ≡ true → (unset ≡ true) × (low < end)
 last_true end low false e = absurd cc
 last_true end low true e = elim (lt_tells low end) [ inl p ↦ (refl, p.1) | inr p ↦ absurd (let z = rw (p.0) at e in cc) ]
 
 last_false : (end low : ℕ) (unset : Bool) → low < end → (unset && nat_lt low end) ≡ false → unset ≡ false
-last_false end low false lt e = refl
-last_false end low true lt e = absurd (let z = rw (lt-ltb low end lt) at e in cc)
+last_false end low unset lt e = grind (arith, nat_tests)
 
 -- where rows leave an address without a rule, its row has none
 lacks_found : (end low : ℕ) (unset : Bool) (rows : List LocatedRow) → NeverFalls low rows → lacks_from end low unset rows ≡ true

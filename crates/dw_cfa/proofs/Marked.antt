@@ -3,6 +3,7 @@ use Rattle.std.proofs.Common.{◌≡◌, ℕ, suc, ◌+◌, ◌<◌, ◌≤◌, 
 use Rattle.std.specs.Prelude.{nat_eq, ◌*◌, ◌%◌, ◌^◌, bit_or, not, is_some, IsTrue, Result, Ok, Err, IfOk, OnOk, OnErr}
 use Rattle.std.specs.Int.{bit_at, w32}
 use Rattle.std.specs.List.{filter}
+use Rattle.std.proofs.lemmas.Bool.Decides.{nat_tests}
 use Rattle.std.proofs.lemmas.Bool.{cases_Bool, cases_lt, eqb-true, eqb-false}
 use Rattle.std.proofs.lemmas.Nat.Bits.{bit_at_set_same}
 use Rattle.dw_cfa.proofs.Types.{Marks, RegRule, Rules}
@@ -18,6 +19,14 @@ use Rattle.dw_cfa.proofs.Lent.Narrowed.{filter_keeps, filter_rule}
 use Rattle.dw_cfa.proofs.Lent.SameRows.{one_row, rest_rule}
 use Rattle.dw_cfa.proofs.Lent.Skipped.{same_exactly}
 
+-- ---- a register that is put
+
+pub other_rule : (r q : ℕ) (rule : RegRule) (xs : List Entry) → AreSpecified 0 xs → (q ≡ r → ⊥) → rule_in (put r rule xs) q ≡ rule_in xs q
+other_rule r q rule xs up not = grind (arith, nat_tests, put_rule r rule 0 xs q up)
+
+pub same_rule_set : (r q : ℕ) (rule : RegRule) (xs : List Entry) → AreSpecified 0 xs → q ≡ r → rule_in (put r rule xs) q ≡ rule
+same_rule_set r q rule xs up same = grind (arith, nat_tests, put_rule r rule 0 xs q up)
+
 -- ---- marks
 
 pub near_marked : (near r : ℕ) → r < 32 → bit_at (bit_or near (1 * 2 ^ r % 2 ^ 32)) r ≡ 0 → ⊥
@@ -27,15 +36,12 @@ not_marked : SameValue ≡ Unspecified → ⊥
 not_marked e = absurd cc
 
 pub far_marked : (r : ℕ) (far : List Entry) → AreSpecified 0 far → rule_in (put r SameValue far) r ≡ Unspecified → ⊥
-far_marked r far up none = elim (cases_Bool (nat_eq r r)) [
-  | inl e ↦ let is : rule_in (put r SameValue far) r ≡ SameValue = put_rule r SameValue 0 far r up ∙ rw e refl in not_marked (sym is ∙ none)
-  | inr e ↦ absurd (eqb-false r r e refl)
-]
+far_marked r far up none = not_marked (sym (same_rule_set r r SameValue far up refl) ∙ none)
 
 pub far_more : (r q : ℕ) (far : List Entry) → AreSpecified 0 far → rule_in (put r SameValue far) q ≡ Unspecified → rule_in far q ≡ Unspecified
 far_more r q far up none = elim (cases_Bool (nat_eq r q)) [
-  | inl e ↦ let is : rule_in (put r SameValue far) q ≡ SameValue = put_rule r SameValue 0 far q up ∙ rw e refl in absurd (not_marked (sym is ∙ none))
-  | inr e ↦ let is : rule_in (put r SameValue far) q ≡ rule_in far q = put_rule r SameValue 0 far q up ∙ rw e refl in sym is ∙ none
+  | inl e ↦ absurd (not_marked (sym (same_rule_set r q SameValue far up (sym (eqb-true r q e))) ∙ none))
+  | inr e ↦ sym (other_rule r q SameValue far up (λ same. eqb-false r q e (sym same))) ∙ none
 ]
 
 pub tree_more : {X E : Type 0} (result : Result X E) (r : ℕ) (far far' : List Entry) → AreSpecified 0 far → OnOk result (far' ≡ put r SameValue far) → OnErr result (far' ≡ far)
@@ -48,18 +54,6 @@ tree_marked (Ok x) r far up m le e = λ none. far_marked r far up (ap (λ (l : L
 tree_marked (Err x) r far up m le e = tt
 
 -- ---- a register that is set
-
-pub other_rule : (r q : ℕ) (rule : RegRule) (xs : List Entry) → AreSpecified 0 xs → (q ≡ r → ⊥) → rule_in (put r rule xs) q ≡ rule_in xs q
-other_rule r q rule xs up not = elim (cases_Bool (nat_eq r q)) [
-  | inl e ↦ absurd (not (sym (eqb-true r q e)))
-  | inr e ↦ put_rule r rule 0 xs q up ∙ rw e refl
-]
-
-pub same_rule_set : (r q : ℕ) (rule : RegRule) (xs : List Entry) → AreSpecified 0 xs → q ≡ r → rule_in (put r rule xs) q ≡ rule
-same_rule_set r q rule xs up same = elim (cases_Bool (nat_eq r q)) [
-  | inl e ↦ put_rule r rule 0 xs q up ∙ rw e refl
-  | inr e ↦ absurd (eqb-false r q e (sym same))
-]
 
 pub more_same : (old new : Marks) (kept row : List Entry) → SameUnmarked old kept row → MarksMore old new → SameUnmarked new kept row
 more_same old new kept row same more r none = same r (more r none)

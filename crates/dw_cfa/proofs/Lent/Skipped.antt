@@ -1,8 +1,8 @@
 -- Tests of the registers whose slots are used leave what tests of all do; and rows that differ at no register are the same.
-use Rattle.std.proofs.Common.{◌≡◌, ℕ, ◌+◌, ◌<◌, ◌≤◌, Bool, true, false, List, get_or, Option, Some, None, refl, sym, ap, ◌∙◌, arith, inl, inr}
-use Rattle.std.specs.Prelude.{nat_eq, nat_lt, not, is_some, ◌/◌, ◌^◌, IsTrue, ◌↔◌}
+use Rattle.std.proofs.Common.{◌≡◌, ℕ, ◌+◌, ◌<◌, ◌≤◌, Bool, true, false, List, get_or, Option, Some, None, refl, ap, ◌∙◌, arith}
+use Rattle.std.specs.Prelude.{not, is_some, ◌/◌, ◌^◌, IsTrue, ◌↔◌}
 use Rattle.std.specs.Int.{bit_at, trailing_zeros, w32}
-use Rattle.std.proofs.lemmas.Bool.{cases_lt, lt-ltb, le-ltb, ne_eqb, eq-eqb}
+use Rattle.std.proofs.lemmas.Bool.Decides.{nat_tests}
 use Rattle.dw_cfa.specs.declared.rule.RegRule.TheVariants.{Unspecified}
 use Rattle.dw_cfa.specs.declared.row.Entries.{Entries}
 use Rattle.dw_cfa.specs.Rows.{AreSpecified, rule_in}
@@ -16,46 +16,11 @@ use Rattle.dw_cfa.proofs.Difference.{not_used}
 
 -- registers that have no rule are left as they are
 over_unspecified : (p : Entry → Bool) (k n : ℕ) (old new : List Entry) → k ≤ n → ((q : ℕ) → k ≤ q → q < n → rule_in new q ≡ Unspecified) → LeavesBelow p k old new → LeavesBelow p n old new
-over_unspecified p k n old new le none below q = elim (cases_lt q k) [
-  | inl lt ↦
-      let one : nat_lt q k ≡ true = lt-ltb q k lt in let two : nat_lt q n ≡ true = lt-ltb q n (omega arith) in
-      below q ∙ rw (one, two) refl
-  | inr ge ↦ elim (cases_lt q n) [
-    | inl lt ↦
-        let one : nat_lt q k ≡ false = le-ltb q k (omega arith) in let two : nat_lt q n ≡ true = lt-ltb q n lt in
-        let here : rule_in new q ≡ Unspecified = none q (omega arith) lt in
-        let stays : rule_in new q ≡ rule_in old q = below q ∙ rw one refl in
-        let was : rule_in old q ≡ Unspecified = sym stays ∙ here in
-        here ∙ sym (none_left p q) ∙ rw (two, was) refl
-    | inr past ↦
-        let one : nat_lt q k ≡ false = le-ltb q k (omega arith) in let two : nat_lt q n ≡ false = le-ltb q n (omega arith) in
-        below q ∙ rw (one, two) refl
-  ]
-]
+over_unspecified p k n old new le none below q = grind (arith, nat_tests, none q, below q, none_left p q)
 
 -- one register more
 pub below_more : (p : Entry → Bool) (n : ℕ) (old mid new : List Entry) → LeavesBelow p n old mid → LeavesAt p n mid new → LeavesBelow p (n + 1) old new
-below_more p n old mid new below at q = elim (cases_lt q n) [
-  | inl lt ↦
-      let other : nat_eq n q ≡ false = ne_eqb n q (λ same. omega arith) in
-      let one : nat_lt q n ≡ true = lt-ltb q n lt in let two : nat_lt q (n + 1) ≡ true = lt-ltb q (n + 1) (omega arith) in
-      let stays : rule_in new q ≡ rule_in mid q = at q ∙ rw other refl in
-      stays ∙ below q ∙ rw (one, two) refl
-  | inr ge ↦
-      let one : nat_lt q n ≡ false = le-ltb q n (omega arith) in
-      let was : rule_in mid q ≡ rule_in old q = below q ∙ rw one refl in
-      elim (cases_lt n q) [
-        | inl past ↦
-            let other : nat_eq n q ≡ false = ne_eqb n q (λ same. omega arith) in
-            let two : nat_lt q (n + 1) ≡ false = le-ltb q (n + 1) (omega arith) in
-            let stays : rule_in new q ≡ rule_in mid q = at q ∙ rw other refl in
-            stays ∙ was ∙ rw two refl
-        | inr le ↦
-            let here : nat_eq n q ≡ true = eq-eqb n q (omega arith) in
-            let two : nat_lt q (n + 1) ≡ true = lt-ltb q (n + 1) (omega arith) in
-            at q ∙ rw (here, was, two) refl
-      ]
-]
+below_more p n old mid new below at q = grind (arith, nat_tests, below q, at q)
 
 module _ (e : Entries) (so : EntriesSo e) where
   -- a register whose slot is not used
