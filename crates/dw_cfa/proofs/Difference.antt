@@ -6,6 +6,7 @@ use Rattle.std.specs.List.{filter}
 use Rattle.std.specs.Ordering.{nat_cmp}
 use Rattle.std.specs.BTreeMap.Range.{range_contains}
 use Rattle.std.specs.declared.ops.Bound.TheVariants.{Excluded, Unbounded}
+use Rattle.std.proofs.lemmas.Bool.Decides.{nat_tests}
 use Rattle.std.proofs.lemmas.Bool.{cases_Bool, cases_lt, eqb-true}
 use Rattle.dw_cfa.proofs.Types.{Entries, Kind, RegRule, Slot}
 use Rattle.dw_cfa.specs.declared.rule.RegRule.TheVariants.{Unspecified}
@@ -43,10 +44,7 @@ heads_differ x y xs ys up up' at differ =
 -- behind a first that both have with the same rule
 module _ (x y : Entry) (xs ys : List Entry) (up : AreSpecified 0 (x ∷ xs)) (up' : AreSpecified 0 (y ∷ ys)) (at : x.0 ≡ y.0) (same : x.1 ≡ y.1) where
   rest_same : (r : ℕ) → rule_in xs r ≡ rule_in ys r → rule_in (x ∷ xs) r ≡ rule_in (y ∷ ys) r
-  rest_same r e = elim (cases_Bool (nat_eq x.0 r)) [
-    | inl f ↦ let g : nat_eq y.0 r ≡ true = subst (λ (n : ℕ). nat_eq n r ≡ true) at f in rw (f, g) same
-    | inr f ↦ let g : nat_eq y.0 r ≡ false = subst (λ (n : ℕ). nat_eq n r ≡ false) at f in rw (f, g) e
-  ]
+  rest_same r e = grind (arith, nat_tests)
 
   rest_differs : (q : ℕ) → (rule_in xs q ≡ rule_in ys q → ⊥) → rule_in (x ∷ xs) q ≡ rule_in (y ∷ ys) q → ⊥
   rest_differs q e = elim (cases_Bool (nat_eq x.0 q)) [

@@ -3,6 +3,7 @@ use Rattle.std.proofs.Common.{◌≡◌, ℕ, zero, suc, ◌+◌, ◌<◌, ◌�
 use Rattle.std.proofs.Math.Seq.{drop-cons}
 use Rattle.std.proofs.Math.ListN.{drop_of_length-le, replicate}
 use Rattle.std.proofs.lemmas.List.{length-set, get_or-set_same, get_or-set_other, get_or-replicate, length-replicate}
+use Rattle.std.proofs.lemmas.Bool.Decides.{nat_tests}
 use Rattle.std.proofs.lemmas.Bool.{cases_Bool, cases_lt, ne_eqb, eq-eqb, eqb-true, eqb-false}
 use Rattle.std.specs.Prelude.{IsTrue, nat_eq, ℤ, pos, Result, Ok, Err, OnOk, OnErr}
 use Rattle.std.specs.Prelude.{◌-◌, ◌*◌, ◌/◌, ◌%◌, ◌^◌, bit_or, bit_and}
@@ -75,10 +76,7 @@ abbrev pub no_slot : Slot
 no_slot = record { kind = kinds.Empty; register = 0; offset = pos 0 }
 
 by_cases : (r q : ℕ) (rule a b : RegRule) → (q ≡ r → a ≡ rule) → ((q ≡ r → ⊥) → a ≡ b) → a ≡ cond (nat_eq r q) rule b
-by_cases r q rule a b same other = elim (cases_Bool (nat_eq r q)) [
-  | inl e ↦ let at = eqb-true r q e in rw e (same (sym at))
-  | inr e ↦ let not = eqb-false r q e in rw e (other (λ at. not (sym at)))
-]
+by_cases r q rule a b same other = grind (arith, nat_tests)
 
 -- a rule is set in a slot
 pub slot_set : (near : List Slot) (expressions far : List Entry) (r : ℕ) (s : Slot) (expressions' : List Entry) (rule : RegRule)

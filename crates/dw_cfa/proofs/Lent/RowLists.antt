@@ -1,6 +1,7 @@
 -- Ascending lists of registers with their rules: what setting a register leaves.
 use Rattle.std.proofs.Common.{◌≡◌, ℕ, suc, ◌<◌, ◌≤◌, Bool, true, false, cond, List, [], ◌∷◌, refl, ◌∙◌, arith, inl, inr}
 use Rattle.std.specs.Prelude.{nat_eq, nat_lt, IsTrue}
+use Rattle.std.proofs.lemmas.Bool.Decides.{nat_tests}
 use Rattle.std.proofs.lemmas.Bool.{cases_Bool, ltb-true, ltb-false, ne_eqb, eqb-true, eqb-false}
 use Rattle.dw_cfa.specs.declared.rule.RegRule.{RegRule}
 use Rattle.dw_cfa.specs.declared.rule.RegRule.TheVariants.{Unspecified}
@@ -57,11 +58,7 @@ listed_rule r rule q xs up = refl
 
 behind_rule : (r : ℕ) (x : Entry) (xs : List Entry) (q : ℕ) (b c : Bool) → nat_eq x.0 r ≡ b → nat_eq r q ≡ c
     → (rule : RegRule) → cond c rule (rule_in (cond b xs (x ∷ xs)) q) ≡ cond c rule (cond (nat_eq x.0 q) x.1 (rule_in xs q))
-behind_rule r x xs q true true e d rule = refl
-behind_rule r x xs q true false e d rule =
-    let same = eqb-true x.0 r e in let other = eqb-false r q d in
-    let ne : nat_eq x.0 q ≡ false = ne_eqb x.0 q (λ k. other (omega arith)) in rw ne refl
-behind_rule r x xs q false c e d rule = refl
+behind_rule r x xs q b c e d rule = grind (arith, nat_tests)
 
 -- the register has the rule, and every other one keeps its own
 pub put_rule : (r : ℕ) (rule : RegRule) (low : ℕ) (xs : List Entry) (q : ℕ) → AreSpecified low xs
