@@ -375,6 +375,24 @@ impl<'a> Entries<'a> {
         Ok(())
     }
 
+    // Gives a register that has a slot the rule that others give it.
+    #[inline(always)]
+    fn copy_near(&mut self, others: &Entries<'a>, register: u16) -> Result<(), AllocError>
+        requires so { EntriesSo self.old }
+        requires others { EntriesSo others.now }
+        requires near { register < 32 }
+        ensures ok { OnOk result (entries_of self.new ≡ put register (rule_in (entries_of others.now) register) (entries_of self.old)) }
+        ensures so { EntriesSo self.new }
+    {
+        let slot = others.near[usize::from(register)];
+        if let Kind::Expression = slot.kind {
+            return self.set_near(register, others.rule(register));
+        }
+        self.near[usize::from(register)] = slot;
+        self.used |= 1 << register;
+        Ok(())
+    }
+
     // Gives a register a rule.
     #[inline(always)]
     fn set(&mut self, register: u16, rule: RegRule<'a>) -> Result<(), AllocError>
@@ -739,6 +757,15 @@ impl<'a> Row<'a> {
         ensures err { OnErr result (self.new ≡ self.old) }
     {
         self.entries.set(register, rule)
+    }
+
+    // Gives a register below 32 the rule that another row gives it, or answers want of memory.
+    #[inline(always)]
+    pub(crate) fn copy_rule(&mut self, other: &Row<'a>, register: u16) -> Result<(), AllocError>
+        requires { register < 32 }
+        ensures { OnOk result (self.new ≡ with_rule register (rule_in other.now.registers register) self.old) }
+    {
+        self.entries.copy_near(&other.entries, register)
     }
 
     // Gives a register a rule and answers the one that it had, or want of memory.
