@@ -1,9 +1,10 @@
 //! Rows of rules (6.4.1).
 
-ghost use Rattle.std.specs.Prelude.{◌≡◌, ◌<◌, ℕ, [], ◌∷◌, None, IfOk, IfSome, OnOk, OnErr, MatchOption, IsTrue, ◌↔◌, length};
+ghost use Rattle.std.specs.Prelude.{◌≡◌, ◌<◌, ℕ, ℤ, [], ◌∷◌, None, IfOk, IfSome, OnOk, OnErr, MatchOption, IsTrue, ◌↔◌, length};
 ghost use Rattle.std.specs.List.{filter};
 ghost use Rattle.std.specs.Iterator.{YieldsFirst, item_count};
-ghost use Rattle.dw_cfa.specs.declared.rule.RegRule.TheVariants.{Unspecified};
+ghost use Rattle.dw_cfa.specs.declared.rule.RegRule.{RegRule as TheRule};
+ghost use Rattle.dw_cfa.specs.declared.rule.RegRule.TheVariants.{Offset, Unspecified};
 ghost use Rattle.dw_cfa.specs.Rows.{AreSpecified, HasFar, rule, rule_in, blank};
 ghost use Rattle.dw_cfa.specs.Inner.Rows.{put, with_cfa, with_rule};
 ghost use Rattle.dw_cfa.specs.Agreement.{IsAgreed, is_kept, kept};
@@ -103,6 +104,17 @@ fn slot_of(rule: &RegRule<'_>) -> Slot
     }
 }
 
+// The offset that a slot holds of a register that is saved.
+#[inline(always)]
+fn offset_in(slot: Slot) -> Option<i64>
+    ensures { IfSome result (λ n. (block : TheRule) → slot_rule slot block ≡ Offset n) }
+{
+    match slot.kind {
+        Kind::Offset => Some(slot.offset),
+        _ => None,
+    }
+}
+
 impl<'a> Entries<'a> {
     #[inline(always)]
     fn rule(&self, register: u16) -> RegRule<'a>
@@ -117,6 +129,24 @@ impl<'a> Entries<'a> {
             );
         }
         rule_in_tree(&self.far, register)
+    }
+
+    // The offset at which a register is saved. Read from its slot where it has one, since a rule is moved about.
+    #[inline(always)]
+    fn offset_of(&self, register: u16) -> Option<i64>
+        requires { EntriesSo self.now }
+        ensures { MatchOption result ((n : ℤ) → rule_in (entries_of self.now) register ≡ Offset n → ⊥) (λ n. rule_in (entries_of self.now) register ≡ Offset n) }
+    {
+        if register < NEAR {
+            let found = offset_in(self.near[usize::from(register)]);
+            if found.is_some() {
+                return found;
+            }
+        }
+        match self.rule(register) {
+            RegRule::Offset(offset) => Some(offset),
+            _ => None,
+        }
     }
 
     // Whether others give a register the same rule.
@@ -674,6 +704,15 @@ impl<'a> Row<'a> {
         ensures { result ≡ rule self.now register }
     {
         self.entries.rule(register)
+    }
+
+    /// The offset from the CFA at which a register is saved, in bytes, where its rule is `Offset`, and else none (6.4.1). Takes no
+    /// memory.
+    #[inline(always)]
+    pub fn offset_of(&self, register: u16) -> Option<i64>
+        ensures { MatchOption result ((n : ℤ) → rule self.now register ≡ Offset n → ⊥) (λ n. rule self.now register ≡ Offset n) }
+    {
+        self.entries.offset_of(register)
     }
 
     /// Whether another row gives a register the same rule. Expressions are compared by their operations.
