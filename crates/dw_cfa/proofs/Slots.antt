@@ -149,6 +149,19 @@ held_rule : (k : Kind) (r : ℕ) (n : ℤ) (rule : RegRule) → (k ≡ kinds.Exp
 held_rule kinds.Expression r n rule not is block = absurd (not refl)
 held_rule k r n rule not is block = is block
 
+-- a slot is the slot of the rule that it holds
+own_rule : (k : Kind) (r : ℕ) (n : ℤ) (block : RegRule) → HoldsRule k r n (kind_rule k r n block)
+own_rule kinds.Empty r n block = λ other. refl
+own_rule kinds.Undefined r n block = λ other. refl
+own_rule kinds.SameValue r n block = λ other. refl
+own_rule kinds.Offset r n block = λ other. refl
+own_rule kinds.ValOffset r n block = λ other. refl
+own_rule kinds.Register r n block = λ other. refl
+own_rule kinds.Expression r n block = tt
+
+pub own_slot : (s : Slot) (block : RegRule) → IsSlotOf (slot_rule s block) s
+own_slot s block = own_rule s.kind s.register s.offset block
+
 module _ (near : List Slot) (expressions far : List Entry) (r p : ℕ) (s : Slot) (rule : RegRule) (len : length near ≡ 32) (up : AreSpecified 32 far) (lt : r < 32) (at : p ≡ r) where
   pub set_plain : (s.kind ≡ kinds.Expression → ⊥) → IsSlotOf rule s → listed_near 0 (set near p s) expressions far ≡ put r rule (listed_near 0 near expressions far)
   set_plain not is =

@@ -1,9 +1,10 @@
 //! Rows of rules (6.4.1).
 
-ghost use Rattle.std.specs.Prelude.{◌≡◌, ◌<◌, ℕ, [], ◌∷◌, None, IfOk, IfSome, OnOk, OnErr, MatchOption, IsTrue, ◌↔◌, length};
+ghost use Rattle.std.specs.Prelude.{◌≡◌, ◌<◌, ℕ, ℤ, [], ◌∷◌, None, IfOk, IfSome, OnOk, OnErr, MatchOption, IsTrue, ◌↔◌, length};
 ghost use Rattle.std.specs.List.{filter};
 ghost use Rattle.std.specs.Iterator.{YieldsFirst, item_count};
-ghost use Rattle.dw_cfa.specs.declared.rule.RegRule.TheVariants.{Unspecified};
+ghost use Rattle.dw_cfa.specs.declared.rule.RegRule.{RegRule as TheRule};
+ghost use Rattle.dw_cfa.specs.declared.rule.RegRule.TheVariants.{Offset, Unspecified};
 ghost use Rattle.dw_cfa.specs.Rows.{AreSpecified, HasFar, rule, rule_in, blank};
 ghost use Rattle.dw_cfa.specs.Inner.Rows.{put, with_cfa, with_rule};
 ghost use Rattle.dw_cfa.specs.Agreement.{IsAgreed, is_kept, kept};
@@ -103,6 +104,17 @@ fn slot_of(rule: &RegRule<'_>) -> Slot
     }
 }
 
+// The offset that a slot holds of a register that is saved.
+#[inline(always)]
+fn offset_in(slot: Slot) -> Option<i64>
+    ensures { IfSome result (λ n. (block : TheRule) → slot_rule slot block ≡ Offset n) }
+{
+    match slot.kind {
+        Kind::Offset => Some(slot.offset),
+        _ => None,
+    }
+}
+
 impl<'a> Entries<'a> {
     #[inline(always)]
     fn rule(&self, register: u16) -> RegRule<'a>
@@ -117,6 +129,24 @@ impl<'a> Entries<'a> {
             );
         }
         rule_in_tree(&self.far, register)
+    }
+
+    // The offset at which a register is saved. Read from its slot where it has one, since a rule is moved about.
+    #[inline(always)]
+    fn offset_of(&self, register: u16) -> Option<i64>
+        requires { EntriesSo self.now }
+        ensures { MatchOption result ((n : ℤ) → rule_in (entries_of self.now) register ≡ Offset n → ⊥) (λ n. rule_in (entries_of self.now) register ≡ Offset n) }
+    {
+        if register < NEAR {
+            let found = offset_in(self.near[usize::from(register)]);
+            if found.is_some() {
+                return found;
+            }
+        }
+        match self.rule(register) {
+            RegRule::Offset(offset) => Some(offset),
+            _ => None,
+        }
     }
 
     // Whether others give a register the same rule.
@@ -371,6 +401,24 @@ impl<'a> Entries<'a> {
             self.near[usize::from(register)] = slot;
             self.used |= 1 << register;
             return Ok(());
+        }
+        self.near[usize::from(register)] = slot;
+        self.used |= 1 << register;
+        Ok(())
+    }
+
+    // Gives a register that has a slot the rule that others give it.
+    #[inline(always)]
+    fn copy_near(&mut self, others: &Entries<'a>, register: u16) -> Result<(), AllocError>
+        requires so { EntriesSo self.old }
+        requires others { EntriesSo others.now }
+        requires near { register < 32 }
+        ensures ok { OnOk result (entries_of self.new ≡ put register (rule_in (entries_of others.now) register) (entries_of self.old)) }
+        ensures so { EntriesSo self.new }
+    {
+        let slot = others.near[usize::from(register)];
+        if let Kind::Expression = slot.kind {
+            return self.set_near(register, others.rule(register));
         }
         self.near[usize::from(register)] = slot;
         self.used |= 1 << register;
@@ -660,6 +708,15 @@ impl<'a> Row<'a> {
         self.entries.rule(register)
     }
 
+    /// The offset from the CFA at which a register is saved, in bytes, where its rule is `Offset`, and else none (6.4.1). Takes no
+    /// memory.
+    #[inline(always)]
+    pub fn offset_of(&self, register: u16) -> Option<i64>
+        ensures { MatchOption result ((n : ℤ) → rule self.now register ≡ Offset n → ⊥) (λ n. rule self.now register ≡ Offset n) }
+    {
+        self.entries.offset_of(register)
+    }
+
     /// Whether another row gives a register the same rule. Expressions are compared by their operations.
     #[inline(always)]
     pub fn has_same_rule(&self, other: &Row<'_>, register: u16) -> bool
@@ -741,6 +798,15 @@ impl<'a> Row<'a> {
         ensures err { OnErr result (self.new ≡ self.old) }
     {
         self.entries.set(register, rule)
+    }
+
+    // Gives a register below 32 the rule that another row gives it, or answers want of memory.
+    #[inline(always)]
+    pub(crate) fn copy_rule(&mut self, other: &Row<'a>, register: u16) -> Result<(), AllocError>
+        requires { register < 32 }
+        ensures { OnOk result (self.new ≡ with_rule register (rule_in other.now.registers register) self.old) }
+    {
+        self.entries.copy_near(&other.entries, register)
     }
 
     // Gives a register a rule and answers the one that it had, or want of memory.

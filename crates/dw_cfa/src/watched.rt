@@ -31,7 +31,7 @@ fn copy_near<'a>(row: &Row<'a>, kept: &mut Row<'a>, mask: u32) -> Result<(), All
         place += left.trailing_zeros();
         let register = place as u16;
         kept.ascends();
-        kept.set(register, row.rule(register))?;
+        kept.copy_rule(row, register)?;
         place += 1;
     }
     Ok(())
