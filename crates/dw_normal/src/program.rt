@@ -9,11 +9,12 @@ ghost use Rattle.dw_cfa.specs.Rows.{rule};
 ghost use Rattle.dw_normal.specs.Inner.RegisterWalk.{rules_from};
 ghost use Rattle.dw_normal.specs.Inner.ChangeWalk.{Stand, later_bytes, row_or_blank, shown_row};
 ghost use Rattle.dw_canon.specs.Inner.Fits.{InstrFits};
-ghost use Rattle.dw_canon.specs.Inner.Spelling.{instr_bytes, program_bytes};
+ghost use Rattle.dw_canon.specs.Inner.Spelling.{instr_bytes, program_bytes, rule_bytes};
+ghost use Rattle.dw_section.specs.Fits.{RuleFits};
 
 use crate::cfa_change::cfa_difference;
 use crate::instruction::{
-    push_advance, push_cfa_offset, push_instr, push_packed, push_rule, push_set_loc,
+    push_advance, push_cfa_offset, push_instr, push_offset, push_packed, push_rule, push_set_loc,
 };
 use crate::opcode::{RESTORE, RESTORE_EXTENDED};
 use crate::restored::is_restored;
@@ -84,6 +85,23 @@ fn push_cfa<'a>(
     push_cfa_rule(out, before.cfa_rule(), after.cfa_rule(), target)
 }
 
+// Appends what gives a register the rule that a row gives it: mostly that it is saved, and then no rule is moved about.
+#[inline(always)]
+fn push_rule_of<'a>(
+    out: &mut Vec<u8>,
+    row: &Row<'a>,
+    register: u16,
+    target: Target,
+) -> Result<(), AllocError>
+    requires { RuleFits target (rule row.now register) }
+    ensures { OnOk result (out.new.items ≡ out.old.items ++ rule_bytes target register (rule row.now register)) }
+{
+    match row.offset_of(register) {
+        Some(offset) => push_offset(out, register, offset),
+        None => push_rule(out, register, &row.rule(register), target),
+    }
+}
+
 // Appends what gives a register its rule of a row: `Restore` where it is the initial one.
 #[inline(always)]
 #[tactic(auto, unfolding(dw_canon::specs::Spelling::instr_bytes))]
@@ -100,7 +118,7 @@ fn push_register<'a>(
     if is_restored(row, shared, register) {
         return push_packed(out, RESTORE, RESTORE_EXTENDED, register);
     }
-    push_rule(out, register, &row.rule(register), target)
+    push_rule_of(out, row, register, target)
 }
 
 // Appends what gives each register whose rule differs its rule of another row.
