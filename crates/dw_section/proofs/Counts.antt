@@ -1,7 +1,6 @@
 -- The rows that programs start.
 use Rattle.std.proofs.Common.{◌≡◌, ℕ, suc, ◌+◌, ◌≤◌, cond, List, [], ◌∷◌, ◌++◌, length, refl, sym, ap, ◌∙◌, arith}
 use Rattle.std.specs.Prelude.{count_by}
-use Rattle.std.specs.List.{AllZip}
 use Rattle.std.proofs.lemmas.List.{length-append}
 use Rattle.std.proofs.lemmas.List.Sums.{sum_by-cons}
 use Rattle.dw_num.specs.declared.target.Order.{Order}
@@ -21,6 +20,7 @@ use Rattle.dw_section.specs.Pieces.{Pieces}
 use Rattle.dw_section.specs.Places.{cie_places}
 use Rattle.dw_section.proofs.Items.{item_some}
 use Rattle.dw_section.proofs.Lent.Index.{with_range_so}
+use Rattle.std.proofs.lemmas.Slice.Zip.{AllZip-long}
 
 -- ---- one program
 
@@ -64,11 +64,6 @@ pieces_few order at (entry form body ∷ items) =
     let some = item_some order item in
     omega arith
 
-same_length : (target : Target) (places : List ℕ) (ps : List Piece) (hs : List Head) → AllZip (Has target places) ps hs → length hs ≡ length ps
-same_length target places [] [] z = refl
-same_length target places (p ∷ ps) (h ∷ hs) z = ap suc (same_length target places ps hs z.1)
-same_length target places ps hs z = absurd z
-
 nonempty_few : (hs : List Head) → length (nonempty hs) ≤ length hs
 nonempty_few [] = omega arith
 nonempty_few (cie c ∷ hs) = let p = nonempty_few hs in omega arith
@@ -85,6 +80,6 @@ few_pieces target s ps p =
 pub few_ranges : (target : Target) (s : List ℕ) (hs : List Head) → Headers target s hs → length (nonempty hs) ≤ 2147483647
 few_ranges target s hs p =
     let a = nonempty_few hs in
-    let b = same_length target (cie_places p.entries) p.entries hs p.each in
+    let b = AllZip-long (Has target (cie_places p.entries)) p.entries hs p.each in
     let c = few_pieces target s p.entries p.cut in
     omega arith

@@ -1,6 +1,5 @@
 -- What is refused where an entry stands is its first fault.
-use Rattle.std.proofs.Common.{◌≡◌, ℕ, ◌+◌, ◌≤◌, List, [], ◌∷◌, length, drop, take, Some, Result, Ok, Err, refl, sym, ap, subst, ◌∙◌, inl, inr}
-use Rattle.std.specs.Prelude.{IfOk, MatchResult}
+use Rattle.std.proofs.Common.{◌≡◌, ℕ, ◌+◌, ◌≤◌, List, [], ◌∷◌, length, drop, take, Some, Err, refl, sym, ap, subst, ◌∙◌, inl, inr}
 use Rattle.std.proofs.lemmas.Bool.{le-ltb}
 use Rattle.std.proofs.lemmas.List.{take-append-drop, take_at}
 use Rattle.dw_num.specs.declared.refusal.Code.TheVariants.{NoSuchCie}
@@ -8,7 +7,7 @@ use Rattle.dw_num.specs.declared.refusal.Refusal.{Refusal}
 use Rattle.dw_num.specs.declared.target.Order.{Order}
 use Rattle.dw_num.specs.declared.target.Target.{Target}
 use Rattle.dw_num.specs.Fixed.{Fixed}
-use Rattle.dw_num.specs.Front.{Reads, fixed_at}
+use Rattle.dw_num.specs.Front.{fixed_at}
 use Rattle.dw_num.specs.Input.{Input, Takes}
 use Rattle.dw_num.specs.Span.{input_of}
 use Rattle.dw_num.proofs.Lent.FixedLaws.{fixed_only, length-fixed}
@@ -33,18 +32,16 @@ stands_wide order s p w = of w.item w.is w.piece
     of (entry form body) is e = subst (λ (q : Piece). id_width q.form ≤ length q.contents.bytes) (some_is _ p e) is.1
 
 -- a number that is there is read
-fixed_there : (n : ℕ) (i : Input) (r : Refusal) → n ≤ length i.bytes → fixed_at n i ≡ Err r → ⊥
+pub fixed_there : (n : ℕ) (i : Input) (r : Refusal) → n ≤ length i.bytes → fixed_at n i ≡ Err r → ⊥
 unfolding fixed_at
 fixed_there n i r long e = let bad = rw (le-ltb (length i.bytes) n long) at e in absurd cc
 
-pub is_named : (target : Target) (p : Piece) (i new : Input) (result : Result ℕ Refusal) → i ≡ input_of target p.contents → Reads (λ (v : ℕ). v) result i (fixed_at (id_width p.form) i) new
-    → IfOk result (λ v. (b : List ℕ) × Fixed i.target.order (id_width p.form) v b × Takes i b new) → id_width p.form ≤ length p.contents.bytes → MatchResult result (Names target p) (λ r. ⊥)
-is_named target p i new (Ok v) is reads found wide =
+pub is_named : (target : Target) (p : Piece) (i new : Input) (v : ℕ) → i ≡ input_of target p.contents → (b : List ℕ) × Fixed i.target.order (id_width p.form) v b × Takes i b new → Names target p v
+is_named target p i new v is found =
     let n = id_width p.form in
     let len : length found.0 ≡ n = ap length found.1.bytes ∙ length-fixed i.target.order n v in
     let first : take n i.bytes ≡ found.0 = ap (take n) found.2.bytes ∙ take_at found.0 new.bytes n len in
     subst (λ (j : Input). Fixed j.target.order n v (take n j.bytes)) is (subst (Fixed i.target.order n v) (sym first) found.1)
-is_named target p i new (Err r) is reads found wide = fixed_there (id_width p.form) (input_of target p.contents) r wide (subst (λ (j : Input). fixed_at (id_width p.form) j ≡ Err r) is reads.0)
 
 -- ---- fields
 

@@ -1,5 +1,5 @@
 -- Entries that stand at their places in bytes.
-use Rattle.std.proofs.Common.{◌≡◌, ℕ, zero, suc, map, get_or, ◌+◌, ◌-◌, ◌<◌, ◌≤◌, true, false, Bool, ◌||◌, eqb, List, [], ◌∷◌, ◌++◌, length, take, drop, Option, Some, None, Ok, Err, refl, sym, ap, subst, ◌∙◌, append_assoc, arith, inl, inr}
+use Rattle.std.proofs.Common.{◌≡◌, ℕ, ◌+◌, ◌-◌, ◌≤◌, true, false, Bool, ◌||◌, eqb, List, [], ◌∷◌, ◌++◌, length, take, drop, Option, Some, None, Ok, Err, refl, sym, ap, subst, ◌∙◌, append_assoc, arith, inl, inr}
 use Rattle.std.specs.List.{AllByRecursion, AllZip}
 use Rattle.std.specs.Prelude.{IfSome}
 use Rattle.std.proofs.lemmas.Bool.Decides.{eqb_tells}
@@ -24,8 +24,6 @@ use Rattle.dw_section.specs.Headers.{CieHead, FdeHead, Head, Has, Headers, IsCie
 use Rattle.dw_section.specs.Inner.PieceHeader.{cie_at, fde_at}
 use Rattle.dw_section.specs.Inner.Index.{IsFound, found_cie, found_head}
 use Rattle.dw_section.specs.Meaning.{Returns}
-use Rattle.dw_section.specs.Ranges.{fde_in}
-use Rattle.dw_section.specs.declared.fde_range.Ranged.{Ranged}
 use Rattle.dw_section.specs.Overlap.{Range}
 use Rattle.dw_section.specs.Places.{cie_places}
 use Rattle.dw_section.specs.Among.{IsAmong}
@@ -128,24 +126,20 @@ cie_from target places p h (inr c) = let a = c.3 in absurd cc
 said_of : (target : Target) (places : List ℕ) (p : Piece) (f : FdeFields) (own : Span) → IsFde target places p f own → Ranges target places f
 said_of target places p f own is = fde_said target places p.form f is.1.spelling is.1.spells
 
-pub own_of : (target : Target) (s : List ℕ) (at : ℕ) (p : Piece) (w : StandsAt target s at) → StandsIn target.order s p → at ≡ p.at
-    → (f : FdeFields) × (own : Span) × IsFde target (w.0.cie_at ∷ []) p f own × (f.cie_at ≡ w.0.cie_at)
+pub own_of : (target : Target) (s : List ℕ) (at : ℕ) (p : Piece) (w : StandsAt target s at) → StandsIn target.order s p → at ≡ p.at → Has target (w.0.cie_at ∷ []) p (fde w.0)
 own_of target s at p w stands place =
     let places = w.0.cie_at ∷ [] in
-    let same = one_piece target.order s w.2.piece p w.2.stands stands (sym (has_at target places w.2.piece (fde w.0) w.2.own_is) ∙ w.3 ∙ place) in
-    let q = fde_from target places p w.0 (subst (λ (x : Piece). Has target places x (fde w.0)) same w.2.own_is) in
-    (q.0, q.1, q.2, ap (λ (h : FdeHead). h.cie_at) (sym q.3))
+    subst (λ (x : Piece). Has target places x (fde w.0)) (one_piece target.order s w.2.piece p w.2.stands stands (sym (has_at target places w.2.piece (fde w.0) w.2.own_is) ∙ w.3 ∙ place)) w.2.own_is
 
-pub named_of : (target : Target) (s : List ℕ) (at : ℕ) (w : StandsAt target s at) → (f : CieFields) × (own : Span) × IsCie target w.2.named_piece f own × (w.2.named_piece.at ≡ w.0.cie_at)
-named_of target s at w =
-    let q = cie_from target [] w.2.named_piece w.1 w.2.named_is in
-    (q.0, q.1, q.2, sym (has_at target [] w.2.named_piece (cie w.1) w.2.named_is) ∙ sym w.2.names)
+-- the CIE that it names
+pub named_of : (target : Target) (s : List ℕ) (at : ℕ) (w : StandsAt target s at) → (w.2.named_piece.at ≡ w.0.cie_at) × (w.2.named_piece.kind ≡ kind.Cie)
+named_of target s at w = (sym (has_at target [] w.2.named_piece (cie w.1) w.2.named_is) ∙ sym w.2.names, (cie_from target [] w.2.named_piece w.1 w.2.named_is).2.0)
 
-pub fde_never : (target : Target) (places : List ℕ) (p : Piece) (f : FdeFields) (own : Span) (r : Refusal) → IsFde target places p f own → fde_at target places p ≡ Err r → ⊥
-fde_never target places p f own r is stuck = let a = fde_at_again target places p f own is in let bad = sym a ∙ stuck in cc
+pub fde_never : (target : Target) (places : List ℕ) (p : Piece) (h : FdeHead) (r : Refusal) → Has target places p (fde h) → fde_at target places p ≡ Err r → ⊥
+fde_never target places p h r has stuck = let q = fde_from target places p h has in let a = sym (fde_at_again target places p q.0 q.1 q.2) ∙ stuck in cc
 
-pub cie_never : (target : Target) (p : Piece) (f : CieFields) (own : Span) (r : Refusal) → IsCie target p f own → cie_at target p ≡ Err r → ⊥
-cie_never target p f own r is stuck = let a = cie_at_again target p f own is in let bad = sym a ∙ stuck in cc
+pub cie_never : (target : Target) (p : Piece) (h : CieHead) (r : Refusal) → Has target [] p (cie h) → cie_at target p ≡ Err r → ⊥
+cie_never target p h r has stuck = let q = cie_from target [] p h has in let a = sym (cie_at_again target p q.0 q.1 q.2) ∙ stuck in cc
 
 among_one : (n c : ℕ) → is_among n (c ∷ []) ≡ true → n ≡ c
 among_one n c h = elim (eqb_tells c n) [ inl is ↦ sym is.1 | inr not ↦ (let e = not.0 in let bad = rw e at h in absurd cc) ]
@@ -309,9 +303,3 @@ stands_listed target s hs a register p r =
       },
       ap (λ (x : Range). x.at) r.covers,
     )
-
--- an entry of an index is listed
-pub entry_listed : (list : List Ranged) (e : Ranged) (i : ℕ) → i < length list → ((d : Ranged) → e ≡ get_or list i d) → IsAmong (fde_in e) (map fde_in list)
-entry_listed [] e i lt is = absurd (omega arith)
-entry_listed (x ∷ list) e zero lt is = inl (ap fde_in (is x))
-entry_listed (x ∷ list) e (suc i) lt is = inr (entry_listed list e i (omega arith) is)

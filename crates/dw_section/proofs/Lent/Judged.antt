@@ -4,9 +4,8 @@ use Rattle.std.specs.Bool.{MatchBool}
 use Rattle.std.specs.Prelude.{nat_lt}
 use Rattle.std.specs.List.{AllByRecursion}
 use Rattle.std.specs.List.Sorted.{IsNonDecreasingBy}
-use Rattle.std.proofs.lemmas.Bool.{ltb-true, ltb-false}
-use Rattle.std.proofs.lemmas.Bool.Decides.{eqb_tells}
-use Rattle.std.proofs.lemmas.List.{append-nil, map-append}
+use Rattle.std.proofs.lemmas.Bool.{ltb-true, ltb-false, cases_lt}
+use Rattle.std.proofs.lemmas.List.{append-nil, map-append, get_or-map, length-map}
 use Rattle.std.proofs.lemmas.List.Elements.{filter_map-append}
 use Rattle.dw_num.specs.declared.refusal.Refusal.{Refusal}
 use Rattle.dw_num.specs.declared.target.Target.{Target}
@@ -37,6 +36,7 @@ use Rattle.dw_num.specs.Span.{input_of}
 use Rattle.dw_cfa.proofs.Lent.InstrCounts.{counts_exists}
 use Rattle.dw_cfa.proofs.Lent.RowsAt.{last_from}
 use Rattle.dw_section.proofs.Stages.{all_push}
+use Rattle.dw_section.proofs.Places.{rises-at, among_place}
 
 -- ---- what is kept of CIEs
 
@@ -57,50 +57,27 @@ initials_fde target hs front cs h w runs place = record {
 
 -- ---- the search among them
 
-low_among : (low n : ℕ) (xs : List ℕ) → Rises low xs → is_among n xs ≡ true → low ≤ n
-low_among low n [] up e = absurd cc
-low_among low n (x ∷ xs) up e = elim (eqb_tells x n) [
-  | inl is ↦ omega (arith, up.0, is.1)
-  | inr not ↦ let rest : is_among n xs ≡ true = rw (not.0) at e in let p = low_among x n xs up.1 rest in omega (arith, up.0)
-]
-
-from_low : (low : ℕ) (cs : List Initial) (j : ℕ) (d : Initial) → Rises low (map place_of cs) → j < length cs → low ≤ (get_or cs j d).at
-from_low low [] j d up lt = absurd (omega arith)
-from_low low (c ∷ cs) zero d up lt = up.0
-from_low low (c ∷ cs) (suc j) d up lt = let p = from_low c.at cs j d up.1 (omega arith) in omega (arith, up.0)
-
 pub initials_ascend : (low : ℕ) (cs : List Initial) → Rises low (map place_of cs) → IsNonDecreasingBy place_of cs
-initials_ascend low (c ∷ cs) up zero zero d le lt = omega arith
-initials_ascend low (c ∷ cs) up zero (suc j) d le lt = from_low c.at cs j d up.1 (omega arith)
-initials_ascend low (c ∷ cs) up (suc i) (suc j) d le lt = initials_ascend c.at cs up.1 i j d (omega arith) (omega arith)
-initials_ascend low cs up i j d le lt = absurd (omega arith)
+initials_ascend low cs up i j d le lt =
+    let at : (k : ℕ) → k < length cs → get_or (map place_of cs) k 0 ≡ (get_or cs k d).at = λ k less. get_or-map place_of cs k d 0 less in
+    omega (arith, rises-at low (map place_of cs) up i j le (omega (arith, lt, length-map cs place_of)), at i (omega arith), at j lt)
 
-pub found_initial : (place low : ℕ) (cs : List Initial) (i : ℕ) → Rises low (map place_of cs) → is_among place (map place_of cs) ≡ true
+pub found_initial : (place : ℕ) (cs : List Initial) (i : ℕ) → Rises 0 (map place_of cs) → is_among place (map place_of cs) ≡ true
     → ((k : ℕ) (d : Initial) → k < i → nat_lt (get_or cs k d).at place ≡ true) → ((k : ℕ) (d : Initial) → i ≤ k → k < length cs → nat_lt (get_or cs k d).at place ≡ false)
     → (i < length cs) × ((d : Initial) → (get_or cs i d).at ≡ place)
-found_initial place low [] i up among below above = absurd cc
-found_initial place low (c ∷ cs) zero up among below above =
-    let at = ltb-false c.at place (above 0 c (omega arith) (omega arith)) in
-    let same : c.at ≡ place = elim (eqb_tells c.at place) [
-      | inl is ↦ is.1
-      | inr not ↦ let rest : is_among place (map place_of cs) ≡ true = rw (not.0) at among in let p = low_among c.at place (map place_of cs) up.1 rest in omega arith
-    ] in
-    (omega arith, λ d. same)
-found_initial place low (c ∷ cs) (suc i) up among below above =
-    let at = ltb-true c.at place (below 0 c (omega arith)) in
-    let rest : is_among place (map place_of cs) ≡ true = elim (eqb_tells c.at place) [
-      | inl is ↦ let e = is.1 in absurd (omega arith)
-      | inr not ↦ rw (not.0) at among
-    ] in
-    let q = found_initial place c.at cs i up.1 rest (λ k d lt. below (suc k) d (omega arith)) (λ k d le lt. above (suc k) d (omega arith) (omega arith)) in
-    (omega (arith, q.0), q.1)
+found_initial place [] i up among below above = absurd cc
+found_initial place (c ∷ cs) i up among below above =
+    let all = c ∷ cs in
+    let w = among_place place (map place_of all) among in
+    let lt : w.0 < length all = omega (arith, w.1, length-map all place_of) in
+    let at : (d : Initial) → (get_or all w.0 d).at ≡ place = λ d. sym (get_or-map place_of all w.0 d 0 lt) ∙ w.2 in
+    let from : i ≤ w.0 = elim (cases_lt w.0 i) [ inl less ↦ absurd (omega (arith, ltb-true (get_or all w.0 c).at place (below w.0 c less), at c)) | inr ge ↦ ge ] in
+    (omega (arith, from, lt), λ d. omega (arith, initials_ascend 0 all up i w.0 d from lt, at d, ltb-false (get_or all i d).at place (above i d (omega arith) (omega (arith, from, lt)))))
 
 pub all_get : {X : Type 0} (P : X → Type 0) (xs : List X) (i : ℕ) (d : X) → AllByRecursion P xs → i < length xs → P (get_or xs i d)
 all_get P [] i d h lt = absurd (omega arith)
 all_get P (x ∷ xs) zero d h lt = h.0
 all_get P (x ∷ xs) (suc i) d h lt = all_get P xs i d h.1 (omega arith)
-
--- ---- a header of a list is among them
 
 -- ---- a machine that ran an FDE's program
 

@@ -8,7 +8,8 @@ use Rattle.dw_section.specs.Headers.{Head, Has, CieHolds, FdeHolds, FdeStuck}
 use Rattle.dw_section.proofs.Between.{between_start, between_next, between_end, between_stuck, between_now}
 use Rattle.dw_section.proofs.Lent.HeaderLaws.{has_fde}
 use Rattle.dw_section.proofs.Left.{left_all, stays_then}
-use Rattle.dw_section.proofs.Stages.{zip_push, all_from_zip}
+use Rattle.dw_section.proofs.Stages.{all_from_zip}
+use Rattle.std.proofs.lemmas.Slice.Zip.{all_zipped_more}
 use Rattle.dw_section.proofs.header.fdes_hold.Goals as goal
 
 pub pieces-init : goal.pieces-init
@@ -32,7 +33,7 @@ pieces-preserved c = (
       let has = c.in_ok-fde_holds.ensures.found (between_now (PiecesLeft c.pieces.cursor) _ (CieHolds c.args.target) ps w (piece_in c.in-Some.piece) q.0 q.1 hold) in
       let Front : List Piece → Type 0 = λ front. (hs : List Head) × AllZip (Has c.args.target c.args.places.now) front hs in
       between_next (PiecesLeft c.pieces.cursor) (PiecesLeft c.next_piece.new.cursor) Front Front ps w (piece_in c.in-Some.piece) q.0 q.1 q.2
-      (w.so.0 ++ has.0 ∷ [], zip_push (Has c.args.target c.args.places.now) w.front w.so.0 (piece_in c.in-Some.piece) has.0 w.so.1 has.1),
+      (w.so.0 ++ has.0 ∷ [], all_zipped_more (Has c.args.target c.args.places.now) w.front w.so.0 (piece_in c.in-Some.piece) has.0 w.so.1 has.1),
 )
 
 pub returns-in_err-fde_holds-clause-first : goal.returns-in_err-fde_holds-clause-first

@@ -9,7 +9,8 @@ use Rattle.dw_section.specs.Headers.{Head, Has, CieHolds, FdeHolds, FdeStuck, he
 use Rattle.dw_section.proofs.Between.{between_start, between_next, between_end, between_stuck, between_now}
 use Rattle.dw_section.proofs.Lent.HeaderLaws.{has_fde}
 use Rattle.dw_section.proofs.Left.{left_all, stays_then}
-use Rattle.dw_section.proofs.Stages.{zip_push, all_from_zip}
+use Rattle.dw_section.proofs.Stages.{all_from_zip}
+use Rattle.std.proofs.lemmas.Slice.Zip.{all_zipped_more}
 use Rattle.dw_section.proofs.header.read_headers.Goals as goal
 
 pub pieces-init : goal.pieces-init
@@ -40,7 +41,7 @@ pieces-preserved c = (
       rw (c.in_ok-push.ensures.items, map-append)
       (between_next (PiecesLeft c.pieces.cursor) (PiecesLeft c.next_piece.new.cursor) (λ (front : List Piece). AllZip Has front (map head_in c.pieces.headers.items)) (λ (front : List Piece). AllZip Has front (map head_in c.pieces.headers.items ++ head_in c.in_ok-header_of.field-0 ∷ []))
       ps w (piece_in c.in-Some.piece) q.0 q.1 q.2
-      (zip_push Has w.front _ (piece_in c.in-Some.piece) (head_in c.in_ok-header_of.field-0) w.so c.in_ok-header_of.ensures.found)),
+      (all_zipped_more Has w.front _ (piece_in c.in-Some.piece) (head_in c.in_ok-header_of.field-0) w.so c.in_ok-header_of.ensures.found)),
 )
 
 pub returns-in_err-header_of-clause-first : goal.returns-in_err-header_of-clause-first

@@ -4,10 +4,10 @@ use Rattle.dw_section.specs.declared.lookup.Fde.{Fde}
 use Rattle.dw_section.specs.Ranges.{IsRanged, range_in, fde_in}
 use Rattle.dw_section.specs.Meaning.{NoneCovers}
 use Rattle.dw_section.specs.Among.{IsAmong}
-use Rattle.dw_section.proofs.Lent.FdeLookup.{are_fdes, one_fdes, ranged_of}
+use Rattle.dw_section.proofs.Lent.FdeLookup.{listed_are, ranged_of, fde_listed, listed_fde}
 use Rattle.dw_section.specs.StandingFde.{LookUpFault, StandingFault}
 use Rattle.dw_section.proofs.StandFaults.{refuses_more}
-use Rattle.dw_section.proofs.StandLaws.{entry_listed}
+use Rattle.std.proofs.lemmas.List.{length-map}
 use Rattle.dw_section.proofs.standing_fde.look_up.Goals as goal
 
 pub returns-in_default-clause-own : goal.returns-in_default-clause-own
@@ -15,7 +15,7 @@ returns-in_default-clause-own c = λ t fs are.
     let target = c.args.target in
     let s = c.args.bytes.now in
     let list = c.args.index.now in
-    subst (NoneCovers c.args.address) (one_fdes target s (map fde_in list) fs (are_fdes target s list t) are) (c.in_default.ensures.none refl t.indexed.is_index.ascends t.apart)
+    subst (NoneCovers c.args.address) (listed_are target s list t fs are) (c.in_default.ensures.none refl t.indexed.is_index.ascends t.apart)
 
 pub returns-in_err-found-clause-own : goal.returns-in_err-found-clause-own
 returns-in_err-found-clause-own c = λ t.
@@ -52,5 +52,5 @@ returns-clause-own c = λ t.
     let ranged = subst (IsRanged t.indexed.headers) (sym (i.2 entry)) (ranged_of target s list t i.0 entry i.1) in
     let covers = c.in-Some.ensures.covers in
     let own = c.in_ok-found.ensures.own t.indexed.headers (range_in entry) entry.return_register t.indexed.hold ranged (sym c.from.ensures) covers.0 covers.1 in
-    let listed = subst (λ (f : Fde). IsAmong f (map fde_in list)) (sym own.0) (entry_listed list entry i.0 i.1 i.2) in
-    (own.1, λ fs are. subst (IsAmong c.in_ok-found.found) (one_fdes target s (map fde_in list) fs (are_fdes target s list t) are) listed)
+    let listed = subst (λ (f : Fde). IsAmong f (map fde_in list)) (sym own.0) (fde_listed (fde_in entry) (map fde_in list) i.0 (omega (arith, i.1, length-map list fde_in)) (λ d. listed_fde list i.0 entry d i.1 (i.2 entry))) in
+    (own.1, λ fs are. subst (IsAmong c.in_ok-found.found) (listed_are target s list t fs are) listed)

@@ -2,4 +2,4 @@ use Rattle.dw_section.proofs.Lent.FdeLookup.{are_fdes}
 use Rattle.dw_section.proofs.table.Table.fdes.Goals as goal
 
 pub returns : goal.returns
-returns c = rw (← c.self.view_is, c.deref.ensures.value) (are_fdes c.self.inside.target c.self.inside.bytes.now c.self.inside.index.items c.self.invariant.0)
+returns c = are_fdes c.args.self.now.target c.args.self.now.bytes c.index.result.now c.index.ensures
