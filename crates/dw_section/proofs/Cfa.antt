@@ -17,7 +17,7 @@ use Rattle.dw_cfa.proofs.Lent.RunLaws.{program_placed}
 use Rattle.dw_cfa.proofs.Lent.FaultLaws.{initial_refused, leaves_initial, behind_refused}
 use Rattle.dw_cfa.proofs.Lent.BehindLaws.{gives_rows}
 
-err_one : {A : Type 0} (x : Result A Refusal) (r q : Refusal) → x ≡ Err r → x ≡ Err q → r ≡ q
+pub err_one : {A : Type 0} (x : Result A Refusal) (r q : Refusal) → x ≡ Err r → x ≡ Err q → r ≡ q
 err_one x r q v w = let e = sym v ∙ w in cc
 
 some_one : (x : Option Refusal) (r q : Refusal) → x ≡ Some r → x ≡ Some q → r ≡ q

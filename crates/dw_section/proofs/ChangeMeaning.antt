@@ -1,7 +1,7 @@
 -- What changes tell of the rules at an address: they are those of one change, so they are in range, and sections with the same changes
 -- say the same.
-use Rattle.std.proofs.Common.{◌≡◌, ℕ, Bool, true, false, List, [], ◌∷◌, sym, subst}
-use Rattle.std.specs.Prelude.{nat_lt, if◌then◌else◌}
+use Rattle.std.proofs.Common.{◌≡◌, ℕ, List, [], ◌∷◌, sym, subst}
+use Rattle.std.specs.Prelude.{nat_lt}
 use Rattle.std.specs.List.{AllByRecursion}
 use Rattle.dw_num.specs.declared.target.Target.{Target}
 use Rattle.dw_num.specs.Input.{AreBytes}
@@ -18,6 +18,7 @@ use Rattle.dw_section.proofs.Lent.Exists.{listed_change}
 use Rattle.dw_section.proofs.Lent.Rowed.{changed_row}
 use Rattle.dw_section.proofs.Lent.Sections.{fdes_exist, one_rules, rules_covered, programs_rules, rules_exist}
 use Rattle.dw_section.proofs.Lent.Sounds.{sound_section}
+use Rattle.std.proofs.lemmas.Bool.{cond_both}
 
 -- the row of an address among an FDE's changes has the rules there
 rules_from : (target : Target) (s : List ℕ) (f : Fde) (first : ℕ × Rules) (later : List (ℕ × Rules)) → ChangesOf target s f (first ∷ later) → (a : ℕ) → Covers a f → RulesAt target s a (row_among a first.1 later)
@@ -51,13 +52,9 @@ module _ (target : Target) (s : List ℕ) (b : AreBytes s) (ok : Accepted target
 
 -- ---- they are in range
 
-one_fits : (t : Target) (below : Bool) (x y : Rules) → RowFits t x → RowFits t y → RowFits t (if below then x else y)
-one_fits t true x y h k = h
-one_fits t false x y h k = k
-
 fits_among : (t : Target) (a end : ℕ) (row : Rules) (changes : List (ℕ × Rules)) → RowFits t row → AllByRecursion (ChangeFits t end) changes → RowFits t (row_among a row changes)
 fits_among t a end row [] h all = h
-fits_among t a end row (change ∷ changes) h all = one_fits t (nat_lt a change.0) row (row_among a change.1 changes) h (fits_among t a end change.1 changes all.0.1 all.1)
+fits_among t a end row (change ∷ changes) h all = cond_both (nat_lt a change.0) row (row_among a change.1 changes) (RowFits t) (λ e. h) (λ e. fits_among t a end change.1 changes all.0.1 all.1)
 
 pub rules_fit : RulesFit
 rules_fit target s a row b ok r =

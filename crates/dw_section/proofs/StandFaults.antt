@@ -1,9 +1,13 @@
 -- What is refused where an entry stands is its first fault.
-use Rattle.std.proofs.Common.{◌≡◌, ℕ, ◌+◌, ◌≤◌, List, [], ◌∷◌, length, drop, take, Some, Err, refl, sym, ap, subst, ◌∙◌, inl, inr}
+use Rattle.std.proofs.Common.{◌≡◌, ℕ, ◌+◌, ◌≤◌, List, [], ◌∷◌, length, drop, take, Some, Err, refl, sym, ap, subst, ◌∙◌, inl, inr, None}
 use Rattle.std.proofs.lemmas.Bool.{le-ltb}
 use Rattle.std.proofs.lemmas.List.{take-append-drop, take_at}
 use Rattle.dw_num.specs.declared.refusal.Code.TheVariants.{NoSuchCie}
 use Rattle.dw_num.specs.declared.refusal.Refusal.{Refusal}
+use Rattle.dw_num.specs.declared.error.ReadError.{ReadError}
+use Rattle.dw_num.specs.declared.error.ReadError.TheVariants as reading
+use Rattle.dw_num.specs.Refusals.{Refuses}
+use Rattle.dw_cfa.specs.Runs.{Outcome}
 use Rattle.dw_num.specs.declared.target.Order.{Order}
 use Rattle.dw_num.specs.declared.target.Target.{Target}
 use Rattle.dw_num.specs.Fixed.{Fixed}
@@ -65,3 +69,8 @@ pub refuses_more : (P Q : Refusal → Type 0) (e : LookUpError) → ((r : Refusa
 refuses_more P Q (Refused r) f h = f r h
 refuses_more P Q BadIndex f h = tt
 refuses_more P Q OutOfMemory f h = tt
+
+-- a run without a refusal fails for want of memory alone
+pub no_refusal : (e : ReadError) (o : Outcome) → Refuses (λ r. o.fault ≡ Some r) e → o.fault ≡ None → e ≡ reading.OutOfMemory
+no_refusal reading.OutOfMemory o h none = refl
+no_refusal (reading.Refused r) o h none = let bad = sym h ∙ none in absurd cc

@@ -82,18 +82,16 @@ module _ (initial instrs : List Instr) (begin end : ℕ) where
       (later.0, later.1, subst (HasRow a) is here.2)
 
   -- and the first of them up to the next
-  hold_first : (row : LocatedRow) (rows : List LocatedRow) → NeverFalls row.location rows → Hold (row ∷ rows) → (a : ℕ) → row.location ≤ a → Before end a rows → HasRow a row.row
-  hold_first row [] falls h a le before =
+  shown_there : (row : LocatedRow) (rows : List LocatedRow) (a : ℕ) → row.location ≤ a → last_at a rows ≡ None → Hold (row ∷ rows) → HasRow a row.row
+  shown_there row rows a le none h =
       let here = h a le in
-      let same : Some row.row ≡ Some here.0 = sym (rw (le-leb row.location a le) refl) ∙ here.1 in
-      let is : here.0 ≡ row.row = cc in
-      subst (HasRow a) is here.2
-  hold_first row (next ∷ rows) falls h a le before =
-      let here = h a le in
-      let none = none_there a next.location (next ∷ rows) (omega arith, falls.1) before.0 in
       let same : Some row.row ≡ Some here.0 = sym (rw (none, le-leb row.location a le) refl) ∙ here.1 in
       let is : here.0 ≡ row.row = cc in
       subst (HasRow a) is here.2
+
+  hold_first : (row : LocatedRow) (rows : List LocatedRow) → NeverFalls row.location rows → Hold (row ∷ rows) → (a : ℕ) → row.location ≤ a → Before end a rows → HasRow a row.row
+  hold_first row [] falls h a le before = shown_there row [] a le refl h
+  hold_first row (next ∷ rows) falls h a le before = shown_there row (next ∷ rows) a le (none_there a next.location (next ∷ rows) (omega arith, falls.1) before.0) h
 
   -- what comes before a row comes before those that follow it
   before_more : (a : ℕ) (row : LocatedRow) (rows : List LocatedRow) → NeverFalls row.location rows → a < row.location → a < end → Before end a rows

@@ -16,7 +16,7 @@ use Rattle.dw_section.specs.Meanings.{SameMeaning}
 use Rattle.dw_section.specs.Among.{IsAmong}
 use Rattle.dw_section.proofs.Lent.Rowed.{agree_row}
 use Rattle.dw_section.proofs.Lent.Sames.{AllAgree, changes_there}
-use Rattle.dw_section.proofs.Lent.Sections.{here, row_exists, one_rules, programs_rules, programs_changes, listed_programs, given_by}
+use Rattle.dw_section.proofs.Lent.Sections.{here, row_exists, one_rules, programs_rules, listed_programs, given_by}
 use Rattle.dw_cfa.specs.Location.{row_starts}
 
 among_few : (end : ℕ) (shown : Option Rules) (rows : List LocatedRow) (changes : List (ℕ × Rules)) → Among end shown rows changes → length changes ≤ length rows
@@ -41,7 +41,7 @@ module _ (target : Target) (s : List ℕ) (b : AreBytes s) (ok : Accepted target
       let p = listed_programs target s b ok fs f are listed in
       let programs = p.1 in
       let c = changes_exist f.begin f.end programs.0 programs.1 p.0 programs.2 in
-      (c.0, programs_changes target s b ok f c.0 programs.0 programs.1 programs.2 c.1)
+      (c.0, record { initial = programs.0; instrs = programs.1; says = programs.2; change = c.1 })
 
 -- ---- sections of one meaning
 

@@ -11,8 +11,8 @@ use Rattle.dw_section.specs.Inner.Heads.{HeadsRise}
 use Rattle.dw_section.specs.Ranges.{IsRanged, range_in, fde_in, IsTable}
 use Rattle.dw_section.specs.Meaning.{Returns, Lists, AreFdes, Covers, NoneCovers}
 use Rattle.dw_section.specs.Among.{IsAmong}
-use Rattle.dw_section.specs.Overlap.{Range, Precedes, Ascends, AreApart, IsIndex, end_of}
-use Rattle.dw_section.proofs.Lent.Judged.{all_get}
+use Rattle.dw_section.specs.Overlap.{Range, Precedes, Ascends, AreApart, IsIndex}
+use Rattle.dw_section.proofs.Lent.Judged.{all_get, all_get_map}
 use Rattle.dw_section.proofs.Lent.HeaderLaws.{one_headers}
 use Rattle.dw_section.proofs.Lent.Heads.{heads_rise, one_among, cie_or, fde_or}
 use Rattle.dw_section.proofs.Lent.Index.{one_index}
@@ -62,9 +62,7 @@ abbrev pub none : Ranged
 none = record { begin = 0; range = 0; at = 0; return_register = 0 }
 
 later_begin : (a : Range) (list : List Ranged) (k : ℕ) (d : Ranged) → AllByRecursion (Precedes a) (map range_in list) → k < length list → a.begin ≤ (get_or list k d).begin
-later_begin a [] k d h lt = absurd (omega arith)
-later_begin a (e ∷ list) zero d h lt = elim h.0 [ inl x ↦ omega arith | inr x ↦ omega (arith, x.0) ]
-later_begin a (e ∷ list) (suc k) d h lt = later_begin a list k d h.1 (omega arith)
+later_begin a list k d h lt = elim (all_get_map (Precedes a) range_in list k d h lt) [ inl x ↦ omega arith | inr x ↦ omega (arith, x.0) ]
 
 pub begins_ascend : (list : List Ranged) → Ascends (map range_in list) → IsNonDecreasingBy (λ (e : Ranged). e.begin) list
 begins_ascend (e ∷ list) up zero zero d le lt = omega arith
@@ -76,11 +74,6 @@ pub none_above : (a : ℕ) (list : List Ranged) → ((k : ℕ) (d : Ranged) → 
 none_above a [] h = tt
 none_above a (e ∷ list) h = (λ c. let p = h 0 e (omega arith) in absurd (omega (arith, c.0)), none_above a list (λ k d lt. h (suc k) d (omega arith)))
 
-ends_before : (end : ℕ) (list : List Ranged) (k : ℕ) (d : Ranged) → AllByRecursion (λ (b : Range). end ≤ b.begin) (map range_in list) → k < length list → end ≤ (get_or list k d).begin
-ends_before end [] k d h lt = absurd (omega arith)
-ends_before end (e ∷ list) zero d h lt = h.0
-ends_before end (e ∷ list) (suc k) d h lt = ends_before end list k d h.1 (omega arith)
-
 -- an address that lies behind the last FDE that begins at or below it lies in none
 pub none_covers : (a : ℕ) (list : List Ranged) (i : ℕ) (x : Ranged) → AreApart (map range_in list) → i < length list → x ≡ get_or list i x → x.begin ≤ a → x.begin + x.range ≤ a
     → ((k : ℕ) (d : Ranged) → suc i ≤ k → k < length list → a < (get_or list k d).begin) → NoneCovers a (map fde_in list)
@@ -88,7 +81,7 @@ none_covers a [] i x apart lt is begin end above = absurd (omega arith)
 none_covers a (e ∷ list) zero x apart lt is begin end above =
     (λ c. let p : e.begin + e.range ≤ a = subst (λ (y : Ranged). y.begin + y.range ≤ a) is end in absurd (omega (arith, c.1)), none_above a list (λ k d l. above (suc k) d (omega arith) (omega arith)))
 none_covers a (e ∷ list) (suc i) x apart lt is begin end above = (
-  λ c. let p = ends_before (end_of (range_in e)) list i x apart.0 (omega arith) in let q : (get_or list i x).begin ≤ a = subst (λ (y : Ranged). y.begin ≤ a) is begin in absurd (omega (arith, c.1)),
+  λ c. let p = all_get_map (λ (b : Range). e.begin + e.range ≤ b.begin) range_in list i x apart.0 (omega arith) in let q : (get_or list i x).begin ≤ a = subst (λ (y : Ranged). y.begin ≤ a) is begin in absurd (omega (arith, c.1)),
   none_covers a list i x apart.1 (omega arith) is begin end (λ k d le l. above (suc k) d (omega arith) (omega arith)),
 )
 

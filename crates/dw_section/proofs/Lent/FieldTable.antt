@@ -2,7 +2,7 @@
 use Rattle.std.proofs.Common.{◌≡◌, ℕ, zero, ◌+◌, ◌<◌, ◌≤◌, ◌==◌, ◌^◌, Bool, true, false, List, length, Option, Some, None, Ok, Err, refl, sym, ap, subst, ◌∙◌, arith, inl, inr, Result}
 use Rattle.std.specs.Prelude.{◌||◌, ℤ, FitsSigned, position, nat_le, cond, nat_lt}
 use Rattle.std.specs.Int.{w64}
-use Rattle.std.proofs.lemmas.Bool.{cases_lt, lt-ltb, le-ltb, leb-true, ltb-true}
+use Rattle.std.proofs.lemmas.Bool.{cases_lt, lt-ltb, le-ltb, leb-true, ltb-true, cond_both}
 use Rattle.std.proofs.lemmas.Bool.Decides.{eqb_tells}
 use Rattle.dw_num.specs.declared.refusal.Code.{Code}
 use Rattle.dw_num.specs.declared.refusal.Code.TheVariants.{BadVersion, AddressSize, SegmentSelector, NoSuchCie, RangeTooLarge, RegisterTooLarge}
@@ -187,9 +187,8 @@ size_is : (size : Size) → IsWidth (byte_count size)
 size_is Short = inr (inr (inl refl))
 size_is Long = inr (inr (inr refl))
 
-either_numbers : {X : Type 0} (b : Bool) (x y : Fields X) → AreNumbers x → AreNumbers y → AreNumbers (cond b x y)
-either_numbers true x y h k = h
-either_numbers false x y h k = k
+abbrev Numbers : Fields CieFields → Type 0
+Numbers fs = AreNumbers fs
 
 pub cie_numbers : (size : Size) (form : Form) → AreNumbers (cie_fields size form)
 cie_numbers size form = (
@@ -197,8 +196,8 @@ cie_numbers size form = (
   λ id. (
     inl refl,
     λ v.
-        let tail : AreNumbers (factors v) = (tt, λ code. (tt, λ factor. either_numbers (v == 1) _ _ (inl refl, λ r. tt) (tt, λ r. tt))) in
-        either_numbers (v == 4) _ (factors v) (inl refl, λ n. (inl refl, λ k. tail)) tail,
+        let tail : AreNumbers (factors v) = (tt, λ code. (tt, λ factor. cond_both (v == 1) _ _ Numbers (λ e. (inl refl, λ r. tt)) (λ e. (tt, λ r. tt)))) in
+        cond_both (v == 4) _ (factors v) Numbers (λ e. (inl refl, λ n. (inl refl, λ k. tail))) (λ e. tail),
   ),
 )
 

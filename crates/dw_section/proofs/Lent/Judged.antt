@@ -23,7 +23,6 @@ use Rattle.dw_cfa.specs.Kept.{FdeKept}
 use Rattle.dw_cfa.specs.Laws.{initial_cfa}
 use Rattle.dw_cfa.specs.Location.{Counts}
 use Rattle.dw_cfa.specs.Coverage.{Lacks}
-use Rattle.dw_cfa.specs.declared.instr.Factors.{Factors}
 use Rattle.dw_cfa.specs.Rows.{Rules}
 use Rattle.dw_section.specs.declared.program.Initial.{Initial}
 use Rattle.dw_section.specs.Fields.{is_among}
@@ -91,6 +90,9 @@ behind_stays target hs place m n same is = (
   ap (λ (x : Following). x.target) same ∙ is.5,
 )
 
+pub all_get_map : {X Y : Type 0} (P : Y → Type 0) (view : X → Y) (xs : List X) (i : ℕ) (d : X) → AllByRecursion P (map view xs) → i < length xs → P (view (get_or xs i d))
+all_get_map P view xs i d h lt = subst P (get_or-map view xs i d (view d) lt) (all_get P (map view xs) i (view d) h (omega (arith, lt, length-map xs view)))
+
 pub all_set : {X : Type 0} (P : X → Type 0) (xs : List X) (i : ℕ) (y : X) → AllByRecursion P xs → P y → AllByRecursion P (set xs i y)
 all_set P [] i y h is = tt
 all_set P (x ∷ xs) zero y h is = (is, h.1)
@@ -133,24 +135,15 @@ module _ (target : Target) (hs : List Head) (c : Initial) (is : IsInitial target
 
 -- what a run on a machine behind a CIE's row tells
 module _ (target : Target) (hs : List Head) (m : Following) (f : FdeHead) (is : IsBehind target hs (Some f.cie_at) m) where
-  abbrev Ran : Factors → Rules → Target → Bool → Type 0
-  Ran g row t lacks = (instrs : List Instr) × (rows : List LocatedRow) × RulesBehind g row (input_of t f.program) f.begin instrs rows × MatchBool lacks (Lacks (f.begin + f.range) rows) (Lacks (f.begin + f.range) rows → ⊥)
-
-  pub behind_found : (lacks : Bool) → Ran m.factors m.initial m.target lacks
+  pub behind_found : (lacks : Bool) → (instrs : List Instr) × (rows : List LocatedRow) × RulesBehind m.factors m.initial (input_of m.target f.program) f.begin instrs rows × MatchBool lacks (Lacks (f.begin + f.range) rows) (Lacks (f.begin + f.range) rows → ⊥)
       → FdeRuns target hs (fde f) × HasOrLacks target hs (fde f) lacks
   behind_found lacks ran =
       let c = is.0 in
-      let y : Ran c.factors is.2.3 target lacks =
-      subst (λ (t : Target). Ran c.factors is.2.3 t lacks) is.5 (subst (λ (g : Factors). Ran g is.2.3 m.target lacks) is.4 (subst (λ (row : Rules). Ran m.factors row m.target lacks) is.3 ran)) in
+      let y = rw (is.3, is.4, is.5) at ran in
       (fde_runs target hs c is.2 f is.1 y.0 y.1 y.2, has_or_lacks target hs c is.2 f is.1 y.0 y.1 y.2 lacks y.3)
 
   pub behind_broken : (r : Refusal) → FdeFault m.factors m.initial.cfa (input_of m.target f.program) f.begin r → FdeBroken target hs (fde f) r
-  behind_broken r fault =
-      let c = is.0 in
-      fde_broken target hs c is.2 f is.1 r
-      (subst (λ (t : Target). FdeFault c.factors is.2.3.cfa (input_of t f.program) f.begin r) is.5
-      (subst (λ (g : Factors). FdeFault g is.2.3.cfa (input_of m.target f.program) f.begin r) is.4
-      (subst (λ (row : Rules). FdeFault m.factors row.cfa (input_of m.target f.program) f.begin r) is.3 fault)))
+  behind_broken r fault = fde_broken target hs is.0 is.2 f is.1 r (rw (is.3, is.4, is.5) at fault)
 
 -- ---- the first that lacks one
 

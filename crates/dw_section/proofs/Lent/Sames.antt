@@ -14,7 +14,7 @@ use Rattle.dw_section.specs.Meanings.{SameMeaning}
 use Rattle.dw_section.specs.Among.{IsAmong}
 use Rattle.dw_section.proofs.Lent.Agrees.{agree_sym, holds_agree, changes_agree}
 use Rattle.dw_section.proofs.Lent.Rowed.{one_changes}
-use Rattle.dw_section.proofs.Lent.Sections.{one_programs, programs_rules, changes_programs, programs_changes, listed_programs, rules_covered, row_exists, one_rules}
+use Rattle.dw_section.proofs.Lent.Sections.{one_programs, programs_rules, changes_programs, listed_programs, rules_covered, row_exists, one_rules}
 
 -- the changes of an FDE that is not empty are one
 pub one_change_list : (target : Target) (s : List ℕ) (b : AreBytes s) (ok : Accepted target s) (f : Fde) (xs ys : List (ℕ × Rules)) → f.begin < f.end → ChangesOf target s f xs → ChangesOf target s f ys → xs ≡ ys
@@ -52,7 +52,8 @@ module _ (target : Target) (s t : List ℕ) (bs : AreBytes s) (bt : AreBytes t) 
       let p = changes_programs target s bs oks f changes h in
       let all = listed_programs target t bt okt fs f in_t listed in
       let there = all.1 in
-      programs_changes target t bt okt f changes there.0 there.1 there.2 (changes_agree f.begin f.end p.0 p.1 there.0 there.1 (agree f listed p.0 p.1 there.0 there.1 p.2 there.2) changes all.0 p.3)
+      let same = changes_agree f.begin f.end p.0 p.1 there.0 there.1 (agree f listed p.0 p.1 there.0 there.1 p.2 there.2) changes all.0 p.3 in
+      record { initial = there.0; instrs = there.1; says = there.2; change = same }
 
   fdes_there : (gs : List Fde) → AreFdes target s gs → AreFdes target t gs
   fdes_there gs h = subst (AreFdes target t) (one_fdes target s fs gs in_s h) in_t

@@ -221,9 +221,6 @@ module _ (target : Target) (s : List ℕ) (b : AreBytes s) (ok : Accepted target
   pub changes_programs : (f : Fde) (changes : List (ℕ × Rules)) → ChangesOf target s f changes → (i : List Instr) × (j : List Instr) × Says target s f.begin f.end i j × AreChanges i j f.begin f.end changes
   changes_programs f changes h = (h.initial, h.instrs, h.says, h.change)
 
-  pub programs_changes : (f : Fde) (changes : List (ℕ × Rules)) (i j : List Instr) → Says target s f.begin f.end i j → AreChanges i j f.begin f.end changes → ChangesOf target s f changes
-  programs_changes f changes i j h change = record { initial = i; instrs = j; says = h; change = change }
-
   -- ---- the list of FDEs
 
   head_programs : (a : Range) → HeadOf hs a → (i : List Instr) × (j : List Instr) × Says target s a.begin (end_of a) i j

@@ -1,11 +1,11 @@
 use Rattle.std.proofs.Common.{List, ◌∙◌, sym, ap, subst, length, inr}
-use Rattle.std.proofs.lemmas.Result.{err_from_is_err_and}
 use Rattle.dw_num.proofs.Lent.Refusals.{refuses_by}
 use Rattle.dw_section.specs.Cut.{Piece}
 use Rattle.dw_section.specs.Inner.Places.{Rises}
 use Rattle.dw_section.specs.Places.{cie_places}
 use Rattle.dw_section.proofs.Items.{one_pieces}
 use Rattle.dw_section.proofs.Lent.HeaderLaws.{pieces_rise}
+use Rattle.dw_section.proofs.Stages.{handed_on}
 use Rattle.dw_section.proofs.header.cies_of.Goals as goal
 
 pub find_cies-requires-clause-count : goal.find_cies-requires-clause-count
@@ -16,8 +16,7 @@ find_cies-requires-clause-count c = λ ps p.
 pub returns-in_err-places-clause-first : goal.returns-in_err-places-clause-first
 returns-in_err-places-clause-first c =
     let n = c.in_ok-counts.ensures.found in
-    let e = err_from_is_err_and c.from_residual-in_err-places.result c.from_residual-in_err-places.ensures.1 in
-    rw (e.1, e.2) (refuses_by c.in_err-places.field-0.0 _ _ (λ r h. inr (n.0, n.1, h)) (c.in_err-places.ensures.first n.0 n.1))
+    handed_on c.from_residual-in_err-places.result _ c.from_residual-in_err-places.ensures.1 (refuses_by c.in_err-places.field-0.0 _ _ (λ r h. inr (n.0, n.1, h)) (c.in_err-places.ensures.first n.0 n.1))
 
 pub returns-clause-found : goal.returns-clause-found
 returns-clause-found c =

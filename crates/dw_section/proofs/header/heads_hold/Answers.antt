@@ -1,8 +1,8 @@
 use Rattle.std.proofs.Common.{List, ℕ, ◌∙◌, subst, inr}
-use Rattle.std.proofs.lemmas.Result.{err_from_is_err_and}
 use Rattle.dw_section.specs.Headers.{FdeHolds, FdeStuck}
 use Rattle.dw_section.specs.Stage.{FirstStuck}
 use Rattle.dw_section.proofs.Left.{headers_so}
+use Rattle.dw_section.proofs.Stages.{handed_on}
 use Rattle.dw_section.proofs.header.heads_hold.Goals as goal
 
 pub fdes_hold-requires-clause-cies : goal.fdes_hold-requires-clause-cies
@@ -12,8 +12,7 @@ pub returns-in_err-fdes_hold-clause-first : goal.returns-in_err-fdes_hold-clause
 returns-in_err-fdes_hold-clause-first c =
     let target = c.args.target in
     let n = c.in_ok-cies.ensures.found in
-    let e = err_from_is_err_and c.from_residual-in_err-fdes_hold.result c.from_residual-in_err-fdes_hold.ensures.1 in
-    rw (e.1, e.2) (inr (n.0, n.1, subst (λ (l : List ℕ). FirstStuck (FdeHolds target l) (FdeStuck target l) n.0 c.in_err-fdes_hold.field-0.0) (c.deref.ensures.value ∙ n.3) (c.in_err-fdes_hold.ensures.first n.0 n.1.0 n.1.1)))
+    handed_on c.from_residual-in_err-fdes_hold.result _ c.from_residual-in_err-fdes_hold.ensures.1 (inr (n.0, n.1, subst (λ (l : List ℕ). FirstStuck (FdeHolds target l) (FdeStuck target l) n.0 c.in_err-fdes_hold.field-0.0) (c.deref.ensures.value ∙ n.3) (c.in_err-fdes_hold.ensures.first n.0 n.1.0 n.1.1)))
 
 pub returns-clause-found : goal.returns-clause-found
 returns-clause-found c =

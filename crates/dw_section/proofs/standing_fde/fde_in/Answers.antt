@@ -4,9 +4,9 @@ use Rattle.dw_section.specs.Headers.{head_in}
 use Rattle.dw_section.specs.Inner.Pieces.{piece_in}
 use Rattle.dw_section.specs.Inner.StandingFde.{AreJoined, FoundStands}
 use Rattle.dw_section.proofs.StandLaws.{own_of, named_of, fde_never, cie_never, stands_joined, fde_is, cie_is, if_some}
-use Rattle.std.proofs.lemmas.Result.{err_from_is_err_and}
 use Rattle.dw_section.proofs.StandFaults.{no_cie, own_stuck, named_stuck, stands_wide}
 use Rattle.dw_section.proofs.StandPlaces.{cie_within, fde_within, stand_ends}
+use Rattle.dw_section.proofs.Stages.{handed_on}
 use Rattle.dw_section.proofs.standing_fde.fde_in.Goals as goal
 
 pub pointer_of-pointer-requires : goal.pointer_of-pointer-requires
@@ -56,8 +56,7 @@ returns-clause-found c =
 
 pub returns-in_err-named-clause-fault : goal.returns-in_err-named-clause-fault
 returns-in_err-named-clause-fault c =
-    let e = err_from_is_err_and c.from_residual.result c.from_residual.ensures.1 in
-    rw (e.1, e.2) (c.pointer_of-pointer.result, c.pointer_of-pointer.ensures.names, inl c.in_err-named.ensures.fault)
+    handed_on c.from_residual.result _ c.from_residual.ensures.1 (c.pointer_of-pointer.result, c.pointer_of-pointer.ensures.names, inl c.in_err-named.ensures.fault)
 
 pub returns-in_default-clause-fault : goal.returns-in_default-clause-fault
 returns-in_default-clause-fault c =
@@ -67,20 +66,18 @@ returns-in_default-clause-fault c =
 
 pub returns-in_err-header-clause-fault : goal.returns-in_err-header-clause-fault
 returns-in_err-header-clause-fault c =
-    let e = err_from_is_err_and c.from_residual-in_err-header.result c.from_residual-in_err-header.ensures.1 in
     let p = c.pointer_of-pointer in
     let named = piece_in c.in-Some.named in
     let stands = rw c.in-Some.is at c.in_ok-named.ensures.stands in
-    rw (e.1, e.2) (p.result, p.ensures.names, inr (Some named, stands, own_stuck c.args.target c.args.bytes.now (piece_in c.args.own.now) named p.result _ c.requires.kind stands c.in_err-header.ensures.exact))
+    handed_on c.from_residual-in_err-header.result _ c.from_residual-in_err-header.ensures.1 (p.result, p.ensures.names, inr (Some named, stands, own_stuck c.args.target c.args.bytes.now (piece_in c.args.own.now) named p.result _ c.requires.kind stands c.in_err-header.ensures.exact))
 
 pub returns-in_err-cie-clause-fault : goal.returns-in_err-cie-clause-fault
 returns-in_err-cie-clause-fault c =
-    let e = err_from_is_err_and c.from_residual-in_err-cie.result c.from_residual-in_err-cie.ensures.1 in
     let p = c.pointer_of-pointer in
     let named = piece_in c.in-Some.named in
     let stands = rw c.in-Some.is at c.in_ok-named.ensures.stands in
     let stuck = named_stuck c.args.target c.args.bytes.now (piece_in c.args.own.now) named p.result (head_in c.in_ok-header.header) _ stands c.in_ok-header.ensures.found c.in_err-cie.ensures.exact in
-    rw (e.1, e.2) (p.result, p.ensures.names, inr (Some named, stands, stuck))
+    handed_on c.from_residual-in_err-cie.result _ c.from_residual-in_err-cie.ensures.1 (p.result, p.ensures.names, inr (Some named, stands, stuck))
 
 -- ---- its place lies in the bytes
 
@@ -89,10 +86,8 @@ returns-in_default-clause-within c = omega (arith, (stand_ends c.args.target.ord
 
 pub returns-in_err-header-clause-within : goal.returns-in_err-header-clause-within
 returns-in_err-header-clause-within c =
-    let e = err_from_is_err_and c.from_residual-in_err-header.result c.from_residual-in_err-header.ensures.1 in
-    rw (e.1, e.2) (fde_within c.args.target (c.pointer_of-pointer.result ∷ []) c.args.bytes.now (piece_in c.args.own.now) _ c.requires.stands c.in_err-header.ensures.exact)
+    handed_on c.from_residual-in_err-header.result _ c.from_residual-in_err-header.ensures.1 (fde_within c.args.target (c.pointer_of-pointer.result ∷ []) c.args.bytes.now (piece_in c.args.own.now) _ c.requires.stands c.in_err-header.ensures.exact)
 
 pub returns-in_err-cie-clause-within : goal.returns-in_err-cie-clause-within
 returns-in_err-cie-clause-within c =
-    let e = err_from_is_err_and c.from_residual-in_err-cie.result c.from_residual-in_err-cie.ensures.1 in
-    rw (e.1, e.2) (cie_within c.args.target c.args.bytes.now (piece_in c.in-Some.named) _ (rw c.in-Some.is at c.in_ok-named.ensures.found).2 c.in_err-cie.ensures.exact)
+    handed_on c.from_residual-in_err-cie.result _ c.from_residual-in_err-cie.ensures.1 (cie_within c.args.target c.args.bytes.now (piece_in c.in-Some.named) _ (rw c.in-Some.is at c.in_ok-named.ensures.found).2 c.in_err-cie.ensures.exact)

@@ -8,6 +8,7 @@ use Rattle.dw_section.proofs.Lent.FdeLookup.{listed_are, ranged_of, fde_listed, 
 use Rattle.dw_section.specs.StandingFde.{LookUpFault, StandingFault}
 use Rattle.dw_section.proofs.StandFaults.{refuses_more}
 use Rattle.std.proofs.lemmas.List.{length-map}
+use Rattle.dw_section.proofs.Stages.{handed_on}
 use Rattle.dw_section.proofs.standing_fde.look_up.Goals as goal
 
 pub returns-in_default-clause-own : goal.returns-in_default-clause-own
@@ -29,16 +30,14 @@ returns-in_err-found-clause-own c = λ t.
 
 pub returns-in_err-found-clause-bad : goal.returns-in_err-found-clause-bad
 returns-in_err-found-clause-bad c =
-    let e = err_from_is_err_and c.from_residual.result c.from_residual.ensures.1 in
-    rw (e.1, e.2) (λ is. (c.from.result, (c.in-Some.entry, c.in-Some.ensures.among, c.in-Some.ensures.covers, c.from.ensures), c.in_err-found.ensures.bad is))
+    handed_on c.from_residual.result _ c.from_residual.ensures.1 (λ is. (c.from.result, (c.in-Some.entry, c.in-Some.ensures.among, c.in-Some.ensures.covers, c.from.ensures), c.in_err-found.ensures.bad is))
 
 pub returns-in_err-found-clause-refused : goal.returns-in_err-found-clause-refused
 returns-in_err-found-clause-refused c =
-    let e = err_from_is_err_and c.from_residual.result c.from_residual.ensures.1 in
     let target = c.args.target in
     let s = c.args.bytes.now in
     let few : length s ≤ 2147483647 = omega (arith, c.if-bytes-gt-MOST.false) in
-    rw (e.1, e.2)
+    handed_on c.from_residual.result _ c.from_residual.ensures.1
     (refuses_more (StandingFault target s c.from.result c.args.address) (LookUpFault target s c.args.index.now c.args.address) c.in_err-found.field-0.0
     (λ r fault. inr (few, (c.from.result, (c.in-Some.entry, c.in-Some.ensures.among, c.in-Some.ensures.covers, c.from.ensures), fault))) c.in_err-found.ensures.refused)
 
