@@ -1,5 +1,5 @@
 -- The first fault of a section lies in it or at its end.
-use Rattle.std.proofs.Common.{◌≡◌, ℕ, ◌+◌, ◌≤◌, List, [], ◌∷◌, length, Result, Err, sym, ap, subst, arith, inl, inr}
+use Rattle.std.proofs.Common.{◌≡◌, ℕ, ◌+◌, ◌≤◌, List, length, Result, Err, sym, ap, subst, arith, inl, inr, Some, ◌++◌}
 use Rattle.std.specs.Prelude.{◌==◌, ◌&&◌, nat_lt, IfErr}
 use Rattle.std.specs.List.{AllByRecursion}
 use Rattle.std.proofs.lemmas.Bool.{cases_lt, lt-ltb, le-ltb}
@@ -8,7 +8,6 @@ use Rattle.dw_num.specs.declared.refusal.Refusal.{Refusal}
 use Rattle.dw_num.specs.declared.target.Order.{Order}
 use Rattle.dw_num.specs.declared.target.Target.{Target}
 use Rattle.dw_num.specs.declared.target.UnitLength.{UnitLength}
-use Rattle.dw_num.specs.Fixed.{length_bytes}
 use Rattle.dw_num.specs.Input.{Input, AreBytes}
 use Rattle.dw_num.specs.Front.{Read, unit_length_at}
 use Rattle.dw_num.specs.Span.{input_of}
@@ -16,7 +15,7 @@ use Rattle.dw_num.proofs.Lent.Stays.{Inside, Stays, stays-then, either_stays, un
 use Rattle.dw_cfa.proofs.Lent.FaultPlaces.{cie_within, fde_within}
 use Rattle.dw_num.specs.declared.error.ReadError.{ReadError}
 use Rattle.dw_section.specs.Accepted.{CheckFault, CieProgramsFault, FdeProgramsFault, RulesFault}
-use Rattle.dw_section.specs.Cut.{Item, gap, entry, Piece, pieces, item_bytes, all_bytes, id_width}
+use Rattle.dw_section.specs.Cut.{Item, gap, entry, Piece, item_bytes, all_bytes, id_width, piece_of}
 use Rattle.dw_op.specs.Faults.{IsWithin}
 use Rattle.dw_num.specs.Refusals.{Refuses}
 use Rattle.dw_section.specs.Faults.{is_32, body_at, item_at, CutFault}
@@ -38,6 +37,10 @@ use Rattle.dw_section.proofs.Lent.CheckFirst.{all_both}
 use Rattle.dw_section.proofs.Lent.Sections.{range_head}
 use Rattle.std.proofs.lemmas.Result.{IfErr-weaker}
 use Rattle.dw_num.proofs.Lent.Refusals.{refuses_by}
+use Rattle.dw_section.specs.StandingFde.{StandsIn}
+use Rattle.dw_op.proofs.Lent.ReadingLaws.{some_is}
+use Rattle.dw_section.proofs.Lent.Index.{all_from}
+use Rattle.dw_section.proofs.StandLaws.{stands_in}
 
 -- ---- items
 
@@ -67,20 +70,18 @@ cut_within target s r (inr h) =
 abbrev pub EndsBy : ℕ → Piece → Type 0
 EndsBy end p = (p.at ≤ end) × (p.contents.at + length p.contents.bytes ≤ end)
 
-pieces_end : (order : Order) (at end : ℕ) (items : List Item) → at + length (all_bytes order items) ≤ end → AllByRecursion (EndsBy end) (pieces order at items)
-pieces_end order at end [] h = tt
-pieces_end order at end (gap ∷ items) h = pieces_end order (at + 4) end items (omega (arith, h, length-append (item_bytes order gap) (all_bytes order items)))
-pieces_end order at end (entry form body ∷ items) h =
-    let whole = length-append (item_bytes order (entry form body)) (all_bytes order items) in
-    let parts = length-append (length_bytes order form (length body)) body in (
-      (omega (arith, h), omega (arith, h, whole, parts)),
-      pieces_end order (at + length (item_bytes order (entry form body))) end items (omega (arith, h, whole)),
-    )
+-- an entry ends in the bytes
+pub stand_ends : (order : Order) (s : List ℕ) (p : Piece) → StandsIn order s p → EndsBy (length s) p
+stand_ends order s p w = of w.item (ap length w.whole) w.piece
+  where
+    of : (item : Item) → length s ≡ length (w.front ++ (item_bytes order item ++ w.rest)) → piece_of order (length w.front) item ≡ Some p → EndsBy (length s) p
+    of gap whole e = absurd cc
+    of (entry form body) whole e =
+        let len = simp length-append at whole in
+        subst (EndsBy (length s)) (some_is _ p e) (omega (arith, len), omega (arith, len))
 
 pieces_within : (target : Target) (s : List ℕ) (ps : List Piece) → Pieces target s ps → AllByRecursion (EndsBy (length s)) ps
-pieces_within target s ps h =
-    let len : length s ≡ length (all_bytes target.order h.items) = ap length h.cut.whole in
-    subst (AllByRecursion (EndsBy (length s))) (sym h.are) (pieces_end target.order 0 (length s) h.items (omega (arith, len)))
+pieces_within target s ps h = all_from (EndsBy (length s)) ps (λ p i. stand_ends target.order s p (stands_in target s ps p h i))
 
 stuck_within : {X : Type 0} (P : X → Type 0) (Holds : X → Type 0) (Stuck : X → Refusal → Type 0) (xs : List X) (s : List ℕ) (r : Refusal) → AllByRecursion P xs → ((x : X) → P x → Stuck x r → IsWithin s r) → FirstStuck Holds Stuck xs r → IsWithin s r
 stuck_within P Holds Stuck xs s r all one h = one h.it (holds_at P h.before h.it h.after (subst (AllByRecursion P) h.whole all)) h.stuck

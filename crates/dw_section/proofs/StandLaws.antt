@@ -1,6 +1,6 @@
 -- Entries that stand at their places in bytes.
 use Rattle.std.proofs.Common.{◌≡◌, ℕ, ◌+◌, ◌-◌, ◌≤◌, true, false, Bool, ◌||◌, eqb, List, [], ◌∷◌, ◌++◌, length, take, drop, Option, Some, None, Ok, Err, refl, sym, ap, subst, ◌∙◌, append_assoc, arith, inl, inr}
-use Rattle.std.specs.List.{AllByRecursion, AllZip}
+use Rattle.std.specs.List.{AllByRecursion}
 use Rattle.std.specs.Prelude.{IfSome}
 use Rattle.std.proofs.lemmas.Bool.Decides.{eqb_tells}
 use Rattle.std.proofs.lemmas.List.{length-append, drop_at, length-drop, length-take-le, take-append-drop, take_all}
@@ -34,38 +34,29 @@ use Rattle.dw_section.proofs.Lent.HeaderLaws.{has_one, cie_at_again, fde_at_agai
 use Rattle.dw_section.proofs.Lent.Heads.{cie_or, fde_or, has_at}
 use Rattle.dw_section.proofs.Items.{front_item, item_again}
 use Rattle.dw_op.proofs.Lent.ReadingLaws.{some_is}
+use Rattle.dw_section.proofs.Lent.Index.{zip_right}
+use Rattle.dw_section.specs.Pieces.{Pieces}
 
 -- ---- the entries of a section stand at their places
 
-record Stands (target : Target) (places s : List ℕ) (h : Head) : Type 0 where
-  pub piece : Piece
-  pub stands : StandsIn target.order s piece
-  pub has : Has target places piece h
+piece_stands : (order : Order) (front : List ℕ) (items : List Item) (p : Piece) → AllByRecursion IsItem items → IsAmong p (pieces order (length front) items) → StandsIn order (front ++ all_bytes order items) p
+piece_stands order front [] p each i = absurd i
+piece_stands order front (gap ∷ items) p each i =
+    let b = item_bytes order gap in
+    subst (λ (s : List ℕ). StandsIn order s p) (append_assoc front b (all_bytes order items))
+    (piece_stands order (front ++ b) items p each.1 (subst (λ (n : ℕ). IsAmong p (pieces order n items)) (sym (length-append front b)) i))
+piece_stands order front (entry form body ∷ items) p each (inl is) = record { item = entry form body; front = front; rest = all_bytes order items; is = each.0; whole = refl; piece = ap Some (sym is) }
+piece_stands order front (entry form body ∷ items) p each (inr i) =
+    let b = item_bytes order (entry form body) in
+    subst (λ (s : List ℕ). StandsIn order s p) (append_assoc front b (all_bytes order items))
+    (piece_stands order (front ++ b) items p each.1 (subst (λ (n : ℕ). IsAmong p (pieces order n items)) (sym (length-append front b)) i))
 
-stands_among : (target : Target) (places front : List ℕ) (items : List Item) (hs : List Head) (h : Head) → AllByRecursion IsItem items → AllZip (Has target places) (pieces target.order (length front) items) hs
-    → IsAmong h hs → Stands target places (front ++ all_bytes target.order items) h
-stands_among target places front [] [] h each z i = absurd i
-stands_among target places front [] (x ∷ hs) h each z i = absurd z
-stands_among target places front (gap ∷ items) hs h each z i =
-    let b = item_bytes target.order gap in
-    subst (λ (s : List ℕ). Stands target places s h) (append_assoc front b (all_bytes target.order items))
-    (stands_among target places (front ++ b) items hs h each.1 (subst (λ (n : ℕ). AllZip (Has target places) (pieces target.order n items) hs) (sym (length-append front b)) z) i)
-stands_among target places front (entry form body ∷ items) [] h each z i = absurd i
-stands_among target places front (entry form body ∷ items) (x ∷ hs) h each z (inl is) = record {
-  piece = record { at = length front; form = form; kind = is_cie form body; contents = record { at = length front + length (length_bytes target.order form (length body)); bytes = body } };
-  stands = record { item = entry form body; front = front; rest = all_bytes target.order items; is = each.0; whole = refl; piece = refl };
-  has = subst (λ (y : Head). Has target places (record { at = length front; form = form; kind = is_cie form body; contents = record { at = length front + length (length_bytes target.order form (length body)); bytes = body } }) y) (sym is) z.0;
-}
-stands_among target places front (entry form body ∷ items) (x ∷ hs) h each z (inr i) =
-    let b = item_bytes target.order (entry form body) in
-    subst (λ (s : List ℕ). Stands target places s h) (append_assoc front b (all_bytes target.order items))
-    (stands_among target places (front ++ b) items hs h each.1 (subst (λ (n : ℕ). AllZip (Has target places) (pieces target.order n items) hs) (sym (length-append front b)) z.1) i)
+pub stands_in : (target : Target) (s : List ℕ) (ps : List Piece) (p : Piece) → Pieces target s ps → IsAmong p ps → StandsIn target.order s p
+stands_in target s ps p cut i =
+    subst (λ (b : List ℕ). StandsIn target.order b p) (sym cut.cut.whole) (piece_stands target.order [] cut.items p cut.cut.each (subst (IsAmong p) cut.are i))
 
 pub stands_of : (target : Target) (s : List ℕ) (hs : List Head) (h : Head) (p : Headers target s hs) → IsAmong h hs → (piece : Piece) × StandsIn target.order s piece × Has target (cie_places p.entries) piece h
-stands_of target s hs h p i =
-    let places = cie_places p.entries in
-    let w = stands_among target places [] p.cut.items hs h p.cut.cut.each (subst (λ (ps : List Piece). AllZip (Has target places) ps hs) p.cut.are p.each) i in
-    (w.piece, subst (λ (b : List ℕ). StandsIn target.order b w.piece) (sym p.cut.cut.whole) w.stands, w.has)
+stands_of target s hs h p i = let z = zip_right (Has target (cie_places p.entries)) p.entries hs h p.each i in (z.0, stands_in target s p.entries z.0 p.cut z.1, z.2)
 
 -- ---- what stands at a place is one
 

@@ -1,8 +1,7 @@
 -- What stands in bytes lies in them, and so does what is wrong there.
-use Rattle.std.proofs.Common.{◌≡◌, ℕ, ◌≤◌, List, ◌++◌, length, drop, Some, Result, Err, ap, subst, arith}
+use Rattle.std.proofs.Common.{◌≡◌, ℕ, ◌≤◌, List, length, drop, Some, Result, Err, subst, arith}
 use Rattle.std.specs.Prelude.{IfErr}
-use Rattle.std.proofs.lemmas.List.{length-append, length-drop}
-use Rattle.dw_num.specs.declared.target.Order.{Order}
+use Rattle.std.proofs.lemmas.List.{length-drop}
 use Rattle.dw_num.specs.declared.target.Target.{Target}
 use Rattle.dw_num.specs.declared.refusal.Refusal.{Refusal}
 use Rattle.dw_num.specs.declared.error.ReadError.{ReadError}
@@ -16,7 +15,7 @@ use Rattle.dw_num.proofs.Lent.Stays.{Stays}
 use Rattle.dw_cfa.proofs.Lent.FaultPlaces.{run_within}
 use Rattle.dw_cfa.proofs.Lent.Given.{refused_where_fault, run_runs}
 use Rattle.dw_section.specs.declared.listed_fde.FoundFde.{FoundFde}
-use Rattle.dw_section.specs.Cut.{Item, gap, entry, Piece, item_bytes, piece_of}
+use Rattle.dw_section.specs.Cut.{Item, entry, Piece}
 use Rattle.dw_op.specs.Faults.{IsWithin}
 use Rattle.dw_section.specs.Faults.{item_at}
 use Rattle.dw_section.specs.Fields.{cie_fields, fde_fields}
@@ -24,19 +23,8 @@ use Rattle.dw_section.specs.StandingFde.{StandsIn}
 use Rattle.dw_section.specs.Inner.Lookup.{rows_of}
 use Rattle.dw_section.specs.Inner.PieceHeader.{cie_at, fde_at}
 use Rattle.dw_section.specs.Inner.StandingFde.{LiesInPrograms}
-use Rattle.dw_section.proofs.FaultPlaces.{EndsBy, fields_within, item_stays}
+use Rattle.dw_section.proofs.FaultPlaces.{fields_within, item_stays, stand_ends}
 use Rattle.dw_section.proofs.Lent.HeaderLaws.{cie_faulty, fde_faulty}
-use Rattle.dw_op.proofs.Lent.ReadingLaws.{some_is}
-
--- an entry ends in the bytes
-pub stand_ends : (order : Order) (s : List ℕ) (p : Piece) → StandsIn order s p → EndsBy (length s) p
-stand_ends order s p w = of w.item (ap length w.whole) w.piece
-  where
-    of : (item : Item) → length s ≡ length (w.front ++ (item_bytes order item ++ w.rest)) → piece_of order (length w.front) item ≡ Some p → EndsBy (length s) p
-    of gap whole e = absurd cc
-    of (entry form body) whole e =
-        let len = simp length-append at whole in
-        subst (EndsBy (length s)) (some_is _ p e) (omega (arith, len), omega (arith, len))
 
 -- what keeps an item from standing at a place
 pub item_within : (target : Target) (s : List ℕ) (at : ℕ) (i : Input) (r : Refusal) → i ≡ record { at = at; bytes = drop at s; target = target } → at ≤ length s → item_at i ≡ Err r → IsWithin s r

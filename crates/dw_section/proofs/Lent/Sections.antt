@@ -22,7 +22,7 @@ use Rattle.dw_section.specs.Among.{IsAmong}
 use Rattle.dw_section.proofs.Lent.CheckFirst.{one_instrs}
 use Rattle.dw_section.proofs.Lent.HeaderLaws.{one_headers}
 use Rattle.dw_section.proofs.Lent.Heads.{all_in, heads_rise, heads_bytes, heads_fit, one_among, fde_or}
-use Rattle.dw_section.proofs.Lent.Index.{all_from, one_index, with_range_so}
+use Rattle.dw_section.proofs.Lent.Index.{all_from, one_index, with_range_so, zip_left, zip_right}
 use Rattle.dw_section.proofs.Lent.Rowed.{one_row}
 use Rattle.dw_section.proofs.FdeRows.{given}
 use Rattle.dw_section.proofs.Lent.ChangeLaws.{Given, row_there, holds_at}
@@ -90,18 +90,6 @@ cie_among (cie c ∷ hs) at e = elim (eqb_tells c.at at) [
 cie_among (fde f ∷ hs) at e = more_cie (fde f) hs at (cie_among hs at e)
 
 -- ---- lists side by side
-
-pub zip_left : (R : Range → Fde → Type 0) (rs : List Range) (fs : List Fde) (a : Range) → AllZip R rs fs → IsAmong a rs → (f : Fde) × IsAmong f fs × R a f
-zip_left R [] fs a z i = absurd i
-zip_left R (r ∷ rs) [] a z i = absurd z
-zip_left R (r ∷ rs) (f ∷ fs) a z (inl is) = (f, inl refl, subst (λ (x : Range). R x f) (sym is) z.0)
-zip_left R (r ∷ rs) (f ∷ fs) a z (inr i) = let rest = zip_left R rs fs a z.1 i in (rest.0, inr rest.1, rest.2)
-
-pub zip_right : (R : Range → Fde → Type 0) (rs : List Range) (fs : List Fde) (f : Fde) → AllZip R rs fs → IsAmong f fs → (a : Range) × IsAmong a rs × R a f
-zip_right R rs [] f z i = absurd i
-zip_right R [] (g ∷ fs) f z i = absurd z
-zip_right R (r ∷ rs) (g ∷ fs) f z (inl is) = (r, inl refl, subst (R r) (sym is) z.0)
-zip_right R (r ∷ rs) (g ∷ fs) f z (inr i) = let rest = zip_right R rs fs f z.1 i in (rest.0, inr rest.1, rest.2)
 
 pub make_zip : (R : Range → Fde → Type 0) (rs : List Range) → AllByRecursion (λ a. (f : Fde) × R a f) rs → (fs : List Fde) × AllZip R rs fs
 make_zip R [] h = ([], tt)
@@ -213,7 +201,7 @@ module _ (target : Target) (s : List ℕ) (b : AreBytes s) (ok : Accepted target
   pub one_rules : (a : ℕ) (x y : Rules) → RulesAt target s a x → RulesAt target s a y → x ≡ y
   one_rules a x y v w =
       let same = one_programs a v.begin v.end w.begin w.end v.initial v.instrs w.initial w.instrs v.from v.below w.from w.below v.says w.says in
-      let there = subst (λ (n : ℕ). HoldsAt w.initial w.instrs n a x) same.begins (subst (λ (l : List Instr). HoldsAt w.initial l v.begin a x) same.instrs (subst (λ (l : List Instr). HoldsAt l v.instrs v.begin a x) same.initials (rules_hold target s a x v))) in
+      let there = rw (same.initials, same.instrs, same.begins) at (rules_hold target s a x v) in
       one_row w.initial w.instrs w.begin a x y w.from there (rules_hold target s a y w)
 
   -- ---- changes
@@ -222,11 +210,6 @@ module _ (target : Target) (s : List ℕ) (b : AreBytes s) (ok : Accepted target
   changes_programs f changes h = (h.initial, h.instrs, h.says, h.change)
 
   -- ---- the list of FDEs
-
-  head_programs : (a : Range) → HeadOf hs a → (i : List Instr) × (j : List Instr) × Says target s a.begin (end_of a) i j
-  head_programs a o =
-      let runs = all_in (FdeRuns target hs) hs (fde o.head) ok.1.1.0.1 o.among in
-      (runs.0, runs.1, record { headers = hs; are = headers_of; head = o.head; among = o.among; begin_is = ap (λ (r : Range). r.begin) (sym o.covers); end_is = ap end_of (sym o.covers); spelled = runs.2 })
 
   index_head : (a : Range) → IsAmong a index → HeadOf hs a
   index_head a i = range_head hs a (all_in (λ (x : Range). IsAmong x (nonempty hs)) index a ok.1.2.from i)
@@ -261,11 +244,12 @@ module _ (target : Target) (s : List ℕ) (b : AreBytes s) (ok : Accepted target
   pub listed_programs : (fs : List Fde) (f : Fde) → AreFdes target s fs → IsAmong f fs → (f.begin < f.end) × ((i : List Instr) × (j : List Instr) × Says target s f.begin f.end i j)
   listed_programs fs f h l =
       let z = zip_right (Lists hs) index fs f (fdes_zip fs h) l in
-      let a = z.0 in
-      let o = index_head a z.1 in
-      let p = head_programs a o in
       let lists = z.2 in
-      (omega (arith, lists.begin, lists.end, o.some), (p.0, p.1, subst (λ (n : ℕ). Says target s n f.end p.0 p.1) (sym lists.begin) (subst (λ (n : ℕ). Says target s a.begin n p.0 p.1) (sym lists.end) p.2)))
+      let o = index_head z.0 z.1 in
+      let runs = all_in (FdeRuns target hs) hs (fde o.head) ok.1.1.0.1 o.among in
+      let begin = lists.begin ∙ ap (λ (r : Range). r.begin) (sym o.covers) in
+      let end = lists.end ∙ ap end_of (sym o.covers) in
+      (omega (arith, lists.begin, lists.end, o.some), (runs.0, runs.1, record { headers = hs; are = headers_of; head = o.head; among = o.among; begin_is = begin; end_is = end; spelled = runs.2 }))
 
   -- and an FDE that is not empty is in the list
   pub programs_listed : (fs : List Fde) (begin end : ℕ) (i j : List Instr) → AreFdes target s fs → begin < end → Says target s begin end i j → (f : Fde) × IsAmong f fs × (f.begin ≡ begin) × (f.end ≡ end)

@@ -5,7 +5,8 @@ use Rattle.dw_section.specs.Inner.Pieces.{piece_in}
 use Rattle.dw_section.specs.Inner.StandingFde.{AreJoined, FoundStands}
 use Rattle.dw_section.proofs.StandLaws.{own_of, named_of, fde_never, cie_never, stands_joined, fde_is, cie_is, if_some}
 use Rattle.dw_section.proofs.StandFaults.{no_cie, own_stuck, named_stuck, stands_wide}
-use Rattle.dw_section.proofs.StandPlaces.{cie_within, fde_within, stand_ends}
+use Rattle.dw_section.proofs.FaultPlaces.{stand_ends}
+use Rattle.dw_section.proofs.StandPlaces.{cie_within, fde_within}
 use Rattle.dw_section.proofs.Stages.{handed_on}
 use Rattle.dw_section.proofs.standing_fde.fde_in.Goals as goal
 
