@@ -87,14 +87,12 @@ module _ {Rule : Type 0} (change : Instr → Rule → Rule) (initial : Rule) (P 
   back_keeps (suc inner) (i ∷ earlier) h = back_keeps (suc inner) earlier h.1
 
 register_keeps : (t : Target) (q : ℕ) (old : CfaRule) → q < 65536 → CfaFits t old → CfaFits t (with_register q old)
-register_keeps t q cfa.Unset lt h = tt
 register_keeps t q (cfa.Register r n) lt h = (lt, h.1)
-register_keeps t q (cfa.Expression e) lt h = h
+register_keeps t q other lt h = h
 
 offset_keeps : (t : Target) (m : ℤ) (old : CfaRule) → IsOffset m → CfaFits t old → CfaFits t (with_offset m old)
-offset_keeps t m cfa.Unset is h = tt
 offset_keeps t m (cfa.Register r n) is h = (h.0, is)
-offset_keeps t m (cfa.Expression e) is h = h
+offset_keeps t m other is h = h
 
 cfa_keeps : (t : Target) (i : Instr) → Gives t i → (old : CfaRule) → CfaFits t old → CfaFits t (cfa_change i old)
 cfa_keeps t (DefCfa r n) g old h = g
