@@ -2,10 +2,7 @@
 use Rattle.std.proofs.Common.{◌≡◌, List, [], ◌∷◌, ◌++◌, refl, sym, ap, subst, ◌∙◌, append_assoc}
 use Rattle.std.specs.List.{AllByRecursion}
 use Rattle.std.proofs.lemmas.List.{append-nil}
-use Rattle.dw_num.specs.declared.refusal.Refusal.{Refusal}
-use Rattle.dw_section.specs.Stage.{FirstStuck}
-use Rattle.dw_section.specs.Headers.{Head}
-use Rattle.dw_section.specs.Among.{IsAmong}
+use Rattle.dw_section.proofs.Words.{Refusal, FirstStuck, Head, IsAmong}
 use Rattle.dw_section.proofs.Lent.Heads.{is_among_head}
 use Rattle.dw_section.proofs.Stages.{holds_at}
 

@@ -3,17 +3,9 @@
 use Rattle.std.proofs.Common.{◌≡◌, ℕ, List, [], ◌∷◌, sym, subst}
 use Rattle.std.specs.Prelude.{nat_lt}
 use Rattle.std.specs.List.{AllByRecursion}
-use Rattle.dw_num.specs.declared.target.Target.{Target}
-use Rattle.dw_num.specs.Input.{AreBytes}
-use Rattle.dw_cfa.specs.Rows.{Rules}
+use Rattle.dw_section.proofs.Words.{Target, AreBytes, Rules, Accepted, IsAmong, RowFits, row_among, ChangeFits, AreFdes, ChangesOf, Covers, RulesAt}
 use Rattle.dw_section.specs.declared.lookup.Fde.{Fde}
-use Rattle.dw_section.specs.Accepted.{Accepted}
-use Rattle.dw_section.specs.Among.{IsAmong}
-use Rattle.dw_section.specs.Fits.{RowFits}
-use Rattle.dw_section.specs.Inner.Meanings.{row_among}
-use Rattle.dw_section.specs.Inner.Sound.{ChangeFits}
 use Rattle.dw_section.specs.Laws.{ChangesMean, RulesFit}
-use Rattle.dw_section.specs.Meaning.{AreFdes, ChangesOf, Covers, RulesAt}
 use Rattle.dw_section.proofs.Lent.Exists.{listed_change}
 use Rattle.dw_section.proofs.Lent.Rowed.{changed_row}
 use Rattle.dw_section.proofs.Lent.Sections.{fdes_exist, one_rules, rules_covered, programs_rules, rules_exist}

@@ -3,21 +3,10 @@ use Rattle.std.proofs.Common.{◌≡◌, ℕ, suc, ◌+◌, ◌≤◌, cond, Lis
 use Rattle.std.specs.Prelude.{count_by}
 use Rattle.std.proofs.lemmas.List.{length-append}
 use Rattle.std.proofs.lemmas.List.Sums.{sum_by-cons}
-use Rattle.dw_num.specs.declared.target.Order.{Order}
-use Rattle.dw_num.specs.declared.target.Target.{Target}
-use Rattle.dw_cfa.specs.declared.instr.Factors.{Factors}
-use Rattle.dw_cfa.specs.declared.instr.Instr.{Instr}
-use Rattle.dw_cfa.specs.InstrSpells.{Program}
-use Rattle.dw_cfa.specs.Listing.{Listing, answers, complete}
-use Rattle.dw_cfa.specs.Location.{moves_location, row_starts}
+use Rattle.dw_section.proofs.Words.{Order, Target, Factors, Instr, Program, answers, moves_location, row_starts, moves_in, Item, gap, entry, Piece, pieces, item_bytes, all_bytes, Head, cie, fde, Has}
+use Rattle.dw_section.proofs.Words.{Headers, total, nonempty, Range, range_of, Pieces, cie_places}
+use Rattle.dw_cfa.specs.Listing.{Listing, complete}
 use Rattle.dw_cfa.proofs.Lent.Listings.{some_spelled}
-use Rattle.dw_section.specs.Inner.Counted.{moves_in}
-use Rattle.dw_section.specs.Cut.{Item, gap, entry, Piece, pieces, item_bytes, all_bytes}
-use Rattle.dw_section.specs.Headers.{Head, cie, fde, Has, Headers}
-use Rattle.dw_section.specs.Meaning.{total}
-use Rattle.dw_section.specs.Overlap.{nonempty, Range, range_of}
-use Rattle.dw_section.specs.Pieces.{Pieces}
-use Rattle.dw_section.specs.Places.{cie_places}
 use Rattle.dw_section.proofs.Items.{item_some}
 use Rattle.dw_section.proofs.Lent.Index.{with_range_so}
 use Rattle.std.proofs.lemmas.Slice.Zip.{AllZip-long}

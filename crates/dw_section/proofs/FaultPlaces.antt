@@ -4,40 +4,24 @@ use Rattle.std.specs.Prelude.{◌==◌, ◌&&◌, nat_lt, IfErr}
 use Rattle.std.specs.List.{AllByRecursion}
 use Rattle.std.proofs.lemmas.Bool.{cases_lt, lt-ltb, le-ltb}
 use Rattle.std.proofs.lemmas.List.{length-append, length-drop}
-use Rattle.dw_num.specs.declared.refusal.Refusal.{Refusal}
-use Rattle.dw_num.specs.declared.target.Order.{Order}
-use Rattle.dw_num.specs.declared.target.Target.{Target}
+use Rattle.dw_section.proofs.Words.{Refusal, Order, Target, Input, AreBytes, Read, input_of, ReadError, CheckFault, CieProgramsFault, FdeProgramsFault, RulesFault, Item, gap, entry, Piece, item_bytes}
+use Rattle.dw_section.proofs.Words.{all_bytes, id_width, piece_of, IsWithin, Refuses, CutFault, Head, cie, fde, Has, Headers, CieStuck, FdeStuck, CieFieldsFault, HeadersFault, contents_of, HasBytes}
+use Rattle.dw_section.proofs.Words.{head_at, Range, nonempty, IsAmong, Pieces, cie_places, CieBroken, FdeBroken, LacksRule, factors_of, FirstStuck, Fields, cie_fields, fde_fields, FieldsFault}
+use Rattle.dw_section.proofs.Words.{StandsIn}
 use Rattle.dw_num.specs.declared.target.UnitLength.{UnitLength}
-use Rattle.dw_num.specs.Input.{Input, AreBytes}
-use Rattle.dw_num.specs.Front.{Read, unit_length_at}
-use Rattle.dw_num.specs.Span.{input_of}
+use Rattle.dw_num.specs.Front.{unit_length_at}
 use Rattle.dw_num.proofs.Lent.Stays.{Inside, Stays, stays-then, either_stays, unit_length_stays}
 use Rattle.dw_cfa.proofs.Lent.FaultPlaces.{cie_within, fde_within}
-use Rattle.dw_num.specs.declared.error.ReadError.{ReadError}
-use Rattle.dw_section.specs.Accepted.{CheckFault, CieProgramsFault, FdeProgramsFault, RulesFault}
-use Rattle.dw_section.specs.Cut.{Item, gap, entry, Piece, item_bytes, all_bytes, id_width, piece_of}
-use Rattle.dw_op.specs.Faults.{IsWithin}
-use Rattle.dw_num.specs.Refusals.{Refuses}
-use Rattle.dw_section.specs.Faults.{is_32, body_at, item_at, CutFault}
-use Rattle.dw_section.specs.Headers.{Head, cie, fde, Has, Headers, CieStuck, FdeStuck, CieFieldsFault, HeadersFault}
-use Rattle.dw_section.specs.Inner.PieceHeader.{contents_of}
-use Rattle.dw_section.specs.Inner.Heads.{HasBytes, head_at, head_program}
-use Rattle.dw_section.specs.Overlap.{Range, nonempty}
-use Rattle.dw_section.specs.Among.{IsAmong}
-use Rattle.dw_section.specs.Pieces.{Pieces}
-use Rattle.dw_section.specs.Places.{cie_places}
-use Rattle.dw_section.specs.Programs.{CieBroken, FdeBroken, LacksRule, factors_of}
-use Rattle.dw_section.specs.Stage.{FirstStuck}
+use Rattle.dw_section.specs.Faults.{is_32, body_at, item_at}
+use Rattle.dw_section.specs.Inner.Heads.{head_program}
 use Rattle.dw_section.proofs.Lent.HeaderLaws.{fields_end}
 use Rattle.dw_section.proofs.Lent.Heads.{heads_bytes, all_in}
-use Rattle.dw_section.specs.Fields.{Fields, cie_fields, fde_fields, FieldsFault}
 use Rattle.dw_section.proofs.FieldLaws.{fault_read, fields_stay}
 use Rattle.dw_section.proofs.Stages.{holds_at, all_to_zip}
 use Rattle.dw_section.proofs.Lent.CheckFirst.{all_both}
 use Rattle.dw_section.proofs.Lent.Sections.{range_head}
 use Rattle.std.proofs.lemmas.Result.{IfErr-weaker}
 use Rattle.dw_num.proofs.Lent.Refusals.{refuses_by}
-use Rattle.dw_section.specs.StandingFde.{StandsIn}
 use Rattle.dw_op.proofs.Lent.ReadingLaws.{some_is}
 use Rattle.dw_section.proofs.Lent.Index.{all_from}
 use Rattle.dw_section.proofs.StandLaws.{stands_in}

@@ -1,24 +1,11 @@
 -- The programs of an FDE of a section whose rules hold give rows.
 use Rattle.std.proofs.Common.{◌≡◌, ℕ, List, Ok, refl, sym, ap, subst, ◌∙◌, arith}
-use Rattle.dw_num.specs.declared.target.Target.{Target}
-use Rattle.dw_num.specs.Input.{Input, AreBytes}
-use Rattle.dw_num.specs.Span.{input_of}
-use Rattle.dw_num.specs.Target.{address_limit}
-use Rattle.dw_cfa.specs.declared.instr.Factors.{Factors}
-use Rattle.dw_cfa.specs.declared.instr.Instr.{Instr}
-use Rattle.dw_cfa.specs.declared.rule.CfaRule.{CfaRule}
-use Rattle.dw_cfa.specs.InstrSpells.{Program}
-use Rattle.dw_cfa.specs.Kept.{CieKept, FdeKept}
-use Rattle.dw_cfa.specs.Laws.{initial_cfa}
-use Rattle.dw_cfa.specs.Rows.{Rules, blank}
+use Rattle.dw_section.proofs.Words.{Target, Input, AreBytes, input_of, address_limit, Factors, Instr, CfaRule, Program, CieKept, FdeKept, initial_cfa, Rules, RulesHold, IsAmong, Head, CieHead}
+use Rattle.dw_section.proofs.Words.{FdeHead, fde, HasBytes, FdeFits, cie_ats, CieRuns, FdeRuns, Begins, factors_of}
+use Rattle.dw_cfa.specs.Rows.{blank}
 use Rattle.dw_cfa.specs.Inner.Runs.{placed, initial_row, rows_behind, run_rows}
 use Rattle.dw_cfa.proofs.Lent.BehindLaws.{gives_rows}
 use Rattle.dw_cfa.proofs.Lent.FaultLaws.{leaves_initial}
-use Rattle.dw_section.specs.Accepted.{RulesHold}
-use Rattle.dw_section.specs.Among.{IsAmong}
-use Rattle.dw_section.specs.Headers.{Head, CieHead, FdeHead, fde}
-use Rattle.dw_section.specs.Inner.Heads.{HasBytes, FdeFits, cie_ats}
-use Rattle.dw_section.specs.Programs.{CieRuns, FdeRuns, Begins, factors_of}
 use Rattle.dw_section.proofs.Cfa.{one_program}
 use Rattle.dw_section.proofs.Lent.ChangeLaws.{Given}
 use Rattle.dw_section.proofs.Lent.CheckFirst.{one_instrs}

@@ -5,21 +5,16 @@ use Rattle.std.proofs.lemmas.List.{length-append, append-nil, map-append, take_a
 use Rattle.std.proofs.lemmas.Bool.{le-ltb}
 use Rattle.std.proofs.lemmas.Bool.Decides.{eqb_tells}
 use Rattle.dw_num.proofs.Lent.FixedLaws.{length-fixed, unit_length_only}
-use Rattle.dw_num.specs.Fixed.{fixed_bytes, length_bytes}
+use Rattle.dw_section.proofs.Words.{length_bytes, Form, Target, Refusal, Pieces, Kind, CutFault, Order, Dwarf32, Dwarf64, Input, Takes, Item, gap, entry, IsItem, item_bytes, is_cie, id_width}
+use Rattle.dw_section.proofs.Words.{all_bytes, Piece, piece_of, pieces}
+use Rattle.dw_num.specs.Fixed.{fixed_bytes}
 use Rattle.dw_num.proofs.Lent.LebLaws.{ok_is}
-use Rattle.dw_num.specs.declared.target.Form.{Form}
-use Rattle.dw_num.specs.declared.target.Target.{Target}
-use Rattle.dw_num.specs.declared.refusal.Refusal.{Refusal}
-use Rattle.dw_section.specs.Pieces.{Pieces, Entries, entry_of}
+use Rattle.dw_section.specs.Pieces.{Entries, entry_of}
 use Rattle.dw_section.specs.declared.entry.Entry.{Entry}
-use Rattle.dw_section.specs.declared.entry.Kind.{Kind}
-use Rattle.dw_section.specs.Faults.{item_at, IsStuck, CutFault}
+use Rattle.dw_section.specs.Faults.{item_at, IsStuck}
 use Rattle.dw_num.specs.declared.target.Size.TheVariants.{Four}
-use Rattle.dw_num.specs.declared.target.Order.{Order}
 use Rattle.dw_num.specs.declared.target.Order.TheVariants.{Little, Big}
-use Rattle.dw_num.specs.declared.target.Form.TheVariants.{Dwarf32, Dwarf64}
-use Rattle.dw_num.specs.Input.{Input, Takes}
-use Rattle.dw_section.specs.Cut.{Item, gap, entry, IsItem, item_bytes, is_cie, id_width, all_bytes, Piece, piece_of, pieces, Cut}
+use Rattle.dw_section.specs.Cut.{Cut}
 use Rattle.dw_section.proofs.Stages.{all_push}
 
 gap_bytes : (order : Order) → length_bytes order Dwarf32 0 ≡ 0 ∷ 0 ∷ 0 ∷ 0 ∷ []

@@ -2,10 +2,7 @@
 use Rattle.std.proofs.Common.{◌≡◌, ℕ, suc, ◌<◌, ◌≤◌, List, [], ◌∷◌, ◌++◌, refl, subst, arith}
 use Rattle.std.specs.List.{AllByRecursion}
 use Rattle.std.proofs.lemmas.Bool.{lt-ltb, le-ltb}
-use Rattle.dw_cfa.specs.declared.instr.Instr.{Instr}
-use Rattle.dw_cfa.specs.Rows.{Rules}
-use Rattle.dw_section.specs.Changes.{HoldsAt, ChangesBehind, AreChanges}
-use Rattle.dw_section.specs.Inner.Meanings.{row_among}
+use Rattle.dw_section.proofs.Words.{Instr, Rules, HoldsAt, ChangesBehind, AreChanges, row_among}
 use Rattle.dw_section.specs.Laws.{LastChangeRules}
 use Rattle.dw_section.proofs.Lent.Rowed.{changed_row}
 use Rattle.dw_section.proofs.Lent.Sections.{programs_rules}

@@ -2,19 +2,9 @@
 use Rattle.std.proofs.Common.{◌≡◌, ℕ, ◌+◌, ◌<◌, ◌≤◌, List, [], ◌∷◌, length, Err, refl, sym, ap, subst, ◌∙◌, arith}
 use Rattle.std.specs.List.{AllZip, cons_option}
 use Rattle.std.proofs.lemmas.List.{length-append}
-use Rattle.dw_num.specs.declared.target.Form.{Form}
-use Rattle.dw_num.specs.declared.target.Order.{Order}
-use Rattle.dw_num.specs.declared.target.Target.{Target}
-use Rattle.dw_num.specs.declared.refusal.Refusal.{Refusal}
-use Rattle.dw_num.specs.Fixed.{length_bytes}
-use Rattle.dw_num.specs.Input.{Input, Takes}
-use Rattle.dw_section.specs.declared.entry.Kind.{Kind}
-use Rattle.dw_section.specs.Cut.{Item, gap, entry, IsItem, item_bytes, is_cie, Piece, piece_of, pieces}
-use Rattle.dw_section.specs.Faults.{item_at}
-use Rattle.dw_section.specs.Pieces.{Pieces}
-use Rattle.dw_section.specs.Places.{cie_places}
-use Rattle.dw_section.specs.Headers.{Head, Has}
-use Rattle.dw_section.specs.Inner.Left.{PiecesLeft, HeadsLeft, Stays, AreHeaders}
+use Rattle.dw_section.proofs.Words.{Form, Order, Target, Refusal, length_bytes, Input, Takes, Kind, Item, gap, entry, IsItem, item_bytes, is_cie, Piece, piece_of, pieces, item_at, Pieces, cie_places}
+use Rattle.dw_section.proofs.Words.{Head, Has, PiecesLeft, HeadsLeft, AreHeaders}
+use Rattle.dw_section.specs.Inner.Left.{Stays}
 use Rattle.dw_section.proofs.Items.{item_some, stuck_before, left_by, none_by}
 use Rattle.dw_section.proofs.Lent.HeaderLaws.{has_one}
 

@@ -7,12 +7,8 @@ use Rattle.std.specs.Ordering.{nat_cmp, is_lt}
 use Rattle.std.proofs.lemmas.Bool.{cases_lt, le-ltb, ne_eqb}
 use Rattle.std.proofs.lemmas.Bool.Decides.{eqb_tells}
 use Rattle.std.proofs.lemmas.List.Sorted.{IsPermutation-map, IsPermutation-sym, Contains-permutation, ties_still_rise}
-use Rattle.dw_num.specs.declared.refusal.Code.TheVariants.{Overlap}
-use Rattle.dw_section.specs.declared.fde_range.Ranged.{Ranged}
-use Rattle.dw_section.specs.Inner.Index.{PlacesRise, SameMembers, EndsAt}
-use Rattle.dw_section.specs.Ranges.{range_in}
-use Rattle.dw_section.specs.Overlap.{Range, Precedes, Ascends, AreApart, FirstOverlap, end_of}
-use Rattle.dw_section.specs.Among.{IsAmong}
+use Rattle.dw_section.proofs.Words.{Overlap, Ranged, PlacesRise, EndsAt, range_in, Range, Precedes, Ascends, AreApart, FirstOverlap, end_of, IsAmong}
+use Rattle.dw_section.specs.Inner.Index.{SameMembers}
 use Rattle.dw_section.proofs.Lent.Index.{all_from}
 use Rattle.dw_section.proofs.Lent.Judged.{all_get}
 use Rattle.dw_section.proofs.Stages.{all_push, parts, all_weaker}

@@ -2,27 +2,17 @@
 use Rattle.std.proofs.Common.{◌≡◌, ℕ, ◌+◌, ◌≤◌, List, [], ◌∷◌, length, drop, take, Some, Err, refl, sym, ap, subst, ◌∙◌, inl, inr, None}
 use Rattle.std.proofs.lemmas.Bool.{le-ltb}
 use Rattle.std.proofs.lemmas.List.{take-append-drop, take_at}
-use Rattle.dw_num.specs.declared.refusal.Code.TheVariants.{NoSuchCie}
-use Rattle.dw_num.specs.declared.refusal.Refusal.{Refusal}
-use Rattle.dw_num.specs.declared.error.ReadError.{ReadError}
+use Rattle.dw_section.proofs.Words.{NoSuchCie, Refusal, ReadError, Refuses, Outcome, Order, Target, Input, Takes, input_of, Item, IsItem, gap, entry, Piece, id_width, piece_of, Head, Has, FdeStuck}
+use Rattle.dw_section.proofs.Words.{cie_at, fde_at, StandsIn}
 use Rattle.dw_num.specs.declared.error.ReadError.TheVariants as reading
-use Rattle.dw_num.specs.Refusals.{Refuses}
-use Rattle.dw_cfa.specs.Runs.{Outcome}
-use Rattle.dw_num.specs.declared.target.Order.{Order}
-use Rattle.dw_num.specs.declared.target.Target.{Target}
 use Rattle.dw_num.specs.Fixed.{Fixed}
 use Rattle.dw_num.specs.Front.{fixed_at}
-use Rattle.dw_num.specs.Input.{Input, Takes}
-use Rattle.dw_num.specs.Span.{input_of}
 use Rattle.dw_num.proofs.Lent.FixedLaws.{fixed_only, length-fixed}
 use Rattle.dw_op.proofs.Lent.ReadingLaws.{some_is}
 use Rattle.dw_section.specs.declared.entry.Kind.TheVariants as kind
 use Rattle.dw_section.specs.declared.standing_fde.LookUpError.{LookUpError}
 use Rattle.dw_section.specs.declared.standing_fde.LookUpError.TheVariants.{Refused, BadIndex, OutOfMemory}
-use Rattle.dw_section.specs.Cut.{Item, IsItem, gap, entry, Piece, id_width, piece_of}
-use Rattle.dw_section.specs.Headers.{Head, Has, FdeStuck}
-use Rattle.dw_section.specs.Inner.PieceHeader.{cie_at, fde_at}
-use Rattle.dw_section.specs.StandingFde.{BothStuck, Names, RefusesAs, StandsAs, StandsIn}
+use Rattle.dw_section.specs.StandingFde.{BothStuck, Names, RefusesAs, StandsAs}
 use Rattle.dw_section.proofs.Lent.HeaderLaws.{cie_faulty, fde_faulty, has_fde}
 
 -- ---- the first field

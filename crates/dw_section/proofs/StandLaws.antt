@@ -4,38 +4,18 @@ use Rattle.std.specs.List.{AllByRecursion}
 use Rattle.std.specs.Prelude.{IfSome}
 use Rattle.std.proofs.lemmas.Bool.Decides.{eqb_tells}
 use Rattle.std.proofs.lemmas.List.{length-append, drop_at, length-drop, length-take-le, take-append-drop, take_all}
-use Rattle.dw_num.specs.declared.target.Form.{Form}
-use Rattle.dw_num.specs.declared.target.Order.{Order}
-use Rattle.dw_num.specs.declared.target.Target.{Target}
-use Rattle.dw_num.specs.declared.refusal.Refusal.{Refusal}
-use Rattle.dw_num.specs.Input.{Input, Takes}
-use Rattle.dw_num.specs.Span.{Span}
-use Rattle.dw_num.specs.Fixed.{length_bytes}
-use Rattle.dw_section.specs.declared.entry.Kind.{Kind}
+use Rattle.dw_section.proofs.Words.{Form, Order, Target, Refusal, Input, Takes, Span, length_bytes, Kind, Item, gap, entry, IsItem, Piece, item_bytes, piece_of, pieces, is_cie, all_bytes, CieFields}
+use Rattle.dw_section.proofs.Words.{FdeFields, FoundFde, item_at, address_limit, is_among, CieHead, FdeHead, Head, Has, Headers, IsCie, IsFde, cie, fde, cie_head, cie_at, fde_at, IsFound, found_cie}
+use Rattle.dw_section.proofs.Words.{found_head, Returns, Range, cie_places, IsAmong, StandsIn, AreJoined, FoundStands, StandsAt, Pieces}
 use Rattle.dw_section.specs.declared.entry.Kind.TheVariants as kind
-use Rattle.dw_section.specs.Cut.{Item, gap, entry, IsItem, Piece, item_bytes, piece_of, pieces, is_cie, all_bytes}
-use Rattle.dw_section.specs.declared.fields.CieFields.{CieFields}
-use Rattle.dw_section.specs.declared.fields.FdeFields.{FdeFields}
-use Rattle.dw_section.specs.declared.listed_fde.FoundFde.{FoundFde}
-use Rattle.dw_section.specs.Faults.{item_at}
-use Rattle.dw_num.specs.Target.{address_limit}
-use Rattle.dw_section.specs.Fields.{is_among}
-use Rattle.dw_section.specs.Headers.{CieHead, FdeHead, Head, Has, Headers, IsCie, IsFde, cie, fde, cie_head}
-use Rattle.dw_section.specs.Inner.PieceHeader.{cie_at, fde_at}
-use Rattle.dw_section.specs.Inner.Index.{IsFound, found_cie, found_head}
-use Rattle.dw_section.specs.Meaning.{Returns}
-use Rattle.dw_section.specs.Overlap.{Range}
-use Rattle.dw_section.specs.Places.{cie_places}
-use Rattle.dw_section.specs.Among.{IsAmong}
-use Rattle.dw_section.specs.StandingFde.{FdeStands, StandsIn}
-use Rattle.dw_section.specs.Inner.StandingFde.{AreJoined, FoundStands, StandsAt, is_fde}
+use Rattle.dw_section.specs.StandingFde.{FdeStands}
+use Rattle.dw_section.specs.Inner.StandingFde.{is_fde}
 use Rattle.dw_section.proofs.Lent.FieldTable.{Ranges, fde_said}
 use Rattle.dw_section.proofs.Lent.HeaderLaws.{has_one, cie_at_again, fde_at_again}
 use Rattle.dw_section.proofs.Lent.Heads.{cie_or, fde_or, has_at}
 use Rattle.dw_section.proofs.Items.{front_item, item_again}
 use Rattle.dw_op.proofs.Lent.ReadingLaws.{some_is}
 use Rattle.dw_section.proofs.Lent.Index.{zip_right}
-use Rattle.dw_section.specs.Pieces.{Pieces}
 
 -- ---- the entries of a section stand at their places
 

@@ -2,26 +2,12 @@
 use Rattle.std.proofs.Common.{◌≡◌, ℕ, ◌≤◌, List, length, drop, Some, Result, Err, subst, arith}
 use Rattle.std.specs.Prelude.{IfErr}
 use Rattle.std.proofs.lemmas.List.{length-drop}
-use Rattle.dw_num.specs.declared.target.Target.{Target}
-use Rattle.dw_num.specs.declared.refusal.Refusal.{Refusal}
-use Rattle.dw_num.specs.declared.error.ReadError.{ReadError}
+use Rattle.dw_section.proofs.Words.{Target, Refusal, ReadError, Read, Input, AreBytes, Refuses, span_of, input_of, address_limit, FoundFde, Item, entry, Piece, IsWithin, item_at, cie_fields}
+use Rattle.dw_section.proofs.Words.{fde_fields, StandsIn, rows_of, cie_at, fde_at}
 use Rattle.dw_num.specs.declared.error.ReadError.TheVariants.{Refused}
-use Rattle.dw_num.specs.Front.{Read}
-use Rattle.dw_num.specs.Input.{Input, AreBytes}
-use Rattle.dw_num.specs.Refusals.{Refuses}
-use Rattle.dw_num.specs.Span.{span_of, input_of}
-use Rattle.dw_num.specs.Target.{address_limit}
 use Rattle.dw_num.proofs.Lent.Stays.{Stays}
 use Rattle.dw_cfa.proofs.Lent.FaultPlaces.{run_within}
 use Rattle.dw_cfa.proofs.Lent.Given.{refused_where_fault, run_runs}
-use Rattle.dw_section.specs.declared.listed_fde.FoundFde.{FoundFde}
-use Rattle.dw_section.specs.Cut.{Item, entry, Piece}
-use Rattle.dw_op.specs.Faults.{IsWithin}
-use Rattle.dw_section.specs.Faults.{item_at}
-use Rattle.dw_section.specs.Fields.{cie_fields, fde_fields}
-use Rattle.dw_section.specs.StandingFde.{StandsIn}
-use Rattle.dw_section.specs.Inner.Lookup.{rows_of}
-use Rattle.dw_section.specs.Inner.PieceHeader.{cie_at, fde_at}
 use Rattle.dw_section.specs.Inner.StandingFde.{LiesInPrograms}
 use Rattle.dw_section.proofs.FaultPlaces.{fields_within, item_stays, stand_ends}
 use Rattle.dw_section.proofs.Lent.HeaderLaws.{cie_faulty, fde_faulty}

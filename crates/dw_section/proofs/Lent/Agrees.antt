@@ -1,16 +1,9 @@
 -- Programs that say the same have the same rules at an address, and the same changes.
 use Rattle.std.proofs.Common.{◌≡◌, ℕ, suc, ◌<◌, ◌≤◌, List, [], ◌∷◌, ◌++◌, sym, ap, ◌∙◌, arith}
-use Rattle.dw_cfa.specs.declared.instr.Instr.{Instr}
-use Rattle.dw_cfa.specs.declared.rule.CfaRule.{CfaRule}
-use Rattle.dw_cfa.specs.declared.rule.RegRule.{RegRule}
-use Rattle.dw_cfa.specs.Column.{look_back, cfa_change, rule_change, cfa_after, rule_after}
-use Rattle.dw_cfa.specs.Laws.{initial_cfa, initial_rule}
-use Rattle.dw_cfa.specs.Location.{onto, back_from}
-use Rattle.dw_cfa.specs.Rows.{Rules}
+use Rattle.dw_section.proofs.Words.{Instr, CfaRule, RegRule, look_back, cfa_change, rule_change, cfa_after, rule_after, initial_cfa, initial_rule, onto, back_from, Rules, Differs, StayFrom, HoldsAt}
+use Rattle.dw_section.proofs.Words.{ChangesBehind, AreChanges, HasCfa, AgreeAt, Agree}
 use Rattle.dw_cfa.proofs.Lent.InstrCounts.{counts_exists, one_count}
-use Rattle.dw_section.specs.Changes.{Stays, Differs, StayFrom, HoldsAt, ChangesBehind, AreChanges}
-use Rattle.dw_section.specs.Programs.{HasCfa}
-use Rattle.dw_section.specs.Inner.Agree.{AgreeAt, Agree}
+use Rattle.dw_section.specs.Changes.{Stays}
 use Rattle.dw_section.proofs.Lent.Nops.{nops, cfa_nops, rule_nops, initial_cfa_nops, initial_rule_nops, counts_nops}
 
 -- ---- sameness

@@ -3,25 +3,14 @@ use Rattle.std.proofs.Common.{◌≡◌, ℕ, zero, suc, ◌<◌, ◌≤◌, fal
 use Rattle.std.specs.Prelude.{nat_le}
 use Rattle.std.proofs.lemmas.Bool.{cases_lt, le-leb}
 use Rattle.std.proofs.lemmas.Bool.Decides.{leb_tells}
-use Rattle.dw_cfa.specs.declared.instr.Instr.{Instr}
-use Rattle.dw_cfa.specs.declared.rule.CfaRule.{CfaRule}
-use Rattle.dw_cfa.specs.declared.rule.RegRule.{RegRule}
+use Rattle.dw_section.proofs.Words.{Instr, CfaRule, RegRule, RulesBehind, cfa_after, rule_after, LocatedRow, Counts, HoldsAfter, Rules, last_at, NeverFalls, Differs, StayFrom, HoldsAt, ChangesBehind}
+use Rattle.dw_section.proofs.Words.{AreChanges, Before, Among, Target, input_of, CieHead, FdeHead, factors_of}
 use Rattle.dw_cfa.specs.Behind.{Leaves}
-use Rattle.dw_cfa.specs.Inner.Exact.{RulesBehind}
-use Rattle.dw_cfa.specs.Column.{cfa_after, rule_after}
-use Rattle.dw_cfa.specs.declared.execution.LocatedRow.{LocatedRow}
-use Rattle.dw_cfa.specs.Location.{Counts}
-use Rattle.dw_cfa.specs.Laws.{HoldsAfter}
-use Rattle.dw_cfa.specs.Rows.{Rules}
-use Rattle.dw_cfa.specs.RuleAt.{or_here, last_at, NeverFalls}
+use Rattle.dw_cfa.specs.RuleAt.{or_here}
 use Rattle.dw_cfa.proofs.Lent.InstrCounts.{one_count, counts_exists}
 use Rattle.dw_cfa.proofs.Lent.SameRows.{same_rows}
-use Rattle.dw_section.specs.Changes.{Stays, Differs, StayFrom, HoldsAt, ChangesBehind, AreChanges}
-use Rattle.dw_section.specs.Inner.Changes.{Before, Passed, Among}
-use Rattle.dw_num.specs.declared.target.Target.{Target}
-use Rattle.dw_num.specs.Span.{input_of}
-use Rattle.dw_section.specs.Headers.{CieHead, FdeHead}
-use Rattle.dw_section.specs.Programs.{factors_of}
+use Rattle.dw_section.specs.Changes.{Stays}
+use Rattle.dw_section.specs.Inner.Changes.{Passed}
 use Rattle.dw_cfa.specs.Inner.Runs.{run_rows}
 
 -- ---- the last row at an address

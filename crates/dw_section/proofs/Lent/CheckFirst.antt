@@ -1,26 +1,10 @@
 -- A section that is accepted has no first fault, and any other at most one.
 use Rattle.std.proofs.Common.{◌≡◌, ℕ, ◌≤◌, ◌⊎◌, List, [], ◌∷◌, ◌++◌, sym, ap, subst, ◌∙◌, arith, inl, inr}
 use Rattle.std.specs.List.{AllByRecursion}
-use Rattle.dw_num.specs.declared.refusal.Code.TheVariants.{Overlap}
-use Rattle.dw_num.specs.declared.refusal.Refusal.{Refusal}
-use Rattle.dw_num.specs.declared.target.Target.{Target}
-use Rattle.dw_num.specs.Input.{AreBytes}
-use Rattle.dw_num.specs.Span.{Span, input_of}
-use Rattle.dw_cfa.specs.declared.instr.Factors.{Factors}
-use Rattle.dw_cfa.specs.declared.instr.Instr.{Instr}
-use Rattle.dw_cfa.specs.InstrSpells.{Program}
-use Rattle.dw_cfa.specs.declared.rule.CfaRule.TheVariants.{Unset}
-use Rattle.dw_cfa.specs.Location.{Counts}
-use Rattle.dw_cfa.specs.Column.{cfa_after}
-use Rattle.dw_cfa.specs.Faults.{FdeFault}
-use Rattle.dw_cfa.specs.Laws.{initial_cfa}
-use Rattle.dw_section.specs.Stage.{FirstStuck, Then}
-use Rattle.dw_section.specs.Headers.{Head, cie, fde, Headers, HeadersFault}
-use Rattle.dw_section.specs.Inner.Heads.{HeadsRise, FdeFits, HasBytes, cie_ats}
-use Rattle.dw_section.specs.Overlap.{Range, IsIndex, AreApart, FirstOverlap, end_of}
-use Rattle.dw_section.specs.Among.{IsAmong}
-use Rattle.dw_section.specs.Programs.{Instrs, CieRuns, CieBroken, FdeRuns, FdeBroken, HasRules, LacksRule, factors_of}
-use Rattle.dw_section.specs.Accepted.{CiesRun, FdesRun, RulesHold, Indexed, Accepted, CieProgramsFault, FdeProgramsFault, RulesFault, CheckFault}
+use Rattle.dw_section.proofs.Words.{Overlap, Refusal, Target, AreBytes, Span, input_of, Factors, Instr, Program, Unset, Counts, cfa_after, FdeFault, initial_cfa, FirstStuck, Then, Head, cie, fde}
+use Rattle.dw_section.proofs.Words.{Headers, HeadersFault, HeadsRise, FdeFits, HasBytes, cie_ats, Range, IsIndex, AreApart, FirstOverlap, end_of, IsAmong, Instrs, CieRuns, CieBroken, FdeRuns}
+use Rattle.dw_section.proofs.Words.{FdeBroken, HasRules, LacksRule, factors_of, RulesHold, Accepted, CieProgramsFault, FdeProgramsFault, RulesFault, CheckFault}
+use Rattle.dw_section.specs.Accepted.{CiesRun, FdesRun, Indexed}
 use Rattle.dw_section.proofs.Cfa.{cie_fault_apart, cie_fault_one, fde_fault_apart, fde_fault_one, one_program}
 use Rattle.dw_section.proofs.FirstFault.{then_apart, then_one, one_fault, fault_or_headers}
 use Rattle.dw_section.proofs.Lent.HeaderLaws.{one_headers}

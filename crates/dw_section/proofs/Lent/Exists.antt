@@ -1,23 +1,12 @@
 -- Each FDE of an accepted section has changes.
 use Rattle.std.proofs.Common.{ℕ, ◌<◌, List, None, sym, subst, arith, ◌≤◌, [], ◌∷◌, length, Option, Some, inl, inr}
-use Rattle.dw_num.specs.declared.target.Target.{Target}
-use Rattle.dw_num.specs.Input.{AreBytes}
-use Rattle.dw_cfa.specs.declared.instr.Instr.{Instr}
-use Rattle.dw_cfa.specs.declared.execution.LocatedRow.{LocatedRow}
-use Rattle.dw_cfa.specs.Rows.{Rules}
+use Rattle.dw_section.proofs.Words.{Target, AreBytes, Instr, LocatedRow, Rules, Accepted, HoldsAt, AreChanges, changes_among, Among, Says, AreFdes, ChangesOf, SameMeaning, IsAmong, row_starts}
 use Rattle.dw_section.specs.declared.lookup.Fde.{Fde}
-use Rattle.dw_section.specs.Accepted.{Accepted}
-use Rattle.dw_section.specs.Changes.{HoldsAt, AreChanges}
-use Rattle.dw_section.specs.Inner.Changes.{changes_among, Among}
-use Rattle.dw_section.specs.Meaning.{Says, AreFdes, ChangesOf}
 use Rattle.dw_section.proofs.ChangesAmong.{are_among}
 use Rattle.dw_section.proofs.Lent.ChangeLaws.{changes_found}
-use Rattle.dw_section.specs.Meanings.{SameMeaning}
-use Rattle.dw_section.specs.Among.{IsAmong}
 use Rattle.dw_section.proofs.Lent.Rowed.{agree_row}
 use Rattle.dw_section.proofs.Lent.Sames.{AllAgree, changes_there}
 use Rattle.dw_section.proofs.Lent.Sections.{here, row_exists, one_rules, programs_rules, listed_programs, given_by}
-use Rattle.dw_cfa.specs.Location.{row_starts}
 
 among_few : (end : ℕ) (shown : Option Rules) (rows : List LocatedRow) (changes : List (ℕ × Rules)) → Among end shown rows changes → length changes ≤ length rows
 among_few end shown [] changes h = rw h (omega arith)

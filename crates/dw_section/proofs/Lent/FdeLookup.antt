@@ -3,15 +3,9 @@ use Rattle.std.proofs.Common.{◌≡◌, ℕ, zero, suc, ◌+◌, ◌<◌, ◌�
 use Rattle.std.specs.List.{AllByRecursion, AllZip}
 use Rattle.std.specs.List.Sorted.{IsNonDecreasingBy}
 use Rattle.std.proofs.lemmas.List.{length-map, get_or-map}
-use Rattle.dw_num.specs.declared.target.Target.{Target}
-use Rattle.dw_section.specs.declared.fde_range.Ranged.{Ranged}
+use Rattle.dw_section.proofs.Words.{Target, Ranged, Head, CieHead, FdeHead, HeadsRise, IsRanged, range_in, fde_in, IsTable, Returns, Lists, AreFdes, Covers, NoneCovers, IsAmong, Range, Precedes}
+use Rattle.dw_section.proofs.Words.{Ascends, AreApart, IsIndex}
 use Rattle.dw_section.specs.declared.lookup.Fde.{Fde}
-use Rattle.dw_section.specs.Headers.{Head, CieHead, FdeHead}
-use Rattle.dw_section.specs.Inner.Heads.{HeadsRise}
-use Rattle.dw_section.specs.Ranges.{IsRanged, range_in, fde_in, IsTable}
-use Rattle.dw_section.specs.Meaning.{Returns, Lists, AreFdes, Covers, NoneCovers}
-use Rattle.dw_section.specs.Among.{IsAmong}
-use Rattle.dw_section.specs.Overlap.{Range, Precedes, Ascends, AreApart, IsIndex}
 use Rattle.dw_section.proofs.Lent.Judged.{all_get, all_get_map}
 use Rattle.dw_section.proofs.Lent.HeaderLaws.{one_headers}
 use Rattle.dw_section.proofs.Lent.Heads.{heads_rise, one_among, cie_or, fde_or}

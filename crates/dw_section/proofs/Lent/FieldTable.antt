@@ -4,25 +4,16 @@ use Rattle.std.specs.Prelude.{◌||◌, ℤ, FitsSigned, position, nat_le, cond,
 use Rattle.std.specs.Int.{w64}
 use Rattle.std.proofs.lemmas.Bool.{cases_lt, lt-ltb, le-ltb, leb-true, ltb-true, cond_both}
 use Rattle.std.proofs.lemmas.Bool.Decides.{eqb_tells}
-use Rattle.dw_num.specs.declared.refusal.Code.{Code}
-use Rattle.dw_num.specs.declared.refusal.Code.TheVariants.{BadVersion, AddressSize, SegmentSelector, NoSuchCie, RangeTooLarge, RegisterTooLarge}
-use Rattle.dw_num.specs.declared.target.Form.{Form}
-use Rattle.dw_num.specs.declared.target.Form.TheVariants.{Dwarf32, Dwarf64}
-use Rattle.dw_num.specs.declared.target.Size.{Size}
-use Rattle.dw_num.specs.declared.target.Target.{Target}
-use Rattle.dw_num.specs.Fixed.{IsWidth, fixed_number}
-use Rattle.dw_num.specs.Input.{Input, behind}
-use Rattle.dw_num.specs.Front.{Read, fault, fixed_at, take_at, address_at, ◌>>=◌, uleb_at, sleb_at, register_at, register_of}
-use Rattle.dw_num.specs.Target.{address_limit, byte_count}
-use Rattle.dw_section.specs.declared.fields.CieFields.{CieFields}
-use Rattle.dw_section.specs.declared.fields.FdeFields.{FdeFields}
+use Rattle.dw_section.proofs.Words.{Code, NoSuchCie, Form, Dwarf32, Dwarf64, Size, Target, IsWidth, Input, behind, Read, fault, ◌>>=◌, address_limit, byte_count, CieFields, FdeFields, id_width}
+use Rattle.dw_section.proofs.Words.{Fields, end, field, empty_string, cie_fields, is_among, fde_fields, FieldsSpell, string_fault, fixed, unsigned, signed, Refusal}
+use Rattle.dw_num.specs.declared.refusal.Code.TheVariants.{BadVersion, AddressSize, SegmentSelector, RangeTooLarge, RegisterTooLarge}
+use Rattle.dw_num.specs.Fixed.{fixed_number}
+use Rattle.dw_num.specs.Front.{fixed_at, take_at, address_at, uleb_at, sleb_at, register_at, register_of}
 use Rattle.dw_section.specs.declared.fields.Version.{Version}
 use Rattle.dw_section.specs.declared.fields.Version.TheVariants.{One, Three, Four}
-use Rattle.dw_section.specs.Cut.{id_width}
-use Rattle.dw_section.specs.Fields.{Fields, end, field, empty_string, any, unless, sizes, return_register, cie_fields, is_among, fde_fields, FieldsSpell, string_fault, factors, fixed, unsigned, signed}
+use Rattle.dw_section.specs.Fields.{any, unless, sizes, return_register, factors}
 use Rattle.dw_section.specs.Inner.Fields.{wanted_of, wanted_at, version_of, known, version_in, version_at, empty_of, empty_string_at, selector_of, sizes_at, return_register_at, factors_at, after_sizes, after_string, after_version, cie_fields_at, named_of, pointer_at, fde_of, after_begin, range_at, after_pointer, fde_fields_at, after_data, after_code}
 use Rattle.dw_section.proofs.FieldLaws.{AreNumbers, judged, behind_field, fields_at}
-use Rattle.dw_num.specs.declared.refusal.Refusal.{Refusal}
 use Rattle.dw_num.specs.declared.target.Size.TheVariants.{Four as Short, Eight as Long}
 
 -- ---- one read after another

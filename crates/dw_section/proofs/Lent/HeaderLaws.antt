@@ -4,27 +4,18 @@ use Rattle.std.specs.Prelude.{IfErr}
 use Rattle.std.specs.List.{AllByRecursion, AllZip}
 use Rattle.std.proofs.lemmas.List.{append-nil, length-append}
 use Rattle.std.proofs.lemmas.List.Elements.{filter_map-append}
-use Rattle.dw_num.specs.declared.target.Target.{Target}
-use Rattle.dw_num.specs.declared.refusal.Refusal.{Refusal}
-use Rattle.dw_num.specs.Input.{Input, AreBytes, Takes}
-use Rattle.dw_num.specs.Span.{Span}
+use Rattle.dw_section.proofs.Words.{Target, Refusal, Input, AreBytes, Takes, Span, CieFields, FdeFields, Piece, id_width, Pieces, cie_places, Rises, Fields, cie_fields, fde_fields, FieldsFault}
+use Rattle.dw_section.proofs.Words.{program_of, contents_of, Head, cie_head, IsCie, IsFde, Has, Headers, CieHolds, CieStuck, FdeHolds, FdeStuck, Read, ◌>>=◌}
 use Rattle.dw_num.proofs.Lent.LebLaws.{done, ok_is}
 use Rattle.dw_section.specs.declared.entry.Kind.TheVariants as kind
-use Rattle.dw_section.specs.declared.fields.CieFields.{CieFields}
-use Rattle.dw_section.specs.declared.fields.FdeFields.{FdeFields}
-use Rattle.dw_section.specs.Cut.{Piece, id_width}
-use Rattle.dw_section.specs.Pieces.{Pieces}
-use Rattle.dw_section.specs.Places.{cie_places}
-use Rattle.dw_section.specs.Inner.Places.{Rises}
 use Rattle.dw_section.specs.Inner.Stage.{Answers}
-use Rattle.dw_section.specs.Fields.{Fields, cie_fields, fde_fields, FieldsFault}
 use Rattle.dw_section.specs.Inner.Fields.{cie_fields_at, fde_fields_at}
-use Rattle.dw_section.specs.Inner.PieceHeader.{program_of, cie_of_piece, cie_at, fde_of_piece, fde_at, contents_of}
-use Rattle.dw_section.specs.Headers.{Head, cie_head, fde_head, HasFields, IsCie, IsFde, Has, Headers, CieHolds, CieStuck, FdeHolds, FdeStuck}
+use Rattle.dw_section.specs.Inner.PieceHeader.{cie_of_piece, cie_at, fde_of_piece, fde_at}
+use Rattle.dw_section.specs.Headers.{fde_head, HasFields}
 use Rattle.dw_section.proofs.FieldLaws.{AreNumbers, fields_at, fault_read, read_fault, fields_found, fields_again}
 use Rattle.dw_section.proofs.Lent.FieldTable.{then_then, cie_same, fde_same, cie_numbers, fde_numbers}
 use Rattle.dw_num.proofs.Lent.Steps.{take_again}
-use Rattle.dw_num.specs.Front.{Read, take_at, ◌>>=◌}
+use Rattle.dw_num.specs.Front.{take_at}
 use Rattle.dw_section.proofs.Items.{one_pieces}
 use Rattle.dw_section.proofs.Places.{places_rise}
 use Rattle.dw_section.proofs.Stages.{all_push, all_from_zip, one_zip}

@@ -3,23 +3,10 @@ pub use Rattle.dw_section.proofs.Lent.Index.{all_in}
 use Rattle.std.proofs.Common.{◌≡◌, ℕ, suc, ◌+◌, ◌<◌, ◌≤◌, ◌^◌, List, [], ◌∷◌, ◌++◌, length, refl, sym, ap, subst, ◌∙◌, arith, inl, inr}
 use Rattle.std.specs.List.{AllByRecursion, AllZip, cons_option}
 use Rattle.std.proofs.lemmas.List.{get_or-append-add}
-use Rattle.dw_num.specs.declared.target.Order.{Order}
-use Rattle.dw_num.specs.declared.target.Target.{Target}
-use Rattle.dw_num.specs.declared.target.Size.{Size}
+use Rattle.dw_section.proofs.Words.{Order, Target, Size, AreBytes, length_bytes, address_limit, byte_count, Instr, Program, Item, gap, entry, Piece, pieces, item_bytes, all_bytes, place_if}
+use Rattle.dw_section.proofs.Words.{cie_places, Rises, Head, cie, fde, Has, Headers, CieHead, FdeHead, head_at, cie_at_of, cie_ats, HeadsRise, FdeFits, HasBytes, Begins, factors_of, IsAmong}
 use Rattle.dw_num.specs.declared.target.Size.TheVariants.{Four, Eight}
-use Rattle.dw_num.specs.Input.{AreBytes}
-use Rattle.dw_num.specs.Fixed.{length_bytes}
-use Rattle.dw_num.specs.Target.{address_limit, byte_count}
-use Rattle.dw_cfa.specs.declared.instr.Instr.{Instr}
-use Rattle.dw_cfa.specs.InstrSpells.{Program}
 use Rattle.dw_cfa.proofs.Lent.InstrLaws.{front_bytes}
-use Rattle.dw_section.specs.Cut.{Item, gap, entry, Piece, pieces, item_bytes, all_bytes}
-use Rattle.dw_section.specs.Places.{place_if, cie_places}
-use Rattle.dw_section.specs.Inner.Places.{Rises}
-use Rattle.dw_section.specs.Headers.{Head, cie, fde, Has, Headers, CieHead, FdeHead}
-use Rattle.dw_section.specs.Inner.Heads.{head_at, cie_at_of, cie_ats, HeadsRise, FdeFits, HasBytes}
-use Rattle.dw_section.specs.Programs.{Begins, factors_of}
-use Rattle.dw_section.specs.Among.{IsAmong}
 use Rattle.dw_section.proofs.Items.{item_some}
 use Rattle.dw_section.proofs.Lent.HeaderLaws.{pieces_rise as places_of_pieces}
 use Rattle.dw_section.proofs.Cfa.{one_program}

@@ -7,31 +7,13 @@ use Rattle.std.specs.List.Sorted.{IsNonDecreasingBy}
 use Rattle.std.proofs.lemmas.Bool.{ltb-true, ltb-false, cases_lt}
 use Rattle.std.proofs.lemmas.List.{append-nil, map-append, get_or-map, length-map}
 use Rattle.std.proofs.lemmas.List.Elements.{filter_map-append}
-use Rattle.dw_num.specs.declared.refusal.Refusal.{Refusal}
-use Rattle.dw_num.specs.declared.target.Target.{Target}
+use Rattle.dw_section.proofs.Words.{Refusal, Target, address_limit, Instr, CfaRule, Unset, LocatedRow, RulesBehind, cfa_after, FdeFault, FdeKept, initial_cfa, Counts, Rules, Initial, is_among, Head}
+use Rattle.dw_section.proofs.Words.{fde, FdeHead, head_at, cie_at_of, cie_ats, or_place, place_of, IsInitial, IsBehind, AreInitials, HasOrLacks, initial_head, Rises, Begins, Instrs, CieRuns, FdeRuns}
+use Rattle.dw_section.proofs.Words.{FdeBroken, HasRules, LacksRule, input_of}
 use Rattle.dw_num.specs.declared.refusal.Code.TheVariants.{NoCfaRule}
-use Rattle.dw_num.specs.Target.{address_limit}
-use Rattle.dw_cfa.specs.declared.instr.Instr.{Instr}
-use Rattle.dw_cfa.specs.declared.rule.CfaRule.{CfaRule}
-use Rattle.dw_cfa.specs.declared.rule.CfaRule.TheVariants.{Unset}
-use Rattle.dw_cfa.specs.declared.execution.LocatedRow.{LocatedRow}
-use Rattle.dw_cfa.specs.Inner.Exact.{RulesBehind}
-use Rattle.dw_cfa.specs.Column.{cfa_after}
-use Rattle.dw_cfa.specs.Faults.{FdeFault}
 use Rattle.dw_cfa.specs.CieMachine.{Following, with_steps}
-use Rattle.dw_cfa.specs.Kept.{FdeKept}
-use Rattle.dw_cfa.specs.Laws.{initial_cfa}
-use Rattle.dw_cfa.specs.Location.{Counts}
 use Rattle.dw_cfa.specs.Coverage.{Lacks}
-use Rattle.dw_cfa.specs.Rows.{Rules}
-use Rattle.dw_section.specs.declared.program.Initial.{Initial}
-use Rattle.dw_section.specs.Fields.{is_among}
-use Rattle.dw_section.specs.Headers.{Head, fde, FdeHead}
-use Rattle.dw_section.specs.Inner.Heads.{head_at, cie_at_of, cie_ats}
-use Rattle.dw_section.specs.Inner.Initials.{or_place, place_of, IsInitial, IsBehind, AreInitials, HasOrLacks, FirstLacking, initial_head}
-use Rattle.dw_section.specs.Inner.Places.{Rises}
-use Rattle.dw_section.specs.Programs.{Begins, Instrs, CieRuns, FdeRuns, FdeBroken, HasRules, LacksRule}
-use Rattle.dw_num.specs.Span.{input_of}
+use Rattle.dw_section.specs.Inner.Initials.{FirstLacking}
 use Rattle.dw_cfa.proofs.Lent.InstrCounts.{counts_exists}
 use Rattle.dw_cfa.proofs.Lent.RowsAt.{last_from}
 use Rattle.dw_section.proofs.Stages.{all_push}

@@ -5,19 +5,13 @@ use Rattle.std.specs.List.{AllByRecursion}
 use Rattle.std.proofs.lemmas.Bool.{cases_lt}
 use Rattle.std.proofs.lemmas.List.{length-append, length-replicate, take_all}
 use Rattle.std.proofs.lemmas.List.Sums.{sum_by-cons, sum_by-append, sum_by-take-le}
-use Rattle.dw_num.specs.declared.target.Target.{Target}
-use Rattle.dw_cfa.specs.declared.instr.Factors.{Factors}
-use Rattle.dw_cfa.specs.declared.instr.Instr.{Instr}
+use Rattle.dw_section.proofs.Words.{Target, Factors, Instr, CfaRule, RegRule, Program, look_back, cfa_change, rule_change, cfa_after, rule_after, CieKept, FdeKept, initial_cfa, initial_rule, onto}
+use Rattle.dw_section.proofs.Words.{back_from, Counts, moves_location, row_starts}
 use Rattle.dw_cfa.specs.declared.instr.Instr.TheVariants.{Nop}
-use Rattle.dw_cfa.specs.declared.rule.CfaRule.{CfaRule}
 use Rattle.dw_cfa.specs.declared.rule.CfaRule.TheVariants as cfa
-use Rattle.dw_cfa.specs.declared.rule.RegRule.{RegRule}
 use Rattle.dw_cfa.specs.declared.rule.RegRule.TheVariants.{Unspecified}
-use Rattle.dw_cfa.specs.InstrSpells.{Program}
-use Rattle.dw_cfa.specs.Column.{look_back, cfa_change, rule_change, cfa_after, rule_after}
-use Rattle.dw_cfa.specs.Kept.{in_cie, is_remember, is_restore, keeps_half, KeepsHalves, CieKept, FdeKept}
-use Rattle.dw_cfa.specs.Laws.{initial_cfa, initial_rule}
-use Rattle.dw_cfa.specs.Location.{onto, back_from, location_back, location, StaysAt, Counts, moves_location, row_starts}
+use Rattle.dw_cfa.specs.Kept.{in_cie, is_remember, is_restore, keeps_half, KeepsHalves}
+use Rattle.dw_cfa.specs.Location.{location_back, location, StaysAt}
 use Rattle.dw_cfa.proofs.Lent.Spellings.{in_table}
 use Rattle.std.proofs.lemmas.List.Folds.{sum_by-replicate}
 

@@ -2,10 +2,7 @@
 use Rattle.std.proofs.Common.{ℕ, List, [], ◌∷◌}
 use Rattle.std.specs.Prelude.{◌<◌, nat_eq}
 use Rattle.std.specs.List.{AllByRecursion}
-use Rattle.dw_num.specs.declared.target.Target.{Target}
-use Rattle.dw_cfa.specs.declared.rule.RegRule.{RegRule}
-use Rattle.dw_cfa.specs.Rows.{Rules, rule_in, rule}
-use Rattle.dw_section.specs.Fits.{RuleFits, RowFits}
+use Rattle.dw_section.proofs.Words.{Target, RegRule, Rules, rule_in, rule, RuleFits, RowFits}
 use Rattle.std.proofs.lemmas.Bool.{cond_both}
 
 in_fits : (t : Target) (xs : List (ℕ × RegRule)) (r : ℕ) → AllByRecursion (λ (entry : ℕ × RegRule). (entry.0 < 65536) × RuleFits t entry.1) xs → RuleFits t (rule_in xs r)

@@ -1,13 +1,10 @@
 -- The changes of an FDE determine its rules at each address, and its rules determine its changes.
 use Rattle.std.proofs.Common.{◌≡◌, ℕ, zero, suc, ◌+◌, ◌-◌, ◌<◌, ◌≤◌, List, [], ◌∷◌, refl, sym, ap, subst, ◌∙◌, arith, inl, inr}
 use Rattle.std.proofs.lemmas.Bool.{cases_lt, cases_order, lt-ltb, le-ltb}
-use Rattle.dw_cfa.specs.declared.instr.Instr.{Instr}
-use Rattle.dw_cfa.specs.Rows.{Rules}
+use Rattle.dw_section.proofs.Words.{Instr, Rules, StayFrom, HoldsAt, ChangesBehind, AreChanges, AgreeAt, Agree, row_among}
 use Rattle.dw_cfa.proofs.Lent.InstrCounts.{counts_exists}
 use Rattle.dw_cfa.proofs.Lent.SameRows.{same_rows}
-use Rattle.dw_section.specs.Changes.{Stays, StayFrom, HoldsAt, ChangesBehind, AreChanges}
-use Rattle.dw_section.specs.Inner.Agree.{AgreeAt, Agree}
-use Rattle.dw_section.specs.Inner.Meanings.{row_among}
+use Rattle.dw_section.specs.Changes.{Stays}
 
 module _ (i j : List Instr) (begin : ℕ) where
   stays_row : (a : ℕ) (row : Rules) → begin ≤ a → Stays i j begin a (suc a) → HoldsAt i j begin a row → HoldsAt i j begin (suc a) row

@@ -1,17 +1,8 @@
 -- Two accepted sections with the same FDEs, whose programs agree, say the same.
 use Rattle.std.proofs.Common.{◌≡◌, ℕ, ◌<◌, List, subst, arith}
-use Rattle.dw_num.specs.declared.target.Target.{Target}
-use Rattle.dw_num.specs.Input.{AreBytes}
-use Rattle.dw_cfa.specs.declared.instr.Instr.{Instr}
-use Rattle.dw_cfa.specs.Rows.{Rules}
+use Rattle.dw_section.proofs.Words.{Target, AreBytes, Instr, Rules, Accepted, AreChanges, Says, AreFdes, RulesAt, ChangesOf, Agree, SameMeaning, IsAmong}
 use Rattle.dw_section.specs.declared.lookup.Fde.{Fde}
-use Rattle.dw_section.specs.Accepted.{Accepted}
-use Rattle.dw_section.specs.Changes.{AreChanges}
-use Rattle.dw_section.specs.Meaning.{Says, AreFdes, RulesAt, ChangesOf}
 use Rattle.dw_section.proofs.Lent.FdeLookup.{one_fdes}
-use Rattle.dw_section.specs.Inner.Agree.{Agree}
-use Rattle.dw_section.specs.Meanings.{SameMeaning}
-use Rattle.dw_section.specs.Among.{IsAmong}
 use Rattle.dw_section.proofs.Lent.Agrees.{agree_sym, holds_agree, changes_agree}
 use Rattle.dw_section.proofs.Lent.Rowed.{one_changes}
 use Rattle.dw_section.proofs.Lent.Sections.{one_programs, programs_rules, changes_programs, listed_programs, rules_covered, row_exists, one_rules}

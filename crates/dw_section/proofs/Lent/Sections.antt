@@ -2,23 +2,11 @@
 use Rattle.std.proofs.Common.{◌≡◌, ℕ, ◌+◌, ◌<◌, ◌≤◌, List, [], ◌∷◌, refl, sym, ap, subst, ◌∙◌, arith, inl, inr, true}
 use Rattle.std.specs.List.{AllByRecursion, AllZip}
 use Rattle.std.proofs.lemmas.Bool.Decides.{eqb_tells}
-use Rattle.dw_num.specs.declared.target.Target.{Target}
-use Rattle.dw_num.specs.Input.{AreBytes}
-use Rattle.dw_num.specs.Target.{address_limit}
-use Rattle.dw_cfa.specs.declared.instr.Instr.{Instr}
-use Rattle.dw_cfa.specs.Laws.{HoldsAfter}
-use Rattle.dw_cfa.specs.Rows.{Rules}
+use Rattle.dw_section.proofs.Words.{Target, AreBytes, address_limit, Instr, HoldsAfter, Rules, Accepted, HoldsAt, AreChanges, is_among, Head, Headers, CieHead, FdeHead, cie, fde, HeadsRise, HasBytes}
+use Rattle.dw_section.proofs.Words.{FdeFits, cie_ats, Says, Lists, AreFdes, RulesAt, ChangesOf, Covers, Range, nonempty, IsIndex, AreApart, end_of, range_of, FdeRuns, HasRules, Instrs, HasCfa}
+use Rattle.dw_section.proofs.Words.{IsAmong}
 use Rattle.dw_cfa.proofs.Lent.InstrCounts.{counts_exists, one_count}
 use Rattle.dw_section.specs.declared.lookup.Fde.{Fde}
-use Rattle.dw_section.specs.Accepted.{Accepted}
-use Rattle.dw_section.specs.Changes.{HoldsAt, AreChanges}
-use Rattle.dw_section.specs.Fields.{is_among}
-use Rattle.dw_section.specs.Headers.{Head, Headers, CieHead, FdeHead, cie, fde}
-use Rattle.dw_section.specs.Inner.Heads.{HeadsRise, HasBytes, FdeFits, cie_ats}
-use Rattle.dw_section.specs.Meaning.{Says, Lists, AreFdes, RulesAt, ChangesOf, Covers}
-use Rattle.dw_section.specs.Overlap.{Range, nonempty, IsIndex, AreApart, end_of, range_of}
-use Rattle.dw_section.specs.Programs.{FdeRuns, HasRules, Instrs, HasCfa}
-use Rattle.dw_section.specs.Among.{IsAmong}
 use Rattle.dw_section.proofs.Lent.CheckFirst.{one_instrs}
 use Rattle.dw_section.proofs.Lent.HeaderLaws.{one_headers}
 use Rattle.dw_section.proofs.Lent.Heads.{all_in, heads_rise, heads_bytes, heads_fit, one_among, fde_or}

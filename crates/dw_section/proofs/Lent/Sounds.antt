@@ -2,30 +2,22 @@
 use Rattle.std.proofs.Common.{◌≡◌, ℕ, zero, suc, ◌<◌, ◌≤◌, true, List, [], ◌∷◌, length, refl, sym, ap, subst, ◌∙◌, arith, inl, inr, ℤ}
 use Rattle.std.specs.List.{AllByRecursion}
 use Rattle.std.proofs.lemmas.Bool.Decides.{eqb_tells}
-use Rattle.dw_num.specs.declared.target.Target.{Target}
-use Rattle.dw_cfa.specs.declared.instr.Factors.{Factors}
-use Rattle.dw_cfa.specs.declared.instr.Instr.{Instr}
+use Rattle.dw_section.proofs.Words.{Target, Factors, Instr, CfaRule, RegRule, look_back, cfa_change, rule_change, cfa_after, rule_after, Program, initial_cfa, initial_rule, onto, Rules, AreSpecified}
+use Rattle.dw_section.proofs.Words.{is_specified, rule_in, rule, HoldsAt, ChangesBehind, AreChanges, RuleFits, RowFits, ChangeFits, factors_of}
 use Rattle.dw_cfa.specs.declared.instr.Instr.TheVariants.{DefCfa, DefCfaRegister, DefCfaOffset, DefCfaExpression, Set, Restore, RememberState, RestoreState}
-use Rattle.dw_cfa.specs.declared.rule.CfaRule.{CfaRule}
 use Rattle.dw_cfa.specs.declared.rule.CfaRule.TheVariants as cfa
-use Rattle.dw_cfa.specs.declared.rule.RegRule.{RegRule}
 use Rattle.dw_cfa.specs.declared.rule.RegRule.TheVariants as rules
-use Rattle.dw_cfa.specs.Column.{look_back, with_register, with_offset, cfa_change, rule_change, cfa_after, rule_after}
-use Rattle.dw_cfa.specs.InstrSpells.{IsOffset, BlockSpells, Program}
-use Rattle.dw_cfa.specs.Laws.{initial_cfa, initial_rule}
-use Rattle.dw_cfa.specs.Location.{onto}
-use Rattle.dw_cfa.specs.Rows.{Rules, AreSpecified, is_specified, rule_in, rule}
+use Rattle.dw_cfa.specs.Column.{with_register, with_offset}
+use Rattle.dw_cfa.specs.InstrSpells.{IsOffset, BlockSpells}
 use Rattle.dw_cfa.proofs.Lent.Spellings.{RuleSpells, IsSpelled, by_table}
 use Rattle.dw_cfa.proofs.Lent.InstrCounts.{counts_exists}
 use Rattle.dw_op.specs.Expression.{Expression}
 use Rattle.dw_section.specs.declared.lookup.Fde.{Fde}
-use Rattle.dw_section.specs.Changes.{HoldsAt, ChangesBehind, AreChanges}
 use Rattle.dw_section.proofs.Lent.Registers.{fdes_registers}
-use Rattle.dw_section.specs.Fits.{HasBlock, CfaFits, RuleFits, RowFits}
-use Rattle.dw_section.specs.Inner.Sound.{ChangeFits, Steps, AllStep, SoundSection}
+use Rattle.dw_section.specs.Fits.{HasBlock, CfaFits}
+use Rattle.dw_section.specs.Inner.Sound.{Steps, AllStep, SoundSection}
 use Rattle.dw_section.proofs.Lent.Rowed.{holds_on}
 use Rattle.dw_section.proofs.Lent.Sections.{here, cfa_programs, begin_low, changes_programs, listed_programs}
-use Rattle.dw_section.specs.Programs.{factors_of}
 use Rattle.dw_section.proofs.Lent.Index.{all_in}
 use Rattle.dw_section.proofs.Stages.{all_weaker}
 

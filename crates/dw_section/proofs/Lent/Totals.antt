@@ -1,17 +1,9 @@
 -- The rows that a section starts are no fewer than its changes.
 use Rattle.std.proofs.Common.{◌≡◌, ℕ, ◌<◌, ◌≤◌, List, [], ◌∷◌, length, map, sym, ap, subst, ◌∙◌, arith}
 use Rattle.std.specs.List.{AllByRecursion, AllZip}
-use Rattle.dw_num.specs.declared.target.Target.{Target}
-use Rattle.dw_num.specs.Input.{AreBytes}
-use Rattle.dw_cfa.specs.declared.instr.Instr.{Instr}
-use Rattle.dw_cfa.specs.Location.{row_starts}
-use Rattle.dw_cfa.specs.Rows.{Rules}
+use Rattle.dw_section.proofs.Words.{Target, AreBytes, Instr, row_starts, Rules, Accepted, AreChanges, Head, Says, Lists, AreFdes, ChangesOf, Starts, total, Range, IsIndex, end_of}
 use Rattle.dw_section.specs.declared.lookup.Fde.{Fde}
-use Rattle.dw_section.specs.Accepted.{Accepted}
-use Rattle.dw_section.specs.Changes.{AreChanges}
-use Rattle.dw_section.specs.Headers.{Head}
-use Rattle.dw_section.specs.Meaning.{Says, Lists, AreFdes, ChangesOf, Starts, RowStarts, total}
-use Rattle.dw_section.specs.Overlap.{Range, IsIndex, end_of}
+use Rattle.dw_section.specs.Meaning.{RowStarts}
 use Rattle.dw_section.proofs.Lent.HeaderLaws.{one_headers}
 use Rattle.dw_section.proofs.Lent.Index.{one_index, all_from}
 use Rattle.dw_section.proofs.Lent.Exists.{changes_exist}

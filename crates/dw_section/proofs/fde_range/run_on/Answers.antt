@@ -1,8 +1,5 @@
 use Rattle.std.proofs.Common.{refl, arith, map}
-use Rattle.dw_section.specs.Headers.{head_in}
-use Rattle.dw_section.specs.Inner.Heads.{FdeFits}
-use Rattle.dw_section.specs.Inner.Initials.{place_of}
-use Rattle.dw_section.specs.Programs.{FdeRuns, FdeBroken}
+use Rattle.dw_section.proofs.Words.{head_in, FdeFits, place_of, FdeRuns, FdeBroken}
 use Rattle.dw_section.proofs.Between.{between_start, between_next, between_end, between_stuck, between_among}
 use Rattle.dw_section.proofs.Lent.Heads.{all_in}
 use Rattle.dw_num.proofs.Lent.Refusals.{refuses_by}

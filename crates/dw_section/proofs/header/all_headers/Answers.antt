@@ -1,11 +1,9 @@
 use Rattle.std.proofs.Common.{List, ℕ, ◌∙◌, map, subst, inr, arith}
 use Rattle.std.proofs.lemmas.Result.{IfErr-weaker, IfOk-weaker}
 use Rattle.dw_num.proofs.Lent.Refusals.{refuses_by}
-use Rattle.dw_section.specs.Headers.{FdeHolds, FdeStuck, head_in, HeadersFault}
-use Rattle.dw_section.specs.Stage.{FirstStuck}
+use Rattle.dw_section.proofs.Words.{FdeHolds, FdeStuck, head_in, HeadersFault, FirstStuck, Refusal}
 use Rattle.dw_section.proofs.Counts.{few_pieces}
 use Rattle.dw_section.proofs.Left.{headers_so}
-use Rattle.dw_num.specs.declared.refusal.Refusal.{Refusal}
 use Rattle.dw_section.proofs.header.all_headers.Goals as goal
 
 pub overflow_add-count : goal.overflow_add-count

@@ -1,8 +1,6 @@
 use Rattle.std.proofs.Common.{List, ◌∙◌, sym, ap, subst, length, inr}
 use Rattle.dw_num.proofs.Lent.Refusals.{refuses_by}
-use Rattle.dw_section.specs.Cut.{Piece}
-use Rattle.dw_section.specs.Inner.Places.{Rises}
-use Rattle.dw_section.specs.Places.{cie_places}
+use Rattle.dw_section.proofs.Words.{Piece, Rises, cie_places}
 use Rattle.dw_section.proofs.Items.{one_pieces}
 use Rattle.dw_section.proofs.Lent.HeaderLaws.{pieces_rise}
 use Rattle.dw_section.proofs.Stages.{handed_on}

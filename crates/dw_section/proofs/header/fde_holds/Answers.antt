@@ -1,7 +1,6 @@
 use Rattle.std.proofs.Common.{inl, refl}
 use Rattle.dw_section.proofs.Lent.HeaderLaws.{fde_faulty}
-use Rattle.dw_section.specs.Inner.Pieces.{piece_in}
-use Rattle.dw_section.specs.Headers.{cie_head}
+use Rattle.dw_section.proofs.Words.{piece_in, cie_head}
 use Rattle.dw_section.proofs.Stages.{handed_on}
 use Rattle.dw_section.proofs.header.fde_holds.Goals as goal
 

@@ -1,6 +1,5 @@
 use Rattle.std.proofs.Common.{[], ◌∷◌, ◌++◌, refl, arith}
-use Rattle.dw_section.specs.Inner.Pieces.{piece_in}
-use Rattle.dw_section.specs.Headers.{Has, CieHolds, FdeHolds, FdeStuck}
+use Rattle.dw_section.proofs.Words.{piece_in, Has, CieHolds, FdeHolds, FdeStuck}
 use Rattle.dw_section.proofs.Between.{between_start, between_next, between_end, between_stuck, between_now}
 use Rattle.dw_section.proofs.Lent.HeaderLaws.{has_fde}
 use Rattle.dw_section.proofs.Left.{left_all, stays_then}

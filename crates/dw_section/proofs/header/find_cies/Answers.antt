@@ -1,8 +1,6 @@
 use Rattle.std.proofs.Common.{◌≡◌, List, [], ◌∷◌, ◌++◌, refl, sym, ap, ◌∙◌, append_assoc, arith}
 use Rattle.dw_section.proofs.AllMet.{all_placed}
-use Rattle.dw_section.specs.Cut.{Piece}
-use Rattle.dw_section.specs.Inner.Pieces.{piece_in}
-use Rattle.dw_section.specs.Headers.{CieHolds, CieStuck}
+use Rattle.dw_section.proofs.Words.{Piece, piece_in, CieHolds, CieStuck}
 use Rattle.dw_section.proofs.Between.{between_start, between_next, between_end, between_stuck}
 use Rattle.dw_num.proofs.Lent.Refusals.{refuses_by}
 use Rattle.dw_section.proofs.Left.{left_all, stays_then}

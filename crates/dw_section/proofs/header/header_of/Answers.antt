@@ -1,5 +1,4 @@
-use Rattle.dw_section.specs.Inner.Pieces.{piece_in}
-use Rattle.dw_section.specs.Headers.{head_in, FdeStuck}
+use Rattle.dw_section.proofs.Words.{piece_in, head_in, FdeStuck}
 use Rattle.dw_section.proofs.Lent.HeaderLaws.{cie_never, fde_stuck}
 use Rattle.dw_section.proofs.header.header_of.Goals as goal
 

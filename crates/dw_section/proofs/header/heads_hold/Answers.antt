@@ -1,6 +1,5 @@
 use Rattle.std.proofs.Common.{List, ℕ, ◌∙◌, subst, inr}
-use Rattle.dw_section.specs.Headers.{FdeHolds, FdeStuck}
-use Rattle.dw_section.specs.Stage.{FirstStuck}
+use Rattle.dw_section.proofs.Words.{FdeHolds, FdeStuck, FirstStuck}
 use Rattle.dw_section.proofs.Left.{headers_so}
 use Rattle.dw_section.proofs.Stages.{handed_on}
 use Rattle.dw_section.proofs.header.heads_hold.Goals as goal

@@ -1,6 +1,5 @@
 use Rattle.std.proofs.Common.{[]}
-use Rattle.dw_section.specs.Inner.Pieces.{piece_in}
-use Rattle.dw_section.specs.Headers.{head_in}
+use Rattle.dw_section.proofs.Words.{piece_in, head_in}
 use Rattle.dw_section.proofs.Lent.HeaderLaws.{cies_more, fdes_more, cie_faulty}
 use Rattle.dw_section.proofs.Stages.{handed_on}
 use Rattle.dw_section.proofs.header.keep_cie.Goals as goal

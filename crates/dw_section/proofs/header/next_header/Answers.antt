@@ -1,6 +1,5 @@
 use Rattle.std.proofs.Common.{sym}
-use Rattle.dw_section.specs.Inner.Pieces.{piece_in}
-use Rattle.dw_section.specs.Headers.{head_in}
+use Rattle.dw_section.proofs.Words.{piece_in, head_in}
 use Rattle.dw_section.proofs.Lent.HeaderLaws.{has_cie, has_fde, fde_apart}
 use Rattle.dw_section.proofs.Lent.Heads.{has_at}
 use Rattle.dw_section.proofs.Left.{heads_none, heads_next, heads_read}

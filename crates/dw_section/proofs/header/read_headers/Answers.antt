@@ -1,8 +1,6 @@
 use Rattle.std.proofs.Common.{refl, arith}
 use Rattle.std.proofs.lemmas.List.{map-append}
-use Rattle.dw_section.specs.Cut.{Piece}
-use Rattle.dw_section.specs.Inner.Pieces.{piece_in}
-use Rattle.dw_section.specs.Headers.{Head, Has, CieHolds, FdeHolds, FdeStuck, head_in}
+use Rattle.dw_section.proofs.Words.{Piece, piece_in, Head, Has, CieHolds, FdeHolds, FdeStuck, head_in}
 use Rattle.dw_section.proofs.Between.{between_start, between_next, between_end, between_stuck, between_now}
 use Rattle.dw_section.proofs.Lent.HeaderLaws.{has_fde}
 use Rattle.dw_section.proofs.Left.{left_all, stays_then}

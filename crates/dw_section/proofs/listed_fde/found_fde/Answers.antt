@@ -1,18 +1,6 @@
 use Rattle.std.proofs.Common.{◌≡◌, ◌∙◌, ℕ, List, map, refl, sym, ap, subst}
-use Rattle.dw_num.specs.declared.target.Form.{Form}
-use Rattle.dw_num.specs.declared.target.Target.{Target}
-use Rattle.dw_num.specs.Span.{Span, span_of}
-use Rattle.dw_section.specs.declared.fields.FdeFields.{FdeFields}
-use Rattle.dw_section.specs.Cut.{Piece}
-use Rattle.dw_section.specs.Headers.{FdeHead, Head, Headers, Has, IsFde, cie, fde}
-use Rattle.dw_section.specs.Inner.Heads.{FdeFits}
-use Rattle.dw_section.specs.Inner.Initials.{place_of}
-use Rattle.dw_section.specs.Inner.Pieces.{piece_in}
-use Rattle.dw_section.specs.Meaning.{Returns}
-use Rattle.dw_section.specs.Overlap.{Range}
-use Rattle.dw_section.specs.Places.{cie_places}
-use Rattle.dw_section.specs.StandingFde.{StandsIn}
-use Rattle.dw_section.specs.Among.{IsAmong}
+use Rattle.dw_section.proofs.Words.{Form, Target, Span, span_of, FdeFields, Piece, FdeHead, Head, Headers, Has, IsFde, cie, fde, FdeFits, place_of, piece_in, Returns, Range, cie_places, StandsIn}
+use Rattle.dw_section.proofs.Words.{IsAmong}
 use Rattle.dw_section.proofs.Lent.Heads.{all_in, has_at}
 use Rattle.dw_section.proofs.StandLaws.{fde_from, stands_of}
 use Rattle.dw_section.proofs.Tables.{places_so}

@@ -1,5 +1,4 @@
-use Rattle.dw_num.specs.Span.{span_of, input_of}
-use Rattle.dw_cfa.specs.Faults.{CieFault}
+use Rattle.dw_section.proofs.Words.{span_of, input_of, CieFault}
 use Rattle.dw_num.proofs.Lent.Refusals.{refuses_by}
 use Rattle.dw_section.proofs.Stages.{handed_on}
 use Rattle.dw_section.proofs.program.run_cie.Goals as goal

@@ -1,8 +1,6 @@
 use Rattle.std.proofs.Common.{◌≡◌, List, [], ◌∷◌, ◌++◌, refl, sym, ap, ◌∙◌, append_assoc, arith}
 use Rattle.dw_section.proofs.AllMet.{all_met}
-use Rattle.dw_section.specs.Inner.Pieces.{piece_in}
-use Rattle.dw_section.specs.Headers.{Head}
-use Rattle.dw_section.specs.Programs.{CieRuns, CieBroken}
+use Rattle.dw_section.proofs.Words.{piece_in, Head, CieRuns, CieBroken}
 use Rattle.dw_section.proofs.Between.{between_start, between_next, between_end, between_stuck, between_among}
 use Rattle.dw_section.proofs.Lent.HeaderLaws.{has_cie}
 use Rattle.dw_num.proofs.Lent.Refusals.{refuses_by}

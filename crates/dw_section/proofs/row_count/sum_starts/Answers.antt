@@ -1,7 +1,6 @@
 use Rattle.std.proofs.Common.{◌++◌, ◌∷◌, [], take, map, get_or, arith}
 use Rattle.std.proofs.lemmas.List.{get_or_default}
-use Rattle.dw_section.specs.Ranges.{IsRanged, range_in}
-use Rattle.dw_section.specs.Meaning.{Starts}
+use Rattle.dw_section.proofs.Words.{IsRanged, range_in, Starts}
 use Rattle.dw_section.proofs.Counts.{total_push}
 use Rattle.dw_section.proofs.Lent.Judged.{all_get}
 use Rattle.dw_section.proofs.RowLookup.{is_program, starts_at}

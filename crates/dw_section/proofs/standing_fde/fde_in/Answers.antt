@@ -1,8 +1,5 @@
 use Rattle.std.proofs.Common.{◌≡◌, [], ◌∷◌, Some, None, refl, sym, ◌∙◌, inl, inr, arith}
-use Rattle.dw_section.specs.declared.listed_fde.FoundFde.{FoundFde}
-use Rattle.dw_section.specs.Headers.{head_in}
-use Rattle.dw_section.specs.Inner.Pieces.{piece_in}
-use Rattle.dw_section.specs.Inner.StandingFde.{AreJoined, FoundStands}
+use Rattle.dw_section.proofs.Words.{FoundFde, head_in, piece_in, AreJoined, FoundStands}
 use Rattle.dw_section.proofs.StandLaws.{own_of, named_of, fde_never, cie_never, stands_joined, fde_is, cie_is, if_some}
 use Rattle.dw_section.proofs.StandFaults.{no_cie, own_stuck, named_stuck, stands_wide}
 use Rattle.dw_section.proofs.FaultPlaces.{stand_ends}

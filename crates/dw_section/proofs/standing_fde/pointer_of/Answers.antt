@@ -1,8 +1,5 @@
 use Rattle.std.proofs.Common.{sym, ◌++◌, append_assoc, ◌∙◌, ap, List, ℕ, ◌≡◌}
-use Rattle.dw_section.specs.Cut.{id_width}
-use Rattle.dw_section.specs.Headers.{FdeHead}
-use Rattle.dw_section.specs.declared.fields.FdeFields.{FdeFields}
-use Rattle.dw_section.specs.Inner.Pieces.{piece_in}
+use Rattle.dw_section.proofs.Words.{id_width, FdeHead, FdeFields, piece_in}
 use Rattle.dw_section.proofs.StandFaults.{fixed_there, is_named}
 use Rattle.dw_section.proofs.StandLaws.{fde_from}
 use Rattle.dw_section.proofs.standing_fde.pointer_of.Goals as goal

@@ -1,9 +1,6 @@
 use Rattle.std.proofs.Common.{refl, sym, subst, ◌∙◌, arith}
 use Rattle.std.proofs.lemmas.Result.{err_from_is_err_and}
-use Rattle.dw_section.specs.Inner.Index.{found_cie, found_head}
-use Rattle.dw_section.specs.Inner.Lookup.{rows_of}
-use Rattle.dw_section.specs.Meaning.{RulesAt}
-use Rattle.dw_section.specs.Inner.StandingFde.{StandsAt}
+use Rattle.dw_section.proofs.Words.{found_cie, found_head, rows_of, RulesAt, StandsAt}
 use Rattle.dw_section.proofs.Lent.FdeLookup.{same_fde}
 use Rattle.dw_section.proofs.RowLookup.{runs_so}
 use Rattle.dw_section.proofs.StandLaws.{listed_stands, stands_in_space, stands_listed, stands_once}

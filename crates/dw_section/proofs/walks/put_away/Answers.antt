@@ -7,8 +7,7 @@ use Rattle.std.proofs.lemmas.Map.Lookups.{exact_unsigned}
 use Rattle.std.proofs.lemmas.Map.Views.{tells_apart}
 use Rattle.dw_cfa.specs.RowWalk.{Walking}
 use Rattle.dw_section.specs.Inner.Changes.{AreLed}
-use Rattle.dw_section.specs.Inner.Lookup.{LedBy}
-use Rattle.dw_section.specs.Table.{Section}
+use Rattle.dw_section.proofs.Words.{LedBy, Section}
 use Rattle.dw_section.proofs.walks.put_away.Goals as goal
 
 -- of a walk that is put at its CIE's place and of all others, and of all where none was put there

@@ -1,7 +1,5 @@
 use Rattle.std.proofs.Common.{◌∙◌, refl, sym, subst, arith}
-use Rattle.dw_section.specs.Inner.Index.{led_to}
-use Rattle.dw_section.specs.Inner.Lookup.{LedBy}
-use Rattle.dw_section.specs.Table.{Section}
+use Rattle.dw_section.proofs.Words.{led_to, LedBy, Section}
 use Rattle.dw_section.proofs.Lent.FdeLookup.{same_fde}
 use Rattle.dw_section.proofs.table.Table.found.Goals as goal
 

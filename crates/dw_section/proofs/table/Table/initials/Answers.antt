@@ -1,6 +1,5 @@
 use Rattle.std.proofs.Common.{List, sym, subst}
-use Rattle.dw_section.specs.Headers.{Head}
-use Rattle.dw_section.specs.Inner.Initials.{AreInitials}
+use Rattle.dw_section.proofs.Words.{Head, AreInitials}
 use Rattle.dw_section.proofs.Lent.HeaderLaws.{one_headers}
 use Rattle.dw_section.proofs.table.Table.initials.Goals as goal
 

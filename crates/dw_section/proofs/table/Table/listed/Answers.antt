@@ -1,7 +1,6 @@
 use Rattle.std.proofs.Common.{List, get_or, ap, subst, ◌∙◌, arith}
 use Rattle.std.proofs.lemmas.List.{get_or_default}
-use Rattle.dw_section.specs.Headers.{Head}
-use Rattle.dw_section.specs.Ranges.{IsRanged}
+use Rattle.dw_section.proofs.Words.{Head, IsRanged}
 use Rattle.dw_section.proofs.Lent.FdeLookup.{none, listed_are, listed_place, listed_fde, ranged_of}
 use Rattle.dw_section.proofs.Lent.HeaderLaws.{one_headers}
 use Rattle.dw_section.proofs.RowLookup.{table_some}
