@@ -1,7 +1,5 @@
 -- The rows that programs start.
-use Rattle.std.proofs.Common.{◌≡◌, ℕ, suc, ◌+◌, ◌≤◌, cond, List, [], ◌∷◌, ◌++◌, length, refl, sym, ap, ◌∙◌, arith}
-use Rattle.std.specs.Prelude.{count_by}
-use Rattle.std.proofs.lemmas.List.{length-append}
+use Rattle.std.proofs.Common.{◌≡◌, ℕ, suc, ◌+◌, ◌≤◌, cond, List, [], ◌∷◌, ◌++◌, length, refl, sym, ap, ◌∙◌, arith, count_by, length-append}
 use Rattle.std.proofs.lemmas.List.Sums.{sum_by-cons}
 use Rattle.dw_section.proofs.Words.{Order, Target, Factors, Instr, Program, answers, moves_location, row_starts, moves_in, Item, gap, entry, Piece, pieces, item_bytes, all_bytes, Head, cie, fde, Has}
 use Rattle.dw_section.proofs.Words.{Headers, total, nonempty, Range, range_of, Pieces, cie_places}

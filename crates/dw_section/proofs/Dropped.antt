@@ -1,6 +1,5 @@
 -- The registers that a change drops from a row that was narrowed by the row before it.
-use Rattle.std.proofs.Common.{◌≡◌, ℕ, suc, ◌<◌, Bool, true, false, List, [], ◌∷◌, Option, Some, None, Ok, refl, sym, ap, ◌∙◌, subst, arith, inl, inr}
-use Rattle.std.specs.List.{filter}
+use Rattle.std.proofs.Common.{◌≡◌, ℕ, suc, ◌<◌, Bool, true, false, List, [], ◌∷◌, Option, Some, None, Ok, refl, sym, ap, ◌∙◌, subst, arith, inl, inr, filter}
 use Rattle.std.proofs.lemmas.Bool.{cases_Bool, cases_lt}
 use Rattle.dw_section.proofs.Words.{RegRule, kept, Rules, rule, is_specified, kept_by, last_shown, ChangesKeep, Section}
 use Rattle.dw_cfa.specs.Difference.{DiffersFirst}

@@ -1,6 +1,5 @@
 -- Fields are read as they are spelled, spelled as they are read, and refused with their first fault.
-use Rattle.std.proofs.Common.{◌≡◌, ℕ, zero, ◌+◌, ◌==◌, true, false, List, [], ◌∷◌, ◌++◌, length, drop, get_or, Option, Some, None, Ok, Err, refl, sym, ap, subst, ◌∙◌, append_assoc, arith, inl, inr}
-use Rattle.std.specs.Prelude.{position}
+use Rattle.std.proofs.Common.{◌≡◌, ℕ, zero, ◌+◌, ◌==◌, true, false, List, [], ◌∷◌, ◌++◌, length, drop, get_or, Option, Some, None, Ok, Err, refl, sym, ap, subst, ◌∙◌, append_assoc, arith, inl, inr, position, lt-ltb}
 use Rattle.std.proofs.lemmas.Bool.Decides.{eqb_tells}
 use Rattle.std.proofs.lemmas.List.{length-append, length-drop}
 use Rattle.std.proofs.lemmas.List.Quantifiers.{position-Some}
@@ -12,7 +11,6 @@ use Rattle.dw_num.proofs.Lent.FixedLaws.{front_byte, fixed_found, fixed_at_again
 use Rattle.dw_num.proofs.Lent.Stays.{Inside, Stays, inside_all, stays_in, stays-then, fixed_stays, uleb_stays, sleb_stays}
 use Rattle.dw_num.proofs.Lent.Steps.{Takes-then, Again, bind_ok}
 use Rattle.dw_section.specs.Fields.{Judged, Number, Value, Spells, number_at}
-use Rattle.std.proofs.lemmas.Bool.{lt-ltb}
 
 -- ---- numbers
 

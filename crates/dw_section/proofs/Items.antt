@@ -1,8 +1,7 @@
 -- An item at the front, and items in a row.
-use Rattle.std.proofs.Common.{eqb, false, inl, inr, ◌≡◌, ℕ, ◌+◌, add-zero, zero-add, ◌<◌, ◌≤◌, Result, Ok, Err, List, [], ◌∷◌, ◌++◌, length, map, Option, Some, None, refl, sym, ap, subst, ◌∙◌, append_assoc, arith}
+use Rattle.std.proofs.Common.{eqb, false, inl, inr, ◌≡◌, ℕ, ◌+◌, add-zero, zero-add, ◌<◌, ◌≤◌, Result, Ok, Err, List, [], ◌∷◌, ◌++◌, length, map, Option, Some, None, refl, sym, ap, subst, ◌∙◌, append_assoc, arith, le-ltb}
 use Rattle.std.specs.List.{AllByRecursion, cons_option}
 use Rattle.std.proofs.lemmas.List.{length-append, append-nil, map-append, take_at, drop_at}
-use Rattle.std.proofs.lemmas.Bool.{le-ltb}
 use Rattle.std.proofs.lemmas.Bool.Decides.{eqb_tells}
 use Rattle.dw_num.proofs.Lent.FixedLaws.{length-fixed, unit_length_only}
 use Rattle.dw_section.proofs.Words.{length_bytes, Form, Target, Refusal, Pieces, Kind, CutFault, Order, Dwarf32, Dwarf64, Input, Takes, Item, gap, entry, IsItem, item_bytes, is_cie, id_width}

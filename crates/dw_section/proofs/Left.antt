@@ -1,7 +1,6 @@
 -- A walk over a section that has a cut gives its pieces, and one over a section that has headers gives these.
-use Rattle.std.proofs.Common.{◌≡◌, ℕ, ◌+◌, ◌<◌, ◌≤◌, List, [], ◌∷◌, length, Err, refl, sym, ap, subst, ◌∙◌, arith}
+use Rattle.std.proofs.Common.{◌≡◌, ℕ, ◌+◌, ◌<◌, ◌≤◌, List, [], ◌∷◌, length, Err, refl, sym, ap, subst, ◌∙◌, arith, length-append}
 use Rattle.std.specs.List.{AllZip, cons_option}
-use Rattle.std.proofs.lemmas.List.{length-append}
 use Rattle.dw_section.proofs.Words.{Form, Order, Target, Refusal, length_bytes, Input, Takes, Kind, Item, gap, entry, IsItem, item_bytes, is_cie, Piece, piece_of, pieces, item_at, Pieces, cie_places}
 use Rattle.dw_section.proofs.Words.{Head, Has, PiecesLeft, HeadsLeft, AreHeaders}
 use Rattle.dw_section.specs.Inner.Left.{Stays}

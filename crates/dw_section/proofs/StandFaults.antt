@@ -1,7 +1,5 @@
 -- What is refused where an entry stands is its first fault.
-use Rattle.std.proofs.Common.{◌≡◌, ℕ, ◌+◌, ◌≤◌, List, [], ◌∷◌, length, drop, take, Some, Err, refl, sym, ap, subst, ◌∙◌, inl, inr, None}
-use Rattle.std.proofs.lemmas.Bool.{le-ltb}
-use Rattle.std.proofs.lemmas.List.{take-append-drop, take_at}
+use Rattle.std.proofs.Common.{◌≡◌, ℕ, ◌+◌, ◌≤◌, List, [], ◌∷◌, length, drop, take, Some, Err, refl, sym, ap, subst, ◌∙◌, inl, inr, None, le-ltb, take-append-drop, take_at}
 use Rattle.dw_section.proofs.Words.{NoSuchCie, Refusal, ReadError, Refuses, Outcome, Order, Target, Input, Takes, input_of, Item, IsItem, gap, entry, Piece, id_width, piece_of, Head, Has, FdeStuck}
 use Rattle.dw_section.proofs.Words.{cie_at, fde_at, StandsIn}
 use Rattle.dw_num.specs.declared.error.ReadError.TheVariants as reading

@@ -1,8 +1,6 @@
 -- What stands in bytes lies in them, and so does what is wrong there.
-use Rattle.std.proofs.Common.{◌≡◌, ℕ, ◌≤◌, List, length, drop, Some, Result, Err, subst, arith}
-use Rattle.std.specs.Prelude.{IfErr}
-use Rattle.std.proofs.lemmas.List.{length-drop}
-use Rattle.dw_section.proofs.Words.{Target, Refusal, ReadError, Read, Input, AreBytes, Refuses, span_of, input_of, address_limit, FoundFde, Item, entry, Piece, IsWithin, item_at, cie_fields}
+use Rattle.std.proofs.Common.{◌≡◌, ℕ, ◌≤◌, List, length, drop, Some, Result, Err, subst, arith, IfErr, length-drop}
+use Rattle.dw_section.proofs.Words.{Target, Refusal, ReadError, Read, Input, AreBytes, Refuses, span_of, input_of, address_limit, FoundFde, Item, Piece, IsWithin, item_at, cie_fields}
 use Rattle.dw_section.proofs.Words.{fde_fields, StandsIn, rows_of, cie_at, fde_at}
 use Rattle.dw_num.specs.declared.error.ReadError.TheVariants.{Refused}
 use Rattle.dw_num.proofs.Lent.Stays.{Stays}

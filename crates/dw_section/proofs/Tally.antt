@@ -1,6 +1,5 @@
 -- Entries are counted as a section is walked.
-use Rattle.std.proofs.Common.{◌≡◌, ℕ, ◌+◌, ◌≤◌, List, [], ◌∷◌, ◌++◌, length, refl, ap, arith}
-use Rattle.std.proofs.lemmas.List.{length-append, append-nil}
+use Rattle.std.proofs.Common.{◌≡◌, ℕ, ◌+◌, ◌≤◌, List, [], ◌∷◌, ◌++◌, length, refl, ap, arith, length-append, append-nil}
 use Rattle.std.proofs.lemmas.List.Elements.{filter_map-append}
 use Rattle.dw_section.proofs.Words.{Form, Target, length_bytes, Input, Takes, Kind, Cie, AreCounts, gap, entry, IsItem, item_bytes, is_cie, Piece, cie_places}
 use Rattle.dw_section.specs.declared.entry.EntryCounts.{EntryCounts}

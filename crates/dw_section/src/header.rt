@@ -126,6 +126,7 @@ pub(crate) fn fde_header<'a>(
 }
 
 // The header of an entry whose fields hold if it is a CIE.
+#[tactic(auto, using(crate::proofs::Lent::HeaderLaws::cie_never, crate::proofs::Lent::HeaderLaws::fde_stuck))]
 #[inline(always)]
 fn header_of<'a>(piece: &Placed<'a>, places: &[u64], target: Target) -> Result<Header<'a>, Refusal>
     requires holds { CieHolds target (piece_in piece.now) }
@@ -326,6 +327,7 @@ pub fn one_first_fault()
 {}
 
 /// The nonempty FDEs of a section have one order.
+#[tactic(auto, using(crate::proofs::Lent::Index::one_index))]
 pub fn one_order()
     ensures { (hs : List Head) (index other : List Range) → IsIndex hs index → IsIndex hs other → index ≡ other }
 {}

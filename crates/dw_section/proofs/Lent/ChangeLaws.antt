@@ -1,6 +1,5 @@
 -- What changes among the rows of an FDE are the changes of the FDE.
-use Rattle.std.proofs.Common.{◌≡◌, ℕ, zero, suc, ◌<◌, ◌≤◌, false, List, [], ◌∷◌, Option, Some, None, refl, sym, ap, subst, ◌∙◌, arith, inl, inr}
-use Rattle.std.specs.Prelude.{nat_le}
+use Rattle.std.proofs.Common.{◌≡◌, ℕ, zero, suc, ◌<◌, ◌≤◌, false, List, [], ◌∷◌, Option, Some, None, refl, sym, ap, subst, ◌∙◌, arith, inl, inr, nat_le}
 use Rattle.std.proofs.lemmas.Bool.{cases_lt, le-leb}
 use Rattle.std.proofs.lemmas.Bool.Decides.{leb_tells}
 use Rattle.dw_section.proofs.Words.{Instr, CfaRule, RegRule, RulesBehind, cfa_after, rule_after, LocatedRow, Counts, HoldsAfter, Rules, last_at, NeverFalls, Differs, StayFrom, HoldsAt, ChangesBehind}

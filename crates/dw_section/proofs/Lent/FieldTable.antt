@@ -1,7 +1,6 @@
 -- The code reads the fields of the table; and what the table says of their numbers.
-use Rattle.std.proofs.Common.{◌≡◌, ℕ, zero, ◌+◌, ◌<◌, ◌≤◌, ◌==◌, ◌^◌, Bool, true, false, List, length, Option, Some, None, Ok, Err, refl, sym, ap, subst, ◌∙◌, arith, inl, inr, Result}
+use Rattle.std.proofs.Common.{◌≡◌, ℕ, zero, ◌+◌, ◌<◌, ◌≤◌, ◌==◌, ◌^◌, Bool, true, false, List, length, Option, Some, None, Ok, Err, refl, sym, ap, subst, ◌∙◌, arith, inl, inr, Result, w64}
 use Rattle.std.specs.Prelude.{◌||◌, ℤ, FitsSigned, position, nat_le, cond, nat_lt}
-use Rattle.std.specs.Int.{w64}
 use Rattle.std.proofs.lemmas.Bool.{cases_lt, lt-ltb, le-ltb, leb-true, ltb-true, cond_both}
 use Rattle.std.proofs.lemmas.Bool.Decides.{eqb_tells}
 use Rattle.dw_section.proofs.Words.{Code, NoSuchCie, Form, Dwarf32, Dwarf64, Size, Target, IsWidth, Input, behind, Read, fault, ◌>>=◌, address_limit, byte_count, CieFields, FdeFields, id_width}
@@ -79,10 +78,6 @@ string_step i F G same = string_of (position (λ b. b == 0) i.bytes) i F G same
 abbrev behind_id : Size → Fields CieFields
 behind_id size = field (fixed 1) (λ v. unless (v == 1 || (v == 3 || v == 4)) BadVersion) (λ version. empty_string (sizes size version (factors version)))
 
-factors_one : (i : Input) → fields_at (factors 1) i ≡ factors_at One i
-unfolding factors_at return_register_at
-factors_one i = refl
-
 register_step : (make : ℕ → CieFields) (i : Input)
     → fields_at (field unsigned (λ r. unless (nat_lt r 65536) RegisterTooLarge) (λ r. end (make r))) i ≡ register_at i >>= (λ r. Ok (make r.0, r.1))
 unfolding register_at
@@ -100,14 +95,6 @@ factors_step n v same i =
     let make : ℕ → ℤ → ℕ → CieFields = λ code factor r. record { code_factor = code; data_factor = factor; return_register = r } in
     read_step (uleb_at i) (behind_field any i.at (λ code. fields_at (field signed any (λ factor. return_register n (λ r. end (make code factor r)))))) (after_code v)
     (λ c. read_step (sleb_at c.1) (behind_field any c.1.at (λ factor. fields_at (return_register n (λ r. end (make c.0 factor r))))) (after_data v c) (λ d. same (make c.0 d.0) d.1))
-
-factors_three : (i : Input) → fields_at (factors 3) i ≡ factors_at Three i
-unfolding return_register_at
-factors_three i = factors_step 3 Three register_step i
-
-factors_four : (i : Input) → fields_at (factors 4) i ≡ factors_at Four i
-unfolding return_register_at
-factors_four i = factors_step 4 Four register_step i
 
 module _ {A : Type 0} (F : ℕ → Input → Read A) (G : Version × Input → Read A) where
   abbrev Known : ℕ → Input → ℕ → Type 0
@@ -133,14 +120,14 @@ module _ {A : Type 0} (F : ℕ → Input → Read A) (G : Version × Input → R
       ∙ sym (then_then (fixed_at 1 i) (version_in i.at) G)
 
 behind_same : (i : Input) → fields_at (behind_id i.target.size) i ≡ cie_fields_at i
-unfolding cie_fields_at sizes_at
+unfolding cie_fields_at sizes_at factors_at return_register_at
 behind_same i =
     let j = behind 1 i in
     let k = behind 1 j in
     version_step (λ n. fields_at (empty_string (sizes i.target.size n (factors n)))) after_version i
-    (string_step j (fields_at (sizes i.target.size 1 (factors 1))) (after_string One) (factors_one k))
-    (string_step j (fields_at (sizes i.target.size 3 (factors 3))) (after_string Three) (factors_three k))
-    (string_step j (fields_at (sizes i.target.size 4 (factors 4))) (after_string Four) (sizes_step k (factors 4) (after_sizes Four) (factors_four (behind 1 (behind 1 k)))))
+    (string_step j (fields_at (sizes i.target.size 1 (factors 1))) (after_string One) refl)
+    (string_step j (fields_at (sizes i.target.size 3 (factors 3))) (after_string Three) (factors_step 3 Three register_step k))
+    (string_step j (fields_at (sizes i.target.size 4 (factors 4))) (after_string Four) (sizes_step k (factors 4) (after_sizes Four) (factors_step 4 Four register_step (behind 1 (behind 1 k)))))
 
 pub cie_same : (form : Form) (i : Input) → fields_at (cie_fields i.target.size form) i ≡ take_at (id_width form) i >>= (λ b. cie_fields_at b.1)
 cie_same form i = id_step (id_width form) i (fields_at (behind_id i.target.size)) cie_fields_at (behind_same (behind (id_width form) i))

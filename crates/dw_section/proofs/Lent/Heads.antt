@@ -1,8 +1,7 @@
 -- What holds of a section's headers.
 pub use Rattle.dw_section.proofs.Lent.Index.{all_in}
-use Rattle.std.proofs.Common.{◌≡◌, ℕ, suc, ◌+◌, ◌<◌, ◌≤◌, ◌^◌, List, [], ◌∷◌, ◌++◌, length, refl, sym, ap, subst, ◌∙◌, arith, inl, inr}
+use Rattle.std.proofs.Common.{◌≡◌, ℕ, suc, ◌+◌, ◌<◌, ◌≤◌, ◌^◌, List, [], ◌∷◌, ◌++◌, length, refl, sym, ap, subst, ◌∙◌, arith, inl, inr, get_or-append-add}
 use Rattle.std.specs.List.{AllByRecursion, AllZip, cons_option}
-use Rattle.std.proofs.lemmas.List.{get_or-append-add}
 use Rattle.dw_section.proofs.Words.{Order, Target, Size, AreBytes, length_bytes, address_limit, byte_count, Instr, Program, Item, gap, entry, Piece, pieces, item_bytes, all_bytes, place_if}
 use Rattle.dw_section.proofs.Words.{cie_places, Rises, Head, cie, fde, Has, Headers, CieHead, FdeHead, head_at, cie_at_of, cie_ats, HeadsRise, FdeFits, HasBytes, Begins, factors_of, IsAmong}
 use Rattle.dw_num.specs.declared.target.Size.TheVariants.{Four, Eight}

@@ -1,6 +1,5 @@
 -- Rules of a row that fits.
-use Rattle.std.proofs.Common.{ℕ, List, [], ◌∷◌}
-use Rattle.std.specs.Prelude.{◌<◌, nat_eq}
+use Rattle.std.proofs.Common.{ℕ, List, [], ◌∷◌, ◌<◌, nat_eq}
 use Rattle.std.specs.List.{AllByRecursion}
 use Rattle.dw_section.proofs.Words.{Target, RegRule, Rules, rule_in, rule, RuleFits, RowFits}
 use Rattle.std.proofs.lemmas.Bool.{cond_both}

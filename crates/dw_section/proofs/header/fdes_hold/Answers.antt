@@ -13,11 +13,8 @@ pieces-init c = rw c.new-cursor.ensures (
   λ ps p hold. between_start ps (left_all c.args.target c.args.bytes.now ps p) ([], tt),
 )
 
-pub next_piece-requires-clause-room : goal.next_piece-requires-clause-room
-next_piece-requires-clause-room c = omega (arith, c.pieces.invariant.0.end, c.requires.cies.1.small)
-
-pub next_piece-requires-clause-cut : goal.next_piece-requires-clause-cut
-next_piece-requires-clause-cut c = let w = c.pieces.invariant.1 c.requires.cies.0 c.requires.cies.1 c.requires.cies.2 in (w.rest, w.left)
+pub next_piece-requires : goal.next_piece-requires
+next_piece-requires c = omega (arith, c.pieces.invariant.0.end, c.requires.cies.1.small)
 
 pub pieces-preserved : goal.pieces-preserved
 pieces-preserved c = (

@@ -13,11 +13,8 @@ pieces-init c = rw (c.new-cursor.ensures, c.in_ok-places.ensures.items) (
   λ ps p. between_start ps (left_all c.args.target c.args.bytes.now ps p) (record { hold = tt; are = refl }),
 )
 
-pub next_piece-requires-clause-room : goal.next_piece-requires-clause-room
-next_piece-requires-clause-room c = omega (arith, c.pieces.invariant.0.end, c.requires.pieces.1.small)
-
-pub next_piece-requires-clause-cut : goal.next_piece-requires-clause-cut
-next_piece-requires-clause-cut c = let w = c.pieces.invariant.1 c.requires.pieces.0 c.requires.pieces.1 in (w.rest, w.left)
+pub next_piece-requires : goal.next_piece-requires
+next_piece-requires c = omega (arith, c.pieces.invariant.0.end, c.requires.pieces.1.small)
 
 pub pieces-preserved : goal.pieces-preserved
 pieces-preserved c = (

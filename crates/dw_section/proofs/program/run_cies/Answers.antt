@@ -14,11 +14,8 @@ pieces-init c = rw (c.new-cursor.ensures, c.in_ok-initials.ensures.items) (
   λ hs p. between_start hs (heads_all c.args.target c.args.bytes.now c.args.places.now hs p) (record { run = tt; places = refl; each = tt }),
 )
 
-pub next_piece-requires-clause-room : goal.next_piece-requires-clause-room
-next_piece-requires-clause-room c = omega (arith, c.pieces.invariant.0.end, c.requires.headers.1.are.cut.small)
-
-pub next_piece-requires-clause-cut : goal.next_piece-requires-clause-cut
-next_piece-requires-clause-cut c = let w = c.pieces.invariant.1 c.requires.headers.0 c.requires.headers.1 in (w.left.parts, w.left.left)
+pub next_piece-requires : goal.next_piece-requires
+next_piece-requires c = omega (arith, c.pieces.invariant.0.end, c.requires.headers.1.are.cut.small)
 
 pub pieces-preserved : goal.pieces-preserved
 pieces-preserved c = (

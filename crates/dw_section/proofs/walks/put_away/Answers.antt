@@ -1,7 +1,5 @@
-use Rattle.std.proofs.Common.{ℕ, subst, inl, inr}
-use Rattle.std.specs.Prelude.{Some, Result, Ok, Err, OnOk, OnErr}
+use Rattle.std.proofs.Common.{ℕ, subst, inl, inr, Some, Result, Ok, Err, OnOk, OnErr, nat_cmp}
 use Rattle.std.specs.BTreeMap.{BTreeMap, is_at, IsUnchanged, Updates}
-use Rattle.std.specs.Ordering.{nat_cmp}
 use Rattle.std.proofs.lemmas.Bool.{cases_Bool}
 use Rattle.std.proofs.lemmas.Map.Lookups.{exact_unsigned}
 use Rattle.std.proofs.lemmas.Map.Views.{tells_apart}
