@@ -2,17 +2,9 @@
 use Rattle.std.proofs.Common.{◌≡◌, ◌⊎◌, ℕ, List, [], ◌∷◌, ◌++◌, length, refl, sym, ap, ◌∙◌, subst, append_assoc, inl, inr, arith}
 use Rattle.std.proofs.lemmas.List.{append-nil, length-append, length-map}
 use Rattle.std.proofs.lemmas.List.Elements.{filter_map-append}
-use Rattle.dw_num.specs.declared.target.Target.{Target}
-use Rattle.dw_section.specs.declared.entry.Kind.{Kind}
+use Rattle.dw_section.proofs.Words.{Target, Kind, Initial, Piece, Head, cie_ats, place_of, AreInitials, AreHeaders, cie_places}
 use Rattle.dw_section.specs.declared.entry.Kind.TheVariants as kind
-use Rattle.dw_section.specs.declared.program.Initial.{Initial}
-use Rattle.dw_section.specs.Cut.{Piece}
 use Rattle.dw_section.specs.Headers as head
-use Rattle.dw_section.specs.Headers.{Head}
-use Rattle.dw_section.specs.Inner.Heads.{cie_ats}
-use Rattle.dw_section.specs.Inner.Initials.{place_of, AreInitials}
-use Rattle.dw_section.specs.Inner.Left.{AreHeaders}
-use Rattle.dw_section.specs.Places.{cie_places}
 use Rattle.dw_section.proofs.Lent.HeaderLaws.{AreCies, fdes_more}
 use Rattle.dw_section.proofs.Lent.Heads.{same_places}
 use Rattle.dw_section.proofs.Lent.Judged.{initials_fde}

@@ -1,11 +1,7 @@
 -- A walk between the items that it has seen and those that are left.
-use Rattle.std.proofs.Common.{◌≡◌, List, [], ◌∷◌, ◌++◌, refl, sym, ap, subst, ◌∙◌, append_assoc}
+use Rattle.std.proofs.Common.{◌≡◌, List, [], ◌∷◌, ◌++◌, refl, sym, ap, subst, ◌∙◌, append_assoc, append-nil}
 use Rattle.std.specs.List.{AllByRecursion}
-use Rattle.std.proofs.lemmas.List.{append-nil}
-use Rattle.dw_num.specs.declared.refusal.Refusal.{Refusal}
-use Rattle.dw_section.specs.Stage.{FirstStuck}
-use Rattle.dw_section.specs.Headers.{Head}
-use Rattle.dw_section.specs.Among.{IsAmong}
+use Rattle.dw_section.proofs.Words.{Refusal, FirstStuck, Head, IsAmong}
 use Rattle.dw_section.proofs.Lent.Heads.{is_among_head}
 use Rattle.dw_section.proofs.Stages.{holds_at}
 
@@ -16,11 +12,11 @@ pub record Between {X : Type 0} (Left Front : List X → Type 0) (xs : List X) :
   pub left : Left rest
   pub so : Front front
 
-pub between_start : {X : Type 0} (Left Front : List X → Type 0) (xs : List X) → Left xs → Front [] → Between Left Front xs
-between_start Left Front xs left so = record { front = []; rest = xs; whole = refl; left = left; so = so }
+pub between_start : {X : Type 0} {Left Front : List X → Type 0} (xs : List X) → Left xs → Front [] → Between Left Front xs
+between_start xs left so = record { front = []; rest = xs; whole = refl; left = left; so = so }
 
-pub between_next : {X : Type 0} (Left Next Front Then : List X → Type 0) (xs : List X) (w : Between Left Front xs) (x : X) (more : List X) → w.rest ≡ x ∷ more → Next more → Then (w.front ++ x ∷ []) → Between Next Then xs
-between_next Left Next Front Then xs w x more e next so = record {
+pub between_next : {X : Type 0} {Left Next Front Then : List X → Type 0} (xs : List X) (w : Between Left Front xs) (x : X) (more : List X) → w.rest ≡ x ∷ more → Next more → Then (w.front ++ x ∷ []) → Between Next Then xs
+between_next xs w x more e next so = record {
   front = w.front ++ x ∷ [];
   rest = more;
   whole = w.whole ∙ ap (λ ys. w.front ++ ys) e ∙ sym (append_assoc w.front (x ∷ []) more);
@@ -28,17 +24,17 @@ between_next Left Next Front Then xs w x more e next so = record {
   so = so;
 }
 
-pub between_end : {X : Type 0} (Left Front : List X → Type 0) (xs : List X) (w : Between Left Front xs) → w.rest ≡ [] → Front xs
-between_end Left Front xs w e = subst Front (sym (w.whole ∙ ap (λ ys. w.front ++ ys) e ∙ append-nil w.front)) w.so
+pub between_end : {X : Type 0} {Left Front : List X → Type 0} (xs : List X) (w : Between Left Front xs) → w.rest ≡ [] → Front xs
+between_end {Front} xs w e = subst Front (sym (w.whole ∙ ap (λ ys. w.front ++ ys) e ∙ append-nil w.front)) w.so
 
-pub between_stuck : {X : Type 0} (Left Front : List X → Type 0) (Holds : X → Type 0) (Stuck : X → Refusal → Type 0) (xs : List X) (w : Between Left Front xs) (x : X) (more : List X) (r : Refusal) → w.rest ≡ x ∷ more
+pub between_stuck : {X : Type 0} {Left Front : List X → Type 0} (Holds : X → Type 0) (Stuck : X → Refusal → Type 0) (xs : List X) (w : Between Left Front xs) (x : X) (more : List X) (r : Refusal) → w.rest ≡ x ∷ more
     → AllByRecursion Holds w.front → Stuck x r → FirstStuck Holds Stuck xs r
-between_stuck Left Front Holds Stuck xs w x more r e hold stuck = record { before = w.front; it = x; after = more; whole = w.whole ∙ ap (λ ys. w.front ++ ys) e; hold = hold; stuck = stuck }
+between_stuck Holds Stuck xs w x more r e hold stuck = record { before = w.front; it = x; after = more; whole = w.whole ∙ ap (λ ys. w.front ++ ys) e; hold = hold; stuck = stuck }
 
 -- what holds of all holds of the item that comes next
-pub between_now : {X : Type 0} (Left Front : List X → Type 0) (Holds : X → Type 0) (xs : List X) (w : Between Left Front xs) (x : X) (more : List X) → w.rest ≡ x ∷ more → AllByRecursion Holds xs → Holds x
-between_now Left Front Holds xs w x more e all = holds_at Holds w.front x more (subst (AllByRecursion Holds) (w.whole ∙ ap (λ ys. w.front ++ ys) e) all)
+pub between_now : {X : Type 0} {Left Front : List X → Type 0} (Holds : X → Type 0) (xs : List X) (w : Between Left Front xs) (x : X) (more : List X) → w.rest ≡ x ∷ more → AllByRecursion Holds xs → Holds x
+between_now Holds xs w x more e all = holds_at Holds w.front x more (subst (AllByRecursion Holds) (w.whole ∙ ap (λ ys. w.front ++ ys) e) all)
 
 -- the header that comes next is among them
-pub between_among : (Left Front : List Head → Type 0) (hs : List Head) (w : Between Left Front hs) (h : Head) (more : List Head) → w.rest ≡ h ∷ more → IsAmong h hs
-between_among Left Front hs w h more e = subst (IsAmong h) (sym (w.whole ∙ ap (λ ys. w.front ++ ys) e)) (is_among_head w.front h more)
+pub between_among : {Left Front : List Head → Type 0} (hs : List Head) (w : Between Left Front hs) (h : Head) (more : List Head) → w.rest ≡ h ∷ more → IsAmong h hs
+between_among hs w h more e = subst (IsAmong h) (sym (w.whole ∙ ap (λ ys. w.front ++ ys) e)) (is_among_head w.front h more)

@@ -1,23 +1,12 @@
 -- What excludes each other among programs and their faults, by the laws of dw_cfa.
 use Rattle.std.proofs.Common.{◌≡◌, ℕ, ◌≤◌, List, [], Option, Some, None, Result, Err, sym, ap, ◌∙◌}
-use Rattle.dw_num.specs.declared.refusal.Refusal.{Refusal}
-use Rattle.dw_num.specs.declared.target.Target.{Target}
-use Rattle.dw_num.specs.Input.{Input, AreBytes}
-use Rattle.dw_num.specs.Target.{address_limit}
-use Rattle.dw_cfa.specs.declared.instr.Factors.{Factors}
-use Rattle.dw_cfa.specs.declared.instr.Instr.{Instr}
-use Rattle.dw_cfa.specs.declared.rule.CfaRule.{CfaRule}
-use Rattle.dw_cfa.specs.InstrSpells.{Program}
-use Rattle.dw_cfa.specs.Kept.{CieKept, FdeKept}
-use Rattle.dw_cfa.specs.Faults.{CieFault, FdeFault}
-use Rattle.dw_cfa.specs.Rows.{Rules}
-use Rattle.dw_cfa.specs.Runs.{Outcome}
+use Rattle.dw_section.proofs.Words.{Refusal, Target, Input, AreBytes, address_limit, Factors, Instr, CfaRule, Program, CieKept, FdeKept, CieFault, FdeFault, Rules, Outcome}
 use Rattle.dw_cfa.specs.Inner.Runs.{rows_behind}
 use Rattle.dw_cfa.proofs.Lent.RunLaws.{program_placed}
 use Rattle.dw_cfa.proofs.Lent.FaultLaws.{initial_refused, leaves_initial, behind_refused}
 use Rattle.dw_cfa.proofs.Lent.BehindLaws.{gives_rows}
 
-err_one : {A : Type 0} (x : Result A Refusal) (r q : Refusal) → x ≡ Err r → x ≡ Err q → r ≡ q
+pub err_one : {A : Type 0} (x : Result A Refusal) (r q : Refusal) → x ≡ Err r → x ≡ Err q → r ≡ q
 err_one x r q v w = let e = sym v ∙ w in cc
 
 some_one : (x : Option Refusal) (r q : Refusal) → x ≡ Some r → x ≡ Some q → r ≡ q

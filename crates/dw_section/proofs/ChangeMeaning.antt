@@ -1,31 +1,20 @@
 -- What changes tell of the rules at an address: they are those of one change, so they are in range, and sections with the same changes
 -- say the same.
-use Rattle.std.proofs.Common.{◌≡◌, ℕ, Bool, true, false, List, [], ◌∷◌, sym, subst}
-use Rattle.std.specs.Prelude.{nat_lt, if◌then◌else◌}
+use Rattle.std.proofs.Common.{◌≡◌, ℕ, List, [], ◌∷◌, sym, subst, nat_lt}
 use Rattle.std.specs.List.{AllByRecursion}
-use Rattle.dw_num.specs.declared.target.Target.{Target}
-use Rattle.dw_num.specs.Input.{AreBytes}
-use Rattle.dw_cfa.specs.Rows.{Rules}
-use Rattle.dw_cfa.proofs.Lent.InstrCounts.{counts_exists}
+use Rattle.dw_section.proofs.Words.{Target, AreBytes, Rules, Accepted, IsAmong, RowFits, row_among, ChangeFits, AreFdes, ChangesOf, Covers, RulesAt}
 use Rattle.dw_section.specs.declared.lookup.Fde.{Fde}
-use Rattle.dw_section.specs.Accepted.{Accepted}
-use Rattle.dw_section.specs.Among.{IsAmong}
-use Rattle.dw_section.specs.Fits.{RowFits}
-use Rattle.dw_section.specs.Inner.Meanings.{row_among}
-use Rattle.dw_section.specs.Inner.Sound.{ChangeFits}
 use Rattle.dw_section.specs.Laws.{ChangesMean, RulesFit}
-use Rattle.dw_section.specs.Meaning.{AreFdes, ChangesOf, Covers, RulesAt}
 use Rattle.dw_section.proofs.Lent.Exists.{listed_change}
 use Rattle.dw_section.proofs.Lent.Rowed.{changed_row}
-use Rattle.dw_section.proofs.Lent.Sections.{fdes_exist, one_rules, rules_covered}
+use Rattle.dw_section.proofs.Lent.Sections.{fdes_exist, one_rules, rules_covered, programs_rules, rules_exist}
 use Rattle.dw_section.proofs.Lent.Sounds.{sound_section}
+use Rattle.std.proofs.lemmas.Bool.{cond_both}
 
 -- the row of an address among an FDE's changes has the rules there
 rules_from : (target : Target) (s : List ℕ) (f : Fde) (first : ℕ × Rules) (later : List (ℕ × Rules)) → ChangesOf target s f (first ∷ later) → (a : ℕ) → Covers a f → RulesAt target s a (row_among a first.1 later)
 rules_from target s f first later h a covers =
-    let c = counts_exists f.begin h.instrs a covers.0 in
-    let holds = changed_row h.initial h.instrs f.begin f.end a first later covers.0 covers.1 h.change in
-    record { begin = f.begin; end = f.end; initial = h.initial; instrs = h.instrs; says = h.says; from = covers.0; below = covers.1; k = c.0; counts = c.1; holds = holds c.0 c.1 }
+    programs_rules target s a (row_among a first.1 later) f.begin f.end h.initial h.instrs h.says covers.0 covers.1 (changed_row h.initial h.instrs f.begin f.end a first later covers.0 covers.1 h.change)
 
 -- the rules at an address are those of an FDE's changes
 record OfChanges (target : Target) (s : List ℕ) (a : ℕ) (row : Rules) : Type 0 where
@@ -54,13 +43,9 @@ module _ (target : Target) (s : List ℕ) (b : AreBytes s) (ok : Accepted target
 
 -- ---- they are in range
 
-one_fits : (t : Target) (below : Bool) (x y : Rules) → RowFits t x → RowFits t y → RowFits t (if below then x else y)
-one_fits t true x y h k = h
-one_fits t false x y h k = k
-
 fits_among : (t : Target) (a end : ℕ) (row : Rules) (changes : List (ℕ × Rules)) → RowFits t row → AllByRecursion (ChangeFits t end) changes → RowFits t (row_among a row changes)
 fits_among t a end row [] h all = h
-fits_among t a end row (change ∷ changes) h all = one_fits t (nat_lt a change.0) row (row_among a change.1 changes) h (fits_among t a end change.1 changes all.0.1 all.1)
+fits_among t a end row (change ∷ changes) h all = cond_both (nat_lt a change.0) row (row_among a change.1 changes) (RowFits t) (λ e. h) (λ e. fits_among t a end change.1 changes all.0.1 all.1)
 
 pub rules_fit : RulesFit
 rules_fit target s a row b ok r =
@@ -74,21 +59,16 @@ pub changes_mean : ChangesMean
 changes_mean target s t bs bt oks okt fdes same = record {
   fdes = fdes;
   rules = λ a row. (
+    there a row,
     λ r.
-        let w = of_changes target s bs oks a row r in
-        let there = same w.fdes w.f (w.first ∷ w.later) w.are w.listed w.changes in
-        subst (RulesAt target t a) (sym w.is) (rules_from target t w.f w.first w.later there a w.covers),
-    λ r.
-        let w = of_changes target t bt okt a row r in
-        let are = (fdes w.fdes).1 w.are in
-        let c = listed_change target s bs oks w.fdes w.f are w.listed in
-        back a row r w.fdes w.f are w.listed w.covers c.0 c.1,
+        let fs = fdes_exist target t bt okt in
+        let c = rules_covered target t bt okt fs.0 a row fs.1 r in
+        let here = rules_exist target s bs oks fs.0 c.0 a ((fdes fs.0).1 fs.1) c.1 c.2 in
+        subst (RulesAt target s a) (one_rules target t bt okt a here.0 row (there a here.0 here.1) r) here.1,
   );
 }
   where
-    back : (a : ℕ) (row : Rules) → RulesAt target t a row → (fs : List Fde) (f : Fde) → AreFdes target s fs → IsAmong f fs → Covers a f → (changes : List (ℕ × Rules)) → ChangesOf target s f changes → RulesAt target s a row
-    back a row r fs f are listed covers [] h = absurd h.change
-    back a row r fs f are listed covers (first ∷ later) h =
-        let there = rules_from target t f first later (same fs f (first ∷ later) are listed h) a covers in
-        let is = one_rules target t bt okt a row (row_among a first.1 later) r there in
-        subst (RulesAt target s a) (sym is) (rules_from target s f first later h a covers)
+    there : (a : ℕ) (row : Rules) → RulesAt target s a row → RulesAt target t a row
+    there a row r =
+        let w = of_changes target s bs oks a row r in
+        subst (RulesAt target t a) (sym w.is) (rules_from target t w.f w.first w.later (same w.fdes w.f (w.first ∷ w.later) w.are w.listed w.changes) a w.covers)

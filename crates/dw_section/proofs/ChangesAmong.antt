@@ -1,17 +1,13 @@
 -- The list of the changes among rows, and how the code finds one after another.
-use Rattle.std.proofs.Common.{◌≡◌, ◌⊎◌, ℕ, Bool, false, List, [], ◌∷◌, Option, Some, None, Ok, refl, sym, ap, ◌∙◌, subst, inl, inr}
-use Rattle.std.specs.Prelude.{◌&&◌, not, nat_lt}
-use Rattle.std.specs.Bool.{Decides}
+use Rattle.std.proofs.Common.{◌≡◌, ◌⊎◌, ℕ, Bool, false, List, [], ◌∷◌, Option, Some, None, Ok, refl, sym, ap, ◌∙◌, subst, inl, inr, ◌&&◌, not, nat_lt, Decides}
 use Rattle.std.proofs.lemmas.Bool.{cases_Bool}
 use Rattle.std.proofs.lemmas.Bool.Decides.{Decides-and, Decides-ltb, Decides-not}
-use Rattle.dw_cfa.specs.declared.execution.LocatedRow.{LocatedRow}
+use Rattle.dw_section.proofs.Words.{LocatedRow, Rules, Outcome, Among, Before, Shows, changes_among, ChangesKeep}
 use Rattle.dw_cfa.specs.Inner.RowEquality.{rows_tell}
-use Rattle.dw_cfa.specs.Rows.{Rules}
 use Rattle.dw_cfa.specs.RowSteps.{Stepping, Advances}
 use Rattle.dw_cfa.specs.RowWalk.{AllKeep}
-use Rattle.dw_cfa.specs.Runs.{Outcome, row_then}
-use Rattle.dw_section.specs.Inner.Changes.{Among, Before, Shows, changes_among, is_before, repeats}
-use Rattle.dw_section.specs.Inner.NarrowRow.{ChangesKeep}
+use Rattle.dw_cfa.specs.Runs.{row_then}
+use Rattle.dw_section.specs.Inner.Changes.{is_before, repeats}
 
 before_tells : (end a : ℕ) (rows : List LocatedRow) → Decides (is_before end a rows) (Before end a rows)
 before_tells end a [] = Decides-ltb a end

@@ -1,11 +1,8 @@
 -- The CIE at a place of a section is one.
 use Rattle.std.proofs.Common.{◌≡◌, ℕ, List, ◌∙◌, refl, sym, ap, subst}
-use Rattle.dw_num.specs.declared.target.Target.{Target}
-use Rattle.dw_cfa.specs.RowWalk.{Led, unled}
-use Rattle.dw_section.specs.Headers.{Head, cie, fde}
+use Rattle.dw_section.proofs.Words.{Target, Led, Head, cie, fde, LedBy, Section}
+use Rattle.dw_cfa.specs.RowWalk.{unled}
 use Rattle.dw_section.specs.Inner.Index.{NamesCie}
-use Rattle.dw_section.specs.Inner.Lookup.{LedBy}
-use Rattle.dw_section.specs.Table.{Section}
 use Rattle.dw_section.proofs.Lent.HeaderLaws.{one_headers}
 use Rattle.dw_section.proofs.Lent.Heads.{heads_rise, one_among}
 

@@ -1,26 +1,13 @@
 -- The rows that programs start.
-use Rattle.std.proofs.Common.{◌≡◌, ℕ, suc, ◌+◌, ◌≤◌, cond, List, [], ◌∷◌, ◌++◌, length, refl, sym, ap, ◌∙◌, arith}
-use Rattle.std.specs.Prelude.{count_by}
-use Rattle.std.specs.List.{AllZip}
-use Rattle.std.proofs.lemmas.List.{length-append}
+use Rattle.std.proofs.Common.{◌≡◌, ℕ, suc, ◌+◌, ◌≤◌, cond, List, [], ◌∷◌, ◌++◌, length, refl, sym, ap, ◌∙◌, arith, count_by, length-append}
 use Rattle.std.proofs.lemmas.List.Sums.{sum_by-cons}
-use Rattle.dw_num.specs.declared.target.Order.{Order}
-use Rattle.dw_num.specs.declared.target.Target.{Target}
-use Rattle.dw_cfa.specs.declared.instr.Factors.{Factors}
-use Rattle.dw_cfa.specs.declared.instr.Instr.{Instr}
-use Rattle.dw_cfa.specs.InstrSpells.{Program}
-use Rattle.dw_cfa.specs.Listing.{Listing, answers, complete}
-use Rattle.dw_cfa.specs.Location.{moves_location, row_starts}
+use Rattle.dw_section.proofs.Words.{Order, Target, Factors, Instr, Program, answers, moves_location, row_starts, moves_in, Item, gap, entry, Piece, pieces, item_bytes, all_bytes, Head, cie, fde, Has}
+use Rattle.dw_section.proofs.Words.{Headers, total, nonempty, Range, range_of, Pieces, cie_places}
+use Rattle.dw_cfa.specs.Listing.{Listing, complete}
 use Rattle.dw_cfa.proofs.Lent.Listings.{some_spelled}
-use Rattle.dw_section.specs.Inner.Counted.{moves_in}
-use Rattle.dw_section.specs.Cut.{Item, gap, entry, Piece, pieces, item_bytes, all_bytes}
-use Rattle.dw_section.specs.Headers.{Head, cie, fde, Has, Headers}
-use Rattle.dw_section.specs.Meaning.{total}
-use Rattle.dw_section.specs.Overlap.{nonempty, Range, range_of}
-use Rattle.dw_section.specs.Pieces.{Pieces}
-use Rattle.dw_section.specs.Places.{cie_places}
 use Rattle.dw_section.proofs.Items.{item_some}
 use Rattle.dw_section.proofs.Lent.Index.{with_range_so}
+use Rattle.std.proofs.lemmas.Slice.Zip.{AllZip-long}
 
 -- ---- one program
 
@@ -64,11 +51,6 @@ pieces_few order at (entry form body ∷ items) =
     let some = item_some order item in
     omega arith
 
-same_length : (target : Target) (places : List ℕ) (ps : List Piece) (hs : List Head) → AllZip (Has target places) ps hs → length hs ≡ length ps
-same_length target places [] [] z = refl
-same_length target places (p ∷ ps) (h ∷ hs) z = ap suc (same_length target places ps hs z.1)
-same_length target places ps hs z = absurd z
-
 nonempty_few : (hs : List Head) → length (nonempty hs) ≤ length hs
 nonempty_few [] = omega arith
 nonempty_few (cie c ∷ hs) = let p = nonempty_few hs in omega arith
@@ -85,6 +67,6 @@ few_pieces target s ps p =
 pub few_ranges : (target : Target) (s : List ℕ) (hs : List Head) → Headers target s hs → length (nonempty hs) ≤ 2147483647
 few_ranges target s hs p =
     let a = nonempty_few hs in
-    let b = same_length target (cie_places p.entries) p.entries hs p.each in
+    let b = AllZip-long (Has target (cie_places p.entries)) p.entries hs p.each in
     let c = few_pieces target s p.entries p.cut in
     omega arith

@@ -1,16 +1,13 @@
 -- The registers that a change drops from a row that was narrowed by the row before it.
-use Rattle.std.proofs.Common.{◌≡◌, ℕ, suc, ◌<◌, Bool, true, false, List, [], ◌∷◌, Option, Some, None, Ok, refl, sym, ap, ◌∙◌, subst, arith, inl, inr}
-use Rattle.std.specs.List.{filter}
+use Rattle.std.proofs.Common.{◌≡◌, ℕ, suc, ◌<◌, Bool, true, false, List, [], ◌∷◌, Option, Some, None, Ok, refl, sym, ap, ◌∙◌, subst, arith, inl, inr, filter}
 use Rattle.std.proofs.lemmas.Bool.{cases_Bool, cases_lt}
-use Rattle.dw_cfa.specs.declared.rule.RegRule.{RegRule}
+use Rattle.dw_section.proofs.Words.{RegRule, kept, Rules, rule, is_specified, kept_by, last_shown, ChangesKeep, Section}
 use Rattle.dw_cfa.specs.Difference.{DiffersFirst}
-use Rattle.dw_cfa.specs.Agreement.{is_kept, kept}
-use Rattle.dw_cfa.specs.Rows.{Rules, rule, is_specified}
+use Rattle.dw_cfa.specs.Agreement.{is_kept}
 use Rattle.dw_cfa.proofs.Lent.Narrowed.{left_too}
 use Rattle.dw_cfa.proofs.Lent.RowLists.{Entry}
-use Rattle.dw_section.specs.Changes.{Changing, GivesAddress, before_then, behind_all, kept_by, last_shown}
-use Rattle.dw_section.specs.Inner.NarrowRow.{ChangesKeep, SpecifiesAll}
-use Rattle.dw_section.specs.Table.{Section}
+use Rattle.dw_section.specs.Changes.{Changing, GivesAddress, before_then, behind_all}
+use Rattle.dw_section.specs.Inner.NarrowRow.{SpecifiesAll}
 
 -- one register more is specified still
 pub specified_more : (before row : Rules) (from q r : ℕ) → DiffersFirst from before.registers row.registers q → ((n : ℕ) → n < from → is_specified (rule before n) ≡ true → is_specified (rule row n) ≡ true)

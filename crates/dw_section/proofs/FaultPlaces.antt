@@ -1,40 +1,28 @@
 -- The first fault of a section lies in it or at its end.
-use Rattle.std.proofs.Common.{◌≡◌, ℕ, ◌+◌, ◌≤◌, List, [], ◌∷◌, ◌++◌, length, Result, Err, sym, ap, subst, arith, inl, inr}
-use Rattle.std.specs.Prelude.{◌==◌, ◌&&◌, nat_lt, IfErr}
-use Rattle.std.specs.List.{AllByRecursion, AllZip}
+use Rattle.std.proofs.Common.{◌≡◌, ℕ, ◌+◌, ◌≤◌, List, length, Result, Err, sym, ap, subst, arith, inl, inr, Some, ◌++◌, ◌==◌, ◌&&◌, nat_lt, IfErr, length-append, length-drop}
+use Rattle.std.specs.List.{AllByRecursion}
 use Rattle.std.proofs.lemmas.Bool.{cases_lt, lt-ltb, le-ltb}
-use Rattle.std.proofs.lemmas.List.{length-append, length-drop}
-use Rattle.dw_num.specs.declared.refusal.Refusal.{Refusal}
-use Rattle.dw_num.specs.declared.target.Order.{Order}
-use Rattle.dw_num.specs.declared.target.Target.{Target}
+use Rattle.dw_section.proofs.Words.{Refusal, Order, Target, Input, AreBytes, Read, input_of, ReadError, CheckFault, CieProgramsFault, FdeProgramsFault, RulesFault, Item, gap, entry, Piece, item_bytes}
+use Rattle.dw_section.proofs.Words.{all_bytes, id_width, piece_of, IsWithin, Refuses, CutFault, Head, cie, fde, Has, Headers, CieStuck, FdeStuck, CieFieldsFault, HeadersFault, contents_of, HasBytes}
+use Rattle.dw_section.proofs.Words.{head_at, Range, nonempty, IsAmong, Pieces, cie_places, CieBroken, FdeBroken, LacksRule, factors_of, FirstStuck, Fields, cie_fields, fde_fields, FieldsFault}
+use Rattle.dw_section.proofs.Words.{StandsIn}
 use Rattle.dw_num.specs.declared.target.UnitLength.{UnitLength}
-use Rattle.dw_num.specs.Fixed.{length_bytes}
-use Rattle.dw_num.specs.Input.{Input, AreBytes}
-use Rattle.dw_num.specs.Front.{Read, unit_length_at}
-use Rattle.dw_num.specs.Span.{Span, input_of}
+use Rattle.dw_num.specs.Front.{unit_length_at}
 use Rattle.dw_num.proofs.Lent.Stays.{Inside, Stays, stays-then, either_stays, unit_length_stays}
 use Rattle.dw_cfa.proofs.Lent.FaultPlaces.{cie_within, fde_within}
-use Rattle.dw_num.specs.declared.error.ReadError.{ReadError}
-use Rattle.dw_num.specs.declared.error.ReadError.TheVariants.{Refused}
-use Rattle.dw_section.specs.Accepted.{CheckFault, CieProgramsFault, FdeProgramsFault, RulesFault}
-use Rattle.dw_section.specs.Cut.{Item, gap, entry, Piece, pieces, item_bytes, all_bytes, id_width}
-use Rattle.dw_op.specs.Faults.{IsWithin}
-use Rattle.dw_num.specs.Refusals.{Refuses}
-use Rattle.dw_section.specs.Faults.{is_32, body_at, item_at, CutFault}
-use Rattle.dw_section.specs.Headers.{Head, cie, fde, Has, Headers, CieStuck, FdeStuck, CieFieldsFault, HeadersFault}
-use Rattle.dw_section.specs.Inner.PieceHeader.{contents_of}
-use Rattle.dw_section.specs.Inner.Heads.{HasBytes}
-use Rattle.dw_section.specs.Overlap.{Range, nonempty, range_of}
-use Rattle.dw_section.specs.Among.{IsAmong}
-use Rattle.dw_section.specs.Pieces.{Pieces}
-use Rattle.dw_section.specs.Places.{cie_places}
-use Rattle.dw_section.specs.Programs.{CieBroken, FdeBroken, LacksRule, factors_of}
-use Rattle.dw_section.specs.Stage.{FirstStuck}
+use Rattle.dw_section.specs.Faults.{is_32, body_at, item_at}
+use Rattle.dw_section.specs.Inner.Heads.{head_program}
 use Rattle.dw_section.proofs.Lent.HeaderLaws.{fields_end}
-use Rattle.dw_section.proofs.Lent.Heads.{heads_bytes}
-use Rattle.dw_section.proofs.Lent.Index.{with_range_so}
-use Rattle.dw_section.specs.Fields.{Fields, cie_fields, fde_fields, FieldsFault}
+use Rattle.dw_section.proofs.Lent.Heads.{heads_bytes, all_in}
 use Rattle.dw_section.proofs.FieldLaws.{fault_read, fields_stay}
+use Rattle.dw_section.proofs.Stages.{holds_at, all_to_zip}
+use Rattle.dw_section.proofs.Lent.CheckFirst.{all_both}
+use Rattle.dw_section.proofs.Lent.Sections.{range_head}
+use Rattle.std.proofs.lemmas.Result.{IfErr-weaker}
+use Rattle.dw_num.proofs.Lent.Refusals.{refuses_by}
+use Rattle.dw_op.proofs.Lent.ReadingLaws.{some_is}
+use Rattle.dw_section.proofs.Lent.Index.{all_from}
+use Rattle.dw_section.proofs.StandLaws.{stands_in}
 
 -- ---- items
 
@@ -64,28 +52,21 @@ cut_within target s r (inr h) =
 abbrev pub EndsBy : ℕ → Piece → Type 0
 EndsBy end p = (p.at ≤ end) × (p.contents.at + length p.contents.bytes ≤ end)
 
-pieces_end : (order : Order) (at end : ℕ) (items : List Item) → at + length (all_bytes order items) ≤ end → AllByRecursion (EndsBy end) (pieces order at items)
-pieces_end order at end [] h = tt
-pieces_end order at end (gap ∷ items) h = pieces_end order (at + 4) end items (omega (arith, h, length-append (item_bytes order gap) (all_bytes order items)))
-pieces_end order at end (entry form body ∷ items) h =
-    let whole = length-append (item_bytes order (entry form body)) (all_bytes order items) in
-    let parts = length-append (length_bytes order form (length body)) body in (
-      (omega (arith, h), omega (arith, h, whole, parts)),
-      pieces_end order (at + length (item_bytes order (entry form body))) end items (omega (arith, h, whole)),
-    )
+-- an entry ends in the bytes
+pub stand_ends : (order : Order) (s : List ℕ) (p : Piece) → StandsIn order s p → EndsBy (length s) p
+stand_ends order s p w = of w.item (ap length w.whole) w.piece
+  where
+    of : (item : Item) → length s ≡ length (w.front ++ (item_bytes order item ++ w.rest)) → piece_of order (length w.front) item ≡ Some p → EndsBy (length s) p
+    of gap whole e = absurd cc
+    of (entry form body) whole e =
+        let len = simp length-append at whole in
+        subst (EndsBy (length s)) (some_is _ p e) (omega (arith, len), omega (arith, len))
 
 pieces_within : (target : Target) (s : List ℕ) (ps : List Piece) → Pieces target s ps → AllByRecursion (EndsBy (length s)) ps
-pieces_within target s ps h =
-    let len : length s ≡ length (all_bytes target.order h.items) = ap length h.cut.whole in
-    subst (AllByRecursion (EndsBy (length s))) (sym h.are) (pieces_end target.order 0 (length s) h.items (omega (arith, len)))
-
--- what is so of each is so of the one that is stuck
-stuck_one : {X : Type 0} (P : X → Type 0) (before : List X) (it : X) (after : List X) → AllByRecursion P (before ++ it ∷ after) → P it
-stuck_one P [] it after h = h.0
-stuck_one P (x ∷ before) it after h = stuck_one P before it after h.1
+pieces_within target s ps h = all_from (EndsBy (length s)) ps (λ p i. stand_ends target.order s p (stands_in target s ps p h i))
 
 stuck_within : {X : Type 0} (P : X → Type 0) (Holds : X → Type 0) (Stuck : X → Refusal → Type 0) (xs : List X) (s : List ℕ) (r : Refusal) → AllByRecursion P xs → ((x : X) → P x → Stuck x r → IsWithin s r) → FirstStuck Holds Stuck xs r → IsWithin s r
-stuck_within P Holds Stuck xs s r all one h = one h.it (stuck_one P h.before h.it h.after (subst (AllByRecursion P) h.whole all)) h.stuck
+stuck_within P Holds Stuck xs s r all one h = one h.it (holds_at P h.before h.it h.after (subst (AllByRecursion P) h.whole all)) h.stuck
 
 -- the fault of fields lies in the contents
 pub fields_within : {X : Type 0} (fs : Fields X) (target : Target) (p : Piece) (r : Refusal) → FieldsFault fs (contents_of target p) r → r.at ≤ p.contents.at + length p.contents.bytes
@@ -105,36 +86,21 @@ headers_within target s r (inr h) =
 
 -- ---- headers
 
-abbrev pub at_of : Head → ℕ
-at_of (cie c) = c.at
-at_of (fde f) = f.at
-
-abbrev pub program_in : Head → Span
-program_in (cie c) = c.program
-program_in (fde f) = f.program
-
 abbrev pub Lies : ℕ → Head → Type 0
-Lies end h = (at_of h ≤ end) × ((program_in h).at + length (program_in h).bytes ≤ end)
+Lies end h = (head_at h ≤ end) × ((head_program h).at + length (head_program h).bytes ≤ end)
 
 pub has_lies : (target : Target) (places : List ℕ) (end : ℕ) (p : Piece) (h : Head) → EndsBy end p → Has target places p h → Lies end h
 has_lies target places end p h ends (inl c) = let e = fields_end target p _ c.0 c.1 c.2.1 in subst (Lies end) (sym c.3) (ends.0, omega (arith, e, ends.1))
 has_lies target places end p h ends (inr c) = let e = fields_end target p _ c.0 c.1 c.2.1 in subst (Lies end) (sym c.3) (ends.0, omega (arith, e, ends.1))
 
-all_lie : (target : Target) (places : List ℕ) (end : ℕ) (ps : List Piece) (hs : List Head) → AllByRecursion (EndsBy end) ps → AllZip (Has target places) ps hs → AllByRecursion (Lies end) hs
-all_lie target places end [] [] ends z = tt
-all_lie target places end (p ∷ ps) (h ∷ hs) ends z = (has_lies target places end p h ends.0 z.0, all_lie target places end ps hs ends.1 z.1)
-all_lie target places end ps hs ends z = absurd z
-
 abbrev Good : ℕ → Head → Type 0
 Good end h = Lies end h × HasBytes h
 
-both : (end : ℕ) (hs : List Head) → AllByRecursion (Lies end) hs → AllByRecursion HasBytes hs → AllByRecursion (Good end) hs
-both end [] v w = tt
-both end (h ∷ hs) v w = ((v.0, w.0), both end hs v.1 w.1)
-
 heads_good : (target : Target) (s : List ℕ) (hs : List Head) → AreBytes s → Headers target s hs → AllByRecursion (Good (length s)) hs
 heads_good target s hs bytes h =
-    both (length s) hs (all_lie target (cie_places h.entries) (length s) h.entries hs (pieces_within target s h.entries h.cut) h.each) (heads_bytes target s hs bytes h)
+    let places = cie_places h.entries in
+    let lie = all_to_zip (Has target places) (EndsBy (length s)) (Lies (length s)) (λ p k has ends. has_lies target places (length s) p k ends has) h.entries hs h.each (pieces_within target s h.entries h.cut) in
+    all_both (Lies (length s)) HasBytes hs lie (heads_bytes target s hs bytes h)
 
 cie_broken : (target : Target) (s : List ℕ) (r : Refusal) (h : Head) → Good (length s) h → CieBroken target h r → IsWithin s r
 cie_broken target s r (cie c) good broken =
@@ -167,22 +133,20 @@ rules_within target s r bytes (inr h) = stuck_within (Good (length s)) _ (LacksR
 
 -- an FDE's range has the FDE's place
 range_within : (end : ℕ) (hs : List Head) (x : Range) → AllByRecursion (Good end) hs → IsAmong x (nonempty hs) → x.at ≤ end
-range_within end [] x good is = absurd is
-range_within end (cie c ∷ hs) x good is = range_within end hs x good.1 is
-range_within end (fde f ∷ hs) x good is =
-    with_range_so (λ (rs : List Range). IsAmong x rs → x.at ≤ end) (range_of f) (nonempty hs) (λ none. range_within end hs x good.1)
-    (λ some. elim [ inl same ↦ omega (arith, ap (λ (y : Range). y.at) same, good.0.0.0) | inr i ↦ range_within end hs x good.1 i ]) is
+range_within end hs x good i =
+    let o = range_head hs x i in
+    let lies = all_in (Good end) hs _ good o.among in
+    omega (arith, lies.0.0, ap (λ (y : Range). y.at) o.covers)
 
 pub check_within : (target : Target) (s : List ℕ) → AreBytes s → (r : Refusal) → CheckFault target s r → IsWithin s r
 check_within target s bytes r (inl h) = rules_within target s r bytes h
 check_within target s bytes r (inr h) =
     let hs = h.1.0 in
     let good = heads_good target s hs bytes h.1.1.0.0.0 in
-    let from = stuck_one (λ (x : Range). IsAmong x (nonempty hs)) h.2.before h.2.it h.2.after (subst (AllByRecursion (λ (x : Range). IsAmong x (nonempty hs))) h.2.whole h.1.2.from) in
+    let from = holds_at (λ (x : Range). IsAmong x (nonempty hs)) h.2.before h.2.it h.2.after (subst (AllByRecursion (λ (x : Range). IsAmong x (nonempty hs))) h.2.whole h.1.2.from) in
     let is : r.at ≡ h.2.it.at = ap (λ (x : Refusal). x.at) h.2.is in
     let most = range_within (length s) hs h.2.it good from in
     omega (arith, is, most)
 
 pub errors_within : {V : Type 0} (s : List ℕ) (result : Result V ReadError) (Fault : Refusal → Type 0) → ((r : Refusal) → Fault r → IsWithin s r) → IfErr result (Refuses Fault) → IfErr result (Refuses (IsWithin s))
-errors_within s (Err (Refused r)) Fault within h = within r h
-errors_within s result Fault within h = tt
+errors_within s result Fault within h = IfErr-weaker result (Refuses Fault) (Refuses (IsWithin s)) (λ e. refuses_by e Fault (IsWithin s) within) h

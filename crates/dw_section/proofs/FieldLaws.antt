@@ -1,22 +1,16 @@
 -- Fields are read as they are spelled, spelled as they are read, and refused with their first fault.
-use Rattle.std.proofs.Common.{◌≡◌, ℕ, zero, ◌+◌, ◌==◌, true, false, List, [], ◌∷◌, ◌++◌, length, drop, get_or, Option, Some, None, Ok, Err, refl, sym, ap, subst, ◌∙◌, append_assoc, arith, inl, inr}
-use Rattle.std.specs.Prelude.{position}
+use Rattle.std.proofs.Common.{◌≡◌, ℕ, zero, ◌+◌, ◌==◌, true, false, List, [], ◌∷◌, ◌++◌, length, drop, get_or, Option, Some, None, Ok, Err, refl, sym, ap, subst, ◌∙◌, append_assoc, arith, inl, inr, position, lt-ltb}
 use Rattle.std.proofs.lemmas.Bool.Decides.{eqb_tells}
 use Rattle.std.proofs.lemmas.List.{length-append, length-drop}
 use Rattle.std.proofs.lemmas.List.Quantifiers.{position-Some}
-use Rattle.dw_num.specs.declared.refusal.Code.{Code}
-use Rattle.dw_num.specs.declared.refusal.Refusal.{Refusal}
-use Rattle.dw_num.specs.declared.target.Target.{Target}
-use Rattle.dw_num.specs.Fixed.{IsWidth}
-use Rattle.dw_num.specs.Input.{Input, AreBytes, Takes, behind}
-use Rattle.dw_num.specs.Front.{Read, fault, ◌>>=◌}
+use Rattle.dw_section.proofs.Words.{Code, Refusal, Target, IsWidth, Input, AreBytes, Takes, behind, Read, fault, ◌>>=◌, Fields, end, field, empty_string, FieldsSpell, string_fault, FieldsFault, fixed}
+use Rattle.dw_section.proofs.Words.{unsigned, signed}
 use Rattle.dw_num.proofs.Lent.LebLaws.{done, ok_is, uleb_again, uleb_found}
 use Rattle.dw_num.proofs.Lent.SlebLaws.{sleb_again, sleb_found}
 use Rattle.dw_num.proofs.Lent.FixedLaws.{front_byte, fixed_found, fixed_at_again, taken_bytes}
 use Rattle.dw_num.proofs.Lent.Stays.{Inside, Stays, inside_all, stays_in, stays-then, fixed_stays, uleb_stays, sleb_stays}
 use Rattle.dw_num.proofs.Lent.Steps.{Takes-then, Again, bind_ok}
-use Rattle.dw_section.specs.Fields.{Fields, end, field, empty_string, FieldsSpell, Judged, string_fault, FieldsFault, Number, fixed, unsigned, signed, Value, Spells, number_at}
-use Rattle.std.proofs.lemmas.Bool.{lt-ltb}
+use Rattle.dw_section.specs.Fields.{Judged, Number, Value, Spells, number_at}
 
 -- ---- numbers
 

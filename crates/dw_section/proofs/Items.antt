@@ -1,29 +1,20 @@
 -- An item at the front, and items in a row.
-use Rattle.std.proofs.Common.{eqb, false, inl, inr, ◌≡◌, ℕ, ◌+◌, add-zero, zero-add, ◌<◌, ◌≤◌, Result, Ok, Err, List, [], ◌∷◌, ◌++◌, length, map, Option, Some, None, refl, sym, ap, subst, ◌∙◌, append_assoc, arith}
+use Rattle.std.proofs.Common.{eqb, false, inl, inr, ◌≡◌, ℕ, ◌+◌, add-zero, zero-add, ◌<◌, ◌≤◌, Result, Ok, Err, List, [], ◌∷◌, ◌++◌, length, map, Option, Some, None, refl, sym, ap, subst, ◌∙◌, append_assoc, arith, le-ltb}
 use Rattle.std.specs.List.{AllByRecursion, cons_option}
 use Rattle.std.proofs.lemmas.List.{length-append, append-nil, map-append, take_at, drop_at}
-use Rattle.std.proofs.lemmas.Bool.{le-ltb}
 use Rattle.std.proofs.lemmas.Bool.Decides.{eqb_tells}
 use Rattle.dw_num.proofs.Lent.FixedLaws.{length-fixed, unit_length_only}
-use Rattle.dw_num.specs.Fixed.{fixed_bytes, length_bytes}
-use Rattle.dw_num.specs.declared.error.ReadError.{ReadError}
-use Rattle.dw_num.specs.declared.error.ReadError.TheVariants.{Refused, OutOfMemory}
-use Rattle.dw_num.specs.Refusals.{Refuses}
+use Rattle.dw_section.proofs.Words.{length_bytes, Form, Target, Refusal, Pieces, Kind, CutFault, Order, Dwarf32, Dwarf64, Input, Takes, Item, gap, entry, IsItem, item_bytes, is_cie, id_width}
+use Rattle.dw_section.proofs.Words.{all_bytes, Piece, piece_of, pieces}
+use Rattle.dw_num.specs.Fixed.{fixed_bytes}
 use Rattle.dw_num.proofs.Lent.LebLaws.{ok_is}
-use Rattle.dw_num.specs.declared.target.Form.{Form}
-use Rattle.dw_num.specs.declared.target.Target.{Target}
-use Rattle.dw_num.specs.declared.refusal.Refusal.{Refusal}
-use Rattle.std.specs.Prelude.{IfOk, IfErr, MatchResult}
-use Rattle.dw_section.specs.Pieces.{Pieces, Entries, entry_of}
+use Rattle.dw_section.specs.Pieces.{Entries, entry_of}
 use Rattle.dw_section.specs.declared.entry.Entry.{Entry}
-use Rattle.dw_section.specs.declared.entry.Kind.{Kind}
-use Rattle.dw_section.specs.Faults.{item_at, IsStuck, CutFault}
+use Rattle.dw_section.specs.Faults.{item_at, IsStuck}
 use Rattle.dw_num.specs.declared.target.Size.TheVariants.{Four}
-use Rattle.dw_num.specs.declared.target.Order.{Order}
 use Rattle.dw_num.specs.declared.target.Order.TheVariants.{Little, Big}
-use Rattle.dw_num.specs.declared.target.Form.TheVariants.{Dwarf32, Dwarf64}
-use Rattle.dw_num.specs.Input.{Input, Takes}
-use Rattle.dw_section.specs.Cut.{Item, gap, entry, IsItem, item_bytes, is_cie, id_width, all_bytes, Piece, piece_of, pieces, Cut}
+use Rattle.dw_section.specs.Cut.{Cut}
+use Rattle.dw_section.proofs.Stages.{all_push}
 
 gap_bytes : (order : Order) → length_bytes order Dwarf32 0 ≡ 0 ∷ 0 ∷ 0 ∷ 0 ∷ []
 gap_bytes Little = refl
@@ -44,10 +35,6 @@ all_bytes-push : (order : Order) (xs : List Item) (x : Item) → all_bytes order
 all_bytes-push order [] x = append-nil (item_bytes order x)
 all_bytes-push order (y ∷ xs) x = rw (all_bytes-push order xs x) (sym (append_assoc (item_bytes order y) (all_bytes order xs) (item_bytes order x)))
 
-each-push : (xs : List Item) (x : Item) → AllByRecursion IsItem xs → IsItem x → AllByRecursion IsItem (xs ++ x ∷ [])
-each-push [] x h k = (k, tt)
-each-push (y ∷ xs) x h k = (h.0, each-push xs x h.1 k)
-
 cons_option-append : (o : Option Piece) (es fs : List Piece) → cons_option o (es ++ fs) ≡ cons_option o es ++ fs
 cons_option-append None es fs = refl
 cons_option-append (Some e) es fs = refl
@@ -66,7 +53,7 @@ walked_more target s old new found item w is t =
     let grown = all_bytes-push order w.items item in
     record {
       items = w.items ++ item ∷ [];
-      each = each-push w.items item w.each is;
+      each = all_push IsItem w.items item w.each is;
       whole = w.whole ∙ ap (λ (r : List ℕ). all_bytes order w.items ++ r) t'.bytes ∙ sym (append_assoc (all_bytes order w.items) (item_bytes order item) new.bytes) ∙ ap (λ (b : List ℕ). b ++ new.bytes) (sym grown);
       place = t'.at ∙ ap (λ (n : ℕ). n + length (item_bytes order item)) w.place ∙ sym (length-append (all_bytes order w.items) (item_bytes order item)) ∙ ap length (sym grown);
       same = t'.target ∙ w.same;
@@ -121,33 +108,29 @@ front_item order a b x y h k e =
     let same = ok_is _ _ (sym (item_again 0 target a x h) ∙ ap at e ∙ item_again 0 target b y k) in
     (ap (λ (p : Item × Input). p.0) same, ap (λ (p : Item × Input). p.1.bytes) same)
 
+-- the item at the front of what others spell is the first of these
+pub left_by : (order : Order) (item : Item) (after : List ℕ) (items : List Item) → IsItem item → AllByRecursion IsItem items → item_bytes order item ++ after ≡ all_bytes order items
+    → (more : List Item) × (items ≡ item ∷ more) × AllByRecursion IsItem more × (after ≡ all_bytes order more)
+left_by order item after [] is h e = absurd (omega (arith, ap length e, length-append (item_bytes order item) after, item_some order item))
+left_by order item after (x ∷ xs) is h e = let p = front_item order item x after (all_bytes order xs) is h.0 e in (xs, ap (λ (y : Item). y ∷ xs) (sym p.0), h.1, p.1)
+
 -- items that spell the front of what others spell, are the front of these
 pub aligned : (order : Order) (xs ys : List Item) (rest : List ℕ) → AllByRecursion IsItem xs → AllByRecursion IsItem ys → all_bytes order xs ≡ all_bytes order ys ++ rest
     → (more : List Item) × (xs ≡ ys ++ more) × AllByRecursion IsItem more × (rest ≡ all_bytes order more)
 aligned order xs [] rest h k e = (xs, refl, h, sym e)
-aligned order [] (y ∷ ys) rest h k e =
-    absurd (omega (arith, ap length e, length-append (item_bytes order y ++ all_bytes order ys) rest, length-append (item_bytes order y) (all_bytes order ys), item_some order y))
-aligned order (x ∷ xs) (y ∷ ys) rest h k e =
-    let p = front_item order x y (all_bytes order xs) (all_bytes order ys ++ rest) h.0 k.0 (e ∙ append_assoc (item_bytes order y) (all_bytes order ys) rest) in
-    let q = aligned order xs ys rest h.1 k.1 p.1 in
-    (q.0, ap (λ (z : Item). z ∷ xs) p.0 ∙ ap (λ (zs : List Item). y ∷ zs) q.1, q.2, q.3)
+aligned order xs (y ∷ ys) rest h k e =
+    let p = left_by order y (all_bytes order ys ++ rest) xs k.0 h (sym (e ∙ append_assoc (item_bytes order y) (all_bytes order ys) rest)) in
+    let q = aligned order p.0 ys rest p.2 k.1 (sym p.3) in
+    (q.0, p.1 ∙ ap (λ (zs : List Item). y ∷ zs) q.1, q.2, q.3)
 
-no_items : (order : Order) (more : List Item) → [] ≡ all_bytes order more → more ≡ []
-no_items order [] e = refl
-no_items order (x ∷ more) e = absurd (omega (arith, ap length e, length-append (item_bytes order x) (all_bytes order more), item_some order x))
+pub none_by : (order : Order) (items : List Item) (bytes : List ℕ) → bytes ≡ all_bytes order items → length bytes ≤ 0 → items ≡ []
+none_by order [] bytes e none = refl
+none_by order (x ∷ xs) bytes e none = absurd (omega (arith, ap length e, length-append (item_bytes order x) (all_bytes order xs), item_some order x))
 
 pub one_cut : (order : Order) (s : List ℕ) (xs ys : List Item) → Cut order s xs → Cut order s ys → xs ≡ ys
 one_cut order s xs ys p q =
     let a = aligned order xs ys [] p.each q.each (sym p.whole ∙ q.whole ∙ sym (append-nil (all_bytes order ys))) in
-    a.1 ∙ ap (λ (m : List Item). ys ++ m) (no_items order a.0 a.3) ∙ append-nil ys
-
--- where a walk is stuck there is no cut
-pub stuck_before : (target : Target) (at : ℕ) (more : List Item) (rest : List ℕ) (r : Refusal) → AllByRecursion IsItem more → rest ≡ all_bytes target.order more → 0 < length rest → item_at (record { at = at; bytes = rest; target = target }) ≡ Err r → ⊥
-stuck_before target at [] rest r h e some stuck = omega (arith, ap length e)
-stuck_before target at (x ∷ more) rest r h e some stuck =
-    let read = item_again at target x (all_bytes target.order more) h.0 in
-    let k = subst (λ (b : List ℕ). item_at (record { at = at; bytes = b; target = target }) ≡ Err r) e stuck in
-    let bad = sym read ∙ k in cc
+    a.1 ∙ ap (λ (m : List Item). ys ++ m) (none_by order a.0 [] a.3 (omega arith)) ∙ append-nil ys
 
 -- an item at the front is no fault
 pub not_stuck : (target : Target) (at : ℕ) (item : Item) (rest bytes : List ℕ) (r : Refusal) → IsItem item → bytes ≡ item_bytes target.order item ++ rest → item_at (record { at = at; bytes = bytes; target = target }) ≡ Err r → ⊥
@@ -155,6 +138,11 @@ not_stuck target at item rest bytes r is e stuck =
     let read = item_again at target item rest is in
     let k = subst (λ (b : List ℕ). item_at (record { at = at; bytes = b; target = target }) ≡ Err r) e stuck in
     let bad = sym read ∙ k in cc
+
+-- where a walk is stuck there is no cut
+pub stuck_before : (target : Target) (at : ℕ) (more : List Item) (rest : List ℕ) (r : Refusal) → AllByRecursion IsItem more → rest ≡ all_bytes target.order more → 0 < length rest → item_at (record { at = at; bytes = rest; target = target }) ≡ Err r → ⊥
+stuck_before target at [] rest r h e some stuck = omega (arith, ap length e)
+stuck_before target at (x ∷ more) rest r h e some stuck = not_stuck target at x (all_bytes target.order more) rest r h.0 e stuck
 
 pub stuck_or_cut : (target : Target) (s : List ℕ) (items : List Item) (r : Refusal) → Cut target.order s items → IsStuck target s r → ⊥
 stuck_or_cut target s items r p w =
@@ -194,9 +182,3 @@ listed_gap target s old new found w t = record { parts = w.parts; walked = rw ap
 -- a section has one list of entries
 pub one_entries : (target : Target) (s : List ℕ) (es fs : List Entry) → Entries target s es → Entries target s fs → es ≡ fs
 one_entries target s es fs p q = p.are ∙ ap (map entry_of) (one_pieces target s p.parts q.parts p.cut q.cut) ∙ sym q.are
-
-pub only_entries : {V : Type 0} (items : V → List Entry) (target : Target) (s : List ℕ) (result : Result V ReadError) → IfOk result (λ v. Entries target s (items v)) → IfErr result (Refuses (CutFault target s))
-    → (es : List Entry) → Entries target s es → MatchResult result (λ v. items v ≡ es) (λ e. e ≡ OutOfMemory)
-only_entries items target s (Ok v) found first es p = one_entries target s (items v) es found p
-only_entries items target s (Err (Refused r)) found first es p = absurd (cut_or_pieces target s r p.parts first p.cut)
-only_entries items target s (Err OutOfMemory) found first es p = refl

@@ -1,14 +1,10 @@
 -- At each address of an FDE the row of its last change at or below it has the rules.
-use Rattle.std.proofs.Common.{◌≡◌, ℕ, suc, ◌<◌, ◌≤◌, List, [], ◌∷◌, ◌++◌, refl, subst, arith}
+use Rattle.std.proofs.Common.{◌≡◌, ℕ, suc, ◌<◌, ◌≤◌, List, [], ◌∷◌, ◌++◌, refl, subst, arith, lt-ltb, le-ltb}
 use Rattle.std.specs.List.{AllByRecursion}
-use Rattle.std.proofs.lemmas.Bool.{lt-ltb, le-ltb}
-use Rattle.dw_cfa.specs.declared.instr.Instr.{Instr}
-use Rattle.dw_cfa.specs.Rows.{Rules}
-use Rattle.dw_cfa.proofs.Lent.InstrCounts.{counts_exists}
-use Rattle.dw_section.specs.Changes.{HoldsAt, ChangesBehind, AreChanges}
-use Rattle.dw_section.specs.Inner.Meanings.{row_among}
+use Rattle.dw_section.proofs.Words.{Instr, Rules, HoldsAt, ChangesBehind, AreChanges, row_among}
 use Rattle.dw_section.specs.Laws.{LastChangeRules}
 use Rattle.dw_section.proofs.Lent.Rowed.{changed_row}
+use Rattle.dw_section.proofs.Lent.Sections.{programs_rules}
 
 none_left : (a : ℕ) (row : Rules) (after : List (ℕ × Rules)) → AllByRecursion (λ (later : ℕ × Rules). a < later.0) after → row_among a row after ≡ row
 none_left a row [] above = refl
@@ -30,7 +26,5 @@ module _ (i j : List Instr) (begin end a : ℕ) (change : ℕ × Rules) (after :
 
 pub last_change_rules : LastChangeRules
 last_change_rules target s f changes h a change covers is =
-    let counts = counts_exists f.begin h.instrs a covers.0 in
     let whole = subst (AreChanges h.initial h.instrs f.begin f.end) is.whole h.change in
-    let holds = last_holds h.initial h.instrs f.begin f.end a change is.after is.from is.above is.before covers.0 covers.1 whole in
-    record { begin = f.begin; end = f.end; initial = h.initial; instrs = h.instrs; says = h.says; from = covers.0; below = covers.1; k = counts.0; counts = counts.1; holds = holds counts.0 counts.1 }
+    programs_rules target s a change.1 f.begin f.end h.initial h.instrs h.says covers.0 covers.1 (last_holds h.initial h.instrs f.begin f.end a change is.after is.from is.above is.before covers.0 covers.1 whole)

@@ -1,29 +1,11 @@
 -- A walk over a section that has a cut gives its pieces, and one over a section that has headers gives these.
-use Rattle.std.proofs.Common.{◌≡◌, ℕ, ◌+◌, ◌<◌, ◌≤◌, List, [], ◌∷◌, ◌++◌, length, Err, refl, sym, ap, subst, ◌∙◌, arith}
-use Rattle.std.specs.List.{AllByRecursion, AllZip, cons_option}
-use Rattle.std.proofs.lemmas.List.{length-append}
-use Rattle.dw_num.specs.declared.target.Form.{Form}
-use Rattle.dw_num.specs.declared.target.Order.{Order}
-use Rattle.dw_num.specs.declared.target.Target.{Target}
-use Rattle.dw_num.specs.declared.refusal.Refusal.{Refusal}
-use Rattle.dw_num.specs.Fixed.{length_bytes}
-use Rattle.dw_num.specs.Input.{Input, Takes}
-use Rattle.dw_section.specs.declared.entry.Kind.{Kind}
-use Rattle.dw_section.specs.Cut.{Item, gap, entry, IsItem, item_bytes, is_cie, all_bytes, Piece, piece_of, pieces}
-use Rattle.dw_section.specs.Faults.{item_at}
-use Rattle.dw_section.specs.Pieces.{Pieces}
-use Rattle.dw_section.specs.Places.{cie_places}
-use Rattle.dw_section.specs.Headers.{Head, Has}
-use Rattle.dw_section.specs.Inner.Left.{PiecesLeft, HeadsLeft, Stays, AreHeaders}
-use Rattle.dw_section.proofs.Items.{front_item, item_some, stuck_before}
+use Rattle.std.proofs.Common.{◌≡◌, ℕ, ◌+◌, ◌<◌, ◌≤◌, List, [], ◌∷◌, length, Err, refl, sym, ap, subst, ◌∙◌, arith, length-append}
+use Rattle.std.specs.List.{AllZip, cons_option}
+use Rattle.dw_section.proofs.Words.{Form, Order, Target, Refusal, length_bytes, Input, Takes, Kind, Item, gap, entry, IsItem, item_bytes, is_cie, Piece, piece_of, pieces, item_at, Pieces, cie_places}
+use Rattle.dw_section.proofs.Words.{Head, Has, PiecesLeft, HeadsLeft, AreHeaders}
+use Rattle.dw_section.specs.Inner.Left.{Stays}
+use Rattle.dw_section.proofs.Items.{item_some, stuck_before, left_by, none_by}
 use Rattle.dw_section.proofs.Lent.HeaderLaws.{has_one}
-
-left_by : (order : Order) (item : Item) (after : List ℕ) (items : List Item) → IsItem item → AllByRecursion IsItem items → item_bytes order item ++ after ≡ all_bytes order items
-    → (more : List Item) × (items ≡ item ∷ more) × AllByRecursion IsItem more × (after ≡ all_bytes order more)
-left_by order item after [] is h e = absurd (omega (arith, ap length e, length-append (item_bytes order item) after, item_some order item))
-left_by order item after (x ∷ xs) is h e =
-    let p = front_item order item x after (all_bytes order xs) is h.0 e in
-    (xs, ap (λ (y : Item). y ∷ xs) (sym p.0), h.1, p.1)
 
 pub left_item : (old new : Input) (item : Item) (ps : List Piece) → IsItem item → Takes old (item_bytes old.target.order item) new → PiecesLeft old ps
     → (rest : List Piece) × (ps ≡ cons_option (piece_of old.target.order old.at item) rest) × PiecesLeft new rest
@@ -42,10 +24,6 @@ pub left_entry : (old new : Input) (form : Form) (kind : Kind) (at place : ℕ) 
     → at ≡ old.at → kind ≡ is_cie form body → place ≡ old.at + length (length_bytes old.target.order form (length body)) → PiecesLeft old ps
     → (rest : List Piece) × (ps ≡ record { at = at; form = form; kind = kind; contents = record { at = place; bytes = body } } ∷ rest) × PiecesLeft new rest
 left_entry old new form kind at place body ps is t at-is kind-is place-is w = rw (at-is, kind-is, place-is) (left_item old new (entry form body) ps is t w)
-
-none_by : (order : Order) (items : List Item) (bytes : List ℕ) → bytes ≡ all_bytes order items → length bytes ≤ 0 → items ≡ []
-none_by order [] bytes e none = refl
-none_by order (x ∷ xs) bytes e none = absurd (omega (arith, ap length e, length-append (item_bytes order x) (all_bytes order xs), item_some order x))
 
 pub left_none : (i : Input) (ps : List Piece) → length i.bytes ≤ 0 → PiecesLeft i ps → ps ≡ []
 left_none i ps none w = w.are ∙ ap (pieces i.target.order i.at) (none_by i.target.order w.items i.bytes w.cut.whole none)
@@ -82,20 +60,20 @@ heads_some target places p ps rest [] e z = let y = subst (λ (qs : List Piece).
 heads_some target places p ps rest (h ∷ hs) e z = let y = subst (λ (qs : List Piece). AllZip (Has target places) qs (h ∷ hs)) e z in (h, hs, refl, y.0, y.1)
 
 -- the next piece has the next header
-pub heads_next : (places : List ℕ) (old new : Input) (p : Piece) (hs : List Head) (w : HeadsLeft places old hs) → (rest : List Piece) × (w.parts ≡ p ∷ rest) × PiecesLeft new rest → Stays old new
-    → (h : Head) × (more : List Head) × (hs ≡ h ∷ more) × Has old.target places p h × HeadsLeft places new more
-heads_next places old new p hs w q on =
+pub heads_next : (target : Target) (places : List ℕ) (old new : Input) (p : Piece) (hs : List Head) → old.target ≡ target → (w : HeadsLeft places old hs) → (rest : List Piece) × (w.parts ≡ p ∷ rest) × PiecesLeft new rest → Stays old new
+    → (h : Head) × (more : List Head) × (hs ≡ h ∷ more) × Has target places p h × HeadsLeft places new more
+heads_next target places old new p hs is w q on =
     let s = heads_some old.target places p w.parts q.0 hs q.1 w.each in
-    (s.0, s.1, s.2, s.3, record { parts = q.0; left = q.2; each = subst (λ (t : Target). AllZip (Has t places) q.0 s.1) (sym on.target) s.4 })
+    (s.0, s.1, s.2, subst (λ (t : Target). Has t places p s.0) is s.3, record { parts = q.0; left = q.2; each = subst (λ (t : Target). AllZip (Has t places) q.0 s.1) (sym on.target) s.4 })
 
-pub heads_read : (places : List ℕ) (old new : Input) (p : Piece) (hs : List Head) (w : HeadsLeft places old hs) → (rest : List Piece) × (w.parts ≡ p ∷ rest) × PiecesLeft new rest → Stays old new
-    → (h : Head) → Has old.target places p h → (more : List Head) × (hs ≡ h ∷ more) × HeadsLeft places new more
-heads_read places old new p hs w q on h has =
-    let s = heads_next places old new p hs w q on in
-    (s.1, s.2 ∙ ap (λ (k : Head). k ∷ s.1) (has_one old.target places p s.0 h s.3 has), s.4)
+pub heads_read : (target : Target) (places : List ℕ) (old new : Input) (p : Piece) (hs : List Head) → old.target ≡ target → (w : HeadsLeft places old hs) → (rest : List Piece) × (w.parts ≡ p ∷ rest) × PiecesLeft new rest → Stays old new
+    → (h : Head) → Has target places p h → (more : List Head) × (hs ≡ h ∷ more) × HeadsLeft places new more
+heads_read target places old new p hs is w q on h has =
+    let s = heads_next target places old new p hs is w q on in
+    (s.1, s.2 ∙ ap (λ (k : Head). k ∷ s.1) (has_one target places p s.0 h s.3 has), s.4)
 
 pub heads_all : (target : Target) (s places : List ℕ) (hs : List Head) → AreHeaders target s places hs → HeadsLeft places (record { at = 0; bytes = s; target = target }) hs
 heads_all target s places hs p = record { parts = p.are.entries; left = left_all target s p.are.entries p.are.cut; each = subst (λ (l : List ℕ). AllZip (Has target l) p.are.entries hs) (sym p.places_are) p.are.each }
 
-pub headers_so : (target : Target) (s : List ℕ) (ps : List Piece) (places : List ℕ) (hs : List Head) → Pieces target s ps → places ≡ cie_places ps → AllZip (Has target places) ps hs → AreHeaders target s places hs
+abbrev pub headers_so : (target : Target) (s : List ℕ) (ps : List Piece) (places : List ℕ) (hs : List Head) → Pieces target s ps → places ≡ cie_places ps → AllZip (Has target places) ps hs → AreHeaders target s places hs
 headers_so target s ps places hs cut e z = record { are = record { entries = ps; cut = cut; each = subst (λ (l : List ℕ). AllZip (Has target l) ps hs) e z }; places_are = e }

@@ -1,32 +1,22 @@
 -- FDEs in order, and the first that begins below the end of one before it.
-use Rattle.std.proofs.Common.{◌≡◌, ℕ, zero, suc, ◌+◌, ◌<◌, ◌≤◌, Bool, true, false, cond, List, [], ◌∷◌, ◌++◌, map, length, get_or, take, drop, refl, subst, ◌∙◌, arith, inl, inr, add-one, Equal, Greater}
-use Rattle.std.specs.Prelude.{◌==◌}
-use Rattle.std.specs.List.{AllByRecursion, Contains, sum_by}
+use Rattle.std.proofs.Common.{◌≡◌, ℕ, zero, suc, ◌+◌, ◌<◌, ◌≤◌, Bool, true, false, cond, List, [], ◌∷◌, ◌++◌, map, length, get_or, take, drop, refl, subst, ◌∙◌, arith, inl, inr, add-one, Equal, Greater, sym, ◌==◌, nat_cmp, is_lt}
+use Rattle.std.specs.List.{AllByRecursion, Contains, IsDistinct}
 use Rattle.std.specs.List.Sorted.{IsPermutation, IsNonDecreasingBy, IsSortedByKey, IsStableByKey}
-use Rattle.std.specs.Ordering.{nat_cmp, is_lt}
-use Rattle.std.proofs.lemmas.Bool.{cases_lt, le-ltb}
+use Rattle.std.proofs.lemmas.Bool.{cases_lt, le-ltb, ne_eqb}
 use Rattle.std.proofs.lemmas.Bool.Decides.{eqb_tells}
-use Rattle.std.proofs.lemmas.List.Sorted.{IsPermutation-map, IsPermutation-sym, Contains-permutation, sum_by-IsPermutation, ties_still_rise}
-use Rattle.std.proofs.lemmas.List.Sums.{sum_by-cons}
-use Rattle.dw_num.specs.declared.refusal.Code.TheVariants.{Overlap}
-use Rattle.dw_section.specs.declared.fde_range.Ranged.{Ranged}
-use Rattle.dw_section.specs.Inner.Index.{PlacesRise, SameMembers, EndsAt}
-use Rattle.dw_section.specs.Ranges.{range_in}
-use Rattle.dw_section.specs.Overlap.{Range, Precedes, Ascends, AreApart, FirstOverlap, end_of}
-use Rattle.dw_section.specs.Among.{IsAmong}
+use Rattle.std.proofs.lemmas.List.Sorted.{IsPermutation-map, IsPermutation-sym, Contains-permutation, ties_still_rise}
+use Rattle.dw_section.proofs.Words.{Overlap, Ranged, PlacesRise, EndsAt, range_in, Range, Precedes, Ascends, AreApart, FirstOverlap, end_of, IsAmong}
+use Rattle.dw_section.specs.Inner.Index.{SameMembers}
 use Rattle.dw_section.proofs.Lent.Index.{all_from}
 use Rattle.dw_section.proofs.Lent.Judged.{all_get}
-use Rattle.dw_section.proofs.Stages.{all_push, parts}
+use Rattle.dw_section.proofs.Stages.{all_push, parts, all_weaker}
+use Rattle.std.proofs.lemmas.Map.Keys.{IsDistinct-from_apart, apart_from_distinct, IsDistinct-IsPermutation}
 
 -- ---- overlaps
 
 apart_more : (rs : List Range) (x : Range) (greatest : ℕ) → AreApart rs → AllByRecursion (λ a. end_of a ≤ greatest) rs → greatest ≤ x.begin → AreApart (rs ++ x ∷ [])
 apart_more [] x greatest h e le = (tt, tt)
 apart_more (a ∷ rs) x greatest h e le = (all_push (λ b. end_of a ≤ b.begin) rs x h.0 (omega (arith, e.0)), apart_more rs x greatest h.1 e.1 le)
-
-ends_from : (rs : List Range) (low high : ℕ) → low ≤ high → AllByRecursion (λ a. end_of a ≤ low) rs → AllByRecursion (λ a. end_of a ≤ high) rs
-ends_from [] low high le h = tt
-ends_from (a ∷ rs) low high le h = (omega (arith, h.0), ends_from rs low high le h.1)
 
 is_last : (rs : List Range) (x : Range) → IsAmong x (rs ++ x ∷ [])
 is_last [] x = inl refl
@@ -35,7 +25,7 @@ is_last (a ∷ rs) x = inr (is_last rs x)
 pub overlap_more : (rs : List Range) (x : Range) (greatest : ℕ) → AreApart rs × EndsAt rs greatest → greatest ≤ x.begin → AreApart (rs ++ x ∷ []) × EndsAt (rs ++ x ∷ []) (x.begin + x.range)
 overlap_more rs x greatest h le = (
   apart_more rs x greatest h.0 h.1.0 le,
-  (all_push (λ a. end_of a ≤ x.begin + x.range) rs x (ends_from rs greatest (x.begin + x.range) (omega arith) h.1.0) (omega arith), inr (x, is_last rs x, refl)),
+  (all_push (λ a. end_of a ≤ x.begin + x.range) rs x (all_weaker (λ (a : Range). end_of a ≤ greatest) (λ (a : Range). end_of a ≤ x.begin + x.range) (λ a ends. omega (arith, ends)) rs h.1.0) (omega arith), inr (x, is_last rs x, refl)),
 )
 
 pub overlap_at : (xs : List Ranged) (i : ℕ) (x : Ranged) (greatest : ℕ) → i < length xs → x ≡ get_or xs i x → AreApart (map range_in (take i xs)) × EndsAt (map range_in (take i xs)) greatest → x.begin < greatest
@@ -63,17 +53,13 @@ precedes_then a b c (inl x) (inr y) = inl (omega (arith, y.0))
 precedes_then a b c (inr x) (inl y) = inl (omega (arith, x.0))
 precedes_then a b c (inr x) (inr y) = inr (x.0 ∙ y.0, omega (arith, x.1, y.1))
 
-all_after : (a b : Range) (rs : List Range) → Precedes a b → AllByRecursion (Precedes b) rs → AllByRecursion (Precedes a) rs
-all_after a b [] p h = tt
-all_after a b (c ∷ rs) p h = (precedes_then a b c p h.0, all_after a b rs p h.1)
-
 pub ascends_from : (ys : List Ranged) → ((k : ℕ) (d : Ranged) → suc k < length ys → Precedes (range_in (get_or ys k d)) (range_in (get_or ys (suc k) d))) → Ascends (map range_in ys)
 ascends_from [] h = tt
 ascends_from (y ∷ []) h = (tt, tt)
 ascends_from (y ∷ z ∷ ys) h =
     let p = h 0 y (omega arith) in
     let rest = ascends_from (z ∷ ys) (λ k d lt. h (suc k) d (omega arith)) in
-    ((p, all_after (range_in y) (range_in z) (map range_in ys) p rest.0), rest)
+    ((p, all_weaker (Precedes (range_in z)) (Precedes (range_in y)) (λ x later. precedes_then (range_in y) (range_in z) x p later) (map range_in ys) rest.0), rest)
 
 -- ---- members
 
@@ -90,9 +76,6 @@ all_permuted P xs ys p h = all_contains P ys (λ y c. contains_all P xs y h (Con
 members : (rs : List Range) → AllByRecursion (λ a. IsAmong a rs) rs
 members rs = all_from (λ a. IsAmong a rs) rs (λ a i. i)
 
-pub same_members : (xs : List Ranged) → SameMembers (map range_in xs) (map range_in xs)
-same_members xs = (members (map range_in xs), members (map range_in xs))
-
 pub permuted_members : (xs ys : List Ranged) → IsPermutation xs ys → SameMembers (map range_in xs) (map range_in ys)
 permuted_members xs ys p =
     let rs = map range_in xs in
@@ -102,33 +85,11 @@ permuted_members xs ys p =
 
 -- ---- places are apart
 
-abbrev is_at : ℕ → Ranged → ℕ
-is_at x e = cond (e.at == x) 1 0
+abbrev same_place : Ranged → Ranged → Bool
+same_place e f = e.at == f.at
 
-count_none : (x low : ℕ) (xs : List Ranged) → x < low → PlacesRise low (map range_in xs) → sum_by (is_at x) xs ≡ 0
-count_none x low [] lt up = refl
-count_none x low (e ∷ xs) lt up = elim (eqb_tells e.at x) [
-  | inl is ↦ absurd (omega (arith, up.0, is.1))
-  | inr not ↦ let rest = count_none x (suc e.at) xs (omega (arith, up.0)) up.1 in let all : sum_by (is_at x) (e ∷ xs) ≡ 0 + sum_by (is_at x) xs = sum_by-cons (is_at x) e xs ∙ rw (not.0) refl in omega arith
-]
-
-count_one : (x low : ℕ) (xs : List Ranged) → PlacesRise low (map range_in xs) → sum_by (is_at x) xs ≤ 1
-count_one x low [] up = omega arith
-count_one x low (e ∷ xs) up = elim (eqb_tells e.at x) [
-  | inl is ↦ let none = count_none x (suc e.at) xs (omega (arith, is.1)) up.1 in let all : sum_by (is_at x) (e ∷ xs) ≡ 1 + sum_by (is_at x) xs = sum_by-cons (is_at x) e xs ∙ rw (is.0) refl in omega arith
-  | inr not ↦ let rest = count_one x (suc e.at) xs up.1 in let all : sum_by (is_at x) (e ∷ xs) ≡ 0 + sum_by (is_at x) xs = sum_by-cons (is_at x) e xs ∙ rw (not.0) refl in omega arith
-]
-
-counted : (x : ℕ) (e : Ranged) (xs : List Ranged) → e.at ≡ x → sum_by (is_at x) (e ∷ xs) ≡ 1 + sum_by (is_at x) xs
-counted x e xs same = elim (eqb_tells e.at x) [
-  | inl is ↦ sum_by-cons (is_at x) e xs ∙ rw (is.0) refl
-  | inr not ↦ absurd (not.1 same)
-]
-
-count_two : (x : ℕ) (ys : List Ranged) (k : ℕ) (d : Ranged) → suc k < length ys → (get_or ys k d).at ≡ x → (get_or ys (suc k) d).at ≡ x → 2 ≤ sum_by (is_at x) ys
-count_two x (y ∷ z ∷ ys) zero d lt e f = let p = counted x y (z ∷ ys) e in let q = counted x z ys f in omega arith
-count_two x (y ∷ z ∷ ys) (suc k) d lt e f = let rest = count_two x (z ∷ ys) k d (omega arith) e f in let all = sum_by-cons (is_at x) y (z ∷ ys) in omega arith
-count_two x ys k d lt e f = absurd (omega arith)
+either_way : (e f : Ranged) → same_place e f ≡ same_place f e
+either_way e f = elim (eqb_tells e.at f.at) [ inl is ↦ rw (is.1) refl | inr not ↦ rw (not.0, ne_eqb f.at e.at (λ same. not.1 (sym same))) refl ]
 
 -- ---- a stable sort by begin
 
@@ -144,13 +105,16 @@ from_low low [] k d up lt = absurd (omega arith)
 from_low low (e ∷ xs) zero d up lt = up.0
 from_low low (e ∷ xs) (suc k) d up lt = let p = from_low (suc e.at) xs k d up.1 (omega arith) in omega (arith, up.0)
 
-next_place : (low : ℕ) (xs : List Ranged) (k : ℕ) (d : Ranged) → PlacesRise low (map range_in xs) → suc k < length xs → (get_or xs k d).at < (get_or xs (suc k) d).at
-next_place low [] k d up lt = absurd (omega arith)
-next_place low (e ∷ xs) zero d up lt = let p = from_low (suc e.at) xs 0 d up.1 (omega arith) in omega arith
-next_place low (e ∷ xs) (suc k) d up lt = next_place (suc e.at) xs k d up.1 (omega arith)
+later_place : (low : ℕ) (xs : List Ranged) (i j : ℕ) (d : Ranged) → PlacesRise low (map range_in xs) → i < j → j < length xs → (get_or xs i d).at < (get_or xs j d).at
+later_place low (e ∷ xs) zero (suc j) d up less lt = from_low (suc e.at) xs j d up.1 (omega arith)
+later_place low (e ∷ xs) (suc i) (suc j) d up less lt = later_place (suc e.at) xs i j d up.1 (omega arith) (omega arith)
+later_place low xs i j d up less lt = absurd (omega arith)
+
+places_apart : (xs : List Ranged) → PlacesRise 0 (map range_in xs) → IsDistinct same_place xs
+places_apart xs up = IsDistinct-from_apart same_place xs (λ i j d less lt. ne_eqb (get_or xs i d).at (get_or xs j d).at (λ same. omega (arith, later_place 0 xs i j d up less lt, same)))
 
 places_sorted : (xs : List Ranged) → PlacesRise 0 (map range_in xs) → IsSortedByKey (λ (e : Ranged). e.at) nat_cmp xs
-places_sorted xs up = λ k d le lt. rw add-one (let p = next_place 0 xs k d up (omega arith) in not_less (get_or xs (suc k) d).at (get_or xs k d).at (omega arith))
+places_sorted xs up = λ k d le lt. rw add-one (let p = later_place 0 xs k (suc k) d up (omega arith) (omega arith) in not_less (get_or xs (suc k) d).at (get_or xs k d).at (omega arith))
 
 pub sorted_ascends : (xs ys : List Ranged) → PlacesRise 0 (map range_in xs) → IsPermutation xs ys → IsNonDecreasingBy (λ (e : Ranged). e.begin) ys → IsStableByKey (λ (e : Ranged). e.begin) nat_cmp xs ys → Ascends (map range_in ys)
 sorted_ascends xs ys up p sorted stable = ascends_from ys next
@@ -164,13 +128,9 @@ sorted_ascends xs ys up p sorted stable = ascends_from ys next
               let same : (get_or ys k d).begin ≡ (get_or ys (suc k) d).begin = omega arith in
               let rise : (get_or ys k d).at ≤ (get_or ys (suc k) d).at =
               rw add-one at (ties_still_rise (λ (e : Ranged). e.at) (λ (e : Ranged). e.begin) xs ys (places_sorted xs up) stable k d (omega arith) (rw add-one same)) in
-              elim (cases_lt (get_or ys k d).at (get_or ys (suc k) d).at) [
-                | inl less ↦ inr (same, less)
-                | inr most ↦
-                    let x = (get_or ys k d).at in
-                    let two = count_two x ys k d lt refl (omega arith) in
-                    let one = count_one x 0 xs up in
-                    let all = sum_by-IsPermutation (is_at x) xs ys p in
-                    absurd (omega arith)
+              let apart = apart_from_distinct same_place ys k (suc k) d (IsDistinct-IsPermutation same_place either_way xs ys p (places_apart xs up)) (omega arith) lt in
+              elim (eqb_tells (get_or ys k d).at (get_or ys (suc k) d).at) [
+                | inl is ↦ let both : true ≡ false = sym (is.0) ∙ apart in absurd cc
+                | inr not ↦ elim (cases_lt (get_or ys k d).at (get_or ys (suc k) d).at) [ inl less ↦ inr (same, less) | inr most ↦ absurd (not.1 (omega arith)) ]
               ]
         ]

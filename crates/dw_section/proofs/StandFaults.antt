@@ -1,25 +1,16 @@
 -- What is refused where an entry stands is its first fault.
-use Rattle.std.proofs.Common.{◌≡◌, ℕ, ◌+◌, ◌≤◌, List, [], ◌∷◌, length, drop, take, Some, Result, Ok, Err, refl, sym, ap, subst, ◌∙◌, inl, inr}
-use Rattle.std.specs.Prelude.{IfOk, MatchResult}
-use Rattle.std.proofs.lemmas.Bool.{le-ltb}
-use Rattle.std.proofs.lemmas.List.{take-append-drop, take_at}
-use Rattle.dw_num.specs.declared.refusal.Code.TheVariants.{NoSuchCie}
-use Rattle.dw_num.specs.declared.refusal.Refusal.{Refusal}
-use Rattle.dw_num.specs.declared.target.Order.{Order}
-use Rattle.dw_num.specs.declared.target.Target.{Target}
+use Rattle.std.proofs.Common.{◌≡◌, ℕ, ◌+◌, ◌≤◌, List, [], ◌∷◌, length, drop, take, Some, Err, refl, sym, ap, subst, ◌∙◌, inl, inr, None, le-ltb, take-append-drop, take_at}
+use Rattle.dw_section.proofs.Words.{NoSuchCie, Refusal, ReadError, Refuses, Outcome, Order, Target, Input, Takes, input_of, Item, IsItem, gap, entry, Piece, id_width, piece_of, Head, Has, FdeStuck}
+use Rattle.dw_section.proofs.Words.{cie_at, fde_at, StandsIn}
+use Rattle.dw_num.specs.declared.error.ReadError.TheVariants as reading
 use Rattle.dw_num.specs.Fixed.{Fixed}
-use Rattle.dw_num.specs.Front.{Reads, fixed_at}
-use Rattle.dw_num.specs.Input.{Input, Takes}
-use Rattle.dw_num.specs.Span.{input_of}
+use Rattle.dw_num.specs.Front.{fixed_at}
 use Rattle.dw_num.proofs.Lent.FixedLaws.{fixed_only, length-fixed}
 use Rattle.dw_op.proofs.Lent.ReadingLaws.{some_is}
 use Rattle.dw_section.specs.declared.entry.Kind.TheVariants as kind
 use Rattle.dw_section.specs.declared.standing_fde.LookUpError.{LookUpError}
 use Rattle.dw_section.specs.declared.standing_fde.LookUpError.TheVariants.{Refused, BadIndex, OutOfMemory}
-use Rattle.dw_section.specs.Cut.{Item, IsItem, gap, entry, Piece, id_width, piece_of}
-use Rattle.dw_section.specs.Headers.{Head, Has, FdeStuck}
-use Rattle.dw_section.specs.Inner.PieceHeader.{cie_at, fde_at}
-use Rattle.dw_section.specs.StandingFde.{BothStuck, Names, RefusesAs, StandsAs, StandsIn}
+use Rattle.dw_section.specs.StandingFde.{BothStuck, Names, RefusesAs, StandsAs}
 use Rattle.dw_section.proofs.Lent.HeaderLaws.{cie_faulty, fde_faulty, has_fde}
 
 -- ---- the first field
@@ -33,18 +24,16 @@ stands_wide order s p w = of w.item w.is w.piece
     of (entry form body) is e = subst (λ (q : Piece). id_width q.form ≤ length q.contents.bytes) (some_is _ p e) is.1
 
 -- a number that is there is read
-fixed_there : (n : ℕ) (i : Input) (r : Refusal) → n ≤ length i.bytes → fixed_at n i ≡ Err r → ⊥
+pub fixed_there : (n : ℕ) (i : Input) (r : Refusal) → n ≤ length i.bytes → fixed_at n i ≡ Err r → ⊥
 unfolding fixed_at
 fixed_there n i r long e = let bad = rw (le-ltb (length i.bytes) n long) at e in absurd cc
 
-pub is_named : (target : Target) (p : Piece) (i new : Input) (result : Result ℕ Refusal) → i ≡ input_of target p.contents → Reads (λ (v : ℕ). v) result i (fixed_at (id_width p.form) i) new
-    → IfOk result (λ v. (b : List ℕ) × Fixed i.target.order (id_width p.form) v b × Takes i b new) → id_width p.form ≤ length p.contents.bytes → MatchResult result (Names target p) (λ r. ⊥)
-is_named target p i new (Ok v) is reads found wide =
+pub is_named : (target : Target) (p : Piece) (i new : Input) (v : ℕ) → i ≡ input_of target p.contents → (b : List ℕ) × Fixed i.target.order (id_width p.form) v b × Takes i b new → Names target p v
+is_named target p i new v is found =
     let n = id_width p.form in
     let len : length found.0 ≡ n = ap length found.1.bytes ∙ length-fixed i.target.order n v in
     let first : take n i.bytes ≡ found.0 = ap (take n) found.2.bytes ∙ take_at found.0 new.bytes n len in
     subst (λ (j : Input). Fixed j.target.order n v (take n j.bytes)) is (subst (Fixed i.target.order n v) (sym first) found.1)
-is_named target p i new (Err r) is reads found wide = fixed_there (id_width p.form) (input_of target p.contents) r wide (subst (λ (j : Input). fixed_at (id_width p.form) j ≡ Err r) is reads.0)
 
 -- ---- fields
 
@@ -68,3 +57,8 @@ pub refuses_more : (P Q : Refusal → Type 0) (e : LookUpError) → ((r : Refusa
 refuses_more P Q (Refused r) f h = f r h
 refuses_more P Q BadIndex f h = tt
 refuses_more P Q OutOfMemory f h = tt
+
+-- a run without a refusal fails for want of memory alone
+pub no_refusal : (e : ReadError) (o : Outcome) → Refuses (λ r. o.fault ≡ Some r) e → o.fault ≡ None → e ≡ reading.OutOfMemory
+no_refusal reading.OutOfMemory o h none = refl
+no_refusal (reading.Refused r) o h none = let bad = sym h ∙ none in absurd cc

@@ -1,73 +1,41 @@
 -- Entries that stand at their places in bytes.
-use Rattle.std.proofs.Common.{◌≡◌, ℕ, zero, suc, map, get_or, ◌+◌, ◌-◌, ◌<◌, ◌≤◌, true, false, Bool, ◌||◌, eqb, List, [], ◌∷◌, ◌++◌, length, take, drop, Option, Some, None, Ok, Err, refl, sym, ap, subst, ◌∙◌, append_assoc, arith, inl, inr}
-use Rattle.std.specs.List.{AllByRecursion, AllZip}
-use Rattle.std.specs.Prelude.{IfSome}
+use Rattle.std.proofs.Common.{◌≡◌, ℕ, ◌+◌, ◌-◌, ◌≤◌, true, false, Bool, ◌||◌, eqb, List, [], ◌∷◌, ◌++◌, length, take, drop, Option, Some, None, Ok, Err, refl, sym, ap, subst, ◌∙◌, append_assoc, arith, inl, inr, IfSome}
+use Rattle.std.specs.List.{AllByRecursion}
 use Rattle.std.proofs.lemmas.Bool.Decides.{eqb_tells}
 use Rattle.std.proofs.lemmas.List.{length-append, drop_at, length-drop, length-take-le, take-append-drop, take_all}
-use Rattle.dw_num.specs.declared.target.Form.{Form}
-use Rattle.dw_num.specs.declared.target.Order.{Order}
-use Rattle.dw_num.specs.declared.target.Target.{Target}
-use Rattle.dw_num.specs.declared.refusal.Refusal.{Refusal}
-use Rattle.dw_num.specs.Input.{Input, Takes}
-use Rattle.dw_num.specs.Span.{Span}
-use Rattle.dw_num.specs.Fixed.{length_bytes}
-use Rattle.dw_section.specs.declared.entry.Kind.{Kind}
+use Rattle.dw_section.proofs.Words.{Form, Order, Target, Refusal, Input, Takes, Span, length_bytes, Kind, Item, gap, entry, IsItem, Piece, item_bytes, piece_of, pieces, is_cie, all_bytes, CieFields}
+use Rattle.dw_section.proofs.Words.{FdeFields, FoundFde, item_at, address_limit, is_among, CieHead, FdeHead, Head, Has, Headers, IsCie, IsFde, cie, fde, cie_head, cie_at, fde_at, IsFound, found_cie}
+use Rattle.dw_section.proofs.Words.{found_head, Returns, Range, cie_places, IsAmong, StandsIn, AreJoined, FoundStands, StandsAt, Pieces}
 use Rattle.dw_section.specs.declared.entry.Kind.TheVariants as kind
-use Rattle.dw_section.specs.Cut.{Item, gap, entry, IsItem, Piece, item_bytes, piece_of, pieces, is_cie, all_bytes}
-use Rattle.dw_section.specs.declared.fields.CieFields.{CieFields}
-use Rattle.dw_section.specs.declared.fields.FdeFields.{FdeFields}
-use Rattle.dw_section.specs.declared.listed_fde.FoundFde.{FoundFde}
-use Rattle.dw_section.specs.Faults.{item_at}
-use Rattle.dw_num.specs.Target.{address_limit}
-use Rattle.dw_section.specs.Fields.{is_among}
-use Rattle.dw_section.specs.Headers.{CieHead, FdeHead, Head, Has, Headers, IsCie, IsFde, cie, fde, cie_head}
-use Rattle.dw_section.specs.Inner.PieceHeader.{cie_at, fde_at}
-use Rattle.dw_section.specs.Inner.Index.{IsFound, found_cie, found_head}
-use Rattle.dw_section.specs.Meaning.{Returns}
-use Rattle.dw_section.specs.Ranges.{fde_in}
-use Rattle.dw_section.specs.declared.fde_range.Ranged.{Ranged}
-use Rattle.dw_section.specs.Overlap.{Range}
-use Rattle.dw_section.specs.Places.{cie_places}
-use Rattle.dw_section.specs.Among.{IsAmong}
-use Rattle.dw_section.specs.StandingFde.{FdeStands, StandsIn}
-use Rattle.dw_section.specs.Inner.StandingFde.{AreJoined, FoundStands, StandsAt, is_fde}
+use Rattle.dw_section.specs.StandingFde.{FdeStands}
+use Rattle.dw_section.specs.Inner.StandingFde.{is_fde}
 use Rattle.dw_section.proofs.Lent.FieldTable.{Ranges, fde_said}
 use Rattle.dw_section.proofs.Lent.HeaderLaws.{has_one, cie_at_again, fde_at_again}
 use Rattle.dw_section.proofs.Lent.Heads.{cie_or, fde_or, has_at}
 use Rattle.dw_section.proofs.Items.{front_item, item_again}
 use Rattle.dw_op.proofs.Lent.ReadingLaws.{some_is}
+use Rattle.dw_section.proofs.Lent.Index.{zip_right}
 
 -- ---- the entries of a section stand at their places
 
-record Stands (target : Target) (places s : List ℕ) (h : Head) : Type 0 where
-  pub piece : Piece
-  pub stands : StandsIn target.order s piece
-  pub has : Has target places piece h
+piece_stands : (order : Order) (front : List ℕ) (items : List Item) (p : Piece) → AllByRecursion IsItem items → IsAmong p (pieces order (length front) items) → StandsIn order (front ++ all_bytes order items) p
+piece_stands order front [] p each i = absurd i
+piece_stands order front (gap ∷ items) p each i =
+    let b = item_bytes order gap in
+    subst (λ (s : List ℕ). StandsIn order s p) (append_assoc front b (all_bytes order items))
+    (piece_stands order (front ++ b) items p each.1 (subst (λ (n : ℕ). IsAmong p (pieces order n items)) (sym (length-append front b)) i))
+piece_stands order front (entry form body ∷ items) p each (inl is) = record { item = entry form body; front = front; rest = all_bytes order items; is = each.0; whole = refl; piece = ap Some (sym is) }
+piece_stands order front (entry form body ∷ items) p each (inr i) =
+    let b = item_bytes order (entry form body) in
+    subst (λ (s : List ℕ). StandsIn order s p) (append_assoc front b (all_bytes order items))
+    (piece_stands order (front ++ b) items p each.1 (subst (λ (n : ℕ). IsAmong p (pieces order n items)) (sym (length-append front b)) i))
 
-stands_among : (target : Target) (places front : List ℕ) (items : List Item) (hs : List Head) (h : Head) → AllByRecursion IsItem items → AllZip (Has target places) (pieces target.order (length front) items) hs
-    → IsAmong h hs → Stands target places (front ++ all_bytes target.order items) h
-stands_among target places front [] [] h each z i = absurd i
-stands_among target places front [] (x ∷ hs) h each z i = absurd z
-stands_among target places front (gap ∷ items) hs h each z i =
-    let b = item_bytes target.order gap in
-    subst (λ (s : List ℕ). Stands target places s h) (append_assoc front b (all_bytes target.order items))
-    (stands_among target places (front ++ b) items hs h each.1 (subst (λ (n : ℕ). AllZip (Has target places) (pieces target.order n items) hs) (sym (length-append front b)) z) i)
-stands_among target places front (entry form body ∷ items) [] h each z i = absurd i
-stands_among target places front (entry form body ∷ items) (x ∷ hs) h each z (inl is) = record {
-  piece = record { at = length front; form = form; kind = is_cie form body; contents = record { at = length front + length (length_bytes target.order form (length body)); bytes = body } };
-  stands = record { item = entry form body; front = front; rest = all_bytes target.order items; is = each.0; whole = refl; piece = refl };
-  has = subst (λ (y : Head). Has target places (record { at = length front; form = form; kind = is_cie form body; contents = record { at = length front + length (length_bytes target.order form (length body)); bytes = body } }) y) (sym is) z.0;
-}
-stands_among target places front (entry form body ∷ items) (x ∷ hs) h each z (inr i) =
-    let b = item_bytes target.order (entry form body) in
-    subst (λ (s : List ℕ). Stands target places s h) (append_assoc front b (all_bytes target.order items))
-    (stands_among target places (front ++ b) items hs h each.1 (subst (λ (n : ℕ). AllZip (Has target places) (pieces target.order n items) hs) (sym (length-append front b)) z.1) i)
+pub stands_in : (target : Target) (s : List ℕ) (ps : List Piece) (p : Piece) → Pieces target s ps → IsAmong p ps → StandsIn target.order s p
+stands_in target s ps p cut i =
+    subst (λ (b : List ℕ). StandsIn target.order b p) (sym cut.cut.whole) (piece_stands target.order [] cut.items p cut.cut.each (subst (IsAmong p) cut.are i))
 
 pub stands_of : (target : Target) (s : List ℕ) (hs : List Head) (h : Head) (p : Headers target s hs) → IsAmong h hs → (piece : Piece) × StandsIn target.order s piece × Has target (cie_places p.entries) piece h
-stands_of target s hs h p i =
-    let places = cie_places p.entries in
-    let w = stands_among target places [] p.cut.items hs h p.cut.cut.each (subst (λ (ps : List Piece). AllZip (Has target places) ps hs) p.cut.are p.each) i in
-    (w.piece, subst (λ (b : List ℕ). StandsIn target.order b w.piece) (sym p.cut.cut.whole) w.stands, w.has)
+stands_of target s hs h p i = let z = zip_right (Has target (cie_places p.entries)) p.entries hs h p.each i in (z.0, stands_in target s p.entries z.0 p.cut z.1, z.2)
 
 -- ---- what stands at a place is one
 
@@ -128,24 +96,20 @@ cie_from target places p h (inr c) = let a = c.3 in absurd cc
 said_of : (target : Target) (places : List ℕ) (p : Piece) (f : FdeFields) (own : Span) → IsFde target places p f own → Ranges target places f
 said_of target places p f own is = fde_said target places p.form f is.1.spelling is.1.spells
 
-pub own_of : (target : Target) (s : List ℕ) (at : ℕ) (p : Piece) (w : StandsAt target s at) → StandsIn target.order s p → at ≡ p.at
-    → (f : FdeFields) × (own : Span) × IsFde target (w.0.cie_at ∷ []) p f own × (f.cie_at ≡ w.0.cie_at)
+pub own_of : (target : Target) (s : List ℕ) (at : ℕ) (p : Piece) (w : StandsAt target s at) → StandsIn target.order s p → at ≡ p.at → Has target (w.0.cie_at ∷ []) p (fde w.0)
 own_of target s at p w stands place =
     let places = w.0.cie_at ∷ [] in
-    let same = one_piece target.order s w.2.piece p w.2.stands stands (sym (has_at target places w.2.piece (fde w.0) w.2.own_is) ∙ w.3 ∙ place) in
-    let q = fde_from target places p w.0 (subst (λ (x : Piece). Has target places x (fde w.0)) same w.2.own_is) in
-    (q.0, q.1, q.2, ap (λ (h : FdeHead). h.cie_at) (sym q.3))
+    subst (λ (x : Piece). Has target places x (fde w.0)) (one_piece target.order s w.2.piece p w.2.stands stands (sym (has_at target places w.2.piece (fde w.0) w.2.own_is) ∙ w.3 ∙ place)) w.2.own_is
 
-pub named_of : (target : Target) (s : List ℕ) (at : ℕ) (w : StandsAt target s at) → (f : CieFields) × (own : Span) × IsCie target w.2.named_piece f own × (w.2.named_piece.at ≡ w.0.cie_at)
-named_of target s at w =
-    let q = cie_from target [] w.2.named_piece w.1 w.2.named_is in
-    (q.0, q.1, q.2, sym (has_at target [] w.2.named_piece (cie w.1) w.2.named_is) ∙ sym w.2.names)
+-- the CIE that it names
+pub named_of : (target : Target) (s : List ℕ) (at : ℕ) (w : StandsAt target s at) → (w.2.named_piece.at ≡ w.0.cie_at) × (w.2.named_piece.kind ≡ kind.Cie)
+named_of target s at w = (sym (has_at target [] w.2.named_piece (cie w.1) w.2.named_is) ∙ sym w.2.names, (cie_from target [] w.2.named_piece w.1 w.2.named_is).2.0)
 
-pub fde_never : (target : Target) (places : List ℕ) (p : Piece) (f : FdeFields) (own : Span) (r : Refusal) → IsFde target places p f own → fde_at target places p ≡ Err r → ⊥
-fde_never target places p f own r is stuck = let a = fde_at_again target places p f own is in let bad = sym a ∙ stuck in cc
+pub fde_never : (target : Target) (places : List ℕ) (p : Piece) (h : FdeHead) (r : Refusal) → Has target places p (fde h) → fde_at target places p ≡ Err r → ⊥
+fde_never target places p h r has stuck = let q = fde_from target places p h has in let a = sym (fde_at_again target places p q.0 q.1 q.2) ∙ stuck in cc
 
-pub cie_never : (target : Target) (p : Piece) (f : CieFields) (own : Span) (r : Refusal) → IsCie target p f own → cie_at target p ≡ Err r → ⊥
-cie_never target p f own r is stuck = let a = cie_at_again target p f own is in let bad = sym a ∙ stuck in cc
+pub cie_never : (target : Target) (p : Piece) (h : CieHead) (r : Refusal) → Has target [] p (cie h) → cie_at target p ≡ Err r → ⊥
+cie_never target p h r has stuck = let q = cie_from target [] p h has in let a = sym (cie_at_again target p q.0 q.1 q.2) ∙ stuck in cc
 
 among_one : (n c : ℕ) → is_among n (c ∷ []) ≡ true → n ≡ c
 among_one n c h = elim (eqb_tells c n) [ inl is ↦ sym is.1 | inr not ↦ (let e = not.0 in let bad = rw e at h in absurd cc) ]
@@ -309,9 +273,3 @@ stands_listed target s hs a register p r =
       },
       ap (λ (x : Range). x.at) r.covers,
     )
-
--- an entry of an index is listed
-pub entry_listed : (list : List Ranged) (e : Ranged) (i : ℕ) → i < length list → ((d : Ranged) → e ≡ get_or list i d) → IsAmong (fde_in e) (map fde_in list)
-entry_listed [] e i lt is = absurd (omega arith)
-entry_listed (x ∷ list) e zero lt is = inl (ap fde_in (is x))
-entry_listed (x ∷ list) e (suc i) lt is = inr (entry_listed list e i (omega arith) is)

@@ -1,42 +1,14 @@
 -- What stands in bytes lies in them, and so does what is wrong there.
-use Rattle.std.proofs.Common.{◌≡◌, ℕ, ◌≤◌, List, ◌++◌, length, drop, Some, Result, Err, ap, subst, arith}
-use Rattle.std.specs.Prelude.{IfErr}
-use Rattle.std.proofs.lemmas.List.{length-append, length-drop}
-use Rattle.dw_num.specs.declared.target.Order.{Order}
-use Rattle.dw_num.specs.declared.target.Target.{Target}
-use Rattle.dw_num.specs.declared.refusal.Refusal.{Refusal}
-use Rattle.dw_num.specs.declared.error.ReadError.{ReadError}
+use Rattle.std.proofs.Common.{◌≡◌, ℕ, ◌≤◌, List, length, drop, Some, Result, Err, subst, arith, IfErr, length-drop}
+use Rattle.dw_section.proofs.Words.{Target, Refusal, ReadError, Read, Input, AreBytes, Refuses, span_of, input_of, address_limit, FoundFde, Item, Piece, IsWithin, item_at, cie_fields}
+use Rattle.dw_section.proofs.Words.{fde_fields, StandsIn, rows_of, cie_at, fde_at}
 use Rattle.dw_num.specs.declared.error.ReadError.TheVariants.{Refused}
-use Rattle.dw_num.specs.Front.{Read}
-use Rattle.dw_num.specs.Input.{Input, AreBytes}
-use Rattle.dw_num.specs.Refusals.{Refuses}
-use Rattle.dw_num.specs.Span.{span_of, input_of}
-use Rattle.dw_num.specs.Target.{address_limit}
 use Rattle.dw_num.proofs.Lent.Stays.{Stays}
 use Rattle.dw_cfa.proofs.Lent.FaultPlaces.{run_within}
 use Rattle.dw_cfa.proofs.Lent.Given.{refused_where_fault, run_runs}
-use Rattle.dw_section.specs.declared.listed_fde.FoundFde.{FoundFde}
-use Rattle.dw_section.specs.Cut.{Item, gap, entry, Piece, item_bytes, piece_of}
-use Rattle.dw_op.specs.Faults.{IsWithin}
-use Rattle.dw_section.specs.Faults.{item_at}
-use Rattle.dw_section.specs.Fields.{cie_fields, fde_fields}
-use Rattle.dw_section.specs.StandingFde.{StandsIn}
-use Rattle.dw_section.specs.Inner.Lookup.{rows_of}
-use Rattle.dw_section.specs.Inner.PieceHeader.{cie_at, fde_at}
 use Rattle.dw_section.specs.Inner.StandingFde.{LiesInPrograms}
-use Rattle.dw_section.proofs.FaultPlaces.{EndsBy, fields_within, item_stays}
+use Rattle.dw_section.proofs.FaultPlaces.{fields_within, item_stays, stand_ends}
 use Rattle.dw_section.proofs.Lent.HeaderLaws.{cie_faulty, fde_faulty}
-use Rattle.dw_op.proofs.Lent.ReadingLaws.{some_is}
-
--- an entry ends in the bytes
-pub stand_ends : (order : Order) (s : List ℕ) (p : Piece) → StandsIn order s p → EndsBy (length s) p
-stand_ends order s p w = of w.item (ap length w.whole) w.piece
-  where
-    of : (item : Item) → length s ≡ length (w.front ++ (item_bytes order item ++ w.rest)) → piece_of order (length w.front) item ≡ Some p → EndsBy (length s) p
-    of gap whole e = absurd cc
-    of (entry form body) whole e =
-        let len = simp length-append at whole in
-        subst (EndsBy (length s)) (some_is _ p e) (omega (arith, len), omega (arith, len))
 
 -- what keeps an item from standing at a place
 pub item_within : (target : Target) (s : List ℕ) (at : ℕ) (i : Input) (r : Refusal) → i ≡ record { at = at; bytes = drop at s; target = target } → at ≤ length s → item_at i ≡ Err r → IsWithin s r

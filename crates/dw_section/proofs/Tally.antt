@@ -1,18 +1,10 @@
 -- Entries are counted as a section is walked.
-use Rattle.std.proofs.Common.{◌≡◌, ℕ, ◌+◌, ◌≤◌, List, [], ◌∷◌, ◌++◌, length, refl, ap, arith}
-use Rattle.std.proofs.lemmas.List.{length-append, append-nil}
+use Rattle.std.proofs.Common.{◌≡◌, ℕ, ◌+◌, ◌≤◌, List, [], ◌∷◌, ◌++◌, length, refl, ap, arith, length-append, append-nil}
 use Rattle.std.proofs.lemmas.List.Elements.{filter_map-append}
-use Rattle.dw_num.specs.declared.target.Form.{Form}
-use Rattle.dw_num.specs.declared.target.Target.{Target}
-use Rattle.dw_num.specs.Fixed.{length_bytes}
-use Rattle.dw_num.specs.Input.{Input, Takes}
+use Rattle.dw_section.proofs.Words.{Form, Target, length_bytes, Input, Takes, Kind, Cie, AreCounts, gap, entry, IsItem, item_bytes, is_cie, Piece, cie_places}
 use Rattle.dw_section.specs.declared.entry.EntryCounts.{EntryCounts}
-use Rattle.dw_section.specs.declared.entry.Kind.{Kind}
-use Rattle.dw_section.specs.declared.entry.Kind.TheVariants.{Cie, Fde}
-use Rattle.dw_section.specs.Counts.{AreCounts}
+use Rattle.dw_section.specs.declared.entry.Kind.TheVariants.{Fde}
 use Rattle.dw_section.specs.Inner.Counts.{counted_by}
-use Rattle.dw_section.specs.Cut.{gap, entry, IsItem, item_bytes, is_cie, Piece}
-use Rattle.dw_section.specs.Places.{cie_places}
 use Rattle.dw_section.proofs.Items.{IsWalked, walked_more, walked_entry, item_some}
 
 counts_more : (ps : List Piece) (p : Piece) (n : EntryCounts) (kind : Kind) → p.kind ≡ kind → AreCounts ps n → AreCounts (ps ++ p ∷ []) (counted_by n kind)

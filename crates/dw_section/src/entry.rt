@@ -135,8 +135,7 @@ pub(crate) fn next_part<'a>(cursor: &mut Cursor<'a>) -> Result<Part<'a>, Refusal
 // The next entry of a section that has a cut, or none behind the last one.
 #[inline(always)]
 pub(crate) fn next_piece<'a>(cursor: &mut Cursor<'a>) -> Option<Placed<'a>>
-    requires room { cursor.old.at + length cursor.old.bytes ≤ 2147483647 }
-    requires cut { (ps : List Piece) × PiecesLeft cursor.old ps }
+    requires { cursor.old.at + length cursor.old.bytes ≤ 2147483647 }
     ensures gives { (ps : List Piece) → PiecesLeft cursor.old ps → GivesPiece cursor.new result ps }
     ensures on { GoesOn cursor.old result cursor.new }
     ensures below { IfSome result (λ p. p.at ≤ 2147483647) }

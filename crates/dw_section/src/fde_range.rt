@@ -2,6 +2,7 @@
 
 ghost use Rattle.std.specs.Prelude.{◌≡◌, ◌+◌, ◌<◌, ◌≤◌, ℕ, true, List, [], ◌∷◌, ◌++◌, length, slice_index_or, map, IfOk, IfErr, IfSome, OnOk, MatchOption};
 ghost use Rattle.std.specs.List.{AllByRecursion};
+ghost use Rattle.std.specs.List.Sorted.{IsPermutation};
 ghost use Rattle.dw_num.specs.declared.refusal.Code.TheVariants.{Overlap};
 ghost use Rattle.dw_num.specs.declared.target.Target.{Target as TheTarget};
 ghost use Rattle.dw_num.specs.declared.error.ReadError.TheVariants.{OutOfMemory};
@@ -11,7 +12,7 @@ ghost use Rattle.dw_section.specs.Headers.{Head, head_in};
 ghost use Rattle.dw_section.specs.Inner.Heads.{FdeFits, head_at};
 ghost use Rattle.dw_section.specs.Inner.Left.{AreHeaders};
 ghost use Rattle.dw_section.specs.Stage.{FirstStuck};
-ghost use Rattle.dw_section.specs.Inner.Index.{AreJudged, PlacesRise, SameMembers};
+ghost use Rattle.dw_section.specs.Inner.Index.{AreJudged, PlacesRise};
 ghost use Rattle.dw_section.specs.Ranges.{IsRanged, range_in};
 ghost use Rattle.dw_section.specs.Inner.Initials.{place_of, or_place, IsInitial, IsRunner, AreInitials};
 ghost use Rattle.dw_section.specs.Overlap.{nonempty, Ascends, AreApart, FirstOverlap};
@@ -173,10 +174,8 @@ fn begins_rise(list: &[Ranged]) -> bool
 /// Puts FDEs in the order of their begins, and those of one begin in that of their places.
 pub(crate) fn put_in_order(list: &mut Vec<Ranged>) -> Result<(), AllocError>
     requires { PlacesRise 0 (map range_in list.old.items) }
-    ensures len { OnOk result (length list.new.items ≡ length list.old.items) }
     ensures ascends { OnOk result (Ascends (map range_in list.new.items)) }
-    ensures same { OnOk result (SameMembers (map range_in list.old.items) (map range_in list.new.items)) }
-    ensures each { (hs : List Head) → AllByRecursion (IsRanged hs) list.old.items → OnOk result (AllByRecursion (IsRanged hs) list.new.items) }
+    ensures permuted { OnOk result (IsPermutation list.old.items list.new.items) }
 {
     if !begins_rise(list) {
         list.sort_by_key(|fde| fde.begin)?;

@@ -1,6 +1,7 @@
 //! The headers of a section: the fields of its entries.
 
 ghost use Rattle.std.specs.Prelude.{◌≡◌, ℕ, ◌+◌, ◌≤◌, List, [], ◌∷◌, ◌++◌, length, map, IfOk, IfErr, IfSome, OnOk, MatchResult};
+ghost use Rattle.dw_section.specs.Counts.{AreCounts};
 ghost use Rattle.dw_section.specs.Cut.{Piece};
 ghost use Rattle.std.specs.List.{AllByRecursion, AllZip};
 ghost use Rattle.dw_num.specs.Span.{span_of};
@@ -18,11 +19,11 @@ ghost use Rattle.dw_section.specs.Inner.Pieces.{piece_in};
 ghost use Rattle.dw_section.specs.Places.{cie_places};
 ghost use Rattle.dw_section.specs.Inner.Places.{Rises};
 ghost use Rattle.dw_section.specs.Inner.Heads.{head_at};
-ghost use Rattle.dw_section.specs.Inner.Left.{HeadsLeft, GivesHead, GoesOn};
+ghost use Rattle.dw_section.specs.Inner.Left.{AreHeaders, HeadsLeft, GivesHead, GoesOn};
 ghost use Rattle.dw_section.specs.Inner.PieceHeader.{cie_at, fde_at, program_of};
-ghost use Rattle.dw_section.specs.Headers.{Head, Has, Headers, head_in, CieHolds, CieStuck, FdeHolds, FdeStuck, HeadersFault};
+ghost use Rattle.dw_section.specs.Headers.{Head, Has, Headers, head_in, CieHolds, CieStuck, CiesHold, FdeHolds, FdeStuck, CieFieldsFault, HeadersFault};
 
-use crate::entry::{Kind, Placed, cut, next_piece, width_of};
+use crate::entry::{EntryCounts, Kind, Placed, cut, next_piece, width_of};
 use crate::fields::{read_cie, read_fde};
 use dw_num::{Cursor, Form, Program, ReadError, Refusal, Target, are_bytes};
 use std::alloc::Global;
@@ -125,6 +126,7 @@ pub(crate) fn fde_header<'a>(
 }
 
 // The header of an entry whose fields hold if it is a CIE.
+#[tactic(auto, using(crate::proofs::Lent::HeaderLaws::cie_never, crate::proofs::Lent::HeaderLaws::fde_stuck))]
 #[inline(always)]
 fn header_of<'a>(piece: &Placed<'a>, places: &[u64], target: Target) -> Result<Header<'a>, Refusal>
     requires holds { CieHolds target (piece_in piece.now) }
@@ -158,8 +160,8 @@ fn keep_cie(places: &mut Vec<u64>, piece: &Placed<'_>, target: Target) -> Result
     }
 }
 
-/// Reads the fields of the CIEs of a section that has a cut and so many of them, and tells where they stand.
-pub(crate) fn find_cies(
+// Reads the fields of the CIEs of a section that has a cut and so many of them, and tells where they stand.
+fn find_cies(
     alloc: Global,
     bytes: &[u8],
     target: Target,
@@ -197,8 +199,8 @@ fn fde_holds(piece: &Placed<'_>, places: &[u64], target: Target) -> Result<(), R
     }
 }
 
-/// Reads the fields of the FDEs of a section that has a cut, behind those of its CIEs.
-pub(crate) fn fdes_hold(bytes: &[u8], target: Target, places: &[u64]) -> Result<(), Refusal>
+// Reads the fields of the FDEs of a section that has a cut, behind those of its CIEs.
+fn fdes_hold(bytes: &[u8], target: Target, places: &[u64]) -> Result<(), Refusal>
     requires ascending { Rises 0 places.now }
     requires cies { (ps : List Piece) × Pieces target bytes.now ps × AllByRecursion (CieHolds target) ps }
     ensures found { (ps : List Piece) → Pieces target bytes.now ps → AllByRecursion (CieHolds target) ps → IfOk result (λ _. (hs : List Head) × AllZip (Has target places.now) ps hs) }
@@ -252,6 +254,35 @@ fn read_headers<'a>(
     Ok(headers)
 }
 
+/// How many entries a section has, and where its CIEs stand.
+#[derive(Drop)]
+pub(crate) struct Cies {
+    pub(crate) counts: EntryCounts,
+    pub(crate) places: Vec<u64>,
+}
+
+// Cuts a section, and reads the fields of its CIEs.
+fn cies_of(alloc: Global, bytes: &[u8], target: Target) -> Result<Cies, ReadError>
+    ensures found { IfOk result (λ c. (ps : List Piece) × CiesHold target bytes.now ps × AreCounts ps c.counts × (c.places.items ≡ cie_places ps)) }
+    ensures ascending { IfOk result (λ c. Rises 0 c.places.items) }
+    ensures first { IfErr result (Refuses (CieFieldsFault target bytes.now)) }
+{
+    let counts = cut(bytes, target)?;
+    let places = find_cies(alloc, bytes, target, counts.cies)?;
+    Ok(Cies { counts, places })
+}
+
+/// Reads the fields of all entries of a section, and keeps where its CIEs stand.
+pub(crate) fn heads_hold(alloc: Global, bytes: &[u8], target: Target) -> Result<Cies, ReadError>
+    ensures found { IfOk result (λ c. (hs : List Head) × (p : AreHeaders target bytes.now c.places.items hs) × AreCounts p.are.entries c.counts) }
+    ensures ascending { IfOk result (λ c. Rises 0 c.places.items) }
+    ensures first { IfErr result (Refuses (HeadersFault target bytes.now)) }
+{
+    let cies = cies_of(alloc, bytes, target)?;
+    fdes_hold(bytes, target, &cies.places)?;
+    Ok(cies)
+}
+
 fn all_headers<'a>(
     alloc: Global,
     bytes: &'a [u8],
@@ -260,9 +291,9 @@ fn all_headers<'a>(
     ensures found { IfOk result (λ v. Headers target bytes.now (map head_in v.items)) }
     ensures first { IfErr result (Refuses (HeadersFault target bytes.now)) }
 {
-    let counts = cut(bytes, target)?;
-    let places = find_cies(alloc, bytes, target, counts.cies)?;
-    read_headers(alloc, bytes, target, &places, counts.cies + counts.fdes)
+    let cies = cies_of(alloc, bytes, target)?;
+    let count = cies.counts.cies + cies.counts.fdes;
+    read_headers(alloc, bytes, target, &cies.places, count)
 }
 
 /// The headers of a section in order of place: the fields of each entry, CIEs of versions 1, 3 and 4 in both
@@ -296,6 +327,7 @@ pub fn one_first_fault()
 {}
 
 /// The nonempty FDEs of a section have one order.
+#[tactic(auto, using(crate::proofs::Lent::Index::one_index))]
 pub fn one_order()
     ensures { (hs : List Head) (index other : List Range) → IsIndex hs index → IsIndex hs other → index ≡ other }
 {}

@@ -6,7 +6,7 @@ ghost use Rattle.dw_num.specs.Span.{Span, span_of};
 ghost use Rattle.dw_section.specs.declared.fields.FdeFields.{FdeFields};
 ghost use Rattle.dw_section.specs.Headers.{Head, Headers, IsFde};
 ghost use Rattle.dw_section.specs.Inner.Index.{IsFound, NamesCie, led_to};
-ghost use Rattle.dw_section.specs.Ranges.{IsRanged};
+ghost use Rattle.dw_section.specs.Ranges.{IsRanged, fde_in};
 ghost use Rattle.dw_section.specs.Inner.Initials.{AreInitials};
 ghost use Rattle.dw_section.specs.Inner.Pieces.{piece_in};
 ghost use Rattle.dw_section.specs.Inner.Lookup.{fde_of, IsFoundIn, LedBy, LedSo, rows_of};
@@ -122,9 +122,7 @@ pub(crate) fn found_fde<'a>(
     let Some(own) = piece else {
         unreachable!();
     };
-    let Ok(cie_at) = pointer_of(&own, target) else {
-        unreachable!();
-    };
+    let cie_at = pointer_of(&own, target);
     let initial = initial_at(initials, cie_at);
     FoundFde {
         at,
@@ -139,6 +137,25 @@ pub(crate) fn found_fde<'a>(
 }
 
 impl<'a> Table<'a> {
+    // An entry of the index.
+    #[inline(always)]
+    pub(crate) fn listed(&self, fde: FdeRef) -> Ranged
+        requires { (fs : List TheFde) → AreFdes self.now.target self.now.bytes fs → fde.place < length fs }
+        ensures ranged { (hs : List Head) → Headers self.now.target self.now.bytes hs → IsRanged hs result }
+        ensures some { 0 < result.range }
+        ensures is { (fs : List TheFde) → AreFdes self.now.target self.now.bytes fs → (d : TheFde) → fde_in result ≡ slice_index_or fs fde.place d }
+    {
+        self.index()[fde.place]
+    }
+
+    // What its FDEs begin with.
+    #[inline(always)]
+    pub(crate) fn initials(&self) -> &[Initial<'a>]
+        ensures { (hs : List Head) → Headers self.now.target self.now.bytes hs → AreInitials self.now.target hs hs result.now }
+    {
+        &self.initials
+    }
+
     /// An FDE of the list of `fdes`, with its program and what its CIE says.
     #[inline(always)]
     pub(crate) fn found(&self, fde: FdeRef) -> FoundFde<'a>
@@ -147,11 +164,6 @@ impl<'a> Table<'a> {
         ensures led { LedBy self.now result.cie_at (led_to self.now.target result) }
         ensures listed { (fs : List TheFde) → AreFdes self.now.target self.now.bytes fs → (d : TheFde) → fde_of result ≡ slice_index_or fs fde.place d }
     {
-        found_fde(
-            self.bytes,
-            self.target,
-            &self.initials,
-            &self.index[fde.place],
-        )
+        found_fde(self.bytes, self.target, self.initials(), &self.listed(fde))
     }
 }

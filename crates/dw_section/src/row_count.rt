@@ -5,7 +5,6 @@ ghost use Rattle.std.specs.List.{AllByRecursion, AllZip};
 ghost use Rattle.dw_cfa.specs.Listing.{answers};
 ghost use Rattle.dw_section.specs.Inner.Counted.{starts_row, moves_in, IsProgram, StartsOf};
 ghost use Rattle.dw_section.specs.Meaning.{RowStarts, Starts, total};
-ghost use Rattle.dw_num.specs.Input.{AreBytes};
 ghost use Rattle.dw_section.specs.Accepted.{RulesHold};
 ghost use Rattle.dw_section.specs.Headers.{Head};
 ghost use Rattle.dw_section.specs.Ranges.{IsRanged, range_in};
@@ -16,7 +15,7 @@ use crate::listed_fde::{FoundFde, found_fde};
 use crate::program::Initial;
 use crate::table::Table;
 use dw_cfa::{Instr, Instructions};
-use dw_num::{Refusal, Target, are_bytes};
+use dw_num::{Refusal, Target};
 
 fn starts_row(answer: &Result<Instr<'_>, Refusal>) -> bool
     ensures { result ≡ starts_row answer.now }
@@ -56,7 +55,6 @@ fn sum_starts<'a>(
     index: &[Ranged],
 ) -> u64
     requires few { length index.now ≤ 2147483647 }
-    requires bytes { AreBytes bytes.now }
     requires headers { (hs : List Head) × RulesHold target bytes.now hs × AreInitials target hs hs initials.now × AllByRecursion (IsRanged hs) index.now }
     ensures { (hs : List Head) → RulesHold target bytes.now hs → AreInitials target hs hs initials.now → AllByRecursion (IsRanged hs) index.now → (counts : List ℕ) × AllZip (Starts target bytes.now) (map range_in index.now) counts × (result ≡ total counts) }
 {
@@ -74,7 +72,6 @@ impl<'a> Table<'a> {
     pub fn row_starts(&self) -> u64
         ensures { RowStarts self.now.target self.now.bytes result }
     {
-        are_bytes(self.bytes);
-        sum_starts(self.bytes, self.target, &self.initials, &self.index)
+        sum_starts(self.bytes, self.target, self.initials(), self.index())
     }
 }

@@ -6,12 +6,11 @@ ghost use Rattle.dw_cfa.specs.Faults.{FaultUpTo, NoFaultUpTo};
 ghost use Rattle.dw_cfa.specs.Gives.{RunsTo};
 ghost use Rattle.dw_section.specs.Cut.{Piece, id_width};
 ghost use Rattle.dw_section.specs.declared.entry.Kind.TheVariants as kind;
-ghost use Rattle.dw_section.specs.declared.fields.FdeFields.{FdeFields};
 ghost use Rattle.dw_num.specs.declared.refusal.Refusal.{Refusal as TheRefusal};
 ghost use Rattle.dw_num.specs.Refusals.{Refuses};
-ghost use Rattle.dw_num.specs.Span.{Span, span_of, input_of};
+ghost use Rattle.dw_num.specs.Span.{span_of, input_of};
 ghost use Rattle.dw_num.specs.Target.{address_limit};
-ghost use Rattle.dw_section.specs.Headers.{Head, IsFde, head_in};
+ghost use Rattle.dw_section.specs.Headers.{FdeHead, Has, Head, fde, head_in};
 ghost use Rattle.dw_section.specs.declared.fde_range.Ranged.{Ranged as TheRanged};
 ghost use Rattle.dw_section.specs.Ranges.{IsEntry, LeadsTo, Uncovered, fde_in, range_in, IsTable};
 ghost use Rattle.dw_section.specs.Inner.Lookup.{fde_of, rows_of};
@@ -89,13 +88,17 @@ fn cie_at<'a>(bytes: &'a [u8], at: u64, target: Target) -> Result<Option<Placed<
 
 /// The first field of an FDE: the place of its CIE.
 #[inline(always)]
-pub(crate) fn pointer_of(piece: &Placed<'_>, target: Target) -> Result<u64, Refusal>
-    ensures names { id_width piece.now.form ≤ length piece.now.contents.bytes.now → MatchResult result (Names target (piece_in piece.now)) (λ r. ⊥) }
-    ensures only { (places : List ℕ) (f : FdeFields) (program : Span) → IsFde target places (piece_in piece.now) f program → MatchResult result (λ at. at ≡ f.cie_at) (λ _. ⊥) }
+pub(crate) fn pointer_of(piece: &Placed<'_>, target: Target) -> u64
+    requires { id_width piece.now.form ≤ length piece.now.contents.bytes.now }
+    ensures names { Names target (piece_in piece.now) result }
+    ensures only { (places : List ℕ) (h : FdeHead) → Has target places (piece_in piece.now) (fde h) → result ≡ h.cie_at }
 {
     let contents = piece.contents;
     let mut cursor = Cursor::new(contents.bytes, contents.at, target);
-    cursor.fixed(width_of(piece.form))
+    let Ok(pointer) = cursor.fixed(width_of(piece.form)) else {
+        unreachable!();
+    };
+    pointer
 }
 
 // What is said of an FDE by its own header and by that of its CIE.
@@ -156,7 +159,7 @@ fn fde_in<'a>(
     ensures fault { IfErr result (PairFault target bytes.now (piece_in own.now)) }
     ensures only { StandsAt target bytes.now own.now.at → MatchResult result IsSome (λ _. ⊥) }
 {
-    let pointer = pointer_of(own, target)?;
+    let pointer = pointer_of(own, target);
     let Some(named) = cie_at(bytes, pointer, target)? else {
         return Err(Refusal {
             code: Code::NoSuchCie,
@@ -202,21 +205,31 @@ fn covers(fde: &Ranged, address: u64) -> bool
     fde.begin <= address && address - fde.begin < fde.range
 }
 
-// The entry of an index that covers an address.
-fn entry_at(index: &[Ranged], address: u64) -> Option<Ranged>
-    ensures covers { IfSome result (λ e. Covers address (fde_in e)) }
-    ensures among { IfSome result (λ e. IsEntry e index.now) }
+/// Where the entry of an index stands that covers an address.
+pub(crate) fn place_of(index: &[Ranged], address: u64) -> Option<usize>
+    ensures covers { IfSome result (λ i. (i < length index.now) × ((d : TheRanged) → Covers address (fde_in (slice_index_or index.now i d)))) }
     ensures none { result ≡ None → Uncovered index.now address }
 {
     let begun = begun(index, address);
     if begun == 0 {
         return None;
     }
-    let fde = index[begun - 1];
-    if covers(&fde, address) {
-        Some(fde)
+    if covers(&index[begun - 1], address) {
+        Some(begun - 1)
     } else {
         None
+    }
+}
+
+// The entry of an index that covers an address.
+fn entry_at(index: &[Ranged], address: u64) -> Option<Ranged>
+    ensures covers { IfSome result (λ e. Covers address (fde_in e)) }
+    ensures among { IfSome result (λ e. IsEntry e index.now) }
+    ensures none { result ≡ None → Uncovered index.now address }
+{
+    match place_of(index, address) {
+        Some(place) => Some(index[place]),
+        None => None,
     }
 }
 

@@ -18,9 +18,9 @@ ghost use Rattle.dw_section.specs.Table.{Section};
 ghost use Rattle.dw_section.specs.Inner.Table.{AreRanges, IsKept};
 ghost use Rattle.dw_section.specs.Ranges.{IsTable};
 
-use crate::entry::{EntryCounts, cut};
+use crate::entry::EntryCounts;
 use crate::fde_range::{Ranged, first_overlap, put_in_order, run_fdes};
-use crate::header::{fdes_hold, find_cies};
+use crate::header::heads_hold;
 use crate::program::{Initial, run_cies};
 use dw_num::{Code, ReadError, Refusal, Target, are_bytes};
 use std::alloc::Global;
@@ -100,15 +100,14 @@ fn judged<'a>(alloc: Global, bytes: &'a [u8], target: Target) -> Result<Sound<'a
     ensures found { IfOk result (λ j. AreRanges target bytes.now j.list.items × IsKept target bytes.now j.counts j.initials.items) }
     ensures first { IfErr result (Refuses (RulesFault target bytes.now)) }
 {
-    let counts = cut(bytes, target)?;
-    let places = find_cies(alloc, bytes, target, counts.cies)?;
-    fdes_hold(bytes, target, &places)?;
-    let initials = run_cies(alloc, bytes, target, &places)?;
-    let (list, lacking) = run_fdes(alloc, bytes, target, &places, &initials, counts.fdes)?;
+    let cies = heads_hold(alloc, bytes, target)?;
+    let places: &[u64] = &cies.places;
+    let initials = run_cies(alloc, bytes, target, places)?;
+    let (list, lacking) = run_fdes(alloc, bytes, target, places, &initials, cies.counts.fdes)?;
     match lacking {
         Some(at) => Err(refused(Code::NoCfaRule, at)),
         None => Ok(Sound {
-            counts,
+            counts: cies.counts,
             initials,
             list,
         }),

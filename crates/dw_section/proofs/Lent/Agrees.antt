@@ -1,33 +1,22 @@
 -- Programs that say the same have the same rules at an address, and the same changes.
 use Rattle.std.proofs.Common.{◌≡◌, ℕ, suc, ◌<◌, ◌≤◌, List, [], ◌∷◌, ◌++◌, sym, ap, ◌∙◌, arith}
-use Rattle.dw_cfa.specs.declared.instr.Instr.{Instr}
-use Rattle.dw_cfa.specs.declared.rule.CfaRule.{CfaRule}
-use Rattle.dw_cfa.specs.declared.rule.RegRule.{RegRule}
-use Rattle.dw_cfa.specs.Column.{look_back, cfa_change, rule_change, cfa_after, rule_after}
-use Rattle.dw_cfa.specs.Laws.{initial_cfa, initial_rule}
-use Rattle.dw_cfa.specs.Location.{onto, back_from}
-use Rattle.dw_cfa.specs.Rows.{Rules}
+use Rattle.dw_section.proofs.Words.{Instr, CfaRule, RegRule, look_back, cfa_change, rule_change, cfa_after, rule_after, initial_cfa, initial_rule, onto, back_from, Rules, Differs, StayFrom, HoldsAt}
+use Rattle.dw_section.proofs.Words.{ChangesBehind, AreChanges, HasCfa, AgreeAt, Agree}
 use Rattle.dw_cfa.proofs.Lent.InstrCounts.{counts_exists, one_count}
-use Rattle.dw_section.specs.Changes.{Stays, Differs, StayFrom, HoldsAt, ChangesBehind, AreChanges}
-use Rattle.dw_section.specs.Programs.{HasCfa}
-use Rattle.dw_section.specs.Inner.Agree.{SameAfter, AgreeAt, Agree}
+use Rattle.dw_section.specs.Changes.{Stays}
 use Rattle.dw_section.proofs.Lent.Nops.{nops, cfa_nops, rule_nops, initial_cfa_nops, initial_rule_nops, counts_nops}
 
 -- ---- sameness
 
-same_back : (i j k l m n : List Instr) (x y z : ℕ) → SameAfter i j x k l y → SameAfter k l y m n z → SameAfter i j x m n z
-same_back i j k l m n x y z v w = record { cfa = v.cfa ∙ w.cfa; rules = λ r. v.rules r ∙ w.rules r }
-
-same_sym : (i j k l : List Instr) (x y : ℕ) → SameAfter i j x k l y → SameAfter k l y i j x
-same_sym i j k l x y v = record { cfa = sym v.cfa; rules = λ r. sym (v.rules r) }
-
 pub agree_sym : (begin a : ℕ) (i j k l : List Instr) → AgreeAt begin i j k l a → AgreeAt begin k l i j a
-agree_sym begin a i j k l h x y cx cy = same_sym i j k l y x (h y x cy cx)
+agree_sym begin a i j k l h x y cx cy = let v = h y x cy cx in record { cfa = sym v.cfa; rules = λ r. sym (v.rules r) }
 
 pub agree_then : (begin a : ℕ) (i j k l m n : List Instr) → begin ≤ a → AgreeAt begin i j k l a → AgreeAt begin k l m n a → AgreeAt begin i j m n a
 agree_then begin a i j k l m n le v w x z cx cz =
     let c = counts_exists begin l a le in
-    same_back i j k l m n x c.0 z (v x c.0 cx c.1) (w c.0 z c.1 cz)
+    let p = v x c.0 cx c.1 in
+    let q = w c.0 z c.1 cz in
+    record { cfa = p.cfa ∙ q.cfa; rules = λ r. p.rules r ∙ q.rules r }
 
 -- nops behind both programs change nothing
 pub agree_nops : (begin a : ℕ) (initial instrs : List Instr) (m n : ℕ) → AgreeAt begin initial instrs (initial ++ nops m) (instrs ++ nops n) a

@@ -1,31 +1,16 @@
 -- What changes among the rows of an FDE are the changes of the FDE.
-use Rattle.std.proofs.Common.{◌≡◌, ℕ, zero, suc, ◌<◌, ◌≤◌, false, List, [], ◌∷◌, Option, Some, None, refl, sym, ap, subst, ◌∙◌, arith, inl, inr}
-use Rattle.std.specs.Prelude.{nat_le}
+use Rattle.std.proofs.Common.{◌≡◌, ℕ, zero, suc, ◌<◌, ◌≤◌, false, List, [], ◌∷◌, Option, Some, None, refl, sym, ap, subst, ◌∙◌, arith, inl, inr, nat_le}
 use Rattle.std.proofs.lemmas.Bool.{cases_lt, le-leb}
 use Rattle.std.proofs.lemmas.Bool.Decides.{leb_tells}
-use Rattle.dw_num.specs.Input.{Input}
-use Rattle.dw_cfa.specs.declared.instr.Factors.{Factors}
-use Rattle.dw_cfa.specs.declared.instr.Instr.{Instr}
-use Rattle.dw_cfa.specs.declared.rule.CfaRule.{CfaRule}
-use Rattle.dw_cfa.specs.declared.rule.RegRule.{RegRule}
-use Rattle.dw_cfa.specs.Behind.{Leaves, HoldsBehind}
-use Rattle.dw_cfa.specs.Inner.Exact.{RulesBehind}
-use Rattle.dw_cfa.specs.Column.{cfa_after, rule_after}
-use Rattle.dw_cfa.specs.declared.execution.LocatedRow.{LocatedRow}
-use Rattle.dw_cfa.specs.Location.{Counts}
-use Rattle.dw_cfa.specs.Laws.{HoldsAfter}
-use Rattle.dw_cfa.specs.Rows.{Rules}
-use Rattle.dw_cfa.specs.RuleAt.{or_here, last_at, NeverFalls}
-use Rattle.dw_num.specs.Target.{address_limit}
-use Rattle.dw_cfa.specs.InstrSpells.{Program}
-use Rattle.dw_cfa.specs.Inner.Exact.{RowsOf}
-use Rattle.dw_cfa.proofs.Lent.BehindLaws.{behind_gives}
-use Rattle.dw_cfa.proofs.Lent.FaultLaws.{initial_leaves}
-use Rattle.dw_cfa.proofs.Lent.RunLaws.{run_halves, program_placed}
+use Rattle.dw_section.proofs.Words.{Instr, CfaRule, RegRule, RulesBehind, cfa_after, rule_after, LocatedRow, Counts, HoldsAfter, Rules, last_at, NeverFalls, Differs, StayFrom, HoldsAt, ChangesBehind}
+use Rattle.dw_section.proofs.Words.{AreChanges, Before, Among, Target, input_of, CieHead, FdeHead, factors_of}
+use Rattle.dw_cfa.specs.Behind.{Leaves}
+use Rattle.dw_cfa.specs.RuleAt.{or_here}
 use Rattle.dw_cfa.proofs.Lent.InstrCounts.{one_count, counts_exists}
 use Rattle.dw_cfa.proofs.Lent.SameRows.{same_rows}
-use Rattle.dw_section.specs.Changes.{Stays, Differs, StayFrom, HoldsAt, ChangesBehind, AreChanges}
-use Rattle.dw_section.specs.Inner.Changes.{Before, Passed, Among}
+use Rattle.dw_section.specs.Changes.{Stays}
+use Rattle.dw_section.specs.Inner.Changes.{Passed}
+use Rattle.dw_cfa.specs.Inner.Runs.{run_rows}
 
 -- ---- the last row at an address
 
@@ -52,7 +37,7 @@ module _ (initial instrs : List Instr) (begin end : ℕ) where
     pub counts : Counts begin instrs a k
     pub holds : HoldsAfter initial instrs k row
 
-  holds_at : (a : ℕ) (row : Rules) → HasRow a row → HoldsAt initial instrs begin a row
+  pub holds_at : (a : ℕ) (row : Rules) → HasRow a row → HoldsAt initial instrs begin a row
   holds_at a row h k counts = subst (λ (n : ℕ). HoldsAfter initial instrs n row) (one_count begin instrs a h.k k h.counts counts) h.holds
 
   stays : (a b : ℕ) (row : Rules) → HasRow a row → HasRow b row → Stays initial instrs begin a b
@@ -85,18 +70,16 @@ module _ (initial instrs : List Instr) (begin end : ℕ) where
       (later.0, later.1, subst (HasRow a) is here.2)
 
   -- and the first of them up to the next
-  hold_first : (row : LocatedRow) (rows : List LocatedRow) → NeverFalls row.location rows → Hold (row ∷ rows) → (a : ℕ) → row.location ≤ a → Before end a rows → HasRow a row.row
-  hold_first row [] falls h a le before =
+  shown_there : (row : LocatedRow) (rows : List LocatedRow) (a : ℕ) → row.location ≤ a → last_at a rows ≡ None → Hold (row ∷ rows) → HasRow a row.row
+  shown_there row rows a le none h =
       let here = h a le in
-      let same : Some row.row ≡ Some here.0 = sym (rw (le-leb row.location a le) refl) ∙ here.1 in
-      let is : here.0 ≡ row.row = cc in
-      subst (HasRow a) is here.2
-  hold_first row (next ∷ rows) falls h a le before =
-      let here = h a le in
-      let none = none_there a next.location (next ∷ rows) (omega arith, falls.1) before.0 in
       let same : Some row.row ≡ Some here.0 = sym (rw (none, le-leb row.location a le) refl) ∙ here.1 in
       let is : here.0 ≡ row.row = cc in
       subst (HasRow a) is here.2
+
+  hold_first : (row : LocatedRow) (rows : List LocatedRow) → NeverFalls row.location rows → Hold (row ∷ rows) → (a : ℕ) → row.location ≤ a → Before end a rows → HasRow a row.row
+  hold_first row [] falls h a le before = shown_there row [] a le refl h
+  hold_first row (next ∷ rows) falls h a le before = shown_there row (next ∷ rows) a le (none_there a next.location (next ∷ rows) (omega arith, falls.1) before.0) h
 
   -- what comes before a row comes before those that follow it
   before_more : (a : ℕ) (row : LocatedRow) (rows : List LocatedRow) → NeverFalls row.location rows → a < row.location → a < end → Before end a rows
@@ -184,46 +167,43 @@ module _ (initial instrs : List Instr) (begin end : ℕ) where
         subst (λ (n : ℕ). ChangesBehind initial instrs begin end n more) starts behind,
       )
 
+  first_starts : (rows : List LocatedRow) (x : Rules) → NeverFalls begin rows → last_at begin rows ≡ Some x → StartsAt rows
+  first_starts [] x falls e = absurd cc
+  first_starts (row ∷ rows) x falls e = elim (cases_lt begin row.location) [
+    | inl lt ↦ let none : None ≡ Some x = sym (none_there begin row.location (row ∷ rows) (omega arith, falls.1) lt) ∙ e in absurd cc
+    | inr le ↦ omega (arith, falls.0)
+  ]
+
+  hold_all : (rows : List LocatedRow) → NeverFalls begin rows → ((a : ℕ) → begin ≤ a → (x : Rules) × (last_at a rows ≡ Some x) × HasRow a x) → Hold rows
+  hold_all [] falls h = tt
+  hold_all (row ∷ rows) falls h = λ a le. h a (omega (arith, le, falls.0))
+
 -- ---- the rows of an FDE's program
 
-first_starts : (begin : ℕ) (rows : List LocatedRow) (x : Rules) → NeverFalls begin rows → last_at begin rows ≡ Some x → StartsAt [] [] begin begin rows
-first_starts begin [] x falls e = absurd cc
-first_starts begin (row ∷ rows) x falls e = elim (cases_lt begin row.location) [
-  | inl lt ↦ let none : None ≡ Some x = sym (none_there begin row.location (row ∷ rows) (omega arith, falls.1) lt) ∙ e in absurd cc
-  | inr le ↦ omega (arith, falls.0)
-]
+-- what the programs of an FDE and of its CIE give
+pub record Given (target : Target) (c : CieHead) (h : FdeHead) (initial instrs : List Instr) : Type 0 where
+  pub first : Rules
+  pub rows : List LocatedRow
+  pub run : run_rows (factors_of c) (input_of target c.program) (input_of target h.program) h.begin ≡ record { rows = rows; fault = None }
+  pub leaves : Leaves (factors_of c) (input_of target c.program) initial first
+  pub gives : RulesBehind (factors_of c) first (input_of target h.program) h.begin instrs rows
 
--- a row that holds behind an initial row holds after the instructions of its CIE
-after_behind : (f : Factors) (cie : Input) (initial instrs : List Instr) (first x : Rules) (k : ℕ) → Leaves f cie initial first → HoldsBehind first instrs k x → HoldsAfter initial instrs k x
-after_behind f cie initial instrs first x k leaves h = record {
-  cfa = h.cfa ∙ ap (λ (c : CfaRule). cfa_after c instrs k) leaves.cfa;
-  rules = λ r. h.rules r ∙ ap (λ (rule : RegRule). rule_after rule instrs r k) (leaves.rules r);
-  listed = h.listed;
-}
+module _ (target : Target) (c : CieHead) (h : FdeHead) (initial instrs : List Instr) (end : ℕ) (g : Given target c h initial instrs) where
+  -- the last row at or below an address has the rules there
+  pub row_there : (a : ℕ) → h.begin ≤ a → (x : Rules) × (last_at a g.rows ≡ Some x) × HasRow initial instrs h.begin end a x
+  row_there a le =
+      let counts = counts_exists h.begin instrs a le in
+      let row = g.gives.holds a counts.0 le counts.1 in
+      let behind = row.2 in
+      let holds : HoldsAfter initial instrs counts.0 row.0 = record {
+        cfa = behind.cfa ∙ ap (λ (x : CfaRule). cfa_after x instrs counts.0) g.leaves.cfa;
+        rules = λ r. behind.rules r ∙ ap (λ (x : RegRule). rule_after x instrs r counts.0) (g.leaves.rules r);
+        listed = behind.listed;
+      } in
+      (row.0, row.1, record { k = counts.0; counts = counts.1; holds = holds })
 
-hold_all : (initial instrs : List Instr) (begin end : ℕ) (rows : List LocatedRow) → NeverFalls begin rows → ((a : ℕ) → begin ≤ a → (x : Rules) × (last_at a rows ≡ Some x) × HasRow initial instrs begin end a x) → Hold initial instrs begin end rows
-hold_all initial instrs begin end [] falls h = tt
-hold_all initial instrs begin end (row ∷ rows) falls h = λ a le. h a (omega (arith, le, falls.0))
-
-pub changes_found : (f : Factors) (cie fde : Input) (initial instrs : List Instr) (first : Rules) (begin end : ℕ) (rows : List LocatedRow) (changes : List (ℕ × Rules)) → Leaves f cie initial first
-    → RulesBehind f first fde begin instrs rows → begin < end → Among end None rows changes → AreChanges initial instrs begin end changes
-changes_found f cie fde initial instrs first begin end rows changes leaves gives nonempty is =
-    let at : (a : ℕ) → begin ≤ a → (x : Rules) × (last_at a rows ≡ Some x) × HasRow initial instrs begin end a x = λ a le.
-    let counts = counts_exists begin instrs a le in
-    let row = gives.holds a counts.0 le counts.1 in
-    (row.0, row.1, record { k = counts.0; counts = counts.1; holds = after_behind f cie initial instrs first row.0 counts.0 leaves row.2 }) in
-    let start = at begin (omega arith) in
-    all_found initial instrs begin end rows changes gives.never_falls (hold_all initial instrs begin end rows gives.never_falls at) (first_starts begin rows start.0 gives.never_falls start.1) nonempty is
-
--- the same of the rows of two programs
-pub run_changes : (f : Factors) (cie fde : Input) (initial instrs : List Instr) (begin end : ℕ) (rows : List LocatedRow) (changes : List (ℕ × Rules)) → RowsOf f cie fde begin rows
-    → Program cie.target f initial cie.bytes → Program fde.target f instrs fde.bytes → begin ≤ address_limit fde.target.size → begin < end → Among end None rows changes
-    → AreChanges initial instrs begin end changes
-run_changes f cie fde initial instrs begin end rows changes of first program le nonempty is =
-    let half = run_halves f cie fde begin rows of.given in
-    let left = initial_leaves f cie half.0 of.cie_bytes half.1 in
-    let same : left.0 ≡ initial = sym (program_placed f cie left.0 of.cie_bytes left.1.program).0 ∙ (program_placed f cie initial of.cie_bytes first).0 in
-    let leaves = subst (λ (l : List Instr). Leaves f cie l half.0) same left.1 in
-    let given = behind_gives f half.0 fde begin rows of.fde_bytes leaves.listed le half.2 in
-    let also : given.0 ≡ instrs = sym (program_placed f fde given.0 of.fde_bytes given.1.program).0 ∙ (program_placed f fde instrs of.fde_bytes program).0 in
-    changes_found f cie fde initial instrs half.0 begin end rows changes leaves (subst (λ (l : List Instr). RulesBehind f half.0 fde begin l rows) also given.1) nonempty is
+  pub changes_found : (changes : List (ℕ × Rules)) → h.begin < end → Among end None g.rows changes → AreChanges initial instrs h.begin end changes
+  changes_found changes nonempty is =
+      let falls = g.gives.never_falls in
+      let start = row_there h.begin (omega arith) in
+      all_found initial instrs h.begin end g.rows changes falls (hold_all initial instrs h.begin end g.rows falls row_there) (first_starts initial instrs h.begin end g.rows start.0 falls start.1) nonempty is

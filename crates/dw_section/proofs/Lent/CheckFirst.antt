@@ -1,41 +1,20 @@
 -- A section that is accepted has no first fault, and any other at most one.
-use Rattle.std.proofs.Common.{◌≡◌, ℕ, ◌≤◌, ◌⊎◌, List, [], ◌∷◌, ◌++◌, Result, Ok, Err, refl, sym, ap, subst, ◌∙◌, arith, inl, inr}
-use Rattle.std.specs.Prelude.{IfOk, IfErr, MatchResult}
+use Rattle.std.proofs.Common.{◌≡◌, ℕ, ◌≤◌, ◌⊎◌, List, [], ◌∷◌, ◌++◌, sym, ap, subst, ◌∙◌, arith, inl, inr}
 use Rattle.std.specs.List.{AllByRecursion}
-use Rattle.dw_num.specs.declared.refusal.Code.TheVariants.{Overlap}
-use Rattle.dw_num.specs.declared.refusal.Refusal.{Refusal}
-use Rattle.dw_num.specs.declared.target.Target.{Target}
-use Rattle.dw_num.specs.Input.{AreBytes}
-use Rattle.dw_num.specs.Span.{Span, input_of}
-use Rattle.dw_num.specs.declared.error.ReadError.{ReadError}
-use Rattle.dw_num.specs.declared.error.ReadError.TheVariants.{Refused, OutOfMemory}
-use Rattle.dw_num.specs.Refusals.{Refuses}
-use Rattle.dw_cfa.specs.declared.instr.Factors.{Factors}
-use Rattle.dw_cfa.specs.declared.instr.Instr.{Instr}
-use Rattle.dw_cfa.specs.InstrSpells.{Program}
-use Rattle.dw_cfa.specs.declared.rule.CfaRule.TheVariants.{Unset}
-use Rattle.dw_cfa.specs.Location.{Counts}
-use Rattle.dw_cfa.specs.Column.{cfa_after}
-use Rattle.dw_cfa.specs.Faults.{FdeFault}
-use Rattle.dw_cfa.specs.Laws.{initial_cfa}
-use Rattle.dw_section.specs.Stage.{FirstStuck, Then}
-use Rattle.dw_section.specs.Headers.{Head, cie, fde, Headers, HeadersFault}
-use Rattle.dw_section.specs.Inner.Heads.{HeadsRise, FdeFits, HasBytes, cie_ats}
-use Rattle.dw_section.specs.Overlap.{Range, IsIndex, AreApart, FirstOverlap, end_of}
-use Rattle.dw_section.specs.Among.{IsAmong}
-use Rattle.dw_section.specs.Programs.{Instrs, CieRuns, CieBroken, FdeRuns, FdeBroken, HasRules, LacksRule, factors_of}
-use Rattle.dw_section.specs.Accepted.{CiesRun, FdesRun, RulesHold, Indexed, Accepted, CieProgramsFault, FdeProgramsFault, RulesFault, CheckFault}
+use Rattle.dw_section.proofs.Words.{Overlap, Refusal, Target, AreBytes, Span, input_of, Factors, Instr, Program, Unset, Counts, cfa_after, FdeFault, initial_cfa, FirstStuck, Then, Head, cie, fde}
+use Rattle.dw_section.proofs.Words.{Headers, HeadersFault, HeadsRise, FdeFits, HasBytes, cie_ats, Range, IsIndex, AreApart, FirstOverlap, end_of, IsAmong, Instrs, CieRuns, CieBroken, FdeRuns}
+use Rattle.dw_section.proofs.Words.{FdeBroken, HasRules, LacksRule, factors_of, RulesHold, Accepted, CieProgramsFault, FdeProgramsFault, RulesFault, CheckFault}
+use Rattle.dw_section.specs.Accepted.{CiesRun, FdesRun, Indexed}
 use Rattle.dw_section.proofs.Cfa.{cie_fault_apart, cie_fault_one, fde_fault_apart, fde_fault_one, one_program}
-use Rattle.dw_section.proofs.FirstFault.{then_apart, then_one, one_fault}
-use Rattle.dw_section.proofs.Lent.HeaderLaws.{one_headers, fault_or_headers}
+use Rattle.dw_section.proofs.FirstFault.{then_apart, then_one, one_fault, fault_or_headers}
+use Rattle.dw_section.proofs.Lent.HeaderLaws.{one_headers}
 use Rattle.dw_section.proofs.Lent.Heads.{heads_rise, heads_bytes, heads_fit, one_begin}
 use Rattle.dw_section.proofs.Lent.Index.{one_index}
 use Rattle.dw_section.proofs.Stages.{holds_at, one_first}
 
 -- what is known of a header, for the stages of programs
-pub record Known (target : Target) (hs : List Head) (h : Head) : Type 0 where
-  pub bytes : HasBytes h
-  pub fits : FdeFits target (cie_ats hs) h
+abbrev Known : Target → List Head → Head → Type 0
+Known target hs h = HasBytes h × FdeFits target (cie_ats hs) h
 
 -- ---- programs of CIEs
 
@@ -55,17 +34,15 @@ module _ (target : Target) (hs : List Head) (up : HeadsRise 0 hs) (all : AllByRe
   fde_apart (fde d) known r runs broken =
       let is = runs.2 in
       let same = one_begin target hs d.cie_at is.head broken.0 runs.0 broken.1 up all is.begins broken.2 in
-      let fits = known.fits in
       let fault = subst (λ (l : List Instr). FdeFault (factors_of is.head) (initial_cfa l) (input_of target d.program) d.begin r) (sym same.instrs) (subst (λ (f : Factors). FdeFault f (initial_cfa broken.1) (input_of target d.program) d.begin r) (sym same.factors) broken.3) in
-      fde_fault_apart (factors_of is.head) (initial_cfa runs.0) (input_of target d.program) d.begin r runs.1 known.bytes (omega (arith, fits.0)) is.spelled runs.3 fault
+      fde_fault_apart (factors_of is.head) (initial_cfa runs.0) (input_of target d.program) d.begin r runs.1 known.0 (omega (arith, known.1.0)) is.spelled runs.3 fault
 
   fde_one : (h : Head) → Known target hs h → (r q : Refusal) → FdeBroken target hs h r → FdeBroken target hs h q → r ≡ q
   fde_one (cie c) known r q v w = absurd v
   fde_one (fde d) known r q v w =
       let same = one_begin target hs d.cie_at v.0 w.0 v.1 w.1 up all v.2 w.2 in
-      let fits = known.fits in
       let fault = subst (λ (l : List Instr). FdeFault (factors_of v.0) (initial_cfa l) (input_of target d.program) d.begin q) (sym same.instrs) (subst (λ (f : Factors). FdeFault f (initial_cfa w.1) (input_of target d.program) d.begin q) (sym same.factors) w.3) in
-      fde_fault_one (factors_of v.0) (initial_cfa v.1) (input_of target d.program) d.begin r q known.bytes (omega (arith, fits.0)) v.3 fault
+      fde_fault_one (factors_of v.0) (initial_cfa v.1) (input_of target d.program) d.begin r q known.0 (omega (arith, known.1.0)) v.3 fault
 
   -- the instructions of an FDE and of its CIE are one
   pub one_instrs : (place : ℕ) (program : Span) (initial instrs another others : List Instr) → AreBytes program.bytes → Instrs target hs place program initial instrs → Instrs target hs place program another others
@@ -78,7 +55,7 @@ module _ (target : Target) (hs : List Head) (up : HeadsRise 0 hs) (all : AllByRe
   rules_apart (cie c) known r has lacks = absurd lacks
   rules_apart (fde f) known r has lacks =
       let l = lacks.1 in
-      let same = one_instrs f.cie_at f.program l.0 l.1 has.0 has.1 known.bytes l.2 has.2 in
+      let same = one_instrs f.cie_at f.program l.0 l.1 has.0 has.1 known.0 l.2 has.2 in
       let at = l.3 in
       let gap = at.3 in
       let counts = subst (λ (i : List Instr). Counts f.begin i at.0 gap.0) same.1 gap.1 in
@@ -128,11 +105,7 @@ answered Before Answer Own r (inr v) = inr (v.0, v.1, (v.1, v.2))
 -- ---- one more stage over headers
 
 pub all_known : (target : Target) (s : List ℕ) (hs : List Head) → AreBytes s → Headers target s hs → AllByRecursion (Known target hs) hs
-all_known target s hs b p = known hs (heads_bytes target s hs b p) (heads_fit target s hs p)
-  where
-    known : (ks : List Head) → AllByRecursion HasBytes ks → AllByRecursion (FdeFits target (cie_ats hs)) ks → AllByRecursion (Known target hs) ks
-    known [] x y = tt
-    known (k ∷ ks) x y = (record { bytes = x.0; fits = y.0 }, known ks x.1 y.1)
+all_known target s hs b p = all_both HasBytes (FdeFits target (cie_ats hs)) hs (heads_bytes target s hs b p) (heads_fit target s hs p)
 
 module _ (target : Target) (s : List ℕ) (b : AreBytes s) (Before : Refusal → Type 0) (Answer : List Head → Type 0) (headers : (hs : List Head) → Answer hs → Headers target s hs)
     (Holds : List Head → Head → Type 0) (Stuck : List Head → Head → Refusal → Type 0)
@@ -158,14 +131,14 @@ module _ (target : Target) (s : List ℕ) (b : AreBytes s) (Before : Refusal →
 
 module _ (target : Target) (s : List ℕ) (b : AreBytes s) where
   cie_stage : (hs : List Head) → Headers target s hs → (h : Head) → Known target hs h → (r : Refusal) → CieRuns target h → CieBroken target h r → ⊥
-  cie_stage hs p h known = cie_apart target h known.bytes
+  cie_stage hs p h known = cie_apart target h known.0
 
   cies_or_fault : (r : Refusal) (hs : List Head) → CieProgramsFault target s r → CiesRun target s hs → ⊥
   cies_or_fault = stage_apart target s b (HeadersFault target s) (Headers target s) (λ hs p. p) (λ hs. CieRuns target) (λ hs. CieBroken target) cie_stage (fault_or_headers target s)
 
   one_cie_fault : (r q : Refusal) → CieProgramsFault target s r → CieProgramsFault target s q → r ≡ q
   one_cie_fault = stage_fault target s b (HeadersFault target s) (Headers target s) (λ hs p. p) (λ hs. CieRuns target) (λ hs. CieBroken target) cie_stage (fault_or_headers target s)
-      (λ hs p h known. cie_one target h known.bytes) (one_fault target s)
+      (λ hs p h known. cie_one target h known.0) (one_fault target s)
 
   fde_stage : (hs : List Head) → Headers target s hs → (h : Head) → Known target hs h → (r : Refusal) → FdeRuns target hs h → FdeBroken target hs h r → ⊥
   fde_stage hs p = fde_apart target hs (heads_rise target s hs p) (heads_bytes target s hs b p)
@@ -236,8 +209,3 @@ module _ (target : Target) (s : List ℕ) (b : AreBytes s) where
 
   pub one_check_fault : (r q : Refusal) → CheckFault target s r → CheckFault target s q → r ≡ q
   one_check_fault r q v w = then_one (RulesFault target s) (Indexed target s) FirstOverlap indexed_or_fault one_indexed (one_rules_fault target s b) overlap_one r q v w
-
-pub only_accepted : {V : Type 0} (P : V → Type 0) (target : Target) (s : List ℕ) → AreBytes s → (r : Result V ReadError) → IfOk r P → IfErr r (Refuses (CheckFault target s)) → Accepted target s → MatchResult r P (λ e. e ≡ OutOfMemory)
-only_accepted P target s b (Ok v) found first h = found
-only_accepted P target s b (Err OutOfMemory) found first h = refl
-only_accepted P target s b (Err (Refused r)) found first h = absurd (fault_or_accepted target s b r first h)

@@ -2,21 +2,11 @@
 use Rattle.std.proofs.Common.{◌≡◌, ℕ, zero, suc, ◌+◌, ◌<◌, ◌≤◌, List, [], ◌∷◌, map, length, get_or, refl, sym, ap, subst, ◌∙◌, arith, inl, inr}
 use Rattle.std.specs.List.{AllByRecursion, AllZip}
 use Rattle.std.specs.List.Sorted.{IsNonDecreasingBy}
-use Rattle.std.proofs.lemmas.List.{length-map}
-use Rattle.dw_num.specs.declared.target.Target.{Target}
-use Rattle.dw_section.specs.declared.fde_range.Ranged.{Ranged}
+use Rattle.std.proofs.lemmas.List.{length-map, get_or-map}
+use Rattle.dw_section.proofs.Words.{Target, Ranged, Head, CieHead, FdeHead, HeadsRise, IsRanged, range_in, fde_in, IsTable, Returns, Lists, AreFdes, Covers, NoneCovers, IsAmong, Range, Precedes}
+use Rattle.dw_section.proofs.Words.{Ascends, AreApart, IsIndex}
 use Rattle.dw_section.specs.declared.lookup.Fde.{Fde}
-use Rattle.dw_section.specs.Headers.{Head, CieHead, FdeHead}
-use Rattle.dw_section.specs.Inner.Heads.{HeadsRise}
-use Rattle.dw_section.specs.Ranges.{IsRanged, range_in, fde_in, IsTable}
-use Rattle.dw_section.specs.Meaning.{Returns, Lists, AreFdes, Covers, NoneCovers}
-use Rattle.dw_section.specs.Among.{IsAmong}
-use Rattle.dw_section.specs.Overlap.{Range, Precedes, Ascends, AreApart, IsIndex, end_of}
-use Rattle.dw_section.specs.Inner.Table.{IsKept}
-use Rattle.dw_section.specs.declared.entry.EntryCounts.{EntryCounts}
-use Rattle.dw_section.specs.declared.program.Initial.{Initial}
-use Rattle.dw_section.specs.Inner.Initials.{AreInitials}
-use Rattle.dw_section.proofs.Lent.Judged.{all_get}
+use Rattle.dw_section.proofs.Lent.Judged.{all_get, all_get_map}
 use Rattle.dw_section.proofs.Lent.HeaderLaws.{one_headers}
 use Rattle.dw_section.proofs.Lent.Heads.{heads_rise, one_among, cie_or, fde_or}
 use Rattle.dw_section.proofs.Lent.Index.{one_index}
@@ -61,10 +51,12 @@ one_fdes target s fs gs v w =
 
 -- ---- the search
 
+-- the entry where there is none
+abbrev pub none : Ranged
+none = record { begin = 0; range = 0; at = 0; return_register = 0 }
+
 later_begin : (a : Range) (list : List Ranged) (k : ℕ) (d : Ranged) → AllByRecursion (Precedes a) (map range_in list) → k < length list → a.begin ≤ (get_or list k d).begin
-later_begin a [] k d h lt = absurd (omega arith)
-later_begin a (e ∷ list) zero d h lt = elim h.0 [ inl x ↦ omega arith | inr x ↦ omega (arith, x.0) ]
-later_begin a (e ∷ list) (suc k) d h lt = later_begin a list k d h.1 (omega arith)
+later_begin a list k d h lt = elim (all_get_map (Precedes a) range_in list k d h lt) [ inl x ↦ omega arith | inr x ↦ omega (arith, x.0) ]
 
 pub begins_ascend : (list : List Ranged) → Ascends (map range_in list) → IsNonDecreasingBy (λ (e : Ranged). e.begin) list
 begins_ascend (e ∷ list) up zero zero d le lt = omega arith
@@ -76,11 +68,6 @@ pub none_above : (a : ℕ) (list : List Ranged) → ((k : ℕ) (d : Ranged) → 
 none_above a [] h = tt
 none_above a (e ∷ list) h = (λ c. let p = h 0 e (omega arith) in absurd (omega (arith, c.0)), none_above a list (λ k d lt. h (suc k) d (omega arith)))
 
-ends_before : (end : ℕ) (list : List Ranged) (k : ℕ) (d : Ranged) → AllByRecursion (λ (b : Range). end ≤ b.begin) (map range_in list) → k < length list → end ≤ (get_or list k d).begin
-ends_before end [] k d h lt = absurd (omega arith)
-ends_before end (e ∷ list) zero d h lt = h.0
-ends_before end (e ∷ list) (suc k) d h lt = ends_before end list k d h.1 (omega arith)
-
 -- an address that lies behind the last FDE that begins at or below it lies in none
 pub none_covers : (a : ℕ) (list : List Ranged) (i : ℕ) (x : Ranged) → AreApart (map range_in list) → i < length list → x ≡ get_or list i x → x.begin ≤ a → x.begin + x.range ≤ a
     → ((k : ℕ) (d : Ranged) → suc i ≤ k → k < length list → a < (get_or list k d).begin) → NoneCovers a (map fde_in list)
@@ -88,14 +75,12 @@ none_covers a [] i x apart lt is begin end above = absurd (omega arith)
 none_covers a (e ∷ list) zero x apart lt is begin end above =
     (λ c. let p : e.begin + e.range ≤ a = subst (λ (y : Ranged). y.begin + y.range ≤ a) is end in absurd (omega (arith, c.1)), none_above a list (λ k d l. above (suc k) d (omega arith) (omega arith)))
 none_covers a (e ∷ list) (suc i) x apart lt is begin end above = (
-  λ c. let p = ends_before (end_of (range_in e)) list i x apart.0 (omega arith) in let q : (get_or list i x).begin ≤ a = subst (λ (y : Ranged). y.begin ≤ a) is begin in absurd (omega (arith, c.1)),
+  λ c. let p = all_get_map (λ (b : Range). e.begin + e.range ≤ b.begin) range_in list i x apart.0 (omega arith) in let q : (get_or list i x).begin ≤ a = subst (λ (y : Ranged). y.begin ≤ a) is begin in absurd (omega (arith, c.1)),
   none_covers a list i x apart.1 (omega arith) is begin end (λ k d le l. above (suc k) d (omega arith) (omega arith)),
 )
 
 pub covers_listed : (a : ℕ) (list : List Ranged) (i : ℕ) → i < length list → ((d : Ranged) → Covers a (fde_in (get_or list i d))) → (i < length (map fde_in list)) × ((d : Fde) → Covers a (get_or (map fde_in list) i d))
-covers_listed a [] i lt h = absurd (omega arith)
-covers_listed a (e ∷ list) zero lt h = (omega arith, λ d. h e)
-covers_listed a (e ∷ list) (suc i) lt h = let rest = covers_listed a list i (omega arith) h in (omega (arith, rest.0), rest.1)
+covers_listed a list i lt h = (omega (arith, lt, length-map list fde_in), λ d. rw (get_or-map fde_in list i none d lt) (h none))
 
 -- an FDE at a place of a list is listed
 pub fde_listed : (f : Fde) (fs : List Fde) (i : ℕ) → i < length fs → ((d : Fde) → f ≡ get_or fs i d) → IsAmong f fs
@@ -107,29 +92,15 @@ fde_listed f (x ∷ fs) (suc i) lt is = inr (fde_listed f fs i (omega arith) is)
 pub listed_place : (target : Target) (s : List ℕ) (list : List Ranged) (place : ℕ) → IsTable target s list → ((fs : List Fde) → AreFdes target s fs → place < length fs) → place < length list
 listed_place target s list place t lt = omega (arith, lt (map fde_in list) (are_fdes target s list t), length-map list fde_in)
 
-pub listed_count : (target : Target) (s : List ℕ) (list : List Ranged) → IsTable target s list → (fs : List Fde) → AreFdes target s fs → length list ≡ length fs
-listed_count target s list t fs are =
-    let same = one_fdes target s (map fde_in list) fs (are_fdes target s list t) are in
-    omega (arith, ap length same, length-map list fde_in)
+pub listed_are : (target : Target) (s : List ℕ) (list : List Ranged) → IsTable target s list → (fs : List Fde) → AreFdes target s fs → map fde_in list ≡ fs
+listed_are target s list t fs are = one_fdes target s (map fde_in list) fs (are_fdes target s list t) are
 
 pub listed_fde : (list : List Ranged) (place : ℕ) (e : Ranged) (d : Fde) → place < length list → e ≡ get_or list place e → fde_in e ≡ get_or (map fde_in list) place d
-listed_fde [] place e d lt is = absurd (omega arith)
-listed_fde (x ∷ list) zero e d lt is = ap fde_in is
-listed_fde (x ∷ list) (suc place) e d lt is = listed_fde list place e d (omega arith) is
+listed_fde list place e d lt is = ap fde_in is ∙ sym (get_or-map fde_in list place e d lt)
 
--- what a table keeps is of its headers
-pub kept_of : (target : Target) (s : List ℕ) (list : List Ranged) (counts : EntryCounts) (cs : List Initial) (t : IsTable target s list) → IsKept target s counts cs → AreInitials target t.indexed.headers t.indexed.headers cs
-kept_of target s list counts cs t k = subst (λ (hs : List Head). AreInitials target hs hs cs) (one_headers target s k.headers t.indexed.headers k.heads t.indexed.hold.0.0.0) k.initials
-
--- an entry of the list is of one of them
+-- an entry of the list is of one of its headers
 pub ranged_of : (target : Target) (s : List ℕ) (list : List Ranged) (t : IsTable target s list) (i : ℕ) (d : Ranged) → i < length list → IsRanged t.indexed.headers (get_or list i d)
 ranged_of target s list t i d lt = all_get (IsRanged t.indexed.headers) list i d t.indexed.each lt
-
-pub here_of : (target : Target) (s : List ℕ) (list : List Ranged) (counts : EntryCounts) (cs : List Initial) (t : IsTable target s list) → IsKept target s counts cs
-    → (ds : List Initial) → ds ≡ cs → (i : ℕ) (e : Ranged) → i < length list → e ≡ get_or list i e → AreInitials target t.indexed.headers t.indexed.headers ds × IsRanged t.indexed.headers e
-here_of target s list counts cs t k ds d-is i e lt is =
-    let hs = t.indexed.headers in
-    (subst (AreInitials target hs hs) (sym d-is) (kept_of target s list counts cs t k), subst (IsRanged hs) (sym is) (ranged_of target s list t i e lt))
 
 pub same_fde : (b r q b' r' q' : ℕ) → b ≡ b' → r ≡ r' → q ≡ q' → ◌≡◌ {A = Fde} (record { begin = b; end = b + r; return_register = q }) (record { begin = b'; end = b' + r'; return_register = q' })
 same_fde b r q b' r' q' e f g = rw (e, f, g) refl

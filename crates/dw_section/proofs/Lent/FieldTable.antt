@@ -1,28 +1,18 @@
 -- The code reads the fields of the table; and what the table says of their numbers.
-use Rattle.std.proofs.Common.{◌≡◌, ℕ, zero, ◌+◌, ◌<◌, ◌≤◌, ◌==◌, ◌^◌, Bool, true, false, List, length, Option, Some, None, Ok, Err, refl, sym, ap, subst, ◌∙◌, arith, inl, inr, Result}
+use Rattle.std.proofs.Common.{◌≡◌, ℕ, zero, ◌+◌, ◌<◌, ◌≤◌, ◌==◌, ◌^◌, Bool, true, false, List, length, Option, Some, None, Ok, Err, refl, sym, ap, subst, ◌∙◌, arith, inl, inr, Result, w64}
 use Rattle.std.specs.Prelude.{◌||◌, ℤ, FitsSigned, position, nat_le, cond, nat_lt}
-use Rattle.std.specs.Int.{w64}
-use Rattle.std.proofs.lemmas.Bool.{cases_lt, lt-ltb, le-ltb, leb-true, ltb-true}
+use Rattle.std.proofs.lemmas.Bool.{cases_lt, lt-ltb, le-ltb, leb-true, ltb-true, cond_both}
 use Rattle.std.proofs.lemmas.Bool.Decides.{eqb_tells}
-use Rattle.dw_num.specs.declared.refusal.Code.{Code}
-use Rattle.dw_num.specs.declared.refusal.Code.TheVariants.{BadVersion, AddressSize, SegmentSelector, NoSuchCie, RangeTooLarge, RegisterTooLarge}
-use Rattle.dw_num.specs.declared.target.Form.{Form}
-use Rattle.dw_num.specs.declared.target.Form.TheVariants.{Dwarf32, Dwarf64}
-use Rattle.dw_num.specs.declared.target.Size.{Size}
-use Rattle.dw_num.specs.declared.target.Target.{Target}
-use Rattle.dw_num.specs.Fixed.{IsWidth, fixed_number}
-use Rattle.dw_num.specs.Input.{Input, behind}
-use Rattle.dw_num.specs.Front.{Read, fault, fixed_at, take_at, address_at, ◌>>=◌, uleb_at, sleb_at, register_at, register_of}
-use Rattle.dw_num.specs.Target.{address_limit, byte_count}
-use Rattle.dw_section.specs.declared.fields.CieFields.{CieFields}
-use Rattle.dw_section.specs.declared.fields.FdeFields.{FdeFields}
+use Rattle.dw_section.proofs.Words.{Code, NoSuchCie, Form, Dwarf32, Dwarf64, Size, Target, IsWidth, Input, behind, Read, fault, ◌>>=◌, address_limit, byte_count, CieFields, FdeFields, id_width}
+use Rattle.dw_section.proofs.Words.{Fields, end, field, empty_string, cie_fields, is_among, fde_fields, FieldsSpell, string_fault, fixed, unsigned, signed, Refusal}
+use Rattle.dw_num.specs.declared.refusal.Code.TheVariants.{BadVersion, AddressSize, SegmentSelector, RangeTooLarge, RegisterTooLarge}
+use Rattle.dw_num.specs.Fixed.{fixed_number}
+use Rattle.dw_num.specs.Front.{fixed_at, take_at, address_at, uleb_at, sleb_at, register_at, register_of}
 use Rattle.dw_section.specs.declared.fields.Version.{Version}
 use Rattle.dw_section.specs.declared.fields.Version.TheVariants.{One, Three, Four}
-use Rattle.dw_section.specs.Cut.{id_width}
-use Rattle.dw_section.specs.Fields.{Fields, end, field, empty_string, any, unless, sizes, return_register, cie_fields, is_among, fde_fields, FieldsSpell, string_fault, factors, fixed, unsigned, signed}
+use Rattle.dw_section.specs.Fields.{any, unless, sizes, return_register, factors}
 use Rattle.dw_section.specs.Inner.Fields.{wanted_of, wanted_at, version_of, known, version_in, version_at, empty_of, empty_string_at, selector_of, sizes_at, return_register_at, factors_at, after_sizes, after_string, after_version, cie_fields_at, named_of, pointer_at, fde_of, after_begin, range_at, after_pointer, fde_fields_at, after_data, after_code}
 use Rattle.dw_section.proofs.FieldLaws.{AreNumbers, judged, behind_field, fields_at}
-use Rattle.dw_num.specs.declared.refusal.Refusal.{Refusal}
 use Rattle.dw_num.specs.declared.target.Size.TheVariants.{Four as Short, Eight as Long}
 
 -- ---- one read after another
@@ -88,10 +78,6 @@ string_step i F G same = string_of (position (λ b. b == 0) i.bytes) i F G same
 abbrev behind_id : Size → Fields CieFields
 behind_id size = field (fixed 1) (λ v. unless (v == 1 || (v == 3 || v == 4)) BadVersion) (λ version. empty_string (sizes size version (factors version)))
 
-factors_one : (i : Input) → fields_at (factors 1) i ≡ factors_at One i
-unfolding factors_at return_register_at
-factors_one i = refl
-
 register_step : (make : ℕ → CieFields) (i : Input)
     → fields_at (field unsigned (λ r. unless (nat_lt r 65536) RegisterTooLarge) (λ r. end (make r))) i ≡ register_at i >>= (λ r. Ok (make r.0, r.1))
 unfolding register_at
@@ -109,14 +95,6 @@ factors_step n v same i =
     let make : ℕ → ℤ → ℕ → CieFields = λ code factor r. record { code_factor = code; data_factor = factor; return_register = r } in
     read_step (uleb_at i) (behind_field any i.at (λ code. fields_at (field signed any (λ factor. return_register n (λ r. end (make code factor r)))))) (after_code v)
     (λ c. read_step (sleb_at c.1) (behind_field any c.1.at (λ factor. fields_at (return_register n (λ r. end (make c.0 factor r))))) (after_data v c) (λ d. same (make c.0 d.0) d.1))
-
-factors_three : (i : Input) → fields_at (factors 3) i ≡ factors_at Three i
-unfolding return_register_at
-factors_three i = factors_step 3 Three register_step i
-
-factors_four : (i : Input) → fields_at (factors 4) i ≡ factors_at Four i
-unfolding return_register_at
-factors_four i = factors_step 4 Four register_step i
 
 module _ {A : Type 0} (F : ℕ → Input → Read A) (G : Version × Input → Read A) where
   abbrev Known : ℕ → Input → ℕ → Type 0
@@ -142,14 +120,14 @@ module _ {A : Type 0} (F : ℕ → Input → Read A) (G : Version × Input → R
       ∙ sym (then_then (fixed_at 1 i) (version_in i.at) G)
 
 behind_same : (i : Input) → fields_at (behind_id i.target.size) i ≡ cie_fields_at i
-unfolding cie_fields_at sizes_at
+unfolding cie_fields_at sizes_at factors_at return_register_at
 behind_same i =
     let j = behind 1 i in
     let k = behind 1 j in
     version_step (λ n. fields_at (empty_string (sizes i.target.size n (factors n)))) after_version i
-    (string_step j (fields_at (sizes i.target.size 1 (factors 1))) (after_string One) (factors_one k))
-    (string_step j (fields_at (sizes i.target.size 3 (factors 3))) (after_string Three) (factors_three k))
-    (string_step j (fields_at (sizes i.target.size 4 (factors 4))) (after_string Four) (sizes_step k (factors 4) (after_sizes Four) (factors_four (behind 1 (behind 1 k)))))
+    (string_step j (fields_at (sizes i.target.size 1 (factors 1))) (after_string One) refl)
+    (string_step j (fields_at (sizes i.target.size 3 (factors 3))) (after_string Three) (factors_step 3 Three register_step k))
+    (string_step j (fields_at (sizes i.target.size 4 (factors 4))) (after_string Four) (sizes_step k (factors 4) (after_sizes Four) (factors_step 4 Four register_step (behind 1 (behind 1 k)))))
 
 pub cie_same : (form : Form) (i : Input) → fields_at (cie_fields i.target.size form) i ≡ take_at (id_width form) i >>= (λ b. cie_fields_at b.1)
 cie_same form i = id_step (id_width form) i (fields_at (behind_id i.target.size)) cie_fields_at (behind_same (behind (id_width form) i))
@@ -187,9 +165,8 @@ size_is : (size : Size) → IsWidth (byte_count size)
 size_is Short = inr (inr (inl refl))
 size_is Long = inr (inr (inr refl))
 
-either_numbers : {X : Type 0} (b : Bool) (x y : Fields X) → AreNumbers x → AreNumbers y → AreNumbers (cond b x y)
-either_numbers true x y h k = h
-either_numbers false x y h k = k
+abbrev Numbers : Fields CieFields → Type 0
+Numbers fs = AreNumbers fs
 
 pub cie_numbers : (size : Size) (form : Form) → AreNumbers (cie_fields size form)
 cie_numbers size form = (
@@ -197,8 +174,8 @@ cie_numbers size form = (
   λ id. (
     inl refl,
     λ v.
-        let tail : AreNumbers (factors v) = (tt, λ code. (tt, λ factor. either_numbers (v == 1) _ _ (inl refl, λ r. tt) (tt, λ r. tt))) in
-        either_numbers (v == 4) _ (factors v) (inl refl, λ n. (inl refl, λ k. tail)) tail,
+        let tail : AreNumbers (factors v) = (tt, λ code. (tt, λ factor. cond_both (v == 1) _ _ Numbers (λ e. (inl refl, λ r. tt)) (λ e. (tt, λ r. tt)))) in
+        cond_both (v == 4) _ (factors v) Numbers (λ e. (inl refl, λ n. (inl refl, λ k. tail))) (λ e. tail),
   ),
 )
 

@@ -1,37 +1,22 @@
 -- Headers are read as they are spelled, and a section has at most one list of them.
-use Rattle.std.proofs.Common.{◌≡◌, ℕ, ◌+◌, List, [], ◌∷◌, ◌++◌, length, Result, Ok, Err, inl, inr, refl, sym, ap, subst, ◌∙◌, arith}
-use Rattle.std.specs.Prelude.{IfOk, IfErr, MatchResult}
+use Rattle.std.proofs.Common.{◌≡◌, ℕ, ◌+◌, List, [], ◌∷◌, ◌++◌, length, Result, Ok, Err, inl, inr, refl, sym, ap, subst, ◌∙◌, arith, IfErr, append-nil, length-append}
 use Rattle.std.specs.List.{AllByRecursion, AllZip}
-use Rattle.std.proofs.lemmas.List.{append-nil, length-append}
 use Rattle.std.proofs.lemmas.List.Elements.{filter_map-append}
-use Rattle.dw_num.specs.declared.target.Target.{Target}
-use Rattle.dw_num.specs.declared.refusal.Refusal.{Refusal}
-use Rattle.dw_num.specs.Input.{Input, AreBytes, Takes}
-use Rattle.dw_num.specs.Span.{Span}
-use Rattle.dw_num.specs.declared.error.ReadError.{ReadError}
-use Rattle.dw_num.specs.declared.error.ReadError.TheVariants.{Refused, OutOfMemory}
-use Rattle.dw_num.specs.Refusals.{Refuses}
+use Rattle.dw_section.proofs.Words.{Target, Refusal, Input, AreBytes, Takes, Span, CieFields, FdeFields, Piece, id_width, Pieces, cie_places, Rises, Fields, cie_fields, fde_fields, FieldsFault}
+use Rattle.dw_section.proofs.Words.{program_of, contents_of, Head, cie_head, IsCie, IsFde, Has, Headers, CieHolds, CieStuck, FdeHolds, FdeStuck, Read, ◌>>=◌}
 use Rattle.dw_num.proofs.Lent.LebLaws.{done, ok_is}
 use Rattle.dw_section.specs.declared.entry.Kind.TheVariants as kind
-use Rattle.dw_section.specs.declared.fields.CieFields.{CieFields}
-use Rattle.dw_section.specs.declared.fields.FdeFields.{FdeFields}
-use Rattle.dw_section.specs.Cut.{Piece, id_width}
-use Rattle.dw_section.specs.Pieces.{Pieces}
-use Rattle.dw_section.specs.Places.{cie_places}
-use Rattle.dw_section.specs.Inner.Places.{Rises}
-use Rattle.dw_section.specs.Stage.{FirstStuck}
 use Rattle.dw_section.specs.Inner.Stage.{Answers}
-use Rattle.dw_section.specs.Fields.{Fields, cie_fields, fde_fields, FieldsFault}
 use Rattle.dw_section.specs.Inner.Fields.{cie_fields_at, fde_fields_at}
-use Rattle.dw_section.specs.Inner.PieceHeader.{program_of, cie_of_piece, cie_at, fde_of_piece, fde_at, contents_of}
-use Rattle.dw_section.specs.Headers.{Head, cie_head, fde_head, HasFields, IsCie, IsFde, Has, Headers, CieHolds, CieStuck, FdeHolds, FdeStuck, HeadersFault}
+use Rattle.dw_section.specs.Inner.PieceHeader.{cie_of_piece, cie_at, fde_of_piece, fde_at}
+use Rattle.dw_section.specs.Headers.{fde_head, HasFields}
 use Rattle.dw_section.proofs.FieldLaws.{AreNumbers, fields_at, fault_read, read_fault, fields_found, fields_again}
 use Rattle.dw_section.proofs.Lent.FieldTable.{then_then, cie_same, fde_same, cie_numbers, fde_numbers}
 use Rattle.dw_num.proofs.Lent.Steps.{take_again}
-use Rattle.dw_num.specs.Front.{Read, take_at, ◌>>=◌}
-use Rattle.dw_section.proofs.Items.{one_pieces, cut_or_pieces}
+use Rattle.dw_num.specs.Front.{take_at}
+use Rattle.dw_section.proofs.Items.{one_pieces}
 use Rattle.dw_section.proofs.Places.{places_rise}
-use Rattle.dw_section.proofs.Stages.{none_stuck, all_push, all_from_zip, one_zip}
+use Rattle.dw_section.proofs.Stages.{all_push, all_from_zip, one_zip}
 
 -- ---- what is read has that header
 
@@ -141,24 +126,6 @@ headers_hold target s hs p =
       all_from_zip (Has target places) (CieHolds target) (has_cie target places) p.entries hs p.each,
       all_from_zip (Has target places) (FdeHolds target places) (has_fde target places) p.entries hs p.each,
     )
-
--- headers and a fault exclude each other
-pub fault_or_headers : (target : Target) (s : List ℕ) (r : Refusal) (hs : List Head) → HeadersFault target s r → Headers target s hs → ⊥
-fault_or_headers target s r hs (inl (inl cut)) p = cut_or_pieces target s r p.entries cut p.cut
-fault_or_headers target s r hs (inl (inr cies)) p =
-    let same = one_pieces target s cies.0 p.entries cies.1 p.cut in
-    none_stuck (CieHolds target) (CieStuck target) (cie_apart target) p.entries r (headers_hold target s hs p).0 (subst (λ (ps : List Piece). FirstStuck (CieHolds target) (CieStuck target) ps r) same cies.2)
-fault_or_headers target s r hs (inr fdes) p =
-    let same = one_pieces target s fdes.0 p.entries fdes.1.0 p.cut in
-    let places = cie_places p.entries in
-    none_stuck (FdeHolds target places) (FdeStuck target places) (fde_apart target places) p.entries r (headers_hold target s hs p).1
-    (subst (λ (ps : List Piece). FirstStuck (FdeHolds target (cie_places ps)) (FdeStuck target (cie_places ps)) ps r) same fdes.2)
-
-pub only_headers : {V : Type 0} (view : V → List Head) (target : Target) (s : List ℕ) (r : Result V ReadError) → IfOk r (λ v. Headers target s (view v)) → IfErr r (Refuses (HeadersFault target s))
-    → (hs : List Head) → Headers target s hs → MatchResult r (λ v. view v ≡ hs) (λ e. e ≡ OutOfMemory)
-only_headers view target s (Ok v) found first hs p = one_headers target s (view v) hs found p
-only_headers view target s (Err OutOfMemory) found first hs p = refl
-only_headers view target s (Err (Refused r)) found first hs p = absurd (fault_or_headers target s r hs first p)
 
 -- the places of a section's CIEs rise
 pub pieces_rise : (target : Target) (s : List ℕ) (ps : List Piece) → Pieces target s ps → Rises 0 (cie_places ps)

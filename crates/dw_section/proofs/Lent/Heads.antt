@@ -1,35 +1,19 @@
 -- What holds of a section's headers.
-use Rattle.std.proofs.Common.{◌≡◌, ℕ, suc, ◌+◌, ◌<◌, ◌≤◌, ◌^◌, List, [], ◌∷◌, ◌++◌, length, refl, sym, ap, subst, ◌∙◌, arith, inl, inr}
+pub use Rattle.dw_section.proofs.Lent.Index.{all_in}
+use Rattle.std.proofs.Common.{◌≡◌, ℕ, suc, ◌+◌, ◌<◌, ◌≤◌, ◌^◌, List, [], ◌∷◌, ◌++◌, length, refl, sym, ap, subst, ◌∙◌, arith, inl, inr, get_or-append-add}
 use Rattle.std.specs.List.{AllByRecursion, AllZip, cons_option}
-use Rattle.std.proofs.lemmas.List.{get_or-append-add}
-use Rattle.dw_num.specs.declared.target.Order.{Order}
-use Rattle.dw_num.specs.declared.target.Target.{Target}
-use Rattle.dw_num.specs.declared.target.Size.{Size}
+use Rattle.dw_section.proofs.Words.{Order, Target, Size, AreBytes, length_bytes, address_limit, byte_count, Instr, Program, Item, gap, entry, Piece, pieces, item_bytes, all_bytes, place_if}
+use Rattle.dw_section.proofs.Words.{cie_places, Rises, Head, cie, fde, Has, Headers, CieHead, FdeHead, head_at, cie_at_of, cie_ats, HeadsRise, FdeFits, HasBytes, Begins, factors_of, IsAmong}
 use Rattle.dw_num.specs.declared.target.Size.TheVariants.{Four, Eight}
-use Rattle.dw_num.specs.Input.{AreBytes}
-use Rattle.dw_num.specs.Fixed.{length_bytes}
-use Rattle.dw_num.specs.Target.{address_limit, byte_count}
-use Rattle.dw_cfa.specs.declared.instr.Instr.{Instr}
-use Rattle.dw_cfa.specs.InstrSpells.{Program}
 use Rattle.dw_cfa.proofs.Lent.InstrLaws.{front_bytes}
-use Rattle.dw_section.specs.Cut.{Item, gap, entry, Piece, pieces, item_bytes, all_bytes}
-use Rattle.dw_section.specs.Places.{place_if, cie_places}
-use Rattle.dw_section.specs.Inner.Places.{Rises}
-use Rattle.dw_section.specs.Headers.{Head, cie, fde, Has, Headers, CieHead, FdeHead}
-use Rattle.dw_section.specs.Inner.Heads.{head_at, cie_at_of, cie_ats, HeadsRise, FdeFits, HasBytes}
-use Rattle.dw_section.specs.Programs.{Begins, factors_of}
-use Rattle.dw_section.specs.Among.{IsAmong}
 use Rattle.dw_section.proofs.Items.{item_some}
 use Rattle.dw_section.proofs.Lent.HeaderLaws.{pieces_rise as places_of_pieces}
 use Rattle.dw_section.proofs.Cfa.{one_program}
 use Rattle.dw_section.proofs.Lent.FieldTable.{fde_said}
+use Rattle.dw_section.proofs.Lent.Index.{all_in}
+use Rattle.dw_section.proofs.Stages.{all_to_zip, all_of_zip}
 
 -- ---- members
-
-pub all_in : (P : Head → Type 0) (hs : List Head) (h : Head) → AllByRecursion P hs → IsAmong h hs → P h
-all_in P [] h all i = absurd i
-all_in P (k ∷ hs) h all (inl is) = subst P (sym is) all.0
-all_in P (k ∷ hs) h all (inr i) = all_in P hs h all.1 i
 
 pub is_among_head : (front : List Head) (h : Head) (after : List Head) → IsAmong h (front ++ h ∷ after)
 is_among_head [] h after = inl refl
@@ -96,14 +80,9 @@ has_bytes : (target : Target) (places : List ℕ) (p : Piece) (h : Head) → Has
 has_bytes target places p h (inl c) b = subst HasBytes (sym c.3) (rest_bytes c.2.1.spelling c.1.bytes (subst AreBytes c.2.1.whole b))
 has_bytes target places p h (inr c) b = subst HasBytes (sym c.3) (rest_bytes c.2.1.spelling c.1.bytes (subst AreBytes c.2.1.whole b))
 
-all_bytes_of : (target : Target) (places : List ℕ) (ps : List Piece) (hs : List Head) → AllZip (Has target places) ps hs → AllByRecursion (λ (p : Piece). AreBytes p.contents.bytes) ps → AllByRecursion HasBytes hs
-all_bytes_of target places [] [] z b = tt
-all_bytes_of target places (p ∷ ps) (h ∷ hs) z b = (has_bytes target places p h z.0 b.0, all_bytes_of target places ps hs z.1 b.1)
-all_bytes_of target places ps hs z b = absurd z
-
 pub heads_bytes : (target : Target) (s : List ℕ) (hs : List Head) → AreBytes s → Headers target s hs → AllByRecursion HasBytes hs
 heads_bytes target s hs b p =
-    all_bytes_of target (cie_places p.entries) p.entries hs p.each
+    all_to_zip (Has target (cie_places p.entries)) (λ (x : Piece). AreBytes x.contents.bytes) HasBytes (has_bytes target (cie_places p.entries)) p.entries hs p.each
     (subst (AllByRecursion (λ (x : Piece). AreBytes x.contents.bytes)) (sym p.cut.are) (items_bytes target.order 0 p.cut.items (subst AreBytes p.cut.cut.whole b)))
 
 -- ---- FDEs fit
@@ -118,11 +97,6 @@ has_fits target places p h (inr c) =
     let said = fde_said target places p.form c.0 c.2.1.spelling c.2.1.spells in
     subst (FdeFits target places) (sym c.3) (subst (λ (n : ℕ). c.0.begin < n) (limit_is target.size) said.begin_fits, said.in_space, said.names_cie)
 
-all_fit : (target : Target) (places : List ℕ) (ps : List Piece) (hs : List Head) → AllZip (Has target places) ps hs → AllByRecursion (FdeFits target places) hs
-all_fit target places [] [] z = tt
-all_fit target places (p ∷ ps) (h ∷ hs) z = (has_fits target places p h z.0, all_fit target places ps hs z.1)
-all_fit target places ps hs z = absurd z
-
 has_place : (target : Target) (places : List ℕ) (p : Piece) (h : Head) → Has target places p h → cie_at_of h ≡ place_if p.kind p.at
 has_place target places p h (inl c) = rw (c.3, c.2.0) refl
 has_place target places p h (inr c) = rw (c.3, c.2.0) refl
@@ -134,7 +108,9 @@ same_places target places ps hs z = absurd z
 
 pub heads_fit : (target : Target) (s : List ℕ) (hs : List Head) → Headers target s hs → AllByRecursion (FdeFits target (cie_ats hs)) hs
 heads_fit target s hs p =
-    subst (λ (l : List ℕ). AllByRecursion (FdeFits target l) hs) (sym (same_places target (cie_places p.entries) p.entries hs p.each)) (all_fit target (cie_places p.entries) p.entries hs p.each)
+    let places = cie_places p.entries in
+    subst (λ (l : List ℕ). AllByRecursion (FdeFits target l) hs) (sym (same_places target places p.entries hs p.each))
+    (all_of_zip (Has target places) (FdeFits target places) (has_fits target places) p.entries hs p.each)
 
 pub ats_rise : (target : Target) (s : List ℕ) (hs : List Head) → Headers target s hs → Rises 0 (cie_ats hs)
 ats_rise target s hs p = subst (Rises 0) (sym (same_places target (cie_places p.entries) p.entries hs p.each)) (places_of_pieces target s p.entries p.cut)

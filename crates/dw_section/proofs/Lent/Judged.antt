@@ -1,42 +1,21 @@
 -- What running programs tells of headers.
-use Rattle.std.proofs.Common.{◌≡◌, ℕ, zero, suc, ◌+◌, ◌<◌, ◌≤◌, Bool, true, false, List, [], ◌∷◌, ◌++◌, map, length, get_or, set, Option, Some, None, refl, sym, ap, subst, ◌∙◌, append_assoc, arith, inl, inr}
-use Rattle.std.specs.Bool.{MatchBool}
-use Rattle.std.specs.Prelude.{nat_lt}
+use Rattle.std.proofs.Common.{◌≡◌, ℕ, zero, suc, ◌+◌, ◌<◌, ◌≤◌, Bool, true, false, List, [], ◌∷◌, ◌++◌, map, length, get_or, set, Option, Some, None, refl, sym, ap, subst, ◌∙◌, append_assoc, arith, inl, inr, MatchBool, nat_lt}
 use Rattle.std.specs.List.{AllByRecursion}
 use Rattle.std.specs.List.Sorted.{IsNonDecreasingBy}
-use Rattle.std.proofs.lemmas.Bool.{ltb-true, ltb-false}
-use Rattle.std.proofs.lemmas.Bool.Decides.{eqb_tells}
-use Rattle.std.proofs.lemmas.List.{append-nil, map-append}
+use Rattle.std.proofs.lemmas.Bool.{ltb-true, ltb-false, cases_lt}
+use Rattle.std.proofs.lemmas.List.{append-nil, map-append, get_or-map, length-map}
 use Rattle.std.proofs.lemmas.List.Elements.{filter_map-append}
-use Rattle.dw_num.specs.declared.refusal.Refusal.{Refusal}
-use Rattle.dw_num.specs.declared.target.Target.{Target}
+use Rattle.dw_section.proofs.Words.{Refusal, Target, address_limit, Instr, CfaRule, Unset, LocatedRow, RulesBehind, cfa_after, FdeFault, FdeKept, initial_cfa, Counts, Rules, Initial, is_among, Head}
+use Rattle.dw_section.proofs.Words.{fde, FdeHead, head_at, cie_at_of, cie_ats, or_place, place_of, IsInitial, IsBehind, AreInitials, HasOrLacks, initial_head, Rises, Begins, Instrs, CieRuns, FdeRuns}
+use Rattle.dw_section.proofs.Words.{FdeBroken, HasRules, LacksRule, input_of}
 use Rattle.dw_num.specs.declared.refusal.Code.TheVariants.{NoCfaRule}
-use Rattle.dw_num.specs.Target.{address_limit}
-use Rattle.dw_cfa.specs.declared.instr.Instr.{Instr}
-use Rattle.dw_cfa.specs.declared.rule.CfaRule.{CfaRule}
-use Rattle.dw_cfa.specs.declared.rule.CfaRule.TheVariants.{Unset}
-use Rattle.dw_cfa.specs.declared.execution.LocatedRow.{LocatedRow}
-use Rattle.dw_cfa.specs.Inner.Exact.{RulesBehind}
-use Rattle.dw_cfa.specs.Column.{cfa_after}
-use Rattle.dw_cfa.specs.Faults.{FdeFault}
 use Rattle.dw_cfa.specs.CieMachine.{Following, with_steps}
-use Rattle.dw_cfa.specs.Kept.{FdeKept}
-use Rattle.dw_cfa.specs.Laws.{initial_cfa}
-use Rattle.dw_cfa.specs.Location.{Counts}
 use Rattle.dw_cfa.specs.Coverage.{Lacks}
-use Rattle.dw_cfa.specs.declared.instr.Factors.{Factors}
-use Rattle.dw_cfa.specs.Rows.{Rules}
-use Rattle.dw_section.specs.declared.program.Initial.{Initial}
-use Rattle.dw_section.specs.Fields.{is_among}
-use Rattle.dw_section.specs.Headers.{Head, fde, FdeHead}
-use Rattle.dw_section.specs.Inner.Heads.{head_at, cie_at_of, cie_ats}
-use Rattle.dw_section.specs.Inner.Initials.{or_place, place_of, IsInitial, IsBehind, AreInitials, HasOrLacks, FirstLacking, initial_head}
-use Rattle.dw_section.specs.Inner.Places.{Rises}
-use Rattle.dw_section.specs.Programs.{Begins, Instrs, CieRuns, FdeRuns, FdeBroken, HasRules, LacksRule}
-use Rattle.dw_num.specs.Span.{input_of}
+use Rattle.dw_section.specs.Inner.Initials.{FirstLacking}
 use Rattle.dw_cfa.proofs.Lent.InstrCounts.{counts_exists}
 use Rattle.dw_cfa.proofs.Lent.RowsAt.{last_from}
 use Rattle.dw_section.proofs.Stages.{all_push}
+use Rattle.dw_section.proofs.Places.{rises-at, among_place}
 
 -- ---- what is kept of CIEs
 
@@ -57,50 +36,27 @@ initials_fde target hs front cs h w runs place = record {
 
 -- ---- the search among them
 
-low_among : (low n : ℕ) (xs : List ℕ) → Rises low xs → is_among n xs ≡ true → low ≤ n
-low_among low n [] up e = absurd cc
-low_among low n (x ∷ xs) up e = elim (eqb_tells x n) [
-  | inl is ↦ omega (arith, up.0, is.1)
-  | inr not ↦ let rest : is_among n xs ≡ true = rw (not.0) at e in let p = low_among x n xs up.1 rest in omega (arith, up.0)
-]
-
-from_low : (low : ℕ) (cs : List Initial) (j : ℕ) (d : Initial) → Rises low (map place_of cs) → j < length cs → low ≤ (get_or cs j d).at
-from_low low [] j d up lt = absurd (omega arith)
-from_low low (c ∷ cs) zero d up lt = up.0
-from_low low (c ∷ cs) (suc j) d up lt = let p = from_low c.at cs j d up.1 (omega arith) in omega (arith, up.0)
-
 pub initials_ascend : (low : ℕ) (cs : List Initial) → Rises low (map place_of cs) → IsNonDecreasingBy place_of cs
-initials_ascend low (c ∷ cs) up zero zero d le lt = omega arith
-initials_ascend low (c ∷ cs) up zero (suc j) d le lt = from_low c.at cs j d up.1 (omega arith)
-initials_ascend low (c ∷ cs) up (suc i) (suc j) d le lt = initials_ascend c.at cs up.1 i j d (omega arith) (omega arith)
-initials_ascend low cs up i j d le lt = absurd (omega arith)
+initials_ascend low cs up i j d le lt =
+    let at : (k : ℕ) → k < length cs → get_or (map place_of cs) k 0 ≡ (get_or cs k d).at = λ k less. get_or-map place_of cs k d 0 less in
+    omega (arith, rises-at low (map place_of cs) up i j le (omega (arith, lt, length-map cs place_of)), at i (omega arith), at j lt)
 
-pub found_initial : (place low : ℕ) (cs : List Initial) (i : ℕ) → Rises low (map place_of cs) → is_among place (map place_of cs) ≡ true
+pub found_initial : (place : ℕ) (cs : List Initial) (i : ℕ) → Rises 0 (map place_of cs) → is_among place (map place_of cs) ≡ true
     → ((k : ℕ) (d : Initial) → k < i → nat_lt (get_or cs k d).at place ≡ true) → ((k : ℕ) (d : Initial) → i ≤ k → k < length cs → nat_lt (get_or cs k d).at place ≡ false)
     → (i < length cs) × ((d : Initial) → (get_or cs i d).at ≡ place)
-found_initial place low [] i up among below above = absurd cc
-found_initial place low (c ∷ cs) zero up among below above =
-    let at = ltb-false c.at place (above 0 c (omega arith) (omega arith)) in
-    let same : c.at ≡ place = elim (eqb_tells c.at place) [
-      | inl is ↦ is.1
-      | inr not ↦ let rest : is_among place (map place_of cs) ≡ true = rw (not.0) at among in let p = low_among c.at place (map place_of cs) up.1 rest in omega arith
-    ] in
-    (omega arith, λ d. same)
-found_initial place low (c ∷ cs) (suc i) up among below above =
-    let at = ltb-true c.at place (below 0 c (omega arith)) in
-    let rest : is_among place (map place_of cs) ≡ true = elim (eqb_tells c.at place) [
-      | inl is ↦ let e = is.1 in absurd (omega arith)
-      | inr not ↦ rw (not.0) at among
-    ] in
-    let q = found_initial place c.at cs i up.1 rest (λ k d lt. below (suc k) d (omega arith)) (λ k d le lt. above (suc k) d (omega arith) (omega arith)) in
-    (omega (arith, q.0), q.1)
+found_initial place [] i up among below above = absurd cc
+found_initial place (c ∷ cs) i up among below above =
+    let all = c ∷ cs in
+    let w = among_place place (map place_of all) among in
+    let lt : w.0 < length all = omega (arith, w.1, length-map all place_of) in
+    let at : (d : Initial) → (get_or all w.0 d).at ≡ place = λ d. sym (get_or-map place_of all w.0 d 0 lt) ∙ w.2 in
+    let from : i ≤ w.0 = elim (cases_lt w.0 i) [ inl less ↦ absurd (omega (arith, ltb-true (get_or all w.0 c).at place (below w.0 c less), at c)) | inr ge ↦ ge ] in
+    (omega (arith, from, lt), λ d. omega (arith, initials_ascend 0 all up i w.0 d from lt, at d, ltb-false (get_or all i d).at place (above i d (omega arith) (omega (arith, from, lt)))))
 
 pub all_get : {X : Type 0} (P : X → Type 0) (xs : List X) (i : ℕ) (d : X) → AllByRecursion P xs → i < length xs → P (get_or xs i d)
 all_get P [] i d h lt = absurd (omega arith)
 all_get P (x ∷ xs) zero d h lt = h.0
 all_get P (x ∷ xs) (suc i) d h lt = all_get P xs i d h.1 (omega arith)
-
--- ---- a header of a list is among them
 
 -- ---- a machine that ran an FDE's program
 
@@ -113,6 +69,9 @@ behind_stays target hs place m n same is = (
   ap (λ (x : Following). x.factors) same ∙ is.4,
   ap (λ (x : Following). x.target) same ∙ is.5,
 )
+
+pub all_get_map : {X Y : Type 0} (P : Y → Type 0) (view : X → Y) (xs : List X) (i : ℕ) (d : X) → AllByRecursion P (map view xs) → i < length xs → P (view (get_or xs i d))
+all_get_map P view xs i d h lt = subst P (get_or-map view xs i d (view d) lt) (all_get P (map view xs) i (view d) h (omega (arith, lt, length-map xs view)))
 
 pub all_set : {X : Type 0} (P : X → Type 0) (xs : List X) (i : ℕ) (y : X) → AllByRecursion P xs → P y → AllByRecursion P (set xs i y)
 all_set P [] i y h is = tt
@@ -156,24 +115,15 @@ module _ (target : Target) (hs : List Head) (c : Initial) (is : IsInitial target
 
 -- what a run on a machine behind a CIE's row tells
 module _ (target : Target) (hs : List Head) (m : Following) (f : FdeHead) (is : IsBehind target hs (Some f.cie_at) m) where
-  abbrev Ran : Factors → Rules → Target → Bool → Type 0
-  Ran g row t lacks = (instrs : List Instr) × (rows : List LocatedRow) × RulesBehind g row (input_of t f.program) f.begin instrs rows × MatchBool lacks (Lacks (f.begin + f.range) rows) (Lacks (f.begin + f.range) rows → ⊥)
-
-  pub behind_found : (lacks : Bool) → Ran m.factors m.initial m.target lacks
+  pub behind_found : (lacks : Bool) → (instrs : List Instr) × (rows : List LocatedRow) × RulesBehind m.factors m.initial (input_of m.target f.program) f.begin instrs rows × MatchBool lacks (Lacks (f.begin + f.range) rows) (Lacks (f.begin + f.range) rows → ⊥)
       → FdeRuns target hs (fde f) × HasOrLacks target hs (fde f) lacks
   behind_found lacks ran =
       let c = is.0 in
-      let y : Ran c.factors is.2.3 target lacks =
-      subst (λ (t : Target). Ran c.factors is.2.3 t lacks) is.5 (subst (λ (g : Factors). Ran g is.2.3 m.target lacks) is.4 (subst (λ (row : Rules). Ran m.factors row m.target lacks) is.3 ran)) in
+      let y = rw (is.3, is.4, is.5) at ran in
       (fde_runs target hs c is.2 f is.1 y.0 y.1 y.2, has_or_lacks target hs c is.2 f is.1 y.0 y.1 y.2 lacks y.3)
 
   pub behind_broken : (r : Refusal) → FdeFault m.factors m.initial.cfa (input_of m.target f.program) f.begin r → FdeBroken target hs (fde f) r
-  behind_broken r fault =
-      let c = is.0 in
-      fde_broken target hs c is.2 f is.1 r
-      (subst (λ (t : Target). FdeFault c.factors is.2.3.cfa (input_of t f.program) f.begin r) is.5
-      (subst (λ (g : Factors). FdeFault g is.2.3.cfa (input_of m.target f.program) f.begin r) is.4
-      (subst (λ (row : Rules). FdeFault m.factors row.cfa (input_of m.target f.program) f.begin r) is.3 fault)))
+  behind_broken r fault = fde_broken target hs is.0 is.2 f is.1 r (rw (is.3, is.4, is.5) at fault)
 
 -- ---- the first that lacks one
 

@@ -1,24 +1,18 @@
 -- Nops behind a program change no rule, no location and no row's start.
-use Rattle.std.proofs.Common.{◌≡◌, ℕ, zero, suc, ◌+◌, ◌≤◌, Bool, false, cond, List, [], ◌∷◌, ◌++◌, length, take, Some, refl, sym, ap, subst, ◌∙◌, append_assoc, arith, inl, inr}
-use Rattle.std.specs.Prelude.{IsTrue, count_by, slice_get, replicate}
+use Rattle.std.proofs.Common.{◌≡◌, ℕ, zero, suc, ◌+◌, ◌≤◌, Bool, false, cond, List, [], ◌∷◌, ◌++◌, length, take, Some, refl, sym, ap, subst, ◌∙◌, append_assoc, arith, inl, inr, mul-zero, IsTrue, count_by, slice_get, replicate}
 use Rattle.std.specs.List.{AllByRecursion}
 use Rattle.std.proofs.lemmas.Bool.{cases_lt}
 use Rattle.std.proofs.lemmas.List.{length-append, length-replicate, take_all}
-use Rattle.std.proofs.lemmas.List.Sums.{sum_by-cons}
-use Rattle.dw_num.specs.declared.target.Target.{Target}
-use Rattle.dw_cfa.specs.declared.instr.Factors.{Factors}
-use Rattle.dw_cfa.specs.declared.instr.Instr.{Instr}
+use Rattle.std.proofs.lemmas.List.Sums.{sum_by-cons, sum_by-append, sum_by-take-le}
+use Rattle.dw_section.proofs.Words.{Target, Factors, Instr, CfaRule, RegRule, Program, look_back, cfa_change, rule_change, cfa_after, rule_after, CieKept, FdeKept, initial_cfa, initial_rule, onto}
+use Rattle.dw_section.proofs.Words.{back_from, Counts, moves_location, row_starts}
 use Rattle.dw_cfa.specs.declared.instr.Instr.TheVariants.{Nop}
-use Rattle.dw_cfa.specs.declared.rule.CfaRule.{CfaRule}
 use Rattle.dw_cfa.specs.declared.rule.CfaRule.TheVariants as cfa
-use Rattle.dw_cfa.specs.declared.rule.RegRule.{RegRule}
 use Rattle.dw_cfa.specs.declared.rule.RegRule.TheVariants.{Unspecified}
-use Rattle.dw_cfa.specs.InstrSpells.{Program}
-use Rattle.dw_cfa.specs.Column.{look_back, cfa_change, rule_change, cfa_after, rule_after}
-use Rattle.dw_cfa.specs.Kept.{in_cie, is_remember, is_restore, keeps_half, KeepsHalves, CieKept, FdeKept}
-use Rattle.dw_cfa.specs.Laws.{initial_cfa, initial_rule}
-use Rattle.dw_cfa.specs.Location.{onto, back_from, location_back, location, StaysAt, Counts, moves_location, row_starts}
+use Rattle.dw_cfa.specs.Kept.{in_cie, is_remember, is_restore, keeps_half, KeepsHalves}
+use Rattle.dw_cfa.specs.Location.{location_back, location, StaysAt}
 use Rattle.dw_cfa.proofs.Lent.Spellings.{in_table}
+use Rattle.std.proofs.lemmas.List.Folds.{sum_by-replicate}
 
 abbrev pub nops : ℕ → List Instr
 nops n = replicate n Nop
@@ -174,40 +168,34 @@ pub cie_kept_nops : (instrs : List Instr) (n : ℕ) → CieKept instrs → CieKe
 cie_kept_nops instrs n h = record { allowed = all_nops (λ i. IsTrue (in_cie i)) instrs n refl h.allowed; halves = halves_nops cfa.Unset instrs n h.halves }
 
 module _ (p : Instr → Bool) (none : p Nop ≡ false) where
-  take_none : (n k : ℕ) → count_by p (take k (nops n)) ≡ 0
-  take_none zero zero = refl
-  take_none zero (suc k) = refl
-  take_none (suc n) zero = refl
-  take_none (suc n) (suc k) =
-      let rest = take_none n k in
-      let all : count_by p (Nop ∷ take k (nops n)) ≡ 0 + count_by p (take k (nops n)) = sum_by-cons (λ (x : Instr). cond (p x) 1 0) Nop (take k (nops n)) ∙ rw none refl in
-      omega arith
+  abbrev one : Instr → ℕ
+  one x = cond (p x) 1 0
 
-  take_nil : (k : ℕ) → count_by p (take k []) ≡ 0
-  take_nil zero = refl
-  take_nil (suc k) = refl
+  none_counted : (n : ℕ) → count_by p (nops n) ≡ 0
+  none_counted n = sum_by-replicate one n Nop ∙ rw (none, mul-zero) refl
 
   pub count_nops : (instrs : List Instr) (n k : ℕ) → count_by p (take k (instrs ++ nops n)) ≡ count_by p (take k instrs)
-  count_nops [] n k = take_none n k ∙ sym (take_nil k)
+  count_nops [] n k =
+      let few : count_by p (take k (nops n)) ≤ count_by p (nops n) = sum_by-take-le one (nops n) k in
+      let nil : count_by p (take k []) ≤ 0 = sum_by-take-le one [] k in
+      omega (arith, few, nil, none_counted n)
   count_nops (i ∷ instrs) n zero = refl
-  count_nops (i ∷ instrs) n (suc k) =
-      sum_by-cons (λ (x : Instr). cond (p x) 1 0) i (take k (instrs ++ nops n)) ∙ ap (λ (m : ℕ). cond (p i) 1 0 + m) (count_nops instrs n k)
-      ∙ sym (sum_by-cons (λ (x : Instr). cond (p x) 1 0) i (take k instrs))
+  count_nops (i ∷ instrs) n (suc k) = sum_by-cons one i (take k (instrs ++ nops n)) ∙ ap (λ (m : ℕ). one i + m) (count_nops instrs n k) ∙ sym (sum_by-cons one i (take k instrs))
 
   pub all_nops_counted : (instrs : List Instr) (n : ℕ) → count_by p (instrs ++ nops n) ≡ count_by p instrs
-  all_nops_counted [] zero = refl
-  all_nops_counted [] (suc n) =
-      let all : count_by p (Nop ∷ nops n) ≡ 0 + count_by p (nops n) = sum_by-cons (λ (x : Instr). cond (p x) 1 0) Nop (nops n) ∙ rw none refl in
-      let rest : count_by p (nops n) ≡ 0 = all_nops_counted [] n in
-      omega arith
-  all_nops_counted (i ∷ instrs) n =
-      sum_by-cons (λ (x : Instr). cond (p x) 1 0) i (instrs ++ nops n) ∙ ap (λ (m : ℕ). cond (p i) 1 0 + m) (all_nops_counted instrs n) ∙ sym (sum_by-cons (λ (x : Instr). cond (p x) 1 0) i instrs)
+  all_nops_counted instrs n =
+      let both : count_by p (instrs ++ nops n) ≡ count_by p instrs + count_by p (nops n) = sum_by-append one instrs (nops n) in
+      omega (arith, both, none_counted n)
 
 pub row_starts_nops : (instrs : List Instr) (n : ℕ) → row_starts (instrs ++ nops n) ≡ row_starts instrs
 row_starts_nops instrs n = ap (λ (m : ℕ). 1 + m) (all_nops_counted moves_location refl instrs n)
 
-take_past : (p : Instr → Bool) (instrs : List Instr) (k : ℕ) → length instrs ≤ k → count_by p (take k instrs) ≡ count_by p (take (length instrs) instrs)
-take_past p instrs k le = ap (count_by p) (take_all k instrs le ∙ sym (take_all (length instrs) instrs (omega arith)))
+-- behind its end a program is as at its end
+within : (instrs : List Instr) (k : ℕ) → (m : ℕ) × (m ≤ length instrs) × (onto [] instrs k ≡ onto [] instrs m) × (take k instrs ≡ take m instrs)
+within instrs k = elim (cases_lt k (length instrs)) [
+  | inl less ↦ (k, omega arith, refl, refl)
+  | inr past ↦ (length instrs, omega arith, past_end [] instrs k past, take_all k instrs past ∙ sym (take_all (length instrs) instrs (omega arith)))
+]
 
 pub fde_kept_nops : (limit begin : ℕ) (initial : CfaRule) (instrs : List Instr) (n : ℕ) → FdeKept limit begin initial instrs → FdeKept limit begin initial (instrs ++ nops n)
 fde_kept_nops limit begin initial instrs n h = record {
@@ -221,22 +209,7 @@ fde_kept_nops limit begin initial instrs n h = record {
         let d = location_past begin instrs (k + 1) (omega arith) in
         omega arith
   ];
-  in_space = λ k le. let a = location_nops begin instrs n k in elim (cases_lt k (length instrs)) [
-    | inl less ↦ let b = h.in_space k (omega arith) in omega arith
-    | inr past ↦ let b = h.in_space (length instrs) (omega arith) in let c = location_past begin instrs k past in omega arith
-  ];
-  matched = λ k le.
-      let a = count_nops is_restore refl instrs n k in
-      let b = count_nops is_remember refl instrs n k in
-      elim (cases_lt k (length instrs)) [
-        | inl less ↦ let c = h.matched k (omega arith) in omega arith
-        | inr past ↦ let c = h.matched (length instrs) (omega arith) in let d = take_past is_restore instrs k past in let e = take_past is_remember instrs k past in omega arith
-      ];
-  room = λ k le.
-      let a = count_nops is_restore refl instrs n k in
-      let b = count_nops is_remember refl instrs n k in
-      elim (cases_lt k (length instrs)) [
-        | inl less ↦ let c = h.room k (omega arith) in omega arith
-        | inr past ↦ let c = h.room (length instrs) (omega arith) in let d = take_past is_restore instrs k past in let e = take_past is_remember instrs k past in omega arith
-      ];
+  in_space = λ k le. let w = within instrs k in rw (location_nops begin instrs n k, ap (location_back begin) w.2) (h.in_space w.0 w.1);
+  matched = λ k le. let w = within instrs k in rw (count_nops is_restore refl instrs n k, count_nops is_remember refl instrs n k, w.3) (h.matched w.0 w.1);
+  room = λ k le. let w = within instrs k in rw (count_nops is_restore refl instrs n k, count_nops is_remember refl instrs n k, w.3) (h.room w.0 w.1);
 }

@@ -1,17 +1,10 @@
 -- The changes of an FDE determine its rules at each address, and its rules determine its changes.
 use Rattle.std.proofs.Common.{◌≡◌, ℕ, zero, suc, ◌+◌, ◌-◌, ◌<◌, ◌≤◌, List, [], ◌∷◌, refl, sym, ap, subst, ◌∙◌, arith, inl, inr}
-use Rattle.std.specs.List.{AllByRecursion}
 use Rattle.std.proofs.lemmas.Bool.{cases_lt, cases_order, lt-ltb, le-ltb}
-use Rattle.dw_cfa.specs.declared.instr.Instr.{Instr}
-use Rattle.dw_cfa.specs.Rows.{Rules, AreSpecified}
+use Rattle.dw_section.proofs.Words.{Instr, Rules, StayFrom, HoldsAt, ChangesBehind, AreChanges, AgreeAt, Agree, row_among}
 use Rattle.dw_cfa.proofs.Lent.InstrCounts.{counts_exists}
 use Rattle.dw_cfa.proofs.Lent.SameRows.{same_rows}
-use Rattle.dw_section.specs.Changes.{Stays, StayFrom, HoldsAt, ChangesBehind, AreChanges}
-use Rattle.dw_section.specs.Inner.Agree.{AgreeAt, Agree}
-use Rattle.dw_section.specs.Inner.Meanings.{row_among}
-
-abbrev pub AreListed : List (ℕ × Rules) → Type 0
-AreListed changes = AllByRecursion (λ (change : ℕ × Rules). AreSpecified 0 change.1.registers) changes
+use Rattle.dw_section.specs.Changes.{Stays}
 
 module _ (i j : List Instr) (begin : ℕ) where
   stays_row : (a : ℕ) (row : Rules) → begin ≤ a → Stays i j begin a (suc a) → HoldsAt i j begin a row → HoldsAt i j begin (suc a) row
@@ -42,20 +35,6 @@ module _ (i j : List Instr) (begin : ℕ) where
   -- at each address of an FDE the row of its last change holds
   pub changed_row : (end a : ℕ) (first : ℕ × Rules) (changes : List (ℕ × Rules)) → begin ≤ a → a < end → AreChanges i j begin end (first ∷ changes) → HoldsAt i j begin a (row_among a first.1 changes)
   changed_row end a first changes from below c = behind_row end begin a first.1 changes (omega arith) from below c.1 c.2
-
-  listed_behind : (end low : ℕ) (changes : List (ℕ × Rules)) → begin ≤ low → ChangesBehind i j begin end low changes → AreListed changes
-  listed_behind end low [] le c = tt
-  listed_behind end low (change ∷ changes) le c =
-      let from : begin ≤ suc c.0 = omega (arith, c.2) in
-      let counts = counts_exists begin j (suc c.0) from in
-      ((c.6 counts.0 counts.1).listed, listed_behind end (suc c.0) changes from c.7)
-
-  -- their rows list each register once
-  pub changes_listed : (end : ℕ) (changes : List (ℕ × Rules)) → AreChanges i j begin end changes → AreListed changes
-  changes_listed end [] c = tt
-  changes_listed end (first ∷ changes) c =
-      let counts = counts_exists begin j begin (omega arith) in
-      ((c.1 counts.0 counts.1).listed, listed_behind end begin changes (omega arith) c.2)
 
 -- a row that holds at an address of both makes them agree there
 pub agree_row : (begin a : ℕ) (i j k l : List Instr) (row : Rules) → HoldsAt i j begin a row → HoldsAt k l begin a row → AgreeAt begin i j k l a

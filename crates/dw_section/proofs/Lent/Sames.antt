@@ -1,20 +1,11 @@
 -- Two accepted sections with the same FDEs, whose programs agree, say the same.
-use Rattle.std.proofs.Common.{◌≡◌, ℕ, ◌<◌, ◌≤◌, List, sym, subst, arith}
-use Rattle.dw_num.specs.declared.target.Target.{Target}
-use Rattle.dw_num.specs.Input.{AreBytes}
-use Rattle.dw_cfa.specs.declared.instr.Instr.{Instr}
-use Rattle.dw_cfa.specs.Rows.{Rules}
+use Rattle.std.proofs.Common.{◌≡◌, ℕ, ◌<◌, List, subst, arith}
+use Rattle.dw_section.proofs.Words.{Target, AreBytes, Instr, Rules, Accepted, AreChanges, Says, AreFdes, RulesAt, ChangesOf, Agree, SameMeaning, IsAmong}
 use Rattle.dw_section.specs.declared.lookup.Fde.{Fde}
-use Rattle.dw_section.specs.Accepted.{Accepted}
-use Rattle.dw_section.specs.Changes.{HoldsAt, AreChanges}
-use Rattle.dw_section.specs.Meaning.{Says, AreFdes, RulesAt, ChangesOf}
 use Rattle.dw_section.proofs.Lent.FdeLookup.{one_fdes}
-use Rattle.dw_section.specs.Inner.Agree.{Agree}
-use Rattle.dw_section.specs.Meanings.{SameMeaning}
-use Rattle.dw_section.specs.Among.{IsAmong}
 use Rattle.dw_section.proofs.Lent.Agrees.{agree_sym, holds_agree, changes_agree}
 use Rattle.dw_section.proofs.Lent.Rowed.{one_changes}
-use Rattle.dw_section.proofs.Lent.Sections.{one_programs, rules_programs, programs_rules, changes_programs, programs_changes, listed_programs, programs_listed}
+use Rattle.dw_section.proofs.Lent.Sections.{one_programs, programs_rules, changes_programs, listed_programs, rules_covered, row_exists, one_rules}
 
 -- the changes of an FDE that is not empty are one
 pub one_change_list : (target : Target) (s : List ℕ) (b : AreBytes s) (ok : Accepted target s) (f : Fde) (xs ys : List (ℕ × Rules)) → f.begin < f.end → ChangesOf target s f xs → ChangesOf target s f ys → xs ≡ ys
@@ -36,27 +27,24 @@ module _ (target : Target) (s t : List ℕ) (bs : AreBytes s) (bt : AreBytes t) 
     (in_s : AreFdes target s fs) (in_t : AreFdes target t fs) (agree : AllAgree target s t fs) where
   pub rules_there : (a : ℕ) (row : Rules) → RulesAt target s a row → RulesAt target t a row
   rules_there a row h =
-      let p = rules_programs target s bs oks a row h in
-      let from = p.from in
-      let below = p.below in
-      let listed = programs_listed target s bs oks fs p.begin p.end p.initial p.instrs in_s (omega arith) p.programs in
-      let f = listed.0 in
-      let there = (listed_programs target t bt okt fs f in_t listed.1).1 in
-      let mine : Says target s f.begin f.end p.initial p.instrs =
-      subst (λ (n : ℕ). Says target s n f.end p.initial p.instrs) (sym listed.2) (subst (λ (n : ℕ). Says target s p.begin n p.initial p.instrs) (sym listed.3) p.programs) in
-      let begins : f.begin ≡ p.begin = listed.2 in
-      let ends : f.end ≡ p.end = listed.3 in
-      let le : f.begin ≤ a = omega arith in
-      let lt : a < f.end = omega arith in
-      let holds = subst (λ (n : ℕ). HoldsAt p.initial p.instrs n a row) (sym begins) p.holds in
-      programs_rules target t bt okt f.begin f.end a there.0 there.1 row there.2 le lt (holds_agree f.begin a p.initial p.instrs there.0 there.1 row le (agree f listed.1 p.initial p.instrs there.0 there.1 mine there.2 a le lt) holds)
+      let c = rules_covered target s bs oks fs a row in_s h in
+      let f = c.0 in
+      let le = c.2.0 in
+      let lt = c.2.1 in
+      let p = (listed_programs target s bs oks fs f in_s c.1).1 in
+      let q = (listed_programs target t bt okt fs f in_t c.1).1 in
+      let here = row_exists target s bs oks f.begin f.end a p.0 p.1 p.2 le in
+      let one = one_rules target s bs oks a here.0 row (programs_rules target s a here.0 f.begin f.end p.0 p.1 p.2 le lt here.1) h in
+      let holds = holds_agree f.begin a p.0 p.1 q.0 q.1 here.0 le (agree f c.1 p.0 p.1 q.0 q.1 p.2 q.2 a le lt) here.1 in
+      subst (RulesAt target t a) one (programs_rules target t a here.0 f.begin f.end q.0 q.1 q.2 le lt holds)
 
   pub changes_there : (f : Fde) (changes : List (ℕ × Rules)) → IsAmong f fs → ChangesOf target s f changes → ChangesOf target t f changes
   changes_there f changes listed h =
       let p = changes_programs target s bs oks f changes h in
       let all = listed_programs target t bt okt fs f in_t listed in
       let there = all.1 in
-      programs_changes target t bt okt f changes there.0 there.1 there.2 (changes_agree f.begin f.end p.0 p.1 there.0 there.1 (agree f listed p.0 p.1 there.0 there.1 p.2 there.2) changes all.0 p.3)
+      let same = changes_agree f.begin f.end p.0 p.1 there.0 there.1 (agree f listed p.0 p.1 there.0 there.1 p.2 there.2) changes all.0 p.3 in
+      record { initial = there.0; instrs = there.1; says = there.2; change = same }
 
   fdes_there : (gs : List Fde) → AreFdes target s gs → AreFdes target t gs
   fdes_there gs h = subst (AreFdes target t) (one_fdes target s fs gs in_s h) in_t

@@ -2,35 +2,18 @@
 use Rattle.std.proofs.Common.{◌≡◌, ℕ, ◌+◌, ◌<◌, ◌≤◌, List, [], ◌∷◌, refl, sym, ap, subst, ◌∙◌, arith, inl, inr, true}
 use Rattle.std.specs.List.{AllByRecursion, AllZip}
 use Rattle.std.proofs.lemmas.Bool.Decides.{eqb_tells}
-use Rattle.dw_num.specs.declared.target.Target.{Target}
-use Rattle.dw_num.specs.Input.{AreBytes}
-use Rattle.dw_num.specs.Target.{address_limit}
-use Rattle.dw_cfa.specs.declared.instr.Instr.{Instr}
-use Rattle.dw_cfa.specs.declared.rule.CfaRule.{CfaRule}
-use Rattle.dw_cfa.specs.declared.rule.RegRule.{RegRule}
-use Rattle.dw_cfa.specs.Column.{cfa_after, rule_after}
-use Rattle.dw_cfa.specs.Kept.{CieKept, FdeKept}
-use Rattle.dw_cfa.specs.Laws.{initial_cfa, HoldsAfter}
-use Rattle.dw_cfa.specs.Rows.{Rules}
-use Rattle.dw_cfa.proofs.Lent.BehindLaws.{gives_rows}
+use Rattle.dw_section.proofs.Words.{Target, AreBytes, address_limit, Instr, HoldsAfter, Rules, Accepted, HoldsAt, AreChanges, is_among, Head, Headers, CieHead, FdeHead, cie, fde, HeadsRise, HasBytes}
+use Rattle.dw_section.proofs.Words.{FdeFits, cie_ats, Says, Lists, AreFdes, RulesAt, ChangesOf, Covers, Range, nonempty, IsIndex, AreApart, end_of, range_of, FdeRuns, HasRules, Instrs, HasCfa}
+use Rattle.dw_section.proofs.Words.{IsAmong}
 use Rattle.dw_cfa.proofs.Lent.InstrCounts.{counts_exists, one_count}
-use Rattle.dw_cfa.proofs.Lent.FaultLaws.{leaves_initial}
 use Rattle.dw_section.specs.declared.lookup.Fde.{Fde}
-use Rattle.dw_section.specs.Accepted.{Accepted}
-use Rattle.dw_section.specs.Changes.{HoldsAt, AreChanges}
-use Rattle.dw_section.specs.Fields.{is_among}
-use Rattle.dw_section.specs.Headers.{Head, Headers, CieHead, FdeHead, cie, fde}
-use Rattle.dw_section.specs.Inner.Heads.{HeadsRise, HasBytes, FdeFits, cie_ats}
-use Rattle.dw_section.specs.Meaning.{Says, Lists, AreFdes, RulesAt, ChangesOf, Covers}
-use Rattle.dw_section.specs.Overlap.{Range, nonempty, IsIndex, AreApart, end_of, range_of}
-use Rattle.dw_section.specs.Programs.{CieRuns, FdeRuns, HasRules, Begins, Instrs, HasCfa, factors_of}
-use Rattle.dw_num.specs.Span.{input_of}
-use Rattle.dw_section.specs.Among.{IsAmong}
 use Rattle.dw_section.proofs.Lent.CheckFirst.{one_instrs}
 use Rattle.dw_section.proofs.Lent.HeaderLaws.{one_headers}
-use Rattle.dw_section.proofs.Lent.Heads.{all_in, heads_rise, heads_bytes, heads_fit, one_among, one_begin, fde_or}
-use Rattle.dw_section.proofs.Lent.Index.{all_at, all_from, one_index, with_range_so}
+use Rattle.dw_section.proofs.Lent.Heads.{all_in, heads_rise, heads_bytes, heads_fit, one_among, fde_or}
+use Rattle.dw_section.proofs.Lent.Index.{all_from, one_index, with_range_so, zip_left, zip_right}
 use Rattle.dw_section.proofs.Lent.Rowed.{one_row}
+use Rattle.dw_section.proofs.FdeRows.{given}
+use Rattle.dw_section.proofs.Lent.ChangeLaws.{Given, row_there, holds_at}
 
 -- ---- ranges and headers
 
@@ -68,11 +51,11 @@ pub one_cover : (rs : List Range) (x y : Range) (a : ℕ) → AreApart rs → Is
 one_cover [] x y a apart i j fx bx fy by = absurd i
 one_cover (z ∷ rs) x y a apart (inl i) (inl j) fx bx fy by = i ∙ sym j
 one_cover (z ∷ rs) x y a apart (inl i) (inr j) fx bx fy by =
-    let p = all_at (λ (w : Range). end_of z ≤ w.begin) rs y apart.0 j in
+    let p = all_in (λ (w : Range). end_of z ≤ w.begin) rs y apart.0 j in
     let e : end_of x ≡ end_of z = ap end_of i in
     absurd (omega arith)
 one_cover (z ∷ rs) x y a apart (inr i) (inl j) fx bx fy by =
-    let p = all_at (λ (w : Range). end_of z ≤ w.begin) rs x apart.0 i in
+    let p = all_in (λ (w : Range). end_of z ≤ w.begin) rs x apart.0 i in
     let e : end_of y ≡ end_of z = ap end_of j in
     absurd (omega arith)
 one_cover (z ∷ rs) x y a apart (inr i) (inr j) fx bx fy by = one_cover rs x y a apart.1 i j fx bx fy by
@@ -96,21 +79,20 @@ cie_among (fde f ∷ hs) at e = more_cie (fde f) hs at (cie_among hs at e)
 
 -- ---- lists side by side
 
-pub zip_left : (R : Range → Fde → Type 0) (rs : List Range) (fs : List Fde) (a : Range) → AllZip R rs fs → IsAmong a rs → (f : Fde) × IsAmong f fs × R a f
-zip_left R [] fs a z i = absurd i
-zip_left R (r ∷ rs) [] a z i = absurd z
-zip_left R (r ∷ rs) (f ∷ fs) a z (inl is) = (f, inl refl, subst (λ (x : Range). R x f) (sym is) z.0)
-zip_left R (r ∷ rs) (f ∷ fs) a z (inr i) = let rest = zip_left R rs fs a z.1 i in (rest.0, inr rest.1, rest.2)
-
-pub zip_right : (R : Range → Fde → Type 0) (rs : List Range) (fs : List Fde) (f : Fde) → AllZip R rs fs → IsAmong f fs → (a : Range) × IsAmong a rs × R a f
-zip_right R rs [] f z i = absurd i
-zip_right R [] (g ∷ fs) f z i = absurd z
-zip_right R (r ∷ rs) (g ∷ fs) f z (inl is) = (r, inl refl, subst (R r) (sym is) z.0)
-zip_right R (r ∷ rs) (g ∷ fs) f z (inr i) = let rest = zip_right R rs fs f z.1 i in (rest.0, inr rest.1, rest.2)
-
 pub make_zip : (R : Range → Fde → Type 0) (rs : List Range) → AllByRecursion (λ a. (f : Fde) × R a f) rs → (fs : List Fde) × AllZip R rs fs
 make_zip R [] h = ([], tt)
 make_zip R (r ∷ rs) h = let rest = make_zip R rs h.1 in (h.0.0 ∷ rest.0, (h.0.1, rest.1))
+
+-- ---- rules at an address
+
+module _ (target : Target) (s : List ℕ) (a : ℕ) (row : Rules) where
+  pub rules_hold : (h : RulesAt target s a row) → HoldsAt h.initial h.instrs h.begin a row
+  rules_hold h k counts = subst (λ (j : ℕ). HoldsAfter h.initial h.instrs j row) (one_count h.begin h.instrs a h.k k h.counts counts) h.holds
+
+  pub programs_rules : (begin end : ℕ) (i j : List Instr) → Says target s begin end i j → begin ≤ a → a < end → HoldsAt i j begin a row → RulesAt target s a row
+  programs_rules begin end i j h le lt holds =
+      let c = counts_exists begin j a le in
+      record { begin = begin; end = end; initial = i; instrs = j; says = h; from = le; below = lt; k = c.0; counts = c.1; holds = holds c.0 c.1 }
 
 -- ---- the section
 
@@ -150,7 +132,7 @@ module _ (target : Target) (s : List ℕ) (b : AreBytes s) (ok : Accepted target
       }
 
   pub in_index : (f : FdeHead) → 0 < f.range → IsAmong (fde f) hs → IsAmong (range_of f) index
-  in_index f some among = all_at (λ a. IsAmong a index) (nonempty hs) (range_of f) ok.1.2.all (head_range hs f some among)
+  in_index f some among = all_in (λ (a : Range). IsAmong a index) (nonempty hs) (range_of f) ok.1.2.all (head_range hs f some among)
 
   -- at an address two FDEs are one
   pub record SamePrograms (begin end from till : ℕ) (i j k l : List Instr) : Type 0 where
@@ -175,15 +157,6 @@ module _ (target : Target) (s : List ℕ) (b : AreBytes s) (ok : Accepted target
 
   -- ---- programs keep what they have to
 
-  pub kept_programs : (begin end : ℕ) (i j : List Instr) → Says target s begin end i j → FdeKept (address_limit target.size) begin (initial_cfa i) j
-  kept_programs begin end i j h =
-      let x = here begin end i j h in
-      let runs = all_in (FdeRuns target hs) hs (fde x.head) ok.1.1.0.1 x.among in
-      let program_bytes : AreBytes x.head.program.bytes = all_in HasBytes hs (fde x.head) bytes x.among in
-      let one = one_instrs target hs up bytes x.head.cie_at x.head.program runs.0 runs.1 i j program_bytes runs.2 x.spelled in
-      subst (λ (n : ℕ). FdeKept (address_limit target.size) n (initial_cfa i) j) (sym x.begin_is)
-      (subst (λ (l : List Instr). FdeKept (address_limit target.size) x.head.begin (initial_cfa i) l) one.1 (subst (λ (l : List Instr). FdeKept (address_limit target.size) x.head.begin (initial_cfa l) runs.1) one.0 runs.3))
-
   pub cfa_programs : (begin end a : ℕ) (i j : List Instr) → Says target s begin end i j → begin ≤ a → a < end → HasCfa i j begin a
   cfa_programs begin end a i j h le lt =
       let x = here begin end i j h in
@@ -199,92 +172,35 @@ module _ (target : Target) (s : List ℕ) (b : AreBytes s) (ok : Accepted target
       let fits = all_in (FdeFits target (cie_ats hs)) hs (fde x.head) (heads_fit target s hs headers_of) x.among in
       (omega (arith, fits.0, x.begin_is), omega (arith, fits.1, x.end_is))
 
+  -- the rows that it gives
+  pub given_by : (begin end : ℕ) (i j : List Instr) (h : Says target s begin end i j) → Given target (here begin end i j h).spelled.head (here begin end i j h).head i j
+  given_by begin end i j h = let x = here begin end i j h in given target s b hs ok.1.1 x.spelled.head x.head i j x.among x.spelled.begins x.spelled.spelled
+
   -- a row that holds at an address
   pub row_exists : (begin end a : ℕ) (i j : List Instr) → Says target s begin end i j → begin ≤ a → (row : Rules) × HoldsAt i j begin a row
   row_exists begin end a i j h le =
       let x = here begin end i j h in
-      let low = begin_low begin end i j h in
-      let begins = x.spelled.begins in
-      let c = x.spelled.head in
-      let f = factors_of c in
-      let cie_runs = all_in (CieRuns target) hs (cie c) ok.1.1.0.0.1 begins.among in
-      let own : Begins target hs x.head.cie_at c cie_runs.0 = record { among = begins.among; stands = begins.stands; spelled = cie_runs.1 } in
-      let same = one_begin target hs x.head.cie_at c c cie_runs.0 i up bytes own begins in
-      let cie_bytes : AreBytes c.program.bytes = all_in HasBytes hs (cie c) bytes begins.among in
-      let fde_bytes : AreBytes x.head.program.bytes = all_in HasBytes hs (fde x.head) bytes x.among in
-      let left = leaves_initial f (input_of target c.program) i cie_bytes begins.spelled (subst CieKept same.instrs cie_runs.2) in
-      let leaves = left.2 in
-      let kept = subst (λ (c : CfaRule). FdeKept (address_limit target.size) begin c j) (sym leaves.cfa) (kept_programs begin end i j h) in
-      let given = gives_rows f left.0 (input_of target x.head.program) begin j fde_bytes leaves.listed (omega (arith, low.0)) x.spelled.spelled kept in
-      let gives = given.2 in
-      let count = counts_exists begin j a le in
-      let row = gives.holds a count.0 le count.1 in
-      let behind = row.2 in (
-        row.0,
-        λ k counts.
-            let n : count.0 ≡ k = one_count begin j a count.0 k count.1 counts in
-            subst (λ (m : ℕ). HoldsAfter i j m row.0) n (record {
-              cfa = behind.cfa ∙ ap (λ (c' : CfaRule). cfa_after c' j count.0) leaves.cfa;
-              rules = λ r. behind.rules r ∙ ap (λ (q : RegRule). rule_after q j r count.0) (leaves.rules r);
-              listed = behind.listed;
-            }),
-      )
+      let row = row_there target x.spelled.head x.head i j end (given_by begin end i j h) a (omega (arith, le, x.begin_is)) in
+      (row.0, subst (λ (n : ℕ). HoldsAt i j n a row.0) (sym x.begin_is) (holds_at i j x.head.begin end a row.0 row.2))
 
   -- ---- rules at an address
-
-  pub record RulesFrom (a : ℕ) (row : Rules) : Type 0 where
-    pub begin : ℕ
-    pub end : ℕ
-    pub initial : List Instr
-    pub instrs : List Instr
-    pub programs : Says target s begin end initial instrs
-    pub from : begin ≤ a
-    pub below : a < end
-    pub holds : HoldsAt initial instrs begin a row
-
-  pub rules_programs : (a : ℕ) (row : Rules) → RulesAt target s a row → RulesFrom a row
-  rules_programs a row h = record {
-    begin = h.begin;
-    end = h.end;
-    initial = h.initial;
-    instrs = h.instrs;
-    programs = h.says;
-    from = h.from;
-    below = h.below;
-    holds = λ k counts. subst (λ (j : ℕ). HoldsAfter h.initial h.instrs j row) (one_count h.begin h.instrs a h.k k h.counts counts) h.holds;
-  }
-
-  pub programs_rules : (begin end a : ℕ) (i j : List Instr) (row : Rules) → Says target s begin end i j → begin ≤ a → a < end → HoldsAt i j begin a row → RulesAt target s a row
-  programs_rules begin end a i j row h le lt holds =
-      let c = counts_exists begin j a le in
-      record { begin = begin; end = end; initial = i; instrs = j; says = h; from = le; below = lt; k = c.0; counts = c.1; holds = holds c.0 c.1 }
 
   -- the rules at an address are one
   pub one_rules : (a : ℕ) (x y : Rules) → RulesAt target s a x → RulesAt target s a y → x ≡ y
   one_rules a x y v w =
-      let p = rules_programs a x v in
-      let q = rules_programs a y w in
-      let same = one_programs a p.begin p.end q.begin q.end p.initial p.instrs q.initial q.instrs p.from p.below q.from q.below p.programs q.programs in
-      one_row q.initial q.instrs q.begin a x y q.from
-      (subst (λ (n : ℕ). HoldsAt q.initial q.instrs n a x) same.begins (subst (λ (l : List Instr). HoldsAt q.initial l p.begin a x) same.instrs (subst (λ (l : List Instr). HoldsAt l p.instrs p.begin a x) same.initials p.holds))) q.holds
+      let same = one_programs a v.begin v.end w.begin w.end v.initial v.instrs w.initial w.instrs v.from v.below w.from w.below v.says w.says in
+      let there = rw (same.initials, same.instrs, same.begins) at (rules_hold target s a x v) in
+      one_row w.initial w.instrs w.begin a x y w.from there (rules_hold target s a y w)
 
   -- ---- changes
 
   pub changes_programs : (f : Fde) (changes : List (ℕ × Rules)) → ChangesOf target s f changes → (i : List Instr) × (j : List Instr) × Says target s f.begin f.end i j × AreChanges i j f.begin f.end changes
   changes_programs f changes h = (h.initial, h.instrs, h.says, h.change)
 
-  pub programs_changes : (f : Fde) (changes : List (ℕ × Rules)) (i j : List Instr) → Says target s f.begin f.end i j → AreChanges i j f.begin f.end changes → ChangesOf target s f changes
-  programs_changes f changes i j h change = record { initial = i; instrs = j; says = h; change = change }
-
   -- ---- the list of FDEs
 
-  head_programs : (a : Range) → HeadOf hs a → (i : List Instr) × (j : List Instr) × Says target s a.begin (end_of a) i j
-  head_programs a o =
-      let runs = all_in (FdeRuns target hs) hs (fde o.head) ok.1.1.0.1 o.among in
-      (runs.0, runs.1, record { headers = hs; are = headers_of; head = o.head; among = o.among; begin_is = ap (λ (r : Range). r.begin) (sym o.covers); end_is = ap end_of (sym o.covers); spelled = runs.2 })
-
   index_head : (a : Range) → IsAmong a index → HeadOf hs a
-  index_head a i = range_head hs a (all_at (λ x. IsAmong x (nonempty hs)) index a ok.1.2.from i)
+  index_head a i = range_head hs a (all_in (λ (x : Range). IsAmong x (nonempty hs)) index a ok.1.2.from i)
 
   list_one : (a : Range) → IsAmong a index → (f : Fde) × Lists hs a f
   list_one a i =
@@ -316,11 +232,12 @@ module _ (target : Target) (s : List ℕ) (b : AreBytes s) (ok : Accepted target
   pub listed_programs : (fs : List Fde) (f : Fde) → AreFdes target s fs → IsAmong f fs → (f.begin < f.end) × ((i : List Instr) × (j : List Instr) × Says target s f.begin f.end i j)
   listed_programs fs f h l =
       let z = zip_right (Lists hs) index fs f (fdes_zip fs h) l in
-      let a = z.0 in
-      let o = index_head a z.1 in
-      let p = head_programs a o in
       let lists = z.2 in
-      (omega (arith, lists.begin, lists.end, o.some), (p.0, p.1, subst (λ (n : ℕ). Says target s n f.end p.0 p.1) (sym lists.begin) (subst (λ (n : ℕ). Says target s a.begin n p.0 p.1) (sym lists.end) p.2)))
+      let o = index_head z.0 z.1 in
+      let runs = all_in (FdeRuns target hs) hs (fde o.head) ok.1.1.0.1 o.among in
+      let begin = lists.begin ∙ ap (λ (r : Range). r.begin) (sym o.covers) in
+      let end = lists.end ∙ ap end_of (sym o.covers) in
+      (omega (arith, lists.begin, lists.end, o.some), (runs.0, runs.1, record { headers = hs; are = headers_of; head = o.head; among = o.among; begin_is = begin; end_is = end; spelled = runs.2 }))
 
   -- and an FDE that is not empty is in the list
   pub programs_listed : (fs : List Fde) (begin end : ℕ) (i j : List Instr) → AreFdes target s fs → begin < end → Says target s begin end i j → (f : Fde) × IsAmong f fs × (f.begin ≡ begin) × (f.end ≡ end)
@@ -334,7 +251,7 @@ module _ (target : Target) (s : List ℕ) (b : AreBytes s) (ok : Accepted target
   rules_exist fs f a are listed covers =
       let p = (listed_programs fs f are listed).1 in
       let row = row_exists f.begin f.end a p.0 p.1 p.2 covers.0 in
-      (row.0, programs_rules f.begin f.end a p.0 p.1 row.0 p.2 covers.0 covers.1 row.1)
+      (row.0, programs_rules target s a row.0 f.begin f.end p.0 p.1 p.2 covers.0 covers.1 row.1)
 
   -- and an address that has rules is one of an FDE
   pub rules_covered : (fs : List Fde) (a : ℕ) (row : Rules) → AreFdes target s fs → RulesAt target s a row → (f : Fde) × IsAmong f fs × Covers a f

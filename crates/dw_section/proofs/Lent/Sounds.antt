@@ -2,31 +2,24 @@
 use Rattle.std.proofs.Common.{◌≡◌, ℕ, zero, suc, ◌<◌, ◌≤◌, true, List, [], ◌∷◌, length, refl, sym, ap, subst, ◌∙◌, arith, inl, inr, ℤ}
 use Rattle.std.specs.List.{AllByRecursion}
 use Rattle.std.proofs.lemmas.Bool.Decides.{eqb_tells}
-use Rattle.dw_num.specs.declared.target.Target.{Target}
-use Rattle.dw_cfa.specs.declared.instr.Factors.{Factors}
-use Rattle.dw_cfa.specs.declared.instr.Instr.{Instr}
+use Rattle.dw_section.proofs.Words.{Target, Factors, Instr, CfaRule, RegRule, look_back, cfa_change, rule_change, cfa_after, rule_after, Program, initial_cfa, initial_rule, onto, Rules, AreSpecified}
+use Rattle.dw_section.proofs.Words.{is_specified, rule_in, rule, HoldsAt, ChangesBehind, AreChanges, RuleFits, RowFits, ChangeFits, factors_of}
 use Rattle.dw_cfa.specs.declared.instr.Instr.TheVariants.{DefCfa, DefCfaRegister, DefCfaOffset, DefCfaExpression, Set, Restore, RememberState, RestoreState}
-use Rattle.dw_cfa.specs.declared.rule.CfaRule.{CfaRule}
 use Rattle.dw_cfa.specs.declared.rule.CfaRule.TheVariants as cfa
-use Rattle.dw_cfa.specs.declared.rule.RegRule.{RegRule}
 use Rattle.dw_cfa.specs.declared.rule.RegRule.TheVariants as rules
-use Rattle.dw_cfa.specs.Column.{look_back, with_register, with_offset, cfa_change, rule_change, cfa_after, rule_after}
-use Rattle.dw_cfa.specs.InstrSpells.{IsOffset, BlockSpells, Program}
-use Rattle.dw_cfa.specs.Laws.{initial_cfa, initial_rule}
-use Rattle.dw_cfa.specs.Location.{onto}
-use Rattle.dw_cfa.specs.Rows.{Rules, AreSpecified, is_specified, rule_in, rule}
+use Rattle.dw_cfa.specs.Column.{with_register, with_offset}
+use Rattle.dw_cfa.specs.InstrSpells.{IsOffset, BlockSpells}
 use Rattle.dw_cfa.proofs.Lent.Spellings.{RuleSpells, IsSpelled, by_table}
 use Rattle.dw_cfa.proofs.Lent.InstrCounts.{counts_exists}
 use Rattle.dw_op.specs.Expression.{Expression}
 use Rattle.dw_section.specs.declared.lookup.Fde.{Fde}
-use Rattle.dw_section.specs.Changes.{HoldsAt, ChangesBehind, AreChanges}
 use Rattle.dw_section.proofs.Lent.Registers.{fdes_registers}
-use Rattle.dw_section.specs.Among.{IsAmong}
-use Rattle.dw_section.specs.Fits.{HasBlock, CfaFits, RuleFits, RowFits}
-use Rattle.dw_section.specs.Inner.Sound.{ChangeFits, Steps, AllStep, SoundSection}
-use Rattle.dw_section.proofs.Lent.Rowed.{changes_listed, holds_on}
+use Rattle.dw_section.specs.Fits.{HasBlock, CfaFits}
+use Rattle.dw_section.specs.Inner.Sound.{Steps, AllStep, SoundSection}
+use Rattle.dw_section.proofs.Lent.Rowed.{holds_on}
 use Rattle.dw_section.proofs.Lent.Sections.{here, cfa_programs, begin_low, changes_programs, listed_programs}
-use Rattle.dw_section.specs.Programs.{factors_of}
+use Rattle.dw_section.proofs.Lent.Index.{all_in}
+use Rattle.dw_section.proofs.Stages.{all_weaker}
 
 -- ---- what an instruction gives
 
@@ -86,14 +79,12 @@ module _ {Rule : Type 0} (change : Instr → Rule → Rule) (initial : Rule) (P 
   back_keeps (suc inner) (i ∷ earlier) h = back_keeps (suc inner) earlier h.1
 
 register_keeps : (t : Target) (q : ℕ) (old : CfaRule) → q < 65536 → CfaFits t old → CfaFits t (with_register q old)
-register_keeps t q cfa.Unset lt h = tt
 register_keeps t q (cfa.Register r n) lt h = (lt, h.1)
-register_keeps t q (cfa.Expression e) lt h = h
+register_keeps t q other lt h = h
 
 offset_keeps : (t : Target) (m : ℤ) (old : CfaRule) → IsOffset m → CfaFits t old → CfaFits t (with_offset m old)
-offset_keeps t m cfa.Unset is h = tt
 offset_keeps t m (cfa.Register r n) is h = (h.0, is)
-offset_keeps t m (cfa.Expression e) is h = h
+offset_keeps t m other is h = h
 
 cfa_keeps : (t : Target) (i : Instr) → Gives t i → (old : CfaRule) → CfaFits t old → CfaFits t (cfa_change i old)
 cfa_keeps t (DefCfa r n) g old h = g
@@ -106,14 +97,8 @@ cfa_keeps t i g old h = h
 abbrev Fitting : Target → ℕ → RegRule → Type 0
 Fitting t r rule = RuleFits t rule × (is_specified rule ≡ true → r < 65536)
 
-set_keeps : (t : Target) (r q : ℕ) (given old : RegRule) → q < 65536 → RuleFits t given → Fitting t r old → Fitting t r (rule_change r old (Set q given) old)
-set_keeps t r q given old lt g h = elim (eqb_tells q r) [
-  | inl is ↦ rw (is.0) (g, λ e. omega (arith, is.1))
-  | inr not ↦ rw (not.0) h
-]
-
 rule_keeps : (t : Target) (r : ℕ) (initial : RegRule) → Fitting t r initial → (i : Instr) → Gives t i → (old : RegRule) → Fitting t r old → Fitting t r (rule_change r initial i old)
-rule_keeps t r initial start (Set q given) g old h = set_keeps t r q given old g.0 g.1 h
+rule_keeps t r initial start (Set q given) g old h = elim (eqb_tells q r) [ inl is ↦ rw (is.0) (g.1, λ e. omega (arith, is.1, g.0)) | inr not ↦ rw (not.0) h ]
 rule_keeps t r initial start (Restore q) g old h = elim (eqb_tells q r) [ inl is ↦ rw (is.0) start | inr not ↦ rw (not.0) h ]
 rule_keeps t r initial start i g old h = h
 
@@ -206,15 +191,6 @@ module _ (i j : List Instr) (begin end : ℕ) where
   steps_all [] c = absurd c
   steps_all (first ∷ changes) c = (c.0, subst (λ (n : ℕ). Steps n first.1 changes) (sym c.0) (steps_behind begin first.1 changes (omega arith) c.1 c.2))
 
-all_two : {X : Type 0} (P Q R : X → Type 0) → ((x : X) → P x → Q x → R x) → (xs : List X) → AllByRecursion P xs → AllByRecursion Q xs → AllByRecursion R xs
-all_two P Q R to [] h k = tt
-all_two P Q R to (x ∷ xs) h k = (to x h.0 k.0, all_two P Q R to xs h.1 k.1)
-
-listed_in : (P : Fde → Type 0) (fs : List Fde) (f : Fde) → AllByRecursion P fs → IsAmong f fs → P f
-listed_in P [] f h i = absurd i
-listed_in P (g ∷ fs) f h (inl is) = subst P (sym is) h.0
-listed_in P (g ∷ fs) f h (inr i) = listed_in P fs f h.1 i
-
 pub sound_section : SoundSection
 sound_section target s b ok fs f changes are listed h =
     let p = changes_programs target s b ok f changes h in
@@ -225,17 +201,17 @@ sound_section target s b ok fs f changes are listed h =
     let gj = program_all (Gives target) target (factors_of x.spelled.head) (instr_gives target (factors_of x.spelled.head)) j x.head.program.bytes x.spelled.spelled in
     let some = (listed_programs target s b ok fs f are listed).0 in
     let low = begin_low target s b ok f.begin f.end i j p.2 in
-    let each : (change : ℕ × Rules) → Held i j f.begin f.end change → AreSpecified 0 change.1.registers → ChangeFits target f.end change = λ change held specified. (
+    let each : (change : ℕ × Rules) → Held i j f.begin f.end change → ChangeFits target f.end change = λ change held.
+    let c = counts_exists f.begin j change.0 held.0 in
+    let here = held.2 c.0 c.1 in (
       held.1,
-      row_fits target i j gi gj f.begin change.0 change.1 held.0 held.2 specified,
-      λ unset.
-          let c = counts_exists f.begin j change.0 held.0 in
-          cfa_programs target s b ok f.begin f.end change.0 i j p.2 held.0 held.1 c.0 c.1 (sym (held.2 c.0 c.1).cfa ∙ unset),
+      row_fits target i j gi gj f.begin change.0 change.1 held.0 held.2 here.listed,
+      λ unset. cfa_programs target s b ok f.begin f.end change.0 i j p.2 held.0 held.1 c.0 c.1 (sym here.cfa ∙ unset),
     ) in
     record {
       some = some;
       in_space = low.1;
-      register = listed_in (λ (g : Fde). g.return_register < 65536) fs f (fdes_registers target s fs are) listed;
-      each = all_two (Held i j f.begin f.end) (λ (change : ℕ × Rules). AreSpecified 0 change.1.registers) (ChangeFits target f.end) each changes (held_all i j f.begin f.end changes some p.3) (changes_listed i j f.begin f.end changes p.3);
+      register = all_in (λ (g : Fde). g.return_register < 65536) fs f (fdes_registers target s fs are) listed;
+      each = all_weaker (Held i j f.begin f.end) (ChangeFits target f.end) each changes (held_all i j f.begin f.end changes some p.3);
       steps = steps_all i j f.begin f.end changes p.3;
     }

@@ -1,46 +1,21 @@
 -- The rows that a section starts are no fewer than its changes.
-use Rattle.std.proofs.Common.{◌≡◌, ℕ, ◌<◌, ◌≤◌, List, [], ◌∷◌, length, map, Option, Some, None, refl, sym, ap, subst, ◌∙◌, arith, inl, inr}
+use Rattle.std.proofs.Common.{◌≡◌, ℕ, ◌<◌, ◌≤◌, List, [], ◌∷◌, length, map, sym, ap, subst, ◌∙◌, arith}
 use Rattle.std.specs.List.{AllByRecursion, AllZip}
-use Rattle.dw_num.specs.declared.target.Target.{Target}
-use Rattle.dw_num.specs.Input.{AreBytes}
-use Rattle.dw_cfa.specs.declared.instr.Instr.{Instr}
-use Rattle.dw_cfa.specs.Location.{row_starts}
-use Rattle.dw_cfa.specs.Rows.{Rules}
+use Rattle.dw_section.proofs.Words.{Target, AreBytes, Instr, row_starts, Rules, Accepted, AreChanges, Head, Says, Lists, AreFdes, ChangesOf, Starts, total, Range, IsIndex, end_of}
 use Rattle.dw_section.specs.declared.lookup.Fde.{Fde}
-use Rattle.dw_section.specs.Accepted.{Accepted}
-use Rattle.dw_section.specs.Changes.{AreChanges}
-use Rattle.dw_section.specs.Headers.{Head}
-use Rattle.dw_section.specs.Meaning.{Says, Lists, AreFdes, ChangesOf, Starts, RowStarts, total}
-use Rattle.dw_section.specs.Overlap.{Range, IsIndex, end_of}
+use Rattle.dw_section.specs.Meaning.{RowStarts}
 use Rattle.dw_section.proofs.Lent.HeaderLaws.{one_headers}
-use Rattle.dw_section.proofs.Lent.Index.{one_index}
-use Rattle.dw_section.specs.Among.{IsAmong}
-use Rattle.dw_cfa.specs.declared.execution.LocatedRow.{LocatedRow}
-use Rattle.dw_section.specs.Inner.Changes.{Among, changes_among}
-use Rattle.dw_section.proofs.ChangesAmong.{are_among}
-use Rattle.dw_section.proofs.Lent.ChangeLaws.{changes_found}
-use Rattle.dw_section.proofs.Lent.Exists.{given}
+use Rattle.dw_section.proofs.Lent.Index.{one_index, all_from}
+use Rattle.dw_section.proofs.Lent.Exists.{changes_exist}
 use Rattle.dw_section.proofs.Lent.Rowed.{one_changes}
 use Rattle.dw_section.proofs.Lent.Sections.{hs, headers_of, index, fdes_zip, one_programs, changes_programs, listed_programs}
-
--- ---- rows
-
-among_few : (end : ℕ) (shown : Option Rules) (rows : List LocatedRow) (changes : List (ℕ × Rules)) → Among end shown rows changes → length changes ≤ length rows
-among_few end shown [] changes h = rw h (omega arith)
-among_few end shown (row ∷ rows) changes (inl h) = let rest = among_few end shown rows changes h.1 in omega arith
-among_few end shown (row ∷ rows) changes (inr h) = let rest = among_few end (Some row.row) rows h.1.0 h.1.2 in rw (h.1.1) (omega arith)
 
 -- an FDE of an accepted section starts at least as many rows as it has changes
 pub least_starts : (target : Target) (s : List ℕ) (b : AreBytes s) (ok : Accepted target s) (begin end : ℕ) (i j : List Instr) (changes : List (ℕ × Rules)) → begin < end
     → Says target s begin end i j → AreChanges i j begin end changes → length changes ≤ row_starts j
 least_starts target s b ok begin end i j changes lt h c =
-    let g = given target s b ok begin end i j h in
-    let found = changes_among end None g.rows in
-    let are = are_among end None g.rows in
-    let all = changes_found g.f g.cie g.fde i j g.first begin end g.rows found g.leaves g.gives lt are in
-    let few = among_few end None g.rows found are in
-    let same = ap length (one_changes i j begin end found changes all c) in
-    omega (arith, g.gives.starts)
+    let e = changes_exist target s b ok begin end i j lt h in
+    omega (arith, e.2, ap length (one_changes i j begin end e.0 changes e.1 c))
 
 module _ (target : Target) (s : List ℕ) (b : AreBytes s) (ok : Accepted target s) where
   abbrev ks : List Head
@@ -65,15 +40,11 @@ module _ (target : Target) (s : List ℕ) (b : AreBytes s) (ok : Accepted target
   starts_all (r ∷ rs) (f ∷ fs) (n ∷ ns) (l ∷ lists) some z w c = let rest = starts_all rs fs ns lists some.1 z.1 w.1 c.1 in let here = starts_one r f n l some.0 z.0 w.0 c.0 in omega arith
   starts_all rs fs ns lists some z w c = absurd assumption
 
-  some_all : (fs gs : List Fde) → AreFdes target s gs → ((f : Fde) → IsAmong f fs → IsAmong f gs) → AllByRecursion (λ (f : Fde). f.begin < f.end) fs
-  some_all [] gs are into = tt
-  some_all (f ∷ fs) gs are into = ((listed_programs target s b ok gs f are (into f (inl refl))).0, some_all fs gs are (λ g i. into g (inr i)))
-
   -- all FDEs together start no fewer rows than they have changes
   pub least_total : (fs : List Fde) (lists : List (List (ℕ × Rules))) (n : ℕ) → AreFdes target s fs → AllZip (λ f changes. ChangesOf target s f changes) fs lists → RowStarts target s n → total (map length lists) ≤ n
   least_total fs lists n are each starts =
       let same : starts.headers ≡ ks = one_headers target s starts.headers ks starts.are (headers_of target s b ok) in
       let same_index : starts.index ≡ index target s b ok = one_index ks starts.index (index target s b ok) (subst (λ (l : List Head). IsIndex l starts.index) same starts.is_index) ok.1.2 in
       let zip = subst (λ (rs : List Range). AllZip (Starts target s) rs starts.counts) same_index starts.each in
-      let all = starts_all (index target s b ok) fs starts.counts lists (some_all fs fs are (λ f i. i)) (fdes_zip target s b ok fs are) zip each in
+      let all = starts_all (index target s b ok) fs starts.counts lists (all_from (λ (f : Fde). f.begin < f.end) fs (λ f i. (listed_programs target s b ok fs f are i).0)) (fdes_zip target s b ok fs are) zip each in
       omega (arith, starts.sum)

@@ -1,8 +1,5 @@
 use Rattle.std.proofs.Common.{◌≡◌, refl, sym, ap, ◌∙◌}
-use Rattle.dw_cfa.specs.declared.execution.LocatedRow.{LocatedRow}
-use Rattle.dw_cfa.specs.Runs.{Outcome}
-use Rattle.dw_section.specs.Inner.Changes.{Shows}
-use Rattle.dw_section.specs.Inner.Shown.{shown_if}
+use Rattle.dw_section.proofs.Words.{LocatedRow, Outcome, Shows, shown_if}
 use Rattle.dw_section.proofs.ChangesAmong.{no_fault, found, passes}
 use Rattle.dw_section.proofs.change.find_change.Goals as goal
 use Rattle.dw_section.proofs.change.find_change.Goals.{else-is_visible-via-then-is_visible+else-not-is_shown, else-is_visible-via-else-is_visible}

@@ -1,6 +1,5 @@
 use Rattle.std.proofs.Common.{◌≡◌, None, length}
-use Rattle.dw_section.specs.Inner.Changes.{changes_among}
-use Rattle.dw_section.specs.Inner.Shown.{shown_if}
+use Rattle.dw_section.proofs.Words.{changes_among, shown_if}
 use Rattle.dw_section.proofs.change.find_change.Given as goal
 
 abbrev pub invariant-rows : goal.invariant-rows

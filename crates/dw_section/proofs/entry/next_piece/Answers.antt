@@ -27,7 +27,7 @@ returns-in-Ok-Entry-clause-on c =
     )
 
 pub returns-in-Ok-Entry-clause-below : goal.returns-in-Ok-Entry-clause-below
-returns-in-Ok-Entry-clause-below c = omega (arith, c.at-at.ensures.place, c.gaps.invariant.1.end, c.requires.room)
+returns-in-Ok-Entry-clause-below c = omega (arith, c.at-at.ensures.place, c.gaps.invariant.1.end, c.requires)
 
 pub returns-in-Err-clause-gives : goal.returns-in-Err-clause-gives
 returns-in-Err-clause-gives c = λ ps left. absurd (left_stuck c.gaps.cursor ps c.in-Err.field-0 (omega (arith, c.gaps-test.true, c.left.ensures)) c.in-Err.ensures.exact (c.gaps.invariant.0 ps left))

@@ -1,13 +1,10 @@
 use Rattle.std.proofs.Common.{map, take, arith, get_or}
 use Rattle.std.proofs.lemmas.List.{get_or_default}
-use Rattle.dw_section.specs.declared.fde_range.Ranged.{Ranged}
 use Rattle.dw_section.specs.Ranges.{range_in}
 use Rattle.dw_section.proofs.Ordered.{overlap_more, overlap_at}
 use Rattle.dw_section.proofs.Stages.{front_more}
+use Rattle.dw_section.proofs.Lent.FdeLookup.{none}
 use Rattle.dw_section.proofs.fde_range.first_overlap.Goals as goal
-
-abbrev none : Ranged
-none = record { begin = 0; range = 0; at = 0; return_register = 0 }
 
 pub returns-then-begin-greatest : goal.returns-then-begin-greatest
 returns-then-begin-greatest c =

@@ -1,7 +1,5 @@
 use Rattle.std.proofs.Common.{map, take}
-use Rattle.dw_section.specs.Inner.Index.{EndsAt}
-use Rattle.dw_section.specs.Ranges.{range_in}
-use Rattle.dw_section.specs.Overlap.{AreApart}
+use Rattle.dw_section.proofs.Words.{EndsAt, range_in, AreApart}
 use Rattle.dw_section.proofs.fde_range.first_overlap.Given as goal
 
 abbrev pub invariant-loop-fde : goal.invariant-loop-fde

@@ -1,8 +1,7 @@
 use Rattle.std.proofs.Common.{length, List}
-use Rattle.dw_section.specs.Headers.{Head}
-use Rattle.dw_section.specs.Inner.Index.{AreJudged}
-use Rattle.dw_section.specs.Inner.Initials.{AreInitials, IsRunner}
-use Rattle.dw_section.specs.Inner.Left.{HeadsLeft, Stays, AreHeaders}
+use Rattle.dw_section.proofs.Words.{Head, AreJudged, AreInitials, HeadsLeft, AreHeaders}
+use Rattle.dw_section.specs.Inner.Initials.{IsRunner}
+use Rattle.dw_section.specs.Inner.Left.{Stays}
 use Rattle.dw_section.proofs.Between.{Between}
 use Rattle.dw_section.proofs.fde_range.run_on.Given as goal
 

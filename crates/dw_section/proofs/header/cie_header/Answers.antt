@@ -1,7 +1,6 @@
 use Rattle.std.proofs.Common.{◌∙◌, arith, refl, inl, w64}
 use Rattle.std.proofs.lemmas.Int.{to_z-of_z}
-use Rattle.dw_section.specs.Inner.Pieces.{piece_in}
-use Rattle.dw_section.specs.Inner.PieceHeader.{program_of}
+use Rattle.dw_section.proofs.Words.{piece_in, program_of}
 use Rattle.dw_section.proofs.Lent.HeaderLaws.{cie_reads, fields_end}
 use Rattle.dw_section.proofs.Lent.FieldTable.{cie_said}
 use Rattle.dw_section.proofs.header.cie_header.Goals as goal

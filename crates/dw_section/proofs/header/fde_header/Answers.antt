@@ -1,6 +1,5 @@
 use Rattle.std.proofs.Common.{arith, refl, inr}
-use Rattle.dw_section.specs.Inner.Pieces.{piece_in}
-use Rattle.dw_section.specs.Inner.PieceHeader.{program_of}
+use Rattle.dw_section.proofs.Words.{piece_in, program_of}
 use Rattle.dw_section.proofs.Lent.HeaderLaws.{fde_reads, fields_end}
 use Rattle.dw_section.proofs.header.fde_header.Goals as goal
 

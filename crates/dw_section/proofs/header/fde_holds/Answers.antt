@@ -1,8 +1,7 @@
 use Rattle.std.proofs.Common.{inl, refl}
-use Rattle.std.proofs.lemmas.Result.{err_from_is_err_and}
 use Rattle.dw_section.proofs.Lent.HeaderLaws.{fde_faulty}
-use Rattle.dw_section.specs.Inner.Pieces.{piece_in}
-use Rattle.dw_section.specs.Headers.{cie_head}
+use Rattle.dw_section.proofs.Words.{piece_in, cie_head}
+use Rattle.dw_section.proofs.Stages.{handed_on}
 use Rattle.dw_section.proofs.header.fde_holds.Goals as goal
 
 pub returns-in-Cie-clause-found : goal.returns-in-Cie-clause-found
@@ -10,5 +9,4 @@ returns-in-Cie-clause-found c = λ hold. let f = hold c.in-Cie.is in (cie_head (
 
 pub returns-in_err-fde_header-in-Fde-clause-stuck : goal.returns-in_err-fde_header-in-Fde-clause-stuck
 returns-in_err-fde_header-in-Fde-clause-stuck c =
-    let e = err_from_is_err_and c.from_residual.result c.from_residual.ensures.1 in
-    rw (e.1, e.2) (c.in-Fde.is, fde_faulty c.args.target c.args.places.now (piece_in c.args.piece.now) c.in_err-fde_header-in-Fde.field-0.0 c.in_err-fde_header-in-Fde.ensures.exact)
+    handed_on c.from_residual.result _ c.from_residual.ensures.1 (c.in-Fde.is, fde_faulty c.args.target c.args.places.now (piece_in c.args.piece.now) c.in_err-fde_header-in-Fde.field-0.0 c.in_err-fde_header-in-Fde.ensures.exact)

@@ -1,27 +1,20 @@
 use Rattle.std.proofs.Common.{◌≡◌, List, [], ◌∷◌, ◌++◌, refl, sym, ap, ◌∙◌, append_assoc, arith}
 use Rattle.dw_section.proofs.AllMet.{all_placed}
-use Rattle.std.proofs.lemmas.Result.{err_from_is_err_and}
-use Rattle.dw_section.specs.Cut.{Piece}
-use Rattle.dw_section.specs.Inner.Left.{PiecesLeft}
-use Rattle.dw_section.specs.Inner.Pieces.{piece_in}
-use Rattle.dw_section.specs.Headers.{CieHolds, CieStuck}
+use Rattle.dw_section.proofs.Words.{Piece, piece_in, CieHolds, CieStuck}
 use Rattle.dw_section.proofs.Between.{between_start, between_next, between_end, between_stuck}
-use Rattle.dw_section.proofs.Lent.HeaderLaws.{AreCies}
 use Rattle.dw_num.proofs.Lent.Refusals.{refuses_by}
 use Rattle.dw_section.proofs.Left.{left_all, stays_then}
+use Rattle.dw_section.proofs.Stages.{handed_on}
 use Rattle.dw_section.proofs.header.find_cies.Goals as goal
 
 pub pieces-init : goal.pieces-init
 pieces-init c = rw (c.new-cursor.ensures, c.in_ok-places.ensures.items) (
   record { target = refl; end = refl },
-  λ ps p. between_start (PiecesLeft (record { at = 0; bytes = c.args.bytes.now; target = c.args.target })) (λ (front : List Piece). AreCies c.args.target front []) ps (left_all c.args.target c.args.bytes.now ps p) (record { hold = tt; are = refl }),
+  λ ps p. between_start ps (left_all c.args.target c.args.bytes.now ps p) (record { hold = tt; are = refl }),
 )
 
-pub next_piece-requires-clause-room : goal.next_piece-requires-clause-room
-next_piece-requires-clause-room c = omega (arith, c.pieces.invariant.0.end, c.requires.pieces.1.small)
-
-pub next_piece-requires-clause-cut : goal.next_piece-requires-clause-cut
-next_piece-requires-clause-cut c = let w = c.pieces.invariant.1 c.requires.pieces.0 c.requires.pieces.1 in (w.rest, w.left)
+pub next_piece-requires : goal.next_piece-requires
+next_piece-requires c = omega (arith, c.pieces.invariant.0.end, c.requires.pieces.1.small)
 
 pub pieces-preserved : goal.pieces-preserved
 pieces-preserved c = (
@@ -30,22 +23,20 @@ pieces-preserved c = (
       let w = c.pieces.invariant.1 ps p in
       let q = c.in-Some.ensures.gives w.rest w.left in
       let so = c.in_ok-keep_cie.ensures.found w.front w.so.hold w.so.are in
-      between_next (PiecesLeft c.pieces.cursor) (PiecesLeft c.next_piece.new.cursor) (λ (front : List Piece). AreCies c.args.target front c.pieces.places.items)
-      (λ (front : List Piece). AreCies c.args.target front c.keep_cie.new.places.items) ps w (piece_in c.in-Some.piece) q.0 q.1 q.2 (record { hold = so.0; are = so.1 }),
+      between_next ps w (piece_in c.in-Some.piece) q.0 q.1 q.2 (record { hold = so.0; are = so.1 }),
 )
 
 pub returns-in_err-keep_cie-clause-first : goal.returns-in_err-keep_cie-clause-first
 returns-in_err-keep_cie-clause-first c = λ ps p.
     let w = c.pieces.invariant.1 ps p in
     let q = c.in-Some.ensures.gives w.rest w.left in
-    let e = err_from_is_err_and c.from_residual-in_err-keep_cie.result c.from_residual-in_err-keep_cie.ensures.1 in
-    rw (e.1, e.2) (refuses_by c.in_err-keep_cie.field-0.0 _ _
-    (λ r h. between_stuck (PiecesLeft c.pieces.cursor) _ (CieHolds c.args.target) (CieStuck c.args.target) ps w (piece_in c.in-Some.piece) q.0 r q.1 w.so.hold h) c.in_err-keep_cie.ensures.first)
+    handed_on c.from_residual-in_err-keep_cie.result _ c.from_residual-in_err-keep_cie.ensures.1 (refuses_by c.in_err-keep_cie.field-0.0 _ _
+    (λ r h. between_stuck (CieHolds c.args.target) (CieStuck c.args.target) ps w (piece_in c.in-Some.piece) q.0 r q.1 w.so.hold h) c.in_err-keep_cie.ensures.first)
 
 pub returns-clause-found : goal.returns-clause-found
 returns-clause-found c = λ ps p.
     let w = c.pieces.invariant.1 ps p in
-    let all = between_end (PiecesLeft c.pieces.cursor) (λ (front : List Piece). AreCies c.args.target front c.pieces.places.items) ps w (c.in_default.ensures.gives w.rest w.left) in
+    let all = between_end ps w (c.in_default.ensures.gives w.rest w.left) in
     (all.hold, all.are)
 
 pub returns-then-len-count-clause-found : goal.returns-then-len-count-clause-found

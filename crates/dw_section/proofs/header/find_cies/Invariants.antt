@@ -1,7 +1,6 @@
 use Rattle.std.proofs.Common.{length, List}
-use Rattle.dw_section.specs.Cut.{Piece}
-use Rattle.dw_section.specs.Inner.Left.{PiecesLeft, Stays}
-use Rattle.dw_section.specs.Pieces.{Pieces}
+use Rattle.dw_section.proofs.Words.{Piece, PiecesLeft, Pieces}
+use Rattle.dw_section.specs.Inner.Left.{Stays}
 use Rattle.dw_section.proofs.Between.{Between}
 use Rattle.dw_section.proofs.Lent.HeaderLaws.{AreCies}
 use Rattle.dw_section.proofs.header.find_cies.Given as goal

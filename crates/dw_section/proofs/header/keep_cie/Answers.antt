@@ -1,8 +1,7 @@
 use Rattle.std.proofs.Common.{[]}
-use Rattle.std.proofs.lemmas.Result.{err_from_is_err_and}
-use Rattle.dw_section.specs.Inner.Pieces.{piece_in}
-use Rattle.dw_section.specs.Headers.{head_in}
+use Rattle.dw_section.proofs.Words.{piece_in, head_in}
 use Rattle.dw_section.proofs.Lent.HeaderLaws.{cies_more, fdes_more, cie_faulty}
+use Rattle.dw_section.proofs.Stages.{handed_on}
 use Rattle.dw_section.proofs.header.keep_cie.Goals as goal
 
 pub returns-in_ok-push-in-Cie-clause-found : goal.returns-in_ok-push-in-Cie-clause-found
@@ -17,5 +16,4 @@ returns-in-Fde-clause-found c = λ ps hold are.
 
 pub returns-in_err-cie_header-in-Cie-clause-first : goal.returns-in_err-cie_header-in-Cie-clause-first
 returns-in_err-cie_header-in-Cie-clause-first c =
-    let e = err_from_is_err_and c.from_residual.result c.from_residual.ensures.1 in
-    rw (e.1, e.2) (c.in-Cie.is, cie_faulty c.args.target (piece_in c.args.piece.now) c.in_err-cie_header-in-Cie.field-0.0 c.in_err-cie_header-in-Cie.ensures.exact)
+    handed_on c.from_residual.result _ c.from_residual.ensures.1 (c.in-Cie.is, cie_faulty c.args.target (piece_in c.args.piece.now) c.in_err-cie_header-in-Cie.field-0.0 c.in_err-cie_header-in-Cie.ensures.exact)

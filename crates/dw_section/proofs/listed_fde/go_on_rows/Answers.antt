@@ -1,9 +1,7 @@
 use Rattle.std.proofs.Common.{List, arith, sym, subst}
-use Rattle.dw_num.specs.Span.{span_of, input_of}
-use Rattle.dw_cfa.specs.declared.execution.LocatedRow.{LocatedRow}
+use Rattle.dw_section.proofs.Words.{span_of, input_of, LocatedRow, Led}
 use Rattle.dw_cfa.specs.Gives.{Gives, RunsTo}
 use Rattle.dw_cfa.specs.RowSteps.{program_input}
-use Rattle.dw_cfa.specs.RowWalk.{Led}
 use Rattle.dw_cfa.proofs.Lent.Given.{known_gives, run_steps}
 use Rattle.dw_section.proofs.listed_fde.go_on_rows.Goals as goal
 

@@ -1,6 +1,5 @@
 use Rattle.std.proofs.Common.{◌≡◌, true, sym, ap, ◌∙◌, rules}
-use Rattle.dw_cfa.specs.Difference.{place_behind}
-use Rattle.dw_cfa.specs.Rows.{rule, is_specified}
+use Rattle.dw_section.proofs.Words.{place_behind, rule, is_specified}
 use Rattle.dw_section.proofs.Dropped.{specified_more}
 use Rattle.dw_section.proofs.narrow_row.drops_one.Goals as goal
 

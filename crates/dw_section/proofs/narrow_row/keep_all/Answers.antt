@@ -1,9 +1,6 @@
 use Rattle.std.specs.declared.alloc.AllocError.{AllocError}
 use Rattle.std.proofs.Common.{◌≡◌, Option, refl, sym, ap, ◌∙◌, subst, inr}
-use Rattle.dw_section.specs.Changes.{kept_by, last_shown}
-use Rattle.dw_cfa.specs.Agreement.{kept}
-use Rattle.dw_cfa.specs.Rows.{Rules}
-use Rattle.dw_section.specs.Inner.NarrowRow.{NarrowedBy}
+use Rattle.dw_section.proofs.Words.{kept_by, last_shown, kept, Rules, NarrowedBy}
 use Rattle.dw_section.proofs.Dropped.{all_given, before_is, kept_again, next_of, none_dropped, none_next}
 use Rattle.dw_section.proofs.narrow_row.keep_all.Goals as goal
 

@@ -1,8 +1,6 @@
-use Rattle.std.proofs.Common.{rules, arith}
-use Rattle.std.specs.Prelude.{nat_lt}
+use Rattle.std.proofs.Common.{rules, arith, nat_lt}
 use Rattle.std.proofs.lemmas.List.Sorted.{IsPartitionPoint-from_clause, IsPartitionedBy-ltb}
-use Rattle.dw_section.specs.declared.program.Initial.{Initial}
-use Rattle.dw_section.specs.Inner.Initials.{place_of}
+use Rattle.dw_section.proofs.Words.{Initial, place_of}
 use Rattle.dw_section.proofs.Lent.Judged.{initials_ascend, found_initial}
 use Rattle.dw_section.proofs.program.index_of.Goals as goal
 
@@ -12,5 +10,5 @@ returns c =
     let i = c.partition_point.result in
     let point = IsPartitionPoint-from_clause (λ (x : Initial). nat_lt x.at c.args.place) xs i c.partition_point.ensures.partitioned
     (IsPartitionedBy-ltb place_of xs c.args.place (initials_ascend 0 xs c.requires.ascending)) (λ a r f' k. search rules) in
-    let found = found_initial c.args.place 0 xs i c.requires.ascending c.requires.among (λ k d lt. point.0 k d (omega arith) lt) (λ k d le lt. point.1 k d le lt) in
+    let found = found_initial c.args.place xs i c.requires.ascending c.requires.among (λ k d lt. point.0 k d (omega arith) lt) (λ k d le lt. point.1 k d le lt) in
     record { in_list = found.0; place = found.1 }

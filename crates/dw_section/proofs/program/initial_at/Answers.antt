@@ -1,6 +1,5 @@
 use Rattle.std.proofs.Common.{ap, sym, subst, ◌∙◌}
-use Rattle.dw_section.specs.declared.program.Initial.{Initial}
-use Rattle.dw_section.specs.Inner.Initials.{IsInitial}
+use Rattle.dw_section.proofs.Words.{Initial, IsInitial}
 use Rattle.dw_section.proofs.Lent.Judged.{all_get}
 use Rattle.dw_section.proofs.program.initial_at.Goals as goal
 

@@ -1,12 +1,6 @@
 use Rattle.std.proofs.Common.{ℕ, List, None, ◌≡◌, inl, inr, subst, refl}
-use Rattle.dw_num.specs.declared.target.Target.{Target}
+use Rattle.dw_section.proofs.Words.{Target, Piece, Head, Has, head_in, cie_at_of, piece_in, CieRuns, IsAmong}
 use Rattle.dw_section.specs.declared.entry.Kind.TheVariants as kind
-use Rattle.dw_section.specs.Cut.{Piece}
-use Rattle.dw_section.specs.Headers.{Head, Has, head_in}
-use Rattle.dw_section.specs.Inner.Heads.{cie_at_of}
-use Rattle.dw_section.specs.Inner.Pieces.{piece_in}
-use Rattle.dw_section.specs.Programs.{CieRuns}
-use Rattle.dw_section.specs.Among.{IsAmong}
 use Rattle.dw_section.proofs.Lent.HeaderLaws.{has_one, cie_apart, cie_faulty}
 use Rattle.dw_section.proofs.Lent.Judged.{initials_fde}
 use Rattle.dw_section.proofs.program.keep_piece.Goals as goal

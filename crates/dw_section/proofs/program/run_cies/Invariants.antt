@@ -1,7 +1,6 @@
 use Rattle.std.proofs.Common.{length, List}
-use Rattle.dw_section.specs.Headers.{Head}
-use Rattle.dw_section.specs.Inner.Initials.{AreInitials}
-use Rattle.dw_section.specs.Inner.Left.{HeadsLeft, Stays, AreHeaders}
+use Rattle.dw_section.proofs.Words.{Head, AreInitials, HeadsLeft, AreHeaders}
+use Rattle.dw_section.specs.Inner.Left.{Stays}
 use Rattle.dw_section.proofs.Between.{Between}
 use Rattle.dw_section.proofs.program.run_cies.Given as goal
 

@@ -1,19 +1,16 @@
 use Rattle.std.proofs.Common.{subst, arith}
-use Rattle.std.proofs.lemmas.Result.{err_from_is_err_and}
-use Rattle.dw_num.specs.Span.{span_of, input_of}
-use Rattle.dw_cfa.specs.Faults.{FdeFault}
+use Rattle.dw_section.proofs.Words.{span_of, input_of, FdeFault, Rules, AreSpecified}
 use Rattle.dw_cfa.proofs.Lent.Given.{rules_behind}
-use Rattle.dw_cfa.specs.Rows.{Rules, AreSpecified}
 use Rattle.dw_num.proofs.Lent.Refusals.{refuses_by}
+use Rattle.dw_section.proofs.Stages.{handed_on}
 use Rattle.dw_section.proofs.program.run_fde.Goals as goal
 
 pub returns-in_err-lacks-clause-stuck : goal.returns-in_err-lacks-clause-stuck
 returns-in_err-lacks-clause-stuck c =
     let old = c.args.machine.now in
     let i = input_of old.target (span_of c.args.program) in
-    let p = err_from_is_err_and c.from_residual-in_err-lacks.result c.from_residual-in_err-lacks.ensures.1 in
     let up = subst (λ (row : Rules). AreSpecified 0 row.registers) c.initial.ensures c.specified.ensures.ascending in
-    rw (p.1, p.2) (refuses_by c.in_err-lacks.field-0.0 _ (FdeFault old.factors old.initial.cfa i c.args.begin)
+    handed_on c.from_residual-in_err-lacks.result _ c.from_residual-in_err-lacks.ensures.1 (refuses_by c.in_err-lacks.field-0.0 _ (FdeFault old.factors old.initial.cfa i c.args.begin)
     (λ r h. (c.behind_laws.ensures.refused old.factors old.initial i c.args.begin c.are_bytes.ensures up (omega (arith, c.requires)) c.begin.new.self.steps.outcome c.in_ok-begin.ensures.runs r).0 h) c.in_err-lacks.ensures.refused)
 
 pub returns-clause-found : goal.returns-clause-found

@@ -1,8 +1,7 @@
 use Rattle.std.proofs.Common.{Some, ℕ, sym, ap, subst, ◌∙◌}
 use Rattle.std.proofs.lemmas.Result.{IfOk-weaker, IfErr-weaker}
-use Rattle.dw_num.specs.Span.{span_of}
+use Rattle.dw_section.proofs.Words.{span_of, IsBehind, IsLong}
 use Rattle.dw_section.specs.declared.program.Long.{Long}
-use Rattle.dw_section.specs.Inner.Initials.{IsBehind, IsLong}
 use Rattle.dw_num.proofs.Lent.Refusals.{refuses_by}
 use Rattle.dw_section.proofs.Lent.Judged.{all_get, all_set, behind_stays, behind_found, behind_broken}
 use Rattle.dw_section.proofs.program.run_long.Goals as goal

@@ -1,6 +1,5 @@
 use Rattle.std.proofs.Common.{◌≡◌, ◌+◌, ◌≤◌, length}
-use Rattle.dw_cfa.specs.Listing.{answers}
-use Rattle.dw_section.specs.Inner.Counted.{moves_in}
+use Rattle.dw_section.proofs.Words.{answers, moves_in}
 use Rattle.dw_section.proofs.row_count.count_starts.Given as goal
 
 abbrev pub invariant-instrs : goal.invariant-instrs

@@ -1,10 +1,6 @@
 use Rattle.std.proofs.Common.{◌≡◌, ℕ, ◌*◌, ◌≤◌, List, take, map}
 use Rattle.std.specs.List.{AllByRecursion, AllZip}
-use Rattle.dw_section.specs.Accepted.{RulesHold}
-use Rattle.dw_section.specs.Headers.{Head}
-use Rattle.dw_section.specs.Ranges.{IsRanged, range_in}
-use Rattle.dw_section.specs.Inner.Initials.{AreInitials}
-use Rattle.dw_section.specs.Meaning.{Starts, total}
+use Rattle.dw_section.proofs.Words.{RulesHold, Head, IsRanged, range_in, AreInitials, Starts, total}
 use Rattle.dw_section.proofs.row_count.sum_starts.Given as goal
 
 abbrev pub invariant-loop-fde : goal.invariant-loop-fde

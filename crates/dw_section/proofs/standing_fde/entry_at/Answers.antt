@@ -1,31 +1,6 @@
-use Rattle.std.proofs.Common.{◌-◌, ◌+◌, ◌<◌, ◌≤◌, length, get_or, arith, inl, inr}
-use Rattle.std.proofs.lemmas.Bool.Decides.{leb_tells}
 use Rattle.std.proofs.lemmas.List.{get_or_default}
-use Rattle.dw_section.specs.declared.fde_range.Ranged.{Ranged}
-use Rattle.dw_section.proofs.Lent.FdeLookup.{none_above, none_covers}
+use Rattle.dw_section.proofs.Lent.FdeLookup.{none}
 use Rattle.dw_section.proofs.standing_fde.entry_at.Goals as goal
 
-abbrev none : Ranged
-none = record { begin = 0; range = 0; at = 0; return_register = 0 }
-
-pub returns-then-begun-eq0-clause-none : goal.returns-then-begun-eq0-clause-none
-returns-then-begun-eq0-clause-none c = λ is up apart. none_above c.args.address c.args.index.now (λ k d lt. c.begun-begun.ensures.above up k d (omega (arith, c.if-begun-eq0.true)) lt)
-
-pub returns-then-covers-clause-among : goal.returns-then-covers-clause-among
-returns-then-covers-clause-among c =
-    let xs = c.args.index.now in
-    let i = c.begun-begun.result - 1 in
-    let lt : i < length xs = omega (arith, c.if-begun-eq0.false, c.begun-begun.ensures.bound) in
-    (i, lt, λ d. get_or_default xs i none d lt)
-
-pub returns-else-covers-clause-none : goal.returns-else-covers-clause-none
-returns-else-covers-clause-none c = λ is up apart.
-    let xs = c.args.index.now in
-    let i = c.begun-begun.result - 1 in
-    let some = c.if-begun-eq0.false in
-    let bound = c.begun-begun.ensures.bound in
-    let lt : i < length xs = omega (arith, some, bound) in
-    let x = get_or xs i none in
-    let below : x.begin ≤ c.args.address = c.begun-begun.ensures.below up i none (omega (arith, some)) in
-    let past : x.begin + x.range ≤ c.args.address = elim (leb_tells (x.begin + x.range) c.args.address) [ inl p ↦ p.1 | inr p ↦ absurd (c.if-covers.ensures (below, p.1)) ] in
-    none_covers c.args.address xs i x apart lt (get_or_default xs i none x lt) below past (λ k d le l. c.begun-begun.ensures.above up k d (omega (arith, some, le)) l)
+pub returns-in-Some-clause-among : goal.returns-in-Some-clause-among
+returns-in-Some-clause-among c = let at = c.in-Some.ensures.covers.0 in (c.in-Some.place, at, λ d. get_or_default c.args.index.now c.in-Some.place none d at)

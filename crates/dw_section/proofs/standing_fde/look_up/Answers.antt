@@ -1,13 +1,12 @@
 use Rattle.std.proofs.Common.{◌≤◌, length, map, refl, sym, subst, inr, arith}
 use Rattle.std.proofs.lemmas.Result.{err_from_is_err_and}
 use Rattle.dw_section.specs.declared.lookup.Fde.{Fde}
-use Rattle.dw_section.specs.Ranges.{IsRanged, range_in, fde_in}
-use Rattle.dw_section.specs.Meaning.{NoneCovers}
-use Rattle.dw_section.specs.Among.{IsAmong}
-use Rattle.dw_section.proofs.Lent.FdeLookup.{are_fdes, one_fdes, ranged_of}
+use Rattle.dw_section.proofs.Words.{IsRanged, range_in, fde_in, NoneCovers, IsAmong}
+use Rattle.dw_section.proofs.Lent.FdeLookup.{listed_are, ranged_of, fde_listed, listed_fde}
 use Rattle.dw_section.specs.StandingFde.{LookUpFault, StandingFault}
 use Rattle.dw_section.proofs.StandFaults.{refuses_more}
-use Rattle.dw_section.proofs.StandLaws.{entry_listed}
+use Rattle.std.proofs.lemmas.List.{length-map}
+use Rattle.dw_section.proofs.Stages.{handed_on}
 use Rattle.dw_section.proofs.standing_fde.look_up.Goals as goal
 
 pub returns-in_default-clause-own : goal.returns-in_default-clause-own
@@ -15,7 +14,7 @@ returns-in_default-clause-own c = λ t fs are.
     let target = c.args.target in
     let s = c.args.bytes.now in
     let list = c.args.index.now in
-    subst (NoneCovers c.args.address) (one_fdes target s (map fde_in list) fs (are_fdes target s list t) are) (c.in_default.ensures.none refl t.indexed.is_index.ascends t.apart)
+    subst (NoneCovers c.args.address) (listed_are target s list t fs are) (c.in_default.ensures.none refl t.indexed.is_index.ascends t.apart)
 
 pub returns-in_err-found-clause-own : goal.returns-in_err-found-clause-own
 returns-in_err-found-clause-own c = λ t.
@@ -29,16 +28,14 @@ returns-in_err-found-clause-own c = λ t.
 
 pub returns-in_err-found-clause-bad : goal.returns-in_err-found-clause-bad
 returns-in_err-found-clause-bad c =
-    let e = err_from_is_err_and c.from_residual.result c.from_residual.ensures.1 in
-    rw (e.1, e.2) (λ is. (c.from.result, (c.in-Some.entry, c.in-Some.ensures.among, c.in-Some.ensures.covers, c.from.ensures), c.in_err-found.ensures.bad is))
+    handed_on c.from_residual.result _ c.from_residual.ensures.1 (λ is. (c.from.result, (c.in-Some.entry, c.in-Some.ensures.among, c.in-Some.ensures.covers, c.from.ensures), c.in_err-found.ensures.bad is))
 
 pub returns-in_err-found-clause-refused : goal.returns-in_err-found-clause-refused
 returns-in_err-found-clause-refused c =
-    let e = err_from_is_err_and c.from_residual.result c.from_residual.ensures.1 in
     let target = c.args.target in
     let s = c.args.bytes.now in
     let few : length s ≤ 2147483647 = omega (arith, c.if-bytes-gt-MOST.false) in
-    rw (e.1, e.2)
+    handed_on c.from_residual.result _ c.from_residual.ensures.1
     (refuses_more (StandingFault target s c.from.result c.args.address) (LookUpFault target s c.args.index.now c.args.address) c.in_err-found.field-0.0
     (λ r fault. inr (few, (c.from.result, (c.in-Some.entry, c.in-Some.ensures.among, c.in-Some.ensures.covers, c.from.ensures), fault))) c.in_err-found.ensures.refused)
 
@@ -52,5 +49,5 @@ returns-clause-own c = λ t.
     let ranged = subst (IsRanged t.indexed.headers) (sym (i.2 entry)) (ranged_of target s list t i.0 entry i.1) in
     let covers = c.in-Some.ensures.covers in
     let own = c.in_ok-found.ensures.own t.indexed.headers (range_in entry) entry.return_register t.indexed.hold ranged (sym c.from.ensures) covers.0 covers.1 in
-    let listed = subst (λ (f : Fde). IsAmong f (map fde_in list)) (sym own.0) (entry_listed list entry i.0 i.1 i.2) in
-    (own.1, λ fs are. subst (IsAmong c.in_ok-found.found) (one_fdes target s (map fde_in list) fs (are_fdes target s list t) are) listed)
+    let listed = subst (λ (f : Fde). IsAmong f (map fde_in list)) (sym own.0) (fde_listed (fde_in entry) (map fde_in list) i.0 (omega (arith, i.1, length-map list fde_in)) (λ d. listed_fde list i.0 entry d i.1 (i.2 entry))) in
+    (own.1, λ fs are. subst (IsAmong c.in_ok-found.found) (listed_are target s list t fs are) listed)

@@ -1,7 +1,7 @@
 use Rattle.std.proofs.Common.{refl, sym, arith}
 use Rattle.dw_section.proofs.StandLaws.{rest_is, never_stuck, stands_here, one_piece}
-use Rattle.std.proofs.lemmas.Result.{err_from_is_err_and}
 use Rattle.dw_section.proofs.StandPlaces.{item_within}
+use Rattle.dw_section.proofs.Stages.{handed_on}
 use Rattle.dw_section.proofs.standing_fde.piece_at.Goals as goal
 
 pub returns-in_err-next_part-clause-only : goal.returns-in_err-next_part-clause-only
@@ -9,8 +9,7 @@ returns-in_err-next_part-clause-only c = λ p stands at. absurd (never_stuck c.a
 
 pub returns-in_err-next_part-clause-within : goal.returns-in_err-next_part-clause-within
 returns-in_err-next_part-clause-within c =
-    let e = err_from_is_err_and c.from_residual.result c.from_residual.ensures.1 in
-    rw (e.1, e.2) (item_within c.args.target c.args.bytes.now c.args.at c.new-cursor.result _ (rest_is c.new-cursor.result c.args.target c.args.bytes.now c.args.at (omega (arith, c.if-at-bytes.false)) c.new-cursor.ensures) (omega (arith, c.if-at-bytes.false)) c.in_err-next_part.ensures.exact)
+    handed_on c.from_residual.result _ c.from_residual.ensures.1 (item_within c.args.target c.args.bytes.now c.args.at c.new-cursor.result _ (rest_is c.new-cursor.result c.args.target c.args.bytes.now c.args.at (omega (arith, c.if-at-bytes.false)) c.new-cursor.ensures) (omega (arith, c.if-at-bytes.false)) c.in_err-next_part.ensures.exact)
 
 pub returns-in-Entry-clause-found : goal.returns-in-Entry-clause-found
 returns-in-Entry-clause-found c =

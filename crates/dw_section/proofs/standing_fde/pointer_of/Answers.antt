@@ -1,18 +1,22 @@
-use Rattle.std.proofs.Common.{sym, ◌++◌, append_assoc, ◌∙◌, ap, List, ℕ}
-use Rattle.dw_section.specs.declared.fields.FdeFields.{FdeFields}
-use Rattle.dw_section.specs.Inner.Pieces.{piece_in}
-use Rattle.dw_section.proofs.StandFaults.{is_named}
+use Rattle.std.proofs.Common.{sym, ◌++◌, append_assoc, ◌∙◌, ap, List, ℕ, ◌≡◌}
+use Rattle.dw_section.proofs.Words.{id_width, FdeHead, FdeFields, piece_in}
+use Rattle.dw_section.proofs.StandFaults.{fixed_there, is_named}
+use Rattle.dw_section.proofs.StandLaws.{fde_from}
 use Rattle.dw_section.proofs.standing_fde.pointer_of.Goals as goal
 
+pub unreachable-requires : goal.unreachable-requires
+unreachable-requires c = fixed_there (id_width c.args.piece.now.form) c.new-cursor.result c.in_default.field-0 (rw c.new-cursor.ensures c.requires) (rw c.width_of.ensures at c.in_default.ensures.exact).0
+
 pub returns-clause-names : goal.returns-clause-names
-returns-clause-names c = λ wide.
-    let p = piece_in c.args.piece.now in
-    is_named c.args.target p c.new-cursor.result c.fixed.new.self c.fixed.result c.new-cursor.ensures (rw c.width_of.ensures at c.fixed.ensures.exact) (rw c.width_of.ensures at c.fixed.ensures.found) wide
+returns-clause-names c = is_named c.args.target (piece_in c.args.piece.now) c.new-cursor.result c.fixed.new.self c.in-Ok.pointer c.new-cursor.ensures (rw c.width_of.ensures at c.in-Ok.ensures.found)
 
 pub returns-clause-only : goal.returns-clause-only
-returns-clause-only c = λ places f program is.
-    let v = is.1.spells in
+returns-clause-only c = λ places h has.
+    let q = fde_from c.args.target places (piece_in c.args.piece.now) h has in
+    let is = q.2.1 in
+    let v = is.spells in
     let b = v.2 in
-    let whole = is.1.whole ∙ ap (λ (l : List ℕ). l ++ program.bytes) b.whole ∙ append_assoc b.front b.back program.bytes in
-    let read = c.fixed.ensures.only v.0 b.front (b.back ++ program.bytes) (rw (c.new-cursor.ensures, c.width_of.ensures) b.first) (rw c.new-cursor.ensures whole) in
-    rw read (sym (ap (λ (x : FdeFields). x.cie_at) b.second.2.second.2.second.0))
+    let whole = is.whole ∙ ap (λ (l : List ℕ). l ++ q.1.bytes) b.whole ∙ append_assoc b.front b.back q.1.bytes in
+    let read = c.in-Ok.ensures.only v.0 b.front (b.back ++ q.1.bytes) (rw (c.new-cursor.ensures, c.width_of.ensures) b.first) (rw c.new-cursor.ensures whole) in
+    let same : c.in-Ok.pointer ≡ v.0 = cc in
+    same ∙ sym (ap (λ (x : FdeFields). x.cie_at) b.second.2.second.2.second.0) ∙ ap (λ (x : FdeHead). x.cie_at) (sym q.3)

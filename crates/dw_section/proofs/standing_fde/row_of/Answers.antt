@@ -1,14 +1,11 @@
 use Rattle.std.proofs.Common.{refl, sym, subst, ◌∙◌, arith}
 use Rattle.std.proofs.lemmas.Result.{err_from_is_err_and}
-use Rattle.dw_cfa.specs.RuleAt.{last_at}
-use Rattle.dw_section.specs.Inner.Index.{found_cie, found_head}
-use Rattle.dw_section.specs.Inner.Lookup.{rows_of}
-use Rattle.dw_section.specs.Meaning.{RulesAt}
-use Rattle.dw_section.specs.Inner.StandingFde.{StandsAt}
+use Rattle.dw_section.proofs.Words.{found_cie, found_head, rows_of, RulesAt, StandsAt}
 use Rattle.dw_section.proofs.Lent.FdeLookup.{same_fde}
 use Rattle.dw_section.proofs.RowLookup.{runs_so}
 use Rattle.dw_section.proofs.StandLaws.{listed_stands, stands_in_space, stands_listed, stands_once}
-use Rattle.dw_section.proofs.StandRows.{no_refusal, one_row}
+use Rattle.dw_section.proofs.StandFaults.{no_refusal}
+use Rattle.dw_op.proofs.Lent.ReadingLaws.{some_is}
 use Rattle.dw_section.proofs.standing_fde.row_of.Goals as goal
 
 pub returns-in_err-fde-clause-own : goal.returns-in_err-fde-clause-own
@@ -47,7 +44,7 @@ pub returns-in_err-run_fde-clause-own : goal.returns-in_err-run_fde-clause-own
 returns-in_err-run_fde-clause-own c = λ hs a register hold returns at le lt.
     let found = rw c.in-Some.is at c.in_ok-fde.ensures.found in
     let same = listed_stands c.args.target c.args.bytes.now hs a register c.in-Some.fde hold.0.0.0 returns found.1 (found.0 ∙ sym at) in
-    let runs = runs_so c.args.target c.args.bytes.now c.are_bytes.ensures hs hold c.in-Some.fde same.found in
+    let runs = runs_so c.args.target c.args.bytes.now hs hold c.in-Some.fde same.found c.are_bytes.ensures in
     let e = err_from_is_err_and c.from_residual-in_err-run_fde.result c.from_residual-in_err-run_fde.ensures.1 in
     let none = no_refusal c.in_err-run_fde.field-0.0 (rows_of c.args.target c.in-Some.fde) c.in_err-run_fde.ensures.err runs.no_fault in
     rw (e.1, e.2, none) refl
@@ -77,7 +74,7 @@ returns-clause-own c = λ hs a register hold returns at le lt.
     let found = rw c.in-Some.is at c.in_ok-fde.ensures.found in
     let e = c.in-Some.fde in
     let same = listed_stands c.args.target c.args.bytes.now hs a register e hold.0.0.0 returns found.1 (found.0 ∙ sym at) in
-    let runs = runs_so c.args.target c.args.bytes.now c.are_bytes.ensures hs hold e same.found in
+    let runs = runs_so c.args.target c.args.bytes.now hs hold e same.found c.are_bytes.ensures in
     let row = runs.rules c.args.address c.if-not-reaches.ensures.0 c.if-not-reaches.ensures.1 in
-    let one = one_row (last_at c.args.address (rows_of c.args.target e).rows) row.0 c.run_fde.new.room row.1 c.in_ok-run_fde.ensures.found in
+    let one = some_is row.0 c.run_fde.new.room (sym row.1 ∙ c.in_ok-run_fde.ensures.found) in
     (same_fde e.begin e.range e.return_register a.begin a.range register same.begin same.range same.register_is, subst (RulesAt c.args.target c.args.bytes.now c.args.address) one row.2)

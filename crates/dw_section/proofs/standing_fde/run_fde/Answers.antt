@@ -1,8 +1,6 @@
 use Rattle.std.proofs.Common.{◌≤◌, arith}
-use Rattle.dw_num.specs.Span.{span_of, input_of}
-use Rattle.dw_num.specs.Target.{address_limit}
+use Rattle.dw_section.proofs.Words.{span_of, input_of, address_limit, rows_of}
 use Rattle.dw_cfa.proofs.Lent.Given.{run_runs}
-use Rattle.dw_section.specs.Inner.Lookup.{rows_of}
 use Rattle.dw_section.proofs.StandPlaces.{lies_in_programs}
 use Rattle.dw_section.proofs.standing_fde.run_fde.Goals as goal
 

@@ -1,9 +1,7 @@
 use Rattle.std.proofs.Common.{sym, ap, subst, [], ◌∷◌, ◌∙◌}
-use Rattle.dw_section.specs.Headers.{fde}
+use Rattle.dw_section.proofs.Words.{fde, Piece, StandsAt}
 use Rattle.dw_section.proofs.Lent.Heads.{has_at}
 use Rattle.dw_section.proofs.StandLaws.{fde_from}
-use Rattle.dw_section.specs.Cut.{Piece}
-use Rattle.dw_section.specs.Inner.StandingFde.{StandsAt}
 use Rattle.dw_section.proofs.standing_fde.standing.Goals as goal
 
 pub returns-in_err-piece-clause-only : goal.returns-in_err-piece-clause-only

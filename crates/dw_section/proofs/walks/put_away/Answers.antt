@@ -1,14 +1,11 @@
-use Rattle.std.proofs.Common.{ℕ, subst, inl, inr}
-use Rattle.std.specs.Prelude.{Some, Result, Ok, Err, OnOk, OnErr}
+use Rattle.std.proofs.Common.{ℕ, subst, inl, inr, Some, Result, Ok, Err, OnOk, OnErr, nat_cmp}
 use Rattle.std.specs.BTreeMap.{BTreeMap, is_at, IsUnchanged, Updates}
-use Rattle.std.specs.Ordering.{nat_cmp}
 use Rattle.std.proofs.lemmas.Bool.{cases_Bool}
 use Rattle.std.proofs.lemmas.Map.Lookups.{exact_unsigned}
 use Rattle.std.proofs.lemmas.Map.Views.{tells_apart}
 use Rattle.dw_cfa.specs.RowWalk.{Walking}
 use Rattle.dw_section.specs.Inner.Changes.{AreLed}
-use Rattle.dw_section.specs.Inner.Lookup.{LedBy}
-use Rattle.dw_section.specs.Table.{Section}
+use Rattle.dw_section.proofs.Words.{LedBy, Section}
 use Rattle.dw_section.proofs.walks.put_away.Goals as goal
 
 -- of a walk that is put at its CIE's place and of all others, and of all where none was put there

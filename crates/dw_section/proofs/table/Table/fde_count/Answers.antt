@@ -1,8 +1,10 @@
-use Rattle.std.proofs.Common.{length, ap, sym, ◌∙◌}
-use Rattle.dw_section.proofs.Lent.FdeLookup.{listed_count}
+use Rattle.std.proofs.Common.{length, ap, arith}
+use Rattle.std.proofs.lemmas.List.{length-map}
+use Rattle.dw_section.specs.Ranges.{fde_in}
+use Rattle.dw_section.proofs.Lent.FdeLookup.{listed_are}
 use Rattle.dw_section.proofs.table.Table.fde_count.Goals as goal
 
 pub returns : goal.returns
 returns c = λ fs are.
-    let t = c.self.inside in
-    ap length c.deref-index.ensures.value ∙ listed_count t.target t.bytes.now t.index.items c.self.invariant.0 fs (rw (sym c.self.view_is) at are)
+    let list = c.index.result.now in
+    omega (arith, ap length (listed_are c.args.self.now.target c.args.self.now.bytes list c.index.ensures fs are), length-map list fde_in)

@@ -1,7 +1,5 @@
 use Rattle.std.proofs.Common.{sym, subst}
-use Rattle.dw_section.specs.Inner.Index.{led_to}
-use Rattle.dw_section.specs.Inner.Lookup.{LedBy}
-use Rattle.dw_section.specs.Table.{Section}
+use Rattle.dw_section.proofs.Words.{led_to, LedBy, Section}
 use Rattle.dw_section.proofs.RowLookup.{runs_found}
 use Rattle.dw_section.proofs.table.Table.led.Goals as goal
 
