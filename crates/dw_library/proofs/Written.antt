@@ -1,8 +1,9 @@
 -- Rows of many addresses, and their rules one after another over a buffer.
-use Rattle.std.proofs.Common.{◌≡◌, ℕ, suc, ◌+◌, ◌-◌, ◌<◌, ◌≤◌, List, [], ◌∷◌, ◌++◌, length, take, drop, map, get_or, slice_set, refl, sym, ap, subst, ◌∙◌, arith, true, inl, inr, Option, Some, None}
+use Rattle.std.proofs.Common.{◌≡◌, ℕ, suc, ◌+◌, ◌-◌, ◌<◌, ◌≤◌, List, [], ◌∷◌, ◌++◌, length, take, drop, map, get_or, slice_set, refl, sym, ap, subst, ◌∙◌, arith, true, inl, inr, Option, Some}
 use Rattle.std.specs.List.{AllZip}
 use Rattle.std.proofs.Math.Seq.{append_snoc, drop-cons, set-append_seam, take-length, take-suc}
 use Rattle.std.proofs.lemmas.List.{append-nil, drop_all, flat_map_more, length-drop, length-map, length-take-le, map_push, take_all}
+use Rattle.std.proofs.lemmas.Option.{same_Some}
 use Rattle.std.proofs.lemmas.Slice.Zip.{AllZip-long}
 use borrow.Rule.Slice.PartMut.{mid_of, post_of, put_mid}
 use Rattle.dw_num.specs.declared.target.Target.{Target}
@@ -66,17 +67,10 @@ written_left before own buffer now part room left is le same =
     let all : part ≡ over own (drop room.place now) = same ∙ ap (λ (l : List Rule). over own l) (rest_of room.place now le) in
     ap (λ (l : List Rule). take room.place now ++ (part ++ l)) none ∙ ap (λ (l : List Rule). take room.place now ++ l) (append-nil part ∙ all) ∙ over_left before own buffer now room left is
 
-abbrev some_or : {A : Type 0} → Option A → A → A
-some_or None d = d
-some_or (Some x) d = x
-
-pub one_some : {A : Type 0} (a b : A) → Some a ≡ Some b → a ≡ b
-one_some a b same = ap (λ o. some_or o a) same
-
 -- the FDE that a look-up lends is listed, and covers the address
 pub lent_listed : (fs : List Fde) (a : ℕ) (lent : Option Fde) (fde : Fde) → FindsFde fs a true lent → lent ≡ Some fde → IsAmong fde fs × Covers a fde
 lent_listed fs a lent fde (found, is, listed, covers) same =
-    let one : found ≡ fde = one_some found fde (sym is ∙ same) in
+    let one : found ≡ fde = same_Some found fde (sym is ∙ same) in
     (subst (λ (f : Fde). IsAmong f fs) one listed, subst (Covers a) one covers)
 
 zip_more : {X Y : Type 0} (R : X → Y → Type 0) (xs : List X) (ys : List Y) (x : X) (y : Y) → AllZip R xs ys → R x y → AllZip R (xs ++ x ∷ []) (ys ++ y ∷ [])
@@ -93,30 +87,33 @@ pub record Wrote (target : Target) (s asked : List ℕ) (rows : List Row) (rules
   pub rules_are : rules_now ≡ over (rules_in looks) rules
   pub left : IsLeft (length rules) (rules_in looks) room
 
--- the room that is left, by the buffer as it is now
-pub room_now : (target : Target) (s asked : List ℕ) (rows : List Row) (rules : List Rule) (n : ℕ) (rows_now : List Row) (rules_now : List Rule) (room : Room) (w : Wrote target s asked rows rules n rows_now rules_now room)
-    → IsLeft (length rules_now) (rules_in w.looks) room
-room_now target s asked rows rules n rows_now rules_now room w =
-    subst (λ (k : ℕ). IsLeft k (rules_in w.looks) room) (sym (ap (λ (l : List Rule). length l) w.rules_are ∙ over_length (rules_in w.looks) rules)) w.left
+module _ {target : Target} {s asked : List ℕ} {rows rows_now : List Row} {rules rules_now : List Rule} {n : ℕ} {room : Room} (w : Wrote target s asked rows rules n rows_now rules_now room) where
+  same_long : length rules_now ≡ length rules
+  same_long = ap (λ (l : List Rule). length l) w.rules_are ∙ over_length (rules_in w.looks) rules
 
-pub wrote_more : (target : Target) (s asked : List ℕ) (rows : List Row) (rules : List Rule) (n : ℕ) (rows_now : List Row) (rules_now : List Rule) (room : Room) (w : Wrote target s asked rows rules n rows_now rules_now room)
-    (l : Look) (row_new : Row) (rules_new : List Rule) (behind : Room) → n < length asked → n < length rows → IsLook target s (get_or asked n 0) l
-    → row_new ≡ l.row → rules_new ≡ over (rules_in w.looks ++ l.rules) rules → IsLeft (length rules_now) (rules_in w.looks ++ l.rules) behind
-    → Wrote target s asked rows rules (n + 1) (slice_set rows_now n row_new) rules_new behind
-wrote_more target s asked rows rules n rows_now rules_now room w l row_new rules_new behind lt fits is row_is rules_are left =
-    let next : suc n ≡ n + 1 = omega arith in
-    let before = map (λ (k : Look). k.row) w.looks in
-    let long : length before ≡ n = length-map w.looks (λ (k : Look). k.row) ∙ AllZip-long (IsLook target s) (take n asked) w.looks w.each ∙ length-take-le n asked (omega arith) in
-    let first : take (n + 1) asked ≡ take n asked ++ get_or asked n 0 ∷ [] = ap (λ (k : ℕ). take k asked) (sym next) ∙ take-suc asked n 0 lt in
-    let all : rules_in w.looks ++ l.rules ≡ rules_in (w.looks ++ l ∷ []) = flat_map_more (λ (k : Look). k.rules) [] w.looks l in
-    let rest : rows_now ≡ before ++ get_or rows n l.row ∷ drop (n + 1) rows =
-    w.rows_are ∙ ap (λ (k : List Row). before ++ k) (drop-cons rows n l.row fits ∙ ap (λ (k : ℕ). get_or rows n l.row ∷ drop k rows) next) in
-    let set : slice_set rows_now n l.row ≡ before ++ l.row ∷ drop (n + 1) rows =
-    ap (λ (k : List Row). slice_set k n l.row) rest ∙ subst (λ (k : ℕ). slice_set (before ++ get_or rows n l.row ∷ drop (n + 1) rows) k l.row ≡ before ++ l.row ∷ drop (n + 1) rows) long (set-append_seam before (get_or rows n l.row) (drop (n + 1) rows) l.row) in
-    record {
-      looks = w.looks ++ l ∷ [];
-      each = subst (λ (k : List ℕ). AllZip (IsLook target s) k (w.looks ++ l ∷ [])) (sym first) (zip_more (IsLook target s) (take n asked) w.looks (get_or asked n 0) l w.each is);
-      rows_are = ap (λ (k : Row). slice_set rows_now n k) row_is ∙ set ∙ sym (append_snoc before l.row (drop (n + 1) rows)) ∙ ap (λ (k : List Row). k ++ drop (n + 1) rows) (sym (map_push (λ (k : Look). k.row) w.looks l));
-      rules_are = rules_are ∙ ap (λ (k : List Rule). over k rules) all;
-      left = subst (λ (k : List Rule). IsLeft (length rules) k behind) all (subst (λ (k : ℕ). IsLeft k (rules_in w.looks ++ l.rules) behind) (ap (λ (k : List Rule). length k) w.rules_are ∙ over_length (rules_in w.looks) rules) left);
-    }
+  -- the room that is left, by the buffer as it is now
+  pub room_now : IsLeft (length rules_now) (rules_in w.looks) room
+  room_now = subst (λ (k : ℕ). IsLeft k (rules_in w.looks) room) (sym same_long) w.left
+
+  pub wrote_more : (l : Look) {row_new : Row} {rules_new : List Rule} {behind : Room} → n < length asked → n < length rows → IsLook target s (get_or asked n 0) l
+      → row_new ≡ l.row → rules_new ≡ over (rules_in w.looks ++ l.rules) rules → IsLeft (length rules_now) (rules_in w.looks ++ l.rules) behind
+      → Wrote target s asked rows rules (n + 1) (slice_set rows_now n row_new) rules_new behind
+  wrote_more l {behind = behind} lt fits is row_is rules_are left =
+      let next : suc n ≡ n + 1 = omega arith in
+      let before = map (λ (k : Look). k.row) w.looks in
+      let long : length before ≡ n = length-map w.looks (λ (k : Look). k.row) ∙ AllZip-long (IsLook target s) (take n asked) w.looks w.each ∙ length-take-le n asked (omega arith) in
+      let first : take (n + 1) asked ≡ take n asked ++ get_or asked n 0 ∷ [] = ap (λ (k : ℕ). take k asked) (sym next) ∙ take-suc asked n 0 lt in
+      let all : rules_in w.looks ++ l.rules ≡ rules_in (w.looks ++ l ∷ []) = flat_map_more (λ (k : Look). k.rules) [] w.looks l in
+      let rest : rows_now ≡ before ++ get_or rows n l.row ∷ drop (n + 1) rows =
+      w.rows_are ∙ ap (λ (k : List Row). before ++ k) (drop-cons rows n l.row fits ∙ ap (λ (k : ℕ). get_or rows n l.row ∷ drop k rows) next) in
+      let set : slice_set rows_now n l.row ≡ before ++ l.row ∷ drop (n + 1) rows =
+      ap (λ (k : List Row). slice_set k n l.row) rest
+      ∙ subst (λ (k : ℕ). slice_set (before ++ get_or rows n l.row ∷ drop (n + 1) rows) k l.row ≡ before ++ l.row ∷ drop (n + 1) rows) long (set-append_seam before (get_or rows n l.row) (drop (n + 1) rows) l.row) in
+      record {
+        looks = w.looks ++ l ∷ [];
+        each = subst (λ (k : List ℕ). AllZip (IsLook target s) k (w.looks ++ l ∷ [])) (sym first) (zip_more (IsLook target s) (take n asked) w.looks (get_or asked n 0) l w.each is);
+        rows_are = ap (λ (k : Row). slice_set rows_now n k) row_is ∙ set ∙ sym (append_snoc before l.row (drop (n + 1) rows))
+            ∙ ap (λ (k : List Row). k ++ drop (n + 1) rows) (sym (map_push (λ (k : Look). k.row) w.looks l));
+        rules_are = rules_are ∙ ap (λ (k : List Rule). over k rules) all;
+        left = subst (λ (k : List Rule). IsLeft (length rules) k behind) all (subst (λ (k : ℕ). IsLeft k (rules_in w.looks ++ l.rules) behind) same_long left);
+      }

@@ -1,6 +1,7 @@
 -- Two tables side by side.
-use Rattle.std.proofs.Common.{◌≡◌, ℕ, zero, suc, ◌≤◌, Bool, true, false, List, [], ◌∷◌, length, take, Option, Some, None, Ok, refl, sym, ap, ◌∙◌, arith}
+use Rattle.std.proofs.Common.{◌≡◌, ℕ, ◌≤◌, Bool, true, false, List, [], ◌∷◌, length, take, Option, Some, None, Ok, refl, sym, ap, ◌∙◌, arith}
 use Rattle.std.specs.Bool.{Decides}
+use Rattle.std.proofs.lemmas.List.{take_all}
 use Rattle.std.specs.Prelude.{not, is_some, Result, Err, IfOk}
 use Rattle.dw_cfa.specs.Rows.{Rules}
 use Rattle.dw_section.specs.declared.lookup.Fde.{Fde}
@@ -40,25 +41,19 @@ pub record Beside (xs ys : List (ℕ × Rules)) (first second : Changing) : Type
   pub all : first.to_come ≡ second.to_come → xs ≡ ys
   pub part : xs ≡ ys → first.to_come ≡ second.to_come
 
-module _ (E : Type 0) (xs ys : List (ℕ × Rules)) (first second next later : Changing) (h : Beside xs ys first second) (o p : Option ℕ) (g : GivesAddress {E = E} first (Ok o) next) (k : GivesAddress {E = E} second (Ok p) later) where
+module _ {xs ys : List (ℕ × Rules)} {first second : Changing} (h : Beside xs ys first second) where
   -- the second one gives none any more
-  pub too_short : (a : ℕ) → o ≡ Some a → p ≡ None → xs ≡ ys → ⊥
-  too_short a e none same = let both = sym (none_given E second later p k none) ∙ sym (h.part same) ∙ (given E first next o a g e).come in absurd cc
+  pub too_short : {next : Changing} {a : ℕ} → Given first next a → second.to_come ≡ [] → xs ≡ ys → ⊥
+  too_short n none same = let both = sym none ∙ sym (h.part same) ∙ n.come in absurd cc
 
   -- the second one gives more
-  too_long : o ≡ None → (b : ℕ) → p ≡ Some b → xs ≡ ys → ⊥
-  too_long e b some same = let both = sym (none_given E first next o g e) ∙ h.part same ∙ (given E second later p b k some).come in absurd cc
+  too_long : {later : Changing} {b : ℕ} → first.to_come ≡ [] → Given second later b → xs ≡ ys → ⊥
+  too_long none m same = let both = sym none ∙ h.part same ∙ m.come in absurd cc
 
-  pub ends : o ≡ None → (b : Bool) → is_some p ≡ not b → Decides b (xs ≡ ys)
-  ends e b some = decided b p some (λ none. h.all (none_given E first next o g e ∙ sym (none_given E second later p k none))) (too_long e)
+  pub ends : first.to_come ≡ [] → (E : Type 0) (later : Changing) (p : Option ℕ) → GivesAddress {E = E} second (Ok p) later → (b : Bool) → is_some p ≡ not b → Decides b (xs ≡ ys)
+  ends none E later p k b some = decided b p some (λ e. h.all (none ∙ sym (none_given E second later p k e))) (λ n e. too_long none (given E second later p n k e))
 
-  module _ (a b : ℕ) (ea : o ≡ Some a) (eb : p ≡ Some b) where
-    n : Given first next a
-    n = given E first next o a g ea
-
-    m : Given second later b
-    m = given E second later p b k eb
-
+  module _ {next later : Changing} {a b : ℕ} (n : Given first next a) (m : Given second later b) where
     heads : xs ≡ ys → pair a (shown_row next) ≡ pair b (shown_row later)
     heads same = head_same (pair a (shown_row next)) (pair b (shown_row later)) next.to_come later.to_come (sym n.come ∙ h.part same ∙ m.come)
 
@@ -92,11 +87,5 @@ same_member m n fde changes =
 
 -- ---- lists of members
 
-pub whole : (n : ℕ) (ms : List Member) → length ms ≤ n → take n ms ≡ ms
-whole zero [] le = refl
-whole (suc n) [] le = refl
-whole zero (m ∷ ms) le = absurd (omega arith)
-whole (suc n) (m ∷ ms) le = ap (λ (l : List Member). m ∷ l) (whole n ms (omega arith))
-
 pub all_same : (n : ℕ) (ms ns : List Member) → length ms ≤ n → length ms ≡ length ns → take n ms ≡ take n ns → ms ≡ ns
-all_same n ms ns le same e = sym (whole n ms le) ∙ e ∙ whole n ns (omega (arith, same))
+all_same n ms ns le same e = sym (take_all n ms le) ∙ e ∙ take_all n ns (omega (arith, same))

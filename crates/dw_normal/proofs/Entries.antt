@@ -6,10 +6,14 @@ use Rattle.std.specs.Prelude.{◌^◌}
 use Rattle.std.specs.BTreeMap.{is_at}
 use Rattle.std.specs.List.{AllByRecursion}
 use Rattle.std.specs.Ordering.{nat_cmp}
+use Rattle.std.specs.Result.{IsErrAnd}
+use Rattle.std.proofs.KnownBytes.{Appends-nil}
 use Rattle.dw_num.specs.Input.{AreBytes}
 use Rattle.dw_num.specs.declared.target.Target.{Target}
 use Rattle.dw_cfa.specs.Rows.{Rules}
 use Rattle.dw_section.specs.Accepted.{Accepted}
+use Rattle.dw_section.specs.Meaning.{AreFdes}
+use Rattle.dw_section.specs.declared.lookup.Fde.{Fde}
 use Rattle.dw_section.proofs.Lent.Judged.{all_get}
 use Rattle.dw_canon.specs.Inner.Fits.{InstrFits}
 use Rattle.dw_canon.specs.Inner.Laid.{part_of, groups_of, parts_of}
@@ -23,12 +27,14 @@ use Rattle.dw_canon.proofs.Lent.Readback.{rendered_laid}
 use Rattle.dw_canon.proofs.Lent.Rendered.{renders}
 use Rattle.dw_normal.specs.Inner.Groups.{initial_rows}
 use Rattle.dw_normal.specs.Inner.Lengths.{cie_with, cies_bytes, fdes_bytes}
-use Rattle.dw_normal.specs.Inner.Places.{place_in, fde_with}
+use Rattle.dw_normal.specs.Inner.Places.{place_in, cie_place, RowsRise, fde_with}
 use Rattle.dw_normal.specs.Inner.Puts.{Puts, taken_by, after}
 use Rattle.dw_normal.specs.declared.entry.PutError.{PutError}
 use Rattle.dw_normal.specs.declared.entry.PutError.TheVariants.{Memory}
-use Rattle.dw_normal.proofs.Joined.{put_stops, goes_on, ends_there, counted}
-use Rattle.dw_normal.proofs.Sited.{Placing, placing_more}
+use Rattle.dw_normal.proofs.Grouped.{no_member}
+use Rattle.dw_normal.proofs.Joined.{put_stops, goes_on, ends_there, counted, same_err}
+use Rattle.dw_normal.proofs.Placed.{as_many}
+use Rattle.dw_normal.proofs.Sited.{Placing, placing_begins, placing_more, placing_ends}
 use Rattle.dw_normal.proofs.Summed.{canon_is, canon_length, fdes_append, front}
 
 -- ---- lengths
@@ -61,13 +67,72 @@ module _ (t : Target) (s : List ℕ) (b : AreBytes s) (ok : Accepted t s) (ms : 
 
 -- ---- the loops
 
--- the CIEs that were put, and those to come
-pub record CiesPut (t : Target) (all rest : List (ℕ × Rules)) (places : List (ℕ × ℕ)) (written failed failed' : ℕ) (old new : Option (List ℕ)) : Type 0 where
+-- the CIEs that a sink took, and those to come
+pub record CiesPut {S : Type 0} (failures : S → ℕ) (taken : S → Option (List ℕ)) (t : Target) (all rest : List (ℕ × Rules)) (places : List (ℕ × ℕ)) (written : ℕ) (old new : S) : Type 0 where
   pub done : List ℕ
-  pub puts : Puts done (Ok written) failed failed' old new
+  pub puts : Puts done (Ok written) (failures old) (failures new) (taken old) (taken new)
   pub whole : cies_bytes t all ≡ done ++ cies_bytes t rest
   pub fits : AllByRecursion (λ (row : ℕ × Rules). AllByRecursion (InstrFits t) (cie_instrs row.1)) rest
   pub placing : Placing t all rest places written
+
+pub cies_start : {S : Type 0} (failures : S → ℕ) (taken : S → Option (List ℕ)) (t : Target) {all rest : List (ℕ × Rules)} {places : List (ℕ × ℕ)} (old : S) → rest ≡ all → RowsRise 0 all → places ≡ []
+    → AllByRecursion (λ (row : ℕ × Rules). AllByRecursion (InstrFits t) (cie_instrs row.1)) all → CiesPut failures taken t all rest places 0 old old
+cies_start failures taken t {all} {rest} {places} old is rise none fits =
+    subst (λ (l : List (ℕ × Rules)). CiesPut failures taken t all l places 0 old old) (sym is)
+    (record { done = []; puts = (refl, refl, Appends-nil (taken old)); whole = refl; fits = fits; placing = placing_begins t all places rise none })
+
+module _ {S : Type 0} {failures : S → ℕ} {taken : S → Option (List ℕ)} {t : Target} {all left rest : List (ℕ × Rules)} {row : ℕ × Rules} {places : List (ℕ × ℕ)} {written : ℕ} {old mid : S}
+    (h : CiesPut failures taken t all left places written old mid) (more : left ≡ row ∷ rest) where
+  here : CiesPut failures taken t all (row ∷ rest) places written old mid
+  here = subst (λ (l : List (ℕ × Rules)). CiesPut failures taken t all l places written old mid) more h
+
+  pub cie_fits : AllByRecursion (InstrFits t) (cie_instrs row.1)
+  cie_fits = here.fits.0
+
+  pub cie_small : length (cies_bytes t all) ≤ 2147483647 → length (entry_bytes t (cie_with t row)) ≤ 2147483647
+  cie_small small =
+      let own = entry_bytes t (cie_with t row) in
+      let whole = ap length here.whole in
+      omega (arith, small, whole, length-append here.done (own ++ cies_bytes t rest), length-append own (cies_bytes t rest))
+
+  module _ (put : Result ℕ PutError) (new : S) (now : Puts (entry_bytes t (cie_with t row)) put (failures mid) (failures new) (taken mid) (taken new)) where
+    pub cie_counted : length (cies_bytes t all) ≤ 2147483647 → written + taken_by put < 2 ^ 64
+    cie_counted small = let most = counted here.done (entry_bytes t (cie_with t row)) _ _ here.whole written put _ refl _ _ _ _ _ _ here.puts now in omega (arith, most, small)
+
+    module _ {r : Result ℕ PutError} (is : r ≡ after written put) where
+      pub cies_fail : {e : PutError} → r ≡ Err e → (answer : Result ℕ PutError) → IsErrAnd answer (λ (x : PutError). x ≡ e)
+          → Puts (cies_bytes t all) answer (failures old) (failures new) (taken old) (taken new)
+      cies_fail {e = e} was answer same = same_err _ answer e _ _ _ _ same (ends_there here.done (entry_bytes t (cie_with t row)) _ _ here.whole written put r is _ _ _ _ _ _ here.puts now e was)
+
+      pub cies_more : {next : ℕ} {kept : List (ℕ × ℕ)} → r ≡ Ok next → ((q : ℕ) → place_in kept q ≡ cond (is_at (nat_cmp row.0) q) (Some written) (place_in places q))
+          → CiesPut failures taken t all rest kept next old new
+      cies_more {next = next} {kept = kept} was keeps =
+          let own = entry_bytes t (cie_with t row) in
+          let puts = goes_on here.done own _ _ here.whole written put r is _ _ _ _ _ _ here.puts now next was in
+          let before = here.puts.1 in
+          let count = puts.1 in
+          record {
+            done = here.done ++ own;
+            puts = puts;
+            whole = here.whole ∙ sym (append_assoc here.done own (cies_bytes t rest));
+            fits = here.fits.1;
+            placing = placing_more t all row rest places kept written next here.placing keeps (omega (arith, before, count, length-append here.done own));
+          }
+
+module _ {S : Type 0} {failures : S → ℕ} {taken : S → Option (List ℕ)} {t : Target} {all rest : List (ℕ × Rules)} {places : List (ℕ × ℕ)} {written : ℕ} {old new : S}
+    (h : CiesPut failures taken t all rest places written old new) where
+  pub cies_stop : Puts (cies_bytes t all) (Err (Memory written)) (failures old) (failures new) (taken old) (taken new)
+  cies_stop = subst (λ (l : List ℕ). Puts l (Err (Memory written)) (failures old) (failures new) (taken old) (taken new)) (sym h.whole) (put_stops h.done (cies_bytes t rest) written _ _ _ _ h.puts)
+
+  pub cies_end : rest ≡ [] → Puts (cies_bytes t all) (Ok written) (failures old) (failures new) (taken old) (taken new)
+  cies_end none =
+      let whole : h.done ≡ cies_bytes t all = sym (h.whole ∙ ap (λ (l : List (ℕ × Rules)). h.done ++ cies_bytes t l) none ∙ append-nil h.done) in
+      subst (λ (l : List ℕ). Puts l (Ok written) (failures old) (failures new) (taken old) (taken new)) whole h.puts
+
+  pub cies_placed : rest ≡ [] → (r : ℕ) → place_in places r ≡ cie_place t 0 all r
+  cies_placed none = placing_ends t all places written (subst (λ (l : List (ℕ × Rules)). Placing t all l places written) none h.placing)
+
+-- ---- an FDE more
 
 -- all FDEs, divided at one
 pub fdes_at : (t : Target) (ms : List Member) (k : ℕ) (d : Member) → k < length ms
@@ -77,67 +142,46 @@ fdes_at t ms k d lt =
     ∙ ap (λ (l : List ℕ). l ++ fdes_bytes t ms (drop (k + 1) ms)) (fdes_then t ms k d lt)
     ∙ append_assoc (fdes_bytes t ms (take k ms)) (entry_bytes t (fde_with t ms (get_or ms k d))) (fdes_bytes t ms (drop (k + 1) ms))
 
-module _ (t : Target) (all : List (ℕ × Rules)) (row : ℕ × Rules) (rest : List (ℕ × Rules)) (places : List (ℕ × ℕ)) (written f g : ℕ) (o m : Option (List ℕ)) (h : CiesPut t all (row ∷ rest) places written f g o m) where
-  abbrev own : List ℕ
-  own = entry_bytes t (cie_with t row)
+-- the FDEs before one were put
+pub record FdesPut {S : Type 0} (failures : S → ℕ) (taken : S → Option (List ℕ)) (t : Target) (s : List ℕ) (k written : ℕ) (old new : S) : Type 0 where
+  pub puts : (ms : List Member) → AreMembers t s ms → Puts (fdes_bytes t ms (take k ms)) (Ok written) (failures old) (failures new) (taken old) (taken new)
 
-  pub cie_small : length (cies_bytes t all) ≤ 2147483647 → length own ≤ 2147483647
-  cie_small small = let whole = ap length h.whole in omega (arith, small, whole, length-append h.done (own ++ cies_bytes t rest), length-append own (cies_bytes t rest))
+module _ {S : Type 0} {failures : S → ℕ} {taken : S → Option (List ℕ)} {t : Target} {s : List ℕ} {k count written : ℕ} {old mid : S} (h : FdesPut failures taken t s k written old mid)
+    (all : (fs : List Fde) → AreFdes t s fs → count ≡ length fs) (some : k < count) (put : Result ℕ PutError) (new : S)
+    (now : (ms : List Member) → AreMembers t s ms → (d : Member) → Puts (entry_bytes t (fde_with t ms (get_or ms k d))) put (failures mid) (failures new) (taken mid) (taken new)) where
+  within : {ms : List Member} → AreMembers t s ms → k < length ms
+  within are = let many = as_many are all in omega (arith, many, some)
 
-  module _ (put : Result ℕ PutError) (i : ℕ) (n : Option (List ℕ)) (now : Puts own put g i m n) where
-    pub cie_counted : length (cies_bytes t all) ≤ 2147483647 → written + taken_by put < 2 ^ 64
-    cie_counted small = let most = counted h.done own (cies_bytes t rest) (cies_bytes t all) h.whole written put (after written put) refl f g i o m n h.puts now in omega (arith, most, small)
-
-    module _ (r : Result ℕ PutError) (is : r ≡ after written put) where
-      pub cies_fail : (e : PutError) → r ≡ Err e → Puts (cies_bytes t all) (Err e) f i o n
-      cies_fail e was = ends_there h.done own (cies_bytes t rest) (cies_bytes t all) h.whole written put r is f g i o m n h.puts now e was
-
-      pub cies_more : (next : ℕ) (new : List (ℕ × ℕ)) → r ≡ Ok next → ((q : ℕ) → place_in new q ≡ cond (is_at (nat_cmp row.0) q) (Some written) (place_in places q)) → CiesPut t all rest new next f i o n
-      cies_more next new was kept =
-          let puts = goes_on h.done own (cies_bytes t rest) (cies_bytes t all) h.whole written put r is f g i o m n h.puts now next was in
-          let before = h.puts.1 in
-          let count = puts.1 in
-          record {
-            done = h.done ++ own;
-            puts = puts;
-            whole = h.whole ∙ sym (append_assoc h.done own (cies_bytes t rest));
-            fits = h.fits.1;
-            placing = placing_more t all row rest places new written next h.placing kept (omega (arith, before, count, length-append h.done own));
-          }
-
-pub cies_stop : (t : Target) (all rest : List (ℕ × Rules)) (places : List (ℕ × ℕ)) (written f g : ℕ) (o m : Option (List ℕ)) → CiesPut t all rest places written f g o m → Puts (cies_bytes t all) (Err (Memory written)) f g o m
-cies_stop t all rest places written f g o m h =
-    subst (λ (l : List ℕ). Puts l (Err (Memory written)) f g o m) (sym h.whole) (put_stops h.done (cies_bytes t rest) written f g o m h.puts)
-
-pub cies_end : (t : Target) (all rest : List (ℕ × Rules)) (places : List (ℕ × ℕ)) (written f g : ℕ) (o m : Option (List ℕ)) → CiesPut t all rest places written f g o m → rest ≡ [] → Puts (cies_bytes t all) (Ok written) f g o m
-cies_end t all rest places written f g o m h none =
-    let whole : h.done ≡ cies_bytes t all = sym (h.whole ∙ ap (λ (l : List (ℕ × Rules)). h.done ++ cies_bytes t l) none ∙ append-nil h.done) in
-    subst (λ (l : List ℕ). Puts l (Ok written) f g o m) whole h.puts
-
--- ---- an FDE more
-
-module _ (t : Target) (ms : List Member) (k : ℕ) (d : Member) (lt : k < length ms) (written : ℕ) (put : Result ℕ PutError) (f g i : ℕ) (o m n : Option (List ℕ)) (before : Puts (fdes_bytes t ms (take k ms)) (Ok written) f g o m)
-    (now : Puts (entry_bytes t (fde_with t ms (get_or ms k d))) put g i m n) where
-  pub fde_counted : length (canon t ms) ≤ 2147483647 → written + taken_by put < 2 ^ 64
-  fde_counted small =
-      let most =
-      counted (fdes_bytes t ms (take k ms)) (entry_bytes t (fde_with t ms (get_or ms k d))) (fdes_bytes t ms (drop (k + 1) ms)) (fdes_bytes t ms ms) (fdes_at t ms k d lt)
-      written put (after written put) refl f g i o m n before now in
+  pub fde_counted : (ms : List Member) → AreMembers t s ms → length (canon t ms) ≤ 2147483647 → written + taken_by put < 2 ^ 64
+  fde_counted ms are small =
+      let lt = within are in
+      let own = entry_bytes t (fde_with t ms (get_or ms k no_member)) in
+      let most = counted (fdes_bytes t ms (take k ms)) own _ _ (fdes_at t ms k no_member lt) written put _ refl _ _ _ _ _ _ (h.puts ms are) (now ms are no_member) in
       let whole = canon_length t ms in
       omega (arith, most, whole, small)
 
-  module _ (r : Result ℕ PutError) (is : r ≡ after written put) where
-    pub fdes_fail : (e : PutError) → r ≡ Err e → Puts (fdes_bytes t ms ms) (Err e) f i o n
-    fdes_fail e was =
-        ends_there (fdes_bytes t ms (take k ms)) (entry_bytes t (fde_with t ms (get_or ms k d))) (fdes_bytes t ms (drop (k + 1) ms)) (fdes_bytes t ms ms) (fdes_at t ms k d lt) written put r is f g i o m n before now e was
+  module _ {r : Result ℕ PutError} (is : r ≡ after written put) where
+    pub fdes_fail : {e : PutError} → r ≡ Err e → (answer : Result ℕ PutError) → IsErrAnd answer (λ (x : PutError). x ≡ e) → (ms : List Member) → AreMembers t s ms
+        → Puts (fdes_bytes t ms ms) answer (failures old) (failures new) (taken old) (taken new)
+    fdes_fail {e = e} was answer same ms are =
+        let own = entry_bytes t (fde_with t ms (get_or ms k no_member)) in
+        same_err _ answer e _ _ _ _ same (ends_there (fdes_bytes t ms (take k ms)) own _ _ (fdes_at t ms k no_member (within are)) written put r is _ _ _ _ _ _ (h.puts ms are) (now ms are no_member) e was)
 
-    pub fdes_next : (next : ℕ) → r ≡ Ok next → Puts (fdes_bytes t ms (take (k + 1) ms)) (Ok next) f i o n
-    fdes_next next was =
-        subst (λ (l : List ℕ). Puts l (Ok next) f i o n) (sym (fdes_then t ms k d lt))
-        (goes_on (fdes_bytes t ms (take k ms)) (entry_bytes t (fde_with t ms (get_or ms k d))) (fdes_bytes t ms (drop (k + 1) ms)) (fdes_bytes t ms ms) (fdes_at t ms k d lt) written put r is f g i o m n before now next was)
+    pub fdes_next : {next : ℕ} → r ≡ Ok next → FdesPut failures taken t s (k + 1) next old new
+    fdes_next {next = next} was = record {
+      puts = λ ms are.
+          let lt = within are in
+          let own = entry_bytes t (fde_with t ms (get_or ms k no_member)) in
+          subst (λ (l : List ℕ). Puts l (Ok next) (failures old) (failures new) (taken old) (taken new)) (sym (fdes_then t ms k no_member lt))
+          (goes_on (fdes_bytes t ms (take k ms)) own _ _ (fdes_at t ms k no_member lt) written put r is _ _ _ _ _ _ (h.puts ms are) (now ms are no_member) next was);
+    }
 
-pub fdes_end : (t : Target) (ms : List Member) (k written f g : ℕ) (o m : Option (List ℕ)) → length ms ≤ k → Puts (fdes_bytes t ms (take k ms)) (Ok written) f g o m → Puts (fdes_bytes t ms ms) (Ok written) f g o m
-fdes_end t ms k written f g o m le h = subst (λ (l : List Member). Puts (fdes_bytes t ms l) (Ok written) f g o m) (take_all k ms le) h
+pub fdes_end : {S : Type 0} {failures : S → ℕ} {taken : S → Option (List ℕ)} {t : Target} {s : List ℕ} {k count written : ℕ} {old new : S} → FdesPut failures taken t s k written old new
+    → ((fs : List Fde) → AreFdes t s fs → count ≡ length fs) → count ≤ k → (ms : List Member) → AreMembers t s ms
+    → Puts (fdes_bytes t ms ms) (Ok written) (failures old) (failures new) (taken old) (taken new)
+fdes_end {failures = failures} {taken = taken} {t = t} {k = k} {written = written} {old = old} {new = new} h all none ms are =
+    let many = as_many are all in
+    subst (λ (l : List Member). Puts (fdes_bytes t ms l) (Ok written) (failures old) (failures new) (taken old) (taken new)) (take_all k ms (omega (arith, many, none))) (h.puts ms are)
 
 -- ---- the whole
 

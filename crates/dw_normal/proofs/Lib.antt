@@ -1,4 +1,5 @@
 mod RegistersBehind
+mod RulesLeft
 mod Appended
 mod OneByte
 mod Lengths

@@ -1,22 +1,20 @@
 -- An FDE that was begun, among the entries of the normal form.
-use Rattle.std.proofs.Common.{◌≡◌, ℕ, ◌+◌, ◌<◌, ◌≤◌, List, length, map, get_or, Some, sym, ap, ◌∙◌, subst, arith}
+use Rattle.std.proofs.Common.{◌≡◌, ℕ, ◌+◌, ◌<◌, ◌≤◌, List, length, get_or, Some, sym, ap, ◌∙◌, arith}
 use Rattle.std.specs.Prelude.{◌^◌}
-use Rattle.std.proofs.lemmas.List.{length-map}
 use Rattle.dw_num.specs.Input.{AreBytes}
 use Rattle.dw_num.specs.declared.target.Target.{Target}
 use Rattle.dw_num.specs.Target.{address_limit}
 use Rattle.dw_cfa.specs.Rows.{Rules}
 use Rattle.dw_section.specs.Accepted.{Accepted}
-use Rattle.dw_section.specs.Meaning.{AreFdes}
 use Rattle.dw_section.specs.declared.lookup.Fde.{Fde}
 use Rattle.dw_canon.specs.Inner.Laid.{groups_of, part_of}
 use Rattle.dw_canon.specs.Inner.Canon.{canon, initial_of}
 use Rattle.dw_canon.specs.Inner.Laid.{place_of}
 use Rattle.dw_canon.specs.Inner.Laid.{IsPart}
-use Rattle.dw_canon.specs.Members.{Member, AreMembers, fde_of}
+use Rattle.dw_canon.specs.Members.{Member, AreMembers}
 use Rattle.dw_canon.specs.Inner.Written.{contents}
 use Rattle.dw_normal.specs.Inner.Begun.{Begins}
-use Rattle.dw_normal.specs.Inner.Groups.{initial_rows, row_of}
+use Rattle.dw_normal.specs.Inner.Groups.{initial_rows}
 use Rattle.dw_normal.specs.Inner.Lengths.{cies_bytes}
 use Rattle.dw_normal.specs.Inner.Places.{place_in, cie_place, fde_with}
 use Rattle.dw_normal.specs.declared.begun.Begun.{Begun}
@@ -24,10 +22,6 @@ use Rattle.dw_normal.proofs.Entries.{one_long, contents_less, part_at}
 use Rattle.dw_normal.proofs.Placed.{row_in}
 use Rattle.dw_normal.proofs.Summed.{canon_length}
 use Rattle.dw_normal.proofs.Sited.{place_low, place_is, is_placed}
-
--- a place among the FDEs is one among the members
-pub member_below : (t : Target) (s : List ℕ) (place : ℕ) (ms : List Member) → AreMembers t s ms → ((fs : List Fde) → AreFdes t s fs → place < length fs) → place < length ms
-member_below t s place ms are is = subst (λ (n : ℕ). place < n) (length-map ms fde_of) (is (map fde_of ms) are.fdes)
 
 -- an FDE's contents have a length that can be spelled
 pub contents_low : (t : Target) (ms : List Member) (k : ℕ) (d : Member) → k < length ms → length (canon t ms) ≤ 2147483647 → length (contents t (fde_with t ms (get_or ms k d))) < 2 ^ 32
@@ -37,8 +31,18 @@ contents_low t ms k d lt small =
     let less = contents_less t (fde_with t ms (get_or ms k d)) 2147483647 (omega (arith, whole, one, small)) in
     omega (arith, less)
 
-module _ (t : Target) (s : List ℕ) (b : AreBytes s) (ok : Accepted t s) (ms : List Member) (are : AreMembers t s ms) (small : length (canon t ms) ≤ 2147483647) (k : ℕ) (d : Member) (lt : k < length ms)
-    (begun : Begun) (is : Begins ms (get_or ms k d) begun) (rows : List (ℕ × Rules)) (rows_are : rows ≡ initial_rows ms) (places : List (ℕ × ℕ)) (kept : (r : ℕ) → place_in places r ≡ cie_place t 0 rows r) where
+-- it was begun, and the CIEs before it have their places
+pub record Located (t : Target) (s : List ℕ) (ms : List Member) (k : ℕ) (d : Member) (begun : Begun) (rows : List (ℕ × Rules)) (places : List (ℕ × ℕ)) : Type 0 where
+  pub bytes : AreBytes s
+  pub accepted : Accepted t s
+  pub are : AreMembers t s ms
+  pub small : length (canon t ms) ≤ 2147483647
+  pub lt : k < length ms
+  pub is : Begins ms (get_or ms k d) begun
+  pub rows_are : rows ≡ initial_rows ms
+  pub kept : (r : ℕ) → place_in places r ≡ cie_place t 0 rows r
+
+module _ {t : Target} {s : List ℕ} {ms : List Member} {k : ℕ} {d : Member} {begun : Begun} {rows : List (ℕ × Rules)} {places : List (ℕ × ℕ)} (h : Located t s ms k d begun rows places) where
   abbrev m : Member
   m = get_or ms k d
 
@@ -46,38 +50,37 @@ module _ (t : Target) (s : List ℕ) (b : AreBytes s) (ok : Accepted t s) (ms : 
   register = begun.fde.return_register
 
   own_register : register ≡ m.register
-  own_register = ap (λ (f : Fde). f.return_register) is.fde
-
-  row_found : row_of rows register ≡ Some (initial_of ms m.register)
-  row_found = row_in t s b ok ms are k d lt rows register rows_are own_register
+  own_register = ap (λ (f : Fde). f.return_register) h.is.fde
 
   -- its CIE has a place
   pub has_place : (p : ℕ) × (place_in places register ≡ Some p)
-  has_place = let found = is_placed t 0 rows register (initial_of ms m.register) row_found in (found.0, kept register ∙ found.1)
+  has_place =
+      let row = row_in t s h.bytes h.accepted ms h.are k d h.lt rows register h.rows_are own_register in
+      let found = is_placed t 0 rows register (initial_of ms m.register) row in
+      (found.0, h.kept register ∙ found.1)
 
-  module _ (p : ℕ) (e : place_in places register ≡ Some p) where
+  module _ {p : ℕ} (e : place_in places register ≡ Some p) where
     there : cie_place t 0 rows register ≡ Some p
-    there = sym (kept register) ∙ e
+    there = sym (h.kept register) ∙ e
 
     -- which can be spelled
     pub place_fits : p < 2 ^ 32
     place_fits =
         let low = place_low t 0 rows register p there in
-        let same = ap (λ (l : List (ℕ × Rules)). length (cies_bytes t l)) rows_are in
-        let whole = canon_length t ms in
-        omega (arith, low, same, whole, small)
+        let same = ap (λ (l : List (ℕ × Rules)). length (cies_bytes t l)) h.rows_are in
+        omega (arith, low, same, canon_length t ms, h.small)
 
     pub place_own : p ≡ place_of t 0 (groups_of t ms) m.register
-    place_own = sym (place_is t ms m.register p (ap (λ (l : List (ℕ × Rules)). cie_place t 0 l m.register) (sym rows_are) ∙ ap (cie_place t 0 rows) (sym own_register) ∙ there))
+    place_own = sym (place_is t ms m.register p (ap (λ (l : List (ℕ × Rules)). cie_place t 0 l m.register) (sym h.rows_are) ∙ ap (cie_place t 0 rows) (sym own_register) ∙ there))
 
   part : IsPart t (groups_of t ms) (part_of t ms m)
-  part = part_at t s b ok ms are small k d lt
+  part = part_at t s h.bytes h.accepted ms h.are h.small k d h.lt
 
   begin_is : begun.fde.begin ≡ m.begin
-  begin_is = ap (λ (f : Fde). f.begin) is.fde
+  begin_is = ap (λ (f : Fde). f.begin) h.is.fde
 
   end_is : begun.fde.end ≡ m.end
-  end_is = ap (λ (f : Fde). f.end) is.fde
+  end_is = ap (λ (f : Fde). f.end) h.is.fde
 
   -- as can its range
   pub begin_fits : begun.fde.begin < address_limit t.size

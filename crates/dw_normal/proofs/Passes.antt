@@ -62,7 +62,7 @@ shown_before shown before (Some a) to is e = ap row_or_blank is
 pub none_later : (t : Target) (shared : Rules) (at : ℕ) (changes : Changing) → changes.to_come ≡ [] → later_bytes t shared at changes ≡ []
 none_later t shared at changes none = ap (λ (l : List (ℕ × Rules)). program_bytes t (later_changes shared at (shown_row changes) l)) none
 
-module _ (t : Target) (shared : Rules) (at : ℕ) (changes next : Changing) (to : ℕ) (stand : Stand t shared at changes) (g : Given changes next to) where
+module _ {t : Target} {shared : Rules} {at : ℕ} {changes next : Changing} {to : ℕ} (stand : Stand t shared at changes) (g : Given changes next to) where
   abbrev row : Rules
   row = shown_row changes
 

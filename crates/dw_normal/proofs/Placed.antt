@@ -47,16 +47,19 @@ stand_within t initial end limit le at row (change ∷ changes) h = (h.0, h.1, h
 
 -- ---- an FDE by its place
 
-pub below : (t : Target) (s : List ℕ) (place : ℕ) (ms : List Member) → AreMembers t s ms → ((fs : List Fde) → AreFdes t s fs → place < length fs) → place < length ms
-below t s place ms are is = subst (λ (n : ℕ). place < n) (length-map ms fde_of) (is (map fde_of ms) are.fdes)
+pub below : {t : Target} {s : List ℕ} {ms : List Member} (place : ℕ) → AreMembers t s ms → ((fs : List Fde) → AreFdes t s fs → place < length fs) → place < length ms
+below {ms = ms} place are is = subst (λ (n : ℕ). place < n) (length-map ms fde_of) (is (map fde_of ms) are.fdes)
+
+pub as_many : {t : Target} {s : List ℕ} {count : ℕ} {ms : List Member} → AreMembers t s ms → ((fs : List Fde) → AreFdes t s fs → count ≡ length fs) → count ≡ length ms
+as_many {ms = ms} are is = is (map fde_of ms) are.fdes ∙ length-map ms fde_of
 
 pub same_row : (o : Option Rules) (x y : Rules) → o ≡ Some x → o ≡ Some y → x ≡ y
 same_row o x y e f = let both : Some x ≡ Some y = sym e ∙ f in cc
 
 module _ (t : Target) (s : List ℕ) (b : AreBytes s) (ok : Accepted t s) (ms : List Member) (are : AreMembers t s ms) where
   -- the CIE's program of each initial row can be spelled
-  pub rows_fit : AllByRecursion (λ (entry : ℕ × Rules). AllByRecursion (InstrFits t) (cie_instrs entry.1)) (initial_rows ms)
-  rows_fit = each (return_registers ms)
+  pub rows_fit : {u : Target} {rows : List (ℕ × Rules)} → u ≡ t → rows ≡ initial_rows ms → AllByRecursion (λ (entry : ℕ × Rules). AllByRecursion (InstrFits u) (cie_instrs entry.1)) rows
+  rows_fit same rows_are = rw (same, rows_are) (each (return_registers ms))
     where
       each : (rs : List ℕ) → AllByRecursion (λ (entry : ℕ × Rules). AllByRecursion (InstrFits t) (cie_instrs entry.1)) (map {B = ℕ × Rules} (λ (r : ℕ). (r, initial_of ms r)) rs)
       each [] = tt

@@ -62,6 +62,10 @@ from_first (r ∷ rs) = rw (le-ltb r 0 (omega arith)) (ap (λ (l : List ℕ). r 
 
 -- ---- what leads from the rules of one row to those of another
 
+-- from one register on, this is the first whose rule differs
+abbrev pub Next : Rules → Rules → Rules → ℕ → ℕ → Type 0
+Next initial old new low q = rules_from initial old new low ≡ rule_to initial q (rule new q) ∷ rules_from initial old new (suc q)
+
 module _ (initial old new : Rules) (low : ℕ) where
   quiet : (r : ℕ) → rule old r ≡ rule new r → rule_difference initial old new r ≡ []
   quiet r same =
@@ -100,7 +104,7 @@ module _ (initial old new : Rules) (low : ℕ) where
           | inr ge ↦ rw (past, le-ltb r low ge, quiet r (first.1 r ge lt)) (one_on rs (suc r) h.1 more)
         ]
 
-    pub one_differs : AreSpecified 0 old.registers → AreSpecified 0 new.registers → rules_from initial old new low ≡ rule_to initial q (rule new q) ∷ rules_from initial old new (suc q)
+    pub one_differs : AreSpecified 0 old.registers → AreSpecified 0 new.registers → Next initial old new low q
     one_differs up up' = elim (either_or old new q) [
       | inl is ↦ one_on (either old new) 0 (either_ascends old new up up') is
       | inr same ↦ absurd (first.2 same)

@@ -1,7 +1,7 @@
 -- The shares of FDEs, one after another.
-use Rattle.std.proofs.Common.{◌≡◌, ℕ, zero, suc, ◌+◌, ◌*◌, ◌<◌, ◌≤◌, List, [], ◌∷◌, ◌++◌, length, map, take, get_or, refl, sym, ap, subst, arith, Option, Some, None}
+use Rattle.std.proofs.Common.{◌≡◌, ℕ, ◌+◌, ◌*◌, ◌<◌, ◌≤◌, List, [], ◌∷◌, ◌++◌, length, map, take, get_or, refl, sym, subst, arith, Option, Some, None}
 use Rattle.std.specs.Prelude.{IfSome, IsTrue, is_some}
-use Rattle.std.proofs.lemmas.List.{take_more}
+use Rattle.std.proofs.lemmas.List.{take_more, take_all}
 use Rattle.dw_num.specs.Input.{AreBytes}
 use Rattle.dw_num.specs.declared.target.Target.{Target}
 use Rattle.dw_section.specs.Accepted.{Accepted}
@@ -24,17 +24,11 @@ pub next_share : (t : Target) (s : List ℕ) (fs : List Fde) (place : ℕ) (d : 
 next_share t s fs place d own initial total lt h k =
     subst (λ (l : List Fde). Shares t s l (total + share own initial)) (sym (take_more fs place d lt)) (shares_more t s (take place fs) (get_or fs place d) own initial total h k)
 
-all_taken : (n : ℕ) (fs : List Fde) → length fs ≤ n → take n fs ≡ fs
-all_taken zero [] le = refl
-all_taken (suc n) [] le = refl
-all_taken zero (f ∷ fs) le = absurd (omega arith)
-all_taken (suc n) (f ∷ fs) le = ap (λ (l : List Fde). f ∷ l) (all_taken n fs (omega arith))
-
 pub short_enough : (t : Target) (s : List ℕ) (count total cap : ℕ) → AreBytes s → Accepted t s → ((fs : List Fde) → AreFdes t s fs → count ≡ length fs) → ((fs : List Fde) → AreFdes t s fs → Shares t s (take count fs) total)
     → total ≤ 24 * cap → (ms : List Member) → AreMembers t s ms → length (canon t ms) ≤ cap
 short_enough t s count total cap b ok counted shares le ms are =
     let fs = map fde_of ms in
-    let all = subst (λ (l : List Fde). Shares t s l total) (all_taken count fs (omega (arith, counted fs are.fdes))) (shares fs are.fdes) in
+    let all = subst (λ (l : List Fde). Shares t s l total) (take_all count fs (omega (arith, counted fs are.fdes))) (shares fs are.fdes) in
     omega (arith, canon_within t s b ok ms are total all)
 
 -- the same where there may be no sum

@@ -1,6 +1,6 @@
 -- The normal form is the CIEs with the initial rows, and then the FDEs; and the room that they leave.
 use Rattle.std.proofs.Common.{◌≡◌, ℕ, zero, suc, ◌+◌, ◌-◌, ◌<◌, ◌≤◌, List, [], ◌∷◌, ◌++◌, length, take, get_or, map, Some, None, refl, sym, ap, ◌∙◌, append_assoc, arith}
-use Rattle.std.proofs.lemmas.List.{length-append, take_more}
+use Rattle.std.proofs.lemmas.List.{length-append, nil_from_length, take_more}
 use Rattle.dw_num.specs.declared.target.Target.{Target}
 use Rattle.dw_cfa.specs.Rows.{Rules}
 use Rattle.dw_canon.specs.Inner.Laid.{group_of, groups_of, part_of, parts_of}
@@ -13,11 +13,6 @@ use Rattle.dw_canon.proofs.Lent.Extra.{section_append}
 use Rattle.dw_canon.proofs.Lent.Layout.{laid_is}
 use Rattle.dw_normal.specs.Inner.Groups.{initial_rows}
 use Rattle.dw_normal.specs.Inner.Lengths.{MemberLeaves, Measures, cie_with, cies_bytes, fdes_bytes}
-
--- none of none
-pub none_of : {X : Type 0} (xs : List X) → length xs ≡ 0 → xs ≡ []
-none_of [] e = refl
-none_of (x ∷ xs) e = absurd (omega (arith, e))
 
 cies_same : (t : Target) (ms : List Member) (rs : List ℕ) → map cie_of (map (group_of t ms) rs) ≡ map (cie_with t) (map {B = ℕ × Rules} (λ (r : ℕ). (r, initial_of ms r)) rs)
 cies_same t ms [] = refl
@@ -40,7 +35,7 @@ module _ (t : Target) (all : List Member) where
 
   -- without an FDE
   pub none_bytes : (ms : List Member) → length ms ≡ 0 → fdes_bytes t all ms ≡ []
-  none_bytes ms e = ap (fdes_bytes t all) (none_of ms e)
+  none_bytes ms e = ap (fdes_bytes t all) (nil_from_length ms e)
 
   one_more : (k : ℕ) (ms : List Member) (d : Member) → k < length ms → length (fdes_bytes t all (take (k + 1) ms)) ≡ length (fdes_bytes t all (take k ms)) + length (bytes_of (get_or ms k d))
   one_more k ms d lt =
@@ -74,7 +69,7 @@ module _ (t : Target) (all : List Member) where
 pub canon_length : (t : Target) (ms : List Member) → length (canon t ms) ≡ length (cies_bytes t (initial_rows ms)) + length (fdes_bytes t ms ms)
 canon_length t ms = ap length (canon_is t ms) ∙ length-append (cies_bytes t (initial_rows ms)) (fdes_bytes t ms ms)
 
-module _ (t u : Target) (ms : List Member) (rows : List (ℕ × Rules)) (cap room : ℕ) (same : u ≡ t) (are : rows ≡ initial_rows ms) (is : room ≡ cap) where
+module _ {t u : Target} (ms : List Member) {rows : List (ℕ × Rules)} {cap room : ℕ} (same : u ≡ t) (are : rows ≡ initial_rows ms) (is : room ≡ cap) where
   cies_length : length (cies_bytes u rows) ≡ length (cies_bytes t (initial_rows ms))
   cies_length = ap (λ (v : Target). length (cies_bytes v rows)) same ∙ ap (λ (l : List (ℕ × Rules)). length (cies_bytes t l)) are
 

@@ -14,11 +14,11 @@ use Rattle.dw_unwind.specs.Columns.{in_column, ValueIs, ValueFails}
 use Rattle.dw_unwind.specs.Inner.Recovery.{Over}
 
 -- what is known of an evaluation over a memory
-record Tells (c : Context) (limit : ℕ) (e : Expression) (first : List ℕ) (before after : ℕ) (r : Result ℕ EvalError) : Type 0 where
-  counted : before ≤ after
-  answered : after ≡ before → (r ≡ Err eval.OutOfMemory) ⊎ Evaluates e.ops c first limit r
-  failed : before < after → (i : ℕ) × (r ≡ Err (eval.Fault kinds.Device i)) × MayFailAt e.ops c first limit i
-  device : (i : ℕ) → r ≡ Err (eval.Fault kinds.Device i) → before < after
+pub record Tells (c : Context) (limit : ℕ) (e : Expression) (first : List ℕ) (before after : ℕ) (r : Result ℕ EvalError) : Type 0 where
+  pub counted : before ≤ after
+  pub answered : after ≡ before → (r ≡ Err eval.OutOfMemory) ⊎ Evaluates e.ops c first limit r
+  pub failed : before < after → (i : ℕ) × (r ≡ Err (eval.Fault kinds.Device i)) × MayFailAt e.ops c first limit i
+  pub device : (i : ℕ) → r ≡ Err (eval.Fault kinds.Device i) → before < after
 
 module _ (c : Context) (limit : ℕ) (column : Column) (e : Expression) (first : List ℕ) (before after : ℕ) where
   -- the count stays where no failure is answered
@@ -36,23 +36,15 @@ module _ (c : Context) (limit : ℕ) (column : Column) (e : Expression) (first :
         | inr is ↦ (record { evaluated = r; evaluates = is; is = refl }, same)
       ]
 
-  over : (r : Result ℕ EvalError) → Tells c limit e first before after r → Over (ValueIs c limit column e first) (ValueFails c limit column first e) before (in_column column r) after
-  over (Ok v) t = told (Ok v) t (λ i p. absurd cc) (λ p. absurd cc)
-  over (Err (eval.Fault kinds.Device i)) t =
+  pub value_over : (r : Result ℕ EvalError) → Tells c limit e first before after r → Over (ValueIs c limit column e first) (ValueFails c limit column first e) before (in_column column r) after
+  value_over (Ok v) t = told (Ok v) t (λ i p. absurd cc) (λ p. absurd cc)
+  value_over (Err (eval.Fault kinds.Device i)) t =
       let grew = t.device i refl in
       let f = t.failed grew in
       let same : f.0 ≡ i = cc in
       ((i, subst (MayFailAt e.ops c first limit) same f.2, refl), grew)
-  over (Err (eval.Fault kind i)) t = told (Err (eval.Fault kind i)) t (λ j p. absurd cc) (λ p. absurd cc)
-  over (Err eval.OutOfMemory) t = stays (Err eval.OutOfMemory) t (λ i p. absurd cc)
-
-pub value_over : (c : Context) (limit : ℕ) (column : Column) (e : Expression) (first : List ℕ) (before after : ℕ) (r : Result ℕ EvalError) → before ≤ after
-    → (after ≡ before → (r ≡ Err eval.OutOfMemory) ⊎ Evaluates e.ops c first limit r)
-    → (before < after → (i : ℕ) × (r ≡ Err (eval.Fault kinds.Device i)) × MayFailAt e.ops c first limit i)
-    → ((i : ℕ) → r ≡ Err (eval.Fault kinds.Device i) → before < after)
-    → Over (ValueIs c limit column e first) (ValueFails c limit column first e) before (in_column column r) after
-value_over c limit column e first before after r counted answered failed device =
-    over c limit column e first before after r (record { counted = counted; answered = answered; failed = failed; device = device })
+  value_over (Err (eval.Fault kind i)) t = told (Err (eval.Fault kind i)) t (λ j p. absurd cc) (λ p. absurd cc)
+  value_over (Err eval.OutOfMemory) t = stays (Err eval.OutOfMemory) t (λ i p. absurd cc)
 
 -- what is said of an answer in other words
 pub over_map : {A : Type 0} (P Q : Result A UnwindError → Type 0) (F G : UnwindError → Type 0) → ((r : Result A UnwindError) → P r → Q r) → ((e : UnwindError) → F e → G e)

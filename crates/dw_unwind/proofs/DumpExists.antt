@@ -17,7 +17,7 @@ use Rattle.dw_unwind.specs.Statement.{Statement, Item, Fits, nothing, counter_is
 use Rattle.dw_unwind.specs.Inner.Spelling.{Lacks, len_until}
 use Rattle.dw_unwind.proofs.Words.{lacks_front, until_parts, word_within, digits_lack_space, register_parts, memory_parts, none_said}
 use Rattle.dw_unwind.proofs.KeepLaws.{once_push}
-use Rattle.dw_unwind.proofs.LineLaws.{zip_push}
+use Rattle.dw_unwind.proofs.Elements.{zip_push}
 
 -- ---- what holds or not, and what is found or not
 

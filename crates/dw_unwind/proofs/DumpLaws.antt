@@ -5,6 +5,7 @@ use Rattle.std.specs.List.{AllByRecursion, AllZip}
 use Rattle.std.proofs.lemmas.Bool.Decides.{leb_tells}
 use Rattle.std.proofs.lemmas.List.Sums.{sum_by-cons, sum_by-append}
 use Rattle.std.proofs.lemmas.List.{append-nil}
+use Rattle.std.proofs.lemmas.Slice.Zip.{AllZip-long}
 use Rattle.std.proofs.lemmas.Option.{slice_get_past, slice_get-get_or}
 use Rattle.dw_unwind.specs.declared.fault.DumpCode.TheVariants.{Repeated}
 use Rattle.dw_unwind.specs.declared.fault.DumpFault.{DumpFault}
@@ -16,7 +17,7 @@ use Rattle.dw_unwind.specs.Ranges.{covers, byte_among}
 use Rattle.dw_unwind.specs.Inner.Ranges.{cover_count, AreApart, Meet, IsWithin}
 use Rattle.std.specs.Option.{option_or}
 use Rattle.dw_unwind.specs.Statement.{Statement, Item, nothing, counter_is, register_is, memory_is, counter, register, byte, told, given, times}
-use Rattle.dw_unwind.proofs.LineLaws.{zip_length}
+use Rattle.dw_unwind.proofs.KeepLaws.{times_cons}
 use Rattle.dw_unwind.proofs.RangeLaws.{covers_tells}
 
 pub ranges_within : (limit line place room : ℕ) (ss : List Statement) → limit ≤ 2 ^ 64 → AllByRecursion (IsWhole limit) ss → place + length (bytes_of ss) ≤ room → AllByRecursion (IsWithin (2 ^ 64) room) (ranges_of line place ss)
@@ -38,9 +39,6 @@ told_covers a line place start bytes = elim (leb_tells start a) [
   ]
   | inr low ↦ rw (low.0) refl
 ]
-
-times_cons : (s : Statement) (ss : List Statement) (item : Item) → times (s ∷ ss) item ≡ cond (is_some (told s item)) 1 0 + times ss item
-times_cons s ss item = sum_by-cons (λ (t : Statement). cond (is_some (told t item)) 1 0) s ss
 
 pub times_bytes : (a line place : ℕ) (ss : List Statement) → times ss (byte a) ≡ cover_count a (ranges_of line place ss)
 times_bytes a line place [] = refl
@@ -164,25 +162,25 @@ once_all limit kept ss before k less apart (byte a) = let one = apart a in let s
 times_front : (before after : List Statement) (item : Item) → times before item ≤ times (before ++ after) item
 times_front before after item = let all = sum_by-append (λ (t : Statement). cond (is_some (told t item)) 1 0) before after in omega arith
 
-pub whole_say : (limit : ℕ) (kept : Gathered) (read : List (List ℕ)) (ss : List Statement) → AllZip (SaysWithin limit) read ss → Keeps limit kept ss → AreApart kept.ranges.items → Say limit read ss
-whole_say limit kept read ss each k apart = record { each = each; once = once_all limit kept ss ss k (λ item. omega arith) (subst AreApart k.ranges apart) }
+pub whole_say : {limit : ℕ} {kept : Gathered} {read : List (List ℕ)} {ss : List Statement} → AllZip (SaysWithin limit) read ss → Keeps limit kept ss → AreApart kept.ranges.items → Say limit read ss
+whole_say {limit} {kept} {ss = ss} each k apart = record { each = each; once = once_all limit kept ss ss k (λ item. omega arith) (subst AreApart k.ranges apart) }
 
 -- ---- a dump, or its first fault
 
-read_rest : (limit : ℕ) (lines : List (List ℕ)) (kept : Gathered) (found : Option DumpFault) (h : Gathers limit lines kept found) → (more : List (List ℕ)) × (lines ≡ h.read ++ more)
-read_rest limit lines kept None h = ([], h.rest ∙ sym (append-nil h.read))
-read_rest limit lines kept (Some f) h = (h.rest.0 ∷ h.rest.1, h.rest.2)
+read_rest : {limit : ℕ} {lines : List (List ℕ)} {kept : Gathered} (found : Option DumpFault) (h : Gathers limit lines kept found) → (more : List (List ℕ)) × (lines ≡ h.read ++ more)
+read_rest None h = ([], h.rest ∙ sym (append-nil h.read))
+read_rest (Some f) h = (h.rest.0 ∷ h.rest.1, h.rest.2)
 
-pub overlap_fault : (limit : ℕ) (lines : List (List ℕ)) (kept : Gathered) (found : Option DumpFault) (i : ℕ) (d : Range) → Gathers limit lines kept found → i < length kept.ranges.items
+pub overlap_fault : {limit : ℕ} {lines : List (List ℕ)} {kept : Gathered} {found : Option DumpFault} (i : ℕ) (d : Range) → Gathers limit lines kept found → i < length kept.ranges.items
     → AreApart (take i kept.ranges.items) → Meet (take (i + 1) kept.ranges.items) → FirstFault limit lines (record { code = Repeated; line = (get_or kept.ranges.items i d).line })
-overlap_fault limit lines kept found i d h lt apart meet =
+overlap_fault {limit} {lines} {kept} {found} i d h lt apart meet =
     let k = h.keeps in
     let told = range_told 1 0 i d h.statements (subst (λ (rs : List Range). i < length rs) k.ranges lt) in
     let split = zip_split (SaysWithin limit) h.read told.before told.statement told.after (subst (AllZip (SaysWithin limit) h.read) told.whole h.each) in
-    let more = read_rest limit lines kept found h in
+    let more = read_rest found h in
     let met = subst Meet (ap (take (suc i)) k.ranges ∙ sym told.with) (rw add-one at meet) in
     let same = times_bytes met.0 1 0 (told.before ++ told.statement ∷ []) in
-    let len = zip_length (SaysWithin limit) split.front told.before split.each in
+    let len = AllZip-long (SaysWithin limit) split.front told.before split.each in
     let number = ap (λ (rs : List Range). (get_or rs i d).line) k.ranges ∙ told.number in record {
       before = split.front;
       line = split.it;
@@ -197,27 +195,27 @@ overlap_fault limit lines kept found i d h lt apart meet =
       number = omega arith;
     }
 
-pub later_fault : (limit : ℕ) (lines : List (List ℕ)) (kept : Gathered) (fault : DumpFault) → Gathers limit lines kept (Some fault) → AreApart kept.ranges.items → FirstFault limit lines fault
-later_fault limit lines kept fault h apart = record {
+pub later_fault : {limit : ℕ} {lines : List (List ℕ)} {kept : Gathered} {fault : DumpFault} → Gathers limit lines kept (Some fault) → AreApart kept.ranges.items → FirstFault limit lines fault
+later_fault h apart = record {
   before = h.read;
   line = h.rest.0;
   after = h.rest.1;
   statements = h.statements;
   whole = h.rest.2;
-  say = whole_say limit kept h.read h.statements h.each h.keeps apart;
+  say = whole_say h.each h.keeps apart;
   faulty = h.rest.3;
   number = h.rest.4;
 }
 
-pub all_said : (limit : ℕ) (lines : List (List ℕ)) (kept : Gathered) (h : Gathers limit lines kept None) → AreApart kept.ranges.items → Say limit lines h.statements
-all_said limit lines kept h apart = subst (λ (ls : List (List ℕ)). Say limit ls h.statements) (sym h.rest) (whole_say limit kept h.read h.statements h.each h.keeps apart)
+pub all_said : {limit : ℕ} {lines : List (List ℕ)} {kept : Gathered} (h : Gathers limit lines kept None) → AreApart kept.ranges.items → Say limit lines h.statements
+all_said {limit} h apart = subst (λ (ls : List (List ℕ)). Say limit ls h.statements) (sym h.rest) (whole_say h.each h.keeps apart)
 
-pub kept_within : (limit : ℕ) (lines : List (List ℕ)) (kept : Gathered) (found : Option DumpFault) → limit ≤ 2 ^ 64 → Gathers limit lines kept found → AllByRecursion (IsWithin (2 ^ 64) (length kept.bytes.items)) kept.ranges.items
-kept_within limit lines kept found le h =
+pub kept_within : {limit : ℕ} {lines : List (List ℕ)} {kept : Gathered} {found : Option DumpFault} → limit ≤ 2 ^ 64 → Gathers limit lines kept found → AllByRecursion (IsWithin (2 ^ 64) (length kept.bytes.items)) kept.ranges.items
+kept_within {limit} {kept = kept} le h =
     let k = h.keeps in
     subst (AllByRecursion (IsWithin (2 ^ 64) (length kept.bytes.items))) (sym k.ranges) (ranges_within limit 1 0 (length kept.bytes.items) h.statements le k.whole (let same = ap length k.bytes in omega arith))
 
-pub kept_byte : (limit : ℕ) (lines : List (List ℕ)) (kept : Gathered) (found : Option DumpFault) (h : Gathers limit lines kept found) (a : ℕ) → byte_among kept.bytes.items a kept.ranges.items ≡ given h.statements (byte a)
-kept_byte limit lines kept found h a =
+pub kept_byte : {limit : ℕ} {lines : List (List ℕ)} {kept : Gathered} {found : Option DumpFault} (h : Gathers limit lines kept found) (a : ℕ) → byte_among kept.bytes.items a kept.ranges.items ≡ given h.statements (byte a)
+kept_byte {kept = kept} h a =
     let k = h.keeps in
     ap (λ (bs : List ℕ). byte_among bs a kept.ranges.items) k.bytes ∙ ap (byte_among (bytes_of h.statements) a) k.ranges ∙ sym (given_byte a 1 [] h.statements)

@@ -9,20 +9,13 @@ use Rattle.dw_section.specs.Among.{IsAmong}
 use Rattle.dw_eval.specs.declared.policy.Policy.{Policy}
 use Rattle.dw_unwind.specs.Unwound.{is_listed, IsListed, Recovers, AreRegisters, Reached}
 use Rattle.dw_unwind.specs.Inner.Recovery.{Rise, SoFar}
+use Rattle.dw_unwind.proofs.Elements.{all_push, all_more, all_among}
 
 -- an FDE at a place of a list is among its FDEs
 pub listed_at : (fs : List Fde) (place : ℕ) (d : Fde) → place < length fs → IsAmong (get_or fs place d) fs
 listed_at [] place d lt = absurd (omega arith)
 listed_at (f ∷ fs) zero d lt = inl refl
 listed_at (f ∷ fs) (suc place) d lt = inr (listed_at fs place d (omega arith))
-
-all_push : {X : Type 0} (P : X → Type 0) (xs : List X) (x : X) → AllByRecursion P xs → P x → AllByRecursion P (xs ++ x ∷ [])
-all_push P [] x h p = (p, tt)
-all_push P (y ∷ xs) x h p = (h.0, all_push P xs x h.1 p)
-
-all_more : {X : Type 0} (P Q : X → Type 0) (xs : List X) → ((x : X) → P x → Q x) → AllByRecursion P xs → AllByRecursion Q xs
-all_more P Q [] f h = tt
-all_more P Q (x ∷ xs) f h = (f x h.0, all_more P Q xs f h.1)
 
 rise_push : (low n : ℕ) (entries : List (ℕ × Option ℕ)) (v : Option ℕ) → Rise low entries → AllByRecursion (λ (entry : ℕ × Option ℕ). entry.0 < n) entries → low ≤ n → Rise low (entries ++ (n, v) ∷ [])
 rise_push low n [] v h b le = (le, tt)
@@ -55,12 +48,6 @@ among_front x (y ∷ xs) last (inr i) = inr (among_front x xs last i)
 among_last : {X : Type 0} (xs : List X) (x : X) → IsAmong x (xs ++ x ∷ [])
 among_last [] x = inl refl
 among_last (y ∷ xs) x = inr (among_last xs x)
-
--- what holds of each element holds of one among them
-pub all_among : {X : Type 0} (P : X → Type 0) (xs : List X) (x : X) → AllByRecursion P xs → IsAmong x xs → P x
-all_among P [] x h i = absurd i
-all_among P (y ∷ xs) x h (inl is) = subst P (sym is) h.0
-all_among P (y ∷ xs) x h (inr i) = all_among P xs x h.1 i
 
 module _ (c : Context) (limit : ℕ) (policy : Policy) (row : Rules) (register cfa : ℕ) where
   abbrev So : ℕ → List (ℕ × Option ℕ) → Type 0

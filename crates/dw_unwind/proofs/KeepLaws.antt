@@ -1,7 +1,6 @@
 -- Statements one after the other: what they give, and how often.
 use Rattle.std.proofs.Common.{◌≡◌, ◌⊎◌, ℕ, suc, ◌+◌, ◌<◌, ◌≤◌, true, false, cond, List, [], ◌∷◌, ◌++◌, length, Option, Some, None, refl, sym, ap, subst, ◌∙◌, arith, add-zero, inl, inr, append_assoc, length-append}
 use Rattle.std.specs.Prelude.{is_some, ◌==◌}
-use Rattle.std.specs.List.{AllByRecursion}
 use Rattle.std.proofs.lemmas.Bool.{cases_Bool}
 use Rattle.std.proofs.lemmas.Bool.Decides.{eqb_tells}
 use Rattle.std.proofs.lemmas.List.{append-nil}
@@ -13,6 +12,7 @@ use Rattle.dw_unwind.specs.Spelling.{Says}
 use Rattle.dw_unwind.specs.Inner.Gathered.{Keeps, IsWhole, HasBytes, ranges_of, bytes_by, bytes_of}
 use Rattle.std.specs.Option.{option_or}
 use Rattle.dw_unwind.specs.Statement.{Statement, Item, nothing, counter_is, register_is, memory_is, counter, register, told, given, times}
+use Rattle.dw_unwind.proofs.Elements.{all_push}
 
 or_else_none : (x : Option ℕ) → option_or x None ≡ x
 or_else_none None = refl
@@ -29,7 +29,7 @@ given_push (t ∷ ss) s item = ap (option_or (told t item)) (given_push ss s ite
 once : Statement → Item → ℕ
 once s item = cond (is_some (told s item)) 1 0
 
-times_cons : (s : Statement) (ss : List Statement) (item : Item) → times (s ∷ ss) item ≡ cond (is_some (told s item)) 1 0 + times ss item
+pub times_cons : (s : Statement) (ss : List Statement) (item : Item) → times (s ∷ ss) item ≡ cond (is_some (told s item)) 1 0 + times ss item
 times_cons s ss item = sum_by-cons (λ (t : Statement). cond (is_some (told t item)) 1 0) s ss
 
 pub times_push : (ss : List Statement) (s : Statement) (item : Item) → times (ss ++ s ∷ []) item ≡ times ss item + cond (is_some (told s item)) 1 0
@@ -94,12 +94,8 @@ ranges_push line place (memory_is start bytes ∷ ss) s =
     ap (λ (rs : List Range). r ∷ rs) (ranges_push (suc line) (place + length bytes) ss s
     ∙ at_places (suc line) (place + length bytes) (suc line + length ss) (line + suc (length ss)) (place + length bytes + length (bytes_of ss)) (place + length (bytes ++ bytes_of ss)) ss s (omega arith) (omega arith))
 
-all_push : (P : Statement → Type 0) (ss : List Statement) (s : Statement) → AllByRecursion P ss → P s → AllByRecursion P (ss ++ s ∷ [])
-all_push P [] s h k = (k, tt)
-all_push P (t ∷ ss) s h k = (h.0, all_push P ss s h.1 k)
-
 -- one more statement
-pub keeps_more : (limit : ℕ) (old new : Gathered) (ss : List Statement) (s : Statement) → Keeps limit old ss
+pub keeps_more : {limit : ℕ} {old : Gathered} {ss : List Statement} (new : Gathered) (s : Statement) → Keeps limit old ss
     → new.pc ≡ option_or old.pc (told s counter)
     → ((r : ℕ) → held new.registers r ≡ option_or (held old.registers r) (told s (register r)))
     → new.ranges.items ≡ old.ranges.items ++ ranges_of (length ss + 1) (length old.bytes.items) (s ∷ [])
@@ -108,7 +104,7 @@ pub keeps_more : (limit : ℕ) (old new : Gathered) (ss : List Statement) (s : S
     → (is_some (told s counter) ≡ true → old.pc ≡ None)
     → ((r : ℕ) → is_some (told s (register r)) ≡ true → held old.registers r ≡ None)
     → Keeps limit new (ss ++ s ∷ [])
-keeps_more limit old new ss s k pc registers ranges bytes whole new_pc new_register = record {
+keeps_more {limit} {old} {ss} new s k pc registers ranges bytes whole new_pc new_register = record {
   pc = pc ∙ ap (λ (o : Option ℕ). option_or o (told s counter)) k.pc ∙ sym (given_push ss s counter);
   registers = λ r. registers r ∙ ap (λ (o : Option ℕ). option_or o (told s (register r))) (k.registers r) ∙ sym (given_push ss s (register r));
   ranges = ranges ∙ ap (λ (rs : List Range). rs ++ ranges_of (length ss + 1) (length old.bytes.items) (s ∷ [])) k.ranges
@@ -123,22 +119,22 @@ pub none_of : (o : Option ℕ) → is_some o ≡ false → o ≡ None
 none_of None e = refl
 none_of (Some v) e = absurd cc
 
-pub keeps_nothing : (limit : ℕ) (old : Gathered) (ss : List Statement) → Keeps limit old ss → Keeps limit old (ss ++ nothing ∷ [])
-keeps_nothing limit old ss k = keeps_more limit old old ss nothing k (sym (or_else_none old.pc)) (λ r. sym (or_else_none (held old.registers r)))
+pub keeps_nothing : {limit : ℕ} {old : Gathered} {ss : List Statement} → Keeps limit old ss → Keeps limit old (ss ++ nothing ∷ [])
+keeps_nothing {old = old} k = keeps_more old nothing k (sym (or_else_none old.pc)) (λ r. sym (or_else_none (held old.registers r)))
     (sym (append-nil old.ranges.items)) (sym (append-nil old.bytes.items)) (tt, tt) (λ e. absurd cc) (λ r e. absurd cc)
 
-pub keeps_counter : (limit : ℕ) (old : Gathered) (ss : List Statement) (v : ℕ) → Keeps limit old ss → v < limit → is_some old.pc ≡ false → Keeps limit (record old { pc = Some v }) (ss ++ counter_is v ∷ [])
-keeps_counter limit old ss v k fits free =
+pub keeps_counter : {limit : ℕ} {old : Gathered} {ss : List Statement} (v : ℕ) → Keeps limit old ss → v < limit → is_some old.pc ≡ false → Keeps limit (record old { pc = Some v }) (ss ++ counter_is v ∷ [])
+keeps_counter {old = old} v k fits free =
     let none = none_of old.pc free in
-    keeps_more limit old (record old { pc = Some v }) ss (counter_is v) k (rw none refl) (λ r. sym (or_else_none (held old.registers r)))
+    keeps_more (record old { pc = Some v }) (counter_is v) k (rw none refl) (λ r. sym (or_else_none (held old.registers r)))
     (sym (append-nil old.ranges.items)) (sym (append-nil old.bytes.items)) (fits, tt) (λ e. none) (λ r e. absurd cc)
 
-pub keeps_register : (limit : ℕ) (old new : Gathered) (ss : List Statement) (q v : ℕ) → Keeps limit old ss → v < limit → is_some (held old.registers q) ≡ false
+pub keeps_register : {limit : ℕ} {old : Gathered} {ss : List Statement} (new : Gathered) (q v : ℕ) → Keeps limit old ss → v < limit → is_some (held old.registers q) ≡ false
     → new.pc ≡ old.pc → ((r : ℕ) → held new.registers r ≡ cond (r == q) (Some v) (held old.registers r)) → new.ranges.items ≡ old.ranges.items → new.bytes.items ≡ old.bytes.items
     → Keeps limit new (ss ++ register_is q v ∷ [])
-keeps_register limit old new ss q v k fits free pc set ranges bytes =
+keeps_register {old = old} new q v k fits free pc set ranges bytes =
     let none = none_of (held old.registers q) free in
-    keeps_more limit old new ss (register_is q v) k (pc ∙ sym (or_else_none old.pc)) register_set
+    keeps_more new (register_is q v) k (pc ∙ sym (or_else_none old.pc)) register_set
     (ranges ∙ sym (append-nil old.ranges.items)) (bytes ∙ sym (append-nil old.bytes.items)) (fits, tt) (λ e. absurd cc) register_new
   where
     register_set : (r : ℕ) → held new.registers r ≡ option_or (held old.registers r) (told (register_is q v) (register r))
@@ -153,12 +149,12 @@ keeps_register limit old new ss q v k fits free pc set ranges bytes =
       | inr other ↦ absurd (let no : false ≡ true = rw (other.0) at e in cc)
     ]
 
-pub keeps_memory : (limit : ℕ) (old new : Gathered) (ss : List Statement) (start line : ℕ) (bytes : List ℕ) → Keeps limit old ss → line ≡ length ss + 1 → start + length bytes ≤ limit → 0 < length bytes
+pub keeps_memory : {limit : ℕ} {old : Gathered} {ss : List Statement} {line : ℕ} (new : Gathered) (start : ℕ) (bytes : List ℕ) → Keeps limit old ss → line ≡ length ss + 1 → start + length bytes ≤ limit → 0 < length bytes
     → new.pc ≡ old.pc → ((r : ℕ) → held new.registers r ≡ held old.registers r)
     → new.ranges.items ≡ old.ranges.items ++ record { address = start; place = length old.bytes.items; len = length bytes; line = line } ∷ [] → new.bytes.items ≡ old.bytes.items ++ bytes
     → Keeps limit new (ss ++ memory_is start bytes ∷ [])
-keeps_memory limit old new ss start line bytes k number fits some pc registers ranges all =
-    keeps_more limit old new ss (memory_is start bytes) k (pc ∙ sym (or_else_none old.pc)) (λ r. registers r ∙ sym (or_else_none (held old.registers r)))
+keeps_memory {old = old} new start bytes k number fits some pc registers ranges all =
+    keeps_more new (memory_is start bytes) k (pc ∙ sym (or_else_none old.pc)) (λ r. registers r ∙ sym (or_else_none (held old.registers r)))
     (ranges ∙ ap (λ (n : ℕ). old.ranges.items ++ record { address = start; place = length old.bytes.items; len = length bytes; line = n } ∷ []) number) all (fits, some) (λ e. absurd cc) (λ r e. absurd cc)
 
 pub told_own : (q v : ℕ) → is_some (told (register_is q v) (register q)) ≡ true

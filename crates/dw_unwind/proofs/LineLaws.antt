@@ -1,7 +1,6 @@
 -- Lines, one after the other.
 use Rattle.std.proofs.Common.{◌≡◌, ℕ, zero, suc, ◌+◌, ◌<◌, ◌≤◌, Bool, true, false, List, [], ◌∷◌, ◌++◌, length, take, drop, refl, sym, ap, ◌∙◌, arith, add-one, inl, inr, append_assoc, length-append, length-drop}
 use Rattle.std.specs.Prelude.{◌==◌}
-use Rattle.std.specs.List.{AllZip}
 use Rattle.std.proofs.lemmas.Bool.Decides.{eqb_tells}
 use Rattle.dw_unwind.specs.declared.partial_dump.Gathered.{Gathered}
 use Rattle.dw_unwind.specs.Dump.{SaysWithin}
@@ -9,6 +8,7 @@ use Rattle.dw_unwind.specs.Inner.Gathered.{Keeps, SoFar}
 use Rattle.dw_unwind.specs.Lines.{lines_of, in_front}
 use Rattle.dw_unwind.specs.Inner.Spelling.{len_until}
 use Rattle.dw_unwind.specs.Statement.{Statement}
+use Rattle.dw_unwind.proofs.Elements.{zip_push}
 
 first_line : (text : List ℕ) → 0 < length text → lines_of text ≡ take (len_until 10 text) text ∷ lines_of (drop (suc (len_until 10 text)) text)
 first_line [] some = absurd (omega arith)
@@ -24,20 +24,10 @@ first_line (c ∷ e ∷ cs) some = elim (eqb_tells c 10) [
 pub lines_first : (text : List ℕ) (n : ℕ) → n ≡ len_until 10 text → 0 < length text → lines_of text ≡ take n text ∷ lines_of (drop (n + 1) text)
 lines_first text n is some = rw (is, add-one) (first_line text some)
 
-pub zip_push : {X Y : Type 0} (R : X → Y → Type 0) (xs : List X) (ys : List Y) (x : X) (y : Y) → AllZip R xs ys → R x y → AllZip R (xs ++ x ∷ []) (ys ++ y ∷ [])
-zip_push R [] [] x y h k = (k, tt)
-zip_push R (u ∷ xs) (v ∷ ys) x y h k = (h.0, zip_push R xs ys x y h.1 k)
-zip_push R xs ys x y h k = absurd h
-
-pub zip_length : {X Y : Type 0} (R : X → Y → Type 0) (xs : List X) (ys : List Y) → AllZip R xs ys → length xs ≡ length ys
-zip_length R [] [] h = refl
-zip_length R (x ∷ xs) (y ∷ ys) h = ap suc (zip_length R xs ys h.1)
-zip_length R xs ys h = absurd h
-
 -- one more line
-pub so_far_more : (limit : ℕ) (text rest behind : List ℕ) (line n : ℕ) (old new : Gathered) (s : Statement) (h : SoFar limit text rest line old) → n ≡ len_until 10 rest → n ≤ length rest → 0 < length rest
+pub so_far_more : {limit : ℕ} {text rest behind : List ℕ} {line n : ℕ} {old new : Gathered} (s : Statement) (h : SoFar limit text rest line old) → n ≡ len_until 10 rest → n ≤ length rest → 0 < length rest
     → SaysWithin limit (take n rest) s → Keeps limit new (h.statements ++ s ∷ []) → behind ≡ drop (n + 1) rest → SoFar limit text behind (line + 1) new
-so_far_more limit text rest behind line n old new s h is within some said keeps after = record {
+so_far_more {limit} {text} {rest} {n = n} s h is within some said keeps after = record {
   read = h.read ++ take n rest ∷ [];
   statements = h.statements ++ s ∷ [];
   each = zip_push (SaysWithin limit) h.read h.statements (take n rest) s h.each said;

@@ -26,7 +26,8 @@ use Rattle.dw_unwind.specs.declared.frame.Frame.{Frame}
 use Rattle.dw_eval.specs.declared.policy.Policy.{Policy}
 use Rattle.dw_unwind.specs.declared.frame.UnwindError.{UnwindError}
 use Rattle.dw_unwind.specs.Columns.{in_column, recovered, on_value, saved_at, on_cfa, ValueIs, SavedBy, CfaIs, RegisterIs}
-use Rattle.dw_unwind.proofs.FrameLaws.{all_among, pairs_rise}
+use Rattle.dw_unwind.proofs.Elements.{all_among}
+use Rattle.dw_unwind.proofs.FrameLaws.{pairs_rise}
 use Rattle.dw_unwind.specs.Unwound.{IsCovered, IsUncovered, IsListed, Recovers, AreRegisters, RegistersAre, FrameIs, OneFrame}
 use Rattle.dw_unwind.specs.Inner.Recovery.{Rise}
 

@@ -10,8 +10,10 @@ use Rattle.std.proofs.lemmas.List.Elements.{recursion_from_All, All-from_recursi
 use Rattle.std.specs.Bool.{MatchBool}
 use Rattle.std.proofs.lemmas.List.Sums.{sum_by-cons}
 use Rattle.std.proofs.lemmas.Option.{slice_get-get_or}
+use Rattle.dw_section.proofs.Lent.Judged.{all_get}
 use Rattle.dw_unwind.specs.declared.ranges.Range.{Range}
 use Rattle.dw_unwind.specs.Ranges.{end_of, covers, byte_of, byte_among}
+use Rattle.dw_unwind.proofs.Elements.{all_more}
 use Rattle.dw_unwind.specs.Inner.Ranges.{cover_count, AreApart, Meet, Rise, IsWithin}
 
 -- ---- whether a range covers an address
@@ -41,20 +43,12 @@ count_behind a (r ∷ rs) h = elim (covers_tells a r) [
   | inr off ↦ count_no a r rs off.0 ∙ count_behind a rs h.1
 ]
 
-all_from : (low high : ℕ) (rs : List Range) → low ≤ high → AllByRecursion (λ q. high ≤ q.address) rs → AllByRecursion (λ q. low ≤ q.address) rs
-all_from low high [] le h = tt
-all_from low high (r ∷ rs) le h = (omega (arith, h.0), all_from low high rs le h.1)
-
-all_past : (a end : ℕ) (rs : List Range) → a < end → AllByRecursion (λ q. end ≤ q.address) rs → AllByRecursion (λ q. a < q.address) rs
-all_past a end [] lt h = tt
-all_past a end (r ∷ rs) lt h = (omega (arith, h.0), all_past a end rs lt h.1)
-
 -- ---- rising ranges are apart
 
 pub rise_apart : (rs : List Range) → Rise rs → AreApart rs
 rise_apart [] h a = omega arith
 rise_apart (r ∷ rs) h a = elim (covers_tells a r) [
-  | inl held ↦ let none = count_behind a rs (all_past a (end_of r) rs held.2 h.0) in let all = count_yes a r rs held.0 in omega arith
+  | inl held ↦ let none = count_behind a rs (all_more (λ (q : Range). end_of r ≤ q.address) (λ q. a < q.address) rs (λ q le. omega (arith, held.2)) h.0) in let all = count_yes a r rs held.0 in omega arith
   | inr off ↦ let rest = rise_apart rs h.1 a in let all = count_no a r rs off.0 in omega arith
 ]
 
@@ -64,7 +58,7 @@ rise_from (r ∷ []) h = (tt, tt)
 rise_from (r ∷ q ∷ rs) h =
     let next : end_of r ≤ q.address = h 0 r (omega arith) in
     let rest = rise_from (q ∷ rs) (λ k d lt. rw add-one (rw add-one at (h (suc k) d (omega arith)))) in
-    ((next, all_from (end_of r) (end_of q) rs (omega arith) rest.0), rest)
+    ((next, all_more (λ (p : Range). end_of q ≤ p.address) (λ p. end_of r ≤ p.address) rs (λ p le. omega arith) rest.0), rest)
 
 -- ---- neighbours that meet
 
@@ -72,11 +66,6 @@ counts_two : (a : ℕ) (rs : List Range) (k : ℕ) (d : Range) → suc k < lengt
 counts_two a (r ∷ q ∷ rs) zero d lt e f = let one = count_yes a r (q ∷ rs) e in let two = count_yes a q rs f in omega arith
 counts_two a (r ∷ q ∷ rs) (suc k) d lt e f = let rest = counts_two a (q ∷ rs) k d (omega arith) e f in let all = count_of a r (q ∷ rs) in omega arith
 counts_two a rs k d lt e f = absurd (omega arith)
-
-all_at : (P : Range → Type 0) (rs : List Range) (k : ℕ) (d : Range) → AllByRecursion P rs → k < length rs → P (get_or rs k d)
-all_at P [] k d h lt = absurd (omega arith)
-all_at P (r ∷ rs) zero d h lt = h.0
-all_at P (r ∷ rs) (suc k) d h lt = all_at P rs k d h.1 (omega arith)
 
 covered : (a : ℕ) (r : Range) → r.address ≤ a → a < end_of r → covers a r ≡ true
 covered a r low high = elim (covers_tells a r) [
@@ -88,7 +77,7 @@ pub meet_at : (rs : List Range) (k : ℕ) (d : Range) → AllByRecursion (λ (r 
 meet_at rs k d some up lt below =
     let a = (get_or rs (suc k) d).address in
     let low : (get_or rs k d).address ≤ a = up k (suc k) d (omega arith) lt in
-    let len = all_at (λ (r : Range). 0 < r.len) rs (suc k) d some lt in
+    let len = all_get (λ (r : Range). 0 < r.len) rs (suc k) d some lt in
     (a, counts_two a rs k d lt (covered a (get_or rs k d) low below) (covered a (get_or rs (suc k) d) (omega arith) (omega arith)))
 
 -- ranges that are apart and in order rise
@@ -164,15 +153,12 @@ neighbours_at rs i d e low lt below =
 
 -- ---- the byte at an address, by the last range that begins at or below it
 
-begins_rise : (rs : List Range) → Rise rs → IsNonDecreasingBy (λ (r : Range). r.address) rs
+pub begins_rise : (rs : List Range) → Rise rs → IsNonDecreasingBy (λ (r : Range). r.address) rs
 begins_rise [] h i j d le lt = absurd (omega arith)
 begins_rise (r ∷ rs) h zero zero d le lt = omega arith
-begins_rise (r ∷ rs) h zero (suc j) d le lt = let past = all_at (λ (q : Range). end_of r ≤ q.address) rs j d h.0 (omega arith) in omega arith
+begins_rise (r ∷ rs) h zero (suc j) d le lt = let past = all_get (λ (q : Range). end_of r ≤ q.address) rs j d h.0 (omega arith) in omega arith
 begins_rise (r ∷ rs) h (suc i) zero d le lt = absurd (omega arith)
 begins_rise (r ∷ rs) h (suc i) (suc j) d le lt = begins_rise rs h.1 i j d (omega arith) (omega arith)
-
-pub rising_begins : (rs : List Range) → Rise rs → IsNonDecreasingBy (λ (r : Range). r.address) rs
-rising_begins rs h = begins_rise rs h
 
 uncovered : (a : ℕ) (r : Range) → (a < r.address) ⊎ (end_of r ≤ a) → covers a r ≡ false
 uncovered a r h = elim (covers_tells a r) [
@@ -188,7 +174,7 @@ pub byte_found : (bytes : List ℕ) (a : ℕ) (rs : List Range) (i : ℕ) (d : R
 byte_found bytes a [] i d h lt low high = absurd (omega arith)
 byte_found bytes a (r ∷ rs) zero d h lt low high = rw (covered a r low high) refl
 byte_found bytes a (r ∷ rs) (suc i) d h lt low high =
-    let past = all_at (λ (q : Range). end_of r ≤ q.address) rs i d h.0 (omega arith) in
+    let past = all_get (λ (q : Range). end_of r ≤ q.address) rs i d h.0 (omega arith) in
     rw (uncovered a r (inr (omega arith))) (byte_found bytes a rs i d h.1 (omega arith) low high)
 
 pub byte_missing : (bytes : List ℕ) (a : ℕ) (rs : List Range) (i : ℕ) (d : Range) → Rise rs → i < length rs → (get_or rs i d).address ≤ a → end_of (get_or rs i d) ≤ a
@@ -196,11 +182,8 @@ pub byte_missing : (bytes : List ℕ) (a : ℕ) (rs : List Range) (i : ℕ) (d :
 byte_missing bytes a [] i d h lt low high above = absurd (omega arith)
 byte_missing bytes a (r ∷ rs) zero d h lt low high above = rw (uncovered a r (inr high)) (none_begun bytes a rs (λ k e l. above (suc k) e (omega arith) (omega arith)))
 byte_missing bytes a (r ∷ rs) (suc i) d h lt low high above =
-    let past = all_at (λ (q : Range). end_of r ≤ q.address) rs i d h.0 (omega arith) in
+    let past = all_get (λ (q : Range). end_of r ≤ q.address) rs i d h.0 (omega arith) in
     rw (uncovered a r (inr (omega arith))) (byte_missing bytes a rs i d h.1 (omega arith) low high (λ k e l m. above (suc k) e (omega arith) (omega arith)))
-
-pub range_at : (P : Range → Type 0) (rs : List Range) (k : ℕ) (d : Range) → AllByRecursion P rs → k < length rs → P (get_or rs k d)
-range_at P rs k d h lt = all_at P rs k d h lt
 
 -- an address past all of them has no byte
 pub byte_past : (bytes : List ℕ) (a limit : ℕ) (rs : List Range) → AllByRecursion (λ (r : Range). end_of r ≤ limit) rs → limit ≤ a → byte_among bytes a rs ≡ None
@@ -208,15 +191,13 @@ byte_past bytes a limit [] h le = refl
 byte_past bytes a limit (r ∷ rs) h le = rw (uncovered a r (inr (omega (arith, h.0)))) (byte_past bytes a limit rs h.1 le)
 
 pub have_bytes : (limit room : ℕ) (rs : List Range) → AllByRecursion (IsWithin limit room) rs → AllByRecursion (λ (r : Range). 0 < r.len) rs
-have_bytes limit room [] h = tt
-have_bytes limit room (r ∷ rs) h = (h.0.some, have_bytes limit room rs h.1)
+have_bytes limit room rs h = all_more (IsWithin limit room) (λ r. 0 < r.len) rs (λ r is. is.some) h
 
 pub end_below : (limit room : ℕ) (rs : List Range) → AllByRecursion (IsWithin limit room) rs → AllByRecursion (λ (r : Range). end_of r ≤ limit) rs
-end_below limit room [] h = tt
-end_below limit room (r ∷ rs) h = (h.0.addresses, end_below limit room rs h.1)
+end_below limit room rs h = all_more (IsWithin limit room) (λ r. end_of r ≤ limit) rs (λ r is. is.addresses) h
 
 pub byte_here : (limit : ℕ) (bytes : List ℕ) (a : ℕ) (rs : List Range) (i : ℕ) (d : Range) → Rise rs → AllByRecursion (IsWithin limit (length bytes)) rs → i < length rs → (get_or rs i d).address ≤ a → a < end_of (get_or rs i d)
     → Some (get_or bytes ((get_or rs i d).place + (a - (get_or rs i d).address)) 0) ≡ byte_among bytes a rs
 byte_here limit bytes a rs i d h within lt low high =
-    let places = (all_at (IsWithin limit (length bytes)) rs i d within lt).places in
+    let places = (all_get (IsWithin limit (length bytes)) rs i d within lt).places in
     sym (byte_found bytes a rs i d h lt low high ∙ slice_get-get_or bytes ((get_or rs i d).place + (a - (get_or rs i d).address)) 0 (omega arith))

@@ -1,11 +1,12 @@
 use Rattle.std.proofs.Common.{List, Bool, map, [], Some, refl, sym, ap, subst, ◌∙◌, inl, inr}
 use Rattle.std.proofs.lemmas.List.{length-map}
+use Rattle.std.proofs.lemmas.Option.{same_Some}
 use Rattle.dw_section.specs.Lookups.{FindsFde, LooksUp}
 use Rattle.dw_section.specs.Meaning.{AreFdes, RulesAt}
 use Rattle.dw_section.specs.Table.{Section}
 use Rattle.dw_section.specs.declared.lookup.Fde.{Fde}
 use Rattle.dw_library.specs.Index.{rule_of}
-use Rattle.dw_library.proofs.Written.{lent_listed, one_some}
+use Rattle.dw_library.proofs.Written.{lent_listed}
 use Rattle.dw_library.proofs.looks.put_look.Goals as goal
 
 pub returns-then-not-branch-clause-look : goal.returns-then-not-branch-clause-look
@@ -29,7 +30,7 @@ returns-clause-look c =
     let is = λ (gs : List Fde) (are : AreFdes table.target table.bytes gs).
     lent_listed gs a lent fde (subst (λ (b : Bool). FindsFde gs a b lent) c.if-not-branch.false (finds gs are)) (c.in-Some.ensures ∙ ap Some (sym c.fde-2.ensures)) in
     let looked = subst (λ (b : Bool). LooksUp table fs.0 a b row) c.if-not-branch.false (looks fs.0 fs.1) in
-    let rules = subst (RulesAt table.target table.bytes a) (one_some looked.0 specified (sym looked.1 ∙ c.in-Some-row.ensures)) looked.2 in (
+    let rules = subst (RulesAt table.target table.bytes a) (same_Some looked.0 specified (sym looked.1 ∙ c.in-Some-row.ensures)) looked.2 in (
       record { row = c.told_row.result; rules = map rule_of specified.registers },
       inl (record { fde = fde; row = specified }, rules, λ gs are. (is gs are).0, (is fs.0 fs.1).1, c.told_row.ensures, refl),
       refl,

@@ -1,98 +1,62 @@
-use Rattle.std.proofs.Common.{◌≡◌, ℕ, ◌+◌, ◌-◌, ◌<◌, get_or, Option, refl, sym, ap, ◌∙◌, subst}
+use Rattle.std.proofs.Common.{◌≡◌, ℕ, ◌+◌, ◌-◌, ◌<◌, List, get_or, Option, refl, sym, ap, ◌∙◌, subst}
 use Rattle.std.specs.Prelude.{IsSome}
 use Rattle.dw_num.specs.declared.target.Target.{Target}
 use Rattle.dw_num.specs.Target.{address_limit}
 use Rattle.dw_canon.specs.Inner.Canon.{fde_instrs, initial_of}
 use Rattle.dw_canon.specs.Inner.Spelling.{program_bytes}
 use Rattle.dw_canon.specs.Inner.Written.{fde, contents}
+use Rattle.dw_canon.specs.Members.{Member, AreMembers}
 use Rattle.dw_canon.proofs.Lent.Canonical.{members_exist}
 use Rattle.dw_normal.specs.Inner.Begun.{IsReady}
 use Rattle.dw_normal.specs.Inner.Places.{fde_with}
 use Rattle.dw_normal.proofs.Filled.{on_ok}
 use Rattle.dw_normal.proofs.Grouped.{no_member}
-use Rattle.dw_normal.proofs.Located.{member_below, has_place, place_fits, place_own, begin_fits, begins_below, range_fits}
+use Rattle.dw_normal.proofs.Located.{Located, has_place, place_fits, place_own, begin_fits, begins_below, range_fits}
+use Rattle.dw_normal.proofs.Placed.{below}
+use Rattle.dw_normal.proofs.entry.fill_fde_at.Goals.{In_ok-begin_fde}
 use Rattle.dw_normal.proofs.entry.fill_fde_at.Goals as goal
 
+-- the FDE is located among the members of the table
+abbrev LocatedIn : In_ok-begin_fde → List Member → Member → Type 0
+LocatedIn c ms d = Located c.args.table.now.target c.args.table.now.bytes ms c.args.fde.place d c.begin_fde.new.begun c.args.rows.now.entries c.args.places.now.entries
+
+located : (c : In_ok-begin_fde) (ms : List Member) → AreMembers c.args.table.now.target c.args.table.now.bytes ms → (d : Member) → LocatedIn c ms d
+located c ms are d = record {
+  bytes = c.accepted.ensures.bytes;
+  accepted = c.accepted.ensures.accepted;
+  are = are;
+  small = c.requires.small ms are;
+  lt = below c.args.fde.place are c.requires.place;
+  is = c.in_ok-begin_fde.ensures.is ms are d;
+  rows_are = c.requires.rows ms are;
+  kept = c.requires.places;
+}
+
+-- which it has
+somewhere : (c : In_ok-begin_fde) → (ms : List Member) × LocatedIn c ms no_member
+somewhere c = let some = members_exist c.args.table.now.target c.args.table.now.bytes c.accepted.ensures.bytes c.accepted.ensures.accepted in (some.0, located c some.0 some.1 no_member)
+
 pub index-cie_at-requires : goal.index-cie_at-requires
-index-cie_at-requires c =
-    let t = c.args.table.now.target in
-    let s = c.args.table.now.bytes in
-    let b = c.accepted.ensures.bytes in
-    let ok = c.accepted.ensures.accepted in
-    let some = members_exist t s b ok in
-    let k = c.args.fde.place in
-    let lt = member_below t s k some.0 some.1 c.requires.place in
-    let begun = c.begin_fde.new.begun in
-    let is = c.in_ok-begin_fde.ensures.is some.0 some.1 no_member in
-    let found = has_place t s b ok some.0 some.1 (c.requires.small some.0 some.1) k no_member lt begun is c.args.rows.now.entries (c.requires.rows some.0 some.1) c.args.places.now.entries c.requires.places in
-    subst (λ (o : Option ℕ). IsSome o) (sym found.1) refl
+index-cie_at-requires c = subst (λ (o : Option ℕ). IsSome o) (sym (has_place (somewhere (goal.at.index-cie_at-requires c).In_ok-begin_fde).1).1) refl
 
-pub fill_fde-requires-clause-ready : goal.fill_fde-requires-clause-ready
-fill_fde-requires-clause-ready c = subst (λ (u : Target). IsReady u c.begin_fde.new.begun) (sym c.target.ensures) c.in_ok-begin_fde.ensures.ready
-
-pub fill_fde-requires-clause-cie_at : goal.fill_fde-requires-clause-cie_at
-fill_fde-requires-clause-cie_at c =
-    let t = c.args.table.now.target in
-    let s = c.args.table.now.bytes in
-    let b = c.accepted.ensures.bytes in
-    let ok = c.accepted.ensures.accepted in
-    let some = members_exist t s b ok in
-    let k = c.args.fde.place in
-    let lt = member_below t s k some.0 some.1 c.requires.place in
-    let begun = c.begin_fde.new.begun in
-    let is = c.in_ok-begin_fde.ensures.is some.0 some.1 no_member in
-    place_fits t s b ok some.0 some.1 (c.requires.small some.0 some.1) k no_member lt begun is c.args.rows.now.entries (c.requires.rows some.0 some.1) c.args.places.now.entries c.requires.places c.index-cie_at.result.now c.index-cie_at.ensures
-
-pub fill_fde-requires-clause-begin : goal.fill_fde-requires-clause-begin
-fill_fde-requires-clause-begin c =
-    let t = c.args.table.now.target in
-    let s = c.args.table.now.bytes in
-    let b = c.accepted.ensures.bytes in
-    let ok = c.accepted.ensures.accepted in
-    let some = members_exist t s b ok in
-    let k = c.args.fde.place in
-    let lt = member_below t s k some.0 some.1 c.requires.place in
-    let begun = c.begin_fde.new.begun in
-    let is = c.in_ok-begin_fde.ensures.is some.0 some.1 no_member in
-    subst (λ (u : Target). begun.fde.begin < address_limit u.size) (sym c.target.ensures) (begin_fits t s b ok some.0 some.1 (c.requires.small some.0 some.1) k no_member lt begun is c.args.rows.now.entries (c.requires.rows some.0 some.1) c.args.places.now.entries c.requires.places)
-
-pub fill_fde-requires-clause-rises : goal.fill_fde-requires-clause-rises
-fill_fde-requires-clause-rises c =
-    let t = c.args.table.now.target in
-    let s = c.args.table.now.bytes in
-    let b = c.accepted.ensures.bytes in
-    let ok = c.accepted.ensures.accepted in
-    let some = members_exist t s b ok in
-    let k = c.args.fde.place in
-    let lt = member_below t s k some.0 some.1 c.requires.place in
-    let begun = c.begin_fde.new.begun in
-    let is = c.in_ok-begin_fde.ensures.is some.0 some.1 no_member in
-    begins_below t s b ok some.0 some.1 (c.requires.small some.0 some.1) k no_member lt begun is c.args.rows.now.entries (c.requires.rows some.0 some.1) c.args.places.now.entries c.requires.places
-
-pub fill_fde-requires-clause-range : goal.fill_fde-requires-clause-range
-fill_fde-requires-clause-range c =
-    let t = c.args.table.now.target in
-    let s = c.args.table.now.bytes in
-    let b = c.accepted.ensures.bytes in
-    let ok = c.accepted.ensures.accepted in
-    let some = members_exist t s b ok in
-    let k = c.args.fde.place in
-    let lt = member_below t s k some.0 some.1 c.requires.place in
-    let begun = c.begin_fde.new.begun in
-    let is = c.in_ok-begin_fde.ensures.is some.0 some.1 no_member in
-    subst (λ (u : Target). begun.fde.end < begun.fde.begin + address_limit u.size) (sym c.target.ensures) (range_fits t s b ok some.0 some.1 (c.requires.small some.0 some.1) k no_member lt begun is c.args.rows.now.entries (c.requires.rows some.0 some.1) c.args.places.now.entries c.requires.places)
+pub fill_fde-requires : goal.fill_fde-requires
+fill_fde-requires c =
+    let there = (somewhere (goal.at.fill_fde-requires c).In_ok-begin_fde).1 in
+    let begun = c.begin_fde.new.begun in record {
+      ready = subst (λ (u : Target). IsReady u begun) (sym c.target.ensures) c.in_ok-begin_fde.ensures.ready;
+      cie_at = place_fits there c.index-cie_at.ensures;
+      begin = subst (λ (u : Target). begun.fde.begin < address_limit u.size) (sym c.target.ensures) (begin_fits there);
+      rises = begins_below there;
+      range = subst (λ (u : Target). begun.fde.end < begun.fde.begin + address_limit u.size) (sym c.target.ensures) (range_fits there);
+    }
 
 pub returns-clause-contents : goal.returns-clause-contents
 returns-clause-contents c = λ ms are d.
     let t = c.args.table.now.target in
-    let s = c.args.table.now.bytes in
-    let k = c.args.fde.place in
-    let m = get_or ms k d in
-    let lt = member_below t s k ms are c.requires.place in
-    let begun = c.begin_fde.new.begun in
-    let is = c.in_ok-begin_fde.ensures.is ms are d in
-    let at = c.index-cie_at.result.now in
-    let own = place_own t s c.accepted.ensures.bytes c.accepted.ensures.accepted ms are (c.requires.small ms are) k d lt begun is c.args.rows.now.entries (c.requires.rows ms are) c.args.places.now.entries c.requires.places at c.index-cie_at.ensures in
-    let new = c.fill_fde.new.out.items in
-    let made = λ (u : Target) (p : ℕ). contents u (fde p m.begin (m.end - m.begin) (fde_instrs (initial_of ms m.register) m) (program_bytes u (fde_instrs (initial_of ms m.register) m))) in
-    on_ok c.fill_fde.result (new ≡ made c.target.result at) (new ≡ contents t (fde_with t ms m)) (λ e. e ∙ ap (λ (u : Target). made u at) c.target.ensures ∙ ap (made t) own) (c.fill_fde.ensures.contents ms m is)
+    let m = get_or ms c.args.fde.place d in
+    let there = located (goal.at.returns-clause-contents c).In_ok-begin_fde ms are d in
+    let instrs = fde_instrs (initial_of ms m.register) m in
+    let made = λ (u : Target) (p : ℕ). contents u (fde p m.begin (m.end - m.begin) instrs (program_bytes u instrs)) in
+    let at = c.index-cie_at.result.now in let new = c.fill_fde.new.out.items in
+    on_ok c.fill_fde.result (new ≡ made c.target.result at) (new ≡ contents t (fde_with t ms m))
+    (λ e. e ∙ ap (λ (u : Target). made u at) c.target.ensures ∙ ap (made t) (place_own there c.index-cie_at.ensures)) (c.fill_fde.ensures.contents ms m there.is)

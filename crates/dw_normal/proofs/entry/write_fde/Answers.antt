@@ -10,18 +10,17 @@ use Rattle.dw_normal.specs.Inner.Places.{fde_with}
 use Rattle.dw_normal.specs.Inner.Puts.{Puts}
 use Rattle.dw_normal.proofs.Grouped.{no_member}
 use Rattle.dw_normal.proofs.Joined.{ok_of, none_put}
-use Rattle.dw_normal.proofs.Located.{member_below, contents_low}
+use Rattle.dw_normal.proofs.Located.{contents_low}
+use Rattle.dw_normal.proofs.Placed.{below}
 use Rattle.dw_normal.proofs.entry.write_fde.Goals as goal
 
 pub put_entry-requires-clause-small : goal.put_entry-requires-clause-small
 put_entry-requires-clause-small g c =
     let t = c.args.table.now.target in
-    let s = c.args.table.now.bytes in
-    let some = members_exist t s c.accepted.ensures.bytes c.accepted.ensures.accepted in
-    let lt = member_below t s c.args.fde.place some.0 some.1 c.requires.place in
+    let some = members_exist t c.args.table.now.bytes c.accepted.ensures.bytes c.accepted.ensures.accepted in
     let own = contents t (fde_with t some.0 (get_or some.0 c.args.fde.place no_member)) in
     let is = ok_of c.fill_fde_at.result (c.fill_fde_at.new.out.items ≡ own) (c.fill_fde_at.ensures.contents some.0 some.1 no_member) c.if-is_err.ensures.negation in
-    subst (λ (l : List ℕ). length l < 2 ^ 32) (sym is) (contents_low t some.0 c.args.fde.place no_member lt (c.requires.small some.0 some.1))
+    subst (λ (l : List ℕ). length l < 2 ^ 32) (sym is) (contents_low t some.0 c.args.fde.place no_member (below c.args.fde.place some.1 c.requires.place) (c.requires.small some.0 some.1))
 
 pub returns-then-is_err-clause-puts : goal.returns-then-is_err-clause-puts
 returns-then-is_err-clause-puts g c = λ ms are d. none_put (entry_bytes c.args.table.now.target (fde_with c.args.table.now.target ms (get_or ms c.args.fde.place d))) (g.S.Sink.failures c.args.sink.now) (g.S.Sink.taken c.args.sink.now)

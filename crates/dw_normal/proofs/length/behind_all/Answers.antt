@@ -1,9 +1,8 @@
-use Rattle.std.proofs.Common.{◌≡◌, ℕ, ◌+◌, ◌<◌, List, length, map, take, get_or, Option, ◌∙◌, subst, arith}
-use Rattle.std.proofs.lemmas.List.{length-map, take_all}
-use Rattle.dw_canon.specs.Members.{Member, fde_of}
+use Rattle.std.proofs.Common.{◌<◌, length, arith}
+use Rattle.std.proofs.lemmas.List.{take_all}
 use Rattle.dw_canon.proofs.Lent.Canonical.{members_exist}
-use Rattle.dw_normal.specs.Inner.Lengths.{MemberLeaves, fdes_bytes}
 use Rattle.dw_normal.proofs.Grouped.{no_member}
+use Rattle.dw_normal.proofs.Placed.{as_many}
 use Rattle.dw_normal.proofs.Summed.{fdes_more, fdes_over}
 use Rattle.dw_normal.proofs.length.behind_all.Goals as goal
 
@@ -15,26 +14,21 @@ behind_member-requires-clause-room c =
 
 pub returns-in_default : goal.returns-in_default
 returns-in_default c = λ ms are.
-    let t = c.args.table.now.target in
-    let count = c.requires.count (map fde_of ms) are.fdes ∙ length-map ms fde_of in
+    let count = as_many are c.requires.count in
     let lt : c.fdes.place < length ms = omega (arith, count, c.fdes-test.true) in
-    let none = subst (λ (o : Option ℕ). MemberLeaves t ms (get_or ms c.fdes.place no_member) c.fdes.left o) c.in_default.is (c.in_ok-rest.ensures.leaves ms are no_member) in
-    fdes_over t ms ms c.fdes.place no_member lt c.args.room c.fdes.left (c.fdes.invariant.0 ms are) none
+    fdes_over c.args.table.now.target ms ms c.fdes.place no_member lt c.args.room c.fdes.left (c.fdes.invariant.0 ms are) (rw c.in_default.is at (c.in_ok-rest.ensures.leaves ms are no_member))
 
 pub fdes-preserved : goal.fdes-preserved
 fdes-preserved c = (
   λ ms are.
-      let t = c.args.table.now.target in
-      let count = c.requires.count (map fde_of ms) are.fdes ∙ length-map ms fde_of in
+      let count = as_many are c.requires.count in
       let lt : c.fdes.place < length ms = omega (arith, count, c.fdes-test.true) in
-      let some = subst (λ (o : Option ℕ). MemberLeaves t ms (get_or ms c.fdes.place no_member) c.fdes.left o) c.in-Some.is (c.in_ok-rest.ensures.leaves ms are no_member) in
-      fdes_more t ms ms c.fdes.place no_member lt c.args.room c.fdes.left (c.fdes.invariant.0 ms are) c.in-Some.rest some,
+      fdes_more c.args.table.now.target ms ms c.fdes.place no_member lt c.args.room c.fdes.left (c.fdes.invariant.0 ms are) c.in-Some.rest
+      (rw c.in-Some.is at (c.in_ok-rest.ensures.leaves ms are no_member)),
   c.in_ok-rest.ensures.section,
 )
 
 pub returns : goal.returns
 returns c = λ ms are.
-    let t = c.args.table.now.target in
-    let count = c.requires.count (map fde_of ms) are.fdes ∙ length-map ms fde_of in
-    let all : take c.fdes.place ms ≡ ms = take_all c.fdes.place ms (omega (arith, count, c.fdes-test.false)) in
-    subst (λ (l : List Member). c.fdes.left + length (fdes_bytes t ms l) ≡ c.args.room) all (c.fdes.invariant.0 ms are)
+    let count = as_many are c.requires.count in
+    rw (take_all c.fdes.place ms (omega (arith, count, c.fdes-test.false))) at (c.fdes.invariant.0 ms are)

@@ -1,10 +1,10 @@
-use Rattle.std.proofs.Common.{◌≡◌, refl, ◌<◌, ◌∙◌, ℕ, sym, ap, subst, map, get_or}
+use Rattle.std.proofs.Common.{◌≡◌, refl, ◌∙◌, sym, ap, map, get_or}
 use Rattle.std.specs.Bool.{Decides}
 use Rattle.std.proofs.Math.ListN.{get_or-map}
-use Rattle.std.proofs.lemmas.List.{length-map}
 use Rattle.dw_canon.specs.Members.{fde_of, changes_of}
 use Rattle.dw_normal.proofs.Alike.{untrue, not_so, if_ok, same_member}
 use Rattle.dw_normal.proofs.ChangesToCome.{come_all}
+use Rattle.dw_normal.proofs.Placed.{below}
 use Rattle.dw_normal.proofs.likeness.same_fdes.Goals as goal
 
 pub returns-then-not-same_heads-clause-same : goal.returns-then-not-same_heads-clause-same
@@ -23,8 +23,8 @@ returns-clause-same c = λ ms ns are others d.
     let mine : c.fde.result ≡ fde_of m = c.fde.ensures (map fde_of ms) are.fdes (fde_of d) ∙ get_or-map fde_of ms k d in
     let other : c.fde-2.result ≡ fde_of n = c.fde-2.ensures (map fde_of ns) others.fdes (fde_of d) ∙ get_or-map fde_of ns k d in
     let fde : fde_of m ≡ fde_of n = sym mine ∙ c.if-not-same_heads.ensures.0 refl ∙ other in
-    let lt = subst (λ (l : ℕ). k < l) (length-map ms fde_of) (c.requires.first (map fde_of ms) are.fdes) in
-    let lt' = subst (λ (l : ℕ). k < l) (length-map ns fde_of) (c.requires.second (map fde_of ns) others.fdes) in
+    let lt = below k are c.requires.first in
+    let lt' = below k others c.requires.second in
     let come = come_all c.args.first.now.target c.args.first.now.bytes c.accepted.ensures.bytes c.accepted.ensures.accepted ms are k d lt c.go_on.new.changes c.go_on.ensures.changes in
     let come' = come_all c.args.second.now.target c.args.second.now.bytes c.accepted-2.ensures.bytes c.accepted-2.ensures.accepted ns others k d lt' c.go_on-2.new.changes c.go_on-2.ensures.changes in
     if_ok (λ b. Decides b (c.go_on.new.changes.to_come ≡ c.go_on-2.new.changes.to_come)) (λ b. Decides b (m ≡ n)) c.same_changes.result

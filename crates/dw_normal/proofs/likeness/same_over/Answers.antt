@@ -1,15 +1,16 @@
-use Rattle.std.proofs.Common.{◌≡◌, ◌<◌, ◌∙◌, List, length, map, get_or, ap, refl, arith}
-use Rattle.std.proofs.lemmas.List.{length-map, take_more_same}
-use Rattle.dw_canon.specs.Members.{Member, fde_of}
+use Rattle.std.proofs.Common.{◌≡◌, ◌<◌, List, length, get_or, ap, refl, arith}
+use Rattle.std.proofs.lemmas.List.{take_more_same}
+use Rattle.dw_canon.specs.Members.{Member}
 use Rattle.dw_normal.proofs.Alike.{not_so, apart, all_same}
 use Rattle.dw_normal.proofs.Grouped.{no_member}
+use Rattle.dw_normal.proofs.Placed.{as_many}
 use Rattle.dw_normal.proofs.likeness.same_over.Goals as goal
 
 pub fdes-init : goal.fdes-init
 fdes-init c = (
   λ ms ns are others.
-      let mine = c.requires.count (map fde_of ms) are.fdes ∙ length-map ms fde_of in
-      let other = c.requires.other_count (map fde_of ns) others.fdes ∙ length-map ns fde_of in
+      let mine = as_many are c.requires.count in
+      let other = as_many others c.requires.other_count in
       (omega (arith, mine, other), refl),
   c.requires.section,
   c.requires.other_section,
@@ -30,7 +31,7 @@ pub fdes-preserved : goal.fdes-preserved
 fdes-preserved c = (
   λ ms ns are others.
       let inv = c.fdes.invariant.0 ms ns are others in
-      let count = c.requires.count (map fde_of ms) are.fdes ∙ length-map ms fde_of in
+      let count = as_many are c.requires.count in
       let lt : c.fdes.place < length ms = omega (arith, count, c.fdes-test.true) in
       let here = c.in_ok-same_fdes.ensures.same ms ns are others no_member in
       (inv.0, take_more_same ms ns c.fdes.place no_member lt (omega (arith, inv.0, lt)) inv.1 (here.0 c.if-not-branch.false)),
@@ -41,6 +42,6 @@ fdes-preserved c = (
 pub returns : goal.returns
 returns c = λ ms ns are others.
     let inv = c.fdes.invariant.0 ms ns are others in
-    let count = c.requires.count (map fde_of ms) are.fdes ∙ length-map ms fde_of in
+    let count = as_many are c.requires.count in
     let same = all_same c.fdes.place ms ns (omega (arith, count, c.fdes-test.false)) inv.0 inv.1 in
     (λ e. same, λ e. refl)

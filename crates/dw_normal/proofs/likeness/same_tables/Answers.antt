@@ -1,14 +1,13 @@
-use Rattle.std.proofs.Common.{◌≡◌, ◌∙◌, map, ap, sym, arith, length}
-use Rattle.std.proofs.lemmas.List.{length-map}
+use Rattle.std.proofs.Common.{◌≡◌, ◌∙◌, ap, sym, arith, length}
 use Rattle.dw_section.specs.Changes.{Changing}
-use Rattle.dw_canon.specs.Members.{fde_of}
 use Rattle.dw_normal.proofs.Alike.{not_so}
+use Rattle.dw_normal.proofs.Placed.{as_many}
 use Rattle.dw_normal.proofs.likeness.same_tables.Goals as goal
 
 pub returns-then-fde_count-count : goal.returns-then-fde_count-count
 returns-then-fde_count-count c = λ ms ns are others.
-    let mine = c.fde_count-count.ensures (map fde_of ms) are.fdes ∙ length-map ms fde_of in
-    let other = c.fde_count.ensures (map fde_of ns) others.fdes ∙ length-map ns fde_of in
+    let mine = as_many are c.fde_count-count.ensures in
+    let other = as_many others c.fde_count.ensures in
     not_so (ms ≡ ns) (λ same. c.if-fde_count-count.true (other ∙ ap length (sym same) ∙ sym mine))
 
 pub same_over-requires-clause-other_count : goal.same_over-requires-clause-other_count

@@ -1,16 +1,12 @@
-use Rattle.std.proofs.Common.{◌≡◌, ◌++◌, length}
-use Rattle.std.specs.List.{AllByRecursion}
+use Rattle.std.proofs.Common.{length}
 use Rattle.dw_cfa.specs.Difference.{place_behind}
 use Rattle.dw_canon.specs.Inner.Difference.{difference}
-use Rattle.dw_canon.specs.Inner.Fits.{InstrFits}
-use Rattle.dw_canon.specs.Inner.Spelling.{program_bytes}
 use Rattle.dw_normal.specs.Inner.RegisterWalk.{rules_from}
+use Rattle.dw_normal.proofs.RulesLeft.{PutBefore}
 use Rattle.dw_normal.proofs.program.push_between.Given as goal
 
 abbrev pub invariant-registers : goal.invariant-registers
-invariant-registers l =
-    (l.out.items ++ program_bytes l.target (rules_from l.shared l.before l.row (place_behind l.last)) ≡ l.fn.out.items ++ program_bytes l.target (difference l.shared l.before l.row))
-    × AllByRecursion (InstrFits l.target) (rules_from l.shared l.before l.row (place_behind l.last))
+invariant-registers l = PutBefore l.target (difference l.shared l.before l.row) (rules_from l.shared l.before l.row (place_behind l.last)) l.fn.out.items l.out.items
 
 abbrev pub decreases-registers : goal.decreases-registers
 decreases-registers l = length (rules_from l.shared l.before l.row (place_behind l.last))

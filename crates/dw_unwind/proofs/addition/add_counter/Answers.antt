@@ -10,4 +10,4 @@ returns-then-is_some c = λ ss k.
     (k, (omega (arith, c.from.ensures, c.if-from-limit.false), (counter, repeats ss (counter_is c.args.value) counter some refl)))
 
 pub returns : goal.returns
-returns c = λ ss k. (keeps_counter c.args.limit c.args.kept.now ss c.args.value k (omega (arith, c.from.ensures, c.if-from-limit.false)) (sym c.is_some.ensures ∙ c.if-is_some.false), omega (arith, c.from.ensures, c.if-from-limit.false))
+returns c = λ ss k. (keeps_counter c.args.value k (omega (arith, c.from.ensures, c.if-from-limit.false)) (sym c.is_some.ensures ∙ c.if-is_some.false), omega (arith, c.from.ensures, c.if-from-limit.false))

@@ -13,4 +13,4 @@ pub returns : goal.returns
 returns c = λ ss k.
     let free = subst (λ (o : Option ℕ). is_some o ≡ false) c.get.ensures (sym c.is_some.ensures ∙ c.if-is_some.false) in
     let fits : c.args.value < c.args.limit = omega (arith, c.from.ensures, c.if-from-limit.false) in
-    (keeps_register c.args.limit c.args.kept.now _ ss c.args.register c.args.value k fits free refl c.in_ok-set.ensures.set refl refl, fits)
+    (keeps_register _ c.args.register c.args.value k fits free refl c.in_ok-set.ensures.set refl refl, fits)

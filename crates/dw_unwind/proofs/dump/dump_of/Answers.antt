@@ -1,8 +1,19 @@
-use Rattle.std.proofs.Common.{◌^◌, None, length, ◌∙◌}
+use Rattle.std.proofs.Common.{◌^◌, length, ◌∙◌}
 use Rattle.dw_unwind.specs.Lines.{lines_of}
+use Rattle.dw_unwind.specs.Inner.Gathered.{Gathers}
+use Rattle.dw_unwind.specs.Inner.Ranges.{AreApart}
 use Rattle.dw_unwind.proofs.DumpLaws.{overlap_fault, later_fault, all_said, kept_within, kept_byte}
 use Rattle.dw_unwind.proofs.RangeLaws.{have_bytes}
+use Rattle.dw_unwind.proofs.dump.dump_of.Goals.{In_ok-fault, In_default}
 use Rattle.dw_unwind.proofs.dump.dump_of.Goals as goal
+
+gathered : (c : In_ok-fault) → Gathers c.args.limit (lines_of c.args.text.now) c.gather.new.kept c.in_ok-fault.fault
+gathered c = c.in_ok-fault.ensures {u = tt}
+
+apart : (c : In_default) → AreApart c.gather.new.kept.ranges.items
+apart c =
+    let told = c.in_ok-place.ensures {u = tt} in
+    rw (c.in_default.is, c.deref.ensures.value) at told
 
 pub gather-requires : goal.gather-requires
 gather-requires c = c.nothing_gathered-kept.ensures c.args.limit
@@ -10,41 +21,25 @@ gather-requires c = c.nothing_gathered-kept.ensures c.args.limit
 pub first_overlap-requires : goal.first_overlap-requires
 first_overlap-requires c =
     let kept = c.gather.new.kept in
-    rw c.deref.ensures.value
-    (have_bytes (2 ^ 64) (length kept.bytes.items) kept.ranges.items (kept_within c.args.limit (lines_of c.args.text.now) kept c.in_ok-fault.fault c.requires (c.in_ok-fault.ensures {u = tt})))
+    rw c.deref.ensures.value (have_bytes (2 ^ 64) (length kept.bytes.items) kept.ranges.items (kept_within c.requires (gathered (goal.at.first_overlap-requires c).In_ok-fault)))
 
 pub returns-in-Some-clause-first : goal.returns-in-Some-clause-first
 returns-in-Some-clause-first c =
-    let kept = c.gather.new.kept in
     let told = c.in_ok-place.ensures {u = tt} in
     let found = rw (c.in-Some.is, c.deref.ensures.value) at told in
-    rw c.index.ensures (overlap_fault c.args.limit (lines_of c.args.text.now) kept c.in_ok-fault.fault c.in-Some.place c.index.result.now (c.in_ok-fault.ensures {u = tt}) found.0 found.1 found.2)
+    rw c.index.ensures (overlap_fault c.in-Some.place c.index.result.now (gathered (goal.at.returns-in-Some-clause-first c).In_ok-fault) found.0 found.1 found.2)
 
 pub returns-in-Some-fault-clause-first : goal.returns-in-Some-fault-clause-first
 returns-in-Some-fault-clause-first c =
-    let kept = c.gather.new.kept in
-    let told = c.in_ok-place.ensures {u = tt} in
-    let apart = rw (c.in_default.is, c.deref.ensures.value) at told in
-    let gathered = c.in_ok-fault.ensures {u = tt} in
-    later_fault c.args.limit (lines_of c.args.text.now) kept c.in-Some-fault.fault (rw c.in-Some-fault.is at gathered) apart
+    let at = goal.at.returns-in-Some-fault-clause-first c in
+    later_fault (rw c.in-Some-fault.is at (gathered at.In_ok-fault)) (apart at.In_default)
 
-pub new-requires-clause-apart : goal.new-requires-clause-apart
-new-requires-clause-apart c =
-    let told = c.in_ok-place.ensures {u = tt} in
-    rw (c.in_default.is, c.deref.ensures.value) at told
-
-pub new-requires-clause-within : goal.new-requires-clause-within
-new-requires-clause-within c = kept_within c.args.limit (lines_of c.args.text.now) c.gather.new.kept c.in_ok-fault.fault c.requires (c.in_ok-fault.ensures {u = tt})
+pub new-requires : goal.new-requires
+new-requires c = let at = goal.at.new-requires c in record { apart = apart at.In_default; within = kept_within c.requires (gathered at.In_ok-fault) }
 
 pub returns-clause-found : goal.returns-clause-found
 returns-clause-found c =
-    let kept = c.gather.new.kept in
-    let told = c.in_ok-place.ensures {u = tt} in
-    let apart = rw (c.in_default.is, c.deref.ensures.value) at told in
-    let whole = c.in_ok-fault.ensures {u = tt} in
-    let gathered = rw c.in_default-fault.is at whole in
-    let k = gathered.keeps in (
-      gathered.statements,
-      all_said c.args.limit (lines_of c.args.text.now) kept gathered apart,
-      record { pc = k.pc; registers = k.registers; memory = λ a. c.new.ensures a ∙ kept_byte c.args.limit (lines_of c.args.text.now) kept None gathered a },
-    )
+    let at = goal.at.returns-clause-found c in
+    let h = rw c.in_default-fault.is at (gathered at.In_ok-fault) in
+    let k = h.keeps in
+    (h.statements, all_said h (apart at.In_default), record { pc = k.pc; registers = k.registers; memory = λ a. c.new.ensures a ∙ kept_byte h a })

@@ -4,7 +4,7 @@ use Rattle.dw_eval.specs.Context.{context}
 use Rattle.dw_eval.specs.Evaluation.{first_stack}
 use Rattle.dw_unwind.specs.Columns.{ValueIs, ValueFails}
 use Rattle.dw_unwind.specs.Inner.Recovery.{Over}
-use Rattle.dw_unwind.proofs.ColumnLaws.{value_over}
+use Rattle.dw_unwind.proofs.ColumnLaws.{Tells, value_over}
 use Rattle.dw_unwind.proofs.machine.Machine.value.Goals as goal
 
 pub returns-clause-so : goal.returns-clause-so
@@ -15,5 +15,6 @@ returns-clause-so g c =
     let before = g.M.Memory.failures c.args.memory.now in
     let after = g.M.Memory.failures c.evaluate-answer.new.memory in
     let told = c.evaluate-answer.ensures in
+    let tells : Tells world m.steps c.in_ok-list.list first before after c.evaluate-answer.result = record { counted = told.counted; answered = told.answered; failed = told.failed; device = told.device } in
     subst (λ (x : Expression). Over (ValueIs world m.steps c.args.column x first) (ValueFails world m.steps c.args.column first x) before c.in_column.result after) c.in_ok-list.ensures
-    (rw c.in_column.ensures (value_over world m.steps c.args.column c.in_ok-list.list first before after c.evaluate-answer.result told.counted told.answered told.failed told.device))
+    (rw c.in_column.ensures (value_over world m.steps c.args.column c.in_ok-list.list first before after c.evaluate-answer.result tells))

@@ -1,0 +1,88 @@
+-- What is left of a program: the room that it leaves, and what it is put behind.
+use Rattle.std.proofs.Common.{◌≡◌, ℕ, ◌+◌, ◌<◌, List, [], ◌∷◌, ◌++◌, length, Option, None, sym, ap, ◌∙◌, subst, arith, append_assoc}
+use Rattle.std.specs.List.{AllByRecursion, flat_map}
+use Rattle.std.proofs.lemmas.List.{append-nil, length-append}
+use Rattle.dw_num.specs.declared.target.Target.{Target}
+use Rattle.dw_cfa.specs.declared.instr.Instr.{Instr}
+use Rattle.dw_cfa.specs.Rows.{Rules}
+use Rattle.dw_canon.specs.Difference.{either}
+use Rattle.dw_canon.specs.Inner.Difference.{difference, cfa_difference, rule_difference}
+use Rattle.dw_canon.specs.Inner.Fits.{InstrFits}
+use Rattle.dw_canon.specs.Inner.Spelling.{instr_bytes, program_bytes}
+use Rattle.dw_normal.specs.Inner.Lengths.{Leaves}
+use Rattle.dw_normal.specs.Inner.RegisterWalk.{rules_from}
+use Rattle.dw_normal.proofs.Passes.{program_more, both_halves}
+use Rattle.dw_normal.proofs.RegistersBehind.{from_first}
+
+-- what is put before a program's rest
+pub record PutBefore (t : Target) (all rest : List Instr) (before now : List ℕ) : Type 0 where
+  pub same : now ++ program_bytes t rest ≡ before ++ program_bytes t all
+  pub fits : AllByRecursion (InstrFits t) rest
+
+-- the room that is left for it
+pub record RoomLeft (t : Target) (all rest : List Instr) (room left : ℕ) : Type 0 where
+  pub same : left + length (program_bytes t all) ≡ room + length (program_bytes t rest)
+  pub fits : AllByRecursion (InstrFits t) rest
+
+-- ---- what leads from one row to another: to its rule of the CFA, and then to those of its registers
+
+module _ (t : Target) (shared old new : Rules) where
+  abbrev cfa : List Instr
+  cfa = cfa_difference old.cfa new.cfa
+
+  abbrev rules : List Instr
+  rules = rules_from shared old new 0
+
+  divided : difference shared old new ≡ cfa ++ rules
+  divided = ap (λ (l : List ℕ). cfa ++ flat_map (rule_difference shared old new) l) (sym (from_first (either old new)))
+
+  pub rules_fit : AllByRecursion (InstrFits t) (difference shared old new) → AllByRecursion (InstrFits t) rules
+  rules_fit fits = (both_halves (InstrFits t) cfa rules (subst (AllByRecursion (InstrFits t)) divided fits)).1
+
+  bytes_divided : program_bytes t (difference shared old new) ≡ program_bytes t cfa ++ program_bytes t rules
+  bytes_divided = ap (program_bytes t) divided ∙ program_more t cfa rules
+
+  pub put_behind : (out mid : List ℕ) → mid ≡ out ++ program_bytes t cfa → mid ++ program_bytes t rules ≡ out ++ program_bytes t (difference shared old new)
+  put_behind out mid is =
+      ap (λ (l : List ℕ). l ++ program_bytes t rules) is ∙ append_assoc out (program_bytes t cfa) (program_bytes t rules) ∙ ap (λ (l : List ℕ). out ++ l) (sym bytes_divided)
+
+  pub put_starts : {out mid : List ℕ} → mid ≡ out ++ program_bytes t cfa → AllByRecursion (InstrFits t) (difference shared old new) → PutBefore t (difference shared old new) rules out mid
+  put_starts {out} {mid} is fits = record { same = put_behind out mid is; fits = rules_fit fits }
+
+  pub room_starts : {room left : ℕ} → left + length (program_bytes t cfa) ≡ room → AllByRecursion (InstrFits t) (difference shared old new) → RoomLeft t (difference shared old new) rules room left
+  room_starts is fits =
+      let both = ap length bytes_divided ∙ length-append (program_bytes t cfa) (program_bytes t rules) in
+      record { same = omega (arith, both, is); fits = rules_fit fits }
+
+-- ---- an instruction more
+
+pub shorter : {i : Instr} {rest more : List Instr} → rest ≡ i ∷ more → length more < length rest
+shorter one = let long = ap length one in omega (arith, long)
+
+pub put_fits : {t : Target} {all rest more : List Instr} {i : Instr} {before now : List ℕ} → PutBefore t all rest before now → rest ≡ i ∷ more → InstrFits t i
+put_fits {t = t} h one = (subst (AllByRecursion (InstrFits t)) one h.fits).0
+
+pub put_next : {t : Target} {all rest more : List Instr} {i : Instr} {before now next : List ℕ} → PutBefore t all rest before now → rest ≡ i ∷ more → next ≡ now ++ instr_bytes t i → PutBefore t all more before next
+put_next {t = t} {more = more} {i = i} {now = now} h one is = record {
+  same = ap (λ (l : List ℕ). l ++ program_bytes t more) is ∙ append_assoc now (instr_bytes t i) (program_bytes t more) ∙ ap (λ (l : List Instr). now ++ program_bytes t l) (sym one) ∙ h.same;
+  fits = (subst (AllByRecursion (InstrFits t)) one h.fits).1;
+}
+
+pub put_ends : {t : Target} {all rest : List Instr} {before now : List ℕ} → PutBefore t all rest before now → rest ≡ [] → now ≡ before ++ program_bytes t all
+put_ends {t = t} {now = now} h none = sym (append-nil now) ∙ ap (λ (l : List Instr). now ++ program_bytes t l) (sym none) ∙ h.same
+
+pub room_fits : {t : Target} {all rest more : List Instr} {i : Instr} {room left : ℕ} → RoomLeft t all rest room left → rest ≡ i ∷ more → InstrFits t i
+room_fits {t = t} h one = (subst (AllByRecursion (InstrFits t)) one h.fits).0
+
+module _ {t : Target} {all rest more : List Instr} {i : Instr} {room left len : ℕ} (h : RoomLeft t all rest room left) (one : rest ≡ i ∷ more) (is : len ≡ length (instr_bytes t i)) where
+  long : length (program_bytes t rest) ≡ length (instr_bytes t i) + length (program_bytes t more)
+  long = ap (λ (l : List Instr). length (program_bytes t l)) one ∙ length-append (instr_bytes t i) (program_bytes t more)
+
+  pub room_over : {r : Option ℕ} → left < len → r ≡ None → Leaves room (length (program_bytes t all)) r
+  room_over over none = let so = h.same in subst (Leaves room (length (program_bytes t all))) (sym none) (omega (arith, so, long, is, over))
+
+  pub room_next : {next : ℕ} → next + len ≡ left → RoomLeft t all more room next
+  room_next less = let so = h.same in record { same = omega (arith, so, long, is, less); fits = (subst (AllByRecursion (InstrFits t)) one h.fits).1 }
+
+pub room_ends : {t : Target} {all rest : List Instr} {room left : ℕ} → RoomLeft t all rest room left → rest ≡ [] → left + length (program_bytes t all) ≡ room
+room_ends {t = t} h none = let so = h.same in let empty = ap (λ (l : List Instr). length (program_bytes t l)) none in omega (arith, so, empty)
