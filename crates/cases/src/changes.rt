@@ -1,12 +1,16 @@
 //! The addresses at which the rules of an FDE change, each with its row, by both calls.
 
+ghost use Rattle.std.specs.Prelude.{◌≡◌};
+
 use crate::texts::{located_text, row_text};
 use dw_section::{Changes, FdeRef, Table};
 use std::alloc::Global;
 use std::test::Fail;
 
 // The next change by the call that copies its row, and nothing behind the last one.
-fn next_given(alloc: Global, changes: &mut Changes<'_>) -> Result<String, Fail> {
+fn next_given(alloc: Global, changes: &mut Changes<'_>) -> Result<String, Fail>
+    ensures { changes.new.section ≡ changes.old.section }
+{
     match changes.next()? {
         Some((address, row)) => located_text(alloc, address, &row),
         None => Ok(String::new(alloc)),
@@ -84,4 +88,28 @@ pub fn changes_text(alloc: Global, table: &Table<'_>) -> Result<String, Fail> {
     let mut text = String::new(alloc);
     put_changes(alloc, &mut text, table, &mut table.no_changes())?;
     Ok(text)
+}
+
+/// The first change of the FDE of an address, by both calls that go on in the room of changes of the section, and what the second
+/// answers: how many bytes its own program has, how many that of its CIE, and the CIE whose row it begins with.
+pub fn opening_text<'a>(
+    alloc: Global,
+    table: &Table<'a>,
+    changes: &mut Changes<'a>,
+    address: u64,
+) -> Result<String, Fail>
+    requires { changes.old.section ≡ table.now }
+    ensures { changes.new.section ≡ table.now }
+{
+    let Some(fde) = table.fde_at(address) else {
+        return Err(Fail::new("no FDE"));
+    };
+    table.go_on(changes, fde);
+    let first = next_given(alloc, changes)?;
+    let opening = table.go_on_opening(changes, fde);
+    if first != next_given(alloc, changes)? {
+        return Err(Fail::new("both calls differ"));
+    }
+    let (own, initial) = (opening.own, opening.initial);
+    Ok(format!(in alloc; "{first} {own} {initial} {:?}", opening.cie_at)?)
 }

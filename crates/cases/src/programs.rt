@@ -6,7 +6,7 @@ ghost use Rattle.dw_num.specs.Target.{address_limit};
 use crate::lines::{compare, number, parts, sides};
 use crate::targets::{BIG, LITTLE, PLAIN, SHORT};
 use crate::texts::{located_text, refusal_text, row_text};
-use dw_cfa::{CieMachine, Factors, LocatedRow, Row, RowSteps, initial_row, run};
+use dw_cfa::{CieMachine, Factors, LocatedRow, Row, RowRoom, RowSteps, RowWalk, initial_row, run};
 use dw_num::{Program, ReadError, Target};
 use std::alloc::Global;
 use std::test::Fail;
@@ -413,6 +413,70 @@ fn starts_fdes_from_one_row(rt: HostRuntime) -> Result<(), Fail> {
     agree_following(rt.alloc(), &mut machine)?;
     let initial = row_text(rt.alloc(), machine.initial())?;
     compare("the initial row", initial.as_str(), "cfa=r7+8 r16=[cfa-8]")
+}
+
+// ---- whether rows lack a rule for the CFA
+
+// Programs of FDEs behind a CIE without rules, and whether an address from 0x1000 to 0x1010 has no rule for the CFA.
+const LACKS: [(&[u8], bool); 6] = [
+    (b"", true),
+    (b"\x0c\x07\x08", false),
+    (b"\x41\x0c\x07\x08", true),
+    (b"\x40\x0c\x07\x08", false),
+    (b"\x0a\x0c\x07\x08\x50\x0b", false),
+    (b"\x0a\x0c\x07\x08\x4f\x0b", true),
+];
+
+fn lacks_rule(alloc: Global, fde: &[u8]) -> Result<bool, Fail> {
+    let mut machine = machine_of(alloc, b"\0")?;
+    machine.begin(program(fde, 0x28)?, 0x1000)?;
+    Ok(machine.lacks_rule(0x1010)?)
+}
+
+#[test]
+fn asks_rows_for_the_cfa(rt: HostRuntime) -> Result<(), Fail> {
+    for (fde, wanted) in LACKS {
+        assert!(rt; lacks_rule(rt.alloc(), fde)? == wanted, "{fde:?}");
+    }
+    Ok(())
+}
+
+// ---- room that is kept
+
+// The row of an address, in room for it.
+fn run_to(alloc: Global, pair: Pair<'_>, address: u64) -> Result<String, Fail> {
+    if address < pair.begin {
+        return Err(Fail::new("an address before all rows"));
+    }
+    let Pair { cie, fde, .. } = pair;
+    let mut room = RowRoom::new(alloc);
+    room.run_to(cie, fde, pair.begin, pair.factors, pair.target, address)?;
+    row_text(alloc, room.row())
+}
+
+// The first row of an FDE that a walk goes to and then goes on to, and whether it and the next one are the first row that was
+// kept.
+fn walked(alloc: Global, pair: Pair<'_>) -> Result<String, Fail> {
+    let Pair { cie, fde, .. } = pair;
+    let _rows = run(alloc, cie, fde, pair.begin, pair.factors, pair.target)?;
+    let mut walk = RowWalk::new(alloc, pair.target);
+    walk.go_to(cie, fde, pair.begin, pair.factors, pair.target);
+    let _ = walk.advance()?;
+    walk.keep()?;
+    walk.go_on(fde, pair.begin);
+    let _ = walk.advance()?;
+    let (row, same) = (row_text(alloc, walk.row())?, walk.is_kept());
+    let _ = walk.advance()?;
+    Ok(format!(in alloc; "{row} {same} {}", walk.is_kept())?)
+}
+
+#[test]
+fn keeps_room(rt: HostRuntime) -> Result<(), Fail> {
+    let pair = pair_of(CIE, b"\x0a\x0e\x10\x44\x0b\x44", 0x1000, PLAIN, LITTLE)?;
+    let row = run_to(rt.alloc(), pair, 0x1003)?;
+    compare("a row", row.as_str(), "cfa=r7+16 r16=[cfa-8]")?;
+    let text = walked(rt.alloc(), pair)?;
+    compare("a walk", text.as_str(), "cfa=r7+16 r16=[cfa-8] true false")
 }
 
 // ---- rows that are copied and compared

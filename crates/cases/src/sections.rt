@@ -1,7 +1,7 @@
 //! The sections of the cases, and calls on them: entries, headers, the first fault of a section by its fields and as a
 //! whole, its FDEs, and the changes of their rules.
 
-use crate::changes::{changes_text, narrowed};
+use crate::changes::{changes_text, narrowed, opening_text};
 use crate::lines::{compare, number, parts, sides};
 use crate::targets::{BIG, LITTLE};
 use crate::texts::refusal_text;
@@ -52,6 +52,20 @@ const TWO: &str = "14000000ffffffff040008000178100c0708900100000000\
 0c000000ffffffff04000800017f1000\
 2400000040000000001000000000000010000000000000000c07089008440a0e108610480b000000";
 
+// The section `two`, with 256 nops more in its first CIE: the program of that has 265 bytes.
+const LONG: &str = "14010000ffffffff040008000178100c0708900100000000\
+0000000000000000000000000000000000000000000000000000000000000000\
+0000000000000000000000000000000000000000000000000000000000000000\
+0000000000000000000000000000000000000000000000000000000000000000\
+0000000000000000000000000000000000000000000000000000000000000000\
+0000000000000000000000000000000000000000000000000000000000000000\
+0000000000000000000000000000000000000000000000000000000000000000\
+0000000000000000000000000000000000000000000000000000000000000000\
+0000000000000000000000000000000000000000000000000000000000000000\
+240000000000000000104000000000001000000000000000410e108602430d064b0c070800000000\
+0c000000ffffffff04000800017f1000\
+2400000040010000001000000000000010000000000000000c07089008440a0e108610480b000000";
+
 // A section of size 4, big.
 const LARGE: &str = "00000010ffffffff04000400047c410c01000000\
 00000014000000001000040000000040420e1011417f0000";
@@ -68,6 +82,7 @@ fn digits_of(name: &str) -> &str {
         "scrambled" => SCRAMBLED,
         "wide" => WIDE,
         "two" => TWO,
+        "long" => LONG,
         "large" => LARGE,
         _ => name,
     }
@@ -383,4 +398,21 @@ fn narrows_a_row(rt: HostRuntime) -> Result<(), Fail> {
     let table = table_of(alloc, &bytes, LITTLE)?;
     let text = second_narrowed(alloc, &table, 0x1000)?;
     compare("the second row", text.as_str(), "cfa=r7+16 r16=[cfa-8]")
+}
+
+// The FDE of the long CIE, that of the other one, and the first once more.
+#[test]
+fn goes_on_to_fdes(rt: HostRuntime) -> Result<(), Fail> {
+    let alloc = rt.alloc();
+    let bytes = section_of(alloc, "long")?;
+    let table = table_of(alloc, &bytes, LITTLE)?;
+    let mut changes = table.no_changes();
+    let first = "0x401000 cfa=r7+8 r16=[cfa-8]; 16 265 Some(0)";
+    let text = opening_text(alloc, &table, &mut changes, 0x401000)?;
+    compare("the first FDE", text.as_str(), first)?;
+    let text = opening_text(alloc, &table, &mut changes, 0x1000)?;
+    let second = "0x1000 cfa=r7+8 r16=[cfa-8]; 16 1 None";
+    compare("the second FDE", text.as_str(), second)?;
+    let text = opening_text(alloc, &table, &mut changes, 0x401000)?;
+    compare("the first FDE again", text.as_str(), first)
 }
