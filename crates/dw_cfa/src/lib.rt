@@ -37,7 +37,7 @@ pub use instr::{Factors, Instr};
 pub use instructions::Instructions;
 pub use laws::{behind_laws, initial_laws, row_laws};
 pub use near_slots::NearRules;
-pub use opening::moves_first;
+pub use opening::{FirstRow, first_row};
 pub use room::RowRoom;
 pub use row::{Row, Specified};
 pub use row_walk::RowWalk;

@@ -1,15 +1,47 @@
 //! How an FDE's program begins (6.4.3).
 
-ghost use Rattle.std.specs.Prelude.{◌≡◌, List};
+ghost use Rattle.std.specs.Prelude.{◌≡◌, ◌<◌, IsTrue, List, if◌then◌else◌};
+ghost use Rattle.dw_num.specs.declared.target.Target.{Target as TheTarget};
 ghost use Rattle.dw_cfa.specs.declared.instr.Instr.{Instr as TheInstr};
+ghost use Rattle.dw_cfa.specs.declared.opening.FirstRow.TheVariants.{Initial, CfaOffset, Other};
 ghost use Rattle.dw_cfa.specs.InstrSpells.{Program as ProgramSpells};
 ghost use Rattle.dw_cfa.specs.Listing.{answers};
-ghost use Rattle.dw_cfa.specs.Opening.{moves_first};
-ghost use Rattle.dw_cfa.specs.Inner.Opening.{answers_move};
+ghost use Rattle.dw_cfa.specs.Opening.{first_row};
+ghost use Rattle.dw_cfa.specs.Inner.Opening.{answers_move, answers_row};
 
 use crate::instr::{Factors, Instr};
 use crate::instructions::Instructions;
 use dw_num::{Program, Target};
+
+/// The row at an FDE's begin, where the first instructions of its program tell it.
+#[derive(Clone, Copy, Debug, PartialEq, Eq)]
+pub enum FirstRow {
+    /// The row that the program of its CIE leaves.
+    Initial,
+    /// That row with this offset of the CFA, by a `DW_CFA_def_cfa_offset` or `DW_CFA_def_cfa_offset_sf`.
+    CfaOffset(i64),
+    /// They do not tell it.
+    Other,
+}
+
+// Whether a code is `DW_CFA_advance_loc` by more than 0.
+#[inline(always)]
+fn moves_on(code: u8, factors: Factors) -> bool
+    ensures { IsTrue result → (0x40 < code) × (code < 0x80) × (0 < factors.code_factor) }
+{
+    0x40 < code && code < 0x80 && factors.code_factor > 0
+}
+
+// Whether the first code is that, as it mostly is.
+#[inline(always)]
+fn moves_at_once(bytes: &[u8], factors: Factors) -> bool
+    ensures { IsTrue result → (target : TheTarget) (instrs : List TheInstr) → ProgramSpells target factors instrs bytes.now → first_row instrs ≡ Initial }
+{
+    match bytes.first() {
+        Some(code) => moves_on(*code, factors),
+        None => false,
+    }
+}
 
 // Whether the first of the instructions to come that is no nop advances the location by more than 0.
 fn next_moves(instrs: &mut Instructions<'_>) -> bool
@@ -25,11 +57,53 @@ fn next_moves(instrs: &mut Instructions<'_>) -> bool
     true
 }
 
-/// Whether the first instruction of an FDE's program that is not `DW_CFA_nop` advances the location by more than 0, or it has
-/// none: then each column has its initial rule at the FDE's begin. False for a `DW_CFA_set_loc`. Takes no memory.
-pub fn moves_first(program: Program<'_>, factors: Factors, target: Target) -> bool
-    ensures { (instrs : List TheInstr) → ProgramSpells target factors instrs program.entry.bytes.now → result ≡ moves_first instrs }
+// The row where the first instruction is an advance, which moves the location on or not.
+fn row_at(moves: bool) -> FirstRow
+    ensures { result ≡ (if moves then Initial else Other) }
 {
+    if moves {
+        return FirstRow::Initial;
+    }
+    FirstRow::Other
+}
+
+// The row where the instructions to come follow one that gives the CFA an offset.
+fn row_behind(offset: i64, instrs: &mut Instructions<'_>) -> FirstRow
+    ensures { result ≡ (if answers_move (answers instrs.old) then CfaOffset offset else Other) }
+{
+    if next_moves(instrs) {
+        return FirstRow::CfaOffset(offset);
+    }
+    FirstRow::Other
+}
+
+// The row where a program has these instructions. Apart from `first_row`, since most programs move at once.
+#[inline(never)]
+fn row_of(instrs: &mut Instructions<'_>) -> FirstRow
+    ensures { result ≡ answers_row (answers instrs.old) }
+{
+    'instrs: while let Some(answer) = instrs.next() {
+        match answer {
+            Ok(Instr::Nop) => {}
+            Ok(Instr::Advance(delta)) => return row_at(delta > 0),
+            Ok(Instr::DefCfaOffset(offset)) => return row_behind(offset, instrs),
+            _ => return FirstRow::Other,
+        }
+    }
+    FirstRow::Initial
+}
+
+/// The row at an FDE's begin, by its program's first instructions that are not `DW_CFA_nop`: where the first one advances the
+/// location by more than 0, or there is none, it is the row that its CIE's program leaves; and where a `DW_CFA_def_cfa_offset` or
+/// `DW_CFA_def_cfa_offset_sf` comes before, it is that row with this offset of the CFA. `Other` for a `DW_CFA_set_loc`, which may
+/// stay where it is. Takes no memory.
+#[inline(always)]
+pub fn first_row(program: Program<'_>, factors: Factors, target: Target) -> FirstRow
+    ensures { (instrs : List TheInstr) → ProgramSpells target factors instrs program.entry.bytes.now → result ≡ first_row instrs }
+{
+    if moves_at_once(program.bytes, factors) {
+        return FirstRow::Initial;
+    }
     let mut instrs = Instructions::new(program, factors, target);
-    next_moves(&mut instrs)
+    row_of(&mut instrs)
 }

@@ -1,4 +1,4 @@
--- An FDE that begins with the row of a CIE leaves the rows of the groups as they are, where another one of the CIE came before.
+-- An FDE that begins with a row of a CIE leaves the rows of the groups as they are, where another one with this row came before.
 use Rattle.std.proofs.Common.{Equal, eq-eqb, ◌≡◌, ℕ, zero, suc, ◌<◌, true, false, List, [], ◌∷◌, length, take, get_or, Option, Some, None, refl, sym, ap, ◌∙◌, subst, inl, inr, arith}
 use Rattle.std.specs.Prelude.{nat_eq, nat_lt, IfSome}
 use Rattle.std.specs.BTreeMap.{insert_entry}
@@ -10,6 +10,7 @@ use Rattle.dw_num.specs.Input.{AreBytes}
 use Rattle.dw_cfa.specs.Inner.Agreement.{agreed}
 use Rattle.dw_cfa.specs.Rows.{Rules}
 use Rattle.dw_section.specs.Accepted.{Accepted}
+use Rattle.dw_section.specs.declared.opening.CieRow.{CieRow}
 use Rattle.dw_section.specs.Opening.{OpensBehind}
 use Rattle.dw_section.specs.Fits.{RowFits}
 use Rattle.dw_section.proofs.Lent.Judged.{all_get}
@@ -69,7 +70,7 @@ some_fits t row (m ∷ ms) h = h
 row_fits : (t : Target) (xs : List Member) (q : ℕ) → AllByRecursion (MemberFits t) xs → IfSome (row_of (initial_rows xs) q) (RowFits t)
 row_fits t xs q h = subst (λ (o : Option Rules). IfSome o (RowFits t)) (sym (look_members (initial_of xs) q xs)) (some_fits t (initial_of xs q) (group q xs) (group_fits t xs q h))
 
--- ---- another FDE of a CIE
+-- ---- another FDE that begins with a row of a CIE
 
 -- with the same first row, and later ones that specify what it does
 again_same : (t : Target) (rows : List (ℕ × Rules)) (n m : Member) → IfSome (row_of rows n.register) (RowFits t) → MemberFits t n → m.register ≡ n.register → m.first ≡ n.first
@@ -85,41 +86,41 @@ again_same t rows n m h k register first specify =
     ap (λ (r : ℕ). insert_entry nat_cmp made r (kept_by (begun_with (row_of made r) m.first) m.later)) register ∙ ap (insert_entry nat_cmp made q) there ∙ written_twice q v rows
 
 module _ (t : Target) (s : List ℕ) (b : AreBytes s) (ok : Accepted t s) (ms : List Member) (are : AreMembers t s ms) where
-  opened_member : (d : Member) (k at : ℕ) → k < length ms → (o : OpensBehind t s (fde_of (get_or ms k d)) at) → Opened o.initial ((get_or ms k d).begin, (get_or ms k d).first) (get_or ms k d).later
-  opened_member d k at lt o =
+  opened_member : (d : Member) (k : ℕ) (row : CieRow) → k < length ms → (o : OpensBehind t s (fde_of (get_or ms k d)) row) → Opened o.initial row.cfa_offset ((get_or ms k d).begin, (get_or ms k d).first) (get_or ms k d).later
+  opened_member d k row lt o =
       let m = get_or ms k d in
       let is = all_get (IsMember t s) ms k d are.each lt in
       let some : m.begin < m.end = all_get (λ (n : Member). n.begin < n.end) ms k d (nonempty t s b ok ms are) lt in
-      opened t s b ok (fde_of m) at (m.begin, m.first) m.later o some is
+      opened t s b ok (fde_of m) row (m.begin, m.first) m.later o some is
 
-  pub joined : (d : Member) (place k at : ℕ) → place < length ms → k < length ms → (rows : List (ℕ × Rules)) → rows ≡ initial_rows (take place ms) → OpensBehind t s (fde_of (get_or ms place d)) at
-      → OpensBehind t s (fde_of (get_or ms k d)) at → (get_or ms k d).register ≡ (get_or ms place d).register → with_member (with_member rows (get_or ms place d)) (get_or ms k d) ≡ with_member rows (get_or ms place d)
-  joined d place k at lt less rows is o p register =
+  pub joined : (d : Member) (place k : ℕ) (row : CieRow) → place < length ms → k < length ms → (rows : List (ℕ × Rules)) → rows ≡ initial_rows (take place ms) → OpensBehind t s (fde_of (get_or ms place d)) row
+      → OpensBehind t s (fde_of (get_or ms k d)) row → (get_or ms k d).register ≡ (get_or ms place d).register → with_member (with_member rows (get_or ms place d)) (get_or ms k d) ≡ with_member rows (get_or ms place d)
+  joined d place k row lt less rows is o p register =
       let n = get_or ms place d in
       let m = get_or ms k d in
-      let own = opened_member d place at lt o in
-      let other = opened_member d k at less p in
+      let own = opened_member d place row lt o in
+      let other = opened_member d k row less p in
       let all = fits t s b ok ms are in
-      let first : m.first ≡ n.first = one_first t s b ok (fde_of m) (fde_of n) at (m.begin, m.first) (n.begin, n.first) m.later n.later p o other own in
+      let first : m.first ≡ n.first = one_first t s b ok (fde_of m) (fde_of n) row (m.begin, m.first) (n.begin, n.first) m.later n.later p o other own in
       let here = subst (λ (l : List (ℕ × Rules)). IfSome (row_of l n.register) (RowFits t)) (sym is) (row_fits t (take place ms) n.register (all_taken (MemberFits t) place ms all)) in
       again_same t rows n m here (all_get (MemberFits t) ms place d all lt) register first other.specify
 
 -- ---- what a group was joined with
 
-pub joined_is : (t : Target) (s : List ℕ) (rows : List (ℕ × Rules)) (joined : Option Joined) (cie_at : Option ℕ) (register : ℕ) → (at : ℕ) × (cie_at ≡ Some at) × (joined ≡ Some (record { cie_at = at; register = register }))
-    → HasJoined t s rows joined → (ms : List Member) → AreMembers t s ms → (d : Member) (k : ℕ) → k < length ms → IfSome cie_at (OpensBehind t s (fde_of (get_or ms k d))) → (get_or ms k d).register ≡ register
+pub joined_is : (t : Target) (s : List ℕ) (rows : List (ℕ × Rules)) (joined : Option Joined) (row : Option CieRow) (register : ℕ) → (own : CieRow) × (row ≡ Some own) × (joined ≡ Some (record { row = own; register = register }))
+    → HasJoined t s rows joined → (ms : List Member) → AreMembers t s ms → (d : Member) (k : ℕ) → k < length ms → IfSome row (OpensBehind t s (fde_of (get_or ms k d))) → (get_or ms k d).register ≡ register
     → with_member rows (get_or ms k d) ≡ rows
-joined_is t s rows joined cie_at register x has ms are d k lt opens same =
+joined_is t s rows joined row register x has ms are d k lt opens same =
     let there = subst (HasJoined t s rows) x.2 has in
-    let own = subst (λ (o : Option ℕ). IfSome o (OpensBehind t s (fde_of (get_or ms k d)))) x.1 opens in
+    let own = subst (λ (o : Option CieRow). IfSome o (OpensBehind t s (fde_of (get_or ms k d)))) x.1 opens in
     there ms are d k lt own same
 
-pub then_joined : (t : Target) (s : List ℕ) → AreBytes s → Accepted t s → (place register : ℕ) (cie_at : Option ℕ) (old new : List (ℕ × Rules)) → ((ms : List Member) → AreMembers t s ms → place < length ms)
-    → ((ms : List Member) → AreMembers t s ms → (d : Member) → IfSome cie_at (OpensBehind t s (fde_of (get_or ms place d)))) → ((ms : List Member) → AreMembers t s ms → old ≡ initial_rows (take place ms))
+pub then_joined : (t : Target) (s : List ℕ) → AreBytes s → Accepted t s → (place register : ℕ) (row : Option CieRow) (old new : List (ℕ × Rules)) → ((ms : List Member) → AreMembers t s ms → place < length ms)
+    → ((ms : List Member) → AreMembers t s ms → (d : Member) → IfSome row (OpensBehind t s (fde_of (get_or ms place d)))) → ((ms : List Member) → AreMembers t s ms → old ≡ initial_rows (take place ms))
     → ((ms : List Member) → AreMembers t s ms → (d : Member) → new ≡ with_member old (get_or ms place d)) → ((ms : List Member) → AreMembers t s ms → (d : Member) → (get_or ms place d).register ≡ register)
-    → HasJoined t s new (joined_by cie_at register)
+    → HasJoined t s new (joined_by row register)
 then_joined t s b ok place register None old new lt opens rows made own = tt
-then_joined t s b ok place register (Some at) old new lt opens rows made own = λ ms are d k less p same.
+then_joined t s b ok place register (Some row) old new lt opens rows made own = λ ms are d k less p same.
     let m = get_or ms k d in
     let is = made ms are d in
-    ap (λ (l : List (ℕ × Rules)). with_member l m) is ∙ joined t s b ok ms are d place k at (lt ms are) less old (rows ms are) (opens ms are d) p (same ∙ sym (own ms are d)) ∙ sym is
+    ap (λ (l : List (ℕ × Rules)). with_member l m) is ∙ joined t s b ok ms are d place k row (lt ms are) less old (rows ms are) (opens ms are d) p (same ∙ sym (own ms are d)) ∙ sym is

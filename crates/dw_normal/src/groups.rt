@@ -1,12 +1,13 @@
 //! The initial row of each return register, found in one pass over the FDEs.
 
-ghost use Rattle.std.specs.Prelude.{◌≡◌, ℕ, [], ◌<◌, ◌≤◌, List, length, slice_index_or, take, Some, IfOk, IfSome, IsTrue, OnOk};
+ghost use Rattle.std.specs.Prelude.{◌≡◌, [], ◌<◌, ◌≤◌, List, length, slice_index_or, take, Some, IfOk, IfSome, IsTrue, OnOk};
 ghost use Rattle.std.specs.BTreeMap.{insert_entry};
 ghost use Rattle.std.specs.Ordering.{nat_cmp};
 ghost use Rattle.dw_cfa.specs.Rows.{Rules};
 ghost use Rattle.dw_section.specs.declared.lookup.Fde.{Fde as TheFde};
 ghost use Rattle.dw_section.specs.Changes.{kept_by};
 ghost use Rattle.dw_section.specs.Meaning.{AreFdes, ChangesOf};
+ghost use Rattle.dw_section.specs.declared.opening.CieRow.{CieRow as TheRow};
 ghost use Rattle.dw_section.specs.Opening.{OpensBehind};
 ghost use Rattle.dw_canon.specs.Inner.Canon.{canon};
 ghost use Rattle.dw_canon.specs.Members.{Member, AreMembers};
@@ -16,7 +17,7 @@ ghost use Rattle.dw_normal.specs.Inner.ChangeWalk.{BehindFirst};
 
 use crate::bound::add_share;
 use dw_cfa::Row;
-use dw_section::{Changes, FdeRef, Table};
+use dw_section::{Changes, CieRow, FdeRef, Table};
 use std::alloc::{AllocError, Global};
 use std::collections::BTreeMap;
 
@@ -113,31 +114,31 @@ fn add_fde<'a>(
     begin_group(rows, changes, register)
 }
 
-/// A CIE whose row FDEs begin with, which the row of a group was narrowed to, and the return register of the group.
+/// A row that FDEs begin with, which the row of a group was narrowed to, and the return register of the group.
 #[derive(Clone, Copy)]
 pub(crate) struct Joined {
-    pub(crate) cie_at: u64,
+    pub(crate) row: CieRow,
     pub(crate) register: u16,
 }
 
-// Whether an FDE that begins with the row of a CIE is one of those.
+// Whether an FDE that begins with a row of a CIE is one of those.
 #[inline(always)]
-fn is_joined(joined: Option<Joined>, cie_at: Option<u64>, register: u16) -> bool
-    ensures { IsTrue result → (at : ℕ) × (cie_at ≡ Some at) × (joined ≡ Some (record { cie_at = at; register = register })) }
+fn is_joined(joined: Option<Joined>, row: Option<CieRow>, register: u16) -> bool
+    ensures { IsTrue result → (own : TheRow) × (row ≡ Some own) × (joined ≡ Some (record { row = own; register = register })) }
 {
-    match (joined, cie_at) {
-        (Some(joined), Some(at)) => joined.cie_at == at && joined.register == register,
+    match (joined, row) {
+        (Some(joined), Some(own)) => joined.row == own && joined.register == register,
         _ => false,
     }
 }
 
-// The CIE whose row an FDE of a group begins with, where that is known.
+// The row that an FDE of a group begins with, where that is known.
 #[inline(always)]
-fn joined_by(cie_at: Option<u64>, register: u16) -> Option<Joined>
-    ensures { result ≡ joined_by cie_at register }
+fn joined_by(row: Option<CieRow>, register: u16) -> Option<Joined>
+    ensures { result ≡ joined_by row register }
 {
-    match cie_at {
-        Some(cie_at) => Some(Joined { cie_at, register }),
+    match row {
+        Some(row) => Some(Joined { row, register }),
         None => None,
     }
 }
@@ -150,12 +151,12 @@ fn join_fde<'a>(
     changes: &mut Changes<'a>,
     table: &Table<'a>,
     fde: FdeRef,
-    cie_at: Option<u64>,
+    row: Option<CieRow>,
     joined: Option<Joined>,
 ) -> Result<Option<Joined>, AllocError>
     requires place { (fs : List TheFde) → AreFdes table.now.target table.now.bytes fs → fde.place < length fs }
     requires changes { (fs : List TheFde) → AreFdes table.now.target table.now.bytes fs → (d : TheFde) → ChangesOf table.now.target table.now.bytes (slice_index_or fs fde.place d) changes.old.to_come }
-    requires opens { (fs : List TheFde) → AreFdes table.now.target table.now.bytes fs → (d : TheFde) → IfSome cie_at (OpensBehind table.now.target table.now.bytes (slice_index_or fs fde.place d)) }
+    requires opens { (fs : List TheFde) → AreFdes table.now.target table.now.bytes fs → (d : TheFde) → IfSome row (OpensBehind table.now.target table.now.bytes (slice_index_or fs fde.place d)) }
     requires rows { (ms : List Member) → AreMembers table.now.target table.now.bytes ms → rows.old.entries ≡ initial_rows (take fde.place ms) }
     requires joined { HasJoined table.now.target table.now.bytes rows.old.entries joined }
     ensures rows { (ms : List Member) → AreMembers table.now.target table.now.bytes ms → (d : Member) → OnOk result (rows.new.entries ≡ with_member rows.old.entries (slice_index_or ms fde.place d)) }
@@ -164,12 +165,12 @@ fn join_fde<'a>(
 {
     table.accepted();
     let register = table.fde(fde).return_register;
-    if is_joined(joined, cie_at, register) {
+    if is_joined(joined, row, register) {
         return Ok(joined);
     }
     show_first(changes, table, fde)?;
     add_fde(rows, changes, table, fde)?;
-    Ok(joined_by(cie_at, register))
+    Ok(joined_by(row, register))
 }
 
 // The same over changes of the table, into rows that are lent.
@@ -192,7 +193,7 @@ fn gather<'a>(
         let fde = FdeRef { place };
         let opening = table.go_on_opening(changes, fde);
         total = add_share(total, opening.own, opening.initial, cap);
-        joined = join_fde(rows, changes, table, fde, opening.cie_at, joined)?;
+        joined = join_fde(rows, changes, table, fde, opening.row, joined)?;
     }
     Ok(total.is_some())
 }

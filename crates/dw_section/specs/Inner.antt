@@ -21,3 +21,4 @@ pub mod Stage
 pub mod Table
 pub mod StandingFde
 pub mod Sound
+pub mod Opening

@@ -1,20 +1,21 @@
 -- How an FDE's program begins: DWARF 5, 6.4.3.
-use Rattle.std.specs.Prelude.{◌≡◌, ℕ, true, List}
+use Rattle.std.specs.Prelude.{◌≡◌, ℕ, List}
 use Rattle.dw_num.specs.declared.target.Target.{Target}
 use Rattle.dw_cfa.specs.declared.instr.Instr.{Instr}
-use Rattle.dw_cfa.specs.Opening.{moves_first}
+use Rattle.dw_cfa.specs.Opening.{first_row, row_with}
 use Rattle.dw_section.specs.declared.lookup.Fde.{Fde}
+use Rattle.dw_section.specs.declared.opening.CieRow.{CieRow}
 use Rattle.dw_section.specs.Headers.{CieHead}
 use Rattle.dw_section.specs.Meaning.{Says}
 use Rattle.dw_section.specs.Programs.{Begins}
 
--- the CIE of an FDE stands at this place, and the FDE's own program advances the location first: so at its begin the rules are those
--- that the CIE's program leaves
-pub record OpensBehind (target : Target) (s : List ℕ) (f : Fde) (place : ℕ) : Type 0 where
+-- the FDE's CIE stands at the place of the row, and by its own program its first row is the one that the CIE's program leaves, with
+-- the row's offset of the CFA where it has one
+pub record OpensBehind (target : Target) (s : List ℕ) (f : Fde) (row : CieRow) : Type 0 where
   pub initial : List Instr
   pub instrs : List Instr
   pub says : Says target s f.begin f.end initial instrs
-  pub named : place ≡ says.head.cie_at
+  pub named : row.cie_at ≡ says.head.cie_at
   pub head : CieHead
-  pub begins : Begins target says.headers place head initial
-  pub moves : moves_first instrs ≡ true
+  pub begins : Begins target says.headers row.cie_at head initial
+  pub first : first_row instrs ≡ row_with row.cfa_offset

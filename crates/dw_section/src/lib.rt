@@ -30,7 +30,7 @@ pub use fde_range::Ranged;
 pub use header::{Header, headers, one_first_fault, one_order};
 pub use laws::section_laws;
 pub use lookup::{Fde, FdeRef, Fdes};
-pub use opening::Opening;
+pub use opening::{CieRow, Opening};
 pub use standing_fde::{LookUpError, StandingFde, look_up};
 pub use table::{Table, check, one_check_fault};
 pub use table_lookup::Lookups;

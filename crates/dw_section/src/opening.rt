@@ -1,20 +1,31 @@
 //! How an FDE's program begins.
 
-ghost use Rattle.std.specs.Prelude.{◌≡◌, ◌<◌, ℕ, false, if◌then◌else◌, List, length, slice_index_or, Some, None, IfSome};
+ghost use Rattle.std.specs.Prelude.{◌≡◌, ◌<◌, false, List, length, slice_index_or, None, IfSome};
 ghost use Rattle.std.specs.Option.{IsSome};
 ghost use Rattle.dw_cfa.specs.declared.instr.Instr.{Instr};
 ghost use Rattle.dw_cfa.specs.InstrSpells.{Program as ProgramSpells};
-ghost use Rattle.dw_cfa.specs.Opening.{moves_first};
+ghost use Rattle.dw_cfa.specs.Opening.{first_row};
 ghost use Rattle.dw_section.specs.declared.lookup.Fde.{Fde as TheFde};
 ghost use Rattle.dw_section.specs.Meaning.{AreFdes, ChangesOf, HasLengths};
 ghost use Rattle.dw_section.specs.Opening.{OpensBehind};
+ghost use Rattle.dw_section.specs.declared.opening.CieRow.{CieRow as TheRow};
+ghost use Rattle.dw_section.specs.Inner.Opening.{row_behind};
 
 use crate::change::Changes;
 use crate::listed_fde::FoundFde;
 use crate::lookup::FdeRef;
 use crate::table::Table;
-use dw_cfa::moves_first;
+use dw_cfa::{FirstRow, first_row};
 use dw_num::Target;
+
+/// A row that FDEs of one CIE begin with: the one that the program of the CIE leaves, or that with another offset of the CFA.
+#[derive(Clone, Copy, Debug, PartialEq, Eq)]
+pub struct CieRow {
+    /// The place of the CIE.
+    pub cie_at: u64,
+    /// The offset of the CFA that the programs of the FDEs give, or none where the CFA is the CIE's.
+    pub cfa_offset: Option<i64>,
+}
 
 /// How long an FDE's programs are, and how its own begins.
 #[derive(Clone, Copy, Debug, PartialEq, Eq)]
@@ -23,22 +34,34 @@ pub struct Opening {
     pub own: usize,
     /// How many bytes the program of its CIE has.
     pub initial: usize,
-    /// The place of its CIE, where the first instruction of its own program that is not `DW_CFA_nop` advances the location by
-    /// more than 0, or it has none: then the rules at its begin are those that the CIE's program leaves.
-    pub cie_at: Option<u64>,
+    /// The row at its begin, where the first instructions of its own program tell it (`first_row` of `dw_cfa`).
+    pub row: Option<CieRow>,
+}
+
+// The row that such a program begins with, behind the CIE at this place.
+#[inline(always)]
+fn row_behind(cie_at: u64, first: FirstRow) -> Option<CieRow>
+    ensures { result ≡ row_behind cie_at first }
+{
+    let cfa_offset = match first {
+        FirstRow::Initial => None,
+        FirstRow::CfaOffset(offset) => Some(offset),
+        FirstRow::Other => return None,
+    };
+    Some(CieRow { cie_at, cfa_offset })
 }
 
 #[inline(always)]
 fn opening_in(found: FoundFde<'_>, target: Target) -> Opening
     ensures own { result.own ≡ length found.entry.program.bytes.now }
     ensures initial { result.initial ≡ length found.entry.cie_program.bytes.now }
-    ensures cie_at { (instrs : List Instr) → ProgramSpells target found.entry.factors instrs found.entry.program.bytes.now → result.cie_at ≡ (if moves_first instrs then Some found.entry.cie_at else None) }
+    ensures row { (instrs : List Instr) → ProgramSpells target found.entry.factors instrs found.entry.program.bytes.now → result.row ≡ row_behind found.entry.cie_at (first_row instrs) }
 {
-    let moves = moves_first(found.program, found.factors, target);
+    let first = first_row(found.program, found.factors, target);
     Opening {
         own: found.program.bytes.len(),
         initial: found.cie_program.bytes.len(),
-        cie_at: if moves { Some(found.cie_at) } else { None },
+        row: row_behind(found.cie_at, first),
     }
 }
 
@@ -52,8 +75,8 @@ impl<'a> Table<'a> {
         ensures section { changes.new.section ≡ self.now }
         ensures changes { (fs : List TheFde) → AreFdes self.now.target self.now.bytes fs → (d : TheFde) → ChangesOf self.now.target self.now.bytes (slice_index_or fs fde.place d) changes.new.to_come }
         ensures lengths { (fs : List TheFde) → AreFdes self.now.target self.now.bytes fs → (d : TheFde) → HasLengths self.now.target self.now.bytes (slice_index_or fs fde.place d) result.own result.initial }
-        ensures opens { (fs : List TheFde) → AreFdes self.now.target self.now.bytes fs → (d : TheFde) → IfSome result.cie_at (OpensBehind self.now.target self.now.bytes (slice_index_or fs fde.place d)) }
-        ensures only { (fs : List TheFde) → AreFdes self.now.target self.now.bytes fs → (d : TheFde) (place : ℕ) → OpensBehind self.now.target self.now.bytes (slice_index_or fs fde.place d) place → IsSome result.cie_at }
+        ensures opens { (fs : List TheFde) → AreFdes self.now.target self.now.bytes fs → (d : TheFde) → IfSome result.row (OpensBehind self.now.target self.now.bytes (slice_index_or fs fde.place d)) }
+        ensures only { (fs : List TheFde) → AreFdes self.now.target self.now.bytes fs → (d : TheFde) (row : TheRow) → OpensBehind self.now.target self.now.bytes (slice_index_or fs fde.place d) row → IsSome result.row }
     {
         self.accepted();
         opening_in(self.led(changes, fde), self.target)

@@ -16,8 +16,8 @@ returns-then-is_joined-clause-rows c = λ ms are d.
     let at = get_or-map fde_of ms c.args.fde.place d in
     let lt = subst (λ (n : ℕ). c.args.fde.place < n) (length-map ms fde_of) (c.requires.place (map fde_of ms) are.fdes) in
     let fde = c.fde-register.ensures (map fde_of ms) are.fdes (fde_of d) ∙ at in
-    let opens = subst (λ (f : Fde). IfSome c.args.cie_at (OpensBehind t s f)) at (c.requires.opens (map fde_of ms) are.fdes (fde_of d)) in
-    sym (joined_is t s c.args.rows.now.entries c.args.joined c.args.cie_at c.fde-register.result.return_register (c.is_joined.ensures c.if-is_joined.true) c.requires.joined ms are d c.args.fde.place lt opens
+    let opens = subst (λ (f : Fde). IfSome c.args.row (OpensBehind t s f)) at (c.requires.opens (map fde_of ms) are.fdes (fde_of d)) in
+    sym (joined_is t s c.args.rows.now.entries c.args.joined c.args.row c.fde-register.result.return_register (c.is_joined.ensures c.if-is_joined.true) c.requires.joined ms are d c.args.fde.place lt opens
     (ap (λ (f : Fde). f.return_register) (sym fde)))
 
 pub returns-clause-joined : goal.returns-clause-joined
@@ -27,9 +27,9 @@ returns-clause-joined c =
     let place = c.args.fde.place in
     let register = c.fde-register.result.return_register in
     let lt : (ms : List Member) → AreMembers t s ms → place < length ms = λ ms are. subst (λ (n : ℕ). place < n) (length-map ms fde_of) (c.requires.place (map fde_of ms) are.fdes) in
-    let opens : (ms : List Member) → AreMembers t s ms → (d : Member) → IfSome c.args.cie_at (OpensBehind t s (fde_of (get_or ms place d))) = λ ms are d.
-    subst (λ (f : Fde). IfSome c.args.cie_at (OpensBehind t s f)) (get_or-map fde_of ms place d) (c.requires.opens (map fde_of ms) are.fdes (fde_of d)) in
+    let opens : (ms : List Member) → AreMembers t s ms → (d : Member) → IfSome c.args.row (OpensBehind t s (fde_of (get_or ms place d))) = λ ms are d.
+    subst (λ (f : Fde). IfSome c.args.row (OpensBehind t s f)) (get_or-map fde_of ms place d) (c.requires.opens (map fde_of ms) are.fdes (fde_of d)) in
     let own : (ms : List Member) → AreMembers t s ms → (d : Member) → (get_or ms place d).register ≡ register = λ ms are d.
     ap (λ (f : Fde). f.return_register) (sym (c.fde-register.ensures (map fde_of ms) are.fdes (fde_of d) ∙ get_or-map fde_of ms place d)) in
     subst (HasJoined t s c.add_fde.new.rows.entries) (sym c.joined_by.ensures)
-    (then_joined t s c.accepted.ensures.bytes c.accepted.ensures.accepted place register c.args.cie_at c.args.rows.now.entries c.add_fde.new.rows.entries lt opens c.requires.rows c.in_ok-add_fde.ensures.rows own)
+    (then_joined t s c.accepted.ensures.bytes c.accepted.ensures.accepted place register c.args.row c.args.rows.now.entries c.add_fde.new.rows.entries lt opens c.requires.rows c.in_ok-add_fde.ensures.rows own)

@@ -20,12 +20,12 @@ pub returns-clause-opens : goal.returns-clause-opens
 returns-clause-opens c = λ fs are d.
     let t = c.args.self.now.target in
     let s = c.args.self.now.bytes in
-    subst (λ (f : Fde). IfSome c.opening_in.result.cie_at (OpensBehind t s f)) (c.led.ensures.is fs are d)
-    (found_opening t s c.led.result c.led.ensures.found c.led.ensures.led c.opening_in.result.cie_at (subst (λ (own : Target). Opens own c.led.result c.opening_in.result.cie_at) (ap (λ (x : Section). x.target) c.self.view_is) c.opening_in.ensures.cie_at))
+    subst (λ (f : Fde). IfSome c.opening_in.result.row (OpensBehind t s f)) (c.led.ensures.is fs are d)
+    (found_opening t s c.led.result c.led.ensures.found c.led.ensures.led c.opening_in.result.row (subst (λ (own : Target). Opens own c.led.result c.opening_in.result.row) (ap (λ (x : Section). x.target) c.self.view_is) c.opening_in.ensures.row))
 
 pub returns-clause-only : goal.returns-clause-only
-returns-clause-only c = λ fs are d place opens.
+returns-clause-only c = λ fs are d row opens.
     let t = c.args.self.now.target in
     let s = c.args.self.now.bytes in
-    only_opening t s c.accepted.ensures.bytes c.accepted.ensures.accepted c.led.result c.led.ensures.found c.opening_in.result.cie_at (subst (λ (own : Target). Opens own c.led.result c.opening_in.result.cie_at) (ap (λ (x : Section). x.target) c.self.view_is) c.opening_in.ensures.cie_at) place
-    (subst (λ (f : Fde). OpensBehind t s f place) (sym (c.led.ensures.is fs are d)) opens)
+    only_opening t s c.accepted.ensures.bytes c.accepted.ensures.accepted c.led.result c.led.ensures.found c.opening_in.result.row (subst (λ (own : Target). Opens own c.led.result c.opening_in.result.row) (ap (λ (x : Section). x.target) c.self.view_is) c.opening_in.ensures.row) row
+    (subst (λ (f : Fde). OpensBehind t s f row) (sym (c.led.ensures.is fs are d)) opens)
