@@ -2,6 +2,7 @@
 
 ghost use Rattle.std.specs.Prelude.{◌≡◌};
 
+use crate::lines::compare;
 use crate::texts::{located_text, row_text};
 use dw_section::{Changes, FdeRef, Table};
 use std::alloc::Global;
@@ -90,9 +91,9 @@ pub fn changes_text(alloc: Global, table: &Table<'_>) -> Result<String, Fail> {
     Ok(text)
 }
 
-/// The first change of the FDE of an address, by both calls that go on in the room of changes of the section, and what the second
-/// answers: how many bytes its own program has, how many that of its CIE, and the CIE whose row it begins with.
-pub fn opening_text<'a>(
+// The first change of the FDE of an address, by both calls that go on in the room of changes of the section, and what the second
+// answers: how many bytes its own program has, how many that of its CIE, and the CIE whose row it begins with.
+fn opening_text<'a>(
     alloc: Global,
     table: &Table<'a>,
     changes: &mut Changes<'a>,
@@ -112,4 +113,37 @@ pub fn opening_text<'a>(
     }
     let (own, initial) = (opening.own, opening.initial);
     Ok(format!(in alloc; "{first} {own} {initial} {:?}", opening.cie_at)?)
+}
+
+fn agree<'a>(
+    alloc: Global,
+    table: &Table<'a>,
+    changes: &mut Changes<'a>,
+    address: u64,
+    wanted: &str,
+) -> Result<(), Fail>
+    requires { changes.old.section ≡ table.now }
+    ensures { changes.new.section ≡ table.now }
+{
+    let text = opening_text(alloc, table, changes, address)?;
+    compare("an FDE", text.as_str(), wanted)
+}
+
+fn agree_in_turn<'a>(
+    alloc: Global,
+    table: &Table<'a>,
+    changes: &mut Changes<'a>,
+) -> Result<(), Fail>
+    requires { changes.old.section ≡ table.now }
+{
+    let first = "0x401000 cfa=r7+8 r16=[cfa-8]; 16 265 Some(0)";
+    let second = "0x1000 cfa=r7+8 r16=[cfa-8]; 16 1 None";
+    agree(alloc, table, changes, 0x401000, first)?;
+    agree(alloc, table, changes, 0x1000, second)?;
+    agree(alloc, table, changes, 0x401000, first)
+}
+
+/// Goes on from an FDE of the section `long` to another one and back, and fails where one begins otherwise.
+pub fn agree_on_openings(alloc: Global, table: &Table<'_>) -> Result<(), Fail> {
+    agree_in_turn(alloc, table, &mut table.no_changes())
 }

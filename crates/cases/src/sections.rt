@@ -1,7 +1,7 @@
 //! The sections of the cases, and calls on them: entries, headers, the first fault of a section by its fields and as a
 //! whole, its FDEs, and the changes of their rules.
 
-use crate::changes::{changes_text, narrowed, opening_text};
+use crate::changes::{agree_on_openings, changes_text, narrowed};
 use crate::lines::{compare, number, parts, sides};
 use crate::targets::{BIG, LITTLE};
 use crate::texts::refusal_text;
@@ -400,19 +400,11 @@ fn narrows_a_row(rt: HostRuntime) -> Result<(), Fail> {
     compare("the second row", text.as_str(), "cfa=r7+16 r16=[cfa-8]")
 }
 
-// The FDE of the long CIE, that of the other one, and the first once more.
+// Goes on to the FDE of the long CIE, to that of the other one, and to the first once more.
 #[test]
 fn goes_on_to_fdes(rt: HostRuntime) -> Result<(), Fail> {
     let alloc = rt.alloc();
     let bytes = section_of(alloc, "long")?;
     let table = table_of(alloc, &bytes, LITTLE)?;
-    let mut changes = table.no_changes();
-    let first = "0x401000 cfa=r7+8 r16=[cfa-8]; 16 265 Some(0)";
-    let text = opening_text(alloc, &table, &mut changes, 0x401000)?;
-    compare("the first FDE", text.as_str(), first)?;
-    let text = opening_text(alloc, &table, &mut changes, 0x1000)?;
-    let second = "0x1000 cfa=r7+8 r16=[cfa-8]; 16 1 None";
-    compare("the second FDE", text.as_str(), second)?;
-    let text = opening_text(alloc, &table, &mut changes, 0x401000)?;
-    compare("the first FDE again", text.as_str(), first)
+    agree_on_openings(alloc, &table)
 }
