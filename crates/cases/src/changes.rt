@@ -92,7 +92,7 @@ pub fn changes_text(alloc: Global, table: &Table<'_>) -> Result<String, Fail> {
 }
 
 // The first change of the FDE of an address, by both calls that go on in the room of changes of the section, and what the second
-// answers: how many bytes its own program has, how many that of its CIE, and the CIE whose row it begins with.
+// answers: how many bytes its own program has, how many that of its CIE, and the row of its CIE that it begins with.
 fn opening_text<'a>(
     alloc: Global,
     table: &Table<'a>,
@@ -112,7 +112,7 @@ fn opening_text<'a>(
         return Err(Fail::new("both calls differ"));
     }
     let (own, initial) = (opening.own, opening.initial);
-    Ok(format!(in alloc; "{first} {own} {initial} {:?}", opening.cie_at)?)
+    Ok(format!(in alloc; "{first} {own} {initial} {:?}", opening.row)?)
 }
 
 fn agree<'a>(
@@ -136,7 +136,8 @@ fn agree_in_turn<'a>(
 ) -> Result<(), Fail>
     requires { changes.old.section ≡ table.now }
 {
-    let first = "0x401000 cfa=r7+8 r16=[cfa-8]; 16 265 Some(0)";
+    let first =
+        "0x401000 cfa=r7+8 r16=[cfa-8]; 16 265 Some(CieRow { cie_at: 0, cfa_offset: None })";
     let second = "0x1000 cfa=r7+8 r16=[cfa-8]; 16 1 None";
     agree(alloc, table, changes, 0x401000, first)?;
     agree(alloc, table, changes, 0x1000, second)?;
