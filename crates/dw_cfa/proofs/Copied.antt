@@ -1,6 +1,7 @@
 -- Slots that are copied by a mask.
-use Rattle.std.proofs.Common.{◌≡◌, ◌⊎◌, ℕ, ◌+◌, ◌<◌, ◌≤◌, List, get_or, refl, sym, ap, ◌∙◌, subst, arith, inl, inr}
-use Rattle.std.specs.Prelude.{nat_eq, ◌/◌, ◌^◌, bit_or, if◌then◌else◌}
+use Rattle.std.proofs.lemmas.Bool.Decides.{nat_tests}
+use Rattle.std.proofs.Common.{◌≡◌, ◌⊎◌, ℕ, ◌+◌, ◌<◌, ◌≤◌, List, get_or, refl, sym, ap, ◌∙◌, arith, inl, inr}
+use Rattle.std.specs.Prelude.{nat_eq, ◌/◌, ◌^◌, bit_or}
 use Rattle.std.specs.Int.{bit_at, trailing_zeros, w32}
 use Rattle.std.proofs.lemmas.Bool.{cases_Bool, cases_lt, eqb-true}
 use Rattle.std.proofs.lemmas.List.{length-set, get_or-set_same, get_or-set_other}
@@ -32,14 +33,7 @@ module _ (used : ℕ) (old others : List Slot) where
   pub one_copied : (k p : ℕ) (s : Slot) (new : List Slot) → k < 32 → p ≡ k → bit_at used k ≡ 1 → ((d : Slot) → s ≡ get_or others k d) → CopiedBelow used old others k new → CopiedBelow used old others (k + 1) (set new p s)
   one_copied k p s new lt at one is h = record {
     slots = length-set new p s ∙ h.slots;
-    below = λ q d low. elim (cases_lt q k) [
-      | inl less ↦ get_or-set_other new p q s d (λ same. omega arith) ∙ h.below q d less
-      | inr ge ↦
-          let here : q ≡ k = omega arith in
-          subst (λ (q : ℕ). get_or (set new p s) q d ≡ (if nat_eq (bit_at used q) 0 then get_or old q d else get_or others q d)) (sym here)
-          (subst (λ (p : ℕ). get_or (set new p s) k d ≡ (if nat_eq (bit_at used k) 0 then get_or old k d else get_or others k d)) (sym at)
-          (get_or-set_same new k s d (omega (arith, h.slots)) ∙ is d ∙ rw one refl))
-    ];
+    below = λ q d low. grind (arith, nat_tests, get_or-set_same new p s d, get_or-set_other new p q s d, h.slots, h.below q d, h.above q d, is d, one);
     above = λ q d past. get_or-set_other new p q s d (λ same. omega arith) ∙ h.above q d (omega arith);
   }
 

@@ -3,16 +3,13 @@ use Rattle.std.proofs.Common.{◌≡◌, ℕ, ◌<◌, ◌≤◌, ◌⊎◌, Boo
 use Rattle.std.specs.Prelude.{nat_lt, ◌&&◌, ◌||◌}
 use Rattle.std.specs.Bool.{MatchBool}
 use Rattle.std.proofs.lemmas.Bool.Decides.{nat_tests}
-use Rattle.std.proofs.lemmas.Bool.{cases_lt, le-leb, lt-ltb, le-ltb}
+use Rattle.std.proofs.lemmas.Bool.{cases_lt, le-leb}
 use Rattle.dw_cfa.proofs.Types.{CfaRule, LocatedRow, Rules}
 use Rattle.dw_cfa.specs.declared.rule.CfaRule.TheVariants.{Unset}
 use Rattle.dw_cfa.specs.Coverage.{Lacks}
 use Rattle.dw_cfa.specs.RuleAt.{or_here, last_at, NeverFalls}
 use Rattle.dw_cfa.specs.Inner.Coverage.{is_unset, leaves_one, lacks_from}
 use Rattle.dw_cfa.proofs.Lent.RowsAt.{last_from, none_at, not_le}
-
-lt_tells : (m n : ℕ) → ((nat_lt m n ≡ true) × (m < n)) ⊎ ((nat_lt m n ≡ false) × (n ≤ m))
-lt_tells m n = elim (cases_lt m n) [ inl lt ↦ inl (lt-ltb m n lt, lt) | inr le ↦ inr (le-ltb m n le, le) ]
 
 -- ---- the row of an address
 
@@ -34,21 +31,13 @@ or_false true y e = absurd cc
 or_false false y e = (refl, e)
 
 left_true : (end low location : ℕ) (unset : Bool) → leaves_one end low unset location ≡ true → (unset ≡ true) × (low < location) × (low < end)
-left_true end low location false e = absurd cc
-left_true end low location true e = elim (lt_tells low location) [
-  | inl p ↦ elim (lt_tells low end) [
-    | inl q ↦ (refl, p.1, q.1)
-    | inr q ↦ absurd (let z = rw (p.0, q.0) at e in cc)
-  ]
-  | inr p ↦ absurd (let z = rw (p.0) at e in cc)
-]
+left_true end low location unset e = (grind (arith, nat_tests), grind (arith, nat_tests), grind (arith, nat_tests))
 
 left_false : (end low location : ℕ) (unset : Bool) → low < location → low < end → leaves_one end low unset location ≡ false → unset ≡ false
 left_false end low location unset lt le e = grind (arith, nat_tests)
 
 last_true : (end low : ℕ) (unset : Bool) → (unset && nat_lt low end) ≡ true → (unset ≡ true) × (low < end)
-last_true end low false e = absurd cc
-last_true end low true e = elim (lt_tells low end) [ inl p ↦ (refl, p.1) | inr p ↦ absurd (let z = rw (p.0) at e in cc) ]
+last_true end low unset e = (grind (arith, nat_tests), grind (arith, nat_tests))
 
 last_false : (end low : ℕ) (unset : Bool) → low < end → (unset && nat_lt low end) ≡ false → unset ≡ false
 last_false end low unset lt e = grind (arith, nat_tests)

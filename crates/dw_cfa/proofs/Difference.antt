@@ -1,13 +1,13 @@
 -- The first register whose rule differs between two rows.
 use Rattle.std.proofs.Common.{◌≡◌, ℕ, suc, ◌+◌, ◌<◌, ◌≤◌, Bool, true, false, List, [], ◌∷◌, get_or, Option, Some, None, refl, sym, ap, ◌∙◌, subst, arith, inl, inr}
-use Rattle.std.specs.Prelude.{nat_eq, ◌/◌, ◌^◌, bit_or}
+use Rattle.std.specs.Prelude.{◌/◌, ◌^◌, bit_or}
 use Rattle.std.specs.Int.{bit_at, trailing_zeros, w32}
 use Rattle.std.specs.List.{filter}
 use Rattle.std.specs.Ordering.{nat_cmp}
 use Rattle.std.specs.BTreeMap.Range.{range_contains}
 use Rattle.std.specs.declared.ops.Bound.TheVariants.{Excluded, Unbounded}
 use Rattle.std.proofs.lemmas.Bool.Decides.{nat_tests}
-use Rattle.std.proofs.lemmas.Bool.{cases_Bool, cases_lt, eqb-true}
+use Rattle.std.proofs.lemmas.Bool.{cases_lt}
 use Rattle.dw_cfa.proofs.Types.{Entries, Kind, RegRule, Slot}
 use Rattle.dw_cfa.specs.declared.rule.RegRule.TheVariants.{Unspecified}
 use Rattle.dw_cfa.specs.declared.row.Kind.TheVariants as kinds
@@ -47,14 +47,7 @@ module _ (x y : Entry) (xs ys : List Entry) (up : AreSpecified 0 (x ∷ xs)) (up
   rest_same r e = grind (arith, nat_tests)
 
   rest_differs : (q : ℕ) → (rule_in xs q ≡ rule_in ys q → ⊥) → rule_in (x ∷ xs) q ≡ rule_in (y ∷ ys) q → ⊥
-  rest_differs q e = elim (cases_Bool (nat_eq x.0 q)) [
-    | inl f ↦
-        let here = eqb-true x.0 q f in
-        let one : rule_in xs q ≡ Unspecified = unlisted q (suc x.0) xs up.2 (omega arith) in
-        let two : rule_in ys q ≡ Unspecified = unlisted q (suc y.0) ys up'.2 (omega arith) in
-        λ same. e (one ∙ sym two)
-    | inr f ↦ let g : nat_eq y.0 q ≡ false = subst (λ (n : ℕ). nat_eq n q ≡ false) at f in rw (f, g) e
-  ]
+  rest_differs q e both = grind (arith, nat_tests, unlisted q (suc x.0) xs up.2, unlisted q (suc y.0) ys up'.2, e)
 
   heads_same : (o : Option ℕ) → FirstDifference 0 xs ys o → FirstDifference 0 (x ∷ xs) (y ∷ ys) o
   heads_same None h = λ r le. rest_same r (h r le)
@@ -129,26 +122,21 @@ abbrev pub FromOn : (Entry → Bool) → ℕ → Type 0
 FromOn p from = (x : Entry) → ((from ≤ x.0) → p x ≡ true) × ((x.0 < from) → p x ≡ false)
 
 module _ (p : Entry → Bool) (from low : ℕ) (on : FromOn p from) where
-  kept_rule : (xs : List Entry) → AreSpecified low xs → (r : ℕ) → from ≤ r → rule_in (filter p xs) r ≡ rule_in xs r
-  kept_rule xs up r le = let yes = (on (r, rule_in xs r)).0 le in filter_rule p low xs r up ∙ rw yes refl
+  kept_rule : (xs left : List Entry) → AreSpecified low xs → left ≡ filter p xs → (r : ℕ) → from ≤ r → rule_in left r ≡ rule_in xs r
+  kept_rule xs left up e r le = let yes = (on (r, rule_in xs r)).0 le in ap (λ (l : List Entry). rule_in l r) e ∙ filter_rule p low xs r up ∙ rw yes refl
 
-  dropped_rule : (xs : List Entry) → AreSpecified low xs → (r : ℕ) → r < from → rule_in (filter p xs) r ≡ Unspecified
-  dropped_rule xs up r lt = let no = (on (r, rule_in xs r)).1 lt in filter_rule p low xs r up ∙ rw no refl
+  dropped_rule : (xs left : List Entry) → AreSpecified low xs → left ≡ filter p xs → (r : ℕ) → r < from → rule_in left r ≡ Unspecified
+  dropped_rule xs left up e r lt = let no = (on (r, rule_in xs r)).1 lt in ap (λ (l : List Entry). rule_in l r) e ∙ filter_rule p low xs r up ∙ rw no refl
 
   pub first_from : (xs ys xs' ys' : List Entry) → AreSpecified low xs → AreSpecified low ys → xs' ≡ filter p xs → ys' ≡ filter p ys → (o : Option ℕ) → FirstDifference 0 xs' ys' o → FirstDifference from xs ys o
-  first_from xs ys xs' ys' up up' e e' None h = λ r le. sym (kept_rule xs up r le) ∙ sym (ap (λ (l : List Entry). rule_in l r) e) ∙ h r (omega arith) ∙ ap (λ (l : List Entry). rule_in l r) e' ∙ kept_rule ys up' r le
+  first_from xs ys xs' ys' up up' e e' None h = λ r le. sym (kept_rule xs xs' up e r le) ∙ h r (omega arith) ∙ kept_rule ys ys' up' e' r le
   first_from xs ys xs' ys' up up' e e' (Some q) h = elim (cases_lt q from) [
-    | inl lt ↦
-        let one : rule_in xs' q ≡ Unspecified = ap (λ (l : List Entry). rule_in l q) e ∙ dropped_rule xs up q lt in
-        let two : rule_in ys' q ≡ Unspecified = ap (λ (l : List Entry). rule_in l q) e' ∙ dropped_rule ys up' q lt in
-        absurd (h.2 (one ∙ sym two))
-    | inr ge ↦
-        let one : rule_in xs' q ≡ rule_in xs q = ap (λ (l : List Entry). rule_in l q) e ∙ kept_rule xs up q ge in
-        let two : rule_in ys' q ≡ rule_in ys q = ap (λ (l : List Entry). rule_in l q) e' ∙ kept_rule ys up' q ge in (
-          ge,
-          (λ r le lt. sym (kept_rule xs up r le) ∙ sym (ap (λ (l : List Entry). rule_in l r) e) ∙ h.1 r (omega arith) lt ∙ ap (λ (l : List Entry). rule_in l r) e' ∙ kept_rule ys up' r le),
-          λ same. h.2 (one ∙ same ∙ sym two),
-        )
+    | inl lt ↦ absurd (h.2 (dropped_rule xs xs' up e q lt ∙ sym (dropped_rule ys ys' up' e' q lt)))
+    | inr ge ↦ (
+      ge,
+      (λ r le lt. sym (kept_rule xs xs' up e r le) ∙ h.1 r (omega arith) lt ∙ kept_rule ys ys' up' e' r le),
+      λ same. h.2 (kept_rule xs xs' up e q ge ∙ same ∙ sym (kept_rule ys ys' up' e' q ge)),
+    )
   ]
 
 -- the part of a tree behind a register
@@ -171,11 +159,6 @@ module _ (e f : Entries) (so : EntriesSo e) (so' : EntriesSo f) (from : ℕ) (ne
   pub first_of_all : (o : Option ℕ) → FirstDifference from e.far.entries f.far.entries o → FirstDifference from (entries_of e) (entries_of f) o
   first_of_all None far = λ r le. all_same (suc r) (λ q low lt. far q low) r le (omega arith)
   first_of_all (Some q) far = elim (cases_lt q 32) [
-    | inl low ↦
-        let one : rule_in e.far.entries q ≡ Unspecified = unlisted q 32 e.far.entries so.far low in
-        let two : rule_in f.far.entries q ≡ Unspecified = unlisted q 32 f.far.entries so'.far low in
-        absurd (far.2 (one ∙ sym two))
-    | inr high ↦
-        let one = (behind q high).0 in let two = (behind q high).1 in
-        (far.0, all_same q far.1, λ same. far.2 (sym one ∙ same ∙ two))
+    | inl low ↦ absurd (far.2 (unlisted q 32 e.far.entries so.far low ∙ sym (unlisted q 32 f.far.entries so'.far low)))
+    | inr high ↦ (far.0, all_same q far.1, λ same. far.2 (sym (behind q high).0 ∙ same ∙ (behind q high).1))
   ]

@@ -1,8 +1,7 @@
 -- Slots that are emptied by a mask.
-use Rattle.std.proofs.Common.{◌≡◌, ℕ, ◌<◌, List, [], length, sym, ap, ◌∙◌, arith, inl, inr}
+use Rattle.std.proofs.Common.{◌≡◌, ℕ, ◌<◌, List, [], length, ◌∙◌, arith}
 use Rattle.std.specs.Prelude.{◌*◌, ◌%◌, ◌^◌, bit_and}
 use Rattle.std.specs.Int.{bit_at, bit_not, w32}
-use Rattle.std.proofs.lemmas.Bool.{cases_lt}
 use Rattle.std.proofs.lemmas.Nat.{and_le_l}
 use Rattle.std.proofs.lemmas.Nat.Bits.{bit_at_clear_same}
 use Rattle.dw_cfa.specs.declared.row.Slot.{Slot}
@@ -13,16 +12,7 @@ use Rattle.dw_cfa.proofs.Slots.{none_used}
 -- a mask from which a bit is taken is less
 pub cleared_less : (n k : ℕ) → k < 32 → bit_at n k ≡ 1 → bit_and n (bit_not w32 (1 * 2 ^ k % 2 ^ 32)) < n
 cleared_less n k lt one =
-    let left = bit_and n (bit_not w32 (1 * 2 ^ k % 2 ^ 32)) in
-    let le = and_le_l n (bit_not w32 (1 * 2 ^ k % 2 ^ 32)) in
-    let none : bit_at left k ≡ 0 = bit_at_clear_same w32 n k lt in
-    elim (cases_lt left n) [
-      | inl less ↦ less
-      | inr ge ↦
-          let same : left ≡ n = omega (arith, le, ge) in
-          let zero : bit_at n k ≡ 0 = sym (ap (λ (m : ℕ). bit_at m k) same) ∙ none in
-          absurd (omega (arith, one, zero))
-    ]
+    grind (arith, and_le_l n (bit_not w32 (1 * 2 ^ k % 2 ^ 32)), bit_at_clear_same w32 n k lt)
 
 -- slots of which none is used list no register
 pub none_listed : (near : List Slot) (expressions far : List Entry) → Covers 0 near → length near ≡ 32 → far ≡ [] → listed_near 0 near expressions far ≡ []

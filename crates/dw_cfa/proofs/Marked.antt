@@ -1,10 +1,10 @@
 -- The registers that were set since a row was kept: those without a mark have the same rules in both rows.
 use Rattle.std.proofs.Common.{◌≡◌, ℕ, suc, ◌+◌, ◌<◌, ◌≤◌, Bool, List, [], ◌∷◌, Option, refl, sym, ap, ◌∙◌, subst, arith, inl, inr}
-use Rattle.std.specs.Prelude.{nat_eq, ◌*◌, ◌%◌, ◌^◌, bit_or, not, is_some, IsTrue, Result, Ok, Err, IfOk, OnOk, OnErr}
+use Rattle.std.specs.Prelude.{◌*◌, ◌%◌, ◌^◌, bit_or, not, is_some, IsTrue, Result, Ok, Err, IfOk, OnOk, OnErr}
 use Rattle.std.specs.Int.{bit_at, w32}
 use Rattle.std.specs.List.{filter}
 use Rattle.std.proofs.lemmas.Bool.Decides.{nat_tests}
-use Rattle.std.proofs.lemmas.Bool.{cases_Bool, cases_lt, eqb-true, eqb-false}
+use Rattle.std.proofs.lemmas.Bool.{cases_lt}
 use Rattle.std.proofs.lemmas.Nat.Bits.{bit_at_set_same}
 use Rattle.dw_cfa.proofs.Types.{Marks, RegRule, Rules}
 use Rattle.dw_cfa.specs.declared.rule.RegRule.TheVariants.{Unspecified, SameValue}
@@ -16,7 +16,7 @@ use Rattle.dw_cfa.specs.Inner.Marks.{CopiedUpTo, MarksMore, MarksSo, SameUnliste
 use Rattle.dw_cfa.proofs.Lent.RowLists.{Entry, lower, put_rule, unlisted}
 use Rattle.dw_cfa.proofs.Difference.{FromOn}
 use Rattle.dw_cfa.proofs.Lent.Narrowed.{filter_keeps, filter_rule}
-use Rattle.dw_cfa.proofs.Lent.SameRows.{one_row, rest_rule}
+use Rattle.dw_cfa.proofs.Lent.SameRows.{one_row}
 use Rattle.dw_cfa.proofs.Lent.Skipped.{same_exactly}
 
 -- ---- a register that is put
@@ -39,10 +39,7 @@ pub far_marked : (r : ℕ) (far : List Entry) → AreSpecified 0 far → rule_in
 far_marked r far up none = not_marked (sym (same_rule_set r r SameValue far up refl) ∙ none)
 
 pub far_more : (r q : ℕ) (far : List Entry) → AreSpecified 0 far → rule_in (put r SameValue far) q ≡ Unspecified → rule_in far q ≡ Unspecified
-far_more r q far up none = elim (cases_Bool (nat_eq r q)) [
-  | inl e ↦ absurd (not_marked (sym (same_rule_set r q SameValue far up (sym (eqb-true r q e))) ∙ none))
-  | inr e ↦ sym (other_rule r q SameValue far up (λ same. eqb-false r q e (sym same))) ∙ none
-]
+far_more r q far up none = grind (arith, nat_tests, put_rule r SameValue 0 far q up, not_marked)
 
 pub tree_more : {X E : Type 0} (result : Result X E) (r : ℕ) (far far' : List Entry) → AreSpecified 0 far → OnOk result (far' ≡ put r SameValue far) → OnErr result (far' ≡ far)
     → (q : ℕ) → rule_in far' q ≡ Unspecified → rule_in far q ≡ Unspecified
@@ -85,30 +82,19 @@ kept_exactly a b o none cfa up up' h is =
 
 module _ (xs old new : List Entry) (k : ℕ) (h : CopiedUpTo k xs old new) where
   between_copied : (to r : ℕ) → SameBetween k to old xs → r < to → rule_in new r ≡ rule_in xs r
-  between_copied to r same lt = elim (cases_lt r k) [
-    | inl low ↦ h.below r low
-    | inr high ↦ h.above r high ∙ same r high lt
-  ]
+  between_copied to r same lt = grind (arith, h.below r, h.above r, same r)
 
   pub copied_on : (to : ℕ) → k ≤ to → SameBetween k to old xs → CopiedUpTo to xs old new
   copied_on to le same = record { below = λ r lt. between_copied to r same lt; above = λ r high. h.above r (omega arith) }
 
   pub copied_next : (q : ℕ) → k ≤ q → SameBetween k q old xs → AreSpecified 0 new → CopiedUpTo (q + 1) xs old (put q (rule_in xs q) new)
   copied_next q le same up = record {
-    below = λ r lt. elim (cases_lt r q) [
-      | inl low ↦ other_rule q r (rule_in xs q) new up (λ e. omega (arith, e)) ∙ between_copied q r same low
-      | inr high ↦ let at : r ≡ q = omega arith in same_rule_set q r (rule_in xs q) new up at ∙ sym (ap (rule_in xs) at)
-    ];
-    above = λ r high. other_rule q r (rule_in xs q) new up (λ e. omega (arith, e)) ∙ h.above r (omega arith);
+    below = λ r lt. grind (arith, nat_tests, put_rule q (rule_in xs q) 0 new r up, between_copied q r same);
+    above = λ r high. grind (arith, nat_tests, put_rule q (rule_in xs q) 0 new r up, h.above r);
   }
 
 pub far_copied : (xs new left rest : List Entry) (x : Entry) → left ≡ x ∷ rest → AreSpecified 0 new → SameUnlisted 0 left new xs → SameUnlisted 0 rest (put x.0 (rule_in xs x.0) new) xs
-far_copied xs new left rest x e up same r le none = elim (cases_Bool (nat_eq x.0 r)) [
-  | inl is ↦ let at = eqb-true x.0 r is in same_rule_set x.0 r (rule_in xs x.0) new up (sym at) ∙ ap (rule_in xs) at
-  | inr is ↦
-      let not : r ≡ x.0 → ⊥ = λ at. eqb-false x.0 r is (sym at) in
-      other_rule x.0 r (rule_in xs x.0) new up not ∙ same r le (ap (λ (l : List Entry). rule_in l r) e ∙ rest_rule x rest r (λ at. not (sym at)) ∙ none)
-]
+far_copied xs new left rest x e up same r le none = grind (arith, nat_tests, put_rule x.0 (rule_in xs x.0) 0 new r up, ap (λ (l : List Entry). rule_in l r) e, same r le)
 
 module _ (m : Marks) (on : IsTrue m.watched) (kept row : List Entry) (same : SameUnmarked m kept row) where
   pub unset : SameUnset m.near kept row
@@ -145,8 +131,5 @@ module _ (from : ℕ) (left rest kept row : List Entry) (x : Entry) (e : left �
       let at = first_up in
       let ge : from ≤ x.0 = at.0 in (
         lower (suc x.0) from rest (omega arith) at.2,
-        λ r le none. elim (cases_Bool (nat_eq x.0 r)) [
-          | inl is ↦ let here = eqb-true x.0 r is in subst (λ (n : ℕ). rule_in kept n ≡ rule_in row n) here one
-          | inr is ↦ same r le (ap (λ (l : List Entry). rule_in l r) e ∙ rest_rule x rest r (eqb-false x.0 r is) ∙ none)
-        ],
+        λ r le none. grind (arith, nat_tests, ap (λ (l : List Entry). rule_in l r) e, same r le, one),
       )

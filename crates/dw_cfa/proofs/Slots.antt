@@ -4,7 +4,7 @@ use Rattle.std.proofs.Math.Seq.{drop-cons}
 use Rattle.std.proofs.Math.ListN.{drop_of_length-le, replicate}
 use Rattle.std.proofs.lemmas.List.{length-set, get_or-set_same, get_or-set_other, get_or-replicate, length-replicate}
 use Rattle.std.proofs.lemmas.Bool.Decides.{nat_tests}
-use Rattle.std.proofs.lemmas.Bool.{cases_Bool, cases_lt, ne_eqb, eq-eqb, eqb-true, eqb-false}
+use Rattle.std.proofs.lemmas.Bool.{cases_lt, ne_eqb, eq-eqb}
 use Rattle.std.specs.Prelude.{IsTrue, nat_eq, ℤ, pos, Result, Ok, Err, OnOk, OnErr}
 use Rattle.std.specs.Prelude.{◌-◌, ◌*◌, ◌/◌, ◌%◌, ◌^◌, bit_or, bit_and}
 use Rattle.std.specs.Int.{bit_at, bit_not, trailing_zeros, w32}
@@ -75,9 +75,6 @@ has_far near expressions (entry ∷ rest) len up some =
 abbrev pub no_slot : Slot
 no_slot = record { kind = kinds.Empty; register = 0; offset = pos 0 }
 
-by_cases : (r q : ℕ) (rule a b : RegRule) → (q ≡ r → a ≡ rule) → ((q ≡ r → ⊥) → a ≡ b) → a ≡ cond (nat_eq r q) rule b
-by_cases r q rule a b same other = grind (arith, nat_tests)
-
 -- a rule is set in a slot
 pub slot_set : (near : List Slot) (expressions far : List Entry) (r : ℕ) (s : Slot) (expressions' : List Entry) (rule : RegRule)
     → length near ≡ 32 → AreSpecified 32 far → r < 32 → slot_rule s (rule_in expressions' r) ≡ rule → ((q : ℕ) → (q ≡ r → ⊥) → rule_in expressions' q ≡ rule_in expressions q)
@@ -91,17 +88,19 @@ slot_set near expressions far r s expressions' rule len up lt is others =
     rule_now : (q : ℕ) → rule_in (listed_near 0 (set near r s) expressions' far) q ≡ cond (nat_eq r q) rule (rule_in (listed_near 0 near expressions far) q)
     rule_now q =
         let len' : length (set near r s) ≡ 32 = length-set near r s ∙ len in
-        by_cases r q rule (rule_in (listed_near 0 (set near r s) expressions' far) q) (rule_in (listed_near 0 near expressions far) q)
-        (λ at. near_rule (set near r s) expressions' far len' up q s (omega arith)
-        ∙ ap (λ (m : ℕ). slot_rule (get_or (set near r s) m s) (rule_in expressions' m)) at
-        ∙ ap (λ (x : Slot). slot_rule x (rule_in expressions' r)) (get_or-set_same near r s s (omega arith)) ∙ is)
-        (λ not. elim (cases_lt q 32) [
-          | inl low ↦ near_rule (set near r s) expressions' far len' up q s low
-              ∙ ap (λ (x : Slot). slot_rule x (rule_in expressions' q)) (get_or-set_other near r q s s not)
-              ∙ ap (λ (x : RegRule). slot_rule (get_or near q s) x) (others q not)
-              ∙ sym (near_rule near expressions far len up q s low)
-          | inr high ↦ far_rule (set near r s) expressions' far len' up q (omega arith) ∙ sym (far_rule near expressions far len up q (omega arith))
-        ])
+        grind (
+          arith,
+          nat_tests,
+          near_rule (set near r s) expressions' far len' up q s,
+          near_rule near expressions far len up q s,
+          far_rule (set near r s) expressions' far len' up q,
+          far_rule near expressions far len up q,
+          get_or-set_same near r s s,
+          get_or-set_other near r q s s,
+          others q,
+          is,
+          len,
+        )
 
 -- a rule is set behind the slots
 pub far_set : (near : List Slot) (expressions far : List Entry) (r : ℕ) (rule : RegRule) (far' : List Entry)
@@ -113,14 +112,17 @@ far_set near expressions far r rule far' len up le is =
     (λ q. rule_now up' q ∙ sym (put_rule r rule 0 (listed_near 0 near expressions far) q (slots_ascend near expressions far len up)))
   where
     rule_now : AreSpecified 32 far' → (q : ℕ) → rule_in (listed_near 0 near expressions far') q ≡ cond (nat_eq r q) rule (rule_in (listed_near 0 near expressions far) q)
-    rule_now up' q = elim (cases_lt q 32) [
-      | inl low ↦
-          let ne : nat_eq r q ≡ false = ne_eqb r q (λ same. omega arith) in
-          rw ne (near_rule near expressions far' len up' q no_slot low ∙ sym (near_rule near expressions far len up q no_slot low))
-      | inr high ↦
-          far_rule near expressions far' len up' q (omega arith) ∙ ap (λ (l : List Entry). rule_in l q) is ∙ put_rule r rule 32 far q up
-          ∙ ap (λ (x : RegRule). cond (nat_eq r q) rule x) (sym (far_rule near expressions far len up q (omega arith)))
-    ]
+    rule_now up' q =
+        grind (
+          arith,
+          nat_tests,
+          is,
+          near_rule near expressions far' len up' q no_slot,
+          near_rule near expressions far len up q no_slot,
+          far_rule near expressions far' len up' q,
+          far_rule near expressions far len up q,
+          put_rule r rule 32 far q up,
+        )
 
 -- ---- the slots one after another
 
@@ -256,30 +258,12 @@ module _ (used : ℕ) (near : List Slot) (covers : Covers used near) (len : leng
       skip_many (trailing_zeros w32 (used / 2 ^ k)) k near expressions far no_slot (omega (arith, z.0)) (λ q low high. covers q no_slot (omega (arith, z.0)) (z.2 q low high))
 
 pub covers_set : (used : ℕ) (near : List Slot) (r p : ℕ) (s : Slot) → Covers used near → length near ≡ 32 → r < 32 → p ≡ r → Covers (bit_or used (1 * 2 ^ r % 2 ^ 32)) (set near p s)
-covers_set used near r p s covers len lt at q d in_near none = elim (cases_Bool (nat_eq r q)) [
-  | inl e ↦
-      let same = eqb-true r q e in
-      let one : bit_at (bit_or used (1 * 2 ^ r % 2 ^ 32)) r ≡ 1 = bit_at_set_same w32 used r lt in
-      let zero_here : bit_at (bit_or used (1 * 2 ^ r % 2 ^ 32)) r ≡ 0 = subst (λ (n : ℕ). bit_at (bit_or used (1 * 2 ^ r % 2 ^ 32)) n ≡ 0) (sym same) none in
-      absurd (omega (arith, one, zero_here))
-  | inr e ↦
-      let other = eqb-false r q e in
-      let inside : q < length near = omega (arith, length-set near p s) in
-      ap (λ (x : Slot). x.kind) (get_or-set_other near p q s d (λ same. other (sym (same ∙ at))))
-      ∙ covers q d inside (sym (bit_at_set_other w32 used r lt q (λ same. other (sym same))) ∙ none)
-]
+covers_set used near r p s covers len lt at q d in_near none =
+    grind (arith, bit_at_set_same w32 used r lt, bit_at_set_other w32 used r lt q, get_or-set_other near p q s d, length-set near p s, covers q d)
 
 pub covers_clear : (used : ℕ) (near : List Slot) (r p : ℕ) (s : Slot) → s.kind ≡ kinds.Empty → Covers used near → length near ≡ 32 → r < 32 → p ≡ r → Covers (bit_and used (bit_not w32 (1 * 2 ^ r % 2 ^ 32))) (set near p s)
-covers_clear used near r p s empty covers len lt at q d in_near none = elim (cases_Bool (nat_eq r q)) [
-  | inl e ↦
-      let same = eqb-true r q e in
-      ap (λ (n : ℕ). (get_or (set near p s) n d).kind) (sym same ∙ sym at) ∙ ap (λ (x : Slot). x.kind) (get_or-set_same near p s d (omega arith)) ∙ empty
-  | inr e ↦
-      let other = eqb-false r q e in
-      let inside : q < length near = omega (arith, length-set near p s) in
-      ap (λ (x : Slot). x.kind) (get_or-set_other near p q s d (λ same. other (sym (same ∙ at))))
-      ∙ covers q d inside (sym (bit_at_clear_other w32 used r lt q (omega arith) (λ same. other (sym same))) ∙ none)
-]
+covers_clear used near r p s empty covers len lt at q d in_near none =
+    grind (arith, bit_at_clear_other w32 used r lt q, get_or-set_same near p s d, get_or-set_other near p q s d, length-set near p s, covers q d, empty)
 
 pub covers_blank : (n used : ℕ) → Covers used (replicate n no_slot)
 covers_blank n used q d lt none = ap (λ (s : Slot). s.kind) (get_or-replicate n q no_slot d (omega (arith, length-replicate n no_slot)))

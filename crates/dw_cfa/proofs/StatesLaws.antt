@@ -1,5 +1,5 @@
 -- Remembered rows, kept by what was changed since.
-use Rattle.std.proofs.Common.{◌≡◌, ℕ, suc, ◌+◌, ◌-◌, ◌<◌, ◌≤◌, Bool, true, false, nat_lt, List, [], ◌∷◌, ◌++◌, length, reverse, Option, Some, None, refl, sym, ap, ◌∙◌, subst, arith}
+use Rattle.std.proofs.Common.{◌≡◌, ℕ, suc, ◌+◌, ◌-◌, ◌<◌, ◌≤◌, Bool, true, false, nat_lt, List, [], ◌∷◌, ◌++◌, length, reverse, Some, None, refl, sym, ap, ◌∙◌, subst, arith}
 use Rattle.std.proofs.lemmas.List.{reverse-append, append-nil}
 use Rattle.std.proofs.lemmas.Bool.{ltb-false}
 use Rattle.dw_cfa.proofs.Types.{CfaRule, RegRule, Rules, Undo}
@@ -51,13 +51,6 @@ unfolding first_registers
 began true initial row same = ap (λ (r : Rules). r.registers) same
 began false initial row same = tt
 
-abbrev make : Rules → List Rules → Option (List (ℕ × RegRule)) → Rules → Held
-make row stack first kept = record { row = row; stack = stack; first = first; kept = kept }
-
-parts : (row row' : Rules) (stack stack' : List Rules) (first first' : Option (List (ℕ × RegRule))) (kept kept' : Rules) → row ≡ row' → stack ≡ stack' → first ≡ first' → kept ≡ kept'
-    → make row stack first kept ≡ make row' stack' first' kept'
-parts row row' stack stack' first first' kept kept' a b c d = rw (a, b, c, d) refl
-
 not_lt : (n : ℕ) → nat_lt 0 n ≡ false → n ≡ 0
 not_lt n e = let le = ltb-false 0 n e in omega arith
 
@@ -82,10 +75,7 @@ module _ (tracked : Bool) (row kept : Rules) (items : List Undo) (now : Held) (i
   first_cfa false cfa = refl
 
   pub cfa_held : (cfa : CfaRule) (row' kept' : Rules) → row' ≡ with_cfa cfa row → kept' ≡ kept → held tracked row' kept' items ≡ record { row = with_cfa cfa now.row; stack = now.stack; first = now.first; kept = now.kept }
-  cfa_held cfa row' kept' new same =
-      ap (λ (k : Rules). held tracked row' k items) same ∙ ap (λ (r : Rules). held tracked r kept items) new
-      ∙ parts (with_cfa cfa row) (with_cfa cfa now.row) (remembered_rows (with_cfa cfa row) (reverse items)) now.stack (first_if tracked (with_cfa cfa row) (reverse items)) now.first kept now.kept
-      (ap (with_cfa cfa) row_is) (cfa_left cfa row (reverse items) ∙ stack_is) (first_cfa tracked cfa ∙ first_is) kept_is
+  cfa_held cfa row' kept' new same = cc (row_is, stack_is, first_is, kept_is, cfa_left cfa row (reverse items), first_cfa tracked cfa)
 
   first_change : (t : Bool) (r : ℕ) (older : RegRule) (row' : Rules) → with_rule r older row' ≡ row → first_if t row' (Register r older ∷ reverse items) ≡ first_if t row (reverse items)
   unfolding first_registers
@@ -100,10 +90,7 @@ module _ (tracked : Bool) (row kept : Rules) (items : List Undo) (now : Held) (i
       → held tracked row' kept' items' ≡ record { row = with_rule r given now.row; stack = now.stack; first = now.first; kept = now.kept }
   change_held r given older row' kept' items' new back same more =
       let c : reverse items' ≡ Register r older ∷ reverse items = ap (λ (l : List Undo). reverse l) more ∙ pushed (Register r older) items in
-      parts row' (with_rule r given now.row) (remembered_rows row' (reverse items')) now.stack (first_if tracked row' (reverse items')) now.first kept' now.kept
-      (new ∙ ap (with_rule r given) row_is)
-      (ap (remembered_rows row') c ∙ stack_change r older row' back ∙ stack_is)
-      (ap (first_if tracked row') c ∙ first_change tracked r older row' back ∙ first_is) (same ∙ kept_is)
+      cc (row_is, stack_is, first_is, kept_is, stack_change r older row' back, first_change tracked r older row' back)
 
   pub change_count : (depth r : ℕ) (older : RegRule) (items' : List Undo) → depth ≡ count_remembered (reverse items) → items' ≡ items ++ Register r older ∷ [] → depth ≡ count_remembered (reverse items')
   unfolding count_remembered
@@ -118,8 +105,7 @@ module _ (tracked : Bool) (row kept : Rules) (items : List Undo) (now : Held) (i
       → held tracked row' kept' items ≡ record { row = with_rule r given now.row; stack = now.stack; first = now.first; kept = now.kept }
   unkept_held r given row' kept' none free new same =
       let empty : count_remembered (reverse items) ≡ 0 = sym (counted row (reverse items)) ∙ ap (λ (l : List Rules). length l) (stack_is ∙ none) in
-      parts row' (with_rule r given now.row) (remembered_rows row' (reverse items)) now.stack (first_if tracked row' (reverse items)) now.first kept' now.kept
-      (new ∙ ap (with_rule r given) row_is) (none_counted row' (reverse items) empty ∙ sym none) (lost tracked (first_is ∙ free) ∙ sym free) (same ∙ kept_is)
+      cc (row_is, kept_is, none_counted row' (reverse items) empty, lost tracked (first_is ∙ free))
     where
       lost : (t : Bool) → first_if t row (reverse items) ≡ None → first_if t row' (reverse items) ≡ None
       lost true e = absurd cc
@@ -138,13 +124,10 @@ module _ (tracked : Bool) (row kept : Rules) (items : List Undo) (now : Held) (i
       → held tracked row kept items' ≡ record { row = now.row; stack = now.row ∷ now.stack; first = now.first; kept = now.kept }
   mark_held cfa items' same more =
       let c : reverse items' ≡ Remembered cfa ∷ reverse items = ap (λ (l : List Undo). reverse l) more ∙ pushed (Remembered cfa) items in
-      parts row now.row (remembered_rows row (reverse items')) (now.row ∷ now.stack) (first_if tracked row (reverse items')) now.first kept now.kept
-      row_is (ap (remembered_rows row) c ∙ stack_mark cfa same ∙ ap (λ (x : Rules). x ∷ remembered_rows row (reverse items)) row_is ∙ ap (λ (l : List Rules). now.row ∷ l) stack_is) (ap (first_if tracked row) c ∙ first_mark tracked cfa ∙ first_is) kept_is
+      cc (row_is, stack_is, first_is, kept_is, stack_mark cfa same, first_mark tracked cfa)
 
   pub kept_held : (row' kept' : Rules) → row' ≡ row → held tracked row' kept' items ≡ record { row = now.row; stack = now.stack; first = now.first; kept = kept' }
-  kept_held row' kept' same =
-      ap (λ (r : Rules). held tracked r kept' items) same
-      ∙ parts row now.row (remembered_rows row (reverse items)) now.stack (first_if tracked row (reverse items)) now.first kept' kept' row_is stack_is first_is refl
+  kept_held row' kept' same = cc (row_is, stack_is, first_is)
 
   pub mark_count : (depth : ℕ) (cfa : CfaRule) (items' : List Undo) → depth ≡ count_remembered (reverse items) → items' ≡ items ++ Remembered cfa ∷ [] → depth + 1 ≡ count_remembered (reverse items')
   unfolding count_remembered

@@ -2,7 +2,8 @@
 use Rattle.std.proofs.Common.{◌≡◌, ℕ, zero, suc, ◌+◌, ◌<◌, ◌≤◌, Bool, true, false, cond, List, [], ◌∷◌, length, Some, None, refl, sym, subst, arith}
 use Rattle.std.specs.Prelude.{IsTrue, slice_get, nat_lt}
 use Rattle.std.proofs.lemmas.List.Sums.{sum_by-cons}
-use Rattle.std.proofs.lemmas.Bool.{lt-ltb, le-ltb, ltb-true, ltb-false}
+use Rattle.std.proofs.lemmas.Bool.Decides.{nat_tests}
+use Rattle.std.proofs.lemmas.Bool.{lt-ltb, le-ltb}
 use Rattle.dw_num.specs.declared.refusal.Code.TheVariants.{LocationTooLarge, StateStackFull, CfaNotRegister}
 use Rattle.dw_cfa.proofs.Types.{CfaRule, Instr, LocatedRow, Placed, Rules, State}
 use Rattle.dw_cfa.specs.declared.instr.Instr.TheVariants.{SetLoc, Advance, DefCfaRegister, DefCfaOffset, RememberState, RestoreState}
@@ -44,17 +45,15 @@ more_restored i earlier = sum_by-cons (λ (x : Instr). cond (is_restore x) 1 0) 
 
 -- ---- one instruction
 
-room_left : (n : ℕ) (b : Bool) → nat_lt n 64 ≡ b → cond b None (Some StateStackFull) ≡ None → n < 64
-room_left n true is e = ltb-true n 64 is
-room_left n false is e = absurd cc
+room_left : (n : ℕ) → cond (nat_lt n 64) None (Some StateStackFull) ≡ None → n < 64
+room_left n e = grind (arith, nat_tests)
 
-not_above : (limit n : ℕ) (b : Bool) → nat_lt limit n ≡ b → cond b (Some LocationTooLarge) None ≡ None → n ≤ limit
-not_above limit n true is e = absurd cc
-not_above limit n false is e = ltb-false limit n is
+not_above : (limit n : ℕ) → cond (nat_lt limit n) (Some LocationTooLarge) None ≡ None → n ≤ limit
+not_above limit n e = grind (arith, nat_tests)
 
 within_after : (limit : ℕ) (initial : Rules) (i : Instr) (s : State) → InLimit limit i → s.location ≤ limit → fde_fault limit i s ≡ None → (after initial i s).location ≤ limit
 within_after limit initial (SetLoc a) s address le e = address
-within_after limit initial (Advance d) s address le e = not_above limit (s.location + d) (nat_lt limit (s.location + d)) refl e
+within_after limit initial (Advance d) s address le e = not_above limit (s.location + d) e
 within_after limit initial RestoreState s address le e = let same = stays initial RestoreState s refl in omega arith
 within_after limit initial i s address le e = le
 
@@ -63,7 +62,7 @@ stack_after : (limit : ℕ) (initial : Rules) (i : Instr) (earlier : List Instr)
     → (length (after initial i (record { row = row; stack = stack; location = location })).stack + restored (i ∷ earlier) ≡ remembered (i ∷ earlier))
     × (length (after initial i (record { row = row; stack = stack; location = location })).stack ≤ 64)
 stack_after limit initial RememberState earlier row stack location b r e =
-    let lt = room_left (length stack) (nat_lt (length stack) 64) refl e in (omega (arith, more_remembered RememberState earlier, more_restored RememberState earlier), omega arith)
+    let lt = room_left (length stack) e in (omega (arith, more_remembered RememberState earlier, more_restored RememberState earlier), omega arith)
 stack_after limit initial RestoreState earlier row [] location b r e = absurd cc
 stack_after limit initial RestoreState earlier row (top ∷ stack) location b r e = (omega (arith, more_remembered RestoreState earlier, more_restored RestoreState earlier), omega arith)
 stack_after limit initial i earlier row stack location b r e = (b, r)

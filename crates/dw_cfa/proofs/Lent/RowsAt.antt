@@ -1,7 +1,7 @@
 -- The rows of a run: where they start, and that the last one that starts at or below an address holds the rules at that address.
 use Rattle.std.proofs.Common.{◌≡◌, ℕ, zero, suc, ◌<◌, ◌≤◌, Bool, true, false, cond, List, [], ◌∷◌, Option, Some, None, refl, sym, ap, ◌∙◌, subst, inl, inr, arith}
-use Rattle.std.proofs.lemmas.Bool.{cases_lt, le-leb, ltb-false}
-use Rattle.std.proofs.lemmas.Bool.Decides.{leb_tells}
+use Rattle.std.proofs.lemmas.Bool.{cases_lt, le-leb}
+use Rattle.std.proofs.lemmas.Bool.Decides.{leb_tells, nat_tests}
 use Rattle.std.specs.Prelude.{nat_le, nat_lt, map}
 use Rattle.dw_cfa.proofs.Types.{Code, Instr, LocatedRow, Outcome, Placed, Refusal, Rules, State}
 use Rattle.dw_num.specs.declared.refusal.Code.TheVariants.{LocationBackwards}
@@ -21,13 +21,12 @@ instrs_of items = map (λ (p : Placed). p.instr) items
 pub not_le : (m n : ℕ) → n < m → nat_le m n ≡ false
 not_le m n lt = elim (leb_tells m n) [ inl p ↦ absurd (omega arith) | inr p ↦ p.0 ]
 
+not_below : (a n : ℕ) → cond (nat_lt a n) (Some LocationBackwards) None ≡ None → n ≤ a
+not_below a n e = grind (arith, nat_tests)
+
 -- an instruction that is run moves the location forwards, or leaves it
 pub forwards : (limit : ℕ) (initial : Rules) (i : Instr) (s : State) → fde_fault limit i s ≡ None → s.location ≤ (after initial i s).location
-forwards limit initial (SetLoc a) s e = not_below a s.location (nat_lt a s.location) refl e
-  where
-    not_below : (a n : ℕ) (b : Bool) → nat_lt a n ≡ b → cond b (Some LocationBackwards) None ≡ None → n ≤ a
-    not_below a n true is e = absurd cc
-    not_below a n false is e = ltb-false a n is
+forwards limit initial (SetLoc a) s e = not_below a s.location e
 forwards limit initial (Advance d) s e = omega arith
 forwards limit initial RestoreState s e = same s.stack
   where

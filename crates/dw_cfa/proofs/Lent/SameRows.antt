@@ -2,7 +2,7 @@
 use Rattle.std.proofs.Common.{◌≡◌, ℕ, suc, ◌<◌, true, List, [], ◌∷◌, refl, sym, ap, ◌∙◌, subst, inl, inr, arith}
 use Rattle.std.specs.Prelude.{nat_eq}
 use Rattle.std.proofs.lemmas.Bool.{cases_lt}
-use Rattle.std.proofs.lemmas.Bool.Decides.{eqb_tells}
+use Rattle.std.proofs.lemmas.Bool.Decides.{nat_tests, eqb_tells}
 use Rattle.dw_cfa.proofs.Types.{CfaRule, RegRule, Rules}
 use Rattle.dw_cfa.specs.declared.rule.RegRule.TheVariants.{Unspecified}
 use Rattle.dw_cfa.specs.Rows.{AreSpecified, is_specified, rule_in, rule}
@@ -14,9 +14,6 @@ eq_here n = elim (eqb_tells n n) [ inl p ↦ p.0 | inr p ↦ absurd (p.1 refl) ]
 pub first_rule : (x : Entry) (xs : List Entry) → rule_in (x ∷ xs) x.0 ≡ x.1
 first_rule x xs = rw (eq_here x.0) refl
 
-pub rest_rule : (x : Entry) (xs : List Entry) (r : ℕ) → (x.0 ≡ r → ⊥) → rule_in (x ∷ xs) r ≡ rule_in xs r
-rest_rule x xs r other = elim (eqb_tells x.0 r) [ inl p ↦ absurd (other p.1) | inr p ↦ rw p.0 refl ]
-
 pub not_specified : (rule : RegRule) → is_specified rule ≡ true → rule ≡ Unspecified → ⊥
 not_specified rule is e = let f = ap is_specified e in let g = sym is ∙ f in absurd cc
 
@@ -25,10 +22,7 @@ lacks_first : (x : Entry) (xs : List Entry) (low : ℕ) (ys : List Entry) → is
 lacks_first x xs low ys is h lt e = not_specified x.1 is (sym (first_rule x xs) ∙ e ∙ unlisted x.0 low ys h lt)
 
 rest_same : (x y : Entry) (xs ys : List Entry) → AreSpecified (suc x.0) xs → AreSpecified (suc y.0) ys → x.0 ≡ y.0 → ((r : ℕ) → rule_in (x ∷ xs) r ≡ rule_in (y ∷ ys) r) → (r : ℕ) → rule_in xs r ≡ rule_in ys r
-rest_same x y xs ys h k same e r = elim (eqb_tells x.0 r) [
-  | inl p ↦ unlisted r (suc x.0) xs h (omega (arith, p.1)) ∙ sym (unlisted r (suc y.0) ys k (omega (arith, p.1, same)))
-  | inr p ↦ sym (rest_rule x xs r p.1) ∙ e r ∙ rest_rule y ys r (λ q. p.1 (same ∙ q))
-]
+rest_same x y xs ys h k same e r = grind (arith, nat_tests, unlisted r (suc x.0) xs h, unlisted r (suc y.0) ys k, e r)
 
 first_same : (x y : Entry) (xs ys : List Entry) → x.0 ≡ y.0 → rule_in (x ∷ xs) x.0 ≡ rule_in (y ∷ ys) x.0 → xs ≡ ys → x ∷ xs ≡ y ∷ ys
 first_same x y xs ys same e rest =
