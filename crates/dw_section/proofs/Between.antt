@@ -1,7 +1,6 @@
 -- A walk between the items that it has seen and those that are left.
 use Rattle.std.proofs.Common.{◌≡◌, List, [], ◌∷◌, ◌++◌, refl, sym, ap, subst, ◌∙◌, append_assoc, append-nil}
-use Rattle.std.specs.List.{AllByRecursion}
-use Rattle.dw_section.proofs.Words.{Refusal, FirstStuck, Head, IsAmong}
+use Rattle.dw_section.proofs.Words.{AllByRecursion, Refusal, FirstStuck, Head, IsAmong}
 use Rattle.dw_section.proofs.Lent.Heads.{is_among_head}
 use Rattle.dw_section.proofs.Stages.{holds_at}
 

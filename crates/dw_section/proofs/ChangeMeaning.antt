@@ -1,9 +1,7 @@
 -- What changes tell of the rules at an address: they are those of one change, so they are in range, and sections with the same changes
 -- say the same.
 use Rattle.std.proofs.Common.{◌≡◌, ℕ, List, [], ◌∷◌, sym, subst, nat_lt}
-use Rattle.std.specs.List.{AllByRecursion}
-use Rattle.dw_section.proofs.Words.{Target, AreBytes, Rules, Accepted, IsAmong, RowFits, row_among, ChangeFits, AreFdes, ChangesOf, Covers, RulesAt}
-use Rattle.dw_section.specs.declared.lookup.Fde.{Fde}
+use Rattle.dw_section.proofs.Words.{AllByRecursion, Target, AreBytes, Rules, Accepted, IsAmong, RowFits, row_among, ChangeFits, AreFdes, ChangesOf, Covers, RulesAt, Fde}
 use Rattle.dw_section.specs.Laws.{ChangesMean, RulesFit}
 use Rattle.dw_section.proofs.Lent.Exists.{listed_change}
 use Rattle.dw_section.proofs.Lent.Rowed.{changed_row}

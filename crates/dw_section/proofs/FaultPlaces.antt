@@ -1,11 +1,10 @@
 -- The first fault of a section lies in it or at its end.
 use Rattle.std.proofs.Common.{◌≡◌, ℕ, ◌+◌, ◌≤◌, List, length, Result, Err, sym, ap, subst, arith, inl, inr, Some, ◌++◌, ◌==◌, ◌&&◌, nat_lt, IfErr, length-append, length-drop}
-use Rattle.std.specs.List.{AllByRecursion}
+use Rattle.dw_section.proofs.Words.{AllByRecursion, Refusal, Order, Target, Input, AreBytes, Read, input_of, ReadError, CheckFault, CieProgramsFault, FdeProgramsFault, RulesFault, Item, gap, entry}
+use Rattle.dw_section.proofs.Words.{Piece, item_bytes, all_bytes, id_width, piece_of, IsWithin, Refuses, CutFault, Head, cie, fde, Has, Headers, CieStuck, FdeStuck, CieFieldsFault, HeadersFault}
+use Rattle.dw_section.proofs.Words.{contents_of, HasBytes, head_at, Range, nonempty, IsAmong, Pieces, cie_places, CieBroken, FdeBroken, LacksRule, factors_of, FirstStuck, Fields, cie_fields}
+use Rattle.dw_section.proofs.Words.{fde_fields, FieldsFault, StandsIn}
 use Rattle.std.proofs.lemmas.Bool.{cases_lt, lt-ltb, le-ltb}
-use Rattle.dw_section.proofs.Words.{Refusal, Order, Target, Input, AreBytes, Read, input_of, ReadError, CheckFault, CieProgramsFault, FdeProgramsFault, RulesFault, Item, gap, entry, Piece, item_bytes}
-use Rattle.dw_section.proofs.Words.{all_bytes, id_width, piece_of, IsWithin, Refuses, CutFault, Head, cie, fde, Has, Headers, CieStuck, FdeStuck, CieFieldsFault, HeadersFault, contents_of, HasBytes}
-use Rattle.dw_section.proofs.Words.{head_at, Range, nonempty, IsAmong, Pieces, cie_places, CieBroken, FdeBroken, LacksRule, factors_of, FirstStuck, Fields, cie_fields, fde_fields, FieldsFault}
-use Rattle.dw_section.proofs.Words.{StandsIn}
 use Rattle.dw_num.specs.declared.target.UnitLength.{UnitLength}
 use Rattle.dw_num.specs.Front.{unit_length_at}
 use Rattle.dw_num.proofs.Lent.Stays.{Inside, Stays, stays-then, either_stays, unit_length_stays}

@@ -1,7 +1,6 @@
 -- At each address of an FDE the row of its last change at or below it has the rules.
 use Rattle.std.proofs.Common.{◌≡◌, ℕ, suc, ◌<◌, ◌≤◌, List, [], ◌∷◌, ◌++◌, refl, subst, arith, lt-ltb, le-ltb}
-use Rattle.std.specs.List.{AllByRecursion}
-use Rattle.dw_section.proofs.Words.{Instr, Rules, HoldsAt, ChangesBehind, AreChanges, row_among}
+use Rattle.dw_section.proofs.Words.{AllByRecursion, Instr, Rules, HoldsAt, ChangesBehind, AreChanges, row_among}
 use Rattle.dw_section.specs.Laws.{LastChangeRules}
 use Rattle.dw_section.proofs.Lent.Rowed.{changed_row}
 use Rattle.dw_section.proofs.Lent.Sections.{programs_rules}

@@ -1,11 +1,10 @@
 -- Entries that stand at their places in bytes.
 use Rattle.std.proofs.Common.{◌≡◌, ℕ, ◌+◌, ◌-◌, ◌≤◌, true, false, Bool, ◌||◌, eqb, List, [], ◌∷◌, ◌++◌, length, take, drop, Option, Some, None, Ok, Err, refl, sym, ap, subst, ◌∙◌, append_assoc, arith, inl, inr, IfSome}
-use Rattle.std.specs.List.{AllByRecursion}
+use Rattle.dw_section.proofs.Words.{AllByRecursion, Form, Order, Target, Refusal, Input, Takes, Span, length_bytes, Kind, Item, gap, entry, IsItem, Piece, item_bytes, piece_of, pieces, is_cie}
+use Rattle.dw_section.proofs.Words.{all_bytes, CieFields, FdeFields, FoundFde, item_at, address_limit, is_among, CieHead, FdeHead, Head, Has, Headers, IsCie, IsFde, cie, fde, cie_head, cie_at, fde_at}
+use Rattle.dw_section.proofs.Words.{IsFound, found_cie, found_head, Returns, Range, cie_places, IsAmong, StandsIn, AreJoined, FoundStands, StandsAt, Pieces}
 use Rattle.std.proofs.lemmas.Bool.Decides.{eqb_tells}
 use Rattle.std.proofs.lemmas.List.{length-append, drop_at, length-drop, length-take-le, take-append-drop, take_all}
-use Rattle.dw_section.proofs.Words.{Form, Order, Target, Refusal, Input, Takes, Span, length_bytes, Kind, Item, gap, entry, IsItem, Piece, item_bytes, piece_of, pieces, is_cie, all_bytes, CieFields}
-use Rattle.dw_section.proofs.Words.{FdeFields, FoundFde, item_at, address_limit, is_among, CieHead, FdeHead, Head, Has, Headers, IsCie, IsFde, cie, fde, cie_head, cie_at, fde_at, IsFound, found_cie}
-use Rattle.dw_section.proofs.Words.{found_head, Returns, Range, cie_places, IsAmong, StandsIn, AreJoined, FoundStands, StandsAt, Pieces}
 use Rattle.dw_section.specs.declared.entry.Kind.TheVariants as kind
 use Rattle.dw_section.specs.StandingFde.{FdeStands}
 use Rattle.dw_section.specs.Inner.StandingFde.{is_fde}

@@ -16,8 +16,8 @@ pub use Rattle.dw_cfa.specs.Runs.{Outcome}
 pub use Rattle.dw_cfa.specs.declared.execution.LocatedRow.{LocatedRow}
 pub use Rattle.dw_cfa.specs.declared.instr.Factors.{Factors}
 pub use Rattle.dw_cfa.specs.declared.instr.Instr.{Instr}
-pub use Rattle.dw_cfa.specs.declared.rule.CfaRule.{CfaRule}
 pub use Rattle.dw_cfa.specs.declared.rule.CfaRule.TheVariants.{Unset}
+pub use Rattle.dw_cfa.specs.declared.rule.CfaRule.{CfaRule}
 pub use Rattle.dw_cfa.specs.declared.rule.RegRule.{RegRule}
 pub use Rattle.dw_num.specs.Fixed.{IsWidth, length_bytes}
 pub use Rattle.dw_num.specs.Front.{Read, fault, ◌>>=◌}
@@ -26,11 +26,11 @@ pub use Rattle.dw_num.specs.Refusals.{Refuses}
 pub use Rattle.dw_num.specs.Span.{Span, input_of, span_of}
 pub use Rattle.dw_num.specs.Target.{address_limit, byte_count}
 pub use Rattle.dw_num.specs.declared.error.ReadError.{ReadError}
-pub use Rattle.dw_num.specs.declared.refusal.Code.{Code}
 pub use Rattle.dw_num.specs.declared.refusal.Code.TheVariants.{NoSuchCie, Overlap}
+pub use Rattle.dw_num.specs.declared.refusal.Code.{Code}
 pub use Rattle.dw_num.specs.declared.refusal.Refusal.{Refusal}
-pub use Rattle.dw_num.specs.declared.target.Form.{Form}
 pub use Rattle.dw_num.specs.declared.target.Form.TheVariants.{Dwarf32, Dwarf64}
+pub use Rattle.dw_num.specs.declared.target.Form.{Form}
 pub use Rattle.dw_num.specs.declared.target.Order.{Order}
 pub use Rattle.dw_num.specs.declared.target.Size.{Size}
 pub use Rattle.dw_num.specs.declared.target.Target.{Target}
@@ -70,10 +70,12 @@ pub use Rattle.dw_section.specs.Ranges.{IsRanged, IsTable, fde_in, range_in}
 pub use Rattle.dw_section.specs.Stage.{FirstStuck, Then}
 pub use Rattle.dw_section.specs.StandingFde.{StandsIn}
 pub use Rattle.dw_section.specs.Table.{Section}
-pub use Rattle.dw_section.specs.declared.entry.Kind.{Kind}
 pub use Rattle.dw_section.specs.declared.entry.Kind.TheVariants.{Cie}
+pub use Rattle.dw_section.specs.declared.entry.Kind.{Kind}
 pub use Rattle.dw_section.specs.declared.fde_range.Ranged.{Ranged}
 pub use Rattle.dw_section.specs.declared.fields.CieFields.{CieFields}
 pub use Rattle.dw_section.specs.declared.fields.FdeFields.{FdeFields}
 pub use Rattle.dw_section.specs.declared.listed_fde.FoundFde.{FoundFde}
+pub use Rattle.dw_section.specs.declared.lookup.Fde.{Fde}
 pub use Rattle.dw_section.specs.declared.program.Initial.{Initial}
+pub use Rattle.std.specs.List.{AllByRecursion, AllZip}

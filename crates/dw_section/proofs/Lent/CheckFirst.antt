@@ -1,9 +1,8 @@
 -- A section that is accepted has no first fault, and any other at most one.
 use Rattle.std.proofs.Common.{◌≡◌, ℕ, ◌≤◌, ◌⊎◌, List, [], ◌∷◌, ◌++◌, sym, ap, subst, ◌∙◌, arith, inl, inr}
-use Rattle.std.specs.List.{AllByRecursion}
-use Rattle.dw_section.proofs.Words.{Overlap, Refusal, Target, AreBytes, Span, input_of, Factors, Instr, Program, Unset, Counts, cfa_after, FdeFault, initial_cfa, FirstStuck, Then, Head, cie, fde}
-use Rattle.dw_section.proofs.Words.{Headers, HeadersFault, HeadsRise, FdeFits, HasBytes, cie_ats, Range, IsIndex, AreApart, FirstOverlap, end_of, IsAmong, Instrs, CieRuns, CieBroken, FdeRuns}
-use Rattle.dw_section.proofs.Words.{FdeBroken, HasRules, LacksRule, factors_of, RulesHold, Accepted, CieProgramsFault, FdeProgramsFault, RulesFault, CheckFault}
+use Rattle.dw_section.proofs.Words.{AllByRecursion, Overlap, Refusal, Target, AreBytes, Span, input_of, Factors, Instr, Program, Unset, Counts, cfa_after, FdeFault, initial_cfa, FirstStuck, Then}
+use Rattle.dw_section.proofs.Words.{Head, cie, fde, Headers, HeadersFault, HeadsRise, FdeFits, HasBytes, cie_ats, Range, IsIndex, AreApart, FirstOverlap, end_of, IsAmong, Instrs, CieRuns, CieBroken}
+use Rattle.dw_section.proofs.Words.{FdeRuns, FdeBroken, HasRules, LacksRule, factors_of, RulesHold, Accepted, CieProgramsFault, FdeProgramsFault, RulesFault, CheckFault}
 use Rattle.dw_section.specs.Accepted.{CiesRun, FdesRun, Indexed}
 use Rattle.dw_section.proofs.Cfa.{cie_fault_apart, cie_fault_one, fde_fault_apart, fde_fault_one, one_program}
 use Rattle.dw_section.proofs.FirstFault.{then_apart, then_one, one_fault, fault_or_headers}
@@ -107,58 +106,43 @@ answered Before Answer Own r (inr v) = inr (v.0, v.1, (v.1, v.2))
 pub all_known : (target : Target) (s : List ℕ) (hs : List Head) → AreBytes s → Headers target s hs → AllByRecursion (Known target hs) hs
 all_known target s hs b p = all_both HasBytes (FdeFits target (cie_ats hs)) hs (heads_bytes target s hs b p) (heads_fit target s hs p)
 
-module _ (target : Target) (s : List ℕ) (b : AreBytes s) (Before : Refusal → Type 0) (Answer : List Head → Type 0) (headers : (hs : List Head) → Answer hs → Headers target s hs)
+-- a fault and an answer exclude each other, and the fault is one
+abbrev Exclusive : (Refusal → Type 0) → (List Head → Type 0) → Type 0
+Exclusive Fault Answer = ((r : Refusal) (hs : List Head) → Fault r → Answer hs → ⊥) × ((r q : Refusal) → Fault r → Fault q → r ≡ q)
+
+module _ (target : Target) (s : List ℕ) (b : AreBytes s) (Before : Refusal → Type 0) (Answer : List Head → Type 0) (before : Exclusive Before Answer) (headers : (hs : List Head) → Answer hs → Headers target s hs)
     (Holds : List Head → Head → Type 0) (Stuck : List Head → Head → Refusal → Type 0)
     (apart : (hs : List Head) → Headers target s hs → (h : Head) → Known target hs h → (r : Refusal) → Holds hs h → Stuck hs h r → ⊥)
-    (before : (r : Refusal) (hs : List Head) → Before r → Answer hs → ⊥) where
+    (one : (hs : List Head) → Headers target s hs → (h : Head) → Known target hs h → (r q : Refusal) → Stuck hs h r → Stuck hs h q → r ≡ q) where
+  abbrev Own : List Head → Refusal → Type 0
+  Own hs = FirstStuck (Holds hs) (Stuck hs) hs
+
   stage_one : (hs ks : List Head) → Answer hs → Answer ks → hs ≡ ks
   stage_one hs ks v w = one_headers target s hs ks (headers hs v) (headers ks w)
 
-  stage_apart : (r : Refusal) (hs : List Head) → Then Before Answer (λ hs. FirstStuck (Holds hs) (Stuck hs) hs) r → Answer hs × AllByRecursion (Holds hs) hs → ⊥
-  stage_apart r hs v w =
-      then_apart Before Answer (λ hs. FirstStuck (Holds hs) (Stuck hs) hs) (λ hs. Answer hs × AllByRecursion (Holds hs) hs) before stage_one
-      (λ hs r a f. none_known (Known target hs) (Holds hs) (Stuck hs) (apart hs (headers hs a.0)) hs r (all_known target s hs b (headers hs a.0)) a.1 f) r hs v (w.0, w)
-
-  stage_fault : (one : (hs : List Head) → Headers target s hs → (h : Head) → Known target hs h → (r q : Refusal) → Stuck hs h r → Stuck hs h q → r ≡ q) → ((r q : Refusal) → Before r → Before q → r ≡ q)
-      → (r q : Refusal) → Then Before Answer (λ hs. FirstStuck (Holds hs) (Stuck hs) hs) r → Then Before Answer (λ hs. FirstStuck (Holds hs) (Stuck hs) hs) q → r ≡ q
-  stage_fault one one_before r q v w =
-      let Own : List Head → Refusal → Type 0 = λ hs. FirstStuck (Holds hs) (Stuck hs) hs in
-      then_one Before Answer (λ hs p. Answer hs × Own hs p) before stage_one one_before
-      (λ hs r q x y. one_known (Known target hs) (Holds hs) (Stuck hs) (apart hs (headers hs x.0)) (one hs (headers hs x.0)) hs r q (all_known target s hs b (headers hs x.0)) x.1 y.1) r q
-      (answered Before Answer Own r v) (answered Before Answer Own q w)
+  stage : Exclusive (Then Before Answer Own) (λ hs. Answer hs × AllByRecursion (Holds hs) hs)
+  stage = (
+    λ r hs v w. then_apart Before Answer Own (λ hs. Answer hs × AllByRecursion (Holds hs) hs) before.0 stage_one
+        (λ hs r a f. none_known (Known target hs) (Holds hs) (Stuck hs) (apart hs (headers hs a.0)) hs r (all_known target s hs b (headers hs a.0)) a.1 f) r hs v (w.0, w),
+    λ r q v w. then_one Before Answer (λ hs p. Answer hs × Own hs p) before.0 stage_one before.1
+        (λ hs r q x y. one_known (Known target hs) (Holds hs) (Stuck hs) (apart hs (headers hs x.0)) (one hs (headers hs x.0)) hs r q (all_known target s hs b (headers hs x.0)) x.1 y.1) r q
+        (answered Before Answer Own r v) (answered Before Answer Own q w),
+  )
 
 -- ---- the stages
 
 module _ (target : Target) (s : List ℕ) (b : AreBytes s) where
-  cie_stage : (hs : List Head) → Headers target s hs → (h : Head) → Known target hs h → (r : Refusal) → CieRuns target h → CieBroken target h r → ⊥
-  cie_stage hs p h known = cie_apart target h known.0
+  cies : Exclusive (CieProgramsFault target s) (CiesRun target s)
+  cies = stage target s b (HeadersFault target s) (Headers target s) (fault_or_headers target s, one_fault target s) (λ hs p. p) (λ hs. CieRuns target) (λ hs. CieBroken target)
+      (λ hs p h known. cie_apart target h known.0) (λ hs p h known. cie_one target h known.0)
 
-  cies_or_fault : (r : Refusal) (hs : List Head) → CieProgramsFault target s r → CiesRun target s hs → ⊥
-  cies_or_fault = stage_apart target s b (HeadersFault target s) (Headers target s) (λ hs p. p) (λ hs. CieRuns target) (λ hs. CieBroken target) cie_stage (fault_or_headers target s)
+  fdes : Exclusive (FdeProgramsFault target s) (FdesRun target s)
+  fdes = stage target s b (CieProgramsFault target s) (CiesRun target s) cies (λ hs p. p.0) (FdeRuns target) (FdeBroken target)
+      (λ hs p. fde_apart target hs (heads_rise target s hs p) (heads_bytes target s hs b p)) (λ hs p. fde_one target hs (heads_rise target s hs p) (heads_bytes target s hs b p))
 
-  one_cie_fault : (r q : Refusal) → CieProgramsFault target s r → CieProgramsFault target s q → r ≡ q
-  one_cie_fault = stage_fault target s b (HeadersFault target s) (Headers target s) (λ hs p. p) (λ hs. CieRuns target) (λ hs. CieBroken target) cie_stage (fault_or_headers target s)
-      (λ hs p h known. cie_one target h known.0) (one_fault target s)
-
-  fde_stage : (hs : List Head) → Headers target s hs → (h : Head) → Known target hs h → (r : Refusal) → FdeRuns target hs h → FdeBroken target hs h r → ⊥
-  fde_stage hs p = fde_apart target hs (heads_rise target s hs p) (heads_bytes target s hs b p)
-
-  fdes_or_fault : (r : Refusal) (hs : List Head) → FdeProgramsFault target s r → FdesRun target s hs → ⊥
-  fdes_or_fault = stage_apart target s b (CieProgramsFault target s) (CiesRun target s) (λ hs p. p.0) (FdeRuns target) (FdeBroken target) fde_stage cies_or_fault
-
-  one_fde_fault : (r q : Refusal) → FdeProgramsFault target s r → FdeProgramsFault target s q → r ≡ q
-  one_fde_fault = stage_fault target s b (CieProgramsFault target s) (CiesRun target s) (λ hs p. p.0) (FdeRuns target) (FdeBroken target) fde_stage cies_or_fault
-      (λ hs p. fde_one target hs (heads_rise target s hs p) (heads_bytes target s hs b p)) one_cie_fault
-
-  rules_stage : (hs : List Head) → Headers target s hs → (h : Head) → Known target hs h → (r : Refusal) → HasRules target hs h → LacksRule target hs h r → ⊥
-  rules_stage hs p = rules_apart target hs (heads_rise target s hs p) (heads_bytes target s hs b p)
-
-  rules_or_fault : (r : Refusal) (hs : List Head) → RulesFault target s r → RulesHold target s hs → ⊥
-  rules_or_fault = stage_apart target s b (FdeProgramsFault target s) (FdesRun target s) (λ hs p. p.0.0) (HasRules target) (LacksRule target) rules_stage fdes_or_fault
-
-  one_rules_fault : (r q : Refusal) → RulesFault target s r → RulesFault target s q → r ≡ q
-  one_rules_fault = stage_fault target s b (FdeProgramsFault target s) (FdesRun target s) (λ hs p. p.0.0) (HasRules target) (LacksRule target) rules_stage fdes_or_fault
-      (λ hs p h known. rules_one target hs h) one_fde_fault
+  all_rules : Exclusive (RulesFault target s) (RulesHold target s)
+  all_rules = stage target s b (FdeProgramsFault target s) (FdesRun target s) fdes (λ hs p. p.0.0) (HasRules target) (LacksRule target)
+      (λ hs p. rules_apart target hs (heads_rise target s hs p) (heads_bytes target s hs b p)) (λ hs p h known. rules_one target hs h)
 
 -- ---- overlaps
 
@@ -201,11 +185,11 @@ module _ (target : Target) (s : List ℕ) (b : AreBytes s) where
       one_index v.0 index other v.2 (subst (λ (hs : List Head). IsIndex hs other) same w.2)
 
   indexed_or_fault : (r : Refusal) (index : List Range) → RulesFault target s r → Indexed target s index → ⊥
-  indexed_or_fault r index fault v = rules_or_fault target s b r v.0 fault v.1
+  indexed_or_fault r index fault v = (all_rules target s b).0 r v.0 fault v.1
 
   -- a section that is accepted has no first fault
   pub fault_or_accepted : (r : Refusal) → CheckFault target s r → Accepted target s → ⊥
   fault_or_accepted r fault v = then_apart (RulesFault target s) (Indexed target s) FirstOverlap AreApart indexed_or_fault one_indexed (λ index r. overlap_apart index r) r v.0 fault (v.1, v.2)
 
   pub one_check_fault : (r q : Refusal) → CheckFault target s r → CheckFault target s q → r ≡ q
-  one_check_fault r q v w = then_one (RulesFault target s) (Indexed target s) FirstOverlap indexed_or_fault one_indexed (one_rules_fault target s b) overlap_one r q v w
+  one_check_fault r q v w = then_one (RulesFault target s) (Indexed target s) FirstOverlap indexed_or_fault one_indexed ((all_rules target s b).1) overlap_one r q v w

@@ -1,7 +1,6 @@
 -- Each FDE of an accepted section has changes.
 use Rattle.std.proofs.Common.{ℕ, ◌<◌, List, None, sym, subst, arith, ◌≤◌, [], ◌∷◌, length, Option, Some, inl, inr}
-use Rattle.dw_section.proofs.Words.{Target, AreBytes, Instr, LocatedRow, Rules, Accepted, HoldsAt, AreChanges, changes_among, Among, Says, AreFdes, ChangesOf, SameMeaning, IsAmong, row_starts}
-use Rattle.dw_section.specs.declared.lookup.Fde.{Fde}
+use Rattle.dw_section.proofs.Words.{Target, AreBytes, Instr, LocatedRow, Rules, Accepted, HoldsAt, AreChanges, changes_among, Among, Says, AreFdes, ChangesOf, SameMeaning, IsAmong, row_starts, Fde}
 use Rattle.dw_section.proofs.ChangesAmong.{are_among}
 use Rattle.dw_section.proofs.Lent.ChangeLaws.{changes_found}
 use Rattle.dw_section.proofs.Lent.Rowed.{agree_row}

@@ -1,11 +1,9 @@
 -- What a table lists, and where an address is found in it.
 use Rattle.std.proofs.Common.{◌≡◌, ℕ, zero, suc, ◌+◌, ◌<◌, ◌≤◌, List, [], ◌∷◌, map, length, get_or, refl, sym, ap, subst, ◌∙◌, arith, inl, inr}
-use Rattle.std.specs.List.{AllByRecursion, AllZip}
+use Rattle.dw_section.proofs.Words.{AllByRecursion, AllZip, Target, Ranged, Head, CieHead, FdeHead, HeadsRise, IsRanged, range_in, fde_in, IsTable, Returns, Lists, AreFdes, Covers, NoneCovers}
+use Rattle.dw_section.proofs.Words.{IsAmong, Range, Precedes, Ascends, AreApart, IsIndex, Fde}
 use Rattle.std.specs.List.Sorted.{IsNonDecreasingBy}
 use Rattle.std.proofs.lemmas.List.{length-map, get_or-map}
-use Rattle.dw_section.proofs.Words.{Target, Ranged, Head, CieHead, FdeHead, HeadsRise, IsRanged, range_in, fde_in, IsTable, Returns, Lists, AreFdes, Covers, NoneCovers, IsAmong, Range, Precedes}
-use Rattle.dw_section.proofs.Words.{Ascends, AreApart, IsIndex}
-use Rattle.dw_section.specs.declared.lookup.Fde.{Fde}
 use Rattle.dw_section.proofs.Lent.Judged.{all_get, all_get_map}
 use Rattle.dw_section.proofs.Lent.HeaderLaws.{one_headers}
 use Rattle.dw_section.proofs.Lent.Heads.{heads_rise, one_among, cie_or, fde_or}

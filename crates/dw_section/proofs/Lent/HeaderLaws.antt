@@ -1,9 +1,8 @@
 -- Headers are read as they are spelled, and a section has at most one list of them.
 use Rattle.std.proofs.Common.{◌≡◌, ℕ, ◌+◌, List, [], ◌∷◌, ◌++◌, length, Result, Ok, Err, inl, inr, refl, sym, ap, subst, ◌∙◌, arith, IfErr, append-nil, length-append}
-use Rattle.std.specs.List.{AllByRecursion, AllZip}
+use Rattle.dw_section.proofs.Words.{AllByRecursion, AllZip, Target, Refusal, Input, AreBytes, Takes, Span, CieFields, FdeFields, Piece, id_width, Pieces, cie_places, Rises, Fields, cie_fields}
+use Rattle.dw_section.proofs.Words.{fde_fields, FieldsFault, program_of, contents_of, Head, cie_head, IsCie, IsFde, Has, Headers, CieHolds, CieStuck, FdeHolds, FdeStuck, Read, ◌>>=◌}
 use Rattle.std.proofs.lemmas.List.Elements.{filter_map-append}
-use Rattle.dw_section.proofs.Words.{Target, Refusal, Input, AreBytes, Takes, Span, CieFields, FdeFields, Piece, id_width, Pieces, cie_places, Rises, Fields, cie_fields, fde_fields, FieldsFault}
-use Rattle.dw_section.proofs.Words.{program_of, contents_of, Head, cie_head, IsCie, IsFde, Has, Headers, CieHolds, CieStuck, FdeHolds, FdeStuck, Read, ◌>>=◌}
 use Rattle.dw_num.proofs.Lent.LebLaws.{done, ok_is}
 use Rattle.dw_section.specs.declared.entry.Kind.TheVariants as kind
 use Rattle.dw_section.specs.Inner.Stage.{Answers}

@@ -1,11 +1,10 @@
 -- Nops behind a program change no rule, no location and no row's start.
 use Rattle.std.proofs.Common.{◌≡◌, ℕ, zero, suc, ◌+◌, ◌≤◌, Bool, false, cond, List, [], ◌∷◌, ◌++◌, length, take, Some, refl, sym, ap, subst, ◌∙◌, append_assoc, arith, inl, inr, mul-zero, IsTrue, count_by, slice_get, replicate}
-use Rattle.std.specs.List.{AllByRecursion}
+use Rattle.dw_section.proofs.Words.{AllByRecursion, Target, Factors, Instr, CfaRule, RegRule, Program, look_back, cfa_change, rule_change, cfa_after, rule_after, CieKept, FdeKept, initial_cfa}
+use Rattle.dw_section.proofs.Words.{initial_rule, onto, back_from, Counts, moves_location, row_starts}
 use Rattle.std.proofs.lemmas.Bool.{cases_lt}
 use Rattle.std.proofs.lemmas.List.{length-append, length-replicate, take_all}
 use Rattle.std.proofs.lemmas.List.Sums.{sum_by-cons, sum_by-append, sum_by-take-le}
-use Rattle.dw_section.proofs.Words.{Target, Factors, Instr, CfaRule, RegRule, Program, look_back, cfa_change, rule_change, cfa_after, rule_after, CieKept, FdeKept, initial_cfa, initial_rule, onto}
-use Rattle.dw_section.proofs.Words.{back_from, Counts, moves_location, row_starts}
 use Rattle.dw_cfa.specs.declared.instr.Instr.TheVariants.{Nop}
 use Rattle.dw_cfa.specs.declared.rule.CfaRule.TheVariants as cfa
 use Rattle.dw_cfa.specs.declared.rule.RegRule.TheVariants.{Unspecified}

@@ -1,7 +1,6 @@
 -- The lengths of an FDE's programs are those of the programs that its instructions are read from.
 use Rattle.std.proofs.Common.{◌≡◌, ℕ, ◌<◌, List, length, sym, ap, subst, ◌∙◌, arith}
-use Rattle.dw_section.proofs.Words.{Target, AreBytes, Instr, Accepted, CieHead, FdeHead, cie, fde, Says, HasLengths, Range, range_of, IsAmong}
-use Rattle.dw_section.specs.declared.lookup.Fde.{Fde}
+use Rattle.dw_section.proofs.Words.{Target, AreBytes, Instr, Accepted, CieHead, FdeHead, cie, fde, Says, HasLengths, Range, range_of, IsAmong, Fde}
 use Rattle.dw_section.proofs.Lent.HeaderLaws.{one_headers}
 use Rattle.dw_section.proofs.Lent.Heads.{heads_rise, one_among, cie_or, fde_or}
 use Rattle.dw_section.proofs.Lent.Sections.{hs, index, headers_of, here, in_index, one_cover}

@@ -1,8 +1,6 @@
 -- Return registers are below 65,536.
 use Rattle.std.proofs.Common.{ℕ, ◌<◌, List, sym, subst, arith, inl, inr}
-use Rattle.std.specs.List.{AllByRecursion}
-use Rattle.dw_section.proofs.Words.{Target, Piece, Head, cie, fde, Has, Headers, Lists, AreFdes, cie_places}
-use Rattle.dw_section.specs.declared.lookup.Fde.{Fde}
+use Rattle.dw_section.proofs.Words.{AllByRecursion, Target, Piece, Head, cie, fde, Has, Headers, Lists, AreFdes, cie_places, Fde}
 use Rattle.dw_section.proofs.Lent.Heads.{all_in}
 use Rattle.dw_section.proofs.Lent.FieldTable.{cie_said}
 use Rattle.dw_section.proofs.Stages.{all_of_zip}

@@ -1,7 +1,6 @@
 -- Two accepted sections with the same FDEs, whose programs agree, say the same.
 use Rattle.std.proofs.Common.{◌≡◌, ℕ, ◌<◌, List, subst, arith}
-use Rattle.dw_section.proofs.Words.{Target, AreBytes, Instr, Rules, Accepted, AreChanges, Says, AreFdes, RulesAt, ChangesOf, Agree, SameMeaning, IsAmong}
-use Rattle.dw_section.specs.declared.lookup.Fde.{Fde}
+use Rattle.dw_section.proofs.Words.{Target, AreBytes, Instr, Rules, Accepted, AreChanges, Says, AreFdes, RulesAt, ChangesOf, Agree, SameMeaning, IsAmong, Fde}
 use Rattle.dw_section.proofs.Lent.FdeLookup.{one_fdes}
 use Rattle.dw_section.proofs.Lent.Agrees.{agree_sym, holds_agree, changes_agree}
 use Rattle.dw_section.proofs.Lent.Rowed.{one_changes}

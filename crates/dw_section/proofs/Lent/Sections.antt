@@ -1,12 +1,10 @@
 -- Laws of a section that is accepted: what it says of an FDE is one thing, and each address has rules.
 use Rattle.std.proofs.Common.{◌≡◌, ℕ, ◌+◌, ◌<◌, ◌≤◌, List, [], ◌∷◌, refl, sym, ap, subst, ◌∙◌, arith, inl, inr, true}
-use Rattle.std.specs.List.{AllByRecursion, AllZip}
+use Rattle.dw_section.proofs.Words.{AllByRecursion, AllZip, Target, AreBytes, address_limit, Instr, HoldsAfter, Rules, Accepted, HoldsAt, AreChanges, is_among, Head, Headers, CieHead, FdeHead, cie}
+use Rattle.dw_section.proofs.Words.{fde, HeadsRise, HasBytes, FdeFits, cie_ats, Says, Lists, AreFdes, RulesAt, ChangesOf, Covers, Range, nonempty, IsIndex, AreApart, end_of, range_of, FdeRuns}
+use Rattle.dw_section.proofs.Words.{HasRules, Instrs, HasCfa, IsAmong, Fde}
 use Rattle.std.proofs.lemmas.Bool.Decides.{eqb_tells}
-use Rattle.dw_section.proofs.Words.{Target, AreBytes, address_limit, Instr, HoldsAfter, Rules, Accepted, HoldsAt, AreChanges, is_among, Head, Headers, CieHead, FdeHead, cie, fde, HeadsRise, HasBytes}
-use Rattle.dw_section.proofs.Words.{FdeFits, cie_ats, Says, Lists, AreFdes, RulesAt, ChangesOf, Covers, Range, nonempty, IsIndex, AreApart, end_of, range_of, FdeRuns, HasRules, Instrs, HasCfa}
-use Rattle.dw_section.proofs.Words.{IsAmong}
 use Rattle.dw_cfa.proofs.Lent.InstrCounts.{counts_exists, one_count}
-use Rattle.dw_section.specs.declared.lookup.Fde.{Fde}
 use Rattle.dw_section.proofs.Lent.CheckFirst.{one_instrs}
 use Rattle.dw_section.proofs.Lent.HeaderLaws.{one_headers}
 use Rattle.dw_section.proofs.Lent.Heads.{all_in, heads_rise, heads_bytes, heads_fit, one_among, fde_or}

@@ -1,9 +1,8 @@
 -- The rules of an accepted section fit: programs that are spelled give no others.
 use Rattle.std.proofs.Common.{◌≡◌, ℕ, zero, suc, ◌<◌, ◌≤◌, true, List, [], ◌∷◌, length, refl, sym, ap, subst, ◌∙◌, arith, inl, inr, ℤ}
-use Rattle.std.specs.List.{AllByRecursion}
+use Rattle.dw_section.proofs.Words.{AllByRecursion, Target, Factors, Instr, CfaRule, RegRule, look_back, cfa_change, rule_change, cfa_after, rule_after, Program, initial_cfa, initial_rule, onto}
+use Rattle.dw_section.proofs.Words.{Rules, AreSpecified, is_specified, rule_in, rule, HoldsAt, ChangesBehind, AreChanges, RuleFits, RowFits, ChangeFits, factors_of, Fde}
 use Rattle.std.proofs.lemmas.Bool.Decides.{eqb_tells}
-use Rattle.dw_section.proofs.Words.{Target, Factors, Instr, CfaRule, RegRule, look_back, cfa_change, rule_change, cfa_after, rule_after, Program, initial_cfa, initial_rule, onto, Rules, AreSpecified}
-use Rattle.dw_section.proofs.Words.{is_specified, rule_in, rule, HoldsAt, ChangesBehind, AreChanges, RuleFits, RowFits, ChangeFits, factors_of}
 use Rattle.dw_cfa.specs.declared.instr.Instr.TheVariants.{DefCfa, DefCfaRegister, DefCfaOffset, DefCfaExpression, Set, Restore, RememberState, RestoreState}
 use Rattle.dw_cfa.specs.declared.rule.CfaRule.TheVariants as cfa
 use Rattle.dw_cfa.specs.declared.rule.RegRule.TheVariants as rules
@@ -12,7 +11,6 @@ use Rattle.dw_cfa.specs.InstrSpells.{IsOffset, BlockSpells}
 use Rattle.dw_cfa.proofs.Lent.Spellings.{RuleSpells, IsSpelled, by_table}
 use Rattle.dw_cfa.proofs.Lent.InstrCounts.{counts_exists}
 use Rattle.dw_op.specs.Expression.{Expression}
-use Rattle.dw_section.specs.declared.lookup.Fde.{Fde}
 use Rattle.dw_section.proofs.Lent.Registers.{fdes_registers}
 use Rattle.dw_section.specs.Fits.{HasBlock, CfaFits}
 use Rattle.dw_section.specs.Inner.Sound.{Steps, AllStep, SoundSection}

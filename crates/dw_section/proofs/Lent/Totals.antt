@@ -1,8 +1,7 @@
 -- The rows that a section starts are no fewer than its changes.
 use Rattle.std.proofs.Common.{◌≡◌, ℕ, ◌<◌, ◌≤◌, List, [], ◌∷◌, length, map, sym, ap, subst, ◌∙◌, arith}
-use Rattle.std.specs.List.{AllByRecursion, AllZip}
-use Rattle.dw_section.proofs.Words.{Target, AreBytes, Instr, row_starts, Rules, Accepted, AreChanges, Head, Says, Lists, AreFdes, ChangesOf, Starts, total, Range, IsIndex, end_of}
-use Rattle.dw_section.specs.declared.lookup.Fde.{Fde}
+use Rattle.dw_section.proofs.Words.{AllByRecursion, AllZip, Target, AreBytes, Instr, row_starts, Rules, Accepted, AreChanges, Head, Says, Lists, AreFdes, ChangesOf, Starts, total, Range, IsIndex}
+use Rattle.dw_section.proofs.Words.{end_of, Fde}
 use Rattle.dw_section.specs.Meaning.{RowStarts}
 use Rattle.dw_section.proofs.Lent.HeaderLaws.{one_headers}
 use Rattle.dw_section.proofs.Lent.Index.{one_index, all_from}

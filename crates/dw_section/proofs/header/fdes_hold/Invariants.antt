@@ -1,6 +1,5 @@
 use Rattle.std.proofs.Common.{length, List}
-use Rattle.std.specs.List.{AllByRecursion, AllZip}
-use Rattle.dw_section.proofs.Words.{Piece, PiecesLeft, Head, Has, CieHolds, Pieces}
+use Rattle.dw_section.proofs.Words.{AllByRecursion, AllZip, Piece, PiecesLeft, Head, Has, CieHolds, Pieces}
 use Rattle.dw_section.specs.Inner.Left.{Stays}
 use Rattle.dw_section.proofs.Between.{Between}
 use Rattle.dw_section.proofs.header.fdes_hold.Given as goal

@@ -1,6 +1,5 @@
 use Rattle.std.proofs.Common.{length, map, List}
-use Rattle.std.specs.List.{AllByRecursion, AllZip}
-use Rattle.dw_section.proofs.Words.{Piece, PiecesLeft, Has, CieHolds, head_in, Pieces}
+use Rattle.dw_section.proofs.Words.{AllByRecursion, AllZip, Piece, PiecesLeft, Has, CieHolds, head_in, Pieces}
 use Rattle.dw_section.specs.Inner.Left.{Stays}
 use Rattle.dw_section.proofs.Between.{Between}
 use Rattle.dw_section.proofs.header.read_headers.Given as goal

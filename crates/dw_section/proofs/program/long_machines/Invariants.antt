@@ -1,6 +1,5 @@
 use Rattle.std.proofs.Common.{List}
-use Rattle.std.specs.List.{AllByRecursion}
-use Rattle.dw_section.proofs.Words.{Head, IsInitial, IsLong}
+use Rattle.dw_section.proofs.Words.{AllByRecursion, Head, IsInitial, IsLong}
 use Rattle.dw_section.proofs.program.long_machines.Given as goal
 
 abbrev pub invariant-loop-initial : goal.invariant-loop-initial

@@ -1,7 +1,6 @@
 use Rattle.std.proofs.Common.{◌≤◌, length, map, refl, sym, subst, inr, arith}
 use Rattle.std.proofs.lemmas.Result.{err_from_is_err_and}
-use Rattle.dw_section.specs.declared.lookup.Fde.{Fde}
-use Rattle.dw_section.proofs.Words.{IsRanged, range_in, fde_in, NoneCovers, IsAmong}
+use Rattle.dw_section.proofs.Words.{Fde, IsRanged, range_in, fde_in, NoneCovers, IsAmong}
 use Rattle.dw_section.proofs.Lent.FdeLookup.{listed_are, ranged_of, fde_listed, listed_fde}
 use Rattle.dw_section.specs.StandingFde.{LookUpFault, StandingFault}
 use Rattle.dw_section.proofs.StandFaults.{refuses_more}

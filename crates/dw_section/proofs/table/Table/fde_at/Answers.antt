@@ -1,6 +1,5 @@
 use Rattle.std.proofs.Common.{List, length, subst, get_or, refl, ◌<◌}
-use Rattle.dw_section.specs.declared.lookup.Fde.{Fde}
-use Rattle.dw_section.specs.Meaning.{Covers, NoneCovers}
+use Rattle.dw_section.proofs.Words.{Fde, Covers, NoneCovers}
 use Rattle.dw_section.proofs.Lent.FdeLookup.{covers_listed, listed_are}
 use Rattle.dw_section.proofs.table.Table.fde_at.Goals as goal
 

@@ -1,6 +1,5 @@
 use Rattle.std.proofs.Common.{length, subst}
-use Rattle.dw_section.specs.declared.lookup.Fde.{Fde}
-use Rattle.dw_section.specs.Meaning.{HasLengths}
+use Rattle.dw_section.proofs.Words.{Fde, HasLengths}
 use Rattle.dw_section.proofs.Extents.{found_lengths}
 use Rattle.dw_section.proofs.table.Table.program_lengths.Goals as goal
 

@@ -1,6 +1,5 @@
 use Rattle.std.proofs.Common.{◌≡◌, ℕ, List, Option, Some, None, Result, Ok, Err, IfOk, MatchOption, true, sym, subst, ◌∙◌}
-use Rattle.dw_section.proofs.Words.{Rules, NoneCovers, RulesAt, Section}
-use Rattle.dw_section.specs.declared.lookup.Fde.{Fde}
+use Rattle.dw_section.proofs.Words.{Rules, NoneCovers, RulesAt, Section, Fde}
 use Rattle.dw_section.specs.Lookups.{LooksUp}
 use Rattle.dw_section.proofs.table.Table.row_at.Goals as goal
 
