@@ -1,5 +1,5 @@
 -- The room that an FDE leaves is that of what is written.
-use Rattle.std.proofs.Common.{◌≡◌, ℕ, ◌+◌, ◌-◌, ◌*◌, ◌<◌, List, ◌++◌, length, Option, Some, None, sym, ap, ◌∙◌, subst, arith}
+use Rattle.std.proofs.Common.{◌≡◌, ℕ, ◌+◌, ◌*◌, ◌<◌, List, ◌++◌, length, None, ap, ◌∙◌, arith}
 use Rattle.std.proofs.lemmas.List.{length-append}
 use Rattle.dw_num.specs.declared.target.Target.{Target}
 use Rattle.dw_num.specs.Target.{byte_count}
@@ -11,7 +11,7 @@ use Rattle.dw_canon.specs.Inner.Spelling.{program_bytes}
 use Rattle.dw_canon.specs.Inner.Written.{fde, entry_bytes}
 use Rattle.dw_canon.specs.Written.{missing}
 use Rattle.dw_canon.proofs.Lent.Extra.{fde_length}
-use Rattle.dw_normal.specs.Inner.Lengths.{Leaves, FdeLeaves}
+use Rattle.dw_normal.specs.Inner.Lengths.{FdeLeaves}
 use Rattle.dw_normal.specs.Inner.ChangeWalk.{later_bytes, shown_row}
 use Rattle.dw_normal.proofs.Passes.{program_more}
 
@@ -28,20 +28,6 @@ module _ (t : Target) (shared : Rules) (begin room : ℕ) (changes : Changing) w
   both_length : length (program_bytes t both) ≡ length (program_bytes t first) + length (later_bytes t shared begin changes)
   both_length = ap length (program_more t first (later_changes shared begin (shown_row changes) changes.to_come)) ∙ length-append (program_bytes t first) (later_bytes t shared begin changes)
 
-  over : room < length (program_bytes t both) → FdeLeaves t shared begin changes room None
-  over h = λ c n. let long = fde_long t c begin n both (program_bytes t both) in omega (arith, long, h)
-
   -- what leads to the first row takes more
   pub first_over : room < length (program_bytes t first) → FdeLeaves t shared begin changes room None
-  first_over h = over (omega (arith, both_length, h))
-
-  module _ (left : ℕ) (h : Leaves room (length (program_bytes t first)) (Some left)) where
-    -- the changes behind it do
-    pub later_over : Leaves left (length (later_bytes t shared begin changes)) None → FdeLeaves t shared begin changes room None
-    later_over l = over (omega (arith, both_length, h, l))
-
-    pub entry_leaves : (rest len : ℕ) (o : Option ℕ) → Leaves left (length (later_bytes t shared begin changes)) (Some rest) → len ≡ 8 + 2 * byte_count t.size + (room - rest)
-        → Leaves room (len + missing t.size len) o → FdeLeaves t shared begin changes room o
-    entry_leaves rest len o l is leaves =
-        let whole : len ≡ 8 + 2 * byte_count t.size + length (program_bytes t both) = omega (arith, is, both_length, h, l) in
-        λ c n. subst (λ (k : ℕ). Leaves room k o) (ap (λ (k : ℕ). k + missing t.size k) whole ∙ sym (fde_long t c begin n both (program_bytes t both))) leaves
+  first_over h = λ c n. let long = fde_long t c begin n both (program_bytes t both) in omega (arith, both_length, long, h)

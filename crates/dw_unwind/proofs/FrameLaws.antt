@@ -1,5 +1,5 @@
 -- The registers of a frame, one after another.
-use Rattle.std.proofs.Common.{◌≡◌, ℕ, zero, suc, ◌<◌, ◌≤◌, true, false, List, [], ◌∷◌, ◌++◌, length, get_or, Option, Ok, refl, sym, ap, subst, ◌∙◌, arith, inl, inr}
+use Rattle.std.proofs.Common.{◌≡◌, ℕ, zero, suc, ◌<◌, ◌≤◌, true, false, List, [], ◌∷◌, ◌++◌, length, get_or, Option, Ok, refl, sym, subst, ◌∙◌, arith, inl, inr}
 use Rattle.std.specs.List.{AllByRecursion, AllPairs}
 use Rattle.std.proofs.lemmas.Bool.{cases_lt}
 use Rattle.dw_cfa.specs.Rows.{Rules}
@@ -58,22 +58,6 @@ module _ (c : Context) (limit : ℕ) (policy : Policy) (row : Rules) (register c
 
   abbrev Value : ℕ → Option ℕ → Type 0
   Value r v = Listed r × Recovers c limit policy row register cfa r (Ok v)
-
-  pub so_first : So 0 []
-  so_first = record { rise = tt; below = tt; each = tt; all = λ r lt. absurd (omega arith) }
-
-  pub so_skipped : (n : ℕ) (entries : List (ℕ × Option ℕ)) → So n entries → is_listed c.register row register n ≡ false → So (suc n) entries
-  so_skipped n entries so none = record {
-    rise = so.rise;
-    below = all_more (λ (entry : ℕ × Option ℕ). entry.0 < n) (λ entry. entry.0 < suc n) entries (λ x lt. omega arith) so.below;
-    each = so.each;
-    all = λ r lt is. elim (cases_lt r n) [
-      | inl less ↦ so.all r less is
-      | inr more ↦
-          let same : r ≡ n = omega arith in
-          let both : true ≡ false = sym is ∙ ap (is_listed c.register row register) same ∙ none in absurd cc
-    ];
-  }
 
   pub so_added : (n : ℕ) (entries : List (ℕ × Option ℕ)) (v : Option ℕ) → So n entries → Listed n → Recovers c limit policy row register cfa n (Ok v) → So (suc n) (entries ++ (n, v) ∷ [])
   so_added n entries v so listed is = record {

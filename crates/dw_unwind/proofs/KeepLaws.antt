@@ -26,9 +26,6 @@ pub given_push : (ss : List Statement) (s : Statement) (item : Item) → given (
 given_push [] s item = or_else_none (told s item)
 given_push (t ∷ ss) s item = ap (option_or (told t item)) (given_push ss s item) ∙ or_else_assoc (told t item) (given ss item) (told s item)
 
-once : Statement → Item → ℕ
-once s item = cond (is_some (told s item)) 1 0
-
 pub times_cons : (s : Statement) (ss : List Statement) (item : Item) → times (s ∷ ss) item ≡ cond (is_some (told s item)) 1 0 + times ss item
 times_cons s ss item = sum_by-cons (λ (t : Statement). cond (is_some (told t item)) 1 0) s ss
 

@@ -1,12 +1,8 @@
-use Rattle.std.proofs.Common.{ℕ, ◌<◌, ◌-◌, refl, sym, subst}
+use Rattle.std.proofs.Common.{ℕ, ◌<◌, ◌-◌, sym, subst}
 use Rattle.std.specs.Prelude.{◌^◌}
-use Rattle.std.proofs.KnownBytes.{Appends-nil}
 use Rattle.dw_canon.proofs.Lent.Canonical.{members_exist}
 use Rattle.dw_normal.proofs.Entries.{fde_counted, fdes_fail, fdes_next, fdes_end}
 use Rattle.dw_normal.proofs.entry.write_all.Goals as goal
-
-pub fdes-init : goal.fdes-init
-fdes-init g c = record { fdes = record { puts = λ ms are. (refl, refl, Appends-nil (g.S.Sink.taken c.args.sink.now)) }; section = c.requires.section }
 
 pub write_fde-put-requires-clause-room : goal.write_fde-put-requires-clause-room
 write_fde-put-requires-clause-room g c =

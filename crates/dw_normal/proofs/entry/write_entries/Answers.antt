@@ -1,5 +1,4 @@
-use Rattle.std.proofs.Common.{ℕ, ◌<◌, ◌-◌, List, length, Err, sym, ap, ◌∙◌, subst, rules, arith}
-use Rattle.std.specs.Prelude.{◌^◌}
+use Rattle.std.proofs.Common.{ℕ, List, length, Err, sym, ap, ◌∙◌, subst, rules, arith}
 use Rattle.dw_num.specs.declared.target.Target.{Target}
 use Rattle.dw_canon.proofs.Lent.Canonical.{members_exist}
 use Rattle.dw_canon.proofs.Lent.Rendered.{renders}
@@ -27,9 +26,6 @@ write_cies-requires g c =
       fits = rows_fit t s b ok some.0 some.1 c.target-target.ensures are;
       small = omega (arith, cies_long t some.0 c.args.rows.now.entries are, c.requires.small some.0 some.1, same);
     }
-
-pub write_fdes-requires-clause-room : goal.write_fdes-requires-clause-room
-write_fdes-requires-clause-room g c = subst (λ (n : ℕ). n < 2 ^ 64 - 1) (sym c.in_ok-cies.ensures.puts.0) c.requires.room
 
 pub write_fdes-requires-clause-places : goal.write_fdes-requires-clause-places
 write_fdes-requires-clause-places g c = λ register. c.in_ok-cies.ensures.places register ∙ ap (λ (u : Target). cie_place u 0 c.args.rows.now.entries register) c.target-target.ensures

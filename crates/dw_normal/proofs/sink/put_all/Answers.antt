@@ -1,15 +1,7 @@
-use Rattle.std.proofs.Common.{◌<◌, ◌∙◌, ◌-◌, ℕ, length, refl, ap, arith, sym, subst}
-use Rattle.std.specs.Prelude.{◌^◌}
+use Rattle.std.proofs.Common.{◌∙◌, length, ap, arith}
 use Rattle.std.proofs.lemmas.List.{length-drop, take_rest}
-use Rattle.std.proofs.KnownBytes.{Appends-nil}
 use Rattle.dw_normal.proofs.Taken.{took_more, took_all}
 use Rattle.dw_normal.proofs.sink.put_all.Goals as goal
-
-pub bytes-init : goal.bytes-init
-bytes-init g c = (omega arith, refl, Appends-nil (g.S.Sink.taken c.args.sink.now))
-
-pub put-requires-clause-room : goal.put-requires-clause-room
-put-requires-clause-room g c = subst (λ (n : ℕ). n < 2 ^ 64 - 1) (sym c.bytes.invariant.1) c.requires.room
 
 pub bytes-preserved : goal.bytes-preserved
 bytes-preserved g c =
