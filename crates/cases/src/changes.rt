@@ -91,8 +91,8 @@ pub fn changes_text(alloc: Global, table: &Table<'_>) -> Result<String, Fail> {
     Ok(text)
 }
 
-// The first change of the FDE of an address, by both calls that go on in the room of changes of the section, and what the second
-// answers: how many bytes its own program has, how many that of its CIE, and the row of its CIE that it begins with.
+// The first change of the FDE of an address, by both calls that go on in the room of changes of the section, and how many bytes
+// its own program and that of its CIE have, as the second says.
 fn opening_text<'a>(
     alloc: Global,
     table: &Table<'a>,
@@ -111,8 +111,7 @@ fn opening_text<'a>(
     if first != next_given(alloc, changes)? {
         return Err(Fail::new("both calls differ"));
     }
-    let (own, initial) = (opening.own, opening.initial);
-    Ok(format!(in alloc; "{first} {own} {initial} {:?}", opening.row)?)
+    Ok(format!(in alloc; "{first} {} behind {}", opening.own, opening.initial)?)
 }
 
 fn agree<'a>(
@@ -136,9 +135,8 @@ fn agree_in_turn<'a>(
 ) -> Result<(), Fail>
     requires { changes.old.section ≡ table.now }
 {
-    let first =
-        "0x401000 cfa=r7+8 r16=[cfa-8]; 16 265 Some(CieRow { cie_at: 0, cfa_offset: None })";
-    let second = "0x1000 cfa=r7+8 r16=[cfa-8]; 16 1 None";
+    let first = "0x401000 cfa=r7+8 r16=[cfa-8]; 16 behind 265";
+    let second = "0x1000 cfa=r7+8 r16=[cfa-8]; 16 behind 1";
     agree(alloc, table, changes, 0x401000, first)?;
     agree(alloc, table, changes, 0x1000, second)?;
     agree(alloc, table, changes, 0x401000, first)
