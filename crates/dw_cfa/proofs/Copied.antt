@@ -7,7 +7,7 @@ use Rattle.std.proofs.lemmas.Bool.{cases_Bool, cases_lt, eqb-true}
 use Rattle.std.proofs.lemmas.List.{length-set, get_or-set_same, get_or-set_other}
 use Rattle.std.proofs.Math.ListN.{set}
 use Rattle.dw_cfa.proofs.Types.{Entries, RegRule, Slot}
-use Rattle.dw_cfa.specs.declared.row.Kind.TheVariants as kinds
+use Rattle.dw_cfa.specs.declared.slot.Kind.TheVariants as kinds
 use Rattle.dw_cfa.specs.Rows.{rule_in}
 use Rattle.dw_cfa.specs.Inner.Entries.{CopiedBelow, Covers, EntriesSo, entries_of, listed_near, slot_rule}
 use Rattle.dw_cfa.proofs.Difference.{not_used}

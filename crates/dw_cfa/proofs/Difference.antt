@@ -10,7 +10,7 @@ use Rattle.std.proofs.lemmas.Bool.Decides.{nat_tests}
 use Rattle.std.proofs.lemmas.Bool.{cases_lt}
 use Rattle.dw_cfa.proofs.Types.{Entries, Kind, RegRule, Slot}
 use Rattle.dw_cfa.specs.declared.rule.RegRule.TheVariants.{Unspecified}
-use Rattle.dw_cfa.specs.declared.row.Kind.TheVariants as kinds
+use Rattle.dw_cfa.specs.declared.slot.Kind.TheVariants as kinds
 use Rattle.dw_cfa.specs.Rows.{AreSpecified, rule_in}
 use Rattle.dw_cfa.specs.Inner.Entries.{entries_of, slot_rule, kind_rule, EntriesSo}
 use Rattle.dw_cfa.specs.Difference.{SameBetween, DiffersFirst, FirstDifference, place_behind}

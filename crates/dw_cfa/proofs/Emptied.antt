@@ -4,7 +4,7 @@ use Rattle.std.specs.Prelude.{◌*◌, ◌%◌, ◌^◌, bit_and}
 use Rattle.std.specs.Int.{bit_at, bit_not, w32}
 use Rattle.std.proofs.lemmas.Nat.{and_le_l}
 use Rattle.std.proofs.lemmas.Nat.Bits.{bit_at_clear_same}
-use Rattle.dw_cfa.specs.declared.row.Slot.{Slot}
+use Rattle.dw_cfa.specs.declared.slot.Slot.{Slot}
 use Rattle.dw_cfa.specs.Inner.Entries.{Covers, listed_near}
 use Rattle.dw_cfa.proofs.Lent.RowLists.{Entry}
 use Rattle.dw_cfa.proofs.Slots.{none_used}

@@ -12,7 +12,7 @@ use Rattle.std.proofs.Math.Nat.{div-le_self}
 use Rattle.std.proofs.lemmas.Nat.{pow_pos}
 use Rattle.std.proofs.lemmas.Nat.Bits.{bit_at-zero, bit_at_above, bit_at_cat_high, bit_at-trailing_zeros, bit_at_set_same, bit_at_set_other, bit_at_clear_other, bit_at_or}
 use Rattle.dw_cfa.proofs.Types.{CfaRule, Entries, Kind, RegRule, Rules, Slot}
-use Rattle.dw_cfa.specs.declared.row.Kind.TheVariants as kinds
+use Rattle.dw_cfa.specs.declared.slot.Kind.TheVariants as kinds
 use Rattle.dw_cfa.specs.Rows.{is_specified, AreSpecified, HasFar, rule_in}
 use Rattle.dw_cfa.specs.Inner.Rows.{listed, put}
 use Rattle.dw_cfa.specs.Inner.Entries.{EntriesSo, entries_of, kind_rule, slot_rule, listed_near, HoldsRule, IsSlotOf, Covers}

@@ -12,8 +12,8 @@ pub use Rattle.dw_cfa.specs.declared.machine.Machine.{Machine}
 pub use Rattle.dw_cfa.specs.declared.marks.Marks.{Marks}
 pub use Rattle.dw_cfa.specs.declared.opcode.Opcode.{Opcode}
 pub use Rattle.dw_cfa.specs.declared.row.Entries.{Entries}
-pub use Rattle.dw_cfa.specs.declared.row.Kind.{Kind}
-pub use Rattle.dw_cfa.specs.declared.row.Slot.{Slot}
+pub use Rattle.dw_cfa.specs.declared.slot.Kind.{Kind}
+pub use Rattle.dw_cfa.specs.declared.slot.Slot.{Slot}
 pub use Rattle.dw_cfa.specs.declared.row_walk.Leading.{Leading}
 pub use Rattle.dw_cfa.specs.declared.rule.CfaRule.{CfaRule}
 pub use Rattle.dw_cfa.specs.declared.rule.RegRule.{RegRule}

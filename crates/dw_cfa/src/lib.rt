@@ -25,6 +25,7 @@ mod row;
 mod row_walk;
 mod rows;
 mod rule;
+mod slot;
 mod states;
 mod steps;
 mod tree;

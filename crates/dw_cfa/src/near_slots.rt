@@ -5,8 +5,9 @@ ghost use Rattle.std.specs.Iterator.{YieldsFirst, item_count};
 ghost use Rattle.dw_cfa.specs.Rows.{rule_in};
 ghost use Rattle.dw_cfa.specs.Inner.Entries.{CopiedBelow, Covers, FindsNear, slot_rule};
 
-use crate::row::{EMPTY, Kind, NEAR, Slot, rule_of};
+use crate::row::NEAR;
 use crate::rule::RegRule;
+use crate::slot::{EMPTY, Kind, Slot, rule_of};
 use std::collections::BTreeMap;
 use std::marker::Model;
 

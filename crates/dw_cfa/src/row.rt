@@ -3,19 +3,19 @@
 ghost use Rattle.std.specs.Prelude.{◌≡◌, ◌<◌, ℕ, ℤ, [], ◌∷◌, None, IfOk, IfSome, OnOk, OnErr, MatchOption, IsTrue, ◌↔◌, length};
 ghost use Rattle.std.specs.List.{filter};
 ghost use Rattle.std.specs.Iterator.{YieldsFirst, item_count};
-ghost use Rattle.dw_cfa.specs.declared.rule.RegRule.{RegRule as TheRule};
 ghost use Rattle.dw_cfa.specs.declared.rule.RegRule.TheVariants.{Offset, Unspecified};
 ghost use Rattle.dw_cfa.specs.Rows.{AreSpecified, HasFar, rule, rule_in, blank};
 ghost use Rattle.dw_cfa.specs.Inner.Rows.{put, with_cfa, with_rule};
 ghost use Rattle.dw_cfa.specs.Agreement.{IsAgreed, is_kept, kept};
 ghost use Rattle.dw_cfa.specs.Inner.Agreement.{is_agreed, same_rule};
-ghost use Rattle.dw_cfa.specs.Inner.Entries.{entries_of, slot_rule, EntriesSo, IsSlotOf, LeavesAt, LeavesBelow};
+ghost use Rattle.dw_cfa.specs.Inner.Entries.{entries_of, EntriesSo, LeavesAt, LeavesBelow};
 ghost use Rattle.dw_cfa.specs.Difference.{FirstDifference, place_behind};
 ghost use Rattle.dw_cfa.specs.Inner.Difference.{FirstBelow, SameUnset};
 
 use crate::behind::{place_behind, start_behind};
 use crate::near_slots::{NearRules, copy_slots, empty_slots, next_near, same_slots};
 use crate::rule::{CfaRule, RegRule};
+use crate::slot::{EMPTY, Kind, Slot, offset_in, rule_of, slot_of};
 use crate::tree::{first_difference, rule_in_tree, set_in_tree, tree_of};
 use std::alloc::{AllocError, Global};
 use std::collections::{BTreeMap, btree_map};
@@ -25,33 +25,6 @@ use std::ops::Bound;
 /// The registers below this have slots of their own.
 pub(crate) const NEAR: u16 = 32;
 
-/// What kind of rule a slot holds. A rule with an expression is kept beside the slots.
-#[derive(Clone, Copy)]
-pub(crate) enum Kind {
-    Empty,
-    Undefined,
-    SameValue,
-    Offset,
-    ValOffset,
-    Register,
-    Expression,
-}
-
-/// The rule of a register: its kind, and its register or its offset.
-#[derive(Clone, Copy)]
-pub(crate) struct Slot {
-    pub(crate) kind: Kind,
-    pub(crate) register: u16,
-    pub(crate) offset: i64,
-}
-
-/// The slot of a register that is Unspecified.
-pub(crate) const EMPTY: Slot = Slot {
-    kind: Kind::Empty,
-    register: 0,
-    offset: 0,
-};
-
 // The registers that are not Unspecified, with their rules: those below 32 in slots, with the expressions of
 // theirs in a tree, and all others in another tree.
 #[derive(Drop)]
@@ -60,59 +33,6 @@ struct Entries<'a> {
     used: u32,
     expressions: BTreeMap<u16, RegRule<'a>>,
     far: BTreeMap<u16, RegRule<'a>>,
-}
-
-/// The rule that a slot holds of a register.
-#[inline(always)]
-pub(crate) fn rule_of<'a>(
-    slot: Slot,
-    expressions: &BTreeMap<u16, RegRule<'a>>,
-    register: u16,
-) -> RegRule<'a>
-    ensures { result ≡ slot_rule slot (rule_in expressions.now.entries register) }
-{
-    match slot.kind {
-        Kind::Empty => RegRule::Unspecified,
-        Kind::Undefined => RegRule::Undefined,
-        Kind::SameValue => RegRule::SameValue,
-        Kind::Offset => RegRule::Offset(slot.offset),
-        Kind::ValOffset => RegRule::ValOffset(slot.offset),
-        Kind::Register => RegRule::Register(slot.register),
-        Kind::Expression => rule_in_tree(expressions, register),
-    }
-}
-
-// The slot of a rule.
-#[inline(always)]
-fn slot_of(rule: &RegRule<'_>) -> Slot
-    ensures { IsSlotOf rule.now result }
-{
-    let (kind, register, offset) = match rule {
-        RegRule::Unspecified => (Kind::Empty, 0, 0),
-        RegRule::Undefined => (Kind::Undefined, 0, 0),
-        RegRule::SameValue => (Kind::SameValue, 0, 0),
-        RegRule::Offset(offset) => (Kind::Offset, 0, *offset),
-        RegRule::ValOffset(offset) => (Kind::ValOffset, 0, *offset),
-        RegRule::Register(register) => (Kind::Register, *register, 0),
-        RegRule::Expression(_) => (Kind::Expression, 0, 0),
-        RegRule::ValExpression(_) => (Kind::Expression, 0, 0),
-    };
-    Slot {
-        kind,
-        register,
-        offset,
-    }
-}
-
-// The offset that a slot holds of a register that is saved.
-#[inline(always)]
-fn offset_in(slot: Slot) -> Option<i64>
-    ensures { IfSome result (λ n. (block : TheRule) → slot_rule slot block ≡ Offset n) }
-{
-    match slot.kind {
-        Kind::Offset => Some(slot.offset),
-        _ => None,
-    }
 }
 
 impl<'a> Entries<'a> {

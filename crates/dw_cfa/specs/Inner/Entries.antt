@@ -3,9 +3,9 @@ use Rattle.std.specs.Prelude.{◌≡◌, ℕ, suc, ◌<◌, ◌≤◌, List, [],
 use Rattle.dw_cfa.specs.declared.rule.RegRule.{RegRule}
 use Rattle.dw_cfa.specs.declared.rule.RegRule.TheVariants as rules
 use Rattle.dw_cfa.specs.declared.row.Entries.{Entries}
-use Rattle.dw_cfa.specs.declared.row.Slot.{Slot}
-use Rattle.dw_cfa.specs.declared.row.Kind.{Kind}
-use Rattle.dw_cfa.specs.declared.row.Kind.TheVariants as kinds
+use Rattle.dw_cfa.specs.declared.slot.Slot.{Slot}
+use Rattle.dw_cfa.specs.declared.slot.Kind.{Kind}
+use Rattle.dw_cfa.specs.declared.slot.Kind.TheVariants as kinds
 use Rattle.std.specs.Int.{bit_at}
 use Rattle.std.proofs.Math.ListN.{get_or}
 use Rattle.dw_cfa.specs.Rows.{AreSpecified, rule_in}

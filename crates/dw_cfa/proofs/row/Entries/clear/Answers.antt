@@ -1,5 +1,5 @@
 use Rattle.std.proofs.Common.{◌≡◌, List, length, sym, subst, refl}
-use Rattle.dw_cfa.specs.declared.row.Slot.{Slot}
+use Rattle.dw_cfa.specs.declared.slot.Slot.{Slot}
 use Rattle.dw_cfa.specs.Inner.Entries.{Covers}
 use Rattle.dw_cfa.proofs.Emptied.{none_listed}
 use Rattle.dw_cfa.proofs.row.Entries.clear.Goals as goal

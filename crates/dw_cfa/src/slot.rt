@@ -1,0 +1,91 @@
+//! What a slot of a row holds: the rule of one register (6.4.1).
+
+ghost use Rattle.std.specs.Prelude.{◌≡◌, IfSome};
+ghost use Rattle.dw_cfa.specs.declared.rule.RegRule.{RegRule as TheRule};
+ghost use Rattle.dw_cfa.specs.declared.rule.RegRule.TheVariants.{Offset};
+ghost use Rattle.dw_cfa.specs.Rows.{rule_in};
+ghost use Rattle.dw_cfa.specs.Inner.Entries.{slot_rule, IsSlotOf};
+
+use crate::rule::RegRule;
+use crate::tree::rule_in_tree;
+use std::collections::BTreeMap;
+
+/// What kind of rule a slot holds. A rule with an expression is kept beside the slots.
+#[derive(Clone, Copy)]
+pub(crate) enum Kind {
+    Empty,
+    Undefined,
+    SameValue,
+    Offset,
+    ValOffset,
+    Register,
+    Expression,
+}
+
+/// The rule of a register: its kind, and its register or its offset.
+#[derive(Clone, Copy)]
+pub(crate) struct Slot {
+    pub(crate) kind: Kind,
+    pub(crate) register: u16,
+    pub(crate) offset: i64,
+}
+
+/// The slot of a register that is Unspecified.
+pub(crate) const EMPTY: Slot = Slot {
+    kind: Kind::Empty,
+    register: 0,
+    offset: 0,
+};
+
+/// The rule that a slot holds of a register.
+#[inline(always)]
+pub(crate) fn rule_of<'a>(
+    slot: Slot,
+    expressions: &BTreeMap<u16, RegRule<'a>>,
+    register: u16,
+) -> RegRule<'a>
+    ensures { result ≡ slot_rule slot (rule_in expressions.now.entries register) }
+{
+    match slot.kind {
+        Kind::Empty => RegRule::Unspecified,
+        Kind::Undefined => RegRule::Undefined,
+        Kind::SameValue => RegRule::SameValue,
+        Kind::Offset => RegRule::Offset(slot.offset),
+        Kind::ValOffset => RegRule::ValOffset(slot.offset),
+        Kind::Register => RegRule::Register(slot.register),
+        Kind::Expression => rule_in_tree(expressions, register),
+    }
+}
+
+/// The slot of a rule.
+#[inline(always)]
+pub(crate) fn slot_of(rule: &RegRule<'_>) -> Slot
+    ensures { IsSlotOf rule.now result }
+{
+    let (kind, register, offset) = match rule {
+        RegRule::Unspecified => (Kind::Empty, 0, 0),
+        RegRule::Undefined => (Kind::Undefined, 0, 0),
+        RegRule::SameValue => (Kind::SameValue, 0, 0),
+        RegRule::Offset(offset) => (Kind::Offset, 0, *offset),
+        RegRule::ValOffset(offset) => (Kind::ValOffset, 0, *offset),
+        RegRule::Register(register) => (Kind::Register, *register, 0),
+        RegRule::Expression(_) => (Kind::Expression, 0, 0),
+        RegRule::ValExpression(_) => (Kind::Expression, 0, 0),
+    };
+    Slot {
+        kind,
+        register,
+        offset,
+    }
+}
+
+/// The offset that a slot holds of a register that is saved.
+#[inline(always)]
+pub(crate) fn offset_in(slot: Slot) -> Option<i64>
+    ensures { IfSome result (λ n. (block : TheRule) → slot_rule slot block ≡ Offset n) }
+{
+    match slot.kind {
+        Kind::Offset => Some(slot.offset),
+        _ => None,
+    }
+}
