@@ -1,10 +1,5 @@
 -- Registers that ascend.
-use Rattle.std.proofs.Common.{◌≡◌, ℕ, suc, ◌≤◌, List, [], ◌∷◌, map, inl, inr, arith}
-use Rattle.std.specs.Prelude.{nat_eq, nat_lt}
-use Rattle.std.proofs.lemmas.Bool.{cases_Bool, cases_lt, eqb-false, ltb-true, ltb-false}
-use Rattle.dw_cfa.specs.declared.rule.RegRule.{RegRule}
-use Rattle.dw_cfa.specs.Rows.{AreSpecified}
-use Rattle.dw_canon.specs.Inner.Difference.{with_register, with_registers}
+use Rattle.dw_canon.proofs.Words.{◌≡◌, ℕ, suc, ◌≤◌, List, [], ◌∷◌, map, inl, inr, arith, nat_eq, nat_lt, cases_Bool, cases_lt, eqb-false, ltb-true, ltb-false, RegRule, AreSpecified, with_register, with_registers}
 
 abbrev pub Rise : ℕ → List ℕ → Type 0
 Rise low [] = Unit {0}

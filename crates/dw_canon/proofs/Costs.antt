@@ -1,28 +1,10 @@
 -- How many bytes lead from one row to another, where the bytes of the rules of both are known.
-use Rattle.std.proofs.Common.{◌≡◌, ℕ, ◌+◌, ◌<◌, ◌≤◌, true, false, List, [], ◌∷◌, ◌++◌, length, refl, inl, inr, arith}
-use Rattle.std.specs.Prelude.{ℤ, neg_ℤ, unsigned_abs, nat_eq, nat_lt}
-use Rattle.std.specs.Int.{is_negative, is_positive}
-use Rattle.std.specs.List.{flat_map}
-use Rattle.std.specs.Ordering.{int_eq}
-use Rattle.std.proofs.lemmas.Bool.{cases_Bool}
-use Rattle.std.proofs.lemmas.List.{length-append}
-use Rattle.dw_num.specs.declared.target.Target.{Target}
-use Rattle.dw_num.specs.Shortest.{shortest_uleb, shortest_sleb}
-use Rattle.dw_cfa.specs.declared.instr.Instr.{Instr}
-use Rattle.dw_cfa.specs.declared.instr.Instr.TheVariants.{DefCfa, DefCfaRegister, DefCfaOffset, DefCfaExpression, Set, Restore}
-use Rattle.dw_cfa.specs.declared.rule.CfaRule.{CfaRule}
+use Rattle.dw_canon.proofs.Words.{◌≡◌, ℕ, ◌+◌, ◌<◌, ◌≤◌, true, false, List, [], ◌∷◌, ◌++◌, length, refl, inl, inr, arith, ℤ, neg_ℤ, unsigned_abs, nat_eq, nat_lt, is_negative, is_positive, flat_map, int_eq, cases_Bool, length-append, Target}
+use Rattle.dw_canon.proofs.Words.{shortest_uleb, shortest_sleb, Instr, DefCfa, DefCfaRegister, DefCfaOffset, DefCfaExpression, Set, Restore, CfaRule, RegRule, IsOffset, same_cfa, same_rule, Rules, rule, is_specified, CfaFits, RowFits}
+use Rattle.dw_canon.proofs.Words.{cfa_to, either, cfa_difference, rule_difference, difference, expression_bytes, instr_bytes, program_bytes, packed}
 use Rattle.dw_cfa.specs.declared.rule.CfaRule.TheVariants as cfa
-use Rattle.dw_cfa.specs.declared.rule.RegRule.{RegRule}
 use Rattle.dw_cfa.specs.declared.rule.RegRule.TheVariants as rules
-use Rattle.dw_cfa.specs.InstrSpells.{IsOffset}
-use Rattle.dw_cfa.specs.Inner.Agreement.{same_cfa, same_rule}
-use Rattle.dw_cfa.specs.Rows.{Rules, rule, is_specified}
-use Rattle.dw_section.specs.Fits.{CfaFits, RowFits}
-use Rattle.dw_canon.specs.Difference.{cfa_to, either}
-use Rattle.dw_canon.specs.Inner.Difference.{cfa_difference, rule_difference, difference}
-use Rattle.dw_canon.specs.Inner.Spelling.{expression_bytes, instr_bytes, program_bytes}
 use Rattle.dw_canon.specs.Spelling.{instr_bytes as instr_with}
-use Rattle.dw_canon.specs.Spelling.{packed}
 use Rattle.dw_canon.proofs.Lent.Shared.{specified_or}
 use Rattle.dw_canon.proofs.Sums.{sum_of}
 use Rattle.dw_canon.proofs.Weights.{rule_len, cfa_len, register_len, abs_len, neg_len, packed_len}

@@ -1,46 +1,19 @@
 -- What holds of a member's program and of its CIE's, as instructions: they keep what programs have to, start as many rows as there
 -- are changes, and change at the member's addresses to its rows.
-use Rattle.std.proofs.Common.{◌≡◌, ℕ, zero, suc, ◌+◌, ◌<◌, ◌≤◌, Bool, true, false, cond, List, [], ◌∷◌, ◌++◌, length, map, replicate, Option, Some, None, refl, sym, ap, ◌∙◌, subst, inl, inr, arith}
-use Rattle.std.specs.Prelude.{count_by, IsTrue, nat_le}
-use Rattle.std.proofs.lemmas.Bool.{cases_Bool}
-use Rattle.std.specs.List.{AllByRecursion}
-use Rattle.std.proofs.lemmas.List.{length-map, append-nil}
+use Rattle.dw_canon.proofs.Words.{◌≡◌, ℕ, zero, suc, ◌+◌, ◌<◌, ◌≤◌, Bool, true, false, cond, List, [], ◌∷◌, ◌++◌, length, map, replicate, Option, Some, None, refl, sym, ap, ◌∙◌, subst, inl, inr, arith, count_by, IsTrue, nat_le, cases_Bool}
+use Rattle.dw_canon.proofs.Words.{AllByRecursion, length-map, append-nil, Target, address_limit, Instr, Nop, CfaRule, RegRule, LocatedRow, cfa_after, rule_after, Program, CieKept, FdeKept, in_cie, initial_cfa, initial_rule, HoldsAfter}
+use Rattle.dw_canon.proofs.Words.{onto, moves_location, row_starts, State, begun, after, Rules, AreSpecified, rule, blank, Placed, counts_exists, one_count, instrs_of, Gives, rows_at, never_falls, AreChanges, HasCfa, fde_instrs, cie_instrs}
+use Rattle.dw_canon.proofs.Words.{RowFits, ChangesStand, MemberStands, InstrFits, Member, changes_of, program_bytes, factors}
 use Rattle.std.proofs.lemmas.List.Sums.{sum_by-cons}
-use Rattle.dw_num.specs.declared.target.Target.{Target}
-use Rattle.dw_num.specs.Target.{address_limit}
-use Rattle.dw_cfa.specs.declared.instr.Instr.{Instr}
-use Rattle.dw_cfa.specs.declared.instr.Instr.TheVariants.{Nop}
-use Rattle.dw_cfa.specs.declared.rule.CfaRule.{CfaRule}
 use Rattle.dw_cfa.specs.declared.rule.CfaRule.TheVariants as cfa
-use Rattle.dw_cfa.specs.declared.rule.RegRule.{RegRule}
-use Rattle.dw_cfa.specs.declared.execution.LocatedRow.{LocatedRow}
-use Rattle.dw_cfa.specs.Column.{cfa_after, rule_after}
-use Rattle.dw_cfa.specs.InstrSpells.{Program}
-use Rattle.dw_cfa.specs.Kept.{CieKept, FdeKept, in_cie}
-use Rattle.dw_cfa.specs.Laws.{initial_cfa, initial_rule, HoldsAfter}
-use Rattle.dw_cfa.specs.Location.{onto, moves_location, row_starts}
-use Rattle.dw_cfa.specs.Inner.Machine.{State, begun, after}
-use Rattle.dw_cfa.specs.Rows.{Rules, AreSpecified, rule, blank}
 use Rattle.dw_cfa.specs.RuleAt.{last_at, or_here, NeverFalls}
 use Rattle.dw_cfa.specs.Inner.RuleAt.{CountsFrom}
-use Rattle.dw_cfa.specs.Inner.Runs.{Placed}
-use Rattle.dw_cfa.proofs.Lent.InstrCounts.{counts_exists, one_count}
 use Rattle.dw_cfa.proofs.Lent.FaultLaws.{begun_stands}
 use Rattle.dw_cfa.proofs.Lent.Forward.{Follows, Holds, after_follows, begun_follows}
 use Rattle.dw_cfa.proofs.Lent.KeptLaws.{fde_kept, all_in_limit}
 use Rattle.dw_cfa.proofs.Lent.KeptRuns.{AllInLimit, KeptFrom, kept_from}
-use Rattle.dw_cfa.proofs.Lent.RowsAt.{instrs_of, Gives, rows_at, never_falls}
-use Rattle.dw_section.specs.Changes.{AreChanges}
 use Rattle.dw_section.specs.Inner.Changes.{Among, Before}
-use Rattle.dw_section.specs.Programs.{HasCfa}
 use Rattle.dw_section.proofs.Lent.ChangeLaws.{HasRow, all_found}
-use Rattle.dw_canon.specs.Inner.Canon.{fde_instrs, cie_instrs}
-use Rattle.dw_section.specs.Fits.{RowFits}
-use Rattle.dw_canon.specs.Inner.Fits.{ChangesStand, MemberStands}
-use Rattle.dw_canon.specs.Inner.Fits.{InstrFits}
-use Rattle.dw_canon.specs.Members.{Member, changes_of}
-use Rattle.dw_canon.specs.Inner.Spelling.{program_bytes}
-use Rattle.dw_canon.specs.Inner.Written.{factors}
 use Rattle.dw_canon.proofs.Lent.Differences.{Quiet, quiet_more, on, difference_quiet}
 use Rattle.dw_canon.proofs.Lent.InstrFits.{all_more, blank_fits, nops_fit, member_fits, cie_fits, cie_allowed}
 use Rattle.dw_canon.proofs.Lent.Programs.{NoFaults, plain_rows, plain_gives, RunsTo, quiet_runs, nops_quiet, located, below_end, member_runs, row_before}

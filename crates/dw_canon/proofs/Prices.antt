@@ -1,32 +1,13 @@
 -- What a member of a section takes in the normal form, and its group's CIE, against the programs of its FDE.
-use Rattle.std.proofs.Common.{ℕ, ◌+◌, ◌*◌, ◌<◌, ◌≤◌, List, ◌∷◌, length, inl, inr, arith}
-use Rattle.std.specs.List.{AllByRecursion}
-use Rattle.std.proofs.Math.Nat.{suc-mul}
-use Rattle.dw_num.specs.declared.target.Target.{Target}
-use Rattle.dw_num.specs.Input.{AreBytes}
-use Rattle.dw_cfa.specs.declared.instr.Instr.{Instr}
-use Rattle.dw_cfa.specs.Rows.{Rules, blank}
-use Rattle.dw_cfa.proofs.Lent.InstrCounts.{counts_exists}
-use Rattle.dw_section.specs.Accepted.{Accepted}
-use Rattle.dw_section.specs.Meaning.{HasLengths}
-use Rattle.dw_section.specs.Fits.{RowFits}
+use Rattle.dw_canon.proofs.Words.{ℕ, ◌+◌, ◌*◌, ◌<◌, ◌≤◌, List, ◌∷◌, length, inl, inr, arith, AllByRecursion, suc-mul, Target, AreBytes, Instr, Rules, blank, counts_exists, Accepted, HasLengths, RowFits, here, changes_programs, Held}
+use Rattle.dw_canon.proofs.Words.{held_all, least_starts, cie_instrs, fde_instrs, difference, later_changes, RestsOn, initial_row, Member, IsMember, fde_of, changes_of, program_bytes, factors_of}
 use Rattle.dw_section.proofs.Lent.OneLengths.{one_lengths}
-use Rattle.dw_section.proofs.Lent.Sections.{here, changes_programs}
-use Rattle.dw_section.proofs.Lent.Sounds.{Held, held_all}
-use Rattle.dw_section.proofs.Lent.Totals.{least_starts}
-use Rattle.dw_canon.specs.Inner.Canon.{cie_instrs, fde_instrs}
-use Rattle.dw_canon.specs.Inner.Difference.{difference, later_changes}
-use Rattle.dw_canon.specs.Inner.Fits.{RestsOn}
-use Rattle.dw_canon.specs.Inner.Group.{initial_row}
-use Rattle.dw_canon.specs.Members.{Member, IsMember, fde_of, changes_of}
-use Rattle.dw_canon.specs.Inner.Spelling.{program_bytes}
 use Rattle.dw_canon.proofs.Costs.{bytes_more}
 use Rattle.dw_canon.proofs.Lent.Shared.{MemberFits, initial_fits, initial_or, initial_cfa_or}
 use Rattle.dw_canon.proofs.Lent.MemberPlaces.{all_both}
 use Rattle.dw_canon.proofs.Sums.{sum_more}
 use Rattle.dw_canon.proofs.Weights.{rule_weight, cfa_weight, program_most}
 use Rattle.dw_canon.proofs.Within.{all_len, IsWithin, holds_within, step_len, later_len}
-use Rattle.dw_section.specs.Programs.{factors_of}
 
 -- the rows of a member are within what its programs give, and its changes are no more than they start rows
 pub record IsPriced (t : Target) (m : Member) (own initial : ℕ) : Type 0 where

@@ -1,21 +1,8 @@
 -- The laws of programs.
-use Rattle.std.proofs.Common.{◌≡◌, ℕ, List, subst, length}
-use Rattle.std.proofs.lemmas.List.{append-nil}
-use Rattle.dw_num.specs.Target.{address_limit}
-use Rattle.dw_cfa.specs.declared.instr.Instr.{Instr}
-use Rattle.dw_cfa.specs.InstrSpells.{Program}
-use Rattle.dw_cfa.specs.Kept.{CieKept, FdeKept}
-use Rattle.dw_cfa.specs.Laws.{initial_cfa, initial_rule}
-use Rattle.dw_cfa.specs.Location.{row_starts}
-use Rattle.dw_cfa.specs.Rows.{rule}
-use Rattle.dw_section.specs.Changes.{AreChanges}
-use Rattle.dw_canon.specs.Inner.Canon.{cie_instrs, fde_instrs}
+use Rattle.dw_canon.proofs.Words.{◌≡◌, ℕ, List, subst, length, append-nil, address_limit, Instr, Program, CieKept, FdeKept, initial_cfa, initial_rule, row_starts, rule, AreChanges, cie_instrs, fde_instrs, changes_of, program_bytes, factors}
+use Rattle.dw_canon.proofs.Words.{one_changes}
 use Rattle.dw_canon.specs.Inner.Laws.{InitialProgram, MemberProgram, ChangesAreOne}
-use Rattle.dw_canon.specs.Members.{changes_of}
-use Rattle.dw_canon.specs.Inner.Spelling.{program_bytes}
-use Rattle.dw_canon.specs.Inner.Written.{factors}
 use Rattle.dw_canon.proofs.MemberLaws.{cie_spelled, cie_kept, cie_cfa, cie_rules, member_spelled, member_kept, member_changes, member_starts}
-use Rattle.dw_section.proofs.Lent.Rowed.{one_changes}
 
 -- without nops
 pub initial_program : InitialProgram

@@ -1,36 +1,13 @@
 -- The bytes of an instruction in the normal form spell it.
-use Rattle.std.proofs.Common.{◌≡◌, ◌⊎◌, ℕ, zero, suc, ◌+◌, ◌*◌, ◌<◌, ◌^◌, true, false, List, [], ◌∷◌, ◌++◌, length, refl, sym, inl, inr, arith}
-use Rattle.std.specs.Prelude.{ℤ, pos, negsuc, unsigned_abs, nat_lt, FitsSigned, IsTrue}
-use Rattle.std.specs.Int.{w64}
-use Rattle.std.specs.List.{AllByRecursion}
-use Rattle.std.proofs.lemmas.Bool.{cases_Bool, ltb-true, lt-ltb, le-ltb}
+use Rattle.dw_canon.proofs.Words.{◌≡◌, ◌⊎◌, ℕ, zero, suc, ◌+◌, ◌*◌, ◌<◌, ◌^◌, true, false, List, [], ◌∷◌, ◌++◌, length, refl, sym, inl, inr, arith, ℤ, pos, negsuc, unsigned_abs, nat_lt, FitsSigned, IsTrue, w64, AllByRecursion, cases_Bool}
+use Rattle.dw_canon.proofs.Words.{ltb-true, lt-ltb, le-ltb, Target, Size, Four, Eight, Register, Fixed, Address, fixed_bytes, is_specified, shortest_uleb, shortest_sleb, byte_count, address_limit, shortest_uleb-spells, shortest_sleb-spells}
+use Rattle.dw_canon.proofs.Words.{least_block, Expression, Code, Both, least_block_exists, least_no_longer, block_of_least, Instr, SetLoc, Advance, DefCfa, DefCfaRegister, DefCfaOffset, DefCfaExpression, Set, Restore, RegRule, IsOffset}
+use Rattle.dw_canon.proofs.Words.{BlockSpells, InstrSpells, Program, Plain, Factored, SignedFactored, AdvanceSpells, RuleSpells, IsSpelled, in_table, HasBlock, RuleFits, InstrFits, expression_bytes, rule_bytes, instr_bytes, program_bytes}
+use Rattle.dw_canon.proofs.Words.{advance_bytes, packed, factors}
 use Rattle.std.proofs.lemmas.Int.{fits_signed_from_abs}
-use Rattle.dw_num.specs.declared.target.Target.{Target}
-use Rattle.dw_num.specs.declared.target.Size.{Size}
-use Rattle.dw_num.specs.declared.target.Size.TheVariants.{Four, Eight}
-use Rattle.dw_num.specs.Leb.{Register}
-use Rattle.dw_num.specs.Fixed.{Fixed, Address, fixed_bytes}
-use Rattle.dw_cfa.specs.Rows.{is_specified}
-use Rattle.dw_num.specs.Shortest.{shortest_uleb, shortest_sleb}
-use Rattle.dw_num.specs.Target.{byte_count, address_limit}
-use Rattle.dw_num.proofs.Lent.Shortest.{shortest_uleb-spells, shortest_sleb-spells}
-use Rattle.dw_op.specs.Inner.LeastBlock.{least_block}
-use Rattle.dw_op.specs.Expression.{Expression}
-use Rattle.dw_op.specs.OpSpells.{Code, Both}
 use Rattle.dw_op.specs.Inner.ByOperation.{Alone}
-use Rattle.dw_op.proofs.Lent.LeastBlocks.{least_block_exists, least_no_longer, block_of_least}
-use Rattle.dw_cfa.specs.declared.instr.Instr.{Instr}
-use Rattle.dw_cfa.specs.declared.instr.Instr.TheVariants.{SetLoc, Advance, DefCfa, DefCfaRegister, DefCfaOffset, DefCfaExpression, Set, Restore}
-use Rattle.dw_cfa.specs.declared.rule.RegRule.{RegRule}
 use Rattle.dw_cfa.specs.declared.rule.RegRule.TheVariants as rules
-use Rattle.dw_cfa.specs.InstrSpells.{IsOffset, BlockSpells, InstrSpells, Program}
-use Rattle.dw_cfa.proofs.Lent.Spellings.{Plain, Factored, SignedFactored, AdvanceSpells, RuleSpells, IsSpelled, in_table}
-use Rattle.dw_section.specs.Fits.{HasBlock, RuleFits}
-use Rattle.dw_canon.specs.Inner.Fits.{InstrFits}
-use Rattle.dw_canon.specs.Inner.Spelling.{expression_bytes, rule_bytes, instr_bytes, program_bytes}
 use Rattle.dw_canon.specs.Spelling.{instr_bytes as instr_with}
-use Rattle.dw_canon.specs.Spelling.{advance_bytes, packed}
-use Rattle.dw_canon.specs.Inner.Written.{factors}
 
 code : (c : ℕ) (P : List ℕ → Type 0) (rest : List ℕ) → P rest → Code c P (c ∷ rest)
 code c P rest h = record { rest = rest; operands = h; whole = refl }

@@ -1,7 +1,5 @@
 -- Sums over lists, and over numbers that ascend.
-use Rattle.std.proofs.Common.{◌≡◌, ℕ, suc, ◌+◌, ◌<◌, ◌≤◌, List, [], ◌∷◌, ◌++◌, refl, arith, inl, inr}
-use Rattle.std.specs.Prelude.{nat_eq, if◌then◌else◌}
-use Rattle.std.proofs.lemmas.Bool.Decides.{eqb_tells}
+use Rattle.dw_canon.proofs.Words.{◌≡◌, ℕ, suc, ◌+◌, ◌<◌, ◌≤◌, List, [], ◌∷◌, ◌++◌, refl, arith, inl, inr, nat_eq, if◌then◌else◌, eqb_tells}
 use Rattle.dw_canon.proofs.AscendingRegisters.{Rise}
 
 abbrev pub sum_of : {X : Type 0} → (X → ℕ) → List X → ℕ

@@ -1,29 +1,10 @@
 -- How many bytes of the normal form the rules of instructions take, against the bytes of the instructions.
-use Rattle.std.proofs.Common.{◌≡◌, ℕ, zero, suc, ◌+◌, ◌*◌, ◌<◌, ◌≤◌, true, false, cond, List, [], ◌∷◌, length, refl, ap, ◌∙◌, inl, inr, arith}
-use Rattle.std.specs.Prelude.{ℤ, pos, negsuc, neg_ℤ, unsigned_abs, nat_lt, count_by}
-use Rattle.std.specs.Int.{is_positive}
-use Rattle.std.proofs.lemmas.Bool.{cases_Bool}
-use Rattle.std.proofs.lemmas.List.{length-append}
-use Rattle.dw_num.specs.declared.target.Target.{Target}
-use Rattle.dw_num.specs.Leb.{Register}
-use Rattle.dw_num.specs.Shortest.{shortest_uleb, shortest_sleb}
-use Rattle.dw_num.proofs.Lent.Shortest.{shortest_uleb-most, shortest_uleb-one, shortest_uleb-ten, shortest_signed-ten, leb_some}
-use Rattle.dw_op.specs.Inner.LeastBlock.{least_block}
-use Rattle.dw_op.specs.Expression.{Expression}
-use Rattle.dw_op.specs.OpSpells.{Code, Both}
-use Rattle.dw_op.proofs.Lent.LeastBlocks.{least_block_exists, least_no_longer}
-use Rattle.dw_cfa.specs.declared.instr.Factors.{Factors}
-use Rattle.dw_cfa.specs.declared.instr.Instr.{Instr}
-use Rattle.dw_cfa.specs.declared.instr.Instr.TheVariants.{SetLoc, Advance, DefCfaExpression, Set}
-use Rattle.dw_cfa.specs.declared.rule.CfaRule.{CfaRule}
+use Rattle.dw_canon.proofs.Words.{◌≡◌, ℕ, zero, suc, ◌+◌, ◌*◌, ◌<◌, ◌≤◌, true, false, cond, List, [], ◌∷◌, length, refl, ap, ◌∙◌, inl, inr, arith, ℤ, pos, negsuc, neg_ℤ, unsigned_abs, nat_lt, count_by, is_positive, cases_Bool}
+use Rattle.dw_canon.proofs.Words.{length-append, Target, Register, shortest_uleb, shortest_sleb, shortest_uleb-most, shortest_uleb-one, shortest_uleb-ten, shortest_signed-ten, leb_some, least_block, Expression, Code, Both}
+use Rattle.dw_canon.proofs.Words.{least_block_exists, least_no_longer, Factors, Instr, SetLoc, Advance, DefCfaExpression, Set, CfaRule, RegRule, IsOffset, BlockSpells, InstrSpells, Program, AdvanceSpells, RuleSpells, IsSpelled, by_table}
+use Rattle.dw_canon.proofs.Words.{moves_location, expression_bytes, rule_bytes, packed}
 use Rattle.dw_cfa.specs.declared.rule.CfaRule.TheVariants as cfa
-use Rattle.dw_cfa.specs.declared.rule.RegRule.{RegRule}
 use Rattle.dw_cfa.specs.declared.rule.RegRule.TheVariants as rules
-use Rattle.dw_cfa.specs.InstrSpells.{IsOffset, BlockSpells, InstrSpells, Program}
-use Rattle.dw_cfa.proofs.Lent.Spellings.{AdvanceSpells, RuleSpells, IsSpelled, by_table}
-use Rattle.dw_cfa.specs.Location.{moves_location}
-use Rattle.dw_canon.specs.Inner.Spelling.{expression_bytes, rule_bytes}
-use Rattle.dw_canon.specs.Spelling.{packed}
 use Rattle.dw_canon.proofs.MemberLaws.{count_more}
 use Rattle.dw_canon.proofs.Sums.{sum_of, if_own}
 

@@ -1,36 +1,11 @@
 -- The rows of two programs are spelled in the bytes that their instructions give rules in, and so is what leads from one to another.
-use Rattle.std.proofs.Common.{◌≡◌, ℕ, ◌+◌, ◌-◌, ◌*◌, ◌≤◌, ◌^◌, List, [], ◌∷◌, ◌++◌, length, sym, subst, inl, inr, arith}
-use Rattle.std.specs.Prelude.{ℤ, nat_lt}
-use Rattle.std.specs.List.{AllByRecursion}
-use Rattle.std.specs.Map.{keys_of}
-use Rattle.std.proofs.lemmas.Bool.{cases_Bool}
-use Rattle.std.proofs.lemmas.Bool.Decides.{eqb_tells}
-use Rattle.std.proofs.lemmas.List.{length-append}
-use Rattle.std.proofs.Math.Nat.{suc-mul}
-use Rattle.dw_num.specs.declared.target.Order.{Order}
-use Rattle.dw_num.specs.declared.target.Size.{Size}
-use Rattle.dw_num.specs.declared.target.Size.TheVariants.{Four, Eight}
-use Rattle.dw_num.specs.declared.target.Target.{Target}
-use Rattle.dw_num.specs.Fixed.{fixed_bytes}
-use Rattle.dw_num.specs.Target.{byte_count}
-use Rattle.dw_num.proofs.Lent.FixedLaws.{length-fixed}
-use Rattle.dw_cfa.specs.declared.instr.Instr.{Instr}
-use Rattle.dw_cfa.specs.declared.instr.Instr.TheVariants.{DefCfa, DefCfaRegister, DefCfaOffset, DefCfaExpression, Set, Restore}
-use Rattle.dw_cfa.specs.declared.rule.CfaRule.{CfaRule}
+use Rattle.dw_canon.proofs.Words.{◌≡◌, ℕ, ◌+◌, ◌-◌, ◌*◌, ◌≤◌, ◌^◌, List, [], ◌∷◌, ◌++◌, length, sym, subst, inl, inr, arith, ℤ, nat_lt, AllByRecursion, keys_of, cases_Bool, eqb_tells, length-append, suc-mul, Order, Size, Four, Eight}
+use Rattle.dw_canon.proofs.Words.{Target, fixed_bytes, byte_count, length-fixed, Instr, DefCfa, DefCfaRegister, DefCfaOffset, DefCfaExpression, Set, Restore, CfaRule, RegRule, with_offset, cfa_change, rule_change, cfa_after, rule_after}
+use Rattle.dw_canon.proofs.Words.{initial_cfa, initial_rule, HoldsAfter, onto, Rules, rule, RowFits, all_onto, back_keeps, either, move, difference, later_changes, instr_bytes, program_bytes, advance_bytes}
 use Rattle.dw_cfa.specs.declared.rule.CfaRule.TheVariants as cfa
-use Rattle.dw_cfa.specs.declared.rule.RegRule.{RegRule}
 use Rattle.dw_cfa.specs.declared.rule.RegRule.TheVariants as rules
-use Rattle.dw_cfa.specs.Column.{with_register, with_offset, cfa_change, rule_change, cfa_after, rule_after}
-use Rattle.dw_cfa.specs.Laws.{initial_cfa, initial_rule, HoldsAfter}
-use Rattle.dw_cfa.specs.Location.{onto}
-use Rattle.dw_cfa.specs.Rows.{Rules, rule}
-use Rattle.dw_section.specs.Fits.{RowFits}
-use Rattle.dw_section.proofs.Lent.Sounds.{all_onto, back_keeps}
-use Rattle.dw_canon.specs.Difference.{either, move}
-use Rattle.dw_canon.specs.Inner.Difference.{difference, later_changes}
-use Rattle.dw_canon.specs.Inner.Spelling.{instr_bytes, program_bytes}
+use Rattle.dw_cfa.specs.Column.{with_register}
 use Rattle.dw_canon.specs.Spelling.{instr_bytes as instr_with}
-use Rattle.dw_canon.specs.Spelling.{advance_bytes}
 use Rattle.dw_canon.proofs.Costs.{RowWithin, bytes_more, difference_len}
 use Rattle.dw_canon.proofs.AscendingRegisters.{Rise, with_all_rise, keys_rise}
 use Rattle.dw_canon.proofs.Sums.{sum_of, sum_more, sum_none, once_own, sum_once}

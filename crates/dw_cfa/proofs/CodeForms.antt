@@ -1,33 +1,22 @@
 -- What the table says of a code is what the code knows of its opcode.
-use Rattle.std.proofs.Common.{◌≡◌, ℕ, List, [], ◌∷◌, map, Option, None, Some, refl, sym, ap, ◌∙◌, inl, inr}
-use Rattle.std.specs.Prelude.{option_map, nat_eq}
-use Rattle.std.proofs.lemmas.Bool.{cases_Bool}
-use Rattle.dw_op.specs.Operands.{look_up, in_range}
-use Rattle.dw_op.proofs.Lent.ReadingLaws.{some_is}
-use Rattle.dw_cfa.proofs.Types.{Factors, Opcode}
-use Rattle.dw_cfa.specs.Inner.Operands.{opcode_table, opcode_of, form_of}
-use Rattle.dw_cfa.specs.Operands.{Form, form_for}
+use Rattle.dw_cfa.proofs.Words.{◌≡◌, ℕ, ◌-◌, Bool, true, false, List, [], ◌∷◌, map, Option, None, Some, refl, sym, ap, ◌∙◌, if◌then◌else◌, option_map, nat_eq, look_up, in_range, some_is, Factors, Opcode, opcode_table, opcode_of, form_of}
+use Rattle.dw_cfa.proofs.Words.{Form, form_for}
+use Rattle.dw_cfa.specs.declared.opcode.Opcode.TheVariants as opcodes
 
 module _ (f : Factors) (code : ℕ) where
+  either : (b : Bool) (x y : Option Form) (u v : Option Opcode) → x ≡ option_map (form_of f) u → y ≡ option_map (form_of f) v → (if b then x else y) ≡ option_map (form_of f) (if b then u else v)
+  either true x y u v p q = p
+  either false x y u v p q = q
+
   looked : (table : List (ℕ × Opcode)) → look_up (map (λ (entry : ℕ × Opcode). (entry.0, form_of f entry.1)) table) code ≡ option_map (form_of f) (look_up table code)
   looked [] = refl
-  looked (entry ∷ table) = elim (cases_Bool (nat_eq code entry.0)) [
-    | inl here ↦ rw here refl
-    | inr past ↦ rw past (looked table)
-  ]
+  looked (entry ∷ table) = either (nat_eq code entry.0) (Some (form_of f entry.1)) _ (Some entry.1) _ refl (looked table)
 
   pub form_known : form_for f code ≡ option_map (form_of f) (opcode_of code)
   unfolding form_for opcode_of
-  form_known = elim (cases_Bool (in_range 0x40 0x80 code)) [
-    | inl here ↦ rw here refl
-    | inr past ↦ rw past (elim (cases_Bool (in_range 0x80 0xc0 code)) [
-      | inl here ↦ rw here refl
-      | inr none ↦ rw none (elim (cases_Bool (in_range 0xc0 0x100 code)) [
-        | inl here ↦ rw here refl
-        | inr last ↦ rw last (looked opcode_table)
-      ])
-    ])
-  ]
+  form_known =
+      either (in_range 0x40 0x80 code) _ _ (Some (opcodes.AdvanceLoc (code - 0x40))) _ refl (either (in_range 0x80 0xc0 code) _ _ (Some (opcodes.Offset (code - 0x80))) _ refl
+      (either (in_range 0xc0 0x100 code) _ _ (Some (opcodes.Restore (code - 0xc0))) _ refl (looked opcode_table)))
 
   pub form_is : (opcode : Opcode) → opcode_of code ≡ Some opcode → form_for f code ≡ Some (form_of f opcode)
   form_is opcode e = form_known ∙ ap (option_map (form_of f)) e

@@ -1,14 +1,7 @@
 -- Where rows leave an address without a rule for the CFA, by tests of one row after another.
-use Rattle.std.proofs.Common.{◌≡◌, ℕ, ◌<◌, ◌≤◌, ◌⊎◌, Bool, true, false, List, [], ◌∷◌, Option, Some, None, refl, sym, ap, ◌∙◌, arith, inl, inr}
-use Rattle.std.specs.Prelude.{nat_lt, ◌&&◌, ◌||◌}
-use Rattle.std.specs.Bool.{MatchBool}
-use Rattle.std.proofs.lemmas.Bool.Decides.{nat_tests}
-use Rattle.std.proofs.lemmas.Bool.{cases_lt, le-leb}
-use Rattle.dw_cfa.proofs.Types.{CfaRule, LocatedRow, Rules}
-use Rattle.dw_cfa.specs.declared.rule.CfaRule.TheVariants.{Unset}
+use Rattle.dw_cfa.proofs.Words.{◌≡◌, ℕ, ◌<◌, ◌≤◌, Bool, true, false, List, [], ◌∷◌, Option, Some, None, refl, sym, ap, ◌∙◌, arith, inl, inr, MatchBool, nat_tests, cases_lt, le-leb, or_cases, or_parts, CfaRule, LocatedRow, Rules, Unset}
+use Rattle.dw_cfa.proofs.Words.{or_here, last_at, NeverFalls, is_unset, leaves_one, lacks_from}
 use Rattle.dw_cfa.specs.Coverage.{Lacks}
-use Rattle.dw_cfa.specs.RuleAt.{or_here, last_at, NeverFalls}
-use Rattle.dw_cfa.specs.Inner.Coverage.{is_unset, leaves_one, lacks_from}
 use Rattle.dw_cfa.proofs.Lent.RowsAt.{last_from, none_at, not_le}
 
 -- ---- the row of an address
@@ -22,35 +15,15 @@ or_below : (a : ℕ) (first : LocatedRow) (unset : Bool) (rest : Option Rules) �
 or_below a first unset None le = rw (le-leb first.location a le) refl
 or_below a first unset (Some row) le = refl
 
-or_true : (x y : Bool) → (x || y) ≡ true → (x ≡ true) ⊎ (y ≡ true)
-or_true true y e = inl refl
-or_true false y e = inr e
-
-or_false : (x y : Bool) → (x || y) ≡ false → (x ≡ false) × (y ≡ false)
-or_false true y e = absurd cc
-or_false false y e = (refl, e)
-
-left_true : (end low location : ℕ) (unset : Bool) → leaves_one end low unset location ≡ true → (unset ≡ true) × (low < location) × (low < end)
-left_true end low location unset e = (grind (arith, nat_tests), grind (arith, nat_tests), grind (arith, nat_tests))
-
-left_false : (end low location : ℕ) (unset : Bool) → low < location → low < end → leaves_one end low unset location ≡ false → unset ≡ false
-left_false end low location unset lt le e = grind (arith, nat_tests)
-
-last_true : (end low : ℕ) (unset : Bool) → (unset && nat_lt low end) ≡ true → (unset ≡ true) × (low < end)
-last_true end low unset e = (grind (arith, nat_tests), grind (arith, nat_tests))
-
-last_false : (end low : ℕ) (unset : Bool) → low < end → (unset && nat_lt low end) ≡ false → unset ≡ false
-last_false end low unset lt e = grind (arith, nat_tests)
-
 -- where rows leave an address without a rule, its row has none
 lacks_found : (end low : ℕ) (unset : Bool) (rows : List LocatedRow) → NeverFalls low rows → lacks_from end low unset rows ≡ true
     → (a : ℕ) × (low ≤ a) × (a < end) × (unset_in unset (last_at a rows) ≡ true)
-lacks_found end low unset [] up e = let p = last_true end low unset e in (low, omega arith, p.1, p.0)
-lacks_found end low unset (row ∷ rows) up e = elim (or_true (leaves_one end low unset row.location) (lacks_from end row.location (is_unset row.row.cfa) rows) e) [
+lacks_found end low unset [] up e = (low, omega arith, grind (arith, nat_tests), grind (arith, nat_tests))
+lacks_found end low unset (row ∷ rows) up e = elim (or_cases (leaves_one end low unset row.location) (lacks_from end row.location (is_unset row.row.cfa) rows) e) [
   | inl here ↦
-      let p = left_true end low row.location unset here in
-      let none = none_at low row.location rows p.1 up.1 in
-      (low, omega arith, p.2, rw (none, not_le row.location low p.1) p.0)
+      let lt : low < row.location = grind (arith, nat_tests) in
+      let none = none_at low row.location rows lt up.1 in
+      (low, omega arith, grind (arith, nat_tests), rw (none, not_le row.location low lt) (grind (arith, nat_tests)))
   | inr later ↦
       let q = lacks_found end row.location (is_unset row.row.cfa) rows up.1 later in
       (q.0, omega (arith, up.0, q.1), q.2, or_below q.0 row unset (last_at q.0 rows) q.1 ∙ q.3)
@@ -59,13 +32,13 @@ lacks_found end low unset (row ∷ rows) up e = elim (or_true (leaves_one end lo
 -- where they leave none, each has one
 lacks_none : (end low : ℕ) (unset : Bool) (rows : List LocatedRow) → NeverFalls low rows → lacks_from end low unset rows ≡ false
     → (a : ℕ) → low ≤ a → a < end → unset_in unset (last_at a rows) ≡ false
-lacks_none end low unset [] up e a le lt = last_false end low unset (omega arith) e
+lacks_none end low unset [] up e a le lt = grind (arith, nat_tests)
 lacks_none end low unset (row ∷ rows) up e a le lt =
-    let p = or_false (leaves_one end low unset row.location) (lacks_from end row.location (is_unset row.row.cfa) rows) e in
+    let p = or_parts (leaves_one end low unset row.location) (lacks_from end row.location (is_unset row.row.cfa) rows) e in
     elim (cases_lt a row.location) [
       | inl before ↦
           let none = none_at a row.location rows before up.1 in
-          rw (none, not_le row.location a before) (left_false end low row.location unset (omega arith) (omega arith) p.0)
+          rw (none, not_le row.location a before) (grind (arith, nat_tests, p.0))
       | inr behind ↦ or_below a row unset (last_at a rows) behind ∙ lacks_none end row.location (is_unset row.row.cfa) rows up.1 p.1 a behind lt
     ]
 

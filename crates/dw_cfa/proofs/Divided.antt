@@ -1,132 +1,120 @@
--- A program that is divided before one of its instructions: its bytes, and the list of its instructions with their places.
-use Rattle.std.proofs.Common.{◌≡◌, ℕ, ◌+◌, ◌<◌, List, [], ◌∷◌, ◌++◌, length, Ok, Err, refl, sym, ap, ◌∙◌, subst, append_assoc, arith, inl, inr}
-use Rattle.std.proofs.lemmas.Bool.{cases_lt}
-use Rattle.std.proofs.lemmas.List.{length-append}
-use Rattle.dw_cfa.proofs.Types.{AreBytes, Factors, Input, Instr, Placed, Read, Target}
-use Rattle.dw_num.proofs.Lent.LebLaws.{done}
-use Rattle.dw_cfa.specs.InstrSpells.{InstrSpells, Program}
-use Rattle.dw_cfa.specs.Inner.FrontInstr.{instr_at}
-use Rattle.dw_cfa.specs.Inner.Runs.{Placing, placed}
+-- A program that is divided behind some of its instructions: its bytes, and the list of its instructions with their places.
+use Rattle.dw_cfa.proofs.Words.{◌≡◌, ℕ, ◌+◌, ◌<◌, List, [], ◌∷◌, ◌++◌, length, Option, None, Some, Ok, Err, refl, sym, ap, ◌∙◌, subst, append_assoc, arith, length-append, append-nil, AreBytes, Factors, Input, Instr, Placed, Read, Refusal}
+use Rattle.dw_cfa.proofs.Words.{Target, done, taken_bytes, InstrSpells, Program, instr_at, Placing, place_of, placed}
+use Rattle.dw_op.specs.Inner.Walks.{put}
 use Rattle.dw_cfa.proofs.Lent.InstrLaws.{instr_found}
 use Rattle.dw_cfa.proofs.InstrAgain.{instr_again}
 use Rattle.dw_cfa.proofs.Placings.{placed_end, placed_step, placed_stuck, reads, some_spelled}
 use Rattle.dw_cfa.proofs.Lent.RowsAt.{instrs_of}
 
-abbrev input : ℕ → List ℕ → Target → Input
+abbrev pub input : ℕ → List ℕ → Target → Input
 input at bytes t = record { at = at; bytes = bytes; target = t }
 
--- behind the instructions before it stands this one
-pub record Divided (f : Factors) (i : Input) (before : List Placed) (item : Placed) : Type 0 where
-  pub front : List ℕ
-  pub spelling : List ℕ
-  pub rest : List ℕ
-  pub whole : i.bytes ≡ front ++ (spelling ++ rest)
-  pub read : Program i.target f (instrs_of before) front
-  pub next : InstrSpells i.target f item.instr spelling
-  pub place : item.at ≡ i.at + length front
+abbrev pub placing : List Placed → Option Refusal → Placing
+placing items fault = record { items = items; fault = fault }
+
+-- ---- what is placed first
+
+-- an instruction, and what is placed behind it; or nothing is left; or what cannot be read
+abbrev pub Begins : Factors → Input → List Placed → Option Refusal → Type 0
+Begins f i [] None = i.bytes ≡ []
+Begins f i [] (Some r) = (0 < length i.bytes) × (instr_at f i ≡ Err r)
+Begins f i (item ∷ items) fault = (next : Input) × (instr_at f i ≡ done (item.instr, next)) × (item.at ≡ i.at) × (placed f next ≡ placing items fault)
+
+none_begins : (f : Factors) (i : Input) (items : List Placed) (fault : Option Refusal) → i.bytes ≡ [] → [] ≡ items → None ≡ fault → Begins f i items fault
+none_begins f i [] None is e last = is
+none_begins f i items fault is e last = absurd cc
+
+read_begins : (f : Factors) (i : Input) (r : Read Instr) (items : List Placed) (fault : Option Refusal) → AreBytes i.bytes → 0 < length i.bytes → instr_at f i ≡ r → placed f i ≡ placing items fault → Begins f i items fault
+read_begins f i (Ok x) [] fault h some is e = let no = ap (λ (l : Placing). l.items) (sym (placed_step f i x h some is) ∙ e) in absurd cc
+read_begins f i (Ok x) (item ∷ items) fault h some is e =
+    let all : put (place_of i.at x.0) (placed f x.1) ≡ placing (item ∷ items) fault = sym (placed_step f i x h some is) ∙ e in
+    let are = ap (λ (l : Placing). l.items) all in
+    let same : place_of i.at x.0 ≡ item = cc in
+    let rest : (placed f x.1).items ≡ items = cc in
+    (x.1, is ∙ ap (λ (p : Placed). done (p.instr, x.1)) same, sym (ap (λ (p : Placed). p.at) same), ap (λ (l : List Placed). placing l (placed f x.1).fault) rest ∙ ap (placing items) (ap (λ (l : Placing). l.fault) all))
+read_begins f i (Err r) [] (Some q) h some is e = let last = ap (λ (l : Placing). l.fault) (sym (placed_stuck f i r some is) ∙ e) in let one : r ≡ q = cc in (some, is ∙ ap (λ (x : Refusal). Err x) one)
+read_begins f i (Err r) items fault h some is e = let all = sym (placed_stuck f i r some is) ∙ e in absurd (cc (ap (λ (l : Placing). l.items) all, ap (λ (l : Placing). l.fault) all))
+
+pub begins : (f : Factors) (i : Input) (items : List Placed) (fault : Option Refusal) → AreBytes i.bytes → placed f i ≡ placing items fault → Begins f i items fault
+begins f i items fault h e = of i.bytes refl
+  where
+    of : (bytes : List ℕ) → i.bytes ≡ bytes → Begins f i items fault
+    of [] is = let all = sym (placed_end f i (ap length is)) ∙ e in none_begins f i items fault is (ap (λ (l : Placing). l.items) all) (ap (λ (l : Placing). l.fault) all)
+    of (b ∷ bytes) is = read_begins f i (instr_at f i) items fault h (omega (arith, ap length is)) refl e
 
 -- ---- from the list to the bytes
 
-record First (f : Factors) (i : Input) (item : Placed) (items : List Placed) : Type 0 where
-  next : Input
-  read : instr_at f i ≡ done (item.instr, next)
-  place : item.at ≡ i.at
-  rest : (placed f next).items ≡ items
+-- behind the first instructions stands what is placed behind them
+pub record Divided (f : Factors) (i : Input) (before after : List Placed) (fault : Option Refusal) : Type 0 where
+  pub front : List ℕ
+  pub rest : List ℕ
+  pub whole : i.bytes ≡ front ++ rest
+  pub bytes : AreBytes rest
+  pub read : Program i.target f (instrs_of before) front
+  pub left : placed f (input (i.at + length front) rest i.target) ≡ placing after fault
 
-first_read : (f : Factors) (i : Input) (item : Placed) (items : List Placed) → AreBytes i.bytes → 0 < length i.bytes → (r : Read Instr) → instr_at f i ≡ r → (placed f i).items ≡ item ∷ items → First f i item items
-first_read f i item items h some (Ok x) is e =
-    let all : record { at = i.at; instr = x.0 } ∷ (placed f x.1).items ≡ item ∷ items = sym (ap (λ (l : Placing). l.items) (placed_step f i x h some is)) ∙ e in
-    let same : record { at = i.at; instr = x.0 } ≡ item = cc in
-    let instr : x.0 ≡ item.instr = ap (λ (p : Placed). p.instr) same in
-    record {
-      next = x.1;
-      read = is ∙ ap (λ (j : Instr). done (j, x.1)) instr;
-      place = sym (ap (λ (p : Placed). p.at) same);
-      rest = cc;
-    }
-first_read f i item items h some (Err r) is e =
-    let none : [] ≡ item ∷ items = sym (ap (λ (l : Placing). l.items) (placed_stuck f i r some is)) ∙ e in
-    absurd cc
-
-first_item : (f : Factors) (i : Input) (item : Placed) (items : List Placed) → AreBytes i.bytes → (placed f i).items ≡ item ∷ items → First f i item items
-first_item f i item items h e = elim (cases_lt 0 (length i.bytes)) [
-  | inl some ↦ first_read f i item items h some (instr_at f i) refl e
-  | inr none ↦
-      let nothing : [] ≡ item ∷ items = sym (ap (λ (l : Placing). l.items) (placed_end f i (omega arith))) ∙ e in
-      absurd cc
-]
-
-divided_first : (f : Factors) (i next : Input) (item : Placed) → AreBytes i.bytes → instr_at f i ≡ done (item.instr, next) → item.at ≡ i.at → Divided f i [] item
-divided_first f i next item h read place =
-    let found = instr_found f i next item.instr h read in
-    record { front = []; spelling = found.0; rest = next.bytes; whole = found.2.bytes; read = refl; next = found.1; place = omega (arith, place) }
-
-divided_more : (f : Factors) (i next : Input) (p item : Placed) (before : List Placed) → AreBytes i.bytes → instr_at f i ≡ done (p.instr, next) → Divided f next before item → Divided f i (p ∷ before) item
-divided_more f i next p item before h read d =
-    let found = instr_found f i next p.instr h read in
+pub divided : (f : Factors) (before after : List Placed) (fault : Option Refusal) (i : Input) → AreBytes i.bytes → placed f i ≡ placing (before ++ after) fault → Divided f i before after fault
+divided f [] after fault i h e =
+    let at : i.at + 0 ≡ i.at = omega arith in
+    record { front = []; rest = i.bytes; whole = refl; bytes = h; read = refl; left = ap (λ (n : ℕ). placed f (input n i.bytes i.target)) at ∙ e }
+divided f (p ∷ before) after fault i h e =
+    let first = begins f i (p ∷ (before ++ after)) fault h e in
+    let next = first.0 in
+    let found = instr_found f i next p.instr h first.1 in
+    let d = divided f before after fault next (reads f i (p.instr, next) h first.1).bytes first.3 in
     let b = found.0 in
-    let same = found.2.target in
+    let at : i.at + length (b ++ d.front) ≡ next.at + length d.front = omega (arith, found.2.at, length-append b d.front) in
     record {
       front = b ++ d.front;
-      spelling = d.spelling;
       rest = d.rest;
-      whole = found.2.bytes ∙ ap (λ (c : List ℕ). b ++ c) d.whole ∙ sym (append_assoc b d.front (d.spelling ++ d.rest));
-      read = record { front = b; back = d.front; first = found.1; second = subst (λ (t : Target). Program t f (instrs_of before) d.front) same d.read; whole = refl };
-      next = subst (λ (t : Target). InstrSpells t f item.instr d.spelling) same d.next;
-      place = omega (arith, d.place, found.2.at, length-append b d.front);
+      whole = found.2.bytes ∙ ap (λ (c : List ℕ). b ++ c) d.whole ∙ sym (append_assoc b d.front d.rest);
+      bytes = d.bytes;
+      read = record { front = b; back = d.front; first = found.1; second = subst (λ (t : Target). Program t f (instrs_of before) d.front) found.2.target d.read; whole = refl };
+      left = ap (λ (n : ℕ). placed f (input n d.rest i.target)) at ∙ ap (λ (t : Target). placed f (input (next.at + length d.front) d.rest t)) (sym found.2.target) ∙ d.left;
     }
 
-pub divided : (f : Factors) (before : List Placed) (item : Placed) (after : List Placed) (i : Input) → AreBytes i.bytes → (placed f i).items ≡ before ++ item ∷ after → Divided f i before item
-divided f [] item after i h e = let first = first_item f i item after h e in divided_first f i first.next item h first.read first.place
-divided f (p ∷ before) item after i h e =
-    let first = first_item f i p (before ++ item ∷ after) h e in
-    divided_more f i first.next p item before h first.read (divided f before item after first.next (reads f i (p.instr, first.next) h first.read).bytes first.rest)
+-- behind all of them, nothing is left, or what cannot be read
+pub behind_all : (f : Factors) (i : Input) (fault : Option Refusal) → AreBytes i.bytes → (placed f i).fault ≡ fault → Divided f i (placed f i).items [] fault
+behind_all f i fault h e =
+    let items = (placed f i).items in
+    divided f items [] fault i h (ap (placing items) e ∙ ap (λ (l : List Placed). placing l fault) (sym (append-nil items)))
+
+pub left_behind : (f : Factors) (i : Input) (before after : List Placed) (fault : Option Refusal) (d : Divided f i before after fault) → Begins f (input (i.at + length d.front) d.rest i.target) after fault
+left_behind f i before after fault d = begins f (input (i.at + length d.front) d.rest i.target) after fault d.bytes d.left
 
 -- ---- from the bytes to the list
 
-pub record Joined (f : Factors) (i : Input) (instrs : List Instr) (item : Placed) : Type 0 where
+pub placed_again : (f : Factors) (t : Target) (instr : Instr) (b : List ℕ) (at : ℕ) (rest : List ℕ) → InstrSpells t f instr b → AreBytes (b ++ rest)
+    → placed f (input at (b ++ rest) t) ≡ put (place_of at instr) (placed f (input (at + length b) rest t))
+placed_again f t instr b at rest s h =
+    placed_step f (input at (b ++ rest) t) (instr, input (at + length b) rest t) h (omega (arith, some_spelled t f instr b s, length-append b rest)) (instr_again t f instr b s at rest)
+
+pub record Joined (f : Factors) (i : Input) (instrs : List Instr) (behind : Placing) : Type 0 where
   pub before : List Placed
-  pub after : List Placed
-  pub items : (placed f i).items ≡ before ++ item ∷ after
   pub are : instrs_of before ≡ instrs
+  pub whole : placed f i ≡ placing (before ++ behind.items) behind.fault
 
--- one instruction is read first
-module _ (f : Factors) (t : Target) (instr : Instr) (b : List ℕ) (spells : InstrSpells t f instr b) (at : ℕ) (rest : List ℕ) (h : AreBytes (b ++ rest)) where
-  read_first : instr_at f (input at (b ++ rest) t) ≡ done (instr, input (at + length b) rest t)
-  read_first = instr_again t f instr b spells at rest
-
-  items_first : (placed f (input at (b ++ rest) t)).items ≡ record { at = at; instr = instr } ∷ (placed f (input (at + length b) rest t)).items
-  items_first =
-      ap (λ (l : Placing). l.items) (placed_step f (input at (b ++ rest) t) (instr, input (at + length b) rest t) h (omega (arith, some_spelled t f instr b spells, length-append b rest)) read_first)
-
-  bytes_behind : AreBytes rest
-  bytes_behind = (reads f (input at (b ++ rest) t) (instr, input (at + length b) rest t) h read_first).bytes
-
-joined_from : (f : Factors) (t : Target) (instrs : List Instr) (instr : Instr) (at : ℕ) (front spelling rest : List ℕ) → AreBytes (front ++ (spelling ++ rest)) → Program t f instrs front → InstrSpells t f instr spelling
-    → Joined f (input at (front ++ (spelling ++ rest)) t) instrs (record { at = at + length front; instr = instr })
-joined_from f t [] instr at front spelling rest h p next =
-    subst (λ (b : List ℕ). Joined f (input at (b ++ (spelling ++ rest)) t) [] (record { at = at + length b; instr = instr })) (sym p) (record {
-      before = [];
-      after = (placed f (input (at + length spelling) rest t)).items;
-      items = items_first f t instr spelling next at rest (subst (λ (b : List ℕ). AreBytes (b ++ (spelling ++ rest))) p h)
-          ∙ ap (λ (n : ℕ). record { at = n; instr = instr } ∷ (placed f (input (at + length spelling) rest t)).items) (omega arith);
-      are = refl;
+pub joined : (f : Factors) (t : Target) (instrs : List Instr) (at : ℕ) (front rest : List ℕ) → AreBytes (front ++ rest) → Program t f instrs front
+    → Joined f (input at (front ++ rest) t) instrs (placed f (input (at + length front) rest t))
+joined f t [] at front rest h p =
+    subst (λ (b : List ℕ). Joined f (input at (b ++ rest) t) [] (placed f (input (at + length b) rest t))) (sym p)
+    (record { before = []; are = refl; whole = ap (λ (n : ℕ). placed f (input n rest t)) (omega arith) })
+joined f t (instr ∷ instrs) at front rest h p =
+    let more = p.back ++ rest in
+    let all : front ++ rest ≡ p.front ++ more = ap (λ (l : List ℕ). l ++ rest) p.whole ∙ append_assoc p.front p.back rest in
+    let are : AreBytes (p.front ++ more) = subst AreBytes all h in
+    let next = input (at + length p.front) more t in
+    let j = joined f t instrs next.at p.back rest (taken_bytes (input at (p.front ++ more) t) next p.front (record { bytes = refl; at = refl; target = refl }) are) p.second in
+    let place : next.at + length p.back ≡ at + length front = omega (arith, ap length p.whole, length-append p.front p.back) in
+    subst (λ (n : ℕ). Joined f (input at (front ++ rest) t) (instr ∷ instrs) (placed f (input n rest t))) place (record {
+      before = place_of at instr ∷ j.before;
+      are = ap (λ (l : List Instr). instr ∷ l) j.are;
+      whole = ap (λ (l : List ℕ). placed f (input at l t)) all ∙ placed_again f t instr p.front at more p.first are ∙ ap (put (place_of at instr)) j.whole;
     })
-joined_from f t (j ∷ instrs) instr at front spelling rest h p next =
-    let more = spelling ++ rest in
-    let all : front ++ more ≡ p.front ++ (p.back ++ more) = ap (λ (l : List ℕ). l ++ more) p.whole ∙ append_assoc p.front p.back more in
-    let are = subst AreBytes all h in
-    let rest_joined = joined_from f t instrs instr (at + length p.front) p.back spelling rest (bytes_behind f t j p.front p.first at (p.back ++ more) are) p.second next in
-    let place : (at + length p.front) + length p.back ≡ at + length front = omega (arith, ap length p.whole, length-append p.front p.back) in
-    record {
-      before = record { at = at; instr = j } ∷ rest_joined.before;
-      after = rest_joined.after;
-      items = ap (λ (b : List ℕ). (placed f (input at b t)).items) all ∙ items_first f t j p.front p.first at (p.back ++ more) are
-          ∙ ap (λ (l : List Placed). record { at = at; instr = j } ∷ l) (rest_joined.items ∙ ap (λ (n : ℕ). rest_joined.before ++ record { at = n; instr = instr } ∷ rest_joined.after) place);
-      are = ap (λ (l : List Instr). j ∷ l) rest_joined.are;
-    }
 
-pub joined : (f : Factors) (i : Input) (instrs : List Instr) (instr : Instr) (front spelling rest : List ℕ) → AreBytes i.bytes → i.bytes ≡ front ++ (spelling ++ rest) → Program i.target f instrs front
-    → InstrSpells i.target f instr spelling → Joined f i instrs (record { at = i.at + length front; instr = instr })
-joined f i instrs instr front spelling rest h whole p next =
-    subst (λ (b : List ℕ). Joined f (input i.at b i.target) instrs (record { at = i.at + length front; instr = instr })) (sym whole) (joined_from f i.target instrs instr i.at front spelling rest (subst AreBytes whole h) p next)
+-- a program that is divided there
+pub joined_at : (f : Factors) (i : Input) (instrs : List Instr) (front rest : List ℕ) → AreBytes i.bytes → i.bytes ≡ front ++ rest → Program i.target f instrs front
+    → Joined f i instrs (placed f (input (i.at + length front) rest i.target))
+joined_at f i instrs front rest h whole p =
+    subst (λ (b : List ℕ). Joined f (input i.at b i.target) instrs (placed f (input (i.at + length front) rest i.target))) (sym whole) (joined f i.target instrs i.at front rest (subst AreBytes whole h) p)

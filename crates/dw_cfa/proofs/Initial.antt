@@ -1,14 +1,9 @@
 -- The row that a CIE's program leaves.
-use Rattle.std.proofs.Common.{◌≡◌, ℕ, List, [], ◌∷◌, length, Option, Some, None, Ok, Err, refl, sym, ap, ◌∙◌, subst}
-use Rattle.dw_cfa.proofs.Types.{Code, Instr, Placed, Refusal, Rules}
-use Rattle.dw_cfa.specs.declared.instr.Instr.TheVariants.{SetLoc, Advance, Restore, RememberState, RestoreState}
-use Rattle.dw_cfa.specs.Location.{onto}
-use Rattle.dw_cfa.specs.Rows.{blank}
-use Rattle.dw_cfa.specs.Inner.Machine.{begun, written, after, cie_fault, fde_fault}
-use Rattle.dw_cfa.specs.Inner.Runs.{at_end, refused_at, cie_run}
+use Rattle.dw_cfa.proofs.Words.{◌≡◌, ℕ, List, [], ◌∷◌, length, Option, Some, None, Ok, Err, refl, sym, ap, ◌∙◌, subst, Code, Instr, Placed, Refusal, Rules, SetLoc, Advance, Restore, RememberState, RestoreState, onto, blank, begun, written}
+use Rattle.dw_cfa.proofs.Words.{after, cie_fault, fde_fault, at_end, refused_at, cie_run}
 use Rattle.dw_cfa.proofs.Lent.Forward.{Follows, after_follows}
 use Rattle.dw_cfa.proofs.Lent.RowsAt.{instrs_of}
-use Rattle.dw_cfa.proofs.Stops.{AllRun, all_run, ends, refusal_end, refusal_of, refusal_or}
+use Rattle.dw_cfa.proofs.Stops.{AllRun, all_run, ends, refusal_of, refusal_or}
 
 -- an instruction that a CIE may hold has the same effect in an FDE
 pub cie_step : (i : Instr) (row : Rules) → cie_fault i row ≡ None → (fde_fault 0 i (begun row 0) ≡ None) × (after blank i (begun row 0) ≡ begun (written i row) 0)
@@ -53,15 +48,11 @@ module _ (items : List Placed) (fault : Option Refusal) (row : Rules) where
   pub cie_refusal : (r : Refusal) → cie_run items fault row ≡ Err r → refusal_of cie_fault written items fault row ≡ Some r
   cie_refusal r e = end_some (refusal_of cie_fault written items fault row) (ends written items row) r (sym (cie_answer items fault row) ∙ e)
 
-  pub cie_refused : (r : Refusal) → refusal_of cie_fault written items fault row ≡ Some r → cie_run items fault row ≡ Err r
-  cie_refused r e = cie_answer items fault row ∙ ap (λ (o : Option Refusal). at_end o (ends written items row)) e
+  pub cie_told : (o : Option Refusal) → refusal_of cie_fault written items fault row ≡ o → cie_run items fault row ≡ at_end o (ends written items row)
+  cie_told o e = cie_answer items fault row ∙ ap (λ (p : Option Refusal). at_end p (ends written items row)) e
 
   pub cie_ran : (initial : Rules) → cie_run items fault row ≡ Ok initial → AllRun cie_fault written items row × (fault ≡ None) × (ends written items row ≡ initial)
   cie_ran initial e =
       let end = end_none (refusal_of cie_fault written items fault row) (ends written items row) initial (sym (cie_answer items fault row) ∙ e) in
       let run = all_run cie_fault written items fault row end.0 in
       (run.0, run.1, end.1)
-
-  pub cie_ends : AllRun cie_fault written items row → fault ≡ None → cie_run items fault row ≡ Ok (ends written items row)
-  cie_ends run none =
-      cie_answer items fault row ∙ ap (λ (o : Option Refusal). at_end o (ends written items row)) (refusal_end cie_fault written items fault row run ∙ none)

@@ -1,34 +1,18 @@
 -- What is spelled is read.
-use Rattle.std.proofs.Common.{◌≡◌, ℕ, ◌+◌, ◌^◌, List, ◌∷◌, ◌++◌, length, Ok, refl, sym, subst, arith}
-use Rattle.std.specs.Prelude.{unsigned_abs}
-use Rattle.std.proofs.lemmas.Bool.{lt-ltb}
-use Rattle.dw_cfa.proofs.Types.{Factors, Input, Instr, Read, Target}
-use Rattle.dw_num.specs.Front.{uleb_at, ◌>>=◌}
-use Rattle.dw_num.proofs.Lent.Steps.{Again, again-then, take_again, byte_again, address_again}
-use Rattle.dw_num.proofs.Lent.LebLaws.{uleb_again, register_again}
-use Rattle.dw_num.proofs.Lent.SlebLaws.{sleb_again}
-use Rattle.dw_num.proofs.Lent.FixedLaws.{fixed_at_again}
-use Rattle.dw_op.specs.Expression.{Expression}
-use Rattle.dw_cfa.specs.InstrSpells.{BlockSpells, Spells, FormSpells, InstrSpells}
-use Rattle.dw_cfa.specs.Inner.Operands.{form_of}
-use Rattle.dw_cfa.specs.Operands.{Operand, address, fixed, register, unsigned, signed, expression, Value, Form, none, one, two, offset_of}
-use Rattle.dw_cfa.specs.Inner.FrontInstr.{expression_in, after_length, block_at, operand_at, with_instr, then_operand, form_at, instr_at}
+use Rattle.dw_cfa.proofs.Words.{◌≡◌, ℕ, ◌+◌, ◌^◌, List, ◌∷◌, ◌++◌, length, Ok, refl, sym, subst, arith, unsigned_abs, lt-ltb, Factors, Input, Instr, Read, Target, uleb_at, ◌>>=◌, Again, again-then, take_again, byte_again, address_again}
+use Rattle.dw_cfa.proofs.Words.{uleb_again, register_again, sleb_again, fixed_at_again, Expression, BlockSpells, Spells, FormSpells, InstrSpells, form_of, Operand, address, fixed, register, unsigned, signed, expression, Value, Form, none}
+use Rattle.dw_cfa.proofs.Words.{one, two, offset_of, expression_in, after_length, block_at, operand_at, with_instr, then_operand, form_at, instr_at}
 use Rattle.dw_cfa.proofs.CodeForms.{opcode_behind}
 use Rattle.dw_cfa.proofs.Expressions.{expression_found}
 
 module _ (t : Target) (f : Factors) where
   -- ---- operands
 
-  contents_again : (e : Expression) (block : List ℕ) → ((place : ℕ) → expression_in place t block ≡ Ok e) → Again t (λ i. after_length (length block, i)) e block
-  contents_again e block is at rest =
-      let one = take_again t (length block) block refl at rest in
-      rw (one, is at) refl
-
   pub block_again : (e : Expression) (b : List ℕ) → BlockSpells t e b → Again t block_at e b
   unfolding block_at
   block_again e b h =
       let is : (place : ℕ) → expression_in place t h.block ≡ Ok e = λ place. expression_found place t h.block e h.same_target h.operations in
-      rw h.whole (again-then t uleb_at after_length (length h.block) e h.length_bytes h.block (λ at rest. uleb_again at t (length h.block) h.length_bytes rest h.counted) (contents_again e h.block is))
+      rw h.whole (again-then t uleb_at after_length (length h.block) e h.length_bytes h.block (λ at rest. uleb_again at t (length h.block) h.length_bytes rest h.counted) (λ at rest. rw (take_again t (length h.block) h.block refl at rest, is at) refl))
 
   pub operand_again : (o : Operand) (x : Value o) (b : List ℕ) → Spells t o x b → Again t (operand_at o) x b
   operand_again address x b s at rest = address_again t x b s at rest

@@ -1,21 +1,9 @@
 -- The faults of a program have places in it or at its end.
-use Rattle.std.proofs.Common.{◌≡◌, ℕ, ◌^◌, Bool, true, false, List, [], ◌∷◌, length, Option, Some, None, Result, Ok, Err, refl, ap, subst, arith}
-use Rattle.std.specs.Prelude.{unsigned_abs, nat_lt}
-use Rattle.std.proofs.lemmas.List.{length-append}
-use Rattle.dw_cfa.proofs.Types.{AreBytes, Factors, Input, Instr, Op, Opcode, Read, Refusal}
-use Rattle.dw_num.specs.Input.{Takes}
-use Rattle.dw_num.specs.Front.{fixed_at, take_at, register_at, uleb_at, sleb_at, address_at, ◌>>=◌}
-use Rattle.dw_num.proofs.Lent.LebLaws.{uleb_found}
-use Rattle.dw_num.proofs.Lent.FixedLaws.{taken_bytes, byte_found}
-use Rattle.dw_num.proofs.Lent.Steps.{take_found}
-use Rattle.dw_num.proofs.Lent.Stays.{Inside, Stays, stays_in, stays-then, fixed_stays, address_stays, take_stays, uleb_stays, sleb_stays, register_stays}
-use Rattle.dw_op.specs.declared.profile.Profile.TheVariants.{Frame}
-use Rattle.dw_op.specs.Inner.Walk.{block_input, decode_at}
-use Rattle.dw_op.proofs.Lent.Blocks.{fault_found}
+use Rattle.dw_cfa.proofs.Words.{◌≡◌, ℕ, ◌^◌, List, [], ◌∷◌, length, Option, Some, None, Result, Ok, Err, refl, ap, subst, arith, inl, inr, unsigned_abs, nat_lt, cases_Bool, length-append, AreBytes, Factors, Input, Instr, Op, Opcode, Read}
+use Rattle.dw_cfa.proofs.Words.{Refusal, Takes, fixed_at, take_at, register_at, uleb_at, sleb_at, address_at, ◌>>=◌, uleb_found, taken_bytes, byte_found, take_found, Inside, Stays, stays_in, stays-then, fixed_stays, address_stays}
+use Rattle.dw_cfa.proofs.Words.{take_stays, uleb_stays, sleb_stays, register_stays, Frame, block_input, decode_at, fault_found, opcode_of, form_of, Operand, address, fixed, register, unsigned, signed, expression, Form, none, one, two}
+use Rattle.dw_cfa.proofs.Words.{offset_of, leaving, expression_of, expression_in, block_in, after_length, block_at, operand_at, with_instr, then_operand, form_at, judged, known_at, after_code, instr_at}
 use Rattle.dw_op.proofs.Lent.FaultPlaces.{fault_within}
-use Rattle.dw_cfa.specs.Inner.Operands.{opcode_of, form_of}
-use Rattle.dw_cfa.specs.Operands.{Operand, address, fixed, register, unsigned, signed, expression, Form, none, one, two, offset_of}
-use Rattle.dw_cfa.specs.Inner.FrontInstr.{leaving, expression_of, expression_in, block_in, after_length, block_at, operand_at, with_instr, then_operand, form_at, judged, known_at, after_code, instr_at}
 use Rattle.dw_cfa.proofs.Lent.InstrLaws.{FormWide, operand_finds, form_wide, front_bytes}
 
 made_stays : {X : Type 0} (i : Input) (read : Read X) (make : X → Instr) → Stays i read → Stays i (read >>= with_instr make)
@@ -54,19 +42,15 @@ form_stays (two o p make) i j w are h = stays-then i (operand_at o j) (then_oper
     made_stays i (operand_at p x.1) (make x.0) (operand_stays p i x.1 (taken_bytes j x.1 q.0 q.2 are) k))
 
 judged_stays : (i : Input) (x : Instr × Input) → Inside i x.1 → Stays i (judged i.at x)
-judged_stays i x h = of (nat_lt (unsigned_abs (offset_of x.0)) (2 ^ 63)) refl
-  where
-    of : (b : Bool) → nat_lt (unsigned_abs (offset_of x.0)) (2 ^ 63) ≡ b → Stays i (judged i.at x)
-    of true e = rw e h
-    of false e = rw e (omega arith, omega arith)
+judged_stays i x h = elim (cases_Bool (nat_lt (unsigned_abs (offset_of x.0)) (2 ^ 63))) [ inl e ↦ rw e h | inr e ↦ rw e (omega arith, omega arith) ]
 
-known_stays : (f : Factors) (o : Option Opcode) (i j : Input) → AreBytes j.bytes → Inside i j → Stays i (known_at f i.at o j)
-known_stays f None i j are h = (omega arith, omega arith)
-known_stays f (Some opcode) i j are h =
-    stays-then i (form_at (form_of f opcode) j) (judged i.at) (form_stays (form_of f opcode) i j (form_wide f opcode) are h) (λ x e k. judged_stays i x k)
+known_stays : (f : Factors) (code : ℕ) (o : Option Opcode) (i j : Input) → opcode_of code ≡ o → AreBytes j.bytes → Inside i j → Stays i (known_at f i.at o j)
+known_stays f code None i j is are h = (omega arith, omega arith)
+known_stays f code (Some opcode) i j is are h =
+    stays-then i (form_at (form_of f opcode) j) (judged i.at) (form_stays (form_of f opcode) i j (form_wide f code opcode is) are h) (λ x e k. judged_stays i x k)
 
 -- an instruction's fault has a place from its opcode to the program's end
 pub instr_stays : (f : Factors) (i : Input) → AreBytes i.bytes → Stays i (instr_at f i)
 unfolding instr_at
 instr_stays f i h = stays-then i (fixed_at 1 i) (after_code f i.at) (fixed_stays 1 i) (λ code e k.
-    known_stays f (opcode_of code.0) i code.1 (taken_bytes i code.1 (code.0 ∷ []) (byte_found i code.1 code.0 e) h) k)
+    known_stays f code.0 (opcode_of code.0) i code.1 refl (taken_bytes i code.1 (code.0 ∷ []) (byte_found i code.1 code.0 e) h) k)

@@ -1,31 +1,12 @@
 -- The registers that were set since a row was kept: those without a mark have the same rules in both rows.
-use Rattle.std.proofs.Common.{◌≡◌, ℕ, suc, ◌+◌, ◌<◌, ◌≤◌, Bool, List, [], ◌∷◌, Option, refl, sym, ap, ◌∙◌, subst, arith, inl, inr}
-use Rattle.std.specs.Prelude.{◌*◌, ◌%◌, ◌^◌, bit_or, not, is_some, IsTrue, Result, Ok, Err, IfOk, OnOk, OnErr}
-use Rattle.std.specs.Int.{bit_at, w32}
-use Rattle.std.specs.List.{filter}
-use Rattle.std.proofs.lemmas.Bool.Decides.{nat_tests}
-use Rattle.std.proofs.lemmas.Bool.{cases_lt}
-use Rattle.std.proofs.lemmas.Nat.Bits.{bit_at_set_same}
-use Rattle.dw_cfa.proofs.Types.{Marks, RegRule, Rules}
-use Rattle.dw_cfa.specs.declared.rule.RegRule.TheVariants.{Unspecified, SameValue}
-use Rattle.dw_cfa.specs.Rows.{AreSpecified, rule_in}
-use Rattle.dw_cfa.specs.Inner.Rows.{put, with_rule}
-use Rattle.dw_cfa.specs.Difference.{DiffersFirst, FirstDifference, SameBetween}
-use Rattle.dw_cfa.specs.Inner.Difference.{SameUnset}
-use Rattle.dw_cfa.specs.Inner.Marks.{CopiedUpTo, MarksMore, MarksSo, SameUnlisted, SameUnmarked, Unmarked, WatchedSo}
-use Rattle.dw_cfa.proofs.Lent.RowLists.{Entry, lower, put_rule, unlisted}
+use Rattle.dw_cfa.proofs.Words.{◌≡◌, ℕ, suc, ◌+◌, ◌<◌, ◌≤◌, Bool, List, [], ◌∷◌, Option, refl, sym, ap, ◌∙◌, subst, arith, inl, inr, ◌*◌, ◌%◌, ◌^◌, bit_or, not, is_some, IsTrue, Result, Ok, Err, OnOk, OnErr, bit_at, w32, filter, nat_tests}
+use Rattle.dw_cfa.proofs.Words.{cases_lt, bit_at_set_same, Marks, RegRule, Rules, Unspecified, SameValue, AreSpecified, rule_in, put, with_rule, DiffersFirst, FirstDifference, SameBetween, SameUnset, CopiedUpTo, MarksMore, MarksSo}
+use Rattle.dw_cfa.proofs.Words.{SameUnlisted, SameUnmarked, Unmarked, WatchedSo}
+use Rattle.dw_cfa.proofs.Lent.RowLists.{Entry, lower, other_rule, put_rule, same_rule_set, unlisted}
 use Rattle.dw_cfa.proofs.Difference.{FromOn}
 use Rattle.dw_cfa.proofs.Lent.Narrowed.{filter_keeps, filter_rule}
 use Rattle.dw_cfa.proofs.Lent.SameRows.{one_row}
 use Rattle.dw_cfa.proofs.Lent.Skipped.{same_exactly}
-
--- ---- a register that is put
-
-pub other_rule : (r q : ℕ) (rule : RegRule) (xs : List Entry) → AreSpecified 0 xs → (q ≡ r → ⊥) → rule_in (put r rule xs) q ≡ rule_in xs q
-other_rule r q rule xs up not = grind (arith, nat_tests, put_rule r rule 0 xs q up)
-
-pub same_rule_set : (r q : ℕ) (rule : RegRule) (xs : List Entry) → AreSpecified 0 xs → q ≡ r → rule_in (put r rule xs) q ≡ rule
-same_rule_set r q rule xs up same = grind (arith, nat_tests, put_rule r rule 0 xs q up)
 
 -- ---- marks
 
@@ -35,40 +16,21 @@ near_marked near r lt none = let one : bit_at (bit_or near (1 * 2 ^ r % 2 ^ 32))
 not_marked : SameValue ≡ Unspecified → ⊥
 not_marked e = absurd cc
 
-pub far_marked : (r : ℕ) (far : List Entry) → AreSpecified 0 far → rule_in (put r SameValue far) r ≡ Unspecified → ⊥
-far_marked r far up none = not_marked (sym (same_rule_set r r SameValue far up refl) ∙ none)
+pub far_marked : (r : ℕ) (far far' : List Entry) → AreSpecified 0 far → far' ≡ put r SameValue far → rule_in far' r ≡ Unspecified → ⊥
+far_marked r far far' up e none = not_marked (sym (same_rule_set r r SameValue far up refl) ∙ sym (ap (λ (l : List Entry). rule_in l r) e) ∙ none)
 
-pub far_more : (r q : ℕ) (far : List Entry) → AreSpecified 0 far → rule_in (put r SameValue far) q ≡ Unspecified → rule_in far q ≡ Unspecified
-far_more r q far up none = grind (arith, nat_tests, put_rule r SameValue 0 far q up, not_marked)
-
-pub tree_more : {X E : Type 0} (result : Result X E) (r : ℕ) (far far' : List Entry) → AreSpecified 0 far → OnOk result (far' ≡ put r SameValue far) → OnErr result (far' ≡ far)
-    → (q : ℕ) → rule_in far' q ≡ Unspecified → rule_in far q ≡ Unspecified
-tree_more (Ok x) r far far' up e n q none = far_more r q far up (ap (λ (l : List Entry). rule_in l q) (sym e) ∙ none)
-tree_more (Err x) r far far' up n e q none = ap (λ (l : List Entry). rule_in l q) (sym e) ∙ none
-
-pub tree_marked : {X E : Type 0} (result : Result X E) (r : ℕ) (far : List Entry) → AreSpecified 0 far → (m : Marks) → 32 ≤ r → OnOk result (m.far.entries ≡ put r SameValue far) → OnOk result (Unmarked m r → ⊥)
-tree_marked (Ok x) r far up m le e = λ none. far_marked r far up (ap (λ (l : List Entry). rule_in l r) (sym e) ∙ none.far le)
-tree_marked (Err x) r far up m le e = tt
+pub far_more : (r q : ℕ) (far far' : List Entry) → AreSpecified 0 far → far' ≡ put r SameValue far → rule_in far' q ≡ Unspecified → rule_in far q ≡ Unspecified
+far_more r q far far' up e none = grind (arith, nat_tests, put_rule r SameValue 0 far q up, ap (λ (l : List Entry). rule_in l q) e, not_marked)
 
 -- ---- a register that is set
 
-pub more_same : (old new : Marks) (kept row : List Entry) → SameUnmarked old kept row → MarksMore old new → SameUnmarked new kept row
-more_same old new kept row same more r none = same r (more r none)
-
-pub set_same : (old new : Marks) (kept row : List Entry) (r : ℕ) (rule : RegRule) → AreSpecified 0 row → SameUnmarked old kept row → MarksMore old new → (Unmarked new r → ⊥) → SameUnmarked new kept (put r rule row)
-set_same old new kept row r rule up same more marked q none =
-    same q (more q none) ∙ sym (other_rule r q rule row up (λ e. marked (subst (Unmarked new) e none)))
-
 pub set_so : {X E : Type 0} (result : Result X E) (old new : Marks) (kept row row' : Rules) (r : ℕ) (rule : RegRule) → WatchedSo old kept row → AreSpecified 0 row.registers
     → MarksSo new → MarksMore old new → (Unmarked new r → ⊥) → OnOk result (row' ≡ with_rule r rule row) → OnErr result (row' ≡ row) → WatchedSo new kept row'
-set_so (Ok x) old new kept row row' r rule h up so more marked is err =
-    record { marks = so; same = subst (λ (w : Rules). SameUnmarked new kept.registers w.registers) (sym is) (set_same old new kept.registers row.registers r rule up h.same more marked) }
-set_so (Err x) old new kept row row' r rule h up so more marked ok is =
-    record { marks = so; same = subst (λ (w : Rules). SameUnmarked new kept.registers w.registers) (sym is) (more_same old new kept.registers row.registers h.same more) }
-
-pub exchanged : {X E : Type 0} (result : Result X E) (A : X → Type 0) (B : Type 0) → IfOk result (λ x. A x × B) → OnOk result B
-exchanged (Ok x) A B h = h.1
-exchanged (Err x) A B h = tt
+set_so (Ok x) old new kept row row' r rule h up so more marked is err = record {
+  marks = so;
+  same = λ q none. rw is (h.same q (more q none) ∙ sym (other_rule r q rule row.registers up (λ e. marked (subst (Unmarked new) e none))));
+}
+set_so (Err x) old new kept row row' r rule h up so more marked ok is = record { marks = so; same = λ q none. rw is (h.same q (more q none)) }
 
 -- ---- both rows
 
@@ -93,8 +55,8 @@ module _ (xs old new : List Entry) (k : ℕ) (h : CopiedUpTo k xs old new) where
     above = λ r high. grind (arith, nat_tests, put_rule q (rule_in xs q) 0 new r up, h.above r);
   }
 
-pub far_copied : (xs new left rest : List Entry) (x : Entry) → left ≡ x ∷ rest → AreSpecified 0 new → SameUnlisted 0 left new xs → SameUnlisted 0 rest (put x.0 (rule_in xs x.0) new) xs
-far_copied xs new left rest x e up same r le none = grind (arith, nat_tests, put_rule x.0 (rule_in xs x.0) 0 new r up, ap (λ (l : List Entry). rule_in l r) e, same r le)
+pub far_copied : (xs new left rest : List Entry) (q : ℕ) (rule : RegRule) → left ≡ (q, rule) ∷ rest → AreSpecified 0 new → SameUnlisted 0 left new xs → SameUnlisted 0 rest (put q (rule_in xs q) new) xs
+far_copied xs new left rest q rule e up same r le none = grind (arith, nat_tests, put_rule q (rule_in xs q) 0 new r up, ap (λ (l : List Entry). rule_in l r) e, same r le)
 
 module _ (m : Marks) (on : IsTrue m.watched) (kept row : List Entry) (same : SameUnmarked m kept row) where
   pub unset : SameUnset m.near kept row
@@ -117,19 +79,14 @@ module _ (p : Entry → Bool) (from : ℕ) (on : FromOn p from) where
       same r le (sym is ∙ none)
 
 -- the first that is left has another rule, or the same
-module _ (from : ℕ) (left rest kept row : List Entry) (x : Entry) (e : left ≡ x ∷ rest) (up : AreSpecified from left) (same : SameUnlisted from left kept row) where
-  first_up : AreSpecified from (x ∷ rest)
-  first_up = subst (AreSpecified from) e up
-
-  pub differs_here : (rule_in kept x.0 ≡ rule_in row x.0 → ⊥) → DiffersFirst from kept row x.0
+module _ (from : ℕ) (left rest kept row : List Entry) (q : ℕ) (rule : RegRule) (e : left ≡ (q, rule) ∷ rest) (up : AreSpecified from left) (same : SameUnlisted from left kept row) where
+  pub differs_here : (rule_in kept q ≡ rule_in row q → ⊥) → DiffersFirst from kept row q
   differs_here differ =
-      let at = first_up in
-      (at.0, (λ r le lt. same r le (unlisted r x.0 left (subst (AreSpecified x.0) (sym e) (omega arith, at.1, at.2)) lt)), differ)
+      let at = subst (AreSpecified from) e up in
+      (at.0, (λ r le lt. same r le (unlisted r q left (subst (AreSpecified q) (sym e) (omega arith, at.1, at.2)) lt)), differ)
 
-  pub same_here : rule_in kept x.0 ≡ rule_in row x.0 → AreSpecified from rest × SameUnlisted from rest kept row
+  pub same_here : rule_in kept q ≡ rule_in row q → AreSpecified from rest × SameUnlisted from rest kept row
   same_here one =
-      let at = first_up in
-      let ge : from ≤ x.0 = at.0 in (
-        lower (suc x.0) from rest (omega arith) at.2,
-        λ r le none. grind (arith, nat_tests, ap (λ (l : List Entry). rule_in l r) e, same r le, one),
-      )
+      let at = subst (AreSpecified from) e up in
+      let ge : from ≤ q = at.0 in
+      (lower (suc q) from rest (omega arith) at.2, λ r le none. grind (arith, nat_tests, ap (λ (l : List Entry). rule_in l r) e, same r le, one))

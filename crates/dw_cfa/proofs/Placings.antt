@@ -1,20 +1,9 @@
 -- A walk over a program, instruction by instruction, and what is left of it behind one.
-use Rattle.std.proofs.Common.{◌≡◌, ℕ, zero, suc, ◌<◌, ◌≤◌, List, [], ◌∷◌, length, Some, None, Ok, Err, refl, sym, ap, ◌∙◌, arith, inl, inr}
-use Rattle.std.proofs.lemmas.List.{length-append}
-use Rattle.std.proofs.lemmas.Bool.{cases_lt}
-use Rattle.std.specs.Prelude.{◌^◌}
-use Rattle.dw_cfa.proofs.Types.{AreBytes, Factors, Input, Instr, Placed, Read, Refusal, Size, Target, address_limit}
+use Rattle.dw_cfa.proofs.Words.{◌≡◌, ℕ, zero, suc, ◌<◌, ◌≤◌, List, [], ◌∷◌, length, Some, None, Ok, Err, refl, sym, ap, ◌∙◌, arith, inl, inr, length-append, cases_lt, ◌^◌, AreBytes, Factors, Input, Instr, Read, Refusal, Size, Target}
+use Rattle.dw_cfa.proofs.Words.{address_limit, byte_count, SetLoc, InstrSpells, instr_at, InLimit, Placing, place_of, placed, ended, on_left, walked_by, taken_bytes}
 use Rattle.dw_num.specs.declared.target.Size.TheVariants.{Four, Eight}
-use Rattle.dw_num.specs.Target.{byte_count}
-use Rattle.dw_cfa.specs.declared.instr.Instr.TheVariants.{SetLoc}
-use Rattle.dw_cfa.specs.InstrSpells.{InstrSpells}
-use Rattle.dw_cfa.specs.Inner.FrontInstr.{instr_at}
-use Rattle.dw_cfa.specs.Inner.Steps.{InLimit}
-use Rattle.dw_cfa.specs.Inner.Runs.{place_of, placed}
-use Rattle.dw_op.specs.Walks.{Walked}
-use Rattle.dw_op.specs.Inner.Walks.{ended, put, on_left, walked, walked_by}
+use Rattle.dw_op.specs.Inner.Walks.{put}
 use Rattle.dw_cfa.proofs.Lent.Spellings.{IsSpelled, by_table}
-use Rattle.dw_num.proofs.Lent.FixedLaws.{taken_bytes}
 use Rattle.dw_cfa.proofs.Lent.InstrLaws.{instr_found}
 
 -- what is read is shorter by its spelling
@@ -48,27 +37,27 @@ reads f i x h e =
       target = found.2.target;
     }
 
--- ---- a walk that keeps something of each instruction
+-- ---- a walk that keeps each instruction with its place
 
-on_some : {X : Type 0} (bytes : List ℕ) (l : Walked X) → 0 < length bytes → on_left bytes l ≡ l
+on_some : (bytes : List ℕ) (l : Placing) → 0 < length bytes → on_left bytes l ≡ l
 on_some [] l some = absurd (omega arith)
 on_some (b ∷ bytes) l some = refl
 
-on_none : {X : Type 0} (bytes : List ℕ) (l : Walked X) → length bytes ≡ 0 → on_left bytes l ≡ ended None
+on_none : (bytes : List ℕ) (l : Placing) → length bytes ≡ 0 → on_left bytes l ≡ ended None
 on_none [] l none = refl
 on_none (b ∷ bytes) l none = absurd (omega arith)
 
-module _ (X : Type 0) (item : ℕ → Instr → X) (f : Factors) where
+module _ (f : Factors) where
   -- in at most n instructions
-  abbrev walk : ℕ → Input → Walked X
-  walk n i = walked_by (instr_at f) item n i
+  abbrev walk : ℕ → Input → Placing
+  walk n i = walked_by (instr_at f) place_of n i
 
   none_by : (n : ℕ) (i : Input) → length i.bytes ≡ 0 → walk n i ≡ ended None
   unfolding walked_by
   none_by zero i none = refl
   none_by (suc n) i none = on_none i.bytes _ none
 
-  step_by : (n : ℕ) (i : Input) (x : Instr × Input) → 0 < length i.bytes → instr_at f i ≡ Ok x → walk (suc n) i ≡ put (item i.at x.0) (walk n x.1)
+  step_by : (n : ℕ) (i : Input) (x : Instr × Input) → 0 < length i.bytes → instr_at f i ≡ Ok x → walk (suc n) i ≡ put (place_of i.at x.0) (walk n x.1)
   unfolding walked_by
   step_by n i x some e = rw (on_some i.bytes _ some, e) refl
 
@@ -78,7 +67,7 @@ module _ (X : Type 0) (item : ℕ → Instr → X) (f : Factors) where
 
   read_same : (n m : ℕ) (i : Input) → AreBytes i.bytes → 0 < length i.bytes → (r : Read Instr) → instr_at f i ≡ r
       → ((x : Instr × Input) → instr_at f i ≡ Ok x → Reads f i x → walk n x.1 ≡ walk m x.1) → walk (suc n) i ≡ walk (suc m) i
-  read_same n m i h some (Ok x) e rest = step_by n i x some e ∙ ap (put (item i.at x.0)) (rest x e (reads f i x h e)) ∙ sym (step_by m i x some e)
+  read_same n m i h some (Ok x) e rest = step_by n i x some e ∙ ap (put (place_of i.at x.0)) (rest x e (reads f i x h e)) ∙ sym (step_by m i x some e)
   read_same n m i h some (Err r) e rest = stuck_by n i r some e ∙ sym (stuck_by m i r some e)
 
   -- any number of instructions that is large enough gives the same
@@ -90,36 +79,21 @@ module _ (X : Type 0) (item : ℕ → Instr → X) (f : Factors) where
     | inr none ↦ none_by (suc n) i (omega arith) ∙ sym (none_by (suc m) i (omega arith))
   ]
 
-  pub walked_end : (i : Input) → length i.bytes ≡ 0 → walked (instr_at f) item i ≡ ended None
-  walked_end i none = none_by (length i.bytes) i none
+  pub placed_end : (i : Input) → length i.bytes ≡ 0 → placed f i ≡ ended None
+  unfolding placed
+  placed_end i none = none_by (length i.bytes) i none
 
-  pub walked_step : (i : Input) (x : Instr × Input) → AreBytes i.bytes → 0 < length i.bytes → instr_at f i ≡ Ok x → walked (instr_at f) item i ≡ put (item i.at x.0) (walked (instr_at f) item x.1)
-  walked_step i x h some e = by (length i.bytes) refl some
+  pub placed_step : (i : Input) (x : Instr × Input) → AreBytes i.bytes → 0 < length i.bytes → instr_at f i ≡ Ok x → placed f i ≡ put (place_of i.at x.0) (placed f x.1)
+  unfolding placed
+  placed_step i x h some e =
+      let so = reads f i x h e in
+      let n = length i.bytes in
+      enough n (suc n) i h (omega arith) (omega arith) ∙ step_by n i x some e ∙ ap (put (place_of i.at x.0)) (enough n (length x.1.bytes) x.1 so.bytes (omega (arith, so.shorter)) (omega arith))
+
+  pub placed_stuck : (i : Input) (r : Refusal) → 0 < length i.bytes → instr_at f i ≡ Err r → placed f i ≡ ended (Some r)
+  unfolding placed
+  placed_stuck i r some e = by (length i.bytes) some
     where
-      by : (n : ℕ) → length i.bytes ≡ n → 0 < n → walk n i ≡ put (item i.at x.0) (walk (length x.1.bytes) x.1)
-      by zero same pos = absurd (omega arith)
-      by (suc n) same pos =
-          let so = reads f i x h e in
-          let shorter : length x.1.bytes < length i.bytes = so.shorter in
-          step_by n i x some e ∙ ap (put (item i.at x.0)) (enough n (length x.1.bytes) x.1 so.bytes (omega arith) (omega arith))
-
-  pub walked_stuck : (i : Input) (r : Refusal) → 0 < length i.bytes → instr_at f i ≡ Err r → walked (instr_at f) item i ≡ ended (Some r)
-  walked_stuck i r some e = by (length i.bytes) refl some
-    where
-      by : (n : ℕ) → length i.bytes ≡ n → 0 < n → walk n i ≡ ended (Some r)
-      by zero same pos = absurd (omega arith)
-      by (suc n) same pos = stuck_by n i r some e
-
--- ---- that keeps it with its place
-
-pub placed_end : (f : Factors) (i : Input) → length i.bytes ≡ 0 → placed f i ≡ ended None
-unfolding placed
-placed_end f i none = walked_end Placed place_of f i none
-
-pub placed_step : (f : Factors) (i : Input) (x : Instr × Input) → AreBytes i.bytes → 0 < length i.bytes → instr_at f i ≡ Ok x → placed f i ≡ put (place_of i.at x.0) (placed f x.1)
-unfolding placed
-placed_step f i x h some e = walked_step Placed place_of f i x h some e
-
-pub placed_stuck : (f : Factors) (i : Input) (r : Refusal) → 0 < length i.bytes → instr_at f i ≡ Err r → placed f i ≡ ended (Some r)
-unfolding placed
-placed_stuck f i r some e = walked_stuck Placed place_of f i r some e
+      by : (n : ℕ) → 0 < n → walk n i ≡ ended (Some r)
+      by zero pos = absurd (omega arith)
+      by (suc n) pos = stuck_by n i r some e

@@ -1,10 +1,6 @@
 -- Products of operands and factors fit their types.
-use Rattle.std.proofs.Common.{◌≡◌, ℕ, ◌*◌, ◌^◌, ◌<◌, ◌≤◌, ℤ, pos, negsuc, arith}
-use Rattle.std.specs.Prelude.{◌*ℤ◌, unsigned_abs, FitsSigned}
-use Rattle.std.specs.Int.{w64, w128}
-use Rattle.std.proofs.Common.{of_z, to_z}
-use Rattle.std.proofs.Math.Nat.{mul-le-mul}
-use Rattle.std.proofs.lemmas.Int.{fits_signed_mul, to_z-of_z}
+use Rattle.dw_cfa.proofs.Words.{◌≡◌, ℕ, ◌*◌, ◌^◌, ◌<◌, ◌≤◌, ℤ, pos, negsuc, arith, ◌*ℤ◌, unsigned_abs, FitsSigned, w128, of_z, to_z, mul-le-mul, fits_signed_mul, to_z-of_z}
+use Rattle.std.specs.Int.{w64}
 
 abs_below : (z : ℤ) → FitsSigned w64 z → unsigned_abs z ≤ 9223372036854775808
 abs_below (pos n) h = omega (arith, h)

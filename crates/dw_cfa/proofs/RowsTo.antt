@@ -1,16 +1,8 @@
--- A run up to the last row that starts at or below an address.
-use Rattle.std.proofs.Common.{◌≡◌, ℕ, ◌<◌, ◌≤◌, Bool, true, List, [], ◌∷◌, length, Option, Some, None, Result, Ok, Err, refl, sym, ap, ◌∙◌, subst}
-use Rattle.std.proofs.lemmas.Bool.{le-leb}
-use Rattle.dw_cfa.proofs.Types.{Factors, Input, LocatedRow, Machine, Outcome, ReadError, Refusal, Refuses, Rules}
-use Rattle.std.specs.Prelude.{IfErr, IfOk, IsTrue, OnOk}
-use Rattle.dw_num.specs.declared.error.ReadError.TheVariants.{Refused, OutOfMemory}
-use Rattle.dw_cfa.specs.RuleAt.{or_here, last_at}
-use Rattle.dw_cfa.specs.Runs.{row_then}
-use Rattle.dw_cfa.specs.Inner.Runs.{rows_left}
+-- A run up to the last row that starts at or below an address, and what is left behind it.
+use Rattle.dw_cfa.proofs.Words.{◌≡◌, ℕ, ◌<◌, ◌≤◌, Bool, true, false, List, [], ◌∷◌, length, Option, Some, None, Result, Ok, Err, refl, sym, ap, ◌∙◌, subst, arith, le-leb, le-ltb, lt-ltb, Factors, Input, Leading, LocatedRow, Machine}
+use Rattle.dw_cfa.proofs.Words.{Outcome, Progress, ReadError, Refusal, Refuses, Rules, IfErr, IfOk, Refused, OutOfMemory, or_here, last_at, left_above, rows_above, NeverFalls, finished, row_then, RanTo, RunsSo, here, rows_left, state_of}
+use Rattle.dw_cfa.proofs.Words.{AllSpecify, AreLeft, RanUpTo, WalkedTo}
 use Rattle.dw_cfa.proofs.Lent.RowsAt.{none_at}
-use Rattle.dw_cfa.specs.Inner.Runs.{RanTo, here}
-use Rattle.dw_cfa.specs.Inner.Steps.{state_of}
-use Rattle.dw_cfa.specs.Inner.RowWalk.{AllSpecify}
 use Rattle.dw_cfa.proofs.RunSteps.{rows_end}
 use Rattle.dw_cfa.proofs.Lent.RunLaws.{left_from}
 
@@ -18,63 +10,81 @@ use Rattle.dw_cfa.proofs.Lent.RunLaws.{left_from}
 here_is : (a : ℕ) (first : LocatedRow) (rows : List LocatedRow) → first.location ≤ a → last_at a rows ≡ None → last_at a (first ∷ rows) ≡ Some first.row
 here_is a first rows le none = rw (none, le-leb first.location a le) refl
 
--- a walk that has the last row has the one that is asked for, of which there is one
-pub found_last : {X E : Type 0} (result : Result X E) (x : Option Rules) (new row : Rules) → OnOk result (x ≡ Some new) → x ≡ Some row → OnOk result (new ≡ row)
-found_last (Ok y) x new row last e = let same = sym last ∙ e in cc
-found_last (Err y) x new row last e = tt
+-- none is left behind where they start above it
+all_above : (a low : ℕ) (rows : List LocatedRow) → a < low → NeverFalls low rows → rows_above a rows ≡ rows
+all_above a low [] past up = refl
+all_above a low (row ∷ rows) past up = rw (lt-ltb a row.location (omega (arith, up.0))) (ap (λ (l : List LocatedRow). row ∷ l) (all_above a row.location rows (omega (arith, up.0)) up.1))
 
-pub none_last : {X E : Type 0} (result : Result X E) (x : Option Rules) (new row : Rules) → OnOk result (x ≡ Some new) → x ≡ None → OnOk result (new ≡ row)
-none_last (Ok y) x new row last none = let bad = sym last ∙ none in absurd cc
-none_last (Err y) x new row last none = tt
+pub stands_above : (a low : ℕ) (o : Outcome) → a < low → NeverFalls low o.rows → left_above a o ≡ o
+stands_above a low o past up = ap (λ (l : List LocatedRow). let p : Outcome = record { rows = l; fault = o.fault } in p) (all_above a low o.rows past up)
 
-pub some_last : {E : Type 0} → (P : Bool → Type 0) (result : Result Bool E) (x : Option Rules) (new : Rules) → OnOk result (x ≡ Some new) → x ≡ None → IfOk result P
-some_last P (Ok more) x new last none = let bad = sym last ∙ none in absurd cc
-some_last P (Err e) x new last none = tt
+-- ---- rows that start at or below an address
 
--- rows with no fault behind them are not none
-pub not_none : (f : Factors) (i : Input) (m : Machine) → (rows_left f i m).rows ≡ [] → (rows_left f i m).fault ≡ None → ⊥
-not_none f i m e none =
-    let o = rows_left f i m in
-    (left_from f i m).some
-    (ap (λ (rows : List LocatedRow). let p : Outcome = record { rows = rows; fault = o.fault } in p) e ∙ ap (λ (fault : Option Refusal). let p : Outcome = record { rows = []; fault = fault } in p) none)
+-- they were left behind
+pub record Passed (a : ℕ) (old new : Outcome) : Type 0 where
+  pub fault : new.fault ≡ old.fault
+  pub last : (row : Rules) → last_at a new.rows ≡ Some row → last_at a old.rows ≡ Some row
+  pub above : left_above a old ≡ left_above a new
+  pub keeps : (other : Rules) → AllSpecify other old.rows → AllSpecify other new.rows
 
--- ---- an instruction that ends a row
+one_passed : (a : ℕ) (old next : Outcome) (row : LocatedRow) → row.location ≤ a → Passed a old (row_then row next) → Passed a old next
+one_passed a old next row le p = record {
+  fault = p.fault;
+  last = λ x e. p.last x (ap (or_here a row) e);
+  above = p.above ∙ rw (le-ltb a row.location le) refl;
+  keeps = λ other all. (p.keeps other all).1;
+}
 
-module _ (f : Factors) (i : Input) (m : Machine) (j : Input) (m' : Machine) (moved : RanTo f i m true j m') (a : ℕ) where
-  ended : rows_left f i m ≡ row_then (here (state_of m)) (rows_left f j m')
-  ended = moved.rows
+module _ (f : Factors) (i : Input) (m : Machine) (a : ℕ) (old : Outcome) (p : Passed a old (rows_left f i m)) (le : m.location ≤ a) where
+  -- an instruction that ends a row
+  pub row_passed : (j : Input) (m' : Machine) → RanTo f i m true j m' → Passed a old (rows_left f j m')
+  row_passed j m' moved = one_passed a old (rows_left f j m') (here (state_of m)) le (subst (Passed a old) moved.rows p)
 
-  pub fault_left : (rows_left f i m).fault ≡ (rows_left f j m').fault
-  fault_left = ap (λ (o : Outcome). o.fault) ended
-
-  pub keeps_left : (other : Rules) → AllSpecify other (rows_left f i m).rows → AllSpecify other (rows_left f j m').rows
-  keeps_left other all = let both = subst (λ (o : Outcome). AllSpecify other o.rows) ended all in both.1
-
-  -- a's row ends behind it
-  pub stops_here : m.location ≤ a → a < m'.location → last_at a (rows_left f i m).rows ≡ Some m'.states.row
-  stops_here le past =
+  -- the next row starts above
+  pub stops_above : (j : Input) (m' : Machine) → RanTo f i m true j m' → a < m'.location → RanUpTo a old f j m' true
+  stops_above j m' moved past =
       let next = rows_left f j m' in
-      ap (λ (o : Outcome). last_at a o.rows) ended ∙ here_is a (here (state_of m)) next.rows le (none_at a m'.location next.rows past (left_from f j m').falls) ∙ ap Some (sym (moved.same_row refl))
+      let q = row_passed j m' moved in
+      let falls = (left_from f j m').falls in
+      let ended : Passed a old (row_then (here (state_of m)) next) = subst (Passed a old) moved.rows p in
+      record {
+        so = moved.so;
+        last = ended.last m.states.row (here_is a (here (state_of m)) next.rows le (none_at a m'.location next.rows past falls)) ∙ ap Some (sym (moved.same_row refl));
+        behind = q.above ∙ stands_above a m'.location next past falls;
+        fault = q.fault;
+        keeps = q.keeps;
+      }
 
-  -- a's row is still to come
-  pub goes_on : (row : Rules) → last_at a (rows_left f j m').rows ≡ Some row → last_at a (rows_left f i m).rows ≡ Some row
-  goes_on row e = ap (λ (o : Outcome). last_at a o.rows) ended ∙ ap (or_here a (here (state_of m))) e
+  -- or there is none
+  pub ends_above : RunsSo m i → length i.bytes ≡ 0 → RanUpTo a old f i m false
+  ends_above so none =
+      let ended : Passed a old (row_then (here (state_of m)) finished) = subst (Passed a old) (rows_end f i m none) p in
+      record {
+        so = so;
+        last = ended.last m.states.row (here_is a (here (state_of m)) [] le refl);
+        behind = (one_passed a old finished (here (state_of m)) le ended).above;
+        fault = p.fault;
+        keeps = p.keeps;
+      }
 
--- the last row of all
-pub ends_here : (f : Factors) (i : Input) (m : Machine) (a : ℕ) → length i.bytes ≡ 0 → m.location ≤ a → last_at a (rows_left f i m).rows ≡ Some m.states.row
-ends_here f i m a none le = ap (λ (o : Outcome). last_at a o.rows) (rows_end f i m none) ∙ here_is a (here (state_of m)) [] le refl
+-- ---- a walk, where no fault is to come
 
--- ---- where no fault is to come
+pub walked : {E : Type 0} (a : ℕ) (p : Progress) (old : Outcome) (was : Machine) (l : Leading) (i : Input) (m : Machine) (result : Result Bool E) → IfOk result (RanUpTo a old l.factors i m) → old.fault ≡ None
+    → (initial : Rules) → m.initial ≡ initial → AllSpecify initial old.rows → AreLeft l (Some initial) → IfOk result (WalkedTo a p old was l i m)
+walked a p old was l i m (Err e) ran none initial same all left = tt
+walked a p old was l i m (Ok more) ran none initial same all left = record {
+  found = λ row e. let one = sym ran.last ∙ e in cc;
+  stays = λ e. let bad = sym ran.last ∙ e in absurd cc;
+  behind = ran.behind;
+  first = ran.so.first;
+  none = λ e. let bad = sym ran.last ∙ e in absurd cc;
+  so = λ t. ran.so;
+  known = λ t. ran.fault ∙ none;
+  keeps = λ t. subst (λ (r : Rules). AllSpecify r (rows_left l.factors i m).rows) (sym same) (ran.keeps initial all);
+  left = λ t. subst (λ (r : Rules). AreLeft l (Some r)) (sym same) left;
+}
 
-pub still_none : {X E : Type 0} (result : Result X E) (new old : Option Refusal) → OnOk result (new ≡ old) → old ≡ None → OnOk result (new ≡ None)
-still_none (Ok x) new old same none = same ∙ none
-still_none (Err e) new old same none = tt
-
-pub none_where_more : (result : Result Bool ReadError) (new old : Option Refusal) → OnOk result (new ≡ old) → old ≡ None → IfOk result (λ more. IsTrue more → new ≡ None)
-none_where_more (Ok more) new old same none = λ _. same ∙ none
-none_where_more (Err e) new old same none = tt
-
-pub only_memory : {X : Type 0} (result : Result X ReadError) (old : Option Refusal) → old ≡ None → IfErr result (Refuses (λ r. old ≡ Some r)) → IfErr result (λ e. e ≡ OutOfMemory)
-only_memory (Ok x) old none h = tt
-only_memory (Err OutOfMemory) old none h = refl
-only_memory (Err (Refused r)) old none h = let bad = sym h ∙ none in absurd cc
+pub only_memory : {X : Type 0} (result : Result X ReadError) (old : Option Refusal) (P : Refusal → Type 0) → old ≡ None → IfErr result (Refuses (λ r. (old ≡ Some r) × P r)) → IfErr result (λ e. e ≡ OutOfMemory)
+only_memory (Ok x) old P none h = tt
+only_memory (Err OutOfMemory) old P none h = refl
+only_memory (Err (Refused r)) old P none h = let bad = sym h.0 ∙ none in absurd cc

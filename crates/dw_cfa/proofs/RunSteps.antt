@@ -1,23 +1,9 @@
 -- One instruction of a program, in the rows still to come.
-use Rattle.std.proofs.Common.{◌≡◌, ℕ, ◌<◌, ◌≤◌, List, [], length, Option, None, Some, Result, Ok, Err, IsOk, refl, sym, ap, ◌∙◌, subst}
-use Rattle.std.specs.Prelude.{IsTrue}
-use Rattle.dw_cfa.proofs.Types.{AreBytes, Code, Factors, Input, Instr, Machine, Outcome, Read, ReadError, Refusal, Refuses, RegRule, Rules, State, address_limit}
-use Rattle.dw_num.specs.declared.error.ReadError.TheVariants.{Refused, OutOfMemory}
-use Rattle.dw_cfa.specs.declared.instr.Instr.TheVariants.{SetLoc, Advance}
-use Rattle.dw_cfa.specs.Location.{moves_location}
-use Rattle.dw_cfa.specs.Inner.FrontInstr.{instr_at}
-use Rattle.dw_cfa.specs.Rows.{blank}
-use Rattle.dw_cfa.specs.Inner.RowSteps.{begun_rows, begun_stop}
-use Rattle.dw_cfa.specs.Inner.Machine.{written, after, cie_fault, fde_fault}
-use Rattle.dw_cfa.specs.Inner.States.{Held, BeganWith}
-use Rattle.dw_cfa.specs.Inner.Steps.{state_of, IsAfter}
-use Rattle.dw_cfa.specs.Inner.Runs.{Placing, placed, cie_run, initial_row, on_initial, here, row_if, fault_or, fde_rows, fde_stop, rows_left, rows_behind, run_rows, run_stop, stop_left, stop_or, RunsSo, RanTo, WroteTo}
-use Rattle.dw_cfa.specs.Runs.{fails, finished, row_then}
+use Rattle.dw_cfa.proofs.Words.{◌≡◌, ℕ, ◌<◌, List, [], length, Option, None, Some, Result, Ok, Err, IsOk, refl, sym, ap, ◌∙◌, subst, IsTrue, AreBytes, Code, Factors, Input, Instr, Machine, Outcome, Read, Refusal, RegRule, Rules, State}
+use Rattle.dw_cfa.proofs.Words.{address_limit, SetLoc, Advance, moves_location, instr_at, blank, begun_rows, begun_stop, written, after, cie_fault, fde_fault, Held, BeganWith, state_of, IsAfter, placed, cie_run, initial_row, on_initial}
+use Rattle.dw_cfa.proofs.Words.{here, row_if, fault_or, fde_rows, fde_stop, rows_left, rows_behind, run_rows, run_stop, stop_left, stop_or, RunsSo, RanTo, WroteTo, fails, finished, row_then}
 use Rattle.dw_cfa.proofs.Lent.RowsAt.{stays}
 use Rattle.dw_cfa.proofs.Placings.{reads, placed_end, placed_step, placed_stuck}
-
-rows_of : ℕ → Rules → Placing → State → Outcome
-rows_of limit initial l s = fde_rows limit initial l.items l.fault s
 
 pub rows_end : (f : Factors) (i : Input) (m : Machine) → length i.bytes ≡ 0 → rows_left f i m ≡ row_then (here (state_of m)) finished
 unfolding rows_left fde_rows
@@ -82,36 +68,23 @@ module _ (f : Factors) (i : Input) (row : Rules) (x : Instr × Input) (h : AreBy
 -- ---- a CIE's program, and then an FDE's
 
 pub begun_is_run : (f : Factors) (cie fde cie' fde' : Input) (m : Machine) (begin : ℕ) → cie ≡ cie' → fde ≡ fde' → m.states.row ≡ blank → m.location ≡ begin
-    → m.limit ≡ address_limit fde'.target.size → begun_rows f cie fde m ≡ run_rows f cie' fde' begin
-unfolding begun_rows run_rows
-begun_is_run f cie fde cie' fde' m begin a b i l n = rw (a, b, i, l, n) refl
-
-pub begun_stops_run : (f : Factors) (cie fde cie' fde' : Input) (m : Machine) (begin : ℕ) → cie ≡ cie' → fde ≡ fde' → m.states.row ≡ blank → m.location ≡ begin
-    → m.limit ≡ address_limit fde'.target.size → begun_stop f cie fde m ≡ run_stop f cie' fde' begin
-unfolding begun_stop run_stop
-begun_stops_run f cie fde cie' fde' m begin a b i l n = rw (a, b, i, l, n) refl
+    → m.limit ≡ address_limit fde'.target.size → (begun_rows f cie fde m ≡ run_rows f cie' fde' begin) × (begun_stop f cie fde m ≡ run_stop f cie' fde' begin)
+unfolding begun_rows run_rows begun_stop run_stop
+begun_is_run f cie fde cie' fde' m begin a b i l n = (rw (a, b, i, l, n) refl, rw (a, b, i, l, n) refl)
 
 -- what is run to the end is read
-abbrev ReadsHere : Factors → Input → Type 0
-ReadsHere f i = IsOk (instr_at f i)
-
-pub rows_read : (f : Factors) (i : Input) (m : Machine) → 0 < length i.bytes → (rows_left f i m).fault ≡ None → ReadsHere f i
-rows_read f i m some none = go (instr_at f i) refl
+read_unless : (f : Factors) (i : Input) → ((r : Refusal) → instr_at f i ≡ Err r → ⊥) → IsOk (instr_at f i)
+read_unless f i never = go (instr_at f i) refl
   where
     go : (r : Read Instr) → instr_at f i ≡ r → IsOk r
     go (Ok x) e = refl
-    go (Err r) e = let k : Some r ≡ None = sym (ap (λ (o : Outcome). o.fault) (rows_stuck f i m r some e)) ∙ none in absurd cc
+    go (Err r) e = absurd (never r e)
 
-pub initial_read : (f : Factors) (i : Input) (row : Rules) → 0 < length i.bytes → IsOk (initial_row (placed f i) row) → ReadsHere f i
-initial_read f i row some ok = go (instr_at f i) refl
-  where
-    refused : (q : Result Rules Refusal) (r : Refusal) → q ≡ Err r → IsOk q → ⊥
-    refused (Ok rules) r is ok = absurd cc
-    refused (Err d) r is ok = absurd cc
+pub rows_read : (f : Factors) (i : Input) (m : Machine) → 0 < length i.bytes → (rows_left f i m).fault ≡ None → IsOk (instr_at f i)
+rows_read f i m some none = read_unless f i (λ r e. let k : Some r ≡ None = sym (ap (λ (o : Outcome). o.fault) (rows_stuck f i m r some e)) ∙ none in cc)
 
-    go : (r : Read Instr) → instr_at f i ≡ r → IsOk r
-    go (Ok x) e = refl
-    go (Err r) e = absurd (refused (initial_row (placed f i) row) r (initial_stuck f i row r some e) ok)
+pub initial_read : (f : Factors) (i : Input) (row : Rules) → 0 < length i.bytes → IsOk (initial_row (placed f i) row) → IsOk (instr_at f i)
+initial_read f i row some ok = read_unless f i (λ r e. let no = subst (λ (x : Result Rules Refusal). IsOk x) (initial_stuck f i row r some e) ok in cc)
 
 -- a run that has no fault has an initial row
 pub initial_left : (r : Result Rules Refusal) (go : Rules → Outcome) → (on_initial r go).fault ≡ None → IsOk r
@@ -122,30 +95,15 @@ pub begun_initial : (f : Factors) (cie fde : Input) (m : Machine) → (begun_row
 unfolding begun_rows
 begun_initial f cie fde m none = initial_left (initial_row (placed f cie) m.states.row) _ none
 
-pub begun_refused : (f : Factors) (cie fde : Input) (m : Machine) (e : ReadError) → Refuses (λ r. initial_row (placed f cie) m.states.row ≡ Err r) e → Refuses (λ r. begun_rows f cie fde m ≡ fails r) e
-unfolding begun_rows
-begun_refused f cie fde m (Refused r) is = rw is refl
-begun_refused f cie fde m OutOfMemory is = tt
-
-pub begun_fault : (f : Factors) (cie fde : Input) (m : Machine) (e : ReadError) → Refuses (λ r. initial_row (placed f cie) m.states.row ≡ Err r) e → Refuses (λ r. (begun_rows f cie fde m).fault ≡ Some r) e
-unfolding begun_rows
-begun_fault f cie fde m (Refused r) is = rw is refl
-begun_fault f cie fde m OutOfMemory is = tt
+pub begun_stuck : (f : Factors) (cie fde : Input) (m : Machine) (r : Refusal) → initial_row (placed f cie) m.states.row ≡ Err r → (begun_rows f cie fde m ≡ fails r) × (begun_stop f cie fde m ≡ m.location)
+unfolding begun_rows begun_stop
+begun_stuck f cie fde m r is = (rw is refl, rw is refl)
 
 pub begun_ran : (f : Factors) (cie fde : Input) (m : Machine) (initial : Rules) (states : Held) → initial_row (placed f cie) m.states.row ≡ Ok states.row → initial ≡ states.row → states.stack ≡ []
-    → rows_left f fde (record { initial = initial; states = states; location = m.location; limit = m.limit }) ≡ begun_rows f cie fde m
-unfolding begun_rows rows_left
-begun_ran f cie fde m initial states is same none = rw (is, same, none) refl
-
-pub begun_stops : (f : Factors) (cie fde : Input) (m : Machine) (initial : Rules) (states : Held) → initial_row (placed f cie) m.states.row ≡ Ok states.row → initial ≡ states.row → states.stack ≡ []
-    → stop_left f fde (record { initial = initial; states = states; location = m.location; limit = m.limit }) ≡ begun_stop f cie fde m
-unfolding begun_stop stop_left
-begun_stops f cie fde m initial states is same none = rw (is, same, none) refl
-
-pub begun_stays : (f : Factors) (cie fde : Input) (m : Machine) (a : ℕ) (e : ReadError) → m.location ≤ a → Refuses (λ r. initial_row (placed f cie) m.states.row ≡ Err r) e → Refuses (λ r. begun_stop f cie fde m ≤ a) e
-unfolding begun_stop
-begun_stays f cie fde m a (Refused r) le is = rw is le
-begun_stays f cie fde m a OutOfMemory le is = tt
+    → (rows_left f fde (record { initial = initial; states = states; location = m.location; limit = m.limit }) ≡ begun_rows f cie fde m)
+    × (stop_left f fde (record { initial = initial; states = states; location = m.location; limit = m.limit }) ≡ begun_stop f cie fde m)
+unfolding begun_rows rows_left begun_stop stop_left
+begun_ran f cie fde m initial states is same none = (rw (is, same, none) refl, rw (is, same, none) refl)
 
 pub started : (f : Factors) (fde fde' : Input) (m : Machine) (initial : Rules) (begin : ℕ) → fde ≡ fde' → m.initial ≡ initial → m.states.row ≡ initial → m.states.stack ≡ [] → m.location ≡ begin
     → m.limit ≡ address_limit fde'.target.size → rows_left f fde m ≡ rows_behind f initial fde' begin

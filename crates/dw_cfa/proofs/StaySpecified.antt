@@ -1,18 +1,8 @@
 -- What a CIE's program specifies is specified in every row of its FDEs.
-use Rattle.std.proofs.Common.{◌≡◌, ℕ, Bool, true, false, List, [], ◌∷◌, Option, Some, None, Ok, Err, Result, refl, sym, ap, ◌∙◌, subst, arith, inl, inr}
-use Rattle.std.specs.Prelude.{IsTrue, IfOk, OnOk, if◌then◌else◌}
-use Rattle.std.specs.List.{AllZip}
-use Rattle.dw_cfa.proofs.Types.{AreBytes, Factors, Input, Instr, Leading, LocatedRow, Machine, Outcome, Progress, ReadError, Refusal, RegRule, Rules, Stepping}
+use Rattle.dw_cfa.proofs.Words.{◌≡◌, ℕ, Bool, true, List, [], ◌∷◌, Option, Some, None, Ok, Result, refl, sym, ap, ◌∙◌, subst, arith, inl, inr, IsTrue, AllZip, AreBytes, Factors, Input, Instr, Leading, LocatedRow, Machine, Outcome, Progress}
+use Rattle.dw_cfa.proofs.Words.{ReadError, Refusal, RegRule, Rules, Stepping, is_kept, kept, IsRowAfter, GivesUpTo, ends, is_specified, rule, GivesRow, RunsSo, rows_behind, rows_left, program_input, progress_after, AllKeep, AllSpecify}
+use Rattle.dw_cfa.proofs.Words.{Readied, WalkKeeps, walk_of}
 use Rattle.dw_cfa.specs.declared.steps.Progress.TheVariants as progress
-use Rattle.dw_cfa.specs.Agreement.{is_kept, kept}
-use Rattle.dw_cfa.specs.Behind.{IsRowAfter, GivesUpTo, RunsBehind, ends}
-use Rattle.dw_cfa.specs.Rows.{is_specified, rule}
-use Rattle.dw_cfa.specs.Inner.Runs.{GivesRow, RunsSo, rows_behind, rows_left}
-use Rattle.dw_cfa.specs.Runs.{finished, row_then}
-use Rattle.dw_cfa.specs.RowSteps.{program_input}
-use Rattle.dw_cfa.specs.Inner.RowSteps.{progress_after}
-use Rattle.dw_cfa.specs.RowWalk.{AllKeep}
-use Rattle.dw_cfa.specs.Inner.RowWalk.{AllSpecify, Readied, Specifies, WalkKeeps, walk_of}
 use Rattle.dw_cfa.proofs.Lent.FaultLaws.{initial_leaves}
 use Rattle.dw_cfa.proofs.Lent.Given.{behind_runs}
 use Rattle.dw_cfa.proofs.Lent.Narrowed.{left_too}
@@ -37,9 +27,6 @@ module _ (f : Factors) (initial : Rules) (fde : Input) (begin : ℕ) where
       let all : AllSet g.instrs = elim g.fault.1 [ inl stuck ↦ all_set fde.target f g.instrs stuck.front stuck.read | inr b ↦ all_set fde.target f g.instrs b.front b.read ] in
       rows_specify initial begin g.instrs (ends [] g.instrs) rows all g.each
 
-  run_specifies : (o : Outcome) → RunsBehind f initial fde begin o → AllSpecify initial o.rows
-  run_specifies o runs = up_to_specifies o.fault o.rows runs
-
 -- ---- a walk
 
 -- behind a CIE's row that is run or brought back
@@ -49,38 +36,27 @@ led_keeps l fde old m bytes fb so r =
     let limit = r.limit ∙ so.limit in
     let same = started l.factors fde fde m m.initial m.location refl refl r.row r.none refl limit in
     let runs = behind_runs l.factors m.initial fde m.location fb listed (omega (arith, r.location, r.limit, so.within, limit)) in
-    subst (λ (o : Outcome). AllSpecify m.initial o.rows) (sym same) (run_specifies l.factors m.initial fde m.location (rows_behind l.factors m.initial fde m.location) runs)
+    subst (λ (o : Outcome). AllSpecify m.initial o.rows) (sym same) (up_to_specifies l.factors m.initial fde m.location (rows_behind l.factors m.initial fde m.location).fault (rows_behind l.factors m.initial fde m.location).rows runs)
 
 module _ (l : Leading) (fde : Input) (m : Machine) where
-  after_row : (old : Outcome) (row : LocatedRow) (more : Bool) → AllSpecify m.initial old.rows → old ≡ row_then row (if more then rows_left l.factors fde m else finished)
-      → WalkKeeps (if more then progress.Running else progress.Finished) l fde m
-  after_row old row true h e = let rest = subst (λ (o : Outcome). AllSpecify m.initial o.rows) e h in rest.1
-  after_row old row false h e = tt
-
   -- behind the end of a row
   pub row_behind : (old : Outcome) (result : Result (ℕ × Bool) ReadError) → AllSpecify m.initial old.rows → GivesRow old l.factors fde m result → WalkKeeps (progress_after result) l fde m
-  row_behind old (Ok x) h g = after_row old (record { location = x.0; row = m.states.row }) x.1 h g.1
-  row_behind old (Err e) h g = tt
+  row_behind old (Ok (start, true)) h g = let rest = subst (λ (o : Outcome). AllSpecify m.initial o.rows) g.1 h in rest.1
+  row_behind old result h g = tt
 
 -- ---- a row to keep
-
-keep_one : (row initial next : Rules) → kept row initial ≡ row → Specifies next initial → kept row next ≡ row
-keep_one row initial next same h =
-    ap (λ (xs : List Entry). let r : Rules = record { cfa = row.cfa; registers = xs } in r)
-    (left_too (is_kept initial.registers) (is_kept next.registers) row.registers (λ x e. h x.0 e) (ap (λ (r : Rules). r.registers) same))
 
 -- what the initial row specifies, all rows keep
 pub all_keep : (row initial : Rules) (rows : List LocatedRow) → kept row initial ≡ row → AllSpecify initial rows → AllKeep row rows
 all_keep row initial [] same h = tt
-all_keep row initial (next ∷ rows) same h = (keep_one row initial next.row same h.0, all_keep row initial rows same h.1)
+all_keep row initial (next ∷ rows) same h = (
+  ap (λ (xs : List Entry). let r : Rules = record { cfa = row.cfa; registers = xs } in r)
+      (left_too (is_kept initial.registers) (is_kept next.row.registers) row.registers (λ x e. h.0 x.0 e) (ap (λ (r : Rules). r.registers) same)),
+  all_keep row initial rows same h.1,
+)
 
 pub walk_keeps : (p : Progress) (l : Leading) (fde : Input) (m : Machine) (s : Stepping) (row : Rules) → p ≡ progress.Running → walk_of p l fde m ≡ s → WalkKeeps p l fde m → kept row m.initial ≡ row → AllKeep row s.outcome.rows
 walk_keeps p l fde m s row is e h same =
     let all = subst (λ (x : Progress). WalkKeeps x l fde m) is h in
     let here : rows_left l.factors fde m ≡ s.outcome = ap (λ (x : Progress). (walk_of x l fde m).outcome) (sym is) ∙ ap (λ (x : Stepping). x.outcome) e in
     subst (λ (o : Outcome). AllKeep row o.rows) here (all_keep row m.initial (rows_left l.factors fde m).rows same all)
-
--- what is so behind a run is so where the program goes on
-pub where_more : {E : Type 0} → (P : Type 0) (r : Result Bool E) → OnOk r P → IfOk r (λ (more : Bool). IsTrue more → P)
-where_more P (Ok more) h = λ t. h
-where_more P (Err e) h = tt

@@ -1,7 +1,6 @@
 -- Where a list of placed instructions stops with a refusal as it is run, of an FDE's program and of a CIE's: at an instruction, or
 -- behind all that can be read.
-use Rattle.std.proofs.Common.{◌≡◌, ℕ, List, [], ◌∷◌, ◌++◌, Option, Some, None, refl, sym, ap, ◌∙◌}
-use Rattle.dw_cfa.proofs.Types.{Code, Instr, Placed, Refusal}
+use Rattle.dw_cfa.proofs.Words.{◌≡◌, ℕ, List, [], ◌∷◌, ◌++◌, Option, Some, None, refl, sym, ap, ◌∙◌, append-nil, Code, Instr, Placed, Refusal}
 
 -- the state behind instructions
 abbrev pub ends : {S : Type 0} → (Instr → S → S) → List Placed → S → S
@@ -40,8 +39,7 @@ module _ {S : Type 0} (fault : Instr → S → Option Code) (next : Instr → S 
   refusal_behind (item ∷ before) after last s run = rw run.0 (refusal_behind before after last (next item.instr s) run.1)
 
   pub refusal_end : (items : List Placed) (last : Option Refusal) (s : S) → AllRun items s → refusal_of items last s ≡ last
-  refusal_end [] last s run = refl
-  refusal_end (item ∷ items) last s run = rw run.0 (refusal_end items last (next item.instr s) run.1)
+  refusal_end items last s run = ap (λ (l : List Placed). refusal_of l last s) (sym (append-nil items)) ∙ refusal_behind items [] last s run
 
   -- what comes next is refused
   abbrev pub RefusedNext : List Placed → Option Refusal → S → Refusal → Type 0

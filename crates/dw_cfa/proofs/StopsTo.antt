@@ -1,11 +1,6 @@
 -- Where a run stops, as the code goes along.
-use Rattle.std.proofs.Common.{◌≡◌, ℕ, ◌≤◌, Bool, true, false, List, [], ◌∷◌, Option, Some, None, refl, ap, ◌∙◌, arith}
-use Rattle.dw_cfa.proofs.Types.{Code, Factors, Input, Machine, Outcome, Placed, Refusal, Rules, State}
-use Rattle.dw_cfa.specs.Location.{moves_location}
-use Rattle.dw_cfa.specs.Runs.{fails}
-use Rattle.dw_cfa.specs.Inner.Machine.{after, fde_fault}
-use Rattle.dw_cfa.specs.Inner.Runs.{fault_or, fde_rows, fde_stop, placed, row_if, rows_left, stop_left, stop_or}
-use Rattle.dw_cfa.specs.Inner.Steps.{state_of}
+use Rattle.dw_cfa.proofs.Words.{◌≡◌, ℕ, ◌≤◌, Bool, true, false, List, [], ◌∷◌, Option, Some, None, refl, ap, ◌∙◌, arith, Code, Factors, Input, Machine, Outcome, Placed, Refusal, Rules, State, moves_location, fails, after, fde_fault}
+use Rattle.dw_cfa.proofs.Words.{fault_or, fde_rows, fde_stop, placed, row_if, rows_left, stop_left, stop_or, state_of}
 use Rattle.dw_cfa.proofs.Lent.RowsAt.{forwards, stays}
 
 -- ---- not before the location where it is
@@ -30,7 +25,7 @@ or_here (Some code) at moves s next n e same = refl
 or_here None at true s next n e same = absurd cc
 or_here None at false s next n e same = same refl e
 
-stops_here : (limit : ℕ) (initial : Rules) (items : List Placed) (fault : Option Refusal) (s : State) → (fde_rows limit initial items fault s).rows ≡ [] → fde_stop limit initial items s ≡ s.location
+pub stops_here : (limit : ℕ) (initial : Rules) (items : List Placed) (fault : Option Refusal) (s : State) → (fde_rows limit initial items fault s).rows ≡ [] → fde_stop limit initial items s ≡ s.location
 unfolding fde_rows fde_stop
 stops_here limit initial [] fault s e = refl
 stops_here limit initial (item ∷ items) fault s e =

@@ -1,15 +1,8 @@
 -- What the table reads of an opcode is what the code reads.
-use Rattle.std.proofs.Common.{◌≡◌, ℕ, ◌^◌, Bool, true, false, Option, Some, Ok, Err, refl, sym, ap, ◌∙◌}
-use Rattle.std.specs.Prelude.{ℤ, pos, ◌*ℤ◌, unsigned_abs, nat_lt}
-use Rattle.dw_cfa.proofs.Types.{Factors, Input, Instr, Opcode, Read}
-use Rattle.dw_num.specs.Front.{fixed_at, register_at, uleb_at, sleb_at, address_at, ◌>>=◌}
-use Rattle.dw_cfa.specs.declared.instr.Instr.TheVariants.{SetLoc, DefCfa, DefCfaRegister, DefCfaOffset, DefCfaExpression, Restore}
+use Rattle.dw_cfa.proofs.Words.{◌≡◌, ℕ, ◌^◌, Bool, true, false, Option, Some, Ok, Err, refl, sym, ap, ◌∙◌, ℤ, pos, ◌*ℤ◌, unsigned_abs, nat_lt, Factors, Input, Instr, Opcode, Read, fixed_at, register_at, uleb_at, sleb_at, ◌>>=◌, DefCfa}
+use Rattle.dw_cfa.proofs.Words.{DefCfaOffset, opcode_of, form_of, offset_of, leaving, block_at, with_instr, form_at, judged, known_at, instr_at}
 use Rattle.dw_cfa.specs.declared.opcode.Opcode.TheVariants as opcodes
-use Rattle.dw_cfa.specs.declared.rule.RegRule.TheVariants as rules
-use Rattle.dw_cfa.specs.Inner.Operands.{opcode_of, form_of}
-use Rattle.dw_cfa.specs.Operands.{offset_of, advanced}
-use Rattle.dw_cfa.specs.Inner.FrontInstr.{leaving, block_at, with_instr, form_at, judged, known_at, instr_at}
-use Rattle.dw_cfa.specs.Inner.ByOpcode.{offset_in, plain_in, plain_at, factored_in, factored_at, signed_in, signed_at, set_loc_at, advance_at, def_cfa_register_at, def_cfa_offset_at, def_cfa_offset_sf_at, def_cfa_expression_at, then_plain, def_cfa_at, then_signed, def_cfa_sf_at, restore_at, set_to, undefined_at, same_value_at, set_offset, set_val_offset, set_register, set_expression, set_val_expression, offset_at, then_offset, offset_extended_at, offset_extended_sf_at, then_factored, val_offset_at, val_offset_sf_at, then_register, register_rule_at, then_block, expression_at, val_expression_at, operands_at}
+use Rattle.dw_cfa.specs.Inner.ByOpcode.{offset_in, plain_in, plain_at, factored_in, factored_at, signed_in, signed_at, set_loc_at, advance_at, def_cfa_register_at, def_cfa_offset_at, def_cfa_offset_sf_at, def_cfa_expression_at, then_plain, def_cfa_at, then_signed, def_cfa_sf_at, restore_at, undefined_at, same_value_at, set_offset, set_val_offset, set_register, set_expression, set_val_expression, offset_at, then_offset, offset_extended_at, offset_extended_sf_at, then_factored, val_offset_at, val_offset_sf_at, then_register, register_rule_at, then_block, expression_at, val_expression_at, operands_at}
 
 module _ (at : ℕ) where
   -- an instruction without an offset is not judged
@@ -35,33 +28,29 @@ module _ (at : ℕ) where
 
 pub form_is : (f : Factors) (at : ℕ) (opcode : Opcode) (i : Input) → form_at (form_of f opcode) i >>= judged at ≡ operands_at f at opcode i
 unfolding operands_at set_loc_at advance_at def_cfa_register_at def_cfa_offset_at def_cfa_offset_sf_at def_cfa_expression_at def_cfa_at def_cfa_sf_at restore_at undefined_at same_value_at offset_at offset_extended_at offset_extended_sf_at val_offset_at val_offset_sf_at register_rule_at expression_at val_expression_at plain_at factored_at signed_at
-form_is f at opcodes.SetLoc i = unjudged at (address_at i) SetLoc (λ x. refl)
-form_is f at opcodes.AdvanceLoc1 i = unjudged at (fixed_at 1 i) (advanced f) (λ x. refl)
-form_is f at opcodes.AdvanceLoc2 i = unjudged at (fixed_at 2 i) (advanced f) (λ x. refl)
-form_is f at opcodes.AdvanceLoc4 i = unjudged at (fixed_at 4 i) (advanced f) (λ x. refl)
 form_is f at (opcodes.Offset r) i = with_offset at (uleb_at i) (λ n. pos n *ℤ f.data_factor) (set_offset r) (factored_in f at) (λ x. refl) (λ z. refl)
 form_is f at opcodes.OffsetExtended i =
     behind at (register_at i) _ (then_offset f at) (λ r. with_offset at (uleb_at r.1) (λ n. pos n *ℤ f.data_factor) (set_offset r.0) (factored_in f at) (λ x. refl) (λ z. refl))
 form_is f at opcodes.OffsetExtendedSf i =
     behind at (register_at i) _ (then_signed set_offset f at) (λ r. with_offset at (sleb_at r.1) (λ z. z *ℤ f.data_factor) (set_offset r.0) (signed_in f at) (λ x. refl) (λ z. refl))
-form_is f at opcodes.RestoreExtended i = unjudged at (register_at i) Restore (λ x. refl)
-form_is f at opcodes.Undefined i = unjudged at (register_at i) (set_to rules.Undefined) (λ x. refl)
-form_is f at opcodes.SameValue i = unjudged at (register_at i) (set_to rules.SameValue) (λ x. refl)
 form_is f at opcodes.Register i = behind at (register_at i) _ then_register (λ r. unjudged at (register_at r.1) (set_register r.0) (λ x. refl))
 form_is f at opcodes.DefCfa i = behind at (register_at i) _ (then_plain at) (λ r. with_offset at (uleb_at r.1) (λ n. pos n) (DefCfa r.0) (plain_in at) (λ x. refl) (λ z. refl))
 form_is f at opcodes.DefCfaSf i =
     behind at (register_at i) _ (then_signed DefCfa f at) (λ r. with_offset at (sleb_at r.1) (λ z. z *ℤ f.data_factor) (DefCfa r.0) (signed_in f at) (λ x. refl) (λ z. refl))
-form_is f at opcodes.DefCfaRegister i = unjudged at (register_at i) DefCfaRegister (λ x. refl)
 form_is f at opcodes.DefCfaOffset i = with_offset at (uleb_at i) (λ n. pos n) DefCfaOffset (plain_in at) (λ x. refl) (λ z. refl)
 form_is f at opcodes.DefCfaOffsetSf i = with_offset at (sleb_at i) (λ z. z *ℤ f.data_factor) DefCfaOffset (signed_in f at) (λ x. refl) (λ z. refl)
-form_is f at opcodes.DefCfaExpression i = unjudged at (block_at i) DefCfaExpression (λ x. refl)
 form_is f at opcodes.Expression i = behind at (register_at i) _ (then_block set_expression) (λ r. unjudged at (block_at r.1) (set_expression r.0) (λ x. refl))
 form_is f at opcodes.ValOffset i =
     behind at (register_at i) _ (then_factored set_val_offset f at) (λ r. with_offset at (uleb_at r.1) (λ n. pos n *ℤ f.data_factor) (set_val_offset r.0) (factored_in f at) (λ x. refl) (λ z. refl))
 form_is f at opcodes.ValOffsetSf i =
     behind at (register_at i) _ (then_signed set_val_offset f at) (λ r. with_offset at (sleb_at r.1) (λ z. z *ℤ f.data_factor) (set_val_offset r.0) (signed_in f at) (λ x. refl) (λ z. refl))
 form_is f at opcodes.ValExpression i = behind at (register_at i) _ (then_block set_val_expression) (λ r. unjudged at (block_at r.1) (set_val_expression r.0) (λ x. refl))
-form_is f at opcode i = refl
+form_is f at opcodes.Nop i = refl
+form_is f at (opcodes.AdvanceLoc delta) i = refl
+form_is f at (opcodes.Restore r) i = refl
+form_is f at opcodes.RememberState i = refl
+form_is f at opcodes.RestoreState i = refl
+form_is f at opcode i = unjudged at _ _ (λ x. refl)
 
 -- an instruction behind its opcode
 pub opened : (f : Factors) (i j : Input) (code : ℕ) (o : Opcode) (at : ℕ) → at ≡ i.at → fixed_at 1 i ≡ Ok (code, j) → opcode_of code ≡ Some o → instr_at f i ≡ operands_at f at o j

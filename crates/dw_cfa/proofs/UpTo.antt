@@ -1,17 +1,14 @@
 -- Faults that come up to an address are those where a run stops up to there.
-use Rattle.std.proofs.Common.{◌≡◌, ℕ, ◌≤◌, List, [], ◌∷◌, ◌++◌, length, Option, Some, Result, Ok, Err, refl, sym, ap, ◌∙◌, subst, inl, inr, arith}
-use Rattle.std.specs.Prelude.{IfErr, OnOk}
-use Rattle.dw_cfa.proofs.Types.{AreBytes, CfaRule, Factors, Input, Instr, Outcome, Placed, ReadError, Refusal, Refuses, Rules, State, address_limit}
-use Rattle.dw_num.specs.declared.error.ReadError.TheVariants.{Refused, OutOfMemory}
-use Rattle.dw_cfa.specs.Location.{location, onto}
-use Rattle.dw_cfa.specs.Rows.{AreSpecified, blank}
-use Rattle.dw_cfa.specs.Faults.{FdeFaultBehind, FdeFaultUpTo, FaultUpTo, NoFaultUpTo}
-use Rattle.dw_cfa.specs.Inner.Machine.{begun, after, fde_fault}
-use Rattle.dw_cfa.specs.Inner.Runs.{StopsAbove, fde_rows, fde_stop, initial_row, on_initial, placed, rows_behind, run_rows, run_stop, stop_on}
-use Rattle.dw_cfa.proofs.Lent.Forward.{Follows, after_follows, begun_follows}
+use Rattle.dw_cfa.proofs.Words.{◌≡◌, ℕ, ◌≤◌, List, [], ◌∷◌, ◌++◌, length, Some, Result, Ok, Err, refl, sym, ap, ◌∙◌, subst, inl, inr, arith, IfErr, OnOk, AreBytes, CfaRule, Factors, Input, Instr, Outcome, Placed, ReadError, Refusal}
+use Rattle.dw_cfa.proofs.Words.{Refuses, Rules, State, address_limit, Refused, OutOfMemory, location, AreSpecified, blank, FdeFaultBehind, FdeFaultUpTo, FaultUpTo, NoFaultUpTo, begun, after, fde_fault, RunsTo, last_at, FoundAt, fde_rows}
+use Rattle.dw_cfa.proofs.Words.{fde_stop, initial_row, on_initial, placed, rows_behind, run_rows, run_stop, stop_on}
+use Rattle.dw_cfa.proofs.Lent.KeptLaws.{all_in_limit}
+use Rattle.dw_cfa.proofs.Lent.KeptRuns.{AllInLimit, ended_stands}
 use Rattle.dw_cfa.proofs.Lent.RowsAt.{instrs_of}
-use Rattle.dw_cfa.proofs.Lent.FaultLaws.{leaves, leaves_initial, stops_of, fde_fault_found, fde_fault_only, cie_fault_found, cie_fault_only}
-use Rattle.dw_cfa.proofs.Stops.{AllRun, RefusedNext, ends}
+use Rattle.dw_cfa.proofs.Lent.FaultLaws.{begun_stands, leaves, leaves_initial, stops_of, fde_fault_found, fde_fault_only, cie_fault_found, cie_fault_only}
+use Rattle.dw_cfa.proofs.Lent.Given.{none_next, runs_run}
+use Rattle.dw_cfa.proofs.StopsTo.{stops_here}
+use Rattle.dw_cfa.proofs.Stops.{AllRun, ends}
 
 -- ---- an FDE's program
 
@@ -21,18 +18,6 @@ past : (limit : ℕ) (initial : Rules) (before tail : List Placed) (s : State) �
 unfolding fde_stop
 past limit initial [] tail s run = refl
 past limit initial (p ∷ before) tail s run = rw run.0 (past limit initial before tail (after initial p.instr s) run.1)
-
--- and one whose next is refused where it is
-stops_here : (limit : ℕ) (initial : Rules) (tail : List Placed) (fault : Option Refusal) (s : State) (r : Refusal) → RefusedNext (fde_fault limit) (after initial) tail fault s r → fde_stop limit initial tail s ≡ s.location
-unfolding fde_stop
-stops_here limit initial [] fault s r h = refl
-stops_here limit initial (item ∷ tail) fault s r h = rw h.0 refl
-
-ended_follows : (limit begin : ℕ) (initial : Rules) (items : List Placed) (earlier : List Instr) (s : State) → Follows initial begin earlier s → AllRun (fde_fault limit) (after initial) items s
-    → Follows initial begin (onto earlier (instrs_of items) (length (instrs_of items))) (ends (after initial) items s)
-ended_follows limit begin initial [] earlier s h run = h
-ended_follows limit begin initial (p ∷ items) earlier s h run =
-    ended_follows limit begin initial items (p.instr ∷ earlier) (after initial p.instr s) (after_follows initial begin p.instr earlier s limit h run.0) run.1
 
 module _ (f : Factors) (initial : Rules) (i : Input) (begin : ℕ) (h : AreBytes i.bytes) (le : begin ≤ address_limit i.target.size) (listed : AreSpecified 0 initial.registers) where
   abbrev stop : ℕ
@@ -45,9 +30,10 @@ module _ (f : Factors) (initial : Rules) (i : Input) (begin : ℕ) (h : AreBytes
       let s = begun initial begin in
       let found = stops_of f initial i begin h le listed r instrs fault in
       let d = found.0 in
+      let all : AllInLimit limit instrs = elim fault.1 [ inl stuck ↦ all_in_limit i.target f instrs stuck.front stuck.read | inr b ↦ all_in_limit i.target f instrs b.front b.read ] in
       ap (λ (l : List Placed). fde_stop limit initial l s) d.whole ∙ past limit initial d.before d.after s d.run
-      ∙ stops_here limit initial d.after (placed f i).fault (ends (after initial) d.before s) r d.refused
-      ∙ (ended_follows limit begin initial d.before [] s (begun_follows initial begin listed) d.run).location ∙ ap (λ (l : List Instr). location begin l (length l)) found.1
+      ∙ stops_here limit initial d.after (placed f i).fault (ends (after initial) d.before s) (none_next initial begin limit d.after (placed f i).fault (ends (after initial) d.before s) r d.refused)
+      ∙ (ended_stands limit begin initial d.before [] s (begun_stands limit begin initial listed le) (subst (AllInLimit limit) (sym found.1) all) d.run).follows.location ∙ ap (λ (l : List Instr). location begin l (length l)) found.1
 
   fde_found : (a : ℕ) (r : Refusal) → (rows_behind f initial i begin).fault ≡ Some r → stop ≤ a → FdeFaultUpTo f initial.cfa i begin a r
   fde_found a r e below =
@@ -84,14 +70,14 @@ module _ (f : Factors) (cie fde : Input) (begin : ℕ) (cb : AreBytes cie.bytes)
       let left = leaves_initial f cie instrs cb program kept in
       rw left.1 (fde_only f left.0 fde begin fb le left.2.listed a r (subst (λ (c : CfaRule). FdeFaultUpTo f c fde begin a r) (sym left.2.cfa) fault))
 
-  -- what a run up to the address refuses, and what it does not pass over
-  pub refused_up_to : {X : Type 0} (result : Result X ReadError) → IfErr result (Refuses (λ r. (run_rows f cie fde begin).fault ≡ Some r)) → IfErr result (Refuses (λ r. run_stop f cie fde begin ≤ a))
-      → IfErr result (Refuses (FaultUpTo f cie fde begin a))
-  refused_up_to (Ok x) e below = tt
-  refused_up_to (Err OutOfMemory) e below = tt
-  refused_up_to (Err (Refused r)) e below = found r e below
-
-  pub none_up_to : {X : Type 0} (result : Result X ReadError) → begin ≤ a → OnOk result (StopsAbove (run_rows f cie fde begin).fault (run_stop f cie fde begin) a)
-      → OnOk result (NoFaultUpTo f cie fde begin a)
-  none_up_to (Ok x) start above = λ r fault. let there = only r start fault in let far = above r there.0 in absurd (omega (arith, far, there.1))
-  none_up_to (Err e) start above = tt
+  -- what a run up to the address answers
+  pub up_to : {X : Type 0} (result : Result X ReadError) (row : Rules) → begin ≤ a → FoundAt a (run_rows f cie fde begin) (run_stop f cie fde begin) row result
+      → ((o : Outcome) → RunsTo f cie fde begin o → OnOk result (last_at a o.rows ≡ Some row) × IfErr result (Refuses (λ r. o.fault ≡ Some r)))
+      × IfErr result (Refuses (FaultUpTo f cie fde begin a)) × OnOk result (NoFaultUpTo f cie fde begin a)
+  up_to (Ok x) row start (last, above) = (
+    λ o runs. (subst (λ (p : Outcome). last_at a p.rows ≡ Some row) (sym (runs_run f cie fde begin cb fb le o runs)) last, tt),
+    tt,
+    λ r fault. let there = only r start fault in absurd (omega (arith, above r there.0, there.1)),
+  )
+  up_to (Err OutOfMemory) row start found = (λ o runs. (tt, tt), tt, tt)
+  up_to (Err (Refused r)) row start (e, below) = (λ o runs. (tt, ap (λ (p : Outcome). p.fault) (runs_run f cie fde begin cb fb le o runs) ∙ e), found r e below, tt)

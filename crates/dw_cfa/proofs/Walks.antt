@@ -1,24 +1,14 @@
 -- A walk from one FDE's program to another's, behind a CIE's row that is run or brought back.
-use Rattle.std.proofs.Common.{◌≡◌, ◌⊎◌, ℕ, Bool, true, false, [], Option, Some, None, Ok, Err, Result, IsOk, refl, sym, ap, subst, ◌∙◌, inl, inr}
-use Rattle.std.specs.Prelude.{◌↔◌, IfOk, IsTrue, MatchOption, if◌then◌else◌}
-use Rattle.dw_cfa.proofs.Types.{AreBytes, Factors, Input, Leading, Machine, Outcome, Progress, ReadError, Rules, Stepping, Target, address_limit}
+use Rattle.dw_cfa.proofs.Words.{◌≡◌, ◌⊎◌, ℕ, Bool, true, false, Option, Some, None, Ok, Result, IsOk, refl, sym, ap, subst, ◌∙◌, inl, inr, ◌↔◌, IsTrue, MatchOption, AreBytes, Factors, Input, Leading, Machine, Outcome, Progress, ReadError}
+use Rattle.dw_cfa.proofs.Words.{Rules, Stepping, Target, Program, blank, finished, RunsSo, initial_row, placed, rows_left, run_rows, program_input, left_of, progress_after, kept, StandsOn, AreLeft, HasInitial, Readied, WalksSo, initial_of}
+use Rattle.dw_cfa.proofs.Words.{led_of, led_rows, walk_of}
 use Rattle.dw_cfa.specs.declared.steps.Progress.TheVariants as progress
-use Rattle.dw_cfa.specs.InstrSpells.{Program}
-use Rattle.dw_cfa.specs.Rows.{blank}
-use Rattle.dw_cfa.specs.Runs.{finished}
-use Rattle.dw_cfa.specs.Inner.Runs.{RunsSo, initial_row, placed, rows_left, run_rows}
-use Rattle.dw_cfa.specs.RowSteps.{program_input}
-use Rattle.dw_cfa.specs.Inner.RowSteps.{left_of, progress_after}
 use Rattle.dw_cfa.specs.Inner.NextRow.{GoesOn}
-use Rattle.dw_cfa.specs.Agreement.{kept}
-use Rattle.dw_cfa.specs.RowWalk.{StandsOn}
-use Rattle.dw_cfa.specs.Inner.RowWalk.{AreLeft, HasInitial, Readied, WalkKeeps, WalksSo, WalkStands, initial_of, led_of, led_rows, walk_of}
-use Rattle.dw_cfa.proofs.Lent.FaultLaws.{initial_leaves, leaves_initial}
-use Rattle.dw_cfa.proofs.Lent.Given.{leaves_to}
+use Rattle.dw_cfa.proofs.Lent.FaultLaws.{initial_leaves}
+use Rattle.dw_cfa.proofs.Lent.Given.{leaves_to, to_leaves}
 use Rattle.dw_cfa.proofs.Lent.RunLaws.{left_from, next_from, run_from}
 use Rattle.dw_cfa.proofs.Lent.RowsAt.{RowsFrom}
 use Rattle.dw_cfa.proofs.RunSteps.{initial_left}
-use Rattle.dw_cfa.proofs.Lent.SameRows.{same_rows}
 
 -- ---- the CIE's half
 
@@ -31,8 +21,7 @@ pub initial_elsewhere : (f : Factors) (i j : Input) (row : Rules) → AreBytes i
 initial_elsewhere f i j row bytes same target is =
     let here = initial_leaves f i row bytes is in
     let program : Program j.target f here.0 j.bytes = subst (λ (t : Target). Program t f here.0 j.bytes) target (subst (Program i.target f here.0) same here.1.program) in
-    let there = leaves_initial f j here.0 (subst AreBytes same bytes) program here.1.kept in
-    there.1 ∙ ap Ok (same_rows there.0 row there.2.listed here.1.listed (there.2.cfa ∙ sym here.1.cfa) (λ r. there.2.rules r ∙ sym (here.1.rules r)))
+    sym (to_leaves f j (subst AreBytes same bytes) (Ok row) (here.0, record { program = program; kept = here.1.kept; cfa = here.1.cfa; rules = here.1.rules; listed = here.1.listed }))
 
 -- a run that has no fault leaves an initial row
 pub led_initial : (l : Leading) (fde : Input) (begin : ℕ) → (led_rows l fde begin).fault ≡ None → IsOk (initial_row (placed l.factors (program_input l.program l.target)) blank)
@@ -41,13 +30,9 @@ led_initial l fde begin none = initial_left (initial_row (placed l.factors (prog
 
 -- ---- the FDE's half
 
-led_is : (f : Factors) (cie fde : Input) (m : Machine) (begin : ℕ) → initial_row (placed f cie) blank ≡ Ok m.initial → m.states.row ≡ m.initial → m.states.stack ≡ [] → m.location ≡ begin → m.limit ≡ address_limit fde.target.size
-    → rows_left f fde m ≡ run_rows f cie fde begin
-unfolding rows_left run_rows
-led_is f cie fde m begin is row none location limit = rw (is, row, none, location, limit) refl
-
 pub led_ran : (l : Leading) (fde : Input) (old m : Machine) → RunsSo old fde → Readied l old m → rows_left l.factors fde m ≡ led_rows l fde old.location
-led_ran l fde old m so r = led_is l.factors (program_input l.program l.target) fde m old.location r.initial r.row r.none r.location (r.limit ∙ so.limit)
+unfolding rows_left run_rows
+led_ran l fde old m so r = rw (r.initial, r.row, r.none, r.location, r.limit ∙ so.limit) refl
 
 -- ---- where the next row starts
 
@@ -69,24 +54,11 @@ kept_walk p l fde m kept = refl
 kept_so : (fde : Input) (m : Machine) (kept : Rules) → RunsSo m fde → RunsSo (with_kept m kept) fde
 kept_so fde m kept h = record { limit = h.limit; within = h.within; first = h.first }
 
-kept_stands : (p : Progress) (fde : Input) (m : Machine) (kept : Rules) → WalkStands p fde m → WalkStands p fde (with_kept m kept)
-kept_stands progress.Finished fde m kept h = h
-kept_stands (progress.Failed e) fde m kept h = h
-kept_stands p fde m kept h = kept_so fde m kept h
-
-kept_keeps : (p : Progress) (l : Leading) (fde : Input) (m : Machine) (kept : Rules) → WalkKeeps p l fde m → WalkKeeps p l fde (with_kept m kept)
-unfolding rows_left
-kept_keeps progress.Running l fde m kept h = h
-kept_keeps p l fde m kept h = tt
-
 pub kept_walks : (p : Progress) (has : Bool) (l : Leading) (fde : Input) (m : Machine) (kept : Rules) → WalksSo p has l fde m → WalksSo p has l fde (with_kept m kept)
-kept_walks p has l fde m kept h = record {
-  stands = kept_stands p fde m kept h.stands;
-  no_fault = ap (λ (s : Stepping). s.outcome.fault) (kept_walk p l fde m kept) ∙ h.no_fault;
-  initial = h.initial;
-  keeps = kept_keeps p l fde m kept h.keeps;
-  left = h.left;
-}
+unfolding rows_left
+kept_walks progress.Begun has l fde m kept h = record { stands = kept_so fde m kept h.stands; no_fault = h.no_fault; initial = h.initial; keeps = tt; left = h.left }
+kept_walks progress.Running has l fde m kept h = record { stands = kept_so fde m kept h.stands; no_fault = h.no_fault; initial = h.initial; keeps = h.keeps; left = h.left }
+kept_walks p has l fde m kept h = record { stands = h.stands; no_fault = h.no_fault; initial = h.initial; keeps = tt; left = h.left }
 
 -- ---- the CIE's row, while the rows behind one are run
 
@@ -97,24 +69,10 @@ pub left_any : (p : Progress) (l : Leading) (initial : Rules) → AreLeft l (Som
 left_any progress.Running l initial h = h
 left_any p l initial h = tt
 
-pub left_where : {E : Type 0} → (P : Type 0) (r : Result Bool E) → P → IfOk r (λ (more : Bool). IsTrue more → P)
-left_where P (Ok more) h = λ t. h
-left_where P (Err e) h = tt
-
 module _ (l : Leading) (fde : Input) (m : Machine) where
-  stands_more : (more : Bool) → AreLeft l (Some m.initial)
-      → StandsOn (led_of l) (walk_of (if more then progress.Running else progress.Finished) l fde m).outcome (initial_of (if more then progress.Running else progress.Finished) m.initial)
-  stands_more true h = ((left_from l.factors fde m).some, h)
-  stands_more false h = refl
-
-  left_more : (more : Bool) → AreLeft l (initial_of (if more then progress.Running else progress.Finished) m.initial)
-      → StandsOn (led_of l) (walk_of (if more then progress.Running else progress.Finished) l fde m).outcome (initial_of (if more then progress.Running else progress.Finished) m.initial)
-  left_more true h = stands_more true h
-  left_more false h = refl
-
   stands_behind : (r : Result (ℕ × Bool) ReadError) → AreLeft l (initial_of (progress_after r) m.initial) → StandsOn (led_of l) (walk_of (progress_after r) l fde m).outcome (initial_of (progress_after r) m.initial)
-  stands_behind (Ok x) h = left_more x.1 h
-  stands_behind (Err e) h = refl
+  stands_behind (Ok (start, true)) h = ((left_from l.factors fde m).some, h)
+  stands_behind r h = refl
 
   -- behind the end of a row
   pub stands_on : (p : Progress) (r : Result (ℕ × Bool) ReadError) → p ≡ progress_after r → AreLeft l (initial_of (progress_after r) m.initial) → StandsOn (led_of l) (walk_of p l fde m).outcome (initial_of p m.initial)
@@ -135,9 +93,3 @@ module _ (l : Leading) (fde : Input) (m : Machine) (s : Stepping) (initial : Opt
   begun_unknown p is e same =
       let none : None ≡ initial = ap (λ (q : Progress). initial_of q m.initial) (sym is) ∙ same in
       subst (λ (o : Option Rules). IsTrue false ↔ KeptWhere s row o) none ((λ t. absurd cc), λ all. absurd ((walk_from p l fde m s (inl is) e).some all))
-
-  -- rows are run behind one
-  pub running_known : (p : Progress) (b : Bool) → p ≡ progress.Running → initial_of p m.initial ≡ initial → IsTrue b ↔ (kept row m.initial ≡ row) → IsTrue b ↔ KeptWhere s row initial
-  running_known p b is same told =
-      let some : Some m.initial ≡ initial = ap (λ (q : Progress). initial_of q m.initial) (sym is) ∙ same in
-      subst (λ (o : Option Rules). IsTrue b ↔ KeptWhere s row o) some told

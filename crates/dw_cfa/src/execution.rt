@@ -1,12 +1,9 @@
 //! Programs that are run instruction by instruction (6.4.3).
 
-ghost use Rattle.std.specs.Prelude.{◌≡◌, ◌<◌, ◌≤◌, ℕ, None, Some, Ok, Err, length, OnOk, IfErr, IsOk, IsTrue};
+ghost use Rattle.std.specs.Prelude.{◌≡◌, ◌<◌, ◌≤◌, None, Some, Ok, Err, length, OnOk, IfErr, IfOk, IsOk, IsTrue};
 ghost use Rattle.dw_num.specs.Refusals.{Refuses};
-ghost use Rattle.dw_cfa.specs.RuleAt.{last_at, NeverFalls};
-ghost use Rattle.dw_cfa.specs.Rows.{Rules};
 ghost use Rattle.dw_cfa.specs.Inner.Runs.{RunsSo, GivesRow, StopsAbove, Wrote, rows_left, stop_left, initial_row, placed};
-ghost use Rattle.dw_cfa.specs.Inner.RowWalk.{AllSpecify};
-ghost use Rattle.dw_cfa.specs.Inner.RuleAt.{LeavesAbove};
+ghost use Rattle.dw_cfa.specs.Inner.RowWalk.{RanUpTo};
 
 use crate::cie_instruction::write_operands;
 use crate::instr::Factors;
@@ -29,6 +26,7 @@ pub struct LocatedRow<'a> {
 
 /// Runs a program up to the end of a row, which the machine has then. Answers where the row starts, and whether
 /// the program goes on behind it. Where it is known that the program has no fault, no expression is judged again.
+#[tactic(auto, using(crate::proofs::RunSteps::rows_end))]
 #[inline(always)]
 pub(crate) fn next_row<'a>(
     cursor: &mut Cursor<'a>,
@@ -68,26 +66,21 @@ pub(crate) fn run_to<'a>(
 ) -> Result<bool, ReadError>
     requires so { RunsSo machine.old cursor.old }
     requires known { IsTrue known → (rows_left factors cursor.old machine.old).fault ≡ None }
-    requires never_falls { (low : ℕ) × NeverFalls low (rows_left factors cursor.old machine.old).rows }
-    ensures last { machine.old.location ≤ address → OnOk result (last_at address (rows_left factors cursor.old machine.old).rows ≡ Some machine.new.states.row) }
-    ensures behind { machine.old.location ≤ address → LeavesAbove address (rows_left factors cursor.old machine.old) factors cursor.new machine.new result }
-    ensures so { OnOk result (RunsSo machine.new cursor.new) }
-    ensures fault { OnOk result ((rows_left factors cursor.new machine.new).fault ≡ (rows_left factors cursor.old machine.old).fault) }
-    ensures keeps { (other : Rules) → AllSpecify other (rows_left factors cursor.old machine.old).rows → OnOk result (AllSpecify other (rows_left factors cursor.new machine.new).rows) }
-    ensures err { IfErr result (Refuses (λ r. (rows_left factors cursor.old machine.old).fault ≡ Some r)) }
-    ensures up_to { machine.old.location ≤ address → IfErr result (Refuses (λ r. stop_left factors cursor.old machine.old ≤ address)) }
+    requires start { machine.old.location ≤ address }
+    ensures ran { IfOk result (RanUpTo address (rows_left factors cursor.old machine.old) factors cursor.new machine.new) }
     ensures none { OnOk result (StopsAbove (rows_left factors cursor.old machine.old).fault (stop_left factors cursor.old machine.old) address) }
+    ensures err { IfErr result (Refuses (λ r. ((rows_left factors cursor.old machine.old).fault ≡ Some r) × (stop_left factors cursor.old machine.old ≤ address))) }
     ensures initial { machine.new.initial ≡ machine.old.initial }
     ensures kept { machine.new.states.kept ≡ machine.old.states.kept }
 {
-    let address = u128::from(address);
+    let end = u128::from(address);
     let code = Code::Truncated;
     let mut refusal = Refusal { code, at: 0 };
     'instrs: while cursor.left() > 0 {
         match turn(cursor, factors, machine, known, &mut refusal) {
             End::On => {}
             End::Moved => {
-                if machine.location > address {
+                if machine.location > end {
                     return Ok(true);
                 }
             }
@@ -127,6 +120,7 @@ fn write_one<'a>(
 }
 
 /// Runs a CIE's program on a row. Where it is known that it has no fault, no expression is judged again.
+#[tactic(auto, using(crate::proofs::RunSteps::initial_end))]
 pub(crate) fn run_initial<'a>(
     cursor: &mut Cursor<'a>,
     factors: Factors,

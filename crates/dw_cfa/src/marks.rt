@@ -52,6 +52,7 @@ impl<'a> Marks<'a> {
     }
 
     #[inline(never)]
+    #[tactic(auto, using(crate::proofs::Slots::put_so, crate::proofs::Marked::far_marked, crate::proofs::Marked::far_more))]
     fn mark_far(&mut self, register: u16) -> Result<(), AllocError>
         requires so { MarksSo self.old }
         requires far { 32 ≤ register }
@@ -59,11 +60,13 @@ impl<'a> Marks<'a> {
         ensures marked { OnOk result (Unmarked self.new register → ⊥) }
         ensures more { MarksMore self.old self.new }
     {
-        set_in_tree(&mut self.far, register, RegRule::SameValue)
+        set_in_tree(&mut self.far, register, RegRule::SameValue)?;
+        Ok(())
     }
 
     /// Marks a register that is set, or answers want of memory.
     #[inline(always)]
+    #[tactic(auto, using(crate::proofs::Marked::near_marked, crate::proofs::Slots::neither))]
     pub(crate) fn mark(&mut self, register: u16) -> Result<(), AllocError>
         requires { MarksSo self.old }
         ensures so { MarksSo self.new }

@@ -3,7 +3,7 @@
 ghost use Rattle.std.specs.Prelude.{◌≡◌, ◌↔◌, [], ◌∷◌, IsTrue, MatchOption, length};
 ghost use Rattle.std.specs.Iterator.{YieldsFirst, item_count};
 ghost use Rattle.dw_cfa.specs.Rows.{rule_in};
-ghost use Rattle.dw_cfa.specs.Inner.Entries.{CopiedBelow, Covers, FindsNear, slot_rule};
+ghost use Rattle.dw_cfa.specs.Inner.Entries.{CopiedBelow, Covers, FindsNear, FirstBit, slot_rule};
 
 use crate::row::NEAR;
 use crate::rule::RegRule;
@@ -11,26 +11,39 @@ use crate::slot::{EMPTY, Kind, Slot, rule_of};
 use std::collections::BTreeMap;
 use std::marker::Model;
 
+/// The first register from a place on that is in a mask.
+#[inline(always)]
+#[tactic(auto, using(crate::proofs::Slots::no_bits, crate::proofs::Slots::lowest_bit))]
+pub(crate) fn next_in(mask: u32, place: u32) -> Option<u32>
+    ensures { FirstBit result mask place }
+{
+    if place >= 32 {
+        return None;
+    }
+    let left = mask >> place;
+    if left == 0 {
+        return None;
+    }
+    Some(place + left.trailing_zeros())
+}
+
 /// Copies the slots of the registers in a mask.
+#[tactic(auto, using(crate::proofs::Copied::all_copied, crate::proofs::Copied::one_copied))]
 pub(crate) fn copy_slots(near: &mut [Slot; 32], others: &[Slot; 32], used: u32)
     requires near { length near.old ≡ 32 }
     requires others { length others.now ≡ 32 }
     ensures { CopiedBelow used near.old others.now 32 near.new }
 {
-    let mut register = 0;
-    'slots: while register < 32 {
-        let left = used >> register;
-        if left == 0 {
-            return;
-        }
-        register += left.trailing_zeros();
+    let mut place = 0;
+    'slots: while let Some(register) = next_in(used, place) {
         near[register as usize] = others[register as usize];
-        register += 1;
+        place = register + 1;
     }
 }
 
 /// Empties the slots of the registers in a mask, which has all that are used.
 #[inline(always)]
+#[tactic(auto, using(crate::proofs::Slots::cleared_less))]
 pub(crate) fn empty_slots(near: &mut [Slot; 32], used: u32)
     requires near { length near.old ≡ 32 }
     requires used { Covers used near.old }
@@ -56,18 +69,14 @@ pub(crate) fn next_near<'a>(
     requires { Covers used near.now }
     ensures { FindsNear result at near.now expressions.now.entries }
 {
-    let mut register = at;
-    'slots: while register < NEAR {
-        let left = used >> register;
-        if left == 0 {
-            return None;
-        }
-        register += left.trailing_zeros() as u16;
+    let mut place = u32::from(at);
+    'slots: while let Some(next) = next_in(used, place) {
+        let register = next as u16;
         let rule = rule_of(near[usize::from(register)], expressions, register);
         if rule.is_specified() {
             return Some((register, rule));
         }
-        register += 1;
+        place = next + 1;
     }
     None
 }

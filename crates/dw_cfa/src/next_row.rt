@@ -12,6 +12,7 @@ use dw_num::{Code, Cursor, ReadError, Refusal};
 
 /// Runs a program that is known to have no fault up to the end of a row, which the machine has then, and answers where the row
 /// starts. Only behind the last row is a walk's progress another one.
+#[tactic(auto, using(crate::proofs::RunSteps::rows_end))]
 #[inline(always)]
 pub(crate) fn go_on_row<'a>(
     progress: &mut Progress,

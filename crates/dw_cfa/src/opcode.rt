@@ -102,7 +102,7 @@ fn checked_offset(offset: i128, at: u64) -> Result<i64, Refusal>
     }
 }
 
-#[tactic(auto, using(crate::proofs::Products::product_fits))]
+#[tactic(auto, using(crate::proofs::Products::product_is, crate::proofs::Products::product_fits))]
 fn times(operand: i128, factor: i64) -> i128
     requires { unsigned_abs operand < 2 ^ 64 }
     ensures { result ≡ operand *ℤ factor }
@@ -145,7 +145,7 @@ pub(crate) fn quick_register(cursor: &mut Cursor<'_>) -> Result<u16, Refusal>
 // The signed number that a byte alone spells.
 #[tactic(auto, using(crate::proofs::ShortNumbers::one_byte_positive, crate::proofs::ShortNumbers::one_byte_negative))]
 #[inline(always)]
-fn signed_in(byte: u8) -> Option<i64>
+pub(crate) fn signed_in(byte: u8) -> Option<i64>
     ensures { IfSome result (λ v. Sleb v (byte ∷ [])) }
 {
     if byte < 64 {
@@ -200,7 +200,7 @@ pub(crate) fn signed(cursor: &mut Cursor<'_>, factors: Factors, at: u64) -> Resu
 }
 
 // The expression of a block that stands at this place, with its faults at places of the section.
-#[tactic(auto, using(dw_op::proofs::Lent::FaultPlaces::fault_within, crate::proofs::Expressions::expression_found, crate::proofs::Expressions::expression_refused))]
+#[tactic(auto, using(crate::proofs::Expressions::expression_known, dw_op::proofs::Lent::FaultPlaces::fault_within, crate::proofs::Expressions::expression_found, crate::proofs::Expressions::expression_refused))]
 fn accept_at<'a>(
     block: &'a [u8],
     at: u64,
@@ -513,7 +513,7 @@ pub(crate) fn operands<'a>(
 /// The instruction at the front of a program, its factors multiplied out, or its first fault: an opcode that
 /// is no instruction's, then its operands' from left to right, then an offset that is too large. Where it is known to be
 /// read, its expression is not judged again.
-#[tactic(auto, unfolding(crate::specs::Inner::FrontInstr::instr_at))]
+#[tactic(auto, using(crate::proofs::Tabled::opened), unfolding(crate::specs::Inner::FrontInstr::instr_at))]
 pub(crate) fn read_instr<'a>(
     cursor: &mut Cursor<'a>,
     factors: Factors,

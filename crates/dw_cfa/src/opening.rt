@@ -1,16 +1,17 @@
 //! How an FDE's program begins (6.4.3).
 
-ghost use Rattle.std.specs.Prelude.{◌≡◌, ◌<◌, IsTrue, List, if◌then◌else◌};
+ghost use Rattle.std.specs.Prelude.{◌≡◌, ◌<◌, IfSome, IsTrue, List, [], ◌∷◌, if◌then◌else◌};
 ghost use Rattle.dw_num.specs.declared.target.Target.{Target as TheTarget};
 ghost use Rattle.dw_cfa.specs.declared.instr.Instr.{Instr as TheInstr};
 ghost use Rattle.dw_cfa.specs.declared.opening.FirstRow.TheVariants.{Initial, CfaOffset, Other};
 ghost use Rattle.dw_cfa.specs.InstrSpells.{Program as ProgramSpells};
 ghost use Rattle.dw_cfa.specs.Listing.{answers};
 ghost use Rattle.dw_cfa.specs.Opening.{first_row};
-ghost use Rattle.dw_cfa.specs.Inner.Opening.{answers_move, answers_row};
+ghost use Rattle.dw_cfa.specs.Inner.Opening.{GivesOffset, answers_move, answers_row};
 
 use crate::instr::{Factors, Instr};
 use crate::instructions::Instructions;
+use crate::opcode::signed_in;
 use dw_num::{Program, Target};
 
 /// The row at an FDE's begin, where the first instructions of its program tell it.
@@ -32,15 +33,46 @@ fn moves_on(code: u8, factors: Factors) -> bool
     0x40 < code && code < 0x80 && factors.code_factor > 0
 }
 
-// Whether the first code is that, as it mostly is.
+// Whether the first code is that, as it mostly is, or there is none.
 #[inline(always)]
+#[tactic(auto, using(crate::proofs::FirstRows::moved_by, crate::proofs::FirstRows::none_left))]
 fn moves_at_once(bytes: &[u8], factors: Factors) -> bool
     ensures { IsTrue result → (target : TheTarget) (instrs : List TheInstr) → ProgramSpells target factors instrs bytes.now → first_row instrs ≡ Initial }
 {
     match bytes.first() {
         Some(code) => moves_on(*code, factors),
-        None => false,
+        None => true,
     }
+}
+
+// The offset of the CFA that a code gives by one byte.
+#[inline(always)]
+#[tactic(auto, using(crate::proofs::FirstRows::plain_given))]
+fn offset_by(code: u8, operand: u8, factors: Factors) -> Option<i64>
+    ensures { IfSome result (λ n. GivesOffset factors code (operand ∷ []) n) }
+{
+    if code == 0x13 {
+        return signed_in(operand)?.checked_mul(factors.data_factor);
+    }
+    if code == 0x0e && operand < 0x80 {
+        return Some(i64::from(operand));
+    }
+    None
+}
+
+// The offset that the first code gives by one byte, where the code behind it moves.
+#[inline(always)]
+#[tactic(auto, using(crate::proofs::FirstRows::given_by))]
+fn offset_at_once(bytes: &[u8], factors: Factors) -> Option<i64>
+    ensures { IfSome result (λ n. (target : TheTarget) (instrs : List TheInstr) → ProgramSpells target factors instrs bytes.now → first_row instrs ≡ CfaOffset n) }
+{
+    let [code, operand, next, ..] = bytes else {
+        return None;
+    };
+    if !moves_on(*next, factors) {
+        return None;
+    }
+    offset_by(*code, *operand, factors)
 }
 
 // Whether the first of the instructions to come that is no nop advances the location by more than 0.
@@ -77,7 +109,7 @@ fn row_behind(offset: i64, instrs: &mut Instructions<'_>) -> FirstRow
     FirstRow::Other
 }
 
-// The row where a program has these instructions. Apart from `first_row`, since most programs move at once.
+// The row where a program has these instructions. Apart from `first_row`, since most programs tell it by their bytes.
 #[inline(never)]
 fn row_of(instrs: &mut Instructions<'_>) -> FirstRow
     ensures { result ≡ answers_row (answers instrs.old) }
@@ -103,6 +135,9 @@ pub fn first_row(program: Program<'_>, factors: Factors, target: Target) -> Firs
 {
     if moves_at_once(program.bytes, factors) {
         return FirstRow::Initial;
+    }
+    if let Some(offset) = offset_at_once(program.bytes, factors) {
+        return FirstRow::CfaOffset(offset);
     }
     let mut instrs = Instructions::new(program, factors, target);
     row_of(&mut instrs)

@@ -9,7 +9,8 @@ ghost use Rattle.dw_cfa.specs.RuleAt.{last_at};
 ghost use Rattle.dw_cfa.specs.Rows.{blank};
 ghost use Rattle.dw_cfa.specs.Runs.{Outcome};
 ghost use Rattle.dw_cfa.specs.RowSteps.{program_input};
-ghost use Rattle.dw_cfa.specs.Inner.Runs.{RunsSo, StopsAbove, run_rows, run_stop};
+ghost use Rattle.dw_cfa.specs.Inner.Runs.{RunsSo, run_rows, run_stop};
+ghost use Rattle.dw_cfa.specs.Inner.RuleAt.{FoundAt};
 ghost use Rattle.dw_cfa.specs.Inner.States.{IsFresh};
 ghost use Rattle.dw_cfa.specs.Inner.RowSteps.{begun_rows, begun_stop};
 
@@ -46,10 +47,7 @@ fn run_both<'a>(
     requires so { RunsSo machine.old fde.old }
     requires fresh { IsFresh machine.old.states }
     requires start { machine.old.location ≤ address }
-    ensures found { OnOk result (last_at address (begun_rows factors cie.old fde.old machine.old).rows ≡ Some machine.new.states.row) }
-    ensures err { IfErr result (Refuses (λ r. (begun_rows factors cie.old fde.old machine.old).fault ≡ Some r)) }
-    ensures up_to { IfErr result (Refuses (λ r. begun_stop factors cie.old fde.old machine.old ≤ address)) }
-    ensures none { OnOk result (StopsAbove (begun_rows factors cie.old fde.old machine.old).fault (begun_stop factors cie.old fde.old machine.old) address) }
+    ensures { FoundAt address (begun_rows factors cie.old fde.old machine.old) (begun_stop factors cie.old fde.old machine.old) machine.new.states.row result }
 {
     run_initial(cie, factors, &mut machine.states, false)?;
     machine.initial.become_copy(machine.states.row())?;
@@ -107,10 +105,7 @@ impl<'a> RowRoom<'a> {
     ) -> Result<(), ReadError>
         requires begin { begin < address_limit target.size }
         requires start { begin ≤ address }
-        ensures found { OnOk result (last_at address (run_rows factors (program_input cie_program.entry target) (program_input fde_program.entry target) begin).rows ≡ Some self.new) }
-        ensures err { IfErr result (Refuses (λ r. (run_rows factors (program_input cie_program.entry target) (program_input fde_program.entry target) begin).fault ≡ Some r)) }
-        ensures up_to { IfErr result (Refuses (λ r. run_stop factors (program_input cie_program.entry target) (program_input fde_program.entry target) begin ≤ address)) }
-        ensures none { OnOk result (StopsAbove (run_rows factors (program_input cie_program.entry target) (program_input fde_program.entry target) begin).fault (run_stop factors (program_input cie_program.entry target) (program_input fde_program.entry target) begin) address) }
+        ensures { FoundAt address (run_rows factors (program_input cie_program.entry target) (program_input fde_program.entry target) begin) (run_stop factors (program_input cie_program.entry target) (program_input fde_program.entry target) begin) self.new result }
     {
         clear(&mut self.machine.states, self.fresh);
         self.fresh = false;

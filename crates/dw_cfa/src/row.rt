@@ -13,7 +13,7 @@ ghost use Rattle.dw_cfa.specs.Difference.{FirstDifference, place_behind};
 ghost use Rattle.dw_cfa.specs.Inner.Difference.{FirstBelow, SameUnset};
 
 use crate::behind::{place_behind, start_behind};
-use crate::near_slots::{NearRules, copy_slots, empty_slots, next_near, same_slots};
+use crate::near_slots::{NearRules, copy_slots, empty_slots, next_in, next_near, same_slots};
 use crate::rule::{CfaRule, RegRule};
 use crate::slot::{EMPTY, Kind, Slot, offset_in, rule_of, slot_of};
 use crate::tree::{first_difference, rule_in_tree, set_in_tree, tree_of};
@@ -37,6 +37,7 @@ struct Entries<'a> {
 
 impl<'a> Entries<'a> {
     #[inline(always)]
+    #[tactic(auto, using(crate::proofs::Slots::slot_at, crate::proofs::Slots::far_rule))]
     fn rule(&self, register: u16) -> RegRule<'a>
         requires { EntriesSo self.now }
         ensures { result ≡ rule_in (entries_of self.now) register }
@@ -106,6 +107,7 @@ impl<'a> Entries<'a> {
 
     // The same where every register has a slot.
     #[inline(always)]
+    #[tactic(auto, using(crate::proofs::Slots::has_far))]
     fn all_near(&self) -> Option<NearRules<'_, 'a>>
         requires { EntriesSo self.now }
         ensures near { IfSome result (λ near. near ≡ entries_of self.now) }
@@ -122,31 +124,17 @@ impl<'a> Entries<'a> {
         })
     }
 
-    // The expressions of the slots alone.
-    fn all_expressions(&self) -> Specified<'_, 'a>
+    // The rules in a tree alone.
+    fn in_tree<'r>(&'r self, tree: &'r BTreeMap<u16, RegRule<'a>>) -> Specified<'r, 'a>
         requires { EntriesSo self.now }
-        ensures { result ≡ self.now.expressions.entries }
+        ensures { result ≡ tree.now.entries }
     {
         Specified {
             at: NEAR,
             near: &self.near,
             used: self.used,
             expressions: &self.expressions,
-            far: self.expressions.iter(),
-        }
-    }
-
-    // The registers that have no slot.
-    fn all_far(&self) -> Specified<'_, 'a>
-        requires { EntriesSo self.now }
-        ensures { result ≡ self.now.far.entries }
-    {
-        Specified {
-            at: NEAR,
-            near: &self.near,
-            used: self.used,
-            expressions: &self.expressions,
-            far: self.far.iter(),
+            far: tree.iter(),
         }
     }
 
@@ -160,6 +148,7 @@ impl<'a> Entries<'a> {
 
     // The first register from a place on that has a slot, is in a mask, and whose rule differs.
     #[inline(always)]
+    #[tactic(auto, using(crate::proofs::Difference::up_to_next, crate::proofs::Difference::one_more, crate::proofs::Slots::slot_at))]
     fn next_near_difference(&self, others: &Entries<'_>, mask: u32, from: u32) -> Option<u16>
         requires so { EntriesSo self.now }
         requires others { EntriesSo others.now }
@@ -167,13 +156,8 @@ impl<'a> Entries<'a> {
         ensures { FirstBelow 32 from (entries_of self.now) (entries_of others.now) result }
     {
         let mut place = from;
-        'slots: while place < 32 {
-            let left = mask >> place;
-            if left == 0 {
-                return None;
-            }
-            place += left.trailing_zeros();
-            let register = place as u16;
+        'slots: while let Some(next) = next_in(mask, place) {
+            let register = next as u16;
             let at = usize::from(register);
             if !same_slots(
                 self.near[at],
@@ -184,12 +168,29 @@ impl<'a> Entries<'a> {
             ) {
                 return Some(register);
             }
-            place += 1;
+            place = next + 1;
         }
         None
     }
 
-    // The first register behind another one, or from the first one on, that has no slot and whose rule differs.
+    // The first register behind another one, or from the first one on, that has no slot and whose rule differs. Out
+    // of line: room for two walks is cleared at each call else.
+    #[inline(never)]
+    #[tactic(auto, using(crate::proofs::Difference::part_up, crate::proofs::Difference::first_from, crate::proofs::Difference::range_on))]
+    fn far_difference(&self, others: &Entries<'_>, behind: Option<u16>) -> Option<u16>
+        requires so { EntriesSo self.now }
+        requires others { EntriesSo others.now }
+        ensures { FirstDifference (place_behind behind) self.now.far.entries others.now.far.entries result }
+    {
+        let start = start_behind(behind);
+        first_difference(
+            self.far.range((start, Bound::Unbounded)),
+            others.far.range((start, Bound::Unbounded)),
+        )
+    }
+
+    // The same, where mostly none is without a slot.
+    #[tactic(auto, using(crate::proofs::Difference::part_up, crate::proofs::Difference::first_from, crate::proofs::Difference::range_on))]
     fn next_far_difference(&self, others: &Entries<'_>, behind: Option<u16>) -> Option<u16>
         requires so { EntriesSo self.now }
         requires others { EntriesSo others.now }
@@ -198,14 +199,11 @@ impl<'a> Entries<'a> {
         if self.far.is_empty() && others.far.is_empty() {
             return None;
         }
-        let start = start_behind(behind);
-        first_difference(
-            self.far.range((start, Bound::Unbounded)),
-            others.far.range((start, Bound::Unbounded)),
-        )
+        self.far_difference(others, behind)
     }
 
     // The first register behind another one, or from the first one on, whose rule differs.
+    #[tactic(auto, using(crate::proofs::Difference::first_of_all, crate::proofs::Difference::unused))]
     fn next_difference(&self, others: &Entries<'_>, behind: Option<u16>) -> Option<u16>
         requires so { EntriesSo self.now }
         requires others { EntriesSo others.now }
@@ -231,8 +229,8 @@ impl<'a> Entries<'a> {
                 far: BTreeMap::new(alloc),
             });
         }
-        let expressions = tree_of(self.all_expressions(), alloc)?;
-        let far = tree_of(self.all_far(), alloc)?;
+        let expressions = tree_of(self.in_tree(&self.expressions), alloc)?;
+        let far = tree_of(self.in_tree(&self.far), alloc)?;
         Ok(Entries {
             near: self.near,
             used: self.used,
@@ -257,8 +255,8 @@ impl<'a> Entries<'a> {
         ensures ok { OnOk result (entries_of self.new ≡ entries_of others.now) }
         ensures so { EntriesSo self.new }
     {
-        self.expressions = tree_of(others.all_expressions(), alloc)?;
-        self.far = tree_of(others.all_far(), alloc)?;
+        self.expressions = tree_of(others.in_tree(&others.expressions), alloc)?;
+        self.far = tree_of(others.in_tree(&others.far), alloc)?;
         self.near.copy_from_slice(&others.near);
         self.used = others.used;
         Ok(())
@@ -266,6 +264,7 @@ impl<'a> Entries<'a> {
 
     // Makes them a copy of others.
     #[inline(always)]
+    #[tactic(auto, using(crate::proofs::Copied::copied_same, crate::proofs::Copied::copied_covers))]
     fn become_copy(&mut self, others: &Entries<'a>, alloc: Global) -> Result<(), AllocError>
         requires before { EntriesSo self.old }
         requires others { EntriesSo others.now }
@@ -293,6 +292,7 @@ impl<'a> Entries<'a> {
 
     // Takes all registers out.
     #[inline(always)]
+    #[tactic(auto, using(crate::proofs::Slots::none_listed))]
     fn clear(&mut self)
         requires { EntriesSo self.old }
         ensures entries { entries_of self.new ≡ [] }
@@ -308,6 +308,7 @@ impl<'a> Entries<'a> {
 
     // Gives a register that has a slot a rule.
     #[inline(always)]
+    #[tactic(auto, using(crate::proofs::Slots::set_expression))]
     fn set_near(&mut self, register: u16, rule: RegRule<'a>) -> Result<(), AllocError>
         requires so { EntriesSo self.old }
         requires near { register < 32 }
@@ -347,6 +348,7 @@ impl<'a> Entries<'a> {
 
     // Gives a register a rule.
     #[inline(always)]
+    #[tactic(auto, using(crate::proofs::Slots::far_set, crate::proofs::Slots::put_so, crate::proofs::Lent::RowLists::lower))]
     fn set(&mut self, register: u16, rule: RegRule<'a>) -> Result<(), AllocError>
         requires { EntriesSo self.old }
         ensures ok { OnOk result (entries_of self.new ≡ put register rule.entry (entries_of self.old)) }
@@ -356,10 +358,12 @@ impl<'a> Entries<'a> {
         if register < NEAR {
             return self.set_near(register, rule);
         }
-        set_in_tree(&mut self.far, register, rule)
+        set_in_tree(&mut self.far, register, rule)?;
+        Ok(())
     }
 
     // Takes a register out that has a slot.
+    #[tactic(auto, using(crate::proofs::Slots::slot_set))]
     fn drop_near(&mut self, register: u16)
         requires so { EntriesSo self.old }
         requires near { register < 32 }
@@ -391,15 +395,10 @@ impl<'a> Entries<'a> {
         ensures rules { LeavesBelow (is_agreed (entries_of others.now)) 32 (entries_of self.old) (entries_of self.new) }
         ensures so { EntriesSo self.new }
     {
-        let mut register = 0;
-        'slots: while register < NEAR {
-            let left = self.used >> register;
-            if left == 0 {
-                return;
-            }
-            register += left.trailing_zeros() as u16;
-            self.agree_at(register, others);
-            register += 1;
+        let mut place = 0;
+        'slots: while let Some(register) = next_in(self.used, place) {
+            self.agree_at(register as u16, others);
+            place = register + 1;
         }
     }
 
@@ -445,15 +444,10 @@ impl<'a> Entries<'a> {
         ensures rules { LeavesBelow (is_kept (entries_of others.now)) 32 (entries_of self.old) (entries_of self.new) }
         ensures so { EntriesSo self.new }
     {
-        let mut register = 0;
-        'slots: while register < NEAR {
-            let left = self.used >> register;
-            if left == 0 {
-                return;
-            }
-            register += left.trailing_zeros() as u16;
-            self.keep_at(register, others);
-            register += 1;
+        let mut place = 0;
+        'slots: while let Some(register) = next_in(self.used, place) {
+            self.keep_at(register as u16, others);
+            place = register + 1;
         }
     }
 
@@ -470,6 +464,7 @@ impl<'a> Entries<'a> {
     }
 
     // Whether they have every register that others have.
+    #[tactic(auto, using(crate::proofs::Lent::Narrowed::first_dropped, crate::proofs::Lent::Narrowed::first_left))]
     fn have_all(&self, others: &Entries<'_>) -> bool
         requires so { EntriesSo self.now }
         requires others { EntriesSo others.now }
@@ -659,6 +654,8 @@ impl<'a> Row<'a> {
         ensures ascending { AreSpecified 0 self.now.registers }
         ensures other_ascending { AreSpecified 0 other.now.registers }
     {
+        self.ascends();
+        other.ascends();
         self.entries.next_difference(&other.entries, behind)
     }
 
@@ -685,6 +682,7 @@ impl<'a> Row<'a> {
         ensures all { result ≡ self.now.registers }
         ensures ascending { AreSpecified 0 self.now.registers }
     {
+        self.ascends();
         self.entries.all()
     }
 
@@ -736,7 +734,7 @@ impl<'a> Row<'a> {
         register: u16,
         rule: RegRule<'a>,
     ) -> Result<RegRule<'a>, AllocError>
-        ensures ok { IfOk result (λ older. (older ≡ rule_in self.old.registers register) × (self.new ≡ with_rule register rule.entry self.old)) }
+        ensures ok { OnOk result (self.new ≡ with_rule register rule.entry self.old) }
         ensures back { IfOk result (λ older. with_rule register older self.new ≡ self.old) }
         ensures err { OnErr result (self.new ≡ self.old) }
     {

@@ -1,6 +1,6 @@
 //! Rows of one FDE after another, in room that is kept (6.4.1, 6.4.3).
 
-ghost use Rattle.std.specs.Prelude.{◌≡◌, ◌<◌, ◌≤◌, ℕ, false, None, Ok, List, ◌∷◌, IfErr, IfOk, IsOk, IsTrue, ◌↔◌, MatchResult, OnErr, OnOk, Some};
+ghost use Rattle.std.specs.Prelude.{◌≡◌, ◌<◌, ◌≤◌, ℕ, None, Ok, List, ◌∷◌, IfErr, IfOk, IsOk, IsTrue, ◌↔◌, MatchResult, OnErr, OnOk, Some};
 ghost use Rattle.dw_num.specs.Target.{address_limit};
 ghost use Rattle.dw_num.specs.declared.error.ReadError.TheVariants.{OutOfMemory};
 ghost use Rattle.dw_cfa.specs.declared.execution.LocatedRow.{LocatedRow};
@@ -8,14 +8,13 @@ ghost use Rattle.dw_cfa.specs.Gives.{Gives, RunsTo};
 ghost use Rattle.dw_cfa.specs.RuleAt.{last_at, left_above, NeverFalls};
 ghost use Rattle.dw_cfa.specs.Difference.{FirstDifference, place_behind};
 ghost use Rattle.dw_cfa.specs.Rows.{AreSpecified, Rules, blank};
-ghost use Rattle.dw_cfa.specs.Inner.Runs.{GivesRow, RunsSo, initial_row, placed, rows_left, run_rows};
+ghost use Rattle.dw_cfa.specs.Inner.Runs.{GivesRow, RunsSo, initial_row, placed, run_rows};
 ghost use Rattle.dw_cfa.specs.Runs.{finished};
 ghost use Rattle.dw_cfa.specs.Inner.States.{BeganWith};
 ghost use Rattle.dw_cfa.specs.RowSteps.{Advances, program_input, stepping};
 ghost use Rattle.dw_cfa.specs.Inner.RowSteps.{progress_after};
-ghost use Rattle.dw_cfa.specs.Inner.RuleAt.{LeavesAbove};
 ghost use Rattle.dw_cfa.specs.RowWalk.{AllKeep, CieKeeps, StandsOn, unled};
-ghost use Rattle.dw_cfa.specs.Inner.RowWalk.{AllSpecify, AreLeft, HasInitial, LeadsSame, Readied, WalkKeeps, WalksSo, initial_of, led_rows, walk_of};
+ghost use Rattle.dw_cfa.specs.Inner.RowWalk.{AreLeft, HasInitial, LeadsSame, Readied, WalkKeeps, WalkedTo, WalksSo, initial_of, led_rows, walk_of};
 
 use crate::execution::{next_row, run_initial, run_to};
 use crate::instr::Factors;
@@ -126,15 +125,10 @@ fn first_to<'a>(
     requires known { (led_rows leading fde.old machine.old.location).fault ≡ None }
     requires so { RunsSo machine.old fde.old }
     requires kept { IsTrue kept.old → HasInitial leading machine.old }
-    requires never_falls { (low : ℕ) × NeverFalls low (led_rows leading fde.old machine.old.location).rows }
-    ensures last { machine.old.location ≤ address → OnOk result (last_at address (led_rows leading.entry fde.old machine.old.location).rows ≡ Some machine.new.states.row) }
-    ensures behind { machine.old.location ≤ address → LeavesAbove address (led_rows leading.entry fde.old machine.old.location) leading.entry.factors fde.new machine.new result }
-    ensures so { OnOk result (RunsSo machine.new fde.new) }
-    ensures known { OnOk result ((rows_left leading.entry.factors fde.new machine.new).fault ≡ None) }
+    requires start { machine.old.location ≤ address }
+    ensures walked { IfOk result (WalkedTo address Progress.Begun (led_rows leading.entry fde.old machine.old.location) machine.old leading.entry fde.new machine.new) }
     ensures err { IfErr result (λ e. e ≡ OutOfMemory) }
     ensures kept { IsTrue kept.new → HasInitial leading.entry machine.new }
-    ensures keeps { OnOk result (AllSpecify machine.new.initial (rows_left leading.entry.factors fde.new machine.new).rows) }
-    ensures left { IfOk result (λ more. IsTrue more → AreLeft leading.entry (Some machine.new.initial)) }
     ensures kept_row { machine.new.states.kept ≡ machine.old.states.kept }
 {
     are_bytes(leading.program.bytes);
@@ -156,18 +150,10 @@ fn walk_to<'a>(
 ) -> Result<bool, ReadError>
     requires so { WalksSo progress kept.old leading fde.old machine.old }
     requires no_error { (walk_of progress leading fde.old machine.old).error ≡ None }
-    requires never_falls { (low : ℕ) × NeverFalls low (walk_of progress leading fde.old machine.old).outcome.rows }
-    ensures found { machine.old.location ≤ address → (row : Rules) → last_at address (walk_of progress leading.entry fde.old machine.old).outcome.rows ≡ Some row → OnOk result (machine.new.states.row ≡ row) }
-    ensures stays { machine.old.location ≤ address → last_at address (walk_of progress leading.entry fde.old machine.old).outcome.rows ≡ None → OnOk result (machine.new.states.row ≡ machine.old.states.row) }
-    ensures behind { machine.old.location ≤ address → LeavesAbove address (walk_of progress leading.entry fde.old machine.old).outcome leading.entry.factors fde.new machine.new result }
-    ensures so { IfOk result (λ more. IsTrue more → RunsSo machine.new fde.new) }
-    ensures first { OnOk result (BeganWith machine.new.initial machine.new.states.first) }
-    ensures known { IfOk result (λ more. IsTrue more → (rows_left leading.entry.factors fde.new machine.new).fault ≡ None) }
+    requires start { machine.old.location ≤ address }
+    ensures walked { IfOk result (WalkedTo address progress (walk_of progress leading.entry fde.old machine.old).outcome machine.old leading.entry fde.new machine.new) }
     ensures err { IfErr result (λ e. e ≡ OutOfMemory) }
     ensures kept { IsTrue kept.new → HasInitial leading.entry machine.new }
-    ensures keeps { IfOk result (λ more. IsTrue more → AllSpecify machine.new.initial (rows_left leading.entry.factors fde.new machine.new).rows) }
-    ensures left { IfOk result (λ more. IsTrue more → AreLeft leading.entry (Some machine.new.initial)) }
-    ensures none { machine.old.location ≤ address → last_at address (walk_of progress leading.entry fde.old machine.old).outcome.rows ≡ None → IfOk result (λ more. (more ≡ false) × (initial_of progress machine.old.initial ≡ None)) }
     ensures kept_row { machine.new.states.kept ≡ machine.old.states.kept }
 {
     match progress {
@@ -233,6 +219,7 @@ impl<'a> RowWalk<'a> {
 
     /// Goes to the rows of two programs that are known to give rows to their end, from an address `begin` of the target
     /// on. Takes no memory: they are run by `advance`, also where an error was answered before.
+    #[tactic(auto, using(crate::proofs::Lent::Given::faultless))]
     pub fn go_to(
         &mut self,
         cie_program: Program<'a>,
@@ -256,6 +243,7 @@ impl<'a> RowWalk<'a> {
 
     /// Goes to the rows of another FDE's program behind the CIE that `go_to` named last, in the same way. No program of a
     /// CIE is compared.
+    #[tactic(auto, using(crate::proofs::Lent::Given::faultless))]
     pub fn go_on(&mut self, fde_program: Program<'a>, begin: u64)
         requires begin { begin < address_limit self.old.led.program.target.size }
         requires known { (rows : List LocatedRow) × Gives self.old.led.factors self.old.led.program (program_input fde_program self.old.led.program.target) begin rows }

@@ -4,7 +4,7 @@ ghost use Rattle.std.specs.Prelude.{◌≡◌, ◌+◌, ◌<◌, [], ◌∷◌, 
 ghost use Rattle.dw_cfa.specs.Difference.{FirstDifference, place_behind};
 ghost use Rattle.dw_cfa.specs.Rows.{AreSpecified, blank};
 ghost use Rattle.dw_cfa.specs.Inner.Rows.{with_cfa, with_rule};
-ghost use Rattle.dw_cfa.specs.Inner.States.{Held, first_if, BeganWith, Restored, TakenBack, count_remembered, first_registers};
+ghost use Rattle.dw_cfa.specs.Inner.States.{Held, first_if, BeganWith, Restored, TakenBack, count_remembered, rows_before};
 
 use crate::row::Row;
 use crate::rule::{CfaRule, RegRule};
@@ -50,6 +50,7 @@ impl<'a> Model for States<'a> {
 }
 
 // Takes changes back up to the row that was remembered last, and answers the rule that the CFA had there.
+#[tactic(auto, using(crate::proofs::StatesLaws::change_behind, crate::proofs::StatesLaws::last_first, crate::proofs::StatesLaws::no_items))]
 fn take_back<'a>(
     rows: &mut WatchedRow<'a>,
     undo: &mut SmallVec<Undo<'a>, 4>,
@@ -72,11 +73,12 @@ fn take_back<'a>(
 
 // Takes all changes of registers back.
 #[inline(never)]
+#[tactic(auto, using(crate::proofs::StatesLaws::back_mark, crate::proofs::StatesLaws::back_none, crate::proofs::StatesLaws::change_behind, crate::proofs::StatesLaws::no_items))]
 fn take_all_back<'a>(
     rows: &mut WatchedRow<'a>,
     undo: &mut SmallVec<Undo<'a>, 4>,
 ) -> Result<(), AllocError>
-    ensures registers { OnOk result (rows.new.row.registers ≡ first_registers rows.old.row (reverse undo.old.items)) }
+    ensures registers { OnOk result (rows.new.row.registers ≡ (rows_before rows.old.row.registers (reverse undo.old.items)).1) }
     ensures kept { rows.new.kept ≡ rows.old.kept }
 {
     'changes: while let Some(change) = undo.pop() {
@@ -95,7 +97,7 @@ fn first_again<'a>(
     undo: &mut SmallVec<Undo<'a>, 4>,
     initial: &Row<'a>,
 ) -> Result<(), AllocError>
-    requires { BeganWith initial.now (first_if tracked rows.old.row (reverse undo.old.items)) }
+    requires { BeganWith initial.now (first_if tracked (rows_before rows.old.row.registers (reverse undo.old.items)).1) }
     ensures registers { OnOk result (rows.new.row.registers ≡ initial.now.registers) }
     ensures kept { rows.new.kept ≡ rows.old.kept }
 {
@@ -109,9 +111,9 @@ fn first_again<'a>(
 
 impl<'a> States<'a> {
     /// The row alone. Where changes are tracked, `rewind` brings it back in as many steps as it was changed.
-    #[tactic(auto, using(crate::proofs::StatesLaws::begun_count))]
+    #[tactic(auto, using(crate::proofs::StatesLaws::begun_held, crate::proofs::StatesLaws::begun_count))]
     pub(crate) fn new(alloc: Global, row: Row<'a>, tracked: bool) -> States<'a>
-        ensures { result ≡ record { row = row.entry; stack = []; first = first_if tracked row.entry []; kept = blank } }
+        ensures { result ≡ record { row = row.entry; stack = []; first = first_if tracked row.entry.registers; kept = blank } }
     {
         States {
             rows: WatchedRow::new(alloc, row),
@@ -190,9 +192,9 @@ impl<'a> States<'a> {
     }
 
     /// Remembers no row, and says whether changes are tracked from the current one on.
-    #[tactic(auto, using(crate::proofs::StatesLaws::begun_count))]
+    #[tactic(auto, using(crate::proofs::StatesLaws::begun_held, crate::proofs::StatesLaws::begun_count))]
     pub(crate) fn track(&mut self, tracked: bool)
-        ensures { self.new ≡ record { row = self.old.row; stack = []; first = first_if tracked self.old.row []; kept = self.old.kept } }
+        ensures { self.new ≡ record { row = self.old.row; stack = []; first = first_if tracked self.old.row.registers; kept = self.old.kept } }
     {
         self.undo.clear();
         self.depth = 0;
@@ -214,6 +216,7 @@ impl<'a> States<'a> {
 
     // Gives a register a rule, and records the one that it had.
     #[inline(never)]
+    #[tactic(auto, using(crate::proofs::StatesLaws::change_behind, crate::proofs::StatesLaws::change_count))]
     fn change(&mut self, register: u16, rule: RegRule<'a>) -> Result<(), AllocError>
         ensures kept { self.new.kept ≡ self.old.kept }
         ensures changed { OnOk result (self.new ≡ record { row = with_rule register rule.entry self.old.row; stack = self.old.stack; first = self.old.first; kept = self.old.kept }) }
@@ -224,6 +227,7 @@ impl<'a> States<'a> {
     }
 
     // Whether changes have to be taken back later.
+    #[tactic(auto, using(crate::proofs::StatesLaws::unkept))]
     fn is_recorded(&self) -> bool
         ensures { result ≡ false → (self.now.stack ≡ []) × (self.now.first ≡ None) }
     {
@@ -232,6 +236,7 @@ impl<'a> States<'a> {
 
     /// Gives a register a rule, or answers want of memory.
     #[inline(always)]
+    #[tactic(auto, using(crate::proofs::StatesLaws::unkept_held))]
     pub(crate) fn set(&mut self, register: u16, rule: RegRule<'a>) -> Result<(), AllocError>
         ensures kept { self.new.kept ≡ self.old.kept }
         ensures set { OnOk result (self.new ≡ record { row = with_rule register rule.entry self.old.row; stack = self.old.stack; first = self.old.first; kept = self.old.kept }) }
@@ -244,6 +249,7 @@ impl<'a> States<'a> {
     }
 
     /// Remembers the current row.
+    #[tactic(auto, using(crate::proofs::StatesLaws::mark_behind, crate::proofs::StatesLaws::mark_count))]
     pub(crate) fn remember(&mut self) -> Result<(), AllocError>
         requires { length self.old.stack < 64 }
         ensures kept { self.new.kept ≡ self.old.kept }
@@ -256,6 +262,7 @@ impl<'a> States<'a> {
     }
 
     /// Goes back to the row that was remembered last, and tells whether there was one.
+    #[tactic(auto, using(crate::proofs::StatesLaws::restored_count, crate::proofs::StatesLaws::restored_none, crate::proofs::StatesLaws::same_count))]
     pub(crate) fn restore(&mut self) -> Result<bool, AllocError>
         ensures kept { self.new.kept ≡ self.old.kept }
         ensures restored { IfOk result (λ found. Restored found self.old self.new) }

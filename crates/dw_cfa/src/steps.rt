@@ -183,6 +183,7 @@ impl<'a> RowSteps<'a> {
     }
 
     /// The same of programs that are known to give rows to their end: their expressions are not judged again.
+    #[tactic(auto, using(crate::proofs::Lent::Given::faultless))]
     pub fn known(
         alloc: Global,
         cie_program: Program<'a>,

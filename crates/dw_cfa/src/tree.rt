@@ -11,6 +11,7 @@ use std::alloc::{AllocError, Global};
 use std::collections::{BTreeMap, btree_map};
 
 /// A tree of ascending entries.
+#[tactic(auto, using(crate::proofs::WideRows::one_more))]
 pub(crate) fn tree_of<'a>(
     entries: Specified<'_, 'a>,
     alloc: Global,
@@ -56,6 +57,7 @@ pub(crate) fn rule_in_tree<'a>(entries: &BTreeMap<u16, RegRule<'a>>, register: u
 }
 
 /// The first register whose rule differs between two parts of trees.
+#[tactic(auto, using(crate::proofs::Difference::none_differs))]
 pub(crate) fn first_difference(
     rules: btree_map::Range<'_, u16, RegRule<'_>>,
     others: btree_map::Range<'_, u16, RegRule<'_>>,

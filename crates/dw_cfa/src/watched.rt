@@ -9,6 +9,7 @@ ghost use Rattle.dw_cfa.specs.Inner.Marks.{CopiedUpTo, SameUnlisted, SameUnmarke
 
 use crate::behind::{place_behind, start_behind};
 use crate::marks::Marks;
+use crate::near_slots::next_in;
 use crate::row::Row;
 use crate::rule::{CfaRule, RegRule};
 use std::alloc::{AllocError, Global};
@@ -18,21 +19,16 @@ use std::ops::Bound;
 
 // Copies the rules of the registers in a mask.
 #[inline(always)]
+#[tactic(auto, using(crate::proofs::Marked::copied_on, crate::proofs::Marked::copied_next))]
 fn copy_near<'a>(row: &Row<'a>, kept: &mut Row<'a>, mask: u32) -> Result<(), AllocError>
     requires { SameUnset mask kept.old.registers row.now.registers }
     ensures { OnOk result (CopiedUpTo 32 row.now.registers kept.old.registers kept.new.registers) }
 {
     let mut place = 0;
-    'slots: while place < 32 {
-        let left = mask >> place;
-        if left == 0 {
-            return Ok(());
-        }
-        place += left.trailing_zeros();
-        let register = place as u16;
+    'slots: while let Some(register) = next_in(mask, place) {
         kept.ascends();
-        kept.copy_rule(row, register)?;
-        place += 1;
+        kept.copy_rule(row, register as u16)?;
+        place = register + 1;
     }
     Ok(())
 }
@@ -73,6 +69,7 @@ fn copy_far<'a>(
 
 // Makes a row that differs in marked registers alone a copy of another one.
 #[inline(always)]
+#[tactic(auto, using(crate::proofs::Lent::SameRows::same_rows))]
 fn copy_marked<'a>(row: &Row<'a>, kept: &mut Row<'a>, marks: &Marks<'a>) -> Result<(), AllocError>
     requires { SameUnmarked marks.now kept.old.registers row.now.registers }
     ensures { OnOk result (kept.new ≡ row.now) }

@@ -1,21 +1,9 @@
 -- What no operation does: jump to where it does not name, and fail as a device.
-use Rattle.std.proofs.Common.{◌≡◌, ℕ, zero, suc, ◌+◌, ◌%◌, ◌<◌, ◌≤◌, Bool, true, false, List, [], ◌∷◌, length, Option, Some, None, Result, Ok, Err, refl, sym, ap, subst, arith}
-use Rattle.std.specs.Prelude.{slice_get, nat_eq, if◌then◌else◌}
+use Rattle.dw_eval.proofs.Words.{◌≡◌, ℕ, zero, suc, ◌+◌, ◌%◌, ◌<◌, ◌≤◌, Bool, true, false, List, [], ◌∷◌, length, Option, Some, None, Result, Ok, Err, refl, sym, ap, subst, arith, slice_get, nat_eq, if◌then◌else◌, slice_get_within, Target}
+use Rattle.dw_eval.proofs.Words.{Size, byte_count, address_limit, Op, Addr, Deref, Const, Dup, Drop, Pick, Rot, Abs, Div, Mod, Neg, Not, PlusUconst, Bra, Eq, Ge, Gt, Le, Lt, Ne, Skip, Reg, Breg, Fbreg, Piece, DerefSize, Nop}
+use Rattle.dw_eval.proofs.Words.{PushObjectAddress, CallFrameCfa, BitPiece, Implicit, StackValue, branch_target, InRange, AllInRange, TargetWithin, Kind, StackUnderflow, DivideByZero, NoRegister, Unreadable, Device, NoFrameBase, NoCfa}
+use Rattle.dw_eval.proofs.Words.{NoObject, Context, read_at, Outcome, Next, Jump, Faults, on_top, on_two, on_three, known, push, tell, effect, State, value_step, led}
 use Rattle.std.specs.List.{AllByRecursion}
-use Rattle.std.proofs.lemmas.Option.{slice_get_within}
-use Rattle.dw_num.specs.declared.target.Target.{Target}
-use Rattle.dw_num.specs.declared.target.Size.{Size}
-use Rattle.dw_num.specs.Target.{byte_count, address_limit}
-use Rattle.dw_op.specs.declared.op.Op.{Op}
-use Rattle.dw_op.specs.declared.op.Op.TheVariants.{Addr, Deref, Const, Dup, Drop, Pick, Rot, Abs, Div, Mod, Neg, Not, PlusUconst, Bra, Eq, Ge, Gt, Le, Lt, Ne, Skip, Reg, Breg, Fbreg, Piece, DerefSize, Nop, PushObjectAddress, CallFrameCfa, BitPiece, Implicit, StackValue}
-use Rattle.dw_op.specs.Block.{branch_target}
-use Rattle.dw_op.specs.Ranges.{InRange, AllInRange, TargetWithin}
-use Rattle.dw_eval.specs.declared.error.Kind.{Kind}
-use Rattle.dw_eval.specs.declared.error.Kind.TheVariants.{StackUnderflow, DivideByZero, NoRegister, Unreadable, Device, NoFrameBase, NoCfa, NoObject}
-use Rattle.dw_eval.specs.Context.{Context, read_at}
-use Rattle.dw_eval.specs.Effect.{Outcome, Next, Jump, Faults, on_top, on_two, on_three, known, push, tell, effect}
-use Rattle.dw_eval.specs.Evaluation.{State, value_step}
-use Rattle.dw_eval.specs.Inner.Evaluation.{led}
 
 abbrev index_after : Result State Kind → State → ℕ
 index_after (Ok s) other = s.index

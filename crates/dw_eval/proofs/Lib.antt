@@ -1,3 +1,4 @@
+pub mod Words
 pub mod Worked
 pub mod RunLaws
 pub mod Effects

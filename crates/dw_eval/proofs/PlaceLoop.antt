@@ -1,20 +1,7 @@
 -- The loop over the operations of a description.
-use Rattle.std.proofs.Common.{◌≡◌, ℕ, ◌+◌, ◌<◌, ◌≤◌, List, [], ◌∷◌, length, map, get_or, Option, Result, Ok, Err, ◌∙◌, ap, subst, arith}
-use Rattle.std.specs.Prelude.{slice_get}
-use Rattle.std.proofs.Math.ListN.{length-map}
-use Rattle.dw_op.specs.declared.op.Op.{Op}
-use Rattle.dw_op.specs.Expression.{bare}
-use Rattle.dw_op.specs.Ranges.{AllInRange}
-use Rattle.dw_op.proofs.Lent.EncodeLaws.{bare_at}
-use Rattle.dw_eval.specs.declared.error.EvalError.{EvalError}
-use Rattle.dw_eval.specs.declared.error.EvalError.TheVariants.{Fault}
-use Rattle.dw_eval.specs.declared.error.Kind.TheVariants.{StepLimit}
+use Rattle.dw_eval.proofs.Words.{◌≡◌, ℕ, ◌+◌, ◌<◌, ◌≤◌, List, [], ◌∷◌, length, map, get_or, Option, Result, Ok, Err, ◌∙◌, ap, subst, arith, slice_get, length-map, Op, bare, AllInRange, bare_at, EvalError, Fault, StepLimit, Place, Context}
+use Rattle.dw_eval.proofs.Words.{bare_piece, PlaceState, place_index, place_step, place_start, place_reads, pieces_of, PlaceRuns, LocatesOver, StepsTo}
 use Rattle.dw_eval.specs.declared.place.Piece.{Piece}
-use Rattle.dw_eval.specs.declared.place.Place.{Place}
-use Rattle.dw_eval.specs.Context.{Context}
-use Rattle.dw_eval.specs.Location.{bare_piece, PlaceState, place_index, place_step, place_start, place_reads, pieces_of}
-use Rattle.dw_eval.specs.Inner.Location.{PlaceRuns, LocatesOver}
-use Rattle.dw_eval.specs.Inner.Steps.{StepsTo}
 use Rattle.dw_eval.proofs.PlaceSteps.{place_stays}
 use Rattle.dw_eval.proofs.Steps.{runs_more, answered_stop, answered_limit}
 

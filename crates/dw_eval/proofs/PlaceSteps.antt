@@ -1,24 +1,7 @@
 -- What one step of a description tells of its run.
-use Rattle.std.proofs.Common.{◌≡◌, ℕ, ◌<◌, ◌≤◌, Bool, true, false, List, [], ◌∷◌, length, Option, Some, None, Result, Ok, Err, ap, inl, arith, ◌∙◌}
-use Rattle.std.specs.Prelude.{slice_get, nat_lt, if◌then◌else◌}
-use Rattle.std.proofs.lemmas.Option.{slice_get_within}
-use Rattle.dw_op.specs.declared.op.Op.{Op}
-use Rattle.dw_op.specs.Block.{branch_target}
-use Rattle.dw_op.specs.Ranges.{AllInRange, TargetWithin}
-use Rattle.dw_eval.specs.declared.error.EvalError.{EvalError}
-use Rattle.dw_eval.specs.declared.error.EvalError.TheVariants.{Fault, OutOfMemory}
-use Rattle.dw_eval.specs.declared.error.Kind.{Kind}
-use Rattle.dw_eval.specs.declared.error.Kind.TheVariants.{StackUnderflow, MissingPiece}
-use Rattle.dw_eval.specs.declared.place.Place.{Place}
-use Rattle.dw_eval.specs.declared.place.Role.{Role}
-use Rattle.dw_eval.specs.declared.place.Role.TheVariants.{SetsPlace, SetsValue, Computes}
-use Rattle.dw_eval.specs.Context.{Context}
-use Rattle.dw_eval.specs.Effect.{Outcome, Next, Jump, Faults, effect}
-use Rattle.dw_eval.specs.Inner.Description.{StepsWithoutMemory}
-use Rattle.dw_eval.specs.Location.{PlaceState, with_value, place_step}
-use Rattle.dw_eval.specs.Inner.Location.{place_led}
-use Rattle.dw_eval.specs.Inner.Roles.{role, free_by, held_by, step_of}
-use Rattle.dw_eval.specs.Inner.Steps.{StepsTo}
+use Rattle.dw_eval.proofs.Words.{◌≡◌, ℕ, ◌<◌, ◌≤◌, Bool, true, false, List, [], ◌∷◌, length, Option, Some, None, Result, Ok, Err, ap, inl, arith, ◌∙◌, slice_get, nat_lt, if◌then◌else◌, slice_get_within, Op, branch_target, AllInRange}
+use Rattle.dw_eval.proofs.Words.{TargetWithin, EvalError, Fault, OutOfMemory, Kind, StackUnderflow, MissingPiece, Place, Role, SetsPlace, SetsValue, Computes, Context, Outcome, Next, Jump, Faults, effect, StepsWithoutMemory, PlaceState}
+use Rattle.dw_eval.proofs.Words.{with_value, place_step, place_led, role, free_by, held_by, step_of, StepsTo}
 use Rattle.dw_eval.proofs.Roles.{step_is}
 use Rattle.dw_eval.proofs.Effects.{IsTame, effect_tame, in_range_at}
 

@@ -1,20 +1,9 @@
 -- A step by an operation's role is the step by its effect.
-use Rattle.std.proofs.Common.{◌≡◌, ℕ, ◌+◌, Bool, true, false, List, [], ◌∷◌, length, Option, Some, None, Result, Err, refl, sym, subst, arith, inl, inr}
-use Rattle.std.specs.Prelude.{nat_eq, slice_get, if◌then◌else◌, ◌%◌}
+use Rattle.dw_eval.proofs.Words.{◌≡◌, ℕ, ◌+◌, Bool, true, false, List, [], ◌∷◌, length, Option, Some, None, Result, Err, refl, sym, subst, arith, inl, inr, nat_eq, slice_get, if◌then◌else◌, ◌%◌, slice_get-get_or, slice_get_past, byte_count}
+use Rattle.dw_eval.proofs.Words.{address_limit, Op, Addr, Deref, Const, Dup, Drop, Pick, Rot, Abs, Div, Mod, Neg, Not, PlusUconst, Bra, Eq, Ge, Gt, Le, Lt, Ne, Skip, Reg, Breg, Fbreg, Piece, DerefSize, Nop, PushObjectAddress, CallFrameCfa}
+use Rattle.dw_eval.proofs.Words.{BitPiece, Implicit, StackValue, EvalError, Kind, StackUnderflow, MissingPiece, DivideByZero, NoRegister, Unreadable, NoFrameBase, NoCfa, NoObject, Place, Context, read_at, Outcome, Next, Jump, Faults}
+use Rattle.dw_eval.proofs.Words.{on_top, on_two, on_three, known, tell, effect, PlaceState, refused, free_step, held_step, step_by, place_step, role, free_by, refused_by, held_by, step_of, StepsTo}
 use Rattle.std.proofs.lemmas.Bool.{cases_lt, lt-ltb, le-ltb}
-use Rattle.std.proofs.lemmas.Option.{slice_get-get_or, slice_get_past}
-use Rattle.dw_num.specs.Target.{byte_count, address_limit}
-use Rattle.dw_op.specs.declared.op.Op.{Op}
-use Rattle.dw_op.specs.declared.op.Op.TheVariants.{Addr, Deref, Const, Dup, Drop, Pick, Rot, Abs, Div, Mod, Neg, Not, PlusUconst, Bra, Eq, Ge, Gt, Le, Lt, Ne, Skip, Reg, Breg, Fbreg, Piece, DerefSize, Nop, PushObjectAddress, CallFrameCfa, BitPiece, Implicit, StackValue}
-use Rattle.dw_eval.specs.declared.error.EvalError.{EvalError}
-use Rattle.dw_eval.specs.declared.error.Kind.{Kind}
-use Rattle.dw_eval.specs.declared.error.Kind.TheVariants.{StackUnderflow, MissingPiece, DivideByZero, NoRegister, Unreadable, NoFrameBase, NoCfa, NoObject}
-use Rattle.dw_eval.specs.declared.place.Place.{Place}
-use Rattle.dw_eval.specs.Context.{Context, read_at}
-use Rattle.dw_eval.specs.Effect.{Outcome, Next, Jump, Faults, on_top, on_two, on_three, known, tell, effect}
-use Rattle.dw_eval.specs.Location.{PlaceState, refused, free_step, held_step, step_by, place_step}
-use Rattle.dw_eval.specs.Inner.Roles.{role, free_by, refused_by, held_by, step_of}
-use Rattle.dw_eval.specs.Inner.Steps.{StepsTo}
 
 -- an outcome that is no short stack
 abbrev IsMissing : Outcome → Type 0

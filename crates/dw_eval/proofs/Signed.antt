@@ -1,16 +1,10 @@
 -- Signed readings of numbers.
-use Rattle.std.proofs.Common.{◌≡◌, Bool, true, false, ℕ, zero, suc, ◌%◌, ◌^◌, ◌<◌, ◌≤◌, ℤ, pos, negsuc, ◌<ℤ◌, ◌≤ℤ◌, to_z, of_z, w32, w64, FitsSigned, refl, sym, ◌∙◌, ap, arith}
-use Rattle.std.specs.Prelude.{min, if◌then◌else◌}
+use Rattle.dw_eval.proofs.Words.{◌≡◌, Bool, true, false, ℕ, zero, suc, ◌%◌, ◌^◌, ◌<◌, ◌≤◌, ℤ, pos, negsuc, ◌<ℤ◌, ◌≤ℤ◌, to_z, of_z, w32, w64, FitsSigned, refl, sym, ◌∙◌, ap, arith, min, if◌then◌else◌, ints, to_z-of_z, of_z-to_z, Size, Four}
+use Rattle.dw_eval.proofs.Words.{Eight, address_limit, signed, bit_count, shifted_signed}
 use Rattle.std.specs.Int.{cast_signed, IsNonZero}
 use Rattle.std.proofs.Math.Facts.{sfits_to_z}
 use Rattle.std.specs.Int.Signed.{shr_z, mag, lt_z}
-use Rattle.std.proofs.lemmas.Int.{ints, to_z-of_z, of_z-to_z}
-use Rattle.dw_num.specs.declared.target.Size.{Size}
-use Rattle.dw_num.specs.declared.target.Size.TheVariants.{Four, Eight}
-use Rattle.dw_num.specs.Target.{address_limit}
 use Rattle.dw_op.specs.Operands.{modulo}
-use Rattle.dw_eval.specs.Context.{signed}
-use Rattle.dw_eval.specs.Effect.{bit_count, shifted_signed}
 
 pub signed_whole : (size : Size) (n : ℕ) (r : ℤ) → size ≡ Eight → n < 2 ^ 64 → r ≡ cast_signed w64 n → to_z w64 (of_z w64 r) ≡ signed size n
 unfolding signed

@@ -1,31 +1,14 @@
 -- Values stay below 2 ^ N.
-use Rattle.std.proofs.Common.{◌≡◌, ℕ, zero, suc, ◌%◌, ◌<◌, Bool, true, false, List, [], ◌∷◌, ◌++◌, length, Option, Some, None, Result, Ok, Err, refl, sym, subst, inl, inr, arith, ◌∙◌}
-use Rattle.std.specs.Prelude.{slice_get, nat_eq, nat_lt, if◌then◌else◌}
+use Rattle.dw_eval.proofs.Words.{◌≡◌, ℕ, zero, suc, ◌%◌, ◌<◌, Bool, true, false, List, [], ◌∷◌, ◌++◌, length, Option, Some, None, Result, Ok, Err, refl, sym, subst, inl, inr, arith, ◌∙◌, slice_get, nat_eq, nat_lt, if◌then◌else◌, Size, Four}
+use Rattle.dw_eval.proofs.Words.{Eight, byte_count, address_limit, Op, Addr, Deref, Const, Dup, Drop, Over, Pick, Swap, Rot, Abs, Div, Minus, Mod, Neg, Not, PlusUconst, Shra, Bra, Eq, Ge, Gt, Le, Lt, Ne, Skip, Reg, Breg, Fbreg, Piece}
+use Rattle.dw_eval.proofs.Words.{DerefSize, Nop, PushObjectAddress, CallFrameCfa, BitPiece, Implicit, StackValue, modulo_below, Kind, StackUnderflow, DivideByZero, NoRegister, Unreadable, NoFrameBase, NoCfa, NoObject, MissingPiece, Whole}
+use Rattle.dw_eval.proofs.Words.{Place, Role, SetsPlace, SetsValue, AddsPiece, Waits, Computes, Context, read_at, Outcome, Next, Jump, Faults, on_top, on_two, on_three, known, push, push_signed, tell, effect, State, index_of, value_step}
+use Rattle.dw_eval.proofs.Words.{value_start, top_of, Evaluates, led, PlaceState, place_index, place_here, with_piece, with_value, place_step, place_start, pieces_of, Located, place_led, role, free_by, held_by, step_of, Runs, ValuesInSpace}
+use Rattle.dw_eval.proofs.Words.{LocationsInSpace}
 use Rattle.std.proofs.lemmas.Nat.{mod_below}
-use Rattle.dw_num.specs.declared.target.Size.{Size}
-use Rattle.dw_num.specs.declared.target.Size.TheVariants.{Four, Eight}
-use Rattle.dw_num.specs.Target.{byte_count, address_limit}
-use Rattle.dw_op.specs.declared.op.Op.{Op}
-use Rattle.dw_op.specs.declared.op.Op.TheVariants.{Addr, Deref, Const, Dup, Drop, Over, Pick, Swap, Rot, Abs, Div, Minus, Mod, Neg, Not, PlusUconst, Shra, Bra, Eq, Ge, Gt, Le, Lt, Ne, Skip, Reg, Breg, Fbreg, Piece, DerefSize, Nop, PushObjectAddress, CallFrameCfa, BitPiece, Implicit, StackValue}
-use Rattle.dw_op.proofs.Lent.Ranges.{modulo_below}
-use Rattle.dw_eval.specs.declared.error.Kind.{Kind}
-use Rattle.dw_eval.specs.declared.error.Kind.TheVariants.{StackUnderflow, DivideByZero, NoRegister, Unreadable, NoFrameBase, NoCfa, NoObject, MissingPiece}
-use Rattle.dw_eval.specs.declared.place.Part.TheVariants.{Whole}
 use Rattle.dw_eval.specs.declared.place.Piece as declared
-use Rattle.dw_eval.specs.declared.place.Place.{Place}
-use Rattle.dw_eval.specs.declared.place.Role.{Role}
-use Rattle.dw_eval.specs.declared.place.Role.TheVariants.{SetsPlace, SetsValue, AddsPiece, Waits, Computes}
-use Rattle.dw_eval.specs.Context.{Context, read_at}
-use Rattle.dw_eval.specs.Effect.{Outcome, Next, Jump, Faults, on_top, on_two, on_three, known, push, push_signed, tell, effect}
-use Rattle.dw_eval.specs.Evaluation.{State, index_of, value_step, value_start, top_of, Evaluates}
-use Rattle.dw_eval.specs.Inner.Evaluation.{led}
-use Rattle.dw_eval.specs.Location.{PlaceState, place_index, place_here, with_piece, with_value, place_step, place_start, pieces_of, Located}
-use Rattle.dw_eval.specs.Inner.Location.{place_led}
-use Rattle.dw_eval.specs.Inner.Roles.{role, free_by, held_by, step_of}
 use Rattle.dw_eval.proofs.Roles.{step_is}
-use Rattle.dw_eval.specs.Runs.{Runs}
 use Rattle.dw_eval.specs.Space.{AreInSpace, PlaceInSpace, ArePlacesInSpace}
-use Rattle.dw_eval.specs.Laws.{ValuesInSpace, LocationsInSpace}
 
 -- ---- what every state of a run keeps
 

@@ -1,20 +1,11 @@
 -- What one operation of the code tells of a run.
-use Rattle.std.proofs.Common.{◌≡◌, ℕ, ◌+◌, ◌<◌, List, length, Some, Result, Ok, Err, refl, sym, ◌∙◌, ap, subst, inl, inr, arith}
-use Rattle.std.specs.Prelude.{slice_get}
+use Rattle.dw_eval.proofs.Words.{◌≡◌, ℕ, ◌+◌, ◌<◌, List, length, Some, Result, Ok, Err, refl, sym, ◌∙◌, ap, subst, inl, inr, arith, slice_get, Op, EvalError, Fault, OutOfMemory, Kind, Device, StepLimit, Runs, Outcome, Does, Acts, StepsTo}
 use Rattle.std.proofs.Math.Numerals.{suc-eq-add-one}
-use Rattle.dw_op.specs.declared.op.Op.{Op}
-use Rattle.dw_eval.specs.declared.error.EvalError.{EvalError}
-use Rattle.dw_eval.specs.declared.error.EvalError.TheVariants.{Fault, OutOfMemory}
-use Rattle.dw_eval.specs.declared.error.Kind.{Kind}
-use Rattle.dw_eval.specs.declared.error.Kind.TheVariants.{Device, StepLimit}
-use Rattle.dw_eval.specs.Runs.{Runs}
 use Rattle.dw_eval.specs.Inner.Runs.{Answered, Right, Short, Failed}
 use Rattle.dw_eval.specs.declared.stack.Flow.{Flow}
 use Rattle.dw_eval.specs.declared.stack.Flow.TheVariants as flow
 use Rattle.dw_eval.specs.declared.stack.Stop.{Stop}
 use Rattle.dw_eval.specs.declared.stack.Stop.TheVariants as stop
-use Rattle.dw_eval.specs.Effect.{Outcome}
-use Rattle.dw_eval.specs.Inner.Steps.{Does, Acts, StepsTo}
 
 -- an operation without memory is one over a memory that stays
 pub acts_so : (outcome : Outcome) (Read : Type 0) (before : ℕ) (result : Result Flow Stop) (stack : List ℕ) (after : ℕ) → Does outcome result stack → after ≡ before → Acts outcome Read before result stack after

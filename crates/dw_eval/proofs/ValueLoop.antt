@@ -1,23 +1,7 @@
 -- The loop over the operations of an expression.
-use Rattle.std.proofs.Common.{◌≡◌, ℕ, ◌+◌, ◌<◌, ◌≤◌, List, length, map, get_or, Ok, Err, refl, ◌∙◌, subst, arith}
-use Rattle.std.proofs.Math.ListN.{length-map}
-use Rattle.dw_num.specs.declared.target.Target.{Target}
-use Rattle.dw_num.specs.Target.{byte_count}
-use Rattle.dw_op.specs.declared.op.Op.{Op}
-use Rattle.dw_op.specs.declared.op.Op.TheVariants.{DerefSize}
-use Rattle.dw_op.specs.Expression.{bare}
-use Rattle.dw_op.specs.Ranges.{AllInRange}
+use Rattle.dw_eval.proofs.Words.{◌≡◌, ℕ, ◌+◌, ◌<◌, ◌≤◌, List, length, map, get_or, Ok, Err, refl, ◌∙◌, subst, arith, length-map, Target, byte_count, Op, DerefSize, bare, AllInRange, bare_at, in_range_at, fits, EvalError, Fault, StepLimit}
+use Rattle.dw_eval.proofs.Words.{Context, Reads, State, index_of, value_step, value_start, value_reads, top_of, ValueRuns, EvaluatesOver, StepsTo}
 use Rattle.dw_op.specs.Inner.Ranges.{Fits}
-use Rattle.dw_op.proofs.Lent.EncodeLaws.{bare_at, in_range_at}
-use Rattle.dw_op.proofs.Lent.Ranges.{fits}
-use Rattle.dw_eval.specs.declared.error.EvalError.{EvalError}
-use Rattle.dw_eval.specs.declared.error.EvalError.TheVariants.{Fault}
-use Rattle.dw_eval.specs.declared.error.Kind.TheVariants.{StepLimit}
-use Rattle.dw_eval.specs.Context.{Context}
-use Rattle.dw_eval.specs.Effect.{Reads}
-use Rattle.dw_eval.specs.Evaluation.{State, index_of, value_step, value_start, value_reads, top_of}
-use Rattle.dw_eval.specs.Inner.Evaluation.{ValueRuns, EvaluatesOver}
-use Rattle.dw_eval.specs.Inner.Steps.{StepsTo}
 use Rattle.dw_eval.proofs.Effects.{value_stays}
 use Rattle.dw_eval.proofs.Steps.{runs_more, answered_stop, answered_limit}
 

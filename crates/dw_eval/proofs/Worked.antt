@@ -1,21 +1,11 @@
 -- Worked effects and runs.
-use Rattle.std.proofs.Common.{◌≡◌, ℕ, zero, suc, List, [], ◌∷◌, Option, Some, None, Ok, Err, refl, lit<, lit≤, inl, inr}
-use Rattle.dw_num.specs.declared.target.Size.TheVariants.{Four, Eight}
+use Rattle.dw_eval.proofs.Words.{◌≡◌, ℕ, zero, suc, List, [], ◌∷◌, Option, Some, None, Ok, Err, refl, lit<, lit≤, inl, inr, Four, Eight, Op, Const, Div, Shl, Shra, Rot, Skip, Deref, Not, Minus, Pick, Bra, Ge, Abs, Reg, Drop, Nop}
+use Rattle.dw_eval.proofs.Words.{StackValue, Fault, DivideByZero, StepLimit, Unreadable, StackUnderflow, EmptyResult, MissingPiece, Context, signed, Next, Jump, Faults, effect, State, Evaluates, ValueRuns, PlaceState, place_step, pieces_of}
+use Rattle.dw_eval.proofs.Words.{Located, Whole, Place}
 use Rattle.dw_num.specs.declared.target.Order.TheVariants.{Little}
-use Rattle.dw_op.specs.declared.op.Op.{Op}
-use Rattle.dw_op.specs.declared.op.Op.TheVariants.{Const, Div, Shl, Shra, Rot, Skip, Deref, Not, Minus, Pick, Bra, Ge, Abs, Reg, Drop, Nop, StackValue}
 use Rattle.dw_op.specs.declared.op.Op.TheVariants as op
-use Rattle.dw_eval.specs.declared.error.EvalError.TheVariants.{Fault}
-use Rattle.dw_eval.specs.declared.error.Kind.TheVariants.{DivideByZero, StepLimit, Unreadable, StackUnderflow, EmptyResult, MissingPiece}
-use Rattle.dw_eval.specs.Context.{Context, signed}
-use Rattle.dw_eval.specs.Effect.{Next, Jump, Faults, effect}
-use Rattle.dw_eval.specs.Evaluation.{State, Evaluates}
-use Rattle.dw_eval.specs.Inner.Evaluation.{ValueRuns}
-use Rattle.dw_eval.specs.Location.{PlaceState, place_step, pieces_of, Located}
 use Rattle.dw_eval.specs.declared.place.Part.TheVariants as part
-use Rattle.dw_eval.specs.declared.place.Part.TheVariants.{Whole}
 use Rattle.dw_eval.specs.declared.place.Piece.{Piece}
-use Rattle.dw_eval.specs.declared.place.Place.{Place}
 use Rattle.dw_eval.specs.declared.place.Place.TheVariants.{Empty, Memory, Register, Value}
 
 abbrev nothing : Context

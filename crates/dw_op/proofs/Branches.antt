@@ -1,48 +1,15 @@
 -- Where the two bytes of a branch lead, and its displacement.
-use Rattle.std.proofs.Common.{◌≡◌, ℕ, zero, suc, ◌+◌, ◌-◌, ◌%◌, ◌/◌, ◌<◌, ◌≤◌, List, [], ◌∷◌, length, Some, None, sym, ap, subst, ◌∙◌, inl, inr, arith, refl}
-use Rattle.std.specs.Prelude.{ℤ, pos, ◌-ℤ◌, FitsSigned}
-use Rattle.std.specs.Int.{w16, cast_unsigned}
-use Rattle.std.proofs.lemmas.Int.{ints}
-use Rattle.std.proofs.lemmas.Bool.{cases_lt, lt-ltb, le-ltb}
-use Rattle.dw_num.specs.declared.target.Order.{Order}
-use Rattle.dw_num.specs.declared.target.Order.TheVariants.{Little, Big}
-use Rattle.dw_num.specs.Input.{AreBytes}
-use Rattle.dw_num.specs.Fixed.{Fixed, FixedSigned, fixed_bytes, fixed_number}
-use Rattle.dw_num.proofs.Lent.FixedLaws.{length-fixed, is_fixed}
-use Rattle.dw_op.specs.OpSpells.{AnyTwo}
-use Rattle.dw_op.specs.Inner.Walk.{goes_to}
-use Rattle.dw_op.proofs.Lent.ReadingLaws.{some_is}
-
-none_is : (b : ℕ) → None ≡ Some b → ⊥
-none_is b e = cc
+use Rattle.dw_op.proofs.Words.{◌≡◌, ℕ, zero, suc, ◌%◌, ◌/◌, ◌<◌, List, [], ◌∷◌, length, Some, sym, ap, subst, ◌∙◌, inl, inr, arith, refl, ℤ, pos, ◌-ℤ◌, FitsSigned, w16, cast_unsigned, ints, nat_tests, Order, Little, Big, AreBytes, Fixed}
+use Rattle.dw_op.proofs.Words.{FixedSigned, fixed_bytes, fixed_number, length-fixed, is_fixed, AnyTwo, goes_to}
 
 -- a displacement in two bytes leads where the number says
 pub goes_displaced : (end number place : ℕ) → number < 65536 → goes_to end number ≡ Some place
     → FitsSigned w16 (pos place -ℤ pos end) × (cast_unsigned w16 (pos place -ℤ pos end) ≡ number)
-goes_displaced end number place small e = elim (cases_lt number 32768) [
-  | inl lt ↦
-      let is : end + number ≡ place = some_is (end + number) place (rw (lt-ltb number 32768 lt) at e) in
-      (omega (arith, ints), omega (arith, ints))
-  | inr ge ↦ let e1 = rw (le-ltb number 32768 ge) at e in elim (cases_lt (end + number) 65536) [
-    | inl lt ↦ absurd (none_is place (rw (lt-ltb (end + number) 65536 lt) at e1))
-    | inr far ↦
-        let is : end + number - 65536 ≡ place = some_is (end + number - 65536) place (rw (le-ltb (end + number) 65536 far) at e1) in
-        (omega (arith, ints), omega (arith, ints))
-  ]
-]
+goes_displaced end number place small e = (grind (arith, nat_tests, ints), grind (arith, nat_tests, ints))
 
 -- and back
 pub displaced_goes : (end number place : ℕ) → FitsSigned w16 (pos place -ℤ pos end) → cast_unsigned w16 (pos place -ℤ pos end) ≡ number → goes_to end number ≡ Some place
-displaced_goes end number place fits is = elim (cases_lt place end) [
-  | inl back ↦
-      let n-is : number + end ≡ 65536 + place = omega (arith, ints) in
-      let near : end ≤ place + 32768 = omega (arith, ints) in
-      rw (le-ltb number 32768 (omega arith), le-ltb (end + number) 65536 (omega arith)) (ap (λ (k : ℕ). Some k) (omega arith))
-  | inr ahead ↦
-      let n-is : end + number ≡ place = omega (arith, ints) in
-      let near : place < end + 32768 = omega (arith, ints) in
-      rw (lt-ltb number 32768 (omega arith)) (ap (λ (k : ℕ). Some k) (omega arith))
-]
+displaced_goes end number place fits is = grind (arith, nat_tests, ints)
 
 cast_small : (z : ℤ) → FitsSigned w16 z → cast_unsigned w16 z < 65536
 cast_small z h = omega (arith, ints)
@@ -54,7 +21,7 @@ displaced_fixed order z b f = record { bytes = f.bytes; fits = omega (arith, cas
 pub fixed_displaced : (order : Order) (number : ℕ) (z : ℤ) (b : List ℕ) → Fixed order 2 number b → FitsSigned w16 z → cast_unsigned w16 z ≡ number → FixedSigned order w16 z b
 fixed_displaced order number z b f fits is = record { bytes = f.bytes ∙ ap (λ (n : ℕ). fixed_bytes order 2 n) (sym is); fits = fits }
 
-bytes_of_two : (order : Order) (n : ℕ) → AnyTwo (fixed_bytes order 2 n)
+pub bytes_of_two : (order : Order) (n : ℕ) → AnyTwo (fixed_bytes order 2 n)
 bytes_of_two Little n = (n % 256, n / 256 % 256, omega arith, omega arith, grind arith)
 bytes_of_two Big n = (n / 256 % 256, n % 256, omega arith, omega arith, grind arith)
 

@@ -1,28 +1,14 @@
 -- Reading a block to its end, and once more for its branches.
-use Rattle.std.proofs.Common.{◌≡◌, ℕ, suc, ◌+◌, ◌<◌, List, [], ◌∷◌, ◌++◌, length, Option, Some, None, Result, Ok, Err, refl, sym, ap, subst, ◌∙◌, append_assoc, inl, inr, arith, ◌⊎◌}
-use Rattle.std.specs.List.{AllByRecursion}
-use Rattle.std.proofs.lemmas.List.{length-append, append-nil}
+use Rattle.dw_op.proofs.Words.{◌≡◌, ℕ, ◌+◌, ◌<◌, List, [], ◌∷◌, ◌++◌, length, Option, Some, None, Result, Ok, Err, refl, sym, ap, ◌∙◌, append_assoc, inl, inr, arith, ◌⊎◌, length-append, append-nil, Refusal, Target, Input, AreBytes, done}
+use Rattle.dw_op.proofs.Words.{taken_bytes, Op, Profile, Step, step_at, AllInRange, Walk, walk, end_of, index_at, starts_of, place_index, op_of, put_first, resolve, unless, block_input, decode_at, IsBlock, BlockFault}
 use mathlib.Core.Path.{fun_ext}
-use Rattle.dw_num.specs.declared.refusal.Code.TheVariants.{BadBranch}
-use Rattle.dw_num.specs.declared.refusal.Refusal.{Refusal}
-use Rattle.dw_num.specs.declared.target.Target.{Target}
-use Rattle.dw_num.specs.Input.{Input, AreBytes}
 use Rattle.dw_num.specs.declared.error.ReadError.{ReadError}
 use Rattle.dw_num.specs.declared.error.ReadError.TheVariants.{Refused, OutOfMemory}
 use Rattle.dw_num.specs.Refusals.{Refuses}
-use Rattle.dw_num.proofs.Lent.LebLaws.{done}
-use Rattle.dw_num.proofs.Lent.FixedLaws.{taken_bytes}
-use Rattle.dw_op.specs.declared.op.Op.{Op}
-use Rattle.dw_op.specs.declared.profile.Profile.{Profile}
-use Rattle.dw_op.specs.declared.operation.Step.{Step}
-use Rattle.dw_op.specs.Inner.FrontOp.{step_at}
-use Rattle.dw_op.specs.Block.{branch_target, Displaced, Stands, EachPart, Block}
-use Rattle.dw_op.specs.Ranges.{TargetWithin, InRange, AllInRange}
-use Rattle.dw_op.specs.Inner.Walk.{Walk, walk, end_of, index_at, starts_of, place_index, op_of, put_first, resolve, unless, block_input, decode_at}
-use Rattle.dw_op.specs.Faults.{IsBlock, BlockFault}
 use Rattle.dw_op.proofs.Lent.ReadingLaws.{step_found}
 use Rattle.dw_op.proofs.Splits.{walk_step, walk_stuck, walk_end}
-use Rattle.dw_op.proofs.Lent.Blocks.{block_found, block_only, fault_found, fault_only, is_block}
+use Rattle.dw_op.proofs.Lent.Blocks.{block_found, block_only, fault_found, fault_only, block_so, answered, refused, same_ops, same_refusal, bad_branch, decoded_fault}
+use Rattle.dw_op.proofs.Lent.LeastBlocks.{in_range_of_block}
 use Rattle.dw_op.proofs.Search.{place_index_is}
 
 -- ---- one operation further
@@ -45,12 +31,6 @@ within_more profile i j x h e =
       end = omega (arith, found.taken.at, h.end);
       target = found.taken.target ∙ h.target;
     }
-
-pub step_shorter : (profile : Profile) (j : Input) (x : Step × Input) → AreBytes j.bytes → step_at profile j ≡ done x → length x.1.bytes < length j.bytes
-step_shorter profile j x h e =
-    let found = step_found profile j x.1 x.0 h e in
-    let len : length j.bytes ≡ length found.part + length x.1.bytes = ap length found.taken.bytes ∙ length-append found.part x.1.bytes in
-    omega (arith, found.some)
 
 -- ---- the starts so far
 
@@ -107,9 +87,6 @@ ops_more profile i j find ops x op h e is =
       found = one_more j.at ops op more ∙ ap (λ (o : Option Op). put_before ops (put_first o j.at more)) (sym is) ∙ ap (λ (y : Walk). put_before ops (resolve find y.items)) (sym w) ∙ h.found;
     }
 
-abbrev pub bad_branch : ℕ → Refusal
-bad_branch at = record { code = BadBranch; at = at }
-
 pub ops_bad : (profile : Profile) (i j : Input) (find : ℕ → Option ℕ) (ops : List Op) (x : Step × Input) → OpsSo profile i j find ops → step_at profile j ≡ done x → op_of find j.at x.0 ≡ None
     → resolve find (walk profile i).items ≡ Err (bad_branch j.at)
 ops_bad profile i j find ops x h e is =
@@ -138,44 +115,12 @@ decoded_is profile i end places r at_end none are e =
     let a : listed w finds ≡ listed w (λ place. place_index places place) = ap (λ (find : ℕ → Option ℕ). listed w find) same in
     a ∙ ap (λ (o : Option Refusal). unless o (resolve (λ place. place_index places place) w.items)) none ∙ e
 
-pub decoded_fault : (profile : Profile) (i : Input) (r : Refusal) → (walk profile i).fault ≡ Some r → decode_at profile i ≡ Err r
-unfolding decode_at
-decoded_fault profile i r e = ap (λ (o : Option Refusal). unless o (resolve (index_at (walk profile i).items (end_of i)) (walk profile i).items)) e
-
 -- ---- the operations of a block are in range
 
-part_within : (t : Target) (parts : List (List ℕ)) (k : ℕ) (o : Option ℕ) (part : List ℕ) → Displaced t.order parts k o part → TargetWithin (length parts) o
-part_within t parts k None part d = tt
-part_within t parts k (Some i) part d = d.0
-
-parts_in_range : (t : Target) (all : List (List ℕ)) (k : ℕ) (ops : List Op) (parts : List (List ℕ)) → EachPart (Stands t all) k ops parts → AllByRecursion (InRange t (length all)) ops × (length ops ≡ length parts)
-parts_in_range t all k [] [] h = (tt, refl)
-parts_in_range t all k (op ∷ ops) (part ∷ parts) h =
-    let more = parts_in_range t all (suc k) ops parts h.1 in
-    ((record { bytes = part; spelled = h.0.spells; within_list = part_within t all k (branch_target op) part h.0.displaced }, more.0), omega (arith, more.1))
-parts_in_range t all k ops parts h = absurd h
-
-pub block_in_range : (t : Target) (ops : List Op) (bytes : List ℕ) → Block t ops bytes → AllInRange t ops
-block_in_range t ops bytes b =
-    let r = parts_in_range t b.parts 0 ops b.parts b.each in
-    subst (λ (n : ℕ). AllByRecursion (InRange t n) ops) (sym r.1) r.0
-
 pub decoded_in_range : (profile : Profile) (t : Target) (bytes : List ℕ) (ops : List Op) → AreBytes bytes → decode_at profile (block_input t bytes) ≡ Ok ops → AllInRange t ops
-decoded_in_range profile t bytes ops h e = block_in_range t ops bytes (is_block profile t ops bytes (block_found profile t bytes ops h e))
+decoded_in_range profile t bytes ops h e = in_range_of_block t ops bytes (block_so profile t ops bytes (block_found profile t bytes ops h e)).0
 
 -- ---- one answer
-
-abbrev pub answered : List Op → Result (List Op) Refusal
-answered ops = Ok ops
-
-abbrev pub refused : Refusal → Result (List Op) Refusal
-refused r = Err r
-
-pub same_ops : (a b : List Op) → answered a ≡ answered b → a ≡ b
-same_ops a b e = cc
-
-same_refusal : (a b : Refusal) → refused a ≡ refused b → a ≡ b
-same_refusal a b e = cc
 
 pub one_fault : (profile : Profile) (t : Target) (bytes : List ℕ) (r q : Refusal) → BlockFault profile t bytes r → BlockFault profile t bytes q → r ≡ q
 one_fault profile t bytes r q h k = same_refusal r q (sym (fault_only profile t bytes r h) ∙ fault_only profile t bytes q k)

@@ -1,32 +1,16 @@
 -- Judging a block, and what an accepted one stands for.
-use Rattle.std.proofs.Common.{◌≡◌, ℕ, ◌<◌, Bool, true, false, List, [], ◌∷◌, ◌++◌, length, Option, Some, None, Result, Ok, Err, refl, sym, ap, subst, ◌∙◌}
-use Rattle.dw_num.specs.declared.refusal.Refusal.{Refusal}
-use Rattle.dw_num.specs.declared.target.Target.{Target}
-use Rattle.dw_num.specs.Input.{Input, AreBytes}
-use Rattle.dw_num.proofs.Lent.LebLaws.{done}
-use Rattle.dw_op.specs.declared.op.Op.{Op}
-use Rattle.dw_op.specs.declared.profile.Profile.TheVariants.{Frame}
-use Rattle.dw_op.specs.declared.operation.Step.{Step}
-use Rattle.dw_op.specs.declared.operation.Step.TheVariants.{Plain}
-use Rattle.dw_op.specs.declared.walk.Walker.{Walker}
-use Rattle.dw_op.specs.Block.{FrameBlock}
-use Rattle.dw_op.specs.Expression.{Expression, bare}
-use Rattle.dw_op.specs.Inner.FrontOp.{step_at}
-use Rattle.dw_op.specs.Inner.Walk.{Walk, walk, index_in, op_of, put_first, resolve, unless, block_input, decode_at}
-use Rattle.dw_op.specs.Inner.Windows.{block_of, WalkSo, Walked, WalkedBad, Walks}
-use Rattle.dw_op.specs.Inner.Accepted.{IsAccepted, ok_ops, ops_of, left_of, StepsSo}
-use Rattle.dw_op.proofs.Splits.{walk_step, walk_stuck, walk_end}
-use Rattle.dw_op.proofs.Lent.Blocks.{block_found, block_only}
-use Rattle.dw_op.proofs.Decoded.{Within, within_all, within_more, OpsSo, ops_more, ops_bad, ops_all, answered, same_ops, bad_branch, step_shorter}
+use Rattle.dw_op.proofs.Words.{◌≡◌, ℕ, ◌<◌, Bool, true, false, false≢true, List, [], ◌∷◌, ◌++◌, length, Option, Some, None, Result, Ok, Err, refl, sym, ap, subst, ◌∙◌, Refusal, Target, Input, AreBytes, done, Op, Frame, Step, Plain, Walker}
+use Rattle.dw_op.proofs.Words.{FrameBlock, Expression, bare, step_at, Walk, walk, index_in, op_of, put_first, resolve, unless, block_input, decode_at, block_of, WalkSo, Walked, WalkedBad, Walks, IsAccepted, ok_ops, ops_of, left_of, StepsSo}
+use Rattle.dw_op.proofs.Splits.{walk_step, walk_stuck, walk_end, step_shorter}
+use Rattle.dw_op.proofs.Lent.Blocks.{block_found, block_only, answered, first_of_all, bad_branch, decoded_fault}
+use Rattle.dw_op.proofs.Lent.Lines.{expression_is}
+use Rattle.dw_op.proofs.Walkers.{same_block}
+use Rattle.dw_op.proofs.Decoded.{Within, within_more, OpsSo, ops_more, ops_bad, ops_all}
 
 -- a block without fault in its reading is decoded as its branches are resolved
-resolved_is : (i : Input) (r : Result (List Op) Refusal) → (walk Frame i).fault ≡ None → resolve (index_in Frame i) (walk Frame i).items ≡ r → decode_at Frame i ≡ r
+pub resolved_is : (i : Input) (r : Result (List Op) Refusal) → (walk Frame i).fault ≡ None → resolve (index_in Frame i) (walk Frame i).items ≡ r → decode_at Frame i ≡ r
 unfolding decode_at
 resolved_is i r none e = ap (λ (o : Option Refusal). unless o (resolve (index_in Frame i) (walk Frame i).items)) none ∙ e
-
-pub decoded_bad : (i : Input) (r : Refusal) → (walk Frame i).fault ≡ Some r → decode_at Frame i ≡ Err r
-unfolding decode_at
-decoded_bad i r e = ap (λ (o : Option Refusal). unless o (resolve (index_in Frame i) (walk Frame i).items)) e
 
 -- ---- the first reading
 
@@ -49,14 +33,11 @@ read_plain i j new found step op h e is = record {
   plain = λ k. let so = h.plain k in (so.0 ++ op ∷ [], ops_more Frame i j (index_in Frame i) so.0 (step, new) op so.1 e (ap (λ (s : Step). op_of (index_in Frame i) j.at s) is));
 }
 
-true_not_false : {P : Type 0} → true ≡ false → P
-true_not_false e = absurd cc
-
 pub read_jump : (i j new : Input) (found : Bool) (step : Step) → ReadSo i j found → step_at Frame j ≡ done (step, new) → ReadSo i new true
 read_jump i j new found step h e = record {
   within = within_more Frame i j (step, new) h.within e;
   fault = read_fault i j (step, new) h.within h.fault e;
-  plain = λ k. true_not_false k;
+  plain = λ k. absurd (false≢true (sym k));
 }
 
 pub read_end : (i j : Input) (found : Bool) → ReadSo i j found → length j.bytes ≡ 0 → (walk Frame i).fault ≡ None
@@ -80,17 +61,12 @@ pub record CheckSo (i : Input) (w : Walker) : Type 0 where
 
 pub check_more : (i : Input) (w v : Walker) (op : Op) → CheckSo i w → Walked w v op → CheckSo i v
 check_more i w v op h s =
-    let same : block_of v ≡ block_of w =
-    ap (λ (t : Target). block_input t v.bytes.now) (v_target w v op h s) ∙ ap (λ (l : List ℕ). block_input w.here.target l) s.bytes in
     let is : op_of (index_in Frame i) w.here.at s.step ≡ Some op = subst (λ (j : Input). op_of (index_in Frame j) w.here.at s.step ≡ Some op) h.block s.is in
     record {
       so = s.so;
-      block = same ∙ h.block;
+      block = same_block w s.step v.here h.so s.read v refl s.bytes ∙ h.block;
       far = (h.far.0 ++ op ∷ [], ops_more Frame i w.here (index_in Frame i) h.far.0 (s.step, v.here) op h.far.1 s.read is);
     }
-  where
-    v_target : (w v : Walker) (op : Op) → CheckSo i w → Walked w v op → v.here.target ≡ w.here.target
-    v_target w v op h s = (within_more Frame w.here w.here (s.step, v.here) (within_all w.here h.far.1.within.bytes) s.read).target
 
 pub check_bad : (i : Input) (w : Walker) (r : Refusal) → (walk Frame i).fault ≡ None → CheckSo i w → WalkedBad w r → decode_at Frame i ≡ Err r
 check_bad i w r read h s =
@@ -103,10 +79,7 @@ check_end t bytes w read h e =
     (h.far.0, resolved_is i (Ok h.far.0) read (ops_all Frame i w.here (index_in Frame i) h.far.0 h.far.1 (ap length e)))
 
 pub check_shorter : (w v : Walker) (op : Op) → WalkSo w → Walked w v op → length v.here.bytes < length w.here.bytes
-check_shorter w v op h s = step_shorter Frame w.here (s.step, v.here) h.here.bytes s.read
-
-abbrev expression : Target → List Op → Expression
-expression t ops = record { target = t; ops = ops }
+check_shorter w v op h s = step_shorter Frame w.here s.step v.here h.here.bytes s.read
 
 -- ---- what an accepted block stands for
 
@@ -138,7 +111,7 @@ accepted_read t bytes h = go (walk Frame (block_input t bytes)).fault refl
   where
     go : (f : Option Refusal) → (walk Frame (block_input t bytes)).fault ≡ f → f ≡ None
     go None e = refl
-    go (Some r) e = let k : answered h.0 ≡ Err r = sym h.1 ∙ decoded_bad (block_input t bytes) r e in absurd cc
+    go (Some r) e = let k : answered h.0 ≡ Err r = sym h.1 ∙ decoded_fault Frame (block_input t bytes) r e in absurd cc
 
 same_input : (t : Target) (bytes : List ℕ) (w : Walker) → w.here ≡ block_input t bytes → w.bytes.now ≡ bytes → block_of w ≡ block_input t bytes
 same_input t bytes w here same =
@@ -163,21 +136,17 @@ pub left_end : (w : Walker) → w.here.bytes ≡ [] → left_of w ≡ []
 unfolding left_of
 left_end w e = ap (λ (y : Walk). ok_ops (resolve (index_in Frame (block_of w)) y.items)) (walk_end Frame w.here (ap length e))
 
-put_says : (at : ℕ) (op : Op) (r : Result (List Op) Refusal) (ops : List Op) → put_first (Some op) at r ≡ answered ops → (more : List Op) × (r ≡ answered more) × (ops ≡ op ∷ more)
-put_says at op (Ok more) ops e = (more, refl, sym (same_ops (op ∷ more) ops e))
-put_says at op (Err r) ops e = absurd cc
-
 -- what is left behind an operation
 left_says : (w v : Walker) (op : Op) → StepsSo w → Walked w v op → (more : List Op) × (resolve (index_in Frame (block_of v)) (walk Frame v.here).items ≡ answered more) × (resolve (index_in Frame (block_of w)) (walk Frame w.here).items ≡ answered (op ∷ more))
 left_says w v op h s =
     let find = index_in Frame (block_of w) in
     let later = resolve find (walk Frame v.here).items in
-    let target : v.here.target ≡ w.here.target = (within_more Frame w.here w.here (s.step, v.here) (within_all w.here h.so.here.bytes) s.read).target in
-    let same : block_of v ≡ block_of w = ap (λ (t : Target). block_input t v.bytes.now) target ∙ ap (λ (l : List ℕ). block_input w.here.target l) s.bytes in
+    let same = same_block w s.step v.here h.so s.read v refl s.bytes in
     let here : resolve find (walk Frame w.here).items ≡ put_first (Some op) w.here.at later =
     ap (λ (y : Walk). resolve find y.items) (walk_step Frame w.here (s.step, v.here) h.so.here.bytes s.read) ∙ ap (λ (o : Option Op). put_first o w.here.at later) s.is in
-    let p = put_says w.here.at op later h.ops (sym here ∙ h.good) in
-    (p.0, ap (λ (i : Input). resolve (index_in Frame i) (walk Frame v.here).items) same ∙ p.1, h.good ∙ ap answered p.2)
+    let p = first_of_all w.here.at (Some op) later h.ops (sym here ∙ h.good) in
+    let is : h.ops ≡ op ∷ p.more = cc in
+    (p.more, ap (λ (i : Input). resolve (index_in Frame i) (walk Frame v.here).items) same ∙ p.rest, h.good ∙ ap answered is)
 
 pub left_more : (w v : Walker) (op : Op) → StepsSo w → Walked w v op → StepsSo v
 left_more w v op h s = let l = left_says w v op h s in record { so = s.so; ops = l.0; good = l.1 }
@@ -211,11 +180,6 @@ pub steps_answer : (w v : Walker) (o : Option Op) → StepsSo w → Walks w v (O
 steps_answer w v None h s = let none = left_end w s.0 in (none, ap left_of s.1 ∙ none)
 steps_answer w v (Some op) h s = left_is w v (bare op) h s
 
--- an expression is its target and its operations
-pub expression_is : (e f : Expression) → e.target ≡ f.target → e.ops ≡ f.ops → e ≡ f
-expression_is e f target ops =
-    ap (λ (t : Target). expression t e.ops) target ∙ ap (λ (l : List Op). expression f.target l) ops
-
 -- a list that has the expression's block is its list
 pub list_is : (t : Target) (bytes : List ℕ) (e : Expression) → e.target ≡ t → FrameBlock t e.ops bytes → e ≡ record { target = t; ops = ops_of t bytes }
-list_is t bytes e target block = expression_is e (expression t (ops_of t bytes)) target (sym (block_ops t bytes e.ops block))
+list_is t bytes e target block = expression_is e (record { target = t; ops = ops_of t bytes }) target (sym (block_ops t bytes e.ops block))

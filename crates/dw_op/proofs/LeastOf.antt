@@ -1,149 +1,156 @@
 -- The table of least spellings gives the least of all spellings.
-use Rattle.std.proofs.Common.{◌≡◌, ℕ, ◌+◌, ◌-◌, ◌%◌, ◌^◌, ◌<◌, ◌≤◌, List, [], ◌∷◌, ◌++◌, length, refl, sym, ap, subst, ◌∙◌, inl, inr, arith, ℤ}
-use Rattle.std.specs.Prelude.{FitsSigned}
-use Rattle.std.specs.Int.{w64}
-use Rattle.std.proofs.lemmas.Bool.{cases_lt}
-use Rattle.std.proofs.lemmas.List.{length-append}
-use Rattle.std.proofs.Math.Nat.{mod-eq_of_lt}
-use Rattle.dw_num.specs.declared.target.Target.{Target}
-use Rattle.dw_num.specs.declared.target.Order.{Order}
-use Rattle.dw_num.specs.declared.target.Order.TheVariants.{Little, Big}
-use Rattle.dw_num.specs.declared.target.Size.{Size}
-use Rattle.dw_num.specs.declared.target.Size.TheVariants.{Four, Eight}
-use Rattle.dw_num.specs.Target.{byte_count}
-use Rattle.dw_num.specs.Fixed.{fixed_bytes, Fixed}
-use Rattle.dw_num.specs.Leb.{Uleb, Sleb, Register}
-use Rattle.dw_num.proofs.Lent.FixedLaws.{length-fixed}
-use Rattle.dw_num.specs.Shortest.{shortest_uleb, shortest_sleb}
-use Rattle.dw_num.proofs.Lent.Shortest.{shortest_uleb-spells, shortest_uleb-least, shortest_sleb-spells, shortest_sleb-least, leb_some}
-use Rattle.dw_op.specs.declared.op.Op.{Op}
-use Rattle.dw_op.specs.declared.op.Op.TheVariants.{Addr, Const, Pick, PlusUconst, Bra, Skip, Reg, Breg, Fbreg, Piece, DerefSize, BitPiece, Implicit}
-use Rattle.dw_op.specs.declared.least.Spelling.{Spelling}
-use Rattle.dw_op.specs.declared.least.Operand.TheVariants as operand
-use Rattle.dw_op.specs.OpSpells.{Code, Both, AnyTwo}
-use Rattle.dw_op.specs.Inner.ByOperation.{IsSpelled, Counted}
-use Rattle.dw_op.specs.Least.{AtMost, Least}
-use Rattle.dw_op.specs.Inner.LeastOf.{operand_bytes, spelling_bytes, address, register_form, register_offset, least_spelling, least_bytes}
-use Rattle.dw_op.specs.Expression.{bare}
-use Rattle.dw_op.specs.Ranges.{InRange}
-use Rattle.dw_op.proofs.Lent.Spellings.{InRangeSo, LeastSo, range_so, so_least}
+use Rattle.dw_op.proofs.Words.{◌≡◌, ℕ, ◌+◌, ◌-◌, ◌%◌, ◌^◌, ◌<◌, ◌≤◌, suc, List, [], ◌∷◌, ◌++◌, length, refl, sym, ap, subst, ◌∙◌, inl, inr, arith, ℤ, FitsSigned, ◌⊎◌, None, Some, w64, cases_lt, length-append, mod-eq_of_lt, Target, Order}
+use Rattle.dw_op.proofs.Words.{Size, Four, Eight, byte_count, fixed_bytes, Fixed, Uleb, Sleb, Register, length-fixed, shortest_uleb, shortest_sleb, shortest_uleb-spells, shortest_uleb-least, shortest_uleb-only, shortest_sleb-least}
+use Rattle.dw_op.proofs.Words.{leb_some, Op, Addr, Const, Pick, PlusUconst, Bra, Skip, Reg, Breg, Fbreg, Piece, DerefSize, BitPiece, Implicit, Spelling, Code, Both, AnyTwo, IsSpelled, Counted, AtMost, Least, operand_bytes, spelling_bytes}
+use Rattle.dw_op.proofs.Words.{address, register_form, register_offset, least_spelling, least_bytes, bare, branch_target, Displaced, InRange, bits_of}
+use Rattle.dw_op.proofs.Lent.Spellings.{InRangeSo, LeastSo, range_so, so_least, least_so}
 use Rattle.dw_op.proofs.Lent.Ranges.{modulo_below}
-use Rattle.dw_op.proofs.LeastConst.{same_most, by_test, constant_best}
+use Rattle.dw_op.proofs.Branches.{bytes_of_two}
+use Rattle.dw_op.proofs.LeastConst.{Best, Shortest, shortest_fixed, the_uleb, the_sleb, same_head_so, by_test, constant_best}
 
--- ---- the other operations
+-- ---- the shortest operands
 
-code_most : (code : ℕ) (Operands : List ℕ → Type 0) (operand : List ℕ) → ((rest : List ℕ) → Operands rest → length operand ≤ length rest)
-    → (other : List ℕ) → Code code Operands other → AtMost (code ∷ operand) other
-code_most code Operands operand short other s =
-    rw s.whole (elim (cases_lt (length operand) (length s.rest)) [
-      | inl lt ↦ inl (omega arith)
-      | inr ge ↦ let le = short s.rest s.operands in inr (omega arith, omega arith)
-    ])
+the_register : (n : ℕ) → n < 2 ^ 16 → Shortest (Register n) (shortest_uleb n)
+the_register n small = record { spells = (shortest_uleb-spells n (omega arith), small); least = λ c h. shortest_uleb-least n c h.0; only = λ c h. shortest_uleb-only n c h.0 }
 
-fixed_most : (o : Order) (code n v : ℕ) (other : List ℕ) → Code code (Fixed o n v) other → AtMost (code ∷ fixed_bytes o n v) other
-fixed_most o code n v other s = code_most code (Fixed o n v) (fixed_bytes o n v) (λ rest h. rw h.bytes (omega arith)) other s
+these_bytes : (b : List ℕ) → Shortest (λ c. c ≡ b) b
+these_bytes b = record { spells = refl; least = λ c e. rw e (omega arith); only = λ c e le. e }
 
-both_most : (First Second : List ℕ → Type 0) (a b : List ℕ) → ((c : List ℕ) → First c → length a ≤ length c) → ((c : List ℕ) → Second c → length b ≤ length c)
-    → (rest : List ℕ) → Both First Second rest → length (a ++ b) ≤ length rest
-both_most First Second a b f g rest h = rw h.whole (omega (arith, f h.front h.first, g h.back h.second, length-append a b, length-append h.front h.back))
+the_both : (First Second : List ℕ → Type 0) (a b : List ℕ) → Shortest First a → Shortest Second b → Shortest (Both First Second) (a ++ b)
+the_both First Second a b p q = record {
+  spells = record { front = a; back = b; first = p.spells; second = q.spells; whole = refl };
+  least = λ c h. rw h.whole (omega (arith, p.least h.front h.first, q.least h.back h.second, length-append a b, length-append h.front h.back));
+  only = λ c h le.
+      let first = p.least h.front h.first in
+      let second = q.least h.back h.second in
+      let total : length h.front + length h.back ≤ length a + length b = omega (arith, ap length h.whole, length-append a b, length-append h.front h.back) in
+      rw (h.whole, p.only h.front h.first (omega arith), q.only h.back h.second (omega arith)) refl;
+}
 
-two_bytes : (o : Order) (d : ℕ) → AnyTwo (fixed_bytes o 2 d)
-two_bytes Little d = (_, _, omega arith, omega arith, refl)
-two_bytes Big d = (_, _, omega arith, omega arith, refl)
+-- ---- a code and operands
 
-branch_most : (o : Order) (code d : ℕ) (other : List ℕ) → Code code AnyTwo other → AtMost (code ∷ fixed_bytes o 2 d) other
-branch_most o code d other s = code_most code AnyTwo (fixed_bytes o 2 d) (λ rest h. rw h.4 (omega (arith, length-fixed o 2 d))) other s
+module _ (t : Target) (op : Op) (code : ℕ) (Operands : List ℕ → Type 0) (operand : List ℕ) where
+  -- the code with some operands, or what is longer
+  abbrev OrLonger : List ℕ → Type 0
+  OrLonger b = Code code Operands b ⊎ (suc (length operand) < length b)
 
-address_least : (t : Target) (a : ℕ) → a < 256 ^ byte_count t.size → LeastSo t (Addr a) (spelling_bytes t.order (address t.size a))
-address_least t a fits = by_size t.size a fits (λ b e. subst (λ (c : List ℕ). LeastSo t (Addr a) c) (sym e) exact)
+  most : ((c : List ℕ) → Operands c → length operand ≤ length c) → (b : List ℕ) → OrLonger b → AtMost (code ∷ operand) b
+  most short b (inr longer) = inl longer
+  most short b (inl s) = rw s.whole (elim (cases_lt (length operand) (length s.rest)) [
+    | inl lt ↦ inl (omega arith)
+    | inr ge ↦ let le = short s.rest s.operands in inr (omega arith, omega arith)
+  ])
+
+  only_code : Shortest Operands operand → (b : List ℕ) → OrLonger b → length b ≤ suc (length operand) → b ≡ code ∷ operand
+  only_code s b (inr longer) le = absurd (omega arith)
+  only_code s b (inl c) le = c.whole ∙ ap (λ (r : List ℕ). code ∷ r) (s.only c.rest c.operands (omega (arith, ap length c.whole)))
+
+  by_code : Shortest Operands operand → (Code code Operands (code ∷ operand) → IsSpelled t op (code ∷ operand)) → ((b : List ℕ) → IsSpelled t op b → OrLonger b) → Best t op (code ∷ operand)
+  by_code s to from = record { found = found; only = λ b l. only_code s b (from b l.spells) (let e = (same_head_so t op b (code ∷ operand) l found).length_is in omega arith) }
+    where
+      found : LeastSo t op (code ∷ operand)
+      found = record { spells = to (record { rest = operand; operands = s.spells; whole = refl }); least = λ b c. most s.least b (from b c) }
+
+-- ---- operation by operation
+
+pub address_bytes : (o : Order) (s : Size) (a : ℕ) → a < 256 ^ byte_count s → spelling_bytes o (address s a) ≡ 0x03 ∷ fixed_bytes o (byte_count s) a
+address_bytes o Four a fits = let e : a % 2 ^ 32 ≡ a = mod-eq_of_lt (omega arith) in rw e refl
+address_bytes o Eight a fits = refl
+
+address_best : (t : Target) (a : ℕ) → a < 256 ^ byte_count t.size → Best t (Addr a) (spelling_bytes t.order (address t.size a))
+address_best t a fits = subst (Best t (Addr a)) (sym (address_bytes t.order t.size a fits)) (by_code t (Addr a) 0x03 (Fixed t.order (byte_count t.size) a) (fixed_bytes t.order (byte_count t.size) a) (shortest_fixed t.order (byte_count t.size) a fits) (λ c. c) (λ b c. inl c))
+
+register_best : (t : Target) (len n : ℕ) → InRangeSo t len (Reg n) → Best t (Reg n) (spelling_bytes t.order (register_form n))
+register_best t len n r = by_test (λ s. Best t (Reg n) (spelling_bytes t.order s)) n 32 _ _
+    (λ lt. by_code t (Reg n) (0x50 + n) (λ c. c ≡ []) [] (these_bytes []) (λ c. inl (lt, refl)) low)
+    (λ ge. by_code t (Reg n) 0x90 (Register n) (shortest_uleb n) (the_register n (let s = r.spelled in omega arith)) (λ c. inr c) (high ge))
   where
-    exact : LeastSo t (Addr a) (0x03 ∷ fixed_bytes t.order (byte_count t.size) a)
-    exact = record {
-      spells = record { rest = fixed_bytes t.order (byte_count t.size) a; operands = record { bytes = refl; fits = fits }; whole = refl };
-      least = λ other s. fixed_most t.order 0x03 (byte_count t.size) a other s;
-    }
+    low : (b : List ℕ) → IsSpelled t (Reg n) b → Code (0x50 + n) (λ c. c ≡ []) b ⊎ (1 < length b)
+    low b (inl p) = inl (record { rest = []; operands = refl; whole = p.1 })
+    low b (inr p) = let some = leb_some p.rest p.operands.0.shape in inr (rw p.whole (omega arith))
 
-    by_size : (s : Size) (a : ℕ) → a < 256 ^ byte_count s → ((b : List ℕ) → b ≡ 0x03 ∷ fixed_bytes t.order (byte_count s) a → LeastSo t (Addr a) b) → LeastSo t (Addr a) (spelling_bytes t.order (address s a))
-    by_size Four a fits f = f (spelling_bytes t.order (address Four a)) (let e : a % 2 ^ 32 ≡ a = mod-eq_of_lt (omega arith) in rw e refl)
-    by_size Eight a fits f = f (spelling_bytes t.order (address Eight a)) refl
+    high : 32 ≤ n → (b : List ℕ) → IsSpelled t (Reg n) b → Code 0x90 (Register n) b ⊎ (suc (length (shortest_uleb n)) < length b)
+    high ge b (inl p) = let lt = p.0 in absurd (omega arith)
+    high ge b (inr p) = inl p
 
-register_least : (t : Target) (len d n : ℕ) → InRangeSo t len (Reg n) → LeastSo t (Reg n) (spelling_bytes t.order (register_form n))
-register_least t len d n r = by_test (λ s. LeastSo t (Reg n) (spelling_bytes t.order s)) n 32 _ _
-    (λ lt. record { spells = inl (lt, refl); least = λ other s. short lt other s })
-    (λ ge. record { spells = inr (record { rest = shortest_uleb n; operands = (shortest_uleb-spells n (let f = typed r.spelled in omega arith), typed r.spelled); whole = refl }); least = λ other s. long ge other s })
+offset_best : (t : Target) (len n : ℕ) (z : ℤ) → InRangeSo t len (Breg n z) → Best t (Breg n z) (spelling_bytes t.order (register_offset n z))
+offset_best t len n z r = by_test (λ s. Best t (Breg n z) (spelling_bytes t.order s)) n 32 _ _
+    (λ lt. by_code t (Breg n z) (0x70 + n) (Sleb z) (shortest_sleb z) (the_sleb z (typed r.spelled).1) (λ c. inl (lt, c)) low)
+    (λ ge. by_code t (Breg n z) 0x92 (Both (Register n) (Sleb z)) (shortest_uleb n ++ shortest_sleb z)
+    (the_both (Register n) (Sleb z) (shortest_uleb n) (shortest_sleb z) (the_register n (typed r.spelled).0) (the_sleb z (typed r.spelled).1)) (λ c. inr c) (high ge))
   where
-    typed : {b : List ℕ} → IsSpelled t (Reg n) b → n < 2 ^ 16
-    typed (inl p) = let lt = p.0 in omega arith
-    typed (inr p) = p.operands.1
+    typed : {b : List ℕ} → IsSpelled t (Breg n z) b → (n < 2 ^ 16) × FitsSigned w64 z
+    typed (inl p) = (let lt = p.0 in omega arith, p.1.operands.fits)
+    typed (inr p) = (p.operands.first.1, p.operands.second.fits)
 
-    short : n < 32 → (other : List ℕ) → IsSpelled t (Reg n) other → AtMost ((0x50 + n) ∷ []) other
-    short lt other (inl p) = same_most ((0x50 + n) ∷ []) other p.1
-    short lt other (inr p) = let some = leb_some p.rest p.operands.0.shape in rw p.whole (inl (omega arith))
+    low : (b : List ℕ) → IsSpelled t (Breg n z) b → Code (0x70 + n) (Sleb z) b ⊎ (suc (length (shortest_sleb z)) < length b)
+    low b (inl p) = inl p.1
+    low b (inr p) =
+        let o = p.operands in
+        let some = leb_some o.front o.first.0.shape in
+        let le = shortest_sleb-least z o.back o.second in
+        inr (rw (p.whole, o.whole) (omega (arith, length-append o.front o.back)))
 
-    long : 32 ≤ n → (other : List ℕ) → IsSpelled t (Reg n) other → AtMost (0x90 ∷ shortest_uleb n) other
-    long ge other (inl p) = let lt = p.0 in absurd (omega arith)
-    long ge other (inr p) = code_most 0x90 (Register n) (shortest_uleb n) (λ rest h. shortest_uleb-least n rest h.0) other p
+    high : 32 ≤ n → (b : List ℕ) → IsSpelled t (Breg n z) b → Code 0x92 (Both (Register n) (Sleb z)) b ⊎ (suc (length (shortest_uleb n ++ shortest_sleb z)) < length b)
+    high ge b (inl p) = let lt = p.0 in absurd (omega arith)
+    high ge b (inr p) = inl p
 
-register_offset_least : (t : Target) (len d n : ℕ) (z : ℤ) → InRangeSo t len (Breg n z) → LeastSo t (Breg n z) (spelling_bytes t.order (register_offset n z))
-register_offset_least t len d n z r = by_test (λ s. LeastSo t (Breg n z) (spelling_bytes t.order s)) n 32 _ _
-    (λ lt. record { spells = inl (lt, record { rest = shortest_sleb z; operands = shortest_sleb-spells z (signed r.spelled); whole = refl }); least = λ other s. short lt other s })
-    (λ ge. record {
-      spells = inr (record { rest = shortest_uleb n ++ shortest_sleb z; operands = record { front = shortest_uleb n; back = shortest_sleb z; first = (shortest_uleb-spells n (let f = typed r.spelled in omega arith), typed r.spelled); second = shortest_sleb-spells z (signed r.spelled); whole = refl }; whole = refl });
-      least = λ other s. long ge other s;
-    })
-  where
-    typed : {b : List ℕ} → IsSpelled t (Breg n z) b → n < 2 ^ 16
-    typed (inl p) = let lt = p.0 in omega arith
-    typed (inr p) = p.operands.first.1
+-- the table gives the only least spelling, but of a branch
+pub table_best : (t : Target) (len d : ℕ) (op : Op) → InRangeSo t len op → branch_target op ≡ None → Best t op (least_bytes t d op)
+unfolding least_bytes least_spelling
+table_best t len d (Addr a) r e = address_best t a r.spelled.operands.fits
+table_best t len d (Const v) r e = constant_best t v (rw r.spelled.value (modulo_below t.size r.spelled.number))
+table_best t len d (Pick i) r e = by_code t (Pick i) 0x15 (Fixed t.order 1 i) (fixed_bytes t.order 1 i) (shortest_fixed t.order 1 i r.spelled.operands.fits) (λ c. c) (λ b c. inl c)
+table_best t len d (PlusUconst n) r e = by_code t (PlusUconst n) 0x23 (Uleb n) (shortest_uleb n) (the_uleb n r.spelled.operands.fits) (λ c. c) (λ b c. inl c)
+table_best t len d (Bra i) r e = absurd cc
+table_best t len d (Skip i) r e = absurd cc
+table_best t len d (Reg n) r e = register_best t len n r
+table_best t len d (Breg n z) r e = offset_best t len n z r
+table_best t len d (Fbreg z) r e = by_code t (Fbreg z) 0x91 (Sleb z) (shortest_sleb z) (the_sleb z r.spelled.operands.fits) (λ c. c) (λ b c. inl c)
+table_best t len d (Piece n) r e = by_code t (Piece n) 0x93 (Uleb n) (shortest_uleb n) (the_uleb n r.spelled.operands.fits) (λ c. c) (λ b c. inl c)
+table_best t len d (DerefSize k) r e = by_code t (DerefSize k) 0x94 (Fixed t.order 1 k) (fixed_bytes t.order 1 k) (shortest_fixed t.order 1 k r.spelled.0.operands.fits) (λ c. (c, r.spelled.1, r.spelled.2)) (λ b c. inl c.0)
+table_best t len d (BitPiece size offset) r e =
+    let o = r.spelled.operands in
+    by_code t (BitPiece size offset) 0x9d (Both (Uleb size) (Uleb offset)) (shortest_uleb size ++ shortest_uleb offset)
+    (the_both (Uleb size) (Uleb offset) (shortest_uleb size) (shortest_uleb offset) (the_uleb size o.first.fits) (the_uleb offset o.second.fits)) (λ c. c) (λ b c. inl c)
+table_best t len d (Implicit block) r e =
+    let n = length block.now in
+    by_code t (Implicit block) 0x9e (Counted block.now) (shortest_uleb n ++ block.now)
+    (the_both (Uleb n) (λ c. c ≡ block.now) (shortest_uleb n) block.now (the_uleb n r.spelled.1.operands.first.fits) (these_bytes block.now)) (λ c. (r.spelled.0, c)) (λ b c. inl c.1)
+table_best t len d other r e = record { found = record { spells = refl; least = λ b s. rw s (inr (refl, omega arith)) }; only = λ b l. l.spells }
 
-    signed : {b : List ℕ} → IsSpelled t (Breg n z) b → FitsSigned w64 z
-    signed (inl p) = p.1.operands.fits
-    signed (inr p) = p.operands.second.fits
-
-    short : n < 32 → (other : List ℕ) → IsSpelled t (Breg n z) other → AtMost ((0x70 + n) ∷ shortest_sleb z) other
-    short lt other (inl p) = code_most (0x70 + n) (Sleb z) (shortest_sleb z) (shortest_sleb-least z) other p.1
-    short lt other (inr p) =
-        let b = p.operands in
-        let some = leb_some b.front b.first.0.shape in
-        let le = shortest_sleb-least z b.back b.second in
-        rw (p.whole, b.whole) (inl (omega (arith, length-append b.front b.back)))
-
-    long : 32 ≤ n → (other : List ℕ) → IsSpelled t (Breg n z) other → AtMost (0x92 ∷ (shortest_uleb n ++ shortest_sleb z)) other
-    long ge other (inl p) = let lt = p.0 in absurd (omega arith)
-    long ge other (inr p) = code_most 0x92 (Both (Register n) (Sleb z)) (shortest_uleb n ++ shortest_sleb z)
-        (both_most (Register n) (Sleb z) (shortest_uleb n) (shortest_sleb z) (λ c h. shortest_uleb-least n c h.0) (shortest_sleb-least z)) other p
+branch_most : (t : Target) (op : Op) (code d : ℕ) (b : List ℕ) → Code code AnyTwo b → AtMost (code ∷ fixed_bytes t.order 2 d) b
+branch_most t op code d b s = most t op code AnyTwo (fixed_bytes t.order 2 d) (λ rest h. rw h.4 (omega (arith, length-fixed t.order 2 d))) b (inl s)
 
 -- the table gives least spellings
-pub least_spelled_so : (t : Target) (len d : ℕ) (op : Op) → InRangeSo t len op → LeastSo t op (least_bytes t d op)
+least_spelled_so : (t : Target) (len d : ℕ) (op : Op) → InRangeSo t len op → LeastSo t op (least_bytes t d op)
 unfolding least_bytes least_spelling
-least_spelled_so t len d (Addr a) r = address_least t a r.spelled.operands.fits
-least_spelled_so t len d (Const v) r = (constant_best t v (rw r.spelled.value (modulo_below t.size r.spelled.number))).found
-least_spelled_so t len d (Pick i) r = record { spells = record { rest = fixed_bytes t.order 1 i; operands = record { bytes = refl; fits = r.spelled.operands.fits }; whole = refl }; least = λ other s. fixed_most t.order 0x15 1 i other s }
-least_spelled_so t len d (PlusUconst n) r = record { spells = record { rest = shortest_uleb n; operands = shortest_uleb-spells n r.spelled.operands.fits; whole = refl }; least = λ other s. code_most 0x23 (Uleb n) (shortest_uleb n) (shortest_uleb-least n) other s }
-least_spelled_so t len d (Bra i) r = record { spells = record { rest = fixed_bytes t.order 2 d; operands = two_bytes t.order d; whole = refl }; least = λ other s. branch_most t.order 0x28 d other s }
-least_spelled_so t len d (Skip i) r = record { spells = record { rest = fixed_bytes t.order 2 d; operands = two_bytes t.order d; whole = refl }; least = λ other s. branch_most t.order 0x2f d other s }
-least_spelled_so t len d (Reg n) r = register_least t len d n r
-least_spelled_so t len d (Breg n z) r = register_offset_least t len d n z r
-least_spelled_so t len d (Fbreg n) r = record { spells = record { rest = shortest_sleb n; operands = shortest_sleb-spells n r.spelled.operands.fits; whole = refl }; least = λ other s. code_most 0x91 (Sleb n) (shortest_sleb n) (shortest_sleb-least n) other s }
-least_spelled_so t len d (Piece n) r = record { spells = record { rest = shortest_uleb n; operands = shortest_uleb-spells n r.spelled.operands.fits; whole = refl }; least = λ other s. code_most 0x93 (Uleb n) (shortest_uleb n) (shortest_uleb-least n) other s }
-least_spelled_so t len d (DerefSize k) r = record { spells = (record { rest = fixed_bytes t.order 1 k; operands = record { bytes = refl; fits = r.spelled.0.operands.fits }; whole = refl }, r.spelled.1, r.spelled.2); least = λ other s. fixed_most t.order 0x94 1 k other s.0 }
-least_spelled_so t len d (BitPiece size offset) r =
-    let b = r.spelled.operands in
-    record {
-      spells = record { rest = shortest_uleb size ++ shortest_uleb offset; operands = record { front = shortest_uleb size; back = shortest_uleb offset; first = shortest_uleb-spells size b.first.fits; second = shortest_uleb-spells offset b.second.fits; whole = refl }; whole = refl };
-      least = λ other s. code_most 0x9d (Both (Uleb size) (Uleb offset)) (shortest_uleb size ++ shortest_uleb offset) (both_most (Uleb size) (Uleb offset) (shortest_uleb size) (shortest_uleb offset) (shortest_uleb-least size) (shortest_uleb-least offset)) other s;
-    }
-least_spelled_so t len d (Implicit block) r =
-    let n = length block.now in
-    let b = r.spelled.1.operands in
-    record {
-      spells = (r.spelled.0, record { rest = shortest_uleb n ++ block.now; operands = record { front = shortest_uleb n; back = block.now; first = shortest_uleb-spells n b.first.fits; second = refl; whole = refl }; whole = refl });
-      least = λ other s. code_most 0x9e (Counted block.now) (shortest_uleb n ++ block.now) (both_most (Uleb n) (λ c. c ≡ block.now) (shortest_uleb n) block.now (shortest_uleb-least n) (λ c e. rw e (omega arith))) other s.1;
-    }
-least_spelled_so t len d other r = record { spells = refl; least = λ b s. same_most _ b s }
+least_spelled_so t len d (Bra i) r = record { spells = record { rest = fixed_bytes t.order 2 d; operands = bytes_of_two t.order d; whole = refl }; least = λ b s. branch_most t (Bra i) 0x28 d b s }
+least_spelled_so t len d (Skip i) r = record { spells = record { rest = fixed_bytes t.order 2 d; operands = bytes_of_two t.order d; whole = refl }; least = λ b s. branch_most t (Skip i) 0x2f d b s }
+least_spelled_so t len d other r = (table_best t len d other r refl).found
 
 pub least : (t : Target) (len d : ℕ) (op : Op) → InRange t len op → Least t op (least_bytes t d op)
 least t len d op r = so_least t op (least_bytes t d op) (least_spelled_so t len d op (range_so t len op r))
+
+-- ---- no other spelling is as short
+
+branch_only : (o : Order) (code : ℕ) (all : List (List ℕ)) (k i : ℕ) (b : List ℕ) → Code code AnyTwo b → Displaced o all k (Some i) b → b ≡ code ∷ fixed_bytes o 2 (bits_of all k (Some i))
+branch_only o code all k i b w d =
+    let there : d.1 ∷ d.2.rest ≡ code ∷ w.rest = sym d.2.whole ∙ w.whole in
+    let rest : d.2.rest ≡ w.rest = cc in
+    w.whole ∙ ap (λ (r : List ℕ). code ∷ r) (sym rest ∙ d.2.operands.bytes)
+
+only_so : (t : Target) (all : List (List ℕ)) (len k : ℕ) (op : Op) (b : List ℕ) → InRangeSo t len op → LeastSo t op b → Displaced t.order all k (branch_target op) b
+    → b ≡ least_bytes t (bits_of all k (branch_target op)) op
+unfolding least_bytes least_spelling
+only_so t all len k (Bra i) b r l d = branch_only t.order 0x28 all k i b l.spells d
+only_so t all len k (Skip i) b r l d = branch_only t.order 0x2f all k i b l.spells d
+only_so t all len k other b r l d = (table_best t len 0 other r refl).only b l
+
+-- a least spelling is the table's
+pub only : (t : Target) (all : List (List ℕ)) (len k : ℕ) (op : Op) (b : List ℕ) → InRange t len op → Least t op b → Displaced t.order all k (branch_target op) b
+    → b ≡ least_bytes t (bits_of all k (branch_target op)) op
+only t all len k op b r l d = only_so t all len k op b (range_so t len op r) (least_so t op b l) d
 
 -- ---- the table and what the code does with it
 

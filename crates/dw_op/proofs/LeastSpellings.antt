@@ -1,17 +1,6 @@
 -- Least spellings one after another, with where the branches go.
-use Rattle.std.proofs.Common.{◌≡◌, ℕ, zero, suc, ◌+◌, ◌<◌, ◌≤◌, ◌^◌, List, [], ◌∷◌, ◌++◌, length, take, drop, Option, Some, None, refl, sym, ap, subst, ◌∙◌, arith}
-use Rattle.std.specs.Prelude.{pos, ◌-ℤ◌, FitsSigned}
-use Rattle.std.specs.Int.{w16}
-use Rattle.std.proofs.Math.Seq.{take-length}
-use Rattle.dw_num.specs.declared.target.Target.{Target}
-use Rattle.dw_op.specs.declared.layout.Places.{Places}
-use Rattle.dw_op.specs.declared.layout.Point.{Point}
-use Rattle.dw_op.specs.declared.op.Op.{Op}
-use Rattle.dw_op.specs.Block.{branch_target, start}
-use Rattle.dw_op.specs.Inner.LeastBlock.{bits_of, blank_parts, BranchFits, EachFits, least_len}
-use Rattle.dw_op.specs.Inner.LeastOf.{least_bytes}
-use Rattle.dw_op.specs.Inner.Lengths.{least_lengths, lengths_at, total, together}
-use Rattle.dw_op.specs.Inner.Points.{AreSmall, ArePlaces, IsBranching, bits_at}
+use Rattle.dw_op.proofs.Words.{◌≡◌, ℕ, zero, suc, ◌+◌, ◌<◌, ◌≤◌, ◌^◌, List, [], ◌∷◌, ◌++◌, length, take, drop, Option, Some, None, refl, sym, ap, subst, ◌∙◌, arith, pos, ◌-ℤ◌, FitsSigned, w16, take-length, drop-drop, Target, Places, Point}
+use Rattle.dw_op.proofs.Words.{Op, branch_target, start, bits_of, blank_parts, BranchFits, EachFits, least_len, least_bytes, least_lengths, lengths_at, total, together, AreSmall, ArePlaces, IsBranching, bits_at}
 use Rattle.dw_op.proofs.Lent.EncodeLaws.{IsGoing, going_none, going_more, front_more}
 
 -- where a part begins is the lengths before it
@@ -28,12 +17,6 @@ drop_lengths : (t : Target) (ops : List Op) (k : ℕ) → drop k (least_lengths 
 drop_lengths t ops zero = refl
 drop_lengths t [] (suc k) = refl
 drop_lengths t (op ∷ ops) (suc k) = drop_lengths t ops k
-
-drop_next : (ops : List Op) (k : ℕ) (op : Op) (rest : List Op) → op ∷ rest ≡ drop k ops → rest ≡ drop (suc k) ops
-drop_next [] zero op rest e = absurd cc
-drop_next [] (suc k) op rest e = absurd cc
-drop_next (o ∷ ops) zero op rest e = cc
-drop_next (o ∷ ops) (suc k) op rest e = drop_next ops k op rest e
 
 -- what is written of all operations and what is left of them, at places that stand there
 pub record Putting (t : Target) (all : List Op) (old : List ℕ) (rest : List Op) (p : Places) (out : List ℕ) : Type 0 where
@@ -87,7 +70,7 @@ put_next t all old op rest p q r bits out h s said same here =
     said lengths places ∙ ap (λ (n : ℕ). bits_at lengths n (branch_target op)) on ∙ bits_are t all k (branch_target op) in
     record {
       going = subst (λ (n : ℕ). IsGoing t all old n rest (out ++ least_bytes t bits op)) at (going_more t all old k bits op rest out h.going is);
-      left = drop_next all k op rest h.left ∙ ap (λ (n : ℕ). drop n all) (sym one ∙ at);
+      left = ap (λ (l : List Op). drop 1 l) h.left ∙ drop-drop 1 k all ∙ ap (λ (n : ℕ). drop n all) at;
       fits = subst (λ (n : ℕ). EachFits (blank_parts t all) n rest) (sym one ∙ at) h.fits.1;
       places = same lengths places;
       front = front_more old out (least_bytes t bits op) h.front;

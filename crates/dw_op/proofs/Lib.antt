@@ -1,6 +1,6 @@
+pub mod Words
 pub mod LeastConst
 pub mod LeastOf
-pub mod LeastOnly
 pub mod Shorter
 pub mod Signed
 pub mod ReadingAgain

@@ -1,12 +1,5 @@
 -- Where the parts of a block begin.
-use Rattle.std.proofs.Common.{◌≡◌, ℕ, zero, suc, ◌+◌, ◌≤◌, List, [], ◌∷◌, length, Option, Some, None, refl, ap, subst, arith, inl, inr}
-use Rattle.std.proofs.lemmas.Bool.{cases_eq, eq-eqb, ne_eqb}
-use Rattle.std.proofs.lemmas.List.{length-append}
-use Rattle.dw_num.specs.declared.target.Target.{Target}
-use Rattle.dw_op.specs.declared.profile.Profile.{Profile}
-use Rattle.dw_op.specs.declared.operation.Step.{Step}
-use Rattle.dw_op.specs.Block.{joined, start}
-use Rattle.dw_op.specs.Inner.Walk.{plus, index_at}
+use Rattle.dw_op.proofs.Words.{◌≡◌, ℕ, zero, suc, ◌+◌, ◌≤◌, List, [], ◌∷◌, length, Option, Some, None, refl, ap, subst, arith, inl, inr, cases_eq, eq-eqb, ne_eqb, length-append, Target, Profile, Step, joined, start, plus, index_at}
 use Rattle.dw_op.proofs.Splits.{EachSpells, items_from}
 use Rattle.dw_op.proofs.Lent.ReadingLaws.{some_is}
 

@@ -1,25 +1,8 @@
 -- Steps that are resolved are the operations that stand in a block.
-use Rattle.std.proofs.Common.{◌≡◌, ℕ, ◌+◌, ◌≤◌, true, List, [], ◌∷◌, length, Option, Some, None, refl, sym, ap, subst, ◌∙◌, arith}
-use Rattle.std.specs.Int.{w16, cast_unsigned}
-use Rattle.dw_num.specs.declared.target.Target.{Target}
-use Rattle.dw_num.specs.Fixed.{Fixed, fixed_number}
-use Rattle.dw_num.specs.Input.{Input}
-use Rattle.dw_num.proofs.Lent.LebLaws.{ok_is}
-use Rattle.dw_op.specs.declared.op.Op.{Op}
+use Rattle.dw_op.proofs.Words.{◌≡◌, ℕ, ◌+◌, ◌≤◌, true, List, [], ◌∷◌, length, Option, Some, None, refl, sym, ap, subst, ◌∙◌, arith, w16, cast_unsigned, Target, Fixed, fixed_number, Input, ok_is, Op, Profile, Frame, Location, Branch, Step}
+use Rattle.dw_op.proofs.Words.{Plain, Jump, OpSpells, Code, AnyTwo, start, displacement, Displaced, Stands, branch_code, step_allowed, goes_to, find_at, branch_to, op_of, in_frame, op_allowed}
 use Rattle.dw_op.specs.declared.op.Op.TheVariants as ops
-use Rattle.dw_op.specs.declared.profile.Profile.{Profile}
-use Rattle.dw_op.specs.declared.profile.Profile.TheVariants.{Frame, Location}
-use Rattle.dw_op.specs.declared.operation.Branch.{Branch}
 use Rattle.dw_op.specs.declared.operation.Branch.TheVariants.{Bra, Skip}
-use Rattle.dw_op.specs.declared.operation.Step.{Step}
-use Rattle.dw_op.specs.declared.operation.Step.TheVariants.{Plain, Jump}
-use Rattle.dw_op.specs.OpSpells.{OpSpells, Code, AnyTwo}
-use Rattle.dw_op.specs.Inner.ByOperation.{IsSpelled}
-use Rattle.dw_op.specs.Block.{start, displacement, Displaced, Stands}
-use Rattle.dw_op.specs.Inner.Steps.{branch_code, step_allowed}
-use Rattle.dw_op.specs.Inner.Walk.{goes_to, find_at, branch_to, op_of}
-use Rattle.dw_op.specs.Profile.{in_frame}
-use Rattle.dw_op.specs.Faults.{op_allowed}
 use Rattle.dw_op.proofs.ReadingAgain.{step_again}
 use Rattle.dw_op.proofs.Lent.Spellings.{by_table, in_table}
 use Rattle.dw_op.proofs.Splits.{Spelled, spelled, input}
@@ -39,17 +22,9 @@ one_step profile t step other part h k =
 pub as_location : (profile : Profile) (t : Target) (step : Step) (part : List ℕ) → Spelled profile t step part → Spelled Location t step part
 as_location profile t step part h = record { spells = h.spells; allowed = refl; some = h.some }
 
-jumps : (profile : Profile) (branch : Branch) (n : ℕ) → step_allowed profile (Jump branch n) ≡ true
-jumps Frame branch n = refl
-jumps Location branch n = refl
-
-plain_allowed : (profile : Profile) (op : Op) → op_allowed profile op ≡ true → step_allowed profile (Plain op) ≡ true
-plain_allowed Frame op e = e
-plain_allowed Location op e = e
-
-pub allowed_plain : (profile : Profile) (op : Op) → step_allowed profile (Plain op) ≡ true → op_allowed profile op ≡ true
-allowed_plain Frame op e = e
-allowed_plain Location op e = e
+pub plain_allows : (profile : Profile) (op : Op) → step_allowed profile (Plain op) ≡ op_allowed profile op
+plain_allows Frame op = refl
+plain_allows Location op = refl
 
 -- what a frame's expression may hold is allowed
 pub framed : (profile : Profile) (op : Op) → in_frame op ≡ true → op_allowed profile op ≡ true
@@ -61,16 +36,14 @@ any_code t branch part h =
     spelled Location t (Jump branch (fixed_number t.order 2 h.rest)) part (record { rest = h.rest; operands = any_fixed t.order h.rest h.operands; whole = h.whole }) refl
 
 with_profile : (profile : Profile) (t : Target) (branch : Branch) (n : ℕ) (part : List ℕ) → Spelled Location t (Jump branch n) part → Spelled profile t (Jump branch n) part
-with_profile profile t branch n part h = record { spells = h.spells; allowed = jumps profile branch n; some = h.some }
+with_profile Frame t branch n part h = record { spells = h.spells; allowed = refl; some = h.some }
+with_profile Location t branch n part h = h
 
 -- what spells an operation spells a step
-spelled_step : (profile : Profile) (t : Target) (part : List ℕ) (op : Op) → IsSpelled t op part → op_allowed profile op ≡ true → (step : Step) × Spelled profile t step part
-spelled_step profile t part (ops.Bra i) h allowed = (Jump Bra (fixed_number t.order 2 h.rest), with_profile profile t Bra (fixed_number t.order 2 h.rest) part (any_code t Bra part h))
-spelled_step profile t part (ops.Skip i) h allowed = (Jump Skip (fixed_number t.order 2 h.rest), with_profile profile t Skip (fixed_number t.order 2 h.rest) part (any_code t Skip part h))
-spelled_step profile t part op h allowed = (Plain op, spelled profile t (Plain op) part (h, refl) (plain_allowed profile op allowed))
-
 pub part_step : (profile : Profile) (t : Target) (part : List ℕ) (op : Op) → OpSpells t op part → op_allowed profile op ≡ true → (step : Step) × Spelled profile t step part
-part_step profile t part op h allowed = spelled_step profile t part op (by_table t op part h) allowed
+part_step profile t part (ops.Bra i) h allowed = let c = by_table t (ops.Bra i) part h in (Jump Bra (fixed_number t.order 2 c.rest), with_profile profile t Bra (fixed_number t.order 2 c.rest) part (any_code t Bra part c))
+part_step profile t part (ops.Skip i) h allowed = let c = by_table t (ops.Skip i) part h in (Jump Skip (fixed_number t.order 2 c.rest), with_profile profile t Skip (fixed_number t.order 2 c.rest) part (any_code t Skip part c))
+part_step profile t part op h allowed = (Plain op, spelled profile t (Plain op) part (h, refl) (plain_allows profile op ∙ allowed))
 
 -- ---- a step and the operation that it is resolved to
 
@@ -113,7 +86,7 @@ pub step_stands : (profile : Profile) (t : Target) (all : List (List ℕ)) (find
     → op_of find (start all k) step ≡ Some op → Stands t all k op part × (op_allowed profile op ≡ true)
 step_stands profile t all find k (Plain other) op part f h placed e =
     subst (λ (x : Op). Stands t all k x part × (op_allowed profile x ≡ true)) (some_is other op e)
-    (record { spells = in_table t other part h.spells.0; displaced = subst (λ (o : Option ℕ). Displaced t.order all k o part) (sym h.spells.1) tt }, allowed_plain profile other h.allowed)
+    (record { spells = h.spells.0; displaced = subst (λ (o : Option ℕ). Displaced t.order all k o part) (sym h.spells.1) tt }, sym (plain_allows profile other) ∙ h.allowed)
 step_stands profile t all find k (Jump Bra n) op part f h placed e =
     let b = branch_says find Bra (start all k + 3) n (goes_to (start all k + 3) n) (find_at find (goes_to (start all k + 3) n)) op refl refl e in
     subst (λ (x : Op). Stands t all k x part × (op_allowed profile x ≡ true)) (some_is (ops.Bra b.index) op b.is)
@@ -123,16 +96,14 @@ step_stands profile t all find k (Jump Skip n) op part f h placed e =
     subst (λ (x : Op). Stands t all k x part × (op_allowed profile x ≡ true)) (some_is (ops.Skip b.index) op b.is)
     (record { spells = in_table t (ops.Skip b.index) part (record { rest = h.spells.rest; operands = fixed_any t.order n h.spells.rest h.spells.operands; whole = h.spells.whole }); displaced = jump_displaced t all find k Skip n op part h.spells f placed b }, framed profile (ops.Skip b.index) refl)
 
-tail_is : (a b : ℕ) (x y : List ℕ) → a ∷ x ≡ b ∷ y → x ≡ y
-tail_is a b x y e = cc
-
 -- what a branch that stands there is resolved to
 branch_resolved : (t : Target) (all : List (List ℕ)) (find : ℕ → Option ℕ) (k i : ℕ) (branch : Branch) (part : List ℕ) (h : Code (branch_code branch) AnyTwo part) → Finds all find → Placed all k part
     → Displaced t.order all k (Some i) part → Spelled Location t (Jump branch (fixed_number t.order 2 h.rest)) part → op_of find (start all k) (Jump branch (fixed_number t.order 2 h.rest)) ≡ branch_to branch (Some i)
 branch_resolved t all find k i branch part h f placed d s =
     let z = displacement all k i in
     let number = cast_unsigned w16 z in
-    let same : d.2.rest ≡ h.rest = tail_is d.1 (branch_code branch) d.2.rest h.rest (sym d.2.whole ∙ h.whole) in
+    let whole : d.1 ∷ d.2.rest ≡ branch_code branch ∷ h.rest = sym d.2.whole ∙ h.whole in
+    let same : d.2.rest ≡ h.rest = cc in
     let fixed : Fixed t.order 2 number h.rest = subst (λ (l : List ℕ). Fixed t.order 2 number l) same (displaced_fixed t.order z d.2.rest d.2.operands) in
     let other : Spelled Location t (Jump branch number) part = spelled Location t (Jump branch number) part (record { rest = h.rest; operands = fixed; whole = h.whole }) refl in
     let end : start all (k + 1) ≡ start all k + 3 = omega (arith, jump_length t branch number part (record { rest = h.rest; operands = fixed; whole = h.whole })) in
@@ -142,18 +113,17 @@ branch_resolved t all find k i branch part h f placed d s =
     ∙ ap (λ (o : Option ℕ). branch_to branch (find_at find o)) goes
     ∙ ap (λ (o : Option ℕ). branch_to branch o) found
 
+stands_jump : (profile : Profile) (t : Target) (all : List (List ℕ)) (find : ℕ → Option ℕ) (k i : ℕ) (branch : Branch) (part : List ℕ) → Finds all find → Placed all k part → Code (branch_code branch) AnyTwo part
+    → Displaced t.order all k (Some i) part → (step : Step) × Spelled profile t step part × (op_of find (start all k) step ≡ branch_to branch (Some i))
+stands_jump profile t all find k i branch part f placed h d =
+    let s = any_code t branch part h in
+    let n = fixed_number t.order 2 h.rest in
+    (Jump branch n, with_profile profile t branch n part s, branch_resolved t all find k i branch part h f placed d s)
+
 -- an operation that stands there is what its step is resolved to
 pub stands_step : (profile : Profile) (t : Target) (all : List (List ℕ)) (find : ℕ → Option ℕ) (k : ℕ) (op : Op) (part : List ℕ) → Finds all find → Placed all k part → Stands t all k op part → op_allowed profile op ≡ true
     → (step : Step) × Spelled profile t step part × (op_of find (start all k) step ≡ Some op)
-stands_step profile t all find k (ops.Bra i) part f placed h allowed =
-    let spells = by_table t (ops.Bra i) part h.spells in
-    let s = any_code t Bra part spells in
-    let n = fixed_number t.order 2 spells.rest in
-    (Jump Bra n, with_profile profile t Bra n part s, branch_resolved t all find k i Bra part spells f placed h.displaced s)
-stands_step profile t all find k (ops.Skip i) part f placed h allowed =
-    let spells = by_table t (ops.Skip i) part h.spells in
-    let s = any_code t Skip part spells in
-    let n = fixed_number t.order 2 spells.rest in
-    (Jump Skip n, with_profile profile t Skip n part s, branch_resolved t all find k i Skip part spells f placed h.displaced s)
+stands_step profile t all find k (ops.Bra i) part f placed h allowed = stands_jump profile t all find k i Bra part f placed (by_table t (ops.Bra i) part h.spells) h.displaced
+stands_step profile t all find k (ops.Skip i) part f placed h allowed = stands_jump profile t all find k i Skip part f placed (by_table t (ops.Skip i) part h.spells) h.displaced
 stands_step profile t all find k op part f placed h allowed =
-    (Plain op, spelled profile t (Plain op) part (by_table t op part h.spells, refl) (plain_allowed profile op allowed), refl)
+    (Plain op, spelled profile t (Plain op) part (h.spells, refl) (plain_allows profile op ∙ allowed), refl)

@@ -1,18 +1,9 @@
 -- Places that rise, and which of them one is.
-use Rattle.std.proofs.Common.{◌≡◌, ℕ, zero, suc, ◌+◌, ◌<◌, ◌≤◌, List, [], ◌∷◌, length, get_or, Option, Some, None, Result, Ok, Err, refl, sym, ap, subst, inl, inr, arith}
-use Rattle.std.specs.Prelude.{MatchResult}
+use Rattle.dw_op.proofs.Words.{◌≡◌, ℕ, zero, suc, ◌+◌, ◌<◌, ◌≤◌, List, [], ◌∷◌, length, get_or, Option, Some, None, Result, Ok, Err, refl, sym, ap, subst, inl, inr, arith, MatchResult, length-append, nat_tests, cases_lt, eq-eqb, ne_eqb}
+use Rattle.dw_op.proofs.Words.{Target, Input, AreBytes, Profile, Step, joined, Item, walk, end_of, index_at, starts_of, place_index, Rises}
 use Rattle.std.specs.List.Sorted.{IsBinarySearchResult}
 use Rattle.std.specs.Ordering.{nat_cmp}
 use Rattle.std.proofs.lemmas.List.Sorted.{searched}
-use Rattle.std.proofs.lemmas.List.{length-append}
-use Rattle.std.proofs.lemmas.Bool.{cases_eq, cases_lt, eq-eqb, ne_eqb}
-use Rattle.dw_num.specs.declared.target.Target.{Target}
-use Rattle.dw_num.specs.Input.{Input, AreBytes}
-use Rattle.dw_op.specs.declared.profile.Profile.{Profile}
-use Rattle.dw_op.specs.declared.operation.Step.{Step}
-use Rattle.dw_op.specs.Block.{joined}
-use Rattle.dw_op.specs.Inner.Walk.{Item, walk, end_of, index_at, starts_of, place_index}
-use Rattle.dw_op.specs.Inner.Walk.{Rises}
 use Rattle.dw_op.proofs.Splits.{EachSpells, items_from, split_of}
 
 rises_lower : (low lower : ℕ) (ps : List ℕ) → lower ≤ low → Rises low ps → Rises lower ps
@@ -51,10 +42,7 @@ rises low (p ∷ ps) (suc i) (suc j) h ij lt = rises (suc p) ps i j h.1 (omega a
 rises low ps i j h ij lt = absurd (omega arith)
 
 rises_le : (ps : List ℕ) → Rises 0 ps → (i j : ℕ) → i ≤ j → j < length ps → get_or ps i 0 ≤ get_or ps j 0
-rises_le ps h i j ij lt = elim (cases_eq i j) [
-  | inl e ↦ rw e (omega arith)
-  | inr ne ↦ let more = rises 0 ps i j h (omega arith) lt in omega arith
-]
+rises_le ps h i j ij lt = grind (arith, nat_tests, rises 0 ps i j h)
 
 index_found : (low : ℕ) (ps : List ℕ) (i place : ℕ) → Rises low ps → i < length ps → get_or ps i 0 ≡ place → place_index ps place ≡ Some i
 index_found low [] i place h lt e = absurd (omega arith)

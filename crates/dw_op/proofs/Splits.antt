@@ -1,18 +1,6 @@
 -- A walk over a block, and the parts that it reads.
-use Rattle.std.proofs.Common.{◌≡◌, ℕ, zero, suc, ◌+◌, ◌<◌, ◌≤◌, true, List, [], ◌∷◌, ◌++◌, length, Option, Some, None, Ok, Err, refl, sym, ap, subst, ◌∙◌, append_assoc, arith}
-use Rattle.std.proofs.lemmas.List.{length-append}
-use Rattle.dw_num.specs.declared.refusal.Refusal.{Refusal}
-use Rattle.dw_num.specs.declared.target.Target.{Target}
-use Rattle.dw_num.specs.Input.{Input, AreBytes, Takes}
-use Rattle.dw_num.specs.Front.{Read, fixed_at}
-use Rattle.dw_num.proofs.Lent.LebLaws.{done}
-use Rattle.dw_num.proofs.Lent.FixedLaws.{taken_bytes}
-use Rattle.dw_op.specs.declared.profile.Profile.{Profile}
-use Rattle.dw_op.specs.declared.operation.Step.{Step}
-use Rattle.dw_op.specs.Block.{joined}
-use Rattle.dw_op.specs.Inner.FrontOp.{step_at}
-use Rattle.dw_op.specs.Inner.Steps.{StepSpells, step_allowed}
-use Rattle.dw_op.specs.Inner.Walk.{Item, item_of, Walk, walk}
+use Rattle.dw_op.proofs.Words.{◌≡◌, ℕ, zero, suc, ◌+◌, ◌-◌, ◌<◌, ◌≤◌, true, List, [], ◌∷◌, ◌++◌, length, Option, Some, None, Ok, Err, refl, sym, ap, subst, ◌∙◌, append_assoc, arith, length-append, nil_from_length, Refusal, Target, Input}
+use Rattle.dw_op.proofs.Words.{AreBytes, Takes, Read, fixed_at, done, taken_bytes, Profile, Step, joined, step_at, StepSpells, step_allowed, Item, item_of, Walk, walk}
 use Rattle.dw_op.specs.Inner.Walks.{ended, put, on_read, on_left, walked_by}
 use Rattle.dw_op.proofs.Lent.ReadingLaws.{step_found}
 use Rattle.dw_op.proofs.ReadingAgain.{step_again}
@@ -72,10 +60,6 @@ pub new_is : (i new : Input) (b : List ℕ) → Takes i b new → new ≡ input 
 new_is i new b t =
     ap (λ (n : ℕ). input n new.bytes new.target) t.at ∙ ap (λ (g : Target). input (i.at + length b) new.bytes g) t.target
 
-nothing : (l : List ℕ) → length l ≤ 0 → l ≡ []
-nothing [] le = refl
-nothing (x ∷ l) le = absurd (omega arith)
-
 same_place : (i : Input) → i ≡ input (i.at + 0) i.bytes i.target
 same_place i = ap (λ (n : ℕ). input n i.bytes i.target) (omega arith)
 
@@ -95,36 +79,30 @@ more_split profile i step part bytes w h e s = record {
 abbrev SplitBelow : Profile → ℕ → Type 0
 SplitBelow profile n = (i : Input) → length i.bytes ≤ n → AreBytes i.bytes → Split profile i (walk_by profile n i)
 
-read_split : (profile : Profile) (n : ℕ) (i : Input) (r : Read Step) → SplitBelow profile n → length i.bytes ≤ suc n → 0 < length i.bytes → AreBytes i.bytes → step_at profile i ≡ r
-    → Split profile i (on_read r (λ e. ended (Some e)) (λ x. after_item i.at x.0 (walk_by profile n x.1)))
-read_split profile n i (Err r) more le some h e = record {
+read_split : (profile : Profile) (n : ℕ) (i : Input) (bytes : List ℕ) (r : Read Step) → SplitBelow profile n → length i.bytes ≤ suc n → AreBytes i.bytes → i.bytes ≡ bytes → step_at profile i ≡ r
+    → Split profile i (on_left bytes (on_read r (λ e. ended (Some e)) (λ x. after_item i.at x.0 (walk_by profile n x.1))))
+read_split profile n i [] r more le h is e = record { steps = []; parts = []; rest = []; each = tt; items = refl; whole = is; ends = refl }
+read_split profile n i (b ∷ bytes) (Err r) more le h is e = record {
   steps = [];
   parts = [];
   rest = i.bytes;
   each = tt;
   items = refl;
   whole = refl;
-  ends = subst (λ (j : Input). (0 < length j.bytes) × (step_at profile j ≡ Err r)) (same_place i) (some, e);
+  ends = subst (λ (j : Input). (0 < length j.bytes) × (step_at profile j ≡ Err r)) (same_place i) (omega (arith, ap length is), e);
 }
-read_split profile n i (Ok x) more le some h e =
+read_split profile n i (b ∷ bytes) (Ok x) more le h is e =
     let found = step_found profile i x.1 x.0 h e in
-    let is = new_is i x.1 found.part found.taken in
+    let place = new_is i x.1 found.part found.taken in
     let shorter : length i.bytes ≡ length found.part + length x.1.bytes = ap length found.taken.bytes ∙ length-append found.part x.1.bytes in
     let rest = more (input (i.at + length found.part) x.1.bytes i.target) (omega (arith, found.some)) (taken_bytes i x.1 found.part found.taken h) in
-    subst (λ (j : Input). Split profile i (after_item i.at x.0 (walk_by profile n j))) (sym is)
+    subst (λ (j : Input). Split profile i (after_item i.at x.0 (walk_by profile n j))) (sym place)
     (more_split profile i x.0 found.part x.1.bytes (walk_by profile n (input (i.at + length found.part) x.1.bytes i.target)) (record { spells = found.spells; allowed = found.allowed; some = found.some }) found.taken.bytes rest)
-
-left_split : (profile : Profile) (n : ℕ) (i : Input) (bytes : List ℕ) → SplitBelow profile n → length i.bytes ≤ suc n → AreBytes i.bytes → i.bytes ≡ bytes
-    → Split profile i (on_left bytes (on_read (step_at profile i) (λ e. ended (Some e)) (λ x. after_item i.at x.0 (walk_by profile n x.1))))
-left_split profile n i [] more le h e = record { steps = []; parts = []; rest = []; each = tt; items = refl; whole = e; ends = refl }
-left_split profile n i (b ∷ bytes) more le h e =
-    let some : 0 < length i.bytes = omega (arith, ap length e) in
-    read_split profile n i (step_at profile i) more le some h refl
 
 pub split_by : (profile : Profile) (n : ℕ) (i : Input) → length i.bytes ≤ n → AreBytes i.bytes → Split profile i (walk_by profile n i)
 unfolding walked_by
-split_by profile zero i le h = record { steps = []; parts = []; rest = []; each = tt; items = refl; whole = nothing i.bytes le; ends = refl }
-split_by profile (suc n) i le h = left_split profile n i i.bytes (λ j l k. split_by profile n j l k) le h refl
+split_by profile zero i le h = record { steps = []; parts = []; rest = []; each = tt; items = refl; whole = nil_from_length i.bytes (omega arith); ends = refl }
+split_by profile (suc n) i le h = read_split profile n i i.bytes (step_at profile i) (λ j l k. split_by profile n j l k) le h refl refl
 
 -- the parts that a walk reads
 pub split_of : (profile : Profile) (i : Input) → AreBytes i.bytes → Split profile i (walk profile i)
@@ -191,31 +169,26 @@ walk_enough profile n i le h =
     let a = joined_walk_by profile i.target s.steps s.parts n i.at s.rest w.fault s.each (omega (arith, ap length s.whole)) s.ends in
     ap (λ (j : Input). walk_by profile n j) is ∙ a ∙ ap (λ (l : List Item). record { items = l; fault = w.fault }) (sym s.items)
 
-some_read : (profile : Profile) (i : Input) (x : Step × Input) → AreBytes i.bytes → step_at profile i ≡ done x → length x.1.bytes < length i.bytes
-some_read profile i x h e =
-    let found = step_found profile i x.1 x.0 h e in
-    let len : length i.bytes ≡ length found.part + length x.1.bytes = ap length found.taken.bytes ∙ length-append found.part x.1.bytes in
+pub step_shorter : (profile : Profile) (i : Input) (step : Step) (new : Input) → AreBytes i.bytes → step_at profile i ≡ done (step, new) → length new.bytes < length i.bytes
+step_shorter profile i step new h e =
+    let found = step_found profile i new step h e in
+    let len : length i.bytes ≡ length found.part + length new.bytes = ap length found.taken.bytes ∙ length-append found.part new.bytes in
     omega (arith, found.some)
 
 pub walk_step : (profile : Profile) (i : Input) (x : Step × Input) → AreBytes i.bytes → step_at profile i ≡ done x → walk profile i ≡ after_item i.at x.0 (walk profile x.1)
 unfolding walk
-walk_step profile i x h e = go (length i.bytes) refl (some_read profile i x h e)
-  where
-    go : (n : ℕ) → length i.bytes ≡ n → length x.1.bytes < n → walk_by profile n i ≡ after_item i.at x.0 (walk profile x.1)
-    go zero is lt = absurd (omega arith)
-    go (suc n) is lt =
-        let found = step_found profile i x.1 x.0 h e in
-        step_walk_by profile n i x (omega arith) e
-        ∙ ap (λ (w : Walk). after_item i.at x.0 w) (walk_enough profile n x.1 (omega arith) (taken_bytes i x.1 found.part found.taken h))
+walk_step profile i x h e =
+    let found = step_found profile i x.1 x.0 h e in
+    let lt = step_shorter profile i x.0 x.1 h e in
+    let some : length i.bytes ≡ suc (length i.bytes - 1) = omega arith in
+    ap (λ (n : ℕ). walk_by profile n i) some
+    ∙ step_walk_by profile (length i.bytes - 1) i x (omega arith) e
+    ∙ ap (λ (w : Walk). after_item i.at x.0 w) (walk_enough profile (length i.bytes - 1) x.1 (omega arith) (taken_bytes i x.1 found.part found.taken h))
 
 pub walk_stuck : (profile : Profile) (i : Input) (r : Refusal) → 0 < length i.bytes → step_at profile i ≡ Err r → walk profile i ≡ ended (Some r)
 unfolding walk
-walk_stuck profile i r some e = go (length i.bytes) some
-  where
-    go : (n : ℕ) → 0 < n → walk_by profile n i ≡ ended (Some r)
-    go zero lt = absurd (omega arith)
-    go (suc n) lt = stuck_walk_by profile n i r some e
+walk_stuck profile i r some e = let long : length i.bytes ≡ suc (length i.bytes - 1) = omega arith in ap (λ (n : ℕ). walk_by profile n i) long ∙ stuck_walk_by profile (length i.bytes - 1) i r some e
 
 pub walk_end : (profile : Profile) (i : Input) → length i.bytes ≡ 0 → walk profile i ≡ ended None
 unfolding walk
-walk_end profile i e = ap (λ (l : List ℕ). walk_by profile (length l) (input i.at l i.target)) (nothing i.bytes (omega arith)) ∙ end_walk_by profile 0 i.at i.target
+walk_end profile i e = ap (λ (l : List ℕ). walk_by profile (length l) (input i.at l i.target)) (nil_from_length i.bytes e) ∙ end_walk_by profile 0 i.at i.target

@@ -1,32 +1,17 @@
 -- Where operations begin in their least spelling, by the lengths before them.
-use Rattle.std.proofs.Common.{◌≡◌, ℕ, zero, suc, ◌+◌, ◌-◌, ◌<◌, ◌≤◌, ◌^◌, List, [], ◌∷◌, ◌++◌, length, drop, Option, Some, None, Result, Ok, refl, sym, ap, subst, ◌∙◌, inl, inr, arith}
-use Rattle.std.proofs.Math.Seq.{drop-append_seam}
-use Rattle.std.proofs.lemmas.List.{length-append, drop-drop}
-use Rattle.dw_num.specs.declared.refusal.Refusal.{Refusal}
-use Rattle.dw_num.specs.declared.target.Target.{Target}
-use Rattle.dw_num.specs.Input.{Input, AreBytes, Takes, behind}
-use Rattle.dw_num.proofs.Lent.FixedLaws.{length-fixed}
-use Rattle.dw_num.proofs.Lent.LebLaws.{done}
-use Rattle.dw_op.specs.declared.layout.Places.{Places}
-use Rattle.dw_op.specs.declared.layout.Point.{Point}
+use Rattle.dw_op.proofs.Words.{◌≡◌, ℕ, zero, suc, ◌+◌, ◌-◌, ◌<◌, ◌≤◌, ◌^◌, List, [], ◌∷◌, ◌++◌, length, take, drop, Option, Some, None, refl, sym, ap, subst, ◌∙◌, arith, drop-append_seam, length-append, Target, Takes-then, Input, AreBytes}
+use Rattle.dw_op.proofs.Words.{Takes, behind, length-fixed, took, done, Places, Point, Op, Frame, Branch, Step, Plain, Jump, IsAccepted, ops_of, least_bytes, least_spelling, least_lengths, total, together, step_length, item_lengths}
+use Rattle.dw_op.proofs.Words.{lengths_at, IsLater, IsPoint, InRoom, IsStartMark, AreStartMarks, ArePlaces, step_at, Item, Walk, walk, index_in, find_at, goes_to, branch_to, op_of, resolve, block_input}
 use Rattle.dw_op.specs.declared.layout.StartMark.{StartMark}
-use Rattle.dw_op.specs.declared.op.Op.{Op}
 use Rattle.dw_op.specs.declared.op.Op.TheVariants as ops
-use Rattle.dw_op.specs.declared.profile.Profile.TheVariants.{Frame}
-use Rattle.dw_op.specs.declared.operation.Branch.{Branch}
 use Rattle.dw_op.specs.declared.operation.Branch.TheVariants.{Bra, Skip}
-use Rattle.dw_op.specs.declared.operation.Step.{Step}
-use Rattle.dw_op.specs.declared.operation.Step.TheVariants.{Plain, Jump}
-use Rattle.dw_op.specs.Inner.Accepted.{IsAccepted, ops_of}
-use Rattle.dw_op.specs.Inner.LeastOf.{least_bytes, least_spelling}
-use Rattle.dw_op.specs.Inner.Lengths.{least_lengths, total, together, step_length, item_lengths, lengths_at}
-use Rattle.dw_op.specs.Inner.Points.{IsLater, IsPoint, InRoom, IsStartMark, AreStartMarks, ArePlaces}
-use Rattle.dw_op.specs.Inner.FrontOp.{step_at}
-use Rattle.dw_op.specs.Inner.Walk.{Item, Walk, walk, index_in, find_at, goes_to, branch_to, op_of, put_first, resolve, unless, block_input, decode_at}
-use Rattle.dw_op.proofs.Decoded.{within_all, within_more, answered, same_ops}
-use Rattle.dw_op.proofs.Judgement.{accepted_ops, accepted_read}
+use Rattle.dw_op.proofs.Decoded.{within_all, within_more}
+use Rattle.dw_op.proofs.Lent.Blocks.{answered, same_ops, first_of_all}
+use Rattle.dw_op.proofs.Judgement.{accepted_ops, accepted_read, resolved_is}
 use Rattle.dw_op.proofs.Splits.{walk_step, walk_end}
-use Rattle.dw_op.proofs.Marked.{input_is, got_from}
+use Rattle.dw_op.proofs.WalkStarts.{read_on}
+use Rattle.dw_op.proofs.Lent.ReadingLaws.{step_found}
+use Rattle.dw_op.proofs.Marked.{input_is, each_more}
 
 -- ---- points
 
@@ -83,12 +68,6 @@ pub record Toward (from : Point) (goal : ℕ) (p : Point) : Type 0 where
 
 -- ---- what is left later
 
-pub later_none : (i : Input) → AreBytes i.bytes → (walk Frame i).fault ≡ None → IsLater i i
-later_none i h read = record { bytes = h; read = read; within = omega arith; is = subst (λ (n : ℕ). i ≡ behind n i) zero_left (input_is i (behind 0 i) (omega arith) refl refl) }
-  where
-    zero_left : 0 ≡ length i.bytes - length i.bytes
-    zero_left = omega arith
-
 -- behind what was taken
 pub later_one : (i j : Input) (taken : List ℕ) → Takes i taken j → AreBytes j.bytes → (walk Frame j).fault ≡ None → IsLater i j
 later_one i j taken h are read =
@@ -102,19 +81,26 @@ later_one i j taken h are read =
       is = subst (λ (m : ℕ). j ≡ behind m i) (sym n) (input_is j (behind (length taken) i) h.at (sym rest) h.target);
     }
 
+pub later_none : (i : Input) → AreBytes i.bytes → (walk Frame i).fault ≡ None → IsLater i i
+later_none i h read = later_one i i [] (record { bytes = refl; at = omega arith; target = refl }) h read
+
+later_taken : (i j : Input) → IsLater i j → (b : List ℕ) × Takes i b j
+later_taken i j h =
+    let n = length i.bytes - length j.bytes in
+    (take n i.bytes, subst (Takes i (take n i.bytes)) (sym h.is) (took i n (omega arith)))
+
 pub later_on : (i j k : Input) → IsLater i j → IsLater j k → IsLater i k
 later_on i j k h q =
-    let n = length i.bytes - length j.bytes in
-    let m = length j.bytes - length k.bytes in
-    let both : length i.bytes - length k.bytes ≡ n + m = omega (arith, h.within, q.within) in
-    let at : k.at ≡ i.at + (n + m) = omega (arith, ap (λ (x : Input). x.at) h.is, ap (λ (x : Input). x.at) q.is) in
-    let rest : k.bytes ≡ drop (n + m) i.bytes = ap (λ (x : Input). x.bytes) q.is ∙ ap (λ (x : Input). drop m x.bytes) h.is ∙ drop-drop m n i.bytes in
-    record {
-      bytes = q.bytes;
-      read = q.read;
-      within = omega (arith, h.within, q.within);
-      is = subst (λ (l : ℕ). k ≡ behind l i) (sym both) (input_is k (behind (n + m) i) at rest (ap (λ (x : Input). x.target) q.is ∙ ap (λ (x : Input). x.target) h.is));
-    }
+    let a = later_taken i j h in
+    let b = later_taken j k q in
+    later_one i k (a.0 ++ b.0) (Takes-then i j k a.0 b.0 a.1 b.1) q.bytes q.read
+
+-- behind an operation that is read
+pub later_read : (i : Input) (step : Step) (new : Input) → AreBytes i.bytes → (walk Frame i).fault ≡ None → step_at Frame i ≡ done (step, new) → IsLater i new
+later_read i step new h read e =
+    let within = within_all i h in
+    let found = step_found Frame i new step h e in
+    later_one i new found.part found.taken (within_more Frame i i (step, new) within e).bytes (read_on i i (step, new) within read e)
 
 -- ---- points behind a point
 
@@ -147,15 +133,6 @@ mark_at lengths first p bytes is later h =
       point = subst (λ (j : Input). IsPoint lengths (record { index = p.index; start = p.start; rest = j })) there h;
     }
 
-pub marks_none : (lengths : List ℕ) (first : Input) → AreStartMarks lengths first []
-marks_none lengths first k mark e = absurd cc
-
-marks_more : (lengths : List ℕ) (first : Input) (marks : List StartMark) (last : StartMark) → AreStartMarks lengths first marks → IsStartMark lengths first last → AreStartMarks lengths first (marks ++ last ∷ [])
-marks_more lengths first marks last h is k mark e = elim (got_from marks last k mark e) [
-  | inl q ↦ h k mark q
-  | inr q ↦ subst (λ (s : StartMark). IsStartMark lengths first s) (sym q.1) is
-]
-
 pub mark_more : (first : Input) (low p q : Point) (marks : List StartMark) (bytes : ℕ) → Marking first low p marks
     → ((lengths : List ℕ) → IsPoint lengths p → IsPoint lengths q) → IsLater p.rest q.rest → bytes ≡ length first.bytes - length q.rest.bytes
     → Marking first low q (marks ++ record { bytes = bytes; index = q.index; start = q.start } ∷ [])
@@ -165,7 +142,7 @@ mark_more first low p q marks bytes h on later is =
       room = room_same p q h.room on;
       same = λ lengths from. on lengths (h.same lengths from);
       later = behind;
-      marked = λ lengths from. marks_more lengths first marks (record { bytes = bytes; index = q.index; start = q.start }) (h.marked lengths from) (mark_at lengths first q bytes is behind (on lengths (h.same lengths from)));
+      marked = λ lengths from. each_more (λ k. IsStartMark lengths first) marks (record { bytes = bytes; index = q.index; start = q.start }) (h.marked lengths from) (mark_at lengths first q bytes is behind (on lengths (h.same lengths from)));
     }
 
 -- ---- places that come up
@@ -190,48 +167,27 @@ same_len : (t : Target) (find : ℕ → Option ℕ) (at : ℕ) (step : Step) (op
 same_len t find at (Plain o) op e = let is : o ≡ op = cc in ap (λ (x : Op). length (least_bytes t 0 x)) is
 same_len t find at (Jump branch number) op e = jump_len t branch (find_at find (goes_to (at + 3) number)) op e
 
-record First (at : ℕ) (o : Option Op) (r : Result (List Op) Refusal) (ops : List Op) : Type 0 where
-  op : Op
-  more : List Op
-  first : o ≡ Some op
-  rest : r ≡ answered more
-  is : ops ≡ op ∷ more
-
-first : (at : ℕ) (o : Option Op) (r : Result (List Op) Refusal) (ops : List Op) → put_first o at r ≡ answered ops → First at o r ops
-first at (Some op) (Ok more) ops e = record { op = op; more = more; first = refl; rest = refl; is = sym (same_ops (op ∷ more) ops e) }
-first at o r ops e = absurd cc
-
 resolved_lengths : (t : Target) (find : ℕ → Option ℕ) (items : List Item) (ops : List Op) → resolve find items ≡ answered ops → item_lengths t items ≡ least_lengths t ops
 resolved_lengths t find [] ops e = ap (λ (l : List Op). least_lengths t l) (same_ops [] ops e)
 resolved_lengths t find (item ∷ items) ops e =
-    let h = first item.at (op_of find item.at item.step) (resolve find items) ops e in
+    let h = first_of_all item.at (op_of find item.at item.step) (resolve find items) ops e in
     ap (λ (n : ℕ). n ∷ item_lengths t items) (same_len t find item.at item.step h.op h.first)
     ∙ ap (λ (l : List ℕ). length (least_bytes t 0 h.op) ∷ l) (resolved_lengths t find items h.more h.rest)
     ∙ ap (λ (l : List Op). least_lengths t l) (sym h.is)
-
-unless_none : (f : Option Refusal) (r : Result (List Op) Refusal) → f ≡ None → unless f r ≡ r
-unless_none f r e = rw e refl
-
-items_good : (t : Target) (bytes : List ℕ) → IsAccepted t bytes → decode_at Frame (block_input t bytes) ≡ answered (ops_of t bytes)
-    → resolve (index_in Frame (block_input t bytes)) (walk Frame (block_input t bytes)).items ≡ answered (ops_of t bytes)
-unfolding decode_at
-items_good t bytes h e =
-    let i = block_input t bytes in
-    sym (unless_none (walk Frame i).fault (resolve (index_in Frame i) (walk Frame i).items) (accepted_read t bytes h)) ∙ e
 
 pub lengths_all : (t : Target) (bytes : List ℕ) → IsAccepted t bytes → lengths_at (block_input t bytes) ≡ least_lengths t (ops_of t bytes)
 unfolding lengths_at
 lengths_all t bytes h =
     let i = block_input t bytes in
-    resolved_lengths t (index_in Frame i) (walk Frame i).items (ops_of t bytes) (items_good t bytes h (accepted_ops t bytes h))
+    resolved_lengths t (index_in Frame i) (walk Frame i).items (ops_of t bytes) (sym (resolved_is i (resolve (index_in Frame i) (walk Frame i).items) (accepted_read t bytes h) refl) ∙ accepted_ops t bytes h)
 
 pub lengths_end : (i : Input) → length i.bytes ≡ 0 → lengths_at i ≡ []
 unfolding lengths_at
 lengths_end i e = ap (λ (w : Walk). item_lengths i.target w.items) (walk_end Frame i e)
 
-pub lengths_more : (i : Input) (x : Step × Input) → AreBytes i.bytes → step_at Frame i ≡ done x → lengths_at i ≡ step_length i.target x.0 ∷ lengths_at x.1
+pub lengths_more : (i : Input) (step : Step) (new : Input) → AreBytes i.bytes → step_at Frame i ≡ done (step, new) → lengths_at i ≡ step_length i.target step ∷ lengths_at new
 unfolding lengths_at
-lengths_more i x h e =
-    let same = (within_more Frame i i x (within_all i h) e).target in
-    ap (λ (w : Walk). item_lengths i.target w.items) (walk_step Frame i x h e)
-    ∙ ap (λ (t : Target). step_length i.target x.0 ∷ item_lengths t (walk Frame x.1).items) (sym same)
+lengths_more i step new h e =
+    let same = (within_more Frame i i (step, new) (within_all i h) e).target in
+    ap (λ (w : Walk). item_lengths i.target w.items) (walk_step Frame i (step, new) h e)
+    ∙ ap (λ (t : Target). step_length i.target step ∷ item_lengths t (walk Frame new).items) (sym same)

@@ -1,20 +1,9 @@
 -- Walks from an operation on, and what they know of the block's starts.
-use Rattle.std.proofs.Common.{◌≡◌, ℕ, ◌+◌, ◌<◌, ◌≤◌, List, [], ◌∷◌, ◌++◌, length, Option, Some, None, Result, Ok, Err, refl, sym, ap, ◌∙◌, arith}
-use Rattle.std.proofs.lemmas.Bool.{eq-eqb, ne_eqb}
-use Rattle.std.proofs.lemmas.List.{length-append, append_assoc}
-use Rattle.dw_num.specs.declared.refusal.Refusal.{Refusal}
-use Rattle.dw_num.specs.declared.target.Target.{Target}
-use Rattle.dw_num.specs.Input.{Input, AreBytes}
-use Rattle.dw_num.proofs.Lent.LebLaws.{done}
-use Rattle.dw_op.specs.declared.profile.Profile.TheVariants.{Frame}
-use Rattle.dw_op.specs.declared.operation.Step.{Step}
-use Rattle.dw_op.specs.Block.{joined}
-use Rattle.dw_op.specs.Inner.FrontOp.{step_at}
-use Rattle.dw_op.specs.Inner.Walk.{Item, Walk, walk, end_of, plus, passed, one}
-use Rattle.dw_op.specs.Inner.Windows.{Shifted}
+use Rattle.dw_op.proofs.Words.{cases_lt, inl, inr, ◌≡◌, ℕ, ◌+◌, ◌<◌, ◌≤◌, List, [], ◌∷◌, ◌++◌, length, Option, Some, None, Result, Ok, Err, refl, sym, ap, ◌∙◌, arith, eq-eqb, ne_eqb, length-append, append_assoc, Refusal, Target, Input}
+use Rattle.dw_op.proofs.Words.{AreBytes, done, Frame, Step, joined, step_at, Item, Walk, walk, end_of, plus, passed, one, Shifted}
 use Rattle.dw_op.proofs.Lent.ReadingLaws.{step_found}
-use Rattle.dw_op.proofs.Splits.{EachSpells, items_from, split_of, walk_step, walk_stuck, walk_end}
-use Rattle.dw_op.proofs.Decoded.{Within, within_all, within_more, step_shorter}
+use Rattle.dw_op.proofs.Splits.{EachSpells, items_from, split_of, walk_step, walk_stuck, walk_end, step_shorter}
+use Rattle.dw_op.proofs.Decoded.{Within, within_more}
 
 abbrev starts_at : ℕ → Input → ℕ → Option ℕ
 starts_at end j place = passed one (walk Frame j).items end place
@@ -25,6 +14,13 @@ starts_step end j x place h e lt =
     let ne : place ≡ j.at → ⊥ = λ same. omega arith in
     ap (λ (w : Walk). passed one w.items end place) (walk_step Frame j x h e) ∙ rw (ne_eqb place j.at ne) refl
 
+-- a walk without fault does not stop before the end
+pub never_stuck : (j : Input) (r : Refusal) → (walk Frame j).fault ≡ None → step_at Frame j ≡ Err r → length j.bytes ≡ 0
+never_stuck j r read e = elim (cases_lt 0 (length j.bytes)) [
+  | inl some ↦ let k : Some r ≡ None = sym (ap (λ (w : Walk). w.fault) (walk_stuck Frame j r some e)) ∙ read in absurd cc
+  | inr none ↦ omega arith
+]
+
 -- where the input begins
 starts_here : (j : Input) → AreBytes j.bytes → (walk Frame j).fault ≡ None → starts_at (end_of j) j j.at ≡ Some 0
 starts_here j h read = go j.bytes refl (step_at Frame j) refl
@@ -33,37 +29,21 @@ starts_here j h read = go j.bytes refl (step_at Frame j) refl
     go [] empty r e =
         ap (λ (w : Walk). passed one w.items (end_of j) j.at) (walk_end Frame j (ap length empty)) ∙ rw (eq-eqb j.at (end_of j) (omega (arith, ap length empty))) refl
     go (b ∷ l) full (Ok x) e = ap (λ (w : Walk). passed one w.items (end_of j) j.at) (walk_step Frame j x h e) ∙ rw (eq-eqb j.at j.at refl) refl
-    go (b ∷ l) full (Err r) e =
-        let k : Some r ≡ None = sym (ap (λ (w : Walk). w.fault) (walk_stuck Frame j r (omega (arith, ap length full)) e)) ∙ read in
-        absurd cc
+    go (b ∷ l) full (Err r) e = absurd (omega (arith, ap length full, never_stuck j r read e))
 
--- before it begins there is no start
-parts_past : (t : Target) (steps : List Step) (parts : List (List ℕ)) (at end place : ℕ) → EachSpells Frame t steps parts → at + length (joined parts) ≤ end → place < at → passed one (items_from at steps parts) end place ≡ None
-parts_past t [] [] at end place h le lt = let ne : place ≡ end → ⊥ = λ same. omega arith in rw (ne_eqb place end ne) refl
-parts_past t (step ∷ steps) (part ∷ parts) at end place h le lt =
-    let ne : place ≡ at → ⊥ = λ same. omega arith in
-    rw (ne_eqb place at ne, parts_past t steps parts (at + length part) end place h.1 (omega (arith, length-append part (joined parts))) (omega arith)) refl
-parts_past t steps parts at end place h le lt = absurd h
+-- where nothing lies there is no start
+parts_off : (t : Target) (steps : List Step) (parts : List (List ℕ)) (at end place : ℕ) → EachSpells Frame t steps parts → at + length (joined parts) ≤ end → ((n : ℕ) → at ≤ n → n ≤ end → place ≡ n → ⊥) → passed one (items_from at steps parts) end place ≡ None
+parts_off t [] [] at end place h le off = rw (ne_eqb place end (off end (omega arith) (omega arith))) refl
+parts_off t (step ∷ steps) (part ∷ parts) at end place h le off =
+    let len = length-append part (joined parts) in
+    rw (ne_eqb place at (off at (omega arith) (omega arith)), parts_off t steps parts (at + length part) end place h.1 (omega arith) (λ n from to. off n (omega arith) to)) refl
+parts_off t steps parts at end place h le off = absurd h
 
-starts_before : (j : Input) (place : ℕ) → AreBytes j.bytes → place < j.at → starts_at (end_of j) j place ≡ None
-starts_before j place h lt =
+starts_off : (j : Input) (place : ℕ) → AreBytes j.bytes → ((n : ℕ) → j.at ≤ n → n ≤ end_of j → place ≡ n → ⊥) → starts_at (end_of j) j place ≡ None
+starts_off j place h off =
     let s = split_of Frame j h in
     let le : j.at + length (joined s.parts) ≤ end_of j = omega (arith, ap length s.whole, length-append (joined s.parts) s.rest) in
-    ap (λ (l : List Item). passed one l (end_of j) place) s.items ∙ parts_past j.target s.steps s.parts j.at (end_of j) place s.each le lt
-
--- past the end there is none
-parts_beyond : (t : Target) (steps : List Step) (parts : List (List ℕ)) (at end place : ℕ) → EachSpells Frame t steps parts → at + length (joined parts) ≤ end → end < place → passed one (items_from at steps parts) end place ≡ None
-parts_beyond t [] [] at end place h le lt = let ne : place ≡ end → ⊥ = λ same. omega arith in rw (ne_eqb place end ne) refl
-parts_beyond t (step ∷ steps) (part ∷ parts) at end place h le lt =
-    let ne : place ≡ at → ⊥ = λ same. omega (arith, length-append part (joined parts)) in
-    rw (ne_eqb place at ne, parts_beyond t steps parts (at + length part) end place h.1 (omega (arith, length-append part (joined parts))) lt) refl
-parts_beyond t steps parts at end place h le lt = absurd h
-
-starts_beyond : (j : Input) (place : ℕ) → AreBytes j.bytes → end_of j < place → starts_at (end_of j) j place ≡ None
-starts_beyond j place h lt =
-    let s = split_of Frame j h in
-    let le : j.at + length (joined s.parts) ≤ end_of j = omega (arith, ap length s.whole, length-append (joined s.parts) s.rest) in
-    ap (λ (l : List Item). passed one l (end_of j) place) s.items ∙ parts_beyond j.target s.steps s.parts j.at (end_of j) place s.each le lt
+    ap (λ (l : List Item). passed one l (end_of j) place) s.items ∙ parts_off j.target s.steps s.parts j.at (end_of j) place s.each le off
 
 plus_plus : (n m : ℕ) (o : Option ℕ) → plus (n + m) o ≡ plus n (plus m o)
 plus_plus n m None = refl
@@ -76,52 +56,6 @@ plus_zero (Some k) = ap (λ (j : ℕ). Some j) (omega arith)
 -- the walk over what is left is without fault
 pub read_on : (i j : Input) (x : Step × Input) → Within i j → (walk Frame j).fault ≡ None → step_at Frame j ≡ done x → (walk Frame x.1).fault ≡ None
 read_on i j x h read e = sym (ap (λ (w : Walk). w.fault) (walk_step Frame j x h.bytes e)) ∙ read
-
--- a walk without fault does not stop before the end
-pub never_stuck : {P : Type 0} (j : Input) (r : Refusal) → (walk Frame j).fault ≡ None → 0 < length j.bytes → step_at Frame j ≡ Err r → P
-never_stuck j r read some e =
-    let k : Some r ≡ None = sym (ap (λ (w : Walk). w.fault) (walk_stuck Frame j r some e)) ∙ read in
-    absurd cc
-
--- ---- the number of a place
-
-pub record CountSo (i j : Input) (place count : ℕ) : Type 0 where
-  pub within : Within i j
-  pub read : (walk Frame j).fault ≡ None
-  pub few : count + length j.bytes ≤ length i.bytes
-  pub same : plus count (starts_at (end_of i) j place) ≡ starts_at (end_of i) i place
-
-pub count_none : (i : Input) (place : ℕ) → AreBytes i.bytes → (walk Frame i).fault ≡ None → CountSo i i place 0
-count_none i place h read = record { within = within_all i h; read = read; few = omega arith; same = plus_zero (starts_at (end_of i) i place) }
-
-pub count_more : (i j : Input) (place count : ℕ) (x : Step × Input) → CountSo i j place count → step_at Frame j ≡ done x → j.at < place → CountSo i x.1 place (count + 1)
-count_more i j place count x h e lt = record {
-  within = within_more Frame i j x h.within e;
-  read = read_on i j x h.within h.read e;
-  few = omega (arith, h.few, step_shorter Frame j x h.within.bytes e);
-  same = plus_plus count 1 (starts_at (end_of i) x.1 place) ∙ ap (λ (o : Option ℕ). plus count o) (sym (starts_step (end_of i) j x place h.within.bytes e lt)) ∙ h.same;
-}
-
-pub count_stuck : (i j : Input) (place count : ℕ) (r : Refusal) → CountSo i j place count → step_at Frame j ≡ Err r → j.at < place → None ≡ starts_at (end_of i) i place
-count_stuck i j place count r h e lt = go j.bytes refl
-  where
-    go : (l : List ℕ) → j.bytes ≡ l → None ≡ starts_at (end_of i) i place
-    go [] empty =
-        let past : starts_at (end_of j) j place ≡ None = starts_beyond j place h.within.bytes (omega (arith, ap length empty)) in
-        sym (ap (λ (o : Option ℕ). plus count o) (ap (λ (n : ℕ). starts_at n j place) (sym h.within.end) ∙ past)) ∙ h.same
-    go (b ∷ l) full = never_stuck j r h.read (omega (arith, ap length full)) e
-
-pub count_here : (i j : Input) (place count : ℕ) → CountSo i j place count → j.at ≡ place → Some count ≡ starts_at (end_of i) i place
-count_here i j place count h e =
-    let here : starts_at (end_of j) j place ≡ Some 0 = ap (λ (n : ℕ). starts_at (end_of j) j n) (sym e) ∙ starts_here j h.within.bytes h.read in
-    let moved : starts_at (end_of i) j place ≡ Some 0 = ap (λ (n : ℕ). starts_at n j place) (sym h.within.end) ∙ here in
-    let zero_more : count + 0 ≡ count = omega arith in
-    ap (λ (n : ℕ). Some n) (sym zero_more) ∙ ap (λ (o : Option ℕ). plus count o) (sym moved) ∙ h.same
-
-pub count_past : (i j : Input) (place count : ℕ) → CountSo i j place count → place < j.at → None ≡ starts_at (end_of i) i place
-count_past i j place count h lt =
-    let past : starts_at (end_of i) j place ≡ None = ap (λ (n : ℕ). starts_at n j place) (sym h.within.end) ∙ starts_before j place h.within.bytes lt in
-    sym (ap (λ (o : Option ℕ). plus count o) past) ∙ h.same
 
 -- ---- windows
 
@@ -138,19 +72,19 @@ pub shifted_all : (i : Input) (low : ℕ) → AreBytes i.bytes → (walk Frame i
 shifted_all i low h read = record { bytes = h; end = refl; target = refl; read = read; few = omega arith; front = ([], refl); same = λ place le. plus_zero (starts_at (end_of i) i place) }
 
 -- one operation further, where it begins below low
-pub shifted_more : (i : Input) (low count : ℕ) (j : Input) (x : Step × Input) → Shifted i low count j → step_at Frame j ≡ done x → j.at < low → Shifted i low (count + 1) x.1
-shifted_more i low count j x h e lt =
+pub shifted_more : (i : Input) (low count : ℕ) (j : Input) (step : Step) (new : Input) → Shifted i low count j → step_at Frame j ≡ done (step, new) → j.at < low → Shifted i low (count + 1) new
+shifted_more i low count j step new h e lt =
     let w = shifted_within i low count j h in
-    let m = within_more Frame i j x w e in
+    let m = within_more Frame i j (step, new) w e in
     record {
       bytes = m.bytes;
       end = m.end;
       target = m.target;
-      read = read_on i j x w h.read e;
-      few = omega (arith, h.few, step_shorter Frame j x h.bytes e);
-      front = let found = step_found Frame j x.1 x.0 h.bytes e in front_on i.bytes j.bytes x.1.bytes h.front (found.part, found.taken.bytes);
+      read = read_on i j (step, new) w h.read e;
+      few = omega (arith, h.few, step_shorter Frame j step new h.bytes e);
+      front = let found = step_found Frame j new step h.bytes e in front_on i.bytes j.bytes new.bytes h.front (found.part, found.taken.bytes);
       same = λ place le.
-          plus_plus count 1 (starts_at (end_of i) x.1 place) ∙ ap (λ (o : Option ℕ). plus count o) (sym (starts_step (end_of i) j x place h.bytes e (omega arith))) ∙ h.same place le;
+          plus_plus count 1 (starts_at (end_of i) new place) ∙ ap (λ (o : Option ℕ). plus count o) (sym (starts_step (end_of i) j (step, new) place h.bytes e (omega arith))) ∙ h.same place le;
     }
 
 pub shifted_later : (i : Input) (low lower count : ℕ) (j : Input) → lower ≤ low → Shifted i lower count j → Shifted i low count j
@@ -170,3 +104,22 @@ shifted_on i low n m j k h q = record {
       ∙ ap (λ (o : Option ℕ). plus n o) (ap (λ (e : ℕ). plus m (starts_at e k place)) (sym h.end) ∙ q.same place le ∙ ap (λ (e : ℕ). starts_at e j place) h.end)
       ∙ h.same place le;
 }
+
+-- ---- the number of a place
+
+module _ (i : Input) (place count : ℕ) (j : Input) (h : Shifted i place count j) where
+  none_there : ((n : ℕ) → j.at ≤ n → n ≤ end_of j → place ≡ n → ⊥) → None ≡ starts_at (end_of i) i place
+  none_there off = sym (ap (λ (o : Option ℕ). plus count o) (ap (λ (n : ℕ). starts_at n j place) (sym h.end) ∙ starts_off j place h.bytes off)) ∙ h.same place (omega arith)
+
+  pub count_stuck : (r : Refusal) → step_at Frame j ≡ Err r → j.at < place → None ≡ starts_at (end_of i) i place
+  count_stuck r e lt = none_there (λ n from to same. omega (arith, never_stuck j r h.read e))
+
+  pub count_here : j.at ≡ place → Some count ≡ starts_at (end_of i) i place
+  count_here e =
+      let here : starts_at (end_of j) j place ≡ Some 0 = ap (λ (n : ℕ). starts_at (end_of j) j n) (sym e) ∙ starts_here j h.bytes h.read in
+      let moved : starts_at (end_of i) j place ≡ Some 0 = ap (λ (n : ℕ). starts_at n j place) (sym h.end) ∙ here in
+      let zero_more : count + 0 ≡ count = omega arith in
+      ap (λ (n : ℕ). Some n) (sym zero_more) ∙ ap (λ (o : Option ℕ). plus count o) (sym moved) ∙ h.same place (omega arith)
+
+  pub count_past : place < j.at → None ≡ starts_at (end_of i) i place
+  count_past lt = none_there (λ n from to same. omega arith)

@@ -1,21 +1,7 @@
 -- Worked faults of operands and branches.
-use Rattle.std.proofs.Common.{◌≡◌, ℕ, zero, suc, List, [], ◌∷◌, Option, Some, None, Result, Ok, Err, refl, subst, ◌∙◌, inl, inr, arith}
-use Rattle.std.specs.Int.{w16}
-use Rattle.std.proofs.lemmas.Int.{ints}
-use Rattle.dw_num.specs.declared.refusal.Code.TheVariants.{Truncated, NumberTooLarge, RegisterTooLarge, BadDerefSize, BadBranch}
-use Rattle.dw_num.specs.declared.refusal.Refusal.{Refusal}
-use Rattle.dw_num.specs.declared.target.Target.{Target}
-use Rattle.dw_num.specs.declared.target.Size.TheVariants.{Four}
-use Rattle.dw_num.specs.declared.target.Order.TheVariants.{Little}
-use Rattle.dw_num.specs.Input.{Input}
-use Rattle.dw_num.specs.Fixed.{FixedSigned}
-use Rattle.dw_num.specs.Front.{fixed_at, take_at, uleb_at, sleb_at, register_at}
-use Rattle.dw_op.specs.declared.op.Op.TheVariants.{Bra, Const, Reg, Dup, StackValue}
-use Rattle.dw_op.specs.declared.profile.Profile.TheVariants.{Location}
-use Rattle.dw_op.specs.OpSpells.{Code, AnyTwo}
-use Rattle.dw_op.specs.Block.{displacement, Displaced}
-use Rattle.dw_op.specs.Operands.{Form, none, form_of, form_at}
-use Rattle.dw_op.specs.Faults.{BlockFault, Leads}
+use Rattle.dw_op.proofs.Words.{◌≡◌, ℕ, zero, suc, List, [], ◌∷◌, Option, Some, None, Result, Ok, Err, refl, subst, ◌∙◌, inl, inr, arith, w16, ints, Truncated, NumberTooLarge, RegisterTooLarge, BadDerefSize, BadBranch, Refusal, Target, Four}
+use Rattle.dw_op.proofs.Words.{Little, Input, FixedSigned, fixed_at, take_at, uleb_at, sleb_at, register_at, Bra, Const, Reg, Dup, StackValue, Location, Code, AnyTwo, displacement, Displaced, Form, none, form_of, form_at, BlockFault, Leads}
+use Rattle.dw_num.specs.declared.refusal.Code as codes
 use Rattle.dw_op.proofs.Lent.ReadingLaws.{some_is}
 use Rattle.dw_op.proofs.Lent.Spellings.{in_table}
 
@@ -34,52 +20,29 @@ abbrev past_fields : Option Form → Input → Option (Result Input Refusal)
 past_fields None i = None
 past_fields (Some form) i = Some (form_at form i)
 
--- addr with three of its four bytes
-short_address : past_fields (form_of narrow 0x03) (behind_code (1 ∷ 2 ∷ 3 ∷ [])) ≡ Some (Err (record { code = Truncated; at = 1 }))
-unfolding form_of take_at
-short_address = refl
+-- what stands behind a code is refused at a place, or ends there
+abbrev Refused : ℕ → List ℕ → codes.Code → ℕ → Type 0
+Refused code bytes why place = past_fields (form_of narrow code) (behind_code bytes) ≡ Some (Err (record { code = why; at = place }))
 
--- deref_size of 0, of 5 bytes, and of 4
-no_bytes : past_fields (form_of narrow 0x94) (behind_code (0 ∷ [])) ≡ Some (Err (record { code = BadDerefSize; at = 1 }))
-unfolding form_of fixed_at
-no_bytes = refl
+abbrev Ends : ℕ → List ℕ → ℕ → Type 0
+Ends code bytes place = past_fields (form_of narrow code) (behind_code bytes) ≡ Some (Ok (at_end place))
 
-five_bytes : past_fields (form_of narrow 0x94) (behind_code (5 ∷ [])) ≡ Some (Err (record { code = BadDerefSize; at = 1 }))
-unfolding form_of fixed_at
-five_bytes = refl
+-- addr with three of its four bytes, bregx of register 200 with an offset that does not end, implicit_value of five bytes of which two stand there, and breg31, which has an offset
+cut_short : Refused 0x03 (1 ∷ 2 ∷ 3 ∷ []) Truncated 1 × Refused 0x92 (0xc8 ∷ 0x01 ∷ 0x80 ∷ []) Truncated 3 × Refused 0x9e (5 ∷ 1 ∷ 2 ∷ []) Truncated 2 × Refused 0x8f [] Truncated 1
+unfolding form_of take_at register_at uleb_at sleb_at
+cut_short = (refl, refl, refl, refl)
 
-four_bytes : past_fields (form_of narrow 0x94) (behind_code (4 ∷ [])) ≡ Some (Ok (at_end 2))
-unfolding form_of fixed_at
-four_bytes = refl
+-- deref_size of 0 and of 5 bytes, bregx of register 65536, and constu of 2 ^ 64
+too_large : Refused 0x94 (0 ∷ []) BadDerefSize 1 × Refused 0x94 (5 ∷ []) BadDerefSize 1 × Refused 0x92 (0x80 ∷ 0x80 ∷ 0x04 ∷ []) RegisterTooLarge 1 × Refused 0x10 (0x80 ∷ 0x80 ∷ 0x80 ∷ 0x80 ∷ 0x80 ∷ 0x80 ∷ 0x80 ∷ 0x80 ∷ 0x80 ∷ 0x02 ∷ []) NumberTooLarge 1
+unfolding form_of fixed_at register_at uleb_at
+too_large = (refl, refl, refl, refl)
 
--- bregx of register 65536; of register 200 with an offset that does not end, and with one that does
-large_register : past_fields (form_of narrow 0x92) (behind_code (0x80 ∷ 0x80 ∷ 0x04 ∷ [])) ≡ Some (Err (record { code = RegisterTooLarge; at = 1 }))
-unfolding form_of register_at uleb_at
-large_register = refl
+-- deref_size of 4 bytes, and bregx of register 200 with an offset
+read_whole : Ends 0x94 (4 ∷ []) 2 × Ends 0x92 (0xc8 ∷ 0x01 ∷ 0x7f ∷ []) 4
+unfolding form_of fixed_at register_at uleb_at sleb_at
+read_whole = (refl, refl)
 
-endless_offset : past_fields (form_of narrow 0x92) (behind_code (0xc8 ∷ 0x01 ∷ 0x80 ∷ [])) ≡ Some (Err (record { code = Truncated; at = 3 }))
-unfolding form_of register_at uleb_at sleb_at
-endless_offset = refl
-
-register_offset : past_fields (form_of narrow 0x92) (behind_code (0xc8 ∷ 0x01 ∷ 0x7f ∷ [])) ≡ Some (Ok (at_end 4))
-unfolding form_of register_at uleb_at sleb_at
-register_offset = refl
-
--- implicit_value of five bytes, of which two stand there
-short_block : past_fields (form_of narrow 0x9e) (behind_code (5 ∷ 1 ∷ 2 ∷ [])) ≡ Some (Err (record { code = Truncated; at = 2 }))
-unfolding form_of uleb_at take_at
-short_block = refl
-
--- constu of 2 ^ 64
-large_number : past_fields (form_of narrow 0x10) (behind_code (0x80 ∷ 0x80 ∷ 0x80 ∷ 0x80 ∷ 0x80 ∷ 0x80 ∷ 0x80 ∷ 0x80 ∷ 0x80 ∷ 0x02 ∷ [])) ≡ Some (Err (record { code = NumberTooLarge; at = 1 }))
-unfolding form_of uleb_at
-large_number = refl
-
--- breg31 has an offset; lit0, reg31, dup and stack_value have nothing; there is no 0x18
-with_offset : past_fields (form_of narrow 0x8f) (behind_code []) ≡ Some (Err (record { code = Truncated; at = 1 }))
-unfolding form_of sleb_at
-with_offset = refl
-
+-- lit0, reg31, dup and stack_value have nothing; there is no 0x18
 with_nothing : (form_of narrow 0x30 ≡ Some (none (Const 0))) × (form_of narrow 0x6f ≡ Some (none (Reg 31))) × (form_of narrow 0x12 ≡ Some (none Dup)) × (form_of narrow 0x9f ≡ Some (none StackValue)) × (form_of narrow 0x18 ≡ None)
 unfolding form_of
 with_nothing = (refl, refl, refl, refl, refl)
@@ -88,10 +51,7 @@ with_nothing = (refl, refl, refl, refl, refl)
 
 -- bra by 0 leads to the end
 to_end : Leads narrow ((0x28 ∷ 0 ∷ 0 ∷ []) ∷ []) 0
-to_end part there branch = (1, (omega arith, 0x28, subst (λ (b : List ℕ). Code 0x28 (FixedSigned Little w16 (displacement ((0x28 ∷ 0 ∷ 0 ∷ []) ∷ []) 0 1)) b) (some_is (0x28 ∷ 0 ∷ 0 ∷ []) part there) by_none))
-  where
-    by_none : Code 0x28 (FixedSigned Little w16 (displacement ((0x28 ∷ 0 ∷ 0 ∷ []) ∷ []) 0 1)) (0x28 ∷ 0 ∷ 0 ∷ [])
-    by_none = record { rest = 0 ∷ 0 ∷ []; operands = record { bytes = refl; fits = omega (arith, ints) }; whole = refl }
+to_end part there branch = (1, (omega arith, 0x28, subst (λ (b : List ℕ). Code 0x28 (FixedSigned Little w16 (displacement ((0x28 ∷ 0 ∷ 0 ∷ []) ∷ []) 0 1)) b) (some_is (0x28 ∷ 0 ∷ 0 ∷ []) part there) (record { rest = 0 ∷ 0 ∷ []; operands = record { bytes = refl; fits = omega (arith, ints) }; whole = refl })))
 
 -- bra by 1 at the end of a block leads nowhere
 one_past : BlockFault Location narrow (0x28 ∷ 1 ∷ 0 ∷ []) (record { code = BadBranch; at = 0 })

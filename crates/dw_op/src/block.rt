@@ -17,6 +17,7 @@ use dw_num::{Code, Cursor, ReadError, Refusal, Target, are_bytes};
 use std::alloc::Global;
 
 // Where the operations of a block begin, and its end.
+#[tactic(auto, using(crate::proofs::Splits::step_shorter))]
 fn starts(
     alloc: Global,
     bytes: &[u8],
@@ -91,6 +92,7 @@ fn resolved<'a>(places: &[u64], at: u64, step: Step<'a>) -> Option<Op<'a>>
     }
 }
 
+#[tactic(auto, using(crate::proofs::Splits::step_shorter))]
 fn decode_ops<'a>(
     alloc: Global,
     bytes: &'a [u8],
@@ -126,6 +128,7 @@ fn decode_ops<'a>(
 /// `NotInFrame` at the code), else `BadBranch` at the code of the first branch that leads to no
 /// operation's start and not to the end (2.5 and 7.7.1). Places count from the block's first byte.
 /// Memory is taken for the operations and for their places.
+#[tactic(auto, using(crate::proofs::Lent::Blocks::block_found, crate::proofs::Decoded::decoded_in_range))]
 pub fn decode<'a>(
     alloc: Global,
     bytes: &'a [u8],
@@ -147,6 +150,7 @@ pub fn decode<'a>(
 }
 
 /// The first fault of a block is one, and a block with operations has none, as it has one list of them.
+#[tactic(auto, using(crate::proofs::Decoded::one_list))]
 pub fn one_answer(bytes: &[u8], target: Target, profile: Profile)
     ensures one_fault { (r q : Refusal) → BlockFault profile target bytes.now r → BlockFault profile target bytes.now q → r ≡ q }
     ensures no_fault { (ops : List Op) (r : Refusal) → IsBlock profile target ops bytes.now → BlockFault profile target bytes.now r → ⊥ }

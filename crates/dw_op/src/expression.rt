@@ -66,6 +66,7 @@ impl<'a> Model for OpSteps<'a> {
 }
 
 impl<'a> OpSteps<'a> {
+    #[tactic(auto, using(crate::proofs::Judgement::accepted_read, crate::proofs::Judgement::steps_all))]
     fn new(bytes: &'a [u8], target: Target) -> OpSteps<'a>
         requires { IsAccepted target bytes.now }
         ensures { result ≡ ops_of target bytes.entry.now }
@@ -76,6 +77,7 @@ impl<'a> OpSteps<'a> {
     }
 
     // The next operation, or none at the end.
+    #[tactic(auto, using(crate::proofs::Judgement::steps_after))]
     pub(crate) fn step(&mut self) -> Option<Op<'a>>
         ensures { MatchOption result ((self.old ≡ []) × (self.new ≡ [])) (λ op. self.old ≡ bare op ∷ self.new) }
     {
@@ -153,6 +155,7 @@ impl<'a> ExprRef<'a> {
     }
 
     /// The operations as a list, or want of memory.
+    #[tactic(auto, using(crate::proofs::Judgement::list_is))]
     pub fn ops(&self, alloc: Global) -> Result<OpList<'a>, AllocError>
         ensures { IfOk result (λ list. list ≡ self.now) }
     {
@@ -181,6 +184,7 @@ impl<'a> ExprRef<'a> {
 
 impl<'a> ExprRef<'a> {
     /// The length of the block of the operations' least spellings. Takes no memory.
+    #[tactic(auto, using(crate::proofs::PlainBlocks::accepted_small))]
     pub fn least_len(&self) -> usize
         ensures { (least : List ℕ) × LeastBlock self.now.target self.now.ops least × (result ≡ length least) }
     {
@@ -188,6 +192,7 @@ impl<'a> ExprRef<'a> {
     }
 
     // Appends the block of least spellings, and may leave some of it where memory runs out.
+    #[tactic(auto, using(crate::proofs::Starts::lengths_all, crate::proofs::PlainBlocks::accepted_fits))]
     fn push_least(&self, out: &mut Vec<u8>) -> Result<(), AllocError>
         ensures ok { OnOk result (IsAppended (LeastBlock self.now.target self.now.ops) out.old.items out.new.items) }
         ensures front { take (length out.old.items) out.new.items ≡ out.old.items }

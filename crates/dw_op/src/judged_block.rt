@@ -11,6 +11,7 @@ use crate::walk::Walker;
 use dw_num::{Cursor, Refusal, Target, are_bytes};
 
 // Reads a block to its end, and says whether it has a branch.
+#[tactic(auto, using(crate::proofs::Splits::step_shorter))]
 fn has_branch(bytes: &[u8], target: Target) -> Result<bool, Refusal>
     ensures read { IfOk result (λ b. (walk Frame (block_input target bytes.now)).fault ≡ None) }
     ensures plain { IfOk result (λ b. b ≡ false → IsAccepted target bytes.now) }
@@ -29,6 +30,7 @@ fn has_branch(bytes: &[u8], target: Target) -> Result<bool, Refusal>
 }
 
 // Whether each branch of a block leads to an operation's start or to the end.
+#[tactic(auto, using(crate::proofs::Judgement::check_shorter, crate::proofs::Judgement::check_more))]
 fn check_branches(bytes: &[u8], target: Target) -> Result<(), Refusal>
     requires { (walk Frame (block_input target bytes.now)).fault ≡ None }
     ensures found { IfOk result (λ _. IsAccepted target bytes.now) }

@@ -54,6 +54,7 @@ fn step_len(step: Step<'_>, target: Target) -> usize
 
 impl<'a> Lengths<'a> {
     /// Those of all operations of a block.
+    #[tactic(auto, using(crate::proofs::Judgement::accepted_read))]
     pub(crate) fn new(bytes: &'a [u8], target: Target) -> Lengths<'a>
         requires { IsAccepted target bytes.now }
         ensures { result ≡ block_input target bytes.entry.now }
@@ -92,6 +93,7 @@ impl<'a> Lengths<'a> {
     }
 
     // The next length, or none at the end.
+    #[tactic(auto, using(crate::proofs::Starts::lengths_end, crate::proofs::WalkStarts::never_stuck, crate::proofs::Starts::later_none, crate::proofs::Starts::later_read, crate::proofs::Starts::lengths_more))]
     fn step(&mut self) -> Option<usize>
         ensures length { MatchOption result ((lengths_at self.old ≡ []) × (self.new ≡ self.old)) (λ len. lengths_at self.old ≡ len ∷ lengths_at self.new) }
         ensures later { IsLater self.old self.new }
@@ -127,6 +129,7 @@ impl<'a> Point<'a> {
     }
 
     // Goes on to the next operation, unless it is at the end.
+    #[tactic(auto, using(crate::proofs::Starts::room_more))]
     fn step(&mut self) -> bool
         requires { InRoom self.old }
         ensures point { (lengths : List ℕ) → IsPoint lengths self.old → IsPoint lengths self.new }
@@ -157,6 +160,7 @@ impl<'a> Point<'a> {
     }
 
     // Goes on to the first operation from which on no more than so many bytes of the block are left.
+    #[tactic(auto, using(crate::proofs::Starts::pass_more))]
     fn come_up(&mut self, left: usize)
         requires { InRoom self.old }
         ensures point { (lengths : List ℕ) → IsPoint lengths self.old → IsPoint lengths self.new }
@@ -300,6 +304,7 @@ impl<'a> Places<'a> {
     }
 
     // Brings the place further back on to where a branch from here can go.
+    #[tactic(auto, using(crate::proofs::Starts::places_low))]
     fn bring_up(&mut self)
         requires { AreInRoom self.old }
         ensures places { (lengths : List ℕ) → ArePlaces lengths self.old → ArePlaces lengths self.new }

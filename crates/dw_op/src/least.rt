@@ -285,6 +285,7 @@ fn push_spelling(out: &mut Vec<u8>, order: Order, spelling: Spelling<'_>) -> Res
 
 /// Appends the least spelling of an operation, with these sixteen bits for a branch's displacement.
 /// Where memory runs out nothing is appended.
+#[tactic(auto, using(crate::proofs::LeastOf::least_spelled))]
 pub(crate) fn put_op(
     out: &mut Vec<u8>,
     op: &Op<'_>,

@@ -93,7 +93,7 @@ pub(crate) fn displacement_bits(from: usize, to: usize) -> Option<u16>
 fn branch_bits(op: &Op<'_>, index: usize, starts: &[usize]) -> Option<u16>
     requires known { index + 1 < length starts.now }
     requires within { TargetWithin (length starts.now - 1) (branch_target (bare op.now)) }
-    ensures { (parts : List (List ℕ)) → AreStarts parts (length starts.now - 1) starts.now → AreBits parts index (branch_target (bare op.now)) result }
+    ensures { (parts : List (List ℕ)) (n : ℕ) → AreStarts parts n starts.now → AreBits parts index (branch_target (bare op.now)) result }
 {
     let Some(goal) = branch_target(op) else {
         return Some(0);

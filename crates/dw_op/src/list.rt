@@ -105,6 +105,7 @@ fn first_bad(ops: &[Op<'_>], target: Target) -> Option<usize>
 impl<'a> OpList<'a> {
     /// A list of these operations, or the first one that is out of range for the target. A list that
     /// is refused is dropped. Takes no memory.
+    #[tactic(auto, using(crate::proofs::Lent::Ranges::not_in_range))]
     pub fn from_ops(ops: Vec<Op<'a>>, target: Target) -> Result<OpList<'a>, BadOperand>
         // What is answered is the list, and it is in range.
         ensures found { IfOk result (λ list. (list ≡ record { target = target; ops = map bare ops.entry.items }) × AllInRange target (map bare ops.entry.items)) }

@@ -90,6 +90,7 @@ fn mark_at(bytes: usize, count: usize) -> Option<Mark>
 }
 
 /// Marks what a cursor has left, as far as there is room.
+#[tactic(auto, using(crate::proofs::Marked::fill_none))]
 pub(crate) fn fill(window: &Cursor<'_>, marks: &mut Marks<Mark>)
     requires bytes { AreBytes window.now.bytes }
     requires read { (walk Frame window.now).fault ≡ None }
@@ -124,6 +125,7 @@ pub(crate) fn cursor_behind<'a>(window: &Cursor<'a>, bytes: usize) -> Cursor<'a>
 }
 
 /// Which of the operations from the cursor on begins at the place, or how many there are for the end.
+#[tactic(auto, using(crate::proofs::Marked::mark_within))]
 pub(crate) fn index_by(window: &Cursor<'_>, marks: &Marks<Mark>, place: u64) -> Option<usize>
     requires bytes { AreBytes window.now.bytes }
     requires read { (walk Frame window.now).fault ≡ None }

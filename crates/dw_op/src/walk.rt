@@ -38,6 +38,7 @@ pub(crate) fn copied<'a>(cursor: &Cursor<'a>) -> Cursor<'a>
 }
 
 // Which of the operations from the cursor on begins at the place, or how many there are for the end.
+#[tactic(auto, using(crate::proofs::Splits::step_shorter))]
 pub(crate) fn index_from(cursor: &Cursor<'_>, place: u64) -> Option<usize>
     requires bytes { AreBytes cursor.now.bytes }
     requires read { (walk Frame cursor.now).fault ≡ None }
@@ -60,6 +61,7 @@ pub(crate) fn index_from(cursor: &Cursor<'_>, place: u64) -> Option<usize>
 }
 
 // Goes on to the first operation that does not begin below the place, and says how many it passes.
+#[tactic(auto, using(crate::proofs::WalkStarts::never_stuck, crate::proofs::Splits::step_shorter))]
 pub(crate) fn advance(window: &mut Cursor<'_>, low: u64) -> usize
     requires bytes { AreBytes window.old.bytes }
     requires read { (walk Frame window.old).fault ≡ None }
@@ -132,6 +134,7 @@ impl<'a> Walker<'a> {
     }
 
     /// The next operation, or the refusal of a branch that leads nowhere.
+    #[tactic(auto, using(crate::proofs::Walkers::to_seek, crate::proofs::Walkers::walked_plain, crate::proofs::WalkStarts::never_stuck))]
     pub(crate) fn next_op(&mut self) -> Result<Option<Op<'a>>, Refusal>
         requires { WalkSo self.old }
         ensures { Walks self.old self.new result }

@@ -1,8 +1,6 @@
 -- A walk between the items that it has seen and those that are left.
-use Rattle.std.proofs.Common.{◌≡◌, List, [], ◌∷◌, ◌++◌, refl, sym, ap, subst, ◌∙◌, append_assoc, append-nil}
-use Rattle.dw_section.proofs.Words.{AllByRecursion, Refusal, FirstStuck, Head, IsAmong}
-use Rattle.dw_section.proofs.Lent.Heads.{is_among_head}
-use Rattle.dw_section.proofs.Stages.{holds_at}
+use Rattle.dw_section.proofs.Words.{◌≡◌, List, [], ◌∷◌, ◌++◌, refl, sym, ap, subst, ◌∙◌, append_assoc, append-nil, AllByRecursion, Refusal, FirstStuck, Head, IsAmong}
+use Rattle.dw_section.proofs.Stages.{among_here, holds_at}
 
 pub record Between {X : Type 0} (Left Front : List X → Type 0) (xs : List X) : Type 0 where
   pub front : List X
@@ -36,4 +34,4 @@ between_now Holds xs w x more e all = holds_at Holds w.front x more (subst (AllB
 
 -- the header that comes next is among them
 pub between_among : {Left Front : List Head → Type 0} (hs : List Head) (w : Between Left Front hs) (h : Head) (more : List Head) → w.rest ≡ h ∷ more → IsAmong h hs
-between_among hs w h more e = subst (IsAmong h) (sym (w.whole ∙ ap (λ ys. w.front ++ ys) e)) (is_among_head w.front h more)
+between_among hs w h more e = subst (IsAmong h) (sym (w.whole ∙ ap (λ ys. w.front ++ ys) e)) (among_here w.front h more)

@@ -1,13 +1,7 @@
 -- The list of the changes among rows, and how the code finds one after another.
-use Rattle.std.proofs.Common.{◌≡◌, ◌⊎◌, ℕ, Bool, false, List, [], ◌∷◌, Option, Some, None, Ok, refl, sym, ap, ◌∙◌, subst, inl, inr, ◌&&◌, not, nat_lt, Decides}
-use Rattle.std.proofs.lemmas.Bool.{cases_Bool}
-use Rattle.std.proofs.lemmas.Bool.Decides.{Decides-and, Decides-ltb, Decides-not}
-use Rattle.dw_section.proofs.Words.{LocatedRow, Rules, Outcome, Among, Before, Shows, changes_among, ChangesKeep}
+use Rattle.dw_section.proofs.Words.{◌≡◌, ◌⊎◌, ℕ, Bool, false, List, [], ◌∷◌, Option, Some, None, Ok, refl, sym, ap, ◌∙◌, subst, inl, inr, ◌&&◌, not, nat_lt, Decides, cases_Bool, Decides-and, Decides-ltb, Decides-not, LocatedRow, Rules}
+use Rattle.dw_section.proofs.Words.{Outcome, Among, Before, Shows, changes_among, ChangesKeep, Stepping, Advances, AllKeep, row_then, is_before, repeats}
 use Rattle.dw_cfa.specs.Inner.RowEquality.{rows_tell}
-use Rattle.dw_cfa.specs.RowSteps.{Stepping, Advances}
-use Rattle.dw_cfa.specs.RowWalk.{AllKeep}
-use Rattle.dw_cfa.specs.Runs.{row_then}
-use Rattle.dw_section.specs.Inner.Changes.{is_before, repeats}
 
 before_tells : (end a : ℕ) (rows : List LocatedRow) → Decides (is_before end a rows) (Before end a rows)
 before_tells end a [] = Decides-ltb a end

@@ -1,13 +1,9 @@
 -- The rows that programs start.
-use Rattle.std.proofs.Common.{◌≡◌, ℕ, suc, ◌+◌, ◌≤◌, cond, List, [], ◌∷◌, ◌++◌, length, refl, sym, ap, ◌∙◌, arith, count_by, length-append}
-use Rattle.std.proofs.lemmas.List.Sums.{sum_by-cons}
-use Rattle.dw_section.proofs.Words.{Order, Target, Factors, Instr, Program, answers, moves_location, row_starts, moves_in, Item, gap, entry, Piece, pieces, item_bytes, all_bytes, Head, cie, fde, Has}
-use Rattle.dw_section.proofs.Words.{Headers, total, nonempty, Range, range_of, Pieces, cie_places}
-use Rattle.dw_cfa.specs.Listing.{Listing, complete}
+use Rattle.dw_section.proofs.Words.{◌≡◌, ℕ, suc, ◌+◌, ◌≤◌, cond, List, [], ◌∷◌, ◌++◌, length, refl, sym, ap, ◌∙◌, arith, count_by, length-append, sum_by-cons, Order, Target, Factors, Instr, Program, answers, moves_location, row_starts}
+use Rattle.dw_section.proofs.Words.{moves_in, Item, gap, entry, Piece, pieces, item_bytes, all_bytes, Head, cie, fde, Has, Headers, total, nonempty, Range, range_of, Pieces, cie_places, Listing, complete, AllZip-long}
 use Rattle.dw_cfa.proofs.Lent.Listings.{some_spelled}
 use Rattle.dw_section.proofs.Items.{item_some}
 use Rattle.dw_section.proofs.Lent.Index.{with_range_so}
-use Rattle.std.proofs.lemmas.Slice.Zip.{AllZip-long}
 
 -- ---- one program
 
@@ -21,11 +17,7 @@ length_complete (i ∷ instrs) = ap suc (length_complete instrs)
 
 program_few : (t : Target) (f : Factors) (instrs : List Instr) (bytes : List ℕ) → Program t f instrs bytes → length instrs ≤ length bytes
 program_few t f [] bytes p = omega arith
-program_few t f (i ∷ instrs) bytes p =
-    let first = some_spelled t f i p.front p.first in
-    let rest = program_few t f instrs p.back p.second in
-    let all = ap length p.whole ∙ length-append p.front p.back in
-    omega arith
+program_few t f (i ∷ instrs) bytes p = omega (arith, some_spelled t f i p.front p.first, program_few t f instrs p.back p.second, ap length p.whole, length-append p.front p.back)
 
 pub answers_few : (t : Target) (f : Factors) (instrs : List Instr) (bytes : List ℕ) (l : Listing) → Program t f instrs bytes → l ≡ complete instrs → length bytes ≤ 2147483647 → length (answers l) ≤ 2147483647
 answers_few t f instrs bytes l p e le = let few = program_few t f instrs bytes p in let same : length (answers l) ≡ length instrs = ap (λ (x : Listing). length (answers x)) e ∙ length_complete instrs in omega arith
@@ -46,10 +38,7 @@ pieces_few order at [] = omega arith
 pieces_few order at (gap ∷ items) = let rest = pieces_few order (at + 4) items in let all = length-append (item_bytes order gap) (all_bytes order items) in omega arith
 pieces_few order at (entry form body ∷ items) =
     let item = entry form body in
-    let rest = pieces_few order (at + length (item_bytes order item)) items in
-    let all = length-append (item_bytes order item) (all_bytes order items) in
-    let some = item_some order item in
-    omega arith
+    omega (arith, pieces_few order (at + length (item_bytes order item)) items, length-append (item_bytes order item) (all_bytes order items), item_some order item)
 
 nonempty_few : (hs : List Head) → length (nonempty hs) ≤ length hs
 nonempty_few [] = omega arith
@@ -57,16 +46,7 @@ nonempty_few (cie c ∷ hs) = let p = nonempty_few hs in omega arith
 nonempty_few (fde f ∷ hs) = let p = nonempty_few hs in with_range_so (λ (rs : List Range). length rs ≤ suc (length hs)) (range_of f) (nonempty hs) (λ none. omega (arith, p)) (λ some. omega (arith, p))
 
 pub few_pieces : (target : Target) (s : List ℕ) (ps : List Piece) → Pieces target s ps → length ps ≤ 2147483647
-few_pieces target s ps p =
-    let c = pieces_few target.order 0 p.items in
-    let d = ap length p.are in
-    let e = ap length p.cut.whole in
-    let small = p.small in
-    omega arith
+few_pieces target s ps p = omega (arith, pieces_few target.order 0 p.items, ap length p.are, ap length p.cut.whole, p.small)
 
 pub few_ranges : (target : Target) (s : List ℕ) (hs : List Head) → Headers target s hs → length (nonempty hs) ≤ 2147483647
-few_ranges target s hs p =
-    let a = nonempty_few hs in
-    let b = AllZip-long (Has target (cie_places p.entries)) p.entries hs p.each in
-    let c = few_pieces target s p.entries p.cut in
-    omega arith
+few_ranges target s hs p = omega (arith, nonempty_few hs, AllZip-long (Has target (cie_places p.entries)) p.entries hs p.each, few_pieces target s p.entries p.cut)

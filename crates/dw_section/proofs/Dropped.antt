@@ -1,13 +1,7 @@
 -- The registers that a change drops from a row that was narrowed by the row before it.
-use Rattle.std.proofs.Common.{◌≡◌, ℕ, suc, ◌<◌, Bool, true, false, List, [], ◌∷◌, Option, Some, None, Ok, refl, sym, ap, ◌∙◌, subst, arith, inl, inr, filter}
-use Rattle.std.proofs.lemmas.Bool.{cases_Bool, cases_lt}
-use Rattle.dw_section.proofs.Words.{RegRule, kept, Rules, rule, is_specified, kept_by, last_shown, ChangesKeep, Section}
-use Rattle.dw_cfa.specs.Difference.{DiffersFirst}
-use Rattle.dw_cfa.specs.Agreement.{is_kept}
+use Rattle.dw_section.proofs.Words.{◌≡◌, ℕ, suc, ◌<◌, Bool, true, List, [], ◌∷◌, Option, Some, None, Ok, refl, sym, ap, ◌∙◌, subst, arith, inl, inr, filter, cases_Bool, cases_lt, RegRule, kept, Rules, rule, is_specified, kept_by}
+use Rattle.dw_section.proofs.Words.{ChangesKeep, DiffersFirst, is_kept, Entry, Changing, GivesAddress, before_then, SpecifiesAll}
 use Rattle.dw_cfa.proofs.Lent.Narrowed.{left_too}
-use Rattle.dw_cfa.proofs.Lent.RowLists.{Entry}
-use Rattle.dw_section.specs.Changes.{Changing, GivesAddress, before_then, behind_all}
-use Rattle.dw_section.specs.Inner.NarrowRow.{SpecifiesAll}
 
 -- one register more is specified still
 pub specified_more : (before row : Rules) (from q r : ℕ) → DiffersFirst from before.registers row.registers q → ((n : ℕ) → n < from → is_specified (rule before n) ≡ true → is_specified (rule row n) ≡ true)
@@ -61,18 +55,3 @@ pub next_of : (E : Type 0) (old next : Changing) (o : Option ℕ) (to : ℕ) →
 next_of E old next None to g e = absurd cc
 next_of E old next (Some a) to g e =
     let same : a ≡ to = cc in record { row = g.1.0; come = g.1.1 ∙ ap (λ (n : ℕ). (n, g.1.0) ∷ next.to_come) same; shown = g.1.2 }
-
-pub none_next : (E : Type 0) (old next : Changing) (o : Option ℕ) → GivesAddress {E = E} old (Ok o) next → o ≡ None → (old.to_come ≡ []) × (next.to_come ≡ [])
-none_next E old next None g e = (g.1, g.2)
-none_next E old next (Some a) g e = absurd cc
-
-same_changing : (n : Changing) (section : Section) (to_come : List (ℕ × Rules)) (shown before : Option Rules) (failed : Bool) → n.section ≡ section → n.to_come ≡ to_come → n.shown ≡ shown → n.before ≡ before → n.failed ≡ failed
-    → n ≡ record { section = section; to_come = to_come; shown = shown; before = before; failed = failed }
-same_changing n section to_come shown before failed s c h b f = rw (sym s, sym c, sym h, sym b, sym f) refl
-
--- behind the last of them
-pub all_given : (E : Type 0) (first old next : Changing) (o : Option ℕ) → GivesAddress {E = E} old (Ok o) next → o ≡ None → next.before ≡ before_then o old.shown → next.section ≡ first.section
-    → last_shown old.shown old.to_come ≡ last_shown first.shown first.to_come → next ≡ behind_all first
-all_given E first old next None g e before section shown =
-    same_changing next first.section [] (last_shown first.shown first.to_come) None false section g.2 (g.3 ∙ sym (ap (last_shown old.shown) g.1) ∙ shown) before g.0
-all_given E first old next (Some a) g e before section shown = absurd cc

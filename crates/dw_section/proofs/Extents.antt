@@ -1,7 +1,5 @@
 -- How long the programs are of an FDE of a table.
-use Rattle.std.proofs.Common.{ℕ, List, length, refl}
-use Rattle.dw_section.proofs.Words.{Target, FoundFde, HasLengths, IsFoundIn}
-use Rattle.dw_section.specs.Inner.Lookup.{fde_of}
+use Rattle.dw_section.proofs.Words.{ℕ, List, length, refl, Target, FoundFde, HasLengths, IsFoundIn, fde_of}
 use Rattle.dw_section.proofs.RowLookup.{program_so, says_so}
 
 pub found_lengths : (target : Target) (s : List ℕ) (e : FoundFde) → IsFoundIn target s e → HasLengths target s (fde_of e) (length e.program.bytes.now) (length e.cie_program.bytes.now)

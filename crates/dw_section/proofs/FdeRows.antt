@@ -1,11 +1,6 @@
 -- The programs of an FDE of a section whose rules hold give rows.
-use Rattle.std.proofs.Common.{◌≡◌, ℕ, List, Ok, refl, sym, ap, subst, ◌∙◌, arith}
-use Rattle.dw_section.proofs.Words.{Target, Input, AreBytes, input_of, address_limit, Factors, Instr, CfaRule, Program, CieKept, FdeKept, initial_cfa, Rules, RulesHold, IsAmong, Head, CieHead}
-use Rattle.dw_section.proofs.Words.{FdeHead, fde, HasBytes, FdeFits, cie_ats, CieRuns, FdeRuns, Begins, factors_of}
-use Rattle.dw_cfa.specs.Rows.{blank}
-use Rattle.dw_cfa.specs.Inner.Runs.{placed, initial_row, rows_behind, run_rows}
-use Rattle.dw_cfa.proofs.Lent.BehindLaws.{gives_rows}
-use Rattle.dw_cfa.proofs.Lent.FaultLaws.{leaves_initial}
+use Rattle.dw_section.proofs.Words.{◌≡◌, ℕ, List, Ok, refl, sym, ap, subst, ◌∙◌, arith, Target, Input, AreBytes, input_of, address_limit, Factors, Instr, CfaRule, Program, CieKept, FdeKept, initial_cfa, Rules, RulesHold, IsAmong, Head}
+use Rattle.dw_section.proofs.Words.{CieHead, FdeHead, fde, HasBytes, FdeFits, cie_ats, CieRuns, FdeRuns, Begins, factors_of, blank, placed, initial_row, rows_behind, run_rows, gives_rows, leaves_initial}
 use Rattle.dw_section.proofs.Cfa.{one_program}
 use Rattle.dw_section.proofs.Lent.ChangeLaws.{Given}
 use Rattle.dw_section.proofs.Lent.CheckFirst.{one_instrs}
@@ -26,10 +21,9 @@ given target s b hs hold c h i j among begins spelled =
     let fde_runs = all_in (FdeRuns target hs) hs _ hold.0.1 among in
     let fits = all_in (FdeFits target (cie_ats hs)) hs _ (heads_fit target s hs headers) among in
     let f = factors_of c in
-    let limit = address_limit target.size in
     let initial = one_program f target c.program.bytes cie_runs.0 i cie_bytes cie_runs.1 begins.spelled in
     let one = one_instrs target hs (heads_rise target s hs headers) bytes h.cie_at h.program fde_runs.0 fde_runs.1 i j fde_bytes fde_runs.2 (record { head = c; begins = begins; spelled = spelled }) in
     let left = leaves_initial f (input_of target c.program) i cie_bytes begins.spelled (subst CieKept initial cie_runs.2) in
-    let kept = subst (λ (x : CfaRule). FdeKept limit h.begin x j) (ap initial_cfa one.0 ∙ sym left.2.cfa) (subst (FdeKept limit h.begin (initial_cfa fde_runs.0)) one.1 fde_runs.3) in
+    let kept = subst (λ (x : CfaRule). FdeKept (address_limit target.size) h.begin x j) (ap initial_cfa one.0 ∙ sym left.2.cfa) (subst (FdeKept (address_limit target.size) h.begin (initial_cfa fde_runs.0)) one.1 fde_runs.3) in
     let gave = gives_rows f left.0 (input_of target h.program) h.begin j fde_bytes left.2.listed (omega (arith, fits.0)) spelled kept in
     record { first = left.0; rows = gave.0; run = run_behind f (input_of target c.program) (input_of target h.program) h.begin left.0 left.1 ∙ gave.1; leaves = left.2; gives = gave.2 }

@@ -1,16 +1,11 @@
 -- Fields are read as they are spelled, spelled as they are read, and refused with their first fault.
-use Rattle.std.proofs.Common.{◌≡◌, ℕ, zero, ◌+◌, ◌==◌, true, false, List, [], ◌∷◌, ◌++◌, length, drop, get_or, Option, Some, None, Ok, Err, refl, sym, ap, subst, ◌∙◌, append_assoc, arith, inl, inr, position, lt-ltb}
-use Rattle.std.proofs.lemmas.Bool.Decides.{eqb_tells}
-use Rattle.std.proofs.lemmas.List.{length-append, length-drop}
+pub use Rattle.dw_section.specs.Inner.Fields.{judged, behind_field, fields_at}
+use Rattle.dw_section.proofs.Words.{◌≡◌, ℕ, zero, ◌+◌, ◌==◌, true, false, List, [], ◌∷◌, ◌++◌, length, drop, get_or, Option, Some, None, Ok, Err, refl, sym, ap, subst, ◌∙◌, append_assoc, arith, inl, inr, position, lt-ltb, eqb_tells}
+use Rattle.dw_section.proofs.Words.{length-append, Code, Refusal, Target, IsWidth, Input, AreBytes, Takes, behind, Read, ◌>>=◌, Fields, end, field, empty_string, FieldsSpell, string_fault, FieldsFault, fixed, unsigned, signed, done, ok_is}
+use Rattle.dw_section.proofs.Words.{uleb_again, uleb_found, front_byte, fixed_found, fixed_at_again, taken_bytes, inside_all, stays_in, stays-then, fixed_stays, uleb_stays, sleb_stays, Judged, Number, Value, Spells, number_at, Stays}
 use Rattle.std.proofs.lemmas.List.Quantifiers.{position-Some}
-use Rattle.dw_section.proofs.Words.{Code, Refusal, Target, IsWidth, Input, AreBytes, Takes, behind, Read, fault, ◌>>=◌, Fields, end, field, empty_string, FieldsSpell, string_fault, FieldsFault, fixed}
-use Rattle.dw_section.proofs.Words.{unsigned, signed}
-use Rattle.dw_num.proofs.Lent.LebLaws.{done, ok_is, uleb_again, uleb_found}
 use Rattle.dw_num.proofs.Lent.SlebLaws.{sleb_again, sleb_found}
-use Rattle.dw_num.proofs.Lent.FixedLaws.{front_byte, fixed_found, fixed_at_again, taken_bytes}
-use Rattle.dw_num.proofs.Lent.Stays.{Inside, Stays, inside_all, stays_in, stays-then, fixed_stays, uleb_stays, sleb_stays}
 use Rattle.dw_num.proofs.Lent.Steps.{Takes-then, Again, bind_ok}
-use Rattle.dw_section.specs.Fields.{Judged, Number, Value, Spells, number_at}
 
 -- ---- numbers
 
@@ -41,59 +36,37 @@ number_stays signed i = sleb_stays i
 
 -- ---- fields as they are read
 
-abbrev pub judged : {X : Type 0} → Option Code → ℕ → Read X → Read X
-judged None at rest = rest
-judged (Some code) at rest = fault code at
-
-abbrev pub behind_field : {X V : Type 0} → (V → Option Code) → ℕ → (V → Input → Read X) → V × Input → Read X
-behind_field refused at rest v = judged (refused v.0) at (rest v.0 v.1)
-
-abbrev pub fields_at : {X : Type 0} → Fields X → Input → Read X
-fields_at (end x) i = Ok (x, i)
-fields_at (field n refused rest) i = number_at n i >>= behind_field refused i.at (λ v. fields_at (rest v))
-fields_at (empty_string rest) i = judged (string_fault (position (λ b. b == 0) i.bytes)) i.at (fields_at rest (behind 1 i))
-
 judged_ok : {X : Type 0} (o : Option Code) (at : ℕ) (read : Read X) (y : X × Input) → judged o at read ≡ done y → (o ≡ None) × (read ≡ done y)
 judged_ok None at read y e = (refl, e)
 judged_ok (Some code) at read y e = absurd cc
 
 -- ---- the first fault
 
-judged_fault : {X : Type 0} (o : Option Code) (at : ℕ) (Behind : Refusal → Type 0) (read : Read X) (r : Refusal) → (Behind r → read ≡ Err r) → Judged o at Behind r → judged o at read ≡ Err r
-judged_fault None at Behind read r to h = to h
-judged_fault {X} (Some code) at Behind read r to h = ap (λ (q : Refusal). let e : Read X = Err q in e) (sym h)
-
-fault_judged : {X : Type 0} (o : Option Code) (at : ℕ) (Behind : Refusal → Type 0) (read : Read X) (r : Refusal) → (read ≡ Err r → Behind r) → judged o at read ≡ Err r → Judged o at Behind r
-fault_judged None at Behind read r to e = to e
-fault_judged (Some code) at Behind read r to e = cc
-
-pub fault_read : {X : Type 0} (fs : Fields X) (i : Input) (r : Refusal) → FieldsFault fs i r → fields_at fs i ≡ Err r
-fault_read (end x) i r h = absurd h
-fault_read (field n refused rest) i r (inl e) = rw e refl
-fault_read (field n refused rest) i r (inr h) = rw (h.2) (judged_fault (refused h.0) i.at (FieldsFault (rest h.0) h.1) (fields_at (rest h.0) h.1) r (fault_read (rest h.0) h.1 r) h.3)
-fault_read (empty_string rest) i r h =
-    judged_fault (string_fault (position (λ b. b == 0) i.bytes)) i.at (FieldsFault rest (behind 1 i)) (fields_at rest (behind 1 i)) r (fault_read rest (behind 1 i) r) h
+judged_is : {X : Type 0} (o : Option Code) (at : ℕ) (Behind : Refusal → Type 0) (read : Read X) (r : Refusal) → (Behind r → read ≡ Err r) × (read ≡ Err r → Behind r)
+    → (Judged o at Behind r → judged o at read ≡ Err r) × (judged o at read ≡ Err r → Judged o at Behind r)
+judged_is None at Behind read r to = to
+judged_is {X} (Some code) at Behind read r to = ((λ h. ap (λ (q : Refusal). let e : Read X = Err q in e) (sym h)), (λ e. cc))
 
 -- of a field, where so much is known of what is behind it
-field_fault : {X : Type 0} (n : Number) (refused : Value n → Option Code) (rest : Value n → Fields X) (i : Input) (r : Refusal) → ((v : Value n) (j : Input) → fields_at (rest v) j ≡ Err r → FieldsFault (rest v) j r)
+field_fault : {X : Type 0} (n : Number) (refused : Value n → Option Code) (rest : Value n → Fields X) (i : Input) (r : Refusal)
+    → ((v : Value n) (j : Input) → (FieldsFault (rest v) j r → fields_at (rest v) j ≡ Err r) × (fields_at (rest v) j ≡ Err r → FieldsFault (rest v) j r))
     → (read : Read (Value n)) → number_at n i ≡ read → read >>= behind_field refused i.at (λ v. fields_at (rest v)) ≡ Err r → FieldsFault (field n refused rest) i r
 field_fault n refused rest i r to (Err q) is e = let same : q ≡ r = cc in inl (is ∙ ap (λ (x : Refusal). let k : Read (Value n) = Err x in k) same)
-field_fault n refused rest i r to (Ok v) is e = inr (v.0, v.1, is, fault_judged (refused v.0) i.at (FieldsFault (rest v.0) v.1) (fields_at (rest v.0) v.1) r (to v.0 v.1) e)
+field_fault n refused rest i r to (Ok v) is e = inr (v.0, v.1, is, (judged_is (refused v.0) i.at (FieldsFault (rest v.0) v.1) (fields_at (rest v.0) v.1) r (to v.0 v.1)).1 e)
 
-pub read_fault : {X : Type 0} (fs : Fields X) (i : Input) (r : Refusal) → fields_at fs i ≡ Err r → FieldsFault fs i r
-read_fault (end x) i r e = absurd cc
-read_fault (field n refused rest) i r e = field_fault n refused rest i r (λ v j. read_fault (rest v) j r) (number_at n i) refl e
-read_fault (empty_string rest) i r e =
-    fault_judged (string_fault (position (λ b. b == 0) i.bytes)) i.at (FieldsFault rest (behind 1 i)) (fields_at rest (behind 1 i)) r (read_fault rest (behind 1 i) r) e
+pub fault_is : {X : Type 0} (fs : Fields X) (i : Input) (r : Refusal) → (FieldsFault fs i r → fields_at fs i ≡ Err r) × (fields_at fs i ≡ Err r → FieldsFault fs i r)
+fault_is (end x) i r = ((λ h. absurd h), (λ e. absurd cc))
+fault_is (field n refused rest) i r = (
+  (λ h. elim h [ inl e ↦ rw e refl | inr w ↦ rw (w.2) ((judged_is (refused w.0) i.at (FieldsFault (rest w.0) w.1) (fields_at (rest w.0) w.1) r (fault_is (rest w.0) w.1 r)).0 w.3) ]),
+  field_fault n refused rest i r (λ v j. fault_is (rest v) j r) (number_at n i) refl,
+)
+fault_is (empty_string rest) i r = judged_is (string_fault (position (λ b. b == 0) i.bytes)) i.at (FieldsFault rest (behind 1 i)) (fields_at rest (behind 1 i)) r (fault_is rest (behind 1 i) r)
 
 -- it is one
 pub one_fields_fault : {X : Type 0} (fs : Fields X) (i : Input) (r q : Refusal) → FieldsFault fs i r → FieldsFault fs i q → r ≡ q
-one_fields_fault fs i r q v w = let same = sym (fault_read fs i r v) ∙ fault_read fs i q w in cc
+one_fields_fault fs i r q v w = let same = sym ((fault_is fs i r).0 v) ∙ (fault_is fs i q).0 w in cc
 
 -- ---- what is read is spelled
-
-takes-none : (i : Input) → Takes i [] i
-takes-none i = record { bytes = refl; at = omega arith; target = refl }
 
 none_wrong : (o : Option ℕ) → string_fault o ≡ None → o ≡ Some 0
 none_wrong (Some zero) e = refl
@@ -108,7 +81,7 @@ empty_taken i e =
 pub fields_found : {X : Type 0} (fs : Fields X) → AreNumbers fs → (i new : Input) (x : X) → AreBytes i.bytes → fields_at fs i ≡ done (x, new) → (b : List ℕ) × FieldsSpell i.target fs x b × Takes i b new
 fields_found {X} (end y) are i new x h e =
     let same = ok_is (y, i) (x, new) e in
-    ([], (ap (λ (p : X × Input). p.0) (sym same), refl), subst (λ (j : Input). Takes i [] j) (ap (λ (p : X × Input). p.1) same) (takes-none i))
+    ([], (ap (λ (p : X × Input). p.0) (sym same), refl), subst (λ (j : Input). Takes i [] j) (ap (λ (p : X × Input). p.1) same) (record { bytes = refl; at = omega arith; target = refl }))
 fields_found (field n refused rest) are i new x h e =
     let p = bind_ok (number_at n i) (behind_field refused i.at (λ v. fields_at (rest v))) (x, new) e in
     let k = judged_ok (refused p.0.0) i.at (fields_at (rest p.0.0) p.0.1) (x, new) p.2 in
@@ -140,21 +113,14 @@ fields_again t (empty_string rest) x b s at more = rw (s.whole, s.first) (empty_
 
 -- ---- places
 
-judged_stays : {X : Type 0} (o : Option Code) (i : Input) (read : Read X) → Stays i read → Stays i (judged o i.at read)
-judged_stays None i read h = h
+judged_stays : {X : Type 0} (o : Option Code) (i : Input) (read : Read X) → (o ≡ None → Stays i read) → Stays i (judged o i.at read)
+judged_stays None i read h = h refl
 judged_stays (Some code) i read h = (omega arith, omega arith)
-
-string_inside : (i : Input) → string_fault (position (λ b. b == 0) i.bytes) ≡ None → Inside i (behind 1 i)
-string_inside i e = let first = position-Some (λ b. b == 0) i.bytes 0 0 (none_wrong (position (λ b. b == 0) i.bytes) e) in (omega arith, omega (arith, first.0, length-drop 1 i.bytes))
-
-string_stays : {X : Type 0} (o : Option Code) (i j : Input) (read : Read X) → (o ≡ None → Inside i j) → Stays j read → Stays i (judged o i.at read)
-string_stays None i j read inside h = stays_in i j read (inside refl) h
-string_stays (Some code) i j read inside h = (omega arith, omega arith)
 
 pub fields_stay : {X : Type 0} (fs : Fields X) (i : Input) → Stays i (fields_at fs i)
 fields_stay (end x) i = inside_all i
 fields_stay (field n refused rest) i =
     stays-then i (number_at n i) (behind_field refused i.at (λ v. fields_at (rest v))) (number_stays n i)
-    (λ v e k. judged_stays (refused v.0) i (fields_at (rest v.0) v.1) (stays_in i v.1 (fields_at (rest v.0) v.1) k (fields_stay (rest v.0) v.1)))
+    (λ v e k. judged_stays (refused v.0) i (fields_at (rest v.0) v.1) (λ none. stays_in i v.1 (fields_at (rest v.0) v.1) k (fields_stay (rest v.0) v.1)))
 fields_stay (empty_string rest) i =
-    string_stays (string_fault (position (λ b. b == 0) i.bytes)) i (behind 1 i) (fields_at rest (behind 1 i)) (string_inside i) (fields_stay rest (behind 1 i))
+    judged_stays (string_fault (position (λ b. b == 0) i.bytes)) i (fields_at rest (behind 1 i)) (λ none. stays_in i (behind 1 i) (fields_at rest (behind 1 i)) (let takes = empty_taken i none in let len = ap length takes.bytes in (omega arith, omega (arith, len))) (fields_stay rest (behind 1 i)))

@@ -1,19 +1,10 @@
 -- An item at the front, and items in a row.
-use Rattle.std.proofs.Common.{eqb, false, inl, inr, ◌≡◌, ℕ, ◌+◌, add-zero, zero-add, ◌<◌, ◌≤◌, Result, Ok, Err, List, [], ◌∷◌, ◌++◌, length, map, Option, Some, None, refl, sym, ap, subst, ◌∙◌, append_assoc, arith, le-ltb}
-use Rattle.std.specs.List.{AllByRecursion, cons_option}
-use Rattle.std.proofs.lemmas.List.{length-append, append-nil, map-append, take_at, drop_at}
-use Rattle.std.proofs.lemmas.Bool.Decides.{eqb_tells}
-use Rattle.dw_num.proofs.Lent.FixedLaws.{length-fixed, unit_length_only}
-use Rattle.dw_section.proofs.Words.{length_bytes, Form, Target, Refusal, Pieces, Kind, CutFault, Order, Dwarf32, Dwarf64, Input, Takes, Item, gap, entry, IsItem, item_bytes, is_cie, id_width}
-use Rattle.dw_section.proofs.Words.{all_bytes, Piece, piece_of, pieces}
-use Rattle.dw_num.specs.Fixed.{fixed_bytes}
-use Rattle.dw_num.proofs.Lent.LebLaws.{ok_is}
-use Rattle.dw_section.specs.Pieces.{Entries, entry_of}
+use Rattle.dw_section.proofs.Words.{eqb, false, inl, inr, ◌≡◌, ℕ, ◌+◌, add-zero, zero-add, ◌<◌, ◌≤◌, Result, Ok, Err, List, [], ◌∷◌, ◌++◌, length, map, Option, Some, None, refl, sym, ap, subst, ◌∙◌, append_assoc, arith, le-ltb}
+use Rattle.dw_section.proofs.Words.{AllByRecursion, cons_option, length-append, append-nil, map-append, take_at, drop_at, ne_eqb, length-fixed, unit_length_only, length_bytes, Form, Target, Refusal, Pieces, Kind, CutFault, Order, Dwarf32}
+use Rattle.dw_section.proofs.Words.{Dwarf64, Input, Takes, Item, gap, entry, IsItem, item_bytes, is_cie, id_width, all_bytes, Piece, piece_of, pieces, fixed_bytes, ok_is, Entries, entry_of, item_at, IsStuck, Four, Cut}
 use Rattle.dw_section.specs.declared.entry.Entry.{Entry}
-use Rattle.dw_section.specs.Faults.{item_at, IsStuck}
-use Rattle.dw_num.specs.declared.target.Size.TheVariants.{Four}
 use Rattle.dw_num.specs.declared.target.Order.TheVariants.{Little, Big}
-use Rattle.dw_section.specs.Cut.{Cut}
+use Rattle.dw_section.proofs.Cfa.{err_one}
 use Rattle.dw_section.proofs.Stages.{all_push}
 
 gap_bytes : (order : Order) → length_bytes order Dwarf32 0 ≡ 0 ∷ 0 ∷ 0 ∷ 0 ∷ []
@@ -73,12 +64,9 @@ item_some order (entry Dwarf64 body) = omega (arith, length-append (length_bytes
 
 -- ---- a section has at most one cut
 
-wide_some : (form : Form) (n : ℕ) → id_width form ≤ n → 4 ≤ n
-wide_some Dwarf32 n h = h
-wide_some Dwarf64 n h = omega arith
-
-not_zero : (n : ℕ) → 4 ≤ n → eqb n 0 ≡ false
-not_zero n h = elim (eqb_tells n 0) [ inl is ↦ absurd (omega (arith, is.1)) | inr not ↦ not.0 ]
+wide_some : (form : Form) (n : ℕ) → id_width form ≤ n → eqb n 0 ≡ false
+wide_some Dwarf32 n h = ne_eqb n 0 (λ none. omega (arith, none))
+wide_some Dwarf64 n h = ne_eqb n 0 (λ none. omega (arith, none))
 
 pub item_again : (at : ℕ) (target : Target) (item : Item) (rest : List ℕ) → IsItem item
     → item_at (record { at = at; bytes = item_bytes target.order item ++ rest; target = target }) ≡ Ok (item, record { at = at + length (item_bytes target.order item); bytes = rest; target = target })
@@ -93,7 +81,7 @@ item_again at target (entry form body) rest is =
     let place : at + length (front ++ body) ≡ (at + length front) + length body = omega (arith, length-append front body) in
     rw (
       read,
-      not_zero (length body) (wide_some form (length body) is.1),
+      wide_some form (length body) is.1,
       le-ltb (length (body ++ rest)) (length body) (omega (arith, length-append body rest)),
       le-ltb (length body) (id_width form) is.1,
       take_at body rest (length body) refl,
@@ -114,40 +102,54 @@ pub left_by : (order : Order) (item : Item) (after : List ℕ) (items : List Ite
 left_by order item after [] is h e = absurd (omega (arith, ap length e, length-append (item_bytes order item) after, item_some order item))
 left_by order item after (x ∷ xs) is h e = let p = front_item order item x after (all_bytes order xs) is h.0 e in (xs, ap (λ (y : Item). y ∷ xs) (sym p.0), h.1, p.1)
 
--- items that spell the front of what others spell, are the front of these
-pub aligned : (order : Order) (xs ys : List Item) (rest : List ℕ) → AllByRecursion IsItem xs → AllByRecursion IsItem ys → all_bytes order xs ≡ all_bytes order ys ++ rest
-    → (more : List Item) × (xs ≡ ys ++ more) × AllByRecursion IsItem more × (rest ≡ all_bytes order more)
-aligned order xs [] rest h k e = (xs, refl, h, sym e)
-aligned order xs (y ∷ ys) rest h k e =
-    let p = left_by order y (all_bytes order ys ++ rest) xs k.0 h (sym (e ∙ append_assoc (item_bytes order y) (all_bytes order ys) rest)) in
-    let q = aligned order p.0 ys rest p.2 k.1 (sym p.3) in
-    (q.0, p.1 ∙ ap (λ (zs : List Item). y ∷ zs) q.1, q.2, q.3)
-
 pub none_by : (order : Order) (items : List Item) (bytes : List ℕ) → bytes ≡ all_bytes order items → length bytes ≤ 0 → items ≡ []
 none_by order [] bytes e none = refl
 none_by order (x ∷ xs) bytes e none = absurd (omega (arith, ap length e, length-append (item_bytes order x) (all_bytes order xs), item_some order x))
 
-pub one_cut : (order : Order) (s : List ℕ) (xs ys : List Item) → Cut order s xs → Cut order s ys → xs ≡ ys
-one_cut order s xs ys p q =
-    let a = aligned order xs ys [] p.each q.each (sym p.whole ∙ q.whole ∙ sym (append-nil (all_bytes order ys))) in
-    a.1 ∙ ap (λ (m : List Item). ys ++ m) (none_by order a.0 [] a.3 (omega arith)) ∙ append-nil ys
-
 -- an item at the front is no fault
 pub not_stuck : (target : Target) (at : ℕ) (item : Item) (rest bytes : List ℕ) (r : Refusal) → IsItem item → bytes ≡ item_bytes target.order item ++ rest → item_at (record { at = at; bytes = bytes; target = target }) ≡ Err r → ⊥
 not_stuck target at item rest bytes r is e stuck =
-    let read = item_again at target item rest is in
-    let k = subst (λ (b : List ℕ). item_at (record { at = at; bytes = b; target = target }) ≡ Err r) e stuck in
-    let bad = sym read ∙ k in cc
+    let bad = sym (item_again at target item rest is) ∙ rw e at stuck in cc
 
 -- where a walk is stuck there is no cut
 pub stuck_before : (target : Target) (at : ℕ) (more : List Item) (rest : List ℕ) (r : Refusal) → AllByRecursion IsItem more → rest ≡ all_bytes target.order more → 0 < length rest → item_at (record { at = at; bytes = rest; target = target }) ≡ Err r → ⊥
 stuck_before target at [] rest r h e some stuck = omega (arith, ap length e)
 stuck_before target at (x ∷ more) rest r h e some stuck = not_stuck target at x (all_bytes target.order more) rest r h.0 e stuck
 
+-- no item stands at the front
+abbrev Stops : Order → List ℕ → Type 0
+Stops order bytes = (item : Item) (rest : List ℕ) → IsItem item → bytes ≡ item_bytes order item ++ rest → ⊥
+
+none_stops : (order : Order) → Stops order []
+none_stops order item rest is e = omega (arith, ap length e, length-append (item_bytes order item) rest, item_some order item)
+
+stuck_stops : (target : Target) (s : List ℕ) (r : Refusal) (w : IsStuck target s r) → Stops target.order w.rest
+stuck_stops target s r w item rest is e = not_stuck target _ item rest w.rest r is e w.stuck
+
+-- two walks that go as far as there are items are one
+one_walk : (order : Order) (xs ys : List Item) (x y : List ℕ) → AllByRecursion IsItem xs → AllByRecursion IsItem ys → Stops order x → Stops order y → all_bytes order xs ++ x ≡ all_bytes order ys ++ y → (xs ≡ ys) × (x ≡ y)
+one_walk order [] [] x y h k s t e = (refl, e)
+one_walk order [] (z ∷ ys) x y h k s t e = absurd (s z (all_bytes order ys ++ y) k.0 (e ∙ append_assoc (item_bytes order z) (all_bytes order ys) y))
+one_walk order (z ∷ xs) [] x y h k s t e = absurd (t z (all_bytes order xs ++ x) h.0 (sym e ∙ append_assoc (item_bytes order z) (all_bytes order xs) x))
+one_walk order (z ∷ xs) (u ∷ ys) x y h k s t e =
+    let p = front_item order z u (all_bytes order xs ++ x) (all_bytes order ys ++ y) h.0 k.0 (sym (append_assoc (item_bytes order z) (all_bytes order xs) x) ∙ e ∙ append_assoc (item_bytes order u) (all_bytes order ys) y) in
+    let q = one_walk order xs ys x y h.1 k.1 s t p.1 in
+    (ap (λ (i : Item). i ∷ xs) p.0 ∙ ap (λ (l : List Item). u ∷ l) q.0, q.1)
+
+pub one_cut : (order : Order) (s : List ℕ) (xs ys : List Item) → Cut order s xs → Cut order s ys → xs ≡ ys
+one_cut order s xs ys p q =
+    (one_walk order xs ys [] [] p.each q.each (none_stops order) (none_stops order) (append-nil (all_bytes order xs) ∙ sym p.whole ∙ q.whole ∙ sym (append-nil (all_bytes order ys)))).0
+
 pub stuck_or_cut : (target : Target) (s : List ℕ) (items : List Item) (r : Refusal) → Cut target.order s items → IsStuck target s r → ⊥
 stuck_or_cut target s items r p w =
-    let a = aligned target.order items w.items w.rest p.each w.each (sym p.whole ∙ w.whole) in
-    stuck_before target _ a.0 w.rest r a.2 a.3 w.some w.stuck
+    let e = (one_walk target.order items w.items [] w.rest p.each w.each (none_stops target.order) (stuck_stops target s r w) (append-nil (all_bytes target.order items) ∙ sym p.whole ∙ w.whole)).1 in
+    omega (arith, ap length e, w.some)
+
+-- where two are stuck they are one
+pub one_stuck : (target : Target) (s : List ℕ) (r q : Refusal) → IsStuck target s r → IsStuck target s q → r ≡ q
+one_stuck target s r q v w =
+    let same = one_walk target.order v.items w.items v.rest w.rest v.each w.each (stuck_stops target s r v) (stuck_stops target s q w) (sym v.whole ∙ w.whole) in
+    err_one _ r q (rw (same.0, same.1) at v.stuck) w.stuck
 
 -- a section has one list of pieces
 pub one_pieces : (target : Target) (s : List ℕ) (ps qs : List Piece) → Pieces target s ps → Pieces target s qs → ps ≡ qs

@@ -1,8 +1,6 @@
 -- A walk over a section that has a cut gives its pieces, and one over a section that has headers gives these.
-use Rattle.std.proofs.Common.{◌≡◌, ℕ, ◌+◌, ◌<◌, ◌≤◌, List, [], ◌∷◌, length, Err, refl, sym, ap, subst, ◌∙◌, arith, length-append}
-use Rattle.std.specs.List.{AllZip, cons_option}
-use Rattle.dw_section.proofs.Words.{Form, Order, Target, Refusal, length_bytes, Input, Takes, Kind, Item, gap, entry, IsItem, item_bytes, is_cie, Piece, piece_of, pieces, item_at, Pieces, cie_places}
-use Rattle.dw_section.proofs.Words.{Head, Has, PiecesLeft, HeadsLeft, AreHeaders}
+use Rattle.dw_section.proofs.Words.{◌≡◌, ℕ, ◌+◌, ◌<◌, ◌≤◌, List, [], ◌∷◌, length, Err, refl, sym, ap, subst, ◌∙◌, arith, length-append, AllZip, cons_option, Form, Order, Target, Refusal, length_bytes, Input, Takes, Kind, Item, gap, entry}
+use Rattle.dw_section.proofs.Words.{IsItem, item_bytes, is_cie, Piece, piece_of, pieces, item_at, Pieces, cie_places, Head, Has, PiecesLeft, HeadsLeft, AreHeaders}
 use Rattle.dw_section.specs.Inner.Left.{Stays}
 use Rattle.dw_section.proofs.Items.{item_some, stuck_before, left_by, none_by}
 use Rattle.dw_section.proofs.Lent.HeaderLaws.{has_one}
@@ -50,14 +48,13 @@ left_all target s ps p = record { items = p.items; cut = p.cut; are = p.are }
 -- ---- headers
 
 pub heads_none : (target : Target) (places : List ℕ) (ps : List Piece) (hs : List Head) → ps ≡ [] → AllZip (Has target places) ps hs → hs ≡ []
-heads_none target places [] [] e z = refl
-heads_none target places [] (h ∷ hs) e z = absurd z
-heads_none target places (p ∷ ps) hs e z = absurd cc
+heads_none target places ps [] e z = refl
+heads_none target places ps (h ∷ hs) e z = absurd (rw e at z)
 
 pub heads_some : (target : Target) (places : List ℕ) (p : Piece) (ps rest : List Piece) (hs : List Head) → ps ≡ p ∷ rest → AllZip (Has target places) ps hs
     → (h : Head) × (more : List Head) × (hs ≡ h ∷ more) × Has target places p h × AllZip (Has target places) rest more
-heads_some target places p ps rest [] e z = let y = subst (λ (qs : List Piece). AllZip (Has target places) qs []) e z in absurd y
-heads_some target places p ps rest (h ∷ hs) e z = let y = subst (λ (qs : List Piece). AllZip (Has target places) qs (h ∷ hs)) e z in (h, hs, refl, y.0, y.1)
+heads_some target places p ps rest [] e z = absurd (rw e at z)
+heads_some target places p ps rest (h ∷ hs) e z = let y = rw e at z in (h, hs, refl, y.0, y.1)
 
 -- the next piece has the next header
 pub heads_next : (target : Target) (places : List ℕ) (old new : Input) (p : Piece) (hs : List Head) → old.target ≡ target → (w : HeadsLeft places old hs) → (rest : List Piece) × (w.parts ≡ p ∷ rest) × PiecesLeft new rest → Stays old new

@@ -1,39 +1,18 @@
 -- What is refused where an entry stands is its first fault.
-use Rattle.std.proofs.Common.{◌≡◌, ℕ, ◌+◌, ◌≤◌, List, [], ◌∷◌, length, drop, take, Some, Err, refl, sym, ap, subst, ◌∙◌, inl, inr, None, le-ltb, take-append-drop, take_at}
-use Rattle.dw_section.proofs.Words.{NoSuchCie, Refusal, ReadError, Refuses, Outcome, Order, Target, Input, Takes, input_of, Item, IsItem, gap, entry, Piece, id_width, piece_of, Head, Has, FdeStuck}
-use Rattle.dw_section.proofs.Words.{cie_at, fde_at, StandsIn}
+use Rattle.dw_section.proofs.Words.{◌≡◌, ℕ, ◌+◌, ◌≤◌, List, [], ◌∷◌, length, drop, take, Some, Err, refl, sym, subst, ◌∙◌, inl, inr, None, le-ltb, take-append-drop, NoSuchCie, Refusal, ReadError, Refuses, Outcome, Target, Input, input_of}
+use Rattle.dw_section.proofs.Words.{Piece, id_width, Head, Has, FdeStuck, cie_at, fde_at, fixed_at, fixed_only, BothStuck, Names, RefusesAs, StandsAs}
 use Rattle.dw_num.specs.declared.error.ReadError.TheVariants as reading
-use Rattle.dw_num.specs.Fixed.{Fixed}
-use Rattle.dw_num.specs.Front.{fixed_at}
-use Rattle.dw_num.proofs.Lent.FixedLaws.{fixed_only, length-fixed}
-use Rattle.dw_op.proofs.Lent.ReadingLaws.{some_is}
 use Rattle.dw_section.specs.declared.entry.Kind.TheVariants as kind
 use Rattle.dw_section.specs.declared.standing_fde.LookUpError.{LookUpError}
 use Rattle.dw_section.specs.declared.standing_fde.LookUpError.TheVariants.{Refused, BadIndex, OutOfMemory}
-use Rattle.dw_section.specs.StandingFde.{BothStuck, Names, RefusesAs, StandsAs}
 use Rattle.dw_section.proofs.Lent.HeaderLaws.{cie_faulty, fde_faulty, has_fde}
 
 -- ---- the first field
-
--- an entry has one
-pub stands_wide : (order : Order) (s : List ℕ) (p : Piece) → StandsIn order s p → id_width p.form ≤ length p.contents.bytes
-stands_wide order s p w = of w.item w.is w.piece
-  where
-    of : (item : Item) → IsItem item → piece_of order (length w.front) item ≡ Some p → id_width p.form ≤ length p.contents.bytes
-    of gap is e = absurd cc
-    of (entry form body) is e = subst (λ (q : Piece). id_width q.form ≤ length q.contents.bytes) (some_is _ p e) is.1
 
 -- a number that is there is read
 pub fixed_there : (n : ℕ) (i : Input) (r : Refusal) → n ≤ length i.bytes → fixed_at n i ≡ Err r → ⊥
 unfolding fixed_at
 fixed_there n i r long e = let bad = rw (le-ltb (length i.bytes) n long) at e in absurd cc
-
-pub is_named : (target : Target) (p : Piece) (i new : Input) (v : ℕ) → i ≡ input_of target p.contents → (b : List ℕ) × Fixed i.target.order (id_width p.form) v b × Takes i b new → Names target p v
-is_named target p i new v is found =
-    let n = id_width p.form in
-    let len : length found.0 ≡ n = ap length found.1.bytes ∙ length-fixed i.target.order n v in
-    let first : take n i.bytes ≡ found.0 = ap (take n) found.2.bytes ∙ take_at found.0 new.bytes n len in
-    subst (λ (j : Input). Fixed j.target.order n v (take n j.bytes)) is (subst (Fixed i.target.order n v) (sym first) found.1)
 
 -- ---- fields
 

@@ -274,6 +274,7 @@ impl<'a> Changes<'a> {
 
     // Whether each change still to come is known to specify every register that a row specifies: what a CIE's program
     // specifies stays so. `false` says nothing.
+    #[tactic(auto, using(crate::proofs::ChangesAmong::changes_keep))]
     pub(crate) fn keeps(&self, row: &Row<'_>) -> bool
         ensures { IsTrue result → ChangesKeep row.now self.now.to_come }
     {

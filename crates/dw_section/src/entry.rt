@@ -106,8 +106,7 @@ pub(crate) struct Placed<'a> {
 #[inline(always)]
 pub(crate) fn next_part<'a>(cursor: &mut Cursor<'a>) -> Result<Part<'a>, Refusal>
     requires { cursor.old.at + length cursor.old.bytes ≤ 2147483647 }
-    ensures found { IfOk result (λ p. IsItem (item_of p) × Takes cursor.old (item_bytes cursor.old.target.order (item_of p)) cursor.new) }
-    ensures placed { IfOk result (IsPlaced cursor.old) }
+    ensures found { IfOk result (λ p. IsItem (item_of p) × Takes cursor.old (item_bytes cursor.old.target.order (item_of p)) cursor.new × IsPlaced cursor.old p) }
     ensures exact { Gives item_of result (item_at cursor.old) cursor.new }
 {
     let at = cursor.at();
@@ -133,6 +132,7 @@ pub(crate) fn next_part<'a>(cursor: &mut Cursor<'a>) -> Result<Part<'a>, Refusal
 }
 
 // The next entry of a section that has a cut, or none behind the last one.
+#[tactic(auto, using(crate::proofs::Left::left_gap, crate::proofs::Left::takes_stays, crate::proofs::Left::stays_then, crate::proofs::Left::shorter_by))]
 #[inline(always)]
 pub(crate) fn next_piece<'a>(cursor: &mut Cursor<'a>) -> Option<Placed<'a>>
     requires { cursor.old.at + length cursor.old.bytes ≤ 2147483647 }
@@ -190,6 +190,7 @@ fn counted(counts: EntryCounts, kind: Kind) -> EntryCounts
 }
 
 /// Cuts a section, and counts its entries. Takes no memory.
+#[tactic(auto, using(crate::proofs::Tally::tallied_gap, crate::proofs::Tally::tallied_entry))]
 pub(crate) fn cut(bytes: &[u8], target: Target) -> Result<EntryCounts, Refusal>
     ensures found { IfOk result (λ n. (ps : List Piece) × Pieces target bytes.now ps × AreCounts ps n) }
     ensures first { IfErr result (CutFault target bytes.now) }
@@ -207,6 +208,7 @@ pub(crate) fn cut(bytes: &[u8], target: Target) -> Result<EntryCounts, Refusal>
     Ok(counts)
 }
 
+#[tactic(auto, using(crate::proofs::Items::listed_gap))]
 fn all_entries(alloc: Global, bytes: &[u8], target: Target) -> Result<Vec<Entry>, ReadError>
     ensures found { IfOk result (λ v. Entries target bytes.now v.items) }
     ensures first { IfErr result (Refuses (CutFault target bytes.now)) }

@@ -2,7 +2,6 @@
 
 ghost use Rattle.std.specs.Prelude.{◌≡◌, ◌+◌, ◌<◌, ◌≤◌, ℕ, true, List, [], ◌∷◌, ◌++◌, length, slice_index_or, map, IfOk, IfErr, IfSome, OnOk, MatchOption};
 ghost use Rattle.std.specs.List.{AllByRecursion};
-ghost use Rattle.std.specs.List.Sorted.{IsPermutation};
 ghost use Rattle.dw_num.specs.declared.refusal.Code.TheVariants.{Overlap};
 ghost use Rattle.dw_num.specs.declared.target.Target.{Target as TheTarget};
 ghost use Rattle.dw_num.specs.declared.error.ReadError.TheVariants.{OutOfMemory};
@@ -11,13 +10,13 @@ ghost use Rattle.dw_section.specs.declared.fde_range.Ranged.{Ranged as TheRanged
 ghost use Rattle.dw_section.specs.Headers.{Head, head_in};
 ghost use Rattle.dw_section.specs.Inner.Heads.{FdeFits, head_at};
 ghost use Rattle.dw_section.specs.Inner.Left.{AreHeaders};
-ghost use Rattle.dw_section.specs.Stage.{FirstStuck};
-ghost use Rattle.dw_section.specs.Inner.Index.{AreJudged, PlacesRise};
-ghost use Rattle.dw_section.specs.Ranges.{IsRanged, range_in};
+ghost use Rattle.dw_section.specs.Inner.Index.{AreJudged};
+ghost use Rattle.dw_section.specs.Inner.Table.{AreRanges};
+ghost use Rattle.dw_section.specs.Ranges.{AreIndexed, IsRanged, range_in};
 ghost use Rattle.dw_section.specs.Inner.Initials.{place_of, or_place, IsInitial, IsRunner, AreInitials};
-ghost use Rattle.dw_section.specs.Overlap.{nonempty, Ascends, AreApart, FirstOverlap};
+ghost use Rattle.dw_section.specs.Overlap.{nonempty, AreApart, FirstOverlap};
 ghost use Rattle.dw_section.specs.Inner.Places.{Rises};
-ghost use Rattle.dw_section.specs.Programs.{FdeRuns, FdeBroken};
+ghost use Rattle.dw_section.specs.Accepted.{RulesFault};
 ghost use Rattle.dw_section.specs.Among.{IsAmong};
 
 use crate::header::{Header, next_header};
@@ -42,8 +41,7 @@ pub struct Ranged {
 
 // What is kept of an entry, where it is a nonempty FDE.
 fn range_of(header: &Header<'_>, initials: &[Initial<'_>]) -> Option<Ranged>
-    requires ascending { Rises 0 (map place_of initials.now) }
-    requires fits { (target : TheTarget) × FdeFits target (map place_of initials.now) (head_in header.now) }
+    requires fits { (target : TheTarget) × Rises 0 (map place_of initials.now) × FdeFits target (map place_of initials.now) (head_in header.now) }
     requires below { head_at (head_in header.now) ≤ 2147483647 }
     ensures range { MatchOption result (nonempty (head_in header.now ∷ []) ≡ []) (λ e. nonempty (head_in header.now ∷ []) ≡ range_in e ∷ []) }
     ensures is { (target : TheTarget) (hs : List Head) → AllByRecursion (IsInitial target hs) initials.now → IsAmong (head_in header.now) hs → IfSome result (IsRanged hs) }
@@ -75,8 +73,7 @@ fn keep_range(
     header: &Header<'_>,
     initials: &[Initial<'_>],
 ) -> Result<(), ReadError>
-    requires ascending { Rises 0 (map place_of initials.now) }
-    requires fits { (target : TheTarget) × FdeFits target (map place_of initials.now) (head_in header.now) }
+    requires fits { (target : TheTarget) × Rises 0 (map place_of initials.now) × FdeFits target (map place_of initials.now) (head_in header.now) }
     requires below { head_at (head_in header.now) ≤ 2147483647 }
     ensures found { OnOk result (map range_in list.new.items ≡ map range_in list.old.items ++ nonempty (head_in header.now ∷ [])) }
     ensures each { (target : TheTarget) (hs : List Head) → AllByRecursion (IsInitial target hs) initials.now → IsAmong (head_in header.now) hs → AllByRecursion (IsRanged hs) list.old.items → OnOk result (AllByRecursion (IsRanged hs) list.new.items) }
@@ -124,8 +121,8 @@ fn run_on<'a>(
     requires ascending { Rises 0 places.now }
     requires headers { (hs : List Head) × AreHeaders target bytes.now places.now hs × AreInitials target hs hs initials.now × IsRunner target hs runner.old }
     requires none { list.old.items ≡ [] }
-    ensures found { (hs : List Head) → AreHeaders target bytes.now places.now hs → AreInitials target hs hs initials.now → IsRunner target hs runner.old → IfOk result (λ lacking. AreJudged target hs hs lacking list.new.items) }
-    ensures first { (hs : List Head) → AreHeaders target bytes.now places.now hs → AreInitials target hs hs initials.now → IsRunner target hs runner.old → IfErr result (Refuses (FirstStuck (FdeRuns target hs) (FdeBroken target hs) hs)) }
+    ensures found { IfOk result (λ lacking. (hs : List Head) × AreHeaders target bytes.now places.now hs × AreInitials target hs hs initials.now × AreJudged target hs hs lacking list.new.items) }
+    ensures first { IfErr result (Refuses (RulesFault target bytes.now)) }
 {
     let alloc = *list.allocator();
     let mut cursor = Cursor::new(bytes, 0, target);
@@ -150,8 +147,8 @@ pub(crate) fn run_fdes<'a>(
 ) -> Result<(Vec<Ranged>, Option<u64>), ReadError>
     requires ascending { Rises 0 places.now }
     requires headers { (hs : List Head) × AreHeaders target bytes.now places.now hs × AreInitials target hs hs initials.now }
-    ensures found { (hs : List Head) → AreHeaders target bytes.now places.now hs → AreInitials target hs hs initials.now → IfOk result (λ p. AreJudged target hs hs p.1 p.0.items) }
-    ensures first { (hs : List Head) → AreHeaders target bytes.now places.now hs → AreInitials target hs hs initials.now → IfErr result (Refuses (FirstStuck (FdeRuns target hs) (FdeBroken target hs) hs)) }
+    ensures found { IfOk result (λ p. (hs : List Head) × AreHeaders target bytes.now places.now hs × AreInitials target hs hs initials.now × AreJudged target hs hs p.1 p.0.items) }
+    ensures first { IfErr result (Refuses (RulesFault target bytes.now)) }
 {
     let mut runner = Runner::new(alloc, initials, target)?;
     let mut list = Vec::with_capacity(alloc, count)?;
@@ -173,9 +170,7 @@ fn begins_rise(list: &[Ranged]) -> bool
 
 /// Puts FDEs in the order of their begins, and those of one begin in that of their places.
 pub(crate) fn put_in_order(list: &mut Vec<Ranged>) -> Result<(), AllocError>
-    requires { PlacesRise 0 (map range_in list.old.items) }
-    ensures ascends { OnOk result (Ascends (map range_in list.new.items)) }
-    ensures permuted { OnOk result (IsPermutation list.old.items list.new.items) }
+    ensures { (target : TheTarget) (s : List ℕ) → AreRanges target s list.old.items → OnOk result (AreIndexed target s list.new.items) }
 {
     if !begins_rise(list) {
         list.sort_by_key(|fde| fde.begin)?;

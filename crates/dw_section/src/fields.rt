@@ -1,22 +1,16 @@
 //! The fields of CIEs and FDEs.
 
-ghost use Rattle.std.specs.Prelude.{◌≡◌, ◌<◌, nat_le, ◌+◌, position, ◌==◌};
+ghost use Rattle.std.specs.Prelude.{◌≡◌, ◌<◌, nat_le, ◌+◌, ◌||◌, ℕ, Ok, position, ◌==◌};
 ghost use Rattle.dw_section.specs.Inner.Places.{Rises};
 ghost use Rattle.dw_num.specs.Inner.Front.{Gives};
 ghost use Rattle.dw_num.specs.Target.{address_limit};
-ghost use Rattle.dw_section.specs.Fields.{is_among};
-ghost use Rattle.dw_section.specs.Inner.Fields.{wanted_at, version_of, version_at, empty_string_at, sizes_at, return_register_at, factors_at, cie_fields_at, pointer_at, range_at, fde_fields_at};
+ghost use Rattle.dw_section.specs.Fields.{Fields, fde_fields, field, fixed, unless, empty_string, sizes, return_register, factors, is_among};
+ghost use Rattle.dw_section.specs.declared.fields.CieFields.{CieFields as TheCieFields};
+ghost use Rattle.dw_num.specs.declared.refusal.Code.TheVariants.{BadVersion};
+ghost use Rattle.dw_section.specs.Inner.Fields.{Passes, behind_id, fields_at};
 
 use crate::entry::width_of;
 use dw_num::{Code, Cursor, Form, Refusal, Size};
-
-/// A version of a CIE.
-#[derive(Clone, Copy)]
-pub(crate) enum Version {
-    One,
-    Three,
-    Four,
-}
 
 /// What the fields of a CIE say.
 #[derive(Clone, Copy)]
@@ -34,21 +28,21 @@ pub(crate) struct FdeFields {
     pub(crate) range: u64,
 }
 
-fn version_in(byte: u8) -> Option<Version>
-    ensures { result ≡ version_of byte }
+// Whether there is such a version of a CIE.
+fn is_version(byte: u8) -> bool
+    ensures { result ≡ (byte == 1 || (byte == 3 || byte == 4)) }
 {
     match byte {
-        1 => Some(Version::One),
-        3 => Some(Version::Three),
-        4 => Some(Version::Four),
-        _ => None,
+        1 => true,
+        3 => true,
+        4 => true,
+        _ => false,
     }
 }
 
-#[tactic(auto, unfolding(crate::specs::Inner::Fields::wanted_at))]
 #[inline(always)]
 fn want_byte(cursor: &mut Cursor<'_>, wanted: u8, code: Code) -> Result<(), Refusal>
-    ensures { Gives (λ _. tt) result (wanted_at wanted code cursor.old) cursor.new }
+    ensures { (rest : Fields TheCieFields) → Passes result (fields_at (field (fixed 1) (λ n. unless (n == wanted) code) (λ n. rest)) cursor.old) (λ v. fields_at rest cursor.new) }
 {
     let at = cursor.at();
     let byte = cursor.byte()?;
@@ -59,19 +53,19 @@ fn want_byte(cursor: &mut Cursor<'_>, wanted: u8, code: Code) -> Result<(), Refu
     }
 }
 
-#[tactic(auto, unfolding(crate::specs::Inner::Fields::version_at))]
 #[inline(always)]
-fn read_version(cursor: &mut Cursor<'_>) -> Result<Version, Refusal>
-    ensures { Gives (λ v. v) result (version_at cursor.old) cursor.new }
+fn read_version(cursor: &mut Cursor<'_>) -> Result<u8, Refusal>
+    ensures { (rest : ℕ → Fields TheCieFields) → Passes result (fields_at (field (fixed 1) (λ v. unless (v == 1 || (v == 3 || v == 4)) BadVersion) rest) cursor.old) (λ v. fields_at (rest v) cursor.new) }
 {
     let at = cursor.at();
-    let byte = cursor.byte()?;
-    match version_in(byte) {
-        Some(version) => Ok(version),
-        None => Err(Refusal {
+    let version = cursor.byte()?;
+    if is_version(version) {
+        Ok(version)
+    } else {
+        Err(Refusal {
             code: Code::BadVersion,
             at,
-        }),
+        })
     }
 }
 
@@ -82,10 +76,10 @@ fn string_len(bytes: &[u8]) -> Option<usize>
     bytes.iter().position(|byte| *byte == 0)
 }
 
-#[tactic(auto, unfolding(crate::specs::Inner::Fields::empty_string_at, dw_num::specs::Front::take_at))]
+#[tactic(auto, unfolding(dw_num::specs::Front::take_at))]
 #[inline(always)]
 fn empty_string(cursor: &mut Cursor<'_>) -> Result<(), Refusal>
-    ensures { Gives (λ _. tt) result (empty_string_at cursor.old) cursor.new }
+    ensures { (rest : Fields TheCieFields) → Passes result (fields_at (empty_string rest) cursor.old) (λ v. fields_at rest cursor.new) }
 {
     let at = cursor.at();
     match string_len(cursor.rest()) {
@@ -104,41 +98,34 @@ fn empty_string(cursor: &mut Cursor<'_>) -> Result<(), Refusal>
     }
 }
 
-#[tactic(auto, unfolding(crate::specs::Inner::Fields::sizes_at))]
+// The sizes, which version 4 has.
 #[inline(always)]
-fn read_sizes(cursor: &mut Cursor<'_>, version: Version) -> Result<(), Refusal>
-    ensures { Gives (λ _. tt) result (sizes_at version cursor.old) cursor.new }
+fn read_sizes(cursor: &mut Cursor<'_>, size: Size, version: u8) -> Result<(), Refusal>
+    ensures { (rest : Fields TheCieFields) → Passes result (fields_at (sizes size version rest) cursor.old) (λ v. fields_at rest cursor.new) }
 {
-    match version {
-        Version::One => Ok(()),
-        Version::Three => Ok(()),
-        Version::Four => {
-            let wanted = cursor.target().size.byte_count();
-            want_byte(cursor, wanted, Code::AddressSize)?;
-            want_byte(cursor, 0, Code::SegmentSelector)
-        }
+    if version != 4 {
+        return Ok(());
+    }
+    want_byte(cursor, size.byte_count(), Code::AddressSize)?;
+    want_byte(cursor, 0, Code::SegmentSelector)
+}
+
+#[tactic(auto, unfolding(dw_num::specs::Front::register_at))]
+#[inline(always)]
+fn read_register(cursor: &mut Cursor<'_>, version: u8) -> Result<u16, Refusal>
+    ensures { (rest : ℕ → Fields TheCieFields) → Passes result (fields_at (return_register version rest) cursor.old) (λ r. fields_at (rest r) cursor.new) }
+{
+    if version == 1 {
+        let byte = cursor.byte()?;
+        Ok(u16::from(byte))
+    } else {
+        cursor.register()
     }
 }
 
-#[tactic(auto, unfolding(crate::specs::Inner::Fields::return_register_at))]
 #[inline(always)]
-fn read_register(cursor: &mut Cursor<'_>, version: Version) -> Result<u16, Refusal>
-    ensures { Gives (λ r. r) result (return_register_at version cursor.old) cursor.new }
-{
-    match version {
-        Version::One => {
-            let byte = cursor.byte()?;
-            Ok(u16::from(byte))
-        }
-        Version::Three => cursor.register(),
-        Version::Four => cursor.register(),
-    }
-}
-
-#[tactic(auto, unfolding(crate::specs::Inner::Fields::factors_at))]
-#[inline(always)]
-fn read_factors(cursor: &mut Cursor<'_>, version: Version) -> Result<CieFields, Refusal>
-    ensures { Gives (λ f. f) result (factors_at version cursor.old) cursor.new }
+fn read_factors(cursor: &mut Cursor<'_>, version: u8) -> Result<CieFields, Refusal>
+    ensures { Passes result (fields_at (factors version) cursor.old) (λ f. Ok (f, cursor.new)) }
 {
     let code_factor = cursor.uleb()?;
     let data_factor = cursor.sleb()?;
@@ -150,14 +137,13 @@ fn read_factors(cursor: &mut Cursor<'_>, version: Version) -> Result<CieFields, 
     })
 }
 
-#[tactic(auto, unfolding(crate::specs::Inner::Fields::cie_fields_at))]
 #[inline(always)]
-pub(crate) fn read_cie(cursor: &mut Cursor<'_>) -> Result<CieFields, Refusal>
-    ensures { Gives (λ f. f) result (cie_fields_at cursor.old) cursor.new }
+pub(crate) fn read_cie(cursor: &mut Cursor<'_>, size: Size) -> Result<CieFields, Refusal>
+    ensures { Passes result (fields_at (behind_id size) cursor.old) (λ f. Ok (f, cursor.new)) }
 {
     let version = read_version(cursor)?;
     empty_string(cursor)?;
-    read_sizes(cursor, version)?;
+    read_sizes(cursor, size, version)?;
     read_factors(cursor, version)
 }
 
@@ -169,24 +155,6 @@ fn has_place(places: &[u64], place: u64) -> bool
     places.binary_search(&place).is_ok()
 }
 
-#[tactic(auto, unfolding(crate::specs::Inner::Fields::pointer_at))]
-#[inline(always)]
-fn read_pointer(cursor: &mut Cursor<'_>, places: &[u64], form: Form) -> Result<u64, Refusal>
-    requires { Rises 0 places.now }
-    ensures { Gives (λ p. p) result (pointer_at places.now form cursor.old) cursor.new }
-{
-    let at = cursor.at();
-    let pointer = cursor.fixed(width_of(form))?;
-    if has_place(places, pointer) {
-        Ok(pointer)
-    } else {
-        Err(Refusal {
-            code: Code::NoSuchCie,
-            at,
-        })
-    }
-}
-
 // Whether a range ends in the address space.
 fn in_space(size: Size, begin: u64, range: u64) -> bool
     ensures { result ≡ nat_le (begin + range) (address_limit size) }
@@ -194,14 +162,27 @@ fn in_space(size: Size, begin: u64, range: u64) -> bool
     u128::from(begin) + u128::from(range) <= size.address_limit()
 }
 
-#[tactic(auto, unfolding(crate::specs::Inner::Fields::range_at))]
+#[tactic(auto, unfolding(dw_num::specs::Front::address_at))]
 #[inline(always)]
-fn read_range(cursor: &mut Cursor<'_>, cie_at: u64) -> Result<FdeFields, Refusal>
-    ensures { Gives (λ f. f) result (range_at cie_at cursor.old) cursor.new }
+pub(crate) fn read_fde(
+    cursor: &mut Cursor<'_>,
+    places: &[u64],
+    form: Form,
+) -> Result<FdeFields, Refusal>
+    requires { Rises 0 places.now }
+    ensures { Gives (λ f. f) result (fields_at (fde_fields cursor.old.target.size places.now form) cursor.old) cursor.new }
 {
+    let size = cursor.target().size;
+    let at = cursor.at();
+    let cie_at = cursor.fixed(width_of(form))?;
+    if !has_place(places, cie_at) {
+        return Err(Refusal {
+            code: Code::NoSuchCie,
+            at,
+        });
+    }
     let begin = cursor.address()?;
     let at = cursor.at();
-    let size = cursor.target().size;
     let range = cursor.address()?;
     if in_space(size, begin, range) {
         Ok(FdeFields {
@@ -215,18 +196,4 @@ fn read_range(cursor: &mut Cursor<'_>, cie_at: u64) -> Result<FdeFields, Refusal
             at,
         })
     }
-}
-
-#[tactic(auto, unfolding(crate::specs::Inner::Fields::fde_fields_at))]
-#[inline(always)]
-pub(crate) fn read_fde(
-    cursor: &mut Cursor<'_>,
-    places: &[u64],
-    form: Form,
-) -> Result<FdeFields, Refusal>
-    requires { Rises 0 places.now }
-    ensures { Gives (λ f. f) result (fde_fields_at places.now form cursor.old) cursor.new }
-{
-    let cie_at = read_pointer(cursor, places, form)?;
-    read_range(cursor, cie_at)
 }

@@ -3,7 +3,7 @@
 ghost use Rattle.std.specs.Prelude.{◌≡◌, ℕ, ◌+◌, ◌≤◌, List, [], ◌∷◌, ◌++◌, length, map, IfOk, IfErr, IfSome, OnOk, MatchResult};
 ghost use Rattle.dw_section.specs.Counts.{AreCounts};
 ghost use Rattle.dw_section.specs.Cut.{Piece};
-ghost use Rattle.std.specs.List.{AllByRecursion, AllZip};
+ghost use Rattle.std.specs.List.{AllByRecursion};
 ghost use Rattle.dw_num.specs.Span.{span_of};
 ghost use Rattle.dw_num.specs.declared.error.ReadError.TheVariants.{OutOfMemory};
 ghost use Rattle.dw_num.specs.Refusals.{Refuses};
@@ -11,7 +11,6 @@ ghost use Rattle.dw_section.specs.declared.entry.Kind.TheVariants as kind;
 ghost use Rattle.dw_num.specs.declared.target.Target.{Target};
 ghost use Rattle.dw_num.specs.declared.refusal.Refusal.{Refusal};
 ghost use Rattle.dw_section.specs.Overlap.{Range, IsIndex};
-ghost use Rattle.dw_section.specs.Stage.{FirstStuck};
 ghost use Rattle.dw_section.specs.Inner.Stage.{Answers};
 ghost use Rattle.dw_op.specs.Faults.{IsWithin};
 ghost use Rattle.dw_section.specs.Pieces.{Pieces};
@@ -87,8 +86,8 @@ pub(crate) fn cie_header<'a>(piece: &Placed<'a>, target: Target) -> Result<Heade
     let contents = piece.contents;
     are_bytes(contents.bytes);
     let mut cursor = Cursor::new(contents.bytes, contents.at, target);
-    let _ = cursor.take(width_of(piece.form))?;
-    let fields = read_cie(&mut cursor)?;
+    let _ = cursor.fixed(width_of(piece.form))?;
+    let fields = read_cie(&mut cursor, target.size)?;
     Ok(Header::Cie {
         at: piece.at,
         form: piece.form,
@@ -145,6 +144,7 @@ fn header_of<'a>(piece: &Placed<'a>, places: &[u64], target: Target) -> Result<H
 }
 
 // Keeps the place of a piece that is a CIE, whose fields are read.
+#[tactic(auto, using(crate::proofs::Lent::HeaderLaws::cie_faulty, crate::proofs::Lent::HeaderLaws::fdes_more))]
 fn keep_cie(places: &mut Vec<u64>, piece: &Placed<'_>, target: Target) -> Result<(), ReadError>
     ensures found { (ps : List Piece) → AllByRecursion (CieHolds target) ps → places.old.items ≡ cie_places ps → OnOk result (AllByRecursion (CieHolds target) (ps ++ piece_in piece.now ∷ []) × (places.new.items ≡ cie_places (ps ++ piece_in piece.now ∷ []))) }
     ensures first { IfErr result (Refuses (CieStuck target (piece_in piece.now))) }
@@ -167,10 +167,9 @@ fn find_cies(
     target: Target,
     count: usize,
 ) -> Result<Vec<u64>, ReadError>
-    requires pieces { (ps : List Piece) × Pieces target bytes.now ps }
-    requires count { (ps : List Piece) → Pieces target bytes.now ps → count ≡ length (cie_places ps) }
-    ensures found { (ps : List Piece) → Pieces target bytes.now ps → IfOk result (λ v. AllByRecursion (CieHolds target) ps × (v.items ≡ cie_places ps)) }
-    ensures first { (ps : List Piece) → Pieces target bytes.now ps → IfErr result (Refuses (FirstStuck (CieHolds target) (CieStuck target) ps)) }
+    requires pieces { (ps : List Piece) × Pieces target bytes.now ps × (count ≡ length (cie_places ps)) }
+    ensures found { IfOk result (λ v. (ps : List Piece) × CiesHold target bytes.now ps × (v.items ≡ cie_places ps)) }
+    ensures first { IfErr result (Refuses (CieFieldsFault target bytes.now)) }
 {
     let mut cursor = Cursor::new(bytes, 0, target);
     let mut places = Vec::with_capacity(alloc, count)?;
@@ -185,26 +184,27 @@ fn find_cies(
 }
 
 // Reads the fields of a piece that is an FDE.
+#[tactic(auto, using(crate::proofs::Lent::HeaderLaws::has_fde, crate::proofs::Lent::HeaderLaws::fde_faulty))]
 fn fde_holds(piece: &Placed<'_>, places: &[u64], target: Target) -> Result<(), Refusal>
     requires { Rises 0 places.now }
-    ensures found { CieHolds target (piece_in piece.now) → IfOk result (λ _. (h : Head) × Has target places.now (piece_in piece.now) h) }
+    ensures found { IfOk result (λ _. FdeHolds target places.now (piece_in piece.now)) }
     ensures stuck { IfErr result (FdeStuck target places.now (piece_in piece.now)) }
 {
     match piece.kind {
         Kind::Cie => Ok(()),
-        Kind::Fde => {
-            let _ = fde_header(piece, places, target)?;
-            Ok(())
-        }
+        Kind::Fde => match fde_header(piece, places, target) {
+            Ok(_) => Ok(()),
+            Err(refusal) => Err(refusal),
+        },
     }
 }
 
 // Reads the fields of the FDEs of a section that has a cut, behind those of its CIEs.
 fn fdes_hold(bytes: &[u8], target: Target, places: &[u64]) -> Result<(), Refusal>
     requires ascending { Rises 0 places.now }
-    requires cies { (ps : List Piece) × Pieces target bytes.now ps × AllByRecursion (CieHolds target) ps }
-    ensures found { (ps : List Piece) → Pieces target bytes.now ps → AllByRecursion (CieHolds target) ps → IfOk result (λ _. (hs : List Head) × AllZip (Has target places.now) ps hs) }
-    ensures first { (ps : List Piece) → Pieces target bytes.now ps → AllByRecursion (CieHolds target) ps → IfErr result (FirstStuck (FdeHolds target places.now) (FdeStuck target places.now) ps) }
+    requires cies { (ps : List Piece) × CiesHold target bytes.now ps × (places.now ≡ cie_places ps) }
+    ensures found { IfOk result (λ _. (hs : List Head) × AreHeaders target bytes.now places.now hs) }
+    ensures first { IfErr result (HeadersFault target bytes.now) }
 {
     let mut cursor = Cursor::new(bytes, 0, target);
     'pieces: while let Some(piece) = next_piece(&mut cursor) {
@@ -242,9 +242,9 @@ fn read_headers<'a>(
     count: usize,
 ) -> Result<Vec<Header<'a>>, ReadError>
     requires ascending { Rises 0 places.now }
-    requires cies { (ps : List Piece) × Pieces target bytes.now ps × AllByRecursion (CieHolds target) ps }
-    ensures found { (ps : List Piece) → Pieces target bytes.now ps → AllByRecursion (CieHolds target) ps → IfOk result (λ v. AllZip (Has target places.now) ps (map head_in v.items)) }
-    ensures first { (ps : List Piece) → Pieces target bytes.now ps → AllByRecursion (CieHolds target) ps → IfErr result (Refuses (FirstStuck (FdeHolds target places.now) (FdeStuck target places.now) ps)) }
+    requires cies { (ps : List Piece) × CiesHold target bytes.now ps × (places.now ≡ cie_places ps) }
+    ensures found { IfOk result (λ v. Headers target bytes.now (map head_in v.items)) }
+    ensures first { IfErr result (Refuses (HeadersFault target bytes.now)) }
 {
     let mut cursor = Cursor::new(bytes, 0, target);
     let mut headers = Vec::with_capacity(alloc, count)?;
@@ -263,7 +263,8 @@ pub(crate) struct Cies {
 
 // Cuts a section, and reads the fields of its CIEs.
 fn cies_of(alloc: Global, bytes: &[u8], target: Target) -> Result<Cies, ReadError>
-    ensures found { IfOk result (λ c. (ps : List Piece) × CiesHold target bytes.now ps × AreCounts ps c.counts × (c.places.items ≡ cie_places ps)) }
+    ensures found { IfOk result (λ c. (ps : List Piece) × CiesHold target bytes.now ps × (c.places.items ≡ cie_places ps)) }
+    ensures counts { IfOk result (λ c. (ps : List Piece) → Pieces target bytes.now ps → AreCounts ps c.counts) }
     ensures ascending { IfOk result (λ c. Rises 0 c.places.items) }
     ensures first { IfErr result (Refuses (CieFieldsFault target bytes.now)) }
 {
@@ -274,7 +275,8 @@ fn cies_of(alloc: Global, bytes: &[u8], target: Target) -> Result<Cies, ReadErro
 
 /// Reads the fields of all entries of a section, and keeps where its CIEs stand.
 pub(crate) fn heads_hold(alloc: Global, bytes: &[u8], target: Target) -> Result<Cies, ReadError>
-    ensures found { IfOk result (λ c. (hs : List Head) × (p : AreHeaders target bytes.now c.places.items hs) × AreCounts p.are.entries c.counts) }
+    ensures found { IfOk result (λ c. (hs : List Head) × AreHeaders target bytes.now c.places.items hs) }
+    ensures counts { IfOk result (λ c. (ps : List Piece) → Pieces target bytes.now ps → AreCounts ps c.counts) }
     ensures ascending { IfOk result (λ c. Rises 0 c.places.items) }
     ensures first { IfErr result (Refuses (HeadersFault target bytes.now)) }
 {

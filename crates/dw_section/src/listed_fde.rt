@@ -5,7 +5,7 @@ ghost use Rattle.dw_section.specs.declared.lookup.Fde.{Fde as TheFde};
 ghost use Rattle.dw_num.specs.Span.{Span, span_of};
 ghost use Rattle.dw_section.specs.declared.fields.FdeFields.{FdeFields};
 ghost use Rattle.dw_section.specs.Headers.{Head, Headers, IsFde};
-ghost use Rattle.dw_section.specs.Inner.Index.{IsFound, NamesCie, led_to};
+ghost use Rattle.dw_section.specs.Inner.Index.{IsFound, led_to};
 ghost use Rattle.dw_section.specs.Ranges.{IsRanged, fde_in};
 ghost use Rattle.dw_section.specs.Inner.Initials.{AreInitials};
 ghost use Rattle.dw_section.specs.Inner.Pieces.{piece_in};
@@ -38,6 +38,7 @@ pub(crate) struct FoundFde<'a> {
 }
 
 /// Goes to the rows of an FDE, whose programs are known to give rows.
+#[tactic(auto, using(dw_cfa::proofs::Lent::Given::known_gives))]
 #[inline(always)]
 pub(crate) fn go_to_rows<'a>(steps: &mut RowWalk<'a>, fde: &FoundFde<'a>, target: Target)
     requires in_space { fde.now.begin < address_limit target.size }
@@ -52,6 +53,7 @@ pub(crate) fn go_to_rows<'a>(steps: &mut RowWalk<'a>, fde: &FoundFde<'a>, target
 }
 
 /// The same, where the walk was led to the CIE of this FDE before.
+#[tactic(auto, using(dw_cfa::proofs::Lent::Given::known_gives))]
 pub(crate) fn go_on_rows<'a>(steps: &mut RowWalk<'a>, fde: &FoundFde<'a>, target: Target)
     requires in_space { fde.now.begin < address_limit target.size }
     requires no_fault { (rows_of target fde.now).fault ≡ None }
@@ -113,7 +115,6 @@ pub(crate) fn found_fde<'a>(
     ensures range { result.range ≡ fde.now.range }
     ensures register { result.return_register ≡ fde.now.return_register }
     ensures is { (hs : List Head) → Headers target bytes.now hs → AreInitials target hs hs initials.now → IsRanged hs fde.now → IsFound hs result }
-    ensures names { (hs : List Head) → Headers target bytes.now hs → AreInitials target hs hs initials.now → IsRanged hs fde.now → NamesCie hs result.cie_at (led_to target result) }
 {
     let at = u64::from(fde.at);
     let Ok(piece) = piece_at(bytes, at, target) else {
@@ -161,7 +162,6 @@ impl<'a> Table<'a> {
     pub(crate) fn found(&self, fde: FdeRef) -> FoundFde<'a>
         requires { (fs : List TheFde) → AreFdes self.now.target self.now.bytes fs → fde.place < length fs }
         ensures found { IsFoundIn self.now.target self.now.bytes result }
-        ensures led { LedBy self.now result.cie_at (led_to self.now.target result) }
         ensures listed { (fs : List TheFde) → AreFdes self.now.target self.now.bytes fs → (d : TheFde) → fde_of result ≡ slice_index_or fs fde.place d }
     {
         found_fde(self.bytes, self.target, self.initials(), &self.listed(fde))

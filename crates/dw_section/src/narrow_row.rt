@@ -12,6 +12,7 @@ use std::alloc::AllocError;
 
 // Whether a change may leave a register Unspecified that the row before it specifies. It looks at the registers that the
 // change alters alone.
+#[tactic(auto, using(crate::proofs::Dropped::specified_more))]
 fn drops_one(changes: &Changes<'_>) -> bool
     ensures { (before row : Rules) → changes.now.before ≡ Some before → changes.now.shown ≡ Some row → result ≡ false → SpecifiesAll before row }
 {
@@ -33,6 +34,7 @@ fn drops_one(changes: &Changes<'_>) -> bool
 
 // Drops from a row the registers that a change leaves Unspecified. Where it was narrowed by the row before, most changes drop
 // none, which needs no pass over the row.
+#[tactic(auto, using(crate::proofs::Dropped::none_dropped_by))]
 fn keep_change<'a>(shared: &mut Row<'a>, changes: &Changes<'a>, narrowed: bool)
     requires { (row : Rules) × (changes.now.shown ≡ Some row) }
     ensures { (row : Rules) → changes.now.shown ≡ Some row → (narrowed ≡ true → NarrowedBy shared.old changes.now.before) → shared.new ≡ kept shared.old row }
@@ -48,6 +50,7 @@ fn keep_change<'a>(shared: &mut Row<'a>, changes: &Changes<'a>, narrowed: bool)
 
 // Drops from a row the registers that one of the changes still to come leaves Unspecified. No change drops one that the
 // CIE's program specifies, so most rows need no walk.
+#[tactic(auto, using(crate::proofs::Dropped::none_dropped, crate::proofs::Dropped::next_of, crate::proofs::Dropped::before_is, crate::proofs::Dropped::kept_again))]
 fn keep_all<'a>(shared: &mut Row<'a>, changes: &mut Changes<'a>) -> Result<(), AllocError>
     ensures row { OnOk result (shared.new ≡ kept_by shared.old changes.old.to_come) }
     ensures behind { OnOk result ((changes.new ≡ changes.old) ⊎ (changes.new ≡ behind_all changes.old)) }

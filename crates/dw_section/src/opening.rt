@@ -66,7 +66,20 @@ fn opening_in(found: FoundFde<'_>, target: Target) -> Opening
 }
 
 impl<'a> Table<'a> {
-    /// Goes on to the changes of an FDE as `go_on` does, and answers how its programs begin: its fields are read once.
+    /// How long the programs of an FDE of the list of `fdes` are, and how its own begins: its fields are read once. Takes no
+    /// memory.
+    #[inline(always)]
+    pub fn opening(&self, fde: FdeRef) -> Opening
+        requires { (fs : List TheFde) → AreFdes self.now.target self.now.bytes fs → fde.place < length fs }
+        ensures lengths { (fs : List TheFde) → AreFdes self.now.target self.now.bytes fs → (d : TheFde) → HasLengths self.now.target self.now.bytes (slice_index_or fs fde.place d) result.own result.initial }
+        ensures opens { (fs : List TheFde) → AreFdes self.now.target self.now.bytes fs → (d : TheFde) → IfSome result.row (OpensBehind self.now.target self.now.bytes (slice_index_or fs fde.place d)) }
+        ensures only { (fs : List TheFde) → AreFdes self.now.target self.now.bytes fs → (d : TheFde) (row : TheRow) → OpensBehind self.now.target self.now.bytes (slice_index_or fs fde.place d) row → IsSome result.row }
+    {
+        self.accepted();
+        opening_in(self.found(fde), self.target)
+    }
+
+    /// Goes on to the changes of an FDE as `go_on` does, and answers what `opening` does.
     pub fn go_on_opening(&self, changes: &mut Changes<'a>, fde: FdeRef) -> Opening
         requires place { (fs : List TheFde) → AreFdes self.now.target self.now.bytes fs → fde.place < length fs }
         requires section { changes.old.section ≡ self.now }
@@ -78,7 +91,7 @@ impl<'a> Table<'a> {
         ensures opens { (fs : List TheFde) → AreFdes self.now.target self.now.bytes fs → (d : TheFde) → IfSome result.row (OpensBehind self.now.target self.now.bytes (slice_index_or fs fde.place d)) }
         ensures only { (fs : List TheFde) → AreFdes self.now.target self.now.bytes fs → (d : TheFde) (row : TheRow) → OpensBehind self.now.target self.now.bytes (slice_index_or fs fde.place d) row → IsSome result.row }
     {
-        self.accepted();
-        opening_in(self.led(changes, fde), self.target)
+        self.go_on(changes, fde);
+        self.opening(fde)
     }
 }

@@ -27,7 +27,7 @@ ghost use Rattle.dw_section.specs.Inner.Initials.{place_of, IsInitial, IsBehind,
 ghost use Rattle.dw_section.specs.Inner.Places.{Rises};
 ghost use Rattle.dw_section.specs.Programs.{CieRuns, CieBroken, FdeRuns, FdeBroken};
 ghost use Rattle.dw_section.specs.Among.{IsAmong};
-ghost use Rattle.dw_section.specs.Stage.{FirstStuck};
+ghost use Rattle.dw_section.specs.Accepted.{RulesFault};
 
 use crate::entry::{Kind, Placed, next_piece};
 use crate::header::{Header, cie_header};
@@ -164,8 +164,8 @@ pub(crate) fn run_cies<'a>(
 ) -> Result<Vec<Initial<'a>>, ReadError>
     requires ascending { Rises 0 places.now }
     requires headers { (hs : List Head) × AreHeaders target bytes.now places.now hs }
-    ensures found { (hs : List Head) → AreHeaders target bytes.now places.now hs → IfOk result (λ v. AreInitials target hs hs v.items) }
-    ensures first { (hs : List Head) → AreHeaders target bytes.now places.now hs → IfErr result (Refuses (FirstStuck (CieRuns target) (CieBroken target) hs)) }
+    ensures found { IfOk result (λ v. (hs : List Head) × AreHeaders target bytes.now places.now hs × AreInitials target hs hs v.items) }
+    ensures first { IfErr result (Refuses (RulesFault target bytes.now)) }
 {
     let mut cursor = Cursor::new(bytes, 0, target);
     let mut initials = Vec::with_capacity(alloc, places.len())?;
@@ -400,8 +400,7 @@ pub(crate) fn judge<'a>(
     initials: &[Initial<'a>],
     target: Target,
 ) -> Result<bool, ReadError>
-    requires ascending { Rises 0 (map place_of initials.now) }
-    requires fits { FdeFits target (map place_of initials.now) (head_in header.now) }
+    requires fits { Rises 0 (map place_of initials.now) × FdeFits target (map place_of initials.now) (head_in header.now) }
     requires each { (hs : List Head) × AllByRecursion (IsInitial target hs) initials.now × IsRunner target hs runner.old }
     ensures found { (hs : List Head) → AllByRecursion (IsInitial target hs) initials.now → IsRunner target hs runner.old → IfOk result (λ lacks. FdeRuns target hs (head_in header.now) × HasOrLacks target hs (head_in header.now) lacks × IsRunner target hs runner.new) }
     ensures stuck { (hs : List Head) → AllByRecursion (IsInitial target hs) initials.now → IsRunner target hs runner.old → IfErr result (Refuses (FdeBroken target hs (head_in header.now))) }

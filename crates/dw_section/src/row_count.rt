@@ -39,6 +39,7 @@ fn count_starts(instrs: &mut Instructions<'_>) -> u64
 }
 
 // How many rows an FDE's program starts.
+#[tactic(auto, using(crate::proofs::Counts::starts_so, crate::proofs::Counts::answers_few))]
 fn starts_of(fde: &FoundFde<'_>, target: Target) -> u64
     requires { IsProgram target fde.now }
     ensures bound { result ≤ 2147483648 }

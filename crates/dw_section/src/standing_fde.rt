@@ -1,6 +1,6 @@
 //! FDEs that are read at their places in bytes that were not checked (6.4.1).
 
-ghost use Rattle.std.specs.Prelude.{◌≡◌, ◌+◌, ◌<◌, ◌≤◌, ℕ, true, false, List, length, map, slice_index_or, Some, None, IfOk, IfErr, IfSome, IsSome, OnOk, option_map, MatchOption, MatchResult};
+ghost use Rattle.std.specs.Prelude.{◌≡◌, ◌+◌, ◌<◌, ◌≤◌, ℕ, true, false, List, length, map, slice_index_or, Some, None, IfOk, IfErr, IfSome, IsSome, OnOk, MatchOption, MatchResult};
 ghost use Rattle.dw_cfa.specs.RuleAt.{last_at};
 ghost use Rattle.dw_cfa.specs.Faults.{FaultUpTo, NoFaultUpTo};
 ghost use Rattle.dw_cfa.specs.Gives.{RunsTo};
@@ -22,7 +22,7 @@ ghost use Rattle.dw_section.specs.declared.standing_fde.LookUpError.TheVariants 
 ghost use Rattle.dw_section.specs.Overlap.{Ascends, Range};
 ghost use Rattle.std.specs.Bool.{MatchBool};
 ghost use Rattle.dw_section.specs.Inner.Pieces.{piece_in};
-ghost use Rattle.dw_section.specs.StandingFde.{CieAt, ItemFault, LookUpFault, Misleads, Names, NoneStands, PairFault, RefusesAs, RulesOf, StandingFault, StandsAs, StandsIn};
+ghost use Rattle.dw_section.specs.StandingFde.{ItemFault, LookUpFault, Misleads, Names, NoneStands, PairFault, RefusesAs, RulesOf, StandingFault, StandsAs, StandsIn};
 ghost use Rattle.dw_section.specs.Stage.{Then};
 ghost use Rattle.dw_op.specs.Faults.{IsWithin};
 ghost use Rattle.dw_section.specs.Inner.StandingFde.{AreJoined, FoundStands, LiesInPrograms, StandsAt, is_fde, of_steps};
@@ -74,7 +74,7 @@ fn cie_at<'a>(bytes: &'a [u8], at: u64, target: Target) -> Result<Option<Placed<
     ensures found { IfOk result (λ o. IfSome o (λ p. (p.at ≡ at) × (p.kind ≡ kind.Cie) × StandsIn target.order bytes.now (piece_in p))) }
     ensures within { IfErr result (IsWithin bytes.now) }
     ensures fault { IfErr result (ItemFault target bytes.now at) }
-    ensures stands { IfOk result (λ o. CieAt target bytes.now at (option_map piece_in o)) }
+    ensures none { IfOk result (λ o. (r : TheRefusal) → ItemFault target bytes.now at r → ⊥) }
     ensures only { (p : Piece) → StandsIn target.order bytes.now p → p.at ≡ at → p.kind ≡ kind.Cie → MatchResult result (λ o. MatchOption o ⊥ (λ q. piece_in q ≡ p)) (λ _. ⊥) }
 {
     let Some(piece) = piece_at(bytes, at, target)? else {
@@ -87,6 +87,7 @@ fn cie_at<'a>(bytes: &'a [u8], at: u64, target: Target) -> Result<Option<Placed<
 }
 
 /// The first field of an FDE: the place of its CIE.
+#[tactic(auto, using(crate::proofs::StandFaults::fixed_there))]
 #[inline(always)]
 pub(crate) fn pointer_of(piece: &Placed<'_>, target: Target) -> u64
     requires { id_width piece.now.form ≤ length piece.now.contents.bytes.now }
@@ -192,8 +193,7 @@ fn standing<'a>(bytes: &'a [u8], at: u64, target: Target) -> Result<Option<Found
 // How many entries of an index begin at or below an address, where begins ascend.
 fn begun(index: &[Ranged], address: u64) -> usize
     ensures bound { result ≤ length index.now }
-    ensures below { Ascends (map range_in index.now) → (k : ℕ) (d : TheRanged) → k < result → (slice_index_or index.now k d).begin ≤ address }
-    ensures above { Ascends (map range_in index.now) → (k : ℕ) (d : TheRanged) → result ≤ k → k < length index.now → address < (slice_index_or index.now k d).begin }
+    ensures divides { Ascends (map range_in index.now) → ((k : ℕ) (d : TheRanged) → k < result → (slice_index_or index.now k d).begin ≤ address) × ((k : ℕ) (d : TheRanged) → result ≤ k → k < length index.now → address < (slice_index_or index.now k d).begin) }
 {
     index.partition_point(|fde| fde.begin <= address)
 }

@@ -63,6 +63,7 @@ impl<'a> Table<'a> {
         ensures fdes { (fs : List TheFde) × AreFdes self.now.target self.now.bytes fs }
         ensures bytes { AreBytes self.now.bytes }
     {
+        let _ = self.index();
         are_bytes(self.bytes);
     }
 

@@ -1,20 +1,8 @@
 -- Whatever gives each list of operations its least block spells instructions in the same bytes.
-use Rattle.std.proofs.Common.{◌≡◌, ℕ, List, [], ◌∷◌, ◌++◌, refl, ap, ◌∙◌}
-use Rattle.std.specs.List.{AllByRecursion}
-use Rattle.dw_num.specs.declared.target.Target.{Target}
-use Rattle.dw_op.specs.declared.op.Op.{Op}
-use Rattle.dw_op.specs.Least.{LeastBlock}
-use Rattle.dw_op.specs.Inner.LeastBlock.{least_block}
-use Rattle.dw_op.specs.Expression.{Expression}
-use Rattle.dw_num.specs.Shortest.{shortest_uleb}
-use Rattle.dw_op.proofs.Lent.LeastBlocks.{least_block_exists}
-use Rattle.dw_cfa.specs.declared.instr.Instr.{Instr}
-use Rattle.dw_cfa.specs.declared.instr.Instr.TheVariants.{DefCfaExpression, Set}
-use Rattle.dw_cfa.specs.declared.rule.RegRule.{RegRule}
+use Rattle.dw_canon.proofs.Words.{◌≡◌, ℕ, List, [], ◌∷◌, ◌++◌, refl, ap, ◌∙◌, AllByRecursion, Target, Op, LeastBlock, least_block, Expression, shortest_uleb, least_block_exists, Instr, DefCfaExpression, Set, RegRule, HasBlock, RuleFits}
+use Rattle.dw_canon.proofs.Words.{InstrFits, counted}
 use Rattle.dw_cfa.specs.declared.rule.RegRule.TheVariants as rules
-use Rattle.dw_section.specs.Fits.{HasBlock, RuleFits}
-use Rattle.dw_canon.specs.Inner.Fits.{InstrFits}
-use Rattle.dw_canon.specs.Spelling.{counted, rule_bytes, program_bytes}
+use Rattle.dw_canon.specs.Spelling.{rule_bytes, program_bytes}
 use Rattle.dw_canon.specs.Spelling.{instr_bytes as instr_with}
 
 module _ (t : Target) (block : List Op → List ℕ) (least : (ops : List Op) (bytes : List ℕ) → LeastBlock t ops bytes → block ops ≡ bytes) where

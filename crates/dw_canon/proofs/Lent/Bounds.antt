@@ -1,28 +1,9 @@
 -- The normal form of a section is no longer than the shares of its FDEs.
-use Rattle.std.proofs.Common.{◌≡◌, ℕ, ◌+◌, ◌*◌, ◌<◌, ◌≤◌, List, [], ◌∷◌, length, map, refl, ap, subst, inl, inr, arith, ◌∙◌}
-use Rattle.std.specs.Prelude.{nat_eq}
-use Rattle.std.specs.List.{AllByRecursion}
-use Rattle.std.proofs.lemmas.Bool.Decides.{eqb_tells}
-use Rattle.std.proofs.lemmas.List.{length-append}
-use Rattle.dw_num.specs.declared.target.Size.{Size}
-use Rattle.dw_num.specs.declared.target.Size.TheVariants.{Four, Eight}
-use Rattle.dw_num.specs.declared.target.Target.{Target}
-use Rattle.dw_num.specs.Input.{AreBytes}
-use Rattle.dw_num.specs.Target.{byte_count}
-use Rattle.dw_num.proofs.Lent.FixedLaws.{length-fixed}
-use Rattle.dw_section.specs.Accepted.{Accepted}
+use Rattle.dw_canon.proofs.Words.{◌≡◌, ℕ, ◌+◌, ◌*◌, ◌<◌, ◌≤◌, List, [], ◌∷◌, length, map, refl, ap, subst, inl, inr, arith, ◌∙◌, nat_eq, AllByRecursion, eqb_tells, length-append, Size, Four, Eight, Target, AreBytes, byte_count}
+use Rattle.dw_canon.proofs.Words.{length-fixed, Accepted, group_of, groups_of, part_of, parts_of, canon, cie_instrs, initial_of, return_registers, MemberStands, group, cie_of, Member, IsMember, AreMembers, fde_of, changes_of, program_bytes}
+use Rattle.dw_canon.proofs.Words.{cie_id, cie_spelling, entry_bytes, section_bytes, cie_fields}
 use Rattle.dw_canon.specs.Bound.{share, Shares, WithinShares}
-use Rattle.dw_canon.specs.Inner.Laid.{group_of, groups_of, part_of, parts_of}
-use Rattle.dw_canon.specs.Inner.Canon.{canon, cie_instrs, initial_of}
-use Rattle.dw_canon.specs.Canon.{return_registers}
-use Rattle.dw_canon.specs.Inner.Fits.{MemberStands}
-use Rattle.dw_canon.specs.Group.{group}
-use Rattle.dw_canon.specs.Inner.Laid.{cie_of}
 use Rattle.dw_canon.specs.Inner.Laid as layout
-use Rattle.dw_canon.specs.Members.{Member, IsMember, AreMembers, fde_of, changes_of}
-use Rattle.dw_canon.specs.Inner.Spelling.{program_bytes}
-use Rattle.dw_canon.specs.Inner.Written.{cie_id, cie_spelling, entry_bytes, section_bytes}
-use Rattle.dw_canon.specs.Written.{cie_fields}
 use Rattle.dw_canon.proofs.Lent.Differences.{In}
 use Rattle.dw_canon.proofs.Lent.Extra.{section_append, up, entry_up, fde_length}
 use Rattle.dw_canon.proofs.Lent.Forms.{whole_is}

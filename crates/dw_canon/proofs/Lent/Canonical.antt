@@ -1,35 +1,14 @@
 -- The laws of normal forms.
-use Rattle.std.proofs.Common.{◌≡◌, ℕ, ◌<◌, ◌≤◌, List, [], ◌∷◌, ◌++◌, map, length, refl, sym, ap, ◌∙◌, subst, inl, inr}
-use Rattle.std.specs.Prelude.{◌↔◌}
-use Rattle.std.specs.List.{AllByRecursion}
-use Rattle.dw_num.specs.Input.{AreBytes}
-use Rattle.dw_num.specs.declared.target.Target.{Target}
-use Rattle.dw_cfa.specs.Rows.{Rules}
-use Rattle.dw_cfa.specs.Location.{row_starts}
-use Rattle.dw_section.specs.declared.lookup.Fde.{Fde}
-use Rattle.dw_section.specs.Accepted.{Accepted}
-use Rattle.dw_section.specs.Changes.{AreChanges}
-use Rattle.dw_section.specs.Meaning.{AreFdes, ChangesOf, RowStarts, total}
-use Rattle.dw_section.proofs.Lent.FdeLookup.{one_fdes}
+use Rattle.dw_canon.proofs.Words.{◌≡◌, ℕ, ◌<◌, ◌≤◌, List, [], ◌∷◌, ◌++◌, map, length, refl, sym, ap, ◌∙◌, subst, inl, inr, ◌↔◌, AllByRecursion, AreBytes, Target, Rules, row_starts, Fde, Accepted, AreChanges, AreFdes, ChangesOf, RowStarts}
+use Rattle.dw_canon.proofs.Words.{total, one_fdes, IsAmong, ReadsBack, fdes_exist, listed_programs, one_change_list, Group, Part, cie_of, laid, Written, section_bytes, least_starts, part_of, groups_of, parts_of, canon, initial_of}
+use Rattle.dw_canon.proofs.Words.{MemberStands, Member, fde_of, changes_of, IsMember, AreMembers, IsNormalForm}
 use Rattle.dw_section.specs.Meanings.{SameMeaning}
-use Rattle.dw_section.specs.Among.{IsAmong}
-use Rattle.dw_canon.specs.Inner.Renders.{ReadsBack}
-use Rattle.dw_section.proofs.Lent.Sections.{fdes_exist, listed_programs}
 use Rattle.dw_section.proofs.Lent.Exists.{listed_change, meaning_changes}
-use Rattle.dw_section.proofs.Lent.Sames.{one_change_list}
-use Rattle.dw_canon.specs.Inner.Laid.{Group, Part, cie_of, laid}
 use Rattle.dw_canon.specs.Inner.Laid as layout
-use Rattle.dw_canon.specs.Inner.Written.{Written, section_bytes}
-use Rattle.dw_section.proofs.Lent.Totals.{least_starts}
 use Rattle.dw_canon.proofs.Lent.Extra.{starts_of, written_starts}
 use Rattle.dw_canon.proofs.Lays.{laid_section}
 use Rattle.dw_canon.proofs.Lent.Readback.{rendered_laid}
-use Rattle.dw_canon.specs.Inner.Laid.{part_of, groups_of, parts_of}
-use Rattle.dw_canon.specs.Inner.Canon.{canon, initial_of}
-use Rattle.dw_canon.specs.Inner.Fits.{MemberStands}
 use Rattle.dw_canon.specs.Laws.{NormalFormExists, NormalFormIsOne, MeaningIsKept, NormalAgain, SameNormalForm, FewestRows, NormalRows}
-use Rattle.dw_canon.specs.Members.{Member, fde_of, changes_of, IsMember, AreMembers}
-use Rattle.dw_canon.specs.Normal.{IsNormalForm}
 use Rattle.dw_canon.proofs.Kept.{reads_back}
 use Rattle.dw_canon.proofs.Lent.Forms.{is_normal, whole_is}
 use Rattle.dw_canon.proofs.Lent.Layout.{laid_is}

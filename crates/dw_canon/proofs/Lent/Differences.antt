@@ -1,30 +1,11 @@
 -- The instructions of a difference lead from the one row to the other, with no fault.
-use Rattle.std.proofs.Common.{◌≡◌, ◌⊎◌, ℕ, Bool, true, false, List, [], ◌∷◌, ◌++◌, None, refl, sym, ap, ◌∙◌, subst, inl, inr, arith}
-use Rattle.std.specs.Prelude.{nat_eq, nat_lt, if◌then◌else◌, map}
-use Rattle.std.specs.List.{flat_map}
-use Rattle.std.specs.Map.{keys_of}
-use Rattle.std.specs.Ordering.{int_eq}
-use Rattle.std.proofs.lemmas.Bool.{cases_Bool, eqb-true, eqb-false}
-use Rattle.std.proofs.lemmas.Bool.Decides.{Decides-int_eq}
-use Rattle.dw_num.specs.declared.target.Target.{Target}
-use Rattle.dw_cfa.specs.declared.instr.Instr.{Instr}
-use Rattle.dw_cfa.specs.declared.instr.Instr.TheVariants.{Set, Restore}
-use Rattle.dw_cfa.specs.declared.rule.CfaRule.{CfaRule}
+use Rattle.dw_canon.proofs.Words.{◌≡◌, ◌⊎◌, ℕ, Bool, true, false, List, [], ◌∷◌, ◌++◌, None, refl, sym, ap, ◌∙◌, subst, inl, inr, arith, nat_eq, nat_lt, if◌then◌else◌, map, flat_map, keys_of, int_eq, cases_Bool, eqb-true, eqb-false}
+use Rattle.dw_canon.proofs.Words.{Decides-int_eq, Target, Instr, Set, Restore, CfaRule, RegRule, moves_location, keeps_half, State, after, half_fault, fde_fault, Rules, AreSpecified, rule, rule_in, same_rows, cfa_to, either, cfa_difference}
+use Rattle.dw_canon.proofs.Words.{rule_difference, difference, with_register, with_registers, CfaFits, RowFits, same_cfa, same_rule, cfa_tells, rule_tells}
 use Rattle.dw_cfa.specs.declared.rule.CfaRule.TheVariants as cfa
-use Rattle.dw_cfa.specs.declared.rule.RegRule.{RegRule}
 use Rattle.dw_cfa.specs.declared.rule.RegRule.TheVariants as rules
-use Rattle.dw_cfa.specs.Location.{moves_location}
-use Rattle.dw_cfa.specs.Kept.{keeps_half}
-use Rattle.dw_cfa.specs.Inner.Machine.{State, after, half_fault, fde_fault}
-use Rattle.dw_cfa.specs.Rows.{Rules, AreSpecified, rule, rule_in}
 use Rattle.dw_cfa.specs.Inner.Rows.{with_cfa, with_rule}
 use Rattle.dw_cfa.proofs.Lent.RowLists.{put_rule, put_keeps}
-use Rattle.dw_cfa.proofs.Lent.SameRows.{same_rows}
-use Rattle.dw_canon.specs.Difference.{cfa_to, either}
-use Rattle.dw_canon.specs.Inner.Difference.{cfa_difference, rule_difference, difference, with_register, with_registers}
-use Rattle.dw_section.specs.Fits.{CfaFits, RowFits}
-use Rattle.dw_cfa.specs.Inner.Agreement.{same_cfa, same_rule}
-use Rattle.dw_cfa.specs.Inner.RowEquality.{cfa_tells, rule_tells}
 
 -- ---- instructions that move no location, and run without a fault from one state to another
 

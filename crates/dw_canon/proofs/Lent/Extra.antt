@@ -1,27 +1,9 @@
 -- Places of what is written, and how many rows its programs start.
-use Rattle.std.proofs.Common.{◌≡◌, ℕ, ◌+◌, ◌*◌, ◌%◌, List, [], ◌∷◌, ◌++◌, length, refl, sym, ap, ◌∙◌, append_assoc, arith, inl, inr}
-use Rattle.std.specs.Prelude.{replicate}
-use Rattle.std.specs.List.{AllByRecursion, AllZip}
-use Rattle.std.proofs.lemmas.List.{length-append, length-replicate}
-use Rattle.dw_num.specs.declared.target.Form.TheVariants.{Dwarf32}
-use Rattle.dw_num.specs.declared.target.Size.{Size}
-use Rattle.dw_num.specs.declared.target.Size.TheVariants.{Four, Eight}
-use Rattle.dw_num.specs.declared.target.Target.{Target}
-use Rattle.dw_num.specs.Target.{byte_count}
-use Rattle.dw_num.specs.Fixed.{fixed_bytes}
-use Rattle.dw_num.proofs.Lent.FixedLaws.{length-fixed}
-use Rattle.dw_cfa.specs.declared.instr.Instr.{Instr}
-use Rattle.dw_cfa.specs.Location.{row_starts}
-use Rattle.dw_section.specs.Headers.{Head}
-use Rattle.dw_section.specs.Inner.Heads.{head_at}
-use Rattle.dw_section.specs.Meaning.{Says, Starts, RowStarts, total}
-use Rattle.dw_section.specs.Among.{IsAmong}
-use Rattle.dw_canon.specs.Inner.Written.{Written, cie, fde, fields_of, program_of, nops_of, filled, contents, entry_bytes, section_bytes}
-use Rattle.dw_canon.specs.Written.{missing, fde_fields}
-use Rattle.dw_canon.specs.Inner.Written.{span_of, head_of, heads_at, ranges_at, Fits, Runs, IsSection}
+use Rattle.dw_canon.proofs.Words.{◌≡◌, ℕ, ◌+◌, ◌*◌, ◌%◌, List, [], ◌∷◌, ◌++◌, length, refl, sym, ap, ◌∙◌, append_assoc, arith, inl, inr, replicate, AllByRecursion, AllZip, length-append, length-replicate, Dwarf32, Size, Four, Eight, Target}
+use Rattle.dw_canon.proofs.Words.{byte_count, fixed_bytes, length-fixed, Instr, row_starts, Head, head_at, Says, Starts, RowStarts, total, IsAmong, Written, cie, fde, fields_of, program_of, nops_of, filled, contents, entry_bytes}
+use Rattle.dw_canon.proofs.Words.{section_bytes, missing, fde_fields, span_of, head_of, heads_at, ranges_at, Fits, Runs, IsSection, nops, row_starts_nops}
 use Rattle.dw_canon.proofs.Accepts.{begun, instrs_so, written_index}
 use Rattle.dw_canon.proofs.Lent.Fields.{entry_length, written_headers}
-use Rattle.dw_section.proofs.Lent.Nops.{nops, row_starts_nops}
 
 -- ---- places
 

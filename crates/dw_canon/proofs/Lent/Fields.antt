@@ -1,33 +1,13 @@
 -- The cut of a section that is written, and the fields of each entry.
-use Rattle.std.proofs.Common.{◌≡◌, ℕ, ◌+◌, ◌/◌, ◌%◌, ◌<◌, ◌≤◌, ◌⊎◌, ◌^◌, true, false, Bool, List, [], ◌∷◌, ◌++◌, length, map, refl, sym, ap, subst, ◌∙◌, append_assoc, arith, inl, inr, negsuc}
-use Rattle.std.specs.Prelude.{◌==◌, if◌then◌else◌, None}
-use Rattle.std.specs.List.{AllByRecursion, AllZip, list_all, cons_option}
-use Rattle.std.proofs.lemmas.Bool.{cases_Bool, and_parts, eqb-true, le-leb, lt-ltb}
-use Rattle.std.proofs.lemmas.Bool.Decides.{eqb_tells}
-use Rattle.std.proofs.lemmas.List.{length-append, append-nil}
-use Rattle.dw_num.specs.declared.target.Order.{Order}
-use Rattle.dw_num.specs.declared.target.Order.TheVariants.{Little, Big}
-use Rattle.dw_num.specs.declared.target.Size.{Size}
-use Rattle.dw_num.specs.declared.target.Size.TheVariants.{Four, Eight}
-use Rattle.dw_num.specs.declared.target.Form.TheVariants.{Dwarf32}
-use Rattle.dw_num.specs.declared.target.Target.{Target}
-use Rattle.dw_num.specs.Fixed.{fixed_bytes, Fixed}
-use Rattle.dw_num.specs.Shortest.{shortest_uleb}
-use Rattle.dw_num.specs.Target.{address_limit, byte_count}
-use Rattle.dw_num.proofs.Lent.FixedLaws.{length-fixed}
-use Rattle.dw_num.proofs.Lent.Shortest.{shortest_uleb-spells}
-use Rattle.dw_cfa.specs.declared.instr.Instr.{Instr}
+use Rattle.dw_canon.proofs.Words.{◌≡◌, ℕ, ◌+◌, ◌/◌, ◌%◌, ◌<◌, ◌≤◌, ◌⊎◌, ◌^◌, true, false, Bool, List, [], ◌∷◌, ◌++◌, length, map, refl, sym, ap, subst, ◌∙◌, append_assoc, arith, inl, inr, negsuc, ◌==◌, if◌then◌else◌, None, AllByRecursion}
+use Rattle.dw_canon.proofs.Words.{AllZip, list_all, cons_option, cases_Bool, and_parts, eqb-true, le-leb, lt-ltb, eqb_tells, length-append, append-nil, Order, Little, Big, Size, Four, Eight, Dwarf32, Target, fixed_bytes, Fixed}
+use Rattle.dw_canon.proofs.Words.{shortest_uleb, address_limit, byte_count, length-fixed, shortest_uleb-spells, Instr, IsItem, is_cie, Piece, pieces, Cut, Has, Headers, cie_places, place_if, Written, cie, fde, cie_id, cie_spelling}
+use Rattle.dw_canon.proofs.Words.{fields_of, program_of, nops_of, filled, contents, item_of, entry_bytes, section_bytes, fde_fields, cie_fields, span_of, head_of, heads_at, cies_at, StandsAt, Fits}
 use Rattle.dw_section.specs.declared.entry.Kind.{Kind}
 use Rattle.dw_section.specs.declared.entry.Kind.TheVariants as kind
 use Rattle.dw_section.specs.Fields as table
 use Rattle.dw_section.specs.Fields.{is_among, FieldsSpell, unless}
-use Rattle.dw_section.specs.Cut.{IsItem, is_cie, Piece, pieces, Cut}
 use Rattle.dw_section.specs.Inner.Least.{least_cie}
-use Rattle.dw_section.specs.Headers.{Has, Headers}
-use Rattle.dw_section.specs.Places.{cie_places, place_if}
-use Rattle.dw_canon.specs.Inner.Written.{Written, cie, fde, cie_id, cie_spelling, fields_of, program_of, nops_of, filled, contents, item_of, entry_bytes, section_bytes}
-use Rattle.dw_canon.specs.Written.{fde_fields, cie_fields}
-use Rattle.dw_canon.specs.Inner.Written.{span_of, head_of, heads_at, cies_at, StandsAt, Fits}
 use Rattle.dw_num.specs.declared.refusal.Code.TheVariants.{AddressSize}
 
 -- ---- lengths

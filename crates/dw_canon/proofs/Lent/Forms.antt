@@ -1,31 +1,12 @@
 -- Whatever tells equal rules, gives each list of operations its least block and each return register the row that its FDEs share
 -- gives the normal form the same bytes.
-use Rattle.std.proofs.Common.{◌≡◌, ℕ, ◌+◌, ◌-◌, Bool, List, [], ◌∷◌, ◌++◌, length, map, refl, sym, ap, ◌∙◌}
-use Rattle.std.specs.Prelude.{◌↔◌, ◌==◌, IsTrue, nat_eq, if◌then◌else◌}
-use Rattle.std.specs.List.{AllByRecursion, flat_map}
-use Rattle.dw_num.specs.Input.{AreBytes}
-use Rattle.dw_num.specs.declared.target.Target.{Target}
-use Rattle.dw_op.specs.declared.op.Op.{Op}
-use Rattle.dw_op.specs.Least.{LeastBlock}
-use Rattle.dw_op.specs.Inner.LeastBlock.{least_block}
+use Rattle.dw_canon.proofs.Words.{◌≡◌, ℕ, ◌+◌, ◌-◌, Bool, List, [], ◌∷◌, ◌++◌, length, map, refl, sym, ap, ◌∙◌, ◌↔◌, ◌==◌, IsTrue, nat_eq, if◌then◌else◌, AllByRecursion, flat_map, AreBytes, Target, Op, LeastBlock, least_block, Instr}
+use Rattle.dw_canon.proofs.Words.{CfaRule, RegRule, same_cfa, same_rule, cfa_tells, rule_tells, Rules, Accepted, return_registers, group, IsShared, initial_of, cie_instrs, fde_instrs, cie_bytes, cie_at, fde_bytes, canon, InstrFits}
+use Rattle.dw_canon.proofs.Words.{MemberStands, Member, AreMembers, IsNormalForm, written, cie_fields, fde_fields}
 use Rattle.dw_op.proofs.Lent.LeastOne.{least_block_only}
-use Rattle.dw_cfa.specs.declared.instr.Instr.{Instr}
-use Rattle.dw_cfa.specs.declared.rule.CfaRule.{CfaRule}
-use Rattle.dw_cfa.specs.declared.rule.RegRule.{RegRule}
-use Rattle.dw_cfa.specs.Inner.Agreement.{same_cfa, same_rule}
-use Rattle.dw_cfa.specs.Inner.RowEquality.{cfa_tells, rule_tells}
-use Rattle.dw_cfa.specs.Rows.{Rules}
-use Rattle.dw_section.specs.Accepted.{Accepted}
-use Rattle.dw_canon.specs.Canon.{return_registers}
 use Rattle.dw_canon.specs.Canon.{canon as canon_with}
 use Rattle.dw_canon.specs.Canon as form
-use Rattle.dw_canon.specs.Group.{group, IsShared}
-use Rattle.dw_canon.specs.Inner.Canon.{initial_of, cie_instrs, fde_instrs, cie_bytes, cie_at, fde_bytes, canon}
-use Rattle.dw_canon.specs.Inner.Fits.{InstrFits, MemberStands}
-use Rattle.dw_canon.specs.Members.{Member, AreMembers}
-use Rattle.dw_canon.specs.Normal.{IsNormalForm}
 use Rattle.dw_canon.specs.Spelling.{program_bytes}
-use Rattle.dw_canon.specs.Written.{written, cie_fields, fde_fields}
 use Rattle.dw_canon.proofs.Lent.Shared.{MemberFits, shared_is}
 use Rattle.dw_canon.proofs.Lent.Blocks.{same_program}
 use Rattle.dw_canon.proofs.Lent.InstrFits.{cie_fits, member_fits, with_all}

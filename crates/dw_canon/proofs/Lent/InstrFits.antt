@@ -1,27 +1,9 @@
 -- The instructions of a member's program, and of a CIE's, can be spelled.
-use Rattle.std.proofs.Common.{◌≡◌, ℕ, zero, suc, ◌-◌, ◌<◌, ◌≤◌, ◌^◌, true, false, List, [], ◌∷◌, ◌++◌, map, replicate, refl, inl, inr, arith}
-use Rattle.std.specs.Prelude.{nat_eq, nat_lt, IsTrue}
-use Rattle.std.specs.List.{flat_map, AllByRecursion}
-use Rattle.std.specs.Map.{keys_of}
-use Rattle.std.specs.Ordering.{int_eq}
-use Rattle.std.proofs.lemmas.Bool.{cases_Bool, ltb-true}
-use Rattle.dw_num.specs.declared.target.Target.{Target}
-use Rattle.dw_num.specs.Target.{address_limit}
-use Rattle.dw_cfa.specs.declared.instr.Instr.TheVariants.{Nop}
-use Rattle.dw_cfa.specs.declared.rule.CfaRule.{CfaRule}
+use Rattle.dw_canon.proofs.Words.{◌≡◌, ℕ, zero, suc, ◌-◌, ◌<◌, ◌≤◌, ◌^◌, true, false, List, [], ◌∷◌, ◌++◌, map, replicate, refl, inl, inr, arith, nat_eq, nat_lt, IsTrue, flat_map, AllByRecursion, keys_of, int_eq, cases_Bool, ltb-true}
+use Rattle.dw_canon.proofs.Words.{Target, address_limit, Nop, CfaRule, RegRule, in_cie, Rules, rule, is_specified, blank, fde_instrs, cie_instrs, cfa_to, either, move, cfa_difference, rule_difference, difference, later_changes}
+use Rattle.dw_canon.proofs.Words.{with_register, with_registers, CfaFits, RuleFits, RowFits, RestsOn, ChangesStand, MemberStands, InstrFits, Member, same_cfa, same_rule}
 use Rattle.dw_cfa.specs.declared.rule.CfaRule.TheVariants as cfa
-use Rattle.dw_cfa.specs.declared.rule.RegRule.{RegRule}
 use Rattle.dw_cfa.specs.declared.rule.RegRule.TheVariants as rules
-use Rattle.dw_cfa.specs.Kept.{in_cie}
-use Rattle.dw_cfa.specs.Rows.{Rules, rule, is_specified, blank}
-use Rattle.dw_canon.specs.Inner.Canon.{fde_instrs, cie_instrs}
-use Rattle.dw_canon.specs.Difference.{cfa_to, either, move}
-use Rattle.dw_canon.specs.Inner.Difference.{cfa_difference, rule_difference, difference, later_changes, with_register, with_registers}
-use Rattle.dw_section.specs.Fits.{CfaFits, RuleFits, RowFits}
-use Rattle.dw_canon.specs.Inner.Fits.{RestsOn, ChangesStand, MemberStands}
-use Rattle.dw_canon.specs.Inner.Fits.{InstrFits}
-use Rattle.dw_canon.specs.Members.{Member}
-use Rattle.dw_cfa.specs.Inner.Agreement.{same_cfa, same_rule}
 use Rattle.dw_section.proofs.Lent.RowFits.{rule_fits}
 use Rattle.dw_canon.proofs.Lent.Programs.{below_end}
 

@@ -1,17 +1,8 @@
 -- The normal form is its CIEs and FDEs, laid out with their instructions.
-use Rattle.std.proofs.Common.{◌≡◌, ℕ, ◌+◌, ◌-◌, List, [], ◌∷◌, ◌++◌, length, map, refl, sym, ap, ◌∙◌}
-use Rattle.std.specs.Prelude.{◌==◌, if◌then◌else◌}
-use Rattle.std.specs.List.{flat_map}
-use Rattle.dw_num.specs.declared.target.Target.{Target}
-use Rattle.dw_canon.specs.Canon.{return_registers}
-use Rattle.dw_canon.specs.Inner.Canon.{initial_of, cie_bytes, cie_at, fde_instrs, fde_bytes, canon}
+use Rattle.dw_canon.proofs.Words.{◌≡◌, ℕ, ◌+◌, ◌-◌, List, [], ◌∷◌, ◌++◌, length, map, refl, sym, ap, ◌∙◌, ◌==◌, if◌then◌else◌, flat_map, Target, return_registers, initial_of, cie_bytes, cie_at, fde_instrs, fde_bytes, canon, Member}
+use Rattle.dw_canon.proofs.Words.{program_bytes, written, fde_fields, cie_of, place_of, laid, group_of, groups_of, part_of, parts_of, entry_bytes, section_bytes}
 use Rattle.dw_canon.specs.Canon.{canon as canon_with}
-use Rattle.dw_canon.specs.Members.{Member}
-use Rattle.dw_canon.specs.Inner.Spelling.{program_bytes}
-use Rattle.dw_canon.specs.Written.{written, fde_fields}
-use Rattle.dw_canon.specs.Inner.Laid.{cie_of, place_of, laid, group_of, groups_of, part_of, parts_of}
 use Rattle.dw_canon.specs.Inner.Laid as layout
-use Rattle.dw_canon.specs.Inner.Written.{entry_bytes, section_bytes}
 use Rattle.dw_canon.proofs.Lent.Extra.{section_append}
 
 module _ (t : Target) (ms : List Member) where

@@ -1,24 +1,9 @@
 -- The program of a member runs without a fault, and its rows are the member's changes.
-use Rattle.std.proofs.Common.{◌≡◌, ℕ, zero, suc, ◌+◌, ◌-◌, ◌<◌, ◌≤◌, ◌^◌, Bool, true, false, List, [], ◌∷◌, ◌++◌, map, replicate, Option, None, refl, sym, ap, ◌∙◌, subst, arith}
-use Rattle.std.specs.Prelude.{nat_lt}
-use Rattle.std.proofs.lemmas.Bool.{le-ltb}
-use Rattle.std.proofs.lemmas.List.{append_assoc, append-nil}
-use Rattle.dw_canon.specs.Members.{Member, changes_of}
-use Rattle.dw_canon.specs.Inner.Canon.{fde_instrs}
-use Rattle.dw_num.specs.declared.target.Target.{Target}
-use Rattle.dw_cfa.specs.declared.instr.Instr.{Instr}
-use Rattle.dw_cfa.specs.declared.instr.Instr.TheVariants.{Nop}
-use Rattle.dw_cfa.specs.declared.execution.LocatedRow.{LocatedRow}
-use Rattle.dw_cfa.specs.Location.{moves_location}
-use Rattle.dw_cfa.specs.Inner.Machine.{State, after, fde_fault}
-use Rattle.dw_cfa.specs.Rows.{Rules}
-use Rattle.dw_cfa.specs.Inner.Runs.{Placed, here, row_if, fault_or, fde_rows}
+use Rattle.dw_canon.proofs.Words.{◌≡◌, ℕ, zero, suc, ◌+◌, ◌-◌, ◌<◌, ◌≤◌, ◌^◌, Bool, true, false, List, [], ◌∷◌, ◌++◌, map, replicate, Option, None, refl, sym, ap, ◌∙◌, subst, arith, nat_lt, le-ltb, append_assoc, append-nil, Member}
+use Rattle.dw_canon.proofs.Words.{changes_of, fde_instrs, Target, Instr, Nop, LocatedRow, moves_location, State, after, fde_fault, Rules, Placed, row_if, fault_or, fde_rows, instrs_of, Gives, move, difference, later_changes, RowFits}
+use Rattle.dw_canon.proofs.Words.{RowStands, ChangesStand}
+use Rattle.dw_cfa.specs.Inner.Runs.{here}
 use Rattle.dw_cfa.specs.Runs.{Outcome}
-use Rattle.dw_cfa.proofs.Lent.RowsAt.{instrs_of, Gives}
-use Rattle.dw_canon.specs.Difference.{move}
-use Rattle.dw_canon.specs.Inner.Difference.{difference, later_changes}
-use Rattle.dw_section.specs.Fits.{RowFits}
-use Rattle.dw_canon.specs.Inner.Fits.{RowStands, ChangesStand}
 use Rattle.dw_canon.proofs.Lent.Differences.{Quiet, on, no_half, difference_quiet}
 
 -- ---- the machine over instructions without their places

@@ -1,38 +1,13 @@
 -- What is written of an accepted section means the same when it is read back.
-use Rattle.std.proofs.Common.{◌≡◌, ℕ, ◌+◌, ◌<◌, ◌≤◌, ◌^◌, List, [], ◌∷◌, ◌++◌, length, map, refl, sym, ap, subst, arith, inl, inr}
-use Rattle.std.specs.List.{AllByRecursion, AllZip}
-use Rattle.dw_num.specs.declared.target.Size.{Size}
-use Rattle.dw_num.specs.declared.target.Size.TheVariants.{Four, Eight}
-use Rattle.dw_num.specs.declared.target.Target.{Target}
-use Rattle.dw_num.specs.Input.{AreBytes}
-use Rattle.dw_num.specs.Target.{address_limit, byte_count}
-use Rattle.dw_cfa.specs.declared.instr.Instr.{Instr}
-use Rattle.dw_section.specs.declared.lookup.Fde.{Fde}
-use Rattle.dw_section.specs.Accepted.{Accepted}
-use Rattle.dw_section.specs.Cut.{Piece}
-use Rattle.dw_section.specs.Headers.{Head, Has}
+use Rattle.dw_canon.proofs.Words.{◌≡◌, ℕ, ◌+◌, ◌<◌, ◌≤◌, ◌^◌, List, [], ◌∷◌, ◌++◌, length, map, refl, sym, ap, subst, arith, inl, inr, AllByRecursion, AllZip, Size, Four, Eight, Target, AreBytes, address_limit, byte_count, Instr, Fde}
+use Rattle.dw_canon.proofs.Words.{Accepted, Piece, Head, Has, Says, Lists, AreFdes, Range, AreApart, end_of, cie_places, all_in, one_fdes, AgreeAt, Agree, Group, Part, laid, fde_in, IsPart, PartsApart, IsLaid, IsPartOf, IsAmong, IsRendered}
+use Rattle.dw_canon.proofs.Words.{Renders, ReadsBack, Readback, section_bytes, agree_nops, agree_then, cfa_agree, nops, agree_changes, AllAgree, all_agree_sym, same_meaning, changes_there, fdes_zip, one_programs, cfa_programs, begin_low}
+use Rattle.dw_canon.proofs.Words.{listed_programs, changes_programs}
 use Rattle.dw_section.specs.Headers as head
-use Rattle.dw_section.specs.Meaning.{Says, Lists, AreFdes}
-use Rattle.dw_section.specs.Overlap.{Range, AreApart, end_of}
-use Rattle.dw_section.specs.Places.{cie_places}
-use Rattle.dw_section.proofs.Lent.Heads.{all_in}
-use Rattle.dw_section.proofs.Lent.FdeLookup.{one_fdes}
-use Rattle.dw_section.specs.Inner.Agree.{AgreeAt, Agree}
-use Rattle.dw_canon.specs.Inner.Laid.{Group, Part, laid}
-use Rattle.dw_canon.specs.Inner.Laid.{fde_in}
-use Rattle.dw_canon.specs.Inner.Laid.{IsPart, PartsApart, IsLaid, IsPartOf}
-use Rattle.dw_section.specs.Among.{IsAmong}
-use Rattle.dw_canon.specs.Inner.Renders.{IsRendered, Renders, ReadsBack, Readback}
-use Rattle.dw_canon.specs.Inner.Written.{section_bytes}
 use Rattle.dw_canon.proofs.Accepts.{written_accepted, written_fdes}
-use Rattle.dw_section.proofs.Lent.Agrees.{agree_nops, agree_then, cfa_agree}
 use Rattle.dw_canon.proofs.Bytes.{section_are_bytes}
 use Rattle.dw_canon.proofs.Lays.{laid_section, laid_fdes, part_member}
 use Rattle.dw_canon.proofs.Means.{padded, padded_says}
-use Rattle.dw_section.proofs.Lent.Nops.{nops}
-use Rattle.dw_section.proofs.Lent.Rowed.{agree_changes}
-use Rattle.dw_section.proofs.Lent.Sames.{AllAgree, all_agree_sym, same_meaning, changes_there}
-use Rattle.dw_section.proofs.Lent.Sections.{fdes_zip, one_programs, cfa_programs, begin_low, listed_programs, changes_programs}
 use Rattle.dw_section.proofs.Lent.FieldTable.{fde_said}
 
 -- ---- a range fits its field

@@ -1,24 +1,8 @@
 -- The normal form renders its section.
-use Rattle.std.proofs.Common.{◌≡◌, ℕ, suc, ◌+◌, ◌-◌, ◌<◌, List, [], ◌∷◌, map, refl, sym, ap, ◌∙◌, subst, inl, inr, arith}
-use Rattle.std.specs.List.{AllByRecursion}
-use Rattle.dw_num.specs.Input.{AreBytes}
-use Rattle.dw_num.specs.Target.{address_limit}
-use Rattle.dw_num.specs.declared.target.Target.{Target}
-use Rattle.dw_cfa.specs.declared.rule.CfaRule.{CfaRule}
-use Rattle.dw_cfa.specs.Kept.{FdeKept}
-use Rattle.dw_section.specs.declared.lookup.Fde.{Fde}
-use Rattle.dw_section.specs.Accepted.{Accepted}
-use Rattle.dw_section.specs.Changes.{AreChanges}
-use Rattle.dw_section.specs.Meaning.{AreFdes, ChangesOf}
+use Rattle.dw_canon.proofs.Words.{◌≡◌, ℕ, suc, ◌+◌, ◌-◌, ◌<◌, List, [], ◌∷◌, map, refl, sym, ap, ◌∙◌, subst, inl, inr, arith, AllByRecursion, AreBytes, address_limit, Target, CfaRule, FdeKept, Fde, Accepted, AreChanges, AreFdes, ChangesOf}
+use Rattle.dw_canon.proofs.Words.{fde_in, HasGroup, GroupsRise, IsGroup, IsAmong, IsRendered, Renders, group_of, part_of, groups_of, parts_of, return_registers, initial_of, cie_instrs, fde_instrs, MemberStands, Member, fde_of, changes_of}
+use Rattle.dw_canon.proofs.Words.{IsMember, AreMembers, sound_section}
 use Rattle.dw_section.proofs.Lent.Registers.{fdes_registers}
-use Rattle.dw_canon.specs.Inner.Laid.{fde_in, HasGroup, GroupsRise, IsGroup}
-use Rattle.dw_section.specs.Among.{IsAmong}
-use Rattle.dw_canon.specs.Inner.Renders.{IsRendered, Renders}
-use Rattle.dw_canon.specs.Inner.Laid.{group_of, part_of, groups_of, parts_of}
-use Rattle.dw_canon.specs.Canon.{return_registers}
-use Rattle.dw_canon.specs.Inner.Canon.{initial_of, cie_instrs, fde_instrs}
-use Rattle.dw_canon.specs.Inner.Fits.{MemberStands}
-use Rattle.dw_canon.specs.Members.{Member, fde_of, changes_of, IsMember, AreMembers}
 use Rattle.dw_canon.proofs.Lent.Differences.{In}
 use Rattle.dw_canon.proofs.Lent.Differences as lists
 use Rattle.dw_canon.proofs.Lent.InstrFits as fitting
@@ -26,7 +10,6 @@ use Rattle.dw_canon.proofs.ProgramLaws.{initial_program, member_program}
 use Rattle.dw_canon.proofs.AscendingRegisters.{Rise, with_all_rise}
 use Rattle.dw_canon.proofs.Lent.Shared.{MemberFits, RestsOnAll}
 use Rattle.dw_canon.proofs.Lent.MemberPlaces.{member_fits, member_stands, group_fits, all_rest, all_both, IsSound, all_to}
-use Rattle.dw_section.proofs.Lent.Sounds.{sound_section}
 
 -- ---- the return registers ascend
 

@@ -1,21 +1,9 @@
 -- Whatever tells equal rules leads from one row to another by the same instructions.
-use Rattle.std.proofs.Common.{◌≡◌, ℕ, Bool, List, [], ◌∷◌, ◌++◌, refl, ap, ◌∙◌}
-use Rattle.std.specs.Prelude.{◌↔◌, IsTrue, if◌then◌else◌}
+use Rattle.dw_canon.proofs.Words.{◌≡◌, ℕ, Bool, List, [], ◌∷◌, ◌++◌, refl, ap, ◌∙◌, ◌↔◌, IsTrue, if◌then◌else◌, flat_map, Instr, Set, Restore, CfaRule, RegRule, same_cfa, same_rule, cfa_tells, rule_tells, Rules, rule, blank, cfa_to, either}
+use Rattle.dw_canon.proofs.Words.{move, cie_instrs, fde_instrs, cfa_difference, rule_to, rule_difference, difference, later_changes, Member}
 use Rattle.std.specs.Bool.{one_answer}
-use Rattle.std.specs.List.{flat_map}
-use Rattle.dw_cfa.specs.declared.instr.Instr.{Instr}
-use Rattle.dw_cfa.specs.declared.instr.Instr.TheVariants.{Set, Restore}
-use Rattle.dw_cfa.specs.declared.rule.CfaRule.{CfaRule}
-use Rattle.dw_cfa.specs.declared.rule.RegRule.{RegRule}
-use Rattle.dw_cfa.specs.Inner.Agreement.{same_cfa, same_rule}
-use Rattle.dw_cfa.specs.Inner.RowEquality.{cfa_tells, rule_tells}
-use Rattle.dw_cfa.specs.Rows.{Rules, rule, blank}
 use Rattle.dw_canon.specs.Canon as canon
-use Rattle.dw_canon.specs.Difference.{cfa_to, either, move}
 use Rattle.dw_canon.specs.Difference as form
-use Rattle.dw_canon.specs.Inner.Canon.{cie_instrs, fde_instrs}
-use Rattle.dw_canon.specs.Inner.Difference.{cfa_difference, rule_to, rule_difference, difference, later_changes}
-use Rattle.dw_canon.specs.Members.{Member}
 
 module _ (test_cfa : CfaRule → CfaRule → Bool) (tells_cfa : (a b : CfaRule) → IsTrue (test_cfa a b) ↔ (a ≡ b))
     (test_rule : RegRule → RegRule → Bool) (tells_rule : (a b : RegRule) → IsTrue (test_rule a b) ↔ (a ≡ b)) where

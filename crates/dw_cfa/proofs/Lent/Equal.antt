@@ -1,16 +1,8 @@
 -- What tells equal rules is our test, and what two rows have in common is what the tests leave.
-use Rattle.std.proofs.Common.{◌≡◌, ◌⊎◌, Bool, false, refl, sym, ◌∙◌, inl, inr}
-use Rattle.std.specs.Prelude.{IsTrue, ◌↔◌, if◌then◌else◌}
-use Rattle.std.specs.Bool.{Decides, one_answer}
-use Rattle.std.proofs.lemmas.Bool.{cases_Bool}
-use Rattle.std.proofs.lemmas.Bool.Decides.{not_from_Decides}
-use Rattle.dw_cfa.proofs.Types.{CfaRule, RegRule, Rules}
+use Rattle.dw_cfa.proofs.Words.{◌≡◌, ◌⊎◌, Bool, false, refl, sym, ◌∙◌, inl, inr, arith, IsTrue, ◌↔◌, if◌then◌else◌, Decides, one_answer, cases_Bool, not_from_Decides, CfaRule, RegRule, Rules, InCommon, IsAgreed, agreed, is_agreed, same_cfa}
+use Rattle.dw_cfa.proofs.Words.{same_rule, cfa_tells, rule_tells, AreSpecified, rule}
 use Rattle.dw_cfa.specs.declared.rule.CfaRule.TheVariants as cfa
 use Rattle.dw_cfa.specs.declared.rule.RegRule.TheVariants as rules
-use Rattle.dw_cfa.specs.Agreement.{InCommon, IsAgreed}
-use Rattle.dw_cfa.specs.Inner.Agreement.{agreed, is_agreed, same_cfa, same_rule}
-use Rattle.dw_cfa.specs.Inner.RowEquality.{cfa_tells, rule_tells}
-use Rattle.dw_cfa.specs.Rows.{AreSpecified, rule}
 use Rattle.dw_cfa.proofs.Lent.Narrowed.{filter_keeps, filter_rule}
 use Rattle.dw_cfa.proofs.Lent.SameRows.{same_rows}
 
@@ -49,10 +41,7 @@ rule_told = told_of same_rule rule_tells
 -- ---- rows
 
 agrees : {X : Type 0} (same : X → X → Bool) → ((x y : X) → Decides (same x y) (x ≡ y)) → (none old other new : X) → InCommon none old other new → new ≡ (if same old other then old else none)
-agrees same tells none old other new h = elim (cases_Bool (same old other)) [
-  | inl e ↦ rw e (h.0 ((tells old other).0 e))
-  | inr e ↦ rw e (h.1 (not_from_Decides (same old other) (tells old other) e))
-]
+agrees same tells none old other new h = grind (arith, tells old other, h.0, h.1)
 
 -- it is one row, where the registers are listed
 pub agreed_of : (old other new : Rules) → AreSpecified 0 old.registers → IsAgreed old other new → new ≡ agreed old other

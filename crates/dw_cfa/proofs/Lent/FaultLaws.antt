@@ -1,33 +1,20 @@
 -- A run is refused exactly with the first fault of its programs.
-use Rattle.std.proofs.Common.{◌≡◌, ◌⊎◌, ℕ, ◌+◌, ◌≤◌, Bool, true, false, cond, List, [], ◌∷◌, ◌++◌, length, take, Option, Some, None, Result, Ok, Err, refl, sym, ap, ◌∙◌, subst, inl, inr, arith}
-use Rattle.std.specs.Prelude.{IsTrue, not, nat_lt, count_by, ◌↔◌}
-use Rattle.std.proofs.lemmas.List.{take_all, append-nil}
-use Rattle.std.proofs.lemmas.Bool.{lt-ltb, ltb-true, ltb-false, le-ltb}
-use Rattle.dw_cfa.proofs.Types.{AreBytes, CfaRule, Code, Factors, Input, Instr, Outcome, Placed, Refusal, Rules, State, Target, address_limit}
-use Rattle.dw_num.specs.declared.refusal.Code.TheVariants.{NotInCie, LocationBackwards, LocationTooLarge, StateStackFull, CfaNotRegister}
-use Rattle.dw_cfa.specs.declared.instr.Instr.TheVariants.{SetLoc, Advance, RememberState, RestoreState}
+use Rattle.dw_cfa.proofs.Words.{◌≡◌, ◌⊎◌, ℕ, ◌+◌, ◌<◌, ◌≤◌, Bool, true, false, cond, List, [], ◌∷◌, ◌++◌, length, Option, Some, None, Result, Ok, Err, refl, sym, ap, ◌∙◌, subst, inl, inr, arith, IsTrue, not, nat_lt, count_by, ◌↔◌, take_all}
+use Rattle.dw_cfa.proofs.Words.{append-nil, lt-ltb, le-ltb, nat_tests, AreBytes, CfaRule, Code, Factors, Input, Instr, Outcome, Placed, Refusal, Rules, State, Target, address_limit, NotInCie, LocationBackwards, LocationTooLarge}
+use Rattle.dw_cfa.proofs.Words.{StateStackFull, CfaNotRegister, SetLoc, Advance, RememberState, RestoreState, Program, taken_bytes, onto, cfa_after, is_remember, is_restore, in_cie, keeps_half, IsRegisterRule, CieKept, FdeKept, Leaves}
+use Rattle.dw_cfa.proofs.Words.{InitialLeaves, LeavesInitial, InitialRefused, BehindRefused, BreaksHalf, CieBreaks, FdeBreaks, FaultBehind, FdeFaultBehind, CieFault, FdeFault, RunFault, AreSpecified, blank, begun, written, after}
+use Rattle.dw_cfa.proofs.Words.{half_fault, cie_fault, fde_fault, Placing, placed, initial_row, on_initial, fde_rows, rows_behind, run_rows}
 use Rattle.dw_cfa.specs.declared.rule.CfaRule.TheVariants as cfa
-use Rattle.dw_cfa.specs.InstrSpells.{Program}
-use Rattle.dw_cfa.specs.Listing as plain
-use Rattle.dw_cfa.specs.Inner.Listing.{listing}
-use Rattle.dw_cfa.specs.Location.{onto}
-use Rattle.dw_cfa.specs.Column.{cfa_after}
-use Rattle.dw_cfa.specs.Kept.{is_remember, is_restore, in_cie, keeps_half, IsRegisterRule, CieKept, FdeKept}
-use Rattle.dw_cfa.specs.Behind.{Leaves}
-use Rattle.dw_cfa.specs.Inner.Exact.{InitialLeaves, LeavesInitial, InitialRefused, BehindRefused}
-use Rattle.dw_cfa.specs.Faults.{BreaksHalf, CieBreaks, FdeBreaks, FaultBehind, FdeFaultBehind, CieFault, FdeFault, RunFault}
-use Rattle.dw_cfa.specs.Rows.{AreSpecified, blank}
-use Rattle.dw_cfa.specs.Inner.Machine.{begun, written, after, half_fault, cie_fault, fde_fault}
-use Rattle.dw_cfa.specs.Inner.Runs.{placed, initial_row, on_initial, fde_rows, rows_behind, run_rows}
-use Rattle.dw_cfa.proofs.Divided.{divided, joined}
+use Rattle.dw_cfa.proofs.Divided.{input, placing, divided, left_behind, placed_again, joined_at}
 use Rattle.dw_cfa.proofs.Lent.Forward.{Follows, begun_follows}
-use Rattle.dw_cfa.proofs.Initial.{cie_follows, cie_refusal, cie_refused, cie_ran, cie_ends}
+use Rattle.dw_cfa.proofs.Initial.{cie_follows, cie_refusal, cie_told, cie_ran}
 use Rattle.dw_cfa.proofs.Lent.KeptLaws.{cie_kept, cie_runs, counted, fde_kept, kept_fde, all_in_limit}
 use Rattle.dw_cfa.proofs.Lent.KeptRuns.{Stands, ended_stands, kept_run, kept_runs}
-use Rattle.dw_cfa.proofs.Lent.Listings.{fault_listed}
+use Rattle.dw_cfa.proofs.Lent.InstrLaws.{instr_found}
+use Rattle.dw_cfa.proofs.Lent.Listings.{fault_placed, stuck_program}
 use Rattle.dw_cfa.proofs.Lent.RowsAt.{instrs_of, run_refusal}
-use Rattle.dw_cfa.proofs.Lent.RunLaws.{same_listing, placed_program, program_placed}
-use Rattle.dw_cfa.proofs.Stops.{AllRun, RefusedNext, Stops, ends, refusal_of, stops, stopped}
+use Rattle.dw_cfa.proofs.Lent.RunLaws.{placed_program, program_placed}
+use Rattle.dw_cfa.proofs.Stops.{AllRun, RefusedNext, Stops, ends, refusal_end, refusal_of, stops, stopped}
 
 -- ---- what stands against one instruction is what it breaks
 
@@ -43,43 +30,28 @@ broken_half : (c : CfaRule) (i : Instr) (code : Code) → BreaksHalf c i code �
 broken_half (cfa.Register r n) i code h = absurd (h.2 (r, n, refl))
 broken_half c i code h = let keeps : keeps_half i ≡ true = h.1 in rw keeps (ap Some (sym h.0))
 
-if_then : (b : Bool) (x y : Code) → cond b (Some x) None ≡ Some y → (b ≡ true) × (y ≡ x)
-if_then true x y e = (refl, cc)
-if_then false x y e = absurd cc
+less_told : (m n : ℕ) (x code : Code) → (cond (nat_lt m n) (Some x) None ≡ Some code) ↔ ((code ≡ x) × (m < n))
+less_told m n x code = ((λ e. (grind (arith, nat_tests), grind (arith, nat_tests))), λ h. rw (lt-ltb m n h.1) (ap Some (sym h.0)))
 
-if_else : (b : Bool) (x y : Code) → cond b None (Some x) ≡ Some y → (b ≡ false) × (y ≡ x)
-if_else true x y e = absurd cc
-if_else false x y e = (refl, cc)
+else_told : (m n : ℕ) (x code : Code) → (cond (nat_lt m n) None (Some x) ≡ Some code) ↔ ((code ≡ x) × (n ≤ m))
+else_told m n x code = ((λ e. (grind (arith, nat_tests), grind (arith, nat_tests))), λ h. rw (le-ltb m n h.1) (ap Some (sym h.0)))
 
 -- both ways of counting states
 counted_all : (p : Instr → Bool) (instrs : List Instr) → count_by p (onto [] instrs (length instrs)) ≡ count_by p instrs
-counted_all p instrs =
-    let all : count_by p (take (length instrs) instrs) ≡ count_by p instrs = ap (λ (l : List Instr). count_by p l) (take_all (length instrs) instrs (omega arith)) in
-    omega (arith, counted p [] instrs (length instrs), all)
+counted_all p instrs = omega (arith, counted p [] instrs (length instrs), ap (λ (l : List Instr). count_by p l) (take_all (length instrs) instrs (omega arith)))
 
 module _ (limit begin : ℕ) (initial : Rules) (instrs : List Instr) where
-  -- how the state stands behind the instructions
-  abbrev StandsBehind : State → Type 0
-  StandsBehind s = Stands limit begin initial (onto [] instrs (length instrs)) s
-
-  fde_breaks : (i : Instr) (row : Rules) (stack : List Rules) (location : ℕ) (code : Code) → StandsBehind (record { row = row; stack = stack; location = location })
+  fde_breaks : (i : Instr) (row : Rules) (stack : List Rules) (location : ℕ) (code : Code) → Stands limit begin initial (onto [] instrs (length instrs)) (record { row = row; stack = stack; location = location })
       → (fde_fault limit i (record { row = row; stack = stack; location = location }) ≡ Some code) ↔ FdeBreaks limit begin initial.cfa instrs i code
-  fde_breaks (SetLoc a) row stack location code h = (
-    λ e. let p = if_then (nat_lt a location) LocationBackwards code e in (p.1, omega (arith, ltb-true a location p.0, h.follows.location)),
-    λ b. rw (lt-ltb a location (omega (arith, b.1, h.follows.location))) (ap Some (sym b.0)),
-  )
-  fde_breaks (Advance d) row stack location code h = (
-    λ e. let p = if_then (nat_lt limit (location + d)) LocationTooLarge code e in (p.1, omega (arith, ltb-true limit (location + d) p.0, h.follows.location)),
-    λ b. rw (lt-ltb limit (location + d) (omega (arith, b.1, h.follows.location))) (ap Some (sym b.0)),
-  )
+  fde_breaks (SetLoc a) row stack location code h =
+      subst (λ (n : ℕ). (cond (nat_lt a location) (Some LocationBackwards) None ≡ Some code) ↔ ((code ≡ LocationBackwards) × (a < n))) h.follows.location (less_told a location LocationBackwards code)
+  fde_breaks (Advance d) row stack location code h =
+      subst (λ (n : ℕ). (cond (nat_lt limit (location + d)) (Some LocationTooLarge) None ≡ Some code) ↔ ((code ≡ LocationTooLarge) × (limit < n + d))) h.follows.location (less_told limit (location + d) LocationTooLarge code)
   fde_breaks RememberState row stack location code h =
+      let told = else_told (length stack) 64 StateStackFull code in
       let remembers = counted_all is_remember instrs in
-      let restores = counted_all is_restore instrs in (
-        λ e.
-            let p = if_else (nat_lt (length stack) 64) StateStackFull code e in
-            (p.1, omega (arith, ltb-false (length stack) 64 p.0, h.room, h.balance, remembers, restores)),
-        λ b. rw (le-ltb (length stack) 64 (omega (arith, b.1, h.balance, remembers, restores))) (ap Some (sym b.0)),
-      )
+      let restores = counted_all is_restore instrs in
+      ((λ e. ((told.0 e).0, omega (arith, (told.0 e).1, h.room, h.balance, remembers, restores))), λ b. told.1 (b.0, omega (arith, b.1, h.balance, remembers, restores)))
   fde_breaks RestoreState row [] location code h = (λ e. (cc, omega (arith, h.balance, counted_all is_remember instrs, counted_all is_restore instrs)), λ b. ap Some (sym b.0))
   fde_breaks RestoreState row (top ∷ stack) location code h = (λ e. absurd cc, λ b. absurd (omega (arith, b.1, h.balance, counted_all is_remember instrs, counted_all is_restore instrs)))
   fde_breaks i row stack location code h = (
@@ -87,22 +59,21 @@ module _ (limit begin : ℕ) (initial : Rules) (instrs : List Instr) where
     λ b. broken_half row.cfa i code (subst (λ (c : CfaRule). BreaksHalf c i code) (sym h.follows.row.cfa) b),
   )
 
-cie_broken : (i : Instr) (c : CfaRule) (code : Code) (b : Bool) → in_cie i ≡ b → cond b (half_fault i c) (Some NotInCie) ≡ Some code
-    → ((code ≡ NotInCie) × IsTrue (not (in_cie i))) ⊎ (IsTrue (in_cie i) × BreaksHalf c i code)
-cie_broken i c code true is e = inr (is, half_broken c i code e)
-cie_broken i c code false is e = inl (cc, ap not is)
-
-broken_cie : (i : Instr) (c : CfaRule) (code : Code) (b : Bool) → in_cie i ≡ b → ((code ≡ NotInCie) × IsTrue (not (in_cie i))) ⊎ (IsTrue (in_cie i) × BreaksHalf c i code)
-    → cond b (half_fault i c) (Some NotInCie) ≡ Some code
-broken_cie i c code true is (inl h) = let no : not (in_cie i) ≡ true = h.1 in let other : not (in_cie i) ≡ false = ap not is in absurd cc
-broken_cie i c code false is (inl h) = ap Some (sym h.0)
-broken_cie i c code true is (inr h) = broken_half c i code h.1
-broken_cie i c code false is (inr h) = let in_it : in_cie i ≡ true = h.0 in absurd cc
+cie_broken : (i : Instr) (c : CfaRule) (code : Code) (b : Bool) → in_cie i ≡ b
+    → (cond b (half_fault i c) (Some NotInCie) ≡ Some code) ↔ ((code ≡ NotInCie) × IsTrue (not (in_cie i))) ⊎ (IsTrue (in_cie i) × BreaksHalf c i code)
+cie_broken i c code true is = (
+  λ e. inr (is, half_broken c i code e),
+  λ h. elim h [ inl out ↦ let no : not (in_cie i) ≡ true = out.1 in let other : not (in_cie i) ≡ false = ap not is in absurd cc | inr half ↦ broken_half c i code half.1 ],
+)
+cie_broken i c code false is = (
+  λ e. inl (cc, ap not is),
+  λ h. elim h [ inl out ↦ ap Some (sym out.0) | inr half ↦ let in_it : in_cie i ≡ true = half.0 in absurd cc ],
+)
 
 cie_breaks : (instrs : List Instr) (i : Instr) (row : Rules) (code : Code) → row.cfa ≡ cfa_after cfa.Unset instrs (length instrs) → (cie_fault i row ≡ Some code) ↔ CieBreaks instrs i code
 cie_breaks instrs i row code is =
     subst (λ (c : CfaRule). (cie_fault i row ≡ Some code) ↔ ((code ≡ NotInCie) × IsTrue (not (in_cie i))) ⊎ (IsTrue (in_cie i) × BreaksHalf c i code)) is
-    (cie_broken i row.cfa code (in_cie i) refl, broken_cie i row.cfa code (in_cie i) refl)
+    (cie_broken i row.cfa code (in_cie i) refl)
 
 -- ---- a program of either kind
 
@@ -117,52 +88,53 @@ module _ (f : Factors) (i : Input) (h : AreBytes i.bytes) (S : Type 0) (fault : 
   abbrev pub FaultAfter : List Instr → Refusal → Type 0
   FaultAfter instrs r = Kept instrs × FaultBehind f i instrs (Breaks instrs) r
 
-  abbrev pub Stopped : Refusal → Type 0
-  Stopped r = Stops S fault next (placed f i).items (placed f i).fault start r
-
   -- where it stops is its first fault
-  found_behind : (before after : List Placed) (r : Refusal) → (placed f i).items ≡ before ++ after → AllRun fault next before start → RefusedNext fault next after (placed f i).fault (ends next before start) r
+  found_behind : (before after : List Placed) (last : Option Refusal) (r : Refusal) → placed f i ≡ placing (before ++ after) last → AllRun fault next before start → RefusedNext fault next after last (ends next before start) r
       → FaultAfter (instrs_of before) r
-  found_behind before [] r whole run is =
-      let items : (placed f i).items ≡ before = whole ∙ append-nil before in
-      let list : listing f i ≡ plain.faulty (instrs_of before) r = same_listing f i ∙ rw (items, is) refl in
-      let stuck = (fault_listed f i (instrs_of before) r h).1 list in
-      ((judges.keeps before stuck.front stuck.read).0 run, inl stuck)
-  found_behind before (item ∷ after) r whole run is =
-      let bytes = divided f before item after i h whole in (
-        (judges.keeps before bytes.front bytes.read).0 run,
+  found_behind before [] last r whole run is =
+      let d = divided f before [] (Some r) i h (whole ∙ ap (placing (before ++ [])) is) in
+      let left = left_behind f i before [] (Some r) d in
+      ((judges.keeps before d.front d.read).0 run, inl (stuck_program f i (instrs_of before) r d.front d.rest d.bytes d.whole d.read left.0 left.1))
+  found_behind before (item ∷ after) last r whole run is =
+      let d = divided f before (item ∷ after) last i h whole in
+      let left = left_behind f i before (item ∷ after) last d in
+      let found = instr_found f (input (i.at + length d.front) d.rest i.target) left.0 item.instr d.bytes left.1 in (
+        (judges.keeps before d.front d.read).0 run,
         inr (record {
-          front = bytes.front;
-          spelling = bytes.spelling;
-          rest = bytes.rest;
+          front = d.front;
+          spelling = found.0;
+          rest = left.0.bytes;
           instr = item.instr;
-          whole = bytes.whole;
-          read = bytes.read;
-          next = bytes.next;
-          breaks = (judges.breaks before bytes.front bytes.read run item.instr r.code).0 is.0;
-          place = is.1 ∙ bytes.place;
+          whole = d.whole ∙ ap (λ (l : List ℕ). d.front ++ l) found.2.bytes;
+          read = d.read;
+          next = found.1;
+          breaks = (judges.breaks before d.front d.read run item.instr r.code).0 is.0;
+          place = is.1 ∙ left.2;
         }),
       )
 
   fault_found : (r : Refusal) → refusal_of fault next (placed f i).items (placed f i).fault start ≡ Some r → (instrs : List Instr) × FaultAfter instrs r
   fault_found r e =
       let d = stops S fault next (placed f i).items (placed f i).fault start r e in
-      (instrs_of d.before, found_behind d.before d.after r d.whole d.run d.refused)
+      (instrs_of d.before, found_behind d.before d.after (placed f i).fault r (ap (λ (l : List Placed). placing l (placed f i).fault) d.whole) d.run d.refused)
 
   -- and it stops where its first fault is
-  pub stops_at : (r : Refusal) (instrs : List Instr) → FaultAfter instrs r → (d : Stopped r) × (instrs_of d.before ≡ instrs)
+  pub stops_at : (r : Refusal) (instrs : List Instr) → FaultAfter instrs r → (d : Stops S fault next (placed f i).items (placed f i).fault start r) × (instrs_of d.before ≡ instrs)
   stops_at r instrs (kept, inl stuck) =
-      let list = sym (same_listing f i) ∙ (fault_listed f i instrs r h).0 stuck in
       let items = (placed f i).items in
-      let are : instrs_of items ≡ instrs = ap (λ (l : plain.Listing). l.items) list in
-      let run = (judges.keeps items stuck.front (subst (λ (l : List Instr). Program i.target f l stuck.front) (sym are) stuck.read)).1 (subst Kept (sym are) kept) in
-      (record { before = items; after = []; whole = sym (append-nil items); run = run; refused = ap (λ (l : plain.Listing). l.fault) list }, are)
+      let read = fault_placed f i instrs r h stuck in
+      let run = (judges.keeps items stuck.front (subst (λ (l : List Instr). Program i.target f l stuck.front) (sym read.0) stuck.read)).1 (subst Kept (sym read.0) kept) in
+      (record { before = items; after = []; whole = sym (append-nil items); run = run; refused = read.1 }, read.0)
   stops_at r instrs (kept, inr b) =
-      let j = joined f i instrs b.instr b.front b.spelling b.rest h b.whole b.read b.next in
+      let rest = b.spelling ++ b.rest in
+      let here = input (i.at + length b.front) rest i.target in
+      let j = joined_at f i instrs b.front rest h b.whole b.read in
+      let first = placed_again f i.target b.instr b.spelling here.at b.rest b.next (taken_bytes i here b.front (record { bytes = b.whole; at = refl; target = refl }) h) in
       let read = subst (λ (l : List Instr). Program i.target f l b.front) (sym j.are) b.read in
       let run = (judges.keeps j.before b.front read).1 (subst Kept (sym j.are) kept) in
       let fault = (judges.breaks j.before b.front read run b.instr r.code).1 (subst (λ (l : List Instr). Breaks l b.instr r.code) (sym j.are) b.breaks) in
-      (record { before = j.before; after = record { at = i.at + length b.front; instr = b.instr } ∷ j.after; whole = j.items; run = run; refused = (fault, b.place) }, j.are)
+      let items = ap (λ (l : Placing). l.items) j.whole ∙ ap (λ (l : Placing). j.before ++ l.items) first in
+      (record { before = j.before; after = _; whole = items; run = run; refused = (fault, b.place) }, j.are)
 
   fault_only : (r : Refusal) → (instrs : List Instr) × FaultAfter instrs r → refusal_of fault next (placed f i).items (placed f i).fault start ≡ Some r
   fault_only r (instrs, there) = stopped S fault next (placed f i).items (placed f i).fault start r (stops_at r instrs there).0
@@ -176,10 +148,7 @@ module _ (f : Factors) (initial : Rules) (i : Input) (begin : ℕ) (h : AreBytes
   abbrev limit : ℕ
   limit = address_limit i.target.size
 
-  abbrev pub FdeJudges : Type 0
-  FdeJudges = Judges i.target f State (fde_fault limit) (after initial) (begun initial begin) (FdeKept limit begin initial.cfa) (FdeBreaks limit begin initial.cfa)
-
-  fde_judges : FdeJudges
+  pub fde_judges : Judges i.target f State (fde_fault limit) (after initial) (begun initial begin) (FdeKept limit begin initial.cfa) (FdeBreaks limit begin initial.cfa)
   fde_judges = record {
     keeps = λ items front read.
         let all = all_in_limit i.target f (instrs_of items) front read in
@@ -193,10 +162,7 @@ module _ (f : Factors) (initial : Rules) (i : Input) (begin : ℕ) (h : AreBytes
         fde_breaks limit begin initial (instrs_of items) instr end.row end.stack end.location code stands;
   }
 
-  abbrev pub FdeStopped : Refusal → Type 0
-  FdeStopped r = Stops State (fde_fault limit) (after initial) (placed f i).items (placed f i).fault (begun initial begin) r
-
-  pub stops_of : (r : Refusal) (instrs : List Instr) → FdeFaultBehind f initial.cfa i begin instrs r → (d : FdeStopped r) × (instrs_of d.before ≡ instrs)
+  pub stops_of : (r : Refusal) (instrs : List Instr) → FdeFaultBehind f initial.cfa i begin instrs r → (d : Stops State (fde_fault limit) (after initial) (placed f i).items (placed f i).fault (begun initial begin) r) × (instrs_of d.before ≡ instrs)
   stops_of = stops_at f i h State (fde_fault limit) (after initial) (begun initial begin) (FdeKept limit begin initial.cfa) (FdeBreaks limit begin initial.cfa) fde_judges
 
   pub fde_fault_found : (r : Refusal) → (rows_behind f initial i begin).fault ≡ Some r → FdeFault f initial.cfa i begin r
@@ -230,7 +196,7 @@ module _ (f : Factors) (i : Input) (h : AreBytes i.bytes) where
 
   pub cie_fault_only : (r : Refusal) → CieFault f i r → initial_row (placed f i) blank ≡ Err r
   cie_fault_only r (instrs, kept, there) =
-      cie_refused (placed f i).items (placed f i).fault blank r (fault_only f i h Rules cie_fault written blank CieKept CieBreaks cie_judges r (instrs, (kept, there)))
+      cie_told (placed f i).items (placed f i).fault blank (Some r) (fault_only f i h Rules cie_fault written blank CieKept CieBreaks cie_judges r (instrs, (kept, there)))
 
 -- ---- both
 
@@ -260,7 +226,8 @@ leaves_initial f cie instrs h program kept =
     let read = program_placed f cie instrs h program in
     let items = (placed f cie).items in
     let kept_read = subst CieKept (sym read.0) kept in
-    let run = cie_ends items (placed f cie).fault blank (cie_runs items [] blank (begun_follows blank 0 tt) kept_read.allowed kept_read.halves) read.1 in
+    let all = cie_runs items [] blank (begun_follows blank 0 tt) kept_read.allowed kept_read.halves in
+    let run = cie_told items (placed f cie).fault blank None (refusal_end cie_fault written items (placed f cie).fault blank all ∙ read.1) in
     (ends written items blank, run, subst (λ (l : List Instr). Leaves f cie l (ends written items blank)) read.0 (leaves f cie (ends written items blank) h run))
 
 pub initial_refused : InitialRefused

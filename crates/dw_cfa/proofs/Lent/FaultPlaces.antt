@@ -1,25 +1,15 @@
 -- The first faults of programs lie in them.
-use Rattle.std.proofs.Common.{◌≡◌, ◌+◌, List, ◌∷◌, length, ap, arith, inl, inr}
-use Rattle.std.proofs.lemmas.List.{length-append}
-use Rattle.dw_cfa.proofs.Types.{AreBytes, Code, Factors, Input, Instr, Refusal}
-use Rattle.dw_cfa.specs.Faults.{FaultBehind, BrokenBehind}
+use Rattle.dw_cfa.proofs.Words.{◌≡◌, ◌+◌, List, ◌∷◌, length, ap, arith, inl, inr, length-append, AreBytes, Code, Factors, Input, Instr, Refusal, FaultBehind}
 use Rattle.dw_cfa.specs.FaultPlaces.{IsWithin, CieFaultsWithin, FdeFaultsWithin, RunFaultsWithin}
-use Rattle.dw_cfa.specs.Listing.{ProgramFault}
 use Rattle.dw_cfa.proofs.Lent.Listings.{stuck_within}
 use Rattle.dw_cfa.proofs.Stuck.{fault_stuck}
 
-read_within : (i : Input) (f : Factors) (instrs : List Instr) (r : Refusal) → AreBytes i.bytes → ProgramFault i.target f i.at i.bytes instrs r → IsWithin i r
-read_within i f instrs r are h = stuck_within f i h.front (h.code ∷ h.operands) r are h.whole (fault_stuck f i.target (i.at + length h.front) h.code h.operands r h.fault)
-
-broken_within : (i : Input) (f : Factors) (instrs : List Instr) (Breaks : Instr → Code → Type 0) (r : Refusal) → BrokenBehind f i instrs Breaks r → IsWithin i r
-broken_within i f instrs Breaks r h =
+fault_within : (i : Input) (f : Factors) (instrs : List Instr) (Breaks : Instr → Code → Type 0) (r : Refusal) → AreBytes i.bytes → FaultBehind f i instrs Breaks r → IsWithin i r
+fault_within i f instrs Breaks r are (inl h) = stuck_within f i h.front (h.code ∷ h.operands) r are h.whole (fault_stuck f i.target (i.at + length h.front) h.code h.operands r h.fault)
+fault_within i f instrs Breaks r are (inr h) =
     let len : length i.bytes ≡ length h.front + (length h.spelling + length h.rest) = simp length-append at (ap length h.whole) in
     let place = h.place in
     (omega (arith, place), omega (arith, place, len))
-
-fault_within : (i : Input) (f : Factors) (instrs : List Instr) (Breaks : Instr → Code → Type 0) (r : Refusal) → AreBytes i.bytes → FaultBehind f i instrs Breaks r → IsWithin i r
-fault_within i f instrs Breaks r are (inl h) = read_within i f instrs r are h
-fault_within i f instrs Breaks r are (inr h) = broken_within i f instrs Breaks r h
 
 pub cie_within : CieFaultsWithin
 cie_within f cie r are h = fault_within cie f h.0 _ r are h.2

@@ -1,28 +1,16 @@
 -- What a run gives is what its programs give, in the standard's terms.
-use Rattle.std.proofs.Common.{◌≡◌, ℕ, suc, ◌≤◌, Bool, true, false, List, [], ◌∷◌, ◌++◌, length, map, Option, Some, None, Result, Ok, Err, refl, sym, ap, ◌∙◌, subst, inl, inr}
-use Rattle.std.specs.Prelude.{if◌then◌else◌, OnOk}
-use Rattle.std.specs.List.{AllZip}
-use Rattle.std.proofs.lemmas.List.{append-nil}
-use Rattle.dw_cfa.proofs.Types.{AreBytes, Factors, Input, Instr, LocatedRow, Outcome, Placed, ReadError, Refusal, Refuses, Rules, State, Stepping, address_limit}
-use Rattle.dw_num.specs.declared.error.ReadError.TheVariants.{Refused, OutOfMemory}
-use Rattle.dw_cfa.specs.Location.{onto, location_back, moves_location}
-use Rattle.dw_cfa.specs.Rows.{AreSpecified, blank}
-use Rattle.dw_cfa.specs.RowSteps.{stepping}
-use Rattle.dw_cfa.specs.CieMachine.{Following, with_steps}
-use Rattle.dw_cfa.specs.Faults.{FdeFaultBehind, RunFault}
-use Rattle.dw_cfa.specs.Behind.{Leaves, LeavesTo, ends, IsRowAfter, GivesBehind, GivesBefore, GivesUpTo, RunsBehind}
-use Rattle.dw_cfa.specs.Gives.{Gives, RunsTo}
-use Rattle.dw_cfa.specs.RowLaws.{OneRun, RefusedWhereFault, RowsWhereKept, NoneFalls, LastHolds, OneInitial, OneBehind, BehindWhereFault}
-use Rattle.dw_cfa.specs.Inner.Exact.{RulesBehind}
-use Rattle.dw_cfa.specs.Inner.Machine.{begun, after, fde_fault}
-use Rattle.dw_cfa.specs.Inner.Runs.{placed, row_if, on_initial, initial_row, run_rows, rows_behind, fde_rows}
-use Rattle.dw_cfa.specs.Inner.RowSteps.{gives}
+use Rattle.dw_cfa.proofs.Words.{◌≡◌, ℕ, suc, ◌<◌, ◌≤◌, Bool, true, false, List, [], ◌∷◌, ◌++◌, length, map, Option, Some, None, Result, Ok, Err, refl, sym, ap, ◌∙◌, subst, inl, inr, arith, if◌then◌else◌, IfErr, IfOk, MatchResult, OnOk}
+use Rattle.dw_cfa.proofs.Words.{AllZip, append-nil, AreBytes, CfaRule, Factors, Input, Instr, LocatedRow, Outcome, Placed, ReadError, Refusal, Refuses, RegRule, Rules, State, Stepping, address_limit, Refused, OutOfMemory, Program}
+use Rattle.dw_cfa.proofs.Words.{cfa_after, rule_after, CieKept, FdeKept, NeverFalls, onto, location_back, moves_location, Counts, AreSpecified, blank, stepping, Following, with_steps, FdeFaultBehind, RunFault, Leaves, LeavesTo, ends}
+use Rattle.dw_cfa.proofs.Words.{HoldsBehind, IsRowAfter, GivesBehind, GivesBefore, GivesUpTo, RunsBehind, RunsTo, OneRun, RefusedWhereFault, RowsWhereKept, NoneFalls, LastHolds, OneInitial, OneBehind, BehindWhereFault, RulesBehind, begun}
+use Rattle.dw_cfa.proofs.Words.{after, fde_fault, placed, row_if, on_initial, initial_row, run_rows, rows_behind, fde_rows, gives, Gives}
+use Rattle.dw_cfa.specs.Laws.{initial_cfa}
 use Rattle.dw_cfa.proofs.Lent.Forward.{Follows, Holds, after_follows, begun_follows}
 use Rattle.dw_cfa.proofs.Lent.RowsAt.{instrs_of}
-use Rattle.dw_cfa.proofs.Stops.{ends as state_behind, AllRun, RefusedNext, Stops}
+use Rattle.dw_cfa.proofs.Stops.{ends as state_behind, AllRun, RefusedNext}
 use Rattle.dw_cfa.proofs.Lent.FaultLaws.{leaves, initial_leaves, leaves_initial, stops_of, fde_fault_found, fde_fault_only, cie_fault_found, cie_fault_only, run_refused, refused_run}
-use Rattle.dw_cfa.proofs.Lent.BehindLaws.{behind_gives, gives_behind, gives_rows, last_holds, none_falls, rows_are, rows_where_kept, run_behind}
-use Rattle.dw_cfa.proofs.Lent.RunLaws.{program_placed}
+use Rattle.dw_cfa.proofs.Lent.BehindLaws.{behind_gives, gives_behind, gives_rows, holds_behind, rows_are, run_behind}
+use Rattle.dw_cfa.proofs.Lent.RunLaws.{program_placed, run_from}
 use Rattle.dw_cfa.proofs.Lent.SameRows.{same_rows}
 
 -- rows that end after so many instructions each
@@ -34,21 +22,18 @@ AreRowsAfter initial begin instrs ks rows = AllZip (IsRowAfter initial begin ins
 module _ (initial : Rules) (begin : ℕ) where
   -- rows that end after so many more instructions each
   abbrev pub AreFrom : List Instr → List Instr → List ℕ → List LocatedRow → Type 0
-  AreFrom earlier instrs [] [] = Unit {0}
-  AreFrom earlier instrs (k ∷ ks) (row ∷ rows) =
-      (row.location ≡ location_back begin (onto earlier instrs k)) × Holds initial (onto earlier instrs k) 0 row.row × AreFrom earlier instrs ks rows
-  AreFrom earlier instrs ks rows = ⊥
+  AreFrom earlier instrs ks rows = AllZip (λ (k : ℕ) (row : LocatedRow). (row.location ≡ location_back begin (onto earlier instrs k)) × Holds initial (onto earlier instrs k) 0 row.row) ks rows
 
   one_more : (i : Instr) (earlier instrs : List Instr) (ks : List ℕ) (rows : List LocatedRow) → AreFrom (i ∷ earlier) instrs ks rows → AreFrom earlier (i ∷ instrs) (map suc ks) rows
   one_more i earlier instrs [] [] h = tt
-  one_more i earlier instrs (k ∷ ks) (row ∷ rows) h = (h.0, h.1, one_more i earlier instrs ks rows h.2)
-  one_more i earlier instrs ks rows h = absurd h
+  one_more i earlier instrs (k ∷ ks) (row ∷ rows) h = (h.0, one_more i earlier instrs ks rows h.1)
+  one_more i earlier instrs ks rows h = absurd assumption
 
   -- a row ends before the first of them, or it does not
   row_if_from : (b : Bool) (i : Instr) (earlier instrs : List Instr) (last : List ℕ) (s : State) (next : Outcome) → Follows initial begin earlier s
       → AreFrom (i ∷ earlier) instrs (ends last instrs) next.rows
       → AreFrom earlier (i ∷ instrs) (if b then 0 ∷ map suc (ends last instrs) else map suc (ends last instrs)) (row_if b s next).rows
-  row_if_from true i earlier instrs last s next h rest = (h.location, h.row, one_more i earlier instrs (ends last instrs) next.rows rest)
+  row_if_from true i earlier instrs last s next h rest = ((h.location, h.row), one_more i earlier instrs (ends last instrs) next.rows rest)
   row_if_from false i earlier instrs last s next h rest = one_more i earlier instrs (ends last instrs) next.rows rest
 
   -- the rows of instructions that are run, and those that come behind them all
@@ -64,35 +49,19 @@ module _ (initial : Rules) (begin : ℕ) where
       let rest = are_from limit before tail fault (p.instr ∷ earlier) (after initial p.instr s) last on run.1 end in
       rw run.0 (row_if_from (moves_location p.instr) p.instr earlier (instrs_of before) last s (fde_rows limit initial (before ++ tail) fault (after initial p.instr s)) h rest)
 
-  -- those of a program that is run to its end
-  all_from : (limit : ℕ) (items : List Placed) (s : State) → Follows initial begin [] s → AllRun (fde_fault limit) (after initial) items s
-      → AreFrom [] (instrs_of items) (ends (0 ∷ []) (instrs_of items)) (fde_rows limit initial items None s).rows
-  unfolding fde_rows
-  all_from limit items s h run =
-      let whole = are_from limit items [] None [] s (0 ∷ []) h run (λ end. (end.location, end.row, tt)) in
-      subst (λ (l : List Placed). AreFrom [] (instrs_of items) (ends (0 ∷ []) (instrs_of items)) (fde_rows limit initial l None s).rows) (append-nil items) whole
-
   -- none comes where the next is refused
-  none_next : (limit : ℕ) (tail : List Placed) (fault : Option Refusal) (s : State) (r : Refusal) → RefusedNext (fde_fault limit) (after initial) tail fault s r → (fde_rows limit initial tail fault s).rows ≡ []
+  pub none_next : (limit : ℕ) (tail : List Placed) (fault : Option Refusal) (s : State) (r : Refusal) → RefusedNext (fde_fault limit) (after initial) tail fault s r → (fde_rows limit initial tail fault s).rows ≡ []
   unfolding fde_rows
   none_next limit [] fault s r h = rw h refl
   none_next limit (item ∷ tail) fault s r h = rw h.0 refl
-
-  before_stop : (limit : ℕ) (items : List Placed) (fault : Option Refusal) (s : State) (r : Refusal) (d : Stops State (fde_fault limit) (after initial) items fault s r) → Follows initial begin [] s
-      → AreFrom [] (instrs_of d.before) (ends [] (instrs_of d.before)) (fde_rows limit initial items fault s).rows
-  before_stop limit items fault s r d h =
-      let none = none_next limit d.after fault (state_behind (after initial) d.before s) r d.refused in
-      let earlier = onto [] (instrs_of d.before) (length (instrs_of d.before)) in
-      let found = are_from limit d.before d.after fault [] s [] h d.run (λ end. subst (AreFrom earlier [] []) (sym none) tt) in
-      subst (λ (l : List Placed). AreFrom [] (instrs_of d.before) (ends [] (instrs_of d.before)) (fde_rows limit initial l fault s).rows) (sym d.whole) found
 
 -- ---- an FDE's program
 
 module _ (initial : Rules) (begin : ℕ) (instrs : List Instr) where
   are_after : (ks : List ℕ) (rows : List LocatedRow) → AreFrom initial begin [] instrs ks rows → AreRowsAfter initial begin instrs ks rows
   are_after [] [] h = tt
-  are_after (k ∷ ks) (row ∷ rows) h = (record { location = h.0; holds = record { cfa = h.1.cfa; rules = h.1.rules; listed = h.1.listed } }, are_after ks rows h.2)
-  are_after ks rows h = absurd h
+  are_after (k ∷ ks) (row ∷ rows) h = (record { location = h.0.0; holds = record { cfa = h.0.1.cfa; rules = h.0.1.rules; listed = h.0.1.listed } }, are_after ks rows h.1)
+  are_after ks rows h = absurd assumption
 
   -- two lists of rows after the same instructions are one
   same_row : (k : ℕ) (row other : LocatedRow) → IsRowAfter initial begin instrs k row → IsRowAfter initial begin instrs k other → row ≡ other
@@ -103,38 +72,46 @@ module _ (initial : Rules) (begin : ℕ) (instrs : List Instr) where
 
   same_after : (ks : List ℕ) (rows others : List LocatedRow) → AreRowsAfter initial begin instrs ks rows → AreRowsAfter initial begin instrs ks others → rows ≡ others
   same_after [] [] [] v w = refl
-  same_after (k ∷ ks) (row ∷ rows) (other ∷ others) v w =
-      ap (λ (x : LocatedRow). x ∷ rows) (same_row k row other v.0 w.0) ∙ ap (λ (xs : List LocatedRow). other ∷ xs) (same_after ks rows others v.1 w.1)
+  same_after (k ∷ ks) (row ∷ rows) (other ∷ others) v w = cc (same_row k row other v.0 w.0, same_after ks rows others v.1 w.1)
   same_after ks rows others v w = absurd assumption
 
+one_program : (f : Factors) (i : Input) (instrs others : List Instr) → AreBytes i.bytes → Program i.target f instrs i.bytes → Program i.target f others i.bytes → instrs ≡ others
+one_program f i instrs others h p q = sym (program_placed f i instrs h p).0 ∙ (program_placed f i others h q).0
+
 one_outcome : (o : Outcome) (rows : List LocatedRow) (fault : Option Refusal) → o.rows ≡ rows → o.fault ≡ fault → o ≡ record { rows = rows; fault = fault }
-one_outcome o rows fault are is =
-    ap (λ (xs : List LocatedRow). let p : Outcome = record { rows = xs; fault = o.fault } in p) are ∙ ap (λ (x : Option Refusal). let p : Outcome = record { rows = rows; fault = x } in p) is
+one_outcome o rows fault are is = rw (← are, ← is) refl
 
 module _ (f : Factors) (initial : Rules) (fde : Input) (begin : ℕ) (fb : AreBytes fde.bytes) (listed : AreSpecified 0 initial.registers) (le : begin ≤ address_limit fde.target.size) where
   pub all_given : (rows : List LocatedRow) → rows_behind f initial fde begin ≡ record { rows = rows; fault = None } → GivesBehind f initial fde begin rows
-  unfolding rows_behind
+  unfolding rows_behind fde_rows
   all_given rows e =
       let items = (placed f fde).items in
       let run = run_behind f initial fde begin rows e in
       let behind = gives_behind f initial fde begin rows e fb listed le in
-      let from = all_from initial begin (address_limit fde.target.size) items (begun initial begin) (begun_follows initial begin listed) run.0 in
+      let all = append-nil items in
+      let from = are_from initial begin (address_limit fde.target.size) items [] None [] (begun initial begin) (0 ∷ []) (begun_follows initial begin listed) run.0 (λ end. ((end.location, end.row), tt)) in
       let are = ap (λ (o : Outcome). o.rows) (rows_are f initial fde begin rows e) in
       record {
         instrs = instrs_of items;
         program = behind.program;
         kept = behind.kept;
-        each = are_after initial begin (instrs_of items) (ends (0 ∷ []) (instrs_of items)) rows (subst (AreFrom initial begin [] (instrs_of items) (ends (0 ∷ []) (instrs_of items))) are from);
+        each = are_after initial begin (instrs_of items) (ends (0 ∷ []) (instrs_of items)) rows (subst (AreFrom initial begin [] (instrs_of items) (ends (0 ∷ []) (instrs_of items))) are (rw all at from));
       }
 
   -- the rows before the run stops
   rows_stopped : (r : Refusal) (instrs : List Instr) → FdeFaultBehind f initial.cfa fde begin instrs r → AreRowsAfter initial begin instrs (ends [] instrs) (rows_behind f initial fde begin).rows
   unfolding rows_behind
   rows_stopped r instrs fault =
-      let o = fde_rows (address_limit fde.target.size) initial (placed f fde).items (placed f fde).fault (begun initial begin) in
-      let d = stops_of f initial fde begin fb le listed r instrs fault in
-      let from = before_stop initial begin (address_limit fde.target.size) (placed f fde).items (placed f fde).fault (begun initial begin) r d.0 (begun_follows initial begin listed) in
-      are_after initial begin instrs (ends [] instrs) o.rows (subst (λ (l : List Instr). AreFrom initial begin [] l (ends [] l) o.rows) d.1 from)
+      let limit = address_limit fde.target.size in
+      let s = begun initial begin in
+      let p = placed f fde in
+      let found = stops_of f initial fde begin fb le listed r instrs fault in
+      let d = found.0 in
+      let earlier = onto [] (instrs_of d.before) (length (instrs_of d.before)) in
+      let none = none_next initial begin limit d.after p.fault (state_behind (after initial) d.before s) r d.refused in
+      let from = are_from initial begin limit d.before d.after p.fault [] s [] (begun_follows initial begin listed) d.run (λ end. subst (AreFrom initial begin earlier [] []) (sym none) tt) in
+      let whole = subst (λ (l : List Placed). AreFrom initial begin [] (instrs_of d.before) (ends [] (instrs_of d.before)) (fde_rows limit initial l p.fault s).rows) (sym d.whole) from in
+      are_after initial begin instrs (ends [] instrs) (fde_rows limit initial p.items p.fault s).rows (subst (λ (l : List Instr). AreFrom initial begin [] l (ends [] l) (fde_rows limit initial p.items p.fault s).rows) found.1 whole)
 
   before_given : (r : Refusal) (rows : List LocatedRow) → rows_behind f initial fde begin ≡ record { rows = rows; fault = Some r } → GivesBefore f initial fde begin r rows
   before_given r rows e =
@@ -145,7 +122,7 @@ module _ (f : Factors) (initial : Rules) (fde : Input) (begin : ℕ) (fb : AreBy
   all_only rows g =
       let some = gives_rows f initial fde begin g.instrs fb listed le g.program g.kept in
       let there = all_given some.0 some.1 in
-      let are = sym (program_placed f fde there.instrs fb there.program).0 ∙ (program_placed f fde g.instrs fb g.program).0 in
+      let are = one_program f fde there.instrs g.instrs fb there.program g.program in
       let each = subst (λ (l : List Instr). AreRowsAfter initial begin l (ends (0 ∷ []) l) some.0) are there.each in
       let same = same_after initial begin g.instrs (ends (0 ∷ []) g.instrs) some.0 rows each g.each in
       subst (λ (xs : List LocatedRow). rows_behind f initial fde begin ≡ record { rows = xs; fault = None }) same some.1
@@ -219,23 +196,17 @@ module _ (f : Factors) (cie fde : Input) (begin : ℕ) (cb : AreBytes cie.bytes)
       runs_behind f initial fde begin fb l.listed le o runs ∙ ap (λ (x : Result Rules Refusal). on_initial x go) run
 
   -- the rows of a run that has no fault
-  given_of : (rows : List LocatedRow) → RunsTo f cie fde begin (record { rows = rows; fault = None }) → Gives f cie fde begin rows
-  given_of rows (inl (r, fault, is)) = let some : None ≡ Some r = ap (λ (o : Outcome). o.fault) is in absurd cc
-  given_of rows (inr g) = g
-
   pub run_gives : (rows : List LocatedRow) → run_rows f cie fde begin ≡ record { rows = rows; fault = None } → Gives f cie fde begin rows
-  run_gives rows e = given_of rows (subst (RunsTo f cie fde begin) e run_runs)
+  run_gives rows e = elim (subst (RunsTo f cie fde begin) e run_runs) [
+    | inl fails ↦ let some : None ≡ Some fails.0 = ap (λ (o : Outcome). o.fault) fails.2 in absurd cc
+    | inr given ↦ given
+  ]
 
   pub gives_run : (rows : List LocatedRow) → Gives f cie fde begin rows → run_rows f cie fde begin ≡ record { rows = rows; fault = None }
   gives_run rows g = sym (runs_run (record { rows = rows; fault = None }) (inr g))
 
   pub gives_no_fault : (rows : List LocatedRow) → Gives f cie fde begin rows → (run_rows f cie fde begin).fault ≡ None
   gives_no_fault rows g = ap (λ (o : Outcome). o.fault) (gives_run rows g)
-
-  pub steps_run : (row : Rules) (s : Stepping) → s ≡ stepping row (run_rows f cie fde begin) → (s ≡ stepping row s.outcome) × RunsTo f cie fde begin s.outcome
-  steps_run row s e =
-      let same = ap (λ (x : Stepping). x.outcome) e in
-      (e ∙ ap (stepping row) (sym same), subst (RunsTo f cie fde begin) (sym same) run_runs)
 
 pub one_run : OneRun
 one_run f cie fde begin cb fb le = (run_rows f cie fde begin, run_runs f cie fde begin cb fb le, runs_run f cie fde begin cb fb le)
@@ -246,44 +217,57 @@ refused_where_fault f cie fde begin cb fb le o g r =
     ((λ e. run_refused f cie fde begin r cb fb le (sym same ∙ e)), λ fault. same ∙ refused_run f cie fde begin r cb fb le fault)
 
 pub given_where_kept : RowsWhereKept
-given_where_kept f cie fde begin cb fb le ci fi cp fp =
-    let both = rows_where_kept f cie fde begin ci fi cb fb cp fp le in (
-      (λ h. both.0 (h.0, gives_run f cie fde begin cb fb le h.0 h.1)),
-      λ kept. let h = both.1 kept in (h.0, run_gives f cie fde begin cb fb le h.0 h.1),
-    )
+given_where_kept f cie fde begin cb fb le ci fi cp fp = (
+  λ given.
+      let g = given.1 in let l = g.2 in let b = g.3 in
+      let same = one_program f cie g.0 ci cb l.program cp in
+      let kept = subst (FdeKept (address_limit fde.target.size) begin g.1.cfa) (one_program f fde b.instrs fi fb b.program fp) b.kept in
+      (subst CieKept same l.kept, subst (λ (c : CfaRule). FdeKept (address_limit fde.target.size) begin c fi) (l.cfa ∙ ap initial_cfa same) kept),
+  λ kept.
+      let left = leaves_initial f cie ci cb cp kept.0 in
+      let behind = subst (λ (c : CfaRule). FdeKept (address_limit fde.target.size) begin c fi) (sym left.2.cfa) kept.1 in
+      let rows = gives_rows f left.0 fde begin fi fb left.2.listed le fp behind in
+      (rows.0, (ci, left.0, left.2, all_given f left.0 fde begin fb left.2.listed le rows.0 rows.1)),
+)
 
 pub given_falls : NoneFalls
-given_falls f cie fde begin cb fb le rows g = none_falls f cie fde begin rows (record { cie_bytes = cb; fde_bytes = fb; given = gives_run f cie fde begin cb fb le rows g })
+given_falls f cie fde begin cb fb le rows g = subst (λ (o : Outcome). NeverFalls begin o.rows) (gives_run f cie fde begin cb fb le rows g) (run_from f cie fde begin).falls
 
 pub given_holds : LastHolds
-given_holds f cie fde begin cb fb le rows g = last_holds f cie fde begin rows (record { cie_bytes = cb; fde_bytes = fb; given = gives_run f cie fde begin cb fb le rows g })
+given_holds f cie fde begin cb fb le rows (instrs, initial, l, g) ci fi cp fp a k from counts =
+    let e = all_only f initial fde begin fb l.listed le rows g in
+    let are = (program_placed f fde fi fb fp).0 in
+    let found = holds_behind f initial fde begin rows e l.listed a k from (subst (λ (l : List Instr). Counts begin l a k) (sym are) counts) in
+    let holds = subst (λ (l : List Instr). HoldsBehind initial l k found.0) are found.2 in
+    let left = subst (λ (x : List Instr). Leaves f cie x initial) (one_program f cie instrs ci cb l.program cp) l in (
+      found.0,
+      found.1,
+      record {
+        cfa = holds.cfa ∙ ap (λ (c : CfaRule). cfa_after c fi k) left.cfa;
+        rules = λ r. holds.rules r ∙ ap (λ (x : RegRule). rule_after x fi r k) (left.rules r);
+        listed = holds.listed;
+      },
+    )
+
+pub refusal_weaker : (e : ReadError) (P Q : Refusal → Type 0) → ((r : Refusal) → P r → Q r) → Refuses P e → Refuses Q e
+refusal_weaker (Refused r) P Q weaker h = weaker r h
+refusal_weaker OutOfMemory P Q weaker h = tt
 
 -- ---- a run by rows
 
 module _ (f : Factors) (cie fde : Input) (begin : ℕ) (cb : AreBytes cie.bytes) (fb : AreBytes fde.bytes) (le : begin ≤ address_limit fde.target.size) where
-  -- that has come to its end
-  pub run_ended : (o : Outcome) (rows : List LocatedRow) → RunsTo f cie fde begin o → o ≡ gives rows → Gives f cie fde begin rows
-  run_ended o rows begun is = run_gives f cie fde begin cb fb le rows (sym (runs_run f cie fde begin cb fb le o begun) ∙ is)
-
-  -- that fails
-  pub run_failed : (o : Outcome) (e : ReadError) → RunsTo f cie fde begin o → Refuses (λ r. o.fault ≡ Some r) e → Refuses (RunFault f cie fde begin) e
-  run_failed o OutOfMemory begun at = tt
-  run_failed o (Refused r) begun at =
-      run_refused f cie fde begin r cb fb le (ap (λ (p : Outcome). p.fault) (sym (runs_run f cie fde begin cb fb le o begun)) ∙ at)
-
-  -- the rows that programs give are one list
-  pub gives_one : (rows others : List LocatedRow) → Gives f cie fde begin rows → Gives f cie fde begin others → rows ≡ others
-  gives_one rows others v w =
-      ap (λ (o : Outcome). o.rows) (sym (gives_run f cie fde begin cb fb le rows v) ∙ gives_run f cie fde begin cb fb le others w)
-
-  -- and programs that give rows are not refused
-  pub gives_memory : (rows : List LocatedRow) (e : ReadError) → Gives f cie fde begin rows → Refuses (RunFault f cie fde begin) e → e ≡ OutOfMemory
-  gives_memory rows OutOfMemory v w = refl
-  gives_memory rows (Refused r) v w =
-      let none : (run_rows f cie fde begin).fault ≡ None = gives_no_fault f cie fde begin cb fb le rows v in
-      let some : (run_rows f cie fde begin).fault ≡ Some r = refused_run f cie fde begin r cb fb le w in
-      let both : None ≡ Some r = sym none ∙ some in
-      absurd cc
+  -- that has come to its end gives these rows, and programs give no others; one that fails has a fault
+  pub run_answers : {X : Type 0} (o : Outcome) → RunsTo f cie fde begin o → (result : Result X ReadError) (items : X → List LocatedRow)
+      → IfOk result (λ x. o ≡ gives (items x)) → IfErr result (Refuses (λ r. o.fault ≡ Some r))
+      → IfOk result (λ x. Gives f cie fde begin (items x)) × IfErr result (Refuses (RunFault f cie fde begin))
+      × ((rows : List LocatedRow) → Gives f cie fde begin rows → MatchResult result (λ x. items x ≡ rows) (λ e. e ≡ OutOfMemory))
+  run_answers o begun (Ok x) items ended at =
+      let run : run_rows f cie fde begin ≡ gives (items x) = sym (runs_run f cie fde begin cb fb le o begun) ∙ ended in
+      (run_gives f cie fde begin cb fb le (items x) run, tt, λ rows given. ap (λ (p : Outcome). p.rows) (sym run ∙ gives_run f cie fde begin cb fb le rows given))
+  run_answers o begun (Err OutOfMemory) items ended at = (tt, tt, λ rows given. refl)
+  run_answers o begun (Err (Refused r)) items ended at =
+      let run : (run_rows f cie fde begin).fault ≡ Some r = ap (λ (p : Outcome). p.fault) (sym (runs_run f cie fde begin cb fb le o begun)) ∙ at in
+      (tt, run_refused f cie fde begin r cb fb le run, λ rows given. let both : None ≡ Some r = sym (gives_no_fault f cie fde begin cb fb le rows given) ∙ run in absurd cc)
 
 -- ---- for the layers above
 
@@ -312,9 +296,11 @@ run_steps f cie fde begin row s cb fb le e runs = e ∙ ap (stepping row) (runs_
 
 -- ---- what the calls answer
 
-pub refusal_weaker : (e : ReadError) (P Q : Refusal → Type 0) → ((r : Refusal) → P r → Q r) → Refuses P e → Refuses Q e
-refusal_weaker (Refused r) P Q weaker h = weaker r h
-refusal_weaker OutOfMemory P Q weaker h = tt
+pub given_runs : (f : Factors) (cie fde : Input) (begin : ℕ) (row : Rules) (s : Stepping) → s ≡ stepping row (run_rows f cie fde begin) → AreBytes cie.bytes → AreBytes fde.bytes → begin < address_limit fde.target.size → RunsTo f cie fde begin s.outcome
+given_runs f cie fde begin row s e cb fb lt = subst (RunsTo f cie fde begin) (sym (ap (λ (x : Stepping). x.outcome) e)) (run_runs f cie fde begin cb fb (omega arith))
+
+pub faultless : (f : Factors) (cie fde : Input) (begin : ℕ) → (rows : List LocatedRow) × Gives f cie fde begin rows → AreBytes cie.bytes → AreBytes fde.bytes → begin < address_limit fde.target.size → (run_rows f cie fde begin).fault ≡ None
+faultless f cie fde begin given cb fb lt = gives_no_fault f cie fde begin cb fb (omega arith) given.0 given.1
 
 pub follow_runs : {X E : Type 0} (result : Result X E) (old new : Following) (fde : Input) (begin : ℕ) → AreBytes fde.bytes → AreSpecified 0 old.initial.registers → begin ≤ address_limit fde.target.size
     → OnOk result (new ≡ with_steps old (stepping old.initial (rows_behind old.factors old.initial fde begin))) → OnOk result (RunsBehind old.factors old.initial fde begin new.steps.outcome)

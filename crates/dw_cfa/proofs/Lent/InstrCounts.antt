@@ -1,16 +1,9 @@
 -- At each address some instructions count, and their number is one.
-use Rattle.std.proofs.Common.{◌≡◌, ◌⊎◌, ℕ, zero, suc, ◌<◌, ◌≤◌, List, length, sym, subst, arith, inl, inr}
-use Rattle.std.proofs.lemmas.Bool.{cases_lt}
-use Rattle.dw_cfa.specs.declared.instr.Instr.{Instr}
-use Rattle.dw_cfa.specs.Location.{location, StaysAt, Counts}
+use Rattle.dw_cfa.proofs.Words.{◌≡◌, ◌⊎◌, ℕ, zero, suc, ◌<◌, ◌≤◌, List, length, sym, subst, arith, inl, inr, cases_lt, Instr, location, StaysAt, Counts}
 
 -- the location stays up to n, or passes a behind a first k
 scan : (begin : ℕ) (instrs : List Instr) (a n : ℕ) → begin ≤ a → StaysAt begin instrs a n ⊎ ((k : ℕ) × (k < n) × StaysAt begin instrs a k × (a < location begin instrs (suc k)))
-scan begin instrs a zero le = inl first
-  where
-    first : (j : ℕ) → j ≤ 0 → location begin instrs j ≤ a
-    first zero lt = le
-    first (suc j) lt = absurd (omega arith)
+scan begin instrs a zero le = inl (λ j lt. let first : j ≡ 0 = omega arith in rw first le)
 scan begin instrs a (suc n) le = elim (scan begin instrs a n le) [
   | inl stays ↦ elim (cases_lt a (location begin instrs (suc n))) [
     | inl past ↦ inr (n, omega arith, stays, past)

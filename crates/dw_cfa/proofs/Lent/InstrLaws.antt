@@ -1,26 +1,10 @@
 -- What is read is spelled so.
-use Rattle.std.proofs.Common.{◌≡◌, ℕ, zero, suc, ◌^◌, List, [], ◌∷◌, ◌++◌, length, Option, Some, None, Result, Ok, Err, refl, sym, subst, ◌∙◌, arith, inl, inr}
-use Rattle.std.specs.Prelude.{unsigned_abs}
-use Rattle.std.proofs.lemmas.Bool.{cases_lt, lt-ltb, le-ltb}
-use Rattle.dw_cfa.proofs.Types.{AreBytes, Factors, Input, Instr, Op, Opcode, Read, Refusal, Target}
-use Rattle.dw_num.specs.declared.refusal.Code.TheVariants.{OffsetTooLarge}
-use Rattle.dw_num.specs.Input.{Takes}
-use Rattle.dw_num.specs.Fixed.{IsWidth}
-use Rattle.dw_num.specs.Leb.{Uleb}
-use Rattle.dw_num.specs.Front.{fault, fixed_at, take_at, uleb_at}
-use Rattle.dw_num.proofs.Lent.Steps.{bind_ok, Takes-then, take_found}
-use Rattle.dw_num.proofs.Lent.LebLaws.{done, ok_is, uleb_found, register_found}
-use Rattle.dw_num.proofs.Lent.SlebLaws.{sleb_found}
-use Rattle.dw_num.proofs.Lent.FixedLaws.{taken_bytes, fixed_found, address_found, byte_found}
-use Rattle.dw_op.specs.declared.profile.Profile.TheVariants.{Frame}
-use Rattle.dw_op.specs.Expression.{Expression}
-use Rattle.dw_op.specs.Inner.Walk.{block_input, decode_at}
-use Rattle.dw_op.proofs.Lent.Blocks.{block_found}
-use Rattle.dw_cfa.specs.declared.opcode.Opcode.TheVariants as opcodes
-use Rattle.dw_cfa.specs.InstrSpells.{BlockSpells, Spells, FormSpells, InstrSpells}
-use Rattle.dw_cfa.specs.Inner.Operands.{opcode_of, form_of}
-use Rattle.dw_cfa.specs.Operands.{Operand, address, fixed, register, unsigned, signed, expression, Form, none, one, two, offset_of}
-use Rattle.dw_cfa.specs.Inner.FrontInstr.{leaving, expression_of, expression_in, block_in, after_length, block_at, operand_at, with_instr, then_operand, form_at, judged, known_at, after_code, instr_at}
+use Rattle.dw_cfa.proofs.Words.{◌≡◌, ℕ, zero, suc, ◌^◌, List, [], ◌∷◌, ◌++◌, Option, Some, None, Result, Ok, Err, refl, subst, ◌∙◌, arith, inl, inr, unsigned_abs, cases_lt, lt-ltb, le-ltb, AreBytes, Factors, Input, Instr, Op, Opcode, Read}
+use Rattle.dw_cfa.proofs.Words.{Refusal, Target, OffsetTooLarge, Takes, IsWidth, fault, fixed_at, take_at, uleb_at, bind_ok, Takes-then, take_found, done, ok_is, uleb_found, register_found, sleb_found, taken_bytes, fixed_found}
+use Rattle.dw_cfa.proofs.Words.{address_found, byte_found, Frame, Expression, block_input, decode_at, block_found, BlockSpells, Spells, FormSpells, InstrSpells, EachEntry, opcode_table, opcode_of, form_of, Operand, address, fixed, register}
+use Rattle.dw_cfa.proofs.Words.{unsigned, signed, expression, Form, none, one, two, offset_of, leaving, expression_of, expression_in, block_in, after_length, block_at, operand_at, with_instr, then_operand, form_at, judged, known_at}
+use Rattle.dw_cfa.proofs.Words.{after_code, instr_at}
+use Rattle.dw_cfa.proofs.Codes.{opcode_known, ◌&◌}
 use Rattle.dw_cfa.proofs.CodeForms.{form_is}
 
 -- ---- operands
@@ -53,10 +37,9 @@ block_finds i new e h is =
     let t = s.0.1.target in
     let same : t ≡ i.target = u.0.target ∙ q.2.target in
     let k = expression_kept p.0.1.at t (decode_at Frame (block_input t block)) s.0.1 new e s.2 in
-    let are : AreBytes block = front_bytes block s.0.1.bytes (subst AreBytes u.0.bytes (taken_bytes i p.0.1 q.0 q.2 h)) in
-    let operations = block_found Frame t block k.0 are k.1 in
-    let counted : Uleb (length block) q.0 = subst (λ (n : ℕ). Uleb n q.0) (sym u.1) q.1 in
-    let spelled : BlockSpells t (record { target = t; ops = k.0 }) (q.0 ++ block) = record { length_bytes = q.0; block = block; counted = counted; operations = operations; same_target = refl; whole = refl } in
+    let operations = block_found Frame t block k.0 (front_bytes block s.0.1.bytes (subst AreBytes u.0.bytes (taken_bytes i p.0.1 q.0 q.2 h))) k.1 in
+    let spelled : BlockSpells t (record { target = t; ops = k.0 }) (q.0 ++ block) =
+    record { length_bytes = q.0; block = block; counted = rw u.1 q.1; operations = operations; same_target = refl; whole = refl } in
     subst (λ (z : Expression × Input). (b : List ℕ) × BlockSpells i.target z.0 b × Takes i b z.1) (ok_is (record { target = t; ops = k.0 }, s.0.1) (e, new) k.2)
     (q.0 ++ block, subst (λ (x : Target). BlockSpells x (record { target = t; ops = k.0 }) (q.0 ++ block)) same spelled, Takes-then i p.0.1 s.0.1 q.0 block q.2 u.0)
 
@@ -79,20 +62,12 @@ FormWide (none made) = Unit {0}
 FormWide (one o make) = Wide o
 FormWide (two o p make) = Wide o × Wide p
 
-pub form_wide : (f : Factors) (opcode : Opcode) → FormWide (form_of f opcode)
-form_wide f opcodes.AdvanceLoc1 = inl refl
-form_wide f opcodes.AdvanceLoc2 = inr (inl refl)
-form_wide f opcodes.AdvanceLoc4 = inr (inr (inl refl))
-form_wide f opcodes.OffsetExtended = (tt, tt)
-form_wide f opcodes.OffsetExtendedSf = (tt, tt)
-form_wide f opcodes.Register = (tt, tt)
-form_wide f opcodes.DefCfa = (tt, tt)
-form_wide f opcodes.DefCfaSf = (tt, tt)
-form_wide f opcodes.Expression = (tt, tt)
-form_wide f opcodes.ValOffset = (tt, tt)
-form_wide f opcodes.ValOffsetSf = (tt, tt)
-form_wide f opcodes.ValExpression = (tt, tt)
-form_wide f opcode = tt
+wide_entries : (f : Factors) → EachEntry (λ opcode code. FormWide (form_of f opcode)) opcode_table
+wide_entries f =
+    tt & tt & inl refl & inr (inl refl) & inr (inr (inl refl)) & (tt, tt) & tt & tt & tt & (tt, tt) & tt & tt & (tt, tt) & tt & tt & tt & (tt, tt) & (tt, tt) & (tt, tt) & tt & (tt, tt) & (tt, tt) & (tt, tt) & tt
+
+pub form_wide : (f : Factors) (code : ℕ) (opcode : Opcode) → opcode_of code ≡ Some opcode → FormWide (form_of f opcode)
+form_wide f code opcode is = opcode_known (λ o n. FormWide (form_of f o)) (wide_entries f) (λ n lt. (tt, tt, tt)) code opcode is
 
 pub form_finds : (form : Form) → FormWide form → Finds (form_at form) (λ t instr b. FormSpells t form instr b)
 form_finds (none made) w i new instr h e =
@@ -117,7 +92,7 @@ module _ (f : Factors) (at code : ℕ) where
   known_finds None is i new instr h e = absurd cc
   known_finds (Some opcode) is i new instr h e =
       let p = bind_ok (form_at (form_of f opcode) i) (judged at) (instr, new) e in
-      let q = form_finds (form_of f opcode) (form_wide f opcode) i p.0.1 p.0.0 h p.1 in
+      let q = form_finds (form_of f opcode) (form_wide f code opcode is) i p.0.1 p.0.0 h p.1 in
       elim (cases_lt (unsigned_abs (offset_of p.0.0)) (2 ^ 63)) [
         | inl small ↦
             subst (λ (z : Instr × Input). (b : List ℕ) × InstrSpells i.target f z.0 (code ∷ b) × Takes i b z.1) (ok_is p.0 (instr, new) (rw (lt-ltb (unsigned_abs (offset_of p.0.0)) (2 ^ 63) small) at p.2))

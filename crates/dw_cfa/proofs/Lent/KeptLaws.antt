@@ -1,17 +1,7 @@
 -- What is run of a program keeps its rules, in the terms of what programs have to keep, and a program that keeps them is run.
-use Rattle.std.proofs.Common.{◌≡◌, ℕ, zero, suc, ◌+◌, Bool, true, false, cond, List, [], ◌∷◌, take, Some, None, refl, sym, subst, arith, add-one}
-use Rattle.std.specs.Prelude.{IsTrue, count_by, slice_get}
-use Rattle.std.specs.List.{AllByRecursion}
-use Rattle.std.proofs.lemmas.List.Sums.{sum_by-cons}
-use Rattle.dw_num.specs.declared.refusal.Code.TheVariants.{NotInCie}
-use Rattle.dw_cfa.proofs.Types.{CfaRule, Factors, Instr, Placed, Rules, Target, address_limit}
+use Rattle.dw_cfa.proofs.Words.{◌≡◌, ℕ, zero, suc, ◌+◌, Bool, true, false, cond, List, [], ◌∷◌, take, Some, None, refl, sym, subst, arith, add-one, IsTrue, count_by, slice_get, AllByRecursion, sum_by-cons, NotInCie, CfaRule, Factors, Instr}
+use Rattle.dw_cfa.proofs.Words.{Placed, Rules, Target, address_limit, Program, onto, look_back, cfa_change, is_remember, is_restore, in_cie, keeps_half, IsRegisterRule, CieKept, FdeKept, blank, begun, written, half_fault, cie_fault}
 use Rattle.dw_cfa.specs.declared.rule.CfaRule.TheVariants as cfa
-use Rattle.dw_cfa.specs.InstrSpells.{Program}
-use Rattle.dw_cfa.specs.Location.{onto}
-use Rattle.dw_cfa.specs.Column.{look_back, cfa_change}
-use Rattle.dw_cfa.specs.Kept.{is_remember, is_restore, in_cie, keeps_half, IsRegisterRule, CieKept, FdeKept}
-use Rattle.dw_cfa.specs.Rows.{blank}
-use Rattle.dw_cfa.specs.Inner.Machine.{begun, written, half_fault, cie_fault}
 use Rattle.dw_cfa.proofs.Lent.Forward.{Follows, begun_follows}
 use Rattle.dw_cfa.proofs.Initial.{written_follows}
 use Rattle.dw_cfa.proofs.Lent.KeptRuns.{KeptFrom, AllInLimit, keeps_fault, half_kept}
@@ -34,8 +24,7 @@ all_allowed [] row run = tt
 all_allowed (item ∷ items) row run = ((allowed_then item.instr row (in_cie item.instr) refl run.0).0, all_allowed items (written item.instr row) run.1)
 
 halves_from : (items : List Placed) (earlier : List Instr) (row : Rules) → Follows blank 0 earlier (begun row 0) → AllRun cie_fault written items row → CieHalves earlier (instrs_of items)
-halves_from [] earlier row h run zero i is keeps = absurd cc
-halves_from [] earlier row h run (suc k) i is keeps = absurd cc
+halves_from [] earlier row h run k i is keeps = absurd cc
 halves_from (item ∷ items) earlier row h run zero i is keeps =
     let same : item.instr ≡ i = cc in
     subst IsRegisterRule h.row.cfa (half_kept item.instr row.cfa (allowed_then item.instr row (in_cie item.instr) refl run.0).1 (subst (λ (x : Instr). IsTrue (keeps_half x)) (sym same) keeps))

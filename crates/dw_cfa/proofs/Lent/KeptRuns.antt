@@ -1,18 +1,8 @@
 -- Programs that keep their rules are run to their end, and others are not.
-use Rattle.std.proofs.Common.{◌≡◌, ℕ, zero, suc, ◌+◌, ◌<◌, ◌≤◌, Bool, true, false, cond, List, [], ◌∷◌, length, Some, None, refl, sym, subst, arith}
-use Rattle.std.specs.Prelude.{IsTrue, slice_get, nat_lt}
-use Rattle.std.proofs.lemmas.List.Sums.{sum_by-cons}
-use Rattle.std.proofs.lemmas.Bool.Decides.{nat_tests}
-use Rattle.std.proofs.lemmas.Bool.{lt-ltb, le-ltb}
-use Rattle.dw_num.specs.declared.refusal.Code.TheVariants.{LocationTooLarge, StateStackFull, CfaNotRegister}
-use Rattle.dw_cfa.proofs.Types.{CfaRule, Instr, LocatedRow, Placed, Rules, State}
-use Rattle.dw_cfa.specs.declared.instr.Instr.TheVariants.{SetLoc, Advance, DefCfaRegister, DefCfaOffset, RememberState, RestoreState}
+use Rattle.dw_cfa.proofs.Words.{◌≡◌, ℕ, zero, suc, ◌+◌, ◌<◌, ◌≤◌, true, cond, List, [], ◌∷◌, length, Some, None, refl, sym, subst, arith, IsTrue, slice_get, nat_lt, sum_by-cons, nat_tests, lt-ltb, le-ltb, cases_Bool, inl, inr}
+use Rattle.dw_cfa.proofs.Words.{LocationTooLarge, StateStackFull, CfaRule, Instr, LocatedRow, Placed, Rules, State, SetLoc, Advance, DefCfaRegister, DefCfaOffset, RememberState, RestoreState, onto, location_back, look_back, cfa_change}
+use Rattle.dw_cfa.proofs.Words.{is_remember, is_restore, keeps_half, IsRegisterRule, remembered, restored, after, half_fault, fde_fault, InLimit}
 use Rattle.dw_cfa.specs.declared.rule.CfaRule.TheVariants as cfa
-use Rattle.dw_cfa.specs.Location.{onto, location_back}
-use Rattle.dw_cfa.specs.Column.{look_back, cfa_change}
-use Rattle.dw_cfa.specs.Kept.{is_remember, is_restore, keeps_half, IsRegisterRule, remembered, restored}
-use Rattle.dw_cfa.specs.Inner.Machine.{after, half_fault, fde_fault}
-use Rattle.dw_cfa.specs.Inner.Steps.{InLimit}
 use Rattle.dw_cfa.proofs.Lent.Forward.{Follows, after_follows}
 use Rattle.dw_cfa.proofs.Lent.RowsAt.{instrs_of, Gives, gives_run, forwards, stays}
 use Rattle.dw_cfa.proofs.Stops.{AllRun, ends}
@@ -45,15 +35,9 @@ more_restored i earlier = sum_by-cons (λ (x : Instr). cond (is_restore x) 1 0) 
 
 -- ---- one instruction
 
-room_left : (n : ℕ) → cond (nat_lt n 64) None (Some StateStackFull) ≡ None → n < 64
-room_left n e = grind (arith, nat_tests)
-
-not_above : (limit n : ℕ) → cond (nat_lt limit n) (Some LocationTooLarge) None ≡ None → n ≤ limit
-not_above limit n e = grind (arith, nat_tests)
-
 within_after : (limit : ℕ) (initial : Rules) (i : Instr) (s : State) → InLimit limit i → s.location ≤ limit → fde_fault limit i s ≡ None → (after initial i s).location ≤ limit
 within_after limit initial (SetLoc a) s address le e = address
-within_after limit initial (Advance d) s address le e = not_above limit (s.location + d) e
+within_after limit initial (Advance d) s address le e = let told : cond (nat_lt limit (s.location + d)) (Some LocationTooLarge) None ≡ None = e in grind (arith, nat_tests)
 within_after limit initial RestoreState s address le e = let same = stays initial RestoreState s refl in omega arith
 within_after limit initial i s address le e = le
 
@@ -62,7 +46,8 @@ stack_after : (limit : ℕ) (initial : Rules) (i : Instr) (earlier : List Instr)
     → (length (after initial i (record { row = row; stack = stack; location = location })).stack + restored (i ∷ earlier) ≡ remembered (i ∷ earlier))
     × (length (after initial i (record { row = row; stack = stack; location = location })).stack ≤ 64)
 stack_after limit initial RememberState earlier row stack location b r e =
-    let lt = room_left (length stack) e in (omega (arith, more_remembered RememberState earlier, more_restored RememberState earlier), omega arith)
+    let told : cond (nat_lt (length stack) 64) None (Some StateStackFull) ≡ None = e in
+    (omega (arith, more_remembered RememberState earlier, more_restored RememberState earlier), grind (arith, nat_tests))
 stack_after limit initial RestoreState earlier row [] location b r e = absurd cc
 stack_after limit initial RestoreState earlier row (top ∷ stack) location b r e = (omega (arith, more_remembered RestoreState earlier, more_restored RestoreState earlier), omega arith)
 stack_after limit initial i earlier row stack location b r e = (b, r)
@@ -90,31 +75,17 @@ halves_kept limit i s e keeps = absurd cc
 
 -- ---- a program that is run keeps the rules
 
--- the state behind the first k instructions
-stands_behind : (limit begin : ℕ) (initial : Rules) (items : List Placed) (earlier : List Instr) (s : State) (k : ℕ) → Stands limit begin initial earlier s → AllInLimit limit (instrs_of items)
-    → AllRun (fde_fault limit) (after initial) items s → (t : State) × Stands limit begin initial (onto earlier (instrs_of items) k) t
-stands_behind limit begin initial items earlier s zero h all run = (s, h)
-stands_behind limit begin initial [] earlier s (suc k) h all run = (s, h)
-stands_behind limit begin initial (item ∷ items) earlier s (suc k) h all run =
-    stands_behind limit begin initial items (item.instr ∷ earlier) (after initial item.instr s) k (stands_after limit begin initial item.instr earlier s h all.0 run.0) all.1 run.1
-
--- and the next one there
-record Next (limit begin : ℕ) (initial : Rules) (i : Instr) (earlier later : List Instr) : Type 0 where
-  state : State
-  follows : Follows initial begin earlier state
-  runs : fde_fault limit i state ≡ None
-  after_it : Follows initial begin later (after initial i state)
-
-next_at : (limit begin : ℕ) (initial : Rules) (items : List Placed) (earlier : List Instr) (s : State) (k : ℕ) (i : Instr) → Follows initial begin earlier s → AllRun (fde_fault limit) (after initial) items s
-    → slice_get (instrs_of items) k ≡ Some i → Next limit begin initial i (onto earlier (instrs_of items) k) (onto earlier (instrs_of items) (suc k))
-next_at limit begin initial [] earlier s zero i h run is = absurd cc
-next_at limit begin initial [] earlier s (suc k) i h run is = absurd cc
-next_at limit begin initial (item ∷ items) earlier s zero i h run is =
-    let same : item.instr ≡ i = cc in
-    let behind = after_follows initial begin item.instr earlier s limit h run.0 in
-    subst (λ (j : Instr). Next limit begin initial j earlier (item.instr ∷ earlier)) same (record { state = s; follows = h; runs = run.0; after_it = behind })
-next_at limit begin initial (item ∷ items) earlier s (suc k) i h run is =
-    next_at limit begin initial items (item.instr ∷ earlier) (after initial item.instr s) k i (after_follows initial begin item.instr earlier s limit h run.0) run.1 is
+-- the state behind the first k instructions, and behind the next one there
+behind : (limit begin : ℕ) (initial : Rules) (items : List Placed) (earlier : List Instr) (s : State) (k : ℕ) → Stands limit begin initial earlier s → AllInLimit limit (instrs_of items) → AllRun (fde_fault limit) (after initial) items s
+    → (t : State) × Stands limit begin initial (onto earlier (instrs_of items) k) t
+    × ((i : Instr) → slice_get (instrs_of items) k ≡ Some i → (fde_fault limit i t ≡ None) × Stands limit begin initial (onto earlier (instrs_of items) (suc k)) (after initial i t))
+behind limit begin initial [] earlier s zero h all run = (s, h, λ i is. absurd cc)
+behind limit begin initial [] earlier s (suc k) h all run = (s, h, λ i is. absurd cc)
+behind limit begin initial (item ∷ items) earlier s zero h all run =
+    let next = stands_after limit begin initial item.instr earlier s h all.0 run.0 in
+    (s, h, λ i is. let same : item.instr ≡ i = cc in subst (λ (j : Instr). (fde_fault limit j s ≡ None) × Stands limit begin initial (item.instr ∷ earlier) (after initial j s)) same (run.0, next))
+behind limit begin initial (item ∷ items) earlier s (suc k) h all run =
+    behind limit begin initial items (item.instr ∷ earlier) (after initial item.instr s) k (stands_after limit begin initial item.instr earlier s h all.0 run.0) all.1 run.1
 
 some_at : (instrs : List Instr) (k : ℕ) → k < length instrs → (i : Instr) × (slice_get instrs k ≡ Some i)
 some_at [] k lt = absurd (omega arith)
@@ -124,14 +95,15 @@ some_at (i ∷ instrs) (suc k) lt = some_at instrs k (omega arith)
 pub kept_run : (limit begin : ℕ) (initial : Rules) (items : List Placed) (earlier : List Instr) (s : State) → Stands limit begin initial earlier s
     → AllInLimit limit (instrs_of items) → AllRun (fde_fault limit) (after initial) items s → KeptFrom limit begin initial.cfa earlier (instrs_of items)
 kept_run limit begin initial items earlier s h all run = record {
-  halves = λ k i is keeps. let n = next_at limit begin initial items earlier s k i h.follows run is in subst IsRegisterRule n.follows.row.cfa (halves_kept limit i n.state n.runs keeps);
+  halves = λ k i is keeps. let t = behind limit begin initial items earlier s k h all run in subst IsRegisterRule t.1.follows.row.cfa (halves_kept limit i t.0 (t.2 i is).0 keeps);
   forwards = λ k lt.
       let some = some_at (instrs_of items) k lt in
-      let n = next_at limit begin initial items earlier s k some.0 h.follows run some.1 in
-      omega (arith, n.follows.location, n.after_it.location, forwards limit initial some.0 n.state n.runs);
-  in_space = λ k le. let t = (stands_behind limit begin initial items earlier s k h all run).1 in omega (arith, t.within, t.follows.location);
-  matched = λ k le. let t = (stands_behind limit begin initial items earlier s k h all run).1 in omega (arith, t.balance);
-  room = λ k le. let t = (stands_behind limit begin initial items earlier s k h all run).1 in omega (arith, t.balance, t.room);
+      let t = behind limit begin initial items earlier s k h all run in
+      let next = t.2 some.0 some.1 in
+      omega (arith, t.1.follows.location, next.1.follows.location, forwards limit initial some.0 t.0 next.0);
+  in_space = λ k le. let t = (behind limit begin initial items earlier s k h all run).1 in omega (arith, t.within, t.follows.location);
+  matched = λ k le. let t = (behind limit begin initial items earlier s k h all run).1 in omega (arith, t.balance);
+  room = λ k le. let t = (behind limit begin initial items earlier s k h all run).1 in omega (arith, t.balance, t.room);
 }
 
 pub kept_from : (limit begin : ℕ) (initial : Rules) (items : List Placed) (earlier : List Instr) (s : State) (rows : List LocatedRow) → Stands limit begin initial earlier s
@@ -147,34 +119,27 @@ ended_stands limit begin initial (item ∷ items) earlier s h all run =
 
 -- ---- and a program that keeps the rules is run
 
-not_kept : (i : Instr) (c : CfaRule) (b : Bool) → keeps_half i ≡ b → (IsRegisterRule c → ⊥) → (IsTrue (keeps_half i) → IsRegisterRule c) → cond b (Some CfaNotRegister) None ≡ None
-not_kept i c true e never h = absurd (never (h e))
-not_kept i c false e never h = refl
-
 pub keeps_fault : (i : Instr) (c : CfaRule) → (IsTrue (keeps_half i) → IsRegisterRule c) → half_fault i c ≡ None
 keeps_fault i (cfa.Register r n) h = refl
-keeps_fault i c h = not_kept i c (keeps_half i) refl (λ is. let same : c ≡ cfa.Register is.0 is.1 = is.2 in absurd cc) h
+keeps_fault i c h = elim (cases_Bool (keeps_half i)) [
+  | inl keeps ↦ let is = h keeps in let same : c ≡ cfa.Register is.0 is.1 = is.2 in absurd cc
+  | inr not ↦ rw not refl
+]
 
 -- no fault stands against the first instruction of a program that keeps the rules
 no_fault_first : (limit begin : ℕ) (initial : Rules) (i : Instr) (earlier instrs : List Instr) (row : Rules) (stack : List Rules) (location : ℕ)
     → Stands limit begin initial earlier (record { row = row; stack = stack; location = location }) → KeptFrom limit begin initial.cfa earlier (i ∷ instrs)
     → fde_fault limit i (record { row = row; stack = stack; location = location }) ≡ None
 no_fault_first limit begin initial (SetLoc a) earlier instrs row stack location h k =
-    let go : location_back begin earlier ≤ a = k.forwards 0 (omega arith) in
-    let at = h.follows.location in
-    rw (le-ltb a location (omega arith)) refl
+    let go : location_back begin earlier ≤ a = k.forwards 0 (omega arith) in rw (le-ltb a location (omega (arith, go, h.follows.location))) refl
 no_fault_first limit begin initial (Advance d) earlier instrs row stack location h k =
-    let within : location_back begin earlier + d ≤ limit = k.in_space 1 (omega arith) in
-    let at = h.follows.location in
-    rw (le-ltb limit (location + d) (omega arith)) refl
+    let within : location_back begin earlier + d ≤ limit = k.in_space 1 (omega arith) in rw (le-ltb limit (location + d) (omega (arith, within, h.follows.location))) refl
 no_fault_first limit begin initial RememberState earlier instrs row stack location h k =
     let room : remembered (RememberState ∷ earlier) ≤ restored (RememberState ∷ earlier) + 64 = k.room 1 (omega arith) in
-    let b = h.balance in
-    rw (lt-ltb (length stack) 64 (omega (arith, more_remembered RememberState earlier, more_restored RememberState earlier))) refl
+    rw (lt-ltb (length stack) 64 (omega (arith, room, h.balance, more_remembered RememberState earlier, more_restored RememberState earlier))) refl
 no_fault_first limit begin initial RestoreState earlier instrs row [] location h k =
     let matched : restored (RestoreState ∷ earlier) ≤ remembered (RestoreState ∷ earlier) = k.matched 1 (omega arith) in
-    let b = h.balance in
-    absurd (omega (arith, more_remembered RestoreState earlier, more_restored RestoreState earlier))
+    absurd (omega (arith, matched, h.balance, more_remembered RestoreState earlier, more_restored RestoreState earlier))
 no_fault_first limit begin initial RestoreState earlier instrs row (top ∷ stack) location h k = refl
 no_fault_first limit begin initial i earlier instrs row stack location h k =
     keeps_fault i row.cfa (λ keeps. subst IsRegisterRule (sym h.follows.row.cfa) (k.halves 0 i refl keeps))

@@ -1,47 +1,40 @@
 -- The columns at the begin, where the first instructions of a program tell the row there; and what is specified first stays so.
-use Rattle.std.proofs.Common.{◌≡◌, ℕ, zero, suc, ◌+◌, ◌<◌, ◌≤◌, Bool, true, false, List, [], ◌∷◌, length, Option, Some, None, refl, ap, ◌∙◌, arith, inl, inr}
-use Rattle.std.specs.Prelude.{IsTrue, nat_eq, nat_lt, if◌then◌else◌, ℤ}
-use Rattle.std.specs.List.{AllByRecursion}
-use Rattle.std.proofs.lemmas.Bool.{cases_Bool, ltb-true}
-use Rattle.dw_num.specs.declared.target.Target.{Target}
-use Rattle.dw_cfa.specs.declared.instr.Factors.{Factors}
-use Rattle.dw_cfa.specs.declared.instr.Instr.{Instr}
-use Rattle.dw_cfa.specs.declared.instr.Instr.TheVariants.{Nop, Advance, DefCfaOffset, Set, Restore, RememberState, RestoreState}
-use Rattle.dw_cfa.specs.declared.opening.FirstRow.TheVariants.{Initial, CfaOffset, Other}
-use Rattle.dw_cfa.specs.declared.rule.CfaRule.{CfaRule}
-use Rattle.dw_cfa.specs.declared.rule.RegRule.{RegRule}
-use Rattle.dw_cfa.specs.Column.{look_back, with_offset, cfa_change, rule_change, cfa_after, rule_after}
-use Rattle.dw_cfa.specs.InstrSpells.{Program}
-use Rattle.dw_cfa.specs.Location.{onto, back_from, location_back, Counts}
-use Rattle.dw_cfa.specs.Opening.{moves_first, first_row, row_with}
-use Rattle.dw_cfa.specs.Rows.{is_specified}
-use Rattle.dw_cfa.proofs.Lent.Spellings.{by_table}
-use Rattle.dw_cfa.proofs.Stays.{GivesRule, spells_rule}
+use Rattle.dw_cfa.proofs.Words.{◌≡◌, ℕ, zero, suc, ◌+◌, ◌<◌, ◌≤◌, Bool, true, false, List, [], ◌∷◌, Option, Some, None, refl, ap, ◌∙◌, arith, IsTrue, nat_eq, nat_lt, if◌then◌else◌, ℤ, AllByRecursion, ltb-true, Target, Factors, Instr, Nop}
+use Rattle.dw_cfa.proofs.Words.{Advance, DefCfaOffset, Set, Restore, RememberState, RestoreState, Initial, CfaOffset, Other, CfaRule, RegRule, look_back, with_offset, cfa_change, rule_change, cfa_after, rule_after, Program, onto, back_from}
+use Rattle.dw_cfa.proofs.Words.{location_back, Counts, moves_first, first_row, row_with, is_specified, CountsFrom}
+use Rattle.dw_cfa.specs.declared.opening.FirstRow.{FirstRow}
+use Rattle.dw_cfa.proofs.Lent.RowsAt.{counts_rest, first_counts}
+use Rattle.dw_cfa.proofs.Lent.Spellings.{by_table, IsSpelled}
+use Rattle.dw_cfa.specs.declared.rule.RegRule.TheVariants as rules
+
+-- no instruction gives the rule Unspecified
+abbrev GivesRule : Instr → Type 0
+GivesRule (Set r given) = IsTrue (is_specified given)
+GivesRule i = Unit {0}
+
+spells_rule : (t : Target) (f : Factors) (i : Instr) (b : List ℕ) → IsSpelled t f i b → GivesRule i
+spells_rule t f (Set r rules.Unspecified) b h = absurd h
+spells_rule t f (Set r given) b h = refl
+spells_rule t f i b h = tt
 
 -- ---- the columns at the begin
 
-initial_moves : (instrs : List Instr) → first_row instrs ≡ Initial → moves_first instrs ≡ true
+chosen : (b : Bool) (x y z : FirstRow) → (if b then x else y) ≡ z → (y ≡ z → ⊥) → (b ≡ true) × (x ≡ z)
+chosen true x y z e never = (refl, e)
+chosen false x y z e never = absurd (never e)
+
+pub initial_moves : (instrs : List Instr) → first_row instrs ≡ Initial → moves_first instrs ≡ true
 initial_moves [] first = refl
 initial_moves (Nop ∷ instrs) first = initial_moves instrs first
-initial_moves (Advance delta ∷ instrs) first = elim (cases_Bool (nat_lt 0 delta)) [
-  | inl more ↦ more
-  | inr none ↦ let other : Other ≡ Initial = rw none at first in absurd cc
-]
-initial_moves (DefCfaOffset n ∷ instrs) first = elim (cases_Bool (moves_first instrs)) [
-  | inl moves ↦ let own : CfaOffset n ≡ Initial = rw moves at first in absurd cc
-  | inr moves ↦ let other : Other ≡ Initial = rw moves at first in absurd cc
-]
+initial_moves (Advance delta ∷ instrs) first = (chosen (nat_lt 0 delta) Initial Other Initial first (λ e. cc)).0
+initial_moves (DefCfaOffset n ∷ instrs) first = let own = (chosen (moves_first instrs) (CfaOffset n) Other Initial first (λ e. cc)).1 in absurd cc
 initial_moves (i ∷ instrs) first = absurd cc
 
 module _ {Rule : Type 0} (change : Instr → Rule → Rule) (initial : Rule) (keeps : (old : Rule) → change Nop old ≡ old) (begin : ℕ) where
-  none_left : (earlier : List Instr) (k : ℕ) → onto earlier [] k ≡ earlier
-  none_left earlier zero = refl
-  none_left earlier (suc k) = refl
-
   held : (earlier instrs : List Instr) (k : ℕ) → location_back begin earlier ≡ begin → moves_first instrs ≡ true → ((j : ℕ) → j ≤ k → location_back begin (onto earlier instrs j) ≤ begin)
       → look_back change initial 0 (onto earlier instrs k) ≡ look_back change initial 0 earlier
-  held earlier [] k at moves stays = ap (look_back change initial 0) (none_left earlier k)
-  held earlier (i ∷ instrs) zero at moves stays = refl
+  held earlier instrs zero at moves stays = refl
+  held earlier [] (suc k) at moves stays = refl
   held earlier (Nop ∷ instrs) (suc k) at moves stays =
       held (Nop ∷ earlier) instrs k at moves (λ j le. stays (suc j) (omega (arith, le))) ∙ keeps (look_back change initial 0 earlier)
   held earlier (Advance delta ∷ instrs) (suc k) at moves stays =
@@ -50,50 +43,19 @@ module _ {Rule : Type 0} (change : Instr → Rule → Rule) (initial : Rule) (ke
       absurd (omega (arith, past, at, more))
   held earlier (i ∷ instrs) (suc k) at moves stays = absurd cc
 
-  at_begin : (instrs : List Instr) (k : ℕ) → moves_first instrs ≡ true → Counts begin instrs begin k → look_back change initial 0 (back_from instrs k) ≡ initial
-  at_begin instrs k moves counts = held [] instrs k refl moves counts.stays
-
-  -- the location stays up to an instruction, and to no later one
-  abbrev StaysOnto : List Instr → List Instr → ℕ → Type 0
-  StaysOnto earlier instrs k = (j : ℕ) → j ≤ k → location_back begin (onto earlier instrs j) ≤ begin
-
-  abbrev GreatestOnto : List Instr → List Instr → ℕ → Type 0
-  GreatestOnto earlier instrs k = (n : ℕ) → n ≤ length instrs → StaysOnto earlier instrs n → n ≤ k
-
-  stays_one : (earlier instrs : List Instr) (i : Instr) (n : ℕ) → location_back begin earlier ≡ begin → StaysOnto (i ∷ earlier) instrs n → StaysOnto earlier (i ∷ instrs) (suc n)
-  stays_one earlier instrs i n at stays zero le = omega (arith, at)
-  stays_one earlier instrs i n at stays (suc j) le = stays j (omega (arith, le))
-
-  stays_first : (earlier instrs : List Instr) → location_back begin earlier ≡ begin → StaysOnto earlier instrs 0
-  stays_first earlier instrs at zero le = omega (arith, at)
-  stays_first earlier instrs at (suc j) le = absurd (omega (arith, le))
-
-  -- an instruction counts that leaves the location as it is
-  some_counts : (earlier instrs : List Instr) (i : Instr) → location_back begin earlier ≡ begin → location_back begin (i ∷ earlier) ≡ begin → GreatestOnto earlier (i ∷ instrs) 0 → ⊥
-  some_counts earlier instrs i at same greatest =
-      let one : 1 ≤ 0 = greatest 1 (omega arith) (stays_one earlier instrs i 0 at (stays_first (i ∷ earlier) instrs same)) in
-      omega (arith, one)
-
-  offset_held : (n : ℤ) (earlier instrs : List Instr) (k : ℕ) → location_back begin earlier ≡ begin → first_row instrs ≡ CfaOffset n → StaysOnto earlier instrs k → GreatestOnto earlier instrs k
+  offset_held : (n : ℤ) (earlier instrs : List Instr) (k : ℕ) → location_back begin earlier ≡ begin → first_row instrs ≡ CfaOffset n → CountsFrom begin earlier instrs begin k
       → look_back change initial 0 (onto earlier instrs k) ≡ change (DefCfaOffset n) (look_back change initial 0 earlier)
-  offset_held n earlier [] k at first stays greatest = absurd cc
-  offset_held n earlier (Nop ∷ instrs) zero at first stays greatest = absurd (some_counts earlier instrs Nop at at greatest)
-  offset_held n earlier (Nop ∷ instrs) (suc k) at first stays greatest =
-      offset_held n (Nop ∷ earlier) instrs k at first (λ j le. stays (suc j) (omega (arith, le))) (λ m le all. omega (arith, greatest (suc m) (omega (arith, le)) (stays_one earlier instrs Nop m at all)))
-      ∙ ap (change (DefCfaOffset n)) (keeps (look_back change initial 0 earlier))
-  offset_held n earlier (DefCfaOffset m ∷ instrs) zero at first stays greatest = absurd (some_counts earlier instrs (DefCfaOffset m) at at greatest)
-  offset_held n earlier (DefCfaOffset m ∷ instrs) (suc k) at first stays greatest = elim (cases_Bool (moves_first instrs)) [
-    | inl moves ↦
-        let same : CfaOffset m ≡ CfaOffset n = rw moves at first in
-        let one : m ≡ n = cc in
-        held (DefCfaOffset m ∷ earlier) instrs k at moves (λ j le. stays (suc j) (omega (arith, le))) ∙ ap (λ (z : ℤ). change (DefCfaOffset z) (look_back change initial 0 earlier)) one
-    | inr moves ↦ let other : Other ≡ CfaOffset n = rw moves at first in absurd cc
-  ]
-  offset_held n earlier (Advance delta ∷ instrs) k at first stays greatest = elim (cases_Bool (nat_lt 0 delta)) [
-    | inl more ↦ let own : Initial ≡ CfaOffset n = rw more at first in absurd cc
-    | inr none ↦ let other : Other ≡ CfaOffset n = rw none at first in absurd cc
-  ]
-  offset_held n earlier (i ∷ instrs) k at first stays greatest = absurd cc
+  offset_held n earlier [] k at first counts = absurd cc
+  offset_held n earlier (Nop ∷ instrs) zero at first counts = absurd (omega (arith, first_counts begin begin Nop earlier instrs 0 (omega (arith, at)) (omega (arith, at)) counts))
+  offset_held n earlier (Nop ∷ instrs) (suc k) at first counts =
+      offset_held n (Nop ∷ earlier) instrs k at first (counts_rest begin begin Nop earlier instrs k (omega (arith, at)) counts) ∙ ap (change (DefCfaOffset n)) (keeps (look_back change initial 0 earlier))
+  offset_held n earlier (DefCfaOffset m ∷ instrs) zero at first counts = absurd (omega (arith, first_counts begin begin (DefCfaOffset m) earlier instrs 0 (omega (arith, at)) (omega (arith, at)) counts))
+  offset_held n earlier (DefCfaOffset m ∷ instrs) (suc k) at first counts =
+      let c = chosen (moves_first instrs) (CfaOffset m) Other (CfaOffset n) first (λ e. cc) in
+      let one : m ≡ n = let same = c.1 in cc in
+      held (DefCfaOffset m ∷ earlier) instrs k at c.0 (λ j le. counts.stays (suc j) (omega (arith, le))) ∙ ap (λ (z : ℤ). change (DefCfaOffset z) (look_back change initial 0 earlier)) one
+  offset_held n earlier (Advance delta ∷ instrs) k at first counts = let own = (chosen (nat_lt 0 delta) Initial Other (CfaOffset n) first (λ e. cc)).1 in absurd cc
+  offset_held n earlier (i ∷ instrs) k at first counts = absurd cc
 
   -- what this offset of the CFA makes of a rule
   abbrev with_first : Option ℤ → Rule
@@ -101,8 +63,8 @@ module _ {Rule : Type 0} (change : Instr → Rule → Rule) (initial : Rule) (ke
   with_first (Some n) = change (DefCfaOffset n) initial
 
   at_first : (offset : Option ℤ) (instrs : List Instr) (k : ℕ) → first_row instrs ≡ row_with offset → Counts begin instrs begin k → look_back change initial 0 (back_from instrs k) ≡ with_first offset
-  at_first None instrs k first counts = at_begin instrs k (initial_moves instrs first) counts
-  at_first (Some n) instrs k first counts = offset_held n [] instrs k refl first counts.stays counts.greatest
+  at_first None instrs k first counts = held [] instrs k refl (initial_moves instrs first) counts.stays
+  at_first (Some n) instrs k first counts = offset_held n [] instrs k refl first (record { in_program = counts.in_program; stays = counts.stays; greatest = counts.greatest })
 
 -- a rule of the CFA with this offset where there is one
 abbrev pub cfa_with : Option ℤ → CfaRule → CfaRule

@@ -1,17 +1,7 @@
 -- The rows of a run: where they start, and that the last one that starts at or below an address holds the rules at that address.
-use Rattle.std.proofs.Common.{◌≡◌, ℕ, zero, suc, ◌<◌, ◌≤◌, Bool, true, false, cond, List, [], ◌∷◌, Option, Some, None, refl, sym, ap, ◌∙◌, subst, inl, inr, arith}
-use Rattle.std.proofs.lemmas.Bool.{cases_lt, le-leb}
-use Rattle.std.proofs.lemmas.Bool.Decides.{leb_tells, nat_tests}
-use Rattle.std.specs.Prelude.{nat_le, nat_lt, map}
-use Rattle.dw_cfa.proofs.Types.{Code, Instr, LocatedRow, Outcome, Placed, Refusal, Rules, State}
-use Rattle.dw_num.specs.declared.refusal.Code.TheVariants.{LocationBackwards}
-use Rattle.dw_cfa.specs.declared.instr.Instr.TheVariants.{SetLoc, Advance, RestoreState}
-use Rattle.dw_cfa.specs.Location.{onto, location_back, moves_location}
-use Rattle.dw_cfa.specs.Inner.Machine.{after, popped, fde_fault}
-use Rattle.dw_cfa.specs.Inner.Runs.{here, row_if, fault_or, fde_rows}
-use Rattle.dw_cfa.specs.Runs.{finished, row_then}
-use Rattle.dw_cfa.specs.RuleAt.{last_at, NeverFalls}
-use Rattle.dw_cfa.specs.Inner.RuleAt.{CountsFrom}
+use Rattle.dw_cfa.proofs.Words.{◌≡◌, ℕ, zero, suc, ◌<◌, ◌≤◌, Bool, true, false, cond, List, [], ◌∷◌, Option, Some, None, refl, sym, ap, ◌∙◌, subst, inl, inr, arith, cases_lt, le-leb, leb_tells, nat_tests, nat_le, nat_lt, map, Code, Instr}
+use Rattle.dw_cfa.proofs.Words.{LocatedRow, Outcome, Placed, Refusal, Rules, State, LocationBackwards, SetLoc, Advance, RestoreState, onto, location_back, moves_location, after, popped, fde_fault, here, row_if, fault_or, fde_rows, finished}
+use Rattle.dw_cfa.proofs.Words.{row_then, last_at, NeverFalls, CountsFrom}
 use Rattle.dw_cfa.proofs.Lent.Forward.{Follows, Holds, after_follows}
 use Rattle.dw_cfa.proofs.Stops.{AllRun, all_run, refusal_of, refusal_or}
 
@@ -21,28 +11,20 @@ instrs_of items = map (λ (p : Placed). p.instr) items
 pub not_le : (m n : ℕ) → n < m → nat_le m n ≡ false
 not_le m n lt = elim (leb_tells m n) [ inl p ↦ absurd (omega arith) | inr p ↦ p.0 ]
 
-not_below : (a n : ℕ) → cond (nat_lt a n) (Some LocationBackwards) None ≡ None → n ≤ a
-not_below a n e = grind (arith, nat_tests)
+popped_stays : (s : State) (stack : List Rules) → (popped s stack).location ≡ s.location
+popped_stays s [] = refl
+popped_stays s (row ∷ stack) = refl
 
 -- an instruction that is run moves the location forwards, or leaves it
 pub forwards : (limit : ℕ) (initial : Rules) (i : Instr) (s : State) → fde_fault limit i s ≡ None → s.location ≤ (after initial i s).location
-forwards limit initial (SetLoc a) s e = not_below a s.location e
-forwards limit initial (Advance d) s e = omega arith
-forwards limit initial RestoreState s e = same s.stack
-  where
-    same : (stack : List Rules) → s.location ≤ (popped s stack).location
-    same [] = omega arith
-    same (row ∷ stack) = omega arith
+forwards limit initial (SetLoc a) s e = let told : cond (nat_lt a s.location) (Some LocationBackwards) None ≡ None = e in grind (arith, nat_tests)
+forwards limit initial RestoreState s e = omega (arith, popped_stays s s.stack)
 forwards limit initial i s e = omega arith
 
 pub stays : (initial : Rules) (i : Instr) (s : State) → moves_location i ≡ false → (after initial i s).location ≡ s.location
 stays initial (SetLoc a) s e = absurd cc
 stays initial (Advance d) s e = absurd cc
-stays initial RestoreState s e = same s.stack
-  where
-    same : (stack : List Rules) → (popped s stack).location ≡ s.location
-    same [] = refl
-    same (row ∷ stack) = refl
+stays initial RestoreState s e = popped_stays s s.stack
 stays initial i s e = refl
 
 -- ---- a run with no fault
@@ -125,15 +107,15 @@ never_falls limit initial items s rows low le e =
 pub none_at : (a : ℕ) (low : ℕ) (rows : List LocatedRow) → a < low → NeverFalls low rows → last_at a rows ≡ None
 none_at a low [] past h = refl
 none_at a low (row ∷ rows) past h =
-    let first : low ≤ row.location = h.0 in
-    let none = none_at a row.location rows (omega arith) h.1 in
-    rw (none, not_le row.location a (omega arith)) refl
+    rw (none_at a row.location rows (omega (arith, past, h.0)) h.1, not_le row.location a (omega (arith, past, h.0))) refl
 
 pub last_from : (a low : ℕ) (rows : List LocatedRow) (row : Rules) → NeverFalls low rows → last_at a rows ≡ Some row → low ≤ a
 last_from a low rows row h is = elim (cases_lt a low) [ inl below ↦ (let none = none_at a low rows below h in absurd cc) | inr from ↦ from ]
 
-module _ (initial : Rules) (begin a : ℕ) where
-  counts_rest : (i : Instr) (earlier instrs : List Instr) (k : ℕ) → location_back begin earlier ≤ a
+-- ---- the instructions that count
+
+module _ (begin a : ℕ) where
+  pub counts_rest : (i : Instr) (earlier instrs : List Instr) (k : ℕ) → location_back begin earlier ≤ a
       → CountsFrom begin earlier (i ∷ instrs) a (suc k) → CountsFrom begin (i ∷ earlier) instrs a k
   counts_rest i earlier instrs k le h = record {
     in_program = let in_program = h.in_program in omega arith;
@@ -146,7 +128,7 @@ module _ (initial : Rules) (begin a : ℕ) where
       both n all (suc j) lt = all j (omega arith)
 
   -- the first instruction counts where the location after it is at most a
-  first_counts : (i : Instr) (earlier instrs : List Instr) (k : ℕ) → location_back begin earlier ≤ a → location_back begin (i ∷ earlier) ≤ a
+  pub first_counts : (i : Instr) (earlier instrs : List Instr) (k : ℕ) → location_back begin earlier ≤ a → location_back begin (i ∷ earlier) ≤ a
       → CountsFrom begin earlier (i ∷ instrs) a k → 1 ≤ k
   first_counts i earlier instrs k le le' h = h.greatest 1 (omega arith) both
     where
@@ -155,19 +137,12 @@ module _ (initial : Rules) (begin a : ℕ) where
       both (suc zero) lt = le'
       both (suc (suc j)) lt = absurd (omega arith)
 
-  -- none counts where it is above a
-  none_counts : (i : Instr) (earlier instrs : List Instr) (k : ℕ) → a < location_back begin (i ∷ earlier) → CountsFrom begin earlier (i ∷ instrs) a k → k ≡ 0
-  none_counts i earlier instrs zero lt h = refl
-  none_counts i earlier instrs (suc k) lt h = let past : location_back begin (i ∷ earlier) ≤ a = h.stays 1 (omega arith) in absurd (omega arith)
+-- ---- the row of an address
 
+module _ (initial : Rules) (begin a : ℕ) where
   -- the row of a, which holds what looking back from the last instruction that counts gives
   abbrev pub RowAt : List Instr → List Instr → ℕ → List LocatedRow → Type 0
   RowAt earlier instrs k rows = (row : Rules) × (last_at a rows ≡ Some row) × Holds initial (onto earlier instrs k) 0 row
-
-  by_count : (i : Instr) (earlier instrs : List Instr) (rows : List LocatedRow) (n : ℕ) → 1 ≤ n → CountsFrom begin earlier (i ∷ instrs) a n
-      → ((m : ℕ) → CountsFrom begin earlier (i ∷ instrs) a (suc m) → RowAt (i ∷ earlier) instrs m rows) → RowAt earlier (i ∷ instrs) n rows
-  by_count i earlier instrs rows zero pos c go = absurd (omega arith)
-  by_count i earlier instrs rows (suc m) pos c go = go m c
 
   -- a row that ends there or not, before a's row or at it
   row_later : (moves : Bool) (s : State) (next : Outcome) (row : Rules) → last_at a next.rows ≡ Some row → last_at a (row_if moves s next).rows ≡ Some row
@@ -181,26 +156,24 @@ module _ (initial : Rules) (begin a : ℕ) where
   pub rows_run : (limit : ℕ) (items : List Placed) (earlier : List Instr) (s : State) (k : ℕ) → Follows initial begin earlier s → s.location ≤ a
       → CountsFrom begin earlier (instrs_of items) a k → AllRun (fde_fault limit) (after initial) items s → RowAt earlier (instrs_of items) k (fde_rows limit initial items None s).rows
   unfolding fde_rows
-  rows_run limit [] earlier s k follows le counts run =
-      let none : k ≡ 0 = let in_program = counts.in_program in omega arith in
-      subst (λ (n : ℕ). RowAt earlier [] n (here s ∷ [])) (sym none) (s.row, rw (le-leb s.location a le) refl, follows.row)
-  rows_run limit (item ∷ items) earlier s k follows le counts run =
+  rows_run limit [] earlier s zero follows le counts run = (s.row, rw (le-leb s.location a le) refl, follows.row)
+  rows_run limit [] earlier s (suc k) follows le counts run = absurd (omega (arith, counts.in_program))
+  rows_run limit (item ∷ items) earlier s zero follows le counts run =
       let behind = after initial item.instr s in
       let next = after_follows initial begin item.instr earlier s limit follows run.0 in
+      let past : a < behind.location = elim (cases_lt a behind.location) [
+        | inl past ↦ past
+        | inr within ↦ absurd (omega (arith, first_counts begin a item.instr earlier (instrs_of items) 0 (omega (arith, follows.location)) (omega (arith, next.location, within)) counts))
+      ] in
       let rest = fde_rows limit initial items None behind in
-      let start : location_back begin earlier ≤ a = let at = follows.location in omega arith in
-      let there : behind.location ≡ location_back begin (item.instr ∷ earlier) = next.location in
-      rw run.0 (elim (cases_lt a behind.location) [
-        | inl past ↦
-            let none = none_at a behind.location rest.rows past (rows_from limit initial items None behind).falls in
-            let zero-is : k ≡ 0 = none_counts item.instr earlier (instrs_of items) k (omega arith) counts in
-            subst (λ (n : ℕ). RowAt earlier (instrs_of (item ∷ items)) n (row_if (moves_location item.instr) s rest).rows) (sym zero-is)
-            (s.row, row_here (moves_location item.instr) s rest (λ same. let put = stays initial item.instr s same in absurd (omega arith)) le none, follows.row)
-        | inr within ↦
-            let some = by_count item.instr earlier (instrs_of items) rest.rows k (first_counts item.instr earlier (instrs_of items) k start (omega arith) counts) counts
-            (λ m c. rows_run limit items (item.instr ∷ earlier) behind m next within (counts_rest item.instr earlier (instrs_of items) m start c) run.1) in
-            (some.0, row_later (moves_location item.instr) s rest some.0 some.1, some.2)
-      ])
+      let none = none_at a behind.location rest.rows past (rows_from limit initial items None behind).falls in
+      rw run.0 (s.row, row_here (moves_location item.instr) s rest (λ same. let put = stays initial item.instr s same in absurd (omega arith)) le none, follows.row)
+  rows_run limit (item ∷ items) earlier s (suc k) follows le counts run =
+      let behind = after initial item.instr s in
+      let next = after_follows initial begin item.instr earlier s limit follows run.0 in
+      let within : location_back begin (item.instr ∷ earlier) ≤ a = counts.stays 1 (omega arith) in
+      let some = rows_run limit items (item.instr ∷ earlier) behind k next (omega (arith, next.location)) (counts_rest begin a item.instr earlier (instrs_of items) k (omega (arith, follows.location)) counts) run.1 in
+      rw run.0 (some.0, row_later (moves_location item.instr) s (fde_rows limit initial items None behind) some.0 some.1, some.2)
 
   pub rows_at : (limit : ℕ) (items : List Placed) (earlier : List Instr) (s : State) (k : ℕ) (rows : List LocatedRow) → Follows initial begin earlier s → s.location ≤ a
       → CountsFrom begin earlier (instrs_of items) a k → Gives limit initial items s rows → RowAt earlier (instrs_of items) k rows

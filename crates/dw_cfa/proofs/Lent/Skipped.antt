@@ -1,43 +1,32 @@
 -- Tests of the registers whose slots are used leave what tests of all do; and rows that differ at no register are the same.
-use Rattle.std.proofs.Common.{◌≡◌, ℕ, ◌+◌, ◌<◌, ◌≤◌, Bool, true, false, List, get_or, Option, Some, None, refl, ap, ◌∙◌, arith}
-use Rattle.std.specs.Prelude.{not, is_some, ◌/◌, ◌^◌, IsTrue, ◌↔◌}
-use Rattle.std.specs.Int.{bit_at, trailing_zeros, w32}
-use Rattle.std.proofs.lemmas.Bool.Decides.{nat_tests}
-use Rattle.dw_cfa.specs.declared.rule.RegRule.TheVariants.{Unspecified}
-use Rattle.dw_cfa.specs.declared.row.Entries.{Entries}
-use Rattle.dw_cfa.specs.Rows.{AreSpecified, rule_in}
-use Rattle.dw_cfa.specs.Inner.Entries.{entries_of, EntriesSo, LeavesAt, LeavesBelow}
-use Rattle.dw_cfa.specs.Difference.{FirstDifference}
+use Rattle.dw_cfa.proofs.Words.{◌≡◌, ℕ, ◌+◌, ◌<◌, ◌≤◌, Bool, true, false, List, Option, Some, None, refl, ap, arith, not, is_some, IsTrue, ◌↔◌, bit_at, nat_tests, Entries, AreSpecified, rule_in, entries_of, EntriesSo, FirstBit, LeavesAt}
+use Rattle.dw_cfa.proofs.Words.{LeavesBelow, FirstDifference}
 use Rattle.dw_cfa.proofs.Lent.RowLists.{Entry}
 use Rattle.dw_cfa.proofs.Lent.SameRows.{same_entries}
-use Rattle.dw_cfa.proofs.Slots.{lowest_bit, near_rule, no_bits, no_slot}
+use Rattle.dw_cfa.proofs.Slots.{not_set}
 use Rattle.dw_cfa.proofs.Lent.Narrowed.{none_left}
-use Rattle.dw_cfa.proofs.Difference.{not_used}
 
--- registers that have no rule are left as they are
-over_unspecified : (p : Entry → Bool) (k n : ℕ) (old new : List Entry) → k ≤ n → ((q : ℕ) → k ≤ q → q < n → rule_in new q ≡ Unspecified) → LeavesBelow p k old new → LeavesBelow p n old new
-over_unspecified p k n old new le none below q = grind (arith, nat_tests, none q, below q, none_left p q)
+-- what a test leaves of the registers below a place
+pub record TestedBelow (p : Entry → Bool) (old : List Entry) (k : ℕ) (e : Entries) : Type 0 where
+  pub place : k ≤ 32
+  pub so : EntriesSo e
+  pub rules : LeavesBelow p k old (entries_of e)
 
--- one register more
-pub below_more : (p : Entry → Bool) (n : ℕ) (old mid new : List Entry) → LeavesBelow p n old mid → LeavesAt p n mid new → LeavesBelow p (n + 1) old new
-below_more p n old mid new below at q = grind (arith, nat_tests, below q, at q)
+module _ {p : Entry → Bool} {old : List Entry} {k : ℕ} {e : Entries} (h : TestedBelow p old k e) where
+  -- registers whose slots are not used
+  skipped : (n : ℕ) → k ≤ n → n ≤ 32 → ((q : ℕ) → k ≤ q → q < n → bit_at e.used q ≡ 0) → LeavesBelow p n old (entries_of e)
+  skipped n le within none q = grind (arith, nat_tests, λ (low : k ≤ q) (high : q < n). not_set e h.so q (omega arith) (none q low high), h.rules q, none_left p q)
 
-module _ (e : Entries) (so : EntriesSo e) where
-  -- a register whose slot is not used
-  unused : (q : ℕ) → q < 32 → bit_at e.used q ≡ 0 → rule_in (entries_of e) q ≡ Unspecified
-  unused q lt none =
-      near_rule e.near e.expressions.entries e.far.entries so.near so.far q no_slot lt
-      ∙ not_used (get_or e.near q no_slot) (rule_in e.expressions.entries q) (so.used q no_slot (omega (arith, so.near)) none)
+  pub all_tested : FirstBit None e.used k → LeavesBelow p 32 old (entries_of e)
+  all_tested none = skipped 32 h.place (omega arith) none
 
-  -- no bit is left
-  pub none_more : (p : Entry → Bool) (k : ℕ) (old : List Entry) → k ≤ 32 → e.used / 2 ^ k ≡ 0 → LeavesBelow p k old (entries_of e) → LeavesBelow p 32 old (entries_of e)
-  none_more p k old le none below = over_unspecified p k 32 old (entries_of e) le (λ q low high. unused q high (no_bits e.used k none q low)) below
-
-  -- the lowest bit that is left
-  pub up_to_used : (p : Entry → Bool) (k : ℕ) (old : List Entry) → e.used < 2 ^ 32 → 0 < e.used / 2 ^ k → LeavesBelow p k old (entries_of e) → LeavesBelow p (k + trailing_zeros w32 (e.used / 2 ^ k)) old (entries_of e)
-  up_to_used p k old fits some below =
-      let z = lowest_bit e.used k fits some in
-      over_unspecified p k (k + trailing_zeros w32 (e.used / 2 ^ k)) old (entries_of e) (omega arith) (λ q low high. unused q (omega (arith, z.0)) (z.2 q low high)) below
+  -- one register more
+  pub one_tested : {r : ℕ} {new : Entries} → FirstBit (Some r) e.used k → LeavesAt p r (entries_of e) (entries_of new) → EntriesSo new → TestedBelow p old (r + 1) new
+  one_tested {r} {new} first at so = let below = skipped r first.0 (omega (arith, first.1)) first.3 in record {
+    place = omega (arith, first.1);
+    so = so;
+    rules = λ q. grind (arith, nat_tests, below q, at q);
+  }
 
 -- rows are the same where no register's rule differs
 pub same_exactly : (xs ys : List Entry) (o : Option ℕ) (none : Bool) → AreSpecified 0 xs → AreSpecified 0 ys → FirstDifference 0 xs ys o → is_some o ≡ not none → IsTrue none ↔ (xs ≡ ys)

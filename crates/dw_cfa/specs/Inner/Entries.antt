@@ -52,6 +52,11 @@ pub record EntriesSo (e : Entries) : Type 0 where
   pub expressions : AreSpecified 0 e.expressions.entries
   pub far : AreSpecified 32 e.far.entries
 
+-- the first bit of a mask from a place on
+abbrev pub FirstBit : Option ℕ → ℕ → ℕ → Type 0
+FirstBit None mask place = (q : ℕ) → place ≤ q → q < 32 → bit_at mask q ≡ 0
+FirstBit (Some r) mask place = (place ≤ r) × (r < 32) × (bit_at mask r ≡ 1) × ((q : ℕ) → place ≤ q → q < r → bit_at mask q ≡ 0)
+
 -- the first register of the slots from a place on
 abbrev pub FindsNear : Option (ℕ × RegRule) → ℕ → List Slot → List (ℕ × RegRule) → Type 0
 FindsNear None at near expressions = (far : List (ℕ × RegRule)) → listed_near at (drop at near) expressions far ≡ far

@@ -9,18 +9,11 @@ use Rattle.dw_cfa.specs.declared.execution.LocatedRow.{LocatedRow}
 use Rattle.dw_cfa.specs.InstrSpells.{Program}
 use Rattle.dw_cfa.specs.Location.{Counts, row_starts}
 use Rattle.dw_cfa.specs.Kept.{CieKept, FdeKept}
-use Rattle.dw_cfa.specs.Laws.{initial_cfa}
 use Rattle.dw_cfa.specs.Rows.{Rules, AreSpecified, blank}
 use Rattle.dw_cfa.specs.RuleAt.{last_at, NeverFalls}
 use Rattle.dw_cfa.specs.Faults.{CieFault, FdeFault}
 use Rattle.dw_cfa.specs.Behind.{Leaves, HoldsBehind}
-use Rattle.dw_cfa.specs.Inner.Runs.{placed, initial_row, rows_behind, run_rows}
-
--- two programs give these rows
-pub record RowsOf (f : Factors) (cie fde : Input) (begin : ℕ) (rows : List LocatedRow) : Type 0 where
-  pub cie_bytes : AreBytes cie.bytes
-  pub fde_bytes : AreBytes fde.bytes
-  pub given : run_rows f cie fde begin ≡ record { rows = rows; fault = None }
+use Rattle.dw_cfa.specs.Inner.Runs.{placed, initial_row, rows_behind}
 
 -- a program of an FDE that keeps its rules, and rows that hold the rules at each address
 pub record RulesBehind (f : Factors) (initial : Rules) (fde : Input) (begin : ℕ) (instrs : List Instr) (rows : List LocatedRow) : Type 0 where
@@ -59,10 +52,3 @@ GivesRows = (f : Factors) (initial : Rules) (fde : Input) (begin : ℕ) (instrs 
 abbrev pub BehindRefused : Type 0
 BehindRefused = (f : Factors) (initial : Rules) (fde : Input) (begin : ℕ) (r : Refusal) → AreBytes fde.bytes → AreSpecified 0 initial.registers → begin ≤ address_limit fde.target.size
     → ((rows_behind f initial fde begin).fault ≡ Some r) ↔ FdeFault f initial.cfa fde begin r
-
--- two programs give rows exactly where both keep their rules
-abbrev pub RowsKept : Type 0
-RowsKept = (f : Factors) (cie fde : Input) (begin : ℕ) (cie_instrs fde_instrs : List Instr) → AreBytes cie.bytes → AreBytes fde.bytes
-    → Program cie.target f cie_instrs cie.bytes → Program fde.target f fde_instrs fde.bytes → begin ≤ address_limit fde.target.size
-    → ((rows : List LocatedRow) × (run_rows f cie fde begin ≡ record { rows = rows; fault = None }))
-    ↔ (CieKept cie_instrs × FdeKept (address_limit fde.target.size) begin (initial_cfa cie_instrs) fde_instrs)

@@ -1,15 +1,19 @@
 -- The instructions of a program by reading, one after another.
-use Rattle.std.specs.Prelude.{◌≡◌, Option, Some, None, Result, Ok, Err, Bool, if◌then◌else◌}
+use Rattle.std.specs.Prelude.{◌≡◌, Option, Some, None, Result, Ok, Err, Bool, if◌then◌else◌, map}
 use Rattle.dw_num.specs.declared.refusal.Refusal.{Refusal}
 use Rattle.dw_num.specs.Input.{Input}
-use Rattle.dw_op.specs.Inner.Walks.{ended, put, walked}
+use Rattle.dw_op.specs.Inner.Walks.{ended, put}
 use Rattle.dw_cfa.specs.declared.instr.Factors.{Factors}
 use Rattle.dw_cfa.specs.declared.instr.Instr.{Instr}
 use Rattle.dw_cfa.specs.Listing.{Listing}
-use Rattle.dw_cfa.specs.Inner.FrontInstr.{instr_at}
+use Rattle.dw_cfa.specs.Inner.Runs.{Placed, Placing, placed}
+
+-- instructions without their places
+abbrev pub plain_of : Placing → Listing
+plain_of p = record { items = map (λ (q : Placed). q.instr) p.items; fault = p.fault }
 
 unfoldable pub listing : Factors → Input → Listing
-listing f i = walked (instr_at f) (λ at instr. instr) i
+listing f i = plain_of (placed f i)
 
 -- nothing is left of what has ended
 unfoldable pub left_of : Bool → Factors → Input → Listing

@@ -1,10 +1,20 @@
 -- How the code asks how a program begins.
-use Rattle.std.specs.Prelude.{Bool, true, false, List, [], ◌∷◌, Result, Ok, nat_lt, if◌then◌else◌}
+use Rattle.std.specs.Prelude.{◌≡◌, ℕ, Bool, true, false, List, [], ◌∷◌, Some, Result, Ok, nat_lt, if◌then◌else◌, ℤ}
+use Rattle.dw_num.specs.declared.target.Target.{Target}
 use Rattle.dw_num.specs.declared.refusal.Refusal.{Refusal}
+use Rattle.dw_cfa.specs.declared.instr.Factors.{Factors}
 use Rattle.dw_cfa.specs.declared.instr.Instr.{Instr}
 use Rattle.dw_cfa.specs.declared.instr.Instr.TheVariants.{Nop, Advance, DefCfaOffset}
 use Rattle.dw_cfa.specs.declared.opening.FirstRow.{FirstRow}
 use Rattle.dw_cfa.specs.declared.opening.FirstRow.TheVariants.{Initial, CfaOffset, Other}
+use Rattle.dw_cfa.specs.InstrSpells.{FormSpells}
+use Rattle.dw_cfa.specs.Operands.{Form, form_for}
+
+-- a code gives the CFA this offset by the bytes behind it
+pub record GivesOffset (f : Factors) (code : ℕ) (rest : List ℕ) (n : ℤ) : Type 0 where
+  pub form : Form
+  pub known : form_for f code ≡ Some form
+  pub operands : (t : Target) → FormSpells t form (DefCfaOffset n) rest
 
 -- of answers one after another
 abbrev pub answers_move : List (Result Instr Refusal) → Bool

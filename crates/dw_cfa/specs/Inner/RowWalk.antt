@@ -1,5 +1,7 @@
 -- Programs that are known to give rows, run one after another in one room.
-use Rattle.std.specs.Prelude.{◌≡◌, ℕ, Bool, IsTrue, IfSome, List, Option, Some, Ok, None, []}
+use Rattle.std.specs.Prelude.{◌≡◌, ℕ, Bool, false, if◌then◌else◌, IsTrue, IfSome, List, Option, Some, Ok, None, []}
+use Rattle.dw_cfa.specs.RuleAt.{last_at, left_above}
+use Rattle.dw_cfa.specs.declared.instr.Factors.{Factors}
 use Rattle.std.specs.List.{AllByRecursion}
 use Rattle.dw_num.specs.Input.{Input}
 use Rattle.dw_cfa.specs.declared.machine.Machine.{Machine}
@@ -9,7 +11,7 @@ use Rattle.dw_cfa.specs.declared.steps.Progress.TheVariants as progress
 use Rattle.dw_cfa.specs.declared.row_walk.Leading.{Leading}
 use Rattle.dw_cfa.specs.Behind.{LeavesTo}
 use Rattle.dw_cfa.specs.Rows.{Rules, blank, is_specified, rule}
-use Rattle.dw_cfa.specs.Runs.{Outcome}
+use Rattle.dw_cfa.specs.Runs.{Outcome, finished}
 use Rattle.dw_cfa.specs.RowSteps.{Stepping, program_input, stepping}
 use Rattle.dw_cfa.specs.Inner.Runs.{RunsSo, initial_row, placed, rows_left, run_rows}
 use Rattle.dw_cfa.specs.Inner.States.{BeganWith}
@@ -81,3 +83,25 @@ pub record Readied (l : Leading) (old new : Machine) : Type 0 where
   pub first : BeganWith new.initial new.states.first
   pub location : new.location ≡ old.location
   pub limit : new.limit ≡ old.limit
+
+-- ---- up to the row of an address
+
+-- a run stands behind that row, and what is left starts above the address
+pub record RanUpTo (a : ℕ) (old : Outcome) (f : Factors) (i : Input) (m : Machine) (more : Bool) : Type 0 where
+  pub so : RunsSo m i
+  pub last : last_at a old.rows ≡ Some m.states.row
+  pub behind : left_above a old ≡ (if more then rows_left f i m else finished)
+  pub fault : (rows_left f i m).fault ≡ old.fault
+  pub keeps : (other : Rules) → AllSpecify other old.rows → AllSpecify other (rows_left f i m).rows
+
+-- a walk does, or it stays where no row is to come
+pub record WalkedTo (a : ℕ) (p : Progress) (old : Outcome) (was : Machine) (l : Leading) (i : Input) (m : Machine) (more : Bool) : Type 0 where
+  pub found : (row : Rules) → last_at a old.rows ≡ Some row → m.states.row ≡ row
+  pub stays : last_at a old.rows ≡ None → m.states.row ≡ was.states.row
+  pub behind : left_above a old ≡ (if more then rows_left l.factors i m else finished)
+  pub first : BeganWith m.initial m.states.first
+  pub none : last_at a old.rows ≡ None → (more ≡ false) × (initial_of p was.initial ≡ None)
+  pub so : IsTrue more → RunsSo m i
+  pub known : IsTrue more → (rows_left l.factors i m).fault ≡ None
+  pub keeps : IsTrue more → AllSpecify m.initial (rows_left l.factors i m).rows
+  pub left : IsTrue more → AreLeft l (Some m.initial)

@@ -1,6 +1,5 @@
 -- Bytes of a memory in a row.
-use Rattle.std.proofs.Common.{◌≡◌, ℕ, zero, suc, ◌+◌, ◌<◌, List, [], ◌∷◌, length, get_or, Option, Some, None, arith, refl, ap, add-zero}
-use Rattle.std.specs.Prelude.{option_and_then, option_map}
+use Rattle.dw_eval.proofs.Words.{◌≡◌, ℕ, zero, suc, ◌+◌, ◌<◌, List, [], ◌∷◌, length, get_or, Option, Some, None, arith, refl, ap, add-zero, option_and_then, option_map}
 use Rattle.dw_eval.specs.Bytes.{bytes_from}
 
 none_behind : (o : Option ℕ) → option_and_then {T = ℕ} {U = List ℕ} (λ b. None) o ≡ None

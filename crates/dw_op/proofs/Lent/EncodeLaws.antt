@@ -1,23 +1,12 @@
 -- Where least spellings begin, and how the encoder goes over them.
-use Rattle.std.proofs.Common.{◌≡◌, ℕ, zero, suc, ◌+◌, ◌-◌, ◌<◌, ◌≤◌, List, [], ◌∷◌, ◌++◌, length, map, take, drop, get_or, Option, Some, None, refl, sym, ap, subst, ◌∙◌, inl, inr, append_assoc, arith}
-use Rattle.std.specs.Prelude.{slice_get, Result, Ok, Err, OnOk}
-use Rattle.std.proofs.lemmas.Bool.{cases_lt}
-use Rattle.std.proofs.lemmas.List.{length-append, length-map, append-nil, get_or_append_left, get_or-append_right, length-take, take-append-le}
-use Rattle.std.proofs.lemmas.Option.{slice_get-map, slice_get-get_or}
-use Rattle.dw_num.specs.declared.target.Target.{Target}
-use Rattle.dw_op.specs.declared.op.Op.{Op}
-use Rattle.dw_op.specs.Expression.{bare}
-use Rattle.dw_op.specs.Block.{EachPart, start, branch_target, joined, Block}
-use Rattle.dw_op.specs.Least.{Least}
-use Rattle.dw_op.specs.Inner.LeastOf.{least_bytes}
-use Rattle.dw_op.specs.Ranges.{InRange, AllInRange}
+use Rattle.dw_op.proofs.Words.{◌≡◌, ℕ, zero, suc, ◌+◌, ◌-◌, ◌<◌, ◌≤◌, List, [], ◌∷◌, ◌++◌, length, map, take, drop, get_or, Option, Some, None, refl, sym, ap, subst, ◌∙◌, inl, inr, append_assoc, arith, slice_get, Result, Ok, Err, OnOk}
+use Rattle.dw_op.proofs.Words.{cases_lt, length-map, length_push, append-nil, get_or_append_left, get_or_push, length-take, take-append-le, slice_get-map, slice_get-get_or, get_or-map, drop-cons, Target, Op, bare, start, branch_target}
+use Rattle.dw_op.proofs.Words.{joined, Block, least_bytes, InRange, AllInRange, IsFar, IsEncodeError, TooFar, blank_parts, bits_of, least_from, least_block, BranchFits, EachFits, AreStarts}
 use Rattle.dw_op.specs.declared.least_block.EncodeError.{EncodeError}
 use Rattle.dw_op.specs.declared.least_block.EncodeError.TheVariants.{BranchTooFar, OutOfMemory}
-use Rattle.dw_op.specs.LeastBlock.{IsFar, IsEncodeError, TooFar}
-use Rattle.dw_op.specs.Inner.LeastBlock.{blank_parts, bits_of, least_from, least_block, BranchFits, EachFits, AreStarts}
 use Rattle.dw_op.proofs.Lent.Ranges.{listed_at}
 use Rattle.dw_op.proofs.LeastOf.{least}
-use Rattle.dw_op.proofs.Lent.LeastBlocks.{EachInRange, each_fits, each_parts, joined-cons}
+use Rattle.dw_op.proofs.Lent.LeastBlocks.{each_blank, each_fits, block_parts, joined-cons}
 
 -- ---- starts
 
@@ -27,26 +16,16 @@ start_next t (op ∷ ops) zero d lt = omega arith
 start_next t (op ∷ ops) (suc k) d lt = let e : suc k + 1 ≡ suc (k + 1) = omega arith in rw e (omega (arith, start_next t ops k d (omega arith)))
 
 pub starts_none : (parts : List (List ℕ)) → AreStarts parts 0 (0 ∷ [])
-starts_none parts = record { count = refl; each = λ i le. first i le }
-  where
-    first : (i : ℕ) → i ≤ 0 → get_or (0 ∷ []) i 0 ≡ start parts i
-    first zero le = refl
-    first (suc i) le = absurd (omega arith)
+starts_none parts = record { count = refl; each = λ i le. let first : i ≡ 0 = omega arith in rw first refl }
 
 pub starts_more : (parts : List (List ℕ)) (n end : ℕ) (starts : List ℕ) → AreStarts parts n starts → end ≡ start parts (n + 1) → AreStarts parts (n + 1) (starts ++ end ∷ [])
-starts_more parts n end starts h e =
-    let len : length (starts ++ end ∷ []) ≡ length starts + 1 = length-append starts (end ∷ []) in
-    let count = h.count in
-    record {
-      count = omega arith;
-      each = λ i le. elim (cases_lt i (n + 1)) [
-        | inl before ↦ rw (get_or_append_left starts (end ∷ []) 0 i (omega arith)) (h.each i (omega arith))
-        | inr last ↦ let is : i ≡ n + 1 = omega arith in rw (is, get_or-append_right starts (end ∷ []) (n + 1) (n + 1) 0 count (omega arith)) (at_end (n + 1) e)
-      ];
-    }
-  where
-    at_end : (m : ℕ) → end ≡ start parts m → get_or (end ∷ []) (m - m) 0 ≡ start parts m
-    at_end m e = let z : m - m ≡ 0 = omega arith in rw z e
+starts_more parts n end starts h e = record {
+  count = omega (arith, length_push starts end, h.count);
+  each = λ i le. elim (cases_lt i (n + 1)) [
+    | inl before ↦ rw (get_or_append_left starts (end ∷ []) 0 i (omega (arith, h.count))) (h.each i (omega arith))
+    | inr last ↦ let is : i ≡ n + 1 = omega arith in rw is (get_or_push starts end 0 (n + 1) h.count ∙ e)
+  ];
+}
 
 -- ---- branches
 
@@ -74,26 +53,15 @@ fits_at all k j ops op h e = absurd cc
 -- where one branch is too far no block is there
 pub far_has_no_block : (t : Target) (ops : List Op) (k : ℕ) (bytes : List ℕ) → TooFar t ops k → Block t ops bytes → ⊥
 far_has_no_block t ops k bytes f b =
-    let short = each_parts t b.parts 0 ops f.parts b.parts f.least b.each in
+    let short = block_parts t b.parts ops f.parts b.parts f.least b.each in
     let fits = each_fits t f.parts b.parts 0 ops b.parts short b.each in
     let z : 0 + k ≡ k = omega arith in
     let here = rw z at (fits_at f.parts 0 k ops f.far.0 fits f.far.2) in
     f.far.4 (rw f.far.3 at here)
 
-each_blank : (t : Target) (len k : ℕ) (ops : List Op) → EachInRange t len ops → EachPart (λ j. Least t) k ops (blank_parts t ops)
-each_blank t len k [] r = tt
-each_blank t len k (op ∷ ops) r = (least t len 0 op r.0, each_blank t len (suc k) ops r.1)
-
 far_of : (ops : List Op) (all : List (List ℕ)) (k : ℕ) (op : Op) (target : Option ℕ) → slice_get ops k ≡ Some op → branch_target op ≡ target → (BranchFits all k target → ⊥) → IsFar ops all k
 far_of ops all k op None e is f = absurd (f tt)
 far_of ops all k op (Some i) e is f = (op, i, e, is, f)
-
-not_far : (ops : List Op) (all : List (List ℕ)) (k : ℕ) (op : Op) → slice_get ops k ≡ Some op → BranchFits all k (branch_target op) → IsFar ops all k → ⊥
-not_far ops all k op e fits far =
-    let there : Some op ≡ Some far.0 = sym e ∙ far.2 in
-    let is : op ≡ far.0 = cc in
-    let here = subst (λ (o : Op). BranchFits all k (branch_target o)) is fits in
-    far.4 (rw far.3 at here)
 
 pub too_far : (t : Target) (ops : List Op) (k : ℕ) (d : Op) → AllInRange t (map bare ops) → k < length ops
     → ((j : ℕ) → j < k → BranchFits (blank_parts t (map bare ops)) j (branch_target (bare (get_or ops j d))))
@@ -102,7 +70,10 @@ too_far t ops k d r lt before here = record {
   parts = blank_parts t (map bare ops);
   least = each_blank t (length (map bare ops)) 0 (map bare ops) r;
   far = far_of (map bare ops) (blank_parts t (map bare ops)) k (bare (get_or ops k d)) (branch_target (bare (get_or ops k d))) (bare_at ops k d lt) refl here;
-  earlier = λ j less. not_far (map bare ops) (blank_parts t (map bare ops)) j (bare (get_or ops j d)) (bare_at ops j d (omega arith)) (before j less);
+  earlier = λ j less far.
+      let there : Some (bare (get_or ops j d)) ≡ Some far.0 = sym (bare_at ops j d (omega arith)) ∙ far.2 in
+      let is : bare (get_or ops j d) ≡ far.0 = cc in
+      far.4 (rw far.3 at (subst (λ (o : Op). BranchFits (blank_parts t (map bare ops)) j (branch_target o)) is (before j less)));
 }
 
 -- ---- the bytes
@@ -126,18 +97,9 @@ pub going_all : (t : Target) (ops : List Op) (old : List ℕ) (k : ℕ) (new : L
 going_all t ops old k new h = sym (append-nil new) ∙ h.whole
 
 pub drop-bare : (ops : List Op) (k : ℕ) (d : Op) → k < length ops → drop k (map bare ops) ≡ bare (get_or ops k d) ∷ drop (k + 1) (map bare ops)
-drop-bare ops k d lt = let e : k + 1 ≡ suc k = omega arith in rw e (at_place ops k d lt)
-  where
-    at_place : (ops : List Op) (k : ℕ) (d : Op) → k < length ops → drop k (map bare ops) ≡ bare (get_or ops k d) ∷ drop (suc k) (map bare ops)
-    at_place [] k d lt = absurd (omega arith)
-    at_place (op ∷ ops) zero d lt = refl
-    at_place (op ∷ ops) (suc k) d lt = at_place ops k d (omega arith)
-
-pub drop-all : (ops : List Op) (k : ℕ) → length ops ≤ k → drop k (map bare ops) ≡ []
-drop-all [] zero le = refl
-drop-all [] (suc k) le = refl
-drop-all (op ∷ ops) zero le = absurd (omega arith)
-drop-all (op ∷ ops) (suc k) le = drop-all ops k (omega arith)
+drop-bare ops k d lt =
+    let e : k + 1 ≡ suc k = omega arith in
+    rw (e, ← get_or-map bare ops k d) (drop-cons (map bare ops) k (bare d) (omega (arith, length-map ops bare)))
 
 -- ---- what the encoder answers
 

@@ -1,55 +1,39 @@
 -- The faults of a block have places in it or at its end.
-use Rattle.std.proofs.Common.{ℕ, zero, suc, ◌≤◌, List, [], ◌∷◌, length, Option, Some, None, Ok, Err, ap, subst, arith, inl, inr}
-use Rattle.std.specs.Prelude.{nat_le, ◌&&◌}
-use Rattle.std.proofs.lemmas.List.{length-append}
-use Rattle.dw_num.specs.declared.refusal.Refusal.{Refusal}
-use Rattle.dw_num.specs.declared.target.Target.{Target}
-use Rattle.dw_num.specs.Input.{Input}
-use Rattle.dw_num.specs.Target.{byte_count}
-use Rattle.dw_num.specs.Front.{Read, fixed_at, take_at, uleb_at, address_at, register_at, ◌>>=◌}
+use Rattle.dw_op.proofs.Words.{ℕ, zero, suc, ◌≤◌, List, [], ◌∷◌, length, Option, Some, None, Ok, Err, sym, ap, subst, arith, inl, inr, nat_le, ◌&&◌, length-append, Refusal, Target, Input, byte_count, Read, fixed_at, take_at, uleb_at}
+use Rattle.dw_op.proofs.Words.{address_at, ◌>>=◌, Profile, Step, Opcode, start, joined, BlockFault, Field, Form, opcode_of, allows, width_of, with_op, with_jump, operands_at, judged, after_code, step_at}
 use Rattle.dw_num.proofs.Lent.Stays.{Inside, Stays, inside_all, stays_in, stays-then, either_stays, fixed_stays, take_stays, uleb_stays, sleb_stays, register_stays}
-use Rattle.dw_op.specs.declared.op.Op.{Op}
-use Rattle.dw_op.specs.declared.profile.Profile.{Profile}
-use Rattle.dw_op.specs.declared.operation.Step.{Step}
-use Rattle.dw_op.specs.declared.operation.Opcode.{Opcode}
-use Rattle.dw_op.specs.declared.operation.Opcode.TheVariants as opcodes
-use Rattle.dw_op.specs.Block.{start, joined}
-use Rattle.dw_op.specs.Faults.{BlockFault}
-use Rattle.dw_op.specs.Inner.FrontOp.{opcode_of, allows, with_op, with_jump, after_register, size_in, after_size, after_length, operands_at, judged, after_code, step_at}
-use Rattle.dw_op.specs.Inner.ByOpcode.{address_step, unsigned_step, signed_step, uconst_step, sconst_step, pick_step, plus_step, jump_step, breg_step, long_reg_step, long_breg_step, fbreg_step, piece_step, deref_size_step, bit_piece_step, implicit_step}
+use Rattle.dw_op.specs.Operands as fields
+use Rattle.dw_op.proofs.Signed.{count_in}
+use Rattle.dw_op.proofs.Lent.ReadingLaws.{branch_in, form_for, signed_in, sized_in, counted_in, value_at, then_value, step_of, operands_are}
 use Rattle.dw_op.proofs.OperandLaws.{fault_stuck}
 
-deref_stays : (i : Input) → Stays i (deref_size_step i)
-unfolding deref_size_step
-deref_stays i = of (fixed_at 1 i) (fixed_stays 1 i)
+next_stays : {X Y : Type 0} (i : Input) (read : Read X) (next : X × Input → Read Y) → Stays i read → ((x : X × Input) → Stays x.1 (next x)) → Stays i (read >>= next)
+next_stays i read next h more = stays-then i read next h (λ x e k. stays_in i x.1 (next x) k (more x))
+
+value_stays : (o : Field) (i : Input) → Stays i (value_at o i)
+unfolding address_at
+value_stays (fields.fixed n) i = fixed_stays n i
+value_stays (fields.twos w) i = next_stays i (fixed_at (width_of (count_in w)) i) (signed_in w) (fixed_stays (width_of (count_in w)) i) (λ x. inside_all x.1)
+value_stays fields.address i = fixed_stays (byte_count i.target.size) i
+value_stays fields.unsigned i = uleb_stays i
+value_stays fields.signed i = sleb_stays i
+value_stays fields.register i = register_stays i
+value_stays fields.size i = of (fixed_at 1 i) (fixed_stays 1 i)
   where
-    of : (read : Read ℕ) → Stays i read → Stays i (read >>= size_in (byte_count i.target.size) i.at)
+    of : (read : Read ℕ) → Stays i read → Stays i (read >>= sized_in (byte_count i.target.size) i.at)
     of (Ok x) h = either_stays (nat_le 1 x.0 && nat_le x.0 (byte_count i.target.size)) i _ _ h (omega arith, omega arith)
     of (Err r) h = h
+value_stays fields.block i = next_stays i (uleb_at i) counted_in (uleb_stays i) (λ x. take_stays x.0 x.1)
 
-op_stays : {X : Type 0} (i : Input) (read : Read X) (make : X → Op) → Stays i read → Stays i (read >>= with_op make)
-op_stays i (Ok x) make h = h
-op_stays i (Err r) make h = h
+form_stays : (form : Form) (i : Input) → Stays i (step_of form i)
+form_stays (fields.none made) i = inside_all i
+form_stays (fields.one o make) i = next_stays i (value_at o i) (with_op make) (value_stays o i) (λ x. inside_all x.1)
+form_stays (fields.two o p make) i =
+    next_stays i (value_at o i) (then_value p make) (value_stays o i) (λ x. next_stays x.1 (value_at p x.1) (with_op (make x.0)) (value_stays p x.1) (λ y. inside_all y.1))
+form_stays (fields.branch to) i = next_stays i (take_at 2 i) (with_jump (branch_in to) i.target.order) (take_stays 2 i) (λ x. inside_all x.1)
 
 operands_stay : (opcode : Opcode) (i : Input) → Stays i (operands_at opcode i)
-unfolding operands_at address_step unsigned_step signed_step uconst_step sconst_step pick_step plus_step jump_step breg_step long_reg_step long_breg_step fbreg_step piece_step bit_piece_step implicit_step address_at deref_size_step
-operands_stay (opcodes.Alone op) i = inside_all i
-operands_stay opcodes.Addr i = op_stays i _ _ (fixed_stays (byte_count i.target.size) i)
-operands_stay (opcodes.Unsigned count) i = op_stays i _ _ (fixed_stays _ i)
-operands_stay (opcodes.Signed count) i = op_stays i _ _ (fixed_stays _ i)
-operands_stay opcodes.Uconst i = op_stays i _ _ (uleb_stays i)
-operands_stay opcodes.Sconst i = op_stays i _ _ (sleb_stays i)
-operands_stay opcodes.Pick i = op_stays i _ _ (fixed_stays 1 i)
-operands_stay opcodes.PlusUconst i = op_stays i _ _ (uleb_stays i)
-operands_stay (opcodes.Jump branch) i = stays-then i (take_at 2 i) (with_jump branch i.target.order) (take_stays 2 i) (λ x e k. k)
-operands_stay (opcodes.Breg r) i = op_stays i _ _ (sleb_stays i)
-operands_stay opcodes.LongReg i = op_stays i _ _ (register_stays i)
-operands_stay opcodes.LongBreg i = stays-then i (register_at i) after_register (register_stays i) (λ x e k. stays_in i x.1 _ k (op_stays x.1 _ _ (sleb_stays x.1)))
-operands_stay opcodes.Fbreg i = op_stays i _ _ (sleb_stays i)
-operands_stay opcodes.Piece i = op_stays i _ _ (uleb_stays i)
-operands_stay opcodes.DerefSize i = deref_stays i
-operands_stay opcodes.BitPiece i = stays-then i (uleb_at i) after_size (uleb_stays i) (λ x e k. stays_in i x.1 _ k (op_stays x.1 _ _ (uleb_stays x.1)))
-operands_stay opcodes.Implicit i = stays-then i (uleb_at i) after_length (uleb_stays i) (λ x e k. stays_in i x.1 _ k (op_stays x.1 _ _ (take_stays x.0 x.1)))
+operands_stay opcode i = subst (Stays i) (sym (operands_are opcode i)) (form_stays (form_for i.target opcode) i)
 
 step_stays : (profile : Profile) (i : Input) → Stays i (step_at profile i)
 unfolding step_at

@@ -1,22 +1,14 @@
 -- Operations have one least block, and its length is a sum.
-use Rattle.std.proofs.Common.{◌≡◌, ℕ, suc, ◌≤◌, List, [], ◌∷◌, length, Option, Some, None, refl, sym, ap, ◌∙◌, arith}
-use Rattle.std.specs.Int.{w16, cast_unsigned}
-use Rattle.std.proofs.lemmas.List.{length-append}
-use Rattle.dw_num.specs.declared.target.Target.{Target}
-use Rattle.dw_op.specs.declared.op.Op.{Op}
-use Rattle.dw_op.specs.Block.{EachPart, Stands, branch_target, joined, Block}
-use Rattle.dw_op.specs.Least.{Least, LeastBlock}
-use Rattle.dw_op.specs.Inner.LeastOf.{least_bytes}
-use Rattle.dw_op.specs.Inner.LeastBlock.{blank_parts, bits_of, least_from, least_block, least_len}
-use Rattle.dw_op.proofs.LeastOf.{least, length_bits}
-use Rattle.dw_op.proofs.LeastOnly.{only, same_head}
-use Rattle.dw_op.proofs.Lent.LeastBlocks.{EachInRange, SameLengths, same_displacement, joined-cons, in_range_of_block, block_of_least, least_block_is, block_fits, least_no_longer}
+use Rattle.dw_op.proofs.Words.{◌≡◌, ℕ, suc, ◌≤◌, List, [], ◌∷◌, length, Option, Some, None, refl, sym, ap, ◌∙◌, arith, w16, cast_unsigned, length-append, Target, Op, EachPart, Stands, branch_target, joined, Block, Least, LeastBlock}
+use Rattle.dw_op.proofs.Words.{least_bytes, blank_parts, bits_of, least_from, least_block, least_len}
+use Rattle.dw_op.proofs.LeastOf.{least, length_bits, only}
+use Rattle.dw_op.proofs.Lent.LeastBlocks.{EachInRange, each_blank, each_parts, SameLengths, same_displacement, joined-cons, in_range_of_block, block_of_least, least_block_is, block_fits, least_no_longer}
 
-same_lengths : (t : Target) (len k : ℕ) (ops : List Op) (parts : List (List ℕ)) → EachInRange t len ops → EachPart (λ j. Least t) k ops parts → SameLengths parts (blank_parts t ops)
-same_lengths t len k [] [] r l = tt
-same_lengths t len k (op ∷ ops) (p ∷ parts) r l =
-    ((same_head t op p (least_bytes t 0 op) l.0 (least t len 0 op r.0)).length_is, same_lengths t len (suc k) ops parts r.1 l.1)
-same_lengths t len k ops parts r l = absurd l
+same_lengths : (t : Target) (len : ℕ) (ops : List Op) (parts : List (List ℕ)) → EachInRange t len ops → EachPart (λ j. Least t) 0 ops parts → SameLengths parts (blank_parts t ops)
+same_lengths t len ops parts r l =
+    let blank = each_blank t len 0 ops r in
+    let parts_of = each_parts t (λ j. Least t) (λ j op p s. s.spells) 0 ops in
+    (parts_of parts (blank_parts t ops) l blank, parts_of (blank_parts t ops) parts blank l)
 
 same_bits : (a b : List (List ℕ)) (k : ℕ) (target : Option ℕ) → SameLengths a b → bits_of a k target ≡ bits_of b k target
 same_bits a b k None same = refl
@@ -37,7 +29,7 @@ pub least_block_only : (t : Target) (ops : List Op) (bytes : List ℕ) → Least
 unfolding least_block
 least_block_only t ops bytes b =
     let r = in_range_of_block t ops bytes (block_of_least t ops bytes b) in
-    let same = same_lengths t (length ops) 0 ops b.parts r b.least in
+    let same = same_lengths t (length ops) ops b.parts r b.least in
     b.whole ∙ ap joined (each_only t b.parts (blank_parts t ops) (length ops) 0 ops b.parts same r b.least b.each)
 
 pub least_is_one : (t : Target) (ops : List Op) (a b : List ℕ) → LeastBlock t ops a → LeastBlock t ops b → a ≡ b

@@ -1,21 +1,9 @@
 -- An operation comes back from its line, so that equal lines are of equal operations.
-use Rattle.std.proofs.Common.{◌≡◌, ℕ, Bool, true, false, List, [], ◌∷◌, map, Option, Some, None, refl, sym, ap, ◌∙◌}
-use Rattle.std.specs.Prelude.{ℤ, pos, negsuc, nat_eq, if◌then◌else◌, IsTrue, ◌↔◌}
+use Rattle.dw_op.proofs.Words.{◌≡◌, ℕ, Bool, true, false, List, [], ◌∷◌, map, Option, Some, None, refl, sym, ap, ◌∙◌, ℤ, pos, negsuc, nat_eq, if◌then◌else◌, IsTrue, ◌↔◌, Target, Size, Four, Eight, Order, Little, Big, Op, Addr, Const, Pick}
+use Rattle.dw_op.proofs.Words.{PlusUconst, Bra, Skip, Reg, Breg, Fbreg, Piece, DerefSize, Nop, BitPiece, Implicit, look_up, plain_table, Expression, bare, FrameBlock, in_frame, InFrame, sign_of, size_of, line, op_line, target_line}
+use Rattle.dw_op.proofs.Words.{expression_lines, same_expression}
 use Rattle.std.specs.Bool.{Decides, one_answer}
 use Rattle.dw_op.specs.Inner.EqualityLaws.{lines_decide}
-use Rattle.dw_num.specs.declared.target.Target.{Target}
-use Rattle.dw_num.specs.declared.target.Size.{Size}
-use Rattle.dw_num.specs.declared.target.Size.TheVariants.{Four, Eight}
-use Rattle.dw_num.specs.declared.target.Order.{Order}
-use Rattle.dw_num.specs.declared.target.Order.TheVariants.{Little, Big}
-use Rattle.dw_op.specs.declared.op.Op.{Op}
-use Rattle.dw_op.specs.declared.op.Op.TheVariants.{Addr, Const, Pick, PlusUconst, Bra, Skip, Reg, Breg, Fbreg, Piece, DerefSize, Nop, BitPiece, Implicit}
-use Rattle.dw_op.specs.Operands.{look_up}
-use Rattle.dw_op.specs.Inner.FrontOp.{plain_table}
-use Rattle.dw_op.specs.Expression.{Expression, bare}
-use Rattle.dw_op.specs.Block.{FrameBlock}
-use Rattle.dw_op.specs.Profile.{in_frame, InFrame}
-use Rattle.dw_op.specs.Inner.Equality.{sign_of, size_of, line, op_line, target_line, expression_lines, same_expression}
 
 -- a signed number from its sign and number
 abbrev pub signed_with : ℕ → ℕ → ℤ
@@ -60,14 +48,9 @@ parts_line k f s z b k2 f2 s2 z2 b2 h = rw (h.0, h.1, h.2, h.3, h.4) refl
 
 pub line_parts : (k f s : ℕ) (z : ℤ) (b : List ℕ) (k2 f2 s2 : ℕ) (z2 : ℤ) (b2 : List ℕ) → line k f s z b ≡ line k2 f2 s2 z2 b2 → SameParts k f s z b k2 f2 s2 z2 b2
 line_parts k f s z b k2 f2 s2 z2 b2 e =
-    let kind : k ≡ k2 = cc in
-    let first : f ≡ f2 = cc in
-    let second : s ≡ s2 = cc in
     let sign : sign_of z ≡ sign_of z2 = cc in
     let size : size_of z ≡ size_of z2 = cc in
-    let bytes : b ≡ b2 = cc in
-    let signed : z ≡ z2 = sym (signed_back z) ∙ ap (λ (n : ℕ). signed_with n (size_of z)) sign ∙ ap (λ (n : ℕ). signed_with (sign_of z2) n) size ∙ signed_back z2 in
-    (kind, first, second, signed, bytes)
+    (cc, cc, cc, sym (signed_back z) ∙ ap (λ (n : ℕ). signed_with n (size_of z)) sign ∙ ap (λ (n : ℕ). signed_with (sign_of z2) n) size ∙ signed_back z2, cc)
 
 pub line_of_bare : (op : Op) → op_line (bare op) ≡ op_line op
 line_of_bare (Implicit block) = refl
@@ -85,63 +68,43 @@ bare_frame : (op : Op) → in_frame op ≡ true → bare op ≡ op
 bare_frame (Implicit block) h = let k : false ≡ true = h in absurd cc
 bare_frame op h = refl
 
-head_is : (a b : List ℕ) (x y : List (List ℕ)) → a ∷ x ≡ b ∷ y → a ≡ b
-head_is a b x y e = cc
-
-tail_is : (a b : List ℕ) (x y : List (List ℕ)) → a ∷ x ≡ b ∷ y → x ≡ y
-tail_is a b x y e = cc
-
 same_list : (a b : List Op) → InFrame a → InFrame b → map op_line a ≡ map op_line b → a ≡ b
 same_list [] [] h k e = refl
 same_list (x ∷ a) (y ∷ b) h k e =
-    let first : x ≡ y = sym (bare_frame x h.0) ∙ same_op x y (head_is (op_line x) (op_line y) (map op_line a) (map op_line b) e) ∙ bare_frame y k.0 in
-    let more = same_list a b h.1 k.1 (tail_is (op_line x) (op_line y) (map op_line a) (map op_line b) e) in
+    let line : op_line x ≡ op_line y = cc in
+    let first : x ≡ y = sym (bare_frame x h.0) ∙ same_op x y line ∙ bare_frame y k.0 in
+    let more = same_list a b h.1 k.1 cc in
     cc
 same_list a b h k e = absurd cc
 
 target_with : List ℕ → Target
-target_with [] = record { size = Four; order = Little }
-target_with (size ∷ []) = record { size = Four; order = Little }
 target_with (size ∷ order ∷ more) = record { size = if nat_eq size 4 then Four else Eight; order = if nat_eq order 0 then Little else Big }
+target_with other = record { size = Four; order = Little }
 
 target_back_of : (size : Size) (order : Order) → target_with (target_line (record { size = size; order = order })) ≡ record { size = size; order = order }
 unfolding target_with
 target_back_of Four Little = refl
-target_back_of Four Big = refl
 target_back_of Eight Little = refl
-target_back_of Eight Big = refl
-
-target_back : (t : Target) → target_with (target_line t) ≡ t
-target_back t = target_back_of t.size t.order
+target_back_of size order = refl
 
 pub same_target : (a b : Target) → target_line a ≡ target_line b → a ≡ b
-same_target a b e = sym (target_back a) ∙ ap target_with e ∙ target_back b
+same_target a b e = sym (target_back_of a.size a.order) ∙ ap target_with e ∙ target_back_of b.size b.order
 
 -- ---- the test
 
-abbrev expression : Target → List Op → Expression
+abbrev pub expression : Target → List Op → Expression
 expression t ops = record { target = t; ops = ops }
 
-expression_is : (a b : Expression) → a.target ≡ b.target → a.ops ≡ b.ops → a ≡ b
+pub expression_is : (a b : Expression) → a.target ≡ b.target → a.ops ≡ b.ops → a ≡ b
 expression_is a b target ops =
     ap (λ (t : Target). expression t a.ops) target ∙ ap (λ (l : List Op). expression b.target l) ops
 
 -- the test tells equal expressions
 pub tells : (a b : Expression) → InFrame a.ops → InFrame b.ops → Decides (same_expression a b) (a ≡ b)
 tells a b h k =
-    let d = lines_decide (expression_lines a) (expression_lines b) in (
-      λ e.
-          let lines = d.0 e in
-          expression_is a b
-          (same_target a.target b.target (head_is (target_line a.target) (target_line b.target) (map op_line a.ops) (map op_line b.ops) lines))
-          (same_list a.ops b.ops h k (tail_is (target_line a.target) (target_line b.target) (map op_line a.ops) (map op_line b.ops) lines)),
-      λ e. d.1 (ap expression_lines e),
-    )
+    let d = lines_decide (expression_lines a) (expression_lines b) in
+    (λ e. let lines = d.0 e in expression_is a b (same_target a.target b.target cc) (same_list a.ops b.ops h k cc), λ e. d.1 (ap expression_lines e))
 
--- what tells equal expressions is the test
-pub is_test : (a b : Expression) (r : Bool) → InFrame a.ops → InFrame b.ops → (IsTrue r ↔ a ≡ b) → r ≡ same_expression a b
-is_test a b r h k e = one_answer r (same_expression a b) e (tells a b h k)
-
--- the test, of expressions that have blocks
+-- what tells equal expressions that have blocks is the test
 pub is_test_of : (a b : Expression) (r : Bool) → ((bytes : List ℕ) × FrameBlock a.target a.ops bytes) → ((bytes : List ℕ) × FrameBlock b.target b.ops bytes) → (IsTrue r ↔ a ≡ b) → r ≡ same_expression a b
-is_test_of a b r h k e = is_test a b r h.1.1 k.1.1 e
+is_test_of a b r h k e = one_answer r (same_expression a b) e (tells a b h.1.1 k.1.1)

@@ -1,43 +1,20 @@
 -- What it takes for an operation to have a spelling.
-use Rattle.std.proofs.Common.{◌≡◌, ℕ, zero, suc, map, get_or, subst, ◌%◌, ◌^◌, ◌<◌, List, [], ◌∷◌, ◌++◌, length, refl, inr, arith, ℤ, pos}
-use Rattle.std.specs.Prelude.{Some, slice_get}
-use Rattle.std.proofs.lemmas.List.{length-map}
-use Rattle.std.proofs.lemmas.Option.{slice_get-map, slice_get-get_or}
-use Rattle.std.proofs.Math.Nat.{mod-eq_of_lt, mod-lt}
-use Rattle.std.specs.List.{AllByRecursion}
-use Rattle.dw_num.specs.declared.target.Target.{Target}
-use Rattle.dw_num.specs.declared.target.Size.{Size}
-use Rattle.dw_num.specs.declared.target.Size.TheVariants.{Four, Eight}
-use Rattle.dw_num.specs.Target.{byte_count, address_limit}
-use Rattle.dw_num.specs.Fixed.{fixed_bytes, Fixed}
-use Rattle.dw_num.specs.Leb.{Uleb, Sleb, Register}
-use Rattle.dw_num.specs.Shortest.{shortest_uleb, shortest_sleb}
-use Rattle.dw_num.proofs.Lent.Shortest.{shortest_uleb-spells, shortest_sleb-spells}
-use Rattle.dw_op.specs.declared.op.Op.{Op}
-use Rattle.dw_op.specs.declared.op.Op.TheVariants.{Addr, Const, Pick, PlusUconst, Bra, Skip, Reg, Breg, Fbreg, Piece, DerefSize, BitPiece, Implicit}
-use Rattle.dw_op.specs.Inner.Codes.{alone_code}
-use Rattle.dw_op.specs.Expression.{bare}
-use Rattle.dw_op.specs.Inner.ByOperation.{Const8u, Unsigned, Counted}
-use Rattle.dw_op.specs.Operands.{modulo}
-use Rattle.dw_op.specs.OpSpells.{Code, Both}
-use Rattle.dw_op.specs.Ranges.{InRange, AllInRange, FirstBadOperand}
+use Rattle.dw_op.proofs.Words.{◌≡◌, ◌≤◌, sym, ℕ, zero, suc, map, get_or, subst, ◌%◌, ◌^◌, ◌<◌, List, [], ◌∷◌, ◌++◌, length, refl, inr, arith, ℤ, pos, Some, slice_get, length-map, slice_get-map, slice_get-get_or, mod-eq_of_lt, mod-lt}
+use Rattle.dw_op.proofs.Words.{AllByRecursion, Target, Size, Four, Eight, byte_count, address_limit, fixed_bytes, Fixed, Uleb, Sleb, Register, shortest_uleb, shortest_sleb, shortest_uleb-spells, shortest_sleb-spells, Op, Addr, Const, Pick}
+use Rattle.dw_op.proofs.Words.{PlusUconst, Bra, Skip, Reg, Breg, Fbreg, Piece, DerefSize, BitPiece, Implicit, alone_code, bare, Const8u, Unsigned, Counted, modulo, Code, Both, InRange, AllInRange, FirstBadOperand}
 use Rattle.dw_op.specs.Inner.Ranges.{IsTyped, Fits}
 use Rattle.dw_op.proofs.Lent.Spellings.{InRangeSo, range_so, so_range}
 
 -- ---- one spelling of each operation
 
-limit_bytes : (s : Size) (a : ℕ) → a < address_limit s → a < 256 ^ byte_count s
-limit_bytes Four a h = omega arith
-limit_bytes Eight a h = omega arith
-
-limit_most : (s : Size) (v : ℕ) → v < address_limit s → v < 256 ^ 8
-limit_most Four a h = omega arith
-limit_most Eight a h = omega arith
+limit_is : (s : Size) → (address_limit s ≡ 256 ^ byte_count s) × (address_limit s ≤ 256 ^ 8)
+limit_is Four = (refl, omega arith)
+limit_is Eight = (refl, omega arith)
 
 in_range_so : (t : Target) (len : ℕ) (op : Op) → IsTyped op → Fits t len op → InRangeSo t len (bare op)
-in_range_so t len (Addr a) y h = record { bytes = 0x03 ∷ fixed_bytes t.order (byte_count t.size) a; spelled = record { rest = fixed_bytes t.order (byte_count t.size) a; operands = record { bytes = refl; fits = limit_bytes t.size a h }; whole = refl }; within_list = tt }
+in_range_so t len (Addr a) y h = record { bytes = 0x03 ∷ fixed_bytes t.order (byte_count t.size) a; spelled = record { rest = fixed_bytes t.order (byte_count t.size) a; operands = record { bytes = refl; fits = subst (λ (n : ℕ). a < n) (limit_is t.size).0 h }; whole = refl }; within_list = tt }
 in_range_so t len (Const v) y h =
-    let operand : Code 0x0e (Unsigned (Fixed t.order 8) (pos v)) (0x0e ∷ fixed_bytes t.order 8 v) = record { rest = fixed_bytes t.order 8 v; operands = record { number = v; is = refl; spelled = record { bytes = refl; fits = limit_most t.size v h } }; whole = refl } in
+    let operand : Code 0x0e (Unsigned (Fixed t.order 8) (pos v)) (0x0e ∷ fixed_bytes t.order 8 v) = record { rest = fixed_bytes t.order 8 v; operands = record { number = v; is = refl; spelled = record { bytes = refl; fits = omega (arith, (limit_is t.size).1) } }; whole = refl } in
     record { bytes = 0x0e ∷ fixed_bytes t.order 8 v; spelled = record { form = Const8u; number = pos v; written = operand; value = let e : v % address_limit t.size ≡ v = mod-eq_of_lt h in omega arith }; within_list = tt }
 in_range_so t len (Pick i) y h = record { bytes = 0x15 ∷ fixed_bytes t.order 1 i; spelled = record { rest = fixed_bytes t.order 1 i; operands = record { bytes = refl; fits = omega arith }; whole = refl }; within_list = tt }
 in_range_so t len (PlusUconst n) y h = record { bytes = 0x23 ∷ shortest_uleb n; spelled = record { rest = shortest_uleb n; operands = shortest_uleb-spells n y; whole = refl }; within_list = tt }
@@ -68,12 +45,8 @@ modulo_below Four (pos n) = mod-lt n (omega arith)
 modulo_below Eight (pos n) = mod-lt n (omega arith)
 modulo_below s z = omega arith
 
-address_below : (s : Size) (a : ℕ) → a < 256 ^ byte_count s → a < address_limit s
-address_below Four a h = omega arith
-address_below Eight a h = omega arith
-
 fits_so : (t : Target) (len : ℕ) (op : Op) → InRangeSo t len (bare op) → Fits t len op
-fits_so t len (Addr a) r = address_below t.size a r.spelled.operands.fits
+fits_so t len (Addr a) r = subst (λ (n : ℕ). a < n) (sym (limit_is t.size).0) r.spelled.operands.fits
 fits_so t len (Const v) r = rw r.spelled.value (modulo_below t.size r.spelled.number)
 fits_so t len (Bra i) r = r.within_list
 fits_so t len (Skip i) r = r.within_list
@@ -102,10 +75,10 @@ first_bad t ops k d lt bad earlier =
           subst (λ (o : Op). InRange t (length ops) o) is (earlier j before));
     }
 
-pub listed_at : (P : Op → Type 0) (ops : List Op) (k : ℕ) (op : Op) → AllByRecursion P ops → slice_get ops k ≡ Some op → P op
-listed_at P [] k op h e = absurd cc
-listed_at P (o ∷ ops) zero op h e = let is : o ≡ op = cc in subst P is h.0
-listed_at P (o ∷ ops) (suc k) op h e = listed_at P ops k op h.1 e
+pub listed_at : {A : Type 0} (P : A → Type 0) (xs : List A) (k : ℕ) (x : A) → AllByRecursion P xs → slice_get xs k ≡ Some x → P x
+listed_at P [] k x h e = absurd cc
+listed_at P (y ∷ xs) zero x h e = let is : y ≡ x = cc in subst P is h.0
+listed_at P (y ∷ xs) (suc k) x h e = listed_at P xs k x h.1 e
 
 -- a list with an operation out of range is not in range
 pub not_in_range : (t : Target) (ops : List Op) (k : ℕ) → FirstBadOperand t ops k → AllInRange t ops → ⊥

@@ -1,75 +1,19 @@
 -- What is read is spelled so.
-use Rattle.std.proofs.Common.{◌≡◌, ℕ, zero, suc, ◌+◌, ◌-◌, ◌%◌, ◌<◌, ◌≤◌, Bool, true, false, eqb, List, [], ◌∷◌, ◌++◌, length, Option, Some, None, refl, sym, ap, subst, ◌∙◌, arith, inl, inr, ltb-true}
-use Rattle.std.specs.Prelude.{ℤ, pos, nat_le, nat_lt, ◌&&◌}
-use Rattle.std.proofs.lemmas.Bool.{cases_Bool, leb-true, eqb-true, le-leb, lt-ltb, le-ltb}
-use Rattle.dw_num.proofs.Lent.Steps.{bind_ok, cond_ok, Takes-then, take_found}
-use Rattle.dw_num.specs.declared.refusal.Code.TheVariants.{RegisterTooLarge, BadDerefSize, NotInFrame}
-use Rattle.dw_num.specs.declared.target.Target.{Target}
-use Rattle.dw_num.specs.declared.target.Size.{Size}
+use Rattle.dw_op.proofs.Words.{◌≡◌, ℕ, zero, suc, ◌-◌, ◌%◌, ◌<◌, ◌≤◌, Bool, true, false, eqb, List, [], ◌∷◌, ◌++◌, length, Option, Some, None, Result, Ok, Err, refl, sym, ap, subst, ◌∙◌, arith, inl, inr, ℤ, nat_le, ◌&&◌, if◌then◌else◌}
+use Rattle.dw_op.proofs.Words.{Width, w8, w16, w32, w64, nat_tests, cases_Bool, eqb-true, le-leb, lt-ltb, le-ltb, bind_ok, cond_ok, Takes-then, take_found, BadDerefSize, NotInFrame, Refusal, Target, Size, byte_count, address_limit, Input}
+use Rattle.dw_op.proofs.Words.{AreBytes, Takes, IsWidth, Fixed, FixedSigned, fixed_number, Uleb, Read, fault, fixed_at, take_at, uleb_at, sleb_at, address_at, ◌>>=◌, register_at, done, ok_is, uleb_found, register_found, sleb_found}
+use Rattle.dw_op.proofs.Words.{taken_bytes, fixed_found, address_found, byte_found, is_fixed, Op, Addr, Const, Pick, PlusUconst, Reg, Breg, Fbreg, Piece, DerefSize, BitPiece, Profile, Frame, Location, Branch, Step, Plain, Jump, One, Two}
+use Rattle.dw_op.proofs.Words.{Opcode, bare, branch_target, in_frame, Spells, FormSpells, StepSpells, branch_code, step_in_frame, step_allowed, Field, Value, Form, form_table, form_of, natural, constant, look_up, in_range, implicit}
+use Rattle.dw_op.proofs.Words.{plain_table, plain_op, operand_table, alone, or_else, opcode_of, code_in_frame, allows, with_op, width_of, signed_of, with_jump, size_in, operands_at, judged, after_code, step_at}
 use Rattle.dw_num.specs.declared.target.Size.TheVariants as sizes
-use Rattle.dw_num.specs.Target.{byte_count, address_limit}
-use Rattle.dw_num.specs.Input.{Input, AreBytes, Takes}
-use Rattle.dw_num.specs.Fixed.{Fixed, fixed_number}
-use Rattle.dw_num.specs.Leb.{Uleb, Sleb, Register}
-use Rattle.dw_num.specs.Front.{Read, fixed_at, take_at, uleb_at, sleb_at, address_at, ◌>>=◌, register_of, register_at}
-use Rattle.dw_num.proofs.Lent.LebLaws.{done, ok_is, uleb_found}
-use Rattle.dw_num.proofs.Lent.SlebLaws.{sleb_found}
-use Rattle.dw_num.proofs.Lent.FixedLaws.{taken_bytes, fixed_found, address_found, byte_found, is_fixed}
-use Rattle.dw_op.specs.declared.op.Op.{Op}
-use Rattle.dw_op.specs.declared.op.Op.TheVariants.{Addr, Const, Pick, PlusUconst, Reg, Breg, Fbreg, Piece, DerefSize, BitPiece, Implicit}
-use Rattle.dw_op.specs.declared.profile.Profile.{Profile}
-use Rattle.dw_op.specs.declared.profile.Profile.TheVariants.{Frame, Location}
-use Rattle.dw_op.specs.declared.operation.Branch.{Branch}
-use Rattle.dw_op.specs.declared.operation.Step.{Step}
-use Rattle.dw_op.specs.declared.operation.Step.TheVariants.{Plain, Jump}
-use Rattle.dw_op.specs.declared.operation.ByteCount.{ByteCount}
-use Rattle.dw_op.specs.declared.operation.ByteCount.TheVariants.{One, Two, Four, Eight}
-use Rattle.dw_op.specs.declared.operation.Opcode.{Opcode}
+use Rattle.dw_op.specs.declared.op.Op.TheVariants as ops
+use Rattle.dw_op.specs.declared.operation.Branch.TheVariants.{Bra, Skip}
+use Rattle.dw_op.specs.declared.operation.ByteCount.TheVariants.{Four, Eight}
 use Rattle.dw_op.specs.declared.operation.Opcode.TheVariants as opcodes
-use Rattle.dw_op.specs.Expression.{bare}
-use Rattle.dw_op.specs.Inner.ByOperation.{IsSpelled, Const1u, Const1s, Const2u, Const2s, Const4u, Const4s, Const8u, Const8s, Constu, Consts, Lit}
-use Rattle.dw_op.specs.Block.{branch_target}
-use Rattle.dw_op.specs.Profile.{in_frame}
-use Rattle.dw_op.specs.Inner.Steps.{StepSpells, branch_code, step_in_frame, step_allowed}
-use Rattle.dw_op.specs.Operands.{modulo, look_up, in_range, implicit}
-use Rattle.dw_op.specs.Inner.FrontOp.{plain_table, plain_op, operand_table, alone, or_else, opcode_of, code_in_frame, allows, with_op, width_of, signed_of, with_jump, after_register, size_in, after_size, after_length, operands_at, judged, after_code, step_at}
-use Rattle.dw_op.specs.Inner.ByOpcode.{address_step, unsigned_step, signed_step, uconst_step, sconst_step, pick_step, plus_step, jump_step, breg_step, long_reg_step, long_breg_step, fbreg_step, piece_step, deref_size_step, bit_piece_step, implicit_step}
-use Rattle.dw_op.proofs.Signed.{count_found, signed_spelled}
+use Rattle.dw_op.specs.Operands as fields
+use Rattle.dw_op.proofs.Signed.{int_width, count_in, count_found, signed_spelled}
 
--- ---- what a code says
-
--- the code of a constant of a fixed width
-abbrev pub unsigned_code : ByteCount → ℕ
-unsigned_code One = 0x08
-unsigned_code Two = 0x0a
-unsigned_code Four = 0x0c
-unsigned_code Eight = 0x0e
-
-abbrev pub signed_code : ByteCount → ℕ
-signed_code One = 0x09
-signed_code Two = 0x0b
-signed_code Four = 0x0d
-signed_code Eight = 0x0f
-
--- the codes of an opcode
-abbrev pub CodeOf : Target → Opcode → ℕ → Type 0
-CodeOf t (opcodes.Alone op) code = IsSpelled t (bare op) (code ∷ []) × (branch_target (bare op) ≡ None)
-CodeOf t opcodes.Addr code = code ≡ 0x03
-CodeOf t (opcodes.Unsigned count) code = code ≡ unsigned_code count
-CodeOf t (opcodes.Signed count) code = code ≡ signed_code count
-CodeOf t opcodes.Uconst code = code ≡ 0x10
-CodeOf t opcodes.Sconst code = code ≡ 0x11
-CodeOf t opcodes.Pick code = code ≡ 0x15
-CodeOf t opcodes.PlusUconst code = code ≡ 0x23
-CodeOf t (opcodes.Jump branch) code = code ≡ branch_code branch
-CodeOf t (opcodes.Breg r) code = (code ≡ 0x70 + r) × (r < 32)
-CodeOf t opcodes.LongReg code = code ≡ 0x90
-CodeOf t opcodes.LongBreg code = code ≡ 0x92
-CodeOf t opcodes.Fbreg code = code ≡ 0x91
-CodeOf t opcodes.Piece code = code ≡ 0x93
-CodeOf t opcodes.DerefSize code = code ≡ 0x94
-CodeOf t opcodes.BitPiece code = code ≡ 0x9d
-CodeOf t opcodes.Implicit code = code ≡ 0x9e
+-- ---- tables
 
 pub some_is : {A : Type 0} (a b : A) → Some a ≡ Some b → a ≡ b
 some_is a b e = cc
@@ -88,20 +32,12 @@ looked_up {A} P (entry ∷ table) code a h e = elim (cases_Bool (eqb code entry.
   | inr n ↦ looked_up P table code a h.1 (rw n at e)
 ]
 
-abbrev PlainOf : Target → Op → ℕ → Type 0
-PlainOf t op code = IsSpelled t (bare op) (code ∷ []) × (branch_target (bare op) ≡ None)
-
-plain_entries : (t : Target) → EachEntry (PlainOf t) plain_table
-plain_entries t = ((refl, refl), ((refl, refl), ((refl, refl), ((refl, refl), ((refl, refl), ((refl, refl), ((refl, refl), ((refl, refl), ((refl, refl), ((refl, refl), ((refl, refl), ((refl, refl), ((refl, refl), ((refl, refl), ((refl, refl), ((refl, refl), ((refl, refl), ((refl, refl), ((refl, refl), ((refl, refl), ((refl, refl), ((refl, refl), ((refl, refl), ((refl, refl), ((refl, refl), ((refl, refl), ((refl, refl), ((refl, refl), ((refl, refl), ((refl, refl), tt))))))))))))))))))))))))))))))
-
-operand_entries : (t : Target) → EachEntry (CodeOf t) operand_table
-operand_entries t = (refl, (refl, (refl, (refl, (refl, (refl, (refl, (refl, (refl, (refl, (refl, (refl, (refl, (refl, (refl, (refl, (refl, (refl, (refl, (refl, (refl, (refl, tt))))))))))))))))))))))
+infixr 2 ◌&◌
+pub ◌&◌ : {A B : Type 0} → A → B → A × B
+a & b = (a, b)
 
 pub range_is : (low high code : ℕ) → in_range low high code ≡ true → (low ≤ code) × (code < high)
-range_is low high code e = elim (cases_Bool (nat_le low code)) [
-  | inl y ↦ let k : nat_lt code high ≡ true = rw y at e in (leb-true low code y, ltb-true code high k)
-  | inr n ↦ let k : false ≡ true = rw n at e in absurd cc
-]
+range_is low high code e = (grind (arith, nat_tests), grind (arith, nat_tests))
 
 pub within : (low high code : ℕ) → low ≤ code → code < high → in_range low high code ≡ true
 within low high code from to = rw (le-leb low code from, lt-ltb code high to) refl
@@ -113,208 +49,260 @@ pub small_const : (s : Size) (n : ℕ) → n < 256 → n ≡ n % address_limit s
 small_const sizes.Four n lt = omega arith
 small_const sizes.Eight n lt = omega arith
 
-lit_code : (t : Target) (code n : ℕ) → code ≡ 0x30 + n → n < 32 → CodeOf t (opcodes.Alone (Const n)) code
-lit_code t code n is lt =
-    (record { form = Lit; number = pos n; written = record { number = n; is = refl; spelled = (lt, ap (λ (c : ℕ). c ∷ []) is) }; value = small_const t.size n (omega arith) }, refl)
+-- ---- the form of what a code says
 
-reg_code : (t : Target) (code n : ℕ) → code ≡ 0x50 + n → n < 32 → CodeOf t (opcodes.Alone (Reg n)) code
-reg_code t code n is lt = (inl (lt, ap (λ (c : ℕ). c ∷ []) is), refl)
+abbrev branch_of : Op → Branch
+branch_of (ops.Bra i) = Bra
+branch_of op = Skip
 
-alone_is : (t : Target) (code : ℕ) (o : Option Op) (opcode : Opcode) → look_up plain_table code ≡ o → alone o ≡ Some opcode → CodeOf t opcode code
-alone_is t code None opcode known e = absurd cc
-alone_is t code (Some op) opcode known e =
-    let is : opcodes.Alone op ≡ opcode = some_is (opcodes.Alone op) opcode e in
-    subst (λ (x : Opcode). CodeOf t x code) is (looked_up (PlainOf t) plain_table code op (plain_entries t) known)
+-- the branch that a form makes
+abbrev pub branch_in : (ℕ → Op) → Branch
+branch_in to = branch_of (to 0)
 
-table_is : (t : Target) (code : ℕ) (o : Option Opcode) (opcode : Opcode) → look_up operand_table code ≡ o → or_else o (alone (plain_op code)) ≡ Some opcode → CodeOf t opcode code
-unfolding plain_op
-table_is t code None opcode known e = alone_is t code (look_up plain_table code) opcode refl e
-table_is t code (Some other) opcode known e =
-    subst (λ (x : Opcode). CodeOf t x code) (some_is other opcode e) (looked_up (CodeOf t) operand_table code other (operand_entries t) known)
+abbrev pub form_for : Target → Opcode → Form
+form_for t (opcodes.Alone op) = fields.none (bare op)
+form_for t opcodes.Addr = fields.one fields.address Addr
+form_for t (opcodes.Unsigned count) = fields.one (fields.fixed (width_of count)) (natural t)
+form_for t (opcodes.Signed count) = fields.one (fields.twos (int_width count)) (constant t)
+form_for t opcodes.Uconst = fields.one fields.unsigned (natural t)
+form_for t opcodes.Sconst = fields.one fields.signed (constant t)
+form_for t opcodes.Pick = fields.one (fields.fixed 1) Pick
+form_for t opcodes.PlusUconst = fields.one fields.unsigned PlusUconst
+form_for t (opcodes.Jump Bra) = fields.branch ops.Bra
+form_for t (opcodes.Jump Skip) = fields.branch ops.Skip
+form_for t (opcodes.Breg r) = fields.one fields.signed (Breg r)
+form_for t opcodes.LongReg = fields.one fields.register Reg
+form_for t opcodes.LongBreg = fields.two fields.register fields.signed Breg
+form_for t opcodes.Fbreg = fields.one fields.signed Fbreg
+form_for t opcodes.Piece = fields.one fields.unsigned Piece
+form_for t opcodes.DerefSize = fields.one fields.size DerefSize
+form_for t opcodes.BitPiece = fields.two fields.unsigned fields.unsigned BitPiece
+form_for t opcodes.Implicit = fields.one fields.block implicit
 
-pub opcode_known : (t : Target) (code : ℕ) (opcode : Opcode) → opcode_of code ≡ Some opcode → CodeOf t opcode code
-unfolding opcode_of
-opcode_known t code opcode e = elim (cases_Bool (in_range 0x30 0x50 code)) [
-  | inl y ↦
-      let r = range_is 0x30 0x50 code y in
-      subst (λ (x : Opcode). CodeOf t x code) (some_is (opcodes.Alone (Const (code - 0x30))) opcode (rw y at e)) (lit_code t code (code - 0x30) (omega (arith, r.0)) (omega (arith, r.1)))
-  | inr n ↦ let e1 = rw n at e in elim (cases_Bool (in_range 0x50 0x70 code)) [
-    | inl y ↦
-        let r = range_is 0x50 0x70 code y in
-        subst (λ (x : Opcode). CodeOf t x code) (some_is (opcodes.Alone (Reg (code - 0x50))) opcode (rw y at e1)) (reg_code t code (code - 0x50) (omega (arith, r.0)) (omega (arith, r.0, r.1)))
-    | inr n ↦ let e2 = rw n at e1 in elim (cases_Bool (in_range 0x70 0x90 code)) [
-      | inl y ↦
-          let r = range_is 0x70 0x90 code y in
-          subst (λ (x : Opcode). CodeOf t x code) (some_is (opcodes.Breg (code - 0x70)) opcode (rw y at e2)) (omega (arith, r.0), omega (arith, r.0, r.1))
-      | inr n ↦ table_is t code (look_up operand_table code) opcode refl (rw n at e2)
+-- the widths that constants have
+abbrev pub Wide : Field → Type 0
+Wide (fields.fixed n) = IsWidth n
+Wide (fields.twos w) = int_width (count_in w) ≡ w
+Wide other = Unit {0}
+
+abbrev pub FormWide : Form → Type 0
+FormWide (fields.one o make) = Wide o
+FormWide (fields.two o p make) = Wide o × Wide p
+FormWide other = Unit {0}
+
+-- an operation that is no branch, which a frame's expression may hold or not
+abbrev Quiet : Bool → Op → Type 0
+Quiet framed op = (branch_target op ≡ None) × (in_frame op ≡ framed)
+
+-- what the operations of a form are
+abbrev pub Makes : Form → ℕ → Bool → Type 0
+Makes (fields.none op) code framed = Quiet framed op
+Makes (fields.one o make) code framed = (x : Value o) → Quiet framed (make x)
+Makes (fields.two o p make) code framed = (x : Value o) (y : Value p) → Quiet framed (make x y)
+Makes (fields.branch to) code framed = ((i : ℕ) → (branch_target (to i) ≡ Some i) × (in_frame (to i) ≡ framed)) × (code ≡ branch_code (branch_in to)) × (framed ≡ true)
+
+-- what is known of a code
+pub record Known (t : Target) (code : ℕ) (opcode : Opcode) : Type 0 where
+  pub form : form_of t code ≡ Some (form_for t opcode)
+  pub wide : FormWide (form_for t opcode)
+  pub makes : Makes (form_for t opcode) code (code_in_frame opcode)
+
+module _ (t : Target) where
+  abbrev InTable : Opcode → ℕ → Type 0
+  InTable opcode code = (look_up (form_table t) code ≡ Some (form_for t opcode)) × FormWide (form_for t opcode) × Makes (form_for t opcode) code (code_in_frame opcode)
+
+  plain_entries : EachEntry (λ op code. InTable (opcodes.Alone op) code) plain_table
+  plain_entries =
+      (refl, tt, (refl, refl)) & (refl, tt, (refl, refl)) & (refl, tt, (refl, refl)) & (refl, tt, (refl, refl)) & (refl, tt, (refl, refl)) & (refl, tt, (refl, refl))
+      & (refl, tt, (refl, refl)) & (refl, tt, (refl, refl)) & (refl, tt, (refl, refl)) & (refl, tt, (refl, refl)) & (refl, tt, (refl, refl)) & (refl, tt, (refl, refl))
+      & (refl, tt, (refl, refl)) & (refl, tt, (refl, refl)) & (refl, tt, (refl, refl)) & (refl, tt, (refl, refl)) & (refl, tt, (refl, refl)) & (refl, tt, (refl, refl))
+      & (refl, tt, (refl, refl)) & (refl, tt, (refl, refl)) & (refl, tt, (refl, refl)) & (refl, tt, (refl, refl)) & (refl, tt, (refl, refl)) & (refl, tt, (refl, refl))
+      & (refl, tt, (refl, refl)) & (refl, tt, (refl, refl)) & (refl, tt, (refl, refl)) & (refl, tt, (refl, refl)) & (refl, tt, (refl, refl)) & (refl, tt, (refl, refl)) & tt
+
+  operand_entries : EachEntry InTable operand_table
+  operand_entries =
+      (refl, tt, λ x. (refl, refl)) & (refl, inl refl, λ x. (refl, refl)) & (refl, refl, λ x. (refl, refl)) & (refl, inr (inl refl), λ x. (refl, refl)) & (refl, refl, λ x. (refl, refl))
+      & (refl, inr (inr (inl refl)), λ x. (refl, refl)) & (refl, refl, λ x. (refl, refl)) & (refl, inr (inr (inr refl)), λ x. (refl, refl)) & (refl, refl, λ x. (refl, refl))
+      & (refl, tt, λ x. (refl, refl)) & (refl, tt, λ x. (refl, refl)) & (refl, inl refl, λ x. (refl, refl)) & (refl, tt, λ x. (refl, refl))
+      & (refl, tt, ((λ i. (refl, refl)), refl, refl)) & (refl, tt, ((λ i. (refl, refl)), refl, refl))
+      & (refl, tt, λ x. (refl, refl)) & (refl, tt, λ x. (refl, refl)) & (refl, (tt, tt), λ x y. (refl, refl)) & (refl, tt, λ x. (refl, refl))
+      & (refl, tt, λ x. (refl, refl)) & (refl, (tt, tt), λ x y. (refl, refl)) & (refl, tt, λ x. (refl, refl)) & tt
+
+  alone_in : (code : ℕ) (o : Option Op) (opcode : Opcode) → look_up plain_table code ≡ o → alone o ≡ Some opcode → InTable opcode code
+  alone_in code None opcode known e = absurd cc
+  alone_in code (Some op) opcode known e =
+      subst (λ (x : Opcode). InTable x code) (some_is (opcodes.Alone op) opcode e) (looked_up (λ (o : Op) (c : ℕ). InTable (opcodes.Alone o) c) plain_table code op plain_entries known)
+
+  table_in : (code : ℕ) (o : Option Opcode) (opcode : Opcode) → look_up operand_table code ≡ o → or_else o (alone (plain_op code)) ≡ Some opcode → InTable opcode code
+  unfolding plain_op
+  table_in code None opcode known e = alone_in code (look_up plain_table code) opcode refl e
+  table_in code (Some other) opcode known e = subst (λ (x : Opcode). InTable x code) (some_is other opcode e) (looked_up InTable operand_table code other operand_entries known)
+
+  pub opcode_known : (code : ℕ) (opcode : Opcode) → opcode_of code ≡ Some opcode → Known t code opcode
+  unfolding opcode_of form_of
+  opcode_known code opcode e = elim (cases_Bool (in_range 0x30 0x50 code)) [
+    | inl y ↦ subst (Known t code) (some_is (opcodes.Alone (Const (code - 0x30))) opcode (rw y at e)) (record { form = rw y refl; wide = tt; makes = (refl, refl) })
+    | inr n ↦ let e1 = rw n at e in elim (cases_Bool (in_range 0x50 0x70 code)) [
+      | inl y ↦ subst (Known t code) (some_is (opcodes.Alone (Reg (code - 0x50))) opcode (rw y at e1)) (record { form = rw (n, y) refl; wide = tt; makes = (refl, refl) })
+      | inr m ↦ let e2 = rw m at e1 in elim (cases_Bool (in_range 0x70 0x90 code)) [
+        | inl y ↦ subst (Known t code) (some_is (opcodes.Breg (code - 0x70)) opcode (rw y at e2)) (record { form = rw (n, m, y) refl; wide = tt; makes = λ z. (refl, refl) })
+        | inr k ↦ let q = table_in code (look_up operand_table code) opcode refl (rw k at e2) in record { form = rw (n, m, k) q.0; wide = q.1; makes = q.2 }
+      ]
     ]
   ]
-]
 
--- ---- operands
+-- ---- operands are read by the form
 
--- behind a code stand the operands of a step, which a frame's expression may hold or not
-abbrev StepFound : Target → ℕ → Bool → Input → Step → Input → Type 0
-StepFound t code framed i step new = (b : List ℕ) × StepSpells t step (code ∷ b) × Takes i b new × (step_in_frame step ≡ framed)
+abbrev pub signed_in : Width → ℕ × Input → Read ℤ
+signed_in w n = Ok (signed_of (count_in w) n.0, n.1)
 
--- an operation of one operand
-op_found : {X : Type 0} (t : Target) (code : ℕ) (framed : Bool) (i new : Input) (step : Step) (read : Read X) (make : X → Op) (Spells : X → List ℕ → Type 0)
-    → ((x : X) (behind : Input) → read ≡ done (x, behind) → (b : List ℕ) × Spells x b × Takes i b behind)
-    → ((x : X) (b : List ℕ) → Spells x b → StepSpells t (Plain (make x)) (code ∷ b)) → ((x : X) → in_frame (make x) ≡ framed)
-    → read >>= with_op make ≡ done (step, new) → StepFound t code framed i step new
-op_found t code framed i new step read make Spells law spelled same e =
-    let p = bind_ok read (with_op make) (step, new) e in
-    let q = law p.0.0 p.0.1 p.1 in
-    subst (λ (z : Step × Input). StepFound t code framed i z.0 z.1) (ok_is (Plain (make p.0.0), p.0.1) (step, new) p.2) (q.0, spelled p.0.0 q.0 q.1, q.2, same p.0.0)
+abbrev pub sized_in : ℕ → ℕ → ℕ × Input → Read ℕ
+sized_in most at k = if nat_le 1 k.0 && nat_le k.0 most then Ok k else fault BadDerefSize at
 
-pub const_of : (t : Target) (count : ByteCount) (n : ℕ) (b : List ℕ) → Fixed t.order (width_of count) n b → StepSpells t (Plain (Const (n % address_limit t.size))) (unsigned_code count ∷ b)
-const_of t One n b f = (record { form = Const1u; number = pos n; written = record { rest = b; operands = record { number = n; is = refl; spelled = f }; whole = refl }; value = refl }, refl)
-const_of t Two n b f = (record { form = Const2u; number = pos n; written = record { rest = b; operands = record { number = n; is = refl; spelled = f }; whole = refl }; value = refl }, refl)
-const_of t Four n b f = (record { form = Const4u; number = pos n; written = record { rest = b; operands = record { number = n; is = refl; spelled = f }; whole = refl }; value = refl }, refl)
-const_of t Eight n b f = (record { form = Const8u; number = pos n; written = record { rest = b; operands = record { number = n; is = refl; spelled = f }; whole = refl }; value = refl }, refl)
+abbrev pub counted_in : ℕ × Input → Read (List ℕ)
+counted_in n = take_at n.0 n.1
 
-pub signed_const_of : (t : Target) (count : ByteCount) (n : ℕ) (b : List ℕ) → Fixed t.order (width_of count) n b → StepSpells t (Plain (Const (modulo (address_limit t.size) (signed_of count n)))) (signed_code count ∷ b)
-signed_const_of t One n b f = (record { form = Const1s; number = signed_of One n; written = record { rest = b; operands = signed_spelled One t.order n b f; whole = refl }; value = refl }, refl)
-signed_const_of t Two n b f = (record { form = Const2s; number = signed_of Two n; written = record { rest = b; operands = signed_spelled Two t.order n b f; whole = refl }; value = refl }, refl)
-signed_const_of t Four n b f = (record { form = Const4s; number = signed_of Four n; written = record { rest = b; operands = signed_spelled Four t.order n b f; whole = refl }; value = refl }, refl)
-signed_const_of t Eight n b f = (record { form = Const8s; number = signed_of Eight n; written = record { rest = b; operands = signed_spelled Eight t.order n b f; whole = refl }; value = refl }, refl)
+-- what a field holds
+abbrev pub value_at : (o : Field) → Input → Read (Value o)
+value_at (fields.fixed n) i = fixed_at n i
+value_at (fields.twos w) i = fixed_at (width_of (count_in w)) i >>= signed_in w
+value_at fields.address i = address_at i
+value_at fields.unsigned i = uleb_at i
+value_at fields.signed i = sleb_at i
+value_at fields.register i = register_at i
+value_at fields.size i = fixed_at 1 i >>= sized_in (byte_count i.target.size) i.at
+value_at fields.block i = uleb_at i >>= counted_in
 
-register_found : (i new : Input) (r : ℕ) → AreBytes i.bytes → register_at i ≡ done (r, new) → (b : List ℕ) × Register r b × Takes i b new
-unfolding register_at
-register_found i new r h e =
-    let p = bind_ok (uleb_at i) (register_of i.at) (r, new) e in
-    let q = uleb_found i p.0.1 p.0.0 h p.1 in
-    let k = cond_ok (nat_lt p.0.0 65536) (done p.0) (record { code = RegisterTooLarge; at = i.at }) (r, new) p.2 in
-    subst (λ (z : ℕ × Input). (b : List ℕ) × Register z.0 b × Takes i b z.1) (ok_is p.0 (r, new) k.1) (q.0, (q.1, omega (arith, ltb-true p.0.0 65536 k.0)), q.2)
+abbrev pub then_value : {X : Type 0} (p : Field) → (X → Value p → Op) → X × Input → Read Step
+then_value p make x = value_at p x.1 >>= with_op (make x.0)
 
-breg_found : (t : Target) (code r : ℕ) (i new : Input) (step : Step) (Offset : ℤ → List ℕ → Type 0) → AreBytes i.bytes
-    → ((z : ℤ) (b : List ℕ) → Sleb z b → StepSpells t (Plain (Breg r z)) (code ∷ b)) → breg_step r i ≡ done (step, new) → StepFound t code true i step new
-unfolding breg_step
-breg_found t code r i new step Offset h spelled e =
-    op_found t code true i new step (sleb_at i) (Breg r) Sleb (λ z behind s. sleb_found i behind z h s) spelled (λ z. refl) e
+-- the step that a form's fields make
+abbrev pub step_of : Form → Input → Read Step
+step_of (fields.none op) i = Ok (Plain op, i)
+step_of (fields.one o make) i = value_at o i >>= with_op make
+step_of (fields.two o p make) i = value_at o i >>= then_value p make
+step_of (fields.branch to) i = take_at 2 i >>= with_jump (branch_in to) i.target.order
 
-jump_found : (branch : Branch) (i new : Input) (step : Step) → AreBytes i.bytes → jump_step branch i ≡ done (step, new) → StepFound i.target (branch_code branch) true i step new
-unfolding jump_step
-jump_found branch i new step h e =
-    let order = i.target.order in
-    let p = bind_ok (take_at 2 i) (with_jump branch order) (step, new) e in
-    let q = take_found 2 i p.0.1 p.0.0 p.1 in
-    subst (λ (z : Step × Input). StepFound i.target (branch_code branch) true i z.0 z.1) (ok_is (Jump branch (fixed_number order 2 p.0.0), p.0.1) (step, new) p.2)
-    (p.0.0, record { rest = p.0.0; operands = two_all i.target p.0.0 q.1 (front_bytes p.0.0 p.0.1.bytes (subst AreBytes q.0.bytes h)); whole = refl }, q.0, refl)
-  where
-    front_bytes : (front rest : List ℕ) → AreBytes (front ++ rest) → AreBytes front
-    front_bytes [] rest h k = omega arith
-    front_bytes (x ∷ front) rest h zero = h 0
-    front_bytes (x ∷ front) rest h (suc k) = front_bytes front rest (λ j. h (suc j)) k
+bound : {A B C : Type 0} (r : Result A Refusal) (f : A → Result B Refusal) (g : B → Result C Refusal) → r >>= (λ x. f x >>= g) ≡ (r >>= f) >>= g
+bound (Ok x) f g = refl
+bound (Err r) f g = refl
 
-    two_all : (t : Target) (b : List ℕ) → length b ≡ 2 → AreBytes b → Fixed t.order 2 (fixed_number t.order 2 b) b
-    two_all t (x ∷ y ∷ []) len are = is_fixed t.order 2 (x ∷ y ∷ []) (inr (inl refl)) (omega arith) are
-    two_all t b len are = absurd (omega arith)
+size_is : (most at : ℕ) (r : Read ℕ) → r >>= size_in most at ≡ (r >>= sized_in most at) >>= with_op DerefSize
+size_is most at (Err r) = refl
+size_is most at (Ok k) = grind (arith, nat_tests)
 
-long_breg_found : (i new : Input) (step : Step) → AreBytes i.bytes → long_breg_step i ≡ done (step, new) → StepFound i.target 0x92 true i step new
-unfolding long_breg_step breg_step
-long_breg_found i new step h e =
-    let p = bind_ok (register_at i) after_register (step, new) e in
-    let q = register_found i p.0.1 p.0.0 h p.1 in
-    let s = bind_ok (sleb_at p.0.1) (with_op (Breg p.0.0)) (step, new) p.2 in
-    let u = sleb_found p.0.1 s.0.1 s.0.0 (taken_bytes i p.0.1 q.0 q.2 h) s.1 in
-    subst (λ (z : Step × Input). StepFound i.target 0x92 true i z.0 z.1) (ok_is (Plain (Breg p.0.0 s.0.0), s.0.1) (step, new) s.2)
-    (q.0 ++ u.0, (inr (record { rest = q.0 ++ u.0; operands = record { front = q.0; back = u.0; first = q.1; second = u.1; whole = refl }; whole = refl }), refl), Takes-then i p.0.1 s.0.1 q.0 u.0 q.2 u.2, refl)
+pub operands_are : (opcode : Opcode) (i : Input) → operands_at opcode i ≡ step_of (form_for i.target opcode) i
+unfolding operands_at
+operands_are (opcodes.Signed One) i = bound (fixed_at 1 i) (signed_in w8) (with_op (constant i.target))
+operands_are (opcodes.Signed Two) i = bound (fixed_at 2 i) (signed_in w16) (with_op (constant i.target))
+operands_are (opcodes.Signed Four) i = bound (fixed_at 4 i) (signed_in w32) (with_op (constant i.target))
+operands_are (opcodes.Signed Eight) i = bound (fixed_at 8 i) (signed_in w64) (with_op (constant i.target))
+operands_are opcodes.DerefSize i = size_is (byte_count i.target.size) i.at (fixed_at 1 i)
+operands_are opcodes.Implicit i = bound (uleb_at i) counted_in (with_op implicit)
+operands_are (opcodes.Jump Bra) i = refl
+operands_are (opcodes.Jump Skip) i = refl
+operands_are opcode i = refl
 
-bit_piece_found : (i new : Input) (step : Step) → AreBytes i.bytes → bit_piece_step i ≡ done (step, new) → StepFound i.target 0x9d false i step new
-unfolding bit_piece_step
-bit_piece_found i new step h e =
-    let p = bind_ok (uleb_at i) after_size (step, new) e in
-    let q = uleb_found i p.0.1 p.0.0 h p.1 in
-    let s = bind_ok (uleb_at p.0.1) (with_op (BitPiece p.0.0)) (step, new) p.2 in
-    let u = uleb_found p.0.1 s.0.1 s.0.0 (taken_bytes i p.0.1 q.0 q.2 h) s.1 in
-    subst (λ (z : Step × Input). StepFound i.target 0x9d false i z.0 z.1) (ok_is (Plain (BitPiece p.0.0 s.0.0), s.0.1) (step, new) s.2)
-    (q.0 ++ u.0, (record { rest = q.0 ++ u.0; operands = record { front = q.0; back = u.0; first = q.1; second = u.1; whole = refl }; whole = refl }, refl), Takes-then i p.0.1 s.0.1 q.0 u.0 q.2 u.2, refl)
+-- ---- what is read of a form is spelled so
 
-implicit_found : (i new : Input) (step : Step) → AreBytes i.bytes → implicit_step i ≡ done (step, new) → StepFound i.target 0x9e false i step new
-unfolding implicit_step
-implicit_found i new step h e =
-    let p = bind_ok (uleb_at i) after_length (step, new) e in
-    let q = uleb_found i p.0.1 p.0.0 h p.1 in
-    let s = bind_ok (take_at p.0.0 p.0.1) (with_op implicit) (step, new) p.2 in
-    let u = take_found p.0.0 p.0.1 s.0.1 s.0.0 s.1 in
-    let len : Uleb (length s.0.0) q.0 = subst (λ (n : ℕ). Uleb n q.0) (sym u.1) q.1 in
-    subst (λ (z : Step × Input). StepFound i.target 0x9e false i z.0 z.1) (ok_is (Plain (implicit s.0.0), s.0.1) (step, new) s.2)
-    (q.0 ++ s.0.0, ((refl, record { rest = q.0 ++ s.0.0; operands = record { front = q.0; back = s.0.0; first = len; second = refl; whole = refl }; whole = refl }), refl), Takes-then i p.0.1 s.0.1 q.0 s.0.0 q.2 u.0, refl)
+sized_so : (most n : ℕ) → (nat_le 1 n && nat_le n most) ≡ true → (1 ≤ n) × (n ≤ most)
+sized_so most n e = (grind (arith, nat_tests), grind (arith, nat_tests))
 
-deref_size_found : (i new : Input) (step : Step) → AreBytes i.bytes → deref_size_step i ≡ done (step, new) → StepFound i.target 0x94 true i step new
-unfolding deref_size_step
-deref_size_found i new step h e =
+value_found : (o : Field) (i new : Input) (x : Value o) → Wide o → AreBytes i.bytes → value_at o i ≡ done (x, new) → (b : List ℕ) × Spells i.target o x b × Takes i b new
+value_found (fields.fixed n) i new x w h e = fixed_found n i new x w h e
+value_found (fields.twos w) i new x same h e =
+    let p = bind_ok (fixed_at (width_of (count_in w)) i) (signed_in w) (x, new) e in
+    let q = count_found (count_in w) i p.0.1 p.0.0 h p.1 in
+    let z = signed_of (count_in w) p.0.0 in
+    subst (λ (y : ℤ × Input). (b : List ℕ) × FixedSigned i.target.order w y.0 b × Takes i b y.1) (ok_is (z, p.0.1) (x, new) p.2)
+    (q.0, subst (λ (v : Width). FixedSigned i.target.order v z q.0) same (signed_spelled (count_in w) i.target.order p.0.0 q.0 q.1), q.2)
+value_found fields.address i new x w h e = address_found i new x h e
+value_found fields.unsigned i new x w h e = uleb_found i new x h e
+value_found fields.signed i new x w h e = sleb_found i new x h e
+value_found fields.register i new x w h e = register_found i new x h e
+value_found fields.size i new x w h e =
     let most = byte_count i.target.size in
-    let p = bind_ok (fixed_at 1 i) (size_in most i.at) (step, new) e in
+    let p = bind_ok (fixed_at 1 i) (sized_in most i.at) (x, new) e in
     let q = fixed_found 1 i p.0.1 p.0.0 (inl refl) h p.1 in
-    let k = cond_ok (nat_le 1 p.0.0 && nat_le p.0.0 most) (with_op DerefSize p.0) (record { code = BadDerefSize; at = i.at }) (step, new) p.2 in
-    let within = both_true (nat_le 1 p.0.0) (nat_le p.0.0 most) k.0 in
-    subst (λ (z : Step × Input). StepFound i.target 0x94 true i z.0 z.1) (ok_is (Plain (DerefSize p.0.0), p.0.1) (step, new) k.1)
-    (q.0, ((record { rest = q.0; operands = q.1; whole = refl }, leb-true 1 p.0.0 within.0, leb-true p.0.0 most within.1), refl), q.2, refl)
-  where
-    both_true : (a b : Bool) → (a && b) ≡ true → (a ≡ true) × (b ≡ true)
-    both_true true b e = (refl, e)
-    both_true false b e = absurd cc
+    let k = cond_ok (nat_le 1 p.0.0 && nat_le p.0.0 most) (done p.0) (record { code = BadDerefSize; at = i.at }) (x, new) p.2 in
+    subst (λ (y : ℕ × Input). (b : List ℕ) × Spells i.target fields.size y.0 b × Takes i b y.1) (ok_is p.0 (x, new) k.1)
+    (q.0, (q.1, (sized_so most p.0.0 k.0).0, (sized_so most p.0.0 k.0).1), q.2)
+value_found fields.block i new x w h e =
+    let p = bind_ok (uleb_at i) counted_in (x, new) e in
+    let q = uleb_found i p.0.1 p.0.0 h p.1 in
+    let u = take_found p.0.0 p.0.1 new x p.2 in
+    (q.0 ++ x, record { front = q.0; back = x; first = subst (λ (n : ℕ). Uleb n q.0) (sym u.1) q.1; second = refl; whole = refl }, Takes-then i p.0.1 new q.0 x q.2 u.0)
 
-takes_none : (i : Input) → Takes i [] i
-takes_none i = record { bytes = refl; at = omega arith; target = refl }
+-- bytes spell the fields of a form, which make the step
+abbrev pub StepForm : Target → Form → Step → List ℕ → Type 0
+StepForm t (fields.branch to) step b = (n : ℕ) × (step ≡ Jump (branch_in to) n) × Fixed t.order 2 n b
+StepForm t form step b = (op : Op) × (step ≡ Plain op) × FormSpells t form op b
 
--- the code that stands there is the one of the table
-at_code : (code known : ℕ) (framed : Bool) (i new : Input) (step : Step) → code ≡ known → StepFound i.target known framed i step new → StepFound i.target code framed i step new
-at_code code known framed i new step is h = subst (λ (c : ℕ). StepFound i.target c framed i step new) (sym is) h
+abbrev Found : Form → Input → Step × Input → Type 0
+Found form i x = (b : List ℕ) × StepForm i.target form x.0 b × Takes i b x.1
 
-pub bare_in_frame : (op : Op) → in_frame (bare op) ≡ in_frame op
-bare_in_frame (Implicit block) = refl
-bare_in_frame op = refl
+front_bytes : (front rest : List ℕ) → AreBytes (front ++ rest) → AreBytes front
+front_bytes [] rest h k = omega arith
+front_bytes (x ∷ front) rest h zero = h 0
+front_bytes (x ∷ front) rest h (suc k) = front_bytes front rest (λ j. h (suc j)) k
 
-operands_found : (code : ℕ) (opcode : Opcode) (i new : Input) (step : Step) → CodeOf i.target opcode code → AreBytes i.bytes → operands_at opcode i ≡ done (step, new) → StepFound i.target code (code_in_frame opcode) i step new
-unfolding operands_at address_step unsigned_step signed_step uconst_step sconst_step pick_step plus_step long_reg_step fbreg_step piece_step jump_step breg_step long_breg_step deref_size_step bit_piece_step implicit_step
-operands_found code (opcodes.Alone op) i new step is h e =
-    subst (λ (z : Step × Input). StepFound i.target code (in_frame op) i z.0 z.1) (ok_is (Plain (bare op), i) (step, new) e) ([], is, takes_none i, bare_in_frame op)
-operands_found code opcodes.Addr i new step is h e =
-    at_code code 0x03 true i new step is (op_found i.target 0x03 true i new step (address_at i) Addr (λ n b. Fixed i.target.order (byte_count i.target.size) n b) (λ n behind r. address_found i behind n h r)
-    (λ n b f. (record { rest = b; operands = f; whole = refl }, refl)) (λ x. refl) e)
-operands_found code (opcodes.Unsigned count) i new step is h e =
-    at_code code (unsigned_code count) true i new step is (op_found i.target (unsigned_code count) true i new step (fixed_at (width_of count) i) (λ n. Const (n % address_limit i.target.size)) (λ n b. Fixed i.target.order (width_of count) n b) (λ n behind r. count_found count i behind n h r)
-    (λ n b f. const_of i.target count n b f) (λ x. refl) e)
-operands_found code (opcodes.Signed count) i new step is h e =
-    at_code code (signed_code count) true i new step is (op_found i.target (signed_code count) true i new step (fixed_at (width_of count) i) (λ n. Const (modulo (address_limit i.target.size) (signed_of count n))) (λ n b. Fixed i.target.order (width_of count) n b) (λ n behind r. count_found count i behind n h r)
-    (λ n b f. signed_const_of i.target count n b f) (λ x. refl) e)
-operands_found code opcodes.Uconst i new step is h e =
-    at_code code 0x10 true i new step is (op_found i.target 0x10 true i new step (uleb_at i) (λ n. Const (n % address_limit i.target.size)) Uleb (λ n behind r. uleb_found i behind n h r)
-    (λ n b f. (record { form = Constu; number = pos n; written = record { rest = b; operands = record { number = n; is = refl; spelled = f }; whole = refl }; value = refl }, refl)) (λ x. refl) e)
-operands_found code opcodes.Sconst i new step is h e =
-    at_code code 0x11 true i new step is (op_found i.target 0x11 true i new step (sleb_at i) (λ z. Const (modulo (address_limit i.target.size) z)) Sleb (λ z behind r. sleb_found i behind z h r)
-    (λ z b f. (record { form = Consts; number = z; written = record { rest = b; operands = f; whole = refl }; value = refl }, refl)) (λ x. refl) e)
-operands_found code opcodes.Pick i new step is h e =
-    at_code code 0x15 true i new step is (op_found i.target 0x15 true i new step (fixed_at 1 i) Pick (λ n b. Fixed i.target.order 1 n b) (λ n behind r. fixed_found 1 i behind n (inl refl) h r)
-    (λ n b f. (record { rest = b; operands = f; whole = refl }, refl)) (λ x. refl) e)
-operands_found code opcodes.PlusUconst i new step is h e =
-    at_code code 0x23 true i new step is (op_found i.target 0x23 true i new step (uleb_at i) PlusUconst Uleb (λ n behind r. uleb_found i behind n h r)
-    (λ n b f. (record { rest = b; operands = f; whole = refl }, refl)) (λ x. refl) e)
-operands_found code (opcodes.Jump branch) i new step is h e = at_code code (branch_code branch) true i new step is (jump_found branch i new step h e)
-operands_found code (opcodes.Breg r) i new step is h e =
-    at_code code (0x70 + r) true i new step is.0 (breg_found i.target (0x70 + r) r i new step Sleb h (λ z b s. (inl (is.1, record { rest = b; operands = s; whole = refl }), refl)) e)
-operands_found code opcodes.LongReg i new step is h e =
-    at_code code 0x90 false i new step is (op_found i.target 0x90 false i new step (register_at i) Reg Register (λ r behind q. register_found i behind r h q)
-    (λ r b f. (inr (record { rest = b; operands = f; whole = refl }), refl)) (λ x. refl) e)
-operands_found code opcodes.LongBreg i new step is h e = at_code code 0x92 true i new step is (long_breg_found i new step h e)
-operands_found code opcodes.Fbreg i new step is h e =
-    at_code code 0x91 false i new step is (op_found i.target 0x91 false i new step (sleb_at i) Fbreg Sleb (λ z behind r. sleb_found i behind z h r)
-    (λ z b f. (record { rest = b; operands = f; whole = refl }, refl)) (λ x. refl) e)
-operands_found code opcodes.Piece i new step is h e =
-    at_code code 0x93 false i new step is (op_found i.target 0x93 false i new step (uleb_at i) Piece Uleb (λ n behind r. uleb_found i behind n h r)
-    (λ n b f. (record { rest = b; operands = f; whole = refl }, refl)) (λ x. refl) e)
-operands_found code opcodes.DerefSize i new step is h e = at_code code 0x94 true i new step is (deref_size_found i new step h e)
-operands_found code opcodes.BitPiece i new step is h e = at_code code 0x9d false i new step is (bit_piece_found i new step h e)
-operands_found code opcodes.Implicit i new step is h e = at_code code 0x9e false i new step is (implicit_found i new step h e)
+two_all : (t : Target) (b : List ℕ) → length b ≡ 2 → AreBytes b → Fixed t.order 2 (fixed_number t.order 2 b) b
+two_all t (x ∷ y ∷ []) len are = is_fixed t.order 2 (x ∷ y ∷ []) (inr (inl refl)) (omega arith) are
+two_all t b len are = absurd (omega arith)
+
+form_found : (form : Form) (i : Input) (x : Step × Input) → FormWide form → AreBytes i.bytes → step_of form i ≡ done x → Found form i x
+form_found (fields.none made) i x w h e = subst (Found (fields.none made) i) (ok_is (Plain made, i) x e) ([], (made, refl, (refl, refl)), record { bytes = refl; at = omega arith; target = refl })
+form_found (fields.one o make) i x w h e =
+    let p = bind_ok (value_at o i) (with_op make) x e in
+    let q = value_found o i p.0.1 p.0.0 w h p.1 in
+    subst (Found (fields.one o make) i) (ok_is (Plain (make p.0.0), p.0.1) x p.2) (q.0, (make p.0.0, refl, (p.0.0, refl, q.1)), q.2)
+form_found (fields.two o p make) i x w h e =
+    let one = bind_ok (value_at o i) (then_value p make) x e in
+    let q = value_found o i one.0.1 one.0.0 w.0 h one.1 in
+    let two = bind_ok (value_at p one.0.1) (with_op (make one.0.0)) x one.2 in
+    let u = value_found p one.0.1 two.0.1 two.0.0 w.1 (taken_bytes i one.0.1 q.0 q.2 h) two.1 in
+    let spelled = subst (λ (t : Target). Spells t p two.0.0 u.0) q.2.target u.1 in
+    subst (Found (fields.two o p make) i) (ok_is (Plain (make one.0.0 two.0.0), two.0.1) x two.2)
+    (q.0 ++ u.0, (make one.0.0 two.0.0, refl, (one.0.0, two.0.0, refl, record { front = q.0; back = u.0; first = q.1; second = spelled; whole = refl {a = q.0 ++ u.0} })), Takes-then i one.0.1 two.0.1 q.0 u.0 q.2 u.2)
+form_found (fields.branch to) i x w h e =
+    let order = i.target.order in
+    let p = bind_ok (take_at 2 i) (with_jump (branch_in to) order) x e in
+    let q = take_found 2 i p.0.1 p.0.0 p.1 in
+    let n = fixed_number order 2 p.0.0 in
+    subst (Found (fields.branch to) i) (ok_is (Jump (branch_in to) n, p.0.1) x p.2)
+    (p.0.0, (n, refl, two_all i.target p.0.0 q.1 (front_bytes p.0.0 p.0.1.bytes (subst AreBytes q.0.bytes h))), q.0)
+
+-- ---- the operations of a form
+
+module _ (t : Target) (code : ℕ) (framed : Bool) where
+  pub quiet : (made op : Op) → op ≡ made → Quiet framed made → Quiet framed op
+  quiet made op same q = subst (Quiet framed) (sym same) q
+
+  -- whether a frame's expression may hold them
+  pub form_framed : (form : Form) (op : Op) (b : List ℕ) → Makes form code framed → FormSpells t form op b → in_frame op ≡ framed
+  form_framed (fields.none made) op b m (same, nil) = (quiet made op same m).1
+  form_framed (fields.one o make) op b m (x, same, s) = (quiet (make x) op same (m x)).1
+  form_framed (fields.two o p make) op b m (x, y, same, s) = (quiet (make x y) op same (m x y)).1
+  form_framed (fields.branch to) op b m (i, same, s) = ap in_frame same ∙ (m.0 i).1
+
+  -- a step by the fields of the code's form is a step by its spelling
+  abbrev Spelled : List ℕ → Step → Type 0
+  Spelled b step = StepSpells t step (code ∷ b) × (step_in_frame step ≡ framed)
+
+  plain_spelled : (form : Form) (step : Step) (op : Op) (b : List ℕ) → form_of t code ≡ Some form → step ≡ Plain op → FormSpells t form op b → Quiet framed op → Spelled b step
+  plain_spelled form step op b known is s q = subst (Spelled b) (sym is) ((record { code = code; form = form; rest = b; known = known; whole = refl; operands = s }, q.0), q.1)
+
+  form_spelled : (form : Form) (step : Step) (b : List ℕ) → form_of t code ≡ Some form → Makes form code framed → StepForm t form step b → Spelled b step
+  form_spelled (fields.none made) step b known m (op, is, (same, nil)) = plain_spelled (fields.none made) step op b known is (same, nil) (quiet made op same m)
+  form_spelled (fields.one o make) step b known m (op, is, (x, same, s)) = plain_spelled (fields.one o make) step op b known is (x, same, s) (quiet (make x) op same (m x))
+  form_spelled (fields.two o p make) step b known m (op, is, (x, y, same, s)) = plain_spelled (fields.two o p make) step op b known is (x, y, same, s) (quiet (make x y) op same (m x y))
+  form_spelled (fields.branch to) step b known m (n, is, f) = subst (Spelled b) (sym is) (record { rest = b; operands = f; whole = ap (λ (c : ℕ). c ∷ b) m.1 }, sym m.2)
 
 -- ---- which profile allows it
 
-allowed_by : (profile : Profile) (opcode : Opcode) (step : Step) → step_in_frame step ≡ code_in_frame opcode → allows profile opcode ≡ true → step_allowed profile step ≡ true
-allowed_by Frame opcode step same e = same ∙ e
-allowed_by Location opcode step same e = refl
+pub allowed_by : (profile : Profile) (opcode : Opcode) (step : Step) → step_in_frame step ≡ code_in_frame opcode → allows profile opcode ≡ step_allowed profile step
+allowed_by Frame opcode step same = sym same
+allowed_by Location opcode step same = refl
 
 -- ---- a whole operation
 
@@ -331,8 +319,11 @@ judged_found : (profile : Profile) (at code : ℕ) (o : Option Opcode) (i new : 
 judged_found profile at code None i new step known h e = absurd cc
 judged_found profile at code (Some opcode) i new step known h e =
     let k = cond_ok (allows profile opcode) (operands_at opcode i) (record { code = NotInFrame; at = at }) (step, new) e in
-    let q = operands_found code opcode i new step (opcode_known i.target code opcode known) h k.1 in
-    ((q.0, q.1, q.2), allowed_by profile opcode step q.3 k.0)
+    let form = form_for i.target opcode in
+    let c = opcode_known i.target code opcode known in
+    let q = form_found form i (step, new) c.wide h (sym (operands_are opcode i) ∙ k.1) in
+    let s = form_spelled i.target code (code_in_frame opcode) form step q.0 c.form c.makes q.1 in
+    ((q.0, s.0, q.2), sym (allowed_by profile opcode step s.1) ∙ k.0)
 
 pub step_found : (profile : Profile) (i new : Input) (step : Step) → AreBytes i.bytes → step_at profile i ≡ done (step, new) → StepTaken profile i step new
 unfolding step_at

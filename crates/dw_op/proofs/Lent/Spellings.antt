@@ -1,27 +1,12 @@
 -- What is spelled by the table is what is spelled operation by operation.
-use Rattle.std.proofs.Common.{◌≡◌, ℕ, ◌+◌, ◌-◌, ◌<◌, List, [], ◌∷◌, Some, refl, sym, ap, subst, ◌∙◌, arith, inl, inr}
-use Rattle.std.specs.Prelude.{ℤ, pos}
-use Rattle.std.specs.Int.{w8, w16, w32, w64}
-use Rattle.std.proofs.lemmas.Bool.{cases_Bool}
-use Rattle.dw_num.specs.declared.target.Target.{Target}
-use Rattle.dw_num.specs.Leb.{Uleb, Sleb, Register}
-use Rattle.dw_num.specs.Fixed.{Fixed, FixedSigned, Address}
-use Rattle.dw_op.specs.declared.op.Op.{Op}
-use Rattle.dw_op.specs.declared.op.Op.TheVariants.{Addr, Const, Pick, PlusUconst, Bra, Skip, Reg, Breg, Fbreg, Piece, DerefSize, BitPiece, Implicit}
-use Rattle.dw_op.specs.Inner.Codes.{alone_code}
-use Rattle.dw_op.specs.Operands.{Field, fixed, twos, address, unsigned, signed, register, size, block, Value, Form, none, one, two, branch, constant, natural, implicit, form_table, in_range, form_of}
-use Rattle.dw_op.specs.Block.{branch_target}
-use Rattle.dw_op.specs.Least.{AtMost, Least}
-use Rattle.dw_op.specs.Ranges.{TargetWithin, InRange}
-use Rattle.dw_op.specs.OpSpells.{Code, Both, AnyTwo, Spells, FormSpells, OpSpells}
-use Rattle.dw_op.specs.Inner.ByOperation.{Alone, Counted, ConstForm, Const1u, Const1s, Const2u, Const2s, Const4u, Const4s, Const8u, Const8s, Constu, Consts, Lit, Unsigned, Written, IsSpelled}
-use Rattle.dw_op.proofs.Lent.ReadingLaws.{EachEntry, looked_up, range_is, some_is, small_const, within, above}
+use Rattle.dw_op.proofs.Words.{◌≡◌, ℕ, ◌+◌, ◌-◌, ◌<◌, List, [], ◌∷◌, Some, refl, sym, ap, subst, ◌∙◌, arith, inl, inr, ℤ, pos, w8, w16, w32, w64, cases_Bool, Target, Uleb, Sleb, Register, Fixed, FixedSigned, Address, Op, Addr, Const, Pick}
+use Rattle.dw_op.proofs.Words.{PlusUconst, Bra, Skip, Reg, Breg, Fbreg, Piece, DerefSize, BitPiece, Implicit, alone_code, Field, fixed, twos, unsigned, signed, register, size, block, Value, Form, none, two, branch, constant, natural}
+use Rattle.dw_op.proofs.Words.{implicit, form_table, in_range, form_of, branch_target, AtMost, Least, TargetWithin, InRange, Code, Both, AnyTwo, Spells, FormSpells, OpSpells, Alone, Counted, ConstForm, Const1u, Const1s, Const2u, Const2s}
+use Rattle.dw_op.proofs.Words.{Const4u, Const4s, Const8u, Const8s, Constu, Consts, Lit, Unsigned, Written, IsSpelled}
+use Rattle.dw_op.specs.Operands.{address, one}
+use Rattle.dw_op.proofs.Lent.ReadingLaws.{EachEntry, looked_up, ◌&◌, range_is, some_is, small_const, within, above}
 
 -- ---- from the table
-
-infixr 2 ◌&◌
-◌&◌ : {A B : Type 0} → A → B → A × B
-a & b = (a, b)
 
 module _ (t : Target) where
   made_so : (made op : Op) (b : List ℕ) → op ≡ made → IsSpelled t made b → IsSpelled t op b

@@ -8,8 +8,7 @@ use Rattle.dw_op.specs.declared.operation.Branch.{Branch}
 use Rattle.dw_op.specs.declared.operation.Branch.TheVariants.{Bra, Skip}
 use Rattle.dw_op.specs.declared.operation.Step.{Step}
 use Rattle.dw_op.specs.declared.operation.Step.TheVariants.{Plain, Jump}
-use Rattle.dw_op.specs.OpSpells.{Code}
-use Rattle.dw_op.specs.Inner.ByOperation.{IsSpelled}
+use Rattle.dw_op.specs.OpSpells.{Code, OpSpells}
 use Rattle.dw_op.specs.Block.{branch_target}
 use Rattle.dw_op.specs.Profile.{in_frame}
 
@@ -19,7 +18,7 @@ branch_code Skip = 0x2f
 
 -- an operation that is no branch, or a branch's code and the two bytes of its number
 abbrev pub StepSpells : Target → Step → List ℕ → Type 0
-StepSpells t (Plain op) part = IsSpelled t op part × (branch_target op ≡ None)
+StepSpells t (Plain op) part = OpSpells t op part × (branch_target op ≡ None)
 StepSpells t (Jump branch number) part = Code (branch_code branch) (Fixed t.order 2 number) part
 
 -- whether a rule of a frame may use it

@@ -1,34 +1,14 @@
 -- What changes among the rows of an FDE are the changes of the FDE.
-use Rattle.std.proofs.Common.{◌≡◌, ℕ, zero, suc, ◌<◌, ◌≤◌, false, List, [], ◌∷◌, Option, Some, None, refl, sym, ap, subst, ◌∙◌, arith, inl, inr, nat_le}
-use Rattle.std.proofs.lemmas.Bool.{cases_lt, le-leb}
-use Rattle.std.proofs.lemmas.Bool.Decides.{leb_tells}
-use Rattle.dw_section.proofs.Words.{Instr, CfaRule, RegRule, RulesBehind, cfa_after, rule_after, LocatedRow, Counts, HoldsAfter, Rules, last_at, NeverFalls, Differs, StayFrom, HoldsAt, ChangesBehind}
-use Rattle.dw_section.proofs.Words.{AreChanges, Before, Among, Target, input_of, CieHead, FdeHead, factors_of}
+use Rattle.dw_section.proofs.Words.{◌≡◌, ℕ, suc, ◌-◌, ◌<◌, ◌≤◌, List, [], ◌∷◌, Option, Some, None, refl, sym, ap, subst, ◌∙◌, arith, inl, inr, cases_lt, le-leb, lt-leb, Instr, CfaRule, RegRule, RulesBehind, cfa_after, rule_after}
+use Rattle.dw_section.proofs.Words.{LocatedRow, Counts, HoldsAfter, Rules, last_at, NeverFalls, StayFrom, HoldsAt, ChangesBehind, AreChanges, Before, Among, Target, input_of, CieHead, FdeHead, factors_of, or_here, one_count, counts_exists}
+use Rattle.dw_section.proofs.Words.{same_rows, Passed, run_rows}
 use Rattle.dw_cfa.specs.Behind.{Leaves}
-use Rattle.dw_cfa.specs.RuleAt.{or_here}
-use Rattle.dw_cfa.proofs.Lent.InstrCounts.{one_count, counts_exists}
-use Rattle.dw_cfa.proofs.Lent.SameRows.{same_rows}
-use Rattle.dw_section.specs.Changes.{Stays}
-use Rattle.dw_section.specs.Inner.Changes.{Passed}
-use Rattle.dw_cfa.specs.Inner.Runs.{run_rows}
 
 -- ---- the last row at an address
-
-not_le : (m n : ℕ) → n < m → nat_le m n ≡ false
-not_le m n lt = elim (leb_tells m n) [ inl p ↦ absurd (omega (arith, p.1)) | inr p ↦ p.0 ]
 
 found_here : (a : ℕ) (first : LocatedRow) (rest : Option Rules) → first.location ≤ a → (x : Rules) × (or_here a first rest ≡ Some x)
 found_here a first (Some row) le = (row, refl)
 found_here a first None le = (first.row, rw (le-leb first.location a le) refl)
-
-or_later : (a : ℕ) (first : LocatedRow) (rest : Option Rules) (x : Rules) → rest ≡ Some x → or_here a first rest ≡ Some x
-or_later a first (Some row) x e = e
-or_later a first None x e = absurd cc
-
--- no row of those that start behind an address is there
-none_there : (a low : ℕ) (rows : List LocatedRow) → NeverFalls low rows → a < low → last_at a rows ≡ None
-none_there a low [] falls lt = refl
-none_there a low (row ∷ rows) falls lt = rw (none_there a row.location rows falls.1 (omega (arith, falls.0)), not_le row.location a (omega (arith, falls.0))) refl
 
 module _ (initial instrs : List Instr) (begin end : ℕ) where
   -- the row has the rules at an address
@@ -40,21 +20,6 @@ module _ (initial instrs : List Instr) (begin end : ℕ) where
   pub holds_at : (a : ℕ) (row : Rules) → HasRow a row → HoldsAt initial instrs begin a row
   holds_at a row h k counts = subst (λ (n : ℕ). HoldsAfter initial instrs n row) (one_count begin instrs a h.k k h.counts counts) h.holds
 
-  stays : (a b : ℕ) (row : Rules) → HasRow a row → HasRow b row → Stays initial instrs begin a b
-  stays a b row h g j k cj ck =
-      let x = holds_at a row h j cj in
-      let y = holds_at b row g k ck in
-      record { cfa = sym x.cfa ∙ y.cfa; rules = λ r. sym (x.rules r) ∙ y.rules r }
-
-  differs : (a b : ℕ) (x y : Rules) → HasRow a x → HasRow b y → (x ≡ y → ⊥) → Differs initial instrs begin a b
-  differs a b x y h g other = record {
-    j = h.k;
-    k = g.k;
-    before = h.counts;
-    after = g.counts;
-    other = λ same. other (same_rows x y h.holds.listed g.holds.listed (h.holds.cfa ∙ same.cfa ∙ sym g.holds.cfa) (λ r. h.holds.rules r ∙ same.rules r ∙ sym (g.holds.rules r)));
-  }
-
   -- from the first of the rows on, the last at or below an address has its rules
   abbrev pub Hold : List LocatedRow → Type 0
   Hold [] = Unit {0}
@@ -65,21 +30,7 @@ module _ (initial instrs : List Instr) (begin end : ℕ) where
   hold_more row (next ∷ rows) falls h = λ a le.
       let here = h a (omega (arith, le, falls.0)) in
       let later = found_here a next (last_at a rows) le in
-      let same : Some later.0 ≡ Some here.0 = sym (or_later a row (last_at a (next ∷ rows)) later.0 later.1) ∙ here.1 in
-      let is : here.0 ≡ later.0 = cc in
-      (later.0, later.1, subst (HasRow a) is here.2)
-
-  -- and the first of them up to the next
-  shown_there : (row : LocatedRow) (rows : List LocatedRow) (a : ℕ) → row.location ≤ a → last_at a rows ≡ None → Hold (row ∷ rows) → HasRow a row.row
-  shown_there row rows a le none h =
-      let here = h a le in
-      let same : Some row.row ≡ Some here.0 = sym (rw (none, le-leb row.location a le) refl) ∙ here.1 in
-      let is : here.0 ≡ row.row = cc in
-      subst (HasRow a) is here.2
-
-  hold_first : (row : LocatedRow) (rows : List LocatedRow) → NeverFalls row.location rows → Hold (row ∷ rows) → (a : ℕ) → row.location ≤ a → Before end a rows → HasRow a row.row
-  hold_first row [] falls h a le before = shown_there row [] a le refl h
-  hold_first row (next ∷ rows) falls h a le before = shown_there row (next ∷ rows) a le (none_there a next.location (next ∷ rows) (omega arith, falls.1) before.0) h
+      (here.0, later.1 ∙ sym (ap (or_here a row) later.1) ∙ here.1, here.2)
 
   -- what comes before a row comes before those that follow it
   before_more : (a : ℕ) (row : LocatedRow) (rows : List LocatedRow) → NeverFalls row.location rows → a < row.location → a < end → Before end a rows
@@ -90,8 +41,24 @@ module _ (initial instrs : List Instr) (begin end : ℕ) where
   before_end a [] h = h
   before_end a (next ∷ rows) h = h.1
 
+  -- none of the rows is there before the first of them
+  none_before : (a low : ℕ) (rows : List LocatedRow) → NeverFalls low rows → Before end a rows → last_at a rows ≡ None
+  none_before a low [] falls before = refl
+  none_before a low (next ∷ rows) falls before = rw (none_before a next.location rows falls.1 (before_more a next rows falls.1 before.0 before.1), lt-leb next.location a before.0) refl
+
+  -- and the first of them is there up to the next
+  hold_first : (row : LocatedRow) (rows : List LocatedRow) → NeverFalls row.location rows → Hold (row ∷ rows) → (a : ℕ) → row.location ≤ a → Before end a rows → HasRow a row.row
+  hold_first row rows falls h a le before =
+      let here = h a le in
+      let same : Some row.row ≡ Some here.0 = sym (rw (none_before a row.location rows falls before, le-leb row.location a le) refl) ∙ here.1 in
+      let is : here.0 ≡ row.row = cc in
+      subst (HasRow a) is here.2
+
   stay_from : (low high : ℕ) (shown : Rules) → ((a : ℕ) → low ≤ a → a < high → HasRow a shown) → StayFrom initial instrs begin low high
-  stay_from low high shown h a le lt = stays a (suc a) shown (h a le (omega arith)) (h (suc a) (omega arith) lt)
+  stay_from low high shown h a le lt j k cj ck =
+      let x = holds_at a shown (h a le (omega arith)) j cj in
+      let y = holds_at (suc a) shown (h (suc a) (omega arith) lt) k ck in
+      record { cfa = sym x.cfa ∙ y.cfa; rules = λ r. sym (x.rules r) ∙ y.rules r }
 
   before_down : (a b : ℕ) (rows : List LocatedRow) → b ≤ a → Before end a rows → Before end b rows
   before_down a b [] le h = omega (arith, h)
@@ -108,10 +75,6 @@ module _ (initial instrs : List Instr) (begin end : ℕ) where
     ]
   ]
 
-  pred : (low n : ℕ) → low < n → (a : ℕ) × (n ≡ suc a)
-  pred low zero lt = absurd (omega arith)
-  pred low (suc a) lt = (a, refl)
-
   -- the changes behind an address from which on a row was shown
   found : (rows : List LocatedRow) (low s : ℕ) (shown : Rules) (changes : List (ℕ × Rules)) → NeverFalls low rows → Hold rows → Before end s rows
       → ((a : ℕ) → s ≤ a → Before end a rows → HasRow a shown) → Among end (Some shown) rows changes → ChangesBehind initial instrs begin end s changes
@@ -120,22 +83,28 @@ module _ (initial instrs : List Instr) (begin end : ℕ) where
   found (row ∷ rows) low s shown changes falls h before held (inl (passed, rest)) =
       found rows row.location s shown changes falls.1 (hold_more row rows falls.1 h) (before_more s row rows falls.1 before.0 before.1) (passes row rows s shown falls.1 h passed held) rest
   found (row ∷ rows) low s shown changes falls h before held (inr (shows, (more, is, rest))) =
-      let at = pred s row.location before.0 in
-      let a = at.0 in
+      let a = row.location - 1 in
+      let at : row.location ≡ suc a = omega (arith, before.0) in
       let here : HasRow row.location row.row = hold_first row rows falls.1 h row.location (omega arith) shows.0 in
       let within = before_end row.location rows shows.0 in
-      let was : HasRow a shown = held a (omega (arith, before.0, at.1)) (omega (arith, at.1), omega (arith, at.1, within)) in
-      let next = subst (λ (n : ℕ). HasRow n row.row) at.1 here in
+      let was : HasRow a shown = held a (omega (arith, before.0, at)) (omega (arith, at), omega (arith, at, within)) in
+      let next = subst (λ (n : ℕ). HasRow n row.row) at here in
       let behind = found rows row.location row.location row.row more falls.1 (hold_more row rows falls.1 h) shows.0 (λ b le lt. hold_first row rows falls.1 h b le lt) rest in
       subst (ChangesBehind initial instrs begin end s) (sym is) (
         a,
-        at.1,
-        omega (arith, before.0, at.1),
-        omega (arith, within, at.1),
-        stay_from s (suc a) shown (λ b le lt. held b le (omega (arith, lt, at.1), omega (arith, lt, at.1, within))),
-        differs a (suc a) shown row.row was next (λ same. shows.1 (ap Some same)),
+        at,
+        omega (arith, before.0, at),
+        omega (arith, within, at),
+        stay_from s (suc a) shown (λ b le lt. held b le (omega (arith, lt, at), omega (arith, lt, at, within))),
+        record {
+          j = was.k;
+          k = next.k;
+          before = was.counts;
+          after = next.counts;
+          other = λ same. shows.1 (ap Some (same_rows shown row.row was.holds.listed next.holds.listed (was.holds.cfa ∙ same.cfa ∙ sym next.holds.cfa) (λ r. was.holds.rules r ∙ same.rules r ∙ sym (next.holds.rules r))));
+        },
         holds_at (suc a) row.row next,
-        subst (λ (n : ℕ). ChangesBehind initial instrs begin end n more) at.1 behind,
+        subst (λ (n : ℕ). ChangesBehind initial instrs begin end n more) at behind,
       )
 
   -- the first of the rows starts at the begin
@@ -166,13 +135,6 @@ module _ (initial instrs : List Instr) (begin end : ℕ) where
         holds_at begin row.row (subst (λ (n : ℕ). HasRow n row.row) starts here),
         subst (λ (n : ℕ). ChangesBehind initial instrs begin end n more) starts behind,
       )
-
-  first_starts : (rows : List LocatedRow) (x : Rules) → NeverFalls begin rows → last_at begin rows ≡ Some x → StartsAt rows
-  first_starts [] x falls e = absurd cc
-  first_starts (row ∷ rows) x falls e = elim (cases_lt begin row.location) [
-    | inl lt ↦ let none : None ≡ Some x = sym (none_there begin row.location (row ∷ rows) (omega arith, falls.1) lt) ∙ e in absurd cc
-    | inr le ↦ omega (arith, falls.0)
-  ]
 
   hold_all : (rows : List LocatedRow) → NeverFalls begin rows → ((a : ℕ) → begin ≤ a → (x : Rules) × (last_at a rows ≡ Some x) × HasRow a x) → Hold rows
   hold_all [] falls h = tt
@@ -206,4 +168,5 @@ module _ (target : Target) (c : CieHead) (h : FdeHead) (initial instrs : List In
   changes_found changes nonempty is =
       let falls = g.gives.never_falls in
       let start = row_there h.begin (omega arith) in
-      all_found initial instrs h.begin end g.rows changes falls (hold_all initial instrs h.begin end g.rows falls row_there) (first_starts initial instrs h.begin end g.rows start.0 falls start.1) nonempty is
+      let starts = still_starts initial instrs h.begin end g.rows nonempty falls (λ before. let none = sym (none_before initial instrs h.begin end h.begin h.begin g.rows falls before) ∙ start.1 in absurd cc) in
+      all_found initial instrs h.begin end g.rows changes falls (hold_all initial instrs h.begin end g.rows falls row_there) starts nonempty is

@@ -1,15 +1,14 @@
 -- A section that is accepted has no first fault, and any other at most one.
-use Rattle.std.proofs.Common.{◌≡◌, ℕ, ◌≤◌, ◌⊎◌, List, [], ◌∷◌, ◌++◌, sym, ap, subst, ◌∙◌, arith, inl, inr}
-use Rattle.dw_section.proofs.Words.{AllByRecursion, Overlap, Refusal, Target, AreBytes, Span, input_of, Factors, Instr, Program, Unset, Counts, cfa_after, FdeFault, initial_cfa, FirstStuck, Then}
-use Rattle.dw_section.proofs.Words.{Head, cie, fde, Headers, HeadersFault, HeadsRise, FdeFits, HasBytes, cie_ats, Range, IsIndex, AreApart, FirstOverlap, end_of, IsAmong, Instrs, CieRuns, CieBroken}
-use Rattle.dw_section.proofs.Words.{FdeRuns, FdeBroken, HasRules, LacksRule, factors_of, RulesHold, Accepted, CieProgramsFault, FdeProgramsFault, RulesFault, CheckFault}
-use Rattle.dw_section.specs.Accepted.{CiesRun, FdesRun, Indexed}
-use Rattle.dw_section.proofs.Cfa.{cie_fault_apart, cie_fault_one, fde_fault_apart, fde_fault_one, one_program}
-use Rattle.dw_section.proofs.FirstFault.{then_apart, then_one, one_fault, fault_or_headers}
+use Rattle.dw_section.proofs.Words.{◌≡◌, ℕ, ◌≤◌, List, [], ◌∷◌, ◌++◌, sym, ap, subst, ◌∙◌, arith, inl, inr, AllByRecursion, Overlap, Refusal, Target, AreBytes, Span, input_of, Factors, Instr, Program, initial_cfa, Head, cie, fde, Headers}
+use Rattle.dw_section.proofs.Words.{HeadersFault, HeadsRise, FdeFits, HasBytes, cie_ats, Range, IsIndex, AreApart, FirstOverlap, end_of, IsAmong, Instrs, CieRuns, CieBroken, FdeRuns, FdeBroken, HasRules, LacksRule, factors_of, RulesHold}
+use Rattle.dw_section.proofs.Words.{Accepted, CieProgramsFault, FdeProgramsFault, RulesFault, CheckFault, CiesRun, FdesRun, Indexed, Some, Outcome, CieHead, FdeHead, Begins, rows_behind, initial_refused, leaves_initial, behind_refused}
+use Rattle.dw_section.proofs.Words.{gives_rows, some_is}
+use Rattle.dw_section.proofs.Cfa.{err_one, row_of, one_program}
+use Rattle.dw_section.proofs.FirstFault.{Exclusive, then_exclusive, stage, one_fault, fault_or_headers}
 use Rattle.dw_section.proofs.Lent.HeaderLaws.{one_headers}
 use Rattle.dw_section.proofs.Lent.Heads.{heads_rise, heads_bytes, heads_fit, one_begin}
-use Rattle.dw_section.proofs.Lent.Index.{one_index}
-use Rattle.dw_section.proofs.Stages.{holds_at, one_first}
+use Rattle.dw_section.proofs.Lent.Index.{all_in, one_index}
+use Rattle.dw_section.proofs.Stages.{holds_at, splits}
 
 -- what is known of a header, for the stages of programs
 abbrev Known : Target → List Head → Head → Type 0
@@ -18,30 +17,35 @@ Known target hs h = HasBytes h × FdeFits target (cie_ats hs) h
 -- ---- programs of CIEs
 
 cie_apart : (target : Target) (h : Head) → HasBytes h → (r : Refusal) → CieRuns target h → CieBroken target h r → ⊥
-cie_apart target (cie c) b r runs broken = cie_fault_apart (factors_of c) (input_of target c.program) r runs.0 b runs.1 runs.2 broken
+cie_apart target (cie c) b r runs broken =
+    let given = leaves_initial (factors_of c) (input_of target c.program) runs.0 b runs.1 runs.2 in
+    let e = sym given.1 ∙ (initial_refused (factors_of c) (input_of target c.program) r b).1 broken in cc
 cie_apart target (fde f) b r runs broken = absurd broken
 
 cie_one : (target : Target) (h : Head) → HasBytes h → (r q : Refusal) → CieBroken target h r → CieBroken target h q → r ≡ q
-cie_one target (cie c) b r q v w = cie_fault_one (factors_of c) (input_of target c.program) r q b v w
+cie_one target (cie c) b r q v w = let refused = initial_refused (factors_of c) (input_of target c.program) in err_one _ r q ((refused r b).1 v) ((refused q b).1 w)
 cie_one target (fde f) b r q v w = absurd v
 
 -- ---- programs of FDEs
 
 module _ (target : Target) (hs : List Head) (up : HeadsRise 0 hs) (all : AllByRecursion HasBytes hs) where
+  -- where it is broken, the run from the row of its CIE is refused
+  refused_at : (d : FdeHead) → Known target hs (fde d) → (r : Refusal) (c : CieHead) (initial : List Instr) → Begins target hs d.cie_at c initial → FdeBroken target hs (fde d) r
+      → (rows_behind (factors_of c) (row_of (initial_cfa initial)) (input_of target d.program) d.begin).fault ≡ Some r
+  refused_at d known r c initial begins broken =
+      let same = one_begin target hs d.cie_at c broken.0 initial broken.1 up all begins broken.2 in
+      rw (same.factors, same.instrs) ((behind_refused (factors_of broken.0) (row_of (initial_cfa broken.1)) (input_of target d.program) d.begin r known.0 tt (omega (arith, known.1.0))).1 broken.3)
+
   fde_apart : (h : Head) → Known target hs h → (r : Refusal) → FdeRuns target hs h → FdeBroken target hs h r → ⊥
   fde_apart (cie c) known r runs broken = absurd broken
   fde_apart (fde d) known r runs broken =
       let is = runs.2 in
-      let same = one_begin target hs d.cie_at is.head broken.0 runs.0 broken.1 up all is.begins broken.2 in
-      let fault = subst (λ (l : List Instr). FdeFault (factors_of is.head) (initial_cfa l) (input_of target d.program) d.begin r) (sym same.instrs) (subst (λ (f : Factors). FdeFault f (initial_cfa broken.1) (input_of target d.program) d.begin r) (sym same.factors) broken.3) in
-      fde_fault_apart (factors_of is.head) (initial_cfa runs.0) (input_of target d.program) d.begin r runs.1 known.0 (omega (arith, known.1.0)) is.spelled runs.3 fault
+      let given = gives_rows (factors_of is.head) (row_of (initial_cfa runs.0)) (input_of target d.program) d.begin runs.1 known.0 tt (omega (arith, known.1.0)) is.spelled runs.3 in
+      let bad = sym (ap (λ (o : Outcome). o.fault) given.1) ∙ refused_at d known r is.head runs.0 is.begins broken in cc
 
   fde_one : (h : Head) → Known target hs h → (r q : Refusal) → FdeBroken target hs h r → FdeBroken target hs h q → r ≡ q
   fde_one (cie c) known r q v w = absurd v
-  fde_one (fde d) known r q v w =
-      let same = one_begin target hs d.cie_at v.0 w.0 v.1 w.1 up all v.2 w.2 in
-      let fault = subst (λ (l : List Instr). FdeFault (factors_of v.0) (initial_cfa l) (input_of target d.program) d.begin q) (sym same.instrs) (subst (λ (f : Factors). FdeFault f (initial_cfa w.1) (input_of target d.program) d.begin q) (sym same.factors) w.3) in
-      fde_fault_one (factors_of v.0) (initial_cfa v.1) (input_of target d.program) d.begin r q known.0 (omega (arith, known.1.0)) v.3 fault
+  fde_one (fde d) known r q v w = some_is r q (sym (refused_at d known r v.0 v.1 v.2 v) ∙ refused_at d known q v.0 v.1 v.2 w)
 
   -- the instructions of an FDE and of its CIE are one
   pub one_instrs : (place : ℕ) (program : Span) (initial instrs another others : List Instr) → AreBytes program.bytes → Instrs target hs place program initial instrs → Instrs target hs place program another others
@@ -55,119 +59,39 @@ module _ (target : Target) (hs : List Head) (up : HeadsRise 0 hs) (all : AllByRe
   rules_apart (fde f) known r has lacks =
       let l = lacks.1 in
       let same = one_instrs f.cie_at f.program l.0 l.1 has.0 has.1 known.0 l.2 has.2 in
-      let at = l.3 in
-      let gap = at.3 in
-      let counts = subst (λ (i : List Instr). Counts f.begin i at.0 gap.0) same.1 gap.1 in
-      let unset = subst (λ (i : List Instr). cfa_after (initial_cfa has.0) i gap.0 ≡ Unset) same.1 (subst (λ (i : List Instr). cfa_after (initial_cfa i) l.1 gap.0 ≡ Unset) same.0 gap.2) in
-      has.3 at.0 at.1 at.2 gap.0 counts unset
+      let gap = l.3.3 in
+      has.3 l.3.0 l.3.1 l.3.2 gap.0 (rw same.1 at gap.1) (rw (same.0, same.1) at gap.2)
 
 rules_one : (target : Target) (hs : List Head) (h : Head) (r q : Refusal) → LacksRule target hs h r → LacksRule target hs h q → r ≡ q
 rules_one target hs (cie c) r q v w = absurd v
 rules_one target hs (fde f) r q v w = v.0 ∙ sym w.0
 
--- ---- a stage over headers of which more is known
-
-all_front : {X : Type 0} (P : X → Type 0) (xs ys : List X) → AllByRecursion P (xs ++ ys) → AllByRecursion P xs
-all_front P [] ys h = tt
-all_front P (x ∷ xs) ys h = (h.0, all_front P xs ys h.1)
-
-pub all_both : {X : Type 0} (P Q : X → Type 0) (xs : List X) → AllByRecursion P xs → AllByRecursion Q xs → AllByRecursion (λ x. P x × Q x) xs
-all_both P Q [] h k = tt
-all_both P Q (x ∷ xs) h k = ((h.0, k.0), all_both P Q xs h.1 k.1)
-
-module _ {X : Type 0} (Sure Holds : X → Type 0) (Stuck : X → Refusal → Type 0) (apart : (x : X) → Sure x → (r : Refusal) → Holds x → Stuck x r → ⊥) where
-  none_known : (xs : List X) (r : Refusal) → AllByRecursion Sure xs → AllByRecursion Holds xs → FirstStuck Holds Stuck xs r → ⊥
-  none_known xs r sure hold w =
-      apart w.it (holds_at Sure w.before w.it w.after (subst (AllByRecursion Sure) w.whole sure)) r (holds_at Holds w.before w.it w.after (subst (AllByRecursion Holds) w.whole hold)) w.stuck
-
-  knowing : (xs : List X) (r : Refusal) → AllByRecursion Sure xs → FirstStuck Holds Stuck xs r → FirstStuck (λ x. Sure x × Holds x) (λ x q. Sure x × Stuck x q) xs r
-  knowing xs r sure w =
-      let all = subst (AllByRecursion Sure) w.whole sure in
-      record {
-        before = w.before;
-        it = w.it;
-        after = w.after;
-        whole = w.whole;
-        hold = all_both Sure Holds w.before (all_front Sure w.before (w.it ∷ w.after) all) w.hold;
-        stuck = (holds_at Sure w.before w.it w.after all, w.stuck);
-      }
-
-  one_known : (one : (x : X) → Sure x → (r q : Refusal) → Stuck x r → Stuck x q → r ≡ q) (xs : List X) (r q : Refusal) → AllByRecursion Sure xs → FirstStuck Holds Stuck xs r → FirstStuck Holds Stuck xs q → r ≡ q
-  one_known one xs r q sure v w =
-      one_first (λ x. Sure x × Holds x) (λ x q. Sure x × Stuck x q) (λ x r h s. apart x h.0 r h.1 s.1) (λ x r q s t. one x s.0 r q s.1 t.1) xs r q (knowing xs r sure v) (knowing xs q sure w)
-
--- a fault of a stage, with the answer that it is behind
-answered : {A : Type 0} (Before : Refusal → Type 0) (Answer : A → Type 0) (Own : A → Refusal → Type 0) (r : Refusal) → Then Before Answer Own r → Then Before Answer (λ a q. Answer a × Own a q) r
-answered Before Answer Own r (inl v) = inl v
-answered Before Answer Own r (inr v) = inr (v.0, v.1, (v.1, v.2))
-
--- ---- one more stage over headers
-
-pub all_known : (target : Target) (s : List ℕ) (hs : List Head) → AreBytes s → Headers target s hs → AllByRecursion (Known target hs) hs
-all_known target s hs b p = all_both HasBytes (FdeFits target (cie_ats hs)) hs (heads_bytes target s hs b p) (heads_fit target s hs p)
-
--- a fault and an answer exclude each other, and the fault is one
-abbrev Exclusive : (Refusal → Type 0) → (List Head → Type 0) → Type 0
-Exclusive Fault Answer = ((r : Refusal) (hs : List Head) → Fault r → Answer hs → ⊥) × ((r q : Refusal) → Fault r → Fault q → r ≡ q)
-
-module _ (target : Target) (s : List ℕ) (b : AreBytes s) (Before : Refusal → Type 0) (Answer : List Head → Type 0) (before : Exclusive Before Answer) (headers : (hs : List Head) → Answer hs → Headers target s hs)
-    (Holds : List Head → Head → Type 0) (Stuck : List Head → Head → Refusal → Type 0)
-    (apart : (hs : List Head) → Headers target s hs → (h : Head) → Known target hs h → (r : Refusal) → Holds hs h → Stuck hs h r → ⊥)
-    (one : (hs : List Head) → Headers target s hs → (h : Head) → Known target hs h → (r q : Refusal) → Stuck hs h r → Stuck hs h q → r ≡ q) where
-  abbrev Own : List Head → Refusal → Type 0
-  Own hs = FirstStuck (Holds hs) (Stuck hs) hs
-
-  stage_one : (hs ks : List Head) → Answer hs → Answer ks → hs ≡ ks
-  stage_one hs ks v w = one_headers target s hs ks (headers hs v) (headers ks w)
-
-  stage : Exclusive (Then Before Answer Own) (λ hs. Answer hs × AllByRecursion (Holds hs) hs)
-  stage = (
-    λ r hs v w. then_apart Before Answer Own (λ hs. Answer hs × AllByRecursion (Holds hs) hs) before.0 stage_one
-        (λ hs r a f. none_known (Known target hs) (Holds hs) (Stuck hs) (apart hs (headers hs a.0)) hs r (all_known target s hs b (headers hs a.0)) a.1 f) r hs v (w.0, w),
-    λ r q v w. then_one Before Answer (λ hs p. Answer hs × Own hs p) before.0 stage_one before.1
-        (λ hs r q x y. one_known (Known target hs) (Holds hs) (Stuck hs) (apart hs (headers hs x.0)) (one hs (headers hs x.0)) hs r q (all_known target s hs b (headers hs x.0)) x.1 y.1) r q
-        (answered Before Answer Own r v) (answered Before Answer Own q w),
-  )
-
 -- ---- the stages
 
 module _ (target : Target) (s : List ℕ) (b : AreBytes s) where
+  known : (hs : List Head) → Headers target s hs → (h : Head) → IsAmong h hs → Known target hs h
+  known hs p h i = (all_in HasBytes hs h (heads_bytes target s hs b p) i, all_in (FdeFits target (cie_ats hs)) hs h (heads_fit target s hs p) i)
+
   cies : Exclusive (CieProgramsFault target s) (CiesRun target s)
-  cies = stage target s b (HeadersFault target s) (Headers target s) (fault_or_headers target s, one_fault target s) (λ hs p. p) (λ hs. CieRuns target) (λ hs. CieBroken target)
-      (λ hs p h known. cie_apart target h known.0) (λ hs p h known. cie_one target h known.0)
+  cies = stage (HeadersFault target s) (Headers target s) (fault_or_headers target s, one_fault target s) (one_headers target s) (λ hs. hs) (λ hs. CieRuns target) (λ hs. CieBroken target)
+      (λ hs p h i. cie_apart target h (known hs p h i).0) (λ hs p h i. cie_one target h (known hs p h i).0)
 
   fdes : Exclusive (FdeProgramsFault target s) (FdesRun target s)
-  fdes = stage target s b (CieProgramsFault target s) (CiesRun target s) cies (λ hs p. p.0) (FdeRuns target) (FdeBroken target)
-      (λ hs p. fde_apart target hs (heads_rise target s hs p) (heads_bytes target s hs b p)) (λ hs p. fde_one target hs (heads_rise target s hs p) (heads_bytes target s hs b p))
+  fdes = stage (CieProgramsFault target s) (CiesRun target s) cies (λ hs ks v w. one_headers target s hs ks v.0 w.0) (λ hs. hs) (FdeRuns target) (FdeBroken target)
+      (λ hs p h i. fde_apart target hs (heads_rise target s hs p.0) (heads_bytes target s hs b p.0) h (known hs p.0 h i)) (λ hs p h i. fde_one target hs (heads_rise target s hs p.0) (heads_bytes target s hs b p.0) h (known hs p.0 h i))
 
   all_rules : Exclusive (RulesFault target s) (RulesHold target s)
-  all_rules = stage target s b (FdeProgramsFault target s) (FdesRun target s) fdes (λ hs p. p.0.0) (HasRules target) (LacksRule target)
-      (λ hs p. rules_apart target hs (heads_rise target s hs p) (heads_bytes target s hs b p)) (λ hs p h known. rules_one target hs h)
+  all_rules = stage (FdeProgramsFault target s) (FdesRun target s) fdes (λ hs ks v w. one_headers target s hs ks v.0.0 w.0.0) (λ hs. hs) (HasRules target) (LacksRule target)
+      (λ hs p h i. rules_apart target hs (heads_rise target s hs p.0.0) (heads_bytes target s hs b p.0.0) h (known hs p.0.0 h i)) (λ hs p h i. rules_one target hs h)
 
 -- ---- overlaps
 
 apart_at : (before : List Range) (it : Range) (after : List Range) (other : Range) → AreApart (before ++ it ∷ after) → IsAmong other before → end_of other ≤ it.begin
 apart_at [] it after other h i = absurd i
-apart_at (b ∷ before) it after other h (inl is) = subst (λ (x : Range). end_of x ≤ it.begin) (sym is) (holds_at (λ (x : Range). end_of b ≤ x.begin) before it after h.0)
-apart_at (b ∷ before) it after other h (inr i) = apart_at before it after other h.1 i
+apart_at (b ∷ before) it after other h i = grind (arith, i, holds_at (λ (x : Range). end_of b ≤ x.begin) before it after h.0, apart_at before it after other h.1)
 
 overlap_apart : (index : List Range) (r : Refusal) → AreApart index → FirstOverlap index r → ⊥
 overlap_apart index r h w = let p = apart_at w.before w.it w.after w.other (subst AreApart w.whole h) w.other_in in omega (arith, p, w.meets)
-
--- two places in a list are one, or one is before the other
-splits : (xs ys : List Range) (x y : Range) (after rest : List Range) → xs ++ x ∷ after ≡ ys ++ y ∷ rest
-    → (x ≡ y) ⊎ (((zs : List Range) × (ys ≡ xs ++ x ∷ zs)) ⊎ ((zs : List Range) × (xs ≡ ys ++ y ∷ zs)))
-splits [] [] x y after rest e = inl cc
-splits [] (z ∷ ys) x y after rest e = let same : x ≡ z = cc in inr (inl (ys, ap (λ (w : Range). w ∷ ys) (sym same)))
-splits (z ∷ xs) [] x y after rest e = let same : y ≡ z = cc in inr (inr (xs, ap (λ (w : Range). w ∷ xs) (sym same)))
-splits (z ∷ xs) (w ∷ ys) x y after rest e =
-    let same : z ≡ w = cc in
-    let tail : xs ++ x ∷ after ≡ ys ++ y ∷ rest = cc in
-    elim (splits xs ys x y after rest tail) [
-      | inl is ↦ inl is
-      | inr (inl p) ↦ inr (inl (p.0, ap (λ (v : Range). v ∷ ys) (sym same) ∙ ap (λ (l : List Range). z ∷ l) p.1))
-      | inr (inr p) ↦ inr (inr (p.0, ap (λ (v : Range). v ∷ xs) same ∙ ap (λ (l : List Range). w ∷ l) p.1))
-    ]
 
 overlap_one : (index : List Range) (r q : Refusal) → FirstOverlap index r → FirstOverlap index q → r ≡ q
 overlap_one index r q v w = elim (splits v.before w.before v.it w.it v.after w.after (sym v.whole ∙ w.whole)) [
@@ -184,12 +108,14 @@ module _ (target : Target) (s : List ℕ) (b : AreBytes s) where
       let same = one_headers target s w.0 v.0 w.1.0.0.0 v.1.0.0.0 in
       one_index v.0 index other v.2 (subst (λ (hs : List Head). IsIndex hs other) same w.2)
 
-  indexed_or_fault : (r : Refusal) (index : List Range) → RulesFault target s r → Indexed target s index → ⊥
-  indexed_or_fault r index fault v = (all_rules target s b).0 r v.0 fault v.1
+  overlaps : Exclusive (CheckFault target s) (λ index. Indexed target s index × AreApart index)
+  overlaps =
+      let rules = all_rules target s b in
+      then_exclusive (RulesFault target s) (Indexed target s) (λ r index fault v. rules.0 r v.0 fault v.1, rules.1) one_indexed FirstOverlap AreApart (λ index w. overlap_apart index) (λ index w. overlap_one index)
 
   -- a section that is accepted has no first fault
   pub fault_or_accepted : (r : Refusal) → CheckFault target s r → Accepted target s → ⊥
-  fault_or_accepted r fault v = then_apart (RulesFault target s) (Indexed target s) FirstOverlap AreApart indexed_or_fault one_indexed (λ index r. overlap_apart index r) r v.0 fault (v.1, v.2)
+  fault_or_accepted r fault v = overlaps.0 r v.0 fault (v.1, v.2)
 
   pub one_check_fault : (r q : Refusal) → CheckFault target s r → CheckFault target s q → r ≡ q
-  one_check_fault r q v w = then_one (RulesFault target s) (Indexed target s) FirstOverlap indexed_or_fault one_indexed ((all_rules target s b).1) overlap_one r q v w
+  one_check_fault = overlaps.1

@@ -1,6 +1,6 @@
 -- Each FDE of an accepted section has changes.
-use Rattle.std.proofs.Common.{ℕ, ◌<◌, List, None, sym, subst, arith, ◌≤◌, [], ◌∷◌, length, Option, Some, inl, inr}
-use Rattle.dw_section.proofs.Words.{Target, AreBytes, Instr, LocatedRow, Rules, Accepted, HoldsAt, AreChanges, changes_among, Among, Says, AreFdes, ChangesOf, SameMeaning, IsAmong, row_starts, Fde}
+use Rattle.dw_section.proofs.Words.{ℕ, ◌<◌, List, None, sym, subst, arith, ◌≤◌, [], ◌∷◌, length, Option, Some, inl, inr, Target, AreBytes, Instr, LocatedRow, Rules, Accepted, HoldsAt, AreChanges, changes_among, Among, Says, AreFdes}
+use Rattle.dw_section.proofs.Words.{ChangesOf, SameMeaning, IsAmong, row_starts, Fde}
 use Rattle.dw_section.proofs.ChangesAmong.{are_among}
 use Rattle.dw_section.proofs.Lent.ChangeLaws.{changes_found}
 use Rattle.dw_section.proofs.Lent.Rowed.{agree_row}
@@ -26,10 +26,9 @@ module _ (target : Target) (s : List ℕ) (b : AreBytes s) (ok : Accepted target
   -- so each FDE that is listed has
   pub listed_change : (fs : List Fde) (f : Fde) → AreFdes target s fs → IsAmong f fs → (changes : List (ℕ × Rules)) × ChangesOf target s f changes
   listed_change fs f are listed =
-      let p = listed_programs target s b ok fs f are listed in
-      let programs = p.1 in
-      let c = changes_exist f.begin f.end programs.0 programs.1 p.0 programs.2 in
-      (c.0, record { initial = programs.0; instrs = programs.1; says = programs.2; change = c.1 })
+      let (some, (i, j, says)) = listed_programs target s b ok fs f are listed in
+      let c = changes_exist f.begin f.end i j some says in
+      (c.0, record { initial = i; instrs = j; says = says; change = c.1 })
 
 -- ---- sections of one meaning
 

@@ -1,13 +1,10 @@
 -- What a table lists, and where an address is found in it.
-use Rattle.std.proofs.Common.{◌≡◌, ℕ, zero, suc, ◌+◌, ◌<◌, ◌≤◌, List, [], ◌∷◌, map, length, get_or, refl, sym, ap, subst, ◌∙◌, arith, inl, inr}
-use Rattle.dw_section.proofs.Words.{AllByRecursion, AllZip, Target, Ranged, Head, CieHead, FdeHead, HeadsRise, IsRanged, range_in, fde_in, IsTable, Returns, Lists, AreFdes, Covers, NoneCovers}
-use Rattle.dw_section.proofs.Words.{IsAmong, Range, Precedes, Ascends, AreApart, IsIndex, Fde}
-use Rattle.std.specs.List.Sorted.{IsNonDecreasingBy}
-use Rattle.std.proofs.lemmas.List.{length-map, get_or-map}
+use Rattle.dw_section.proofs.Words.{◌≡◌, ℕ, zero, suc, ◌+◌, ◌<◌, ◌≤◌, List, [], ◌∷◌, map, length, get_or, refl, sym, ap, subst, ◌∙◌, arith, inl, inr, AllByRecursion, AllZip, Target, Ranged, Head, CieHead, FdeHead, Headers, HeadsRise}
+use Rattle.dw_section.proofs.Words.{IsRanged, range_in, fde_in, IsTable, Returns, Lists, AreFdes, Covers, NoneCovers, IsAmong, Range, Precedes, Ascends, AreApart, IsIndex, Fde, IsNonDecreasingBy, length-map, get_or-map}
 use Rattle.dw_section.proofs.Lent.Judged.{all_get, all_get_map}
 use Rattle.dw_section.proofs.Lent.HeaderLaws.{one_headers}
 use Rattle.dw_section.proofs.Lent.Heads.{heads_rise, one_among, cie_or, fde_or}
-use Rattle.dw_section.proofs.Lent.Index.{one_index}
+use Rattle.dw_section.proofs.Lent.Index.{all_from, one_index}
 use Rattle.dw_section.proofs.Stages.{one_zip}
 
 -- ---- the list
@@ -31,21 +28,24 @@ one_register hs up a r q v w =
     let place : v.named.at ≡ w.named.at = sym v.names ∙ ap (λ (f : FdeHead). f.cie_at) owns ∙ w.names in
     v.is ∙ ap (λ (c : CieHead). c.return_register) (ap (cie_or v.named) (one_among 0 hs _ _ up v.named_among w.named_among place)) ∙ sym w.is
 
+same_parts : (b e q b' e' q' : ℕ) → b ≡ b' → e ≡ e' → q ≡ q' → ◌≡◌ {A = Fde} (record { begin = b; end = e; return_register = q }) (record { begin = b'; end = e'; return_register = q' })
+same_parts b e q b' e' q' x y z = rw (x, y, z) refl
+
 one_listed : (hs : List Head) (up : HeadsRise 0 hs) (a : Range) (f g : Fde) → Lists hs a f → Lists hs a g → f ≡ g
 one_listed hs up a f g v w =
-    let b : f.begin ≡ g.begin = v.begin ∙ sym w.begin in
-    let e : f.end ≡ g.end = v.end ∙ sym w.end in
-    let r : f.return_register ≡ g.return_register = one_register hs up a f.return_register g.return_register v.returns w.returns in
-    ap (λ (n : ℕ). let x : Fde = record { begin = n; end = f.end; return_register = f.return_register } in x) b
-    ∙ ap (λ (n : ℕ). let x : Fde = record { begin = g.begin; end = n; return_register = f.return_register } in x) e
-    ∙ ap (λ (n : ℕ). let x : Fde = record { begin = g.begin; end = g.end; return_register = n } in x) r
+    same_parts f.begin f.end f.return_register g.begin g.end g.return_register (v.begin ∙ sym w.begin) (v.end ∙ sym w.end) (one_register hs up a f.return_register g.return_register v.returns w.returns)
+
+-- what stands beside the index of a section's headers stands beside any index of any headers of it
+pub along : {Y : Type 0} (R : List Head → Range → Y → Type 0) (target : Target) (s : List ℕ) (hs ks : List Head) (index other : List Range) (ys : List Y)
+    → Headers target s hs → IsIndex hs index → Headers target s ks → IsIndex ks other → AllZip (R ks) other ys → AllZip (R hs) index ys
+along R target s hs ks index other ys are is theirs at z =
+    let same = one_headers target s ks hs theirs are in
+    let one = one_index hs other index (subst (λ (l : List Head). IsIndex l other) same at) is in
+    subst (λ (rs : List Range). AllZip (R hs) rs ys) one (subst (λ (l : List Head). AllZip (R l) other ys) same z)
 
 pub one_fdes : (target : Target) (s : List ℕ) (fs gs : List Fde) → AreFdes target s fs → AreFdes target s gs → fs ≡ gs
 one_fdes target s fs gs v w =
-    let same = one_headers target s w.headers v.headers w.are v.are in
-    let index = one_index v.headers w.index v.index (subst (λ (hs : List Head). IsIndex hs w.index) same w.is_index) v.is_index in
-    one_zip (Lists v.headers) (one_listed v.headers (heads_rise target s v.headers v.are)) v.index fs gs v.each
-    (subst (λ (rs : List Range). AllZip (Lists v.headers) rs gs) index (subst (λ (hs : List Head). AllZip (Lists hs) w.index gs) same w.each))
+    one_zip (Lists v.headers) (one_listed v.headers (heads_rise target s v.headers v.are)) v.index fs gs v.each (along Lists target s v.headers w.headers v.index w.index gs v.are v.is_index w.are w.is_index w.each)
 
 -- ---- the search
 
@@ -82,9 +82,7 @@ covers_listed a list i lt h = (omega (arith, lt, length-map list fde_in), λ d. 
 
 -- an FDE at a place of a list is listed
 pub fde_listed : (f : Fde) (fs : List Fde) (i : ℕ) → i < length fs → ((d : Fde) → f ≡ get_or fs i d) → IsAmong f fs
-fde_listed f [] i lt is = absurd (omega arith)
-fde_listed f (x ∷ fs) zero lt is = inl (is x)
-fde_listed f (x ∷ fs) (suc i) lt is = inr (fde_listed f fs i (omega arith) is)
+fde_listed f fs i lt is = subst (λ (x : Fde). IsAmong x fs) (sym (is f)) (all_get (λ x. IsAmong x fs) fs i f (all_from (λ x. IsAmong x fs) fs (λ x among. among)) lt)
 
 -- a place in any such list is one in that of the table
 pub listed_place : (target : Target) (s : List ℕ) (list : List Ranged) (place : ℕ) → IsTable target s list → ((fs : List Fde) → AreFdes target s fs → place < length fs) → place < length list
@@ -101,4 +99,4 @@ pub ranged_of : (target : Target) (s : List ℕ) (list : List Ranged) (t : IsTab
 ranged_of target s list t i d lt = all_get (IsRanged t.indexed.headers) list i d t.indexed.each lt
 
 pub same_fde : (b r q b' r' q' : ℕ) → b ≡ b' → r ≡ r' → q ≡ q' → ◌≡◌ {A = Fde} (record { begin = b; end = b + r; return_register = q }) (record { begin = b'; end = b' + r'; return_register = q' })
-same_fde b r q b' r' q' e f g = rw (e, f, g) refl
+same_fde b r q b' r' q' e f g = same_parts b (b + r) q b' (b' + r') q' e (omega (arith, e, f)) g

@@ -1,18 +1,11 @@
 -- Headers are read as they are spelled, and a section has at most one list of them.
-use Rattle.std.proofs.Common.{◌≡◌, ℕ, ◌+◌, List, [], ◌∷◌, ◌++◌, length, Result, Ok, Err, inl, inr, refl, sym, ap, subst, ◌∙◌, arith, IfErr, append-nil, length-append}
-use Rattle.dw_section.proofs.Words.{AllByRecursion, AllZip, Target, Refusal, Input, AreBytes, Takes, Span, CieFields, FdeFields, Piece, id_width, Pieces, cie_places, Rises, Fields, cie_fields}
-use Rattle.dw_section.proofs.Words.{fde_fields, FieldsFault, program_of, contents_of, Head, cie_head, IsCie, IsFde, Has, Headers, CieHolds, CieStuck, FdeHolds, FdeStuck, Read, ◌>>=◌}
-use Rattle.std.proofs.lemmas.List.Elements.{filter_map-append}
-use Rattle.dw_num.proofs.Lent.LebLaws.{done, ok_is}
+use Rattle.dw_section.proofs.Words.{◌≡◌, ℕ, ◌+◌, List, [], ◌∷◌, ◌++◌, length, Result, Ok, Err, inl, inr, refl, sym, ap, subst, ◌∙◌, arith, IfErr, append-nil, length-append, AllByRecursion, AllZip, Target, Refusal, Input, AreBytes, Span}
+use Rattle.dw_section.proofs.Words.{CieFields, FdeFields, Piece, Pieces, cie_places, Rises, Fields, cie_fields, fde_fields, FieldsFault, program_of, contents_of, Head, cie_head, IsCie, IsFde, Has, Headers, CieHolds, CieStuck, FdeHolds}
+use Rattle.dw_section.proofs.Words.{FdeStuck, Read, ◌>>=◌, filter_map-append, done, ok_is, cie_of_piece, cie_at, fde_of_piece, fde_at, fde_head, HasFields}
 use Rattle.dw_section.specs.declared.entry.Kind.TheVariants as kind
 use Rattle.dw_section.specs.Inner.Stage.{Answers}
-use Rattle.dw_section.specs.Inner.Fields.{cie_fields_at, fde_fields_at}
-use Rattle.dw_section.specs.Inner.PieceHeader.{cie_of_piece, cie_at, fde_of_piece, fde_at}
-use Rattle.dw_section.specs.Headers.{fde_head, HasFields}
-use Rattle.dw_section.proofs.FieldLaws.{AreNumbers, fields_at, fault_read, read_fault, fields_found, fields_again}
-use Rattle.dw_section.proofs.Lent.FieldTable.{then_then, cie_same, fde_same, cie_numbers, fde_numbers}
-use Rattle.dw_num.proofs.Lent.Steps.{take_again}
-use Rattle.dw_num.specs.Front.{take_at}
+use Rattle.dw_section.proofs.FieldLaws.{AreNumbers, fields_at, fault_is, fields_found, fields_again}
+use Rattle.dw_section.proofs.Lent.FieldTable.{cie_numbers, fde_numbers}
 use Rattle.dw_section.proofs.Items.{one_pieces}
 use Rattle.dw_section.proofs.Places.{places_rise}
 use Rattle.dw_section.proofs.Stages.{all_push, all_from_zip, one_zip}
@@ -28,69 +21,44 @@ reads_fields fs are target p x j h e =
 pub fields_end : {X : Type 0} (target : Target) (p : Piece) (fs : Fields X) (x : X) (program : Span) → HasFields target p fs x program → program.at + length program.bytes ≡ p.contents.at + length p.contents.bytes
 fields_end target p fs x program is = omega (arith, is.place, ap length is.whole, length-append is.spelling program.bytes)
 
--- the bytes that were taken are those that taking reads
-taken_read : (n : ℕ) (i j : Input) (b : List ℕ) → length b ≡ n → Takes i b j → take_at n i ≡ done (b, j)
-taken_read n i j b len t =
-    subst (λ (bytes : List ℕ). take_at n (record { at = i.at; bytes = bytes; target = i.target }) ≡ done (b, j)) (sym t.bytes)
-    (subst (λ (at : ℕ). take_at n (record { at = i.at; bytes = b ++ j.bytes; target = i.target }) ≡ done (b, record { at = at; bytes = j.bytes; target = j.target })) (sym t.at)
-    (subst (λ (target : Target). take_at n (record { at = i.at; bytes = b ++ j.bytes; target = i.target }) ≡ done (b, record { at = i.at + length b; bytes = j.bytes; target = target })) (sym t.target)
-    (take_again i.target n b len i.at j.bytes)))
-
-pub cie_reads : (target : Target) (p : Piece) (id : List ℕ) (i j : Input) (f : CieFields) → AreBytes p.contents.bytes → p.kind ≡ kind.Cie → length id ≡ id_width p.form
-    → Takes (contents_of target p) id i → cie_fields_at i ≡ done (f, j) → IsCie target p f (program_of j)
-cie_reads target p id i j f h is len t e =
-    let same : fields_at (cie_fields target.size p.form) (contents_of target p) ≡ done (f, j) =
-    cie_same p.form (contents_of target p) ∙ ap (λ (read : Read (List ℕ)). read >>= (λ b. cie_fields_at b.1)) (taken_read (id_width p.form) (contents_of target p) i id len t) ∙ e in
-    (is, reads_fields (cie_fields target.size p.form) (cie_numbers target.size p.form) target p f j h same)
+pub cie_reads : (target : Target) (p : Piece) (j : Input) (f : CieFields) → AreBytes p.contents.bytes → p.kind ≡ kind.Cie → fields_at (cie_fields target.size p.form) (contents_of target p) ≡ done (f, j) → IsCie target p f (program_of j)
+cie_reads target p j f h is e = (is, reads_fields (cie_fields target.size p.form) (cie_numbers target.size p.form) target p f j h e)
 
 pub fde_reads : (target : Target) (places : List ℕ) (p : Piece) (j : Input) (f : FdeFields) → AreBytes p.contents.bytes → p.kind ≡ kind.Fde
-    → fde_fields_at places p.form (contents_of target p) ≡ done (f, j) → IsFde target places p f (program_of j)
+    → fields_at (fde_fields target.size places p.form) (contents_of target p) ≡ done (f, j) → IsFde target places p f (program_of j)
 fde_reads target places p j f h is e =
-    (is, reads_fields (fde_fields target.size places p.form) (fde_numbers target.size places p.form) target p f j h (fde_same places p.form (contents_of target p) ∙ e))
+    (is, reads_fields (fde_fields target.size places p.form) (fde_numbers target.size places p.form) target p f j h e)
 
 -- ---- what has a header is read
-
--- what the code reads is what the table reads
-cie_table : (target : Target) (p : Piece) → cie_at target p ≡ fields_at (cie_fields target.size p.form) (contents_of target p) >>= cie_of_piece p
-unfolding cie_at
-cie_table target p =
-    sym (then_then (take_at (id_width p.form) (contents_of target p)) (λ b. cie_fields_at b.1) (cie_of_piece p))
-    ∙ ap (λ (read : Read CieFields). read >>= cie_of_piece p) (sym (cie_same p.form (contents_of target p)))
-
-fde_table : (target : Target) (places : List ℕ) (p : Piece) → fde_at target places p ≡ fields_at (fde_fields target.size places p.form) (contents_of target p) >>= fde_of_piece p
-unfolding fde_at
-fde_table target places p = ap (λ (read : Read FdeFields). read >>= fde_of_piece p) (sym (fde_same places p.form (contents_of target p)))
 
 fields_read : {X : Type 0} (fs : Fields X) (target : Target) (p : Piece) (x : X) (program : Span) → HasFields target p fs x program
     → fields_at fs (contents_of target p) ≡ done (x, record { at = program.at; bytes = program.bytes; target = target })
 fields_read fs target p x program is = rw (is.whole, fields_again target fs x is.spelling is.spells p.contents.at program.bytes, ← is.place) refl
 
 pub cie_at_again : (target : Target) (p : Piece) (f : CieFields) (program : Span) → IsCie target p f program → cie_at target p ≡ done (cie_head p f program)
-cie_at_again target p f program is =
-    cie_table target p ∙ ap (λ (read : Read CieFields). read >>= cie_of_piece p) (fields_read (cie_fields target.size p.form) target p f program is.1)
+unfolding cie_at
+cie_at_again target p f program is = ap (λ (read : Read CieFields). read >>= cie_of_piece p) (fields_read (cie_fields target.size p.form) target p f program is.1)
 
 pub fde_at_again : (target : Target) (places : List ℕ) (p : Piece) (f : FdeFields) (program : Span) → IsFde target places p f program → fde_at target places p ≡ done (fde_head p f program)
-fde_at_again target places p f program is =
-    fde_table target places p ∙ ap (λ (read : Read FdeFields). read >>= fde_of_piece p) (fields_read (fde_fields target.size places p.form) target p f program is.1)
+unfolding fde_at
+fde_at_again target places p f program is = ap (λ (read : Read FdeFields). read >>= fde_of_piece p) (fields_read (fde_fields target.size places p.form) target p f program is.1)
 
 -- ---- what is refused has that fault
 
-only_fault : {X Y : Type 0} (read : Read X) (make : X × Input → Y) (r : Refusal) → read >>= (λ x. done (make x)) ≡ Err r → read ≡ Err r
-only_fault (Ok x) make r e = absurd cc
-only_fault (Err q) make r e = cc
+read_faulty : {X : Type 0} (fs : Fields X) (make : X × Input → Head) (i : Input) (r : Refusal) (read : Read X) → fields_at fs i ≡ read → read >>= (λ x. done (make x)) ≡ Err r → FieldsFault fs i r
+read_faulty fs make i r (Ok x) is e = absurd cc
+read_faulty {X} fs make i r (Err q) is e = let same : q ≡ r = cc in (fault_is fs i r).1 (is ∙ ap (λ (x : Refusal). let k : Read X = Err x in k) same)
 
 pub cie_faulty : (target : Target) (p : Piece) (r : Refusal) → cie_at target p ≡ Err r → FieldsFault (cie_fields target.size p.form) (contents_of target p) r
-cie_faulty target p r e =
-    let fs = cie_fields target.size p.form in
-    read_fault fs (contents_of target p) r (only_fault (fields_at fs (contents_of target p)) (λ f. cie_head p f.0 (program_of f.1)) r (sym (cie_table target p) ∙ e))
+unfolding cie_at
+cie_faulty target p r e = read_faulty (cie_fields target.size p.form) (λ f. cie_head p f.0 (program_of f.1)) (contents_of target p) r _ refl e
 
 pub fde_faulty : (target : Target) (places : List ℕ) (p : Piece) (r : Refusal) → fde_at target places p ≡ Err r → FieldsFault (fde_fields target.size places p.form) (contents_of target p) r
-fde_faulty target places p r e =
-    let fs = fde_fields target.size places p.form in
-    read_fault fs (contents_of target p) r (only_fault (fields_at fs (contents_of target p)) (λ f. fde_head p f.0 (program_of f.1)) r (sym (fde_table target places p) ∙ e))
+unfolding fde_at
+fde_faulty target places p r e = read_faulty (fde_fields target.size places p.form) (λ f. fde_head p f.0 (program_of f.1)) (contents_of target p) r _ refl e
 
 fields_apart : {X : Type 0} (fs : Fields X) (target : Target) (p : Piece) (x : X) (program : Span) (r : Refusal) → HasFields target p fs x program → FieldsFault fs (contents_of target p) r → ⊥
-fields_apart fs target p x program r is stuck = let a = sym (fields_read fs target p x program is) ∙ fault_read fs (contents_of target p) r stuck in cc
+fields_apart fs target p x program r is stuck = let a = sym (fields_read fs target p x program is) ∙ (fault_is fs (contents_of target p) r).0 stuck in cc
 
 pub cie_apart : (target : Target) (p : Piece) (r : Refusal) → CieHolds target p → CieStuck target p r → ⊥
 cie_apart target p r h s = let q = h s.0 in fields_apart (cie_fields target.size p.form) target p q.0 q.1 r q.2.1 s.1

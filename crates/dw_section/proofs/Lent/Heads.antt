@@ -1,40 +1,31 @@
 -- What holds of a section's headers.
 pub use Rattle.dw_section.proofs.Lent.Index.{all_in}
-use Rattle.std.proofs.Common.{◌≡◌, ℕ, suc, ◌+◌, ◌<◌, ◌≤◌, ◌^◌, List, [], ◌∷◌, ◌++◌, length, refl, sym, ap, subst, ◌∙◌, arith, inl, inr, get_or-append-add}
-use Rattle.std.specs.List.{AllByRecursion, AllZip, cons_option}
-use Rattle.dw_section.proofs.Words.{Order, Target, Size, AreBytes, length_bytes, address_limit, byte_count, Instr, Program, Item, gap, entry, Piece, pieces, item_bytes, all_bytes, place_if}
-use Rattle.dw_section.proofs.Words.{cie_places, Rises, Head, cie, fde, Has, Headers, CieHead, FdeHead, head_at, cie_at_of, cie_ats, HeadsRise, FdeFits, HasBytes, Begins, factors_of, IsAmong}
-use Rattle.dw_num.specs.declared.target.Size.TheVariants.{Four, Eight}
+use Rattle.dw_section.proofs.Words.{◌≡◌, ℕ, suc, ◌+◌, ◌<◌, ◌≤◌, ◌^◌, List, [], ◌∷◌, ◌++◌, length, refl, sym, ap, subst, ◌∙◌, arith, inl, inr, get_or-append-add, AllByRecursion, AllZip, cons_option, Order, Target, Size, AreBytes}
+use Rattle.dw_section.proofs.Words.{length_bytes, address_limit, byte_count, Instr, Program, Item, gap, entry, Piece, pieces, item_bytes, all_bytes, place_if, cie_places, Rises, Head, cie, fde, Has, Headers, CieHead, FdeHead, head_at}
+use Rattle.dw_section.proofs.Words.{cie_at_of, cie_ats, HeadsRise, FdeFits, HasBytes, Begins, factors_of, IsAmong, Four, Eight, RiseBy}
 use Rattle.dw_cfa.proofs.Lent.InstrLaws.{front_bytes}
 use Rattle.dw_section.proofs.Items.{item_some}
 use Rattle.dw_section.proofs.Lent.HeaderLaws.{pieces_rise as places_of_pieces}
 use Rattle.dw_section.proofs.Cfa.{one_program}
 use Rattle.dw_section.proofs.Lent.FieldTable.{fde_said}
 use Rattle.dw_section.proofs.Lent.Index.{all_in}
-use Rattle.dw_section.proofs.Stages.{all_to_zip, all_of_zip}
-
--- ---- members
-
-pub is_among_head : (front : List Head) (h : Head) (after : List Head) → IsAmong h (front ++ h ∷ after)
-is_among_head [] h after = inl refl
-is_among_head (k ∷ front) h after = inr (is_among_head front h after)
+use Rattle.dw_section.proofs.Stages.{all_of_zip}
 
 -- ---- places rise
 
 abbrev PiecesRise : ℕ → List Piece → Type 0
-PiecesRise low [] = Unit {0}
-PiecesRise low (p ∷ ps) = (low ≤ p.at) × PiecesRise (suc p.at) ps
+PiecesRise low ps = RiseBy (λ (p : Piece). p.at) low ps
 
-rise_from : (low more : ℕ) (ps : List Piece) → low ≤ more → PiecesRise more ps → PiecesRise low ps
-rise_from low more [] le h = tt
-rise_from low more (p ∷ ps) le h = (omega (arith, h.0), h.1)
+pub rise_from : {X : Type 0} (place : X → ℕ) (low more : ℕ) (xs : List X) → low ≤ more → RiseBy place more xs → RiseBy place low xs
+rise_from place low more [] le h = tt
+rise_from place low more (x ∷ xs) le h = (omega (arith, h.0), h.1)
 
 pieces_up : (order : Order) (at : ℕ) (items : List Item) → PiecesRise at (pieces order at items)
 pieces_up order at [] = tt
-pieces_up order at (gap ∷ items) = rise_from at (at + 4) _ (omega arith) (pieces_up order (at + 4) items)
+pieces_up order at (gap ∷ items) = rise_from (λ (p : Piece). p.at) at (at + 4) _ (omega arith) (pieces_up order (at + 4) items)
 pieces_up order at (entry form body ∷ items) =
     let n = length (item_bytes order (entry form body)) in
-    (omega arith, rise_from (suc at) (at + n) _ (omega (arith, item_some order (entry form body))) (pieces_up order (at + n) items))
+    (omega arith, rise_from (λ (p : Piece). p.at) (suc at) (at + n) _ (omega (arith, item_some order (entry form body))) (pieces_up order (at + n) items))
 
 pub has_at : (target : Target) (places : List ℕ) (p : Piece) (h : Head) → Has target places p h → head_at h ≡ p.at
 has_at target places p h (inl c) = ap head_at c.3
@@ -42,9 +33,7 @@ has_at target places p h (inr c) = ap head_at c.3
 
 heads_up : (target : Target) (places : List ℕ) (low : ℕ) (ps : List Piece) (hs : List Head) → AllZip (Has target places) ps hs → PiecesRise low ps → HeadsRise low hs
 heads_up target places low [] [] z up = tt
-heads_up target places low (p ∷ ps) (h ∷ hs) z up =
-    let e = has_at target places p h z.0 in
-    (subst (λ (n : ℕ). low ≤ n) (sym e) up.0, subst (λ (n : ℕ). HeadsRise (suc n) hs) (sym e) (heads_up target places (suc p.at) ps hs z.1 up.1))
+heads_up target places low (p ∷ ps) (h ∷ hs) z up = rw (has_at target places p h z.0) (up.0, heads_up target places (suc p.at) ps hs z.1 up.1)
 heads_up target places low ps hs z up = absurd z
 
 pub heads_rise : (target : Target) (s : List ℕ) (hs : List Head) → Headers target s hs → HeadsRise 0 hs
@@ -52,16 +41,12 @@ heads_rise target s hs p = heads_up target (cie_places p.entries) 0 p.entries hs
 
 pub among_above : (low : ℕ) (hs : List Head) (h : Head) → HeadsRise low hs → IsAmong h hs → low ≤ head_at h
 among_above low [] h up i = absurd i
-among_above low (k ∷ hs) h up (inl is) = subst (λ (x : Head). low ≤ head_at x) (sym is) up.0
-among_above low (k ∷ hs) h up (inr i) = let p = among_above (suc (head_at k)) hs h up.1 i in omega (arith, up.0)
+among_above low (k ∷ hs) h up i = grind (arith, up.0, i, among_above (suc (head_at k)) hs h up.1)
 
 -- at a place stands one entry
 pub one_among : (low : ℕ) (hs : List Head) (h k : Head) → HeadsRise low hs → IsAmong h hs → IsAmong k hs → head_at h ≡ head_at k → h ≡ k
 one_among low [] h k up i j e = absurd i
-one_among low (x ∷ hs) h k up (inl a) (inl b) e = a ∙ sym b
-one_among low (x ∷ hs) h k up (inl a) (inr j) e = let p = among_above (suc (head_at x)) hs k up.1 j in let q = ap head_at a in absurd (omega arith)
-one_among low (x ∷ hs) h k up (inr i) (inl b) e = let p = among_above (suc (head_at x)) hs h up.1 i in let q = ap head_at b in absurd (omega arith)
-one_among low (x ∷ hs) h k up (inr i) (inr j) e = one_among (suc (head_at x)) hs h k up.1 i j e
+one_among low (x ∷ hs) h k up i j e = grind (arith, up, i, j, e, among_above (suc (head_at x)) hs k up.1, among_above (suc (head_at x)) hs h up.1, one_among (suc (head_at x)) hs h k up.1)
 
 -- ---- programs are bytes
 
@@ -71,10 +56,9 @@ rest_bytes front rest h = λ k. let e = get_or-append-add front rest k 0 in omeg
 items_bytes : (order : Order) (at : ℕ) (items : List Item) → AreBytes (all_bytes order items) → AllByRecursion (λ (p : Piece). AreBytes p.contents.bytes) (pieces order at items)
 items_bytes order at [] h = tt
 items_bytes order at (gap ∷ items) h = items_bytes order (at + 4) items (rest_bytes (item_bytes order gap) (all_bytes order items) h)
-items_bytes order at (entry form body ∷ items) h = (
-  rest_bytes (length_bytes order form (length body)) body (front_bytes (item_bytes order (entry form body)) (all_bytes order items) h),
-  items_bytes order (at + length (item_bytes order (entry form body))) items (rest_bytes (item_bytes order (entry form body)) (all_bytes order items) h),
-)
+items_bytes order at (entry form body ∷ items) h =
+    let b = item_bytes order (entry form body) in
+    (rest_bytes (length_bytes order form (length body)) body (front_bytes b (all_bytes order items) h), items_bytes order (at + length b) items (rest_bytes b (all_bytes order items) h))
 
 has_bytes : (target : Target) (places : List ℕ) (p : Piece) (h : Head) → Has target places p h → AreBytes p.contents.bytes → HasBytes h
 has_bytes target places p h (inl c) b = subst HasBytes (sym c.3) (rest_bytes c.2.1.spelling c.1.bytes (subst AreBytes c.2.1.whole b))
@@ -82,8 +66,8 @@ has_bytes target places p h (inr c) b = subst HasBytes (sym c.3) (rest_bytes c.2
 
 pub heads_bytes : (target : Target) (s : List ℕ) (hs : List Head) → AreBytes s → Headers target s hs → AllByRecursion HasBytes hs
 heads_bytes target s hs b p =
-    all_to_zip (Has target (cie_places p.entries)) (λ (x : Piece). AreBytes x.contents.bytes) HasBytes (has_bytes target (cie_places p.entries)) p.entries hs p.each
-    (subst (AllByRecursion (λ (x : Piece). AreBytes x.contents.bytes)) (sym p.cut.are) (items_bytes target.order 0 p.cut.items (subst AreBytes p.cut.cut.whole b)))
+    let all = subst (AllByRecursion (λ (x : Piece). AreBytes x.contents.bytes)) (sym p.cut.are) (items_bytes target.order 0 p.cut.items (subst AreBytes p.cut.cut.whole b)) in
+    all_of_zip (Has target (cie_places p.entries)) HasBytes p.entries hs (λ x h i has. has_bytes target (cie_places p.entries) x h has (all_in (λ (x : Piece). AreBytes x.contents.bytes) p.entries x all i)) p.each
 
 -- ---- FDEs fit
 
@@ -97,7 +81,7 @@ has_fits target places p h (inr c) =
     let said = fde_said target places p.form c.0 c.2.1.spelling c.2.1.spells in
     subst (FdeFits target places) (sym c.3) (subst (λ (n : ℕ). c.0.begin < n) (limit_is target.size) said.begin_fits, said.in_space, said.names_cie)
 
-has_place : (target : Target) (places : List ℕ) (p : Piece) (h : Head) → Has target places p h → cie_at_of h ≡ place_if p.kind p.at
+pub has_place : (target : Target) (places : List ℕ) (p : Piece) (h : Head) → Has target places p h → cie_at_of h ≡ place_if p.kind p.at
 has_place target places p h (inl c) = rw (c.3, c.2.0) refl
 has_place target places p h (inr c) = rw (c.3, c.2.0) refl
 
@@ -110,7 +94,7 @@ pub heads_fit : (target : Target) (s : List ℕ) (hs : List Head) → Headers ta
 heads_fit target s hs p =
     let places = cie_places p.entries in
     subst (λ (l : List ℕ). AllByRecursion (FdeFits target l) hs) (sym (same_places target places p.entries hs p.each))
-    (all_of_zip (Has target places) (FdeFits target places) (has_fits target places) p.entries hs p.each)
+    (all_of_zip (Has target places) (FdeFits target places) p.entries hs (λ x h i has. has_fits target places x h has) p.each)
 
 pub ats_rise : (target : Target) (s : List ℕ) (hs : List Head) → Headers target s hs → Rises 0 (cie_ats hs)
 ats_rise target s hs p = subst (Rises 0) (sym (same_places target (cie_places p.entries) p.entries hs p.each)) (places_of_pieces target s p.entries p.cut)

@@ -1,17 +1,10 @@
 -- What running programs tells of headers.
-use Rattle.std.proofs.Common.{◌≡◌, ℕ, zero, suc, ◌+◌, ◌<◌, ◌≤◌, Bool, true, false, List, [], ◌∷◌, ◌++◌, map, length, get_or, set, Option, Some, None, refl, sym, ap, subst, ◌∙◌, append_assoc, arith, inl, inr, MatchBool, nat_lt}
-use Rattle.dw_section.proofs.Words.{AllByRecursion, Refusal, Target, address_limit, Instr, CfaRule, Unset, LocatedRow, RulesBehind, cfa_after, FdeFault, FdeKept, initial_cfa, Counts, Rules, Initial}
-use Rattle.dw_section.proofs.Words.{is_among, Head, fde, FdeHead, head_at, cie_at_of, cie_ats, or_place, place_of, IsInitial, IsBehind, AreInitials, HasOrLacks, initial_head, Rises, Begins, Instrs}
-use Rattle.dw_section.proofs.Words.{CieRuns, FdeRuns, FdeBroken, HasRules, LacksRule, input_of}
-use Rattle.std.specs.List.Sorted.{IsNonDecreasingBy}
-use Rattle.std.proofs.lemmas.Bool.{ltb-true, ltb-false, cases_lt}
-use Rattle.std.proofs.lemmas.List.{append-nil, map-append, get_or-map, length-map}
-use Rattle.std.proofs.lemmas.List.Elements.{filter_map-append}
-use Rattle.dw_num.specs.declared.refusal.Code.TheVariants.{NoCfaRule}
+use Rattle.dw_section.proofs.Words.{◌≡◌, ℕ, ◌+◌, ◌<◌, ◌≤◌, Bool, true, false, List, [], ◌∷◌, ◌++◌, map, length, get_or, set, Option, Some, None, refl, sym, ap, subst, ◌∙◌, append_assoc, arith, inl, inr, MatchBool, nat_lt, AllByRecursion}
+use Rattle.dw_section.proofs.Words.{Refusal, Target, address_limit, Instr, CfaRule, Unset, LocatedRow, RulesBehind, cfa_after, FdeFault, FdeKept, initial_cfa, Counts, Rules, Initial, is_among, Head, cie, fde, FdeHead, head_at, cie_at_of}
+use Rattle.dw_section.proofs.Words.{cie_ats, or_place, place_of, IsInitial, IsBehind, AreInitials, HasOrLacks, initial_head, Rises, Begins, Instrs, CieRuns, FdeRuns, FdeBroken, HasRules, LacksRule, input_of, IsNonDecreasingBy, ltb-true}
+use Rattle.dw_section.proofs.Words.{ltb-false, cases_lt, append-nil, map-append, get_or-map, length-map, All-from_recursion, All-set, filter_map-append, recursion_from_All, NoCfaRule, FirstLacking, counts_exists}
 use Rattle.dw_cfa.specs.CieMachine.{Following, with_steps}
 use Rattle.dw_cfa.specs.Coverage.{Lacks}
-use Rattle.dw_section.specs.Inner.Initials.{FirstLacking}
-use Rattle.dw_cfa.proofs.Lent.InstrCounts.{counts_exists}
 use Rattle.dw_cfa.proofs.Lent.RowsAt.{last_from}
 use Rattle.dw_section.proofs.Stages.{all_push}
 use Rattle.dw_section.proofs.Places.{rises-at, among_place}
@@ -26,12 +19,9 @@ initials_cie target hs front cs h c w runs place is = record {
   each = all_push (IsInitial target hs) cs c w.each is;
 }
 
-pub initials_fde : (target : Target) (hs front : List Head) (cs : List Initial) (h : Head) → AreInitials target hs front cs → CieRuns target h → cie_at_of h ≡ None → AreInitials target hs (front ++ h ∷ []) cs
-initials_fde target hs front cs h w runs place = record {
-  run = all_push (CieRuns target) front h w.run runs;
-  places = rw (filter_map-append, w.places, place) (sym (append-nil (cie_ats front)));
-  each = w.each;
-}
+pub initials_fde : (target : Target) (hs front : List Head) (cs : List Initial) (h : Head) → AreInitials target hs front cs → cie_at_of h ≡ None → AreInitials target hs (front ++ h ∷ []) cs
+initials_fde target hs front cs (cie c) w place = absurd cc
+initials_fde target hs front cs (fde f) w place = record { run = all_push (CieRuns target) front (fde f) w.run tt; places = rw (filter_map-append, w.places) (sym (append-nil (cie_ats front))); each = w.each }
 
 -- ---- the search among them
 
@@ -53,29 +43,21 @@ found_initial place (c ∷ cs) i up among below above =
     (omega (arith, from, lt), λ d. omega (arith, initials_ascend 0 all up i w.0 d from lt, at d, ltb-false (get_or all i d).at place (above i d (omega arith) (omega (arith, from, lt)))))
 
 pub all_get : {X : Type 0} (P : X → Type 0) (xs : List X) (i : ℕ) (d : X) → AllByRecursion P xs → i < length xs → P (get_or xs i d)
-all_get P [] i d h lt = absurd (omega arith)
-all_get P (x ∷ xs) zero d h lt = h.0
-all_get P (x ∷ xs) (suc i) d h lt = all_get P xs i d h.1 (omega arith)
+all_get P xs i d h lt = All-from_recursion P xs h i d lt
+
+pub all_at : {X : Type 0} (P : X → Type 0) (xs : List X) (i : ℕ) (x : X) → x ≡ get_or xs i x → i < length xs → AllByRecursion P xs → P x
+all_at P xs i x is lt h = subst P (sym is) (all_get P xs i x h lt)
 
 -- ---- a machine that ran an FDE's program
 
 pub behind_stays : (target : Target) (hs : List Head) (place : ℕ) (m n : Following) → n ≡ with_steps m n.steps → IsBehind target hs (Some place) m → IsBehind target hs (Some place) n
-behind_stays target hs place m n same is = (
-  is.0,
-  is.1,
-  is.2,
-  ap (λ (x : Following). x.initial) same ∙ is.3,
-  ap (λ (x : Following). x.factors) same ∙ is.4,
-  ap (λ (x : Following). x.target) same ∙ is.5,
-)
+behind_stays target hs place m n same is = subst (IsBehind target hs (Some place)) (sym same) is
 
 pub all_get_map : {X Y : Type 0} (P : Y → Type 0) (view : X → Y) (xs : List X) (i : ℕ) (d : X) → AllByRecursion P (map view xs) → i < length xs → P (view (get_or xs i d))
 all_get_map P view xs i d h lt = subst P (get_or-map view xs i d (view d) lt) (all_get P (map view xs) i (view d) h (omega (arith, lt, length-map xs view)))
 
 pub all_set : {X : Type 0} (P : X → Type 0) (xs : List X) (i : ℕ) (y : X) → AllByRecursion P xs → P y → AllByRecursion P (set xs i y)
-all_set P [] i y h is = tt
-all_set P (x ∷ xs) zero y h is = (is, h.1)
-all_set P (x ∷ xs) (suc i) y h is = (h.0, all_set P xs i y h.1 is)
+all_set P xs i y h is = recursion_from_All P (set xs i y) (All-set P xs i y is (All-from_recursion P xs h))
 
 -- ---- an FDE whose CIE is kept
 
@@ -99,8 +81,7 @@ module _ (target : Target) (hs : List Head) (c : Initial) (is : IsInitial target
         let counts = counts_exists f.begin instrs w.address from in
         let row = given.holds w.address counts.0 from counts.1 in
         let same : row.0 ≡ w.row = let e = sym row.1 ∙ w.last in cc in
-        let unset : row.0.cfa ≡ Unset = ap (λ (x : Rules). x.cfa) same ∙ w.unset in
-        let here : cfa_after (initial_cfa is.1) instrs counts.0 ≡ Unset = ap (λ (x : CfaRule). cfa_after x instrs counts.0) (sym is.4.cfa) ∙ sym row.2.cfa ∙ unset in
+        let here : cfa_after (initial_cfa is.1) instrs counts.0 ≡ Unset = ap (λ (x : CfaRule). cfa_after x instrs counts.0) (sym is.4.cfa) ∙ sym row.2.cfa ∙ ap (λ (x : Rules). x.cfa) same ∙ w.unset in
         (refl, (is.1, instrs, instrs_so, (w.address, from, w.below, (counts.0, counts.1, here))))
 
     has_at : (Lacks (f.begin + f.range) rows → ⊥) → (a : ℕ) → f.begin ≤ a → a < f.begin + f.range → (k : ℕ) → Counts f.begin instrs a k → cfa_after (initial_cfa is.1) instrs k ≡ Unset → ⊥

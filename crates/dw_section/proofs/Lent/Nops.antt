@@ -1,17 +1,10 @@
 -- Nops behind a program change no rule, no location and no row's start.
-use Rattle.std.proofs.Common.{◌≡◌, ℕ, zero, suc, ◌+◌, ◌≤◌, Bool, false, cond, List, [], ◌∷◌, ◌++◌, length, take, Some, refl, sym, ap, subst, ◌∙◌, append_assoc, arith, inl, inr, mul-zero, IsTrue, count_by, slice_get, replicate}
-use Rattle.dw_section.proofs.Words.{AllByRecursion, Target, Factors, Instr, CfaRule, RegRule, Program, look_back, cfa_change, rule_change, cfa_after, rule_after, CieKept, FdeKept, initial_cfa}
-use Rattle.dw_section.proofs.Words.{initial_rule, onto, back_from, Counts, moves_location, row_starts}
-use Rattle.std.proofs.lemmas.Bool.{cases_lt}
-use Rattle.std.proofs.lemmas.List.{length-append, length-replicate, take_all}
-use Rattle.std.proofs.lemmas.List.Sums.{sum_by-cons, sum_by-append, sum_by-take-le}
-use Rattle.dw_cfa.specs.declared.instr.Instr.TheVariants.{Nop}
+use Rattle.dw_section.proofs.Words.{◌≡◌, ℕ, zero, suc, ◌+◌, ◌<◌, ◌≤◌, Bool, false, cond, List, [], ◌∷◌, ◌++◌, length, take, Some, refl, sym, ap, subst, ◌∙◌, append_assoc, arith, inl, inr, add-zero, mul-zero, IsTrue, count_by, slice_get}
+use Rattle.dw_section.proofs.Words.{replicate, AllByRecursion, Target, Factors, Instr, CfaRule, RegRule, Program, look_back, cfa_change, rule_change, cfa_after, rule_after, CieKept, FdeKept, initial_cfa, initial_rule, onto, back_from}
+use Rattle.dw_section.proofs.Words.{Counts, moves_location, row_starts, one_count, cases_lt, length-append, take_all, sum_by-cons, sum_by-append, sum_by-take-le, Nop, in_cie, is_remember, is_restore, keeps_half, KeepsHalves, location_back}
+use Rattle.dw_section.proofs.Words.{location, StaysAt, in_table, sum_by-replicate}
 use Rattle.dw_cfa.specs.declared.rule.CfaRule.TheVariants as cfa
 use Rattle.dw_cfa.specs.declared.rule.RegRule.TheVariants.{Unspecified}
-use Rattle.dw_cfa.specs.Kept.{in_cie, is_remember, is_restore, keeps_half, KeepsHalves}
-use Rattle.dw_cfa.specs.Location.{location_back, location, StaysAt}
-use Rattle.dw_cfa.proofs.Lent.Spellings.{in_table}
-use Rattle.std.proofs.lemmas.List.Folds.{sum_by-replicate}
 
 abbrev pub nops : ℕ → List Instr
 nops n = replicate n Nop
@@ -38,110 +31,55 @@ none_left : (earlier : List Instr) (k : ℕ) → onto earlier [] k ≡ earlier
 none_left earlier zero = refl
 none_left earlier (suc k) = refl
 
-pub past_end : (earlier instrs : List Instr) (k : ℕ) → length instrs ≤ k → onto earlier instrs k ≡ onto earlier instrs (length instrs)
+past_end : (earlier instrs : List Instr) (k : ℕ) → length instrs ≤ k → onto earlier instrs k ≡ onto earlier instrs (length instrs)
 past_end earlier [] k le = none_left earlier k
 past_end earlier (i ∷ instrs) zero le = absurd (omega arith)
 past_end earlier (i ∷ instrs) (suc k) le = past_end (i ∷ earlier) instrs k (omega arith)
 
-module _ {Rule : Type 0} (change : Instr → Rule → Rule) (initial : Rule) (keeps : (old : Rule) → change Nop old ≡ old) where
-  back_nop : (inner : ℕ) (earlier : List Instr) → look_back change initial inner (Nop ∷ earlier) ≡ look_back change initial inner earlier
-  back_nop zero earlier = keeps (look_back change initial zero earlier)
-  back_nop (suc inner) earlier = refl
-
-  back_nops : (earlier : List Instr) (n k : ℕ) → look_back change initial 0 (onto earlier (nops n) k) ≡ look_back change initial 0 earlier
-  back_nops earlier zero zero = refl
-  back_nops earlier zero (suc k) = refl
-  back_nops earlier (suc n) zero = refl
-  back_nops earlier (suc n) (suc k) = back_nops (Nop ∷ earlier) n k ∙ back_nop 0 earlier
-
-  pub behind_nops : (earlier instrs : List Instr) (n k : ℕ) → look_back change initial 0 (onto earlier (instrs ++ nops n) k) ≡ look_back change initial 0 (onto earlier instrs k)
-  behind_nops earlier [] n zero = back_nops earlier n zero
-  behind_nops earlier [] n (suc k) = back_nops earlier n (suc k)
+-- what is as it was behind a nop is so behind all of them
+module _ {X : Type 0} (found : List Instr → X) (same : (earlier : List Instr) → found (Nop ∷ earlier) ≡ found earlier) where
+  behind_nops : (earlier instrs : List Instr) (n k : ℕ) → found (onto earlier (instrs ++ nops n) k) ≡ found (onto earlier instrs k)
+  behind_nops earlier [] zero k = refl
+  behind_nops earlier [] (suc n) zero = refl
+  behind_nops earlier [] (suc n) (suc k) = behind_nops (Nop ∷ earlier) [] n k ∙ ap found (none_left (Nop ∷ earlier) k) ∙ same earlier
   behind_nops earlier (i ∷ instrs) n zero = refl
   behind_nops earlier (i ∷ instrs) n (suc k) = behind_nops (i ∷ earlier) instrs n k
 
+  all_behind : (instrs : List Instr) (n : ℕ) → found (onto [] (instrs ++ nops n) (length (instrs ++ nops n))) ≡ found (onto [] instrs (length instrs))
+  all_behind instrs n = behind_nops [] instrs n (length (instrs ++ nops n)) ∙ ap found (past_end [] instrs (length (instrs ++ nops n)) (omega (arith, length-append instrs (nops n))))
+
 pub cfa_nops : (initial : CfaRule) (instrs : List Instr) (n k : ℕ) → cfa_after initial (instrs ++ nops n) k ≡ cfa_after initial instrs k
-cfa_nops initial instrs n k = behind_nops cfa_change initial (λ old. refl) [] instrs n k
+cfa_nops initial instrs n k = behind_nops (look_back cfa_change initial 0) (λ earlier. refl) [] instrs n k
 
 pub rule_nops : (initial : RegRule) (instrs : List Instr) (n r k : ℕ) → rule_after initial (instrs ++ nops n) r k ≡ rule_after initial instrs r k
-rule_nops initial instrs n r k = behind_nops (rule_change r initial) initial (λ old. refl) [] instrs n k
-
-length_nops : (instrs : List Instr) (n : ℕ) → length (instrs ++ nops n) ≡ length instrs + n
-length_nops instrs n = length-append instrs (nops n) ∙ ap (λ (m : ℕ). length instrs + m) (length-replicate n Nop)
+rule_nops initial instrs n r k = behind_nops (look_back (rule_change r initial) initial 0) (λ earlier. refl) [] instrs n k
 
 pub initial_cfa_nops : (instrs : List Instr) (n : ℕ) → initial_cfa (instrs ++ nops n) ≡ initial_cfa instrs
-initial_cfa_nops instrs n =
-    cfa_nops cfa.Unset instrs n (length (instrs ++ nops n)) ∙ ap (λ (m : ℕ). cfa_after cfa.Unset instrs m) (length_nops instrs n)
-    ∙ ap (look_back cfa_change cfa.Unset 0) (past_end [] instrs (length instrs + n) (omega arith))
+initial_cfa_nops instrs n = all_behind (look_back cfa_change cfa.Unset 0) (λ earlier. refl) instrs n
 
 pub initial_rule_nops : (instrs : List Instr) (n r : ℕ) → initial_rule (instrs ++ nops n) r ≡ initial_rule instrs r
-initial_rule_nops instrs n r =
-    rule_nops Unspecified instrs n r (length (instrs ++ nops n)) ∙ ap (λ (m : ℕ). rule_after Unspecified instrs r m) (length_nops instrs n)
-    ∙ ap (look_back (rule_change r Unspecified) Unspecified 0) (past_end [] instrs (length instrs + n) (omega arith))
+initial_rule_nops instrs n r = all_behind (look_back (rule_change r Unspecified) Unspecified 0) (λ earlier. refl) instrs n
 
-location_end : (begin : ℕ) (earlier : List Instr) (n k : ℕ) → location_back begin (onto earlier (nops n) k) ≡ location_back begin earlier
-location_end begin earlier zero k = ap (location_back begin) (none_left earlier k)
-location_end begin earlier (suc n) zero = refl
-location_end begin earlier (suc n) (suc k) = location_end begin (Nop ∷ earlier) n k
+location_nops : (begin : ℕ) (instrs : List Instr) (n k : ℕ) → location begin (instrs ++ nops n) k ≡ location begin instrs k
+location_nops begin instrs n k = behind_nops (location_back begin) (λ earlier. refl) [] instrs n k
 
-location_behind : (begin : ℕ) (earlier instrs : List Instr) (n k : ℕ) → location_back begin (onto earlier (instrs ++ nops n) k) ≡ location_back begin (onto earlier instrs k)
-location_behind begin earlier [] n k = location_end begin earlier n k ∙ ap (location_back begin) (sym (none_left earlier k))
-location_behind begin earlier (i ∷ instrs) n zero = refl
-location_behind begin earlier (i ∷ instrs) n (suc k) = location_behind begin (i ∷ earlier) instrs n k
-
-pub location_nops : (begin : ℕ) (instrs : List Instr) (n k : ℕ) → location begin (instrs ++ nops n) k ≡ location begin instrs k
-location_nops begin instrs n k = location_behind begin [] instrs n k
-
-pub location_past : (begin : ℕ) (instrs : List Instr) (k : ℕ) → length instrs ≤ k → location begin instrs k ≡ location begin instrs (length instrs)
-location_past begin instrs k le = ap (location_back begin) (past_end [] instrs k le)
-
--- ---- what counts at an address
-
-stays_nops : (begin : ℕ) (instrs : List Instr) (n a k : ℕ) → StaysAt begin instrs a k → StaysAt begin (instrs ++ nops n) a k
-stays_nops begin instrs n a k h j le = rw (location_nops begin instrs n j) (h j le)
-
-stays_less : (begin : ℕ) (instrs : List Instr) (n a k : ℕ) → StaysAt begin (instrs ++ nops n) a k → StaysAt begin instrs a k
-stays_less begin instrs n a k h j le = let p = h j le in let e = location_nops begin instrs n j in omega arith
-
-stays_past : (begin : ℕ) (instrs : List Instr) (a k : ℕ) → StaysAt begin instrs a (length instrs) → StaysAt begin instrs a k
-stays_past begin instrs a k h j le = elim (cases_lt j (length instrs)) [
-  | inl lt ↦ h j (omega arith)
-  | inr past ↦ let p = h (length instrs) (omega arith) in let e = location_past begin instrs j past in omega arith
+-- behind its end a program is as at its end
+within : (instrs : List Instr) (k : ℕ) → (m : ℕ) × (m ≤ length instrs) × (onto [] instrs k ≡ onto [] instrs m) × (take k instrs ≡ take m instrs) × (m ≤ k) × ((j : ℕ) → j ≤ length instrs → j ≤ k → j ≤ m)
+within instrs k = elim (cases_lt k (length instrs)) [
+  | inl less ↦ (k, omega arith, refl, refl, omega arith, λ j all le. le)
+  | inr past ↦ (length instrs, omega arith, past_end [] instrs k past, take_all k instrs past ∙ sym (take_all (length instrs) instrs (omega arith)), past, λ j all le. all)
 ]
 
--- a program with nops behind it: as many instructions count, or all of both
-pub record CountsToo (begin : ℕ) (instrs others : List Instr) (a k : ℕ) : Type 0 where
-  pub other : ℕ
-  pub counts : Counts begin others a other
-  pub same : back_from instrs k ≡ back_from instrs other
-
-pub counts_nops : (begin : ℕ) (instrs : List Instr) (n a k : ℕ) → Counts begin instrs a k → CountsToo begin instrs (instrs ++ nops n) a k
-counts_nops begin instrs n a k h = elim (cases_lt k (length instrs)) [
-  | inl lt ↦ record {
-    other = k;
-    counts = record {
-      in_program = omega (arith, length_nops instrs n);
-      stays = stays_nops begin instrs n a k h.stays;
-      greatest = λ m le all. elim (cases_lt (length instrs) m) [
-        | inl more ↦ let few = h.greatest (length instrs) (omega arith) (λ j jle. stays_less begin instrs n a m all j (omega arith)) in absurd (omega arith)
-        | inr less ↦ h.greatest m less (stays_less begin instrs n a m all)
-      ];
-    };
-    same = refl;
-  }
-  | inr all ↦
-      let whole : k ≡ length instrs = omega (arith, h.in_program) in
-      let end : StaysAt begin instrs a (length instrs) = subst (StaysAt begin instrs a) whole h.stays in
-      record {
-        other = length instrs + n;
-        counts = record {
-          in_program = omega (arith, length_nops instrs n);
-          stays = stays_nops begin instrs n a (length instrs + n) (stays_past begin instrs a (length instrs + n) end);
-          greatest = λ m le stays. omega (arith, length_nops instrs n);
-        };
-        same = ap (onto [] instrs) whole ∙ sym (past_end [] instrs (length instrs + n) (omega arith));
-      }
-]
+-- with nops behind a program as many of its instructions count at an address
+pub counts_nops : (begin : ℕ) (instrs : List Instr) (n a j k : ℕ) → Counts begin instrs a j → Counts begin (instrs ++ nops n) a k → back_from instrs j ≡ back_from instrs k
+counts_nops begin instrs n a j k h g =
+    let w = within instrs k in
+    let counts : Counts begin instrs a w.0 = record {
+      in_program = w.1;
+      stays = λ m le. rw (location_nops begin instrs n m) at (g.stays m (omega (arith, le, w.4)));
+      greatest = λ m le all. w.5 m le (g.greatest m (omega (arith, le, length-append instrs (nops n))) (λ i few. rw (location_nops begin instrs n i) (all i few)));
+    } in
+    ap (onto [] instrs) (one_count begin instrs a j w.0 h counts) ∙ sym w.2
 
 -- ---- what a program has to keep
 
@@ -150,13 +88,10 @@ all_nops P [] zero is h = tt
 all_nops P [] (suc n) is h = (is, all_nops P [] n is tt)
 all_nops P (i ∷ instrs) n is h = (h.0, all_nops P instrs n is h.1)
 
-no_nop : (n k : ℕ) (i : Instr) → slice_get (nops n) k ≡ Some i → i ≡ Nop
-no_nop zero k i e = absurd cc
-no_nop (suc n) zero i e = let same : Nop ≡ i = cc in sym same
-no_nop (suc n) (suc k) i e = no_nop n k i e
-
 get_nops : (instrs : List Instr) (n k : ℕ) (i : Instr) → slice_get (instrs ++ nops n) k ≡ Some i → IsTrue (keeps_half i) → slice_get instrs k ≡ Some i
-get_nops [] n k i e keeps = let is = no_nop n k i e in let bad : IsTrue (keeps_half Nop) = subst (λ (x : Instr). IsTrue (keeps_half x)) is keeps in absurd cc
+get_nops [] zero k i e keeps = e
+get_nops [] (suc n) zero i e keeps = let is : i ≡ Nop = cc in let bad : IsTrue (keeps_half Nop) = rw is at keeps in absurd cc
+get_nops [] (suc n) (suc k) i e keeps = get_nops [] n k i e keeps
 get_nops (j ∷ instrs) n zero i e keeps = e
 get_nops (j ∷ instrs) n (suc k) i e keeps = get_nops instrs n k i e keeps
 
@@ -181,32 +116,15 @@ module _ (p : Instr → Bool) (none : p Nop ≡ false) where
   count_nops (i ∷ instrs) n zero = refl
   count_nops (i ∷ instrs) n (suc k) = sum_by-cons one i (take k (instrs ++ nops n)) ∙ ap (λ (m : ℕ). one i + m) (count_nops instrs n k) ∙ sym (sum_by-cons one i (take k instrs))
 
-  pub all_nops_counted : (instrs : List Instr) (n : ℕ) → count_by p (instrs ++ nops n) ≡ count_by p instrs
-  all_nops_counted instrs n =
-      let both : count_by p (instrs ++ nops n) ≡ count_by p instrs + count_by p (nops n) = sum_by-append one instrs (nops n) in
-      omega (arith, both, none_counted n)
-
 pub row_starts_nops : (instrs : List Instr) (n : ℕ) → row_starts (instrs ++ nops n) ≡ row_starts instrs
-row_starts_nops instrs n = ap (λ (m : ℕ). 1 + m) (all_nops_counted moves_location refl instrs n)
-
--- behind its end a program is as at its end
-within : (instrs : List Instr) (k : ℕ) → (m : ℕ) × (m ≤ length instrs) × (onto [] instrs k ≡ onto [] instrs m) × (take k instrs ≡ take m instrs)
-within instrs k = elim (cases_lt k (length instrs)) [
-  | inl less ↦ (k, omega arith, refl, refl)
-  | inr past ↦ (length instrs, omega arith, past_end [] instrs k past, take_all k instrs past ∙ sym (take_all (length instrs) instrs (omega arith)))
-]
+row_starts_nops instrs n = omega (arith, sum_by-append (one moves_location refl) instrs (nops n), none_counted moves_location refl n)
 
 pub fde_kept_nops : (limit begin : ℕ) (initial : CfaRule) (instrs : List Instr) (n : ℕ) → FdeKept limit begin initial instrs → FdeKept limit begin initial (instrs ++ nops n)
 fde_kept_nops limit begin initial instrs n h = record {
   halves = halves_nops initial instrs n h.halves;
   forwards = λ k lt. elim (cases_lt k (length instrs)) [
     | inl less ↦ rw (location_nops begin instrs n k, location_nops begin instrs n (k + 1)) (h.forwards k less)
-    | inr past ↦
-        let a = location_nops begin instrs n k in
-        let b = location_nops begin instrs n (k + 1) in
-        let c = location_past begin instrs k past in
-        let d = location_past begin instrs (k + 1) (omega arith) in
-        omega arith
+    | inr past ↦ rw (location_nops begin instrs n k, location_nops begin instrs n (k + 1), ap (location_back begin) (past_end [] instrs k past), ap (location_back begin) (past_end [] instrs (k + 1) (omega arith))) (omega arith)
   ];
   in_space = λ k le. let w = within instrs k in rw (location_nops begin instrs n k, ap (location_back begin) w.2) (h.in_space w.0 w.1);
   matched = λ k le. let w = within instrs k in rw (count_nops is_restore refl instrs n k, count_nops is_remember refl instrs n k, w.3) (h.matched w.0 w.1);

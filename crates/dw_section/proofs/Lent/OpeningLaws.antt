@@ -1,37 +1,18 @@
 -- FDEs that begin with one row of a CIE begin with the same row, and each later row specifies what that does.
-use Rattle.std.proofs.Common.{◌≡◌, ℕ, suc, ◌<◌, ◌≤◌, List, [], ◌∷◌, Option, sym, ◌∙◌, subst, arith}
-use Rattle.std.specs.Prelude.{IsTrue, ℤ}
-use Rattle.std.specs.List.{AllByRecursion}
-use Rattle.dw_num.specs.declared.target.Target.{Target}
-use Rattle.dw_num.specs.Input.{AreBytes}
-use Rattle.dw_cfa.specs.declared.instr.Instr.{Instr}
-use Rattle.dw_cfa.specs.declared.rule.RegRule.{RegRule}
-use Rattle.dw_cfa.specs.Laws.{initial_cfa, initial_rule}
-use Rattle.dw_cfa.specs.Opening.{first_row, row_with}
-use Rattle.dw_cfa.specs.Rows.{Rules, AreSpecified, is_specified, rule}
-use Rattle.dw_cfa.proofs.Lent.InstrCounts.{counts_exists}
+use Rattle.dw_section.proofs.Words.{◌≡◌, ℕ, suc, ◌<◌, ◌≤◌, List, [], ◌∷◌, Option, sym, ◌∙◌, subst, arith, IsTrue, ℤ, AllByRecursion, Target, AreBytes, Instr, RegRule, initial_cfa, initial_rule, first_row, row_with, Rules, AreSpecified}
+use Rattle.dw_section.proofs.Words.{is_specified, rule, counts_exists, same_rows, Fde, Accepted, AreChanges, HoldsAt, Head, ChangesOf, CieRow, OpensBehind, Begins, factors_of}
 use Rattle.dw_cfa.proofs.Lent.Openings.{AllSet, all_set, cfa_with, first_cfa, first_rule, stays_specified}
-use Rattle.dw_cfa.proofs.Lent.SameRows.{same_rows}
-use Rattle.dw_section.specs.declared.lookup.Fde.{Fde}
-use Rattle.dw_section.specs.Accepted.{Accepted}
-use Rattle.dw_section.specs.Changes.{AreChanges, ChangesBehind, HoldsAt}
-use Rattle.dw_section.specs.Headers.{Head}
-use Rattle.dw_section.specs.Meaning.{ChangesOf}
-use Rattle.dw_section.specs.declared.opening.CieRow.{CieRow}
-use Rattle.dw_section.specs.Opening.{OpensBehind}
-use Rattle.dw_section.specs.Programs.{Begins, factors_of}
 use Rattle.dw_section.proofs.Lent.Heads.{heads_bytes, heads_rise, one_begin}
 use Rattle.dw_section.proofs.Lent.HeaderLaws.{one_headers}
 use Rattle.dw_section.proofs.Lent.Sections.{one_programs}
+use Rattle.dw_section.proofs.Lent.Sounds.{Held, held_behind}
+use Rattle.dw_section.proofs.Stages.{all_weaker}
 
 -- the row that these instructions of a CIE leave, with this offset of the CFA where there is one
 pub record IsLeft (initial : List Instr) (offset : Option ℤ) (row : Rules) : Type 0 where
   pub cfa : row.cfa ≡ cfa_with offset (initial_cfa initial)
   pub rules : (r : ℕ) → rule row r ≡ initial_rule initial r
   pub listed : AreSpecified 0 row.registers
-
-left_one : (initial : List Instr) (offset : Option ℤ) (row other : Rules) → IsLeft initial offset row → IsLeft initial offset other → row ≡ other
-left_one initial offset row other h k = same_rows row other h.listed k.listed (h.cfa ∙ sym k.cfa) (λ r. h.rules r ∙ sym (k.rules r))
 
 -- a row specifies every register that another one does
 abbrev pub Specifies : Rules → Rules → Type 0
@@ -44,19 +25,12 @@ module _ (initial instrs : List Instr) (offset : Option ℤ) (begin : ℕ) where
       let h = holds c.0 c.1 in
       record { cfa = h.cfa ∙ first_cfa (initial_cfa initial) begin offset instrs c.0 first c.1; rules = λ r. h.rules r ∙ first_rule (initial_rule initial r) begin offset instrs r c.0 first c.1; listed = h.listed }
 
-  module _ (first : Rules) (left : IsLeft initial offset first) (all : AllSet instrs) where
-    specifies : (a : ℕ) (row : Rules) → begin ≤ a → HoldsAt initial instrs begin a row → Specifies row first
-    specifies a row le holds r some =
-        let c = counts_exists begin instrs a le in
-        let h = holds c.0 c.1 in
-        let there : IsTrue (is_specified (initial_rule initial r)) = subst (λ (x : RegRule). IsTrue (is_specified x)) (left.rules r) some in
-        subst (λ (x : RegRule). IsTrue (is_specified x)) (sym (h.rules r)) (stays_specified r (initial_rule initial r) there instrs c.0 all)
-
-    later_specify : (end low : ℕ) (changes : List (ℕ × Rules)) → begin ≤ low → ChangesBehind initial instrs begin end low changes → AllByRecursion (λ (change : ℕ × Rules). Specifies change.1 first) changes
-    later_specify end low [] le h = tt
-    later_specify end low (change ∷ changes) le h =
-        let from : begin ≤ suc h.0 = omega (arith, h.2) in
-        (specifies (suc h.0) change.1 from h.6, later_specify end (suc h.0) changes from h.7)
+  specifies : (first : Rules) → IsLeft initial offset first → AllSet instrs → (a : ℕ) (row : Rules) → begin ≤ a → HoldsAt initial instrs begin a row → Specifies row first
+  specifies first left all a row le holds r some =
+      let c = counts_exists begin instrs a le in
+      let h = holds c.0 c.1 in
+      let there : IsTrue (is_specified (initial_rule initial r)) = subst (λ (x : RegRule). IsTrue (is_specified x)) (left.rules r) some in
+      subst (λ (x : RegRule). IsTrue (is_specified x)) (sym (h.rules r)) (stays_specified r (initial_rule initial r) there instrs c.0 all)
 
 -- the row at the begin, and those behind it
 pub record Opened (initial : List Instr) (offset : Option ℤ) (first : ℕ × Rules) (later : List (ℕ × Rules)) : Type 0 where
@@ -64,17 +38,15 @@ pub record Opened (initial : List Instr) (offset : Option ℤ) (first : ℕ × R
   pub specify : AllByRecursion (λ (change : ℕ × Rules). Specifies change.1 first.1) later
 
 module _ (target : Target) (s : List ℕ) (b : AreBytes s) (ok : Accepted target s) where
-  opened_changes : (f : Fde) (row : CieRow) (first : ℕ × Rules) (later : List (ℕ × Rules)) (o : OpensBehind target s f row) → AreChanges o.initial o.instrs f.begin f.end (first ∷ later) → Opened o.initial row.cfa_offset first later
-  opened_changes f row first later o changes =
-      let left = first_left o.initial o.instrs row.cfa_offset f.begin first.1 o.first changes.1 in
-      let all = all_set target (factors_of o.says.spelled.head) o.instrs o.says.head.program.bytes o.says.spelled.spelled in
-      record { left = left; specify = later_specify o.initial o.instrs row.cfa_offset f.begin first.1 left all f.end f.begin later (omega arith) changes.2 }
-
   pub opened : (f : Fde) (row : CieRow) (first : ℕ × Rules) (later : List (ℕ × Rules)) (o : OpensBehind target s f row) → f.begin < f.end → ChangesOf target s f (first ∷ later) → Opened o.initial row.cfa_offset first later
   opened f row first later o some changes =
       let same = one_programs target s b ok f.begin f.begin f.end f.begin f.end changes.initial changes.instrs o.initial o.instrs (omega arith) some (omega arith) some changes.says o.says in
-      opened_changes f row first later o
-      (subst (λ (j : List Instr). AreChanges o.initial j f.begin f.end (first ∷ later)) same.instrs (subst (λ (i : List Instr). AreChanges i changes.instrs f.begin f.end (first ∷ later)) same.initials changes.change))
+      let mine = subst (λ (j : List Instr). AreChanges o.initial j f.begin f.end (first ∷ later)) same.instrs (subst (λ (i : List Instr). AreChanges i changes.instrs f.begin f.end (first ∷ later)) same.initials changes.change) in
+      let left = first_left o.initial o.instrs row.cfa_offset f.begin first.1 o.first mine.1 in
+      let all = all_set target (factors_of o.says.spelled.head) o.instrs o.says.head.program.bytes o.says.spelled.spelled in
+      let specify : (change : ℕ × Rules) → Held o.initial o.instrs f.begin f.end change → Specifies change.1 first.1 = λ change held. specifies o.initial o.instrs row.cfa_offset f.begin first.1 left all change.0 change.1 held.0 held.2 in
+      let later_held = held_behind o.initial o.instrs f.begin f.end f.begin later (omega arith) mine.2 in
+      record { left = left; specify = all_weaker (Held o.initial o.instrs f.begin f.end) (λ (change : ℕ × Rules). Specifies change.1 first.1) specify later later_held }
 
   -- two FDEs of one CIE, with one offset of the CFA
   pub one_initial : (f g : Fde) (row : CieRow) (o : OpensBehind target s f row) (p : OpensBehind target s g row) → o.initial ≡ p.initial
@@ -86,4 +58,5 @@ module _ (target : Target) (s : List ℕ) (b : AreBytes s) (ok : Accepted target
 
   pub one_first : (f g : Fde) (row : CieRow) (first other : ℕ × Rules) (later more : List (ℕ × Rules)) (o : OpensBehind target s f row) (p : OpensBehind target s g row) → Opened o.initial row.cfa_offset first later → Opened p.initial row.cfa_offset other more → first.1 ≡ other.1
   one_first f g row first other later more o p h k =
-      left_one p.initial row.cfa_offset first.1 other.1 (subst (λ (l : List Instr). IsLeft l row.cfa_offset first.1) (one_initial f g row o p) h.left) k.left
+      let left = subst (λ (l : List Instr). IsLeft l row.cfa_offset first.1) (one_initial f g row o p) h.left in
+      same_rows first.1 other.1 left.listed k.left.listed (left.cfa ∙ sym k.left.cfa) (λ r. left.rules r ∙ sym (k.left.rules r))

@@ -1,7 +1,5 @@
 -- Rules of a row that fits.
-use Rattle.std.proofs.Common.{ℕ, List, [], ◌∷◌, ◌<◌, nat_eq}
-use Rattle.dw_section.proofs.Words.{AllByRecursion, Target, RegRule, Rules, rule_in, rule, RuleFits, RowFits}
-use Rattle.std.proofs.lemmas.Bool.{cond_both}
+use Rattle.dw_section.proofs.Words.{ℕ, List, [], ◌∷◌, ◌<◌, nat_eq, AllByRecursion, Target, RegRule, Rules, rule_in, rule, RuleFits, RowFits, cond_both}
 
 in_fits : (t : Target) (xs : List (ℕ × RegRule)) (r : ℕ) → AllByRecursion (λ (entry : ℕ × RegRule). (entry.0 < 65536) × RuleFits t entry.1) xs → RuleFits t (rule_in xs r)
 in_fits t [] r h = tt

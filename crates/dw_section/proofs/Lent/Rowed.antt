@@ -1,29 +1,19 @@
 -- The changes of an FDE determine its rules at each address, and its rules determine its changes.
-use Rattle.std.proofs.Common.{◌≡◌, ℕ, zero, suc, ◌+◌, ◌-◌, ◌<◌, ◌≤◌, List, [], ◌∷◌, refl, sym, ap, subst, ◌∙◌, arith, inl, inr}
-use Rattle.std.proofs.lemmas.Bool.{cases_lt, cases_order, lt-ltb, le-ltb}
-use Rattle.dw_section.proofs.Words.{Instr, Rules, StayFrom, HoldsAt, ChangesBehind, AreChanges, AgreeAt, Agree, row_among}
-use Rattle.dw_cfa.proofs.Lent.InstrCounts.{counts_exists}
-use Rattle.dw_cfa.proofs.Lent.SameRows.{same_rows}
-use Rattle.dw_section.specs.Changes.{Stays}
+use Rattle.dw_section.proofs.Words.{◌≡◌, ℕ, zero, suc, ◌<◌, ◌≤◌, List, [], ◌∷◌, refl, sym, ap, subst, ◌∙◌, arith, inl, inr, cases_lt, cases_order, lt-ltb, le-ltb, Instr, Rules, StayFrom, HoldsAt, ChangesBehind, AreChanges, AgreeAt, Agree}
+use Rattle.dw_section.proofs.Words.{row_among, counts_exists, same_rows}
 
 module _ (i j : List Instr) (begin : ℕ) where
-  stays_row : (a : ℕ) (row : Rules) → begin ≤ a → Stays i j begin a (suc a) → HoldsAt i j begin a row → HoldsAt i j begin (suc a) row
-  stays_row a row le stays h k counts =
-      let c = counts_exists begin j a le in
-      let same = stays c.0 k c.1 counts in
-      let here = h c.0 c.1 in
-      record { cfa = here.cfa ∙ same.cfa; rules = λ r. here.rules r ∙ same.rules r; listed = here.listed }
-
   -- a row holds on while nothing changes
-  stay_row : (low high n : ℕ) (row : Rules) → begin ≤ low → StayFrom i j begin low high → low + n < high → HoldsAt i j begin low row → HoldsAt i j begin (low + n) row
-  stay_row low high zero row le stay lt h = let e : low ≡ low + 0 = omega arith in subst (λ (a : ℕ). HoldsAt i j begin a row) e h
-  stay_row low high (suc n) row le stay lt h =
-      let before = stay_row low high n row le stay (omega arith) h in
-      let e : suc (low + n) ≡ low + suc n = omega arith in
-      subst (λ (a : ℕ). HoldsAt i j begin a row) e (stays_row (low + n) row (omega arith) (stay (low + n) (omega arith) (omega arith)) before)
-
   pub holds_on : (low high a : ℕ) (row : Rules) → begin ≤ low → StayFrom i j begin low high → low ≤ a → a < high → HoldsAt i j begin low row → HoldsAt i j begin a row
-  holds_on low high a row le stay from below h = let e : low + (a - low) ≡ a = omega arith in subst (λ (b : ℕ). HoldsAt i j begin b row) e (stay_row low high (a - low) row le stay (omega arith) h)
+  holds_on low high zero row le stay from below h = let e : low ≡ zero = omega arith in subst (λ (b : ℕ). HoldsAt i j begin b row) e h
+  holds_on low high (suc a) row le stay from below h = elim (cases_lt a low) [
+    | inl less ↦ let e : low ≡ suc a = omega arith in subst (λ (b : ℕ). HoldsAt i j begin b row) e h
+    | inr more ↦ λ k counts.
+        let c = counts_exists begin j a (omega arith) in
+        let same = stay a more below c.0 k c.1 counts in
+        let here = holds_on low high a row le stay more (omega arith) h c.0 c.1 in
+        record { cfa = here.cfa ∙ same.cfa; rules = λ r. here.rules r ∙ same.rules r; listed = here.listed }
+  ]
 
   behind_row : (end low a : ℕ) (before : Rules) (changes : List (ℕ × Rules)) → begin ≤ low → low ≤ a → a < end → HoldsAt i j begin low before → ChangesBehind i j begin end low changes → HoldsAt i j begin a (row_among a before changes)
   behind_row end low a before [] le from below h c = holds_on low end a before le c from below h
@@ -38,10 +28,7 @@ module _ (i j : List Instr) (begin : ℕ) where
 
 -- a row that holds at an address of both makes them agree there
 pub agree_row : (begin a : ℕ) (i j k l : List Instr) (row : Rules) → HoldsAt i j begin a row → HoldsAt k l begin a row → AgreeAt begin i j k l a
-agree_row begin a i j k l row v w x y cx cy =
-    let p = v x cx in
-    let q = w y cy in
-    record { cfa = sym p.cfa ∙ q.cfa; rules = λ r. sym (p.rules r) ∙ q.rules r }
+agree_row begin a i j k l row v w x y cx cy = record { cfa = sym (v x cx).cfa ∙ (w y cy).cfa; rules = λ r. sym ((v x cx).rules r) ∙ (w y cy).rules r }
 
 -- programs with the same changes agree
 pub agree_changes : (begin end : ℕ) (i j k l : List Instr) (changes : List (ℕ × Rules)) → AreChanges i j begin end changes → AreChanges k l begin end changes → Agree begin end i j k l

@@ -1,18 +1,15 @@
 -- Two accepted sections with the same FDEs, whose programs agree, say the same.
-use Rattle.std.proofs.Common.{◌≡◌, ℕ, ◌<◌, List, subst, arith}
-use Rattle.dw_section.proofs.Words.{Target, AreBytes, Instr, Rules, Accepted, AreChanges, Says, AreFdes, RulesAt, ChangesOf, Agree, SameMeaning, IsAmong, Fde}
+use Rattle.dw_section.proofs.Words.{◌≡◌, ℕ, ◌<◌, List, subst, arith, Target, AreBytes, Instr, Rules, Accepted, Says, AreFdes, RulesAt, ChangesOf, Agree, SameMeaning, IsAmong, Fde}
 use Rattle.dw_section.proofs.Lent.FdeLookup.{one_fdes}
 use Rattle.dw_section.proofs.Lent.Agrees.{agree_sym, holds_agree, changes_agree}
 use Rattle.dw_section.proofs.Lent.Rowed.{one_changes}
-use Rattle.dw_section.proofs.Lent.Sections.{one_programs, programs_rules, changes_programs, listed_programs, rules_covered, row_exists, one_rules}
+use Rattle.dw_section.proofs.Lent.Sections.{one_programs, programs_rules, listed_programs, rules_covered, row_exists, one_rules}
 
 -- the changes of an FDE that is not empty are one
 pub one_change_list : (target : Target) (s : List ℕ) (b : AreBytes s) (ok : Accepted target s) (f : Fde) (xs ys : List (ℕ × Rules)) → f.begin < f.end → ChangesOf target s f xs → ChangesOf target s f ys → xs ≡ ys
 one_change_list target s b ok f xs ys some v w =
-    let p = changes_programs target s b ok f xs v in
-    let q = changes_programs target s b ok f ys w in
-    let same = one_programs target s b ok f.begin f.begin f.end f.begin f.end p.0 p.1 q.0 q.1 (omega arith) some (omega arith) some p.2 q.2 in
-    one_changes q.0 q.1 f.begin f.end xs ys (subst (λ (l : List Instr). AreChanges q.0 l f.begin f.end xs) same.instrs (subst (λ (l : List Instr). AreChanges l p.1 f.begin f.end xs) same.initials p.3)) q.3
+    let same = one_programs target s b ok f.begin f.begin f.end f.begin f.end v.initial v.instrs w.initial w.instrs (omega arith) some (omega arith) some v.says w.says in
+    one_changes w.initial w.instrs f.begin f.end xs ys (rw (same.initials, same.instrs) at v.change) w.change
 
 -- programs of the same FDEs agree
 abbrev pub AllAgree : Target → List ℕ → List ℕ → List Fde → Type 0
@@ -39,19 +36,15 @@ module _ (target : Target) (s t : List ℕ) (bs : AreBytes s) (bt : AreBytes t) 
 
   pub changes_there : (f : Fde) (changes : List (ℕ × Rules)) → IsAmong f fs → ChangesOf target s f changes → ChangesOf target t f changes
   changes_there f changes listed h =
-      let p = changes_programs target s bs oks f changes h in
       let all = listed_programs target t bt okt fs f in_t listed in
       let there = all.1 in
-      let same = changes_agree f.begin f.end p.0 p.1 there.0 there.1 (agree f listed p.0 p.1 there.0 there.1 p.2 there.2) changes all.0 p.3 in
-      record { initial = there.0; instrs = there.1; says = there.2; change = same }
-
-  fdes_there : (gs : List Fde) → AreFdes target s gs → AreFdes target t gs
-  fdes_there gs h = subst (AreFdes target t) (one_fdes target s fs gs in_s h) in_t
+      let agrees = agree f listed h.initial h.instrs there.0 there.1 h.says there.2 in
+      record { initial = there.0; instrs = there.1; says = there.2; change = changes_agree f.begin f.end h.initial h.instrs there.0 there.1 agrees changes all.0 h.change }
 
 module _ (target : Target) (s t : List ℕ) (bs : AreBytes s) (bt : AreBytes t) (oks : Accepted target s) (okt : Accepted target t) (fs : List Fde)
     (in_s : AreFdes target s fs) (in_t : AreFdes target t fs) (agree : AllAgree target s t fs) where
   pub same_meaning : SameMeaning target s t
   same_meaning = record {
-    fdes = λ gs. (fdes_there target s t bs bt oks okt fs in_s in_t agree gs, fdes_there target t s bt bs okt oks fs in_t in_s (all_agree_sym target s t fs agree) gs);
+    fdes = λ gs. (λ h. subst (AreFdes target t) (one_fdes target s fs gs in_s h) in_t, λ h. subst (AreFdes target s) (one_fdes target t fs gs in_t h) in_s);
     rules = λ a row. (rules_there target s t bs bt oks okt fs in_s in_t agree a row, rules_there target t s bt bs okt oks fs in_t in_s (all_agree_sym target s t fs agree) a row);
   }

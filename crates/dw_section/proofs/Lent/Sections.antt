@@ -1,14 +1,12 @@
 -- Laws of a section that is accepted: what it says of an FDE is one thing, and each address has rules.
-use Rattle.std.proofs.Common.{◌≡◌, ℕ, ◌+◌, ◌<◌, ◌≤◌, List, [], ◌∷◌, refl, sym, ap, subst, ◌∙◌, arith, inl, inr, true}
-use Rattle.dw_section.proofs.Words.{AllByRecursion, AllZip, Target, AreBytes, address_limit, Instr, HoldsAfter, Rules, Accepted, HoldsAt, AreChanges, is_among, Head, Headers, CieHead, FdeHead, cie}
-use Rattle.dw_section.proofs.Words.{fde, HeadsRise, HasBytes, FdeFits, cie_ats, Says, Lists, AreFdes, RulesAt, ChangesOf, Covers, Range, nonempty, IsIndex, AreApart, end_of, range_of, FdeRuns}
-use Rattle.dw_section.proofs.Words.{HasRules, Instrs, HasCfa, IsAmong, Fde}
-use Rattle.std.proofs.lemmas.Bool.Decides.{eqb_tells}
-use Rattle.dw_cfa.proofs.Lent.InstrCounts.{counts_exists, one_count}
+use Rattle.dw_section.proofs.Words.{◌≡◌, ℕ, ◌+◌, ◌<◌, ◌≤◌, List, [], ◌∷◌, refl, sym, ap, subst, ◌∙◌, arith, inl, inr, AllByRecursion, AllZip, Target, AreBytes, address_limit, Instr, HoldsAfter, Rules, Accepted, HoldsAt, AreChanges, Head}
+use Rattle.dw_section.proofs.Words.{Headers, CieHead, FdeHead, cie, fde, HeadsRise, HasBytes, FdeFits, cie_ats, Says, Lists, AreFdes, RulesAt, ChangesOf, Covers, Range, nonempty, AreApart, end_of, range_of, FdeRuns, HasRules, Instrs}
+use Rattle.dw_section.proofs.Words.{HasCfa, IsAmong, Fde, counts_exists, one_count}
 use Rattle.dw_section.proofs.Lent.CheckFirst.{one_instrs}
 use Rattle.dw_section.proofs.Lent.HeaderLaws.{one_headers}
 use Rattle.dw_section.proofs.Lent.Heads.{all_in, heads_rise, heads_bytes, heads_fit, one_among, fde_or}
-use Rattle.dw_section.proofs.Lent.Index.{all_from, one_index, with_range_so, zip_left, zip_right}
+use Rattle.dw_section.proofs.Lent.Index.{all_from, with_range_so, zip_left, zip_right}
+use Rattle.dw_section.proofs.Lent.FdeLookup.{along}
 use Rattle.dw_section.proofs.Lent.Rowed.{one_row}
 use Rattle.dw_section.proofs.FdeRows.{given}
 use Rattle.dw_section.proofs.Lent.ChangeLaws.{Given, row_there, holds_at}
@@ -48,32 +46,9 @@ range_head (fde f ∷ hs) a i =
 pub one_cover : (rs : List Range) (x y : Range) (a : ℕ) → AreApart rs → IsAmong x rs → IsAmong y rs → x.begin ≤ a → a < end_of x → y.begin ≤ a → a < end_of y → x ≡ y
 one_cover [] x y a apart i j fx bx fy by = absurd i
 one_cover (z ∷ rs) x y a apart (inl i) (inl j) fx bx fy by = i ∙ sym j
-one_cover (z ∷ rs) x y a apart (inl i) (inr j) fx bx fy by =
-    let p = all_in (λ (w : Range). end_of z ≤ w.begin) rs y apart.0 j in
-    let e : end_of x ≡ end_of z = ap end_of i in
-    absurd (omega arith)
-one_cover (z ∷ rs) x y a apart (inr i) (inl j) fx bx fy by =
-    let p = all_in (λ (w : Range). end_of z ≤ w.begin) rs x apart.0 i in
-    let e : end_of y ≡ end_of z = ap end_of j in
-    absurd (omega arith)
+one_cover (z ∷ rs) x y a apart (inl i) (inr j) fx bx fy by = absurd (omega (arith, all_in (λ (w : Range). end_of z ≤ w.begin) rs y apart.0 j, ap end_of i))
+one_cover (z ∷ rs) x y a apart (inr i) (inl j) fx bx fy by = absurd (omega (arith, all_in (λ (w : Range). end_of z ≤ w.begin) rs x apart.0 i, ap end_of j))
 one_cover (z ∷ rs) x y a apart (inr i) (inr j) fx bx fy by = one_cover rs x y a apart.1 i j fx bx fy by
-
--- a place among those of CIEs is one of a CIE
-pub record CieOf (hs : List Head) (at : ℕ) : Type 0 where
-  pub head : CieHead
-  pub among : IsAmong (cie head) hs
-  pub stands : head.at ≡ at
-
-more_cie : (h : Head) (hs : List Head) (at : ℕ) → CieOf hs at → CieOf (h ∷ hs) at
-more_cie h hs at o = record { head = o.head; among = inr o.among; stands = o.stands }
-
-pub cie_among : (hs : List Head) (at : ℕ) → is_among at (cie_ats hs) ≡ true → CieOf hs at
-cie_among [] at e = absurd cc
-cie_among (cie c ∷ hs) at e = elim (eqb_tells c.at at) [
-  | inl is ↦ record { head = c; among = inl refl; stands = is.1 }
-  | inr not ↦ let rest : is_among at (cie_ats hs) ≡ true = rw (not.0) at e in more_cie (cie c) hs at (cie_among hs at rest)
-]
-cie_among (fde f ∷ hs) at e = more_cie (fde f) hs at (cie_among hs at e)
 
 -- ---- lists side by side
 
@@ -118,7 +93,7 @@ module _ (target : Target) (s : List ℕ) (b : AreBytes s) (ok : Accepted target
     pub end_is : end ≡ head.begin + head.range
     pub spelled : Instrs target hs head.cie_at head.program initial instrs
 
-  pub here : (begin end : ℕ) (i j : List Instr) → Says target s begin end i j → Here begin end i j
+  unfoldable pub here : (begin end : ℕ) (i j : List Instr) → Says target s begin end i j → Here begin end i j
   here begin end i j h =
       let same : h.headers ≡ hs = one_headers target s h.headers hs h.are headers_of in
       record {
@@ -133,6 +108,15 @@ module _ (target : Target) (s : List ℕ) (b : AreBytes s) (ok : Accepted target
   in_index f some among = all_in (λ (a : Range). IsAmong a index) (nonempty hs) (range_of f) ok.1.2.all (head_range hs f some among)
 
   -- at an address two FDEs are one
+  pub one_head : (a begin end from till : ℕ) (i j k l : List Instr) → begin ≤ a → a < end → from ≤ a → a < till → (v : Says target s begin end i j) (w : Says target s from till k l) → v.head ≡ w.head
+  unfolding here
+  one_head a begin end from till i j k l le lt le' lt' v w =
+      let x = here begin end i j v in
+      let y = here from till k l w in
+      let same = one_cover index (range_of x.head) (range_of y.head) a ok.2 (in_index x.head (omega (arith, x.begin_is, x.end_is)) x.among) (in_index y.head (omega (arith, y.begin_is, y.end_is)) y.among)
+      (omega (arith, x.begin_is)) (omega (arith, x.end_is)) (omega (arith, y.begin_is)) (omega (arith, y.end_is)) in
+      ap (fde_or x.head) (one_among 0 hs (fde x.head) (fde y.head) up x.among y.among (ap (λ (r : Range). r.at) same))
+
   pub record SamePrograms (begin end from till : ℕ) (i j k l : List Instr) : Type 0 where
     pub begins : begin ≡ from
     pub ends : end ≡ till
@@ -140,18 +124,13 @@ module _ (target : Target) (s : List ℕ) (b : AreBytes s) (ok : Accepted target
     pub instrs : j ≡ l
 
   pub one_programs : (a begin end from till : ℕ) (i j k l : List Instr) → begin ≤ a → a < end → from ≤ a → a < till → Says target s begin end i j → Says target s from till k l → SamePrograms begin end from till i j k l
+  unfolding here
   one_programs a begin end from till i j k l le lt le' lt' v w =
       let x = here begin end i j v in
       let y = here from till k l w in
-      let same = one_cover index (range_of x.head) (range_of y.head) a ok.2 (in_index x.head (omega (arith, x.begin_is, x.end_is)) x.among) (in_index y.head (omega (arith, y.begin_is, y.end_is)) y.among)
-      (omega (arith, x.begin_is)) (omega (arith, x.end_is)) (omega (arith, y.begin_is)) (omega (arith, y.end_is)) in
-      let heads : x.head ≡ y.head = ap (fde_or x.head) (one_among 0 hs (fde x.head) (fde y.head) up x.among y.among (ap (λ (r : Range). r.at) same)) in
-      let spelled = subst (λ (f : FdeHead). Instrs target hs f.cie_at f.program i j) heads x.spelled in
-      let program_bytes : AreBytes y.head.program.bytes = all_in HasBytes hs (fde y.head) bytes y.among in
-      let one = one_instrs target hs up bytes y.head.cie_at y.head.program i j k l program_bytes spelled y.spelled in
-      let begins : x.head.begin ≡ y.head.begin = ap (λ (f : FdeHead). f.begin) heads in
-      let ranges : x.head.range ≡ y.head.range = ap (λ (f : FdeHead). f.range) heads in
-      record { begins = omega (arith, x.begin_is, y.begin_is); ends = omega (arith, x.end_is, y.end_is); initials = one.0; instrs = one.1 }
+      let heads : x.head ≡ y.head = one_head a begin end from till i j k l le lt le' lt' v w in
+      let one = one_instrs target hs up bytes y.head.cie_at y.head.program i j k l (all_in HasBytes hs _ bytes y.among) (subst (λ (f : FdeHead). Instrs target hs f.cie_at f.program i j) heads x.spelled) y.spelled in
+      record { begins = omega (arith, x.begin_is, y.begin_is, ap (λ (f : FdeHead). f.begin) heads); ends = omega (arith, x.end_is, y.end_is, ap (λ (f : FdeHead). f.begin + f.range) heads); initials = one.0; instrs = one.1 }
 
   -- ---- programs keep what they have to
 
@@ -159,10 +138,9 @@ module _ (target : Target) (s : List ℕ) (b : AreBytes s) (ok : Accepted target
   cfa_programs begin end a i j h le lt =
       let x = here begin end i j h in
       let has = all_in (HasRules target hs) hs (fde x.head) ok.1.1.1 x.among in
-      let program_bytes : AreBytes x.head.program.bytes = all_in HasBytes hs (fde x.head) bytes x.among in
-      let one = one_instrs target hs up bytes x.head.cie_at x.head.program has.0 has.1 i j program_bytes has.2 x.spelled in
-      subst (λ (n : ℕ). HasCfa i j n a) (sym x.begin_is)
-      (subst (λ (l : List Instr). HasCfa i l x.head.begin a) one.1 (subst (λ (l : List Instr). HasCfa l has.1 x.head.begin a) one.0 (has.3 a (omega (arith, x.begin_is)) (omega (arith, x.end_is)))))
+      let one = one_instrs target hs up bytes x.head.cie_at x.head.program has.0 has.1 i j (all_in HasBytes hs _ bytes x.among) has.2 x.spelled in
+      let there = rw (one.0, one.1) at (has.3 a (omega (arith, x.begin_is)) (omega (arith, x.end_is))) in
+      subst (λ (n : ℕ). HasCfa i j n a) (sym x.begin_is) there
 
   pub begin_low : (begin end : ℕ) (i j : List Instr) → Says target s begin end i j → (begin < address_limit target.size) × (end ≤ address_limit target.size)
   begin_low begin end i j h =
@@ -203,13 +181,12 @@ module _ (target : Target) (s : List ℕ) (b : AreBytes s) (ok : Accepted target
   list_one : (a : Range) → IsAmong a index → (f : Fde) × Lists hs a f
   list_one a i =
       let o = index_head a i in
-      let fits = all_in (FdeFits target (cie_ats hs)) hs (fde o.head) (heads_fit target s hs headers_of) o.among in
-      let c = cie_among hs o.head.cie_at fits.2 in (
-        record { begin = a.begin; end = end_of a; return_register = c.head.return_register },
+      let named = (all_in (FdeRuns target hs) hs (fde o.head) ok.1.1.0.1 o.among).2 in (
+        record { begin = a.begin; end = end_of a; return_register = named.head.return_register },
         record {
           begin = refl;
           end = refl;
-          returns = record { own = o.head; named = c.head; own_among = o.among; named_among = c.among; covers = o.covers; names = sym c.stands; is = refl };
+          returns = record { own = o.head; named = named.head; own_among = o.among; named_among = named.begins.among; covers = o.covers; names = sym named.begins.stands; is = refl };
         },
       )
 
@@ -221,10 +198,7 @@ module _ (target : Target) (s : List ℕ) (b : AreBytes s) (ok : Accepted target
 
   -- the list goes by the index
   pub fdes_zip : (fs : List Fde) → AreFdes target s fs → AllZip (Lists hs) index fs
-  fdes_zip fs h =
-      let same : h.headers ≡ hs = one_headers target s h.headers hs h.are headers_of in
-      let same_index : h.index ≡ index = one_index hs h.index index (subst (λ (l : List Head). IsIndex l h.index) same h.is_index) ok.1.2 in
-      subst (λ (rs : List Range). AllZip (Lists hs) rs fs) same_index (subst (λ (l : List Head). AllZip (Lists l) h.index fs) same h.each)
+  fdes_zip fs h = along Lists target s hs h.headers index h.index fs headers_of ok.1.2 h.are h.is_index h.each
 
   -- an FDE of the list is not empty and has programs
   pub listed_programs : (fs : List Fde) (f : Fde) → AreFdes target s fs → IsAmong f fs → (f.begin < f.end) × ((i : List Instr) × (j : List Instr) × Says target s f.begin f.end i j)
@@ -233,9 +207,7 @@ module _ (target : Target) (s : List ℕ) (b : AreBytes s) (ok : Accepted target
       let lists = z.2 in
       let o = index_head z.0 z.1 in
       let runs = all_in (FdeRuns target hs) hs (fde o.head) ok.1.1.0.1 o.among in
-      let begin = lists.begin ∙ ap (λ (r : Range). r.begin) (sym o.covers) in
-      let end = lists.end ∙ ap end_of (sym o.covers) in
-      (omega (arith, lists.begin, lists.end, o.some), (runs.0, runs.1, record { headers = hs; are = headers_of; head = o.head; among = o.among; begin_is = begin; end_is = end; spelled = runs.2 }))
+      (omega (arith, lists.begin, lists.end, o.some), (runs.0, runs.1, record { headers = hs; are = headers_of; head = o.head; among = o.among; begin_is = lists.begin ∙ ap (λ (r : Range). r.begin) (sym o.covers); end_is = lists.end ∙ ap end_of (sym o.covers); spelled = runs.2 }))
 
   -- and an FDE that is not empty is in the list
   pub programs_listed : (fs : List Fde) (begin end : ℕ) (i j : List Instr) → AreFdes target s fs → begin < end → Says target s begin end i j → (f : Fde) × IsAmong f fs × (f.begin ≡ begin) × (f.end ≡ end)

@@ -1,21 +1,15 @@
 -- The rules of an accepted section fit: programs that are spelled give no others.
-use Rattle.std.proofs.Common.{◌≡◌, ℕ, zero, suc, ◌<◌, ◌≤◌, true, List, [], ◌∷◌, length, refl, sym, ap, subst, ◌∙◌, arith, inl, inr, ℤ}
-use Rattle.dw_section.proofs.Words.{AllByRecursion, Target, Factors, Instr, CfaRule, RegRule, look_back, cfa_change, rule_change, cfa_after, rule_after, Program, initial_cfa, initial_rule, onto}
-use Rattle.dw_section.proofs.Words.{Rules, AreSpecified, is_specified, rule_in, rule, HoldsAt, ChangesBehind, AreChanges, RuleFits, RowFits, ChangeFits, factors_of, Fde}
-use Rattle.std.proofs.lemmas.Bool.Decides.{eqb_tells}
-use Rattle.dw_cfa.specs.declared.instr.Instr.TheVariants.{DefCfa, DefCfaRegister, DefCfaOffset, DefCfaExpression, Set, Restore, RememberState, RestoreState}
+use Rattle.dw_section.proofs.Words.{◌≡◌, ℕ, zero, suc, ◌<◌, ◌≤◌, true, List, [], ◌∷◌, length, refl, sym, ap, subst, ◌∙◌, arith, inl, inr, AllByRecursion, Target, Factors, Instr, CfaRule, RegRule, look_back, cfa_change, rule_change}
+use Rattle.dw_section.proofs.Words.{cfa_after, rule_after, Program, initial_cfa, initial_rule, onto, Rules, AreSpecified, is_specified, rule_in, rule, HoldsAt, ChangesBehind, AreChanges, RuleFits, RowFits, ChangeFits, factors_of, Says, Fde}
+use Rattle.dw_section.proofs.Words.{eqb_tells, DefCfa, DefCfaRegister, DefCfaOffset, DefCfaExpression, Set, Restore, RememberState, RestoreState, IsOffset, BlockSpells, RuleSpells, IsSpelled, by_table, counts_exists, unlisted, HasBlock}
+use Rattle.dw_section.proofs.Words.{CfaFits, Steps, AllStep, SoundSection}
 use Rattle.dw_cfa.specs.declared.rule.CfaRule.TheVariants as cfa
 use Rattle.dw_cfa.specs.declared.rule.RegRule.TheVariants as rules
-use Rattle.dw_cfa.specs.Column.{with_register, with_offset}
-use Rattle.dw_cfa.specs.InstrSpells.{IsOffset, BlockSpells}
-use Rattle.dw_cfa.proofs.Lent.Spellings.{RuleSpells, IsSpelled, by_table}
-use Rattle.dw_cfa.proofs.Lent.InstrCounts.{counts_exists}
+use Rattle.dw_cfa.proofs.Lent.SameRows.{first_rule}
 use Rattle.dw_op.specs.Expression.{Expression}
 use Rattle.dw_section.proofs.Lent.Registers.{fdes_registers}
-use Rattle.dw_section.specs.Fits.{HasBlock, CfaFits}
-use Rattle.dw_section.specs.Inner.Sound.{Steps, AllStep, SoundSection}
 use Rattle.dw_section.proofs.Lent.Rowed.{holds_on}
-use Rattle.dw_section.proofs.Lent.Sections.{here, cfa_programs, begin_low, changes_programs, listed_programs}
+use Rattle.dw_section.proofs.Lent.Sections.{cfa_programs, begin_low, listed_programs}
 use Rattle.dw_section.proofs.Lent.Index.{all_in}
 use Rattle.dw_section.proofs.Stages.{all_weaker}
 
@@ -76,18 +70,12 @@ module _ {Rule : Type 0} (change : Instr → Rule → Rule) (initial : Rule) (P 
   back_keeps (suc inner) (RememberState ∷ earlier) h = back_keeps inner earlier h.1
   back_keeps (suc inner) (i ∷ earlier) h = back_keeps (suc inner) earlier h.1
 
-register_keeps : (t : Target) (q : ℕ) (old : CfaRule) → q < 65536 → CfaFits t old → CfaFits t (with_register q old)
-register_keeps t q (cfa.Register r n) lt h = (lt, h.1)
-register_keeps t q other lt h = h
-
-offset_keeps : (t : Target) (m : ℤ) (old : CfaRule) → IsOffset m → CfaFits t old → CfaFits t (with_offset m old)
-offset_keeps t m (cfa.Register r n) is h = (h.0, is)
-offset_keeps t m other is h = h
-
 cfa_keeps : (t : Target) (i : Instr) → Gives t i → (old : CfaRule) → CfaFits t old → CfaFits t (cfa_change i old)
 cfa_keeps t (DefCfa r n) g old h = g
-cfa_keeps t (DefCfaRegister r) g old h = register_keeps t r old g h
-cfa_keeps t (DefCfaOffset n) g old h = offset_keeps t n old g h
+cfa_keeps t (DefCfaRegister r) g (cfa.Register q n) h = (g, h.1)
+cfa_keeps t (DefCfaRegister r) g old h = h
+cfa_keeps t (DefCfaOffset n) g (cfa.Register r m) h = (h.0, g)
+cfa_keeps t (DefCfaOffset n) g old h = h
 cfa_keeps t (DefCfaExpression e) g old h = g
 cfa_keeps t i g old h = h
 
@@ -100,51 +88,36 @@ rule_keeps t r initial start (Set q given) g old h = elim (eqb_tells q r) [ inl 
 rule_keeps t r initial start (Restore q) g old h = elim (eqb_tells q r) [ inl is ↦ rw (is.0) start | inr not ↦ rw (not.0) h ]
 rule_keeps t r initial start i g old h = h
 
-module _ (t : Target) (i j : List Instr) (gi : AllByRecursion (Gives t) i) (gj : AllByRecursion (Gives t) j) where
-  first_cfa : CfaFits t (initial_cfa i)
-  first_cfa = back_keeps cfa_change cfa.Unset (CfaFits t) (Gives t) (cfa_keeps t) tt 0 (onto [] i (length i)) (all_onto (Gives t) [] i (length i) tt gi)
+cfa_found : (t : Target) (initial : CfaRule) (instrs : List Instr) (k : ℕ) → CfaFits t initial → AllByRecursion (Gives t) instrs → CfaFits t (cfa_after initial instrs k)
+cfa_found t initial instrs k start g = back_keeps cfa_change initial (CfaFits t) (Gives t) (cfa_keeps t) start 0 (onto [] instrs k) (all_onto (Gives t) [] instrs k tt g)
 
-  after_cfa : (k : ℕ) → CfaFits t (cfa_after (initial_cfa i) j k)
-  after_cfa k = back_keeps cfa_change (initial_cfa i) (CfaFits t) (Gives t) (cfa_keeps t) first_cfa 0 (onto [] j k) (all_onto (Gives t) [] j k tt gj)
-
-  first_rule : (r : ℕ) → Fitting t r (initial_rule i r)
-  first_rule r =
-      let none : Fitting t r rules.Unspecified = (tt, λ e. absurd cc) in
-      back_keeps (rule_change r rules.Unspecified) rules.Unspecified (Fitting t r) (Gives t) (rule_keeps t r rules.Unspecified none) none 0 (onto [] i (length i)) (all_onto (Gives t) [] i (length i) tt gi)
-
-  after_rule : (r k : ℕ) → Fitting t r (rule_after (initial_rule i r) j r k)
-  after_rule r k = back_keeps (rule_change r (initial_rule i r)) (initial_rule i r) (Fitting t r) (Gives t) (rule_keeps t r (initial_rule i r) (first_rule r)) (first_rule r) 0 (onto [] j k) (all_onto (Gives t) [] j k tt gj)
+rule_found : (t : Target) (initial : RegRule) (instrs : List Instr) (r k : ℕ) → Fitting t r initial → AllByRecursion (Gives t) instrs → Fitting t r (rule_after initial instrs r k)
+rule_found t initial instrs r k start g = back_keeps (rule_change r initial) initial (Fitting t r) (Gives t) (rule_keeps t r initial start) start 0 (onto [] instrs k) (all_onto (Gives t) [] instrs k tt g)
 
 -- ---- rows
 
-none_below : (low r : ℕ) (xs : List (ℕ × RegRule)) → AreSpecified low xs → r < low → rule_in xs r ≡ rules.Unspecified
-none_below low r [] h lt = refl
-none_below low r (x ∷ xs) h lt = elim (eqb_tells x.0 r) [
-  | inl is ↦ absurd (omega (arith, h.0, is.1))
-  | inr not ↦ rw (not.0) (none_below (suc x.0) r xs h.2 (omega (arith, h.0)))
-]
-
 entries_fit : (t : Target) (low : ℕ) (xs : List (ℕ × RegRule)) → AreSpecified low xs → ((r : ℕ) → Fitting t r (rule_in xs r)) → AllByRecursion (λ (entry : ℕ × RegRule). (entry.0 < 65536) × RuleFits t entry.1) xs
 entries_fit t low [] h all = tt
-entries_fit t low (x ∷ xs) h all =
-    let first : rule_in (x ∷ xs) x.0 ≡ x.1 = elim (eqb_tells x.0 x.0) [ inl is ↦ rw (is.0) refl | inr not ↦ absurd (not.1 refl) ] in
-    let here = subst (Fitting t x.0) first (all x.0) in
-    ((here.1 h.1, here.0), entries_fit t (suc x.0) xs h.2 rest)
+entries_fit t low (x ∷ xs) h all = let here = subst (Fitting t x.0) (first_rule x xs) (all x.0) in ((here.1 h.1, here.0), entries_fit t (suc x.0) xs h.2 rest)
   where
     rest : (r : ℕ) → Fitting t r (rule_in xs r)
     rest r = elim (eqb_tells x.0 r) [
-      | inl is ↦ rw (none_below (suc x.0) r xs h.2 (omega (arith, is.1))) (tt, λ e. absurd cc)
+      | inl is ↦ rw (unlisted r (suc x.0) xs h.2 (omega (arith, is.1))) (tt, λ e. absurd cc)
       | inr not ↦ let same : rule_in (x ∷ xs) r ≡ rule_in xs r = rw (not.0) refl in subst (Fitting t r) same (all r)
     ]
 
-row_fits : (t : Target) (i j : List Instr) → AllByRecursion (Gives t) i → AllByRecursion (Gives t) j → (begin a : ℕ) (row : Rules) → begin ≤ a → HoldsAt i j begin a row → AreSpecified 0 row.registers → RowFits t row
-row_fits t i j gi gj begin a row le h listed =
+-- a row that has the rules at an address of an FDE
+pub row_fits : (t : Target) (s : List ℕ) (begin end a : ℕ) (i j : List Instr) (row : Rules) → Says t s begin end i j → begin ≤ a → HoldsAt i j begin a row → RowFits t row
+row_fits t s begin end a i j row h le holds =
+    let f = factors_of h.spelled.head in
+    let gi = program_all (Gives t) t f (instr_gives t f) i h.spelled.head.program.bytes h.spelled.begins.spelled in
+    let gj = program_all (Gives t) t f (instr_gives t f) j h.head.program.bytes h.spelled.spelled in
     let c = counts_exists begin j a le in
-    let here = h c.0 c.1 in
+    let here = holds c.0 c.1 in
     record {
-      cfa = subst (CfaFits t) (sym here.cfa) (after_cfa t i j gi gj c.0);
-      registers = entries_fit t 0 row.registers listed (λ r. subst (Fitting t r) (sym (here.rules r)) (after_rule t i j gi gj r c.0));
-      listed = listed;
+      cfa = subst (CfaFits t) (sym here.cfa) (cfa_found t (initial_cfa i) j c.0 (cfa_found t cfa.Unset i (length i) tt gi) gj);
+      registers = entries_fit t 0 row.registers here.listed (λ r. subst (Fitting t r) (sym (here.rules r)) (rule_found t (initial_rule i r) j r c.0 (rule_found t rules.Unspecified i r (length i) (tt, λ e. absurd cc) gi) gj));
+      listed = here.listed;
     }
 
 -- ---- changes
@@ -153,7 +126,7 @@ module _ (i j : List Instr) (begin end : ℕ) where
   abbrev pub Held : ℕ × Rules → Type 0
   Held change = (begin ≤ change.0) × (change.0 < end) × HoldsAt i j begin change.0 change.1
 
-  held_behind : (low : ℕ) (changes : List (ℕ × Rules)) → begin ≤ low → ChangesBehind i j begin end low changes → AllByRecursion Held changes
+  pub held_behind : (low : ℕ) (changes : List (ℕ × Rules)) → begin ≤ low → ChangesBehind i j begin end low changes → AllByRecursion Held changes
   held_behind low [] le c = tt
   held_behind low (change ∷ changes) le c =
       let from : begin ≤ suc c.0 = omega (arith, c.2) in (
@@ -191,25 +164,18 @@ module _ (i j : List Instr) (begin end : ℕ) where
 
 pub sound_section : SoundSection
 sound_section target s b ok fs f changes are listed h =
-    let p = changes_programs target s b ok f changes h in
-    let i = p.0 in
-    let j = p.1 in
-    let x = here target s b ok f.begin f.end i j p.2 in
-    let gi = program_all (Gives target) target (factors_of x.spelled.head) (instr_gives target (factors_of x.spelled.head)) i x.spelled.head.program.bytes x.spelled.begins.spelled in
-    let gj = program_all (Gives target) target (factors_of x.spelled.head) (instr_gives target (factors_of x.spelled.head)) j x.head.program.bytes x.spelled.spelled in
     let some = (listed_programs target s b ok fs f are listed).0 in
-    let low = begin_low target s b ok f.begin f.end i j p.2 in
-    let each : (change : ℕ × Rules) → Held i j f.begin f.end change → ChangeFits target f.end change = λ change held.
-    let c = counts_exists f.begin j change.0 held.0 in
+    let each : (change : ℕ × Rules) → Held h.initial h.instrs f.begin f.end change → ChangeFits target f.end change = λ change held.
+    let c = counts_exists f.begin h.instrs change.0 held.0 in
     let here = held.2 c.0 c.1 in (
       held.1,
-      row_fits target i j gi gj f.begin change.0 change.1 held.0 held.2 here.listed,
-      λ unset. cfa_programs target s b ok f.begin f.end change.0 i j p.2 held.0 held.1 c.0 c.1 (sym here.cfa ∙ unset),
+      row_fits target s f.begin f.end change.0 h.initial h.instrs change.1 h.says held.0 held.2,
+      λ unset. cfa_programs target s b ok f.begin f.end change.0 h.initial h.instrs h.says held.0 held.1 c.0 c.1 (sym here.cfa ∙ unset),
     ) in
     record {
       some = some;
-      in_space = low.1;
+      in_space = (begin_low target s b ok f.begin f.end h.initial h.instrs h.says).1;
       register = all_in (λ (g : Fde). g.return_register < 65536) fs f (fdes_registers target s fs are) listed;
-      each = all_weaker (Held i j f.begin f.end) (ChangeFits target f.end) each changes (held_all i j f.begin f.end changes some p.3);
-      steps = steps_all i j f.begin f.end changes p.3;
+      each = all_weaker (Held h.initial h.instrs f.begin f.end) (ChangeFits target f.end) each changes (held_all h.initial h.instrs f.begin f.end changes some h.change);
+      steps = steps_all h.initial h.instrs f.begin f.end changes h.change;
     }

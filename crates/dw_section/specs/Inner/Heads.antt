@@ -1,11 +1,12 @@
 -- What is asked of a section's headers.
-use Rattle.std.specs.Prelude.{◌≡◌, ℕ, suc, ◌+◌, ◌<◌, ◌≤◌, true, FitsSigned, List, [], ◌∷◌, Option, Some, None}
+use Rattle.std.specs.Prelude.{◌≡◌, ℕ, ◌+◌, ◌<◌, ◌≤◌, true, FitsSigned, List, Option, Some, None}
 use Rattle.std.specs.List.{filter_map}
 use Rattle.std.specs.Int.{w64}
 use Rattle.dw_num.specs.declared.target.Target.{Target}
 use Rattle.dw_num.specs.Input.{AreBytes}
 use Rattle.dw_num.specs.Span.{Span}
 use Rattle.dw_num.specs.Target.{address_limit}
+use Rattle.dw_section.specs.Inner.Places.{RiseBy}
 use Rattle.dw_section.specs.Fields.{is_among}
 use Rattle.dw_section.specs.Headers.{Head, cie, fde}
 
@@ -28,8 +29,7 @@ cie_ats hs = filter_map cie_at_of hs
 
 -- places from low on, ascending
 abbrev pub HeadsRise : ℕ → List Head → Type 0
-HeadsRise low [] = Unit {0}
-HeadsRise low (h ∷ hs) = (low ≤ head_at h) × HeadsRise (suc (head_at h)) hs
+HeadsRise low hs = RiseBy head_at low hs
 
 -- an FDE names one of these places, and its range lies in the address space
 abbrev pub FdeFits : Target → List ℕ → Head → Type 0

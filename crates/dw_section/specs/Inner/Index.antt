@@ -1,8 +1,9 @@
 -- What the code keeps of nonempty FDEs.
-use Rattle.std.specs.Prelude.{◌≡◌, ℕ, suc, ◌≤◌, ◌⊎◌, List, [], ◌∷◌, map, Option}
+use Rattle.std.specs.Prelude.{◌≡◌, ℕ, ◌≤◌, ◌⊎◌, List, map, Option}
 use Rattle.std.specs.List.{AllByRecursion}
 use Rattle.dw_num.specs.declared.target.Form.{Form}
 use Rattle.dw_num.specs.Span.{span_of, input_of}
+use Rattle.dw_section.specs.Inner.Places.{RiseBy}
 use Rattle.dw_section.specs.declared.fde_range.Ranged.{Ranged}
 use Rattle.dw_section.specs.declared.listed_fde.FoundFde.{FoundFde}
 use Rattle.dw_section.specs.Headers.{CieHead, FdeHead, Head, cie, fde}
@@ -37,8 +38,7 @@ NamesCie hs place led =
 
 -- places from low on, ascending
 abbrev pub PlacesRise : ℕ → List Range → Type 0
-PlacesRise low [] = Unit {0}
-PlacesRise low (a ∷ rs) = (low ≤ a.at) × PlacesRise (suc a.at) rs
+PlacesRise low rs = RiseBy (λ (a : Range). a.at) low rs
 
 -- two lists have the same members
 abbrev pub SameMembers : List Range → List Range → Type 0

@@ -3,13 +3,14 @@ use Rattle.std.specs.Prelude.{ℕ, List, Result, Ok}
 use Rattle.dw_num.specs.declared.refusal.Refusal.{Refusal}
 use Rattle.dw_num.specs.declared.target.Target.{Target}
 use Rattle.dw_num.specs.Input.{Input}
-use Rattle.dw_num.specs.Front.{take_at, ◌>>=◌}
+use Rattle.dw_num.specs.Front.{◌>>=◌}
 use Rattle.dw_num.specs.Span.{Span, input_of}
 use Rattle.dw_section.specs.declared.fields.CieFields.{CieFields}
 use Rattle.dw_section.specs.declared.fields.FdeFields.{FdeFields}
-use Rattle.dw_section.specs.Cut.{Piece, id_width}
+use Rattle.dw_section.specs.Cut.{Piece}
+use Rattle.dw_section.specs.Fields.{cie_fields, fde_fields}
 use Rattle.dw_section.specs.Headers.{Head, cie_head, fde_head}
-use Rattle.dw_section.specs.Inner.Fields.{cie_fields_at, fde_fields_at}
+use Rattle.dw_section.specs.Inner.Fields.{fields_at}
 
 abbrev pub contents_of : Target → Piece → Input
 contents_of target p = input_of target p.contents
@@ -20,16 +21,13 @@ program_of i = record { at = i.at; bytes = i.bytes }
 abbrev pub cie_of_piece : Piece → CieFields × Input → Result Head Refusal
 cie_of_piece p f = Ok (cie_head p f.0 (program_of f.1))
 
-abbrev pub cie_behind_id : Piece → List ℕ × Input → Result Head Refusal
-cie_behind_id p id = cie_fields_at id.1 >>= cie_of_piece p
-
 -- the header of a CIE, or what is wrong in it
 unfoldable pub cie_at : Target → Piece → Result Head Refusal
-cie_at target p = take_at (id_width p.form) (contents_of target p) >>= cie_behind_id p
+cie_at target p = fields_at (cie_fields target.size p.form) (contents_of target p) >>= cie_of_piece p
 
 abbrev pub fde_of_piece : Piece → FdeFields × Input → Result Head Refusal
 fde_of_piece p f = Ok (fde_head p f.0 (program_of f.1))
 
 -- the header of an FDE, or what is wrong in it
 unfoldable pub fde_at : Target → List ℕ → Piece → Result Head Refusal
-fde_at target places p = fde_fields_at places p.form (contents_of target p) >>= fde_of_piece p
+fde_at target places p = fields_at (fde_fields target.size places p.form) (contents_of target p) >>= fde_of_piece p

@@ -1,7 +1,12 @@
 -- What the code and its proofs say beside Places.
-use Rattle.std.specs.Prelude.{ℕ, ◌≤◌, List, [], ◌∷◌}
+use Rattle.std.specs.Prelude.{ℕ, suc, ◌≤◌, List, [], ◌∷◌}
 
 -- numbers from low on, none below the one before it
 abbrev pub Rises : ℕ → List ℕ → Type 0
 Rises low [] = Unit {0}
 Rises low (x ∷ xs) = (low ≤ x) × Rises x xs
+
+-- what stands at places from low on, each above the one before it
+abbrev pub RiseBy : {X : Type 0} → (X → ℕ) → ℕ → List X → Type 0
+RiseBy place low [] = Unit {0}
+RiseBy place low (x ∷ xs) = (low ≤ place x) × RiseBy place (suc (place x)) xs

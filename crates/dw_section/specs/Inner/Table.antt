@@ -24,10 +24,5 @@ pub record AreRanges (target : Target) (s : List ℕ) (list : List Ranged) : Typ
   pub each : AllByRecursion (IsRanged headers) list
 
 -- how many entries a section has, and what its FDEs begin with
-pub record IsKept (target : Target) (s : List ℕ) (counts : EntryCounts) (cs : List Initial) : Type 0 where
-  pub headers : List Head
-  pub heads : Headers target s headers
-  pub entries : List Piece
-  pub cut : Pieces target s entries
-  pub counts_are : AreCounts entries counts
-  pub initials : AreInitials target headers headers cs
+abbrev pub IsKept : Target → List ℕ → EntryCounts → List Initial → Type 0
+IsKept target s counts cs = ((ps : List Piece) → Pieces target s ps → AreCounts ps counts) × ((hs : List Head) → Headers target s hs → AreInitials target hs hs cs)

@@ -1,10 +1,34 @@
-use Rattle.std.proofs.Common.{◌||◌, Bool, [], ◌∷◌, false, ap, sym, ◌∙◌, arith}
-use Rattle.dw_cfa.specs.Inner.Coverage.{is_unset, leaves_one, lacks_from}
-use Rattle.dw_cfa.proofs.Types.{Outcome, Rules}
-use Rattle.dw_cfa.specs.Inner.Runs.{rows_left}
-use Rattle.dw_cfa.proofs.LackingLaws.{any_low, lacks_moved}
+use Rattle.dw_cfa.proofs.Words.{◌||◌, [], ◌∷◌, false, ap, sym, ◌∙◌, arith, lacks_from, Outcome, Rules, rows_left, ◌≡◌, ℕ, Bool, true, List, Option, None, refl, Factors, Input, LocatedRow, Machine, Refusal, is_unset, leaves_one, row_then}
+use Rattle.dw_cfa.proofs.Words.{RanTo, here, state_of}
 use Rattle.dw_cfa.proofs.RunSteps.{rows_end}
+use Rattle.dw_cfa.proofs.Lent.RunLaws.{left_from}
 use Rattle.dw_cfa.proofs.coverage.lacks_rule.Goals as goal
+
+or_more : (x y z : Bool) → (x || (y || z)) ≡ ((x || y) || z)
+or_more true y z = refl
+or_more false y z = refl
+
+-- where no row came before, it does not matter where it would start
+any_low : (end low other : ℕ) (rows : List LocatedRow) → lacks_from end low false rows ≡ lacks_from end other false rows
+any_low end low other [] = refl
+any_low end low other (row ∷ rows) = refl
+
+module _ (f : Factors) (i : Input) (m : Machine) (j : Input) (m' : Machine) (moved : RanTo f i m true j m') (end : ℕ) (lacks : Bool) where
+  -- a row that ends is asked, and those that are left are still to be asked
+  lacks_moved : (rows_left f j m').fault ≡ None
+      → (lacks || lacks_from end 0 false (rows_left f i m).rows) ≡ ((lacks || leaves_one end m.location (is_unset m'.states.row.cfa) m'.location) || lacks_from end 0 false (rows_left f j m').rows)
+  lacks_moved none =
+      let ended : rows_left f i m ≡ row_then (here (state_of m)) (rows_left f j m') = moved.rows in
+      ap (λ (o : Outcome). lacks || lacks_from end 0 false o.rows) ended
+      ∙ ap (λ (row : Rules). lacks || lacks_from end m.location (is_unset row.cfa) (rows_left f j m').rows) (sym (moved.same_row refl))
+      ∙ go (rows_left f j m').rows refl
+    where
+      go : (rows : List LocatedRow) → (rows_left f j m').rows ≡ rows
+          → (lacks || lacks_from end m.location (is_unset m'.states.row.cfa) rows) ≡ ((lacks || leaves_one end m.location (is_unset m'.states.row.cfa) m'.location) || lacks_from end 0 false rows)
+      go [] e = absurd ((left_from f j m').some (ap (λ (rows : List LocatedRow). let p : Outcome = record { rows = rows; fault = (rows_left f j m').fault } in p) e ∙ ap (λ (fault : Option Refusal). let p : Outcome = record { rows = []; fault = fault } in p) none))
+      go (row ∷ rest) e =
+          ap (λ (n : ℕ). lacks || (leaves_one end m.location (is_unset m'.states.row.cfa) n || lacks_from end row.location (is_unset row.row.cfa) rest)) ((left_from f j m').first row rest e)
+          ∙ or_more lacks (leaves_one end m.location (is_unset m'.states.row.cfa) m'.location) (lacks_from end row.location (is_unset row.row.cfa) rest)
 
 pub returns-clause-found : goal.returns-clause-found
 returns-clause-found c =
@@ -24,13 +48,9 @@ instrs-preserved c =
     let f = c.args.factors in
     let j = c.turn.new.cursor in
     let m = c.turn.new.machine in
-    let moved = c.in-Moved.ensures.turned in
-    let rest = (rows_left f j m).rows in (
+    let moved = c.in-Moved.ensures.turned in (
       moved.so,
       c.in-Moved.ensures.initial ∙ l.invariant.1,
       l.invariant.2 ∙ ap (λ (o : Outcome). o.fault) moved.rows,
-      λ none. ap (λ (lacks : Bool). lacks || lacks_from c.args.end 0 false rest) c.lacks_now-lacks.ensures
-          ∙ ap (λ (row : Rules). (l.lacks || leaves_one c.args.end l.machine.location (is_unset row.cfa) m.location) || lacks_from c.args.end 0 false rest) c.row.ensures
-          ∙ sym (lacks_moved f l.cursor l.machine j m moved c.args.end l.lacks none)
-          ∙ l.invariant.3 (ap (λ (o : Outcome). o.fault) moved.rows ∙ none),
+      λ none. cc (c.lacks_now-lacks.ensures, c.row.ensures, lacks_moved f l.cursor l.machine j m moved c.args.end l.lacks none, l.invariant.3 (ap (λ (o : Outcome). o.fault) moved.rows ∙ none)),
     )

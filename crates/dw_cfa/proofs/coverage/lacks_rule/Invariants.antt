@@ -1,6 +1,4 @@
-use Rattle.std.proofs.Common.{◌≡◌, ◌||◌, None, length, false}
-use Rattle.dw_cfa.specs.Inner.Coverage.{lacks_from}
-use Rattle.dw_cfa.specs.Inner.Runs.{RunsSo, rows_left}
+use Rattle.dw_cfa.proofs.Words.{◌≡◌, ◌||◌, None, length, false, lacks_from, RunsSo, rows_left}
 use Rattle.dw_cfa.proofs.coverage.lacks_rule.Given as goal
 
 abbrev pub invariant-instrs : goal.invariant-instrs

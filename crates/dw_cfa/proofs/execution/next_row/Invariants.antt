@@ -1,5 +1,4 @@
-use Rattle.std.proofs.Common.{◌≡◌, length}
-use Rattle.dw_cfa.specs.Inner.Runs.{RunsSo, rows_left}
+use Rattle.dw_cfa.proofs.Words.{◌≡◌, length, RunsSo, rows_left}
 use Rattle.dw_cfa.proofs.execution.next_row.Given as goal
 
 abbrev pub invariant-instrs : goal.invariant-instrs

@@ -1,5 +1,4 @@
-use Rattle.std.proofs.Common.{◌≡◌, length}
-use Rattle.dw_cfa.specs.Inner.Runs.{initial_row, placed}
+use Rattle.dw_cfa.proofs.Words.{◌≡◌, length, initial_row, placed}
 use Rattle.dw_cfa.proofs.execution.run_initial.Given as goal
 
 abbrev pub invariant-instrs : goal.invariant-instrs

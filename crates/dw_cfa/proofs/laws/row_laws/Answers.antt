@@ -1,5 +1,4 @@
-use Rattle.std.proofs.Common.{sym, ◌∙◌}
-use Rattle.dw_cfa.specs.RowLaws.{OneHolds, OneCount}
+use Rattle.dw_cfa.proofs.Words.{sym, ◌∙◌, OneHolds, OneCount}
 use Rattle.dw_cfa.proofs.Match.{restores_matched, match_exists}
 use Rattle.dw_cfa.proofs.Lent.Given.{one_run, refused_where_fault, given_where_kept, given_falls, given_holds}
 use Rattle.dw_cfa.proofs.Lent.FaultPlaces.{run_within}

@@ -1,5 +1,4 @@
-use Rattle.std.proofs.Common.{◌≡◌, length}
-use Rattle.dw_cfa.specs.Inner.Entries.{Covers}
+use Rattle.dw_cfa.proofs.Words.{◌≡◌, length, Covers}
 use Rattle.dw_cfa.proofs.near_slots.empty_slots.Given as goal
 
 abbrev pub invariant-slots : goal.invariant-slots

@@ -1,5 +1,4 @@
-use Rattle.std.proofs.Common.{w64}
-use Rattle.std.proofs.lemmas.Int.{to_z-of_z}
+use Rattle.dw_cfa.proofs.Words.{w64, to_z-of_z}
 use Rattle.dw_cfa.proofs.ShortNumbers.{signed_byte_read}
 use Rattle.dw_cfa.proofs.opcode.quick_sleb.Goals as goal
 

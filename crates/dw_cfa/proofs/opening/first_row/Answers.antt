@@ -1,6 +1,4 @@
-use Rattle.std.proofs.Common.{ap, ◌∙◌, sym}
-use Rattle.dw_cfa.specs.Listing.{Listing, answers}
-use Rattle.dw_cfa.specs.Inner.Opening.{answers_row}
+use Rattle.dw_cfa.proofs.Words.{ap, ◌∙◌, sym, Listing, answers, answers_row}
 use Rattle.dw_cfa.proofs.FirstRows.{answers_first}
 use Rattle.dw_cfa.proofs.opening.first_row.Goals as goal
 

@@ -1,6 +1,4 @@
-use Rattle.std.proofs.Common.{◌≡◌, length}
-use Rattle.dw_cfa.specs.Listing.{answers}
-use Rattle.dw_cfa.specs.Inner.Opening.{answers_row}
+use Rattle.dw_cfa.proofs.Words.{◌≡◌, length, answers, answers_row}
 use Rattle.dw_cfa.proofs.opening.row_of.Given as goal
 
 abbrev pub invariant-instrs : goal.invariant-instrs

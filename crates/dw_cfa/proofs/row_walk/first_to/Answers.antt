@@ -1,13 +1,8 @@
-use Rattle.std.proofs.Common.{◌≡◌, ℕ, Some, arith, rules, sym, ap, subst, ◌∙◌}
-use Rattle.std.specs.Prelude.{OnOk}
-use Rattle.dw_cfa.specs.RuleAt.{last_at, NeverFalls}
-use Rattle.dw_cfa.proofs.Types.{AreBytes, Outcome, Rules}
-use Rattle.dw_cfa.specs.Inner.Runs.{rows_left}
-use Rattle.dw_cfa.specs.Inner.RuleAt.{LeavesAbove}
-use Rattle.dw_cfa.specs.Inner.RowWalk.{AllSpecify}
-use Rattle.dw_cfa.proofs.RowsTo.{only_memory, still_none}
+use Rattle.dw_cfa.proofs.Words.{rules, refl, ap, subst, ◌∙◌, IfOk, AreBytes, Outcome, rows_left, WalkedTo}
+use Rattle.dw_cfa.specs.declared.steps.Progress.TheVariants as progress
+use Rattle.dw_cfa.proofs.RowsTo.{only_memory, walked}
 use Rattle.dw_cfa.proofs.StaySpecified.{led_keeps}
-use Rattle.dw_cfa.proofs.Walks.{led_initial, led_ran, left_where, row_left}
+use Rattle.dw_cfa.proofs.Walks.{led_initial, led_ran, row_left}
 use Rattle.dw_cfa.proofs.row_walk.first_to.Goals as goal
 
 pub ready-requires-clause-runs : goal.ready-requires-clause-runs
@@ -17,27 +12,18 @@ pub run_to-requires-clause-known : goal.run_to-requires-clause-known
 run_to-requires-clause-known c = λ _.
     ap (λ (o : Outcome). o.fault) (led_ran c.args.leading c.args.fde.now c.args.machine.now c.ready.new.machine c.requires.so c.in_ok-ready.ensures.ok) ∙ c.requires.known
 
-pub run_to-requires-clause-never_falls : goal.run_to-requires-clause-never_falls
-run_to-requires-clause-never_falls c =
-    subst (λ (o : Outcome). (low : ℕ) × NeverFalls low o.rows)
-    (sym (led_ran c.args.leading c.args.fde.now c.args.machine.now c.ready.new.machine c.requires.so c.in_ok-ready.ensures.ok)) c.requires.never_falls
-
 pub returns : goal.returns
 returns c =
-    let l = c.args.leading in let fde = c.args.fde.now in let at = c.ready.new.machine in let new = c.run_to.new.machine in
+    let l = c.args.leading in let fde = c.args.fde.now in let old = c.args.machine.now in let at = c.ready.new.machine in let new = c.run_to.new in
     let so = c.in_ok-ready.ensures.ok in
-    let same = led_ran l fde c.args.machine.now at c.requires.so so in
+    let same = led_ran l fde old at c.requires.so so in
     let none = ap (λ (o : Outcome). o.fault) same ∙ c.requires.known in
-    let bytes = subst AreBytes c.rest.ensures c.are_bytes-2.ensures in
-    let keeps = c.run_to.ensures.keeps at.initial (led_keeps l fde c.args.machine.now at c.are_bytes.ensures bytes c.requires.so so) in
+    let keeps = led_keeps l fde old at c.are_bytes.ensures (subst AreBytes c.rest.ensures c.are_bytes-2.ensures) c.requires.so so in
+    let left = row_left l at at c.are_bytes.ensures so.initial refl in
     record {
-      last = λ le. subst (λ (o : Outcome). OnOk c.run_to.result (last_at c.args.address o.rows ≡ Some new.states.row)) same (c.run_to.ensures.last (omega (arith, so.location, le)));
-      behind = λ le. subst (λ (o : Outcome). LeavesAbove c.args.address o l.factors c.run_to.new.cursor new c.run_to.result) same (c.run_to.ensures.behind (omega (arith, so.location, le)));
-      so = search rules;
-      known = still_none c.run_to.result (rows_left l.factors c.run_to.new.cursor new).fault (rows_left l.factors fde at).fault c.run_to.ensures.fault none;
-      err = only_memory c.run_to.result (rows_left l.factors fde at).fault none c.run_to.ensures.err;
+      walked = subst (λ (o : Outcome). IfOk c.run_to.result (WalkedTo c.args.address progress.Begun o old l new.cursor new.machine)) same
+          (walked c.args.address progress.Begun (rows_left l.factors fde at) old l new.cursor new.machine c.run_to.result c.run_to.ensures.ran none at.initial c.run_to.ensures.initial keeps left);
+      err = only_memory c.run_to.result (rows_left l.factors fde at).fault _ none c.run_to.ensures.err;
       kept = search rules;
-      keeps = subst (λ (r : Rules). OnOk c.run_to.result (AllSpecify r (rows_left l.factors c.run_to.new.cursor new).rows)) (sym c.run_to.ensures.initial) keeps;
-      left = left_where _ c.run_to.result (row_left l at new c.are_bytes.ensures so.initial c.run_to.ensures.initial);
       kept_row = search rules;
     }

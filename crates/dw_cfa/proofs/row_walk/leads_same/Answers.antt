@@ -1,8 +1,4 @@
-use Rattle.std.proofs.Common.{◌≡◌, Ok, subst}
-use Rattle.dw_cfa.specs.declared.instr.Factors.{Factors}
-use Rattle.dw_cfa.specs.Rows.{blank}
-use Rattle.dw_cfa.specs.Inner.Runs.{initial_row, placed}
-use Rattle.dw_cfa.specs.RowSteps.{program_input}
+use Rattle.dw_cfa.proofs.Words.{◌≡◌, Ok, subst, Factors, blank, initial_row, placed, program_input}
 use Rattle.dw_cfa.proofs.Walks.{initial_elsewhere}
 use Rattle.dw_cfa.proofs.row_walk.leads_same.Goals as goal
 

@@ -1,7 +1,4 @@
-use Rattle.std.proofs.Common.{Option, ℕ, List, refl, sym, ap, subst, ◌∙◌}
-use Rattle.dw_cfa.specs.declared.rule.RegRule.{RegRule}
-use Rattle.dw_cfa.specs.Inner.States.{Held, BeganWith}
-use Rattle.dw_cfa.specs.RowSteps.{program_input}
+use Rattle.dw_cfa.proofs.Words.{Option, ℕ, List, refl, sym, ap, subst, ◌∙◌, RegRule, Held, BeganWith, program_input}
 use Rattle.dw_cfa.proofs.StatesLaws.{began}
 use Rattle.dw_cfa.proofs.Walks.{initial_is}
 use Rattle.dw_cfa.proofs.row_walk.run_cie.Goals as goal

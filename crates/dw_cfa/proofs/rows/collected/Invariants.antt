@@ -1,4 +1,4 @@
-use Rattle.std.proofs.Common.{◌≡◌, None, length}
+use Rattle.dw_cfa.proofs.Words.{◌≡◌, None, length}
 use Rattle.dw_cfa.specs.Inner.RowSteps.{rows_before}
 use Rattle.dw_cfa.proofs.rows.collected.Given as goal
 

@@ -1,6 +1,4 @@
-use Rattle.std.proofs.Common.{Ok, Err}
-use Rattle.std.proofs.lemmas.Result.{IfOk-weaker, IfErr-weaker}
-use Rattle.dw_cfa.specs.RowSteps.{program_input}
+use Rattle.dw_cfa.proofs.Words.{Ok, Err, IfOk-weaker, IfErr-weaker, program_input}
 use Rattle.dw_cfa.proofs.Lent.Given.{leaves_to, refusal_weaker}
 use Rattle.dw_cfa.proofs.steps.initial_row.Goals as goal
 

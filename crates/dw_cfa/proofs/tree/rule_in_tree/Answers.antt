@@ -1,8 +1,4 @@
-use Rattle.std.proofs.Common.{◌≡◌, ap, ◌∙◌, Some, None}
-use Rattle.std.specs.Prelude.{Option}
-use Rattle.std.specs.Option.{unwrap_or, option_copied}
-use Rattle.dw_cfa.specs.declared.rule.RegRule.{RegRule}
-use Rattle.dw_cfa.specs.declared.rule.RegRule.TheVariants.{Unspecified}
+use Rattle.dw_cfa.proofs.Words.{◌≡◌, ap, ◌∙◌, Some, None, Option, unwrap_or, option_copied, RegRule, Unspecified}
 use Rattle.dw_cfa.proofs.WideRows.{found_is}
 use Rattle.dw_cfa.proofs.tree.rule_in_tree.Goals as goal
 

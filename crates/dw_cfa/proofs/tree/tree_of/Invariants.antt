@@ -1,4 +1,4 @@
-use Rattle.std.proofs.Common.{◌≡◌, ◌++◌}
+use Rattle.dw_cfa.proofs.Words.{◌≡◌, ◌++◌}
 use Rattle.dw_cfa.proofs.tree.tree_of.Given as goal
 
 abbrev pub invariant-loop-register : goal.invariant-loop-register

@@ -1,7 +1,4 @@
-use Rattle.std.proofs.Common.{List, sym, ap, subst, ◌∙◌}
-use Rattle.dw_cfa.proofs.Types.{RegRule, Rules}
-use Rattle.dw_cfa.specs.Inner.Rows.{put}
-use Rattle.dw_cfa.specs.Inner.Marks.{SameUnlisted}
+use Rattle.dw_cfa.proofs.Words.{List, sym, ap, subst, ◌∙◌, RegRule, Rules, put, SameUnlisted}
 use Rattle.dw_cfa.proofs.Lent.RowLists.{Entry}
 use Rattle.dw_cfa.proofs.Marked.{far_copied}
 use Rattle.dw_cfa.proofs.watched.copy_listed.Goals as goal
@@ -9,6 +6,5 @@ use Rattle.dw_cfa.proofs.watched.copy_listed.Goals as goal
 pub marks-preserved : goal.marks-preserved
 marks-preserved c =
     let xs = c.args.row.now.registers in let r = c.in-Some.register.now in
-    let x : Entry = (r, c.in-Some.field-0-1.now) in
     let set = ap (λ (row : Rules). row.registers) c.in_ok-set.ensures.ok ∙ ap (λ (rule : RegRule). put r rule c.marks.kept.registers) c.rule.ensures in
-    subst (λ (l : List Entry). SameUnlisted 0 c.next.new.self l xs) (sym set) (far_copied xs c.marks.kept.registers c.marks.marks c.next.new.self x c.in-Some.ensures.steps c.ascends.ensures c.marks.invariant)
+    subst (λ (l : List Entry). SameUnlisted 0 c.next.new.self l xs) (sym set) (far_copied xs c.marks.kept.registers c.marks.marks c.next.new.self r c.in-Some.field-0-1.now c.in-Some.ensures.steps c.ascends.ensures c.marks.invariant)

@@ -1,5 +1,4 @@
-use Rattle.std.proofs.Common.{length}
-use Rattle.dw_cfa.specs.Inner.Marks.{SameUnlisted}
+use Rattle.dw_cfa.proofs.Words.{length, SameUnlisted}
 use Rattle.dw_cfa.proofs.watched.copy_listed.Given as goal
 
 abbrev pub invariant-marks : goal.invariant-marks

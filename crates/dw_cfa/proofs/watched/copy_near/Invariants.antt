@@ -1,5 +1,4 @@
-use Rattle.std.proofs.Common.{◌-◌, ◌≤◌}
-use Rattle.dw_cfa.specs.Inner.Marks.{CopiedUpTo}
+use Rattle.dw_cfa.proofs.Words.{◌-◌, ◌≤◌, CopiedUpTo}
 use Rattle.dw_cfa.proofs.watched.copy_near.Given as goal
 
 abbrev pub invariant-slots : goal.invariant-slots

@@ -1,11 +1,4 @@
-use Rattle.std.proofs.Common.{ℕ, List, refl, sym, subst}
-use Rattle.std.specs.Ordering.{nat_cmp}
-use Rattle.std.specs.BTreeMap.Range.{range_contains}
-use Rattle.std.specs.declared.ops.Bound.{Bound}
-use Rattle.std.specs.declared.ops.Bound.TheVariants.{Unbounded}
-use Rattle.dw_cfa.specs.Difference.{place_behind}
-use Rattle.dw_cfa.specs.Rows.{AreSpecified}
-use Rattle.dw_cfa.specs.Inner.Marks.{SameUnlisted}
+use Rattle.dw_cfa.proofs.Words.{ℕ, List, refl, sym, subst, nat_cmp, range_contains, Bound, Unbounded, place_behind, AreSpecified, SameUnlisted}
 use Rattle.dw_cfa.proofs.Lent.RowLists.{Entry}
 use Rattle.dw_cfa.proofs.Lent.Equal.{not_one}
 use Rattle.dw_cfa.proofs.Difference.{FromOn, range_on}
@@ -24,12 +17,12 @@ marks-init c =
 
 pub returns-then-not-has_same_rule : goal.returns-then-not-has_same_rule
 returns-then-not-has_same_rule c =
-    let x : Entry = (c.in-Some.register.now, c.in-Some.field-0-1.now) in let inv = c.marks.invariant in
-    differs_here (place_behind c.args.behind) c.marks.marks c.next.new.self c.args.kept.now.registers c.args.row.now.registers x c.in-Some.ensures.steps inv.0 inv.1
+    let inv = c.marks.invariant in
+    differs_here (place_behind c.args.behind) c.marks.marks c.next.new.self c.args.kept.now.registers c.args.row.now.registers c.in-Some.register.now c.in-Some.field-0-1.now c.in-Some.ensures.steps inv.0 inv.1
     (not_one c.if-not-has_same_rule.ensures)
 
 pub marks-preserved : goal.marks-preserved
 marks-preserved c =
-    let x : Entry = (c.in-Some.register.now, c.in-Some.field-0-1.now) in let inv = c.marks.invariant in
-    same_here (place_behind c.args.behind) c.marks.marks c.next.new.self c.args.kept.now.registers c.args.row.now.registers x c.in-Some.ensures.steps inv.0 inv.1
+    let inv = c.marks.invariant in
+    same_here (place_behind c.args.behind) c.marks.marks c.next.new.self c.args.kept.now.registers c.args.row.now.registers c.in-Some.register.now c.in-Some.field-0-1.now c.in-Some.ensures.steps inv.0 inv.1
     (c.if-not-has_same_rule.ensures.0 refl)

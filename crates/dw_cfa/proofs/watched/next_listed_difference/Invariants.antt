@@ -1,7 +1,4 @@
-use Rattle.std.proofs.Common.{length}
-use Rattle.dw_cfa.specs.Difference.{place_behind}
-use Rattle.dw_cfa.specs.Rows.{AreSpecified}
-use Rattle.dw_cfa.specs.Inner.Marks.{SameUnlisted}
+use Rattle.dw_cfa.proofs.Words.{length, place_behind, AreSpecified, SameUnlisted}
 use Rattle.dw_cfa.proofs.watched.next_listed_difference.Given as goal
 
 abbrev pub invariant-marks : goal.invariant-marks

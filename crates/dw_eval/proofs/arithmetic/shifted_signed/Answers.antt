@@ -1,6 +1,4 @@
-use Rattle.std.proofs.Common.{◌≤◌, ◌∙◌, w64, arith}
-use Rattle.std.proofs.lemmas.Int.{to_z-of_z}
-use Rattle.dw_eval.specs.Effect.{bit_count}
+use Rattle.dw_eval.proofs.Words.{◌≤◌, ◌∙◌, w64, arith, to_z-of_z, bit_count}
 use Rattle.dw_eval.proofs.Signed.{shifted_far}
 use Rattle.dw_eval.proofs.arithmetic.shifted_signed.Goals as goal
 

@@ -1,4 +1,4 @@
-use Rattle.std.proofs.Common.{arith}
+use Rattle.dw_eval.proofs.Words.{arith}
 use Rattle.dw_eval.proofs.Signed.{signed_half, signed_whole}
 use Rattle.dw_eval.proofs.arithmetic.signed.Goals as goal
 

@@ -1,6 +1,4 @@
-use Rattle.std.proofs.Common.{ap, ◌∙◌, arith}
-use Rattle.std.proofs.lemmas.Result.{err_from_is_err_and}
-use Rattle.dw_eval.specs.Context.{context}
+use Rattle.dw_eval.proofs.Words.{ap, ◌∙◌, arith, err_from_is_err_and, context}
 use Rattle.dw_eval.proofs.ValueLoop.{access_at, value_more, value_stop, value_limit}
 use Rattle.dw_eval.proofs.evaluation.run.Goals as goal
 

@@ -1,7 +1,4 @@
-use Rattle.std.proofs.Common.{◌≡◌, ◌≤◌, length, map}
-use Rattle.dw_op.specs.Expression.{bare}
-use Rattle.dw_eval.specs.Context.{context}
-use Rattle.dw_eval.specs.Inner.Evaluation.{ValueRuns}
+use Rattle.dw_eval.proofs.Words.{◌≡◌, ◌≤◌, length, map, bare, context, ValueRuns}
 use Rattle.dw_eval.proofs.evaluation.run.Given as goal
 
 abbrev pub invariant-steps : goal.invariant-steps

@@ -1,7 +1,4 @@
-use Rattle.std.proofs.Common.{ap, ◌∙◌, arith, refl}
-use Rattle.std.proofs.lemmas.Result.{err_from_is_err_and}
-use Rattle.dw_eval.specs.Context.{context}
-use Rattle.dw_eval.specs.Inner.Description.{state_of}
+use Rattle.dw_eval.proofs.Words.{ap, ◌∙◌, arith, refl, err_from_is_err_and, context, state_of}
 use Rattle.dw_eval.proofs.ValueLoop.{access_at}
 use Rattle.dw_eval.proofs.PlaceLoop.{place_more, place_stop, place_limit}
 use Rattle.dw_eval.proofs.location.run.Goals as goal

@@ -1,8 +1,4 @@
-use Rattle.std.proofs.Common.{◌≡◌, ◌≤◌, length, map}
-use Rattle.dw_op.specs.Expression.{bare}
-use Rattle.dw_eval.specs.Context.{context}
-use Rattle.dw_eval.specs.Inner.Description.{state_of}
-use Rattle.dw_eval.specs.Inner.Location.{PlaceRuns}
+use Rattle.dw_eval.proofs.Words.{◌≡◌, ◌≤◌, length, map, bare, context, state_of, PlaceRuns}
 use Rattle.dw_eval.proofs.location.run.Given as goal
 
 abbrev pub invariant-steps : goal.invariant-steps

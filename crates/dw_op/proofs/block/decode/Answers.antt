@@ -1,10 +1,7 @@
-use Rattle.std.proofs.Common.{refl, map}
-use Rattle.std.proofs.lemmas.Result.{err_from_is_err_and}
-use Rattle.dw_num.proofs.Lent.Refusals.{refuses_by}
-use Rattle.dw_op.specs.Expression.{bare}
+use Rattle.dw_op.proofs.Words.{map, err_from_is_err_and, refuses_by, bare}
 use Rattle.dw_op.proofs.Lent.Blocks.{block_found, fault_found}
 use Rattle.dw_op.proofs.Lent.FaultPlaces.{fault_within}
-use Rattle.dw_op.proofs.Decoded.{decoded_in_range, only_memory, one_list}
+use Rattle.dw_op.proofs.Decoded.{only_memory, one_list}
 use Rattle.dw_op.proofs.block.decode.Goals as goal
 
 pub returns-in_err-ops-clause-only : goal.returns-in_err-ops-clause-only
@@ -25,13 +22,6 @@ returns-in_err-ops-clause-within c =
     rw (p.1, p.2)
     (refuses_by c.in_err-ops.field-0.0 _ _
     (λ r e. fault_within c.args.profile c.args.target c.args.bytes.now r (fault_found c.args.profile c.args.target c.args.bytes.now r c.are_bytes.ensures e)) c.in_err-ops.ensures.first)
-
-pub of_range-requires : goal.of_range-requires
-of_range-requires c = decoded_in_range c.args.profile c.args.target c.args.bytes.now (map bare c.in_ok-ops.ops.items) c.are_bytes.ensures c.in_ok-ops.ensures.found
-
-pub returns-clause-found : goal.returns-clause-found
-returns-clause-found c =
-    rw c.of_range.ensures (refl, block_found c.args.profile c.args.target c.args.bytes.now (map bare c.in_ok-ops.ops.items) c.are_bytes.ensures c.in_ok-ops.ensures.found)
 
 pub returns-clause-only : goal.returns-clause-only
 returns-clause-only c ops block =

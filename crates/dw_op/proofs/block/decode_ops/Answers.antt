@@ -1,13 +1,7 @@
-use Rattle.std.proofs.Common.{arith, length, ℕ, map, subst, Err, Ok, Some, None, ◌≡◌}
-use Rattle.std.proofs.lemmas.Result.{err_from_is_err_and}
-use Rattle.std.proofs.lemmas.List.{map-append}
-use Rattle.dw_num.proofs.Lent.Refusals.{refuses_by}
-use Rattle.dw_op.specs.Expression.{bare}
-use Rattle.dw_op.specs.Inner.FrontOp.{bare_step}
-use Rattle.dw_op.specs.Inner.Walk.{block_input, place_index, walk, end_of, starts_of, op_of}
-use Rattle.dw_op.specs.Inner.Walk.{Rises}
+use Rattle.dw_op.proofs.Words.{arith, length, ℕ, map, subst, Err, Ok, Some, None, ◌≡◌, err_from_is_err_and, map-append, refuses_by, bare, bare_step, block_input, place_index, walk, end_of, starts_of, op_of, Rises}
 use Rattle.dw_op.proofs.Search.{starts_rise}
-use Rattle.dw_op.proofs.Decoded.{ops_more, ops_bad, ops_all, ops_stuck, bad_branch, decoded_is, decoded_fault, step_shorter}
+use Rattle.dw_op.proofs.Decoded.{ops_more, ops_bad, ops_all, ops_stuck, decoded_is}
+use Rattle.dw_op.proofs.Lent.Blocks.{bad_branch, decoded_fault}
 use Rattle.dw_op.proofs.block.decode_ops.Goals as goal
 
 pub returns-in_err-places-clause-first : goal.returns-in_err-places-clause-first
@@ -27,9 +21,6 @@ resolved-requires-clause-rises c =
     let i = block_input c.args.target c.args.bytes.now in
     let same : end_of i ≡ length c.args.bytes.now = omega arith in
     rw (c.deref.ensures.value, c.in_ok-places.ensures.found) (subst (λ (n : ℕ). Rises 0 (starts_of (walk c.args.profile i).items n)) same (starts_rise c.args.profile i c.are_bytes.ensures))
-
-pub ops-smaller : goal.ops-smaller
-ops-smaller c = step_shorter c.args.profile c.ops.cursor (bare_step c.in_ok-step.step, c.next_step.new.cursor) c.ops.invariant.within.bytes c.in_ok-step.ensures
 
 pub ops-preserved : goal.ops-preserved
 ops-preserved c =

@@ -1,6 +1,4 @@
-use Rattle.std.proofs.Common.{length, map}
-use Rattle.dw_op.specs.Expression.{bare}
-use Rattle.dw_op.specs.Inner.Walk.{block_input, place_index}
+use Rattle.dw_op.proofs.Words.{length, map, bare, block_input, place_index}
 use Rattle.dw_op.proofs.Decoded.{OpsSo}
 use Rattle.dw_op.proofs.block.decode_ops.Given as goal
 

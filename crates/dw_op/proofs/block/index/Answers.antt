@@ -1,4 +1,4 @@
-use Rattle.std.proofs.Common.{Ok, Err}
+use Rattle.dw_op.proofs.Words.{Ok, Err}
 use Rattle.dw_op.proofs.Search.{index_searched}
 use Rattle.dw_op.proofs.block.index.Goals as goal
 

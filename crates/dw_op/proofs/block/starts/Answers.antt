@@ -1,17 +1,11 @@
-use Rattle.std.proofs.Common.{arith, length}
-use Rattle.std.proofs.lemmas.Result.{err_from_is_err_and}
-use Rattle.dw_op.specs.Inner.FrontOp.{bare_step}
-use Rattle.dw_op.specs.Inner.Walk.{block_input}
-use Rattle.dw_op.proofs.Decoded.{starts_more, starts_end, starts_stuck, step_shorter}
+use Rattle.dw_op.proofs.Words.{arith, length, err_from_is_err_and, bare_step, block_input}
+use Rattle.dw_op.proofs.Decoded.{starts_more, starts_end, starts_stuck}
 use Rattle.dw_op.proofs.block.starts.Goals as goal
 
 pub returns-in_err-next_step-clause-first : goal.returns-in_err-next_step-clause-first
 returns-in_err-next_step-clause-first c =
     let p = err_from_is_err_and c.from_residual.result c.from_residual.ensures.1 in
     rw (p.1, p.2) (starts_stuck c.args.profile (block_input c.args.target c.args.bytes.now) c.ops.cursor (length c.args.bytes.now) c.ops.starts.items c.in_err-next_step.field-0.0 c.ops.invariant (omega arith) c.in_err-next_step.ensures)
-
-pub ops-smaller : goal.ops-smaller
-ops-smaller c = step_shorter c.args.profile c.ops.cursor (bare_step c.in_ok-next_step.field-0, c.next_step.new.cursor) c.ops.invariant.within.bytes c.in_ok-next_step.ensures
 
 pub ops-preserved : goal.ops-preserved
 ops-preserved c =

@@ -1,6 +1,4 @@
-use Rattle.std.proofs.Common.{length, map, ◌≡◌}
-use Rattle.std.specs.List.{fold}
-use Rattle.dw_op.specs.Inner.Equality.{op_line, lines_fed}
+use Rattle.dw_op.proofs.Words.{length, map, ◌≡◌, fold, op_line, lines_fed}
 use Rattle.dw_op.proofs.equality.feed_steps.Given as goal
 
 abbrev pub invariant-ops : goal.invariant-ops

@@ -1,5 +1,4 @@
-use Rattle.std.proofs.Common.{length, ◌≡◌}
-use Rattle.std.specs.Prelude.{◌↔◌}
+use Rattle.dw_op.proofs.Words.{length, ◌≡◌, ◌↔◌}
 use Rattle.dw_op.proofs.equality.same_steps.Given as goal
 
 abbrev pub invariant-ops : goal.invariant-ops

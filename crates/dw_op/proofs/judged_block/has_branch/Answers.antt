@@ -1,10 +1,4 @@
-use Rattle.std.proofs.Common.{arith, ap}
-use Rattle.std.proofs.lemmas.Result.{err_from_is_err_and}
-use Rattle.dw_op.specs.declared.profile.Profile.TheVariants.{Frame}
-use Rattle.dw_op.specs.Expression.{bare}
-use Rattle.dw_op.specs.Inner.FrontOp.{bare_step}
-use Rattle.dw_op.specs.Inner.Walk.{block_input}
-use Rattle.dw_op.proofs.Decoded.{step_shorter}
+use Rattle.dw_op.proofs.Words.{arith, ap, err_from_is_err_and, bare, bare_step, block_input}
 use Rattle.dw_op.proofs.Judgement.{read_plain, read_jump, read_end, read_plain_end, read_stuck}
 use Rattle.dw_op.proofs.judged_block.has_branch.Goals as goal
 
@@ -13,21 +7,15 @@ returns-in_err-next_step-clause-first c =
     let p = err_from_is_err_and c.from_residual.result c.from_residual.ensures.1 in
     rw (p.1, p.2) (read_stuck (block_input c.args.target c.args.bytes.now) c.ops.cursor c.ops.found c.in_err-next_step.field-0.0 c.ops.invariant (omega arith) c.in_err-next_step.ensures)
 
-pub ops-smaller-in-Plain : goal.ops-smaller-in-Plain
-ops-smaller-in-Plain c = step_shorter Frame c.ops.cursor (bare_step c.in_ok-next_step.field-0, c.next_step.new.cursor) c.ops.invariant.within.bytes c.in_ok-next_step.ensures
-
 pub ops-preserved-in-Plain : goal.ops-preserved-in-Plain
 ops-preserved-in-Plain c =
     read_plain (block_input c.args.target c.args.bytes.now) c.ops.cursor c.next_step.new.cursor c.ops.found (bare_step c.in_ok-next_step.field-0) (bare c.in-Plain.field-0) c.ops.invariant c.in_ok-next_step.ensures (ap bare_step c.in-Plain.is)
 
-pub ops-smaller : goal.ops-smaller
-ops-smaller c = step_shorter Frame c.ops.cursor (bare_step c.in_ok-next_step.field-0, c.next_step.new.cursor) c.ops.invariant.within.bytes c.in_ok-next_step.ensures
-
-pub ops-preserved : goal.ops-preserved
-ops-preserved c = read_jump (block_input c.args.target c.args.bytes.now) c.ops.cursor c.next_step.new.cursor c.ops.found (bare_step c.in_ok-next_step.field-0) c.ops.invariant c.in_ok-next_step.ensures
+pub returns-clause-plain : goal.returns-clause-plain
+returns-clause-plain c = read_plain_end c.args.target c.args.bytes.now c.ops.cursor c.ops.found c.ops.invariant (omega arith)
 
 pub returns-clause-read : goal.returns-clause-read
 returns-clause-read c = read_end (block_input c.args.target c.args.bytes.now) c.ops.cursor c.ops.found c.ops.invariant (omega arith)
 
-pub returns-clause-plain : goal.returns-clause-plain
-returns-clause-plain c = read_plain_end c.args.target c.args.bytes.now c.ops.cursor c.ops.found c.ops.invariant (omega arith)
+pub ops-preserved : goal.ops-preserved
+ops-preserved c = read_jump (block_input c.args.target c.args.bytes.now) c.ops.cursor c.next_step.new.cursor c.ops.found (bare_step c.in_ok-next_step.field-0) c.ops.invariant c.in_ok-next_step.ensures

@@ -1,5 +1,4 @@
-use Rattle.std.proofs.Common.{length}
-use Rattle.dw_op.specs.Inner.Walk.{block_input}
+use Rattle.dw_op.proofs.Words.{length, block_input}
 use Rattle.dw_op.proofs.Judgement.{ReadSo}
 use Rattle.dw_op.proofs.judged_block.has_branch.Given as goal
 

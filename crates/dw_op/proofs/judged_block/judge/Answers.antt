@@ -1,9 +1,8 @@
-use Rattle.std.proofs.lemmas.Result.{err_from_is_err_and}
-use Rattle.dw_op.specs.Inner.Walk.{block_input}
-use Rattle.dw_op.proofs.Judgement.{decoded_bad}
+use Rattle.dw_op.proofs.Words.{err_from_is_err_and, block_input, Frame}
+use Rattle.dw_op.proofs.Lent.Blocks.{decoded_fault}
 use Rattle.dw_op.proofs.judged_block.judge.Goals as goal
 
 pub returns-in_err-has_branch-clause-first : goal.returns-in_err-has_branch-clause-first
 returns-in_err-has_branch-clause-first c =
     let p = err_from_is_err_and c.from_residual.result c.from_residual.ensures.1 in
-    rw (p.1, p.2) (decoded_bad (block_input c.args.target c.args.bytes.now) c.in_err-has_branch.field-0.0 c.in_err-has_branch.ensures.first)
+    rw (p.1, p.2) (decoded_fault Frame (block_input c.args.target c.args.bytes.now) c.in_err-has_branch.field-0.0 c.in_err-has_branch.ensures.first)

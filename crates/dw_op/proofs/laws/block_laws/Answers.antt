@@ -1,7 +1,6 @@
-use Rattle.dw_op.specs.declared.profile.Profile.TheVariants.{Frame, Location}
-use Rattle.dw_op.specs.Inner.LeastBlock.{least_block}
+use Rattle.dw_op.proofs.Words.{Frame, Location, least_block}
 use Rattle.dw_op.specs.Laws.{LeastGivesBack}
-use Rattle.dw_op.proofs.Lent.Blocks.{is_block}
+use Rattle.dw_op.proofs.Lent.Blocks.{block_so}
 use Rattle.dw_op.proofs.Lent.FaultPlaces.{fault_within}
 use Rattle.dw_op.proofs.Lent.LeastBlocks.{in_range_of_block, least_block_exists, block_of_least, least_no_longer}
 use Rattle.dw_op.proofs.Lent.LeastOne.{least_is_one}
@@ -21,6 +20,6 @@ returns c = record {
   least_is_one = least_is_one;
   far = far_has_no_block;
   gives_back = gives_back;
-  near = λ profile t ops bytes k block far. far_has_no_block t ops k bytes far (is_block profile t ops bytes block);
+  near = λ profile t ops bytes k block far. far_has_no_block t ops k bytes far (block_so profile t ops bytes block).0;
   within = fault_within;
 }

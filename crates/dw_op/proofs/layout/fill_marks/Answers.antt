@@ -1,4 +1,4 @@
-use Rattle.std.proofs.Common.{◌-◌, arith}
+use Rattle.dw_op.proofs.Words.{◌-◌, arith}
 use Rattle.dw_op.proofs.Starts.{mark_more}
 use Rattle.dw_op.proofs.layout.fill_marks.Goals as goal
 

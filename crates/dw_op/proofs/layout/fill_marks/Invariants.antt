@@ -1,4 +1,4 @@
-use Rattle.std.proofs.Common.{◌-◌, length}
+use Rattle.dw_op.proofs.Words.{◌-◌, length}
 use Rattle.dw_op.proofs.Starts.{Marking}
 use Rattle.dw_op.proofs.layout.fill_marks.Given as goal
 

@@ -1,4 +1,4 @@
-use Rattle.std.proofs.Common.{◌≤◌, length}
+use Rattle.dw_op.proofs.Words.{◌≤◌, length}
 use Rattle.dw_op.proofs.layout.last_before.Given as goal
 
 abbrev pub invariant-marks : goal.invariant-marks

@@ -1,8 +1,4 @@
-use Rattle.std.proofs.Common.{◌≡◌, ◌+◌, map, arith}
-use Rattle.dw_op.specs.declared.op.Op.TheVariants.{Addr}
-use Rattle.dw_op.specs.Expression.{bare}
-use Rattle.dw_op.specs.Block.{start}
-use Rattle.dw_op.specs.Inner.LeastBlock.{blank_parts}
+use Rattle.dw_op.proofs.Words.{◌≡◌, ◌+◌, map, arith, Addr, bare, start, blank_parts}
 use Rattle.dw_op.proofs.Lent.EncodeLaws.{start_next, starts_more}
 use Rattle.dw_op.proofs.least_block.least_starts.Goals as goal
 

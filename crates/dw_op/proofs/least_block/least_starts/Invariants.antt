@@ -1,7 +1,4 @@
-use Rattle.std.proofs.Common.{◌≡◌, map}
-use Rattle.dw_op.specs.Expression.{bare}
-use Rattle.dw_op.specs.Block.{start}
-use Rattle.dw_op.specs.Inner.LeastBlock.{blank_parts, AreStarts}
+use Rattle.dw_op.proofs.Words.{◌≡◌, map, bare, start, blank_parts, AreStarts}
 use Rattle.dw_op.proofs.least_block.least_starts.Given as goal
 
 abbrev pub invariant-loop-op : goal.invariant-loop-op

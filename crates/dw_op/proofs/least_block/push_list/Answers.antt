@@ -1,7 +1,4 @@
-use Rattle.std.proofs.Common.{◌≡◌, ◌++◌}
-use Rattle.dw_op.specs.Least.{LeastBlock}
-use Rattle.dw_op.specs.LeastBlock.{IsAppended}
-use Rattle.dw_op.specs.Inner.LeastBlock.{blank_parts, least_block, EachFits}
+use Rattle.dw_op.proofs.Words.{◌≡◌, ◌++◌, LeastBlock, IsAppended, blank_parts, least_block, EachFits}
 use Rattle.dw_op.proofs.Lent.LeastBlocks.{least_block_is}
 use Rattle.dw_op.proofs.Lent.EncodeLaws.{on_ok}
 use Rattle.dw_op.proofs.least_block.push_list.Goals as goal

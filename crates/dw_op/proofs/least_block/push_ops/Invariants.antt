@@ -1,8 +1,4 @@
-use Rattle.std.proofs.Common.{◌≡◌, ℕ, ◌<◌, length, take, drop, map, get_or}
-use Rattle.dw_op.specs.declared.op.Op.TheVariants.{Addr}
-use Rattle.dw_op.specs.Expression.{bare}
-use Rattle.dw_op.specs.Block.{branch_target}
-use Rattle.dw_op.specs.Inner.LeastBlock.{blank_parts, BranchFits}
+use Rattle.dw_op.proofs.Words.{◌≡◌, ℕ, ◌<◌, length, take, drop, map, get_or, Addr, bare, branch_target, blank_parts, BranchFits}
 use Rattle.dw_op.proofs.Lent.EncodeLaws.{IsGoing}
 use Rattle.dw_op.proofs.least_block.push_ops.Given as goal
 

@@ -1,8 +1,4 @@
-use Rattle.std.proofs.Common.{◌≡◌, sym, ◌∙◌, false, subst, List}
-use Rattle.std.specs.Prelude.{is_some}
-use Rattle.dw_op.specs.declared.op.Op.{Op}
-use Rattle.dw_op.specs.Expression.{bare}
-use Rattle.dw_op.specs.Block.{branch_target}
+use Rattle.dw_op.proofs.Words.{◌≡◌, sym, ◌∙◌, false, subst, List, is_some, Op, bare, branch_target}
 use Rattle.dw_op.proofs.PlainBlocks.{PlainSo, plain_step, plain_end, no_branch}
 use Rattle.dw_op.proofs.least_expression.put_plain.Goals as goal
 

@@ -1,4 +1,4 @@
-use Rattle.std.proofs.Common.{length}
+use Rattle.dw_op.proofs.Words.{length}
 use Rattle.dw_op.proofs.PlainBlocks.{PlainSo}
 use Rattle.dw_op.proofs.least_expression.put_plain.Given as goal
 

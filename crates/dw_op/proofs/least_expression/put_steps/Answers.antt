@@ -1,7 +1,4 @@
-use Rattle.std.proofs.Common.{subst, List}
-use Rattle.dw_op.specs.declared.op.Op.{Op}
-use Rattle.dw_op.specs.Expression.{bare}
-use Rattle.dw_op.specs.Inner.Lengths.{lengths_at}
+use Rattle.dw_op.proofs.Words.{subst, List, Op, bare, lengths_at}
 use Rattle.dw_op.proofs.LeastSpellings.{Putting, Stepped, put_start, branching, put_next}
 use Rattle.dw_op.proofs.least_expression.put_steps.Goals as goal
 

@@ -1,5 +1,4 @@
-use Rattle.std.proofs.Common.{length, ◌≡◌, ◌+◌}
-use Rattle.dw_op.specs.Inner.LeastBlock.{least_len}
+use Rattle.dw_op.proofs.Words.{length, ◌≡◌, ◌+◌, least_len}
 use Rattle.dw_op.proofs.least_expression.steps_len.Given as goal
 
 abbrev pub invariant-ops : goal.invariant-ops

@@ -1,8 +1,4 @@
-use Rattle.std.proofs.Common.{refl, length, arith, below_more}
-use Rattle.std.proofs.lemmas.Bool.{false≢true}
-use Rattle.std.proofs.lemmas.List.{length-map}
-use Rattle.dw_op.specs.declared.op.Op.TheVariants.{Addr}
-use Rattle.dw_op.specs.Ranges.{InRange}
+use Rattle.dw_op.proofs.Words.{refl, length, arith, below_more, false≢true, length-map, Addr, InRange}
 use Rattle.dw_op.proofs.Lent.Ranges.{all_of, first_bad}
 use Rattle.dw_op.proofs.list.first_bad.Goals as goal
 

@@ -1,7 +1,4 @@
-use Rattle.std.proofs.Common.{ℕ, ◌<◌, length, get_or}
-use Rattle.dw_op.specs.declared.op.Op.TheVariants.{Addr}
-use Rattle.dw_op.specs.Expression.{bare}
-use Rattle.dw_op.specs.Ranges.{InRange}
+use Rattle.dw_op.proofs.Words.{ℕ, ◌<◌, length, get_or, Addr, bare, InRange}
 use Rattle.dw_op.proofs.list.first_bad.Given as goal
 
 abbrev pub invariant-loop-index : goal.invariant-loop-index

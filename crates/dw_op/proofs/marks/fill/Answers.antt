@@ -1,9 +1,6 @@
-use Rattle.std.proofs.Common.{◌-◌, arith}
-use Rattle.dw_op.proofs.Marked.{fill_none, fill_more}
+use Rattle.dw_op.proofs.Words.{◌-◌, arith}
+use Rattle.dw_op.proofs.Marked.{fill_more}
 use Rattle.dw_op.proofs.marks.fill.Goals as goal
-
-pub marks-init : goal.marks-init
-marks-init c = rw (c.clear.ensures, c.copied-cursor.ensures, c.at-low.ensures.place) (fill_none c.args.window.now c.requires.bytes c.requires.read)
 
 pub marks-preserved : goal.marks-preserved
 marks-preserved c =

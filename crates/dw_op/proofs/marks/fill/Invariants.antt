@@ -1,4 +1,4 @@
-use Rattle.std.proofs.Common.{◌-◌, length}
+use Rattle.dw_op.proofs.Words.{◌-◌, length}
 use Rattle.dw_op.proofs.Marked.{FillSo}
 use Rattle.dw_op.proofs.marks.fill.Given as goal
 

@@ -1,5 +1,4 @@
-use Rattle.std.proofs.Common.{length}
-use Rattle.dw_op.specs.Inner.Windows.{Shifted}
+use Rattle.dw_op.proofs.Words.{length, Shifted}
 use Rattle.dw_op.proofs.walk.advance.Given as goal
 
 abbrev pub invariant-ops : goal.invariant-ops

@@ -1,11 +1,7 @@
-use Rattle.std.proofs.Common.{◌≡◌, refl, sym, ap, ◌∙◌}
-use Rattle.dw_section.proofs.Words.{LocatedRow, Outcome, Shows, shown_if}
+use Rattle.dw_section.proofs.Words.{◌≡◌, refl, sym, ap, ◌∙◌, LocatedRow, Shows, shown_if}
 use Rattle.dw_section.proofs.ChangesAmong.{no_fault, found, passes}
 use Rattle.dw_section.proofs.change.find_change.Goals as goal
 use Rattle.dw_section.proofs.change.find_change.Goals.{else-is_visible-via-then-is_visible+else-not-is_shown, else-is_visible-via-else-is_visible}
-
-pub returns-in-Err-clause-finds : goal.returns-in-Err-clause-finds
-returns-in-Err-clause-finds c = ap (λ (o : Outcome). o.fault) c.in-Err.ensures.advances.1
 
 pub returns-then-not-is_shown-clause-finds : goal.returns-then-not-is_shown-clause-finds
 returns-then-not-is_shown-clause-finds c =

@@ -1,5 +1,4 @@
-use Rattle.std.proofs.Common.{◌≡◌, None, length}
-use Rattle.dw_section.proofs.Words.{changes_among, shown_if}
+use Rattle.dw_section.proofs.Words.{◌≡◌, None, length, changes_among, shown_if}
 use Rattle.dw_section.proofs.change.find_change.Given as goal
 
 abbrev pub invariant-rows : goal.invariant-rows

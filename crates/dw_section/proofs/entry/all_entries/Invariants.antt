@@ -1,4 +1,4 @@
-use Rattle.std.proofs.Common.{length}
+use Rattle.dw_section.proofs.Words.{length}
 use Rattle.dw_section.proofs.Items.{IsListed}
 use Rattle.dw_section.proofs.entry.all_entries.Given as goal
 

@@ -1,4 +1,4 @@
-use Rattle.std.proofs.Common.{length}
+use Rattle.dw_section.proofs.Words.{length}
 use Rattle.dw_section.proofs.Tally.{IsTallied}
 use Rattle.dw_section.proofs.entry.cut.Given as goal
 

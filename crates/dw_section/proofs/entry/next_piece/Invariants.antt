@@ -1,6 +1,5 @@
-use Rattle.std.proofs.Common.{◌≤◌, length, List}
-use Rattle.dw_section.specs.Cut.{Piece}
-use Rattle.dw_section.specs.Inner.Left.{PiecesLeft, Stays}
+use Rattle.dw_section.proofs.Words.{◌≤◌, length, List, Piece, PiecesLeft}
+use Rattle.dw_section.specs.Inner.Left.{Stays}
 use Rattle.dw_section.proofs.entry.next_piece.Given as goal
 
 abbrev pub invariant-gaps : goal.invariant-gaps

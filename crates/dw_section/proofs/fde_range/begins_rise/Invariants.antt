@@ -1,5 +1,4 @@
-use Rattle.std.proofs.Common.{ℕ, ◌+◌, ◌<◌, get_or}
-use Rattle.dw_section.specs.declared.fde_range.Ranged.{Ranged}
+use Rattle.dw_section.proofs.Words.{ℕ, ◌+◌, ◌<◌, get_or, Ranged}
 use Rattle.dw_section.proofs.fde_range.begins_rise.Given as goal
 
 abbrev pub invariant-loop-i : goal.invariant-loop-i

@@ -1,5 +1,4 @@
-use Rattle.std.proofs.Common.{map, take}
-use Rattle.dw_section.proofs.Words.{EndsAt, range_in, AreApart}
+use Rattle.dw_section.proofs.Words.{map, take, EndsAt, range_in, AreApart}
 use Rattle.dw_section.proofs.fde_range.first_overlap.Given as goal
 
 abbrev pub invariant-loop-fde : goal.invariant-loop-fde

@@ -1,5 +1,4 @@
-use Rattle.std.proofs.Common.{refl, sym}
-use Rattle.dw_section.proofs.Words.{span_of, initial_head}
+use Rattle.dw_section.proofs.Words.{refl, sym, span_of, initial_head}
 use Rattle.dw_section.proofs.fde_range.range_of.Goals as goal
 
 pub returns-in-Fde-clause-is : goal.returns-in-Fde-clause-is

@@ -1,42 +1,34 @@
-use Rattle.std.proofs.Common.{[], ◌∷◌, ◌++◌, refl, arith}
-use Rattle.dw_section.proofs.Words.{piece_in, Has, CieHolds, FdeHolds, FdeStuck}
-use Rattle.dw_section.proofs.Between.{between_start, between_next, between_end, between_stuck, between_now}
-use Rattle.dw_section.proofs.Lent.HeaderLaws.{has_fde}
-use Rattle.dw_section.proofs.Left.{left_all, stays_then}
-use Rattle.dw_section.proofs.Stages.{all_from_zip, handed_on}
-use Rattle.std.proofs.lemmas.Slice.Zip.{all_zipped_more}
+use Rattle.dw_section.proofs.Words.{◌≡◌, List, ℕ, [], ◌∷◌, refl, inl, inr, piece_in, AllByRecursion, AllZip, Target, Kind, Piece, Head, Has, CieHolds, FdeHolds, cie_head, fde_head}
+use Rattle.dw_section.specs.declared.entry.Kind.TheVariants as kind
+use Rattle.dw_section.proofs.Walk.{walk_start, walk_next, walk_end, walk_stuck}
+use Rattle.dw_section.proofs.Left.{headers_so, left_all}
+use Rattle.dw_section.proofs.Stages.{all_push, handed_on}
 use Rattle.dw_section.proofs.header.fdes_hold.Goals as goal
 
-pub pieces-init : goal.pieces-init
-pieces-init c = rw c.new-cursor.ensures (
-  record { target = refl; end = refl },
-  λ ps p hold. between_start ps (left_all c.args.target c.args.bytes.now ps p) ([], tt),
-)
+-- pieces whose fields hold have headers
+module _ (target : Target) (places : List ℕ) where
+  head_of : (p : Piece) (k : Kind) → p.kind ≡ k → CieHolds target p → FdeHolds target places p → (h : Head) × Has target places p h
+  head_of p kind.Cie is cie fde = let f = cie is in (cie_head p f.0 f.1, inl (f.0, f.1, f.2, refl))
+  head_of p kind.Fde is cie fde = let f = fde is in (fde_head p f.0 f.1, inr (f.0, f.1, f.2, refl))
 
-pub next_piece-requires : goal.next_piece-requires
-next_piece-requires c = omega (arith, c.pieces.invariant.0.end, c.requires.cies.1.small)
+  heads_of : (ps : List Piece) → AllByRecursion (CieHolds target) ps → AllByRecursion (FdeHolds target places) ps → (hs : List Head) × AllZip (Has target places) ps hs
+  heads_of [] cies fdes = ([], tt)
+  heads_of (p ∷ ps) cies fdes = let h = head_of p p.kind refl cies.0 fdes.0 in let more = heads_of ps cies.1 fdes.1 in (h.0 ∷ more.0, (h.1, more.1))
+
+pub pieces-init : goal.pieces-init
+pieces-init c = rw c.new-cursor.ensures (walk_start (left_all c.args.target c.args.bytes.now) (λ ps p. tt))
 
 pub pieces-preserved : goal.pieces-preserved
-pieces-preserved c = (
-  stays_then _ c.pieces.cursor c.next_piece.new.cursor c.pieces.invariant.0 c.in-Some.ensures.on.0,
-  λ ps p hold.
-      let w = c.pieces.invariant.1 ps p hold in
-      let q = c.in-Some.ensures.gives w.rest w.left in
-      let has = c.in_ok-fde_holds.ensures.found (between_now (CieHolds c.args.target) ps w (piece_in c.in-Some.piece) q.0 q.1 hold) in
-      between_next ps w (piece_in c.in-Some.piece) q.0 q.1 q.2
-      (w.so.0 ++ has.0 ∷ [], all_zipped_more (Has c.args.target c.args.places.now) w.front w.so.0 (piece_in c.in-Some.piece) has.0 w.so.1 has.1),
-)
+pieces-preserved c = walk_next _ _ _ c.pieces.invariant c.in-Some.ensures.on.0 c.in-Some.ensures.gives
+    (λ ps p w more is. all_push (FdeHolds c.args.target c.args.places.now) w.front (piece_in c.in-Some.piece) w.so c.in_ok-fde_holds.ensures.found)
 
 pub returns-in_err-fde_holds-clause-first : goal.returns-in_err-fde_holds-clause-first
-returns-in_err-fde_holds-clause-first c = λ ps p hold.
-    let target = c.args.target in
-    let places = c.args.places.now in
-    let w = c.pieces.invariant.1 ps p hold in
-    let q = c.in-Some.ensures.gives w.rest w.left in
-    let front = all_from_zip (Has target places) (FdeHolds target places) (has_fde target places) w.front w.so.0 w.so.1 in
-    handed_on c.from_residual.result _ c.from_residual.ensures.1 (between_stuck (FdeHolds target places) (FdeStuck target places) ps w (piece_in c.in-Some.piece) q.0 c.in_err-fde_holds.field-0.0 q.1 front c.in_err-fde_holds.ensures.stuck)
+returns-in_err-fde_holds-clause-first c =
+    let q = c.requires.cies in
+    handed_on c.from_residual.result _ c.from_residual.ensures.1 (inr (q.0, q.1, rw (← q.2) (walk_stuck _ _ c.pieces.invariant c.in-Some.ensures.gives _ _ _ q.0 q.1.0 (λ front so. so) c.in_err-fde_holds.ensures.stuck)))
 
 pub returns-clause-found : goal.returns-clause-found
-returns-clause-found c = λ ps p hold.
-    let w = c.pieces.invariant.1 ps p hold in
-    between_end ps w (c.in_default.ensures.gives w.rest w.left)
+returns-clause-found c =
+    let q = c.requires.cies in
+    let heads = heads_of c.args.target c.args.places.now q.0 q.1.1 (walk_end _ c.pieces.invariant c.in_default.ensures.gives q.0 q.1.0) in
+    (heads.0, headers_so c.args.target c.args.bytes.now q.0 c.args.places.now heads.0 q.1.0 q.2 heads.1)

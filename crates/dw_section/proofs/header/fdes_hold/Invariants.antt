@@ -1,13 +1,9 @@
-use Rattle.std.proofs.Common.{length, List}
-use Rattle.dw_section.proofs.Words.{AllByRecursion, AllZip, Piece, PiecesLeft, Head, Has, CieHolds, Pieces}
-use Rattle.dw_section.specs.Inner.Left.{Stays}
-use Rattle.dw_section.proofs.Between.{Between}
+use Rattle.dw_section.proofs.Words.{length, AllByRecursion, PiecesLeft, FdeHolds, Pieces}
+use Rattle.dw_section.proofs.Walk.{Walk}
 use Rattle.dw_section.proofs.header.fdes_hold.Given as goal
 
 abbrev pub invariant-pieces : goal.invariant-pieces
-invariant-pieces l =
-    Stays (record { at = 0; bytes = l.bytes; target = l.fn.target }) l.cursor
-    × ((ps : List Piece) → Pieces l.fn.target l.bytes ps → AllByRecursion (CieHolds l.fn.target) ps → Between (PiecesLeft l.cursor) (λ front. (hs : List Head) × AllZip (Has l.fn.target l.places) front hs) ps)
+invariant-pieces l = Walk PiecesLeft (Pieces l.fn.target l.bytes) (λ ps. AllByRecursion (FdeHolds l.fn.target l.places)) (record { at = 0; bytes = l.bytes; target = l.fn.target }) l.cursor
 
 abbrev pub decreases-pieces : goal.decreases-pieces
 decreases-pieces l = length l.cursor.bytes

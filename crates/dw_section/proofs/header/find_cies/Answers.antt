@@ -1,50 +1,33 @@
-use Rattle.std.proofs.Common.{◌≡◌, List, [], ◌∷◌, ◌++◌, refl, sym, ap, ◌∙◌, append_assoc, arith}
+use Rattle.dw_section.proofs.Words.{refl, arith, inr, CieHolds, CieStuck, Pieces, PiecesLeft, refuses_by}
 use Rattle.dw_section.proofs.AllMet.{all_placed}
-use Rattle.dw_section.proofs.Words.{Piece, piece_in, CieHolds, CieStuck}
-use Rattle.dw_section.proofs.Between.{between_start, between_next, between_end, between_stuck}
-use Rattle.dw_num.proofs.Lent.Refusals.{refuses_by}
-use Rattle.dw_section.proofs.Left.{left_all, stays_then}
+use Rattle.dw_section.proofs.Walk.{Walk, walk_start, walk_next, walk_end, walk_stuck}
+use Rattle.dw_section.proofs.Left.{left_all}
+use Rattle.dw_section.proofs.Lent.HeaderLaws.{AreCies}
 use Rattle.dw_section.proofs.Stages.{handed_on}
+use Rattle.dw_section.proofs.header.find_cies.Goals.{In_ok-keep_cie}
 use Rattle.dw_section.proofs.header.find_cies.Goals as goal
 
-pub pieces-init : goal.pieces-init
-pieces-init c = rw (c.new-cursor.ensures, c.in_ok-places.ensures.items) (
-  record { target = refl; end = refl },
-  λ ps p. between_start ps (left_all c.args.target c.args.bytes.now ps p) (record { hold = tt; are = refl }),
-)
+next : (c : In_ok-keep_cie) → Walk PiecesLeft (Pieces c.args.target c.args.bytes.now) (λ ps front. AreCies c.args.target front c.keep_cie.new.places.items) (record { at = 0; bytes = c.args.bytes.now; target = c.args.target }) c.next_piece.new.cursor
+next c = walk_next _ _ _ c.pieces.invariant c.in-Some.ensures.on.0 c.in-Some.ensures.gives (λ ps p w more is. let so = c.in_ok-keep_cie.ensures.found w.front w.so.hold w.so.are in record { hold = so.0; are = so.1 })
 
-pub next_piece-requires : goal.next_piece-requires
-next_piece-requires c = omega (arith, c.pieces.invariant.0.end, c.requires.pieces.1.small)
+pub pieces-init : goal.pieces-init
+pieces-init c = rw (c.new-cursor.ensures, c.in_ok-places.ensures.items) (walk_start (left_all c.args.target c.args.bytes.now) (λ ps p. record { hold = tt; are = refl }))
 
 pub pieces-preserved : goal.pieces-preserved
-pieces-preserved c = (
-  stays_then _ c.pieces.cursor c.next_piece.new.cursor c.pieces.invariant.0 c.in-Some.ensures.on.0,
-  λ ps p.
-      let w = c.pieces.invariant.1 ps p in
-      let q = c.in-Some.ensures.gives w.rest w.left in
-      let so = c.in_ok-keep_cie.ensures.found w.front w.so.hold w.so.are in
-      between_next ps w (piece_in c.in-Some.piece) q.0 q.1 q.2 (record { hold = so.0; are = so.1 }),
-)
+pieces-preserved c = next (goal.at.pieces-preserved c).In_ok-keep_cie
 
 pub returns-in_err-keep_cie-clause-first : goal.returns-in_err-keep_cie-clause-first
-returns-in_err-keep_cie-clause-first c = λ ps p.
-    let w = c.pieces.invariant.1 ps p in
-    let q = c.in-Some.ensures.gives w.rest w.left in
+returns-in_err-keep_cie-clause-first c =
+    let q = c.requires.pieces in
     handed_on c.from_residual-in_err-keep_cie.result _ c.from_residual-in_err-keep_cie.ensures.1 (refuses_by c.in_err-keep_cie.field-0.0 _ _
-    (λ r h. between_stuck (CieHolds c.args.target) (CieStuck c.args.target) ps w (piece_in c.in-Some.piece) q.0 r q.1 w.so.hold h) c.in_err-keep_cie.ensures.first)
+    (λ r stuck. inr (q.0, q.1, walk_stuck _ _ c.pieces.invariant c.in-Some.ensures.gives (CieHolds c.args.target) (CieStuck c.args.target) r q.0 q.1 (λ front so. so.hold) stuck)) c.in_err-keep_cie.ensures.first)
 
 pub returns-clause-found : goal.returns-clause-found
-returns-clause-found c = λ ps p.
-    let w = c.pieces.invariant.1 ps p in
-    let all = between_end ps w (c.in_default.ensures.gives w.rest w.left) in
-    (all.hold, all.are)
+returns-clause-found c = let q = c.requires.pieces in let all = walk_end _ c.pieces.invariant c.in_default.ensures.gives q.0 q.1 in (q.0, (q.1, all.hold), all.are)
 
 pub returns-then-len-count-clause-found : goal.returns-then-len-count-clause-found
-returns-then-len-count-clause-found c = λ ps p.
-    let w = c.pieces.invariant.1 ps p in
-    let q = c.in-Some.ensures.gives w.rest w.left in
-    let so = c.in_ok-keep_cie.ensures.found w.front w.so.hold w.so.are in
-    let piece = piece_in c.in-Some.piece in
-    let whole : ps ≡ (w.front ++ piece ∷ []) ++ q.0 = w.whole ∙ ap (λ (l : List Piece). w.front ++ l) q.1 ∙ sym (append_assoc w.front (piece ∷ []) q.0) in
-    let all = all_placed c.args.target ps (w.front ++ piece ∷ []) q.0 c.keep_cie.new.places.items whole (record { hold = so.0; are = so.1 }) (omega (arith, c.len.ensures, c.if-len-count.true, c.requires.count ps p)) in
-    (all.hold, all.are)
+returns-then-len-count-clause-found c =
+    let q = c.requires.pieces in
+    let w = (next (goal.at.returns-then-len-count-clause-found c).In_ok-keep_cie).at q.0 q.1 in
+    let all = all_placed c.args.target q.0 w.front w.rest c.keep_cie.new.places.items w.whole w.so (omega (arith, c.len.ensures, c.if-len-count.true, q.2)) in
+    (q.0, (q.1, all.hold), all.are)

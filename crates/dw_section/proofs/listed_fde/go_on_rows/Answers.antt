@@ -1,8 +1,4 @@
-use Rattle.std.proofs.Common.{List, arith, sym, subst}
-use Rattle.dw_section.proofs.Words.{span_of, input_of, LocatedRow, Led}
-use Rattle.dw_cfa.specs.Gives.{Gives, RunsTo}
-use Rattle.dw_cfa.specs.RowSteps.{program_input}
-use Rattle.dw_cfa.proofs.Lent.Given.{known_gives, run_steps}
+use Rattle.dw_section.proofs.Words.{arith, subst, span_of, input_of, Led, RunsTo, program_input, run_steps}
 use Rattle.dw_section.proofs.listed_fde.go_on_rows.Goals as goal
 
 pub returns-clause-steps : goal.returns-clause-steps
@@ -11,9 +7,3 @@ returns-clause-steps c =
     let runs = subst (λ (l : Led). RunsTo l.factors l.program (program_input e.program l.program.target) e.begin c.go_on.new.self.steps.outcome) c.requires.led c.go_on.ensures.runs in
     run_steps e.factors (input_of c.args.target (span_of e.cie_program)) (input_of c.args.target (span_of e.program)) e.begin c.args.steps.now.steps.current c.go_on.new.self.steps
     c.are_bytes.ensures c.are_bytes-2.ensures (omega (arith, c.requires.in_space)) c.go_on.ensures.steps runs
-
-pub go_on-requires-clause-known : goal.go_on-requires-clause-known
-go_on-requires-clause-known c =
-    let e = c.args.fde.now in
-    let known = known_gives e.factors (input_of c.args.target (span_of e.cie_program)) (input_of c.args.target (span_of e.program)) e.begin c.are_bytes.ensures c.are_bytes-2.ensures (omega (arith, c.requires.in_space)) c.requires.no_fault in
-    subst (λ (l : Led). (rows : List LocatedRow) × Gives l.factors l.program (program_input e.program l.program.target) e.begin rows) (sym c.requires.led) known

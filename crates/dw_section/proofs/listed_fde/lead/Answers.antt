@@ -1,6 +1,4 @@
-use Rattle.std.proofs.Common.{◌≡◌, ℕ, Option, subst, arith}
-use Rattle.dw_section.specs.Inner.Index.{led_to}
-use Rattle.dw_section.specs.Inner.Lookup.{LedBy, LedSo}
+use Rattle.dw_section.proofs.Words.{◌≡◌, ℕ, Option, subst, arith, led_to, LedBy, LedSo}
 use Rattle.dw_section.proofs.CieLaws.{one_led}
 use Rattle.dw_section.proofs.listed_fde.lead.Goals as goal
 

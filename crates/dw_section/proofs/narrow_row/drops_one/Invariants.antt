@@ -1,5 +1,4 @@
-use Rattle.std.proofs.Common.{◌≡◌, ◌<◌, ◌-◌, ℕ, true, Some}
-use Rattle.dw_section.proofs.Words.{place_behind, Rules, rule, is_specified}
+use Rattle.dw_section.proofs.Words.{◌≡◌, ◌<◌, ◌-◌, ℕ, true, Some, place_behind, Rules, rule, is_specified}
 use Rattle.dw_section.proofs.narrow_row.drops_one.Given as goal
 
 abbrev pub invariant-registers : goal.invariant-registers

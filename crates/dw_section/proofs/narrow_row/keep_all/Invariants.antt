@@ -1,5 +1,4 @@
-use Rattle.std.proofs.Common.{◌≡◌, true, length}
-use Rattle.dw_section.proofs.Words.{kept_by, last_shown, NarrowedBy}
+use Rattle.dw_section.proofs.Words.{◌≡◌, true, length, kept_by, last_shown, NarrowedBy}
 use Rattle.dw_section.proofs.narrow_row.keep_all.Given as goal
 
 abbrev pub invariant-changes : goal.invariant-changes

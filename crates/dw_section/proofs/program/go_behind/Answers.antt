@@ -1,5 +1,4 @@
-use Rattle.std.proofs.Common.{Some, ℕ, refl, subst}
-use Rattle.dw_section.specs.Inner.Initials.{IsBehind}
+use Rattle.dw_section.proofs.Words.{Some, ℕ, refl, subst, IsBehind}
 use Rattle.dw_section.proofs.program.go_behind.Goals as goal
 
 pub returns : goal.returns

@@ -1,6 +1,4 @@
-use Rattle.std.proofs.Common.{rules, arith, nat_lt}
-use Rattle.std.proofs.lemmas.List.Sorted.{IsPartitionPoint-from_clause, IsPartitionedBy-ltb}
-use Rattle.dw_section.proofs.Words.{Initial, place_of}
+use Rattle.dw_section.proofs.Words.{rules, arith, nat_lt, IsPartitionPoint-from_clause, IsPartitionedBy-ltb, Initial, place_of}
 use Rattle.dw_section.proofs.Lent.Judged.{initials_ascend, found_initial}
 use Rattle.dw_section.proofs.program.index_of.Goals as goal
 

@@ -1,6 +1,4 @@
-use Rattle.std.proofs.Common.{w64, refl}
-use Rattle.std.proofs.lemmas.Int.{to_z-of_z}
-use Rattle.dw_section.specs.Headers.{head_in}
+use Rattle.dw_section.proofs.Words.{w64, refl, to_z-of_z, head_in}
 use Rattle.dw_section.proofs.Lent.Judged.{initials_cie, initials_fde}
 use Rattle.dw_section.proofs.program.keep_initial.Goals as goal
 
@@ -14,4 +12,4 @@ returns-in_ok-push-in-Cie-clause-found c = λ hs front among w.
     (made.ensures.found hs c.in-Cie.form (rw same (rw c.in-Cie.is at among))))
 
 pub returns-in-Fde-clause-found : goal.returns-in-Fde-clause-found
-returns-in-Fde-clause-found c = λ hs front among w. initials_fde c.args.target hs front c.args.initials.now.items (head_in c.args.header.now) w (rw c.in-Fde.is tt) (rw c.in-Fde.is refl)
+returns-in-Fde-clause-found c = λ hs front among w. initials_fde c.args.target hs front c.args.initials.now.items (head_in c.args.header.now) w (rw c.in-Fde.is refl)

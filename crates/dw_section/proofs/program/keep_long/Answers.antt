@@ -1,4 +1,4 @@
-use Rattle.dw_section.specs.Inner.Initials.{IsLong}
+use Rattle.dw_section.proofs.Words.{IsLong}
 use Rattle.dw_section.proofs.Stages.{all_push}
 use Rattle.dw_section.proofs.program.keep_long.Goals as goal
 

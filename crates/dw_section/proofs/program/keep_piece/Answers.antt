@@ -1,13 +1,8 @@
-use Rattle.std.proofs.Common.{ℕ, List, None, ◌≡◌, inl, inr, subst, refl}
-use Rattle.dw_section.proofs.Words.{Target, Piece, Head, Has, head_in, cie_at_of, piece_in, CieRuns, IsAmong}
-use Rattle.dw_section.specs.declared.entry.Kind.TheVariants as kind
+use Rattle.dw_section.proofs.Words.{◌∙◌, subst, refl, Head, head_in, piece_in, IsAmong}
 use Rattle.dw_section.proofs.Lent.HeaderLaws.{has_one, cie_apart, cie_faulty}
+use Rattle.dw_section.proofs.Lent.Heads.{has_place}
 use Rattle.dw_section.proofs.Lent.Judged.{initials_fde}
 use Rattle.dw_section.proofs.program.keep_piece.Goals as goal
-
-is_fde : (target : Target) (places : List ℕ) (p : Piece) (h : Head) → Has target places p h → p.kind ≡ kind.Fde → CieRuns target h × (cie_at_of h ≡ None)
-is_fde target places p h (inl c) is = let a = c.2.0 in absurd cc
-is_fde target places p h (inr f) is = (rw f.3 tt, rw f.3 refl)
 
 pub returns-in-Ok-clause-found : goal.returns-in-Ok-clause-found
 returns-in-Ok-clause-found c = λ hs front places h has among w.
@@ -23,6 +18,4 @@ pub returns-in-Err-clause-found : goal.returns-in-Err-clause-found
 returns-in-Err-clause-found c = λ hs front places h has among w. absurd (cie_apart c.args.target (piece_in c.args.piece.now) c.in-Err.field-0 c.requires (c.in-Cie.is, cie_faulty c.args.target (piece_in c.args.piece.now) c.in-Err.field-0 c.in-Err.ensures.exact))
 
 pub returns-in-Fde-clause-found : goal.returns-in-Fde-clause-found
-returns-in-Fde-clause-found c = λ hs front places h has among w.
-    let f = is_fde c.args.target places (piece_in c.args.piece.now) h has c.in-Fde.is in
-    initials_fde c.args.target hs front c.args.initials.now.items h w f.0 f.1
+returns-in-Fde-clause-found c = λ hs front places h has among w. initials_fde c.args.target hs front c.args.initials.now.items h w (has_place c.args.target places (piece_in c.args.piece.now) h has ∙ rw c.in-Fde.is refl)

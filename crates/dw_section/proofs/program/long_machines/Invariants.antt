@@ -1,5 +1,4 @@
-use Rattle.std.proofs.Common.{List}
-use Rattle.dw_section.proofs.Words.{AllByRecursion, Head, IsInitial, IsLong}
+use Rattle.dw_section.proofs.Words.{List, AllByRecursion, Head, IsInitial, IsLong}
 use Rattle.dw_section.proofs.program.long_machines.Given as goal
 
 abbrev pub invariant-loop-initial : goal.invariant-loop-initial

@@ -1,6 +1,4 @@
-use Rattle.std.proofs.Common.{refl}
-use Rattle.dw_num.specs.Span.{span_of, input_of}
-use Rattle.dw_cfa.proofs.Lent.Given.{leaves_one}
+use Rattle.dw_section.proofs.Words.{refl, span_of, input_of, leaves_one}
 use Rattle.dw_section.proofs.program.machine_of.Goals as goal
 
 pub returns-in-Ok : goal.returns-in-Ok

@@ -1,7 +1,4 @@
-use Rattle.std.proofs.Common.{Option, ℕ, sym, subst}
-use Rattle.std.proofs.lemmas.Result.{IfOk-weaker, IfErr-weaker}
-use Rattle.dw_section.proofs.Words.{span_of, IsBehind}
-use Rattle.dw_num.proofs.Lent.Refusals.{refuses_by}
+use Rattle.dw_section.proofs.Words.{Option, ℕ, sym, subst, IfOk-weaker, IfErr-weaker, span_of, IsBehind, refuses_by}
 use Rattle.dw_section.proofs.Lent.Judged.{behind_stays, behind_found, behind_broken}
 use Rattle.dw_section.proofs.program.run_behind.Goals as goal
 

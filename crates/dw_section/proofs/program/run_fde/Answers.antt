@@ -1,7 +1,4 @@
-use Rattle.std.proofs.Common.{subst, arith}
-use Rattle.dw_section.proofs.Words.{span_of, input_of, FdeFault, Rules, AreSpecified}
-use Rattle.dw_cfa.proofs.Lent.Given.{rules_behind}
-use Rattle.dw_num.proofs.Lent.Refusals.{refuses_by}
+use Rattle.dw_section.proofs.Words.{subst, arith, span_of, input_of, FdeFault, Rules, AreSpecified, rules_behind, refuses_by}
 use Rattle.dw_section.proofs.Stages.{handed_on}
 use Rattle.dw_section.proofs.program.run_fde.Goals as goal
 

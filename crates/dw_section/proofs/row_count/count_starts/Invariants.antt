@@ -1,5 +1,4 @@
-use Rattle.std.proofs.Common.{◌≡◌, ◌+◌, ◌≤◌, length}
-use Rattle.dw_section.proofs.Words.{answers, moves_in}
+use Rattle.dw_section.proofs.Words.{◌≡◌, ◌+◌, ◌≤◌, length, answers, moves_in}
 use Rattle.dw_section.proofs.row_count.count_starts.Given as goal
 
 abbrev pub invariant-instrs : goal.invariant-instrs

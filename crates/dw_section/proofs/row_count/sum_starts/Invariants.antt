@@ -1,5 +1,4 @@
-use Rattle.std.proofs.Common.{◌≡◌, ℕ, ◌*◌, ◌≤◌, List, take, map}
-use Rattle.dw_section.proofs.Words.{AllByRecursion, AllZip, RulesHold, Head, IsRanged, range_in, AreInitials, Starts, total}
+use Rattle.dw_section.proofs.Words.{◌≡◌, ℕ, ◌*◌, ◌≤◌, List, take, map, AllByRecursion, AllZip, RulesHold, Head, IsRanged, range_in, AreInitials, Starts, total}
 use Rattle.dw_section.proofs.row_count.sum_starts.Given as goal
 
 abbrev pub invariant-loop-fde : goal.invariant-loop-fde

@@ -1,5 +1,4 @@
-use Rattle.std.proofs.Common.{ap}
-use Rattle.dw_section.specs.Cut.{Piece}
+use Rattle.dw_section.proofs.Words.{ap, Piece}
 use Rattle.dw_section.proofs.standing_fde.cie_at.Goals as goal
 
 pub returns-in_default-clause-only : goal.returns-in_default-clause-only
@@ -14,17 +13,3 @@ returns-in-Fde-clause-only c = λ p stands at kind.
     let other = ap (λ (q : Piece). q.kind) same in
     let is = c.in-Fde.is in
     absurd cc
-
-pub returns-in_default-clause-stands : goal.returns-in_default-clause-stands
-returns-in_default-clause-stands c = (λ p w. rw c.in_default.is at (c.in_ok-piece.ensures.only p w.0 w.2), c.in_ok-piece.ensures.none)
-
-pub returns-in-Fde-clause-stands : goal.returns-in-Fde-clause-stands
-returns-in-Fde-clause-stands c = (
-  λ p w.
-      let same = rw c.in-Some.is at (c.in_ok-piece.ensures.only p w.0 w.2) in
-      let other = ap (λ (q : Piece). q.kind) same in
-      let here = w.1 in
-      let is = c.in-Fde.is in
-      absurd cc,
-  c.in_ok-piece.ensures.none,
-)

@@ -1,40 +1,32 @@
-use Rattle.std.proofs.Common.{◌≡◌, [], ◌∷◌, Some, None, refl, sym, ◌∙◌, inl, inr, arith}
-use Rattle.dw_section.proofs.Words.{FoundFde, head_in, piece_in, AreJoined, FoundStands}
-use Rattle.dw_section.proofs.StandLaws.{own_of, named_of, fde_never, cie_never, stands_joined, fde_is, cie_is, if_some}
-use Rattle.dw_section.proofs.StandFaults.{no_cie, own_stuck, named_stuck, stands_wide}
-use Rattle.dw_section.proofs.FaultPlaces.{stand_ends}
+use Rattle.dw_section.proofs.Words.{[], ◌∷◌, Some, None, inr, head_in, piece_in}
+use Rattle.std.proofs.lemmas.Option.{IfSome_then}
+use Rattle.dw_section.proofs.StandLaws.{named_of, fde_never, cie_never, stands_joined, fde_is, cie_is}
+use Rattle.dw_section.proofs.StandFaults.{no_cie, own_stuck, named_stuck}
 use Rattle.dw_section.proofs.StandPlaces.{cie_within, fde_within}
 use Rattle.dw_section.proofs.Stages.{handed_on}
 use Rattle.dw_section.proofs.standing_fde.fde_in.Goals as goal
-
-pub pointer_of-pointer-requires : goal.pointer_of-pointer-requires
-pointer_of-pointer-requires c = stands_wide c.args.target.order c.args.bytes.now (piece_in c.args.own.now) c.requires.stands
 
 -- ---- an FDE that stands is not refused
 
 pub returns-in_err-named-clause-only : goal.returns-in_err-named-clause-only
 returns-in_err-named-clause-only c = λ w.
-    let pointer = c.pointer_of-pointer.ensures.only (w.0.cie_at ∷ []) w.0 (own_of c.args.target c.args.bytes.now c.args.own.now.at (piece_in c.args.own.now) w c.requires.stands refl) in
-    let named = named_of c.args.target c.args.bytes.now c.args.own.now.at w in
-    absurd (c.in_err-named.ensures.only w.2.named_piece w.2.named_stands (named.0 ∙ sym pointer) named.1)
+    let named = named_of c.args.target c.args.bytes.now (piece_in c.args.own.now) w c.requires.stands c.pointer_of-pointer.result c.pointer_of-pointer.ensures.only in
+    absurd (c.in_err-named.ensures.only w.2.named_piece w.2.named_stands named.0 named.1)
 
 pub returns-in_default-clause-only : goal.returns-in_default-clause-only
 returns-in_default-clause-only c = λ w.
-    let pointer = c.pointer_of-pointer.ensures.only (w.0.cie_at ∷ []) w.0 (own_of c.args.target c.args.bytes.now c.args.own.now.at (piece_in c.args.own.now) w c.requires.stands refl) in
-    let named = named_of c.args.target c.args.bytes.now c.args.own.now.at w in
-    rw c.in_default.is at (c.in_ok-named.ensures.only w.2.named_piece w.2.named_stands (named.0 ∙ sym pointer) named.1)
+    let named = named_of c.args.target c.args.bytes.now (piece_in c.args.own.now) w c.requires.stands c.pointer_of-pointer.result c.pointer_of-pointer.ensures.only in
+    rw c.in_default.is at (c.in_ok-named.ensures.only w.2.named_piece w.2.named_stands named.0 named.1)
 
 pub returns-in_err-header-clause-only : goal.returns-in_err-header-clause-only
 returns-in_err-header-clause-only c = λ w.
-    let own = own_of c.args.target c.args.bytes.now c.args.own.now.at (piece_in c.args.own.now) w c.requires.stands refl in
-    let pointer = c.pointer_of-pointer.ensures.only (w.0.cie_at ∷ []) w.0 own in
-    absurd (fde_never c.args.target (w.0.cie_at ∷ []) (piece_in c.args.own.now) w.0 _ own (rw pointer at c.in_err-header.ensures.exact))
+    let named = named_of c.args.target c.args.bytes.now (piece_in c.args.own.now) w c.requires.stands c.pointer_of-pointer.result c.pointer_of-pointer.ensures.only in
+    absurd (fde_never c.args.target (c.pointer_of-pointer.result ∷ []) (piece_in c.args.own.now) w.0 _ named.2 c.in_err-header.ensures.exact)
 
 pub returns-in_err-cie-clause-only : goal.returns-in_err-cie-clause-only
 returns-in_err-cie-clause-only c = λ w.
-    let pointer = c.pointer_of-pointer.ensures.only (w.0.cie_at ∷ []) w.0 (own_of c.args.target c.args.bytes.now c.args.own.now.at (piece_in c.args.own.now) w c.requires.stands refl) in
-    let named = named_of c.args.target c.args.bytes.now c.args.own.now.at w in
-    let same = rw c.in-Some.is at (c.in_ok-named.ensures.only w.2.named_piece w.2.named_stands (named.0 ∙ sym pointer) named.1) in
+    let named = named_of c.args.target c.args.bytes.now (piece_in c.args.own.now) w c.requires.stands c.pointer_of-pointer.result c.pointer_of-pointer.ensures.only in
+    let same = rw c.in-Some.is at (c.in_ok-named.ensures.only w.2.named_piece w.2.named_stands named.0 named.1) in
     absurd (cie_never c.args.target w.2.named_piece w.1 _ w.2.named_is (rw same at c.in_err-cie.ensures.exact))
 
 pub returns-clause-only : goal.returns-clause-only
@@ -46,41 +38,34 @@ returns-clause-only c = λ w.
 pub returns-clause-found : goal.returns-clause-found
 returns-clause-found c =
     let found = rw c.in-Some.is at c.in_ok-named.ensures.found in
-    if_some (AreJoined (head_in c.in_ok-header.header) (head_in c.in_ok-cie.cie)) (λ (e : FoundFde). (e.at ≡ c.args.own.now.at) × FoundStands c.args.target c.args.bytes.now e) c.joined.result
+    IfSome_then c.joined.result c.joined.ensures.found
     (λ e j. stands_joined c.args.target c.args.bytes.now (piece_in c.args.own.now) (piece_in c.in-Some.named) c.pointer_of-pointer.result (head_in c.in_ok-header.header) (head_in c.in_ok-cie.cie) e c.requires.stands found.2 found.0 c.in_ok-header.ensures.found (c.in_ok-cie.ensures.found []) j)
-    c.joined.ensures.found
 
 -- ---- a refusal is the first fault
-
-pub returns-in_err-named-clause-fault : goal.returns-in_err-named-clause-fault
-returns-in_err-named-clause-fault c =
-    handed_on c.from_residual.result _ c.from_residual.ensures.1 (c.pointer_of-pointer.result, c.pointer_of-pointer.ensures.names, inl c.in_err-named.ensures.fault)
 
 pub returns-in_default-clause-fault : goal.returns-in_default-clause-fault
 returns-in_default-clause-fault c =
     let p = c.pointer_of-pointer in
-    let names = p.ensures.names in
-    (p.result, names, inr (None, rw c.in_default.is at c.in_ok-named.ensures.stands, no_cie c.args.target (piece_in c.args.own.now) p.result c.requires.kind names))
+    let none = c.in_ok-named.ensures in
+    (p.result, p.ensures.names, inr (None, (λ q w. rw c.in_default.is at (none.only q w.0 w.2 w.1), none.none), no_cie c.args.target (piece_in c.args.own.now) p.result c.requires.kind p.ensures.names))
 
 pub returns-in_err-header-clause-fault : goal.returns-in_err-header-clause-fault
 returns-in_err-header-clause-fault c =
     let p = c.pointer_of-pointer in
     let named = piece_in c.in-Some.named in
-    let stands = rw c.in-Some.is at c.in_ok-named.ensures.stands in
-    handed_on c.from_residual-in_err-header.result _ c.from_residual-in_err-header.ensures.1 (p.result, p.ensures.names, inr (Some named, stands, own_stuck c.args.target c.args.bytes.now (piece_in c.args.own.now) named p.result _ c.requires.kind stands c.in_err-header.ensures.exact))
+    let found = rw c.in-Some.is at c.in_ok-named.ensures.found in
+    let stuck = own_stuck c.args.target c.args.bytes.now (piece_in c.args.own.now) named p.result _ c.requires.kind (found.2, found.1, found.0) c.in_err-header.ensures.exact in
+    handed_on c.from_residual-in_err-header.result _ c.from_residual-in_err-header.ensures.1 (p.result, p.ensures.names, inr (Some named, (found.2, found.1, found.0), stuck))
 
 pub returns-in_err-cie-clause-fault : goal.returns-in_err-cie-clause-fault
 returns-in_err-cie-clause-fault c =
     let p = c.pointer_of-pointer in
     let named = piece_in c.in-Some.named in
-    let stands = rw c.in-Some.is at c.in_ok-named.ensures.stands in
-    let stuck = named_stuck c.args.target c.args.bytes.now (piece_in c.args.own.now) named p.result (head_in c.in_ok-header.header) _ stands c.in_ok-header.ensures.found c.in_err-cie.ensures.exact in
-    handed_on c.from_residual-in_err-cie.result _ c.from_residual-in_err-cie.ensures.1 (p.result, p.ensures.names, inr (Some named, stands, stuck))
+    let found = rw c.in-Some.is at c.in_ok-named.ensures.found in
+    let stuck = named_stuck c.args.target c.args.bytes.now (piece_in c.args.own.now) named p.result (head_in c.in_ok-header.header) _ (found.2, found.1, found.0) c.in_ok-header.ensures.found c.in_err-cie.ensures.exact in
+    handed_on c.from_residual-in_err-cie.result _ c.from_residual-in_err-cie.ensures.1 (p.result, p.ensures.names, inr (Some named, (found.2, found.1, found.0), stuck))
 
 -- ---- its place lies in the bytes
-
-pub returns-in_default-clause-within : goal.returns-in_default-clause-within
-returns-in_default-clause-within c = omega (arith, (stand_ends c.args.target.order c.args.bytes.now (piece_in c.args.own.now) c.requires.stands).1)
 
 pub returns-in_err-header-clause-within : goal.returns-in_err-header-clause-within
 returns-in_err-header-clause-within c =

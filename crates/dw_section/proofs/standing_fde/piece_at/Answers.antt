@@ -1,4 +1,4 @@
-use Rattle.std.proofs.Common.{refl, sym, arith}
+use Rattle.dw_section.proofs.Words.{refl, sym, arith}
 use Rattle.dw_section.proofs.StandLaws.{rest_is, never_stuck, stands_here, one_piece}
 use Rattle.dw_section.proofs.StandPlaces.{item_within}
 use Rattle.dw_section.proofs.Stages.{handed_on}
@@ -14,11 +14,9 @@ returns-in_err-next_part-clause-within c =
 pub returns-in-Entry-clause-found : goal.returns-in-Entry-clause-found
 returns-in-Entry-clause-found c =
     let p = rw c.in-Entry.is at c.in_ok-next_part.ensures.found in
-    let place = rw c.in-Entry.is at c.in_ok-next_part.ensures.placed in
-    (refl, stands_here c.args.target c.args.bytes.now c.args.at c.new-cursor.result c.next_part.new.cursor c.in-Entry.form c.kind_in.result c.in-Entry.contents.at c.in-Entry.contents.bytes.now (rest_is c.new-cursor.result c.args.target c.args.bytes.now c.args.at (omega (arith, c.if-at-bytes.false)) c.new-cursor.ensures) (omega (arith, c.if-at-bytes.false)) p.0 p.1 c.kind_in.ensures place)
+    (refl, stands_here c.args.target c.args.bytes.now c.args.at c.new-cursor.result c.next_part.new.cursor c.in-Entry.form c.kind_in.result c.in-Entry.contents.at c.in-Entry.contents.bytes.now (rest_is c.new-cursor.result c.args.target c.args.bytes.now c.args.at (omega (arith, c.if-at-bytes.false)) c.new-cursor.ensures) (omega (arith, c.if-at-bytes.false)) p.0 p.1 c.kind_in.ensures p.2)
 
 pub returns-in-Entry-clause-only : goal.returns-in-Entry-clause-only
 returns-in-Entry-clause-only c = λ q stands at.
     let p = rw c.in-Entry.is at c.in_ok-next_part.ensures.found in
-    let place = rw c.in-Entry.is at c.in_ok-next_part.ensures.placed in
-    one_piece c.args.target.order c.args.bytes.now _ q (stands_here c.args.target c.args.bytes.now c.args.at c.new-cursor.result c.next_part.new.cursor c.in-Entry.form c.kind_in.result c.in-Entry.contents.at c.in-Entry.contents.bytes.now (rest_is c.new-cursor.result c.args.target c.args.bytes.now c.args.at (omega (arith, c.if-at-bytes.false)) c.new-cursor.ensures) (omega (arith, c.if-at-bytes.false)) p.0 p.1 c.kind_in.ensures place) stands (sym at)
+    one_piece c.args.target.order c.args.bytes.now _ q (stands_here c.args.target c.args.bytes.now c.args.at c.new-cursor.result c.next_part.new.cursor c.in-Entry.form c.kind_in.result c.in-Entry.contents.at c.in-Entry.contents.bytes.now (rest_is c.new-cursor.result c.args.target c.args.bytes.now c.args.at (omega (arith, c.if-at-bytes.false)) c.new-cursor.ensures) (omega (arith, c.if-at-bytes.false)) p.0 p.1 c.kind_in.ensures p.2) stands (sym at)

@@ -1,14 +1,6 @@
-use Rattle.std.proofs.Common.{sym, ◌++◌, append_assoc, ◌∙◌, ap, List, ℕ, ◌≡◌}
-use Rattle.dw_section.proofs.Words.{id_width, FdeHead, FdeFields, piece_in}
-use Rattle.dw_section.proofs.StandFaults.{fixed_there, is_named}
+use Rattle.dw_section.proofs.Words.{sym, ◌++◌, append_assoc, ◌∙◌, ap, List, ℕ, ◌≡◌, FdeHead, FdeFields, piece_in}
 use Rattle.dw_section.proofs.StandLaws.{fde_from}
 use Rattle.dw_section.proofs.standing_fde.pointer_of.Goals as goal
-
-pub unreachable-requires : goal.unreachable-requires
-unreachable-requires c = fixed_there (id_width c.args.piece.now.form) c.new-cursor.result c.in_default.field-0 (rw c.new-cursor.ensures c.requires) (rw c.width_of.ensures at c.in_default.ensures.exact).0
-
-pub returns-clause-names : goal.returns-clause-names
-returns-clause-names c = is_named c.args.target (piece_in c.args.piece.now) c.new-cursor.result c.fixed.new.self c.in-Ok.pointer c.new-cursor.ensures (rw c.width_of.ensures at c.in-Ok.ensures.found)
 
 pub returns-clause-only : goal.returns-clause-only
 returns-clause-only c = λ places h has.

@@ -1,11 +1,8 @@
-use Rattle.std.proofs.Common.{refl, sym, subst, ◌∙◌, arith}
-use Rattle.std.proofs.lemmas.Result.{err_from_is_err_and}
-use Rattle.dw_section.proofs.Words.{found_cie, found_head, rows_of, RulesAt, StandsAt}
+use Rattle.dw_section.proofs.Words.{refl, sym, ap, subst, ◌∙◌, arith, err_from_is_err_and, FdeHead, found_cie, found_head, rows_of, RulesAt, StandsAt, some_is}
 use Rattle.dw_section.proofs.Lent.FdeLookup.{same_fde}
 use Rattle.dw_section.proofs.RowLookup.{runs_so}
-use Rattle.dw_section.proofs.StandLaws.{listed_stands, stands_in_space, stands_listed, stands_once}
+use Rattle.dw_section.proofs.StandLaws.{listed_stands, one_stands, stands_in_space, stands_listed}
 use Rattle.dw_section.proofs.StandFaults.{no_refusal}
-use Rattle.dw_op.proofs.Lent.ReadingLaws.{some_is}
 use Rattle.dw_section.proofs.standing_fde.row_of.Goals as goal
 
 pub returns-in_err-fde-clause-own : goal.returns-in_err-fde-clause-own
@@ -17,16 +14,13 @@ returns-in_default-clause-own c = λ hs a register hold returns at le lt.
     let some = rw c.in_default.is at (c.in_ok-fde.ensures.only (subst (StandsAt c.args.target c.args.bytes.now) at (stands_listed c.args.target c.args.bytes.now hs a register hold.0.0.0 returns))) in
     absurd cc
 
-pub returns-in_default-clause-bad : goal.returns-in_default-clause-bad
-returns-in_default-clause-bad c = λ is own named stands place le lt.
-    let some = rw c.in_default.is at (c.in_ok-fde.ensures.only (own, named, stands, place)) in
-    absurd cc
-
 pub returns-then-not-reaches-clause-bad : goal.returns-then-not-reaches-clause-bad
 returns-then-not-reaches-clause-bad c = λ is own named stands place le lt.
     let found = rw c.in-Some.is at c.in_ok-fde.ensures.found in
-    let once = stands_once c.args.target c.args.bytes.now c.in-Some.fde own named found.1 stands (place ∙ sym found.0) in
-    absurd (c.if-not-reaches.ensures (omega (arith, once.0, le), omega (arith, once.0, once.1, lt)))
+    let e = c.in-Some.fde in
+    let one = (one_stands c.args.target c.args.bytes.now own (found_head found.1.0 e) named (found_cie found.1.1 e.cie_at e.return_register e) stands found.1.2 (place ∙ sym found.0)).0 in
+    let begins = ap (λ (x : FdeHead). x.begin) one in
+    absurd (c.if-not-reaches.ensures (omega (arith, begins, le), omega (arith, begins, ap (λ (x : FdeHead). x.range) one, lt)))
 
 pub returns-then-not-reaches-clause-own : goal.returns-then-not-reaches-clause-own
 returns-then-not-reaches-clause-own c = λ hs a register hold returns at le lt.

@@ -1,5 +1,4 @@
-use Rattle.std.proofs.Common.{sym, ap, subst, [], ◌∷◌, ◌∙◌}
-use Rattle.dw_section.proofs.Words.{fde, Piece, StandsAt}
+use Rattle.dw_section.proofs.Words.{sym, ap, [], ◌∷◌, ◌∙◌, fde, Piece}
 use Rattle.dw_section.proofs.Lent.Heads.{has_at}
 use Rattle.dw_section.proofs.StandLaws.{fde_from}
 use Rattle.dw_section.proofs.standing_fde.standing.Goals as goal
@@ -17,8 +16,3 @@ returns-in-Cie-clause-only c = λ w.
     let fde = (fde_from c.args.target (w.0.cie_at ∷ []) w.2.piece w.0 w.2.own_is).2.0 in
     let is = c.in-Cie.is in
     absurd cc
-
-pub returns-in-Fde-clause-only : goal.returns-in-Fde-clause-only
-returns-in-Fde-clause-only c = λ w.
-    let found = rw c.in-Some.is at c.in_ok-piece.ensures.found in
-    c.fde_in.ensures.only (subst (StandsAt c.args.target c.args.bytes.now) (sym found.0) w)

@@ -1,11 +1,7 @@
-use Rattle.std.proofs.Common.{ℕ, subst, inl, inr, Some, Result, Ok, Err, OnOk, OnErr, nat_cmp}
+use Rattle.dw_section.proofs.Words.{ℕ, subst, inl, inr, Some, Result, Ok, Err, OnOk, OnErr, nat_cmp, cases_Bool, Walking, AreLed, LedBy, Section}
 use Rattle.std.specs.BTreeMap.{BTreeMap, is_at, IsUnchanged, Updates}
-use Rattle.std.proofs.lemmas.Bool.{cases_Bool}
 use Rattle.std.proofs.lemmas.Map.Lookups.{exact_unsigned}
 use Rattle.std.proofs.lemmas.Map.Views.{tells_apart}
-use Rattle.dw_cfa.specs.RowWalk.{Walking}
-use Rattle.dw_section.specs.Inner.Changes.{AreLed}
-use Rattle.dw_section.proofs.Words.{LedBy, Section}
 use Rattle.dw_section.proofs.walks.put_away.Goals as goal
 
 -- of a walk that is put at its CIE's place and of all others, and of all where none was put there

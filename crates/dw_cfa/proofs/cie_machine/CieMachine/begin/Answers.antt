@@ -1,7 +1,4 @@
-use Rattle.std.proofs.Common.{arith, subst}
-use Rattle.dw_cfa.specs.CieMachine.{Following}
-use Rattle.dw_cfa.specs.Rows.{AreSpecified}
-use Rattle.dw_cfa.specs.RowSteps.{program_input}
+use Rattle.dw_cfa.proofs.Words.{arith, subst, Following, AreSpecified, program_input}
 use Rattle.dw_cfa.proofs.Lent.Given.{follow_runs}
 use Rattle.dw_cfa.proofs.cie_machine.CieMachine.begin.Goals as goal
 

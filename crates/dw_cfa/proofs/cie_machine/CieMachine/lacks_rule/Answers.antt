@@ -1,4 +1,4 @@
-use Rattle.dw_cfa.specs.Inner.Runs.{rows_left}
+use Rattle.dw_cfa.proofs.Words.{rows_left}
 use Rattle.dw_cfa.proofs.Covered.{lacks_tells}
 use Rattle.dw_cfa.proofs.Lent.RunLaws.{left_from}
 use Rattle.dw_cfa.proofs.cie_machine.CieMachine.lacks_rule.Goals as goal

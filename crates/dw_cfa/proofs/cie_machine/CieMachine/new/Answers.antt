@@ -1,6 +1,4 @@
-use Rattle.std.proofs.Common.{Option, ℕ, List, sym, ap, subst}
-use Rattle.dw_cfa.specs.declared.rule.RegRule.{RegRule}
-use Rattle.dw_cfa.specs.Inner.States.{Held, BeganWith}
+use Rattle.dw_cfa.proofs.Words.{Option, ℕ, List, sym, ap, subst, RegRule, Held, BeganWith}
 use Rattle.dw_cfa.proofs.StatesLaws.{began}
 use Rattle.dw_cfa.proofs.cie_machine.CieMachine.new.Goals as goal
 

@@ -1,5 +1,4 @@
-use Rattle.std.specs.Bool.{one_answer}
-use Rattle.dw_cfa.specs.Inner.RowEquality.{same_rows, rows_tell}
+use Rattle.dw_cfa.proofs.Words.{one_answer, same_rows, rows_tell}
 use Rattle.dw_cfa.proofs.equality.RowPartialEq.eq.Goals as goal
 
 pub returns-clause-test : goal.returns-clause-test

@@ -1,4 +1,4 @@
-use Rattle.std.proofs.Common.{◌≤◌, [], length, arith, sym, ◌∙◌}
+use Rattle.dw_cfa.proofs.Words.{◌≤◌, [], length, arith, sym, ◌∙◌}
 use Rattle.dw_cfa.proofs.Slots.{slots_end}
 use Rattle.dw_cfa.proofs.near_slots.NearRules.step.Goals as goal
 

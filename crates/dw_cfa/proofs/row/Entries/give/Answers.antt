@@ -1,6 +1,4 @@
-use Rattle.std.proofs.Common.{refl}
-use Rattle.dw_cfa.specs.Inner.Entries.{entries_of}
-use Rattle.dw_cfa.specs.Rows.{rule_in}
+use Rattle.dw_cfa.proofs.Words.{refl, entries_of, rule_in}
 use Rattle.dw_cfa.proofs.Lent.Equal.{test_at}
 use Rattle.dw_cfa.proofs.row.Entries.give.Goals as goal
 

@@ -1,8 +1,4 @@
-use Rattle.std.proofs.Common.{◌≡◌}
-use Rattle.std.specs.Prelude.{◌↔◌}
-use Rattle.std.specs.List.{filter}
-use Rattle.dw_cfa.specs.Inner.Entries.{entries_of}
-use Rattle.dw_cfa.specs.Agreement.{is_kept}
+use Rattle.dw_cfa.proofs.Words.{◌≡◌, ◌↔◌, filter, entries_of, is_kept}
 use Rattle.dw_cfa.proofs.row.Entries.have_all.Given as goal
 
 abbrev pub invariant-loop-register : goal.invariant-loop-register

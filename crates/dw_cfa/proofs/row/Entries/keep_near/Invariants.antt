@@ -1,11 +1,9 @@
-use Rattle.std.proofs.Common.{◌-◌, ◌≤◌}
-use Rattle.dw_cfa.specs.Inner.Entries.{entries_of, EntriesSo, LeavesBelow}
-use Rattle.dw_cfa.specs.Agreement.{is_kept}
+use Rattle.dw_cfa.proofs.Words.{◌-◌, entries_of, is_kept}
+use Rattle.dw_cfa.proofs.Lent.Skipped.{TestedBelow}
 use Rattle.dw_cfa.proofs.row.Entries.keep_near.Given as goal
 
 abbrev pub invariant-slots : goal.invariant-slots
-invariant-slots l =
-    (l.register ≤ 32) × EntriesSo l.self × LeavesBelow (is_kept (entries_of l.others)) l.register (entries_of l.fn.self) (entries_of l.self)
+invariant-slots l = TestedBelow (is_kept (entries_of l.others)) (entries_of l.fn.self) l.place l.self
 
 abbrev pub decreases-slots : goal.decreases-slots
-decreases-slots l = 32 - l.register
+decreases-slots l = 32 - l.place

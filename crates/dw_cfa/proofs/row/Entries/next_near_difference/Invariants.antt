@@ -1,6 +1,4 @@
-use Rattle.std.proofs.Common.{◌-◌, ◌≤◌}
-use Rattle.dw_cfa.specs.Inner.Entries.{entries_of}
-use Rattle.dw_cfa.specs.Difference.{SameBetween}
+use Rattle.dw_cfa.proofs.Words.{◌-◌, ◌≤◌, entries_of, SameBetween}
 use Rattle.dw_cfa.proofs.row.Entries.next_near_difference.Given as goal
 
 abbrev pub invariant-slots : goal.invariant-slots

@@ -1,10 +1,5 @@
-use Rattle.std.proofs.Common.{◌≡◌, ℕ, ℤ, true, Option, None, Some, get_or, sym, ap, ◌∙◌}
-use Rattle.std.specs.Prelude.{IfSome, MatchOption, is_some}
-use Rattle.dw_cfa.specs.declared.rule.RegRule.{RegRule}
-use Rattle.dw_cfa.specs.declared.rule.RegRule.TheVariants.{Offset}
-use Rattle.dw_cfa.specs.Rows.{rule_in}
-use Rattle.dw_cfa.specs.Inner.Entries.{entries_of, slot_rule}
-use Rattle.dw_cfa.proofs.Slots.{no_slot, near_rule}
+use Rattle.dw_cfa.proofs.Words.{◌≡◌, ℤ, true, Option, None, Some, get_or, sym, ◌∙◌, IfSome, MatchOption, is_some, RegRule, Offset, rule_in, entries_of, slot_rule}
+use Rattle.dw_cfa.proofs.Slots.{no_slot, slot_at}
 use Rattle.dw_cfa.proofs.row.Entries.offset_of.Goals as goal
 
 -- what is found has what is asked of it, where it has what is known of it
@@ -15,9 +10,6 @@ found_so Else Known Asked (Some x) there known gives = gives x known
 pub returns-then-is_some : goal.returns-then-is_some
 returns-then-is_some c =
     let e = c.args.self.now in let r = c.args.register in
-    let block = rule_in e.expressions.entries r in
-    let holds : rule_in (entries_of e) r ≡ slot_rule (get_or e.near c.from.result no_slot) block =
-    near_rule e.near e.expressions.entries e.far.entries c.requires.near c.requires.far r no_slot c.if-register-lt-NEAR.true
-    ∙ ap (λ (n : ℕ). slot_rule (get_or e.near n no_slot) block) (sym c.from.ensures) in
+    let holds = slot_at e c.requires r c.from.result c.if-register-lt-NEAR.true c.from.ensures in
     found_so _ (λ (n : ℤ). (rule : RegRule) → slot_rule (get_or e.near c.from.result no_slot) rule ≡ Offset n) (λ (n : ℤ). rule_in (entries_of e) r ≡ Offset n)
-    c.offset_in-found.result (sym c.is_some.ensures ∙ c.if-is_some.true) c.offset_in-found.ensures (λ n is. holds ∙ is block)
+    c.offset_in-found.result (sym c.is_some.ensures ∙ c.if-is_some.true) c.offset_in-found.ensures (λ n is. sym holds ∙ is (rule_in e.expressions.entries r))

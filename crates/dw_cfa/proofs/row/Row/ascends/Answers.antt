@@ -1,5 +1,6 @@
-use Rattle.dw_cfa.proofs.Slots.{row_ascends}
+use Rattle.dw_cfa.proofs.Words.{subst, Rules, AreSpecified}
+use Rattle.dw_cfa.proofs.Slots.{entries_ascend}
 use Rattle.dw_cfa.proofs.row.Row.ascends.Goals as goal
 
 pub returns : goal.returns
-returns c = row_ascends c.self.inside.cfa c.self.inside.entries c.args.self.now c.self.invariant c.self.view_is
+returns c = subst (λ (r : Rules). AreSpecified 0 r.registers) c.self.view_is (entries_ascend c.self.inside.entries c.self.invariant)

@@ -1,7 +1,4 @@
-use Rattle.std.proofs.Common.{List, refl, sym, ap, subst}
-use Rattle.dw_cfa.specs.declared.rule.CfaRule.TheVariants.{Unset}
-use Rattle.dw_cfa.specs.Rows.{Rules, AreSpecified}
-use Rattle.dw_cfa.specs.Inner.Entries.{listed_near}
+use Rattle.dw_cfa.proofs.Words.{List, refl, sym, ap, subst, Unset, Rules, AreSpecified, listed_near}
 use Rattle.dw_cfa.proofs.Lent.RowLists.{Entry}
 use Rattle.dw_cfa.proofs.Slots.{covers_blank}
 use Rattle.dw_cfa.proofs.row.Row.blank.Goals as goal

@@ -1,4 +1,4 @@
-use Rattle.dw_cfa.specs.Inner.Entries.{entries_of}
+use Rattle.dw_cfa.proofs.Words.{entries_of}
 use Rattle.dw_cfa.proofs.Slots.{slots_ascend}
 use Rattle.dw_cfa.proofs.WideRows.{taken_back}
 use Rattle.dw_cfa.proofs.row.Row.exchange.Goals as goal

@@ -1,5 +1,4 @@
-use Rattle.std.proofs.Common.{◌≤◌, List, length, ◌∷◌, arith, sym, ap, ◌∙◌}
-use Rattle.dw_cfa.specs.declared.rule.RegRule.{RegRule}
+use Rattle.dw_cfa.proofs.Words.{◌≤◌, List, length, ◌∷◌, arith, sym, ap, ◌∙◌, RegRule}
 use Rattle.dw_cfa.proofs.Lent.RowLists.{Entry}
 use Rattle.dw_cfa.proofs.Slots.{slots_end}
 use Rattle.dw_cfa.proofs.row.Specified.step.Goals as goal

@@ -1,8 +1,4 @@
-use Rattle.std.proofs.Common.{Some, sym, subst}
-use Rattle.dw_cfa.proofs.Types.{Progress, Rules}
-use Rattle.dw_cfa.specs.Inner.Runs.{rows_left}
-use Rattle.dw_cfa.specs.Inner.RowSteps.{progress_after}
-use Rattle.dw_cfa.specs.Inner.RowWalk.{AreLeft, initial_of}
+use Rattle.dw_cfa.proofs.Words.{Some, sym, subst, Progress, Rules, rows_left, progress_after, AreLeft, initial_of}
 use Rattle.dw_cfa.proofs.Walks.{goes_on_stands, stands_on}
 use Rattle.dw_cfa.proofs.row_walk.RowWalk.advance.Goals as goal
 use Rattle.dw_cfa.proofs.row_walk.RowWalk.advance.Goals.{then-is_err, else-is_err}

@@ -1,30 +1,43 @@
-use Rattle.std.proofs.Common.{◌<◌, ap, sym, ◌∙◌, arith}
-use Rattle.dw_cfa.specs.RowWalk.{Walking}
+use Rattle.dw_cfa.proofs.Words.{ap, sym, arith, Walking, ◌≡◌, ℕ, ◌<◌, Some, refl, subst, inl, Input, Leading, Machine, Progress, Rules, Stepping, last_at, left_above, NeverFalls, walk_of}
 use Rattle.dw_cfa.proofs.Lent.RunLaws.{left_from}
-use Rattle.dw_cfa.proofs.RowsAbove.{walk_none, walk_stays}
+use Rattle.dw_cfa.specs.declared.steps.Progress.TheVariants as progress
+use Rattle.dw_cfa.proofs.Lent.RowsAt.{none_at}
+use Rattle.dw_cfa.proofs.RowsTo.{stands_above}
+use Rattle.dw_cfa.proofs.Walks.{walk_from}
 use Rattle.dw_cfa.proofs.row_walk.RowWalk.advance_to.Goals as goal
+
+module _ (l : Leading) (fde : Input) (m : Machine) (a : ℕ) (past : a < m.location) where
+  walk_falls : (p : Progress) → NeverFalls m.location (walk_of p l fde m).outcome.rows
+  walk_falls progress.Begun = (walk_from progress.Begun l fde m (walk_of progress.Begun l fde m) (inl refl) refl).falls
+  walk_falls progress.Running = (left_from l.factors fde m).falls
+  walk_falls p = tt
+
+  module _ (p : Progress) (s : Stepping) (e : walk_of p l fde m ≡ s) where
+    falls : NeverFalls m.location s.outcome.rows
+    falls = subst (λ (x : Stepping). NeverFalls m.location x.outcome.rows) e (walk_falls p)
+
+    walk_stays : left_above a s.outcome ≡ s.outcome
+    walk_stays = stands_above a m.location s.outcome past falls
+
+    walk_none : (row : Rules) → last_at a s.outcome.rows ≡ Some row → ⊥
+    walk_none row is = let none = none_at a m.location s.outcome.rows past falls in absurd cc
 
 pub returns-then-self-from-clause-found : goal.returns-then-self-from-clause-found
 returns-then-self-from-clause-found c row e =
     let w = c.self.inside in
-    let past : c.args.address < w.machine.location = omega (arith, c.from.ensures, c.if-self-from.true) in
-    let none = walk_none w.leading w.fde w.machine c.args.address past w.progress c.args.self.now.steps (ap (λ (k : Walking). k.steps) c.self.view_is) in
-    let bad = sym none ∙ e in absurd cc
+    absurd (walk_none w.leading w.fde w.machine c.args.address (omega (arith, c.from.ensures, c.if-self-from.true)) w.progress c.args.self.now.steps (ap (λ (k : Walking). k.steps) c.self.view_is) row e)
 
 pub returns-then-self-from-clause-behind : goal.returns-then-self-from-clause-behind
 returns-then-self-from-clause-behind c =
     let w = c.self.inside in
-    let past : c.args.address < w.machine.location = omega (arith, c.from.ensures, c.if-self-from.true) in
-    sym (walk_stays w.leading w.fde w.machine c.args.address past w.progress c.args.self.now.steps (ap (λ (k : Walking). k.steps) c.self.view_is))
+    sym (walk_stays w.leading w.fde w.machine c.args.address (omega (arith, c.from.ensures, c.if-self-from.true)) w.progress c.args.self.now.steps (ap (λ (k : Walking). k.steps) c.self.view_is))
 
 pub returns-then-self-from-clause-stands : goal.returns-then-self-from-clause-stands
 returns-then-self-from-clause-stands c row e =
     let w = c.self.inside in
-    let past : c.args.address < w.machine.location = omega (arith, c.from.ensures, c.if-self-from.true) in
-    let none = walk_none w.leading w.fde w.machine c.args.address past w.progress c.args.self.now.steps (ap (λ (k : Walking). k.steps) c.self.view_is) in
-    let bad = sym none ∙ e in absurd cc
+    absurd (walk_none w.leading w.fde w.machine c.args.address (omega (arith, c.from.ensures, c.if-self-from.true)) w.progress c.args.self.now.steps (ap (λ (k : Walking). k.steps) c.self.view_is) row e)
 
 pub returns-in-Ok-true-clause-stands : goal.returns-in-Ok-true-clause-stands
 returns-in-Ok-true-clause-stands c row e =
     let at = c.walk_to-answer.new in
-    ((left_from c.self.inside.leading.factors at.fde at.machine).some, c.in-Ok-true.ensures.left c.in-Ok-true.field-0-test)
+    ((left_from c.self.inside.leading.factors at.fde at.machine).some, c.in-Ok-true.ensures.walked.left c.in-Ok-true.field-0-test)

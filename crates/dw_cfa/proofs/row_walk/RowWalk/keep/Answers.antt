@@ -1,8 +1,4 @@
-use Rattle.std.proofs.Common.{sym, ap, subst, ◌∙◌}
-use Rattle.dw_cfa.specs.declared.machine.Machine.{Machine}
-use Rattle.dw_cfa.specs.Inner.States.{Held}
-use Rattle.dw_cfa.specs.RowWalk.{Walking}
-use Rattle.dw_cfa.specs.Inner.RowWalk.{WalksSo, walk_of}
+use Rattle.dw_cfa.proofs.Words.{sym, ap, subst, ◌∙◌, Machine, Held, Walking, WalksSo, walk_of}
 use Rattle.dw_cfa.proofs.Walks.{kept_walk, kept_walks}
 use Rattle.dw_cfa.proofs.row_walk.RowWalk.keep.Goals as goal
 

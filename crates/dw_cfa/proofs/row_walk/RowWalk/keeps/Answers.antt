@@ -1,7 +1,6 @@
-use Rattle.std.proofs.Common.{ap}
-use Rattle.dw_cfa.specs.RowWalk.{Walking}
+use Rattle.dw_cfa.proofs.Words.{ap, Walking}
 use Rattle.dw_cfa.proofs.StaySpecified.{walk_keeps}
-use Rattle.dw_cfa.proofs.Walks.{begun_unknown, running_known}
+use Rattle.dw_cfa.proofs.Walks.{begun_unknown}
 use Rattle.dw_cfa.proofs.row_walk.RowWalk.keeps.Goals as goal
 
 pub returns-in-Begun-clause-exact : goal.returns-in-Begun-clause-exact
@@ -13,8 +12,3 @@ pub returns-in-Running-clause-keeps : goal.returns-in-Running-clause-keeps
 returns-in-Running-clause-keeps c = λ all.
     let w = c.self.inside in
     walk_keeps w.progress w.leading w.fde w.machine c.args.self.now.steps c.args.row.now c.in-Running.is (ap (λ (k : Walking). k.steps) c.self.view_is) c.self.invariant.keeps (c.specifies_all.ensures.0 all)
-
-pub returns-in-Running-clause-exact : goal.returns-in-Running-clause-exact
-returns-in-Running-clause-exact c =
-    let w = c.self.inside in let now = c.args.self.now in
-    running_known w.leading w.fde w.machine now.steps now.initial c.args.row.now w.progress c.specifies_all.result c.in-Running.is (ap (λ (k : Walking). k.initial) c.self.view_is) c.specifies_all.ensures

@@ -1,7 +1,4 @@
-use Rattle.std.proofs.Common.{[], None, false, ap, ◌∙◌}
-use Rattle.dw_cfa.specs.Rows.{blank}
-use Rattle.dw_cfa.specs.Inner.Marks.{Watching}
-use Rattle.dw_cfa.specs.Inner.States.{Held, held}
+use Rattle.dw_cfa.proofs.Words.{[], None, false, ap, ◌∙◌, blank, Watching, Held, held}
 use Rattle.dw_cfa.proofs.StatesLaws.{begun_held}
 use Rattle.dw_cfa.proofs.states.States.restart.Goals as goal
 

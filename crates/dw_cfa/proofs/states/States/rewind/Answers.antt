@@ -1,7 +1,4 @@
-use Rattle.std.proofs.Common.{ap, ◌∙◌}
-use Rattle.dw_cfa.specs.Inner.Rows.{with_cfa}
-use Rattle.dw_cfa.specs.declared.rule.CfaRule.{CfaRule}
-use Rattle.dw_cfa.specs.Inner.Marks.{Watching}
+use Rattle.dw_cfa.proofs.Words.{ap, ◌∙◌, with_cfa, CfaRule, Watching}
 use Rattle.dw_cfa.proofs.StatesLaws.{rewound}
 use Rattle.dw_cfa.proofs.states.States.rewind.Goals as goal
 

@@ -1,4 +1,4 @@
-use Rattle.std.proofs.Common.{Some, ap, sym}
+use Rattle.dw_cfa.proofs.Words.{Some, ap, sym}
 use Rattle.dw_cfa.proofs.Lent.RunLaws.{next_from}
 use Rattle.dw_cfa.proofs.steps.RowSteps.next_start.Goals as goal
 

@@ -1,5 +1,4 @@
-use Rattle.std.proofs.Common.{◌≡◌, refl, sym, subst, ◌∙◌}
-use Rattle.dw_cfa.specs.Inner.Marks.{Watching}
+use Rattle.dw_cfa.proofs.Words.{◌≡◌, refl, sym, subst, ◌∙◌, Watching}
 use Rattle.dw_cfa.proofs.Marked.{kept_exactly}
 use Rattle.dw_cfa.proofs.watched.WatchedRow.is_kept.Goals as goal
 

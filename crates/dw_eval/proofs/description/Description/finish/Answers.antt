@@ -1,9 +1,5 @@
-use Rattle.std.proofs.Common.{◌<◌, length, Ok, Err, inr, arith}
-use Rattle.std.specs.Prelude.{option_map}
+use Rattle.dw_eval.proofs.Words.{◌<◌, length, Ok, Err, inr, arith, option_map, Fault, MissingPiece, bare_place}
 use Rattle.std.proofs.lemmas.Grind.{common_steps}
-use Rattle.dw_eval.specs.declared.error.EvalError.TheVariants.{Fault}
-use Rattle.dw_eval.specs.declared.error.Kind.TheVariants.{MissingPiece}
-use Rattle.dw_eval.specs.Location.{bare_place}
 use Rattle.dw_eval.proofs.PlaceLoop.{behind_pieces}
 use Rattle.dw_eval.proofs.description.Description.finish.Goals as goal
 

@@ -1,6 +1,4 @@
-use Rattle.std.proofs.Common.{refl}
-use Rattle.std.proofs.lemmas.Result.{err_from_is_err_and}
-use Rattle.dw_op.specs.declared.profile.Profile.TheVariants.{Frame}
+use Rattle.dw_op.proofs.Words.{refl, err_from_is_err_and, Frame}
 use Rattle.dw_op.proofs.Lent.Blocks.{fault_found}
 use Rattle.dw_op.proofs.Lent.FaultPlaces.{fault_within}
 use Rattle.dw_op.proofs.Judgement.{accepted_block, block_ops, refused_none}

@@ -1,12 +1,7 @@
-use Rattle.std.proofs.Common.{Ok, Some, None, Option}
-use Rattle.dw_op.specs.declared.op.Op.{Op}
-use Rattle.dw_op.specs.Inner.Windows.{Walks}
-use Rattle.dw_op.proofs.Judgement.{steps_after, steps_answer, left_bad}
+use Rattle.dw_op.proofs.Words.{Ok, Some, None, Option, Op, Walks}
+use Rattle.dw_op.proofs.Judgement.{steps_answer, left_bad}
 use Rattle.dw_op.proofs.expression.OpSteps.step.Goals.{in-Ok-Some, in-Ok-None, in-Err}
 use Rattle.dw_op.proofs.expression.OpSteps.step.Goals as goal
-
-pub invariant_of-self : goal.invariant_of-self
-invariant_of-self c = steps_after c.self.inside.walker c.next_op.new.self c.next_op.result c.self.invariant c.next_op.ensures
 
 pub returns : goal.returns
 returns c = elim c.match-next_op.branch [

@@ -1,5 +1,4 @@
-use Rattle.std.proofs.Common.{ap, ◌∙◌}
-use Rattle.dw_op.specs.declared.layout.Point.{Point}
+use Rattle.dw_op.proofs.Words.{ap, ◌∙◌, Point}
 use Rattle.dw_op.proofs.Starts.{point_ended}
 use Rattle.dw_op.proofs.layout.Point.start_of.Goals as goal
 

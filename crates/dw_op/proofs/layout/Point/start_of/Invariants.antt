@@ -1,5 +1,4 @@
-use Rattle.std.proofs.Common.{length}
-use Rattle.dw_op.specs.Inner.Lengths.{lengths_at}
+use Rattle.dw_op.proofs.Words.{length, lengths_at}
 use Rattle.dw_op.proofs.Starts.{Toward}
 use Rattle.dw_op.proofs.layout.Point.start_of.Given as goal
 

@@ -1,5 +1,4 @@
-use Rattle.std.proofs.Common.{length, ap, arith}
-use Rattle.std.proofs.lemmas.List.{length-take-le}
+use Rattle.dw_op.proofs.Words.{length, ap, arith, length-take-le}
 use Rattle.dw_op.proofs.marks.Marks.len.Goals as goal
 
 pub returns : goal.returns

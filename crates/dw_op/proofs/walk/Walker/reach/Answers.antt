@@ -1,5 +1,4 @@
-use Rattle.std.proofs.Common.{◌-◌}
-use Rattle.dw_op.specs.Inner.Windows.{Shifted}
+use Rattle.dw_op.proofs.Words.{◌-◌, Shifted}
 use Rattle.dw_op.proofs.Walkers.{window_moved}
 use Rattle.dw_op.proofs.walk.Walker.reach.Goals as goal
 

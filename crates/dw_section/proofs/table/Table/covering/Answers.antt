@@ -1,6 +1,4 @@
-use Rattle.std.proofs.Common.{sym, subst}
-use Rattle.dw_section.specs.Inner.Lookup.{fde_of}
-use Rattle.dw_section.specs.Meaning.{Covers}
+use Rattle.dw_section.proofs.Words.{sym, subst, fde_of, Covers}
 use Rattle.dw_section.proofs.Lent.FdeLookup.{fde_listed}
 use Rattle.dw_section.proofs.RowLookup.{runs_found}
 use Rattle.dw_section.proofs.table.Table.covering.Goals as goal

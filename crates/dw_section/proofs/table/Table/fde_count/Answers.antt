@@ -1,6 +1,4 @@
-use Rattle.std.proofs.Common.{length, ap, arith}
-use Rattle.std.proofs.lemmas.List.{length-map}
-use Rattle.dw_section.specs.Ranges.{fde_in}
+use Rattle.dw_section.proofs.Words.{length, ap, arith, length-map, fde_in}
 use Rattle.dw_section.proofs.Lent.FdeLookup.{listed_are}
 use Rattle.dw_section.proofs.table.Table.fde_count.Goals as goal
 

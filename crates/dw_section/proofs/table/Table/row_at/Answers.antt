@@ -1,6 +1,4 @@
-use Rattle.std.proofs.Common.{◌≡◌, ℕ, List, Option, Some, None, Result, Ok, Err, IfOk, MatchOption, true, sym, subst, ◌∙◌}
-use Rattle.dw_section.proofs.Words.{Rules, NoneCovers, RulesAt, Section, Fde}
-use Rattle.dw_section.specs.Lookups.{LooksUp}
+use Rattle.dw_section.proofs.Words.{◌≡◌, ℕ, List, Option, Some, None, Result, Ok, Err, IfOk, MatchOption, true, sym, subst, ◌∙◌, Rules, NoneCovers, RulesAt, Section, Fde, LooksUp}
 use Rattle.dw_section.proofs.table.Table.row_at.Goals as goal
 
 -- the copy of a row that was found is that row

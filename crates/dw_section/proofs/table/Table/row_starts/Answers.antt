@@ -1,5 +1,4 @@
-use Rattle.std.proofs.Common.{map, sym}
-use Rattle.dw_section.specs.Ranges.{range_in}
+use Rattle.dw_section.proofs.Words.{map, sym, range_in}
 use Rattle.dw_section.proofs.table.Table.row_starts.Goals as goal
 
 pub sum_starts-requires-clause-headers : goal.sum_starts-requires-clause-headers

@@ -1,7 +1,4 @@
-use Rattle.std.proofs.Common.{Some, ap, subst, sym}
-use Rattle.dw_section.specs.Inner.Lookup.{fde_of}
-use Rattle.dw_section.specs.Lookups.{Finding}
-use Rattle.dw_section.proofs.Words.{AreFdes, Section}
+use Rattle.dw_section.proofs.Words.{Some, ap, subst, sym, fde_of, Finding, AreFdes, Section}
 use Rattle.dw_section.proofs.table_lookup.Lookups.find.Goals as goal
 
 pub returns-clause-fde : goal.returns-clause-fde

@@ -1,7 +1,0 @@
-use Rattle.std.proofs.Common.{◌∙◌, arith}
-use Rattle.dw_cfa.proofs.RunSteps.{rows_end}
-use Rattle.dw_cfa.proofs.execution.next_row.Goals as goal
-
-pub returns-clause-row : goal.returns-clause-row
-returns-clause-row c =
-    (c.instrs.invariant.0, (c.instrs.invariant.2 ∙ rows_end c.args.factors c.instrs.cursor c.instrs.machine (omega arith)))
