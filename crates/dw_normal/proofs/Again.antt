@@ -1,29 +1,11 @@
 -- An FDE that begins with a row of a CIE leaves the rows of the groups as they are, where another one with this row came before.
-use Rattle.std.proofs.Common.{Equal, eq-eqb, ◌≡◌, ℕ, zero, suc, ◌<◌, true, false, List, [], ◌∷◌, length, take, get_or, Option, Some, None, refl, sym, ap, ◌∙◌, subst, inl, inr, arith}
-use Rattle.std.specs.Prelude.{nat_eq, nat_lt, IfSome}
-use Rattle.std.specs.BTreeMap.{insert_entry}
-use Rattle.std.specs.List.{AllByRecursion}
-use Rattle.std.specs.Ordering.{nat_cmp}
-use Rattle.std.proofs.lemmas.Bool.{le-ltb}
-use Rattle.dw_num.specs.declared.target.Target.{Target}
-use Rattle.dw_num.specs.Input.{AreBytes}
-use Rattle.dw_cfa.specs.Inner.Agreement.{agreed}
-use Rattle.dw_cfa.specs.Rows.{Rules}
-use Rattle.dw_section.specs.Accepted.{Accepted}
+use Rattle.dw_normal.proofs.Words.{Equal, eq-eqb, ◌≡◌, ℕ, zero, suc, ◌<◌, true, false, List, [], ◌∷◌, length, take, get_or, Option, Some, None, refl, sym, ap, ◌∙◌, subst, inl, inr, arith, nat_eq, nat_lt, IfSome, insert_entry}
+use Rattle.dw_normal.proofs.Words.{AllByRecursion, nat_cmp, le-ltb, Target, AreBytes, agreed, Rules, Accepted, OpensBehind, RowFits, all_get, initial_of, group, kept_by, Member, AreMembers, IsMember, fde_of, group_fits, fits, nonempty}
+use Rattle.dw_normal.proofs.Words.{HasJoined, begun_with, initial_rows, joined_by, row_of, with_member}
 use Rattle.dw_section.specs.declared.opening.CieRow.{CieRow}
-use Rattle.dw_section.specs.Opening.{OpensBehind}
-use Rattle.dw_section.specs.Fits.{RowFits}
-use Rattle.dw_section.proofs.Lent.Judged.{all_get}
 use Rattle.dw_section.proofs.Lent.OpeningLaws.{Opened, Specifies, one_first, opened}
-use Rattle.dw_canon.specs.Inner.Canon.{initial_of}
-use Rattle.dw_canon.specs.Group.{group}
-use Rattle.dw_section.specs.Changes.{kept_by}
-use Rattle.dw_canon.specs.Members.{Member, AreMembers, IsMember, fde_of}
 use Rattle.dw_canon.proofs.Lent.Shared.{MemberFits}
 use Rattle.dw_canon.proofs.Lent.Joins.{PartOf, first_part, joined_again, next_part}
-use Rattle.dw_canon.proofs.Lent.MemberPlaces.{group_fits}
-use Rattle.dw_canon.proofs.Lent.Rendered.{fits, nonempty}
-use Rattle.dw_normal.specs.Inner.Groups.{HasJoined, begun_with, initial_rows, joined_by, row_of, with_member}
 use Rattle.dw_normal.specs.declared.groups.Joined.{Joined}
 use Rattle.dw_normal.proofs.Grouped.{look_members, some_of, told}
 

@@ -1,13 +1,6 @@
 -- Two tables side by side.
-use Rattle.std.proofs.Common.{◌≡◌, ℕ, ◌≤◌, Bool, true, false, List, [], ◌∷◌, length, take, Option, Some, None, Ok, refl, sym, ap, ◌∙◌, arith}
-use Rattle.std.specs.Bool.{Decides}
-use Rattle.std.proofs.lemmas.List.{take_all}
-use Rattle.std.specs.Prelude.{not, is_some, Result, Err, IfOk}
-use Rattle.dw_cfa.specs.Rows.{Rules}
-use Rattle.dw_section.specs.declared.lookup.Fde.{Fde}
-use Rattle.dw_section.specs.Changes.{Changing, GivesAddress}
-use Rattle.dw_canon.specs.Members.{Member, fde_of, changes_of}
-use Rattle.dw_normal.specs.Inner.ChangeWalk.{row_or_blank, shown_row}
+use Rattle.dw_normal.proofs.Words.{◌≡◌, ℕ, ◌≤◌, Bool, true, false, List, [], ◌∷◌, length, take, Option, Some, None, Ok, refl, sym, ap, ◌∙◌, arith, Decides, take_all, not, is_some, Result, Err, IfOk, Rules, Fde, Changing, GivesAddress}
+use Rattle.dw_normal.proofs.Words.{Member, fde_of, changes_of, row_or_blank, shown_row}
 use Rattle.dw_normal.proofs.ChangesToCome.{Given, given, head_same, none_given, tail_same}
 
 -- ---- answers

@@ -1,36 +1,10 @@
 -- The FDEs of a normal form, one after another.
-use Rattle.std.proofs.Common.{◌≡◌, ℕ, ◌+◌, ◌<◌, ◌≤◌, List, [], ◌∷◌, ◌++◌, length, map, take, drop, get_or, cond, Option, Some, Result, Ok, Err, refl, sym, ap, ◌∙◌, subst, arith, append_assoc}
-use Rattle.std.proofs.Math.ListN.{get_or-map}
-use Rattle.std.proofs.lemmas.List.{append-nil, length-map, length-append, take_more, take_all, take-append-drop}
-use Rattle.std.specs.Prelude.{◌^◌}
-use Rattle.std.specs.BTreeMap.{is_at}
-use Rattle.std.specs.List.{AllByRecursion}
-use Rattle.std.specs.Ordering.{nat_cmp}
-use Rattle.std.specs.Result.{IsErrAnd}
-use Rattle.std.proofs.KnownBytes.{Appends-nil}
-use Rattle.dw_num.specs.Input.{AreBytes}
-use Rattle.dw_num.specs.declared.target.Target.{Target}
-use Rattle.dw_cfa.specs.Rows.{Rules}
-use Rattle.dw_section.specs.Accepted.{Accepted}
-use Rattle.dw_section.specs.Meaning.{AreFdes}
-use Rattle.dw_section.specs.declared.lookup.Fde.{Fde}
-use Rattle.dw_section.proofs.Lent.Judged.{all_get}
-use Rattle.dw_canon.specs.Inner.Fits.{InstrFits}
-use Rattle.dw_canon.specs.Inner.Laid.{part_of, groups_of, parts_of}
-use Rattle.dw_canon.specs.Inner.Canon.{canon, cie_instrs}
-use Rattle.dw_canon.specs.Inner.Laid.{IsPart}
-use Rattle.dw_canon.specs.Members.{Member, AreMembers}
-use Rattle.dw_canon.specs.Inner.Written.{Written, contents, entry_bytes}
+use Rattle.dw_normal.proofs.Words.{◌≡◌, ℕ, ◌+◌, ◌<◌, ◌≤◌, List, [], ◌∷◌, ◌++◌, length, map, take, drop, get_or, cond, Option, Some, Result, Ok, Err, refl, sym, ap, ◌∙◌, subst, arith, append_assoc, get_or-map, append-nil, length-map}
+use Rattle.dw_normal.proofs.Words.{length-append, take_more, take_all, take-append-drop, ◌^◌, is_at, AllByRecursion, nat_cmp, IsErrAnd, Appends-nil, AreBytes, Target, Rules, Accepted, AreFdes, Fde, all_get, InstrFits, part_of, groups_of}
+use Rattle.dw_normal.proofs.Words.{parts_of, canon, cie_instrs, IsPart, Member, AreMembers, Written, contents, entry_bytes, laid_is, renders, initial_rows, cie_with, cies_bytes, fdes_bytes, place_in, cie_place, RowsRise, fde_with, Puts}
+use Rattle.dw_normal.proofs.Words.{taken_by, after, PutError, Memory}
 use Rattle.dw_canon.proofs.Lent.Fields.{entry_length}
-use Rattle.dw_canon.proofs.Lent.Layout.{laid_is}
 use Rattle.dw_canon.proofs.Lent.Readback.{rendered_laid}
-use Rattle.dw_canon.proofs.Lent.Rendered.{renders}
-use Rattle.dw_normal.specs.Inner.Groups.{initial_rows}
-use Rattle.dw_normal.specs.Inner.Lengths.{cie_with, cies_bytes, fdes_bytes}
-use Rattle.dw_normal.specs.Inner.Places.{place_in, cie_place, RowsRise, fde_with}
-use Rattle.dw_normal.specs.Inner.Puts.{Puts, taken_by, after}
-use Rattle.dw_normal.specs.declared.entry.PutError.{PutError}
-use Rattle.dw_normal.specs.declared.entry.PutError.TheVariants.{Memory}
 use Rattle.dw_normal.proofs.Grouped.{no_member}
 use Rattle.dw_normal.proofs.Joined.{put_stops, goes_on, ends_there, counted, same_err}
 use Rattle.dw_normal.proofs.Placed.{as_many}

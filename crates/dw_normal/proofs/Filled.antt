@@ -1,29 +1,20 @@
 -- What stands behind the length of an FDE, as it is built.
-use Rattle.std.proofs.Common.{◌≡◌, ℕ, ◌+◌, ◌-◌, List, [], ◌++◌, length, Result, Ok, Err, sym, ap, ◌∙◌, append_assoc}
-use Rattle.std.specs.Prelude.{OnOk, replicate}
-use Rattle.std.proofs.lemmas.List.{length-append}
+use Rattle.dw_normal.proofs.Words.{◌≡◌, ℕ, ◌+◌, ◌-◌, List, ◌++◌, length, Result, Ok, Err, sym, ap, ◌∙◌, append_assoc, OnOk, replicate, length-append, Target, Rules, Fde, fde_instrs, initial_of, difference, later_changes, Member}
+use Rattle.dw_normal.proofs.Words.{program_bytes, fde, nop_count, filled, contents, missing, fde_fields, Begins, later_bytes, shown_row, Begun}
 use Rattle.dw_num.specs.declared.target.Size.{Size}
-use Rattle.dw_num.specs.declared.target.Target.{Target}
-use Rattle.dw_cfa.specs.Rows.{Rules}
-use Rattle.dw_section.specs.declared.lookup.Fde.{Fde}
-use Rattle.dw_canon.specs.Inner.Canon.{fde_instrs, initial_of}
-use Rattle.dw_canon.specs.Inner.Difference.{difference, later_changes}
-use Rattle.dw_canon.specs.Members.{Member}
-use Rattle.dw_canon.specs.Inner.Spelling.{program_bytes}
-use Rattle.dw_canon.specs.Inner.Written.{fde, nop_count, filled, contents}
-use Rattle.dw_canon.specs.Written.{missing, fde_fields}
-use Rattle.dw_normal.specs.Inner.Begun.{Begins}
-use Rattle.dw_normal.specs.Inner.ChangeWalk.{later_bytes, shown_row}
-use Rattle.dw_normal.specs.declared.begun.Begun.{Begun}
 use Rattle.dw_normal.proofs.Passes.{program_more}
 
--- fields, a program behind them, and the nops
-filled_is : (size : Size) (fields program out new : List ℕ) → out ≡ fields ++ program → new ≡ out ++ replicate (missing size (4 + length out)) 0 → new ≡ fields ++ filled (nop_count size fields program) program
-filled_is size fields program out new is nops =
-    let long : length out ≡ length fields + length program = ap length is ∙ length-append fields program in
-    nops ∙ ap (λ (l : List ℕ). l ++ replicate (missing size (4 + length out)) 0) is
-    ∙ ap (λ (n : ℕ). (fields ++ program) ++ replicate (missing size (4 + n)) 0) long
-    ∙ append_assoc fields program (replicate (missing size (4 + (length fields + length program))) 0)
+-- room, fields, a program behind them, and the nops
+filled_is : (size : Size) (room fields program out new : List ℕ) → length room ≡ 4 → out ≡ room ++ (fields ++ program) → new ≡ out ++ replicate (missing size (length out)) 0
+    → new ≡ room ++ (fields ++ filled (nop_count size fields program) program)
+filled_is size room fields program out new four is nops =
+    let long : length out ≡ 4 + (length fields + length program) =
+    ap length is ∙ length-append room (fields ++ program) ∙ ap (λ (n : ℕ). n + length (fields ++ program)) four ∙ ap (λ (n : ℕ). 4 + n) (length-append fields program) in
+    let left = replicate (missing size (4 + (length fields + length program))) 0 in
+    nops ∙ ap (λ (l : List ℕ). l ++ replicate (missing size (length out)) 0) is
+    ∙ ap (λ (n : ℕ). (room ++ (fields ++ program)) ++ replicate (missing size n) 0) long
+    ∙ append_assoc room (fields ++ program) left
+    ∙ ap (λ (l : List ℕ). room ++ l) (append_assoc fields program left)
 
 same_all : (f : ℕ → ℕ → Rules → Rules → ℕ → List (ℕ × Rules) → List ℕ) (a b : ℕ) (c d : Rules) (e : ℕ) (g : List (ℕ × Rules)) (a' b' : ℕ) (c' d' : Rules) (e' : ℕ) (g' : List (ℕ × Rules))
     → a ≡ a' → b ≡ b' → c ≡ c' → d ≡ d' → e ≡ e' → g ≡ g' → f a b c d e g ≡ f a' b' c' d' e' g'
@@ -34,22 +25,24 @@ abbrev parts : Target → ℕ → ℕ → ℕ → Rules → Rules → ℕ → Li
 parts t cie_at begin range shared first from later =
     contents t (fde cie_at begin range (difference shared shared first ++ later_changes shared from first later) (program_bytes t (difference shared shared first ++ later_changes shared from first later)))
 
-pub fde_filled : (t : Target) (ms : List Member) (m : Member) (b : Begun) (cie_at from : ℕ) (cleared fields first out new : List ℕ) → Begins ms m b → from ≡ b.fde.begin → cleared ≡ []
+pub fde_filled : (t : Target) (ms : List Member) (m : Member) (b : Begun) (cie_at from : ℕ) (cleared fields first out new : List ℕ) → Begins ms m b → from ≡ b.fde.begin → length cleared ≡ 4
     → fields ≡ cleared ++ fde_fields t cie_at b.fde.begin (b.fde.end - from) → first ≡ fields ++ program_bytes t (difference b.shared.now b.shared.now (shown_row b.changes)) → out ≡ first ++ later_bytes t b.shared.now from b.changes
-    → new ≡ out ++ replicate (missing t.size (4 + length out)) 0 → new ≡ contents t (fde cie_at m.begin (m.end - m.begin) (fde_instrs (initial_of ms m.register) m) (program_bytes t (fde_instrs (initial_of ms m.register) m)))
+    → new ≡ out ++ replicate (missing t.size (length out)) 0 → new ≡ cleared ++ contents t (fde cie_at m.begin (m.end - m.begin) (fde_instrs (initial_of ms m.register) m) (program_bytes t (fde_instrs (initial_of ms m.register) m)))
 fde_filled t ms m b cie_at from cleared fields first out new is at none f d l n =
     let own = fde_fields t cie_at b.fde.begin (b.fde.end - from) in
     let begins = difference b.shared.now b.shared.now (shown_row b.changes) in
     let goes = later_changes b.shared.now from (shown_row b.changes) b.changes.to_come in
-    let front : first ≡ own ++ program_bytes t begins = d ∙ ap (λ (k : List ℕ). k ++ program_bytes t begins) (f ∙ ap (λ (k : List ℕ). k ++ own) none) in
-    let all : out ≡ own ++ program_bytes t (begins ++ goes) =
-    l ∙ ap (λ (k : List ℕ). k ++ program_bytes t goes) front ∙ append_assoc own (program_bytes t begins) (program_bytes t goes) ∙ ap (λ (k : List ℕ). own ++ k) (sym (program_more t begins goes)) in
+    let front : first ≡ cleared ++ (own ++ program_bytes t begins) = d ∙ ap (λ (k : List ℕ). k ++ program_bytes t begins) f ∙ append_assoc cleared own (program_bytes t begins) in
+    let all : out ≡ cleared ++ (own ++ program_bytes t (begins ++ goes)) =
+    l ∙ ap (λ (k : List ℕ). k ++ program_bytes t goes) front ∙ append_assoc cleared (own ++ program_bytes t begins) (program_bytes t goes)
+    ∙ ap (λ (k : List ℕ). cleared ++ k) (append_assoc own (program_bytes t begins) (program_bytes t goes) ∙ ap (λ (k : List ℕ). own ++ k) (sym (program_more t begins goes))) in
     let begin : b.fde.begin ≡ m.begin = ap (λ (x : Fde). x.begin) is.fde in
     let end : b.fde.end ≡ m.end = ap (λ (x : Fde). x.end) is.fde in
     let start : from ≡ m.begin = at ∙ begin in
     let range : b.fde.end - from ≡ m.end - m.begin = ap (λ (x : ℕ). x - from) end ∙ ap (λ (x : ℕ). m.end - x) start in
-    filled_is t.size own (program_bytes t (begins ++ goes)) out new all n
-    ∙ same_all (parts t cie_at) b.fde.begin (b.fde.end - from) b.shared.now (shown_row b.changes) from b.changes.to_come m.begin (m.end - m.begin) (initial_of ms m.register) m.first m.begin m.later begin range is.shared is.first start is.later
+    filled_is t.size cleared own (program_bytes t (begins ++ goes)) out new none all n
+    ∙ ap (λ (k : List ℕ). cleared ++ k)
+    (same_all (parts t cie_at) b.fde.begin (b.fde.end - from) b.shared.now (shown_row b.changes) from b.changes.to_come m.begin (m.end - m.begin) (initial_of ms m.register) m.first m.begin m.later begin range is.shared is.first start is.later)
 
 pub on_ok : {A E : Type 0} (r : Result A E) (P Q : Type 0) → (P → Q) → OnOk r P → OnOk r Q
 on_ok (Ok x) P Q to h = to h

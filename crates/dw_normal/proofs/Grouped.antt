@@ -1,23 +1,9 @@
 -- The initial rows of the groups, one FDE after another, are those of all of them.
-use Rattle.std.proofs.Common.{Less, Equal, Greater, eq-eqb, ◌≡◌, ◌⊎◌, ◌+◌, ℕ, suc, length, take, get_or, ◌<◌, ◌≤◌, Bool, true, false, List, [], ◌∷◌, ◌++◌, map, Option, Some, None, refl, sym, ap, ◌∙◌, subst, inl, inr, arith}
-use Rattle.std.specs.Prelude.{nat_eq, nat_lt}
-use Rattle.std.specs.BTreeMap.{insert_entry, is_at}
-use Rattle.std.specs.List.{AllByRecursion}
+use Rattle.dw_normal.proofs.Words.{Less, Equal, Greater, eq-eqb, ◌≡◌, ◌⊎◌, ◌+◌, ℕ, suc, length, take, get_or, ◌<◌, ◌≤◌, Bool, true, false, List, [], ◌∷◌, ◌++◌, map, Option, Some, None, refl, sym, ap, ◌∙◌, subst, inl, inr, arith, nat_eq}
+use Rattle.dw_normal.proofs.Words.{nat_lt, insert_entry, is_at, AllByRecursion, keys_of, lookup, set_value, nat_cmp, cases_lt, lt-ltb, le-ltb, ne_eqb, cases_Bool, append-nil, take_more, Rules, blank, return_registers, initial_of}
+use Rattle.dw_normal.proofs.Words.{with_register, with_registers, group, initial_row, kept_by, Member, initial_rows, begun_with, row_of, with_member}
 use Rattle.std.specs.List.Sorted.{IsStrictlySortedBy}
-use Rattle.std.specs.Map.{keys_of, lookup, set_value}
 use Rattle.std.proofs.lemmas.Map.Keys.{sorted_head, sorted_tail}
-use Rattle.std.specs.Ordering.{nat_cmp}
-use Rattle.std.proofs.lemmas.Bool.{cases_lt, lt-ltb, le-ltb, ne_eqb, cases_Bool}
-use Rattle.std.proofs.lemmas.List.{append-nil, take_more}
-use Rattle.dw_cfa.specs.Rows.{Rules, blank}
-use Rattle.dw_canon.specs.Canon.{return_registers}
-use Rattle.dw_canon.specs.Inner.Canon.{initial_of}
-use Rattle.dw_canon.specs.Inner.Difference.{with_register, with_registers}
-use Rattle.dw_canon.specs.Group.{group}
-use Rattle.dw_canon.specs.Inner.Group.{initial_row}
-use Rattle.dw_section.specs.Changes.{kept_by}
-use Rattle.dw_canon.specs.Members.{Member}
-use Rattle.dw_normal.specs.Inner.Groups.{initial_rows, begun_with, row_of, with_member}
 use Rattle.dw_normal.proofs.Passes.{group_more, next_member}
 
 -- ---- the order of two registers

@@ -1,14 +1,6 @@
 -- Bytes that are put behind others.
-use Rattle.std.proofs.Common.{◌≡◌, ℕ, ◌+◌, ◌-◌, ◌≤◌, true, List, ◌++◌, length, take, drop, Option, Result, Ok, Err, refl, sym, ap, ◌∙◌, subst, arith, append_assoc}
-use Rattle.std.specs.Prelude.{OnOk}
-use Rattle.std.specs.Result.{is_ok, IsErrAnd}
-use Rattle.std.proofs.Math.Seq.{take-append-add, take-append_seam, drop-append_seam}
-use Rattle.std.proofs.lemmas.List.{length-append, take-append-le, take_rest, take_at}
-use Rattle.std.specs.Io.KnownBytes.{Appends}
-use Rattle.dw_normal.specs.Inner.Puts.{Puts, taken_by, after}
-use Rattle.dw_normal.specs.declared.entry.PutError.{PutError}
-use Rattle.dw_normal.specs.declared.entry.PutError.TheVariants.{Write, Memory}
-use Rattle.std.proofs.KnownBytes.{Appends-nil, Appends-trans}
+use Rattle.dw_normal.proofs.Words.{◌≡◌, ℕ, ◌+◌, ◌-◌, ◌≤◌, true, List, ◌++◌, length, take, Option, Result, Ok, Err, refl, sym, ap, ◌∙◌, subst, arith, append_assoc, OnOk, is_ok, IsErrAnd, take-append-add, take-append_seam, length-append}
+use Rattle.dw_normal.proofs.Words.{take-append-le, Appends, Puts, taken_by, after, PutError, Write, Memory, Appends-nil, Appends-trans}
 
 -- none was put
 pub none_put : (bytes : List ℕ) (f : ℕ) (o : Option (List ℕ)) → Puts bytes (Err (Memory 0)) f f o o
@@ -85,25 +77,14 @@ pub same_err : (bytes : List ℕ) (r : Result ℕ PutError) (e : PutError) (f g 
 same_err bytes (Ok k) e f g o n h p = absurd h
 same_err bytes (Err x) e f g o n h p = subst (λ (y : PutError). Puts bytes (Err y) f g o n) (sym h) p
 
--- ---- contents behind what was appended to them
+-- ---- what holds of an answer
 
 pub ok_of : {A E : Type 0} (r : Result A E) (P : Type 0) → OnOk r P → is_ok r ≡ true → P
 ok_of (Ok x) P h e = h
 ok_of (Err x) P h e = absurd cc
 
-module _ (contents front buffer : List ℕ) (len : ℕ) (is : buffer ≡ contents ++ front) (long : len ≡ length contents) where
-  pub end_is : take (length buffer - len) (drop len buffer) ≡ front
-  end_is = take_rest buffer len ∙ ap (drop len) is ∙ ap (λ (n : ℕ). drop n (contents ++ front)) long ∙ drop-append_seam contents front
-
-  pub start_is : take len buffer ≡ contents
-  start_is = ap (take len) is ∙ take_at contents front len (sym long)
-
-  pub put_two : (c : ℕ) (put r : Result ℕ PutError) (f g h : ℕ) (o m n : Option (List ℕ)) → Puts (take (length buffer - len) (drop len buffer)) (Ok c) f g o m → Puts (take len buffer) put g h m n → r ≡ after c put
-      → Puts (front ++ contents) r f h o n
-  put_two c put r f g h o m n p q e =
-      let first : Puts front (Ok c) f g o m = subst (λ (l : List ℕ). Puts l (Ok c) f g o m) end_is p in
-      let second : Puts contents put g h m n = subst (λ (l : List ℕ). Puts l put g h m n) start_is q in
-      subst (λ (x : Result ℕ PutError). Puts (front ++ contents) x f h o n) (sym e) (puts_both front contents c put f g h o m n first second)
-
-  pub put_one : (e : PutError) (f g : ℕ) (o m : Option (List ℕ)) → Puts (take (length buffer - len) (drop len buffer)) (Err e) f g o m → Puts (front ++ contents) (Err e) f g o m
-  put_one e f g o m p = put_begins front contents e f g o m (subst (λ (l : List ℕ). Puts l (Err e) f g o m) end_is p)
+-- what holds where bytes are put, in the answer behind others too
+pub put_so : (before : ℕ) (put r : Result ℕ PutError) {count : ℕ} (P : Type 0) → OnOk put P → r ≡ after before put → r ≡ Ok count → P
+put_so before (Ok k) r P holds is was = holds
+put_so before (Err (Write w)) r P holds is was = absurd cc
+put_so before (Err (Memory w)) r P holds is was = absurd cc

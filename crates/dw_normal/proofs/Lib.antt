@@ -1,3 +1,4 @@
+mod Words
 mod RegistersBehind
 mod RulesLeft
 mod Appended

@@ -1,35 +1,21 @@
 -- An FDE that was begun, among the entries of the normal form.
-use Rattle.std.proofs.Common.{◌≡◌, ℕ, ◌+◌, ◌<◌, ◌≤◌, List, length, get_or, Some, sym, ap, ◌∙◌, arith}
-use Rattle.std.specs.Prelude.{◌^◌}
-use Rattle.dw_num.specs.Input.{AreBytes}
-use Rattle.dw_num.specs.declared.target.Target.{Target}
-use Rattle.dw_num.specs.Target.{address_limit}
-use Rattle.dw_cfa.specs.Rows.{Rules}
-use Rattle.dw_section.specs.Accepted.{Accepted}
-use Rattle.dw_section.specs.declared.lookup.Fde.{Fde}
-use Rattle.dw_canon.specs.Inner.Laid.{groups_of, part_of}
-use Rattle.dw_canon.specs.Inner.Canon.{canon, initial_of}
-use Rattle.dw_canon.specs.Inner.Laid.{place_of}
-use Rattle.dw_canon.specs.Inner.Laid.{IsPart}
-use Rattle.dw_canon.specs.Members.{Member, AreMembers}
-use Rattle.dw_canon.specs.Inner.Written.{contents}
-use Rattle.dw_normal.specs.Inner.Begun.{Begins}
-use Rattle.dw_normal.specs.Inner.Groups.{initial_rows}
-use Rattle.dw_normal.specs.Inner.Lengths.{cies_bytes}
-use Rattle.dw_normal.specs.Inner.Places.{place_in, cie_place, fde_with}
-use Rattle.dw_normal.specs.declared.begun.Begun.{Begun}
+use Rattle.dw_normal.proofs.Words.{◌≡◌, ℕ, ◌+◌, ◌++◌, ◌<◌, ◌≤◌, List, length, get_or, Some, sym, ap, ◌∙◌, arith, ◌^◌, length-append, fixed_bytes, AreBytes, length-fixed, Target, address_limit, Rules, Accepted, Fde, groups_of, part_of}
+use Rattle.dw_normal.proofs.Words.{canon, initial_of, place_of, IsPart, Member, AreMembers, contents, Begins, initial_rows, cies_bytes, place_in, cie_place, fde_with, Begun}
 use Rattle.dw_normal.proofs.Entries.{one_long, contents_less, part_at}
 use Rattle.dw_normal.proofs.Placed.{row_in}
 use Rattle.dw_normal.proofs.Summed.{canon_length}
 use Rattle.dw_normal.proofs.Sited.{place_low, place_is, is_placed}
 
--- an FDE's contents have a length that can be spelled
-pub contents_low : (t : Target) (ms : List Member) (k : ℕ) (d : Member) → k < length ms → length (canon t ms) ≤ 2147483647 → length (contents t (fde_with t ms (get_or ms k d))) < 2 ^ 32
-contents_low t ms k d lt small =
+-- an FDE's contents behind room for their length, which can be spelled
+pub contents_low : (t : Target) (ms : List Member) (k : ℕ) (d : Member) → k < length ms → length (canon t ms) ≤ 2147483647
+    → (l : List ℕ) → l ≡ fixed_bytes t.order 4 0 ++ contents t (fde_with t ms (get_or ms k d)) → (4 ≤ length l) × (length l < 2 ^ 32)
+contents_low t ms k d lt small l is =
     let whole = canon_length t ms in
     let one = one_long t ms k d lt in
+    let own = contents t (fde_with t ms (get_or ms k d)) in
     let less = contents_less t (fde_with t ms (get_or ms k d)) 2147483647 (omega (arith, whole, one, small)) in
-    omega (arith, less)
+    let long : length l ≡ 4 + length own = ap length is ∙ length-append (fixed_bytes t.order 4 0) own ∙ ap (λ (n : ℕ). n + length own) (length-fixed t.order 4 0) in
+    (omega (arith, long), omega (arith, long, less))
 
 -- it was begun, and the CIEs before it have their places
 pub record Located (t : Target) (s : List ℕ) (ms : List Member) (k : ℕ) (d : Member) (begun : Begun) (rows : List (ℕ × Rules)) (places : List (ℕ × ℕ)) : Type 0 where

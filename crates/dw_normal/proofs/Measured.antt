@@ -1,18 +1,6 @@
 -- The room that an FDE leaves is that of what is written.
-use Rattle.std.proofs.Common.{◌≡◌, ℕ, ◌+◌, ◌*◌, ◌<◌, List, ◌++◌, length, None, ap, ◌∙◌, arith}
-use Rattle.std.proofs.lemmas.List.{length-append}
-use Rattle.dw_num.specs.declared.target.Target.{Target}
-use Rattle.dw_num.specs.Target.{byte_count}
-use Rattle.dw_cfa.specs.declared.instr.Instr.{Instr}
-use Rattle.dw_cfa.specs.Rows.{Rules}
-use Rattle.dw_section.specs.Changes.{Changing}
-use Rattle.dw_canon.specs.Inner.Difference.{difference, later_changes}
-use Rattle.dw_canon.specs.Inner.Spelling.{program_bytes}
-use Rattle.dw_canon.specs.Inner.Written.{fde, entry_bytes}
-use Rattle.dw_canon.specs.Written.{missing}
-use Rattle.dw_canon.proofs.Lent.Extra.{fde_length}
-use Rattle.dw_normal.specs.Inner.Lengths.{FdeLeaves}
-use Rattle.dw_normal.specs.Inner.ChangeWalk.{later_bytes, shown_row}
+use Rattle.dw_normal.proofs.Words.{◌≡◌, ℕ, ◌+◌, ◌*◌, ◌<◌, List, ◌++◌, length, None, ap, ◌∙◌, arith, length-append, Target, byte_count, Instr, Rules, Changing, difference, later_changes, program_bytes, fde, entry_bytes, missing, fde_length}
+use Rattle.dw_normal.proofs.Words.{FdeLeaves, later_bytes, shown_row}
 use Rattle.dw_normal.proofs.Passes.{program_more}
 
 fde_long : (t : Target) (c b n : ℕ) (instrs : List Instr) (program : List ℕ) → length (entry_bytes t (fde c b n instrs program)) ≡ 8 + 2 * byte_count t.size + length program + missing t.size (8 + 2 * byte_count t.size + length program)

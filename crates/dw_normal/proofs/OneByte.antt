@@ -1,8 +1,5 @@
 -- A number whose shortest spelling is one byte, and what is appended with it.
-use Rattle.std.proofs.Common.{◌≡◌, ℕ, ◌<◌, List, [], ◌∷◌, ◌++◌, refl, ap, ◌∙◌}
-use Rattle.std.proofs.lemmas.Bool.{lt-ltb}
-use Rattle.std.proofs.lemmas.List.{append_assoc}
-use Rattle.dw_num.specs.Shortest.{shortest_uleb}
+use Rattle.dw_normal.proofs.Words.{◌≡◌, ℕ, ◌<◌, List, [], ◌∷◌, ◌++◌, refl, ap, ◌∙◌, lt-ltb, append_assoc, shortest_uleb}
 
 pub one_byte : (v : ℕ) → v < 128 → v ∷ [] ≡ shortest_uleb v
 unfolding shortest_uleb

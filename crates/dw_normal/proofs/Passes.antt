@@ -1,29 +1,10 @@
 -- One step more of the walks over members and changes.
-use Rattle.std.proofs.Common.{◌≡◌, ℕ, ◌+◌, ◌<◌, List, [], ◌∷◌, ◌++◌, length, Option, Some, None, refl, sym, ap, ◌∙◌, subst, inl, inr}
-use Rattle.std.specs.Prelude.{nat_eq}
-use Rattle.std.specs.List.{AllByRecursion}
-use Rattle.std.proofs.lemmas.Bool.{cases_Bool}
+use Rattle.dw_normal.proofs.Words.{◌≡◌, ℕ, ◌+◌, ◌<◌, List, [], ◌∷◌, ◌++◌, length, Option, Some, None, refl, sym, ap, ◌∙◌, subst, inl, inr, nat_eq, AllByRecursion, cases_Bool, append_assoc, length-append, Target, Instr, Rules, move}
+use Rattle.dw_normal.proofs.Words.{difference, later_changes, group, shared_by, initial_row, kept_by, agreed, Member, Stand, later_bytes, row_or_blank, shown_row, address_limit, Changing, before_then, ChangesStand, InstrFits}
+use Rattle.dw_normal.proofs.Words.{difference_fits, instr_bytes, program_bytes}
 use Rattle.std.proofs.lemmas.Grind.{flat_map-append}
-use Rattle.std.proofs.lemmas.List.{append_assoc, length-append}
-use Rattle.dw_num.specs.declared.target.Target.{Target}
-use Rattle.dw_cfa.specs.declared.instr.Instr.{Instr}
-use Rattle.dw_cfa.specs.Rows.{Rules}
-use Rattle.dw_canon.specs.Difference.{move}
-use Rattle.dw_canon.specs.Inner.Difference.{difference, later_changes}
-use Rattle.dw_canon.specs.Group.{group}
-use Rattle.dw_canon.specs.Inner.Group.{shared_by, initial_row}
-use Rattle.dw_section.specs.Changes.{kept_by}
-use Rattle.dw_cfa.specs.Inner.Agreement.{agreed}
-use Rattle.dw_canon.specs.Members.{Member}
-use Rattle.dw_normal.specs.Inner.ChangeWalk.{Stand, later_bytes, row_or_blank, shown_row}
 use Rattle.dw_normal.proofs.ChangesToCome.{Given}
-use Rattle.dw_num.specs.Target.{address_limit}
-use Rattle.dw_section.specs.Changes.{Changing, before_then}
-use Rattle.dw_canon.specs.Inner.Fits.{ChangesStand}
-use Rattle.dw_canon.specs.Inner.Fits.{InstrFits}
-use Rattle.dw_canon.proofs.Lent.InstrFits.{difference_fits}
 use Rattle.dw_canon.proofs.Lent.Programs.{below_end}
-use Rattle.dw_canon.specs.Inner.Spelling.{instr_bytes, program_bytes}
 
 -- ---- the pass over members
 

@@ -1,33 +1,8 @@
 -- What is so of an FDE of a table, and of the initial row of its group.
-use Rattle.std.proofs.Common.{◌≡◌, ℕ, zero, suc, ◌<◌, ◌≤◌, List, [], ◌∷◌, length, map, get_or, Option, Some, refl, sym, ap, ◌∙◌, subst, inl, inr, arith}
-use Rattle.std.specs.Prelude.{nat_eq}
-use Rattle.std.specs.List.{AllByRecursion}
-use Rattle.std.proofs.lemmas.Bool.{cases_Bool, eq-eqb}
-use Rattle.std.proofs.lemmas.List.{length-map}
-use Rattle.dw_num.specs.Input.{AreBytes}
-use Rattle.dw_num.specs.Target.{address_limit}
-use Rattle.dw_num.specs.declared.target.Target.{Target}
-use Rattle.dw_cfa.specs.Rows.{Rules}
-use Rattle.dw_section.specs.Accepted.{Accepted}
-use Rattle.dw_section.specs.declared.lookup.Fde.{Fde}
-use Rattle.dw_section.specs.Meaning.{AreFdes}
-use Rattle.dw_section.specs.Fits.{RowFits}
-use Rattle.dw_section.proofs.Lent.Judged.{all_get}
-use Rattle.dw_canon.specs.Canon.{return_registers}
-use Rattle.dw_canon.specs.Inner.Canon.{cie_instrs, initial_of}
-use Rattle.dw_canon.specs.Inner.Difference.{difference}
-use Rattle.dw_canon.specs.Inner.Fits.{ChangesStand, MemberStands}
-use Rattle.dw_canon.specs.Inner.Fits.{InstrFits}
-use Rattle.dw_canon.specs.Group.{group}
-use Rattle.dw_canon.specs.Members.{Member, fde_of, AreMembers}
-use Rattle.dw_canon.proofs.Lent.InstrFits.{difference_fits, cie_fits}
-use Rattle.dw_canon.proofs.Lent.Rendered.{fits, stand}
-use Rattle.dw_canon.proofs.Lent.MemberPlaces.{group_fits}
-use Rattle.dw_normal.specs.Inner.Groups.{initial_rows, row_of}
-use Rattle.dw_normal.specs.Inner.Begun.{Begins, IsReady}
-use Rattle.dw_normal.specs.Inner.ChangeWalk.{shown_row}
-use Rattle.dw_normal.specs.declared.begun.Begun.{Begun}
-use Rattle.dw_normal.proofs.Grouped.{some_of, look_members}
+use Rattle.dw_normal.proofs.Words.{◌≡◌, ℕ, zero, suc, ◌<◌, ◌≤◌, List, [], ◌∷◌, length, map, get_or, Option, Some, refl, sym, ap, ◌∙◌, subst, inl, inr, arith, IsSome, nat_eq, get_or-map, AllByRecursion, cases_Bool, eq-eqb, length-map}
+use Rattle.dw_normal.proofs.Words.{AreBytes, address_limit, Target, Rules, Accepted, Fde, AreFdes, RowFits, all_get, return_registers, cie_instrs, initial_of, difference, ChangesStand, MemberStands, InstrFits, group, Member, fde_of}
+use Rattle.dw_normal.proofs.Words.{AreMembers, difference_fits, cie_fits, fits, stand, group_fits, initial_rows, row_of, Begins, IsReady, shown_row, Begun, members_exist}
+use Rattle.dw_normal.proofs.Grouped.{some_of, look_members, no_member}
 
 -- ---- the group of an FDE is not empty
 
@@ -100,3 +75,15 @@ module _ (t : Target) (s : List ℕ) (b : AreBytes s) (ok : Accepted t s) (ms : 
         later = rw (is.shared, is.fde, is.first, is.later) (stand_within t initial m.end (address_limit t.size) stands_at.in_space m.begin m.first m.later stands_at.later);
       };
     }
+
+-- ---- the initial row of an FDE that the table lists
+
+module _ {t : Target} {s : List ℕ} (b : AreBytes s) (ok : Accepted t s) {rows : List (ℕ × Rules)} (rows_are : (ms : List Member) → AreMembers t s ms → rows ≡ initial_rows ms)
+    {k : ℕ} (lt : (fs : List Fde) → AreFdes t s fs → k < length fs) {f : Fde} (is : (fs : List Fde) → AreFdes t s fs → (d : Fde) → f ≡ get_or fs k d) where
+  pub listed_row : (ms : List Member) → AreMembers t s ms → (d : Member) → row_of rows f.return_register ≡ Some (initial_of ms (get_or ms k d).register)
+  listed_row ms are d =
+      let same = is (map fde_of ms) are.fdes (fde_of d) ∙ get_or-map fde_of ms k d in
+      row_in t s b ok ms are k d (below k are lt) rows f.return_register (rows_are ms are) (ap (λ (g : Fde). g.return_register) same)
+
+  pub listed_some : IsSome (row_of rows f.return_register)
+  listed_some = let some = members_exist t s b ok in subst (λ (o : Option Rules). IsSome o) (sym (listed_row some.0 some.1 no_member)) refl

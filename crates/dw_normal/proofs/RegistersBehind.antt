@@ -1,19 +1,9 @@
 -- The registers of two rows from one on, and the first of them whose rule differs.
-use Rattle.std.proofs.Common.{◌≡◌, ℕ, suc, ◌<◌, ◌≤◌, true, false, List, [], ◌∷◌, map, None, refl, sym, ap, ◌∙◌, arith, inl, inr}
-use Rattle.std.specs.Prelude.{nat_lt}
-use Rattle.std.specs.List.{flat_map}
-use Rattle.std.specs.Map.{keys_of}
-use Rattle.std.proofs.lemmas.Bool.{cases_lt, lt-ltb, le-ltb, eq-eqb, ne_eqb}
+use Rattle.dw_normal.proofs.Words.{◌≡◌, ℕ, suc, ◌<◌, ◌≤◌, true, false, List, [], ◌∷◌, map, None, refl, sym, ap, ◌∙◌, arith, inl, inr, nat_lt, flat_map, keys_of, cases_lt, lt-ltb, le-ltb, eq-eqb, ne_eqb, Rules, AreSpecified, rule, same_rule}
+use Rattle.dw_normal.proofs.Words.{FirstDifference, DiffersFirst, differs_of, either, rule_to, rule_difference, with_register, with_registers, from_on, rules_from}
 use Rattle.dw_cfa.specs.declared.rule.RegRule.{RegRule}
-use Rattle.dw_cfa.specs.Rows.{Rules, AreSpecified, rule}
-use Rattle.dw_cfa.specs.Inner.Agreement.{same_rule}
-use Rattle.dw_cfa.specs.Difference.{FirstDifference, DiffersFirst}
-use Rattle.dw_cfa.proofs.Lent.Equal.{differs_of}
 use Rattle.dw_cfa.specs.Inner.RowEquality.{rule_tells}
-use Rattle.dw_canon.specs.Difference.{either}
-use Rattle.dw_canon.specs.Inner.Difference.{rule_to, rule_difference, with_register, with_registers}
 use Rattle.dw_canon.proofs.Lent.Differences.{In, either_or}
-use Rattle.dw_normal.specs.Inner.RegisterWalk.{from_on, rules_from}
 
 -- ---- ascending registers
 

@@ -1,38 +1,22 @@
 -- From what is known of a section's members to what the calls over normal forms answer.
-use Rattle.std.proofs.Common.{◌≡◌, ◌⊎◌, ℕ, ◌≤◌, Bool, List, [], length, take, Option, Some, None, Result, Ok, Err, refl, sym, ap, ◌∙◌, subst, inl, inr, arith}
-use Rattle.std.specs.Bool.{Decides}
-use Rattle.std.specs.Io.KnownBytes.{Appends}
-use Rattle.std.proofs.KnownBytes.{Keeps-refl}
-use Rattle.dw_num.specs.Input.{AreBytes}
+use Rattle.dw_normal.proofs.Words.{◌≡◌, ◌⊎◌, ℕ, ◌≤◌, Bool, List, [], length, take, Option, Some, None, Result, Ok, Err, refl, sym, ap, ◌∙◌, subst, inl, inr, arith, Decides, Appends, Keeps-refl, AreBytes, Target, Refuses, Rules, Accepted}
+use Rattle.dw_normal.proofs.Words.{CheckFault, canon, Member, AreMembers, members_exist, normal_form_is_one, same_exactly, IsTooLong, IsWithin, NormalFault, SameFault, WentOut, Writes, too_long, Puts, put_is, PutError, First, Second, IfOk}
+use Rattle.dw_normal.proofs.Words.{IfErr, initial_rows, Measures}
 use Rattle.dw_num.specs.declared.refusal.Refusal.{Refusal}
-use Rattle.dw_num.specs.declared.target.Target.{Target}
-use Rattle.dw_num.specs.Refusals.{Refuses}
 use Rattle.dw_num.specs.declared.error.ReadError.{ReadError}
 use Rattle.dw_num.specs.declared.error.ReadError.TheVariants as read_error
-use Rattle.dw_cfa.specs.Rows.{Rules}
-use Rattle.dw_section.specs.Accepted.{Accepted, CheckFault}
 use Rattle.dw_section.specs.Meanings.{SameMeaning}
 use Rattle.dw_section.proofs.Lent.CheckFirst.{fault_or_accepted}
-use Rattle.dw_canon.specs.Inner.Canon.{canon}
-use Rattle.dw_canon.specs.Members.{Member, AreMembers}
 use Rattle.dw_canon.specs.Normal.{IsNormalForm}
 use Rattle.dw_canon.proofs.Lent.Forms.{is_normal, whole_is}
-use Rattle.dw_canon.proofs.Lent.Canonical.{members_exist, normal_form_is_one, same_exactly}
-use Rattle.dw_normal.specs.Answers.{IsTooLong, IsWithin, NormalFault, SameFault, WentOut, Writes, too_long}
 use Rattle.dw_normal.specs.Inner.Answers.{IsShort, IsMeasured, LengthFault, blamed, unread, unwritten}
-use Rattle.dw_normal.specs.Inner.Puts.{Puts, put_is}
-use Rattle.dw_normal.specs.declared.entry.PutError.{PutError}
 use Rattle.dw_normal.specs.declared.entry.PutError.TheVariants as put_error
 use Rattle.dw_normal.specs.declared.error.SameError.{SameError}
 use Rattle.dw_normal.specs.declared.error.SameError.TheVariants as same_error
 use Rattle.dw_normal.specs.declared.error.Which.{Which}
-use Rattle.dw_normal.specs.declared.error.Which.TheVariants.{First, Second}
 use Rattle.dw_normal.specs.declared.error.WriteError.{WriteError}
 use Rattle.dw_normal.specs.declared.error.WriteError.TheVariants as write_error
 use Rattle.dw_section.specs.Table.{Section}
-use Rattle.std.specs.Prelude.{IfOk, IfErr}
-use Rattle.dw_normal.specs.Inner.Groups.{initial_rows}
-use Rattle.dw_normal.specs.Inner.Lengths.{Measures}
 
 -- ---- the members of a section
 

@@ -1,16 +1,6 @@
 -- What is left of a program: the room that it leaves, and what it is put behind.
-use Rattle.std.proofs.Common.{◌≡◌, ℕ, ◌+◌, ◌<◌, List, [], ◌∷◌, ◌++◌, length, Option, None, sym, ap, ◌∙◌, subst, arith, append_assoc}
-use Rattle.std.specs.List.{AllByRecursion, flat_map}
-use Rattle.std.proofs.lemmas.List.{append-nil, length-append}
-use Rattle.dw_num.specs.declared.target.Target.{Target}
-use Rattle.dw_cfa.specs.declared.instr.Instr.{Instr}
-use Rattle.dw_cfa.specs.Rows.{Rules}
-use Rattle.dw_canon.specs.Difference.{either}
-use Rattle.dw_canon.specs.Inner.Difference.{difference, cfa_difference, rule_difference}
-use Rattle.dw_canon.specs.Inner.Fits.{InstrFits}
-use Rattle.dw_canon.specs.Inner.Spelling.{instr_bytes, program_bytes}
-use Rattle.dw_normal.specs.Inner.Lengths.{Leaves}
-use Rattle.dw_normal.specs.Inner.RegisterWalk.{rules_from}
+use Rattle.dw_normal.proofs.Words.{◌≡◌, ℕ, ◌+◌, ◌<◌, List, [], ◌∷◌, ◌++◌, length, Option, None, sym, ap, ◌∙◌, subst, arith, append_assoc, AllByRecursion, flat_map, append-nil, length-append, Target, Instr, Rules, either, difference}
+use Rattle.dw_normal.proofs.Words.{cfa_difference, rule_difference, InstrFits, instr_bytes, program_bytes, Leaves, rules_from}
 use Rattle.dw_normal.proofs.Passes.{program_more, both_halves}
 use Rattle.dw_normal.proofs.RegistersBehind.{from_first}
 

@@ -1,16 +1,6 @@
 -- The shares of FDEs, one after another.
-use Rattle.std.proofs.Common.{◌≡◌, ℕ, ◌+◌, ◌*◌, ◌<◌, ◌≤◌, List, [], ◌∷◌, ◌++◌, length, map, take, get_or, refl, sym, subst, arith, Option, Some, None}
-use Rattle.std.specs.Prelude.{IfSome, IsTrue, is_some}
-use Rattle.std.proofs.lemmas.List.{take_more, take_all}
-use Rattle.dw_num.specs.Input.{AreBytes}
-use Rattle.dw_num.specs.declared.target.Target.{Target}
-use Rattle.dw_section.specs.Accepted.{Accepted}
-use Rattle.dw_section.specs.Meaning.{HasLengths}
-use Rattle.dw_section.specs.Meaning.{AreFdes}
-use Rattle.dw_section.specs.declared.lookup.Fde.{Fde}
-use Rattle.dw_canon.specs.Bound.{share, Shares}
-use Rattle.dw_canon.specs.Inner.Canon.{canon}
-use Rattle.dw_canon.specs.Members.{Member, AreMembers, fde_of}
+use Rattle.dw_normal.proofs.Words.{◌≡◌, ℕ, ◌+◌, ◌*◌, ◌<◌, ◌≤◌, List, [], ◌∷◌, ◌++◌, length, map, take, get_or, refl, sym, subst, arith, Option, Some, None, IfSome, IsTrue, is_some, take_more, take_all, AreBytes, Target, Accepted}
+use Rattle.dw_normal.proofs.Words.{HasLengths, AreFdes, Fde, share, Shares, canon, Member, AreMembers, fde_of}
 use Rattle.dw_canon.proofs.Lent.Bounds.{canon_within}
 
 shares_more : (t : Target) (s : List ℕ) (fs : List Fde) (f : Fde) (own initial total : ℕ) → Shares t s fs total → HasLengths t s f own initial → Shares t s (fs ++ f ∷ []) (total + share own initial)

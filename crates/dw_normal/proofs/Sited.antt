@@ -1,22 +1,7 @@
 -- The places of CIEs, kept one after another.
-use Rattle.std.proofs.Common.{◌≡◌, ℕ, suc, ◌+◌, ◌<◌, ◌≤◌, Bool, true, false, cond, List, [], ◌∷◌, length, map, Option, Some, None, refl, sym, ap, ◌∙◌, subst, inl, inr, arith, eq-eqb}
-use Rattle.std.specs.BTreeMap.{is_at}
-use Rattle.std.specs.Ordering.{nat_cmp}
-use Rattle.std.proofs.lemmas.Bool.{le-ltb}
+use Rattle.dw_normal.proofs.Words.{◌≡◌, ℕ, suc, ◌+◌, ◌<◌, ◌≤◌, Bool, true, false, cond, List, [], ◌∷◌, length, map, Option, Some, None, refl, sym, ap, ◌∙◌, subst, inl, inr, arith, eq-eqb, is_at, nat_cmp, le-ltb, length-append, Target}
+use Rattle.dw_normal.proofs.Words.{Rules, group_of, return_registers, initial_of, GroupsRise, place_of, Member, entry_bytes, initial_rows, row_of, cie_with, cies_bytes, place_in, cie_place, RowsRise}
 use Rattle.std.proofs.lemmas.Bool.Decides.{eqb_tells}
-use Rattle.std.proofs.lemmas.List.{length-append}
-use Rattle.dw_num.specs.declared.target.Target.{Target}
-use Rattle.dw_cfa.specs.Rows.{Rules}
-use Rattle.dw_canon.specs.Inner.Laid.{group_of}
-use Rattle.dw_canon.specs.Canon.{return_registers}
-use Rattle.dw_canon.specs.Inner.Canon.{initial_of}
-use Rattle.dw_canon.specs.Inner.Laid.{GroupsRise}
-use Rattle.dw_canon.specs.Inner.Laid.{place_of}
-use Rattle.dw_canon.specs.Members.{Member}
-use Rattle.dw_canon.specs.Inner.Written.{entry_bytes}
-use Rattle.dw_normal.specs.Inner.Groups.{initial_rows, row_of}
-use Rattle.dw_normal.specs.Inner.Lengths.{cie_with, cies_bytes}
-use Rattle.dw_normal.specs.Inner.Places.{place_in, cie_place, RowsRise}
 use Rattle.dw_normal.proofs.Grouped.{told}
 
 -- ---- the order of two registers

@@ -1,18 +1,8 @@
 -- The normal form is the CIEs with the initial rows, and then the FDEs; and the room that they leave.
-use Rattle.std.proofs.Common.{◌≡◌, ℕ, zero, suc, ◌+◌, ◌-◌, ◌<◌, ◌≤◌, List, [], ◌∷◌, ◌++◌, length, take, get_or, map, Some, None, refl, sym, ap, ◌∙◌, append_assoc, arith}
-use Rattle.std.proofs.lemmas.List.{length-append, nil_from_length, take_more}
-use Rattle.dw_num.specs.declared.target.Target.{Target}
-use Rattle.dw_cfa.specs.Rows.{Rules}
-use Rattle.dw_canon.specs.Inner.Laid.{group_of, groups_of, part_of, parts_of}
-use Rattle.dw_canon.specs.Inner.Canon.{canon, initial_of}
-use Rattle.dw_canon.specs.Canon.{return_registers}
-use Rattle.dw_canon.specs.Inner.Laid.{cie_of, fde_of, place_of}
-use Rattle.dw_canon.specs.Members.{Member}
-use Rattle.dw_canon.specs.Inner.Written.{Written, entry_bytes, section_bytes}
-use Rattle.dw_canon.proofs.Lent.Extra.{section_append}
-use Rattle.dw_canon.proofs.Lent.Layout.{laid_is}
-use Rattle.dw_normal.specs.Inner.Groups.{initial_rows}
-use Rattle.dw_normal.specs.Inner.Lengths.{MemberLeaves, Measures, cie_with, cies_bytes, fdes_bytes}
+use Rattle.dw_normal.proofs.Words.{◌≡◌, ℕ, zero, suc, ◌+◌, ◌-◌, ◌<◌, ◌≤◌, List, [], ◌∷◌, ◌++◌, length, take, get_or, map, Some, None, refl, sym, ap, ◌∙◌, append_assoc, arith, length-append, nil_from_length, take_more, Target, Rules}
+use Rattle.dw_normal.proofs.Words.{group_of, groups_of, part_of, parts_of, canon, initial_of, return_registers, cie_of, place_of, Member, Written, entry_bytes, section_bytes, section_append, laid_is, initial_rows, MemberLeaves, Measures}
+use Rattle.dw_normal.proofs.Words.{cie_with, cies_bytes, fdes_bytes}
+use Rattle.dw_canon.specs.Inner.Laid.{fde_of}
 
 cies_same : (t : Target) (ms : List Member) (rs : List ℕ) → map cie_of (map (group_of t ms) rs) ≡ map (cie_with t) (map {B = ℕ × Rules} (λ (r : ℕ). (r, initial_of ms r)) rs)
 cies_same t ms [] = refl

@@ -1,10 +1,5 @@
 -- Bytes that a sink took, one piece after another.
-use Rattle.std.proofs.Common.{ℕ, ◌+◌, ◌-◌, ◌≤◌, List, ◌++◌, length, take, Option, sym, ap, ◌∙◌, subst}
-use Rattle.std.specs.Prelude.{drop}
-use Rattle.std.proofs.Math.Seq.{take-add}
-use Rattle.std.proofs.lemmas.List.{take_all, take_rest}
-use Rattle.std.proofs.KnownBytes.{Appends-trans}
-use Rattle.std.specs.Io.KnownBytes.{Appends}
+use Rattle.dw_normal.proofs.Words.{ℕ, ◌+◌, ◌-◌, ◌≤◌, List, ◌++◌, length, take, Option, sym, ap, ◌∙◌, subst, drop, take-add, take_all, take_rest, Appends-trans, Appends}
 
 pub took_more : (old mid new : Option (List ℕ)) (done n : ℕ) (bytes : List ℕ) → Appends old mid (take done bytes) → Appends mid new (take n (take (length bytes - done) (drop done bytes))) → Appends old new (take (done + n) bytes)
 took_more old mid new done n bytes h k =

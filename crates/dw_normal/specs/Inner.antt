@@ -2,6 +2,7 @@
 pub mod RegisterWalk
 pub mod ChangeWalk
 pub mod Begun
+pub mod Writing
 pub mod Lengths
 pub mod Groups
 pub mod Puts

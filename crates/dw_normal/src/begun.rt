@@ -1,12 +1,11 @@
 //! An FDE behind its begin: what the walks over its later changes start from.
 
-ghost use Rattle.std.specs.Prelude.{◌≡◌, ◌<◌, List, length, slice_index_or, OnOk};
+ghost use Rattle.std.specs.Prelude.{◌≡◌, ◌<◌, List, length, slice_index_or, Some, IsSome, OnOk};
 ghost use Rattle.dw_section.specs.declared.lookup.Fde.{Fde as TheFde};
 ghost use Rattle.dw_section.specs.Meaning.{AreFdes};
-ghost use Rattle.dw_canon.specs.Inner.Canon.{initial_of};
 ghost use Rattle.dw_canon.specs.Members.{Member, AreMembers};
-ghost use Rattle.dw_normal.specs.Inner.Begun.{Begins, IsReady};
-ghost use Rattle.dw_normal.specs.Inner.Groups.{initial_rows};
+ghost use Rattle.dw_normal.specs.Inner.Begun.{Begins, IsReady, SharesIn};
+ghost use Rattle.dw_normal.specs.Inner.Groups.{initial_rows, row_of};
 
 use crate::groups::go_behind_first;
 use dw_cfa::Row;
@@ -23,32 +22,38 @@ pub(crate) struct Begun<'r, 'a> {
     pub(crate) changes: Changes<'a>,
 }
 
-// The initial row of the group of an FDE.
+// The initial row of a return register, where that of another one is known, as it mostly is the same.
+#[inline(always)]
 fn shared_row<'r, 'a>(
     rows: &'r BTreeMap<u16, Row<'a>>,
-    table: &Table<'a>,
-    fde: FdeRef,
+    register: u16,
+    known: u16,
+    shared: &'r Row<'a>,
 ) -> &'r Row<'a>
-    requires place { (fs : List TheFde) → AreFdes table.now.target table.now.bytes fs → fde.place < length fs }
-    requires rows { (ms : List Member) → AreMembers table.now.target table.now.bytes ms → rows.now.entries ≡ initial_rows ms }
-    ensures { (ms : List Member) → AreMembers table.now.target table.now.bytes ms → (d : Member) → result.now ≡ initial_of ms (slice_index_or ms fde.place d).register }
+    requires some { IsSome (row_of rows.now.entries register) }
+    requires known { row_of rows.now.entries known ≡ Some shared.now }
+    ensures { row_of rows.now.entries register ≡ Some result.now }
 {
-    table.accepted();
-    let listed = table.fde(fde);
-    &rows[&listed.return_register]
+    if register == known {
+        return shared;
+    }
+    &rows[&register]
 }
 
 /// Room for the FDEs of a table, which has some, where these are the initial rows of its groups.
 pub(crate) fn room_for<'r, 'a>(rows: &'r BTreeMap<u16, Row<'a>>, table: &Table<'a>) -> Begun<'r, 'a>
     requires place { (fs : List TheFde) → AreFdes table.now.target table.now.bytes fs → 0 < length fs }
     requires rows { (ms : List Member) → AreMembers table.now.target table.now.bytes ms → rows.now.entries ≡ initial_rows ms }
-    ensures { result.changes.section ≡ table.now }
+    ensures section { result.changes.section ≡ table.now }
+    ensures shares { SharesIn rows.now.entries result }
 {
-    let fde = FdeRef { place: 0 };
+    table.accepted();
+    let first = FdeRef { place: 0 };
+    let fde = table.fde(first);
     Begun {
-        fde: table.fde(fde),
-        shared: shared_row(rows, table, fde),
-        changes: table.changes(fde),
+        fde,
+        shared: &rows[&fde.return_register],
+        changes: table.changes(first),
     }
 }
 
@@ -63,16 +68,20 @@ pub(crate) fn begin_fde<'r, 'a>(
     requires place { (fs : List TheFde) → AreFdes table.now.target table.now.bytes fs → fde.place < length fs }
     requires rows { (ms : List Member) → AreMembers table.now.target table.now.bytes ms → rows.now.entries ≡ initial_rows ms }
     requires section { begun.old.changes.section ≡ table.now }
+    requires before { SharesIn rows.now.entries begun.old }
     // It can be spelled.
     ensures ready { OnOk result (IsReady table.now.target begun.new) }
     // It is the table's FDE at this place.
     ensures is { (ms : List Member) → AreMembers table.now.target table.now.bytes ms → (d : Member) → OnOk result (Begins ms (slice_index_or ms fde.place d) begun.new) }
     // Its changes are still those of the section.
     ensures section { begun.new.changes.section ≡ table.now }
+    ensures shares { OnOk result (SharesIn rows.now.entries begun.new) }
 {
     table.accepted();
     go_behind_first(&mut begun.changes, table, fde)?;
-    begun.fde = table.fde(fde);
-    begun.shared = shared_row(rows, table, fde);
+    let listed = table.fde(fde);
+    let known = begun.fde.return_register;
+    begun.shared = shared_row(rows, listed.return_register, known, begun.shared);
+    begun.fde = listed;
     Ok(())
 }

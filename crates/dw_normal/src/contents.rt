@@ -1,4 +1,4 @@
-//! What stands behind the length of an entry, built in a buffer.
+//! An entry, built in a buffer, with room for its length.
 
 ghost use Rattle.std.specs.Prelude.{◌≡◌, ◌+◌, ◌++◌, ◌<◌, ◌≤◌, ◌^◌, ◌-◌, List, length, replicate, OnOk};
 ghost use Rattle.std.specs.List.{AllByRecursion};
@@ -17,15 +17,15 @@ use crate::begun::Begun;
 use crate::instruction::push_uleb;
 use crate::program::{push_difference, push_first, push_later};
 use dw_cfa::Row;
-use dw_num::{Size, Target, put_fixed};
+use dw_num::{Order, Size, Target, put_fixed};
 use std::alloc::{AllocError, Global};
 
-// Appends the nops that fill an entry up to a multiple of the address size, its four bytes of length counted.
+// Appends the nops that fill an entry up to a multiple of the address size.
 fn push_nops(out: &mut Vec<u8>, size: Size) -> Result<(), AllocError>
-    ensures { OnOk result (out.new.items ≡ out.old.items ++ replicate (missing size (4 + length out.old.items)) 0) }
+    ensures { OnOk result (out.new.items ≡ out.old.items ++ replicate (missing size (length out.old.items)) 0) }
 {
     let width = u64::from(size.byte_count());
-    let mut left = (width - (4 + out.len() as u64) % width) % width;
+    let mut left = (width - out.len() as u64 % width) % width;
     'nops: while left > 0 {
         out.push(0)?;
         left -= 1;
@@ -47,7 +47,16 @@ fn push_cie_fields(out: &mut Vec<u8>, register: u16, target: Target) -> Result<(
     push_uleb(out, u64::from(register))
 }
 
-/// Makes a buffer what stands behind the length of a CIE with an initial row.
+// Makes a buffer room for the length of an entry.
+#[inline(always)]
+fn begin_entry(out: &mut Vec<u8>, order: Order) -> Result<(), AllocError>
+    ensures { OnOk result (out.new.items ≡ fixed_bytes order 4 0) }
+{
+    out.clear();
+    put_fixed(out, order, 4, 0)
+}
+
+/// Makes a buffer a CIE with an initial row, with room for its length.
 pub(crate) fn fill_cie<'a>(
     alloc: Global,
     out: &mut Vec<u8>,
@@ -56,10 +65,10 @@ pub(crate) fn fill_cie<'a>(
     target: Target,
 ) -> Result<(), AllocError>
     requires { AllByRecursion (InstrFits target) (cie_instrs initial.now) }
-    ensures { OnOk result (out.new.items ≡ contents target (cie_with target (register, initial.now))) }
+    ensures { OnOk result (out.new.items ≡ fixed_bytes target.order 4 0 ++ contents target (cie_with target (register, initial.now))) }
 {
     let blank = Row::blank(alloc);
-    out.clear();
+    begin_entry(out, target.order)?;
     push_cie_fields(out, register, target)?;
     push_difference(out, &blank, &blank, initial, target)?;
     push_nops(out, target.size)
@@ -95,7 +104,7 @@ fn push_fde_fields(
     push_address(out, range, target)
 }
 
-/// Makes a buffer what stands behind the length of an FDE, where its CIE stands at a place.
+/// Makes a buffer an FDE, where its CIE stands at a place, with room for its length.
 pub(crate) fn fill_fde(
     out: &mut Vec<u8>,
     cie_at: u64,
@@ -107,12 +116,13 @@ pub(crate) fn fill_fde(
     requires begin { begun.old.fde.begin < address_limit target.size }
     requires rises { begun.old.fde.begin ≤ begun.old.fde.end }
     requires range { begun.old.fde.end < begun.old.fde.begin + address_limit target.size }
-    ensures contents { (ms : List Member) (m : Member) → Begins ms m begun.old → OnOk result (out.new.items ≡ contents target (fde cie_at m.begin (m.end - m.begin) (fde_instrs (initial_of ms m.register) m) (program_bytes target (fde_instrs (initial_of ms m.register) m)))) }
+    ensures contents { (ms : List Member) (m : Member) → Begins ms m begun.old → OnOk result (out.new.items ≡ fixed_bytes target.order 4 0 ++ contents target (fde cie_at m.begin (m.end - m.begin) (fde_instrs (initial_of ms m.register) m) (program_bytes target (fde_instrs (initial_of ms m.register) m)))) }
     ensures section { begun.new.changes.section ≡ begun.old.changes.section }
+    ensures kept { (begun.new.fde ≡ begun.old.fde) × (begun.new.shared ≡ begun.old.shared) }
 {
     let (listed, shared) = (begun.fde, begun.shared);
     let begin = u128::from(listed.begin);
-    out.clear();
+    begin_entry(out, target.order)?;
     push_fde_fields(
         out,
         cie_at,

@@ -1,7 +1,8 @@
 //! The entries of a normal form, put into a sink one after another. One entry is held at a time.
 
-ghost use Rattle.std.specs.Prelude.{◌≡◌, ℕ, ◌+◌, ◌-◌, ◌<◌, ◌≤◌, ◌^◌, [], List, length, slice_index_or, OnOk};
+ghost use Rattle.std.specs.Prelude.{◌≡◌, ℕ, ◌+◌, ◌-◌, ◌<◌, ◌≤◌, ◌^◌, [], ◌++◌, List, length, drop, slice_index_or, Some, IsSome, OnOk};
 ghost use Rattle.std.specs.List.{AllByRecursion};
+ghost use Rattle.dw_num.specs.Fixed.{fixed_bytes};
 ghost use Rattle.dw_num.specs.declared.target.Form.TheVariants.{Dwarf32};
 ghost use Rattle.dw_cfa.specs.Rows.{Rules};
 ghost use Rattle.dw_section.specs.Cut.{entry, item_bytes};
@@ -11,7 +12,9 @@ ghost use Rattle.dw_canon.specs.Inner.Canon.{canon, cie_instrs};
 ghost use Rattle.dw_canon.specs.Inner.Fits.{InstrFits};
 ghost use Rattle.dw_canon.specs.Members.{Member, AreMembers};
 ghost use Rattle.dw_canon.specs.Inner.Written.{contents, entry_bytes};
+ghost use Rattle.dw_normal.specs.Inner.Begun.{SharesIn};
 ghost use Rattle.dw_normal.specs.Inner.Groups.{initial_rows};
+ghost use Rattle.dw_normal.specs.Inner.Writing.{StandsIn};
 ghost use Rattle.dw_normal.specs.Inner.Lengths.{cie_with, cies_bytes, fdes_bytes};
 ghost use Rattle.dw_normal.specs.Inner.Places.{place_in, cie_place, RowsRise, fde_with};
 ghost use Rattle.dw_normal.specs.Inner.Puts.{Puts, taken_by, after};
@@ -19,8 +22,9 @@ ghost use Rattle.dw_normal.specs.Inner.Puts.{Puts, taken_by, after};
 use crate::begun::{Begun, begin_fde, room_for};
 use crate::contents::{fill_cie, fill_fde};
 use crate::sink::{Sink, put_all};
+use byteorder::{BigEndian, ByteOrder, LittleEndian};
 use dw_cfa::Row;
-use dw_num::{Order, Target, put_fixed};
+use dw_num::{Order, Target};
 use dw_section::{FdeRef, Table};
 use std::alloc::{AllocError, Global};
 use std::collections::BTreeMap;
@@ -60,20 +64,30 @@ fn put_bytes<S: Sink>(sink: &mut S, bytes: &[u8]) -> Result<u64, PutError>
     }
 }
 
-// Puts the entry with the contents that a buffer holds, whose length is appended to it.
+// Gives an entry that a buffer holds its length, for which there is room.
+#[inline(always)]
+fn write_length(buffer: &mut Vec<u8>, order: Order)
+    requires room { 4 ≤ length buffer.old.items }
+    requires small { length buffer.old.items < 2 ^ 32 }
+    ensures { buffer.new.items ≡ fixed_bytes order 4 (length buffer.old.items - 4) ++ drop 4 buffer.old.items }
+{
+    let len = (buffer.len() - 4) as u32;
+    match order {
+        Order::Little => LittleEndian::write_u32(buffer, len),
+        Order::Big => BigEndian::write_u32(buffer, len),
+    }
+}
+
+// Puts the entry that a buffer holds behind room for its length.
 #[inline(always)]
 fn put_entry<S: Sink>(sink: &mut S, buffer: &mut Vec<u8>, order: Order) -> Result<u64, PutError>
     requires room { S.failures sink.old < 2 ^ 64 - 1 }
+    requires long { 4 ≤ length buffer.old.items }
     requires small { length buffer.old.items < 2 ^ 32 }
-    ensures { Puts (item_bytes order (entry Dwarf32 buffer.old.items)) result (S.failures sink.old) (S.failures sink.new) (S.taken sink.old) (S.taken sink.new) }
+    ensures { (contents : List ℕ) → buffer.old.items ≡ fixed_bytes order 4 0 ++ contents → Puts (item_bytes order (entry Dwarf32 contents)) result (S.failures sink.old) (S.failures sink.new) (S.taken sink.old) (S.taken sink.new) }
 {
-    let len = buffer.len();
-    if put_fixed(buffer, order, 4, len as u64).is_err() {
-        return Err(PutError::Memory { written: 0 });
-    }
-    let bytes: &[u8] = buffer.as_slice();
-    let before = put_bytes(sink, &bytes[len..])?;
-    after(before, put_bytes(sink, &bytes[..len]))
+    write_length(buffer, order);
+    put_bytes(sink, buffer)
 }
 
 // Puts the CIE of a return register with its initial row.
@@ -126,10 +140,30 @@ fn write_cies<'a, S: Sink>(
     Ok(written)
 }
 
-// Makes a buffer what stands behind the length of an FDE of a table, where these are the initial rows and the places of CIEs.
+/// The FDE that is written, and where the CIE of its return register stands.
+#[derive(Drop)]
+pub(crate) struct Writing<'r, 'a> {
+    pub(crate) begun: Begun<'r, 'a>,
+    pub(crate) cie_at: u64,
+}
+
+// The place of the CIE of a return register, where that of another one is known, as it mostly is the same.
+#[inline(always)]
+fn cie_of(places: &BTreeMap<u16, u64>, register: u16, known: u16, cie_at: u64) -> u64
+    requires some { IsSome (place_in places.now.entries register) }
+    requires known { place_in places.now.entries known ≡ Some cie_at }
+    ensures { place_in places.now.entries register ≡ Some result }
+{
+    if register == known {
+        return cie_at;
+    }
+    places[&register]
+}
+
+// Makes a buffer an FDE of a table, with room for its length, where these are the initial rows and the places of CIEs.
 fn fill_fde_at<'r, 'a>(
     out: &mut Vec<u8>,
-    begun: &mut Begun<'r, 'a>,
+    writing: &mut Writing<'r, 'a>,
     table: &Table<'a>,
     rows: &'r BTreeMap<u16, Row<'a>>,
     places: &BTreeMap<u16, u64>,
@@ -139,21 +173,27 @@ fn fill_fde_at<'r, 'a>(
     requires rows { (ms : List Member) → AreMembers table.now.target table.now.bytes ms → rows.now.entries ≡ initial_rows ms }
     requires places { (register : ℕ) → place_in places.now.entries register ≡ cie_place table.now.target 0 rows.now.entries register }
     requires small { (ms : List Member) → AreMembers table.now.target table.now.bytes ms → length (canon table.now.target ms) ≤ 2147483647 }
-    requires section { begun.old.changes.section ≡ table.now }
-    ensures contents { (ms : List Member) → AreMembers table.now.target table.now.bytes ms → (d : Member) → OnOk result (out.new.items ≡ contents table.now.target (fde_with table.now.target ms (slice_index_or ms fde.place d))) }
-    ensures section { begun.new.changes.section ≡ table.now }
+    requires section { writing.old.begun.changes.section ≡ table.now }
+    requires shares { SharesIn rows.now.entries writing.old.begun }
+    requires stands { StandsIn places.now.entries writing.old }
+    ensures contents { (ms : List Member) → AreMembers table.now.target table.now.bytes ms → (d : Member) → OnOk result (out.new.items ≡ fixed_bytes table.now.target.order 4 0 ++ contents table.now.target (fde_with table.now.target ms (slice_index_or ms fde.place d))) }
+    ensures section { writing.new.begun.changes.section ≡ table.now }
+    ensures shares { OnOk result (SharesIn rows.now.entries writing.new.begun) }
+    ensures stands { OnOk result (StandsIn places.now.entries writing.new) }
 {
     table.accepted();
-    begin_fde(begun, rows, table, fde)?;
-    let cie_at = places[&begun.fde.return_register];
-    fill_fde(out, cie_at, begun, table.target())
+    let known = writing.begun.fde.return_register;
+    begin_fde(&mut writing.begun, rows, table, fde)?;
+    let register = writing.begun.fde.return_register;
+    writing.cie_at = cie_of(places, register, known, writing.cie_at);
+    fill_fde(out, writing.cie_at, &mut writing.begun, table.target())
 }
 
 // Puts an FDE of a table, where these are the initial rows and the places of CIEs.
 fn write_fde<'r, 'a, S: Sink>(
     sink: &mut S,
     buffer: &mut Vec<u8>,
-    begun: &mut Begun<'r, 'a>,
+    writing: &mut Writing<'r, 'a>,
     table: &Table<'a>,
     rows: &'r BTreeMap<u16, Row<'a>>,
     places: &BTreeMap<u16, u64>,
@@ -164,12 +204,16 @@ fn write_fde<'r, 'a, S: Sink>(
     requires rows { (ms : List Member) → AreMembers table.now.target table.now.bytes ms → rows.now.entries ≡ initial_rows ms }
     requires places { (register : ℕ) → place_in places.now.entries register ≡ cie_place table.now.target 0 rows.now.entries register }
     requires small { (ms : List Member) → AreMembers table.now.target table.now.bytes ms → length (canon table.now.target ms) ≤ 2147483647 }
-    requires section { begun.old.changes.section ≡ table.now }
+    requires section { writing.old.begun.changes.section ≡ table.now }
+    requires shares { SharesIn rows.now.entries writing.old.begun }
+    requires stands { StandsIn places.now.entries writing.old }
     ensures puts { (ms : List Member) → AreMembers table.now.target table.now.bytes ms → (d : Member) → Puts (entry_bytes table.now.target (fde_with table.now.target ms (slice_index_or ms fde.place d))) result (S.failures sink.old) (S.failures sink.new) (S.taken sink.old) (S.taken sink.new) }
-    ensures section { begun.new.changes.section ≡ table.now }
+    ensures section { writing.new.begun.changes.section ≡ table.now }
+    ensures shares { OnOk result (SharesIn rows.now.entries writing.new.begun) }
+    ensures stands { OnOk result (StandsIn places.now.entries writing.new) }
 {
     table.accepted();
-    if fill_fde_at(buffer, begun, table, rows, places, fde).is_err() {
+    if fill_fde_at(buffer, writing, table, rows, places, fde).is_err() {
         return Err(PutError::Memory { written: 0 });
     }
     put_entry(sink, buffer, table.target().order)
@@ -179,7 +223,7 @@ fn write_fde<'r, 'a, S: Sink>(
 fn write_all<'r, 'a, S: Sink>(
     sink: &mut S,
     buffer: &mut Vec<u8>,
-    begun: &mut Begun<'r, 'a>,
+    writing: &mut Writing<'r, 'a>,
     table: &Table<'a>,
     rows: &'r BTreeMap<u16, Row<'a>>,
     places: &BTreeMap<u16, u64>,
@@ -190,14 +234,16 @@ fn write_all<'r, 'a, S: Sink>(
     requires rows { (ms : List Member) → AreMembers table.now.target table.now.bytes ms → rows.now.entries ≡ initial_rows ms }
     requires places { (register : ℕ) → place_in places.now.entries register ≡ cie_place table.now.target 0 rows.now.entries register }
     requires small { (ms : List Member) → AreMembers table.now.target table.now.bytes ms → length (canon table.now.target ms) ≤ 2147483647 }
-    requires section { begun.old.changes.section ≡ table.now }
+    requires section { writing.old.begun.changes.section ≡ table.now }
+    requires shares { SharesIn rows.now.entries writing.old.begun }
+    requires stands { StandsIn places.now.entries writing.old }
     ensures { (ms : List Member) → AreMembers table.now.target table.now.bytes ms → Puts (fdes_bytes table.now.target ms ms) result (S.failures sink.old) (S.failures sink.new) (S.taken sink.old) (S.taken sink.new) }
 {
     table.accepted();
     let mut written = 0;
     'fdes: for place in 0..count {
         let fde = FdeRef { place };
-        let put = write_fde(sink, buffer, begun, table, rows, places, fde);
+        let put = write_fde(sink, buffer, writing, table, rows, places, fde);
         written = after(written, put)?;
     }
     Ok(written)
@@ -222,8 +268,10 @@ fn write_fdes<'a, S: Sink>(
     if count == 0 {
         return Ok(0);
     }
-    let mut begun = room_for(rows, table);
-    write_all(sink, buffer, &mut begun, table, rows, places, count)
+    let begun = room_for(rows, table);
+    let cie_at = places[&begun.fde.return_register];
+    let mut writing = Writing { begun, cie_at };
+    write_all(sink, buffer, &mut writing, table, rows, places, count)
 }
 
 /// Writes all entries of a table's normal form, and answers how many bytes that were.

@@ -155,20 +155,20 @@ fn join_fde<'a>(
     joined: Option<Joined>,
 ) -> Result<Option<Joined>, AllocError>
     requires place { (fs : List TheFde) → AreFdes table.now.target table.now.bytes fs → fde.place < length fs }
-    requires changes { (fs : List TheFde) → AreFdes table.now.target table.now.bytes fs → (d : TheFde) → ChangesOf table.now.target table.now.bytes (slice_index_or fs fde.place d) changes.old.to_come }
+    requires section { changes.old.section ≡ table.now }
     requires opens { (fs : List TheFde) → AreFdes table.now.target table.now.bytes fs → (d : TheFde) → IfSome row (OpensBehind table.now.target table.now.bytes (slice_index_or fs fde.place d)) }
     requires rows { (ms : List Member) → AreMembers table.now.target table.now.bytes ms → rows.old.entries ≡ initial_rows (take fde.place ms) }
     requires joined { HasJoined table.now.target table.now.bytes rows.old.entries joined }
     ensures rows { (ms : List Member) → AreMembers table.now.target table.now.bytes ms → (d : Member) → OnOk result (rows.new.entries ≡ with_member rows.old.entries (slice_index_or ms fde.place d)) }
     ensures joined { IfOk result (HasJoined table.now.target table.now.bytes rows.new.entries) }
-    ensures section { changes.new.section ≡ changes.old.section }
+    ensures section { changes.new.section ≡ table.now }
 {
     table.accepted();
     let register = table.fde(fde).return_register;
     if is_joined(joined, row, register) {
         return Ok(joined);
     }
-    show_first(changes, table, fde)?;
+    go_behind_first(changes, table, fde)?;
     add_fde(rows, changes, table, fde)?;
     Ok(joined_by(row, register))
 }
@@ -191,7 +191,7 @@ fn gather<'a>(
     let mut joined = None;
     'fdes: for place in 0..table.fde_count() {
         let fde = FdeRef { place };
-        let opening = table.go_on_opening(changes, fde);
+        let opening = table.opening(fde);
         total = add_share(total, opening.own, opening.initial, cap);
         joined = join_fde(rows, changes, table, fde, opening.row, joined)?;
     }

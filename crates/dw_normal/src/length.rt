@@ -1,7 +1,7 @@
 //! How long a normal form is. Each entry takes its length from the room that is left, and the first that does not fit ends the
 //! walk: no sum can wrap, and no program behind it is run.
 
-ghost use Rattle.std.specs.Prelude.{◌≡◌, ℕ, ◌<◌, ◌≤◌, ◌^◌, List, length, slice_index_or, IfOk};
+ghost use Rattle.std.specs.Prelude.{◌≡◌, ℕ, ◌<◌, ◌≤◌, ◌^◌, List, length, slice_index_or, IfOk, OnOk};
 ghost use Rattle.std.specs.List.{AllByRecursion};
 ghost use Rattle.dw_cfa.specs.Rows.{Rules};
 ghost use Rattle.dw_section.specs.declared.lookup.Fde.{Fde as TheFde};
@@ -9,6 +9,7 @@ ghost use Rattle.dw_section.specs.Meaning.{AreFdes};
 ghost use Rattle.dw_canon.specs.Inner.Canon.{canon, cie_instrs};
 ghost use Rattle.dw_canon.specs.Inner.Fits.{InstrFits};
 ghost use Rattle.dw_canon.specs.Members.{Member, AreMembers};
+ghost use Rattle.dw_normal.specs.Inner.Begun.{SharesIn};
 ghost use Rattle.dw_normal.specs.Inner.Groups.{initial_rows};
 ghost use Rattle.dw_normal.specs.Inner.Lengths.{Leaves, MemberLeaves, Measures, cies_bytes, fdes_bytes};
 
@@ -50,8 +51,10 @@ fn behind_member<'r, 'a>(
     requires place { (fs : List TheFde) → AreFdes table.now.target table.now.bytes fs → fde.place < length fs }
     requires rows { (ms : List Member) → AreMembers table.now.target table.now.bytes ms → rows.now.entries ≡ initial_rows ms }
     requires section { begun.old.changes.section ≡ table.now }
+    requires before { SharesIn rows.now.entries begun.old }
     ensures leaves { (ms : List Member) → AreMembers table.now.target table.now.bytes ms → (d : Member) → IfOk result (MemberLeaves table.now.target ms (slice_index_or ms fde.place d) room) }
     ensures section { begun.new.changes.section ≡ table.now }
+    ensures shares { OnOk result (SharesIn rows.now.entries begun.new) }
 {
     begin_fde(begun, rows, table, fde)?;
     let (listed, shared) = (begun.fde, begun.shared);
@@ -76,6 +79,7 @@ fn behind_all<'r, 'a>(
     requires count { (fs : List TheFde) → AreFdes table.now.target table.now.bytes fs → count ≡ length fs }
     requires rows { (ms : List Member) → AreMembers table.now.target table.now.bytes ms → rows.now.entries ≡ initial_rows ms }
     requires section { begun.old.changes.section ≡ table.now }
+    requires before { SharesIn rows.now.entries begun.old }
     ensures { (ms : List Member) → AreMembers table.now.target table.now.bytes ms → IfOk result (Leaves room (length (fdes_bytes table.now.target ms ms))) }
 {
     table.accepted();

@@ -156,10 +156,10 @@ pub(crate) fn push_difference<'a>(
     push_rules(out, shared, before, after, target)
 }
 
-// Appends what moves the location.
-#[inline(always)]
+// Appends what moves the location far.
+#[inline(never)]
 #[tactic(auto, unfolding(dw_canon::specs::Spelling::instr_bytes))]
-fn push_move(out: &mut Vec<u8>, from: u128, to: u128, target: Target) -> Result<(), AllocError>
+fn push_far_move(out: &mut Vec<u8>, from: u128, to: u128, target: Target) -> Result<(), AllocError>
     requires rises { from < to }
     requires in_space { to < address_limit target.size }
     ensures { OnOk result (out.new.items ≡ out.old.items ++ instr_bytes target (move from to)) }
@@ -168,6 +168,20 @@ fn push_move(out: &mut Vec<u8>, from: u128, to: u128, target: Target) -> Result<
         return push_advance(out, target.order, (to - from) as u32);
     }
     push_set_loc(out, to as u64, target)
+}
+
+// Appends what moves the location, mostly by a few bytes.
+#[inline(always)]
+#[tactic(auto, unfolding(dw_canon::specs::Spelling::instr_bytes))]
+fn push_move(out: &mut Vec<u8>, from: u128, to: u128, target: Target) -> Result<(), AllocError>
+    requires rises { from < to }
+    requires in_space { to < address_limit target.size }
+    ensures { OnOk result (out.new.items ≡ out.old.items ++ instr_bytes target (move from to)) }
+{
+    if to - from < 64 {
+        return push_advance(out, target.order, (to - from) as u32);
+    }
+    push_far_move(out, from, to, target)
 }
 
 /// Appends what leads from an initial row to the one that is shown.

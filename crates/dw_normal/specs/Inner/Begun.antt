@@ -1,12 +1,14 @@
 -- An FDE behind its begin.
-use Rattle.std.specs.Prelude.{◌≡◌, List}
+use Rattle.std.specs.Prelude.{◌≡◌, ℕ, List, Some}
 use Rattle.std.specs.List.{AllByRecursion}
 use Rattle.dw_num.specs.declared.target.Target.{Target}
+use Rattle.dw_cfa.specs.Rows.{Rules}
 use Rattle.dw_canon.specs.Inner.Canon.{initial_of}
 use Rattle.dw_canon.specs.Inner.Difference.{difference}
 use Rattle.dw_canon.specs.Inner.Fits.{InstrFits}
 use Rattle.dw_canon.specs.Members.{Member, fde_of}
 use Rattle.dw_normal.specs.Inner.ChangeWalk.{Stand, shown_row}
+use Rattle.dw_normal.specs.Inner.Groups.{row_of}
 use Rattle.dw_normal.specs.declared.begun.Begun.{Begun}
 
 -- its row at its begin and its later changes can be spelled behind the initial row
@@ -20,3 +22,7 @@ pub record Begins (ms : List Member) (m : Member) (b : Begun) : Type 0 where
   pub shared : b.shared.now ≡ initial_of ms m.register
   pub first : shown_row b.changes ≡ m.first
   pub later : b.changes.to_come ≡ m.later
+
+-- its initial row is that of its return register
+abbrev pub SharesIn : List (ℕ × Rules) → Begun → Type 0
+SharesIn rows b = row_of rows b.fde.return_register ≡ Some b.shared.now

@@ -1,6 +1,4 @@
-use Rattle.std.proofs.Common.{ℕ, ◌+◌, ◌<◌, length, take, sym, subst, arith}
-use Rattle.dw_section.specs.declared.lookup.Fde.{Fde}
-use Rattle.dw_canon.specs.Bound.{Shares}
+use Rattle.dw_normal.proofs.Words.{ℕ, ◌+◌, ◌<◌, length, take, sym, subst, arith, Fde, Shares}
 use Rattle.dw_normal.proofs.Short.{next_share, short_enough}
 use Rattle.dw_normal.proofs.bound.is_short.Goals as goal
 

@@ -1,7 +1,4 @@
-use Rattle.std.proofs.Common.{◌*◌, ◌≤◌, List, take}
-use Rattle.dw_section.specs.Meaning.{AreFdes}
-use Rattle.dw_section.specs.declared.lookup.Fde.{Fde}
-use Rattle.dw_canon.specs.Bound.{Shares}
+use Rattle.dw_normal.proofs.Words.{◌*◌, ◌≤◌, List, take, AreFdes, Fde, Shares}
 use Rattle.dw_normal.proofs.bound.is_short.Given as goal
 
 abbrev pub invariant-fdes : goal.invariant-fdes

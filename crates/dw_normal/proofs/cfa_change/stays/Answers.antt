@@ -1,4 +1,4 @@
-use Rattle.dw_cfa.proofs.Lent.Equal.{cfa_test_of}
+use Rattle.dw_normal.proofs.Words.{cfa_test_of}
 use Rattle.dw_normal.proofs.cfa_change.stays.Goals as goal
 
 pub returns : goal.returns

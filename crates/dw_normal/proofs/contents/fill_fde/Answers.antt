@@ -1,9 +1,4 @@
-use Rattle.std.proofs.Common.{◌≡◌, ◌+◌, ◌++◌, ◌-◌, length}
-use Rattle.std.specs.Prelude.{replicate}
-use Rattle.dw_canon.specs.Inner.Canon.{fde_instrs, initial_of}
-use Rattle.dw_canon.specs.Inner.Spelling.{program_bytes}
-use Rattle.dw_canon.specs.Inner.Written.{fde, contents}
-use Rattle.dw_canon.specs.Written.{missing}
+use Rattle.dw_normal.proofs.Words.{◌≡◌, ◌++◌, ◌-◌, ℕ, List, length, ap, ◌∙◌, replicate, fixed_bytes, length-fixed, fde_instrs, initial_of, program_bytes, fde, contents, missing}
 use Rattle.dw_normal.proofs.Filled.{fde_filled, on_ok}
 use Rattle.dw_normal.proofs.contents.fill_fde.Goals as goal
 
@@ -12,8 +7,9 @@ returns-clause-contents c = λ ms m is.
     let t = c.args.target in
     let out = c.push_later.new.out.items in
     let new = c.push_nops.new.out.items in
-    on_ok c.push_nops.result (new ≡ out ++ replicate (missing t.size (4 + length out)) 0)
-    (new ≡ contents t (fde c.args.cie_at m.begin (m.end - m.begin) (fde_instrs (initial_of ms m.register) m) (program_bytes t (fde_instrs (initial_of ms m.register) m))))
-    (λ nops. fde_filled t ms m c.args.begun.now c.args.cie_at c.from-begin.result c.clear.new.self.items c.push_fde_fields.new.out.items c.push_first.new.out.items out new is c.from-begin.ensures c.clear.ensures.items
-    c.in_ok-push_fde_fields.ensures c.in_ok-push_first.ensures c.in_ok-push_later.ensures.appends nops)
+    let made = contents t (fde c.args.cie_at m.begin (m.end - m.begin) (fde_instrs (initial_of ms m.register) m) (program_bytes t (fde_instrs (initial_of ms m.register) m))) in
+    let room = c.in_ok-begin_entry.ensures in
+    on_ok c.push_nops.result (new ≡ out ++ replicate (missing t.size (length out)) 0) (new ≡ fixed_bytes t.order 4 0 ++ made)
+    (λ nops. fde_filled t ms m c.args.begun.now c.args.cie_at c.from-begin.result c.begin_entry.new.out.items c.push_fde_fields.new.out.items c.push_first.new.out.items out new is c.from-begin.ensures
+    (ap length room ∙ length-fixed t.order 4 0) c.in_ok-push_fde_fields.ensures c.in_ok-push_first.ensures c.in_ok-push_later.ensures.appends nops ∙ ap (λ (l : List ℕ). l ++ made) room)
     c.push_nops.ensures

@@ -1,5 +1,4 @@
-use Rattle.std.proofs.Common.{◌≡◌, ◌++◌}
-use Rattle.std.specs.Prelude.{replicate}
+use Rattle.dw_normal.proofs.Words.{◌≡◌, ◌++◌, replicate}
 use Rattle.dw_normal.proofs.contents.push_nops.Given as goal
 
 abbrev pub invariant-nops : goal.invariant-nops

@@ -1,7 +1,6 @@
-use Rattle.std.proofs.Common.{ℕ, ◌<◌, ◌-◌, sym, subst}
-use Rattle.std.specs.Prelude.{◌^◌}
-use Rattle.dw_canon.proofs.Lent.Canonical.{members_exist}
+use Rattle.dw_normal.proofs.Words.{ℕ, ◌<◌, ◌-◌, sym, subst, ◌^◌, members_exist}
 use Rattle.dw_normal.proofs.Entries.{fde_counted, fdes_fail, fdes_next, fdes_end}
+use Rattle.dw_normal.proofs.Joined.{put_so}
 use Rattle.dw_normal.proofs.entry.write_all.Goals as goal
 
 pub write_fde-put-requires-clause-room : goal.write_fde-put-requires-clause-room
@@ -18,6 +17,8 @@ pub fdes-preserved : goal.fdes-preserved
 fdes-preserved g c = record {
   fdes = fdes_next c.fdes.invariant.fdes c.requires.count c.fdes-test.true c.write_fde-put.result c.write_fde-put.new.sink c.write_fde-put.ensures.puts c.after.ensures c.in_ok-written.was;
   section = c.write_fde-put.ensures.section;
+  shares = put_so c.fdes.written c.write_fde-put.result c.after.result _ c.write_fde-put.ensures.shares c.after.ensures c.in_ok-written.was;
+  stands = put_so c.fdes.written c.write_fde-put.result c.after.result _ c.write_fde-put.ensures.stands c.after.ensures c.in_ok-written.was;
 }
 
 pub returns-in_err-written : goal.returns-in_err-written

@@ -1,7 +1,4 @@
-use Rattle.std.proofs.Common.{◌≡◌, ◌<◌, ◌-◌, ℕ, [], ◌∷◌, Some, sym, subst, rules}
-use Rattle.std.specs.Prelude.{◌^◌}
-use Rattle.std.specs.BTreeMap.{Updates}
-use Rattle.std.specs.Ordering.{nat_cmp}
+use Rattle.dw_normal.proofs.Words.{◌≡◌, ◌<◌, ◌-◌, ℕ, [], ◌∷◌, Some, sym, subst, rules, ◌^◌, Updates, nat_cmp}
 use Rattle.dw_normal.proofs.Entries.{cies_start, cie_fits, cie_small, cie_counted, cies_fail, cies_more, cies_stop, cies_end, cies_placed}
 use Rattle.dw_normal.proofs.Joined.{ok_of}
 use Rattle.dw_normal.proofs.entry.write_cies.Given.{Over}

@@ -1,10 +1,4 @@
-use Rattle.std.proofs.Common.{ℕ, List, length, Err, sym, ap, ◌∙◌, subst, rules, arith}
-use Rattle.dw_num.specs.declared.target.Target.{Target}
-use Rattle.dw_canon.proofs.Lent.Canonical.{members_exist}
-use Rattle.dw_canon.proofs.Lent.Rendered.{renders}
-use Rattle.dw_normal.specs.Inner.Lengths.{cies_bytes, fdes_bytes}
-use Rattle.dw_normal.specs.Inner.Places.{cie_place, RowsRise}
-use Rattle.dw_normal.specs.Inner.Puts.{Puts}
+use Rattle.dw_normal.proofs.Words.{ℕ, List, length, Err, sym, ap, ◌∙◌, subst, rules, arith, Target, members_exist, renders, cies_bytes, fdes_bytes, cie_place, RowsRise, Puts}
 use Rattle.dw_normal.proofs.Entries.{canon_both, cies_long}
 use Rattle.dw_normal.proofs.Joined.{most_taken, put_begins, puts_both, same_err}
 use Rattle.dw_normal.proofs.Placed.{rows_fit}

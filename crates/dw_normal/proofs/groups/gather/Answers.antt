@@ -1,9 +1,4 @@
-use Rattle.std.proofs.Common.{◌<◌, ◌∙◌, ap, length, map, subst, arith, Bool}
-use Rattle.std.specs.Prelude.{IsTrue}
-use Rattle.std.proofs.lemmas.List.{length-map, take_all}
-use Rattle.dw_section.specs.declared.lookup.Fde.{Fde}
-use Rattle.dw_canon.specs.Members.{fde_of}
-use Rattle.dw_normal.specs.Inner.Groups.{initial_rows}
+use Rattle.dw_normal.proofs.Words.{◌<◌, ◌∙◌, ap, length, map, subst, arith, Bool, IsTrue, length-map, take_all, Fde, fde_of, initial_rows}
 use Rattle.dw_normal.proofs.Grouped.{no_member, rows_more}
 use Rattle.dw_normal.proofs.Short.{share_added, short_where}
 use Rattle.dw_normal.proofs.groups.gather.Goals as goal
@@ -18,11 +13,11 @@ fdes-preserved c = (
   λ fs are.
       let none : Fde = record { begin = 0; end = 0; return_register = 0 } in
       let lt : c.fdes.place < length fs = omega (arith, c.fde_count-place-end.ensures fs are, c.fdes-test.true) in
-      let own = c.go_on_opening-opening.result.own in
-      let initial = c.go_on_opening-opening.result.initial in
-      share_added c.args.table.now.target c.args.table.now.bytes fs c.fdes.place none own initial c.fdes.total c.add_share-total.result lt (c.fdes.invariant.2 fs are) (c.go_on_opening-opening.ensures.lengths fs are none)
+      let own = c.opening-opening.result.own in
+      let initial = c.opening-opening.result.initial in
+      share_added c.args.table.now.target c.args.table.now.bytes fs c.fdes.place none own initial c.fdes.total c.add_share-total.result lt (c.fdes.invariant.2 fs are) (c.opening-opening.ensures.lengths fs are none)
       c.add_share-total.ensures.is c.add_share-total.ensures.some,
-  c.in_ok-joined.ensures.section ∙ c.go_on_opening-opening.ensures.section,
+  c.in_ok-joined.ensures.section,
   c.in_ok-joined.ensures.joined,
 )
 

@@ -1,10 +1,4 @@
-use Rattle.std.proofs.Common.{◌≡◌, ℕ, ◌*◌, ◌≤◌, List, take}
-use Rattle.std.specs.Prelude.{IfSome}
-use Rattle.dw_section.specs.Meaning.{AreFdes}
-use Rattle.dw_section.specs.declared.lookup.Fde.{Fde}
-use Rattle.dw_canon.specs.Bound.{Shares}
-use Rattle.dw_canon.specs.Members.{Member, AreMembers}
-use Rattle.dw_normal.specs.Inner.Groups.{HasJoined, initial_rows}
+use Rattle.dw_normal.proofs.Words.{◌≡◌, ℕ, ◌*◌, ◌≤◌, List, take, IfSome, AreFdes, Fde, Shares, Member, AreMembers, HasJoined, initial_rows}
 use Rattle.dw_normal.proofs.groups.gather.Given as goal
 
 abbrev pub invariant-fdes : goal.invariant-fdes

@@ -1,11 +1,4 @@
-use Rattle.std.proofs.Common.{◌≡◌, ◌<◌, ℕ, List, map, get_or, length, sym, ap, ◌∙◌, subst}
-use Rattle.std.specs.Prelude.{IfSome}
-use Rattle.std.proofs.Math.ListN.{get_or-map}
-use Rattle.std.proofs.lemmas.List.{length-map}
-use Rattle.dw_section.specs.declared.lookup.Fde.{Fde}
-use Rattle.dw_section.specs.Opening.{OpensBehind}
-use Rattle.dw_canon.specs.Members.{Member, AreMembers, fde_of}
-use Rattle.dw_normal.specs.Inner.Groups.{HasJoined}
+use Rattle.dw_normal.proofs.Words.{◌≡◌, ◌<◌, ℕ, List, map, get_or, length, sym, ap, ◌∙◌, subst, IfSome, get_or-map, length-map, Fde, OpensBehind, Member, AreMembers, fde_of, HasJoined}
 use Rattle.dw_normal.proofs.Again.{joined_is, then_joined}
 use Rattle.dw_normal.proofs.groups.join_fde.Goals as goal
 

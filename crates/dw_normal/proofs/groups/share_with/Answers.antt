@@ -1,9 +1,4 @@
-use Rattle.std.proofs.Common.{◌≡◌, sym, ap, ◌∙◌, subst}
-use Rattle.std.specs.Prelude.{OnOk}
-use Rattle.dw_section.specs.Changes.{kept_by}
-use Rattle.dw_cfa.specs.Inner.Agreement.{agreed}
-use Rattle.dw_cfa.specs.Rows.{Rules}
-use Rattle.dw_cfa.proofs.Lent.Equal.{agreed_of}
+use Rattle.dw_normal.proofs.Words.{◌≡◌, sym, ap, ◌∙◌, subst, OnOk, kept_by, agreed, Rules, agreed_of}
 use Rattle.dw_normal.proofs.groups.share_with.Goals as goal
 
 pub returns-clause-row : goal.returns-clause-row

@@ -1,7 +1,4 @@
-use Rattle.std.specs.declared.alloc.AllocError.{AllocError}
-use Rattle.std.proofs.Common.{◌<◌, map, subst, ℕ}
-use Rattle.std.proofs.lemmas.List.{length-map}
-use Rattle.dw_canon.specs.Members.{fde_of}
+use Rattle.dw_normal.proofs.Words.{AllocError, ◌<◌, map, subst, ℕ, length-map, fde_of}
 use Rattle.dw_normal.proofs.ChangesToCome.{behind}
 use Rattle.dw_normal.proofs.groups.show_first.Goals as goal
 

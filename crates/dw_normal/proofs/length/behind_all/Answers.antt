@@ -1,6 +1,4 @@
-use Rattle.std.proofs.Common.{◌<◌, length, arith}
-use Rattle.std.proofs.lemmas.List.{take_all}
-use Rattle.dw_canon.proofs.Lent.Canonical.{members_exist}
+use Rattle.dw_normal.proofs.Words.{◌<◌, length, arith, take_all, members_exist}
 use Rattle.dw_normal.proofs.Grouped.{no_member}
 use Rattle.dw_normal.proofs.Placed.{as_many}
 use Rattle.dw_normal.proofs.Summed.{fdes_more, fdes_over}
@@ -26,6 +24,7 @@ fdes-preserved c = (
       fdes_more c.args.table.now.target ms ms c.fdes.place no_member lt c.args.room c.fdes.left (c.fdes.invariant.0 ms are) c.in-Some.rest
       (rw c.in-Some.is at (c.in_ok-rest.ensures.leaves ms are no_member)),
   c.in_ok-rest.ensures.section,
+  c.in_ok-rest.ensures.shares,
 )
 
 pub returns : goal.returns

@@ -1,10 +1,4 @@
-use Rattle.std.proofs.Common.{◌≡◌, ℕ, ◌+◌, ◌<◌, length}
-use Rattle.std.specs.Prelude.{◌^◌}
-use Rattle.std.specs.List.{AllByRecursion}
-use Rattle.dw_cfa.specs.Rows.{Rules}
-use Rattle.dw_canon.specs.Inner.Canon.{cie_instrs}
-use Rattle.dw_canon.specs.Inner.Fits.{InstrFits}
-use Rattle.dw_normal.specs.Inner.Lengths.{cies_bytes}
+use Rattle.dw_normal.proofs.Words.{◌≡◌, ℕ, ◌+◌, ◌<◌, length, ◌^◌, AllByRecursion, Rules, cie_instrs, InstrFits, cies_bytes}
 use Rattle.dw_normal.proofs.length.behind_cies.Given as goal
 
 abbrev pub invariant-rows : goal.invariant-rows

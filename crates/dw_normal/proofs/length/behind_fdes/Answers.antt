@@ -1,4 +1,4 @@
-use Rattle.std.proofs.Common.{ap, length, arith}
+use Rattle.dw_normal.proofs.Words.{ap, length, arith}
 use Rattle.dw_normal.proofs.Placed.{as_many}
 use Rattle.dw_normal.proofs.Summed.{none_bytes}
 use Rattle.dw_normal.proofs.length.behind_fdes.Goals as goal

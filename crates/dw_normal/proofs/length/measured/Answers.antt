@@ -1,5 +1,4 @@
-use Rattle.std.proofs.Common.{arith}
-use Rattle.dw_canon.proofs.Lent.Canonical.{members_exist}
+use Rattle.dw_normal.proofs.Words.{arith, members_exist}
 use Rattle.dw_normal.proofs.Placed.{rows_fit}
 use Rattle.dw_normal.proofs.Summed.{over_cies, over_fdes, within}
 use Rattle.dw_normal.proofs.length.measured.Goals as goal

@@ -1,5 +1,4 @@
-use Rattle.std.specs.declared.alloc.AllocError.{AllocError}
-use Rattle.std.proofs.Common.{refl, ◌∙◌}
+use Rattle.dw_normal.proofs.Words.{AllocError, refl, ◌∙◌}
 use Rattle.dw_normal.proofs.Alike.{untrue, not_so, too_short, ends, same_address, same_shown, beside_more}
 use Rattle.dw_normal.proofs.ChangesToCome.{Given, given, none_given}
 use Rattle.dw_normal.proofs.likeness.same_changes.Goals.{In-Some, In-Some-2}

@@ -1,4 +1,4 @@
-use Rattle.std.proofs.Common.{◌≡◌, length}
+use Rattle.dw_normal.proofs.Words.{◌≡◌, length}
 use Rattle.dw_normal.proofs.Alike.{Beside}
 use Rattle.dw_normal.proofs.likeness.same_changes.Given as goal
 

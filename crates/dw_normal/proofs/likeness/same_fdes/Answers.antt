@@ -1,7 +1,4 @@
-use Rattle.std.proofs.Common.{◌≡◌, refl, ◌∙◌, sym, ap, map, get_or}
-use Rattle.std.specs.Bool.{Decides}
-use Rattle.std.proofs.Math.ListN.{get_or-map}
-use Rattle.dw_canon.specs.Members.{fde_of, changes_of}
+use Rattle.dw_normal.proofs.Words.{◌≡◌, refl, ◌∙◌, sym, ap, map, get_or, Decides, get_or-map, fde_of, changes_of}
 use Rattle.dw_normal.proofs.Alike.{untrue, not_so, if_ok, same_member}
 use Rattle.dw_normal.proofs.ChangesToCome.{come_all}
 use Rattle.dw_normal.proofs.Placed.{below}

@@ -1,6 +1,4 @@
-use Rattle.std.proofs.Common.{◌≡◌, ◌<◌, List, length, get_or, ap, refl, arith}
-use Rattle.std.proofs.lemmas.List.{take_more_same}
-use Rattle.dw_canon.specs.Members.{Member}
+use Rattle.dw_normal.proofs.Words.{◌≡◌, ◌<◌, List, length, get_or, ap, refl, arith, take_more_same, Member}
 use Rattle.dw_normal.proofs.Alike.{not_so, apart, all_same}
 use Rattle.dw_normal.proofs.Grouped.{no_member}
 use Rattle.dw_normal.proofs.Placed.{as_many}

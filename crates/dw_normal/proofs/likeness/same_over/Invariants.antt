@@ -1,5 +1,4 @@
-use Rattle.std.proofs.Common.{◌≡◌, List, length, take}
-use Rattle.dw_canon.specs.Members.{Member, AreMembers}
+use Rattle.dw_normal.proofs.Words.{◌≡◌, List, length, take, Member, AreMembers}
 use Rattle.dw_normal.proofs.likeness.same_over.Given as goal
 
 abbrev pub invariant-fdes : goal.invariant-fdes

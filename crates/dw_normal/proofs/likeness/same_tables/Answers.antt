@@ -1,5 +1,4 @@
-use Rattle.std.proofs.Common.{◌≡◌, ◌∙◌, ap, sym, arith, length}
-use Rattle.dw_section.specs.Changes.{Changing}
+use Rattle.dw_normal.proofs.Words.{◌≡◌, ◌∙◌, ap, sym, arith, length, Changing}
 use Rattle.dw_normal.proofs.Alike.{not_so}
 use Rattle.dw_normal.proofs.Placed.{as_many}
 use Rattle.dw_normal.proofs.likeness.same_tables.Goals as goal

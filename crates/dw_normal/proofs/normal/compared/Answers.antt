@@ -1,6 +1,4 @@
-use Rattle.std.proofs.Common.{sym, subst}
-use Rattle.dw_num.specs.declared.target.Target.{Target}
-use Rattle.dw_normal.specs.Answers.{IsWithin}
+use Rattle.dw_normal.proofs.Words.{sym, subst, Target, IsWithin}
 use Rattle.dw_normal.proofs.Reports.{is_within, second_too_long, tables_decided}
 use Rattle.dw_normal.proofs.normal.compared.Goals as goal
 

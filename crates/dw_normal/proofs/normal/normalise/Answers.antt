@@ -1,6 +1,4 @@
-use Rattle.std.proofs.Common.{Some}
-use Rattle.dw_num.specs.Refusals.{Refuses}
-use Rattle.dw_normal.specs.Answers.{NormalFault}
+use Rattle.dw_normal.proofs.Words.{Some, Refuses, NormalFault}
 use Rattle.dw_normal.proofs.Reports.{tape_only, tape_fault, only_memory, only_long}
 use Rattle.dw_normal.proofs.normal.normalise.Goals.{After-unread}
 use Rattle.dw_normal.proofs.normal.normalise.Goals as goal

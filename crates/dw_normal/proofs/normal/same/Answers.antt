@@ -1,4 +1,4 @@
-use Rattle.dw_normal.specs.declared.error.Which.TheVariants.{First, Second}
+use Rattle.dw_normal.proofs.Words.{First, Second}
 use Rattle.dw_normal.proofs.Reports.{first_fault, second_fault, blamed_only, both_within, compared_only}
 use Rattle.dw_normal.proofs.normal.same.Goals as goal
 

@@ -1,4 +1,4 @@
-use Rattle.std.proofs.Common.{refl}
+use Rattle.dw_normal.proofs.Words.{refl}
 use Rattle.dw_normal.proofs.Reports.{is_within}
 use Rattle.dw_normal.proofs.normal.same_as_itself.Goals as goal
 

@@ -1,4 +1,4 @@
-use Rattle.std.proofs.Common.{refl}
+use Rattle.dw_normal.proofs.Words.{refl}
 use Rattle.dw_normal.proofs.Reports.{is_measured, is_too_long}
 use Rattle.dw_normal.proofs.preparation.measure_behind.Goals as goal
 

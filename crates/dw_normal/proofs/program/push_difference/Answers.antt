@@ -1,7 +1,4 @@
-use Rattle.std.proofs.Common.{◌≡◌, ◌++◌, ◌∙◌}
-use Rattle.dw_canon.specs.Inner.Difference.{difference}
-use Rattle.dw_canon.specs.Inner.Spelling.{program_bytes}
-use Rattle.dw_normal.specs.Inner.RegisterWalk.{rules_from}
+use Rattle.dw_normal.proofs.Words.{◌≡◌, ◌++◌, ◌∙◌, difference, program_bytes, rules_from}
 use Rattle.dw_normal.proofs.Filled.{on_ok}
 use Rattle.dw_normal.proofs.RulesLeft.{rules_fit, put_behind}
 use Rattle.dw_normal.proofs.program.push_difference.Goals as goal

@@ -1,5 +1,4 @@
-use Rattle.std.proofs.Common.{◌≡◌, ◌++◌, length}
-use Rattle.dw_normal.specs.Inner.ChangeWalk.{Stand, later_bytes}
+use Rattle.dw_normal.proofs.Words.{◌≡◌, ◌++◌, length, Stand, later_bytes}
 use Rattle.dw_normal.proofs.program.push_later.Given as goal
 
 abbrev pub invariant-changes : goal.invariant-changes

@@ -1,4 +1,4 @@
-use Rattle.dw_cfa.specs.Difference.{place_behind}
+use Rattle.dw_normal.proofs.Words.{place_behind}
 use Rattle.dw_normal.proofs.RegistersBehind.{Next, none_differs, one_differs}
 use Rattle.dw_normal.proofs.RulesLeft.{put_fits, put_next, put_ends, shorter}
 use Rattle.dw_normal.proofs.program.push_rules.Goals.{In-Some}

@@ -1,5 +1,4 @@
-use Rattle.dw_cfa.specs.Rows.{rule}
-use Rattle.dw_cfa.proofs.Lent.Equal.{test_of}
+use Rattle.dw_normal.proofs.Words.{rule, test_of}
 use Rattle.dw_normal.proofs.restored.is_restored.Goals as goal
 
 pub returns : goal.returns

@@ -1,4 +1,4 @@
-use Rattle.dw_cfa.specs.Difference.{place_behind}
+use Rattle.dw_normal.proofs.Words.{place_behind}
 use Rattle.dw_normal.proofs.RegistersBehind.{Next, none_differs, one_differs}
 use Rattle.dw_normal.proofs.RulesLeft.{room_starts, room_fits, room_over, room_next, room_ends, shorter}
 use Rattle.dw_normal.proofs.room.behind_between.Goals.{In-Some}

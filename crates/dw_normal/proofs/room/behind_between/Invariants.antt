@@ -1,7 +1,4 @@
-use Rattle.std.proofs.Common.{length}
-use Rattle.dw_cfa.specs.Difference.{place_behind}
-use Rattle.dw_canon.specs.Inner.Difference.{difference}
-use Rattle.dw_normal.specs.Inner.RegisterWalk.{rules_from}
+use Rattle.dw_normal.proofs.Words.{length, place_behind, difference, rules_from}
 use Rattle.dw_normal.proofs.RulesLeft.{RoomLeft}
 use Rattle.dw_normal.proofs.room.behind_between.Given as goal
 

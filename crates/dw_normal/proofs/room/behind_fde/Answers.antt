@@ -1,8 +1,4 @@
-use Rattle.std.proofs.Common.{ℕ, length, Option, subst}
-use Rattle.dw_canon.specs.Inner.Difference.{difference}
-use Rattle.dw_canon.specs.Inner.Spelling.{program_bytes}
-use Rattle.dw_normal.specs.Inner.Lengths.{Leaves}
-use Rattle.dw_normal.specs.Inner.ChangeWalk.{shown_row}
+use Rattle.dw_normal.proofs.Words.{ℕ, length, Option, subst, difference, program_bytes, Leaves, shown_row}
 use Rattle.dw_normal.proofs.Measured.{first_over}
 use Rattle.dw_normal.proofs.room.behind_fde.Goals as goal
 

@@ -1,12 +1,4 @@
-use Rattle.std.specs.declared.alloc.AllocError.{AllocError}
-use Rattle.std.proofs.Common.{◌≡◌, length, sym, ap, ◌∙◌, subst, arith}
-use Rattle.std.specs.List.{AllByRecursion}
-use Rattle.dw_cfa.specs.Rows.{Rules}
-use Rattle.dw_canon.specs.Inner.Difference.{difference}
-use Rattle.dw_canon.specs.Inner.Fits.{InstrFits}
-use Rattle.dw_canon.specs.Inner.Spelling.{program_bytes}
-use Rattle.dw_normal.specs.Inner.Lengths.{Leaves}
-use Rattle.dw_normal.specs.Inner.ChangeWalk.{row_or_blank, shown_row}
+use Rattle.dw_normal.proofs.Words.{AllocError, ◌≡◌, length, sym, ap, ◌∙◌, subst, arith, AllByRecursion, Rules, difference, InstrFits, program_bytes, Leaves, row_or_blank, shown_row}
 use Rattle.dw_normal.proofs.ChangesToCome.{Given, given, none_given}
 use Rattle.dw_normal.proofs.Passes.{none_later, shown_before, step_up, step_fits, step_stand, step_long}
 use Rattle.dw_normal.proofs.room.behind_later.Goals.{In-Some, In_ok-rest}
