@@ -146,3 +146,17 @@ fn agree_in_turn<'a>(
 pub fn agree_on_openings(alloc: Global, table: &Table<'_>) -> Result<(), Fail> {
     agree_in_turn(alloc, table, &mut table.no_changes())
 }
+
+/// The row that the FDE of an address begins with, as the first instructions of its program tell it.
+pub fn first_row_text(alloc: Global, table: &Table<'_>, address: u64) -> Result<String, Fail> {
+    let Some(fde) = table.fde_at(address) else {
+        return Err(Fail::new("no FDE"));
+    };
+    let Some(row) = table.opening(fde).row else {
+        return Ok(format!(in alloc; "another")?);
+    };
+    Ok(match row.cfa_offset {
+        Some(offset) => format!(in alloc; "that of {:#x} with {offset}", row.cie_at)?,
+        None => format!(in alloc; "that of {:#x}", row.cie_at)?,
+    })
+}

@@ -1,7 +1,7 @@
 //! The sections of the cases, and calls on them: entries, headers, the first fault of a section by its fields and as a
 //! whole, its FDEs, and the changes of their rules.
 
-use crate::changes::{agree_on_openings, changes_text, narrowed};
+use crate::changes::{agree_on_openings, changes_text, first_row_text, narrowed};
 use crate::lines::{compare, number, parts, sides};
 use crate::targets::{BIG, LITTLE};
 use crate::texts::refusal_text;
@@ -407,4 +407,21 @@ fn goes_on_to_fdes(rt: HostRuntime) -> Result<(), Fail> {
     let bytes = section_of(alloc, "long")?;
     let table = table_of(alloc, &bytes, LITTLE)?;
     agree_on_openings(alloc, &table)
+}
+
+// Fails where the FDE of a section begins with another row.
+fn begins_with(alloc: Global, name: &str, wanted: &str) -> Result<(), Fail> {
+    let bytes = section_of(alloc, name)?;
+    let table = table_of(alloc, &bytes, LITTLE)?;
+    let text = first_row_text(alloc, &table, 0x1000)?;
+    compare("the first row", text.as_str(), wanted)
+}
+
+// A program that moves first, one that gives the CFA an offset before, and one that saves a register before.
+#[test]
+fn tells_first_rows(rt: HostRuntime) -> Result<(), Fail> {
+    let alloc = rt.alloc();
+    begins_with(alloc, "nops 30=410e108602440e08c6", "that of 0x0")?;
+    begins_with(alloc, "nops 30=0e10418602440e08c6", "that of 0x0 with 16")?;
+    begins_with(alloc, "nops 30=8602410e10440e08c6", "another")
 }
