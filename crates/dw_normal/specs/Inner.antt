@@ -8,3 +8,6 @@ pub mod Groups
 pub mod Puts
 pub mod Places
 pub mod Answers
+pub mod PlainInstruction
+pub mod PlainRows
+pub mod PlainProgram

@@ -40,9 +40,9 @@ fn push_other_cfa(
     }
 }
 
-// Appends the same: mostly another offset from the same register.
+/// Appends what leads from one rule of the CFA to another: mostly another offset from the same register.
 #[inline(always)]
-fn push_cfa_rule(
+pub(crate) fn push_cfa_rule(
     out: &mut Vec<u8>,
     old: &CfaRule<'_>,
     new: &CfaRule<'_>,
@@ -102,10 +102,10 @@ fn push_rule_of<'a>(
     }
 }
 
-// Appends what gives a register its rule of a row: `Restore` where it is the initial one.
+/// Appends what gives a register its rule of a row: `Restore` where it is the initial one.
 #[inline(always)]
 #[tactic(auto, unfolding(dw_canon::specs::Spelling::instr_bytes))]
-fn push_register<'a>(
+pub(crate) fn push_register<'a>(
     out: &mut Vec<u8>,
     shared: &Row<'a>,
     row: &Row<'a>,
@@ -170,10 +170,10 @@ fn push_far_move(out: &mut Vec<u8>, from: u128, to: u128, target: Target) -> Res
     push_set_loc(out, to as u64, target)
 }
 
-// Appends what moves the location, mostly by a few bytes.
+/// Appends what moves the location, mostly by a few bytes.
 #[inline(always)]
 #[tactic(auto, unfolding(dw_canon::specs::Spelling::instr_bytes))]
-fn push_move(out: &mut Vec<u8>, from: u128, to: u128, target: Target) -> Result<(), AllocError>
+pub(crate) fn push_move(out: &mut Vec<u8>, from: u128, to: u128, target: Target) -> Result<(), AllocError>
     requires rises { from < to }
     requires in_space { to < address_limit target.size }
     ensures { OnOk result (out.new.items ≡ out.old.items ++ instr_bytes target (move from to)) }

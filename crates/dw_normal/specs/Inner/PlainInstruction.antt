@@ -1,0 +1,38 @@
+-- Plain instructions.
+use Rattle.std.specs.Prelude.{◌≡◌, ℕ, ◌<◌, List, ◌∷◌, drop}
+use Rattle.dw_num.specs.declared.target.Order.{Order}
+use Rattle.dw_num.specs.declared.target.Target.{Target}
+use Rattle.dw_cfa.specs.InstrSpells.{Program}
+use Rattle.dw_cfa.specs.declared.instr.Factors.{Factors}
+use Rattle.dw_cfa.specs.declared.instr.Instr.{Instr}
+use Rattle.dw_cfa.specs.declared.instr.Instr.TheVariants as instr
+use Rattle.dw_cfa.specs.declared.rule.RegRule.TheVariants as rules
+use Rattle.dw_normal.specs.declared.plain_instruction.Plain.{Plain}
+use Rattle.dw_normal.specs.declared.plain_instruction.Plain.TheVariants.{Nop, Advance, DefCfa, DefCfaRegister, DefCfaOffset, Offset, Restore, RememberState, RestoreState}
+
+-- the instruction that it is
+abbrev pub instr_of : Plain → Instr
+instr_of Nop = instr.Nop
+instr_of (Advance distance) = instr.Advance distance
+instr_of (DefCfa r n) = instr.DefCfa r n
+instr_of (DefCfaRegister r) = instr.DefCfaRegister r
+instr_of (DefCfaOffset n) = instr.DefCfaOffset n
+instr_of (Offset r n) = instr.Set r (rules.Offset n)
+instr_of (Restore r) = instr.Restore r
+instr_of RememberState = instr.RememberState
+instr_of RestoreState = instr.RestoreState
+
+-- its register is below 32
+abbrev pub IsNear : Plain → Type 0
+IsNear (Offset r n) = r < 32
+IsNear (Restore r) = r < 32
+IsNear other = Unit {0}
+
+-- a program of these bytes begins with it, and the others are spelled by what stands behind so many bytes
+pub record FirstOf (t : Target) (f : Factors) (p : Plain) (count : ℕ) (bytes : List ℕ) (instrs : List Instr) : Type 0 where
+  pub rest : List Instr
+  pub whole : instrs ≡ instr_of p ∷ rest
+  pub spelled : Program t f rest (drop count bytes)
+
+abbrev pub StandsFirst : Factors → Order → Plain → ℕ → List ℕ → Type 0
+StandsFirst f order p count bytes = (t : Target) (instrs : List Instr) → t.order ≡ order → Program t f instrs bytes → FirstOf t f p count bytes instrs

@@ -1,0 +1,69 @@
+-- How a plain program is written in the normal form while it is read.
+use Rattle.std.specs.Prelude.{◌≡◌, ℕ, suc, ◌<◌, ◌≤◌, List, [], ◌∷◌, Option, Some, None, if◌then◌else◌}
+use Rattle.dw_num.specs.declared.target.Target.{Target}
+use Rattle.dw_num.specs.Target.{address_limit}
+use Rattle.dw_cfa.specs.InstrSpells.{Program}
+use Rattle.dw_cfa.specs.Inner.Machine.{State, after, begun}
+use Rattle.dw_cfa.specs.Inner.Rows.{with_cfa}
+use Rattle.dw_cfa.specs.Inner.Runs.{here}
+use Rattle.dw_cfa.specs.Location.{moves_location}
+use Rattle.dw_cfa.specs.Rows.{AreSpecified, Rules, rule}
+use Rattle.dw_cfa.specs.declared.execution.LocatedRow.{LocatedRow}
+use Rattle.dw_cfa.specs.declared.instr.Factors.{Factors}
+use Rattle.dw_cfa.specs.declared.instr.Instr.{Instr}
+use Rattle.dw_section.specs.Fits.{RowFits}
+use Rattle.dw_section.specs.Inner.Changes.{changes_among}
+use Rattle.dw_canon.specs.Inner.Difference.{later_changes}
+use Rattle.dw_canon.specs.Inner.Fits.{ChangesStand}
+use Rattle.dw_canon.specs.Inner.Spelling.{program_bytes}
+use Rattle.dw_normal.specs.declared.plain_program.PlainRun.{PlainRun}
+use Rattle.dw_normal.specs.declared.plain_rows.Cfa.{Cfa}
+use Rattle.dw_normal.specs.Inner.PlainRows.{RowsSo, cfa_of, own_row, written_row}
+
+-- the rows of a program that has no fault, from a state on
+abbrev pub rows_by : Rules → List Instr → State → List LocatedRow
+rows_by initial [] s = here s ∷ []
+rows_by initial (i ∷ instrs) s = if moves_location i then here s ∷ rows_by initial instrs (after initial i s) else rows_by initial instrs (after initial i s)
+
+-- the changes up to an end, behind a row that was shown
+abbrev pub changes_by : ℕ → Rules → Rules → List Instr → State → List (ℕ × Rules)
+changes_by end shown initial instrs s = changes_among end (Some shown) (rows_by initial instrs s)
+
+-- a program, and the row at the FDE's begin, to which the registers of the CIE's row are brought back
+pub record IsPlain (t : Target) (f : Factors) (shared first : Rules) (begin last : ℕ) (initial : Rules) (instrs : List Instr) (bytes : List ℕ) : Type 0 where
+  pub program : Program t f instrs bytes
+  pub same : (r : ℕ) → rule initial r ≡ rule first r
+  pub listed : AreSpecified 0 first.registers
+  pub within : begin ≤ last
+  pub in_space : last < address_limit t.size
+  pub fits : RowFits t first
+  pub stand : ChangesStand t shared (address_limit t.size) begin first (changes_by (suc last) first initial instrs (begun first begin))
+
+-- what is written of it behind the begin
+abbrev pub plain_bytes : Target → Rules → Rules → ℕ → ℕ → Rules → List Instr → List ℕ
+plain_bytes t shared first begin last initial instrs = program_bytes t (later_changes shared begin first (changes_by (suc last) first initial instrs (begun first begin)))
+
+-- ---- in the middle
+
+-- the remembered row, which has the registers of the current one
+abbrev pub stack_of : Rules → Option Cfa → List Rules
+stack_of row None = []
+stack_of row (Some c) = with_cfa (cfa_of c) row ∷ []
+
+abbrev pub state_of : Rules → PlainRun → State
+state_of first run = record { row = own_row first run.rows; stack = stack_of (own_row first run.rows) run.remembered; location = run.rows.start }
+
+-- the changes still to come of the instructions that are left
+abbrev pub changes_left : Rules → ℕ → PlainRun → Rules → List Instr → List (ℕ × Rules)
+changes_left first last run initial instrs = changes_by (suc last) (written_row first run.rows) initial instrs (state_of first run)
+
+abbrev pub bytes_left : Target → Rules → Rules → ℕ → PlainRun → Rules → List Instr → List ℕ
+bytes_left t shared first last run initial instrs = program_bytes t (later_changes shared run.rows.at (written_row first run.rows) (changes_left first last run initial instrs))
+
+pub record Runs (t : Target) (shared first : Rules) (last : ℕ) (run : PlainRun) (initial : Rules) (instrs : List Instr) : Type 0 where
+  pub so : RowsSo first run.rows
+  pub same : (r : ℕ) → rule initial r ≡ rule first r
+  pub within : run.rows.start ≤ last
+  pub in_space : last < address_limit t.size
+  pub fits : RowFits t (written_row first run.rows)
+  pub stand : ChangesStand t shared (address_limit t.size) run.rows.at (written_row first run.rows) (changes_left first last run initial instrs)

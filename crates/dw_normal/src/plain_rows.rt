@@ -1,0 +1,266 @@
+//! The current row of a plain program beside the one that was written last (6.4.1). Both are told by the row at the FDE's begin, the
+//! rule of the CFA, and the offsets of registers below 32, so a row is written by what was set since.
+
+ghost use Rattle.std.specs.Prelude.{◌≡◌, ◌↔◌, ◌<◌, ⊥, ◌∷◌, ◌++◌, false, Some, IfSome, IsTrue, OnOk, ℤ};
+ghost use Rattle.std.specs.List.{AllByRecursion};
+ghost use Rattle.dw_num.specs.Target.{address_limit};
+ghost use Rattle.dw_cfa.specs.Difference.{FirstDifference};
+ghost use Rattle.dw_cfa.specs.Rows.{rule};
+ghost use Rattle.dw_cfa.specs.declared.rule.RegRule.TheVariants.{Offset};
+ghost use Rattle.dw_cfa.specs.Inner.RowEquality.{same_rows};
+ghost use Rattle.dw_cfa.specs.Inner.Rows.{with_cfa, with_rule};
+ghost use Rattle.dw_canon.specs.Difference.{move};
+ghost use Rattle.dw_canon.specs.Inner.Difference.{difference, rule_to};
+ghost use Rattle.dw_canon.specs.Inner.Fits.{InstrFits};
+ghost use Rattle.dw_canon.specs.Inner.Spelling.{instr_bytes, program_bytes};
+ghost use Rattle.dw_normal.specs.Inner.PlainRows.{IsChanged, IsWritten, RowsSo, cfa_of, own_row, row_instrs, rule_with, written_row};
+ghost use Rattle.dw_normal.specs.Inner.RegisterWalk.{rules_from};
+
+use crate::instruction::{push_offset, push_packed};
+use crate::opcode::{RESTORE, RESTORE_EXTENDED};
+use crate::program::{push_cfa_rule, push_move, push_register};
+use dw_cfa::{CfaRule, Row};
+use dw_num::Target;
+use std::alloc::AllocError;
+
+/// A CFA that is a register plus an offset (6.4.2.2).
+#[derive(Clone, Copy, PartialEq, Eq)]
+pub(crate) struct Cfa {
+    pub(crate) register: u16,
+    pub(crate) offset: i64,
+}
+
+/// Both rows. A register without an offset here has the rule of the row at the FDE's begin.
+#[derive(Clone, Copy)]
+pub(crate) struct PlainRows {
+    /// The location that the current row starts at.
+    pub(crate) start: u64,
+    /// The address of the row that was written last.
+    pub(crate) at: u64,
+    pub(crate) cfa: Cfa,
+    pub(crate) written_cfa: Cfa,
+    saved: [Option<i64>; 32],
+    written: [Option<i64>; 32],
+    // Below `low` and from `high` on no register was set since.
+    low: usize,
+    high: usize,
+}
+
+fn rule_of_cfa(cfa: Cfa) -> CfaRule<'static>
+    ensures { result ≡ cfa_of cfa }
+{
+    CfaRule::Register {
+        register: cfa.register,
+        offset: cfa.offset,
+    }
+}
+
+// Whether two rules of the CFA are one.
+fn is_same(cfa: Cfa, other: Cfa) -> bool
+    ensures { IsTrue result ↔ (cfa ≡ other) }
+{
+    cfa.register == other.register && cfa.offset == other.offset
+}
+
+impl PlainRows {
+    /// The row at the begin, which is the one that was written last.
+    #[inline(always)]
+    pub(crate) fn new<'a>(begin: u64, cfa: Cfa, first: &Row<'a>) -> PlainRows
+        requires { first.now.cfa ≡ cfa_of cfa }
+        ensures so { RowsSo first.now result }
+        ensures own { own_row first.now result ≡ first.now }
+        ensures written { written_row first.now result ≡ first.now }
+        ensures at { (result.at ≡ begin) × (result.start ≡ begin) }
+    {
+        first.ascends();
+        PlainRows {
+            start: begin,
+            at: begin,
+            cfa,
+            written_cfa: cfa,
+            saved: [None; 32],
+            written: [None; 32],
+            low: 32,
+            high: 0,
+        }
+    }
+
+    /// Gives the CFA another rule.
+    #[inline(always)]
+    pub(crate) fn set_cfa<'a>(&mut self, cfa: Cfa, first: &Row<'a>)
+        requires { RowsSo first.now self.old }
+        ensures { IsChanged first.now self.old self.new (with_cfa (cfa_of cfa) (own_row first.now self.old)) }
+    {
+        let _first = first;
+        self.cfa = cfa;
+    }
+
+    // Gives a register an offset, or the rule that it has at the begin.
+    #[inline(always)]
+    fn put<'a>(&mut self, register: u16, offset: Option<i64>, first: &Row<'a>)
+        requires so { RowsSo first.now self.old }
+        requires near { register < 32 }
+        requires other { (n : ℤ) → offset ≡ Some n → rule first.now register ≡ Offset n → ⊥ }
+        ensures { IsChanged first.now self.old self.new (with_rule register (rule_with first.now register offset) (own_row first.now self.old)) }
+    {
+        let _first = first;
+        let place = usize::from(register);
+        self.saved[place] = offset;
+        self.low = self.low.min(place);
+        self.high = self.high.max(place + 1);
+    }
+
+    /// Saves a register below 32 at an offset from the CFA.
+    #[inline(always)]
+    pub(crate) fn save<'a>(&mut self, register: u16, offset: i64, first: &Row<'a>)
+        requires so { RowsSo first.now self.old }
+        requires near { register < 32 }
+        ensures { IsChanged first.now self.old self.new (with_rule register (Offset offset) (own_row first.now self.old)) }
+    {
+        if first.offset_of(register) == Some(offset) {
+            self.put(register, None, first);
+        } else {
+            self.put(register, Some(offset), first);
+        }
+    }
+
+    /// Gives a register below 32 the rule that it has at the begin.
+    #[inline(always)]
+    pub(crate) fn bring_back<'a>(&mut self, register: u16, first: &Row<'a>)
+        requires so { RowsSo first.now self.old }
+        requires near { register < 32 }
+        ensures { IsChanged first.now self.old self.new (with_rule register (rule first.now register) (own_row first.now self.old)) }
+    {
+        self.put(register, None, first);
+    }
+
+    // The first register from a place on that has another rule than in the row that was written last.
+    #[inline(always)]
+    fn next_register<'a>(&self, place: u32, first: &Row<'a>) -> Option<u16>
+        requires { RowsSo first.now self.now }
+        ensures first { FirstDifference place (written_row first.now self.now).registers (own_row first.now self.now).registers result }
+        ensures near { IfSome result (λ r. r < 32) }
+    {
+        let _first = first;
+        let mut register = self.low.max(place as usize);
+        'registers: while register < self.high {
+            if self.saved[register] != self.written[register] {
+                return Some(register as u16);
+            }
+            register += 1;
+        }
+        None
+    }
+
+    // Appends what gives a register the rule of the current row.
+    #[inline(always)]
+    #[tactic(auto, unfolding(dw_canon::specs::Spelling::instr_bytes))]
+    fn push_register<'a>(
+        &self,
+        out: &mut Vec<u8>,
+        first: &Row<'a>,
+        shared: &Row<'a>,
+        register: u16,
+        target: Target,
+    ) -> Result<(), AllocError>
+        requires so { RowsSo first.now self.now }
+        requires near { register < 32 }
+        requires fits { InstrFits target (rule_to shared.now register (rule (own_row first.now self.now) register)) }
+        ensures { OnOk result (out.new.items ≡ out.old.items ++ instr_bytes target (rule_to shared.now register (rule (own_row first.now self.now) register))) }
+    {
+        let Some(offset) = self.saved[usize::from(register)] else {
+            return push_register(out, shared, first, register, target);
+        };
+        if shared.offset_of(register) == Some(offset) {
+            return push_packed(out, RESTORE, RESTORE_EXTENDED, register);
+        }
+        push_offset(out, register, offset)
+    }
+
+    // Appends what gives each register whose rule differs its rule of the current row.
+    fn push_registers<'a>(
+        &self,
+        out: &mut Vec<u8>,
+        first: &Row<'a>,
+        shared: &Row<'a>,
+        target: Target,
+    ) -> Result<(), AllocError>
+        requires so { RowsSo first.now self.now }
+        requires fits { AllByRecursion (InstrFits target) (rules_from shared.now (written_row first.now self.now) (own_row first.now self.now) 0) }
+        ensures { OnOk result (out.new.items ≡ out.old.items ++ program_bytes target (rules_from shared.now (written_row first.now self.now) (own_row first.now self.now) 0)) }
+    {
+        let mut place = 0;
+        'registers: while let Some(register) = self.next_register(place, first) {
+            self.push_register(out, first, shared, register, target)?;
+            place = u32::from(register) + 1;
+        }
+        Ok(())
+    }
+
+    // Takes the current row for the one that was written last.
+    #[inline(always)]
+    fn note<'a>(&mut self, first: &Row<'a>)
+        requires { RowsSo first.now self.old }
+        ensures so { RowsSo first.now self.new }
+        ensures own { own_row first.now self.new ≡ own_row first.now self.old }
+        ensures written { written_row first.now self.new ≡ own_row first.now self.old }
+        ensures same { (self.new.start ≡ self.old.start) × (self.new.at ≡ self.old.at) }
+    {
+        let _first = first;
+        let (low, high) = (self.low.min(self.high), self.high);
+        self.written[low..high].copy_from_slice(&self.saved[low..high]);
+        self.written_cfa = self.cfa;
+        self.low = 32;
+        self.high = 0;
+    }
+
+    // Appends what leads to the current row, which is not the one that was written last.
+    #[inline(always)]
+    fn push_other<'a>(
+        &self,
+        out: &mut Vec<u8>,
+        first: &Row<'a>,
+        shared: &Row<'a>,
+        target: Target,
+    ) -> Result<(), AllocError>
+        requires so { RowsSo first.now self.now }
+        requires rises { self.now.at < self.now.start }
+        requires in_space { self.now.start < address_limit target.size }
+        requires fits { AllByRecursion (InstrFits target) (difference shared.now (written_row first.now self.now) (own_row first.now self.now)) }
+        ensures { OnOk result (out.new.items ≡ out.old.items ++ program_bytes target (move self.now.at self.now.start ∷ difference shared.now (written_row first.now self.now) (own_row first.now self.now))) }
+    {
+        push_move(out, u128::from(self.at), u128::from(self.start), target)?;
+        push_cfa_rule(
+            out,
+            &rule_of_cfa(self.written_cfa),
+            &rule_of_cfa(self.cfa),
+            target,
+        )?;
+        self.push_registers(out, first, shared, target)
+    }
+
+    /// Appends what leads to the current row from the one that was written last, unless it is that one.
+    #[inline(always)]
+    pub(crate) fn push_row<'a>(
+        &mut self,
+        out: &mut Vec<u8>,
+        first: &Row<'a>,
+        shared: &Row<'a>,
+        target: Target,
+    ) -> Result<(), AllocError>
+        requires so { RowsSo first.now self.old }
+        requires rises { same_rows (written_row first.now self.old) (own_row first.now self.old) ≡ false → self.old.at < self.old.start }
+        requires in_space { self.old.start < address_limit target.size }
+        requires fits { same_rows (written_row first.now self.old) (own_row first.now self.old) ≡ false → AllByRecursion (InstrFits target) (difference shared.now (written_row first.now self.old) (own_row first.now self.old)) }
+        ensures appends { OnOk result (out.new.items ≡ out.old.items ++ program_bytes target (row_instrs shared.now first.now self.old)) }
+        ensures written { OnOk result (IsWritten first.now self.old self.new) }
+    {
+        if is_same(self.cfa, self.written_cfa) && self.next_register(0, first).is_none() {
+            return Ok(());
+        }
+        self.push_other(out, first, shared, target)?;
+        self.note(first);
+        self.at = self.start;
+        Ok(())
+    }
+}
