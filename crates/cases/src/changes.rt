@@ -111,7 +111,11 @@ fn opening_text<'a>(
     if first != next_given(alloc, changes)? {
         return Err(Fail::new("both calls differ"));
     }
-    Ok(format!(in alloc; "{first} {} behind {}", opening.own, opening.initial)?)
+    Ok(format!(in alloc;
+        "{first} {} behind {}",
+        opening.program.len(),
+        opening.initial
+    )?)
 }
 
 fn agree<'a>(

@@ -192,7 +192,7 @@ fn gather<'a>(
     'fdes: for place in 0..table.fde_count() {
         let fde = FdeRef { place };
         let opening = table.opening(fde);
-        total = add_share(total, opening.own, opening.initial, cap);
+        total = add_share(total, opening.program.len(), opening.initial, cap);
         joined = join_fde(rows, changes, table, fde, opening.row, joined)?;
     }
     Ok(total.is_some())

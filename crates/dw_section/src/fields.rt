@@ -32,12 +32,7 @@ pub(crate) struct FdeFields {
 fn is_version(byte: u8) -> bool
     ensures { result ≡ (byte == 1 || (byte == 3 || byte == 4)) }
 {
-    match byte {
-        1 => true,
-        3 => true,
-        4 => true,
-        _ => false,
-    }
+    matches!(byte, 1 | 3 | 4)
 }
 
 #[inline(always)]

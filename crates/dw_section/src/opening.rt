@@ -7,7 +7,7 @@ ghost use Rattle.dw_cfa.specs.InstrSpells.{Program as ProgramSpells};
 ghost use Rattle.dw_cfa.specs.Opening.{first_row};
 ghost use Rattle.dw_section.specs.declared.lookup.Fde.{Fde as TheFde};
 ghost use Rattle.dw_section.specs.Meaning.{AreFdes, ChangesOf, HasLengths};
-ghost use Rattle.dw_section.specs.Opening.{OpensBehind};
+ghost use Rattle.dw_section.specs.Opening.{HasProgram, OpensBehind};
 ghost use Rattle.dw_section.specs.declared.opening.CieRow.{CieRow as TheRow};
 ghost use Rattle.dw_section.specs.Inner.Opening.{row_behind};
 
@@ -15,7 +15,7 @@ use crate::change::Changes;
 use crate::listed_fde::FoundFde;
 use crate::lookup::FdeRef;
 use crate::table::Table;
-use dw_cfa::{FirstRow, first_row};
+use dw_cfa::{Factors, FirstRow, first_row};
 use dw_num::Target;
 
 /// A row that FDEs of one CIE begin with: the one that the program of the CIE leaves, or that with another offset of the CFA.
@@ -27,12 +27,14 @@ pub struct CieRow {
     pub cfa_offset: Option<i64>,
 }
 
-/// How long an FDE's programs are, and how its own begins.
+/// The program of an FDE (6.4.3), how long that of its CIE is, and how its own begins.
 #[derive(Clone, Copy, Debug, PartialEq, Eq)]
-pub struct Opening {
-    /// How many bytes its own program has.
-    pub own: usize,
-    /// How many bytes the program of its CIE has.
+pub struct Opening<'a> {
+    /// `instructions` of the FDE.
+    pub program: &'a [u8],
+    /// What it is read with: `code_alignment_factor` and `data_alignment_factor` of its CIE.
+    pub factors: Factors,
+    /// How many bytes `initial_instructions` of its CIE has.
     pub initial: usize,
     /// The row at its begin, where the first instructions of its own program tell it (`first_row` of `dw_cfa`).
     pub row: Option<CieRow>,
@@ -52,26 +54,29 @@ fn row_behind(cie_at: u64, first: FirstRow) -> Option<CieRow>
 }
 
 #[inline(always)]
-fn opening_in(found: FoundFde<'_>, target: Target) -> Opening
-    ensures own { result.own ≡ length found.entry.program.bytes.now }
+fn opening_in<'a>(found: FoundFde<'a>, target: Target) -> Opening<'a>
+    ensures program { result.program.now ≡ found.entry.program.bytes.now }
+    ensures factors { result.factors ≡ found.entry.factors }
     ensures initial { result.initial ≡ length found.entry.cie_program.bytes.now }
     ensures row { (instrs : List Instr) → ProgramSpells target found.entry.factors instrs found.entry.program.bytes.now → result.row ≡ row_behind found.entry.cie_at (first_row instrs) }
 {
     let first = first_row(found.program, found.factors, target);
     Opening {
-        own: found.program.bytes.len(),
+        program: found.program.bytes,
+        factors: found.factors,
         initial: found.cie_program.bytes.len(),
         row: row_behind(found.cie_at, first),
     }
 }
 
 impl<'a> Table<'a> {
-    /// How long the programs of an FDE of the list of `fdes` are, and how its own begins: its fields are read once. Takes no
-    /// memory.
+    /// The program of an FDE of the list of `fdes`, how long that of its CIE is, and how its own begins: its fields are read once.
+    /// Takes no memory.
     #[inline(always)]
-    pub fn opening(&self, fde: FdeRef) -> Opening
+    pub fn opening(&self, fde: FdeRef) -> Opening<'a>
         requires { (fs : List TheFde) → AreFdes self.now.target self.now.bytes fs → fde.place < length fs }
-        ensures lengths { (fs : List TheFde) → AreFdes self.now.target self.now.bytes fs → (d : TheFde) → HasLengths self.now.target self.now.bytes (slice_index_or fs fde.place d) result.own result.initial }
+        ensures lengths { (fs : List TheFde) → AreFdes self.now.target self.now.bytes fs → (d : TheFde) → HasLengths self.now.target self.now.bytes (slice_index_or fs fde.place d) (length result.program.now) result.initial }
+        ensures program { (fs : List TheFde) → AreFdes self.now.target self.now.bytes fs → (d : TheFde) → HasProgram self.now.target self.now.bytes (slice_index_or fs fde.place d) result.factors result.program.now }
         ensures opens { (fs : List TheFde) → AreFdes self.now.target self.now.bytes fs → (d : TheFde) → IfSome result.row (OpensBehind self.now.target self.now.bytes (slice_index_or fs fde.place d)) }
         ensures only { (fs : List TheFde) → AreFdes self.now.target self.now.bytes fs → (d : TheFde) (row : TheRow) → OpensBehind self.now.target self.now.bytes (slice_index_or fs fde.place d) row → IsSome result.row }
     {
@@ -80,14 +85,15 @@ impl<'a> Table<'a> {
     }
 
     /// Goes on to the changes of an FDE as `go_on` does, and answers what `opening` does.
-    pub fn go_on_opening(&self, changes: &mut Changes<'a>, fde: FdeRef) -> Opening
+    pub fn go_on_opening(&self, changes: &mut Changes<'a>, fde: FdeRef) -> Opening<'a>
         requires place { (fs : List TheFde) → AreFdes self.now.target self.now.bytes fs → fde.place < length fs }
         requires section { changes.old.section ≡ self.now }
         ensures begun { (changes.new.failed ≡ false) × (changes.new.shown ≡ None) }
         ensures before { changes.new.before ≡ None }
         ensures section { changes.new.section ≡ self.now }
         ensures changes { (fs : List TheFde) → AreFdes self.now.target self.now.bytes fs → (d : TheFde) → ChangesOf self.now.target self.now.bytes (slice_index_or fs fde.place d) changes.new.to_come }
-        ensures lengths { (fs : List TheFde) → AreFdes self.now.target self.now.bytes fs → (d : TheFde) → HasLengths self.now.target self.now.bytes (slice_index_or fs fde.place d) result.own result.initial }
+        ensures lengths { (fs : List TheFde) → AreFdes self.now.target self.now.bytes fs → (d : TheFde) → HasLengths self.now.target self.now.bytes (slice_index_or fs fde.place d) (length result.program.now) result.initial }
+        ensures program { (fs : List TheFde) → AreFdes self.now.target self.now.bytes fs → (d : TheFde) → HasProgram self.now.target self.now.bytes (slice_index_or fs fde.place d) result.factors result.program.now }
         ensures opens { (fs : List TheFde) → AreFdes self.now.target self.now.bytes fs → (d : TheFde) → IfSome result.row (OpensBehind self.now.target self.now.bytes (slice_index_or fs fde.place d)) }
         ensures only { (fs : List TheFde) → AreFdes self.now.target self.now.bytes fs → (d : TheFde) (row : TheRow) → OpensBehind self.now.target self.now.bytes (slice_index_or fs fde.place d) row → IsSome result.row }
     {

@@ -1,5 +1,5 @@
 -- FDEs that begin with one row of a CIE begin with the same row, and each later row specifies what that does.
-use Rattle.dw_section.proofs.Words.{◌≡◌, ℕ, suc, ◌<◌, ◌≤◌, List, [], ◌∷◌, Option, sym, ◌∙◌, subst, arith, IsTrue, ℤ, AllByRecursion, Target, AreBytes, Instr, RegRule, initial_cfa, initial_rule, first_row, row_with, Rules, AreSpecified}
+use Rattle.dw_section.proofs.Words.{◌≡◌, ℕ, ◌<◌, ◌≤◌, List, ◌∷◌, Option, sym, ◌∙◌, subst, arith, IsTrue, ℤ, AllByRecursion, Target, AreBytes, Instr, RegRule, initial_cfa, initial_rule, first_row, row_with, Rules, AreSpecified}
 use Rattle.dw_section.proofs.Words.{is_specified, rule, counts_exists, same_rows, Fde, Accepted, AreChanges, HoldsAt, Head, ChangesOf, CieRow, OpensBehind, Begins, factors_of}
 use Rattle.dw_cfa.proofs.Lent.Openings.{AllSet, all_set, cfa_with, first_cfa, first_rule, stays_specified}
 use Rattle.dw_section.proofs.Lent.Heads.{heads_bytes, heads_rise, one_begin}

@@ -1,6 +1,6 @@
 -- Laws of a section that is accepted: what it says of an FDE is one thing, and each address has rules.
 use Rattle.dw_section.proofs.Words.{◌≡◌, ℕ, ◌+◌, ◌<◌, ◌≤◌, List, [], ◌∷◌, refl, sym, ap, subst, ◌∙◌, arith, inl, inr, AllByRecursion, AllZip, Target, AreBytes, address_limit, Instr, HoldsAfter, Rules, Accepted, HoldsAt, AreChanges, Head}
-use Rattle.dw_section.proofs.Words.{Headers, CieHead, FdeHead, cie, fde, HeadsRise, HasBytes, FdeFits, cie_ats, Says, Lists, AreFdes, RulesAt, ChangesOf, Covers, Range, nonempty, AreApart, end_of, range_of, FdeRuns, HasRules, Instrs}
+use Rattle.dw_section.proofs.Words.{Headers, FdeHead, cie, fde, HeadsRise, HasBytes, FdeFits, cie_ats, Says, Lists, AreFdes, RulesAt, ChangesOf, Covers, Range, nonempty, AreApart, end_of, range_of, FdeRuns, HasRules, Instrs}
 use Rattle.dw_section.proofs.Words.{HasCfa, IsAmong, Fde, counts_exists, one_count}
 use Rattle.dw_section.proofs.Lent.CheckFirst.{one_instrs}
 use Rattle.dw_section.proofs.Lent.HeaderLaws.{one_headers}

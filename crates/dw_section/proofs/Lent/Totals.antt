@@ -1,5 +1,5 @@
 -- The rows that a section starts are no fewer than its changes.
-use Rattle.dw_section.proofs.Words.{◌≡◌, ℕ, ◌<◌, ◌≤◌, List, [], ◌∷◌, length, map, sym, ap, subst, ◌∙◌, arith, AllByRecursion, AllZip, Target, AreBytes, Instr, row_starts, Rules, Accepted, AreChanges, Head, Says, Lists, AreFdes, ChangesOf}
+use Rattle.dw_section.proofs.Words.{ℕ, ◌<◌, ◌≤◌, List, [], ◌∷◌, length, map, ap, arith, AllByRecursion, AllZip, Target, AreBytes, Instr, row_starts, Rules, Accepted, AreChanges, Says, Lists, AreFdes, ChangesOf}
 use Rattle.dw_section.proofs.Words.{Starts, total, Range, end_of, Fde, RowStarts}
 use Rattle.dw_section.proofs.Lent.FdeLookup.{along}
 use Rattle.dw_section.proofs.Lent.Index.{all_from}
