@@ -11,3 +11,4 @@ pub mod Answers
 pub mod PlainInstruction
 pub mod PlainRows
 pub mod PlainProgram
+pub mod PlainFde

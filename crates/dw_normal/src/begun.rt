@@ -22,9 +22,9 @@ pub(crate) struct Begun<'r, 'a> {
     pub(crate) changes: Changes<'a>,
 }
 
-// The initial row of a return register, where that of another one is known, as it mostly is the same.
+/// The initial row of a return register, where that of another one is known, as it mostly is the same.
 #[inline(always)]
-fn shared_row<'r, 'a>(
+pub(crate) fn shared_row<'r, 'a>(
     rows: &'r BTreeMap<u16, Row<'a>>,
     register: u16,
     known: u16,

@@ -20,8 +20,8 @@ use dw_cfa::Row;
 use dw_num::{Order, Size, Target, put_fixed};
 use std::alloc::{AllocError, Global};
 
-// Appends the nops that fill an entry up to a multiple of the address size.
-fn push_nops(out: &mut Vec<u8>, size: Size) -> Result<(), AllocError>
+/// Appends the nops that fill an entry up to a multiple of the address size.
+pub(crate) fn push_nops(out: &mut Vec<u8>, size: Size) -> Result<(), AllocError>
     ensures { OnOk result (out.new.items ≡ out.old.items ++ replicate (missing size (length out.old.items)) 0) }
 {
     let width = u64::from(size.byte_count());
@@ -47,9 +47,9 @@ fn push_cie_fields(out: &mut Vec<u8>, register: u16, target: Target) -> Result<(
     push_uleb(out, u64::from(register))
 }
 
-// Makes a buffer room for the length of an entry.
+/// Makes a buffer room for the length of an entry.
 #[inline(always)]
-fn begin_entry(out: &mut Vec<u8>, order: Order) -> Result<(), AllocError>
+pub(crate) fn begin_entry(out: &mut Vec<u8>, order: Order) -> Result<(), AllocError>
     ensures { OnOk result (out.new.items ≡ fixed_bytes order 4 0) }
 {
     out.clear();
@@ -86,8 +86,8 @@ fn push_address(out: &mut Vec<u8>, address: u64, target: Target) -> Result<(), A
     }
 }
 
-// Appends what stands before an FDE's program.
-fn push_fde_fields(
+/// Appends what stands before an FDE's program.
+pub(crate) fn push_fde_fields(
     out: &mut Vec<u8>,
     cie_at: u64,
     begin: u64,

@@ -1,6 +1,6 @@
 //! The entries of a normal form, put into a sink one after another. One entry is held at a time.
 
-ghost use Rattle.std.specs.Prelude.{◌≡◌, ℕ, ◌+◌, ◌-◌, ◌<◌, ◌≤◌, ◌^◌, [], ◌++◌, List, length, drop, slice_index_or, Some, IsSome, OnOk};
+ghost use Rattle.std.specs.Prelude.{◌≡◌, ℕ, ◌+◌, ◌-◌, ◌<◌, ◌≤◌, ◌^◌, [], ◌++◌, List, length, drop, slice_index_or, Some, IfOk, IfSome, IsSome, IsTrue, OnOk};
 ghost use Rattle.std.specs.List.{AllByRecursion};
 ghost use Rattle.dw_num.specs.Fixed.{fixed_bytes};
 ghost use Rattle.dw_num.specs.declared.target.Form.TheVariants.{Dwarf32};
@@ -8,6 +8,7 @@ ghost use Rattle.dw_cfa.specs.Rows.{Rules};
 ghost use Rattle.dw_section.specs.Cut.{entry, item_bytes};
 ghost use Rattle.dw_section.specs.declared.lookup.Fde.{Fde as TheFde};
 ghost use Rattle.dw_section.specs.Meaning.{AreFdes};
+ghost use Rattle.dw_section.specs.Opening.{HasProgram, OpensBehind};
 ghost use Rattle.dw_canon.specs.Inner.Canon.{canon, cie_instrs};
 ghost use Rattle.dw_canon.specs.Inner.Fits.{InstrFits};
 ghost use Rattle.dw_canon.specs.Members.{Member, AreMembers};
@@ -17,15 +18,17 @@ ghost use Rattle.dw_normal.specs.Inner.Groups.{initial_rows};
 ghost use Rattle.dw_normal.specs.Inner.Writing.{StandsIn};
 ghost use Rattle.dw_normal.specs.Inner.Lengths.{cie_with, cies_bytes, fdes_bytes};
 ghost use Rattle.dw_normal.specs.Inner.Places.{place_in, cie_place, RowsRise, fde_with};
+ghost use Rattle.dw_normal.specs.Inner.PlainFde.{FirstIs};
 ghost use Rattle.dw_normal.specs.Inner.Puts.{Puts, taken_by, after};
 
-use crate::begun::{Begun, begin_fde, room_for};
+use crate::begun::{Begun, begin_fde, room_for, shared_row};
 use crate::contents::{fill_cie, fill_fde};
+use crate::plain_fde::{Opened, fill_plain, keep_first, known_first};
 use crate::sink::{Sink, put_all};
 use byteorder::{BigEndian, ByteOrder, LittleEndian};
 use dw_cfa::Row;
 use dw_num::{Order, Target};
-use dw_section::{FdeRef, Table};
+use dw_section::{CieRow, FdeRef, Opening, Table};
 use std::alloc::{AllocError, Global};
 use std::collections::BTreeMap;
 
@@ -140,11 +143,12 @@ fn write_cies<'a, S: Sink>(
     Ok(written)
 }
 
-/// The FDE that is written, and where the CIE of its return register stands.
+/// The FDE that is written, where the CIE of its return register stands, and a row that other FDEs may begin with.
 #[derive(Drop)]
 pub(crate) struct Writing<'r, 'a> {
     pub(crate) begun: Begun<'r, 'a>,
     pub(crate) cie_at: u64,
+    pub(crate) opened: Option<Opened<'a>>,
 }
 
 // The place of the CIE of a return register, where that of another one is known, as it mostly is the same.
@@ -158,6 +162,111 @@ fn cie_of(places: &BTreeMap<u16, u64>, register: u16, known: u16, cie_at: u64) -
         return cie_at;
     }
     places[&register]
+}
+
+// Goes on to an FDE of a table: to the initial row of its group, and to the place of its CIE.
+#[inline(always)]
+fn turn_to<'r, 'a>(
+    writing: &mut Writing<'r, 'a>,
+    table: &Table<'a>,
+    rows: &'r BTreeMap<u16, Row<'a>>,
+    places: &BTreeMap<u16, u64>,
+    fde: FdeRef,
+)
+    requires place { (fs : List TheFde) → AreFdes table.now.target table.now.bytes fs → fde.place < length fs }
+    requires rows { (ms : List Member) → AreMembers table.now.target table.now.bytes ms → rows.now.entries ≡ initial_rows ms }
+    requires places { (register : ℕ) → place_in places.now.entries register ≡ cie_place table.now.target 0 rows.now.entries register }
+    requires small { (ms : List Member) → AreMembers table.now.target table.now.bytes ms → length (canon table.now.target ms) ≤ 2147483647 }
+    requires shares { SharesIn rows.now.entries writing.old.begun }
+    requires stands { StandsIn places.now.entries writing.old }
+    ensures fde { (fs : List TheFde) → AreFdes table.now.target table.now.bytes fs → (d : TheFde) → writing.new.begun.fde ≡ slice_index_or fs fde.place d }
+    ensures shares { SharesIn rows.now.entries writing.new.begun }
+    ensures stands { StandsIn places.now.entries writing.new }
+    ensures same { (writing.new.begun.changes ≡ writing.old.begun.changes) × (writing.new.opened ≡ writing.old.opened) }
+{
+    table.accepted();
+    let listed = table.fde(fde);
+    let (register, known) = (listed.return_register, writing.begun.fde.return_register);
+    writing.cie_at = cie_of(places, register, known, writing.cie_at);
+    writing.begun.shared = shared_row(rows, register, known, writing.begun.shared);
+    writing.begun.fde = listed;
+}
+
+// Makes a buffer an FDE of a table, with room for its length, where its program is plain and the row at its begin is known.
+#[inline(always)]
+fn fill_plain_at<'r, 'a>(
+    out: &mut Vec<u8>,
+    writing: &mut Writing<'r, 'a>,
+    table: &Table<'a>,
+    rows: &'r BTreeMap<u16, Row<'a>>,
+    places: &BTreeMap<u16, u64>,
+    fde: FdeRef,
+    opening: Opening<'a>,
+) -> Result<bool, AllocError>
+    requires place { (fs : List TheFde) → AreFdes table.now.target table.now.bytes fs → fde.place < length fs }
+    requires rows { (ms : List Member) → AreMembers table.now.target table.now.bytes ms → rows.now.entries ≡ initial_rows ms }
+    requires places { (register : ℕ) → place_in places.now.entries register ≡ cie_place table.now.target 0 rows.now.entries register }
+    requires small { (ms : List Member) → AreMembers table.now.target table.now.bytes ms → length (canon table.now.target ms) ≤ 2147483647 }
+    requires section { writing.old.begun.changes.section ≡ table.now }
+    requires shares { SharesIn rows.now.entries writing.old.begun }
+    requires stands { StandsIn places.now.entries writing.old }
+    requires opens { (fs : List TheFde) → AreFdes table.now.target table.now.bytes fs → (d : TheFde) → IfSome opening.row (OpensBehind table.now.target table.now.bytes (slice_index_or fs fde.place d)) }
+    requires program { (fs : List TheFde) → AreFdes table.now.target table.now.bytes fs → (d : TheFde) → HasProgram table.now.target table.now.bytes (slice_index_or fs fde.place d) opening.factors opening.program.now }
+    requires first { FirstIs table.now.target table.now.bytes writing.old.opened }
+    ensures contents { (ms : List Member) → AreMembers table.now.target table.now.bytes ms → (d : Member) → IfOk result (λ plain. IsTrue plain → (out.new.items ≡ fixed_bytes table.now.target.order 4 0 ++ contents table.now.target (fde_with table.now.target ms (slice_index_or ms fde.place d)))) }
+    ensures section { writing.new.begun.changes.section ≡ table.now }
+    ensures shares { SharesIn rows.now.entries writing.new.begun }
+    ensures stands { StandsIn places.now.entries writing.new }
+    ensures opened { writing.new.opened ≡ writing.old.opened }
+{
+    turn_to(writing, table, rows, places, fde);
+    let Some(first) = known_first(&writing.opened, opening.row) else {
+        return Ok(false);
+    };
+    let (listed, shared) = (writing.begun.fde, writing.begun.shared);
+    fill_plain(
+        out,
+        writing.cie_at,
+        listed,
+        opening,
+        first,
+        shared,
+        table.target(),
+    )
+}
+
+// Makes a buffer an FDE of a table, with room for its length, by its rows.
+fn fill_rows_at<'r, 'a>(
+    out: &mut Vec<u8>,
+    writing: &mut Writing<'r, 'a>,
+    table: &Table<'a>,
+    rows: &'r BTreeMap<u16, Row<'a>>,
+    places: &BTreeMap<u16, u64>,
+    fde: FdeRef,
+    row: Option<CieRow>,
+) -> Result<(), AllocError>
+    requires place { (fs : List TheFde) → AreFdes table.now.target table.now.bytes fs → fde.place < length fs }
+    requires rows { (ms : List Member) → AreMembers table.now.target table.now.bytes ms → rows.now.entries ≡ initial_rows ms }
+    requires places { (register : ℕ) → place_in places.now.entries register ≡ cie_place table.now.target 0 rows.now.entries register }
+    requires small { (ms : List Member) → AreMembers table.now.target table.now.bytes ms → length (canon table.now.target ms) ≤ 2147483647 }
+    requires section { writing.old.begun.changes.section ≡ table.now }
+    requires shares { SharesIn rows.now.entries writing.old.begun }
+    requires stands { StandsIn places.now.entries writing.old }
+    requires opens { (fs : List TheFde) → AreFdes table.now.target table.now.bytes fs → (d : TheFde) → IfSome row (OpensBehind table.now.target table.now.bytes (slice_index_or fs fde.place d)) }
+    requires first { FirstIs table.now.target table.now.bytes writing.old.opened }
+    ensures contents { (ms : List Member) → AreMembers table.now.target table.now.bytes ms → (d : Member) → OnOk result (out.new.items ≡ fixed_bytes table.now.target.order 4 0 ++ contents table.now.target (fde_with table.now.target ms (slice_index_or ms fde.place d))) }
+    ensures section { writing.new.begun.changes.section ≡ table.now }
+    ensures shares { OnOk result (SharesIn rows.now.entries writing.new.begun) }
+    ensures stands { OnOk result (StandsIn places.now.entries writing.new) }
+    ensures first { OnOk result (FirstIs table.now.target table.now.bytes writing.new.opened) }
+{
+    table.accepted();
+    let known = writing.begun.fde.return_register;
+    begin_fde(&mut writing.begun, rows, table, fde)?;
+    keep_first(&mut writing.opened, row, &writing.begun.changes)?;
+    let register = writing.begun.fde.return_register;
+    writing.cie_at = cie_of(places, register, known, writing.cie_at);
+    fill_fde(out, writing.cie_at, &mut writing.begun, table.target())
 }
 
 // Makes a buffer an FDE of a table, with room for its length, where these are the initial rows and the places of CIEs.
@@ -176,17 +285,18 @@ fn fill_fde_at<'r, 'a>(
     requires section { writing.old.begun.changes.section ≡ table.now }
     requires shares { SharesIn rows.now.entries writing.old.begun }
     requires stands { StandsIn places.now.entries writing.old }
+    requires first { FirstIs table.now.target table.now.bytes writing.old.opened }
     ensures contents { (ms : List Member) → AreMembers table.now.target table.now.bytes ms → (d : Member) → OnOk result (out.new.items ≡ fixed_bytes table.now.target.order 4 0 ++ contents table.now.target (fde_with table.now.target ms (slice_index_or ms fde.place d))) }
     ensures section { writing.new.begun.changes.section ≡ table.now }
     ensures shares { OnOk result (SharesIn rows.now.entries writing.new.begun) }
     ensures stands { OnOk result (StandsIn places.now.entries writing.new) }
+    ensures first { OnOk result (FirstIs table.now.target table.now.bytes writing.new.opened) }
 {
-    table.accepted();
-    let known = writing.begun.fde.return_register;
-    begin_fde(&mut writing.begun, rows, table, fde)?;
-    let register = writing.begun.fde.return_register;
-    writing.cie_at = cie_of(places, register, known, writing.cie_at);
-    fill_fde(out, writing.cie_at, &mut writing.begun, table.target())
+    let opening = table.opening(fde);
+    if fill_plain_at(out, writing, table, rows, places, fde, opening)? {
+        return Ok(());
+    }
+    fill_rows_at(out, writing, table, rows, places, fde, opening.row)
 }
 
 // Puts an FDE of a table, where these are the initial rows and the places of CIEs.
@@ -207,10 +317,12 @@ fn write_fde<'r, 'a, S: Sink>(
     requires section { writing.old.begun.changes.section ≡ table.now }
     requires shares { SharesIn rows.now.entries writing.old.begun }
     requires stands { StandsIn places.now.entries writing.old }
+    requires first { FirstIs table.now.target table.now.bytes writing.old.opened }
     ensures puts { (ms : List Member) → AreMembers table.now.target table.now.bytes ms → (d : Member) → Puts (entry_bytes table.now.target (fde_with table.now.target ms (slice_index_or ms fde.place d))) result (S.failures sink.old) (S.failures sink.new) (S.taken sink.old) (S.taken sink.new) }
     ensures section { writing.new.begun.changes.section ≡ table.now }
     ensures shares { OnOk result (SharesIn rows.now.entries writing.new.begun) }
     ensures stands { OnOk result (StandsIn places.now.entries writing.new) }
+    ensures first { OnOk result (FirstIs table.now.target table.now.bytes writing.new.opened) }
 {
     table.accepted();
     if fill_fde_at(buffer, writing, table, rows, places, fde).is_err() {
@@ -237,6 +349,7 @@ fn write_all<'r, 'a, S: Sink>(
     requires section { writing.old.begun.changes.section ≡ table.now }
     requires shares { SharesIn rows.now.entries writing.old.begun }
     requires stands { StandsIn places.now.entries writing.old }
+    requires first { FirstIs table.now.target table.now.bytes writing.old.opened }
     ensures { (ms : List Member) → AreMembers table.now.target table.now.bytes ms → Puts (fdes_bytes table.now.target ms ms) result (S.failures sink.old) (S.failures sink.new) (S.taken sink.old) (S.taken sink.new) }
 {
     table.accepted();
@@ -270,7 +383,11 @@ fn write_fdes<'a, S: Sink>(
     }
     let begun = room_for(rows, table);
     let cie_at = places[&begun.fde.return_register];
-    let mut writing = Writing { begun, cie_at };
+    let mut writing = Writing {
+        begun,
+        cie_at,
+        opened: None,
+    };
     write_all(sink, buffer, &mut writing, table, rows, places, count)
 }
 

@@ -13,6 +13,7 @@ mod length;
 mod likeness;
 mod normal;
 mod opcode;
+mod plain_fde;
 mod plain_instruction;
 mod plain_program;
 mod plain_rows;
