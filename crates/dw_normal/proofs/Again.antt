@@ -68,7 +68,7 @@ again_same t rows n m h k register first specify =
     ap (λ (r : ℕ). insert_entry nat_cmp made r (kept_by (begun_with (row_of made r) m.first) m.later)) register ∙ ap (insert_entry nat_cmp made q) there ∙ written_twice q v rows
 
 module _ (t : Target) (s : List ℕ) (b : AreBytes s) (ok : Accepted t s) (ms : List Member) (are : AreMembers t s ms) where
-  opened_member : (d : Member) (k : ℕ) (row : CieRow) → k < length ms → (o : OpensBehind t s (fde_of (get_or ms k d)) row) → Opened o.initial row.cfa_offset ((get_or ms k d).begin, (get_or ms k d).first) (get_or ms k d).later
+  pub opened_member : (d : Member) (k : ℕ) (row : CieRow) → k < length ms → (o : OpensBehind t s (fde_of (get_or ms k d)) row) → Opened o.initial row.cfa_offset ((get_or ms k d).begin, (get_or ms k d).first) (get_or ms k d).later
   opened_member d k row lt o =
       let m = get_or ms k d in
       let is = all_get (IsMember t s) ms k d are.each lt in

@@ -16,7 +16,7 @@ own_group row r (m ∷ ms) (suc k) d lt own = elim (cases_Bool (nat_eq m.registe
 
 -- ---- changes below an end
 
-stand_within : (t : Target) (initial : Rules) (end limit : ℕ) → end ≤ limit → (at : ℕ) (row : Rules) (changes : List (ℕ × Rules)) → ChangesStand t initial end at row changes → ChangesStand t initial limit at row changes
+pub stand_within : (t : Target) (initial : Rules) (end limit : ℕ) → end ≤ limit → (at : ℕ) (row : Rules) (changes : List (ℕ × Rules)) → ChangesStand t initial end at row changes → ChangesStand t initial limit at row changes
 stand_within t initial end limit le at row [] h = omega (arith, le, h)
 stand_within t initial end limit le at row (change ∷ changes) h = (h.0, h.1, h.2, stand_within t initial end limit le change.0 change.1 changes h.3)
 
