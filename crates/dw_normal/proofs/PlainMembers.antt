@@ -27,6 +27,7 @@ use Rattle.dw_cfa.specs.declared.opening.FirstRow.TheVariants.{Initial, CfaOffse
 use Rattle.dw_cfa.specs.declared.rule.CfaRule.{CfaRule}
 use Rattle.dw_cfa.specs.declared.rule.CfaRule.TheVariants as cfa
 use Rattle.dw_section.proofs.Lent.ChangeLaws.{changes_found}
+use Rattle.dw_section.proofs.Lent.Exists.{are_among}
 use Rattle.dw_section.proofs.Lent.Heads.{all_in, heads_bytes}
 use Rattle.dw_section.proofs.Lent.OpeningLaws.{one_first}
 use Rattle.dw_section.proofs.Lent.Sames.{one_change_list}
@@ -42,31 +43,6 @@ use Rattle.dw_normal.proofs.Placed.{stand_within, stands_at}
 use Rattle.dw_normal.specs.Inner.PlainProgram.{IsPlain, changes_by, plain_bytes, rows_by}
 
 -- ---- the changes among rows
-
-before_tells : (end a : ℕ) (rows : List LocatedRow) → Decides (is_before end a rows) (Before end a rows)
-before_tells end a [] = Decides-ltb a end
-before_tells end a (next ∷ rows) = Decides-and (nat_lt a next.location) (nat_lt a end) (Decides-ltb a next.location) (Decides-ltb a end)
-
-repeats_tells : (shown : Option Rules) (row : Rules) → Decides (repeats shown row) (shown ≡ Some row)
-repeats_tells None row = (λ e. cc, λ e. cc)
-repeats_tells (Some shown) row = let told = rows_tell shown row in (λ e. ap Some (told.0 e), λ e. told.1 cc)
-
-module _ (end : ℕ) (shown : Option Rules) (row : LocatedRow) (rows : List LocatedRow) where
-  tells : Decides (is_before end row.location rows && not (repeats shown row.row)) (Shows end shown row rows)
-  tells = Decides-and (is_before end row.location rows) (not (repeats shown row.row)) (before_tells end row.location rows) (Decides-not (repeats shown row.row) (repeats_tells shown row.row))
-
-  passed : (is_before end row.location rows && not (repeats shown row.row)) ≡ false → (Before end row.location rows → ⊥) ⊎ (shown ≡ Some row.row)
-  passed e = elim (cases_Bool (repeats shown row.row)) [
-    | inl same ↦ inr ((repeats_tells shown row.row).0 same)
-    | inr other ↦ inl (λ before. let is = (before_tells end row.location rows).1 before in let both = rw (is, other) at e in absurd cc)
-  ]
-
-are_among : (end : ℕ) (shown : Option Rules) (rows : List LocatedRow) → Among end shown rows (changes_among end shown rows)
-are_among end shown [] = refl
-are_among end shown (row ∷ rows) = elim (cases_Bool (is_before end row.location rows && not (repeats shown row.row))) [
-  | inl e ↦ rw e (inr ((tells end shown row rows).0 e, (changes_among end (Some row.row) rows, refl, are_among end (Some row.row) rows)))
-  | inr e ↦ rw e (inl (passed end shown row rows e, are_among end shown rows))
-]
 
 -- where nothing was shown, the first row is shown, and behind it it is passed
 shown_once : (end : ℕ) (row : LocatedRow) (rows : List LocatedRow) → is_before end row.location rows ≡ true → changes_among end None (row ∷ rows) ≡ (row.location, row.row) ∷ changes_among end (Some row.row) (row ∷ rows)

@@ -1,7 +1,7 @@
 -- Each FDE of an accepted section has changes.
 use Rattle.dw_section.proofs.Words.{ℕ, ◌<◌, List, None, sym, subst, arith, ◌≤◌, [], ◌∷◌, length, Option, Some, inl, inr, Target, AreBytes, Instr, LocatedRow, Rules, Accepted, HoldsAt, AreChanges, changes_among, Among, Says, AreFdes}
 use Rattle.dw_section.proofs.Words.{ChangesOf, SameMeaning, IsAmong, row_starts, Fde}
-use Rattle.dw_section.proofs.ChangesAmong.{are_among}
+pub use Rattle.dw_section.proofs.ChangesAmong.{are_among}
 use Rattle.dw_section.proofs.Lent.ChangeLaws.{changes_found}
 use Rattle.dw_section.proofs.Lent.Rowed.{agree_row}
 use Rattle.dw_section.proofs.Lent.Sames.{AllAgree, changes_there}
