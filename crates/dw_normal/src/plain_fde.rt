@@ -84,7 +84,7 @@ pub(crate) fn fill_plain<'a>(
     requires begin { listed.begin < address_limit target.size }
     requires rises { listed.begin < listed.end }
     requires range { listed.end < listed.begin + address_limit target.size }
-    ensures { (ms : List Member) (m : Member) → PlainMember target ms m listed opening.factors opening.program.now shared.now first.now → IfOk result (λ plain. IsTrue plain → out.new.items ≡ fixed_bytes target.order 4 0 ++ contents target (fde cie_at m.begin (m.end - m.begin) (fde_instrs (initial_of ms m.register) m) (program_bytes target (fde_instrs (initial_of ms m.register) m)))) }
+    ensures { (ms : List Member) (m : Member) → PlainMember target ms m listed opening.entry.factors opening.entry.program.now shared.now first.now → IfOk result (λ plain. IsTrue plain → out.new.items ≡ fixed_bytes target.order 4 0 ++ contents target (fde cie_at m.begin (m.end - m.begin) (fde_instrs (initial_of ms m.register) m) (program_bytes target (fde_instrs (initial_of ms m.register) m)))) }
 {
     let range = (listed.end - u128::from(listed.begin)) as u64;
     begin_entry(out, target.order)?;

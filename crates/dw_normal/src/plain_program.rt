@@ -41,7 +41,7 @@ impl PlainRun {
         frame: Frame<'_, '_>,
     ) -> Result<bool, AllocError>
         requires { (initial : Rules) × (rest : List Instr) × Runs frame.target frame.shared.now frame.first.now frame.last self.old initial (Advance distance ∷ rest) }
-        ensures { (initial : Rules) (rest : List Instr) → Runs frame.target frame.shared.now frame.first.now frame.last self.old initial (Advance distance ∷ rest) → IfOk result (λ on. IsTrue on → Runs frame.target frame.shared.now frame.first.now frame.last self.new initial rest × (out.new.items ++ bytes_left frame.target frame.shared.now frame.first.now frame.last self.new initial rest ≡ out.old.items ++ bytes_left frame.target frame.shared.now frame.first.now frame.last self.old initial (Advance distance ∷ rest))) }
+        ensures { (initial : Rules) (rest : List Instr) → Runs frame.entry.target frame.entry.shared.now frame.entry.first.now frame.entry.last self.old initial (Advance distance ∷ rest) → IfOk result (λ on. IsTrue on → Runs frame.entry.target frame.entry.shared.now frame.entry.first.now frame.entry.last self.new initial rest × (out.new.items ++ bytes_left frame.entry.target frame.entry.shared.now frame.entry.first.now frame.entry.last self.new initial rest ≡ out.old.items ++ bytes_left frame.entry.target frame.entry.shared.now frame.entry.first.now frame.entry.last self.old initial (Advance distance ∷ rest))) }
     {
         if distance == 0 {
             return Ok(true);
@@ -60,7 +60,7 @@ impl PlainRun {
     fn change(&mut self, plain: Plain, frame: Frame<'_, '_>) -> bool
         requires near { IsNear plain }
         requires runs { (initial : Rules) × (rest : List Instr) × Runs frame.target frame.shared.now frame.first.now frame.last self.old initial (instr_of plain ∷ rest) }
-        ensures { (initial : Rules) (rest : List Instr) → Runs frame.target frame.shared.now frame.first.now frame.last self.old initial (instr_of plain ∷ rest) → IsTrue result → Runs frame.target frame.shared.now frame.first.now frame.last self.new initial rest × (bytes_left frame.target frame.shared.now frame.first.now frame.last self.new initial rest ≡ bytes_left frame.target frame.shared.now frame.first.now frame.last self.old initial (instr_of plain ∷ rest)) }
+        ensures { (initial : Rules) (rest : List Instr) → Runs frame.entry.target frame.entry.shared.now frame.entry.first.now frame.entry.last self.old initial (instr_of plain ∷ rest) → IsTrue result → Runs frame.entry.target frame.entry.shared.now frame.entry.first.now frame.entry.last self.new initial rest × (bytes_left frame.entry.target frame.entry.shared.now frame.entry.first.now frame.entry.last self.new initial rest ≡ bytes_left frame.entry.target frame.entry.shared.now frame.entry.first.now frame.entry.last self.old initial (instr_of plain ∷ rest)) }
     {
         let first = frame.first;
         let cfa = self.rows.cfa;
@@ -115,7 +115,7 @@ impl PlainRun {
     ) -> Result<bool, AllocError>
         requires near { IsNear plain }
         requires runs { (initial : Rules) × (rest : List Instr) × Runs frame.target frame.shared.now frame.first.now frame.last self.old initial (instr_of plain ∷ rest) }
-        ensures { (initial : Rules) (rest : List Instr) → Runs frame.target frame.shared.now frame.first.now frame.last self.old initial (instr_of plain ∷ rest) → IfOk result (λ on. IsTrue on → Runs frame.target frame.shared.now frame.first.now frame.last self.new initial rest × (out.new.items ++ bytes_left frame.target frame.shared.now frame.first.now frame.last self.new initial rest ≡ out.old.items ++ bytes_left frame.target frame.shared.now frame.first.now frame.last self.old initial (instr_of plain ∷ rest))) }
+        ensures { (initial : Rules) (rest : List Instr) → Runs frame.entry.target frame.entry.shared.now frame.entry.first.now frame.entry.last self.old initial (instr_of plain ∷ rest) → IfOk result (λ on. IsTrue on → Runs frame.entry.target frame.entry.shared.now frame.entry.first.now frame.entry.last self.new initial rest × (out.new.items ++ bytes_left frame.entry.target frame.entry.shared.now frame.entry.first.now frame.entry.last self.new initial rest ≡ out.old.items ++ bytes_left frame.entry.target frame.entry.shared.now frame.entry.first.now frame.entry.last self.old initial (instr_of plain ∷ rest))) }
     {
         if let Plain::Advance(distance) = plain {
             return self.advance(out, distance, frame);
@@ -133,7 +133,7 @@ impl PlainRun {
         frame: Frame<'_, '_>,
     ) -> Result<bool, AllocError>
         requires { (initial : Rules) × (instrs : List Instr) × Program frame.target factors instrs program.now × Runs frame.target frame.shared.now frame.first.now frame.last self.old initial instrs }
-        ensures { (initial : Rules) (instrs : List Instr) → Program frame.target factors instrs program.now → Runs frame.target frame.shared.now frame.first.now frame.last self.old initial instrs → IfOk result (λ plain. IsTrue plain → out.new.items ≡ out.old.items ++ bytes_left frame.target frame.shared.now frame.first.now frame.last self.old initial instrs) }
+        ensures { (initial : Rules) (instrs : List Instr) → Program frame.entry.target factors instrs program.now → Runs frame.entry.target frame.entry.shared.now frame.entry.first.now frame.entry.last self.old initial instrs → IfOk result (λ plain. IsTrue plain → out.new.items ≡ out.old.items ++ bytes_left frame.entry.target frame.entry.shared.now frame.entry.first.now frame.entry.last self.old initial instrs) }
     {
         let mut left = program;
         'instrs: while !left.is_empty() {
@@ -161,7 +161,7 @@ pub(crate) fn push_plain(
     frame: Frame<'_, '_>,
 ) -> Result<bool, AllocError>
     requires { (initial : Rules) × (instrs : List Instr) × IsPlain frame.target factors frame.shared.now frame.first.now begin frame.last initial instrs program.now }
-    ensures { (initial : Rules) (instrs : List Instr) → IsPlain frame.target factors frame.shared.now frame.first.now begin frame.last initial instrs program.now → IfOk result (λ plain. IsTrue plain → out.new.items ≡ out.old.items ++ plain_bytes frame.target frame.shared.now frame.first.now begin frame.last initial instrs) }
+    ensures { (initial : Rules) (instrs : List Instr) → IsPlain frame.entry.target factors frame.entry.shared.now frame.entry.first.now begin frame.entry.last initial instrs program.now → IfOk result (λ plain. IsTrue plain → out.new.items ≡ out.old.items ++ plain_bytes frame.entry.target frame.entry.shared.now frame.entry.first.now begin frame.entry.last initial instrs) }
 {
     let CfaRule::Register { register, offset } = *frame.first.cfa_rule() else {
         return Ok(false);
