@@ -1,7 +1,7 @@
 //! The current row of a plain program beside the one that was written last (6.4.1). Both are told by the row at the FDE's begin, the
 //! rule of the CFA, and the offsets of registers below 32, so a row is written by what was set since.
 
-ghost use Rattle.std.specs.Prelude.{◌≡◌, ◌↔◌, ◌<◌, ⊥, ◌∷◌, ◌++◌, false, Some, IfSome, IsTrue, OnOk, ℤ};
+ghost use Rattle.std.specs.Prelude.{◌≡◌, ◌↔◌, ◌<◌, ◌∷◌, ◌++◌, false, Some, IfSome, IsTrue, OnOk, ℤ};
 ghost use Rattle.std.specs.List.{AllByRecursion};
 ghost use Rattle.dw_num.specs.Target.{address_limit};
 ghost use Rattle.dw_cfa.specs.Difference.{FirstDifference};
