@@ -42,7 +42,7 @@ impl PlainRun {
         distance: u64,
         frame: Frame<'_, '_>,
     ) -> Result<bool, AllocError>
-        requires { CanRun frame.entry self.old (Advance distance) }
+        requires { CanRun frame self.old (Advance distance) }
         ensures { IfOk result (λ on. IsTrue on → Ran frame.entry (Advance distance) self.old out.old.items self.new out.new.items) }
     {
         if distance == 0 {
@@ -152,7 +152,7 @@ impl PlainRun {
         frame: Frame<'_, '_>,
     ) -> Result<bool, AllocError>
         requires near { IsNear plain }
-        requires runs { CanRun frame.entry self.old (instr_of plain) }
+        requires runs { CanRun frame self.old (instr_of plain) }
         ensures { IfOk result (λ on. IsTrue on → Ran frame.entry (instr_of plain) self.old out.old.items self.new out.new.items) }
     {
         if let Plain::Advance(distance) = plain {
@@ -164,7 +164,7 @@ impl PlainRun {
     // Appends the last row.
     #[inline(always)]
     fn end(&mut self, out: &mut Vec<u8>, frame: Frame<'_, '_>) -> Result<(), AllocError>
-        requires { (initial : Rules) × RunsIn frame.entry self.old initial [] }
+        requires { (initial : Rules) × RunsIn frame self.old initial [] }
         ensures { OnOk result ((initial : Rules) → RunsIn frame.entry self.old initial [] → out.new.items ≡ out.old.items ++ bytes_in frame.entry self.old initial []) }
     {
         self.rows
@@ -180,7 +180,7 @@ impl PlainRun {
         factors: Factors,
         frame: Frame<'_, '_>,
     ) -> Result<bool, AllocError>
-        requires { (initial : Rules) × (instrs : List Instr) × Program frame.entry.target factors instrs program.now × RunsIn frame.entry self.old initial instrs }
+        requires { (initial : Rules) × (instrs : List Instr) × Program frame.target factors instrs program.now × RunsIn frame self.old initial instrs }
         ensures { (initial : Rules) (instrs : List Instr) → Program frame.entry.target factors instrs program.now → RunsIn frame.entry self.old initial instrs → IfOk result (λ plain. IsTrue plain → out.new.items ≡ out.old.items ++ bytes_in frame.entry self.old initial instrs) }
     {
         let mut left = program;
@@ -207,7 +207,7 @@ pub(crate) fn push_plain(
     begin: u64,
     frame: Frame<'_, '_>,
 ) -> Result<bool, AllocError>
-    requires { (initial : Rules) × (instrs : List Instr) × IsPlain frame.entry.target factors frame.entry.shared.now frame.entry.first.now begin frame.entry.last initial instrs program.now }
+    requires { (initial : Rules) × (instrs : List Instr) × IsPlain frame.target factors frame.shared.now frame.first.now begin frame.last initial instrs program.now }
     ensures { (initial : Rules) (instrs : List Instr) → IsPlain frame.entry.target factors frame.entry.shared.now frame.entry.first.now begin frame.entry.last initial instrs program.now → IfOk result (λ plain. IsTrue plain → out.new.items ≡ out.old.items ++ plain_bytes frame.entry.target frame.entry.shared.now frame.entry.first.now begin frame.entry.last initial instrs) }
 {
     let CfaRule::Register { register, offset } = *frame.first.cfa_rule() else {
