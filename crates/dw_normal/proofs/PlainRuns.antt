@@ -1,20 +1,23 @@
 -- One step more of a plain program: the rows and the changes that are still to come.
-use Rattle.dw_normal.proofs.Words.{◌≡◌, ℕ, ◌+◌, ◌<◌, ◌≤◌, suc, true, false, Bool, List, [], ◌∷◌, ◌++◌, Option, Some, None, refl, sym, ap, ◌∙◌, subst, inl, inr, arith, nat_lt, cond, AllByRecursion, cases_Bool, append_assoc, append-nil, lt-ltb, le-ltb, Target, Instr, Rules, rule, move}
+use Rattle.dw_normal.proofs.Words.{◌≡◌, ℕ, ◌+◌, ◌<◌, ◌≤◌, suc, true, false, Bool, List, [], ◌∷◌, ◌++◌, Option, refl, sym, ap, ◌∙◌, subst, inl, inr, arith, nat_lt, drop, take, take_rest, length, ◌-◌, AllByRecursion, cases_Bool, append_assoc, lt-ltb, le-ltb, Target, Instr, Rules, rule, move}
 use Rattle.dw_normal.proofs.Words.{difference, later_changes, address_limit, ChangesStand, InstrFits, difference_fits, instr_bytes, program_bytes, RowFits}
 use Rattle.std.specs.Prelude.{◌&&◌, not, if◌then◌else◌}
 use Rattle.dw_cfa.specs.Inner.Machine.{State, after, popped}
 use Rattle.dw_cfa.specs.Inner.RowEquality.{rows_tell, same_rows}
-use Rattle.dw_cfa.specs.Inner.Rows.{with_cfa}
 use Rattle.dw_cfa.specs.Inner.Runs.{here}
 use Rattle.dw_cfa.specs.Location.{moves_location}
-use Rattle.dw_cfa.specs.declared.execution.LocatedRow.{LocatedRow}
-use Rattle.dw_cfa.specs.declared.instr.Instr.TheVariants.{SetLoc, Advance, Restore, RememberState, RestoreState}
-use Rattle.dw_section.specs.Inner.Changes.{changes_among, is_before, repeats}
+use Rattle.dw_cfa.specs.declared.instr.Instr.TheVariants.{SetLoc, Advance, Restore, RestoreState}
+use Rattle.dw_section.specs.Inner.Changes.{is_before}
+use Rattle.dw_cfa.specs.InstrSpells.{Program}
+use Rattle.dw_cfa.specs.declared.instr.Factors.{Factors}
+use Rattle.dw_normal.specs.declared.plain_instruction.Plain.{Plain}
+use Rattle.dw_normal.specs.declared.plain_program.Frame.{Frame}
 use Rattle.dw_normal.specs.declared.plain_program.PlainRun.{PlainRun}
+use Rattle.dw_normal.specs.Inner.PlainInstruction.{StandsFirst, instr_of}
 use Rattle.dw_normal.specs.declared.plain_rows.Cfa.{Cfa}
 use Rattle.dw_normal.specs.declared.plain_rows.PlainRows.{PlainRows}
-use Rattle.dw_normal.specs.Inner.PlainRows.{IsWritten, RowsSo, own_row, row_instrs, written_at, written_row}
-use Rattle.dw_normal.specs.Inner.PlainProgram.{Becomes, Runs, bytes_left, changes_by, changes_left, rows_by, stack_of, state_of}
+use Rattle.dw_normal.specs.Inner.PlainRows.{IsWritten, RowsSo, own_row, row_instrs, written_row}
+use Rattle.dw_normal.specs.Inner.PlainProgram.{Becomes, CanRun, Left, Ran, Runs, RunsIn, bytes_in, bytes_left, changes_by, changes_left, rows_by, stack_of, state_of}
 use Rattle.dw_normal.proofs.Passes.{program_more}
 
 -- ---- rows and changes to come
@@ -147,12 +150,6 @@ module _ {t : Target} {shared first : Rules} {last : ℕ} {run : PlainRun} {init
   pub by_end : Runs t shared first last run initial [] → EndedHere t shared first run (λ row. [])
   by_end r = ends_by t shared first run (λ row. []) (changes_left first last run initial []) r.fits r.stand (come_last r)
 
-  pub last_bytes : Runs t shared first last run initial [] → bytes_left t shared first last run initial [] ≡ program_bytes t (row_instrs shared first run.rows)
-  last_bytes r =
-      ap (λ (l : List (ℕ × Rules)). program_bytes t (later_changes shared run.rows.at (written_row first run.rows) l)) (come_last r)
-      ∙ (by_end r).bytes
-      ∙ append-nil (program_bytes t (row_instrs shared first run.rows))
-
   -- ---- an advance
 
   -- by nothing
@@ -161,10 +158,14 @@ module _ {t : Target} {shared first : Rules} {last : ℕ} {run : PlainRun} {init
   advanced_by_none d rest none r =
       let sum : run.rows.start + d ≡ run.rows.start = omega arith in
       let is : changes_left first last run initial (Advance d ∷ rest) ≡ changes_left first last run initial rest =
-          moves_by_none (suc last) (written_row first run.rows) initial d rest (state_of first run) none
-          ∙ ap (λ (n : ℕ). changes_by (suc last) (written_row first run.rows) initial rest (state (own_row first run.rows) run.remembered n)) sum in (
+      moves_by_none (suc last) (written_row first run.rows) initial d rest (state_of first run) none
+      ∙ ap (λ (n : ℕ). changes_by (suc last) (written_row first run.rows) initial rest (state (own_row first run.rows) run.remembered n)) sum in (
         record {
-          so = r.so; same = r.same; within = r.within; in_space = r.in_space; fits = r.fits;
+          so = r.so;
+          same = r.same;
+          within = r.within;
+          in_space = r.in_space;
+          fits = r.fits;
           stand = subst (ChangesStand t shared (address_limit t.size) run.rows.at (written_row first run.rows)) is r.stand;
         },
         ap (λ (l : List (ℕ × Rules)). program_bytes t (later_changes shared run.rows.at (written_row first run.rows) l)) (sym is),
@@ -195,18 +196,21 @@ module _ {t : Target} {shared first : Rules} {last : ℕ} {old : PlainRun} {rows
   advanced d rest done made r some within w is =
       let e = by_advance d rest r some in
       let came : changes_left first last (next_run (rows.start + d) old rows) initial rest ≡ behind first last old initial d rest (own_row first old.rows) =
-          ap (λ (row : Rules). changes_by (suc last) row initial rest (state (own_row first rows) old.remembered (rows.start + d))) w.written
-          ∙ ap (λ (row : Rules). changes_by (suc last) (own_row first old.rows) initial rest (state row old.remembered (rows.start + d))) w.own
-          ∙ ap (λ (n : ℕ). changes_by (suc last) (own_row first old.rows) initial rest (state (own_row first old.rows) old.remembered (n + d))) w.start in (
+      ap (λ (row : Rules). changes_by (suc last) row initial rest (state (own_row first rows) old.remembered (rows.start + d))) w.written
+      ∙ ap (λ (row : Rules). changes_by (suc last) (own_row first old.rows) initial rest (state row old.remembered (rows.start + d))) w.own
+      ∙ ap (λ (n : ℕ). changes_by (suc last) (own_row first old.rows) initial rest (state (own_row first old.rows) old.remembered (n + d))) w.start in (
         record {
-          so = so_moved first (rows.start + d) rows w.so; same = r.same; within = within; in_space = r.in_space;
+          so = so_moved first (rows.start + d) rows w.so;
+          same = r.same;
+          within = within;
+          in_space = r.in_space;
           fits = subst (RowFits t) (sym w.written) e.fits;
           stand = stands_too t shared (address_limit t.size) w.at w.written came e.stand;
         },
         ap (λ (l : List ℕ). l ++ bytes_left t shared first last (next_run (rows.start + d) old rows) initial rest) is
-        ∙ append_assoc done (program_bytes t (row_instrs shared first old.rows)) (bytes_left t shared first last (next_run (rows.start + d) old rows) initial rest)
-        ∙ ap (λ (l : List ℕ). done ++ (program_bytes t (row_instrs shared first old.rows) ++ l)) (bytes_too t shared w.at w.written came)
-        ∙ ap (λ (l : List ℕ). done ++ l) (sym e.bytes ∙ ap (λ (l : List (ℕ × Rules)). program_bytes t (later_changes shared old.rows.at (written_row first old.rows) l)) (sym (come_then d rest r some))),
+            ∙ append_assoc done (program_bytes t (row_instrs shared first old.rows)) (bytes_left t shared first last (next_run (rows.start + d) old rows) initial rest)
+            ∙ ap (λ (l : List ℕ). done ++ (program_bytes t (row_instrs shared first old.rows) ++ l)) (bytes_too t shared w.at w.written came)
+            ∙ ap (λ (l : List ℕ). done ++ l) (sym e.bytes ∙ ap (λ (l : List (ℕ × Rules)). program_bytes t (later_changes shared old.rows.at (written_row first old.rows) l)) (sym (come_then d rest r some))),
       )
 
 -- ---- other instructions
@@ -221,13 +225,52 @@ pub changed_to : {t : Target} {shared first : Rules} {last : ℕ} {old new : Pla
 changed_to {t} {shared} {first} {last} {old} {new} {initial} i rest r b =
     let start : new.rows.start ≡ old.rows.start = ap (λ (s : State). s.location) b.state ∙ stays_at first i (state_of first old) b.stays in
     let came : changes_left first last new initial rest ≡ changes_left first last old initial (i ∷ rest) =
-        ap (λ (row : Rules). changes_by (suc last) row initial rest (state_of first new)) b.written
-        ∙ ap (changes_by (suc last) (written_row first old.rows) initial rest) (b.state ∙ after_same first initial i (state_of first old) r.same)
-        ∙ sym (still (suc last) (written_row first old.rows) initial i rest (state_of first old) b.stays) in (
+    ap (λ (row : Rules). changes_by (suc last) row initial rest (state_of first new)) b.written
+    ∙ ap (changes_by (suc last) (written_row first old.rows) initial rest) (b.state ∙ after_same first initial i (state_of first old) r.same)
+    ∙ sym (still (suc last) (written_row first old.rows) initial i rest (state_of first old) b.stays) in (
       record {
-        so = b.so; same = r.same; within = rw start r.within; in_space = r.in_space;
+        so = b.so;
+        same = r.same;
+        within = rw start r.within;
+        in_space = r.in_space;
         fits = subst (RowFits t) (sym b.written) r.fits;
         stand = stands_too t shared (address_limit t.size) b.at b.written came r.stand;
       },
       bytes_too t shared b.at b.written came,
     )
+
+pub ran : (frame : Frame) (i : Instr) (old new : PlainRun) (out : List ℕ) → Becomes frame.first.now i old new → Ran frame i old out new out
+ran frame i old new out b initial rest r = let k = changed_to i rest r b in (k.0, ap (λ (l : List ℕ). out ++ l) k.1)
+
+-- ---- the instructions that are left
+
+none_spelled : (t : Target) (f : Factors) (left : List ℕ) (rest : List Instr) → left ≡ [] → Program t f rest left → rest ≡ []
+none_spelled t f left [] none spelled = refl
+none_spelled t f left (i ∷ rest) none spelled =
+    let whole : (spelled.first.code ∷ spelled.first.rest) ++ spelled.back ≡ [] = ap (λ (l : List ℕ). l ++ spelled.back) (sym spelled.first.whole) ∙ sym spelled.whole ∙ none in
+    absurd cc
+
+module _ {frame : Frame} {f : Factors} {initial : Rules} {whole : List ℕ} {run : PlainRun} {left made : List ℕ} where
+  pub can_run : (p : Plain) (count : ℕ) → StandsFirst f frame.target.order p count left → Left frame f initial whole run left made → CanRun frame run (instr_of p)
+  can_run p count stands l =
+      let first = stands frame.target l.rest refl l.spelled in
+      (initial, first.rest, subst (RunsIn frame run initial) first.whole l.runs)
+
+  -- one less
+  pub next_left : (p : Plain) (count : ℕ) (run' : PlainRun) (made' : List ℕ) → StandsFirst f frame.target.order p count left → Ran frame (instr_of p) run made run' made' → Left frame f initial whole run left made
+      → Left frame f initial whole run' (take (length left - count) (drop count left)) made'
+  next_left p count run' made' stands ran l =
+      let first = stands frame.target l.rest refl l.spelled in
+      let next = ran initial first.rest (subst (RunsIn frame run initial) first.whole l.runs) in
+      record {
+        rest = first.rest;
+        spelled = subst (Program frame.target f first.rest) (sym (take_rest left count)) first.spelled;
+        runs = next.0;
+        written = next.1 ∙ ap (λ (instrs : List Instr). made ++ bytes_in frame run initial instrs) (sym first.whole) ∙ l.written;
+      }
+
+  -- none is left
+  pub last_left : left ≡ [] → Left frame f initial whole run left made → RunsIn frame run initial [] × (made ++ bytes_in frame run initial [] ≡ whole)
+  last_left none l =
+      let is = none_spelled frame.target f left l.rest none l.spelled in
+      (subst (RunsIn frame run initial) is l.runs, ap (λ (instrs : List Instr). made ++ bytes_in frame run initial instrs) (sym is) ∙ l.written)

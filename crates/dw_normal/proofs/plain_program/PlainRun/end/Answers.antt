@@ -1,5 +1,5 @@
-use Rattle.dw_normal.proofs.Words.{◌≡◌, List, ℕ, ◌++◌, ◌∙◌, ap, sym, arith}
-use Rattle.dw_normal.proofs.PlainRuns.{by_end, last_bytes}
+use Rattle.dw_normal.proofs.Words.{arith}
+use Rattle.dw_normal.proofs.PlainRuns.{by_end}
 use Rattle.dw_normal.proofs.plain_program.PlainRun.end.Goals as goal
 
 pub push_row-requires : goal.push_row-requires
