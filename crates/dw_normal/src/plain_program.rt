@@ -1,12 +1,14 @@
 //! Plain programs of FDEs: the normal form of one is written while its instructions are read, and none of its rows is made.
 
-ghost use Rattle.std.specs.Prelude.{◌≡◌, ◌∷◌, ◌++◌, [], List, IfOk, IsTrue, OnOk};
+ghost use Rattle.std.specs.Prelude.{◌≡◌, ◌<◌, ◌++◌, ◌∷◌, [], List, IfOk, IsTrue, OnOk};
 ghost use Rattle.dw_cfa.specs.InstrSpells.{Program};
 ghost use Rattle.dw_cfa.specs.Rows.{Rules};
 ghost use Rattle.dw_cfa.specs.declared.instr.Instr.{Instr};
-ghost use Rattle.dw_cfa.specs.declared.instr.Instr.TheVariants.{Advance};
+ghost use Rattle.dw_cfa.specs.declared.instr.Instr.TheVariants.{Advance, DefCfa, Restore, RememberState, RestoreState, Set};
+ghost use Rattle.dw_cfa.specs.declared.rule.RegRule.TheVariants.{Offset};
 ghost use Rattle.dw_normal.specs.Inner.PlainInstruction.{IsNear, instr_of};
-ghost use Rattle.dw_normal.specs.Inner.PlainProgram.{IsPlain, Runs, bytes_left, plain_bytes};
+ghost use Rattle.dw_normal.specs.Inner.PlainProgram.{Becomes, CanRun, IsPlain, Ran, RunsIn, bytes_in, plain_bytes};
+ghost use Rattle.dw_normal.specs.Inner.PlainRows.{RowsSo};
 
 use crate::plain_instruction::{Plain, plain_at};
 use crate::plain_rows::{Cfa, PlainRows};
@@ -40,8 +42,8 @@ impl PlainRun {
         distance: u64,
         frame: Frame<'_, '_>,
     ) -> Result<bool, AllocError>
-        requires { (initial : Rules) × (rest : List Instr) × Runs frame.target frame.shared.now frame.first.now frame.last self.old initial (Advance distance ∷ rest) }
-        ensures { (initial : Rules) (rest : List Instr) → Runs frame.entry.target frame.entry.shared.now frame.entry.first.now frame.entry.last self.old initial (Advance distance ∷ rest) → IfOk result (λ on. IsTrue on → Runs frame.entry.target frame.entry.shared.now frame.entry.first.now frame.entry.last self.new initial rest × (out.new.items ++ bytes_left frame.entry.target frame.entry.shared.now frame.entry.first.now frame.entry.last self.new initial rest ≡ out.old.items ++ bytes_left frame.entry.target frame.entry.shared.now frame.entry.first.now frame.entry.last self.old initial (Advance distance ∷ rest))) }
+        requires { CanRun frame self.old (Advance distance) }
+        ensures { IfOk result (λ on. IsTrue on → Ran frame.entry (Advance distance) self.old out.old.items self.new out.new.items) }
     {
         if distance == 0 {
             return Ok(true);
@@ -55,54 +57,90 @@ impl PlainRun {
         Ok(true)
     }
 
-    // Changes the row. It says no where it is not told how.
+    // Gives the CFA another rule.
     #[inline(always)]
-    fn change(&mut self, plain: Plain, frame: Frame<'_, '_>) -> bool
-        requires near { IsNear plain }
-        requires runs { (initial : Rules) × (rest : List Instr) × Runs frame.target frame.shared.now frame.first.now frame.last self.old initial (instr_of plain ∷ rest) }
-        ensures { (initial : Rules) (rest : List Instr) → Runs frame.entry.target frame.entry.shared.now frame.entry.first.now frame.entry.last self.old initial (instr_of plain ∷ rest) → IsTrue result → Runs frame.entry.target frame.entry.shared.now frame.entry.first.now frame.entry.last self.new initial rest × (bytes_left frame.entry.target frame.entry.shared.now frame.entry.first.now frame.entry.last self.new initial rest ≡ bytes_left frame.entry.target frame.entry.shared.now frame.entry.first.now frame.entry.last self.old initial (instr_of plain ∷ rest)) }
+    fn set<'a>(&mut self, register: u16, offset: i64, first: &Row<'a>) -> bool
+        requires { RowsSo first.now self.old.rows }
+        ensures { Becomes first.now (DefCfa register offset) self.old self.new }
     {
-        let first = frame.first;
-        let cfa = self.rows.cfa;
-        match plain {
-            Plain::Nop => {}
-            Plain::Advance(_) => return false,
-            Plain::DefCfa(register, offset) => self.rows.set_cfa(Cfa { register, offset }, first),
-            Plain::DefCfaRegister(register) => {
-                let offset = cfa.offset;
-                self.rows.set_cfa(Cfa { register, offset }, first);
-            }
-            Plain::DefCfaOffset(offset) => {
-                let register = cfa.register;
-                self.rows.set_cfa(Cfa { register, offset }, first);
-            }
-            Plain::Offset(register, offset) => {
-                if self.remembered.is_some() {
-                    return false;
-                }
-                self.rows.save(register, offset, first);
-            }
-            Plain::Restore(register) => {
-                if self.remembered.is_some() {
-                    return false;
-                }
-                self.rows.bring_back(register, first);
-            }
-            Plain::RememberState => {
-                if self.remembered.is_some() {
-                    return false;
-                }
-                self.remembered = Some(cfa);
-            }
-            Plain::RestoreState => {
-                let Some(cfa) = self.remembered else {
-                    return false;
-                };
-                self.rows.set_cfa(cfa, first);
-                self.remembered = None;
-            }
-        }
+        self.rows.set_cfa(Cfa { register, offset }, first);
         true
+    }
+
+    // Gives a register an offset, unless a row is remembered.
+    #[inline(always)]
+    fn save<'a>(&mut self, register: u16, offset: i64, first: &Row<'a>) -> bool
+        requires so { RowsSo first.now self.old.rows }
+        requires near { register < 32 }
+        ensures { IsTrue result → Becomes first.now (Set register (Offset offset)) self.old self.new }
+    {
+        if self.remembered.is_some() {
+            return false;
+        }
+        self.rows.save(register, offset, first);
+        true
+    }
+
+    // Gives a register the rule that it has at the begin, unless a row is remembered.
+    #[inline(always)]
+    fn restore<'a>(&mut self, register: u16, first: &Row<'a>) -> bool
+        requires so { RowsSo first.now self.old.rows }
+        requires near { register < 32 }
+        ensures { IsTrue result → Becomes first.now (Restore register) self.old self.new }
+    {
+        if self.remembered.is_some() {
+            return false;
+        }
+        self.rows.bring_back(register, first);
+        true
+    }
+
+    // Remembers the row, unless one is.
+    #[inline(always)]
+    fn remember<'a>(&mut self, first: &Row<'a>) -> bool
+        requires { RowsSo first.now self.old.rows }
+        ensures { IsTrue result → Becomes first.now RememberState self.old self.new }
+    {
+        let _first = first;
+        if self.remembered.is_some() {
+            return false;
+        }
+        self.remembered = Some(self.rows.cfa);
+        true
+    }
+
+    // Brings the remembered row back, if there is one.
+    #[inline(always)]
+    fn recall<'a>(&mut self, first: &Row<'a>) -> bool
+        requires { RowsSo first.now self.old.rows }
+        ensures { IsTrue result → Becomes first.now RestoreState self.old self.new }
+    {
+        let Some(cfa) = self.remembered else {
+            return false;
+        };
+        self.rows.set_cfa(cfa, first);
+        self.remembered = None;
+        true
+    }
+
+    // Runs an instruction that does not move the location. It says no where it is not told how.
+    #[inline(always)]
+    fn change<'a>(&mut self, plain: Plain, first: &Row<'a>) -> bool
+        requires near { IsNear plain }
+        requires so { RowsSo first.now self.old.rows }
+        ensures { IsTrue result → Becomes first.now (instr_of plain) self.old self.new }
+    {
+        match plain {
+            Plain::Nop => true,
+            Plain::Advance(_) => false,
+            Plain::DefCfa(register, offset) => self.set(register, offset, first),
+            Plain::DefCfaRegister(register) => self.set(register, self.rows.cfa.offset, first),
+            Plain::DefCfaOffset(offset) => self.set(self.rows.cfa.register, offset, first),
+            Plain::Offset(register, offset) => self.save(register, offset, first),
+            Plain::Restore(register) => self.restore(register, first),
+            Plain::RememberState => self.remember(first),
+            Plain::RestoreState => self.recall(first),
+        }
     }
 
     // Runs an instruction, and appends the row that it ends.
@@ -114,13 +152,23 @@ impl PlainRun {
         frame: Frame<'_, '_>,
     ) -> Result<bool, AllocError>
         requires near { IsNear plain }
-        requires runs { (initial : Rules) × (rest : List Instr) × Runs frame.target frame.shared.now frame.first.now frame.last self.old initial (instr_of plain ∷ rest) }
-        ensures { (initial : Rules) (rest : List Instr) → Runs frame.entry.target frame.entry.shared.now frame.entry.first.now frame.entry.last self.old initial (instr_of plain ∷ rest) → IfOk result (λ on. IsTrue on → Runs frame.entry.target frame.entry.shared.now frame.entry.first.now frame.entry.last self.new initial rest × (out.new.items ++ bytes_left frame.entry.target frame.entry.shared.now frame.entry.first.now frame.entry.last self.new initial rest ≡ out.old.items ++ bytes_left frame.entry.target frame.entry.shared.now frame.entry.first.now frame.entry.last self.old initial (instr_of plain ∷ rest))) }
+        requires runs { CanRun frame self.old (instr_of plain) }
+        ensures { IfOk result (λ on. IsTrue on → Ran frame.entry (instr_of plain) self.old out.old.items self.new out.new.items) }
     {
         if let Plain::Advance(distance) = plain {
             return self.advance(out, distance, frame);
         }
-        Ok(self.change(plain, frame))
+        Ok(self.change(plain, frame.first))
+    }
+
+    // Appends the last row.
+    #[inline(always)]
+    fn end(&mut self, out: &mut Vec<u8>, frame: Frame<'_, '_>) -> Result<(), AllocError>
+        requires { (initial : Rules) × RunsIn frame self.old initial [] }
+        ensures { OnOk result ((initial : Rules) → RunsIn frame.entry self.old initial [] → out.new.items ≡ out.old.items ++ bytes_in frame.entry self.old initial []) }
+    {
+        self.rows
+            .push_row(out, frame.first, frame.shared, frame.target)
     }
 
     // Runs a program to its end, and appends its rows. It says no where the program is not plain.
@@ -132,8 +180,8 @@ impl PlainRun {
         factors: Factors,
         frame: Frame<'_, '_>,
     ) -> Result<bool, AllocError>
-        requires { (initial : Rules) × (instrs : List Instr) × Program frame.target factors instrs program.now × Runs frame.target frame.shared.now frame.first.now frame.last self.old initial instrs }
-        ensures { (initial : Rules) (instrs : List Instr) → Program frame.entry.target factors instrs program.now → Runs frame.entry.target frame.entry.shared.now frame.entry.first.now frame.entry.last self.old initial instrs → IfOk result (λ plain. IsTrue plain → out.new.items ≡ out.old.items ++ bytes_left frame.entry.target frame.entry.shared.now frame.entry.first.now frame.entry.last self.old initial instrs) }
+        requires { (initial : Rules) × (instrs : List Instr) × Program frame.target factors instrs program.now × RunsIn frame self.old initial instrs }
+        ensures { (initial : Rules) (instrs : List Instr) → Program frame.entry.target factors instrs program.now → RunsIn frame.entry self.old initial instrs → IfOk result (λ plain. IsTrue plain → out.new.items ≡ out.old.items ++ bytes_in frame.entry self.old initial instrs) }
     {
         let mut left = program;
         'instrs: while !left.is_empty() {
@@ -145,8 +193,7 @@ impl PlainRun {
             }
             left = &left[count..];
         }
-        self.rows
-            .push_row(out, frame.first, frame.shared, frame.target)?;
+        self.end(out, frame)?;
         Ok(true)
     }
 }

@@ -1,5 +1,5 @@
 -- How a plain program is written in the normal form while it is read.
-use Rattle.std.specs.Prelude.{◌≡◌, ℕ, suc, ◌<◌, ◌≤◌, List, [], ◌∷◌, Option, Some, None, if◌then◌else◌}
+use Rattle.std.specs.Prelude.{◌≡◌, ℕ, suc, ◌<◌, ◌≤◌, false, List, [], ◌∷◌, ◌++◌, Option, Some, None, if◌then◌else◌}
 use Rattle.dw_num.specs.declared.target.Target.{Target}
 use Rattle.dw_num.specs.Target.{address_limit}
 use Rattle.dw_cfa.specs.InstrSpells.{Program}
@@ -16,6 +16,7 @@ use Rattle.dw_section.specs.Inner.Changes.{changes_among}
 use Rattle.dw_canon.specs.Inner.Difference.{later_changes}
 use Rattle.dw_canon.specs.Inner.Fits.{ChangesStand}
 use Rattle.dw_canon.specs.Inner.Spelling.{program_bytes}
+use Rattle.dw_normal.specs.declared.plain_program.Frame.{Frame}
 use Rattle.dw_normal.specs.declared.plain_program.PlainRun.{PlainRun}
 use Rattle.dw_normal.specs.declared.plain_rows.Cfa.{Cfa}
 use Rattle.dw_normal.specs.Inner.PlainRows.{RowsSo, cfa_of, own_row, written_row}
@@ -67,3 +68,36 @@ pub record Runs (t : Target) (shared first : Rules) (last : ℕ) (run : PlainRun
   pub in_space : last < address_limit t.size
   pub fits : RowFits t (written_row first run.rows)
   pub stand : ChangesStand t shared (address_limit t.size) run.rows.at (written_row first run.rows) (changes_left first last run initial instrs)
+
+-- ---- in a frame
+
+abbrev pub RunsIn : Frame → PlainRun → Rules → List Instr → Type 0
+RunsIn frame = Runs frame.target frame.shared.now frame.first.now frame.last
+
+abbrev pub bytes_in : Frame → PlainRun → Rules → List Instr → List ℕ
+bytes_in frame = bytes_left frame.target frame.shared.now frame.first.now frame.last
+
+-- the instruction comes next
+abbrev pub CanRun : Frame → PlainRun → Instr → Type 0
+CanRun frame run i = (initial : Rules) × (rest : List Instr) × RunsIn frame run initial (i ∷ rest)
+
+-- it was run, whatever comes behind it, and what was appended is to be written no more
+abbrev pub Ran : Frame → Instr → PlainRun → List ℕ → PlainRun → List ℕ → Type 0
+Ran frame i old done new made =
+    (initial : Rules) (rest : List Instr) → RunsIn frame old initial (i ∷ rest)
+    → RunsIn frame new initial rest × (made ++ bytes_in frame new initial rest ≡ done ++ bytes_in frame old initial (i ∷ rest))
+
+-- the state after an instruction that does not move the location
+pub record Becomes (first : Rules) (i : Instr) (old new : PlainRun) : Type 0 where
+  pub so : RowsSo first new.rows
+  pub stays : moves_location i ≡ false
+  pub state : state_of first new ≡ after first i (state_of first old)
+  pub written : written_row first new.rows ≡ written_row first old.rows
+  pub at : new.rows.at ≡ old.rows.at
+
+-- the instructions that are left, which make the whole with what was appended so far
+pub record Left (frame : Frame) (f : Factors) (initial : Rules) (whole : List ℕ) (run : PlainRun) (left made : List ℕ) : Type 0 where
+  pub rest : List Instr
+  pub spelled : Program frame.target f rest left
+  pub runs : RunsIn frame run initial rest
+  pub written : made ++ bytes_in frame run initial rest ≡ whole
