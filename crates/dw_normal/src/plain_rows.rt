@@ -1,7 +1,7 @@
 //! The current row of a plain program beside the one that was written last (6.4.1). Both are told by the row at the FDE's begin, the
 //! rule of the CFA, and the offsets of registers below 32, so a row is written by what was set since.
 
-ghost use Rattle.std.specs.Prelude.{◌≡◌, ◌↔◌, ◌<◌, ⊥, ◌∷◌, ◌++◌, false, Some, IfSome, IsTrue, OnOk, ℤ};
+ghost use Rattle.std.specs.Prelude.{◌≡◌, ◌↔◌, ◌<◌, ◌∷◌, ◌++◌, false, Some, IfSome, IsTrue, OnOk, ℤ};
 ghost use Rattle.std.specs.List.{AllByRecursion};
 ghost use Rattle.dw_num.specs.Target.{address_limit};
 ghost use Rattle.dw_cfa.specs.Difference.{FirstDifference};
@@ -214,6 +214,18 @@ impl PlainRows {
         self.high = 0;
     }
 
+    // Whether the current row is the one that was written last.
+    #[inline(always)]
+    fn is_written<'a>(&self, first: &Row<'a>) -> bool
+        requires { RowsSo first.now self.now }
+        ensures { result ≡ same_rows (written_row first.now self.now) (own_row first.now self.now) }
+    {
+        if !is_same(self.written_cfa, self.cfa) {
+            return false;
+        }
+        self.next_register(0, first).is_none()
+    }
+
     // Appends what leads to the current row, which is not the one that was written last.
     #[inline(always)]
     fn push_other<'a>(
@@ -255,7 +267,7 @@ impl PlainRows {
         ensures appends { OnOk result (out.new.items ≡ out.old.items ++ program_bytes target (row_instrs shared.now first.now self.old)) }
         ensures written { OnOk result (IsWritten first.now self.old self.new) }
     {
-        if is_same(self.cfa, self.written_cfa) && self.next_register(0, first).is_none() {
+        if self.is_written(first) {
             return Ok(());
         }
         self.push_other(out, first, shared, target)?;
