@@ -21,3 +21,4 @@ mod Sited
 mod Entries
 mod Located
 mod SavedRules
+mod SavedDifferences
