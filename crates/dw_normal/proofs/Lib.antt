@@ -21,3 +21,5 @@ mod Sited
 mod Entries
 mod Located
 mod PlainRuns
+mod SavedRules
+mod SavedDifferences
