@@ -20,3 +20,4 @@ mod Filled
 mod Sited
 mod Entries
 mod Located
+mod PlainReads
