@@ -246,13 +246,14 @@ module _ (f : Factors) (order : Order) (bytes : List ℕ) where
     spells = λ t o. (fixed_number order 2 (get_or bytes 1 0 ∷ get_or bytes 2 0 ∷ []), ap instr.Advance is, rw o (two_bytes_fixed order (get_or bytes 1 0) (get_or bytes 2 0) byte other));
   }) tt
 
-  pub offset_reads : (r x n : ℕ) (z : ℤ) → 1 ≤ length bytes → 0x80 ≤ get_or bytes 0 0 → get_or bytes 0 0 < 0xa0 → UlebFirst (drop 1 bytes) (x, n) → r ≡ get_or bytes 0 0 - 0x80 → z ≡ pos x *ℤ f.data_factor → Reads f order bytes (Offset r z, 1 + n)
+  pub offset_reads : (r : ℕ) (z : ℤ) → 2 ≤ length bytes → 0x80 ≤ get_or bytes 0 0 → get_or bytes 0 0 < 0xa0 → get_or bytes 1 0 < 128 → r ≡ get_or bytes 0 0 - 0x80 → z ≡ pos (get_or bytes 1 0) *ℤ f.data_factor
+      → Reads f order bytes (Offset r z, 2)
   unfolding form_for
-  offset_reads r x n z len from to u same is = let c = get_or bytes 0 0 in reads f order bytes (Offset r z) n (fits_behind bytes n len u.0) (record {
+  offset_reads r z len from to small same is = let c = get_or bytes 0 0 in reads_1 f order bytes (Offset r z) len (record {
     form = one unsigned (λ k. offset_rule f rules.Offset (c - 0x80) (pos k));
     known = rw (above 0x40 0x80 c (omega arith) (omega arith), within 0x80 0xc0 c from (omega arith)) refl;
     short = tt;
-    spells = λ t o. (x, ap (λ (k : ℤ). instr.Set r (rules.Offset k)) is ∙ ap (λ (q : ℕ). instr.Set q (rules.Offset (pos x *ℤ f.data_factor))) same, u.1);
+    spells = λ t o. (get_or bytes 1 0, cc, one_byte_uleb (get_or bytes 1 0) small);
   }) (omega arith)
 
   pub def_cfa_reads : (r : ℕ) (z : ℤ) → 3 ≤ length bytes → get_or bytes 0 0 ≡ 0x0c → get_or bytes 1 0 < 128 → get_or bytes 2 0 < 128 → r ≡ get_or bytes 1 0 → z ≡ pos (get_or bytes 2 0) → Reads f order bytes (DefCfa r z, 3)

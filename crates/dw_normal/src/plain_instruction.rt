@@ -154,12 +154,14 @@ fn offset(bytes: &[u8], factors: Factors) -> Option<(Plain, usize)>
     requires { (0x80 ≤ get_or bytes.now 0 0) × (get_or bytes.now 0 0 < 0xa0) }
     ensures { (order : TheOrder) → IfSome result (λ x. Reads factors order bytes.now x) }
 {
-    let [code, ..] = bytes else {
+    let [code, operand, ..] = bytes else {
         return None;
     };
-    let (operand, count) = short_number(&bytes[1..])?;
-    let offset = factored(i64::from(operand), factors)?;
-    Some((Plain::Offset(u16::from(*code - OFFSET), offset), 1 + count))
+    if *operand >= 0x80 {
+        return None;
+    }
+    let offset = factored(i64::from(*operand), factors)?;
+    Some((Plain::Offset(u16::from(*code - OFFSET), offset), 2))
 }
 
 // `DW_CFA_restore`, whose register is in its code.
