@@ -23,3 +23,4 @@ mod Located
 mod PlainRuns
 mod SavedRules
 mod SavedDifferences
+mod PlainReads
