@@ -22,3 +22,6 @@ mod Entries
 mod Located
 mod PlainMembers
 mod PlainRuns
+mod SavedRules
+mod SavedDifferences
+mod PlainReads

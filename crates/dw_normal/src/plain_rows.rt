@@ -1,7 +1,7 @@
 //! The current row of a plain program beside the one that was written last (6.4.1). Both are told by the row at the FDE's begin, the
 //! rule of the CFA, and the offsets of registers below 32, so a row is written by what was set since.
 
-ghost use Rattle.std.specs.Prelude.{◌≡◌, ◌↔◌, ◌<◌, ◌∷◌, ◌++◌, false, Some, IfSome, IsTrue, OnOk, ℤ};
+ghost use Rattle.std.specs.Prelude.{◌≡◌, ◌↔◌, ◌<◌, ◌∷◌, ◌++◌, false, length, Some, IfSome, IsTrue, OnOk, ℤ};
 ghost use Rattle.std.specs.List.{AllByRecursion};
 ghost use Rattle.dw_num.specs.Target.{address_limit};
 ghost use Rattle.dw_cfa.specs.Difference.{FirstDifference};
@@ -13,7 +13,7 @@ ghost use Rattle.dw_canon.specs.Difference.{move};
 ghost use Rattle.dw_canon.specs.Inner.Difference.{difference, rule_to};
 ghost use Rattle.dw_canon.specs.Inner.Fits.{InstrFits};
 ghost use Rattle.dw_canon.specs.Inner.Spelling.{instr_bytes, program_bytes};
-ghost use Rattle.dw_normal.specs.Inner.PlainRows.{IsChanged, IsWritten, RowsSo, cfa_of, own_row, row_instrs, rule_with, written_row};
+ghost use Rattle.dw_normal.specs.Inner.PlainRows.{IsChanged, IsWritten, RowsSo, cfa_of, own_row, row_instrs, rule_with, saved_at, written_row};
 ghost use Rattle.dw_normal.specs.Inner.RegisterWalk.{rules_from};
 
 use crate::instruction::{push_offset, push_packed};
@@ -60,6 +60,25 @@ fn is_same(cfa: Cfa, other: Cfa) -> bool
     ensures { IsTrue result ↔ (cfa ≡ other) }
 {
     cfa.register == other.register && cfa.offset == other.offset
+}
+
+// Appends what saves a register at an offset from the CFA: `Restore` where that is its initial rule.
+#[inline(always)]
+#[tactic(auto, unfolding(dw_canon::specs::Spelling::instr_bytes))]
+fn push_saved<'a>(
+    out: &mut Vec<u8>,
+    shared: &Row<'a>,
+    register: u16,
+    offset: i64,
+    target: Target,
+) -> Result<(), AllocError>
+    requires { InstrFits target (rule_to shared.now register (Offset offset)) }
+    ensures { OnOk result (out.new.items ≡ out.old.items ++ instr_bytes target (rule_to shared.now register (Offset offset))) }
+{
+    if shared.offset_of(register) == Some(offset) {
+        return push_packed(out, RESTORE, RESTORE_EXTENDED, register);
+    }
+    push_offset(out, register, offset)
 }
 
 impl PlainRows {
@@ -152,9 +171,18 @@ impl PlainRows {
         None
     }
 
+    // The offset of a register below 32 in the current row.
+    #[inline(always)]
+    fn offset_at(&self, register: u16) -> Option<i64>
+        requires length { length self.now.saved ≡ 32 }
+        requires near { register < 32 }
+        ensures { result ≡ saved_at self.now.saved register }
+    {
+        self.saved[usize::from(register)]
+    }
+
     // Appends what gives a register the rule of the current row.
     #[inline(always)]
-    #[tactic(auto, unfolding(dw_canon::specs::Spelling::instr_bytes))]
     fn push_register<'a>(
         &self,
         out: &mut Vec<u8>,
@@ -168,13 +196,10 @@ impl PlainRows {
         requires fits { InstrFits target (rule_to shared.now register (rule (own_row first.now self.now) register)) }
         ensures { OnOk result (out.new.items ≡ out.old.items ++ instr_bytes target (rule_to shared.now register (rule (own_row first.now self.now) register))) }
     {
-        let Some(offset) = self.saved[usize::from(register)] else {
-            return push_register(out, shared, first, register, target);
-        };
-        if shared.offset_of(register) == Some(offset) {
-            return push_packed(out, RESTORE, RESTORE_EXTENDED, register);
+        match self.offset_at(register) {
+            Some(offset) => push_saved(out, shared, register, offset, target),
+            None => push_register(out, shared, first, register, target),
         }
-        push_offset(out, register, offset)
     }
 
     // Appends what gives each register whose rule differs its rule of the current row.
@@ -207,11 +232,26 @@ impl PlainRows {
         ensures same { (self.new.start ≡ self.old.start) × (self.new.at ≡ self.old.at) }
     {
         let _first = first;
-        let (low, high) = (self.low.min(self.high), self.high);
-        self.written[low..high].copy_from_slice(&self.saved[low..high]);
+        let mut register = self.low;
+        'registers: while register < self.high {
+            self.written[register] = self.saved[register];
+            register += 1;
+        }
         self.written_cfa = self.cfa;
         self.low = 32;
         self.high = 0;
+    }
+
+    // Whether the current row is the one that was written last.
+    #[inline(always)]
+    fn is_written<'a>(&self, first: &Row<'a>) -> bool
+        requires { RowsSo first.now self.now }
+        ensures { result ≡ same_rows (written_row first.now self.now) (own_row first.now self.now) }
+    {
+        if !is_same(self.written_cfa, self.cfa) {
+            return false;
+        }
+        self.next_register(0, first).is_none()
     }
 
     // Appends what leads to the current row, which is not the one that was written last.
@@ -255,7 +295,7 @@ impl PlainRows {
         ensures appends { OnOk result (out.new.items ≡ out.old.items ++ program_bytes target (row_instrs shared.now first.now self.old)) }
         ensures written { OnOk result (IsWritten first.now self.old self.new) }
     {
-        if is_same(self.cfa, self.written_cfa) && self.next_register(0, first).is_none() {
+        if self.is_written(first) {
             return Ok(());
         }
         self.push_other(out, first, shared, target)?;

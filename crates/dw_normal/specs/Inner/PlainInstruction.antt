@@ -1,5 +1,6 @@
 -- Plain instructions.
-use Rattle.std.specs.Prelude.{◌≡◌, ℕ, ◌<◌, List, ◌∷◌, drop}
+use Rattle.std.specs.Prelude.{◌≡◌, ℕ, ℤ, ◌<◌, ◌≤◌, List, ◌∷◌, drop, length, take}
+use Rattle.dw_num.specs.Leb.{Sleb, Uleb}
 use Rattle.dw_num.specs.declared.target.Order.{Order}
 use Rattle.dw_num.specs.declared.target.Target.{Target}
 use Rattle.dw_cfa.specs.InstrSpells.{Program}
@@ -36,3 +37,16 @@ pub record FirstOf (t : Target) (f : Factors) (p : Plain) (count : ℕ) (bytes :
 
 abbrev pub StandsFirst : Factors → Order → Plain → ℕ → List ℕ → Type 0
 StandsFirst f order p count bytes = (t : Target) (instrs : List Instr) → t.order ≡ order → Program t f instrs bytes → FirstOf t f p count bytes instrs
+
+-- what is told of the bytes of a program: an instruction, and how many bytes it has
+pub record Reads (f : Factors) (order : Order) (bytes : List ℕ) (x : Plain × ℕ) : Type 0 where
+  pub count : (0 < x.1) × (x.1 ≤ length bytes)
+  pub near : IsNear x.0
+  pub first : StandsFirst f order x.0 x.1 bytes
+
+-- the first so many bytes spell the number
+abbrev pub UlebFirst : List ℕ → ℕ × ℕ → Type 0
+UlebFirst bytes x = (x.1 ≤ length bytes) × Uleb x.0 (take x.1 bytes)
+
+abbrev pub SlebFirst : List ℕ → ℤ × ℕ → Type 0
+SlebFirst bytes x = (x.1 ≤ length bytes) × Sleb x.0 (take x.1 bytes)

@@ -1,5 +1,5 @@
 -- The rows of a plain program, told by what was set.
-use Rattle.std.specs.Prelude.{◌≡◌, ◌⊎◌, ℕ, zero, suc, ◌<◌, ◌≤◌, List, [], ◌∷◌, length, Option, Some, None, if◌then◌else◌, ℤ}
+use Rattle.std.specs.Prelude.{◌≡◌, ◌⊎◌, ℕ, suc, ◌<◌, ◌≤◌, List, [], ◌∷◌, get_or, length, Option, Some, None, if◌then◌else◌, ℤ}
 use Rattle.dw_cfa.specs.declared.instr.Instr.{Instr}
 use Rattle.dw_cfa.specs.declared.rule.CfaRule.{CfaRule}
 use Rattle.dw_cfa.specs.declared.rule.CfaRule.TheVariants as cfa
@@ -34,9 +34,7 @@ written_row first rows = row_with first rows.written_cfa rows.written
 
 -- the offset of a register
 abbrev pub saved_at : List (Option ℤ) → ℕ → Option ℤ
-saved_at [] r = None
-saved_at (x ∷ offsets) zero = x
-saved_at (x ∷ offsets) (suc r) = saved_at offsets r
+saved_at offsets r = get_or offsets r None
 
 -- the rule of a register where it has this offset, or else that of the begin
 abbrev pub rule_with : Rules → ℕ → Option ℤ → RegRule

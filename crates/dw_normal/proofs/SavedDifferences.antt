@@ -1,0 +1,143 @@
+-- Two rows that are told by offsets, beside each other: the first register whose rule differs, and whether any does.
+use Rattle.dw_normal.proofs.Words.{◌≡◌, ◌⊎◌, ℕ, zero, suc, ◌<◌, ◌≤◌, Bool, true, false, List, [], ◌∷◌, Option, Some, None, refl, sym, ap, ◌∙◌, inl, inr, arith, cases_Bool, cases_lt, length, AreSpecified, Rules, rule, FirstDifference, DiffersFirst, differs_of, rule_to, same_rule, subst, test_of}
+use Rattle.std.specs.Prelude.{ℤ, MatchOption, replicate, is_some, not}
+use Rattle.std.specs.Option.{option_eq}
+use Rattle.std.specs.Ordering.{int_eq}
+use Rattle.std.proofs.lemmas.Bool.Decides.{Decides-int_eq}
+use Rattle.dw_cfa.proofs.Lent.SameRows.{same_rows as rows_same}
+use Rattle.dw_cfa.specs.Inner.RowEquality.{rows_tell, same_rows}
+use Rattle.dw_cfa.specs.declared.instr.Instr.TheVariants.{Restore, Set}
+use Rattle.dw_cfa.specs.declared.rule.RegRule.TheVariants.{Offset}
+use Rattle.dw_normal.specs.declared.plain_rows.Cfa.{Cfa}
+use Rattle.dw_normal.specs.declared.plain_rows.PlainRows.{PlainRows}
+use Rattle.dw_normal.specs.Inner.PlainRows.{IsWritten, OnlyOther, RowsSo, cfa_of, own_row, row_with, rule_with, saved_at, written_row}
+use Rattle.dw_normal.proofs.SavedRules.{one_told, row_keeps, row_rule, told_apart}
+
+-- ---- at the begin
+
+none_saved : (count r : ℕ) → saved_at (replicate count None) r ≡ None
+none_saved zero r = refl
+none_saved (suc count) zero = refl
+none_saved (suc count) (suc r) = none_saved count r
+
+none_other : (first : Rules) (count : ℕ) → OnlyOther first (replicate count None)
+none_other first count = λ r n is at. let none = none_saved count r in absurd cc
+
+pub first_so : (first : Rules) (c : Cfa) (begin : ℕ) → AreSpecified 0 first.registers
+    → RowsSo first (record { start = begin; at = begin; cfa = c; written_cfa = c; saved = replicate 32 None; written = replicate 32 None; low = 32; high = 0 })
+first_so first c begin up = record {
+  saved = refl;
+  written = refl;
+  saved_other = none_other first 32;
+  written_other = none_other first 32;
+  listed = up;
+  high = omega arith;
+  outside = λ r apart. refl;
+}
+
+-- ---- tests of offsets
+
+offset_self : (a : Option ℤ) → option_eq int_eq a a ≡ true
+offset_self None = refl
+offset_self (Some n) = (Decides-int_eq n n).1 refl
+
+pub other_offsets : (a b : Option ℤ) → true ≡ not (option_eq int_eq a b) → a ≡ b → ⊥
+other_offsets a b other same = let wrong : true ≡ false = other ∙ ap not (subst (λ (x : Option ℤ). option_eq int_eq a x ≡ true) same (offset_self a)) in absurd cc
+
+offset_is : (shared : Rules) (r : ℕ) (n m : ℤ) → rule shared r ≡ Offset m → Offset n ≡ rule shared r → m ≡ n
+offset_is shared r n m is same = let both = same ∙ is in cc
+
+pub same_offset : (shared : Rules) (r : ℕ) (n : ℤ) (found : Option ℤ) → MatchOption found ((m : ℤ) → rule shared r ≡ Offset m → ⊥) (λ m. rule shared r ≡ Offset m) → option_eq int_eq found (Some n) ≡ same_rule (Offset n) (rule shared r)
+same_offset shared r n None none = sym (differs_of (Offset n) (rule shared r) (λ same. none n (sym same)))
+same_offset shared r n (Some m) is =
+    test_of (Offset n) (rule shared r) (int_eq m n) (λ e. ap (λ (x : ℤ). Offset x) (sym ((Decides-int_eq m n).0 e)) ∙ sym is, λ same. (Decides-int_eq m n).1 (offset_is shared r n m is same))
+
+-- what saves a register
+pub given_back : (shared : Rules) (r : ℕ) (n : ℤ) → same_rule (Offset n) (rule shared r) ≡ true → rule_to shared r (Offset n) ≡ Restore r
+given_back shared r n same = rw same refl
+
+pub given_anew : (shared : Rules) (r : ℕ) (n : ℤ) → same_rule (Offset n) (rule shared r) ≡ false → rule_to shared r (Offset n) ≡ Set r (Offset n)
+given_anew shared r n other = rw other refl
+
+-- ---- the first register with another rule
+
+-- from one place on, below another one, registers have the same offset or none
+abbrev pub SameUpTo : PlainRows → ℕ → ℕ → Type 0
+SameUpTo rows place end = (r : ℕ) → place ≤ r → r < end → saved_at rows.saved r ≡ saved_at rows.written r
+
+cfa_one : (c d : Cfa) → cfa_of c ≡ cfa_of d → c ≡ d
+cfa_one c d e =
+    let register : c.register ≡ d.register = cc in let offset : c.offset ≡ d.offset = cc in
+    ap (λ (r : ℕ). let x : Cfa = record { register = r; offset = c.offset } in x) register ∙ ap (λ (n : ℤ). let x : Cfa = record { register = d.register; offset = n } in x) offset
+
+module _ (first : Rules) (rows : PlainRows) (so : RowsSo first rows) where
+  own_rule : (r : ℕ) → rule (own_row first rows) r ≡ rule_with first r (saved_at rows.saved r)
+  own_rule r = row_rule first rows.cfa rows.saved r so.listed
+
+  written_rule : (r : ℕ) → rule (written_row first rows) r ≡ rule_with first r (saved_at rows.written r)
+  written_rule r = row_rule first rows.written_cfa rows.written r so.listed
+
+  pub rule_none : (r : ℕ) → saved_at rows.saved r ≡ None → rule (own_row first rows) r ≡ rule first r
+  rule_none r none = own_rule r ∙ ap (rule_with first r) none
+
+  pub rule_some : (r : ℕ) (n : ℤ) → saved_at rows.saved r ≡ Some n → rule (own_row first rows) r ≡ Offset n
+  rule_some r n is = own_rule r ∙ ap (rule_with first r) is
+
+  pub own_keeps : AreSpecified 0 (own_row first rows).registers
+  own_keeps = row_keeps first rows.cfa rows.saved so.listed
+
+  pub written_keeps : AreSpecified 0 (written_row first rows).registers
+  written_keeps = row_keeps first rows.written_cfa rows.written so.listed
+
+  same_rule_at : (r : ℕ) → saved_at rows.saved r ≡ saved_at rows.written r → rule (written_row first rows) r ≡ rule (own_row first rows) r
+  same_rule_at r same = written_rule r ∙ ap (rule_with first r) (sym same) ∙ sym (own_rule r)
+
+  pub starts : (place : ℕ) → SameUpTo rows place rows.low
+  starts place = λ r ge lt. so.outside r (inl lt)
+
+  pub found_first : (place q : ℕ) → place ≤ q → SameUpTo rows place q → (saved_at rows.saved q ≡ saved_at rows.written q → ⊥) → DiffersFirst place (written_row first rows).registers (own_row first rows).registers q
+  found_first place q le same differ = (
+    le,
+    λ r ge lt. same_rule_at r (same r ge lt),
+    λ e. differ (told_apart first q (saved_at rows.saved q) (saved_at rows.written q) (so.saved_other q) (so.written_other q) (sym (own_rule q) ∙ sym e ∙ written_rule q)),
+  )
+
+  pub none_found : (place end : ℕ) → SameUpTo rows place end → rows.high ≤ end → FirstDifference place (written_row first rows).registers (own_row first rows).registers None
+  none_found place end same le = λ r ge. same_rule_at r (elim (cases_lt r end) [
+    | inl lt ↦ same r ge lt
+    | inr past ↦ so.outside r (inr (omega arith))
+  ])
+
+  -- ---- whether they are one
+
+  apart : (written_row first rows ≡ own_row first rows → ⊥) → false ≡ same_rows (written_row first rows) (own_row first rows)
+  apart not = elim (cases_Bool (same_rows (written_row first rows) (own_row first rows))) [
+    | inl e ↦ absurd (not ((rows_tell (written_row first rows) (own_row first rows)).0 e))
+    | inr e ↦ sym e
+  ]
+
+  pub other_cfa : (rows.written_cfa ≡ rows.cfa → ⊥) → false ≡ same_rows (written_row first rows) (own_row first rows)
+  other_cfa not = apart (λ e. not (cfa_one rows.written_cfa rows.cfa (ap (λ (row : Rules). row.cfa) e)))
+
+  pub stays_written : same_rows (written_row first rows) (own_row first rows) ≡ true → IsWritten first rows rows
+  stays_written same = record { so = so; own = refl; written = (rows_tell (written_row first rows) (own_row first rows)).0 same; at = rw same refl; start = refl }
+
+  pub by_registers : (found : Option ℕ) (none : Bool) → is_some found ≡ not none → rows.written_cfa ≡ rows.cfa → FirstDifference 0 (written_row first rows).registers (own_row first rows).registers found
+      → none ≡ same_rows (written_row first rows) (own_row first rows)
+  by_registers None true t cfa d =
+      sym ((rows_tell (written_row first rows) (own_row first rows)).1 (rows_same (written_row first rows) (own_row first rows) written_keeps own_keeps (ap cfa_of cfa) (λ r. d r (omega arith))))
+  by_registers (Some q) false t cfa d = apart (λ e. d.2 (ap (λ (row : Rules). rule row q) e))
+  by_registers found none t cfa d = absurd cc
+
+-- ---- the one is taken for the other
+
+-- up to a register, and the rest as it was
+pub record Noted (first : Rules) (old new : PlainRows) (register : ℕ) : Type 0 where
+  pub so : RowsSo first (record { start = new.start; at = new.at; cfa = new.cfa; written_cfa = new.written_cfa; saved = new.saved; written = new.written; low = register; high = new.high })
+  pub own : own_row first new ≡ own_row first old
+  pub start : new.start ≡ old.start
+  pub at : new.at ≡ old.at
+
+pub note_ends : {first : Rules} {old new : PlainRows} {register : ℕ} → Noted first old new register → new.high ≤ register → row_with first new.cfa new.written ≡ own_row first old
+note_ends {first} {old} {new} {register} h le =
+    one_told first new.cfa new.written new.saved h.so.listed (λ r. sym (h.so.outside r (elim (cases_lt r register) [ inl lt ↦ inl lt | inr ge ↦ inr (omega arith) ]))) ∙ h.own

@@ -1,0 +1,11 @@
+use Rattle.dw_normal.proofs.Words.{take_rest}
+use Rattle.std.specs.Int.{w64}
+use Rattle.std.proofs.Common.{rules}
+use Rattle.std.proofs.lemmas.Int.{to_z-of_z}
+use Rattle.dw_normal.proofs.PlainReads.{def_cfa_offset_reads}
+use Rattle.dw_normal.proofs.plain_instruction.def_cfa_offset.Goals as goal
+
+pub returns : goal.returns
+returns c = λ f order.
+    rw (to_z-of_z w64 c.from.result (search rules))
+    (def_cfa_offset_reads f order c.args.bytes.now c.in_ok-offset.offset c.in_ok-offset.count c.from.result c.requires.0 c.requires.1 (rw (take_rest c.args.bytes.now 1) at c.in_ok-offset.ensures) c.from.ensures)
