@@ -84,7 +84,7 @@ set_told first c offsets place o up lt =
     same_rows (row_with first c new) (with_rule place (rule_with first place o) old) (row_keeps first c new up)
     (put_keeps place (rule_with first place o) 0 old.registers (row_keeps first c offsets up) (omega arith)) refl
     (λ r. row_rule first c new r up ∙ ap (rule_with first r) (saved_set offsets place o r lt) ∙ at_one first place r o (saved_at offsets r) (rule old r) (row_rule first c offsets r up)
-      ∙ sym (put_rule place (rule_with first place o) 0 old.registers r (row_keeps first c offsets up)))
+    ∙ sym (put_rule place (rule_with first place o) 0 old.registers r (row_keeps first c offsets up)))
 
 -- an offset more that is not that of the begin
 pub set_other : (first : Rules) (offsets : List (Option ℤ)) (place : ℕ) (o : Option ℤ) → place < length offsets → OnlyOther first offsets → ((n : ℤ) → o ≡ Some n → rule first place ≡ Offset n → ⊥) → OnlyOther first (set offsets place o)
