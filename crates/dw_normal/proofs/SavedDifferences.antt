@@ -1,12 +1,14 @@
 -- Two rows that are told by offsets, beside each other: the first register whose rule differs, and whether any does.
-use Rattle.dw_normal.proofs.Words.{◌≡◌, ◌⊎◌, ℕ, zero, suc, ◌<◌, ◌≤◌, Bool, true, false, List, [], ◌∷◌, Option, Some, None, refl, sym, ap, ◌∙◌, inl, inr, arith, cases_Bool, cases_lt, length, AreSpecified, Rules, rule, FirstDifference, DiffersFirst, differs_of, rule_to, same_rule, subst, test_of}
+use Rattle.dw_normal.proofs.Words.{◌≡◌, ℕ, zero, suc, ◌<◌, ◌≤◌, Bool, true, false, Option, Some, None, refl, sym, ap, ◌∙◌, inl, inr, arith, cases_Bool, cases_lt, AreSpecified, Rules, rule, FirstDifference, DiffersFirst, differs_of, same_rule, subst, test_of}
 use Rattle.std.specs.Prelude.{ℤ, MatchOption, replicate, is_some, not}
 use Rattle.std.specs.Option.{option_eq}
 use Rattle.std.specs.Ordering.{int_eq}
+use Rattle.std.proofs.Common.{of_z, to_z, w64}
+use Rattle.std.proofs.lemmas.Int.{to_z-of_z}
+use mir.Val.{SFits}
 use Rattle.std.proofs.lemmas.Bool.Decides.{Decides-int_eq}
 use Rattle.dw_cfa.proofs.Lent.SameRows.{same_rows as rows_same}
 use Rattle.dw_cfa.specs.Inner.RowEquality.{rows_tell, same_rows}
-use Rattle.dw_cfa.specs.declared.instr.Instr.TheVariants.{Restore, Set}
 use Rattle.dw_cfa.specs.declared.rule.RegRule.TheVariants.{Offset}
 use Rattle.dw_normal.specs.declared.plain_rows.Cfa.{Cfa}
 use Rattle.dw_normal.specs.declared.plain_rows.PlainRows.{PlainRows}
@@ -47,17 +49,15 @@ other_offsets a b other same = let wrong : true ≡ false = other ∙ ap not (su
 offset_is : (shared : Rules) (r : ℕ) (n m : ℤ) → rule shared r ≡ Offset m → Offset n ≡ rule shared r → m ≡ n
 offset_is shared r n m is same = let both = same ∙ is in cc
 
-pub same_offset : (shared : Rules) (r : ℕ) (n : ℤ) (found : Option ℤ) → MatchOption found ((m : ℤ) → rule shared r ≡ Offset m → ⊥) (λ m. rule shared r ≡ Offset m) → option_eq int_eq found (Some n) ≡ same_rule (Offset n) (rule shared r)
+same_offset : (shared : Rules) (r : ℕ) (n : ℤ) (found : Option ℤ) → MatchOption found ((m : ℤ) → rule shared r ≡ Offset m → ⊥) (λ m. rule shared r ≡ Offset m) → option_eq int_eq found (Some n) ≡ same_rule (Offset n) (rule shared r)
 same_offset shared r n None none = sym (differs_of (Offset n) (rule shared r) (λ same. none n (sym same)))
 same_offset shared r n (Some m) is =
     test_of (Offset n) (rule shared r) (int_eq m n) (λ e. ap (λ (x : ℤ). Offset x) (sym ((Decides-int_eq m n).0 e)) ∙ sym is, λ same. (Decides-int_eq m n).1 (offset_is shared r n m is same))
 
--- what saves a register
-pub given_back : (shared : Rules) (r : ℕ) (n : ℤ) → same_rule (Offset n) (rule shared r) ≡ true → rule_to shared r (Offset n) ≡ Restore r
-given_back shared r n same = rw same refl
-
-pub given_anew : (shared : Rules) (r : ℕ) (n : ℤ) → same_rule (Offset n) (rule shared r) ≡ false → rule_to shared r (Offset n) ≡ Set r (Offset n)
-given_anew shared r n other = rw other refl
+-- whether a register is saved there
+pub saved_there : (shared : Rules) (r : ℕ) (n : ℤ) (found : Option ℤ) (t : Bool) → SFits w64 n → MatchOption found ((m : ℤ) → rule shared r ≡ Offset m → ⊥) (λ m. rule shared r ≡ Offset m)
+    → t ≡ option_eq int_eq found (Some (to_z w64 (of_z w64 n))) → same_rule (Offset n) (rule shared r) ≡ t
+saved_there shared r n found t fits is test = sym (same_offset shared r n found is) ∙ sym (rw (to_z-of_z w64 n fits) at test)
 
 -- ---- the first register with another rule
 

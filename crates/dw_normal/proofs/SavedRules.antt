@@ -1,11 +1,11 @@
 -- Rows that are told by offsets of their first registers: the rule of each register, and which of them are the same.
-use Rattle.dw_normal.proofs.Words.{◌≡◌, ◌⊎◌, ℕ, zero, suc, ◌+◌, ◌<◌, ◌≤◌, List, [], ◌∷◌, Option, Some, None, refl, sym, ap, ◌∙◌, inl, inr, arith, cases_Bool, nat_eq, get_or, length, eq-eqb, ne_eqb, AreSpecified, Rules, rule}
+use Rattle.dw_normal.proofs.Words.{◌≡◌, ℕ, zero, suc, ◌+◌, ◌<◌, ◌≤◌, List, [], ◌∷◌, Option, Some, None, refl, sym, ap, ◌∙◌, inl, inr, arith, cases_Bool, nat_eq, length, eq-eqb, ne_eqb, AreSpecified, Rules, rule}
 use Rattle.std.specs.Prelude.{ℤ, replicate, set, if◌then◌else◌}
 use Rattle.std.proofs.lemmas.Bool.{eqb-true, eqb-false}
-use Rattle.std.proofs.lemmas.List.{get_or-set_other, get_or-set_same, length-replicate, length-set}
+use Rattle.std.proofs.lemmas.List.{get_or-set_other, get_or-set_same, length-set}
 use Rattle.dw_cfa.proofs.Lent.RowLists.{put_keeps, put_rule}
 use Rattle.dw_cfa.proofs.Lent.SameRows.{one_row, same_rows}
-use Rattle.dw_cfa.specs.Inner.Rows.{put, with_rule}
+use Rattle.dw_cfa.specs.Inner.Rows.{with_rule}
 use Rattle.dw_cfa.specs.Rows.{rule_in}
 use Rattle.dw_cfa.specs.declared.rule.RegRule.{RegRule}
 use Rattle.dw_cfa.specs.declared.rule.RegRule.TheVariants.{Offset}
@@ -84,7 +84,7 @@ set_told first c offsets place o up lt =
     same_rows (row_with first c new) (with_rule place (rule_with first place o) old) (row_keeps first c new up)
     (put_keeps place (rule_with first place o) 0 old.registers (row_keeps first c offsets up) (omega arith)) refl
     (λ r. row_rule first c new r up ∙ ap (rule_with first r) (saved_set offsets place o r lt) ∙ at_one first place r o (saved_at offsets r) (rule old r) (row_rule first c offsets r up)
-      ∙ sym (put_rule place (rule_with first place o) 0 old.registers r (row_keeps first c offsets up)))
+    ∙ sym (put_rule place (rule_with first place o) 0 old.registers r (row_keeps first c offsets up)))
 
 -- an offset more that is not that of the begin
 pub set_other : (first : Rules) (offsets : List (Option ℤ)) (place : ℕ) (o : Option ℤ) → place < length offsets → OnlyOther first offsets → ((n : ℤ) → o ≡ Some n → rule first place ≡ Offset n → ⊥) → OnlyOther first (set offsets place o)
