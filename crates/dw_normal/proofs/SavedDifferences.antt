@@ -1,5 +1,5 @@
 -- Two rows that are told by offsets, beside each other: the first register whose rule differs, and whether any does.
-use Rattle.dw_normal.proofs.Words.{◌≡◌, ◌⊎◌, ℕ, zero, suc, ◌<◌, ◌≤◌, Bool, true, false, List, [], ◌∷◌, Option, Some, None, refl, sym, ap, ◌∙◌, inl, inr, arith, cases_Bool, cases_lt, length, AreSpecified, Rules, rule, FirstDifference, DiffersFirst, differs_of, rule_to, same_rule, subst, test_of}
+use Rattle.dw_normal.proofs.Words.{◌≡◌, ℕ, zero, suc, ◌<◌, ◌≤◌, Bool, true, false, Option, Some, None, refl, sym, ap, ◌∙◌, inl, inr, arith, cases_Bool, cases_lt, AreSpecified, Rules, rule, FirstDifference, DiffersFirst, differs_of, rule_to, same_rule, subst, test_of}
 use Rattle.std.specs.Prelude.{ℤ, MatchOption, replicate, is_some, not}
 use Rattle.std.specs.Option.{option_eq}
 use Rattle.std.specs.Ordering.{int_eq}

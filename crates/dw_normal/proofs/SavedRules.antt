@@ -1,11 +1,11 @@
 -- Rows that are told by offsets of their first registers: the rule of each register, and which of them are the same.
-use Rattle.dw_normal.proofs.Words.{◌≡◌, ◌⊎◌, ℕ, zero, suc, ◌+◌, ◌<◌, ◌≤◌, List, [], ◌∷◌, Option, Some, None, refl, sym, ap, ◌∙◌, inl, inr, arith, cases_Bool, nat_eq, get_or, length, eq-eqb, ne_eqb, AreSpecified, Rules, rule}
+use Rattle.dw_normal.proofs.Words.{◌≡◌, ℕ, zero, suc, ◌+◌, ◌<◌, ◌≤◌, List, [], ◌∷◌, Option, Some, None, refl, sym, ap, ◌∙◌, inl, inr, arith, cases_Bool, nat_eq, length, eq-eqb, ne_eqb, AreSpecified, Rules, rule}
 use Rattle.std.specs.Prelude.{ℤ, replicate, set, if◌then◌else◌}
 use Rattle.std.proofs.lemmas.Bool.{eqb-true, eqb-false}
-use Rattle.std.proofs.lemmas.List.{get_or-set_other, get_or-set_same, length-replicate, length-set}
+use Rattle.std.proofs.lemmas.List.{get_or-set_other, get_or-set_same, length-set}
 use Rattle.dw_cfa.proofs.Lent.RowLists.{put_keeps, put_rule}
 use Rattle.dw_cfa.proofs.Lent.SameRows.{one_row, same_rows}
-use Rattle.dw_cfa.specs.Inner.Rows.{put, with_rule}
+use Rattle.dw_cfa.specs.Inner.Rows.{with_rule}
 use Rattle.dw_cfa.specs.Rows.{rule_in}
 use Rattle.dw_cfa.specs.declared.rule.RegRule.{RegRule}
 use Rattle.dw_cfa.specs.declared.rule.RegRule.TheVariants.{Offset}

@@ -1,9 +1,6 @@
-use Rattle.dw_normal.proofs.Words.{◌≡◌, ◌++◌, Bool, true, false, OnOk, Instr, Option, Some, sym, ap, ◌∙◌, subst, rule, rule_to, InstrFits, instr_bytes, same_rule}
+use Rattle.dw_normal.proofs.Words.{◌≡◌, ◌++◌, true, false, OnOk, Instr, sym, ◌∙◌, subst, rule, InstrFits, instr_bytes, same_rule}
 use Rattle.std.proofs.Common.{w64}
 use Rattle.std.proofs.lemmas.Int.{to_z-of_z}
-use Rattle.std.specs.Prelude.{ℤ}
-use Rattle.std.specs.Option.{option_eq}
-use Rattle.std.specs.Ordering.{int_eq}
 use Rattle.dw_canon.specs.Spelling.{instr_bytes as instr_with}
 use Rattle.dw_cfa.specs.declared.rule.RegRule.TheVariants.{Offset}
 use Rattle.dw_normal.proofs.SavedDifferences.{given_anew, given_back, same_offset}

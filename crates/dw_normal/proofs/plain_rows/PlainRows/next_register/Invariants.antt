@@ -1,4 +1,4 @@
-use Rattle.dw_normal.proofs.Words.{ℕ, ◌-◌, ◌≤◌}
+use Rattle.dw_normal.proofs.Words.{◌-◌, ◌≤◌}
 use Rattle.dw_normal.proofs.SavedDifferences.{SameUpTo}
 use Rattle.dw_normal.proofs.plain_rows.PlainRows.next_register.Given as goal
 

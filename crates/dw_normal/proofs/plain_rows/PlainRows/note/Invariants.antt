@@ -1,4 +1,4 @@
-use Rattle.dw_normal.proofs.Words.{ℕ, ◌-◌, ◌≡◌}
+use Rattle.dw_normal.proofs.Words.{◌-◌}
 use Rattle.dw_normal.proofs.SavedDifferences.{Noted}
 use Rattle.dw_normal.proofs.plain_rows.PlainRows.note.Given as goal
 

@@ -1,7 +1,7 @@
-use Rattle.dw_normal.proofs.Words.{ℕ, suc, ◌≡◌, ◌+◌, arith, length, rules_from}
+use Rattle.dw_normal.proofs.Words.{suc, ◌≡◌, ◌+◌, arith}
 use Rattle.dw_normal.specs.Inner.PlainRows.{own_row, written_row}
 use Rattle.dw_normal.proofs.RegistersBehind.{Next, none_differs, one_differs}
-use Rattle.dw_normal.proofs.RulesLeft.{put_fits, put_next, put_starts, put_ends, shorter}
+use Rattle.dw_normal.proofs.RulesLeft.{put_fits, put_next, put_ends, shorter}
 use Rattle.dw_normal.proofs.SavedDifferences.{own_keeps, written_keeps}
 use Rattle.dw_normal.proofs.plain_rows.PlainRows.push_registers.Goals.{In-Some}
 use Rattle.dw_normal.proofs.plain_rows.PlainRows.push_registers.Goals as goal
