@@ -4,7 +4,6 @@ use Rattle.dw_normal.proofs.Words.{difference, later_changes, address_limit, Cha
 use Rattle.std.specs.Prelude.{◌&&◌, not, if◌then◌else◌}
 use Rattle.dw_cfa.specs.Inner.Machine.{State, after, popped}
 use Rattle.dw_cfa.specs.Inner.RowEquality.{rows_tell, same_rows}
-use Rattle.dw_cfa.specs.Inner.Runs.{here}
 use Rattle.dw_cfa.specs.Location.{moves_location}
 use Rattle.dw_cfa.specs.declared.instr.Instr.TheVariants.{SetLoc, Advance, Restore, RestoreState}
 use Rattle.dw_section.specs.Inner.Changes.{is_before}

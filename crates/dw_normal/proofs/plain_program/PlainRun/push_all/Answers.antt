@@ -1,4 +1,4 @@
-use Rattle.dw_normal.proofs.Words.{◌≡◌, [], refl, ◌∙◌, arith, nil_from_length, length, length-drop, take_rest}
+use Rattle.dw_normal.proofs.Words.{◌≡◌, [], refl, ◌∙◌, arith, nil_from_length, length-drop, take_rest}
 use Rattle.std.proofs.lemmas.Bool.Decides.{nat_tests}
 use Rattle.dw_normal.proofs.PlainRuns.{can_run, last_left, next_left}
 use Rattle.dw_normal.proofs.plain_program.PlainRun.push_all.Goals as goal
