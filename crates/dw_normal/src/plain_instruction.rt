@@ -1,7 +1,7 @@
 //! Plain instructions (6.4.2): they move the location on, give the CFA a register and an offset, save a register below 32 at an
 //! offset, or bring rules back. Each has at most two bytes of operands. Most programs of FDEs have no others.
 
-ghost use Rattle.std.specs.Prelude.{◌≡◌, ◌<◌, ◌≤◌, ◌*◌, ◌*ℤ◌, [], ◌∷◌, length, get_or, IfSome};
+ghost use Rattle.std.specs.Prelude.{◌≡◌, ◌<◌, ◌≤◌, ◌+◌, ◌-◌, ◌*◌, ◌*ℤ◌, [], ◌∷◌, length, get_or, IfSome};
 ghost use Rattle.dw_num.specs.Fixed.{fixed_number};
 ghost use Rattle.dw_cfa.specs.declared.instr.Factors.{Factors as TheFactors};
 ghost use Rattle.dw_num.specs.declared.target.Order.{Order as TheOrder};
@@ -32,6 +32,15 @@ pub(crate) enum Plain {
 
 // ---- operands
 
+// The low seven bits of two bytes, of which more follow the first alone.
+#[inline(always)]
+fn joined(low: u8, high: u8) -> u16
+    requires { (0x80 ≤ low) × (high < 0x80) }
+    ensures { result ≡ (low - 0x80) + 0x80 * high }
+{
+    u16::from(low - 0x80) + 0x80 * u16::from(high)
+}
+
 // A number of one byte or two, and how many it has.
 #[inline(always)]
 #[tactic(auto, using(crate::proofs::PlainReads::one_byte_first, crate::proofs::PlainReads::two_bytes_first))]
@@ -50,7 +59,7 @@ fn short_number(bytes: &[u8]) -> Option<(u16, usize)>
     if *high >= 0x80 {
         return None;
     }
-    Some((u16::from(*low - 0x80) + 128 * u16::from(*high), 2))
+    Some((joined(*low, *high), 2))
 }
 
 // A signed one.
@@ -74,7 +83,7 @@ fn short_signed(bytes: &[u8]) -> Option<(i16, usize)>
     if *high >= 0x80 {
         return None;
     }
-    let number = i16::from(*low) - 0x80 + 0x80 * i16::from(*high);
+    let number = joined(*low, *high) as i16;
     if *high < 0x40 {
         return Some((number, 2));
     }
