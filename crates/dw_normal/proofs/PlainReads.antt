@@ -1,8 +1,13 @@
 -- A plain instruction that the first bytes of a program spell is its first, by the operands that it has.
 use Rattle.dw_normal.proofs.Words.{◌≡◌, ℕ, zero, suc, inl, inr, ◌+◌, ◌-◌, ◌*◌, ◌<◌, ◌≤◌, List, [], ◌∷◌, ◌++◌, length, take, drop, get_or, Option, Some, None, refl, sym, ap, subst, ◌∙◌, append_assoc, arith, take-append-drop, IfSome, Target, AreBytes, Instr}
-use Rattle.std.specs.Prelude.{ℤ, pos, ◌-ℤ◌, ◌*ℤ◌, ◌%◌}
+use Rattle.std.specs.Prelude.{FitsSigned, negsuc, ◌^◌, unsigned_abs, ℤ, pos, ◌-ℤ◌, ◌*ℤ◌, ◌%◌}
 use Rattle.std.proofs.lemmas.Bool.{le-leb, lt-leb}
-use Rattle.std.proofs.lemmas.Int.{ints}
+use Rattle.std.proofs.Math.Nat.{mul-le-mul}
+use Rattle.std.proofs.lemmas.Int.{fits_signed_mul, ints, to_z-of_z}
+use Rattle.std.specs.Int.{w16, w32, w64}
+use Rattle.std.specs.Result.{OkIff, result_ok}
+use Rattle.std.proofs.Common.{Err, Ok, Result}
+use Rattle.std.proofs.Common.{of_z, to_z}
 use Rattle.dw_num.proofs.Lent.FixedLaws.{fixed_at_again, is_fixed, one_byte}
 use Rattle.dw_num.proofs.Lent.LebLaws.{ok_is, register_again, uleb_again}
 use Rattle.dw_num.proofs.Lent.SlebLaws.{sleb_again}
@@ -174,6 +179,39 @@ two_negative_first (b ∷ c ∷ bytes) z len le byte from lt is = (
     fits = rw is (omega (arith, ints));
   },
 )
+
+-- products
+
+pub distance_fits : (delta factor : ℕ) → delta < 65536 → factor < 2 ^ 32 → delta * factor < 2 ^ 64
+distance_fits delta factor small fits = omega (arith, mul-le-mul {n₁ = delta} {m₁ = factor} {n₂ = 65535} {m₂ = 4294967295} (omega arith) (omega arith))
+
+small_abs : (z : ℤ) → FitsSigned w16 z → unsigned_abs z < 32769
+small_abs (pos n) h = omega (arith, h)
+small_abs (negsuc n) h = omega (arith, h)
+
+half_abs : (z : ℤ) → FitsSigned w32 z → unsigned_abs z < 2147483649
+half_abs (pos n) h = omega (arith, h)
+half_abs (negsuc n) h = omega (arith, h)
+
+pub product_fits : (operand factor : ℤ) → FitsSigned w16 operand → FitsSigned w32 factor → FitsSigned w64 (operand *ℤ factor)
+product_fits operand factor small fits = fits_signed_mul w64 operand factor 32768 2147483648 (omega (arith, small_abs operand small)) (omega (arith, half_abs factor fits)) (omega arith)
+
+wider : (z : ℤ) → FitsSigned w32 z → FitsSigned w64 z
+wider (pos n) h = record { sfits = omega (arith, h) }
+wider (negsuc n) h = record { sfits = omega (arith, h) }
+
+wide : (z : ℤ) → FitsSigned w16 z → FitsSigned w64 z
+wide (pos n) h = record { sfits = omega (arith, h) }
+wide (negsuc n) h = record { sfits = omega (arith, h) }
+
+-- the product as the machine computes it
+pub product_is : (operand factor a b : ℤ) → a ≡ operand → b ≡ factor → FitsSigned w16 operand → FitsSigned w32 factor → to_z w64 (of_z w64 (to_z w64 (of_z w64 a) *ℤ to_z w64 (of_z w64 b))) ≡ operand *ℤ factor
+product_is operand factor a b is same small fits =
+    rw (is, same, to_z-of_z w64 operand (wide operand small), to_z-of_z w64 factor (wider factor fits)) (to_z-of_z w64 (operand *ℤ factor) (product_fits operand factor small fits))
+
+pub narrowed : {E : Type 0} (z n : ℤ) (r : Result ℤ E) → OkIff r (FitsSigned w32 z) z → Some n ≡ result_ok r → (n ≡ z) × FitsSigned w32 z
+narrowed z n (Ok x) h is = let same : n ≡ x = cc in (same ∙ h.1, h.0)
+narrowed z n (Err e) h is = absurd cc
 
 -- so many bytes of an order
 

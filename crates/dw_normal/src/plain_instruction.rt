@@ -1,7 +1,7 @@
 //! Plain instructions (6.4.2): they move the location on, give the CFA a register and an offset, save a register below 32 at an
 //! offset, or bring rules back. Each has at most two bytes of operands. Most programs of FDEs have no others.
 
-ghost use Rattle.std.specs.Prelude.{◌≡◌, ◌<◌, ◌≤◌, ◌*◌, ◌*ℤ◌, [], ◌∷◌, length, get_or, IfSome};
+ghost use Rattle.std.specs.Prelude.{◌≡◌, ◌<◌, ◌≤◌, ◌+◌, ◌-◌, ◌*◌, ◌*ℤ◌, [], ◌∷◌, length, get_or, IfSome};
 ghost use Rattle.dw_num.specs.Fixed.{fixed_number};
 ghost use Rattle.dw_cfa.specs.declared.instr.Factors.{Factors as TheFactors};
 ghost use Rattle.dw_num.specs.declared.target.Order.{Order as TheOrder};
@@ -32,6 +32,15 @@ pub(crate) enum Plain {
 
 // ---- operands
 
+// The low seven bits of two bytes, of which more follow the first alone.
+#[inline(always)]
+fn joined(low: u8, high: u8) -> u16
+    requires { (0x80 ≤ low) × (high < 0x80) }
+    ensures { result ≡ (low - 0x80) + 0x80 * high }
+{
+    u16::from(low - 0x80) + 0x80 * u16::from(high)
+}
+
 // A number of one byte or two, and how many it has.
 #[inline(always)]
 #[tactic(auto, using(crate::proofs::PlainReads::one_byte_first, crate::proofs::PlainReads::two_bytes_first))]
@@ -50,23 +59,23 @@ fn short_number(bytes: &[u8]) -> Option<(u16, usize)>
     if *high >= 0x80 {
         return None;
     }
-    Some((u16::from(*low - 0x80) + 128 * u16::from(*high), 2))
+    Some((joined(*low, *high), 2))
 }
 
 // A signed one.
 #[inline(always)]
 #[tactic(auto, using(crate::proofs::PlainReads::positive_first, crate::proofs::PlainReads::negative_first, crate::proofs::PlainReads::two_positive_first, crate::proofs::PlainReads::two_negative_first))]
-fn short_signed(bytes: &[u8]) -> Option<(i64, usize)>
+fn short_signed(bytes: &[u8]) -> Option<(i16, usize)>
     ensures { IfSome result (λ x. SlebFirst bytes.now x) }
 {
     let [low, ..] = bytes else {
         return None;
     };
     if *low < 0x40 {
-        return Some((i64::from(*low), 1));
+        return Some((i16::from(*low), 1));
     }
     if *low < 0x80 {
-        return Some((i64::from(*low) - 0x80, 1));
+        return Some((i16::from(*low) - 0x80, 1));
     }
     let [low, high, ..] = bytes else {
         return None;
@@ -74,37 +83,41 @@ fn short_signed(bytes: &[u8]) -> Option<(i64, usize)>
     if *high >= 0x80 {
         return None;
     }
-    let number = i64::from(*low) - 0x80 + 0x80 * i64::from(*high);
+    let number = joined(*low, *high) as i16;
     if *high < 0x40 {
         return Some((number, 2));
     }
     Some((number - 0x4000, 2))
 }
 
-// An operand times the factor of offsets.
+// An operand times the factor of offsets. A wider factor is left to the row machine, so no product overflows.
 #[inline(always)]
-fn factored(operand: i64, factors: Factors) -> Option<i64>
+#[tactic(auto, using(crate::proofs::PlainReads::product_fits))]
+fn factored(operand: i16, factors: Factors) -> Option<i64>
     ensures { IfSome result (λ n. n ≡ operand *ℤ factors.data_factor) }
 {
-    operand.checked_mul(factors.data_factor)
+    let factor = i32::try_from(factors.data_factor).ok()?;
+    Some(i64::from(operand) * i64::from(factor))
 }
 
-// A delta times the factor of advances.
+// A delta times the factor of advances, likewise.
 #[inline(always)]
-fn distance(delta: u64, factors: Factors) -> Option<u64>
+#[tactic(auto, using(crate::proofs::PlainReads::distance_fits))]
+fn distance(delta: u16, factors: Factors) -> Option<u64>
     ensures { IfSome result (λ d. d ≡ delta * factors.code_factor) }
 {
-    delta.checked_mul(factors.code_factor)
+    let factor = u32::try_from(factors.code_factor).ok()?;
+    Some(u64::from(delta) * u64::from(factor))
 }
 
 // Two bytes as a number.
 #[inline(always)]
-fn number_of(first: u8, second: u8, order: Order) -> u64
+fn number_of(first: u8, second: u8, order: Order) -> u16
     ensures { result ≡ fixed_number order 2 (first ∷ second ∷ []) }
 {
     match order {
-        Order::Little => u64::from(first) + 0x100 * u64::from(second),
-        Order::Big => 0x100 * u64::from(first) + u64::from(second),
+        Order::Little => u16::from(first) + 0x100 * u16::from(second),
+        Order::Big => 0x100 * u16::from(first) + u16::from(second),
     }
 }
 
@@ -119,10 +132,11 @@ fn advance(bytes: &[u8], factors: Factors) -> Option<(Plain, usize)>
     let [code, ..] = bytes else {
         return None;
     };
-    let distance = distance(u64::from(*code - ADVANCE_LOC), factors)?;
+    let distance = distance(u16::from(*code - ADVANCE_LOC), factors)?;
     Some((Plain::Advance(distance), 1))
 }
 
+// `DW_CFA_advance_loc1`.
 #[inline(always)]
 fn advance_1(bytes: &[u8], factors: Factors) -> Option<(Plain, usize)>
     requires { get_or bytes.now 0 0 ≡ 0x02 }
@@ -131,10 +145,11 @@ fn advance_1(bytes: &[u8], factors: Factors) -> Option<(Plain, usize)>
     let [_, delta, ..] = bytes else {
         return None;
     };
-    let distance = distance(u64::from(*delta), factors)?;
+    let distance = distance(u16::from(*delta), factors)?;
     Some((Plain::Advance(distance), 2))
 }
 
+// `DW_CFA_advance_loc2`.
 #[inline(always)]
 #[tactic(auto, using(crate::proofs::PlainReads::advance_2_reads))]
 fn advance_2(bytes: &[u8], factors: Factors, order: Order) -> Option<(Plain, usize)>
@@ -160,7 +175,7 @@ fn offset(bytes: &[u8], factors: Factors) -> Option<(Plain, usize)>
     if *operand >= 0x80 {
         return None;
     }
-    let offset = factored(i64::from(*operand), factors)?;
+    let offset = factored(i16::from(*operand), factors)?;
     Some((Plain::Offset(u16::from(*code - OFFSET), offset), 2))
 }
 
@@ -176,6 +191,7 @@ fn restore(bytes: &[u8]) -> Option<(Plain, usize)>
     Some((Plain::Restore(u16::from(*code - RESTORE)), 1))
 }
 
+// `DW_CFA_def_cfa`.
 #[inline(always)]
 fn def_cfa(bytes: &[u8]) -> Option<(Plain, usize)>
     requires { get_or bytes.now 0 0 ≡ 0x0c }
@@ -190,6 +206,7 @@ fn def_cfa(bytes: &[u8]) -> Option<(Plain, usize)>
     Some((Plain::DefCfa(u16::from(*register), i64::from(*offset)), 3))
 }
 
+// `DW_CFA_def_cfa_register`.
 #[inline(always)]
 fn def_cfa_register(bytes: &[u8]) -> Option<(Plain, usize)>
     requires { get_or bytes.now 0 0 ≡ 0x0d }
@@ -204,6 +221,7 @@ fn def_cfa_register(bytes: &[u8]) -> Option<(Plain, usize)>
     Some((Plain::DefCfaRegister(u16::from(*register)), 2))
 }
 
+// `DW_CFA_def_cfa_offset`.
 #[inline(always)]
 fn def_cfa_offset(bytes: &[u8]) -> Option<(Plain, usize)>
     requires { (0 < length bytes.now) × (get_or bytes.now 0 0 ≡ 0x0e) }
@@ -213,6 +231,7 @@ fn def_cfa_offset(bytes: &[u8]) -> Option<(Plain, usize)>
     Some((Plain::DefCfaOffset(i64::from(offset)), 1 + count))
 }
 
+// `DW_CFA_def_cfa_offset_sf`.
 #[inline(always)]
 fn def_cfa_offset_sf(bytes: &[u8], factors: Factors) -> Option<(Plain, usize)>
     requires { (0 < length bytes.now) × (get_or bytes.now 0 0 ≡ 0x13) }
@@ -223,7 +242,7 @@ fn def_cfa_offset_sf(bytes: &[u8], factors: Factors) -> Option<(Plain, usize)>
     Some((Plain::DefCfaOffset(offset), 1 + count))
 }
 
-// By the first code.
+// What the first code says, where its bytes are there.
 #[inline(always)]
 fn read(bytes: &[u8], factors: Factors, order: Order) -> Option<(Plain, usize)>
     ensures { IfSome result (λ x. Reads factors order bytes.now x) }
