@@ -25,3 +25,4 @@ mod PlainRuns
 mod SavedRules
 mod SavedDifferences
 mod PlainReads
+mod PlainFdes

@@ -198,7 +198,7 @@ module _ (t : Target) (s : List ℕ) (b : AreBytes s) (ok : Accepted t s) where
 -- ---- a member
 
 -- its program is written from its first row on, and that is what its later changes are written as
-pub record PlainMember (t : Target) (f : Factors) (m : Member) (shared first : Rules) (begin last : ℕ) (instrs : List Instr) (bytes : List ℕ) : Type 0 where
+pub record GivenBy (t : Target) (f : Factors) (m : Member) (shared first : Rules) (begin last : ℕ) (instrs : List Instr) (bytes : List ℕ) : Type 0 where
   pub initial : Rules
   pub plain : IsPlain t f shared first begin last initial instrs bytes
   pub written : plain_bytes t shared first begin last initial instrs ≡ program_bytes t (later_changes shared m.begin m.first m.later)
@@ -207,7 +207,7 @@ module _ (t : Target) (s : List ℕ) (b : AreBytes s) (ok : Accepted t s) (ms : 
   -- an FDE of the section that opens behind a row of its CIE
   pub is_plain : (k : ℕ) (d : Member) → k < length ms → (row : CieRow) → OpensBehind t s (fde_of (get_or ms k d)) row → (i j : List Instr) (says : Says t s (get_or ms k d).begin (get_or ms k d).end i j)
       → (f : Factors) (bytes : List ℕ) (shared first : Rules) (begin last : ℕ) → f ≡ factors_of says.spelled.head → bytes ≡ says.head.program.bytes → shared ≡ initial_of ms (get_or ms k d).register → first ≡ (get_or ms k d).first
-      → begin ≡ (get_or ms k d).begin → last + 1 ≡ (get_or ms k d).end → PlainMember t f (get_or ms k d) shared first begin last j bytes
+      → begin ≡ (get_or ms k d).begin → last + 1 ≡ (get_or ms k d).end → GivenBy t f (get_or ms k d) shared first begin last j bytes
   is_plain k d lt row o i j says f bytes shared first begin last factors_are bytes_are shared_is first_is begin_is end_is =
       let m = get_or ms k d in
       let some : m.begin < m.end = all_get (λ (n : Member). n.begin < n.end) ms k d (nonempty t s b ok ms are) lt in

@@ -219,6 +219,7 @@ fn fill_plain_at<'r, 'a>(
     ensures stands { StandsIn places.now.entries writing.new }
     ensures opened { writing.new.opened ≡ writing.old.opened }
 {
+    table.accepted();
     turn_to(writing, table, rows, places, fde);
     let Some(first) = known_first(&writing.opened, opening.row) else {
         return Ok(false);

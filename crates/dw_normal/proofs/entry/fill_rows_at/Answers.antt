@@ -1,11 +1,13 @@
-use Rattle.dw_normal.proofs.Words.{◌≡◌, ℕ, ◌+◌, ◌++◌, ◌-◌, ◌<◌, List, get_or, Option, refl, sym, ap, ◌∙◌, subst, IsSome, fixed_bytes, Target, address_limit, fde_instrs, initial_of, program_bytes, fde, contents, Member, AreMembers}
+use Rattle.dw_normal.proofs.Words.{◌≡◌, ℕ, ◌+◌, ◌++◌, ◌-◌, ◌<◌, List, get_or, Option, refl, sym, ap, ◌∙◌, subst, IfSome, IsSome, Fde, OpensBehind, fixed_bytes, Target, address_limit, fde_instrs, initial_of, program_bytes, fde, contents, Member, AreMembers}
 use Rattle.dw_normal.proofs.Words.{members_exist, IsReady, fde_with}
 use Rattle.dw_normal.proofs.Filled.{on_ok}
 use Rattle.dw_normal.proofs.Grouped.{no_member}
 use Rattle.dw_normal.proofs.Located.{Located, has_place, place_fits, place_own, begin_fits, begins_below, range_fits}
 use Rattle.dw_normal.proofs.Placed.{below}
-use Rattle.dw_normal.proofs.entry.fill_fde_at.Goals.{In_ok-begin_fde}
-use Rattle.dw_normal.proofs.entry.fill_fde_at.Goals as goal
+use Rattle.dw_normal.proofs.PlainFdes.{kept_known, so_of_member, where_ok}
+use Rattle.dw_normal.specs.Inner.PlainFde.{FirstIs}
+use Rattle.dw_normal.proofs.entry.fill_rows_at.Goals.{In_ok-begin_fde}
+use Rattle.dw_normal.proofs.entry.fill_rows_at.Goals as goal
 
 -- the FDE is located among the members of the table
 abbrev LocatedIn : In_ok-begin_fde → List Member → Member → Type 0
@@ -51,3 +53,11 @@ returns-clause-contents c = λ ms are d.
     let at = c.cie_of-writing.result in let new = c.fill_fde.new.out.items in
     on_ok c.fill_fde.result (new ≡ made c.target.result at) (new ≡ fixed_bytes t.order 4 0 ++ contents t (fde_with t ms m))
     (λ e. e ∙ ap (λ (u : Target). made u at) c.target.ensures ∙ ap (made t) (place_own there c.cie_of-writing.ensures)) (c.fill_fde.ensures.contents ms m there.is)
+
+pub returns-clause-first : goal.returns-clause-first
+returns-clause-first c =
+    let t = c.args.table.now.target in
+    let s = c.args.table.now.bytes in
+    where_ok c.fill_fde.result (FirstIs t s c.keep_first.new.opened)
+    (kept_known t s c.accepted.ensures.bytes c.accepted.ensures.accepted c.args.writing.now.opened c.keep_first.new.opened c.args.row c.begin_fde.new.begun.changes c.in_ok-keep_first.ensures c.requires.first c.args.fde.place
+    (λ ms are. below c.args.fde.place are c.requires.place) (so_of_member (λ (f : Fde). IfSome c.args.row (OpensBehind t s f)) c.args.fde.place c.requires.opens) (λ ms are d. (c.in_ok-begin_fde.ensures.is ms are d).first))
