@@ -303,4 +303,25 @@ impl PlainRows {
         self.at = self.start;
         Ok(())
     }
+
+    /// The offset of a register below 32 in the current row, or none where it has the rule of the row at the FDE's begin.
+    #[inline(always)]
+    pub(crate) fn offset_of(&self, register: u16) -> Option<i64>
+        requires length { length self.now.saved ≡ 32 }
+        requires near { register < 32 }
+        ensures { result ≡ saved_at self.now.saved register }
+    {
+        self.offset_at(register)
+    }
+
+    /// Gives a register below 32 an offset that it had, or the rule that it has at the begin.
+    #[inline(always)]
+    pub(crate) fn put_back<'a>(&mut self, register: u16, offset: Option<i64>, first: &Row<'a>)
+        requires so { RowsSo first.now self.old }
+        requires near { register < 32 }
+        requires other { (n : ℤ) → offset ≡ Some n → rule first.now register ≡ Offset n → ⊥ }
+        ensures { IsChanged first.now self.old self.new (with_rule register (rule_with first.now register offset) (own_row first.now self.old)) }
+    {
+        self.put(register, offset, first);
+    }
 }
