@@ -1,5 +1,5 @@
 -- Registers that were set while a row is remembered, and the row with what they had.
-use Rattle.dw_normal.proofs.Words.{◌≡◌, ℕ, zero, suc, ◌+◌, ◌<◌, ◌≤◌, false, List, [], ◌∷◌, Option, Some, None, refl, sym, ap, ◌∙◌, subst, inl, inr, arith, cases_Bool, get_or, nat_eq, ne_eqb, eq-eqb, length, AllByRecursion, Rules, rule}
+use Rattle.dw_normal.proofs.Words.{◌≡◌, ℕ, zero, suc, ◌+◌, ◌<◌, ◌≤◌, false, List, [], ◌∷◌, Option, Some, None, refl, sym, ap, ◌∙◌, subst, inl, inr, arith, cases_Bool, get_or, nat_eq, eq-eqb, length, AllByRecursion, Rules, rule}
 use Rattle.std.specs.Prelude.{ℤ, set, if◌then◌else◌}
 use Rattle.std.proofs.lemmas.Bool.{eqb-true, eqb-false}
 use Rattle.std.proofs.lemmas.List.{ext_get_or, get_or-set_other, get_or-set_same, length-set, set-get_or}
@@ -9,14 +9,12 @@ use Rattle.dw_cfa.specs.Inner.Rows.{with_cfa, with_rule}
 use Rattle.dw_cfa.specs.Location.{moves_location}
 use Rattle.dw_cfa.specs.declared.instr.Instr.{Instr}
 use Rattle.dw_cfa.specs.declared.instr.Instr.TheVariants.{RestoreState}
-use Rattle.dw_cfa.specs.declared.rule.CfaRule.{CfaRule}
 use Rattle.dw_cfa.specs.declared.rule.RegRule.{RegRule}
-use Rattle.dw_cfa.specs.declared.rule.RegRule.TheVariants.{Offset}
 use Rattle.dw_normal.specs.declared.plain_log.Log.{Log}
 use Rattle.dw_normal.specs.declared.plain_program.PlainRun.{PlainRun}
 use Rattle.dw_normal.specs.declared.plain_rows.Cfa.{Cfa}
 use Rattle.dw_normal.specs.declared.plain_rows.PlainRows.{PlainRows}
-use Rattle.dw_normal.specs.Inner.PlainLog.{CanPut, Entry, HasRoom, LogSo, Took, entries_of, logged, noted, undone}
+use Rattle.dw_normal.specs.Inner.PlainLog.{CanPut, Entry, HasRoom, LogSo, entries_of, logged, noted, undone}
 use Rattle.dw_normal.specs.Inner.PlainRows.{IsChanged, RowsSo, cfa_of, own_row, row_with, rule_with, saved_at, written_row}
 use Rattle.dw_normal.specs.Inner.PlainProgram.{Becomes, IsNoted, IsUndone, stack_of, state_of}
 use Rattle.dw_normal.proofs.SavedRules.{row_keeps, row_rule, told_apart}

@@ -1,6 +1,6 @@
 //! The registers that a plain program set since it remembered a row, with what they had before (6.4.2.4).
 
-ghost use Rattle.std.specs.Prelude.{◌≡◌, ◌∷◌, [], IsTrue, ℕ, ℤ, Option};
+ghost use Rattle.std.specs.Prelude.{◌≡◌, ◌∷◌, [], IsTrue};
 ghost use Rattle.dw_normal.specs.Inner.PlainLog.{HasRoom, Took, logged};
 
 /// Up to 8 registers, each with the offset that it had, or none where it had the rule of the row at the FDE's begin.
