@@ -26,3 +26,4 @@ mod SavedRules
 mod SavedDifferences
 mod PlainReads
 mod PlainFdes
+mod UntouchedRows

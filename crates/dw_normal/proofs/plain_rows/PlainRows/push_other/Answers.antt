@@ -11,6 +11,6 @@ pub returns : goal.returns
 returns c =
     let t = c.args.target in let shared = c.args.shared.now in let old = written_row c.args.first.now c.args.self.now in let new = own_row c.args.first.now c.args.self.now in
     let all = program_bytes t (difference shared old new) in let moved = instr_bytes t (move c.args.self.now.at c.args.self.now.start) in
-    let out = c.args.out.now.items in let mid = c.push_cfa_rule.new.out.items in let end = c.push_registers.new.out.items in
+    let out = c.args.out.now.items in let mid = c.push_cfa.new.out.items in let end = c.push_registers.new.out.items in
     on_ok c.push_registers.result (end ≡ mid ++ program_bytes t (rules_from shared old new 0)) (end ≡ out ++ (moved ++ all))
-    (λ e. e ∙ put_behind t shared old new c.push_move.new.out.items mid (rw (c.rule_of_cfa.ensures, c.rule_of_cfa-2.ensures) at c.in_ok-push_cfa_rule.ensures) ∙ ap (λ (l : List ℕ). l ++ all) (rw (c.from.ensures, c.from-2.ensures) at c.in_ok-push_move.ensures) ∙ append_assoc out moved all) c.push_registers.ensures
+    (λ e. e ∙ put_behind t shared old new c.push_step.new.out.items mid c.in_ok-push_cfa.ensures ∙ ap (λ (l : List ℕ). l ++ all) c.in_ok-push_step.ensures ∙ append_assoc out moved all) c.push_registers.ensures
