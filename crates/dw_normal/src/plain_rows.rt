@@ -78,10 +78,13 @@ fn push_cfa(out: &mut Vec<u8>, old: Cfa, new: Cfa, target: Target) -> Result<(),
     requires { AllByRecursion (InstrFits target) (cfa_difference (cfa_of old) (cfa_of new)) }
     ensures { OnOk result (out.new.items ≡ out.old.items ++ program_bytes target (cfa_difference (cfa_of old) (cfa_of new))) }
 {
-    if old.register == new.register && old.offset != new.offset {
-        return push_cfa_offset(out, new.offset, target);
+    if old.register != new.register {
+        return push_other_cfa(out, old, new, target);
     }
-    push_other_cfa(out, old, new, target)
+    if old.offset == new.offset {
+        return Ok(());
+    }
+    push_cfa_offset(out, new.offset, target)
 }
 
 // Appends what moves the location, mostly by a few bytes.
@@ -371,8 +374,7 @@ impl PlainRows {
         requires fits { AllByRecursion (InstrFits target) (difference shared.now (written_row first.now self.now) (own_row first.now self.now)) }
         ensures { OnOk result (out.new.items ≡ out.old.items ++ program_bytes target (move self.now.at self.now.start ∷ difference shared.now (written_row first.now self.now) (own_row first.now self.now))) }
     {
-        push_step(out, self.at, self.start, target)?;
-        push_cfa(out, self.written_cfa, self.cfa, target)?;
+        push_cfa_row(out, self.at, self.start, self.written_cfa, self.cfa, target)?;
         self.push_registers(out, first, shared, target)
     }
 
