@@ -1,9 +1,15 @@
 -- Where no register was set since, the current row differs from the one that was written last in the CFA alone.
-use Rattle.dw_normal.proofs.Words.{◌≡◌, ℕ, ◌≤◌, List, false, true, refl, sym, ap, ◌∙◌, ◌++◌, inl, inr, arith, cases_lt, subst, append-nil, append_assoc, instr_bytes, move, program_bytes, AllByRecursion, Target, Instr, Rules, InstrFits, cfa_difference, difference}
+use Rattle.dw_normal.proofs.Words.{◌≡◌, ℕ, ◌+◌, ◌-◌, ◌^◌, ◌<◌, ◌≤◌, List, [], ◌∷◌, false, true, refl, sym, ap, ◌∙◌, ◌++◌, inl, inr, arith, cases_Bool, cases_lt, lt-ltb, eq-eqb, subst, append-nil, append_assoc, instr_bytes, move, program_bytes, AllByRecursion, Target, Instr, Rules, InstrFits, cfa_difference, difference}
+use Rattle.std.specs.Prelude.{ℤ, unsigned_abs}
+use Rattle.std.specs.Int.{is_negative}
+use Rattle.std.specs.Ordering.{int_eq}
+use Rattle.std.proofs.lemmas.Bool.Decides.{Decides-int_eq}
+use Rattle.dw_canon.specs.Spelling.{instr_bytes as instr_with}
 use Rattle.dw_cfa.specs.Inner.RowEquality.{rows_tell, same_rows}
 use Rattle.dw_normal.specs.declared.plain_rows.Cfa.{Cfa}
 use Rattle.dw_normal.specs.declared.plain_rows.PlainRows.{PlainRows}
 use Rattle.dw_normal.specs.Inner.PlainRows.{IsWritten, RowsSo, cfa_of, own_row, row_instrs, row_with, saved_at, written_row}
+use Rattle.dw_normal.proofs.OneByte.{one_byte}
 use Rattle.dw_normal.proofs.RegistersBehind.{none_differs}
 use Rattle.dw_normal.proofs.RulesLeft.{divided}
 use Rattle.dw_normal.proofs.SavedDifferences.{none_found, other_cfa}
@@ -46,10 +52,22 @@ module _ (first : Rules) (rows : PlainRows) (so : RowsSo first rows) (none : row
     stays_put e = rw (stays_one e) (sym (append-nil out))
 
     -- a move is, and the CFA behind it
-    pub step_written : (mid new : List ℕ) → (rows.written_cfa ≡ rows.cfa → ⊥) → mid ≡ out ++ instr_bytes t (move rows.at rows.start) → new ≡ mid ++ program_bytes t (cfa_difference (cfa_of rows.written_cfa) (cfa_of rows.cfa))
+    pub row_put : (new : List ℕ) → (rows.written_cfa ≡ rows.cfa → ⊥) → new ≡ out ++ program_bytes t (move rows.at rows.start ∷ cfa_difference (cfa_of rows.written_cfa) (cfa_of rows.cfa))
         → new ≡ out ++ program_bytes t (row_instrs shared first rows)
-    step_written mid new other moved behind =
-        let cfa = program_bytes t (cfa_difference (cfa_of rows.written_cfa) (cfa_of rows.cfa)) in
-        rw (differs other)
-        (behind ∙ ap (λ (l : List ℕ). l ++ cfa) moved ∙ append_assoc out (instr_bytes t (move rows.at rows.start)) cfa
-        ∙ ap (λ (l : List Instr). out ++ (instr_bytes t (move rows.at rows.start) ++ program_bytes t l)) (sym (cfa_alone t shared)))
+    row_put new other is = rw (differs other) (is ∙ ap (λ (l : List Instr). out ++ program_bytes t (move rows.at rows.start ∷ l)) (sym (cfa_alone t shared)))
+
+-- three bytes that are appended one after another
+pub three_bytes : (out room one two three : List ℕ) (a b c : ℕ) → room ≡ out → one ≡ room ++ a ∷ [] → two ≡ one ++ b ∷ [] → three ≡ two ++ c ∷ [] → three ≡ out ++ a ∷ b ∷ c ∷ []
+three_bytes out room one two three a b c same first second third =
+    third ∙ ap (λ (l : List ℕ). l ++ c ∷ []) (second ∙ ap (λ (l : List ℕ). l ++ b ∷ []) (first ∙ ap (λ (l : List ℕ). l ++ a ∷ []) same))
+    ∙ ap (λ (l : List ℕ). l ++ c ∷ []) (append_assoc out (a ∷ []) (b ∷ [])) ∙ append_assoc out (a ∷ b ∷ []) (c ∷ [])
+
+other_int : (a b : ℤ) → (a ≡ b → ⊥) → int_eq a b ≡ false
+other_int a b other = elim (cases_Bool (int_eq a b)) [ inl e ↦ absurd (other ((Decides-int_eq a b).0 e)) | inr e ↦ e ]
+
+-- a short advance and a small offset of the CFA
+pub short_row : (t : Target) (from to : ℕ) (old new : Cfa) → to - from < 64 → old.register ≡ new.register → (old.offset ≡ new.offset → ⊥) → is_negative new.offset ≡ false → unsigned_abs new.offset < 128
+    → program_bytes t (move from to ∷ cfa_difference (cfa_of old) (cfa_of new)) ≡ (64 + (to - from)) ∷ 14 ∷ unsigned_abs new.offset ∷ []
+unfolding instr_with
+short_row t from to old new near register offset positive small =
+    rw (lt-ltb (to - from) (2 ^ 32) (omega (arith, near)), lt-ltb (to - from) 64 near, eq-eqb old.register new.register register, other_int old.offset new.offset offset, positive, sym (one_byte (unsigned_abs new.offset) small)) refl
