@@ -57,6 +57,7 @@ fn rule_of_cfa(cfa: Cfa) -> CfaRule<'static>
 }
 
 // Whether two rules of the CFA are one.
+#[inline(always)]
 fn is_same(cfa: Cfa, other: Cfa) -> bool
     ensures { IsTrue result ↔ (cfa ≡ other) }
 {
