@@ -26,4 +26,5 @@ mod SavedRules
 mod SavedDifferences
 mod PlainReads
 mod PlainFdes
+mod UntouchedRows
 mod PlainLogs

@@ -1,11 +1,12 @@
 -- An FDE of a table whose program is plain, where the row at its begin is known.
 use Rattle.dw_normal.proofs.Words.{◌≡◌, ◌⊎◌, ℕ, ◌+◌, ◌-◌, ◌<◌, ◌≤◌, false, List, length, map, get_or, Option, Some, None, Result, Ok, Err, refl, sym, ap, ◌∙◌, subst, arith, inl, inr, IfOk, IfSome, OnOk, get_or-map, AreFdes, AllByRecursion, AreBytes, Target, Rules, Accepted, Fde, OpensBehind, Changing}
-use Rattle.dw_normal.proofs.Words.{all_get, nonempty, difference, InstrFits, canon, initial_of, Member, AreMembers, fde_of, Begins, Begun, initial_rows, row_of, place_in, cie_place, row_or_blank, shown_row}
+use Rattle.dw_normal.proofs.Words.{all_get, nonempty, difference, InstrFits, canon, initial_of, Member, AreMembers, fde_of, Begins, Begun, initial_rows, row_of, place_in, cie_place, program_bytes, shown_row}
 use Rattle.dw_cfa.specs.declared.instr.Factors.{Factors}
 use Rattle.dw_section.specs.Opening.{HasProgram}
 use Rattle.dw_section.specs.declared.opening.CieRow.{CieRow}
 use Rattle.dw_normal.specs.declared.plain_fde.Opened.{Opened}
-use Rattle.dw_normal.specs.Inner.PlainFde.{FirstIs, IsKnown, PlainMember}
+use Rattle.dw_normal.specs.Inner.PlainFde.{FirstIs, IsKnown, KeepsFirst, Opens, PlainMember}
+use Rattle.dw_normal.proofs.Grouped.{no_member}
 use Rattle.dw_normal.proofs.Located.{Located}
 use Rattle.dw_normal.proofs.Placed.{first_at, row_in, same_row}
 use Rattle.dw_normal.proofs.PlainMembers.{is_plain, one_opening}
@@ -49,39 +50,55 @@ module _ {t : Target} {s : List ℕ} (b : AreBytes s) (ok : Accepted t s) {ms : 
   pub turned_some : begun.fde.begin < begun.fde.end
   turned_some = let begin = ap (λ (f : Fde). f.begin) is in let end = ap (λ (f : Fde). f.end) is in omega (arith, some, begin, end)
 
-  module _ (first : Rules) (first_is : first ≡ m.first) where
-    pub turned_fits : AllByRecursion (InstrFits t) (difference begun.shared.now begun.shared.now first)
-    turned_fits = rw (shared_is, first_is) (first_at t s b ok ms are k d lt)
+  pub turned_plain : (first : Rules) → first ≡ m.first → (factors : Factors) (bytes : List ℕ) (row : CieRow) → OpensBehind t s (fde_of m) row → HasProgram t s (fde_of m) factors bytes
+      → PlainMember t ms m begun.fde factors bytes begun.shared.now first
+  turned_plain first first_is factors bytes row o p =
+      let end = ap (λ (f : Fde). f.end) is in
+      let own = is_plain t s b ok ms are k d lt row o p.initial p.instrs p.says factors bytes begun.shared.now first begun.fde.begin (begun.fde.end - 1) p.factors_are p.bytes_are shared_is first_is (ap (λ (f : Fde). f.begin) is) (omega (arith, some, end)) in
+      record { fde = is; shared_is = shared_is; first_is = first_is; initial = own.initial; instrs = p.instrs; plain = own.plain; written = own.written }
 
-    pub turned_plain : (factors : Factors) (bytes : List ℕ) (row : CieRow) → OpensBehind t s (fde_of m) row → HasProgram t s (fde_of m) factors bytes → PlainMember t ms m begun.fde factors bytes begun.shared.now first
-    turned_plain factors bytes row o p =
-        let end = ap (λ (f : Fde). f.end) is in
-        let own = is_plain t s b ok ms are k d lt row o p.initial p.instrs p.says factors bytes begun.shared.now first begun.fde.begin (begun.fde.end - 1) p.factors_are p.bytes_are shared_is first_is (ap (λ (f : Fde). f.begin) is) (omega (arith, some, end)) in
-        record { fde = is; shared_is = shared_is; first_is = first_is; initial = own.initial; instrs = p.instrs; plain = own.plain; written = own.written }
+  pub turned_shared : begun.shared.now ≡ initial_of ms begun.fde.return_register
+  turned_shared = shared_is ∙ ap (initial_of ms) (sym (ap (λ (f : Fde). f.return_register) is))
 
 -- ---- the row that is known
 
 module _ (t : Target) (s : List ℕ) where
   -- where it is that of an FDE
-  pub known_is : (o old : Option Opened) (behind : Option CieRow) (first : Rules) → o ≡ old → FirstIs t s old → IsKnown o behind first → (ms : List Member) → AreMembers t s ms → (d : Member) (k : ℕ) → k < length ms
-      → IfSome behind (OpensBehind t s (fde_of (get_or ms k d))) → (row : CieRow) × OpensBehind t s (fde_of (get_or ms k d)) row × (first ≡ (get_or ms k d).first)
-  known_is o old behind first same is known ms are d k lt opens =
+  pub known_is : (o old : Option Opened) (behind : Option CieRow) (register : ℕ) (own : Opened) → o ≡ old → FirstIs t s old → IsKnown o behind register own → (ms : List Member) → AreMembers t s ms → (d : Member) (k : ℕ) → k < length ms
+      → IfSome behind (OpensBehind t s (fde_of (get_or ms k d))) → OpensBehind t s (fde_of (get_or ms k d)) own.behind × (own.first ≡ (get_or ms k d).first)
+  known_is o old behind register own same is known ms are d k lt opens =
       let there = subst (FirstIs t s) (sym same ∙ known.is) is in
-      let own = subst (λ (b : Option CieRow). IfSome b (OpensBehind t s (fde_of (get_or ms k d)))) known.same opens in
-      (known.own.behind, own, known.row ∙ sym (there ms are d k lt own))
+      let here = subst (λ (b : Option CieRow). IfSome b (OpensBehind t s (fde_of (get_or ms k d)))) known.same opens in
+      (here, sym (there.first ms are d k lt here))
+
+  -- and what leads to it
+  pub known_opens : (o old : Option Opened) (behind : Option CieRow) (register : ℕ) (own : Opened) → o ≡ old → FirstIs t s old → IsKnown o behind register own → (ms : List Member) → AreMembers t s ms → (shared : Rules) → shared ≡ initial_of ms register
+      → Opens t shared own.first own
+  known_opens o old behind register own same is known ms are shared shared_is =
+      let there = subst (FirstIs t s) (sym same ∙ known.is) is in
+      let row : shared ≡ initial_of ms own.register = shared_is ∙ ap (initial_of ms) (sym known.of) in
+      record { row = refl; bytes = there.bytes ms are ∙ ap (λ (r : Rules). program_bytes t (difference r r own.first)) (sym row) }
 
   -- one that was found at an FDE
-  pub first_known : AreBytes s → Accepted t s → (o : Option Opened) (behind : Option CieRow) (first : Rules) → IsKnown o behind first → (place : ℕ) → ((ms : List Member) → AreMembers t s ms → place < length ms)
-      → ((ms : List Member) → AreMembers t s ms → (d : Member) → IfSome behind (OpensBehind t s (fde_of (get_or ms place d)))) → ((ms : List Member) → AreMembers t s ms → (d : Member) → first ≡ (get_or ms place d).first)
+  pub first_known : AreBytes s → Accepted t s → (o : Option Opened) (behind : Option CieRow) (begun : Begun) → KeepsFirst t behind begun o → (place : ℕ) → ((ms : List Member) → AreMembers t s ms → place < length ms)
+      → ((ms : List Member) → AreMembers t s ms → (d : Member) → IfSome behind (OpensBehind t s (fde_of (get_or ms place d)))) → ((ms : List Member) → AreMembers t s ms → (d : Member) → Begins ms (get_or ms place d) begun)
       → FirstIs t s o
-  first_known b ok o behind first known place lt opens found =
-      subst (FirstIs t s) (sym known.is) (λ ms are d k less p.
-      let own = subst (λ (r : Option CieRow). IfSome r (OpensBehind t s (fde_of (get_or ms place d)))) known.same (opens ms are d) in
-      one_opening t s b ok ms are d k place known.own.behind less (lt ms are) p own ∙ sym (found ms are d) ∙ known.row)
+  first_known b ok o behind begun kept place lt opens found =
+      let own = kept.own in
+      let known = kept.known in
+      subst (FirstIs t s) (sym known.is) (record {
+        first = λ ms are d k less p.
+            let here = subst (λ (r : Option CieRow). IfSome r (OpensBehind t s (fde_of (get_or ms place d)))) known.same (opens ms are d) in
+            one_opening t s b ok ms are d k place own.behind less (lt ms are) p here ∙ sym (found ms are d).first ∙ sym kept.opens.row;
+        bytes = λ ms are.
+            let is = found ms are no_member in
+            let register : own.register ≡ (get_or ms place no_member).register = known.of ∙ ap (λ (f : Fde). f.return_register) is.fde in
+            let row : begun.shared.now ≡ initial_of ms own.register = is.shared ∙ ap (initial_of ms) (sym register) in
+            kept.opens.bytes ∙ ap (λ (r : Rules). program_bytes t (difference r r (shown_row begun.changes))) row ∙ ap (λ (r : Rules). program_bytes t (difference (initial_of ms own.register) (initial_of ms own.register) r)) (sym kept.opens.row);
+      })
 
-  pub kept_known : AreBytes s → Accepted t s → (old new : Option Opened) (behind : Option CieRow) (changes : Changing) → (new ≡ old) ⊎ ((row : Rules) × (changes.shown ≡ Some row) × IsKnown new behind row) → FirstIs t s old → (place : ℕ)
+  pub kept_known : AreBytes s → Accepted t s → (old new : Option Opened) (behind : Option CieRow) (begun : Begun) → (new ≡ old) ⊎ KeepsFirst t behind begun new → FirstIs t s old → (place : ℕ)
       → ((ms : List Member) → AreMembers t s ms → place < length ms) → ((ms : List Member) → AreMembers t s ms → (d : Member) → IfSome behind (OpensBehind t s (fde_of (get_or ms place d))))
-      → ((ms : List Member) → AreMembers t s ms → (d : Member) → shown_row changes ≡ (get_or ms place d).first) → FirstIs t s new
-  kept_known b ok old new behind changes (inl same) is place lt opens found = subst (FirstIs t s) (sym same) is
-  kept_known b ok old new behind changes (inr (row, shown, known)) is place lt opens found =
-      first_known b ok new behind row known place lt opens (λ ms are d. sym (ap row_or_blank shown) ∙ found ms are d)
+      → ((ms : List Member) → AreMembers t s ms → (d : Member) → Begins ms (get_or ms place d) begun) → FirstIs t s new
+  kept_known b ok old new behind begun (inl same) is place lt opens found = subst (FirstIs t s) (sym same) is
+  kept_known b ok old new behind begun (inr kept) is place lt opens found = first_known b ok new behind begun kept place lt opens found

@@ -23,7 +23,7 @@ module _ (t : Target) (shared old new : Rules) where
   abbrev rules : List Instr
   rules = rules_from shared old new 0
 
-  divided : difference shared old new ≡ cfa ++ rules
+  pub divided : difference shared old new ≡ cfa ++ rules
   divided = ap (λ (l : List ℕ). cfa ++ flat_map (rule_difference shared old new) l) (sym (from_first (either old new)))
 
   pub rules_fit : AllByRecursion (InstrFits t) (difference shared old new) → AllByRecursion (InstrFits t) rules

@@ -221,16 +221,16 @@ fn fill_plain_at<'r, 'a>(
 {
     table.accepted();
     turn_to(writing, table, rows, places, fde);
-    let Some(first) = known_first(&writing.opened, opening.row) else {
+    let (listed, shared) = (writing.begun.fde, writing.begun.shared);
+    let Some(opened) = known_first(&writing.opened, opening.row, listed.return_register) else {
         return Ok(false);
     };
-    let (listed, shared) = (writing.begun.fde, writing.begun.shared);
     fill_plain(
         out,
         writing.cie_at,
         listed,
         opening,
-        first,
+        opened,
         shared,
         table.target(),
     )
@@ -264,10 +264,12 @@ fn fill_rows_at<'r, 'a>(
     table.accepted();
     let known = writing.begun.fde.return_register;
     begin_fde(&mut writing.begun, rows, table, fde)?;
-    keep_first(&mut writing.opened, row, &writing.begun.changes)?;
+    let target = table.target();
+    let alloc = *out.allocator();
+    keep_first(alloc, &mut writing.opened, row, &writing.begun, target)?;
     let register = writing.begun.fde.return_register;
     writing.cie_at = cie_of(places, register, known, writing.cie_at);
-    fill_fde(out, writing.cie_at, &mut writing.begun, table.target())
+    fill_fde(out, writing.cie_at, &mut writing.begun, target)
 }
 
 // Makes a buffer an FDE of a table, with room for its length, where these are the initial rows and the places of CIEs.

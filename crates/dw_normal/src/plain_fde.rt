@@ -4,67 +4,107 @@ ghost use Rattle.std.specs.Prelude.{◌≡◌, ◌⊎◌, ◌+◌, ◌++◌, ◌
 ghost use Rattle.std.specs.List.{AllByRecursion};
 ghost use Rattle.dw_num.specs.Fixed.{fixed_bytes};
 ghost use Rattle.dw_num.specs.Target.{address_limit};
-ghost use Rattle.dw_cfa.specs.Rows.{Rules};
 ghost use Rattle.dw_canon.specs.Inner.Canon.{fde_instrs, initial_of};
 ghost use Rattle.dw_canon.specs.Inner.Difference.{difference};
 ghost use Rattle.dw_canon.specs.Inner.Fits.{InstrFits};
 ghost use Rattle.dw_canon.specs.Inner.Spelling.{program_bytes};
 ghost use Rattle.dw_canon.specs.Inner.Written.{fde, contents};
 ghost use Rattle.dw_canon.specs.Members.{Member};
-ghost use Rattle.dw_normal.specs.Inner.PlainFde.{IsKnown, PlainMember};
+ghost use Rattle.dw_normal.specs.Inner.ChangeWalk.{shown_row};
+ghost use Rattle.dw_normal.specs.Inner.PlainFde.{IsKnown, KeepsFirst, Opens, PlainMember};
 
+use crate::begun::Begun;
 use crate::contents::{begin_entry, push_fde_fields, push_nops};
 use crate::plain_program::{Frame, push_plain};
 use crate::program::push_difference;
 use dw_cfa::Row;
 use dw_num::Target;
-use dw_section::{Changes, CieRow, Fde, Opening};
-use std::alloc::AllocError;
+use dw_section::{CieRow, Fde, Opening};
+use std::alloc::{AllocError, Global};
 
-/// A row that FDEs of one CIE begin with, as it was found at one of them.
+/// A row that FDEs of one CIE and of one return register begin with, as it was found at one of them.
 #[derive(Drop)]
 pub(crate) struct Opened<'a> {
     pub(crate) behind: CieRow,
+    pub(crate) register: u16,
     pub(crate) first: Row<'a>,
+    /// What leads to it from the initial row of the group.
+    pub(crate) program: Vec<u8>,
 }
 
-/// The row that an FDE begins with, where it is the one that is known.
+/// What is known of the row that an FDE of a return register begins with.
 #[inline(always)]
 pub(crate) fn known_first<'o, 'a>(
     opened: &'o Option<Opened<'a>>,
     behind: Option<CieRow>,
-) -> Option<&'o Row<'a>>
-    ensures { IfSome result (λ first. IsKnown opened.now behind first.now) }
+    register: u16,
+) -> Option<&'o Opened<'a>>
+    ensures { IfSome result (λ own. IsKnown opened.now behind register own.now) }
 {
     match (opened, behind) {
-        (Some(opened), Some(behind)) if opened.behind == behind => Some(&opened.first),
+        (Some(own), Some(behind)) if own.behind == behind && own.register == register => Some(own),
         _ => None,
     }
+}
+
+// What is known of a row.
+fn opened_by<'a>(
+    alloc: Global,
+    behind: CieRow,
+    register: u16,
+    first: &Row<'a>,
+    shared: &Row<'a>,
+    target: Target,
+) -> Result<Opened<'a>, AllocError>
+    requires { AllByRecursion (InstrFits target) (difference shared.now shared.now first.now) }
+    ensures { IfOk result (λ own. (own.behind ≡ behind) × (own.register ≡ register) × Opens target shared.now first.now own) }
+{
+    let mut program = Vec::new(alloc);
+    push_difference(&mut program, shared, shared, first, target)?;
+    Ok(Opened {
+        behind,
+        register,
+        first: first.copied()?,
+        program,
+    })
 }
 
 /// Keeps the row at an FDE's begin, which is shown, for those that begin with it too. One with registers from 32 on is not kept.
 #[inline(always)]
 pub(crate) fn keep_first<'a>(
+    alloc: Global,
     opened: &mut Option<Opened<'a>>,
     behind: Option<CieRow>,
-    changes: &Changes<'a>,
+    begun: &Begun<'_, 'a>,
+    target: Target,
 ) -> Result<(), AllocError>
-    ensures { OnOk result (opened.new ≡ opened.old ⊎ ((row : Rules) × (changes.now.shown ≡ Some row) × IsKnown opened.new behind row)) }
+    requires { AllByRecursion (InstrFits target) (difference begun.now.shared.now begun.now.shared.now (shown_row begun.now.changes)) }
+    ensures { OnOk result (opened.new ≡ opened.old ⊎ KeepsFirst target behind begun.now opened.new) }
 {
-    let (Some(behind), Some(first)) = (behind, changes.row()) else {
+    let (Some(behind), Some(first)) = (behind, begun.changes.row()) else {
         return Ok(());
     };
-    if first.near_rules().is_none() {
+    let register = begun.fde.return_register;
+    if first.near_rules().is_none() || known_first(opened, Some(behind), register).is_some() {
         return Ok(());
     }
-    if known_first(opened, Some(behind)).is_some() {
-        return Ok(());
-    }
-    *opened = Some(Opened {
-        behind,
-        first: first.copied()?,
-    });
+    *opened = Some(opened_by(alloc, behind, register, first, begun.shared, target)?);
     Ok(())
+}
+
+// Appends what leads to the row at the begin from the initial one.
+#[inline(always)]
+fn push_opened<'a>(
+    out: &mut Vec<u8>,
+    opened: &Opened<'a>,
+    shared: &Row<'a>,
+    target: Target,
+) -> Result<(), AllocError>
+    requires { Opens target shared.now opened.now.first opened.now }
+    ensures { OnOk result (out.new.items ≡ out.old.items ++ program_bytes target (difference shared.now shared.now opened.now.first)) }
+{
+    let (_shared, _target) = (shared, target);
+    out.extend_from_slice(&opened.program)
 }
 
 /// Makes a buffer an FDE, where its CIE stands at a place, with room for its length. It says no where the program is not plain, and
@@ -74,24 +114,24 @@ pub(crate) fn fill_plain<'a>(
     cie_at: u64,
     listed: Fde,
     opening: Opening<'_>,
-    first: &Row<'a>,
+    opened: &Opened<'a>,
     shared: &Row<'a>,
     target: Target,
 ) -> Result<bool, AllocError>
-    requires is { (ms : List Member) × (m : Member) × PlainMember target ms m listed opening.factors opening.program.now shared.now first.now }
-    requires fits { AllByRecursion (InstrFits target) (difference shared.now shared.now first.now) }
+    requires is { (ms : List Member) × (m : Member) × PlainMember target ms m listed opening.factors opening.program.now shared.now opened.now.first }
+    requires opens { Opens target shared.now opened.now.first opened.now }
     requires cie_at { cie_at < 2 ^ 32 }
     requires begin { listed.begin < address_limit target.size }
     requires rises { listed.begin < listed.end }
     requires range { listed.end < listed.begin + address_limit target.size }
-    ensures { (ms : List Member) (m : Member) → PlainMember target ms m listed opening.entry.factors opening.entry.program.now shared.now first.now → IfOk result (λ plain. IsTrue plain → out.new.items ≡ fixed_bytes target.order 4 0 ++ contents target (fde cie_at m.begin (m.end - m.begin) (fde_instrs (initial_of ms m.register) m) (program_bytes target (fde_instrs (initial_of ms m.register) m)))) }
+    ensures { (ms : List Member) (m : Member) → PlainMember target ms m listed opening.entry.factors opening.entry.program.now shared.now opened.now.first → IfOk result (λ plain. IsTrue plain → out.new.items ≡ fixed_bytes target.order 4 0 ++ contents target (fde cie_at m.begin (m.end - m.begin) (fde_instrs (initial_of ms m.register) m) (program_bytes target (fde_instrs (initial_of ms m.register) m)))) }
 {
     let range = (listed.end - u128::from(listed.begin)) as u64;
     begin_entry(out, target.order)?;
     push_fde_fields(out, cie_at, listed.begin, range, target)?;
-    push_difference(out, shared, shared, first, target)?;
+    push_opened(out, opened, shared, target)?;
     let frame = Frame {
-        first,
+        first: &opened.first,
         shared,
         last: (listed.end - 1) as u64,
         target,

@@ -1,7 +1,8 @@
 //! The current row of a plain program beside the one that was written last (6.4.1). Both are told by the row at the FDE's begin, the
 //! rule of the CFA, and the offsets of registers below 32, so a row is written by what was set since.
 
-ghost use Rattle.std.specs.Prelude.{◌≡◌, ◌↔◌, ◌<◌, ◌∷◌, ◌++◌, false, length, Some, IfSome, IsTrue, OnOk, ℤ};
+ghost use Rattle.std.specs.Prelude.{◌≡◌, ◌↔◌, ◌<◌, ◌≤◌, ◌+◌, [], ◌∷◌, ◌++◌, unsigned_abs, false, length, Some, IfSome, IsTrue, OnOk, ℤ};
+ghost use Rattle.std.specs.Int.{is_negative};
 ghost use Rattle.std.specs.List.{AllByRecursion};
 ghost use Rattle.dw_num.specs.Target.{address_limit};
 ghost use Rattle.dw_cfa.specs.Difference.{FirstDifference};
@@ -10,15 +11,15 @@ ghost use Rattle.dw_cfa.specs.declared.rule.RegRule.TheVariants.{Offset};
 ghost use Rattle.dw_cfa.specs.Inner.RowEquality.{same_rows};
 ghost use Rattle.dw_cfa.specs.Inner.Rows.{with_cfa, with_rule};
 ghost use Rattle.dw_canon.specs.Difference.{move};
-ghost use Rattle.dw_canon.specs.Inner.Difference.{difference, rule_to};
+ghost use Rattle.dw_canon.specs.Inner.Difference.{cfa_difference, difference, rule_to};
 ghost use Rattle.dw_canon.specs.Inner.Fits.{InstrFits};
 ghost use Rattle.dw_canon.specs.Inner.Spelling.{instr_bytes, program_bytes};
 ghost use Rattle.dw_normal.specs.Inner.PlainRows.{IsChanged, IsWritten, RowsSo, cfa_of, own_row, row_instrs, rule_with, saved_at, written_row};
 ghost use Rattle.dw_normal.specs.Inner.RegisterWalk.{rules_from};
 
-use crate::instruction::{push_offset, push_packed};
-use crate::opcode::{RESTORE, RESTORE_EXTENDED};
-use crate::program::{push_cfa_rule, push_move, push_register};
+use crate::instruction::{push_advance, push_cfa_offset, push_offset, push_packed};
+use crate::opcode::{ADVANCE_LOC, DEF_CFA_OFFSET, RESTORE, RESTORE_EXTENDED};
+use crate::program::{push_cfa_rule, push_far_move, push_register};
 use dw_cfa::{CfaRule, Row};
 use dw_num::Target;
 use std::alloc::AllocError;
@@ -56,10 +57,115 @@ fn rule_of_cfa(cfa: Cfa) -> CfaRule<'static>
 }
 
 // Whether two rules of the CFA are one.
+#[inline(always)]
 fn is_same(cfa: Cfa, other: Cfa) -> bool
     ensures { IsTrue result ↔ (cfa ≡ other) }
 {
     cfa.register == other.register && cfa.offset == other.offset
+}
+
+// Apart from `push_cfa`, since the register of the CFA mostly stays.
+#[inline(never)]
+fn push_other_cfa(out: &mut Vec<u8>, old: Cfa, new: Cfa, target: Target) -> Result<(), AllocError>
+    requires { AllByRecursion (InstrFits target) (cfa_difference (cfa_of old) (cfa_of new)) }
+    ensures { OnOk result (out.new.items ≡ out.old.items ++ program_bytes target (cfa_difference (cfa_of old) (cfa_of new))) }
+{
+    push_cfa_rule(out, &rule_of_cfa(old), &rule_of_cfa(new), target)
+}
+
+// Appends what leads from one rule of the CFA to another: mostly another offset from the same register.
+#[inline(always)]
+fn push_cfa(out: &mut Vec<u8>, old: Cfa, new: Cfa, target: Target) -> Result<(), AllocError>
+    requires { AllByRecursion (InstrFits target) (cfa_difference (cfa_of old) (cfa_of new)) }
+    ensures { OnOk result (out.new.items ≡ out.old.items ++ program_bytes target (cfa_difference (cfa_of old) (cfa_of new))) }
+{
+    if old.register != new.register {
+        return push_other_cfa(out, old, new, target);
+    }
+    if old.offset == new.offset {
+        return Ok(());
+    }
+    push_cfa_offset(out, new.offset, target)
+}
+
+// Appends what moves the location, mostly by a few bytes.
+#[inline(always)]
+#[tactic(auto, unfolding(dw_canon::specs::Spelling::instr_bytes))]
+fn push_step(out: &mut Vec<u8>, from: u64, to: u64, target: Target) -> Result<(), AllocError>
+    requires rises { from < to }
+    requires in_space { to < address_limit target.size }
+    ensures { OnOk result (out.new.items ≡ out.old.items ++ instr_bytes target (move from to)) }
+{
+    let distance = to - from;
+    if distance < 64 {
+        return push_advance(out, target.order, distance as u32);
+    }
+    push_far_move(out, u128::from(from), u128::from(to), target)
+}
+
+// Appends a move and what leads from one rule of the CFA to another. Apart from `push_cfa_row`, since both are mostly short.
+#[inline(never)]
+fn push_long_row(
+    out: &mut Vec<u8>,
+    from: u64,
+    to: u64,
+    old: Cfa,
+    new: Cfa,
+    target: Target,
+) -> Result<(), AllocError>
+    requires rises { from < to }
+    requires in_space { to < address_limit target.size }
+    requires fits { AllByRecursion (InstrFits target) (cfa_difference (cfa_of old) (cfa_of new)) }
+    ensures { OnOk result (out.new.items ≡ out.old.items ++ program_bytes target (move from to ∷ cfa_difference (cfa_of old) (cfa_of new))) }
+{
+    push_step(out, from, to, target)?;
+    push_cfa(out, old, new, target)
+}
+
+// Appends a short advance and a small offset of the CFA: three bytes, for which room is made once.
+#[inline(always)]
+fn push_short(out: &mut Vec<u8>, distance: u64, offset: u64) -> Result<(), AllocError>
+    requires near { distance < 64 }
+    requires small { offset < 128 }
+    ensures { OnOk result (out.new.items ≡ out.old.items ++ (64 + distance) ∷ 14 ∷ offset ∷ []) }
+{
+    out.reserve(3)?;
+    out.push_reserved(ADVANCE_LOC + distance as u8);
+    out.push_reserved(DEF_CFA_OFFSET);
+    out.push_reserved(offset as u8);
+    Ok(())
+}
+
+// Whether an offset of the CFA alone has to be given, which is one byte.
+#[inline(always)]
+fn is_small(old: Cfa, new: Cfa) -> bool
+    ensures { IsTrue result → (old.register ≡ new.register) × (old.offset ≡ new.offset → ⊥) × (is_negative new.offset ≡ false) × (unsigned_abs new.offset < 128) }
+{
+    old.register == new.register
+        && old.offset != new.offset
+        && new.offset >= 0
+        && new.offset.unsigned_abs() < 128
+}
+
+// Appends a move and what leads from one rule of the CFA to another.
+#[inline(always)]
+fn push_cfa_row(
+    out: &mut Vec<u8>,
+    from: u64,
+    to: u64,
+    old: Cfa,
+    new: Cfa,
+    target: Target,
+) -> Result<(), AllocError>
+    requires rises { from < to }
+    requires in_space { to < address_limit target.size }
+    requires fits { AllByRecursion (InstrFits target) (cfa_difference (cfa_of old) (cfa_of new)) }
+    ensures { OnOk result (out.new.items ≡ out.old.items ++ program_bytes target (move from to ∷ cfa_difference (cfa_of old) (cfa_of new))) }
+{
+    if to - from < 64 && is_small(old, new) {
+        return push_short(out, to - from, new.offset.unsigned_abs());
+    }
+    push_long_row(out, from, to, old, new, target)
 }
 
 // Appends what saves a register at an offset from the CFA: `Restore` where that is its initial rule.
@@ -269,19 +375,13 @@ impl PlainRows {
         requires fits { AllByRecursion (InstrFits target) (difference shared.now (written_row first.now self.now) (own_row first.now self.now)) }
         ensures { OnOk result (out.new.items ≡ out.old.items ++ program_bytes target (move self.now.at self.now.start ∷ difference shared.now (written_row first.now self.now) (own_row first.now self.now))) }
     {
-        push_move(out, u128::from(self.at), u128::from(self.start), target)?;
-        push_cfa_rule(
-            out,
-            &rule_of_cfa(self.written_cfa),
-            &rule_of_cfa(self.cfa),
-            target,
-        )?;
+        push_cfa_row(out, self.at, self.start, self.written_cfa, self.cfa, target)?;
         self.push_registers(out, first, shared, target)
     }
 
-    /// Appends what leads to the current row from the one that was written last, unless it is that one.
-    #[inline(always)]
-    pub(crate) fn push_row<'a>(
+    // The same as `push_row`, where registers were set since.
+    #[inline(never)]
+    fn push_touched<'a>(
         &mut self,
         out: &mut Vec<u8>,
         first: &Row<'a>,
@@ -302,6 +402,55 @@ impl PlainRows {
         self.note(first);
         self.at = self.start;
         Ok(())
+    }
+
+    // The same where none was.
+    #[inline(always)]
+    fn push_untouched<'a>(
+        &mut self,
+        out: &mut Vec<u8>,
+        first: &Row<'a>,
+        shared: &Row<'a>,
+        target: Target,
+    ) -> Result<(), AllocError>
+        requires untouched { self.old.high ≤ self.old.low }
+        requires so { RowsSo first.now self.old }
+        requires rises { same_rows (written_row first.now self.old) (own_row first.now self.old) ≡ false → self.old.at < self.old.start }
+        requires in_space { self.old.start < address_limit target.size }
+        requires fits { same_rows (written_row first.now self.old) (own_row first.now self.old) ≡ false → AllByRecursion (InstrFits target) (difference shared.now (written_row first.now self.old) (own_row first.now self.old)) }
+        ensures appends { OnOk result (out.new.items ≡ out.old.items ++ program_bytes target (row_instrs shared.now first.now self.old)) }
+        ensures written { OnOk result (IsWritten first.now self.old self.new) }
+    {
+        let (_first, _shared) = (first, shared);
+        if is_same(self.written_cfa, self.cfa) {
+            return Ok(());
+        }
+        push_cfa_row(out, self.at, self.start, self.written_cfa, self.cfa, target)?;
+        self.written_cfa = self.cfa;
+        self.at = self.start;
+        Ok(())
+    }
+
+    /// Appends what leads to the current row from the one that was written last, unless it is that one.
+    #[inline(always)]
+    pub(crate) fn push_row<'a>(
+        &mut self,
+        out: &mut Vec<u8>,
+        first: &Row<'a>,
+        shared: &Row<'a>,
+        target: Target,
+    ) -> Result<(), AllocError>
+        requires so { RowsSo first.now self.old }
+        requires rises { same_rows (written_row first.now self.old) (own_row first.now self.old) ≡ false → self.old.at < self.old.start }
+        requires in_space { self.old.start < address_limit target.size }
+        requires fits { same_rows (written_row first.now self.old) (own_row first.now self.old) ≡ false → AllByRecursion (InstrFits target) (difference shared.now (written_row first.now self.old) (own_row first.now self.old)) }
+        ensures appends { OnOk result (out.new.items ≡ out.old.items ++ program_bytes target (row_instrs shared.now first.now self.old)) }
+        ensures written { OnOk result (IsWritten first.now self.old self.new) }
+    {
+        if self.low < self.high {
+            return self.push_touched(out, first, shared, target);
+        }
+        self.push_untouched(out, first, shared, target)
     }
 
     /// The offset of a register below 32 in the current row, or none where it has the rule of the row at the FDE's begin.

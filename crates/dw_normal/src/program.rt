@@ -156,10 +156,15 @@ pub(crate) fn push_difference<'a>(
     push_rules(out, shared, before, after, target)
 }
 
-// Appends what moves the location far.
+/// Appends what moves the location far.
 #[inline(never)]
 #[tactic(auto, unfolding(dw_canon::specs::Spelling::instr_bytes))]
-fn push_far_move(out: &mut Vec<u8>, from: u128, to: u128, target: Target) -> Result<(), AllocError>
+pub(crate) fn push_far_move(
+    out: &mut Vec<u8>,
+    from: u128,
+    to: u128,
+    target: Target,
+) -> Result<(), AllocError>
     requires rises { from < to }
     requires in_space { to < address_limit target.size }
     ensures { OnOk result (out.new.items ≡ out.old.items ++ instr_bytes target (move from to)) }

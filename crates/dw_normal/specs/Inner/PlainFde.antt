@@ -8,10 +8,12 @@ use Rattle.dw_section.specs.Opening.{OpensBehind}
 use Rattle.dw_section.specs.declared.lookup.Fde.{Fde}
 use Rattle.dw_section.specs.declared.opening.CieRow.{CieRow}
 use Rattle.dw_canon.specs.Inner.Canon.{initial_of}
-use Rattle.dw_canon.specs.Inner.Difference.{later_changes}
+use Rattle.dw_canon.specs.Inner.Difference.{difference, later_changes}
 use Rattle.dw_canon.specs.Inner.Spelling.{program_bytes}
 use Rattle.dw_canon.specs.Members.{Member, AreMembers, fde_of}
+use Rattle.dw_normal.specs.declared.begun.Begun.{Begun}
 use Rattle.dw_normal.specs.declared.plain_fde.Opened.{Opened}
+use Rattle.dw_normal.specs.Inner.ChangeWalk.{shown_row}
 use Rattle.dw_normal.specs.Inner.PlainProgram.{IsPlain, plain_bytes}
 
 -- it is this one among those, and its program gives its later changes
@@ -24,15 +26,29 @@ pub record PlainMember (t : Target) (ms : List Member) (m : Member) (f : Fde) (f
   pub plain : IsPlain t factors shared first f.begin (f.end - 1) initial instrs bytes
   pub written : plain_bytes t shared first f.begin (f.end - 1) initial instrs ≡ program_bytes t (later_changes shared m.begin m.first m.later)
 
--- a row that is known, where FDEs begin behind this one
-pub record IsKnown (opened : Option Opened) (behind : Option CieRow) (first : Rules) : Type 0 where
-  pub own : Opened
+-- this row, and what leads to it from the initial one
+pub record Opens (t : Target) (shared first : Rules) (own : Opened) : Type 0 where
+  pub row : own.first ≡ first
+  pub bytes : own.program.items ≡ program_bytes t (difference shared shared first)
+
+-- what is known, where an FDE of a return register begins behind this row
+pub record IsKnown (opened : Option Opened) (behind : Option CieRow) (register : ℕ) (own : Opened) : Type 0 where
   pub is : opened ≡ Some own
   pub same : behind ≡ Some own.behind
-  pub row : first ≡ own.first
+  pub of : own.register ≡ register
 
--- FDEs of the section that begin behind the known row have it at their begin
+-- it is the row at the begin of an FDE
+pub record KeepsFirst (t : Target) (behind : Option CieRow) (b : Begun) (opened : Option Opened) : Type 0 where
+  pub own : Opened
+  pub known : IsKnown opened behind b.fde.return_register own
+  pub opens : Opens t b.shared.now (shown_row b.changes) own
+
+-- FDEs of the section that begin behind the known row have it at their begin, and this leads to it from the initial row of those of
+-- the return register
+pub record FirstOf (t : Target) (s : List ℕ) (own : Opened) : Type 0 where
+  pub first : (ms : List Member) → AreMembers t s ms → (d : Member) (k : ℕ) → k < length ms → OpensBehind t s (fde_of (slice_index_or ms k d)) own.behind → (slice_index_or ms k d).first ≡ own.first
+  pub bytes : (ms : List Member) → AreMembers t s ms → own.program.items ≡ program_bytes t (difference (initial_of ms own.register) (initial_of ms own.register) own.first)
+
 abbrev pub FirstIs : Target → List ℕ → Option Opened → Type 0
 FirstIs t s None = Unit {0}
-FirstIs t s (Some opened) =
-    (ms : List Member) → AreMembers t s ms → (d : Member) (k : ℕ) → k < length ms → OpensBehind t s (fde_of (slice_index_or ms k d)) opened.behind → (slice_index_or ms k d).first ≡ opened.first
+FirstIs t s (Some own) = FirstOf t s own

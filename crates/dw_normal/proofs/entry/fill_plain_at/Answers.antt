@@ -1,12 +1,11 @@
-use Rattle.dw_normal.proofs.Words.{◌≡◌, ◌++◌, ◌-◌, ◌<◌, ℕ, List, length, get_or, refl, sym, ap, ◌∙◌, subst, IfSome, IsTrue, Bool, Target, address_limit, Fde, OpensBehind, difference, InstrFits, AllByRecursion}
+use Rattle.dw_normal.proofs.Words.{◌≡◌, ◌++◌, ◌-◌, ◌<◌, ℕ, List, length, get_or, refl, sym, ap, ◌∙◌, subst, IfSome, IsTrue, Bool, Target, address_limit, Fde, OpensBehind}
 use Rattle.dw_normal.proofs.Words.{Member, AreMembers, members_exist, fde_of, fixed_bytes, fde, contents, fde_instrs, initial_of, program_bytes, fde_with}
 use Rattle.dw_section.specs.Opening.{HasProgram}
-use Rattle.dw_section.specs.declared.opening.CieRow.{CieRow}
-use Rattle.dw_normal.specs.Inner.PlainFde.{PlainMember}
+use Rattle.dw_normal.specs.Inner.PlainFde.{Opens, PlainMember}
 use Rattle.dw_normal.proofs.Grouped.{no_member}
 use Rattle.dw_normal.proofs.Located.{Located, place_fits, place_own, begin_fits, range_fits}
 use Rattle.dw_normal.proofs.Placed.{below}
-use Rattle.dw_normal.proofs.PlainFdes.{as_begun, if_ok, known_is, so_of_member, turned, turned_fits, turned_plain, turned_some}
+use Rattle.dw_normal.proofs.PlainFdes.{as_begun, if_ok, known_is, known_opens, so_of_member, turned, turned_plain, turned_shared, turned_some}
 use Rattle.dw_normal.proofs.entry.fill_plain_at.Goals.{In-Some}
 use Rattle.dw_normal.proofs.entry.fill_plain_at.Goals as goal
 
@@ -32,16 +31,17 @@ module _ (c : In-Some) (ms : List Member) (are : AreMembers c.args.table.now.tar
   some : c.turn_to.new.writing.begun.fde.begin < c.turn_to.new.writing.begun.fde.end
   some = turned_some c.accepted.ensures.bytes c.accepted.ensures.accepted are c.args.fde.place d lt c.turn_to.new.writing.begun is c.args.rows.now.entries (c.requires.rows ms are) c.turn_to.ensures.shares
 
-  known : (row : CieRow) × OpensBehind t s (fde_of m) row × (c.in-Some.first.now ≡ m.first)
-  known = known_is t s c.turn_to.new.writing.opened c.args.writing.now.opened c.args.opening.row c.in-Some.first.now c.turn_to.ensures.same.1 c.requires.first c.in-Some.ensures ms are d c.args.fde.place lt
+  known : OpensBehind t s (fde_of m) c.in-Some.opened.now.behind × (c.in-Some.opened.now.first ≡ m.first)
+  known = known_is t s c.turn_to.new.writing.opened c.args.writing.now.opened c.args.opening.row c.turn_to.new.writing.begun.fde.return_register c.in-Some.opened.now c.turn_to.ensures.same.1 c.requires.first c.in-Some.ensures ms are d c.args.fde.place lt
       (so_of_member (λ (f : Fde). IfSome c.args.opening.row (OpensBehind t s f)) c.args.fde.place c.requires.opens ms are d)
 
-  fits : AllByRecursion (InstrFits t) (difference c.turn_to.new.writing.begun.shared.now c.turn_to.new.writing.begun.shared.now c.in-Some.first.now)
-  fits = turned_fits c.accepted.ensures.bytes c.accepted.ensures.accepted are c.args.fde.place d lt c.turn_to.new.writing.begun is c.args.rows.now.entries (c.requires.rows ms are) c.turn_to.ensures.shares c.in-Some.first.now known.2
+  opens : Opens t c.turn_to.new.writing.begun.shared.now c.in-Some.opened.now.first c.in-Some.opened.now
+  opens = known_opens t s c.turn_to.new.writing.opened c.args.writing.now.opened c.args.opening.row c.turn_to.new.writing.begun.fde.return_register c.in-Some.opened.now c.turn_to.ensures.same.1 c.requires.first c.in-Some.ensures ms are c.turn_to.new.writing.begun.shared.now
+      (turned_shared c.accepted.ensures.bytes c.accepted.ensures.accepted are c.args.fde.place d lt c.turn_to.new.writing.begun is c.args.rows.now.entries (c.requires.rows ms are) c.turn_to.ensures.shares)
 
-  plain : PlainMember t ms m c.turn_to.new.writing.begun.fde c.args.opening.factors c.args.opening.program.now c.turn_to.new.writing.begun.shared.now c.in-Some.first.now
-  plain = turned_plain c.accepted.ensures.bytes c.accepted.ensures.accepted are c.args.fde.place d lt c.turn_to.new.writing.begun is c.args.rows.now.entries (c.requires.rows ms are) c.turn_to.ensures.shares c.in-Some.first.now known.2
-      c.args.opening.factors c.args.opening.program.now known.0 known.1 (so_of_member (λ (f : Fde). HasProgram t s f c.args.opening.factors c.args.opening.program.now) c.args.fde.place c.requires.program ms are d)
+  plain : PlainMember t ms m c.turn_to.new.writing.begun.fde c.args.opening.factors c.args.opening.program.now c.turn_to.new.writing.begun.shared.now c.in-Some.opened.now.first
+  plain = turned_plain c.accepted.ensures.bytes c.accepted.ensures.accepted are c.args.fde.place d lt c.turn_to.new.writing.begun is c.args.rows.now.entries (c.requires.rows ms are) c.turn_to.ensures.shares c.in-Some.opened.now.first known.1
+      c.args.opening.factors c.args.opening.program.now c.in-Some.opened.now.behind known.0 (so_of_member (λ (f : Fde). HasProgram t s f c.args.opening.factors c.args.opening.program.now) c.args.fde.place c.requires.program ms are d)
 
 members : (c : In-Some) → (ms : List Member) × AreMembers c.args.table.now.target c.args.table.now.bytes ms
 members c = members_exist c.args.table.now.target c.args.table.now.bytes c.accepted.ensures.bytes c.accepted.ensures.accepted
@@ -53,11 +53,11 @@ fill_plain-requires-clause-is c =
     let m = get_or some.0 c.args.fde.place no_member in
     (some.0, m, rw c.target.ensures (plain at some.0 some.1 no_member))
 
-pub fill_plain-requires-clause-fits : goal.fill_plain-requires-clause-fits
-fill_plain-requires-clause-fits c =
-    let at = (goal.at.fill_plain-requires-clause-fits c).In-Some in
+pub fill_plain-requires-clause-opens : goal.fill_plain-requires-clause-opens
+fill_plain-requires-clause-opens c =
+    let at = (goal.at.fill_plain-requires-clause-opens c).In-Some in
     let some = members at in
-    rw c.target.ensures (fits at some.0 some.1 no_member)
+    rw c.target.ensures (opens at some.0 some.1 no_member)
 
 pub fill_plain-requires-clause-cie_at : goal.fill_plain-requires-clause-cie_at
 fill_plain-requires-clause-cie_at c =

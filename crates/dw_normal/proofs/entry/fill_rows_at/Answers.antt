@@ -1,11 +1,11 @@
-use Rattle.dw_normal.proofs.Words.{◌≡◌, ℕ, ◌+◌, ◌++◌, ◌-◌, ◌<◌, List, get_or, Option, refl, sym, ap, ◌∙◌, subst, IfSome, IsSome, Fde, OpensBehind, fixed_bytes, Target, address_limit, fde_instrs, initial_of, program_bytes, fde, contents, Member, AreMembers}
+use Rattle.dw_normal.proofs.Words.{◌≡◌, ◌⊎◌, ℕ, ◌+◌, ◌++◌, ◌-◌, ◌<◌, List, get_or, Option, refl, sym, ap, ◌∙◌, subst, IfSome, IsSome, Fde, OpensBehind, fixed_bytes, Target, address_limit, fde_instrs, initial_of, program_bytes, fde, contents, Member, AreMembers}
 use Rattle.dw_normal.proofs.Words.{members_exist, IsReady, fde_with}
 use Rattle.dw_normal.proofs.Filled.{on_ok}
 use Rattle.dw_normal.proofs.Grouped.{no_member}
 use Rattle.dw_normal.proofs.Located.{Located, has_place, place_fits, place_own, begin_fits, begins_below, range_fits}
 use Rattle.dw_normal.proofs.Placed.{below}
 use Rattle.dw_normal.proofs.PlainFdes.{kept_known, so_of_member, where_ok}
-use Rattle.dw_normal.specs.Inner.PlainFde.{FirstIs}
+use Rattle.dw_normal.specs.Inner.PlainFde.{FirstIs, KeepsFirst}
 use Rattle.dw_normal.proofs.entry.fill_rows_at.Goals.{In_ok-begin_fde}
 use Rattle.dw_normal.proofs.entry.fill_rows_at.Goals as goal
 
@@ -36,11 +36,11 @@ pub fill_fde-requires : goal.fill_fde-requires
 fill_fde-requires c =
     let there = (somewhere (goal.at.fill_fde-requires c).In_ok-begin_fde).1 in
     let begun = c.begin_fde.new.begun in record {
-      ready = subst (λ (u : Target). IsReady u begun) (sym c.target.ensures) c.in_ok-begin_fde.ensures.ready;
+      ready = subst (λ (u : Target). IsReady u begun) (sym c.target-target.ensures) c.in_ok-begin_fde.ensures.ready;
       cie_at = place_fits there c.cie_of-writing.ensures;
-      begin = subst (λ (u : Target). begun.fde.begin < address_limit u.size) (sym c.target.ensures) (begin_fits there);
+      begin = subst (λ (u : Target). begun.fde.begin < address_limit u.size) (sym c.target-target.ensures) (begin_fits there);
       rises = begins_below there;
-      range = subst (λ (u : Target). begun.fde.end < begun.fde.begin + address_limit u.size) (sym c.target.ensures) (range_fits there);
+      range = subst (λ (u : Target). begun.fde.end < begun.fde.begin + address_limit u.size) (sym c.target-target.ensures) (range_fits there);
     }
 
 pub returns-clause-contents : goal.returns-clause-contents
@@ -51,13 +51,14 @@ returns-clause-contents c = λ ms are d.
     let instrs = fde_instrs (initial_of ms m.register) m in
     let made = λ (u : Target) (p : ℕ). fixed_bytes u.order 4 0 ++ contents u (fde p m.begin (m.end - m.begin) instrs (program_bytes u instrs)) in
     let at = c.cie_of-writing.result in let new = c.fill_fde.new.out.items in
-    on_ok c.fill_fde.result (new ≡ made c.target.result at) (new ≡ fixed_bytes t.order 4 0 ++ contents t (fde_with t ms m))
-    (λ e. e ∙ ap (λ (u : Target). made u at) c.target.ensures ∙ ap (made t) (place_own there c.cie_of-writing.ensures)) (c.fill_fde.ensures.contents ms m there.is)
+    on_ok c.fill_fde.result (new ≡ made c.target-target.result at) (new ≡ fixed_bytes t.order 4 0 ++ contents t (fde_with t ms m))
+    (λ e. e ∙ ap (λ (u : Target). made u at) c.target-target.ensures ∙ ap (made t) (place_own there c.cie_of-writing.ensures)) (c.fill_fde.ensures.contents ms m there.is)
 
 pub returns-clause-first : goal.returns-clause-first
 returns-clause-first c =
     let t = c.args.table.now.target in
     let s = c.args.table.now.bytes in
     where_ok c.fill_fde.result (FirstIs t s c.keep_first.new.opened)
-    (kept_known t s c.accepted.ensures.bytes c.accepted.ensures.accepted c.args.writing.now.opened c.keep_first.new.opened c.args.row c.begin_fde.new.begun.changes c.in_ok-keep_first.ensures c.requires.first c.args.fde.place
-    (λ ms are. below c.args.fde.place are c.requires.place) (so_of_member (λ (f : Fde). IfSome c.args.row (OpensBehind t s f)) c.args.fde.place c.requires.opens) (λ ms are d. (c.in_ok-begin_fde.ensures.is ms are d).first))
+    (kept_known t s c.accepted.ensures.bytes c.accepted.ensures.accepted c.args.writing.now.opened c.keep_first.new.opened c.args.row c.begin_fde.new.begun
+    (subst (λ (u : Target). (c.keep_first.new.opened ≡ c.args.writing.now.opened) ⊎ KeepsFirst u c.args.row c.begin_fde.new.begun c.keep_first.new.opened) c.target-target.ensures c.in_ok-keep_first.ensures) c.requires.first c.args.fde.place
+    (λ ms are. below c.args.fde.place are c.requires.place) (so_of_member (λ (f : Fde). IfSome c.args.row (OpensBehind t s f)) c.args.fde.place c.requires.opens) c.in_ok-begin_fde.ensures.is)
