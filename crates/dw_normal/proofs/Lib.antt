@@ -28,3 +28,4 @@ mod PlainReads
 mod PlainFdes
 mod UntouchedRows
 mod PlainLogs
+mod NopsLeft
