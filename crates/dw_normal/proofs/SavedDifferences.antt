@@ -87,11 +87,11 @@ mark_next row marks q b h lt new = record {
   count = length-set marks q b ∙ h.count;
   none = λ r d near is n at. elim (cases_Bool (nat_eq q r)) [
     | inl e ↦
-      let one = eqb-true q r e in
-      new (sym (get_or-set_same marks q b d (omega (arith, h.count))) ∙ ap (λ (k : ℕ). get_or (set marks q b) k d) one ∙ is) n (ap (rule row) one ∙ at)
+        let one = eqb-true q r e in
+        new (sym (get_or-set_same marks q b d (omega (arith, h.count))) ∙ ap (λ (k : ℕ). get_or (set marks q b) k d) one ∙ is) n (ap (rule row) one ∙ at)
     | inr e ↦
-      let other = eqb-false q r e in
-      h.none r d near (sym (get_or-set_other marks q r b d (λ same. other (sym same))) ∙ is) n at
+        let other = eqb-false q r e in
+        h.none r d near (sym (get_or-set_other marks q r b d (λ same. other (sym same))) ∙ is) n at
   ];
 }
 
