@@ -6,6 +6,7 @@ use Rattle.dw_section.specs.Opening.{HasProgram}
 use Rattle.dw_section.specs.declared.opening.CieRow.{CieRow}
 use Rattle.dw_normal.specs.declared.plain_fde.Opened.{Opened}
 use Rattle.dw_normal.specs.Inner.PlainFde.{FirstIs, IsKnown, KeepsFirst, Opens, PlainMember}
+use Rattle.dw_normal.specs.Inner.PlainRows.{Marks}
 use Rattle.dw_normal.proofs.Grouped.{no_member}
 use Rattle.dw_normal.proofs.Located.{Located}
 use Rattle.dw_normal.proofs.Placed.{first_at, row_in, same_row}
@@ -77,7 +78,7 @@ module _ (t : Target) (s : List ℕ) where
   known_opens o old behind register own same is known ms are shared shared_is =
       let there = subst (FirstIs t s) (sym same ∙ known.is) is in
       let row : shared ≡ initial_of ms own.register = shared_is ∙ ap (initial_of ms) (sym known.of) in
-      record { row = refl; bytes = there.bytes ms are ∙ ap (λ (r : Rules). program_bytes t (difference r r own.first)) (sym row) }
+      record { row = refl; marks = (there.marks.0, subst (λ (r : Rules). Marks r own.marks) (sym row) (there.marks.1 ms are)); bytes = there.bytes ms are ∙ ap (λ (r : Rules). program_bytes t (difference r r own.first)) (sym row) }
 
   -- one that was found at an FDE
   pub first_known : AreBytes s → Accepted t s → (o : Option Opened) (behind : Option CieRow) (begun : Begun) → KeepsFirst t behind begun o → (place : ℕ) → ((ms : List Member) → AreMembers t s ms → place < length ms)
@@ -95,6 +96,13 @@ module _ (t : Target) (s : List ℕ) where
             let register : own.register ≡ (get_or ms place no_member).register = known.of ∙ ap (λ (f : Fde). f.return_register) is.fde in
             let row : begun.shared.now ≡ initial_of ms own.register = is.shared ∙ ap (initial_of ms) (sym register) in
             kept.opens.bytes ∙ ap (λ (r : Rules). program_bytes t (difference r r (shown_row begun.changes))) row ∙ ap (λ (r : Rules). program_bytes t (difference (initial_of ms own.register) (initial_of ms own.register) r)) (sym kept.opens.row);
+        marks = (
+          subst (λ (r : Rules). Marks r own.marks) (sym kept.opens.row) kept.opens.marks.0,
+          λ ms are.
+              let is = found ms are no_member in
+              let register : own.register ≡ (get_or ms place no_member).register = known.of ∙ ap (λ (f : Fde). f.return_register) is.fde in
+              subst (λ (r : Rules). Marks r own.marks) (is.shared ∙ ap (initial_of ms) (sym register)) kept.opens.marks.1,
+        );
       })
 
   pub kept_known : AreBytes s → Accepted t s → (old new : Option Opened) (behind : Option CieRow) (begun : Begun) → (new ≡ old) ⊎ KeepsFirst t behind begun new → FirstIs t s old → (place : ℕ)

@@ -1,6 +1,8 @@
 -- Two rows that are told by offsets, beside each other: the first register whose rule differs, and whether any does.
-use Rattle.dw_normal.proofs.Words.{◌≡◌, ℕ, zero, suc, ◌<◌, ◌≤◌, Bool, true, false, Option, Some, None, refl, sym, ap, ◌∙◌, inl, inr, arith, cases_Bool, cases_lt, AreSpecified, Rules, rule, FirstDifference, DiffersFirst, differs_of, same_rule, subst, test_of}
-use Rattle.std.specs.Prelude.{ℤ, MatchOption, replicate, is_some, not}
+use Rattle.dw_normal.proofs.Words.{◌≡◌, ℕ, zero, suc, ◌<◌, ◌≤◌, Bool, true, false, List, Option, Some, None, refl, sym, ap, ◌∙◌, inl, inr, arith, cases_Bool, cases_lt, AreSpecified, Rules, rule, FirstDifference, DiffersFirst, differs_of, same_rule, subst, test_of, get_or, nat_eq}
+use Rattle.std.specs.Prelude.{ℤ, ◌↔◌, IsTrue, MatchOption, replicate, set, is_some, not}
+use Rattle.std.proofs.lemmas.Bool.{eqb-true, eqb-false}
+use Rattle.std.proofs.lemmas.List.{get_or-set_other, get_or-set_same, length-set}
 use Rattle.std.specs.Option.{option_eq}
 use Rattle.std.specs.Ordering.{int_eq}
 use Rattle.std.proofs.Common.{of_z, to_z, w64}
@@ -8,11 +10,11 @@ use Rattle.std.proofs.lemmas.Int.{to_z-of_z}
 use mir.Val.{SFits}
 use Rattle.std.proofs.lemmas.Bool.Decides.{Decides-int_eq}
 use Rattle.dw_cfa.proofs.Lent.SameRows.{same_rows as rows_same}
-use Rattle.dw_cfa.specs.Inner.RowEquality.{rows_tell, same_rows}
+use Rattle.dw_cfa.specs.Inner.RowEquality.{rows_tell, rule_tells, same_rows}
 use Rattle.dw_cfa.specs.declared.rule.RegRule.TheVariants.{Offset}
 use Rattle.dw_normal.specs.declared.plain_rows.Cfa.{Cfa}
 use Rattle.dw_normal.specs.declared.plain_rows.PlainRows.{PlainRows}
-use Rattle.dw_normal.specs.Inner.PlainRows.{IsWritten, OnlyOther, RowsSo, cfa_of, own_row, row_with, rule_with, saved_at, written_row}
+use Rattle.dw_normal.specs.Inner.PlainRows.{IsWritten, Marks, OnlyOther, RowsSo, cfa_of, own_row, row_with, rule_with, saved_at, written_row}
 use Rattle.dw_normal.proofs.SavedRules.{one_told, row_keeps, row_rule, told_apart}
 
 -- ---- at the begin
@@ -58,6 +60,40 @@ same_offset shared r n (Some m) is =
 pub saved_there : (shared : Rules) (r : ℕ) (n : ℤ) (found : Option ℤ) (t : Bool) → SFits w64 n → MatchOption found ((m : ℤ) → rule shared r ≡ Offset m → ⊥) (λ m. rule shared r ≡ Offset m)
     → t ≡ option_eq int_eq found (Some (to_z w64 (of_z w64 n))) → same_rule (Offset n) (rule shared r) ≡ t
 saved_there shared r n found t fits is test = sym (same_offset shared r n found is) ∙ sym (rw (to_z-of_z w64 n fits) at test)
+
+-- nor where it is not marked
+pub not_saved : (row : Rules) (marks : List Bool) (r : ℕ) (n : ℤ) (d : Bool) → Marks row marks → r < 32 → get_or marks r d ≡ false → same_rule (Offset n) (rule row r) ≡ false
+not_saved row marks r n d h near is = differs_of (Offset n) (rule row r) (λ same. h.none r d near is n (sym same))
+
+-- what the test says
+pub saved_is : (row : Rules) (r : ℕ) (n : ℤ) (t : Bool) → same_rule (Offset n) (rule row r) ≡ t → IsTrue t ↔ (rule row r ≡ Offset n)
+saved_is row r n t is =
+    let tells = rule_tells (Offset n) (rule row r) in
+    (λ e. sym (tells.0 (rw (sym is) at e)), λ e. sym is ∙ tells.1 (sym e))
+
+-- ---- marks
+
+all_marked : (count r : ℕ) (d : Bool) → r < count → get_or (replicate count true) r d ≡ true
+all_marked zero r d lt = absurd (omega arith)
+all_marked (suc count) zero d lt = refl
+all_marked (suc count) (suc r) d lt = all_marked count r d (omega arith)
+
+pub marks_start : (row : Rules) → Marks row (replicate 32 true)
+marks_start row = record { count = refl; none = λ r d lt is n at. let all = all_marked 32 r d lt in absurd cc }
+
+-- one register more
+pub mark_next : (row : Rules) (marks : List Bool) (q : ℕ) (b : Bool) → Marks row marks → q < 32 → (b ≡ false → (n : ℤ) → rule row q ≡ Offset n → ⊥) → Marks row (set marks q b)
+mark_next row marks q b h lt new = record {
+  count = length-set marks q b ∙ h.count;
+  none = λ r d near is n at. elim (cases_Bool (nat_eq q r)) [
+    | inl e ↦
+        let one = eqb-true q r e in
+        new (sym (get_or-set_same marks q b d (omega (arith, h.count))) ∙ ap (λ (k : ℕ). get_or (set marks q b) k d) one ∙ is) n (ap (rule row) one ∙ at)
+    | inr e ↦
+        let other = eqb-false q r e in
+        h.none r d near (sym (get_or-set_other marks q r b d (λ same. other (sym same))) ∙ is) n at
+  ];
+}
 
 -- ---- the first register with another rule
 

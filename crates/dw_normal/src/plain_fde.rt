@@ -1,9 +1,11 @@
 //! FDEs whose programs are plain, behind a row at their begin that is known: an entry is built while the program is read.
 
-ghost use Rattle.std.specs.Prelude.{◌≡◌, ◌⊎◌, ◌+◌, ◌++◌, ◌-◌, ◌<◌, ◌^◌, List, Some, IfOk, IfSome, IsTrue, OnOk};
+ghost use Rattle.std.specs.Prelude.{◌≡◌, ◌⊎◌, ◌+◌, ◌++◌, ◌-◌, ◌<◌, ◌^◌, ℤ, List, false, Some, IfOk, IfSome, IsTrue, OnOk};
 ghost use Rattle.std.specs.List.{AllByRecursion};
 ghost use Rattle.dw_num.specs.Fixed.{fixed_bytes};
 ghost use Rattle.dw_num.specs.Target.{address_limit};
+ghost use Rattle.dw_cfa.specs.Rows.{rule};
+ghost use Rattle.dw_cfa.specs.declared.rule.RegRule.TheVariants.{Offset};
 ghost use Rattle.dw_canon.specs.Inner.Canon.{fde_instrs, initial_of};
 ghost use Rattle.dw_canon.specs.Inner.Difference.{difference};
 ghost use Rattle.dw_canon.specs.Inner.Fits.{InstrFits};
@@ -12,6 +14,7 @@ ghost use Rattle.dw_canon.specs.Inner.Written.{fde, contents};
 ghost use Rattle.dw_canon.specs.Members.{Member};
 ghost use Rattle.dw_normal.specs.Inner.ChangeWalk.{shown_row};
 ghost use Rattle.dw_normal.specs.Inner.PlainFde.{IsKnown, KeepsFirst, Opens, PlainMember};
+ghost use Rattle.dw_normal.specs.Inner.PlainRows.{Marks};
 
 use crate::begun::Begun;
 use crate::contents::{begin_entry, push_fde_fields, push_nops};
@@ -28,6 +31,8 @@ pub(crate) struct Opened<'a> {
     pub(crate) behind: CieRow,
     pub(crate) register: u16,
     pub(crate) first: Row<'a>,
+    /// Registers below 32 that have an offset in it, or in the initial row of the group.
+    pub(crate) marks: [bool; 32],
     /// What leads to it from the initial row of the group.
     pub(crate) program: Vec<u8>,
 }
@@ -45,6 +50,27 @@ pub(crate) fn known_first<'o, 'a>(
         (Some(own), Some(behind)) if own.behind == behind && own.register == register => Some(own),
         _ => None,
     }
+}
+
+// Whether one of two rows gives a register an offset.
+fn is_saved<'a>(first: &Row<'a>, shared: &Row<'a>, register: u16) -> bool
+    ensures first { result ≡ false → (n : ℤ) → rule first.now register ≡ Offset n → ⊥ }
+    ensures shared { result ≡ false → (n : ℤ) → rule shared.now register ≡ Offset n → ⊥ }
+{
+    first.offset_of(register).is_some() || shared.offset_of(register).is_some()
+}
+
+// The registers below 32 that have an offset in one of two rows.
+fn marks_of<'a>(first: &Row<'a>, shared: &Row<'a>) -> [bool; 32]
+    ensures { Marks first.now result × Marks shared.now result }
+{
+    let mut marks = [true; 32];
+    let mut register: u16 = 0;
+    'registers: while register < 32 {
+        marks[usize::from(register)] = is_saved(first, shared, register);
+        register += 1;
+    }
+    marks
 }
 
 // What is known of a row.
@@ -65,6 +91,7 @@ fn opened_by<'a>(
         behind,
         register,
         first: first.copied()?,
+        marks: marks_of(first, shared),
         program,
     })
 }
@@ -133,6 +160,7 @@ pub(crate) fn fill_plain<'a>(
     let frame = Frame {
         first: &opened.first,
         shared,
+        marks: &opened.marks,
         last: (listed.end - 1) as u64,
         target,
     };

@@ -9,7 +9,7 @@ ghost use Rattle.dw_cfa.specs.declared.rule.RegRule.TheVariants.{Offset};
 ghost use Rattle.dw_normal.specs.Inner.PlainInstruction.{IsNear, instr_of};
 ghost use Rattle.dw_normal.specs.Inner.PlainLog.{LogSo};
 ghost use Rattle.dw_normal.specs.Inner.PlainProgram.{Becomes, CanRun, IsNoted, IsPlain, IsUndone, Ran, RunsIn, bytes_in, plain_bytes};
-ghost use Rattle.dw_normal.specs.Inner.PlainRows.{RowsSo};
+ghost use Rattle.dw_normal.specs.Inner.PlainRows.{Marks, RowsSo};
 
 use crate::plain_instruction::{Plain, plain_at};
 use crate::plain_log::Log;
@@ -26,12 +26,13 @@ pub(crate) struct PlainRun {
     pub(crate) log: Log,
 }
 
-/// What all instructions of a program are written with: the row at the FDE's begin, the one that its group shares, and the last
-/// address of the FDE.
+/// What all instructions of a program are written with: the row at the FDE's begin, the one that its group shares, the registers
+/// that have offsets in them, and the last address of the FDE.
 #[derive(Clone, Copy)]
 pub(crate) struct Frame<'r, 'a> {
     pub(crate) first: &'r Row<'a>,
     pub(crate) shared: &'r Row<'a>,
+    pub(crate) marks: &'r [bool; 32],
     pub(crate) last: u64,
     pub(crate) target: Target,
 }
@@ -45,7 +46,8 @@ impl PlainRun {
         distance: u64,
         frame: Frame<'_, '_>,
     ) -> Result<bool, AllocError>
-        requires { CanRun frame self.old (Advance distance) }
+        requires runs { CanRun frame self.old (Advance distance) }
+        requires marks { Marks frame.shared.now frame.marks.now }
         ensures { IfOk result (λ on. IsTrue on → Ran frame.entry (Advance distance) self.old out.old.items self.new out.new.items) }
     {
         if distance == 0 {
@@ -55,7 +57,7 @@ impl PlainRun {
             return Ok(false);
         }
         self.rows
-            .push_row(out, frame.first, frame.shared, frame.target)?;
+            .push_row(out, frame.first, frame.shared, frame.marks, frame.target)?;
         self.rows.start += distance;
         Ok(true)
     }
@@ -88,16 +90,17 @@ impl PlainRun {
 
     // Gives a register an offset.
     #[inline(always)]
-    fn save<'a>(&mut self, register: u16, offset: i64, first: &Row<'a>) -> bool
+    fn save<'a>(&mut self, register: u16, offset: i64, first: &Row<'a>, marks: &[bool; 32]) -> bool
         requires so { RowsSo first.now self.old.rows }
         requires log { LogSo first.now self.old.log }
+        requires marks { Marks first.now marks.now }
         requires near { register < 32 }
         ensures { IsTrue result → Becomes first.now (Set register (Offset offset)) self.old self.new }
     {
         if !self.note(register, first) {
             return false;
         }
-        self.rows.save(register, offset, first);
+        self.rows.save(register, offset, first, marks);
         true
     }
 
@@ -162,8 +165,9 @@ impl PlainRun {
 
     // Runs an instruction that does not move the location. It says no where it is not told how.
     #[inline(always)]
-    fn change<'a>(&mut self, plain: Plain, first: &Row<'a>) -> bool
+    fn change<'a>(&mut self, plain: Plain, first: &Row<'a>, marks: &[bool; 32]) -> bool
         requires near { IsNear plain }
+        requires marks { Marks first.now marks.now }
         requires so { RowsSo first.now self.old.rows }
         requires log { LogSo first.now self.old.log }
         ensures { IsTrue result → Becomes first.now (instr_of plain) self.old self.new }
@@ -174,7 +178,7 @@ impl PlainRun {
             Plain::DefCfa(register, offset) => self.set(register, offset, first),
             Plain::DefCfaRegister(register) => self.set(register, self.rows.cfa.offset, first),
             Plain::DefCfaOffset(offset) => self.set(self.rows.cfa.register, offset, first),
-            Plain::Offset(register, offset) => self.save(register, offset, first),
+            Plain::Offset(register, offset) => self.save(register, offset, first, marks),
             Plain::Restore(register) => self.restore(register, first),
             Plain::RememberState => self.remember(first),
             Plain::RestoreState => self.recall(first),
@@ -191,22 +195,25 @@ impl PlainRun {
     ) -> Result<bool, AllocError>
         requires near { IsNear plain }
         requires runs { CanRun frame self.old (instr_of plain) }
+        requires first { Marks frame.first.now frame.marks.now }
+        requires shared { Marks frame.shared.now frame.marks.now }
         ensures { IfOk result (λ on. IsTrue on → Ran frame.entry (instr_of plain) self.old out.old.items self.new out.new.items) }
     {
         if let Plain::Advance(distance) = plain {
             return self.advance(out, distance, frame);
         }
-        Ok(self.change(plain, frame.first))
+        Ok(self.change(plain, frame.first, frame.marks))
     }
 
     // Appends the last row.
     #[inline(always)]
     fn end(&mut self, out: &mut Vec<u8>, frame: Frame<'_, '_>) -> Result<(), AllocError>
-        requires { (initial : Rules) × RunsIn frame self.old initial [] }
+        requires runs { (initial : Rules) × RunsIn frame self.old initial [] }
+        requires marks { Marks frame.shared.now frame.marks.now }
         ensures { OnOk result ((initial : Rules) → RunsIn frame.entry self.old initial [] → out.new.items ≡ out.old.items ++ bytes_in frame.entry self.old initial []) }
     {
         self.rows
-            .push_row(out, frame.first, frame.shared, frame.target)
+            .push_row(out, frame.first, frame.shared, frame.marks, frame.target)
     }
 
     // Runs a program to its end, and appends its rows. It says no where the program is not plain.
@@ -218,7 +225,9 @@ impl PlainRun {
         factors: Factors,
         frame: Frame<'_, '_>,
     ) -> Result<bool, AllocError>
-        requires { (initial : Rules) × (instrs : List Instr) × Program frame.target factors instrs program.now × RunsIn frame self.old initial instrs }
+        requires runs { (initial : Rules) × (instrs : List Instr) × Program frame.target factors instrs program.now × RunsIn frame self.old initial instrs }
+        requires first { Marks frame.first.now frame.marks.now }
+        requires shared { Marks frame.shared.now frame.marks.now }
         ensures { (initial : Rules) (instrs : List Instr) → Program frame.entry.target factors instrs program.now → RunsIn frame.entry self.old initial instrs → IfOk result (λ plain. IsTrue plain → out.new.items ≡ out.old.items ++ bytes_in frame.entry self.old initial instrs) }
     {
         let mut left = program;
@@ -245,7 +254,9 @@ pub(crate) fn push_plain(
     begin: u64,
     frame: Frame<'_, '_>,
 ) -> Result<bool, AllocError>
-    requires { (initial : Rules) × (instrs : List Instr) × IsPlain frame.target factors frame.shared.now frame.first.now begin frame.last initial instrs program.now }
+    requires plain { (initial : Rules) × (instrs : List Instr) × IsPlain frame.target factors frame.shared.now frame.first.now begin frame.last initial instrs program.now }
+    requires first { Marks frame.first.now frame.marks.now }
+    requires shared { Marks frame.shared.now frame.marks.now }
     ensures { (initial : Rules) (instrs : List Instr) → IsPlain frame.entry.target factors frame.entry.shared.now frame.entry.first.now begin frame.entry.last initial instrs program.now → IfOk result (λ plain. IsTrue plain → out.new.items ≡ out.old.items ++ plain_bytes frame.entry.target frame.entry.shared.now frame.entry.first.now begin frame.entry.last initial instrs) }
 {
     let CfaRule::Register { register, offset } = *frame.first.cfa_rule() else {

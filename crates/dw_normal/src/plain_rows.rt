@@ -8,13 +8,14 @@ ghost use Rattle.dw_num.specs.Target.{address_limit};
 ghost use Rattle.dw_cfa.specs.Difference.{FirstDifference};
 ghost use Rattle.dw_cfa.specs.Rows.{rule};
 ghost use Rattle.dw_cfa.specs.declared.rule.RegRule.TheVariants.{Offset};
+ghost use Rattle.dw_cfa.specs.Inner.Agreement.{same_rule};
 ghost use Rattle.dw_cfa.specs.Inner.RowEquality.{same_rows};
 ghost use Rattle.dw_cfa.specs.Inner.Rows.{with_cfa, with_rule};
 ghost use Rattle.dw_canon.specs.Difference.{move};
 ghost use Rattle.dw_canon.specs.Inner.Difference.{cfa_difference, difference, rule_to};
 ghost use Rattle.dw_canon.specs.Inner.Fits.{InstrFits};
 ghost use Rattle.dw_canon.specs.Inner.Spelling.{instr_bytes, program_bytes};
-ghost use Rattle.dw_normal.specs.Inner.PlainRows.{IsChanged, IsWritten, RowsSo, cfa_of, own_row, row_instrs, rule_with, saved_at, written_row};
+ghost use Rattle.dw_normal.specs.Inner.PlainRows.{IsChanged, IsWritten, Marks, RowsSo, cfa_of, own_row, row_instrs, rule_with, saved_at, written_row};
 ghost use Rattle.dw_normal.specs.Inner.RegisterWalk.{rules_from};
 
 use crate::instruction::{push_advance, push_cfa_offset, push_offset, push_packed};
@@ -168,20 +169,37 @@ fn push_cfa_row(
     push_long_row(out, from, to, old, new, target)
 }
 
-// Appends what saves a register at an offset from the CFA: `Restore` where that is its initial rule.
+// Whether a row gives a register below 32 this offset. Mostly it gives it none.
+#[inline(always)]
+fn has_offset<'a>(row: &Row<'a>, register: u16, offset: i64, marks: &[bool; 32]) -> bool
+    requires near { register < 32 }
+    requires marks { Marks row.now marks.now }
+    ensures test { result ≡ same_rule (Offset offset) (rule row.now register) }
+    ensures is { IsTrue result ↔ (rule row.now register ≡ Offset offset) }
+{
+    if !marks[usize::from(register)] {
+        return false;
+    }
+    row.offset_of(register) == Some(offset)
+}
+
+// Appends what saves a register below 32 at an offset from the CFA: `Restore` where that is its initial rule.
 #[inline(always)]
 #[tactic(auto, unfolding(dw_canon::specs::Spelling::instr_bytes))]
 fn push_saved<'a>(
     out: &mut Vec<u8>,
     shared: &Row<'a>,
+    marks: &[bool; 32],
     register: u16,
     offset: i64,
     target: Target,
 ) -> Result<(), AllocError>
-    requires { InstrFits target (rule_to shared.now register (Offset offset)) }
+    requires near { register < 32 }
+    requires marks { Marks shared.now marks.now }
+    requires fits { InstrFits target (rule_to shared.now register (Offset offset)) }
     ensures { OnOk result (out.new.items ≡ out.old.items ++ instr_bytes target (rule_to shared.now register (Offset offset))) }
 {
-    if shared.offset_of(register) == Some(offset) {
+    if has_offset(shared, register, offset, marks) {
         return push_packed(out, RESTORE, RESTORE_EXTENDED, register);
     }
     push_offset(out, register, offset)
@@ -217,7 +235,8 @@ impl PlainRows {
         ensures { IsChanged first.now self.old self.new (with_cfa (cfa_of cfa) (own_row first.now self.old)) }
     {
         let _first = first;
-        self.cfa = cfa;
+        self.cfa.register = cfa.register;
+        self.cfa.offset = cfa.offset;
     }
 
     // Gives a register an offset, or the rule that it has at the begin.
@@ -237,12 +256,19 @@ impl PlainRows {
 
     /// Saves a register below 32 at an offset from the CFA.
     #[inline(always)]
-    pub(crate) fn save<'a>(&mut self, register: u16, offset: i64, first: &Row<'a>)
+    pub(crate) fn save<'a>(
+        &mut self,
+        register: u16,
+        offset: i64,
+        first: &Row<'a>,
+        marks: &[bool; 32],
+    )
         requires so { RowsSo first.now self.old }
+        requires marks { Marks first.now marks.now }
         requires near { register < 32 }
         ensures { IsChanged first.now self.old self.new (with_rule register (Offset offset) (own_row first.now self.old)) }
     {
-        if first.offset_of(register) == Some(offset) {
+        if has_offset(first, register, offset, marks) {
             self.put(register, None, first);
         } else {
             self.put(register, Some(offset), first);
@@ -294,16 +320,18 @@ impl PlainRows {
         out: &mut Vec<u8>,
         first: &Row<'a>,
         shared: &Row<'a>,
+        marks: &[bool; 32],
         register: u16,
         target: Target,
     ) -> Result<(), AllocError>
         requires so { RowsSo first.now self.now }
+        requires marks { Marks shared.now marks.now }
         requires near { register < 32 }
         requires fits { InstrFits target (rule_to shared.now register (rule (own_row first.now self.now) register)) }
         ensures { OnOk result (out.new.items ≡ out.old.items ++ instr_bytes target (rule_to shared.now register (rule (own_row first.now self.now) register))) }
     {
         match self.offset_at(register) {
-            Some(offset) => push_saved(out, shared, register, offset, target),
+            Some(offset) => push_saved(out, shared, marks, register, offset, target),
             None => push_register(out, shared, first, register, target),
         }
     }
@@ -314,15 +342,17 @@ impl PlainRows {
         out: &mut Vec<u8>,
         first: &Row<'a>,
         shared: &Row<'a>,
+        marks: &[bool; 32],
         target: Target,
     ) -> Result<(), AllocError>
         requires so { RowsSo first.now self.now }
+        requires marks { Marks shared.now marks.now }
         requires fits { AllByRecursion (InstrFits target) (rules_from shared.now (written_row first.now self.now) (own_row first.now self.now) 0) }
         ensures { OnOk result (out.new.items ≡ out.old.items ++ program_bytes target (rules_from shared.now (written_row first.now self.now) (own_row first.now self.now) 0)) }
     {
         let mut place = 0;
         'registers: while let Some(register) = self.next_register(place, first) {
-            self.push_register(out, first, shared, register, target)?;
+            self.push_register(out, first, shared, marks, register, target)?;
             place = u32::from(register) + 1;
         }
         Ok(())
@@ -343,7 +373,8 @@ impl PlainRows {
             self.written[register] = self.saved[register];
             register += 1;
         }
-        self.written_cfa = self.cfa;
+        self.written_cfa.register = self.cfa.register;
+        self.written_cfa.offset = self.cfa.offset;
         self.low = 32;
         self.high = 0;
     }
@@ -367,16 +398,18 @@ impl PlainRows {
         out: &mut Vec<u8>,
         first: &Row<'a>,
         shared: &Row<'a>,
+        marks: &[bool; 32],
         target: Target,
     ) -> Result<(), AllocError>
         requires so { RowsSo first.now self.now }
+        requires marks { Marks shared.now marks.now }
         requires rises { self.now.at < self.now.start }
         requires in_space { self.now.start < address_limit target.size }
         requires fits { AllByRecursion (InstrFits target) (difference shared.now (written_row first.now self.now) (own_row first.now self.now)) }
         ensures { OnOk result (out.new.items ≡ out.old.items ++ program_bytes target (move self.now.at self.now.start ∷ difference shared.now (written_row first.now self.now) (own_row first.now self.now))) }
     {
         push_cfa_row(out, self.at, self.start, self.written_cfa, self.cfa, target)?;
-        self.push_registers(out, first, shared, target)
+        self.push_registers(out, first, shared, marks, target)
     }
 
     // The same as `push_row`, where registers were set since.
@@ -386,9 +419,11 @@ impl PlainRows {
         out: &mut Vec<u8>,
         first: &Row<'a>,
         shared: &Row<'a>,
+        marks: &[bool; 32],
         target: Target,
     ) -> Result<(), AllocError>
         requires so { RowsSo first.now self.old }
+        requires marks { Marks shared.now marks.now }
         requires rises { same_rows (written_row first.now self.old) (own_row first.now self.old) ≡ false → self.old.at < self.old.start }
         requires in_space { self.old.start < address_limit target.size }
         requires fits { same_rows (written_row first.now self.old) (own_row first.now self.old) ≡ false → AllByRecursion (InstrFits target) (difference shared.now (written_row first.now self.old) (own_row first.now self.old)) }
@@ -398,7 +433,7 @@ impl PlainRows {
         if self.is_written(first) {
             return Ok(());
         }
-        self.push_other(out, first, shared, target)?;
+        self.push_other(out, first, shared, marks, target)?;
         self.note(first);
         self.at = self.start;
         Ok(())
@@ -426,7 +461,8 @@ impl PlainRows {
             return Ok(());
         }
         push_cfa_row(out, self.at, self.start, self.written_cfa, self.cfa, target)?;
-        self.written_cfa = self.cfa;
+        self.written_cfa.register = self.cfa.register;
+        self.written_cfa.offset = self.cfa.offset;
         self.at = self.start;
         Ok(())
     }
@@ -438,9 +474,11 @@ impl PlainRows {
         out: &mut Vec<u8>,
         first: &Row<'a>,
         shared: &Row<'a>,
+        marks: &[bool; 32],
         target: Target,
     ) -> Result<(), AllocError>
         requires so { RowsSo first.now self.old }
+        requires marks { Marks shared.now marks.now }
         requires rises { same_rows (written_row first.now self.old) (own_row first.now self.old) ≡ false → self.old.at < self.old.start }
         requires in_space { self.old.start < address_limit target.size }
         requires fits { same_rows (written_row first.now self.old) (own_row first.now self.old) ≡ false → AllByRecursion (InstrFits target) (difference shared.now (written_row first.now self.old) (own_row first.now self.old)) }
@@ -448,7 +486,7 @@ impl PlainRows {
         ensures written { OnOk result (IsWritten first.now self.old self.new) }
     {
         if self.low < self.high {
-            return self.push_touched(out, first, shared, target);
+            return self.push_touched(out, first, shared, marks, target);
         }
         self.push_untouched(out, first, shared, target)
     }

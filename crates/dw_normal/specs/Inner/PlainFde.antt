@@ -15,6 +15,7 @@ use Rattle.dw_normal.specs.declared.begun.Begun.{Begun}
 use Rattle.dw_normal.specs.declared.plain_fde.Opened.{Opened}
 use Rattle.dw_normal.specs.Inner.ChangeWalk.{shown_row}
 use Rattle.dw_normal.specs.Inner.PlainProgram.{IsPlain, plain_bytes}
+use Rattle.dw_normal.specs.Inner.PlainRows.{Marks}
 
 -- it is this one among those, and its program gives its later changes
 pub record PlainMember (t : Target) (ms : List Member) (m : Member) (f : Fde) (factors : Factors) (bytes : List ℕ) (shared first : Rules) : Type 0 where
@@ -26,9 +27,10 @@ pub record PlainMember (t : Target) (ms : List Member) (m : Member) (f : Fde) (f
   pub plain : IsPlain t factors shared first f.begin (f.end - 1) initial instrs bytes
   pub written : plain_bytes t shared first f.begin (f.end - 1) initial instrs ≡ program_bytes t (later_changes shared m.begin m.first m.later)
 
--- this row, and what leads to it from the initial one
+-- this row, with the registers that have offsets in it or in the initial one, and what leads to it from there
 pub record Opens (t : Target) (shared first : Rules) (own : Opened) : Type 0 where
   pub row : own.first ≡ first
+  pub marks : Marks first own.marks × Marks shared own.marks
   pub bytes : own.program.items ≡ program_bytes t (difference shared shared first)
 
 -- what is known, where an FDE of a return register begins behind this row
@@ -44,10 +46,11 @@ pub record KeepsFirst (t : Target) (behind : Option CieRow) (b : Begun) (opened 
   pub opens : Opens t b.shared.now (shown_row b.changes) own
 
 -- FDEs of the section that begin behind the known row have it at their begin, and this leads to it from the initial row of those of
--- the return register
+-- the return register, whose offsets are marked too
 pub record FirstOf (t : Target) (s : List ℕ) (own : Opened) : Type 0 where
   pub first : (ms : List Member) → AreMembers t s ms → (d : Member) (k : ℕ) → k < length ms → OpensBehind t s (fde_of (slice_index_or ms k d)) own.behind → (slice_index_or ms k d).first ≡ own.first
   pub bytes : (ms : List Member) → AreMembers t s ms → own.program.items ≡ program_bytes t (difference (initial_of ms own.register) (initial_of ms own.register) own.first)
+  pub marks : Marks own.first own.marks × ((ms : List Member) → AreMembers t s ms → Marks (initial_of ms own.register) own.marks)
 
 abbrev pub FirstIs : Target → List ℕ → Option Opened → Type 0
 FirstIs t s None = Unit {0}

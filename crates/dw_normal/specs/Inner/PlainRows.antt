@@ -1,5 +1,5 @@
 -- The rows of a plain program, told by what was set.
-use Rattle.std.specs.Prelude.{◌≡◌, ◌⊎◌, ℕ, suc, ◌<◌, ◌≤◌, List, [], ◌∷◌, get_or, length, Option, Some, None, if◌then◌else◌, ℤ}
+use Rattle.std.specs.Prelude.{◌≡◌, ◌⊎◌, ℕ, suc, ◌<◌, ◌≤◌, Bool, false, List, [], ◌∷◌, get_or, length, Option, Some, None, if◌then◌else◌, ℤ}
 use Rattle.dw_cfa.specs.declared.instr.Instr.{Instr}
 use Rattle.dw_cfa.specs.declared.rule.CfaRule.{CfaRule}
 use Rattle.dw_cfa.specs.declared.rule.CfaRule.TheVariants as cfa
@@ -54,6 +54,11 @@ pub record RowsSo (first : Rules) (rows : PlainRows) : Type 0 where
   pub listed : AreSpecified 0 first.registers
   pub high : rows.high ≤ 32
   pub outside : (r : ℕ) → (r < rows.low) ⊎ (rows.high ≤ r) → saved_at rows.saved r ≡ saved_at rows.written r
+
+-- registers below 32 that are not marked have no offset in a row
+pub record Marks (row : Rules) (marks : List Bool) : Type 0 where
+  pub count : length marks ≡ 32
+  pub none : (r : ℕ) (d : Bool) → r < 32 → get_or marks r d ≡ false → (n : ℤ) → rule row r ≡ rules.Offset n → ⊥
 
 -- what is written where the current row ends: nothing where it is the one that was written last
 abbrev pub row_instrs : Rules → Rules → PlainRows → List Instr

@@ -8,10 +8,10 @@ returns-then-distance-eq0 c on initial rest r =
     (same.0, ap (λ (l : List ℕ). c.args.out.now.items ++ l) same.1)
 
 pub push_row-requires-clause-rises : goal.push_row-requires-clause-rises
-push_row-requires-clause-rises c = let e = by_advance c.args.distance c.requires.1 c.requires.2 (omega arith) in e.rises
+push_row-requires-clause-rises c = let e = by_advance c.args.distance c.requires.runs.1 c.requires.runs.2 (omega arith) in e.rises
 
 pub push_row-requires-clause-fits : goal.push_row-requires-clause-fits
-push_row-requires-clause-fits c = let e = by_advance c.args.distance c.requires.1 c.requires.2 (omega arith) in e.spelled
+push_row-requires-clause-fits c = let e = by_advance c.args.distance c.requires.runs.1 c.requires.runs.2 (omega arith) in e.spelled
 
 pub returns : goal.returns
 returns c on initial rest r =

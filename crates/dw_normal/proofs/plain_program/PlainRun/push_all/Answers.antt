@@ -16,13 +16,15 @@ instrs-smaller c = let n = take_rest c.instrs.left.now c.in-Some.count in rw n (
 pub step-requires : goal.step-requires
 step-requires c = record {
   near = c.in-Some.ensures.near;
-  runs = can_run c.in-Some.plain c.in-Some.count c.in-Some.ensures.first (c.instrs.invariant c.requires.0 c.requires.1 c.requires.2 c.requires.3);
+  runs = can_run c.in-Some.plain c.in-Some.count c.in-Some.ensures.first (c.instrs.invariant c.requires.runs.0 c.requires.runs.1 c.requires.runs.2 c.requires.runs.3);
+  first = c.requires.first;
+  shared = c.requires.shared;
 }
 
 pub end-requires : goal.end-requires
 end-requires c =
     let none : c.instrs.left.now ≡ [] = nil_from_length _ (grind (arith, nat_tests)) in
-    (c.requires.0, (last_left none (c.instrs.invariant c.requires.0 c.requires.1 c.requires.2 c.requires.3)).0)
+    record { runs = (c.requires.runs.0, (last_left none (c.instrs.invariant c.requires.runs.0 c.requires.runs.1 c.requires.runs.2 c.requires.runs.3)).0); marks = c.requires.shared }
 
 pub returns : goal.returns
 returns c initial instrs spelled runs on =

@@ -5,8 +5,8 @@ use mir.Val.{SFits}
 use Rattle.dw_normal.proofs.SavedDifferences.{rule_none, rule_some}
 use Rattle.dw_normal.proofs.plain_rows.PlainRows.push_register.Goals as goal
 
-pub push_saved-requires : goal.push_saved-requires
-push_saved-requires c =
+pub push_saved-requires-clause-fits : goal.push_saved-requires-clause-fits
+push_saved-requires-clause-fits c =
     let fits : SFits w64 c.in-Some.offset = search rules in
     let is = rule_some c.args.first.now c.args.self.now c.requires.so c.args.register c.in-Some.offset (sym c.offset_at.ensures ∙ c.in-Some.is) in
     rw (to_z-of_z w64 c.in-Some.offset fits) (rw is at c.requires.fits)

@@ -1,4 +1,7 @@
 use Rattle.dw_normal.proofs.Words.{rules}
+use Rattle.std.proofs.Common.{w64}
+use Rattle.std.proofs.lemmas.Int.{to_z-of_z}
+use mir.Val.{SFits}
 use Rattle.dw_cfa.proofs.Lent.Equal.{not_one}
 use Rattle.dw_normal.proofs.SavedDifferences.{stays_written}
 use Rattle.dw_normal.proofs.UntouchedRows.{cfa_fits, cfa_written, differs, row_put, stays_one, stays_put}
@@ -24,4 +27,6 @@ returns-clause-appends c =
     row_put c.args.first.now c.args.self.now c.requires.so c.requires.untouched c.args.target c.args.shared.now c.args.out.now.items c.push_cfa_row.new.out.items (not_one c.if-is_same.ensures) c.in_ok-push_cfa_row.ensures
 
 pub returns-clause-written : goal.returns-clause-written
-returns-clause-written c = cfa_written c.args.first.now c.args.self.now c.requires.so c.requires.untouched (not_one c.if-is_same.ensures)
+returns-clause-written c =
+    let fits : SFits w64 c.args.self.now.cfa.offset = search rules in
+    rw (to_z-of_z w64 c.args.self.now.cfa.offset fits) (cfa_written c.args.first.now c.args.self.now c.requires.so c.requires.untouched (not_one c.if-is_same.ensures))
