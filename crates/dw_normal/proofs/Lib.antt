@@ -27,3 +27,4 @@ mod SavedDifferences
 mod PlainReads
 mod PlainFdes
 mod UntouchedRows
+mod PushedRows

@@ -1,5 +1,5 @@
 -- Where no register was set since, the current row differs from the one that was written last in the CFA alone.
-use Rattle.dw_normal.proofs.Words.{◌≡◌, ℕ, ◌+◌, ◌-◌, ◌^◌, ◌<◌, ◌≤◌, List, [], ◌∷◌, false, true, refl, sym, ap, ◌∙◌, ◌++◌, inl, inr, arith, cases_Bool, cases_lt, lt-ltb, eq-eqb, subst, append-nil, append_assoc, instr_bytes, move, program_bytes, AllByRecursion, Target, Instr, Rules, InstrFits, cfa_difference, difference}
+use Rattle.dw_normal.proofs.Words.{◌≡◌, ℕ, ◌+◌, ◌-◌, ◌^◌, ◌<◌, ◌≤◌, List, [], ◌∷◌, false, true, refl, sym, ap, ◌∙◌, ◌++◌, inl, inr, arith, cases_Bool, cases_lt, lt-ltb, eq-eqb, subst, append-nil, append_assoc, move, program_bytes, AllByRecursion, Target, Instr, Rules, InstrFits, cfa_difference, difference}
 use Rattle.std.specs.Prelude.{ℤ, unsigned_abs}
 use Rattle.std.specs.Int.{is_negative}
 use Rattle.std.specs.Ordering.{int_eq}
