@@ -29,3 +29,4 @@ mod PlainFdes
 mod UntouchedRows
 mod PlainLogs
 mod NopsLeft
+mod PushedRows

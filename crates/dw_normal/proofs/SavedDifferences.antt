@@ -14,8 +14,8 @@ use Rattle.dw_cfa.specs.Inner.RowEquality.{rows_tell, rule_tells, same_rows}
 use Rattle.dw_cfa.specs.declared.rule.RegRule.TheVariants.{Offset}
 use Rattle.dw_normal.specs.declared.plain_rows.Cfa.{Cfa}
 use Rattle.dw_normal.specs.declared.plain_rows.PlainRows.{PlainRows}
-use Rattle.dw_normal.specs.Inner.PlainRows.{IsWritten, Marks, OnlyOther, RowsSo, cfa_of, own_row, row_with, rule_with, saved_at, written_row}
-use Rattle.dw_normal.proofs.SavedRules.{one_told, row_keeps, row_rule, told_apart}
+use Rattle.dw_normal.specs.Inner.PlainRows.{IsWritten, Marks, OnlyOther, RowsSo, cfa_of, own_row, rule_with, saved_at, written_row}
+use Rattle.dw_normal.proofs.SavedRules.{row_keeps, row_rule, told_apart}
 
 -- ---- at the begin
 
@@ -107,10 +107,10 @@ cfa_one c d e =
     ap (λ (r : ℕ). let x : Cfa = record { register = r; offset = c.offset } in x) register ∙ ap (λ (n : ℤ). let x : Cfa = record { register = d.register; offset = n } in x) offset
 
 module _ (first : Rules) (rows : PlainRows) (so : RowsSo first rows) where
-  own_rule : (r : ℕ) → rule (own_row first rows) r ≡ rule_with first r (saved_at rows.saved r)
+  pub own_rule : (r : ℕ) → rule (own_row first rows) r ≡ rule_with first r (saved_at rows.saved r)
   own_rule r = row_rule first rows.cfa rows.saved r so.listed
 
-  written_rule : (r : ℕ) → rule (written_row first rows) r ≡ rule_with first r (saved_at rows.written r)
+  pub written_rule : (r : ℕ) → rule (written_row first rows) r ≡ rule_with first r (saved_at rows.written r)
   written_rule r = row_rule first rows.written_cfa rows.written r so.listed
 
   pub rule_none : (r : ℕ) → saved_at rows.saved r ≡ None → rule (own_row first rows) r ≡ rule first r
@@ -164,16 +164,3 @@ module _ (first : Rules) (rows : PlainRows) (so : RowsSo first rows) where
       sym ((rows_tell (written_row first rows) (own_row first rows)).1 (rows_same (written_row first rows) (own_row first rows) written_keeps own_keeps (ap cfa_of cfa) (λ r. d r (omega arith))))
   by_registers (Some q) false t cfa d = apart (λ e. d.2 (ap (λ (row : Rules). rule row q) e))
   by_registers found none t cfa d = absurd cc
-
--- ---- the one is taken for the other
-
--- up to a register, and the rest as it was
-pub record Noted (first : Rules) (old new : PlainRows) (register : ℕ) : Type 0 where
-  pub so : RowsSo first (record { start = new.start; at = new.at; cfa = new.cfa; written_cfa = new.written_cfa; saved = new.saved; written = new.written; low = register; high = new.high })
-  pub own : own_row first new ≡ own_row first old
-  pub start : new.start ≡ old.start
-  pub at : new.at ≡ old.at
-
-pub note_ends : {first : Rules} {old new : PlainRows} {register : ℕ} → Noted first old new register → new.high ≤ register → row_with first new.cfa new.written ≡ own_row first old
-note_ends {first} {old} {new} {register} h le =
-    one_told first new.cfa new.written new.saved h.so.listed (λ r. sym (h.so.outside r (elim (cases_lt r register) [ inl lt ↦ inl lt | inr ge ↦ inr (omega arith) ]))) ∙ h.own

@@ -1,7 +1,7 @@
 //! The current row of a plain program beside the one that was written last (6.4.1). Both are told by the row at the FDE's begin, the
 //! rule of the CFA, and the offsets of registers below 32, so a row is written by what was set since.
 
-ghost use Rattle.std.specs.Prelude.{◌≡◌, ◌↔◌, ◌<◌, ◌≤◌, ◌+◌, [], ◌∷◌, ◌++◌, unsigned_abs, false, length, Some, IfSome, IsTrue, OnOk, ℤ};
+ghost use Rattle.std.specs.Prelude.{◌≡◌, ℕ, ◌↔◌, ◌<◌, ◌≤◌, ◌+◌, [], ◌∷◌, ◌++◌, unsigned_abs, false, length, Some, IfSome, IsTrue, OnOk, ℤ};
 ghost use Rattle.std.specs.Int.{is_negative};
 ghost use Rattle.std.specs.List.{AllByRecursion};
 ghost use Rattle.dw_num.specs.Target.{address_limit};
@@ -15,7 +15,7 @@ ghost use Rattle.dw_canon.specs.Difference.{move};
 ghost use Rattle.dw_canon.specs.Inner.Difference.{cfa_difference, difference, rule_to};
 ghost use Rattle.dw_canon.specs.Inner.Fits.{InstrFits};
 ghost use Rattle.dw_canon.specs.Inner.Spelling.{instr_bytes, program_bytes};
-ghost use Rattle.dw_normal.specs.Inner.PlainRows.{IsChanged, IsWritten, Marks, RowsSo, cfa_of, own_row, row_instrs, rule_with, saved_at, written_row};
+ghost use Rattle.dw_normal.specs.Inner.PlainRows.{IsChanged, IsPushed, IsWritten, Marks, RowsSo, cfa_of, own_row, row_instrs, rule_with, saved_at, with_noted, written_row};
 ghost use Rattle.dw_normal.specs.Inner.RegisterWalk.{rules_from};
 
 use crate::instruction::{push_advance, push_cfa_offset, push_offset, push_packed};
@@ -336,43 +336,53 @@ impl PlainRows {
         }
     }
 
-    // Appends what gives each register whose rule differs its rule of the current row.
+    // Takes a register's rule of the current row for that of the row that was written last.
+    #[inline(always)]
+    fn note_register(&mut self, register: u16)
+        requires saved { length self.old.saved ≡ 32 }
+        requires written { length self.old.written ≡ 32 }
+        requires near { register < 32 }
+        ensures { self.new ≡ with_noted register self.old }
+    {
+        let place = usize::from(register);
+        self.written[place] = self.saved[place];
+    }
+
+    // Appends what gives each register whose rule differs its rule of the current row, which is then that of the one written last.
     fn push_registers<'a>(
-        &self,
+        &mut self,
         out: &mut Vec<u8>,
         first: &Row<'a>,
         shared: &Row<'a>,
         marks: &[bool; 32],
         target: Target,
     ) -> Result<(), AllocError>
-        requires so { RowsSo first.now self.now }
+        requires so { RowsSo first.now self.old }
         requires marks { Marks shared.now marks.now }
-        requires fits { AllByRecursion (InstrFits target) (rules_from shared.now (written_row first.now self.now) (own_row first.now self.now) 0) }
-        ensures { OnOk result (out.new.items ≡ out.old.items ++ program_bytes target (rules_from shared.now (written_row first.now self.now) (own_row first.now self.now) 0)) }
+        requires fits { AllByRecursion (InstrFits target) (rules_from shared.now (written_row first.now self.old) (own_row first.now self.old) 0) }
+        ensures appends { OnOk result (out.new.items ≡ out.old.items ++ program_bytes target (rules_from shared.now (written_row first.now self.old) (own_row first.now self.old) 0)) }
+        ensures pushed { OnOk result (IsPushed first.now self.old self.new) }
     {
         let mut place = 0;
         'registers: while let Some(register) = self.next_register(place, first) {
             self.push_register(out, first, shared, marks, register, target)?;
+            self.note_register(register);
             place = u32::from(register) + 1;
         }
         Ok(())
     }
 
-    // Takes the current row for the one that was written last.
+    // Takes the current row for the one that was written last, where its registers are.
     #[inline(always)]
     fn note<'a>(&mut self, first: &Row<'a>)
-        requires { RowsSo first.now self.old }
+        requires so { RowsSo first.now self.old }
+        requires same { (r : ℕ) → saved_at self.old.saved r ≡ saved_at self.old.written r }
         ensures so { RowsSo first.now self.new }
         ensures own { own_row first.now self.new ≡ own_row first.now self.old }
         ensures written { written_row first.now self.new ≡ own_row first.now self.old }
         ensures same { (self.new.start ≡ self.old.start) × (self.new.at ≡ self.old.at) }
     {
         let _first = first;
-        let mut register = self.low;
-        'registers: while register < self.high {
-            self.written[register] = self.saved[register];
-            register += 1;
-        }
         self.written_cfa.register = self.cfa.register;
         self.written_cfa.offset = self.cfa.offset;
         self.low = 32;
@@ -394,19 +404,20 @@ impl PlainRows {
     // Appends what leads to the current row, which is not the one that was written last.
     #[inline(always)]
     fn push_other<'a>(
-        &self,
+        &mut self,
         out: &mut Vec<u8>,
         first: &Row<'a>,
         shared: &Row<'a>,
         marks: &[bool; 32],
         target: Target,
     ) -> Result<(), AllocError>
-        requires so { RowsSo first.now self.now }
+        requires so { RowsSo first.now self.old }
         requires marks { Marks shared.now marks.now }
-        requires rises { self.now.at < self.now.start }
-        requires in_space { self.now.start < address_limit target.size }
-        requires fits { AllByRecursion (InstrFits target) (difference shared.now (written_row first.now self.now) (own_row first.now self.now)) }
-        ensures { OnOk result (out.new.items ≡ out.old.items ++ program_bytes target (move self.now.at self.now.start ∷ difference shared.now (written_row first.now self.now) (own_row first.now self.now))) }
+        requires rises { self.old.at < self.old.start }
+        requires in_space { self.old.start < address_limit target.size }
+        requires fits { AllByRecursion (InstrFits target) (difference shared.now (written_row first.now self.old) (own_row first.now self.old)) }
+        ensures appends { OnOk result (out.new.items ≡ out.old.items ++ program_bytes target (move self.old.at self.old.start ∷ difference shared.now (written_row first.now self.old) (own_row first.now self.old))) }
+        ensures pushed { OnOk result (IsPushed first.now self.old self.new) }
     {
         push_cfa_row(out, self.at, self.start, self.written_cfa, self.cfa, target)?;
         self.push_registers(out, first, shared, marks, target)

@@ -1,5 +1,5 @@
 -- The rows of a plain program, told by what was set.
-use Rattle.std.specs.Prelude.{◌≡◌, ◌⊎◌, ℕ, suc, ◌<◌, ◌≤◌, Bool, false, List, [], ◌∷◌, get_or, length, Option, Some, None, if◌then◌else◌, ℤ}
+use Rattle.std.specs.Prelude.{◌≡◌, ◌⊎◌, ℕ, suc, ◌<◌, ◌≤◌, Bool, false, List, [], ◌∷◌, get_or, length, set, Option, Some, None, if◌then◌else◌, ℤ}
 use Rattle.dw_cfa.specs.declared.instr.Instr.{Instr}
 use Rattle.dw_cfa.specs.declared.rule.CfaRule.{CfaRule}
 use Rattle.dw_cfa.specs.declared.rule.CfaRule.TheVariants as cfa
@@ -59,6 +59,19 @@ pub record RowsSo (first : Rules) (rows : PlainRows) : Type 0 where
 pub record Marks (row : Rules) (marks : List Bool) : Type 0 where
   pub count : length marks ≡ 32
   pub none : (r : ℕ) (d : Bool) → r < 32 → get_or marks r d ≡ false → (n : ℤ) → rule row r ≡ rules.Offset n → ⊥
+
+-- the same rows, but that the one written last has the current one's rule of a register
+abbrev pub with_noted : ℕ → PlainRows → PlainRows
+with_noted r rows =
+    record { start = rows.start; at = rows.at; cfa = rows.cfa; written_cfa = rows.written_cfa; saved = rows.saved; written = set rows.written r (saved_at rows.saved r); low = rows.low; high = rows.high }
+
+-- the same row, whose registers are those of the one written last
+pub record IsPushed (first : Rules) (old new : PlainRows) : Type 0 where
+  pub so : RowsSo first new
+  pub own : own_row first new ≡ own_row first old
+  pub same : (r : ℕ) → saved_at new.saved r ≡ saved_at new.written r
+  pub at : new.at ≡ old.at
+  pub start : new.start ≡ old.start
 
 -- what is written where the current row ends: nothing where it is the one that was written last
 abbrev pub row_instrs : Rules → Rules → PlainRows → List Instr
