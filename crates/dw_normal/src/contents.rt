@@ -21,17 +21,28 @@ use dw_cfa::Row;
 use dw_num::{Order, Size, Target, put_fixed};
 use std::alloc::{AllocError, Global};
 
+// How long so many bytes are with their nops. With the width in each case there is no division.
+#[inline(always)]
+#[tactic(auto, using(crate::proofs::NopsLeft::up_to_four, crate::proofs::NopsLeft::up_to_eight))]
+fn filled_len(len: usize, size: Size) -> usize
+    requires { len + 8 < 2 ^ 64 }
+    ensures { result ≡ len + missing size len }
+{
+    match size {
+        Size::Four => (len + 3) / 4 * 4,
+        Size::Eight => (len + 7) / 8 * 8,
+    }
+}
+
 /// Appends the nops that fill an entry up to a multiple of the address size: as many as there may be, of which what is not missing goes.
 #[inline(always)]
 #[tactic(auto, using(crate::proofs::NopsLeft::nops_left))]
 pub(crate) fn push_nops(out: &mut Vec<u8>, size: Size) -> Result<(), AllocError>
     ensures { OnOk result (out.new.items ≡ out.old.items ++ replicate (missing size (length out.old.items)) 0) }
 {
-    let width = usize::from(size.byte_count());
     let len = out.len();
-    let missing = (width - len % width) % width;
     out.extend_from_slice(&[0; 8])?;
-    out.truncate(len + missing);
+    out.truncate(filled_len(len, size));
     Ok(())
 }
 
