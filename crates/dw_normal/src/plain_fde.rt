@@ -131,6 +131,10 @@ fn push_opened<'a>(
     ensures { OnOk result (out.new.items ≡ out.old.items ++ program_bytes target (difference shared.now shared.now opened.now.first)) }
 {
     let (_shared, _target) = (shared, target);
+    // Mostly nothing, for which no bytes are moved by a call.
+    if opened.program.is_empty() {
+        return Ok(());
+    }
     out.extend_from_slice(&opened.program)
 }
 

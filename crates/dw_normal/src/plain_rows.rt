@@ -53,7 +53,10 @@ pub(crate) struct PlainRows {
 fn is_same(cfa: Cfa, other: Cfa) -> bool
     ensures { IsTrue result ↔ (cfa ≡ other) }
 {
-    cfa.register == other.register && cfa.offset == other.offset
+    if cfa.register != other.register {
+        return false;
+    }
+    cfa.offset == other.offset
 }
 
 // Apart from `push_cfa`, since the register of the CFA mostly stays.
@@ -138,10 +141,10 @@ fn push_short(out: &mut Vec<u8>, distance: u64, offset: u64) -> Result<(), Alloc
 fn is_small(old: Cfa, new: Cfa) -> bool
     ensures { IsTrue result → (old.register ≡ new.register) × (old.offset ≡ new.offset → ⊥) × (is_negative new.offset ≡ false) × (unsigned_abs new.offset < 128) }
 {
-    old.register == new.register
-        && old.offset != new.offset
-        && new.offset >= 0
-        && new.offset.unsigned_abs() < 128
+    if old.register != new.register || old.offset == new.offset {
+        return false;
+    }
+    new.offset >= 0 && new.offset < 128
 }
 
 // Appends a move and what leads from one rule of the CFA to another.
