@@ -147,6 +147,15 @@ fn is_small(old: Cfa, new: Cfa) -> bool
     new.offset >= 0 && new.offset < 128
 }
 
+// An offset that is not negative.
+#[inline(always)]
+fn magnitude(offset: i64) -> u64
+    requires { is_negative offset ≡ false }
+    ensures { result ≡ unsigned_abs offset }
+{
+    offset as u64
+}
+
 // Appends a move and what leads from one rule of the CFA to another.
 #[inline(always)]
 fn push_cfa_row(
@@ -163,7 +172,7 @@ fn push_cfa_row(
     ensures { OnOk result (out.new.items ≡ out.old.items ++ program_bytes target (move from to ∷ cfa_difference (cfa_of old) (cfa_of new))) }
 {
     if to - from < 64 && is_small(old, new) {
-        return push_short(out, to - from, new.offset.unsigned_abs());
+        return push_short(out, to - from, magnitude(new.offset));
     }
     push_long_row(out, from, to, old, new, target)
 }

@@ -14,4 +14,4 @@ returns-then-is_small c =
     let out = c.args.out.now.items in let end = c.push_short.new.out.items in
     let fits : SFits w64 c.args.new.offset = search rules in let small = c.is_small.ensures (search rules) in
     on_ok c.push_short.result (end ≡ out ++ (64 + (to - from)) ∷ 14 ∷ unsigned_abs new.offset ∷ []) (end ≡ out ++ program_bytes t (move from to ∷ cfa_difference (cfa_of old) (cfa_of new)))
-    (λ e. e ∙ ap (λ (l : List ℕ). out ++ l) (sym (short_row t from to old new (search rules) small.0 small.1 small.2 small.3))) (rw (to_z-of_z w64 new.offset fits) at (rw c.unsigned_abs.ensures.value at c.push_short.ensures))
+    (λ e. e ∙ ap (λ (l : List ℕ). out ++ l) (sym (short_row t from to old new (search rules) small.0 small.1 small.2 small.3))) (rw (to_z-of_z w64 new.offset fits) at (rw c.magnitude.ensures at c.push_short.ensures))
