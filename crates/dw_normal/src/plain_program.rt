@@ -69,7 +69,7 @@ impl PlainRun {
         true
     }
 
-    // Gives a register an offset, unless a row is remembered.
+    // Gives a register an offset, unless it is 0 or a row is remembered.
     #[inline(always)]
     fn save<'a>(&mut self, register: u16, offset: i64, first: &Row<'a>, marks: &[bool; 32]) -> bool
         requires so { RowsSo first.now self.old.rows }
@@ -80,8 +80,7 @@ impl PlainRun {
         if self.remembered.is_some() {
             return false;
         }
-        self.rows.save(register, offset, first, marks);
-        true
+        self.rows.save(register, offset, first, marks)
     }
 
     // Gives a register the rule that it has at the begin, unless a row is remembered.
