@@ -27,4 +27,6 @@ mod SavedDifferences
 mod PlainReads
 mod PlainFdes
 mod UntouchedRows
+mod PlainLogs
+mod NopsLeft
 mod PushedRows

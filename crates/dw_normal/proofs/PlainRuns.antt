@@ -1,7 +1,7 @@
 -- One step more of a plain program: the rows and the changes that are still to come.
 use Rattle.dw_normal.proofs.Words.{◌≡◌, ℕ, ◌+◌, ◌<◌, ◌≤◌, suc, true, false, Bool, List, [], ◌∷◌, ◌++◌, Option, refl, sym, ap, ◌∙◌, subst, inl, inr, arith, nat_lt, drop, take, take_rest, length, ◌-◌, AllByRecursion, cases_Bool, append_assoc, lt-ltb, le-ltb, Target, Instr, Rules, rule, move}
 use Rattle.dw_normal.proofs.Words.{difference, later_changes, address_limit, ChangesStand, InstrFits, difference_fits, instr_bytes, program_bytes, RowFits}
-use Rattle.std.specs.Prelude.{◌&&◌, not, if◌then◌else◌}
+use Rattle.std.specs.Prelude.{◌&&◌, not, if◌then◌else◌, ℤ}
 use Rattle.dw_cfa.specs.Inner.Machine.{State, after, popped}
 use Rattle.dw_cfa.specs.Inner.RowEquality.{rows_tell, same_rows}
 use Rattle.dw_cfa.specs.Location.{moves_location}
@@ -13,11 +13,12 @@ use Rattle.dw_normal.specs.declared.plain_instruction.Plain.{Plain}
 use Rattle.dw_normal.specs.declared.plain_program.Frame.{Frame}
 use Rattle.dw_normal.specs.declared.plain_program.PlainRun.{PlainRun}
 use Rattle.dw_normal.specs.Inner.PlainInstruction.{StandsFirst, instr_of}
-use Rattle.dw_normal.specs.declared.plain_rows.Cfa.{Cfa}
 use Rattle.dw_normal.specs.declared.plain_rows.PlainRows.{PlainRows}
-use Rattle.dw_normal.specs.Inner.PlainRows.{IsWritten, RowsSo, own_row, row_instrs, written_row}
+use Rattle.dw_normal.specs.Inner.PlainLog.{logged, undone}
+use Rattle.dw_normal.specs.Inner.PlainRows.{IsWritten, RowsSo, offsets_in, own_row, row_instrs, written_row}
 use Rattle.dw_normal.specs.Inner.PlainProgram.{Becomes, CanRun, Left, Ran, Runs, RunsIn, bytes_in, bytes_left, changes_by, changes_left, rows_by, stack_of, state_of}
 use Rattle.dw_normal.proofs.Passes.{program_more}
+use Rattle.dw_normal.proofs.PlainLogs.{same_saved}
 
 -- ---- rows and changes to come
 
@@ -113,8 +114,11 @@ ended t shared written own limit at start more false e =
 -- ---- runs
 
 -- one state, from one row on
-abbrev state : Rules → Option Cfa → ℕ → State
-state row remembered location = record { row = row; stack = stack_of row remembered; location = location }
+abbrev state : Rules → List Rules → ℕ → State
+state row stack location = record { row = row; stack = stack; location = location }
+
+abbrev pub stack_in : Rules → PlainRun → List (Option ℤ) → List Rules
+stack_in first run offsets = stack_of first (undone (logged run.log) offsets) run.remembered
 
 -- what is so where the current row ends
 abbrev pub EndedHere : Target → Rules → Rules → PlainRun → (Rules → List (ℕ × Rules)) → Type 0
@@ -158,9 +162,10 @@ module _ {t : Target} {shared first : Rules} {last : ℕ} {run : PlainRun} {init
       let sum : run.rows.start + d ≡ run.rows.start = omega arith in
       let is : changes_left first last run initial (Advance d ∷ rest) ≡ changes_left first last run initial rest =
       moves_by_none (suc last) (written_row first run.rows) initial d rest (state_of first run) none
-      ∙ ap (λ (n : ℕ). changes_by (suc last) (written_row first run.rows) initial rest (state (own_row first run.rows) run.remembered n)) sum in (
+      ∙ ap (λ (n : ℕ). changes_by (suc last) (written_row first run.rows) initial rest (state (own_row first run.rows) (stack_in first run (offsets_in run.rows.saved)) n)) sum in (
         record {
           so = r.so;
+          log = r.log;
           same = r.same;
           within = r.within;
           in_space = r.in_space;
@@ -184,7 +189,7 @@ bytes_too : (t : Target) (shared : Rules) {at at' : ℕ} {row row' : Rules} {xs 
 bytes_too t shared a r x = rw (a, r, x) refl
 
 abbrev pub next_run : ℕ → PlainRun → PlainRows → PlainRun
-next_run n was new = record { rows = moved_to n new; remembered = was.remembered }
+next_run n was new = record { rows = moved_to n new; remembered = was.remembered; log = was.log }
 
 module _ {t : Target} {shared first : Rules} {last : ℕ} {old : PlainRun} {rows : PlainRows} {initial : Rules} where
   -- past a row that was written
@@ -194,11 +199,14 @@ module _ {t : Target} {shared first : Rules} {last : ℕ} {old : PlainRun} {rows
       × (made ++ bytes_left t shared first last (next_run (rows.start + d) old rows) initial rest ≡ done ++ bytes_left t shared first last old initial (Advance d ∷ rest))
   advanced d rest done made r some within w is =
       let e = by_advance d rest r some in
+      let offsets : offsets_in rows.saved ≡ offsets_in old.rows.saved = same_saved first old.rows rows r.so w.so (λ q. ap (λ (row : Rules). rule row q) w.own) in
       let came : changes_left first last (next_run (rows.start + d) old rows) initial rest ≡ behind first last old initial d rest (own_row first old.rows) =
-      ap (λ (row : Rules). changes_by (suc last) row initial rest (state (own_row first rows) old.remembered (rows.start + d))) w.written
-      ∙ ap (λ (row : Rules). changes_by (suc last) (own_row first old.rows) initial rest (state row old.remembered (rows.start + d))) w.own
-      ∙ ap (λ (n : ℕ). changes_by (suc last) (own_row first old.rows) initial rest (state (own_row first old.rows) old.remembered (n + d))) w.start in (
+      ap (λ (row : Rules). changes_by (suc last) row initial rest (state (own_row first rows) (stack_in first old (offsets_in rows.saved)) (rows.start + d))) w.written
+      ∙ ap (λ (l : List (Option ℤ)). changes_by (suc last) (own_row first old.rows) initial rest (state (own_row first rows) (stack_in first old l) (rows.start + d))) offsets
+      ∙ ap (λ (row : Rules). changes_by (suc last) (own_row first old.rows) initial rest (state row (stack_in first old (offsets_in old.rows.saved)) (rows.start + d))) w.own
+      ∙ ap (λ (n : ℕ). changes_by (suc last) (own_row first old.rows) initial rest (state (own_row first old.rows) (stack_in first old (offsets_in old.rows.saved)) (n + d))) w.start in (
         record {
+          log = r.log;
           so = so_moved first (rows.start + d) rows w.so;
           same = r.same;
           within = within;
@@ -229,6 +237,7 @@ changed_to {t} {shared} {first} {last} {old} {new} {initial} i rest r b =
     ∙ sym (still (suc last) (written_row first old.rows) initial i rest (state_of first old) b.stays) in (
       record {
         so = b.so;
+        log = b.log;
         same = r.same;
         within = rw start r.within;
         in_space = r.in_space;

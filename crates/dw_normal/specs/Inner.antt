@@ -10,5 +10,6 @@ pub mod Places
 pub mod Answers
 pub mod PlainInstruction
 pub mod PlainRows
+pub mod PlainLog
 pub mod PlainProgram
 pub mod PlainFde

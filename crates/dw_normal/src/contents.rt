@@ -1,6 +1,6 @@
 //! An entry, built in a buffer, with room for its length.
 
-ghost use Rattle.std.specs.Prelude.{◌≡◌, ◌+◌, ◌++◌, ◌<◌, ◌≤◌, ◌^◌, ◌-◌, List, length, replicate, OnOk};
+ghost use Rattle.std.specs.Prelude.{◌≡◌, ◌+◌, ◌++◌, ◌<◌, ◌≤◌, ◌^◌, ◌-◌, List, drop, length, replicate, OnOk};
 ghost use Rattle.std.specs.List.{AllByRecursion};
 ghost use Rattle.dw_num.specs.Fixed.{fixed_bytes};
 ghost use Rattle.dw_num.specs.Target.{address_limit, byte_count};
@@ -16,20 +16,33 @@ ghost use Rattle.dw_normal.specs.Inner.Lengths.{cie_with};
 use crate::begun::Begun;
 use crate::instruction::push_uleb;
 use crate::program::{push_difference, push_first, push_later};
+use byteorder::{BigEndian, ByteOrder, LittleEndian};
 use dw_cfa::Row;
 use dw_num::{Order, Size, Target, put_fixed};
 use std::alloc::{AllocError, Global};
 
-/// Appends the nops that fill an entry up to a multiple of the address size.
+// How long so many bytes are with their nops. With the width in each case there is no division.
+#[inline(always)]
+#[tactic(auto, using(crate::proofs::NopsLeft::up_to_four, crate::proofs::NopsLeft::up_to_eight))]
+fn filled_len(len: usize, size: Size) -> usize
+    requires { len + 8 < 2 ^ 64 }
+    ensures { result ≡ len + missing size len }
+{
+    match size {
+        Size::Four => (len + 3) / 4 * 4,
+        Size::Eight => (len + 7) / 8 * 8,
+    }
+}
+
+/// Appends the nops that fill an entry up to a multiple of the address size: as many as there may be, of which what is not missing goes.
+#[inline(always)]
+#[tactic(auto, using(crate::proofs::NopsLeft::nops_left))]
 pub(crate) fn push_nops(out: &mut Vec<u8>, size: Size) -> Result<(), AllocError>
     ensures { OnOk result (out.new.items ≡ out.old.items ++ replicate (missing size (length out.old.items)) 0) }
 {
-    let width = u64::from(size.byte_count());
-    let mut left = (width - out.len() as u64 % width) % width;
-    'nops: while left > 0 {
-        out.push(0)?;
-        left -= 1;
-    }
+    let len = out.len();
+    out.extend_from_slice(&[0; 8])?;
+    out.truncate(filled_len(len, size));
     Ok(())
 }
 
@@ -52,8 +65,9 @@ fn push_cie_fields(out: &mut Vec<u8>, register: u16, target: Target) -> Result<(
 pub(crate) fn begin_entry(out: &mut Vec<u8>, order: Order) -> Result<(), AllocError>
     ensures { OnOk result (out.new.items ≡ fixed_bytes order 4 0) }
 {
+    let _ = order;
     out.clear();
-    put_fixed(out, order, 4, 0)
+    out.extend_from_slice(&[0; 4])
 }
 
 /// Makes a buffer a CIE with an initial row, with room for its length.
@@ -74,19 +88,61 @@ pub(crate) fn fill_cie<'a>(
     push_nops(out, target.size)
 }
 
-// Appends an address, or how many there are. With the width in each case no byte is moved by a call.
+// Writes a number of four bytes at the front of a slice.
 #[inline(always)]
-fn push_address(out: &mut Vec<u8>, address: u64, target: Target) -> Result<(), AllocError>
-    requires { address < address_limit target.size }
-    ensures { OnOk result (out.new.items ≡ out.old.items ++ fixed_bytes target.order (byte_count target.size) address) }
+fn write_four(bytes: &mut [u8], order: Order, number: u64)
+    requires room { 4 ≤ length bytes.old }
+    requires fits { number < 2 ^ 32 }
+    ensures { bytes.new ≡ fixed_bytes order 4 number ++ drop 4 bytes.old }
 {
-    match target.size {
-        Size::Four => put_fixed(out, target.order, 4, address),
-        Size::Eight => put_fixed(out, target.order, 8, address),
+    match order {
+        Order::Little => LittleEndian::write_u32(bytes, number as u32),
+        Order::Big => BigEndian::write_u32(bytes, number as u32),
     }
 }
 
-/// Appends what stands before an FDE's program.
+// Writes a number of eight bytes at the front of a slice.
+#[inline(always)]
+fn write_eight(bytes: &mut [u8], order: Order, number: u64)
+    requires { 8 ≤ length bytes.old }
+    ensures { bytes.new ≡ fixed_bytes order 8 number ++ drop 8 bytes.old }
+{
+    match order {
+        Order::Little => LittleEndian::write_u64(bytes, number),
+        Order::Big => BigEndian::write_u64(bytes, number),
+    }
+}
+
+// The place of a CIE and two addresses of four bytes.
+#[inline(always)]
+fn narrow_fields(order: Order, cie_at: u64, begin: u64, range: u64) -> [u8; 12]
+    requires cie_at { cie_at < 2 ^ 32 }
+    requires begin { begin < 2 ^ 32 }
+    requires range { range < 2 ^ 32 }
+    ensures { result ≡ fixed_bytes order 4 cie_at ++ (fixed_bytes order 4 begin ++ fixed_bytes order 4 range) }
+{
+    let mut fields = [0; 12];
+    write_four(&mut fields, order, cie_at);
+    write_four(&mut fields[4..], order, begin);
+    write_four(&mut fields[8..], order, range);
+    fields
+}
+
+// The place of a CIE and two addresses of eight bytes.
+#[inline(always)]
+fn wide_fields(order: Order, cie_at: u64, begin: u64, range: u64) -> [u8; 20]
+    requires { cie_at < 2 ^ 32 }
+    ensures { result ≡ fixed_bytes order 4 cie_at ++ (fixed_bytes order 8 begin ++ fixed_bytes order 8 range) }
+{
+    let mut fields = [0; 20];
+    write_four(&mut fields, order, cie_at);
+    write_eight(&mut fields[4..], order, begin);
+    write_eight(&mut fields[12..], order, range);
+    fields
+}
+
+/// Appends what stands before an FDE's program, at once.
+#[inline(always)]
 pub(crate) fn push_fde_fields(
     out: &mut Vec<u8>,
     cie_at: u64,
@@ -99,9 +155,10 @@ pub(crate) fn push_fde_fields(
     requires range { range < address_limit target.size }
     ensures { OnOk result (out.new.items ≡ out.old.items ++ fde_fields target cie_at begin range) }
 {
-    put_fixed(out, target.order, 4, cie_at)?;
-    push_address(out, begin, target)?;
-    push_address(out, range, target)
+    match target.size {
+        Size::Four => out.extend_from_slice(&narrow_fields(target.order, cie_at, begin, range)),
+        Size::Eight => out.extend_from_slice(&wide_fields(target.order, cie_at, begin, range)),
+    }
 }
 
 /// Makes a buffer an FDE, where its CIE stands at a place, with room for its length.

@@ -91,8 +91,10 @@ fn push_long_advance(out: &mut Vec<u8>, order: Order, delta: u32) -> Result<(), 
     ensures { OnOk result (out.new.items ≡ out.old.items ++ advance_bytes order delta) }
 {
     if delta < 256 {
-        out.push(ADVANCE_LOC1)?;
-        return put_fixed(out, order, 1, u64::from(delta));
+        out.reserve(2)?;
+        out.push_reserved(ADVANCE_LOC1);
+        out.push_reserved(delta as u8);
+        return Ok(());
     }
     if delta < 65536 {
         out.push(ADVANCE_LOC2)?;

@@ -15,6 +15,7 @@ mod normal;
 mod opcode;
 mod plain_fde;
 mod plain_instruction;
+mod plain_log;
 mod plain_program;
 mod plain_rows;
 mod preparation;

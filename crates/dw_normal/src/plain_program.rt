@@ -7,20 +7,23 @@ ghost use Rattle.dw_cfa.specs.declared.instr.Instr.{Instr};
 ghost use Rattle.dw_cfa.specs.declared.instr.Instr.TheVariants.{Advance, DefCfa, Restore, RememberState, RestoreState, Set};
 ghost use Rattle.dw_cfa.specs.declared.rule.RegRule.TheVariants.{Offset};
 ghost use Rattle.dw_normal.specs.Inner.PlainInstruction.{IsNear, instr_of};
-ghost use Rattle.dw_normal.specs.Inner.PlainProgram.{Becomes, CanRun, IsPlain, Ran, RunsIn, bytes_in, plain_bytes};
+ghost use Rattle.dw_normal.specs.Inner.PlainLog.{LogSo};
+ghost use Rattle.dw_normal.specs.Inner.PlainProgram.{Becomes, CanRun, IsNoted, IsPlain, IsUndone, Ran, RunsIn, bytes_in, plain_bytes};
 ghost use Rattle.dw_normal.specs.Inner.PlainRows.{Marks, RowsSo};
 
 use crate::plain_instruction::{Plain, plain_at};
+use crate::plain_log::Log;
 use crate::plain_rows::{Cfa, PlainRows};
 use dw_cfa::{CfaRule, Factors, Row};
 use dw_num::Target;
 use std::alloc::AllocError;
 
-/// A program in the middle: its rows, and the CFA of a row that was remembered.
+/// A program in the middle: its rows, the CFA of a row that was remembered, and what the registers that were set since then had in it.
 #[derive(Clone, Copy)]
 pub(crate) struct PlainRun {
     pub(crate) rows: PlainRows,
     pub(crate) remembered: Option<Cfa>,
+    pub(crate) log: Log,
 }
 
 /// What all instructions of a program are written with: the row at the FDE's begin, the one that its group shares, the registers
@@ -62,35 +65,53 @@ impl PlainRun {
     // Gives the CFA another rule.
     #[inline(always)]
     fn set<'a>(&mut self, register: u16, offset: i64, first: &Row<'a>) -> bool
-        requires { RowsSo first.now self.old.rows }
+        requires so { RowsSo first.now self.old.rows }
+        requires log { LogSo first.now self.old.log }
         ensures { Becomes first.now (DefCfa register offset) self.old self.new }
     {
         self.rows.set_cfa(Cfa { register, offset }, first);
         true
     }
 
-    // Gives a register an offset, unless it is 0 or a row is remembered.
+    // Notes what a register has that will be set, where a row is remembered. It says no where there is no room.
+    #[inline(always)]
+    fn note<'a>(&mut self, register: u16, first: &Row<'a>) -> bool
+        requires so { RowsSo first.now self.old.rows }
+        requires log { LogSo first.now self.old.log }
+        requires near { register < 32 }
+        ensures { IsTrue result → IsNoted first.now register self.old self.new }
+    {
+        let _first = first;
+        if self.remembered.is_none() {
+            return true;
+        }
+        self.log.push(register, self.rows.offset_of(register))
+    }
+
+    // Gives a register an offset, unless it is 0.
     #[inline(always)]
     fn save<'a>(&mut self, register: u16, offset: i64, first: &Row<'a>, marks: &[bool; 32]) -> bool
         requires so { RowsSo first.now self.old.rows }
+        requires log { LogSo first.now self.old.log }
         requires marks { Marks first.now marks.now }
         requires near { register < 32 }
         ensures { IsTrue result → Becomes first.now (Set register (Offset offset)) self.old self.new }
     {
-        if self.remembered.is_some() {
+        if !self.note(register, first) {
             return false;
         }
         self.rows.save(register, offset, first, marks)
     }
 
-    // Gives a register the rule that it has at the begin, unless a row is remembered.
+    // Gives a register the rule that it has at the begin.
     #[inline(always)]
     fn restore<'a>(&mut self, register: u16, first: &Row<'a>) -> bool
         requires so { RowsSo first.now self.old.rows }
+        requires log { LogSo first.now self.old.log }
         requires near { register < 32 }
         ensures { IsTrue result → Becomes first.now (Restore register) self.old self.new }
     {
-        if self.remembered.is_some() {
+        if !self.note(register, first) {
             return false;
         }
         self.rows.bring_back(register, first);
@@ -100,7 +121,8 @@ impl PlainRun {
     // Remembers the row, unless one is.
     #[inline(always)]
     fn remember<'a>(&mut self, first: &Row<'a>) -> bool
-        requires { RowsSo first.now self.old.rows }
+        requires so { RowsSo first.now self.old.rows }
+        requires log { LogSo first.now self.old.log }
         ensures { IsTrue result → Becomes first.now RememberState self.old self.new }
     {
         let _first = first;
@@ -108,18 +130,33 @@ impl PlainRun {
             return false;
         }
         self.remembered = Some(self.rows.cfa);
+        self.log.clear();
         true
+    }
+
+    // Puts back what was noted, the last first.
+    #[inline(always)]
+    fn undo<'a>(&mut self, first: &Row<'a>)
+        requires so { RowsSo first.now self.old.rows }
+        requires log { LogSo first.now self.old.log }
+        ensures { IsUndone first.now self.old self.new }
+    {
+        'registers: while let Some((register, offset)) = self.log.pop() {
+            self.rows.put(register, offset, first);
+        }
     }
 
     // Brings the remembered row back, if there is one.
     #[inline(always)]
     fn recall<'a>(&mut self, first: &Row<'a>) -> bool
-        requires { RowsSo first.now self.old.rows }
+        requires so { RowsSo first.now self.old.rows }
+        requires log { LogSo first.now self.old.log }
         ensures { IsTrue result → Becomes first.now RestoreState self.old self.new }
     {
         let Some(cfa) = self.remembered else {
             return false;
         };
+        self.undo(first);
         self.rows.set_cfa(cfa, first);
         self.remembered = None;
         true
@@ -131,6 +168,7 @@ impl PlainRun {
         requires near { IsNear plain }
         requires marks { Marks first.now marks.now }
         requires so { RowsSo first.now self.old.rows }
+        requires log { LogSo first.now self.old.log }
         ensures { IsTrue result → Becomes first.now (instr_of plain) self.old self.new }
     {
         match plain {
@@ -226,6 +264,7 @@ pub(crate) fn push_plain(
     let mut run = PlainRun {
         rows: PlainRows::new(begin, Cfa { register, offset }, frame.first),
         remembered: None,
+        log: Log::new(),
     };
     run.push_all(out, program, factors, frame)
 }

@@ -18,10 +18,10 @@ ghost use Rattle.dw_canon.specs.Inner.Spelling.{instr_bytes, program_bytes};
 ghost use Rattle.dw_normal.specs.Inner.PlainRows.{IsChanged, IsPushed, IsWritten, Marks, RowsSo, cfa_of, offset_in, offsets_in, own_row, row_instrs, rule_with, saved_at, with_noted, written_row};
 ghost use Rattle.dw_normal.specs.Inner.RegisterWalk.{rules_from};
 
-use crate::instruction::{push_advance, push_cfa_offset, push_offset, push_packed};
+use crate::instruction::{push_advance, push_cfa_offset, push_instr, push_offset, push_packed};
 use crate::opcode::{ADVANCE_LOC, DEF_CFA_OFFSET, RESTORE, RESTORE_EXTENDED};
-use crate::program::{push_cfa_rule, push_far_move, push_register};
-use dw_cfa::{CfaRule, Row};
+use crate::program::{push_far_move, push_register};
+use dw_cfa::{Instr, Row};
 use dw_num::Target;
 use std::alloc::AllocError;
 
@@ -49,16 +49,8 @@ pub(crate) struct PlainRows {
     high: usize,
 }
 
-fn rule_of_cfa(cfa: Cfa) -> CfaRule<'static>
-    ensures { result ≡ cfa_of cfa }
-{
-    CfaRule::Register {
-        register: cfa.register,
-        offset: cfa.offset,
-    }
-}
-
 // Whether two rules of the CFA are one.
+#[inline(always)]
 fn is_same(cfa: Cfa, other: Cfa) -> bool
     ensures { IsTrue result ↔ (cfa ≡ other) }
 {
@@ -68,10 +60,15 @@ fn is_same(cfa: Cfa, other: Cfa) -> bool
 // Apart from `push_cfa`, since the register of the CFA mostly stays.
 #[inline(never)]
 fn push_other_cfa(out: &mut Vec<u8>, old: Cfa, new: Cfa, target: Target) -> Result<(), AllocError>
-    requires { AllByRecursion (InstrFits target) (cfa_difference (cfa_of old) (cfa_of new)) }
+    requires other { old.register ≡ new.register → ⊥ }
+    requires fits { AllByRecursion (InstrFits target) (cfa_difference (cfa_of old) (cfa_of new)) }
     ensures { OnOk result (out.new.items ≡ out.old.items ++ program_bytes target (cfa_difference (cfa_of old) (cfa_of new))) }
 {
-    push_cfa_rule(out, &rule_of_cfa(old), &rule_of_cfa(new), target)
+    let Cfa { register, offset } = new;
+    if old.offset == offset {
+        return push_instr(out, &Instr::DefCfaRegister(register), target);
+    }
+    push_instr(out, &Instr::DefCfa { register, offset }, target)
 }
 
 // Appends what leads from one rule of the CFA to another: mostly another offset from the same register.
@@ -98,14 +95,14 @@ fn push_step(out: &mut Vec<u8>, from: u64, to: u64, target: Target) -> Result<()
     ensures { OnOk result (out.new.items ≡ out.old.items ++ instr_bytes target (move from to)) }
 {
     let distance = to - from;
-    if distance < 64 {
+    if distance < 4294967296 {
         return push_advance(out, target.order, distance as u32);
     }
     push_far_move(out, u128::from(from), u128::from(to), target)
 }
 
-// Appends a move and what leads from one rule of the CFA to another. Apart from `push_cfa_row`, since both are mostly short.
-#[inline(never)]
+// Appends a move and what leads from one rule of the CFA to another.
+#[inline(always)]
 fn push_long_row(
     out: &mut Vec<u8>,
     from: u64,
@@ -239,9 +236,9 @@ impl PlainRows {
         self.cfa.offset = cfa.offset;
     }
 
-    // Gives a register an offset, or for 0 the rule that it has at the begin.
+    /// Gives a register below 32 an offset, or for 0 the rule that it has at the begin.
     #[inline(always)]
-    fn put<'a>(&mut self, register: u16, offset: i64, first: &Row<'a>)
+    pub(crate) fn put<'a>(&mut self, register: u16, offset: i64, first: &Row<'a>)
         requires so { RowsSo first.now self.old }
         requires near { register < 32 }
         requires other { (n : ℤ) → offset_in offset ≡ Some n → rule first.now register ≡ Offset n → ⊥ }
@@ -508,5 +505,15 @@ impl PlainRows {
             return self.push_touched(out, first, shared, marks, target);
         }
         self.push_untouched(out, first, shared, target)
+    }
+
+    /// The offset of a register below 32 in the current row, or 0 where it has the rule of the row at the FDE's begin.
+    #[inline(always)]
+    pub(crate) fn offset_of(&self, register: u16) -> i64
+        requires length { length self.now.saved ≡ 32 }
+        requires near { register < 32 }
+        ensures { offset_in result ≡ saved_at (offsets_in self.now.saved) register }
+    {
+        self.saved[usize::from(register)]
     }
 }

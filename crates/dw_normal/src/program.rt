@@ -40,9 +40,9 @@ fn push_other_cfa(
     }
 }
 
-/// Appends what leads from one rule of the CFA to another: mostly another offset from the same register.
+// Appends the same: mostly another offset from the same register.
 #[inline(always)]
-pub(crate) fn push_cfa_rule(
+fn push_cfa_rule(
     out: &mut Vec<u8>,
     old: &CfaRule<'_>,
     new: &CfaRule<'_>,
@@ -175,10 +175,10 @@ pub(crate) fn push_far_move(
     push_set_loc(out, to as u64, target)
 }
 
-/// Appends what moves the location, mostly by a few bytes.
+// Appends what moves the location, mostly by a few bytes.
 #[inline(always)]
 #[tactic(auto, unfolding(dw_canon::specs::Spelling::instr_bytes))]
-pub(crate) fn push_move(
+fn push_move(
     out: &mut Vec<u8>,
     from: u128,
     to: u128,

@@ -1,10 +1,9 @@
 -- How a plain program is written in the normal form while it is read.
-use Rattle.std.specs.Prelude.{◌≡◌, ℕ, suc, ◌<◌, ◌≤◌, false, List, [], ◌∷◌, ◌++◌, Option, Some, None, if◌then◌else◌}
+use Rattle.std.specs.Prelude.{◌≡◌, ℕ, suc, ◌<◌, ◌≤◌, false, List, [], ◌∷◌, ◌++◌, Option, Some, None, if◌then◌else◌, ℤ}
 use Rattle.dw_num.specs.declared.target.Target.{Target}
 use Rattle.dw_num.specs.Target.{address_limit}
 use Rattle.dw_cfa.specs.InstrSpells.{Program}
 use Rattle.dw_cfa.specs.Inner.Machine.{State, after, begun}
-use Rattle.dw_cfa.specs.Inner.Rows.{with_cfa}
 use Rattle.dw_cfa.specs.Inner.Runs.{here}
 use Rattle.dw_cfa.specs.Location.{moves_location}
 use Rattle.dw_cfa.specs.Rows.{AreSpecified, Rules, rule}
@@ -19,7 +18,8 @@ use Rattle.dw_canon.specs.Inner.Spelling.{program_bytes}
 use Rattle.dw_normal.specs.declared.plain_program.Frame.{Frame}
 use Rattle.dw_normal.specs.declared.plain_program.PlainRun.{PlainRun}
 use Rattle.dw_normal.specs.declared.plain_rows.Cfa.{Cfa}
-use Rattle.dw_normal.specs.Inner.PlainRows.{RowsSo, cfa_of, own_row, written_row}
+use Rattle.dw_normal.specs.Inner.PlainLog.{LogSo, logged, noted, undone}
+use Rattle.dw_normal.specs.Inner.PlainRows.{RowsSo, offsets_in, own_row, row_with, saved_at, written_row}
 
 -- the rows of a program that has no fault, from a state on
 abbrev pub rows_by : Rules → List Instr → State → List LocatedRow
@@ -46,13 +46,14 @@ plain_bytes t shared first begin last initial instrs = program_bytes t (later_ch
 
 -- ---- in the middle
 
--- the remembered row, which has the registers of the current one
-abbrev pub stack_of : Rules → Option Cfa → List Rules
-stack_of row None = []
-stack_of row (Some c) = with_cfa (cfa_of c) row ∷ []
+-- the remembered row, by the offsets that registers had in it
+abbrev pub stack_of : Rules → List (Option ℤ) → Option Cfa → List Rules
+stack_of first offsets None = []
+stack_of first offsets (Some c) = row_with first c offsets ∷ []
 
+-- its offsets are those of the current row where what was set since is undone
 abbrev pub state_of : Rules → PlainRun → State
-state_of first run = record { row = own_row first run.rows; stack = stack_of (own_row first run.rows) run.remembered; location = run.rows.start }
+state_of first run = record { row = own_row first run.rows; stack = stack_of first (undone (logged run.log) (offsets_in run.rows.saved)) run.remembered; location = run.rows.start }
 
 -- the changes still to come of the instructions that are left
 abbrev pub changes_left : Rules → ℕ → PlainRun → Rules → List Instr → List (ℕ × Rules)
@@ -63,6 +64,7 @@ bytes_left t shared first last run initial instrs = program_bytes t (later_chang
 
 pub record Runs (t : Target) (shared first : Rules) (last : ℕ) (run : PlainRun) (initial : Rules) (instrs : List Instr) : Type 0 where
   pub so : RowsSo first run.rows
+  pub log : LogSo first run.log
   pub same : (r : ℕ) → rule initial r ≡ rule first r
   pub within : run.rows.start ≤ last
   pub in_space : last < address_limit t.size
@@ -90,10 +92,29 @@ Ran frame i old done new made =
 -- the state after an instruction that does not move the location
 pub record Becomes (first : Rules) (i : Instr) (old new : PlainRun) : Type 0 where
   pub so : RowsSo first new.rows
+  pub log : LogSo first new.log
   pub stays : moves_location i ≡ false
   pub state : state_of first new ≡ after first i (state_of first old)
   pub written : written_row first new.rows ≡ written_row first old.rows
   pub at : new.rows.at ≡ old.rows.at
+
+-- what a register had was noted, unless no row is remembered
+pub record IsNoted (first : Rules) (register : ℕ) (old new : PlainRun) : Type 0 where
+  pub log : LogSo first new.log
+  pub rows : new.rows ≡ old.rows
+  pub remembered : new.remembered ≡ old.remembered
+  pub added : logged new.log ≡ noted old.remembered (register, saved_at (offsets_in old.rows.saved) register) (logged old.log)
+
+-- what was noted was put back
+pub record IsUndone (first : Rules) (old new : PlainRun) : Type 0 where
+  pub so : RowsSo first new.rows
+  pub log : LogSo first new.log
+  pub empty : logged new.log ≡ []
+  pub saved : offsets_in new.rows.saved ≡ undone (logged old.log) (offsets_in old.rows.saved)
+  pub written : written_row first new.rows ≡ written_row first old.rows
+  pub at : new.rows.at ≡ old.rows.at
+  pub start : new.rows.start ≡ old.rows.start
+  pub remembered : new.remembered ≡ old.remembered
 
 -- the instructions that are left, which make the whole with what was appended so far
 pub record Left (frame : Frame) (f : Factors) (initial : Rules) (whole : List ℕ) (run : PlainRun) (left made : List ℕ) : Type 0 where
