@@ -1,6 +1,6 @@
 -- Registers that were set while a row is remembered, and the row with what they had.
-use Rattle.dw_normal.proofs.Words.{◌≡◌, ℕ, zero, suc, ◌+◌, ◌<◌, ◌≤◌, false, List, [], ◌∷◌, Option, Some, None, refl, sym, ap, ◌∙◌, subst, inl, inr, arith, cases_Bool, get_or, nat_eq, eq-eqb, length, AllByRecursion, Rules, rule}
-use Rattle.std.specs.Prelude.{ℤ, set, if◌then◌else◌}
+use Rattle.dw_normal.proofs.Words.{◌≡◌, ℕ, zero, suc, ◌+◌, ◌<◌, ◌≤◌, false, List, [], ◌∷◌, Option, Some, None, refl, sym, ap, ◌∙◌, subst, inl, inr, arith, cases_Bool, get_or, nat_eq, eq-eqb, length, length-map, AllByRecursion, Rules, rule}
+use Rattle.std.specs.Prelude.{ℤ, pos, set, if◌then◌else◌}
 use Rattle.std.proofs.lemmas.Bool.{eqb-true, eqb-false}
 use Rattle.std.proofs.lemmas.List.{ext_get_or, get_or-set_other, get_or-set_same, length-set, set-get_or}
 use Rattle.dw_cfa.proofs.Lent.RowLists.{put_rule}
@@ -15,71 +15,74 @@ use Rattle.dw_normal.specs.declared.plain_program.PlainRun.{PlainRun}
 use Rattle.dw_normal.specs.declared.plain_rows.Cfa.{Cfa}
 use Rattle.dw_normal.specs.declared.plain_rows.PlainRows.{PlainRows}
 use Rattle.dw_normal.specs.Inner.PlainLog.{CanPut, Entry, HasRoom, LogSo, entries_of, logged, noted, undone}
-use Rattle.dw_normal.specs.Inner.PlainRows.{IsChanged, RowsSo, cfa_of, own_row, row_with, rule_with, saved_at, written_row}
+use Rattle.dw_normal.specs.Inner.PlainRows.{IsChanged, RowsSo, cfa_of, offset_in, offsets_in, own_row, row_with, rule_with, saved_at, written_row}
 use Rattle.dw_normal.specs.Inner.PlainProgram.{Becomes, IsNoted, IsUndone, stack_of, state_of}
 use Rattle.dw_normal.proofs.SavedRules.{row_keeps, row_rule, told_apart}
 
 -- ---- one entry more
 
-same_below : (registers : List ℕ) (offsets : List (Option ℤ)) (place : ℕ) (r : ℕ) (o : Option ℤ) (n : ℕ) → n ≤ place → entries_of (set registers place r) (set offsets place o) n ≡ entries_of registers offsets n
+same_below : (registers : List ℕ) (offsets : List ℤ) (place : ℕ) (r : ℕ) (o : ℤ) (n : ℕ) → n ≤ place → entries_of (set registers place r) (set offsets place o) n ≡ entries_of registers offsets n
 same_below registers offsets place r o zero le = refl
 same_below registers offsets place r o (suc n) le =
-    rw (get_or-set_other registers place n r 0 (λ same. omega arith), get_or-set_other offsets place n o None (λ same. omega arith))
-    (ap (λ (l : List Entry). (get_or registers n 0, get_or offsets n None) ∷ l) (same_below registers offsets place r o n (omega arith)))
+    rw (get_or-set_other registers place n r 0 (λ same. omega arith), get_or-set_other offsets place n o (pos 0) (λ same. omega arith))
+    (ap (λ (l : List Entry). (get_or registers n 0, offset_in (get_or offsets n (pos 0))) ∷ l) (same_below registers offsets place r o n (omega arith)))
 
-pub one_more : (registers : List ℕ) (offsets : List (Option ℤ)) (place : ℕ) (r : ℕ) (o : Option ℤ) → place < length registers → place < length offsets
-    → entries_of (set registers place r) (set offsets place o) (place + 1) ≡ (r, o) ∷ entries_of registers offsets place
+pub one_more : (registers : List ℕ) (offsets : List ℤ) (place : ℕ) (r : ℕ) (o : ℤ) → place < length registers → place < length offsets
+    → entries_of (set registers place r) (set offsets place o) (place + 1) ≡ (r, offset_in o) ∷ entries_of registers offsets place
 one_more registers offsets place r o lt less =
     let up : place + 1 ≡ suc place = omega arith in
-    rw (up, get_or-set_same registers place r 0 lt, get_or-set_same offsets place o None less) (ap (λ (l : List Entry). (r, o) ∷ l) (same_below registers offsets place r o place (omega arith)))
+    rw (up, get_or-set_same registers place r 0 lt, get_or-set_same offsets place o (pos 0) less) (ap (λ (l : List Entry). (r, offset_in o) ∷ l) (same_below registers offsets place r o place (omega arith)))
 
 -- ---- the offsets that rows are told by
 
+saved_count : {first : Rules} (rows : PlainRows) → RowsSo first rows → length (offsets_in rows.saved) ≡ 32
+saved_count rows so = length-map rows.saved offset_in ∙ so.saved
+
 -- where each register has the same rule
-pub same_saved : (first : Rules) (old new : PlainRows) → RowsSo first old → RowsSo first new → ((q : ℕ) → rule (own_row first new) q ≡ rule (own_row first old) q) → new.saved ≡ old.saved
+pub same_saved : (first : Rules) (old new : PlainRows) → RowsSo first old → RowsSo first new → ((q : ℕ) → rule (own_row first new) q ≡ rule (own_row first old) q) → offsets_in new.saved ≡ offsets_in old.saved
 same_saved first old new was so same =
-    ext_get_or None new.saved old.saved (so.saved ∙ sym was.saved)
-    (λ q lt. told_apart first q (saved_at new.saved q) (saved_at old.saved q) (so.saved_other q) (was.saved_other q)
-    (sym (row_rule first new.cfa new.saved q so.listed) ∙ same q ∙ row_rule first old.cfa old.saved q was.listed))
+    ext_get_or None (offsets_in new.saved) (offsets_in old.saved) (saved_count new so ∙ sym (saved_count old was))
+    (λ q lt. told_apart first q (saved_at (offsets_in new.saved) q) (saved_at (offsets_in old.saved) q) (so.saved_other q) (was.saved_other q)
+    (sym (row_rule first new.cfa (offsets_in new.saved) q so.listed) ∙ same q ∙ row_rule first old.cfa (offsets_in old.saved) q was.listed))
 
 module _ (first : Rules) (old new : PlainRows) (r : ℕ) (x : RegRule) (was : RowsSo first old) (is : IsChanged first old new (with_rule r x (own_row first old))) where
   -- the rule of each register where one is set
-  changed_rule : (q : ℕ) → rule_with first q (saved_at new.saved q) ≡ if nat_eq r q then x else rule_with first q (saved_at old.saved q)
+  changed_rule : (q : ℕ) → rule_with first q (saved_at (offsets_in new.saved) q) ≡ if nat_eq r q then x else rule_with first q (saved_at (offsets_in old.saved) q)
   changed_rule q =
-      sym (row_rule first new.cfa new.saved q is.so.listed) ∙ ap (λ (row : Rules). rule row q) is.own ∙ put_rule r x 0 (own_row first old).registers q (row_keeps first old.cfa old.saved was.listed)
-      ∙ ap (λ (y : RegRule). if nat_eq r q then x else y) (row_rule first old.cfa old.saved q was.listed)
+      sym (row_rule first new.cfa (offsets_in new.saved) q is.so.listed) ∙ ap (λ (row : Rules). rule row q) is.own ∙ put_rule r x 0 (own_row first old).registers q (row_keeps first old.cfa (offsets_in old.saved) was.listed)
+      ∙ ap (λ (y : RegRule). if nat_eq r q then x else y) (row_rule first old.cfa (offsets_in old.saved) q was.listed)
 
   -- so the others are where they were
-  changed_else : (q : ℕ) → nat_eq r q ≡ false → saved_at new.saved q ≡ saved_at old.saved q
-  changed_else q other = told_apart first q (saved_at new.saved q) (saved_at old.saved q) (is.so.saved_other q) (was.saved_other q) (rw other at (changed_rule q))
+  changed_else : (q : ℕ) → nat_eq r q ≡ false → saved_at (offsets_in new.saved) q ≡ saved_at (offsets_in old.saved) q
+  changed_else q other = told_apart first q (saved_at (offsets_in new.saved) q) (saved_at (offsets_in old.saved) q) (is.so.saved_other q) (was.saved_other q) (rw other at (changed_rule q))
 
-  changed_set : r < 32 → (o : Option ℤ) → set new.saved r o ≡ set old.saved r o
+  changed_set : r < 32 → (o : Option ℤ) → set (offsets_in new.saved) r o ≡ set (offsets_in old.saved) r o
   changed_set lt o =
-      let long = length-set new.saved r o ∙ is.so.saved in
-      ext_get_or None (set new.saved r o) (set old.saved r o) (long ∙ sym (length-set old.saved r o ∙ was.saved))
+      let long = length-set (offsets_in new.saved) r o ∙ saved_count new is.so in let count = saved_count old was in let count' = saved_count new is.so in
+      ext_get_or None (set (offsets_in new.saved) r o) (set (offsets_in old.saved) r o) (long ∙ sym (length-set (offsets_in old.saved) r o ∙ saved_count old was))
       (λ q less. elim (cases_Bool (nat_eq r q)) [
         | inl e ↦
-            subst (λ (p : ℕ). get_or (set new.saved r o) p None ≡ get_or (set old.saved r o) p None) (eqb-true r q e)
-            (get_or-set_same new.saved r o None (omega (arith, is.so.saved)) ∙ sym (get_or-set_same old.saved r o None (omega (arith, was.saved))))
+            subst (λ (p : ℕ). get_or (set (offsets_in new.saved) r o) p None ≡ get_or (set (offsets_in old.saved) r o) p None) (eqb-true r q e)
+            (get_or-set_same (offsets_in new.saved) r o None (omega (arith, count')) ∙ sym (get_or-set_same (offsets_in old.saved) r o None (omega (arith, count))))
         | inr e ↦
             let other = eqb-false r q e in
-            get_or-set_other new.saved r q o None (λ same. other (sym same)) ∙ changed_else q e ∙ sym (get_or-set_other old.saved r q o None (λ same. other (sym same)))
+            get_or-set_other (offsets_in new.saved) r q o None (λ same. other (sym same)) ∙ changed_else q e ∙ sym (get_or-set_other (offsets_in old.saved) r q o None (λ same. other (sym same)))
       ])
 
   -- with what it had it is as it was
-  pub set_back : r < 32 → set new.saved r (saved_at old.saved r) ≡ old.saved
-  set_back lt = changed_set lt (saved_at old.saved r) ∙ set-get_or old.saved r None
+  pub set_back : r < 32 → set (offsets_in new.saved) r (saved_at (offsets_in old.saved) r) ≡ offsets_in old.saved
+  set_back lt = changed_set lt (saved_at (offsets_in old.saved) r) ∙ set-get_or (offsets_in old.saved) r None
 
 -- a register that is put back has that offset
-pub put_saved : (first : Rules) (old new : PlainRows) (r : ℕ) (o : Option ℤ) → RowsSo first old → IsChanged first old new (with_rule r (rule_with first r o) (own_row first old)) → CanPut first (r, o) → new.saved ≡ set old.saved r o
+pub put_saved : (first : Rules) (old new : PlainRows) (r : ℕ) (o : Option ℤ) → RowsSo first old → IsChanged first old new (with_rule r (rule_with first r o) (own_row first old)) → CanPut first (r, o) → offsets_in new.saved ≡ set (offsets_in old.saved) r o
 put_saved first old new r o was is can =
-    let there = told_apart first r (saved_at new.saved r) o (is.so.saved_other r) can.1 (rw (eq-eqb r r refl) at (changed_rule first old new r (rule_with first r o) was is r)) in
-    sym (set-get_or new.saved r None) ∙ ap (set new.saved r) there ∙ changed_set first old new r (rule_with first r o) was is can.0 o
+    let there = told_apart first r (saved_at (offsets_in new.saved) r) o (is.so.saved_other r) can.1 (rw (eq-eqb r r refl) at (changed_rule first old new r (rule_with first r o) was is r)) in
+    sym (set-get_or (offsets_in new.saved) r None) ∙ ap (set (offsets_in new.saved) r) there ∙ changed_set first old new r (rule_with first r o) was is can.0 o
 
 -- ---- what becomes of a run
 
 abbrev pub stacks : Rules → PlainRun → List Rules
-stacks first run = stack_of first (undone (logged run.log) run.rows.saved) run.remembered
+stacks first run = stack_of first (undone (logged run.log) (offsets_in run.rows.saved)) run.remembered
 
 abbrev state : Rules → List Rules → ℕ → State
 state row stack location = record { row = row; stack = stack; location = location }
@@ -97,7 +100,7 @@ set_becomes first i old new row stays is log stack to =
 pub cfa_becomes : (first : Rules) (i : Instr) (old : PlainRun) (rows : PlainRows) (c : Cfa) → RowsSo first old.rows → LogSo first old.log → moves_location i ≡ false → IsChanged first old.rows rows (with_cfa (cfa_of c) (own_row first old.rows))
     → state (with_cfa (cfa_of c) (own_row first old.rows)) (stacks first old) old.rows.start ≡ after first i (state_of first old) → Becomes first i old (record { rows = rows; remembered = old.remembered; log = old.log })
 cfa_becomes first i old rows c was log stays is to =
-    let offsets : rows.saved ≡ old.rows.saved = same_saved first old.rows rows was is.so (λ q. ap (λ (row : Rules). rule row q) is.own) in
+    let offsets : offsets_in rows.saved ≡ offsets_in old.rows.saved = same_saved first old.rows rows was is.so (λ q. ap (λ (row : Rules). rule row q) is.own) in
     set_becomes first i old (record { rows = rows; remembered = old.remembered; log = old.log }) (with_cfa (cfa_of c) (own_row first old.rows)) stays is log
     (ap (λ (l : List (Option ℤ)). stack_of first (undone (logged old.log) l) old.remembered) offsets) to
 
@@ -108,9 +111,9 @@ noted_rows first None log entry saved was back = refl
 noted_rows first (Some c) log entry saved was back = ap (λ (l : List (Option ℤ)). stack_of first (undone log l) (Some c)) back
 
 pub noted_stack : (first : Rules) (r : ℕ) (old mid : PlainRun) (new : PlainRows) (x : RegRule) → RowsSo first old.rows → r < 32 → IsNoted first r old mid → IsChanged first old.rows new (with_rule r x (own_row first old.rows))
-    → stack_of first (undone (logged mid.log) new.saved) mid.remembered ≡ stacks first old
+    → stack_of first (undone (logged mid.log) (offsets_in new.saved)) mid.remembered ≡ stacks first old
 noted_stack first r old mid new x so lt n is =
-    rw (n.remembered, n.added) (noted_rows first old.remembered (logged old.log) (r, saved_at old.rows.saved r) new.saved old.rows.saved (set_back first old.rows new r x so is lt))
+    rw (n.remembered, n.added) (noted_rows first old.remembered (logged old.log) (r, saved_at (offsets_in old.rows.saved) r) (offsets_in new.saved) (offsets_in old.rows.saved) (set_back first old.rows new r x so is lt))
 
 pub set_noted : (first : Rules) (i : Instr) (r : ℕ) (old mid : PlainRun) (new : PlainRows) (x : RegRule) → RowsSo first old.rows → r < 32 → moves_location i ≡ false → IsNoted first r old mid
     → IsChanged first mid.rows new (with_rule r x (own_row first mid.rows)) → state (with_rule r x (own_row first old.rows)) (stacks first old) old.rows.start ≡ after first i (state_of first old)
@@ -124,7 +127,7 @@ set_noted first i r old mid new x so lt stays n is to =
 pub record Undoing (first : Rules) (old new : PlainRun) : Type 0 where
   pub so : RowsSo first new.rows
   pub log : LogSo first new.log
-  pub saved : undone (logged new.log) new.rows.saved ≡ undone (logged old.log) old.rows.saved
+  pub saved : undone (logged new.log) (offsets_in new.rows.saved) ≡ undone (logged old.log) (offsets_in old.rows.saved)
   pub written : written_row first new.rows ≡ written_row first old.rows
   pub at : new.rows.at ≡ old.rows.at
   pub start : new.rows.start ≡ old.rows.start
@@ -139,7 +142,7 @@ module _ {first : Rules} {old new : PlainRun} where
       record {
         so = is.so;
         log = record { room = room; each = each.1 };
-        saved = ap (undone (logged log)) (put_saved first new.rows rows entry.0 entry.1 u.so is each.0) ∙ sym (ap (λ (l : List Entry). undone l new.rows.saved) took) ∙ u.saved;
+        saved = ap (undone (logged log)) (put_saved first new.rows rows entry.0 entry.1 u.so is each.0) ∙ sym (ap (λ (l : List Entry). undone l (offsets_in new.rows.saved)) took) ∙ u.saved;
         written = is.written ∙ u.written;
         at = is.at ∙ u.at;
         start = is.start ∙ u.start;
@@ -152,7 +155,7 @@ module _ {first : Rules} {old new : PlainRun} where
     so = u.so;
     log = record { room = room; each = subst (AllByRecursion (CanPut first)) (none ∙ sym empty) u.log.each };
     empty = empty;
-    saved = sym (ap (λ (l : List Entry). undone l new.rows.saved) none) ∙ u.saved;
+    saved = sym (ap (λ (l : List Entry). undone l (offsets_in new.rows.saved)) none) ∙ u.saved;
     written = u.written;
     at = u.at;
     start = u.start;

@@ -15,7 +15,7 @@ use Rattle.dw_normal.specs.declared.plain_program.PlainRun.{PlainRun}
 use Rattle.dw_normal.specs.Inner.PlainInstruction.{StandsFirst, instr_of}
 use Rattle.dw_normal.specs.declared.plain_rows.PlainRows.{PlainRows}
 use Rattle.dw_normal.specs.Inner.PlainLog.{logged, undone}
-use Rattle.dw_normal.specs.Inner.PlainRows.{IsWritten, RowsSo, own_row, row_instrs, written_row}
+use Rattle.dw_normal.specs.Inner.PlainRows.{IsWritten, RowsSo, offsets_in, own_row, row_instrs, written_row}
 use Rattle.dw_normal.specs.Inner.PlainProgram.{Becomes, CanRun, Left, Ran, Runs, RunsIn, bytes_in, bytes_left, changes_by, changes_left, rows_by, stack_of, state_of}
 use Rattle.dw_normal.proofs.Passes.{program_more}
 use Rattle.dw_normal.proofs.PlainLogs.{same_saved}
@@ -162,7 +162,7 @@ module _ {t : Target} {shared first : Rules} {last : ℕ} {run : PlainRun} {init
       let sum : run.rows.start + d ≡ run.rows.start = omega arith in
       let is : changes_left first last run initial (Advance d ∷ rest) ≡ changes_left first last run initial rest =
       moves_by_none (suc last) (written_row first run.rows) initial d rest (state_of first run) none
-      ∙ ap (λ (n : ℕ). changes_by (suc last) (written_row first run.rows) initial rest (state (own_row first run.rows) (stack_in first run run.rows.saved) n)) sum in (
+      ∙ ap (λ (n : ℕ). changes_by (suc last) (written_row first run.rows) initial rest (state (own_row first run.rows) (stack_in first run (offsets_in run.rows.saved)) n)) sum in (
         record {
           so = r.so;
           log = r.log;
@@ -199,12 +199,12 @@ module _ {t : Target} {shared first : Rules} {last : ℕ} {old : PlainRun} {rows
       × (made ++ bytes_left t shared first last (next_run (rows.start + d) old rows) initial rest ≡ done ++ bytes_left t shared first last old initial (Advance d ∷ rest))
   advanced d rest done made r some within w is =
       let e = by_advance d rest r some in
-      let offsets : rows.saved ≡ old.rows.saved = same_saved first old.rows rows r.so w.so (λ q. ap (λ (row : Rules). rule row q) w.own) in
+      let offsets : offsets_in rows.saved ≡ offsets_in old.rows.saved = same_saved first old.rows rows r.so w.so (λ q. ap (λ (row : Rules). rule row q) w.own) in
       let came : changes_left first last (next_run (rows.start + d) old rows) initial rest ≡ behind first last old initial d rest (own_row first old.rows) =
-      ap (λ (row : Rules). changes_by (suc last) row initial rest (state (own_row first rows) (stack_in first old rows.saved) (rows.start + d))) w.written
+      ap (λ (row : Rules). changes_by (suc last) row initial rest (state (own_row first rows) (stack_in first old (offsets_in rows.saved)) (rows.start + d))) w.written
       ∙ ap (λ (l : List (Option ℤ)). changes_by (suc last) (own_row first old.rows) initial rest (state (own_row first rows) (stack_in first old l) (rows.start + d))) offsets
-      ∙ ap (λ (row : Rules). changes_by (suc last) (own_row first old.rows) initial rest (state row (stack_in first old old.rows.saved) (rows.start + d))) w.own
-      ∙ ap (λ (n : ℕ). changes_by (suc last) (own_row first old.rows) initial rest (state (own_row first old.rows) (stack_in first old old.rows.saved) (n + d))) w.start in (
+      ∙ ap (λ (row : Rules). changes_by (suc last) (own_row first old.rows) initial rest (state row (stack_in first old (offsets_in old.rows.saved)) (rows.start + d))) w.own
+      ∙ ap (λ (n : ℕ). changes_by (suc last) (own_row first old.rows) initial rest (state (own_row first old.rows) (stack_in first old (offsets_in old.rows.saved)) (n + d))) w.start in (
         record {
           log = r.log;
           so = so_moved first (rows.start + d) rows w.so;

@@ -1,6 +1,6 @@
 -- Two rows that are told by offsets, beside each other: the first register whose rule differs, and whether any does.
-use Rattle.dw_normal.proofs.Words.{◌≡◌, ℕ, zero, suc, ◌<◌, ◌≤◌, Bool, true, false, List, Option, Some, None, refl, sym, ap, ◌∙◌, inl, inr, arith, cases_Bool, cases_lt, AreSpecified, Rules, rule, FirstDifference, DiffersFirst, differs_of, same_rule, subst, test_of, get_or, nat_eq}
-use Rattle.std.specs.Prelude.{ℤ, ◌↔◌, IsTrue, MatchOption, replicate, set, is_some, not}
+use Rattle.dw_normal.proofs.Words.{◌≡◌, ℕ, zero, suc, ◌+◌, ◌<◌, ◌≤◌, Bool, true, false, List, Option, Some, None, refl, sym, ap, ◌∙◌, inl, inr, arith, cases_Bool, cases_lt, AreSpecified, Rules, rule, FirstDifference, DiffersFirst, differs_of, same_rule, test_of, get_or, nat_eq}
+use Rattle.std.specs.Prelude.{ℤ, pos, ◌↔◌, IsTrue, MatchOption, replicate, set, is_some, not}
 use Rattle.std.proofs.lemmas.Bool.{eqb-true, eqb-false}
 use Rattle.std.proofs.lemmas.List.{get_or-set_other, get_or-set_same, length-set}
 use Rattle.std.specs.Option.{option_eq}
@@ -14,8 +14,8 @@ use Rattle.dw_cfa.specs.Inner.RowEquality.{rows_tell, rule_tells, same_rows}
 use Rattle.dw_cfa.specs.declared.rule.RegRule.TheVariants.{Offset}
 use Rattle.dw_normal.specs.declared.plain_rows.Cfa.{Cfa}
 use Rattle.dw_normal.specs.declared.plain_rows.PlainRows.{PlainRows}
-use Rattle.dw_normal.specs.Inner.PlainRows.{IsWritten, Marks, OnlyOther, RowsSo, cfa_of, own_row, rule_with, saved_at, written_row}
-use Rattle.dw_normal.proofs.SavedRules.{row_keeps, row_rule, told_apart}
+use Rattle.dw_normal.specs.Inner.PlainRows.{IsWritten, Marks, OnlyOther, RowsSo, cfa_of, offset_in, offsets_in, own_row, rule_with, saved_at, written_row}
+use Rattle.dw_normal.proofs.SavedRules.{at_number, no_numbers, row_keeps, row_rule, told_apart}
 
 -- ---- at the begin
 
@@ -24,11 +24,11 @@ none_saved zero r = refl
 none_saved (suc count) zero = refl
 none_saved (suc count) (suc r) = none_saved count r
 
-none_other : (first : Rules) (count : ℕ) → OnlyOther first (replicate count None)
-none_other first count = λ r n is at. let none = none_saved count r in absurd cc
+none_other : (first : Rules) (count : ℕ) → OnlyOther first (offsets_in (replicate count (pos 0)))
+none_other first count = λ r n is at. let none = ap (λ (l : List (Option ℤ)). saved_at l r) (no_numbers count) ∙ none_saved count r in absurd cc
 
 pub first_so : (first : Rules) (c : Cfa) (begin : ℕ) → AreSpecified 0 first.registers
-    → RowsSo first (record { start = begin; at = begin; cfa = c; written_cfa = c; saved = replicate 32 None; written = replicate 32 None; low = 32; high = 0 })
+    → RowsSo first (record { start = begin; at = begin; cfa = c; written_cfa = c; saved = replicate 32 (pos 0); written = replicate 32 (pos 0); low = 32; high = 0 })
 first_so first c begin up = record {
   saved = refl;
   written = refl;
@@ -45,8 +45,28 @@ offset_self : (a : Option ℤ) → option_eq int_eq a a ≡ true
 offset_self None = refl
 offset_self (Some n) = (Decides-int_eq n n).1 refl
 
-pub other_offsets : (a b : Option ℤ) → true ≡ not (option_eq int_eq a b) → a ≡ b → ⊥
-other_offsets a b other same = let wrong : true ≡ false = other ∙ ap not (subst (λ (x : Option ℤ). option_eq int_eq a x ≡ true) same (offset_self a)) in absurd cc
+-- numbers that stand for the same offset are one
+one_number : (n m : ℤ) → offset_in n ≡ offset_in m → n ≡ m
+one_number n m same = elim (cases_Bool (int_eq n (pos 0))) [
+  | inl e ↦ elim (cases_Bool (int_eq m (pos 0))) [
+    | inl e' ↦ (Decides-int_eq n (pos 0)).0 e ∙ sym ((Decides-int_eq m (pos 0)).0 e')
+    | inr e' ↦ let wrong : None ≡ Some m = rw (e, e') at same in absurd cc
+  ]
+  | inr e ↦ elim (cases_Bool (int_eq m (pos 0))) [
+    | inl e' ↦ let wrong : Some n ≡ None = rw (e, e') at same in absurd cc
+    | inr e' ↦ let both : Some n ≡ Some m = rw (e, e') at same in cc
+  ]
+]
+
+pub other_numbers : (xs ys : List ℤ) (r : ℕ) → (get_or xs r (pos 0) ≡ get_or ys r (pos 0) → ⊥) → saved_at (offsets_in xs) r ≡ saved_at (offsets_in ys) r → ⊥
+other_numbers xs ys r other same = other (one_number (get_or xs r (pos 0)) (get_or ys r (pos 0)) (sym (at_number xs r) ∙ same ∙ at_number ys r))
+
+pub same_numbers : (xs ys : List ℤ) (r : ℕ) → get_or xs r (pos 0) ≡ get_or ys r (pos 0) → saved_at (offsets_in xs) r ≡ saved_at (offsets_in ys) r
+same_numbers xs ys r same = at_number xs r ∙ ap offset_in same ∙ sym (at_number ys r)
+
+-- a number but 0 is an offset
+pub number_is : (n : ℤ) → (n ≡ pos 0 → ⊥) → offset_in n ≡ Some n
+number_is n other = elim (cases_Bool (int_eq n (pos 0))) [ inl e ↦ absurd (other ((Decides-int_eq n (pos 0)).0 e)) | inr e ↦ rw e refl ]
 
 offset_is : (shared : Rules) (r : ℕ) (n m : ℤ) → rule shared r ≡ Offset m → Offset n ≡ rule shared r → m ≡ n
 offset_is shared r n m is same = let both = same ∙ is in cc
@@ -99,7 +119,16 @@ mark_next row marks q b h lt new = record {
 
 -- from one place on, below another one, registers have the same offset or none
 abbrev pub SameUpTo : PlainRows → ℕ → ℕ → Type 0
-SameUpTo rows place end = (r : ℕ) → place ≤ r → r < end → saved_at rows.saved r ≡ saved_at rows.written r
+SameUpTo rows place end = (r : ℕ) → place ≤ r → r < end → saved_at (offsets_in rows.saved) r ≡ saved_at (offsets_in rows.written) r
+
+pub same_next : (rows : PlainRows) (place q : ℕ) → place ≤ q → SameUpTo rows place q → get_or rows.saved q (pos 0) ≡ get_or rows.written q (pos 0) → (place ≤ q + 1) × SameUpTo rows place (q + 1)
+same_next rows place q le same at = (
+  omega arith,
+  λ r ge lt. elim (cases_lt r q) [
+    | inl below ↦ same r ge below
+    | inr here ↦ same_numbers rows.saved rows.written r (let one : r ≡ q = omega arith in ap (λ (k : ℕ). get_or rows.saved k (pos 0)) one ∙ at ∙ ap (λ (k : ℕ). get_or rows.written k (pos 0)) (sym one))
+  ],
+)
 
 cfa_one : (c d : Cfa) → cfa_of c ≡ cfa_of d → c ≡ d
 cfa_one c d e =
@@ -107,35 +136,35 @@ cfa_one c d e =
     ap (λ (r : ℕ). let x : Cfa = record { register = r; offset = c.offset } in x) register ∙ ap (λ (n : ℤ). let x : Cfa = record { register = d.register; offset = n } in x) offset
 
 module _ (first : Rules) (rows : PlainRows) (so : RowsSo first rows) where
-  pub own_rule : (r : ℕ) → rule (own_row first rows) r ≡ rule_with first r (saved_at rows.saved r)
-  own_rule r = row_rule first rows.cfa rows.saved r so.listed
+  pub own_rule : (r : ℕ) → rule (own_row first rows) r ≡ rule_with first r (saved_at (offsets_in rows.saved) r)
+  own_rule r = row_rule first rows.cfa (offsets_in rows.saved) r so.listed
 
-  pub written_rule : (r : ℕ) → rule (written_row first rows) r ≡ rule_with first r (saved_at rows.written r)
-  written_rule r = row_rule first rows.written_cfa rows.written r so.listed
+  pub written_rule : (r : ℕ) → rule (written_row first rows) r ≡ rule_with first r (saved_at (offsets_in rows.written) r)
+  written_rule r = row_rule first rows.written_cfa (offsets_in rows.written) r so.listed
 
-  pub rule_none : (r : ℕ) → saved_at rows.saved r ≡ None → rule (own_row first rows) r ≡ rule first r
+  pub rule_none : (r : ℕ) → saved_at (offsets_in rows.saved) r ≡ None → rule (own_row first rows) r ≡ rule first r
   rule_none r none = own_rule r ∙ ap (rule_with first r) none
 
-  pub rule_some : (r : ℕ) (n : ℤ) → saved_at rows.saved r ≡ Some n → rule (own_row first rows) r ≡ Offset n
+  pub rule_some : (r : ℕ) (n : ℤ) → saved_at (offsets_in rows.saved) r ≡ Some n → rule (own_row first rows) r ≡ Offset n
   rule_some r n is = own_rule r ∙ ap (rule_with first r) is
 
   pub own_keeps : AreSpecified 0 (own_row first rows).registers
-  own_keeps = row_keeps first rows.cfa rows.saved so.listed
+  own_keeps = row_keeps first rows.cfa (offsets_in rows.saved) so.listed
 
   pub written_keeps : AreSpecified 0 (written_row first rows).registers
-  written_keeps = row_keeps first rows.written_cfa rows.written so.listed
+  written_keeps = row_keeps first rows.written_cfa (offsets_in rows.written) so.listed
 
-  same_rule_at : (r : ℕ) → saved_at rows.saved r ≡ saved_at rows.written r → rule (written_row first rows) r ≡ rule (own_row first rows) r
+  same_rule_at : (r : ℕ) → saved_at (offsets_in rows.saved) r ≡ saved_at (offsets_in rows.written) r → rule (written_row first rows) r ≡ rule (own_row first rows) r
   same_rule_at r same = written_rule r ∙ ap (rule_with first r) (sym same) ∙ sym (own_rule r)
 
   pub starts : (place : ℕ) → SameUpTo rows place rows.low
   starts place = λ r ge lt. so.outside r (inl lt)
 
-  pub found_first : (place q : ℕ) → place ≤ q → SameUpTo rows place q → (saved_at rows.saved q ≡ saved_at rows.written q → ⊥) → DiffersFirst place (written_row first rows).registers (own_row first rows).registers q
+  pub found_first : (place q : ℕ) → place ≤ q → SameUpTo rows place q → (saved_at (offsets_in rows.saved) q ≡ saved_at (offsets_in rows.written) q → ⊥) → DiffersFirst place (written_row first rows).registers (own_row first rows).registers q
   found_first place q le same differ = (
     le,
     λ r ge lt. same_rule_at r (same r ge lt),
-    λ e. differ (told_apart first q (saved_at rows.saved q) (saved_at rows.written q) (so.saved_other q) (so.written_other q) (sym (own_rule q) ∙ sym e ∙ written_rule q)),
+    λ e. differ (told_apart first q (saved_at (offsets_in rows.saved) q) (saved_at (offsets_in rows.written) q) (so.saved_other q) (so.written_other q) (sym (own_rule q) ∙ sym e ∙ written_rule q)),
   )
 
   pub none_found : (place end : ℕ) → SameUpTo rows place end → rows.high ≤ end → FirstDifference place (written_row first rows).registers (own_row first rows).registers None

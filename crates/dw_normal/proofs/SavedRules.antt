@@ -1,6 +1,6 @@
 -- Rows that are told by offsets of their first registers: the rule of each register, and which of them are the same.
-use Rattle.dw_normal.proofs.Words.{◌≡◌, ℕ, zero, suc, ◌+◌, ◌<◌, ◌≤◌, List, [], ◌∷◌, Option, Some, None, refl, sym, ap, ◌∙◌, inl, inr, arith, cases_Bool, nat_eq, length, eq-eqb, ne_eqb, AreSpecified, Rules, rule}
-use Rattle.std.specs.Prelude.{ℤ, replicate, set, if◌then◌else◌}
+use Rattle.dw_normal.proofs.Words.{◌≡◌, ℕ, zero, suc, ◌+◌, ◌<◌, ◌≤◌, List, [], ◌∷◌, Option, Some, None, refl, sym, ap, ◌∙◌, inl, inr, arith, cases_Bool, nat_eq, length, length-map, get_or, subst, eq-eqb, ne_eqb, AreSpecified, Rules, rule}
+use Rattle.std.specs.Prelude.{ℤ, pos, replicate, set, if◌then◌else◌}
 use Rattle.std.proofs.lemmas.Bool.{eqb-true, eqb-false}
 use Rattle.std.proofs.lemmas.List.{get_or-set_other, get_or-set_same, length-set}
 use Rattle.dw_cfa.proofs.Lent.RowLists.{put_keeps, put_rule}
@@ -11,7 +11,7 @@ use Rattle.dw_cfa.specs.declared.rule.RegRule.{RegRule}
 use Rattle.dw_cfa.specs.declared.rule.RegRule.TheVariants.{Offset}
 use Rattle.dw_normal.specs.declared.plain_rows.Cfa.{Cfa}
 use Rattle.dw_normal.specs.declared.plain_rows.PlainRows.{PlainRows}
-use Rattle.dw_normal.specs.Inner.PlainRows.{IsChanged, OnlyOther, RowsSo, cfa_of, own_row, row_with, rule_with, saved_at, with_saved}
+use Rattle.dw_normal.specs.Inner.PlainRows.{IsChanged, OnlyOther, RowsSo, cfa_of, offset_in, offsets_in, own_row, row_with, rule_with, saved_at, with_saved}
 
 abbrev Entry : Type 0
 Entry = ℕ × RegRule
@@ -58,8 +58,8 @@ none_told : (k count : ℕ) (entries : List Entry) → with_saved k (replicate c
 none_told k zero entries = refl
 none_told k (suc count) entries = none_told (suc k) count entries
 
-pub first_told : (first : Rules) (c : Cfa) (count : ℕ) → first.cfa ≡ cfa_of c → row_with first c (replicate count None) ≡ first
-first_told first c count is = one_row (row_with first c (replicate count None)) first (sym is) (none_told 0 count first.registers)
+first_none : (first : Rules) (c : Cfa) (count : ℕ) → first.cfa ≡ cfa_of c → row_with first c (replicate count None) ≡ first
+first_none first c count is = one_row (row_with first c (replicate count None)) first (sym is) (none_told 0 count first.registers)
 
 -- ---- one offset is set
 
@@ -93,6 +93,25 @@ set_other first offsets place o lt other new = λ r n is at. elim (cases_Bool (n
   | inr e ↦ other r n (sym (rw e at (saved_set offsets place o r lt)) ∙ is) at
 ]
 
+-- ---- numbers in place of offsets
+
+pub at_number : (numbers : List ℤ) (r : ℕ) → saved_at (offsets_in numbers) r ≡ offset_in (get_or numbers r (pos 0))
+at_number [] r = refl
+at_number (n ∷ numbers) zero = refl
+at_number (n ∷ numbers) (suc r) = at_number numbers r
+
+pub set_number : (numbers : List ℤ) (place : ℕ) (n : ℤ) → offsets_in (set numbers place n) ≡ set (offsets_in numbers) place (offset_in n)
+set_number [] place n = refl
+set_number (m ∷ numbers) zero n = refl
+set_number (m ∷ numbers) (suc place) n = ap (λ (l : List (Option ℤ)). offset_in m ∷ l) (set_number numbers place n)
+
+pub no_numbers : (count : ℕ) → offsets_in (replicate count (pos 0)) ≡ replicate count None
+no_numbers zero = refl
+no_numbers (suc count) = ap (λ (l : List (Option ℤ)). None ∷ l) (no_numbers count)
+
+pub first_told : (first : Rules) (c : Cfa) (count : ℕ) → first.cfa ≡ cfa_of c → row_with first c (offsets_in (replicate count (pos 0))) ≡ first
+first_told first c count is = ap (row_with first c) (no_numbers count) ∙ first_none first c count is
+
 -- ---- registers with other rules
 
 -- offsets that give a register the same rule are one, where they are not that of the begin
@@ -105,24 +124,26 @@ told_apart first r (Some n) (Some m) p q same = cc
 -- ---- both rows
 
 -- one register is given an offset, or the rule of the begin
-pub put_changed : (first : Rules) (old : PlainRows) (place : ℕ) (o : Option ℤ) (low high : ℕ) → RowsSo first old → place < 32 → ((n : ℤ) → o ≡ Some n → rule first place ≡ Offset n → ⊥)
+pub put_changed : (first : Rules) (old : PlainRows) (place : ℕ) (n : ℤ) (low high : ℕ) → RowsSo first old → place < 32 → ((m : ℤ) → offset_in n ≡ Some m → rule first place ≡ Offset m → ⊥)
     → low ≤ old.low → low ≤ place → old.high ≤ high → place < high → high ≤ 32
-    → IsChanged first old (record { start = old.start; at = old.at; cfa = old.cfa; written_cfa = old.written_cfa; saved = set old.saved place o; written = old.written; low = low; high = high }) (with_rule place (rule_with first place o) (own_row first old))
-put_changed first old place o low high so near other below within above behind ends =
-    let lt : place < length old.saved = omega (arith, so.saved) in record {
+    → IsChanged first old (record { start = old.start; at = old.at; cfa = old.cfa; written_cfa = old.written_cfa; saved = set old.saved place n; written = old.written; low = low; high = high })
+    (with_rule place (rule_with first place (offset_in n)) (own_row first old))
+put_changed first old place n low high so near other below within above behind ends =
+    let o = offset_in n in let was = offsets_in old.saved in let is = set_number old.saved place n in
+    let lt : place < length was = omega (arith, so.saved, length-map old.saved offset_in) in record {
       so = record {
-        saved = length-set old.saved place o ∙ so.saved;
+        saved = length-set old.saved place n ∙ so.saved;
         written = so.written;
-        saved_other = set_other first old.saved place o lt so.saved_other other;
+        saved_other = subst (OnlyOther first) (sym is) (set_other first was place o lt so.saved_other other);
         written_other = so.written_other;
         listed = so.listed;
         high = ends;
-        outside = λ r apart. elim apart [
-          | inl lt' ↦ get_or-set_other old.saved place r o None (λ same. omega arith) ∙ so.outside r (inl (omega arith))
-          | inr ge ↦ get_or-set_other old.saved place r o None (λ same. omega arith) ∙ so.outside r (inr (omega arith))
+        outside = λ r apart. ap (λ (l : List (Option ℤ)). saved_at l r) is ∙ elim apart [
+          | inl lt' ↦ get_or-set_other was place r o None (λ same. omega arith) ∙ so.outside r (inl (omega arith))
+          | inr ge ↦ get_or-set_other was place r o None (λ same. omega arith) ∙ so.outside r (inr (omega arith))
         ];
       };
-      own = set_told first old.cfa old.saved place o so.listed lt;
+      own = ap (row_with first old.cfa) is ∙ set_told first old.cfa was place o so.listed lt;
       written = refl;
       at = refl;
       start = refl;

@@ -8,7 +8,7 @@ use Rattle.dw_canon.specs.Spelling.{instr_bytes as instr_with}
 use Rattle.dw_cfa.specs.Inner.RowEquality.{rows_tell, same_rows}
 use Rattle.dw_normal.specs.declared.plain_rows.Cfa.{Cfa}
 use Rattle.dw_normal.specs.declared.plain_rows.PlainRows.{PlainRows}
-use Rattle.dw_normal.specs.Inner.PlainRows.{IsWritten, RowsSo, cfa_of, own_row, row_instrs, row_with, saved_at, written_row}
+use Rattle.dw_normal.specs.Inner.PlainRows.{IsWritten, RowsSo, cfa_of, offsets_in, own_row, row_instrs, row_with, saved_at, written_row}
 use Rattle.dw_normal.proofs.OneByte.{one_byte}
 use Rattle.dw_normal.proofs.RegistersBehind.{none_differs}
 use Rattle.dw_normal.proofs.RulesLeft.{divided}
@@ -16,14 +16,14 @@ use Rattle.dw_normal.proofs.SavedDifferences.{none_found, other_cfa}
 use Rattle.dw_normal.proofs.SavedRules.{one_told}
 
 module _ (first : Rules) (rows : PlainRows) (so : RowsSo first rows) (none : rows.high ≤ rows.low) where
-  same_offset : (r : ℕ) → saved_at rows.saved r ≡ saved_at rows.written r
+  same_offset : (r : ℕ) → saved_at (offsets_in rows.saved) r ≡ saved_at (offsets_in rows.written) r
   same_offset r = so.outside r (elim (cases_lt r rows.low) [ inl lt ↦ inl lt | inr ge ↦ inr (omega arith) ])
 
-  with_cfa_one : (c : Cfa) → row_with first c rows.written ≡ row_with first c rows.saved
-  with_cfa_one c = one_told first c rows.written rows.saved so.listed (λ r. sym (same_offset r))
+  with_cfa_one : (c : Cfa) → row_with first c (offsets_in rows.written) ≡ row_with first c (offsets_in rows.saved)
+  with_cfa_one c = one_told first c (offsets_in rows.written) (offsets_in rows.saved) so.listed (λ r. sym (same_offset r))
 
   pub stays_one : rows.written_cfa ≡ rows.cfa → same_rows (written_row first rows) (own_row first rows) ≡ true
-  stays_one e = (rows_tell (written_row first rows) (own_row first rows)).1 (ap (λ (c : Cfa). row_with first c rows.written) e ∙ with_cfa_one rows.cfa)
+  stays_one e = (rows_tell (written_row first rows) (own_row first rows)).1 (ap (λ (c : Cfa). row_with first c (offsets_in rows.written)) e ∙ with_cfa_one rows.cfa)
 
   pub cfa_alone : (t : Target) (shared : Rules) → difference shared (written_row first rows) (own_row first rows) ≡ cfa_difference (cfa_of rows.written_cfa) (cfa_of rows.cfa)
   cfa_alone t shared =

@@ -2,12 +2,13 @@
 
 ghost use Rattle.std.specs.Prelude.{◌≡◌, ◌∷◌, [], IsTrue};
 ghost use Rattle.dw_normal.specs.Inner.PlainLog.{HasRoom, Took, logged};
+ghost use Rattle.dw_normal.specs.Inner.PlainRows.{offset_in};
 
-/// Up to 8 registers, each with the offset that it had, or none where it had the rule of the row at the FDE's begin.
+/// Up to 8 registers, each with the offset that it had, or 0 where it had the rule of the row at the FDE's begin.
 #[derive(Clone, Copy)]
 pub(crate) struct Log {
     registers: [u16; 8],
-    offsets: [Option<i64>; 8],
+    offsets: [i64; 8],
     count: usize,
 }
 
@@ -20,7 +21,7 @@ impl Log {
     {
         Log {
             registers: [0; 8],
-            offsets: [None; 8],
+            offsets: [0; 8],
             count: 0,
         }
     }
@@ -37,10 +38,10 @@ impl Log {
 
     /// Adds a register and what it had. It says no where the log is full.
     #[inline(always)]
-    pub(crate) fn push(&mut self, register: u16, offset: Option<i64>) -> bool
+    pub(crate) fn push(&mut self, register: u16, offset: i64) -> bool
         requires { HasRoom self.old }
         ensures room { HasRoom self.new }
-        ensures added { IsTrue result → logged self.new ≡ (register, offset) ∷ logged self.old }
+        ensures added { IsTrue result → logged self.new ≡ (register, offset_in offset) ∷ logged self.old }
     {
         if self.count == 8 {
             return false;
@@ -53,7 +54,7 @@ impl Log {
 
     /// Takes the register that was added last, and what it had.
     #[inline(always)]
-    pub(crate) fn pop(&mut self) -> Option<(u16, Option<i64>)>
+    pub(crate) fn pop(&mut self) -> Option<(u16, i64)>
         requires { HasRoom self.old }
         ensures room { HasRoom self.new }
         ensures took { Took (logged self.old) result (logged self.new) }

@@ -88,7 +88,7 @@ impl PlainRun {
         self.log.push(register, self.rows.offset_of(register))
     }
 
-    // Gives a register an offset.
+    // Gives a register an offset, unless it is 0.
     #[inline(always)]
     fn save<'a>(&mut self, register: u16, offset: i64, first: &Row<'a>, marks: &[bool; 32]) -> bool
         requires so { RowsSo first.now self.old.rows }
@@ -100,8 +100,7 @@ impl PlainRun {
         if !self.note(register, first) {
             return false;
         }
-        self.rows.save(register, offset, first, marks);
-        true
+        self.rows.save(register, offset, first, marks)
     }
 
     // Gives a register the rule that it has at the begin.
@@ -143,7 +142,7 @@ impl PlainRun {
         ensures { IsUndone first.now self.old self.new }
     {
         'registers: while let Some((register, offset)) = self.log.pop() {
-            self.rows.put_back(register, offset, first);
+            self.rows.put(register, offset, first);
         }
     }
 

@@ -15,7 +15,7 @@ ghost use Rattle.dw_canon.specs.Difference.{move};
 ghost use Rattle.dw_canon.specs.Inner.Difference.{cfa_difference, difference, rule_to};
 ghost use Rattle.dw_canon.specs.Inner.Fits.{InstrFits};
 ghost use Rattle.dw_canon.specs.Inner.Spelling.{instr_bytes, program_bytes};
-ghost use Rattle.dw_normal.specs.Inner.PlainRows.{IsChanged, IsPushed, IsWritten, Marks, RowsSo, cfa_of, own_row, row_instrs, rule_with, saved_at, with_noted, written_row};
+ghost use Rattle.dw_normal.specs.Inner.PlainRows.{IsChanged, IsPushed, IsWritten, Marks, RowsSo, cfa_of, offset_in, offsets_in, own_row, row_instrs, rule_with, saved_at, with_noted, written_row};
 ghost use Rattle.dw_normal.specs.Inner.RegisterWalk.{rules_from};
 
 use crate::instruction::{push_advance, push_cfa_offset, push_instr, push_offset, push_packed};
@@ -41,8 +41,9 @@ pub(crate) struct PlainRows {
     pub(crate) at: u64,
     pub(crate) cfa: Cfa,
     pub(crate) written_cfa: Cfa,
-    saved: [Option<i64>; 32],
-    written: [Option<i64>; 32],
+    // The offsets of registers, and 0 where one has none.
+    saved: [i64; 32],
+    written: [i64; 32],
     // Below `low` and from `high` on no register was set since.
     low: usize,
     high: usize,
@@ -229,8 +230,8 @@ impl PlainRows {
             at: begin,
             cfa,
             written_cfa: cfa,
-            saved: [None; 32],
-            written: [None; 32],
+            saved: [0; 32],
+            written: [0; 32],
             low: 32,
             high: 0,
         }
@@ -247,13 +248,13 @@ impl PlainRows {
         self.cfa.offset = cfa.offset;
     }
 
-    // Gives a register an offset, or the rule that it has at the begin.
+    /// Gives a register below 32 an offset, or for 0 the rule that it has at the begin.
     #[inline(always)]
-    fn put<'a>(&mut self, register: u16, offset: Option<i64>, first: &Row<'a>)
+    pub(crate) fn put<'a>(&mut self, register: u16, offset: i64, first: &Row<'a>)
         requires so { RowsSo first.now self.old }
         requires near { register < 32 }
-        requires other { (n : ℤ) → offset ≡ Some n → rule first.now register ≡ Offset n → ⊥ }
-        ensures { IsChanged first.now self.old self.new (with_rule register (rule_with first.now register offset) (own_row first.now self.old)) }
+        requires other { (n : ℤ) → offset_in offset ≡ Some n → rule first.now register ≡ Offset n → ⊥ }
+        ensures { IsChanged first.now self.old self.new (with_rule register (rule_with first.now register (offset_in offset)) (own_row first.now self.old)) }
     {
         let _first = first;
         let place = usize::from(register);
@@ -262,7 +263,7 @@ impl PlainRows {
         self.high = self.high.max(place + 1);
     }
 
-    /// Saves a register below 32 at an offset from the CFA.
+    /// Saves a register below 32 at an offset from the CFA. It says no where that is 0.
     #[inline(always)]
     pub(crate) fn save<'a>(
         &mut self,
@@ -270,17 +271,21 @@ impl PlainRows {
         offset: i64,
         first: &Row<'a>,
         marks: &[bool; 32],
-    )
+    ) -> bool
         requires so { RowsSo first.now self.old }
         requires marks { Marks first.now marks.now }
         requires near { register < 32 }
-        ensures { IsChanged first.now self.old self.new (with_rule register (Offset offset) (own_row first.now self.old)) }
+        ensures { IsTrue result → IsChanged first.now self.old self.new (with_rule register (Offset offset) (own_row first.now self.old)) }
     {
-        if has_offset(first, register, offset, marks) {
-            self.put(register, None, first);
-        } else {
-            self.put(register, Some(offset), first);
+        if offset == 0 {
+            return false;
         }
+        if has_offset(first, register, offset, marks) {
+            self.put(register, 0, first);
+        } else {
+            self.put(register, offset, first);
+        }
+        true
     }
 
     /// Gives a register below 32 the rule that it has at the begin.
@@ -290,7 +295,7 @@ impl PlainRows {
         requires near { register < 32 }
         ensures { IsChanged first.now self.old self.new (with_rule register (rule first.now register) (own_row first.now self.old)) }
     {
-        self.put(register, None, first);
+        self.put(register, 0, first);
     }
 
     // The first register from a place on that has another rule than in the row that was written last.
@@ -316,9 +321,13 @@ impl PlainRows {
     fn offset_at(&self, register: u16) -> Option<i64>
         requires length { length self.now.saved ≡ 32 }
         requires near { register < 32 }
-        ensures { result ≡ saved_at self.now.saved register }
+        ensures { result ≡ saved_at (offsets_in self.now.saved) register }
     {
-        self.saved[usize::from(register)]
+        let offset = self.saved[usize::from(register)];
+        if offset == 0 {
+            return None;
+        }
+        Some(offset)
     }
 
     // Appends what gives a register the rule of the current row.
@@ -384,7 +393,7 @@ impl PlainRows {
     #[inline(always)]
     fn note<'a>(&mut self, first: &Row<'a>)
         requires so { RowsSo first.now self.old }
-        requires same { (r : ℕ) → saved_at self.old.saved r ≡ saved_at self.old.written r }
+        requires same { (r : ℕ) → saved_at (offsets_in self.old.saved) r ≡ saved_at (offsets_in self.old.written) r }
         ensures so { RowsSo first.now self.new }
         ensures own { own_row first.now self.new ≡ own_row first.now self.old }
         ensures written { written_row first.now self.new ≡ own_row first.now self.old }
@@ -510,24 +519,13 @@ impl PlainRows {
         self.push_untouched(out, first, shared, target)
     }
 
-    /// The offset of a register below 32 in the current row, or none where it has the rule of the row at the FDE's begin.
+    /// The offset of a register below 32 in the current row, or 0 where it has the rule of the row at the FDE's begin.
     #[inline(always)]
-    pub(crate) fn offset_of(&self, register: u16) -> Option<i64>
+    pub(crate) fn offset_of(&self, register: u16) -> i64
         requires length { length self.now.saved ≡ 32 }
         requires near { register < 32 }
-        ensures { result ≡ saved_at self.now.saved register }
+        ensures { offset_in result ≡ saved_at (offsets_in self.now.saved) register }
     {
-        self.offset_at(register)
-    }
-
-    /// Gives a register below 32 an offset that it had, or the rule that it has at the begin.
-    #[inline(always)]
-    pub(crate) fn put_back<'a>(&mut self, register: u16, offset: Option<i64>, first: &Row<'a>)
-        requires so { RowsSo first.now self.old }
-        requires near { register < 32 }
-        requires other { (n : ℤ) → offset ≡ Some n → rule first.now register ≡ Offset n → ⊥ }
-        ensures { IsChanged first.now self.old self.new (with_rule register (rule_with first.now register offset) (own_row first.now self.old)) }
-    {
-        self.put(register, offset, first);
+        self.saved[usize::from(register)]
     }
 }

@@ -1,16 +1,17 @@
 -- What registers had before they were set, the one that was set last first.
-use Rattle.std.specs.Prelude.{◌≡◌, ℕ, zero, suc, ◌<◌, ◌≤◌, List, [], ◌∷◌, get_or, length, set, Option, Some, None, ℤ}
+use Rattle.std.specs.Prelude.{◌≡◌, ℕ, zero, suc, ◌<◌, ◌≤◌, List, [], ◌∷◌, get_or, length, set, Option, Some, None, ℤ, pos}
 use Rattle.std.specs.List.{AllByRecursion}
 use Rattle.dw_cfa.specs.Rows.{Rules, rule}
 use Rattle.dw_cfa.specs.declared.rule.RegRule.TheVariants as rules
 use Rattle.dw_normal.specs.declared.plain_log.Log.{Log}
+use Rattle.dw_normal.specs.Inner.PlainRows.{offset_in}
 
 abbrev pub Entry : Type 0
 Entry = ℕ × Option ℤ
 
-abbrev pub entries_of : List ℕ → List (Option ℤ) → ℕ → List Entry
+abbrev pub entries_of : List ℕ → List ℤ → ℕ → List Entry
 entries_of registers offsets zero = []
-entries_of registers offsets (suc n) = (get_or registers n 0, get_or offsets n None) ∷ entries_of registers offsets n
+entries_of registers offsets (suc n) = (get_or registers n 0, offset_in (get_or offsets n (pos 0))) ∷ entries_of registers offsets n
 
 abbrev pub logged : Log → List Entry
 logged log = entries_of log.registers log.offsets log.count
@@ -21,9 +22,9 @@ pub record HasRoom (log : Log) : Type 0 where
   pub count : log.count ≤ 8
 
 -- the first entry is taken, if there is one
-abbrev pub Took : List Entry → Option Entry → List Entry → Type 0
+abbrev pub Took : List Entry → Option (ℕ × ℤ) → List Entry → Type 0
 Took old None new = (old ≡ []) × (new ≡ [])
-Took old (Some entry) new = old ≡ entry ∷ new
+Took old (Some taken) new = old ≡ (taken.0, offset_in taken.1) ∷ new
 
 -- the offsets with all put back
 abbrev pub undone : List Entry → List (Option ℤ) → List (Option ℤ)

@@ -19,7 +19,7 @@ use Rattle.dw_normal.specs.declared.plain_program.Frame.{Frame}
 use Rattle.dw_normal.specs.declared.plain_program.PlainRun.{PlainRun}
 use Rattle.dw_normal.specs.declared.plain_rows.Cfa.{Cfa}
 use Rattle.dw_normal.specs.Inner.PlainLog.{LogSo, logged, noted, undone}
-use Rattle.dw_normal.specs.Inner.PlainRows.{RowsSo, own_row, row_with, saved_at, written_row}
+use Rattle.dw_normal.specs.Inner.PlainRows.{RowsSo, offsets_in, own_row, row_with, saved_at, written_row}
 
 -- the rows of a program that has no fault, from a state on
 abbrev pub rows_by : Rules → List Instr → State → List LocatedRow
@@ -53,7 +53,7 @@ stack_of first offsets (Some c) = row_with first c offsets ∷ []
 
 -- its offsets are those of the current row where what was set since is undone
 abbrev pub state_of : Rules → PlainRun → State
-state_of first run = record { row = own_row first run.rows; stack = stack_of first (undone (logged run.log) run.rows.saved) run.remembered; location = run.rows.start }
+state_of first run = record { row = own_row first run.rows; stack = stack_of first (undone (logged run.log) (offsets_in run.rows.saved)) run.remembered; location = run.rows.start }
 
 -- the changes still to come of the instructions that are left
 abbrev pub changes_left : Rules → ℕ → PlainRun → Rules → List Instr → List (ℕ × Rules)
@@ -103,14 +103,14 @@ pub record IsNoted (first : Rules) (register : ℕ) (old new : PlainRun) : Type 
   pub log : LogSo first new.log
   pub rows : new.rows ≡ old.rows
   pub remembered : new.remembered ≡ old.remembered
-  pub added : logged new.log ≡ noted old.remembered (register, saved_at old.rows.saved register) (logged old.log)
+  pub added : logged new.log ≡ noted old.remembered (register, saved_at (offsets_in old.rows.saved) register) (logged old.log)
 
 -- what was noted was put back
 pub record IsUndone (first : Rules) (old new : PlainRun) : Type 0 where
   pub so : RowsSo first new.rows
   pub log : LogSo first new.log
   pub empty : logged new.log ≡ []
-  pub saved : new.rows.saved ≡ undone (logged old.log) old.rows.saved
+  pub saved : offsets_in new.rows.saved ≡ undone (logged old.log) (offsets_in old.rows.saved)
   pub written : written_row first new.rows ≡ written_row first old.rows
   pub at : new.rows.at ≡ old.rows.at
   pub start : new.rows.start ≡ old.rows.start

@@ -1,5 +1,6 @@
 -- The rows of a plain program, told by what was set.
-use Rattle.std.specs.Prelude.{◌≡◌, ◌⊎◌, ℕ, suc, ◌<◌, ◌≤◌, Bool, false, List, [], ◌∷◌, get_or, length, set, Option, Some, None, if◌then◌else◌, ℤ}
+use Rattle.std.specs.Prelude.{◌≡◌, ◌⊎◌, ℕ, suc, ◌<◌, ◌≤◌, Bool, false, List, [], ◌∷◌, get_or, length, map, set, Option, Some, None, if◌then◌else◌, ℤ, pos}
+use Rattle.std.specs.Ordering.{int_eq}
 use Rattle.dw_cfa.specs.declared.instr.Instr.{Instr}
 use Rattle.dw_cfa.specs.declared.rule.CfaRule.{CfaRule}
 use Rattle.dw_cfa.specs.declared.rule.CfaRule.TheVariants as cfa
@@ -25,12 +26,19 @@ with_saved r (Some n ∷ offsets) entries = put r (rules.Offset n) (with_saved (
 abbrev pub row_with : Rules → Cfa → List (Option ℤ) → Rules
 row_with first c offsets = record { cfa = cfa_of c; registers = with_saved 0 offsets first.registers }
 
+-- the offset that a number stands for, where 0 is none
+abbrev pub offset_in : ℤ → Option ℤ
+offset_in n = if int_eq n (pos 0) then None else Some n
+
+abbrev pub offsets_in : List ℤ → List (Option ℤ)
+offsets_in numbers = map offset_in numbers
+
 -- the current row, where this one is that of the begin, and the one that was written last
 abbrev pub own_row : Rules → PlainRows → Rules
-own_row first rows = row_with first rows.cfa rows.saved
+own_row first rows = row_with first rows.cfa (offsets_in rows.saved)
 
 abbrev pub written_row : Rules → PlainRows → Rules
-written_row first rows = row_with first rows.written_cfa rows.written
+written_row first rows = row_with first rows.written_cfa (offsets_in rows.written)
 
 -- the offset of a register
 abbrev pub saved_at : List (Option ℤ) → ℕ → Option ℤ
@@ -49,11 +57,11 @@ OnlyOther first offsets = (r : ℕ) (n : ℤ) → saved_at offsets r ≡ Some n 
 pub record RowsSo (first : Rules) (rows : PlainRows) : Type 0 where
   pub saved : length rows.saved ≡ 32
   pub written : length rows.written ≡ 32
-  pub saved_other : OnlyOther first rows.saved
-  pub written_other : OnlyOther first rows.written
+  pub saved_other : OnlyOther first (offsets_in rows.saved)
+  pub written_other : OnlyOther first (offsets_in rows.written)
   pub listed : AreSpecified 0 first.registers
   pub high : rows.high ≤ 32
-  pub outside : (r : ℕ) → (r < rows.low) ⊎ (rows.high ≤ r) → saved_at rows.saved r ≡ saved_at rows.written r
+  pub outside : (r : ℕ) → (r < rows.low) ⊎ (rows.high ≤ r) → saved_at (offsets_in rows.saved) r ≡ saved_at (offsets_in rows.written) r
 
 -- registers below 32 that are not marked have no offset in a row
 pub record Marks (row : Rules) (marks : List Bool) : Type 0 where
@@ -63,13 +71,13 @@ pub record Marks (row : Rules) (marks : List Bool) : Type 0 where
 -- the same rows, but that the one written last has the current one's rule of a register
 abbrev pub with_noted : ℕ → PlainRows → PlainRows
 with_noted r rows =
-    record { start = rows.start; at = rows.at; cfa = rows.cfa; written_cfa = rows.written_cfa; saved = rows.saved; written = set rows.written r (saved_at rows.saved r); low = rows.low; high = rows.high }
+    record { start = rows.start; at = rows.at; cfa = rows.cfa; written_cfa = rows.written_cfa; saved = rows.saved; written = set rows.written r (get_or rows.saved r (pos 0)); low = rows.low; high = rows.high }
 
 -- the same row, whose registers are those of the one written last
 pub record IsPushed (first : Rules) (old new : PlainRows) : Type 0 where
   pub so : RowsSo first new
   pub own : own_row first new ≡ own_row first old
-  pub same : (r : ℕ) → saved_at new.saved r ≡ saved_at new.written r
+  pub same : (r : ℕ) → saved_at (offsets_in new.saved) r ≡ saved_at (offsets_in new.written) r
   pub at : new.at ≡ old.at
   pub start : new.start ≡ old.start
 

@@ -8,4 +8,4 @@ use Rattle.dw_normal.proofs.plain_program.PlainRun.save.Goals as goal
 
 pub returns : goal.returns
 returns c on =
-    set_noted c.args.first.now (Set c.args.register (Offset c.args.offset)) c.args.register c.args.self.now c.note.new.self c.save.new.self (Offset c.args.offset) c.requires.so c.requires.near refl (c.if-not-note.ensures (search rules)) (rw (to_z-of_z w64 c.args.offset c.ranges.offset) at c.save.ensures) refl
+    set_noted c.args.first.now (Set c.args.register (Offset c.args.offset)) c.args.register c.args.self.now c.note.new.self c.save.new.self (Offset c.args.offset) c.requires.so c.requires.near refl (c.if-not-note.ensures (search rules)) (rw (to_z-of_z w64 c.args.offset c.ranges.offset) at (c.save.ensures on)) refl
