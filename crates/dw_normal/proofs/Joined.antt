@@ -1,5 +1,5 @@
 -- Bytes that are put behind others.
-use Rattle.dw_normal.proofs.Words.{◌≡◌, ℕ, ◌+◌, ◌-◌, ◌≤◌, true, List, ◌++◌, length, take, Option, Result, Ok, Err, refl, sym, ap, ◌∙◌, subst, arith, append_assoc, OnOk, is_ok, IsErrAnd, take-append-add, take-append_seam, length-append}
+use Rattle.dw_normal.proofs.Words.{◌≡◌, ℕ, ◌+◌, ◌≤◌, true, List, ◌++◌, length, take, Option, Result, Ok, Err, refl, sym, ap, ◌∙◌, subst, arith, append_assoc, OnOk, is_ok, IsErrAnd, take-append-add, take-append_seam, length-append}
 use Rattle.dw_normal.proofs.Words.{take-append-le, Appends, Puts, taken_by, after, PutError, Write, Memory, Appends-nil, Appends-trans}
 
 -- none was put

@@ -1,6 +1,6 @@
 -- An FDE of a table whose program is plain, where the row at its begin is known.
-use Rattle.dw_normal.proofs.Words.{◌≡◌, ◌⊎◌, ℕ, ◌+◌, ◌-◌, ◌<◌, ◌≤◌, false, List, length, map, get_or, Option, Some, None, Result, Ok, Err, refl, sym, ap, ◌∙◌, subst, arith, inl, inr, IfOk, IfSome, OnOk, get_or-map, AreFdes, AllByRecursion, AreBytes, Target, Rules, Accepted, Fde, OpensBehind, Changing}
-use Rattle.dw_normal.proofs.Words.{all_get, nonempty, difference, InstrFits, canon, initial_of, Member, AreMembers, fde_of, Begins, Begun, initial_rows, row_of, place_in, cie_place, program_bytes, shown_row}
+use Rattle.dw_normal.proofs.Words.{◌≡◌, ◌⊎◌, ℕ, ◌-◌, ◌<◌, ◌≤◌, false, List, length, map, get_or, Option, Some, None, Result, Ok, Err, refl, sym, ap, ◌∙◌, subst, arith, inl, inr, IfOk, IfSome, OnOk, get_or-map, AreFdes, AreBytes, Target, Rules, Accepted, Fde, OpensBehind}
+use Rattle.dw_normal.proofs.Words.{all_get, nonempty, difference, canon, initial_of, Member, AreMembers, fde_of, Begins, Begun, initial_rows, row_of, place_in, cie_place, program_bytes, shown_row}
 use Rattle.dw_cfa.specs.declared.instr.Factors.{Factors}
 use Rattle.dw_section.specs.Opening.{HasProgram}
 use Rattle.dw_section.specs.declared.opening.CieRow.{CieRow}
@@ -9,7 +9,7 @@ use Rattle.dw_normal.specs.Inner.PlainFde.{FirstIs, IsKnown, KeepsFirst, Opens, 
 use Rattle.dw_normal.specs.Inner.PlainRows.{Marks}
 use Rattle.dw_normal.proofs.Grouped.{no_member}
 use Rattle.dw_normal.proofs.Located.{Located}
-use Rattle.dw_normal.proofs.Placed.{first_at, row_in, same_row}
+use Rattle.dw_normal.proofs.Placed.{row_in, same_row}
 use Rattle.dw_normal.proofs.PlainMembers.{is_plain, one_opening}
 
 pub where_ok : {A E : Type 0} (r : Result A E) (P : Type 0) → P → OnOk r P

@@ -1,9 +1,8 @@
 -- An FDE that opens behind a row of its CIE: its later changes are those of its own program, begun with the row at its begin.
-use Rattle.dw_normal.proofs.Words.{◌≡◌, ◌⊎◌, ℕ, suc, ◌+◌, ◌<◌, Bool, true, false, List, [], ◌∷◌, length, get_or, Option, Some, None, Result, Ok, refl, sym, ap, ◌∙◌, subst, inl, inr, arith, not, nat_lt, cases_Bool, lt-ltb, Decides}
+use Rattle.dw_normal.proofs.Words.{◌≡◌, ℕ, suc, ◌+◌, ◌<◌, Bool, true, false, List, [], ◌∷◌, length, get_or, Option, Some, None, Result, Ok, refl, sym, ap, ◌∙◌, subst, inl, inr, arith, nat_lt, cases_Bool, lt-ltb}
 use Rattle.dw_normal.proofs.Words.{AreBytes, address_limit, Target, Rules, Instr, blank, Fde, Accepted, ChangesOf, OpensBehind, rule, all_get, ChangesStand, Member, AreMembers, IsMember, fde_of, initial_of, later_changes, nonempty, program_bytes}
-use Rattle.std.specs.Prelude.{◌&&◌, if◌then◌else◌, ℤ}
+use Rattle.std.specs.Prelude.{if◌then◌else◌, ℤ}
 use Rattle.std.proofs.lemmas.Bool.{ltb-true}
-use Rattle.std.proofs.lemmas.Bool.Decides.{Decides-and, Decides-ltb, Decides-not}
 use Rattle.dw_num.specs.Input.{Input}
 use Rattle.dw_num.specs.Span.{input_of}
 use Rattle.dw_num.specs.declared.refusal.Code.{Code}
@@ -33,7 +32,7 @@ use Rattle.dw_section.proofs.Lent.OpeningLaws.{one_first}
 use Rattle.dw_section.proofs.Lent.Sames.{one_change_list}
 use Rattle.dw_section.proofs.Lent.Sections.{given_by, headers_of, hs, here as here_in, one_programs}
 use Rattle.dw_section.specs.Changes.{AreChanges}
-use Rattle.dw_section.specs.Inner.Changes.{Among, Before, Shows, changes_among, is_before, repeats}
+use Rattle.dw_section.specs.Inner.Changes.{changes_among, is_before}
 use Rattle.dw_section.specs.Inner.Heads.{HasBytes}
 use Rattle.dw_section.specs.Meaning.{Says}
 use Rattle.dw_section.specs.Programs.{factors_of}

@@ -1,4 +1,4 @@
-use Rattle.dw_normal.proofs.Words.{◌≡◌, ◌++◌, ◌-◌, ◌<◌, ℕ, List, length, get_or, refl, sym, ap, ◌∙◌, subst, IfSome, IsTrue, Bool, Target, address_limit, Fde, OpensBehind}
+use Rattle.dw_normal.proofs.Words.{◌≡◌, ◌++◌, ◌-◌, ◌<◌, ℕ, List, length, get_or, ap, ◌∙◌, IfSome, IsTrue, Bool, Target, Fde, OpensBehind}
 use Rattle.dw_normal.proofs.Words.{Member, AreMembers, members_exist, fde_of, fixed_bytes, fde, contents, fde_instrs, initial_of, program_bytes, fde_with}
 use Rattle.dw_section.specs.Opening.{HasProgram}
 use Rattle.dw_normal.specs.Inner.PlainFde.{Opens, PlainMember}
