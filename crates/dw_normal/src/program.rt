@@ -178,12 +178,7 @@ pub(crate) fn push_far_move(
 // Appends what moves the location, mostly by a few bytes.
 #[inline(always)]
 #[tactic(auto, unfolding(dw_canon::specs::Spelling::instr_bytes))]
-fn push_move(
-    out: &mut Vec<u8>,
-    from: u128,
-    to: u128,
-    target: Target,
-) -> Result<(), AllocError>
+fn push_move(out: &mut Vec<u8>, from: u128, to: u128, target: Target) -> Result<(), AllocError>
     requires rises { from < to }
     requires in_space { to < address_limit target.size }
     ensures { OnOk result (out.new.items ≡ out.old.items ++ instr_bytes target (move from to)) }
