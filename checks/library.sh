@@ -170,13 +170,20 @@ done
 echo "library: the rows of $looked sections by a look-up of each address, by ${names[*]}"
 echo "library: $compared answers as the command's"
 
-# A real program that stopped: the walk of its stack is that of examples/backtrace.py.
-if has objcopy readelf; then
+# A real program that stopped: the walk of its stack is that of examples/backtrace.py. chain.c knows two processors.
+case $(uname -m) in
+x86_64) stack_pointer=7 ;;
+aarch64) stack_pointer=31 ;;
+*) stack_pointer= ;;
+esac
+if [ -z "$stack_pointer" ]; then
+    echo "library, the stack of a stopped program: left out on this processor"
+elif has objcopy readelf; then
     gcc -g -O2 -no-pie -fno-asynchronous-unwind-tables -fno-unwind-tables -o chain "$root/examples/chain.c"
     read -r _ size _ order _ <<<"$("$root/section" chain chain.bin)"
     ./chain >chain.dump
-    "$root/examples/backtrace.py" --size "$size" --order "$order" chain.bin chain.dump >wanted
-    stopped="$size $order chain.bin chain.dump 7"
+    "$root/examples/backtrace.py" --size "$size" --order "$order" --stack-pointer $stack_pointer chain.bin chain.dump >wanted
+    stopped="$size $order chain.bin chain.dump $stack_pointer"
     for name in "${names[@]}"; do "./frames-$name" $stopped | cmp - wanted; done
     echo "library: $(wc -l <wanted) frames of a stopped program by ${names[*]}"
 else
