@@ -11,6 +11,8 @@
 #include <iterator>
 #include <vector>
 
+static_assert(sizeof(dwframe_entry) == 24, "an entry of an index has 24 bytes");
+
 int main(int argc, char **argv)
 {
     if (argc != 4)
