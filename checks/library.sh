@@ -123,7 +123,7 @@ sections() {
         found=$({
             find -L "$of" -name '*.target' | while read -r target; do echo "${target%.target}.bin $(cat "$target")"; done
             find -L "$of" -name sections.tsv | while read -r list; do awk -v at="$(dirname "$list")" 'NR > 1 { print at "/" $1 ".bin", $2, $3 }' "$list"; done
-        } | sort)
+        } | sort -u)
         [ -n "$found" ] || { echo "library: there is no section in $of" >&2 && exit 1; }
         echo "$found"
     done
