@@ -272,24 +272,29 @@ for counts in *.counts; do echo "library: 10000 damaged copies of ${counts%.coun
 # ---- all of it under valgrind
 
 if has valgrind; then
-    run="valgrind --quiet --error-exitcode=99 --leak-check=full --show-leak-kinds=all"
+    # Rust's own library keeps a block to the end.
+    declare -A run=(
+        [gcc]="valgrind --quiet --error-exitcode=99 --leak-check=full --show-leak-kinds=all --errors-for-leak-kinds=all"
+        [rust]="valgrind --quiet --error-exitcode=99 --leak-check=full"
+    )
     while read -r section size order; do
         "$program" rows --size "$size" --order "$order" "$section" >rows
         stop=stop-$(basename "$section")
         mkdir "$stop"
-        "$root/checks/stops.py" "$size" "$order" rows "$stop" 1
+        "$root/checks/stops.py" "$size" "$order" rows "$stop" 8
+        for dump in "$stop"/*; do ! ./frames-gcc "$size" "$order" "$section" "$dump" >/dev/null 2>&1 || break; done
         for build in gcc rust; do
             [ -x "library-$build" ] || continue
-            echo "$run ./library-$build normal $size $order $section >/dev/null"
-            echo "$run ./library-$build same $size $order $section $section >/dev/null"
-            echo "$run ./lookup-$build $size $order $section >/dev/null"
-            echo "$run ./frames-$build $size $order $section $stop/0.dump >/dev/null"
+            echo "${run[$build]} ./library-$build normal $size $order $section >/dev/null"
+            echo "${run[$build]} ./library-$build same $size $order $section $section >/dev/null"
+            echo "${run[$build]} ./lookup-$build $size $order $section >/dev/null"
+            echo "${run[$build]} ./frames-$build $size $order $section $dump >/dev/null"
         done
-        echo "$run ./damage $size $order $section 1000 >/dev/null"
-        echo "$run ./refused $size $order $section >/dev/null"
+        echo "${run[gcc]} ./damage $size $order $section 1000 >/dev/null"
+        echo "${run[gcc]} ./refused $size $order $section >/dev/null"
     done <damaged >runs
     for build in gcc rust; do
-        [ ! -x "frames-$build" ] || [ -z "${stopped:-}" ] || echo "$run ./frames-$build $stopped >/dev/null"
+        [ ! -x "frames-$build" ] || [ -z "${stopped:-}" ] || echo "${run[$build]} ./frames-$build $stopped >/dev/null"
     done >>runs
     side_by_side <runs
     echo "library: no error and no leak in $(wc -l <runs) runs under valgrind"
