@@ -57,35 +57,38 @@ static dwframe_status judge(dwframe_status status)
 /* What is in a room before a call. */
 enum { FILLED = 0xa5 };
 
-struct lent {
+/* Each is lent again and again, last out first in, and made anew where it is too short. */
+static struct {
     uint8_t *pages;
-    size_t all, len;
-    void *at;
-};
-
-static struct lent lent[32];
+    size_t room;
+} lent[32];
 static size_t lents;
+
+static void make_pages(size_t which, size_t len)
+{
+    size_t page = (size_t)sysconf(_SC_PAGESIZE), room = (len / page + 1) * page;
+    uint8_t *pages = mmap(NULL, room + 2 * page, PROT_NONE, MAP_PRIVATE | MAP_ANONYMOUS, -1, 0);
+    if (pages == MAP_FAILED || mprotect(pages + page, room, PROT_READ | PROT_WRITE))
+        stop_at("out of memory");
+    lent[which].pages = pages + page;
+    lent[which].room = room;
+}
 
 /* So many bytes that end where a page does, or some times begin where one does: `len` is a multiple of what they are aligned to. */
 static void *block(size_t len)
 {
-    size_t page = (size_t)sysconf(_SC_PAGESIZE), room = (len + page - 1) / page * page;
-    uint8_t *pages = mmap(NULL, room + 2 * page, PROT_NONE, MAP_PRIVATE | MAP_ANONYMOUS, -1, 0);
-    if (pages == MAP_FAILED || (room && mprotect(pages + page, room, PROT_READ | PROT_WRITE)) || lents == sizeof lent / sizeof *lent)
-        stop_at("out of memory");
-    uint8_t *at = pages + page + (below(4) ? room - len : 0);
-    memset(at, FILLED, len);
-    lent[lents++] = (struct lent){pages, room + 2 * page, len, at};
-    return at;
+    if (lents == sizeof lent / sizeof *lent)
+        stop_at("too much is lent");
+    size_t which = lents++;
+    if (lent[which].room < len || !lent[which].pages)
+        make_pages(which, len);
+    return memset(lent[which].pages + (below(4) ? lent[which].room - len : 0), FILLED, len);
 }
 
-/* Gives back what was lent since there were so many. */
+/* Takes back what was lent since there were so many. */
 static void give_back(size_t before)
 {
-    while (lents > before) {
-        lents--;
-        munmap(lent[lents].pages, lent[lents].all);
-    }
+    lents = before;
 }
 
 /* A room that has to stay as `block` filled it. */
