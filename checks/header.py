@@ -1,8 +1,10 @@
 #!/usr/bin/env python3
 """Compares include/dwframe.h, and what bindings/rust declares, with the exports of crates/dw_library.
 
-Each call has to have the same name, answer and parameters in all three, each struct the same fields, and each status, refusal and
-fault the same number. A slice of Rattle is a pointer and a length in C, and an `alloc` is nothing.
+Each call has to have the same name, answer and parameters in all three, and each struct the same fields in the same order. Each number
+of the header (statuses, refusals, faults, rules, orders and the like) has to be the one of the library's sources, and those that the
+crate for Rust has have to be the header's, and mean what their names say. A slice of Rattle is a pointer and a length in C, and an
+`alloc` is nothing.
 """
 import pathlib
 import re
@@ -25,10 +27,20 @@ STRUCTS = {
     "Block": ("dwframe_block", "RawBlock"),
     "Blocks": ("dwframe_blocks", "RawBlocks"),
 }
-# Enums whose numbers the library answers, each with the file that has them and what C's names begin with.
-ENUMS = {"Code": ("crates/dw_num/src/refusal.rt", "DWFRAME_REFUSAL_"), "Kind": ("crates/dw_eval/src/error.rt", "DWFRAME_FAULT_")}
-# Constants of Rattle beside the statuses, and where C has them under another name.
-OTHERS = {"CFA": "DWFRAME_CFA"}
+# Numbers that stand in matches of the library: its file, the lines that have them (groups `name` and `number`), what C's names begin
+# with, and names that C has otherwise.
+NUMBERED = [
+    ("crates/dw_num/src/refusal.rt", r"Code::(?P<name>\w+) => (?P<number>\d+),", "REFUSAL_", {}),
+    ("crates/dw_eval/src/error.rt", r"Kind::(?P<name>\w+) => (?P<number>\d+),", "FAULT_", {}),
+    ("crates/dw_library/src/index.rt", r"RegRule::(?P<name>\w+)(?:\(\w+\))? => told_rule\(number, (?P<number>\d+),", "RULE_", {}),
+    ("crates/dw_library/src/index.rt", r"CfaRule::(?P<name>\w+)(?: \{ \.\. \}|\(_\))? => (?P<number>\d+),", "CFA_", {}),
+    ("crates/dw_library/src/answer.rt", r"(?P<number>\d+) => Some\(Target \{ size, order: Order::(?P<name>\w+),", "", {}),
+    ("crates/dw_library/src/caller.rt", r"(?P<number>\d+) => Some\(Policy::(?P<name>\w+)\)", "", {"SameValue": "Unchanged"}),
+]
+# What a look-up never writes, so the header has no name for it.
+UNNAMED = {"DWFRAME_RULE_UNSPECIFIED": "0", "DWFRAME_CFA_UNSET": "0"}
+# What no call answers to the crate for Rust, or what the crate tells by no name of its own.
+NOT_IN_RUST = {"DWFRAME_BAD_ARGUMENT", "DWFRAME_DEVICE", "DWFRAME_FAULT_DEVICE", "DWFRAME_RULE_UNDEFINED", "DWFRAME_CFA"}
 
 
 def plain(text):
@@ -88,12 +100,9 @@ def bound(text):
 
 
 def structs(text, word):
-    found = re.findall(r"#\[repr\(C\)\] (?:#\[[^\]]*\] )*(?:pub )?struct (\w+) \{(.*?)\}", text)
-    return {
-        name: [(field.split(":")[0].replace("pub", "").strip(), NUMBERS[field.split(":")[1].strip()]) for field in parts(inside)]
-        for name, inside in found
-        if word(name)
-    }
+    found = re.findall(r"#\[repr\(C\)\] (?:#\[[^\]]*\] )*(?:pub(?:\(crate\))? )?struct (\w+) \{(.*?)\}", text)
+    fields = {name: re.findall(r"(\w+): (\w+)", inside) for name, inside in found if word(name)}
+    return {name: [(field, NUMBERS[kind]) for field, kind in inside] for name, inside in fields.items()}
 
 
 def c_structs(text):
@@ -101,20 +110,77 @@ def c_structs(text):
     return {name: [tuple(reversed(field.split())) for field in inside.split(";") if field.strip()] for inside, name in found}
 
 
+# ---- numbers
+
+
+def in_capitals(name):
+    return re.sub(r"(?<=[a-z])(?=[A-Z])|(?<=[A-Z])(?=[A-Z][a-z])", "_", name).upper()
+
+
+def text_of(path):
+    return plain((ROOT / path).read_text())
+
+
+def own_numbers(rattle):
+    """The numbers that the library's sources have, by the names of C."""
+    constants = set(re.findall(r"const (\w+): u32 = (\d+);", rattle))
+    found = {f"DWFRAME_{name}": number for name, number in constants}
+    if len(found) != len(constants):
+        sys.exit(f"header: a constant of the library has two numbers: {sorted(constants)}")
+    for path, line, prefix, others in NUMBERED:
+        lines = list(re.finditer(line, text_of(path)))
+        if not lines:
+            sys.exit(f"header: {path} has no numbers of {prefix or 'an argument'}")
+        found |= {f"DWFRAME_{prefix}{in_capitals(others.get(one['name'], one['name']))}": one["number"] for one in lines}
+    unnamed = {name: found.pop(name, None) for name in UNNAMED}
+    if unnamed != UNNAMED:
+        sys.exit(f"header: {unnamed}, and not {UNNAMED}")
+    return found
+
+
+def header_numbers():
+    # A macro ends with its line, so its name and its number are read before lines are joined.
+    text = (ROOT / "include/dwframe.h").read_text()
+    return dict(re.findall(r"#define (DWFRAME_\w+) (\d+)", text) + re.findall(r"(DWFRAME_\w+) = (\d+)", plain(text)))
+
+
+def wrong_numbers(own, header, rust):
+    # A refusal's name stands in the library, and its longest has to fit with the zero byte.
+    room = header.pop("DWFRAME_NAME_SIZE")
+    longest = max(map(len, re.findall(r'Code::\w+ => "(\w+)"', text_of("crates/dw_num/src/refusal.rt"))))
+    if longest >= int(room):
+        yield f"a name of {longest} letters does not fit into {room} bytes"
+    for name in sorted(own.keys() | header.keys()):
+        if own.get(name) != header.get(name):
+            yield f"{name} is {own.get(name)}, and in the header {header.get(name)}"
+    in_rust = dict(re.findall(r"const (DWFRAME_\w+): \w+ = (\d+);", rust))
+    wanted = {name: number for name, number in header.items() if name not in NOT_IN_RUST and "_REFUSAL_" not in name}
+    wanted["DWFRAME_NAME_SIZE"] = room
+    for name in sorted(wanted.keys() | in_rust.keys()):
+        if wanted.get(name) != in_rust.get(name):
+            yield f"{name} is {in_rust.get(name)} in bindings/rust, and in the header {wanted.get(name)}"
+    # What the crate makes of a number, and which number it makes of a value.
+    read = re.findall(r"DWFRAME_(?:FAULT_|RULE_|CFA_)?(\w+) => (?:Failure::Fault\()?\w+::(\w+)", rust)
+    written = [(number, name) for name, number in re.findall(r"(?:Order|Unset)::(\w+) => DWFRAME_(\w+)", rust)]
+    for number, name in read + written:
+        if in_capitals(name) != number:
+            yield f"bindings/rust takes {number} for {name}"
+    told = len(read) + len(written) + len(["OK", "NO_VALUE", "NAME_SIZE"])
+    if told != len(in_rust):
+        yield f"bindings/rust has {len(in_rust)} numbers, and uses {told}"
+
+
 def main():
     sources = {path.name: plain(path.read_text()) for path in sorted((ROOT / "crates/dw_library/src").glob("*.rt"))}
     # The entries of an index are those of a table.
-    sources["indexing.rt"] = plain((ROOT / "crates/dw_section/src/fde_range.rt").read_text())
+    sources["indexing.rt"] = text_of("crates/dw_section/src/fde_range.rt")
     rattle = " ".join(sources.values())
-    header = plain((ROOT / "include/dwframe.h").read_text())
-    rust = plain((ROOT / "bindings/rust/src/lib.rs").read_text())
-    # A macro ends with its line, so its name and its number are read before lines are joined.
-    macros = dict(re.findall(r"#define (DWFRAME_\w+) (\d+)", (ROOT / "include/dwframe.h").read_text()))
-    numbers = macros | dict(re.findall(r"(DWFRAME_\w+) = (\d+)", header))
+    header = text_of("include/dwframe.h")
+    rust = " ".join(plain(path.read_text()) for path in sorted((ROOT / "bindings/rust/src").glob("*.rs")))
 
     wrong = []
     calls = exports(rattle)
-    for place, found in {"dwframe.h": declared(header), "lib.rs": bound(rust)}.items():
+    for place, found in {"dwframe.h": declared(header), "bindings/rust": bound(rust)}.items():
         for name in sorted(calls.keys() | found.keys()):
             if calls.get(name) != found.get(name):
                 wrong.append(f"{place}: {name} is {found.get(name)}, and the library has {calls.get(name)}")
@@ -124,17 +190,9 @@ def main():
             wrong.append(f"struct {c}: {own.get(name)}, {in_header.get(c)} and {in_rust.get(raw)}")
     if len(own) != len(in_header) or len(own) != len(in_rust):
         wrong.append("one of the three has a struct that is not compared")
-    statuses = re.findall(r"const (\w+): u32 = (\d+);", rattle)
-    for name, number in statuses:
-        if numbers.get(OTHERS.get(name, f"DWFRAME_{name}")) != number:
-            wrong.append(f"{name} is {number}, and in the header {numbers.get('DWFRAME_' + name)}")
-    named = []
-    for kind, (path, prefix) in ENUMS.items():
-        found = re.findall(rf"{kind}::(\w+) => (\d+),", (ROOT / path).read_text())
-        named += [(prefix + re.sub(r"(?<=[a-z])(?=[A-Z])|(?<=[A-Z])(?=[A-Z][a-z])", "_", name).upper(), number) for name, number in found]
-    if named != [(name, number) for name, number in numbers.items() if name.startswith(tuple(prefix for _, prefix in ENUMS.values()))]:
-        wrong.append("the refusals and faults of the header are not those of the library")
-    print("\n".join(wrong) or f"header: {len(calls)} calls, {len(own)} structs and {len(statuses)} numbers as in the library")
+    numbers = own_numbers(rattle)
+    wrong += wrong_numbers(numbers, header_numbers(), rust)
+    print("\n".join(wrong) or f"header: {len(calls)} calls, {len(own)} structs and {len(numbers)} numbers as in the library")
     return 1 if wrong else 0
 
 

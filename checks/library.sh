@@ -1,41 +1,82 @@
 #!/bin/bash
 # Builds the library for C and its examples in C and Rust, and compares what they print with the command, on the sections of the
-# examples and of the folders that are named. Then each request for memory is refused once, damaged sections are given, and all is
-# done under the address sanitizer and under valgrind. What needs a tool that is missing is left out, and named.
+# examples, on made ones, and on those of the folders that are named:
+#
+#     library.sh [FOLDER]..
+#
+# A section of a folder is NAME.bin with NAME.target beside it, or a line `NAME SIZE ORDER ..` of its sections.tsv. Then each request
+# for memory is refused once, and damaged sections, indexes and windows are given. DWFRAME may name the program, and LIBRARY a
+# libdwframe.a that is built.
+#
+# The address sanitizer sees what the C beside the library does, and what is not given back. It does not see the loads and stores of
+# libdwframe.a, which is not built with it: those see valgrind, and the pages that cannot be reached around what damage.c lends. What needs
+# a tool that is missing is left out, and named.
 set -euo pipefail
 root=$(cd "$(dirname "$0")/.." && pwd)
-program=${DWFRAME:-$root/dwframe}
+program=$(realpath "${DWFRAME:-$root/dwframe}")
 export DWFRAME=$program
 python3 "$root/checks/header.py"
-"$root/library"
-command -v gcc >/dev/null || { echo "library: left out, for there is no gcc"; exit 0; }
+command -v gcc >/dev/null || { echo "library: all but the header is left out, for there is no gcc"; exit 0; }
+[ -n "${LIBRARY:-}" ] || "$root/library"
+library=$(realpath "${LIBRARY:-$root/libdwframe.a}")
+folders=("$root/examples")
+for folder in "$@"; do folders+=("$(realpath "$folder")"); done
 folder=$(mktemp -d)
 trap 'rm -r "$folder"' EXIT
 cd "$folder"
-flags="-std=c11 -Wall -Wextra -Werror -O2 -g -I$root/include"
+flags="-std=c11 -Wall -Wextra -Werror -pedantic -O2 -g -I$root/include"
+sanitize="-fsanitize=address,undefined -fno-sanitize-recover=all"
 
-# built NAME COMMAND..: compiles the examples, as library-NAME, frames-NAME and lookup-NAME.
+# has TOOL..: whether all are there; else what is left out is told, in the variable `without`.
+has() {
+    for tool in "$@"; do
+        command -v "$tool" >/dev/null || { without="left out, for there is no $tool" && return 1; }
+    done
+}
+
+# side_by_side: runs the lines of standard input as commands, as many at once as there are processors.
+side_by_side() {
+    xargs -d '\n' -P "$(nproc)" -I{} bash -c '{} || { echo "library: {}: status $?" >&2; exit 255; }'
+}
+
+# ---- the examples, each as EXAMPLE-BUILD
+
+names=()
+# built NAME COMMAND..: compiles the examples.
 built() {
     name=$1
     shift
-    for example in library frames lookup; do
-        "$@" $flags -o "$example-$name" "$root/examples/$example.c" "$root/libdwframe.a"
-    done
+    for example in library frames lookup; do "$@" $flags -o "$example-$name" "$root/examples/$example.c" "$library"; done
     names+=("$name")
 }
 
-names=()
+# built_in_rust NAME FOLDER: the same by cargo, with the libdwframe.a of a folder.
+built_in_rust() {
+    (cd "$root/bindings/rust" && DWFRAME_LIB=$2 cargo build --quiet --offline --release --examples --target-dir "$folder/target-$1")
+    for example in library frames lookup; do cp "target-$1/release/examples/$example" "$example-$1"; done
+    names+=("$1")
+}
+
 built gcc gcc
-built sanitized gcc -fsanitize=address,undefined
-if command -v clang >/dev/null; then built clang clang; else echo "library by clang: left out"; fi
-if command -v cargo >/dev/null; then
-    (cd "$root/bindings/rust" && cargo build --quiet --offline --release --examples --target-dir "$folder/target")
-    (cd "$root/bindings/rust" && cargo test --quiet --offline --test answers --target-dir "$folder/target" >"$folder/tested") || { cat "$folder/tested"; exit 1; }
-    for example in library frames lookup; do cp "target/release/examples/$example" "$example-rust"; done
-    names+=(rust)
+built sanitized gcc $sanitize
+if has clang; then built clang clang; else echo "library by clang: $without"; fi
+mkdir lent refusing
+cp "$library" lent/libdwframe.a
+if has cargo; then
+    built_in_rust rust "$folder/lent"
+    (cd "$root/bindings/rust" && DWFRAME_LIB="$folder/lent" cargo test --quiet --offline --test answers --target-dir "$folder/target-rust" >"$folder/tested") || { cat tested; exit 1; }
 else
-    echo "library by rustc: left out, for there is no cargo"
+    echo "library by rustc: $without"
 fi
+for compiler in g++ clang++; do
+    if has $compiler; then
+        $compiler -std=c++11 -Wall -Wextra -Werror -pedantic -I"$root/include" -o "header-$compiler" "$root/checks/header.cpp" "$library"
+    else
+        echo "library, the header by $compiler: $without"
+    fi
+done
+
+# ---- what they print
 
 # told OUT COMMAND..: what a command prints, with its status; standard error up to its first line, behind the program's name.
 told() {
@@ -47,6 +88,14 @@ told() {
     echo "status $status" >>"$out"
 }
 
+compared=0
+# is_as_wanted COMMAND..: a program prints what the command did.
+is_as_wanted() {
+    told found "$@"
+    cmp wanted found || { echo "library: $* is not as the command"; exit 1; }
+    compared=$((compared + 1))
+}
+
 # as_command EXAMPLE WORDS.. -- WORDS..: the words of the command, and those of each build of the example.
 as_command() {
     example=$1
@@ -55,118 +104,200 @@ as_command() {
     while [ "$1" != -- ]; do command+=("$1") && shift; done
     shift
     told wanted "$program" "${command[@]}"
-    for name in "${names[@]}"; do
-        told found "./$example-$name" "$@"
-        cmp wanted found || { echo "library: $example-$name $* is not as the command"; exit 1; }
-    done
-    compared=$((compared + 1))
+    for name in "${names[@]}"; do is_as_wanted "./$example-$name" "$@"; done
 }
 
-compared=0
-[ $# -gt 0 ] || set -- "$root/examples"
 # Sections of each size and order, with expressions among their rules.
-mkdir made
+mkdir made small
 for size in 4 8; do
     for order in little big; do
         python3 "$root/bench/synth.py" "made/$size-$order.bin" 200 --size "$size" --order "$order" >/dev/null
-        echo "$size $order" >"made/$size-$order.target"
+        python3 "$root/bench/synth.py" "small/$size-$order.bin" 20 --size "$size" --order "$order" >/dev/null
+        echo "$size $order" | tee "made/$size-$order.target" >"small/$size-$order.target"
     done
 done
-set -- "$@" made
-for target in $(find -L "$@" -name '*.target' | sort); do
-    section=${target%.target}.bin
-    read -r size order <"$target"
+
+# sections FOLDER..: a line of each section: its path, size and order.
+sections() {
+    for of in "$@"; do
+        found=$({
+            find -L "$of" -name '*.target' | while read -r target; do echo "${target%.target}.bin $(cat "$target")"; done
+            find -L "$of" -name sections.tsv | while read -r list; do awk -v at="$(dirname "$list")" 'NR > 1 { print at "/" $1 ".bin", $2, $3 }' "$list"; done
+        } | sort -u)
+        [ -n "$found" ] || { echo "library: there is no section in $of" >&2 && exit 1; }
+        echo "$found"
+    done
+}
+
+sections "${folders[@]}" "$folder/made" >all
+declare -A frames
+looked=0
+while read -r section size order; do
     on="--size $size --order $order"
     head -c $(($(wc -c <"$section") * 2 / 3)) "$section" >cut
     for file in "$section" cut /dev/null; do
-        for call in check normal; do
-            as_command library $call $on "$file" -- $call "$size" "$order" "$file"
-        done
+        as_command library check $on "$file" -- check "$size" "$order" "$file"
+        as_command library normal $on "$file" -- normal "$size" "$order" "$file"
         as_command library same $on "$section" "$file" -- same "$size" "$order" "$section" "$file"
         as_command library same $on "$file" "$section" -- same "$size" "$order" "$file" "$section"
+        told wanted "$program" check $on "$file"
+        for header in header-*; do [ ! -x "$header" ] || is_as_wanted "./$header" "$size" "$order" "$file"; done
     done
-    for dump in $(grep -l '^pc ' "$root"/examples/*.dump); do
-        as_command frames unwind $on --default same "$section" "$dump" -- "$size" "$order" "$section" "$dump"
-    done
-done
-looked=0
-for target in $(find -L "$@" -name '*.target' | sort); do
-    section=${target%.target}.bin
-    read -r size order <"$target"
-    "$program" rows --size "$size" --order "$order" "$section" >rows 2>/dev/null || continue
-    for name in "${names[@]}"; do "$root/checks/rows.py" "./lookup-$name" "$size" "$order" "$section" rows; done
-    looked=$((looked + 1))
-done
-echo "library: the rows of $looked sections by a look-up of each address"
-echo "library: $compared answers by ${names[*]} as the command's"
 
-# A real program that stopped: the walk of its stack is that of examples/backtrace.py.
-if command -v objcopy >/dev/null; then
-    gcc -g -O2 -no-pie -fno-asynchronous-unwind-tables -fno-unwind-tables -o chain "$root/examples/chain.c"
-    words=$("$root/section" chain chain.bin)
-    read -r _ size _ order _ <<<"$words"
-    ./chain >chain.dump
-    DWFRAME=$program "$root/examples/backtrace.py" --size "$size" --order "$order" chain.bin chain.dump >wanted
-    for name in "${names[@]}"; do
-        "./frames-$name" "$size" "$order" chain.bin chain.dump 7 | cmp - wanted
+    # The rows of each address. A section that the command refuses is refused.
+    if "$program" rows $on "$section" >rows 2>rows.err; then
+        for name in "${names[@]}"; do "$root/checks/rows.py" "./lookup-$name" "$size" "$order" "$section" rows; done
+        looked=$((looked + 1))
+    else
+        as_command lookup rows $on "$section" -- "$size" "$order" "$section"
+    fi
+
+    # Machines that stopped in it, and the dumps of the examples.
+    rm -rf stops && mkdir stops
+    "$root/checks/stops.py" "$size" "$order" rows stops 8
+    for dump in stops/*.dump $(grep -l '^pc ' "$root"/examples/*.dump); do
+        [ -f "$dump" ] || continue
+        as_command frames unwind $on --default same "$section" "$dump" -- "$size" "$order" "$section" "$dump"
+        ! grep -q '^cfa ' wanted || frames[$size,$order]=$((${frames[$size,$order]:-0} + 1))
     done
+done <all
+for size in 4 8; do
+    for order in little big; do
+        [ "${frames[$size,$order]:-0}" -gt 0 ] || { echo "library: no frame of size $size, $order"; exit 1; }
+        echo "library: size $size, $order: $(grep -c " $size $order\$" all) sections, ${frames[$size,$order]} frames"
+    done
+done
+echo "library: the rows of $looked sections by a look-up of each address, by ${names[*]}"
+echo "library: $compared answers as the command's"
+
+# A real program that stopped: the walk of its stack is that of examples/backtrace.py. chain.c knows two processors.
+case $(uname -m) in
+x86_64) stack_pointer=7 ;;
+aarch64) stack_pointer=31 ;;
+*) stack_pointer= ;;
+esac
+if [ -z "$stack_pointer" ]; then
+    echo "library, the stack of a stopped program: left out on this processor"
+elif has objcopy readelf; then
+    gcc -g -O2 -no-pie -fno-asynchronous-unwind-tables -fno-unwind-tables -o chain "$root/examples/chain.c"
+    read -r _ size _ order _ <<<"$("$root/section" chain chain.bin)"
+    ./chain >chain.dump
+    "$root/examples/backtrace.py" --size "$size" --order "$order" --stack-pointer $stack_pointer chain.bin chain.dump >wanted
+    stopped="$size $order chain.bin chain.dump $stack_pointer"
+    for name in "${names[@]}"; do "./frames-$name" $stopped | cmp - wanted; done
     echo "library: $(wc -l <wanted) frames of a stopped program by ${names[*]}"
+else
+    echo "library, the stack of a stopped program: $without"
 fi
 
-# Each request for memory is refused once: out of memory, and nothing is lost.
-wrapped="gcc -fsanitize=address,undefined -Wl,--wrap=malloc,--wrap=realloc $root/checks/refuse_linked.c"
-names=()
-built refused $wrapped
+# goes_round COMMAND..: the walk of a frame that is its own caller ends, and says why.
+goes_round() {
+    ! "$@" >found 2>found.err || { echo "library: $* does not fail"; exit 1; }
+    grep -q 'does not stand above the one before' found.err || { cat found.err; exit 1; }
+    printf '#0 0x401004\n#1 0x401005\n' | cmp - found
+}
+printf 'pc 0x401004\nr6 0x7ffe00\nmem 0x7ffe00 00fe7f00000000000510400000000000\n' >ring.dump
+goes_round "$root/examples/backtrace.py" "$root/examples/plain.bin" ring.dump
+for name in "${names[@]}"; do goes_round "./frames-$name" 8 little "$root/examples/plain.bin" ring.dump 7; done
+
+# ---- requests for memory, each refused once: out of memory, and nothing is lost
+
 requests=0
-# each_refused WANTED COMMAND..: with each request refused in turn the status is 4 (a file) or 5, until none is left to refuse.
+# each_refused COMMAND..: with each request refused in turn the status is 4 (a file) or 5, and what is printed is a beginning of the
+# ordinary answer, until none is left to refuse.
 each_refused() {
+    REFUSE=0 COUNT=$folder/count "$@" >ordinary
     for ((refused = 1; ; refused++)); do
         status=0
         REFUSE=$refused COUNT=$folder/count "$@" >found 2>found.err || status=$?
         [ "$(cat count)" -ge "$refused" ] || break
+        cmp -s found <(head -c "$(wc -c <found)" ordinary) || { echo "library: $* with request $refused refused printed another answer" && exit 1; }
         case $status in
         4 | 5) ;;
+        0) cmp found ordinary ;;
         *) echo "library: $* with request $refused refused: status $status: $(cat found.err)" && exit 1 ;;
         esac
-        [ ! -s found ] || { echo "library: $* with request $refused refused printed an answer" && exit 1; }
         requests=$((requests + 1))
     done
-    [ "$status" = 0 ] || { echo "library: $*: status $status" && exit 1; }
+    [ "$status" = 0 ] && cmp found ordinary || { echo "library: $*: status $status" && exit 1; }
 }
-for name in plain rules many big-endian; do
-    read -r size order <"$root/examples/$name.target"
-    section=$root/examples/$name.bin
-    for call in check normal; do each_refused ./library-refused $call "$size" "$order" "$section"; done
-    each_refused ./library-refused same "$size" "$order" "$section" "$section"
-done
-for name in plain rules many big-endian; do
-    read -r size order <"$root/examples/$name.target"
-    address=$(sed -n 's/^ \(0x[0-9a-f]*\) .*/\1/p' "$root/examples/$name.rows" | head -1)
-    each_refused ./lookup-refused "$size" "$order" "$root/examples/$name.bin" "$address"
-done
-for name in plain rules; do
-    each_refused ./frames-refused 8 little "$root/examples/$name.bin" "$root/examples/$name.dump"
-done
-echo "library: $requests requests for memory refused, each once"
 
-# Damaged sections, registers and windows: a status each time.
-gcc $flags -fsanitize=address,undefined -o damage-sanitized "$root/checks/damage.c" "$root/libdwframe.a"
-gcc $flags -o damage "$root/checks/damage.c" "$root/libdwframe.a"
-for name in plain rules many big-endian; do
-    read -r size order <"$root/examples/$name.target"
-    ./damage-sanitized "$size" "$order" "$root/examples/$name.bin" 10000 >damaged
-    echo "library: 10000 damaged copies of $name.bin: $(cat damaged)"
-done
-if command -v valgrind >/dev/null; then
-    run="valgrind --quiet --error-exitcode=99 --leak-check=full --show-leak-kinds=all"
+names=()
+built refused gcc $sanitize -Wl,--wrap=malloc,--wrap=realloc "$root/checks/refuse_linked.c"
+# The requests of Rust's own library are not refused: those of libdwframe.a have another name.
+if has cargo objcopy; then
+    objcopy --redefine-sym malloc=__wrap_malloc --redefine-sym realloc=__wrap_realloc "$library" refusing/libdwframe.a
+    gcc -O2 -c -D__real_malloc=malloc -D__real_realloc=realloc -o refuse.o "$root/checks/refuse_linked.c"
+    ar q refusing/libdwframe.a refuse.o
+    built_in_rust refused-rust "$folder/refusing"
+else
+    echo "library, requests for memory by rustc: $without"
+fi
+for build in "${names[@]}"; do
     for name in plain rules many big-endian; do
         read -r size order <"$root/examples/$name.target"
-        $run ./library-gcc normal "$size" "$order" "$root/examples/$name.bin" >/dev/null
-        $run ./lookup-gcc "$size" "$order" "$root/examples/$name.bin" >/dev/null
-        $run ./damage "$size" "$order" "$root/examples/$name.bin" 500 >/dev/null
+        section=$root/examples/$name.bin
+        address=$(sed -n 's/^ \(0x[0-9a-f]*\) .*/\1/p' "$root/examples/$name.rows" | head -1)
+        for call in check normal; do each_refused "./library-$build" $call "$size" "$order" "$section"; done
+        each_refused "./library-$build" same "$size" "$order" "$section" "$section"
+        each_refused "./lookup-$build" "$size" "$order" "$section" "$address"
     done
-    $run ./frames-gcc 8 little "$root/examples/rules.bin" "$root/examples/rules.dump" >/dev/null
-    echo "library: no error and no leak under valgrind"
+    for name in plain rules; do
+        each_refused "./lookup-$build" 8 little "$root/examples/$name.bin"
+        each_refused "./frames-$build" 8 little "$root/examples/$name.bin" "$root/examples/$name.dump"
+    done
+done
+echo "library: $requests requests for memory refused, each once, by ${names[*]}"
+
+# Call by call, and what each leaves.
+wrapped="-Wl,--wrap=malloc,--wrap=realloc,--wrap=free $root/checks/refused.c $library"
+gcc $flags $sanitize -o refused-sanitized $wrapped
+gcc $flags -o refused $wrapped
+sections "$root/examples" "$folder/small" >few
+while read -r section size order; do ./refused-sanitized "$size" "$order" "$section"; done <few >requests
+echo "library: $(awk '{ calls += $1; requests += $3 } END { print calls " calls, " requests " requests for memory refused, each once" }' requests)"
+
+# ---- damaged sections, indexes, registers and windows: a status each time
+
+gcc $flags $sanitize -o damage-sanitized "$root/checks/damage.c" "$library"
+gcc $flags -o damage "$root/checks/damage.c" "$library"
+damaged="plain rules many big-endian"
+{
+    for name in $damaged; do echo "$root/examples/$name.bin $(cat "$root/examples/$name.target")"; done
+    sections "$folder/small"
+} >damaged
+while read -r section size order; do echo "./damage-sanitized $size $order $section 10000 >$(basename "$section").counts"; done <damaged | side_by_side
+for counts in *.counts; do echo "library: 10000 damaged copies of ${counts%.counts}: $(cat "$counts")"; done
+
+# ---- all of it under valgrind
+
+if has valgrind; then
+    # Rust's own library keeps a block to the end.
+    declare -A run=(
+        [gcc]="valgrind --quiet --error-exitcode=99 --leak-check=full --show-leak-kinds=all --errors-for-leak-kinds=all"
+        [rust]="valgrind --quiet --error-exitcode=99 --leak-check=full"
+    )
+    while read -r section size order; do
+        "$program" rows --size "$size" --order "$order" "$section" >rows
+        stop=stop-$(basename "$section")
+        mkdir "$stop"
+        "$root/checks/stops.py" "$size" "$order" rows "$stop" 8
+        for dump in "$stop"/*; do ! ./frames-gcc "$size" "$order" "$section" "$dump" >/dev/null 2>&1 || break; done
+        for build in gcc rust; do
+            [ -x "library-$build" ] || continue
+            echo "${run[$build]} ./library-$build normal $size $order $section >/dev/null"
+            echo "${run[$build]} ./library-$build same $size $order $section $section >/dev/null"
+            echo "${run[$build]} ./lookup-$build $size $order $section >/dev/null"
+            echo "${run[$build]} ./frames-$build $size $order $section $dump >/dev/null"
+        done
+        echo "${run[gcc]} ./damage $size $order $section 1000 >/dev/null"
+        echo "${run[gcc]} ./refused $size $order $section >/dev/null"
+    done <damaged >runs
+    for build in gcc rust; do
+        [ ! -x "frames-$build" ] || [ -z "${stopped:-}" ] || echo "${run[$build]} ./frames-$build $stopped >/dev/null"
+    done >>runs
+    side_by_side <runs
+    echo "library: no error and no leak in $(wc -l <runs) runs under valgrind"
 else
-    echo "library under valgrind: left out, for there is no valgrind"
+    echo "library under valgrind: $without"
 fi

@@ -9,13 +9,16 @@
  *
  * What a caller keeps:
  *
- * - No pointer is null, also where its length is 0: give the address of any byte then.
- * - A pointer with a length is to so many bytes; a length is at most PTRDIFF_MAX. A pointer to a struct or to a number is to
- *   one of it, aligned as C aligns it.
+ * - No pointer is null, also where its length or its room is 0: give the address of any one item then.
+ * - A pointer with a length, a count or a room behind it is to so many items of its type, one after another: bytes, addresses,
+ *   entries, rules, rows, blocks, registers or windows. Together they have at most PTRDIFF_MAX bytes. A pointer without one is to
+ *   one item. Each pointer is aligned as C aligns its type, also where there are no items.
  * - What a call reads does not change while it runs, and what it writes is read and written by nobody else. So what it writes
  *   shares no byte with what it reads, nor with anything else that it writes.
- * - Memory comes from malloc, realloc and free, and is given back before a call returns. So no call is made in a signal handler,
- *   nor in the child of a fork of a process with threads.
+ * - Memory comes from the program's malloc, realloc and free, and is given back before a call returns. A program that brings its
+ *   own lets the three be of one allocator, and aligns each block for any type: to 16 bytes, or where 16 does not divide its size
+ *   to the greatest power of two that does. No call is made in a signal handler, nor in the child of a fork of a process with
+ *   threads, where these may not be called.
  *
  * All else is answered: any bytes, any size, order, number and length of room have a status. No call keeps anything when it has
  * returned, so any number of threads may make calls at once.
@@ -92,7 +95,8 @@ typedef struct dwframe_refusal {
     uint64_t at;
 } dwframe_refusal;
 
-/* How many common information entries (CIEs) and frame description entries (FDEs) a section has. */
+/* How many common information entries (CIEs, whose CIE_id is all ones) and frame description entries (FDEs, each with the CIE_pointer
+   of its CIE) a section has (DWARF 5, 6.4.1). */
 typedef struct dwframe_counts {
     uint64_t cies;
     uint64_t fdes;
@@ -180,7 +184,8 @@ enum {
  */
 enum { DWFRAME_CFA_REGISTER = 1, DWFRAME_CFA_EXPRESSION = 2 };
 
-/* The rule of a register: its DWARF number and the kind. `other` and `offset` are 0 where the kind does not name them. */
+/* The rule of a register: its DWARF number and the kind. `other` and `offset` are 0 where the kind does not name them. Offsets are in
+   bytes here, as everywhere: data_alignment_factor is multiplied out, and so is code_alignment_factor in addresses. */
 typedef struct dwframe_rule {
     uint16_t number;
     uint16_t kind;
@@ -193,12 +198,15 @@ typedef struct dwframe_row {
     /* The first address of its FDE (initial_location), and how many it covers (address_range). */
     uint64_t begin;
     uint64_t range;
+    /* The offset of DW_CFA_def_cfa, in bytes. */
     int64_t cfa_offset;
     /* How many registers have a rule. */
     uint64_t count;
+    /* DWFRAME_CFA_REGISTER, DWFRAME_CFA_EXPRESSION or 0. */
     uint32_t cfa_kind;
+    /* The register of DW_CFA_def_cfa. */
     uint16_t cfa_register;
-    /* The number of the register that holds the return address. */
+    /* The number of the register that holds the return address (return_address_register). */
     uint16_t return_register;
 } dwframe_row;
 
@@ -274,8 +282,11 @@ typedef struct dwframe_stop {
     uint64_t pc;
     /* How many steps each expression may take. */
     uint64_t steps;
+    /* 4 or 8 (address_size). */
     uint8_t address_size;
+    /* DWFRAME_LITTLE or DWFRAME_BIG. */
     uint8_t byte_order;
+    /* DWFRAME_UNCHANGED or DWFRAME_UNDEFINED. */
     uint8_t unset;
 } dwframe_stop;
 
@@ -299,7 +310,7 @@ typedef struct dwframe_frame {
     uint64_t cfa;
     /* How many registers it has. */
     size_t count;
-    /* The number of the register that holds the return address. */
+    /* The number of the register that holds the return address (return_address_register). */
     uint32_t return_register;
 } dwframe_frame;
 

@@ -66,28 +66,29 @@ fn print_frame(frame: &Frame<'_>) {
     }
 }
 
-fn walk(section: &Section<'_>, mut dump: Dump, mut pc: u64, stack_pointer: u16) -> Result<(), Failure> {
+/// Prints the frames, and answers whether each stands above the one before.
+fn walk(section: &Section<'_>, mut dump: Dump, mut pc: u64, stack_pointer: u16) -> Result<bool, Failure> {
     let mut room = vec![Register::default(); 512];
     let (mut looked_up, mut last) = (pc, None);
     for index in 0_u32.. {
         println!("#{index} {pc:#x}");
         let frame = match section.unwind(&dump.machine(looked_up), Unset::Unchanged, STEPS, &mut room) {
-            Err(Failure::NoFde) => return Ok(()),
+            Err(Failure::NoFde) => return Ok(true),
             frame => frame?,
         };
         if last.is_some_and(|last| frame.cfa <= last) {
-            return Ok(());
+            return Ok(false);
         }
         last = Some(frame.cfa);
         let Some(address) = frame.return_address() else {
-            return Ok(());
+            return Ok(true);
         };
         // The caller's stack pointer is the CFA, and the call is one byte before the return address.
         dump.registers = vec![Register::new(stack_pointer, frame.cfa)];
         dump.registers.extend_from_slice(frame.registers);
         (pc, looked_up) = (address, address.saturating_sub(1));
     }
-    Ok(())
+    Ok(true)
 }
 
 fn main() -> ExitCode {
@@ -116,10 +117,17 @@ fn main() -> ExitCode {
     let mut room = vec![Register::default(); 65_536];
     let answer = Section::check(&bytes, target).and_then(|section| match rest {
         [stack_pointer] => walk(&section, dump, pc, stack_pointer.parse().unwrap_or(7)),
-        _ => section.unwind(&dump.machine(pc), Unset::Unchanged, STEPS, &mut room).map(|frame| print_frame(&frame)),
+        _ => {
+            print_frame(&section.unwind(&dump.machine(pc), Unset::Unchanged, STEPS, &mut room)?);
+            Ok(true)
+        }
     });
     match answer {
-        Ok(()) => ExitCode::SUCCESS,
+        Ok(true) => ExitCode::SUCCESS,
+        Ok(false) => {
+            eprintln!("a frame does not stand above the one before");
+            ExitCode::from(2)
+        }
         Err(failure) => {
             eprintln!("{failure}");
             ExitCode::from(if failure == Failure::OutOfMemory { 5 } else { 2 })

@@ -1,0 +1,131 @@
+//! The caller's frame of a machine that stopped.
+
+use crate::failure::{Failure, answer, fault_of};
+use crate::raw::*;
+use crate::Section;
+
+/// What a register is taken as that no instruction has set: the ABI decides.
+#[derive(Clone, Copy, Debug, PartialEq, Eq)]
+pub enum Unset {
+    /// It has not been changed.
+    Unchanged,
+    /// It has no value.
+    Undefined,
+}
+
+/// A register by its DWARF number, with its value where that is known.
+#[repr(C)]
+#[derive(Clone, Copy, Debug, Default, PartialEq, Eq)]
+pub struct Register {
+    number: u16,
+    known: u16,
+    value: u64,
+}
+
+impl Register {
+    /// A register that holds a value.
+    pub const fn new(number: u16, value: u64) -> Register {
+        Register { number, known: 1, value }
+    }
+
+    /// Its number.
+    pub fn number(&self) -> u16 {
+        self.number
+    }
+
+    /// Its value, where that is known.
+    pub fn value(&self) -> Option<u64> {
+        (self.known != 0).then_some(self.value)
+    }
+}
+
+/// `len` bytes of a machine's memory from `address` on, which stand in a buffer from its byte `place` on.
+#[repr(C)]
+#[derive(Clone, Copy, Debug, PartialEq, Eq)]
+pub struct Window {
+    /// The first address.
+    pub address: u64,
+    /// Where its byte stands.
+    pub place: u64,
+    /// How many bytes.
+    pub len: u64,
+}
+
+/// A machine that stopped.
+#[derive(Clone, Copy, Debug, PartialEq, Eq)]
+pub struct Machine<'a> {
+    /// The address that is looked up. Of a caller's frame it is the return address minus one, which is in the call.
+    pub pc: u64,
+    /// Its registers. Of those with one number the first that is known counts.
+    pub registers: &'a [Register],
+    /// What its memory holds: a byte is that of the first window that covers its address.
+    pub windows: &'a [Window],
+    /// The bytes of all windows.
+    pub memory: &'a [u8],
+}
+
+/// A caller's frame.
+#[derive(Clone, Copy, Debug, PartialEq, Eq)]
+pub struct Frame<'a> {
+    /// The canonical frame address.
+    pub cfa: u64,
+    /// The number of the register that holds the return address: `return_address_register` of the CIE (6.4.1).
+    pub return_register: u16,
+    /// The registers, ascending.
+    pub registers: &'a [Register],
+}
+
+impl Frame<'_> {
+    /// The return address, where it is known.
+    pub fn return_address(&self) -> Option<u64> {
+        let register = self.registers.iter().find(|register| register.number == self.return_register)?;
+        register.value()
+    }
+}
+
+impl Section<'_> {
+    /// The caller's frame of a machine that stopped, by the section's rules for its pc. Each expression may take `steps` steps.
+    /// The registers are written to `out`, which stays where they do not fit (`TooShort`), where no FDE covers the pc (`NoFde`), or
+    /// where a column has no value (`Fault`).
+    pub fn unwind<'o>(
+        &self,
+        machine: &Machine<'_>,
+        unset: Unset,
+        steps: u64,
+        out: &'o mut [Register],
+    ) -> Result<Frame<'o>, Failure> {
+        let (address_size, byte_order) = self.target.numbers();
+        let unset = match unset {
+            Unset::Unchanged => DWFRAME_UNCHANGED,
+            Unset::Undefined => DWFRAME_UNDEFINED,
+        };
+        let stop = RawStop { pc: machine.pc, steps, address_size, byte_order, unset };
+        let (registers, windows, memory) = (machine.registers, machine.windows, machine.memory);
+        let (mut frame, mut refusal, mut fault) = Default::default();
+        // SAFETY: all slices and structs are lent for the call, and those that are written are ours alone.
+        let status = unsafe {
+            dwframe_unwind(
+                self.bytes.as_ptr(),
+                self.bytes.len(),
+                &stop,
+                registers.as_ptr(),
+                registers.len(),
+                windows.as_ptr(),
+                windows.len(),
+                memory.as_ptr(),
+                memory.len(),
+                out.as_mut_ptr(),
+                out.len(),
+                &mut frame,
+                &mut refusal,
+                &mut fault,
+            )
+        };
+        let RawFrame { cfa, count, return_register } = frame;
+        if let Some(fault) = fault_of(status, fault) {
+            return Err(fault);
+        }
+        answer(status, refusal, count)?;
+        Ok(Frame { cfa, return_register: return_register as u16, registers: &out[..count] })
+    }
+}
