@@ -31,8 +31,9 @@ fn are_specified(row: &Row<'_>)
     let _ = row.specified();
 }
 
-/// The machine behind a CIE's program: it runs the programs of the CIE's FDEs one after another, and runs the CIE's
-/// own once. A contract sees the initial row, the factors and the target, and of the FDE that is run what `RowSteps`
+/// The machine behind a CIE's program: it runs the programs of the CIE's FDEs (`instructions`, 6.4.1) one after another, and
+/// runs the CIE's own (`initial_instructions`) once, as 6.4.3 says. A contract sees the initial row, the factors
+/// (`code_alignment_factor`, `data_alignment_factor`) and the target, and of the FDE that is run what `RowSteps`
 /// shows: the rows still to come, the refusal behind them, the row that is lent, and the error that was answered.
 #[derive(Drop)]
 pub struct CieMachine<'a> {
@@ -55,8 +56,8 @@ impl<'a> Model for CieMachine<'a> {
 }
 
 impl<'a> CieMachine<'a> {
-    /// Runs a CIE's program. No row is to come until an FDE's program begins. Otherwise the first refusal, or want of
-    /// memory. Refusals are those of `initial_row`.
+    /// Runs a CIE's program (`initial_instructions`, 6.4.1). No row is to come until an FDE's program begins. Otherwise the first
+    /// refusal, or want of memory. Refusals are those of `initial_row`.
     pub fn new(
         alloc: Global,
         cie_program: Program<'a>,
@@ -83,7 +84,8 @@ impl<'a> CieMachine<'a> {
         })
     }
 
-    /// The row that the CIE's program leaves.
+    /// The row that the CIE's program leaves (6.4.1, 6.4.3). `DW_CFA_restore` and `DW_CFA_restore_extended` give a register the
+    /// rule that it has there (6.4.2.3).
     pub fn initial(&self) -> &Row<'a>
         ensures { result.now ≡ self.now.initial }
     {
@@ -110,9 +112,9 @@ impl<'a> CieMachine<'a> {
         Ok(())
     }
 
-    /// Begins an FDE's program at an address `begin` of the target, or answers want of memory. What an FDE before it
-    /// changed is taken back first. Behind want of memory `advance` answers it, until a program begins again, and `row` lends
-    /// some row.
+    /// Begins an FDE's program (`instructions`, 6.4.1) at an address `begin` of the target, which is `initial_location` of that
+    /// FDE where its rows are asked for, or answers want of memory. What an FDE before it changed is taken back first. Behind
+    /// want of memory `advance` answers it, until a program begins again, and `row` lends some row.
     pub fn begin(&mut self, fde_program: Program<'a>, begin: u64) -> Result<(), AllocError>
         requires { begin < address_limit self.old.target.size }
         ensures ok { OnOk result (self.new ≡ with_steps self.old (stepping self.old.initial self.new.steps.outcome)) }
@@ -125,8 +127,8 @@ impl<'a> CieMachine<'a> {
         self.start(fde_program, begin)
     }
 
-    /// Goes on to the next row of the FDE, which `row` lends then, and answers the location that it starts at, or none
-    /// behind the last row. No row is copied. A refusal, or want of memory, is answered from then on. Refusals are those of
+    /// Goes on to the next row of the FDE (6.4.1, 6.4.3), which `row` lends then, and answers the location that it starts at, or
+    /// none behind the last row. No row is copied. A refusal, or want of memory, is answered from then on. Refusals are those of
     /// `Instructions`, and `LocationBackwards`, `LocationTooLarge`, `EmptyStateStack`, `StateStackFull` and `CfaNotRegister`.
     pub fn advance(&mut self) -> Result<Option<u128>, ReadError>
         ensures advances { Advances self.old.steps result self.new.steps }
@@ -145,9 +147,9 @@ impl<'a> CieMachine<'a> {
         Ok(Some(answer?.0))
     }
 
-    /// Runs the program that began to its end, and says whether the rows still to come leave an address below the end
-    /// without a rule for the CFA. No row is to come then, and a refusal, or want of memory, is answered from then on. Refusals are
-    /// those of `advance`.
+    /// Runs the program that began to its end, and says whether the rows still to come leave an address below the end without a
+    /// rule for the CFA (6.4.1, 6.4.2.2). No row is to come then, and a refusal, or want of memory, is answered from then on.
+    /// Refusals are those of `advance`.
     pub fn lacks_rule(&mut self, end: u128) -> Result<bool, ReadError>
         requires { self.old.steps.error ≡ None }
         ensures found { IfOk result (λ lacks. (self.old.steps.outcome.fault ≡ None) × MatchBool lacks (Lacks end self.old.steps.outcome.rows) (Lacks end self.old.steps.outcome.rows → ⊥)) }
@@ -174,7 +176,7 @@ impl<'a> CieMachine<'a> {
         }
     }
 
-    /// The row that `advance` went on to.
+    /// The row (6.4.1) that `advance` went on to.
     pub fn row(&self) -> &Row<'a>
         ensures { result.now ≡ self.now.steps.current }
     {

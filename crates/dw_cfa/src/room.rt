@@ -55,8 +55,8 @@ fn run_both<'a>(
     Ok(())
 }
 
-/// Room in which programs are run up to the row of an address. No row is made at a run but the first. A contract sees the
-/// row that was run to.
+/// Room in which programs (`initial_instructions` of a CIE, `instructions` of an FDE, 6.4.1) are run up to the row of an address
+/// (6.4.3). No row is made at a run but the first. A contract sees the row that was run to.
 #[derive(Drop)]
 pub struct RowRoom<'a> {
     // Nothing was run yet.
@@ -77,7 +77,7 @@ impl<'a> Model for RowRoom<'a> {
 }
 
 impl<'a> RowRoom<'a> {
-    /// Room with a row in which nothing is set. Takes no memory.
+    /// Room with a row (6.4.1) in which nothing is set. Takes no memory.
     #[inline(always)]
     pub fn new(alloc: Global) -> RowRoom<'a>
         ensures { result ≡ blank }
@@ -116,9 +116,10 @@ impl<'a> RowRoom<'a> {
         run_both(&mut cie, &mut fde, factors, &mut self.machine, address)
     }
 
-    /// Runs two programs, from an address `begin` of the target on, up to the last row that starts at or below an address,
-    /// which `row` lends then. `begin` is not above that address. A refusal that comes up to there is answered, or want of
-    /// memory. Refusals are those of `run`.
+    /// Runs two programs (`initial_instructions`, `instructions`), from an address `begin` of the target on (`initial_location`
+    /// of the FDE where its row is asked for), by the factors `code_alignment_factor` and `data_alignment_factor` of the CIE, up
+    /// to the last row that starts at or below an address, which `row` lends then. `begin` is not above that address. A refusal
+    /// that comes up to there is answered, or want of memory. Refusals are those of `run`.
     pub fn run_to(
         &mut self,
         cie_program: Program<'a>,
@@ -140,7 +141,7 @@ impl<'a> RowRoom<'a> {
         self.run(cie_program, fde_program, begin, factors, target, address)
     }
 
-    /// The row that was run to.
+    /// The row (6.4.1) that was run to.
     pub fn row(&self) -> &Row<'a>
         ensures { result.now ≡ self.now }
     {

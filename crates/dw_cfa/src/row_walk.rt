@@ -164,10 +164,11 @@ fn walk_to<'a>(
     }
 }
 
-/// The rows of one FDE after another, in room that is kept, where it is known that their programs give rows to their
-/// end: no expression is judged again. A CIE's program is run where the FDE before had another CIE; else what the FDE
-/// before changed is taken back. A row can be kept, and the rows behind it are compared with it by what was set since. A
-/// contract sees what it sees of `RowSteps`, the row that was kept, and the CIE's row while rows are to come behind another.
+/// The rows (6.4.1, 6.4.3) of one FDE after another, in room that is kept, where it is known that their programs
+/// (`initial_instructions`, `instructions`) give rows to their end: no expression is judged again. A CIE's program is run where
+/// the FDE before had another CIE; else what the FDE before changed is taken back. A row can be kept, and the rows behind it are
+/// compared with it by what was set since. A contract sees what it sees of `RowSteps`, the row that was kept, and the CIE's row
+/// while rows are to come behind another.
 #[derive(Drop)]
 pub struct RowWalk<'a> {
     progress: Progress,
@@ -190,7 +191,7 @@ impl<'a> Model for RowWalk<'a> {
 }
 
 impl<'a> RowWalk<'a> {
-    /// No row is to come until `go_to` names programs. Takes no memory.
+    /// No row (6.4.1) is to come until `go_to` names programs. Takes no memory.
     pub fn new(alloc: Global, target: Target) -> RowWalk<'a>
         ensures { result ≡ record { steps = stepping blank finished; kept = blank; led = unled target; initial = None } }
     {
@@ -217,8 +218,10 @@ impl<'a> RowWalk<'a> {
         }
     }
 
-    /// Goes to the rows of two programs that are known to give rows to their end, from an address `begin` of the target
-    /// on. Takes no memory: they are run by `advance`, also where an error was answered before.
+    /// Goes to the rows of two programs, `initial_instructions` of a CIE and `instructions` of an FDE (6.4.1), that are known to
+    /// give rows to their end, from an address `begin` of the target on, which is `initial_location` where the FDE's rows are
+    /// asked for. `factors` are `code_alignment_factor` and `data_alignment_factor` of the CIE. Takes no memory: they are run by
+    /// `advance`, also where an error was answered before.
     #[tactic(auto, using(crate::proofs::Lent::Given::faultless))]
     pub fn go_to(
         &mut self,
@@ -241,8 +244,8 @@ impl<'a> RowWalk<'a> {
         self.lead_to(cie_program, fde_program, begin, factors, target);
     }
 
-    /// Goes to the rows of another FDE's program behind the CIE that `go_to` named last, in the same way. No program of a
-    /// CIE is compared.
+    /// Goes to the rows of another FDE's program (`instructions`, 6.4.1) behind the CIE that `go_to` named last, in the same way.
+    /// No program of a CIE is compared.
     #[tactic(auto, using(crate::proofs::Lent::Given::faultless))]
     pub fn go_on(&mut self, fde_program: Program<'a>, begin: u64)
         requires begin { begin < address_limit self.old.led.program.target.size }
@@ -303,7 +306,7 @@ impl<'a> RowWalk<'a> {
         self.progress = Progress::Begun;
     }
 
-    /// Goes on to the next row, which `row` lends then, and answers the location that it starts at, or none behind
+    /// Goes on to the next row (6.4.1, 6.4.3), which `row` lends then, and answers the location that it starts at, or none behind
     /// the last row. No row is copied. Want of memory is answered from then on, until `go_to`.
     #[inline(always)]
     pub fn advance(&mut self) -> Result<Option<u128>, ReadError>
@@ -336,8 +339,8 @@ impl<'a> RowWalk<'a> {
         Ok(Some(answer?.0))
     }
 
-    /// Goes on to the last row that starts at or below an address, which `row` lends then, where one of those still to come
-    /// does, and else stays. Those that start above it are still to come. No row is copied. Want of memory is answered from
+    /// Goes on to the last row that starts at or below an address (6.4.3), which `row` lends then, where one of those still to
+    /// come does, and else stays. Those that start above it are still to come. No row is copied. Want of memory is answered from
     /// then on, until `go_to`.
     pub fn advance_to(&mut self, address: u64) -> Result<(), ReadError>
         requires no_error { self.old.steps.error ≡ None }
@@ -371,14 +374,14 @@ impl<'a> RowWalk<'a> {
         Ok(())
     }
 
-    /// The row that `advance` went on to.
+    /// The row (6.4.1) that `advance` went on to.
     pub fn row(&self) -> &Row<'a>
         ensures { result.now ≡ self.now.steps.current }
     {
         self.machine.states.row()
     }
 
-    /// Keeps the row that is lent, or answers want of memory, behind which it is some row that is kept. What was set
+    /// Keeps the row (6.4.1) that is lent, or answers want of memory, behind which it is some row that is kept. What was set
     /// since a row was kept is copied alone.
     #[inline(always)]
     pub fn keep(&mut self) -> Result<(), AllocError>
@@ -390,14 +393,14 @@ impl<'a> RowWalk<'a> {
         self.machine.states.keep()
     }
 
-    /// The row that `keep` kept, and before it some row.
+    /// The row (6.4.1) that `keep` kept, and before it some row.
     pub fn kept(&self) -> &Row<'a>
         ensures { result.now ≡ self.now.kept }
     {
         self.machine.states.kept()
     }
 
-    /// Whether the row that is lent is the one that was kept. Registers that were set since are compared alone. Takes no
+    /// Whether the row (6.4.1) that is lent is the one that was kept. Registers that were set since are compared alone. Takes no
     /// memory.
     #[inline(always)]
     pub fn is_kept(&self) -> bool
@@ -406,7 +409,7 @@ impl<'a> RowWalk<'a> {
         self.machine.states.is_kept()
     }
 
-    /// The least register to which the row that is lent gives another rule than the one that was kept, of those behind a
+    /// The least register to which the row that is lent gives another rule (6.4.1) than the one that was kept, of those behind a
     /// given one where there is such; or none. Registers that were set since are compared alone. Takes no memory.
     #[inline(always)]
     pub fn next_difference(&self, behind: Option<u16>) -> Option<u16>
@@ -417,7 +420,7 @@ impl<'a> RowWalk<'a> {
         self.machine.states.next_difference(behind)
     }
 
-    /// The location that the next row starts at, which is where the row that is lent ends. None behind the last row, and
+    /// The location (6.4.1) that the next row starts at, which is where the row that is lent ends. None behind the last row, and
     /// after an error.
     pub fn next_start(&self) -> Option<u128>
         ensures next { (row : LocatedRow) (rows : List LocatedRow) → self.now.steps.outcome.rows ≡ row ∷ rows → result ≡ Some row.location }
@@ -430,8 +433,9 @@ impl<'a> RowWalk<'a> {
         }
     }
 
-    /// Whether no row is to come, or rows are to come behind one that was gone on to and the CIE's row specifies every
-    /// register that a row specifies. Then each row still to come specifies them too. Takes no memory.
+    /// Whether no row is to come, or rows are to come behind one that was gone on to and the CIE's row (that of its
+    /// `initial_instructions`, 6.4.1) specifies every register that a row specifies. Then each row still to come specifies them
+    /// too. Takes no memory.
     pub fn keeps(&self, row: &Row<'_>) -> bool
         ensures keeps { IsTrue result → AllKeep row.now self.now.steps.outcome.rows }
         ensures exact { IsTrue result ↔ CieKeeps self.now row.now }

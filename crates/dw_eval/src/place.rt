@@ -6,7 +6,7 @@ ghost use Rattle.dw_eval.specs.Inner.Roles.{role};
 use dw_op::Op;
 
 /// Where a value, or a piece of it, stands.
-#[derive(Clone, Copy, Debug)]
+#[derive(Clone, Copy, Debug, PartialEq, Eq)]
 pub enum Place<'a> {
     /// Nowhere: an empty location description (2.6.1.1.4).
     Empty,
@@ -32,7 +32,7 @@ pub enum Part {
 }
 
 /// A part of a value, and its place.
-#[derive(Clone, Copy, Debug)]
+#[derive(Clone, Copy, Debug, PartialEq, Eq)]
 pub struct Piece<'a> {
     /// Where it stands.
     pub place: Place<'a>,

@@ -4,7 +4,7 @@ ghost use Rattle.std.specs.Prelude.{◌+◌, ◌≤◌, length};
 
 /// The instructions of an entry (`initial_instructions` of a CIE and `instructions` of an FDE, 6.4.1, with their `padding`): a
 /// slice of a section and its place there. The place of its end is at most 2,147,483,647, the longest section that is read.
-#[derive(Clone, Copy, Debug)]
+#[derive(Clone, Copy, Debug, PartialEq, Eq)]
 pub struct Program<'a> {
     /// The bytes of the instructions, `DW_CFA_nop`s of the padding among them.
     pub bytes: &'a [u8],

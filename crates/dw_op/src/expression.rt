@@ -25,7 +25,9 @@ use std::alloc::{AllocError, Global};
 use std::hash::{Hash, Hasher};
 use std::marker::Model;
 
-/// A block of the frame profile, borrowed, with its target. It stands for the list of its operations.
+/// A DWARF expression (2.5, 7.7.1): a block of the frame profile, borrowed, with its target. It stands for the list of its
+/// operations. The operand of `DW_CFA_def_cfa_expression` (6.4.2.2), `DW_CFA_expression` or `DW_CFA_val_expression` (6.4.2.3) is
+/// such a block behind its length: an `exprloc` or a block of 7.5.5.
 #[derive(Debug, Drop)]
 pub struct ExprRef<'a> {
     target: Target,
@@ -45,8 +47,8 @@ impl<'a> Model for ExprRef<'a> {
     ghost invariant = { λ e. IsAccepted e.target e.bytes.now × AreBytes e.bytes.now };
 }
 
-/// An iterator over the operations of an expression. A branch names the operation that it goes to. Takes
-/// no memory.
+/// An iterator over the operations of an expression (2.5.1). A branch (`DW_OP_bra`, `DW_OP_skip`, 2.5.1.5) names the operation
+/// that it goes to. Takes no memory.
 #[derive(Drop)]
 pub struct OpSteps<'a> {
     walker: Walker<'a>,
@@ -102,7 +104,7 @@ impl<'a> Iterator for OpSteps<'a> {
 }
 
 impl<'a> ExprRef<'a> {
-    /// The expression whose block these bytes are for a target, or their first fault: the refusals of
+    /// The expression (2.5) whose block (7.7.1) these bytes are for a target, or their first fault: the refusals of
     /// `decode` in the frame profile, at places that count from the block's first byte. Takes no memory.
     pub fn accept(bytes: &'a [u8], target: Target) -> Result<ExprRef<'a>, Refusal>
         // What is answered stands for operations that have this block.
@@ -119,7 +121,7 @@ impl<'a> ExprRef<'a> {
         Ok(ExprRef { target, bytes })
     }
 
-    /// The expression of a block that was accepted before, which is not judged again.
+    /// The expression (2.5) of a block (7.7.1) that was accepted before, which is not judged again.
     pub fn known(bytes: &'a [u8], target: Target) -> ExprRef<'a>
         requires { (ops : List Op) × FrameBlock target ops bytes.now }
         ensures target { result.target ≡ target }
@@ -129,7 +131,7 @@ impl<'a> ExprRef<'a> {
         ExprRef { target, bytes }
     }
 
-    /// The target that the expression is for.
+    /// The target that the expression is for: the size of its addresses (`DW_OP_addr`, 2.5.1.1), and the order of its bytes.
     pub fn target(&self) -> Target
         ensures value { result ≡ self.now.target }
         ensures block { (bytes : List ℕ) × FrameBlock self.now.target self.now.ops bytes }
@@ -137,7 +139,7 @@ impl<'a> ExprRef<'a> {
         self.target
     }
 
-    /// The same expression once more.
+    /// The same expression (2.5) once more.
     pub fn copied(&self) -> ExprRef<'a>
         ensures { result ≡ self.now }
     {
@@ -147,14 +149,14 @@ impl<'a> ExprRef<'a> {
         }
     }
 
-    /// A walk over the operations. Takes no memory.
+    /// A walk over the operations (2.5.1). Takes no memory.
     pub fn steps(&self) -> OpSteps<'a>
         ensures { result ≡ self.now.ops }
     {
         OpSteps::new(self.bytes, self.target)
     }
 
-    /// The operations as a list, or want of memory.
+    /// The operations (2.5.1) as a list, or want of memory.
     #[tactic(auto, using(crate::proofs::Judgement::list_is))]
     pub fn ops(&self, alloc: Global) -> Result<OpList<'a>, AllocError>
         ensures { IfOk result (λ list. list ≡ self.now) }
@@ -167,7 +169,7 @@ impl<'a> ExprRef<'a> {
 }
 
 impl<'a> ExprRef<'a> {
-    /// Whether two expressions have equal targets and equal lists of operations, which blocks of
+    /// Whether two expressions (2.5) have equal targets and equal lists of operations, which blocks of
     /// different bytes may have. Blocks of equal bytes are told without a walk. Takes no memory.
     pub fn is_same(&self, other: &ExprRef<'_>) -> bool
         ensures { IsTrue result ↔ self.now ≡ other.now }
@@ -183,7 +185,7 @@ impl<'a> ExprRef<'a> {
 }
 
 impl<'a> ExprRef<'a> {
-    /// The length of the block of the operations' least spellings. Takes no memory.
+    /// The length of the block of the operations' least spellings (7.7.1). Takes no memory.
     #[tactic(auto, using(crate::proofs::PlainBlocks::accepted_small))]
     pub fn least_len(&self) -> usize
         ensures { (least : List ℕ) × LeastBlock self.now.target self.now.ops least × (result ≡ length least) }
@@ -206,7 +208,7 @@ impl<'a> ExprRef<'a> {
         put_steps(self.steps(), lengths, self.target, out)
     }
 
-    /// Appends the block of the operations' least spellings, or appends nothing where memory runs out. No
+    /// Appends the block of the operations' least spellings (7.7.1), or appends nothing where memory runs out. No
     /// other memory is taken.
     pub fn put_least(&self, out: &mut Vec<u8>) -> Result<(), AllocError>
         ensures ok { OnOk result (IsAppended (LeastBlock self.now.target self.now.ops) out.old.items out.new.items) }

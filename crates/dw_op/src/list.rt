@@ -6,15 +6,17 @@ ghost use Rattle.dw_op.specs.Expression.{Expression, bare};
 ghost use Rattle.dw_op.specs.Ranges.{InRange, AllInRange, FirstBadOperand};
 ghost use Rattle.dw_op.specs.Inner.Ranges.{Fits};
 
+use crate::equality::same_ops;
 use crate::op::{Op, are_typed};
 use dw_num::{Size, Target};
 use std::error::Error;
 use std::fmt;
 use std::marker::Model;
 
-/// Operations for a target, which are in range for it: constants and addresses below 2^N, where an
-/// address has N bits; the sizes of `DerefSize` from 1 to N/8; branches to an operation of the list
-/// or to its end.
+/// Operations of a DWARF expression (2.5) or of a location description (2.6) for a target, which are in range for it:
+/// constants (`Op::Const`) and addresses (`DW_OP_addr`) below 2^N, where an address has N bits (2.5.1.1); the sizes of
+/// `DW_OP_deref_size` from 1 to N/8 (2.5.1.3); branches (`DW_OP_bra`, `DW_OP_skip`, 2.5.1.5) to an operation of the list or to
+/// its end. A block (7.7.1) of an `exprloc` spells such a list.
 #[derive(Drop)]
 pub struct OpList<'a> {
     target: Target,
@@ -103,7 +105,7 @@ fn first_bad(ops: &[Op<'_>], target: Target) -> Option<usize>
 }
 
 impl<'a> OpList<'a> {
-    /// A list of these operations, or the first one that is out of range for the target. A list that
+    /// A list of these operations (2.5.1, 2.6.1), or the first one that is out of range for the target. A list that
     /// is refused is dropped. Takes no memory.
     #[tactic(auto, using(crate::proofs::Lent::Ranges::not_in_range))]
     pub fn from_ops(ops: Vec<Op<'a>>, target: Target) -> Result<OpList<'a>, BadOperand>
@@ -128,32 +130,57 @@ impl<'a> OpList<'a> {
         OpList { target, ops }
     }
 
-    /// The target that the operations are for.
+    /// The target that the operations are for: the size of their addresses (`DW_OP_addr`, 2.5.1.1), and the order of their bytes.
     pub fn target(&self) -> Target
         ensures { result ≡ self.now.target }
     {
         self.target
     }
 
-    /// How many operations there are.
+    /// How many operations (2.5.1, 2.6.1) there are.
     pub fn len(&self) -> usize
         ensures { result ≡ length self.now.ops }
     {
         self.ops.len()
     }
 
-    /// Whether there is no operation.
+    /// Whether there is no operation (2.5.1, 2.6.1).
     pub fn is_empty(&self) -> bool
         ensures { IsTrue result ↔ self.now.ops ≡ [] }
     {
         self.ops.is_empty()
     }
 
-    /// The operations in order, which are in range for the target.
+    /// The operations (2.5.1, 2.6.1) in order, which are in range for the target.
     pub fn ops(&self) -> &[Op<'a>]
         ensures same { map bare result.now ≡ self.now.ops }
         ensures in_range { AllInRange self.now.target self.now.ops }
     {
         self.ops.as_slice()
     }
+}
+
+// Two lists are equal where they have equal targets and the same operations: bytes of `DW_OP_implicit_value` are compared
+// wherever they lie.
+impl<'a> PartialEq for OpList<'a> {
+    ghost use Rattle.std.specs.Prelude.{◌≡◌, IsTrue, ◌↔◌};
+    ghost use Rattle.dw_op.specs.Inner.Equality.{same_expression};
+    ghost use Rattle.dw_op.specs.Inner.EqualityLaws.{same_laws};
+
+    ghost eq = { same_expression };
+
+    ghost laws = { same_laws };
+
+    fn eq(&self, other: &OpList<'a>) -> bool
+        ensures test { result ≡ same_expression self.now other.now }
+        ensures equal { IsTrue result ↔ self.now ≡ other.now }
+    {
+        self.target == other.target && same_ops(&self.ops, &other.ops)
+    }
+}
+
+impl<'a> Eq for OpList<'a> {
+    ghost use Rattle.dw_op.specs.Inner.EqualityLaws.{equal_laws};
+
+    ghost laws = { equal_laws };
 }

@@ -90,8 +90,9 @@ fn next_change(
     find_change(steps, *kept, end)
 }
 
-/// The changes of an FDE: its begin, and each address below its end at which the rule of some column is not that
-/// one address before, ascending, each with the rules there. A contract sees the section, and the changes still to come.
+/// The changes of an FDE (6.4.1, 6.4.3): its begin (`initial_location`), and each address below its end (that plus
+/// `address_range`) at which the rule of some column, the CFA's or a register's, is not that one address before, ascending,
+/// each with the rules there. A contract sees the section, and the changes still to come.
 #[derive(Drop)]
 pub struct Changes<'a> {
     bytes: &'a [u8],
@@ -185,7 +186,7 @@ impl<'a> Changes<'a> {
         self.failed = false;
     }
 
-    /// Goes on to the next change, whose row `row` lends then, and answers its address, or none behind the last one. Want
+    /// Goes on to the next change, whose row (6.4.1) `row` lends then, and answers its address, or none behind the last one. Want
     /// of memory is answered from then on. An address is below the FDE's end, so below 2^N, where an address has N bits.
     #[inline(always)]
     pub fn advance(&mut self) -> Result<Option<u128>, AllocError>
@@ -203,8 +204,8 @@ impl<'a> Changes<'a> {
         change
     }
 
-    /// The row of the change that `advance` or `next` went on to, also behind the last one, and none before the first one. Behind
-    /// want of memory it is some row, or none.
+    /// The row (6.4.1) of the change that `advance` or `next` went on to, also behind the last one, and none before the first
+    /// one. Behind want of memory it is some row, or none.
     #[inline(always)]
     pub fn row(&self) -> Option<&Row<'a>>
         ensures { MatchOption result (self.now.shown ≡ None) (λ row. self.now.shown ≡ Some row.now) }
@@ -215,7 +216,7 @@ impl<'a> Changes<'a> {
         kept_row(&self.steps, self.kept)
     }
 
-    /// The row of the change before the one that `row` lends. None at the first change, and behind the last one.
+    /// The row (6.4.1) of the change before the one that `row` lends. None at the first change, and behind the last one.
     #[inline(always)]
     pub fn before(&self) -> Option<&Row<'a>>
         ensures { MatchOption result (self.now.before ≡ None) (λ row. self.now.before ≡ Some row.now) }
@@ -226,7 +227,7 @@ impl<'a> Changes<'a> {
         None
     }
 
-    /// The least register to which the change that is shown gives another rule than the change before it, of those behind
+    /// The least register to which the change that is shown gives another rule (6.4.1) than the change before it, of those behind
     /// a given one where there is such; or none. Takes no memory.
     #[inline(always)]
     pub fn next_difference(&self, behind: Option<u16>) -> Option<u16>
@@ -253,7 +254,7 @@ impl<'a> Changes<'a> {
         }
     }
 
-    /// The next change with its row, or none behind the last one. Want of memory is answered from then on.
+    /// The next change with its row (6.4.1), or none behind the last one. Want of memory is answered from then on.
     pub fn next(&mut self) -> Result<Option<(u128, Row<'a>)>, AllocError>
         ensures gives { GivesChange self.old result self.new }
         ensures again { self.old.failed ≡ true → IsErr result }

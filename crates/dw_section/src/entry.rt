@@ -46,12 +46,12 @@ pub struct Entry {
     pub length: u64,
 }
 
-/// How many entries of each kind a section has.
+/// How many entries of each kind a section has (6.4.1).
 #[derive(Clone, Copy, Debug, PartialEq, Eq)]
 pub struct EntryCounts {
-    /// Common information entries (CIEs).
+    /// Common information entries (CIEs): those whose `CIE_id` is all ones.
     pub cies: usize,
-    /// Frame description entries (FDEs).
+    /// Frame description entries (FDEs): those that have a `CIE_pointer`.
     pub fdes: usize,
 }
 

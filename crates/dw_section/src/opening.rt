@@ -18,25 +18,28 @@ use crate::table::Table;
 use dw_cfa::{Factors, FirstRow, first_row};
 use dw_num::Target;
 
-/// A row that FDEs of one CIE begin with: the one that the program of the CIE leaves, or that with another offset of the CFA.
+/// A row (6.4.1) that FDEs of one CIE begin with: the one that the program of the CIE (`initial_instructions`) leaves, or that
+/// with another offset of the CFA (6.4.2.2).
 #[derive(Clone, Copy, Debug, PartialEq, Eq)]
 pub struct CieRow {
-    /// The place of the CIE.
+    /// The place of the CIE in the section, which is `CIE_pointer` of those FDEs (6.4.1).
     pub cie_at: u64,
-    /// The offset of the CFA that the programs of the FDEs give, or none where the CFA is the CIE's.
+    /// The offset of the CFA that the programs of the FDEs give by `DW_CFA_def_cfa_offset` or `DW_CFA_def_cfa_offset_sf`
+    /// (6.4.2.2), or none where the CFA's rule is the one of the CIE's row.
     pub cfa_offset: Option<i64>,
 }
 
 /// The program of an FDE (6.4.3), how long that of its CIE is, and how its own begins.
 #[derive(Clone, Copy, Debug, PartialEq, Eq)]
 pub struct Opening<'a> {
-    /// `instructions` of the FDE.
+    /// `instructions` of the FDE (6.4.1, 6.4.2), with the padding.
     pub program: &'a [u8],
-    /// What it is read with: `code_alignment_factor` and `data_alignment_factor` of its CIE.
+    /// What it is read with: `code_alignment_factor` and `data_alignment_factor` of its CIE (6.4.1).
     pub factors: Factors,
-    /// How many bytes `initial_instructions` of its CIE has.
+    /// How many bytes `initial_instructions` of its CIE (6.4.1) has, with the padding.
     pub initial: usize,
-    /// The row at its begin, where the first instructions of its own program tell it (`first_row` of `dw_cfa`).
+    /// The row at its begin, `initial_location` (6.4.1), where the first instructions of its own program tell it (`first_row` of
+    /// `dw_cfa`).
     pub row: Option<CieRow>,
 }
 

@@ -31,8 +31,8 @@ fn row_in<'a>(
     }
 }
 
-/// Look-ups of addresses in a table, one after another, in room that is kept. A contract sees the section, and the FDE and the row
-/// that were found last.
+/// Look-ups of addresses in a table, one after another, in room that is kept (6.4.1, 6.4.3). A contract sees the section, and the
+/// FDE and the row that were found last.
 #[derive(Drop)]
 pub struct Lookups<'t, 'a> {
     table: &'t Table<'a>,
@@ -62,8 +62,10 @@ impl<'t, 'a> Lookups<'t, 'a> {
         }
     }
 
-    /// Whether an FDE covers an address, or want of memory. `fde` lends it then and `row` the rules there, and else none. The FDE is found by halving,
-    /// and its program run up to the address, that of its CIE only where the look-up before found an FDE of another one.
+    /// Whether an FDE covers an address (one from `initial_location` on, below that plus `address_range`, 6.4.1), or want of
+    /// memory. `fde` lends it then and `row` the rules there, and else none. The FDE is found by halving, and its program
+    /// (`instructions`, 6.4.3) run up to the address, that of its CIE (`initial_instructions`) only where the look-up before
+    /// found an FDE of another one.
     pub fn find(&mut self, address: u64) -> Result<bool, AllocError>
         ensures found { (fs : List TheFde) → AreFdes self.old.section.target self.old.section.bytes fs → IfOk result (λ found. LooksUp self.old.section fs address found self.new.row) }
         ensures fde { (fs : List TheFde) → AreFdes self.old.section.target self.old.section.bytes fs → IfOk result (λ found. FindsFde fs address found self.new.fde) }
@@ -80,7 +82,7 @@ impl<'t, 'a> Lookups<'t, 'a> {
         Ok(true)
     }
 
-    /// The FDE that `find` found, and none where it found none.
+    /// The FDE (6.4.1) that `find` found, and none where it found none.
     pub fn fde(&self) -> Option<&StandingFde>
         ensures { MatchOption result (self.now.fde ≡ None) (λ fde. self.now.fde ≡ Some fde.now) }
     {
@@ -90,7 +92,7 @@ impl<'t, 'a> Lookups<'t, 'a> {
         None
     }
 
-    /// The row that `find` found, and none where it found none.
+    /// The row (6.4.1) that `find` found, and none where it found none.
     pub fn row(&self) -> Option<&Row<'a>>
         ensures { MatchOption result (self.now.row ≡ None) (λ row. self.now.row ≡ Some row.now) }
     {

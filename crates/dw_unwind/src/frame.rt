@@ -76,33 +76,37 @@ pub struct Frame {
     pub registers: FrameRegisters,
 }
 
-/// Why there is no frame, and the column that it comes from.
+/// Why there is no frame of the caller (6.4, 6.4.3), and the column of the row (6.4.1) that it comes from.
 #[derive(Clone, Copy, Debug, PartialEq, Eq)]
 pub enum UnwindError {
-    /// No FDE covers the address.
+    /// No FDE covers the address. One covers those from its `initial_location` on, below that plus its `address_range` (6.4.1).
     NoFde,
-    /// An expression has no value: its fault, and the operation's index.
+    /// An expression (2.5) has no value: its fault, and the operation's index. The rule that has it was set by
+    /// `DW_CFA_def_cfa_expression` (6.4.2.2), `DW_CFA_expression` or `DW_CFA_val_expression` (6.4.2.3).
     Eval {
-        /// What is wrong.
+        /// What is wrong with the expression (2.5).
         kind: Kind,
-        /// The index of the operation that it comes from, counted from 0, or how many there are for a fault at the end.
+        /// The index of the operation (2.5.1) that it comes from, counted from 0, or how many there are for a fault at the end.
         index: usize,
-        /// The column whose rule has the expression.
+        /// The column (6.4.1) whose rule has the expression.
         column: Column,
     },
-    /// A byte of a saved register is missing, or its bytes pass 2^N.
+    /// A byte of a saved register is missing, or its bytes pass 2^N. The register's rule is `offset(N)` (`DW_CFA_offset`,
+    /// `DW_CFA_offset_extended`, `DW_CFA_offset_extended_sf`) or `expression(E)` (`DW_CFA_expression`), 6.4.1, 6.4.2.3.
     Unreadable {
-        /// The column of the saved register.
+        /// The column (6.4.1) of the saved register.
         column: Column,
     },
-    /// The memory's device failed while a saved register was read.
+    /// The memory's device failed while a saved register was read, whose rule is `offset(N)` (`DW_CFA_offset`,
+    /// `DW_CFA_offset_extended`, `DW_CFA_offset_extended_sf`) or `expression(E)` (`DW_CFA_expression`), 6.4.1, 6.4.2.3.
     Device {
-        /// The column of the saved register.
+        /// The column (6.4.1) of the saved register.
         column: Column,
     },
-    /// A register that is asked for holds nothing.
+    /// A register that is asked for holds nothing: that of the CFA's rule (`DW_CFA_def_cfa`, `DW_CFA_def_cfa_sf`,
+    /// `DW_CFA_def_cfa_register`, 6.4.2.2), or the one that a rule `register(R)` names (`DW_CFA_register`, 6.4.2.3).
     NoRegister {
-        /// The column whose rule asks for it.
+        /// The column (6.4.1) whose rule asks for it.
         column: Column,
     },
     /// A request for memory was refused.
