@@ -1,6 +1,6 @@
 -- The registers that were set since a row was kept: those without a mark have the same rules in both rows.
 use Rattle.dw_cfa.proofs.Words.{◌≡◌, ℕ, suc, ◌+◌, ◌<◌, ◌≤◌, Bool, List, [], ◌∷◌, Option, refl, sym, ap, ◌∙◌, subst, arith, inl, inr, ◌*◌, ◌%◌, ◌^◌, bit_or, not, is_some, IsTrue, Result, Ok, Err, OnOk, OnErr, bit_at, w32, filter, nat_tests}
-use Rattle.dw_cfa.proofs.Words.{cases_lt, bit_at_set_same, Marks, RegRule, Rules, Unspecified, SameValue, AreSpecified, rule_in, put, with_rule, DiffersFirst, FirstDifference, SameBetween, SameUnset, CopiedUpTo, MarksMore, MarksSo}
+use Rattle.dw_cfa.proofs.Words.{cases_lt, bit_at_set_same, bit_at_set_other, IsAdded, Marks, RegRule, Rules, Unspecified, SameValue, AreSpecified, rule_in, put, with_rule, DiffersFirst, FirstDifference, SameBetween, SameUnset, CopiedUpTo, MarksMore, MarksSo}
 use Rattle.dw_cfa.proofs.Words.{SameUnlisted, SameUnmarked, Unmarked, WatchedSo}
 use Rattle.dw_cfa.proofs.Lent.RowLists.{Entry, lower, other_rule, put_rule, same_rule_set, unlisted}
 use Rattle.dw_cfa.proofs.Difference.{FromOn}
@@ -16,11 +16,17 @@ near_marked near r lt none = let one : bit_at (bit_or near (1 * 2 ^ r % 2 ^ 32))
 not_marked : SameValue ≡ Unspecified → ⊥
 not_marked e = absurd cc
 
-pub far_marked : (r : ℕ) (far far' : List Entry) → AreSpecified 0 far → far' ≡ put r SameValue far → rule_in far' r ≡ Unspecified → ⊥
-far_marked r far far' up e none = not_marked (sym (same_rule_set r r SameValue far up refl) ∙ sym (ap (λ (l : List Entry). rule_in l r) e) ∙ none)
+pub far_marked : (r : ℕ) (far far' : List Entry) → AreSpecified 32 far → far' ≡ put r SameValue far → rule_in far' r ≡ Unspecified → ⊥
+far_marked r far far' up e none = not_marked (sym (same_rule_set r r SameValue far (lower 32 0 far (omega arith) up) refl) ∙ sym (ap (λ (l : List Entry). rule_in l r) e) ∙ none)
 
-pub far_more : (r q : ℕ) (far far' : List Entry) → AreSpecified 0 far → far' ≡ put r SameValue far → rule_in far' q ≡ Unspecified → rule_in far q ≡ Unspecified
-far_more r q far far' up e none = grind (arith, nat_tests, put_rule r SameValue 0 far q up, ap (λ (l : List Entry). rule_in l q) e, not_marked)
+pub far_more : (r q : ℕ) (far far' : List Entry) → AreSpecified 32 far → far' ≡ put r SameValue far → rule_in far' q ≡ Unspecified → rule_in far q ≡ Unspecified
+far_more r q far far' up e none = grind (arith, nat_tests, put_rule r SameValue 32 far q up, ap (λ (l : List Entry). rule_in l q) e, not_marked)
+
+pub near_added : (near r : ℕ) (far : List Entry) → r < 32 → IsAdded r (record { near = near; far = far }) (record { near = bit_or near (1 * 2 ^ r % 2 ^ 32); far = far })
+near_added near r far lt q = grind (arith, nat_tests, bit_at_set_same w32 near r lt, bit_at_set_other w32 near r lt q)
+
+pub far_added : (near r : ℕ) (far far' : List Entry) → 32 ≤ r → AreSpecified 32 far → far' ≡ put r SameValue far → IsAdded r (record { near = near; far = far }) (record { near = near; far = far' })
+far_added near r far far' le up e q = grind (arith, nat_tests, put_rule r SameValue 32 far q up, ap (λ (l : List Entry). rule_in l q) e)
 
 -- ---- a register that is set
 

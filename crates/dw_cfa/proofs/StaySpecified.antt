@@ -1,7 +1,7 @@
 -- What a CIE's program specifies is specified in every row of its FDEs.
 use Rattle.dw_cfa.proofs.Words.{◌≡◌, ℕ, Bool, true, List, [], ◌∷◌, Option, Some, None, Ok, Result, refl, sym, ap, ◌∙◌, subst, arith, inl, inr, IsTrue, AllZip, AreBytes, Factors, Input, Instr, Leading, LocatedRow, Machine, Outcome, Progress}
 use Rattle.dw_cfa.proofs.Words.{ReadError, Refusal, RegRule, Rules, Stepping, is_kept, kept, IsRowAfter, GivesUpTo, ends, is_specified, rule, GivesRow, RunsSo, rows_behind, rows_left, program_input, progress_after, AllKeep, AllSpecify}
-use Rattle.dw_cfa.proofs.Words.{Readied, WalkKeeps, walk_of}
+use Rattle.dw_cfa.proofs.Words.{Readied, WalkKeeps, finished, initial_of, walk_of}
 use Rattle.dw_cfa.specs.declared.steps.Progress.TheVariants as progress
 use Rattle.dw_cfa.proofs.Lent.FaultLaws.{initial_leaves}
 use Rattle.dw_cfa.proofs.Lent.Given.{behind_runs}
@@ -9,6 +9,7 @@ use Rattle.dw_cfa.proofs.Lent.Narrowed.{left_too}
 use Rattle.dw_cfa.proofs.Lent.Openings.{AllSet, all_set, stays_specified}
 use Rattle.dw_cfa.proofs.Lent.RowLists.{Entry}
 use Rattle.dw_cfa.proofs.RunSteps.{started}
+use Rattle.dw_cfa.proofs.Walks.{KeptWhere}
 
 -- ---- a run
 
@@ -60,3 +61,11 @@ walk_keeps p l fde m s row is e h same =
     let all = subst (λ (x : Progress). WalkKeeps x l fde m) is h in
     let here : rows_left l.factors fde m ≡ s.outcome = ap (λ (x : Progress). (walk_of x l fde m).outcome) (sym is) ∙ ap (λ (x : Stepping). x.outcome) e in
     subst (λ (o : Outcome). AllKeep row o.rows) here (all_keep row m.initial (rows_left l.factors fde m).rows same all)
+
+-- whatever comes: the CIE's row specifies what a row does, or no row is to come
+pub cie_keeps : (p : Progress) (l : Leading) (fde : Input) (m : Machine) (s : Stepping) (initial : Option Rules) (row : Rules) → walk_of p l fde m ≡ s → initial_of p m.initial ≡ initial → WalkKeeps p l fde m → KeptWhere s row initial → AllKeep row s.outcome.rows
+cie_keeps progress.Running l fde m s initial row e same h all =
+    walk_keeps progress.Running l fde m s row refl e h (subst (λ (o : Option Rules). KeptWhere s row o) (sym same) all)
+cie_keeps p l fde m s initial row e same h all =
+    let none : s.outcome ≡ finished = subst (λ (o : Option Rules). KeptWhere s row o) (sym same) all in
+    subst (λ (o : Outcome). AllKeep row o.rows) (sym none) tt

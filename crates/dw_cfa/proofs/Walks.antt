@@ -1,5 +1,5 @@
 -- A walk from one FDE's program to another's, behind a CIE's row that is run or brought back.
-use Rattle.dw_cfa.proofs.Words.{◌≡◌, ◌⊎◌, ℕ, Bool, true, false, Option, Some, None, Ok, Result, IsOk, refl, sym, ap, subst, ◌∙◌, inl, inr, ◌↔◌, IsTrue, MatchOption, AreBytes, Factors, Input, Leading, Machine, Outcome, Progress, ReadError}
+use Rattle.dw_cfa.proofs.Words.{◌≡◌, ◌⊎◌, ℕ, Bool, true, false, Option, Some, None, Ok, Result, IsOk, refl, sym, ap, subst, ◌∙◌, inl, inr, ◌↔◌, IsTrue, MatchOption, OnOk, AreBytes, Factors, Input, Leading, Machine, Outcome, Progress, ReadError}
 use Rattle.dw_cfa.proofs.Words.{Rules, Stepping, Target, Program, blank, finished, RunsSo, initial_row, placed, rows_left, run_rows, program_input, left_of, progress_after, kept, StandsOn, AreLeft, HasInitial, Readied, WalksSo, initial_of}
 use Rattle.dw_cfa.proofs.Words.{led_of, led_rows, walk_of}
 use Rattle.dw_cfa.specs.declared.steps.Progress.TheVariants as progress
@@ -64,6 +64,11 @@ kept_walks p has l fde m kept h = record { stands = h.stands; no_fault = h.no_fa
 
 pub row_left : (l : Leading) (m m' : Machine) → AreBytes l.program.bytes.now → HasInitial l m → m'.initial ≡ m.initial → AreLeft l (Some m'.initial)
 row_left l m m' bytes is same = subst (λ (r : Rules). AreLeft l (Some r)) (sym same) (leaves_to l.factors (program_input l.program l.target) bytes (Ok m.initial) is)
+
+-- it is kept
+pub left_kept : {X E : Type 0} → (l : Leading) (m : Machine) (kept : Rules) (r : Result X E) → AreBytes l.program.bytes.now → HasInitial l m → m.states.row ≡ m.initial → OnOk r (kept ≡ m.states.row) → OnOk r (AreLeft l (Some kept))
+left_kept l m kept (Ok x) bytes is row same = subst (λ (r : Rules). AreLeft l (Some r)) (sym (same ∙ row)) (row_left l m m bytes is refl)
+left_kept l m kept r bytes is row same = tt
 
 pub left_any : (p : Progress) (l : Leading) (initial : Rules) → AreLeft l (Some initial) → AreLeft l (initial_of p initial)
 left_any progress.Running l initial h = h

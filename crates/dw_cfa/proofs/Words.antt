@@ -10,12 +10,12 @@ pub use Rattle.dw_cfa.specs.Inner.Agreement.{agreed, is_agreed, same_cfa, same_r
 pub use Rattle.dw_cfa.specs.Inner.Coverage.{is_unset, lacks_from, leaves_one}
 pub use Rattle.dw_cfa.specs.Inner.Difference.{SameUnset, start_behind}
 unfoldable pub use Rattle.dw_cfa.specs.Inner.Entries.{listed_near}
-pub use Rattle.dw_cfa.specs.Inner.Entries.{CopiedBelow, Covers, EntriesSo, FirstBit, HoldsRule, IsSlotOf, LeavesAt, LeavesBelow, entries_of, kind_rule, left, slot_rule}
+pub use Rattle.dw_cfa.specs.Inner.Entries.{CopiedBelow, Covers, EntriesSo, FirstBit, HoldsRule, IsSlotOf, LeavesAmong, LeavesAt, LeavesBelow, entries_of, kind_rule, left, slot_rule}
 pub use Rattle.dw_cfa.specs.Inner.Exact.{BehindGives, BehindRefused, GivesRows, InitialLeaves, InitialRefused, LeavesInitial, RulesBehind}
 unfoldable pub use Rattle.dw_cfa.specs.Inner.FrontInstr.{block_at, expression_in, instr_at}
 pub use Rattle.dw_cfa.specs.Inner.FrontInstr.{after_code, after_length, block_in, expression_of, form_at, judged, known_at, leaving, operand_at, then_operand, with_instr}
 pub use Rattle.dw_cfa.specs.Inner.Machine.{State, after, begun, changed, cie_fault, empty_fault, fde_fault, half_fault, moved, popped, written}
-pub use Rattle.dw_cfa.specs.Inner.Marks.{CopiedUpTo, MarksMore, MarksSo, SameUnlisted, SameUnmarked, Unmarked, WatchedSo, Watching}
+pub use Rattle.dw_cfa.specs.Inner.Marks.{CopiedUpTo, IsAdded, MarksMore, MarksSo, SameUnlisted, SameUnmarked, Unmarked, WatchedSo, Watching, in_mask, in_tree, marked}
 pub use Rattle.dw_cfa.specs.Inner.Opening.{GivesOffset, answers_move, answers_row}
 unfoldable pub use Rattle.dw_cfa.specs.Inner.Operands.{opcode_of}
 pub use Rattle.dw_cfa.specs.Inner.Operands.{form_of, opcode_table}
@@ -37,6 +37,7 @@ pub use Rattle.dw_cfa.specs.Location.{Counts, StaysAt, back_from, location, loca
 pub use Rattle.dw_cfa.specs.Opening.{first_row, moves_first, row_with}
 unfoldable pub use Rattle.dw_cfa.specs.Operands.{form_for}
 pub use Rattle.dw_cfa.specs.Operands.{Form, Operand, Value, address, advanced, expression, fixed, none, offset_of, one, register, signed, two, unsigned}
+pub use Rattle.dw_cfa.specs.RegisterSets.{AgreesBeside, Registers, SameBeside, has}
 pub use Rattle.dw_cfa.specs.RowLaws.{BehindWhereFault, LastHolds, NoneFalls, OneBehind, OneCount, OneHolds, OneInitial, OneRun, RefusedWhereFault, RowsWhereKept}
 pub use Rattle.dw_cfa.specs.RowSteps.{Stepping, program_input, stepping}
 pub use Rattle.dw_cfa.specs.RowWalk.{AllKeep, StandsOn, Walking}

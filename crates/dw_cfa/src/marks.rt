@@ -1,7 +1,7 @@
 //! The registers that were set since a row was kept.
 
-ghost use Rattle.std.specs.Prelude.{◌≤◌, ℕ, OnOk};
-ghost use Rattle.dw_cfa.specs.Inner.Marks.{MarksMore, MarksSo, Unmarked};
+ghost use Rattle.std.specs.Prelude.{◌≡◌, ◌≤◌, ℕ, [], IsTrue, OnErr, OnOk};
+ghost use Rattle.dw_cfa.specs.Inner.Marks.{IsAdded, MarksMore, MarksSo, Unmarked, marked};
 
 use crate::row::NEAR;
 use crate::rule::RegRule;
@@ -42,7 +42,9 @@ impl<'a> Marks<'a> {
 
     /// Watches all, of which none was set yet.
     pub(crate) fn begin(&mut self)
-        ensures { MarksSo self.new }
+        ensures so { MarksSo self.new }
+        ensures watched { IsTrue self.new.watched }
+        ensures none { (self.new.near ≡ 0) × (self.new.far.entries ≡ []) }
     {
         self.watched = true;
         self.near = 0;
@@ -52,13 +54,16 @@ impl<'a> Marks<'a> {
     }
 
     #[inline(never)]
-    #[tactic(auto, using(crate::proofs::Slots::put_so, crate::proofs::Marked::far_marked, crate::proofs::Marked::far_more))]
+    #[tactic(auto, using(crate::proofs::Lent::RowLists::lower, crate::proofs::Slots::put_so, crate::proofs::Marked::far_marked, crate::proofs::Marked::far_more, crate::proofs::Marked::far_added))]
     fn mark_far(&mut self, register: u16) -> Result<(), AllocError>
         requires so { MarksSo self.old }
         requires far { 32 ≤ register }
         ensures so { MarksSo self.new }
         ensures marked { OnOk result (Unmarked self.new register → ⊥) }
         ensures more { MarksMore self.old self.new }
+        ensures watched { self.new.watched ≡ self.old.watched }
+        ensures added { OnOk result (IsAdded register (marked self.old) (marked self.new)) }
+        ensures same { OnErr result (marked self.new ≡ marked self.old) }
     {
         set_in_tree(&mut self.far, register, RegRule::SameValue)?;
         Ok(())
@@ -66,12 +71,15 @@ impl<'a> Marks<'a> {
 
     /// Marks a register that is set, or answers want of memory.
     #[inline(always)]
-    #[tactic(auto, using(crate::proofs::Marked::near_marked, crate::proofs::Slots::neither))]
+    #[tactic(auto, using(crate::proofs::Marked::near_marked, crate::proofs::Marked::near_added, crate::proofs::Slots::neither))]
     pub(crate) fn mark(&mut self, register: u16) -> Result<(), AllocError>
         requires { MarksSo self.old }
         ensures so { MarksSo self.new }
         ensures marked { OnOk result (Unmarked self.new register → ⊥) }
         ensures more { MarksMore self.old self.new }
+        ensures watched { self.new.watched ≡ self.old.watched }
+        ensures added { OnOk result (IsTrue self.old.watched → IsAdded register (marked self.old) (marked self.new)) }
+        ensures same { OnErr result (marked self.new ≡ marked self.old) }
     {
         if register < NEAR {
             self.near |= 1 << register;

@@ -1,6 +1,6 @@
 //! Rows of one FDE after another, in room that is kept (6.4.1, 6.4.3).
 
-ghost use Rattle.std.specs.Prelude.{◌≡◌, ◌<◌, ◌≤◌, ℕ, None, Ok, List, ◌∷◌, IfErr, IfOk, IsOk, IsTrue, ◌↔◌, MatchResult, OnErr, OnOk, Some};
+ghost use Rattle.std.specs.Prelude.{◌≡◌, ◌<◌, ◌≤◌, ℕ, false, None, Ok, List, ◌∷◌, IfErr, IfOk, IsOk, IsTrue, ◌↔◌, MatchResult, OnErr, OnOk, Some};
 ghost use Rattle.dw_num.specs.Target.{address_limit};
 ghost use Rattle.dw_num.specs.declared.error.ReadError.TheVariants.{OutOfMemory};
 ghost use Rattle.dw_cfa.specs.declared.execution.LocatedRow.{LocatedRow};
@@ -13,6 +13,7 @@ ghost use Rattle.dw_cfa.specs.Runs.{finished};
 ghost use Rattle.dw_cfa.specs.Inner.States.{BeganWith};
 ghost use Rattle.dw_cfa.specs.RowSteps.{Advances, program_input, stepping};
 ghost use Rattle.dw_cfa.specs.Inner.RowSteps.{progress_after};
+ghost use Rattle.dw_cfa.specs.Behind.{LeavesTo};
 ghost use Rattle.dw_cfa.specs.RowWalk.{AllKeep, CieKeeps, StandsOn, unled};
 ghost use Rattle.dw_cfa.specs.Inner.RowWalk.{AreLeft, HasInitial, LeadsSame, Readied, WalkKeeps, WalkedTo, WalksSo, initial_of, led_rows, walk_of};
 
@@ -162,6 +163,29 @@ fn walk_to<'a>(
         Progress::Finished => Ok(false),
         Progress::Failed(error) => Err(error),
     }
+}
+
+// Brings a CIE's row about, and keeps it.
+fn keep_ready<'a>(
+    leading: Leading<'a>,
+    machine: &mut Machine<'a>,
+    kept: &mut bool,
+) -> Result<(), AllocError>
+    requires runs { IsOk (initial_row (placed leading.factors (program_input leading.program leading.target)) blank) }
+    requires kept { IsTrue kept.old → HasInitial leading machine.old }
+    requires first { BeganWith machine.old.initial machine.old.states.first }
+    ensures ok { OnOk result (Readied leading.entry machine.old machine.new) }
+    ensures left { OnOk result (AreLeft leading.entry (Some machine.new.states.kept)) }
+    ensures kept { IsTrue kept.new → HasInitial leading.entry machine.new }
+{
+    are_bytes(leading.program.bytes);
+    let known = *kept;
+    *kept = false;
+    let Ok(()) = ready(leading, machine, known) else {
+        return Err(AllocError);
+    };
+    *kept = true;
+    machine.states.keep()
 }
 
 /// The rows (6.4.1, 6.4.3) of one FDE after another, in room that is kept, where it is known that their programs
@@ -391,6 +415,36 @@ impl<'a> RowWalk<'a> {
         ensures initial { self.new.initial ≡ self.old.initial }
     {
         self.machine.states.keep()
+    }
+
+    /// Keeps the row that the CIE's program (`initial_instructions`, 6.4.1) leaves, where no row was gone on to yet behind `go_to` or
+    /// `go_on`, and says whether it did: the first row is then compared with it by what the FDE's program set. The row that is lent may be another one then.
+    /// Want of memory is answered from then on, until `go_to`.
+    pub fn keep_initial(&mut self) -> Result<bool, AllocError>
+        ensures kept { IfOk result (λ kept. IsTrue kept → LeavesTo self.old.led.factors self.old.led.program (Ok self.new.kept)) }
+        ensures begun { IfOk result (λ kept. IsTrue kept ↔ (self.old.initial ≡ None) × (self.old.steps.outcome ≡ finished → ⊥)) }
+        ensures same { IfOk result (λ kept. kept ≡ false → self.new ≡ self.old) }
+        ensures rows { OnOk result (self.new.steps ≡ record { outcome = self.old.steps.outcome; current = self.new.steps.current; error = self.old.steps.error }) }
+        ensures none { OnErr result (self.new.steps.outcome ≡ finished) }
+        ensures led { self.new.led ≡ self.old.led }
+        ensures initial { self.new.initial ≡ self.old.initial }
+    {
+        let Progress::Begun = self.progress else {
+            return Ok(false);
+        };
+        let Ok(()) = keep_ready(self.leading, &mut self.machine, &mut self.kept) else {
+            self.machine.states.untrack();
+            self.progress = Progress::Failed(ReadError::OutOfMemory);
+            return Err(AllocError);
+        };
+        Ok(true)
+    }
+
+    /// Where the CIE's row specifies every register that a row specifies, each row still to come does. This does nothing.
+    pub fn cie_keeps(&self)
+        ensures { (row : Rules) → CieKeeps self.now row → AllKeep row self.now.steps.outcome.rows }
+    {
+        let _progress = self.progress;
     }
 
     /// The row (6.4.1) that `keep` kept, and before it some row.

@@ -93,7 +93,7 @@ fn next_listed_difference(
     marked: &BTreeMap<u16, RegRule<'_>>,
     behind: Option<u16>,
 ) -> Option<u16>
-    requires marked { AreSpecified 0 marked.now.entries }
+    requires marked { AreSpecified 32 marked.now.entries }
     requires same { SameUnlisted (place_behind behind) marked.now.entries kept.now.registers row.now.registers }
     ensures { FirstDifference (place_behind behind) kept.now.registers row.now.registers result }
 {
@@ -106,15 +106,15 @@ fn next_listed_difference(
     None
 }
 
-// The same of a tree that is mostly empty.
+/// The same of a tree that is mostly empty.
 #[inline(always)]
-fn next_far_difference(
+pub(crate) fn next_far_difference(
     kept: &Row<'_>,
     row: &Row<'_>,
     marked: &BTreeMap<u16, RegRule<'_>>,
     behind: Option<u16>,
 ) -> Option<u16>
-    requires marked { AreSpecified 0 marked.now.entries }
+    requires marked { AreSpecified 32 marked.now.entries }
     requires same { SameUnlisted (place_behind behind) marked.now.entries kept.now.registers row.now.registers }
     ensures { FirstDifference (place_behind behind) kept.now.registers row.now.registers result }
 {

@@ -43,6 +43,9 @@ rule_told = told_of same_rule rule_tells
 agrees : {X : Type 0} (same : X → X → Bool) → ((x y : X) → Decides (same x y) (x ≡ y)) → (none old other new : X) → InCommon none old other new → new ≡ (if same old other then old else none)
 agrees same tells none old other new h = grind (arith, tells old other, h.0, h.1)
 
+pub common_rule : (old other new : RegRule) → new ≡ (if same_rule old other then old else rules.Unspecified) → InCommon rules.Unspecified old other new
+common_rule old other new is = ((λ e. grind (arith, rule_tells old other)), (λ differ. grind (arith, rule_tells old other)))
+
 -- it is one row, where the registers are listed
 pub agreed_of : (old other new : Rules) → AreSpecified 0 old.registers → IsAgreed old other new → new ≡ agreed old other
 agreed_of old other new up h =

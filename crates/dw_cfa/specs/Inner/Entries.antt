@@ -67,7 +67,10 @@ FindsNear (Some entry) at near expressions =
 abbrev pub left : (ℕ × RegRule → Bool) → ℕ → RegRule → RegRule
 left test r rule = if test (r, rule) then rule else rules.Unspecified
 
--- what it leaves of one register, or of those below one. All others stay.
+-- what it leaves of some registers, of one, or of those below one. All others stay.
+abbrev pub LeavesAmong : (ℕ → Bool) → (ℕ × RegRule → Bool) → List (ℕ × RegRule) → List (ℕ × RegRule) → Type 0
+LeavesAmong among test old new = (q : ℕ) → rule_in new q ≡ (if among q then left test q (rule_in old q) else rule_in old q)
+
 abbrev pub LeavesAt : (ℕ × RegRule → Bool) → ℕ → List (ℕ × RegRule) → List (ℕ × RegRule) → Type 0
 LeavesAt test r old new = (q : ℕ) → rule_in new q ≡ (if nat_eq r q then left test q (rule_in old q) else rule_in old q)
 

@@ -1,10 +1,11 @@
 -- The registers that were set since a row was kept: those below 32 in a mask, the others in a tree.
-use Rattle.std.specs.Prelude.{◌≡◌, ℕ, ◌<◌, ◌≤◌, List, IsTrue}
+use Rattle.std.specs.Prelude.{◌≡◌, ◌&&◌, ◌||◌, ℕ, ◌<◌, ◌≤◌, Bool, List, IsTrue, nat_eq, nat_lt}
 use Rattle.std.specs.Int.{bit_at}
 use Rattle.dw_cfa.specs.declared.marks.Marks.{Marks}
 use Rattle.dw_cfa.specs.declared.rule.RegRule.{RegRule}
 use Rattle.dw_cfa.specs.declared.rule.RegRule.TheVariants.{Unspecified}
-use Rattle.dw_cfa.specs.Rows.{Rules, AreSpecified, rule_in}
+use Rattle.dw_cfa.specs.RegisterSets.{Registers, has}
+use Rattle.dw_cfa.specs.Rows.{Rules, AreSpecified, is_specified, rule_in}
 
 -- registers are watched, and this one has no mark
 pub record Unmarked (m : Marks) (r : ℕ) : Type 0 where
@@ -13,7 +14,22 @@ pub record Unmarked (m : Marks) (r : ℕ) : Type 0 where
   pub far : 32 ≤ r → rule_in m.far.entries r ≡ Unspecified
 
 abbrev pub MarksSo : Marks → Type 0
-MarksSo m = AreSpecified 0 m.far.entries
+MarksSo m = AreSpecified 32 m.far.entries
+
+-- the registers with a mark
+abbrev pub marked : Marks → Registers
+marked m = record { near = m.near; far = m.far.entries }
+
+-- whether a register below an end is in a mask, and whether one is in a tree
+abbrev pub in_mask : ℕ → ℕ → ℕ → Bool
+in_mask mask end r = nat_lt r end && nat_eq (bit_at mask r) 1
+
+abbrev pub in_tree : List (ℕ × RegRule) → ℕ → Bool
+in_tree far r = is_specified (rule_in far r)
+
+-- a set with one register more
+abbrev pub IsAdded : ℕ → Registers → Registers → Type 0
+IsAdded r old new = (q : ℕ) → has new q ≡ (nat_eq q r || has old q)
 
 -- no mark was lost
 abbrev pub MarksMore : Marks → Marks → Type 0

@@ -1,0 +1,85 @@
+-- Sets of registers: one register more, all of another set, and what two rows have in common among them.
+use Rattle.dw_cfa.proofs.Words.{◌≡◌, ◌⊎◌, ℕ, suc, ◌<◌, ◌||◌, Bool, true, false, List, ◌∷◌, Result, Ok, Err, OnOk, refl, sym, ap, ◌∙◌, subst, arith, inl, inr, if◌then◌else◌, bit_or, bit_at_or, nat_tests, cases_Bool, IsTrue, ◌↔◌}
+use Rattle.dw_cfa.proofs.Words.{CfaRule, RegRule, Rules, Unset, Unspecified, AreSpecified, rule, rule_in, with_cfa, with_rule, InCommon, IsAgreed, is_agreed, same_rule, rule_tells, left, LeavesAmong, LeavesAt}
+use Rattle.dw_cfa.proofs.Words.{IsAdded, Marks, MarksSo, Registers, AgreesBeside, has, in_mask, in_tree, marked}
+use Rattle.std.proofs.lemmas.Nat.Bits.{bit_at-lt}
+use Rattle.dw_cfa.proofs.Lent.RowLists.{Entry, lower, unlisted}
+use Rattle.dw_cfa.proofs.Lent.Equal.{common_rule, test_of}
+use Rattle.dw_cfa.proofs.Lent.Narrowed.{leaves_none, none_left}
+
+-- ---- registers that are put in
+
+pub rest_up : (xs rest : List Entry) (q : ℕ) (x : RegRule) → xs ≡ (q, x) ∷ rest → AreSpecified 32 xs → AreSpecified 32 rest
+rest_up xs rest q x e up = let here = subst (AreSpecified 32) e up in lower (suc q) 32 rest (omega (arith, here.0)) here.2
+
+-- one of a tree is put in: those of the rest are still to come
+pub tree_next : (all xs rest : List Entry) (q : ℕ) (x : RegRule) (was old new : Registers) → xs ≡ (q, x) ∷ rest → AreSpecified 32 xs → IsAdded q old new
+    → ((r : ℕ) → (in_tree xs r || has old r) ≡ (in_tree all r || has was r)) → (r : ℕ) → (in_tree rest r || has new r) ≡ (in_tree all r || has was r)
+tree_next all xs rest q x was old new e up added h r =
+    let here = subst (AreSpecified 32) e up in let given = here.1 in
+    grind (arith, nat_tests, ap (λ (l : List Entry). rule_in l r) e, added r, h r, given)
+
+-- all of a mask and of a tree
+pub all_added : {X E : Type 0} (result : Result X E) (m n : Marks) (old other new : Registers) → marked m ≡ old → marked n ≡ other → MarksSo n
+    → OnOk result ((r : ℕ) → has new r ≡ (in_tree n.far.entries r || has (record { near = bit_or m.near n.near; far = m.far.entries }) r)) → OnOk result ((r : ℕ) → has new r ≡ (has other r || has old r))
+all_added (Ok x) m n old other new one two up is = λ r.
+    let low = λ (lt : r < 32). unlisted r 32 n.far.entries up lt in
+    rw (sym one, sym two) (grind (arith, nat_tests, is r, low, bit_at_or m.near n.near r, bit_at-lt m.near r, bit_at-lt n.near r))
+all_added (Err x) m n old other new one two up is = tt
+
+-- ---- registers that are dropped where another row gives them another rule
+
+pub left_twice : (p : Entry → Bool) (q : ℕ) (x : RegRule) → left p q (left p q x) ≡ left p q x
+left_twice p q x = elim (cases_Bool (p (q, x))) [ inl e ↦ rw (e, e) refl | inr e ↦ rw e (none_left p q) ]
+
+pub stays_at : (row other : Rules) (r : ℕ) (same : Bool) → IsTrue same ↔ (rule row r ≡ rule other r) → same ≡ true → LeavesAt (is_agreed other.registers) r row.registers row.registers
+stays_at row other r same is e q = let test = sym (test_of (rule row r) (rule other r) same is) ∙ e in grind (arith, nat_tests, test)
+
+pub dropped_at : {X E : Type 0} (result : Result X E) (row other new : Rules) (r : ℕ) (same : Bool) → IsTrue same ↔ (rule row r ≡ rule other r) → same ≡ false → AreSpecified 0 row.registers
+    → OnOk result (new ≡ with_rule r Unspecified row) → OnOk result (LeavesAt (is_agreed other.registers) r row.registers new.registers)
+dropped_at (Ok x) row other new r same is e up set =
+    leaves_none (is_agreed other.registers) r row.registers new.registers (sym (test_of (rule row r) (rule other r) same is) ∙ e) up (ap (λ (row : Rules). row.registers) set)
+dropped_at (Err x) row other new r same is e up set = tt
+
+-- what a test of those in a tree leaves, of which some are still to come
+abbrev pub StillLeaves : (Entry → Bool) → List Entry → List Entry → List Entry → List Entry → Type 0
+StillLeaves p all old rest new = (q : ℕ) → (if in_tree rest q then left p q (rule_in new q) else rule_in new q) ≡ (if in_tree all q then left p q (rule_in old q) else rule_in old q)
+
+pub next_leaves : (p : Entry → Bool) (all xs rest : List Entry) (r : ℕ) (x : RegRule) (old new next : List Entry) → xs ≡ (r, x) ∷ rest → AreSpecified 32 xs → LeavesAt p r new next
+    → StillLeaves p all old xs new → StillLeaves p all old rest next
+next_leaves p all xs rest r x old new next e up at h q =
+    let here = subst (AreSpecified 32) e up in let given = here.1 in
+    grind (arith, nat_tests, ap (λ (l : List Entry). rule_in l q) e, at q, h q, given, left_twice p q (rule_in new q))
+
+both_leave : (a b : Bool) (p : Entry → Bool) (q : ℕ) (x mid new : RegRule) → mid ≡ (if a then left p q x else x) → new ≡ (if b then left p q mid else mid) → new ≡ (if a || b then left p q x else x)
+both_leave true true p q x mid new e e' = e' ∙ ap (left p q) e ∙ left_twice p q x
+both_leave true false p q x mid new e e' = e' ∙ e
+both_leave false true p q x mid new e e' = e' ∙ ap (left p q) e
+both_leave false false p q x mid new e e' = e' ∙ e
+
+agrees_left : (other : List Entry) (r : ℕ) (x : RegRule) → (x ≡ Unspecified) ⊎ (x ≡ rule_in other r) → left (is_agreed other) r x ≡ x
+agrees_left other r x (inl e) = rw e (none_left (is_agreed other) r)
+agrees_left other r x (inr e) = let same : same_rule x (rule_in other r) ≡ true = (rule_tells x (rule_in other r)).1 e in rw same refl
+
+module _ (m : Marks) (registers : Registers) (is : marked m ≡ registers) (old other : Rules) (beside : AgreesBeside registers old other) (mid : List Entry) (new : Rules)
+    (near : LeavesAmong (in_mask m.near 32) (is_agreed other.registers) old.registers mid) (far : LeavesAmong (in_tree m.far.entries) (is_agreed other.registers) mid new.registers) where
+  outside : (r : ℕ) → (in_mask m.near 32 r || in_tree m.far.entries r) ≡ false → has registers r ≡ false
+  outside r none = rw (sym is) (grind (arith, nat_tests, none))
+
+  rule_left : (r : ℕ) → rule new r ≡ left (is_agreed other.registers) r (rule old r)
+  rule_left r =
+      let both = both_leave (in_mask m.near 32 r) (in_tree m.far.entries r) (is_agreed other.registers) r (rule old r) (rule_in mid r) (rule new r) (near r) (far r) in
+      elim (cases_Bool (in_mask m.near 32 r || in_tree m.far.entries r)) [
+        | inl e ↦ both ∙ rw e refl
+        | inr e ↦ both ∙ rw e (sym (agrees_left other.registers r (rule old r) (beside r (outside r e))))
+      ]
+
+  common : (r : ℕ) → InCommon Unspecified (rule old r) (rule other r) (rule new r)
+  common r = common_rule (rule old r) (rule other r) (rule new r) (rule_left r)
+
+  module _ (up : AreSpecified 0 new.registers) (a b : CfaRule) (is_own : a ≡ new.cfa) (is_other : b ≡ other.cfa) (stays : new.cfa ≡ old.cfa) where
+    pub same_cfas : a ≡ b → IsAgreed old other new
+    same_cfas e = record { cfa = ((λ same. stays), (λ differ. absurd (differ (sym stays ∙ sym is_own ∙ e ∙ is_other)))); rules = common; listed = up }
+
+    pub other_cfas : (a ≡ b → ⊥) → (unset : Rules) → unset ≡ with_cfa Unset new → IsAgreed old other unset
+    other_cfas differ unset set = subst (IsAgreed old other) (sym set) (record { cfa = ((λ same. absurd (differ (is_own ∙ stays ∙ same ∙ sym is_other))), (λ other. refl)); rules = common; listed = up })

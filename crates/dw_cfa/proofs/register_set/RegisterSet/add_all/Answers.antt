@@ -1,0 +1,7 @@
+use Rattle.dw_cfa.proofs.Words.{marked}
+use Rattle.dw_cfa.proofs.RegisterSets.{all_added}
+use Rattle.dw_cfa.proofs.register_set.RegisterSet.add_all.Goals as goal
+
+pub returns : goal.returns
+returns c =
+    all_added c.add_far.result c.self.inside.marks c.other.inside.marks c.args.self.now c.args.other.now (marked c.add_far.new.marks) c.self.view_is c.other.view_is c.other.invariant.1 c.add_far.ensures.added

@@ -1,0 +1,13 @@
+use Rattle.dw_cfa.proofs.Words.{◌∙◌, marked}
+use Rattle.dw_cfa.proofs.RegisterSets.{rest_up, tree_next}
+use Rattle.dw_cfa.proofs.register_set.add_far.Goals as goal
+
+pub registers-preserved : goal.registers-preserved
+registers-preserved c =
+    let all = c.args.far.now.entries in let xs = c.registers.others in let rest = c.next.new.self in let r = c.in-Some.register.now in let x = c.in-Some.field-0-1.now in
+    let step = c.in-Some.ensures.steps in let inv = c.registers.invariant in let d = c.in_ok-mark.ensures in (
+      rest_up xs rest r x step inv.0,
+      d.watched ∙ inv.1,
+      d.so,
+      tree_next all xs rest r x (marked c.args.marks.now) (marked c.registers.marks) (marked c.mark.new.self) step inv.0 (d.added inv.1) inv.3,
+    )

@@ -1,0 +1,22 @@
+-- Sets of registers, and rows that differ in these alone: DWARF 5, 6.4.1.
+use Rattle.std.specs.Prelude.{◌≡◌, ◌⊎◌, ℕ, Bool, false, List, nat_eq, nat_lt, if◌then◌else◌}
+use Rattle.std.specs.Int.{bit_at}
+use Rattle.dw_cfa.specs.declared.rule.RegRule.{RegRule}
+use Rattle.dw_cfa.specs.declared.rule.RegRule.TheVariants.{Unspecified}
+use Rattle.dw_cfa.specs.Rows.{Rules, is_specified, rule, rule_in}
+
+-- those below 32 by the bits of a number, and the others by a list in which each has some rule
+pub record Registers : Type 0 where
+  pub near : ℕ
+  pub far : List (ℕ × RegRule)
+
+abbrev pub has : Registers → ℕ → Bool
+has registers r = if nat_lt r 32 then nat_eq (bit_at registers.near r) 1 else is_specified (rule_in registers.far r)
+
+-- all registers outside a set have the same rules in both rows
+abbrev pub SameBeside : Registers → Rules → Rules → Type 0
+SameBeside registers row other = (r : ℕ) → has registers r ≡ false → rule row r ≡ rule other r
+
+-- a row gives none outside a set a rule that another row does not give it
+abbrev pub AgreesBeside : Registers → Rules → Rules → Type 0
+AgreesBeside registers row other = (r : ℕ) → has registers r ≡ false → (rule row r ≡ Unspecified) ⊎ (rule row r ≡ rule other r)
