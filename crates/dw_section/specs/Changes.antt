@@ -69,6 +69,10 @@ GivesAddress old (Ok None) new = (new.failed ≡ false) × (old.to_come ≡ []) 
 GivesAddress old (Ok (Some address)) new = (new.failed ≡ false) × ((row : Rules) × (old.to_come ≡ (address, row) ∷ new.to_come) × (new.shown ≡ Some row))
 GivesAddress old (Err e) new = new.failed ≡ true
 
+-- it goes on to the next change, or stays behind the last one
+abbrev pub GoesOn : Changing → Changing → Type 0
+GoesOn old new = (address : Option ℕ) × GivesAddress {E = Unit {0}} old (Ok address) new
+
 -- at a change the row before it is the one that was shown, and behind the last one there is none
 abbrev pub before_then : {A : Type 0} → Option A → Option Rules → Option Rules
 before_then None shown = None

@@ -16,6 +16,7 @@ use Rattle.dw_section.specs.Headers.{Head, Headers}
 use Rattle.dw_section.specs.Meaning.{Says, AreFdes, Covers, RulesAt, ChangesOf, RowStarts, total}
 use Rattle.dw_section.specs.Meanings.{SameMeaning}
 use Rattle.dw_section.specs.Among.{IsAmong}
+use Rattle.dw_section.specs.Opening.{CieLeaves}
 use Rattle.dw_cfa.specs.declared.rule.CfaRule.TheVariants.{Unset}
 
 -- the first fault of a section lies in it or at its end
@@ -94,3 +95,7 @@ RulesFit = (target : Target) (s : List ℕ) (a : ℕ) (row : Rules) → AreBytes
 -- and the CFA has one
 abbrev pub CfaIsSet : Type 0
 CfaIsSet = (target : Target) (s : List ℕ) (a : ℕ) (row : Rules) → AreBytes s → Accepted target s → RulesAt target s a row → row.cfa ≡ Unset → ⊥
+
+-- a CIE leaves one row
+abbrev pub OneCieRow : Type 0
+OneCieRow = (target : Target) (s : List ℕ) (at : ℕ) (x y : Rules) → AreBytes s → CieLeaves target s at x → CieLeaves target s at y → x ≡ y

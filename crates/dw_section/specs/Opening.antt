@@ -1,12 +1,17 @@
 -- How an FDE's program begins: DWARF 5, 6.4.3.
-use Rattle.std.specs.Prelude.{◌≡◌, ℕ, List}
+use Rattle.std.specs.Prelude.{◌≡◌, ℕ, true, List, Ok}
 use Rattle.dw_num.specs.declared.target.Target.{Target}
+use Rattle.dw_num.specs.Span.{input_of}
 use Rattle.dw_cfa.specs.declared.instr.Factors.{Factors}
 use Rattle.dw_cfa.specs.declared.instr.Instr.{Instr}
 use Rattle.dw_cfa.specs.Opening.{first_row, row_with}
+use Rattle.dw_cfa.specs.Behind.{LeavesTo}
+use Rattle.dw_cfa.specs.RegisterSets.{Registers, SameBeside, has}
+use Rattle.dw_cfa.specs.Rows.{Rules, rule}
 use Rattle.dw_section.specs.declared.lookup.Fde.{Fde}
 use Rattle.dw_section.specs.declared.opening.CieRow.{CieRow}
-use Rattle.dw_section.specs.Headers.{CieHead}
+use Rattle.dw_section.specs.Among.{IsAmong}
+use Rattle.dw_section.specs.Headers.{CieHead, Head, Headers, cie}
 use Rattle.dw_section.specs.Meaning.{Says}
 use Rattle.dw_section.specs.Programs.{Begins, factors_of}
 
@@ -28,3 +33,16 @@ pub record HasProgram (target : Target) (s : List ℕ) (f : Fde) (factors : Fact
   pub says : Says target s f.begin f.end initial instrs
   pub factors_are : factors ≡ factors_of says.spelled.head
   pub bytes_are : bytes ≡ says.head.program.bytes
+
+-- the program of the CIE at this place leaves this row
+pub record CieLeaves (target : Target) (s : List ℕ) (at : ℕ) (row : Rules) : Type 0 where
+  pub headers : List Head
+  pub are : Headers target s headers
+  pub head : CieHead
+  pub among : IsAmong (cie head) headers
+  pub stands : head.at ≡ at
+  pub leaves : LeavesTo (factors_of head) (input_of target head.program) (Ok row)
+
+-- a set has exactly the registers whose rules are not the same in both rows
+abbrev pub AreChanged : Registers → Rules → Rules → Type 0
+AreChanged registers row other = SameBeside registers row other × ((r : ℕ) → has registers r ≡ true → rule row r ≡ rule other r → ⊥)

@@ -1,11 +1,17 @@
 //! The addresses at which the rules of an FDE change (6.4.3), one at a time.
 
-ghost use Rattle.std.specs.Prelude.{◌≡◌, ◌+◌, ◌<◌, ◌↔◌, [], IsTrue, Some, None, true, IsErr, IfOk, MatchOption};
+ghost use Rattle.std.specs.Prelude.{◌≡◌, ◌+◌, ◌<◌, ◌↔◌, ℕ, [], IsTrue, Ok, Some, None, true, IsErr, IfOk, IfSome, OnErr, OnOk, MatchOption};
+ghost use Rattle.dw_num.specs.Input.{AreBytes};
 ghost use Rattle.dw_num.specs.Target.{address_limit};
 ghost use Rattle.dw_cfa.specs.Difference.{FirstDifference, place_behind};
-ghost use Rattle.dw_cfa.specs.Rows.{AreSpecified, Rules};
-ghost use Rattle.dw_section.specs.Changes.{GivesAddress, GivesChange, before_then};
-ghost use Rattle.dw_section.specs.Inner.Changes.{Before, FindsChange, changing};
+ghost use Rattle.dw_cfa.specs.Agreement.{kept};
+ghost use Rattle.dw_cfa.specs.Behind.{LeavesTo};
+ghost use Rattle.dw_cfa.specs.RegisterSets.{SameBeside, has};
+ghost use Rattle.dw_cfa.specs.RowWalk.{AllKeep, StandsOn};
+ghost use Rattle.dw_cfa.specs.Rows.{AreSpecified, Rules, is_specified, rule};
+ghost use Rattle.dw_section.specs.Changes.{GivesAddress, GivesChange, GoesOn, before_then, kept_by};
+ghost use Rattle.dw_section.specs.Opening.{AreChanged, CieLeaves};
+ghost use Rattle.dw_section.specs.Inner.Changes.{Before, FindsChange, FindsFirst, ShownBehind, changing};
 ghost use Rattle.dw_section.specs.Inner.NarrowRow.{ChangesKeep};
 ghost use Rattle.dw_section.specs.Inner.Shown.{shown_if, shown_of};
 ghost use Rattle.dw_section.specs.Inner.Index.{led_to};
@@ -13,8 +19,8 @@ ghost use Rattle.dw_section.specs.Inner.Lookup.{LedBy, rows_of};
 
 use crate::listed_fde::{FoundFde, lead};
 use crate::walks::{is_long, turn_walk};
-use dw_cfa::{Row, RowWalk};
-use dw_num::Target;
+use dw_cfa::{RegisterSet, Row, RowWalk};
+use dw_num::{Target, are_bytes};
 use std::alloc::{AllocError, Global};
 use std::collections::BTreeMap;
 use std::marker::Model;
@@ -57,6 +63,7 @@ fn find_change(steps: &mut RowWalk<'_>, kept: bool, end: u128) -> Result<Option<
     ensures finds { FindsChange end steps.old.steps (shown_if kept steps.old.kept) result steps.new.steps }
     ensures kept { steps.new.kept ≡ steps.old.kept }
     ensures led { steps.new.led ≡ steps.old.led }
+    ensures stands { StandsOn steps.new.led steps.new.steps.outcome steps.new.initial }
 {
     'rows: loop {
         let start = match steps.advance() {
@@ -88,6 +95,79 @@ fn next_change(
         *kept = true;
     }
     find_change(steps, *kept, end)
+}
+
+// Keeps the row of the CIE where no row was gone on to yet, which it says, and goes on to the first change.
+fn first_change(steps: &mut RowWalk<'_>, end: u128) -> Result<(Option<u128>, bool), AllocError>
+    requires { steps.old.steps.outcome.fault ≡ None }
+    ensures finds { FindsFirst end steps.old.steps result steps.new.steps }
+    ensures kept { IfOk result (λ found. IsTrue found.1 → LeavesTo steps.old.led.factors steps.old.led.program (Ok steps.new.kept)) }
+    ensures led { steps.new.led ≡ steps.old.led }
+    ensures stands { OnOk result (StandsOn steps.new.led steps.new.steps.outcome steps.new.initial) }
+{
+    let kept = steps.keep_initial()?;
+    let change = find_change(steps, false, end)?;
+    Ok((change, kept))
+}
+
+// Whether a register that the row that is lent specifies is specified in the row that was kept too.
+fn is_kept_at(steps: &RowWalk<'_>, register: u16) -> bool
+    ensures { result ≡ true → is_specified (rule steps.now.steps.current register) ≡ true → is_specified (rule steps.now.kept register) ≡ true }
+{
+    steps.kept().rule(register).is_specified() || !steps.row().rule(register).is_specified()
+}
+
+// Makes a set the registers whose rules are not those of the row that was kept, and says whether that specifies all that the row
+// that is lent specifies.
+fn list_differences<'a>(
+    steps: &RowWalk<'a>,
+    changed: &mut RegisterSet<'a>,
+) -> Result<bool, AllocError>
+    ensures beside { OnOk result (SameBeside changed.new steps.now.kept steps.now.steps.current) }
+    ensures only { OnOk result ((r : ℕ) → has changed.new r ≡ true → rule steps.now.kept r ≡ rule steps.now.steps.current r → ⊥) }
+    ensures keeps { IfOk result (λ keeps. keeps ≡ true → kept steps.now.steps.current steps.now.kept ≡ steps.now.steps.current) }
+{
+    changed.clear();
+    let mut keeps = true;
+    let mut last = None;
+    'registers: while let Some(register) = steps.next_difference(last) {
+        changed.add(register)?;
+        keeps = keeps && is_kept_at(steps, register);
+        last = Some(register);
+    }
+    Ok(keeps)
+}
+
+/// How the row at an FDE's begin stands to the one that the program of its CIE leaves (6.4.3).
+#[derive(Clone, Copy, Debug, PartialEq, Eq)]
+pub struct Behind {
+    /// The place of the CIE, `CIE_pointer` of the FDE.
+    pub cie_at: u64,
+    /// Whether the CIE's row is known to specify every register that the row at the begin specifies. Then all rows of the FDE do.
+    pub keeps: bool,
+}
+
+// Goes on to the first change, and lists how it stands to the row of the CIE at a place, where that was kept.
+fn show_behind<'a>(
+    steps: &mut RowWalk<'a>,
+    changed: &mut RegisterSet<'a>,
+    end: u128,
+    cie_at: u64,
+) -> Result<(Option<u128>, Option<Behind>), AllocError>
+    requires { steps.old.steps.outcome.fault ≡ None }
+    ensures finds { FindsFirst end steps.old.steps result steps.new.steps }
+    ensures led { steps.new.led ≡ steps.old.led }
+    ensures cie { IfOk result (λ found. IfSome found.1 (λ behind. behind.cie_at ≡ cie_at)) }
+    ensures beside { IfOk result (λ found. IfSome found.1 (λ _. ShownBehind steps.new changed.new)) }
+    ensures keeps { IfOk result (λ found. IfSome found.1 (λ behind. IsTrue behind.keeps → AreBytes steps.new.led.program.bytes → AllKeep steps.new.steps.current steps.new.steps.outcome.rows)) }
+{
+    let (change, kept) = first_change(steps, end)?;
+    if !kept || change.is_none() {
+        return Ok((change, None));
+    }
+    let keeps = list_differences(steps, changed)?;
+    steps.cie_keeps();
+    Ok((change, Some(Behind { cie_at, keeps })))
 }
 
 /// The changes of an FDE (6.4.1, 6.4.3): its begin (`initial_location`), and each address below its end (that plus
@@ -202,6 +282,38 @@ impl<'a> Changes<'a> {
         self.lent = matches!(change, Ok(Some(_)));
         self.failed = change.is_err();
         change
+    }
+
+    /// Goes on to the next change as `advance` does. Where that is the first one that is asked for behind `Table::changes` or
+    /// `go_on`, and the program of the CIE (`initial_instructions`, 6.4.1) is long, a set becomes the registers to which it gives
+    /// other rules than the row that this program leaves, and the CIE is answered. It costs what the FDE's program set, and nothing
+    /// for the other registers. `None` says that this is not known.
+    pub fn advance_behind(
+        &mut self,
+        changed: &mut RegisterSet<'a>,
+    ) -> Result<Option<Behind>, AllocError>
+        ensures goes { OnOk result (GoesOn self.old self.new) }
+        ensures failed { OnErr result (self.new.failed ≡ true) }
+        ensures section { self.new.section ≡ self.old.section }
+        // The set has the registers in which the row that is shown is not that of the CIE.
+        ensures changed { IfOk result (λ found. IfSome found (λ behind. (row : Rules) × CieLeaves self.old.section.target self.old.section.bytes behind.cie_at row × IfSome self.new.shown (AreChanged changed.new row))) }
+        // The changes still to come specify what the first one does.
+        ensures keeps { IfOk result (λ found. IfSome found (λ behind. IsTrue behind.keeps → IfSome self.new.shown (λ first. kept_by first self.new.to_come ≡ first))) }
+    {
+        let Some(cie_at) = self.cie_at else {
+            self.advance()?;
+            return Ok(None);
+        };
+        if !self.long || self.lent || self.kept || self.failed {
+            self.advance()?;
+            return Ok(None);
+        }
+        are_bytes(self.bytes);
+        let shown = show_behind(&mut self.steps, changed, self.end, cie_at);
+        self.failed = shown.is_err();
+        let (change, behind) = shown?;
+        self.lent = change.is_some();
+        Ok(behind)
     }
 
     /// The row (6.4.1) of the change that `advance` or `next` went on to, also behind the last one, and none before the first

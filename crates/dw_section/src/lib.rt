@@ -24,7 +24,7 @@ mod table;
 mod table_lookup;
 mod walks;
 
-pub use change::Changes;
+pub use change::{Behind, Changes};
 pub use entry::{Entry, EntryCounts, Kind, entries, one_cut, one_cut_fault};
 pub use fde_range::Ranged;
 pub use header::{Header, headers, one_first_fault, one_order};

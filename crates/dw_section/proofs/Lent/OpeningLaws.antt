@@ -1,8 +1,11 @@
 -- FDEs that begin with one row of a CIE begin with the same row, and each later row specifies what that does.
 use Rattle.dw_section.proofs.Words.{◌≡◌, ℕ, ◌<◌, ◌≤◌, List, ◌∷◌, Option, sym, ◌∙◌, subst, arith, IsTrue, ℤ, AllByRecursion, Target, AreBytes, Instr, RegRule, initial_cfa, initial_rule, first_row, row_with, Rules, AreSpecified}
 use Rattle.dw_section.proofs.Words.{is_specified, rule, counts_exists, same_rows, Fde, Accepted, AreChanges, HoldsAt, Head, ChangesOf, CieRow, OpensBehind, Begins, factors_of}
+use Rattle.dw_section.proofs.Words.{ap, Ok, CieHead, HasBytes, IsAmong, cie, input_of, leaves_one}
+use Rattle.dw_cfa.specs.Behind.{LeavesTo}
+use Rattle.dw_section.specs.Laws.{OneCieRow}
 use Rattle.dw_cfa.proofs.Lent.Openings.{AllSet, all_set, cfa_with, first_cfa, first_rule, stays_specified}
-use Rattle.dw_section.proofs.Lent.Heads.{heads_bytes, heads_rise, one_begin}
+use Rattle.dw_section.proofs.Lent.Heads.{all_in, cie_or, heads_bytes, heads_rise, one_among, one_begin}
 use Rattle.dw_section.proofs.Lent.HeaderLaws.{one_headers}
 use Rattle.dw_section.proofs.Lent.Sections.{one_programs}
 use Rattle.dw_section.proofs.Lent.Sounds.{Held, held_behind}
@@ -60,3 +63,15 @@ module _ (target : Target) (s : List ℕ) (b : AreBytes s) (ok : Accepted target
   one_first f g row first other later more o p h k =
       let left = subst (λ (l : List Instr). IsLeft l row.cfa_offset first.1) (one_initial f g row o p) h.left in
       same_rows first.1 other.1 left.listed k.left.listed (left.cfa ∙ sym k.left.cfa) (λ r. left.rules r ∙ sym (k.left.rules r))
+
+-- a CIE leaves one row
+pub one_cie_row : OneCieRow
+one_cie_row target s at x y b p q =
+    let hs = p.headers in
+    let same : q.headers ≡ hs = one_headers target s q.headers hs q.are p.are in
+    let among : IsAmong (cie q.head) hs = subst (λ (l : List Head). IsAmong (cie q.head) l) same q.among in
+    let one : cie p.head ≡ cie q.head = one_among 0 hs (cie p.head) (cie q.head) (heads_rise target s hs p.are) p.among among (p.stands ∙ sym q.stands) in
+    let head : p.head ≡ q.head = ap (cie_or p.head) one in
+    let bytes = all_in HasBytes hs (cie q.head) (heads_bytes target s hs b p.are) among in
+    let left = subst (λ (h : CieHead). LeavesTo (factors_of h) (input_of target h.program) (Ok x)) head p.leaves in
+    leaves_one (factors_of q.head) (input_of target q.head.program) left.0 q.leaves.0 x y bytes left.1 q.leaves.1

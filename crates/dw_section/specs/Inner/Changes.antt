@@ -4,11 +4,14 @@ use Rattle.std.specs.BTreeMap.{BTreeMap, get}
 use Rattle.std.specs.Ordering.{nat_cmp}
 use Rattle.dw_cfa.specs.declared.execution.LocatedRow.{LocatedRow}
 use Rattle.dw_cfa.specs.Inner.RowEquality.{same_rows}
+use Rattle.dw_cfa.specs.Behind.{LeavesTo}
+use Rattle.dw_cfa.specs.RegisterSets.{Registers}
 use Rattle.dw_cfa.specs.Rows.{Rules}
 use Rattle.dw_cfa.specs.RowSteps.{Stepping}
 use Rattle.dw_cfa.specs.RowWalk.{Walking}
 use Rattle.dw_section.specs.Changes.{Changing}
 use Rattle.dw_section.specs.Inner.Lookup.{LedBy, LedSo}
+use Rattle.dw_section.specs.Opening.{AreChanged}
 use Rattle.dw_section.specs.Table.{Section}
 
 -- ---- changes among rows
@@ -71,3 +74,12 @@ FindsChange end old shown (Ok None) new = (new.outcome.fault ≡ None) × (chang
 FindsChange end old shown (Ok (Some start)) new =
     (new.outcome.fault ≡ None) × (changes_among end shown old.outcome.rows ≡ (start, new.current) ∷ changes_among end (Some new.current) new.outcome.rows)
 FindsChange end old shown (Err e) new = new.outcome.fault ≡ None
+
+-- the same of the first change, with what else is answered of it
+abbrev pub FindsFirst : {A E : Type 0} → ℕ → Stepping → Result (Option ℕ × A) E → Stepping → Type 0
+FindsFirst {A} {E} end old (Ok found) new = FindsChange {E = E} end old None (Ok found.0) new
+FindsFirst {A} {E} end old (Err e) new = FindsChange {E = E} end old None (Err e) new
+
+-- the row that was kept is the CIE's, and a set has the registers whose rules the row that is lent changes
+abbrev pub ShownBehind : Walking → Registers → Type 0
+ShownBehind walk changed = LeavesTo walk.led.factors walk.led.program (Ok walk.kept) × AreChanged changed walk.kept walk.steps.current

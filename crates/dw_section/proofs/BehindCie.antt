@@ -1,0 +1,99 @@
+-- How the first change of an FDE stands to the row that the program of its CIE leaves.
+use Rattle.dw_section.proofs.Words.{◌≡◌, ℕ, suc, ◌<◌, Bool, true, false, List, [], ◌∷◌, Option, Some, None, Ok, refl, sym, ap, subst, arith, inl, inr, filter, nat_tests, cases_Bool, cases_lt, IfSome, IsTrue, MatchOption, AreBytes, Target, LocatedRow, RegRule, Rules, Led, Walking}
+use Rattle.dw_section.proofs.Words.{AllKeep, AreSpecified, Entry, HasBytes, LedBy, Section, changes_among, is_kept, is_specified, kept, kept_by, leaves_one, rule, rule_in, shown_if, unlisted}
+use Rattle.dw_cfa.specs.Behind.{LeavesTo}
+use Rattle.dw_cfa.specs.Difference.{FirstDifference}
+use Rattle.dw_cfa.specs.RegisterSets.{Registers, has}
+use Rattle.dw_cfa.specs.RowWalk.{CieKeeps, StandsOn}
+use Rattle.dw_cfa.specs.Runs.{finished}
+use Rattle.dw_section.specs.Inner.Changes.{ShownBehind}
+use Rattle.dw_section.specs.Inner.Shown.{shown_of}
+use Rattle.dw_section.specs.Opening.{AreChanged, CieLeaves}
+use Rattle.dw_section.specs.declared.change.Behind.{Behind}
+use Rattle.dw_cfa.proofs.Lent.Narrowed.{first_left}
+use Rattle.dw_section.proofs.ChangesAmong.{changes_keep}
+use Rattle.dw_section.proofs.Dropped.{none_dropped}
+use Rattle.dw_section.proofs.Lent.Heads.{all_in, heads_bytes}
+
+-- ---- the registers to which a row gives other rules than the one before
+
+-- of those below a place a set has the ones that both rows give other rules, and, where this is known, the one before specifies all
+-- that the row does
+pub record Listed (before row : Rules) (changed : Registers) (keeps : Bool) (place : ℕ) : Type 0 where
+  pub beside : (r : ℕ) → r < place → has changed r ≡ false → rule before r ≡ rule row r
+  pub only : (r : ℕ) → has changed r ≡ true → (r < place) × (rule before r ≡ rule row r → ⊥)
+  pub specified : keeps ≡ true → (r : ℕ) → r < place → is_specified (rule row r) ≡ true → is_specified (rule before r) ≡ true
+
+-- registers that others specify too all stay
+all_stay : (others : List Entry) (low : ℕ) (xs : List Entry) → AreSpecified low xs → ((r : ℕ) → is_specified (rule_in xs r) ≡ true → is_specified (rule_in others r) ≡ true) → filter (is_kept others) xs ≡ xs
+all_stay others low [] up all = refl
+all_stay others low (x ∷ xs) up all =
+    let some : is_specified x.1 ≡ true = grind (arith, up.1) in
+    let here : is_kept others x ≡ true = all x.0 (grind (arith, nat_tests, some)) in
+    let behind : (r : ℕ) → is_specified (rule_in xs r) ≡ true → is_specified (rule_in others r) ≡ true = λ r is. all r (grind (arith, nat_tests, is, unlisted r (suc x.0) xs up.2)) in
+    (first_left (is_kept others) x xs here).1 (all_stay others (suc x.0) xs up.2 behind)
+
+-- where no rule differs from the place on, the row before keeps all of the row
+pub all_kept : (before row : Rules) (changed : Registers) (keeps : Bool) (place : ℕ) → Listed before row changed keeps place → FirstDifference place before.registers row.registers None → AreSpecified 0 row.registers → keeps ≡ true → kept row before ≡ row
+all_kept before row changed keeps place listed last up all =
+    let specified : (r : ℕ) → is_specified (rule row r) ≡ true → is_specified (rule before r) ≡ true = λ r is. elim (cases_lt r place) [
+      | inl below ↦ listed.specified all r below is
+      | inr ge ↦ let same = last r ge in subst (λ (x : RegRule). is_specified x ≡ true) (sym same) is
+    ] in
+    ap (λ (xs : List Entry). let k : Rules = record { cfa = row.cfa; registers = xs } in k) (all_stay before.registers 0 row.registers up specified)
+
+-- ---- the CIE of a walk
+
+-- the row that was kept is the one on which the walk stands
+pub stands_kept : (walk : Walking) → AreBytes walk.led.program.bytes → StandsOn walk.led walk.steps.outcome walk.initial → LeavesTo walk.led.factors walk.led.program (Ok walk.kept) → kept walk.steps.current walk.kept ≡ walk.steps.current → CieKeeps walk walk.steps.current
+stands_kept walk bytes stands left same = stands_by walk.initial stands where
+  stands_by : (initial : Option Rules) → StandsOn walk.led walk.steps.outcome initial → MatchOption initial (walk.steps.outcome ≡ finished) (λ initial. kept walk.steps.current initial ≡ walk.steps.current)
+  stands_by None stands = stands
+  stands_by (Some row) stands =
+      let one = leaves_one walk.led.factors walk.led.program left.0 stands.1.0 walk.kept row bytes left.1 stands.1.1 in
+      subst (λ (r : Rules). kept walk.steps.current r ≡ walk.steps.current) one same
+
+module _ (s : Section) (place : ℕ) (led : Led) (by : LedBy s place led) where
+  led_bytes : AreBytes s.bytes → AreBytes led.program.bytes
+  led_bytes bytes = all_in HasBytes by.headers _ (heads_bytes s.target s.bytes by.headers bytes by.hold.0.0.0) by.names.2
+
+  cie_leaves : (row : Rules) → LeavesTo led.factors led.program (Ok row) → CieLeaves s.target s.bytes place row
+  cie_leaves row left = record {
+    headers = by.headers;
+    are = by.hold.0.0.0;
+    head = record { at = place; form = by.names.0; code_factor = led.factors.code_factor; data_factor = led.factors.data_factor; return_register = by.names.1; program = record { at = led.program.at; bytes = led.program.bytes } };
+    among = by.names.2;
+    stands = refl;
+    leaves = subst (λ (t : Target). LeavesTo led.factors (record { at = led.program.at; bytes = led.program.bytes; target = t }) (Ok row)) by.target_is left;
+  }
+
+-- ---- the row that is shown
+
+module _ (lent kept : Bool) (current before : Rules) (none : kept ≡ false) where
+  -- where none was kept it is the one that is lent, or none
+  shows_lent : (P : Rules → Type 0) → P current → IfSome (shown_of lent current (shown_if kept before)) P
+  shows_lent P is = elim (cases_Bool lent) [ inl e ↦ rw e is | inr e ↦ rw (e, none) tt ]
+
+  -- the changes behind it drop none of its registers
+  drops_none : (end : ℕ) (rows : List LocatedRow) → AllKeep current rows → IfSome (shown_of lent current (shown_if kept before)) (λ first. kept_by first (changes_among end (shown_of lent current (shown_if kept before)) rows) ≡ first)
+  drops_none end rows all = elim (cases_Bool lent) [
+    | inl e ↦ rw e (sym (none_dropped current (changes_among end (Some current) rows) (changes_keep current end (Some current) rows all)))
+    | inr e ↦ rw (e, none) tt
+  ]
+
+module _ (s : Section) (place : ℕ) (walk : Walking) (lent kept : Bool) (by : LedBy s place walk.led) (none : kept ≡ false) where
+  abbrev shown : Option Rules
+  shown = shown_of lent walk.steps.current (shown_if kept walk.kept)
+
+  -- what is answered of the CIE
+  pub cie_shown : (changed : Registers) (answer : Option Behind) → IfSome answer (λ behind. behind.cie_at ≡ place) → IfSome answer (λ _. ShownBehind walk changed)
+      → IfSome answer (λ behind. (row : Rules) × CieLeaves s.target s.bytes behind.cie_at row × IfSome shown (AreChanged changed row))
+  cie_shown changed None at is = tt
+  cie_shown changed (Some behind) at is =
+      (walk.kept, subst (λ (n : ℕ). CieLeaves s.target s.bytes n walk.kept) (sym at) (cie_leaves s place walk.led by walk.kept is.0), shows_lent lent kept walk.steps.current walk.kept none (AreChanged changed walk.kept) is.1)
+
+  -- and of the changes still to come
+  pub all_shown : (end : ℕ) (answer : Option Behind) → AreBytes s.bytes → IfSome answer (λ behind. IsTrue behind.keeps → AreBytes walk.led.program.bytes → AllKeep walk.steps.current walk.steps.outcome.rows)
+      → IfSome answer (λ behind. IsTrue behind.keeps → IfSome shown (λ first. kept_by first (changes_among end shown walk.steps.outcome.rows) ≡ first))
+  all_shown end None bytes all = tt
+  all_shown end (Some behind) bytes all = λ keeps. drops_none lent kept walk.steps.current walk.kept none end walk.steps.outcome.rows (all keeps (led_bytes s place walk.led by bytes))
