@@ -14,7 +14,7 @@ use Rattle.dw_normal.proofs.Grouped.{look_members, some_of, told}
 self_is : (k : ℕ) → nat_cmp k k ≡ Equal
 self_is k = let lt : nat_lt k k ≡ false = le-ltb k k (omega arith) in let eq : nat_eq k k ≡ true = eq-eqb k k refl in rw (lt, eq) refl
 
-there_is : (k e : ℕ) → k ≡ e → nat_cmp k e ≡ Equal
+pub there_is : (k e : ℕ) → k ≡ e → nat_cmp k e ≡ Equal
 there_is k e same = subst (λ (n : ℕ). nat_cmp k n ≡ Equal) same (self_is k)
 
 pub found_written : (k : ℕ) (v : Rules) (es : List (ℕ × Rules)) → row_of (insert_entry nat_cmp es k v) k ≡ Some v

@@ -12,9 +12,11 @@ mod Taken
 mod ChangesToCome
 mod Grouped
 mod Again
+mod KnownCies
 mod Reports
 mod Placed
 mod Alike
+mod TwinRows
 mod Joined
 mod Filled
 mod Sited
@@ -30,3 +32,4 @@ mod UntouchedRows
 mod PlainLogs
 mod NopsLeft
 mod PushedRows
+mod Apartness

@@ -37,7 +37,7 @@ module _ {t : Target} {s : List ℕ} (b : AreBytes s) (ok : Accepted t s) {ms : 
 
   -- as if it were begun
   abbrev pub as_begun : Begun
-  as_begun = record { fde = begun.fde; shared = begun.shared; changes = record { section = begun.changes.section; to_come = m.later; shown = Some m.first; before = None; failed = false } }
+  as_begun = record { fde = begun.fde; shared = begun.shared; changes = record { section = begun.changes.section; to_come = m.later; shown = Some m.first; before = None; failed = false }; apart = begun.apart }
 
   begins : Begins ms m as_begun
   begins = record { fde = is; shared = shared_is; first = refl; later = refl }

@@ -1,16 +1,15 @@
 -- Two rows that are told by offsets, beside each other: the first register whose rule differs, and whether any does.
-use Rattle.dw_normal.proofs.Words.{◌≡◌, ℕ, zero, suc, ◌+◌, ◌<◌, ◌≤◌, Bool, true, false, List, Option, Some, None, refl, sym, ap, ◌∙◌, inl, inr, arith, cases_Bool, cases_lt, AreSpecified, Rules, rule, FirstDifference, DiffersFirst, differs_of, same_rule, test_of, get_or, nat_eq}
-use Rattle.std.specs.Prelude.{ℤ, pos, ◌↔◌, IsTrue, MatchOption, replicate, set, is_some, not}
+use Rattle.dw_normal.proofs.Words.{◌≡◌, ℕ, zero, suc, ◌+◌, ◌<◌, ◌≤◌, Bool, true, false, List, Option, Some, None, refl, sym, ap, ◌∙◌, inl, inr, arith, cases_Bool, cases_lt, AreSpecified, Rules, rule, FirstDifference, DiffersFirst, get_or, nat_eq}
+use Rattle.std.specs.Prelude.{ℤ, pos, replicate, set, is_some, not}
 use Rattle.std.proofs.lemmas.Bool.{eqb-true, eqb-false}
 use Rattle.std.proofs.lemmas.List.{get_or-set_other, get_or-set_same, length-set}
-use Rattle.std.specs.Option.{option_eq}
 use Rattle.std.specs.Ordering.{int_eq}
-use Rattle.std.proofs.Common.{of_z, to_z, w64}
+use Rattle.std.proofs.Common.{of_z, to_z, w16}
 use Rattle.std.proofs.lemmas.Int.{to_z-of_z}
 use mir.Val.{SFits}
 use Rattle.std.proofs.lemmas.Bool.Decides.{Decides-int_eq}
 use Rattle.dw_cfa.proofs.Lent.SameRows.{same_rows as rows_same}
-use Rattle.dw_cfa.specs.Inner.RowEquality.{rows_tell, rule_tells, same_rows}
+use Rattle.dw_cfa.specs.Inner.RowEquality.{rows_tell, same_rows}
 use Rattle.dw_cfa.specs.declared.rule.RegRule.TheVariants.{Offset}
 use Rattle.dw_normal.specs.declared.plain_rows.Cfa.{Cfa}
 use Rattle.dw_normal.specs.declared.plain_rows.PlainRows.{PlainRows}
@@ -41,10 +40,6 @@ first_so first c begin up = record {
 
 -- ---- tests of offsets
 
-offset_self : (a : Option ℤ) → option_eq int_eq a a ≡ true
-offset_self None = refl
-offset_self (Some n) = (Decides-int_eq n n).1 refl
-
 -- numbers that stand for the same offset are one
 one_number : (n m : ℤ) → offset_in n ≡ offset_in m → n ≡ m
 one_number n m same = elim (cases_Bool (int_eq n (pos 0))) [
@@ -65,31 +60,8 @@ pub same_numbers : (xs ys : List ℤ) (r : ℕ) → get_or xs r (pos 0) ≡ get_
 same_numbers xs ys r same = at_number xs r ∙ ap offset_in same ∙ sym (at_number ys r)
 
 -- a number but 0 is an offset
-pub number_is : (n : ℤ) → (n ≡ pos 0 → ⊥) → offset_in n ≡ Some n
+number_is : (n : ℤ) → (n ≡ pos 0 → ⊥) → offset_in n ≡ Some n
 number_is n other = elim (cases_Bool (int_eq n (pos 0))) [ inl e ↦ absurd (other ((Decides-int_eq n (pos 0)).0 e)) | inr e ↦ rw e refl ]
-
-offset_is : (shared : Rules) (r : ℕ) (n m : ℤ) → rule shared r ≡ Offset m → Offset n ≡ rule shared r → m ≡ n
-offset_is shared r n m is same = let both = same ∙ is in cc
-
-same_offset : (shared : Rules) (r : ℕ) (n : ℤ) (found : Option ℤ) → MatchOption found ((m : ℤ) → rule shared r ≡ Offset m → ⊥) (λ m. rule shared r ≡ Offset m) → option_eq int_eq found (Some n) ≡ same_rule (Offset n) (rule shared r)
-same_offset shared r n None none = sym (differs_of (Offset n) (rule shared r) (λ same. none n (sym same)))
-same_offset shared r n (Some m) is =
-    test_of (Offset n) (rule shared r) (int_eq m n) (λ e. ap (λ (x : ℤ). Offset x) (sym ((Decides-int_eq m n).0 e)) ∙ sym is, λ same. (Decides-int_eq m n).1 (offset_is shared r n m is same))
-
--- whether a register is saved there
-pub saved_there : (shared : Rules) (r : ℕ) (n : ℤ) (found : Option ℤ) (t : Bool) → SFits w64 n → MatchOption found ((m : ℤ) → rule shared r ≡ Offset m → ⊥) (λ m. rule shared r ≡ Offset m)
-    → t ≡ option_eq int_eq found (Some (to_z w64 (of_z w64 n))) → same_rule (Offset n) (rule shared r) ≡ t
-saved_there shared r n found t fits is test = sym (same_offset shared r n found is) ∙ sym (rw (to_z-of_z w64 n fits) at test)
-
--- nor where it is not marked
-pub not_saved : (row : Rules) (marks : List Bool) (r : ℕ) (n : ℤ) (d : Bool) → Marks row marks → r < 32 → get_or marks r d ≡ false → same_rule (Offset n) (rule row r) ≡ false
-not_saved row marks r n d h near is = differs_of (Offset n) (rule row r) (λ same. h.none r d near is n (sym same))
-
--- what the test says
-pub saved_is : (row : Rules) (r : ℕ) (n : ℤ) (t : Bool) → same_rule (Offset n) (rule row r) ≡ t → IsTrue t ↔ (rule row r ≡ Offset n)
-saved_is row r n t is =
-    let tells = rule_tells (Offset n) (rule row r) in
-    (λ e. sym (tells.0 (rw (sym is) at e)), λ e. sym is ∙ tells.1 (sym e))
 
 -- ---- marks
 
@@ -142,11 +114,12 @@ module _ (first : Rules) (rows : PlainRows) (so : RowsSo first rows) where
   pub written_rule : (r : ℕ) → rule (written_row first rows) r ≡ rule_with first r (saved_at (offsets_in rows.written) r)
   written_rule r = row_rule first rows.written_cfa (offsets_in rows.written) r so.listed
 
-  pub rule_none : (r : ℕ) → saved_at (offsets_in rows.saved) r ≡ None → rule (own_row first rows) r ≡ rule first r
-  rule_none r none = own_rule r ∙ ap (rule_with first r) none
+  -- a number of two bytes is tested as it is held
+  pub rule_none : (r : ℕ) (n : ℤ) → SFits w16 n → offset_in n ≡ saved_at (offsets_in rows.saved) r → of_z w16 n ≡ 0 → rule (own_row first rows) r ≡ rule first r
+  rule_none r n fits is none = let zero_is : n ≡ pos 0 = sym (to_z-of_z w16 n fits) ∙ ap (to_z w16) none in own_rule r ∙ ap (rule_with first r) (sym is ∙ ap offset_in zero_is)
 
-  pub rule_some : (r : ℕ) (n : ℤ) → saved_at (offsets_in rows.saved) r ≡ Some n → rule (own_row first rows) r ≡ Offset n
-  rule_some r n is = own_rule r ∙ ap (rule_with first r) is
+  pub rule_some : (r : ℕ) (n : ℤ) → offset_in n ≡ saved_at (offsets_in rows.saved) r → (of_z w16 n ≡ 0 → ⊥) → rule (own_row first rows) r ≡ Offset n
+  rule_some r n is some = own_rule r ∙ ap (rule_with first r) (sym is ∙ number_is n (λ same. some (ap (of_z w16) same)))
 
   pub own_keeps : AreSpecified 0 (own_row first rows).registers
   own_keeps = row_keeps first rows.cfa (offsets_in rows.saved) so.listed

@@ -4,14 +4,14 @@ use Rattle.std.specs.Prelude.{ℤ, pos, replicate, set, if◌then◌else◌}
 use Rattle.std.proofs.lemmas.Bool.{eqb-true, eqb-false}
 use Rattle.std.proofs.lemmas.List.{get_or-set_other, get_or-set_same, length-set}
 use Rattle.dw_cfa.proofs.Lent.RowLists.{put_keeps, put_rule}
-use Rattle.dw_cfa.proofs.Lent.SameRows.{one_row, same_rows}
+use Rattle.dw_cfa.proofs.Lent.SameRows.{same_rows}
 use Rattle.dw_cfa.specs.Inner.Rows.{with_rule}
 use Rattle.dw_cfa.specs.Rows.{rule_in}
 use Rattle.dw_cfa.specs.declared.rule.RegRule.{RegRule}
 use Rattle.dw_cfa.specs.declared.rule.RegRule.TheVariants.{Offset}
 use Rattle.dw_normal.specs.declared.plain_rows.Cfa.{Cfa}
 use Rattle.dw_normal.specs.declared.plain_rows.PlainRows.{PlainRows}
-use Rattle.dw_normal.specs.Inner.PlainRows.{IsChanged, OnlyOther, RowsSo, cfa_of, offset_in, offsets_in, own_row, row_with, rule_with, saved_at, with_saved}
+use Rattle.dw_normal.specs.Inner.PlainRows.{IsChanged, OnlyOther, RowsSo, offset_in, offsets_in, own_row, row_with, rule_with, saved_at, with_saved}
 
 abbrev Entry : Type 0
 Entry = ℕ × RegRule
@@ -52,14 +52,6 @@ pub one_told : (first : Rules) (c : Cfa) (offsets others : List (Option ℤ)) �
 one_told first c offsets others up same =
     same_rows (row_with first c offsets) (row_with first c others) (row_keeps first c offsets up) (row_keeps first c others up) refl
     (λ r. row_rule first c offsets r up ∙ ap (rule_with first r) (same r) ∙ sym (row_rule first c others r up))
-
--- with none
-none_told : (k count : ℕ) (entries : List Entry) → with_saved k (replicate count None) entries ≡ entries
-none_told k zero entries = refl
-none_told k (suc count) entries = none_told (suc k) count entries
-
-first_none : (first : Rules) (c : Cfa) (count : ℕ) → first.cfa ≡ cfa_of c → row_with first c (replicate count None) ≡ first
-first_none first c count is = one_row (row_with first c (replicate count None)) first (sym is) (none_told 0 count first.registers)
 
 -- ---- one offset is set
 
@@ -108,9 +100,6 @@ set_number (m ∷ numbers) (suc place) n = ap (λ (l : List (Option ℤ)). offse
 pub no_numbers : (count : ℕ) → offsets_in (replicate count (pos 0)) ≡ replicate count None
 no_numbers zero = refl
 no_numbers (suc count) = ap (λ (l : List (Option ℤ)). None ∷ l) (no_numbers count)
-
-pub first_told : (first : Rules) (c : Cfa) (count : ℕ) → first.cfa ≡ cfa_of c → row_with first c (offsets_in (replicate count (pos 0))) ≡ first
-first_told first c count is = ap (row_with first c) (no_numbers count) ∙ first_none first c count is
 
 -- ---- registers with other rules
 

@@ -1,5 +1,5 @@
 -- Where no register was set since, the current row differs from the one that was written last in the CFA alone.
-use Rattle.dw_normal.proofs.Words.{◌≡◌, ℕ, ◌+◌, ◌-◌, ◌^◌, ◌<◌, ◌≤◌, List, [], ◌∷◌, false, true, refl, sym, ap, ◌∙◌, ◌++◌, inl, inr, arith, cases_Bool, cases_lt, lt-ltb, eq-eqb, subst, append-nil, append_assoc, move, program_bytes, AllByRecursion, Target, Instr, Rules, InstrFits, cfa_difference, difference}
+use Rattle.dw_normal.proofs.Words.{◌≡◌, ℕ, ◌+◌, ◌-◌, ◌^◌, ◌<◌, ◌≤◌, List, [], ◌∷◌, false, true, refl, sym, ap, ◌∙◌, ◌++◌, inl, inr, arith, cases_Bool, cases_lt, lt-ltb, eq-eqb, subst, append-nil, move, program_bytes, AllByRecursion, Target, Instr, Rules, InstrFits, cfa_difference, difference}
 use Rattle.std.specs.Prelude.{ℤ, unsigned_abs}
 use Rattle.std.specs.Int.{is_negative}
 use Rattle.std.specs.Ordering.{int_eq}
@@ -55,12 +55,6 @@ module _ (first : Rules) (rows : PlainRows) (so : RowsSo first rows) (none : row
     pub row_put : (new : List ℕ) → (rows.written_cfa ≡ rows.cfa → ⊥) → new ≡ out ++ program_bytes t (move rows.at rows.start ∷ cfa_difference (cfa_of rows.written_cfa) (cfa_of rows.cfa))
         → new ≡ out ++ program_bytes t (row_instrs shared first rows)
     row_put new other is = rw (differs other) (is ∙ ap (λ (l : List Instr). out ++ program_bytes t (move rows.at rows.start ∷ l)) (sym (cfa_alone t shared)))
-
--- three bytes that are appended one after another
-pub three_bytes : (out room one two three : List ℕ) (a b c : ℕ) → room ≡ out → one ≡ room ++ a ∷ [] → two ≡ one ++ b ∷ [] → three ≡ two ++ c ∷ [] → three ≡ out ++ a ∷ b ∷ c ∷ []
-three_bytes out room one two three a b c same first second third =
-    third ∙ ap (λ (l : List ℕ). l ++ c ∷ []) (second ∙ ap (λ (l : List ℕ). l ++ b ∷ []) (first ∙ ap (λ (l : List ℕ). l ++ a ∷ []) same))
-    ∙ ap (λ (l : List ℕ). l ++ c ∷ []) (append_assoc out (a ∷ []) (b ∷ [])) ∙ append_assoc out (a ∷ b ∷ []) (c ∷ [])
 
 other_int : (a b : ℤ) → (a ≡ b → ⊥) → int_eq a b ≡ false
 other_int a b other = elim (cases_Bool (int_eq a b)) [ inl e ↦ absurd (other ((Decides-int_eq a b).0 e)) | inr e ↦ e ]

@@ -5,6 +5,8 @@ pub mod Begun
 pub mod Writing
 pub mod Lengths
 pub mod Groups
+pub mod Known
+pub mod Apart
 pub mod Puts
 pub mod Places
 pub mod Answers
@@ -13,3 +15,4 @@ pub mod PlainRows
 pub mod PlainLog
 pub mod PlainProgram
 pub mod PlainFde
+pub mod Twins

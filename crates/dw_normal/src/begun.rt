@@ -1,25 +1,33 @@
 //! An FDE behind its begin: what the walks over its later changes start from.
 
-ghost use Rattle.std.specs.Prelude.{◌≡◌, ◌<◌, List, length, slice_index_or, Some, IsSome, OnOk};
+ghost use Rattle.std.specs.Prelude.{◌≡◌, ◌<◌, List, length, slice_index_or, Some, IfSome, IsSome, OnOk};
+ghost use Rattle.dw_cfa.specs.RegisterSets.{SameBeside};
+ghost use Rattle.dw_cfa.specs.Rows.{Rules};
 ghost use Rattle.dw_section.specs.declared.lookup.Fde.{Fde as TheFde};
 ghost use Rattle.dw_section.specs.Meaning.{AreFdes};
+ghost use Rattle.dw_section.specs.Opening.{CieLeaves};
 ghost use Rattle.dw_canon.specs.Members.{Member, AreMembers};
+ghost use Rattle.dw_normal.specs.Inner.Apart.{NotesSame, StandsApart};
 ghost use Rattle.dw_normal.specs.Inner.Begun.{Begins, IsReady, SharesIn};
+ghost use Rattle.dw_normal.specs.Inner.ChangeWalk.{ShownBehind, shown_row};
 ghost use Rattle.dw_normal.specs.Inner.Groups.{initial_rows, row_of};
+ghost use Rattle.dw_normal.specs.Inner.Known.{HoldsAt};
 
+use crate::apart::Apart;
 use crate::groups::go_behind_first;
 use dw_cfa::Row;
-use dw_section::{Changes, Fde, FdeRef, Table};
-use std::alloc::AllocError;
+use dw_section::{Behind, Changes, Fde, FdeRef, Table, section_laws};
+use std::alloc::{AllocError, Global};
 use std::collections::BTreeMap;
 
-/// An FDE, the initial row of its group, and its changes behind its begin, whose row they lend. One is lent to a walk over all
-/// FDEs, so that no row is moved.
+/// An FDE, the initial row of its group, its changes behind its begin, whose row they lend, and the registers to which these two rows
+/// give different rules. One is lent to a walk over all FDEs, so that no row is moved.
 #[derive(Drop)]
 pub(crate) struct Begun<'r, 'a> {
     pub(crate) fde: Fde,
     pub(crate) shared: &'r Row<'a>,
     pub(crate) changes: Changes<'a>,
+    pub(crate) apart: Apart<'a>,
 }
 
 /// The initial row of a return register, where that of another one is known, as it mostly is the same.
@@ -41,7 +49,11 @@ pub(crate) fn shared_row<'r, 'a>(
 }
 
 /// Room for the FDEs of a table, which has some, where these are the initial rows of its groups.
-pub(crate) fn room_for<'r, 'a>(rows: &'r BTreeMap<u16, Row<'a>>, table: &Table<'a>) -> Begun<'r, 'a>
+pub(crate) fn room_for<'r, 'a>(
+    alloc: Global,
+    rows: &'r BTreeMap<u16, Row<'a>>,
+    table: &Table<'a>,
+) -> Begun<'r, 'a>
     requires place { (fs : List TheFde) → AreFdes table.now.target table.now.bytes fs → 0 < length fs }
     requires rows { (ms : List Member) → AreMembers table.now.target table.now.bytes ms → rows.now.entries ≡ initial_rows ms }
     ensures section { result.changes.section ≡ table.now }
@@ -54,7 +66,24 @@ pub(crate) fn room_for<'r, 'a>(rows: &'r BTreeMap<u16, Row<'a>>, table: &Table<'
         fde,
         shared: &rows[&fde.return_register],
         changes: table.changes(first),
+        apart: Apart::none(alloc),
     }
+}
+
+// Lists the registers to which the row at the begin, which is shown, and the initial one give different rules.
+fn list_apart(begun: &mut Begun<'_, '_>, behind: Option<Behind>) -> Result<(), AllocError>
+    requires stands { IfSome behind (ShownBehind begun.old.changes begun.old.apart.known.changed) }
+    requires known { IfSome behind (λ b. (row : Rules) → CieLeaves begun.old.changes.section.target begun.old.changes.section.bytes b.cie_at row → HoldsAt (λ set. SameBeside set begun.old.shared.now row) b.cie_at begun.old.fde.return_register begun.old.apart.known.cies) }
+    ensures apart { OnOk result (StandsApart begun.new.apart begun.new.shared.now (shown_row begun.new.changes)) }
+    ensures known { OnOk result (NotesSame behind begun.old.fde.return_register begun.old.apart.known begun.old.shared.now (shown_row begun.old.changes) begun.new.apart.known.cies) }
+    ensures same { (begun.new.fde ≡ begun.old.fde) × (begun.new.shared ≡ begun.old.shared) × (begun.new.changes ≡ begun.old.changes) }
+{
+    let Some(first) = begun.changes.row() else {
+        return Err(AllocError);
+    };
+    begun
+        .apart
+        .list(begun.shared, first, behind, begun.fde.return_register)
 }
 
 /// Begins an FDE of a table, where these are the initial rows of its groups.
@@ -78,10 +107,12 @@ pub(crate) fn begin_fde<'r, 'a>(
     ensures shares { OnOk result (SharesIn rows.now.entries begun.new) }
 {
     table.accepted();
-    go_behind_first(&mut begun.changes, table, fde)?;
+    section_laws();
+    let changed = &mut begun.apart.known.changed;
+    let behind = go_behind_first(&mut begun.changes, table, fde, changed)?;
     let listed = table.fde(fde);
     let known = begun.fde.return_register;
     begun.shared = shared_row(rows, listed.return_register, known, begun.shared);
     begun.fde = listed;
-    Ok(())
+    list_apart(begun, behind)
 }

@@ -60,9 +60,9 @@ fn push_cie_fields(out: &mut Vec<u8>, register: u16, target: Target) -> Result<(
     push_uleb(out, u64::from(register))
 }
 
-/// Makes a buffer room for the length of an entry.
+// Makes a buffer room for the length of an entry.
 #[inline(always)]
-pub(crate) fn begin_entry(out: &mut Vec<u8>, order: Order) -> Result<(), AllocError>
+fn begin_entry(out: &mut Vec<u8>, order: Order) -> Result<(), AllocError>
     ensures { OnOk result (out.new.items ≡ fixed_bytes order 4 0) }
 {
     let _ = order;
@@ -113,37 +113,37 @@ fn write_eight(bytes: &mut [u8], order: Order, number: u64)
     }
 }
 
-// The place of a CIE and two addresses of four bytes.
+// Room for a length, the place of a CIE, and two addresses of four bytes.
 #[inline(always)]
-fn narrow_fields(order: Order, cie_at: u64, begin: u64, range: u64) -> [u8; 12]
+fn narrow_fields(order: Order, cie_at: u64, begin: u64, range: u64) -> [u8; 16]
     requires cie_at { cie_at < 2 ^ 32 }
     requires begin { begin < 2 ^ 32 }
     requires range { range < 2 ^ 32 }
-    ensures { result ≡ fixed_bytes order 4 cie_at ++ (fixed_bytes order 4 begin ++ fixed_bytes order 4 range) }
+    ensures { result ≡ fixed_bytes order 4 0 ++ (fixed_bytes order 4 cie_at ++ (fixed_bytes order 4 begin ++ fixed_bytes order 4 range)) }
 {
-    let mut fields = [0; 12];
-    write_four(&mut fields, order, cie_at);
-    write_four(&mut fields[4..], order, begin);
-    write_four(&mut fields[8..], order, range);
+    let mut fields = [0; 16];
+    write_four(&mut fields[4..], order, cie_at);
+    write_four(&mut fields[8..], order, begin);
+    write_four(&mut fields[12..], order, range);
     fields
 }
 
-// The place of a CIE and two addresses of eight bytes.
+// Room for a length, the place of a CIE, and two addresses of eight bytes.
 #[inline(always)]
-fn wide_fields(order: Order, cie_at: u64, begin: u64, range: u64) -> [u8; 20]
+fn wide_fields(order: Order, cie_at: u64, begin: u64, range: u64) -> [u8; 24]
     requires { cie_at < 2 ^ 32 }
-    ensures { result ≡ fixed_bytes order 4 cie_at ++ (fixed_bytes order 8 begin ++ fixed_bytes order 8 range) }
+    ensures { result ≡ fixed_bytes order 4 0 ++ (fixed_bytes order 4 cie_at ++ (fixed_bytes order 8 begin ++ fixed_bytes order 8 range)) }
 {
-    let mut fields = [0; 20];
-    write_four(&mut fields, order, cie_at);
-    write_eight(&mut fields[4..], order, begin);
-    write_eight(&mut fields[12..], order, range);
+    let mut fields = [0; 24];
+    write_four(&mut fields[4..], order, cie_at);
+    write_eight(&mut fields[8..], order, begin);
+    write_eight(&mut fields[16..], order, range);
     fields
 }
 
-/// Appends what stands before an FDE's program, at once.
+/// Makes a buffer room for the length of an FDE, and what stands before its program, at once.
 #[inline(always)]
-pub(crate) fn push_fde_fields(
+pub(crate) fn begin_fde_entry(
     out: &mut Vec<u8>,
     cie_at: u64,
     begin: u64,
@@ -153,8 +153,9 @@ pub(crate) fn push_fde_fields(
     requires cie_at { cie_at < 2 ^ 32 }
     requires begin { begin < address_limit target.size }
     requires range { range < address_limit target.size }
-    ensures { OnOk result (out.new.items ≡ out.old.items ++ fde_fields target cie_at begin range) }
+    ensures { OnOk result (out.new.items ≡ fixed_bytes target.order 4 0 ++ fde_fields target cie_at begin range) }
 {
+    out.clear();
     match target.size {
         Size::Four => out.extend_from_slice(&narrow_fields(target.order, cie_at, begin, range)),
         Size::Eight => out.extend_from_slice(&wide_fields(target.order, cie_at, begin, range)),
@@ -175,19 +176,13 @@ pub(crate) fn fill_fde(
     requires range { begun.old.fde.end < begun.old.fde.begin + address_limit target.size }
     ensures contents { (ms : List Member) (m : Member) → Begins ms m begun.old → OnOk result (out.new.items ≡ fixed_bytes target.order 4 0 ++ contents target (fde cie_at m.begin (m.end - m.begin) (fde_instrs (initial_of ms m.register) m) (program_bytes target (fde_instrs (initial_of ms m.register) m)))) }
     ensures section { begun.new.changes.section ≡ begun.old.changes.section }
-    ensures kept { (begun.new.fde ≡ begun.old.fde) × (begun.new.shared ≡ begun.old.shared) }
+    ensures kept { (begun.new.fde ≡ begun.old.fde) × (begun.new.shared ≡ begun.old.shared) × (begun.new.apart ≡ begun.old.apart) }
 {
     let (listed, shared) = (begun.fde, begun.shared);
     let begin = u128::from(listed.begin);
-    begin_entry(out, target.order)?;
-    push_fde_fields(
-        out,
-        cie_at,
-        listed.begin,
-        (listed.end - begin) as u64,
-        target,
-    )?;
-    push_first(out, shared, &begun.changes, target)?;
+    let range = (listed.end - begin) as u64;
+    begin_fde_entry(out, cie_at, listed.begin, range, target)?;
+    push_first(out, shared, &begun.changes, &begun.apart, target)?;
     push_later(out, &mut begun.changes, shared, begin, target)?;
     push_nops(out, target.size)
 }

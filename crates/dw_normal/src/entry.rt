@@ -182,7 +182,7 @@ fn turn_to<'r, 'a>(
     ensures fde { (fs : List TheFde) → AreFdes table.now.target table.now.bytes fs → (d : TheFde) → writing.new.begun.fde ≡ slice_index_or fs fde.place d }
     ensures shares { SharesIn rows.now.entries writing.new.begun }
     ensures stands { StandsIn places.now.entries writing.new }
-    ensures same { (writing.new.begun.changes ≡ writing.old.begun.changes) × (writing.new.opened ≡ writing.old.opened) }
+    ensures same { (writing.new.begun.changes ≡ writing.old.begun.changes) × (writing.new.begun.apart ≡ writing.old.begun.apart) × (writing.new.opened ≡ writing.old.opened) }
 {
     table.accepted();
     let listed = table.fde(fde);
@@ -384,7 +384,7 @@ fn write_fdes<'a, S: Sink>(
     if count == 0 {
         return Ok(0);
     }
-    let begun = room_for(rows, table);
+    let begun = room_for(*buffer.allocator(), rows, table);
     let cie_at = places[&begun.fde.return_register];
     let mut writing = Writing {
         begun,

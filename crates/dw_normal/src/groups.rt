@@ -1,56 +1,63 @@
 //! The initial row of each return register, found in one pass over the FDEs.
 
-ghost use Rattle.std.specs.Prelude.{◌≡◌, [], ◌<◌, ◌≤◌, List, length, slice_index_or, take, Some, IfOk, IfSome, IsTrue, OnOk};
-ghost use Rattle.std.specs.BTreeMap.{insert_entry};
+ghost use Rattle.std.specs.Prelude.{◌≡◌, ℕ, [], ◌<◌, ◌≤◌, List, length, slice_index_or, take, None, Some, IfOk, IfSome, IsTrue, OnOk};
+ghost use Rattle.std.specs.BTreeMap.{get, insert_entry};
 ghost use Rattle.std.specs.Ordering.{nat_cmp};
+ghost use Rattle.dw_cfa.specs.RegisterSets.{AgreesBeside, SameBeside};
 ghost use Rattle.dw_cfa.specs.Rows.{Rules};
 ghost use Rattle.dw_section.specs.declared.lookup.Fde.{Fde as TheFde};
 ghost use Rattle.dw_section.specs.Changes.{kept_by};
 ghost use Rattle.dw_section.specs.Meaning.{AreFdes, ChangesOf};
 ghost use Rattle.dw_section.specs.declared.opening.CieRow.{CieRow as TheRow};
-ghost use Rattle.dw_section.specs.Opening.{OpensBehind};
+ghost use Rattle.dw_section.specs.Opening.{CieLeaves, OpensBehind};
 ghost use Rattle.dw_canon.specs.Inner.Canon.{canon};
 ghost use Rattle.dw_canon.specs.Members.{Member, AreMembers};
 ghost use Rattle.dw_cfa.specs.Inner.Agreement.{agreed};
 ghost use Rattle.dw_normal.specs.Inner.Groups.{HasJoined, joined_by, with_member, initial_rows};
-ghost use Rattle.dw_normal.specs.Inner.ChangeWalk.{BehindFirst};
+ghost use Rattle.dw_normal.specs.Inner.ChangeWalk.{BehindFirst, ShownBehind, shown_row};
+ghost use Rattle.dw_normal.specs.Inner.Known.{Agree, HoldsAt, Notes};
 
 use crate::bound::add_share;
-use dw_cfa::Row;
-use dw_section::{Changes, CieRow, FdeRef, Table};
+use crate::known::Known;
+use dw_cfa::{RegisterSet, Row};
+use dw_section::{Behind, Changes, CieRow, FdeRef, Table, section_laws};
 use std::alloc::{AllocError, Global};
 use std::collections::BTreeMap;
 
-// Goes to the begin of an FDE that changes were gone on to.
+// Goes to the begin of an FDE that changes were gone on to, and lists how its row stands to that of its CIE, where this is known.
 #[inline(always)]
 fn show_first<'a>(
     changes: &mut Changes<'a>,
     table: &Table<'a>,
     fde: FdeRef,
-) -> Result<(), AllocError>
+    changed: &mut RegisterSet<'a>,
+) -> Result<Option<Behind>, AllocError>
     requires place { (fs : List TheFde) → AreFdes table.now.target table.now.bytes fs → fde.place < length fs }
     requires changes { (fs : List TheFde) → AreFdes table.now.target table.now.bytes fs → (d : TheFde) → ChangesOf table.now.target table.now.bytes (slice_index_or fs fde.place d) changes.old.to_come }
     ensures behind { (ms : List Member) → AreMembers table.now.target table.now.bytes ms → (d : Member) → OnOk result (BehindFirst (slice_index_or ms fde.place d) changes.new) }
+    ensures stands { IfOk result (λ found. IfSome found (ShownBehind changes.new changed.new)) }
     ensures section { changes.new.section ≡ changes.old.section }
 {
     table.accepted();
-    let _ = changes.advance()?;
-    Ok(())
+    changes.advance_behind(changed)
 }
 
-/// Goes on to the changes of an FDE behind its begin, whose row is lent.
+/// Goes on to the changes of an FDE behind its begin, whose row is lent, and lists how that stands to the row of its CIE, where
+/// this is known.
 pub(crate) fn go_behind_first<'a>(
     changes: &mut Changes<'a>,
     table: &Table<'a>,
     fde: FdeRef,
-) -> Result<(), AllocError>
+    changed: &mut RegisterSet<'a>,
+) -> Result<Option<Behind>, AllocError>
     requires place { (fs : List TheFde) → AreFdes table.now.target table.now.bytes fs → fde.place < length fs }
     requires section { changes.old.section ≡ table.now }
     ensures behind { (ms : List Member) → AreMembers table.now.target table.now.bytes ms → (d : Member) → OnOk result (BehindFirst (slice_index_or ms fde.place d) changes.new) }
+    ensures stands { IfOk result (λ found. IfSome found (ShownBehind changes.new changed.new)) }
     ensures section { changes.new.section ≡ table.now }
 {
     table.go_on(changes, fde);
-    show_first(changes, table, fde)
+    show_first(changes, table, fde, changed)
 }
 
 // Narrows the row of a group to what one more FDE shares with it, whose row at its begin is shown.
@@ -63,6 +70,32 @@ fn share_with<'a>(shared: &mut Row<'a>, changes: &mut Changes<'a>) -> Result<(),
     };
     shared.ascends();
     shared.agree(first);
+    changes.narrow(shared)
+}
+
+// The same of an FDE whose CIE's program is long: the registers of the CIE are not gone over.
+fn share_behind<'a>(
+    shared: &mut Row<'a>,
+    changes: &mut Changes<'a>,
+    known: &mut Known<'a>,
+    behind: Behind,
+    register: u16,
+) -> Result<(), AllocError>
+    requires stands { ShownBehind changes.old known.old.changed behind }
+    requires known { (row : Rules) → CieLeaves changes.old.section.target changes.old.section.bytes behind.cie_at row → HoldsAt (λ set. AgreesBeside set shared.old row) behind.cie_at register known.old.cies }
+    ensures row { (first : Rules) → changes.old.shown ≡ Some first → OnOk result (shared.new ≡ kept_by (agreed shared.old first) changes.old.to_come) }
+    ensures known { OnOk result (Notes (λ set. (row : Rules) → SameBeside known.old.changed row (shown_row changes.old) → AgreesBeside set shared.new row) behind.cie_at register known.old.cies known.new.cies) }
+    ensures section { changes.new.section ≡ changes.old.section }
+{
+    let Some(first) = changes.row() else {
+        return Err(AllocError);
+    };
+    shared.ascends();
+    first.ascends();
+    known.agree(shared, first, behind.cie_at, register)?;
+    if behind.keeps {
+        return Ok(());
+    }
     changes.narrow(shared)
 }
 
@@ -99,19 +132,31 @@ fn begin_group<'a>(
 fn add_fde<'a>(
     rows: &mut BTreeMap<u16, Row<'a>>,
     changes: &mut Changes<'a>,
+    known: &mut Known<'a>,
     table: &Table<'a>,
     fde: FdeRef,
+    behind: Option<Behind>,
 ) -> Result<(), AllocError>
     requires place { (fs : List TheFde) → AreFdes table.now.target table.now.bytes fs → fde.place < length fs }
     requires behind { (ms : List Member) → AreMembers table.now.target table.now.bytes ms → (d : Member) → BehindFirst (slice_index_or ms fde.place d) changes.old }
+    requires section { changes.old.section ≡ table.now }
+    requires stands { IfSome behind (ShownBehind changes.old known.old.changed) }
+    requires known { Agree table.now rows.old.entries known.old.cies }
     ensures rows { (ms : List Member) → AreMembers table.now.target table.now.bytes ms → (d : Member) → OnOk result (rows.new.entries ≡ with_member rows.old.entries (slice_index_or ms fde.place d)) }
+    ensures known { OnOk result (Agree table.now rows.new.entries known.new.cies) }
     ensures section { changes.new.section ≡ changes.old.section }
 {
+    table.accepted();
+    section_laws();
     let register = table.fde(fde).return_register;
-    if let Some(shared) = rows.get_mut(&register) {
-        return share_with(shared, changes);
+    let Some(shared) = rows.get_mut(&register) else {
+        return begin_group(rows, changes, register);
+    };
+    shared.ascends();
+    match behind {
+        Some(behind) => share_behind(shared, changes, known, behind, register),
+        None => share_with(shared, changes),
     }
-    begin_group(rows, changes, register)
 }
 
 /// A row that FDEs begin with, which the row of a group was narrowed to, and the return register of the group.
@@ -149,6 +194,7 @@ fn joined_by(row: Option<CieRow>, register: u16) -> Option<Joined>
 fn join_fde<'a>(
     rows: &mut BTreeMap<u16, Row<'a>>,
     changes: &mut Changes<'a>,
+    known: &mut Known<'a>,
     table: &Table<'a>,
     fde: FdeRef,
     row: Option<CieRow>,
@@ -159,8 +205,10 @@ fn join_fde<'a>(
     requires opens { (fs : List TheFde) → AreFdes table.now.target table.now.bytes fs → (d : TheFde) → IfSome row (OpensBehind table.now.target table.now.bytes (slice_index_or fs fde.place d)) }
     requires rows { (ms : List Member) → AreMembers table.now.target table.now.bytes ms → rows.old.entries ≡ initial_rows (take fde.place ms) }
     requires joined { HasJoined table.now.target table.now.bytes rows.old.entries joined }
+    requires known { Agree table.now rows.old.entries known.old.cies }
     ensures rows { (ms : List Member) → AreMembers table.now.target table.now.bytes ms → (d : Member) → OnOk result (rows.new.entries ≡ with_member rows.old.entries (slice_index_or ms fde.place d)) }
     ensures joined { IfOk result (HasJoined table.now.target table.now.bytes rows.new.entries) }
+    ensures known { OnOk result (Agree table.now rows.new.entries known.new.cies) }
     ensures section { changes.new.section ≡ table.now }
 {
     table.accepted();
@@ -168,8 +216,8 @@ fn join_fde<'a>(
     if is_joined(joined, row, register) {
         return Ok(joined);
     }
-    go_behind_first(changes, table, fde)?;
-    add_fde(rows, changes, table, fde)?;
+    let behind = go_behind_first(changes, table, fde, &mut known.changed)?;
+    add_fde(rows, changes, known, table, fde, behind)?;
     Ok(joined_by(row, register))
 }
 
@@ -177,10 +225,12 @@ fn join_fde<'a>(
 fn gather<'a>(
     rows: &mut BTreeMap<u16, Row<'a>>,
     changes: &mut Changes<'a>,
+    known: &mut Known<'a>,
     table: &Table<'a>,
     cap: u64,
 ) -> Result<bool, AllocError>
     requires cap { cap ≤ 2147483647 }
+    requires unknown { (place : ℕ) → get nat_cmp known.old.cies place ≡ None }
     requires none { rows.old.entries ≡ [] }
     requires section { changes.old.section ≡ table.now }
     ensures rows { (ms : List Member) → AreMembers table.now.target table.now.bytes ms → OnOk result (rows.new.entries ≡ initial_rows ms) }
@@ -193,7 +243,7 @@ fn gather<'a>(
         let fde = FdeRef { place };
         let opening = table.opening(fde);
         total = add_share(total, opening.program.len(), opening.initial, cap);
-        joined = join_fde(rows, changes, table, fde, opening.row, joined)?;
+        joined = join_fde(rows, changes, known, table, fde, opening.row, joined)?;
     }
     Ok(total.is_some())
 }
@@ -210,6 +260,7 @@ pub(crate) fn initial_rows<'a>(
     ensures short { (ms : List Member) → AreMembers table.now.target table.now.bytes ms → IfOk result (λ found. IsTrue found.1 → length (canon table.now.target ms) ≤ cap) }
 {
     let mut rows = BTreeMap::new(alloc);
-    let short = gather(&mut rows, &mut table.no_changes(), table, cap)?;
+    let mut known = Known::none(alloc);
+    let short = gather(&mut rows, &mut table.no_changes(), &mut known, table, cap)?;
     Ok((rows, short))
 }

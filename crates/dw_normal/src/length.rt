@@ -61,6 +61,7 @@ fn behind_member<'r, 'a>(
     behind_fde(
         room,
         &mut begun.changes,
+        &begun.apart,
         shared,
         u128::from(listed.begin),
         table.target(),
@@ -95,6 +96,7 @@ fn behind_all<'r, 'a>(
 
 // What is left of room behind all FDEs, of which there may be none.
 fn behind_fdes<'a>(
+    alloc: Global,
     room: u128,
     rows: &BTreeMap<u16, Row<'a>>,
     table: &Table<'a>,
@@ -108,7 +110,7 @@ fn behind_fdes<'a>(
     if count == 0 {
         return Ok(Some(room));
     }
-    behind_all(room, &mut room_for(rows, table), rows, table, count)
+    behind_all(room, &mut room_for(alloc, rows, table), rows, table, count)
 }
 
 /// How many bytes the normal form of a table has, or none where that is more than `cap`. The rows are the initial ones of its
@@ -129,7 +131,7 @@ pub(crate) fn measured<'a>(
     let Some(left) = behind_cies(alloc, room, rows, target) else {
         return Ok(None);
     };
-    let Some(rest) = behind_fdes(left, rows, table)? else {
+    let Some(rest) = behind_fdes(alloc, left, rows, table)? else {
         return Ok(None);
     };
     Ok(Some((room - rest) as u64))

@@ -1,6 +1,7 @@
 //! The normal form of call frame information, and whether two sections say the same (6.4). What it is says `dw_canon`.
 #![tactic(auto)]
 
+mod apart;
 mod begun;
 mod bound;
 mod cfa_change;
@@ -9,6 +10,7 @@ mod entry;
 mod error;
 mod groups;
 mod instruction;
+mod known;
 mod length;
 mod likeness;
 mod normal;
@@ -25,6 +27,7 @@ mod room;
 mod sink;
 mod size;
 mod tape;
+mod twins;
 
 pub use error::{SameError, Which, WriteError};
 pub use normal::{normal_length, normalise, normalise_to, same};

@@ -153,7 +153,7 @@ fn compared(alloc: Global, first: Table<'_>, second: Table<'_>) -> Result<bool, 
         Ok(two) => two,
         Err(error) => return Err(blamed(Which::Second, error)),
     };
-    match same_tables(&one, &two) {
+    match same_tables(alloc, &one, &two) {
         Ok(same) => Ok(same),
         Err(_) => Err(SameError::OutOfMemory),
     }

@@ -17,7 +17,7 @@ ghost use Rattle.dw_normal.specs.Inner.PlainFde.{IsKnown, KeepsFirst, Opens, Pla
 ghost use Rattle.dw_normal.specs.Inner.PlainRows.{Marks};
 
 use crate::begun::Begun;
-use crate::contents::{begin_entry, push_fde_fields, push_nops};
+use crate::contents::{begin_fde_entry, push_nops};
 use crate::plain_program::{Frame, push_plain};
 use crate::program::push_difference;
 use dw_cfa::Row;
@@ -158,8 +158,7 @@ pub(crate) fn fill_plain<'a>(
     ensures { (ms : List Member) (m : Member) → PlainMember target ms m listed opening.entry.factors opening.entry.program.now shared.now opened.now.first → IfOk result (λ plain. IsTrue plain → out.new.items ≡ fixed_bytes target.order 4 0 ++ contents target (fde cie_at m.begin (m.end - m.begin) (fde_instrs (initial_of ms m.register) m) (program_bytes target (fde_instrs (initial_of ms m.register) m)))) }
 {
     let range = (listed.end - u128::from(listed.begin)) as u64;
-    begin_entry(out, target.order)?;
-    push_fde_fields(out, cie_at, listed.begin, range, target)?;
+    begin_fde_entry(out, cie_at, listed.begin, range, target)?;
     push_opened(out, opened, shared, target)?;
     let frame = Frame {
         first: &opened.first,

@@ -8,7 +8,7 @@ ghost use Rattle.dw_normal.specs.Inner.PlainRows.{offset_in};
 #[derive(Clone, Copy)]
 pub(crate) struct Log {
     registers: [u16; 8],
-    offsets: [i64; 8],
+    offsets: [i16; 8],
     count: usize,
 }
 
@@ -38,7 +38,7 @@ impl Log {
 
     /// Adds a register and what it had. It says no where the log is full.
     #[inline(always)]
-    pub(crate) fn push(&mut self, register: u16, offset: i64) -> bool
+    pub(crate) fn push(&mut self, register: u16, offset: i16) -> bool
         requires { HasRoom self.old }
         ensures room { HasRoom self.new }
         ensures added { IsTrue result → logged self.new ≡ (register, offset_in offset) ∷ logged self.old }
@@ -54,7 +54,7 @@ impl Log {
 
     /// Takes the register that was added last, and what it had.
     #[inline(always)]
-    pub(crate) fn pop(&mut self) -> Option<(u16, i64)>
+    pub(crate) fn pop(&mut self) -> Option<(u16, i16)>
         requires { HasRoom self.old }
         ensures room { HasRoom self.new }
         ensures took { Took (logged self.old) result (logged self.new) }

@@ -1,6 +1,6 @@
 //! Plain programs of FDEs: the normal form of one is written while its instructions are read, and none of its rows is made.
 
-ghost use Rattle.std.specs.Prelude.{◌≡◌, ◌<◌, ◌++◌, ◌∷◌, [], List, IfOk, IsTrue, OnOk};
+ghost use Rattle.std.specs.Prelude.{◌≡◌, ◌<◌, ◌++◌, [], List, IfOk, IsTrue, OnOk};
 ghost use Rattle.dw_cfa.specs.InstrSpells.{Program};
 ghost use Rattle.dw_cfa.specs.Rows.{Rules};
 ghost use Rattle.dw_cfa.specs.declared.instr.Instr.{Instr};

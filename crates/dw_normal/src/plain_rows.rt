@@ -41,9 +41,9 @@ pub(crate) struct PlainRows {
     pub(crate) at: u64,
     pub(crate) cfa: Cfa,
     pub(crate) written_cfa: Cfa,
-    // The offsets of registers, and 0 where one has none.
-    saved: [i64; 32],
-    written: [i64; 32],
+    // The offsets of registers, and 0 where one has none. Both are made 0 for each FDE, so they are short.
+    saved: [i16; 32],
+    written: [i16; 32],
     // Below `low` and from `high` on no register was set since.
     low: usize,
     high: usize,
@@ -178,6 +178,17 @@ fn push_cfa_row(
     push_long_row(out, from, to, old, new, target)
 }
 
+// An offset in two bytes, where it has a place there and is not 0.
+#[inline(always)]
+fn shortened(offset: i64) -> Option<i16>
+    ensures { IfSome result (λ short. offset_in short ≡ Some offset) }
+{
+    if offset == 0 {
+        return None;
+    }
+    i16::try_from(offset).ok()
+}
+
 // Whether a row gives a register below 32 this offset. Mostly it gives it none.
 #[inline(always)]
 fn has_offset<'a>(row: &Row<'a>, register: u16, offset: i64, marks: &[bool; 32]) -> bool
@@ -250,7 +261,7 @@ impl PlainRows {
 
     /// Gives a register below 32 an offset, or for 0 the rule that it has at the begin.
     #[inline(always)]
-    pub(crate) fn put<'a>(&mut self, register: u16, offset: i64, first: &Row<'a>)
+    pub(crate) fn put<'a>(&mut self, register: u16, offset: i16, first: &Row<'a>)
         requires so { RowsSo first.now self.old }
         requires near { register < 32 }
         requires other { (n : ℤ) → offset_in offset ≡ Some n → rule first.now register ≡ Offset n → ⊥ }
@@ -263,7 +274,7 @@ impl PlainRows {
         self.high = self.high.max(place + 1);
     }
 
-    /// Saves a register below 32 at an offset from the CFA. It says no where that is 0.
+    /// Saves a register below 32 at an offset from the CFA. It says no where that is 0 or has no place in two bytes.
     #[inline(always)]
     pub(crate) fn save<'a>(
         &mut self,
@@ -277,13 +288,13 @@ impl PlainRows {
         requires near { register < 32 }
         ensures { IsTrue result → IsChanged first.now self.old self.new (with_rule register (Offset offset) (own_row first.now self.old)) }
     {
-        if offset == 0 {
+        let Some(short) = shortened(offset) else {
             return false;
-        }
+        };
         if has_offset(first, register, offset, marks) {
             self.put(register, 0, first);
         } else {
-            self.put(register, offset, first);
+            self.put(register, short, first);
         }
         true
     }
@@ -316,20 +327,6 @@ impl PlainRows {
         None
     }
 
-    // The offset of a register below 32 in the current row.
-    #[inline(always)]
-    fn offset_at(&self, register: u16) -> Option<i64>
-        requires length { length self.now.saved ≡ 32 }
-        requires near { register < 32 }
-        ensures { result ≡ saved_at (offsets_in self.now.saved) register }
-    {
-        let offset = self.saved[usize::from(register)];
-        if offset == 0 {
-            return None;
-        }
-        Some(offset)
-    }
-
     // Appends what gives a register the rule of the current row.
     #[inline(always)]
     fn push_register<'a>(
@@ -347,10 +344,11 @@ impl PlainRows {
         requires fits { InstrFits target (rule_to shared.now register (rule (own_row first.now self.now) register)) }
         ensures { OnOk result (out.new.items ≡ out.old.items ++ instr_bytes target (rule_to shared.now register (rule (own_row first.now self.now) register))) }
     {
-        match self.offset_at(register) {
-            Some(offset) => push_saved(out, shared, marks, register, offset, target),
-            None => push_register(out, shared, first, register, target),
+        let offset = self.offset_of(register);
+        if offset == 0 {
+            return push_register(out, shared, first, register, target);
         }
+        push_saved(out, shared, marks, register, i64::from(offset), target)
     }
 
     // Takes a register's rule of the current row for that of the row that was written last.
@@ -521,7 +519,7 @@ impl PlainRows {
 
     /// The offset of a register below 32 in the current row, or 0 where it has the rule of the row at the FDE's begin.
     #[inline(always)]
-    pub(crate) fn offset_of(&self, register: u16) -> i64
+    pub(crate) fn offset_of(&self, register: u16) -> i16
         requires length { length self.now.saved ≡ 32 }
         requires near { register < 32 }
         ensures { offset_in result ≡ saved_at (offsets_in self.now.saved) register }

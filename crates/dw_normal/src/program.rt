@@ -6,12 +6,14 @@ ghost use Rattle.std.specs.List.{AllByRecursion};
 ghost use Rattle.dw_canon.specs.Difference.{move};
 ghost use Rattle.dw_canon.specs.Inner.Difference.{difference, cfa_difference, rule_to};
 ghost use Rattle.dw_cfa.specs.Rows.{rule};
+ghost use Rattle.dw_normal.specs.Inner.Apart.{StandsApart};
 ghost use Rattle.dw_normal.specs.Inner.RegisterWalk.{rules_from};
 ghost use Rattle.dw_normal.specs.Inner.ChangeWalk.{Stand, later_bytes, row_or_blank, shown_row};
 ghost use Rattle.dw_canon.specs.Inner.Fits.{InstrFits};
 ghost use Rattle.dw_canon.specs.Inner.Spelling.{instr_bytes, program_bytes, rule_bytes};
 ghost use Rattle.dw_section.specs.Fits.{RuleFits};
 
+use crate::apart::Apart;
 use crate::cfa_change::cfa_difference;
 use crate::instruction::{
     push_advance, push_cfa_offset, push_instr, push_offset, push_packed, push_rule, push_set_loc,
@@ -189,18 +191,41 @@ fn push_move(out: &mut Vec<u8>, from: u128, to: u128, target: Target) -> Result<
     push_far_move(out, from, to, target)
 }
 
+// Appends what leads from an initial row to the one at an FDE's begin.
+fn push_apart<'a>(
+    out: &mut Vec<u8>,
+    shared: &Row<'a>,
+    first: &Row<'a>,
+    apart: &Apart<'a>,
+    target: Target,
+) -> Result<(), AllocError>
+    requires apart { StandsApart apart.now shared.now first.now }
+    requires fits { AllByRecursion (InstrFits target) (difference shared.now shared.now first.now) }
+    ensures { OnOk result (out.new.items ≡ out.old.items ++ program_bytes target (difference shared.now shared.now first.now)) }
+{
+    push_cfa(out, shared, first, target)?;
+    let mut last = None;
+    'registers: while let Some(register) = apart.next(shared, first, last) {
+        push_register(out, shared, first, register, target)?;
+        last = Some(register);
+    }
+    Ok(())
+}
+
 /// Appends what leads from an initial row to the one that is shown.
 pub(crate) fn push_first<'a>(
     out: &mut Vec<u8>,
     shared: &Row<'a>,
     changes: &Changes<'a>,
+    apart: &Apart<'a>,
     target: Target,
 ) -> Result<(), AllocError>
-    requires { AllByRecursion (InstrFits target) (difference shared.now shared.now (shown_row changes.now)) }
+    requires apart { StandsApart apart.now shared.now (shown_row changes.now) }
+    requires fits { AllByRecursion (InstrFits target) (difference shared.now shared.now (shown_row changes.now)) }
     ensures { OnOk result (out.new.items ≡ out.old.items ++ program_bytes target (difference shared.now shared.now (shown_row changes.now))) }
 {
     match changes.row() {
-        Some(first) => push_difference(out, shared, shared, first, target),
+        Some(first) => push_apart(out, shared, first, apart, target),
         None => Err(AllocError),
     }
 }

@@ -11,9 +11,11 @@ ghost use Rattle.dw_canon.specs.Inner.Fits.{InstrFits};
 ghost use Rattle.dw_canon.specs.Inner.Spelling.{instr_bytes, program_bytes};
 ghost use Rattle.dw_canon.specs.Inner.Written.{cie, entry_bytes};
 ghost use Rattle.dw_canon.specs.Written.{missing};
+ghost use Rattle.dw_normal.specs.Inner.Apart.{StandsApart};
 ghost use Rattle.dw_normal.specs.Inner.Lengths.{Leaves, FdeLeaves};
 ghost use Rattle.dw_normal.specs.Inner.ChangeWalk.{Stand, later_bytes, row_or_blank, shown_row};
 
+use crate::apart::Apart;
 use crate::cfa_change::cfa_difference;
 use crate::restored::is_restored;
 use crate::size::{cfa_offset_len, instr_len, packed_len, rule_len, unsigned_len};
@@ -124,18 +126,41 @@ fn move_len(from: u128, to: u128, target: Target) -> u128
     }
 }
 
+// What is left of room behind what leads from an initial row to the one at an FDE's begin.
+fn behind_apart<'a>(
+    room: u128,
+    shared: &Row<'a>,
+    first: &Row<'a>,
+    apart: &Apart<'a>,
+    target: Target,
+) -> Option<u128>
+    requires apart { StandsApart apart.now shared.now first.now }
+    requires fits { AllByRecursion (InstrFits target) (difference shared.now shared.now first.now) }
+    ensures { Leaves room (length (program_bytes target (difference shared.now shared.now first.now))) result }
+{
+    let mut left = behind_cfa(room, shared, first, target)?;
+    let mut last = None;
+    'registers: while let Some(register) = apart.next(shared, first, last) {
+        left = behind(left, register_len(shared, first, register, target))?;
+        last = Some(register);
+    }
+    Some(left)
+}
+
 // What is left of room behind what leads from an initial row to the one that is shown.
 fn behind_first<'a>(
     room: u128,
     shared: &Row<'a>,
     changes: &Changes<'a>,
+    apart: &Apart<'a>,
     target: Target,
 ) -> Result<Option<u128>, AllocError>
-    requires { AllByRecursion (InstrFits target) (difference shared.now shared.now (shown_row changes.now)) }
+    requires apart { StandsApart apart.now shared.now (shown_row changes.now) }
+    requires fits { AllByRecursion (InstrFits target) (difference shared.now shared.now (shown_row changes.now)) }
     ensures { IfOk result (Leaves room (length (program_bytes target (difference shared.now shared.now (shown_row changes.now))))) }
 {
     match changes.row() {
-        Some(first) => Ok(behind_difference(room, shared, shared, first, target)),
+        Some(first) => Ok(behind_apart(room, shared, first, apart, target)),
         None => Err(AllocError),
     }
 }
@@ -245,17 +270,19 @@ pub(crate) fn behind_cie<'a>(
 pub(crate) fn behind_fde<'a>(
     room: u128,
     changes: &mut Changes<'a>,
+    apart: &Apart<'a>,
     shared: &Row<'a>,
     begin: u128,
     target: Target,
 ) -> Result<Option<u128>, AllocError>
     requires room { room < 2 ^ 64 }
+    requires apart { StandsApart apart.now shared.now (shown_row changes.old) }
     requires first { AllByRecursion (InstrFits target) (difference shared.now shared.now (shown_row changes.old)) }
     requires stand { Stand target shared.now begin changes.old }
     ensures leaves { IfOk result (FdeLeaves target shared.now begin changes.old room) }
     ensures section { changes.new.section ≡ changes.old.section }
 {
-    let Some(left) = behind_first(room, shared, changes, target)? else {
+    let Some(left) = behind_first(room, shared, changes, apart, target)? else {
         return Ok(None);
     };
     let Some(rest) = behind_later(left, changes, shared, begin, target)? else {

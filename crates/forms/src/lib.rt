@@ -5,4 +5,6 @@
 #[cfg(test)]
 mod errors;
 #[cfg(test)]
+mod long;
+#[cfg(test)]
 mod sinks;

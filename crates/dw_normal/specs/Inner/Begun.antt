@@ -7,12 +7,16 @@ use Rattle.dw_canon.specs.Inner.Canon.{initial_of}
 use Rattle.dw_canon.specs.Inner.Difference.{difference}
 use Rattle.dw_canon.specs.Inner.Fits.{InstrFits}
 use Rattle.dw_canon.specs.Members.{Member, fde_of}
+use Rattle.dw_normal.specs.Inner.Apart.{StandsApart}
 use Rattle.dw_normal.specs.Inner.ChangeWalk.{Stand, shown_row}
 use Rattle.dw_normal.specs.Inner.Groups.{row_of}
+use Rattle.dw_normal.specs.Inner.Known.{AreSame}
 use Rattle.dw_normal.specs.declared.begun.Begun.{Begun}
 
--- its row at its begin and its later changes can be spelled behind the initial row
+-- its row at its begin and its later changes can be spelled behind the initial row, and the registers are listed that are not the same
+-- in both, or none are
 pub record IsReady (t : Target) (b : Begun) : Type 0 where
+  pub apart : StandsApart b.apart b.shared.now (shown_row b.changes)
   pub first : AllByRecursion (InstrFits t) (difference b.shared.now b.shared.now (shown_row b.changes))
   pub stand : Stand t b.shared.now b.fde.begin b.changes
 
@@ -23,6 +27,7 @@ pub record Begins (ms : List Member) (m : Member) (b : Begun) : Type 0 where
   pub first : shown_row b.changes ≡ m.first
   pub later : b.changes.to_come ≡ m.later
 
--- its initial row is that of its return register
-abbrev pub SharesIn : List (ℕ × Rules) → Begun → Type 0
-SharesIn rows b = row_of rows b.fde.return_register ≡ Some b.shared.now
+-- its initial row is that of its return register, and what is known of CIEs holds of the rows
+pub record SharesIn (rows : List (ℕ × Rules)) (b : Begun) : Type 0 where
+  pub shared : row_of rows b.fde.return_register ≡ Some b.shared.now
+  pub known : AreSame b.changes.section rows b.apart.known.cies

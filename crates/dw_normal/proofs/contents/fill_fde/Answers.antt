@@ -1,15 +1,15 @@
-use Rattle.dw_normal.proofs.Words.{◌≡◌, ◌++◌, ◌-◌, ℕ, List, length, ap, ◌∙◌, replicate, fixed_bytes, length-fixed, fde_instrs, initial_of, program_bytes, fde, contents, missing}
+use Rattle.dw_normal.proofs.Words.{◌≡◌, ◌++◌, ◌-◌, length, replicate, fixed_bytes, length-fixed, fde_instrs, initial_of, program_bytes, fde, contents, missing}
 use Rattle.dw_normal.proofs.Filled.{fde_filled, on_ok}
 use Rattle.dw_normal.proofs.contents.fill_fde.Goals as goal
 
 pub returns-clause-contents : goal.returns-clause-contents
 returns-clause-contents c = λ ms m is.
     let t = c.args.target in
+    let room = fixed_bytes t.order 4 0 in
     let out = c.push_later.new.out.items in
     let new = c.push_nops.new.out.items in
     let made = contents t (fde c.args.cie_at m.begin (m.end - m.begin) (fde_instrs (initial_of ms m.register) m) (program_bytes t (fde_instrs (initial_of ms m.register) m))) in
-    let room = c.in_ok-begin_entry.ensures in
-    on_ok c.push_nops.result (new ≡ out ++ replicate (missing t.size (length out)) 0) (new ≡ fixed_bytes t.order 4 0 ++ made)
-    (λ nops. fde_filled t ms m c.args.begun.now c.args.cie_at c.from-begin.result c.begin_entry.new.out.items c.push_fde_fields.new.out.items c.push_first.new.out.items out new is c.from-begin.ensures
-    (ap length room ∙ length-fixed t.order 4 0) c.in_ok-push_fde_fields.ensures c.in_ok-push_first.ensures c.in_ok-push_later.ensures.appends nops ∙ ap (λ (l : List ℕ). l ++ made) room)
+    on_ok c.push_nops.result (new ≡ out ++ replicate (missing t.size (length out)) 0) (new ≡ room ++ made)
+    (fde_filled t ms m c.args.begun.now c.args.cie_at c.from-begin.result room c.begin_fde_entry.new.out.items c.push_first.new.out.items out new is c.from-begin.ensures
+    (length-fixed t.order 4 0) c.in_ok-begin_fde_entry.ensures c.in_ok-push_first.ensures c.in_ok-push_later.ensures.appends)
     c.push_nops.ensures

@@ -25,22 +25,22 @@ module _ (c : In-Some) (ms : List Member) (are : AreMembers c.args.table.now.tar
   is : c.turn_to.new.writing.begun.fde ≡ fde_of m
   is = so_of_member (λ (f : Fde). c.turn_to.new.writing.begun.fde ≡ f) c.args.fde.place c.turn_to.ensures.fde ms are d
 
-  located : Located t s ms c.args.fde.place d (as_begun c.accepted.ensures.bytes c.accepted.ensures.accepted are c.args.fde.place d lt c.turn_to.new.writing.begun is c.args.rows.now.entries (c.requires.rows ms are) c.turn_to.ensures.shares) c.args.rows.now.entries c.args.places.now.entries
-  located = turned c.accepted.ensures.bytes c.accepted.ensures.accepted are c.args.fde.place d lt c.turn_to.new.writing.begun is c.args.rows.now.entries (c.requires.rows ms are) c.turn_to.ensures.shares c.args.places.now.entries (c.requires.small ms are) c.requires.places
+  located : Located t s ms c.args.fde.place d (as_begun c.accepted.ensures.bytes c.accepted.ensures.accepted are c.args.fde.place d lt c.turn_to.new.writing.begun is c.args.rows.now.entries (c.requires.rows ms are) c.turn_to.ensures.shares.shared) c.args.rows.now.entries c.args.places.now.entries
+  located = turned c.accepted.ensures.bytes c.accepted.ensures.accepted are c.args.fde.place d lt c.turn_to.new.writing.begun is c.args.rows.now.entries (c.requires.rows ms are) c.turn_to.ensures.shares.shared c.args.places.now.entries (c.requires.small ms are) c.requires.places
 
   some : c.turn_to.new.writing.begun.fde.begin < c.turn_to.new.writing.begun.fde.end
-  some = turned_some c.accepted.ensures.bytes c.accepted.ensures.accepted are c.args.fde.place d lt c.turn_to.new.writing.begun is c.args.rows.now.entries (c.requires.rows ms are) c.turn_to.ensures.shares
+  some = turned_some c.accepted.ensures.bytes c.accepted.ensures.accepted are c.args.fde.place d lt c.turn_to.new.writing.begun is c.args.rows.now.entries (c.requires.rows ms are) c.turn_to.ensures.shares.shared
 
   known : OpensBehind t s (fde_of m) c.in-Some.opened.now.behind × (c.in-Some.opened.now.first ≡ m.first)
-  known = known_is t s c.turn_to.new.writing.opened c.args.writing.now.opened c.args.opening.row c.turn_to.new.writing.begun.fde.return_register c.in-Some.opened.now c.turn_to.ensures.same.1 c.requires.first c.in-Some.ensures ms are d c.args.fde.place lt
+  known = known_is t s c.turn_to.new.writing.opened c.args.writing.now.opened c.args.opening.row c.turn_to.new.writing.begun.fde.return_register c.in-Some.opened.now c.turn_to.ensures.same.2 c.requires.first c.in-Some.ensures ms are d c.args.fde.place lt
       (so_of_member (λ (f : Fde). IfSome c.args.opening.row (OpensBehind t s f)) c.args.fde.place c.requires.opens ms are d)
 
   opens : Opens t c.turn_to.new.writing.begun.shared.now c.in-Some.opened.now.first c.in-Some.opened.now
-  opens = known_opens t s c.turn_to.new.writing.opened c.args.writing.now.opened c.args.opening.row c.turn_to.new.writing.begun.fde.return_register c.in-Some.opened.now c.turn_to.ensures.same.1 c.requires.first c.in-Some.ensures ms are c.turn_to.new.writing.begun.shared.now
-      (turned_shared c.accepted.ensures.bytes c.accepted.ensures.accepted are c.args.fde.place d lt c.turn_to.new.writing.begun is c.args.rows.now.entries (c.requires.rows ms are) c.turn_to.ensures.shares)
+  opens = known_opens t s c.turn_to.new.writing.opened c.args.writing.now.opened c.args.opening.row c.turn_to.new.writing.begun.fde.return_register c.in-Some.opened.now c.turn_to.ensures.same.2 c.requires.first c.in-Some.ensures ms are c.turn_to.new.writing.begun.shared.now
+      (turned_shared c.accepted.ensures.bytes c.accepted.ensures.accepted are c.args.fde.place d lt c.turn_to.new.writing.begun is c.args.rows.now.entries (c.requires.rows ms are) c.turn_to.ensures.shares.shared)
 
   plain : PlainMember t ms m c.turn_to.new.writing.begun.fde c.args.opening.factors c.args.opening.program.now c.turn_to.new.writing.begun.shared.now c.in-Some.opened.now.first
-  plain = turned_plain c.accepted.ensures.bytes c.accepted.ensures.accepted are c.args.fde.place d lt c.turn_to.new.writing.begun is c.args.rows.now.entries (c.requires.rows ms are) c.turn_to.ensures.shares c.in-Some.opened.now.first known.1
+  plain = turned_plain c.accepted.ensures.bytes c.accepted.ensures.accepted are c.args.fde.place d lt c.turn_to.new.writing.begun is c.args.rows.now.entries (c.requires.rows ms are) c.turn_to.ensures.shares.shared c.in-Some.opened.now.first known.1
       c.args.opening.factors c.args.opening.program.now c.in-Some.opened.now.behind known.0 (so_of_member (λ (f : Fde). HasProgram t s f c.args.opening.factors c.args.opening.program.now) c.args.fde.place c.requires.program ms are d)
 
 members : (c : In-Some) → (ms : List Member) × AreMembers c.args.table.now.target c.args.table.now.bytes ms

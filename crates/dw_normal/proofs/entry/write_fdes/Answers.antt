@@ -7,7 +7,7 @@ use Rattle.dw_normal.proofs.entry.write_fdes.Goals as goal
 pub index-cie_at-requires : goal.index-cie_at-requires
 index-cie_at-requires g c =
     let begun = c.room_for-begun.result in
-    let found = is_placed c.args.table.now.target 0 c.args.rows.now.entries begun.fde.return_register begun.shared.now c.room_for-begun.ensures.shares in
+    let found = is_placed c.args.table.now.target 0 c.args.rows.now.entries begun.fde.return_register begun.shared.now c.room_for-begun.ensures.shares.shared in
     subst (λ (o : Option ℕ). IsSome o) (sym (c.requires.places begun.fde.return_register ∙ found.1)) refl
 
 pub returns-then-count-eq0 : goal.returns-then-count-eq0

@@ -19,6 +19,7 @@ fdes-preserved c = (
       c.add_share-total.ensures.is c.add_share-total.ensures.some,
   c.in_ok-joined.ensures.section,
   c.in_ok-joined.ensures.joined,
+  c.in_ok-joined.ensures.known,
 )
 
 pub returns-clause-rows : goal.returns-clause-rows

@@ -1,4 +1,5 @@
 use Rattle.dw_normal.proofs.Words.{◌≡◌, ℕ, ◌*◌, ◌≤◌, List, take, IfSome, AreFdes, Fde, Shares, Member, AreMembers, HasJoined, initial_rows}
+use Rattle.dw_normal.specs.Inner.Known.{Agree}
 use Rattle.dw_normal.proofs.groups.gather.Given as goal
 
 abbrev pub invariant-fdes : goal.invariant-fdes
@@ -8,3 +9,4 @@ invariant-fdes l =
     × ((fs : List Fde) → AreFdes l.fn.table.target l.fn.table.bytes fs → IfSome l.total (λ (n : ℕ). Shares l.fn.table.target l.fn.table.bytes (take l.place fs) n))
     × (l.changes.section ≡ l.fn.table)
     × HasJoined l.fn.table.target l.fn.table.bytes l.rows.entries l.joined
+    × Agree l.fn.table l.rows.entries l.known.cies

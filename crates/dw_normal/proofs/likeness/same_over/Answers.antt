@@ -12,6 +12,7 @@ fdes-init c = (
       (omega (arith, mine, other), refl),
   c.requires.section,
   c.requires.other_section,
+  c.requires.twins,
 )
 
 pub same_fdes-requires-clause-first : goal.same_fdes-requires-clause-first
@@ -35,6 +36,7 @@ fdes-preserved c = (
       (inv.0, take_more_same ms ns c.fdes.place no_member lt (omega (arith, inv.0, lt)) inv.1 (here.0 c.if-not-branch.false)),
   c.in_ok-same_fdes.ensures.section,
   c.in_ok-same_fdes.ensures.other_section,
+  c.in_ok-same_fdes.ensures.twins c.if-not-branch.false,
 )
 
 pub returns : goal.returns

@@ -1,8 +1,8 @@
-use Rattle.dw_normal.proofs.Words.{AllocError, refl, ◌∙◌}
+use Rattle.dw_normal.proofs.Words.{AllocError, refl, sym, ◌∙◌, shown_row}
 use Rattle.dw_normal.proofs.Alike.{untrue, not_so, too_short, ends, same_address, same_shown, beside_more}
 use Rattle.dw_normal.proofs.ChangesToCome.{Given, given, none_given}
-use Rattle.dw_normal.proofs.likeness.same_changes.Goals.{In-Some, In-Some-2}
-use Rattle.dw_normal.proofs.likeness.same_changes.Goals as goal
+use Rattle.dw_normal.proofs.likeness.same_later.Goals.{In-Some, In-Some-2}
+use Rattle.dw_normal.proofs.likeness.same_later.Goals as goal
 
 one : (c : In-Some) → Given c.changes.first c.advance.new.self c.in-Some.address
 one c = given AllocError c.changes.first c.advance.new.self c.in_ok-address.field-0 c.in-Some.address c.in_ok-address.ensures.gives c.in-Some.is
@@ -20,17 +20,20 @@ returns-then-address-other-clause-same c =
     let at = goal.at.returns-then-address-other-clause-same c in
     not_so _ (λ same. c.if-address-other.true (same_address c.changes.invariant.0 (one at.In-Some) (other at.In-Some-2) same))
 
-pub returns-then-not-same_rows-clause-same : goal.returns-then-not-same_rows-clause-same
-returns-then-not-same_rows-clause-same c =
-    let at = goal.at.returns-then-not-same_rows-clause-same c in
-    not_so _ (λ same. untrue (c.if-not-same_rows.ensures.1 (same_shown c.changes.invariant.0 (one at.In-Some) (other at.In-Some-2) same)))
+pub returns-then-not-same_steps-clause-same : goal.returns-then-not-same_steps-clause-same
+returns-then-not-same_steps-clause-same c =
+    let at = goal.at.returns-then-not-same_steps-clause-same c in
+    not_so _ (λ same. untrue (c.if-not-same_steps.ensures.1 (same_shown c.changes.invariant.0 (one at.In-Some) (other at.In-Some-2) same)))
 
 pub changes-preserved : goal.changes-preserved
 changes-preserved c =
-    let at = goal.at.changes-preserved c in (
-      beside_more c.changes.invariant.0 (one at.In-Some) (other at.In-Some-2) c.if-address-other.false (c.if-not-same_rows.ensures.0 refl),
+    let at = goal.at.changes-preserved c in
+    let rows = c.if-not-same_steps.ensures.0 refl in
+    let shown = (one at.In-Some).shown in (
+      beside_more c.changes.invariant.0 (one at.In-Some) (other at.In-Some-2) c.if-address-other.false rows,
       c.in_ok-address.ensures.section ∙ c.changes.invariant.1,
       c.in_ok-other.ensures.section ∙ c.changes.invariant.2,
+      (shown_row c.advance.new.self, shown, sym rows ∙ shown),
     )
 
 pub returns-clause-same : goal.returns-clause-same

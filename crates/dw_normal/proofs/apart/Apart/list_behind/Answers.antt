@@ -1,0 +1,28 @@
+use Rattle.dw_normal.proofs.Words.{◌≡◌, ap, sym, subst, ◌∙◌}
+use Rattle.dw_cfa.specs.RegisterSets.{Registers, SameBeside}
+use Rattle.dw_normal.specs.declared.apart.Apart.{Apart}
+use Rattle.dw_normal.specs.declared.known.Known.{Known}
+use Rattle.dw_normal.specs.Inner.Known.{AreLess}
+use Rattle.dw_normal.proofs.Apartness.{beside_both}
+use Rattle.dw_normal.proofs.KnownCies.{puts_notes}
+use Rattle.dw_normal.proofs.apart.Apart.list_behind.Goals.{After-put, in-Some+in_ok-add_all-in-Some+in_ok-list_among-in-Some, in-None+in_ok-list_all-in-None}
+use Rattle.dw_normal.proofs.apart.Apart.list_behind.Goals as goal
+
+-- behind both arms the registers are listed, and what is known is what was left of it
+joined : (c : After-put) → (c.match-take.self.known ≡ c.take.new.self) × SameBeside c.match-take.self.registers c.args.shared.now c.args.first.now
+joined c = elim c.match-take.branch [
+  | in-Some+in_ok-add_all-in-Some+in_ok-list_among-in-Some w ↦ listed w.list_among.new.registers w.self-is w.in_ok-list_among-in-Some.ensures
+  | in-None+in_ok-list_all-in-None w ↦ listed w.list_all.new.registers w.self-is w.in_ok-list_all-in-None.ensures
+]
+  where
+    listed : (registers : Registers) → c.match-take.self ≡ record { listed = c.args.self.now.listed; registers = registers; known = c.take.new.self } → SameBeside registers c.args.shared.now c.args.first.now
+        → (c.match-take.self.known ≡ c.take.new.self) × SameBeside c.match-take.self.registers c.args.shared.now c.args.first.now
+    listed registers is beside = (ap (λ (a : Apart). a.known) is, subst (λ (a : Apart). SameBeside a.registers c.args.shared.now c.args.first.now) (sym is) beside)
+
+pub returns-clause-known : goal.returns-clause-known
+returns-clause-known c =
+    let old = c.args.self.now.known in
+    let both = joined (goal.at.returns-clause-known c).After-put in
+    let changed = c.replace-set.ensures.value ∙ ap (λ (k : Known). k.changed) both.0 ∙ c.take.ensures.changed in
+    puts_notes _ c.args.cie_at c.args.register c.add_all-2.new.self old.cies c.match-take.self.known.cies c.put.new.self.cies (subst (λ (k : Known). AreLess old.cies k.cies) (sym both.0) c.take.ensures.less) c.put.ensures.puts
+    (λ row own. beside_both c.replace-set.result c.match-take.self.registers c.add_all-2.new.self c.args.shared.now row c.args.first.now c.in_ok-add_all.ensures (subst (λ (set : Registers). SameBeside set row c.args.first.now) (sym changed) own) both.1)

@@ -1,0 +1,19 @@
+-- How the registers are listed to which two rows give different rules.
+use Rattle.std.specs.Prelude.{◌≡◌, ℕ, Option, Some, None, IsTrue}
+use Rattle.std.specs.BTreeMap.{BTreeMap}
+use Rattle.dw_cfa.specs.RegisterSets.{SameBeside}
+use Rattle.dw_cfa.specs.Rows.{Rules}
+use Rattle.dw_section.specs.declared.change.Behind.{Behind}
+use Rattle.dw_normal.specs.declared.apart.Apart.{Apart}
+use Rattle.dw_normal.specs.declared.known.CieSet.{CieSet}
+use Rattle.dw_normal.specs.declared.known.Known.{Known}
+use Rattle.dw_normal.specs.Inner.Known.{Notes}
+
+-- where they are listed, all others have the same rules in both rows
+abbrev pub StandsApart : Apart → Rules → Rules → Type 0
+StandsApart a shared first = IsTrue a.listed → SameBeside a.registers shared first
+
+-- what is known behind an FDE: what was, or of its CIE a set outside which its row and the group's are the same
+abbrev pub NotesSame : Option Behind → ℕ → Known → Rules → Rules → BTreeMap ℕ CieSet → Type 0
+NotesSame None register old shared first new = new ≡ old.cies
+NotesSame (Some b) register old shared first new = Notes (λ set. (row : Rules) → SameBeside old.changed row first → SameBeside set shared row) b.cie_at register old.cies new

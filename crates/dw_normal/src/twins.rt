@@ -1,0 +1,105 @@
+//! What is known of CIEs of two sections with long programs (6.4.1): outside which registers they leave the same row. So the rows of two
+//! FDEs at their begins are compared by what their programs set, and not by all registers of their CIEs.
+
+ghost use Rattle.std.specs.Prelude.{◌≡◌, ◌↔◌, ℕ, None, IfOk, IfSome, IsTrue, OnOk};
+ghost use Rattle.std.specs.BTreeMap.{get};
+ghost use Rattle.std.specs.Ordering.{nat_cmp};
+ghost use Rattle.dw_cfa.specs.RegisterSets.{Registers, SameBeside};
+ghost use Rattle.dw_cfa.specs.Rows.{Rules};
+ghost use Rattle.dw_section.specs.Table.{Section};
+ghost use Rattle.dw_normal.specs.Inner.Twins.{AreBeside, AreTwins, IsUnion};
+
+use dw_cfa::{RegisterSet, Row};
+use std::alloc::{AllocError, Global};
+use std::collections::BTreeMap;
+use std::mem;
+
+/// A CIE of the second section, and the registers outside which it leaves the same row as one of the first section.
+#[derive(Drop)]
+pub(crate) struct Twin<'a> {
+    pub(crate) other_at: u64,
+    pub(crate) set: RegisterSet<'a>,
+}
+
+/// What is known of the CIEs of the first section, by their places, from the last FDE of each; and the registers to which the two FDEs
+/// that were gone on to give other rules at their begins than their CIEs.
+#[derive(Drop)]
+pub(crate) struct Twins<'a, 'b> {
+    pub(crate) changed: RegisterSet<'a>,
+    pub(crate) other_changed: RegisterSet<'b>,
+    pub(crate) cies: BTreeMap<u64, Twin<'a>>,
+    pub(crate) alloc: Global,
+}
+
+// Whether rows that differ in registers of a set alone are the same.
+fn same_among(row: &Row<'_>, other: &Row<'_>, among: &RegisterSet<'_>) -> bool
+    requires { SameBeside among.now row.now other.now }
+    ensures { IsTrue result ↔ row.now ≡ other.now }
+{
+    row.cfa_rule().is_same(other.cfa_rule())
+        && row.next_difference_among(other, among, None).is_none()
+}
+
+/// Whether the rows of two FDEs at their begins are the same, where registers are known outside which their CIEs leave the same row,
+/// and outside which these rows are those of the CIEs.
+pub(crate) fn same_behind(
+    row: &Row<'_>,
+    other: &Row<'_>,
+    twin: Option<RegisterSet<'_>>,
+    changed: &RegisterSet<'_>,
+    other_changed: &RegisterSet<'_>,
+) -> Result<bool, AllocError>
+    requires { IfSome twin (λ set. (left right : Rules) × SameBeside set left right × SameBeside changed.now left row.now × SameBeside other_changed.now right other.now) }
+    ensures { IfOk result (λ b. IsTrue b ↔ row.now ≡ other.now) }
+{
+    let Some(set) = twin else {
+        return Ok(row.is_same(other));
+    };
+    let mut among = set;
+    among.add_all(changed)?;
+    among.add_all(other_changed)?;
+    Ok(same_among(row, other, &among))
+}
+
+impl<'a, 'b> Twins<'a, 'b> {
+    /// Nothing is known. Takes no memory.
+    pub(crate) fn none(alloc: Global) -> Twins<'a, 'b>
+        ensures { (place : ℕ) → get nat_cmp result.cies place ≡ None }
+    {
+        Twins {
+            changed: RegisterSet::new(alloc),
+            other_changed: RegisterSet::new(alloc),
+            cies: BTreeMap::new(alloc),
+            alloc,
+        }
+    }
+
+    /// Takes out what is known of two CIEs.
+    pub(crate) fn take(&mut self, cie_at: u64, other_at: u64) -> Option<RegisterSet<'a>>
+        ensures found { (s t : Section) → AreTwins s t self.old.cies → IfSome result (AreBeside s t cie_at other_at) }
+        ensures left { (s t : Section) → AreTwins s t self.old.cies → AreTwins s t self.new.cies }
+        ensures same { (self.new.changed ≡ self.old.changed) × (self.new.other_changed ≡ self.old.other_changed) }
+    {
+        match self.cies.remove(&cie_at) {
+            Some(twin) if twin.other_at == other_at => Some(twin.set),
+            _ => None,
+        }
+    }
+
+    // Makes a set what is known of two CIEs. Where there is no memory for it, it is forgotten.
+    fn put(&mut self, cie_at: u64, other_at: u64, set: RegisterSet<'a>)
+        ensures { (s t : Section) → AreBeside s t cie_at other_at set.entry → AreTwins s t self.old.cies → AreTwins s t self.new.cies }
+    {
+        let _ = self.cies.insert(cie_at, Twin { other_at, set });
+    }
+
+    /// Notes that two CIEs leave the same row outside the registers that their FDEs give other rules.
+    pub(crate) fn note(&mut self, cie_at: u64, other_at: u64) -> Result<(), AllocError>
+        ensures { (s t : Section) → ((set : Registers) → IsUnion self.old.changed self.old.other_changed set → AreBeside s t cie_at other_at set) → AreTwins s t self.old.cies → OnOk result (AreTwins s t self.new.cies) }
+    {
+        self.changed.add_all(&self.other_changed)?;
+        let set = mem::replace(&mut self.changed, RegisterSet::new(self.alloc));
+        self.put(cie_at, other_at, set);
+        Ok(())
+    }
+}

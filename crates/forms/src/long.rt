@@ -1,0 +1,86 @@
+//! CIEs with long programs: a section whose CIEs' programs end in many nops has the normal form of the one without these.
+
+use dw_normal::{normal_length, normalise, same};
+use dw_num::{Order, Size, Target};
+use std::alloc::Global;
+use std::test::Fail;
+
+const TARGET: Target = Target {
+    size: Size::Eight,
+    order: Order::Little,
+};
+
+// CFA r7+8, r16 at CFA-8, and r100 and r101 at offsets, of which the CIEs give r100 another one each.
+const FIRST: &[u8] = b"\x0c\x07\x08\x90\x01\x05\x64\x01\x05\x65\x01";
+
+const SECOND: &[u8] = b"\x0c\x07\x08\x90\x01\x05\x64\x02\x05\x65\x01";
+
+// Programs that FDEs of both CIEs have by turns: r100 at the same offset, and back; one more register, taken back; nothing; r101
+// at another offset, in a row of no address; r3 saved.
+const PROGRAMS: [&[u8]; 5] = [
+    b"\x05\x64\x03\x41\x06\x64",
+    b"\x05\x66\x05\x41\x06\x66",
+    b"",
+    b"\x40\x05\x65\x07\x41\x0e\x20",
+    b"\x83\x02\x41\xc3",
+];
+
+fn narrow(len: usize) -> Result<u32, Fail> {
+    match u32::try_from(len) {
+        Ok(len) => Ok(len),
+        Err(_) => Err(Fail::new("a length of more than 32 bits")),
+    }
+}
+
+// Appends an entry with these contents.
+fn put_entry(out: &mut Vec<u8>, head: &[u8], program: &[u8], nops: usize) -> Result<(), Fail> {
+    let len = head
+        .len()
+        .saturating_add(program.len())
+        .saturating_add(nops);
+    out.extend_from_slice(&narrow(len)?.to_le_bytes())?;
+    out.extend_from_slice(head)?;
+    out.extend_from_slice(program)?;
+    for _ in 0..nops {
+        out.push(0)?;
+    }
+    Ok(())
+}
+
+// Appends an FDE of 16 addresses with this number, of the CIE at a place.
+fn put_fde(out: &mut Vec<u8>, cie_at: u32, number: u8, program: &[u8]) -> Result<(), Fail> {
+    let place = cie_at.to_le_bytes();
+    let mut head = [0; 20];
+    head[..4].copy_from_slice(&place);
+    head[5] = number;
+    head[12] = 16;
+    put_entry(out, &head, program, 0)
+}
+
+// Two CIEs with so many nops behind their programs, and FDEs that take them by turns.
+fn section(alloc: Global, nops: usize) -> Result<Vec<u8>, Fail> {
+    let mut out = Vec::new(alloc);
+    let head = b"\xff\xff\xff\xff\x04\0\x08\0\x01\x78\x10";
+    put_entry(&mut out, head, FIRST, nops)?;
+    let second = narrow(out.len())?;
+    put_entry(&mut out, head, SECOND, nops)?;
+    let mut number = 0;
+    for program in PROGRAMS {
+        put_fde(&mut out, 0, number, program)?;
+        put_fde(&mut out, second, number | 0x80, program)?;
+        number = number.saturating_add(1);
+    }
+    Ok(out)
+}
+
+#[test]
+fn nops_of_cies_say_nothing(rt: HostRuntime) -> Result<(), Fail> {
+    let alloc = rt.alloc();
+    let short = section(alloc, 0)?;
+    let long = section(alloc, 300)?;
+    let form = normalise(alloc, &short, TARGET, 2147483647)?;
+    assert!(rt; normalise(alloc, &long, TARGET, 2147483647)? == form);
+    assert!(rt; normal_length(alloc, &long, TARGET, 2147483647)? == form.len() as u64);
+    assert!(rt; same(alloc, &short, &long, TARGET)?);
+    Ok(())
+}
