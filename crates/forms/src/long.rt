@@ -1,4 +1,4 @@
-//! CIEs with long programs: a section whose CIEs' programs end in many nops has the normal form of the one without these.
+//! CIEs with long programs: the normal form, worked out by hand, of a section whose CIEs' programs may end in many nops.
 
 use dw_normal::{normal_length, normalise, same};
 use dw_num::{Order, Size, Target};
@@ -25,6 +25,21 @@ const PROGRAMS: [&[u8]; 5] = [
     b"\x83\x02\x41\xc3",
 ];
 
+// Of the normal form: each FDE's number, its program, and its nops. Both CIEs are one, with the rules that all FDEs begin with: CFA
+// r7+8, and r16 at CFA-8. The data factor is -1.
+const WANTED: [(u8, &[u8], usize); 10] = [
+    (0, b"\x05\x64\x18\x05\x65\x08\x41\x05\x64\x08", 6),
+    (1, b"\x05\x64\x08\x05\x65\x08\x05\x66\x28\x41\x06\x66", 4),
+    (2, b"\x05\x64\x08\x05\x65\x08", 2),
+    (3, b"\x05\x64\x08\x05\x65\x38\x41\x0e\x20", 7),
+    (4, b"\x83\x10\x05\x64\x08\x05\x65\x08\x41\xc3", 6),
+    (0x80, b"\x05\x64\x18\x05\x65\x08\x41\x05\x64\x10", 6),
+    (0x81, b"\x05\x64\x10\x05\x65\x08\x05\x66\x28\x41\x06\x66", 4),
+    (0x82, b"\x05\x64\x10\x05\x65\x08", 2),
+    (0x83, b"\x05\x64\x10\x05\x65\x38\x41\x0e\x20", 7),
+    (0x84, b"\x83\x10\x05\x64\x10\x05\x65\x08\x41\xc3", 6),
+];
+
 fn narrow(len: usize) -> Result<u32, Fail> {
     match u32::try_from(len) {
         Ok(len) => Ok(len),
@@ -47,14 +62,20 @@ fn put_entry(out: &mut Vec<u8>, head: &[u8], program: &[u8], nops: usize) -> Res
     Ok(())
 }
 
-// Appends an FDE of 16 addresses with this number, of the CIE at a place.
-fn put_fde(out: &mut Vec<u8>, cie_at: u32, number: u8, program: &[u8]) -> Result<(), Fail> {
+// Appends an FDE of 16 addresses with this number, of the CIE at a place, with so many nops behind its program.
+fn put_fde(
+    out: &mut Vec<u8>,
+    cie_at: u32,
+    number: u8,
+    program: &[u8],
+    nops: usize,
+) -> Result<(), Fail> {
     let place = cie_at.to_le_bytes();
     let mut head = [0; 20];
     head[..4].copy_from_slice(&place);
     head[5] = number;
     head[12] = 16;
-    put_entry(out, &head, program, 0)
+    put_entry(out, &head, program, nops)
 }
 
 // Two CIEs with so many nops behind their programs, and FDEs that take them by turns.
@@ -66,9 +87,20 @@ fn section(alloc: Global, nops: usize) -> Result<Vec<u8>, Fail> {
     put_entry(&mut out, head, SECOND, nops)?;
     let mut number = 0;
     for program in PROGRAMS {
-        put_fde(&mut out, 0, number, program)?;
-        put_fde(&mut out, second, number | 0x80, program)?;
+        put_fde(&mut out, 0, number, program, 0)?;
+        put_fde(&mut out, second, number | 0x80, program, 0)?;
         number = number.saturating_add(1);
+    }
+    Ok(out)
+}
+
+// The normal form of both.
+fn wanted(alloc: Global) -> Result<Vec<u8>, Fail> {
+    let mut out = Vec::new(alloc);
+    let head = b"\xff\xff\xff\xff\x04\0\x08\0\x01\x7f\x10";
+    put_entry(&mut out, head, b"\x0c\x07\x08\x90\x08", 4)?;
+    for (number, program, nops) in WANTED {
+        put_fde(&mut out, 0, number, program, nops)?;
     }
     Ok(out)
 }
@@ -78,7 +110,8 @@ fn nops_of_cies_say_nothing(rt: HostRuntime) -> Result<(), Fail> {
     let alloc = rt.alloc();
     let short = section(alloc, 0)?;
     let long = section(alloc, 300)?;
-    let form = normalise(alloc, &short, TARGET, 2147483647)?;
+    let form = wanted(alloc)?;
+    assert!(rt; normalise(alloc, &short, TARGET, 2147483647)? == form);
     assert!(rt; normalise(alloc, &long, TARGET, 2147483647)? == form);
     assert!(rt; normal_length(alloc, &long, TARGET, 2147483647)? == form.len() as u64);
     assert!(rt; same(alloc, &short, &long, TARGET)?);
