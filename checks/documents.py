@@ -9,7 +9,7 @@ folder of their own, by the built PROGRAM. A line `...` stands for any further l
 session that needs a tool that is missing is left out, and named.
 
 Compared besides: Rust blocks with the sources, names of refusals, faults and calls with those of the code, links with files and headings, and the
-toolchain's line with `rt version`. With `--texts` that alone is compared, in a second and without a program.
+logic of the toolchain with that of `rt version`. With `--texts` that alone is compared, in a second and without a program.
 """
 import os
 import pathlib
@@ -208,9 +208,14 @@ def compare_links(name, tally):
 
 
 def compare_version(tally):
-    if shutil.which("rt"):
-        line = subprocess.run(["rt", "version"], capture_output=True, text=True).stdout.strip()
-        tally.tell(line and f"`{line}`" in text_of("README.md"), f"README.md: the toolchain is {line}")
+    """A kit of another name with the logic that the README names is told, and is not wrong: it reads the same proofs."""
+    if not shutil.which("rt"):
+        return
+    line = subprocess.run(["rt", "version"], capture_output=True, text=True).stdout.strip()
+    kit, _, logic = line.partition(" ")
+    tally.tell(logic and f" {logic}`" in text_of("README.md"), f"README.md: the toolchain is {line}")
+    if f"`{line}`" not in text_of("README.md"):
+        print(f"README.md names another kit than this one, {kit}")
 
 
 def compare_texts(tally):
