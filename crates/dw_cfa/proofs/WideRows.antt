@@ -19,7 +19,7 @@ none_removed : (r low : ℕ) (xs : List Entry) → AreSpecified low xs → r < l
 none_removed r low [] up lt = refl
 none_removed r low (x ∷ xs) up lt = let first : low ≤ x.0 = up.0 in grind (arith, nat_tests, none_removed r (suc x.0) xs up.2)
 
-removed_is : (r low : ℕ) (xs : List Entry) → AreSpecified low xs → remove_entry (is_at (nat_cmp r)) xs ≡ put r Unspecified xs
+pub removed_is : (r low : ℕ) (xs : List Entry) → AreSpecified low xs → remove_entry (is_at (nat_cmp r)) xs ≡ put r Unspecified xs
 removed_is r low [] up = refl
 removed_is r low (x ∷ xs) up = grind (arith, nat_tests, removed_is r (suc x.0) xs up.2, none_removed r (suc x.0) xs up.2)
 

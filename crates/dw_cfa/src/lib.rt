@@ -8,6 +8,7 @@ mod cie_instruction;
 mod cie_machine;
 mod coverage;
 mod debug;
+mod dropped;
 mod equality;
 mod execution;
 mod instr;

@@ -28,11 +28,11 @@ pub(crate) const NEAR: u16 = 32;
 // The registers that are not Unspecified, with their rules: those below 32 in slots, with the expressions of
 // theirs in a tree, and all others in another tree.
 #[derive(Drop)]
-struct Entries<'a> {
+pub(crate) struct Entries<'a> {
     near: [Slot; 32],
     used: u32,
     expressions: BTreeMap<u16, RegRule<'a>>,
-    far: BTreeMap<u16, RegRule<'a>>,
+    pub(crate) far: BTreeMap<u16, RegRule<'a>>,
 }
 
 impl<'a> Entries<'a> {
@@ -364,7 +364,7 @@ impl<'a> Entries<'a> {
 
     // Takes a register out that has a slot.
     #[tactic(auto, using(crate::proofs::Slots::slot_set))]
-    fn drop_near(&mut self, register: u16)
+    pub(crate) fn drop_near(&mut self, register: u16)
         requires so { EntriesSo self.old }
         requires near { register < 32 }
         ensures entries { entries_of self.new ≡ put register Unspecified (entries_of self.old) }
@@ -484,7 +484,7 @@ impl<'a> Entries<'a> {
 #[derive(Drop)]
 pub struct Row<'a> {
     cfa: CfaRule<'a>,
-    entries: Entries<'a>,
+    pub(crate) entries: Entries<'a>,
     alloc: Global,
 }
 

@@ -463,6 +463,16 @@ impl<'a> RowWalk<'a> {
         self.machine.states.is_kept()
     }
 
+    /// Keeps the row (6.4.1) that is lent, where it is the one that was kept: it stays so, and registers that were set before are
+    /// not compared again. Takes no memory.
+    #[inline(always)]
+    pub fn keep_same(&mut self)
+        requires { self.old.kept ≡ self.old.steps.current }
+        ensures { self.new ≡ self.old }
+    {
+        self.machine.states.keep_same();
+    }
+
     /// The least register to which the row that is lent gives another rule (6.4.1) than the one that was kept, of those behind a
     /// given one where there is such; or none. Registers that were set since are compared alone. Takes no memory.
     #[inline(always)]

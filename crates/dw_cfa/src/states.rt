@@ -165,6 +165,15 @@ impl<'a> States<'a> {
         self.rows.keep()
     }
 
+    /// Looks no more at what was set before, where the current row is the kept one. Takes no memory.
+    #[inline(always)]
+    pub(crate) fn keep_same(&mut self)
+        requires { self.old.kept ≡ self.old.row }
+        ensures { self.new ≡ self.old }
+    {
+        self.rows.keep_same();
+    }
+
     /// Whether the current row is the one that was kept.
     #[inline(always)]
     pub(crate) fn is_kept(&self) -> bool

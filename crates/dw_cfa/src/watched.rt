@@ -239,6 +239,15 @@ impl<'a> WatchedRow<'a> {
         copied
     }
 
+    /// Looks no more at what was set before, where the current row is the kept one. Takes no memory.
+    #[inline(always)]
+    pub(crate) fn keep_same(&mut self)
+        requires { self.old.kept ≡ self.old.row }
+        ensures { self.new ≡ self.old }
+    {
+        self.marks.begin();
+    }
+
     /// The least register to which the current row gives another rule than the kept one, of those behind a given one where
     /// there is such; or none.
     #[inline(always)]

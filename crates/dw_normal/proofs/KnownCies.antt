@@ -2,7 +2,9 @@
 use Rattle.dw_normal.proofs.Words.{◌≡◌, ◌⊎◌, ℕ, true, false, cond, List, [], ◌∷◌, Option, Some, None, Result, Ok, Err, refl, sym, ap, ◌∙◌, subst, inl, inr, IsTrue, IfOk, IfSome, OnOk, cases_Bool, AllByRecursion, nat_cmp, insert_entry, is_at, BTreeMap}
 use Rattle.dw_normal.proofs.Words.{AreSpecified, Rules, rule, agreed, same_rule, Changing, kept_by, Member, begun_with, row_of, row_or_blank, shown_row, with_member}
 use Rattle.std.specs.BTreeMap.{get}
+use Rattle.std.specs.Bool.{if◌then◌else◌}
 use Rattle.std.proofs.lemmas.Map.Entries.{lookup_tail}
+use Rattle.dw_cfa.specs.declared.rule.RegRule.{RegRule}
 use Rattle.dw_cfa.specs.declared.rule.RegRule.TheVariants.{Unspecified}
 use Rattle.dw_cfa.specs.Agreement.{is_kept, kept}
 use Rattle.dw_cfa.specs.Inner.Agreement.{is_agreed}
@@ -97,6 +99,19 @@ module _ (s first : Rules) (later : List (ℕ × Rules)) (up : Ascends s) (own :
   still_kept =
       let mine = agreed_ascends s first up in
       same_rows (kept_by both later) both (kept_by_ascends both later mine) mine (kept_by_cfa both later) each_kept
+
+-- what two rows have in common specifies no register that one of them leaves Unspecified
+left_or : (x y : RegRule) → (x ≡ Unspecified) ⊎ (x ≡ y) → (if is_specified y then x else Unspecified) ≡ x
+left_or x Unspecified h = elim h [ inl e ↦ sym e | inr e ↦ sym e ]
+left_or x y h = refl
+
+pub agreed_kept : (s first : Rules) → Ascends s → kept (agreed s first) first ≡ agreed s first
+agreed_kept s first up =
+    let mine = agreed_ascends s first up in
+    let both = agreed s first in
+    let here : (r : ℕ) → (rule both r ≡ Unspecified) ⊎ (rule both r ≡ rule first r) = λ r. elim (agreed_or s first up r) [ inl none ↦ inl none | inr same ↦ inr (same.0 ∙ same.1) ] in
+    same_rows (kept both first) both (kept_ascends both first mine) mine refl
+    (λ r. filter_rule (is_kept first.registers) 0 both.registers r mine ∙ left_or (rule both r) (rule first r) (here r))
 
 -- ---- what a group's row has beside that of a CIE
 

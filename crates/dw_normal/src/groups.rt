@@ -96,7 +96,7 @@ fn share_behind<'a>(
     if behind.keeps {
         return Ok(());
     }
-    changes.narrow(shared)
+    changes.narrow_further(shared)
 }
 
 // The row of a group that begins with an FDE, whose row at its begin is shown.

@@ -222,8 +222,13 @@ fn same_over<'a, 'b>(
     Ok(true)
 }
 
-// Whether two tables say the same. It ends at the first FDE that differs.
-fn same_sides(alloc: Global, first: &Table<'_>, second: &Table<'_>) -> Result<bool, AllocError>
+/// Whether two tables say the same: the same nonempty FDEs with the same return-address registers, and the
+/// same rules at each address that they cover. It ends at the first FDE that differs.
+pub(crate) fn same_tables(
+    alloc: Global,
+    first: &Table<'_>,
+    second: &Table<'_>,
+) -> Result<bool, AllocError>
     ensures { (ms ns : List Member) → AreMembers first.now.target first.now.bytes ms → AreMembers second.now.target second.now.bytes ns → IfOk result (λ b. Decides b (ms ≡ ns)) }
 {
     let count = first.fde_count();
@@ -234,20 +239,4 @@ fn same_sides(alloc: Global, first: &Table<'_>, second: &Table<'_>) -> Result<bo
     let mut others = second.no_changes();
     let mut twins = Twins::none(alloc);
     same_over(first, second, &mut changes, &mut others, &mut twins, count)
-}
-
-/// Whether two tables say the same: the same nonempty FDEs with the same return-address registers, and the
-/// same rules at each address that they cover. It ends at the first FDE that differs.
-pub(crate) fn same_tables(
-    alloc: Global,
-    first: &Table<'_>,
-    second: &Table<'_>,
-) -> Result<bool, AllocError>
-    ensures { (ms ns : List Member) → AreMembers first.now.target first.now.bytes ms → AreMembers second.now.target second.now.bytes ns → IfOk result (λ b. Decides b (ms ≡ ns)) }
-{
-    // One CIE is noted for each of the first table, so that is the one that has more.
-    if first.counts().cies < second.counts().cies {
-        return same_sides(alloc, second, first);
-    }
-    same_sides(alloc, first, second)
 }

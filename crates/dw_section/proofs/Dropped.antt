@@ -1,27 +1,55 @@
 -- The registers that a change drops from a row that was narrowed by the row before it.
-use Rattle.dw_section.proofs.Words.{◌≡◌, ℕ, suc, ◌<◌, Bool, true, List, [], ◌∷◌, Option, Some, None, Ok, refl, sym, ap, ◌∙◌, subst, arith, inl, inr, filter, cases_Bool, cases_lt, RegRule, kept, Rules, rule, is_specified, kept_by}
-use Rattle.dw_section.proofs.Words.{ChangesKeep, DiffersFirst, is_kept, Entry, Changing, GivesAddress, before_then, SpecifiesAll}
-use Rattle.dw_cfa.proofs.Lent.Narrowed.{left_too}
+use Rattle.dw_section.proofs.Words.{◌≡◌, ℕ, suc, Bool, true, false, List, [], ◌∷◌, Option, Some, None, Ok, refl, sym, ap, ◌∙◌, subst, arith, nat_eq, nat_tests, not, inl, inr, filter, cases_Bool, RegRule, kept, Rules, rule, is_specified, kept_by}
+use Rattle.dw_section.proofs.Words.{AreSpecified, ChangesKeep, DiffersFirst, is_kept, Entry, Changing, GivesAddress, before_then, same_rows}
+use Rattle.std.specs.Bool.{if◌then◌else◌}
+use Rattle.dw_cfa.proofs.Lent.Narrowed.{filter_keeps, filter_rule}
+use Rattle.dw_cfa.specs.Agreement.{without}
+use Rattle.dw_cfa.specs.Difference.{FirstDifference}
+use Rattle.dw_cfa.specs.Inner.Entries.{LeavesBelow, left}
+use Rattle.dw_cfa.specs.declared.rule.RegRule.TheVariants.{Unspecified}
 
--- one register more is specified still
-pub specified_more : (before row : Rules) (from q r : ℕ) → DiffersFirst from before.registers row.registers q → ((n : ℕ) → n < from → is_specified (rule before n) ≡ true → is_specified (rule row n) ≡ true)
-    → is_specified (rule row q) ≡ true → r < suc q → is_specified (rule before r) ≡ true → is_specified (rule row r) ≡ true
-specified_more before row from q r first inv there lt is = elim (cases_lt r from) [
-  | inl below ↦ inv r below is
-  | inr ge ↦ elim (cases_lt r q) [
-    | inl less ↦ let same = first.1 r ge less in subst (λ (x : RegRule). is_specified x ≡ true) same is
-    | inr most ↦ let at : q ≡ r = omega (arith, most, lt) in subst (λ (n : ℕ). is_specified (rule row n) ≡ true) at there
-  ]
-]
+-- what is dropped below a register
+pub record DropsBelow (row : Rules) (k : ℕ) (old new : Rules) : Type 0 where
+  pub cfa : new.cfa ≡ old.cfa
+  pub ascends : AreSpecified 0 new.registers
+  pub rules : LeavesBelow (is_kept row.registers) k old.registers new.registers
+
+-- of a row that was narrowed by the row before the change
+module _ (shared before row : Rules) (up : AreSpecified 0 shared.registers) (narrowed : kept shared before ≡ shared) where
+  -- a register that is not altered stays as it is
+  stays : (r : ℕ) → rule before r ≡ rule row r → left (is_kept row.registers) r (rule shared r) ≡ rule shared r
+  stays r same =
+      ap (λ (x : RegRule). if is_specified x then rule shared r else Unspecified) (sym same)
+      ∙ sym (filter_rule (is_kept before.registers) 0 shared.registers r up) ∙ ap (λ (x : Rules). rule x r) narrowed
+
+  pub none_dropped_yet : DropsBelow row 0 shared shared
+  none_dropped_yet = record { cfa = refl; ascends = up; rules = λ r. grind (arith, nat_tests) }
+
+  module _ (from : ℕ) (mid : Rules) (h : DropsBelow row from shared mid) where
+    -- up to the first register that is altered
+    up_to : (q : ℕ) → DiffersFirst from before.registers row.registers q → LeavesBelow (is_kept row.registers) q shared.registers mid.registers
+    up_to q first r = grind (arith, nat_tests, h.rules r, stays r, first.0, first.1 r)
+
+    pub one_dropped : (q : ℕ) (new : Rules) → DiffersFirst from before.registers row.registers q → is_specified (rule row q) ≡ false → new ≡ without q mid → DropsBelow row (suc q) shared new
+    one_dropped q new first none is =
+        let others = λ (x : Entry). not (nat_eq x.0 q) in
+        let here : DropsBelow row (suc q) shared (without q mid) = record {
+          cfa = h.cfa;
+          ascends = filter_keeps others 0 mid.registers h.ascends;
+          rules = λ r. grind (arith, nat_tests, filter_rule others 0 mid.registers r h.ascends, up_to q first r, none);
+        } in
+        subst (DropsBelow row (suc q) shared) (sym is) here
+
+    pub one_stays : (q : ℕ) → DiffersFirst from before.registers row.registers q → is_specified (rule row q) ≡ true → DropsBelow row (suc q) shared mid
+    one_stays q first some = record { cfa = h.cfa; ascends = h.ascends; rules = λ r. grind (arith, nat_tests, up_to q first r, some) }
+
+    pub all_dropped : FirstDifference from before.registers row.registers None → mid ≡ kept shared row
+    all_dropped same =
+        same_rows mid (kept shared row) h.ascends (filter_keeps (is_kept row.registers) 0 shared.registers up) h.cfa
+        (λ r. grind (arith, nat_tests, h.rules r, stays r, same r, filter_rule (is_kept row.registers) 0 shared.registers r up))
 
 abbrev with_left : Rules → List Entry → Rules
 with_left shared xs = record { cfa = shared.cfa; registers = xs }
-
-pub none_dropped_by : (shared before row : Rules) → SpecifiesAll before row → kept shared before ≡ shared → shared ≡ kept shared row
-none_dropped_by shared before row all same =
-    let left : filter (is_kept before.registers) shared.registers ≡ shared.registers = ap (λ (r : Rules). r.registers) same in
-    let more : filter (is_kept row.registers) shared.registers ≡ shared.registers = left_too (is_kept before.registers) (is_kept row.registers) shared.registers (λ x h. all x.0 h) left in
-    ap (with_left shared) (sym more)
 
 filter_twice : (p : Entry → Bool) (xs : List Entry) → filter p (filter p xs) ≡ filter p xs
 filter_twice p [] = refl

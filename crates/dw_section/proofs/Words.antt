@@ -77,7 +77,7 @@ pub use Rattle.dw_section.specs.Inner.Initials.{AreInitials, FirstLacking, HasOr
 pub use Rattle.dw_section.specs.Inner.Left.{AreHeaders, HeadsLeft, PiecesLeft}
 pub use Rattle.dw_section.specs.Inner.Lookup.{IsFoundIn, LedBy, LedSo, fde_of, rows_of}
 pub use Rattle.dw_section.specs.Inner.Meanings.{row_among}
-pub use Rattle.dw_section.specs.Inner.NarrowRow.{ChangesKeep, NarrowedBy, SpecifiesAll}
+pub use Rattle.dw_section.specs.Inner.NarrowRow.{ChangesKeep, NarrowedBy}
 unfoldable pub use Rattle.dw_section.specs.Inner.PieceHeader.{cie_at, fde_at}
 pub use Rattle.dw_section.specs.Inner.PieceHeader.{cie_of_piece, contents_of, fde_of_piece, program_of}
 pub use Rattle.dw_section.specs.Inner.Pieces.{piece_in}

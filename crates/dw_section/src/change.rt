@@ -36,12 +36,18 @@ fn kept_row<'w, 'a>(steps: &'w RowWalk<'a>, kept: bool) -> Option<&'w Row<'a>>
     None
 }
 
-// Whether the row that is lent is the one that was kept, where one was.
+// Whether the row that is lent is the one that was kept, where one was. Then what was set up to it is not compared again, so rows
+// that change nothing cost what is set between them.
 #[inline(always)]
-fn is_shown(steps: &RowWalk<'_>, kept: bool) -> bool
-    ensures { IsTrue result ↔ (shown_if kept steps.now.kept ≡ Some steps.now.steps.current) }
+fn is_shown(steps: &mut RowWalk<'_>, kept: bool) -> bool
+    ensures shown { IsTrue result ↔ (shown_if kept steps.old.kept ≡ Some steps.old.steps.current) }
+    ensures same { steps.new ≡ steps.old }
 {
-    kept && steps.is_kept()
+    if !kept || !steps.is_kept() {
+        return false;
+    }
+    steps.keep_same();
+    true
 }
 
 // Whether an address below the end shows the row that is lent, which starts here.
@@ -71,7 +77,10 @@ fn find_change(steps: &mut RowWalk<'_>, kept: bool, end: u128) -> Result<Option<
             Ok(None) => return Ok(None),
             Err(_) => return Err(AllocError),
         };
-        if is_visible(steps, start, end) && !is_shown(steps, kept) {
+        if !is_visible(steps, start, end) {
+            continue;
+        }
+        if !is_shown(steps, kept) {
             return Ok(Some(start));
         }
     }

@@ -40,6 +40,23 @@ const WANTED: [(u8, &[u8], usize); 10] = [
     (0x84, b"\x83\x10\x05\x64\x10\x05\x65\x08\x41\xc3", 6),
 ];
 
+// Programs of FDEs of the first CIE that begin with the same three rules more: r3 at CFA-16, r102 at CFA-40, and r103 at CFA-48. One
+// takes r102 back, and one r3, which it saves again.
+const MORE: [&[u8]; 3] = [
+    b"\x83\x02\x05\x66\x05\x05\x67\x06",
+    b"\x83\x02\x05\x66\x05\x05\x67\x06\x41\x06\x66",
+    b"\x83\x02\x05\x66\x05\x05\x67\x06\x41\xc3\x41\x83\x02",
+];
+
+// Of its normal form: the CIE has r16, r100 and r101 at CFA-8, and r103, which all FDEs keep; but not r3 and r102.
+const MORE_SHARED: &[u8] = b"\x0c\x07\x08\x90\x08\x05\x64\x08\x05\x65\x08\x05\x67\x30";
+
+const MORE_WANTED: [(u8, &[u8], usize); 3] = [
+    (0, b"\x83\x10\x05\x66\x28", 3),
+    (1, b"\x83\x10\x05\x66\x28\x41\x06\x66", 0),
+    (2, b"\x83\x10\x05\x66\x28\x41\xc3\x41\x83\x10", 6),
+];
+
 fn narrow(len: usize) -> Result<u32, Fail> {
     match u32::try_from(len) {
         Ok(len) => Ok(len),
@@ -94,13 +111,39 @@ fn section(alloc: Global, nops: usize) -> Result<Vec<u8>, Fail> {
     Ok(out)
 }
 
-// The normal form of both.
-fn wanted(alloc: Global) -> Result<Vec<u8>, Fail> {
+// The first of these CIEs, and FDEs that keep all that it gives, and give more.
+fn section_of_more(alloc: Global, nops: usize) -> Result<Vec<u8>, Fail> {
     let mut out = Vec::new(alloc);
-    let head = b"\xff\xff\xff\xff\x04\0\x08\0\x01\x7f\x10";
-    put_entry(&mut out, head, b"\x0c\x07\x08\x90\x08", 4)?;
-    for (number, program, nops) in WANTED {
-        put_fde(&mut out, 0, number, program, nops)?;
+    put_entry(
+        &mut out,
+        b"\xff\xff\xff\xff\x04\0\x08\0\x01\x78\x10",
+        FIRST,
+        nops,
+    )?;
+    let mut number = 0;
+    for program in MORE {
+        put_fde(&mut out, 0, number, program, 0)?;
+        number = number.saturating_add(1);
+    }
+    Ok(out)
+}
+
+// A normal form: its CIE's program with so many nops, and its FDEs.
+fn form(
+    alloc: Global,
+    program: &[u8],
+    nops: usize,
+    fdes: &[(u8, &[u8], usize)],
+) -> Result<Vec<u8>, Fail> {
+    let mut out = Vec::new(alloc);
+    put_entry(
+        &mut out,
+        b"\xff\xff\xff\xff\x04\0\x08\0\x01\x7f\x10",
+        program,
+        nops,
+    )?;
+    for (number, program, nops) in fdes {
+        put_fde(&mut out, 0, *number, program, *nops)?;
     }
     Ok(out)
 }
@@ -110,10 +153,21 @@ fn nops_of_cies_say_nothing(rt: HostRuntime) -> Result<(), Fail> {
     let alloc = rt.alloc();
     let short = section(alloc, 0)?;
     let long = section(alloc, 300)?;
-    let form = wanted(alloc)?;
+    let form = form(alloc, b"\x0c\x07\x08\x90\x08", 4, &WANTED)?;
     assert!(rt; normalise(alloc, &short, TARGET, 2147483647)? == form);
     assert!(rt; normalise(alloc, &long, TARGET, 2147483647)? == form);
     assert!(rt; normal_length(alloc, &long, TARGET, 2147483647)? == form.len() as u64);
     assert!(rt; same(alloc, &short, &long, TARGET)?);
+    Ok(())
+}
+
+#[test]
+fn registers_that_all_fdes_keep_are_shared(rt: HostRuntime) -> Result<(), Fail> {
+    let alloc = rt.alloc();
+    let form = form(alloc, MORE_SHARED, 3, &MORE_WANTED)?;
+    for nops in [0, 300] {
+        let section = section_of_more(alloc, nops)?;
+        assert!(rt; normalise(alloc, &section, TARGET, 2147483647)? == form);
+    }
     Ok(())
 }

@@ -14,9 +14,9 @@ use Rattle.dw_normal.specs.declared.twins.Twin.{Twin}
 abbrev pub AreBeside : Section → Section → ℕ → ℕ → Registers → Type 0
 AreBeside s t at other_at set = (row other : Rules) → CieLeaves s.target s.bytes at row → CieLeaves t.target t.bytes other_at other → SameBeside set row other
 
--- so are those of each CIE and of its twin
+-- so are those of the CIEs that are noted together
 abbrev pub AreTwins : Section → Section → BTreeMap ℕ Twin → Type 0
-AreTwins s t cies = (place : ℕ) → IfSome (get nat_cmp cies place) (λ twin. AreBeside s t place twin.other_at twin.set)
+AreTwins s t cies = (number : ℕ) → IfSome (get nat_cmp cies number) (λ twin. AreBeside s t twin.cie_at twin.other_at twin.set)
 
 -- the registers of two sets
 abbrev pub IsUnion : Registers → Registers → Registers → Type 0

@@ -1,0 +1,32 @@
+//! A register that is taken out of a row (6.4.1).
+
+ghost use Rattle.std.specs.Prelude.{◌≡◌};
+ghost use Rattle.dw_cfa.specs.Agreement.{without};
+ghost use Rattle.dw_cfa.specs.Inner.Entries.{EntriesSo, entries_of};
+ghost use Rattle.dw_cfa.specs.Inner.Rows.{put};
+ghost use Rattle.dw_cfa.specs.declared.rule.RegRule.TheVariants.{Unspecified};
+
+use crate::row::{Entries, NEAR, Row};
+
+impl<'a> Entries<'a> {
+    // Takes a register out.
+    fn take_out(&mut self, register: u16)
+        requires { EntriesSo self.old }
+        ensures entries { entries_of self.new ≡ put register Unspecified (entries_of self.old) }
+        ensures so { EntriesSo self.new }
+    {
+        if register < NEAR {
+            return self.drop_near(register);
+        }
+        self.far.remove(&register);
+    }
+}
+
+impl<'a> Row<'a> {
+    /// Leaves a register Unspecified (6.4.1). Takes no memory.
+    pub fn drop_register(&mut self, register: u16)
+        ensures { self.new ≡ without register self.old }
+    {
+        self.entries.take_out(register);
+    }
+}
