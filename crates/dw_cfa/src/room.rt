@@ -116,9 +116,17 @@ impl<'a> RowRoom<'a> {
         requires start { begin ≤ address }
         ensures { FoundAt address (run_rows factors (program_input cie_program.entry target) (program_input fde_program.entry target) begin) (run_stop factors (program_input cie_program.entry target) (program_input fde_program.entry target) begin) self.new result }
     {
-        let mut cie = Cursor::new(cie_program.bytes, cie_program.at, target);
-        let mut fde = Cursor::new(fde_program.bytes, fde_program.at, target);
-        if run_short(&mut cie, &mut fde, factors, begin, address, &mut self.row) {
+        let (alloc, row) = (self.alloc, &mut self.row);
+        if run_short(
+            alloc,
+            cie_program,
+            fde_program,
+            target,
+            factors,
+            begin,
+            address,
+            row,
+        ) {
             return Ok(());
         }
         self.run(cie_program, fde_program, begin, factors, target, address)

@@ -1,14 +1,15 @@
 //! Programs whose operands are short, run up to the row of an address (6.4.3). Most programs are: numbers of one byte or two, no
 //! expressions, at most one row that is remembered. They are run with fewer questions; what else comes is left to the machine.
 
-ghost use Rattle.std.specs.Prelude.{◌≡◌, ℕ, ◌+◌, ◌*◌, ◌-◌, ◌<◌, ◌≤◌, ◌*ℤ◌, unsigned_abs, Ok, None, Option, false, length, IfSome, IsTrue};
+ghost use Rattle.std.specs.Prelude.{◌≡◌, ℕ, ◌+◌, ◌*◌, ◌-◌, ◌<◌, ◌≤◌, ◌*ℤ◌, unsigned_abs, Ok, None, Some, Option, true, false, length, IfSome, IsTrue};
 ghost use Rattle.std.specs.Int.{bit_at};
 ghost use Rattle.dw_num.specs.Input.{Input};
 ghost use Rattle.dw_num.specs.Front.{register_at, sleb_at, uleb_at, fixed_at};
 ghost use Rattle.dw_num.specs.Target.{address_limit};
-ghost use Rattle.dw_cfa.specs.declared.instr.Instr.TheVariants.{DefCfaOffset, RememberState, Restore, RestoreState};
+ghost use Rattle.dw_cfa.specs.declared.instr.Instr.TheVariants.{DefCfaOffset, Restore};
 ghost use Rattle.dw_cfa.specs.Operands.{advanced};
 ghost use Rattle.dw_cfa.specs.Rows.{Rules};
+ghost use Rattle.dw_cfa.specs.RowSteps.{program_input};
 ghost use Rattle.dw_cfa.specs.Inner.ByOpcode.{advance_at, factored_at, plain_at, signed_at, def_cfa_at, def_cfa_sf_at, def_cfa_register_at, def_cfa_offset_at, def_cfa_offset_sf_at, offset_at, offset_extended_at, operands_at, same_value_at, undefined_at, val_offset_at};
 ghost use Rattle.dw_cfa.specs.Inner.Machine.{half_fault, written};
 ghost use Rattle.dw_cfa.specs.Inner.Rows.{with_rule};
@@ -19,7 +20,8 @@ use crate::instr::Factors;
 use crate::opcode::{Opcode, known_opcode};
 use crate::row::{NEAR, Row};
 use crate::rule::{CfaRule, RegRule};
-use dw_num::{Cursor, Order, Size, are_bytes};
+use dw_num::{Cursor, Order, Program, Size, Target, are_bytes};
+use std::alloc::Global;
 
 /// The factors of a CIE, where both are short too.
 #[derive(Clone, Copy)]
@@ -35,6 +37,10 @@ pub(crate) enum Step {
     On,
     /// The location moved: the row ends before it.
     Moved,
+    /// The row is to be remembered: nothing is done yet.
+    Remember,
+    /// The row that was remembered last is to be brought back: nothing is done yet.
+    BringBack,
     /// It is not known what it does.
     Unknown,
 }
@@ -469,33 +475,6 @@ fn restore(row: &mut Row<'_>, register: u16, frame: Frame) -> Step
     }
 }
 
-// Remembers the row, where none is remembered. No says nothing.
-#[inline(never)]
-fn remember<'a>(row: &Row<'a>, remembered: &mut Option<Row<'a>>) -> Step
-    ensures { (initial : Rules) (location limit : ℕ) (behind : Input) → location ≤ limit → StepsBy (Ok (RememberState, behind)) (machine_at initial limit row.now remembered.old location) result behind (machine_at initial limit row.now remembered.new location) }
-{
-    if remembered.is_some() {
-        return Step::Unknown;
-    }
-    let Ok(copy) = row.copied() else {
-        return Step::Unknown;
-    };
-    *remembered = Some(copy);
-    Step::On
-}
-
-// Goes back to the row that is remembered. No says nothing.
-#[inline(never)]
-fn restore_state<'a>(row: &mut Row<'a>, remembered: &mut Option<Row<'a>>) -> Step
-    ensures { (initial : Rules) (location limit : ℕ) (behind : Input) → location ≤ limit → StepsBy (Ok (RestoreState, behind)) (machine_at initial limit row.old remembered.old location) result behind (machine_at initial limit row.new remembered.new location) }
-{
-    let Some(copy) = remembered.take() else {
-        return Step::Unknown;
-    };
-    *row = copy;
-    Step::On
-}
-
 // An instruction that a CIE's program may hold too.
 #[inline(always)]
 fn write_step<'a>(opcode: Opcode, cursor: &mut Cursor<'a>, frame: Frame, row: &mut Row<'a>) -> Step
@@ -508,7 +487,7 @@ fn write_step<'a>(opcode: Opcode, cursor: &mut Cursor<'a>, frame: Frame, row: &m
     }
 }
 
-// Reads the operands behind an opcode, and runs its instruction. No says nothing.
+// Reads the operands behind an opcode, and runs its instruction, but that states are left to the caller.
 #[tactic(auto, unfolding(crate::specs::Inner::ByOpcode::operands_at))]
 #[inline(always)]
 fn apply<'a>(
@@ -516,56 +495,140 @@ fn apply<'a>(
     cursor: &mut Cursor<'a>,
     frame: Frame,
     row: &mut Row<'a>,
-    remembered: &mut Option<Row<'a>>,
     location: &mut u64,
 ) -> Step
-    ensures { (initial : Rules) (at limit : ℕ) → SpecifiesIn frame.specified initial → frame.last ≤ limit → location.old ≤ limit → StepsBy (operands_at (factors_of frame.factors) at opcode cursor.old) (machine_at initial limit row.old remembered.old location.old) result cursor.new (machine_at initial limit row.new remembered.new location.new) }
+    ensures { (initial : Rules) (remembered : Option Rules) (at limit : ℕ) → SpecifiesIn frame.specified initial → frame.last ≤ limit → location.old ≤ limit → StepsBy (operands_at (factors_of frame.factors) at opcode cursor.old) (machine_at initial limit row.old remembered location.old) result cursor.new (machine_at initial limit row.new remembered location.new) }
 {
     match opcode {
         Opcode::AdvanceLoc(delta) => advance(u16::from(delta), frame, location),
         Opcode::AdvanceLoc1 => advance_1(cursor, frame, location),
         Opcode::AdvanceLoc2 => advance_2(cursor, frame, location),
         Opcode::Restore(register) => restore(row, register, frame),
-        Opcode::RememberState => remember(row, remembered),
-        Opcode::RestoreState => restore_state(row, remembered),
+        Opcode::RememberState => Step::Remember,
+        Opcode::RestoreState => Step::BringBack,
         other => write_step(other, cursor, frame, row),
     }
 }
 
-// Runs an instruction.
+// Runs an instruction, but that states are left to the caller.
 #[inline(always)]
 fn run_next<'a>(
     cursor: &mut Cursor<'a>,
     frame: Frame,
     row: &mut Row<'a>,
-    remembered: &mut Option<Row<'a>>,
     location: &mut u64,
 ) -> Step
     requires { 0 < length cursor.old.bytes }
-    ensures { (initial : Rules) (limit : ℕ) → SpecifiesIn frame.specified initial → frame.last ≤ limit → RunsSo (machine_at initial limit row.old remembered.old location.old) cursor.old → Stepped (factors_of frame.factors) cursor.old (machine_at initial limit row.old remembered.old location.old) result cursor.new (machine_at initial limit row.new remembered.new location.new) }
+    ensures { (initial : Rules) (remembered : Option Rules) (limit : ℕ) → SpecifiesIn frame.specified initial → frame.last ≤ limit → RunsSo (machine_at initial limit row.old remembered location.old) cursor.old → Stepped (factors_of frame.factors) cursor.old (machine_at initial limit row.old remembered location.old) result cursor.new (machine_at initial limit row.new remembered location.new) }
 {
     are_bytes(cursor.rest());
     let Ok(code) = cursor.byte() else {
         return Step::Unknown;
     };
     match known_opcode(code) {
-        Some(opcode) => apply(opcode, cursor, frame, row, remembered, location),
+        Some(opcode) => apply(opcode, cursor, frame, row, location),
         None => Step::Unknown,
     }
+}
+
+// Keeps a row as the one that is remembered, unless one is. No says nothing.
+fn remember<'a>(row: &Row<'a>, kept: &mut Row<'a>, has: &mut bool) -> bool
+    ensures { IsTrue result → (has.old ≡ false) × (has.new ≡ true) × (kept.new ≡ row.now) }
+{
+    if *has || kept.become_copy(row).is_err() {
+        return false;
+    }
+    *has = true;
+    true
+}
+
+// Brings the row back that is remembered, if one is. No says nothing.
+fn bring_back<'a>(row: &mut Row<'a>, kept: &Row<'a>, has: &mut bool) -> bool
+    ensures { IsTrue result → (has.old ≡ true) × (has.new ≡ false) × (row.new ≡ kept.now) }
+{
+    if !*has || row.become_copy(kept).is_err() {
+        return false;
+    }
+    *has = false;
+    true
+}
+
+// Runs what is left of an FDE's program behind a row that was remembered, in the same way. Out of line, and with a cursor of its own:
+// most programs remember none, and their cursor stays in registers so.
+#[inline(never)]
+fn run_remembered<'a>(
+    mut cursor: Cursor<'a>,
+    frame: Frame,
+    address: u64,
+    row: &mut Row<'a>,
+    kept: &mut Row<'a>,
+    begin: u64,
+) -> bool
+    requires kept { kept.old ≡ row.old }
+    requires last { frame.last ≤ address_limit cursor.target.size }
+    requires begin { begin ≤ address }
+    requires in_space { begin ≤ address_limit cursor.target.size }
+    ensures { (initial : Rules) → SpecifiesIn frame.specified initial → IsTrue result → RowFound address (factors_of frame.factors) cursor.entry (machine_at initial (address_limit cursor.entry.target.size) row.old (Some row.old) begin) row.new }
+{
+    let mut location = begin;
+    let mut has = true;
+    'instrs: while cursor.left() > 0 {
+        match run_next(&mut cursor, frame, row, &mut location) {
+            Step::On => {}
+            Step::Moved => {
+                if location > address {
+                    return true;
+                }
+            }
+            Step::Remember => {
+                if !remember(row, kept, &mut has) {
+                    return false;
+                }
+            }
+            Step::BringBack => {
+                if !bring_back(row, kept, &mut has) {
+                    return false;
+                }
+            }
+            Step::Unknown => return false,
+        }
+    }
+    true
+}
+
+// The same, with room for the row that is remembered.
+#[inline(never)]
+fn remember_and_run<'a>(
+    alloc: Global,
+    cursor: Cursor<'a>,
+    frame: Frame,
+    address: u64,
+    row: &mut Row<'a>,
+    begin: u64,
+) -> bool
+    requires last { frame.last ≤ address_limit cursor.target.size }
+    requires begin { begin ≤ address }
+    requires in_space { begin ≤ address_limit cursor.target.size }
+    ensures { (initial : Rules) → SpecifiesIn frame.specified initial → IsTrue result → RowFound address (factors_of frame.factors) cursor.entry (machine_at initial (address_limit cursor.entry.target.size) row.old (Some row.old) begin) row.new }
+{
+    let mut kept = Row::blank(alloc);
+    if kept.become_copy(row).is_err() {
+        return false;
+    }
+    run_remembered(cursor, frame, address, row, &mut kept, begin)
 }
 
 // Runs an FDE's program behind its CIE's row, up to the end of the last row that starts at or below an address. No says nothing.
 #[inline(always)]
 fn run_fde<'a>(
+    alloc: Global,
     cursor: &mut Cursor<'a>,
     frame: Frame,
     address: u64,
     row: &mut Row<'a>,
-    remembered: &mut Option<Row<'a>>,
     begin: u64,
 ) -> bool
     requires specified { SpecifiesIn frame.specified row.old }
-    requires none { remembered.old ≡ None }
     requires last { frame.last ≤ address_limit cursor.old.target.size }
     requires begin { begin ≤ address }
     requires in_space { begin ≤ address_limit cursor.old.target.size }
@@ -573,13 +636,18 @@ fn run_fde<'a>(
 {
     let mut location = begin;
     'instrs: while cursor.left() > 0 {
-        match run_next(cursor, frame, row, remembered, &mut location) {
+        match run_next(cursor, frame, row, &mut location) {
             Step::On => {}
             Step::Moved => {
                 if location > address {
                     return true;
                 }
             }
+            Step::Remember => {
+                let left = Cursor::new(cursor.rest(), cursor.at(), cursor.target());
+                return remember_and_run(alloc, left, frame, address, row, location);
+            }
+            Step::BringBack => return false,
             Step::Unknown => return false,
         }
     }
@@ -616,10 +684,10 @@ fn last_location(size: Size) -> u64
     }
 }
 
-/// Runs a CIE's program, and an FDE's up to the end of the last row that starts at or below an address, where all that is met is short. No
-/// says nothing of the programs, and the row is some row then.
+// Runs a CIE's program, and an FDE's up to the end of the last row that starts at or below an address. No says nothing.
 #[inline(always)]
-pub(crate) fn run_short<'a>(
+fn run_both<'a>(
+    alloc: Global,
     cie: &mut Cursor<'a>,
     fde: &mut Cursor<'a>,
     factors: Factors,
@@ -643,6 +711,27 @@ pub(crate) fn run_short<'a>(
         specified: row.near_mask(),
         last: last_location(fde.target().size),
     };
-    let mut remembered = None;
-    run_fde(fde, frame, address, row, &mut remembered, begin)
+    run_fde(alloc, fde, frame, address, row, begin)
+}
+
+/// Runs a CIE's program, and an FDE's up to the end of the last row that starts at or below an address, where all that is met is short. No
+/// says nothing of the programs, and the row is some row then.
+#[inline(always)]
+pub(crate) fn run_short<'a>(
+    alloc: Global,
+    cie_program: Program<'a>,
+    fde_program: Program<'a>,
+    target: Target,
+    factors: Factors,
+    begin: u64,
+    address: u64,
+    row: &mut Row<'a>,
+) -> bool
+    requires begin { begin ≤ address }
+    requires in_space { begin ≤ address_limit target.size }
+    ensures { IsTrue result → IsFound address (run_rows factors (program_input cie_program.entry target) (program_input fde_program.entry target) begin) (run_stop factors (program_input cie_program.entry target) (program_input fde_program.entry target) begin) row.new }
+{
+    let mut cie = Cursor::new(cie_program.bytes, cie_program.at, target);
+    let mut fde = Cursor::new(fde_program.bytes, fde_program.at, target);
+    run_both(alloc, &mut cie, &mut fde, factors, begin, address, row)
 }

@@ -1,4 +1,4 @@
-use Rattle.dw_cfa.proofs.Words.{ap, ◌∙◌, subst, FoundAt, Held, Machine, Rules, program_input, run_rows, run_stop}
+use Rattle.dw_cfa.proofs.Words.{ap, ◌∙◌, Held, Machine, program_input}
 use Rattle.dw_cfa.proofs.RunSteps.{begun_is_run}
 use Rattle.dw_cfa.proofs.room.RowRoom.run.Goals as goal
 

@@ -1,7 +1,7 @@
 use Rattle.dw_cfa.proofs.Words.{refl}
 use Rattle.dw_cfa.specs.Inner.ShortRun.{factors_of}
 use Rattle.dw_cfa.proofs.ShortRuns.{found_both}
-use Rattle.dw_cfa.proofs.short_run.run_short.Goals as goal
+use Rattle.dw_cfa.proofs.short_run.run_both.Goals as goal
 
 pub returns : goal.returns
 returns c = λ yes.
