@@ -684,39 +684,8 @@ fn last_location(size: Size) -> u64
     }
 }
 
-// Runs a CIE's program, and an FDE's up to the end of the last row that starts at or below an address. No says nothing.
-#[inline(always)]
-fn run_both<'a>(
-    alloc: Global,
-    cie: &mut Cursor<'a>,
-    fde: &mut Cursor<'a>,
-    factors: Factors,
-    begin: u64,
-    address: u64,
-    row: &mut Row<'a>,
-) -> bool
-    requires begin { begin ≤ address }
-    requires in_space { begin ≤ address_limit fde.old.target.size }
-    ensures { IsTrue result → IsFound address (run_rows factors cie.old fde.old begin) (run_stop factors cie.old fde.old begin) row.new }
-{
-    let Some(short) = short_factors(factors) else {
-        return false;
-    };
-    row.clear();
-    if !write_all(cie, short, row) {
-        return false;
-    }
-    let frame = Frame {
-        factors: short,
-        specified: row.near_mask(),
-        last: last_location(fde.target().size),
-    };
-    run_fde(alloc, fde, frame, address, row, begin)
-}
-
 /// Runs a CIE's program, and an FDE's up to the end of the last row that starts at or below an address, where all that is met is short. No
 /// says nothing of the programs, and the row is some row then.
-#[inline(always)]
 pub(crate) fn run_short<'a>(
     alloc: Global,
     cie_program: Program<'a>,
@@ -733,5 +702,17 @@ pub(crate) fn run_short<'a>(
 {
     let mut cie = Cursor::new(cie_program.bytes, cie_program.at, target);
     let mut fde = Cursor::new(fde_program.bytes, fde_program.at, target);
-    run_both(alloc, &mut cie, &mut fde, factors, begin, address, row)
+    let Some(short) = short_factors(factors) else {
+        return false;
+    };
+    row.clear();
+    if !write_all(&mut cie, short, row) {
+        return false;
+    }
+    let frame = Frame {
+        factors: short,
+        specified: row.near_mask(),
+        last: last_location(target.size),
+    };
+    run_fde(alloc, &mut fde, frame, address, row, begin)
 }
