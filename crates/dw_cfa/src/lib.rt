@@ -27,6 +27,7 @@ mod row;
 mod row_walk;
 mod rows;
 mod rule;
+mod short_run;
 mod slot;
 mod states;
 mod steps;

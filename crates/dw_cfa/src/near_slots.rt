@@ -7,7 +7,7 @@ ghost use Rattle.dw_cfa.specs.Inner.Entries.{CopiedBelow, Covers, FindsNear, Fir
 
 use crate::row::NEAR;
 use crate::rule::RegRule;
-use crate::slot::{EMPTY, Kind, Slot, rule_of};
+use crate::slot::{EMPTY, Kind, Slot, rule_of, saved_rule};
 use std::collections::BTreeMap;
 use std::marker::Model;
 
@@ -72,7 +72,12 @@ pub(crate) fn next_near<'a>(
     let mut place = u32::from(at);
     'slots: while let Some(next) = next_in(used, place) {
         let register = next as u16;
-        let rule = rule_of(near[usize::from(register)], expressions, register);
+        let slot = near[usize::from(register)];
+        // Most rules are of this kind, and are told without a look at the others.
+        if let Some(rule) = saved_rule(slot) {
+            return Some((register, rule));
+        }
+        let rule = rule_of(slot, expressions, register);
         if rule.is_specified() {
             return Some((register, rule));
         }

@@ -1,6 +1,6 @@
 //! Room in which two programs are run up to the row of an address (6.4.3).
 
-ghost use Rattle.std.specs.Prelude.{◌≡◌, ◌<◌, ◌≤◌, Some, IfErr, IsTrue, OnOk};
+ghost use Rattle.std.specs.Prelude.{◌≡◌, ◌<◌, ◌≤◌, Some, IfErr, OnOk};
 ghost use Rattle.dw_num.specs.Refusals.{Refuses};
 ghost use Rattle.dw_num.specs.Target.{address_limit};
 ghost use Rattle.dw_cfa.specs.Faults.{FaultUpTo, NoFaultUpTo};
@@ -18,22 +18,11 @@ use crate::execution::{run_initial, run_to};
 use crate::instr::Factors;
 use crate::machine::Machine;
 use crate::row::Row;
+use crate::short_run::run_short;
 use crate::states::States;
 use dw_num::{Cursor, Program, ReadError, Target, are_bytes};
 use std::alloc::Global;
 use std::marker::Model;
-
-// Makes the current row blank, where it is not known to be.
-#[inline(always)]
-fn clear(states: &mut States<'_>, fresh: bool)
-    requires { IsTrue fresh → IsFresh states.old }
-    ensures { IsFresh states.new }
-{
-    if fresh {
-        return;
-    }
-    states.restart();
-}
 
 // Runs a CIE's program, and an FDE's up to the end of the last row that starts at or below an address.
 #[inline(always)]
@@ -56,24 +45,19 @@ fn run_both<'a>(
 }
 
 /// Room in which programs (`initial_instructions` of a CIE, `instructions` of an FDE, 6.4.1) are run up to the row of an address
-/// (6.4.3). No row is made at a run but the first. A contract sees the row that was run to.
+/// (6.4.3). A contract sees the row that was run to.
 #[derive(Drop)]
 pub struct RowRoom<'a> {
-    // Nothing was run yet.
-    fresh: bool,
-    machine: Machine<'a>,
+    row: Row<'a>,
+    alloc: Global,
 }
 
 impl<'a> Model for RowRoom<'a> {
-    ghost use Rattle.std.specs.Prelude.{IsTrue};
     ghost use Rattle.dw_cfa.specs.Rows.{Rules};
-    ghost use Rattle.dw_cfa.specs.Inner.States.{IsFresh};
 
     ghost Value = { Rules };
 
-    ghost view = { λ r. r.machine.states.row };
-
-    ghost invariant = { λ r. IsTrue r.fresh → IsFresh r.machine.states };
+    ghost view = { λ r. r.row };
 }
 
 impl<'a> RowRoom<'a> {
@@ -83,17 +67,13 @@ impl<'a> RowRoom<'a> {
         ensures { result ≡ blank }
     {
         RowRoom {
-            fresh: true,
-            machine: Machine {
-                initial: Row::blank(alloc),
-                states: States::new(alloc, Row::blank(alloc), false),
-                location: 0,
-                limit: 0,
-            },
+            row: Row::blank(alloc),
+            alloc,
         }
     }
 
-    // The same by the run that the code keeps to.
+    // Runs any programs by the machine.
+    #[inline(never)]
     fn run(
         &mut self,
         cie_program: Program<'a>,
@@ -107,19 +87,56 @@ impl<'a> RowRoom<'a> {
         requires start { begin ≤ address }
         ensures { FoundAt address (run_rows factors (program_input cie_program.entry target) (program_input fde_program.entry target) begin) (run_stop factors (program_input cie_program.entry target) (program_input fde_program.entry target) begin) self.new result }
     {
-        clear(&mut self.machine.states, self.fresh);
-        self.fresh = false;
-        self.machine.location = u128::from(begin);
-        self.machine.limit = target.size.address_limit();
+        let alloc = self.alloc;
+        let mut machine = Machine {
+            initial: Row::blank(alloc),
+            states: States::new(alloc, Row::blank(alloc), false),
+            location: u128::from(begin),
+            limit: target.size.address_limit(),
+        };
         let mut cie = Cursor::new(cie_program.bytes, cie_program.at, target);
         let mut fde = Cursor::new(fde_program.bytes, fde_program.at, target);
-        run_both(&mut cie, &mut fde, factors, &mut self.machine, address)
+        let result = run_both(&mut cie, &mut fde, factors, &mut machine, address);
+        self.row = machine.states.into_row();
+        result
+    }
+
+    // The same, where both are mostly short.
+    #[inline(always)]
+    fn run_any(
+        &mut self,
+        cie_program: Program<'a>,
+        fde_program: Program<'a>,
+        begin: u64,
+        factors: Factors,
+        target: Target,
+        address: u64,
+    ) -> Result<(), ReadError>
+        requires begin { begin < address_limit target.size }
+        requires start { begin ≤ address }
+        ensures { FoundAt address (run_rows factors (program_input cie_program.entry target) (program_input fde_program.entry target) begin) (run_stop factors (program_input cie_program.entry target) (program_input fde_program.entry target) begin) self.new result }
+    {
+        let (alloc, row) = (self.alloc, &mut self.row);
+        if run_short(
+            alloc,
+            cie_program,
+            fde_program,
+            target,
+            factors,
+            begin,
+            address,
+            row,
+        ) {
+            return Ok(());
+        }
+        self.run(cie_program, fde_program, begin, factors, target, address)
     }
 
     /// Runs two programs (`initial_instructions`, `instructions`), from an address `begin` of the target on (`initial_location`
     /// of the FDE where its row is asked for), by the factors `code_alignment_factor` and `data_alignment_factor` of the CIE, up
     /// to the last row that starts at or below an address, which `row` lends then. `begin` is not above that address. A refusal
     /// that comes up to there is answered, or want of memory. Refusals are those of `run`.
+    #[inline(always)]
     pub fn run_to(
         &mut self,
         cie_program: Program<'a>,
@@ -138,13 +155,13 @@ impl<'a> RowRoom<'a> {
     {
         are_bytes(cie_program.bytes);
         are_bytes(fde_program.bytes);
-        self.run(cie_program, fde_program, begin, factors, target, address)
+        self.run_any(cie_program, fde_program, begin, factors, target, address)
     }
 
     /// The row (6.4.1) that was run to.
     pub fn row(&self) -> &Row<'a>
         ensures { result.now ≡ self.now }
     {
-        self.machine.states.row()
+        &self.row
     }
 }

@@ -11,6 +11,7 @@ ghost use Rattle.dw_cfa.specs.Inner.Agreement.{is_agreed, same_rule};
 ghost use Rattle.dw_cfa.specs.Inner.Entries.{entries_of, EntriesSo, LeavesAt, LeavesBelow};
 ghost use Rattle.dw_cfa.specs.Difference.{FirstDifference, place_behind};
 ghost use Rattle.dw_cfa.specs.Inner.Difference.{FirstBelow, SameUnset};
+ghost use Rattle.dw_cfa.specs.Inner.ShortRun.{SpecifiesIn};
 
 use crate::behind::{place_behind, start_behind};
 use crate::near_slots::{NearRules, copy_slots, empty_slots, next_in, next_near, same_slots};
@@ -774,6 +775,15 @@ impl<'a> Row<'a> {
         ensures { IsTrue result ↔ (kept other.now self.now ≡ other.now) }
     {
         self.entries.have_all(&other.entries)
+    }
+
+    // A mask of the registers below 32 that may be specified.
+    #[inline(always)]
+    #[tactic(auto, using(crate::proofs::Slots::not_set))]
+    pub(crate) fn near_mask(&self) -> u32
+        ensures { SpecifiesIn result self.now }
+    {
+        self.entries.used
     }
 
     // Whether some registers are in a tree.

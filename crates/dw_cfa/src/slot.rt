@@ -1,9 +1,9 @@
 //! What a slot of a row holds: the rule of one register (6.4.1).
 
-ghost use Rattle.std.specs.Prelude.{◌≡◌, IfSome};
+ghost use Rattle.std.specs.Prelude.{◌≡◌, IfSome, IsTrue};
 ghost use Rattle.dw_cfa.specs.declared.rule.RegRule.{RegRule as TheRule};
 ghost use Rattle.dw_cfa.specs.declared.rule.RegRule.TheVariants.{Offset};
-ghost use Rattle.dw_cfa.specs.Rows.{rule_in};
+ghost use Rattle.dw_cfa.specs.Rows.{is_specified, rule_in};
 ghost use Rattle.dw_cfa.specs.Inner.Entries.{slot_rule, IsSlotOf};
 
 use crate::rule::RegRule;
@@ -86,6 +86,18 @@ pub(crate) fn offset_in(slot: Slot) -> Option<i64>
 {
     match slot.kind {
         Kind::Offset => Some(slot.offset),
+        _ => None,
+    }
+}
+
+/// The rule that a slot holds of a register that is saved.
+#[inline(always)]
+pub(crate) fn saved_rule<'a>(slot: Slot) -> Option<RegRule<'a>>
+    ensures held { IfSome result (λ rule. (block : TheRule) → slot_rule slot block ≡ rule) }
+    ensures specified { IfSome result (λ rule. IsTrue (is_specified rule)) }
+{
+    match slot.kind {
+        Kind::Offset => Some(RegRule::Offset(slot.offset)),
         _ => None,
     }
 }

@@ -177,6 +177,10 @@ fn rule_of(number: u16, rule: &RegRule<'_>) -> Rule
     ensures told { result ≡ rule_of (number, rule.now) }
     ensures fits { number < 65536 }
 {
+    // Most rules are of this kind, and are told without a look at the others.
+    if let RegRule::Offset(offset) = rule {
+        return told_rule(number, 3, 0, *offset);
+    }
     match rule {
         RegRule::Unspecified => told_rule(number, 0, 0, 0),
         RegRule::Undefined => told_rule(number, 1, 0, 0),
