@@ -22,3 +22,4 @@ pub mod Table
 pub mod StandingFde
 pub mod Sound
 pub mod Opening
+pub mod ShortEntry

@@ -66,7 +66,8 @@ pub enum Header<'a> {
 }
 
 // What is left, as a program.
-fn rest_of<'a>(cursor: &Cursor<'a>) -> Program<'a>
+#[inline(always)]
+pub(crate) fn rest_of<'a>(cursor: &Cursor<'a>) -> Program<'a>
     requires { cursor.now.at + length cursor.now.bytes ≤ 2147483647 }
     ensures { span_of result ≡ program_of cursor.now }
 {

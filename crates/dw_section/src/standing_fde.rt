@@ -32,6 +32,7 @@ use crate::fde_range::Ranged;
 use crate::header::{Header, cie_header, fde_header};
 use crate::listed_fde::FoundFde;
 use crate::lookup::Fde;
+use crate::short_entry::short_standing;
 use dw_cfa::{Factors, RowRoom};
 use dw_num::{Code, Cursor, ReadError, Refusal, Target, are_bytes};
 use std::error::Error;
@@ -172,8 +173,8 @@ fn fde_in<'a>(
     Ok(joined(&header, &cie))
 }
 
-// The FDE that stands at a place, or none, or what is wrong there.
-#[inline(always)]
+// The FDE that stands at a place, or none, or what is wrong there. Most are short, so it is rarely asked.
+#[inline(never)]
 fn standing<'a>(bytes: &'a [u8], at: u64, target: Target) -> Result<Option<FoundFde<'a>>, Refusal>
     requires { length bytes.now ≤ 2147483647 }
     ensures found { IfOk result (λ o. IfSome o (λ e. (e.at ≡ at) × FoundStands target bytes.now e)) }
@@ -188,6 +189,21 @@ fn standing<'a>(bytes: &'a [u8], at: u64, target: Target) -> Result<Option<Found
         Kind::Cie => Ok(None),
         Kind::Fde => fde_in(bytes, &piece, target),
     }
+}
+
+// The same, soonest where the FDE and its CIE are short.
+#[inline(always)]
+fn found_at<'a>(bytes: &'a [u8], at: u64, target: Target) -> Result<Option<FoundFde<'a>>, Refusal>
+    requires { length bytes.now ≤ 2147483647 }
+    ensures found { IfOk result (λ o. IfSome o (λ e. (e.at ≡ at) × FoundStands target bytes.now e)) }
+    ensures within { IfErr result (IsWithin bytes.now) }
+    ensures fault { IfErr result (Then (ItemFault target bytes.now at) (StandsAs target bytes.now kind.Fde at) (PairFault target bytes.now)) }
+    ensures only { StandsAt target bytes.now at → MatchResult result IsSome (λ _. ⊥) }
+{
+    if let Some(fde) = short_standing(bytes, at, target) {
+        return Ok(Some(fde));
+    }
+    standing(bytes, at, target)
 }
 
 // How many entries of an index begin at or below an address, where begins ascend.
@@ -381,7 +397,7 @@ fn row_of<'a>(
     ensures own { (hs : List Head) (a : Range) (register : ℕ) → RulesHold target bytes.now hs → Returns hs a register → a.at ≡ at → a.begin ≤ address → address < a.begin + a.range → MatchResult result (λ fde. (fde ≡ fde_in (record { begin = a.begin; range = a.range; at = a.at; return_register = register })) × RulesAt target bytes.now address room.new) (λ e. e ≡ LookUpError.OutOfMemory) }
 {
     are_bytes(bytes);
-    let Some(fde) = standing(bytes, at, target)? else {
+    let Some(fde) = found_at(bytes, at, target)? else {
         return Err(LookUpError::BadIndex);
     };
     if !reaches(&fde, address) {
