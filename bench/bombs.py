@@ -133,6 +133,34 @@ def wide_cie(scale):
     return WRITER.cie(registers) + b"".join(fdes)
 
 
+def given_beside(scale):
+    """A CIE of 8,000 registers, and 16,000 FDEs that give at their begin one that it does not specify, and take it back behind a row."""
+    registers = b"".join(offset(register, 1) for register in range(100, 100 + scale(8_000)))
+    fdes = [fde(b"\x83\x02\x41\x0e\x10\x41\xc3", 0x1000 + 16 * i, 16) for i in range(scale(16_000))]
+    return WRITER.cie(registers) + b"".join(fdes)
+
+
+def rows_of_nothing(scale):
+    """8,000 registers that are set to the rules that they have, and then 30,000 rows that set none."""
+    registers = b"".join(offset(register, 1) for register in range(100, 100 + scale(8_000)))
+    return CIE + fde(registers + b"\x41" + registers + b"\x41" * scale(30_000))
+
+
+def cies_by_turns(scale, same=True):
+    """Two CIEs of 8,000 registers, of which the second sets one again, and 16,000 FDEs that take them by turns; or the first alone. Both
+    say the same."""
+    registers = b"".join(offset(register, 1) for register in range(100, 100 + scale(8_000)))
+    first, second = WRITER.cie(registers), WRITER.cie(registers + offset(100, 1))
+    places = [0, len(first) if same else 0]
+    fdes = [fde(offset(99, 3), 0x1000 + 16 * i, 16, places[i % 2]) for i in range(scale(16_000))]
+    return first + (second if same else b"") + b"".join(fdes)
+
+
+def one_cie_alone(scale):
+    """What says the same as `cies_by_turns` by one CIE: for `same`."""
+    return cies_by_turns(scale, False)
+
+
 BOMBS = [
     remember,
     long_cie,
@@ -151,6 +179,10 @@ BOMBS = [
     advances,
     remembered_states,
     wide_cie,
+    given_beside,
+    rows_of_nothing,
+    cies_by_turns,
+    one_cie_alone,
 ]
 
 

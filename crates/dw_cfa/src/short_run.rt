@@ -531,11 +531,12 @@ fn run_next<'a>(
     }
 }
 
-// Keeps a row as the one that is remembered, unless one is. No says nothing.
+// Keeps a row as the one that is remembered, unless one is. No says nothing. A row with registers in a tree is not copied: thousands
+// of states could be remembered of one with thousands of registers.
 fn remember<'a>(row: &Row<'a>, kept: &mut Row<'a>, has: &mut bool) -> bool
     ensures { IsTrue result → (has.old ≡ false) × (has.new ≡ true) × (kept.new ≡ row.now) }
 {
-    if *has || kept.become_copy(row).is_err() {
+    if *has || row.is_wide() || kept.become_copy(row).is_err() {
         return false;
     }
     *has = true;
@@ -612,7 +613,8 @@ fn remember_and_run<'a>(
     ensures { (initial : Rules) → SpecifiesIn frame.specified initial → IsTrue result → RowFound address (factors_of frame.factors) cursor.entry (machine_at initial (address_limit cursor.entry.target.size) row.old (Some row.old) begin) row.new }
 {
     let mut kept = Row::blank(alloc);
-    if kept.become_copy(row).is_err() {
+    let mut has = false;
+    if !remember(row, &mut kept, &mut has) {
         return false;
     }
     run_remembered(cursor, frame, address, row, &mut kept, begin)
