@@ -16,6 +16,7 @@ mod KnownCies
 mod Reports
 mod Placed
 mod Alike
+mod CiePairs
 mod TwinRows
 mod Joined
 mod Filled

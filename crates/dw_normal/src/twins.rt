@@ -1,42 +1,34 @@
 //! What is known of CIEs of two sections with long programs (6.4.1): outside which registers they leave the same row. So the rows of two
 //! FDEs at their begins are compared by what their programs set, and not by all registers of their CIEs.
 
-ghost use Rattle.std.specs.Prelude.{◌≡◌, ◌↔◌, ◌+◌, ◌*◌, ◌^◌, ℕ, None, IfOk, IfSome, IsTrue, OnOk};
+ghost use Rattle.std.specs.Prelude.{◌≡◌, ◌↔◌, None, IfOk, IfSome, IsTrue, OnOk};
 ghost use Rattle.std.specs.BTreeMap.{get};
-ghost use Rattle.std.specs.Ordering.{nat_cmp};
 ghost use Rattle.dw_cfa.specs.RegisterSets.{Registers, SameBeside};
 ghost use Rattle.dw_cfa.specs.Rows.{Rules};
 ghost use Rattle.dw_section.specs.Table.{Section};
-ghost use Rattle.dw_normal.specs.Inner.Twins.{AreBeside, AreTwins, IsUnion};
+ghost use Rattle.dw_normal.specs.Inner.Twins.{AreBeside, AreTwins, IsUnion, pair_cmp};
+ghost use Rattle.dw_normal.specs.declared.twins.CiePair.{CiePair};
 
 use dw_cfa::{RegisterSet, Row};
 use std::alloc::{AllocError, Global};
 use std::collections::BTreeMap;
 use std::mem;
 
-/// A CIE of the first section and one of the second, by their places, and registers outside which they leave the same row.
-#[derive(Drop)]
-pub(crate) struct Twin<'a> {
+/// A CIE of the first section and one of the second, by their places.
+#[derive(Clone, Copy, PartialEq, Eq, PartialOrd, Ord)]
+pub(crate) struct CiePair {
     pub(crate) cie_at: u64,
     pub(crate) other_at: u64,
-    pub(crate) set: RegisterSet<'a>,
 }
 
-/// What is known of two CIEs, one of each section, by both their places, from their last two FDEs; and the registers to which the two
-/// FDEs that were gone on to give other rules at their begins than their CIEs.
+/// Registers outside which two CIEs, one of each section, leave the same row, as their last two FDEs showed it; and the registers to
+/// which the two FDEs that were gone on to give other rules at their begins than their CIEs.
 #[derive(Drop)]
 pub(crate) struct Twins<'a, 'b> {
     pub(crate) changed: RegisterSet<'a>,
     pub(crate) other_changed: RegisterSet<'b>,
-    pub(crate) cies: BTreeMap<u128, Twin<'a>>,
+    pub(crate) cies: BTreeMap<CiePair, RegisterSet<'a>>,
     pub(crate) alloc: Global,
-}
-
-// Under which number two CIEs are noted, and no other two.
-fn number_of(cie_at: u64, other_at: u64) -> u128
-    ensures { result ≡ cie_at * 2 ^ 64 + other_at }
-{
-    u128::from(cie_at) * 18_446_744_073_709_551_616 + u128::from(other_at)
 }
 
 // Whether rows that differ in registers of a set alone are the same.
@@ -72,7 +64,7 @@ pub(crate) fn same_behind(
 impl<'a, 'b> Twins<'a, 'b> {
     /// Nothing is known. Takes no memory.
     pub(crate) fn none(alloc: Global) -> Twins<'a, 'b>
-        ensures { (place : ℕ) → get nat_cmp result.cies place ≡ None }
+        ensures { (pair : CiePair) → get pair_cmp result.cies pair ≡ None }
     {
         Twins {
             changed: RegisterSet::new(alloc),
@@ -88,22 +80,14 @@ impl<'a, 'b> Twins<'a, 'b> {
         ensures left { (s t : Section) → AreTwins s t self.old.cies → AreTwins s t self.new.cies }
         ensures same { (self.new.changed ≡ self.old.changed) × (self.new.other_changed ≡ self.old.other_changed) }
     {
-        match self.cies.remove(&number_of(cie_at, other_at)) {
-            Some(twin) if twin.cie_at == cie_at && twin.other_at == other_at => Some(twin.set),
-            _ => None,
-        }
+        self.cies.remove(&CiePair { cie_at, other_at })
     }
 
     // Makes a set what is known of two CIEs. Where there is no memory for it, it is forgotten.
     fn put(&mut self, cie_at: u64, other_at: u64, set: RegisterSet<'a>)
         ensures { (s t : Section) → AreBeside s t cie_at other_at set.entry → AreTwins s t self.old.cies → AreTwins s t self.new.cies }
     {
-        let twin = Twin {
-            cie_at,
-            other_at,
-            set,
-        };
-        let _ = self.cies.insert(number_of(cie_at, other_at), twin);
+        let _ = self.cies.insert(CiePair { cie_at, other_at }, set);
     }
 
     /// Notes that two CIEs leave the same row outside the registers that their FDEs give other rules.

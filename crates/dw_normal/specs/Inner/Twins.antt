@@ -1,22 +1,27 @@
 -- Which CIEs of two sections leave rows that are the same outside a set of registers.
 use Rattle.std.specs.Prelude.{◌≡◌, ◌||◌, ℕ, List, ◌∷◌, IfSome}
 use Rattle.std.specs.BTreeMap.{BTreeMap, get}
-use Rattle.std.specs.Ordering.{nat_cmp}
+use Rattle.std.specs.Ordering.{nat_cmp, ordering_then}
+use Rattle.std.specs.declared.cmp.Ordering.{Ordering}
 use Rattle.dw_cfa.specs.RegisterSets.{Registers, SameBeside, has}
 use Rattle.dw_cfa.specs.Rows.{Rules}
 use Rattle.dw_section.specs.Changes.{Changing}
 use Rattle.dw_section.specs.Opening.{CieLeaves}
 use Rattle.dw_section.specs.Table.{Section}
 use Rattle.dw_normal.specs.Inner.ChangeWalk.{shown_row}
-use Rattle.dw_normal.specs.declared.twins.Twin.{Twin}
+use Rattle.dw_normal.specs.declared.twins.CiePair.{CiePair}
+
+-- how two pairs are ordered
+abbrev pub pair_cmp : CiePair → CiePair → Ordering
+pair_cmp x y = ordering_then (nat_cmp x.cie_at y.cie_at) (nat_cmp x.other_at y.other_at)
 
 -- the rows that the CIEs at two places leave are the same outside a set
 abbrev pub AreBeside : Section → Section → ℕ → ℕ → Registers → Type 0
 AreBeside s t at other_at set = (row other : Rules) → CieLeaves s.target s.bytes at row → CieLeaves t.target t.bytes other_at other → SameBeside set row other
 
 -- so are those of the CIEs that are noted together
-abbrev pub AreTwins : Section → Section → BTreeMap ℕ Twin → Type 0
-AreTwins s t cies = (number : ℕ) → IfSome (get nat_cmp cies number) (λ twin. AreBeside s t twin.cie_at twin.other_at twin.set)
+abbrev pub AreTwins : Section → Section → BTreeMap CiePair Registers → Type 0
+AreTwins s t cies = (pair : CiePair) → IfSome (get pair_cmp cies pair) (AreBeside s t pair.cie_at pair.other_at)
 
 -- the registers of two sets
 abbrev pub IsUnion : Registers → Registers → Registers → Type 0
