@@ -2,7 +2,7 @@
 use Rattle.dw_cfa.proofs.Words.{◌≡◌, ℕ, ◌+◌, ◌-◌, ◌*◌, ◌<◌, ◌≤◌, Bool, List, [], ◌∷◌, ◌++◌, length, get_or, Option, None, Some, refl, sym, ap, subst, ◌∙◌, arith, lt-ltb, slice_get, if◌then◌else◌, IfSome, SomeIff, ℤ, pos, ◌*ℤ◌, mul-pos}
 use Rattle.dw_cfa.proofs.Words.{Target, Sleb, ok_is, within, Factors, Input, Instr, Nop, Advance, DefCfaOffset, Initial, CfaOffset, Other, FormSpells, Program, answers_before, Form, none, one, unsigned, signed, advanced, form_for}
 use Rattle.dw_cfa.proofs.Words.{moves_first, first_row, form_at, GivesOffset, answers_move, answers_row}
-use Rattle.dw_cfa.proofs.ShortNumbers.{one_byte_spells}
+use Rattle.dw_num.proofs.Lent.ShortNumbers.{one_byte_spells}
 use Rattle.dw_cfa.proofs.InstrAgain.{form_again}
 use Rattle.dw_cfa.proofs.Lent.Openings.{initial_moves}
 

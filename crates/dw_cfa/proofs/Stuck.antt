@@ -9,7 +9,7 @@ use Rattle.dw_cfa.proofs.Divided.{input}
 use Rattle.dw_cfa.proofs.Expressions.{expression_refused}
 use Rattle.dw_cfa.proofs.Lent.InstrLaws.{FormWide, operand_finds, form_wide, form_finds, front_bytes}
 use Rattle.dw_cfa.proofs.InstrAgain.{operand_again, form_again}
-use Rattle.dw_cfa.proofs.ShortNumbers.{taken_is}
+use Rattle.dw_num.proofs.Lent.ShortNumbers.{taken_is}
 
 -- what is spelled at the front is read
 read_taken : {X : Type 0} (read : Input → Read X) (x : X) (front : List ℕ) (i new : Input) → Takes i front new → Again i.target read x front → read i ≡ done (x, new)

@@ -65,15 +65,15 @@ pub use Rattle.dw_cfa.specs.declared.states.Undo.{Undo}
 pub use Rattle.dw_cfa.specs.declared.states.Undo.TheVariants.{Register, Remembered}
 pub use Rattle.dw_cfa.specs.declared.steps.Progress.{Progress}
 pub use Rattle.dw_num.proofs.Lent.FixedLaws.{address_found, byte_found, fixed_at_again, fixed_found, taken_bytes}
-pub use Rattle.dw_num.proofs.Lent.LebLaws.{done, ok_is, register_again, register_found, uleb_again, uleb_found, uleb_only}
-pub use Rattle.dw_num.proofs.Lent.SlebLaws.{sleb_again, sleb_found, sleb_only}
+pub use Rattle.dw_num.proofs.Lent.LebLaws.{done, ok_is, register_again, register_found, uleb_again, uleb_found}
+pub use Rattle.dw_num.proofs.Lent.SlebLaws.{sleb_again, sleb_found}
 pub use Rattle.dw_num.proofs.Lent.Stays.{Inside, Stays, address_stays, fixed_stays, register_stays, sleb_stays, stays-then, stays_in, take_stays, uleb_stays}
 pub use Rattle.dw_num.proofs.Lent.Steps.{Again, Takes-then, address_again, again-then, bind_ok, byte_again, take_again, take_found}
 pub use Rattle.dw_num.specs.Fixed.{Address, Fixed, IsWidth}
 unfoldable pub use Rattle.dw_num.specs.Front.{register_at}
 pub use Rattle.dw_num.specs.Front.{Read, address_at, fault, fixed_at, sleb_at, take_at, uleb_at, ◌>>=◌}
 pub use Rattle.dw_num.specs.Input.{AreBytes, Input, Takes}
-pub use Rattle.dw_num.specs.Leb.{Sleb, Uleb, groups}
+pub use Rattle.dw_num.specs.Leb.{Sleb, Uleb}
 pub use Rattle.dw_num.specs.Refusals.{Refuses}
 pub use Rattle.dw_num.specs.Target.{address_limit, byte_count}
 pub use Rattle.dw_num.specs.declared.error.ReadError.{ReadError}
@@ -93,12 +93,12 @@ pub use Rattle.dw_op.specs.Inner.Walks.{ended, on_left}
 pub use Rattle.dw_op.specs.Operands.{in_range, look_up}
 pub use Rattle.dw_op.specs.declared.op.Op.{Op}
 pub use Rattle.dw_op.specs.declared.profile.Profile.TheVariants.{Frame}
-pub use Rattle.std.proofs.Common.{Bool, Err, IsOk, List, None, Ok, Option, Result, Some, [], add-one, ap, append_assoc, arith, cond, drop, eq-eqb, false, get_or, inl, inr, length, map, negsuc, of_z, refl, reverse, rules, subst, suc, sym, take, to_z, true, w64, zero, ℕ, ◌*◌, ◌++◌, ◌+◌, ◌-ℤ◌, ◌-◌, ◌<◌, ◌^◌, ◌||◌, ◌∙◌, ◌∷◌, ◌≡◌, ◌≤◌, ◌⊎◌}
+pub use Rattle.std.proofs.Common.{Bool, Err, IsOk, List, None, Ok, Option, Result, Some, [], add-one, ap, append_assoc, arith, cond, drop, eq-eqb, false, get_or, inl, inr, length, map, negsuc, of_z, refl, reverse, rules, subst, suc, sym, take, to_z, true, w64, zero, ℕ, ◌*◌, ◌++◌, ◌+◌, ◌-◌, ◌<◌, ◌^◌, ◌||◌, ◌∙◌, ◌∷◌, ◌≡◌, ◌≤◌, ◌⊎◌}
 pub use Rattle.std.proofs.Math.ListN.{drop_of_length-le, replicate, set}
 pub use Rattle.std.proofs.Math.Nat.{div-le_self, mul-le-mul, mul-pos}
-pub use Rattle.std.proofs.lemmas.Bool.{cases_Bool, cases_lt, eqb-false, eqb-true, le-leb, le-ltb, lt-leb, lt-ltb, ltb-false, ltb-true, or_cases, or_parts}
+pub use Rattle.std.proofs.lemmas.Bool.{cases_Bool, cases_lt, eqb-false, eqb-true, le-leb, le-ltb, lt-ltb, ltb-false, ltb-true, or_cases, or_parts}
 pub use Rattle.std.proofs.lemmas.Bool.Decides.{leb_tells, nat_tests, not_from_Decides}
-pub use Rattle.std.proofs.lemmas.Int.{fits_signed_mul, ints, to_z-of_z}
+pub use Rattle.std.proofs.lemmas.Int.{fits_signed_mul, to_z-of_z}
 pub use Rattle.std.proofs.lemmas.List.{append-nil, get_or-replicate, get_or-set_other, get_or-set_same, length-append, length-replicate, length-set, nil_from_length, reverse-append, take_all}
 pub use Rattle.std.proofs.lemmas.List.Sums.{sum_by-cons}
 pub use Rattle.std.proofs.lemmas.Map.Made.{filter_same_pairs}

@@ -112,7 +112,7 @@ fn times(operand: i128, factor: i64) -> i128
 
 // An unsigned LEB128 number, which mostly has one byte.
 #[inline(always)]
-#[tactic(auto, using(crate::proofs::ShortNumbers::one_byte_read))]
+#[tactic(auto, using(dw_num::proofs::Lent::ShortNumbers::one_byte_read))]
 fn quick_uleb(cursor: &mut Cursor<'_>) -> Result<u64, Refusal>
     ensures { Gives (λ v. v) result (uleb_at cursor.old) cursor.new }
 {
@@ -128,7 +128,7 @@ fn quick_uleb(cursor: &mut Cursor<'_>) -> Result<u64, Refusal>
 
 // The number of a register, which mostly has one byte too.
 #[inline(always)]
-#[tactic(auto, using(crate::proofs::ShortNumbers::one_byte_register))]
+#[tactic(auto, using(dw_num::proofs::Lent::ShortNumbers::one_byte_register))]
 pub(crate) fn quick_register(cursor: &mut Cursor<'_>) -> Result<u16, Refusal>
     ensures { Gives (λ r. r) result (register_at cursor.old) cursor.new }
 {
@@ -143,7 +143,7 @@ pub(crate) fn quick_register(cursor: &mut Cursor<'_>) -> Result<u16, Refusal>
 }
 
 // The signed number that a byte alone spells.
-#[tactic(auto, using(crate::proofs::ShortNumbers::one_byte_positive, crate::proofs::ShortNumbers::one_byte_negative))]
+#[tactic(auto, using(dw_num::proofs::Lent::ShortNumbers::one_byte_positive, dw_num::proofs::Lent::ShortNumbers::one_byte_negative))]
 #[inline(always)]
 pub(crate) fn signed_in(byte: u8) -> Option<i64>
     ensures { IfSome result (λ v. Sleb v (byte ∷ [])) }

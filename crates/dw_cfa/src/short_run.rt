@@ -58,7 +58,7 @@ fn joined(low: u8, high: u8) -> u16
 
 // A number of one byte or two.
 #[inline(always)]
-#[tactic(auto, using(crate::proofs::ShortNumbers::one_byte_read))]
+#[tactic(auto, using(dw_num::proofs::Lent::ShortNumbers::one_byte_read))]
 fn short_number(cursor: &mut Cursor<'_>) -> Option<u16>
     ensures { IfSome result (λ n. uleb_at cursor.old ≡ Ok (n, cursor.new)) }
 {
@@ -106,7 +106,7 @@ fn short_signed(cursor: &mut Cursor<'_>) -> Option<i16>
 
 // The number of a register, of one byte.
 #[inline(always)]
-#[tactic(auto, using(crate::proofs::ShortNumbers::one_byte_register))]
+#[tactic(auto, using(dw_num::proofs::Lent::ShortNumbers::one_byte_register))]
 fn short_register(cursor: &mut Cursor<'_>) -> Option<u16>
     ensures { IfSome result (λ r. register_at cursor.old ≡ Ok (r, cursor.new)) }
 {
@@ -139,7 +139,7 @@ fn short_delta(cursor: &mut Cursor<'_>) -> Option<u16>
 
 // An operand times the factor of offsets.
 #[inline(always)]
-#[tactic(auto, using(crate::proofs::ShortNumbers::product_fits))]
+#[tactic(auto, using(crate::proofs::ShortOffsets::product_fits))]
 fn factored(operand: i32, factors: ShortFactors) -> i64
     requires { unsigned_abs operand < 65536 }
     ensures { result ≡ operand *ℤ factors.data_factor }
@@ -412,7 +412,7 @@ pub(crate) struct Frame {
 
 // Moves the location on by a delta that is still to be factored. No says nothing.
 #[inline(always)]
-#[tactic(auto, using(crate::proofs::ShortNumbers::distance_fits))]
+#[tactic(auto, using(crate::proofs::ShortOffsets::distance_fits))]
 fn advance(delta: u16, frame: Frame, location: &mut u64) -> Step
     ensures { (initial row : Rules) (remembered : Option Rules) (at limit : ℕ) (behind : Input) → frame.last ≤ limit → StepsBy (Ok (advanced (factors_of frame.factors) delta, behind)) (machine_at initial limit row remembered location.old) result behind (machine_at initial limit row remembered location.new) }
 {

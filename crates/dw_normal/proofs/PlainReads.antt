@@ -1,21 +1,20 @@
 -- A plain instruction that the first bytes of a program spell is its first, by the operands that it has.
 use Rattle.dw_normal.proofs.Words.{◌≡◌, ℕ, zero, suc, inl, inr, ◌+◌, ◌-◌, ◌*◌, ◌<◌, ◌≤◌, List, [], ◌∷◌, ◌++◌, length, take, drop, get_or, Option, Some, None, refl, sym, ap, subst, ◌∙◌, append_assoc, arith, take-append-drop, IfSome, Target, AreBytes, Instr}
-use Rattle.std.specs.Prelude.{FitsSigned, negsuc, ◌^◌, unsigned_abs, ℤ, pos, ◌-ℤ◌, ◌*ℤ◌, ◌%◌}
-use Rattle.std.proofs.lemmas.Bool.{le-leb, lt-leb}
+use Rattle.std.specs.Prelude.{FitsSigned, negsuc, ◌^◌, unsigned_abs, ℤ, pos, ◌-ℤ◌, ◌*ℤ◌}
 use Rattle.std.proofs.Math.Nat.{mul-le-mul}
-use Rattle.std.proofs.lemmas.Int.{fits_signed_mul, ints, to_z-of_z}
+use Rattle.std.proofs.lemmas.Int.{fits_signed_mul, to_z-of_z}
 use Rattle.std.specs.Int.{w16, w32, w64}
 use Rattle.std.specs.Result.{OkIff, result_ok}
 use Rattle.std.proofs.Common.{Err, Ok, Result}
 use Rattle.std.proofs.Common.{of_z, to_z}
 use Rattle.dw_num.proofs.Lent.FixedLaws.{fixed_at_again, is_fixed, one_byte}
 use Rattle.dw_num.proofs.Lent.LebLaws.{ok_is, register_again, uleb_again}
+use Rattle.dw_num.proofs.Lent.ShortNumbers.{one_byte_negative, one_byte_positive, one_byte_spells, two_bytes_negative, two_bytes_positive, two_bytes_spell}
 use Rattle.dw_num.proofs.Lent.SlebLaws.{sleb_again}
 use Rattle.dw_num.proofs.Lent.Steps.{Again}
 use Rattle.dw_num.specs.Fixed.{Fixed, fixed_number}
 use Rattle.dw_num.specs.Front.{Read, fixed_at, register_at, sleb_at, uleb_at}
 use Rattle.dw_num.specs.Input.{Input}
-use Rattle.dw_num.specs.Leb.{Uleb, groups}
 use Rattle.dw_num.specs.declared.target.Order.{Order}
 use Rattle.dw_op.proofs.Lent.ReadingLaws.{above, within}
 use Rattle.dw_cfa.specs.InstrSpells.{FormSpells, Program, Spells}
@@ -122,63 +121,32 @@ reads_2 f order (code ∷ b ∷ c ∷ bytes) p len h near = reads f order (code 
 
 -- ---- numbers
 
-one_byte_uleb : (b : ℕ) → b < 128 → Uleb b (b ∷ [])
-one_byte_uleb b lt = record { shape = lt; value = omega arith; fits = omega arith }
-
 pub one_byte_first : (bytes : List ℕ) → 1 ≤ length bytes → get_or bytes 0 0 < 128 → UlebFirst bytes (get_or bytes 0 0, 1)
 one_byte_first [] len lt = absurd (omega arith)
-one_byte_first (b ∷ bytes) len lt = (len, one_byte_uleb b lt)
+one_byte_first (b ∷ bytes) len lt = (len, one_byte_spells b lt)
 
 pub two_bytes_first : (bytes : List ℕ) (n : ℕ) → 2 ≤ length bytes → 128 ≤ get_or bytes 0 0 → get_or bytes 0 0 < 256 → get_or bytes 1 0 < 128 → n ≡ (get_or bytes 0 0 - 128) + 128 * get_or bytes 1 0 → UlebFirst bytes (n, 2)
 two_bytes_first [] n len le byte lt is = absurd (omega arith)
 two_bytes_first (b ∷ []) n len le byte lt is = absurd (omega arith)
-two_bytes_first (b ∷ c ∷ bytes) n len le byte lt is = (len, record { shape = (le, byte, lt); value = omega arith; fits = omega arith })
+two_bytes_first (b ∷ c ∷ bytes) n len le byte lt is = (len, rw is (two_bytes_spell b c le byte lt))
 
 pub positive_first : (bytes : List ℕ) → 1 ≤ length bytes → get_or bytes 0 0 < 64 → SlebFirst bytes (pos (get_or bytes 0 0), 1)
 positive_first [] len lt = absurd (omega arith)
-positive_first (b ∷ bytes) len lt = (
-  len,
-  record {
-    shape = omega arith;
-    value = rw (lt-leb 64 (b % 128) (omega arith)) (ap pos (let is : b ≡ groups (b ∷ []) = omega arith in is));
-    fits = omega (arith, ints);
-  },
-)
+positive_first (b ∷ bytes) len lt = (len, one_byte_positive b lt)
 
 pub negative_first : (bytes : List ℕ) → 1 ≤ length bytes → 64 ≤ get_or bytes 0 0 → get_or bytes 0 0 < 128 → SlebFirst bytes (pos (get_or bytes 0 0) -ℤ pos 128, 1)
 negative_first [] len le lt = absurd (omega arith)
-negative_first (b ∷ bytes) len le lt = (
-  len,
-  record {
-    shape = lt;
-    value = rw (le-leb 64 (b % 128) (omega arith)) (ap (λ (n : ℕ). pos n -ℤ pos 128) (let is : b ≡ groups (b ∷ []) = omega arith in is));
-    fits = omega (arith, ints);
-  },
-)
+negative_first (b ∷ bytes) len le lt = (len, one_byte_negative b le lt)
 
 pub two_positive_first : (bytes : List ℕ) (z : ℤ) → 2 ≤ length bytes → 128 ≤ get_or bytes 0 0 → get_or bytes 0 0 < 256 → get_or bytes 1 0 < 64 → z ≡ pos ((get_or bytes 0 0 - 128) + 128 * get_or bytes 1 0) → SlebFirst bytes (z, 2)
 two_positive_first [] z len le byte lt is = absurd (omega arith)
 two_positive_first (b ∷ []) z len le byte lt is = absurd (omega arith)
-two_positive_first (b ∷ c ∷ bytes) z len le byte lt is = (
-  len,
-  record {
-    shape = (le, byte, omega arith);
-    value = rw (lt-leb 64 (c % 128) (omega arith)) (is ∙ ap pos (let k : (b - 128) + 128 * c ≡ groups (b ∷ c ∷ []) = omega arith in k));
-    fits = rw is (omega (arith, ints));
-  },
-)
+two_positive_first (b ∷ c ∷ bytes) z len le byte lt is = (len, rw is (two_bytes_positive b c le byte lt))
 
 pub two_negative_first : (bytes : List ℕ) (z : ℤ) → 2 ≤ length bytes → 128 ≤ get_or bytes 0 0 → get_or bytes 0 0 < 256 → 64 ≤ get_or bytes 1 0 → get_or bytes 1 0 < 128 → z ≡ pos ((get_or bytes 0 0 - 128) + 128 * get_or bytes 1 0) -ℤ pos 16384 → SlebFirst bytes (z, 2)
 two_negative_first [] z len le byte from lt is = absurd (omega arith)
 two_negative_first (b ∷ []) z len le byte from lt is = absurd (omega arith)
-two_negative_first (b ∷ c ∷ bytes) z len le byte from lt is = (
-  len,
-  record {
-    shape = (le, byte, lt);
-    value = rw (le-leb 64 (c % 128) (omega arith)) (is ∙ ap (λ (n : ℕ). pos n -ℤ pos 16384) (let k : (b - 128) + 128 * c ≡ groups (b ∷ c ∷ []) = omega arith in k));
-    fits = rw is (omega (arith, ints));
-  },
-)
+two_negative_first (b ∷ c ∷ bytes) z len le byte from lt is = (len, rw is (two_bytes_negative b c le byte from lt))
 
 -- products
 
@@ -291,7 +259,7 @@ module _ (f : Factors) (order : Order) (bytes : List ℕ) where
     form = one unsigned (λ k. offset_rule f rules.Offset (c - 0x80) (pos k));
     known = rw (above 0x40 0x80 c (omega arith) (omega arith), within 0x80 0xc0 c from (omega arith)) refl;
     short = tt;
-    spells = λ t o. (get_or bytes 1 0, cc, one_byte_uleb (get_or bytes 1 0) small);
+    spells = λ t o. (get_or bytes 1 0, cc, one_byte_spells (get_or bytes 1 0) small);
   }) (omega arith)
 
   pub def_cfa_reads : (r : ℕ) (z : ℤ) → 3 ≤ length bytes → get_or bytes 0 0 ≡ 0x0c → get_or bytes 1 0 < 128 → get_or bytes 2 0 < 128 → r ≡ get_or bytes 1 0 → z ≡ pos (get_or bytes 2 0) → Reads f order bytes (DefCfa r z, 3)
@@ -300,7 +268,7 @@ module _ (f : Factors) (order : Order) (bytes : List ℕ) where
     form = two register unsigned (λ r n. instr.DefCfa r (pos n));
     known = rw code refl;
     short = (tt, tt);
-    spells = λ t o. (get_or bytes 1 0, get_or bytes 2 0, cc, record { front = get_or bytes 1 0 ∷ []; back = get_or bytes 2 0 ∷ []; first = (one_byte_uleb (get_or bytes 1 0) near, omega arith); second = one_byte_uleb (get_or bytes 2 0) small; whole = refl });
+    spells = λ t o. (get_or bytes 1 0, get_or bytes 2 0, cc, record { front = get_or bytes 1 0 ∷ []; back = get_or bytes 2 0 ∷ []; first = (one_byte_spells (get_or bytes 1 0) near, omega arith); second = one_byte_spells (get_or bytes 2 0) small; whole = refl });
   }) tt
 
   pub def_cfa_register_reads : (r : ℕ) → 2 ≤ length bytes → get_or bytes 0 0 ≡ 0x0d → get_or bytes 1 0 < 128 → r ≡ get_or bytes 1 0 → Reads f order bytes (DefCfaRegister r, 2)
@@ -309,7 +277,7 @@ module _ (f : Factors) (order : Order) (bytes : List ℕ) where
     form = one register instr.DefCfaRegister;
     known = rw code refl;
     short = tt;
-    spells = λ t o. (get_or bytes 1 0, ap instr.DefCfaRegister is, (one_byte_uleb (get_or bytes 1 0) near, omega arith));
+    spells = λ t o. (get_or bytes 1 0, ap instr.DefCfaRegister is, (one_byte_spells (get_or bytes 1 0) near, omega arith));
   }) tt
 
   pub def_cfa_offset_reads : (x n : ℕ) (z : ℤ) → 1 ≤ length bytes → get_or bytes 0 0 ≡ 0x0e → UlebFirst (drop 1 bytes) (x, n) → z ≡ pos x → Reads f order bytes (DefCfaOffset z, 1 + n)

@@ -1,77 +1,16 @@
--- Short entries: numbers of four bytes, eight bytes and one; the fields of a CIE and of an FDE; and where the entry stands.
-use Rattle.dw_section.proofs.Words.{◌≡◌, ℕ, ◌+◌, ◌<◌, ◌≤◌, List, [], ◌∷◌, ◌++◌, length, drop, Ok, refl, sym, ap, ◌∙◌, arith, inl, inr, ℤ, le-ltb, lt-ltb, drop_at, length-drop, length-append, Option, Some, None, IfSome}
-use Rattle.dw_section.proofs.Words.{AreBytes, Input, Takes, Target, Dwarf32, Order, Span, input_of, program_of, Read, fixed_at, fixed_found, StandsIn, item_bytes, entry, is_cie, CieFields, FdeFields, Fields, behind_id, fields_at, empty_string, IsCie, IsFde, fde_fields, fixed_bytes, length_bytes, length-fixed, ne_eqb, eqb_tells, lt-leb, le-leb}
+-- Short entries: the fields of a CIE and of an FDE, and where the entry stands.
+use Rattle.dw_section.proofs.Words.{◌≡◌, ℕ, ◌+◌, ◌<◌, ◌≤◌, List, [], ◌∷◌, ◌++◌, length, drop, Ok, refl, sym, ap, ◌∙◌, arith, inl, inr, lt-ltb, length-drop, length-append, Option, Some, None, IfSome}
+use Rattle.dw_section.proofs.Words.{AreBytes, Input, Takes, Target, Dwarf32, Order, Span, input_of, program_of, Read, fixed_at, fixed_found, StandsIn, item_bytes, entry, is_cie, CieFields, FdeFields, Fields, behind_id, fields_at, empty_string, IsCie, IsFde, fde_fields, fixed_bytes, length_bytes, length-fixed, ne_eqb, eqb_tells}
 use Rattle.dw_num.proofs.Lent.FixedLaws.{fixed_again}
 use Rattle.dw_section.specs.Fields.{return_register}
 use Rattle.dw_num.specs.declared.target.Order.TheVariants.{Little, Big}
 use Rattle.dw_num.specs.Fixed.{fixed_number}
-use Rattle.dw_num.specs.Leb.{Uleb, Sleb, groups}
-use Rattle.dw_num.specs.Front.{uleb_at, sleb_at}
-use Rattle.dw_num.proofs.Lent.LebLaws.{uleb_only}
-use Rattle.dw_num.proofs.Lent.SlebLaws.{sleb_only}
+use Rattle.dw_num.proofs.Lent.ShortNumbers.{taken_is, one_byte_read}
 use Rattle.dw_num.proofs.Lent.Steps.{Takes-then}
-use Rattle.byteorder.specs.Endian.{big_number, little_number}
-use Rattle.byteorder.specs.Numbers.{big_from-append, little_from-append}
-use Rattle.std.proofs.Common.{◌%◌, pos, ◌-ℤ◌}
-use Rattle.std.proofs.lemmas.Int.{ints}
 use Rattle.dw_section.specs.declared.entry.Kind.TheVariants as kind
 use Rattle.dw_section.specs.Inner.ShortEntry.{short_piece}
 use Rattle.dw_section.proofs.Lent.HeaderLaws.{cie_reads, fde_reads}
 use Rattle.dw_section.proofs.StandLaws.{stands_here}
-
--- ---- numbers
-
--- what is left behind a front
-taken_is : (i new : Input) (front : List ℕ) → Takes i front new → record { at = i.at + length front; bytes = new.bytes; target = i.target } ≡ new
-taken_is i new front t = rw (← t.at, ← t.target) refl
-
-front_number : (order : Order) (n : ℕ) (b rest : List ℕ) → length b ≡ n → fixed_number order n (b ++ rest) ≡ fixed_number order n b
-front_number Little n b rest len = little_from-append n b rest (omega (arith, len))
-front_number Big n b rest len = big_from-append n b rest (omega (arith, len))
-
-fixed_taken : (n : ℕ) (i new : Input) (b : List ℕ) → Takes i b new → length b ≡ n → fixed_at n i ≡ Ok (fixed_number i.target.order n b, new)
-unfolding fixed_at
-fixed_taken n i new b t len =
-    let long : n ≤ length (b ++ new.bytes) = omega (arith, len, length-append b new.bytes) in
-    let is : record { at = i.at + n; bytes = new.bytes; target = i.target } ≡ new = rw len at (taken_is i new b t) in
-    rw (t.bytes, le-ltb (length (b ++ new.bytes)) n long, drop_at b new.bytes n len, front_number i.target.order n b new.bytes len) (ap (λ (k : Input). Ok (fixed_number i.target.order n b, k)) is)
-
-pub little_taken : (n : ℕ) (i new : Input) (b : List ℕ) (v : ℕ) → Takes i b new → length b ≡ n → i.target.order ≡ Little → v ≡ little_number n b → fixed_at n i ≡ Ok (v, new)
-little_taken n i new b v t len order is = fixed_taken n i new b t len ∙ rw (order, is) refl
-
-pub big_taken : (n : ℕ) (i new : Input) (b : List ℕ) (v : ℕ) → Takes i b new → length b ≡ n → i.target.order ≡ Big → v ≡ big_number n b → fixed_at n i ≡ Ok (v, new)
-big_taken n i new b v t len order is = fixed_taken n i new b t len ∙ rw (order, is) refl
-
-one_byte_spells : (b : ℕ) → b < 128 → Uleb b (b ∷ [])
-one_byte_spells b lt = record { shape = lt; value = omega arith; fits = omega arith }
-
-pub one_byte_read : (i j : Input) (b : ℕ) → Takes i (b ∷ []) j → b < 128 → uleb_at i ≡ Ok (b, j)
-one_byte_read i j b takes lt =
-    uleb_only i b (b ∷ []) j.bytes (one_byte_spells b lt) takes.bytes ∙ ap (λ (k : Input). Ok (b, k)) (taken_is i j (b ∷ []) takes)
-
-one_byte_positive : (b : ℕ) → b < 64 → Sleb (pos b) (b ∷ [])
-one_byte_positive b lt = record {
-  shape = omega arith;
-  value = rw (lt-leb 64 (b % 128) (omega arith)) (ap pos (let is : b ≡ groups (b ∷ []) = omega arith in is));
-  fits = omega (arith, ints);
-}
-
-one_byte_negative : (b : ℕ) → 64 ≤ b → b < 128 → Sleb (pos b -ℤ pos 128) (b ∷ [])
-one_byte_negative b le lt = record {
-  shape = lt;
-  value = rw (le-leb 64 (b % 128) (omega arith)) (ap (λ (n : ℕ). pos n -ℤ pos 128) (let is : b ≡ groups (b ∷ []) = omega arith in is));
-  fits = omega (arith, ints);
-}
-
-signed_byte_read : (i j : Input) (b : ℕ) (v : ℤ) → Takes i (b ∷ []) j → Sleb v (b ∷ []) → sleb_at i ≡ Ok (v, j)
-signed_byte_read i j b v takes spells =
-    sleb_only i v (b ∷ []) j.bytes spells takes.bytes ∙ ap (λ (k : Input). Ok (v, k)) (taken_is i j (b ∷ []) takes)
-
-pub positive_read : (i j : Input) (b : ℕ) (v : ℤ) → Takes i (b ∷ []) j → b < 64 → v ≡ pos b → sleb_at i ≡ Ok (v, j)
-positive_read i j b v takes lt is = rw is (signed_byte_read i j b (pos b) takes (one_byte_positive b lt))
-
-pub negative_read : (i j : Input) (b : ℕ) (v : ℤ) → Takes i (b ∷ []) j → 64 ≤ b → b < 128 → v ≡ pos b -ℤ pos 128 → sleb_at i ≡ Ok (v, j)
-negative_read i j b v takes le lt is = rw is (signed_byte_read i j b (pos b -ℤ pos 128) takes (one_byte_negative b le lt))
 
 -- ---- fields
 

@@ -30,7 +30,7 @@ const CIE_ID: u32 = 0xffff_ffff;
 // ---- numbers
 
 // Four bytes as a number.
-#[tactic(auto, using(crate::proofs::ShortEntry::little_taken, crate::proofs::ShortEntry::big_taken))]
+#[tactic(auto, using(dw_num::proofs::Lent::ShortNumbers::little_taken, dw_num::proofs::Lent::ShortNumbers::big_taken))]
 #[inline(always)]
 fn four_bytes(cursor: &mut Cursor<'_>) -> Option<u32>
     ensures { IfSome result (λ n. fixed_at 4 cursor.old ≡ Ok (n, cursor.new)) }
@@ -46,7 +46,7 @@ fn four_bytes(cursor: &mut Cursor<'_>) -> Option<u32>
 }
 
 // Eight bytes as a number.
-#[tactic(auto, using(crate::proofs::ShortEntry::little_taken, crate::proofs::ShortEntry::big_taken))]
+#[tactic(auto, using(dw_num::proofs::Lent::ShortNumbers::little_taken, dw_num::proofs::Lent::ShortNumbers::big_taken))]
 #[inline(always)]
 fn eight_bytes(cursor: &mut Cursor<'_>) -> Option<u64>
     ensures { IfSome result (λ n. fixed_at 8 cursor.old ≡ Ok (n, cursor.new)) }
@@ -76,7 +76,7 @@ fn address(cursor: &mut Cursor<'_>, size: Size) -> Option<u64>
 }
 
 // An unsigned LEB128 number of one byte.
-#[tactic(auto, using(crate::proofs::ShortEntry::one_byte_read))]
+#[tactic(auto, using(dw_num::proofs::Lent::ShortNumbers::one_byte_read))]
 #[inline(always)]
 fn short_uleb(cursor: &mut Cursor<'_>) -> Option<u64>
     ensures { IfSome result (λ n. uleb_at cursor.old ≡ Ok (n, cursor.new)) }

@@ -1,5 +1,5 @@
 use Rattle.dw_cfa.proofs.Words.{rules}
-use Rattle.dw_cfa.proofs.ShortNumbers.{factored_read}
+use Rattle.dw_cfa.proofs.ShortOffsets.{factored_read}
 use Rattle.dw_cfa.specs.Inner.ShortRun.{factors_of}
 use Rattle.dw_cfa.proofs.short_run.factored_offset.Goals as goal
 

@@ -1,5 +1,5 @@
 use Rattle.dw_cfa.proofs.Words.{rules}
-use Rattle.dw_cfa.proofs.ShortNumbers.{plain_read}
+use Rattle.dw_cfa.proofs.ShortOffsets.{plain_read}
 use Rattle.dw_cfa.proofs.short_run.plain_offset.Goals as goal
 
 pub returns : goal.returns

@@ -1,4 +1,4 @@
-use Rattle.dw_cfa.proofs.ShortNumbers.{two_bytes_big, two_bytes_little}
+use Rattle.dw_num.proofs.Lent.ShortNumbers.{two_bytes_big, two_bytes_little}
 use Rattle.dw_cfa.proofs.short_run.short_delta.Goals as goal
 
 pub returns-in-Little : goal.returns-in-Little

@@ -1,5 +1,5 @@
 use Rattle.dw_cfa.proofs.Words.{rules}
-use Rattle.dw_cfa.proofs.ShortNumbers.{two_bytes_read}
+use Rattle.dw_num.proofs.Lent.ShortNumbers.{two_bytes_read}
 use Rattle.dw_cfa.proofs.short_run.short_number.Goals as goal
 
 pub returns : goal.returns

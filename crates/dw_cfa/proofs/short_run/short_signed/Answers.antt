@@ -1,5 +1,5 @@
 use Rattle.dw_cfa.proofs.Words.{rules}
-use Rattle.dw_cfa.proofs.ShortNumbers.{negative_read, positive_read, two_negative_read, two_positive_read}
+use Rattle.dw_num.proofs.Lent.ShortNumbers.{negative_read, positive_read, two_negative_read, two_positive_read}
 use Rattle.dw_cfa.proofs.short_run.short_signed.Goals as goal
 
 pub returns-then-low-lt64 : goal.returns-then-low-lt64

@@ -1,5 +1,5 @@
 use Rattle.dw_cfa.proofs.Words.{rules}
-use Rattle.dw_cfa.proofs.ShortNumbers.{narrow_abs, signed_read}
+use Rattle.dw_cfa.proofs.ShortOffsets.{narrow_abs, signed_read}
 use Rattle.dw_cfa.specs.Inner.ShortRun.{factors_of}
 use Rattle.dw_cfa.proofs.short_run.signed_offset.Goals as goal
 

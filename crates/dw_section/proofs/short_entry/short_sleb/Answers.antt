@@ -1,5 +1,5 @@
 use Rattle.dw_section.proofs.Words.{rules}
-use Rattle.dw_section.proofs.ShortEntry.{negative_read, positive_read}
+use Rattle.dw_num.proofs.Lent.ShortNumbers.{negative_read, positive_read}
 use Rattle.dw_section.proofs.short_entry.short_sleb.Goals as goal
 
 pub returns-then-byte-lt64 : goal.returns-then-byte-lt64
