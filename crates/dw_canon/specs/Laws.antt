@@ -36,6 +36,10 @@ SameNormalForm = (target : Target) (s t n m : List ℕ) → AreBytes s → AreBy
 abbrev pub FewestRows : Type 0
 FewestRows = (target : Target) (s : List ℕ) (f : Fde) (changes : List (ℕ × Rules)) → AreBytes s → Accepted target s → f.begin < f.end → (h : ChangesOf target s f changes) → length changes ≤ row_starts h.instrs
 
--- and the FDEs of a normal form start exactly as many
+-- an FDE of a normal form starts exactly as many
+abbrev pub ExactRows : Type 0
+ExactRows = (target : Target) (s n : List ℕ) (f : Fde) (changes : List (ℕ × Rules)) → AreBytes s → IsNormalForm target s n → length n ≤ 2147483647 → f.begin < f.end → (h : ChangesOf target n f changes) → row_starts h.instrs ≡ length changes
+
+-- and so do all of them together
 abbrev pub NormalRows : Type 0
 NormalRows = (target : Target) (s n : List ℕ) → AreBytes s → (h : IsNormalForm target s n) → length n ≤ 2147483647 → RowStarts target n (total (map (λ (m : Member). length (changes_of m)) h.members))

@@ -59,10 +59,10 @@ fn put_look(
         return Ok(0);
     }
     let Some(found) = lookups.fde() else {
-        return Err(AllocError);
+        unreachable!();
     };
     let Some(specified) = lookups.row() else {
-        return Err(AllocError);
+        unreachable!();
     };
     let count = put_rules(specified, rules);
     *row = told_row(found.fde(), found.range(), specified, count);

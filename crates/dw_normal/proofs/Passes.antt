@@ -40,6 +40,11 @@ pub shown_before : (shown before : Option Rules) (o : Option ℕ) (to : ℕ) →
 shown_before shown before None to is e = absurd cc
 shown_before shown before (Some a) to is e = ap row_or_blank is
 
+-- so there is one, where one was
+pub some_before : (shown before : Option Rules) (o : Option ℕ) (to : ℕ) → before ≡ before_then o shown → o ≡ Some to → shown ≡ Some (row_or_blank shown) → before ≡ Some (row_or_blank before)
+some_before shown before None to is e some = absurd cc
+some_before shown before (Some a) to is e some = subst (λ (row : Option Rules). row ≡ Some (row_or_blank row)) (sym is) some
+
 pub none_later : (t : Target) (shared : Rules) (at : ℕ) (changes : Changing) → changes.to_come ≡ [] → later_bytes t shared at changes ≡ []
 none_later t shared at changes none = ap (λ (l : List (ℕ × Rules)). program_bytes t (later_changes shared at (shown_row changes) l)) none
 
@@ -60,7 +65,7 @@ module _ {t : Target} {shared : Rules} {at : ℕ} {changes next : Changing} {to 
   step_fits = difference_fits t shared row after stand.fits stands.2.fits stands.2.rests
 
   pub step_stand : Stand t shared to next
-  step_stand = record { fits = stands.2.fits; later = stands.3 }
+  step_stand = record { shown = g.shown; fits = stands.2.fits; later = stands.3 }
 
   step_bytes : later_bytes t shared at changes ≡ instr_bytes t (move at to) ++ (program_bytes t (difference shared row after) ++ later_bytes t shared to next)
   step_bytes =

@@ -25,7 +25,7 @@ pub use Rattle.dw_cfa.specs.Rows.{AreSpecified, Rules, blank, rule}
 pub use Rattle.dw_cfa.specs.declared.instr.Instr.{Instr}
 pub use Rattle.dw_normal.specs.Answers.{IsTooLong, IsWithin, NormalFault, SameFault, WentOut, Writes, too_long}
 pub use Rattle.dw_normal.specs.Inner.Begun.{Begins, IsReady, SharesIn}
-pub use Rattle.dw_normal.specs.Inner.ChangeWalk.{BehindFirst, Stand, later_bytes, row_or_blank, shown_row}
+pub use Rattle.dw_normal.specs.Inner.ChangeWalk.{BehindFirst, IsShown, Stand, later_bytes, row_or_blank, shown_row}
 pub use Rattle.dw_normal.specs.Inner.Groups.{HasJoined, begun_with, initial_rows, joined_by, row_of, with_member}
 pub use Rattle.dw_normal.specs.Inner.Lengths.{FdeLeaves, Leaves, Measures, MemberLeaves, cie_with, cies_bytes, fdes_bytes}
 pub use Rattle.dw_normal.specs.Inner.Places.{RowsRise, cie_place, fde_with, place_in}

@@ -7,6 +7,7 @@ pub mod Lengths
 pub mod Groups
 pub mod Known
 pub mod Apart
+pub mod Differences
 pub mod Puts
 pub mod Places
 pub mod Answers

@@ -3,12 +3,13 @@
 ghost use Rattle.std.specs.Prelude.{◌≡◌, ℕ, false, None, IfSome, OnOk};
 ghost use Rattle.std.specs.BTreeMap.{get};
 ghost use Rattle.std.specs.Ordering.{nat_cmp};
-ghost use Rattle.dw_cfa.specs.Difference.{FirstDifference, place_behind};
 ghost use Rattle.dw_cfa.specs.RegisterSets.{SameBeside};
-ghost use Rattle.dw_cfa.specs.Rows.{AreSpecified, Rules};
+ghost use Rattle.dw_cfa.specs.Rows.{Rules};
 ghost use Rattle.dw_normal.specs.Inner.Apart.{NotesSame, StandsApart};
+ghost use Rattle.dw_normal.specs.Inner.Differences.{Tells};
 ghost use Rattle.dw_normal.specs.Inner.Known.{HoldsAt, Notes};
 
+use crate::differences::Differences;
 use crate::known::Known;
 use dw_cfa::{RegisterSet, Row};
 use dw_section::Behind;
@@ -24,35 +25,18 @@ pub(crate) struct Apart<'a> {
 }
 
 // Lists the registers to which two rows give different rules.
-fn list_all<'a>(
+fn list_differences<'a>(
     registers: &mut RegisterSet<'a>,
     shared: &Row<'a>,
     first: &Row<'a>,
+    differences: &Differences<'_, 'a>,
 ) -> Result<(), AllocError>
+    requires { Tells differences.now shared.now first.now }
     ensures { OnOk result (SameBeside registers.new shared.now first.now) }
 {
     registers.clear();
     let mut last = None;
-    'registers: while let Some(register) = shared.next_difference(first, last) {
-        registers.add(register)?;
-        last = Some(register);
-    }
-    Ok(())
-}
-
-// The same, where rows that differ in registers of a set alone.
-fn list_among<'a>(
-    registers: &mut RegisterSet<'a>,
-    shared: &Row<'a>,
-    first: &Row<'a>,
-    among: &RegisterSet<'a>,
-) -> Result<(), AllocError>
-    requires { SameBeside among.now shared.now first.now }
-    ensures { OnOk result (SameBeside registers.new shared.now first.now) }
-{
-    registers.clear();
-    let mut last = None;
-    'registers: while let Some(register) = shared.next_difference_among(first, among, last) {
+    'registers: while let Some(register) = differences.next(shared, first, last) {
         registers.add(register)?;
         last = Some(register);
     }
@@ -72,18 +56,15 @@ impl<'a> Apart<'a> {
         }
     }
 
-    /// The least register to which both rows give different rules, of those behind a given one where there is such; or none.
+    /// How they are found.
     #[inline(always)]
-    pub(crate) fn next(&self, shared: &Row<'a>, first: &Row<'a>, behind: Option<u16>) -> Option<u16>
-        requires { StandsApart self.now shared.now first.now }
-        ensures first { FirstDifference (place_behind behind) shared.now.registers first.now.registers result }
-        ensures ascending { AreSpecified 0 shared.now.registers }
-        ensures other_ascending { AreSpecified 0 first.now.registers }
+    pub(crate) fn differences(&self) -> Differences<'_, 'a>
+        ensures { (shared first : Rules) → StandsApart self.now shared first → Tells result shared first }
     {
         if self.listed {
-            return shared.next_difference_among(first, &self.registers, behind);
+            return Differences::Among(&self.registers);
         }
-        shared.next_difference(first, behind)
+        Differences::Rows
     }
 
     // Lists them by what is known of the FDE's CIE and of the group of a return register, and notes that.
@@ -102,9 +83,10 @@ impl<'a> Apart<'a> {
             Some(before) => {
                 let mut among = before;
                 among.add_all(&self.known.changed)?;
-                list_among(&mut self.registers, shared, first, &among)?;
+                let differences = Differences::Among(&among);
+                list_differences(&mut self.registers, shared, first, &differences)?;
             }
-            None => list_all(&mut self.registers, shared, first)?,
+            None => list_differences(&mut self.registers, shared, first, &Differences::Rows)?,
         }
         let none = RegisterSet::new(self.known.alloc);
         let mut set = mem::replace(&mut self.known.changed, none);

@@ -9,7 +9,7 @@ ghost use Rattle.dw_section.specs.Opening.{CieLeaves};
 ghost use Rattle.dw_canon.specs.Members.{Member, AreMembers};
 ghost use Rattle.dw_normal.specs.Inner.Apart.{NotesSame, StandsApart};
 ghost use Rattle.dw_normal.specs.Inner.Begun.{Begins, IsReady, SharesIn};
-ghost use Rattle.dw_normal.specs.Inner.ChangeWalk.{ShownBehind, shown_row};
+ghost use Rattle.dw_normal.specs.Inner.ChangeWalk.{IsShown, ShownBehind, shown_row};
 ghost use Rattle.dw_normal.specs.Inner.Groups.{initial_rows, row_of};
 ghost use Rattle.dw_normal.specs.Inner.Known.{HoldsAt};
 
@@ -72,6 +72,7 @@ pub(crate) fn room_for<'r, 'a>(
 
 // Lists the registers to which the row at the begin, which is shown, and the initial one give different rules.
 fn list_apart(begun: &mut Begun<'_, '_>, behind: Option<Behind>) -> Result<(), AllocError>
+    requires shown { IsShown begun.old.changes }
     requires stands { IfSome behind (ShownBehind begun.old.changes begun.old.apart.known.changed) }
     requires known { IfSome behind (λ b. (row : Rules) → CieLeaves begun.old.changes.section.target begun.old.changes.section.bytes b.cie_at row → HoldsAt (λ set. SameBeside set begun.old.shared.now row) b.cie_at begun.old.fde.return_register begun.old.apart.known.cies) }
     ensures apart { OnOk result (StandsApart begun.new.apart begun.new.shared.now (shown_row begun.new.changes)) }
@@ -79,7 +80,7 @@ fn list_apart(begun: &mut Begun<'_, '_>, behind: Option<Behind>) -> Result<(), A
     ensures same { (begun.new.fde ≡ begun.old.fde) × (begun.new.shared ≡ begun.old.shared) × (begun.new.changes ≡ begun.old.changes) }
 {
     let Some(first) = begun.changes.row() else {
-        return Err(AllocError);
+        unreachable!();
     };
     begun
         .apart

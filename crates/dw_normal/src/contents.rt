@@ -14,6 +14,7 @@ ghost use Rattle.dw_normal.specs.Inner.Begun.{Begins, IsReady};
 ghost use Rattle.dw_normal.specs.Inner.Lengths.{cie_with};
 
 use crate::begun::Begun;
+use crate::differences::Differences;
 use crate::instruction::push_uleb;
 use crate::program::{push_difference, push_first, push_later};
 use byteorder::{BigEndian, ByteOrder, LittleEndian};
@@ -84,7 +85,7 @@ pub(crate) fn fill_cie<'a>(
     let blank = Row::blank(alloc);
     begin_entry(out, target.order)?;
     push_cie_fields(out, register, target)?;
-    push_difference(out, &blank, &blank, initial, target)?;
+    push_difference(out, &blank, &blank, initial, &Differences::Rows, target)?;
     push_nops(out, target.size)
 }
 

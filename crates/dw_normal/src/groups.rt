@@ -14,7 +14,7 @@ ghost use Rattle.dw_canon.specs.Inner.Canon.{canon};
 ghost use Rattle.dw_canon.specs.Members.{Member, AreMembers};
 ghost use Rattle.dw_cfa.specs.Inner.Agreement.{agreed};
 ghost use Rattle.dw_normal.specs.Inner.Groups.{HasJoined, joined_by, with_member, initial_rows};
-ghost use Rattle.dw_normal.specs.Inner.ChangeWalk.{BehindFirst, ShownBehind, shown_row};
+ghost use Rattle.dw_normal.specs.Inner.ChangeWalk.{BehindFirst, IsShown, ShownBehind, shown_row};
 ghost use Rattle.dw_normal.specs.Inner.Known.{Agree, HoldsAt, Notes};
 
 use crate::bound::add_share;
@@ -35,6 +35,7 @@ fn show_first<'a>(
     requires place { (fs : List TheFde) → AreFdes table.now.target table.now.bytes fs → fde.place < length fs }
     requires changes { (fs : List TheFde) → AreFdes table.now.target table.now.bytes fs → (d : TheFde) → ChangesOf table.now.target table.now.bytes (slice_index_or fs fde.place d) changes.old.to_come }
     ensures behind { (ms : List Member) → AreMembers table.now.target table.now.bytes ms → (d : Member) → OnOk result (BehindFirst (slice_index_or ms fde.place d) changes.new) }
+    ensures shown { OnOk result (IsShown changes.new) }
     ensures stands { IfOk result (λ found. IfSome found (ShownBehind changes.new changed.new)) }
     ensures section { changes.new.section ≡ changes.old.section }
 {
@@ -53,6 +54,7 @@ pub(crate) fn go_behind_first<'a>(
     requires place { (fs : List TheFde) → AreFdes table.now.target table.now.bytes fs → fde.place < length fs }
     requires section { changes.old.section ≡ table.now }
     ensures behind { (ms : List Member) → AreMembers table.now.target table.now.bytes ms → (d : Member) → OnOk result (BehindFirst (slice_index_or ms fde.place d) changes.new) }
+    ensures shown { OnOk result (IsShown changes.new) }
     ensures stands { IfOk result (λ found. IfSome found (ShownBehind changes.new changed.new)) }
     ensures section { changes.new.section ≡ table.now }
 {
@@ -62,11 +64,12 @@ pub(crate) fn go_behind_first<'a>(
 
 // Narrows the row of a group to what one more FDE shares with it, whose row at its begin is shown.
 fn share_with<'a>(shared: &mut Row<'a>, changes: &mut Changes<'a>) -> Result<(), AllocError>
+    requires shown { IsShown changes.old }
     ensures row { (first : Rules) → changes.old.shown ≡ Some first → OnOk result (shared.new ≡ kept_by (agreed shared.old first) changes.old.to_come) }
     ensures section { changes.new.section ≡ changes.old.section }
 {
     let Some(first) = changes.row() else {
-        return Err(AllocError);
+        unreachable!();
     };
     shared.ascends();
     shared.agree(first);
@@ -81,6 +84,7 @@ fn share_behind<'a>(
     behind: Behind,
     register: u16,
 ) -> Result<(), AllocError>
+    requires shown { IsShown changes.old }
     requires stands { ShownBehind changes.old known.old.changed behind }
     requires known { (row : Rules) → CieLeaves changes.old.section.target changes.old.section.bytes behind.cie_at row → HoldsAt (λ set. AgreesBeside set shared.old row) behind.cie_at register known.old.cies }
     ensures row { (first : Rules) → changes.old.shown ≡ Some first → OnOk result (shared.new ≡ kept_by (agreed shared.old first) changes.old.to_come) }
@@ -88,7 +92,7 @@ fn share_behind<'a>(
     ensures section { changes.new.section ≡ changes.old.section }
 {
     let Some(first) = changes.row() else {
-        return Err(AllocError);
+        unreachable!();
     };
     shared.ascends();
     first.ascends();
@@ -101,11 +105,12 @@ fn share_behind<'a>(
 
 // The row of a group that begins with an FDE, whose row at its begin is shown.
 fn first_shared<'a>(changes: &mut Changes<'a>) -> Result<Row<'a>, AllocError>
+    requires shown { IsShown changes.old }
     ensures row { (first : Rules) → changes.old.shown ≡ Some first → IfOk result (λ row. row ≡ kept_by first changes.old.to_come) }
     ensures section { changes.new.section ≡ changes.old.section }
 {
     let Some(first) = changes.row() else {
-        return Err(AllocError);
+        unreachable!();
     };
     let mut row = first.copied()?;
     changes.narrow(&mut row)?;
@@ -120,6 +125,7 @@ fn begin_group<'a>(
     changes: &mut Changes<'a>,
     register: u16,
 ) -> Result<(), AllocError>
+    requires shown { IsShown changes.old }
     ensures rows { (first : Rules) → changes.old.shown ≡ Some first → OnOk result (rows.new.entries ≡ insert_entry nat_cmp rows.old.entries register (kept_by first changes.old.to_come)) }
     ensures section { changes.new.section ≡ changes.old.section }
 {
@@ -139,6 +145,7 @@ fn add_fde<'a>(
 ) -> Result<(), AllocError>
     requires place { (fs : List TheFde) → AreFdes table.now.target table.now.bytes fs → fde.place < length fs }
     requires behind { (ms : List Member) → AreMembers table.now.target table.now.bytes ms → (d : Member) → BehindFirst (slice_index_or ms fde.place d) changes.old }
+    requires shown { IsShown changes.old }
     requires section { changes.old.section ≡ table.now }
     requires stands { IfSome behind (ShownBehind changes.old known.old.changed) }
     requires known { Agree table.now rows.old.entries known.old.cies }

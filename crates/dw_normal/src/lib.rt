@@ -6,6 +6,7 @@ mod begun;
 mod bound;
 mod cfa_change;
 mod contents;
+mod differences;
 mod entry;
 mod error;
 mod groups;

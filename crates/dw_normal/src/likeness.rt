@@ -8,6 +8,7 @@ ghost use Rattle.dw_section.specs.Changes.{GoesOn};
 ghost use Rattle.dw_section.specs.declared.lookup.Fde.{Fde as TheFde};
 ghost use Rattle.dw_section.specs.Meaning.{AreFdes};
 ghost use Rattle.dw_canon.specs.Members.{Member, AreMembers};
+ghost use Rattle.dw_normal.specs.Inner.ChangeWalk.{IsShown};
 ghost use Rattle.dw_normal.specs.Inner.Twins.{AreTwins, BeginTogether, StandsBy};
 
 use crate::twins::{Twins, same_behind};
@@ -96,6 +97,8 @@ fn same_behind_cies<'a, 'b>(
     requires bytes { AreBytes first.now.section.bytes }
     requires other_bytes { AreBytes second.now.section.bytes }
     requires twins { AreTwins first.now.section second.now.section twins.old.cies }
+    requires shown { IsShown first.now }
+    requires other_shown { IsShown second.now }
     requires stands { StandsBy first.now twins.old.changed cie_at }
     requires other_stands { StandsBy second.now twins.old.other_changed other_at }
     ensures same { IfOk result (λ b. Decides b (first.now.shown ≡ second.now.shown)) }
@@ -104,7 +107,7 @@ fn same_behind_cies<'a, 'b>(
     section_laws();
     let twin = twins.take(cie_at, other_at);
     let (Some(row), Some(other)) = (first.row(), second.row()) else {
-        return Err(AllocError);
+        unreachable!();
     };
     if !same_behind(row, other, twin, &twins.changed, &twins.other_changed)? {
         return Ok(false);

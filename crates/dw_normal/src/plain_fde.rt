@@ -18,6 +18,7 @@ ghost use Rattle.dw_normal.specs.Inner.PlainRows.{Marks};
 
 use crate::begun::Begun;
 use crate::contents::{begin_fde_entry, push_nops};
+use crate::differences::Differences;
 use crate::plain_program::{Frame, push_plain};
 use crate::program::push_difference;
 use dw_cfa::Row;
@@ -86,7 +87,14 @@ fn opened_by<'a>(
     ensures { IfOk result (λ own. (own.behind ≡ behind) × (own.register ≡ register) × Opens target shared.now first.now own) }
 {
     let mut program = Vec::new(alloc);
-    push_difference(&mut program, shared, shared, first, target)?;
+    push_difference(
+        &mut program,
+        shared,
+        shared,
+        first,
+        &Differences::Rows,
+        target,
+    )?;
     Ok(Opened {
         behind,
         register,

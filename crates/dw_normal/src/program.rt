@@ -7,14 +7,16 @@ ghost use Rattle.dw_canon.specs.Difference.{move};
 ghost use Rattle.dw_canon.specs.Inner.Difference.{difference, cfa_difference, rule_to};
 ghost use Rattle.dw_cfa.specs.Rows.{rule};
 ghost use Rattle.dw_normal.specs.Inner.Apart.{StandsApart};
+ghost use Rattle.dw_normal.specs.Inner.Differences.{Tells};
 ghost use Rattle.dw_normal.specs.Inner.RegisterWalk.{rules_from};
-ghost use Rattle.dw_normal.specs.Inner.ChangeWalk.{Stand, later_bytes, row_or_blank, shown_row};
+ghost use Rattle.dw_normal.specs.Inner.ChangeWalk.{HasBefore, IsShown, Stand, later_bytes, row_or_blank, shown_row};
 ghost use Rattle.dw_canon.specs.Inner.Fits.{InstrFits};
 ghost use Rattle.dw_canon.specs.Inner.Spelling.{instr_bytes, program_bytes, rule_bytes};
 ghost use Rattle.dw_section.specs.Fits.{RuleFits};
 
 use crate::apart::Apart;
 use crate::cfa_change::cfa_difference;
+use crate::differences::Differences;
 use crate::instruction::{
     push_advance, push_cfa_offset, push_instr, push_offset, push_packed, push_rule, push_set_loc,
 };
@@ -124,18 +126,21 @@ pub(crate) fn push_register<'a>(
 }
 
 // Appends what gives each register whose rule differs its rule of another row.
+#[inline(always)]
 fn push_rules<'a>(
     out: &mut Vec<u8>,
     shared: &Row<'a>,
     before: &Row<'a>,
     after: &Row<'a>,
+    differences: &Differences<'_, 'a>,
     target: Target,
 ) -> Result<(), AllocError>
-    requires { AllByRecursion (InstrFits target) (rules_from shared.now before.now after.now 0) }
+    requires tells { Tells differences.now before.now after.now }
+    requires fits { AllByRecursion (InstrFits target) (rules_from shared.now before.now after.now 0) }
     ensures { OnOk result (out.new.items ≡ out.old.items ++ program_bytes target (rules_from shared.now before.now after.now 0)) }
 {
     let mut last = None;
-    'registers: while let Some(register) = before.next_difference(after, last) {
+    'registers: while let Some(register) = differences.next(before, after, last) {
         push_register(out, shared, after, register, target)?;
         last = Some(register);
     }
@@ -144,18 +149,21 @@ fn push_rules<'a>(
 
 /// Appends what leads from one row to another, where a third has the initial rules. It may leave some of it where memory
 /// runs out.
+#[inline(always)]
 pub(crate) fn push_difference<'a>(
     out: &mut Vec<u8>,
     shared: &Row<'a>,
     before: &Row<'a>,
     after: &Row<'a>,
+    differences: &Differences<'_, 'a>,
     target: Target,
 ) -> Result<(), AllocError>
-    requires { AllByRecursion (InstrFits target) (difference shared.now before.now after.now) }
+    requires tells { Tells differences.now before.now after.now }
+    requires fits { AllByRecursion (InstrFits target) (difference shared.now before.now after.now) }
     ensures { OnOk result (out.new.items ≡ out.old.items ++ program_bytes target (difference shared.now before.now after.now)) }
 {
     push_cfa(out, before, after, target)?;
-    push_rules(out, shared, before, after, target)
+    push_rules(out, shared, before, after, differences, target)
 }
 
 /// Appends what moves the location far.
@@ -191,27 +199,6 @@ fn push_move(out: &mut Vec<u8>, from: u128, to: u128, target: Target) -> Result<
     push_far_move(out, from, to, target)
 }
 
-// Appends what leads from an initial row to the one at an FDE's begin.
-fn push_apart<'a>(
-    out: &mut Vec<u8>,
-    shared: &Row<'a>,
-    first: &Row<'a>,
-    apart: &Apart<'a>,
-    target: Target,
-) -> Result<(), AllocError>
-    requires apart { StandsApart apart.now shared.now first.now }
-    requires fits { AllByRecursion (InstrFits target) (difference shared.now shared.now first.now) }
-    ensures { OnOk result (out.new.items ≡ out.old.items ++ program_bytes target (difference shared.now shared.now first.now)) }
-{
-    push_cfa(out, shared, first, target)?;
-    let mut last = None;
-    'registers: while let Some(register) = apart.next(shared, first, last) {
-        push_register(out, shared, first, register, target)?;
-        last = Some(register);
-    }
-    Ok(())
-}
-
 /// Appends what leads from an initial row to the one that is shown.
 pub(crate) fn push_first<'a>(
     out: &mut Vec<u8>,
@@ -220,38 +207,15 @@ pub(crate) fn push_first<'a>(
     apart: &Apart<'a>,
     target: Target,
 ) -> Result<(), AllocError>
+    requires shown { IsShown changes.now }
     requires apart { StandsApart apart.now shared.now (shown_row changes.now) }
     requires fits { AllByRecursion (InstrFits target) (difference shared.now shared.now (shown_row changes.now)) }
     ensures { OnOk result (out.new.items ≡ out.old.items ++ program_bytes target (difference shared.now shared.now (shown_row changes.now))) }
 {
-    match changes.row() {
-        Some(first) => push_apart(out, shared, first, apart, target),
-        None => Err(AllocError),
-    }
-}
-
-// Appends what leads from the row before a change to the change's.
-#[inline(always)]
-fn push_between<'a>(
-    out: &mut Vec<u8>,
-    shared: &Row<'a>,
-    changes: &Changes<'a>,
-    before: &Row<'a>,
-    row: &Row<'a>,
-    target: Target,
-) -> Result<(), AllocError>
-    requires before { changes.now.before ≡ Some before.now }
-    requires row { changes.now.shown ≡ Some row.now }
-    requires fits { AllByRecursion (InstrFits target) (difference shared.now before.now row.now) }
-    ensures { OnOk result (out.new.items ≡ out.old.items ++ program_bytes target (difference shared.now before.now row.now)) }
-{
-    push_cfa(out, before, row, target)?;
-    let mut last = None;
-    'registers: while let Some(register) = changes.next_difference(last) {
-        push_register(out, shared, row, register, target)?;
-        last = Some(register);
-    }
-    Ok(())
+    let Some(first) = changes.row() else {
+        unreachable!();
+    };
+    push_difference(out, shared, shared, first, &apart.differences(), target)
 }
 
 // Appends what leads to the row that is shown from the one before it.
@@ -262,16 +226,22 @@ fn push_change<'a>(
     changes: &Changes<'a>,
     target: Target,
 ) -> Result<(), AllocError>
-    requires { AllByRecursion (InstrFits target) (difference shared.now (row_or_blank changes.now.before) (shown_row changes.now)) }
+    requires before { HasBefore changes.now }
+    requires shown { IsShown changes.now }
+    requires fits { AllByRecursion (InstrFits target) (difference shared.now (row_or_blank changes.now.before) (shown_row changes.now)) }
     ensures { OnOk result (out.new.items ≡ out.old.items ++ program_bytes target (difference shared.now (row_or_blank changes.now.before) (shown_row changes.now))) }
 {
-    let Some(before) = changes.before() else {
-        return Err(AllocError);
+    let (Some(before), Some(row)) = (changes.before(), changes.row()) else {
+        unreachable!();
     };
-    match changes.row() {
-        Some(row) => push_between(out, shared, changes, before, row, target),
-        None => Err(AllocError),
-    }
+    push_difference(
+        out,
+        shared,
+        before,
+        row,
+        &Differences::Altered(changes),
+        target,
+    )
 }
 
 /// Appends the changes that are still to come behind an address, whose row is shown.

@@ -12,11 +12,13 @@ ghost use Rattle.dw_canon.specs.Inner.Spelling.{instr_bytes, program_bytes};
 ghost use Rattle.dw_canon.specs.Inner.Written.{cie, entry_bytes};
 ghost use Rattle.dw_canon.specs.Written.{missing};
 ghost use Rattle.dw_normal.specs.Inner.Apart.{StandsApart};
+ghost use Rattle.dw_normal.specs.Inner.Differences.{Tells};
 ghost use Rattle.dw_normal.specs.Inner.Lengths.{Leaves, FdeLeaves};
-ghost use Rattle.dw_normal.specs.Inner.ChangeWalk.{Stand, later_bytes, row_or_blank, shown_row};
+ghost use Rattle.dw_normal.specs.Inner.ChangeWalk.{HasBefore, IsShown, Stand, later_bytes, row_or_blank, shown_row};
 
 use crate::apart::Apart;
 use crate::cfa_change::cfa_difference;
+use crate::differences::Differences;
 use crate::restored::is_restored;
 use crate::size::{cfa_offset_len, instr_len, packed_len, rule_len, unsigned_len};
 use dw_cfa::{CfaRule, Instr, Row};
@@ -93,20 +95,22 @@ fn register_len<'a>(shared: &Row<'a>, row: &Row<'a>, register: u16, target: Targ
     rule_len(register, &row.rule(register), target)
 }
 
-/// What is left of room behind what leads from one row to another, where a third has the initial rules.
-pub(crate) fn behind_difference<'a>(
+// What is left of room behind what leads from one row to another, where a third has the initial rules.
+fn behind_difference<'a>(
     room: u128,
     shared: &Row<'a>,
     before: &Row<'a>,
     after: &Row<'a>,
+    differences: &Differences<'_, 'a>,
     target: Target,
 ) -> Option<u128>
-    requires { AllByRecursion (InstrFits target) (difference shared.now before.now after.now) }
+    requires tells { Tells differences.now before.now after.now }
+    requires fits { AllByRecursion (InstrFits target) (difference shared.now before.now after.now) }
     ensures { Leaves room (length (program_bytes target (difference shared.now before.now after.now))) result }
 {
     let mut left = behind_cfa(room, before, after, target)?;
     let mut last = None;
-    'registers: while let Some(register) = before.next_difference(after, last) {
+    'registers: while let Some(register) = differences.next(before, after, last) {
         left = behind(left, register_len(shared, after, register, target))?;
         last = Some(register);
     }
@@ -126,27 +130,6 @@ fn move_len(from: u128, to: u128, target: Target) -> u128
     }
 }
 
-// What is left of room behind what leads from an initial row to the one at an FDE's begin.
-fn behind_apart<'a>(
-    room: u128,
-    shared: &Row<'a>,
-    first: &Row<'a>,
-    apart: &Apart<'a>,
-    target: Target,
-) -> Option<u128>
-    requires apart { StandsApart apart.now shared.now first.now }
-    requires fits { AllByRecursion (InstrFits target) (difference shared.now shared.now first.now) }
-    ensures { Leaves room (length (program_bytes target (difference shared.now shared.now first.now))) result }
-{
-    let mut left = behind_cfa(room, shared, first, target)?;
-    let mut last = None;
-    'registers: while let Some(register) = apart.next(shared, first, last) {
-        left = behind(left, register_len(shared, first, register, target))?;
-        last = Some(register);
-    }
-    Some(left)
-}
-
 // What is left of room behind what leads from an initial row to the one that is shown.
 fn behind_first<'a>(
     room: u128,
@@ -154,38 +137,16 @@ fn behind_first<'a>(
     changes: &Changes<'a>,
     apart: &Apart<'a>,
     target: Target,
-) -> Result<Option<u128>, AllocError>
+) -> Option<u128>
+    requires shown { IsShown changes.now }
     requires apart { StandsApart apart.now shared.now (shown_row changes.now) }
     requires fits { AllByRecursion (InstrFits target) (difference shared.now shared.now (shown_row changes.now)) }
-    ensures { IfOk result (Leaves room (length (program_bytes target (difference shared.now shared.now (shown_row changes.now))))) }
+    ensures { Leaves room (length (program_bytes target (difference shared.now shared.now (shown_row changes.now)))) result }
 {
-    match changes.row() {
-        Some(first) => Ok(behind_apart(room, shared, first, apart, target)),
-        None => Err(AllocError),
-    }
-}
-
-// What is left of room behind what leads from the row before a change to the change's.
-fn behind_between<'a>(
-    room: u128,
-    shared: &Row<'a>,
-    changes: &Changes<'a>,
-    before: &Row<'a>,
-    row: &Row<'a>,
-    target: Target,
-) -> Option<u128>
-    requires before { changes.now.before ≡ Some before.now }
-    requires row { changes.now.shown ≡ Some row.now }
-    requires fits { AllByRecursion (InstrFits target) (difference shared.now before.now row.now) }
-    ensures { Leaves room (length (program_bytes target (difference shared.now before.now row.now))) result }
-{
-    let mut left = behind_cfa(room, before, row, target)?;
-    let mut last = None;
-    'registers: while let Some(register) = changes.next_difference(last) {
-        left = behind(left, register_len(shared, row, register, target))?;
-        last = Some(register);
-    }
-    Some(left)
+    let Some(first) = changes.row() else {
+        unreachable!();
+    };
+    behind_difference(room, shared, shared, first, &apart.differences(), target)
 }
 
 // What is left of room behind what leads to the row that is shown from the one before it.
@@ -194,17 +155,23 @@ fn behind_change<'a>(
     shared: &Row<'a>,
     changes: &Changes<'a>,
     target: Target,
-) -> Result<Option<u128>, AllocError>
-    requires { AllByRecursion (InstrFits target) (difference shared.now (row_or_blank changes.now.before) (shown_row changes.now)) }
-    ensures { IfOk result (Leaves room (length (program_bytes target (difference shared.now (row_or_blank changes.now.before) (shown_row changes.now))))) }
+) -> Option<u128>
+    requires before { HasBefore changes.now }
+    requires shown { IsShown changes.now }
+    requires fits { AllByRecursion (InstrFits target) (difference shared.now (row_or_blank changes.now.before) (shown_row changes.now)) }
+    ensures { Leaves room (length (program_bytes target (difference shared.now (row_or_blank changes.now.before) (shown_row changes.now)))) result }
 {
-    let Some(before) = changes.before() else {
-        return Err(AllocError);
+    let (Some(before), Some(row)) = (changes.before(), changes.row()) else {
+        unreachable!();
     };
-    match changes.row() {
-        Some(row) => Ok(behind_between(room, shared, changes, before, row, target)),
-        None => Err(AllocError),
-    }
+    behind_difference(
+        room,
+        shared,
+        before,
+        row,
+        &Differences::Altered(changes),
+        target,
+    )
 }
 
 /// What is left of room behind the changes that are still to come behind an address, whose row is shown.
@@ -225,7 +192,7 @@ pub(crate) fn behind_later<'a>(
         let Some(moved) = behind(left, move_len(at, address, target)) else {
             return Ok(None);
         };
-        let Some(rest) = behind_change(moved, shared, changes, target)? else {
+        let Some(rest) = behind_change(moved, shared, changes, target) else {
             return Ok(None);
         };
         left = rest;
@@ -256,7 +223,7 @@ pub(crate) fn behind_cie<'a>(
     ensures { Leaves room (length (entry_bytes target (cie register (cie_instrs initial.now) (program_bytes target (cie_instrs initial.now))))) result }
 {
     let blank = Row::blank(alloc);
-    let left = behind_difference(room, &blank, &blank, initial, target)?;
+    let left = behind_difference(room, &blank, &blank, initial, &Differences::Rows, target)?;
     behind(
         room,
         filled_up(
@@ -282,7 +249,7 @@ pub(crate) fn behind_fde<'a>(
     ensures leaves { IfOk result (FdeLeaves target shared.now begin changes.old room) }
     ensures section { changes.new.section ≡ changes.old.section }
 {
-    let Some(left) = behind_first(room, shared, changes, apart, target)? else {
+    let Some(left) = behind_first(room, shared, changes, apart, target) else {
         return Ok(None);
     };
     let Some(rest) = behind_later(left, changes, shared, begin, target)? else {

@@ -367,11 +367,12 @@ impl<'a> Changes<'a> {
 
     // The row that is shown once more.
     fn copied_row(&self) -> Result<Row<'a>, AllocError>
+        requires { (shows : Rules) × (self.now.shown ≡ Some shows) }
         ensures { (shows : Rules) → self.now.shown ≡ Some shows → IfOk result (λ row. row ≡ shows) }
     {
         match self.row() {
             Some(row) => row.copied(),
-            None => Err(AllocError),
+            None => unreachable!(),
         }
     }
 

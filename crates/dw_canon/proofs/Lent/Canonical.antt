@@ -8,11 +8,13 @@ use Rattle.dw_canon.specs.Inner.Laid as layout
 use Rattle.dw_canon.proofs.Lent.Extra.{starts_of, written_starts}
 use Rattle.dw_canon.proofs.Lays.{laid_section}
 use Rattle.dw_canon.proofs.Lent.Readback.{rendered_laid}
-use Rattle.dw_canon.specs.Laws.{NormalFormExists, NormalFormIsOne, MeaningIsKept, NormalAgain, SameNormalForm, FewestRows, NormalRows}
+use Rattle.dw_canon.specs.Laws.{NormalFormExists, NormalFormIsOne, MeaningIsKept, NormalAgain, SameNormalForm, FewestRows, ExactRows, NormalRows}
+use Rattle.dw_canon.proofs.ExactRows.{all_exact, laid_exact}
 use Rattle.dw_canon.proofs.Kept.{reads_back}
 use Rattle.dw_canon.proofs.Lent.Forms.{is_normal, whole_is}
 use Rattle.dw_canon.proofs.Lent.Layout.{laid_is}
 use Rattle.dw_canon.proofs.ProgramLaws.{member_program}
+use Rattle.dw_canon.proofs.Lent.Rendered as rendered
 use Rattle.dw_canon.proofs.Lent.Rendered.{renders, fits, stand}
 use Rattle.dw_canon.proofs.Lent.Shared.{MemberFits}
 use Rattle.dw_canon.proofs.Lent.MemberPlaces.{group_fits}
@@ -218,3 +220,15 @@ normal_rows t s n b h small =
     let same = whole_is t s n b h ∙ laid_is t h.members in
     subst (λ (l : List ℕ). RowStarts t l (total (map (λ (m : Member). length (changes_of m)) h.members))) (sym same)
     (laid_rows t s b h.accepted h.members h.are (subst (λ (l : List ℕ). length l ≤ 2147483647) same small))
+
+pub exact_rows : ExactRows
+exact_rows t s n f changes b h small some c =
+    let ok = h.accepted in
+    let ms = h.members in
+    let gs = groups_of t ms in
+    let ps = parts_of t ms in
+    let same = whole_is t s n b h ∙ laid_is t ms in
+    let exact = all_exact t s ms ms (fits t s b ok ms h.are) (rendered.nonempty t s b ok ms h.are) h.are.each (stand t s b ok ms h.are) in
+    let law : length (section_bytes t (laid t gs ps)) ≤ 2147483647 → (d : ChangesOf t (section_bytes t (laid t gs ps)) f changes) → row_starts d.instrs ≡ length changes =
+    λ little d. laid_exact t s gs ps b ok (renders t s b ok ms h.are) little exact f changes some d in
+    subst (λ (l : List ℕ). length l ≤ 2147483647 → (d : ChangesOf t l f changes) → row_starts d.instrs ≡ length changes) (sym same) law small c

@@ -50,12 +50,12 @@ parts_apart hs rs ps z h = absurd z
 
 -- ---- members
 
-listed_part : (p : Part) (ps : List Part) → IsPartOf p ps → IsAmong (fde_in p) (map fde_in ps)
+pub listed_part : (p : Part) (ps : List Part) → IsPartOf p ps → IsAmong (fde_in p) (map fde_in ps)
 listed_part p [] i = absurd i
 listed_part p (q ∷ ps) (inl is) = inl (ap fde_in is)
 listed_part p (q ∷ ps) (inr i) = inr (listed_part p ps i)
 
-part_listed : (f : Fde) (ps : List Part) → IsAmong f (map fde_in ps) → (p : Part) × IsPartOf p ps × (f ≡ fde_in p)
+pub part_listed : (f : Fde) (ps : List Part) → IsAmong f (map fde_in ps) → (p : Part) × IsPartOf p ps × (f ≡ fde_in p)
 part_listed f [] i = absurd i
 part_listed f (q ∷ ps) (inl is) = (q, inl refl, is)
 part_listed f (q ∷ ps) (inr i) = let rest = part_listed f ps i in (rest.0, inr rest.1, rest.2)
@@ -64,7 +64,7 @@ all_parts : (P Q : Part → Type 0) (ps qs : List Part) → ((p : Part) → IsPa
 all_parts P Q [] qs to into h = tt
 all_parts P Q (p ∷ ps) qs to into h = (to p (into p (inl refl)) h.0, all_parts P Q ps qs to (λ q i. into q (inr i)) h.1)
 
-part_in : (P : Part → Type 0) (ps : List Part) (p : Part) → AllByRecursion P ps → IsPartOf p ps → P p
+pub part_in : (P : Part → Type 0) (ps : List Part) (p : Part) → AllByRecursion P ps → IsPartOf p ps → P p
 part_in P [] p h i = absurd i
 part_in P (q ∷ ps) p h (inl is) = subst P (sym is) h.0
 part_in P (q ∷ ps) p h (inr i) = part_in P ps p h.1 i
@@ -102,16 +102,16 @@ module _ (target : Target) (s : List ℕ) (gs : List Group) (ps : List Part) (b 
       apart = parts_apart (ok.1.0) ok.0 ps (fdes_zip target s b ok (map fde_in ps) r.fdes) ok.2;
     }
 
-    abbrev n : List ℕ
+    abbrev pub n : List ℕ
     n = section_bytes target (laid target gs ps)
 
-    bn : AreBytes n
+    pub bn : AreBytes n
     bn = let is = laid_section target gs ps rendered_laid in section_are_bytes target (laid target gs ps) is.fits is.runs
 
-    okn : Accepted target n
+    pub okn : Accepted target n
     okn = written_accepted target (laid target gs ps) (laid_section target gs ps rendered_laid)
 
-    in_n : AreFdes target n (map fde_in ps)
+    pub in_n : AreFdes target n (map fde_in ps)
     in_n = written_fdes target (laid target gs ps) (laid_section target gs ps rendered_laid) (map fde_in ps) (laid_fdes target gs ps rendered_laid)
 
     -- the programs of a part as they stand in what was written
@@ -120,7 +120,7 @@ module _ (target : Target) (s : List ℕ) (gs : List Group) (ps : List Part) (b 
       pub k : ℕ
       pub there : Says target n p.begin (p.begin + p.range) (initial ++ nops m) (p.instrs ++ nops k)
 
-    part_there : (p : Part) (h : IsRendered target s gs p) → IsPartOf p ps → PartThere p h.initial
+    pub part_there : (p : Part) (h : IsRendered target s gs p) → IsPartOf p ps → PartThere p h.initial
     part_there p h i =
         let ws = laid target gs ps in
         let is = laid_section target gs ps rendered_laid in

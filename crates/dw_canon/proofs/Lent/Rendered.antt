@@ -32,7 +32,7 @@ groups_are t ms (r ∷ rs) fits h =
 
 -- ---- FDEs
 
-fde_is : (t : Target) (ms : List Member) (m : Member) → m.begin < m.end → fde_in (part_of t ms m) ≡ fde_of m
+pub fde_is : (t : Target) (ms : List Member) (m : Member) → m.begin < m.end → fde_in (part_of t ms m) ≡ fde_of m
 fde_is t ms m lt =
     let same : m.begin + (m.end - m.begin) ≡ m.end = omega arith in
     ap (λ (n : ℕ). let f : Fde = record { begin = m.begin; end = n; return_register = m.register } in f) same

@@ -37,3 +37,24 @@ returns-clause-look c =
       c.put_rules-count.ensures.rules,
       c.put_rules-count.ensures.count ∙ sym (length-map specified.registers rule_of),
     )
+
+pub unreachable-requires : goal.unreachable-requires
+unreachable-requires c =
+    let fs = c.accepted.ensures.fdes in
+    let a = c.args.address in
+    let lent = c.find.new.self.fde in
+    let finds = subst (λ (x : Section). (gs : List Fde) → AreFdes x.target x.bytes gs → FindsFde gs a c.in_ok-find.field-0 lent) c.requires.section c.in_ok-find.ensures.fde in
+    let found = subst (λ (b : Bool). FindsFde fs.0 a b lent) c.if-not-branch.false (finds fs.0 fs.1) in
+    let both = sym c.in_default.ensures ∙ found.1 in
+    absurd cc
+
+pub unreachable-requires-in_default-row : goal.unreachable-requires-in_default-row
+unreachable-requires-in_default-row c =
+    let fs = c.accepted.ensures.fdes in
+    let table = c.args.table.now in
+    let a = c.args.address in
+    let row = c.find.new.self.row in
+    let looks = subst (λ (x : Section). (gs : List Fde) → AreFdes x.target x.bytes gs → LooksUp x gs a c.in_ok-find.field-0 row) c.requires.section c.in_ok-find.ensures.found in
+    let looked = subst (λ (b : Bool). LooksUp table fs.0 a b row) c.if-not-branch.false (looks fs.0 fs.1) in
+    let both = sym c.in_default-row.ensures ∙ looked.1 in
+    absurd cc

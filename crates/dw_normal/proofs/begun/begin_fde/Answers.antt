@@ -1,4 +1,4 @@
-use Rattle.dw_normal.proofs.Words.{get_or, List, map, sym, ap, ◌∙◌, subst, get_or-map, Member, AreMembers, fde_of, members_exist, Begins, SharesIn, IsReady, Changing, row_or_blank, shown_row}
+use Rattle.dw_normal.proofs.Words.{get_or, List, map, sym, ap, ◌∙◌, subst, get_or-map, Member, AreMembers, fde_of, members_exist, Begins, SharesIn, IsReady, IsShown, Changing, row_or_blank, shown_row}
 use Rattle.dw_section.specs.Table.{Section}
 use Rattle.dw_normal.specs.Inner.Apart.{StandsApart}
 use Rattle.dw_normal.specs.Inner.Known.{AreSame}
@@ -18,6 +18,7 @@ list_apart-requires c =
     let rows = c.args.rows.now.entries in
     let old = c.args.begun.now in
     let known = subst (λ (u : Section). AreSame u rows old.apart.known.cies) c.requires.section c.requires.before.known in record {
+      shown = c.in_ok-behind.ensures.shown;
       stands = c.in_ok-behind.ensures.stands;
       known = known_behind c.args.table.now rows c.fde-listed.result.return_register c.shared_row-begun.result.now c.shared_row-begun.ensures c.in_ok-behind.behind c.go_behind_first.new.changes.section old.apart.known.cies c.in_ok-behind.ensures.section known;
     }
@@ -42,8 +43,9 @@ returns-clause-ready c =
     let new = c.list_apart.new.begun in
     let some = members_exist t s c.accepted.ensures.bytes c.accepted.ensures.accepted in
     let is = begins (goal.at.returns-clause-ready c).After-list_apart some.0 some.1 no_member in
+    let shown = subst IsShown (sym c.list_apart.ensures.same.2) c.in_ok-behind.ensures.shown in
     on_ok c.list_apart.result (StandsApart new.apart new.shared.now (shown_row new.changes)) (IsReady t new)
-    (ready_at t s c.accepted.ensures.bytes c.accepted.ensures.accepted some.0 some.1 c.args.fde.place no_member (below c.args.fde.place some.1 c.requires.place) new is) c.list_apart.ensures.apart
+    (ready_at t s c.accepted.ensures.bytes c.accepted.ensures.accepted some.0 some.1 c.args.fde.place no_member (below c.args.fde.place some.1 c.requires.place) new is shown) c.list_apart.ensures.apart
 
 pub returns-clause-shares : goal.returns-clause-shares
 returns-clause-shares c =

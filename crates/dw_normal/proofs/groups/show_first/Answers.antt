@@ -1,4 +1,4 @@
-use Rattle.dw_normal.proofs.Words.{◌≡◌, ◌<◌, Some, map, subst, ℕ, length-map, members_exist, fde_of, get_or}
+use Rattle.dw_normal.proofs.Words.{◌≡◌, ◌<◌, Some, map, sym, ap, ◌∙◌, subst, ℕ, length-map, members_exist, fde_of, get_or, IsShown, row_or_blank}
 use Rattle.dw_normal.proofs.ChangesToCome.{behind}
 use Rattle.dw_normal.proofs.Filled.{on_ok}
 use Rattle.dw_normal.proofs.Grouped.{no_member}
@@ -19,3 +19,8 @@ returns-clause-stands c =
     let next = c.advance_behind.new.self in
     let shown = on_ok c.advance_behind.result _ (next.shown ≡ Some m.first) (λ first. first.shown) (returns-clause-behind c found.0 found.1 no_member) in
     stands_behind c.args.changes.now.section next c.advance_behind.new.changed m.first c.advance_behind.result c.advance_behind.ensures.section shown c.advance_behind.ensures.changed c.advance_behind.ensures.keeps
+
+pub returns-clause-shown : goal.returns-clause-shown
+returns-clause-shown c =
+    let found = members_exist c.args.table.now.target c.args.table.now.bytes c.accepted.ensures.bytes c.accepted.ensures.accepted in
+    on_ok c.advance_behind.result _ (IsShown c.advance_behind.new.self) (λ first. first.shown ∙ ap Some (sym (ap row_or_blank first.shown))) (returns-clause-behind c found.0 found.1 no_member)

@@ -4,7 +4,7 @@ use Rattle.dw_normal.proofs.RulesLeft.{rules_fit, put_behind}
 use Rattle.dw_normal.proofs.program.push_difference.Goals as goal
 
 pub push_rules-requires : goal.push_rules-requires
-push_rules-requires c = rules_fit c.args.target c.args.shared.now c.args.before.now c.args.after.now c.requires
+push_rules-requires c = record { tells = c.requires.tells; fits = rules_fit c.args.target c.args.shared.now c.args.before.now c.args.after.now c.requires.fits }
 
 pub returns : goal.returns
 returns c =

@@ -1,6 +1,6 @@
 use Rattle.dw_normal.proofs.Words.{AllocError, ◌≡◌, ℕ, List, ◌++◌, sym, ap, ◌∙◌, subst, AllByRecursion, append-nil, Rules, difference, InstrFits, program_bytes, row_or_blank, shown_row}
 use Rattle.dw_normal.proofs.ChangesToCome.{Given, given, none_given}
-use Rattle.dw_normal.proofs.Passes.{none_later, shown_before, step_up, step_fits, step_stand, step_written}
+use Rattle.dw_normal.proofs.Passes.{none_later, shown_before, some_before, step_up, step_fits, step_stand, step_written}
 use Rattle.dw_normal.proofs.program.push_later.Goals.{In-Some}
 use Rattle.dw_normal.proofs.program.push_later.Goals as goal
 
@@ -18,8 +18,11 @@ push_move-requires c =
 
 pub push_change-requires : goal.push_change-requires
 push_change-requires c =
-    let at = (goal.at.push_change-requires c).In-Some in
-    subst (λ (row : Rules). AllByRecursion (InstrFits c.args.target) (difference c.args.shared.now row (shown_row c.advance.new.self))) (sym (before at)) (step_fits c.changes.invariant.0 (next at))
+    let at = (goal.at.push_change-requires c).In-Some in record {
+      before = some_before c.changes.changes.shown c.advance.new.self.before c.in_ok-address.field-0 c.in-Some.address c.in_ok-address.ensures.before c.in-Some.is c.changes.invariant.0.shown;
+      shown = (next at).shown;
+      fits = subst (λ (row : Rules). AllByRecursion (InstrFits c.args.target) (difference c.args.shared.now row (shown_row c.advance.new.self))) (sym (before at)) (step_fits c.changes.invariant.0 (next at));
+    }
 
 pub changes-preserved : goal.changes-preserved
 changes-preserved c =

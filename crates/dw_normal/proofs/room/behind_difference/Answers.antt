@@ -10,7 +10,7 @@ next c =
     one_differs c.args.shared.now c.args.before.now c.args.after.now (place_behind c.registers.last) c.in-Some.register found.first found.ascending found.other_ascending
 
 pub registers-init : goal.registers-init
-registers-init c = room_starts c.args.target c.args.shared.now c.args.before.now c.args.after.now c.in_ok-left.ensures c.requires
+registers-init c = room_starts c.args.target c.args.shared.now c.args.before.now c.args.after.now c.in_ok-left.ensures c.requires.fits
 
 pub register_len-requires : goal.register_len-requires
 register_len-requires c = room_fits c.registers.invariant (next (goal.at.register_len-requires c).In-Some)

@@ -1,7 +1,7 @@
 use Rattle.dw_normal.proofs.Words.{AllocError, ◌≡◌, length, sym, ap, ◌∙◌, subst, arith, AllByRecursion, Rules, difference, InstrFits, program_bytes, Leaves, row_or_blank, shown_row}
 use Rattle.dw_normal.proofs.ChangesToCome.{Given, given, none_given}
-use Rattle.dw_normal.proofs.Passes.{none_later, shown_before, step_up, step_fits, step_stand, step_long}
-use Rattle.dw_normal.proofs.room.behind_later.Goals.{In-Some, In_ok-rest}
+use Rattle.dw_normal.proofs.Passes.{none_later, shown_before, some_before, step_up, step_fits, step_stand, step_long}
+use Rattle.dw_normal.proofs.room.behind_later.Goals.{After-behind_change, In-Some}
 use Rattle.dw_normal.proofs.room.behind_later.Goals as goal
 
 next : (c : In-Some) → Given c.changes.changes c.advance.new.self c.in-Some.address
@@ -12,10 +12,10 @@ before : (c : In-Some) → row_or_blank c.advance.new.self.before ≡ shown_row 
 before c = shown_before c.changes.changes.shown c.advance.new.self.before c.in_ok-address.field-0 c.in-Some.address c.in_ok-address.ensures.before c.in-Some.is
 
 -- what is left behind the change
-own : (c : In_ok-rest) → Leaves c.in-Some-behind.moved (length (program_bytes c.args.target (difference c.args.shared.now (shown_row c.changes.changes) (shown_row c.advance.new.self)))) c.in_ok-rest.field-0
+own : (c : After-behind_change) → Leaves c.in-Some-behind.moved (length (program_bytes c.args.target (difference c.args.shared.now (shown_row c.changes.changes) (shown_row c.advance.new.self)))) c.behind_change.result
 own c =
-    let leaves = λ (row : Rules). Leaves c.in-Some-behind.moved (length (program_bytes c.args.target (difference c.args.shared.now row (shown_row c.advance.new.self)))) c.in_ok-rest.field-0 in
-    subst leaves (shown_before c.changes.changes.shown c.advance.new.self.before c.in_ok-address.field-0 c.in-Some.address c.in_ok-address.ensures.before c.in-Some.is) c.in_ok-rest.ensures
+    let leaves = λ (row : Rules). Leaves c.in-Some-behind.moved (length (program_bytes c.args.target (difference c.args.shared.now row (shown_row c.advance.new.self)))) c.behind_change.result in
+    subst leaves (shown_before c.changes.changes.shown c.advance.new.self.before c.in_ok-address.field-0 c.in-Some.address c.in_ok-address.ensures.before c.in-Some.is) c.behind_change.ensures
 
 pub move_len-requires : goal.move_len-requires
 move_len-requires c =
@@ -32,13 +32,16 @@ returns-in_default-behind-clause-leaves c =
 
 pub behind_change-requires : goal.behind_change-requires
 behind_change-requires c =
-    let at = (goal.at.behind_change-requires c).In-Some in
-    subst (λ (row : Rules). AllByRecursion (InstrFits c.args.target) (difference c.args.shared.now row (shown_row c.advance.new.self))) (sym (before at)) (step_fits c.changes.invariant.0 (next at))
+    let at = (goal.at.behind_change-requires c).In-Some in record {
+      before = some_before c.changes.changes.shown c.advance.new.self.before c.in_ok-address.field-0 c.in-Some.address c.in_ok-address.ensures.before c.in-Some.is c.changes.invariant.0.shown;
+      shown = (next at).shown;
+      fits = subst (λ (row : Rules). AllByRecursion (InstrFits c.args.target) (difference c.args.shared.now row (shown_row c.advance.new.self))) (sym (before at)) (step_fits c.changes.invariant.0 (next at));
+    }
 
-pub returns-in_default-2-clause-leaves : goal.returns-in_default-2-clause-leaves
-returns-in_default-2-clause-leaves c =
-    let at = goal.at.returns-in_default-2-clause-leaves c in
-    let over = rw c.in_default-2.is at (own at.In_ok-rest) in
+pub returns-in_default-behind_change-clause-leaves : goal.returns-in_default-behind_change-clause-leaves
+returns-in_default-behind_change-clause-leaves c =
+    let at = goal.at.returns-in_default-behind_change-clause-leaves c in
+    let over = rw c.in_default-behind_change.is at (own at.After-behind_change) in
     let long = step_long c.changes.invariant.0 (next at.In-Some) in
     let moved = c.in-Some-behind.ensures in
     let move = c.move_len.ensures in
@@ -48,7 +51,7 @@ returns-in_default-2-clause-leaves c =
 pub changes-preserved : goal.changes-preserved
 changes-preserved c =
     let at = goal.at.changes-preserved c in
-    let left = rw c.in-Some-2.is at (own at.In_ok-rest) in
+    let left = rw c.in-Some-behind_change.is at (own at.After-behind_change) in
     let long = step_long c.changes.invariant.0 (next at.In-Some) in
     let moved = c.in-Some-behind.ensures in
     let move = c.move_len.ensures in

@@ -5,14 +5,14 @@ use Rattle.dw_normal.specs.declared.known.Known.{Known}
 use Rattle.dw_normal.specs.Inner.Known.{AreLess}
 use Rattle.dw_normal.proofs.Apartness.{beside_both}
 use Rattle.dw_normal.proofs.KnownCies.{puts_notes}
-use Rattle.dw_normal.proofs.apart.Apart.list_behind.Goals.{After-put, in-Some+in_ok-add_all-in-Some+in_ok-list_among-in-Some, in-None+in_ok-list_all-in-None}
+use Rattle.dw_normal.proofs.apart.Apart.list_behind.Goals.{After-put, in-Some+in_ok-add_all-in-Some+in_ok-list_differences-in-Some, in-None+in_ok-list_differences-in-None}
 use Rattle.dw_normal.proofs.apart.Apart.list_behind.Goals as goal
 
 -- behind both arms the registers are listed, and what is known is what was left of it
 joined : (c : After-put) → (c.match-take.self.known ≡ c.take.new.self) × SameBeside c.match-take.self.registers c.args.shared.now c.args.first.now
 joined c = elim c.match-take.branch [
-  | in-Some+in_ok-add_all-in-Some+in_ok-list_among-in-Some w ↦ listed w.list_among.new.registers w.self-is w.in_ok-list_among-in-Some.ensures
-  | in-None+in_ok-list_all-in-None w ↦ listed w.list_all.new.registers w.self-is w.in_ok-list_all-in-None.ensures
+  | in-Some+in_ok-add_all-in-Some+in_ok-list_differences-in-Some w ↦ listed w.list_differences.new.registers w.self-is w.in_ok-list_differences-in-Some.ensures
+  | in-None+in_ok-list_differences-in-None w ↦ listed w.list_differences-in-None.new.registers w.self-is w.in_ok-list_differences-in-None.ensures
 ]
   where
     listed : (registers : Registers) → c.match-take.self ≡ record { listed = c.args.self.now.listed; registers = registers; known = c.take.new.self } → SameBeside registers c.args.shared.now c.args.first.now

@@ -1,6 +1,6 @@
 use Rattle.dw_normal.proofs.Words.{◌-◌, place_behind}
 use Rattle.dw_normal.proofs.Apartness.{SameBelow}
-use Rattle.dw_normal.proofs.apart.list_among.Given as goal
+use Rattle.dw_normal.proofs.apart.list_differences.Given as goal
 
 abbrev pub invariant-registers : goal.invariant-registers
 invariant-registers l = SameBelow (place_behind l.last) l.registers l.shared l.first
