@@ -10,6 +10,7 @@ pub mod Apart
 pub mod Differences
 pub mod Puts
 pub mod Places
+pub mod Listed
 pub mod Answers
 pub mod PlainInstruction
 pub mod PlainRows

@@ -10,8 +10,9 @@ ghost use Rattle.dw_canon.specs.Members.{Member, AreMembers};
 ghost use Rattle.dw_normal.specs.Inner.Apart.{NotesSame, StandsApart};
 ghost use Rattle.dw_normal.specs.Inner.Begun.{Begins, IsReady, SharesIn};
 ghost use Rattle.dw_normal.specs.Inner.ChangeWalk.{IsShown, ShownBehind, shown_row};
-ghost use Rattle.dw_normal.specs.Inner.Groups.{initial_rows, row_of};
+ghost use Rattle.dw_normal.specs.Inner.Groups.{row_of};
 ghost use Rattle.dw_normal.specs.Inner.Known.{HoldsAt};
+ghost use Rattle.dw_normal.specs.Inner.Listed.{AreInitial, IsListed};
 
 use crate::apart::Apart;
 use crate::groups::go_behind_first;
@@ -55,7 +56,7 @@ pub(crate) fn room_for<'r, 'a>(
     table: &Table<'a>,
 ) -> Begun<'r, 'a>
     requires place { (fs : List TheFde) → AreFdes table.now.target table.now.bytes fs → 0 < length fs }
-    requires rows { (ms : List Member) → AreMembers table.now.target table.now.bytes ms → rows.now.entries ≡ initial_rows ms }
+    requires rows { AreInitial table.now rows.now.entries }
     ensures section { result.changes.section ≡ table.now }
     ensures shares { SharesIn rows.now.entries result }
 {
@@ -95,8 +96,8 @@ pub(crate) fn begin_fde<'r, 'a>(
     table: &Table<'a>,
     fde: FdeRef,
 ) -> Result<(), AllocError>
-    requires place { (fs : List TheFde) → AreFdes table.now.target table.now.bytes fs → fde.place < length fs }
-    requires rows { (ms : List Member) → AreMembers table.now.target table.now.bytes ms → rows.now.entries ≡ initial_rows ms }
+    requires place { IsListed table.now fde.place }
+    requires rows { AreInitial table.now rows.now.entries }
     requires section { begun.old.changes.section ≡ table.now }
     requires before { SharesIn rows.now.entries begun.old }
     // It can be spelled.

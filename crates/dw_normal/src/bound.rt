@@ -1,9 +1,9 @@
 //! At most how long a normal form is, by the lengths of the section's programs: no program is run.
 
-ghost use Rattle.std.specs.Prelude.{◌≡◌, ℕ, ◌+◌, ◌*◌, ◌≤◌, ◌^◌, List, length, is_some, IsTrue, IfSome, Some};
+ghost use Rattle.std.specs.Prelude.{◌≡◌, ℕ, ◌+◌, ◌*◌, ◌≤◌, ◌^◌, length, is_some, IsTrue, IfSome, Some};
 ghost use Rattle.dw_canon.specs.Bound.{share};
 ghost use Rattle.dw_canon.specs.Inner.Canon.{canon};
-ghost use Rattle.dw_canon.specs.Members.{Member, AreMembers};
+ghost use Rattle.dw_normal.specs.Inner.Listed.{OfMembers};
 
 use dw_section::{FdeRef, Table};
 
@@ -42,7 +42,7 @@ pub(crate) fn add_share(total: Option<u64>, own: usize, initial: usize, cap: u64
 /// Whether the lengths of a table's programs alone show that its normal form is within a cap. Takes no memory.
 pub(crate) fn is_short(table: &Table<'_>, cap: u64) -> bool
     requires cap { cap ≤ 2147483647 }
-    ensures { IsTrue result → (ms : List Member) → AreMembers table.now.target table.now.bytes ms → length (canon table.now.target ms) ≤ cap }
+    ensures { IsTrue result → OfMembers table.now (λ ms. length (canon table.now.target ms) ≤ cap) }
 {
     table.accepted();
     let mut total: u64 = 0;

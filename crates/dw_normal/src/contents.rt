@@ -3,7 +3,7 @@
 ghost use Rattle.std.specs.Prelude.{◌≡◌, ◌+◌, ◌++◌, ◌<◌, ◌≤◌, ◌^◌, ◌-◌, List, drop, length, replicate, OnOk};
 ghost use Rattle.std.specs.List.{AllByRecursion};
 ghost use Rattle.dw_num.specs.Fixed.{fixed_bytes};
-ghost use Rattle.dw_num.specs.Target.{address_limit, byte_count};
+ghost use Rattle.dw_num.specs.Target.{address_limit};
 ghost use Rattle.dw_canon.specs.Inner.Canon.{cie_instrs, fde_instrs, initial_of};
 ghost use Rattle.dw_canon.specs.Inner.Fits.{InstrFits};
 ghost use Rattle.dw_canon.specs.Members.{Member};

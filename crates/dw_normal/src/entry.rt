@@ -6,20 +6,18 @@ ghost use Rattle.dw_num.specs.Fixed.{fixed_bytes};
 ghost use Rattle.dw_num.specs.declared.target.Form.TheVariants.{Dwarf32};
 ghost use Rattle.dw_cfa.specs.Rows.{Rules};
 ghost use Rattle.dw_section.specs.Cut.{entry, item_bytes};
-ghost use Rattle.dw_section.specs.declared.lookup.Fde.{Fde as TheFde};
-ghost use Rattle.dw_section.specs.Meaning.{AreFdes};
 ghost use Rattle.dw_section.specs.Opening.{HasProgram, OpensBehind};
 ghost use Rattle.dw_canon.specs.Inner.Canon.{canon, cie_instrs};
 ghost use Rattle.dw_canon.specs.Inner.Fits.{InstrFits};
 ghost use Rattle.dw_canon.specs.Members.{Member, AreMembers};
 ghost use Rattle.dw_canon.specs.Inner.Written.{contents, entry_bytes};
 ghost use Rattle.dw_normal.specs.Inner.Begun.{SharesIn};
-ghost use Rattle.dw_normal.specs.Inner.Groups.{initial_rows};
 ghost use Rattle.dw_normal.specs.Inner.Writing.{StandsIn};
 ghost use Rattle.dw_normal.specs.Inner.Lengths.{cie_with, cies_bytes, fdes_bytes};
-ghost use Rattle.dw_normal.specs.Inner.Places.{place_in, cie_place, RowsRise, fde_with};
+ghost use Rattle.dw_normal.specs.Inner.Places.{place_in, RowsRise, fde_with};
 ghost use Rattle.dw_normal.specs.Inner.PlainFde.{FirstIs};
 ghost use Rattle.dw_normal.specs.Inner.Puts.{Puts, taken_by, after};
+ghost use Rattle.dw_normal.specs.Inner.Listed.{AreInitial, AreListed, ArePlaces, IsListed, IsSmall, OfFde, OfMembers};
 
 use crate::begun::{Begun, begin_fde, room_for, shared_row};
 use crate::contents::{fill_cie, fill_fde};
@@ -128,7 +126,7 @@ fn write_cies<'a, S: Sink>(
     requires fits { AllByRecursion (λ (row : ℕ × Rules). AllByRecursion (InstrFits target) (cie_instrs row.1)) rows.now.entries }
     requires small { length (cies_bytes target rows.now.entries) ≤ 2147483647 }
     ensures puts { Puts (cies_bytes target rows.now.entries) result (S.failures sink.old) (S.failures sink.new) (S.taken sink.old) (S.taken sink.new) }
-    ensures places { OnOk result ((register : ℕ) → place_in places.new.entries register ≡ cie_place target 0 rows.now.entries register) }
+    ensures places { OnOk result (ArePlaces target rows.now.entries places.new.entries) }
 {
     let mut written = 0;
     'rows: for (register, initial) in rows.iter() {
@@ -173,13 +171,13 @@ fn turn_to<'r, 'a>(
     places: &BTreeMap<u16, u64>,
     fde: FdeRef,
 )
-    requires place { (fs : List TheFde) → AreFdes table.now.target table.now.bytes fs → fde.place < length fs }
-    requires rows { (ms : List Member) → AreMembers table.now.target table.now.bytes ms → rows.now.entries ≡ initial_rows ms }
-    requires places { (register : ℕ) → place_in places.now.entries register ≡ cie_place table.now.target 0 rows.now.entries register }
-    requires small { (ms : List Member) → AreMembers table.now.target table.now.bytes ms → length (canon table.now.target ms) ≤ 2147483647 }
+    requires place { IsListed table.now fde.place }
+    requires rows { AreInitial table.now rows.now.entries }
+    requires places { ArePlaces table.now.target rows.now.entries places.now.entries }
+    requires small { IsSmall table.now }
     requires shares { SharesIn rows.now.entries writing.old.begun }
     requires stands { StandsIn places.now.entries writing.old }
-    ensures fde { (fs : List TheFde) → AreFdes table.now.target table.now.bytes fs → (d : TheFde) → writing.new.begun.fde ≡ slice_index_or fs fde.place d }
+    ensures fde { OfFde table.now fde.place (λ f. writing.new.begun.fde ≡ f) }
     ensures shares { SharesIn rows.now.entries writing.new.begun }
     ensures stands { StandsIn places.now.entries writing.new }
     ensures same { (writing.new.begun.changes ≡ writing.old.begun.changes) × (writing.new.begun.apart ≡ writing.old.begun.apart) × (writing.new.opened ≡ writing.old.opened) }
@@ -203,15 +201,15 @@ fn fill_plain_at<'r, 'a>(
     fde: FdeRef,
     opening: Opening<'a>,
 ) -> Result<bool, AllocError>
-    requires place { (fs : List TheFde) → AreFdes table.now.target table.now.bytes fs → fde.place < length fs }
-    requires rows { (ms : List Member) → AreMembers table.now.target table.now.bytes ms → rows.now.entries ≡ initial_rows ms }
-    requires places { (register : ℕ) → place_in places.now.entries register ≡ cie_place table.now.target 0 rows.now.entries register }
-    requires small { (ms : List Member) → AreMembers table.now.target table.now.bytes ms → length (canon table.now.target ms) ≤ 2147483647 }
+    requires place { IsListed table.now fde.place }
+    requires rows { AreInitial table.now rows.now.entries }
+    requires places { ArePlaces table.now.target rows.now.entries places.now.entries }
+    requires small { IsSmall table.now }
     requires section { writing.old.begun.changes.section ≡ table.now }
     requires shares { SharesIn rows.now.entries writing.old.begun }
     requires stands { StandsIn places.now.entries writing.old }
-    requires opens { (fs : List TheFde) → AreFdes table.now.target table.now.bytes fs → (d : TheFde) → IfSome opening.row (OpensBehind table.now.target table.now.bytes (slice_index_or fs fde.place d)) }
-    requires program { (fs : List TheFde) → AreFdes table.now.target table.now.bytes fs → (d : TheFde) → HasProgram table.now.target table.now.bytes (slice_index_or fs fde.place d) opening.factors opening.program.now }
+    requires opens { OfFde table.now fde.place (λ f. IfSome opening.row (OpensBehind table.now.target table.now.bytes f)) }
+    requires program { OfFde table.now fde.place (λ f. HasProgram table.now.target table.now.bytes f opening.factors opening.program.now) }
     requires first { FirstIs table.now.target table.now.bytes writing.old.opened }
     ensures contents { (ms : List Member) → AreMembers table.now.target table.now.bytes ms → (d : Member) → IfOk result (λ plain. IsTrue plain → (out.new.items ≡ fixed_bytes table.now.target.order 4 0 ++ contents table.now.target (fde_with table.now.target ms (slice_index_or ms fde.place d)))) }
     ensures section { writing.new.begun.changes.section ≡ table.now }
@@ -246,14 +244,14 @@ fn fill_rows_at<'r, 'a>(
     fde: FdeRef,
     row: Option<CieRow>,
 ) -> Result<(), AllocError>
-    requires place { (fs : List TheFde) → AreFdes table.now.target table.now.bytes fs → fde.place < length fs }
-    requires rows { (ms : List Member) → AreMembers table.now.target table.now.bytes ms → rows.now.entries ≡ initial_rows ms }
-    requires places { (register : ℕ) → place_in places.now.entries register ≡ cie_place table.now.target 0 rows.now.entries register }
-    requires small { (ms : List Member) → AreMembers table.now.target table.now.bytes ms → length (canon table.now.target ms) ≤ 2147483647 }
+    requires place { IsListed table.now fde.place }
+    requires rows { AreInitial table.now rows.now.entries }
+    requires places { ArePlaces table.now.target rows.now.entries places.now.entries }
+    requires small { IsSmall table.now }
     requires section { writing.old.begun.changes.section ≡ table.now }
     requires shares { SharesIn rows.now.entries writing.old.begun }
     requires stands { StandsIn places.now.entries writing.old }
-    requires opens { (fs : List TheFde) → AreFdes table.now.target table.now.bytes fs → (d : TheFde) → IfSome row (OpensBehind table.now.target table.now.bytes (slice_index_or fs fde.place d)) }
+    requires opens { OfFde table.now fde.place (λ f. IfSome row (OpensBehind table.now.target table.now.bytes f)) }
     requires first { FirstIs table.now.target table.now.bytes writing.old.opened }
     ensures contents { (ms : List Member) → AreMembers table.now.target table.now.bytes ms → (d : Member) → OnOk result (out.new.items ≡ fixed_bytes table.now.target.order 4 0 ++ contents table.now.target (fde_with table.now.target ms (slice_index_or ms fde.place d))) }
     ensures section { writing.new.begun.changes.section ≡ table.now }
@@ -281,10 +279,10 @@ fn fill_fde_at<'r, 'a>(
     places: &BTreeMap<u16, u64>,
     fde: FdeRef,
 ) -> Result<(), AllocError>
-    requires place { (fs : List TheFde) → AreFdes table.now.target table.now.bytes fs → fde.place < length fs }
-    requires rows { (ms : List Member) → AreMembers table.now.target table.now.bytes ms → rows.now.entries ≡ initial_rows ms }
-    requires places { (register : ℕ) → place_in places.now.entries register ≡ cie_place table.now.target 0 rows.now.entries register }
-    requires small { (ms : List Member) → AreMembers table.now.target table.now.bytes ms → length (canon table.now.target ms) ≤ 2147483647 }
+    requires place { IsListed table.now fde.place }
+    requires rows { AreInitial table.now rows.now.entries }
+    requires places { ArePlaces table.now.target rows.now.entries places.now.entries }
+    requires small { IsSmall table.now }
     requires section { writing.old.begun.changes.section ≡ table.now }
     requires shares { SharesIn rows.now.entries writing.old.begun }
     requires stands { StandsIn places.now.entries writing.old }
@@ -313,10 +311,10 @@ fn write_fde<'r, 'a, S: Sink>(
     fde: FdeRef,
 ) -> Result<u64, PutError>
     requires room { S.failures sink.old < 2 ^ 64 - 1 }
-    requires place { (fs : List TheFde) → AreFdes table.now.target table.now.bytes fs → fde.place < length fs }
-    requires rows { (ms : List Member) → AreMembers table.now.target table.now.bytes ms → rows.now.entries ≡ initial_rows ms }
-    requires places { (register : ℕ) → place_in places.now.entries register ≡ cie_place table.now.target 0 rows.now.entries register }
-    requires small { (ms : List Member) → AreMembers table.now.target table.now.bytes ms → length (canon table.now.target ms) ≤ 2147483647 }
+    requires place { IsListed table.now fde.place }
+    requires rows { AreInitial table.now rows.now.entries }
+    requires places { ArePlaces table.now.target rows.now.entries places.now.entries }
+    requires small { IsSmall table.now }
     requires section { writing.old.begun.changes.section ≡ table.now }
     requires shares { SharesIn rows.now.entries writing.old.begun }
     requires stands { StandsIn places.now.entries writing.old }
@@ -345,15 +343,15 @@ fn write_all<'r, 'a, S: Sink>(
     count: usize,
 ) -> Result<u64, PutError>
     requires room { S.failures sink.old < 2 ^ 64 - 1 }
-    requires count { (fs : List TheFde) → AreFdes table.now.target table.now.bytes fs → count ≡ length fs }
-    requires rows { (ms : List Member) → AreMembers table.now.target table.now.bytes ms → rows.now.entries ≡ initial_rows ms }
-    requires places { (register : ℕ) → place_in places.now.entries register ≡ cie_place table.now.target 0 rows.now.entries register }
-    requires small { (ms : List Member) → AreMembers table.now.target table.now.bytes ms → length (canon table.now.target ms) ≤ 2147483647 }
+    requires count { AreListed table.now count }
+    requires rows { AreInitial table.now rows.now.entries }
+    requires places { ArePlaces table.now.target rows.now.entries places.now.entries }
+    requires small { IsSmall table.now }
     requires section { writing.old.begun.changes.section ≡ table.now }
     requires shares { SharesIn rows.now.entries writing.old.begun }
     requires stands { StandsIn places.now.entries writing.old }
     requires first { FirstIs table.now.target table.now.bytes writing.old.opened }
-    ensures { (ms : List Member) → AreMembers table.now.target table.now.bytes ms → Puts (fdes_bytes table.now.target ms ms) result (S.failures sink.old) (S.failures sink.new) (S.taken sink.old) (S.taken sink.new) }
+    ensures { OfMembers table.now (λ ms. Puts (fdes_bytes table.now.target ms ms) result (S.failures sink.old) (S.failures sink.new) (S.taken sink.old) (S.taken sink.new)) }
 {
     table.accepted();
     let mut written = 0;
@@ -374,10 +372,10 @@ fn write_fdes<'a, S: Sink>(
     places: &BTreeMap<u16, u64>,
 ) -> Result<u64, PutError>
     requires room { S.failures sink.old < 2 ^ 64 - 1 }
-    requires rows { (ms : List Member) → AreMembers table.now.target table.now.bytes ms → rows.now.entries ≡ initial_rows ms }
-    requires places { (register : ℕ) → place_in places.now.entries register ≡ cie_place table.now.target 0 rows.now.entries register }
-    requires small { (ms : List Member) → AreMembers table.now.target table.now.bytes ms → length (canon table.now.target ms) ≤ 2147483647 }
-    ensures { (ms : List Member) → AreMembers table.now.target table.now.bytes ms → Puts (fdes_bytes table.now.target ms ms) result (S.failures sink.old) (S.failures sink.new) (S.taken sink.old) (S.taken sink.new) }
+    requires rows { AreInitial table.now rows.now.entries }
+    requires places { ArePlaces table.now.target rows.now.entries places.now.entries }
+    requires small { IsSmall table.now }
+    ensures { OfMembers table.now (λ ms. Puts (fdes_bytes table.now.target ms ms) result (S.failures sink.old) (S.failures sink.new) (S.taken sink.old) (S.taken sink.new)) }
 {
     table.accepted();
     let count = table.fde_count();
@@ -402,9 +400,9 @@ pub(crate) fn write_entries<'a, S: Sink>(
     rows: &BTreeMap<u16, Row<'a>>,
 ) -> Result<u64, PutError>
     requires room { S.failures sink.old < 2 ^ 64 - 1 }
-    requires rows { (ms : List Member) → AreMembers table.now.target table.now.bytes ms → rows.now.entries ≡ initial_rows ms }
-    requires small { (ms : List Member) → AreMembers table.now.target table.now.bytes ms → length (canon table.now.target ms) ≤ 2147483647 }
-    ensures { (ms : List Member) → AreMembers table.now.target table.now.bytes ms → Puts (canon table.now.target ms) result (S.failures sink.old) (S.failures sink.new) (S.taken sink.old) (S.taken sink.new) }
+    requires rows { AreInitial table.now rows.now.entries }
+    requires small { IsSmall table.now }
+    ensures { OfMembers table.now (λ ms. Puts (canon table.now.target ms) result (S.failures sink.old) (S.failures sink.new) (S.taken sink.old) (S.taken sink.new)) }
 {
     table.accepted();
     let mut buffer = Vec::new(alloc);

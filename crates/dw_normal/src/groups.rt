@@ -1,21 +1,20 @@
 //! The initial row of each return register, found in one pass over the FDEs.
 
-ghost use Rattle.std.specs.Prelude.{◌≡◌, ℕ, [], ◌<◌, ◌≤◌, List, length, slice_index_or, take, None, Some, IfOk, IfSome, IsTrue, OnOk};
+ghost use Rattle.std.specs.Prelude.{◌≡◌, ℕ, [], ◌≤◌, length, take, None, Some, IfOk, IfSome, IsTrue, OnOk};
 ghost use Rattle.std.specs.BTreeMap.{get, insert_entry};
 ghost use Rattle.std.specs.Ordering.{nat_cmp};
 ghost use Rattle.dw_cfa.specs.RegisterSets.{AgreesBeside, SameBeside};
 ghost use Rattle.dw_cfa.specs.Rows.{Rules};
-ghost use Rattle.dw_section.specs.declared.lookup.Fde.{Fde as TheFde};
 ghost use Rattle.dw_section.specs.Changes.{kept_by};
-ghost use Rattle.dw_section.specs.Meaning.{AreFdes, ChangesOf};
+ghost use Rattle.dw_section.specs.Meaning.{ChangesOf};
 ghost use Rattle.dw_section.specs.declared.opening.CieRow.{CieRow as TheRow};
 ghost use Rattle.dw_section.specs.Opening.{CieLeaves, OpensBehind};
 ghost use Rattle.dw_canon.specs.Inner.Canon.{canon};
-ghost use Rattle.dw_canon.specs.Members.{Member, AreMembers};
 ghost use Rattle.dw_cfa.specs.Inner.Agreement.{agreed};
 ghost use Rattle.dw_normal.specs.Inner.Groups.{HasJoined, joined_by, with_member, initial_rows};
 ghost use Rattle.dw_normal.specs.Inner.ChangeWalk.{BehindFirst, IsShown, ShownBehind, shown_row};
 ghost use Rattle.dw_normal.specs.Inner.Known.{Agree, HoldsAt, Notes};
+ghost use Rattle.dw_normal.specs.Inner.Listed.{IsListed, OfFde, OfMember, OfMembers};
 
 use crate::bound::add_share;
 use crate::known::Known;
@@ -32,9 +31,9 @@ fn show_first<'a>(
     fde: FdeRef,
     changed: &mut RegisterSet<'a>,
 ) -> Result<Option<Behind>, AllocError>
-    requires place { (fs : List TheFde) → AreFdes table.now.target table.now.bytes fs → fde.place < length fs }
-    requires changes { (fs : List TheFde) → AreFdes table.now.target table.now.bytes fs → (d : TheFde) → ChangesOf table.now.target table.now.bytes (slice_index_or fs fde.place d) changes.old.to_come }
-    ensures behind { (ms : List Member) → AreMembers table.now.target table.now.bytes ms → (d : Member) → OnOk result (BehindFirst (slice_index_or ms fde.place d) changes.new) }
+    requires place { IsListed table.now fde.place }
+    requires changes { OfFde table.now fde.place (λ f. ChangesOf table.now.target table.now.bytes f changes.old.to_come) }
+    ensures behind { OfMember table.now fde.place (λ m. OnOk result (BehindFirst m changes.new)) }
     ensures shown { OnOk result (IsShown changes.new) }
     ensures stands { IfOk result (λ found. IfSome found (ShownBehind changes.new changed.new)) }
     ensures section { changes.new.section ≡ changes.old.section }
@@ -51,9 +50,9 @@ pub(crate) fn go_behind_first<'a>(
     fde: FdeRef,
     changed: &mut RegisterSet<'a>,
 ) -> Result<Option<Behind>, AllocError>
-    requires place { (fs : List TheFde) → AreFdes table.now.target table.now.bytes fs → fde.place < length fs }
+    requires place { IsListed table.now fde.place }
     requires section { changes.old.section ≡ table.now }
-    ensures behind { (ms : List Member) → AreMembers table.now.target table.now.bytes ms → (d : Member) → OnOk result (BehindFirst (slice_index_or ms fde.place d) changes.new) }
+    ensures behind { OfMember table.now fde.place (λ m. OnOk result (BehindFirst m changes.new)) }
     ensures shown { OnOk result (IsShown changes.new) }
     ensures stands { IfOk result (λ found. IfSome found (ShownBehind changes.new changed.new)) }
     ensures section { changes.new.section ≡ table.now }
@@ -143,13 +142,13 @@ fn add_fde<'a>(
     fde: FdeRef,
     behind: Option<Behind>,
 ) -> Result<(), AllocError>
-    requires place { (fs : List TheFde) → AreFdes table.now.target table.now.bytes fs → fde.place < length fs }
-    requires behind { (ms : List Member) → AreMembers table.now.target table.now.bytes ms → (d : Member) → BehindFirst (slice_index_or ms fde.place d) changes.old }
+    requires place { IsListed table.now fde.place }
+    requires behind { OfMember table.now fde.place (λ m. BehindFirst m changes.old) }
     requires shown { IsShown changes.old }
     requires section { changes.old.section ≡ table.now }
     requires stands { IfSome behind (ShownBehind changes.old known.old.changed) }
     requires known { Agree table.now rows.old.entries known.old.cies }
-    ensures rows { (ms : List Member) → AreMembers table.now.target table.now.bytes ms → (d : Member) → OnOk result (rows.new.entries ≡ with_member rows.old.entries (slice_index_or ms fde.place d)) }
+    ensures rows { OfMember table.now fde.place (λ m. OnOk result (rows.new.entries ≡ with_member rows.old.entries m)) }
     ensures known { OnOk result (Agree table.now rows.new.entries known.new.cies) }
     ensures section { changes.new.section ≡ changes.old.section }
 {
@@ -207,13 +206,13 @@ fn join_fde<'a>(
     row: Option<CieRow>,
     joined: Option<Joined>,
 ) -> Result<Option<Joined>, AllocError>
-    requires place { (fs : List TheFde) → AreFdes table.now.target table.now.bytes fs → fde.place < length fs }
+    requires place { IsListed table.now fde.place }
     requires section { changes.old.section ≡ table.now }
-    requires opens { (fs : List TheFde) → AreFdes table.now.target table.now.bytes fs → (d : TheFde) → IfSome row (OpensBehind table.now.target table.now.bytes (slice_index_or fs fde.place d)) }
-    requires rows { (ms : List Member) → AreMembers table.now.target table.now.bytes ms → rows.old.entries ≡ initial_rows (take fde.place ms) }
+    requires opens { OfFde table.now fde.place (λ f. IfSome row (OpensBehind table.now.target table.now.bytes f)) }
+    requires rows { OfMembers table.now (λ ms. rows.old.entries ≡ initial_rows (take fde.place ms)) }
     requires joined { HasJoined table.now.target table.now.bytes rows.old.entries joined }
     requires known { Agree table.now rows.old.entries known.old.cies }
-    ensures rows { (ms : List Member) → AreMembers table.now.target table.now.bytes ms → (d : Member) → OnOk result (rows.new.entries ≡ with_member rows.old.entries (slice_index_or ms fde.place d)) }
+    ensures rows { OfMember table.now fde.place (λ m. OnOk result (rows.new.entries ≡ with_member rows.old.entries m)) }
     ensures joined { IfOk result (HasJoined table.now.target table.now.bytes rows.new.entries) }
     ensures known { OnOk result (Agree table.now rows.new.entries known.new.cies) }
     ensures section { changes.new.section ≡ table.now }
@@ -240,8 +239,8 @@ fn gather<'a>(
     requires unknown { (place : ℕ) → get nat_cmp known.old.cies place ≡ None }
     requires none { rows.old.entries ≡ [] }
     requires section { changes.old.section ≡ table.now }
-    ensures rows { (ms : List Member) → AreMembers table.now.target table.now.bytes ms → OnOk result (rows.new.entries ≡ initial_rows ms) }
-    ensures short { (ms : List Member) → AreMembers table.now.target table.now.bytes ms → IfOk result (λ short. IsTrue short → length (canon table.now.target ms) ≤ cap) }
+    ensures rows { OfMembers table.now (λ ms. OnOk result (rows.new.entries ≡ initial_rows ms)) }
+    ensures short { OfMembers table.now (λ ms. IfOk result (λ short. IsTrue short → length (canon table.now.target ms) ≤ cap)) }
 {
     table.accepted();
     let mut total = Some(0);
@@ -263,8 +262,8 @@ pub(crate) fn initial_rows<'a>(
     cap: u64,
 ) -> Result<(BTreeMap<u16, Row<'a>>, bool), AllocError>
     requires cap { cap ≤ 2147483647 }
-    ensures rows { (ms : List Member) → AreMembers table.now.target table.now.bytes ms → IfOk result (λ found. found.0.entries ≡ initial_rows ms) }
-    ensures short { (ms : List Member) → AreMembers table.now.target table.now.bytes ms → IfOk result (λ found. IsTrue found.1 → length (canon table.now.target ms) ≤ cap) }
+    ensures rows { OfMembers table.now (λ ms. IfOk result (λ found. found.0.entries ≡ initial_rows ms)) }
+    ensures short { OfMembers table.now (λ ms. IfOk result (λ found. IsTrue found.1 → length (canon table.now.target ms) ≤ cap)) }
 {
     let mut rows = BTreeMap::new(alloc);
     let mut known = Known::none(alloc);

@@ -4,14 +4,12 @@
 ghost use Rattle.std.specs.Prelude.{◌≡◌, ℕ, ◌<◌, ◌≤◌, ◌^◌, List, length, slice_index_or, IfOk, OnOk};
 ghost use Rattle.std.specs.List.{AllByRecursion};
 ghost use Rattle.dw_cfa.specs.Rows.{Rules};
-ghost use Rattle.dw_section.specs.declared.lookup.Fde.{Fde as TheFde};
-ghost use Rattle.dw_section.specs.Meaning.{AreFdes};
 ghost use Rattle.dw_canon.specs.Inner.Canon.{canon, cie_instrs};
 ghost use Rattle.dw_canon.specs.Inner.Fits.{InstrFits};
 ghost use Rattle.dw_canon.specs.Members.{Member, AreMembers};
 ghost use Rattle.dw_normal.specs.Inner.Begun.{SharesIn};
-ghost use Rattle.dw_normal.specs.Inner.Groups.{initial_rows};
 ghost use Rattle.dw_normal.specs.Inner.Lengths.{Leaves, MemberLeaves, Measures, cies_bytes, fdes_bytes};
+ghost use Rattle.dw_normal.specs.Inner.Listed.{AreInitial, AreListed, IsListed, OfMembers};
 
 use crate::begun::{Begun, begin_fde, room_for};
 use crate::room::{behind_cie, behind_fde};
@@ -48,8 +46,8 @@ fn behind_member<'r, 'a>(
     fde: FdeRef,
 ) -> Result<Option<u128>, AllocError>
     requires room { room < 2 ^ 64 }
-    requires place { (fs : List TheFde) → AreFdes table.now.target table.now.bytes fs → fde.place < length fs }
-    requires rows { (ms : List Member) → AreMembers table.now.target table.now.bytes ms → rows.now.entries ≡ initial_rows ms }
+    requires place { IsListed table.now fde.place }
+    requires rows { AreInitial table.now rows.now.entries }
     requires section { begun.old.changes.section ≡ table.now }
     requires before { SharesIn rows.now.entries begun.old }
     ensures leaves { (ms : List Member) → AreMembers table.now.target table.now.bytes ms → (d : Member) → IfOk result (MemberLeaves table.now.target ms (slice_index_or ms fde.place d) room) }
@@ -77,11 +75,11 @@ fn behind_all<'r, 'a>(
     count: usize,
 ) -> Result<Option<u128>, AllocError>
     requires room { room < 2 ^ 64 }
-    requires count { (fs : List TheFde) → AreFdes table.now.target table.now.bytes fs → count ≡ length fs }
-    requires rows { (ms : List Member) → AreMembers table.now.target table.now.bytes ms → rows.now.entries ≡ initial_rows ms }
+    requires count { AreListed table.now count }
+    requires rows { AreInitial table.now rows.now.entries }
     requires section { begun.old.changes.section ≡ table.now }
     requires before { SharesIn rows.now.entries begun.old }
-    ensures { (ms : List Member) → AreMembers table.now.target table.now.bytes ms → IfOk result (Leaves room (length (fdes_bytes table.now.target ms ms))) }
+    ensures { OfMembers table.now (λ ms. IfOk result (Leaves room (length (fdes_bytes table.now.target ms ms)))) }
 {
     table.accepted();
     let mut left = room;
@@ -102,8 +100,8 @@ fn behind_fdes<'a>(
     table: &Table<'a>,
 ) -> Result<Option<u128>, AllocError>
     requires room { room < 2 ^ 64 }
-    requires rows { (ms : List Member) → AreMembers table.now.target table.now.bytes ms → rows.now.entries ≡ initial_rows ms }
-    ensures { (ms : List Member) → AreMembers table.now.target table.now.bytes ms → IfOk result (Leaves room (length (fdes_bytes table.now.target ms ms))) }
+    requires rows { AreInitial table.now rows.now.entries }
+    ensures { OfMembers table.now (λ ms. IfOk result (Leaves room (length (fdes_bytes table.now.target ms ms)))) }
 {
     table.accepted();
     let count = table.fde_count();
@@ -122,8 +120,8 @@ pub(crate) fn measured<'a>(
     cap: u64,
 ) -> Result<Option<u64>, AllocError>
     requires cap { cap ≤ 2147483647 }
-    requires rows { (ms : List Member) → AreMembers table.now.target table.now.bytes ms → rows.now.entries ≡ initial_rows ms }
-    ensures { (ms : List Member) → AreMembers table.now.target table.now.bytes ms → IfOk result (Measures cap (length (canon table.now.target ms))) }
+    requires rows { AreInitial table.now rows.now.entries }
+    ensures { OfMembers table.now (λ ms. IfOk result (Measures cap (length (canon table.now.target ms)))) }
 {
     table.accepted();
     let target = table.target();

@@ -1,15 +1,14 @@
 //! Whether two tables say the same.
 
-ghost use Rattle.std.specs.Prelude.{◌≡◌, ◌↔◌, ◌<◌, ℕ, List, Some, length, slice_index_or, IsTrue, IfOk, OnOk};
+ghost use Rattle.std.specs.Prelude.{◌≡◌, ◌↔◌, ℕ, List, Some, slice_index_or, IsTrue, IfOk, OnOk};
 ghost use Rattle.std.specs.Bool.{Decides};
 ghost use Rattle.dw_num.specs.Input.{AreBytes};
 ghost use Rattle.dw_cfa.specs.Rows.{Rules, rule};
 ghost use Rattle.dw_section.specs.Changes.{GoesOn};
-ghost use Rattle.dw_section.specs.declared.lookup.Fde.{Fde as TheFde};
-ghost use Rattle.dw_section.specs.Meaning.{AreFdes};
 ghost use Rattle.dw_canon.specs.Members.{Member, AreMembers};
 ghost use Rattle.dw_normal.specs.Inner.ChangeWalk.{IsShown};
 ghost use Rattle.dw_normal.specs.Inner.Twins.{AreTwins, BeginTogether, StandsBy};
+ghost use Rattle.dw_normal.specs.Inner.Listed.{AreListed, IsListed};
 
 use crate::twins::{Twins, same_behind};
 use dw_cfa::Row;
@@ -181,8 +180,8 @@ fn same_fdes<'a, 'b>(
     twins: &mut Twins<'a, 'b>,
     fde: FdeRef,
 ) -> Result<bool, AllocError>
-    requires first { (fs : List TheFde) → AreFdes first.now.target first.now.bytes fs → fde.place < length fs }
-    requires second { (fs : List TheFde) → AreFdes second.now.target second.now.bytes fs → fde.place < length fs }
+    requires first { IsListed first.now fde.place }
+    requires second { IsListed second.now fde.place }
     requires section { changes.old.section ≡ first.now }
     requires other_section { others.old.section ≡ second.now }
     requires twins { AreTwins first.now second.now twins.old.cies }
@@ -210,8 +209,8 @@ fn same_over<'a, 'b>(
     twins: &mut Twins<'a, 'b>,
     count: usize,
 ) -> Result<bool, AllocError>
-    requires count { (fs : List TheFde) → AreFdes first.now.target first.now.bytes fs → count ≡ length fs }
-    requires other_count { (fs : List TheFde) → AreFdes second.now.target second.now.bytes fs → count ≡ length fs }
+    requires count { AreListed first.now count }
+    requires other_count { AreListed second.now count }
     requires section { changes.old.section ≡ first.now }
     requires other_section { others.old.section ≡ second.now }
     requires twins { AreTwins first.now second.now twins.old.cies }

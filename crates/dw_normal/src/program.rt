@@ -1,6 +1,6 @@
 //! Programs of the normal form, appended.
 
-ghost use Rattle.std.specs.Prelude.{◌≡◌, ◌++◌, ◌<◌, Some, OnOk};
+ghost use Rattle.std.specs.Prelude.{◌≡◌, ◌++◌, ◌<◌, OnOk};
 ghost use Rattle.dw_num.specs.Target.{address_limit};
 ghost use Rattle.std.specs.List.{AllByRecursion};
 ghost use Rattle.dw_canon.specs.Difference.{move};

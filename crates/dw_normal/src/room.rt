@@ -1,6 +1,6 @@
 //! How much room the programs of the normal form leave. The room gets less with each instruction, so that no sum wraps.
 
-ghost use Rattle.std.specs.Prelude.{◌≡◌, ◌+◌, ◌<◌, ◌^◌, length, Some, IfOk};
+ghost use Rattle.std.specs.Prelude.{◌≡◌, ◌+◌, ◌<◌, ◌^◌, length, IfOk};
 ghost use Rattle.std.specs.List.{AllByRecursion};
 ghost use Rattle.dw_num.specs.Target.{address_limit};
 ghost use Rattle.dw_canon.specs.Inner.Canon.{cie_instrs};
