@@ -2,15 +2,16 @@
 """Writes a section of N FDEs with programs as a compiler writes them: valid, and the same at each run.
 
     synth.py OUT N [--size 4|8] [--order little|big] [--version 1|3|4] [--form 32|64] [--shuffle]
+                  [--unit FDES]
 
-Every 40 FDEs share a CIE. One FDE in a hundred has expressions, one in five hundred a program of hundreds of rows.
+A unit has a CIE and, where --unit does not say otherwise, 40 FDEs. One FDE in a hundred has expressions, one in five hundred a program of hundreds of rows.
 With --shuffle the FDEs stand out of the order of their addresses.
 """
 import argparse
 import random
 import struct
 
-FDES_OF_A_CIE = 40
+FDES_OF_A_UNIT = 40
 PROGRAMS = 4000
 EXPRESSIONS_PERCENT = 1.0
 LONG_PERCENT = 0.2
@@ -149,7 +150,7 @@ def function(writer, rng):
     return bytes(made.program), made.length + 1
 
 
-def section(writer, count, shuffle=False, seed=1):
+def section(writer, count, shuffle=False, unit=FDES_OF_A_UNIT, seed=1):
     """The bytes of a section, in pieces."""
     rng = random.Random(seed)
     programs = [function(writer, rng) for _ in range(PROGRAMS)]
@@ -166,7 +167,7 @@ def section(writer, count, shuffle=False, seed=1):
         rng.shuffle(spans)
     cie, cie_at, at = writer.cie(), 0, 0
     for index, span in enumerate(spans):
-        if index % FDES_OF_A_CIE == 0:
+        if index % unit == 0:
             cie_at, at = at, at + len(cie)
             yield cie
         fde = writer.fde(cie_at, *span)
@@ -183,10 +184,11 @@ def main():
     words.add_argument("--version", type=int, choices=[1, 3, 4], default=4)
     words.add_argument("--form", type=int, choices=[32, 64], default=32)
     words.add_argument("--shuffle", action="store_true")
+    words.add_argument("--unit", type=int, default=FDES_OF_A_UNIT)
     asked = words.parse_args()
     writer = Writer(asked.size, asked.order, asked.version, asked.form)
     with open(asked.out, "wb") as out:
-        out.writelines(section(writer, asked.count, asked.shuffle))
+        out.writelines(section(writer, asked.count, asked.shuffle, asked.unit))
 
 
 if __name__ == "__main__":

@@ -107,7 +107,7 @@ enum { BYTES = 1 << 16, RULES = BYTES / 2 };
 static const uint8_t *section;
 static size_t section_len, entries;
 static dwframe_entry *table;
-static uint8_t size, order;
+static uint8_t size, order, table_size, table_order;
 
 static void make_index(void)
 {
@@ -115,6 +115,8 @@ static void make_index(void)
     if (dwframe_index_size(section, section_len, size, order, count, refusal))
         stop_at("the section is refused");
     entries = *count;
+    table_size = size;
+    table_order = order;
     table = block(entries * sizeof *table);
     if (!entries || dwframe_index(section, section_len, size, order, table, entries, count, refusal))
         stop_at("no index");
@@ -159,29 +161,6 @@ static void call_whole(const uint8_t *bytes, size_t len)
     give_back(before);
 }
 
-static void call_unwind(const uint8_t *bytes, size_t len)
-{
-    size_t before = lents, memory_len = below(64), room = below(40), given = below(20), windows = below(6);
-    uint8_t *memory = block(memory_len);
-    dwframe_register *registers = block(given * sizeof *registers), *out = block(room * sizeof *out);
-    dwframe_window *window = block(windows * sizeof *window);
-    for (size_t i = 0; i < memory_len; i++)
-        memory[i] = (uint8_t)number();
-    for (size_t i = 0; i < given; i++)
-        registers[i] = (dwframe_register){(uint16_t)below(i % 5 ? 20 : 65536), (uint16_t)below(3), i % 3 ? below(100) : number()};
-    for (size_t i = 0; i < windows; i++)
-        window[i] = (dwframe_window){i % 2 ? below(100) : number(), i % 3 ? below(70) : number(), i % 4 ? below(90) : number()};
-    dwframe_stop *stop = block(sizeof *stop);
-    *stop = (dwframe_stop){some_address(), below(100), size, order, (uint8_t)below(3)};
-    dwframe_frame *frame = block(sizeof *frame);
-    dwframe_fault *fault = block(sizeof *fault);
-    dwframe_status status = judge(dwframe_unwind(bytes, len, stop, registers, given, window, windows, memory, memory_len, out, room,
-        frame, refusal, fault));
-    size_t told = status == DWFRAME_OK ? frame->count : 0;
-    has_stayed(out + told, (room - told) * sizeof *out);
-    give_back(before);
-}
-
 /* Entries that are exchanged, left out, changed or random. */
 static size_t damage_index(dwframe_entry *index)
 {
@@ -209,6 +188,181 @@ static size_t damage_index(dwframe_entry *index)
     }
     return left;
 }
+
+/* A machine that stopped, with random registers and windows, and what is told of its caller. */
+struct machine {
+    dwframe_stop *stop;
+    dwframe_register *registers, *out;
+    dwframe_window *windows;
+    uint8_t *memory;
+    size_t register_count, window_count, memory_len, room;
+    dwframe_frame *frame;
+    dwframe_fault *fault;
+};
+
+static struct machine some_machine(uint64_t pc)
+{
+    struct machine m = {.memory_len = below(64), .room = below(40), .register_count = below(20), .window_count = below(6)};
+    m.memory = block(m.memory_len);
+    m.registers = block(m.register_count * sizeof *m.registers);
+    m.out = block(m.room * sizeof *m.out);
+    m.windows = block(m.window_count * sizeof *m.windows);
+    for (size_t i = 0; i < m.memory_len; i++)
+        m.memory[i] = (uint8_t)number();
+    for (size_t i = 0; i < m.register_count; i++)
+        m.registers[i] =
+            (dwframe_register){(uint16_t)below(i % 5 ? 20 : 65536), (uint16_t)below(3), i % 3 ? below(100) : number()};
+    for (size_t i = 0; i < m.window_count; i++)
+        m.windows[i] = (dwframe_window){i % 2 ? below(100) : number(), i % 3 ? below(70) : number(), i % 4 ? below(90) : number()};
+    m.stop = block(sizeof *m.stop);
+    *m.stop = (dwframe_stop){pc, below(100), size, order, (uint8_t)below(3)};
+    m.frame = block(sizeof *m.frame);
+    m.fault = block(sizeof *m.fault);
+    return m;
+}
+
+static int wants_memory(dwframe_status status, const dwframe_fault *fault)
+{
+    return status == DWFRAME_UNREADABLE || (status == DWFRAME_NO_VALUE && fault->kind == DWFRAME_FAULT_UNREADABLE);
+}
+
+static int wants_register(dwframe_status status, const dwframe_fault *fault)
+{
+    return status == DWFRAME_NO_REGISTER || (status == DWFRAME_NO_VALUE && fault->kind == DWFRAME_FAULT_NO_REGISTER);
+}
+
+/* What was wanted is told where something is missing, and only there. */
+static void judge_fault(dwframe_status status, const dwframe_fault *fault)
+{
+    if (wants_memory(status, fault) ? fault->len < 1 || fault->len > 8 : fault->len || fault->address)
+        stop_at("a fault that tells of another read than one that failed");
+    if (wants_register(status, fault) ? fault->wanted > 65535 : fault->wanted)
+        stop_at("a fault that tells of another register than one that is wanted");
+}
+
+static dwframe_status judge_unwound(dwframe_status status, const struct machine *m)
+{
+    judge(status);
+    judge_fault(status, m->fault);
+    size_t told = status == DWFRAME_OK ? m->frame->count : 0;
+    has_stayed(m->out + told, (m->room - told) * sizeof *m->out);
+    return status;
+}
+
+static dwframe_status unwind_at(const uint8_t *bytes, size_t len, const dwframe_entry *index, size_t left, const struct machine *m)
+{
+    memset(m->out, FILLED, m->room * sizeof *m->out);
+    dwframe_status status = dwframe_unwind_at(bytes, len, index, left, m->stop, m->registers, m->register_count, m->windows,
+        m->window_count, m->memory, m->memory_len, m->out, m->room, m->frame, refusal, m->fault);
+    return judge_unwound(status, m);
+}
+
+static dwframe_status unwind(const uint8_t *bytes, size_t len, const struct machine *m)
+{
+    memset(m->out, FILLED, m->room * sizeof *m->out);
+    dwframe_status status = dwframe_unwind(bytes, len, m->stop, m->registers, m->register_count, m->windows, m->window_count,
+        m->memory, m->memory_len, m->out, m->room, m->frame, refusal, m->fault);
+    return judge_unwound(status, m);
+}
+
+static void call_unwind(const uint8_t *bytes, size_t len)
+{
+    size_t before = lents;
+    struct machine m = some_machine(some_address());
+    unwind(bytes, len, &m);
+    give_back(before);
+}
+
+static void call_unwind_at(const uint8_t *bytes, size_t len)
+{
+    size_t before = lents;
+    dwframe_entry *index = block(entries * sizeof *index);
+    size_t left = damage_index(index);
+    const dwframe_entry *entry = left ? &index[below(left)] : table;
+    struct machine m = some_machine(below(8) ? entry->begin + below(entry->range) : number());
+    unwind_at(bytes, len, index, left, &m);
+    give_back(before);
+}
+
+static int is_same_told(const struct machine *m, const struct machine *other, size_t count)
+{
+    const dwframe_frame *frame = m->frame, *other_frame = other->frame;
+    const dwframe_fault *fault = m->fault, *other_fault = other->fault;
+    int same = frame->cfa == other_frame->cfa && frame->count == other_frame->count &&
+               frame->return_register == other_frame->return_register && fault->column == other_fault->column &&
+               fault->kind == other_fault->kind && fault->index == other_fault->index && fault->address == other_fault->address &&
+               fault->len == other_fault->len && fault->wanted == other_fault->wanted;
+    for (size_t i = 0; i < count; i++)
+        same &= m->out[i].number == other->out[i].number && m->out[i].known == other->out[i].known &&
+                m->out[i].value == other->out[i].value;
+    return same;
+}
+
+/* By the section's own index the frame is that of the section, and so is the fault. */
+static void compare_unwound(void)
+{
+    size_t before = lents;
+    /* Read in another way it may have another index. */
+    if (size != table_size || order != table_order)
+        return;
+    struct machine m = some_machine(some_address()), other = m;
+    other.frame = block(sizeof *other.frame);
+    other.fault = block(sizeof *other.fault);
+    other.out = block(other.room * sizeof *other.out);
+    dwframe_status status = unwind(section, section_len, &m);
+    if (unwind_at(section, section_len, table, entries, &other) != status ||
+        !is_same_told(&m, &other, status == DWFRAME_OK ? m.frame->count : 0))
+        stop_at("another answer by the index than by the section");
+    give_back(before);
+}
+
+/* ---- live memory: given as it is wanted, and no byte is wanted twice */
+
+enum { READS = 1 << 12 };
+
+static int is_given(const struct machine *m, uint64_t address)
+{
+    for (size_t i = 0; i < m->window_count; i++)
+        if (address - m->windows[i].address < m->windows[i].len)
+            return 1;
+    return 0;
+}
+
+/* Gives what a read wanted, unless it passes the end of the address space. */
+static int give(struct machine *m)
+{
+    uint64_t address = m->fault->address, len = m->fault->len, last = size == 4 ? UINT32_MAX : UINT64_MAX, had = 0;
+    if (address > last)
+        stop_at("an address outside of the address space");
+    if (len - 1 > last - address)
+        return 0;
+    for (uint64_t i = 0; i < len; i++)
+        had += (uint64_t)is_given(m, address + i);
+    if (had == len)
+        stop_at("what was given is wanted again");
+    if (m->window_count == READS)
+        stop_at("more is wanted than there is");
+    m->windows[m->window_count++] = (dwframe_window){address, m->memory_len, len};
+    while (len--)
+        m->memory[m->memory_len++] = (uint8_t)number();
+    return 1;
+}
+
+static void unwind_live(void)
+{
+    static uint8_t memory[8 * READS];
+    static dwframe_window windows[READS];
+    size_t before = lents;
+    struct machine m = some_machine(some_address());
+    m.memory = memory;
+    m.windows = windows;
+    m.memory_len = m.window_count = 0;
+    while (wants_memory(unwind_at(section, section_len, table, entries, &m), m.fault) && give(&m))
+        ;
+    give_back(before);
+}
+
+/* ---- rows */
 
 static void call_row_at(const uint8_t *bytes, size_t len)
 {
@@ -288,6 +442,10 @@ static void call_all(void)
     call_whole(copy, len);
     call_unwind(copy, len);
     call_unwind(section, section_len);
+    call_unwind_at(copy, len);
+    call_unwind_at(section, section_len);
+    compare_unwound();
+    unwind_live();
     call_rows_at(copy, len);
     call_rows_at(section, section_len);
     call_row_at(copy, len);

@@ -167,7 +167,7 @@ def compare_codes(tally):
     """The tables have the codes of the sources, and the manual page says the same of each."""
     readme, manual = text_of("README.md"), text_of(MANUAL).replace(r"\-", "-")
     for path, enum, heading in CODES:
-        names = re.findall(rf"{enum}::(\w+) => \d+,", text_of(path))
+        names = re.findall(rf"{enum}::(\w+)(?: \{{ \.\. \}})? => \d+,", text_of(path))
         rows = rows_of(section_under(readme, heading))
         shown = [row[0] for row in rows]
         tally.tell(names and names == shown, f"README.md, {heading}: {shown}, and not {names}")

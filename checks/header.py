@@ -1,10 +1,10 @@
 #!/usr/bin/env python3
 """Compares include/dwframe.h, and what bindings/rust declares, with the exports of crates/dw_library.
 
-Each call has to have the same name, answer and parameters in all three, and each struct the same fields in the same order. Each number
-of the header (statuses, refusals, faults, rules, orders and the like) has to be the one of the library's sources, and those that the
-crate for Rust has have to be the header's, and mean what their names say. A slice of Rattle is a pointer and a length in C, and an
-`alloc` is nothing.
+Each call has to have the same name, answer and parameters in all three, and each struct the same fields in the same order, and the size
+that the header asserts. Each number of the header (statuses, refusals, faults, rules, orders and the like) has to be the one of the
+library's sources, and those that the crate for Rust has have to be the header's, and mean what their names say. A slice of Rattle is a
+pointer and a length in C, and an `alloc` is nothing.
 """
 import pathlib
 import re
@@ -12,6 +12,8 @@ import sys
 
 ROOT = pathlib.Path(__file__).resolve().parent.parent
 NUMBERS = {"u8": "uint8_t", "u16": "uint16_t", "u32": "uint32_t", "u64": "uint64_t", "usize": "size_t", "i64": "int64_t"}
+# How many bytes each takes, and is aligned to.
+BYTES = {"uint8_t": 1, "uint16_t": 2, "uint32_t": 4, "uint64_t": 8, "size_t": 8, "int64_t": 8}
 # Structs by their names in Rattle, in C and in the crate for Rust.
 STRUCTS = {
     "Refused": ("dwframe_refusal", "RawRefusal"),
@@ -31,7 +33,7 @@ STRUCTS = {
 # with, and names that C has otherwise.
 NUMBERED = [
     ("crates/dw_num/src/refusal.rt", r"Code::(?P<name>\w+) => (?P<number>\d+),", "REFUSAL_", {}),
-    ("crates/dw_eval/src/error.rt", r"Kind::(?P<name>\w+) => (?P<number>\d+),", "FAULT_", {}),
+    ("crates/dw_eval/src/error.rt", r"Kind::(?P<name>\w+)(?: \{ \.\. \})? => (?P<number>\d+),", "FAULT_", {}),
     ("crates/dw_library/src/index.rt", r"RegRule::(?P<name>\w+)(?:\(\w+\))? => told_rule\(number, (?P<number>\d+),", "RULE_", {}),
     ("crates/dw_library/src/index.rt", r"CfaRule::(?P<name>\w+)(?: \{ \.\. \}|\(_\))? => (?P<number>\d+),", "CFA_", {}),
     ("crates/dw_library/src/answer.rt", r"(?P<number>\d+) => Some\(Target \{ size, order: Order::(?P<name>\w+),", "", {}),
@@ -40,7 +42,9 @@ NUMBERED = [
 # What a look-up never writes, so the header has no name for it.
 UNNAMED = {"DWFRAME_RULE_UNSPECIFIED": "0", "DWFRAME_CFA_UNSET": "0"}
 # What no call answers to the crate for Rust, or what the crate tells by no name of its own.
-NOT_IN_RUST = {"DWFRAME_BAD_ARGUMENT", "DWFRAME_DEVICE", "DWFRAME_FAULT_DEVICE", "DWFRAME_RULE_UNDEFINED", "DWFRAME_CFA"}
+NOT_IN_RUST = {"DWFRAME_BAD_ARGUMENT", "DWFRAME_DEVICE", "DWFRAME_FAULT_DEVICE", "DWFRAME_RULE_UNDEFINED", "DWFRAME_COLUMN_CFA"}
+# Older names of the header, which stand for newer ones.
+OLDER = {"DWFRAME_CFA": "DWFRAME_COLUMN_CFA"}
 
 
 def plain(text):
@@ -105,6 +109,20 @@ def structs(text, word):
     return {name: [(field, NUMBERS[kind]) for field, kind in inside] for name, inside in fields.items()}
 
 
+def size_of(fields):
+    """How many bytes a struct of these fields takes, as C lays it out."""
+    end, most = 0, 1
+    for _, kind in fields:
+        end += -end % BYTES[kind] + BYTES[kind]
+        most = max(most, BYTES[kind])
+    return end + -end % most
+
+
+def asserted(text):
+    """The sizes that the header asserts, by the names of its structs."""
+    return {name: int(size) for name, size in re.findall(r"DWFRAME_HAS_SIZE\((\w+), (\d+)\);", text)}
+
+
 def c_structs(text):
     found = re.findall(r"typedef struct \w+ \{(.*?)\} (\w+);", text)
     return {name: [tuple(reversed(field.split())) for field in inside.split(";") if field.strip()] for inside, name in found}
@@ -144,7 +162,13 @@ def header_numbers():
     return dict(re.findall(r"#define (DWFRAME_\w+) (\d+)", text) + re.findall(r"(DWFRAME_\w+) = (\d+)", plain(text)))
 
 
+def older_names():
+    return dict(re.findall(r"#define (DWFRAME_\w+) (DWFRAME_\w+)\n", (ROOT / "include/dwframe.h").read_text()))
+
+
 def wrong_numbers(own, header, rust):
+    if older_names() != OLDER:
+        yield f"older names are {older_names()}, and not {OLDER}"
     # A refusal's name stands in the library, and its longest has to fit with the zero byte.
     room = header.pop("DWFRAME_NAME_SIZE")
     longest = max(map(len, re.findall(r'Code::\w+ => "(\w+)"', text_of("crates/dw_num/src/refusal.rt"))))
@@ -188,6 +212,9 @@ def main():
     for name, (c, raw) in STRUCTS.items():
         if not own.get(name) == in_header.get(c) == in_rust.get(raw):
             wrong.append(f"struct {c}: {own.get(name)}, {in_header.get(c)} and {in_rust.get(raw)}")
+    sizes = {c: size_of(own[name]) for name, (c, _) in STRUCTS.items() if name in own}
+    if asserted(header) != sizes:
+        wrong.append(f"the header asserts the sizes {asserted(header)}, and they are {sizes}")
     if len(own) != len(in_header) or len(own) != len(in_rust):
         wrong.append("one of the three has a struct that is not compared")
     numbers = own_numbers(rattle)

@@ -5,8 +5,8 @@
 #     library.sh [FOLDER]..
 #
 # A section of a folder is NAME.bin with NAME.target beside it, or a line `NAME SIZE ORDER ..` of its sections.tsv. Then each request
-# for memory is refused once, and damaged sections, indexes and windows are given. DWFRAME may name the program, and LIBRARY a
-# libdwframe.a that is built.
+# for memory is counted and refused once, and damaged sections, indexes and windows are given. DWFRAME may name the program, and LIBRARY
+# a libdwframe.a that is built.
 #
 # The address sanitizer sees what the C beside the library does, and what is not given back. It does not see the loads and stores of
 # libdwframe.a, which is not built with it: those see valgrind, and the pages that cannot be reached around what damage.c lends. What needs
@@ -65,6 +65,8 @@ cp "$library" lent/libdwframe.a
 if has cargo; then
     built_in_rust rust "$folder/lent"
     (cd "$root/bindings/rust" && DWFRAME_LIB="$folder/lent" cargo test --quiet --offline --test answers --target-dir "$folder/target-rust" >"$folder/tested") || { cat tested; exit 1; }
+    walked=$(target-rust/release/examples/walk "$root/examples/plain.bin")
+    [ "$walked" = "0 callers, 1 reads" ] || { echo "library: walk says $walked"; exit 1; }
 else
     echo "library by rustc: $without"
 fi
@@ -256,6 +258,22 @@ gcc $flags -o refused $wrapped
 sections "$root/examples" "$folder/small" >few
 while read -r section size order; do ./refused-sanitized "$size" "$order" "$section"; done <few >requests
 echo "library: $(awk '{ calls += $1; requests += $3 } END { print calls " calls, " requests " requests for memory refused, each once" }' requests)"
+
+# ---- requests for memory that are made: none by a look-up in a plain FDE, unless it remembers rows and changes many rules behind them;
+# by a frame two, and a third where more than 32 registers are told
+
+gcc $flags -o requests -Wl,--wrap=malloc,--wrap=realloc "$root/checks/requests.c" "$library"
+while read -r section size order; do
+    status=0
+    ./requests "$size" "$order" "$section" || status=$?
+    # A refused section has no index.
+    [ "$status" = 0 ] || [ "$status" = 2 ] || { echo "library: requests $section: status $status" >&2 && exit 1; }
+done <all >counted
+awk '{ rows += $1; asking += $2; frames += $3; if ($4 > most) most = $4 }
+    END {
+        print "library: " rows " look-ups in plain FDEs, " asking + 0 " of them with requests for memory; " frames " frames, with " most + 0 " requests at most"
+        exit asking * 1000 > rows || most > 3 || !frames
+    }' counted
 
 # ---- damaged sections, indexes, registers and windows: a status each time
 

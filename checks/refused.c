@@ -126,15 +126,37 @@ static dwframe_status call_expressions_at(void)
 }
 
 /* A machine whose registers are all in the middle of what is known of its memory. */
+static const uint8_t memory[4096];
+static const dwframe_window windows[] = {{0x7000, 2048, 2048}, {0x6800, 0, 2048}};
+static dwframe_register registers[32];
+enum { GIVEN = sizeof registers / sizeof *registers, WINDOWS = sizeof windows / sizeof *windows };
+
+static dwframe_stop stop_here(void)
+{
+    for (uint16_t i = 0; i < GIVEN; i++)
+        registers[i] = (dwframe_register){i, 1, 0x7000};
+    return (dwframe_stop){address, 100, size, order, DWFRAME_UNCHANGED};
+}
+
 static dwframe_status call_unwind(void)
 {
-    static uint8_t memory[4096];
-    dwframe_register registers[32];
-    for (uint16_t i = 0; i < 32; i++)
-        registers[i] = (dwframe_register){i, 1, 0x7000};
-    dwframe_window windows[] = {{0x7000, 2048, 2048}, {0x6800, 0, 2048}};
-    dwframe_stop stop = {address, 100, size, order, DWFRAME_UNCHANGED};
-    return dwframe_unwind(section, section_len, &stop, registers, 32, windows, 2, memory, sizeof memory, rooms.registers,
+    dwframe_stop stop = stop_here();
+    return dwframe_unwind(section, section_len, &stop, registers, GIVEN, windows, WINDOWS, memory, sizeof memory, rooms.registers,
+        REGISTERS, &told.frame, &told.refusal, &told.fault);
+}
+
+static dwframe_status call_unwind_at(void)
+{
+    dwframe_stop stop = stop_here();
+    return dwframe_unwind_at(section, section_len, table, entries, &stop, registers, GIVEN, windows, WINDOWS, memory, sizeof memory,
+        rooms.registers, REGISTERS, &told.frame, &told.refusal, &told.fault);
+}
+
+/* The same with no memory: the fault tells what was wanted. */
+static dwframe_status call_unwind_blind(void)
+{
+    dwframe_stop stop = stop_here();
+    return dwframe_unwind_at(section, section_len, table, entries, &stop, registers, GIVEN, windows, 0, memory, 0, rooms.registers,
         REGISTERS, &told.frame, &told.refusal, &told.fault);
 }
 
@@ -153,7 +175,11 @@ static void fill_padding(void *items, size_t count, size_t each, size_t from, si
         memset((uint8_t *)items + i * each + from, FILLED, len);
 }
 
-enum { FRAME = offsetof(dwframe_frame, return_register) + 4, ENTRY = offsetof(dwframe_entry, return_register) + 2 };
+enum {
+    FRAME = offsetof(dwframe_frame, return_register) + 4,
+    FAULT = offsetof(dwframe_fault, wanted) + 4,
+    ENTRY = offsetof(dwframe_entry, return_register) + 2
+};
 
 static void fill_all_padding(void)
 {
@@ -161,6 +187,7 @@ static void fill_all_padding(void)
     fill_padding(rooms.blocks, BLOCKS, sizeof(dwframe_block), 4, offsetof(dwframe_block, place) - 4);
     fill_padding(rooms.registers, REGISTERS, sizeof(dwframe_register), 4, offsetof(dwframe_register, value) - 4);
     fill_padding(&told.frame, 1, sizeof told.frame, FRAME, sizeof told.frame - FRAME);
+    fill_padding(&told.fault, 1, sizeof told.fault, FAULT, sizeof told.fault - FAULT);
 }
 
 static dwframe_status made(dwframe_status (*call)(void), unsigned long number, const char *name)
@@ -192,8 +219,8 @@ static int is_nothing(int has_rows)
 {
     int zero = is_all(&told.refusal, sizeof told.refusal, 0);
     const void *parts[] = {&told.counts, &told.frame, &told.fault, &told.row, &told.blocks, &told.alike, &told.number};
-    const size_t sizes[] = {sizeof told.counts, FRAME, sizeof told.fault, sizeof told.row, sizeof told.blocks,
-        sizeof told.alike, sizeof told.number};
+    const size_t sizes[] = {sizeof told.counts, FRAME, FAULT, sizeof told.row, sizeof told.blocks, sizeof told.alike,
+        sizeof told.number};
     for (size_t i = 0; i < sizeof sizes / sizeof *sizes - (has_rows ? 1 : 0); i++)
         zero &= is_all(parts[i], sizes[i], 0) || is_all(parts[i], sizes[i], FILLED);
     if (!has_rows)
@@ -264,6 +291,8 @@ int main(int argc, char **argv)
         each_refused("dwframe_row_at", call_row_at);
         each_refused("dwframe_expressions_at", call_expressions_at);
         each_refused("dwframe_unwind", call_unwind);
+        each_refused("dwframe_unwind_at", call_unwind_at);
+        each_refused("dwframe_unwind_at without memory", call_unwind_blind);
     }
     printf("%lu calls, %lu requests refused\n", calls, all_requests);
     return 0;

@@ -3,7 +3,11 @@
  *     frames 4|8 little|big FILE DUMP      prints the caller's frame, as `dwframe unwind --default same`
  *     frames 4|8 little|big FILE DUMP N    walks the stack, whose pointer is register N, as examples/backtrace.py
  *
- * FILE is a raw .debug_frame and DUMP a register dump, as examples/chain.c writes it. */
+ * FILE is a raw .debug_frame and DUMP a register dump, as examples/chain.c writes it.
+ *
+ * The walk makes the index of the section once, and reads memory as it is wanted: it gives all registers and no memory, and where a
+ * frame wants bytes that are missing, fetches them, here from the dump, and makes the call again. A debugger's `fetch` reads them from
+ * the process that it stopped. Registers are given at the start, since one that no rule asks for is passed on and not wanted. */
 #include <inttypes.h>
 #include <stdio.h>
 #include <stdlib.h>
@@ -21,10 +25,11 @@ struct machine {
     size_t window_count;
     uint8_t memory[MEMORY];
     size_t memory_len;
-    dwframe_stop stop;
 };
 
-static struct machine machine;
+/* What the dump says; and what the walk gives: the registers of a frame, and the memory that it has given. */
+static struct machine dump, given;
+static dwframe_stop stop;
 static uint8_t *section;
 static size_t section_len;
 
@@ -53,17 +58,31 @@ static uint8_t *load(const char *path, size_t *len)
 
 /* ---- the dump: a line `pc V`, lines `rN V` and `mem V BYTES` */
 
+static void add_register(struct machine *machine, dwframe_register own)
+{
+    if (machine->register_count < REGISTERS)
+        machine->registers[machine->register_count++] = own;
+}
+
+/* Lets a window stand over the last `len` bytes of memory. Answers whether there was room. */
+static int add_window(struct machine *machine, uint64_t address, uint64_t len)
+{
+    if (machine->window_count == WINDOWS)
+        return 0;
+    machine->windows[machine->window_count++] = (dwframe_window){address, machine->memory_len - len, len};
+    return 1;
+}
+
 static void read_memory(uint64_t address, const char *digits)
 {
-    dwframe_window window = {.address = address, .place = machine.memory_len, .len = 0};
+    uint64_t len = 0;
     unsigned byte;
-    while (sscanf(digits, "%2x", &byte) == 1 && machine.memory_len < MEMORY) {
-        machine.memory[machine.memory_len++] = (uint8_t)byte;
-        window.len++;
+    while (sscanf(digits, "%2x", &byte) == 1 && dump.memory_len < MEMORY) {
+        dump.memory[dump.memory_len++] = (uint8_t)byte;
+        len++;
         digits += 2;
     }
-    if (machine.window_count < WINDOWS)
-        machine.windows[machine.window_count++] = window;
+    add_window(&dump, address, len);
 }
 
 static int read_dump(const char *text)
@@ -73,10 +92,10 @@ static int read_dump(const char *text)
     uint64_t value;
     for (const char *line = text; *line; line += strcspn(line, "\n"), line += *line == '\n') {
         int digits = 0;
-        if (sscanf(line, "pc %" SCNx64, &machine.stop.pc) == 1)
+        if (sscanf(line, "pc %" SCNx64, &stop.pc) == 1)
             has_pc = 1;
-        else if (sscanf(line, "r%u %" SCNx64, &number, &value) == 2 && machine.register_count < REGISTERS)
-            machine.registers[machine.register_count++] = (dwframe_register){(uint16_t)number, 1, value};
+        else if (sscanf(line, "r%u %" SCNx64, &number, &value) == 2)
+            add_register(&dump, (dwframe_register){(uint16_t)number, 1, value});
         else if (sscanf(line, "mem %" SCNx64 " %n", &value, &digits) == 1 && digits)
             read_memory(value, line + digits);
     }
@@ -91,7 +110,7 @@ static const char *const KINDS[] = {"", "StackUnderflow", "DivideByZero", "NoReg
 static int tell(dwframe_status status, const dwframe_refusal *refusal, const dwframe_fault *fault)
 {
     char name[DWFRAME_NAME_SIZE] = "", column[16] = "cfa";
-    if (fault->column != DWFRAME_CFA)
+    if (fault->column != DWFRAME_COLUMN_CFA)
         snprintf(column, sizeof column, "r%" PRIu32, fault->column);
     switch (status) {
     case DWFRAME_REFUSED:
@@ -111,6 +130,8 @@ static int tell(dwframe_status status, const dwframe_refusal *refusal, const dwf
         return fail(3, "bad address size or byte order");
     case DWFRAME_TOO_SHORT:
         return fail(5, "too many registers");
+    case DWFRAME_BAD_INDEX:
+        return fail(2, "the index is not the one of the section");
     default:
         return fail(5, "out of memory");
     }
@@ -118,19 +139,13 @@ static int tell(dwframe_status status, const dwframe_refusal *refusal, const dwf
 
 static dwframe_register caller[REGISTERS];
 
-/* The caller's frame, with its registers in `caller`. */
-static dwframe_status unwind(dwframe_frame *frame, dwframe_refusal *refusal, dwframe_fault *fault)
-{
-    return dwframe_unwind(section, section_len, &machine.stop, machine.registers, machine.register_count, machine.windows,
-        machine.window_count, machine.memory, machine.memory_len, caller, REGISTERS, frame, refusal, fault);
-}
-
 static int print_frame(void)
 {
     dwframe_frame frame;
     dwframe_refusal refusal;
     dwframe_fault fault;
-    dwframe_status status = unwind(&frame, &refusal, &fault);
+    dwframe_status status = dwframe_unwind(section, section_len, &stop, dump.registers, dump.register_count, dump.windows,
+        dump.window_count, dump.memory, dump.memory_len, caller, REGISTERS, &frame, &refusal, &fault);
     if (status != DWFRAME_OK)
         return tell(status, &refusal, &fault);
     printf("cfa 0x%" PRIx64 "\nra r%" PRIu32 "\n", frame.cfa, frame.return_register);
@@ -143,34 +158,103 @@ static int print_frame(void)
     return 0;
 }
 
+/* ---- the walk, which fetches what is wanted */
+
+static dwframe_entry *table;
+static size_t entries;
+
+static dwframe_status make_index(dwframe_refusal *refusal)
+{
+    dwframe_status status = dwframe_index_size(section, section_len, stop.address_size, stop.byte_order, &entries, refusal);
+    if (status != DWFRAME_OK)
+        return status;
+    /* No pointer is null, also where there are no entries. */
+    if (!(table = malloc((entries + 1) * sizeof *table)))
+        return DWFRAME_OUT_OF_MEMORY;
+    return dwframe_index(section, section_len, stop.address_size, stop.byte_order, table, entries, &entries, refusal);
+}
+
+/* Whether a read ends within the address space. What passes its end cannot be given. */
+static int is_in_space(uint64_t address, uint64_t len)
+{
+    uint64_t last = stop.address_size == 4 ? UINT32_MAX : UINT64_MAX;
+    return address <= last && len - 1 <= last - address;
+}
+
+/* The byte of the dump at an address, or -1. */
+static int byte_at(uint64_t address)
+{
+    for (size_t i = 0; i < dump.window_count; i++) {
+        const dwframe_window *window = &dump.windows[i];
+        if (window->address <= address && address - window->address < window->len)
+            return dump.memory[window->place + (address - window->address)];
+    }
+    return -1;
+}
+
+/* Gives the bytes from an address on, if they are there. */
+static int fetch(uint64_t address, uint64_t len)
+{
+    if (!is_in_space(address, len) || MEMORY - given.memory_len < len)
+        return 0;
+    for (uint64_t i = 0; i < len; i++) {
+        int byte = byte_at(address + i);
+        if (byte < 0)
+            return 0;
+        given.memory[given.memory_len + i] = (uint8_t)byte;
+    }
+    given.memory_len += len;
+    return add_window(&given, address, len);
+}
+
+static int wants_memory(dwframe_status status, const dwframe_fault *fault)
+{
+    return status == DWFRAME_UNREADABLE || (status == DWFRAME_NO_VALUE && fault->kind == DWFRAME_FAULT_UNREADABLE);
+}
+
+/* The caller's frame, with its registers in `caller`. What was fetched is not wanted again, so this ends. */
+static dwframe_status unwind(dwframe_frame *frame, dwframe_refusal *refusal, dwframe_fault *fault)
+{
+    dwframe_status status;
+    do
+        status = dwframe_unwind_at(section, section_len, table, entries, &stop, given.registers, given.register_count, given.windows,
+            given.window_count, given.memory, given.memory_len, caller, REGISTERS, frame, refusal, fault);
+    while (wants_memory(status, fault) && fetch(fault->address, fault->len));
+    return status;
+}
+
 /* Makes the caller's registers the machine's: its stack pointer is the CFA. Answers whether the return address is known, and
    lets it be looked up in the call, which is one byte before it. */
 static int go_up(const dwframe_frame *frame, uint16_t stack_pointer, uint64_t *pc)
 {
     int found = 0;
-    machine.register_count = 1;
-    machine.registers[0] = (dwframe_register){stack_pointer, 1, frame->cfa};
+    given.register_count = 0;
+    add_register(&given, (dwframe_register){stack_pointer, 1, frame->cfa});
     for (size_t i = 0; i < frame->count; i++) {
         if (caller[i].number == frame->return_register && caller[i].known) {
             *pc = caller[i].value;
             found = 1;
         }
-        if (machine.register_count < REGISTERS)
-            machine.registers[machine.register_count++] = caller[i];
+        add_register(&given, caller[i]);
     }
-    machine.stop.pc = *pc ? *pc - 1 : 0;
+    stop.pc = *pc ? *pc - 1 : 0;
     return found;
 }
 
 static int walk(uint16_t stack_pointer)
 {
-    uint64_t pc = machine.stop.pc, last = 0;
+    uint64_t pc = stop.pc, last = 0;
+    dwframe_frame frame;
+    dwframe_refusal refusal;
+    dwframe_fault fault = {0};
+    dwframe_status status = make_index(&refusal);
+    if (status != DWFRAME_OK)
+        return tell(status, &refusal, &fault);
+    for (size_t i = 0; i < dump.register_count; i++)
+        add_register(&given, dump.registers[i]);
     for (unsigned number = 0;; number++) {
-        dwframe_frame frame;
-        dwframe_refusal refusal;
-        dwframe_fault fault;
         printf("#%u 0x%" PRIx64 "\n", number, pc);
-        dwframe_status status = unwind(&frame, &refusal, &fault);
+        status = unwind(&frame, &refusal, &fault);
         if (status == DWFRAME_NO_FDE)
             return 0;
         if (status != DWFRAME_OK)
@@ -188,10 +272,10 @@ int main(int argc, char **argv)
     size_t text_len = 0;
     if (argc < 5 || argc > 6)
         return fail(3, "usage: frames 4|8 little|big FILE DUMP [N]");
-    machine.stop.address_size = (uint8_t)atoi(argv[1]);
-    machine.stop.byte_order = strcmp(argv[2], "big") ? DWFRAME_LITTLE : DWFRAME_BIG;
-    machine.stop.unset = DWFRAME_UNCHANGED;
-    machine.stop.steps = 10000;
+    stop.address_size = (uint8_t)atoi(argv[1]);
+    stop.byte_order = strcmp(argv[2], "big") ? DWFRAME_LITTLE : DWFRAME_BIG;
+    stop.unset = DWFRAME_UNCHANGED;
+    stop.steps = 10000;
     section = load(argv[3], &section_len);
     char *text = (char *)load(argv[4], &text_len);
     int status;
@@ -202,6 +286,7 @@ int main(int argc, char **argv)
     else
         status = argc == 6 ? walk((uint16_t)atoi(argv[5])) : print_frame();
     free(section);
+    free(table);
     free(text);
     return status;
 }

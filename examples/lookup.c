@@ -61,7 +61,7 @@ static int tell(dwframe_status status, const dwframe_refusal *refusal)
 
 /* ---- the text of a row, as the command prints it */
 
-/* The expression of a column, a register's number or DWFRAME_CFA. */
+/* The expression of a column, a register's number or DWFRAME_COLUMN_CFA. */
 static char *put_expression(char *text, uint32_t column)
 {
     text += sprintf(text, "expr(");
@@ -104,7 +104,7 @@ static void put_row(char *text, const dwframe_row *row, const dwframe_rule *rule
     if (row->cfa_kind == DWFRAME_CFA_REGISTER)
         sprintf(text, " cfa=r%u%+" PRId64, row->cfa_register, row->cfa_offset);
     else
-        put_expression(text + sprintf(text, " cfa="), DWFRAME_CFA);
+        put_expression(text + sprintf(text, " cfa="), DWFRAME_COLUMN_CFA);
     for (uint64_t i = 0; i < row->count; i++)
         put_rule(text + strlen(text), &rules[i]);
 }

@@ -2,7 +2,9 @@
  * dwframe.h: the proved reader of DWARF call frame information, for C and C++.
  *
  * A section is the raw contents of `.debug_frame` (DWARF 5, 6.4.1), decompressed, as `./section` of the repository or objcopy
- * takes them out of a file. Link with libdwframe.a, which `./library` builds.
+ * takes them out of a file. Link with libdwframe.a, which `./library` builds: for Linux on x86-64, and processors that know x86-64-v2
+ * (SSE4.2, POPCNT). The library has no call frame information of its own: a debugger or a profiler that stops inside one of its
+ * calls does not find who made it.
  *
  * Every call but dwframe_refusal_name answers a status. What it tells beside that it writes through pointers, at each call, also
  * where it fails: a number that it has no answer for is 0 then.
@@ -127,18 +129,17 @@ dwframe_status dwframe_normalise(const uint8_t *bytes, size_t len, uint8_t addre
     size_t room, size_t *needed, dwframe_refusal *refusal) DWFRAME_NONNULL;
 
 /*
- * Whether two sections say the same: the same FDEs with the same return registers, and the same rules at each address that they
- * cover. `alike` is 1 where they do, and else 0. A section whose normal form is above 2147483647 bytes is refused. FDEs that cover
- * no address say nothing.
+ * Whether two sections say the same: the same FDEs with the same return address registers, and the same rules at each address
+ * that they cover. `alike` is 1 where they do, and 0 where they do not. A section whose normal form is above 2147483647 bytes is
+ * refused. FDEs that cover no address say nothing.
  */
 dwframe_status dwframe_same(const uint8_t *first, size_t first_len, const uint8_t *second, size_t second_len,
     uint8_t address_size, uint8_t byte_order, uint32_t *alike, dwframe_refusal *refusal) DWFRAME_NONNULL;
 
 /*
  * An entry of an index: an FDE's first address (initial_location), how many it covers (address_range), the place of its entry in
- * the section, and the number of the register that holds the return address (return_address_register). 24 bytes, in the
- * machine's own order of bytes. An index is plain data: it may be
- * stored and read back by the same kind of machine.
+ * the section, and the number of the return address register (return_address_register of the CIE). 24 bytes, in the machine's own
+ * order of bytes. An index is plain data: it may be stored, and read back by the same kind of machine.
  */
 typedef struct dwframe_entry {
     uint64_t begin;
@@ -233,19 +234,20 @@ dwframe_status dwframe_row_at(const uint8_t *bytes, size_t len, uint8_t address_
  * room of 0 asks for the rows alone.
  *
  * `done` says how many rows are told: `count` with DWFRAME_OK, and with DWFRAME_TOO_SHORT where rules do not fit; with
- * DWFRAME_OUT_OF_MEMORY those before the address whose row needed it. Else it is 0, also with DWFRAME_TOO_SHORT where `rows_room` is less
- * than `count`. Rows behind these stay.
+ * DWFRAME_OUT_OF_MEMORY those before the address whose row needed it. With any other status it is 0, also with DWFRAME_TOO_SHORT
+ * where `rows_room` is less than `count`. The rows behind the first `done` are left as they were.
  */
 dwframe_status dwframe_rows_at(const uint8_t *bytes, size_t len, uint8_t address_size, uint8_t byte_order,
     const uint64_t *addresses, size_t count, dwframe_row *rows, size_t rows_room, dwframe_rule *rules, size_t room, size_t *done,
     dwframe_refusal *refusal) DWFRAME_NONNULL;
 
-/* The column of the CFA, beside the numbers of registers. */
-#define DWFRAME_CFA 65536
+/* The column of the CFA, beside the numbers of registers; and its older name. */
+#define DWFRAME_COLUMN_CFA 65536
+#define DWFRAME_CFA DWFRAME_COLUMN_CFA
 
 /* Where the block of an expression stands in a buffer. */
 typedef struct dwframe_block {
-    /* A register's number, or DWFRAME_CFA. */
+    /* A register's number, or DWFRAME_COLUMN_CFA. */
     uint32_t column;
     /* Its first byte, counted from the buffer's first one, and how many bytes it has. */
     size_t place;
@@ -278,7 +280,8 @@ enum { DWFRAME_UNCHANGED = 0, DWFRAME_UNDEFINED = 1 };
 
 /* Where a machine stopped, and what is asked of it. */
 typedef struct dwframe_stop {
-    /* The address that is looked up. Of a caller's frame it is the return address minus one, which is in the call. */
+    /* The address that is looked up. Of a caller's frame it is the return address minus one, which is in the call. Addresses of a
+       section are those of its file: where the file is loaded elsewhere, `pc` is the program counter minus the load bias. */
     uint64_t pc;
     /* How many steps each expression may take. */
     uint64_t steps;
@@ -326,29 +329,79 @@ enum {
 
 /* What is wrong in a column. All are 0 where nothing is. */
 typedef struct dwframe_fault {
-    /* A register's number, or DWFRAME_CFA. */
+    /* A register's number, or DWFRAME_COLUMN_CFA. */
     uint32_t column;
     /* Of an expression: one of DWFRAME_FAULT_.. */
     uint32_t kind;
     /* Of an expression: which operation, counted from 0, or how many there are for a fault at the end. */
     uint64_t index;
+    /* Where a byte is missing (DWFRAME_UNREADABLE, DWFRAME_FAULT_UNREADABLE): the first address of the first read that failed, and how
+       many bytes it asked for, 1 to 8. Where `address` plus `len` is above 2^N, N being the bits of an address, the read passes the end
+       of the address space, and no window helps. */
+    uint64_t address;
+    uint64_t len;
+    /* Where a register is not given (DWFRAME_NO_REGISTER, DWFRAME_FAULT_NO_REGISTER): the DWARF number of the first one that was asked
+       for and is not given. It may be 0, so the status and `kind` say whether a register is wanted. */
+    uint32_t wanted;
 } dwframe_fault;
 
 /*
  * The caller's frame of a machine that stopped, by the rules of a section for the address `stop->pc`. The section is judged
  * first, as dwframe_check does.
  *
- * Of registers with one number the first that is known counts. A byte of memory is that of the first window that covers its
- * address; windows may come in any order, and what lies past the buffer's end is not there.
+ * If a register is given twice, its first known value is used. A byte of memory is that of the first window that covers its
+ * address. Windows may come in any order. What lies past the buffer's end is not there.
  *
  * With DWFRAME_OK the first `frame->count` of the `room` registers at `out` are the caller's, ascending: each that is given,
  * that the rules name, or that holds the return address. What leads from one frame to the next is the ABI's: the stack pointer is
- * the CFA, and the pc is the value of the return register. With DWFRAME_TOO_SHORT the frame is told, and `out` stays; with any
+ * the CFA, and the pc is the value of the return address register. With DWFRAME_TOO_SHORT the frame is told, and `out` stays; with any
  * other status `out` stays, and the refusal or the fault says why.
+ *
+ * The number that DW_OP_addr pushes is taken as it stands in the section: no load bias is added to it.
  */
 dwframe_status dwframe_unwind(const uint8_t *bytes, size_t len, const dwframe_stop *stop, const dwframe_register *registers,
     size_t register_count, const dwframe_window *windows, size_t window_count, const uint8_t *memory, size_t memory_len,
     dwframe_register *out, size_t room, dwframe_frame *frame, dwframe_refusal *refusal, dwframe_fault *fault) DWFRAME_NONNULL;
+
+/*
+ * The same by an index of the section that is kept (dwframe_index), at the cost of a look-up: the section is not judged again. With the
+ * index which dwframe_index wrote of these bytes it tells what dwframe_unwind tells. Any other index does no harm: what stands where
+ * it leads is read and judged anew, and DWFRAME_BAD_INDEX says that no FDE which covers the address stands there, or that the CFA has
+ * no rule there.
+ *
+ * So live memory can be read as it is wanted, which may begin with no window. Where the fault names an address and a length, read these
+ * bytes, or more around them, give them as one window more at the end of the windows, and ask again; where it names a register that
+ * the machine has, give that. What is given is not wanted twice, and each expression takes at most `stop->steps` steps, so this ends:
+ * with the frame, with another status, or with what cannot be read. A read that passes the end of the address space never can be.
+ * examples/frames.c has this loop. Registers are best given all at the start: one that no rule asks for is not wanted, and where it is
+ * not given the caller's frame does not have it.
+ */
+dwframe_status dwframe_unwind_at(const uint8_t *bytes, size_t len, const dwframe_entry *index, size_t entries, const dwframe_stop *stop,
+    const dwframe_register *registers, size_t register_count, const dwframe_window *windows, size_t window_count,
+    const uint8_t *memory, size_t memory_len, dwframe_register *out, size_t room, dwframe_frame *frame, dwframe_refusal *refusal,
+    dwframe_fault *fault) DWFRAME_NONNULL;
+
+/* The sizes that the library was built with, for compilers that can check them. */
+#if defined(__cplusplus) && __cplusplus >= 201103L
+#define DWFRAME_HAS_SIZE(type, size) static_assert(sizeof(type) == size, "libdwframe.a has another size of " #type)
+#elif !defined(__cplusplus) && defined(__STDC_VERSION__) && __STDC_VERSION__ >= 201112L
+#define DWFRAME_HAS_SIZE(type, size) _Static_assert(sizeof(type) == size, "libdwframe.a has another size of " #type)
+#endif
+#ifdef DWFRAME_HAS_SIZE
+DWFRAME_HAS_SIZE(dwframe_refusal, 16);
+DWFRAME_HAS_SIZE(dwframe_counts, 16);
+DWFRAME_HAS_SIZE(dwframe_entry, 24);
+DWFRAME_HAS_SIZE(dwframe_rule, 16);
+DWFRAME_HAS_SIZE(dwframe_row, 40);
+DWFRAME_HAS_SIZE(dwframe_block, 24);
+DWFRAME_HAS_SIZE(dwframe_blocks, 16);
+DWFRAME_HAS_SIZE(dwframe_stop, 24);
+DWFRAME_HAS_SIZE(dwframe_register, 16);
+DWFRAME_HAS_SIZE(dwframe_window, 24);
+DWFRAME_HAS_SIZE(dwframe_frame, 24);
+DWFRAME_HAS_SIZE(dwframe_fault, 40);
+#undef DWFRAME_HAS_SIZE
+#endif
 
 #ifdef __cplusplus
 }

@@ -129,6 +129,20 @@ impl fmt::Display for Column {
     }
 }
 
+/// What a machine has to hold, so that the column has a value.
+#[derive(Clone, Copy, Debug, PartialEq, Eq)]
+pub enum Wanted {
+    /// Memory: `len` bytes from `address` on. No window helps where these pass the end of the address space.
+    Memory {
+        /// The first address.
+        address: u64,
+        /// How many bytes.
+        len: u64,
+    },
+    /// A register by its number.
+    Register(u16),
+}
+
 /// Why a column has no value.
 #[derive(Clone, Copy, Debug, PartialEq, Eq)]
 pub enum Fault {
@@ -140,25 +154,44 @@ pub enum Fault {
         index: u64,
         /// The column.
         column: Column,
+        /// What was wanted first, where a byte or a register is missing.
+        wanted: Option<Wanted>,
     },
     /// It is saved in memory that no window has, or that passes the end of the address space.
     Unreadable {
         /// The column.
         column: Column,
+        /// The first address of the read.
+        address: u64,
+        /// How many bytes it asked for.
+        len: u64,
     },
     /// A register that is asked for is not given.
     NoRegister {
         /// The column.
         column: Column,
+        /// The register's number.
+        register: u16,
     },
+}
+
+impl Fault {
+    /// What was wanted first, where a byte or a register is missing. Where it is given, it is not wanted again.
+    pub fn wanted(&self) -> Option<Wanted> {
+        match *self {
+            Fault::NoValue { wanted, .. } => wanted,
+            Fault::Unreadable { address, len, .. } => Some(Wanted::Memory { address, len }),
+            Fault::NoRegister { register, .. } => Some(Wanted::Register(register)),
+        }
+    }
 }
 
 impl fmt::Display for Fault {
     fn fmt(&self, f: &mut fmt::Formatter<'_>) -> fmt::Result {
         match self {
-            Fault::NoValue { kind, index, column } => write!(f, "{kind} at {index} in {column}"),
-            Fault::Unreadable { column } => write!(f, "Unreadable in {column}"),
-            Fault::NoRegister { column } => write!(f, "NoRegister in {column}"),
+            Fault::NoValue { kind, index, column, .. } => write!(f, "{kind} at {index} in {column}"),
+            Fault::Unreadable { column, .. } => write!(f, "Unreadable in {column}"),
+            Fault::NoRegister { column, .. } => write!(f, "NoRegister in {column}"),
         }
     }
 }
@@ -249,11 +282,19 @@ pub(crate) fn fault_of(status: u32, fault: RawFault) -> Option<Failure> {
     let column = column_of(fault.column);
     Some(match status {
         DWFRAME_NO_VALUE => match kind_of(fault.kind) {
-            Some(kind) => Failure::Fault(Fault::NoValue { kind, index: fault.index, column }),
+            Some(kind) => {
+                let RawFault { index, address, len, wanted, .. } = fault;
+                let wanted = match kind {
+                    Kind::Unreadable => Some(Wanted::Memory { address, len }),
+                    Kind::NoRegister => Some(Wanted::Register(wanted as u16)),
+                    _ => None,
+                };
+                Failure::Fault(Fault::NoValue { kind, index, column, wanted })
+            }
             None => Failure::Unknown { status },
         },
-        DWFRAME_UNREADABLE => Failure::Fault(Fault::Unreadable { column }),
-        DWFRAME_NO_REGISTER => Failure::Fault(Fault::NoRegister { column }),
+        DWFRAME_UNREADABLE => Failure::Fault(Fault::Unreadable { column, address: fault.address, len: fault.len }),
+        DWFRAME_NO_REGISTER => Failure::Fault(Fault::NoRegister { column, register: fault.wanted as u16 }),
         _ => return None,
     })
 }
@@ -275,7 +316,7 @@ fn kind_of(kind: u32) -> Option<Kind> {
     })
 }
 
-// A register's number, or DWFRAME_CFA.
+// A register's number, or DWFRAME_COLUMN_CFA.
 pub(crate) fn column_of(number: u32) -> Column {
     match u16::try_from(number) {
         Ok(register) => Column::Register(register),

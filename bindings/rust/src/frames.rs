@@ -2,7 +2,7 @@
 
 use crate::failure::{Failure, answer, fault_of};
 use crate::raw::*;
-use crate::Section;
+use crate::{Index, Section, Target};
 
 /// What a register is taken as that no instruction has set: the ABI decides.
 #[derive(Clone, Copy, Debug, PartialEq, Eq)]
@@ -56,7 +56,7 @@ pub struct Window {
 pub struct Machine<'a> {
     /// The address that is looked up. Of a caller's frame it is the return address minus one, which is in the call.
     pub pc: u64,
-    /// Its registers. Of those with one number the first that is known counts.
+    /// Its registers. If a register is given twice, its first known value is used.
     pub registers: &'a [Register],
     /// What its memory holds: a byte is that of the first window that covers its address.
     pub windows: &'a [Window],
@@ -83,6 +83,32 @@ impl Frame<'_> {
     }
 }
 
+// What a call of the library needs to know of a machine and of a target.
+fn stop_of(machine: &Machine<'_>, target: Target, unset: Unset, steps: u64) -> RawStop {
+    let (address_size, byte_order) = target.numbers();
+    let unset = match unset {
+        Unset::Unchanged => DWFRAME_UNCHANGED,
+        Unset::Undefined => DWFRAME_UNDEFINED,
+    };
+    RawStop { pc: machine.pc, steps, address_size, byte_order, unset }
+}
+
+// The frame, or why there is none.
+fn frame_of<'o>(
+    status: u32,
+    frame: RawFrame,
+    refusal: RawRefusal,
+    fault: RawFault,
+    out: &'o [Register],
+) -> Result<Frame<'o>, Failure> {
+    let RawFrame { cfa, count, return_register } = frame;
+    if let Some(fault) = fault_of(status, fault) {
+        return Err(fault);
+    }
+    answer(status, refusal, count)?;
+    Ok(Frame { cfa, return_register: return_register as u16, registers: &out[..count] })
+}
+
 impl Section<'_> {
     /// The caller's frame of a machine that stopped, by the section's rules for its pc. Each expression may take `steps` steps.
     /// The registers are written to `out`, which stays where they do not fit (`TooShort`), where no FDE covers the pc (`NoFde`), or
@@ -94,12 +120,7 @@ impl Section<'_> {
         steps: u64,
         out: &'o mut [Register],
     ) -> Result<Frame<'o>, Failure> {
-        let (address_size, byte_order) = self.target.numbers();
-        let unset = match unset {
-            Unset::Unchanged => DWFRAME_UNCHANGED,
-            Unset::Undefined => DWFRAME_UNDEFINED,
-        };
-        let stop = RawStop { pc: machine.pc, steps, address_size, byte_order, unset };
+        let stop = stop_of(machine, self.target, unset, steps);
         let (registers, windows, memory) = (machine.registers, machine.windows, machine.memory);
         let (mut frame, mut refusal, mut fault) = Default::default();
         // SAFETY: all slices and structs are lent for the call, and those that are written are ours alone.
@@ -121,11 +142,44 @@ impl Section<'_> {
                 &mut fault,
             )
         };
-        let RawFrame { cfa, count, return_register } = frame;
-        if let Some(fault) = fault_of(status, fault) {
-            return Err(fault);
-        }
-        answer(status, refusal, count)?;
-        Ok(Frame { cfa, return_register: return_register as u16, registers: &out[..count] })
+        frame_of(status, frame, refusal, fault, out)
+    }
+}
+
+impl Index<'_, '_> {
+    /// The caller's frame as `Section::unwind` answers it, at the cost of a look-up: the section is not judged again. It fails also as
+    /// `row_at` does. `Fault::wanted` says which memory or register was wanted first, so it can be fetched and the call made again.
+    pub fn unwind_at<'o>(
+        &self,
+        machine: &Machine<'_>,
+        unset: Unset,
+        steps: u64,
+        out: &'o mut [Register],
+    ) -> Result<Frame<'o>, Failure> {
+        let stop = stop_of(machine, self.target, unset, steps);
+        let (registers, windows, memory) = (machine.registers, machine.windows, machine.memory);
+        let (mut frame, mut refusal, mut fault) = Default::default();
+        // SAFETY: all slices and structs are lent for the call, and those that are written are ours alone.
+        let status = unsafe {
+            dwframe_unwind_at(
+                self.bytes.as_ptr(),
+                self.bytes.len(),
+                self.entries.as_ptr(),
+                self.entries.len(),
+                &stop,
+                registers.as_ptr(),
+                registers.len(),
+                windows.as_ptr(),
+                windows.len(),
+                memory.as_ptr(),
+                memory.len(),
+                out.as_mut_ptr(),
+                out.len(),
+                &mut frame,
+                &mut refusal,
+                &mut fault,
+            )
+        };
+        frame_of(status, frame, refusal, fault, out)
     }
 }

@@ -14,7 +14,7 @@ mod frames;
 mod raw;
 mod rows;
 
-pub use failure::{Column, Failure, Fault, Kind, Name, Refusal, Which};
+pub use failure::{Column, Failure, Fault, Kind, Name, Refusal, Wanted, Which};
 pub use frames::{Frame, Machine, Register, Unset, Window};
 pub use rows::{AddressRow, Block, CfaRule, Entry, Expressions, Index, RegisterRule, Row, Rows, Rule};
 
@@ -124,9 +124,9 @@ impl<'a> Section<'a> {
     }
 }
 
-/// Whether two sections for one machine say the same: the same FDEs with the same return registers, and the same rules at each
-/// address that they cover. `Refused` says which section is refused, the first one's fault before the second's; so is one whose
-/// normal form is above 2147483647 bytes.
+/// Whether two sections for one machine say the same: the same FDEs with the same return address registers, and the same rules at
+/// each address that they cover. `Refused` says which section is refused, the first one's fault before the second's. A section
+/// whose normal form is above 2147483647 bytes is refused too.
 pub fn same(first: &[u8], second: &[u8], target: Target) -> Result<bool, Failure> {
     let (size, order) = target.numbers();
     let mut alike = 0;

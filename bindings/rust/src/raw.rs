@@ -117,6 +117,9 @@ pub(crate) struct RawFault {
     pub(crate) column: u32,
     pub(crate) kind: u32,
     pub(crate) index: u64,
+    pub(crate) address: u64,
+    pub(crate) len: u64,
+    pub(crate) wanted: u32,
 }
 
 unsafe extern "C" {
@@ -152,6 +155,24 @@ unsafe extern "C" {
     pub(crate) fn dwframe_unwind(
         bytes: *const u8,
         len: usize,
+        stop: *const RawStop,
+        registers: *const Register,
+        register_count: usize,
+        windows: *const Window,
+        window_count: usize,
+        memory: *const u8,
+        memory_len: usize,
+        out: *mut Register,
+        room: usize,
+        frame: *mut RawFrame,
+        refusal: *mut RawRefusal,
+        fault: *mut RawFault,
+    ) -> u32;
+    pub(crate) fn dwframe_unwind_at(
+        bytes: *const u8,
+        len: usize,
+        index: *const Entry,
+        entries: usize,
         stop: *const RawStop,
         registers: *const Register,
         register_count: usize,

@@ -191,9 +191,9 @@ fn row_of<'o>(row: &RawRow, registers: &'o [RegisterRule]) -> Row<'o> {
 /// Bytes with an index, for look-ups. The bytes are not judged as a whole.
 #[derive(Clone, Copy, Debug, PartialEq, Eq)]
 pub struct Index<'i, 'a> {
-    bytes: &'a [u8],
-    target: Target,
-    entries: &'i [Entry],
+    pub(crate) bytes: &'a [u8],
+    pub(crate) target: Target,
+    pub(crate) entries: &'i [Entry],
 }
 
 impl<'i, 'a> Index<'i, 'a> {

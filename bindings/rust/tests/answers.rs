@@ -2,7 +2,7 @@
 
 use dwframe::{
     AddressRow, CfaRule, Column, Entry, Failure, Fault, Index, Machine, Order, Refusal, Register, RegisterRule, Section, Size, Target,
-    Unset, Which, Window,
+    Unset, Wanted, Which, Window,
 };
 use std::error::Error;
 
@@ -90,11 +90,41 @@ fn takes_an_unset_register_as_it_is_told() {
 #[test]
 fn says_why_there_is_no_answer() {
     let unwound = |stopped: &Machine<'_>| plain().unwind(stopped, Unset::Unchanged, 0, &mut [Register::default(); 8]).err();
-    let no_register = Fault::NoRegister { column: Column::Cfa };
+    let no_register = Fault::NoRegister { column: Column::Cfa, register: 6 };
     assert_eq!(unwound(&machine(&[])), Some(Failure::Fault(no_register)));
-    let unreadable = Fault::Unreadable { column: Column::Register(6) };
+    let unreadable = Fault::Unreadable { column: Column::Register(6), address: 0x7ffe00, len: 8 };
     assert_eq!(unwound(&Machine { windows: &[], ..machine(REGISTERS) }), Some(Failure::Fault(unreadable)));
     assert_eq!(unwound(&Machine { pc: 0, ..machine(REGISTERS) }), Some(Failure::NoFde));
     let misled = [Entry { begin: 0x401000, range: 0x10, at: 0, return_register: 16 }];
     assert_eq!(Index::new(PLAIN, TARGET, &misled).row_at(STOP, &mut []).err(), Some(Failure::BadIndex));
+}
+
+#[test]
+fn tells_what_is_wanted_until_there_is_a_frame() {
+    let section = plain();
+    let mut entries = [Entry::default(); 1];
+    let index = section.index(&mut entries).expect("one entry");
+    let (mut windows, mut reads) = (Vec::new(), Vec::new());
+    loop {
+        let mut out = [Register::default(); 8];
+        let stopped = Machine { windows: &windows, ..machine(REGISTERS) };
+        let fault = match index.unwind_at(&stopped, Unset::Unchanged, 0, &mut out) {
+            Err(Failure::Fault(fault)) => fault,
+            frame => {
+                assert_eq!(frame, section.unwind(&machine(REGISTERS), Unset::Unchanged, 0, &mut [Register::default(); 8]));
+                break;
+            }
+        };
+        let Some(Wanted::Memory { address, len }) = fault.wanted() else {
+            panic!("{fault} wants no memory");
+        };
+        reads.push((address, len));
+        windows.push(Window { address, place: address - WINDOWS[0].address, len });
+    }
+    assert_eq!(reads, [(0x7ffe00, 8), (0x7ffe08, 8)]);
+    let failure = index.unwind_at(&machine(&[]), Unset::Unchanged, 0, &mut []).err();
+    let Some(Failure::Fault(fault)) = failure else {
+        panic!("{failure:?} is no fault");
+    };
+    assert_eq!(fault.wanted(), Some(Wanted::Register(6)));
 }

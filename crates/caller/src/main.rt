@@ -5,6 +5,10 @@
 //! The machine has 64-bit addresses, the least significant byte first. `docs/CALLING.md` goes through this file.
 #![tactic(auto)]
 
+mod promised;
+#[cfg(test)]
+mod tests;
+
 ghost use Rattle.std.specs.Prelude.{List, IfOk, MatchOption};
 ghost use Rattle.dw_section.specs.Accepted.{Accepted};
 ghost use Rattle.dw_section.specs.Meaning.{AreFdes, NoneCovers, RulesAt};

@@ -6,11 +6,15 @@
 #[cfg(test)]
 mod changes;
 #[cfg(test)]
+mod copied_rows;
+#[cfg(test)]
 mod instructions;
 #[cfg(test)]
 mod lines;
 #[cfg(test)]
 mod programs;
+#[cfg(test)]
+mod register_sets;
 #[cfg(test)]
 mod sections;
 #[cfg(test)]

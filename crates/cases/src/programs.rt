@@ -9,13 +9,13 @@ ghost use Rattle.dw_cfa.specs.declared.execution.LocatedRow.{LocatedRow as TheRo
 use crate::lines::{compare, number, parts, sides};
 use crate::targets::{BIG, LITTLE, PLAIN, SHORT};
 use crate::texts::{located_text, refusal_text, row_text};
-use dw_cfa::{CieMachine, Factors, LocatedRow, Row, RowRoom, RowSteps, RowWalk, initial_row, run};
+use dw_cfa::{CieMachine, Factors, LocatedRow, RowRoom, RowSteps, RowWalk, run};
 use dw_num::{Program, ReadError, Target};
 use std::alloc::Global;
 use std::test::Fail;
 
-// The initial instructions of the plain CIE: CFA r7 plus 8, r16 at CFA minus 8.
-const CIE: &[u8] = b"\x0c\x07\x08\x90\x01\0\0\0\0";
+/// The initial instructions of the plain CIE: CFA r7 plus 8, r16 at CFA minus 8.
+pub const CIE: &[u8] = b"\x0c\x07\x08\x90\x01\0\0\0\0";
 
 /// The program of a CIE, behind fields of one byte, and that of an FDE behind the plain CIE, from `begin` on.
 #[derive(Clone, Copy)]
@@ -73,15 +73,6 @@ fn rows_text(alloc: Global, rows: &[LocatedRow<'_>]) -> Result<String, Fail> {
     Ok(text)
 }
 
-// All rows, or the refusal alone.
-fn at_once(alloc: Global, pair: Pair<'_>) -> Result<String, Fail> {
-    let Pair { cie, fde, .. } = pair;
-    match run(alloc, cie, fde, pair.begin, pair.factors, pair.target) {
-        Ok(rows) => rows_text(alloc, rows.as_slice()),
-        Err(error) => error_text(alloc, error),
-    }
-}
-
 fn steps_of<'a>(alloc: Global, pair: Pair<'a>) -> RowSteps<'a> {
     let Pair { cie, fde, .. } = pair;
     RowSteps::new(alloc, cie, fde, pair.begin, pair.factors, pair.target)
@@ -114,51 +105,57 @@ fn one_by_one(alloc: Global, pair: Pair<'_>) -> Result<String, Fail> {
     Err(Fail::new("no last row"))
 }
 
-// The same of the FDE that a machine has begun.
-fn put_begun(alloc: Global, text: &mut String, machine: &mut CieMachine<'_>) -> Result<bool, Fail> {
-    match machine.advance() {
-        Ok(Some(at)) => {
-            text.push_str(&located_text(alloc, at, machine.row())?)?;
-            Ok(true)
-        }
-        Ok(None) => Ok(false),
-        Err(error) => {
-            text.push_str(&error_text(alloc, error)?)?;
-            Ok(false)
-        }
-    }
+// The same of rows that a walk lends.
+fn put_lent(alloc: Global, text: &mut String, walk: &mut RowWalk<'_>) -> Result<bool, Fail> {
+    let Some(at) = walk.advance()? else {
+        return Ok(false);
+    };
+    text.push_str(&located_text(alloc, at, walk.row())?)?;
+    Ok(true)
 }
 
-/// The rows of the FDE that a machine has begun, and the refusal behind them.
-pub fn begun(alloc: Global, machine: &mut CieMachine<'_>) -> Result<String, Fail> {
+/// The rows that a walk has still to come.
+pub fn lent_rows(alloc: Global, walk: &mut RowWalk<'_>) -> Result<String, Fail> {
     let mut text = String::new(alloc);
     for _ in 0..100 {
-        if !put_begun(alloc, &mut text, machine)? {
+        if !put_lent(alloc, &mut text, walk)? {
             return Ok(text);
         }
     }
     Err(Fail::new("no last row"))
 }
 
-fn behind_initial(alloc: Global, pair: Pair<'_>) -> Result<String, Fail> {
-    match CieMachine::new(alloc, pair.cie, pair.factors, pair.target) {
-        Ok(mut machine) => {
-            machine.begin(pair.fde, pair.begin)?;
-            begun(alloc, &mut machine)
+/// Goes to the rows of two programs, which `run` says that they give.
+pub fn go_to<'a>(alloc: Global, walk: &mut RowWalk<'a>, pair: Pair<'a>) -> Result<(), Fail> {
+    let Pair { cie, fde, .. } = pair;
+    let _rows = run(alloc, cie, fde, pair.begin, pair.factors, pair.target)?;
+    walk.go_to(cie, fde, pair.begin, pair.factors, pair.target);
+    Ok(())
+}
+
+fn one_by_one_lent(alloc: Global, pair: Pair<'_>) -> Result<String, Fail> {
+    let mut walk = RowWalk::new(alloc, pair.target);
+    go_to(alloc, &mut walk, pair)?;
+    lent_rows(alloc, &mut walk)
+}
+
+// Whether `run` and a walk give these rows; or where a refusal is behind them, whether `run` answers that alone.
+fn agrees_at_once(alloc: Global, pair: Pair<'_>, text: &str) -> Result<bool, Fail> {
+    let Pair { cie, fde, .. } = pair;
+    match run(alloc, cie, fde, pair.begin, pair.factors, pair.target) {
+        Ok(rows) => {
+            let lent = one_by_one_lent(alloc, pair)?;
+            Ok(rows_text(alloc, rows.as_slice())?.as_str() == text && lent.as_str() == text)
         }
-        Err(error) => error_text(alloc, error),
+        Err(error) => Ok(text.ends_with(error_text(alloc, error)?.as_str())),
     }
 }
 
 /// The rows and the refusal behind them, on which all three ways agree.
 pub fn shown(alloc: Global, pair: Pair<'_>) -> Result<String, Fail> {
     let text = one_by_one(alloc, pair)?;
-    let once = at_once(alloc, pair)?;
-    if !text.ends_with(once.as_str()) {
-        return Err(Fail::new("run differs"));
-    }
-    if text != behind_initial(alloc, pair)? {
-        return Err(Fail::new("rows that are lent differ"));
+    if !agrees_at_once(alloc, pair, &text)? {
+        return Err(Fail::new("rows differ"));
     }
     Ok(text)
 }
@@ -346,43 +343,35 @@ const ENDS: [&str; 3] = [
 ];
 
 // The next row, and where it ends.
-fn ended(alloc: Global, steps: &mut RowSteps<'_>) -> Result<String, Fail> {
-    let _ = steps.advance()?.ok_or("a row")?;
-    let row = row_text(alloc, steps.row())?;
-    Ok(format!(in alloc; "{row} to {:?}", steps.next_start())?)
+fn ended(alloc: Global, walk: &mut RowWalk<'_>) -> Result<String, Fail> {
+    let _ = walk.advance()?.ok_or("a row")?;
+    let row = row_text(alloc, walk.row())?;
+    Ok(format!(in alloc; "{row} to {:?}", walk.next_start())?)
 }
 
 // Fails where one of the rows ends elsewhere.
-fn agree_ends(alloc: Global, steps: &mut RowSteps<'_>) -> Result<(), Fail> {
+fn agree_ends(alloc: Global, walk: &mut RowWalk<'_>) -> Result<(), Fail> {
     for wanted in ENDS {
-        compare("a row", ended(alloc, steps)?.as_str(), wanted)?;
+        compare("a row", ended(alloc, walk)?.as_str(), wanted)?;
     }
     Ok(())
-}
-
-// The same of programs that are known to give rows, since they gave them once.
-fn agree_known_ends(alloc: Global, pair: Pair<'_>) -> Result<(), Fail> {
-    let Pair { cie, fde, .. } = pair;
-    let _rows = run(alloc, cie, fde, pair.begin, pair.factors, pair.target)?;
-    let mut steps = RowSteps::known(alloc, cie, fde, pair.begin, pair.factors, pair.target);
-    agree_ends(alloc, &mut steps)
 }
 
 #[test]
 fn tells_where_a_row_ends(rt: HostRuntime) -> Result<(), Fail> {
     let pair = pair_of(CIE, b"\x0a\x0e\x10\x44\x0b\x44", 0x1000, PLAIN, LITTLE)?;
-    agree_ends(rt.alloc(), &mut steps_of(rt.alloc(), pair))?;
-    agree_known_ends(rt.alloc(), pair)
+    let mut walk = RowWalk::new(rt.alloc(), LITTLE);
+    go_to(rt.alloc(), &mut walk, pair)?;
+    agree_ends(rt.alloc(), &mut walk)
 }
 
 // ---- one CIE and several FDEs
 
-const FOLLOWING: [(&[u8], &str); 4] = [
+const FOLLOWING: [(&[u8], &str); 3] = [
     (
         b"\x0e\x10\x07\x10\x0a\x44\xd0",
         "0x1000 cfa=r7+16 r16=u;0x1004 cfa=r7+16 r16=[cfa-8];",
     ),
-    (b"\x83\x02\x0b", "EmptyStateStack at 0x32"),
     (
         b"\x07\x03\x07\x10\x41",
         "0x1000 cfa=r7+8 r3=u r16=u;0x1001 cfa=r7+8 r3=u r16=u;",
@@ -390,49 +379,47 @@ const FOLLOWING: [(&[u8], &str); 4] = [
     (b"", "0x1000 cfa=r7+8 r16=[cfa-8];"),
 ];
 
-/// The machine of a CIE's program.
-pub fn machine_of(alloc: Global, cie: &[u8]) -> Result<CieMachine<'_>, Fail> {
-    Ok(CieMachine::new(alloc, program(cie, 0xf)?, PLAIN, LITTLE)?)
-}
-
-/// Begins an FDE's program.
-pub fn begin<'a>(machine: &mut CieMachine<'a>, fde: &'a [u8]) -> Result<(), Fail> {
-    machine.begin(program(fde, 0x30)?, 0x1000)?;
-    Ok(())
-}
-
-// Begins the FDEs one after another, and fails where the rows of one are others.
-fn agree_following(alloc: Global, machine: &mut CieMachine<'_>) -> Result<(), Fail> {
+// Goes to the FDEs one after another, and fails where the rows of one are others.
+fn agree_following(alloc: Global, walk: &mut RowWalk<'_>) -> Result<(), Fail> {
     for (fde, wanted) in FOLLOWING {
-        begin(machine, fde)?;
-        compare("an FDE", begun(alloc, machine)?.as_str(), wanted)?;
+        go_to(alloc, walk, pair_of(CIE, fde, 0x1000, PLAIN, LITTLE)?)?;
+        compare("an FDE", lent_rows(alloc, walk)?.as_str(), wanted)?;
     }
     Ok(())
 }
 
 #[test]
 fn starts_fdes_from_one_row(rt: HostRuntime) -> Result<(), Fail> {
-    let mut machine = machine_of(rt.alloc(), CIE)?;
-    agree_following(rt.alloc(), &mut machine)?;
-    let initial = row_text(rt.alloc(), machine.initial())?;
-    compare("the initial row", initial.as_str(), "cfa=r7+8 r16=[cfa-8]")
+    agree_following(rt.alloc(), &mut RowWalk::new(rt.alloc(), LITTLE))
 }
 
 // ---- whether rows lack a rule for the CFA
 
-// Programs of FDEs behind a CIE without rules, and whether an address from 0x1000 to 0x1010 has no rule for the CFA.
-const LACKS: [(&[u8], bool); 6] = [
-    (b"", true),
-    (b"\x0c\x07\x08", false),
-    (b"\x41\x0c\x07\x08", true),
-    (b"\x40\x0c\x07\x08", false),
-    (b"\x0a\x0c\x07\x08\x50\x0b", false),
-    (b"\x0a\x0c\x07\x08\x4f\x0b", true),
+// Programs of FDEs behind a CIE without rules, and whether an address from 0x1000 to 0x1010 has no rule for the CFA, where they
+// are not refused.
+const LACKS: [(&[u8], Option<bool>); 8] = [
+    (b"", Some(true)),
+    (b"\x0c\x07\x08", Some(false)),
+    (b"\x83\x02\x0b", None),
+    (b"\x41\x0c\x07\x08", Some(true)),
+    (b"\x40\x0c\x07\x08", Some(false)),
+    (b"\x0c\x07\x08\x0a\x0b\x0b", None),
+    (b"\x0a\x0c\x07\x08\x50\x0b", Some(false)),
+    (b"\x0a\x0c\x07\x08\x4f\x0b", Some(true)),
 ];
 
-fn lacks_rule<'a>(machine: &mut CieMachine<'a>, fde: &'a [u8]) -> Result<bool, Fail> {
+// The machine of a CIE's program.
+fn machine_of(alloc: Global, cie: &[u8]) -> Result<CieMachine<'_>, Fail> {
+    Ok(CieMachine::new(alloc, program(cie, 0xf)?, PLAIN, LITTLE)?)
+}
+
+fn lacks_rule<'a>(machine: &mut CieMachine<'a>, fde: &'a [u8]) -> Result<Option<bool>, Fail> {
     machine.begin(program(fde, 0x28)?, 0x1000)?;
-    Ok(machine.lacks_rule(0x1010)?)
+    match machine.lacks_rule(0x1010) {
+        Ok(lacks) => Ok(Some(lacks)),
+        Err(ReadError::Refused(_)) => Ok(None),
+        Err(ReadError::OutOfMemory) => Err(Fail::new("out of memory")),
+    }
 }
 
 // Runs the FDEs one after another, and fails where another answer is given.
@@ -447,7 +434,10 @@ fn agree_on_lacking(machine: &mut CieMachine<'_>) -> Result<(), Fail> {
 
 #[test]
 fn asks_rows_for_the_cfa(rt: HostRuntime) -> Result<(), Fail> {
-    agree_on_lacking(&mut machine_of(rt.alloc(), b"\0")?)
+    let mut machine = machine_of(rt.alloc(), b"\0")?;
+    agree_on_lacking(&mut machine)?;
+    let initial = row_text(rt.alloc(), machine.initial())?;
+    compare("the initial row", initial.as_str(), "cfa=unset")
 }
 
 // ---- room that is kept
@@ -476,11 +466,31 @@ fn walked<'a>(alloc: Global, pair: Pair<'a>, walk: &mut RowWalk<'a>) -> Result<S
     Ok(format!(in alloc; "{row} {}", walk.is_kept())?)
 }
 
+// Whether a walk keeps the CIE's row before its first one, that row, the row of an address, and where that ends.
+fn walked_to<'a>(
+    alloc: Global,
+    pair: Pair<'a>,
+    walk: &mut RowWalk<'a>,
+    address: u64,
+) -> Result<String, Fail>
+    requires { (rows : List TheRow) × Gives pair.factors (program_input pair.cie pair.target) (program_input pair.fde pair.target) pair.begin rows }
+{
+    walk.go_to(pair.cie, pair.fde, pair.begin, pair.factors, pair.target);
+    let is_kept = walk.keep_initial()?;
+    let initial = row_text(alloc, walk.kept())?;
+    walk.advance_to(address)?;
+    let row = row_text(alloc, walk.row())?;
+    Ok(format!(in alloc; "{is_kept} {initial}; {row} to {:?}", walk.next_start())?)
+}
+
 // The same of programs that are known to give rows, since they gave them once.
 fn walked_known(alloc: Global, pair: Pair<'_>) -> Result<String, Fail> {
     let Pair { cie, fde, .. } = pair;
     let _rows = run(alloc, cie, fde, pair.begin, pair.factors, pair.target)?;
-    walked(alloc, pair, &mut RowWalk::new(alloc, pair.target))
+    let mut walk = RowWalk::new(alloc, pair.target);
+    let first = walked(alloc, pair, &mut walk)?;
+    let second = walked_to(alloc, pair, &mut walk, 0x1005)?;
+    Ok(format!(in alloc; "{first}; {second}")?)
 }
 
 #[test]
@@ -489,83 +499,9 @@ fn keeps_room(rt: HostRuntime) -> Result<(), Fail> {
     let row = run_to(rt.alloc(), pair, 0x1003)?;
     compare("a row", row.as_str(), "cfa=r7+16 r16=[cfa-8]")?;
     let text = walked_known(rt.alloc(), pair)?;
-    compare("a walk", text.as_str(), "cfa=r7+16 r16=[cfa-8] true")
-}
-
-// ---- rows that are copied and compared
-
-// The row that a CIE's program leaves.
-fn row_of(alloc: Global, cie: &[u8]) -> Result<Row<'_>, Fail> {
-    Ok(initial_row(alloc, program(cie, 0xf)?, PLAIN, LITTLE)?)
-}
-
-// Whether a copy of a row, in room that is there, is that row.
-fn is_copied(alloc: Global, row: &Row<'_>) -> Result<bool, Fail> {
-    let mut copy = Row::blank(alloc);
-    copy.become_copy(row)?;
-    Ok(copy == *row)
-}
-
-// The same of a clone.
-fn is_cloned(row: &Row<'_>) -> Result<bool, Fail> {
-    Ok(row.clone()? == *row)
-}
-
-// Whether a program of a CIE leaves a row.
-fn leaves(alloc: Global, cie: &[u8], row: &Row<'_>) -> Result<bool, Fail> {
-    Ok(row.is_same(&row_of(alloc, cie)?))
-}
-
-/// Whether two programs of CIEs leave one row. A copy of the first row is that row.
-pub fn are_alike(alloc: Global, one: &[u8], other: &[u8]) -> Result<bool, Fail> {
-    let row = row_of(alloc, one)?;
-    if !is_copied(alloc, &row)? || !is_cloned(&row)? {
-        return Err(Fail::new("a copy differs"));
-    }
-    leaves(alloc, other, &row)
-}
-
-const ALIKE: [(&[u8], &[u8], bool); 6] = [
-    (b"\x0c\x07\x08", b"\x12\x07\0\x0e\x08", true),
-    (b"\x0f\x03\x77\x08\x06", b"\x0f\x04\x92\x07\x08\x06", true),
-    (b"\x0f\x03\x77\x08\x06", b"\x0f\x03\x77\x09\x06", false),
-    (b"\x83\x01\x84\x02", b"\x84\x02\x83\x01", true),
-    (b"\x10\x03\x01\x30", b"\x16\x03\x01\x30", false),
-    (b"\x07\x03", b"", false),
-];
-
-#[test]
-fn copies_and_compares_rows(rt: HostRuntime) -> Result<(), Fail> {
-    for (one, other, wanted) in ALIKE {
-        assert!(rt;
-            are_alike(rt.alloc(), one, other)? == wanted,
-            "{one:?} {other:?}"
-        );
-    }
-    Ok(())
-}
-
-// A clone of a row that was given, and what `{:?}` shows of it.
-fn cloned(alloc: Global, pair: Pair<'_>) -> Result<String, Fail> {
-    let Pair { cie, fde, .. } = pair;
-    let rows = run(alloc, cie, fde, pair.begin, pair.factors, pair.target)?;
-    let Some(row) = rows.last() else {
-        return Err(Fail::new("no row"));
-    };
-    let copy = row.clone()?;
-    if copy != *row {
-        return Err(Fail::new("the clone differs"));
-    }
-    let text = located_text(alloc, copy.location, &copy.row)?;
-    Ok(format!(in alloc; "{text} {copy:?}")?)
-}
-
-#[test]
-fn clones_a_row_with_its_location(rt: HostRuntime) -> Result<(), Fail> {
-    let pair = pair_of(CIE, b"\x41\x0e\x10", 0x1000, PLAIN, LITTLE)?;
     compare(
-        "the clone",
-        cloned(rt.alloc(), pair)?.as_str(),
-        "0x1001 cfa=r7+16 r16=[cfa-8]; LocatedRow { location: 4097, row: Row { cfa: Register { register: 7, offset: 16 }, registers: { 16: Offset(-8), } } }",
+        "a walk",
+        text.as_str(),
+        "cfa=r7+16 r16=[cfa-8] true; true cfa=r7+8 r16=[cfa-8]; cfa=r7+8 r16=[cfa-8] to Some(4104)",
     )
 }

@@ -31,6 +31,11 @@ const THREE: &str = "14000000ffffffff040008000178100c0708900100000000\
 140000000000000000120000000000001000000000000000\
 140000000000000080100000000000001000000000000000";
 
+// The CIE, and FDEs from 0x1000 and from 16 below the top on, each of 16 addresses.
+const TOP: &str = "14000000ffffffff040008000178100c0708900100000000\
+140000000000000000100000000000001000000000000000\
+1400000000000000f0ffffffffffffff1000000000000000";
+
 // An FDE that names no CIE, and then the CIE.
 const STRAY: &str = "14000000ff00000000100000000000001000000000000000\
 14000000ffffffff040008000178100c0708900100000000";
@@ -78,6 +83,7 @@ fn digits_of(name: &str) -> &str {
         "nops" => NOPS,
         "blank" => BLANK,
         "three" => THREE,
+        "top" => TOP,
         "stray" => STRAY,
         "scrambled" => SCRAMBLED,
         "wide" => WIDE,
@@ -254,12 +260,14 @@ ffffffff0000000000000000: Truncated at 0xc
 14000000ffff: EntryPastEnd at 0x0
 0200000000: EntryPastEnd at 0x0";
 
-// Places and numbers of CIEs (factors, return register) and of FDEs (CIE, begin, range), and where their programs start.
+// Places and numbers of CIEs (factors, return address register) and of FDEs (CIE, begin, range), and where their programs
+// start.
 const HEADERS: &str = "\
 plain: 0x0 Dwarf32 1 -8 r16 0xf;0x18 Dwarf32 0x0 0x401000 0x10 0x30;
 large: 0x0 Dwarf32 4 -4 r65 0xf;0x14 Dwarf32 0x0 0x10000400 0x40 0x24;
 scrambled: 0x0 Dwarf32 0x2c 0x401000 0x10 0x18;0x2c Dwarf64 1 -8 r16 0x47;
 wide: 0x0 Dwarf32 1 -8 r16 0xf;0x18 Dwarf64 0x0 0x1000 0x10 0x3c;
+cie 8=01: 0x0 Dwarf32 8 0 r1 0xd;
 cie 8=01000178810c: 0x0 Dwarf32 1 -8 r129 0xd;
 cie 8=030001788101: 0x0 Dwarf32 1 -8 r129 0xe;
 cie c=8180007810: 0x0 Dwarf32 1 -8 r16 0x11;";
@@ -267,6 +275,7 @@ cie c=8180007810: 0x0 Dwarf32 1 -8 r16 0x11;";
 // What sections are answered by their fields and as a whole.
 const FIELDS: &str = "\
 plain: ok
+cie 8=02: BadVersion at 0x8
 cie 8=027a: BadVersion at 0x8
 cie 8=05: BadVersion at 0x8
 cie 9=7a: Augmentation at 0x9
@@ -277,6 +286,8 @@ cie c=8182838485868788898a8b8c: Truncated at 0xc
 cie c=80808080808080808002: NumberTooLarge at 0xc
 cie d=80808080808080808001: NumberTooLarge at 0xd
 cie e=808004: RegisterTooLarge at 0xe
+16000000ffffffff0400080001788080040c0708900100000000: RegisterTooLarge at 0xe
+14000000ffffffff040008000178100c0708900100000000080000000000000000100000: Truncated at 0x20
 cie 8=03000178808004: RegisterTooLarge at 0xc
 nops 1c=04: NoSuchCie at 0x1c
 nops 1c=18: NoSuchCie at 0x1c
@@ -292,6 +303,7 @@ wide 28=01: NoSuchCie at 0x24";
 const FIRST_FIELDS: &str = "\
 stray 20=02: BadVersion at 0x20
 stray: NoSuchCie at 0x4
+stray 20=01: NoSuchCie at 0x4
 stray 18=15: EntryPastEnd at 0x18
 08000000ffffffff01000178: Truncated at 0xc
 stray 27=41: NoSuchCie at 0x4

@@ -46,6 +46,15 @@ ffffffffffffffef: none
 fffffffffffffff0: 2 cfa=r7+8 r16=[cfa-8]
 ffffffffffffffff: 2 cfa=r7+8 r16=[cfa-8]";
 
+const TOP: &str = "\
+fff: none
+1000: 0 cfa=r7+8 r16=[cfa-8]
+100f: 0 cfa=r7+8 r16=[cfa-8]
+1010: none
+ffffffffffffffef: none
+fffffffffffffff0: 1 cfa=r7+8 r16=[cfa-8]
+ffffffffffffffff: 1 cfa=r7+8 r16=[cfa-8]";
+
 const PLAIN: &str = "\
 400fff: none
 401000: 0 cfa=r7+8 r16=[cfa-8]
@@ -58,6 +67,7 @@ const PLAIN: &str = "\
 #[test]
 fn finds_addresses(rt: HostRuntime) -> Result<(), Fail> {
     agree_all(rt.alloc(), "three 28=8000 38=f0ffffffffffffff", THREE)?;
+    agree_all(rt.alloc(), "top", TOP)?;
     agree_all(rt.alloc(), "plain", PLAIN)
 }
 

@@ -1,9 +1,11 @@
 //! Rows of many registers, which lie in a tree.
 
+use crate::copied_rows::are_alike;
 use crate::lines::compare;
-use crate::programs::{are_alike, begin, machine_of};
+use crate::programs::{Pair, go_to, pair_of};
+use crate::targets::{LITTLE, PLAIN};
 use crate::texts::register_text;
-use dw_cfa::{CieMachine, Row};
+use dw_cfa::{Row, RowWalk};
 use std::alloc::Global;
 use std::test::Fail;
 
@@ -30,9 +32,9 @@ fn summary(alloc: Global, row: &Row<'_>) -> Result<String, Fail> {
 }
 
 // What is said of the next row.
-fn next_summary(alloc: Global, machine: &mut CieMachine<'_>) -> Result<String, Fail> {
-    match machine.advance()? {
-        Some(_) => summary(alloc, machine.row()),
+fn next_summary(alloc: Global, walk: &mut RowWalk<'_>) -> Result<String, Fail> {
+    match walk.advance()? {
+        Some(_) => summary(alloc, walk.row()),
         None => Ok(String::from_str(alloc, "end")?),
     }
 }
@@ -47,11 +49,11 @@ const SUMMARIES: [&str; 4] = [
     "end",
 ];
 
-// Begins the FDE, and fails where one of its rows is another.
-fn agree_summaries(alloc: Global, machine: &mut CieMachine<'_>) -> Result<(), Fail> {
-    begin(machine, FDE)?;
+// Goes to the FDE, and fails where one of its rows is another.
+fn agree_summaries<'a>(alloc: Global, walk: &mut RowWalk<'a>, pair: Pair<'a>) -> Result<(), Fail> {
+    go_to(alloc, walk, pair)?;
     for wanted in SUMMARIES {
-        compare("a row", next_summary(alloc, machine)?.as_str(), wanted)?;
+        compare("a row", next_summary(alloc, walk)?.as_str(), wanted)?;
     }
     Ok(())
 }
@@ -59,9 +61,10 @@ fn agree_summaries(alloc: Global, machine: &mut CieMachine<'_>) -> Result<(), Fa
 #[test]
 fn keeps_many_registers(rt: HostRuntime) -> Result<(), Fail> {
     let cie = many(rt.alloc(), 70)?;
-    let mut machine = machine_of(rt.alloc(), &cie)?;
-    agree_summaries(rt.alloc(), &mut machine)?;
-    agree_summaries(rt.alloc(), &mut machine)
+    let pair = pair_of(&cie, FDE, 0x1000, PLAIN, LITTLE)?;
+    let mut walk = RowWalk::new(rt.alloc(), LITTLE);
+    agree_summaries(rt.alloc(), &mut walk, pair)?;
+    agree_summaries(rt.alloc(), &mut walk, pair)
 }
 
 #[test]

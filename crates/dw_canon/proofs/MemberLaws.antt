@@ -1,7 +1,7 @@
 -- What holds of a member's program and of its CIE's, as instructions: they keep what programs have to, start as many rows as there
 -- are changes, and change at the member's addresses to its rows.
 use Rattle.dw_canon.proofs.Words.{◌≡◌, ℕ, zero, suc, ◌+◌, ◌<◌, ◌≤◌, Bool, true, false, cond, List, [], ◌∷◌, ◌++◌, length, map, replicate, Option, Some, None, refl, sym, ap, ◌∙◌, subst, inl, inr, arith, count_by, IsTrue, nat_le, cases_Bool}
-use Rattle.dw_canon.proofs.Words.{AllByRecursion, length-map, append-nil, Target, address_limit, Instr, Nop, CfaRule, RegRule, LocatedRow, cfa_after, rule_after, Program, CieKept, FdeKept, in_cie, initial_cfa, initial_rule, HoldsAfter}
+use Rattle.dw_canon.proofs.Words.{AllByRecursion, length-map, append-nil, Target, address_limit, Instr, Nop, CfaRule, RegRule, LocatedRow, cfa_after, rule_after, ProgramSpells, CieKept, FdeKept, in_cie, initial_cfa, initial_rule, HoldsAfter}
 use Rattle.dw_canon.proofs.Words.{onto, moves_location, row_starts, State, begun, after, Rules, AreSpecified, rule, blank, Placed, counts_exists, one_count, instrs_of, Gives, rows_at, never_falls, AreChanges, HasCfa, fde_instrs, cie_instrs}
 use Rattle.dw_canon.proofs.Words.{RowFits, ChangesStand, MemberStands, InstrFits, Member, changes_of, program_bytes, factors}
 use Rattle.std.proofs.lemmas.List.Sums.{sum_by-cons}
@@ -120,7 +120,7 @@ module _ (t : Target) (initial : Rules) (fits : RowFits t initial) (m : Member) 
   pub nonempty : m.begin < m.end
   nonempty = below_end t initial m.end m.begin m.first m.later stands.later
 
-  pub member_spelled : Program t factors member_instrs (program_bytes t member_instrs)
+  pub member_spelled : ProgramSpells t factors member_instrs (program_bytes t member_instrs)
   member_spelled = program_spelled t member_instrs (all_more (InstrFits t) (fde_instrs initial m) (replicate n Nop) (member_fits t initial m fits stands) (nops_fit t n))
 
   pub member_kept : FdeKept (address_limit t.size) m.begin initial.cfa member_instrs
@@ -173,7 +173,7 @@ module _ (t : Target) (initial : Rules) (fits : RowFits t initial) (n : ℕ) whe
   cie_follows : Follows blank 0 (onto [] initial_instrs (length initial_instrs)) (on initial 0)
   cie_follows = quiet_follows blank 0 (address_limit t.size) initial_instrs [] (on blank 0) (on initial 0) (begun_follows blank 0 tt) cie_quiet
 
-  pub cie_spelled : Program t factors initial_instrs (program_bytes t initial_instrs)
+  pub cie_spelled : ProgramSpells t factors initial_instrs (program_bytes t initial_instrs)
   cie_spelled = program_spelled t initial_instrs (all_more (InstrFits t) (cie_instrs initial) (replicate n Nop) (cie_fits t initial fits) (nops_fit t n))
 
   -- it leaves the initial row

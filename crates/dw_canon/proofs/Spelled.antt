@@ -2,7 +2,7 @@
 use Rattle.dw_canon.proofs.Words.{◌≡◌, ◌⊎◌, ℕ, zero, suc, ◌+◌, ◌*◌, ◌<◌, ◌^◌, true, false, List, [], ◌∷◌, ◌++◌, length, refl, sym, inl, inr, arith, ℤ, pos, negsuc, unsigned_abs, nat_lt, FitsSigned, IsTrue, w64, AllByRecursion, cases_Bool}
 use Rattle.dw_canon.proofs.Words.{ltb-true, lt-ltb, le-ltb, Target, Size, Four, Eight, Register, Fixed, Address, fixed_bytes, is_specified, shortest_uleb, shortest_sleb, byte_count, address_limit, shortest_uleb-spells, shortest_sleb-spells}
 use Rattle.dw_canon.proofs.Words.{least_block, Expression, Code, Both, least_block_exists, least_no_longer, block_of_least, Instr, SetLoc, Advance, DefCfa, DefCfaRegister, DefCfaOffset, DefCfaExpression, Set, Restore, RegRule, IsOffset}
-use Rattle.dw_canon.proofs.Words.{BlockSpells, InstrSpells, Program, Plain, Factored, SignedFactored, AdvanceSpells, RuleSpells, IsSpelled, in_table, HasBlock, RuleFits, InstrFits, expression_bytes, rule_bytes, instr_bytes, program_bytes}
+use Rattle.dw_canon.proofs.Words.{BlockSpells, InstrSpells, ProgramSpells, Plain, Factored, SignedFactored, AdvanceSpells, RuleSpells, IsSpelled, in_table, HasBlock, RuleFits, InstrFits, expression_bytes, rule_bytes, instr_bytes, program_bytes}
 use Rattle.dw_canon.proofs.Words.{advance_bytes, packed, factors}
 use Rattle.std.proofs.lemmas.Int.{fits_signed_from_abs}
 use Rattle.dw_op.specs.Inner.ByOperation.{Alone}
@@ -134,6 +134,6 @@ instr_spelled t (Set r rule) h = rule_spelled t r rule h.0 h.1 h.2
 instr_spelled t (Restore r) h = packed_alone t 0xc0 0x06 r h
 instr_spelled t i h = refl
 
-pub program_spelled : (t : Target) (instrs : List Instr) → AllByRecursion (InstrFits t) instrs → Program t factors instrs (program_bytes t instrs)
+pub program_spelled : (t : Target) (instrs : List Instr) → AllByRecursion (InstrFits t) instrs → ProgramSpells t factors instrs (program_bytes t instrs)
 program_spelled t [] h = refl
-program_spelled t (i ∷ instrs) h = both (InstrSpells t factors i) (Program t factors instrs) (instr_bytes t i) (program_bytes t instrs) (in_table t factors i (instr_bytes t i) (instr_spelled t i h.0)) (program_spelled t instrs h.1)
+program_spelled t (i ∷ instrs) h = both (InstrSpells t factors i) (ProgramSpells t factors instrs) (instr_bytes t i) (program_bytes t instrs) (in_table t factors i (instr_bytes t i) (instr_spelled t i h.0)) (program_spelled t instrs h.1)

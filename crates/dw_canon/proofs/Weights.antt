@@ -1,7 +1,7 @@
 -- How many bytes of the normal form the rules of instructions take, against the bytes of the instructions.
 use Rattle.dw_canon.proofs.Words.{◌≡◌, ℕ, zero, suc, ◌+◌, ◌*◌, ◌<◌, ◌≤◌, true, false, cond, List, [], ◌∷◌, length, refl, ap, ◌∙◌, inl, inr, arith, ℤ, pos, negsuc, neg_ℤ, unsigned_abs, nat_lt, count_by, is_positive, cases_Bool}
 use Rattle.dw_canon.proofs.Words.{length-append, Target, Register, shortest_uleb, shortest_sleb, shortest_uleb-most, shortest_uleb-one, shortest_uleb-ten, shortest_signed-ten, leb_some, least_block, Expression, Code, Both}
-use Rattle.dw_canon.proofs.Words.{least_block_exists, least_no_longer, Factors, Instr, SetLoc, Advance, DefCfaExpression, Set, CfaRule, RegRule, IsOffset, BlockSpells, InstrSpells, Program, AdvanceSpells, RuleSpells, IsSpelled, by_table}
+use Rattle.dw_canon.proofs.Words.{least_block_exists, least_no_longer, Factors, Instr, SetLoc, Advance, DefCfaExpression, Set, CfaRule, RegRule, IsOffset, BlockSpells, InstrSpells, ProgramSpells, AdvanceSpells, RuleSpells, IsSpelled, by_table}
 use Rattle.dw_canon.proofs.Words.{moves_location, expression_bytes, rule_bytes, packed}
 use Rattle.dw_cfa.specs.declared.rule.CfaRule.TheVariants as cfa
 use Rattle.dw_cfa.specs.declared.rule.RegRule.TheVariants as rules
@@ -115,11 +115,11 @@ module _ (t : Target) (f : Factors) where
   instr_most (Set r rule) b h = omega (arith, rule_most r rule b h)
   instr_most i b h = omega arith
 
-  pub program_most : (instrs : List Instr) (b : List ℕ) → Program t f instrs b → sum_of (rule_weight t) instrs + sum_of (cfa_weight t) instrs + 6 * count_by moves_location instrs ≤ 6 * length b
+  pub program_most : (instrs : List Instr) (b : List ℕ) → ProgramSpells t f instrs b → sum_of (rule_weight t) instrs + sum_of (cfa_weight t) instrs + 6 * count_by moves_location instrs ≤ 6 * length b
   program_most [] b h = omega arith
   program_most (i ∷ instrs) b h = omega (
     arith,
-    both_len (InstrSpells t f i) (Program t f instrs) b h,
+    both_len (InstrSpells t f i) (ProgramSpells t f instrs) b h,
     instr_most i h.front (by_table t f i h.front h.first),
     program_most instrs h.back h.second,
     count_more i instrs (moves_location i) refl,

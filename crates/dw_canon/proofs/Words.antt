@@ -12,8 +12,8 @@ pub use Rattle.dw_canon.specs.Inner.Spelling.{expression_bytes, instr_bytes, pro
 pub use Rattle.dw_canon.specs.Inner.Written.{Fits, IsOne, IsSection, Runs, SaysFdes, StandsAt, Written, cie, cie_id, cie_spelling, cies_at, contents, entry_bytes, factors, fde, fields_of, filled, head_of, heads_at, item_of, nops_of, program_of, ranges_at, section_bytes, span_of}
 pub use Rattle.dw_canon.specs.Members.{AreMembers, IsMember, Member, changes_of, fde_of}
 pub use Rattle.dw_canon.specs.Normal.{IsNormalForm}
-pub use Rattle.dw_canon.specs.Spelling.{advance_bytes, counted, packed}
-pub use Rattle.dw_canon.specs.Written.{cie_fields, fde_fields, missing, written}
+pub use Rattle.dw_canon.specs.Spelling.{advance_bytes, counted_block, packed}
+pub use Rattle.dw_canon.specs.Written.{cie_field_bytes, fde_field_bytes, missing, written}
 pub use Rattle.dw_cfa.proofs.Lent.InstrCounts.{counts_exists, one_count}
 pub use Rattle.dw_cfa.proofs.Lent.RowsAt.{Gives, instrs_of, never_falls, rows_at}
 pub use Rattle.dw_cfa.proofs.Lent.SameRows.{same_rows}
@@ -24,9 +24,9 @@ pub use Rattle.dw_cfa.specs.Inner.Machine.{State, after, begun, fde_fault, half_
 pub use Rattle.dw_cfa.specs.Inner.RowEquality.{cfa_tells, rule_tells}
 unfoldable pub use Rattle.dw_cfa.specs.Inner.Runs.{fde_rows}
 pub use Rattle.dw_cfa.specs.Inner.Runs.{Placed, fault_or, row_if}
-pub use Rattle.dw_cfa.specs.InstrSpells.{BlockSpells, InstrSpells, IsOffset, Program}
+pub use Rattle.dw_cfa.specs.InstrSpells.{BlockSpells, InstrSpells, IsOffset, ProgramSpells}
 pub use Rattle.dw_cfa.specs.Kept.{CieKept, FdeKept, in_cie, keeps_half}
-pub use Rattle.dw_cfa.specs.Laws.{HoldsAfter, initial_cfa, initial_rule}
+pub use Rattle.dw_cfa.specs.InitialRules.{HoldsAfter, initial_cfa, initial_rule}
 pub use Rattle.dw_cfa.specs.Location.{moves_location, onto, row_starts}
 pub use Rattle.dw_cfa.specs.Rows.{AreSpecified, Rules, blank, is_specified, rule, rule_in}
 pub use Rattle.dw_cfa.specs.declared.execution.LocatedRow.{LocatedRow}
@@ -57,12 +57,13 @@ pub use Rattle.dw_op.specs.OpSpells.{AnyTwo, Both, Code}
 pub use Rattle.dw_op.specs.declared.op.Op.{Op}
 pub use Rattle.dw_section.proofs.Lent.Agrees.{agree_nops, agree_sym, agree_then, cfa_agree, changes_agree, holds_agree}
 pub use Rattle.dw_section.proofs.Lent.FdeLookup.{one_fdes}
+pub use Rattle.dw_section.proofs.Lent.Fitting.{all_onto, back_keeps}
 pub use Rattle.dw_section.proofs.Lent.Heads.{all_in, fde_or, heads_bytes, heads_rise}
 pub use Rattle.dw_section.proofs.Lent.Nops.{cie_kept_nops, fde_kept_nops, initial_cfa_nops, nops, nops_spelled, program_append, row_starts_nops}
 pub use Rattle.dw_section.proofs.Lent.Rowed.{agree_changes, one_changes}
 pub use Rattle.dw_section.proofs.Lent.Sames.{AllAgree, all_agree_sym, changes_there, one_change_list, same_meaning}
 pub use Rattle.dw_section.proofs.Lent.Sections.{begin_low, cfa_programs, changes_programs, fdes_exist, fdes_zip, here, listed_programs, one_programs}
-pub use Rattle.dw_section.proofs.Lent.Sounds.{Held, all_onto, back_keeps, held_all, sound_section}
+pub use Rattle.dw_section.proofs.Lent.Sounds.{Held, held_all, sound_section}
 pub use Rattle.dw_section.proofs.Lent.Totals.{least_starts}
 pub use Rattle.dw_section.specs.Accepted.{Accepted}
 pub use Rattle.dw_section.specs.Among.{IsAmong}
@@ -72,10 +73,10 @@ pub use Rattle.dw_section.specs.Fits.{CfaFits, HasBlock, RowFits, RuleFits}
 pub use Rattle.dw_section.specs.Headers.{CieHead, FdeHead, Has, Head, Headers}
 pub use Rattle.dw_section.specs.Inner.Agree.{Agree, AgreeAt}
 pub use Rattle.dw_section.specs.Inner.Heads.{HasBytes, head_at}
-pub use Rattle.dw_section.specs.Meaning.{AreFdes, ChangesOf, HasLengths, Lists, RowStarts, RulesAt, Says, Starts, total}
+pub use Rattle.dw_section.specs.Meaning.{AreFdes, ChangesOf, FdeSays, HasLengths, Lists, RowStarts, RulesAt, Starts, total}
 pub use Rattle.dw_section.specs.Overlap.{AreApart, Ascends, IsIndex, Precedes, Range, end_of, nonempty}
 pub use Rattle.dw_section.specs.Places.{cie_places, place_if}
-pub use Rattle.dw_section.specs.Programs.{Begins, CieRuns, FdeRuns, HasCfa, HasRules, Instrs, factors_of}
+pub use Rattle.dw_section.specs.Programs.{CieRuns, FdeRuns, HasCfa, HasRules, InitialInstrs, Instrs, factors_of}
 pub use Rattle.dw_section.specs.declared.lookup.Fde.{Fde}
 pub use Rattle.std.proofs.Common.{Bool, List, None, Option, Some, [], ap, append_assoc, arith, cond, false, inl, inr, length, map, refl, replicate, subst, suc, sym, true, zero, ℕ, ◌%◌, ◌*◌, ◌++◌, ◌+◌, ◌-◌, ◌/◌, ◌<◌, ◌^◌, ◌∙◌, ◌∷◌, ◌≡◌, ◌≤◌, ◌⊎◌}
 pub use Rattle.std.proofs.Math.Nat.{mul-le-mul, suc-mul}

@@ -2,10 +2,11 @@
 use Rattle.std.specs.Prelude.{◌≡◌, ◌↔◌, ℕ, ◌<◌, ◌≤◌, List, length, map}
 use Rattle.dw_num.specs.Input.{AreBytes}
 use Rattle.dw_num.specs.declared.target.Target.{Target}
+use Rattle.dw_cfa.specs.declared.instr.Instr.{Instr}
 use Rattle.dw_cfa.specs.Location.{row_starts}
 use Rattle.dw_cfa.specs.Rows.{Rules}
 use Rattle.dw_section.specs.Accepted.{Accepted}
-use Rattle.dw_section.specs.Meaning.{ChangesOf, RowStarts, total}
+use Rattle.dw_section.specs.Meaning.{ChangesOf, Covers, FdeSays, RowStarts, RulesAt, total}
 use Rattle.dw_section.specs.declared.lookup.Fde.{Fde}
 use Rattle.dw_canon.specs.Members.{Member, changes_of}
 use Rattle.dw_canon.specs.Normal.{IsNormalForm}
@@ -19,9 +20,9 @@ NormalFormExists = (target : Target) (s : List ℕ) → AreBytes s → Accepted 
 abbrev pub NormalFormIsOne : Type 0
 NormalFormIsOne = (target : Target) (s n m : List ℕ) → AreBytes s → IsNormalForm target s n → IsNormalForm target s m → n ≡ m
 
--- a normal form of at most 2,147,483,647 bytes is accepted, and says what its source says
+-- a normal form of at most 2,147,483,647 bytes is a list of bytes that is accepted, and says what its source says
 abbrev pub MeaningIsKept : Type 0
-MeaningIsKept = (target : Target) (s n : List ℕ) → AreBytes s → IsNormalForm target s n → length n ≤ 2147483647 → Accepted target n × SameMeaning target s n
+MeaningIsKept = (target : Target) (s n : List ℕ) → AreBytes s → IsNormalForm target s n → length n ≤ 2147483647 → AreBytes n × Accepted target n × SameMeaning target s n
 
 -- and is its own normal form
 abbrev pub NormalAgain : Type 0
@@ -43,3 +44,8 @@ ExactRows = (target : Target) (s n : List ℕ) (f : Fde) (changes : List (ℕ ×
 -- and so do all of them together
 abbrev pub NormalRows : Type 0
 NormalRows = (target : Target) (s n : List ℕ) → AreBytes s → (h : IsNormalForm target s n) → length n ≤ 2147483647 → RowStarts target n (total (map (λ (m : Member). length (changes_of m)) h.members))
+
+-- no FDE of an accepted section starts fewer rows than the FDE of a normal form that covers the same addresses and has the same rules at each
+abbrev pub NoneFewer : Type 0
+NoneFewer = (target : Target) (s n t : List ℕ) (f : Fde) (changes : List (ℕ × Rules)) (initial instrs : List Instr) → AreBytes s → AreBytes t → IsNormalForm target s n → length n ≤ 2147483647 → Accepted target t → f.begin < f.end
+    → ((a : ℕ) (row : Rules) → Covers a f → RulesAt target n a row → RulesAt target t a row) → (h : ChangesOf target n f changes) → FdeSays target t f.begin f.end initial instrs → row_starts h.instrs ≤ row_starts instrs

@@ -18,8 +18,8 @@ written target fields program =
     item_bytes target.order (entry Dwarf32 (fields ++ (program ++ replicate (missing target.size (4 + (length fields + length program))) 0)))
 
 -- the id, version 4, no augmentation, the sizes, the factors, the register
-abbrev pub cie_fields : Target → ℕ → List ℕ
-cie_fields target register = fixed_bytes target.order 4 0xffffffff ++ (4 ∷ 0 ∷ byte_count target.size ∷ 0 ∷ 1 ∷ 127 ∷ shortest_uleb register)
+abbrev pub cie_field_bytes : Target → ℕ → List ℕ
+cie_field_bytes target register = fixed_bytes target.order 4 0xffffffff ++ (4 ∷ 0 ∷ byte_count target.size ∷ 0 ∷ 1 ∷ 127 ∷ shortest_uleb register)
 
-abbrev pub fde_fields : Target → ℕ → ℕ → ℕ → List ℕ
-fde_fields target cie_at begin range = fixed_bytes target.order 4 cie_at ++ (fixed_bytes target.order (byte_count target.size) begin ++ fixed_bytes target.order (byte_count target.size) range)
+abbrev pub fde_field_bytes : Target → ℕ → ℕ → ℕ → List ℕ
+fde_field_bytes target cie_at begin range = fixed_bytes target.order 4 cie_at ++ (fixed_bytes target.order (byte_count target.size) begin ++ fixed_bytes target.order (byte_count target.size) range)

@@ -2,7 +2,7 @@
 
 ghost use Rattle.dw_canon.specs.Bound.{WithinShares};
 ghost use Rattle.dw_canon.specs.Headline.{Headline};
-ghost use Rattle.dw_canon.specs.Laws.{NormalFormExists, NormalFormIsOne, MeaningIsKept, NormalAgain, SameNormalForm, FewestRows, ExactRows, NormalRows};
+ghost use Rattle.dw_canon.specs.Laws.{NormalFormExists, NormalFormIsOne, MeaningIsKept, NormalAgain, SameNormalForm, FewestRows, ExactRows, NormalRows, NoneFewer};
 ghost use Rattle.dw_canon.specs.Inner.Laws.{InitialProgram, MemberProgram, ChangesAreOne};
 ghost use Rattle.dw_canon.specs.Inner.Renders.{Readback};
 
@@ -22,6 +22,7 @@ pub fn normal_laws()
     ensures fewest { FewestRows }
     ensures exact { ExactRows }
     ensures rows { NormalRows }
+    ensures fewer { NoneFewer }
 {
     program_laws();
     meaning_kept();

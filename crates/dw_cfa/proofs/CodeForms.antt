@@ -1,10 +1,10 @@
 -- What the table says of a code is what the code knows of its opcode.
 use Rattle.dw_cfa.proofs.Words.{◌≡◌, ℕ, ◌-◌, Bool, true, false, List, [], ◌∷◌, map, Option, None, Some, refl, sym, ap, ◌∙◌, if◌then◌else◌, option_map, nat_eq, look_up, in_range, some_is, Factors, Opcode, opcode_table, opcode_of, form_of}
-use Rattle.dw_cfa.proofs.Words.{Form, form_for}
+use Rattle.dw_cfa.proofs.Words.{InstrForm, form_for}
 use Rattle.dw_cfa.specs.declared.opcode.Opcode.TheVariants as opcodes
 
 module _ (f : Factors) (code : ℕ) where
-  either : (b : Bool) (x y : Option Form) (u v : Option Opcode) → x ≡ option_map (form_of f) u → y ≡ option_map (form_of f) v → (if b then x else y) ≡ option_map (form_of f) (if b then u else v)
+  either : (b : Bool) (x y : Option InstrForm) (u v : Option Opcode) → x ≡ option_map (form_of f) u → y ≡ option_map (form_of f) v → (if b then x else y) ≡ option_map (form_of f) (if b then u else v)
   either true x y u v p q = p
   either false x y u v p q = q
 
@@ -22,12 +22,12 @@ module _ (f : Factors) (code : ℕ) where
   form_is opcode e = form_known ∙ ap (option_map (form_of f)) e
 
   -- an opcode whose operands these are
-  pub record Known (form : Form) : Type 0 where
+  pub record Known (form : InstrForm) : Type 0 where
     pub opcode : Opcode
     pub known : opcode_of code ≡ Some opcode
     pub is : form ≡ form_of f opcode
 
-  pub opcode_behind : (form : Form) → form_for f code ≡ Some form → Known form
+  pub opcode_behind : (form : InstrForm) → form_for f code ≡ Some form → Known form
   opcode_behind form e = of (opcode_of code) refl (sym form_known ∙ e)
     where
       of : (o : Option Opcode) → opcode_of code ≡ o → option_map (form_of f) o ≡ Some form → Known form

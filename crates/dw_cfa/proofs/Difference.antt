@@ -1,9 +1,9 @@
 -- The first register whose rule differs between two rows.
-use Rattle.dw_cfa.proofs.Words.{◌≡◌, ℕ, suc, ◌+◌, ◌<◌, ◌≤◌, Bool, true, false, List, [], ◌∷◌, get_or, Option, Some, None, refl, sym, ap, ◌∙◌, subst, arith, bit_or, IsTrue, ◌↔◌, bit_at, filter, nat_cmp, range_contains, Unbounded}
-use Rattle.dw_cfa.proofs.Words.{if◌then◌else◌, nat_lt, nat_tests, Entries, Unspecified, AreSpecified, rule_in, entries_of, slot_rule, EntriesSo, SameBetween, DiffersFirst, FirstDifference, place_behind, SameUnset, start_behind}
+use Rattle.dw_cfa.proofs.Words.{◌≡◌, ℕ, suc, ◌+◌, ◌<◌, ◌≤◌, Bool, true, false, List, [], ◌∷◌, Option, Some, None, refl, sym, ap, ◌∙◌, subst, arith, bit_or, bit_at, filter, nat_cmp, range_contains, Unbounded}
+use Rattle.dw_cfa.proofs.Words.{if◌then◌else◌, nat_lt, nat_tests, Entries, Unspecified, AreSpecified, rule_in, entries_of, EntriesSo, SameBetween, DiffersFirst, FirstDifference, place_behind, SameUnset, start_behind}
 use Rattle.dw_cfa.proofs.Lent.RowLists.{Entry, lower, unlisted}
 use Rattle.dw_cfa.proofs.Lent.SameRows.{first_rule, not_specified}
-use Rattle.dw_cfa.proofs.Slots.{no_slot, far_rule, neither, not_set, slot_at}
+use Rattle.dw_cfa.proofs.Slots.{behind_slots, neither, not_set}
 use Rattle.dw_cfa.proofs.Lent.Narrowed.{filter_keeps, filter_rule}
 
 -- ---- two lists, from both fronts
@@ -79,14 +79,8 @@ pub unused : (e f : Entries) → EntriesSo e → EntriesSo f → (mask : ℕ) �
 unused e f so so' mask is q lt none =
     let both = neither e.used f.used q (sym (ap (λ (n : ℕ). bit_at n q) is) ∙ none) in not_set e so q lt both.0 ∙ sym (not_set f so' q lt both.1)
 
--- whether both slots of a register hold the same rule
-pub slots_tell : (e f : Entries) → EntriesSo e → EntriesSo f → (q n : ℕ) → q < 32 → n ≡ q → (same : Bool)
-    → IsTrue same ↔ (slot_rule (get_or e.near n no_slot) (rule_in e.expressions.entries q) ≡ slot_rule (get_or f.near n no_slot) (rule_in f.expressions.entries q))
-    → IsTrue same ↔ (rule_in (entries_of e) q ≡ rule_in (entries_of f) q)
-slots_tell e f so so' q n lt at same h = rw (sym (slot_at e so q n lt at), sym (slot_at f so' q n lt at)) h
-
 -- the registers up to the next one in the mask
-pub up_to_next : (mask : ℕ) (xs ys : List Entry) (from k r : ℕ) → SameUnset mask xs ys → SameBetween from k xs ys → r ≤ 32 → ((q : ℕ) → k ≤ q → q < r → bit_at mask q ≡ 0) → SameBetween from r xs ys
+pub up_to_next : (mask : ℕ) (xs ys : List Entry) (from k r : ℕ) → SameUnset mask xs ys → SameBetween from k xs ys → r ≤ 128 → ((q : ℕ) → k ≤ q → q < r → bit_at mask q ≡ 0) → SameBetween from r xs ys
 up_to_next mask xs ys from k r unset same within none q le lt = grind (arith, same q, unset q, none q)
 
 -- ---- registers that have no slot
@@ -112,17 +106,17 @@ range_on None x = ((λ le. refl), (λ lt. absurd (omega arith)))
 range_on (Some r) x = ((λ le. grind (arith, nat_tests)), (λ lt. grind (arith, nat_tests)))
 
 -- a part of a tree ascends
-pub part_up : (p : Entry → Bool) (far part : List Entry) → part ≡ filter p far → AreSpecified 32 far → AreSpecified 0 part
-part_up p far part is up = subst (AreSpecified 0) (sym is) (filter_keeps p 0 far (lower 32 0 far (omega arith) up))
+pub part_up : (p : Entry → Bool) (far part : List Entry) → part ≡ filter p far → AreSpecified 128 far → AreSpecified 0 part
+part_up p far part is up = subst (AreSpecified 0) (sym is) (filter_keeps p 0 far (lower 128 0 far (omega arith) up))
 
 -- ---- all registers
 
-module _ (e f : Entries) (so : EntriesSo e) (so' : EntriesSo f) (from : ℕ) (near : SameBetween from 32 (entries_of e) (entries_of f)) where
-  behind : (r : ℕ) → 32 ≤ r → (rule_in (entries_of e) r ≡ rule_in e.far.entries r) × (rule_in (entries_of f) r ≡ rule_in f.far.entries r)
-  behind r le = (far_rule e.near e.expressions.entries e.far.entries so.near so.far r le, far_rule f.near f.expressions.entries f.far.entries so'.near so'.far r le)
+module _ (e f : Entries) (so : EntriesSo e) (so' : EntriesSo f) (from : ℕ) (near : SameBetween from 128 (entries_of e) (entries_of f)) where
+  behind : (r : ℕ) → 128 ≤ r → (rule_in (entries_of e) r ≡ rule_in e.far.entries r) × (rule_in (entries_of f) r ≡ rule_in f.far.entries r)
+  behind r le = (behind_slots e so r le, behind_slots f so' r le)
 
   pub first_of_all : (o : Option ℕ) → FirstDifference from e.far.entries f.far.entries o → FirstDifference from (entries_of e) (entries_of f) o
   first_of_all None far = λ r le. grind (arith, near r, behind r, far r)
   first_of_all (Some q) far =
-      let high : 32 ≤ q = grind (arith, unlisted q 32 e.far.entries so.far, unlisted q 32 f.far.entries so'.far, far.2) in
+      let high : 128 ≤ q = grind (arith, unlisted q 128 e.far.entries so.far, unlisted q 128 f.far.entries so'.far, far.2) in
       (far.0, (λ r le lt. grind (arith, near r, behind r, far.1 r)), λ same. far.2 (sym (behind q high).0 ∙ same ∙ (behind q high).1))

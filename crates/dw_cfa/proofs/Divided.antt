@@ -1,6 +1,6 @@
 -- A program that is divided behind some of its instructions: its bytes, and the list of its instructions with their places.
 use Rattle.dw_cfa.proofs.Words.{◌≡◌, ℕ, ◌+◌, ◌<◌, List, [], ◌∷◌, ◌++◌, length, Option, None, Some, Ok, Err, refl, sym, ap, ◌∙◌, subst, append_assoc, arith, length-append, append-nil, AreBytes, Factors, Input, Instr, Placed, Read, Refusal}
-use Rattle.dw_cfa.proofs.Words.{Target, done, taken_bytes, InstrSpells, Program, instr_at, Placing, place_of, placed}
+use Rattle.dw_cfa.proofs.Words.{Target, done, taken_bytes, InstrSpells, ProgramSpells, instr_at, Placing, place_of, placed}
 use Rattle.dw_op.specs.Inner.Walks.{put}
 use Rattle.dw_cfa.proofs.Lent.InstrLaws.{instr_found}
 use Rattle.dw_cfa.proofs.InstrAgain.{instr_again}
@@ -51,7 +51,7 @@ pub record Divided (f : Factors) (i : Input) (before after : List Placed) (fault
   pub rest : List ℕ
   pub whole : i.bytes ≡ front ++ rest
   pub bytes : AreBytes rest
-  pub read : Program i.target f (instrs_of before) front
+  pub read : ProgramSpells i.target f (instrs_of before) front
   pub left : placed f (input (i.at + length front) rest i.target) ≡ placing after fault
 
 pub divided : (f : Factors) (before after : List Placed) (fault : Option Refusal) (i : Input) → AreBytes i.bytes → placed f i ≡ placing (before ++ after) fault → Divided f i before after fault
@@ -70,7 +70,7 @@ divided f (p ∷ before) after fault i h e =
       rest = d.rest;
       whole = found.2.bytes ∙ ap (λ (c : List ℕ). b ++ c) d.whole ∙ sym (append_assoc b d.front d.rest);
       bytes = d.bytes;
-      read = record { front = b; back = d.front; first = found.1; second = subst (λ (t : Target). Program t f (instrs_of before) d.front) found.2.target d.read; whole = refl };
+      read = record { front = b; back = d.front; first = found.1; second = subst (λ (t : Target). ProgramSpells t f (instrs_of before) d.front) found.2.target d.read; whole = refl };
       left = ap (λ (n : ℕ). placed f (input n d.rest i.target)) at ∙ ap (λ (t : Target). placed f (input (next.at + length d.front) d.rest t)) (sym found.2.target) ∙ d.left;
     }
 
@@ -95,7 +95,7 @@ pub record Joined (f : Factors) (i : Input) (instrs : List Instr) (behind : Plac
   pub are : instrs_of before ≡ instrs
   pub whole : placed f i ≡ placing (before ++ behind.items) behind.fault
 
-pub joined : (f : Factors) (t : Target) (instrs : List Instr) (at : ℕ) (front rest : List ℕ) → AreBytes (front ++ rest) → Program t f instrs front
+pub joined : (f : Factors) (t : Target) (instrs : List Instr) (at : ℕ) (front rest : List ℕ) → AreBytes (front ++ rest) → ProgramSpells t f instrs front
     → Joined f (input at (front ++ rest) t) instrs (placed f (input (at + length front) rest t))
 joined f t [] at front rest h p =
     subst (λ (b : List ℕ). Joined f (input at (b ++ rest) t) [] (placed f (input (at + length b) rest t))) (sym p)
@@ -114,7 +114,7 @@ joined f t (instr ∷ instrs) at front rest h p =
     })
 
 -- a program that is divided there
-pub joined_at : (f : Factors) (i : Input) (instrs : List Instr) (front rest : List ℕ) → AreBytes i.bytes → i.bytes ≡ front ++ rest → Program i.target f instrs front
+pub joined_at : (f : Factors) (i : Input) (instrs : List Instr) (front rest : List ℕ) → AreBytes i.bytes → i.bytes ≡ front ++ rest → ProgramSpells i.target f instrs front
     → Joined f i instrs (placed f (input (i.at + length front) rest i.target))
 joined_at f i instrs front rest h whole p =
     subst (λ (b : List ℕ). Joined f (input i.at b i.target) instrs (placed f (input (i.at + length front) rest i.target))) (sym whole) (joined f i.target instrs i.at front rest (subst AreBytes whole h) p)

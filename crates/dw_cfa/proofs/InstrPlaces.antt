@@ -1,7 +1,7 @@
 -- The faults of a program have places in it or at its end.
 use Rattle.dw_cfa.proofs.Words.{◌≡◌, ℕ, ◌^◌, List, [], ◌∷◌, length, Option, Some, None, Result, Ok, Err, refl, ap, subst, arith, inl, inr, unsigned_abs, nat_lt, cases_Bool, length-append, AreBytes, Factors, Input, Instr, Op, Opcode, Read}
 use Rattle.dw_cfa.proofs.Words.{Refusal, Takes, fixed_at, take_at, register_at, uleb_at, sleb_at, address_at, ◌>>=◌, uleb_found, taken_bytes, byte_found, take_found, Inside, Stays, stays_in, stays-then, fixed_stays, address_stays}
-use Rattle.dw_cfa.proofs.Words.{take_stays, uleb_stays, sleb_stays, register_stays, Frame, block_input, decode_at, fault_found, opcode_of, form_of, Operand, address, fixed, register, unsigned, signed, expression, Form, none, one, two}
+use Rattle.dw_cfa.proofs.Words.{take_stays, uleb_stays, sleb_stays, register_stays, Frame, block_input, decode_at, fault_found, opcode_of, form_of, Operand, address, fixed, register, unsigned, signed, expression, InstrForm, none, one, two}
 use Rattle.dw_cfa.proofs.Words.{offset_of, leaving, expression_of, expression_in, block_in, after_length, block_at, operand_at, with_instr, then_operand, form_at, judged, known_at, after_code, instr_at}
 use Rattle.dw_op.proofs.Lent.FaultPlaces.{fault_within}
 use Rattle.dw_cfa.proofs.Lent.InstrLaws.{FormWide, operand_finds, form_wide, front_bytes}
@@ -34,7 +34,7 @@ operand_stays unsigned i j are h = stays_in i j (uleb_at j) h (uleb_stays j)
 operand_stays signed i j are h = stays_in i j (sleb_at j) h (sleb_stays j)
 operand_stays expression i j are h = stays_in i j (block_at j) h (block_stays j are)
 
-form_stays : (form : Form) (i j : Input) → FormWide form → AreBytes j.bytes → Inside i j → Stays i (form_at form j)
+form_stays : (form : InstrForm) (i j : Input) → FormWide form → AreBytes j.bytes → Inside i j → Stays i (form_at form j)
 form_stays (none made) i j w are h = h
 form_stays (one o make) i j w are h = made_stays i (operand_at o j) make (operand_stays o i j are h)
 form_stays (two o p make) i j w are h = stays-then i (operand_at o j) (then_operand p make) (operand_stays o i j are h) (λ x e k.

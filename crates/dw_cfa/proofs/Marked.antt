@@ -1,32 +1,36 @@
 -- The registers that were set since a row was kept: those without a mark have the same rules in both rows.
-use Rattle.dw_cfa.proofs.Words.{◌≡◌, ℕ, suc, ◌+◌, ◌<◌, ◌≤◌, Bool, List, [], ◌∷◌, Option, refl, sym, ap, ◌∙◌, subst, arith, inl, inr, ◌*◌, ◌%◌, ◌^◌, bit_or, not, is_some, IsTrue, Result, Ok, Err, OnOk, OnErr, bit_at, w32, filter, nat_tests}
-use Rattle.dw_cfa.proofs.Words.{cases_lt, bit_at_set_same, bit_at_set_other, IsAdded, Marks, RegRule, Rules, Unspecified, SameValue, AreSpecified, rule_in, put, with_rule, DiffersFirst, FirstDifference, SameBetween, SameUnset, CopiedUpTo, MarksMore, MarksSo}
+use Rattle.dw_cfa.proofs.Words.{◌≡◌, ℕ, suc, ◌+◌, ◌<◌, ◌≤◌, Bool, List, [], ◌∷◌, Option, refl, sym, ap, ◌∙◌, subst, arith, inl, inr, ◌*◌, ◌%◌, ◌^◌, bit_or, not, is_some, IsTrue, Result, Ok, Err, OnOk, OnErr, bit_at, filter, nat_tests}
+use Rattle.dw_cfa.proofs.Words.{cases_lt, IsAdded, Marks, RegRule, Rules, Unspecified, SameValue, AreSpecified, rule_in, put, with_rule, DiffersFirst, FirstDifference, SameBetween, SameUnset, CopiedUpTo, MarksMore, MarksSo}
 use Rattle.dw_cfa.proofs.Words.{SameUnlisted, SameUnmarked, Unmarked, WatchedSo}
 use Rattle.dw_cfa.proofs.Lent.RowLists.{Entry, lower, other_rule, put_rule, same_rule_set, unlisted}
 use Rattle.dw_cfa.proofs.Difference.{FromOn}
+use Rattle.dw_cfa.proofs.Slots.{bit_set_other, bit_set_same, neither}
 use Rattle.dw_cfa.proofs.Lent.Narrowed.{filter_keeps, filter_rule}
 use Rattle.dw_cfa.proofs.Lent.SameRows.{one_row}
 use Rattle.dw_cfa.proofs.Lent.Skipped.{same_exactly}
 
 -- ---- marks
 
-pub near_marked : (near r : ℕ) → r < 32 → bit_at (bit_or near (1 * 2 ^ r % 2 ^ 32)) r ≡ 0 → ⊥
-near_marked near r lt none = let one : bit_at (bit_or near (1 * 2 ^ r % 2 ^ 32)) r ≡ 1 = bit_at_set_same w32 near r lt in absurd (omega (arith, one, none))
+pub near_marked : (near near' b r : ℕ) → r < 128 → b ≡ 1 * 2 ^ r % 2 ^ 128 → near' ≡ bit_or near b → bit_at near' r ≡ 0 → ⊥
+near_marked near near' b r lt bit is none = absurd (omega (arith, none, ap (λ (m : ℕ). bit_at m r) is, bit_set_same near r b lt bit))
+
+pub near_more : (near near' b q : ℕ) → near' ≡ bit_or near b → bit_at near' q ≡ 0 → bit_at near q ≡ 0
+near_more near near' b q is none = (neither near b q (sym (ap (λ (m : ℕ). bit_at m q) is) ∙ none)).0
 
 not_marked : SameValue ≡ Unspecified → ⊥
 not_marked e = absurd cc
 
-pub far_marked : (r : ℕ) (far far' : List Entry) → AreSpecified 32 far → far' ≡ put r SameValue far → rule_in far' r ≡ Unspecified → ⊥
-far_marked r far far' up e none = not_marked (sym (same_rule_set r r SameValue far (lower 32 0 far (omega arith) up) refl) ∙ sym (ap (λ (l : List Entry). rule_in l r) e) ∙ none)
+pub far_marked : (r : ℕ) (far far' : List Entry) → AreSpecified 128 far → far' ≡ put r SameValue far → rule_in far' r ≡ Unspecified → ⊥
+far_marked r far far' up e none = not_marked (sym (same_rule_set r r SameValue far (lower 128 0 far (omega arith) up) refl) ∙ sym (ap (λ (l : List Entry). rule_in l r) e) ∙ none)
 
-pub far_more : (r q : ℕ) (far far' : List Entry) → AreSpecified 32 far → far' ≡ put r SameValue far → rule_in far' q ≡ Unspecified → rule_in far q ≡ Unspecified
-far_more r q far far' up e none = grind (arith, nat_tests, put_rule r SameValue 32 far q up, ap (λ (l : List Entry). rule_in l q) e, not_marked)
+pub far_more : (r q : ℕ) (far far' : List Entry) → AreSpecified 128 far → far' ≡ put r SameValue far → rule_in far' q ≡ Unspecified → rule_in far q ≡ Unspecified
+far_more r q far far' up e none = grind (arith, nat_tests, put_rule r SameValue 128 far q up, ap (λ (l : List Entry). rule_in l q) e, not_marked)
 
-pub near_added : (near r : ℕ) (far : List Entry) → r < 32 → IsAdded r (record { near = near; far = far }) (record { near = bit_or near (1 * 2 ^ r % 2 ^ 32); far = far })
-near_added near r far lt q = grind (arith, nat_tests, bit_at_set_same w32 near r lt, bit_at_set_other w32 near r lt q)
+pub near_added : (near near' b r : ℕ) (far : List Entry) → r < 128 → b ≡ 1 * 2 ^ r % 2 ^ 128 → near' ≡ bit_or near b → IsAdded r (record { near = near; far = far }) (record { near = near'; far = far })
+near_added near near' b r far lt bit is q = rw is (grind (arith, nat_tests, bit_set_same near r b lt bit, bit_set_other near r b lt bit q))
 
-pub far_added : (near r : ℕ) (far far' : List Entry) → 32 ≤ r → AreSpecified 32 far → far' ≡ put r SameValue far → IsAdded r (record { near = near; far = far }) (record { near = near; far = far' })
-far_added near r far far' le up e q = grind (arith, nat_tests, put_rule r SameValue 32 far q up, ap (λ (l : List Entry). rule_in l q) e)
+pub far_added : (near r : ℕ) (far far' : List Entry) → 128 ≤ r → AreSpecified 128 far → far' ≡ put r SameValue far → IsAdded r (record { near = near; far = far }) (record { near = near; far = far' })
+far_added near r far far' le up e q = grind (arith, nat_tests, put_rule r SameValue 128 far q up, ap (λ (l : List Entry). rule_in l q) e)
 
 -- ---- a register that is set
 

@@ -1,5 +1,5 @@
 -- Sets of registers: one register more, all of another set, and what two rows have in common among them.
-use Rattle.dw_cfa.proofs.Words.{◌≡◌, ◌⊎◌, ℕ, suc, ◌<◌, ◌||◌, Bool, true, false, List, ◌∷◌, Result, Ok, Err, OnOk, refl, sym, ap, ◌∙◌, subst, arith, inl, inr, if◌then◌else◌, bit_or, bit_at_or, nat_tests, cases_Bool, IsTrue, ◌↔◌}
+use Rattle.dw_cfa.proofs.Words.{◌≡◌, ◌⊎◌, ℕ, suc, ◌<◌, ◌||◌, Bool, true, false, List, ◌∷◌, Result, Ok, Err, OnErr, OnOk, refl, sym, ap, ◌∙◌, subst, arith, inl, inr, if◌then◌else◌, bit_or, bit_at_or, nat_tests, cases_Bool, IsTrue, ◌↔◌}
 use Rattle.dw_cfa.proofs.Words.{CfaRule, RegRule, Rules, Unset, Unspecified, AreSpecified, rule, rule_in, with_cfa, with_rule, InCommon, IsAgreed, is_agreed, same_rule, rule_tells, left, LeavesAmong, LeavesAt}
 use Rattle.dw_cfa.proofs.Words.{IsAdded, Marks, MarksSo, Registers, AgreesBeside, has, in_mask, in_tree, marked}
 use Rattle.std.proofs.lemmas.Nat.Bits.{bit_at-lt}
@@ -9,21 +9,33 @@ use Rattle.dw_cfa.proofs.Lent.Narrowed.{leaves_none, none_left}
 
 -- ---- registers that are put in
 
-pub rest_up : (xs rest : List Entry) (q : ℕ) (x : RegRule) → xs ≡ (q, x) ∷ rest → AreSpecified 32 xs → AreSpecified 32 rest
-rest_up xs rest q x e up = let here = subst (AreSpecified 32) e up in lower (suc q) 32 rest (omega (arith, here.0)) here.2
+pub rest_up : (xs rest : List Entry) (q : ℕ) (x : RegRule) → xs ≡ (q, x) ∷ rest → AreSpecified 128 xs → AreSpecified 128 rest
+rest_up xs rest q x e up = let here = subst (AreSpecified 128) e up in lower (suc q) 128 rest (omega (arith, here.0)) here.2
 
 -- one of a tree is put in: those of the rest are still to come
-pub tree_next : (all xs rest : List Entry) (q : ℕ) (x : RegRule) (was old new : Registers) → xs ≡ (q, x) ∷ rest → AreSpecified 32 xs → IsAdded q old new
+pub tree_next : (all xs rest : List Entry) (q : ℕ) (x : RegRule) (was old new : Registers) → xs ≡ (q, x) ∷ rest → AreSpecified 128 xs → IsAdded q old new
     → ((r : ℕ) → (in_tree xs r || has old r) ≡ (in_tree all r || has was r)) → (r : ℕ) → (in_tree rest r || has new r) ≡ (in_tree all r || has was r)
 tree_next all xs rest q x was old new e up added h r =
-    let here = subst (AreSpecified 32) e up in let given = here.1 in
+    let here = subst (AreSpecified 128) e up in let given = here.1 in
     grind (arith, nat_tests, ap (λ (l : List Entry). rule_in l r) e, added r, h r, given)
+
+-- and none that was in is out
+pub more_added : (q : ℕ) (was old new : Registers) → IsAdded q old new → ((r : ℕ) → has was r ≡ true → has old r ≡ true) → (r : ℕ) → has was r ≡ true → has new r ≡ true
+more_added q was old new added h r is = let before = h r is in grind (arith, nat_tests, added r, before)
+
+-- none is out that was in before those of a mask and of a tree came
+pub all_stay : {X E : Type 0} (result : Result X E) (m n : Marks) (old new : Registers) → marked m ≡ old
+    → OnErr result ((r : ℕ) → has (record { near = bit_or m.near n.near; far = m.far.entries }) r ≡ true → has new r ≡ true) → OnErr result ((r : ℕ) → has old r ≡ true → has new r ≡ true)
+all_stay (Ok x) m n old new one is = tt
+all_stay (Err x) m n old new one is = λ r before.
+    let was = subst (λ (x : Registers). has x r ≡ true) (sym one) before in
+    is r (grind (arith, nat_tests, was, bit_at_or m.near n.near r, bit_at-lt m.near r, bit_at-lt n.near r))
 
 -- all of a mask and of a tree
 pub all_added : {X E : Type 0} (result : Result X E) (m n : Marks) (old other new : Registers) → marked m ≡ old → marked n ≡ other → MarksSo n
     → OnOk result ((r : ℕ) → has new r ≡ (in_tree n.far.entries r || has (record { near = bit_or m.near n.near; far = m.far.entries }) r)) → OnOk result ((r : ℕ) → has new r ≡ (has other r || has old r))
 all_added (Ok x) m n old other new one two up is = λ r.
-    let low = λ (lt : r < 32). unlisted r 32 n.far.entries up lt in
+    let low = λ (lt : r < 128). unlisted r 128 n.far.entries up lt in
     rw (sym one, sym two) (grind (arith, nat_tests, is r, low, bit_at_or m.near n.near r, bit_at-lt m.near r, bit_at-lt n.near r))
 all_added (Err x) m n old other new one two up is = tt
 
@@ -45,10 +57,10 @@ dropped_at (Err x) row other new r same is e up set = tt
 abbrev pub StillLeaves : (Entry → Bool) → List Entry → List Entry → List Entry → List Entry → Type 0
 StillLeaves p all old rest new = (q : ℕ) → (if in_tree rest q then left p q (rule_in new q) else rule_in new q) ≡ (if in_tree all q then left p q (rule_in old q) else rule_in old q)
 
-pub next_leaves : (p : Entry → Bool) (all xs rest : List Entry) (r : ℕ) (x : RegRule) (old new next : List Entry) → xs ≡ (r, x) ∷ rest → AreSpecified 32 xs → LeavesAt p r new next
+pub next_leaves : (p : Entry → Bool) (all xs rest : List Entry) (r : ℕ) (x : RegRule) (old new next : List Entry) → xs ≡ (r, x) ∷ rest → AreSpecified 128 xs → LeavesAt p r new next
     → StillLeaves p all old xs new → StillLeaves p all old rest next
 next_leaves p all xs rest r x old new next e up at h q =
-    let here = subst (AreSpecified 32) e up in let given = here.1 in
+    let here = subst (AreSpecified 128) e up in let given = here.1 in
     grind (arith, nat_tests, ap (λ (l : List Entry). rule_in l q) e, at q, h q, given, left_twice p q (rule_in new q))
 
 both_leave : (a b : Bool) (p : Entry → Bool) (q : ℕ) (x mid new : RegRule) → mid ≡ (if a then left p q x else x) → new ≡ (if b then left p q mid else mid) → new ≡ (if a || b then left p q x else x)
@@ -62,14 +74,14 @@ agrees_left other r x (inl e) = rw e (none_left (is_agreed other) r)
 agrees_left other r x (inr e) = let same : same_rule x (rule_in other r) ≡ true = (rule_tells x (rule_in other r)).1 e in rw same refl
 
 module _ (m : Marks) (registers : Registers) (is : marked m ≡ registers) (old other : Rules) (beside : AgreesBeside registers old other) (mid : List Entry) (new : Rules)
-    (near : LeavesAmong (in_mask m.near 32) (is_agreed other.registers) old.registers mid) (far : LeavesAmong (in_tree m.far.entries) (is_agreed other.registers) mid new.registers) where
-  outside : (r : ℕ) → (in_mask m.near 32 r || in_tree m.far.entries r) ≡ false → has registers r ≡ false
+    (near : LeavesAmong (in_mask m.near 128) (is_agreed other.registers) old.registers mid) (far : LeavesAmong (in_tree m.far.entries) (is_agreed other.registers) mid new.registers) where
+  outside : (r : ℕ) → (in_mask m.near 128 r || in_tree m.far.entries r) ≡ false → has registers r ≡ false
   outside r none = rw (sym is) (grind (arith, nat_tests, none))
 
   rule_left : (r : ℕ) → rule new r ≡ left (is_agreed other.registers) r (rule old r)
   rule_left r =
-      let both = both_leave (in_mask m.near 32 r) (in_tree m.far.entries r) (is_agreed other.registers) r (rule old r) (rule_in mid r) (rule new r) (near r) (far r) in
-      elim (cases_Bool (in_mask m.near 32 r || in_tree m.far.entries r)) [
+      let both = both_leave (in_mask m.near 128 r) (in_tree m.far.entries r) (is_agreed other.registers) r (rule old r) (rule_in mid r) (rule new r) (near r) (far r) in
+      elim (cases_Bool (in_mask m.near 128 r || in_tree m.far.entries r)) [
         | inl e ↦ both ∙ rw e refl
         | inr e ↦ both ∙ rw e (sym (agrees_left other.registers r (rule old r) (beside r (outside r e))))
       ]

@@ -1,9 +1,15 @@
 -- One instruction of a program, in the rows still to come.
-use Rattle.dw_cfa.proofs.Words.{◌≡◌, ℕ, ◌<◌, List, [], length, Option, None, Some, Result, Ok, Err, IsOk, refl, sym, ap, ◌∙◌, subst, IsTrue, AreBytes, Code, Factors, Input, Instr, Machine, Outcome, Read, Refusal, RegRule, Rules, State}
+use Rattle.dw_cfa.proofs.Words.{◌≡◌, ℕ, ◌<◌, List, [], length, Option, None, Some, Result, Ok, Err, IsOk, false, refl, sym, ap, ◌∙◌, subst, IsTrue, AreBytes, Code, Factors, Input, Instr, Machine, Outcome, Read, Refusal, RegRule, Rules, State}
 use Rattle.dw_cfa.proofs.Words.{address_limit, SetLoc, Advance, moves_location, instr_at, blank, begun_rows, begun_stop, written, after, cie_fault, fde_fault, Held, BeganWith, state_of, IsAfter, placed, cie_run, initial_row, on_initial}
 use Rattle.dw_cfa.proofs.Words.{here, row_if, fault_or, fde_rows, fde_stop, rows_left, rows_behind, run_rows, run_stop, stop_left, stop_or, RunsSo, RanTo, WroteTo, fails, finished, row_then}
+use Rattle.dw_cfa.specs.Inner.Machine.{program_fault}
 use Rattle.dw_cfa.proofs.Lent.RowsAt.{stays}
 use Rattle.dw_cfa.proofs.Placings.{reads, placed_end, placed_step, placed_stuck}
+
+-- what stands against an instruction of an FDE's program
+pub fde_is : (limit : ℕ) (i : Instr) (s : State) → program_fault false limit i s ≡ fde_fault limit i s
+fde_is limit (SetLoc a) s = refl
+fde_is limit i s = refl
 
 pub rows_end : (f : Factors) (i : Input) (m : Machine) → length i.bytes ≡ 0 → rows_left f i m ≡ row_then (here (state_of m)) finished
 unfolding rows_left fde_rows
@@ -30,17 +36,18 @@ module _ (f : Factors) (i : Input) (m : Machine) (x : Instr × Input) (h : AreBy
   same_row (Advance d) s t is moves = ap (λ (u : State). u.row) is
   same_row i s t is moves = absurd cc
 
-  pub rows_ran : (m' : Machine) → RunsSo m i → IsAfter m x.0 m' → RanTo f i m (moves_location x.0) x.1 m'
+  pub rows_ran : (m' : Machine) → RunsSo m i → IsAfter false m x.0 m' → RanTo f i m (moves_location x.0) x.1 m'
   unfolding rows_left stop_left
   rows_ran m' so behind =
       let read = reads f i x h e in
+      let allowed = sym (fde_is m.limit x.0 (state_of m)) ∙ behind.allowed in
       record {
         so = record { limit = behind.limit ∙ so.limit ∙ ap (λ t. address_limit t.size) (sym read.target); within = behind.within; first = subst (λ (initial : Rules). BeganWith initial m'.states.first) (sym behind.initial) (subst (λ (first : Option (List (ℕ × RegRule))). BeganWith m.initial first) (sym behind.first) so.first) };
         shorter = read.shorter;
-        rows = rows_then ∙ rw (behind.allowed, behind.limit, behind.initial, behind.state) refl;
+        rows = rows_then ∙ rw (allowed, behind.limit, behind.initial, behind.state) refl;
         same_row = same_row x.0 m m' behind.state;
         same_location = λ no. ap (λ (s : State). s.location) behind.state ∙ stays m.initial x.0 (state_of m) no;
-        stop = stop_then ∙ rw (behind.allowed, behind.limit, behind.initial, behind.state) refl;
+        stop = stop_then ∙ rw (allowed, behind.limit, behind.initial, behind.state) refl;
       }
 
 -- ---- a CIE's program

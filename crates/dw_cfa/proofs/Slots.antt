@@ -1,66 +1,61 @@
 -- Registers in slots: what is set in one register's slot is what setting that register leaves.
-use Rattle.dw_cfa.proofs.Words.{if◌then◌else◌, nat_lt, ◌≡◌, ℕ, zero, suc, ◌+◌, ◌<◌, ◌≤◌, cond, Some, None, List, [], ◌∷◌, length, get_or, drop, refl, sym, ap, ◌∙◌, subst, arith, drop_of_length-le, replicate, length-set, get_or-set_same}
-use Rattle.dw_cfa.proofs.Words.{get_or-set_other, get_or-replicate, length-replicate, nat_tests, IsTrue, nat_eq, ℤ, pos, ◌-◌, ◌*◌, ◌/◌, ◌%◌, ◌^◌, bit_or, bit_and, bit_at, bit_not, trailing_zeros, w32, div-le_self, bit_at-zero, bit_at_above}
+use Rattle.dw_cfa.proofs.Words.{if◌then◌else◌, nat_lt, ◌≡◌, ◌⊎◌, Bool, true, false, inl, inr, cases_eq, cases_lt, ℕ, zero, suc, ◌+◌, ◌<◌, ◌≤◌, cond, Some, None, List, [], ◌∷◌, length, ◌++◌, length-append, get_or, refl, sym, ap, ◌∙◌, subst, arith, length-set, get_or-set_same}
+use Rattle.dw_cfa.proofs.Words.{get_or-set_other, nat_tests, IsTrue, nat_eq, ℤ, ◌-◌, ◌*◌, ◌/◌, ◌%◌, ◌^◌, bit_or, bit_and, bit_at, bit_not, trailing_zeros, w64, w128, Option, not, div-le_self, bit_at-zero, bit_at_above}
 use Rattle.dw_cfa.proofs.Words.{bit_at-trailing_zeros, bit_at_set_same, bit_at_set_other, bit_at_clear_other, bit_at_clear_same, bit_at_or, Entries, Kind, RegRule, Slot, Unspecified, is_specified, AreSpecified, HasFar, rule_in, listed, put}
-use Rattle.dw_cfa.proofs.Words.{EntriesSo, entries_of, kind_rule, slot_rule, listed_near, FirstBit, HoldsRule, IsSlotOf, Covers}
+use Rattle.dw_cfa.proofs.Words.{EntriesSo, entries_of, kind_rule, slot_rule, slots_of, listed_from, listed_near, near_rule, no_slot, rule_if, FirstBit, FirstIn, HasRoom, Holds, HoldsRule, IsSlotOf}
 use Rattle.std.proofs.Common.{set}
-use Rattle.std.proofs.Math.Seq.{drop-cons}
-use Rattle.std.proofs.lemmas.Nat.{and_le_l, shr-shr}
+use Rattle.std.proofs.lemmas.List.{get_or_append_left, get_or-append_right}
+use Rattle.std.proofs.lemmas.Nat.{one_shl, pow-add, pow_pos, shr-shr}
+use Rattle.std.proofs.lemmas.Nat.Bits.{bit_at-lt, bit_at_and, bit_at_cat_low, and_pow}
 use Rattle.dw_cfa.specs.declared.slot.Kind.TheVariants as kinds
-use Rattle.dw_cfa.proofs.Lent.RowLists.{Entry, lower, listed_keeps, listed_rule, other_rule, put_keeps, put_rule, same_rule_set}
+use Rattle.dw_cfa.proofs.Lent.RowLists.{Entry, lower, listed_is, listed_keeps, listed_rule, other_rule, put_keeps, put_rule, same_rule_set, unlisted}
 use Rattle.dw_cfa.proofs.Lent.SameRows.{first_rule, same_entries}
 
-pub near_ascends : (k : ℕ) (near : List Slot) (expressions far : List Entry) (n : ℕ) → k + length near ≤ n → AreSpecified n far → AreSpecified k (listed_near k near expressions far)
-unfolding listed_near
-near_ascends k [] expressions far n le up = lower n k far (omega arith) up
-near_ascends k (s ∷ near) expressions far n le up =
-    listed_keeps k (slot_rule s (rule_in expressions k)) k (listed_near (suc k) near expressions far) (near_ascends (suc k) near expressions far n (omega arith) up) (omega arith)
+-- ---- registers from one on, and those behind them
 
--- a register that has a slot has the slot's rule
-pub rule_at : (k : ℕ) (near : List Slot) (expressions far : List Entry) (n : ℕ) → k + length near ≤ n → AreSpecified n far
-    → (j : ℕ) (d : Slot) → j < length near → (q : ℕ) → q ≡ k + j → rule_in (listed_near k near expressions far) q ≡ slot_rule (get_or near j d) (rule_in expressions q)
-unfolding listed_near
-rule_at k [] expressions far n le up j d lt q at = absurd (omega arith)
-rule_at k (s ∷ near) expressions far n le up zero d lt q at =
-    grind (arith, nat_tests, listed_rule k (slot_rule s (rule_in expressions k)) q (listed_near (suc k) near expressions far) (near_ascends (suc k) near expressions far n (omega arith) up))
-rule_at k (s ∷ near) expressions far n le up (suc j) d lt q at =
-    let here = listed_rule k (slot_rule s (rule_in expressions k)) q (listed_near (suc k) near expressions far) (near_ascends (suc k) near expressions far n (omega arith) up) in
-    grind (arith, nat_tests, here, rule_at (suc k) near expressions far n (omega arith) up j d (omega arith) q (omega arith))
+pub from_ascends : (k n : ℕ) (f : ℕ → RegRule) (far : List Entry) (m : ℕ) → k + n ≤ m → AreSpecified m far → AreSpecified k (listed_from k n f far)
+unfolding listed_from
+from_ascends k zero f far m le up = lower m k far (omega arith) up
+from_ascends k (suc n) f far m le up = listed_keeps k (f k) k (listed_from (suc k) n f far) (from_ascends (suc k) n f far m (omega arith) up) (omega arith)
 
--- and one behind the slots what the others say
-pub rule_behind : (k : ℕ) (near : List Slot) (expressions far : List Entry) (n : ℕ) → k + length near ≤ n → AreSpecified n far
-    → (q : ℕ) → k + length near ≤ q → rule_in (listed_near k near expressions far) q ≡ rule_in far q
-unfolding listed_near
-rule_behind k [] expressions far n le up q past = refl
-rule_behind k (s ∷ near) expressions far n le up q past =
-    let here = listed_rule k (slot_rule s (rule_in expressions k)) q (listed_near (suc k) near expressions far) (near_ascends (suc k) near expressions far n (omega arith) up) in
-    grind (arith, nat_tests, here, rule_behind (suc k) near expressions far n (omega arith) up q (omega arith))
+pub rule_from : (k n : ℕ) (f : ℕ → RegRule) (far : List Entry) (m : ℕ) → k + n ≤ m → AreSpecified m far → (q : ℕ)
+    → rule_in (listed_from k n f far) q ≡ (if nat_lt q k then Unspecified else (if nat_lt q (k + n) then f q else rule_in far q))
+unfolding listed_from
+rule_from k zero f far m le up q = grind (arith, nat_tests, unlisted q m far up)
+rule_from k (suc n) f far m le up q =
+    let here = listed_rule k (f k) q (listed_from (suc k) n f far) (from_ascends (suc k) n f far m (omega arith) up) in
+    grind (arith, nat_tests, here, rule_from (suc k) n f far m (omega arith) up q)
 
--- what an index outside would find
-abbrev pub no_slot : Slot
-no_slot = record { kind = kinds.Empty; register = 0; offset = pos 0 }
+-- ---- all registers
 
-module _ (near : List Slot) (expressions far : List Entry) (len : length near ≡ 32) (up : AreSpecified 32 far) where
-  pub slots_ascend : AreSpecified 0 (listed_near 0 near expressions far)
-  slots_ascend = near_ascends 0 near expressions far 32 (omega arith) up
+module _ (f : ℕ → RegRule) (far : List Entry) (up : AreSpecified 128 far) where
+  pub slots_ascend : AreSpecified 0 (listed_from 0 128 f far)
+  slots_ascend = from_ascends 0 128 f far 128 (omega arith) up
 
-  pub near_rule : (q : ℕ) (d : Slot) → q < 32 → rule_in (listed_near 0 near expressions far) q ≡ slot_rule (get_or near q d) (rule_in expressions q)
-  near_rule q d lt = rule_at 0 near expressions far 32 (omega arith) up q d (omega arith) q (omega arith)
+  pub row_rule : (q : ℕ) → rule_in (listed_from 0 128 f far) q ≡ (if nat_lt q 128 then f q else rule_in far q)
+  row_rule q = grind (arith, nat_tests, rule_from 0 128 f far 128 (omega arith) up q)
 
-  pub far_rule : (q : ℕ) → 32 ≤ q → rule_in (listed_near 0 near expressions far) q ≡ rule_in far q
-  far_rule q le = rule_behind 0 near expressions far 32 (omega arith) up q (omega arith)
+  pub near_is : (q : ℕ) → q < 128 → rule_in (listed_from 0 128 f far) q ≡ f q
+  near_is q lt = grind (arith, nat_tests, row_rule q)
 
-  pub row_rule : (q : ℕ) → rule_in (listed_near 0 near expressions far) q ≡ (if nat_lt q 32 then slot_rule (get_or near q no_slot) (rule_in expressions q) else rule_in far q)
-  row_rule q = grind (arith, nat_tests, near_rule q no_slot, far_rule q)
+  pub far_is : (q : ℕ) → 128 ≤ q → rule_in (listed_from 0 128 f far) q ≡ rule_in far q
+  far_is q le = grind (arith, nat_tests, row_rule q)
 
 pub entries_ascend : (e : Entries) → EntriesSo e → AreSpecified 0 (entries_of e)
-entries_ascend e so = slots_ascend e.near e.expressions.entries e.far.entries so.near so.far
+entries_ascend e so = slots_ascend (near_rule e.used (slots_of e) e.expressions.entries) e.far.entries so.far
+
+pub slot_rule_is : (e : Entries) → EntriesSo e → (q : ℕ) → q < 128 → rule_in (entries_of e) q ≡ near_rule e.used (slots_of e) e.expressions.entries q
+slot_rule_is e so q lt = near_is (near_rule e.used (slots_of e) e.expressions.entries) e.far.entries so.far q lt
+
+pub behind_slots : (e : Entries) → EntriesSo e → (q : ℕ) → 128 ≤ q → rule_in (entries_of e) q ≡ rule_in e.far.entries q
+behind_slots e so q le = far_is (near_rule e.used (slots_of e) e.expressions.entries) e.far.entries so.far q le
 
 -- an entry of the tree is a rule of the row
-pub has_far : (near : List Slot) (expressions far : List Entry) → length near ≡ 32 → AreSpecified 32 far → (far ≡ [] → ⊥) → HasFar (listed_near 0 near expressions far)
-has_far near expressions [] len up some = absurd (some refl)
-has_far near expressions (entry ∷ rest) len up some =
-    (entry.0, up.0, subst (λ (rule : RegRule). IsTrue (is_specified rule)) (sym (far_rule near expressions (entry ∷ rest) len up entry.0 up.0 ∙ first_rule entry rest)) up.1)
+pub has_far : (f : ℕ → RegRule) (far : List Entry) → AreSpecified 128 far → (far ≡ [] → ⊥) → HasFar (listed_from 0 128 f far)
+has_far f [] up some = absurd (some refl)
+has_far f (entry ∷ rest) up some =
+    let high : 128 ≤ entry.0 = up.0 in
+    (entry.0, omega arith, subst (λ (rule : RegRule). IsTrue (is_specified rule)) (sym (far_is f (entry ∷ rest) up entry.0 high ∙ first_rule entry rest)) up.1)
 
 pub put_so : (r low : ℕ) (rule : RegRule) (old new : List Entry) → new ≡ put r rule old → AreSpecified low old → low ≤ r → AreSpecified low new
 put_so r low rule old new is up le = subst (AreSpecified low) (sym is) (put_keeps r rule low old up le)
@@ -69,45 +64,150 @@ put_so r low rule old new is up le = subst (AreSpecified low) (sym is) (put_keep
 pub is_put : (r : ℕ) (rule : RegRule) (old new : List Entry) → AreSpecified 0 old → AreSpecified 0 new → ((q : ℕ) → rule_in new q ≡ cond (nat_eq r q) rule (rule_in old q)) → new ≡ put r rule old
 is_put r rule old new up up' is = same_entries 0 new (put r rule old) up' (put_keeps r rule 0 old up (omega arith)) (λ q. is q ∙ sym (put_rule r rule 0 old q up))
 
--- the rule that a slot holds
-pub slot_at : (e : Entries) → EntriesSo e → (q n : ℕ) → q < 32 → n ≡ q → slot_rule (get_or e.near n no_slot) (rule_in e.expressions.entries q) ≡ rule_in (entries_of e) q
-slot_at e so q n lt at =
-    ap (λ (m : ℕ). slot_rule (get_or e.near m no_slot) (rule_in e.expressions.entries q)) at ∙ sym (near_rule e.near e.expressions.entries e.far.entries so.near so.far q no_slot lt)
+module _ (f g : ℕ → RegRule) (far : List Entry) (up : AreSpecified 128 far) where
+  pub rules_put : (r : ℕ) (rule : RegRule) → r < 128 → g r ≡ rule → ((q : ℕ) → q < 128 → (q ≡ r → ⊥) → g q ≡ f q) → listed_from 0 128 g far ≡ put r rule (listed_from 0 128 f far)
+  rules_put r rule lt is others =
+      is_put r rule (listed_from 0 128 f far) (listed_from 0 128 g far) (slots_ascend f far up) (slots_ascend g far up) (λ q.
+      grind (arith, nat_tests, row_rule g far up q, row_rule f far up q, others q, is))
 
--- a rule is set in a slot
-pub slot_set : (near : List Slot) (expressions far : List Entry) (r p : ℕ) (s : Slot) (expressions' : List Entry) (rule : RegRule)
-    → length near ≡ 32 → AreSpecified 32 far → r < 32 → p ≡ r → slot_rule s (rule_in expressions' r) ≡ rule → ((q : ℕ) → (q ≡ r → ⊥) → rule_in expressions' q ≡ rule_in expressions q)
-    → listed_near 0 (set near p s) expressions' far ≡ put r rule (listed_near 0 near expressions far)
-slot_set near expressions far r p s expressions' rule len up lt at is others =
-    let len' : length (set near p s) ≡ 32 = length-set near p s ∙ len in
-    is_put r rule (listed_near 0 near expressions far) (listed_near 0 (set near p s) expressions' far) (slots_ascend near expressions far len up) (slots_ascend (set near p s) expressions' far len' up) (λ q.
-    grind (arith, nat_tests, row_rule (set near p s) expressions' far len' up q, row_rule near expressions far len up q, get_or-set_same near p s no_slot, get_or-set_other near p q s no_slot, others q, is, len))
+  pub rules_same : ((q : ℕ) → g q ≡ f q) → listed_from 0 128 g far ≡ listed_from 0 128 f far
+  rules_same same =
+      same_entries 0 (listed_from 0 128 g far) (listed_from 0 128 f far) (slots_ascend g far up) (slots_ascend f far up) (λ q.
+      grind (arith, nat_tests, row_rule g far up q, row_rule f far up q, same q))
 
 -- a rule is set behind the slots
-pub far_set : (near : List Slot) (expressions far : List Entry) (r : ℕ) (rule : RegRule) (far' : List Entry)
-    → length near ≡ 32 → AreSpecified 32 far → 32 ≤ r → far' ≡ put r rule far → listed_near 0 near expressions far' ≡ put r rule (listed_near 0 near expressions far)
-far_set near expressions far r rule far' len up le is =
-    let up' = put_so r 32 rule far far' is up le in
-    is_put r rule (listed_near 0 near expressions far) (listed_near 0 near expressions far') (slots_ascend near expressions far len up) (slots_ascend near expressions far' len up') (λ q.
-    grind (arith, nat_tests, is, row_rule near expressions far' len up' q, row_rule near expressions far len up q, put_rule r rule 32 far q up))
+pub far_set : (f : ℕ → RegRule) (far : List Entry) (r : ℕ) (rule : RegRule) (far' : List Entry) → AreSpecified 128 far → 128 ≤ r → far' ≡ put r rule far → listed_from 0 128 f far' ≡ put r rule (listed_from 0 128 f far)
+far_set f far r rule far' up le is =
+    let up' = put_so r 128 rule far far' is up le in
+    is_put r rule (listed_from 0 128 f far) (listed_from 0 128 f far') (slots_ascend f far up) (slots_ascend f far' up') (λ q.
+    grind (arith, nat_tests, is, row_rule f far' up' q, row_rule f far up q, put_rule r rule 128 far q up))
 
--- ---- the slots one after another
+-- ---- a slot under the mask
 
-slot_next : (k : ℕ) (near : List Slot) (expressions far : List Entry) (d : Slot) (rule : RegRule) → k < length near → rule ≡ slot_rule (get_or near k d) (rule_in expressions k)
-    → listed_near k (drop k near) expressions far ≡ listed k rule (listed_near (suc k) (drop (suc k) near) expressions far)
-unfolding listed_near
-slot_next k near expressions far d rule lt e =
-    ap (λ (l : List Slot). listed_near k l expressions far) (drop-cons near k d lt) ∙ sym (ap (λ (x : RegRule). listed k x (listed_near (suc k) (drop (suc k) near) expressions far)) e)
+pub unset_rule : (used : ℕ) (near : List Slot) (expressions : List Entry) (q : ℕ) → bit_at used q ≡ 0 → near_rule used near expressions q ≡ Unspecified
+unset_rule used near expressions q none = ap (λ (n : ℕ). rule_if n (get_or near q no_slot) (rule_in expressions q)) none
 
-pub slots_end : (k : ℕ) (near : List Slot) (expressions far : List Entry) → length near ≤ k → listed_near k (drop k near) expressions far ≡ far
-unfolding listed_near
-slots_end k near expressions far le = ap (λ (l : List Slot). listed_near k l expressions far) (drop_of_length-le near le)
+pub set_rule : (used : ℕ) (near : List Slot) (expressions : List Entry) (q : ℕ) → bit_at used q ≡ 1 → near_rule used near expressions q ≡ slot_rule (get_or near q no_slot) (rule_in expressions q)
+set_rule used near expressions q one = ap (λ (n : ℕ). rule_if n (get_or near q no_slot) (rule_in expressions q)) one
+
+-- a register whose bit is not set has no rule
+pub not_set : (e : Entries) → EntriesSo e → (q : ℕ) → q < 128 → bit_at e.used q ≡ 0 → rule_in (entries_of e) q ≡ Unspecified
+not_set e so q lt none = slot_rule_is e so q lt ∙ unset_rule e.used (slots_of e) e.expressions.entries q none
+
+-- and one whose bit is set has its slot's
+pub is_set : (e : Entries) → EntriesSo e → (q : ℕ) → q < 128 → bit_at e.used q ≡ 1 → rule_in (entries_of e) q ≡ slot_rule (get_or (slots_of e) q no_slot) (rule_in e.expressions.entries q)
+is_set e so q lt one = slot_rule_is e so q lt ∙ set_rule e.used (slots_of e) e.expressions.entries q one
+
+pub is_given : (e : Entries) → EntriesSo e → (q : ℕ) → q < 128 → bit_at e.used q ≡ 1 → IsTrue (is_specified (rule_in (entries_of e) q))
+is_given e so q lt one = subst (λ (rule : RegRule). IsTrue (is_specified rule)) (sym (slot_rule_is e so q lt)) (so.used q one).1
+
+-- a test of the mask
+pub not_in : (n q : ℕ) (b : Bool) → b ≡ nat_eq (bit_at n q) 1 → b ≡ false → bit_at n q ≡ 0
+not_in n q b is e = grind (arith, nat_tests, is, e, bit_at-lt n q)
+
+pub one_in : (n q : ℕ) (b : Bool) → b ≡ nat_eq (bit_at n q) 1 → b ≡ true → bit_at n q ≡ 1
+one_in n q b is e = grind (arith, nat_tests, is, e)
+
+pub so_room : (e : Entries) → EntriesSo e → (q : ℕ) (b : Bool) → b ≡ nat_eq (bit_at e.used q) 1 → b ≡ true → q < length (slots_of e)
+so_room e so q b is there = (so.used q (one_in e.used q b is there)).0
+
+-- no register is held by an empty mask
+pub none_hold : (near : List Slot) (expressions : List Entry) → Holds 0 near expressions
+none_hold near expressions q one = absurd (omega (arith, one, bit_at-zero q))
+
+pub none_listed : (near : List Slot) (expressions far : List Entry) → far ≡ [] → listed_near 0 0 near expressions far ≡ []
+none_listed near expressions far none =
+    let f = near_rule 0 near expressions in let e = ap (λ (l : List Entry). listed_from 0 128 f l) none in
+    e ∙ same_entries 0 (listed_from 0 128 f []) [] (slots_ascend f [] tt) tt (λ q. row_rule f [] tt q ∙ grind (arith, nat_tests, unset_rule 0 near expressions q (bit_at-zero q)))
+
+-- ---- room
+
+module _ (used : ℕ) (near near' : List Slot) (expressions : List Entry) (room : HasRoom near near') (holds : Holds used near expressions) where
+  pub room_rule : (q : ℕ) → near_rule used near' expressions q ≡ near_rule used near expressions q
+  room_rule q = grind (arith, nat_tests, bit_at-lt used q, λ (one : bit_at used q ≡ 1). room.kept q no_slot (holds q one).0)
+
+  pub room_holds : Holds used near' expressions
+  room_holds q one = (omega (arith, (holds q one).0, room.longer), subst (λ (rule : RegRule). IsTrue (is_specified rule)) (sym (room_rule q)) (holds q one).1)
+
+-- more slots behind the first ones
+pub room_behind : (low high high' : List Slot) → HasRoom high high' → HasRoom (low ++ high) (low ++ high')
+room_behind low high high' room = record {
+  longer = omega (arith, length-append low high, length-append low high', room.longer);
+  kept = λ q d within. elim (cases_lt q (length low)) [
+    | inl lt ↦ get_or_append_left low high' d q lt ∙ sym (get_or_append_left low high d q lt)
+    | inr ge ↦
+        get_or-append_right low high' (length low) q d refl ge
+        ∙ room.kept (q - length low) d (omega (arith, within, length-append low high, ge))
+        ∙ sym (get_or-append_right low high (length low) q d refl ge)
+  ];
+}
+
+pub cases_bit : (n : ℕ) → n < 2 → (n ≡ 0) ⊎ (n ≡ 1)
+cases_bit n lt = elim (cases_eq n 0) [ inl e ↦ inl e | inr ne ↦ inr (grind (arith, ne, lt)) ]
+
+-- the bit of a register, by halves
+pub low_bit : (r : ℕ) → r < 64 → 1 * 2 ^ r % 2 ^ 64 ≡ 1 * 2 ^ r % 2 ^ 128
+low_bit r lt = one_shl r 64 lt ∙ sym (one_shl r 128 (omega arith))
+
+pub high_bit : (r : ℕ) → 64 ≤ r → r < 128 → (1 * 2 ^ (r - 64) % 2 ^ 64) * 2 ^ 64 % 2 ^ 128 ≡ 1 * 2 ^ r % 2 ^ 128
+high_bit r le lt =
+    let at : (r - 64) + 64 ≡ r = omega arith in
+    let whole : 2 ^ (r - 64) * 2 ^ 64 ≡ 2 ^ r = sym (pow-add 2 (r - 64) 64) ∙ ap (λ (n : ℕ). 2 ^ n) at in
+    let one : 2 ^ r ≡ 1 * 2 ^ r = omega arith in
+    ap (λ (n : ℕ). n * 2 ^ 64 % 2 ^ 128) (one_shl (r - 64) 64 (omega arith)) ∙ ap (λ (n : ℕ). n % 2 ^ 128) (whole ∙ one)
+
+module _ (n r b : ℕ) (lt : r < 128) (bit : b ≡ 1 * 2 ^ r % 2 ^ 128) where
+  pub bit_tested : not (nat_eq (bit_and n b) 0) ≡ nat_eq (bit_at n r) 1
+  bit_tested =
+      let is : bit_and n b ≡ bit_at n r * 2 ^ r = ap (bit_and n) (bit ∙ one_shl r 128 lt) ∙ and_pow n r in elim (cases_bit (bit_at n r) (bit_at-lt n r)) [
+        | inl e ↦ let none : bit_and n b ≡ 0 * 2 ^ r = is ∙ ap (λ (m : ℕ). m * 2 ^ r) e in grind (arith, nat_tests, none, e)
+        | inr e ↦ let some : bit_and n b ≡ 1 * 2 ^ r = is ∙ ap (λ (m : ℕ). m * 2 ^ r) e in grind (arith, nat_tests, some, e, pow_pos r)
+      ]
+
+  pub bit_set_same : bit_at (bit_or n b) r ≡ 1
+  bit_set_same = ap (λ (m : ℕ). bit_at (bit_or n m) r) bit ∙ bit_at_set_same w128 n r lt
+
+  pub bit_set_other : (q : ℕ) → (q ≡ r → ⊥) → bit_at (bit_or n b) q ≡ bit_at n q
+  bit_set_other q ne = ap (λ (m : ℕ). bit_at (bit_or n m) q) bit ∙ bit_at_set_other w128 n r lt q ne
+
+  pub bit_clear_same : bit_at (bit_and n (bit_not w128 b)) r ≡ 0
+  bit_clear_same = ap (λ (m : ℕ). bit_at (bit_and n (bit_not w128 m)) r) bit ∙ bit_at_clear_same w128 n r lt
+
+  pub bit_clear_other : (q : ℕ) → q < 128 → (q ≡ r → ⊥) → bit_at (bit_and n (bit_not w128 b)) q ≡ bit_at n q
+  bit_clear_other q low ne = ap (λ (m : ℕ). bit_at (bit_and n (bit_not w128 m)) q) bit ∙ bit_at_clear_other w128 n r lt q low ne
+
+-- ---- a slot that is set
+
+module _ (used : ℕ) (near : List Slot) (expressions expressions' : List Entry) (r p : ℕ) (s : Slot) (lt : r < 128) (b : ℕ) (bit : b ≡ 1 * 2 ^ r % 2 ^ 128) (at : p ≡ r) (room : r < length near)
+    (others : (q : ℕ) → (q ≡ r → ⊥) → rule_in expressions' q ≡ rule_in expressions q) where
+  pub put_rule_is : near_rule (bit_or used b) (set near p s) expressions' r ≡ slot_rule s (rule_in expressions' r)
+  put_rule_is =
+      set_rule (bit_or used b) (set near p s) expressions' r (bit_set_same used r b lt bit)
+      ∙ ap (λ (x : Slot). slot_rule x (rule_in expressions' r)) (ap (λ (n : ℕ). get_or (set near n s) r no_slot) at ∙ get_or-set_same near r s no_slot room)
+
+  pub other_rule_is : (q : ℕ) → (q ≡ r → ⊥) → near_rule (bit_or used b) (set near p s) expressions' q ≡ near_rule used near expressions q
+  other_rule_is q ne =
+      ap (λ (n : ℕ). rule_if n (get_or (set near p s) q no_slot) (rule_in expressions' q)) (bit_set_other used r b lt bit q ne)
+      ∙ ap (λ (x : Slot). rule_if (bit_at used q) x (rule_in expressions' q)) (get_or-set_other near p q s no_slot (λ e. ne (e ∙ at)))
+      ∙ ap (rule_if (bit_at used q) (get_or near q no_slot)) (others q ne)
+
+  pub put_holds : Holds used near expressions → IsTrue (is_specified (slot_rule s (rule_in expressions' r))) → Holds (bit_or used b) (set near p s) expressions'
+  put_holds holds given q one = elim (cases_eq q r) [
+    | inl e ↦ (omega (arith, e, room, length-set near p s), subst (λ (n : ℕ). IsTrue (is_specified (near_rule (bit_or used b) (set near p s) expressions' n))) (sym e) (subst (λ (rule : RegRule). IsTrue (is_specified rule)) (sym put_rule_is) given))
+    | inr ne ↦
+        let was = holds q (sym (bit_set_other used r b lt bit q ne) ∙ one) in
+        (omega (arith, was.0, length-set near p s), subst (λ (rule : RegRule). IsTrue (is_specified rule)) (sym (other_rule_is q ne)) was.1)
+  ]
 
 -- ---- as the code sets them
 
 held_rule : (k : Kind) (r : ℕ) (n : ℤ) (rule : RegRule) → (k ≡ kinds.Expression → ⊥) → HoldsRule k r n rule → (block : RegRule) → kind_rule k r n block ≡ rule
 held_rule kinds.Expression r n rule not is block = absurd (not refl)
 held_rule k r n rule not is block = is block
+
+plain_given : (k : Kind) (r : ℕ) (n : ℤ) (block : RegRule) → (k ≡ kinds.Expression → ⊥) → IsTrue (is_specified (kind_rule k r n block))
+plain_given kinds.Expression r n block not = absurd (not refl)
+plain_given k r n block not = refl
 
 -- a slot is the slot of the rule that it holds
 own_rule : (k : Kind) (r : ℕ) (n : ℤ) (block : RegRule) → HoldsRule k r n (kind_rule k r n block)
@@ -117,100 +217,164 @@ own_rule k r n block = λ other. refl
 pub own_slot : (s : Slot) (block : RegRule) → IsSlotOf (slot_rule s block) s
 own_slot s block = own_rule s.kind s.register s.offset block
 
-module _ (e : Entries) (so : EntriesSo e) (r p : ℕ) (s : Slot) (rule : RegRule) (lt : r < 32) (at : p ≡ r) where
-  pub set_plain : (s.kind ≡ kinds.Expression → ⊥) → IsSlotOf rule s → listed_near 0 (set e.near p s) e.expressions.entries e.far.entries ≡ put r rule (entries_of e)
-  set_plain not is =
-      slot_set e.near e.expressions.entries e.far.entries r p s e.expressions.entries rule so.near so.far lt at (held_rule s.kind s.register s.offset rule not is (rule_in e.expressions.entries r)) (λ q ne. refl)
+module _ (e : Entries) (so : EntriesSo e) (r : ℕ) (s : Slot) (new : List Slot) (lt : r < 128) (b : ℕ) (bit : b ≡ 1 * 2 ^ r % 2 ^ 128) (room : r < length (slots_of e)) (stored : new ≡ set (slots_of e) r s) where
+  abbrev with_bit : ℕ
+  with_bit = bit_or e.used b
 
-  pub set_expression : (expressions' : List Entry) → s.kind ≡ kinds.Expression → expressions' ≡ put r rule e.expressions.entries → listed_near 0 (set e.near p s) expressions' e.far.entries ≡ put r rule (entries_of e)
-  set_expression expressions' is new =
-      slot_set e.near e.expressions.entries e.far.entries r p s expressions' rule so.near so.far lt at
-      (rw (is, new) (same_rule_set r r rule e.expressions.entries so.expressions refl)) (λ q ne. rw new (other_rule r q rule e.expressions.entries so.expressions ne))
+  pub plain_put : (s.kind ≡ kinds.Expression → ⊥) → (rule : RegRule) → IsSlotOf rule s → listed_near 0 (bit_or e.used b) new e.expressions.entries e.far.entries ≡ put r rule (entries_of e)
+  plain_put not rule is =
+      let x = e.expressions.entries in
+      ap (λ (l : List Slot). listed_near 0 with_bit l x e.far.entries) stored
+      ∙ rules_put (near_rule e.used (slots_of e) x) (near_rule with_bit (set (slots_of e) r s) x) e.far.entries so.far r rule lt
+      (put_rule_is e.used (slots_of e) x x r r s lt b bit refl room (λ q ne. refl) ∙ held_rule s.kind s.register s.offset rule not is (rule_in x r))
+      (λ q low. other_rule_is e.used (slots_of e) x x r r s lt b bit refl room (λ n ne. refl) q)
 
--- ---- the mask of the slots that are used
+  pub plain_holds : (s.kind ≡ kinds.Expression → ⊥) → Holds (bit_or e.used b) new e.expressions.entries
+  plain_holds not =
+      let x = e.expressions.entries in
+      subst (λ (l : List Slot). Holds with_bit l x) (sym stored)
+      (put_holds e.used (slots_of e) x x r r s lt b bit refl room (λ q ne. refl) so.used (plain_given s.kind s.register s.offset (rule_in x r) not))
+
+  module _ (rule : RegRule) (expressions' : List Entry) (is : s.kind ≡ kinds.Expression) (put_in : expressions' ≡ put r rule e.expressions.entries) where
+    others : (q : ℕ) → (q ≡ r → ⊥) → rule_in expressions' q ≡ rule_in e.expressions.entries q
+    others q ne = rw put_in (other_rule r q rule e.expressions.entries so.expressions ne)
+
+    here : slot_rule s (rule_in expressions' r) ≡ rule
+    here = rw (is, put_in) (same_rule_set r r rule e.expressions.entries so.expressions refl)
+
+    pub expression_put : listed_near 0 (bit_or e.used b) new expressions' e.far.entries ≡ put r rule (entries_of e)
+    expression_put =
+        let x = e.expressions.entries in
+        ap (λ (l : List Slot). listed_near 0 with_bit l expressions' e.far.entries) stored
+        ∙ rules_put (near_rule e.used (slots_of e) x) (near_rule with_bit (set (slots_of e) r s) expressions') e.far.entries so.far r rule lt
+        (put_rule_is e.used (slots_of e) x expressions' r r s lt b bit refl room others ∙ here)
+        (λ q low. other_rule_is e.used (slots_of e) x expressions' r r s lt b bit refl room others q)
+
+    pub expression_holds : IsTrue (is_specified rule) → Holds (bit_or e.used b) new expressions'
+    expression_holds given =
+        subst (λ (l : List Slot). Holds with_bit l expressions') (sym stored)
+        (put_holds e.used (slots_of e) e.expressions.entries expressions' r r s lt b bit refl room others so.used (subst (λ (x : RegRule). IsTrue (is_specified x)) (sym here) given))
+
+-- ---- registers that are taken out of the mask
+
+-- a mask with fewer bits
+module _ (used used' : ℕ) (near : List Slot) (expressions : List Entry) (holds : Holds used near expressions) (fewer : (q : ℕ) → bit_at used' q ≡ 1 → bit_at used q ≡ 1) where
+  pub fewer_rule : (q : ℕ) → bit_at used' q ≡ 1 → near_rule used' near expressions q ≡ near_rule used near expressions q
+  fewer_rule q one = set_rule used' near expressions q one ∙ sym (set_rule used near expressions q (fewer q one))
+
+  pub fewer_holds : Holds used' near expressions
+  fewer_holds q one =
+      let was = holds q (fewer q one) in (was.0, subst (λ (rule : RegRule). IsTrue (is_specified rule)) (sym (fewer_rule q one)) was.1)
+
+module _ (e : Entries) (so : EntriesSo e) (r : ℕ) (lt : r < 128) (b : ℕ) (bit : b ≡ 1 * 2 ^ r % 2 ^ 128) where
+  abbrev dropped : ℕ
+  dropped = bit_and e.used (bit_not w128 b)
+
+  pub dropped_put : listed_near 0 (bit_and e.used (bit_not w128 b)) (slots_of e) e.expressions.entries e.far.entries ≡ put r Unspecified (entries_of e)
+  dropped_put =
+      let x = e.expressions.entries in let near = (slots_of e) in
+      rules_put (near_rule e.used near x) (near_rule dropped near x) e.far.entries so.far r Unspecified lt (unset_rule dropped near x r (bit_clear_same e.used r b lt bit))
+      (λ q low ne. ap (λ (n : ℕ). rule_if n (get_or near q no_slot) (rule_in x q)) (bit_clear_other e.used r b lt bit q low ne))
+
+  pub dropped_holds : Holds (bit_and e.used (bit_not w128 b)) (slots_of e) e.expressions.entries
+  dropped_holds =
+      fewer_holds e.used dropped (slots_of e) e.expressions.entries so.used (λ q one. omega (arith, one, bit_at_and e.used (bit_not w128 b) q, bit_at-lt e.used q))
+
+-- ---- the registers one after another
 
 shifted : (n k j : ℕ) → bit_at (n / 2 ^ k) j ≡ bit_at n (k + j)
 shifted n k j = ap (λ (m : ℕ). m % 2) (shr-shr n k j)
 
--- an empty slot
-pub not_used : (s : Slot) (block : RegRule) → s.kind ≡ kinds.Empty → slot_rule s block ≡ Unspecified
-not_used s block is = ap (λ (k : Kind). kind_rule k s.register s.offset block) is
-
--- a register whose bit is not set has no rule
-pub not_set : (e : Entries) → EntriesSo e → (q : ℕ) → q < 32 → bit_at e.used q ≡ 0 → rule_in (entries_of e) q ≡ Unspecified
-not_set e so q lt none =
-    near_rule e.near e.expressions.entries e.far.entries so.near so.far q no_slot lt ∙ not_used (get_or e.near q no_slot) (rule_in e.expressions.entries q) (so.used q no_slot (omega (arith, so.near)) none)
-
-skip_many : (n k r : ℕ) (near : List Slot) (expressions far : List Entry) (d : Slot) → k + n ≡ r → r ≤ length near → ((q : ℕ) → k ≤ q → q < r → (get_or near q d).kind ≡ kinds.Empty)
-    → listed_near k (drop k near) expressions far ≡ listed_near r (drop r near) expressions far
-skip_many zero k r near expressions far d e le none = let same : k ≡ r = omega arith in ap (λ (m : ℕ). listed_near m (drop m near) expressions far) same
-skip_many (suc n) k r near expressions far d e le none =
-    slot_next k near expressions far d Unspecified (omega arith) (sym (not_used (get_or near k d) (rule_in expressions k) (none k (omega arith) (omega arith))))
-    ∙ skip_many n (suc k) r near expressions far d (omega arith) le (λ q low high. none q (omega arith) high)
-
--- a bit above a place lies among the slots
-bit_inside : (used k n : ℕ) → used < 2 ^ 32 → bit_at (used / 2 ^ k) n ≡ 1 → k + n < 32
-bit_inside used k n fits one = grind (arith, bit_at_above used 32 (k + n) fits, shifted used k n)
+-- a bit above a place lies in its half
+bit_inside : (half k n : ℕ) → half < 2 ^ 64 → bit_at (half / 2 ^ k) n ≡ 1 → k + n < 64
+bit_inside half k n fits one = grind (arith, bit_at_above half 64 (k + n) fits, shifted half k n)
 
 -- no bit is left from a place on
 pub no_bits : (n k : ℕ) → n / 2 ^ k ≡ 0 → (q : ℕ) → k ≤ q → bit_at n q ≡ 0
 no_bits n k none q le = let at : q ≡ k + (q - k) = omega arith in ap (bit_at n) at ∙ sym (shifted n k (q - k)) ∙ ap (λ (m : ℕ). bit_at m (q - k)) none ∙ bit_at-zero (q - k)
 
 -- the lowest bit that is left
-pub lowest_bit : (n k : ℕ) → n < 2 ^ 32 → 0 < n / 2 ^ k → FirstBit (Some (k + trailing_zeros w32 (n / 2 ^ k))) n k
+pub lowest_bit : (n k : ℕ) → n < 2 ^ 64 → 0 < n / 2 ^ k → FirstIn 64 (Some (k + trailing_zeros w64 (n / 2 ^ k))) n k
 lowest_bit n k fits some =
-    let within : n / 2 ^ k < 2 ^ 32 = omega (arith, div-le_self n (2 ^ k)) in
-    let j = trailing_zeros w32 (n / 2 ^ k) in
-    let z = bit_at-trailing_zeros w32 (n / 2 ^ k) some within in
+    let within : n / 2 ^ k < 2 ^ 64 = omega (arith, div-le_self n (2 ^ k)) in
+    let j = trailing_zeros w64 (n / 2 ^ k) in
+    let z = bit_at-trailing_zeros w64 (n / 2 ^ k) some within in
     (omega arith, bit_inside n k j fits z.1, sym (shifted n k j) ∙ z.1, λ q low high. let at : q ≡ k + (q - k) = omega arith in ap (bit_at n) at ∙ sym (shifted n k (q - k)) ∙ z.2 (q - k) (omega arith))
+
+-- a mask and its halves
+low_half : (n q : ℕ) → q < 64 → bit_at (n % 2 ^ 64) q ≡ bit_at n q
+low_half n q lt =
+    let whole : n ≡ n / 2 ^ 64 * 2 ^ 64 + n % 2 ^ 64 = omega arith in sym (ap (λ (m : ℕ). bit_at m q) whole ∙ bit_at_cat_low (n / 2 ^ 64) 64 (n % 2 ^ 64) q lt)
+
+high_half : (n q : ℕ) → bit_at (n / 2 ^ 64) q ≡ bit_at n (64 + q)
+high_half n q = shifted n 64 q
+
+pub none_high : (n k : ℕ) → 64 ≤ k → FirstIn 64 None (n / 2 ^ 64) (k - 64) → FirstIn 128 None n k
+none_high n k le none q low high = let at : q ≡ 64 + (q - 64) = omega arith in ap (bit_at n) at ∙ sym (high_half n (q - 64)) ∙ none (q - 64) (omega arith) (omega arith)
+
+pub first_high : (n k r : ℕ) → 64 ≤ k → FirstIn 64 (Some r) (n / 2 ^ 64) (k - 64) → FirstIn 128 (Some (r + 64)) n k
+first_high n k r le first =
+    let there : 64 + r ≡ r + 64 = omega arith in (
+      omega (arith, first.0),
+      omega (arith, first.1),
+      sym (high_half n r ∙ ap (bit_at n) there) ∙ first.2,
+      λ q low high. let at : q ≡ 64 + (q - 64) = omega arith in ap (bit_at n) at ∙ sym (high_half n (q - 64)) ∙ first.3 (q - 64) (omega arith) (omega arith),
+    )
+
+pub first_low : (n k r : ℕ) → FirstIn 64 (Some r) (n % 2 ^ 64) k → FirstIn 128 (Some r) n k
+first_low n k r first = (first.0, omega (arith, first.1), sym (low_half n r first.1) ∙ first.2, λ q low high. sym (low_half n q (omega (arith, high, first.1))) ∙ first.3 q low high)
+
+pub both_halves : (n k : ℕ) (o : Option ℕ) → k < 64 → FirstIn 64 None (n % 2 ^ 64) k → FirstIn 128 o n 64 → FirstIn 128 o n k
+both_halves n k None lt none rest = λ q low high. elim (cases_lt q 64) [ inl below ↦ sym (low_half n q below) ∙ none q low below | inr above ↦ rest q above high ]
+both_halves n k (Some r) lt none rest = (
+  omega (arith, lt, rest.0),
+  rest.1,
+  rest.2,
+  λ q low high. elim (cases_lt q 64) [ inl below ↦ sym (low_half n q below) ∙ none q low below | inr above ↦ rest.3 q above high ],
+)
 
 -- a bit that neither of two masks has
 pub neither : (m n q : ℕ) → bit_at (bit_or m n) q ≡ 0 → (bit_at m q ≡ 0) × (bit_at n q ≡ 0)
 neither m n q none = let e = sym (bit_at_or m n q) ∙ none in (omega (arith, e), omega (arith, e))
 
-module _ (used : ℕ) (near : List Slot) (covers : Covers used near) (len : length near ≡ 32) where
-  skipped : (k r : ℕ) → k ≤ r → r ≤ 32 → ((q : ℕ) → k ≤ q → q < r → bit_at used q ≡ 0) → (expressions far : List Entry) → listed_near k (drop k near) expressions far ≡ listed_near r (drop r near) expressions far
-  skipped k r le within none expressions far =
-      skip_many (r - k) k r near expressions far no_slot (omega arith) (omega arith) (λ q low high. covers q no_slot (omega arith) (none q low high))
+-- registers without a rule are passed over
+skip_many : (j k m c n : ℕ) (f : ℕ → RegRule) (far : List Entry) → k + j ≡ m → c ≡ j + n → ((q : ℕ) → k ≤ q → q < m → f q ≡ Unspecified) → listed_from k c f far ≡ listed_from m n f far
+unfolding listed_from
+skip_many zero k m c n f far e e' none = let at : k ≡ m = omega arith in let count : c ≡ n = omega arith in ap (λ (x : ℕ). listed_from x c f far) at ∙ ap (λ (x : ℕ). listed_from m x f far) count
+skip_many (suc j) k m zero n f far e e' none = absurd (omega arith)
+skip_many (suc j) k m (suc c) n f far e e' none =
+    ap (λ (x : RegRule). listed k x (listed_from (suc k) c f far)) (none k (omega arith) (omega arith)) ∙ skip_many j (suc k) m c n f far (omega arith) (omega arith) (λ q low high. none q (omega arith) high)
 
-  pub none_used : (k : ℕ) → FirstBit None used k → (expressions far : List Entry) → listed_near k (drop k near) expressions far ≡ far
-  none_used k none expressions far =
-      grind (arith, λ (le : k ≤ 32). skipped k 32 le (omega arith) none expressions far, slots_end 32 near expressions far, slots_end k near expressions far, len)
+one_from : (k c m : ℕ) (f : ℕ → RegRule) (far : List Entry) → c ≡ suc m → listed_from k c f far ≡ listed k (f k) (listed_from (suc k) m f far)
+unfolding listed_from
+one_from k c m f far e = ap (λ (n : ℕ). listed_from k n f far) e
 
-  pub next_used : (k r p : ℕ) → FirstBit (Some r) used k → p ≡ r → (expressions far : List Entry) (rule : RegRule) → rule ≡ slot_rule (get_or near p no_slot) (rule_in expressions r)
-      → listed_near k (drop k near) expressions far ≡ listed r rule (listed_near (suc r) (drop (suc r) near) expressions far)
-  next_used k r p first at expressions far rule e =
-      skipped k r first.0 (omega (arith, first.1)) first.3 expressions far
-      ∙ slot_next r near expressions far no_slot rule (omega (arith, first.1)) (e ∙ ap (λ (n : ℕ). slot_rule (get_or near n no_slot) (rule_in expressions r)) at)
+none_from : (k c : ℕ) (f : ℕ → RegRule) (far : List Entry) → c ≡ 0 → listed_from k c f far ≡ far
+unfolding listed_from
+none_from k zero f far e = refl
+none_from k (suc c) f far e = absurd (omega arith)
 
-pub covers_set : (used : ℕ) (near : List Slot) (r p : ℕ) (s : Slot) → Covers used near → length near ≡ 32 → r < 32 → p ≡ r → Covers (bit_or used (1 * 2 ^ r % 2 ^ 32)) (set near p s)
-covers_set used near r p s covers len lt at q d in_near none =
-    grind (arith, bit_at_set_same w32 used r lt, bit_at_set_other w32 used r lt q, get_or-set_other near p q s d, length-set near p s, covers q d)
+-- behind the slots the others are left
+pub slots_end : (k used : ℕ) (near : List Slot) (expressions far : List Entry) → 128 ≤ k → listed_near k used near expressions far ≡ far
+slots_end k used near expressions far le = none_from k (128 - k) (near_rule used near expressions) far (omega arith)
 
-pub covers_clear : (used : ℕ) (near : List Slot) (r p : ℕ) (s : Slot) → s.kind ≡ kinds.Empty → Covers used near → length near ≡ 32 → r < 32 → p ≡ r → Covers (bit_and used (bit_not w32 (1 * 2 ^ r % 2 ^ 32))) (set near p s)
-covers_clear used near r p s empty covers len lt at q d in_near none =
-    grind (arith, bit_at_clear_other w32 used r lt q, get_or-set_same near p s d, get_or-set_other near p q s d, length-set near p s, covers q d, empty)
+module _ (used : ℕ) (near : List Slot) (expressions far : List Entry) where
+  skipped : (k r : ℕ) → k ≤ r → r ≤ 128 → ((q : ℕ) → k ≤ q → q < r → bit_at used q ≡ 0) → listed_near k used near expressions far ≡ listed_near r used near expressions far
+  skipped k r le within none =
+      skip_many (r - k) k r (128 - k) (128 - r) (near_rule used near expressions) far (omega arith) (omega arith) (λ q low high. unset_rule used near expressions q (none q low high))
 
-pub covers_blank : (n used : ℕ) → Covers used (replicate n no_slot)
-covers_blank n used q d lt none = ap (λ (s : Slot). s.kind) (get_or-replicate n q no_slot d (omega (arith, length-replicate n no_slot)))
+  pub none_used : (k : ℕ) → FirstBit None used k → listed_near k used near expressions far ≡ far
+  none_used k none = elim (cases_lt k 128) [
+    | inl lt ↦ skipped k 128 (omega arith) (omega arith) none ∙ slots_end 128 used near expressions far (omega arith)
+    | inr ge ↦ slots_end k used near expressions far ge
+  ]
 
--- a slot that is set, and its bit, leave the rest as it was
-pub set_keeps : {e e' : Entries} (r p : ℕ) (s : Slot) → EntriesSo e → r < 32 → p ≡ r → e'.near ≡ set e.near p s → e'.used ≡ bit_or e.used (1 * 2 ^ r % 2 ^ 32) → AreSpecified 0 e'.expressions.entries → e'.far ≡ e.far → EntriesSo e'
-set_keeps {e} {e'} r p s so lt at near used up far = record {
-  used = rw (used, near) (covers_set e.used e.near r p s so.used so.near lt at);
-  near = rw near (length-set e.near p s ∙ so.near);
-  expressions = up;
-  far = rw far so.far;
-}
-
--- ---- slots that are emptied by a mask
-
--- a mask from which its lowest bit is taken is less
-pub cleared_less : (n : ℕ) → 0 < n → n < 2 ^ 32 → bit_and n (bit_not w32 (1 * 2 ^ trailing_zeros w32 n % 2 ^ 32)) < n
-cleared_less n some fits =
-    let k = trailing_zeros w32 n in let z = bit_at-trailing_zeros w32 n some fits in
-    grind (arith, and_le_l n (bit_not w32 (1 * 2 ^ k % 2 ^ 32)), bit_at_clear_same w32 n k z.0, z.1)
-
--- slots of which none is used list no register
-pub none_listed : (near : List Slot) (expressions far : List Entry) → Covers 0 near → length near ≡ 32 → far ≡ [] → listed_near 0 near expressions far ≡ []
-none_listed near expressions far covers len none = none_used 0 near covers len 0 (λ q le lt. bit_at-zero q) expressions far ∙ none
+  pub next_used : Holds used near expressions → (k r : ℕ) → FirstBit (Some r) used k → (s : Slot) → s ≡ get_or near r no_slot → (rule : RegRule) → rule ≡ slot_rule s (rule_in expressions r)
+      → listed_near k used near expressions far ≡ (r, rule) ∷ listed_near (suc r) used near expressions far
+  next_used holds k r first s at rule e =
+      let f = near_rule used near expressions in
+      let is : rule ≡ f r = e ∙ ap (λ (x : Slot). slot_rule x (rule_in expressions r)) at ∙ sym (set_rule used near expressions r first.2) in
+      skipped k r first.0 (omega (arith, first.1)) first.3
+      ∙ one_from r (128 - r) (128 - suc r) f far (omega (arith, first.1))
+      ∙ listed_is r (f r) (listed_from (suc r) (128 - suc r) f far) (holds r first.2).1
+      ∙ ap (λ (x : RegRule). (r, x) ∷ listed_from (suc r) (128 - suc r) f far) (sym is)

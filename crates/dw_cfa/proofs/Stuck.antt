@@ -1,7 +1,7 @@
 -- What can't be read as an instruction has the fault that the table of operands gives it.
 use Rattle.dw_cfa.proofs.Words.{◌≡◌, ℕ, ◌+◌, ◌^◌, List, ◌∷◌, Option, Some, None, Result, Ok, Err, refl, sym, ap, subst, ◌∙◌, ◌⊎◌, arith, inl, inr, option_map, unsigned_abs, cases_lt, lt-ltb, le-ltb, OffsetTooLarge, AreBytes, Factors, Input}
 use Rattle.dw_cfa.proofs.Words.{Instr, Op, Opcode, Read, Refusal, Target, Takes, fault, take_at, uleb_at, ◌>>=◌, Again, take_again, take_found, byte_again, done, uleb_found, uleb_again, taken_bytes, Frame, BlockFault, block_input}
-use Rattle.dw_cfa.proofs.Words.{decode_at, fault_found, opcode_of, form_of, Operand, expression, Form, none, one, two, form_for, offset_of, leaving, expression_of, expression_in, block_in, after_length, block_at, operand_at, with_instr}
+use Rattle.dw_cfa.proofs.Words.{decode_at, fault_found, opcode_of, form_of, Operand, expression, InstrForm, none, one, two, form_for, offset_of, leaving, expression_of, expression_in, block_in, after_length, block_at, operand_at, with_instr}
 use Rattle.dw_cfa.proofs.Words.{then_operand, form_at, judged, instr_at, known_at}
 use Rattle.dw_cfa.specs.InstrFaults.{ContentsFault, OperandFault, FormFault, CodeFault}
 use Rattle.dw_cfa.proofs.CodeForms.{form_known}
@@ -68,7 +68,7 @@ fault_operand o i r e = e
 made_stuck : {X : Type 0} (read : Read X) (make : X → Instr) (r : Refusal) → read >>= with_instr make ≡ Err r → read ≡ Err r
 made_stuck read make r e = elim (bind_err read (with_instr make) r e) [ inl bad ↦ bad | inr x ↦ absurd cc ]
 
-form_fault : (form : Form) (i : Input) (r : Refusal) → FormWide form → AreBytes i.bytes → form_at form i ≡ Err r → FormFault form i r
+form_fault : (form : InstrForm) (i : Input) (r : Refusal) → FormWide form → AreBytes i.bytes → form_at form i ≡ Err r → FormFault form i r
 form_fault (none made) i r w h e = absurd cc
 form_fault (one o make) i r w h e = operand_fault o i r h (made_stuck (operand_at o i) make r e)
 form_fault (two o p make) i r w h e = elim (bind_err (operand_at o i) (then_operand p make) r e) [
@@ -78,7 +78,7 @@ form_fault (two o p make) i r w h e = elim (bind_err (operand_at o i) (then_oper
       inr (x.0.0, u.0, x.0.1, u.1, u.2, operand_fault p x.0.1 r (taken_bytes i x.0.1 u.0 u.2 h) (made_stuck (operand_at p x.0.1) (make x.0.0) r x.2))
 ]
 
-fault_form : (f : Factors) (form : Form) (i : Input) (r : Refusal) → FormFault form i r → form_at form i ≡ Err r
+fault_form : (f : Factors) (form : InstrForm) (i : Input) (r : Refusal) → FormFault form i r → form_at form i ≡ Err r
 fault_form f (none made) i r h = absurd h
 fault_form f (one o make) i r h = rw (fault_operand o i r h) refl
 fault_form f (two o p make) i r (inl h) = rw (fault_operand o i r h) refl
@@ -97,7 +97,7 @@ module _ (f : Factors) (t : Target) (at code : ℕ) (operands : List ℕ) where
   read_code = let one = byte_again t code at operands in rw one refl
 
   pub stuck_fault : (r : Refusal) → AreBytes operands → instr_at f (input at (code ∷ operands) t) ≡ Err r → CodeFault at (form_for f code) behind r
-  stuck_fault r h e = subst (λ (o : Option Form). CodeFault at o behind r) (sym (form_known f code)) (of (opcode_of code) refl (sym read_code ∙ e))
+  stuck_fault r h e = subst (λ (o : Option InstrForm). CodeFault at o behind r) (sym (form_known f code)) (of (opcode_of code) refl (sym read_code ∙ e))
     where
       of : (o : Option Opcode) → opcode_of code ≡ o → known_at f at o behind ≡ Err r → CodeFault at (option_map (form_of f) o) behind r
       of None is bad = cc
@@ -113,7 +113,7 @@ module _ (f : Factors) (t : Target) (at code : ℕ) (operands : List ℕ) where
       ]
 
   pub fault_stuck : (r : Refusal) → CodeFault at (form_for f code) behind r → instr_at f (input at (code ∷ operands) t) ≡ Err r
-  fault_stuck r h = read_code ∙ of (opcode_of code) (subst (λ (o : Option Form). CodeFault at o behind r) (form_known f code) h)
+  fault_stuck r h = read_code ∙ of (opcode_of code) (subst (λ (o : Option InstrForm). CodeFault at o behind r) (form_known f code) h)
     where
       of : (o : Option Opcode) → CodeFault at (option_map (form_of f) o) behind r → known_at f at o behind ≡ Err r
       of None is = ap (λ (x : Refusal). Err x) (sym is)

@@ -1,40 +1,81 @@
 -- One turn of the loop, in the rows still to come.
-use Rattle.dw_cfa.proofs.Words.{◌≡◌, ℕ, ◌<◌, Bool, length, Option, None, Result, Ok, Err, refl, sym, ap, ◌∙◌, subst, UnknownInstruction, AreBytes, End, Factors, Input, Instr, Machine, Opcode, Read, ReadError, Refusal, Refused, fixed_at}
-use Rattle.dw_cfa.proofs.Words.{moves_location, opcode_of, known_at, instr_at, fails, RunsSo, RanTo, Wrote, WroteTo, Held}
+use Rattle.dw_cfa.proofs.Words.{◌≡◌, ℕ, ◌<◌, Bool, true, false, length, None, Ok, Err, refl, sym, ap, ◌∙◌, subst, AreBytes, End, Factors, Input, Instr, Machine, Read, Refusal, Rules, SetLoc, Advance, Restore, RememberState, RestoreState}
+use Rattle.dw_num.specs.declared.target.Size.{Size}
+use Rattle.dw_num.specs.declared.target.Size.TheVariants.{Four, Eight}
+use Rattle.dw_cfa.proofs.Words.{◌≤◌, arith, address_limit, moves_location, instr_at, fails, RunsSo, RanTo, WroteTo, IsAfter, State, after, written, cie_fault, state_of}
 use Rattle.dw_cfa.specs.declared.machine.End.TheVariants as ends
-use Rattle.dw_cfa.specs.Inner.Turns.{Applied, Turned, Entered}
-use Rattle.dw_cfa.proofs.RunSteps.{rows_stuck, rows_fault, rows_ran, initial_stuck, initial_fault, initial_wrote}
+use Rattle.dw_cfa.specs.Inner.Machine.{program_fault}
+use Rattle.dw_cfa.specs.Inner.Turns.{Does, RunsCie, Stays, Taken, Turned, Entered}
+use Rattle.dw_cfa.proofs.RunSteps.{fde_is, rows_stuck, rows_fault, rows_ran, initial_stuck, initial_fault, initial_wrote}
 
--- not even an opcode
-pub unread : (f : Factors) (i : Input) (r : Refusal) → fixed_at 1 i ≡ Err r → instr_at f i ≡ Err r
-unfolding instr_at
-unread f i r e = rw e refl
+abbrev Takes : Type 0 → Type 1
+Takes K = K → Instr → ℕ → End → Refusal → K → Type 0
 
--- an opcode that is no instruction's
-pub unknown : (f : Factors) (i j : Input) (code at : ℕ) → at ≡ i.at → fixed_at 1 i ≡ Ok (code, j) → opcode_of code ≡ None → instr_at f i ≡ Err (record { code = UnknownInstruction; at = at })
-unfolding instr_at
-unknown f i j code at place e known = rw (place, e) (ap (λ (x : Option Opcode). known_at f i.at x j) known)
+-- what no instruction changes stays, whether one was read or not
+pub stays : (cie : Bool) {K : Type 0} (machine : K → Machine) (takes : Takes K) → Does cie machine takes
+    → (r : Read Instr) (at : ℕ) (k : K) (end : End) (fault : Refusal) (j : Input) (k' : K) → Taken takes r at k end fault j k' → Stays (machine k) (machine k')
+stays cie machine takes does (Ok x) at k end fault j k' did = (does k x.0 at end fault k' did.1).1
+stays cie {K} machine takes does (Err r) at k ends.Refused fault j k' did = (ap (λ (k : K). (machine k).initial) did.1, ap (λ (k : K). (machine k).states.kept) did.1)
+stays cie machine takes does (Err r) at k end fault j k' did = absurd did
 
-module _ (f : Factors) (i : Input) (m : Machine) (h : AreBytes i.bytes) (some : 0 < length i.bytes) (so : RunsSo m i) (at : ℕ) (place : at ≡ i.at) where
-  pub by_read : (r : Read Instr) → instr_at f i ≡ r → (end : End) (fault : Refusal) (j : Input) (m' : Machine) → Applied r at m end fault j m' → Turned f i m end fault j m'
-  by_read r e ends.OutOfMemory fault j m' did = tt
-  by_read (Ok x) e ends.Refused fault j m' did =
-      rows_fault f i m x h some e fault.code did.1 ∙ ap (λ (n : ℕ). fails (record { code = fault.code; at = n })) (sym (did.0 ∙ place))
-  by_read (Ok x) e end fault j m' did =
-      subst (λ (b : Bool). RanTo f i m b j m') did.1 (subst (λ (k : Input). RanTo f i m (moves_location x.0) k m') did.0 (rows_ran f i m x h some e m' so did.2))
-  by_read (Err r) e ends.Refused fault j m' did = rows_stuck f i m r some e ∙ ap fails did
-  by_read (Err r) e end fault j m' did = absurd did
+module _ {K : Type 0} (machine : K → Machine) (takes : Takes K) (does : Does false machine takes) (f : Factors) (i : Input) (k : K) (h : AreBytes i.bytes) (some : 0 < length i.bytes) (so : RunsSo (machine k) i) where
+  ran_on : (x : Instr × Input) → instr_at f i ≡ Ok x → (moved : Bool) (j : Input) (k' : K) → x.1 ≡ j → (moves_location x.0 ≡ moved) × IsAfter false (machine k) x.0 (machine k') → RanTo f i (machine k) moved j (machine k')
+  ran_on x e moved j k' at ran =
+      subst (λ (b : Bool). RanTo f i (machine k) b j (machine k')) ran.0 (subst (λ (n : Input). RanTo f i (machine k) (moves_location x.0) n (machine k')) at (rows_ran f i (machine k) x h some e (machine k') so ran.1))
 
--- the same of a CIE's program
-module _ (f : Factors) (i : Input) (s : Held) (h : AreBytes i.bytes) (some : 0 < length i.bytes) (at : ℕ) (place : at ≡ i.at) where
-  pub entered_read : {X : Type 0} → (r : Read Instr) → instr_at f i ≡ r → (result : Result X ReadError) (j : Input) (s' : Held) → Entered r at s result j s' → Wrote f i s result j s'
-  entered_read (Ok x) e (Ok u) j s' did = (
-    subst (λ (k : Input). WroteTo f i s.row k s'.row) did.0 (initial_wrote f i s.row x h some e s'.row did.1 (ap (λ (t : Held). t.row) did.2)),
-    ap (λ (t : Held). t.stack) did.2,
-    ap (λ (t : Held). t.first) did.2,
-  )
-  entered_read (Ok x) e (Err (Refused r)) j s' did =
-      initial_fault f i s.row x h some e r.code did.1 ∙ ap (λ (n : ℕ). Err (record { code = r.code; at = n })) (sym (did.0 ∙ place))
-  entered_read (Err r) e (Ok u) j s' did = absurd did
-  entered_read (Err r) e (Err (Refused q)) j s' did = initial_stuck f i s.row r some e ∙ ap Err did
-  entered_read r e result j s' did = tt
+  by_read : (r : Read Instr) → instr_at f i ≡ r → (end : End) (fault : Refusal) (j : Input) (k' : K) → Taken takes r i.at k end fault j k' → Turned f i (machine k) end fault j (machine k')
+  by_read r e ends.OutOfMemory fault j k' did = tt
+  by_read (Ok x) e ends.Refused fault j k' did =
+      let ran = (does k x.0 i.at ends.Refused fault k' did.1).0 in
+      rows_fault f i (machine k) x h some e fault.code (sym (fde_is (machine k).limit x.0 (state_of (machine k))) ∙ ran.1) ∙ ap (λ (n : ℕ). fails (record { code = fault.code; at = n })) (sym ran.0)
+  by_read (Ok x) e ends.On fault j k' did = ran_on x e false j k' did.0 (does k x.0 i.at ends.On fault k' did.1).0
+  by_read (Ok x) e ends.Moved fault j k' did = ran_on x e true j k' did.0 (does k x.0 i.at ends.Moved fault k' did.1).0
+  by_read (Err r) e ends.Refused fault j k' did = rows_stuck f i (machine k) r some e ∙ ap fails did.0
+  by_read (Err r) e end fault j k' did = absurd did
+
+  pub turned : (end : End) (fault : Refusal) (j : Input) (k' : K) → Taken takes (instr_at f i) i.at k end fault j k' → Turned f i (machine k) end fault j (machine k')
+  turned = by_read (instr_at f i) refl
+
+-- ---- a CIE's program
+
+pub in_limit : (s : Size) (m : Machine) → RunsCie m → address_limit s ≤ m.limit
+in_limit Four m so = omega (arith, so.1)
+in_limit Eight m so = omega (arith, so.1)
+
+cie_is : (limit : ℕ) (i : Instr) (s : State) → program_fault true limit i s ≡ cie_fault i s.row
+cie_is limit (SetLoc a) s = refl
+cie_is limit i s = refl
+
+-- of what it may hold, nothing but the row changes
+only_row : (limit : ℕ) (initial : Rules) (i : Instr) (s : State) → program_fault true limit i s ≡ None → after initial i s ≡ record { row = written i s.row; stack = s.stack; location = s.location }
+only_row limit initial (SetLoc a) s none = absurd cc
+only_row limit initial (Advance d) s none = absurd cc
+only_row limit initial (Restore r) s none = absurd cc
+only_row limit initial RememberState s none = absurd cc
+only_row limit initial RestoreState s none = absurd cc
+only_row limit initial i s none = refl
+
+module _ (f : Factors) (i : Input) (m : Machine) (so : RunsCie m) (h : AreBytes i.bytes) (some : 0 < length i.bytes) where
+  wrote_on : (x : Instr × Input) → instr_at f i ≡ Ok x → (fault : Refusal) (j : Input) → x.1 ≡ j → (m' : Machine) → IsAfter true m x.0 m' → Entered f i m ends.On fault j m'
+  wrote_on x e fault j at m' behind =
+      let same = behind.state ∙ only_row m.limit m.initial x.0 (state_of m) behind.allowed in
+      let none = sym (cie_is m.limit x.0 (state_of m)) ∙ behind.allowed in (
+        subst (λ (k : Input). WroteTo f i m.states.row k m'.states.row) at (initial_wrote f i m.states.row x h some e m'.states.row none (ap (λ (t : State). t.row) same)),
+        (behind.within, rw behind.limit so.1),
+        ap (λ (t : State). t.stack) same,
+        behind.first,
+      )
+
+module _ {K : Type 0} (machine : K → Machine) (takes : Takes K) (does : Does true machine takes) (f : Factors) (i : Input) (k : K) (so : RunsCie (machine k)) (h : AreBytes i.bytes) (some : 0 < length i.bytes) where
+  by_written : (r : Read Instr) → instr_at f i ≡ r → (end : End) (fault : Refusal) (j : Input) (k' : K) → Taken takes r i.at k end fault j k' → Entered f i (machine k) end fault j (machine k')
+  by_written r e ends.OutOfMemory fault j k' did = tt
+  by_written (Ok x) e ends.Refused fault j k' did =
+      let ran = (does k x.0 i.at ends.Refused fault k' did.1).0 in
+      initial_fault f i (machine k).states.row x h some e fault.code (sym (cie_is (machine k).limit x.0 (state_of (machine k))) ∙ ran.1) ∙ ap (λ (n : ℕ). Err (record { code = fault.code; at = n })) (sym ran.0)
+  by_written (Ok x) e ends.On fault j k' did = wrote_on f i (machine k) so h some x e fault j did.0 (machine k') (does k x.0 i.at ends.On fault k' did.1).0.1
+  by_written (Ok x) e ends.Moved fault j k' did = wrote_on f i (machine k) so h some x e fault j did.0 (machine k') (does k x.0 i.at ends.Moved fault k' did.1).0.1
+  by_written (Err r) e ends.Refused fault j k' did = initial_stuck f i (machine k).states.row r some e ∙ ap Err did.0
+  by_written (Err r) e end fault j k' did = absurd did
+
+  pub entered : (end : End) (fault : Refusal) (j : Input) (k' : K) → Taken takes (instr_at f i) i.at k end fault j k' → Entered f i (machine k) end fault j (machine k')
+  entered = by_written (instr_at f i) refl

@@ -1,6 +1,6 @@
 -- A walk from one FDE's program to another's, behind a CIE's row that is run or brought back.
 use Rattle.dw_cfa.proofs.Words.{◌≡◌, ◌⊎◌, ℕ, Bool, true, false, Option, Some, None, Ok, Result, IsOk, refl, sym, ap, subst, ◌∙◌, inl, inr, ◌↔◌, IsTrue, MatchOption, OnOk, AreBytes, Factors, Input, Leading, Machine, Outcome, Progress, ReadError}
-use Rattle.dw_cfa.proofs.Words.{Rules, Stepping, Target, Program, blank, finished, RunsSo, initial_row, placed, rows_left, run_rows, program_input, left_of, progress_after, kept, StandsOn, AreLeft, HasInitial, Readied, WalksSo, initial_of}
+use Rattle.dw_cfa.proofs.Words.{Rules, Stepping, Target, ProgramSpells, blank, finished, RunsSo, initial_row, placed, rows_left, run_rows, program_input, left_of, progress_after, kept, StandsOn, AreLeft, HasInitial, Readied, WalksSo, initial_of}
 use Rattle.dw_cfa.proofs.Words.{led_of, led_rows, walk_of}
 use Rattle.dw_cfa.specs.declared.steps.Progress.TheVariants as progress
 use Rattle.dw_cfa.specs.Inner.NextRow.{GoesOn}
@@ -20,7 +20,7 @@ initial_is f i i' row left initial same none copy is =
 pub initial_elsewhere : (f : Factors) (i j : Input) (row : Rules) → AreBytes i.bytes → i.bytes ≡ j.bytes → i.target ≡ j.target → initial_row (placed f i) blank ≡ Ok row → initial_row (placed f j) blank ≡ Ok row
 initial_elsewhere f i j row bytes same target is =
     let here = initial_leaves f i row bytes is in
-    let program : Program j.target f here.0 j.bytes = subst (λ (t : Target). Program t f here.0 j.bytes) target (subst (Program i.target f here.0) same here.1.program) in
+    let program : ProgramSpells j.target f here.0 j.bytes = subst (λ (t : Target). ProgramSpells t f here.0 j.bytes) target (subst (ProgramSpells i.target f here.0) same here.1.program) in
     sym (to_leaves f j (subst AreBytes same bytes) (Ok row) (here.0, record { program = program; kept = here.1.kept; cfa = here.1.cfa; rules = here.1.rules; listed = here.1.listed }))
 
 -- a run that has no fault leaves an initial row

@@ -9,9 +9,9 @@ pub use Rattle.dw_cfa.specs.Gives.{Gives, RunsTo}
 pub use Rattle.dw_cfa.specs.Inner.Agreement.{agreed, is_agreed, same_cfa, same_rule}
 pub use Rattle.dw_cfa.specs.Inner.Coverage.{is_unset, lacks_from, leaves_one}
 pub use Rattle.dw_cfa.specs.Inner.Difference.{SameUnset, start_behind}
-unfoldable pub use Rattle.dw_cfa.specs.Inner.Entries.{listed_near}
-pub use Rattle.dw_cfa.specs.Inner.Entries.{CopiedBelow, Covers, EntriesSo, FirstBit, HoldsRule, IsSlotOf, LeavesAmong, LeavesAt, LeavesBelow, entries_of, kind_rule, left, slot_rule}
-pub use Rattle.dw_cfa.specs.Inner.Exact.{BehindGives, BehindRefused, GivesRows, InitialLeaves, InitialRefused, LeavesInitial, RulesBehind}
+unfoldable pub use Rattle.dw_cfa.specs.Inner.Entries.{listed_from}
+pub use Rattle.dw_cfa.specs.Inner.Entries.{EntriesSo, FirstBit, FirstIn, HasRoom, Holds, HoldsRule, IsSlotOf, LeavesAmong, LeavesAt, LeavesBelow, entries_of, kind_rule, left, listed_near, near_rule, no_slot, rule_if, slot_rule, slots_of}
+pub use Rattle.dw_cfa.specs.Inner.Exact.{BehindGives, BehindRefused, GivesRows, InitialLeaves, InitialRefused, LeavesInitial}
 unfoldable pub use Rattle.dw_cfa.specs.Inner.FrontInstr.{block_at, expression_in, instr_at}
 pub use Rattle.dw_cfa.specs.Inner.FrontInstr.{after_code, after_length, block_in, expression_of, form_at, judged, known_at, leaving, operand_at, then_operand, with_instr}
 pub use Rattle.dw_cfa.specs.Inner.Machine.{State, after, begun, changed, cie_fault, empty_fault, fde_fault, half_fault, moved, popped, written}
@@ -26,23 +26,24 @@ pub use Rattle.dw_cfa.specs.Inner.RowWalk.{AllSpecify, AreLeft, HasInitial, RanU
 pub use Rattle.dw_cfa.specs.Inner.Rows.{listed, put, with_cfa, with_rule}
 pub use Rattle.dw_cfa.specs.Inner.RuleAt.{CountsFrom, FoundAt}
 unfoldable pub use Rattle.dw_cfa.specs.Inner.Runs.{cie_run, fde_rows, fde_stop, placed, rows_behind, rows_left, run_rows, run_stop, stop_left}
-pub use Rattle.dw_cfa.specs.Inner.Runs.{GivesRow, Placed, Placing, RanTo, RunsSo, Wrote, WroteTo, at_end, fault_or, here, initial_row, on_initial, place_of, refused_at, row_if, stop_on, stop_or}
+pub use Rattle.dw_cfa.specs.Inner.Runs.{GivesRow, Placed, Placing, RanTo, RunsSo, WroteTo, at_end, fault_or, here, initial_row, on_initial, place_of, refused_at, row_if, stop_on, stop_or}
 unfoldable pub use Rattle.dw_cfa.specs.Inner.States.{count_remembered, rows_before}
 pub use Rattle.dw_cfa.specs.Inner.States.{BeganWith, Held, Restored, TakenBack, first_if, held, shown}
 pub use Rattle.dw_cfa.specs.Inner.Steps.{InLimit, IsAfter, state_of}
-pub use Rattle.dw_cfa.specs.InstrSpells.{BlockSpells, FormSpells, InstrSpells, IsOffset, Program, Spells}
+pub use Rattle.dw_cfa.specs.InstrSpells.{BlockSpells, InstrFormSpells, InstrSpells, IsOffset, OperandSpells, ProgramSpells}
 pub use Rattle.dw_cfa.specs.Kept.{CieKept, FdeKept, IsRegisterRule, in_cie, is_remember, is_restore, keeps_half, remembered, restored}
 pub use Rattle.dw_cfa.specs.Listing.{Listing, ProgramFault, answers, answers_before, complete, faulty}
 pub use Rattle.dw_cfa.specs.Location.{Counts, StaysAt, back_from, location, location_back, moves_location, onto}
-pub use Rattle.dw_cfa.specs.Opening.{first_row, moves_first, row_with}
+pub use Rattle.dw_cfa.specs.Opening.{cfa_with, first_row, moves_first, row_with}
 unfoldable pub use Rattle.dw_cfa.specs.Operands.{form_for}
-pub use Rattle.dw_cfa.specs.Operands.{Form, Operand, Value, address, advanced, expression, fixed, none, offset_of, one, register, signed, two, unsigned}
+pub use Rattle.dw_cfa.specs.Operands.{InstrForm, Operand, OperandValue, address, advanced, expression, fixed, none, offset_of, one, register, signed, two, unsigned}
 pub use Rattle.dw_cfa.specs.RegisterSets.{AgreesBeside, Registers, SameBeside, has}
-pub use Rattle.dw_cfa.specs.RowLaws.{BehindWhereFault, LastHolds, NoneFalls, OneBehind, OneCount, OneHolds, OneInitial, OneRun, RefusedWhereFault, RowsWhereKept}
+pub use Rattle.dw_cfa.specs.RowLaws.{BehindWhereFault, FirstRowIsBegin, GivesWhereKept, LastHolds, LeavesWhereKept, NoneFalls, OneBehind, OneCount, OneHolds, OneInitial, OneRun, RefusedWhereFault, RowsWhereKept}
 pub use Rattle.dw_cfa.specs.RowSteps.{Stepping, program_input, stepping}
 pub use Rattle.dw_cfa.specs.RowWalk.{AllKeep, StandsOn, Walking}
 pub use Rattle.dw_cfa.specs.Rows.{AreSpecified, HasFar, Rules, blank, is_specified, rule, rule_in}
 pub use Rattle.dw_cfa.specs.RuleAt.{NeverFalls, last_at, left_above, or_here, rows_above}
+pub use Rattle.dw_cfa.specs.RulesBehind.{RulesBehind}
 pub use Rattle.dw_cfa.specs.Runs.{Outcome, fails, finished, row_then}
 pub use Rattle.dw_cfa.specs.declared.execution.LocatedRow.{LocatedRow}
 pub use Rattle.dw_cfa.specs.declared.instr.Factors.{Factors}
@@ -96,7 +97,7 @@ pub use Rattle.dw_op.specs.declared.profile.Profile.TheVariants.{Frame}
 pub use Rattle.std.proofs.Common.{Bool, Err, IsOk, List, None, Ok, Option, Result, Some, [], add-one, ap, append_assoc, arith, cond, drop, eq-eqb, false, get_or, inl, inr, length, map, negsuc, of_z, refl, reverse, rules, subst, suc, sym, take, to_z, true, w64, zero, ℕ, ◌*◌, ◌++◌, ◌+◌, ◌-◌, ◌<◌, ◌^◌, ◌||◌, ◌∙◌, ◌∷◌, ◌≡◌, ◌≤◌, ◌⊎◌}
 pub use Rattle.std.proofs.Math.ListN.{drop_of_length-le, replicate, set}
 pub use Rattle.std.proofs.Math.Nat.{div-le_self, mul-le-mul, mul-pos}
-pub use Rattle.std.proofs.lemmas.Bool.{cases_Bool, cases_lt, eqb-false, eqb-true, le-leb, le-ltb, lt-ltb, ltb-false, ltb-true, or_cases, or_parts}
+pub use Rattle.std.proofs.lemmas.Bool.{cases_Bool, cases_eq, cases_lt, eqb-false, eqb-true, le-leb, le-ltb, lt-ltb, ltb-false, ltb-true, or_cases, or_parts}
 pub use Rattle.std.proofs.lemmas.Bool.Decides.{leb_tells, nat_tests, not_from_Decides}
 pub use Rattle.std.proofs.lemmas.Int.{fits_signed_mul, to_z-of_z}
 pub use Rattle.std.proofs.lemmas.List.{append-nil, get_or-replicate, get_or-set_other, get_or-set_same, length-append, length-replicate, length-set, nil_from_length, reverse-append, take_all}

@@ -9,11 +9,11 @@ use Rattle.dw_num.specs.Input.{Input}
 use Rattle.dw_cfa.specs.declared.instr.Factors.{Factors}
 use Rattle.dw_cfa.specs.declared.instr.Instr.{Instr}
 use Rattle.dw_cfa.specs.declared.execution.LocatedRow.{LocatedRow}
-use Rattle.dw_cfa.specs.InstrSpells.{Program}
+use Rattle.dw_cfa.specs.InstrSpells.{ProgramSpells}
 use Rattle.dw_cfa.specs.Location.{location, moves_location}
 use Rattle.dw_cfa.specs.Column.{cfa_after, rule_after}
 use Rattle.dw_cfa.specs.Kept.{CieKept, FdeKept}
-use Rattle.dw_cfa.specs.Laws.{initial_cfa, initial_rule}
+use Rattle.dw_cfa.specs.InitialRules.{initial_cfa, initial_rule}
 use Rattle.dw_cfa.specs.Rows.{Rules, AreSpecified, rule}
 use Rattle.dw_cfa.specs.Runs.{Outcome}
 use Rattle.dw_cfa.specs.Faults.{CieFault, FdeFaultBehind}
@@ -22,7 +22,7 @@ use Rattle.dw_cfa.specs.Faults.{CieFault, FdeFaultBehind}
 
 -- a program of a CIE that keeps its rules, and the row that it leaves
 pub record Leaves (f : Factors) (cie : Input) (instrs : List Instr) (row : Rules) : Type 0 where
-  pub program : Program cie.target f instrs cie.bytes
+  pub program : ProgramSpells cie.target f instrs cie.bytes
   pub kept : CieKept instrs
   pub cfa : row.cfa ≡ initial_cfa instrs
   pub rules : (r : ℕ) → rule row r ≡ initial_rule instrs r
@@ -55,7 +55,7 @@ pub record IsRowAfter (initial : Rules) (begin : ℕ) (instrs : List Instr) (k :
 -- a program of an FDE that keeps its rules, and the rows that it gives behind an initial row
 pub record GivesBehind (f : Factors) (initial : Rules) (fde : Input) (begin : ℕ) (rows : List LocatedRow) : Type 0 where
   pub instrs : List Instr
-  pub program : Program fde.target f instrs fde.bytes
+  pub program : ProgramSpells fde.target f instrs fde.bytes
   pub kept : FdeKept (address_limit fde.target.size) begin initial.cfa instrs
   pub each : AllZip (IsRowAfter initial begin instrs) (ends (0 ∷ []) instrs) rows
 

@@ -11,12 +11,12 @@ use Rattle.dw_cfa.specs.declared.instr.Instr.{Instr}
 use Rattle.dw_cfa.specs.declared.instr.Instr.TheVariants.{SetLoc, Advance, RememberState, RestoreState}
 use Rattle.dw_cfa.specs.declared.rule.CfaRule.{CfaRule}
 use Rattle.dw_cfa.specs.declared.rule.CfaRule.TheVariants.{Unset}
-use Rattle.dw_cfa.specs.InstrSpells.{InstrSpells, Program}
+use Rattle.dw_cfa.specs.InstrSpells.{InstrSpells, ProgramSpells}
 use Rattle.dw_cfa.specs.Listing.{ProgramFault}
 use Rattle.dw_cfa.specs.Location.{location}
 use Rattle.dw_cfa.specs.Column.{cfa_after}
 use Rattle.dw_cfa.specs.Kept.{in_cie, keeps_half, IsRegisterRule, remembered, restored, CieKept, FdeKept}
-use Rattle.dw_cfa.specs.Laws.{initial_cfa}
+use Rattle.dw_cfa.specs.InitialRules.{initial_cfa}
 
 -- half of the CFA's rule is kept, and that rule is no register and offset
 abbrev pub BreaksHalf : CfaRule → Instr → Code → Type 0
@@ -41,7 +41,7 @@ pub record BrokenBehind (f : Factors) (i : Input) (instrs : List Instr) (Breaks 
   pub rest : List ℕ
   pub instr : Instr
   pub whole : i.bytes ≡ front ++ (spelling ++ rest)
-  pub read : Program i.target f instrs front
+  pub read : ProgramSpells i.target f instrs front
   pub next : InstrSpells i.target f instr spelling
   pub breaks : Breaks instr r.code
   pub place : r.at ≡ i.at + length front
@@ -59,22 +59,24 @@ abbrev pub FdeFaultBehind : Factors → CfaRule → Input → ℕ → List Instr
 FdeFaultBehind f initial fde begin instrs r =
     FdeKept (address_limit fde.target.size) begin initial instrs × FaultBehind f fde instrs (FdeBreaks (address_limit fde.target.size) begin initial instrs) r
 
+-- the first fault of an FDE's program, behind whatever instructions it stands
 abbrev pub FdeFault : Factors → CfaRule → Input → ℕ → Refusal → Type 0
 FdeFault f initial fde begin r = (instrs : List Instr) × FdeFaultBehind f initial fde begin instrs r
 
 -- the first fault of both: that of the CIE's program, or where it has none, that of the FDE's behind its initial rules
 abbrev pub RunFault : Factors → Input → Input → ℕ → Refusal → Type 0
 RunFault f cie fde begin r =
-    CieFault f cie r ⊎ ((instrs : List Instr) × Program cie.target f instrs cie.bytes × CieKept instrs × FdeFault f (initial_cfa instrs) fde begin r)
+    CieFault f cie r ⊎ ((instrs : List Instr) × ProgramSpells cie.target f instrs cie.bytes × CieKept instrs × FdeFault f (initial_cfa instrs) fde begin r)
 
--- the first fault of an FDE's program where it comes up to an address: behind instructions that lead to no location above it
+-- the first fault of an FDE's program, where it comes up to address a: the instructions before it lead to a location at or below a
 abbrev pub FdeFaultUpTo : Factors → CfaRule → Input → ℕ → ℕ → Refusal → Type 0
 FdeFaultUpTo f initial fde begin a r = (instrs : List Instr) × FdeFaultBehind f initial fde begin instrs r × (location begin instrs (length instrs) ≤ a)
 
--- the first fault of both where it comes up to an address, as that of the CIE's program does to any
+-- the first fault of both, where it comes up to address a. A fault of the CIE's program comes up to every address, since that
+-- program moves no location.
 abbrev pub FaultUpTo : Factors → Input → Input → ℕ → ℕ → Refusal → Type 0
 FaultUpTo f cie fde begin a r =
-    CieFault f cie r ⊎ ((instrs : List Instr) × Program cie.target f instrs cie.bytes × CieKept instrs × FdeFaultUpTo f (initial_cfa instrs) fde begin a r)
+    CieFault f cie r ⊎ ((instrs : List Instr) × ProgramSpells cie.target f instrs cie.bytes × CieKept instrs × FdeFaultUpTo f (initial_cfa instrs) fde begin a r)
 
 -- no fault of both comes up to an address
 abbrev pub NoFaultUpTo : Factors → Input → Input → ℕ → ℕ → Type 0

@@ -15,7 +15,7 @@ pub mod CieMachine
 pub mod RowWalk
 pub mod Steps
 pub mod Turns
-pub mod ShortRun
+pub mod LookUp
 pub mod Agreement
 pub mod Difference
 pub mod Rows

@@ -8,8 +8,8 @@ use Rattle.dw_num.specs.Front.{fixed_at, take_at, register_at, uleb_at, sleb_at,
 use Rattle.dw_op.specs.declared.profile.Profile.TheVariants.{Frame}
 use Rattle.dw_op.specs.Faults.{BlockFault}
 use Rattle.dw_cfa.specs.declared.instr.Instr.{Instr}
-use Rattle.dw_cfa.specs.Operands.{Operand, address, fixed, register, unsigned, signed, expression, Value, Form, none, one, two, offset_of}
-use Rattle.dw_cfa.specs.InstrSpells.{Spells, FormSpells, IsOffset}
+use Rattle.dw_cfa.specs.Operands.{Operand, address, fixed, register, unsigned, signed, expression, OperandValue, InstrForm, none, one, two, offset_of}
+use Rattle.dw_cfa.specs.InstrSpells.{OperandSpells, InstrFormSpells, IsOffset}
 
 -- fewer than n bytes are left, or the n bytes are no block of the frame profile: the place of its fault counts from its first byte
 abbrev pub ContentsFault : ℕ → Input → Refusal → Type 0
@@ -27,14 +27,14 @@ OperandFault signed i r = sleb_at i ≡ Err r
 OperandFault expression i r = (uleb_at i ≡ Err r) ⊎ ((n : ℕ) × (front : List ℕ) × (new : Input) × Uleb n front × Takes i front new × ContentsFault n new r)
 
 -- one of the operands is the first that can't be read
-abbrev pub FormFault : Form → Input → Refusal → Type 0
+abbrev pub FormFault : InstrForm → Input → Refusal → Type 0
 FormFault (none made) i r = ⊥
 FormFault (one o make) i r = OperandFault o i r
-FormFault (two o p make) i r = OperandFault o i r ⊎ ((x : Value o) × (front : List ℕ) × (new : Input) × Spells i.target o x front × Takes i front new × OperandFault p new r)
+FormFault (two o p make) i r = OperandFault o i r ⊎ ((x : OperandValue o) × (front : List ℕ) × (new : Input) × OperandSpells i.target o x front × Takes i front new × OperandFault p new r)
 
 -- the code at this place is no instruction's; or an operand behind it can't be read; or all can, and the offset is too large
-abbrev pub CodeFault : ℕ → Option Form → Input → Refusal → Type 0
+abbrev pub CodeFault : ℕ → Option InstrForm → Input → Refusal → Type 0
 CodeFault at None i r = r ≡ record { code = UnknownInstruction; at = at }
 CodeFault at (Some form) i r =
     FormFault form i r
-    ⊎ ((instr : Instr) × (front rest : List ℕ) × (i.bytes ≡ front ++ rest) × FormSpells i.target form instr front × (IsOffset (offset_of instr) → ⊥) × (r ≡ record { code = OffsetTooLarge; at = at }))
+    ⊎ ((instr : Instr) × (front rest : List ℕ) × (i.bytes ≡ front ++ rest) × InstrFormSpells i.target form instr front × (IsOffset (offset_of instr) → ⊥) × (r ≡ record { code = OffsetTooLarge; at = at }))

@@ -8,7 +8,7 @@ use Rattle.dw_op.specs.OpSpells.{Both}
 use Rattle.dw_op.specs.Block.{FrameBlock}
 use Rattle.dw_cfa.specs.declared.instr.Factors.{Factors}
 use Rattle.dw_cfa.specs.declared.instr.Instr.{Instr}
-use Rattle.dw_cfa.specs.Operands.{Operand, address, fixed, register, unsigned, signed, expression, Value, Form, none, one, two, form_for, offset_of}
+use Rattle.dw_cfa.specs.Operands.{Operand, address, fixed, register, unsigned, signed, expression, OperandValue, InstrForm, none, one, two, form_for, offset_of}
 
 -- ---- operands
 
@@ -22,21 +22,21 @@ pub record BlockSpells (t : Target) (e : Expression) (bytes : List ℕ) : Type 0
   pub whole : bytes ≡ length_bytes ++ block
 
 -- the bytes spell an operand
-abbrev pub Spells : Target → (o : Operand) → Value o → List ℕ → Type 0
-Spells t address a bytes = Address t a bytes
-Spells t (fixed n) x bytes = Fixed t.order n x bytes
-Spells t register r bytes = Register r bytes
-Spells t unsigned n bytes = Uleb n bytes
-Spells t signed z bytes = Sleb z bytes
-Spells t expression e bytes = BlockSpells t e bytes
+abbrev pub OperandSpells : Target → (o : Operand) → OperandValue o → List ℕ → Type 0
+OperandSpells t address a bytes = Address t a bytes
+OperandSpells t (fixed n) x bytes = Fixed t.order n x bytes
+OperandSpells t register r bytes = Register r bytes
+OperandSpells t unsigned n bytes = Uleb n bytes
+OperandSpells t signed z bytes = Sleb z bytes
+OperandSpells t expression e bytes = BlockSpells t e bytes
 
 -- ---- instructions
 
 -- the bytes spell the operands of a form, which make the instruction
-abbrev pub FormSpells : Target → Form → Instr → List ℕ → Type 0
-FormSpells t (none made) instr bytes = (instr ≡ made) × (bytes ≡ [])
-FormSpells t (one o make) instr bytes = (x : Value o) × (instr ≡ make x) × Spells t o x bytes
-FormSpells t (two o p make) instr bytes = (x : Value o) × (y : Value p) × (instr ≡ make x y) × Both (Spells t o x) (Spells t p y) bytes
+abbrev pub InstrFormSpells : Target → InstrForm → Instr → List ℕ → Type 0
+InstrFormSpells t (none made) instr bytes = (instr ≡ made) × (bytes ≡ [])
+InstrFormSpells t (one o make) instr bytes = (x : OperandValue o) × (instr ≡ make x) × OperandSpells t o x bytes
+InstrFormSpells t (two o p make) instr bytes = (x : OperandValue o) × (y : OperandValue p) × (instr ≡ make x y) × Both (OperandSpells t o x) (OperandSpells t p y) bytes
 
 -- an offset from -(2 ^ 63 - 1) to 2 ^ 63 - 1
 abbrev pub IsOffset : ℤ → Type 0
@@ -45,14 +45,14 @@ IsOffset z = unsigned_abs z < 2 ^ 63
 -- the bytes spell the instruction: an opcode, and behind it its operands
 pub record InstrSpells (t : Target) (f : Factors) (instr : Instr) (bytes : List ℕ) : Type 0 where
   pub code : ℕ
-  pub form : Form
+  pub form : InstrForm
   pub rest : List ℕ
   pub known : form_for f code ≡ Some form
   pub whole : bytes ≡ code ∷ rest
-  pub operands : FormSpells t form instr rest
+  pub operands : InstrFormSpells t form instr rest
   pub range : IsOffset (offset_of instr)
 
 -- the bytes are spellings of the instructions, one after the other
-abbrev pub Program : Target → Factors → List Instr → List ℕ → Type 0
-Program t f [] bytes = bytes ≡ []
-Program t f (i ∷ instrs) bytes = Both (InstrSpells t f i) (Program t f instrs) bytes
+abbrev pub ProgramSpells : Target → Factors → List Instr → List ℕ → Type 0
+ProgramSpells t f [] bytes = bytes ≡ []
+ProgramSpells t f (i ∷ instrs) bytes = Both (InstrSpells t f i) (ProgramSpells t f instrs) bytes

@@ -5,7 +5,7 @@ use Rattle.dw_num.specs.declared.target.Target.{Target}
 use Rattle.dw_op.specs.Walks.{Walked}
 use Rattle.dw_cfa.specs.declared.instr.Factors.{Factors}
 use Rattle.dw_cfa.specs.declared.instr.Instr.{Instr}
-use Rattle.dw_cfa.specs.InstrSpells.{Program}
+use Rattle.dw_cfa.specs.InstrSpells.{ProgramSpells}
 use Rattle.dw_cfa.specs.InstrFaults.{CodeFault}
 use Rattle.dw_cfa.specs.Operands.{form_for}
 
@@ -25,7 +25,7 @@ pub record ProgramFault (t : Target) (f : Factors) (at : ℕ) (bytes : List ℕ)
   pub code : ℕ
   pub operands : List ℕ
   pub whole : bytes ≡ front ++ code ∷ operands
-  pub read : Program t f instrs front
+  pub read : ProgramSpells t f instrs front
   pub fault : CodeFault (at + length front) (form_for f code) (record { at = (at + length front) + 1; bytes = operands; target = t }) r
 
 -- ---- one after another

@@ -1,9 +1,11 @@
 -- How an FDE's program begins: DWARF 5, 6.4.3.
 use Rattle.std.specs.Prelude.{Bool, true, false, List, [], ◌∷◌, Option, Some, None, nat_lt, if◌then◌else◌, ℤ}
+use Rattle.dw_cfa.specs.Column.{with_offset}
 use Rattle.dw_cfa.specs.declared.instr.Instr.{Instr}
 use Rattle.dw_cfa.specs.declared.instr.Instr.TheVariants.{Nop, Advance, DefCfaOffset}
 use Rattle.dw_cfa.specs.declared.opening.FirstRow.{FirstRow}
 use Rattle.dw_cfa.specs.declared.opening.FirstRow.TheVariants.{Initial, CfaOffset, Other}
+use Rattle.dw_cfa.specs.declared.rule.CfaRule.{CfaRule}
 
 -- whether the first instruction that is no nop advances the location by more than 0, or there is none
 abbrev pub moves_first : List Instr → Bool
@@ -23,3 +25,8 @@ first_row instrs = if moves_first instrs then Initial else Other
 abbrev pub row_with : Option ℤ → FirstRow
 row_with None = Initial
 row_with (Some n) = CfaOffset n
+
+-- a rule of the CFA, with this offset where there is one
+abbrev pub cfa_with : Option ℤ → CfaRule → CfaRule
+cfa_with None rule = rule
+cfa_with (Some n) rule = with_offset n rule

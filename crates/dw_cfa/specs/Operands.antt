@@ -18,16 +18,16 @@ pub data Operand : Type 0 where
   expression : Operand
 
 -- what is read of one
-abbrev pub Value : Operand → Type 0
-Value signed = ℤ
-Value expression = Expression
-Value other = ℕ
+abbrev pub OperandValue : Operand → Type 0
+OperandValue signed = ℤ
+OperandValue expression = Expression
+OperandValue other = ℕ
 
 -- the operands of a code, and the instruction that they make
-pub data Form : Type 0 where
-  none : Instr → Form
-  one : (o : Operand) → (Value o → Instr) → Form
-  two : (o p : Operand) → (Value o → Value p → Instr) → Form
+pub data InstrForm : Type 0 where
+  none : Instr → InstrForm
+  one : (o : Operand) → (OperandValue o → Instr) → InstrForm
+  two : (o p : Operand) → (OperandValue o → OperandValue p → Instr) → InstrForm
 
 abbrev pub advanced : Factors → ℕ → Instr
 advanced f delta = Advance (delta * f.code_factor)
@@ -37,24 +37,40 @@ abbrev pub offset_rule : Factors → (ℤ → RegRule) → ℕ → ℤ → Instr
 offset_rule f make r z = Set r (make (z *ℤ f.data_factor))
 
 -- the codes that are a whole byte, with the factors multiplied out
-abbrev pub form_table : Factors → List (ℕ × Form)
-form_table f =
-    (0x00, none Nop) ∷ (0x01, one address SetLoc) ∷ (0x02, one (fixed 1) (advanced f)) ∷ (0x03, one (fixed 2) (advanced f)) ∷ (0x04, one (fixed 4) (advanced f))
-    ∷ (0x05, two register unsigned (λ r n. offset_rule f rules.Offset r (pos n))) ∷ (0x06, one register Restore)
-    ∷ (0x07, one register (λ r. Set r rules.Undefined)) ∷ (0x08, one register (λ r. Set r rules.SameValue)) ∷ (0x09, two register register (λ r q. Set r (rules.Register q)))
-    ∷ (0x0a, none RememberState) ∷ (0x0b, none RestoreState) ∷ (0x0c, two register unsigned (λ r n. DefCfa r (pos n))) ∷ (0x0d, one register DefCfaRegister)
-    ∷ (0x0e, one unsigned (λ n. DefCfaOffset (pos n))) ∷ (0x0f, one expression DefCfaExpression) ∷ (0x10, two register expression (λ r e. Set r (rules.Expression e)))
-    ∷ (0x11, two register signed (offset_rule f rules.Offset)) ∷ (0x12, two register signed (λ r z. DefCfa r (z *ℤ f.data_factor)))
-    ∷ (0x13, one signed (λ z. DefCfaOffset (z *ℤ f.data_factor))) ∷ (0x14, two register unsigned (λ r n. offset_rule f rules.ValOffset r (pos n)))
-    ∷ (0x15, two register signed (offset_rule f rules.ValOffset)) ∷ (0x16, two register expression (λ r e. Set r (rules.ValExpression e))) ∷ []
+abbrev pub instr_form_table : Factors → List (ℕ × InstrForm)
+instr_form_table f =
+    (0x00, none Nop)  -- DW_CFA_nop
+    ∷ (0x01, one address SetLoc)  -- DW_CFA_set_loc
+    ∷ (0x02, one (fixed 1) (advanced f))  -- DW_CFA_advance_loc1
+    ∷ (0x03, one (fixed 2) (advanced f))  -- DW_CFA_advance_loc2
+    ∷ (0x04, one (fixed 4) (advanced f))  -- DW_CFA_advance_loc4
+    ∷ (0x05, two register unsigned (λ r n. offset_rule f rules.Offset r (pos n)))  -- DW_CFA_offset_extended
+    ∷ (0x06, one register Restore)  -- DW_CFA_restore_extended
+    ∷ (0x07, one register (λ r. Set r rules.Undefined))  -- DW_CFA_undefined
+    ∷ (0x08, one register (λ r. Set r rules.SameValue))  -- DW_CFA_same_value
+    ∷ (0x09, two register register (λ r q. Set r (rules.Register q)))  -- DW_CFA_register
+    ∷ (0x0a, none RememberState)  -- DW_CFA_remember_state
+    ∷ (0x0b, none RestoreState)  -- DW_CFA_restore_state
+    ∷ (0x0c, two register unsigned (λ r n. DefCfa r (pos n)))  -- DW_CFA_def_cfa
+    ∷ (0x0d, one register DefCfaRegister)  -- DW_CFA_def_cfa_register
+    ∷ (0x0e, one unsigned (λ n. DefCfaOffset (pos n)))  -- DW_CFA_def_cfa_offset
+    ∷ (0x0f, one expression DefCfaExpression)  -- DW_CFA_def_cfa_expression
+    ∷ (0x10, two register expression (λ r e. Set r (rules.Expression e)))  -- DW_CFA_expression
+    ∷ (0x11, two register signed (offset_rule f rules.Offset))  -- DW_CFA_offset_extended_sf
+    ∷ (0x12, two register signed (λ r z. DefCfa r (z *ℤ f.data_factor)))  -- DW_CFA_def_cfa_sf
+    ∷ (0x13, one signed (λ z. DefCfaOffset (z *ℤ f.data_factor)))  -- DW_CFA_def_cfa_offset_sf
+    ∷ (0x14, two register unsigned (λ r n. offset_rule f rules.ValOffset r (pos n)))  -- DW_CFA_val_offset
+    ∷ (0x15, two register signed (offset_rule f rules.ValOffset))  -- DW_CFA_val_offset_sf
+    ∷ (0x16, two register expression (λ r e. Set r (rules.ValExpression e)))  -- DW_CFA_val_expression
+    ∷ []
 
--- what stands behind a code, none for one that is no instruction's. Three have an operand in their low six bits.
-unfoldable pub form_for : Factors → ℕ → Option Form
+-- what stands behind a code, none for one that is no instruction's; three codes hold an operand in their low six bits
+unfoldable pub form_for : Factors → ℕ → Option InstrForm
 form_for f code =
-    if in_range 0x40 0x80 code then Some (none (advanced f (code - 0x40)))
-    else if in_range 0x80 0xc0 code then Some (one unsigned (λ n. offset_rule f rules.Offset (code - 0x80) (pos n)))
-    else if in_range 0xc0 0x100 code then Some (none (Restore (code - 0xc0)))
-    else look_up (form_table f) code
+    if in_range 0x40 0x80 code then Some (none (advanced f (code - 0x40)))  -- DW_CFA_advance_loc
+    else if in_range 0x80 0xc0 code then Some (one unsigned (λ n. offset_rule f rules.Offset (code - 0x80) (pos n)))  -- DW_CFA_offset
+    else if in_range 0xc0 0x100 code then Some (none (Restore (code - 0xc0)))  -- DW_CFA_restore
+    else look_up (instr_form_table f) code
 
 -- the offset in an instruction, 0 where it has none
 abbrev pub offset_of : Instr → ℤ

@@ -1,17 +1,19 @@
--- Sets of registers, and rows that differ in these alone: DWARF 5, 6.4.1.
+-- Sets of registers, and rows that differ in these alone: DWARF 5, 6.4.1. `Registers` is how the code keeps a set, by its mask; which
+-- registers are in it is `has`, and a reader needs that alone.
 use Rattle.std.specs.Prelude.{◌≡◌, ◌⊎◌, ℕ, Bool, false, List, nat_eq, nat_lt, if◌then◌else◌}
 use Rattle.std.specs.Int.{bit_at}
 use Rattle.dw_cfa.specs.declared.rule.RegRule.{RegRule}
 use Rattle.dw_cfa.specs.declared.rule.RegRule.TheVariants.{Unspecified}
 use Rattle.dw_cfa.specs.Rows.{Rules, is_specified, rule, rule_in}
 
--- those below 32 by the bits of a number, and the others by a list in which each has some rule
+-- those below 128 by the bits of a number, and the others by a list in which each has some rule
 pub record Registers : Type 0 where
   pub near : ℕ
   pub far : List (ℕ × RegRule)
 
+-- whether a register is in the set
 abbrev pub has : Registers → ℕ → Bool
-has registers r = if nat_lt r 32 then nat_eq (bit_at registers.near r) 1 else is_specified (rule_in registers.far r)
+has registers r = if nat_lt r 128 then nat_eq (bit_at registers.near r) 1 else is_specified (rule_in registers.far r)
 
 -- all registers outside a set have the same rules in both rows
 abbrev pub SameBeside : Registers → Rules → Rules → Type 0

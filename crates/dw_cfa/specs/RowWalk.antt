@@ -16,11 +16,12 @@ pub record Led : Type 0 where
   pub program : Input
   pub factors : Factors
 
--- none
+-- where no CIE was named yet: an empty program with factors of 0 stands for none
 abbrev pub unled : Target → Led
 unled target = record { program = record { at = 0; bytes = []; target = target }; factors = record { code_factor = 0; data_factor = pos 0 } }
 
--- a walk, the row that was kept of it, the CIE that it was led to last, and that CIE's row, while rows are to come behind another
+-- A walk. `steps`: the rows still to come and the row that is lent. `kept`: the row that was kept of it. `led`: the CIE that was
+-- named last. `initial`: the row that this CIE's program leaves, while rows are to come behind one that was gone on to; else none.
 pub record Walking : Type 0 where
   pub steps : Stepping
   pub kept : Rules

@@ -10,6 +10,7 @@ pub record Rules : Type 0 where
   pub cfa : CfaRule
   pub registers : List (ℕ × RegRule)
 
+-- whether an instruction has set it
 abbrev pub is_specified : RegRule → Bool
 is_specified Unspecified = false
 is_specified rule = true
@@ -19,6 +20,7 @@ abbrev pub AreSpecified : ℕ → List (ℕ × RegRule) → Type 0
 AreSpecified low [] = Unit {0}
 AreSpecified low (entry ∷ rest) = (low ≤ entry.0) × IsTrue (is_specified entry.1) × AreSpecified (suc entry.0) rest
 
+-- the rule of a register in such a list, and Unspecified where the list has none
 abbrev pub rule_in : List (ℕ × RegRule) → ℕ → RegRule
 rule_in [] r = Unspecified
 rule_in (entry ∷ rest) r = if nat_eq entry.0 r then entry.1 else rule_in rest r

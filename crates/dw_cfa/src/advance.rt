@@ -1,88 +1,71 @@
 //! Instructions that move the location, so that a row ends (6.4.2.1).
 
-ghost use Rattle.std.specs.Prelude.{◌≡◌, ◌≤◌, Ok};
+ghost use Rattle.std.specs.Prelude.{◌≤◌};
 ghost use Rattle.dw_num.specs.Fixed.{IsWidth};
-ghost use Rattle.dw_num.specs.Input.{Input};
 ghost use Rattle.dw_num.specs.Target.{address_limit};
 ghost use Rattle.dw_cfa.specs.Operands.{advanced};
 ghost use Rattle.dw_cfa.specs.Inner.ByOpcode.{advance_at, set_loc_at};
-ghost use Rattle.dw_cfa.specs.Inner.Turns.{Applied};
+ghost use Rattle.dw_cfa.specs.Inner.Turns.{IsWithinLimit, Taken};
 
 use crate::instr::Factors;
-use crate::machine::{End, Machine, refused};
+use crate::keep::Keep;
+use crate::machine::{End, refused};
 use crate::opcode::distance;
-use dw_num::{Code, Cursor, Refusal};
+use dw_num::{Cursor, Refusal};
 
 /// Moves the location on by a delta that is still to be factored.
 #[inline(always)]
-pub(crate) fn run_advance(
+pub(crate) fn run_advance<'a, K: Keep<'a>>(
     factors: Factors,
-    machine: &mut Machine<'_>,
+    keep: &mut K,
     at: u64,
     delta: u64,
     fault: &mut Refusal,
 ) -> End
-    requires { machine.old.location ≤ machine.old.limit }
-    ensures did { (behind : Input) → Applied (Ok (advanced factors delta, behind)) at machine.old result fault.new behind machine.new }
-    ensures initial { machine.new.initial ≡ machine.old.initial }
-    ensures kept { machine.new.states.kept ≡ machine.old.states.kept }
+    requires { IsWithinLimit (K.machine keep.old) }
+    ensures { K.takes keep.old (advanced factors delta) at result fault.new keep.new }
 {
-    let distance = distance(delta, factors);
-    if distance > machine.limit - machine.location {
-        let code = Code::LocationTooLarge;
-        return refused(Refusal { code, at }, fault);
-    }
-    machine.location += distance;
-    End::Moved
+    keep.advance(distance(delta, factors), at, fault)
 }
 
 /// The same by a delta of so many bytes.
 #[tactic(auto, unfolding(crate::specs::Inner::ByOpcode::advance_at))]
 #[inline(always)]
-pub(crate) fn run_fixed_advance<'a>(
+pub(crate) fn run_fixed_advance<'a, K: Keep<'a>>(
     cursor: &mut Cursor<'a>,
     factors: Factors,
-    machine: &mut Machine<'a>,
+    keep: &mut K,
     at: u64,
     width: usize,
     fault: &mut Refusal,
 ) -> End
-    requires location { machine.old.location ≤ machine.old.limit }
+    requires location { IsWithinLimit (K.machine keep.old) }
     requires width { IsWidth width }
-    ensures did { Applied (advance_at factors width cursor.old) at machine.old result fault.new cursor.new machine.new }
-    ensures initial { machine.new.initial ≡ machine.old.initial }
-    ensures kept { machine.new.states.kept ≡ machine.old.states.kept }
+    ensures { Taken K.takes (advance_at factors width cursor.old) at keep.old result fault.new cursor.new keep.new }
 {
     let delta = match cursor.fixed(width) {
         Ok(delta) => delta,
         Err(refusal) => return refused(refusal, fault),
     };
-    run_advance(factors, machine, at, delta, fault)
+    run_advance(factors, keep, at, delta, fault)
 }
 
 /// Moves the location to an address that is not below it.
 #[tactic(auto, unfolding(crate::specs::Inner::ByOpcode::set_loc_at))]
 #[inline(never)]
-pub(crate) fn run_set_loc<'a>(
+pub(crate) fn run_set_loc<'a, K: Keep<'a>>(
     cursor: &mut Cursor<'a>,
-    machine: &mut Machine<'a>,
+    keep: &mut K,
     at: u64,
     fault: &mut Refusal,
 ) -> End
-    requires location { machine.old.location ≤ machine.old.limit }
-    requires limit { machine.old.limit ≡ address_limit cursor.old.target.size }
-    ensures did { Applied (set_loc_at cursor.old) at machine.old result fault.new cursor.new machine.new }
-    ensures initial { machine.new.initial ≡ machine.old.initial }
-    ensures kept { machine.new.states.kept ≡ machine.old.states.kept }
+    requires location { IsWithinLimit (K.machine keep.old) }
+    requires limit { address_limit cursor.old.target.size ≤ (K.machine keep.old).limit }
+    ensures { Taken K.takes (set_loc_at cursor.old) at keep.old result fault.new cursor.new keep.new }
 {
     let address = match cursor.address() {
-        Ok(address) => u128::from(address),
+        Ok(address) => address,
         Err(refusal) => return refused(refusal, fault),
     };
-    if address < machine.location {
-        let code = Code::LocationBackwards;
-        return refused(Refusal { code, at }, fault);
-    }
-    machine.location = address;
-    End::Moved
+    keep.go(address, at, fault)
 }

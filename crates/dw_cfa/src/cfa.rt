@@ -1,30 +1,28 @@
 //! Instructions that say how the CFA is found (6.4.2.2).
 
-ghost use Rattle.std.specs.Prelude.{◌≡◌, ℕ, ◌≤◌, IsOk, IsTrue};
+ghost use Rattle.std.specs.Prelude.{IsOk, IsTrue};
 ghost use Rattle.dw_cfa.specs.Inner.ByOpcode.{def_cfa_at, def_cfa_sf_at, def_cfa_register_at, def_cfa_offset_at, def_cfa_offset_sf_at, def_cfa_expression_at};
-ghost use Rattle.dw_cfa.specs.Inner.Turns.{Applied};
+ghost use Rattle.dw_cfa.specs.Inner.Turns.{IsWithinLimit, Taken};
 
 use crate::instr::Factors;
-use crate::machine::{End, Machine, refused};
-use crate::opcode::{block, plain, signed};
-use crate::rule::CfaRule;
-use dw_num::{Code, Cursor, Refusal};
+use crate::keep::Keep;
+use crate::machine::{End, refused};
+use crate::opcode::{block, plain, quick_register, signed};
+use dw_num::{Cursor, Refusal};
 
 /// The CFA is a register plus an offset.
 #[tactic(auto, unfolding(crate::specs::Inner::ByOpcode::def_cfa_at))]
 #[inline(always)]
-pub(crate) fn run_def_cfa<'a>(
+pub(crate) fn run_def_cfa<'a, K: Keep<'a>>(
     cursor: &mut Cursor<'a>,
-    machine: &mut Machine<'a>,
+    keep: &mut K,
     at: u64,
     fault: &mut Refusal,
 ) -> End
-    requires { machine.old.location ≤ machine.old.limit }
-    ensures did { Applied (def_cfa_at at cursor.old) at machine.old result fault.new cursor.new machine.new }
-    ensures initial { machine.new.initial ≡ machine.old.initial }
-    ensures kept { machine.new.states.kept ≡ machine.old.states.kept }
+    requires { IsWithinLimit (K.machine keep.old) }
+    ensures { Taken K.takes (def_cfa_at at cursor.old) at keep.old result fault.new cursor.new keep.new }
 {
-    let register = match cursor.register() {
+    let register = match quick_register(cursor) {
         Ok(register) => register,
         Err(refusal) => return refused(refusal, fault),
     };
@@ -32,25 +30,21 @@ pub(crate) fn run_def_cfa<'a>(
         Ok(offset) => offset,
         Err(refusal) => return refused(refusal, fault),
     };
-    let rule = CfaRule::Register { register, offset };
-    machine.states.set_cfa(rule);
-    End::On
+    keep.def_cfa(register, offset, at, fault)
 }
 
 /// The same with an offset that is signed and factored.
 #[tactic(auto, unfolding(crate::specs::Inner::ByOpcode::def_cfa_sf_at))]
 #[inline(never)]
-pub(crate) fn run_def_cfa_sf<'a>(
+pub(crate) fn run_def_cfa_sf<'a, K: Keep<'a>>(
     cursor: &mut Cursor<'a>,
     factors: Factors,
-    machine: &mut Machine<'a>,
+    keep: &mut K,
     at: u64,
     fault: &mut Refusal,
 ) -> End
-    requires { machine.old.location ≤ machine.old.limit }
-    ensures did { Applied (def_cfa_sf_at factors at cursor.old) at machine.old result fault.new cursor.new machine.new }
-    ensures initial { machine.new.initial ≡ machine.old.initial }
-    ensures kept { machine.new.states.kept ≡ machine.old.states.kept }
+    requires { IsWithinLimit (K.machine keep.old) }
+    ensures { Taken K.takes (def_cfa_sf_at factors at cursor.old) at keep.old result fault.new cursor.new keep.new }
 {
     let register = match cursor.register() {
         Ok(register) => register,
@@ -60,112 +54,84 @@ pub(crate) fn run_def_cfa_sf<'a>(
         Ok(offset) => offset,
         Err(refusal) => return refused(refusal, fault),
     };
-    let rule = CfaRule::Register { register, offset };
-    machine.states.set_cfa(rule);
-    End::On
+    keep.def_cfa(register, offset, at, fault)
 }
 
 /// The CFA is another register plus the same offset.
 #[tactic(auto, unfolding(crate::specs::Inner::ByOpcode::def_cfa_register_at))]
 #[inline(always)]
-pub(crate) fn run_def_cfa_register<'a>(
+pub(crate) fn run_def_cfa_register<'a, K: Keep<'a>>(
     cursor: &mut Cursor<'a>,
-    machine: &mut Machine<'a>,
+    keep: &mut K,
     at: u64,
     fault: &mut Refusal,
 ) -> End
-    requires { machine.old.location ≤ machine.old.limit }
-    ensures did { Applied (def_cfa_register_at cursor.old) at machine.old result fault.new cursor.new machine.new }
-    ensures initial { machine.new.initial ≡ machine.old.initial }
-    ensures kept { machine.new.states.kept ≡ machine.old.states.kept }
+    requires { IsWithinLimit (K.machine keep.old) }
+    ensures { Taken K.takes (def_cfa_register_at cursor.old) at keep.old result fault.new cursor.new keep.new }
 {
-    let register = match cursor.register() {
+    let register = match quick_register(cursor) {
         Ok(register) => register,
         Err(refusal) => return refused(refusal, fault),
     };
-    let CfaRule::Register { offset, .. } = machine.states.row().cfa() else {
-        let code = Code::CfaNotRegister;
-        return refused(Refusal { code, at }, fault);
-    };
-    let rule = CfaRule::Register { register, offset };
-    machine.states.set_cfa(rule);
-    End::On
+    keep.def_cfa_register(register, at, fault)
 }
 
 /// The CFA is the same register plus another offset.
 #[tactic(auto, unfolding(crate::specs::Inner::ByOpcode::def_cfa_offset_at))]
 #[inline(always)]
-pub(crate) fn run_def_cfa_offset<'a>(
+pub(crate) fn run_def_cfa_offset<'a, K: Keep<'a>>(
     cursor: &mut Cursor<'a>,
-    machine: &mut Machine<'a>,
+    keep: &mut K,
     at: u64,
     fault: &mut Refusal,
 ) -> End
-    requires { machine.old.location ≤ machine.old.limit }
-    ensures did { Applied (def_cfa_offset_at at cursor.old) at machine.old result fault.new cursor.new machine.new }
-    ensures initial { machine.new.initial ≡ machine.old.initial }
-    ensures kept { machine.new.states.kept ≡ machine.old.states.kept }
+    requires { IsWithinLimit (K.machine keep.old) }
+    ensures { Taken K.takes (def_cfa_offset_at at cursor.old) at keep.old result fault.new cursor.new keep.new }
 {
     let offset = match plain(cursor, at) {
         Ok(offset) => offset,
         Err(refusal) => return refused(refusal, fault),
     };
-    let CfaRule::Register { register, .. } = machine.states.row().cfa() else {
-        let code = Code::CfaNotRegister;
-        return refused(Refusal { code, at }, fault);
-    };
-    let rule = CfaRule::Register { register, offset };
-    machine.states.set_cfa(rule);
-    End::On
+    keep.def_cfa_offset(offset, at, fault)
 }
 
 /// The same with an offset that is signed and factored.
 #[tactic(auto, unfolding(crate::specs::Inner::ByOpcode::def_cfa_offset_sf_at))]
 #[inline(always)]
-pub(crate) fn run_def_cfa_offset_sf<'a>(
+pub(crate) fn run_def_cfa_offset_sf<'a, K: Keep<'a>>(
     cursor: &mut Cursor<'a>,
     factors: Factors,
-    machine: &mut Machine<'a>,
+    keep: &mut K,
     at: u64,
     fault: &mut Refusal,
 ) -> End
-    requires { machine.old.location ≤ machine.old.limit }
-    ensures did { Applied (def_cfa_offset_sf_at factors at cursor.old) at machine.old result fault.new cursor.new machine.new }
-    ensures initial { machine.new.initial ≡ machine.old.initial }
-    ensures kept { machine.new.states.kept ≡ machine.old.states.kept }
+    requires { IsWithinLimit (K.machine keep.old) }
+    ensures { Taken K.takes (def_cfa_offset_sf_at factors at cursor.old) at keep.old result fault.new cursor.new keep.new }
 {
     let offset = match signed(cursor, factors, at) {
         Ok(offset) => offset,
         Err(refusal) => return refused(refusal, fault),
     };
-    let CfaRule::Register { register, .. } = machine.states.row().cfa() else {
-        let code = Code::CfaNotRegister;
-        return refused(Refusal { code, at }, fault);
-    };
-    let rule = CfaRule::Register { register, offset };
-    machine.states.set_cfa(rule);
-    End::On
+    keep.def_cfa_offset(offset, at, fault)
 }
 
 /// The CFA is what an expression gives. One that is known to be accepted is not judged again.
 #[tactic(auto, unfolding(crate::specs::Inner::ByOpcode::def_cfa_expression_at))]
 #[inline(never)]
-pub(crate) fn run_def_cfa_expression<'a>(
+pub(crate) fn run_def_cfa_expression<'a, K: Keep<'a>>(
     cursor: &mut Cursor<'a>,
-    machine: &mut Machine<'a>,
+    keep: &mut K,
+    at: u64,
     known: bool,
     fault: &mut Refusal,
 ) -> End
-    requires location { machine.old.location ≤ machine.old.limit }
+    requires location { IsWithinLimit (K.machine keep.old) }
     requires known { IsTrue known → IsOk (def_cfa_expression_at cursor.old) }
-    ensures did { (at : ℕ) → Applied (def_cfa_expression_at cursor.old) at machine.old result fault.new cursor.new machine.new }
-    ensures initial { machine.new.initial ≡ machine.old.initial }
-    ensures kept { machine.new.states.kept ≡ machine.old.states.kept }
+    ensures { Taken K.takes (def_cfa_expression_at cursor.old) at keep.old result fault.new cursor.new keep.new }
 {
     let expression = match block(cursor, known) {
         Ok(expression) => expression,
         Err(refusal) => return refused(refusal, fault),
     };
-    machine.states.set_cfa(CfaRule::Expression(expression));
-    End::On
+    keep.def_cfa_expression(expression, at, fault)
 }

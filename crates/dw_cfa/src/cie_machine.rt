@@ -57,7 +57,7 @@ impl<'a> Model for CieMachine<'a> {
 
 impl<'a> CieMachine<'a> {
     /// Runs a CIE's program (`initial_instructions`, 6.4.1). No row is to come until an FDE's program begins. Otherwise the first
-    /// refusal, or want of memory. Refusals are those of `initial_row`.
+    /// refusal, or want of memory (`OutOfMemory`). Refusals are those of `initial_row`.
     pub fn new(
         alloc: Global,
         cie_program: Program<'a>,
@@ -114,7 +114,7 @@ impl<'a> CieMachine<'a> {
 
     /// Begins an FDE's program (`instructions`, 6.4.1) at an address `begin` of the target, which is `initial_location` of that
     /// FDE where its rows are asked for, or answers want of memory. What an FDE before it changed is taken back first. Behind
-    /// want of memory `advance` answers it, until a program begins again, and `row` lends some row.
+    /// want of memory a program has to begin again before anything else is asked.
     pub fn begin(&mut self, fde_program: Program<'a>, begin: u64) -> Result<(), AllocError>
         requires { begin < address_limit self.old.target.size }
         ensures ok { OnOk result (self.new ≡ with_steps self.old (stepping self.old.initial self.new.steps.outcome)) }
@@ -128,9 +128,10 @@ impl<'a> CieMachine<'a> {
     }
 
     /// Goes on to the next row of the FDE (6.4.1, 6.4.3), which `row` lends then, and answers the location that it starts at, or
-    /// none behind the last row. No row is copied. A refusal, or want of memory, is answered from then on. Refusals are those of
-    /// `Instructions`, and `LocationBackwards`, `LocationTooLarge`, `EmptyStateStack`, `StateStackFull` and `CfaNotRegister`.
-    pub fn advance(&mut self) -> Result<Option<u128>, ReadError>
+    /// none behind the last row. No row is copied. An error is a refusal or `OutOfMemory`, and is answered from then on. A refusal
+    /// is one of `Instructions`, or `LocationBackwards` (14), `LocationTooLarge` (15), `EmptyStateStack` (16), `StateStackFull`
+    /// (17) or `CfaNotRegister` (18) at the opcode.
+    pub(crate) fn advance(&mut self) -> Result<Option<u128>, ReadError>
         ensures advances { Advances self.old.steps result self.new.steps }
         ensures same { self.new ≡ with_steps self.old self.new.steps }
     {
@@ -148,8 +149,9 @@ impl<'a> CieMachine<'a> {
     }
 
     /// Runs the program that began to its end, and says whether the rows still to come leave an address below the end without a
-    /// rule for the CFA (6.4.1, 6.4.2.2). No row is to come then, and a refusal, or want of memory, is answered from then on.
-    /// Refusals are those of `advance`.
+    /// rule for the CFA (6.4.1, 6.4.2.2). No row is to come then. An error is a refusal or `OutOfMemory`, and is answered from then
+    /// on. A refusal is one of `Instructions`, or `LocationBackwards` (14), `LocationTooLarge` (15), `EmptyStateStack` (16),
+    /// `StateStackFull` (17) or `CfaNotRegister` (18) at the opcode.
     pub fn lacks_rule(&mut self, end: u128) -> Result<bool, ReadError>
         requires { self.old.steps.error ≡ None }
         ensures found { IfOk result (λ lacks. (self.old.steps.outcome.fault ≡ None) × MatchBool lacks (Lacks end self.old.steps.outcome.rows) (Lacks end self.old.steps.outcome.rows → ⊥)) }
@@ -177,7 +179,7 @@ impl<'a> CieMachine<'a> {
     }
 
     /// The row (6.4.1) that `advance` went on to.
-    pub fn row(&self) -> &Row<'a>
+    pub(crate) fn row(&self) -> &Row<'a>
         ensures { result.now ≡ self.now.steps.current }
     {
         self.machine.states.row()

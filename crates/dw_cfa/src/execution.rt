@@ -1,17 +1,16 @@
 //! Programs that are run instruction by instruction (6.4.3).
 
-ghost use Rattle.std.specs.Prelude.{◌≡◌, ◌<◌, ◌≤◌, None, Some, Ok, Err, length, OnOk, IfErr, IfOk, IsOk, IsTrue};
+ghost use Rattle.std.specs.Prelude.{◌≡◌, ◌<◌, ◌≤◌, None, Some, Ok, Err, length, OnOk, IfErr, IfOk, IsOk, IsTrue, true, false};
 ghost use Rattle.dw_num.specs.Refusals.{Refuses};
-ghost use Rattle.dw_cfa.specs.Inner.Runs.{RunsSo, GivesRow, StopsAbove, Wrote, rows_left, stop_left, initial_row, placed};
+ghost use Rattle.dw_cfa.specs.Inner.Runs.{RunsSo, GivesRow, StopsAbove, rows_left, stop_left, initial_row, placed};
 ghost use Rattle.dw_cfa.specs.Inner.RowWalk.{RanUpTo};
+ghost use Rattle.dw_cfa.specs.Inner.Turns.{Does, Entered, RunsCie, Stays};
 
-use crate::cie_instruction::write_operands;
 use crate::instr::Factors;
+use crate::keep::Keep;
 use crate::machine::{End, Machine};
-use crate::opcode::known_opcode;
 use crate::row::Row;
-use crate::states::States;
-use crate::turn::turn;
+use crate::turn::{execute, turn};
 use dw_num::{Code, Cursor, ReadError, Refusal, are_bytes};
 
 /// A row of the call frame table (6.4.1, 6.4.3), and the location that it starts at. It holds up to the location of the next row.
@@ -57,30 +56,29 @@ pub(crate) fn next_row<'a>(
 /// Runs a program up to the end of the last row that starts at or below an address, which the machine has then. Answers
 /// whether the program goes on behind it. Where it is known that the program has no fault, no expression is judged again.
 #[inline(always)]
-pub(crate) fn run_to<'a>(
+pub(crate) fn run_to<'a, K: Keep<'a>>(
     cursor: &mut Cursor<'a>,
     factors: Factors,
-    machine: &mut Machine<'a>,
+    keep: &mut K,
     address: u64,
     known: bool,
 ) -> Result<bool, ReadError>
-    requires so { RunsSo machine.old cursor.old }
-    requires known { IsTrue known → (rows_left factors cursor.old machine.old).fault ≡ None }
-    requires start { machine.old.location ≤ address }
-    ensures ran { IfOk result (RanUpTo address (rows_left factors cursor.old machine.old) factors cursor.new machine.new) }
-    ensures none { OnOk result (StopsAbove (rows_left factors cursor.old machine.old).fault (stop_left factors cursor.old machine.old) address) }
-    ensures err { IfErr result (Refuses (λ r. ((rows_left factors cursor.old machine.old).fault ≡ Some r) × (stop_left factors cursor.old machine.old ≤ address))) }
-    ensures initial { machine.new.initial ≡ machine.old.initial }
-    ensures kept { machine.new.states.kept ≡ machine.old.states.kept }
+    requires fde { Does false K.machine K.takes }
+    requires so { RunsSo (K.machine keep.old) cursor.old }
+    requires known { IsTrue known → (rows_left factors cursor.old (K.machine keep.old)).fault ≡ None }
+    requires start { (K.machine keep.old).location ≤ address }
+    ensures ran { IfOk result (RanUpTo address (rows_left factors cursor.old (K.machine keep.old)) factors cursor.new (K.machine keep.new)) }
+    ensures none { OnOk result (StopsAbove (rows_left factors cursor.old (K.machine keep.old)).fault (stop_left factors cursor.old (K.machine keep.old)) address) }
+    ensures err { IfErr result (Refuses (λ r. ((rows_left factors cursor.old (K.machine keep.old)).fault ≡ Some r) × (stop_left factors cursor.old (K.machine keep.old) ≤ address))) }
+    ensures same { Stays (K.machine keep.old) (K.machine keep.new) }
 {
-    let end = u128::from(address);
     let code = Code::Truncated;
     let mut refusal = Refusal { code, at: 0 };
     'instrs: while cursor.left() > 0 {
-        match turn(cursor, factors, machine, known, &mut refusal) {
+        match turn(cursor, factors, keep, known, &mut refusal) {
             End::On => {}
             End::Moved => {
-                if machine.location > end {
+                if keep.is_above(address) {
                     return Ok(true);
                 }
             }
@@ -91,50 +89,50 @@ pub(crate) fn run_to<'a>(
     Ok(false)
 }
 
-// Reads an instruction of a CIE's program, and writes its rule into the row.
+// Runs an instruction of a CIE's program.
 #[inline(always)]
-fn write_one<'a>(
+fn write_one<'a, K: Keep<'a>>(
     cursor: &mut Cursor<'a>,
     factors: Factors,
-    states: &mut States<'a>,
+    keep: &mut K,
     known: bool,
-) -> Result<(), ReadError>
+    fault: &mut Refusal,
+) -> End
+    requires cie { Does true K.machine K.takes }
+    requires so { RunsCie (K.machine keep.old) }
     requires some { 0 < length cursor.old.bytes }
-    requires known { IsTrue known → IsOk (initial_row (placed factors cursor.old) states.old.row) }
-    ensures wrote { Wrote factors cursor.old states.old result cursor.new states.new }
-    ensures kept { states.new.kept ≡ states.old.kept }
+    requires known { IsTrue known → IsOk (initial_row (placed factors cursor.old) (K.machine keep.old).states.row) }
+    ensures wrote { Entered factors cursor.old (K.machine keep.old) result fault.new cursor.new (K.machine keep.new) }
+    ensures same { Stays (K.machine keep.old) (K.machine keep.new) }
 {
     are_bytes(cursor.rest());
-    let at = cursor.at();
-    let code = match cursor.byte() {
-        Ok(code) => code,
-        Err(refusal) => return Err(ReadError::Refused(refusal)),
-    };
-    match known_opcode(code) {
-        Some(opcode) => write_operands(opcode, cursor, factors, states, at, known),
-        None => {
-            let code = Code::UnknownInstruction;
-            Err(ReadError::Refused(Refusal { code, at }))
-        }
-    }
+    execute(cursor, factors, keep, known, fault)
 }
 
 /// Runs a CIE's program on a row. Where it is known that it has no fault, no expression is judged again.
 #[tactic(auto, using(crate::proofs::RunSteps::initial_end))]
-pub(crate) fn run_initial<'a>(
+pub(crate) fn run_initial<'a, K: Keep<'a>>(
     cursor: &mut Cursor<'a>,
     factors: Factors,
-    states: &mut States<'a>,
+    keep: &mut K,
     known: bool,
 ) -> Result<(), ReadError>
-    requires { IsTrue known → IsOk (initial_row (placed factors cursor.old) states.old.row) }
-    ensures ok { OnOk result (initial_row (placed factors cursor.old) states.old.row ≡ Ok states.new.row) }
-    ensures kept { states.new.kept ≡ states.old.kept }
-    ensures same { OnOk result ((states.new.stack ≡ states.old.stack) × (states.new.first ≡ states.old.first)) }
-    ensures err { IfErr result (Refuses (λ r. initial_row (placed factors cursor.old) states.old.row ≡ Err r)) }
+    requires cie { Does true K.machine K.takes }
+    requires so { RunsCie (K.machine keep.old) }
+    requires known { IsTrue known → IsOk (initial_row (placed factors cursor.old) (K.machine keep.old).states.row) }
+    ensures ok { OnOk result (initial_row (placed factors cursor.old) (K.machine keep.old).states.row ≡ Ok (K.machine keep.new).states.row) }
+    ensures kept { (K.machine keep.new).states.kept ≡ (K.machine keep.old).states.kept }
+    ensures same { OnOk result (((K.machine keep.new).states.stack ≡ (K.machine keep.old).states.stack) × ((K.machine keep.new).states.first ≡ (K.machine keep.old).states.first)) }
+    ensures err { IfErr result (Refuses (λ r. initial_row (placed factors cursor.old) (K.machine keep.old).states.row ≡ Err r)) }
 {
+    let code = Code::Truncated;
+    let mut fault = Refusal { code, at: 0 };
     'instrs: while cursor.left() > 0 {
-        write_one(cursor, factors, states, known)?;
+        match write_one(cursor, factors, keep, known, &mut fault) {
+            End::On | End::Moved => {}
+            End::Refused => return Err(ReadError::Refused(fault)),
+            End::OutOfMemory => return Err(ReadError::OutOfMemory),
+        }
     }
     Ok(())
 }

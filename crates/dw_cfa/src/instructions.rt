@@ -4,22 +4,22 @@ ghost use Rattle.std.specs.Prelude.{◌≡◌, ◌+◌, ◌≤◌, ◌↔◌, If
 ghost use Rattle.std.specs.Iterator.{YieldsFirst, item_count};
 ghost use Rattle.dw_num.specs.declared.refusal.Refusal.{Refusal};
 ghost use Rattle.dw_cfa.specs.declared.instr.Instr.{Instr};
-ghost use Rattle.dw_cfa.specs.InstrSpells.{Program as ProgramSpells};
+ghost use Rattle.dw_cfa.specs.InstrSpells.{ProgramSpells};
 ghost use Rattle.dw_cfa.specs.Listing.{ProgramFault, complete, faulty, answers};
 ghost use Rattle.dw_cfa.specs.Inner.Listing.{Yields, left_of};
 
 use crate::instr::{Factors, Instr};
-use crate::opcode::read_instr;
+use crate::noted::read_instr;
 use dw_num::{Cursor, Program, Refusal, Target, are_bytes};
 use std::marker::Model;
 
 /// An iterator over the instructions of a program (6.4.2, 7.24), which ends after its first fault. A contract
 /// sees the instructions that are still to come, and the fault that comes behind them. Takes no memory.
 ///
-/// The faults of an instruction, in this order: `UnknownInstruction` at its opcode; of each operand from left
-/// to right, at its first byte, `Truncated`, `NumberTooLarge`, and `RegisterTooLarge` of a register; of a block
-/// `Truncated` at the first byte of its contents where they pass the program's end, else the block's own first
-/// fault; `OffsetTooLarge` at the opcode.
+/// The faults of an instruction, in this order: `UnknownInstruction` (12) at its opcode; of each operand from left to right,
+/// at its first byte, `Truncated` (1), `NumberTooLarge` (8), and `RegisterTooLarge` (9) of a register; of a block `Truncated`
+/// (1) at the first byte of its contents where they pass the program's end, else the block's own first fault, which is one of
+/// `ExprRef::accept` (1, 8, 9, 20 to 23); `OffsetTooLarge` (19) at the opcode. Places count from the program's `at`.
 #[derive(Drop)]
 pub struct Instructions<'a> {
     cursor: Cursor<'a>,
@@ -65,7 +65,7 @@ impl<'a> Instructions<'a> {
             return None;
         }
         are_bytes(self.cursor.rest());
-        match read_instr(&mut self.cursor, self.factors, false) {
+        match read_instr(&mut self.cursor, self.factors) {
             Ok(instr) => Some(Ok(instr)),
             Err(refusal) => {
                 self.has_ended = true;

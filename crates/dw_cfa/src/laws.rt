@@ -2,7 +2,7 @@
 
 ghost use Rattle.dw_cfa.specs.Match.{MatchExists, RestoresMatched};
 ghost use Rattle.dw_cfa.specs.FaultPlaces.{CieFaultsWithin, FdeFaultsWithin, RunFaultsWithin};
-ghost use Rattle.dw_cfa.specs.RowLaws.{OneRun, RefusedWhereFault, RowsWhereKept, NoneFalls, LastHolds, OneHolds, OneListing, OneCount, OneInitial, OneBehind, BehindWhereFault};
+ghost use Rattle.dw_cfa.specs.RowLaws.{OneRun, RefusedWhereFault, RowsWhereKept, NoneFalls, LastHolds, OneHolds, OneListing, OneCount, FirstRowIsBegin, OneInitial, LeavesWhereKept, OneBehind, GivesWhereKept, RulesWhereGiven, BehindWhereFault};
 
 /// What holds of the rows that two programs give, and of their refusal.
 pub fn row_laws()
@@ -14,6 +14,7 @@ pub fn row_laws()
     ensures one { OneHolds }
     ensures listing { OneListing }
     ensures count { OneCount }
+    ensures first { FirstRowIsBegin }
     ensures within { RunFaultsWithin }
     ensures matched { RestoresMatched }
     ensures found { MatchExists }
@@ -22,12 +23,15 @@ pub fn row_laws()
 /// What holds of the row that a CIE's program leaves, and of its refusal.
 pub fn initial_laws()
     ensures one { OneInitial }
+    ensures kept { LeavesWhereKept }
     ensures within { CieFaultsWithin }
 {}
 
 /// What holds of the rows of an FDE's program behind an initial row, and of its refusal.
 pub fn behind_laws()
     ensures one { OneBehind }
+    ensures kept { GivesWhereKept }
+    ensures rules { RulesWhereGiven }
     ensures refused { BehindWhereFault }
     ensures within { FdeFaultsWithin }
 {}

@@ -3,18 +3,19 @@
 ghost use Rattle.std.specs.Prelude.{◌≡◌, ◌≤◌, ℕ, [], IsTrue, OnErr, OnOk};
 ghost use Rattle.dw_cfa.specs.Inner.Marks.{IsAdded, MarksMore, MarksSo, Unmarked, marked};
 
+use crate::near_slots::bit_of;
 use crate::row::NEAR;
 use crate::rule::RegRule;
 use crate::tree::set_in_tree;
 use std::alloc::{AllocError, Global};
 use std::collections::BTreeMap;
 
-/// The registers that were set: those below 32 in a mask, and the others in a tree, where each has a rule of no meaning.
+/// The registers that were set: those below 128 in a mask, and the others in a tree, where each has a rule of no meaning.
 /// Where none is watched, any may have been set.
 #[derive(Drop)]
 pub(crate) struct Marks<'a> {
     pub(crate) watched: bool,
-    pub(crate) near: u32,
+    pub(crate) near: u128,
     pub(crate) far: BTreeMap<u16, RegRule<'a>>,
 }
 
@@ -57,7 +58,7 @@ impl<'a> Marks<'a> {
     #[tactic(auto, using(crate::proofs::Lent::RowLists::lower, crate::proofs::Slots::put_so, crate::proofs::Marked::far_marked, crate::proofs::Marked::far_more, crate::proofs::Marked::far_added))]
     fn mark_far(&mut self, register: u16) -> Result<(), AllocError>
         requires so { MarksSo self.old }
-        requires far { 32 ≤ register }
+        requires far { 128 ≤ register }
         ensures so { MarksSo self.new }
         ensures marked { OnOk result (Unmarked self.new register → ⊥) }
         ensures more { MarksMore self.old self.new }
@@ -71,7 +72,7 @@ impl<'a> Marks<'a> {
 
     /// Marks a register that is set, or answers want of memory.
     #[inline(always)]
-    #[tactic(auto, using(crate::proofs::Marked::near_marked, crate::proofs::Marked::near_added, crate::proofs::Slots::neither))]
+    #[tactic(auto, using(crate::proofs::Marked::near_marked, crate::proofs::Marked::near_added, crate::proofs::Marked::near_more))]
     pub(crate) fn mark(&mut self, register: u16) -> Result<(), AllocError>
         requires { MarksSo self.old }
         ensures so { MarksSo self.new }
@@ -82,7 +83,7 @@ impl<'a> Marks<'a> {
         ensures same { OnErr result (marked self.new ≡ marked self.old) }
     {
         if register < NEAR {
-            self.near |= 1 << register;
+            self.near |= bit_of(register);
             return Ok(());
         }
         if self.watched {

@@ -1,89 +1,145 @@
-//! The slots of the registers in a mask: they are copied, emptied, compared, and read one after another.
+//! Slots of registers under a mask: a slot that the mask has not is never read.
 
-ghost use Rattle.std.specs.Prelude.{◌≡◌, ◌↔◌, [], ◌∷◌, IsTrue, MatchOption, length};
+ghost use Rattle.std.specs.Prelude.{◌≡◌, ◌<◌, ◌≤◌, ◌↔◌, ◌*◌, ◌^◌, ◌%◌, [], ◌∷◌, ◌++◌, false, IsTrue, MatchOption, OnOk, length, nat_eq};
 ghost use Rattle.std.specs.Iterator.{YieldsFirst, item_count};
+ghost use Rattle.std.specs.Int.{bit_at};
+ghost use Rattle.std.proofs.Math.ListN.{get_or, set};
 ghost use Rattle.dw_cfa.specs.Rows.{rule_in};
-ghost use Rattle.dw_cfa.specs.Inner.Entries.{CopiedBelow, Covers, FindsNear, FirstBit, slot_rule};
+ghost use Rattle.dw_cfa.specs.Inner.Entries.{FindsNear, FirstBit, FirstIn, HasRoom, Holds, no_slot, slot_rule};
 
-use crate::row::NEAR;
+use crate::row::{LOW, NEAR};
 use crate::rule::RegRule;
-use crate::slot::{EMPTY, Kind, Slot, rule_of, saved_rule};
+use crate::slot::{Kind, Slot, UNWRITTEN, rule_of};
+use std::alloc::AllocError;
 use std::collections::BTreeMap;
 use std::marker::Model;
 
-/// The first register from a place on that is in a mask.
+// What stands before the upper half of a mask.
+const HALF: u128 = 1 << 64;
+
+/// The mask that has one register. By halves, since a shift of 128 bits costs more.
+#[inline(always)]
+#[tactic(auto, using(crate::proofs::Slots::low_bit, crate::proofs::Slots::high_bit))]
+pub(crate) fn bit_of(register: u16) -> u128
+    requires { register < 128 }
+    ensures { result ≡ 1 * 2 ^ register % 2 ^ 128 }
+{
+    if register < 64 {
+        return u128::from(1_u64 << register);
+    }
+    u128::from(1_u64 << (register - 64)) << 64
+}
+
+/// Whether a register is in a mask.
+#[inline(always)]
+pub(crate) fn is_in(mask: u128, register: u16) -> bool
+    requires { register < 128 }
+    ensures { result ≡ nat_eq (bit_at mask register) 1 }
+{
+    mask & bit_of(register) != 0
+}
+
+// The first bit from a place on of one half of a mask.
 #[inline(always)]
 #[tactic(auto, using(crate::proofs::Slots::no_bits, crate::proofs::Slots::lowest_bit))]
-pub(crate) fn next_in(mask: u32, place: u32) -> Option<u32>
-    ensures { FirstBit result mask place }
+fn next_in_half(half: u64, place: u32) -> Option<u32>
+    requires { place < 64 }
+    ensures { FirstIn 64 result half place }
 {
-    if place >= 32 {
-        return None;
-    }
-    let left = mask >> place;
+    let left = half >> place;
     if left == 0 {
         return None;
     }
     Some(place + left.trailing_zeros())
 }
 
-/// Copies the slots of the registers in a mask.
-#[tactic(auto, using(crate::proofs::Copied::all_copied, crate::proofs::Copied::one_copied))]
-pub(crate) fn copy_slots(near: &mut [Slot; 32], others: &[Slot; 32], used: u32)
-    requires near { length near.old ≡ 32 }
-    requires others { length others.now ≡ 32 }
-    ensures { CopiedBelow used near.old others.now 32 near.new }
-{
-    let mut place = 0;
-    'slots: while let Some(register) = next_in(used, place) {
-        near[register as usize] = others[register as usize];
-        place = register + 1;
-    }
-}
-
-/// Empties the slots of the registers in a mask, which has all that are used.
+// The first register from a place on that is in the upper half of a mask.
 #[inline(always)]
-#[tactic(auto, using(crate::proofs::Slots::cleared_less))]
-pub(crate) fn empty_slots(near: &mut [Slot; 32], used: u32)
-    requires near { length near.old ≡ 32 }
-    requires used { Covers used near.old }
-    ensures near { length near.new ≡ 32 }
-    ensures used { Covers 0 near.new }
+fn next_high(mask: u128, place: u32) -> Option<u32>
+    requires from { 64 ≤ place }
+    requires to { place < 128 }
+    ensures { FirstBit result mask place }
 {
-    let mut left = used;
-    'slots: while left != 0 {
-        let register = left.trailing_zeros();
-        near[register as usize] = EMPTY;
-        left &= !(1 << register);
+    match next_in_half((mask >> 64) as u64, place - 64) {
+        Some(bit) => Some(bit + 64),
+        None => None,
     }
 }
 
-/// The first register from a place on that is not Unspecified, and its rule.
+/// The first register from a place on that is in a mask.
+#[inline(always)]
+pub(crate) fn next_in(mask: u128, place: u32) -> Option<u32>
+    ensures { FirstBit result mask place }
+{
+    if place >= 128 {
+        return None;
+    }
+    if place >= 64 {
+        return next_high(mask, place);
+    }
+    match next_in_half((mask % HALF) as u64, place) {
+        Some(bit) => Some(bit),
+        None => next_high(mask, 64),
+    }
+}
+
+/// The slot of a register. Those below 32 have one each.
+#[inline(always)]
+pub(crate) fn slot_at(low: &[Slot; 32], high: &Vec<Slot>, register: u16) -> Slot
+    requires low { length low.now ≡ 32 }
+    requires room { register < length (low.now ++ high.now.items) }
+    ensures { result ≡ get_or (low.now ++ high.now.items) register no_slot }
+{
+    if register < LOW {
+        return low[usize::from(register)];
+    }
+    high[usize::from(register - LOW)]
+}
+
+/// Writes the slot of a register.
+#[inline(always)]
+pub(crate) fn put_at(low: &mut [Slot; 32], high: &mut Vec<Slot>, register: u16, slot: Slot)
+    requires low { length low.old ≡ 32 }
+    requires room { register < length (low.old ++ high.old.items) }
+    ensures low { length low.new ≡ 32 }
+    ensures slots { low.new ++ high.new.items ≡ set (low.old ++ high.old.items) register slot }
+{
+    if register < LOW {
+        low[usize::from(register)] = slot;
+        return;
+    }
+    high[usize::from(register - LOW)] = slot;
+}
+
+/// Makes room for one slot more, and for those before it.
+#[inline(never)]
+pub(crate) fn add_room(high: &mut Vec<Slot>, at: u16) -> Result<(), AllocError>
+    requires room { length high.old.items ≤ at }
+    ensures ok { OnOk result (at < length high.new.items) }
+    ensures kept { HasRoom high.old.items high.new.items }
+{
+    high.resize(usize::from(at) + 1, UNWRITTEN)
+}
+
+/// The first register from a place on that the mask has, and its rule.
 #[inline(always)]
 pub(crate) fn next_near<'a>(
     at: u16,
-    near: &[Slot; 32],
-    used: u32,
+    low: &[Slot; 32],
+    high: &Vec<Slot>,
+    used: u128,
     expressions: &BTreeMap<u16, RegRule<'a>>,
 ) -> Option<(u16, RegRule<'a>)>
-    requires { Covers used near.now }
-    ensures { FindsNear result at near.now expressions.now.entries }
+    requires low { length low.now ≡ 32 }
+    requires holds { Holds used (low.now ++ high.now.items) expressions.now.entries }
+    ensures { FindsNear result at used (low.now ++ high.now.items) expressions.now.entries }
 {
-    let mut place = u32::from(at);
-    'slots: while let Some(next) = next_in(used, place) {
-        let register = next as u16;
-        let slot = near[usize::from(register)];
-        // Most rules are of this kind, and are told without a look at the others.
-        if let Some(rule) = saved_rule(slot) {
-            return Some((register, rule));
-        }
-        let rule = rule_of(slot, expressions, register);
-        if rule.is_specified() {
-            return Some((register, rule));
-        }
-        place = next + 1;
-    }
-    None
+    let Some(next) = next_in(used, u32::from(at)) else {
+        return None;
+    };
+    let register = next as u16;
+    let slot = slot_at(low, high, register);
+    Some((register, rule_of(slot, expressions, register)))
 }
 
 // Whether two slots of a register give it the same rule, whatever they hold.
@@ -115,7 +171,6 @@ pub(crate) fn same_slots(
         (Kind::Expression, _) | (_, Kind::Expression) => {
             same_rules(slot, other, expressions, others, register)
         }
-        (Kind::Empty, Kind::Empty) => true,
         (Kind::Undefined, Kind::Undefined) => true,
         (Kind::SameValue, Kind::SameValue) => true,
         (Kind::Offset, Kind::Offset) => slot.offset == other.offset,
@@ -125,26 +180,27 @@ pub(crate) fn same_slots(
     }
 }
 
-/// An iterator over the registers that a row specifies where all of them are below 32, ascending, with their rules. Takes no
+/// An iterator over the registers that a row specifies where all of them are below 128, ascending, with their rules. Takes no
 /// memory.
 #[derive(Drop)]
 pub struct NearRules<'r, 'a> {
     pub(crate) at: u16,
-    pub(crate) near: &'r [Slot; 32],
-    pub(crate) used: u32,
+    pub(crate) low: &'r [Slot; 32],
+    pub(crate) high: &'r Vec<Slot>,
+    pub(crate) used: u128,
     pub(crate) expressions: &'r BTreeMap<u16, RegRule<'a>>,
 }
 
 impl<'r, 'a> Model for NearRules<'r, 'a> {
-    ghost use Rattle.std.specs.Prelude.{◌≡◌, List, [], ℕ, drop, length};
+    ghost use Rattle.std.specs.Prelude.{◌≡◌, ◌++◌, List, [], ℕ, length};
     ghost use Rattle.dw_cfa.specs.declared.rule.RegRule.{RegRule as Rule};
-    ghost use Rattle.dw_cfa.specs.Inner.Entries.{listed_near, Covers};
+    ghost use Rattle.dw_cfa.specs.Inner.Entries.{listed_near, Holds};
 
     ghost Value = { List (ℕ × Rule) };
 
-    ghost view = { λ s. listed_near s.at (drop s.at s.near.now) s.expressions.now.entries [] };
+    ghost view = { λ s. listed_near s.at s.used (s.low.now ++ s.high.now.items) s.expressions.now.entries [] };
 
-    ghost invariant = { λ s. (length s.near.now ≡ 32) × Covers s.used s.near.now };
+    ghost invariant = { λ s. (length s.low.now ≡ 32) × Holds s.used (s.low.now ++ s.high.now.items) s.expressions.now.entries };
 }
 
 impl<'r, 'a> NearRules<'r, 'a> {
@@ -152,7 +208,13 @@ impl<'r, 'a> NearRules<'r, 'a> {
     fn step(&mut self) -> Option<(u16, RegRule<'a>)>
         ensures { MatchOption result ((self.old ≡ []) × (self.new ≡ [])) (λ entry. self.old ≡ entry ∷ self.new) }
     {
-        if let Some((register, rule)) = next_near(self.at, self.near, self.used, self.expressions) {
+        if let Some((register, rule)) = next_near(
+            self.at,
+            self.low,
+            self.high,
+            self.used,
+            self.expressions,
+        ) {
             self.at = register + 1;
             return Some((register, rule));
         }

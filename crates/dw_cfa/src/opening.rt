@@ -4,7 +4,7 @@ ghost use Rattle.std.specs.Prelude.{◌≡◌, ◌<◌, IfSome, IsTrue, List, []
 ghost use Rattle.dw_num.specs.declared.target.Target.{Target as TheTarget};
 ghost use Rattle.dw_cfa.specs.declared.instr.Instr.{Instr as TheInstr};
 ghost use Rattle.dw_cfa.specs.declared.opening.FirstRow.TheVariants.{Initial, CfaOffset, Other};
-ghost use Rattle.dw_cfa.specs.InstrSpells.{Program as ProgramSpells};
+ghost use Rattle.dw_cfa.specs.InstrSpells.{ProgramSpells};
 ghost use Rattle.dw_cfa.specs.Listing.{answers};
 ghost use Rattle.dw_cfa.specs.Opening.{first_row};
 ghost use Rattle.dw_cfa.specs.Inner.Opening.{GivesOffset, answers_move, answers_row};

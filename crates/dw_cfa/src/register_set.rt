@@ -1,6 +1,6 @@
 //! Sets of registers, and rows that differ in these alone (6.4.1).
 
-ghost use Rattle.std.specs.Prelude.{◌≡◌, ◌||◌, ℕ, false, nat_eq, IsTrue, OnOk, OnErr};
+ghost use Rattle.std.specs.Prelude.{◌≡◌, ◌||◌, ℕ, false, true, nat_eq, IsTrue, OnOk, OnErr};
 ghost use Rattle.dw_cfa.specs.Agreement.{IsAgreed};
 ghost use Rattle.dw_cfa.specs.Difference.{FirstDifference, place_behind};
 ghost use Rattle.dw_cfa.specs.Inner.Agreement.{is_agreed};
@@ -62,9 +62,11 @@ impl<'a> RegisterSet<'a> {
         self.marks.mark(register)
     }
 
-    /// Puts the registers of another set in, or answers want of memory, behind which some of them may be in.
+    /// Puts the registers of another set in, or answers want of memory. Behind that some of them may be in, and no register that
+    /// was in is out.
     pub fn add_all(&mut self, other: &RegisterSet<'_>) -> Result<(), AllocError>
-        ensures { OnOk result ((r : ℕ) → has self.new r ≡ (has other.now r || has self.old r)) }
+        ensures added { OnOk result ((r : ℕ) → has self.new r ≡ (has other.now r || has self.old r)) }
+        ensures more { OnErr result ((r : ℕ) → has self.old r ≡ true → has self.new r ≡ true) }
     {
         self.marks.near |= other.marks.near;
         add_far(&mut self.marks, &other.marks.far)
@@ -75,10 +77,11 @@ impl<'a> RegisterSet<'a> {
 fn add_far(marks: &mut Marks<'_>, far: &BTreeMap<u16, RegRule<'_>>) -> Result<(), AllocError>
     requires so { MarksSo marks.old }
     requires watched { IsTrue marks.old.watched }
-    requires far { AreSpecified 32 far.now.entries }
+    requires far { AreSpecified 128 far.now.entries }
     ensures so { MarksSo marks.new }
     ensures watched { IsTrue marks.new.watched }
     ensures added { OnOk result ((r : ℕ) → has (marked marks.new) r ≡ (in_tree far.now.entries r || has (marked marks.old) r)) }
+    ensures more { OnErr result ((r : ℕ) → has (marked marks.old) r ≡ true → has (marked marks.new) r ≡ true) }
 {
     let mut others = far.iter();
     'registers: while let Some((register, _)) = others.next() {
@@ -100,9 +103,9 @@ fn agree_at(row: &mut Row<'_>, other: &Row<'_>, register: u16) -> Result<(), All
 }
 
 // The same of the registers in a mask.
-fn agree_near(row: &mut Row<'_>, other: &Row<'_>, mask: u32) -> Result<(), AllocError>
+fn agree_near(row: &mut Row<'_>, other: &Row<'_>, mask: u128) -> Result<(), AllocError>
     ensures cfa { row.new.cfa ≡ row.old.cfa }
-    ensures rules { OnOk result (LeavesAmong (in_mask mask 32) (is_agreed other.now.registers) row.old.registers row.new.registers) }
+    ensures rules { OnOk result (LeavesAmong (in_mask mask 128) (is_agreed other.now.registers) row.old.registers row.new.registers) }
 {
     let mut place = 0;
     'slots: while let Some(register) = next_in(mask, place) {
@@ -118,7 +121,7 @@ fn agree_far(
     other: &Row<'_>,
     far: &BTreeMap<u16, RegRule<'_>>,
 ) -> Result<(), AllocError>
-    requires { AreSpecified 32 far.now.entries }
+    requires { AreSpecified 128 far.now.entries }
     ensures cfa { row.new.cfa ≡ row.old.cfa }
     ensures rules { OnOk result (LeavesAmong (in_tree far.now.entries) (is_agreed other.now.registers) row.old.registers row.new.registers) }
 {

@@ -1,164 +1,126 @@
 //! Instructions that say how a register of the caller is found (6.4.2.3).
 
-ghost use Rattle.std.specs.Prelude.{◌≡◌, ℕ, ◌≤◌, IsOk, IsTrue, Ok};
-ghost use Rattle.dw_num.specs.Input.{Input};
-ghost use Rattle.dw_num.specs.declared.refusal.Refusal.{Refusal};
-ghost use Rattle.dw_cfa.specs.declared.instr.Instr.TheVariants.{Restore};
+ghost use Rattle.std.specs.Prelude.{IsOk, IsTrue};
 ghost use Rattle.dw_cfa.specs.Inner.ByOpcode.{undefined_at, same_value_at, offset_at, offset_extended_at, offset_extended_sf_at, val_offset_at, val_offset_sf_at, register_rule_at, expression_at, val_expression_at, restore_at};
-ghost use Rattle.dw_cfa.specs.Inner.Turns.{Applied};
+ghost use Rattle.dw_cfa.specs.Inner.Turns.{IsWithinLimit, Taken};
 
 use crate::instr::Factors;
-use crate::machine::{End, Machine, refused};
+use crate::keep::Keep;
+use crate::machine::{End, refused};
 use crate::opcode::{block, factored, signed};
 use crate::rule::RegRule;
 use dw_num::{Cursor, Refusal};
 
 /// Gives a register the rule that it has in the initial row.
-#[inline(always)]
-pub(crate) fn run_restore(machine: &mut Machine<'_>, register: u16) -> End
-    requires { machine.old.location ≤ machine.old.limit }
-    ensures did { (at : ℕ) (fault : Refusal) (behind : Input) → Applied (Ok (Restore register, behind)) at machine.old result fault behind machine.new }
-    ensures initial { machine.new.initial ≡ machine.old.initial }
-    ensures kept { machine.new.states.kept ≡ machine.old.states.kept }
-{
-    let rule = machine.initial.rule(register);
-    if machine.states.set(register, rule).is_err() {
-        return End::OutOfMemory;
-    }
-    End::On
-}
-
-/// The same for any register.
 #[tactic(auto, unfolding(crate::specs::Inner::ByOpcode::restore_at))]
 #[inline(never)]
-pub(crate) fn run_restore_extended<'a>(
+pub(crate) fn run_restore_extended<'a, K: Keep<'a>>(
     cursor: &mut Cursor<'a>,
-    machine: &mut Machine<'a>,
+    keep: &mut K,
+    at: u64,
     fault: &mut Refusal,
 ) -> End
-    requires { machine.old.location ≤ machine.old.limit }
-    ensures did { (at : ℕ) → Applied (restore_at cursor.old) at machine.old result fault.new cursor.new machine.new }
-    ensures initial { machine.new.initial ≡ machine.old.initial }
-    ensures kept { machine.new.states.kept ≡ machine.old.states.kept }
+    requires { IsWithinLimit (K.machine keep.old) }
+    ensures { Taken K.takes (restore_at cursor.old) at keep.old result fault.new cursor.new keep.new }
 {
     let register = match cursor.register() {
         Ok(register) => register,
         Err(refusal) => return refused(refusal, fault),
     };
-    run_restore(machine, register)
+    keep.restore(register, at, fault)
 }
 
 /// A register has no value in the caller.
 #[tactic(auto, unfolding(crate::specs::Inner::ByOpcode::undefined_at))]
 #[inline(never)]
-pub(crate) fn run_undefined<'a>(
+pub(crate) fn run_undefined<'a, K: Keep<'a>>(
     cursor: &mut Cursor<'a>,
-    machine: &mut Machine<'a>,
+    keep: &mut K,
+    at: u64,
     fault: &mut Refusal,
 ) -> End
-    requires { machine.old.location ≤ machine.old.limit }
-    ensures did { (at : ℕ) → Applied (undefined_at cursor.old) at machine.old result fault.new cursor.new machine.new }
-    ensures initial { machine.new.initial ≡ machine.old.initial }
-    ensures kept { machine.new.states.kept ≡ machine.old.states.kept }
+    requires { IsWithinLimit (K.machine keep.old) }
+    ensures { Taken K.takes (undefined_at cursor.old) at keep.old result fault.new cursor.new keep.new }
 {
     let register = match cursor.register() {
         Ok(register) => register,
         Err(refusal) => return refused(refusal, fault),
     };
-    let rule = RegRule::Undefined;
-    if machine.states.set(register, rule).is_err() {
-        return End::OutOfMemory;
-    }
-    End::On
+    keep.set(register, RegRule::Undefined, at, fault)
 }
 
 /// A register has the value that it has here.
 #[tactic(auto, unfolding(crate::specs::Inner::ByOpcode::same_value_at))]
 #[inline(never)]
-pub(crate) fn run_same_value<'a>(
+pub(crate) fn run_same_value<'a, K: Keep<'a>>(
     cursor: &mut Cursor<'a>,
-    machine: &mut Machine<'a>,
+    keep: &mut K,
+    at: u64,
     fault: &mut Refusal,
 ) -> End
-    requires { machine.old.location ≤ machine.old.limit }
-    ensures did { (at : ℕ) → Applied (same_value_at cursor.old) at machine.old result fault.new cursor.new machine.new }
-    ensures initial { machine.new.initial ≡ machine.old.initial }
-    ensures kept { machine.new.states.kept ≡ machine.old.states.kept }
+    requires { IsWithinLimit (K.machine keep.old) }
+    ensures { Taken K.takes (same_value_at cursor.old) at keep.old result fault.new cursor.new keep.new }
 {
     let register = match cursor.register() {
         Ok(register) => register,
         Err(refusal) => return refused(refusal, fault),
     };
-    let rule = RegRule::SameValue;
-    if machine.states.set(register, rule).is_err() {
-        return End::OutOfMemory;
-    }
-    End::On
+    keep.set(register, RegRule::SameValue, at, fault)
 }
 
 /// A register is saved at the CFA plus an offset, which is factored.
 #[tactic(auto, unfolding(crate::specs::Inner::ByOpcode::offset_at))]
 #[inline(always)]
-pub(crate) fn run_offset<'a>(
+pub(crate) fn run_offset<'a, K: Keep<'a>>(
     cursor: &mut Cursor<'a>,
     factors: Factors,
-    machine: &mut Machine<'a>,
+    keep: &mut K,
     at: u64,
     register: u16,
     fault: &mut Refusal,
 ) -> End
-    requires { machine.old.location ≤ machine.old.limit }
-    ensures did { Applied (offset_at factors at register cursor.old) at machine.old result fault.new cursor.new machine.new }
-    ensures initial { machine.new.initial ≡ machine.old.initial }
-    ensures kept { machine.new.states.kept ≡ machine.old.states.kept }
+    requires { IsWithinLimit (K.machine keep.old) }
+    ensures { Taken K.takes (offset_at factors at register cursor.old) at keep.old result fault.new cursor.new keep.new }
 {
     let offset = match factored(cursor, factors, at) {
         Ok(offset) => offset,
         Err(refusal) => return refused(refusal, fault),
     };
-    let rule = RegRule::Offset(offset);
-    if machine.states.set(register, rule).is_err() {
-        return End::OutOfMemory;
-    }
-    End::On
+    keep.set(register, RegRule::Offset(offset), at, fault)
 }
 
 /// The same for any register.
 #[tactic(auto, unfolding(crate::specs::Inner::ByOpcode::offset_extended_at))]
 #[inline(never)]
-pub(crate) fn run_offset_extended<'a>(
+pub(crate) fn run_offset_extended<'a, K: Keep<'a>>(
     cursor: &mut Cursor<'a>,
     factors: Factors,
-    machine: &mut Machine<'a>,
+    keep: &mut K,
     at: u64,
     fault: &mut Refusal,
 ) -> End
-    requires { machine.old.location ≤ machine.old.limit }
-    ensures did { Applied (offset_extended_at factors at cursor.old) at machine.old result fault.new cursor.new machine.new }
-    ensures initial { machine.new.initial ≡ machine.old.initial }
-    ensures kept { machine.new.states.kept ≡ machine.old.states.kept }
+    requires { IsWithinLimit (K.machine keep.old) }
+    ensures { Taken K.takes (offset_extended_at factors at cursor.old) at keep.old result fault.new cursor.new keep.new }
 {
     let register = match cursor.register() {
         Ok(register) => register,
         Err(refusal) => return refused(refusal, fault),
     };
-    run_offset(cursor, factors, machine, at, register, fault)
+    run_offset(cursor, factors, keep, at, register, fault)
 }
 
 /// The same with an offset that is signed.
 #[tactic(auto, unfolding(crate::specs::Inner::ByOpcode::offset_extended_sf_at))]
 #[inline(never)]
-pub(crate) fn run_offset_extended_sf<'a>(
+pub(crate) fn run_offset_extended_sf<'a, K: Keep<'a>>(
     cursor: &mut Cursor<'a>,
     factors: Factors,
-    machine: &mut Machine<'a>,
+    keep: &mut K,
     at: u64,
     fault: &mut Refusal,
 ) -> End
-    requires { machine.old.location ≤ machine.old.limit }
-    ensures did { Applied (offset_extended_sf_at factors at cursor.old) at machine.old result fault.new cursor.new machine.new }
-    ensures initial { machine.new.initial ≡ machine.old.initial }
-    ensures kept { machine.new.states.kept ≡ machine.old.states.kept }
+    requires { IsWithinLimit (K.machine keep.old) }
+    ensures { Taken K.takes (offset_extended_sf_at factors at cursor.old) at keep.old result fault.new cursor.new keep.new }
 {
     let register = match cursor.register() {
         Ok(register) => register,
@@ -168,27 +130,21 @@ pub(crate) fn run_offset_extended_sf<'a>(
         Ok(offset) => offset,
         Err(refusal) => return refused(refusal, fault),
     };
-    let rule = RegRule::Offset(offset);
-    if machine.states.set(register, rule).is_err() {
-        return End::OutOfMemory;
-    }
-    End::On
+    keep.set(register, RegRule::Offset(offset), at, fault)
 }
 
 /// A register is the CFA plus an offset, which is factored.
 #[tactic(auto, unfolding(crate::specs::Inner::ByOpcode::val_offset_at))]
 #[inline(never)]
-pub(crate) fn run_val_offset<'a>(
+pub(crate) fn run_val_offset<'a, K: Keep<'a>>(
     cursor: &mut Cursor<'a>,
     factors: Factors,
-    machine: &mut Machine<'a>,
+    keep: &mut K,
     at: u64,
     fault: &mut Refusal,
 ) -> End
-    requires { machine.old.location ≤ machine.old.limit }
-    ensures did { Applied (val_offset_at factors at cursor.old) at machine.old result fault.new cursor.new machine.new }
-    ensures initial { machine.new.initial ≡ machine.old.initial }
-    ensures kept { machine.new.states.kept ≡ machine.old.states.kept }
+    requires { IsWithinLimit (K.machine keep.old) }
+    ensures { Taken K.takes (val_offset_at factors at cursor.old) at keep.old result fault.new cursor.new keep.new }
 {
     let register = match cursor.register() {
         Ok(register) => register,
@@ -198,27 +154,21 @@ pub(crate) fn run_val_offset<'a>(
         Ok(offset) => offset,
         Err(refusal) => return refused(refusal, fault),
     };
-    let rule = RegRule::ValOffset(offset);
-    if machine.states.set(register, rule).is_err() {
-        return End::OutOfMemory;
-    }
-    End::On
+    keep.set(register, RegRule::ValOffset(offset), at, fault)
 }
 
 /// The same with an offset that is signed.
 #[tactic(auto, unfolding(crate::specs::Inner::ByOpcode::val_offset_sf_at))]
 #[inline(never)]
-pub(crate) fn run_val_offset_sf<'a>(
+pub(crate) fn run_val_offset_sf<'a, K: Keep<'a>>(
     cursor: &mut Cursor<'a>,
     factors: Factors,
-    machine: &mut Machine<'a>,
+    keep: &mut K,
     at: u64,
     fault: &mut Refusal,
 ) -> End
-    requires { machine.old.location ≤ machine.old.limit }
-    ensures did { Applied (val_offset_sf_at factors at cursor.old) at machine.old result fault.new cursor.new machine.new }
-    ensures initial { machine.new.initial ≡ machine.old.initial }
-    ensures kept { machine.new.states.kept ≡ machine.old.states.kept }
+    requires { IsWithinLimit (K.machine keep.old) }
+    ensures { Taken K.takes (val_offset_sf_at factors at cursor.old) at keep.old result fault.new cursor.new keep.new }
 {
     let register = match cursor.register() {
         Ok(register) => register,
@@ -228,25 +178,20 @@ pub(crate) fn run_val_offset_sf<'a>(
         Ok(offset) => offset,
         Err(refusal) => return refused(refusal, fault),
     };
-    let rule = RegRule::ValOffset(offset);
-    if machine.states.set(register, rule).is_err() {
-        return End::OutOfMemory;
-    }
-    End::On
+    keep.set(register, RegRule::ValOffset(offset), at, fault)
 }
 
 /// A register is in another one.
 #[tactic(auto, unfolding(crate::specs::Inner::ByOpcode::register_rule_at))]
 #[inline(never)]
-pub(crate) fn run_register<'a>(
+pub(crate) fn run_register<'a, K: Keep<'a>>(
     cursor: &mut Cursor<'a>,
-    machine: &mut Machine<'a>,
+    keep: &mut K,
+    at: u64,
     fault: &mut Refusal,
 ) -> End
-    requires { machine.old.location ≤ machine.old.limit }
-    ensures did { (at : ℕ) → Applied (register_rule_at cursor.old) at machine.old result fault.new cursor.new machine.new }
-    ensures initial { machine.new.initial ≡ machine.old.initial }
-    ensures kept { machine.new.states.kept ≡ machine.old.states.kept }
+    requires { IsWithinLimit (K.machine keep.old) }
+    ensures { Taken K.takes (register_rule_at cursor.old) at keep.old result fault.new cursor.new keep.new }
 {
     let register = match cursor.register() {
         Ok(register) => register,
@@ -256,27 +201,22 @@ pub(crate) fn run_register<'a>(
         Ok(other) => other,
         Err(refusal) => return refused(refusal, fault),
     };
-    let rule = RegRule::Register(other);
-    if machine.states.set(register, rule).is_err() {
-        return End::OutOfMemory;
-    }
-    End::On
+    keep.set(register, RegRule::Register(other), at, fault)
 }
 
 /// A register is saved where an expression says. One that is known to be accepted is not judged again.
 #[tactic(auto, unfolding(crate::specs::Inner::ByOpcode::expression_at))]
 #[inline(never)]
-pub(crate) fn run_expression<'a>(
+pub(crate) fn run_expression<'a, K: Keep<'a>>(
     cursor: &mut Cursor<'a>,
-    machine: &mut Machine<'a>,
+    keep: &mut K,
+    at: u64,
     known: bool,
     fault: &mut Refusal,
 ) -> End
-    requires location { machine.old.location ≤ machine.old.limit }
+    requires location { IsWithinLimit (K.machine keep.old) }
     requires known { IsTrue known → IsOk (expression_at cursor.old) }
-    ensures did { (at : ℕ) → Applied (expression_at cursor.old) at machine.old result fault.new cursor.new machine.new }
-    ensures initial { machine.new.initial ≡ machine.old.initial }
-    ensures kept { machine.new.states.kept ≡ machine.old.states.kept }
+    ensures { Taken K.takes (expression_at cursor.old) at keep.old result fault.new cursor.new keep.new }
 {
     let register = match cursor.register() {
         Ok(register) => register,
@@ -286,27 +226,22 @@ pub(crate) fn run_expression<'a>(
         Ok(expression) => expression,
         Err(refusal) => return refused(refusal, fault),
     };
-    let rule = RegRule::Expression(expression);
-    if machine.states.set(register, rule).is_err() {
-        return End::OutOfMemory;
-    }
-    End::On
+    keep.set(register, RegRule::Expression(expression), at, fault)
 }
 
 /// A register is what an expression gives. One that is known to be accepted is not judged again.
 #[tactic(auto, unfolding(crate::specs::Inner::ByOpcode::val_expression_at))]
 #[inline(never)]
-pub(crate) fn run_val_expression<'a>(
+pub(crate) fn run_val_expression<'a, K: Keep<'a>>(
     cursor: &mut Cursor<'a>,
-    machine: &mut Machine<'a>,
+    keep: &mut K,
+    at: u64,
     known: bool,
     fault: &mut Refusal,
 ) -> End
-    requires location { machine.old.location ≤ machine.old.limit }
+    requires location { IsWithinLimit (K.machine keep.old) }
     requires known { IsTrue known → IsOk (val_expression_at cursor.old) }
-    ensures did { (at : ℕ) → Applied (val_expression_at cursor.old) at machine.old result fault.new cursor.new machine.new }
-    ensures initial { machine.new.initial ≡ machine.old.initial }
-    ensures kept { machine.new.states.kept ≡ machine.old.states.kept }
+    ensures { Taken K.takes (val_expression_at cursor.old) at keep.old result fault.new cursor.new keep.new }
 {
     let register = match cursor.register() {
         Ok(register) => register,
@@ -316,9 +251,5 @@ pub(crate) fn run_val_expression<'a>(
         Ok(expression) => expression,
         Err(refusal) => return refused(refusal, fault),
     };
-    let rule = RegRule::ValExpression(expression);
-    if machine.states.set(register, rule).is_err() {
-        return End::OutOfMemory;
-    }
-    End::On
+    keep.set(register, RegRule::ValExpression(expression), at, fault)
 }

@@ -16,9 +16,9 @@ ghost use Rattle.dw_cfa.specs.Inner.RowSteps.{begun_rows, begun_stop};
 
 use crate::execution::{run_initial, run_to};
 use crate::instr::Factors;
+use crate::look_up::LookUp;
 use crate::machine::Machine;
 use crate::row::Row;
-use crate::short_run::run_short;
 use crate::states::States;
 use dw_num::{Cursor, Program, ReadError, Target, are_bytes};
 use std::alloc::Global;
@@ -44,11 +44,32 @@ fn run_both<'a>(
     Ok(())
 }
 
+// The same, by what a look-up keeps.
+#[inline(always)]
+fn run_look_up<'a>(
+    cie: &mut Cursor<'a>,
+    fde: &mut Cursor<'a>,
+    factors: Factors,
+    look: &mut LookUp<'a>,
+    begin: u64,
+    address: u64,
+) -> Result<(), ReadError>
+    requires begin { begin < address_limit fde.old.target.size }
+    requires start { begin ≤ address }
+    ensures { FoundAt address (run_rows factors cie.old fde.old begin) (run_stop factors cie.old fde.old begin) look.new.row result }
+{
+    look.row.clear();
+    run_initial(cie, factors, &mut look.row, false)?;
+    look.begin(begin, fde.target().size);
+    let _ = run_to(fde, factors, look, address, false)?;
+    Ok(())
+}
+
 /// Room in which programs (`initial_instructions` of a CIE, `instructions` of an FDE, 6.4.1) are run up to the row of an address
 /// (6.4.3). A contract sees the row that was run to.
 #[derive(Drop)]
 pub struct RowRoom<'a> {
-    row: Row<'a>,
+    look: LookUp<'a>,
     alloc: Global,
 }
 
@@ -57,7 +78,7 @@ impl<'a> Model for RowRoom<'a> {
 
     ghost Value = { Rules };
 
-    ghost view = { λ r. r.row };
+    ghost view = { λ r. r.look.row };
 }
 
 impl<'a> RowRoom<'a> {
@@ -67,7 +88,7 @@ impl<'a> RowRoom<'a> {
         ensures { result ≡ blank }
     {
         RowRoom {
-            row: Row::blank(alloc),
+            look: LookUp::new(alloc),
             alloc,
         }
     }
@@ -97,11 +118,11 @@ impl<'a> RowRoom<'a> {
         let mut cie = Cursor::new(cie_program.bytes, cie_program.at, target);
         let mut fde = Cursor::new(fde_program.bytes, fde_program.at, target);
         let result = run_both(&mut cie, &mut fde, factors, &mut machine, address);
-        self.row = machine.states.into_row();
+        self.look.row = machine.states.into_row();
         result
     }
 
-    // The same, where both are mostly short.
+    // The same, by what a look-up keeps, where that is enough.
     #[inline(always)]
     fn run_any(
         &mut self,
@@ -116,26 +137,22 @@ impl<'a> RowRoom<'a> {
         requires start { begin ≤ address }
         ensures { FoundAt address (run_rows factors (program_input cie_program.entry target) (program_input fde_program.entry target) begin) (run_stop factors (program_input cie_program.entry target) (program_input fde_program.entry target) begin) self.new result }
     {
-        let (alloc, row) = (self.alloc, &mut self.row);
-        if run_short(
-            alloc,
-            cie_program,
-            fde_program,
-            target,
-            factors,
-            begin,
-            address,
-            row,
-        ) {
-            return Ok(());
+        let mut cie = Cursor::new(cie_program.bytes, cie_program.at, target);
+        let mut fde = Cursor::new(fde_program.bytes, fde_program.at, target);
+        let look = &mut self.look;
+        match run_look_up(&mut cie, &mut fde, factors, look, begin, address) {
+            Err(ReadError::OutOfMemory) => {
+                self.run(cie_program, fde_program, begin, factors, target, address)
+            }
+            answer => answer,
         }
-        self.run(cie_program, fde_program, begin, factors, target, address)
     }
 
     /// Runs two programs (`initial_instructions`, `instructions`), from an address `begin` of the target on (`initial_location`
     /// of the FDE where its row is asked for), by the factors `code_alignment_factor` and `data_alignment_factor` of the CIE, up
     /// to the last row that starts at or below an address, which `row` lends then. `begin` is not above that address. A refusal
-    /// that comes up to there is answered, or want of memory. Refusals are those of `run`.
+    /// that comes up to there is answered, or want of memory (`OutOfMemory`). Refusals are those of `run`. Behind an error the
+    /// room holds some row.
     #[inline(always)]
     pub fn run_to(
         &mut self,
@@ -162,6 +179,6 @@ impl<'a> RowRoom<'a> {
     pub fn row(&self) -> &Row<'a>
         ensures { result.now ≡ self.now }
     {
-        &self.row
+        &self.look.row
     }
 }

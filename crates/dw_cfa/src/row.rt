@@ -4,19 +4,23 @@ ghost use Rattle.std.specs.Prelude.{◌≡◌, ◌<◌, ℕ, ℤ, [], ◌∷◌,
 ghost use Rattle.std.specs.List.{filter};
 ghost use Rattle.std.specs.Iterator.{YieldsFirst, item_count};
 ghost use Rattle.dw_cfa.specs.declared.rule.RegRule.TheVariants.{Offset, Unspecified};
-ghost use Rattle.dw_cfa.specs.Rows.{AreSpecified, HasFar, rule, rule_in, blank};
+ghost use Rattle.dw_cfa.specs.declared.slot.Kind.TheVariants.{Expression};
+ghost use Rattle.dw_cfa.specs.Rows.{AreSpecified, HasFar, rule, rule_in, blank, is_specified};
 ghost use Rattle.dw_cfa.specs.Inner.Rows.{put, with_cfa, with_rule};
 ghost use Rattle.dw_cfa.specs.Agreement.{IsAgreed, is_kept, kept};
 ghost use Rattle.dw_cfa.specs.Inner.Agreement.{is_agreed, same_rule};
-ghost use Rattle.dw_cfa.specs.Inner.Entries.{entries_of, EntriesSo, LeavesAt, LeavesBelow};
+ghost use Rattle.dw_cfa.specs.Inner.Entries.{entries_of, EntriesSo, IsSlotOf, LeavesAt, LeavesBelow, slot_rule, slots_of};
+ghost use Rattle.dw_cfa.specs.declared.rule.RegRule.{RegRule as TheRule};
 ghost use Rattle.dw_cfa.specs.Difference.{FirstDifference, place_behind};
 ghost use Rattle.dw_cfa.specs.Inner.Difference.{FirstBelow, SameUnset};
-ghost use Rattle.dw_cfa.specs.Inner.ShortRun.{SpecifiesIn};
+ghost use Rattle.dw_cfa.specs.Inner.LookUp.{SpecifiesIn};
 
 use crate::behind::{place_behind, start_behind};
-use crate::near_slots::{NearRules, copy_slots, empty_slots, next_in, next_near, same_slots};
+use crate::near_slots::{
+    NearRules, add_room, bit_of, is_in, next_in, next_near, put_at, same_slots, slot_at,
+};
 use crate::rule::{CfaRule, RegRule};
-use crate::slot::{EMPTY, Kind, Slot, offset_in, rule_of, slot_of};
+use crate::slot::{Kind, Slot, UNWRITTEN, offset_in, rule_of, slot_of};
 use crate::tree::{first_difference, rule_in_tree, set_in_tree, tree_of};
 use std::alloc::{AllocError, Global};
 use std::collections::{BTreeMap, btree_map};
@@ -24,33 +28,50 @@ use std::marker::Model;
 use std::ops::Bound;
 
 /// The registers below this have slots of their own.
-pub(crate) const NEAR: u16 = 32;
+pub(crate) const NEAR: u16 = 128;
 
-// The registers that are not Unspecified, with their rules: those below 32 in slots, with the expressions of
-// theirs in a tree, and all others in another tree.
+/// And those below this have them from the first on.
+pub(crate) const LOW: u16 = 32;
+
+// The registers that are not Unspecified, with their rules: those below 128 in slots under a mask, with the
+// expressions of theirs in a tree, and all others in another tree. Slots from 32 on are made when one is asked for.
 #[derive(Drop)]
 pub(crate) struct Entries<'a> {
-    near: [Slot; 32],
-    used: u32,
+    low: [Slot; 32],
+    high: Vec<Slot>,
+    used: u128,
     expressions: BTreeMap<u16, RegRule<'a>>,
     pub(crate) far: BTreeMap<u16, RegRule<'a>>,
 }
 
 impl<'a> Entries<'a> {
+    // The slot of a register that is specified.
     #[inline(always)]
-    #[tactic(auto, using(crate::proofs::Slots::slot_at, crate::proofs::Slots::far_rule))]
-    fn rule(&self, register: u16) -> RegRule<'a>
+    pub(crate) fn slot(&self, register: u16) -> Option<Slot>
+        requires so { EntriesSo self.now }
+        requires near { register < 128 }
+        ensures rule { MatchOption result (rule_in (entries_of self.now) register ≡ Unspecified) (λ slot. rule_in (entries_of self.now) register ≡ slot_rule slot (rule_in self.now.expressions.entries register)) }
+        ensures specified { IfSome result (λ slot. IsTrue (is_specified (rule_in (entries_of self.now) register))) }
+    {
+        if !is_in(self.used, register) {
+            return None;
+        }
+        Some(slot_at(&self.low, &self.high, register))
+    }
+
+    #[inline(always)]
+    #[tactic(auto, using(crate::proofs::Slots::behind_slots))]
+    pub(crate) fn rule(&self, register: u16) -> RegRule<'a>
         requires { EntriesSo self.now }
         ensures { result ≡ rule_in (entries_of self.now) register }
     {
-        if register < NEAR {
-            return rule_of(
-                self.near[usize::from(register)],
-                &self.expressions,
-                register,
-            );
+        if register >= NEAR {
+            return rule_in_tree(&self.far, register);
         }
-        rule_in_tree(&self.far, register)
+        match self.slot(register) {
+            Some(slot) => rule_of(slot, &self.expressions, register),
+            None => RegRule::Unspecified,
+        }
     }
 
     // The offset at which a register is saved. Read from its slot where it has one, since a rule is moved about.
@@ -60,14 +81,37 @@ impl<'a> Entries<'a> {
         ensures { MatchOption result ((n : ℤ) → rule_in (entries_of self.now) register ≡ Offset n → ⊥) (λ n. rule_in (entries_of self.now) register ≡ Offset n) }
     {
         if register < NEAR {
-            let found = offset_in(self.near[usize::from(register)]);
-            if found.is_some() {
-                return found;
+            if let Some(slot) = self.slot(register) {
+                let found = offset_in(slot);
+                if found.is_some() {
+                    return found;
+                }
             }
         }
         match self.rule(register) {
             RegRule::Offset(offset) => Some(offset),
             _ => None,
+        }
+    }
+
+    // Whether others give a register that may have a slot the same rule.
+    #[inline(always)]
+    fn has_same_near(&self, others: &Entries<'_>, register: u16) -> bool
+        requires so { EntriesSo self.now }
+        requires others { EntriesSo others.now }
+        requires near { register < 128 }
+        ensures { IsTrue result ↔ (rule_in (entries_of self.now) register ≡ rule_in (entries_of others.now) register) }
+    {
+        match (self.slot(register), others.slot(register)) {
+            (Some(slot), Some(other)) => same_slots(
+                slot,
+                other,
+                &self.expressions,
+                &others.expressions,
+                register,
+            ),
+            (None, None) => true,
+            _ => false,
         }
     }
 
@@ -82,14 +126,7 @@ impl<'a> Entries<'a> {
         if register >= NEAR {
             return self.rule(register).is_same(&others.rule(register));
         }
-        let at = usize::from(register);
-        same_slots(
-            self.near[at],
-            others.near[at],
-            &self.expressions,
-            &others.expressions,
-            register,
-        )
+        self.has_same_near(others, register)
     }
 
     #[inline(always)]
@@ -99,7 +136,8 @@ impl<'a> Entries<'a> {
     {
         Specified {
             at: 0,
-            near: &self.near,
+            low: &self.low,
+            high: &self.high,
             used: self.used,
             expressions: &self.expressions,
             far: self.far.iter(),
@@ -119,7 +157,8 @@ impl<'a> Entries<'a> {
         }
         Some(NearRules {
             at: 0,
-            near: &self.near,
+            low: &self.low,
+            high: &self.high,
             used: self.used,
             expressions: &self.expressions,
         })
@@ -132,7 +171,8 @@ impl<'a> Entries<'a> {
     {
         Specified {
             at: NEAR,
-            near: &self.near,
+            low: &self.low,
+            high: &self.high,
             used: self.used,
             expressions: &self.expressions,
             far: tree.iter(),
@@ -149,24 +189,17 @@ impl<'a> Entries<'a> {
 
     // The first register from a place on that has a slot, is in a mask, and whose rule differs.
     #[inline(always)]
-    #[tactic(auto, using(crate::proofs::Difference::up_to_next, crate::proofs::Difference::one_more, crate::proofs::Slots::slot_at))]
-    fn next_near_difference(&self, others: &Entries<'_>, mask: u32, from: u32) -> Option<u16>
+    #[tactic(auto, using(crate::proofs::Difference::up_to_next, crate::proofs::Difference::one_more))]
+    fn next_near_difference(&self, others: &Entries<'_>, mask: u128, from: u32) -> Option<u16>
         requires so { EntriesSo self.now }
         requires others { EntriesSo others.now }
         requires mask { SameUnset mask (entries_of self.now) (entries_of others.now) }
-        ensures { FirstBelow 32 from (entries_of self.now) (entries_of others.now) result }
+        ensures { FirstBelow 128 from (entries_of self.now) (entries_of others.now) result }
     {
         let mut place = from;
         'slots: while let Some(next) = next_in(mask, place) {
             let register = next as u16;
-            let at = usize::from(register);
-            if !same_slots(
-                self.near[at],
-                others.near[at],
-                &self.expressions,
-                &others.expressions,
-                register,
-            ) {
+            if !self.has_same_near(others, register) {
                 return Some(register);
             }
             place = next + 1;
@@ -222,9 +255,11 @@ impl<'a> Entries<'a> {
         requires { EntriesSo self.now }
         ensures { IfOk result (λ copy. (entries_of copy ≡ entries_of self.now) × EntriesSo copy) }
     {
+        let high = Vec::from_slice(alloc, &self.high)?;
         if self.is_narrow() {
             return Ok(Entries {
-                near: self.near,
+                low: self.low,
+                high,
                 used: self.used,
                 expressions: BTreeMap::new(alloc),
                 far: BTreeMap::new(alloc),
@@ -233,7 +268,8 @@ impl<'a> Entries<'a> {
         let expressions = tree_of(self.in_tree(&self.expressions), alloc)?;
         let far = tree_of(self.in_tree(&self.far), alloc)?;
         Ok(Entries {
-            near: self.near,
+            low: self.low,
+            high,
             used: self.used,
             expressions,
             far,
@@ -247,45 +283,12 @@ impl<'a> Entries<'a> {
         self.expressions.is_empty() && self.far.is_empty()
     }
 
-    // Makes them a copy of others, where some of the registers are in trees.
-    #[inline(never)]
-    #[tactic(auto, using(crate::proofs::Lent::RowLists::lower))]
-    fn become_wide_copy(&mut self, others: &Entries<'a>, alloc: Global) -> Result<(), AllocError>
-        requires before { EntriesSo self.old }
-        requires others { EntriesSo others.now }
-        ensures ok { OnOk result (entries_of self.new ≡ entries_of others.now) }
-        ensures so { EntriesSo self.new }
-    {
-        self.expressions = tree_of(others.in_tree(&others.expressions), alloc)?;
-        self.far = tree_of(others.in_tree(&others.far), alloc)?;
-        self.near.copy_from_slice(&others.near);
-        self.used = others.used;
-        Ok(())
-    }
-
-    // Makes them a copy of others.
-    #[inline(always)]
-    #[tactic(auto, using(crate::proofs::Copied::copied_same, crate::proofs::Copied::copied_covers))]
-    fn become_copy(&mut self, others: &Entries<'a>, alloc: Global) -> Result<(), AllocError>
-        requires before { EntriesSo self.old }
-        requires others { EntriesSo others.now }
-        ensures ok { OnOk result (entries_of self.new ≡ entries_of others.now) }
-        ensures so { EntriesSo self.new }
-    {
-        if self.is_narrow() && others.is_narrow() {
-            copy_slots(&mut self.near, &others.near, self.used | others.used);
-            self.used = others.used;
-            return Ok(());
-        }
-        self.become_wide_copy(others, alloc)
-    }
-
     // Empties both trees.
     #[inline(never)]
     fn clear_trees(&mut self)
         ensures expressions { self.new.expressions.entries ≡ [] }
         ensures far { self.new.far.entries ≡ [] }
-        ensures near { (self.new.near ≡ self.old.near) × (self.new.used ≡ self.old.used) }
+        ensures near { (self.new.low ≡ self.old.low) × (self.new.high ≡ self.old.high) × (self.new.used ≡ self.old.used) }
     {
         self.expressions.clear();
         self.far.clear();
@@ -293,13 +296,14 @@ impl<'a> Entries<'a> {
 
     // Takes all registers out.
     #[inline(always)]
-    #[tactic(auto, using(crate::proofs::Slots::none_listed))]
+    #[tactic(auto, using(crate::proofs::Slots::none_listed, crate::proofs::Slots::none_hold))]
     fn clear(&mut self)
         requires { EntriesSo self.old }
         ensures entries { entries_of self.new ≡ [] }
         ensures so { EntriesSo self.new }
+        ensures used { self.new.used ≡ 0 }
+        ensures far { self.new.far.entries ≡ [] }
     {
-        empty_slots(&mut self.near, self.used);
         self.used = 0;
         if self.is_narrow() {
             return;
@@ -307,50 +311,153 @@ impl<'a> Entries<'a> {
         self.clear_trees();
     }
 
-    // Gives a register that has a slot a rule.
+    // Makes room for the slot of a register.
     #[inline(always)]
-    #[tactic(auto, using(crate::proofs::Slots::set_expression))]
-    fn set_near(&mut self, register: u16, rule: RegRule<'a>) -> Result<(), AllocError>
+    fn make_room(&mut self, register: u16) -> Result<(), AllocError>
         requires so { EntriesSo self.old }
-        requires near { register < 32 }
+        requires near { register < 128 }
+        ensures room { OnOk result (register < length (slots_of self.new)) }
+        ensures entries { entries_of self.new ≡ entries_of self.old }
+        ensures so { EntriesSo self.new }
+    {
+        if register < LOW || usize::from(register - LOW) < self.high.len() {
+            return Ok(());
+        }
+        add_room(&mut self.high, register - LOW)
+    }
+
+    // Gives a register that has a slot a rule that is no expression.
+    #[inline(always)]
+    fn put_plain(&mut self, register: u16, slot: Slot)
+        requires so { EntriesSo self.old }
+        requires near { register < 128 }
+        requires room { register < length (slots_of self.old) }
+        requires kind { slot.kind ≡ Expression → ⊥ }
+        ensures entries { (rule : TheRule) → IsSlotOf rule slot → entries_of self.new ≡ put register rule (entries_of self.old) }
+        ensures so { EntriesSo self.new }
+    {
+        put_at(&mut self.low, &mut self.high, register, slot);
+        self.used |= bit_of(register);
+    }
+
+    // Gives a register that has a slot a rule with an expression.
+    #[inline(never)]
+    fn put_expression(
+        &mut self,
+        register: u16,
+        slot: Slot,
+        rule: RegRule<'a>,
+    ) -> Result<(), AllocError>
+        requires so { EntriesSo self.old }
+        requires near { register < 128 }
+        requires room { register < length (slots_of self.old) }
+        requires kind { slot.kind ≡ Expression }
+        requires specified { IsTrue (is_specified rule) }
         ensures ok { OnOk result (entries_of self.new ≡ put register rule.entry (entries_of self.old)) }
         ensures so { EntriesSo self.new }
         ensures err { OnErr result (entries_of self.new ≡ entries_of self.old) }
     {
-        let slot = slot_of(&rule);
-        if let Kind::Expression = slot.kind {
-            set_in_tree(&mut self.expressions, register, rule)?;
-            self.near[usize::from(register)] = slot;
-            self.used |= 1 << register;
-            return Ok(());
-        }
-        self.near[usize::from(register)] = slot;
-        self.used |= 1 << register;
+        set_in_tree(&mut self.expressions, register, rule)?;
+        put_at(&mut self.low, &mut self.high, register, slot);
+        self.used |= bit_of(register);
         Ok(())
     }
 
-    // Gives a register that has a slot the rule that others give it.
+    // Gives a register that may have a slot a rule.
+    #[inline(always)]
+    fn set_near(&mut self, register: u16, rule: RegRule<'a>) -> Result<(), AllocError>
+        requires so { EntriesSo self.old }
+        requires near { register < 128 }
+        ensures ok { OnOk result (entries_of self.new ≡ put register rule.entry (entries_of self.old)) }
+        ensures so { EntriesSo self.new }
+        ensures err { OnErr result (entries_of self.new ≡ entries_of self.old) }
+    {
+        let Some(slot) = slot_of(&rule) else {
+            self.drop_near(register);
+            return Ok(());
+        };
+        self.make_room(register)?;
+        if let Kind::Expression = slot.kind {
+            return self.put_expression(register, slot, rule);
+        }
+        self.put_plain(register, slot);
+        Ok(())
+    }
+
+    // Gives a register that may have a slot the rule that others give it.
     #[inline(always)]
     fn copy_near(&mut self, others: &Entries<'a>, register: u16) -> Result<(), AllocError>
         requires so { EntriesSo self.old }
         requires others { EntriesSo others.now }
-        requires near { register < 32 }
+        requires near { register < 128 }
         ensures ok { OnOk result (entries_of self.new ≡ put register (rule_in (entries_of others.now) register) (entries_of self.old)) }
         ensures so { EntriesSo self.new }
     {
-        let slot = others.near[usize::from(register)];
+        let Some(slot) = others.slot(register) else {
+            self.drop_near(register);
+            return Ok(());
+        };
         if let Kind::Expression = slot.kind {
             return self.set_near(register, others.rule(register));
         }
-        self.near[usize::from(register)] = slot;
-        self.used |= 1 << register;
+        self.make_room(register)?;
+        self.put_plain(register, slot);
         Ok(())
+    }
+
+    // Takes all registers out but those from 128 on that others have.
+    #[inline(always)]
+    #[tactic(auto, using(crate::proofs::Lent::RowLists::lower))]
+    fn begin_copy(&mut self, others: &Entries<'a>, alloc: Global) -> Result<(), AllocError>
+        requires so { EntriesSo self.old }
+        requires others { EntriesSo others.now }
+        ensures near { self.new.used ≡ 0 }
+        ensures far { OnOk result (self.new.far.entries ≡ others.now.far.entries) }
+        ensures so { EntriesSo self.new }
+    {
+        self.clear();
+        if others.far.is_empty() {
+            return Ok(());
+        }
+        self.far = tree_of(others.in_tree(&others.far), alloc)?;
+        Ok(())
+    }
+
+    // Gives the registers that may have slots the rules that others give them, where none has one yet.
+    #[inline(always)]
+    #[tactic(auto, using(crate::proofs::Copied::next_copied, crate::proofs::Copied::all_copied, crate::proofs::Copied::none_copied))]
+    fn copy_slots(&mut self, others: &Entries<'a>) -> Result<(), AllocError>
+        requires so { EntriesSo self.old }
+        requires others { EntriesSo others.now }
+        requires near { self.old.used ≡ 0 }
+        requires far { self.old.far.entries ≡ others.now.far.entries }
+        ensures ok { OnOk result (entries_of self.new ≡ entries_of others.now) }
+        ensures so { EntriesSo self.new }
+    {
+        let mut place = 0;
+        'slots: while let Some(register) = next_in(others.used, place) {
+            self.copy_near(others, register as u16)?;
+            place = register + 1;
+        }
+        Ok(())
+    }
+
+    // Makes them a copy of others.
+    #[inline(always)]
+    fn become_copy(&mut self, others: &Entries<'a>, alloc: Global) -> Result<(), AllocError>
+        requires before { EntriesSo self.old }
+        requires others { EntriesSo others.now }
+        ensures ok { OnOk result (entries_of self.new ≡ entries_of others.now) }
+        ensures so { EntriesSo self.new }
+    {
+        self.begin_copy(others, alloc)?;
+        self.copy_slots(others)
     }
 
     // Gives a register a rule.
     #[inline(always)]
     #[tactic(auto, using(crate::proofs::Slots::far_set, crate::proofs::Slots::put_so, crate::proofs::Lent::RowLists::lower))]
-    fn set(&mut self, register: u16, rule: RegRule<'a>) -> Result<(), AllocError>
+    pub(crate) fn set(&mut self, register: u16, rule: RegRule<'a>) -> Result<(), AllocError>
         requires { EntriesSo self.old }
         ensures ok { OnOk result (entries_of self.new ≡ put register rule.entry (entries_of self.old)) }
         ensures so { EntriesSo self.new }
@@ -363,16 +470,15 @@ impl<'a> Entries<'a> {
         Ok(())
     }
 
-    // Takes a register out that has a slot.
-    #[tactic(auto, using(crate::proofs::Slots::slot_set))]
+    // Takes a register out that may have a slot.
+    #[inline(always)]
     pub(crate) fn drop_near(&mut self, register: u16)
         requires so { EntriesSo self.old }
-        requires near { register < 32 }
+        requires near { register < 128 }
         ensures entries { entries_of self.new ≡ put register Unspecified (entries_of self.old) }
         ensures so { EntriesSo self.new }
     {
-        self.near[usize::from(register)] = EMPTY;
-        self.used &= !(1 << register);
+        self.used &= !bit_of(register);
     }
 
     // Takes a register out that has a slot, if others give it another rule.
@@ -380,7 +486,7 @@ impl<'a> Entries<'a> {
     fn agree_at(&mut self, register: u16, others: &Entries<'_>)
         requires so { EntriesSo self.old }
         requires others { EntriesSo others.now }
-        requires near { register < 32 }
+        requires near { register < 128 }
         ensures rules { LeavesAt (is_agreed (entries_of others.now)) register (entries_of self.old) (entries_of self.new) }
         ensures so { EntriesSo self.new }
     {
@@ -393,7 +499,7 @@ impl<'a> Entries<'a> {
     fn agree_near(&mut self, others: &Entries<'_>)
         requires so { EntriesSo self.old }
         requires others { EntriesSo others.now }
-        ensures rules { LeavesBelow (is_agreed (entries_of others.now)) 32 (entries_of self.old) (entries_of self.new) }
+        ensures rules { LeavesBelow (is_agreed (entries_of others.now)) 128 (entries_of self.old) (entries_of self.new) }
         ensures so { EntriesSo self.new }
     {
         let mut place = 0;
@@ -424,32 +530,15 @@ impl<'a> Entries<'a> {
             .retain(|register, rule| others.give(*register, rule));
     }
 
-    // Takes a register out that has a slot, if others leave it Unspecified.
+    // Takes those out that may have slots and that others leave Unspecified.
     #[inline(always)]
-    fn keep_at(&mut self, register: u16, others: &Entries<'_>)
-        requires so { EntriesSo self.old }
-        requires others { EntriesSo others.now }
-        requires near { register < 32 }
-        ensures rules { LeavesAt (is_kept (entries_of others.now)) register (entries_of self.old) (entries_of self.new) }
-        ensures so { EntriesSo self.new }
-    {
-        if !others.rule(register).is_specified() {
-            self.drop_near(register);
-        }
-    }
-
-    // Takes those out that have slots and that others leave Unspecified.
     fn keep_near(&mut self, others: &Entries<'_>)
         requires so { EntriesSo self.old }
         requires others { EntriesSo others.now }
-        ensures rules { LeavesBelow (is_kept (entries_of others.now)) 32 (entries_of self.old) (entries_of self.new) }
+        ensures rules { LeavesBelow (is_kept (entries_of others.now)) 128 (entries_of self.old) (entries_of self.new) }
         ensures so { EntriesSo self.new }
     {
-        let mut place = 0;
-        'slots: while let Some(register) = next_in(self.used, place) {
-            self.keep_at(register as u16, others);
-            place = register + 1;
-        }
+        self.used &= others.used;
     }
 
     // Takes those out that others leave Unspecified.
@@ -516,22 +605,23 @@ impl<'a> Clone for Row<'a> {
 #[derive(Drop)]
 pub struct Specified<'r, 'a> {
     at: u16,
-    near: &'r [Slot; 32],
-    used: u32,
+    low: &'r [Slot; 32],
+    high: &'r Vec<Slot>,
+    used: u128,
     expressions: &'r BTreeMap<u16, RegRule<'a>>,
     far: btree_map::Iter<'r, u16, RegRule<'a>>,
 }
 
 impl<'r, 'a> Model for Specified<'r, 'a> {
-    ghost use Rattle.std.specs.Prelude.{◌≡◌, List, ℕ, drop, length};
+    ghost use Rattle.std.specs.Prelude.{◌≡◌, ◌++◌, List, ℕ, length};
     ghost use Rattle.dw_cfa.specs.declared.rule.RegRule.{RegRule as Rule};
-    ghost use Rattle.dw_cfa.specs.Inner.Entries.{listed_near, Covers};
+    ghost use Rattle.dw_cfa.specs.Inner.Entries.{listed_near, Holds};
 
     ghost Value = { List (ℕ × Rule) };
 
-    ghost view = { λ s. listed_near s.at (drop s.at s.near.now) s.expressions.now.entries s.far };
+    ghost view = { λ s. listed_near s.at s.used (s.low.now ++ s.high.now.items) s.expressions.now.entries s.far };
 
-    ghost invariant = { λ s. (length s.near.now ≡ 32) × Covers s.used s.near.now };
+    ghost invariant = { λ s. (length s.low.now ≡ 32) × Holds s.used (s.low.now ++ s.high.now.items) s.expressions.now.entries };
 }
 
 impl<'r, 'a> Specified<'r, 'a> {
@@ -539,7 +629,13 @@ impl<'r, 'a> Specified<'r, 'a> {
     fn step(&mut self) -> Option<(u16, RegRule<'a>)>
         ensures { MatchOption result ((self.old ≡ []) × (self.new ≡ [])) (λ entry. self.old ≡ entry ∷ self.new) }
     {
-        if let Some((register, rule)) = next_near(self.at, self.near, self.used, self.expressions) {
+        if let Some((register, rule)) = next_near(
+            self.at,
+            self.low,
+            self.high,
+            self.used,
+            self.expressions,
+        ) {
             self.at = register + 1;
             return Some((register, rule));
         }
@@ -572,7 +668,8 @@ impl<'a> Row<'a> {
         Row {
             cfa: CfaRule::Unset,
             entries: Entries {
-                near: [EMPTY; 32],
+                low: [UNWRITTEN; 32],
+                high: Vec::new(alloc),
                 used: 0,
                 expressions: BTreeMap::new(alloc),
                 far: BTreeMap::new(alloc),
@@ -662,9 +759,9 @@ impl<'a> Row<'a> {
 
     /// The least register from a place on that is in a mask, and to which another row gives another rule.
     #[inline(always)]
-    pub(crate) fn next_near_difference(&self, other: &Row<'_>, mask: u32, from: u32) -> Option<u16>
+    pub(crate) fn next_near_difference(&self, other: &Row<'_>, mask: u128, from: u32) -> Option<u16>
         requires { SameUnset mask self.now.registers other.now.registers }
-        ensures { FirstBelow 32 from self.now.registers other.now.registers result }
+        ensures { FirstBelow 128 from self.now.registers other.now.registers result }
     {
         self.entries
             .next_near_difference(&other.entries, mask, from)
@@ -687,7 +784,7 @@ impl<'a> Row<'a> {
         self.entries.all()
     }
 
-    /// The same at less cost, where all of them are below 32. None says that one of them is not. Takes no memory.
+    /// The same at less cost, where all of them are below 128. None says that one of them is not. Takes no memory.
     #[inline(always)]
     pub fn near_rules(&self) -> Option<NearRules<'_, 'a>>
         ensures near { IfSome result (λ near. near ≡ self.now.registers) }
@@ -719,10 +816,10 @@ impl<'a> Row<'a> {
         self.entries.set(register, rule)
     }
 
-    // Gives a register below 32 the rule that another row gives it, or answers want of memory.
+    // Gives a register below 128 the rule that another row gives it, or answers want of memory.
     #[inline(always)]
     pub(crate) fn copy_rule(&mut self, other: &Row<'a>, register: u16) -> Result<(), AllocError>
-        requires { register < 32 }
+        requires { register < 128 }
         ensures { OnOk result (self.new ≡ with_rule register (rule_in other.now.registers register) self.old) }
     {
         self.entries.copy_near(&other.entries, register)
@@ -745,7 +842,7 @@ impl<'a> Row<'a> {
     }
 
     /// Makes it a copy of another row, in the room that is there, or answers want of memory. It is some row then.
-    pub fn become_copy(&mut self, other: &Row<'a>) -> Result<(), AllocError>
+    pub(crate) fn become_copy(&mut self, other: &Row<'a>) -> Result<(), AllocError>
         ensures { OnOk result (self.new ≡ other.now) }
     {
         self.entries.become_copy(&other.entries, self.alloc)?;
@@ -771,16 +868,16 @@ impl<'a> Row<'a> {
     }
 
     /// Whether it specifies every register that another row specifies. Takes no memory.
-    pub fn specifies_all(&self, other: &Row<'_>) -> bool
+    pub(crate) fn specifies_all(&self, other: &Row<'_>) -> bool
         ensures { IsTrue result ↔ (kept other.now self.now ≡ other.now) }
     {
         self.entries.have_all(&other.entries)
     }
 
-    // A mask of the registers below 32 that may be specified.
+    // The registers below 128 that are specified.
     #[inline(always)]
     #[tactic(auto, using(crate::proofs::Slots::not_set))]
-    pub(crate) fn near_mask(&self) -> u32
+    pub(crate) fn near_mask(&self) -> u128
         ensures { SpecifiesIn result self.now }
     {
         self.entries.used

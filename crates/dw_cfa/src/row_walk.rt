@@ -5,7 +5,7 @@ ghost use Rattle.dw_num.specs.Target.{address_limit};
 ghost use Rattle.dw_num.specs.declared.error.ReadError.TheVariants.{OutOfMemory};
 ghost use Rattle.dw_cfa.specs.declared.execution.LocatedRow.{LocatedRow};
 ghost use Rattle.dw_cfa.specs.Gives.{Gives, RunsTo};
-ghost use Rattle.dw_cfa.specs.RuleAt.{last_at, left_above, NeverFalls};
+ghost use Rattle.dw_cfa.specs.RuleAt.{last_at, left_above};
 ghost use Rattle.dw_cfa.specs.Difference.{FirstDifference, place_behind};
 ghost use Rattle.dw_cfa.specs.Rows.{AreSpecified, Rules, blank};
 ghost use Rattle.dw_cfa.specs.Inner.Runs.{GivesRow, RunsSo, initial_row, placed, run_rows};
@@ -331,7 +331,8 @@ impl<'a> RowWalk<'a> {
     }
 
     /// Goes on to the next row (6.4.1, 6.4.3), which `row` lends then, and answers the location that it starts at, or none behind
-    /// the last row. No row is copied. Want of memory is answered from then on, until `go_to`.
+    /// the last row. No row is copied. The only error is `OutOfMemory`, since the programs are known to have no fault; it is
+    /// answered from then on, until `go_to`.
     #[inline(always)]
     pub fn advance(&mut self) -> Result<Option<u128>, ReadError>
         ensures advances { Advances self.old.steps result self.new.steps }
@@ -364,11 +365,10 @@ impl<'a> RowWalk<'a> {
     }
 
     /// Goes on to the last row that starts at or below an address (6.4.3), which `row` lends then, where one of those still to
-    /// come does, and else stays. Those that start above it are still to come. No row is copied. Want of memory is answered from
-    /// then on, until `go_to`.
+    /// come does; otherwise it stays. Those that start above it are still to come. No row is copied. The only error is
+    /// `OutOfMemory`, which is answered from then on, until `go_to`.
     pub fn advance_to(&mut self, address: u64) -> Result<(), ReadError>
         requires no_error { self.old.steps.error ≡ None }
-        requires never_falls { (low : ℕ) × NeverFalls low self.old.steps.outcome.rows }
         ensures found { (row : Rules) → last_at address self.old.steps.outcome.rows ≡ Some row → OnOk result (self.new.steps.current ≡ row) }
         ensures stays { last_at address self.old.steps.outcome.rows ≡ None → OnOk result (self.new.steps.current ≡ self.old.steps.current) }
         ensures behind { MatchResult result (λ _. self.new.steps.outcome ≡ left_above address self.old.steps.outcome) (λ _. self.new.steps.outcome ≡ finished) }
@@ -418,14 +418,15 @@ impl<'a> RowWalk<'a> {
     }
 
     /// Keeps the row that the CIE's program (`initial_instructions`, 6.4.1) leaves, where no row was gone on to yet behind `go_to` or
-    /// `go_on`, and says whether it did: the first row is then compared with it by what the FDE's program set. The row that is lent may be another one then.
-    /// Want of memory is answered from then on, until `go_to`.
+    /// `go_on`, and says whether it did: the first row is then compared with it by what the FDE's program set. The row that is lent
+    /// may be another one then. Want of memory is answered from then on, until `go_to`.
     pub fn keep_initial(&mut self) -> Result<bool, AllocError>
         ensures kept { IfOk result (λ kept. IsTrue kept → LeavesTo self.old.led.factors self.old.led.program (Ok self.new.kept)) }
         ensures begun { IfOk result (λ kept. IsTrue kept ↔ (self.old.initial ≡ None) × (self.old.steps.outcome ≡ finished → ⊥)) }
         ensures same { IfOk result (λ kept. kept ≡ false → self.new ≡ self.old) }
         ensures rows { OnOk result (self.new.steps ≡ record { outcome = self.old.steps.outcome; current = self.new.steps.current; error = self.old.steps.error }) }
         ensures none { OnErr result (self.new.steps.outcome ≡ finished) }
+        ensures failed { OnErr result (self.new.steps.error ≡ Some OutOfMemory) }
         ensures led { self.new.led ≡ self.old.led }
         ensures initial { self.new.initial ≡ self.old.initial }
     {

@@ -34,10 +34,12 @@ fn collected<'a>(alloc: Global, steps: &mut RowSteps<'a>) -> Result<Rows<'a>, Re
 
 /// The rows that a CIE's and an FDE's program give, from an address `begin` of the target on: one before each
 /// instruction that moves the location, and one at the end. Otherwise the first refusal, the CIE's program
-/// first, or want of memory.
+/// first, or want of memory (`OutOfMemory`).
 ///
-/// Refusals are those of `Instructions`; of the CIE's program also `NotInCie` and `CfaNotRegister`; of the FDE's also
-/// `LocationBackwards`, `LocationTooLarge`, `EmptyStateStack`, `StateStackFull` and `CfaNotRegister`.
+/// A refusal of either program is one of `Instructions`, or `CfaNotRegister` (18) at the opcode. The CIE's program may also be
+/// refused by `NotInCie` (13), the FDE's by `LocationBackwards` (14), `LocationTooLarge` (15), `EmptyStateStack` (16) or
+/// `StateStackFull` (17), each at the opcode. An instruction is read whole before it is judged. Places count from the program's
+/// `at`.
 pub fn run<'a>(
     alloc: Global,
     cie_program: Program<'a>,

@@ -1,8 +1,8 @@
 //! What a slot of a row holds: the rule of one register (6.4.1).
 
-ghost use Rattle.std.specs.Prelude.{◌≡◌, IfSome, IsTrue};
+ghost use Rattle.std.specs.Prelude.{◌≡◌, IfSome, IsTrue, MatchOption};
 ghost use Rattle.dw_cfa.specs.declared.rule.RegRule.{RegRule as TheRule};
-ghost use Rattle.dw_cfa.specs.declared.rule.RegRule.TheVariants.{Offset};
+ghost use Rattle.dw_cfa.specs.declared.rule.RegRule.TheVariants.{Offset, Unspecified};
 ghost use Rattle.dw_cfa.specs.Rows.{is_specified, rule_in};
 ghost use Rattle.dw_cfa.specs.Inner.Entries.{slot_rule, IsSlotOf};
 
@@ -13,7 +13,6 @@ use std::collections::BTreeMap;
 /// What kind of rule a slot holds. A rule with an expression is kept beside the slots.
 #[derive(Clone, Copy)]
 pub(crate) enum Kind {
-    Empty,
     Undefined,
     SameValue,
     Offset,
@@ -30,9 +29,9 @@ pub(crate) struct Slot {
     pub(crate) offset: i64,
 }
 
-/// The slot of a register that is Unspecified.
-pub(crate) const EMPTY: Slot = Slot {
-    kind: Kind::Empty,
+/// What a slot holds that was never written. It is not read.
+pub(crate) const UNWRITTEN: Slot = Slot {
+    kind: Kind::Undefined,
     register: 0,
     offset: 0,
 };
@@ -47,7 +46,6 @@ pub(crate) fn rule_of<'a>(
     ensures { result ≡ slot_rule slot (rule_in expressions.now.entries register) }
 {
     match slot.kind {
-        Kind::Empty => RegRule::Unspecified,
         Kind::Undefined => RegRule::Undefined,
         Kind::SameValue => RegRule::SameValue,
         Kind::Offset => RegRule::Offset(slot.offset),
@@ -57,13 +55,14 @@ pub(crate) fn rule_of<'a>(
     }
 }
 
-/// The slot of a rule.
+/// The slot of a rule. Unspecified has none.
 #[inline(always)]
-pub(crate) fn slot_of(rule: &RegRule<'_>) -> Slot
-    ensures { IsSlotOf rule.now result }
+pub(crate) fn slot_of(rule: &RegRule<'_>) -> Option<Slot>
+    ensures slot { MatchOption result (rule.now ≡ Unspecified) (IsSlotOf rule.now) }
+    ensures specified { IfSome result (λ slot. IsTrue (is_specified rule.now)) }
 {
     let (kind, register, offset) = match rule {
-        RegRule::Unspecified => (Kind::Empty, 0, 0),
+        RegRule::Unspecified => return None,
         RegRule::Undefined => (Kind::Undefined, 0, 0),
         RegRule::SameValue => (Kind::SameValue, 0, 0),
         RegRule::Offset(offset) => (Kind::Offset, 0, *offset),
@@ -72,11 +71,11 @@ pub(crate) fn slot_of(rule: &RegRule<'_>) -> Slot
         RegRule::Expression(_) => (Kind::Expression, 0, 0),
         RegRule::ValExpression(_) => (Kind::Expression, 0, 0),
     };
-    Slot {
+    Some(Slot {
         kind,
         register,
         offset,
-    }
+    })
 }
 
 /// The offset that a slot holds of a register that is saved.
@@ -86,18 +85,6 @@ pub(crate) fn offset_in(slot: Slot) -> Option<i64>
 {
     match slot.kind {
         Kind::Offset => Some(slot.offset),
-        _ => None,
-    }
-}
-
-/// The rule that a slot holds of a register that is saved.
-#[inline(always)]
-pub(crate) fn saved_rule<'a>(slot: Slot) -> Option<RegRule<'a>>
-    ensures held { IfSome result (λ rule. (block : TheRule) → slot_rule slot block ≡ rule) }
-    ensures specified { IfSome result (λ rule. IsTrue (is_specified rule)) }
-{
-    match slot.kind {
-        Kind::Offset => Some(RegRule::Offset(slot.offset)),
         _ => None,
     }
 }

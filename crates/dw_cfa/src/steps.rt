@@ -76,8 +76,8 @@ fn run_cie<'a>(
     Ok(states.into_row())
 }
 
-/// The row that a CIE's program leaves, or its first fault, or want of memory. Its faults are those of `Instructions`, and
-/// `NotInCie` and `CfaNotRegister`.
+/// The row that a CIE's program leaves, or its first fault, or want of memory (`OutOfMemory`). A refusal is one of
+/// `Instructions`, or `NotInCie` (13) or `CfaNotRegister` (18) at the opcode. Its place counts from the program's `at`.
 pub fn initial_row<'a>(
     alloc: Global,
     cie_program: Program<'a>,
@@ -184,7 +184,7 @@ impl<'a> RowSteps<'a> {
 
     /// The same of programs that are known to give rows to their end: their expressions are not judged again.
     #[tactic(auto, using(crate::proofs::Lent::Given::faultless))]
-    pub fn known(
+    pub(crate) fn known(
         alloc: Global,
         cie_program: Program<'a>,
         fde_program: Program<'a>,
@@ -203,8 +203,8 @@ impl<'a> RowSteps<'a> {
     }
 
     /// Goes on to the next row, which `row` lends then, and answers the location that it starts at, or none behind
-    /// the last row. No row is copied. A refusal, or want of memory, is answered from then on. Refusals are those of `run`; where
-    /// `known` made the steps none comes.
+    /// the last row. No row is copied. An error is a refusal or `OutOfMemory`, and is answered from then on. Refusals are those of
+    /// `run`.
     pub fn advance(&mut self) -> Result<Option<u128>, ReadError>
         ensures advances { Advances self.old result self.new }
         ensures again { (e : ReadError) → self.old.error ≡ Some e → result ≡ Err e }
@@ -230,7 +230,7 @@ impl<'a> RowSteps<'a> {
         Ok(Some(answer?.0))
     }
 
-    /// The row that `advance` or `next` went on to, and before the first one a row of no meaning.
+    /// The row that `advance` or `next` went on to. Before the first one it is a blank row: no column has a rule.
     pub fn row(&self) -> &Row<'a>
         ensures { result.now ≡ self.now.current }
     {
@@ -239,7 +239,7 @@ impl<'a> RowSteps<'a> {
 
     /// The location that the next row starts at, which is where the row that is lent ends. None behind the last row, and
     /// after an error. Where a refusal comes next it is some location.
-    pub fn next_start(&self) -> Option<u128>
+    pub(crate) fn next_start(&self) -> Option<u128>
         ensures next { (row : LocatedRow) (rows : List LocatedRow) → self.now.outcome.rows ≡ row ∷ rows → result ≡ Some row.location }
         ensures last { self.now.outcome ≡ finished → result ≡ None }
         ensures none { result ≡ None → self.now.outcome ≡ finished }
@@ -250,8 +250,8 @@ impl<'a> RowSteps<'a> {
         }
     }
 
-    /// The next row, or none behind the last one. A refusal, or want of memory, which is answered from then on. Refusals are those
-    /// of `advance`.
+    /// The next row, or none behind the last one. An error is a refusal or `OutOfMemory`, and is answered from then on. Refusals
+    /// are those of `run`.
     pub fn next(&mut self) -> Result<Option<LocatedRow<'a>>, ReadError>
         ensures answers { Answers self.old result self.new }
         ensures again { (e : ReadError) → self.old.error ≡ Some e → result ≡ Err e }

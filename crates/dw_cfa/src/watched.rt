@@ -20,9 +20,9 @@ use std::ops::Bound;
 // Copies the rules of the registers in a mask.
 #[inline(always)]
 #[tactic(auto, using(crate::proofs::Marked::copied_on, crate::proofs::Marked::copied_next))]
-fn copy_near<'a>(row: &Row<'a>, kept: &mut Row<'a>, mask: u32) -> Result<(), AllocError>
+fn copy_near<'a>(row: &Row<'a>, kept: &mut Row<'a>, mask: u128) -> Result<(), AllocError>
     requires { SameUnset mask kept.old.registers row.now.registers }
-    ensures { OnOk result (CopiedUpTo 32 row.now.registers kept.old.registers kept.new.registers) }
+    ensures { OnOk result (CopiedUpTo 128 row.now.registers kept.old.registers kept.new.registers) }
 {
     let mut place = 0;
     'slots: while let Some(register) = next_in(mask, place) {
@@ -93,7 +93,7 @@ fn next_listed_difference(
     marked: &BTreeMap<u16, RegRule<'_>>,
     behind: Option<u16>,
 ) -> Option<u16>
-    requires marked { AreSpecified 32 marked.now.entries }
+    requires marked { AreSpecified 128 marked.now.entries }
     requires same { SameUnlisted (place_behind behind) marked.now.entries kept.now.registers row.now.registers }
     ensures { FirstDifference (place_behind behind) kept.now.registers row.now.registers result }
 {
@@ -114,7 +114,7 @@ pub(crate) fn next_far_difference(
     marked: &BTreeMap<u16, RegRule<'_>>,
     behind: Option<u16>,
 ) -> Option<u16>
-    requires marked { AreSpecified 32 marked.now.entries }
+    requires marked { AreSpecified 128 marked.now.entries }
     requires same { SameUnlisted (place_behind behind) marked.now.entries kept.now.registers row.now.registers }
     ensures { FirstDifference (place_behind behind) kept.now.registers row.now.registers result }
 {

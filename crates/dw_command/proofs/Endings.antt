@@ -1,5 +1,8 @@
 -- Runs that end: a load of later files, and what a call that writes becomes.
-use Rattle.std.proofs.Common.{◌≡◌, ◌∙◌, ◌⊎◌, ℕ, List, Option, option_map, Result, Ok, Err, refl, inl, inr, subst, sym}
+use Rattle.std.proofs.Common.{◌≡◌, ◌∙◌, ◌⊎◌, ℕ, List, [], length, Option, option_map, Result, Ok, Err, refl, inl, inr, subst, sym}
+use Rattle.std.specs.Io.KnownBytes.{Appends}
+use Rattle.std.proofs.KnownBytes.{Appends-trans, Keeps-refl}
+use Rattle.std.proofs.lemmas.List.{append-nil}
 use Rattle.std.specs.Result.{MatchResult, result_map_both}
 use Rattle.clap.specs.Words.{Text}
 use Rattle.dw_num.specs.declared.target.Target.{Target}
@@ -15,7 +18,14 @@ use Rattle.dw_eval.specs.Evaluation.{Evaluates, first_stack}
 use Rattle.dw_normal.specs.declared.error.WriteError.{WriteError}
 use Rattle.dw_normal.specs.declared.error.WriteError.TheVariants as write_error
 use Rattle.dw_section.specs.Table.{Section}
-use Rattle.dw_normal.specs.Answers.{IsWithin, Writes}
+use Rattle.dw_section.specs.Accepted.{Accepted}
+use Rattle.dw_section.specs.Counts.{AreCounts}
+use Rattle.dw_section.specs.Cut.{Piece}
+use Rattle.dw_section.specs.Meaning.{RowStarts}
+use Rattle.dw_section.specs.Pieces.{Pieces}
+use Rattle.dw_canon.specs.Normal.{IsNormalForm}
+use Rattle.dw_section.specs.declared.entry.EntryCounts.{EntryCounts}
+use Rattle.dw_normal.specs.Answers.{FitsCap, Writes}
 use Rattle.dw_unwind.specs.declared.dump.Dump.{Dump}
 use Rattle.dw_unwind.specs.declared.frame.Frame.{Frame}
 use Rattle.dw_eval.specs.declared.policy.Policy.{Policy}
@@ -28,7 +38,9 @@ use Rattle.dw_command.specs.declared.failure.Failure.{Failure}
 use Rattle.dw_command.specs.declared.failure.Failure.TheVariants as failures
 use Rattle.dw_words.specs.declared.request.Evaluation.{Evaluation}
 use Rattle.dw_words.specs.declared.request.Unwinding.{Unwinding}
-use Rattle.dw_command.specs.Answers.{Checks, Costs, EvalEnds, Frames, Loads, LoadsDump, LoadsText, Normalises, OverFile, Parses, Prints, Then, UnwindEnds, Values}
+use Rattle.dw_command.specs.Answers.{Before, Checks, Costs, CostsBehind, EvalEnds, Frames, HasCounts, Loads, LoadsDump, LoadsText, Normalises, OverFile, Parses, Prints, AndThen, UnwindEnds, Unprinted, Values, costs_text}
+use Rattle.dw_command.specs.Output.{Output}
+use Rattle.dw_command.specs.Texts.{frame_text, value_text}
 use Rattle.dw_command.specs.Failure.{of_read}
 use Rattle.dw_command.specs.Inner.Failure.{of_write}
 
@@ -57,19 +69,34 @@ loaded P Q (Ok x) v h is = let same : v ≡ x = cc in rw same h
 loaded P Q (Err e) v h is = absurd is
 
 -- a normal form that is not written whole
-pub unwritten : (target : Target) (cap : ℕ) (s : List ℕ) (e : WriteError) (failed failed' left : ℕ) (old new : Option (List ℕ))
-    → Writes target cap s (Err e) failed failed' old new → Then (Normalises target cap s) (λ (_ : Unit {0}). Prints {A = Unit {0}} failed failed' left tt) (Err (of_write e))
-unwritten target cap s (write_error.Refused r) failed failed' left old new h = inr (failures.Refused r, (read_error.Refused r, h.1, refl), refl)
-unwritten target cap s (write_error.Write written) failed failed' left old new h = inl (tt, (h.1.normal, h.1.is, h.1.within), h.0)
-unwritten target cap s (write_error.Memory written) failed failed' left old new h = inr (failures.OutOfMemory, (read_error.OutOfMemory, tt, refl), refl)
+pub unwritten : (target : Target) (most : ℕ) (s : List ℕ) (e : WriteError) (old new : Output)
+    → Writes target most s (Err e) old.failures new.failures old.put new.put → Before old new (Normalises target most s) (λ n. Prints {A = Unit {0}} old new n tt) (Err (of_write e))
+unwritten target most s (write_error.Refused r) old new h = inr (failures.Refused r, (read_error.Refused r, h.1, refl), refl, h.2)
+unwritten target most s (write_error.Write written) old new h = inl (h.1.normal, (h.1.is, h.1.within), h.0)
+unwritten target most s (write_error.Memory written) old new (same, inl none) = inr (failures.OutOfMemory, (read_error.OutOfMemory, tt, refl), refl, none.1)
+unwritten target most s (write_error.Memory written) old new (same, inr out) = inl (out.normal, (out.is, out.within), tt)
+
+-- a text that is put, and then written out
+pub finished : (old mid new : Output) (text : List ℕ) (r : Result (Unit {0}) Failure) → mid.failures ≡ old.failures → Appends old.put mid.put text → Prints mid new [] tt r → Prints old new text tt r
+finished old mid new text (Ok a) same put h = (h.0, h.1 ∙ same, h.2, subst (λ (t : List ℕ). Appends old.put new.put t) (append-nil text) (Appends-trans old.put mid.put new.put text [] put h.3))
+finished old mid new text (Err e) same put h = subst (λ (n : ℕ). Unprinted n new.failures e) same h
 
 -- printed is what equals it
-pub prints_same : {A : Type 0} (old new left : ℕ) (a b : A) (r : Result A Failure) → a ≡ b → Prints old new left a r → Prints old new left b r
-prints_same {A} old new left a b r is h = subst (λ (x : A). Prints {A = A} old new left x r) is h
+pub prints_same : {A : Type 0} (old new : Output) (text text' : List ℕ) (a b : A) (r : Result A Failure) → a ≡ b → text ≡ text' → Prints old new text a r → Prints old new text' b r
+prints_same {A} old new text text' a b (Ok c) is same h = (h.0 ∙ is, h.1, h.2, subst (λ (t : List ℕ). Appends old.put new.put t) same h.3)
+prints_same {A} old new text text' a b (Err e) is same h = h
+
+-- the entries of a section that was checked are counted
+pub counted : (target : Target) (s : List ℕ) (table : Section) (counts : EntryCounts) → table ≡ record { target = target; bytes = s }
+    → ((ps : List Piece) → Pieces table.target table.bytes ps → AreCounts ps counts) → Accepted target s → HasCounts target s counts
+counted target s table counts is each accepted =
+    let headers = accepted.1.1.0.0.0 in
+    let all = subst (λ (t : Section). (ps : List Piece) → Pieces t.target t.bytes ps → AreCounts ps counts) is each in
+    (headers.entries, headers.cut, all headers.entries headers.cut)
 
 -- status 0 where there is an answer
 pub done : (Ends : Result (Unit {0}) Failure → Type 0) (answer : Result (Unit {0}) Failure) (r : Result ℕ Failure)
-    → r ≡ result_map_both (λ _. 0) (λ e. e) answer → Ends answer → Then Ends (λ (_ : Unit {0}) status. status ≡ Ok 0) r
+    → r ≡ result_map_both (λ _. 0) (λ e. e) answer → Ends answer → AndThen Ends (λ (_ : Unit {0}) status. status ≡ Ok 0) r
 done Ends (Ok answer) r is h = inl (answer, h, is)
 done Ends (Err e) r is h = inr (e, h, is)
 
@@ -88,21 +115,21 @@ pub values_at : (t u : Target) (ops : List Op) (start : Option ℕ) (dump : Dump
 values_at t u ops start dump steps r is h = subst (λ (t : Target). Values t ops start dump steps r) is h
 
 -- behind a text and a block that is decoded
-pub behind_block : (gives : Text → Result (List ℕ) LoadError → Type 0) (old new left : ℕ) (target : Target) (e : Evaluation)
+pub behind_block : (gives : Text → Result (List ℕ) LoadError → Type 0) (old new : Output) (target : Target) (e : Evaluation)
     (text text' block' : List ℕ) (ops : List Op) (r : Result (Unit {0}) Failure)
     → text' ≡ text → LoadsText gives (option_map (λ p. p.now) e.dump) (Ok text) → block' ≡ e.block.items → IsBlock Location target ops block'
-    → Then (Parses target text') (λ dump. Then (Values target ops e.start dump e.steps) (λ _. Prints {A = Unit {0}} old new left tt)) r
-    → EvalEnds gives old new left target e r
-behind_block gives old new left target e text text' block' ops r lent loads same found ends =
+    → Before old new (Parses target text') (λ dump. Before old new (Values target ops e.start dump e.steps) (λ v. Prints {A = Unit {0}} old new (value_text v) tt)) r
+    → EvalEnds gives old new target e r
+behind_block gives old new target e text text' block' ops r lent loads same found ends =
     inl (text', subst (λ (t : List ℕ). LoadsText gives (option_map (λ p. p.now) e.dump) (Ok t)) (sym lent) loads, inl (ops, subst (λ (b : List ℕ). IsBlock Location target ops b) same found, ends))
 
 -- behind a text and a block that is refused
-pub block_refused : (gives : Text → Result (List ℕ) LoadError → Type 0) (old new left : ℕ) (target : Target) (e : Evaluation)
+pub block_refused : (gives : Text → Result (List ℕ) LoadError → Type 0) (old : Output) (target : Target) (e : Evaluation)
     (text block' : List ℕ) (why : ReadError) (f : Failure)
     → LoadsText gives (option_map (λ p. p.now) e.dump) (Ok text) → block' ≡ e.block.items → Refuses (BlockFault Location target block') why → f ≡ of_read why
-    → EvalEnds gives old new left target e (Err f)
-block_refused gives old new left target e text block' why f loads same refused is =
-    inl (text, loads, inr (f, (why, subst (λ (b : List ℕ). Refuses (BlockFault Location target b) why) same refused, is), refl))
+    → EvalEnds gives old old target e (Err f)
+block_refused gives old target e text block' why f loads same refused is =
+    inl (text, loads, inr (f, (why, subst (λ (b : List ℕ). Refuses (BlockFault Location target b) why) same refused, is), refl, Keeps-refl old.put))
 
 -- ---- frames
 
@@ -115,12 +142,12 @@ unwound t u s pc dump policy steps e is (inr h) =
     inr (subst (λ (t : Target). Unwound t s pc (stopped t dump.registers (byte_in dump.memory)) policy steps (Err e)) is h)
 
 -- behind both files
-pub behind_files : (gives : Text → Result (List ℕ) LoadError → Type 0) (old new left : ℕ) (target : Target) (u : Unwinding)
+pub behind_files : (gives : Text → Result (List ℕ) LoadError → Type 0) (old new : Output) (target : Target) (u : Unwinding)
     (s s' text text' : List ℕ) (r : Result (Unit {0}) Failure)
     → s' ≡ s → Loads gives u.path.now (Ok s) → text' ≡ text → LoadsDump gives u.dump.now (Ok text)
-    → Then (Checks target s') (λ _. Then (Parses target text') (λ dump. Then (Frames target s' dump u.default u.steps) (λ _. Prints {A = Unit {0}} old new left tt))) r
-    → UnwindEnds gives old new left target u r
-behind_files gives old new left target u s s' text text' r same loads same' loads' ends =
+    → Before old new (Checks target s') (λ _. Before old new (Parses target text') (λ dump. Before old new (Frames target s' dump u.default u.steps) (λ frame. Prints {A = Unit {0}} old new (frame_text frame) tt))) r
+    → UnwindEnds gives old new target u r
+behind_files gives old new target u s s' text text' r same loads same' loads' ends =
     inl (s', lent gives u.path.now s s' same loads, inl (text', dump_lent gives u.dump.now text text' same' loads', ends))
 
 -- over the section that was checked
@@ -131,12 +158,18 @@ frames_at target s table dump policy steps r is h = subst (λ (t : Section). Fra
 -- ---- costs
 
 -- behind a normal form that is measured
-pub behind_length : (gives : Text → Result (List ℕ) LoadError → Type 0) (old new left : ℕ) (target : Target) (path : Text) (s one two : List ℕ) (r : Result (Unit {0}) Failure)
-    → one ≡ s → two ≡ s → Loads gives path (Ok s) → IsWithin target 2147483647 one → Then (Checks target two) (λ _. Prints {A = Unit {0}} old new left tt) r
-    → OverFile gives old new left path (Costs target) r
-behind_length gives old new left target path s one two r first second loads within ends =
-    inl (two, lent gives path s two second loads, costs (subst (IsWithin target 2147483647) (first ∙ sym second) within) r ends)
+pub behind_length : (gives : Text → Result (List ℕ) LoadError → Type 0) (old new : Output) (target : Target) (path : Text) (s one two : List ℕ) (r : Result (Unit {0}) Failure)
+    → one ≡ s → two ≡ s → Loads gives path (Ok s) → (within : FitsCap target 2147483647 one)
+    → Before old new (CostsBehind target two within.0) (λ cost. Prints {A = Unit {0}} old new (costs_text (length two) cost) tt) r
+    → OverFile gives old new path (Costs target) (λ s cost. Prints {A = Unit {0}} old new (costs_text (length s) cost) tt) r
+behind_length gives old new target path s one two r first second loads within ends =
+    inl (two, lent gives path s two second loads, costs (subst (λ (t : List ℕ). IsNormalForm target t within.0) (first ∙ sym second) within.1) r ends)
   where
-    costs : IsWithin target 2147483647 two → (r : Result (Unit {0}) Failure) → Then (Checks target two) (λ _. Prints {A = Unit {0}} old new left tt) r → Then (Costs target two) (λ _. Prints {A = Unit {0}} old new left tt) r
-    costs short r (inl (a, checks, prints)) = inl (a, inl (tt, short, checks), prints)
-    costs short r (inr (e, checks, is)) = inr (e, inl (tt, short, checks), is)
+    costs : IsNormalForm target two within.0 → (r : Result (Unit {0}) Failure) → Before old new (CostsBehind target two within.0) (λ cost. Prints {A = Unit {0}} old new (costs_text (length two) cost) tt) r
+        → Before old new (Costs target two) (λ cost. Prints {A = Unit {0}} old new (costs_text (length two) cost) tt) r
+    costs short r (inl (cost, counts, prints)) = inl (cost, inl (within.0, (short, within.2), counts), prints)
+    costs short r (inr (e, counts, is, kept)) = inr (e, inl (within.0, (short, within.2), counts), is, kept)
+
+-- the rows of a section that was checked are counted
+pub starts_at : (target : Target) (s : List ℕ) (table : Section) (n : ℕ) → table ≡ record { target = target; bytes = s } → RowStarts table.target table.bytes n → RowStarts target s n
+starts_at target s table n is h = subst (λ (t : Section). RowStarts t.target t.bytes n) is h

@@ -1,6 +1,7 @@
--- What a run answers: which call comes after which, and that the first failure ends it. What is printed is not told.
-use Rattle.std.specs.Prelude.{◌≡◌, ◌⊎◌, ⊤, ℕ, ◌<◌, ◌≤◌, List, [], Bool, Option, Some, None, length, option_map, if◌then◌else◌, Result, Ok, Err}
+-- What a run answers and prints: which call comes after which, and that the first failure ends it.
+use Rattle.std.specs.Prelude.{◌≡◌, ◌⊎◌, ⊤, ℕ, ◌<◌, ◌≤◌, List, [], ◌++◌, codes, Bool, Option, Some, None, length, map, option_map, if◌then◌else◌, Result, Ok, Err}
 use Rattle.std.specs.Bool.{Decides}
+use Rattle.std.specs.Io.KnownBytes.{Appends, Keeps}
 use Rattle.clap.specs.Words.{Text}
 use Rattle.dw_num.specs.Target.{address_limit}
 use Rattle.dw_num.specs.declared.target.Target.{Target}
@@ -9,19 +10,26 @@ use Rattle.dw_op.specs.declared.op.Op.{Op}
 use Rattle.dw_op.specs.declared.profile.Profile.{Profile}
 use Rattle.dw_op.specs.declared.profile.Profile.TheVariants.{Location}
 use Rattle.dw_op.specs.Faults.{BlockFault, IsBlock}
+use Rattle.dw_op.specs.Least.{LeastBlock}
 use Rattle.dw_eval.specs.declared.error.EvalError.TheVariants as eval_error
 use Rattle.dw_eval.specs.Evaluation.{Evaluates, first_stack}
 use Rattle.dw_section.specs.declared.entry.Entry.{Entry}
 use Rattle.dw_section.specs.Accepted.{Accepted, CheckFault}
-use Rattle.dw_section.specs.Pieces.{Entries}
+use Rattle.dw_section.specs.Pieces.{Entries, Pieces}
 use Rattle.dw_section.specs.Faults.{CutFault}
+use Rattle.dw_section.specs.Meaning.{RowStarts, total}
 use Rattle.dw_section.specs.Meanings.{SameMeaning}
-use Rattle.dw_normal.specs.Answers.{IsWithin, NormalFault, SameFault}
+use Rattle.dw_section.specs.declared.entry.EntryCounts.{EntryCounts}
+use Rattle.dw_section.specs.Counts.{AreCounts}
+use Rattle.dw_section.specs.Cut.{Piece}
+use Rattle.dw_canon.specs.Members.{AreMembers, Member, changes_of}
+use Rattle.dw_canon.specs.Normal.{IsNormalForm}
+use Rattle.dw_normal.specs.Answers.{FitsCap, NormalFault, SameFault}
 use Rattle.dw_unwind.specs.declared.dump.Dump.{Dump}
 use Rattle.dw_unwind.specs.declared.frame.Frame.{Frame}
 use Rattle.dw_eval.specs.declared.policy.Policy.{Policy}
 use Rattle.dw_unwind.specs.declared.frame.UnwindError.TheVariants as unwind_error
-use Rattle.dw_unwind.specs.Describes.{Describes, Refuses as RefusesDump}
+use Rattle.dw_unwind.specs.Describes.{Describes, RefusesDump}
 use Rattle.dw_unwind.specs.Dump.{Say}
 use Rattle.dw_unwind.specs.Lines.{lines_of}
 use Rattle.dw_unwind.specs.Ranges.{byte_in}
@@ -38,13 +46,16 @@ use Rattle.dw_command.specs.declared.files.LoadError.{LoadError}
 use Rattle.dw_command.specs.declared.files.LoadError.TheVariants.{CannotRead}
 use Rattle.dw_command.specs.declared.failure.Failure.{Failure}
 use Rattle.dw_command.specs.declared.failure.Failure.TheVariants as failures
+use Rattle.dw_command.specs.Output.{Output}
+use Rattle.dw_command.specs.RowTexts.{member_text}
+use Rattle.dw_command.specs.Texts.{block_text, cost_text, counts_text, entry_text, frame_text, lines, sameness_text, value_text}
 use Rattle.dw_command.specs.Failure.{OfLoad, OfSame, OfUnwind, of_read, of_dump, of_eval, of_plan, status_of}
 
 -- ---- one thing after another
 
 -- the first has an answer, from which the second goes on, or it fails and nothing follows
-abbrev pub Then : {A B : Type 0} → (Result A Failure → Type 0) → (A → Result B Failure → Type 0) → Result B Failure → Type 0
-Then {A} {B} First Next r = ((a : A) × First (Ok a) × Next a r) ⊎ ((e : Failure) × First (Err e) × (r ≡ Err e))
+abbrev pub AndThen : {A B : Type 0} → (Result A Failure → Type 0) → (A → Result B Failure → Type 0) → Result B Failure → Type 0
+AndThen {A} {B} First Next r = ((a : A) × First (Ok a) × Next a r) ⊎ ((e : Failure) × First (Err e) × (r ≡ Err e))
 
 -- a call below: what it answers, or its error, which becomes a failure
 abbrev pub Calls : {A E : Type 0} → (A → Type 0) → (E → Type 0) → (E → Failure → Type 0) → Result A Failure → Type 0
@@ -57,11 +68,20 @@ Unprinted old new failures.CannotWrite = old < new
 Unprinted old new failures.OutOfMemory = ⊤
 Unprinted old new failure = ⊥
 
--- the answer is printed, the count of the output's failures did not grow, and no byte is left that the output was not given; or it
--- is not printed
-abbrev pub Prints : {A : Type 0} → ℕ → ℕ → ℕ → A → Result A Failure → Type 0
-Prints old new left a (Ok b) = (b ≡ a) × (new ≡ old) × (left ≡ 0)
-Prints old new left a (Err failure) = Unprinted old new failure
+-- the text of the answer is printed behind what was put before, the count of the output's failures did not grow, and no byte is left
+-- that the output was not given; or it is not printed
+abbrev pub Prints : {A : Type 0} → Output → Output → List ℕ → A → Result A Failure → Type 0
+Prints old new text a (Ok b) = (b ≡ a) × (new.failures ≡ old.failures) × (new.left ≡ 0) × Appends old.put new.put text
+Prints old new text a (Err failure) = Unprinted old.failures new.failures failure
+
+-- the same of a text that is not told
+abbrev pub PrintsText : {A : Type 0} → Output → Output → A → Result A Failure → Type 0
+PrintsText old new a (Ok b) = (b ≡ a) × (new.failures ≡ old.failures) × (new.left ≡ 0)
+PrintsText old new a (Err failure) = Unprinted old.failures new.failures failure
+
+-- the first has an answer, from which the second goes on, or it fails and nothing is put
+abbrev pub Before : {A B : Type 0} → Output → Output → (Result A Failure → Type 0) → (A → Result B Failure → Type 0) → Result B Failure → Type 0
+Before {A} {B} old new First Next r = ((a : A) × First (Ok a) × Next a r) ⊎ ((e : Failure) × First (Err e) × (r ≡ Err e) × Keeps old.put new.put)
 
 -- ---- files, by what they may give for a path
 
@@ -88,28 +108,72 @@ LoadsText gives (Some path) r = LoadsDump gives path r
 abbrev pub Checks : Target → List ℕ → Result (Unit {0}) Failure → Type 0
 Checks target s r = Calls (λ (_ : Unit {0}). Accepted target s) (Refuses (CheckFault target s)) (λ e f. f ≡ of_read e) r
 
+-- these are the counts of its entries
+abbrev pub HasCounts : Target → List ℕ → EntryCounts → Type 0
+HasCounts target s counts = (ps : List Piece) × Pieces target s ps × AreCounts ps counts
+
+-- a section is checked, and its entries are counted
+abbrev pub Tallies : Target → List ℕ → Result EntryCounts Failure → Type 0
+Tallies target s r = Calls (λ counts. Accepted target s × HasCounts target s counts) (Refuses (CheckFault target s)) (λ e f. f ≡ of_read e) r
+
+-- a section is checked, and these are its nonempty FDEs by begin, each with the addresses at which its rules change
+abbrev pub ListsFdes : Target → List ℕ → Result (List Member) Failure → Type 0
+ListsFdes target s r = Calls (λ ms. Accepted target s × AreMembers target s ms) (Refuses (CheckFault target s)) (λ e f. f ≡ of_read e) r
+
 -- a section is cut
 abbrev pub Cuts : Target → List ℕ → Result (List Entry) Failure → Type 0
 Cuts target s r = Calls (Entries target s) (Refuses (CutFault target s)) (λ e f. f ≡ of_read e) r
 
--- a section has a normal form of at most so many bytes
-abbrev pub Normalises : Target → ℕ → List ℕ → Result (Unit {0}) Failure → Type 0
-Normalises target cap s r = Calls (λ (_ : Unit {0}). IsWithin target cap s) (Refuses (NormalFault target cap s)) (λ e f. f ≡ of_read e) r
+-- the normal form of a section, of at most so many bytes
+abbrev pub Normalises : Target → ℕ → List ℕ → Result (List ℕ) Failure → Type 0
+Normalises target cap s r = Calls (λ n. IsNormalForm target s n × (length n ≤ cap)) (Refuses (NormalFault target cap s)) (λ e f. f ≡ of_read e) r
 
--- one of at most 2,147,483,647 bytes, of a section that is then checked
-abbrev pub Costs : Target → List ℕ → Result (Unit {0}) Failure → Type 0
-Costs target s r = Then (Normalises target 2147483647 s) (λ _. Checks target s) r
+-- how many changes an FDE has
+abbrev pub change_count : Member → ℕ
+change_count m = length (changes_of m)
+
+-- the nonempty FDEs of a section together have n changes
+pub record ChangeCount (target : Target) (s : List ℕ) (n : ℕ) : Type 0 where
+  pub members : List Member
+  pub are : AreMembers target s members
+  pub sum : n ≡ total (map change_count members)
+
+-- what a section costs: the bytes of its normal form, the rows that its programs start, and the changes of its FDEs
+pub record Cost : Type 0 where
+  pub normal : ℕ
+  pub starts : ℕ
+  pub changes : ℕ
+
+-- a section with this normal form is checked, and its rows and changes are counted
+abbrev pub CostsBehind : Target → List ℕ → List ℕ → Result Cost Failure → Type 0
+CostsBehind target s n r =
+    Calls (λ (cost : Cost). Accepted target s × (cost.normal ≡ length n) × RowStarts target s cost.starts × ChangeCount target s cost.changes)
+    (Refuses (CheckFault target s)) (λ e f. f ≡ of_read e) r
+
+-- that of a section with a normal form of at most 2,147,483,647 bytes
+abbrev pub Costs : Target → List ℕ → Result Cost Failure → Type 0
+Costs target s r = AndThen (Normalises target 2147483647 s) (CostsBehind target s) r
+
+-- two lines: of the section, and of its normal form
+abbrev pub costs_text : ℕ → Cost → List ℕ
+costs_text bytes cost = cost_text (codes "bytes ") bytes cost.normal ++ cost_text (codes "rowstarts ") cost.starts cost.changes
 
 -- two sections with normal forms of at most 2,147,483,647 bytes are compared
 abbrev pub Compares : Target → List ℕ → List ℕ → Result Bool Failure → Type 0
 Compares target s t r =
-    Calls (λ b. IsWithin target 2147483647 s × IsWithin target 2147483647 t × Decides b (SameMeaning target s t))
+    Calls (λ b. FitsCap target 2147483647 s × FitsCap target 2147483647 t × Decides b (SameMeaning target s t))
     (SameFault target 2147483647 s t) OfSame r
 
 -- a block is decoded
 abbrev pub Decodes : Profile → Target → List ℕ → Result (List Op) Failure → Type 0
 Decodes profile target block r =
     Calls (λ ops. IsBlock profile target ops block) (Refuses (BlockFault profile target block)) (λ e f. f ≡ of_read e) r
+
+-- a block is decoded, and its operations have this least block
+abbrev pub SpellsLeast : Profile → Target → List ℕ → Result (List Op × List ℕ) Failure → Type 0
+SpellsLeast profile target block r =
+    Calls (λ spelled. IsBlock profile target spelled.0 block × LeastBlock target spelled.0 spelled.1)
+    (Refuses (BlockFault profile target block)) (λ e f. f ≡ of_read e) r
 
 -- a dump holds what its lines say
 abbrev pub Holds : Target → Text → Dump → Type 0
@@ -126,9 +190,9 @@ Values target ops start dump steps r =
     Calls (λ v. Is (Ok v)) (λ e. (e ≡ eval_error.OutOfMemory) ⊎ Is (Err e)) (λ e f. f ≡ of_eval e) r
 
 -- a dump has a program counter
-abbrev pub Counts : Dump → Result ℕ Failure → Type 0
-Counts dump (Ok pc) = dump.pc ≡ Some pc
-Counts dump (Err f) = (dump.pc ≡ None) × (f ≡ failures.NoCounter)
+abbrev pub HasCounter : Dump → Result ℕ Failure → Type 0
+HasCounter dump (Ok pc) = dump.pc ≡ Some pc
+HasCounter dump (Err f) = (dump.pc ≡ None) × (f ≡ failures.NoCounter)
 
 -- a frame of the caller is found from a program counter on
 abbrev pub Unwinds : Target → List ℕ → Dump → Policy → ℕ → ℕ → Result Frame Failure → Type 0
@@ -138,47 +202,48 @@ Unwinds target s dump policy steps pc r =
 
 -- the frame of a dump
 abbrev pub Frames : Target → List ℕ → Dump → Policy → ℕ → Result Frame Failure → Type 0
-Frames target s dump policy steps r = Then (Counts dump) (λ pc. Unwinds target s dump policy steps pc) r
+Frames target s dump policy steps r = AndThen (HasCounter dump) (λ pc. Unwinds target s dump policy steps pc) r
 
 -- ---- the subcommands
 
--- counts of failures of the output, before and behind a run, come first, and then how many bytes it was not given at the end
-abbrev pub OverBlock : ℕ → ℕ → ℕ → Target → Profile → List ℕ → Result (Unit {0}) Failure → Type 0
-OverBlock old new left target profile block r = Then (Decodes profile target block) (λ _. Prints old new left tt) r
+module _ (old new : Output) where
+  -- a block is decoded and spelled in the least way, and both are printed
+  abbrev pub OverBlock : Target → Profile → List ℕ → Result (Unit {0}) Failure → Type 0
+  OverBlock target profile block r = Before old new (SpellsLeast profile target block) (λ spelled. Prints old new (block_text spelled.0 spelled.1) tt) r
 
-module _ (gives : Text → Result (List ℕ) LoadError → Type 0) (old new left : ℕ) where
-  -- a file is read and judged
-  abbrev pub OverFile : {A : Type 0} → Text → (List ℕ → Result A Failure → Type 0) → Result (Unit {0}) Failure → Type 0
-  OverFile path Judges r = Then (Loads gives path) (λ s. Then (Judges s) (λ _. Prints old new left tt)) r
+module _ (gives : Text → Result (List ℕ) LoadError → Type 0) (old new : Output) where
+  -- a file is read and judged, and what is found is printed
+  abbrev pub OverFile : {A : Type 0} → Text → (List ℕ → Result A Failure → Type 0) → (List ℕ → A → Result (Unit {0}) Failure → Type 0) → Result (Unit {0}) Failure → Type 0
+  OverFile path Judges Ends r = Before old new (Loads gives path) (λ s. Before old new (Judges s) (Ends s)) r
 
   -- 0 where both say the same, 1 where not
   abbrev pub SameEnds : Target → Text → Text → Result ℕ Failure → Type 0
   SameEnds target path other r =
-      Then (Loads gives path) (λ s. Then (Loads gives other) (λ t. Then (Compares target s t) (λ b. Prints old new left (if b then 0 else 1)))) r
+      Before old new (Loads gives path) (λ s. Before old new (Loads gives other) (λ t. Before old new (Compares target s t) (λ b. Prints old new (sameness_text b) (if b then 0 else 1)))) r
 
   abbrev pub EvalEnds : Target → Evaluation → Result (Unit {0}) Failure → Type 0
   EvalEnds target e r =
-      Then (LoadsText gives (option_map (λ path. path.now) e.dump)) (λ text. Then (Decodes Location target e.block.items) (λ ops.
-      Then (Parses target text) (λ dump. Then (Values target ops e.start dump e.steps) (λ _. Prints old new left tt)))) r
+      Before old new (LoadsText gives (option_map (λ path. path.now) e.dump)) (λ text. Before old new (Decodes Location target e.block.items) (λ ops.
+      Before old new (Parses target text) (λ dump. Before old new (Values target ops e.start dump e.steps) (λ v. Prints old new (value_text v) tt)))) r
 
   abbrev pub UnwindEnds : Target → Unwinding → Result (Unit {0}) Failure → Type 0
   UnwindEnds target u r =
-      Then (Loads gives u.path.now) (λ s. Then (LoadsDump gives u.dump.now) (λ text. Then (Checks target s) (λ _.
-      Then (Parses target text) (λ dump. Then (Frames target s dump u.default u.steps) (λ _. Prints old new left tt))))) r
+      Before old new (Loads gives u.path.now) (λ s. Before old new (LoadsDump gives u.dump.now) (λ text. Before old new (Checks target s) (λ _.
+      Before old new (Parses target text) (λ dump. Before old new (Frames target s dump u.default u.steps) (λ frame. Prints old new (frame_text frame) tt))))) r
 
   -- status 0 comes after an answer
   abbrev pub Done : (Result (Unit {0}) Failure → Type 0) → Result ℕ Failure → Type 0
-  Done Ends r = Then Ends (λ _ status. status ≡ Ok 0) r
+  Done Ends r = AndThen Ends (λ _ status. status ≡ Ok 0) r
 
   -- the exit status of a subcommand, or why it has no answer
   abbrev pub TaskEnds : Target → Task → Result ℕ Failure → Type 0
-  TaskEnds target (tasks.Check path) r = Done (OverFile path.now (Checks target)) r
-  TaskEnds target (tasks.Cost path) r = Done (OverFile path.now (Costs target)) r
-  TaskEnds target (tasks.Entries path) r = Done (OverFile path.now (Cuts target)) r
+  TaskEnds target (tasks.Check path) r = Done (OverFile path.now (Tallies target) (λ s counts. Prints old new (counts_text counts (length s)) tt)) r
+  TaskEnds target (tasks.Cost path) r = Done (OverFile path.now (Costs target) (λ s cost. Prints old new (costs_text (length s) cost) tt)) r
+  TaskEnds target (tasks.Entries path) r = Done (OverFile path.now (Cuts target) (λ _ es. Prints old new (lines entry_text es) tt)) r
   TaskEnds target (tasks.Eval e) r = Done (EvalEnds target e) r
-  TaskEnds target (tasks.Expr profile block) r = Done (OverBlock old new left target profile block.items) r
-  TaskEnds target (tasks.Normal w) r = Done (OverFile w.path.now (Normalises target w.cap)) r
-  TaskEnds target (tasks.Rows path) r = Done (OverFile path.now (Checks target)) r
+  TaskEnds target (tasks.Expr profile block) r = Done (OverBlock old new target profile block.items) r
+  TaskEnds target (tasks.Normal w) r = Done (OverFile w.path.now (Normalises target w.cap) (λ _ n. Prints old new n tt)) r
+  TaskEnds target (tasks.Rows path) r = Done (OverFile path.now (ListsFdes target) (λ _ ms. Prints old new (lines member_text ms) tt)) r
   TaskEnds target (tasks.Same path other) r = SameEnds target path.now other.now r
   TaskEnds target (tasks.Unwind u) r = Done (UnwindEnds target u) r
 
@@ -188,15 +253,15 @@ module _ (gives : Text → Result (List ℕ) LoadError → Type 0) (old new left
 abbrev pub Plans : List Text → Result Request Failure → Type 0
 Plans words r = Calls (λ request. Planned words (Ok request)) (λ e. Planned words (Err e)) (λ e f. f ≡ of_plan e) r
 
-module _ (gives : Text → Result (List ℕ) LoadError → Type 0) (old new left : ℕ) where
+module _ (gives : Text → Result (List ℕ) LoadError → Type 0) (old new : Output) where
   -- a text that is asked for is printed, a subcommand is run
   abbrev pub Follows : Request → Result ℕ Failure → Type 0
-  Follows (requests.Run job) r = TaskEnds gives old new left job.target job.task r
-  Follows (requests.Help text) r = Prints old new left 0 r
+  Follows (requests.Run job) r = TaskEnds gives old new job.target job.task r
+  Follows (requests.Help text) r = PrintsText old new 0 r
 
-  -- what a run of these words answers
+  -- what a run of these words answers and prints
   abbrev pub Ends : List Text → Result ℕ Failure → Type 0
-  Ends words r = Then (Plans words) Follows r
+  Ends words r = Before old new (Plans words) Follows r
 
 -- the exit status of an answer
 abbrev pub exit_of : Result ℕ Failure → ℕ

@@ -71,9 +71,9 @@ abbrev pub OfUnwind : UnwindError → Failure → Type 0
 OfUnwind unwind_error.NoFde failure = failure ≡ failures.NoFde
 OfUnwind (unwind_error.Eval kind index column) (failures.Value k i place) = (k ≡ kind) × (i ≡ index) × (place.0 ≡ column)
 OfUnwind (unwind_error.Eval kind index column) failure = ⊥
-OfUnwind (unwind_error.Unreadable column) failure = IsWrongIn (codes "Unreadable") column failure
+OfUnwind (unwind_error.Unreadable column a k) failure = IsWrongIn (codes "Unreadable") column failure
 OfUnwind (unwind_error.Device column) failure = IsWrongIn (codes "Device") column failure
-OfUnwind (unwind_error.NoRegister column) failure = IsWrongIn (codes "NoRegister") column failure
+OfUnwind (unwind_error.NoRegister column r) failure = IsWrongIn (codes "NoRegister") column failure
 OfUnwind unwind_error.OutOfMemory failure = failure ≡ failures.OutOfMemory
 
 -- the file of a path that has no bytes

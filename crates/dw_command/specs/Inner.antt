@@ -1,4 +1,6 @@
 -- How the code keeps what the contracts say. No clause of a `pub fn` reaches these.
 pub mod Failure
 pub mod Hex
+pub mod Lent
+pub mod Output
 pub mod Terminal

@@ -2,7 +2,9 @@
 
 ghost use Rattle.std.specs.Prelude.{◌≡◌, ℕ, ◌<◌, ◌≤◌, ◌-◌, ◌^◌, Result, Ok, IfOk, map, string_bytes};
 ghost use Rattle.std.specs.Result.{result_map_both};
-ghost use Rattle.dw_command.specs.Answers.{Ends, Prints, TaskEnds, exit_of};
+ghost use Rattle.dw_command.specs.Answers.{Ends, PrintsText, TaskEnds, exit_of};
+ghost use Rattle.dw_command.specs.Engine.{Runs};
+ghost use Rattle.dw_command.specs.Inner.Output.{output_of};
 ghost use Rattle.dw_command.specs.declared.failure.Failure.{Failure as TheFailure};
 
 use crate::check::run_check;
@@ -12,6 +14,7 @@ use crate::eval::run_eval;
 use crate::expr::run_expr;
 use crate::failure::Failure;
 use crate::files::Load;
+use crate::lent::Lent;
 use crate::listing::Listing;
 use crate::normal::run_normal;
 use crate::rows::run_rows;
@@ -38,7 +41,7 @@ fn run_job<'a, L: Load, W: Write>(
     out: &mut Listing<W>,
 ) -> Result<u8, Failure<'a>>
     requires room { out.old.failures < 2 ^ 64 - 1 }
-    ensures ends { TaskEnds (L.gives files.old) out.old.failures out.new.failures out.new.len job.entry.target job.entry.task result }
+    ensures ends { TaskEnds (L.gives files.old) (output_of W.contents out.old) (output_of W.contents out.new) job.entry.target job.entry.task result }
     ensures most { IfOk result (λ status. status ≤ 1) }
 {
     let Job { target, task } = job;
@@ -62,7 +65,7 @@ fn put_help<W: Write>(
     out: &mut Listing<W>,
 ) -> Result<u8, Failure<'static>>
     requires room { out.old.failures < 2 ^ 64 - 1 }
-    ensures { Prints out.old.failures out.new.failures out.new.len 0 result }
+    ensures { PrintsText (output_of W.contents out.old) (output_of W.contents out.new) 0 result }
 {
     let text = format!(in alloc; "{text}")?;
     out.long_text(text.as_bytes())?;
@@ -77,7 +80,7 @@ fn run<'a, L: Load, W: Write>(
     out: &mut Listing<W>,
 ) -> Result<u8, Failure<'a>>
     requires room { out.old.failures < 2 ^ 64 - 1 }
-    ensures ends { Ends (L.gives files.old) out.old.failures out.new.failures out.new.len (map string_bytes words.entry.now) result }
+    ensures ends { Ends (L.gives files.old) (output_of W.contents out.old) (output_of W.contents out.new) (map string_bytes words.entry.now) result }
     ensures most { IfOk result (λ status. status ≤ 1) }
 {
     match plan(alloc, words)? {
@@ -94,10 +97,8 @@ fn tell<E: Write>(failure: &Failure<'_>, err: &mut E) {
     };
 }
 
-/// Runs the command and answers its exit status: 0 done, 1 two sections that differ, 2 a refusal or a fault, 3 wrong words,
-/// 4 a file or an output that fails, 5 out of memory. The answer goes to `out`, which is flushed. From status 2 on a line on `err`
-/// says why; for words that no subcommand takes it is a text of several lines. The first word is the program's own name.
-pub fn engine<L: Load, W: Write, E: Write>(
+// The exit status of a run over a listing, which counts the output's failures: that the output failed is answered only where one came.
+fn run_over<L: Load, W: Write, E: Write>(
     alloc: Global,
     words: &[String],
     files: &mut L,
@@ -106,7 +107,7 @@ pub fn engine<L: Load, W: Write, E: Write>(
 ) -> u8
     requires room { out.old.failures < 2 ^ 64 - 1 }
     // It is the status of an answer to these words, over these files. The output failed where it says so, and not where there is an answer.
-    ensures ends { (answer : Result ℕ TheFailure) × Ends (L.gives files.old) out.old.failures out.new.failures out.new.len (map string_bytes words.now) answer × (result ≡ exit_of answer) }
+    ensures ends { (answer : Result ℕ TheFailure) × Ends (L.gives files.old) (output_of W.contents out.old) (output_of W.contents out.new) (map string_bytes words.now) answer × (result ≡ exit_of answer) }
     ensures most { result ≤ 5 }
 {
     match run(alloc, words, files, out) {
@@ -116,4 +117,28 @@ pub fn engine<L: Load, W: Write, E: Write>(
             failure.status()
         }
     }
+}
+
+/// Runs the command and answers its exit status: 0 done, 1 two sections that differ, 2 a refusal or a fault, 3 wrong words,
+/// 4 a file or an output that fails, 5 out of memory. The answer goes to `out`, which is flushed. From status 2 on a line on `err`
+/// says why; for words that no subcommand takes it is a text of several lines. The first word is the program's own name.
+///
+/// With status 0 or 1 `out` got exactly the text of the answer. It got nothing where there is no answer. Where it failed, or memory
+/// ran out while the answer was printed, it got a beginning.
+pub fn engine<L: Load, W: Write, E: Write>(
+    alloc: Global,
+    words: &[String],
+    files: &mut L,
+    out: &mut W,
+    err: &mut E,
+) -> u8
+    ensures runs { Runs (L.gives files.old) (W.contents out.old) (W.contents out.new) (map string_bytes words.now) result }
+    ensures most { result ≤ 5 }
+{
+    let mut listing = Listing::new(Lent::new(out));
+    let status = run_over(alloc, words, files, &mut listing, err);
+    let out = listing.into_inner().into_inner();
+    // No effect at run time. The proof reads what the output holds from this use.
+    let _ = &*out;
+    status
 }

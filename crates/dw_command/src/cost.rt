@@ -1,8 +1,11 @@
 //! `dwframe cost`: what a section costs beside its normal form.
 
-ghost use Rattle.std.specs.Prelude.{◌≡◌, ◌<◌, ◌≤◌, ◌-◌, ◌^◌, length};
-ghost use Rattle.dw_command.specs.Answers.{Costs, OverFile, Prints};
-ghost use Rattle.dw_command.specs.Output.{Told};
+ghost use Rattle.std.specs.Prelude.{◌≡◌, ◌<◌, ◌≤◌, ◌-◌, ◌^◌, ◌++◌, List, codes, length, map, min, IfOk, OnOk};
+ghost use Rattle.dw_section.specs.Meaning.{RowStarts, total};
+ghost use Rattle.dw_canon.specs.Members.{AreMembers, Member};
+ghost use Rattle.dw_command.specs.Answers.{ChangeCount, Costs, OverFile, Prints, change_count, costs_text};
+ghost use Rattle.dw_command.specs.Inner.Output.{Adds, Told, output_of};
+ghost use Rattle.dw_command.specs.Texts.{cost_text};
 
 use crate::failure::Failure;
 use crate::files::Load;
@@ -16,9 +19,10 @@ use std::io::Write;
 // The most bytes that a section has.
 const CAP: u64 = 2_147_483_647;
 
-// How many changes are still to come.
+// How many changes are still to come, or 2^64 - 1 where there are more.
 fn count_changes(changes: &mut Changes<'_>) -> Result<u64, AllocError>
-    ensures { changes.new.section ≡ changes.old.section }
+    ensures count { IfOk result (λ n. n ≡ min (length changes.old.to_come) (2 ^ 64 - 1)) }
+    ensures section { changes.new.section ≡ changes.old.section }
 {
     let mut count = 0u64;
     'changes: while let Some(_) = changes.advance()? {
@@ -27,10 +31,12 @@ fn count_changes(changes: &mut Changes<'_>) -> Result<u64, AllocError>
     Ok(count)
 }
 
-// How many changes all FDEs have, by changes that are gone on in.
+// How many changes all FDEs have, or 2^64 - 1, by changes that are gone on in.
 fn count_each<'a>(table: &Table<'a>, changes: &mut Changes<'a>) -> Result<u64, AllocError>
     requires section { changes.old.section ≡ table.now }
+    ensures { (ms : List Member) → AreMembers table.now.target table.now.bytes ms → IfOk result (λ n. n ≡ min (total (map change_count ms)) (2 ^ 64 - 1)) }
 {
+    table.accepted();
     let mut count = 0u64;
     for place in 0..table.fde_count() {
         table.go_on(changes, FdeRef { place });
@@ -39,7 +45,12 @@ fn count_each<'a>(table: &Table<'a>, changes: &mut Changes<'a>) -> Result<u64, A
     Ok(count)
 }
 
-fn count_all(table: &Table<'_>) -> Result<u64, AllocError> {
+// There are no more than rows that are started, so they fit.
+fn count_all(table: &Table<'_>, starts: u64) -> Result<u64, AllocError>
+    requires { RowStarts table.now.target table.now.bytes starts }
+    ensures { IfOk result (ChangeCount table.now.target table.now.bytes) }
+{
+    table.accepted();
     count_each(table, &mut table.no_changes())
 }
 
@@ -52,6 +63,7 @@ fn put_pair<W: Write>(
     requires room { out.old.failures < 2 ^ 64 - 1 }
     requires short { length name.now ≤ 16 }
     ensures told { Told out.old.failures out.new.failures result }
+    ensures put { OnOk result (Adds W.contents out.old out.new (cost_text name.now source normal)) }
 {
     out.make_room()?;
     out.text(name);
@@ -62,19 +74,19 @@ fn put_pair<W: Write>(
     Ok(())
 }
 
-// The lines on a table of so many bytes, whose normal form has `len` bytes.
+// The lines on a section of so many bytes, whose normal form has `len` bytes.
 fn put_costs<W: Write>(
     out: &mut Listing<W>,
-    table: &Table<'_>,
-    bytes: usize,
+    bytes: u64,
     len: u64,
+    starts: u64,
+    changes: u64,
 ) -> Result<(), Failure<'static>>
     requires room { out.old.failures < 2 ^ 64 - 1 }
-    ensures { Prints out.old.failures out.new.failures out.new.len tt result }
+    ensures { Prints (output_of W.contents out.old) (output_of W.contents out.new) (cost_text (codes "bytes ") bytes len ++ cost_text (codes "rowstarts ") starts changes) tt result }
 {
-    let changes = count_all(table)?;
-    put_pair(out, b"bytes ", bytes as u64, len)?;
-    put_pair(out, b"rowstarts ", table.row_starts(), changes)?;
+    put_pair(out, b"bytes ", bytes, len)?;
+    put_pair(out, b"rowstarts ", starts, changes)?;
     Ok(out.finish()?)
 }
 
@@ -87,12 +99,15 @@ pub fn run_cost<'a, L: Load, W: Write>(
     out: &mut Listing<W>,
 ) -> Result<(), Failure<'a>>
     requires room { out.old.failures < 2 ^ 64 - 1 }
-    ensures { OverFile (L.gives files.old) out.old.failures out.new.failures out.new.len path.now (Costs target) result }
+    ensures { OverFile (L.gives files.old) (output_of W.contents out.old) (output_of W.contents out.new) path.now (Costs target) (λ s cost. Prints (output_of W.contents out.old) (output_of W.contents out.new) (costs_text (length s) cost) tt) result }
 {
     let bytes = files
         .load(path)
         .map_err(|error| Failure::from_load(path, error))?;
-    let len = normal_length(alloc, &bytes, target, CAP)?;
-    let table = check(alloc, &bytes, target)?;
-    put_costs(out, &table, bytes.len(), len)
+    let bytes = bytes.as_slice();
+    let len = normal_length(alloc, bytes, target, CAP)?;
+    let table = check(alloc, bytes, target)?;
+    let starts = table.row_starts();
+    let changes = count_all(&table, starts)?;
+    put_costs(out, bytes.len() as u64, len, starts, changes)
 }

@@ -1,8 +1,9 @@
 //! `dwframe entries`: a line for each entry of a section.
 
-ghost use Rattle.std.specs.Prelude.{◌<◌, ◌-◌, ◌^◌};
+ghost use Rattle.dw_command.specs.Texts.{entry_text, form_text, kind_text, lines};
+ghost use Rattle.dw_command.specs.Inner.Output.{Adds, Told, output_of};
+ghost use Rattle.std.specs.Prelude.{◌≡◌, length, OnOk, ◌<◌, ◌-◌, ◌^◌};
 ghost use Rattle.dw_command.specs.Answers.{Cuts, OverFile, Prints};
-ghost use Rattle.dw_command.specs.Output.{Told};
 
 use crate::failure::Failure;
 use crate::files::Load;
@@ -12,21 +13,36 @@ use dw_section::{Entry, Kind, entries};
 use std::alloc::Global;
 use std::io::Write;
 
+fn kind_text(kind: Kind) -> &'static [u8]
+    ensures short { length result.now ≡ 5 }
+    ensures text { result.now ≡ kind_text kind }
+{
+    match kind {
+        Kind::Cie => b" cie ".as_slice(),
+        Kind::Fde => b" fde ".as_slice(),
+    }
+}
+
+fn form_text(form: Form) -> &'static [u8]
+    ensures short { length result.now ≡ 3 }
+    ensures text { result.now ≡ form_text form }
+{
+    match form {
+        Form::Dwarf32 => b"32 ".as_slice(),
+        Form::Dwarf64 => b"64 ".as_slice(),
+    }
+}
+
 fn put_entry<W: Write>(out: &mut Listing<W>, entry: &Entry) -> Result<(), OutputFault>
     requires room { out.old.failures < 2 ^ 64 - 1 }
     ensures told { Told out.old.failures out.new.failures result }
+    ensures put { OnOk result (Adds W.contents out.old out.new (entry_text entry.now)) }
 {
     out.make_room()?;
     out.text(b"0x");
     out.hex(entry.at);
-    out.text(match entry.kind {
-        Kind::Cie => b" cie ",
-        Kind::Fde => b" fde ",
-    });
-    out.text(match entry.form {
-        Form::Dwarf32 => b"32 ",
-        Form::Dwarf64 => b"64 ",
-    });
+    out.text(kind_text(entry.kind));
+    out.text(form_text(entry.form));
     out.decimal(entry.length);
     out.text(b"\n");
     Ok(())
@@ -34,7 +50,7 @@ fn put_entry<W: Write>(out: &mut Listing<W>, entry: &Entry) -> Result<(), Output
 
 fn put_entries<W: Write>(out: &mut Listing<W>, list: &[Entry]) -> Result<(), Failure<'static>>
     requires room { out.old.failures < 2 ^ 64 - 1 }
-    ensures { Prints out.old.failures out.new.failures out.new.len tt result }
+    ensures { Prints (output_of W.contents out.old) (output_of W.contents out.new) (lines entry_text list.now) tt result }
 {
     for entry in list {
         put_entry(out, entry)?;
@@ -51,7 +67,7 @@ pub fn run_entries<'a, L: Load, W: Write>(
     out: &mut Listing<W>,
 ) -> Result<(), Failure<'a>>
     requires room { out.old.failures < 2 ^ 64 - 1 }
-    ensures { OverFile (L.gives files.old) out.old.failures out.new.failures out.new.len path.now (Cuts target) result }
+    ensures { OverFile (L.gives files.old) (output_of W.contents out.old) (output_of W.contents out.new) path.now (Cuts target) (λ _ es. Prints (output_of W.contents out.old) (output_of W.contents out.new) (lines entry_text es) tt) result }
 {
     let bytes = files
         .load(path)

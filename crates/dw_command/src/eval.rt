@@ -1,7 +1,9 @@
 //! `dwframe eval`: the value of an expression.
 
+ghost use Rattle.dw_command.specs.Texts.{value_text};
 ghost use Rattle.std.specs.Prelude.{◌<◌, ◌-◌, ◌^◌};
 ghost use Rattle.dw_command.specs.Answers.{EvalEnds, Prints, Values};
+ghost use Rattle.dw_command.specs.Inner.Output.{output_of};
 
 use crate::failure::Failure;
 use crate::files::Load;
@@ -17,7 +19,7 @@ use std::io::Write;
 
 fn put_value<W: Write>(out: &mut Listing<W>, value: u64) -> Result<(), Failure<'static>>
     requires room { out.old.failures < 2 ^ 64 - 1 }
-    ensures { Prints out.old.failures out.new.failures out.new.len tt result }
+    ensures { Prints (output_of W.contents out.old) (output_of W.contents out.new) (value_text value) tt result }
 {
     out.make_room()?;
     out.text(b"0x");
@@ -55,7 +57,7 @@ pub fn run_eval<'a, L: Load, W: Write>(
     out: &mut Listing<W>,
 ) -> Result<(), Failure<'a>>
     requires room { out.old.failures < 2 ^ 64 - 1 }
-    ensures { EvalEnds (L.gives files.old) out.old.failures out.new.failures out.new.len target evaluation.now result }
+    ensures { EvalEnds (L.gives files.old) (output_of W.contents out.old) (output_of W.contents out.new) target evaluation.now result }
 {
     let text = load_text(alloc, files, evaluation.dump)?;
     let list = decode(alloc, &evaluation.block, target, Profile::Location)?;

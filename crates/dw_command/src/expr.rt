@@ -1,8 +1,10 @@
 //! `dwframe expr`: the operations of a block, and its least spelling.
 
-ghost use Rattle.std.specs.Prelude.{◌<◌, ◌-◌, ◌^◌};
+ghost use Rattle.std.specs.Prelude.{◌++◌, ◌<◌, ◌-◌, ◌^◌, codes, decimal, OnOk};
 ghost use Rattle.dw_command.specs.Answers.{OverBlock, Prints};
-ghost use Rattle.dw_command.specs.Output.{Told};
+ghost use Rattle.dw_command.specs.OpTexts.{op_text};
+ghost use Rattle.dw_command.specs.Inner.Output.{Adds, Told, output_of};
+ghost use Rattle.dw_command.specs.Texts.{block_text, least_text, line_end, numbered};
 
 use crate::failure::Failure;
 use crate::listing::{Listing, OutputFault};
@@ -15,6 +17,7 @@ use std::io::Write;
 fn put_line<W: Write>(out: &mut Listing<W>, index: usize, op: &Op<'_>) -> Result<(), OutputFault>
     requires room { out.old.failures < 2 ^ 64 - 1 }
     ensures told { Told out.old.failures out.new.failures result }
+    ensures put { OnOk result (Adds W.contents out.old out.new (decimal index ++ codes " " ++ op_text op.now ++ line_end)) }
 {
     out.make_room()?;
     out.decimal(index as u64);
@@ -29,15 +32,28 @@ fn put_line<W: Write>(out: &mut Listing<W>, index: usize, op: &Op<'_>) -> Result
 fn put_least<W: Write>(out: &mut Listing<W>, least: &[u8]) -> Result<(), OutputFault>
     requires room { out.old.failures < 2 ^ 64 - 1 }
     ensures told { Told out.old.failures out.new.failures result }
+    ensures put { OnOk result (Adds W.contents out.old out.new (least_text least.now)) }
 {
     out.make_room()?;
-    out.text(b"least");
-    if !least.is_empty() {
-        out.text(b" ");
+    if least.is_empty() {
+        out.text(b"least\n");
+        return Ok(());
     }
+    out.text(b"least ");
     put_hex(out, least)?;
     out.make_room()?;
     out.text(b"\n");
+    Ok(())
+}
+
+fn put_lines<W: Write>(out: &mut Listing<W>, ops: &[Op<'_>]) -> Result<(), OutputFault>
+    requires room { out.old.failures < 2 ^ 64 - 1 }
+    ensures told { Told out.old.failures out.new.failures result }
+    ensures put { OnOk result (Adds W.contents out.old out.new (numbered 0 ops.now)) }
+{
+    for (index, op) in ops.iter().enumerate() {
+        put_line(out, index, op)?;
+    }
     Ok(())
 }
 
@@ -47,11 +63,9 @@ fn put_expression<W: Write>(
     least: &[u8],
 ) -> Result<(), Failure<'static>>
     requires room { out.old.failures < 2 ^ 64 - 1 }
-    ensures { Prints out.old.failures out.new.failures out.new.len tt result }
+    ensures { Prints (output_of W.contents out.old) (output_of W.contents out.new) (block_text list.now.ops least.now) tt result }
 {
-    for (index, op) in list.ops().iter().enumerate() {
-        put_line(out, index, op)?;
-    }
+    put_lines(out, list.ops())?;
     put_least(out, least)?;
     Ok(out.finish()?)
 }
@@ -66,7 +80,7 @@ pub fn run_expr<'a, W: Write>(
     out: &mut Listing<W>,
 ) -> Result<(), Failure<'a>>
     requires room { out.old.failures < 2 ^ 64 - 1 }
-    ensures { OverBlock out.old.failures out.new.failures out.new.len target profile block.now result }
+    ensures { OverBlock (output_of W.contents out.old) (output_of W.contents out.new) target profile block.now result }
 {
     let list = decode(alloc, block, target, profile)?;
     let least = match encode(alloc, &list) {

@@ -160,9 +160,9 @@ impl From<UnwindError> for Failure<'_> {
                 index,
                 column,
             } => Failure::Value(kind, index, Place(column)),
-            UnwindError::Unreadable { column } => Failure::Column("Unreadable", Place(column)),
+            UnwindError::Unreadable { column, .. } => Failure::Column("Unreadable", Place(column)),
             UnwindError::Device { column } => Failure::Column("Device", Place(column)),
-            UnwindError::NoRegister { column } => Failure::Column("NoRegister", Place(column)),
+            UnwindError::NoRegister { column, .. } => Failure::Column("NoRegister", Place(column)),
             UnwindError::OutOfMemory => Failure::OutOfMemory,
         }
     }

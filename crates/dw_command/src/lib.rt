@@ -1,7 +1,8 @@
 //! The command over words, files and outputs that it is given.
 //!
-//! `engine` is the whole command; `dwframe` runs it over the real ones. What the words ask for is told by `dw_words`; then read the
-//! file of a subcommand.
+//! `engine` (`command.rt`) is the whole command; `dwframe` runs it over the real ones. `plan`, which stands in `dw_words`, is what it
+//! makes of the words before any file is read; then read the file of a subcommand. `specs/Engine.antt` says what a run does to its
+//! output, and `specs/Answers.antt` what each subcommand answers and prints.
 #![tactic(auto)]
 
 mod check;
@@ -14,6 +15,7 @@ mod failure;
 mod files;
 mod hints;
 mod input;
+mod lent;
 mod listing;
 mod normal;
 mod row_text;
@@ -24,8 +26,8 @@ mod texts;
 mod unwind;
 
 pub use command::engine;
+pub use dw_words::{Evaluation, Job, Name, PlanError, Request, Task, Unwinding, Writing, plan};
 pub use failure::{Failure, Place};
 pub use files::{Disk, Load, LoadError};
 pub use hints::Hinted;
-pub use listing::{Listing, OutputFault};
 pub use terminal::Shown;

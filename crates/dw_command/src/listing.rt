@@ -1,21 +1,19 @@
 //! A text of many lines on its way to an output.
 
-ghost use Rattle.std.specs.Prelude.{◌≡◌, ◌+◌, ◌++◌, ◌-◌, ◌*◌, ◌/◌, ◌%◌, ◌^◌, ◌<◌, ◌≤◌, ℕ, List, [], ◌∷◌, length, take, codes, false, decimal, unsigned_abs, if◌then◌else◌, None, IfErr, IfOk, OnErr, OnOk, ◌⊎◌};
+ghost use Rattle.std.specs.Prelude.{◌≡◌, ◌+◌, ◌++◌, ◌-◌, ◌*◌, ◌/◌, ◌%◌, ◌^◌, ◌<◌, ◌≤◌, ℕ, List, [], ◌∷◌, length, take, codes, false, decimal, unsigned_abs, if◌then◌else◌, IfErr, IfOk, OnErr, OnOk, ◌⊎◌};
 ghost use Rattle.std.specs.Fmt.{digits};
 ghost use Rattle.std.specs.Int.{is_negative, to_be_bytes, w64};
 ghost use Rattle.std.specs.Int.Bits.{bit_and, bit_or};
 ghost use Rattle.std.specs.Io.KnownBytes.{Appends, Keeps};
 ghost use Rattle.dw_command.specs.Inner.Hex.{last_digits};
-ghost use Rattle.dw_command.specs.Output.{Told, put_so_far};
+ghost use Rattle.dw_command.specs.Inner.Output.{Adds, Told, put_so_far};
 ghost use Rattle.dw_command.specs.declared.failure.Failure.TheVariants.{CannotWrite};
 ghost use Rattle.dw_command.specs.declared.listing.TheConstants.{PIECE, ROOM};
 
 use crate::failure::Failure;
 use dw_normal::{Sink, SinkFault};
 use itoa::Buffer;
-use std::error::Error;
-use std::fmt;
-use std::io::Write;
+use std::io::{ErrorKind, Write};
 
 // How many bytes the output gets at once, or fewer.
 const ROOM: usize = 16_384;
@@ -38,14 +36,6 @@ const PAIRS: &[u8; 200] = b"00010203040506070809\
 /// The output failed.
 #[derive(Clone, Copy, Debug, PartialEq, Eq)]
 pub struct OutputFault;
-
-impl fmt::Display for OutputFault {
-    fn fmt<W: fmt::Write>(&self, f: &mut fmt::Formatter<W>) -> fmt::Result {
-        write!(f, "the output failed")
-    }
-}
-
-impl Error for OutputFault {}
 
 impl From<OutputFault> for Failure<'_> {
     ghost from_gives = { λ _ e. e ≡ CannotWrite };
@@ -106,6 +96,40 @@ fn copy(room: &mut [u8], text: &[u8])
     }
 }
 
+// One write, tried again where a signal interrupts it, and how many bytes the output took: none where it fails.
+fn write_once<W: Write>(out: &mut W, bytes: &[u8]) -> usize
+    ensures most { result ≤ length bytes.now }
+    ensures took { Appends (W.contents out.old) (W.contents out.new) (take result bytes.now) }
+{
+    for _ in 0..u64::MAX {
+        match out.write(bytes) {
+            Ok(n) => return n,
+            Err(error) => {
+                if error.kind() != ErrorKind::Interrupted {
+                    return 0;
+                }
+            }
+        }
+    }
+    0
+}
+
+// Gives bytes to an output until it has all of them or fails, and answers how many it took.
+fn write_front<W: Write>(out: &mut W, bytes: &[u8]) -> usize
+    ensures most { result ≤ length bytes.now }
+    ensures took { Appends (W.contents out.old) (W.contents out.new) (take result bytes.now) }
+{
+    let mut done = 0;
+    'writes: while done < bytes.len() {
+        let n = write_once(out, &bytes[done..]);
+        if n == 0 {
+            return done;
+        }
+        done += n;
+    }
+    done
+}
+
 /// A text of many lines, which the output gets in long parts, since a write costs more than a line's bytes. What is put
 /// goes into room that `make_room` made before.
 #[derive(Drop)]
@@ -131,17 +155,29 @@ impl<W: Write> Listing<W> {
         }
     }
 
+    /// The output, without what it was not given yet.
+    pub fn into_inner(self) -> W
+        ensures { result ≡ self.out }
+    {
+        let Listing { out, .. } = self;
+        out
+    }
+
+    // Gives the output what is left, and keeps of it what the output does not take.
     #[inline(never)]
     fn write_out(&mut self) -> Result<(), OutputFault>
         requires room { self.old.failures < 2 ^ 64 - 1 }
         ensures told { Told self.old.failures self.new.failures result }
         ensures empty { OnOk result (self.new.len ≡ 0) }
-        ensures all { OnOk result (self.old.len ≤ ROOM → Appends (W.contents self.old.out) (W.contents self.new.out) (take self.old.len self.old.room)) }
-        ensures held { OnErr result ((self.new.len ≡ self.old.len) × (self.new.room ≡ self.old.room)) }
+        ensures put { Keeps (put_so_far (W.contents self.old.out) self.old.len self.old.room) (put_so_far (W.contents self.new.out) self.new.len self.new.room) }
+        ensures held { OnErr result ((gone : List ℕ) × (take self.old.len self.old.room ≡ gone ++ take self.new.len self.new.room)) }
     {
         // No more than all, which no clause says between two calls.
-        let put = &self.room[..self.len.min(ROOM)];
-        if self.out.write_all(put).is_err() {
+        let len = self.len.min(ROOM);
+        let done = write_front(&mut self.out, &self.room[..len]);
+        if done < len {
+            self.room.copy_within(done..len, 0);
+            self.len = len - done;
             self.failures += 1;
             return Err(OutputFault);
         }
@@ -156,12 +192,12 @@ impl<W: Write> Listing<W> {
         ensures told { Told self.old.failures self.new.failures result }
         ensures made { OnOk result (self.new.len + PIECE ≤ ROOM) }
         // What was put stays.
-        ensures kept { OnOk result (self.old.len ≤ ROOM → Keeps (put_so_far (W.contents self.old.out) self.old.len self.old.room) (put_so_far (W.contents self.new.out) self.new.len self.new.room)) }
+        ensures put { Keeps (put_so_far (W.contents self.old.out) self.old.len self.old.room) (put_so_far (W.contents self.new.out) self.new.len self.new.room) }
         // The room is as it was, or empty.
         ensures room { OnOk result ((self.new.len ≡ self.old.len) × (self.new.room ≡ self.old.room) ⊎ (self.new.len ≡ 0)) }
-        // Where the output fails, the room is full, and all that it holds stays.
+        // Where the output fails, the room is full, and what the output did not take stays.
         ensures full { OnErr result (ROOM < self.old.len + PIECE) }
-        ensures held { OnErr result ((self.new.len ≡ self.old.len) × (self.new.room ≡ self.old.room)) }
+        ensures held { OnErr result ((gone : List ℕ) × (take self.old.len self.old.room ≡ gone ++ take self.new.len self.new.room)) }
     {
         if self.len > ROOM - PIECE {
             return self.write_out();
@@ -174,10 +210,9 @@ impl<W: Write> Listing<W> {
         requires room { self.old.failures < 2 ^ 64 - 1 }
         ensures told { Told self.old.failures self.new.failures result }
         ensures empty { OnOk result (self.new.len ≡ 0) }
-        // The output gets what is left.
-        ensures all { OnOk result (self.old.len ≤ ROOM → Appends (W.contents self.old.out) (W.contents self.new.out) (take self.old.len self.old.room)) }
-        // Where the output fails, what is left stays, or the output has got all of it.
-        ensures held { OnErr result ((self.new.len ≡ self.old.len) × (self.new.room ≡ self.old.room) ⊎ (self.new.len ≡ 0) × (self.old.len ≤ ROOM → Appends (W.contents self.old.out) (W.contents self.new.out) (take self.old.len self.old.room))) }
+        // What was put stays: the output gets what is left, or as much of it as it takes.
+        ensures put { Keeps (put_so_far (W.contents self.old.out) self.old.len self.old.room) (put_so_far (W.contents self.new.out) self.new.len self.new.room) }
+        ensures held { OnErr result ((gone : List ℕ) × (take self.old.len self.old.room ≡ gone ++ take self.new.len self.new.room)) }
     {
         self.write_out()?;
         if self.out.flush().is_err() {
@@ -188,6 +223,7 @@ impl<W: Write> Listing<W> {
     }
 
     /// These bytes, at most as many as are left of the room that `make_room` made.
+    #[tactic(auto, using(crate::proofs::Puts::in_room))]
     #[inline(always)]
     pub fn text(&mut self, text: &[u8])
         requires { self.old.len + length text.now ≤ ROOM }
@@ -195,6 +231,7 @@ impl<W: Write> Listing<W> {
         ensures told { self.new.failures ≡ self.old.failures }
         ensures put { take self.new.len self.new.room ≡ take self.old.len self.old.room ++ text.now }
         ensures out { self.new.out ≡ self.old.out }
+        ensures adds { Adds W.contents self.old self.new (text.now) }
     {
         let end = self.len + text.len();
         copy(&mut self.room[self.len..end], text);
@@ -227,6 +264,7 @@ impl<W: Write> Listing<W> {
     }
 
     /// A number in decimal digits. Takes up to 40 bytes of room, which must be left.
+    #[tactic(auto, using(crate::proofs::Puts::in_room))]
     #[inline(always)]
     pub fn decimal(&mut self, number: u64)
         requires { self.old.len + 40 ≤ ROOM }
@@ -234,6 +272,7 @@ impl<W: Write> Listing<W> {
         ensures told { self.new.failures ≡ self.old.failures }
         ensures put { take self.new.len self.new.room ≡ take self.old.len self.old.room ++ decimal number }
         ensures out { self.new.out ≡ self.old.out }
+        ensures adds { Adds W.contents self.old self.new (decimal number) }
     {
         if number < 10 {
             self.text(&[b'0' + number as u8]);
@@ -260,6 +299,7 @@ impl<W: Write> Listing<W> {
     }
 
     /// An offset with its sign. Takes up to 41 bytes of room, which must be left.
+    #[tactic(auto, using(crate::proofs::Puts::in_room))]
     #[inline(always)]
     pub fn offset(&mut self, offset: i64)
         requires { self.old.len + 41 ≤ ROOM }
@@ -267,6 +307,7 @@ impl<W: Write> Listing<W> {
         ensures told { self.new.failures ≡ self.old.failures }
         ensures put { take self.new.len self.new.room ≡ take self.old.len self.old.room ++ (if is_negative offset then codes "-" else codes "+") ++ decimal (unsigned_abs offset) }
         ensures out { self.new.out ≡ self.old.out }
+        ensures adds { Adds W.contents self.old self.new ((if is_negative offset then codes "-" else codes "+") ++ decimal (unsigned_abs offset)) }
     {
         self.text(if offset < 0 { b"-" } else { b"+" });
         self.decimal(offset.unsigned_abs());
@@ -286,12 +327,14 @@ impl<W: Write> Listing<W> {
     }
 
     /// A number in hexadecimal digits, without leading zeros. Takes up to 16 bytes of room, which must be left.
+    #[tactic(auto, using(crate::proofs::Puts::in_room))]
     pub fn hex(&mut self, number: u64)
         requires { self.old.len + 16 ≤ ROOM }
         ensures len { self.new.len ≤ self.old.len + 16 }
         ensures told { self.new.failures ≡ self.old.failures }
         ensures put { take self.new.len self.new.room ≡ take self.old.len self.old.room ++ digits 16 false number }
         ensures out { self.new.out ≡ self.old.out }
+        ensures adds { Adds W.contents self.old self.new (digits 16 false number) }
     {
         let high = (number >> 32) as u32;
         let low = (number % 0x1_0000_0000) as u32;
@@ -305,6 +348,7 @@ impl<W: Write> Listing<W> {
 
     /// An address or the end of a range, of up to 2 ^ 64, in hexadecimal digits, without leading zeros. Takes up to 17 bytes of
     /// room, which must be left.
+    #[tactic(auto, using(crate::proofs::Puts::in_room))]
     #[inline(always)]
     pub fn address(&mut self, address: u128)
         requires { self.old.len + 17 ≤ ROOM }
@@ -312,6 +356,7 @@ impl<W: Write> Listing<W> {
         ensures told { self.new.failures ≡ self.old.failures }
         ensures put { address ≤ 2 ^ 64 → take self.new.len self.new.room ≡ take self.old.len self.old.room ++ digits 16 false address }
         ensures out { self.new.out ≡ self.old.out }
+        ensures adds { address ≤ 2 ^ 64 → Adds W.contents self.old self.new (digits 16 false address) }
     {
         match u64::try_from(address) {
             Ok(number) => self.hex(number),
@@ -322,23 +367,22 @@ impl<W: Write> Listing<W> {
 
 /// A normal form is put like any text.
 impl<W: Write> Sink for Listing<W> {
-    ghost taken = { λ _. None };
+    ghost taken = { λ listing. put_so_far (W.contents listing.out) listing.len listing.room };
 
     ghost failures = { λ listing. listing.failures };
 
     fn put(&mut self, bytes: &[u8]) -> Result<usize, SinkFault>
         requires some { 0 < length bytes.now }
         requires room { self.old.failures < 2 ^ 64 - 1 }
-        ensures took { IfOk result (λ n. (1 ≤ n) × (n ≤ length bytes.now) × (self.new.failures ≡ self.old.failures)) }
-        ensures fault { IfErr result (λ _. self.old.failures < self.new.failures) }
         // It is put behind what was put before.
-        ensures put { IfOk result (λ n. self.old.len ≤ ROOM → Appends (put_so_far (W.contents self.old.out) self.old.len self.old.room) (put_so_far (W.contents self.new.out) self.new.len self.new.room) (take n bytes.now)) }
+        ensures took { IfOk result (λ n. (1 ≤ n) × (n ≤ length bytes.now) × (self.new.failures ≡ self.old.failures) × Appends (put_so_far (W.contents self.old.out) self.old.len self.old.room) (put_so_far (W.contents self.new.out) self.new.len self.new.room) (take n bytes.now)) }
+        ensures fault { IfErr result (λ _. (self.old.failures < self.new.failures) × Keeps (put_so_far (W.contents self.old.out) self.old.len self.old.room) (put_so_far (W.contents self.new.out) self.new.len self.new.room)) }
         ensures fits { OnOk result (self.new.len ≤ ROOM) }
         // What the room holds no longer is the front of what was put.
-        ensures room { IfOk result (λ n. self.old.len ≤ ROOM → (gone : List ℕ) × (take self.old.len self.old.room ++ take n bytes.now ≡ gone ++ take self.new.len self.new.room)) }
-        // Where the output fails, the room is full, and all that was put before stays.
+        ensures room { IfOk result (λ n. (gone : List ℕ) × (take self.old.len self.old.room ++ take n bytes.now ≡ gone ++ take self.new.len self.new.room)) }
+        // Where the output fails, the room is full, and what the output did not take stays.
         ensures full { OnErr result (ROOM < self.old.len + PIECE) }
-        ensures held { IfErr result (λ _. (self.new.len ≡ self.old.len) × (self.new.room ≡ self.old.room)) }
+        ensures held { IfErr result (λ _. (gone : List ℕ) × (take self.old.len self.old.room ≡ gone ++ take self.new.len self.new.room)) }
     {
         if self.make_room().is_err() {
             return Err(SinkFault);
@@ -355,11 +399,11 @@ impl<W: Write> Listing<W> {
         requires room { self.old.failures < 2 ^ 64 - 1 }
         ensures told { Told self.old.failures self.new.failures result }
         // The text is put behind what was put before.
-        ensures put { OnOk result (self.old.len ≤ ROOM → Appends (put_so_far (W.contents self.old.out) self.old.len self.old.room) (put_so_far (W.contents self.new.out) self.new.len self.new.room) text.now) }
+        ensures put { OnOk result (Appends (put_so_far (W.contents self.old.out) self.old.len self.old.room) (put_so_far (W.contents self.new.out) self.new.len self.new.room) text.now) }
         ensures fits { OnOk result (self.old.len ≤ ROOM → self.new.len ≤ ROOM) }
-        // Where the output fails, the room is full. It holds the end of what was put before with the front of the text behind it.
-        ensures full { OnErr result (ROOM < self.new.len + PIECE) }
-        ensures held { OnErr result (self.old.len ≤ ROOM → (n : ℕ) × (gone : List ℕ) × (n ≤ length text.now) × (take self.old.len self.old.room ++ take n text.now ≡ gone ++ take self.new.len self.new.room)) }
+        // Where the output fails, a front of the text was put. What the output did not take stays.
+        ensures front { OnErr result ((n : ℕ) × (n ≤ length text.now) × Appends (put_so_far (W.contents self.old.out) self.old.len self.old.room) (put_so_far (W.contents self.new.out) self.new.len self.new.room) (take n text.now)) }
+        ensures held { OnErr result ((n : ℕ) × (gone : List ℕ) × (n ≤ length text.now) × (take self.old.len self.old.room ++ take n text.now ≡ gone ++ take self.new.len self.new.room)) }
     {
         let mut done = 0;
         'pieces: while done < text.len() {

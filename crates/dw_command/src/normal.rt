@@ -1,7 +1,8 @@
 //! `dwframe normal`: the normal form of a section.
 
-ghost use Rattle.std.specs.Prelude.{◌<◌, ◌-◌, ◌^◌};
+ghost use Rattle.std.specs.Prelude.{[], ◌<◌, ◌-◌, ◌^◌};
 ghost use Rattle.dw_command.specs.Answers.{Normalises, OverFile, Prints};
+ghost use Rattle.dw_command.specs.Inner.Output.{output_of};
 
 use crate::failure::Failure;
 use crate::files::Load;
@@ -15,7 +16,7 @@ use std::io::Write;
 
 fn finish<W: Write>(out: &mut Listing<W>) -> Result<(), Failure<'static>>
     requires room { out.old.failures < 2 ^ 64 - 1 }
-    ensures { Prints out.old.failures out.new.failures out.new.len tt result }
+    ensures { Prints (output_of W.contents out.old) (output_of W.contents out.new) [] tt result }
 {
     Ok(out.finish()?)
 }
@@ -29,7 +30,7 @@ pub fn run_normal<'a, L: Load, W: Write>(
     out: &mut Listing<W>,
 ) -> Result<(), Failure<'a>>
     requires room { out.old.failures < 2 ^ 64 - 1 }
-    ensures { OverFile (L.gives files.old) out.old.failures out.new.failures out.new.len writing.now.path.now (Normalises target writing.now.cap) result }
+    ensures { OverFile (L.gives files.old) (output_of W.contents out.old) (output_of W.contents out.new) writing.now.path.now (Normalises target writing.now.cap) (λ _ n. Prints (output_of W.contents out.old) (output_of W.contents out.new) n tt) result }
 {
     let bytes = load_file(files, writing.path)?;
     let _ = normalise_to(alloc, &bytes, target, writing.cap, out)?;

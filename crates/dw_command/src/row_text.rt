@@ -1,7 +1,8 @@
 //! How rows are printed: a line for an FDE, and under it a line for each address from which its rules are others.
 
-ghost use Rattle.std.specs.Prelude.{◌+◌, ◌-◌, ◌^◌, ◌<◌, ◌≤◌, OnOk};
-ghost use Rattle.dw_command.specs.Output.{Told};
+ghost use Rattle.std.specs.Prelude.{◌+◌, ◌++◌, ◌-◌, ◌^◌, ◌<◌, ◌≤◌, codes, OnOk};
+ghost use Rattle.dw_command.specs.RowTexts.{cfa_text, column_text, fde_text, operations_text, row_text, rule_text};
+ghost use Rattle.dw_command.specs.Inner.Output.{Adds, Told};
 ghost use Rattle.dw_command.specs.declared.listing.TheConstants.{PIECE, ROOM};
 
 use crate::listing::{Listing, OutputFault};
@@ -18,16 +19,15 @@ fn put_operations<W: Write>(
 ) -> Result<(), OutputFault>
     requires room { listing.old.failures < 2 ^ 64 - 1 }
     ensures told { Told listing.old.failures listing.new.failures result }
+    ensures put { OnOk result (Adds W.contents listing.old listing.new (operations_text expression.now.ops)) }
     ensures made { OnOk result (listing.new.len + PIECE ≤ ROOM) }
 {
-    let mut first = true;
+    let mut between = b"".as_slice();
     for op in expression.steps() {
         listing.make_room()?;
-        if !first {
-            listing.text(b"; ");
-        }
-        first = false;
+        listing.text(between);
         put_op(listing, &op)?;
+        between = b"; ".as_slice();
     }
     listing.make_room()
 }
@@ -36,6 +36,7 @@ fn put_operations<W: Write>(
 fn put_cfa<W: Write>(listing: &mut Listing<W>, rule: &CfaRule<'_>) -> Result<(), OutputFault>
     requires room { listing.old.failures < 2 ^ 64 - 1 }
     ensures told { Told listing.old.failures listing.new.failures result }
+    ensures put { OnOk result (Adds W.contents listing.old listing.new (codes " cfa=" ++ cfa_text rule.now)) }
 {
     listing.make_room()?;
     match rule {
@@ -55,22 +56,17 @@ fn put_cfa<W: Write>(listing: &mut Listing<W>, rule: &CfaRule<'_>) -> Result<(),
     Ok(())
 }
 
-// A register and its rule. One that reads memory stands in brackets.
+// The rule of a register. One that reads memory stands in brackets.
 #[inline(always)]
-fn put_rule<W: Write>(
-    listing: &mut Listing<W>,
-    register: u16,
-    rule: &RegRule<'_>,
-) -> Result<(), OutputFault>
+fn put_rule<W: Write>(listing: &mut Listing<W>, rule: &RegRule<'_>) -> Result<(), OutputFault>
     requires room { listing.old.failures < 2 ^ 64 - 1 }
+    requires made { listing.old.len + 64 ≤ ROOM }
     ensures told { Told listing.old.failures listing.new.failures result }
+    ensures put { OnOk result (Adds W.contents listing.old listing.new (codes "=" ++ rule_text rule.now)) }
 {
-    listing.make_room()?;
-    listing.text(b" r");
-    listing.decimal(u64::from(register));
     match rule {
         // It is not listed.
-        RegRule::Unspecified => {}
+        RegRule::Unspecified => listing.text(b"="),
         RegRule::Undefined => listing.text(b"=u"),
         RegRule::SameValue => listing.text(b"=s"),
         RegRule::Offset(offset) => {
@@ -100,10 +96,29 @@ fn put_rule<W: Write>(
     Ok(())
 }
 
-/// Puts the line of an FDE: the addresses that it covers, up to its end, and its return-address register.
-pub fn put_fde<W: Write>(listing: &mut Listing<W>, fde: &Fde) -> Result<(), OutputFault>
+// A register and its rule.
+#[inline(always)]
+fn put_column<W: Write>(
+    listing: &mut Listing<W>,
+    register: u16,
+    rule: &RegRule<'_>,
+) -> Result<(), OutputFault>
     requires room { listing.old.failures < 2 ^ 64 - 1 }
     ensures told { Told listing.old.failures listing.new.failures result }
+    ensures put { OnOk result (Adds W.contents listing.old listing.new (column_text (register, rule.now))) }
+{
+    listing.make_room()?;
+    listing.text(b" r");
+    listing.decimal(u64::from(register));
+    put_rule(listing, rule)
+}
+
+/// Puts the line of an FDE: the addresses that it covers, up to its end, and its return address register.
+pub fn put_fde<W: Write>(listing: &mut Listing<W>, fde: &Fde) -> Result<(), OutputFault>
+    requires room { listing.old.failures < 2 ^ 64 - 1 }
+    requires in_space { fde.now.end ≤ 2 ^ 64 }
+    ensures told { Told listing.old.failures listing.new.failures result }
+    ensures put { OnOk result (Adds W.contents listing.old listing.new (fde_text fde.now)) }
 {
     listing.make_room()?;
     listing.text(b"fde 0x");
@@ -123,14 +138,16 @@ pub fn put_row<W: Write>(
     row: &Row<'_>,
 ) -> Result<(), OutputFault>
     requires room { listing.old.failures < 2 ^ 64 - 1 }
+    requires in_space { address ≤ 2 ^ 64 }
     ensures told { Told listing.old.failures listing.new.failures result }
+    ensures put { OnOk result (Adds W.contents listing.old listing.new (row_text (address, row.now))) }
 {
     listing.make_room()?;
     listing.text(b" 0x");
     listing.address(address);
     put_cfa(listing, &row.cfa())?;
     for (register, rule) in row.specified() {
-        put_rule(listing, register, &rule)?;
+        put_column(listing, register, &rule)?;
     }
     listing.make_room()?;
     listing.text(b"\n");

@@ -1,7 +1,13 @@
 //! `dwframe rows`: the rules at each address of a section.
 
-ghost use Rattle.std.specs.Prelude.{◌≡◌, ◌<◌, ◌-◌, ◌^◌, MatchResult};
-ghost use Rattle.dw_command.specs.Answers.{Checks, OverFile, Prints, Unprinted};
+ghost use Rattle.std.specs.Prelude.{◌≡◌, ℕ, ◌<◌, ◌≤◌, ◌-◌, ◌^◌, List, MatchResult, OnOk};
+ghost use Rattle.std.specs.List.{AllByRecursion};
+ghost use Rattle.dw_cfa.specs.Rows.{Rules};
+ghost use Rattle.dw_canon.specs.Members.{AreMembers, Member};
+ghost use Rattle.dw_command.specs.Answers.{OverFile, Prints, ListsFdes, Unprinted};
+ghost use Rattle.dw_command.specs.Inner.Output.{Adds, output_of};
+ghost use Rattle.dw_command.specs.RowTexts.{member_text, row_text};
+ghost use Rattle.dw_command.specs.Texts.{lines};
 
 use crate::failure::Failure;
 use crate::files::Load;
@@ -18,13 +24,16 @@ fn put_changes<W: Write>(
     changes: &mut Changes<'_>,
 ) -> Result<(), Failure<'static>>
     requires room { out.old.failures < 2 ^ 64 - 1 }
+    requires in_space { AllByRecursion (λ (change : ℕ × Rules). change.0 ≤ 2 ^ 64) changes.old.to_come }
     ensures told { MatchResult result (λ _. out.new.failures ≡ out.old.failures) (Unprinted out.old.failures out.new.failures) }
+    ensures put { OnOk result (Adds W.contents out.old out.new (lines row_text changes.old.to_come)) }
     ensures section { changes.new.section ≡ changes.old.section }
 {
     'changes: while let Some(address) = changes.advance()? {
-        if let Some(row) = changes.row() {
-            put_row(out, address, row)?;
-        }
+        let Some(row) = changes.row() else {
+            unreachable!();
+        };
+        put_row(out, address, row)?;
     }
     Ok(())
 }
@@ -38,7 +47,9 @@ fn put_fdes<'a, W: Write>(
     requires room { out.old.failures < 2 ^ 64 - 1 }
     requires section { changes.old.section ≡ table.now }
     ensures told { MatchResult result (λ _. out.new.failures ≡ out.old.failures) (Unprinted out.old.failures out.new.failures) }
+    ensures put { OnOk result ((ms : List Member) → AreMembers table.now.target table.now.bytes ms → Adds W.contents out.old out.new (lines member_text ms)) }
 {
+    table.accepted();
     for place in 0..table.fde_count() {
         let fde = FdeRef { place };
         put_fde(out, &table.fde(fde))?;
@@ -50,7 +61,8 @@ fn put_fdes<'a, W: Write>(
 
 fn put_table<W: Write>(out: &mut Listing<W>, table: &Table<'_>) -> Result<(), Failure<'static>>
     requires room { out.old.failures < 2 ^ 64 - 1 }
-    ensures { Prints out.old.failures out.new.failures out.new.len tt result }
+    ensures { (ms : List Member) → AreMembers table.now.target table.now.bytes ms →
+        Prints (output_of W.contents out.old) (output_of W.contents out.new) (lines member_text ms) tt result }
 {
     put_fdes(out, table, &mut table.no_changes())?;
     Ok(out.finish()?)
@@ -66,11 +78,12 @@ pub fn run_rows<'a, L: Load, W: Write>(
     out: &mut Listing<W>,
 ) -> Result<(), Failure<'a>>
     requires room { out.old.failures < 2 ^ 64 - 1 }
-    ensures { OverFile (L.gives files.old) out.old.failures out.new.failures out.new.len path.now (Checks target) result }
+    ensures { OverFile (L.gives files.old) (output_of W.contents out.old) (output_of W.contents out.new) path.now (ListsFdes target) (λ _ ms. Prints (output_of W.contents out.old) (output_of W.contents out.new) (lines member_text ms) tt) result }
 {
     let bytes = files
         .load(path)
         .map_err(|error| Failure::from_load(path, error))?;
     let table = check(alloc, bytes.as_slice(), target)?;
+    table.accepted();
     put_table(out, &table)
 }

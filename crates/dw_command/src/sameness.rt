@@ -1,7 +1,9 @@
 //! `dwframe same`: whether two sections say the same.
 
+ghost use Rattle.dw_command.specs.Texts.{sameness_text};
 ghost use Rattle.std.specs.Prelude.{◌≡◌, ◌<◌, ◌≤◌, ◌-◌, ◌^◌, if◌then◌else◌, length, IfOk};
 ghost use Rattle.dw_command.specs.Answers.{Prints, SameEnds};
+ghost use Rattle.dw_command.specs.Inner.Output.{output_of};
 
 use crate::failure::Failure;
 use crate::files::Load;
@@ -19,7 +21,7 @@ fn put_verdict<W: Write>(
 ) -> Result<u8, Failure<'static>>
     requires room { out.old.failures < 2 ^ 64 - 1 }
     requires short { length text.now ≤ 10 }
-    ensures { Prints out.old.failures out.new.failures out.new.len status result }
+    ensures { Prints (output_of W.contents out.old) (output_of W.contents out.new) text.now status result }
 {
     out.make_room()?;
     out.text(text);
@@ -30,6 +32,7 @@ fn put_verdict<W: Write>(
 // The text of an answer, and its exit status.
 fn verdict(is_same: bool) -> (&'static [u8], u8)
     ensures short { length result.0.now ≤ 10 }
+    ensures text { result.0.now ≡ sameness_text is_same }
     ensures status { result.1 ≡ (if is_same then 0 else 1) }
 {
     if is_same {
@@ -50,7 +53,7 @@ pub fn run_same<'a, L: Load, W: Write>(
     out: &mut Listing<W>,
 ) -> Result<u8, Failure<'a>>
     requires room { out.old.failures < 2 ^ 64 - 1 }
-    ensures ends { SameEnds (L.gives files.old) out.old.failures out.new.failures out.new.len target path.now other.now result }
+    ensures ends { SameEnds (L.gives files.old) (output_of W.contents out.old) (output_of W.contents out.new) target path.now other.now result }
     ensures most { IfOk result (λ status. status ≤ 1) }
 {
     let first = load_file(files, path)?;

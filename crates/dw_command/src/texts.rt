@@ -1,22 +1,27 @@
 //! How operations are printed: DWARF 5, 7.7.1, with the names in lower case.
 
-ghost use Rattle.std.specs.Prelude.{◌≡◌, ◌+◌, ◌-◌, ◌^◌, ◌<◌, ◌≤◌, length, IfSome};
-ghost use Rattle.dw_command.specs.Output.{Told};
-ghost use Rattle.dw_command.specs.declared.listing.TheConstants.{PIECE, ROOM};
+ghost use Rattle.std.specs.Prelude.{◌≡◌, ◌++◌, ◌-◌, ◌^◌, ◌<◌, ◌≤◌, codes, false, length, OnOk};
+ghost use Rattle.std.specs.Fmt.{digits};
+ghost use Rattle.hex.specs.Hex.{encode_lower};
+ghost use Rattle.dw_command.specs.OpTexts.{bytes_text, number_text, op_name, op_text, operands_text, signed_text};
+ghost use Rattle.dw_command.specs.Inner.Output.{Adds, Told};
 
 use crate::listing::{Listing, OutputFault};
 use dw_op::Op;
 use std::io::Write;
 
-// The name of an operation without operands.
-fn name_of(op: &Op<'_>) -> Option<&'static str>
-    ensures { IfSome result (λ name. length name.now ≤ 20) }
+fn name_of(op: &Op<'_>) -> &'static str
+    ensures name { result.now ≡ op_name op.now }
+    ensures short { length result.now ≤ 20 }
 {
-    let name = match op {
+    match op {
+        Op::Addr(_) => "addr",
         Op::Deref => "deref",
+        Op::Const(_) => "const",
         Op::Dup => "dup",
         Op::Drop => "drop",
         Op::Over => "over",
+        Op::Pick(_) => "pick",
         Op::Swap => "swap",
         Op::Rot => "rot",
         Op::Abs => "abs",
@@ -29,104 +34,125 @@ fn name_of(op: &Op<'_>) -> Option<&'static str>
         Op::Not => "not",
         Op::Or => "or",
         Op::Plus => "plus",
+        Op::PlusUconst(_) => "plus_uconst",
         Op::Shl => "shl",
         Op::Shr => "shr",
         Op::Shra => "shra",
         Op::Xor => "xor",
+        Op::Bra(_) => "bra",
         Op::Eq => "eq",
         Op::Ge => "ge",
         Op::Gt => "gt",
         Op::Le => "le",
         Op::Lt => "lt",
         Op::Ne => "ne",
+        Op::Skip(_) => "skip",
+        Op::Reg(_) => "reg",
+        Op::Breg(_, _) => "breg",
+        Op::Fbreg(_) => "fbreg",
+        Op::Piece(_) => "piece",
+        Op::DerefSize(_) => "deref_size",
         Op::Nop => "nop",
         Op::PushObjectAddress => "push_object_address",
         Op::CallFrameCfa => "call_frame_cfa",
+        Op::BitPiece(_, _) => "bit_piece",
+        Op::Implicit(_) => "implicit_value",
         Op::StackValue => "stack_value",
-        _ => return None,
-    };
-    Some(name)
+    }
 }
 
-// A number behind a name.
-fn put_number<W: Write>(listing: &mut Listing<W>, name: &[u8], number: u64)
-    requires short { length name.now ≤ 20 }
-    requires made { listing.old.len + 60 ≤ ROOM }
-    ensures len { listing.new.len ≤ listing.old.len + 60 }
-    ensures told { listing.new.failures ≡ listing.old.failures }
+// A number behind a space.
+fn put_number<W: Write>(listing: &mut Listing<W>, number: u64) -> Result<(), OutputFault>
+    requires room { listing.old.failures < 2 ^ 64 - 1 }
+    ensures told { Told listing.old.failures listing.new.failures result }
+    ensures put { OnOk result (Adds W.contents listing.old listing.new (number_text number)) }
 {
-    listing.text(name);
+    listing.make_room()?;
+    listing.text(b" ");
     listing.decimal(number);
+    Ok(())
 }
 
 // A signed number behind a space.
-fn put_signed<W: Write>(listing: &mut Listing<W>, number: i64)
-    requires made { listing.old.len + 42 ≤ ROOM }
-    ensures len { listing.new.len ≤ listing.old.len + 42 }
-    ensures told { listing.new.failures ≡ listing.old.failures }
+fn put_signed<W: Write>(listing: &mut Listing<W>, number: i64) -> Result<(), OutputFault>
+    requires room { listing.old.failures < 2 ^ 64 - 1 }
+    ensures told { Told listing.old.failures listing.new.failures result }
+    ensures put { OnOk result (Adds W.contents listing.old listing.new (signed_text number)) }
 {
+    listing.make_room()?;
     listing.text(if number < 0 { b" -" } else { b" " });
     listing.decimal(number.unsigned_abs());
+    Ok(())
+}
+
+// An address behind a space.
+fn put_address<W: Write>(listing: &mut Listing<W>, address: u64) -> Result<(), OutputFault>
+    requires room { listing.old.failures < 2 ^ 64 - 1 }
+    ensures told { Told listing.old.failures listing.new.failures result }
+    ensures put { OnOk result (Adds W.contents listing.old listing.new (codes " 0x" ++ digits 16 false address)) }
+{
+    listing.make_room()?;
+    listing.text(b" 0x");
+    listing.hex(address);
+    Ok(())
 }
 
 /// Puts bytes as pairs of hexadecimal digits in lower case.
 pub fn put_hex<W: Write>(listing: &mut Listing<W>, bytes: &[u8]) -> Result<(), OutputFault>
     requires room { listing.old.failures < 2 ^ 64 - 1 }
     ensures told { Told listing.old.failures listing.new.failures result }
+    ensures put { OnOk result (Adds W.contents listing.old listing.new (encode_lower bytes.now)) }
 {
     for byte in bytes {
         listing.make_room()?;
-        if *byte < 16 {
-            listing.text(b"0");
-        }
-        listing.hex(u64::from(*byte));
+        let mut pair = [0; 2];
+        let _ = hex::encode_to_slice([*byte], &mut pair);
+        listing.text(&pair);
     }
     Ok(())
 }
 
-fn put_implicit<W: Write>(listing: &mut Listing<W>, bytes: &[u8]) -> Result<(), OutputFault>
+// Bytes behind a space, or a dash for none.
+fn put_bytes<W: Write>(listing: &mut Listing<W>, bytes: &[u8]) -> Result<(), OutputFault>
     requires room { listing.old.failures < 2 ^ 64 - 1 }
     ensures told { Told listing.old.failures listing.new.failures result }
+    ensures put { OnOk result (Adds W.contents listing.old listing.new (bytes_text bytes.now)) }
 {
     listing.make_room()?;
-    listing.text(b"implicit_value ");
     if bytes.is_empty() {
-        listing.text(b"-");
+        listing.text(b" -");
+        return Ok(());
     }
+    listing.text(b" ");
     put_hex(listing, bytes)
 }
 
-// An operation with operands that are numbers.
-fn put_operands<W: Write>(listing: &mut Listing<W>, op: &Op<'_>)
-    requires made { listing.old.len + PIECE ≤ ROOM }
-    ensures told { listing.new.failures ≡ listing.old.failures }
+fn put_operands<W: Write>(listing: &mut Listing<W>, op: &Op<'_>) -> Result<(), OutputFault>
+    requires room { listing.old.failures < 2 ^ 64 - 1 }
+    ensures told { Told listing.old.failures listing.new.failures result }
+    ensures put { OnOk result (Adds W.contents listing.old listing.new (operands_text op.now)) }
 {
     match *op {
-        Op::Addr(address) => {
-            listing.text(b"addr 0x");
-            listing.hex(address);
-        }
-        Op::Const(value) => put_number(listing, b"const ", value),
-        Op::Pick(entry) => put_number(listing, b"pick ", u64::from(entry)),
-        Op::PlusUconst(number) => put_number(listing, b"plus_uconst ", number),
-        Op::Bra(index) => put_number(listing, b"bra ", index as u64),
-        Op::Skip(index) => put_number(listing, b"skip ", index as u64),
-        Op::Reg(register) => put_number(listing, b"reg ", u64::from(register)),
+        Op::Addr(address) => put_address(listing, address),
+        Op::Const(value) => put_number(listing, value),
+        Op::Pick(entry) => put_number(listing, u64::from(entry)),
+        Op::PlusUconst(number) => put_number(listing, number),
+        Op::Bra(index) => put_number(listing, index as u64),
+        Op::Skip(index) => put_number(listing, index as u64),
+        Op::Reg(register) => put_number(listing, u64::from(register)),
         Op::Breg(register, number) => {
-            put_number(listing, b"breg ", u64::from(register));
-            put_signed(listing, number);
+            put_number(listing, u64::from(register))?;
+            put_signed(listing, number)
         }
-        Op::Fbreg(number) => {
-            listing.text(b"fbreg");
-            put_signed(listing, number);
-        }
-        Op::Piece(len) => put_number(listing, b"piece ", len),
-        Op::DerefSize(len) => put_number(listing, b"deref_size ", u64::from(len)),
+        Op::Fbreg(number) => put_signed(listing, number),
+        Op::Piece(len) => put_number(listing, len),
+        Op::DerefSize(len) => put_number(listing, u64::from(len)),
         Op::BitPiece(size, offset) => {
-            put_number(listing, b"bit_piece ", size);
-            put_number(listing, b" ", offset);
+            put_number(listing, size)?;
+            put_number(listing, offset)
         }
-        _ => {}
+        Op::Implicit(bytes) => put_bytes(listing, bytes),
+        _ => Ok(()),
     }
 }
 
@@ -134,14 +160,9 @@ fn put_operands<W: Write>(listing: &mut Listing<W>, op: &Op<'_>)
 pub fn put_op<W: Write>(listing: &mut Listing<W>, op: &Op<'_>) -> Result<(), OutputFault>
     requires room { listing.old.failures < 2 ^ 64 - 1 }
     ensures told { Told listing.old.failures listing.new.failures result }
+    ensures put { OnOk result (Adds W.contents listing.old listing.new (op_text op.now)) }
 {
     listing.make_room()?;
-    if let Op::Implicit(bytes) = op {
-        return put_implicit(listing, bytes);
-    }
-    match name_of(op) {
-        Some(name) => listing.text(name.as_bytes()),
-        None => put_operands(listing, op),
-    }
-    Ok(())
+    listing.text(name_of(op).as_bytes());
+    put_operands(listing, op)
 }

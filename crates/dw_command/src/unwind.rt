@@ -1,8 +1,9 @@
 //! `dwframe unwind`: the caller's frame of a machine that stopped.
 
-ghost use Rattle.std.specs.Prelude.{◌<◌, ◌-◌, ◌^◌};
+ghost use Rattle.dw_command.specs.Texts.{frame_text, lines, register_text};
+ghost use Rattle.dw_command.specs.Inner.Output.{Adds, Told, output_of};
+ghost use Rattle.std.specs.Prelude.{OnOk, ◌<◌, ◌-◌, ◌^◌};
 ghost use Rattle.dw_command.specs.Answers.{Frames, Prints, UnwindEnds};
-ghost use Rattle.dw_command.specs.Output.{Told};
 
 use crate::failure::Failure;
 use crate::files::Load;
@@ -22,6 +23,7 @@ fn put_value<W: Write>(
 ) -> Result<(), OutputFault>
     requires room { out.old.failures < 2 ^ 64 - 1 }
     ensures told { Told out.old.failures out.new.failures result }
+    ensures put { OnOk result (Adds W.contents out.old out.new (register_text (register, value))) }
 {
     out.make_room()?;
     out.text(b"r");
@@ -37,9 +39,23 @@ fn put_value<W: Write>(
     Ok(())
 }
 
+fn put_registers<W: Write>(
+    out: &mut Listing<W>,
+    values: &[(u16, Option<u64>)],
+) -> Result<(), OutputFault>
+    requires room { out.old.failures < 2 ^ 64 - 1 }
+    ensures told { Told out.old.failures out.new.failures result }
+    ensures put { OnOk result (Adds W.contents out.old out.new (lines register_text values.now)) }
+{
+    for (register, value) in values {
+        put_value(out, *register, *value)?;
+    }
+    Ok(())
+}
+
 fn put_frame<W: Write>(out: &mut Listing<W>, frame: &Frame) -> Result<(), Failure<'static>>
     requires room { out.old.failures < 2 ^ 64 - 1 }
-    ensures { Prints out.old.failures out.new.failures out.new.len tt result }
+    ensures { Prints (output_of W.contents out.old) (output_of W.contents out.new) (frame_text frame.now) tt result }
 {
     out.make_room()?;
     out.text(b"cfa 0x");
@@ -47,9 +63,7 @@ fn put_frame<W: Write>(out: &mut Listing<W>, frame: &Frame) -> Result<(), Failur
     out.text(b"\nra r");
     out.decimal(u64::from(frame.return_register));
     out.text(b"\n");
-    for (register, value) in frame.registers.values() {
-        put_value(out, *register, *value)?;
-    }
+    put_registers(out, frame.registers.values())?;
     Ok(out.finish()?)
 }
 
@@ -85,7 +99,7 @@ pub fn run_unwind<'a, L: Load, W: Write>(
     out: &mut Listing<W>,
 ) -> Result<(), Failure<'a>>
     requires room { out.old.failures < 2 ^ 64 - 1 }
-    ensures { UnwindEnds (L.gives files.old) out.old.failures out.new.failures out.new.len target unwinding.now result }
+    ensures { UnwindEnds (L.gives files.old) (output_of W.contents out.old) (output_of W.contents out.new) target unwinding.now result }
 {
     let bytes = load_file(files, unwinding.path)?;
     let text = load_dump(files, unwinding.dump)?;

@@ -9,4 +9,5 @@ pub mod Roles
 pub mod PlaceSteps
 pub mod PlaceLoop
 pub mod Space
+pub mod Wanted
 pub mod Lent

@@ -1,6 +1,6 @@
 -- What one step of a description tells of its run.
 use Rattle.dw_eval.proofs.Words.{◌≡◌, ℕ, ◌<◌, ◌≤◌, Bool, true, false, List, [], ◌∷◌, length, Option, Some, None, Result, Ok, Err, ap, inl, arith, ◌∙◌, slice_get, nat_lt, if◌then◌else◌, slice_get_within, Op, branch_target, AllInRange}
-use Rattle.dw_eval.proofs.Words.{TargetWithin, EvalError, Fault, OutOfMemory, Kind, StackUnderflow, MissingPiece, Place, Role, SetsPlace, SetsValue, Computes, Context, Outcome, Next, Jump, Faults, effect, StepsWithoutMemory, PlaceState}
+use Rattle.dw_eval.proofs.Words.{TargetWithin, EvalError, Fault, OutOfMemory, Kind, StackUnderflow, MissingPiece, Place, Role, SetsPlace, SetsValue, Computes, Context, OpEffect, Next, Jump, Faults, effect, StepsWithoutMemory, PlaceState}
 use Rattle.dw_eval.proofs.Words.{with_value, place_step, place_led, role, free_by, held_by, step_of, StepsTo}
 use Rattle.dw_eval.proofs.Roles.{step_is}
 use Rattle.dw_eval.proofs.Effects.{IsTame, effect_tame, in_range_at}
@@ -15,7 +15,7 @@ abbrev index_in : Result PlaceState Kind → ℕ
 index_in (Ok s) = s.index
 index_in (Err kind) = 0
 
-led_within : (len : ℕ) (target : Option ℕ) (s : PlaceState) (o : Outcome) → s.index < len → TargetWithin len target → IsTame target o → index_in (place_led s o) ≤ len
+led_within : (len : ℕ) (target : Option ℕ) (s : PlaceState) (o : OpEffect) → s.index < len → TargetWithin len target → IsTame target o → index_in (place_led s o) ≤ len
 led_within len target s (Next stack) lt within tame = omega (arith, lt)
 led_within len None s (Jump j stack) lt within tame = absurd (cc)
 led_within len (Some i) s (Jump j stack) lt within tame = let one : i ≡ j = cc in omega (arith, one, within)

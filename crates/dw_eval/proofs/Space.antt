@@ -2,7 +2,7 @@
 use Rattle.dw_eval.proofs.Words.{◌≡◌, ℕ, zero, suc, ◌%◌, ◌<◌, Bool, true, false, List, [], ◌∷◌, ◌++◌, length, Option, Some, None, Result, Ok, Err, refl, sym, subst, inl, inr, arith, ◌∙◌, slice_get, nat_eq, nat_lt, if◌then◌else◌, Size, Four}
 use Rattle.dw_eval.proofs.Words.{Eight, byte_count, address_limit, Op, Addr, Deref, Const, Dup, Drop, Over, Pick, Swap, Rot, Abs, Div, Minus, Mod, Neg, Not, PlusUconst, Shra, Bra, Eq, Ge, Gt, Le, Lt, Ne, Skip, Reg, Breg, Fbreg, Piece}
 use Rattle.dw_eval.proofs.Words.{DerefSize, Nop, PushObjectAddress, CallFrameCfa, BitPiece, Implicit, StackValue, modulo_below, Kind, StackUnderflow, DivideByZero, NoRegister, Unreadable, NoFrameBase, NoCfa, NoObject, MissingPiece, Whole}
-use Rattle.dw_eval.proofs.Words.{Place, Role, SetsPlace, SetsValue, AddsPiece, Waits, Computes, Context, read_at, Outcome, Next, Jump, Faults, on_top, on_two, on_three, known, push, push_signed, tell, effect, State, index_of, value_step}
+use Rattle.dw_eval.proofs.Words.{Place, Role, SetsPlace, SetsValue, AddsPiece, Waits, Computes, Context, read_at, OpEffect, Next, Jump, Faults, on_top, on_two, on_three, known, push, push_signed, tell, effect, State, index_of, value_step}
 use Rattle.dw_eval.proofs.Words.{value_start, top_of, Evaluates, led, PlaceState, place_index, place_here, with_piece, with_value, place_step, place_start, pieces_of, Located, place_led, role, free_by, held_by, step_of, Runs, ValuesInSpace}
 use Rattle.dw_eval.proofs.Words.{LocationsInSpace}
 use Rattle.std.proofs.lemmas.Nat.{mod_below}
@@ -27,7 +27,7 @@ small Four v h = omega arith
 small Eight v h = omega arith
 
 -- the stack that an operation leaves
-abbrev pub LeavesInSpace : Size → Outcome → Type 0
+abbrev pub LeavesInSpace : Size → OpEffect → Type 0
 LeavesInSpace size (Next stack) = AreInSpace size stack
 LeavesInSpace size (Jump j stack) = AreInSpace size stack
 LeavesInSpace size (Faults kind) = Unit {0}
@@ -38,19 +38,19 @@ pushed size v below h = (mod_below v (address_limit size) (limit_positive size),
 pushed_signed : (size : Size) (z : _) (below : List ℕ) → AreInSpace size below → LeavesInSpace size (push_signed size z below)
 pushed_signed size z below h = (modulo_below size z, h)
 
-on_top_leaves : (size : Size) (stack : List ℕ) (f : ℕ → List ℕ → Outcome) → AreInSpace size stack → ((t : ℕ) (below : List ℕ) → t < address_limit size → AreInSpace size below → LeavesInSpace size (f t below)) → LeavesInSpace size (on_top stack f)
+on_top_leaves : (size : Size) (stack : List ℕ) (f : ℕ → List ℕ → OpEffect) → AreInSpace size stack → ((t : ℕ) (below : List ℕ) → t < address_limit size → AreInSpace size below → LeavesInSpace size (f t below)) → LeavesInSpace size (on_top stack f)
 on_top_leaves size [] f h leaves = tt
 on_top_leaves size (t ∷ below) f h leaves = leaves t below h.0 h.1
 
-on_two_leaves : (size : Size) (stack : List ℕ) (f : ℕ → ℕ → List ℕ → Outcome) → AreInSpace size stack → ((s t : ℕ) (below : List ℕ) → s < address_limit size → t < address_limit size → AreInSpace size below → LeavesInSpace size (f s t below)) → LeavesInSpace size (on_two stack f)
+on_two_leaves : (size : Size) (stack : List ℕ) (f : ℕ → ℕ → List ℕ → OpEffect) → AreInSpace size stack → ((s t : ℕ) (below : List ℕ) → s < address_limit size → t < address_limit size → AreInSpace size below → LeavesInSpace size (f s t below)) → LeavesInSpace size (on_two stack f)
 on_two_leaves size (t ∷ s ∷ below) f h leaves = leaves s t below h.1.0 h.0 h.1.1
 on_two_leaves size stack f h leaves = tt
 
-on_three_leaves : (size : Size) (stack : List ℕ) (f : ℕ → ℕ → ℕ → List ℕ → Outcome) → AreInSpace size stack → ((third s t : ℕ) (below : List ℕ) → third < address_limit size → s < address_limit size → t < address_limit size → AreInSpace size below → LeavesInSpace size (f third s t below)) → LeavesInSpace size (on_three stack f)
+on_three_leaves : (size : Size) (stack : List ℕ) (f : ℕ → ℕ → ℕ → List ℕ → OpEffect) → AreInSpace size stack → ((third s t : ℕ) (below : List ℕ) → third < address_limit size → s < address_limit size → t < address_limit size → AreInSpace size below → LeavesInSpace size (f third s t below)) → LeavesInSpace size (on_three stack f)
 on_three_leaves size (t ∷ s ∷ third ∷ below) f h leaves = leaves third s t below h.1.1.0 h.1.0 h.0 h.1.1.1
 on_three_leaves size stack f h leaves = tt
 
-known_leaves : (size : Size) (kind : Kind) (o : Option ℕ) (f : ℕ → Outcome) → ((v : ℕ) → LeavesInSpace size (f v)) → LeavesInSpace size (known kind o f)
+known_leaves : (size : Size) (kind : Kind) (o : Option ℕ) (f : ℕ → OpEffect) → ((v : ℕ) → LeavesInSpace size (f v)) → LeavesInSpace size (known kind o f)
 known_leaves size kind None f leaves = tt
 known_leaves size kind (Some v) f leaves = leaves v
 
@@ -58,7 +58,7 @@ told : (size : Size) (b : Bool) (below : List ℕ) → AreInSpace size below →
 told size true below h = (small size 1 (omega arith), h)
 told size false below h = (small size 0 (omega arith), h)
 
-unless_zero : (size : Size) (b : Bool) (o : Outcome) → LeavesInSpace size o → LeavesInSpace size (if b then Faults DivideByZero else o)
+unless_zero : (size : Size) (b : Bool) (o : OpEffect) → LeavesInSpace size o → LeavesInSpace size (if b then Faults DivideByZero else o)
 unless_zero size true o h = tt
 unless_zero size false o h = h
 
@@ -77,7 +77,7 @@ pick_leaves size stack i (Some v) h e = (picked size stack i v h e, h)
 
 effect_leaves : (c : Context) (op : Op) (stack : List ℕ) → AreInSpace c.target.size stack → LeavesInSpace c.target.size (effect c op stack)
 effect_leaves c (Addr a) stack h = pushed c.target.size a stack h
-effect_leaves c Deref stack h = on_top_leaves c.target.size stack _ h (λ t below lt w. known_leaves c.target.size Unreadable (read_at c t (byte_count c.target.size)) _ (λ v. pushed c.target.size v below w))
+effect_leaves c Deref stack h = on_top_leaves c.target.size stack _ h (λ t below lt w. known_leaves c.target.size (Unreadable t (byte_count c.target.size)) (read_at c t (byte_count c.target.size)) _ (λ v. pushed c.target.size v below w))
 effect_leaves c (Const v) stack h = pushed c.target.size v stack h
 effect_leaves c Dup stack h = on_top_leaves c.target.size stack _ h (λ t below lt w. (lt, (lt, w)))
 effect_leaves c Drop stack h = on_top_leaves c.target.size stack _ h (λ t below lt w. w)
@@ -102,10 +102,10 @@ effect_leaves c Lt stack h = on_two_leaves c.target.size stack _ h (λ s t below
 effect_leaves c Ne stack h = on_two_leaves c.target.size stack _ h (λ s t below ls lt w. told c.target.size _ below w)
 effect_leaves c (Skip i) stack h = h
 effect_leaves c (Reg r) stack h = tt
-effect_leaves c (Breg r n) stack h = known_leaves c.target.size NoRegister (c.register r) _ (λ v. pushed_signed c.target.size _ stack h)
+effect_leaves c (Breg r n) stack h = known_leaves c.target.size (NoRegister r) (c.register r) _ (λ v. pushed_signed c.target.size _ stack h)
 effect_leaves c (Fbreg n) stack h = known_leaves c.target.size NoFrameBase c.frame_base _ (λ v. pushed_signed c.target.size _ stack h)
 effect_leaves c (Piece n) stack h = tt
-effect_leaves c (DerefSize k) stack h = on_top_leaves c.target.size stack _ h (λ t below lt w. known_leaves c.target.size Unreadable (read_at c t k) _ (λ v. pushed c.target.size v below w))
+effect_leaves c (DerefSize k) stack h = on_top_leaves c.target.size stack _ h (λ t below lt w. known_leaves c.target.size (Unreadable t k) (read_at c t k) _ (λ v. pushed c.target.size v below w))
 effect_leaves c Nop stack h = h
 effect_leaves c PushObjectAddress stack h = known_leaves c.target.size NoObject c.object _ (λ v. pushed c.target.size v stack h)
 effect_leaves c CallFrameCfa stack h = known_leaves c.target.size NoCfa c.cfa _ (λ v. pushed c.target.size v stack h)
@@ -118,7 +118,7 @@ abbrev KeptIn : Size → Result State Kind → Type 0
 KeptIn size (Ok s) = AreInSpace size s.stack
 KeptIn size (Err kind) = Unit {0}
 
-led_kept : (size : Size) (i : ℕ) (o : Outcome) → LeavesInSpace size o → KeptIn size (led i o)
+led_kept : (size : Size) (i : ℕ) (o : OpEffect) → LeavesInSpace size o → KeptIn size (led i o)
 led_kept size i (Faults kind) h = tt
 led_kept size i o h = h
 
@@ -168,7 +168,7 @@ piece_kept : (size : Size) (part : _) (s : PlaceState) → StateInSpace size s �
 piece_kept size part s h =
     record { stack = tt; pending = tt; pieces = pieces_more size s.pieces _ h.pieces (here_in_space size s.pending s.stack h.pending h.stack) }
 
-place_led_kept : (size : Size) (s : PlaceState) (o : Outcome) → StateInSpace size s → LeavesInSpace size o → KeptPlaces size (place_led s o)
+place_led_kept : (size : Size) (s : PlaceState) (o : OpEffect) → StateInSpace size s → LeavesInSpace size o → KeptPlaces size (place_led s o)
 place_led_kept size s (Next stack) h w = record { stack = w; pending = h.pending; pieces = h.pieces }
 place_led_kept size s (Jump j stack) h w = record { stack = w; pending = h.pending; pieces = h.pieces }
 place_led_kept size s (Faults kind) h w = tt

@@ -1,5 +1,5 @@
 -- What one operation of the code tells of a run.
-use Rattle.dw_eval.proofs.Words.{◌≡◌, ℕ, ◌+◌, ◌<◌, List, length, Some, Result, Ok, Err, refl, sym, ◌∙◌, ap, subst, inl, inr, arith, slice_get, Op, EvalError, Fault, OutOfMemory, Kind, Device, StepLimit, Runs, Outcome, Does, Acts, StepsTo}
+use Rattle.dw_eval.proofs.Words.{◌≡◌, ℕ, ◌+◌, ◌<◌, List, length, Some, Result, Ok, Err, refl, sym, ◌∙◌, ap, subst, inl, inr, arith, slice_get, Op, EvalError, Fault, OutOfMemory, Kind, Device, StepLimit, Runs, OpEffect, Does, Acts, StepsTo}
 use Rattle.std.proofs.Math.Numerals.{suc-eq-add-one}
 use Rattle.dw_eval.specs.Inner.Runs.{Answered, Right, Short, Failed}
 use Rattle.dw_eval.specs.declared.stack.Flow.{Flow}
@@ -8,7 +8,7 @@ use Rattle.dw_eval.specs.declared.stack.Stop.{Stop}
 use Rattle.dw_eval.specs.declared.stack.Stop.TheVariants as stop
 
 -- an operation without memory is one over a memory that stays
-pub acts_so : (outcome : Outcome) (Read : Type 0) (before : ℕ) (result : Result Flow Stop) (stack : List ℕ) (after : ℕ) → Does outcome result stack → after ≡ before → Acts outcome Read before result stack after
+pub acts_so : (outcome : OpEffect) (Read : Type 0) (before : ℕ) (result : Result Flow Stop) (stack : List ℕ) (after : ℕ) → Does outcome result stack → after ≡ before → Acts outcome Read before result stack after
 acts_so outcome Read before (Ok flow.Next) stack after d e = (d, e)
 acts_so outcome Read before (Ok (flow.Jump i)) stack after d e = (d, e)
 acts_so outcome Read before (Err (stop.Fault kind)) stack after d e = (d, e)

@@ -1,6 +1,6 @@
 -- The loop over the operations of an expression.
 use Rattle.dw_eval.proofs.Words.{◌≡◌, ℕ, ◌+◌, ◌<◌, ◌≤◌, List, length, map, get_or, Ok, Err, refl, ◌∙◌, subst, arith, length-map, Target, byte_count, Op, DerefSize, bare, AllInRange, bare_at, in_range_at, fits, EvalError, Fault, StepLimit}
-use Rattle.dw_eval.proofs.Words.{Context, Reads, State, index_of, value_step, value_start, value_reads, top_of, ValueRuns, EvaluatesOver, StepsTo}
+use Rattle.dw_eval.proofs.Words.{Context, ReadsMemory, State, index_of, value_step, value_start, value_reads, top_of, ValueRuns, EvaluatesOver, StepsTo}
 use Rattle.dw_op.specs.Inner.Ranges.{Fits}
 use Rattle.dw_eval.proofs.Effects.{value_stays}
 use Rattle.dw_eval.proofs.Steps.{runs_more, answered_stop, answered_limit}
@@ -17,10 +17,10 @@ at i stack = record { index = i; stack = stack }
 -- one step more
 pub value_more : (c c' : Context) (ops : List Op) (first : List ℕ) (n i next : ℕ) (stack stack' : List ℕ) (before mid after : ℕ) (d : Op) → c' ≡ c → AllInRange c.target (map bare ops)
     → ValueRuns (map bare ops) c first n (at i stack) → i < length ops → mid ≡ before
-    → StepsTo (value_step c' (bare (get_or ops i d)) (at i stack)) (Reads c' (bare (get_or ops i d)) stack) i mid (λ k. at k stack') (Ok next) after
+    → StepsTo (value_step c' (bare (get_or ops i d)) (at i stack)) (ReadsMemory c' (bare (get_or ops i d)) stack) i mid (λ k. at k stack') (Ok next) after
     → ValueRuns (map bare ops) c first (n + 1) (at next stack') × (next ≤ length ops) × (after ≡ before)
 value_more c c' ops first n i next stack stack' before mid after d same range runs lt count h =
-    let P : Context → Type 0 = λ x. StepsTo (value_step x (bare (get_or ops i d)) (at i stack)) (Reads x (bare (get_or ops i d)) stack) i mid (λ k. at k stack') (Ok next) after in
+    let P : Context → Type 0 = λ x. StepsTo (value_step x (bare (get_or ops i d)) (at i stack)) (ReadsMemory x (bare (get_or ops i d)) stack) i mid (λ k. at k stack') (Ok next) after in
     let step = subst P same h in
     let stands = bare_at ops i d lt in
     let most = value_stays c (map bare ops) range (bare (get_or ops i d)) (at i stack) (at next stack') stands step.0 in (
@@ -32,10 +32,10 @@ value_more c c' ops first n i next stack stack' before mid after d same range ru
 -- an error
 pub value_stop : (c c' : Context) (ops : List Op) (first : List ℕ) (limit n i : ℕ) (stack stack' : List ℕ) (before mid after : ℕ) (d : Op) (e : EvalError) → c' ≡ c
     → ValueRuns (map bare ops) c first n (at i stack) → n < limit → i < length ops → mid ≡ before
-    → StepsTo (value_step c' (bare (get_or ops i d)) (at i stack)) (Reads c' (bare (get_or ops i d)) stack) i mid (λ k. at k stack') (Err e) after
+    → StepsTo (value_step c' (bare (get_or ops i d)) (at i stack)) (ReadsMemory c' (bare (get_or ops i d)) stack) i mid (λ k. at k stack') (Err e) after
     → EvaluatesOver (map bare ops) c first limit before (Err e) after
 value_stop c c' ops first limit n i stack stack' before mid after d e same runs few lt count h =
-    let P : Context → Type 0 = λ x. StepsTo (value_step x (bare (get_or ops i d)) (at i stack)) (Reads x (bare (get_or ops i d)) stack) i mid (λ k. at k stack') (Err e) after in
+    let P : Context → Type 0 = λ x. StepsTo (value_step x (bare (get_or ops i d)) (at i stack)) (ReadsMemory x (bare (get_or ops i d)) stack) i mid (λ k. at k stack') (Err e) after in
     answered_stop index_of (value_step c) (map bare ops) (value_start first) (value_reads c) (λ s. top_of (length (map bare ops)) s.stack) limit n i before mid after (at i stack) (bare (get_or ops i d)) (λ k. at k stack') e runs few refl (bare_at ops i d lt) count (subst P same h)
 
 -- the limit

@@ -1,7 +1,7 @@
 -- The words of specs and of std that the proofs cite, passed on from one place. Declares nothing.
 unfoldable pub use Rattle.dw_eval.specs.Context.{signed}
 pub use Rattle.dw_eval.specs.Context.{Context, context, read_at}
-pub use Rattle.dw_eval.specs.Effect.{Faults, Jump, Next, Outcome, Reads, bit_count, effect, known, on_three, on_top, on_two, push, push_signed, shifted_signed, tell}
+pub use Rattle.dw_eval.specs.Effect.{Faults, Jump, Next, OpEffect, ReadsMemory, bit_count, effect, known, on_three, on_top, on_two, push, push_signed, shifted_signed, tell}
 pub use Rattle.dw_eval.specs.Evaluation.{Evaluates, State, index_of, top_of, value_reads, value_start, value_step}
 pub use Rattle.dw_eval.specs.Inner.Description.{StepsWithoutMemory, state_of}
 pub use Rattle.dw_eval.specs.Inner.Evaluation.{EvaluatesOver, ValueRuns, led}

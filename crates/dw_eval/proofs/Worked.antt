@@ -70,7 +70,7 @@ pick_none = refl
 branch : effect nothing (Bra 7) (3 ∷ []) ≡ Jump 7 []
 branch = refl
 
-unreadable : effect nothing Deref (0xffff_ffff_ffff_fffc ∷ []) ≡ Faults Unreadable
+unreadable : effect nothing Deref (0xffff_ffff_ffff_fffc ∷ []) ≡ Faults (Unreadable 0xffff_ffff_ffff_fffc 8)
 unreadable = refl
 
 -- a branch to itself reaches the limit

@@ -9,5 +9,5 @@ bytes_from byte address zero = Some []
 bytes_from byte address (suc k) = option_and_then (λ b. option_map (λ bytes. b ∷ bytes) (bytes_from byte (address + 1) k)) (byte address)
 
 -- the number that the k bytes from an address on spell
-unfoldable pub number_at : (ℕ → Option ℕ) → Order → ℕ → ℕ → Option ℕ
-number_at byte order address k = option_map (λ bytes. fixed_number order k bytes) (bytes_from byte address k)
+unfoldable pub number_in_memory : (ℕ → Option ℕ) → Order → ℕ → ℕ → Option ℕ
+number_in_memory byte order address k = option_map (λ bytes. fixed_number order k bytes) (bytes_from byte address k)

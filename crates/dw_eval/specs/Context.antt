@@ -6,7 +6,7 @@ use Rattle.dw_num.specs.declared.target.Size.TheVariants.{Four, Eight}
 use Rattle.dw_num.specs.declared.target.Target.{Target}
 use Rattle.dw_num.specs.Target.{address_limit}
 use Rattle.dw_eval.specs.declared.env.Env.{Env}
-use Rattle.dw_eval.specs.Bytes.{number_at}
+use Rattle.dw_eval.specs.Bytes.{number_in_memory}
 use Rattle.dw_eval.specs.Registers.{held}
 
 -- the machine, its registers and memory, and what else may be known
@@ -34,4 +34,4 @@ signed size v = cast_signed (width size) (v % address_limit size)
 -- the number in k bytes of memory, none where the bytes pass 2 ^ N or one of them is missing
 abbrev pub read_at : Context → ℕ → ℕ → Option ℕ
 read_at c address k =
-    if nat_le (address + k) (address_limit c.target.size) then number_at c.byte c.target.order address k else None
+    if nat_le (address + k) (address_limit c.target.size) then number_in_memory c.byte c.target.order address k else None

@@ -14,49 +14,49 @@ use Rattle.dw_eval.specs.declared.error.Kind.TheVariants.{StackUnderflow, Divide
 use Rattle.dw_eval.specs.Context.{Context, signed, read_at}
 
 -- on to the next operation, or to this one, with a stack whose top is first; or a fault
-pub data Outcome : Type 0 where
-  Next : List ℕ → Outcome
-  Jump : ℕ → List ℕ → Outcome
-  Faults : Kind → Outcome
+pub data OpEffect : Type 0 where
+  Next : List ℕ → OpEffect
+  Jump : ℕ → List ℕ → OpEffect
+  Faults : Kind → OpEffect
 
 -- where one leads that an operation at this index has
-abbrev pub leads : {S : Type 0} → (ℕ → List ℕ → S) → ℕ → Outcome → Result S Kind
+abbrev pub leads : {S : Type 0} → (ℕ → List ℕ → S) → ℕ → OpEffect → Result S Kind
 leads at i (Next stack) = Ok (at (i + 1) stack)
 leads at i (Jump j stack) = Ok (at j stack)
 leads at i (Faults kind) = Err kind
 
 -- of the top and what is below
-abbrev pub on_top : List ℕ → (ℕ → List ℕ → Outcome) → Outcome
+abbrev pub on_top : List ℕ → (ℕ → List ℕ → OpEffect) → OpEffect
 on_top [] f = Faults StackUnderflow
 on_top (t ∷ below) f = f t below
 
 -- of the second, the top and what is below
-abbrev pub on_two : List ℕ → (ℕ → ℕ → List ℕ → Outcome) → Outcome
+abbrev pub on_two : List ℕ → (ℕ → ℕ → List ℕ → OpEffect) → OpEffect
 on_two stack f = on_top stack (λ t rest. on_top rest (λ s below. f s t below))
 
 -- of the third, the second, the top and what is below
-abbrev pub on_three : List ℕ → (ℕ → ℕ → ℕ → List ℕ → Outcome) → Outcome
+abbrev pub on_three : List ℕ → (ℕ → ℕ → ℕ → List ℕ → OpEffect) → OpEffect
 on_three stack f = on_two stack (λ s t rest. on_top rest (λ third below. f third s t below))
 
 -- of a value that may be missing
-abbrev pub known : Kind → Option ℕ → (ℕ → Outcome) → Outcome
+abbrev pub known : Kind → Option ℕ → (ℕ → OpEffect) → OpEffect
 known kind None f = Faults kind
 known kind (Some v) f = f v
 
 -- on with a number, modulo 2 ^ N, on the stack
-abbrev pub push : Size → ℕ → List ℕ → Outcome
+abbrev pub push : Size → ℕ → List ℕ → OpEffect
 push size v stack = Next (v % address_limit size ∷ stack)
 
-abbrev pub push_signed : Size → ℤ → List ℕ → Outcome
+abbrev pub push_signed : Size → ℤ → List ℕ → OpEffect
 push_signed size z stack = Next (modulo (address_limit size) z ∷ stack)
 
 -- on with 1 or 0
-abbrev pub tell : Bool → List ℕ → Outcome
+abbrev pub tell : Bool → List ℕ → OpEffect
 tell true stack = Next (1 ∷ stack)
 tell false stack = Next (0 ∷ stack)
 
 -- on where a divisor is not 0
-abbrev pub nonzero : ℕ → Outcome → Outcome
+abbrev pub nonzero : ℕ → OpEffect → OpEffect
 nonzero divisor outcome = if nat_eq divisor 0 then Faults DivideByZero else outcome
 
 -- how many bits an address has
@@ -88,29 +88,29 @@ module _ (c : Context) where
   as_signed v = signed size v
 
   -- pop the top t, push f t modulo 2 ^ N
-  abbrev unary : (ℕ → ℕ) → List ℕ → Outcome
+  abbrev unary : (ℕ → ℕ) → List ℕ → OpEffect
   unary f stack = on_top stack (λ t below. push size (f t) below)
 
   -- so of an f that gives a signed number
-  abbrev unary_signed : (ℕ → ℤ) → List ℕ → Outcome
+  abbrev unary_signed : (ℕ → ℤ) → List ℕ → OpEffect
   unary_signed f stack = on_top stack (λ t below. push_signed size (f t) below)
 
   -- pop the top t and the second s, push f s t modulo 2 ^ N
-  abbrev binary : (ℕ → ℕ → ℕ) → List ℕ → Outcome
+  abbrev binary : (ℕ → ℕ → ℕ) → List ℕ → OpEffect
   binary f stack = on_two stack (λ s t below. push size (f s t) below)
 
   -- so of an f that gives a signed number
-  abbrev binary_signed : (ℕ → ℕ → ℤ) → List ℕ → Outcome
+  abbrev binary_signed : (ℕ → ℕ → ℤ) → List ℕ → OpEffect
   binary_signed f stack = on_two stack (λ s t below. push_signed size (f s t) below)
 
   -- pop the top t and the second s, push 1 where f s t is true, else 0
-  abbrev compare : (ℕ → ℕ → Bool) → List ℕ → Outcome
+  abbrev compare : (ℕ → ℕ → Bool) → List ℕ → OpEffect
   compare f stack = on_two stack (λ s t below. tell (f s t) below)
 
   -- the effect of an operation on the stack
-  abbrev pub effect : Op → List ℕ → Outcome
+  abbrev pub effect : Op → List ℕ → OpEffect
   effect (Addr a) stack = push size a stack
-  effect Deref stack = on_top stack (λ t below. known Unreadable (read_at c t (byte_count size)) (λ v. push size v below))
+  effect Deref stack = on_top stack (λ t below. known (Unreadable t (byte_count size)) (read_at c t (byte_count size)) (λ v. push size v below))
   effect (Const v) stack = push size v stack
   effect Dup stack = on_top stack (λ t below. Next (t ∷ t ∷ below))
   effect Drop stack = on_top stack (λ t below. Next below)
@@ -142,9 +142,9 @@ module _ (c : Context) where
   effect Lt stack = compare (λ s t. int_lt (as_signed s) (as_signed t)) stack
   effect Ne stack = compare (λ s t. not (nat_eq s t)) stack
   effect (Skip i) stack = Jump i stack
-  effect (Breg r n) stack = known NoRegister (c.register r) (λ v. push_signed size (pos v +ℤ n) stack)
+  effect (Breg r n) stack = known (NoRegister r) (c.register r) (λ v. push_signed size (pos v +ℤ n) stack)
   effect (Fbreg n) stack = known NoFrameBase c.frame_base (λ v. push_signed size (pos v +ℤ n) stack)
-  effect (DerefSize k) stack = on_top stack (λ t below. known Unreadable (read_at c t k) (λ v. push size v below))
+  effect (DerefSize k) stack = on_top stack (λ t below. known (Unreadable t k) (read_at c t k) (λ v. push size v below))
   effect Nop stack = Next stack
   effect PushObjectAddress stack = known NoObject c.object (λ v. push size v stack)
   effect CallFrameCfa stack = known NoCfa c.cfa (λ v. push size v stack)
@@ -160,7 +160,7 @@ module _ (c : Context) where
     pub in_space : address + k ≤ address_limit size
 
   -- an operation reads from memory
-  pub record Reads (op : Op) (stack : List ℕ) : Type 0 where
+  pub record ReadsMemory (op : Op) (stack : List ℕ) : Type 0 where
     pub count : ℕ
     pub bytes : bytes_read size op ≡ Some count
     pub made : ReadsAt count stack

@@ -9,7 +9,7 @@ use Rattle.dw_eval.specs.declared.error.Kind.{Kind}
 use Rattle.dw_eval.specs.declared.error.Kind.TheVariants.{EmptyResult}
 use Rattle.dw_eval.specs.declared.env.Env.{Env}
 use Rattle.dw_eval.specs.Context.{Context, context}
-use Rattle.dw_eval.specs.Effect.{effect, leads, Reads}
+use Rattle.dw_eval.specs.Effect.{effect, leads, ReadsMemory}
 use Rattle.dw_eval.specs.Runs.{IsResult, MayFail}
 
 -- before an operation: its index and the stack, the top first
@@ -34,7 +34,7 @@ value_start first = record { index = 0; stack = first }
 
 -- an operation reads from memory
 abbrev pub value_reads : Context → Op → State → Type 0
-value_reads c op s = Reads c op s.stack
+value_reads c op s = ReadsMemory c op s.stack
 
 -- the top
 abbrev pub top_of : ℕ → List ℕ → Result ℕ EvalError

@@ -7,8 +7,8 @@ use Rattle.dw_eval.specs.declared.error.Kind.TheVariants.{StackUnderflow, Divide
 abbrev pub kind_entry : Kind → ℕ × List ℕ
 kind_entry StackUnderflow = (1, codes "StackUnderflow")
 kind_entry DivideByZero = (2, codes "DivideByZero")
-kind_entry NoRegister = (3, codes "NoRegister")
-kind_entry Unreadable = (4, codes "Unreadable")
+kind_entry (NoRegister r) = (3, codes "NoRegister")
+kind_entry (Unreadable a k) = (4, codes "Unreadable")
 kind_entry Device = (5, codes "Device")
 kind_entry StepLimit = (6, codes "StepLimit")
 kind_entry EmptyResult = (7, codes "EmptyResult")

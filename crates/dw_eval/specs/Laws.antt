@@ -1,14 +1,17 @@
 -- What holds of evaluations, for the layers above.
-use Rattle.std.specs.Prelude.{ℕ, ◌<◌, List, Ok}
+use Rattle.std.specs.Prelude.{ℕ, ◌<◌, List, Ok, Err}
 use Rattle.dw_op.specs.declared.op.Op.{Op}
 use Rattle.dw_op.specs.Ranges.{AllInRange}
 use Rattle.dw_num.specs.Target.{address_limit}
+use Rattle.dw_eval.specs.declared.error.EvalError.TheVariants.{Fault}
+use Rattle.dw_eval.specs.declared.error.Kind.{Kind}
 use Rattle.dw_eval.specs.declared.place.Piece.{Piece}
 use Rattle.dw_eval.specs.Context.{Context}
 use Rattle.dw_num.specs.Laws.{HoldsOfOne}
 use Rattle.dw_eval.specs.Evaluation.{Evaluates}
 use Rattle.dw_eval.specs.Location.{Located}
 use Rattle.dw_eval.specs.Space.{AreInSpace, ArePlacesInSpace}
+use Rattle.dw_eval.specs.Wanted.{IsMissing}
 
 -- an expression has exactly one answer, whatever is on the stack at the start
 abbrev pub OneResult : Type 0
@@ -27,3 +30,12 @@ ValuesInSpace =
 -- so are the addresses and values of the places that a description gives
 abbrev pub LocationsInSpace : Type 0
 LocationsInSpace = (ops : List Op) (c : Context) (limit : ℕ) (pieces : List Piece) → Located ops c limit (Ok pieces) → ArePlacesInSpace c.target.size pieces
+
+-- what a fault of an expression asks for is missing
+abbrev pub WantedByValue : Type 0
+WantedByValue =
+    (ops : List Op) (c : Context) (first : List ℕ) (limit : ℕ) (kind : Kind) (i : ℕ) → Evaluates ops c first limit (Err (Fault kind i)) → IsMissing c kind
+
+-- so is what a fault of a description asks for
+abbrev pub WantedByLocation : Type 0
+WantedByLocation = (ops : List Op) (c : Context) (limit : ℕ) (kind : Kind) (i : ℕ) → Located ops c limit (Err (Fault kind i)) → IsMissing c kind

@@ -7,5 +7,6 @@ pub mod Runs
 pub mod Evaluation
 pub mod Location
 pub mod Space
+pub mod Wanted
 pub mod Laws
 pub mod Inner

@@ -16,7 +16,7 @@ use Rattle.dw_eval.specs.declared.place.Place.{Place}
 use Rattle.dw_eval.specs.declared.place.Place.TheVariants.{Empty, Memory, Register, Value, Bytes}
 use Rattle.dw_eval.specs.declared.env.Env.{Env}
 use Rattle.dw_eval.specs.Context.{Context, context}
-use Rattle.dw_eval.specs.Effect.{Outcome, Faults, effect, leads, Reads}
+use Rattle.dw_eval.specs.Effect.{OpEffect, Faults, effect, leads, ReadsMemory}
 use Rattle.dw_eval.specs.Runs.{IsResult, MayFail}
 
 -- before an operation: its index, the stack, the place that waits for its piece, and the pieces so far
@@ -63,7 +63,7 @@ free_step c (BitPiece size offset) s = Ok (with_piece (Bits size offset) s)
 free_step c other s = leads (λ i stack. with_stack i stack s) s.index (effect c other s.stack)
 
 -- what is no piece: the stack is too short for it, or the piece is missing
-abbrev pub refused : Outcome → Result PlaceState Kind
+abbrev pub refused : OpEffect → Result PlaceState Kind
 refused (Faults StackUnderflow) = Err StackUnderflow
 refused other = Err MissingPiece
 
@@ -87,7 +87,7 @@ place_start = record { index = 0; stack = []; pending = None; pieces = [] }
 
 -- an operation reads from memory, where it is not refused
 abbrev pub place_reads : Context → Op → PlaceState → Type 0
-place_reads c op s = (s.pending ≡ None) × Reads c op s.stack
+place_reads c op s = (s.pending ≡ None) × ReadsMemory c op s.stack
 
 -- at the end of a list of this length: one whole piece where there is none yet, and nothing is left behind pieces
 abbrev pub pieces_of : ℕ → Option Place → List ℕ → List Piece → Result (List Piece) EvalError

@@ -5,7 +5,7 @@ ghost use Rattle.dw_num.specs.Target.{address_limit, byte_count};
 ghost use Rattle.dw_op.specs.declared.op.Op.TheVariants.{DerefSize};
 ghost use Rattle.dw_eval.specs.declared.error.Kind.TheVariants.{Unreadable};
 ghost use Rattle.dw_eval.specs.Context.{context, read_at};
-ghost use Rattle.dw_eval.specs.Effect.{on_top, known, push, effect, ReadsAt, Reads};
+ghost use Rattle.dw_eval.specs.Effect.{on_top, known, push, effect, ReadsAt, ReadsMemory};
 ghost use Rattle.dw_eval.specs.Inner.Steps.{Acts};
 
 use crate::env::Env;
@@ -34,16 +34,16 @@ fn read<M: Memory>(stack: &mut Stack, len: usize, env: &Env<'_>, memory: &mut M)
     requires most { len ≤ byte_count env.now.target.size }
     requires room { M.failures memory.old < 2 ^ 64 - 1 }
     ensures same { M.byte memory.new ≡ M.byte memory.old }
-    ensures acts { let c = context env.now (M.byte memory.old) in Acts (on_top stack.old (λ t below. known Unreadable (read_at c t len) (λ v. push env.now.target.size v below))) (ReadsAt c len stack.old) (M.failures memory.old) result stack.new (M.failures memory.new) }
+    ensures acts { let c = context env.now (M.byte memory.old) in Acts (on_top stack.old (λ t below. known (Unreadable t len) (read_at c t len) (λ v. push env.now.target.size v below))) (ReadsAt c len stack.old) (M.failures memory.old) result stack.new (M.failures memory.new) }
 {
     let target = env.target;
     let address = stack.take()?;
     if !is_in_space(address, len, target.size) {
-        return Err(Stop::Fault(Kind::Unreadable));
+        return Err(Stop::Fault(Kind::Unreadable { address, len }));
     }
     match memory.read(address, len, target.order) {
         Ok(number) => stack.put_number(number, target.size),
-        Err(ReadFault::Unreadable) => Err(Stop::Fault(Kind::Unreadable)),
+        Err(ReadFault::Unreadable) => Err(Stop::Fault(Kind::Unreadable { address, len })),
         Err(ReadFault::Device) => Err(Stop::Device),
     }
 }
@@ -59,7 +59,7 @@ pub(crate) fn act<M: Memory>(
     requires access { (len : ℕ) → op.now ≡ DerefSize len → (1 ≤ len) × (len ≤ byte_count env.now.target.size) }
     requires room { M.failures memory.old < 2 ^ 64 - 1 }
     ensures same { M.byte memory.new ≡ M.byte memory.old }
-    ensures acts { let c = context env.now (M.byte memory.old) in Acts (effect c op.now stack.old) (Reads c op.now stack.old) (M.failures memory.old) result stack.new (M.failures memory.new) }
+    ensures acts { let c = context env.now (M.byte memory.old) in Acts (effect c op.now stack.old) (ReadsMemory c op.now stack.old) (M.failures memory.old) result stack.new (M.failures memory.new) }
 {
     let size = env.target.size;
     match *op {
@@ -98,7 +98,7 @@ pub(crate) fn act<M: Memory>(
         Op::Breg(register, by) => stack.put_offset(
             env.registers.get(register),
             by,
-            Kind::NoRegister,
+            Kind::NoRegister { register },
             size,
         ),
         Op::Fbreg(by) => stack.put_offset(env.frame_base, by, Kind::NoFrameBase, size),

@@ -7,7 +7,7 @@ ghost use Rattle.dw_op.specs.Expression.{bare};
 ghost use Rattle.dw_eval.specs.declared.error.EvalError.TheVariants.{Fault, OutOfMemory};
 ghost use Rattle.dw_eval.specs.declared.error.Kind.TheVariants.{MissingPiece};
 ghost use Rattle.dw_eval.specs.Context.{context};
-ghost use Rattle.dw_eval.specs.Effect.{effect, Reads, leads};
+ghost use Rattle.dw_eval.specs.Effect.{effect, ReadsMemory, leads};
 ghost use Rattle.dw_eval.specs.Location.{place_step, place_reads, place_here, with_piece, with_place, with_stack, with_value, pieces_of};
 ghost use Rattle.dw_eval.specs.Inner.Roles.{free_by, held_by, refused_by, step_of};
 ghost use Rattle.dw_eval.specs.Inner.Steps.{StepsTo};
@@ -139,7 +139,7 @@ impl<'a> Description<'a> {
         requires access { (len : ℕ) → op.now ≡ DerefSize len → (1 ≤ len) × (len ≤ byte_count env.now.target.size) }
         requires room { M.failures memory.old < 2 ^ 64 - 1 }
         ensures same { M.byte memory.new ≡ M.byte memory.old }
-        ensures so { let c = context env.now (M.byte memory.old) in StepsTo (let s = state_of index self.old in leads (λ i stack. with_stack i stack s) s.index (effect c (bare op.now) self.old.stack)) (Reads c (bare op.now) self.old.stack) index (M.failures memory.old) (λ next. state_of next self.new) result (M.failures memory.new) }
+        ensures so { let c = context env.now (M.byte memory.old) in StepsTo (let s = state_of index self.old in leads (λ i stack. with_stack i stack s) s.index (effect c (bare op.now) self.old.stack)) (ReadsMemory c (bare op.now) self.old.stack) index (M.failures memory.old) (λ next. state_of next self.new) result (M.failures memory.new) }
     {
         let answer = act(op, &mut self.stack, env, memory);
         reached(answer, index)
@@ -159,7 +159,7 @@ impl<'a> Description<'a> {
         requires access { (len : ℕ) → op.now ≡ DerefSize len → (1 ≤ len) × (len ≤ byte_count env.now.target.size) }
         requires room { M.failures memory.old < 2 ^ 64 - 1 }
         ensures same { M.byte memory.new ≡ M.byte memory.old }
-        ensures so { let c = context env.now (M.byte memory.old) in StepsTo (free_by c (bare op.now) (bare_role role.entry) (state_of index self.old)) (Reads c (bare op.now) self.old.stack) index (M.failures memory.old) (λ next. state_of next self.new) result (M.failures memory.new) }
+        ensures so { let c = context env.now (M.byte memory.old) in StepsTo (free_by c (bare op.now) (bare_role role.entry) (state_of index self.old)) (ReadsMemory c (bare op.now) self.old.stack) index (M.failures memory.old) (λ next. state_of next self.new) result (M.failures memory.new) }
     {
         match role {
             Role::SetsPlace(place) => self.set(place, index),

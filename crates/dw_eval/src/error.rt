@@ -14,9 +14,17 @@ pub enum Kind {
     /// The divisor of a `DW_OP_div` or a `DW_OP_mod` is 0.
     DivideByZero,
     /// A register that `DW_OP_breg0` to `DW_OP_bregx` name holds nothing.
-    NoRegister,
+    NoRegister {
+        /// The register's number.
+        register: u16,
+    },
     /// A byte of memory is missing, or the bytes pass 2^N, where an address has N bits.
-    Unreadable,
+    Unreadable {
+        /// The first address that was read.
+        address: u64,
+        /// How many bytes from there on were asked for.
+        len: usize,
+    },
     /// The memory's device failed.
     Device,
     /// As many steps as the limit were taken, and the end is not reached.
@@ -43,8 +51,8 @@ impl Kind {
         match self {
             Kind::StackUnderflow => 1,
             Kind::DivideByZero => 2,
-            Kind::NoRegister => 3,
-            Kind::Unreadable => 4,
+            Kind::NoRegister { .. } => 3,
+            Kind::Unreadable { .. } => 4,
             Kind::Device => 5,
             Kind::StepLimit => 6,
             Kind::EmptyResult => 7,
@@ -63,8 +71,8 @@ impl Kind {
         match self {
             Kind::StackUnderflow => "StackUnderflow",
             Kind::DivideByZero => "DivideByZero",
-            Kind::NoRegister => "NoRegister",
-            Kind::Unreadable => "Unreadable",
+            Kind::NoRegister { .. } => "NoRegister",
+            Kind::Unreadable { .. } => "Unreadable",
             Kind::Device => "Device",
             Kind::StepLimit => "StepLimit",
             Kind::EmptyResult => "EmptyResult",

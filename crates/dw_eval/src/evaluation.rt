@@ -9,7 +9,7 @@ ghost use Rattle.dw_eval.specs.declared.error.EvalError.TheVariants.{Fault, OutO
 ghost use Rattle.dw_eval.specs.declared.error.Kind.{Kind};
 ghost use Rattle.dw_eval.specs.declared.error.Kind.TheVariants.{Device};
 ghost use Rattle.dw_eval.specs.Context.{context};
-ghost use Rattle.dw_eval.specs.Effect.{Reads};
+ghost use Rattle.dw_eval.specs.Effect.{ReadsMemory};
 ghost use Rattle.dw_eval.specs.Evaluation.{value_step, first_stack, top_of, EvaluatesIn, MayFailIn};
 ghost use Rattle.dw_eval.specs.Inner.Evaluation.{EvaluatesOver};
 ghost use Rattle.dw_eval.specs.Inner.Steps.{reached, StepsTo};
@@ -79,7 +79,7 @@ fn step<M: Memory>(
     requires access { (len : ℕ) → op.now ≡ DerefSize len → (1 ≤ len) × (len ≤ byte_count env.now.target.size) }
     requires room { M.failures memory.old < 2 ^ 64 - 1 }
     ensures same { M.byte memory.new ≡ M.byte memory.old }
-    ensures so { let c = context env.now (M.byte memory.old) in StepsTo (value_step c (bare op.now) (record { index = index; stack = stack.old })) (Reads c (bare op.now) stack.old) index (M.failures memory.old) (λ next. record { index = next; stack = stack.new }) result (M.failures memory.new) }
+    ensures so { let c = context env.now (M.byte memory.old) in StepsTo (value_step c (bare op.now) (record { index = index; stack = stack.old })) (ReadsMemory c (bare op.now) stack.old) index (M.failures memory.old) (λ next. record { index = next; stack = stack.new }) result (M.failures memory.new) }
 {
     let answer = act(op, stack, env, memory);
     reached(answer, index)

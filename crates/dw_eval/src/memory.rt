@@ -1,7 +1,7 @@
 //! A memory that may fail.
 
 ghost use Rattle.std.specs.Prelude.{◌≡◌, ℕ, ◌<◌, ◌≤◌, ◌-◌, ◌^◌, Option, Some, None, IfOk};
-ghost use Rattle.dw_eval.specs.Bytes.{number_at};
+ghost use Rattle.dw_eval.specs.Bytes.{number_in_memory};
 
 use dw_num::Order;
 use std::error::Error;
@@ -41,7 +41,7 @@ pub trait Memory {
         requires most { len ≤ 8 }
         requires room { failures self.old < 2 ^ 64 - 1 }
         ensures same { byte self.new ≡ byte self.old }
-        ensures found { IfOk result (λ v. (number_at (byte self.old) order address len ≡ Some v) × (failures self.new ≡ failures self.old)) }
-        ensures missing { result ≡ Err ReadFault.Unreadable → (number_at (byte self.old) order address len ≡ None) × (failures self.new ≡ failures self.old) }
+        ensures found { IfOk result (λ v. (number_in_memory (byte self.old) order address len ≡ Some v) × (failures self.new ≡ failures self.old)) }
+        ensures missing { result ≡ Err ReadFault.Unreadable → (number_in_memory (byte self.old) order address len ≡ None) × (failures self.new ≡ failures self.old) }
         ensures device { result ≡ Err ReadFault.Device → failures self.old < failures self.new };
 }

@@ -2,7 +2,7 @@
 
 ghost use Rattle.std.specs.Prelude.{◌≡◌, ℕ, List, [], ◌∷◌, length, slice_get, MatchOption, IfOk, IfErr};
 ghost use Rattle.dw_eval.specs.declared.error.Kind.TheVariants.{StackUnderflow};
-ghost use Rattle.dw_eval.specs.Effect.{Outcome, Next, Faults, on_top, on_two, on_three};
+ghost use Rattle.dw_eval.specs.Effect.{OpEffect, Next, Faults, on_top, on_two, on_three};
 ghost use Rattle.dw_eval.specs.Inner.Steps.{Does};
 
 use crate::error::Kind;
@@ -99,7 +99,7 @@ impl Stack {
     /// Takes the top, of which there has to be one.
     pub(crate) fn take(&mut self) -> Result<u64, Stop>
         ensures found { IfOk result (λ t. self.old ≡ t ∷ self.new) }
-        ensures short { IfErr result (λ e. (e ≡ Stop.Fault StackUnderflow) × ((f : ℕ → List ℕ → Outcome) → on_top self.old f ≡ Faults StackUnderflow)) }
+        ensures short { IfErr result (λ e. (e ≡ Stop.Fault StackUnderflow) × ((f : ℕ → List ℕ → OpEffect) → on_top self.old f ≡ Faults StackUnderflow)) }
     {
         match self.pop() {
             Some(top) => Ok(top),
@@ -110,7 +110,7 @@ impl Stack {
     /// Takes the second and the top, in this order, of which there have to be two.
     pub(crate) fn take_two(&mut self) -> Result<(u64, u64), Stop>
         ensures found { IfOk result (λ p. self.old ≡ p.1 ∷ p.0 ∷ self.new) }
-        ensures short { IfErr result (λ e. (e ≡ Stop.Fault StackUnderflow) × ((f : ℕ → ℕ → List ℕ → Outcome) → on_two self.old f ≡ Faults StackUnderflow)) }
+        ensures short { IfErr result (λ e. (e ≡ Stop.Fault StackUnderflow) × ((f : ℕ → ℕ → List ℕ → OpEffect) → on_two self.old f ≡ Faults StackUnderflow)) }
     {
         let Some(top) = self.pop() else {
             return Err(Stop::Fault(Kind::StackUnderflow));
@@ -124,7 +124,7 @@ impl Stack {
     /// Takes the third, the second and the top, in this order, of which there have to be three.
     pub(crate) fn take_three(&mut self) -> Result<(u64, u64, u64), Stop>
         ensures found { IfOk result (λ p. self.old ≡ p.2 ∷ p.1 ∷ p.0 ∷ self.new) }
-        ensures short { IfErr result (λ e. (e ≡ Stop.Fault StackUnderflow) × ((f : ℕ → ℕ → ℕ → List ℕ → Outcome) → on_three self.old f ≡ Faults StackUnderflow)) }
+        ensures short { IfErr result (λ e. (e ≡ Stop.Fault StackUnderflow) × ((f : ℕ → ℕ → ℕ → List ℕ → OpEffect) → on_three self.old f ≡ Faults StackUnderflow)) }
     {
         let Some(top) = self.pop() else {
             return Err(Stop::Fault(Kind::StackUnderflow));

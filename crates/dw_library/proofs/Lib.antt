@@ -1,4 +1,4 @@
-mod Frames
 mod Overlays
 mod JoinedBlocks
 mod Written
+mod FramesAt

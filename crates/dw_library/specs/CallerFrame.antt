@@ -2,6 +2,8 @@
 use Rattle.std.specs.Prelude.{◌≡◌, ◌⊎◌, ℕ, List, Result, map, length, Option, Some, None, Ok, Err, nat_eq, if◌then◌else◌}
 use Rattle.dw_num.specs.declared.refusal.Refusal.{Refusal}
 use Rattle.dw_num.specs.declared.target.Target.{Target}
+use Rattle.dw_eval.specs.declared.error.Kind.{Kind}
+use Rattle.dw_eval.specs.declared.error.Kind.TheVariants as kinds
 use Rattle.dw_eval.specs.Kinds.{kind_entry}
 use Rattle.dw_eval.specs.Registers.{held}
 use Rattle.dw_section.specs.Accepted.{Accepted, CheckFault}
@@ -34,15 +36,29 @@ column_of Cfa = 65536
 column_of (RegisterColumn r) = r
 
 abbrev pub no_fault : Fault
-no_fault = record { column = 0; kind = 0; index = 0 }
+no_fault = record { column = 0; kind = 0; index = 0; address = 0; len = 0; wanted = 0 }
 
 abbrev pub fault_in : Column → Fault
-fault_in column = record { column = column_of column; kind = 0; index = 0 }
+fault_in column = record { column = column_of column; kind = 0; index = 0; address = 0; len = 0; wanted = 0 }
+
+-- a read of so many bytes from an address on, in a column or in an operation of its expression
+abbrev pub fault_of_read : Column → ℕ → ℕ → ℕ → ℕ → Fault
+fault_of_read column kind index a k = record { column = column_of column; kind = kind; index = index; address = a; len = k; wanted = 0 }
+
+-- a register that holds nothing
+abbrev pub fault_of_register : Column → ℕ → ℕ → ℕ → Fault
+fault_of_register column kind index r = record { column = column_of column; kind = kind; index = index; address = 0; len = 0; wanted = r }
+
+-- in an expression, with what it wanted
+abbrev pub fault_of_kind : Kind → ℕ → Column → Fault
+fault_of_kind (kinds.Unreadable a k) index column = fault_of_read column 4 index a k
+fault_of_kind (kinds.NoRegister r) index column = fault_of_register column 3 index r
+fault_of_kind kind index column = record { column = column_of column; kind = (kind_entry kind).0; index = index; address = 0; len = 0; wanted = 0 }
 
 abbrev pub told_fault : UnwindError → Fault
-told_fault (errors.Eval kind index column) = record { column = column_of column; kind = (kind_entry kind).0; index = index }
-told_fault (errors.Unreadable column) = fault_in column
-told_fault (errors.NoRegister column) = fault_in column
+told_fault (errors.Eval kind index column) = fault_of_kind kind index column
+told_fault (errors.Unreadable column a k) = fault_of_read column 0 0 a k
+told_fault (errors.NoRegister column r) = fault_of_register column 0 0 r
 told_fault (errors.Device column) = fault_in column
 told_fault errors.NoFde = no_fault
 told_fault errors.OutOfMemory = no_fault
@@ -50,8 +66,8 @@ told_fault errors.OutOfMemory = no_fault
 abbrev pub status_of : UnwindError → ℕ
 status_of errors.NoFde = 5
 status_of (errors.Eval kind index column) = 6
-status_of (errors.Unreadable column) = 7
-status_of (errors.NoRegister column) = 8
+status_of (errors.Unreadable column a k) = 7
+status_of (errors.NoRegister column r) = 8
 status_of (errors.Device column) = 9
 status_of errors.OutOfMemory = out_of_memory
 

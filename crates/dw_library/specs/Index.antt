@@ -59,13 +59,13 @@ abbrev pub other_of : RegRule → ℕ
 other_of (Register r) = r
 other_of rule = 0
 
-abbrev pub offset_of : RegRule → ℤ
-offset_of (Offset n) = n
-offset_of (ValOffset n) = n
-offset_of rule = pos 0
+abbrev pub rule_offset : RegRule → ℤ
+rule_offset (Offset n) = n
+rule_offset (ValOffset n) = n
+rule_offset rule = pos 0
 
 abbrev pub rule_of : ℕ × RegRule → Rule
-rule_of entry = record { number = entry.0; kind = kind_of entry.1; other = other_of entry.1; offset = offset_of entry.1 }
+rule_of entry = record { number = entry.0; kind = kind_of entry.1; other = other_of entry.1; offset = rule_offset entry.1 }
 
 abbrev pub cfa_kind_of : CfaRule → ℕ
 cfa_kind_of cfa.Unset = 0

@@ -5,6 +5,7 @@ pub mod Forms
 pub mod Windows
 pub mod Registers
 pub mod CallerFrame
+pub mod FrameAt
 pub mod Inner
 pub mod Index
 pub mod Expressions

@@ -56,4 +56,4 @@ AreLooks (Some target) s asked rows rules t why =
     (((length asked ≤ length rows) × Accepted target s × TellsLooks target s asked rows rules t) × (why ≡ not_refused))
     ⊎ ((length rows < length asked) × (t ≡ tells too_short rows rules) × (why ≡ not_refused))
     ⊎ ((t ≡ tells out_of_memory rows rules) × (why ≡ not_refused))
-    ⊎ ((r : Refusal) × CheckFault target s r × (t ≡ tells refused rows rules) × (why ≡ told 1 r))
+    ⊎ ((length asked ≤ length rows) × ((r : Refusal) × CheckFault target s r × (t ≡ tells refused rows rules) × (why ≡ told 1 r)))

@@ -12,7 +12,7 @@ ghost use Rattle.dw_library.specs.Inner.Expressions.{Adds};
 use crate::answer::{
     BAD_ARGUMENT, OK, OUT_OF_MEMORY, REFUSED, Refused, TOO_SHORT, not_refused, target_of, told,
 };
-use crate::caller::CFA;
+use crate::caller::COLUMN_CFA;
 use crate::index::{BAD_INDEX, NO_FDE};
 use dw_cfa::{CfaRule, RegRule, Row, RowRoom};
 use dw_num::Target;
@@ -65,7 +65,7 @@ impl Gathered {
         ensures { OnOk result (Adds (in_cfa rule.now) self.old self.new) }
     {
         match rule {
-            CfaRule::Expression(expression) => self.add(CFA, expression),
+            CfaRule::Expression(expression) => self.add(COLUMN_CFA, expression),
             _ => Ok(()),
         }
     }

@@ -10,6 +10,7 @@ mod answer;
 mod caller;
 mod expressions;
 mod forms;
+mod frame_at;
 mod index;
 mod looks;
 mod refusal_name;

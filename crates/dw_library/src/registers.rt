@@ -1,6 +1,6 @@
 //! Registers that a caller lends, and those that it is told.
 
-ghost use Rattle.std.specs.Prelude.{◌≡◌, ℕ, IfOk, OnOk, OnErr, map};
+ghost use Rattle.std.specs.Prelude.{◌≡◌, ℕ, IfOk, OnOk, map};
 ghost use Rattle.dw_eval.specs.Registers.{held};
 ghost use Rattle.dw_library.specs.Registers.{first_of, value_in, given_in, told_register, AreTold};
 
@@ -30,7 +30,7 @@ fn give(registers: &mut Registers, register: Register) -> Result<(), AllocError>
     registers.set(register.number, register.value)
 }
 
-/// What these registers hold: of those with one number the first that is known counts.
+/// What these registers hold. If a register is given twice, its first known value is used.
 pub(crate) fn registers_of(alloc: Global, given: &[Register]) -> Result<Registers, AllocError>
     ensures { IfOk result (λ registers. (r : ℕ) → held registers r ≡ given_in given.now r) }
 {
@@ -60,35 +60,15 @@ fn told_register(entry: (u16, Option<u64>)) -> Register
     }
 }
 
-fn told(alloc: Global, entries: &[(u16, Option<u64>)]) -> Result<Vec<Register>, AllocError>
-    ensures { IfOk result (λ registers. registers.items ≡ map told_register entries.now) }
+/// Writes registers to the front of a buffer, where they fit.
+pub(crate) fn put_registers(entries: &[(u16, Option<u64>)], out: &mut [Register]) -> u32
+    ensures { AreTold (map told_register entries.now) out.old result out.new }
 {
-    let mut registers = Vec::new(alloc);
-    for entry in entries {
-        registers.push(told_register(*entry))?;
-    }
-    Ok(registers)
-}
-
-fn put(registers: &[Register], out: &mut [Register]) -> u32
-    ensures { AreTold registers.now out.old result out.new }
-{
-    if out.len() < registers.len() {
+    if out.len() < entries.len() {
         return TOO_SHORT;
     }
-    out[..registers.len()].copy_from_slice(registers);
+    'entries: for place in 0..entries.len() {
+        out[place] = told_register(entries[place]);
+    }
     OK
-}
-
-/// Writes registers to the front of a buffer, where they fit.
-pub(crate) fn put_registers(
-    alloc: Global,
-    entries: &[(u16, Option<u64>)],
-    out: &mut [Register],
-) -> Result<u32, AllocError>
-    ensures told { IfOk result (λ status. AreTold (map told_register entries.now) out.old status out.new) }
-    ensures kept { OnErr result (out.new ≡ out.old) }
-{
-    let registers = told(alloc, entries)?;
-    Ok(put(&registers, out))
 }

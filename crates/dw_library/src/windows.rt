@@ -3,7 +3,7 @@
 ghost use Rattle.std.specs.Prelude.{◌≡◌, ◌≤◌, true, Some, None, length};
 ghost use Rattle.std.specs.Bool.{MatchBool};
 ghost use Rattle.dw_num.specs.Fixed.{fixed_number};
-ghost use Rattle.dw_eval.specs.Bytes.{bytes_from, number_at};
+ghost use Rattle.dw_eval.specs.Bytes.{bytes_from, number_in_memory};
 ghost use Rattle.dw_library.specs.Windows.{covers, byte_of, byte_among};
 
 use byteorder::{BigEndian, ByteOrder, LittleEndian};
@@ -87,7 +87,7 @@ fn number_of(order: Order, bytes: &[u8]) -> u64
 }
 
 // The number that the bytes from an address on spell, unless one of them is missing.
-#[tactic(auto, unfolding(dw_eval::specs::Bytes::number_at))]
+#[tactic(auto, unfolding(dw_eval::specs::Bytes::number_in_memory))]
 fn number_from(
     windows: &[Window],
     bytes: &[u8],
@@ -97,7 +97,7 @@ fn number_from(
 ) -> Option<u64>
     requires some { 1 ≤ len }
     requires most { len ≤ 8 }
-    ensures { result ≡ number_at (byte_among bytes.now windows.now) order address len }
+    ensures { result ≡ number_in_memory (byte_among bytes.now windows.now) order address len }
 {
     let mut buffer = [0; 8];
     let spelled = &mut buffer[..len];

@@ -1,6 +1,6 @@
 -- What stands behind the length of an FDE, as it is built.
 use Rattle.dw_normal.proofs.Words.{◌≡◌, ℕ, ◌+◌, ◌-◌, List, ◌++◌, length, Result, Ok, Err, sym, ap, ◌∙◌, append_assoc, OnOk, replicate, length-append, Target, Rules, Fde, fde_instrs, initial_of, difference, later_changes, Member}
-use Rattle.dw_normal.proofs.Words.{program_bytes, fde, nop_count, filled, contents, missing, fde_fields, Begins, later_bytes, shown_row, Begun}
+use Rattle.dw_normal.proofs.Words.{program_bytes, fde, nop_count, filled, contents, missing, fde_field_bytes, IsBegun, later_bytes, shown_row, Begun}
 use Rattle.dw_num.specs.declared.target.Size.{Size}
 use Rattle.dw_normal.proofs.Passes.{program_more}
 
@@ -25,11 +25,11 @@ abbrev parts : Target → ℕ → ℕ → ℕ → Rules → Rules → ℕ → Li
 parts t cie_at begin range shared first from later =
     contents t (fde cie_at begin range (difference shared shared first ++ later_changes shared from first later) (program_bytes t (difference shared shared first ++ later_changes shared from first later)))
 
-pub fde_filled : (t : Target) (ms : List Member) (m : Member) (b : Begun) (cie_at from : ℕ) (cleared fields first out new : List ℕ) → Begins ms m b → from ≡ b.fde.begin → length cleared ≡ 4
-    → fields ≡ cleared ++ fde_fields t cie_at b.fde.begin (b.fde.end - from) → first ≡ fields ++ program_bytes t (difference b.shared.now b.shared.now (shown_row b.changes)) → out ≡ first ++ later_bytes t b.shared.now from b.changes
+pub fde_filled : (t : Target) (ms : List Member) (m : Member) (b : Begun) (cie_at from : ℕ) (cleared fields first out new : List ℕ) → IsBegun ms m b → from ≡ b.fde.begin → length cleared ≡ 4
+    → fields ≡ cleared ++ fde_field_bytes t cie_at b.fde.begin (b.fde.end - from) → first ≡ fields ++ program_bytes t (difference b.shared.now b.shared.now (shown_row b.changes)) → out ≡ first ++ later_bytes t b.shared.now from b.changes
     → new ≡ out ++ replicate (missing t.size (length out)) 0 → new ≡ cleared ++ contents t (fde cie_at m.begin (m.end - m.begin) (fde_instrs (initial_of ms m.register) m) (program_bytes t (fde_instrs (initial_of ms m.register) m)))
 fde_filled t ms m b cie_at from cleared fields first out new is at none f d l n =
-    let own = fde_fields t cie_at b.fde.begin (b.fde.end - from) in
+    let own = fde_field_bytes t cie_at b.fde.begin (b.fde.end - from) in
     let begins = difference b.shared.now b.shared.now (shown_row b.changes) in
     let goes = later_changes b.shared.now from (shown_row b.changes) b.changes.to_come in
     let front : first ≡ cleared ++ (own ++ program_bytes t begins) = d ∙ ap (λ (k : List ℕ). k ++ program_bytes t begins) f ∙ append_assoc cleared own (program_bytes t begins) in

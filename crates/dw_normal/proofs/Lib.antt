@@ -14,6 +14,7 @@ mod Grouped
 mod Again
 mod KnownCies
 mod Reports
+mod FaultPlaces
 mod Placed
 mod Alike
 mod CiePairs

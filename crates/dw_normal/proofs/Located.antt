@@ -1,6 +1,6 @@
 -- An FDE that was begun, among the entries of the normal form.
 use Rattle.dw_normal.proofs.Words.{◌≡◌, ℕ, ◌+◌, ◌++◌, ◌<◌, ◌≤◌, List, length, get_or, Some, sym, ap, ◌∙◌, arith, ◌^◌, length-append, fixed_bytes, AreBytes, length-fixed, Target, address_limit, Rules, Accepted, Fde, groups_of, part_of}
-use Rattle.dw_normal.proofs.Words.{canon, initial_of, place_of, IsPart, Member, AreMembers, contents, Begins, initial_rows, cies_bytes, place_in, cie_place, fde_with, Begun}
+use Rattle.dw_normal.proofs.Words.{canon, initial_of, place_of, IsPart, Member, AreMembers, contents, IsBegun, initial_rows, cies_bytes, place_in, cie_place, fde_with, Begun}
 use Rattle.dw_normal.proofs.Entries.{one_long, contents_less, part_at}
 use Rattle.dw_normal.proofs.Placed.{row_in}
 use Rattle.dw_normal.proofs.Summed.{canon_length}
@@ -24,7 +24,7 @@ pub record Located (t : Target) (s : List ℕ) (ms : List Member) (k : ℕ) (d :
   pub are : AreMembers t s ms
   pub small : length (canon t ms) ≤ 2147483647
   pub lt : k < length ms
-  pub is : Begins ms (get_or ms k d) begun
+  pub is : IsBegun ms (get_or ms k d) begun
   pub rows_are : rows ≡ initial_rows ms
   pub kept : (r : ℕ) → place_in places r ≡ cie_place t 0 rows r
 

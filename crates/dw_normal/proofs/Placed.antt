@@ -1,7 +1,7 @@
 -- What is so of an FDE of a table, and of the initial row of its group.
 use Rattle.dw_normal.proofs.Words.{◌≡◌, ℕ, zero, suc, ◌<◌, ◌≤◌, List, [], ◌∷◌, length, map, get_or, Option, Some, refl, sym, ap, ◌∙◌, subst, inl, inr, arith, IsSome, nat_eq, get_or-map, AllByRecursion, cases_Bool, eq-eqb, length-map}
 use Rattle.dw_normal.proofs.Words.{AreBytes, address_limit, Target, Rules, Accepted, Fde, AreFdes, RowFits, all_get, return_registers, cie_instrs, initial_of, difference, ChangesStand, MemberStands, InstrFits, group, Member, fde_of}
-use Rattle.dw_normal.proofs.Words.{AreMembers, difference_fits, cie_fits, fits, stand, group_fits, initial_rows, row_of, Begins, IsReady, IsShown, shown_row, Begun, members_exist}
+use Rattle.dw_normal.proofs.Words.{AreMembers, difference_fits, cie_fits, fits, stand, group_fits, initial_rows, row_of, IsBegun, IsReady, IsShown, shown_row, Begun, members_exist}
 use Rattle.dw_normal.specs.Inner.Apart.{StandsApart}
 use Rattle.dw_normal.proofs.Grouped.{some_of, look_members, no_member}
 
@@ -66,7 +66,7 @@ module _ (t : Target) (s : List ℕ) (b : AreBytes s) (ok : Accepted t s) (ms : 
     pub row_in : (rows : List (ℕ × Rules)) (r : ℕ) → rows ≡ initial_rows ms → r ≡ m.register → row_of rows r ≡ Some initial
     row_in rows r are own = ap (λ (l : List (ℕ × Rules)). row_of l r) are ∙ ap (row_of (initial_rows ms)) own ∙ row_at
 
-    pub ready_at : (begun : Begun) → Begins ms m begun → IsShown begun.changes → StandsApart begun.apart begun.shared.now (shown_row begun.changes) → IsReady t begun
+    pub ready_at : (begun : Begun) → IsBegun ms m begun → IsShown begun.changes → StandsApart begun.apart begun.shared.now (shown_row begun.changes) → IsReady t begun
     ready_at begun is shown apart = record {
       apart = apart;
       first =

@@ -1,6 +1,6 @@
 -- An FDE of a table whose program is plain, where the row at its begin is known.
 use Rattle.dw_normal.proofs.Words.{◌≡◌, ◌⊎◌, ℕ, ◌-◌, ◌<◌, ◌≤◌, false, List, length, map, get_or, Option, Some, None, Result, Ok, Err, refl, sym, ap, ◌∙◌, subst, arith, inl, inr, IfOk, IfSome, OnOk, get_or-map, AreFdes, AreBytes, Target, Rules, Accepted, Fde, OpensBehind}
-use Rattle.dw_normal.proofs.Words.{all_get, nonempty, difference, canon, initial_of, Member, AreMembers, fde_of, Begins, Begun, initial_rows, row_of, place_in, cie_place, program_bytes, shown_row}
+use Rattle.dw_normal.proofs.Words.{all_get, nonempty, difference, canon, initial_of, Member, AreMembers, fde_of, IsBegun, Begun, initial_rows, row_of, place_in, cie_place, program_bytes, shown_row}
 use Rattle.dw_cfa.specs.declared.instr.Factors.{Factors}
 use Rattle.dw_section.specs.Opening.{HasProgram}
 use Rattle.dw_section.specs.declared.opening.CieRow.{CieRow}
@@ -39,7 +39,7 @@ module _ {t : Target} {s : List ℕ} (b : AreBytes s) (ok : Accepted t s) {ms : 
   abbrev pub as_begun : Begun
   as_begun = record { fde = begun.fde; shared = begun.shared; changes = record { section = begun.changes.section; to_come = m.later; shown = Some m.first; before = None; failed = false }; apart = begun.apart }
 
-  begins : Begins ms m as_begun
+  begins : IsBegun ms m as_begun
   begins = record { fde = is; shared = shared_is; first = refl; later = refl }
 
   pub turned : (places : List (ℕ × ℕ)) → length (canon t ms) ≤ 2147483647 → ((r : ℕ) → place_in places r ≡ cie_place t 0 rows r) → Located t s ms k d as_begun rows places
@@ -82,7 +82,7 @@ module _ (t : Target) (s : List ℕ) where
 
   -- one that was found at an FDE
   pub first_known : AreBytes s → Accepted t s → (o : Option Opened) (behind : Option CieRow) (begun : Begun) → KeepsFirst t behind begun o → (place : ℕ) → ((ms : List Member) → AreMembers t s ms → place < length ms)
-      → ((ms : List Member) → AreMembers t s ms → (d : Member) → IfSome behind (OpensBehind t s (fde_of (get_or ms place d)))) → ((ms : List Member) → AreMembers t s ms → (d : Member) → Begins ms (get_or ms place d) begun)
+      → ((ms : List Member) → AreMembers t s ms → (d : Member) → IfSome behind (OpensBehind t s (fde_of (get_or ms place d)))) → ((ms : List Member) → AreMembers t s ms → (d : Member) → IsBegun ms (get_or ms place d) begun)
       → FirstIs t s o
   first_known b ok o behind begun kept place lt opens found =
       let own = kept.own in
@@ -107,6 +107,6 @@ module _ (t : Target) (s : List ℕ) where
 
   pub kept_known : AreBytes s → Accepted t s → (old new : Option Opened) (behind : Option CieRow) (begun : Begun) → (new ≡ old) ⊎ KeepsFirst t behind begun new → FirstIs t s old → (place : ℕ)
       → ((ms : List Member) → AreMembers t s ms → place < length ms) → ((ms : List Member) → AreMembers t s ms → (d : Member) → IfSome behind (OpensBehind t s (fde_of (get_or ms place d))))
-      → ((ms : List Member) → AreMembers t s ms → (d : Member) → Begins ms (get_or ms place d) begun) → FirstIs t s new
+      → ((ms : List Member) → AreMembers t s ms → (d : Member) → IsBegun ms (get_or ms place d) begun) → FirstIs t s new
   kept_known b ok old new behind begun (inl same) is place lt opens found = subst (FirstIs t s) (sym same) is
   kept_known b ok old new behind begun (inr kept) is place lt opens found = first_known b ok new behind begun kept place lt opens found

@@ -7,17 +7,17 @@ use Rattle.dw_num.specs.Input.{Input}
 use Rattle.dw_num.specs.Span.{input_of}
 use Rattle.dw_num.specs.declared.refusal.Code.{Code}
 use Rattle.dw_num.specs.declared.refusal.Refusal.{Refusal}
-use Rattle.dw_cfa.proofs.Lent.Given.{to_leaves}
+use Rattle.dw_cfa.proofs.Lent.Given.{gives_run, to_leaves}
 use Rattle.dw_cfa.proofs.Lent.Listings.{program_placed}
-use Rattle.dw_cfa.proofs.Lent.Openings.{cfa_with, initial_moves}
+use Rattle.dw_cfa.proofs.Lent.Openings.{initial_moves}
 use Rattle.dw_cfa.proofs.Lent.RowsAt.{instrs_of}
 use Rattle.dw_cfa.specs.Column.{with_offset}
 use Rattle.dw_cfa.specs.Inner.Machine.{State, after, begun, fde_fault, popped}
-use Rattle.dw_cfa.specs.Inner.RowEquality.{rows_tell}
+use Rattle.dw_cfa.proofs.Lent.Equal.{row_test}
 use Rattle.dw_cfa.specs.Inner.Rows.{with_cfa}
 use Rattle.dw_cfa.specs.Inner.Runs.{Placed, fault_or, fde_rows, here, initial_row, on_initial, placed, row_if, run_rows}
 use Rattle.dw_cfa.specs.Location.{moves_location}
-use Rattle.dw_cfa.specs.Opening.{first_row, moves_first, row_with}
+use Rattle.dw_cfa.specs.Opening.{cfa_with, first_row, moves_first, row_with}
 use Rattle.dw_cfa.specs.Runs.{Outcome}
 use Rattle.dw_cfa.specs.declared.execution.LocatedRow.{LocatedRow}
 use Rattle.dw_cfa.specs.declared.instr.Factors.{Factors}
@@ -27,14 +27,14 @@ use Rattle.dw_cfa.specs.declared.rule.CfaRule.{CfaRule}
 use Rattle.dw_cfa.specs.declared.rule.CfaRule.TheVariants as cfa
 use Rattle.dw_section.proofs.Lent.ChangeLaws.{changes_found}
 use Rattle.dw_section.proofs.Lent.Exists.{are_among}
-use Rattle.dw_section.proofs.Lent.Heads.{all_in, heads_bytes}
+use Rattle.dw_section.proofs.Lent.Heads.{all_in, heads_bytes, heads_fit}
 use Rattle.dw_section.proofs.Lent.OpeningLaws.{one_first}
 use Rattle.dw_section.proofs.Lent.Sames.{one_change_list}
 use Rattle.dw_section.proofs.Lent.Sections.{given_by, headers_of, hs, here as here_in, one_programs}
 use Rattle.dw_section.specs.Changes.{AreChanges}
 use Rattle.dw_section.specs.Inner.Changes.{changes_among, is_before}
-use Rattle.dw_section.specs.Inner.Heads.{HasBytes}
-use Rattle.dw_section.specs.Meaning.{Says}
+use Rattle.dw_section.specs.Inner.Heads.{FdeFits, HasBytes, cie_ats}
+use Rattle.dw_section.specs.Meaning.{FdeSays}
 use Rattle.dw_section.specs.Programs.{factors_of}
 use Rattle.dw_section.specs.declared.opening.CieRow.{CieRow}
 use Rattle.dw_normal.proofs.Again.{opened_member}
@@ -45,7 +45,7 @@ use Rattle.dw_normal.specs.Inner.PlainProgram.{IsPlain, changes_by, plain_bytes,
 
 -- where nothing was shown, the first row is shown, and behind it it is passed
 shown_once : (end : ℕ) (row : LocatedRow) (rows : List LocatedRow) → is_before end row.location rows ≡ true → changes_among end None (row ∷ rows) ≡ (row.location, row.row) ∷ changes_among end (Some row.row) (row ∷ rows)
-shown_once end row rows e = let same = (rows_tell row.row row.row).1 refl in rw (e, same) refl
+shown_once end row rows e = let same = (row_test.1 row.row row.row).1 refl in rw (e, same) refl
 
 -- ---- the rows of a program that has no fault
 
@@ -157,7 +157,7 @@ pub record LaterBy (end : ℕ) (first : Rules) (begin : ℕ) (later : List (ℕ 
 
 module _ (t : Target) (s : List ℕ) (b : AreBytes s) (ok : Accepted t s) where
   -- the CIE's row, and all changes of the FDE, which are those of its own program begun with that row
-  given_rows : (begin end : ℕ) (i j : List Instr) → begin < end → Says t s begin end i j → (initial : Rules) × AreChanges i j begin end (changes_among end None (rows_by initial j (begun initial begin)))
+  given_rows : (begin end : ℕ) (i j : List Instr) → begin < end → FdeSays t s begin end i j → (initial : Rules) × AreChanges i j begin end (changes_among end None (rows_by initial j (begun initial begin)))
   given_rows begin end i j lt h =
       let x = here_in t s b ok begin end i j h in
       let g = given_by t s b ok begin end i j h in
@@ -167,13 +167,15 @@ module _ (t : Target) (s : List ℕ) (b : AreBytes s) (ok : Accepted t s) where
       let fde_bytes = all_in HasBytes (hs t s b ok) _ heads x.among in
       let left = to_leaves f (input_of t x.spelled.head.program) cie_bytes (Ok g.first) (i, g.leaves) in
       let are = program_placed f (input_of t x.head.program) j fde_bytes x.spelled.spelled in
-      let rows = run_behind f (input_of t x.spelled.head.program) (input_of t x.head.program) x.head.begin g.first g.rows j left g.run are in
+      let fits = all_in (FdeFits t (cie_ats (hs t s b ok))) (hs t s b ok) _ (heads_fit t s (hs t s b ok) (headers_of t s b ok)) x.among in
+      let run = gives_run f (input_of t x.spelled.head.program) (input_of t x.head.program) x.head.begin cie_bytes fde_bytes (omega (arith, fits.0)) g.rows g.run in
+      let rows = run_behind f (input_of t x.spelled.head.program) (input_of t x.head.program) x.head.begin g.first g.rows j left run are in
       let found = changes_found t x.spelled.head x.head i j end g (changes_among end None g.rows) (omega (arith, lt, x.begin_is)) (are_among end None g.rows) in
       let by = subst (λ (l : List LocatedRow). AreChanges i j x.head.begin end (changes_among end None l)) rows found in
       (g.first, subst (λ (n : ℕ). AreChanges i j n end (changes_among end None (rows_by g.first j (begun g.first n)))) (sym x.begin_is) by)
 
   -- so behind the begin they are those of the same program begun with the row there
-  pub plain_later : (f : Fde) (row : CieRow) (first : ℕ × Rules) (later : List (ℕ × Rules)) (o : OpensBehind t s f row) (i j : List Instr) → f.begin < f.end → Says t s f.begin f.end i j → ChangesOf t s f (first ∷ later)
+  pub plain_later : (f : Fde) (row : CieRow) (first : ℕ × Rules) (later : List (ℕ × Rules)) (o : OpensBehind t s f row) (i j : List Instr) → f.begin < f.end → FdeSays t s f.begin f.end i j → ChangesOf t s f (first ∷ later)
       → LaterBy f.end first.1 f.begin later j
   plain_later f row first later o i j lt says changes =
       let offset = row.cfa_offset in
@@ -204,7 +206,7 @@ pub record GivenBy (t : Target) (f : Factors) (m : Member) (shared first : Rules
 
 module _ (t : Target) (s : List ℕ) (b : AreBytes s) (ok : Accepted t s) (ms : List Member) (are : AreMembers t s ms) where
   -- an FDE of the section that opens behind a row of its CIE
-  pub is_plain : (k : ℕ) (d : Member) → k < length ms → (row : CieRow) → OpensBehind t s (fde_of (get_or ms k d)) row → (i j : List Instr) (says : Says t s (get_or ms k d).begin (get_or ms k d).end i j)
+  pub is_plain : (k : ℕ) (d : Member) → k < length ms → (row : CieRow) → OpensBehind t s (fde_of (get_or ms k d)) row → (i j : List Instr) (says : FdeSays t s (get_or ms k d).begin (get_or ms k d).end i j)
       → (f : Factors) (bytes : List ℕ) (shared first : Rules) (begin last : ℕ) → f ≡ factors_of says.spelled.head → bytes ≡ says.head.program.bytes → shared ≡ initial_of ms (get_or ms k d).register → first ≡ (get_or ms k d).first
       → begin ≡ (get_or ms k d).begin → last + 1 ≡ (get_or ms k d).end → GivenBy t f (get_or ms k d) shared first begin last j bytes
   is_plain k d lt row o i j says f bytes shared first begin last factors_are bytes_are shared_is first_is begin_is end_is =

@@ -17,13 +17,13 @@ use Rattle.dw_num.specs.Front.{Read, fixed_at, register_at, sleb_at, uleb_at}
 use Rattle.dw_num.specs.Input.{Input}
 use Rattle.dw_num.specs.declared.target.Order.{Order}
 use Rattle.dw_op.proofs.Lent.ReadingLaws.{above, within}
-use Rattle.dw_cfa.specs.InstrSpells.{FormSpells, Program, Spells}
+use Rattle.dw_cfa.specs.InstrSpells.{InstrFormSpells, OperandSpells, ProgramSpells}
 unfoldable pub use Rattle.dw_cfa.specs.Operands.{form_for}
-use Rattle.dw_cfa.specs.Operands.{Form, Operand, Value, address, advanced, expression, fixed, none, offset_rule, one, register, signed, two, unsigned}
+use Rattle.dw_cfa.specs.Operands.{InstrForm, Operand, OperandValue, address, advanced, expression, fixed, none, offset_rule, one, register, signed, two, unsigned}
 use Rattle.dw_cfa.specs.declared.instr.Factors.{Factors}
 use Rattle.dw_cfa.specs.declared.instr.Instr.TheVariants as instr
 use Rattle.dw_cfa.specs.declared.rule.RegRule.TheVariants as rules
-use Rattle.dw_normal.specs.Inner.PlainInstruction.{IsNear, Reads, SlebFirst, StandsFirst, UlebFirst, instr_of}
+use Rattle.dw_normal.specs.Inner.PlainInstruction.{IsNear, ReadsPlain, SlebFirst, StandsFirst, UlebFirst, instr_of}
 use Rattle.dw_normal.specs.declared.plain_instruction.Plain.{Plain}
 use Rattle.dw_normal.specs.declared.plain_instruction.Plain.TheVariants.{Nop, Advance, DefCfa, DefCfaRegister, DefCfaOffset, Offset, Restore, RememberState, RestoreState}
 
@@ -37,7 +37,7 @@ IsShort unsigned = Unit {0}
 IsShort signed = Unit {0}
 IsShort expression = ⊥
 
-abbrev pub FormShort : Form → Type 0
+abbrev pub FormShort : InstrForm → Type 0
 FormShort (none made) = Unit {0}
 FormShort (one o make) = IsShort o
 FormShort (two o p make) = IsShort o × IsShort p
@@ -49,7 +49,7 @@ module _ (t : Target) where
       (sym (first 0 rest) ∙ ap (λ (bytes : List ℕ). read (record { at = 0; bytes = bytes; target = t })) same ∙ other 0 back) in
       (ap (λ (p : X × Input). p.0) both, ap (λ (p : X × Input). p.1.bytes) both)
 
-  one_operand : (o : Operand) → IsShort o → (x y : Value o) (b c rest back : List ℕ) → Spells t o x b → Spells t o y c → b ++ rest ≡ c ++ back → (x ≡ y) × (rest ≡ back)
+  one_operand : (o : Operand) → IsShort o → (x y : OperandValue o) (b c rest back : List ℕ) → OperandSpells t o x b → OperandSpells t o y c → b ++ rest ≡ c ++ back → (x ≡ y) × (rest ≡ back)
   one_operand address is x y b c rest back s u same = absurd is
   one_operand (fixed n) is x y b c rest back s u same = one_reading (fixed_at n) x y b c rest back (λ at left. fixed_at_again n at t x b left s) (λ at left. fixed_at_again n at t y c left u) same
   one_operand register is x y b c rest back s u same = one_reading register_at x y b c rest back (λ at left. register_again at t x b left s) (λ at left. register_again at t y c left u) same
@@ -57,7 +57,7 @@ module _ (t : Target) where
   one_operand signed is x y b c rest back s u same = one_reading sleb_at x y b c rest back (λ at left. sleb_again at t x b left s) (λ at left. sleb_again at t y c left u) same
   one_operand expression is x y b c rest back s u same = absurd is
 
-  one_form : (form : Form) → FormShort form → (i j : Instr) (b c rest back : List ℕ) → FormSpells t form i b → FormSpells t form j c → b ++ rest ≡ c ++ back → (i ≡ j) × (rest ≡ back)
+  one_form : (form : InstrForm) → FormShort form → (i j : Instr) (b c rest back : List ℕ) → InstrFormSpells t form i b → InstrFormSpells t form j c → b ++ rest ≡ c ++ back → (i ≡ j) × (rest ≡ back)
   one_form (none made) is i j b c rest back s u same = (s.0 ∙ sym u.0, sym (ap (λ (l : List ℕ). l ++ rest) s.1) ∙ same ∙ ap (λ (l : List ℕ). l ++ back) u.1)
   one_form (one o make) is i j b c rest back s u same =
       let k = one_operand o is s.0 u.0 b c rest back s.2 u.2 same in
@@ -69,19 +69,19 @@ module _ (t : Target) where
       sym (append_assoc v.front v.back rest) ∙ ap (λ (l : List ℕ). l ++ rest) (sym v.whole) ∙ same ∙ ap (λ (l : List ℕ). l ++ back) w.whole ∙ append_assoc w.front w.back back in
       let k = one_operand o is.0 s.0 u.0 v.front w.front (v.back ++ rest) (w.back ++ back) v.first w.first whole in
       let m = one_operand p is.1 s.1 u.1 v.back w.back rest back v.second w.second k.1 in
-      (s.2 ∙ ap (λ (x : Value o). make x s.1) k.0 ∙ ap (make u.0) m.0 ∙ sym u.2, m.1)
+      (s.2 ∙ ap (λ (x : OperandValue o). make x s.1) k.0 ∙ ap (make u.0) m.0 ∙ sym u.2, m.1)
 
 -- ---- the first instruction
 
 -- a code and its operands spell an instruction
 pub record Spelled (f : Factors) (order : Order) (code : ℕ) (operands : List ℕ) (p : Plain) : Type 0 where
-  pub form : Form
+  pub form : InstrForm
   pub known : form_for f code ≡ Some form
   pub short : FormShort form
-  pub spells : (t : Target) → t.order ≡ order → FormSpells t form (instr_of p) operands
+  pub spells : (t : Target) → t.order ≡ order → InstrFormSpells t form (instr_of p) operands
 
-first_of : (f : Factors) (order : Order) (code : ℕ) (operands rest : List ℕ) (p : Plain) → Spelled f order code operands p → (t : Target) (instrs : List Instr) → t.order ≡ order → Program t f instrs (code ∷ (operands ++ rest))
-    → (others : List Instr) × (instrs ≡ instr_of p ∷ others) × Program t f others rest
+first_of : (f : Factors) (order : Order) (code : ℕ) (operands rest : List ℕ) (p : Plain) → Spelled f order code operands p → (t : Target) (instrs : List Instr) → t.order ≡ order → ProgramSpells t f instrs (code ∷ (operands ++ rest))
+    → (others : List Instr) × (instrs ≡ instr_of p ∷ others) × ProgramSpells t f others rest
 first_of f order code operands rest p h t [] o program = absurd cc
 first_of f order code operands rest p h t (i ∷ instrs) o program =
     let s = program.first in
@@ -90,30 +90,30 @@ first_of f order code operands rest p h t (i ∷ instrs) o program =
     let both : Some s.form ≡ Some h.form = sym s.known ∙ ap (form_for f) same ∙ h.known in
     let is : s.form ≡ h.form = cc in
     let behind : s.rest ++ program.back ≡ operands ++ rest = cc in
-    let k = one_form t h.form h.short i (instr_of p) s.rest operands program.back rest (subst (λ (m : Form). FormSpells t m i s.rest) is s.operands) (h.spells t o) behind in
-    (instrs, ap (λ (j : Instr). j ∷ instrs) k.0, subst (Program t f instrs) k.1 program.second)
+    let k = one_form t h.form h.short i (instr_of p) s.rest operands program.back rest (subst (λ (m : InstrForm). InstrFormSpells t m i s.rest) is s.operands) (h.spells t o) behind in
+    (instrs, ap (λ (j : Instr). j ∷ instrs) k.0, subst (ProgramSpells t f instrs) k.1 program.second)
 
 -- the operands are the next so many bytes
-pub reads : (f : Factors) (order : Order) (bytes : List ℕ) (p : Plain) (n : ℕ) → 1 + n ≤ length bytes → Spelled f order (get_or bytes 0 0) (take n (drop 1 bytes)) p → IsNear p → Reads f order bytes (p, 1 + n)
+pub reads : (f : Factors) (order : Order) (bytes : List ℕ) (p : Plain) (n : ℕ) → 1 + n ≤ length bytes → Spelled f order (get_or bytes 0 0) (take n (drop 1 bytes)) p → IsNear p → ReadsPlain f order bytes (p, 1 + n)
 reads f order [] p n len h near = absurd (omega arith)
 reads f order (code ∷ bytes) p n len h near = record {
   count = (omega arith, len);
   near = near;
   first = λ t instrs o program.
-      let k = first_of f order code (take n bytes) (drop n bytes) p h t instrs o (subst (λ (b : List ℕ). Program t f instrs (code ∷ b)) (sym (take-append-drop n bytes)) program) in
-      record { rest = k.0; whole = k.1; spelled = subst (λ (m : ℕ). Program t f k.0 (drop m (code ∷ bytes))) (let next : suc n ≡ 1 + n = omega arith in next) k.2 };
+      let k = first_of f order code (take n bytes) (drop n bytes) p h t instrs o (subst (λ (b : List ℕ). ProgramSpells t f instrs (code ∷ b)) (sym (take-append-drop n bytes)) program) in
+      record { rest = k.0; whole = k.1; spelled = subst (λ (m : ℕ). ProgramSpells t f k.0 (drop m (code ∷ bytes))) (let next : suc n ≡ 1 + n = omega arith in next) k.2 };
 }
 
 -- none, one or two bytes
-reads_0 : (f : Factors) (order : Order) (bytes : List ℕ) (p : Plain) → 1 ≤ length bytes → Spelled f order (get_or bytes 0 0) [] p → IsNear p → Reads f order bytes (p, 1)
+reads_0 : (f : Factors) (order : Order) (bytes : List ℕ) (p : Plain) → 1 ≤ length bytes → Spelled f order (get_or bytes 0 0) [] p → IsNear p → ReadsPlain f order bytes (p, 1)
 reads_0 f order bytes p len h near = reads f order bytes p 0 len h near
 
-reads_1 : (f : Factors) (order : Order) (bytes : List ℕ) (p : Plain) → 2 ≤ length bytes → Spelled f order (get_or bytes 0 0) (get_or bytes 1 0 ∷ []) p → IsNear p → Reads f order bytes (p, 2)
+reads_1 : (f : Factors) (order : Order) (bytes : List ℕ) (p : Plain) → 2 ≤ length bytes → Spelled f order (get_or bytes 0 0) (get_or bytes 1 0 ∷ []) p → IsNear p → ReadsPlain f order bytes (p, 2)
 reads_1 f order [] p len h near = absurd (omega arith)
 reads_1 f order (code ∷ []) p len h near = absurd (omega arith)
 reads_1 f order (code ∷ b ∷ bytes) p len h near = reads f order (code ∷ b ∷ bytes) p 1 len h near
 
-reads_2 : (f : Factors) (order : Order) (bytes : List ℕ) (p : Plain) → 3 ≤ length bytes → Spelled f order (get_or bytes 0 0) (get_or bytes 1 0 ∷ get_or bytes 2 0 ∷ []) p → IsNear p → Reads f order bytes (p, 3)
+reads_2 : (f : Factors) (order : Order) (bytes : List ℕ) (p : Plain) → 3 ≤ length bytes → Spelled f order (get_or bytes 0 0) (get_or bytes 1 0 ∷ get_or bytes 2 0 ∷ []) p → IsNear p → ReadsPlain f order bytes (p, 3)
 reads_2 f order [] p len h near = absurd (omega arith)
 reads_2 f order (code ∷ []) p len h near = absurd (omega arith)
 reads_2 f order (code ∷ b ∷ []) p len h near = absurd (omega arith)
@@ -204,19 +204,19 @@ fits_behind (b ∷ bytes) n len le = omega arith
 -- ---- instruction by instruction
 
 module _ (f : Factors) (order : Order) (bytes : List ℕ) where
-  pub nop_reads : 1 ≤ length bytes → get_or bytes 0 0 ≡ 0 → Reads f order bytes (Nop, 1)
+  pub nop_reads : 1 ≤ length bytes → get_or bytes 0 0 ≡ 0 → ReadsPlain f order bytes (Nop, 1)
   unfolding form_for
   nop_reads len is = reads_0 f order bytes Nop len (record { form = none instr.Nop; known = rw is refl; short = tt; spells = λ t o. (refl, refl) }) tt
 
-  pub remember_reads : 1 ≤ length bytes → get_or bytes 0 0 ≡ 0x0a → Reads f order bytes (RememberState, 1)
+  pub remember_reads : 1 ≤ length bytes → get_or bytes 0 0 ≡ 0x0a → ReadsPlain f order bytes (RememberState, 1)
   unfolding form_for
   remember_reads len is = reads_0 f order bytes RememberState len (record { form = none instr.RememberState; known = rw is refl; short = tt; spells = λ t o. (refl, refl) }) tt
 
-  pub restore_state_reads : 1 ≤ length bytes → get_or bytes 0 0 ≡ 0x0b → Reads f order bytes (RestoreState, 1)
+  pub restore_state_reads : 1 ≤ length bytes → get_or bytes 0 0 ≡ 0x0b → ReadsPlain f order bytes (RestoreState, 1)
   unfolding form_for
   restore_state_reads len is = reads_0 f order bytes RestoreState len (record { form = none instr.RestoreState; known = rw is refl; short = tt; spells = λ t o. (refl, refl) }) tt
 
-  pub advance_reads : (d : ℕ) → 1 ≤ length bytes → 0x40 ≤ get_or bytes 0 0 → get_or bytes 0 0 < 0x80 → d ≡ (get_or bytes 0 0 - 0x40) * f.code_factor → Reads f order bytes (Advance d, 1)
+  pub advance_reads : (d : ℕ) → 1 ≤ length bytes → 0x40 ≤ get_or bytes 0 0 → get_or bytes 0 0 < 0x80 → d ≡ (get_or bytes 0 0 - 0x40) * f.code_factor → ReadsPlain f order bytes (Advance d, 1)
   unfolding form_for
   advance_reads d len from to is = reads_0 f order bytes (Advance d) len (record {
     form = none (advanced f (get_or bytes 0 0 - 0x40));
@@ -225,7 +225,7 @@ module _ (f : Factors) (order : Order) (bytes : List ℕ) where
     spells = λ t o. (ap instr.Advance is, refl);
   }) tt
 
-  pub restore_reads : (r : ℕ) → 1 ≤ length bytes → 0xc0 ≤ get_or bytes 0 0 → get_or bytes 0 0 < 0xe0 → r ≡ get_or bytes 0 0 - 0xc0 → Reads f order bytes (Restore r, 1)
+  pub restore_reads : (r : ℕ) → 1 ≤ length bytes → 0xc0 ≤ get_or bytes 0 0 → get_or bytes 0 0 < 0xe0 → r ≡ get_or bytes 0 0 - 0xc0 → ReadsPlain f order bytes (Restore r, 1)
   unfolding form_for
   restore_reads r len from to is = let c = get_or bytes 0 0 in reads_0 f order bytes (Restore r) len (record {
     form = none (instr.Restore (c - 0xc0));
@@ -234,7 +234,7 @@ module _ (f : Factors) (order : Order) (bytes : List ℕ) where
     spells = λ t o. (ap instr.Restore is, refl);
   }) (omega arith)
 
-  pub advance_1_reads : (d : ℕ) → 2 ≤ length bytes → get_or bytes 0 0 ≡ 0x02 → get_or bytes 1 0 < 256 → d ≡ get_or bytes 1 0 * f.code_factor → Reads f order bytes (Advance d, 2)
+  pub advance_1_reads : (d : ℕ) → 2 ≤ length bytes → get_or bytes 0 0 ≡ 0x02 → get_or bytes 1 0 < 256 → d ≡ get_or bytes 1 0 * f.code_factor → ReadsPlain f order bytes (Advance d, 2)
   unfolding form_for
   advance_1_reads d len code byte is = reads_1 f order bytes (Advance d) len (record {
     form = one (fixed 1) (advanced f);
@@ -243,7 +243,7 @@ module _ (f : Factors) (order : Order) (bytes : List ℕ) where
     spells = λ t o. (get_or bytes 1 0, ap instr.Advance is, one_byte_fixed t.order (get_or bytes 1 0) byte);
   }) tt
 
-  pub advance_2_reads : (d : ℕ) → 3 ≤ length bytes → get_or bytes 0 0 ≡ 0x03 → get_or bytes 1 0 < 256 → get_or bytes 2 0 < 256 → d ≡ fixed_number order 2 (get_or bytes 1 0 ∷ get_or bytes 2 0 ∷ []) * f.code_factor → Reads f order bytes (Advance d, 3)
+  pub advance_2_reads : (d : ℕ) → 3 ≤ length bytes → get_or bytes 0 0 ≡ 0x03 → get_or bytes 1 0 < 256 → get_or bytes 2 0 < 256 → d ≡ fixed_number order 2 (get_or bytes 1 0 ∷ get_or bytes 2 0 ∷ []) * f.code_factor → ReadsPlain f order bytes (Advance d, 3)
   unfolding form_for
   advance_2_reads d len code byte other is = reads_2 f order bytes (Advance d) len (record {
     form = one (fixed 2) (advanced f);
@@ -253,7 +253,7 @@ module _ (f : Factors) (order : Order) (bytes : List ℕ) where
   }) tt
 
   pub offset_reads : (r : ℕ) (z : ℤ) → 2 ≤ length bytes → 0x80 ≤ get_or bytes 0 0 → get_or bytes 0 0 < 0xa0 → get_or bytes 1 0 < 128 → r ≡ get_or bytes 0 0 - 0x80 → z ≡ pos (get_or bytes 1 0) *ℤ f.data_factor
-      → Reads f order bytes (Offset r z, 2)
+      → ReadsPlain f order bytes (Offset r z, 2)
   unfolding form_for
   offset_reads r z len from to small same is = let c = get_or bytes 0 0 in reads_1 f order bytes (Offset r z) len (record {
     form = one unsigned (λ k. offset_rule f rules.Offset (c - 0x80) (pos k));
@@ -262,7 +262,7 @@ module _ (f : Factors) (order : Order) (bytes : List ℕ) where
     spells = λ t o. (get_or bytes 1 0, cc, one_byte_spells (get_or bytes 1 0) small);
   }) (omega arith)
 
-  pub def_cfa_reads : (r : ℕ) (z : ℤ) → 3 ≤ length bytes → get_or bytes 0 0 ≡ 0x0c → get_or bytes 1 0 < 128 → get_or bytes 2 0 < 128 → r ≡ get_or bytes 1 0 → z ≡ pos (get_or bytes 2 0) → Reads f order bytes (DefCfa r z, 3)
+  pub def_cfa_reads : (r : ℕ) (z : ℤ) → 3 ≤ length bytes → get_or bytes 0 0 ≡ 0x0c → get_or bytes 1 0 < 128 → get_or bytes 2 0 < 128 → r ≡ get_or bytes 1 0 → z ≡ pos (get_or bytes 2 0) → ReadsPlain f order bytes (DefCfa r z, 3)
   unfolding form_for
   def_cfa_reads r z len code near small same is = reads_2 f order bytes (DefCfa r z) len (record {
     form = two register unsigned (λ r n. instr.DefCfa r (pos n));
@@ -271,7 +271,7 @@ module _ (f : Factors) (order : Order) (bytes : List ℕ) where
     spells = λ t o. (get_or bytes 1 0, get_or bytes 2 0, cc, record { front = get_or bytes 1 0 ∷ []; back = get_or bytes 2 0 ∷ []; first = (one_byte_spells (get_or bytes 1 0) near, omega arith); second = one_byte_spells (get_or bytes 2 0) small; whole = refl });
   }) tt
 
-  pub def_cfa_register_reads : (r : ℕ) → 2 ≤ length bytes → get_or bytes 0 0 ≡ 0x0d → get_or bytes 1 0 < 128 → r ≡ get_or bytes 1 0 → Reads f order bytes (DefCfaRegister r, 2)
+  pub def_cfa_register_reads : (r : ℕ) → 2 ≤ length bytes → get_or bytes 0 0 ≡ 0x0d → get_or bytes 1 0 < 128 → r ≡ get_or bytes 1 0 → ReadsPlain f order bytes (DefCfaRegister r, 2)
   unfolding form_for
   def_cfa_register_reads r len code near is = reads_1 f order bytes (DefCfaRegister r) len (record {
     form = one register instr.DefCfaRegister;
@@ -280,7 +280,7 @@ module _ (f : Factors) (order : Order) (bytes : List ℕ) where
     spells = λ t o. (get_or bytes 1 0, ap instr.DefCfaRegister is, (one_byte_spells (get_or bytes 1 0) near, omega arith));
   }) tt
 
-  pub def_cfa_offset_reads : (x n : ℕ) (z : ℤ) → 1 ≤ length bytes → get_or bytes 0 0 ≡ 0x0e → UlebFirst (drop 1 bytes) (x, n) → z ≡ pos x → Reads f order bytes (DefCfaOffset z, 1 + n)
+  pub def_cfa_offset_reads : (x n : ℕ) (z : ℤ) → 1 ≤ length bytes → get_or bytes 0 0 ≡ 0x0e → UlebFirst (drop 1 bytes) (x, n) → z ≡ pos x → ReadsPlain f order bytes (DefCfaOffset z, 1 + n)
   unfolding form_for
   def_cfa_offset_reads x n z len code u is = reads f order bytes (DefCfaOffset z) n (fits_behind bytes n len u.0) (record {
     form = one unsigned (λ k. instr.DefCfaOffset (pos k));
@@ -289,7 +289,7 @@ module _ (f : Factors) (order : Order) (bytes : List ℕ) where
     spells = λ t o. (x, ap instr.DefCfaOffset is, u.1);
   }) tt
 
-  pub def_cfa_offset_sf_reads : (x z : ℤ) (n : ℕ) → 1 ≤ length bytes → get_or bytes 0 0 ≡ 0x13 → SlebFirst (drop 1 bytes) (x, n) → z ≡ x *ℤ f.data_factor → Reads f order bytes (DefCfaOffset z, 1 + n)
+  pub def_cfa_offset_sf_reads : (x z : ℤ) (n : ℕ) → 1 ≤ length bytes → get_or bytes 0 0 ≡ 0x13 → SlebFirst (drop 1 bytes) (x, n) → z ≡ x *ℤ f.data_factor → ReadsPlain f order bytes (DefCfaOffset z, 1 + n)
   unfolding form_for
   def_cfa_offset_sf_reads x z n len code u is = reads f order bytes (DefCfaOffset z) n (fits_behind bytes n len u.0) (record {
     form = one signed (λ k. instr.DefCfaOffset (k *ℤ f.data_factor));
@@ -301,14 +301,14 @@ module _ (f : Factors) (order : Order) (bytes : List ℕ) where
 -- ---- what is told
 
 module _ (f : Factors) (order : Order) (bytes : List ℕ) where
-  pub counted : (x : Option (Plain × ℕ)) → IfSome x (λ p. Reads f order bytes p) → IfSome x (λ p. (0 < p.1) × (p.1 ≤ length bytes))
+  pub counted : (x : Option (Plain × ℕ)) → IfSome x (λ p. ReadsPlain f order bytes p) → IfSome x (λ p. (0 < p.1) × (p.1 ≤ length bytes))
   counted None h = tt
   counted (Some p) h = h.count
 
-  pub is_near : (x : Option (Plain × ℕ)) → IfSome x (λ p. Reads f order bytes p) → IfSome x (λ p. IsNear p.0)
+  pub is_near : (x : Option (Plain × ℕ)) → IfSome x (λ p. ReadsPlain f order bytes p) → IfSome x (λ p. IsNear p.0)
   is_near None h = tt
   is_near (Some p) h = h.near
 
-  pub stands : (x : Option (Plain × ℕ)) → IfSome x (λ p. Reads f order bytes p) → IfSome x (λ p. StandsFirst f order p.0 p.1 bytes)
+  pub stands : (x : Option (Plain × ℕ)) → IfSome x (λ p. ReadsPlain f order bytes p) → IfSome x (λ p. StandsFirst f order p.0 p.1 bytes)
   stands None h = tt
   stands (Some p) h = h.first

@@ -3,11 +3,11 @@ use Rattle.dw_normal.proofs.Words.{◌≡◌, ℕ, ◌+◌, ◌<◌, ◌≤◌, 
 use Rattle.dw_normal.proofs.Words.{difference, later_changes, address_limit, ChangesStand, InstrFits, difference_fits, instr_bytes, program_bytes, RowFits}
 use Rattle.std.specs.Prelude.{◌&&◌, not, if◌then◌else◌, ℤ}
 use Rattle.dw_cfa.specs.Inner.Machine.{State, after, popped}
-use Rattle.dw_cfa.specs.Inner.RowEquality.{rows_tell, same_rows}
+use Rattle.dw_cfa.proofs.Lent.Equal.{row_test}
 use Rattle.dw_cfa.specs.Location.{moves_location}
 use Rattle.dw_cfa.specs.declared.instr.Instr.TheVariants.{SetLoc, Advance, Restore, RestoreState}
 use Rattle.dw_section.specs.Inner.Changes.{is_before}
-use Rattle.dw_cfa.specs.InstrSpells.{Program}
+use Rattle.dw_cfa.specs.InstrSpells.{ProgramSpells}
 use Rattle.dw_cfa.specs.declared.instr.Factors.{Factors}
 use Rattle.dw_normal.specs.declared.plain_instruction.Plain.{Plain}
 use Rattle.dw_normal.specs.declared.plain_program.Frame.{Frame}
@@ -57,25 +57,25 @@ module _ (end : ℕ) (shown initial : Rules) (d : ℕ) (instrs : List Instr) (s 
   abbrev more : Rules → List (ℕ × Rules)
   more row = changes_by end row initial instrs (after initial (Advance d) s)
 
-  pub moves_on : 0 < d → s.location < end → changes_by end shown initial (Advance d ∷ instrs) s ≡ shown_then s.location shown s.row more (same_rows shown s.row)
+  pub moves_on : 0 < d → s.location < end → changes_by end shown initial (Advance d ∷ instrs) s ≡ shown_then s.location shown s.row more (row_test.0 shown s.row)
   moves_on some less =
       let first : nat_lt s.location (s.location + d) ≡ true = lt-ltb s.location (s.location + d) (omega arith) in
       let here : nat_lt s.location end ≡ true = lt-ltb s.location end less in
-      rw (before_rows end s.location initial instrs (after initial (Advance d) s), first, here) (either_shown s.location shown s.row more (same_rows shown s.row))
+      rw (before_rows end s.location initial instrs (after initial (Advance d) s), first, here) (either_shown s.location shown s.row more (row_test.0 shown s.row))
 
   pub moves_by_none : d ≡ 0 → changes_by end shown initial (Advance d ∷ instrs) s ≡ more shown
   moves_by_none none =
       let first : nat_lt s.location (s.location + d) ≡ false = le-ltb s.location (s.location + d) (omega arith) in
       rw (before_rows end s.location initial instrs (after initial (Advance d) s), first) refl
 
-pub at_end : (end : ℕ) (shown initial : Rules) (s : State) → s.location < end → changes_by end shown initial [] s ≡ shown_then s.location shown s.row (λ row. []) (same_rows shown s.row)
-at_end end shown initial s less = let here : nat_lt s.location end ≡ true = lt-ltb s.location end less in rw here (either_shown s.location shown s.row (λ row. []) (same_rows shown s.row))
+pub at_end : (end : ℕ) (shown initial : Rules) (s : State) → s.location < end → changes_by end shown initial [] s ≡ shown_then s.location shown s.row (λ row. []) (row_test.0 shown s.row)
+at_end end shown initial s less = let here : nat_lt s.location end ≡ true = lt-ltb s.location end less in rw here (either_shown s.location shown s.row (λ row. []) (row_test.0 shown s.row))
 
 -- ---- a row that ends
 
 -- behind a row that was written, another ends
 pub record Ends (t : Target) (shared written own : Rules) (limit at start : ℕ) (more : Rules → List (ℕ × Rules)) (b : Bool) : Type 0 where
-  pub test : same_rows written own ≡ b
+  pub test : row_test.0 written own ≡ b
   pub fits : RowFits t written
   pub stand : ChangesStand t shared limit at written (shown_then start written own more b)
 
@@ -92,7 +92,7 @@ pub record Ended (t : Target) (shared written own : Rules) (limit at start : ℕ
 
 pub ended : (t : Target) (shared written own : Rules) (limit at start : ℕ) (more : Rules → List (ℕ × Rules)) (b : Bool) → Ends t shared written own limit at start more b → Ended t shared written own limit at start more b
 ended t shared written own limit at start more true e =
-    let same : written ≡ own = (rows_tell written own).0 e.test in
+    let same : written ≡ own = (row_test.1 written own).0 e.test in
     record {
       rises = λ no. absurd cc;
       spelled = λ no. absurd cc;
@@ -123,26 +123,26 @@ stack_in first run offsets = stack_of first (undone (logged run.log) offsets) ru
 -- what is so where the current row ends
 abbrev pub EndedHere : Target → Rules → Rules → PlainRun → (Rules → List (ℕ × Rules)) → Type 0
 EndedHere t shared first run more =
-    Ended t shared (written_row first run.rows) (own_row first run.rows) (address_limit t.size) run.rows.at run.rows.start more (same_rows (written_row first run.rows) (own_row first run.rows))
+    Ended t shared (written_row first run.rows) (own_row first run.rows) (address_limit t.size) run.rows.at run.rows.start more (row_test.0 (written_row first run.rows) (own_row first run.rows))
 
 abbrev behind : Rules → ℕ → PlainRun → Rules → ℕ → List Instr → Rules → List (ℕ × Rules)
 behind first last run initial d rest row = changes_by (suc last) row initial rest (after initial (Advance d) (state_of first run))
 
 ends_by : (t : Target) (shared first : Rules) (run : PlainRun) (tail : Rules → List (ℕ × Rules)) (changes : List (ℕ × Rules)) → RowFits t (written_row first run.rows)
     → ChangesStand t shared (address_limit t.size) run.rows.at (written_row first run.rows) changes
-    → changes ≡ shown_then run.rows.start (written_row first run.rows) (own_row first run.rows) tail (same_rows (written_row first run.rows) (own_row first run.rows)) → EndedHere t shared first run tail
+    → changes ≡ shown_then run.rows.start (written_row first run.rows) (own_row first run.rows) tail (row_test.0 (written_row first run.rows) (own_row first run.rows)) → EndedHere t shared first run tail
 ends_by t shared first run tail changes fits stand is =
-    ended t shared (written_row first run.rows) (own_row first run.rows) (address_limit t.size) run.rows.at run.rows.start tail (same_rows (written_row first run.rows) (own_row first run.rows))
+    ended t shared (written_row first run.rows) (own_row first run.rows) (address_limit t.size) run.rows.at run.rows.start tail (row_test.0 (written_row first run.rows) (own_row first run.rows))
     (record { test = refl; fits = fits; stand = subst (ChangesStand t shared (address_limit t.size) run.rows.at (written_row first run.rows)) is stand })
 
 module _ {t : Target} {shared first : Rules} {last : ℕ} {run : PlainRun} {initial : Rules} where
   come_then : (d : ℕ) (rest : List Instr) → Runs t shared first last run initial (Advance d ∷ rest) → 0 < d
       → changes_left first last run initial (Advance d ∷ rest)
-      ≡ shown_then run.rows.start (written_row first run.rows) (own_row first run.rows) (behind first last run initial d rest) (same_rows (written_row first run.rows) (own_row first run.rows))
+      ≡ shown_then run.rows.start (written_row first run.rows) (own_row first run.rows) (behind first last run initial d rest) (row_test.0 (written_row first run.rows) (own_row first run.rows))
   come_then d rest r some = moves_on (suc last) (written_row first run.rows) initial d rest (state_of first run) some (omega (arith, r.within))
 
   come_last : Runs t shared first last run initial []
-      → changes_left first last run initial [] ≡ shown_then run.rows.start (written_row first run.rows) (own_row first run.rows) (λ row. []) (same_rows (written_row first run.rows) (own_row first run.rows))
+      → changes_left first last run initial [] ≡ shown_then run.rows.start (written_row first run.rows) (own_row first run.rows) (λ row. []) (row_test.0 (written_row first run.rows) (own_row first run.rows))
   come_last r = at_end (suc last) (written_row first run.rows) initial (state_of first run) (omega (arith, r.within))
 
   -- where an advance ends a row
@@ -252,7 +252,7 @@ ran frame i old new out b initial rest r = let k = changed_to i rest r b in (k.0
 
 -- ---- the instructions that are left
 
-none_spelled : (t : Target) (f : Factors) (left : List ℕ) (rest : List Instr) → left ≡ [] → Program t f rest left → rest ≡ []
+none_spelled : (t : Target) (f : Factors) (left : List ℕ) (rest : List Instr) → left ≡ [] → ProgramSpells t f rest left → rest ≡ []
 none_spelled t f left [] none spelled = refl
 none_spelled t f left (i ∷ rest) none spelled =
     let whole : (spelled.first.code ∷ spelled.first.rest) ++ spelled.back ≡ [] = ap (λ (l : List ℕ). l ++ spelled.back) (sym spelled.first.whole) ∙ sym spelled.whole ∙ none in
@@ -272,7 +272,7 @@ module _ {frame : Frame} {f : Factors} {initial : Rules} {whole : List ℕ} {run
       let next = ran initial first.rest (subst (RunsIn frame run initial) first.whole l.runs) in
       record {
         rest = first.rest;
-        spelled = subst (Program frame.target f first.rest) (sym (take_rest left count)) first.spelled;
+        spelled = subst (ProgramSpells frame.target f first.rest) (sym (take_rest left count)) first.spelled;
         runs = next.0;
         written = next.1 ∙ ap (λ (instrs : List Instr). made ++ bytes_in frame run initial instrs) (sym first.whole) ∙ l.written;
       }

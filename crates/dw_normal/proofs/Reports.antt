@@ -1,6 +1,6 @@
 -- From what is known of a section's members to what the calls over normal forms answer.
 use Rattle.dw_normal.proofs.Words.{◌≡◌, ◌⊎◌, ℕ, ◌≤◌, Bool, List, [], length, take, Option, Some, None, Result, Ok, Err, refl, sym, ap, ◌∙◌, subst, inl, inr, arith, Decides, Appends, Keeps-refl, AreBytes, Target, Refuses, Rules, Accepted}
-use Rattle.dw_normal.proofs.Words.{CheckFault, canon, Member, AreMembers, members_exist, normal_form_is_one, same_exactly, IsTooLong, IsWithin, NormalFault, SameFault, WentOut, Writes, too_long, Puts, put_is, PutError, First, Second, IfOk}
+use Rattle.dw_normal.proofs.Words.{CheckFault, canon, Member, AreMembers, members_exist, normal_form_is_one, same_exactly, IsTooLong, FitsCap, NormalFault, SameFault, WentOut, Writes, too_long, Puts, put_is, PutError, First, Second, IfOk}
 use Rattle.dw_normal.proofs.Words.{IfErr, initial_rows, Measures}
 use Rattle.dw_num.specs.declared.refusal.Refusal.{Refusal}
 use Rattle.dw_num.specs.declared.error.ReadError.{ReadError}
@@ -51,7 +51,7 @@ module _ (t : Target) (cap : ℕ) (s : List ℕ) (h : IsShort t cap s) where
       let found = members_exist t s h.bytes h.accepted in
       record { members = found.0; are = found.1; is = is_normal t s found.0 h.bytes h.accepted found.1; within = h.within found.0 found.1 }
 
-  pub is_within : IsWithin t cap s
+  pub is_within : FitsCap t cap s
   is_within = let w = whole_of in (canon t w.members, w.is, w.within)
 
 -- ---- what a refusal says where the normal form is known
@@ -159,23 +159,23 @@ second_fault t a b e result ok fault is = subst (SameFault t 2147483647 a b) (sy
 
 -- an accepted section is blamed for want of memory alone
 pub blamed_only : (t : Target) (s : List ℕ) (which : Which) (e : ReadError) (result : SameError) → AreBytes s → Refuses (CheckFault t s) e → result ≡ blamed which e
-    → IsWithin t 2147483647 s → result ≡ same_error.OutOfMemory
+    → FitsCap t 2147483647 s → result ≡ same_error.OutOfMemory
 blamed_only t s which e result b fault is within = is ∙ by_error e fault
   where
     by_error : (x : ReadError) → Refuses (CheckFault t s) x → blamed which x ≡ same_error.OutOfMemory
     by_error read_error.OutOfMemory h = refl
     by_error (read_error.Refused r) h = absurd (fault_or_accepted t s b r h within.1.accepted)
 
-not_long : (t : Target) (s : List ℕ) → AreBytes s → IsWithin t 2147483647 s → IsTooLong t 2147483647 s → ⊥
+not_long : (t : Target) (s : List ℕ) → AreBytes s → FitsCap t 2147483647 s → IsTooLong t 2147483647 s → ⊥
 not_long t s b within long = not_within t s within.0 2147483647 too_long b within.1 within.2 (inr (long, refl))
 
 pub both_within : (t : Target) (a b : List ℕ) (one two : Section) → one ≡ record { target = t; bytes = a } → two ≡ record { target = t; bytes = b } → (result : Result Bool SameError)
-    → IfOk result (λ (d : Bool). IsWithin one.target 2147483647 one.bytes × IsWithin one.target 2147483647 two.bytes) → IfOk result (λ (d : Bool). IsWithin t 2147483647 a × IsWithin t 2147483647 b)
+    → IfOk result (λ (d : Bool). FitsCap one.target 2147483647 one.bytes × FitsCap one.target 2147483647 two.bytes) → IfOk result (λ (d : Bool). FitsCap t 2147483647 a × FitsCap t 2147483647 b)
 both_within t a b one two e f result h =
-    subst (λ (x : Section). IfOk result (λ (d : Bool). IsWithin t 2147483647 a × IsWithin t 2147483647 x.bytes)) f (subst (λ (x : Section). IfOk result (λ (d : Bool). IsWithin x.target 2147483647 x.bytes × IsWithin x.target 2147483647 two.bytes)) e h)
+    subst (λ (x : Section). IfOk result (λ (d : Bool). FitsCap t 2147483647 a × FitsCap t 2147483647 x.bytes)) f (subst (λ (x : Section). IfOk result (λ (d : Bool). FitsCap x.target 2147483647 x.bytes × FitsCap x.target 2147483647 two.bytes)) e h)
 
 pub compared_only : (t : Target) (a b : List ℕ) (one two : Section) → one ≡ record { target = t; bytes = a } → two ≡ record { target = t; bytes = b } → AreBytes a → AreBytes b
-    → (result : Result Bool SameError) → IfErr result (LengthFault one.target 2147483647 one.bytes two.bytes) → IsWithin t 2147483647 a → IsWithin t 2147483647 b
+    → (result : Result Bool SameError) → IfErr result (LengthFault one.target 2147483647 one.bytes two.bytes) → FitsCap t 2147483647 a → FitsCap t 2147483647 b
     → IfErr result (λ e. e ≡ same_error.OutOfMemory)
 compared_only t a b one two e f ba bb result fault left right =
     by_result result (subst (λ (x : Section). IfErr result (LengthFault t 2147483647 a x.bytes)) f (subst (λ (x : Section). IfErr result (LengthFault x.target 2147483647 x.bytes two.bytes)) e fault))

@@ -9,7 +9,7 @@ use Rattle.std.proofs.lemmas.Int.{to_z-of_z}
 use mir.Val.{SFits}
 use Rattle.std.proofs.lemmas.Bool.Decides.{Decides-int_eq}
 use Rattle.dw_cfa.proofs.Lent.SameRows.{same_rows as rows_same}
-use Rattle.dw_cfa.specs.Inner.RowEquality.{rows_tell, same_rows}
+use Rattle.dw_cfa.proofs.Lent.Equal.{row_test}
 use Rattle.dw_cfa.specs.declared.rule.RegRule.TheVariants.{Offset}
 use Rattle.dw_normal.specs.declared.plain_rows.Cfa.{Cfa}
 use Rattle.dw_normal.specs.declared.plain_rows.PlainRows.{PlainRows}
@@ -148,21 +148,21 @@ module _ (first : Rules) (rows : PlainRows) (so : RowsSo first rows) where
 
   -- ---- whether they are one
 
-  apart : (written_row first rows ≡ own_row first rows → ⊥) → false ≡ same_rows (written_row first rows) (own_row first rows)
-  apart not = elim (cases_Bool (same_rows (written_row first rows) (own_row first rows))) [
-    | inl e ↦ absurd (not ((rows_tell (written_row first rows) (own_row first rows)).0 e))
+  apart : (written_row first rows ≡ own_row first rows → ⊥) → false ≡ row_test.0 (written_row first rows) (own_row first rows)
+  apart not = elim (cases_Bool (row_test.0 (written_row first rows) (own_row first rows))) [
+    | inl e ↦ absurd (not ((row_test.1 (written_row first rows) (own_row first rows)).0 e))
     | inr e ↦ sym e
   ]
 
-  pub other_cfa : (rows.written_cfa ≡ rows.cfa → ⊥) → false ≡ same_rows (written_row first rows) (own_row first rows)
+  pub other_cfa : (rows.written_cfa ≡ rows.cfa → ⊥) → false ≡ row_test.0 (written_row first rows) (own_row first rows)
   other_cfa not = apart (λ e. not (cfa_one rows.written_cfa rows.cfa (ap (λ (row : Rules). row.cfa) e)))
 
-  pub stays_written : same_rows (written_row first rows) (own_row first rows) ≡ true → IsWritten first rows rows
-  stays_written same = record { so = so; own = refl; written = (rows_tell (written_row first rows) (own_row first rows)).0 same; at = rw same refl; start = refl }
+  pub stays_written : row_test.0 (written_row first rows) (own_row first rows) ≡ true → IsWritten first rows rows
+  stays_written same = record { so = so; own = refl; written = (row_test.1 (written_row first rows) (own_row first rows)).0 same; at = rw same refl; start = refl }
 
   pub by_registers : (found : Option ℕ) (none : Bool) → is_some found ≡ not none → rows.written_cfa ≡ rows.cfa → FirstDifference 0 (written_row first rows).registers (own_row first rows).registers found
-      → none ≡ same_rows (written_row first rows) (own_row first rows)
+      → none ≡ row_test.0 (written_row first rows) (own_row first rows)
   by_registers None true t cfa d =
-      sym ((rows_tell (written_row first rows) (own_row first rows)).1 (rows_same (written_row first rows) (own_row first rows) written_keeps own_keeps (ap cfa_of cfa) (λ r. d r (omega arith))))
+      sym ((row_test.1 (written_row first rows) (own_row first rows)).1 (rows_same (written_row first rows) (own_row first rows) written_keeps own_keeps (ap cfa_of cfa) (λ r. d r (omega arith))))
   by_registers (Some q) false t cfa d = apart (λ e. d.2 (ap (λ (row : Rules). rule row q) e))
   by_registers found none t cfa d = absurd cc

@@ -5,7 +5,7 @@ use Rattle.std.specs.Int.{is_negative}
 use Rattle.std.specs.Ordering.{int_eq}
 use Rattle.std.proofs.lemmas.Bool.Decides.{Decides-int_eq}
 use Rattle.dw_canon.specs.Spelling.{instr_bytes as instr_with}
-use Rattle.dw_cfa.specs.Inner.RowEquality.{rows_tell, same_rows}
+use Rattle.dw_cfa.proofs.Lent.Equal.{row_test}
 use Rattle.dw_normal.specs.declared.plain_rows.Cfa.{Cfa}
 use Rattle.dw_normal.specs.declared.plain_rows.PlainRows.{PlainRows}
 use Rattle.dw_normal.specs.Inner.PlainRows.{IsWritten, RowsSo, cfa_of, offsets_in, own_row, row_instrs, row_with, saved_at, written_row}
@@ -22,8 +22,8 @@ module _ (first : Rules) (rows : PlainRows) (so : RowsSo first rows) (none : row
   with_cfa_one : (c : Cfa) → row_with first c (offsets_in rows.written) ≡ row_with first c (offsets_in rows.saved)
   with_cfa_one c = one_told first c (offsets_in rows.written) (offsets_in rows.saved) so.listed (λ r. sym (same_offset r))
 
-  pub stays_one : rows.written_cfa ≡ rows.cfa → same_rows (written_row first rows) (own_row first rows) ≡ true
-  stays_one e = (rows_tell (written_row first rows) (own_row first rows)).1 (ap (λ (c : Cfa). row_with first c (offsets_in rows.written)) e ∙ with_cfa_one rows.cfa)
+  pub stays_one : rows.written_cfa ≡ rows.cfa → row_test.0 (written_row first rows) (own_row first rows) ≡ true
+  stays_one e = (row_test.1 (written_row first rows) (own_row first rows)).1 (ap (λ (c : Cfa). row_with first c (offsets_in rows.written)) e ∙ with_cfa_one rows.cfa)
 
   pub cfa_alone : (t : Target) (shared : Rules) → difference shared (written_row first rows) (own_row first rows) ≡ cfa_difference (cfa_of rows.written_cfa) (cfa_of rows.cfa)
   cfa_alone t shared =
@@ -43,7 +43,7 @@ module _ (first : Rules) (rows : PlainRows) (so : RowsSo first rows) (none : row
     start = refl;
   }
 
-  pub differs : (rows.written_cfa ≡ rows.cfa → ⊥) → same_rows (written_row first rows) (own_row first rows) ≡ false
+  pub differs : (rows.written_cfa ≡ rows.cfa → ⊥) → row_test.0 (written_row first rows) (own_row first rows) ≡ false
   differs other = sym (other_cfa first rows so other)
 
   module _ (t : Target) (shared : Rules) (out : List ℕ) where

@@ -17,14 +17,14 @@ pub use Rattle.dw_canon.specs.Inner.Laid.{GroupsRise, IsPart, cie_of, group_of, 
 pub use Rattle.dw_canon.specs.Inner.Spelling.{expression_bytes, instr_bytes, program_bytes}
 pub use Rattle.dw_canon.specs.Inner.Written.{Written, contents, entry_bytes, fde, filled, nop_count, section_bytes}
 pub use Rattle.dw_canon.specs.Members.{AreMembers, IsMember, Member, changes_of, fde_of}
-pub use Rattle.dw_canon.specs.Written.{fde_fields, missing}
+pub use Rattle.dw_canon.specs.Written.{fde_field_bytes, missing}
 pub use Rattle.dw_cfa.proofs.Lent.Equal.{agreed_of, cfa_test_of, differs_of, test_of}
 pub use Rattle.dw_cfa.specs.Difference.{DiffersFirst, FirstDifference, place_behind}
 pub use Rattle.dw_cfa.specs.Inner.Agreement.{agreed, same_rule}
 pub use Rattle.dw_cfa.specs.Rows.{AreSpecified, Rules, blank, rule}
 pub use Rattle.dw_cfa.specs.declared.instr.Instr.{Instr}
-pub use Rattle.dw_normal.specs.Answers.{IsTooLong, IsWithin, NormalFault, SameFault, WentOut, Writes, too_long}
-pub use Rattle.dw_normal.specs.Inner.Begun.{Begins, IsReady, SharesIn}
+pub use Rattle.dw_normal.specs.Answers.{IsTooLong, FitsCap, NormalFault, SameFault, WentOut, Writes, too_long}
+pub use Rattle.dw_normal.specs.Inner.Begun.{IsBegun, IsReady, SharesIn}
 pub use Rattle.dw_normal.specs.Inner.ChangeWalk.{BehindFirst, IsShown, Stand, later_bytes, row_or_blank, shown_row}
 pub use Rattle.dw_normal.specs.Inner.Groups.{HasJoined, begun_with, initial_rows, joined_by, row_of, with_member}
 pub use Rattle.dw_normal.specs.Inner.Lengths.{FdeLeaves, Leaves, Measures, MemberLeaves, cie_with, cies_bytes, fdes_bytes}

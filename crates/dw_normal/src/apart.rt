@@ -67,7 +67,7 @@ impl<'a> Apart<'a> {
         Differences::Rows
     }
 
-    // Lists them by what is known of the FDE's CIE and of the group of a return register, and notes that.
+    // Lists them by what is known of the FDE's CIE and of the group of a return address register, and notes that.
     fn list_behind(
         &mut self,
         shared: &Row<'a>,

@@ -8,7 +8,7 @@ ghost use Rattle.dw_section.specs.Meaning.{AreFdes};
 ghost use Rattle.dw_section.specs.Opening.{CieLeaves};
 ghost use Rattle.dw_canon.specs.Members.{Member, AreMembers};
 ghost use Rattle.dw_normal.specs.Inner.Apart.{NotesSame, StandsApart};
-ghost use Rattle.dw_normal.specs.Inner.Begun.{Begins, IsReady, SharesIn};
+ghost use Rattle.dw_normal.specs.Inner.Begun.{IsBegun, IsReady, SharesIn};
 ghost use Rattle.dw_normal.specs.Inner.ChangeWalk.{IsShown, ShownBehind, shown_row};
 ghost use Rattle.dw_normal.specs.Inner.Groups.{row_of};
 ghost use Rattle.dw_normal.specs.Inner.Known.{HoldsAt};
@@ -31,7 +31,7 @@ pub(crate) struct Begun<'r, 'a> {
     pub(crate) apart: Apart<'a>,
 }
 
-/// The initial row of a return register, where that of another one is known, as it mostly is the same.
+/// The initial row of a return address register, where that of another one is known, as it mostly is the same.
 #[inline(always)]
 pub(crate) fn shared_row<'r, 'a>(
     rows: &'r BTreeMap<u16, Row<'a>>,
@@ -103,7 +103,7 @@ pub(crate) fn begin_fde<'r, 'a>(
     // It can be spelled.
     ensures ready { OnOk result (IsReady table.now.target begun.new) }
     // It is the table's FDE at this place.
-    ensures is { (ms : List Member) → AreMembers table.now.target table.now.bytes ms → (d : Member) → OnOk result (Begins ms (slice_index_or ms fde.place d) begun.new) }
+    ensures is { (ms : List Member) → AreMembers table.now.target table.now.bytes ms → (d : Member) → OnOk result (IsBegun ms (slice_index_or ms fde.place d) begun.new) }
     // Its changes are still those of the section.
     ensures section { begun.new.changes.section ≡ table.now }
     ensures shares { OnOk result (SharesIn rows.now.entries begun.new) }

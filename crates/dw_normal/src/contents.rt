@@ -9,8 +9,8 @@ ghost use Rattle.dw_canon.specs.Inner.Fits.{InstrFits};
 ghost use Rattle.dw_canon.specs.Members.{Member};
 ghost use Rattle.dw_canon.specs.Inner.Spelling.{program_bytes};
 ghost use Rattle.dw_canon.specs.Inner.Written.{fde, contents};
-ghost use Rattle.dw_canon.specs.Written.{missing, cie_fields, fde_fields};
-ghost use Rattle.dw_normal.specs.Inner.Begun.{Begins, IsReady};
+ghost use Rattle.dw_canon.specs.Written.{missing, cie_field_bytes, fde_field_bytes};
+ghost use Rattle.dw_normal.specs.Inner.Begun.{IsBegun, IsReady};
 ghost use Rattle.dw_normal.specs.Inner.Lengths.{cie_with};
 
 use crate::begun::Begun;
@@ -49,7 +49,7 @@ pub(crate) fn push_nops(out: &mut Vec<u8>, size: Size) -> Result<(), AllocError>
 
 // Appends what stands before a CIE's program: version 4, no augmentation, the factors 1 and -1.
 fn push_cie_fields(out: &mut Vec<u8>, register: u16, target: Target) -> Result<(), AllocError>
-    ensures { OnOk result (out.new.items ≡ out.old.items ++ cie_fields target register) }
+    ensures { OnOk result (out.new.items ≡ out.old.items ++ cie_field_bytes target register) }
 {
     put_fixed(out, target.order, 4, 0xffffffff)?;
     out.push(4)?;
@@ -154,7 +154,7 @@ pub(crate) fn begin_fde_entry(
     requires cie_at { cie_at < 2 ^ 32 }
     requires begin { begin < address_limit target.size }
     requires range { range < address_limit target.size }
-    ensures { OnOk result (out.new.items ≡ fixed_bytes target.order 4 0 ++ fde_fields target cie_at begin range) }
+    ensures { OnOk result (out.new.items ≡ fixed_bytes target.order 4 0 ++ fde_field_bytes target cie_at begin range) }
 {
     out.clear();
     match target.size {
@@ -175,7 +175,7 @@ pub(crate) fn fill_fde(
     requires begin { begun.old.fde.begin < address_limit target.size }
     requires rises { begun.old.fde.begin ≤ begun.old.fde.end }
     requires range { begun.old.fde.end < begun.old.fde.begin + address_limit target.size }
-    ensures contents { (ms : List Member) (m : Member) → Begins ms m begun.old → OnOk result (out.new.items ≡ fixed_bytes target.order 4 0 ++ contents target (fde cie_at m.begin (m.end - m.begin) (fde_instrs (initial_of ms m.register) m) (program_bytes target (fde_instrs (initial_of ms m.register) m)))) }
+    ensures contents { (ms : List Member) (m : Member) → IsBegun ms m begun.old → OnOk result (out.new.items ≡ fixed_bytes target.order 4 0 ++ contents target (fde cie_at m.begin (m.end - m.begin) (fde_instrs (initial_of ms m.register) m) (program_bytes target (fde_instrs (initial_of ms m.register) m)))) }
     ensures section { begun.new.changes.section ≡ begun.old.changes.section }
     ensures kept { (begun.new.fde ≡ begun.old.fde) × (begun.new.shared ≡ begun.old.shared) × (begun.new.apart ≡ begun.old.apart) }
 {

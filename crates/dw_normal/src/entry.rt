@@ -91,7 +91,7 @@ fn put_entry<S: Sink>(sink: &mut S, buffer: &mut Vec<u8>, order: Order) -> Resul
     put_bytes(sink, buffer)
 }
 
-// Puts the CIE of a return register with its initial row.
+// Puts the CIE of a return address register with its initial row.
 fn write_cie<'a, S: Sink>(
     alloc: Global,
     sink: &mut S,
@@ -141,7 +141,7 @@ fn write_cies<'a, S: Sink>(
     Ok(written)
 }
 
-/// The FDE that is written, where the CIE of its return register stands, and a row that other FDEs may begin with.
+/// The FDE that is written, where the CIE of its return address register stands, and a row that other FDEs may begin with.
 #[derive(Drop)]
 pub(crate) struct Writing<'r, 'a> {
     pub(crate) begun: Begun<'r, 'a>,
@@ -149,7 +149,7 @@ pub(crate) struct Writing<'r, 'a> {
     pub(crate) opened: Option<Opened<'a>>,
 }
 
-// The place of the CIE of a return register, where that of another one is known, as it mostly is the same.
+// The place of the CIE of a return address register, where that of another one is known, as it mostly is the same.
 #[inline(always)]
 fn cie_of(places: &BTreeMap<u16, u64>, register: u16, known: u16, cie_at: u64) -> u64
     requires some { IsSome (place_in places.now.entries register) }

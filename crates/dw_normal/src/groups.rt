@@ -1,4 +1,4 @@
-//! The initial row of each return register, found in one pass over the FDEs.
+//! The initial row of each return address register, found in one pass over the FDEs.
 
 ghost use Rattle.std.specs.Prelude.{◌≡◌, ℕ, [], ◌≤◌, length, take, None, Some, IfOk, IfSome, IsTrue, OnOk};
 ghost use Rattle.std.specs.BTreeMap.{get, insert_entry};
@@ -116,8 +116,8 @@ fn first_shared<'a>(changes: &mut Changes<'a>) -> Result<Row<'a>, AllocError>
     Ok(row)
 }
 
-// Begins the group of a return register with an FDE, whose row at its begin is shown. Apart from `add_fde`, since a row is large
-// and few FDEs begin a group.
+// Begins the group of a return address register with an FDE, whose row at its begin is shown. Apart from `add_fde`, since a row is
+// large and few FDEs begin a group.
 #[inline(never)]
 fn begin_group<'a>(
     rows: &mut BTreeMap<u16, Row<'a>>,
@@ -165,7 +165,7 @@ fn add_fde<'a>(
     }
 }
 
-/// A row that FDEs begin with, which the row of a group was narrowed to, and the return register of the group.
+/// A row that FDEs begin with, which the row of a group was narrowed to, and the return address register of the group.
 #[derive(Clone, Copy)]
 pub(crate) struct Joined {
     pub(crate) row: CieRow,
@@ -254,7 +254,7 @@ fn gather<'a>(
     Ok(total.is_some())
 }
 
-/// The initial row of each return register, in one pass over the FDEs, and whether the lengths of the programs alone show
+/// The initial row of each return address register, in one pass over the FDEs, and whether the lengths of the programs alone show
 /// that the normal form is within a cap.
 pub(crate) fn initial_rows<'a>(
     alloc: Global,

@@ -14,7 +14,7 @@ use std::alloc::{AllocError, Global};
 use std::collections::BTreeMap;
 use std::mem;
 
-/// A set of registers that is known of a CIE and of the group of a return register.
+/// A set of registers that is known of a CIE and of the group of a return address register.
 #[derive(Drop)]
 pub(crate) struct CieSet<'a> {
     pub(crate) register: u16,
@@ -42,7 +42,7 @@ impl<'a> Known<'a> {
         }
     }
 
-    /// Takes out what is known of a CIE, where it is of the group of a return register.
+    /// Takes out what is known of a CIE, where it is of the group of a return address register.
     pub(crate) fn take(&mut self, cie_at: u64, register: u16) -> Option<RegisterSet<'a>>
         ensures found { IfSome result (λ set. get nat_cmp self.old.cies cie_at ≡ Some (record { register = register; set = set })) }
         ensures less { AreLess self.old.cies self.new.cies }
@@ -54,7 +54,8 @@ impl<'a> Known<'a> {
         }
     }
 
-    /// Makes a set what is known of a CIE and of the group of a return register. Where there is no memory for it, it is forgotten.
+    /// Makes a set what is known of a CIE and of the group of a return address register. Where there is no memory for it, it is
+    /// forgotten.
     pub(crate) fn put(&mut self, cie_at: u64, register: u16, set: RegisterSet<'a>)
         ensures puts { Puts cie_at (record { register = register; set = set.entry }) self.old.cies self.new.cies }
         ensures changed { self.new.changed ≡ self.old.changed }

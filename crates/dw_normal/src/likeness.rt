@@ -224,7 +224,7 @@ fn same_over<'a, 'b>(
     Ok(true)
 }
 
-/// Whether two tables say the same: the same nonempty FDEs with the same return-address registers, and the
+/// Whether two tables say the same: the same nonempty FDEs with the same return address registers, and the
 /// same rules at each address that they cover. It ends at the first FDE that differs.
 pub(crate) fn same_tables(
     alloc: Global,

@@ -4,10 +4,11 @@ ghost use Rattle.std.specs.Prelude.{◌≡◌, ◌⊎◌, ℕ, ◌<◌, ◌≤�
 ghost use Rattle.std.specs.Bool.{Decides};
 ghost use Rattle.dw_num.specs.declared.error.ReadError.TheVariants as TheError;
 ghost use Rattle.dw_num.specs.Refusals.{Refuses};
+ghost use Rattle.dw_op.specs.Faults.{IsWithin};
 ghost use Rattle.dw_section.specs.Accepted.{Accepted};
 ghost use Rattle.dw_normal.specs.declared.error.SameError.TheVariants as TheSameError;
 ghost use Rattle.dw_canon.specs.Normal.{IsNormalForm};
-ghost use Rattle.dw_normal.specs.Answers.{NormalFault, SameFault, Writes, IsWithin, too_long};
+ghost use Rattle.dw_normal.specs.Answers.{FitsCap, IsWithinEither, NormalFault, RefusesWithin, SameFault, Writes, too_long};
 ghost use Rattle.dw_normal.specs.Inner.Answers.{LengthFault, blamed, unread, unwritten};
 ghost use Rattle.dw_normal.specs.Inner.Puts.{put_is};
 ghost use Rattle.dw_section.specs.Meanings.{SameMeaning};
@@ -19,7 +20,7 @@ use crate::preparation::{measured_section, prepared, short_table};
 use crate::sink::Sink;
 use crate::tape::Tape;
 use dw_num::{ReadError, Target, are_bytes};
-use dw_section::{Table, check};
+use dw_section::{Table, check, section_laws};
 use std::alloc::Global;
 
 // The most bytes that a section has.
@@ -27,8 +28,8 @@ const LIMIT: u64 = 2_147_483_647;
 
 /// The normal form of a section, of at most `cap` bytes, where `cap` is at most 2,147,483,647.
 ///
-/// A refusal is the section's first fault, as `dw_section::check` has it, else `NormalTooLong` at 0 where the normal form has
-/// more than `cap` bytes. `OutOfMemory` is answered where a request for memory was refused.
+/// A refusal is the section's first fault (1 to 26, as `dw_section::check` has it), else `NormalTooLong` (27) at 0 where the normal
+/// form has more than `cap` bytes. `OutOfMemory` is answered where a request for memory was refused.
 pub fn normalise(
     alloc: Global,
     bytes: &[u8],
@@ -44,8 +45,11 @@ pub fn normalise(
     ensures longer { (n : List ℕ) → IsNormalForm target bytes.now n → cap < length n → IfErr result (λ e. (e ≡ TheError.Refused too_long) ⊎ (e ≡ TheError.OutOfMemory)) }
     // A refusal is the first fault, or that the normal form is longer.
     ensures first { IfErr result (Refuses (NormalFault target cap bytes.now)) }
+    // Its place lies in the section.
+    ensures within { IfErr result (Refuses (IsWithin bytes.now)) }
 {
     are_bytes(bytes);
+    section_laws();
     let mut tape = Tape::new(alloc);
     match normalise_to(alloc, bytes, target, cap, &mut tape) {
         Ok(_) => Ok(tape.into_bytes()),
@@ -65,8 +69,10 @@ pub fn normal_length(
     ensures found { IfOk result (λ count. (n : List ℕ) × IsNormalForm target bytes.now n × (length n ≤ cap) × (count ≡ length n)) }
     ensures only { (n : List ℕ) → IsNormalForm target bytes.now n → length n ≤ cap → MatchResult result (λ count. count ≡ length n) (λ e. e ≡ TheError.OutOfMemory) }
     ensures first { IfErr result (Refuses (NormalFault target cap bytes.now)) }
+    ensures within { IfErr result (Refuses (IsWithin bytes.now)) }
 {
     are_bytes(bytes);
+    section_laws();
     match measured_section(alloc, bytes, target, cap) {
         Ok(measured) => Ok(measured.len),
         Err(error) => Err(error),
@@ -120,8 +126,10 @@ pub fn normalise_to<S: Sink>(
     requires cap { cap ≤ 2147483647 }
     requires room { S.failures sink.old < 2 ^ 64 - 1 }
     ensures writes { Writes target cap bytes.now result (S.failures sink.old) (S.failures sink.new) (S.taken sink.old) (S.taken sink.new) }
+    ensures within { IfErr result (RefusesWithin bytes.now) }
 {
     are_bytes(bytes);
+    section_laws();
     match prepared(alloc, bytes, target, cap) {
         Ok(ready) => put_is(write_entries(alloc, sink, &ready.table, &ready.rows)),
         Err(error) => Err(unwritten(error)),
@@ -142,7 +150,7 @@ fn blamed(which: Which, error: ReadError) -> SameError
 fn compared(alloc: Global, first: Table<'_>, second: Table<'_>) -> Result<bool, SameError>
     requires target { first.target ≡ second.target }
     ensures found { IfOk result (λ b. Decides b (SameMeaning first.entry.target first.entry.bytes second.entry.bytes)) }
-    ensures within { IfOk result (λ b. IsWithin first.entry.target 2147483647 first.entry.bytes × IsWithin first.entry.target 2147483647 second.entry.bytes) }
+    ensures fit { IfOk result (λ b. FitsCap first.entry.target 2147483647 first.entry.bytes × FitsCap first.entry.target 2147483647 second.entry.bytes) }
     ensures refused { IfErr result (LengthFault first.entry.target 2147483647 first.entry.bytes second.entry.bytes) }
 {
     let one = match short_table(alloc, first, LIMIT) {
@@ -161,7 +169,7 @@ fn compared(alloc: Global, first: Table<'_>, second: Table<'_>) -> Result<bool, 
 
 // Whether a checked section says the same as itself: it does, unless its normal form is too long.
 fn same_as_itself(alloc: Global, table: Table<'_>) -> Result<bool, SameError>
-    ensures found { IfOk result (λ b. (b ≡ true) × IsWithin table.entry.target 2147483647 table.entry.bytes) }
+    ensures found { IfOk result (λ b. (b ≡ true) × FitsCap table.entry.target 2147483647 table.entry.bytes) }
     ensures refused { IfErr result (LengthFault table.entry.target 2147483647 table.entry.bytes table.entry.bytes) }
 {
     match short_table(alloc, table, LIMIT) {
@@ -170,21 +178,24 @@ fn same_as_itself(alloc: Global, table: Table<'_>) -> Result<bool, SameError>
     }
 }
 
-/// Whether two sections say the same: the same nonempty FDEs with the same return registers, and the same rules at each address
-/// that they cover.
+/// Whether two sections say the same: the same nonempty FDEs with the same return address registers, and the same rules at each
+/// address that they cover.
 ///
 /// `Refused` has the first fault, as `dw_section::check` has it, and says whose it is: the first section's comes before the
 /// second's. Where neither has one, a section whose normal form has more than 2,147,483,647 bytes is refused too, with
-/// `NormalTooLong` at 0, again the first one before the second. `OutOfMemory` is answered where a request for memory was refused.
+/// `NormalTooLong` (27) at 0, again the first one before the second. `OutOfMemory` is answered where a request for memory was
+/// refused.
 pub fn same(alloc: Global, first: &[u8], second: &[u8], target: Target) -> Result<bool, SameError>
     ensures found { IfOk result (λ b. Accepted target first.now × Accepted target second.now × Decides b (SameMeaning target first.now second.now)) }
     // Where a normal form has more than 2,147,483,647 bytes there is no answer.
-    ensures within { IfOk result (λ b. IsWithin target 2147483647 first.now × IsWithin target 2147483647 second.now) }
-    ensures only { IsWithin target 2147483647 first.now → IsWithin target 2147483647 second.now → IfErr result (λ e. e ≡ TheSameError.OutOfMemory) }
+    ensures fit { IfOk result (λ b. FitsCap target 2147483647 first.now × FitsCap target 2147483647 second.now) }
+    ensures only { FitsCap target 2147483647 first.now → FitsCap target 2147483647 second.now → IfErr result (λ e. e ≡ TheSameError.OutOfMemory) }
     ensures refused { IfErr result (SameFault target 2147483647 first.now second.now) }
+    ensures within { IfErr result (IsWithinEither first.now second.now) }
 {
     are_bytes(first);
     are_bytes(second);
+    section_laws();
     let one = match check(alloc, first, target) {
         Ok(one) => one,
         Err(error) => return Err(blamed(Which::First, error)),

@@ -26,7 +26,7 @@ use dw_num::Target;
 use dw_section::{CieRow, Fde, Opening};
 use std::alloc::{AllocError, Global};
 
-/// A row that FDEs of one CIE and of one return register begin with, as it was found at one of them.
+/// A row that FDEs of one CIE and of one return address register begin with, as it was found at one of them.
 #[derive(Drop)]
 pub(crate) struct Opened<'a> {
     pub(crate) behind: CieRow,
@@ -38,7 +38,7 @@ pub(crate) struct Opened<'a> {
     pub(crate) program: Vec<u8>,
 }
 
-/// What is known of the row that an FDE of a return register begins with.
+/// What is known of the row that an FDE of a return address register begins with.
 #[inline(always)]
 pub(crate) fn known_first<'o, 'a>(
     opened: &'o Option<Opened<'a>>,
@@ -104,7 +104,7 @@ fn opened_by<'a>(
     })
 }
 
-/// Keeps the row at an FDE's begin, which is shown, for those that begin with it too. One with registers from 32 on is not kept.
+/// Keeps the row at an FDE's begin, which is shown, for those that begin with it too. One with registers from 128 on is not kept.
 #[inline(always)]
 pub(crate) fn keep_first<'a>(
     alloc: Global,

@@ -5,7 +5,7 @@ ghost use Rattle.std.specs.Prelude.{◌≡◌, ◌<◌, ◌≤◌, ◌+◌, ◌-
 ghost use Rattle.dw_num.specs.Fixed.{fixed_number};
 ghost use Rattle.dw_cfa.specs.declared.instr.Factors.{Factors as TheFactors};
 ghost use Rattle.dw_num.specs.declared.target.Order.{Order as TheOrder};
-ghost use Rattle.dw_normal.specs.Inner.PlainInstruction.{IsNear, Reads, SlebFirst, StandsFirst, UlebFirst};
+ghost use Rattle.dw_normal.specs.Inner.PlainInstruction.{IsNear, ReadsPlain, SlebFirst, StandsFirst, UlebFirst};
 
 use crate::opcode::{
     ADVANCE_LOC, ADVANCE_LOC1, ADVANCE_LOC2, DEF_CFA, DEF_CFA_OFFSET, DEF_CFA_OFFSET_SF,
@@ -127,7 +127,7 @@ fn number_of(first: u8, second: u8, order: Order) -> u16
 #[inline(always)]
 fn advance(bytes: &[u8], factors: Factors) -> Option<(Plain, usize)>
     requires { (0x40 ≤ get_or bytes.now 0 0) × (get_or bytes.now 0 0 < 0x80) }
-    ensures { (order : TheOrder) → IfSome result (λ x. Reads factors order bytes.now x) }
+    ensures { (order : TheOrder) → IfSome result (λ x. ReadsPlain factors order bytes.now x) }
 {
     let [code, ..] = bytes else {
         return None;
@@ -140,7 +140,7 @@ fn advance(bytes: &[u8], factors: Factors) -> Option<(Plain, usize)>
 #[inline(always)]
 fn advance_1(bytes: &[u8], factors: Factors) -> Option<(Plain, usize)>
     requires { get_or bytes.now 0 0 ≡ 0x02 }
-    ensures { (order : TheOrder) → IfSome result (λ x. Reads factors order bytes.now x) }
+    ensures { (order : TheOrder) → IfSome result (λ x. ReadsPlain factors order bytes.now x) }
 {
     let [_, delta, ..] = bytes else {
         return None;
@@ -154,7 +154,7 @@ fn advance_1(bytes: &[u8], factors: Factors) -> Option<(Plain, usize)>
 #[tactic(auto, using(crate::proofs::PlainReads::advance_2_reads))]
 fn advance_2(bytes: &[u8], factors: Factors, order: Order) -> Option<(Plain, usize)>
     requires { get_or bytes.now 0 0 ≡ 0x03 }
-    ensures { IfSome result (λ x. Reads factors order bytes.now x) }
+    ensures { IfSome result (λ x. ReadsPlain factors order bytes.now x) }
 {
     let [_, first, second, ..] = bytes else {
         return None;
@@ -167,7 +167,7 @@ fn advance_2(bytes: &[u8], factors: Factors, order: Order) -> Option<(Plain, usi
 #[inline(always)]
 fn offset(bytes: &[u8], factors: Factors) -> Option<(Plain, usize)>
     requires { (0x80 ≤ get_or bytes.now 0 0) × (get_or bytes.now 0 0 < 0xa0) }
-    ensures { (order : TheOrder) → IfSome result (λ x. Reads factors order bytes.now x) }
+    ensures { (order : TheOrder) → IfSome result (λ x. ReadsPlain factors order bytes.now x) }
 {
     let [code, operand, ..] = bytes else {
         return None;
@@ -183,7 +183,7 @@ fn offset(bytes: &[u8], factors: Factors) -> Option<(Plain, usize)>
 #[inline(always)]
 fn restore(bytes: &[u8]) -> Option<(Plain, usize)>
     requires { (0xc0 ≤ get_or bytes.now 0 0) × (get_or bytes.now 0 0 < 0xe0) }
-    ensures { (factors : TheFactors) (order : TheOrder) → IfSome result (λ x. Reads factors order bytes.now x) }
+    ensures { (factors : TheFactors) (order : TheOrder) → IfSome result (λ x. ReadsPlain factors order bytes.now x) }
 {
     let [code, ..] = bytes else {
         return None;
@@ -195,7 +195,7 @@ fn restore(bytes: &[u8]) -> Option<(Plain, usize)>
 #[inline(always)]
 fn def_cfa(bytes: &[u8]) -> Option<(Plain, usize)>
     requires { get_or bytes.now 0 0 ≡ 0x0c }
-    ensures { (factors : TheFactors) (order : TheOrder) → IfSome result (λ x. Reads factors order bytes.now x) }
+    ensures { (factors : TheFactors) (order : TheOrder) → IfSome result (λ x. ReadsPlain factors order bytes.now x) }
 {
     let [_, register, offset, ..] = bytes else {
         return None;
@@ -210,7 +210,7 @@ fn def_cfa(bytes: &[u8]) -> Option<(Plain, usize)>
 #[inline(always)]
 fn def_cfa_register(bytes: &[u8]) -> Option<(Plain, usize)>
     requires { get_or bytes.now 0 0 ≡ 0x0d }
-    ensures { (factors : TheFactors) (order : TheOrder) → IfSome result (λ x. Reads factors order bytes.now x) }
+    ensures { (factors : TheFactors) (order : TheOrder) → IfSome result (λ x. ReadsPlain factors order bytes.now x) }
 {
     let [_, register, ..] = bytes else {
         return None;
@@ -225,7 +225,7 @@ fn def_cfa_register(bytes: &[u8]) -> Option<(Plain, usize)>
 #[inline(always)]
 fn def_cfa_offset(bytes: &[u8]) -> Option<(Plain, usize)>
     requires { (0 < length bytes.now) × (get_or bytes.now 0 0 ≡ 0x0e) }
-    ensures { (factors : TheFactors) (order : TheOrder) → IfSome result (λ x. Reads factors order bytes.now x) }
+    ensures { (factors : TheFactors) (order : TheOrder) → IfSome result (λ x. ReadsPlain factors order bytes.now x) }
 {
     let (offset, count) = short_number(&bytes[1..])?;
     Some((Plain::DefCfaOffset(i64::from(offset)), 1 + count))
@@ -235,7 +235,7 @@ fn def_cfa_offset(bytes: &[u8]) -> Option<(Plain, usize)>
 #[inline(always)]
 fn def_cfa_offset_sf(bytes: &[u8], factors: Factors) -> Option<(Plain, usize)>
     requires { (0 < length bytes.now) × (get_or bytes.now 0 0 ≡ 0x13) }
-    ensures { (order : TheOrder) → IfSome result (λ x. Reads factors order bytes.now x) }
+    ensures { (order : TheOrder) → IfSome result (λ x. ReadsPlain factors order bytes.now x) }
 {
     let (operand, count) = short_signed(&bytes[1..])?;
     let offset = factored(operand, factors)?;
@@ -245,7 +245,7 @@ fn def_cfa_offset_sf(bytes: &[u8], factors: Factors) -> Option<(Plain, usize)>
 // What the first code says, where its bytes are there.
 #[inline(always)]
 fn read(bytes: &[u8], factors: Factors, order: Order) -> Option<(Plain, usize)>
-    ensures { IfSome result (λ x. Reads factors order bytes.now x) }
+    ensures { IfSome result (λ x. ReadsPlain factors order bytes.now x) }
 {
     let [code, ..] = bytes else {
         return None;

@@ -1,7 +1,7 @@
 //! Plain programs of FDEs: the normal form of one is written while its instructions are read, and none of its rows is made.
 
 ghost use Rattle.std.specs.Prelude.{◌≡◌, ◌<◌, ◌++◌, [], List, IfOk, IsTrue, OnOk};
-ghost use Rattle.dw_cfa.specs.InstrSpells.{Program};
+ghost use Rattle.dw_cfa.specs.InstrSpells.{ProgramSpells};
 ghost use Rattle.dw_cfa.specs.Rows.{Rules};
 ghost use Rattle.dw_cfa.specs.declared.instr.Instr.{Instr};
 ghost use Rattle.dw_cfa.specs.declared.instr.Instr.TheVariants.{Advance, DefCfa, Restore, RememberState, RestoreState, Set};
@@ -224,10 +224,10 @@ impl PlainRun {
         factors: Factors,
         frame: Frame<'_, '_>,
     ) -> Result<bool, AllocError>
-        requires runs { (initial : Rules) × (instrs : List Instr) × Program frame.target factors instrs program.now × RunsIn frame self.old initial instrs }
+        requires runs { (initial : Rules) × (instrs : List Instr) × ProgramSpells frame.target factors instrs program.now × RunsIn frame self.old initial instrs }
         requires first { Marks frame.first.now frame.marks.now }
         requires shared { Marks frame.shared.now frame.marks.now }
-        ensures { (initial : Rules) (instrs : List Instr) → Program frame.entry.target factors instrs program.now → RunsIn frame.entry self.old initial instrs → IfOk result (λ plain. IsTrue plain → out.new.items ≡ out.old.items ++ bytes_in frame.entry self.old initial instrs) }
+        ensures { (initial : Rules) (instrs : List Instr) → ProgramSpells frame.entry.target factors instrs program.now → RunsIn frame.entry self.old initial instrs → IfOk result (λ plain. IsTrue plain → out.new.items ≡ out.old.items ++ bytes_in frame.entry self.old initial instrs) }
     {
         let mut left = program;
         'instrs: while !left.is_empty() {

@@ -9,7 +9,7 @@ ghost use Rattle.dw_cfa.specs.Difference.{FirstDifference};
 ghost use Rattle.dw_cfa.specs.Rows.{rule};
 ghost use Rattle.dw_cfa.specs.declared.rule.RegRule.TheVariants.{Offset};
 ghost use Rattle.dw_cfa.specs.Inner.Agreement.{same_rule};
-ghost use Rattle.dw_cfa.specs.Inner.RowEquality.{same_rows};
+ghost use Rattle.dw_cfa.proofs.Lent.Equal.{row_test};
 ghost use Rattle.dw_cfa.specs.Inner.Rows.{with_cfa, with_rule};
 ghost use Rattle.dw_canon.specs.Difference.{move};
 ghost use Rattle.dw_canon.specs.Inner.Difference.{cfa_difference, difference, rule_to};
@@ -408,7 +408,7 @@ impl PlainRows {
     #[inline(always)]
     fn is_written<'a>(&self, first: &Row<'a>) -> bool
         requires { RowsSo first.now self.now }
-        ensures { result ≡ same_rows (written_row first.now self.now) (own_row first.now self.now) }
+        ensures { result ≡ row_test.0 (written_row first.now self.now) (own_row first.now self.now) }
     {
         if !is_same(self.written_cfa, self.cfa) {
             return false;
@@ -450,9 +450,9 @@ impl PlainRows {
     ) -> Result<(), AllocError>
         requires so { RowsSo first.now self.old }
         requires marks { Marks shared.now marks.now }
-        requires rises { same_rows (written_row first.now self.old) (own_row first.now self.old) ≡ false → self.old.at < self.old.start }
+        requires rises { row_test.0 (written_row first.now self.old) (own_row first.now self.old) ≡ false → self.old.at < self.old.start }
         requires in_space { self.old.start < address_limit target.size }
-        requires fits { same_rows (written_row first.now self.old) (own_row first.now self.old) ≡ false → AllByRecursion (InstrFits target) (difference shared.now (written_row first.now self.old) (own_row first.now self.old)) }
+        requires fits { row_test.0 (written_row first.now self.old) (own_row first.now self.old) ≡ false → AllByRecursion (InstrFits target) (difference shared.now (written_row first.now self.old) (own_row first.now self.old)) }
         ensures appends { OnOk result (out.new.items ≡ out.old.items ++ program_bytes target (row_instrs shared.now first.now self.old)) }
         ensures written { OnOk result (IsWritten first.now self.old self.new) }
     {
@@ -476,9 +476,9 @@ impl PlainRows {
     ) -> Result<(), AllocError>
         requires untouched { self.old.high ≤ self.old.low }
         requires so { RowsSo first.now self.old }
-        requires rises { same_rows (written_row first.now self.old) (own_row first.now self.old) ≡ false → self.old.at < self.old.start }
+        requires rises { row_test.0 (written_row first.now self.old) (own_row first.now self.old) ≡ false → self.old.at < self.old.start }
         requires in_space { self.old.start < address_limit target.size }
-        requires fits { same_rows (written_row first.now self.old) (own_row first.now self.old) ≡ false → AllByRecursion (InstrFits target) (difference shared.now (written_row first.now self.old) (own_row first.now self.old)) }
+        requires fits { row_test.0 (written_row first.now self.old) (own_row first.now self.old) ≡ false → AllByRecursion (InstrFits target) (difference shared.now (written_row first.now self.old) (own_row first.now self.old)) }
         ensures appends { OnOk result (out.new.items ≡ out.old.items ++ program_bytes target (row_instrs shared.now first.now self.old)) }
         ensures written { OnOk result (IsWritten first.now self.old self.new) }
     {
@@ -505,9 +505,9 @@ impl PlainRows {
     ) -> Result<(), AllocError>
         requires so { RowsSo first.now self.old }
         requires marks { Marks shared.now marks.now }
-        requires rises { same_rows (written_row first.now self.old) (own_row first.now self.old) ≡ false → self.old.at < self.old.start }
+        requires rises { row_test.0 (written_row first.now self.old) (own_row first.now self.old) ≡ false → self.old.at < self.old.start }
         requires in_space { self.old.start < address_limit target.size }
-        requires fits { same_rows (written_row first.now self.old) (own_row first.now self.old) ≡ false → AllByRecursion (InstrFits target) (difference shared.now (written_row first.now self.old) (own_row first.now self.old)) }
+        requires fits { row_test.0 (written_row first.now self.old) (own_row first.now self.old) ≡ false → AllByRecursion (InstrFits target) (difference shared.now (written_row first.now self.old) (own_row first.now self.old)) }
         ensures appends { OnOk result (out.new.items ≡ out.old.items ++ program_bytes target (row_instrs shared.now first.now self.old)) }
         ensures written { OnOk result (IsWritten first.now self.old self.new) }
     {

@@ -16,7 +16,7 @@ use dw_section::{Table, check};
 use std::alloc::Global;
 use std::collections::BTreeMap;
 
-/// A checked section with the initial row of each return register; its normal form is within a cap.
+/// A checked section with the initial row of each return address register; its normal form is within a cap.
 #[derive(Drop)]
 pub(crate) struct Ready<'a> {
     pub(crate) table: Table<'a>,

@@ -1,7 +1,7 @@
 -- What reading an operation refuses is the fault of its code, or of the first operand field that has one.
 use Rattle.dw_op.proofs.Words.{◌≡◌, ℕ, ◌+◌, ◌≤◌, true, List, [], ◌∷◌, ◌++◌, Option, Some, None, Result, Ok, Err, refl, sym, ap, subst, ◌∙◌, arith, inl, inr, Width, byte_len, pos, ints, cases_Bool, nat_tests, NotInFrame, Refusal, Order}
 use Rattle.dw_op.proofs.Words.{Target, Size, byte_count, Input, Fixed, FixedSigned, fixed_bytes, Uleb, Sleb, Read, fault, fixed_at, take_at, uleb_at, address_at, ◌>>=◌, fixed_below, byte_again, Op, Profile, Location, ByteCount, One, Plain}
-use Rattle.dw_op.proofs.Words.{Step, Opcode, Spells, FormSpells, Field, Value, Form, form_at, field_at, past, sized, counted, HasCode, OpFault, opcode_of, code_in_frame, allows, with_op, width_of, signed_of, with_jump, operands_at, judged}
+use Rattle.dw_op.proofs.Words.{Step, Opcode, FieldSpells, OpFormSpells, Field, FieldValue, OpForm, form_at, field_at, past, sized, counted, HasCode, OpFault, opcode_of, code_in_frame, allows, with_op, width_of, signed_of, with_jump, operands_at, judged}
 use Rattle.dw_op.proofs.Words.{step_at}
 use Rattle.dw_num.specs.declared.target.Size.TheVariants as sizes
 use Rattle.dw_op.specs.Operands as fields
@@ -49,7 +49,7 @@ value_end fields.size i w = size_end (byte_count i.target.size) i.at (fixed_at 1
 value_end fields.block i w = block_end (uleb_at i)
 value_end o i w = refl
 
-form_end : (form : Form) (i : Input) → FormWide form → past (step_of form i) ≡ form_at form i
+form_end : (form : OpForm) (i : Input) → FormWide form → past (step_of form i) ≡ form_at form i
 form_end (fields.none made) i w = refl
 form_end (fields.one o make) i w = same_past (value_at o i) (with_op make) (λ x. refl) ∙ value_end o i w
 form_end (fields.two o p make) i w =
@@ -74,7 +74,7 @@ one_fits sizes.Eight = omega arith
 
 module _ (t : Target) where
   -- bytes that spell a field, and the fields of a form
-  field_example : (o : Field) → Wide o → (x : Value o) × (b : List ℕ) × Spells t o x b
+  field_example : (o : Field) → Wide o → (x : FieldValue o) × (b : List ℕ) × FieldSpells t o x b
   field_example (fields.fixed n) w = (0, fixed_bytes t.order n 0, zeros t.order n)
   field_example (fields.twos w) same =
       let z = signed_of (count_in w) 0 in
@@ -87,7 +87,7 @@ module _ (t : Target) where
   field_example fields.size w = (1, fixed_bytes t.order 1 1, (record { bytes = refl; fits = omega arith }, omega arith, one_fits t.size))
   field_example fields.block w = ([], 0 ∷ [], record { front = 0 ∷ []; back = []; first = zero_uleb; second = refl; whole = refl })
 
-  form_example : (form : Form) → FormWide form → (op : Op) × (b : List ℕ) × FormSpells t form op b
+  form_example : (form : OpForm) → FormWide form → (op : Op) × (b : List ℕ) × OpFormSpells t form op b
   form_example (fields.none made) w = (made, [], (refl, refl))
   form_example (fields.one o make) w = let x = field_example o w in (make x.0, x.1, (x.0, refl, x.2))
   form_example (fields.two o p make) w =
@@ -164,4 +164,4 @@ module _ (profile : Profile) (t : Target) (at code : ℕ) (operands : List ℕ) 
           let k = known profile t code u.0 in
           let same : k.0 ≡ opcode = cc in
           let form : form_for t opcode ≡ u.1 = let f = (opcode_known t code opcode is).form in cc in
-          rw (rw same at k.2) (errs (operands_at opcode behind) r (operands_end opcode is ∙ ap (λ (x : Form). form_at x behind) form ∙ u.3))
+          rw (rw same at k.2) (errs (operands_at opcode behind) r (operands_end opcode is ∙ ap (λ (x : OpForm). form_at x behind) form ∙ u.3))

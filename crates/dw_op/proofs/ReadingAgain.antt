@@ -1,7 +1,7 @@
 -- What is spelled is read.
 use Rattle.dw_op.proofs.Words.{◌≡◌, Option, ℕ, ◌+◌, ◌-◌, Bool, true, List, [], ◌∷◌, ◌++◌, length, Some, None, refl, sym, ap, ◌∙◌, arith, inl, inr, append-nil, cases_Bool, le-leb, Again, again-then, take_again, byte_again, address_again}
 use Rattle.dw_op.proofs.Words.{Target, byte_count, Input, Fixed, fixed_number, fixed_bytes, Read, uleb_at, ◌>>=◌, uleb_again, register_again, sleb_again, fixed_at_again, fixed_again, length-fixed, Op, Profile, Step, Plain, Jump, Opcode}
-use Rattle.dw_op.proofs.Words.{Spells, FormSpells, branch_target, StepSpells, step_in_frame, step_allowed, Field, Value, Form, form_table, form_of, in_range, plain_op, opcode_of, code_in_frame, with_op, width_of, step_at}
+use Rattle.dw_op.proofs.Words.{FieldSpells, OpFormSpells, branch_target, StepSpells, step_in_frame, step_allowed, Field, FieldValue, OpForm, op_form_table, form_of, in_range, plain_op, opcode_of, code_in_frame, with_op, width_of, step_at}
 use Rattle.dw_op.specs.declared.op.Op.TheVariants as ops
 use Rattle.dw_op.specs.declared.operation.Branch.TheVariants.{Bra, Skip}
 use Rattle.dw_op.specs.declared.operation.Opcode.TheVariants as opcodes
@@ -12,7 +12,7 @@ use Rattle.dw_op.proofs.Lent.ReadingLaws.{some_is, EachEntry, looked_up, ◌&◌
 module _ (t : Target) where
   -- ---- the fields of a form
 
-  value_again : (o : Field) (x : Value o) (b : List ℕ) → Wide o → Spells t o x b → Again t (value_at o) x b
+  value_again : (o : Field) (x : FieldValue o) (b : List ℕ) → Wide o → FieldSpells t o x b → Again t (value_at o) x b
   value_again (fields.fixed n) x b w s at rest = fixed_at_again n at t x b rest s
   value_again (fields.twos w) z b same s at rest =
       let c = complement_of (count_in w) t.order z b (rw same s) in
@@ -31,7 +31,7 @@ module _ (t : Target) where
   two_again : (n : ℕ) (b : List ℕ) → Fixed t.order 2 n b → fixed_number t.order 2 b ≡ n
   two_again n b f = ap (λ (l : List ℕ). fixed_number t.order 2 l) (f.bytes ∙ sym (append-nil (fixed_bytes t.order 2 n))) ∙ fixed_again t.order 2 n [] f.fits
 
-  form_again : (form : Form) (step : Step) (b : List ℕ) → FormWide form → StepForm t form step b → Again t (step_of form) step b
+  form_again : (form : OpForm) (step : Step) (b : List ℕ) → FormWide form → StepForm t form step b → Again t (step_of form) step b
   form_again (fields.none made) step b w (op, is, (same, nil)) at rest = let place : at + 0 ≡ at = omega arith in rw (is, same, nil, place) refl
   form_again (fields.one o make) step b w (op, is, (x, same, s)) at rest = rw (is, same) (op_again (value_at o) make x b (value_again o x b w s) at rest)
   form_again (fields.two o p make) step b w (op, is, (x, y, same, s)) at rest =
@@ -43,24 +43,24 @@ module _ (t : Target) where
 
   -- ---- the opcode of a form
 
-  abbrev Says : Form → Option Opcode → Type 0
+  abbrev Says : OpForm → Option Opcode → Type 0
   Says form None = ⊥
   Says form (Some opcode) = form_for t opcode ≡ form
 
-  behind_entries : EachEntry (λ form code. Says form (opcode_of code)) (form_table t)
+  behind_entries : EachEntry (λ form code. Says form (opcode_of code)) (op_form_table t)
   unfolding opcode_of plain_op
   behind_entries =
       refl & refl & refl & refl & refl & refl & refl & refl & refl & refl & refl & refl & refl & refl & refl & refl & refl & refl & refl & refl & refl & refl & refl & refl & refl & refl & refl & refl & refl & refl & refl & refl & refl & refl
       & refl & refl & refl & refl & refl & refl & refl & refl & refl & refl & refl & refl & refl & refl & refl & refl & refl & refl & tt
 
-  abbrev pub Behind : Form → ℕ → Type 0
+  abbrev pub Behind : OpForm → ℕ → Type 0
   Behind form code = (opcode : Opcode) × (opcode_of code ≡ Some opcode) × (form_for t opcode ≡ form)
 
-  said : (form : Form) (code : ℕ) (o : Option Opcode) → opcode_of code ≡ o → Says form o → Behind form code
+  said : (form : OpForm) (code : ℕ) (o : Option Opcode) → opcode_of code ≡ o → Says form o → Behind form code
   said form code None is h = absurd h
   said form code (Some opcode) is h = (opcode, is, h)
 
-  pub opcode_behind : (code : ℕ) (form : Form) → form_of t code ≡ Some form → Behind form code
+  pub opcode_behind : (code : ℕ) (form : OpForm) → form_of t code ≡ Some form → Behind form code
   unfolding opcode_of form_of
   opcode_behind code form e = elim (cases_Bool (in_range 0x30 0x50 code)) [
     | inl y ↦ (opcodes.Alone (ops.Const (code - 0x30)), rw y refl, some_is (fields.none (ops.Const (code - 0x30))) form (rw y at e))
@@ -68,7 +68,7 @@ module _ (t : Target) where
       | inl y ↦ (opcodes.Alone (ops.Reg (code - 0x50)), rw (n, y) refl, some_is (fields.none (ops.Reg (code - 0x50))) form (rw y at e1))
       | inr m ↦ let e2 = rw m at e1 in elim (cases_Bool (in_range 0x70 0x90 code)) [
         | inl y ↦ (opcodes.Breg (code - 0x70), rw (n, m, y) refl, some_is (fields.one fields.signed (ops.Breg (code - 0x70))) form (rw y at e2))
-        | inr k ↦ said form code (opcode_of code) refl (looked_up (λ f c. Says f (opcode_of c)) (form_table t) code form behind_entries (rw k at e2))
+        | inr k ↦ said form code (opcode_of code) refl (looked_up (λ f c. Says f (opcode_of c)) (op_form_table t) code form behind_entries (rw k at e2))
       ]
     ]
   ]
@@ -86,7 +86,7 @@ module _ (t : Target) where
       let place : (at + 1) + length b ≡ at + length (code ∷ b) = omega arith in
       rw (one, known, ok, two, place) refl
 
-  plain_form : (code : ℕ) (form : Form) (op : Op) (b : List ℕ) (framed : Bool) → Makes form code framed → branch_target op ≡ None → FormSpells t form op b → StepForm t form (Plain op) b
+  plain_form : (code : ℕ) (form : OpForm) (op : Op) (b : List ℕ) (framed : Bool) → Makes form code framed → branch_target op ≡ None → OpFormSpells t form op b → StepForm t form (Plain op) b
   plain_form code (fields.none made) op b framed m none s = (op, refl, s)
   plain_form code (fields.one o make) op b framed m none s = (op, refl, s)
   plain_form code (fields.two o p make) op b framed m none s = (op, refl, s)

@@ -1,6 +1,6 @@
 -- Places that rise, and which of them one is.
 use Rattle.dw_op.proofs.Words.{◌≡◌, ℕ, zero, suc, ◌+◌, ◌<◌, ◌≤◌, List, [], ◌∷◌, length, get_or, Option, Some, None, Result, Ok, Err, refl, sym, ap, subst, inl, inr, arith, MatchResult, length-append, nat_tests, cases_lt, eq-eqb, ne_eqb}
-use Rattle.dw_op.proofs.Words.{Target, Input, AreBytes, Profile, Step, joined, Item, walk, end_of, index_at, starts_of, place_index, Rises}
+use Rattle.dw_op.proofs.Words.{Target, Input, AreBytes, Profile, Step, joined, PlacedStep, walk, end_of, index_at, starts_of, place_index, Rises}
 use Rattle.std.specs.List.Sorted.{IsBinarySearchResult}
 use Rattle.std.specs.Ordering.{nat_cmp}
 use Rattle.std.proofs.lemmas.List.Sorted.{searched}
@@ -23,9 +23,9 @@ pub starts_rise : (profile : Profile) (i : Input) → AreBytes i.bytes → Rises
 starts_rise profile i h =
     let s = split_of profile i h in
     let le : i.at + length (joined s.parts) ≤ end_of i = omega (arith, ap length s.whole, length-append (joined s.parts) s.rest) in
-    subst (λ (l : List Item). Rises i.at (starts_of l (end_of i))) (sym s.items) (parts_rise profile i.target s.steps s.parts i.at (end_of i) s.each le)
+    subst (λ (l : List PlacedStep). Rises i.at (starts_of l (end_of i))) (sym s.items) (parts_rise profile i.target s.steps s.parts i.at (end_of i) s.each le)
 
-pub place_index_is : (items : List Item) (end place : ℕ) → place_index (starts_of items end) place ≡ index_at items end place
+pub place_index_is : (items : List PlacedStep) (end place : ℕ) → place_index (starts_of items end) place ≡ index_at items end place
 place_index_is [] end place = refl
 place_index_is (item ∷ items) end place = rw (place_index_is items end place) refl
 

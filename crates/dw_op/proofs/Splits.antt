@@ -1,6 +1,6 @@
 -- A walk over a block, and the parts that it reads.
 use Rattle.dw_op.proofs.Words.{◌≡◌, ℕ, zero, suc, ◌+◌, ◌-◌, ◌<◌, ◌≤◌, true, List, [], ◌∷◌, ◌++◌, length, Option, Some, None, Ok, Err, refl, sym, ap, subst, ◌∙◌, append_assoc, arith, length-append, nil_from_length, Refusal, Target, Input}
-use Rattle.dw_op.proofs.Words.{AreBytes, Takes, Read, fixed_at, done, taken_bytes, Profile, Step, joined, step_at, StepSpells, step_allowed, Item, item_of, Walk, walk}
+use Rattle.dw_op.proofs.Words.{AreBytes, Takes, Read, fixed_at, done, taken_bytes, Profile, Step, joined, step_at, StepSpells, step_allowed, PlacedStep, item_of, Walk, walk}
 use Rattle.dw_op.specs.Inner.Walks.{ended, put, on_read, on_left, walked_by}
 use Rattle.dw_op.proofs.Lent.ReadingLaws.{step_found}
 use Rattle.dw_op.proofs.ReadingAgain.{step_again}
@@ -30,11 +30,11 @@ EachSpells profile t [] (part ∷ parts) = ⊥
 EachSpells profile t (step ∷ steps) [] = ⊥
 EachSpells profile t (step ∷ steps) (part ∷ parts) = Spelled profile t step part × EachSpells profile t steps parts
 
-abbrev pub item : ℕ → Step → Item
+abbrev pub item : ℕ → Step → PlacedStep
 item at step = record { at = at; step = step }
 
 -- the items of steps that these parts spell, from a place on
-abbrev pub items_from : ℕ → List Step → List (List ℕ) → List Item
+abbrev pub items_from : ℕ → List Step → List (List ℕ) → List PlacedStep
 items_from at [] parts = []
 items_from at (step ∷ steps) [] = []
 items_from at (step ∷ steps) (part ∷ parts) = item at step ∷ items_from (at + length part) steps parts
@@ -71,7 +71,7 @@ more_split profile i step part bytes w h e s = record {
   parts = part ∷ s.parts;
   rest = s.rest;
   each = (h, s.each);
-  items = ap (λ (l : List Item). item i.at step ∷ l) s.items;
+  items = ap (λ (l : List PlacedStep). item i.at step ∷ l) s.items;
   whole = e ∙ ap (λ (l : List ℕ). part ++ l) s.whole ∙ sym (append_assoc part (joined s.parts) s.rest);
   ends = subst (λ (n : ℕ). Ends profile (input n s.rest i.target) w.fault) (omega (arith, length-append part (joined s.parts))) s.ends;
 }
@@ -167,7 +167,7 @@ walk_enough profile n i le h =
     let w = walk profile i in
     let is : i ≡ input i.at (joined s.parts ++ s.rest) i.target = ap (λ (l : List ℕ). input i.at l i.target) s.whole in
     let a = joined_walk_by profile i.target s.steps s.parts n i.at s.rest w.fault s.each (omega (arith, ap length s.whole)) s.ends in
-    ap (λ (j : Input). walk_by profile n j) is ∙ a ∙ ap (λ (l : List Item). record { items = l; fault = w.fault }) (sym s.items)
+    ap (λ (j : Input). walk_by profile n j) is ∙ a ∙ ap (λ (l : List PlacedStep). record { items = l; fault = w.fault }) (sym s.items)
 
 pub step_shorter : (profile : Profile) (i : Input) (step : Step) (new : Input) → AreBytes i.bytes → step_at profile i ≡ done (step, new) → length new.bytes < length i.bytes
 step_shorter profile i step new h e =

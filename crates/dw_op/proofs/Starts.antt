@@ -1,7 +1,7 @@
 -- Where operations begin in their least spelling, by the lengths before them.
 use Rattle.dw_op.proofs.Words.{◌≡◌, ℕ, zero, suc, ◌+◌, ◌-◌, ◌<◌, ◌≤◌, ◌^◌, List, [], ◌∷◌, ◌++◌, length, take, drop, Option, Some, None, refl, sym, ap, subst, ◌∙◌, arith, drop-append_seam, length-append, Target, Takes-then, Input, AreBytes}
 use Rattle.dw_op.proofs.Words.{Takes, behind, length-fixed, took, done, Places, Point, Op, Frame, Branch, Step, Plain, Jump, IsAccepted, ops_of, least_bytes, least_spelling, least_lengths, total, together, step_length, item_lengths}
-use Rattle.dw_op.proofs.Words.{lengths_at, IsLater, IsPoint, InRoom, IsStartMark, AreStartMarks, ArePlaces, step_at, Item, Walk, walk, index_in, find_at, goes_to, branch_to, op_of, resolve, block_input}
+use Rattle.dw_op.proofs.Words.{lengths_at, IsLater, IsPoint, InRoom, IsStartMark, AreStartMarks, ArePlaces, step_at, PlacedStep, Walk, walk, index_in, find_at, goes_to, branch_to, op_of, resolve, block_input}
 use Rattle.dw_op.specs.declared.layout.StartMark.{StartMark}
 use Rattle.dw_op.specs.declared.op.Op.TheVariants as ops
 use Rattle.dw_op.specs.declared.operation.Branch.TheVariants.{Bra, Skip}
@@ -167,7 +167,7 @@ same_len : (t : Target) (find : ℕ → Option ℕ) (at : ℕ) (step : Step) (op
 same_len t find at (Plain o) op e = let is : o ≡ op = cc in ap (λ (x : Op). length (least_bytes t 0 x)) is
 same_len t find at (Jump branch number) op e = jump_len t branch (find_at find (goes_to (at + 3) number)) op e
 
-resolved_lengths : (t : Target) (find : ℕ → Option ℕ) (items : List Item) (ops : List Op) → resolve find items ≡ answered ops → item_lengths t items ≡ least_lengths t ops
+resolved_lengths : (t : Target) (find : ℕ → Option ℕ) (items : List PlacedStep) (ops : List Op) → resolve find items ≡ answered ops → item_lengths t items ≡ least_lengths t ops
 resolved_lengths t find [] ops e = ap (λ (l : List Op). least_lengths t l) (same_ops [] ops e)
 resolved_lengths t find (item ∷ items) ops e =
     let h = first_of_all item.at (op_of find item.at item.step) (resolve find items) ops e in

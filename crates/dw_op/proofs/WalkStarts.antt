@@ -1,6 +1,6 @@
 -- Walks from an operation on, and what they know of the block's starts.
 use Rattle.dw_op.proofs.Words.{cases_lt, inl, inr, ◌≡◌, ℕ, ◌+◌, ◌<◌, ◌≤◌, List, [], ◌∷◌, ◌++◌, length, Option, Some, None, Result, Ok, Err, refl, sym, ap, ◌∙◌, arith, eq-eqb, ne_eqb, length-append, append_assoc, Refusal, Target, Input}
-use Rattle.dw_op.proofs.Words.{AreBytes, done, Frame, Step, joined, step_at, Item, Walk, walk, end_of, plus, passed, one, Shifted}
+use Rattle.dw_op.proofs.Words.{AreBytes, done, Frame, Step, joined, step_at, PlacedStep, Walk, walk, end_of, plus, passed, one, Shifted}
 use Rattle.dw_op.proofs.Lent.ReadingLaws.{step_found}
 use Rattle.dw_op.proofs.Splits.{EachSpells, items_from, split_of, walk_step, walk_stuck, walk_end, step_shorter}
 use Rattle.dw_op.proofs.Decoded.{Within, within_more}
@@ -43,7 +43,7 @@ starts_off : (j : Input) (place : ℕ) → AreBytes j.bytes → ((n : ℕ) → j
 starts_off j place h off =
     let s = split_of Frame j h in
     let le : j.at + length (joined s.parts) ≤ end_of j = omega (arith, ap length s.whole, length-append (joined s.parts) s.rest) in
-    ap (λ (l : List Item). passed one l (end_of j) place) s.items ∙ parts_off j.target s.steps s.parts j.at (end_of j) place s.each le off
+    ap (λ (l : List PlacedStep). passed one l (end_of j) place) s.items ∙ parts_off j.target s.steps s.parts j.at (end_of j) place s.each le off
 
 plus_plus : (n m : ℕ) (o : Option ℕ) → plus (n + m) o ≡ plus n (plus m o)
 plus_plus n m None = refl

@@ -38,13 +38,13 @@ pub use Rattle.dw_op.specs.Inner.Lengths.{item_lengths, least_lengths, step_leng
 pub use Rattle.dw_op.specs.Inner.Points.{ArePlaces, AreSmall, AreStartMarks, InRoom, IsBranching, IsLater, IsPoint, IsStartMark, bits_at}
 pub use Rattle.dw_op.specs.Inner.Steps.{StepSpells, branch_code, step_allowed, step_in_frame}
 unfoldable pub use Rattle.dw_op.specs.Inner.Walk.{decode_at, walk}
-pub use Rattle.dw_op.specs.Inner.Walk.{Item, Rises, Walk, block_input, branch_to, end_of, find_at, goes_to, index_at, index_in, item_of, one, op_of, passed, place_index, plus, put_first, resolve, starts_of, unless}
+pub use Rattle.dw_op.specs.Inner.Walk.{PlacedStep, Rises, Walk, block_input, branch_to, end_of, find_at, goes_to, index_at, index_in, item_of, one, op_of, passed, place_index, plus, put_first, resolve, starts_of, unless}
 pub use Rattle.dw_op.specs.Inner.Windows.{AreMarks, IsMark, Shifted, SoughtSo, WalkSo, Walked, WalkedBad, Walks, block_of}
 pub use Rattle.dw_op.specs.Least.{AtMost, Least, LeastBlock}
 pub use Rattle.dw_op.specs.LeastBlock.{IsAppended, IsEncodeError, IsFar, TooFar}
-pub use Rattle.dw_op.specs.OpSpells.{AnyTwo, Both, Code, FormSpells, OpSpells, Spells}
+pub use Rattle.dw_op.specs.OpSpells.{AnyTwo, Both, Code, FieldSpells, OpFormSpells, OpSpells}
 unfoldable pub use Rattle.dw_op.specs.Operands.{form_of}
-pub use Rattle.dw_op.specs.Operands.{Field, Form, Value, block, branch, constant, counted, field_at, fixed, form_at, form_table, implicit, in_range, look_up, modulo, natural, none, past, register, signed, size, sized, two, twos, unsigned}
+pub use Rattle.dw_op.specs.Operands.{Field, FieldValue, OpForm, block, branch, constant, counted, field_at, fixed, form_at, implicit, in_range, look_up, modulo, natural, none, op_form_table, past, register, signed, size, sized, two, twos, unsigned}
 pub use Rattle.dw_op.specs.Profile.{InFrame, in_frame}
 pub use Rattle.dw_op.specs.Ranges.{AllInRange, FirstBadOperand, InRange, TargetWithin}
 pub use Rattle.dw_op.specs.declared.layout.Places.{Places}

@@ -1,6 +1,6 @@
 -- Worked faults of operands and branches.
 use Rattle.dw_op.proofs.Words.{◌≡◌, ℕ, zero, suc, List, [], ◌∷◌, Option, Some, None, Result, Ok, Err, refl, subst, ◌∙◌, inl, inr, arith, w16, ints, Truncated, NumberTooLarge, RegisterTooLarge, BadDerefSize, BadBranch, Refusal, Target, Four}
-use Rattle.dw_op.proofs.Words.{Little, Input, FixedSigned, fixed_at, take_at, uleb_at, sleb_at, register_at, Bra, Const, Reg, Dup, StackValue, Location, Code, AnyTwo, displacement, Displaced, Form, none, form_of, form_at, BlockFault, Leads}
+use Rattle.dw_op.proofs.Words.{Little, Input, FixedSigned, fixed_at, take_at, uleb_at, sleb_at, register_at, Bra, Const, Reg, Dup, StackValue, Location, Code, AnyTwo, displacement, Displaced, OpForm, none, form_of, form_at, BlockFault, Leads}
 use Rattle.dw_num.specs.declared.refusal.Code as codes
 use Rattle.dw_op.proofs.Lent.ReadingLaws.{some_is}
 use Rattle.dw_op.proofs.Lent.Spellings.{in_table}
@@ -16,7 +16,7 @@ abbrev at_end : ℕ → Input
 at_end place = record { at = place; bytes = []; target = narrow }
 
 -- past the fields behind a code, where it is an operation's
-abbrev past_fields : Option Form → Input → Option (Result Input Refusal)
+abbrev past_fields : Option OpForm → Input → Option (Result Input Refusal)
 past_fields None i = None
 past_fields (Some form) i = Some (form_at form i)
 

@@ -11,7 +11,7 @@ use Rattle.dw_op.specs.declared.profile.Profile.TheVariants.{Frame, Location}
 use Rattle.dw_op.specs.OpSpells.{OpSpells, Code, AnyTwo}
 use Rattle.dw_op.specs.Block.{start, Displaced, joined, Block, FrameBlock}
 use Rattle.dw_op.specs.Profile.{in_frame}
-use Rattle.dw_op.specs.Operands.{Form, form_of, form_at}
+use Rattle.dw_op.specs.Operands.{OpForm, form_of, form_at}
 
 -- a block of the operations that the profile has
 abbrev pub IsBlock : Profile → Target → List Op → List ℕ → Type 0
@@ -35,7 +35,7 @@ abbrev pub OpFault : Profile → ℕ → ℕ → Input → Refusal → Type 0
 OpFault profile at code operands r =
     ((HasCode Location operands.target code → ⊥) × (r ≡ record { code = UnknownOperation; at = at }))
     ⊎ ((HasCode Location operands.target code × (HasCode profile operands.target code → ⊥) × (r ≡ record { code = NotInFrame; at = at }))
-    ⊎ (HasCode profile operands.target code × (form : Form) × (form_of operands.target code ≡ Some form) × (form_at form operands ≡ Err r)))
+    ⊎ (HasCode profile operands.target code × (form : OpForm) × (form_of operands.target code ≡ Some form) × (form_at form operands ≡ Err r)))
 
 -- operations to begin with, and behind them a code whose operation has a fault
 pub record ReadingFault (profile : Profile) (t : Target) (bytes : List ℕ) (r : Refusal) : Type 0 where
@@ -48,7 +48,9 @@ pub record ReadingFault (profile : Profile) (t : Target) (bytes : List ℕ) (r :
 
 -- a branch's code and its displacement
 abbrev pub IsBranch : List ℕ → Type 0
-IsBranch part = Code 0x28 AnyTwo part ⊎ Code 0x2f AnyTwo part
+IsBranch part =
+    Code 0x28 AnyTwo part  -- DW_OP_bra
+    ⊎ Code 0x2f AnyTwo part  -- DW_OP_skip
 
 -- operation k, if it is a branch, leads to the start of an operation or to the end
 abbrev pub Leads : Target → List (List ℕ) → ℕ → Type 0

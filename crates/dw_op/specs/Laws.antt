@@ -44,5 +44,5 @@ abbrev pub DecodedIsNear : Type 0
 DecodedIsNear = (profile : Profile) (t : Target) (ops : List Op) (bytes : List ℕ) (k : ℕ) → IsBlock profile t ops bytes → TooFar t ops k → ⊥
 
 -- the first fault of a block lies in it or at its end
-abbrev pub FaultsWithin : Type 0
-FaultsWithin = (profile : Profile) (t : Target) (bytes : List ℕ) (r : Refusal) → BlockFault profile t bytes r → IsWithin bytes r
+abbrev pub BlockFaultsWithin : Type 0
+BlockFaultsWithin = (profile : Profile) (t : Target) (bytes : List ℕ) (r : Refusal) → BlockFault profile t bytes r → IsWithin bytes r

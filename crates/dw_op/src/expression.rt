@@ -104,8 +104,8 @@ impl<'a> Iterator for OpSteps<'a> {
 }
 
 impl<'a> ExprRef<'a> {
-    /// The expression (2.5) whose block (7.7.1) these bytes are for a target, or their first fault: the refusals of
-    /// `decode` in the frame profile, at places that count from the block's first byte. Takes no memory.
+    /// The expression (2.5) whose block (7.7.1) these bytes are for a target, or their first fault: one of `decode` in the frame
+    /// profile (1, 8, 9, 20 to 23), at a place that counts from the block's first byte. Takes no memory.
     pub fn accept(bytes: &'a [u8], target: Target) -> Result<ExprRef<'a>, Refusal>
         // What is answered stands for operations that have this block.
         ensures found { IfOk result (λ e. (e.target ≡ target) × FrameBlock target e.ops bytes.now) }

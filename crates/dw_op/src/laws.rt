@@ -1,6 +1,6 @@
 //! Laws of blocks, for the layers above. The functions do nothing: their contracts are proved.
 
-ghost use Rattle.dw_op.specs.Laws.{BlockInRange, LeastExists, LeastIsBlock, LeastIsShortest, LeastIsOne, FarHasNoBlock, LeastGivesBack, DecodedIsNear, FaultsWithin};
+ghost use Rattle.dw_op.specs.Laws.{BlockInRange, LeastExists, LeastIsBlock, LeastIsShortest, LeastIsOne, FarHasNoBlock, LeastGivesBack, DecodedIsNear, BlockFaultsWithin};
 
 /// What holds of the blocks and of the least blocks of a list of operations, and of the places of faults.
 pub fn block_laws()
@@ -12,5 +12,5 @@ pub fn block_laws()
     ensures far { FarHasNoBlock }
     ensures gives_back { LeastGivesBack }
     ensures near { DecodedIsNear }
-    ensures within { FaultsWithin }
+    ensures within { BlockFaultsWithin }
 {}

@@ -1,7 +1,7 @@
 -- The list of the changes among rows, and how the code finds one after another.
 use Rattle.dw_section.proofs.Words.{◌≡◌, ◌⊎◌, ℕ, Bool, false, List, [], ◌∷◌, Option, Some, None, Ok, refl, sym, ap, ◌∙◌, subst, inl, inr, ◌&&◌, not, nat_lt, Decides, cases_Bool, Decides-and, Decides-ltb, Decides-not, LocatedRow, Rules}
 use Rattle.dw_section.proofs.Words.{Outcome, Among, Before, Shows, changes_among, ChangesKeep, Stepping, Advances, AllKeep, row_then, is_before, repeats}
-use Rattle.dw_cfa.specs.Inner.RowEquality.{rows_tell}
+use Rattle.dw_cfa.proofs.Lent.Equal.{row_test}
 
 before_tells : (end a : ℕ) (rows : List LocatedRow) → Decides (is_before end a rows) (Before end a rows)
 before_tells end a [] = Decides-ltb a end
@@ -9,7 +9,7 @@ before_tells end a (next ∷ rows) = Decides-and (nat_lt a next.location) (nat_l
 
 repeats_tells : (shown : Option Rules) (row : Rules) → Decides (repeats shown row) (shown ≡ Some row)
 repeats_tells None row = (λ e. cc, λ e. cc)
-repeats_tells (Some shown) row = let told = rows_tell shown row in (λ e. ap Some (told.0 e), λ e. told.1 cc)
+repeats_tells (Some shown) row = let told = row_test.1 shown row in (λ e. ap Some (told.0 e), λ e. told.1 cc)
 
 module _ (end : ℕ) (shown : Option Rules) (row : LocatedRow) (rows : List LocatedRow) where
   abbrev shows : Bool

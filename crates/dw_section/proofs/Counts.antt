@@ -1,5 +1,5 @@
 -- The rows that programs start.
-use Rattle.dw_section.proofs.Words.{◌≡◌, ℕ, suc, ◌+◌, ◌≤◌, cond, List, [], ◌∷◌, ◌++◌, length, refl, sym, ap, ◌∙◌, arith, count_by, length-append, sum_by-cons, Order, Target, Factors, Instr, Program, answers, moves_location, row_starts}
+use Rattle.dw_section.proofs.Words.{◌≡◌, ℕ, suc, ◌+◌, ◌≤◌, cond, List, [], ◌∷◌, ◌++◌, length, refl, sym, ap, ◌∙◌, arith, count_by, length-append, sum_by-cons, Order, Target, Factors, Instr, ProgramSpells, answers, moves_location, row_starts}
 use Rattle.dw_section.proofs.Words.{moves_in, Item, gap, entry, Piece, pieces, item_bytes, all_bytes, Head, cie, fde, Has, Headers, total, nonempty, Range, range_of, Pieces, cie_places, Listing, complete, AllZip-long}
 use Rattle.dw_cfa.proofs.Lent.Listings.{some_spelled}
 use Rattle.dw_section.proofs.Items.{item_some}
@@ -15,11 +15,11 @@ length_complete : (instrs : List Instr) → length (answers (complete instrs)) �
 length_complete [] = refl
 length_complete (i ∷ instrs) = ap suc (length_complete instrs)
 
-program_few : (t : Target) (f : Factors) (instrs : List Instr) (bytes : List ℕ) → Program t f instrs bytes → length instrs ≤ length bytes
+program_few : (t : Target) (f : Factors) (instrs : List Instr) (bytes : List ℕ) → ProgramSpells t f instrs bytes → length instrs ≤ length bytes
 program_few t f [] bytes p = omega arith
 program_few t f (i ∷ instrs) bytes p = omega (arith, some_spelled t f i p.front p.first, program_few t f instrs p.back p.second, ap length p.whole, length-append p.front p.back)
 
-pub answers_few : (t : Target) (f : Factors) (instrs : List Instr) (bytes : List ℕ) (l : Listing) → Program t f instrs bytes → l ≡ complete instrs → length bytes ≤ 2147483647 → length (answers l) ≤ 2147483647
+pub answers_few : (t : Target) (f : Factors) (instrs : List Instr) (bytes : List ℕ) (l : Listing) → ProgramSpells t f instrs bytes → l ≡ complete instrs → length bytes ≤ 2147483647 → length (answers l) ≤ 2147483647
 answers_few t f instrs bytes l p e le = let few = program_few t f instrs bytes p in let same : length (answers l) ≡ length instrs = ap (λ (x : Listing). length (answers x)) e ∙ length_complete instrs in omega arith
 
 pub starts_so : (instrs : List Instr) (l : Listing) (n : ℕ) → l ≡ complete instrs → n ≡ 1 + moves_in (answers l) → n ≡ row_starts instrs

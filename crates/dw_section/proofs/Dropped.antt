@@ -1,12 +1,19 @@
 -- The registers that a change drops from a row that was narrowed by the row before it.
-use Rattle.dw_section.proofs.Words.{◌≡◌, ℕ, suc, Bool, true, false, List, [], ◌∷◌, Option, Some, None, Ok, refl, sym, ap, ◌∙◌, subst, arith, nat_eq, nat_tests, not, inl, inr, filter, cases_Bool, RegRule, kept, Rules, rule, is_specified, kept_by}
+use Rattle.dw_section.proofs.Words.{◌≡◌, ℕ, suc, Bool, true, false, List, [], ◌∷◌, Option, Some, None, Ok, refl, sym, ap, ◌∙◌, subst, arith, nat_eq, nat_lt, nat_tests, not, inl, inr, filter, cases_Bool, RegRule, kept, Rules, rule, rule_in, is_specified, kept_by}
 use Rattle.dw_section.proofs.Words.{AreSpecified, ChangesKeep, DiffersFirst, is_kept, Entry, Changing, GivesAddress, before_then, same_rows}
 use Rattle.std.specs.Bool.{if◌then◌else◌}
 use Rattle.dw_cfa.proofs.Lent.Narrowed.{filter_keeps, filter_rule}
 use Rattle.dw_cfa.specs.Agreement.{without}
 use Rattle.dw_cfa.specs.Difference.{FirstDifference}
-use Rattle.dw_cfa.specs.Inner.Entries.{LeavesBelow, left}
 use Rattle.dw_cfa.specs.declared.rule.RegRule.TheVariants.{Unspecified}
+
+-- a rule that stays where a test keeps it
+abbrev left : (Entry → Bool) → ℕ → RegRule → RegRule
+left test r rule = if test (r, rule) then rule else Unspecified
+
+-- registers below one are left where a test keeps them, and the others as they were
+abbrev LeavesBelow : (Entry → Bool) → ℕ → List Entry → List Entry → Type 0
+LeavesBelow test n old new = (q : ℕ) → rule_in new q ≡ (if nat_lt q n then left test q (rule_in old q) else rule_in old q)
 
 -- what is dropped below a register
 pub record DropsBelow (row : Rules) (k : ℕ) (old new : Rules) : Type 0 where

@@ -1,17 +1,18 @@
 -- The programs of an FDE of a section whose rules hold give rows.
-use Rattle.dw_section.proofs.Words.{◌≡◌, ℕ, List, Ok, refl, sym, ap, subst, ◌∙◌, arith, Target, Input, AreBytes, input_of, address_limit, Factors, Instr, CfaRule, Program, CieKept, FdeKept, initial_cfa, Rules, RulesHold, IsAmong, Head}
-use Rattle.dw_section.proofs.Words.{CieHead, FdeHead, fde, HasBytes, FdeFits, cie_ats, CieRuns, FdeRuns, Begins, factors_of, blank, placed, initial_row, rows_behind, run_rows, gives_rows, leaves_initial}
+use Rattle.dw_section.proofs.Words.{◌≡◌, ℕ, ◌≤◌, List, None, inr, sym, ap, subst, ◌∙◌, arith, Target, Input, AreBytes, input_of, address_limit, Factors, Instr, CfaRule, ProgramSpells, CieKept, FdeKept, initial_cfa, RulesHold, IsAmong, Head}
+use Rattle.dw_section.proofs.Words.{CieHead, FdeHead, fde, HasBytes, FdeFits, cie_ats, CieRuns, FdeRuns, InitialInstrs, factors_of, Gives, LocatedRow, Outcome, RunsTo, gives_where_kept, leaves_where_kept, one_run}
 use Rattle.dw_section.proofs.Cfa.{one_program}
 use Rattle.dw_section.proofs.Lent.ChangeLaws.{Given}
 use Rattle.dw_section.proofs.Lent.CheckFirst.{one_instrs}
 use Rattle.dw_section.proofs.Lent.Heads.{all_in, heads_rise, heads_bytes, heads_fit}
 
-run_behind : (f : Factors) (i j : Input) (begin : ℕ) (first : Rules) → initial_row (placed f i) blank ≡ Ok first → run_rows f i j begin ≡ rows_behind f first j begin
-unfolding run_rows rows_behind
-run_behind f i j begin first e = rw e refl
+-- programs that give rows run to these alone
+pub one_outcome : (f : Factors) (initial own : Input) (begin : ℕ) (o : Outcome) (rows : List LocatedRow) → AreBytes initial.bytes → AreBytes own.bytes → begin ≤ address_limit own.target.size → RunsTo f initial own begin o → Gives f initial own begin rows
+    → o ≡ record { rows = rows; fault = None }
+one_outcome f initial own begin o rows ib ob le runs gives = let one = one_run f initial own begin ib ob le in one.2 o runs ∙ sym (one.2 (record { rows = rows; fault = None }) (inr gives))
 
 pub given : (target : Target) (s : List ℕ) → AreBytes s → (hs : List Head) → RulesHold target s hs → (c : CieHead) (h : FdeHead) (i j : List Instr)
-    → IsAmong (fde h) hs → Begins target hs h.cie_at c i → Program target (factors_of c) j h.program.bytes → Given target c h i j
+    → IsAmong (fde h) hs → InitialInstrs target hs h.cie_at c i → ProgramSpells target (factors_of c) j h.program.bytes → Given target c h i j
 given target s b hs hold c h i j among begins spelled =
     let headers = hold.0.0.0 in
     let bytes = heads_bytes target s hs b headers in
@@ -23,7 +24,7 @@ given target s b hs hold c h i j among begins spelled =
     let f = factors_of c in
     let initial = one_program f target c.program.bytes cie_runs.0 i cie_bytes cie_runs.1 begins.spelled in
     let one = one_instrs target hs (heads_rise target s hs headers) bytes h.cie_at h.program fde_runs.0 fde_runs.1 i j fde_bytes fde_runs.2 (record { head = c; begins = begins; spelled = spelled }) in
-    let left = leaves_initial f (input_of target c.program) i cie_bytes begins.spelled (subst CieKept initial cie_runs.2) in
-    let kept = subst (λ (x : CfaRule). FdeKept (address_limit target.size) h.begin x j) (ap initial_cfa one.0 ∙ sym left.2.cfa) (subst (FdeKept (address_limit target.size) h.begin (initial_cfa fde_runs.0)) one.1 fde_runs.3) in
-    let gave = gives_rows f left.0 (input_of target h.program) h.begin j fde_bytes left.2.listed (omega (arith, fits.0)) spelled kept in
-    record { first = left.0; rows = gave.0; run = run_behind f (input_of target c.program) (input_of target h.program) h.begin left.0 left.1 ∙ gave.1; leaves = left.2; gives = gave.2 }
+    let left = leaves_where_kept f (input_of target c.program) i cie_bytes begins.spelled (subst CieKept initial cie_runs.2) in
+    let kept = subst (λ (x : CfaRule). FdeKept (address_limit target.size) h.begin x j) (ap initial_cfa one.0 ∙ sym left.1.cfa) (subst (FdeKept (address_limit target.size) h.begin (initial_cfa fde_runs.0)) one.1 fde_runs.3) in
+    let gave = gives_where_kept f left.0 (input_of target h.program) h.begin fde_bytes left.1.listed (omega (arith, fits.0)) j spelled kept in
+    record { first = left.0; rows = gave.0; run = (i, left.0, left.1, gave.1); leaves = left.1; gives = gave.2 }

@@ -2,7 +2,7 @@
 pub use Rattle.dw_section.specs.Inner.Fields.{judged, behind_field, fields_at}
 use Rattle.dw_section.proofs.Words.{◌≡◌, ℕ, zero, ◌+◌, ◌==◌, true, false, List, [], ◌∷◌, ◌++◌, length, drop, get_or, Option, Some, None, Ok, Err, refl, sym, ap, subst, ◌∙◌, append_assoc, arith, inl, inr, position, lt-ltb, eqb_tells}
 use Rattle.dw_section.proofs.Words.{length-append, Code, Refusal, Target, IsWidth, Input, AreBytes, Takes, behind, Read, ◌>>=◌, Fields, end, field, empty_string, FieldsSpell, string_fault, FieldsFault, fixed, unsigned, signed, done, ok_is}
-use Rattle.dw_section.proofs.Words.{uleb_again, uleb_found, front_byte, fixed_found, fixed_at_again, taken_bytes, inside_all, stays_in, stays-then, fixed_stays, uleb_stays, sleb_stays, Judged, Number, Value, Spells, number_at, Stays}
+use Rattle.dw_section.proofs.Words.{uleb_again, uleb_found, front_byte, fixed_found, fixed_at_again, taken_bytes, inside_all, stays_in, stays-then, fixed_stays, uleb_stays, sleb_stays, Judged, Number, NumberValue, NumberSpells, number_at, Stays}
 use Rattle.std.proofs.lemmas.List.Quantifiers.{position-Some}
 use Rattle.dw_num.proofs.Lent.SlebLaws.{sleb_again, sleb_found}
 use Rattle.dw_num.proofs.Lent.Steps.{Takes-then, Again, bind_ok}
@@ -16,15 +16,15 @@ IsNumber other = Unit {0}
 
 abbrev pub AreNumbers : {X : Type 0} → Fields X → Type 0
 AreNumbers (end x) = Unit {0}
-AreNumbers (field n refused rest) = IsNumber n × ((v : Value n) → AreNumbers (rest v))
+AreNumbers (field n refused rest) = IsNumber n × ((v : NumberValue n) → AreNumbers (rest v))
 AreNumbers (empty_string rest) = AreNumbers rest
 
-number_found : (n : Number) → IsNumber n → (i new : Input) (v : Value n) → AreBytes i.bytes → number_at n i ≡ done (v, new) → (b : List ℕ) × Spells i.target n v b × Takes i b new
+number_found : (n : Number) → IsNumber n → (i new : Input) (v : NumberValue n) → AreBytes i.bytes → number_at n i ≡ done (v, new) → (b : List ℕ) × NumberSpells i.target n v b × Takes i b new
 number_found (fixed width) is i new v h e = fixed_found width i new v is h e
 number_found unsigned is i new v h e = uleb_found i new v h e
 number_found signed is i new v h e = sleb_found i new v h e
 
-number_again : (t : Target) (n : Number) → (v : Value n) (b : List ℕ) → Spells t n v b → Again t (number_at n) v b
+number_again : (t : Target) (n : Number) → (v : NumberValue n) (b : List ℕ) → NumberSpells t n v b → Again t (number_at n) v b
 number_again t (fixed width) v b s at more = fixed_at_again width at t v b more s
 number_again t unsigned v b s at more = uleb_again at t v b more s
 number_again t signed v b s at more = sleb_again at t v b more s
@@ -48,10 +48,10 @@ judged_is None at Behind read r to = to
 judged_is {X} (Some code) at Behind read r to = ((λ h. ap (λ (q : Refusal). let e : Read X = Err q in e) (sym h)), (λ e. cc))
 
 -- of a field, where so much is known of what is behind it
-field_fault : {X : Type 0} (n : Number) (refused : Value n → Option Code) (rest : Value n → Fields X) (i : Input) (r : Refusal)
-    → ((v : Value n) (j : Input) → (FieldsFault (rest v) j r → fields_at (rest v) j ≡ Err r) × (fields_at (rest v) j ≡ Err r → FieldsFault (rest v) j r))
-    → (read : Read (Value n)) → number_at n i ≡ read → read >>= behind_field refused i.at (λ v. fields_at (rest v)) ≡ Err r → FieldsFault (field n refused rest) i r
-field_fault n refused rest i r to (Err q) is e = let same : q ≡ r = cc in inl (is ∙ ap (λ (x : Refusal). let k : Read (Value n) = Err x in k) same)
+field_fault : {X : Type 0} (n : Number) (refused : NumberValue n → Option Code) (rest : NumberValue n → Fields X) (i : Input) (r : Refusal)
+    → ((v : NumberValue n) (j : Input) → (FieldsFault (rest v) j r → fields_at (rest v) j ≡ Err r) × (fields_at (rest v) j ≡ Err r → FieldsFault (rest v) j r))
+    → (read : Read (NumberValue n)) → number_at n i ≡ read → read >>= behind_field refused i.at (λ v. fields_at (rest v)) ≡ Err r → FieldsFault (field n refused rest) i r
+field_fault n refused rest i r to (Err q) is e = let same : q ≡ r = cc in inl (is ∙ ap (λ (x : Refusal). let k : Read (NumberValue n) = Err x in k) same)
 field_fault n refused rest i r to (Ok v) is e = inr (v.0, v.1, is, (judged_is (refused v.0) i.at (FieldsFault (rest v.0) v.1) (fields_at (rest v.0) v.1) r (to v.0 v.1)).1 e)
 
 pub fault_is : {X : Type 0} (fs : Fields X) (i : Input) (r : Refusal) → (FieldsFault fs i r → fields_at fs i ≡ Err r) × (fields_at fs i ≡ Err r → FieldsFault fs i r)

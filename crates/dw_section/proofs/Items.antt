@@ -7,7 +7,7 @@ use Rattle.dw_num.specs.declared.target.Order.TheVariants.{Little, Big}
 use Rattle.dw_section.proofs.Cfa.{err_one}
 use Rattle.dw_section.proofs.Stages.{all_push}
 
-gap_bytes : (order : Order) → length_bytes order Dwarf32 0 ≡ 0 ∷ 0 ∷ 0 ∷ 0 ∷ []
+pub gap_bytes : (order : Order) → length_bytes order Dwarf32 0 ≡ 0 ∷ 0 ∷ 0 ∷ 0 ∷ []
 gap_bytes Little = refl
 gap_bytes Big = refl
 

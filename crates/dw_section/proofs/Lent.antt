@@ -14,6 +14,7 @@ pub mod Rowed
 pub mod Sections
 pub mod Sames
 pub mod Exists
+pub mod Fitting
 pub mod Sounds
 pub mod RowFits
 pub mod Totals

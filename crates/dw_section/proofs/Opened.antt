@@ -1,5 +1,5 @@
 -- How the program of an FDE of a table begins.
-use Rattle.dw_section.proofs.Words.{◌≡◌, ℕ, ◌+◌, List, Option, Some, None, refl, ap, ◌∙◌, arith, IfSome, ℤ, Target, AreBytes, Instr, Program, first_row, row_with, FoundFde, Accepted, CieRow, OpensBehind, found_cie, IsFoundIn, fde_of}
+use Rattle.dw_section.proofs.Words.{◌≡◌, ℕ, ◌+◌, List, Option, Some, None, refl, ap, ◌∙◌, arith, IfSome, ℤ, Target, AreBytes, Instr, ProgramSpells, first_row, row_with, FoundFde, Accepted, CieRow, OpensBehind, found_cie, IsFoundIn, fde_of}
 use Rattle.std.specs.Option.{IsSome}
 use Rattle.dw_cfa.specs.declared.opening.FirstRow.{FirstRow}
 use Rattle.dw_cfa.specs.declared.opening.FirstRow.TheVariants.{Initial, CfaOffset, Other}
@@ -9,7 +9,7 @@ use Rattle.dw_section.proofs.Lent.Sections.{one_programs}
 
 -- an answer to how a program begins
 abbrev pub Opens : Target → FoundFde → Option CieRow → Type 0
-Opens target e answer = (instrs : List Instr) → Program target e.factors instrs e.program.bytes.now → answer ≡ row_behind e.cie_at (first_row instrs)
+Opens target e answer = (instrs : List Instr) → ProgramSpells target e.factors instrs e.program.bytes.now → answer ≡ row_behind e.cie_at (first_row instrs)
 
 some_row : (place : ℕ) (offset : Option ℤ) → IsSome (row_behind place (row_with offset))
 some_row place None = refl

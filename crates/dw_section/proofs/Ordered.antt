@@ -9,7 +9,7 @@ use Rattle.std.proofs.lemmas.Map.Keys.{IsDistinct-from_apart, apart_from_distinc
 
 -- ---- overlaps
 
-apart_more : (rs : List Range) (x : Range) (greatest : ℕ) → AreApart rs → AllByRecursion (λ a. end_of a ≤ greatest) rs → greatest ≤ x.begin → AreApart (rs ++ x ∷ [])
+pub apart_more : (rs : List Range) (x : Range) (greatest : ℕ) → AreApart rs → AllByRecursion (λ a. end_of a ≤ greatest) rs → greatest ≤ x.begin → AreApart (rs ++ x ∷ [])
 apart_more [] x greatest h e le = (tt, tt)
 apart_more (a ∷ rs) x greatest h e le = (all_push (λ b. end_of a ≤ b.begin) rs x h.0 (omega (arith, e.0)), apart_more rs x greatest h.1 e.1 le)
 

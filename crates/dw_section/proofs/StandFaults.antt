@@ -1,6 +1,6 @@
 -- What is refused where an entry stands is its first fault.
 use Rattle.dw_section.proofs.Words.{◌≡◌, ℕ, ◌+◌, ◌≤◌, List, [], ◌∷◌, length, drop, take, Some, Err, refl, sym, subst, ◌∙◌, inl, inr, None, le-ltb, take-append-drop, NoSuchCie, Refusal, ReadError, Refuses, Outcome, Target, Input, input_of}
-use Rattle.dw_section.proofs.Words.{Piece, id_width, Head, Has, FdeStuck, cie_at, fde_at, fixed_at, fixed_only, BothStuck, Names, RefusesAs, StandsAs}
+use Rattle.dw_section.proofs.Words.{Piece, id_width, Head, Has, FdeStuck, cie_at, fde_at, fixed_at, fixed_only, BothStuck, NamesCieAt, RefusesAs, StandsAs}
 use Rattle.dw_num.specs.declared.error.ReadError.TheVariants as reading
 use Rattle.dw_section.specs.declared.entry.Kind.TheVariants as kind
 use Rattle.dw_section.specs.declared.standing_fde.LookUpError.{LookUpError}
@@ -17,7 +17,7 @@ fixed_there n i r long e = let bad = rw (le-ltb (length i.bytes) n long) at e in
 -- ---- fields
 
 -- no CIE stands where it says
-pub no_cie : (target : Target) (own : Piece) (at : ℕ) → own.kind ≡ kind.Fde → Names target own at → FdeStuck target [] own (record { code = NoSuchCie; at = own.contents.at })
+pub no_cie : (target : Target) (own : Piece) (at : ℕ) → own.kind ≡ kind.Fde → NamesCieAt target own at → FdeStuck target [] own (record { code = NoSuchCie; at = own.contents.at })
 no_cie target own at is names =
     let n = id_width own.form in
     let bytes = own.contents.bytes in

@@ -1,6 +1,6 @@
 -- What stands in bytes lies in them, and so does what is wrong there.
 use Rattle.dw_section.proofs.Words.{◌≡◌, ℕ, ◌≤◌, List, length, drop, Some, Result, Err, subst, arith, IfErr, length-drop, Target, Refusal, ReadError, Read, Input, AreBytes, Refuses, span_of, input_of, address_limit, FoundFde, Item, Piece}
-use Rattle.dw_section.proofs.Words.{IsWithin, item_at, cie_fields, fde_fields, StandsIn, rows_of, cie_at, fde_at, Refused, run_within, refused_where_fault, run_runs, LiesInPrograms, Stays}
+use Rattle.dw_section.proofs.Words.{IsWithin, item_at, cie_fields, fde_fields, StandsIn, Outcome, RunsSo, cie_at, fde_at, Refused, run_within, refused_where_fault, one_run, LiesInPrograms, Stays}
 use Rattle.dw_section.proofs.FaultPlaces.{stuck_within, item_stays}
 use Rattle.dw_section.proofs.Lent.HeaderLaws.{cie_faulty, fde_faulty}
 
@@ -19,10 +19,11 @@ fde_within target places s p r w stuck = stuck_within (fde_fields target.size pl
 
 -- what is wrong in the programs of an FDE
 pub lies_in_programs : {V : Type 0} (target : Target) (e : FoundFde) → AreBytes (span_of e.cie_program).bytes → AreBytes (span_of e.program).bytes → e.begin ≤ address_limit target.size → (result : Result V ReadError)
-    → IfErr result (Refuses (λ r. (rows_of target e).fault ≡ Some r)) → IfErr result (Refuses (LiesInPrograms target e))
+    → ((o : Outcome) → RunsSo target e o → IfErr result (Refuses (λ r. o.fault ≡ Some r))) → IfErr result (Refuses (LiesInPrograms target e))
 lies_in_programs target e cb fb le (Err (Refused r)) h =
     let cie = input_of target (span_of e.cie_program) in
     let fde = input_of target (span_of e.program) in
-    let fault = (refused_where_fault e.factors cie fde e.begin cb fb le (rows_of target e) (run_runs e.factors cie fde e.begin cb fb le) r).0 h in
+    let one = one_run e.factors cie fde e.begin cb fb le in
+    let fault = (refused_where_fault e.factors cie fde e.begin cb fb le one.0 one.1 r).0 (h one.0 one.1) in
     run_within e.factors cie fde e.begin r cb fb fault
 lies_in_programs target e cb fb le result h = tt

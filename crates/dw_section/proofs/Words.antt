@@ -1,8 +1,6 @@
 -- The words of specs and of std that the proofs cite, passed on from one place. Declares nothing.
-pub use Rattle.dw_cfa.proofs.Lent.BehindLaws.{gives_rows}
-pub use Rattle.dw_cfa.proofs.Lent.FaultLaws.{behind_refused, initial_refused, leaves_initial}
 pub use Rattle.dw_cfa.proofs.Lent.FaultPlaces.{cie_within, fde_within, run_within}
-pub use Rattle.dw_cfa.proofs.Lent.Given.{leaves_one, refused_where_fault, rules_behind, run_runs, run_steps}
+pub use Rattle.dw_cfa.proofs.Lent.Given.{behind_where_fault, gives_where_kept, leaves_one, leaves_where_kept, one_behind, one_initial, one_run, refused_where_fault, rules_behind}
 pub use Rattle.dw_cfa.proofs.Lent.InstrCounts.{counts_exists, one_count}
 pub use Rattle.dw_cfa.proofs.Lent.RowLists.{Entry, unlisted}
 pub use Rattle.dw_cfa.proofs.Lent.SameRows.{same_rows}
@@ -11,20 +9,18 @@ pub use Rattle.dw_cfa.specs.Agreement.{is_kept, kept}
 pub use Rattle.dw_cfa.specs.Column.{cfa_after, cfa_change, look_back, rule_after, rule_change}
 pub use Rattle.dw_cfa.specs.Difference.{DiffersFirst, place_behind}
 pub use Rattle.dw_cfa.specs.Faults.{FdeFault}
-pub use Rattle.dw_cfa.specs.Gives.{RunsTo}
-pub use Rattle.dw_cfa.specs.Inner.Exact.{RulesBehind}
-unfoldable pub use Rattle.dw_cfa.specs.Inner.Runs.{rows_behind, run_rows}
-pub use Rattle.dw_cfa.specs.Inner.Runs.{initial_row, placed}
-pub use Rattle.dw_cfa.specs.InstrSpells.{BlockSpells, IsOffset, Program}
+pub use Rattle.dw_cfa.specs.Gives.{Gives, RunsTo}
+pub use Rattle.dw_cfa.specs.InstrSpells.{BlockSpells, IsOffset, ProgramSpells}
 pub use Rattle.dw_cfa.specs.Kept.{CieKept, FdeKept, KeepsHalves, in_cie, is_remember, is_restore, keeps_half}
-pub use Rattle.dw_cfa.specs.Laws.{HoldsAfter, initial_cfa, initial_rule}
+pub use Rattle.dw_cfa.specs.InitialRules.{HoldsAfter, initial_cfa, initial_rule}
 pub use Rattle.dw_cfa.specs.Listing.{Listing, answers, complete}
 pub use Rattle.dw_cfa.specs.Location.{Counts, StaysAt, back_from, location, location_back, moves_location, onto, row_starts}
-pub use Rattle.dw_cfa.specs.Opening.{first_row, row_with}
-pub use Rattle.dw_cfa.specs.RowSteps.{Advances, Stepping, program_input}
+pub use Rattle.dw_cfa.specs.Opening.{cfa_with, first_row, row_with}
+pub use Rattle.dw_cfa.specs.RowSteps.{Advances, Stepping, program_input, stepping}
 pub use Rattle.dw_cfa.specs.RowWalk.{AllKeep, Led, Walking, unled}
 pub use Rattle.dw_cfa.specs.Rows.{AreSpecified, Rules, blank, is_specified, rule, rule_in}
 pub use Rattle.dw_cfa.specs.RuleAt.{NeverFalls, last_at, or_here}
+pub use Rattle.dw_cfa.specs.RulesBehind.{RulesBehind}
 pub use Rattle.dw_cfa.specs.Runs.{Outcome, row_then}
 pub use Rattle.dw_cfa.specs.declared.execution.LocatedRow.{LocatedRow}
 pub use Rattle.dw_cfa.specs.declared.instr.Factors.{Factors}
@@ -64,18 +60,18 @@ pub use Rattle.dw_section.specs.Counts.{AreCounts}
 pub use Rattle.dw_section.specs.Cut.{Cut, IsItem, Item, Piece, all_bytes, entry, gap, id_width, is_cie, item_bytes, piece_of, pieces}
 unfoldable pub use Rattle.dw_section.specs.Faults.{item_at}
 pub use Rattle.dw_section.specs.Faults.{CutFault, IsStuck, body_at, is_32}
-pub use Rattle.dw_section.specs.Fields.{Fields, FieldsFault, FieldsSpell, Judged, Number, Spells, Value, any, cie_fields, empty_string, end, factors, fde_fields, field, fixed, is_among, number_at, signed, sizes, string_fault, unless, unsigned}
+pub use Rattle.dw_section.specs.Fields.{Fields, FieldsFault, FieldsSpell, Judged, Number, NumberSpells, NumberValue, any, cie_fields, empty_string, end, factors, fde_fields, field, fixed, is_among, number_at, signed, sizes, string_fault, unless, unsigned}
 pub use Rattle.dw_section.specs.Fits.{CfaFits, HasBlock, RowFits, RuleFits}
 pub use Rattle.dw_section.specs.Headers.{CieFieldsFault, CieHead, CieHolds, CieStuck, CiesHold, FdeHead, FdeHolds, FdeStuck, Has, HasFields, Head, Headers, HeadersFault, IsCie, IsFde, cie, cie_head, fde, fde_head, head_in}
 pub use Rattle.dw_section.specs.Inner.Agree.{Agree, AgreeAt}
-pub use Rattle.dw_section.specs.Inner.Changes.{Among, AreLed, Before, Passed, Shows, changes_among, is_before, repeats}
+pub use Rattle.dw_section.specs.Inner.Changes.{Among, AreLed, Before, Passed, Shows, changes_among, changing, is_before, repeats}
 pub use Rattle.dw_section.specs.Inner.Counted.{IsProgram, StartsOf, moves_in}
 pub use Rattle.dw_section.specs.Inner.Fields.{Passes, behind_id, fields_at}
 pub use Rattle.dw_section.specs.Inner.Heads.{FdeFits, HasBytes, HeadsRise, cie_at_of, cie_ats, head_at, head_program}
 pub use Rattle.dw_section.specs.Inner.Index.{AreJudged, EndsAt, IsFound, NamesCie, PlacesRise, SameMembers, found_cie, found_head, led_to}
 pub use Rattle.dw_section.specs.Inner.Initials.{AreInitials, FirstLacking, HasOrLacks, IsBehind, IsInitial, IsLong, IsRunner, initial_head, or_place, place_of}
 pub use Rattle.dw_section.specs.Inner.Left.{AreHeaders, HeadsLeft, PiecesLeft}
-pub use Rattle.dw_section.specs.Inner.Lookup.{IsFoundIn, LedBy, LedSo, fde_of, rows_of}
+pub use Rattle.dw_section.specs.Inner.Lookup.{AreRowsOf, IsFoundIn, LedBy, LedSo, RunsSo, fde_of}
 pub use Rattle.dw_section.specs.Inner.Meanings.{row_among}
 pub use Rattle.dw_section.specs.Inner.NarrowRow.{ChangesKeep, NarrowedBy}
 unfoldable pub use Rattle.dw_section.specs.Inner.PieceHeader.{cie_at, fde_at}
@@ -87,16 +83,16 @@ pub use Rattle.dw_section.specs.Inner.Sound.{AllStep, ChangeFits, SoundSection, 
 pub use Rattle.dw_section.specs.Inner.StandingFde.{AreJoined, FoundStands, LiesInPrograms, StandsAt, is_fde}
 pub use Rattle.dw_section.specs.Laws.{ChangesMean, LastChangeRules, RulesFit}
 pub use Rattle.dw_section.specs.Lookups.{Finding, LooksUp}
-pub use Rattle.dw_section.specs.Meaning.{AreFdes, ChangesOf, Covers, HasLengths, Lists, NoneCovers, Returns, RowStarts, RulesAt, Says, Starts, total}
+pub use Rattle.dw_section.specs.Meaning.{AreFdes, ChangesOf, Covers, FdeSays, HasLengths, Lists, NoneCovers, Returns, RowStarts, RulesAt, Starts, total}
 pub use Rattle.dw_section.specs.Meanings.{SameMeaning}
 pub use Rattle.dw_section.specs.Opening.{HasProgram, OpensBehind}
 pub use Rattle.dw_section.specs.Overlap.{AreApart, Ascends, FirstOverlap, IsIndex, Precedes, Range, end_of, nonempty, range_of, with_range}
 pub use Rattle.dw_section.specs.Pieces.{Entries, Pieces, entry_of}
 pub use Rattle.dw_section.specs.Places.{cie_places, place_if}
-pub use Rattle.dw_section.specs.Programs.{Begins, CieBroken, CieRuns, FdeBroken, FdeRuns, HasCfa, HasRules, Instrs, LacksRule, factors_of}
+pub use Rattle.dw_section.specs.Programs.{CieBroken, CieRuns, FdeBroken, FdeRuns, HasCfa, HasRules, InitialInstrs, Instrs, LacksRule, factors_of}
 pub use Rattle.dw_section.specs.Ranges.{AreIndexed, IsRanged, IsTable, fde_in, range_in}
 pub use Rattle.dw_section.specs.Stage.{FirstStuck, Then}
-pub use Rattle.dw_section.specs.StandingFde.{BothStuck, FdeStands, LookUpFault, Names, RefusesAs, StandingFault, StandsAs, StandsIn}
+pub use Rattle.dw_section.specs.StandingFde.{BothStuck, FdeStands, LookUpFault, NamesCieAt, RefusesAs, StandingFault, StandsAs, StandsIn}
 pub use Rattle.dw_section.specs.Table.{Section}
 pub use Rattle.dw_section.specs.declared.entry.Kind.{Kind}
 pub use Rattle.dw_section.specs.declared.entry.Kind.TheVariants.{Cie}

@@ -5,7 +5,7 @@ use Rattle.dw_cfa.specs.declared.instr.Instr.{Instr}
 use Rattle.dw_cfa.specs.Agreement.{kept}
 use Rattle.dw_cfa.specs.Location.{Counts}
 use Rattle.dw_cfa.specs.Column.{cfa_after, rule_after}
-use Rattle.dw_cfa.specs.Laws.{initial_cfa, initial_rule, HoldsAfter}
+use Rattle.dw_cfa.specs.InitialRules.{initial_cfa, initial_rule, HoldsAfter}
 use Rattle.dw_cfa.specs.Rows.{Rules}
 use Rattle.dw_section.specs.Table.{Section}
 
@@ -69,14 +69,14 @@ GivesAddress old (Ok None) new = (new.failed ≡ false) × (old.to_come ≡ []) 
 GivesAddress old (Ok (Some address)) new = (new.failed ≡ false) × ((row : Rules) × (old.to_come ≡ (address, row) ∷ new.to_come) × (new.shown ≡ Some row))
 GivesAddress old (Err e) new = new.failed ≡ true
 
--- it goes on to the next change, or stays behind the last one
-abbrev pub GoesOn : Changing → Changing → Type 0
-GoesOn old new = (address : Option ℕ) × GivesAddress {E = Unit {0}} old (Ok address) new
-
 -- at a change the row before it is the one that was shown, and behind the last one there is none
 abbrev pub before_then : {A : Type 0} → Option A → Option Rules → Option Rules
 before_then None shown = None
 before_then (Some change) shown = shown
+
+-- it goes on to the next change, or stays behind the last one
+abbrev pub GoesOn : Changing → Changing → Type 0
+GoesOn old new = (address : Option ℕ) × GivesAddress {E = Unit {0}} old (Ok address) new × (new.before ≡ before_then address old.shown)
 
 -- the row that is shown behind these changes, where another one was before
 abbrev pub last_shown : Option Rules → List (ℕ × Rules) → Option Rules

@@ -25,17 +25,17 @@ pub data Number : Type 0 where
   unsigned : Number
   signed : Number
 
-abbrev pub Value : Number → Type 0
-Value signed = ℤ
-Value other = ℕ
+abbrev pub NumberValue : Number → Type 0
+NumberValue signed = ℤ
+NumberValue other = ℕ
 
-abbrev pub Spells : Target → (n : Number) → Value n → List ℕ → Type 0
-Spells t (fixed width) v bytes = Fixed t.order width v bytes
-Spells t unsigned v bytes = Uleb v bytes
-Spells t signed v bytes = Sleb v bytes
+abbrev pub NumberSpells : Target → (n : Number) → NumberValue n → List ℕ → Type 0
+NumberSpells t (fixed width) v bytes = Fixed t.order width v bytes
+NumberSpells t unsigned v bytes = Uleb v bytes
+NumberSpells t signed v bytes = Sleb v bytes
 
 -- reading one, with its fault
-abbrev pub number_at : (n : Number) → Input → Read (Value n)
+abbrev pub number_at : (n : Number) → Input → Read (NumberValue n)
 number_at (fixed width) i = fixed_at width i
 number_at unsigned i = uleb_at i
 number_at signed i = sleb_at i
@@ -45,7 +45,7 @@ number_at signed i = sleb_at i
 -- fields one after another, to what they say: a number, the code with which a value of it is refused, and what stands behind a value
 pub data Fields (X : Type 0) : Type 0 where
   end : X → Fields X
-  field : (n : Number) → (Value n → Option Code) → (Value n → Fields X) → Fields X
+  field : (n : Number) → (NumberValue n → Option Code) → (NumberValue n → Fields X) → Fields X
   -- a string that has to be empty
   empty_string : Fields X → Fields X
 
@@ -63,7 +63,7 @@ sizes size version rest =
     if version == 4 then field (fixed 1) (λ n. unless (n == byte_count size) AddressSize) (λ n. field (fixed 1) (λ k. unless (k == 0) SegmentSelector) (λ k. rest))
     else rest
 
--- the return register, a byte in version 1
+-- the return address register, a byte in version 1
 abbrev pub return_register : ℕ → (ℕ → Fields CieFields) → Fields CieFields
 return_register version rest = if version == 1 then field (fixed 1) any rest else field unsigned (λ r. unless (nat_lt r 65536) RegisterTooLarge) rest
 
@@ -92,7 +92,7 @@ fde_fields size places form =
 -- the bytes spell fields that say this
 abbrev pub FieldsSpell : {X : Type 0} → Target → Fields X → X → List ℕ → Type 0
 FieldsSpell t (end y) x bytes = (x ≡ y) × (bytes ≡ [])
-FieldsSpell t (field n refused rest) x bytes = (v : Value n) × (refused v ≡ None) × Both (Spells t n v) (FieldsSpell t (rest v) x) bytes
+FieldsSpell t (field n refused rest) x bytes = (v : NumberValue n) × (refused v ≡ None) × Both (NumberSpells t n v) (FieldsSpell t (rest v) x) bytes
 FieldsSpell t (empty_string rest) x bytes = Both (λ b. b ≡ 0 ∷ []) (FieldsSpell t rest x) bytes
 
 -- ---- the first fault
@@ -112,5 +112,5 @@ string_fault (Some (suc n)) = Some Augmentation
 abbrev pub FieldsFault : {X : Type 0} → Fields X → Input → Refusal → Type 0
 FieldsFault (end x) i r = ⊥
 FieldsFault (field n refused rest) i r =
-    (number_at n i ≡ Err r) ⊎ ((v : Value n) × (j : Input) × (number_at n i ≡ Ok (v, j)) × Judged (refused v) i.at (FieldsFault (rest v) j) r)
+    (number_at n i ≡ Err r) ⊎ ((v : NumberValue n) × (j : Input) × (number_at n i ≡ Ok (v, j)) × Judged (refused v) i.at (FieldsFault (rest v) j) r)
 FieldsFault (empty_string rest) i r = Judged (string_fault (position (λ b. b == 0) i.bytes)) i.at (FieldsFault rest (behind 1 i)) r

@@ -18,6 +18,7 @@ pub mod Meanings
 pub mod Pieces
 pub mod Places
 pub mod Stage
+pub mod Reads
 pub mod Table
 pub mod StandingFde
 pub mod Sound

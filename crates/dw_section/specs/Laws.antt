@@ -1,5 +1,5 @@
 -- Laws of sections, for the layers above.
-use Rattle.std.specs.Prelude.{◌≡◌, ◌↔◌, ℕ, ◌<◌, ◌≤◌, List, ◌∷◌, ◌++◌, length, map}
+use Rattle.std.specs.Prelude.{◌≡◌, ◌↔◌, ◌⊎◌, ℕ, ◌<◌, ◌≤◌, List, ◌∷◌, ◌++◌, length, map}
 use Rattle.std.specs.List.{AllByRecursion, AllZip}
 use Rattle.dw_num.specs.declared.target.Target.{Target}
 use Rattle.dw_num.specs.Input.{AreBytes}
@@ -12,16 +12,29 @@ use Rattle.dw_section.specs.Accepted.{Accepted, CheckFault}
 use Rattle.dw_op.specs.Faults.{IsWithin}
 use Rattle.dw_section.specs.Changes.{AreChanges}
 use Rattle.dw_section.specs.Fits.{RowFits}
-use Rattle.dw_section.specs.Headers.{Head, Headers}
-use Rattle.dw_section.specs.Meaning.{Says, AreFdes, Covers, RulesAt, ChangesOf, RowStarts, total}
+use Rattle.dw_section.specs.Faults.{CutFault}
+use Rattle.dw_section.specs.Headers.{Head, Headers, HeadersFault}
+use Rattle.dw_section.specs.Pieces.{Entries}
+use Rattle.dw_section.specs.declared.entry.Entry.{Entry}
+use Rattle.dw_section.specs.Meaning.{FdeSays, AreFdes, Covers, RulesAt, ChangesOf, RowStarts, total}
 use Rattle.dw_section.specs.Meanings.{SameMeaning}
 use Rattle.dw_section.specs.Among.{IsAmong}
 use Rattle.dw_section.specs.Opening.{CieLeaves}
 use Rattle.dw_cfa.specs.declared.rule.CfaRule.TheVariants.{Unset}
 
+-- a section has entries, headers and a table, or a first fault in the way of each
+abbrev pub SomeEntries : Type 0
+SomeEntries = (target : Target) (s : List ℕ) → AreBytes s → ((es : List Entry) × Entries target s es) ⊎ ((r : Refusal) × CutFault target s r)
+
+abbrev pub SomeHeaders : Type 0
+SomeHeaders = (target : Target) (s : List ℕ) → AreBytes s → ((hs : List Head) × Headers target s hs) ⊎ ((r : Refusal) × HeadersFault target s r)
+
+abbrev pub SomeCheck : Type 0
+SomeCheck = (target : Target) (s : List ℕ) → AreBytes s → Accepted target s ⊎ ((r : Refusal) × CheckFault target s r)
+
 -- the first fault of a section lies in it or at its end
-abbrev pub FaultsWithin : Type 0
-FaultsWithin = (target : Target) (s : List ℕ) (r : Refusal) → AreBytes s → CheckFault target s r → IsWithin s r
+abbrev pub SectionFaultsWithin : Type 0
+SectionFaultsWithin = (target : Target) (s : List ℕ) (r : Refusal) → AreBytes s → CheckFault target s r → IsWithin s r
 
 abbrev pub OneHeaders : Type 0
 OneHeaders = (target : Target) (s : List ℕ) (hs ks : List Head) → Headers target s hs → Headers target s ks → hs ≡ ks
@@ -71,7 +84,11 @@ LastChangeRules = (target : Target) (s : List ℕ) (f : Fde) (changes : List (�
 -- an FDE starts at least as many rows as it has changes
 abbrev pub LeastStarts : Type 0
 LeastStarts = (target : Target) (s : List ℕ) → AreBytes s → Accepted target s → (begin end : ℕ) (initial instrs : List Instr) (changes : List (ℕ × Rules)) → begin < end
-    → Says target s begin end initial instrs → AreChanges initial instrs begin end changes → length changes ≤ row_starts instrs
+    → FdeSays target s begin end initial instrs → AreChanges initial instrs begin end changes → length changes ≤ row_starts instrs
+
+-- the rows that all FDEs of a section start are one number
+abbrev pub OneRowStarts : Type 0
+OneRowStarts = (target : Target) (s : List ℕ) → AreBytes s → Accepted target s → (n m : ℕ) → RowStarts target s n → RowStarts target s m → n ≡ m
 
 -- and so do all FDEs together
 abbrev pub LeastTotal : Type 0

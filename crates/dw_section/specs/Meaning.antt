@@ -3,7 +3,7 @@ use Rattle.std.specs.Prelude.{◌≡◌, ℕ, ◌+◌, ◌<◌, ◌≤◌, List,
 use Rattle.std.specs.List.{AllByRecursion, AllZip}
 use Rattle.dw_num.specs.declared.target.Target.{Target}
 use Rattle.dw_cfa.specs.declared.instr.Instr.{Instr}
-use Rattle.dw_cfa.specs.Laws.{HoldsAfter}
+use Rattle.dw_cfa.specs.InitialRules.{HoldsAfter}
 use Rattle.dw_cfa.specs.Location.{Counts, row_starts}
 use Rattle.dw_cfa.specs.Rows.{Rules}
 use Rattle.dw_section.specs.declared.lookup.Fde.{Fde}
@@ -15,7 +15,7 @@ use Rattle.dw_section.specs.Among.{IsAmong}
 
 -- ---- the FDEs
 
--- the FDE of a range names a CIE of this return register
+-- the FDE of a range names a CIE of this return address register
 pub record Returns (hs : List Head) (a : Range) (register : ℕ) : Type 0 where
   pub own : FdeHead
   pub named : CieHead
@@ -50,7 +50,7 @@ NoneCovers a fs = AllByRecursion (λ f. Covers a f → ⊥) fs
 -- ---- what is said of an FDE
 
 -- an FDE of these addresses, with the instructions of its CIE and of its own program
-pub record Says (target : Target) (s : List ℕ) (begin end : ℕ) (initial instrs : List Instr) : Type 0 where
+pub record FdeSays (target : Target) (s : List ℕ) (begin end : ℕ) (initial instrs : List Instr) : Type 0 where
   pub headers : List Head
   pub are : Headers target s headers
   pub head : FdeHead
@@ -65,7 +65,7 @@ pub record RulesAt (target : Target) (s : List ℕ) (a : ℕ) (row : Rules) : Ty
   pub end : ℕ
   pub initial : List Instr
   pub instrs : List Instr
-  pub says : Says target s begin end initial instrs
+  pub says : FdeSays target s begin end initial instrs
   pub from : begin ≤ a
   pub below : a < end
   pub k : ℕ
@@ -76,14 +76,14 @@ pub record RulesAt (target : Target) (s : List ℕ) (a : ℕ) (row : Rules) : Ty
 pub record ChangesOf (target : Target) (s : List ℕ) (f : Fde) (changes : List (ℕ × Rules)) : Type 0 where
   pub initial : List Instr
   pub instrs : List Instr
-  pub says : Says target s f.begin f.end initial instrs
+  pub says : FdeSays target s f.begin f.end initial instrs
   pub change : AreChanges initial instrs f.begin f.end changes
 
 -- the program of an FDE has so many bytes, and that of its CIE so many
 pub record HasLengths (target : Target) (s : List ℕ) (f : Fde) (own cie : ℕ) : Type 0 where
   pub initial : List Instr
   pub instrs : List Instr
-  pub says : Says target s f.begin f.end initial instrs
+  pub says : FdeSays target s f.begin f.end initial instrs
   pub own_is : own ≡ length says.head.program.bytes
   pub cie_is : cie ≡ length says.spelled.head.program.bytes
 
@@ -91,7 +91,7 @@ pub record HasLengths (target : Target) (s : List ℕ) (f : Fde) (own cie : ℕ)
 
 -- the program of the FDE of a range starts n rows
 abbrev pub Starts : Target → List ℕ → Range → ℕ → Type 0
-Starts target s a n = (initial : List Instr) × (instrs : List Instr) × (says : Says target s a.begin (end_of a) initial instrs) × (says.head.at ≡ a.at) × (n ≡ row_starts instrs)
+Starts target s a n = (initial : List Instr) × (instrs : List Instr) × (says : FdeSays target s a.begin (end_of a) initial instrs) × (says.head.at ≡ a.at) × (n ≡ row_starts instrs)
 
 abbrev pub total : List ℕ → ℕ
 total [] = 0

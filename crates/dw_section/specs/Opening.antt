@@ -12,25 +12,25 @@ use Rattle.dw_section.specs.declared.lookup.Fde.{Fde}
 use Rattle.dw_section.specs.declared.opening.CieRow.{CieRow}
 use Rattle.dw_section.specs.Among.{IsAmong}
 use Rattle.dw_section.specs.Headers.{CieHead, Head, Headers, cie}
-use Rattle.dw_section.specs.Meaning.{Says}
-use Rattle.dw_section.specs.Programs.{Begins, factors_of}
+use Rattle.dw_section.specs.Meaning.{FdeSays}
+use Rattle.dw_section.specs.Programs.{InitialInstrs, factors_of}
 
 -- the FDE's CIE stands at the place of the row, and by its own program its first row is the one that the CIE's program leaves, with
 -- the row's offset of the CFA where it has one
 pub record OpensBehind (target : Target) (s : List ℕ) (f : Fde) (row : CieRow) : Type 0 where
   pub initial : List Instr
   pub instrs : List Instr
-  pub says : Says target s f.begin f.end initial instrs
+  pub says : FdeSays target s f.begin f.end initial instrs
   pub named : row.cie_at ≡ says.head.cie_at
   pub head : CieHead
-  pub begins : Begins target says.headers row.cie_at head initial
+  pub begins : InitialInstrs target says.headers row.cie_at head initial
   pub first : first_row instrs ≡ row_with row.cfa_offset
 
 -- the program of the FDE has these bytes, and is read with these factors of its CIE
 pub record HasProgram (target : Target) (s : List ℕ) (f : Fde) (factors : Factors) (bytes : List ℕ) : Type 0 where
   pub initial : List Instr
   pub instrs : List Instr
-  pub says : Says target s f.begin f.end initial instrs
+  pub says : FdeSays target s f.begin f.end initial instrs
   pub factors_are : factors ≡ factors_of says.spelled.head
   pub bytes_are : bytes ≡ says.head.program.bytes
 

@@ -8,12 +8,12 @@ use Rattle.dw_num.specs.Target.{address_limit}
 use Rattle.dw_cfa.specs.declared.instr.Factors.{Factors}
 use Rattle.dw_cfa.specs.declared.instr.Instr.{Instr}
 use Rattle.dw_cfa.specs.declared.rule.CfaRule.TheVariants.{Unset}
-use Rattle.dw_cfa.specs.InstrSpells.{Program}
+use Rattle.dw_cfa.specs.InstrSpells.{ProgramSpells}
 use Rattle.dw_cfa.specs.Location.{Counts}
 use Rattle.dw_cfa.specs.Column.{cfa_after}
 use Rattle.dw_cfa.specs.Kept.{CieKept, FdeKept}
 use Rattle.dw_cfa.specs.Faults.{CieFault, FdeFault}
-use Rattle.dw_cfa.specs.Laws.{initial_cfa}
+use Rattle.dw_cfa.specs.InitialRules.{initial_cfa}
 use Rattle.dw_section.specs.Among.{IsAmong}
 use Rattle.dw_section.specs.Headers.{CieHead, Head, cie, fde}
 
@@ -24,7 +24,7 @@ factors_of c = record { code_factor = c.code_factor; data_factor = c.data_factor
 
 -- a CIE's program keeps what it has to
 abbrev pub CieRuns : Target → Head → Type 0
-CieRuns target (cie c) = (instrs : List Instr) × Program target (factors_of c) instrs c.program.bytes × CieKept instrs
+CieRuns target (cie c) = (instrs : List Instr) × ProgramSpells target (factors_of c) instrs c.program.bytes × CieKept instrs
 CieRuns target (fde f) = Unit {0}
 
 -- a CIE's program has this first fault
@@ -35,16 +35,16 @@ CieBroken target (fde f) r = ⊥
 -- ---- programs of FDEs
 
 -- at this place stands this CIE, with these instructions
-pub record Begins (target : Target) (hs : List Head) (place : ℕ) (c : CieHead) (initial : List Instr) : Type 0 where
+pub record InitialInstrs (target : Target) (hs : List Head) (place : ℕ) (c : CieHead) (initial : List Instr) : Type 0 where
   pub among : IsAmong (cie c) hs
   pub stands : c.at ≡ place
-  pub spelled : Program target (factors_of c) initial c.program.bytes
+  pub spelled : ProgramSpells target (factors_of c) initial c.program.bytes
 
 -- the instructions of the CIE at this place, and those of an FDE's program
 pub record Instrs (target : Target) (hs : List Head) (place : ℕ) (program : Span) (initial instrs : List Instr) : Type 0 where
   pub head : CieHead
-  pub begins : Begins target hs place head initial
-  pub spelled : Program target (factors_of head) instrs program.bytes
+  pub begins : InitialInstrs target hs place head initial
+  pub spelled : ProgramSpells target (factors_of head) instrs program.bytes
 
 -- an FDE's program keeps what it has to, behind the initial rules of its CIE
 abbrev pub FdeRuns : Target → List Head → Head → Type 0
@@ -56,7 +56,7 @@ FdeRuns target hs (fde f) =
 abbrev pub FdeBroken : Target → List Head → Head → Refusal → Type 0
 FdeBroken target hs (cie c) r = ⊥
 FdeBroken target hs (fde f) r =
-    (c : CieHead) × (initial : List Instr) × Begins target hs f.cie_at c initial × FdeFault (factors_of c) (initial_cfa initial) (input_of target f.program) f.begin r
+    (c : CieHead) × (initial : List Instr) × InitialInstrs target hs f.cie_at c initial × FdeFault (factors_of c) (initial_cfa initial) (input_of target f.program) f.begin r
 
 -- ---- the CFA
 

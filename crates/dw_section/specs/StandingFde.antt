@@ -1,4 +1,13 @@
 -- An FDE that stands in bytes, by its place alone: DWARF 5, 6.4.1. The bytes need be no section that is accepted.
+--
+-- A look-up that is led to a place judges in this order, and refuses with the first fault:
+-- 1. the size of the bytes;
+-- 2. what begins at the place (`ItemFault`), which has to be an FDE;
+-- 3. what begins where that FDE says that its CIE stands (`ItemFault` again);
+-- 4. the fields of the FDE, its pointer first, which leads to no CIE where none begins there;
+-- 5. the fields of the CIE;
+-- 6. the program of the CIE, and then that of the FDE up to the address.
+-- Whatever stands elsewhere in the bytes is not judged. `check` judges the fields of all CIEs before those of any FDE.
 use Rattle.std.specs.Prelude.{◌≡◌, ◌⊎◌, ℕ, ◌+◌, ◌<◌, ◌≤◌, List, [], ◌∷◌, ◌++◌, length, take, drop, Option, Some, None, Err}
 use Rattle.dw_num.specs.declared.refusal.Code.TheVariants.{SectionTooLarge}
 use Rattle.dw_num.specs.declared.refusal.Refusal.{Refusal}
@@ -80,7 +89,7 @@ pub record RulesOf (target : Target) (s : List ℕ) (at a : ℕ) (found : Ruled)
 abbrev pub StandsAs : Target → List ℕ → Kind → ℕ → Piece → Type 0
 StandsAs target s k at p = StandsIn target.order s p × (p.kind ≡ k) × (p.at ≡ at)
 
--- what begins at a place is no item
+-- the place lies within the bytes, and what begins there can't be read as an entry or a gap
 abbrev pub ItemFault : Target → List ℕ → ℕ → Refusal → Type 0
 ItemFault target s at r = (at < length s) × (item_at (record { at = at; bytes = drop at s; target = target }) ≡ Err r)
 
@@ -90,29 +99,32 @@ CieAt target s at (Some p) = StandsAs target s kind.Cie at p
 CieAt target s at None = ((p : Piece) → StandsAs target s kind.Cie at p → ⊥) × ((r : Refusal) → ItemFault target s at r → ⊥)
 
 -- the first field of an FDE is the place of its CIE
-abbrev pub Names : Target → Piece → ℕ → Type 0
-Names target own at = Fixed target.order (id_width own.form) at (take (id_width own.form) own.contents.bytes)
+abbrev pub NamesCieAt : Target → Piece → ℕ → Type 0
+NamesCieAt target own at = Fixed target.order (id_width own.form) at (take (id_width own.form) own.contents.bytes)
 
--- the first fault of the fields of an FDE, and then of those of its CIE, if one stands where it says
+-- Step 4 and then step 5. Where no CIE stands, the FDE is refused at its pointer. Where one stands, the FDE's fields are stuck, or
+-- they hold and the CIE's are stuck.
 abbrev pub BothStuck : Target → Piece → Option Piece → Refusal → Type 0
 BothStuck target own None r = FdeStuck target [] own r
 BothStuck target own (Some named) r = FdeStuck target (named.at ∷ []) own r ⊎ (FdeHolds target (named.at ∷ []) own × CieStuck target named r)
 
--- the first fault of an FDE and its CIE: of what begins where the FDE says, or of the fields of both
+-- Steps 3 to 5: of what begins where the FDE says, or where that is no fault, of the fields of both. What stands there may be a CIE
+-- or not.
 abbrev pub PairFault : Target → List ℕ → Piece → Refusal → Type 0
-PairFault target s own r = (at : ℕ) × Names target own at × Then (ItemFault target s at) (CieAt target s at) (BothStuck target own) r
+PairFault target s own r = (at : ℕ) × NamesCieAt target own at × Then (ItemFault target s at) (CieAt target s at) (BothStuck target own) r
 
--- the first fault of the programs of both, where it comes up to an address that the FDE covers
+-- Step 6: the first fault of the programs of both, where it comes up to an address that the FDE covers.
 abbrev pub ProgramsFault : Target → List ℕ → ℕ → ℕ → Refusal → Type 0
 ProgramsFault target s at a r =
     (own : FdeHead) × (named : CieHead) × FdeStands target s own named × (own.at ≡ at) × (own.begin ≤ a) × (a < own.begin + own.range)
     × FaultUpTo (factors_of named) (input_of target named.program) (input_of target own.program) own.begin a r
 
--- the first fault at a place: of what begins there, of an FDE and its CIE, or of their programs
+-- Steps 2 to 6: of what begins at the place, or where that is an FDE, of the FDE and its CIE; or of their programs. The last is
+-- no part of `Then`, for it speaks of an FDE that stands there whole, so that no step before has a fault.
 abbrev pub StandingFault : Target → List ℕ → ℕ → ℕ → Refusal → Type 0
 StandingFault target s at a r = Then (ItemFault target s at) (StandsAs target s kind.Fde at) (PairFault target s) r ⊎ ProgramsFault target s at a r
 
--- the first fault of a look-up: of the size, or at a place where the index leads
+-- All steps: of the size, or at a place where the index leads.
 abbrev pub LookUpFault : Target → List ℕ → List Ranged → ℕ → Refusal → Type 0
 LookUpFault target s index a r =
     ((2147483647 < length s) × (r ≡ record { code = SectionTooLarge; at = 0 })) ⊎ ((length s ≤ 2147483647) × ((at : ℕ) × LeadsTo index a at × StandingFault target s at a r))

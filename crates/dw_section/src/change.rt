@@ -1,6 +1,6 @@
 //! The addresses at which the rules of an FDE change (6.4.3), one at a time.
 
-ghost use Rattle.std.specs.Prelude.{◌≡◌, ◌+◌, ◌<◌, ◌↔◌, ℕ, [], IsTrue, Ok, Some, None, true, IsErr, IfOk, IfSome, OnErr, OnOk, MatchOption};
+ghost use Rattle.std.specs.Prelude.{◌≡◌, ◌+◌, ◌<◌, ◌↔◌, ℕ, List, [], IsTrue, Ok, Some, None, true, IsErr, IfOk, IfSome, OnErr, OnOk, MatchOption};
 ghost use Rattle.dw_num.specs.Input.{AreBytes};
 ghost use Rattle.dw_num.specs.Target.{address_limit};
 ghost use Rattle.dw_cfa.specs.Difference.{FirstDifference, place_behind};
@@ -15,7 +15,8 @@ ghost use Rattle.dw_section.specs.Inner.Changes.{Before, FindsChange, FindsFirst
 ghost use Rattle.dw_section.specs.Inner.NarrowRow.{ChangesKeep};
 ghost use Rattle.dw_section.specs.Inner.Shown.{shown_if, shown_of};
 ghost use Rattle.dw_section.specs.Inner.Index.{led_to};
-ghost use Rattle.dw_section.specs.Inner.Lookup.{LedBy, rows_of};
+ghost use Rattle.dw_section.specs.Inner.Lookup.{AreRowsOf, LedBy};
+ghost use Rattle.dw_cfa.specs.declared.execution.LocatedRow.{LocatedRow};
 
 use crate::listed_fde::{FoundFde, lead};
 use crate::walks::{is_long, turn_walk};
@@ -250,9 +251,9 @@ impl<'a> Changes<'a> {
     #[inline(always)]
     pub(crate) fn go_on(&mut self, fde: &FoundFde<'a>)
         requires in_space { fde.now.begin < address_limit self.old.section.target.size }
-        requires no_fault { (rows_of self.old.section.target fde.now).fault ≡ None }
+        requires known { (rows : List LocatedRow) × AreRowsOf self.old.section.target fde.now rows }
         requires led { LedBy self.old.section fde.now.cie_at (led_to self.old.section.target fde.now) }
-        ensures { self.new ≡ changing self.old.section (rows_of self.old.section.target fde.now).rows (fde.now.begin + fde.now.range) }
+        ensures { (rows : List LocatedRow) → AreRowsOf self.old.section.target fde.now rows → self.new ≡ changing self.old.section rows (fde.now.begin + fde.now.range) }
     {
         let long = is_long(fde.cie_program);
         if self.long || long {
@@ -303,6 +304,7 @@ impl<'a> Changes<'a> {
     ) -> Result<Option<Behind>, AllocError>
         ensures goes { OnOk result (GoesOn self.old self.new) }
         ensures failed { OnErr result (self.new.failed ≡ true) }
+        ensures again { self.old.failed ≡ true → IsErr result }
         ensures section { self.new.section ≡ self.old.section }
         // The set has the registers in which the row that is shown is not that of the CIE.
         ensures changed { IfOk result (λ found. IfSome found (λ behind. (row : Rules) × CieLeaves self.old.section.target self.old.section.bytes behind.cie_at row × IfSome self.new.shown (AreChanged changed.new row))) }

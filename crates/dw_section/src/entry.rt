@@ -7,7 +7,7 @@ ghost use Rattle.dw_num.specs.declared.target.Target.{Target};
 ghost use Rattle.dw_num.specs.declared.refusal.Refusal.{Refusal};
 ghost use Rattle.dw_num.specs.declared.refusal.Code.TheVariants.{SectionTooLarge};
 ghost use Rattle.dw_num.specs.Input.{Takes};
-ghost use Rattle.dw_num.specs.Inner.Front.{Gives};
+ghost use Rattle.dw_section.specs.Inner.Reads.{Gives};
 ghost use Rattle.dw_num.specs.Refusals.{Refuses};
 ghost use Rattle.dw_num.specs.declared.error.ReadError.TheVariants.{OutOfMemory};
 ghost use Rattle.dw_section.specs.Cut.{Cut, Item, IsItem, Piece, item_bytes, is_cie, id_width};
@@ -17,6 +17,7 @@ ghost use Rattle.dw_section.specs.Inner.Left.{PiecesLeft, GivesPiece, GoesOn};
 ghost use Rattle.dw_section.specs.Pieces.{Pieces, Entries};
 ghost use Rattle.dw_section.specs.Inner.Pieces.{IsPlaced};
 ghost use Rattle.dw_section.specs.Faults.{item_at, CutFault};
+ghost use Rattle.dw_section.specs.Laws.{SomeEntries};
 ghost use Rattle.dw_section.specs.Inner.Faults.{item_of};
 ghost use Rattle.dw_op.specs.Faults.{IsWithin};
 ghost use Rattle.dw_section.specs.declared.entry.Entry.{Entry};
@@ -233,9 +234,10 @@ fn all_entries(alloc: Global, bytes: &[u8], target: Target) -> Result<Vec<Entry>
 /// The entries of a section in order of place, CIEs and FDEs of both forms, gaps left out. Their fields and
 /// programs are not looked at.
 ///
-/// A refusal is the first fault of the cut: `SectionTooLarge` above 2,147,483,647 bytes, then by place
-/// `Truncated` or `ReservedLength` in a length, `EntryPastEnd`, and `Truncated` for an entry that is too short
-/// for its first field. The one memory that it takes is the list's.
+/// A refusal is the first fault of size and cut: `SectionTooLarge` (26) at 0 above 2,147,483,647 bytes; then by place, and of one
+/// entry in this order, `Truncated` (1) or `ReservedLength` (2) at its length, `EntryPastEnd` (3) at the entry, and `Truncated`
+/// (1) at its first field, where the entry is too short for that. `OutOfMemory` may come in place of any answer: the list takes
+/// memory, and nothing else does.
 pub fn entries(alloc: Global, bytes: &[u8], target: Target) -> Result<Vec<Entry>, ReadError>
     // They are the entries of the section's cut.
     ensures found { IfOk result (λ v. Entries target bytes.now v.items) }
@@ -254,8 +256,9 @@ pub fn one_cut()
     ensures { (order : Order) (s : List ℕ) (items others : List Item) → Cut order s items → Cut order s others → items ≡ others }
 {}
 
-/// A section has at most one first fault of its cut, and none where it has entries.
+/// A section has entries, or one first fault of its cut, and not both.
 pub fn one_cut_fault()
     ensures one { (target : Target) (s : List ℕ) (r q : Refusal) → CutFault target s r → CutFault target s q → r ≡ q }
     ensures apart { (target : Target) (s : List ℕ) (r : Refusal) (es : List Entry) → CutFault target s r → Entries target s es → ⊥ }
+    ensures some { SomeEntries }
 {}

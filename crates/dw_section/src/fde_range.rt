@@ -25,7 +25,7 @@ use dw_num::{Cursor, ReadError, Target};
 use std::alloc::{AllocError, Global};
 
 /// A nonempty FDE as an index lists it: its first address (`initial_location`), how many addresses it covers
-/// (`address_range`), the place of its entry, and the return register of its CIE. 24 bytes, as C lays them out.
+/// (`address_range`), the place of its entry, and the return address register of its CIE. 24 bytes, as C lays them out.
 #[repr(C)]
 #[derive(Clone, Copy, Debug, PartialEq, Eq)]
 pub struct Ranged {

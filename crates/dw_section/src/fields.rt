@@ -2,7 +2,7 @@
 
 ghost use Rattle.std.specs.Prelude.{◌≡◌, ◌<◌, nat_le, ◌+◌, ◌||◌, ℕ, Ok, position, ◌==◌};
 ghost use Rattle.dw_section.specs.Inner.Places.{Rises};
-ghost use Rattle.dw_num.specs.Inner.Front.{Gives};
+ghost use Rattle.dw_section.specs.Inner.Reads.{Gives};
 ghost use Rattle.dw_num.specs.Target.{address_limit};
 ghost use Rattle.dw_section.specs.Fields.{Fields, fde_fields, field, fixed, unless, empty_string, sizes, return_register, factors, is_among};
 ghost use Rattle.dw_section.specs.declared.fields.CieFields.{CieFields as TheCieFields};

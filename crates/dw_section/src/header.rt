@@ -21,6 +21,7 @@ ghost use Rattle.dw_section.specs.Inner.Heads.{head_at};
 ghost use Rattle.dw_section.specs.Inner.Left.{AreHeaders, HeadsLeft, GivesHead, GoesOn};
 ghost use Rattle.dw_section.specs.Inner.PieceHeader.{cie_at, fde_at, program_of};
 ghost use Rattle.dw_section.specs.Headers.{Head, Has, Headers, head_in, CieHolds, CieStuck, CiesHold, FdeHolds, FdeStuck, CieFieldsFault, HeadersFault};
+ghost use Rattle.dw_section.specs.Laws.{SomeHeaders};
 
 use crate::entry::{EntryCounts, Kind, Placed, cut, next_piece, width_of};
 use crate::fields::{read_cie, read_fde};
@@ -302,10 +303,11 @@ fn all_headers<'a>(
 /// The headers of a section in order of place: the fields of each entry, CIEs of versions 1, 3 and 4 in both
 /// forms, and FDEs. Programs are not looked at.
 ///
-/// A refusal is the first fault of size and cut, as `entries` has it, then of the fields of CIEs by place (each
-/// from left to right: `Truncated`, `BadVersion`, `Augmentation`, `AddressSize`, `SegmentSelector`,
-/// `NumberTooLarge`, `RegisterTooLarge`), then of the fields of FDEs by place (`Truncated`, `NoSuchCie`,
-/// `RangeTooLarge`). It takes memory for its list and for the places of CIEs; a pointer is looked up by halving.
+/// A refusal is the first fault of size and cut (1, 2, 3 and 26, as `entries` has it); then of the fields of CIEs by place, each
+/// from left to right: `Truncated` (1), `BadVersion` (4), `Augmentation` (5), `AddressSize` (6), `SegmentSelector` (7),
+/// `NumberTooLarge` (8), `RegisterTooLarge` (9); then of the fields of FDEs by place: `Truncated` (1), `NoSuchCie` (10),
+/// `RangeTooLarge` (11). Each has its place at the field. `OutOfMemory` may come in place of any answer: memory is taken for the
+/// list and for the places of CIEs. A pointer is looked up by halving.
 pub fn headers<'a>(
     alloc: Global,
     bytes: &'a [u8],
@@ -323,10 +325,11 @@ pub fn headers<'a>(
     all_headers(alloc, bytes, target)
 }
 
-/// A section has at most one first fault, and none where it has headers.
+/// A section has headers, or one first fault in their way, and not both.
 pub fn one_first_fault()
     ensures one { (target : Target) (s : List ℕ) (r q : Refusal) → HeadersFault target s r → HeadersFault target s q → r ≡ q }
     ensures apart { (target : Target) (s : List ℕ) (r : Refusal) (hs : List Head) → HeadersFault target s r → Headers target s hs → ⊥ }
+    ensures some { SomeHeaders }
 {}
 
 /// The nonempty FDEs of a section have one order.

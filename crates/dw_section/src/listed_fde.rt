@@ -9,10 +9,11 @@ ghost use Rattle.dw_section.specs.Inner.Index.{IsFound, led_to};
 ghost use Rattle.dw_section.specs.Ranges.{IsRanged, fde_in};
 ghost use Rattle.dw_section.specs.Inner.Initials.{AreInitials};
 ghost use Rattle.dw_section.specs.Inner.Pieces.{piece_in};
-ghost use Rattle.dw_section.specs.Inner.Lookup.{fde_of, IsFoundIn, LedBy, LedSo, rows_of};
+ghost use Rattle.dw_section.specs.Inner.Lookup.{AreRowsOf, fde_of, IsFoundIn, LedBy, LedSo};
 ghost use Rattle.dw_section.specs.Table.{Section};
 ghost use Rattle.dw_num.specs.Target.{address_limit};
 ghost use Rattle.dw_cfa.specs.RowSteps.{stepping};
+ghost use Rattle.dw_cfa.specs.declared.execution.LocatedRow.{LocatedRow};
 ghost use Rattle.dw_section.specs.Meaning.{AreFdes};
 
 use crate::entry::{Placed, width_of};
@@ -38,12 +39,12 @@ pub(crate) struct FoundFde<'a> {
 }
 
 /// Goes to the rows of an FDE, whose programs are known to give rows.
-#[tactic(auto, using(dw_cfa::proofs::Lent::Given::known_gives))]
 #[inline(always)]
 pub(crate) fn go_to_rows<'a>(steps: &mut RowWalk<'a>, fde: &FoundFde<'a>, target: Target)
     requires in_space { fde.now.begin < address_limit target.size }
-    requires no_fault { (rows_of target fde.now).fault ≡ None }
-    ensures steps { steps.new.steps ≡ stepping steps.old.steps.current (rows_of target fde.now) }
+    requires known { (rows : List LocatedRow) × AreRowsOf target fde.now rows }
+    ensures steps { (rows : List LocatedRow) → AreRowsOf target fde.now rows → steps.new.steps ≡ stepping steps.old.steps.current (record { rows = rows; fault = None }) }
+    ensures no_fault { steps.new.steps.outcome.fault ≡ None }
     ensures led { steps.new.led ≡ led_to target fde.now }
 {
     let (cie, program) = (fde.cie_program, fde.program);
@@ -53,12 +54,12 @@ pub(crate) fn go_to_rows<'a>(steps: &mut RowWalk<'a>, fde: &FoundFde<'a>, target
 }
 
 /// The same, where the walk was led to the CIE of this FDE before.
-#[tactic(auto, using(dw_cfa::proofs::Lent::Given::known_gives))]
 pub(crate) fn go_on_rows<'a>(steps: &mut RowWalk<'a>, fde: &FoundFde<'a>, target: Target)
     requires in_space { fde.now.begin < address_limit target.size }
-    requires no_fault { (rows_of target fde.now).fault ≡ None }
+    requires known { (rows : List LocatedRow) × AreRowsOf target fde.now rows }
     requires led { steps.old.led ≡ led_to target fde.now }
-    ensures steps { steps.new.steps ≡ stepping steps.old.steps.current (rows_of target fde.now) }
+    ensures steps { (rows : List LocatedRow) → AreRowsOf target fde.now rows → steps.new.steps ≡ stepping steps.old.steps.current (record { rows = rows; fault = None }) }
+    ensures no_fault { steps.new.steps.outcome.fault ≡ None }
     ensures led { steps.new.led ≡ led_to target fde.now }
 {
     are_bytes(fde.cie_program.bytes);
@@ -75,9 +76,10 @@ pub(crate) fn lead<'a>(
     target: Target,
 )
     requires in_space { fde.now.begin < address_limit target.size }
-    requires no_fault { (rows_of target fde.now).fault ≡ None }
+    requires known { (rows : List LocatedRow) × AreRowsOf target fde.now rows }
     requires led { (s : Section) × (s.target ≡ target) × LedBy s fde.now.cie_at (led_to target fde.now) × LedSo s behind steps.old.led }
-    ensures steps { steps.new.steps ≡ stepping steps.old.steps.current (rows_of target fde.now) }
+    ensures steps { (rows : List LocatedRow) → AreRowsOf target fde.now rows → steps.new.steps ≡ stepping steps.old.steps.current (record { rows = rows; fault = None }) }
+    ensures no_fault { steps.new.steps.outcome.fault ≡ None }
     ensures led { steps.new.led ≡ led_to target fde.now }
 {
     match behind {

@@ -38,6 +38,7 @@ fn drop_further<'a>(shared: &mut Row<'a>, changes: &mut Changes<'a>) -> Result<(
     ensures row { OnOk result (shared.new ≡ kept_by shared.old changes.old.to_come) }
     ensures behind { OnOk result (changes.new ≡ behind_all changes.old) }
     ensures failed { OnErr result (changes.new.failed ≡ true) }
+    ensures stays { changes.old.failed ≡ true → changes.new.failed ≡ true }
     ensures section { changes.new.section ≡ changes.old.section }
 {
     'changes: while let Some(_) = changes.advance()? {
@@ -53,6 +54,7 @@ fn keep_all<'a>(shared: &mut Row<'a>, changes: &mut Changes<'a>) -> Result<(), A
     ensures row { OnOk result (shared.new ≡ kept_by shared.old changes.old.to_come) }
     ensures behind { OnOk result ((changes.new ≡ changes.old) ⊎ (changes.new ≡ behind_all changes.old)) }
     ensures failed { OnErr result (changes.new.failed ≡ true) }
+    ensures stays { changes.old.failed ≡ true → changes.new.failed ≡ true }
     ensures section { changes.new.section ≡ changes.old.section }
 {
     if changes.keeps(shared) {
@@ -76,6 +78,7 @@ impl<'a> Changes<'a> {
         ensures row { OnOk result (row.new ≡ kept_by row.old self.old.to_come) }
         ensures behind { OnOk result ((self.new ≡ self.old) ⊎ (self.new ≡ behind_all self.old)) }
         ensures failed { OnErr result (self.new.failed ≡ true) }
+        ensures stays { self.old.failed ≡ true → self.new.failed ≡ true }
         ensures section { self.new.section ≡ self.old.section }
     {
         keep_all(row, self)
@@ -88,6 +91,7 @@ impl<'a> Changes<'a> {
         ensures row { OnOk result (row.new ≡ kept_by row.old self.old.to_come) }
         ensures behind { OnOk result (self.new ≡ behind_all self.old) }
         ensures failed { OnErr result (self.new.failed ≡ true) }
+        ensures stays { self.old.failed ≡ true → self.new.failed ≡ true }
         ensures section { self.new.section ≡ self.old.section }
     {
         drop_further(row, self)

@@ -3,7 +3,7 @@
 ghost use Rattle.std.specs.Prelude.{◌≡◌, ◌<◌, false, List, length, slice_index_or, None, IfSome};
 ghost use Rattle.std.specs.Option.{IsSome};
 ghost use Rattle.dw_cfa.specs.declared.instr.Instr.{Instr};
-ghost use Rattle.dw_cfa.specs.InstrSpells.{Program as ProgramSpells};
+ghost use Rattle.dw_cfa.specs.InstrSpells.{ProgramSpells};
 ghost use Rattle.dw_cfa.specs.Opening.{first_row};
 ghost use Rattle.dw_section.specs.declared.lookup.Fde.{Fde as TheFde};
 ghost use Rattle.dw_section.specs.Meaning.{AreFdes, ChangesOf, HasLengths};

@@ -12,7 +12,7 @@ ghost use Rattle.dw_num.specs.Span.{span_of, input_of};
 ghost use Rattle.dw_num.specs.Target.{address_limit};
 ghost use Rattle.dw_cfa.specs.declared.instr.Instr.{Instr};
 ghost use Rattle.dw_cfa.specs.declared.execution.LocatedRow.{LocatedRow};
-ghost use Rattle.dw_cfa.specs.Inner.Exact.{RulesBehind};
+ghost use Rattle.dw_cfa.specs.RulesBehind.{RulesBehind};
 ghost use Rattle.dw_cfa.specs.Faults.{CieFault, FdeFault};
 ghost use Rattle.dw_cfa.specs.CieMachine.{with_steps};
 ghost use Rattle.dw_cfa.specs.Coverage.{Lacks};

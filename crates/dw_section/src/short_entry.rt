@@ -126,7 +126,7 @@ fn short_register(cursor: &mut Cursor<'_>, version: u8) -> Option<u16>
     Some(u16::from(byte))
 }
 
-// The factors of a CIE, and its return register.
+// The factors of a CIE, and its return address register.
 #[inline(always)]
 fn short_factors(cursor: &mut Cursor<'_>, version: u8) -> Option<CieFields>
     ensures { IfSome result (λ f. fields_at (factors version) cursor.old ≡ Ok (f, cursor.new)) }

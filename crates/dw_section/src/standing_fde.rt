@@ -3,17 +3,18 @@
 ghost use Rattle.std.specs.Prelude.{◌≡◌, ◌+◌, ◌<◌, ◌≤◌, ℕ, true, false, List, length, map, slice_index_or, Some, None, IfOk, IfErr, IfSome, IsSome, OnOk, MatchOption, MatchResult};
 ghost use Rattle.dw_cfa.specs.RuleAt.{last_at};
 ghost use Rattle.dw_cfa.specs.Faults.{FaultUpTo, NoFaultUpTo};
-ghost use Rattle.dw_cfa.specs.Gives.{RunsTo};
+ghost use Rattle.dw_cfa.specs.Runs.{Outcome};
 ghost use Rattle.dw_section.specs.Cut.{Piece, id_width};
 ghost use Rattle.dw_section.specs.declared.entry.Kind.TheVariants as kind;
 ghost use Rattle.dw_num.specs.declared.refusal.Refusal.{Refusal as TheRefusal};
 ghost use Rattle.dw_num.specs.Refusals.{Refuses};
 ghost use Rattle.dw_num.specs.Span.{span_of, input_of};
 ghost use Rattle.dw_num.specs.Target.{address_limit};
+ghost use Rattle.dw_section.specs.Fits.{RowFits};
 ghost use Rattle.dw_section.specs.Headers.{FdeHead, Has, Head, fde, head_in};
 ghost use Rattle.dw_section.specs.declared.fde_range.Ranged.{Ranged as TheRanged};
 ghost use Rattle.dw_section.specs.Ranges.{IsEntry, LeadsTo, Uncovered, fde_in, range_in, IsTable};
-ghost use Rattle.dw_section.specs.Inner.Lookup.{fde_of, rows_of};
+ghost use Rattle.dw_section.specs.Inner.Lookup.{RunsSo, fde_of};
 ghost use Rattle.dw_section.specs.Meaning.{AreFdes, Covers, NoneCovers, Returns, RulesAt};
 ghost use Rattle.dw_section.specs.Among.{IsAmong};
 ghost use Rattle.dw_section.specs.Accepted.{RulesHold};
@@ -22,7 +23,7 @@ ghost use Rattle.dw_section.specs.declared.standing_fde.LookUpError.TheVariants 
 ghost use Rattle.dw_section.specs.Overlap.{Ascends, Range};
 ghost use Rattle.std.specs.Bool.{MatchBool};
 ghost use Rattle.dw_section.specs.Inner.Pieces.{piece_in};
-ghost use Rattle.dw_section.specs.StandingFde.{ItemFault, LookUpFault, Misleads, Names, NoneStands, PairFault, RefusesAs, RulesOf, StandingFault, StandsAs, StandsIn};
+ghost use Rattle.dw_section.specs.StandingFde.{ItemFault, LookUpFault, Misleads, NamesCieAt, NoneStands, PairFault, RefusesAs, RulesOf, StandingFault, StandsAs, StandsIn};
 ghost use Rattle.dw_section.specs.Stage.{Then};
 ghost use Rattle.dw_op.specs.Faults.{IsWithin};
 ghost use Rattle.dw_section.specs.Inner.StandingFde.{AreJoined, FoundStands, LiesInPrograms, StandsAt, is_fde, of_steps};
@@ -92,7 +93,7 @@ fn cie_at<'a>(bytes: &'a [u8], at: u64, target: Target) -> Result<Option<Placed<
 #[inline(always)]
 pub(crate) fn pointer_of(piece: &Placed<'_>, target: Target) -> u64
     requires { id_width piece.now.form ≤ length piece.now.contents.bytes.now }
-    ensures names { Names target (piece_in piece.now) result }
+    ensures names { NamesCieAt target (piece_in piece.now) result }
     ensures only { (places : List ℕ) (h : FdeHead) → Has target places (piece_in piece.now) (fde h) → result ≡ h.cie_at }
 {
     let contents = piece.contents;
@@ -331,7 +332,7 @@ impl StandingFde {
         }
     }
 
-    /// Its first address, the one past its last, and the return register.
+    /// Its first address, the one past its last, and the return address register.
     pub fn fde(&self) -> Fde
         ensures { result ≡ self.now }
     {
@@ -367,10 +368,10 @@ fn run_fde<'a>(
 ) -> Result<(), ReadError>
     requires in_space { fde.now.begin < address_limit target.size }
     requires begin { fde.now.begin ≤ address }
-    ensures runs { RunsTo fde.now.factors (input_of target (span_of fde.now.cie_program)) (input_of target (span_of fde.now.program)) fde.now.begin (rows_of target fde.now) }
-    ensures found { OnOk result (last_at address (rows_of target fde.now).rows ≡ Some room.new) }
+    ensures runs { (o : Outcome) × RunsSo target fde.now o }
+    ensures found { (o : Outcome) → RunsSo target fde.now o → OnOk result (last_at address o.rows ≡ Some room.new) }
     ensures unfaulted { OnOk result (NoFaultUpTo fde.now.factors (input_of target (span_of fde.now.cie_program)) (input_of target (span_of fde.now.program)) fde.now.begin address) }
-    ensures err { IfErr result (Refuses (λ r. (rows_of target fde.now).fault ≡ Some r)) }
+    ensures err { (o : Outcome) → RunsSo target fde.now o → IfErr result (Refuses (λ r. o.fault ≡ Some r)) }
     ensures up_to { IfErr result (Refuses (FaultUpTo fde.now.factors (input_of target (span_of fde.now.cie_program)) (input_of target (span_of fde.now.program)) fde.now.begin address)) }
     ensures within { IfErr result (Refuses (LiesInPrograms target fde.now)) }
 {
@@ -417,10 +418,12 @@ fn row_of<'a>(
 /// the answer is that of the FDE that stands at the place, or an error. Takes memory for registers above 31, expressions and
 /// remembered rows alone.
 ///
-/// `BadIndex` says that no FDE that covers the address stands at the place. `Refused` has a fault of the entry there, of its CIE,
-/// or of their programs up to the row, or `SectionTooLarge` at 0 where there are more than 2,147,483,647 bytes. `OutOfMemory` is
-/// answered where a request for memory was refused. Unless the index is that of an accepted section, the CFA's rule in the row
-/// may be `Unset`.
+/// `BadIndex` says that no FDE that covers the address stands at the place. `Refused` has `SectionTooLarge` (26) at 0 where there
+/// are more than 2,147,483,647 bytes, else the first fault in this order: of the entry at the place, and of what begins where its
+/// CIE should stand (1, 2, 3); of the FDE's fields (1, 10, 11) and then of the CIE's (1, 4 to 9); of the CIE's program and then of
+/// the FDE's up to the row (1, 8, 9, 12 to 23, as `dw_cfa::run` has it). `OutOfMemory` is answered where a request for memory was
+/// refused. Behind an error the room holds some row. Unless the index is that of an accepted section, the CFA's rule in the row may
+/// be `Unset`.
 #[inline(always)]
 pub fn look_up<'a>(
     bytes: &'a [u8],
@@ -433,6 +436,8 @@ pub fn look_up<'a>(
     ensures own { IsTable target bytes.now index.now → MatchResult result (λ o. MatchOption o ((fs : List TheFde) → AreFdes target bytes.now fs → NoneCovers address fs) (λ fde. RulesAt target bytes.now address room.new × ((fs : List TheFde) → AreFdes target bytes.now fs → IsAmong fde fs))) (λ e. e ≡ LookUpError.OutOfMemory) }
     // By any other it is what the FDE says that stands where an entry that covers the address leads, or none where no entry does.
     ensures found { IfOk result (λ o. MatchOption o (Uncovered index.now address) (λ fde. (at : ℕ) × LeadsTo index.now address at × RulesOf target bytes.now at address (record { fde = fde; row = room.new }))) }
+    // Its rules are in range, by whatever index.
+    ensures fits { IfOk result (λ o. IfSome o (λ _. RowFits target room.new)) }
     // A bad index leads to a place where no FDE that covers the address stands.
     ensures bad { IfErr result (λ e. e ≡ LookUpError.BadIndex → Misleads target bytes.now index.now address) }
     // A refusal has its place in the bytes or at their end.

@@ -17,6 +17,7 @@ ghost use Rattle.dw_section.specs.Pieces.{Pieces};
 ghost use Rattle.dw_section.specs.Table.{Section};
 ghost use Rattle.dw_section.specs.Inner.Table.{AreRanges, IsKept};
 ghost use Rattle.dw_section.specs.Ranges.{IsTable};
+ghost use Rattle.dw_section.specs.Laws.{SomeCheck};
 
 use crate::entry::EntryCounts;
 use crate::fde_range::{Ranged, first_overlap, put_in_order, run_fdes};
@@ -55,6 +56,13 @@ impl<'a> Table<'a> {
         ensures { result ≡ self.now.target }
     {
         self.target
+    }
+
+    /// The bytes of the section.
+    pub fn bytes(&self) -> &'a [u8]
+        ensures { result.now ≡ self.now.bytes }
+    {
+        self.bytes
     }
 
     /// The section was accepted, its bytes are bytes, and it has a list of nonempty FDEs. Does nothing.
@@ -137,11 +145,13 @@ fn checked<'a>(alloc: Global, bytes: &'a [u8], target: Target) -> Result<Table<'
 /// The table of a section: all programs are run, each covered address has a rule for the CFA, and no two FDEs
 /// share an address.
 ///
-/// A refusal is the first fault: of size, cut and fields, as `headers` has it, then of the programs of CIEs by
-/// place and of those of FDEs by place (`Truncated`, `NumberTooLarge`, `RegisterTooLarge`, `UnknownInstruction`,
-/// `NotInCie`, `LocationBackwards`, `LocationTooLarge`, `EmptyStateStack`, `StateStackFull`, `CfaNotRegister`,
-/// `OffsetTooLarge`, `UnknownOperation`, `NotInFrame`, `BadBranch`, `BadDerefSize`), then `NoCfaRule` by place, and
-/// `Overlap` at the first nonempty FDE in order of begin and place that begins below the end of one before it.
+/// A refusal is the first fault: of size, cut and fields (1 to 11 and 26, as `headers` has it); then of the programs of CIEs by
+/// place, and of those of FDEs by place, as `dw_cfa::run` has it: `Truncated` (1), `NumberTooLarge` (8), `RegisterTooLarge` (9),
+/// `BadDerefSize` (23) at the operand; `UnknownInstruction` (12), `NotInCie` (13), `LocationBackwards` (14), `LocationTooLarge`
+/// (15), `EmptyStateStack` (16), `StateStackFull` (17), `CfaNotRegister` (18), `OffsetTooLarge` (19), `UnknownOperation` (20),
+/// `NotInFrame` (21), `BadBranch` (22) at the opcode; then `NoCfaRule` (24) at the FDE, by place; and last `Overlap` (25) at the
+/// first nonempty FDE, in order of begin and place, that begins below the end of one before it. `OutOfMemory` may come in place of
+/// any answer.
 pub fn check<'a>(alloc: Global, bytes: &'a [u8], target: Target) -> Result<Table<'a>, ReadError>
     // It is the table of an accepted section.
     ensures found { IfOk result (λ table. (table ≡ record { target = target; bytes = bytes.now }) × Accepted target bytes.now) }
@@ -156,8 +166,9 @@ pub fn check<'a>(alloc: Global, bytes: &'a [u8], target: Target) -> Result<Table
     checked(alloc, bytes, target)
 }
 
-/// A section has at most one first fault, and none where it is accepted.
+/// A section is accepted, or has one first fault, and not both.
 pub fn one_check_fault()
     ensures one { (target : TheTarget) (s : List ℕ) (r q : TheRefusal) → AreBytes s → CheckFault target s r → CheckFault target s q → r ≡ q }
     ensures apart { (target : TheTarget) (s : List ℕ) (r : TheRefusal) → AreBytes s → CheckFault target s r → Accepted target s → ⊥ }
+    ensures some { SomeCheck }
 {}

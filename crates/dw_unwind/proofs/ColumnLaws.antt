@@ -46,15 +46,6 @@ module _ (c : Context) (limit : ℕ) (column : Column) (e : Expression) (first :
   value_over (Err (eval.Fault kind i)) t = told (Err (eval.Fault kind i)) t (λ j p. absurd cc) (λ p. absurd cc)
   value_over (Err eval.OutOfMemory) t = stays (Err eval.OutOfMemory) t (λ i p. absurd cc)
 
--- what is said of an answer in other words
-pub over_map : {A : Type 0} (P Q : Result A UnwindError → Type 0) (F G : UnwindError → Type 0) → ((r : Result A UnwindError) → P r → Q r) → ((e : UnwindError) → F e → G e)
-    → (before : ℕ) (r : Result A UnwindError) (after : ℕ) → Over P F before r after → Over Q G before r after
-over_map P Q F G f g before (Ok v) after h = (f (Ok v) h.0, h.1)
-over_map P Q F G f g before (Err OutOfMemory) after h = h
-over_map P Q F G f g before (Err (Device column)) after h = (g (Device column) h.0, h.1)
-over_map P Q F G f g before (Err (Eval kinds.Device i column)) after h = (g (Eval kinds.Device i column) h.0, h.1)
-over_map P Q F G f g before (Err e) after h = (f (Err e) h.0, h.1)
-
 -- an error that ends a larger answer
 pub over_error : {A B : Type 0} (P : Result A UnwindError → Type 0) (Q : Result B UnwindError → Type 0) (F G : UnwindError → Type 0) → ((e : UnwindError) → P (Err e) → Q (Err e)) → ((e : UnwindError) → F e → G e)
     → (before : ℕ) (e : UnwindError) (after : ℕ) → Over P F before (Err e) after → Over Q G before (Err e) after

@@ -12,8 +12,8 @@ use Rattle.dw_unwind.specs.declared.fault.DumpCode.TheVariants.{BadLine, ValueTo
 use Rattle.dw_unwind.specs.declared.fault.DumpFault.{DumpFault}
 use Rattle.dw_unwind.specs.Dump.{SaysWithin, Say, FirstFault, IsFaulty}
 use Rattle.dw_num.specs.Digits.{number_behind}
-use Rattle.dw_unwind.specs.Spelling.{Hexadecimal, RegisterName, HexPairs, CounterLine, RegisterLine, MemoryLine, SkippedLine, Says}
-use Rattle.dw_unwind.specs.Statement.{Statement, Item, Fits, nothing, counter_is, register_is, memory_is, counter, register, byte, told, times}
+use Rattle.dw_unwind.specs.Spelling.{Hexadecimal, RegisterName, HexPairs, CounterLine, RegisterLine, MemoryLine, SkippedLine, LineSays}
+use Rattle.dw_unwind.specs.Statement.{Statement, DumpItem, Fits, nothing, counter_is, register_is, memory_is, counter, register, byte, told, times}
 use Rattle.dw_unwind.specs.Inner.Spelling.{Lacks, len_until}
 use Rattle.dw_unwind.proofs.Words.{lacks_front, until_parts, word_within, digits_lack_space, register_parts, memory_parts, none_said}
 use Rattle.dw_unwind.proofs.KeepLaws.{once_push}
@@ -87,7 +87,7 @@ word_behind prefix line = needs (starts prefix line) (λ none w. none (w.0 ++ 32
 -- ---- a line says something or nothing
 
 abbrev Reading : List ℕ → Type 0
-Reading line = (s : Statement) × Says line s
+Reading line = (s : Statement) × LineSays line s
 
 skipped_line : (line : List ℕ) → Reading line ⊎ (SkippedLine line → ⊥)
 skipped_line [] = inl (nothing, inl refl)
@@ -113,7 +113,7 @@ memory_line line = needs (word_behind (codes "mem 0x") line) (λ none v bytes sa
     needs (bytes_in w.1 (decode_of w.1) refl) (λ none u bytes said. none bytes (subst (HexPairs bytes) (sym (parts u said.1 (said.0, said.2, said.4)).behind) said.3)) (λ bytes.
     inl (memory_is v.0 bytes.0, (w.0, w.1, v.1, bytes.1, w.3)))))
 
-says_or_not : (line : List ℕ) → Found (Says line)
+says_or_not : (line : List ℕ) → Found (LineSays line)
 says_or_not line = or_else (skipped_line line) (λ no_skipped.
     or_else (counter_line line) (λ no_counter.
     or_else (register_line line) (λ no_register.
@@ -128,12 +128,12 @@ fits_or_not limit (memory_is start bytes) = at_most (start + length bytes) limit
 -- ---- a statement tells something again or nothing
 
 -- how many items it may tell, and which they are
-abbrev items_of : Statement → ℕ × (ℕ → Item)
+abbrev items_of : Statement → ℕ × (ℕ → DumpItem)
 items_of (register_is r v) = (1, λ i. register r)
 items_of (memory_is start bytes) = (length bytes, λ i. byte (start + i))
 items_of s = (1, λ i. counter)
 
-told_at : (s : Statement) (item : Item) → (is_some (told s item) ≡ false) ⊎ ((i : ℕ) × (i < (items_of s).0) × ((items_of s).1 i ≡ item))
+told_at : (s : Statement) (item : DumpItem) → (is_some (told s item) ≡ false) ⊎ ((i : ℕ) × (i < (items_of s).0) × ((items_of s).1 i ≡ item))
 told_at (counter_is v) counter = inr (0, omega arith, refl)
 told_at (register_is q v) (register r) = ⊎_elim (λ same. inr (0, omega arith, ap register (sym same.1))) (λ other. inl (rw (other.0) refl)) (eqb_tells r q)
 told_at (memory_is start bytes) (byte a) = ⊎_elim
@@ -141,16 +141,16 @@ told_at (memory_is start bytes) (byte a) = ⊎_elim
     (λ under. inl (rw (under.0) refl)) (leb_tells start a)
 told_at s item = inl refl
 
-once_below : (ss : List Statement) (item : ℕ → Item) (n : ℕ) → ((i : ℕ) → i < n → times ss (item i) ≤ 1) ⊎ ((it : Item) × (1 < times ss it))
+once_below : (ss : List Statement) (item : ℕ → DumpItem) (n : ℕ) → ((i : ℕ) → i < n → times ss (item i) ≤ 1) ⊎ ((it : DumpItem) × (1 < times ss it))
 once_below ss item zero = inl (λ i lt. absurd (omega arith))
 once_below ss item (suc n) = needs (once_below ss item n) (λ twice. twice) (λ rest. ⊎_elim
     (λ twice. inr (item n, twice))
     (λ one. inl (λ i lt. ⊎_elim (λ last. subst (λ (k : ℕ). times ss (item k) ≤ 1) (sym last) one) (λ other. rest i (omega arith)) (cases_eq i n))) (cases_lt 1 (times ss (item n))))
 
-once_or_twice : (ss : List Statement) (s : Statement) → ((item : Item) → times ss item ≤ 1) → ((item : Item) → times (ss ++ s ∷ []) item ≤ 1) ⊎ ((item : Item) × (1 < times (ss ++ s ∷ []) item))
+once_or_twice : (ss : List Statement) (s : Statement) → ((item : DumpItem) → times ss item ≤ 1) → ((item : DumpItem) → times (ss ++ s ∷ []) item ≤ 1) ⊎ ((item : DumpItem) × (1 < times (ss ++ s ∷ []) item))
 once_or_twice ss s once = needs (once_below (ss ++ s ∷ []) (items_of s).1 (items_of s).0) (λ twice. twice) (λ new. inl (λ item. ⊎_elim
     (λ untold. once_push ss s item (once item) (λ now. absurd (true≢false (sym now ∙ untold))))
-    (λ at. subst (λ (it : Item). times (ss ++ s ∷ []) it ≤ 1) at.2 (new at.0 at.1)) (told_at s item)))
+    (λ at. subst (λ (it : DumpItem). times (ss ++ s ∷ []) it ≤ 1) at.2 (new at.0 at.1)) (told_at s item)))
 
 -- ---- the lines, one after the other
 

@@ -14,13 +14,13 @@ use Rattle.dw_unwind.specs.declared.ranges.Range.{Range}
 use Rattle.dw_unwind.specs.Dump.{SaysWithin, Say, FirstFault}
 use Rattle.dw_unwind.specs.Inner.Gathered.{Gathers, Keeps, IsWhole, ranges_of, bytes_of}
 use Rattle.dw_unwind.specs.Ranges.{covers, byte_among}
-use Rattle.dw_unwind.specs.Inner.Ranges.{cover_count, AreApart, Meet, IsWithin}
+use Rattle.dw_unwind.specs.Inner.Ranges.{cover_count, AreApart, Meet, IsSoundRange}
 use Rattle.std.specs.Option.{option_or}
-use Rattle.dw_unwind.specs.Statement.{Statement, Item, nothing, counter_is, register_is, memory_is, counter, register, byte, told, given, times}
+use Rattle.dw_unwind.specs.Statement.{Statement, DumpItem, nothing, counter_is, register_is, memory_is, counter, register, byte, told, given, times}
 use Rattle.dw_unwind.proofs.KeepLaws.{times_cons}
 use Rattle.dw_unwind.proofs.RangeLaws.{covers_tells}
 
-pub ranges_within : (limit line place room : ℕ) (ss : List Statement) → limit ≤ 2 ^ 64 → AllByRecursion (IsWhole limit) ss → place + length (bytes_of ss) ≤ room → AllByRecursion (IsWithin (2 ^ 64) room) (ranges_of line place ss)
+pub ranges_within : (limit line place room : ℕ) (ss : List Statement) → limit ≤ 2 ^ 64 → AllByRecursion (IsWhole limit) ss → place + length (bytes_of ss) ≤ room → AllByRecursion (IsSoundRange (2 ^ 64) room) (ranges_of line place ss)
 ranges_within limit line place room [] le whole fits = tt
 ranges_within limit line place room (nothing ∷ ss) le whole fits = ranges_within limit (suc line) place room ss le whole.1 fits
 ranges_within limit line place room (counter_is v ∷ ss) le whole fits = ranges_within limit (suc line) place room ss le whole.1 fits
@@ -154,12 +154,12 @@ zip_split {X} R (x ∷ xs) (z ∷ before) y after h =
 
 -- ---- all items are told once
 
-once_all : (limit : ℕ) (kept : Gathered) (ss before : List Statement) → Keeps limit kept ss → ((item : Item) → times before item ≤ times ss item) → AreApart (ranges_of 1 0 before) → (item : Item) → times before item ≤ 1
+once_all : (limit : ℕ) (kept : Gathered) (ss before : List Statement) → Keeps limit kept ss → ((item : DumpItem) → times before item ≤ times ss item) → AreApart (ranges_of 1 0 before) → (item : DumpItem) → times before item ≤ 1
 once_all limit kept ss before k less apart counter = let one = k.one_counter in let le = less counter in omega arith
 once_all limit kept ss before k less apart (register r) = let one = k.one_register r in let le = less (register r) in omega arith
 once_all limit kept ss before k less apart (byte a) = let one = apart a in let same = times_bytes a 1 0 before in omega arith
 
-times_front : (before after : List Statement) (item : Item) → times before item ≤ times (before ++ after) item
+times_front : (before after : List Statement) (item : DumpItem) → times before item ≤ times (before ++ after) item
 times_front before after item = let all = sum_by-append (λ (t : Statement). cond (is_some (told t item)) 1 0) before after in omega arith
 
 pub whole_say : {limit : ℕ} {kept : Gathered} {read : List (List ℕ)} {ss : List Statement} → AllZip (SaysWithin limit) read ss → Keeps limit kept ss → AreApart kept.ranges.items → Say limit read ss
@@ -210,10 +210,10 @@ later_fault h apart = record {
 pub all_said : {limit : ℕ} {lines : List (List ℕ)} {kept : Gathered} (h : Gathers limit lines kept None) → AreApart kept.ranges.items → Say limit lines h.statements
 all_said {limit} h apart = subst (λ (ls : List (List ℕ)). Say limit ls h.statements) (sym h.rest) (whole_say h.each h.keeps apart)
 
-pub kept_within : {limit : ℕ} {lines : List (List ℕ)} {kept : Gathered} {found : Option DumpFault} → limit ≤ 2 ^ 64 → Gathers limit lines kept found → AllByRecursion (IsWithin (2 ^ 64) (length kept.bytes.items)) kept.ranges.items
+pub kept_within : {limit : ℕ} {lines : List (List ℕ)} {kept : Gathered} {found : Option DumpFault} → limit ≤ 2 ^ 64 → Gathers limit lines kept found → AllByRecursion (IsSoundRange (2 ^ 64) (length kept.bytes.items)) kept.ranges.items
 kept_within {limit} {kept = kept} le h =
     let k = h.keeps in
-    subst (AllByRecursion (IsWithin (2 ^ 64) (length kept.bytes.items))) (sym k.ranges) (ranges_within limit 1 0 (length kept.bytes.items) h.statements le k.whole (let same = ap length k.bytes in omega arith))
+    subst (AllByRecursion (IsSoundRange (2 ^ 64) (length kept.bytes.items))) (sym k.ranges) (ranges_within limit 1 0 (length kept.bytes.items) h.statements le k.whole (let same = ap length k.bytes in omega arith))
 
 pub kept_byte : {limit : ℕ} {lines : List (List ℕ)} {kept : Gathered} {found : Option DumpFault} (h : Gathers limit lines kept found) (a : ℕ) → byte_among kept.bytes.items a kept.ranges.items ≡ given h.statements (byte a)
 kept_byte {kept = kept} h a =

@@ -46,14 +46,14 @@ on_value_names column (Err e) f h w = h
 
 module _ (c : Context) (limit : ℕ) where
   saved_names : (column : Column) (a : ℕ) → Names column (saved_at c limit column a)
-  saved_names column a = known_names column (Unreadable column) (read_at c a (byte_count c.target.size)) refl
+  saved_names column a = known_names column (Unreadable column a (byte_count c.target.size)) (read_at c a (byte_count c.target.size)) refl
 
   value_names : (column : Column) (e : Expression) (first : List ℕ) (answer : Result ℕ UnwindError) → ValueIs c limit column e first answer → Names column answer
   value_names column e first answer v = subst (Names column) (sym v.is) (in_column_names column v.evaluated)
 
   cfa_names : (r : CfaRule) (answer : Result ℕ UnwindError) → CfaIs c limit r answer → Names Cfa answer
   cfa_names cfa.Unset answer h = absurd h
-  cfa_names (cfa.Register r n) answer h = subst (Names Cfa) (sym h) (known_names Cfa (NoRegister Cfa) (option_map (λ v. plus c limit v n) (c.register r)) refl)
+  cfa_names (cfa.Register r n) answer h = subst (Names Cfa) (sym h) (known_names Cfa (NoRegister Cfa r) (option_map (λ v. plus c limit v n) (c.register r)) refl)
   cfa_names (cfa.Expression e) answer h = value_names Cfa e _ answer h
 
   saved_by_names : (column : Column) (cfa : ℕ) (e : Expression) (answer : Result ℕ UnwindError) → SavedBy c limit column cfa e answer → Names column answer
@@ -63,7 +63,7 @@ module _ (c : Context) (limit : ℕ) where
   register_names : (policy : Policy) (cfa r : ℕ) (x : RegRule) (answer : Result (Option ℕ) UnwindError) → RegisterIs c limit policy cfa r x answer → Names (Register r) answer
   register_names policy cfa r (rules.Offset n) answer h = subst (Names (Register r)) (sym h) (recovered_names (Register r) (saved_at c limit (Register r) (plus c limit cfa n)) (saved_names (Register r) (plus c limit cfa n)))
   register_names policy cfa r (rules.Register q) answer h =
-      subst (Names (Register r)) (sym h) (recovered_names (Register r) (ok_or (value_in c limit q) (NoRegister (Register r))) (known_names (Register r) (NoRegister (Register r)) (value_in c limit q) refl))
+      subst (Names (Register r)) (sym h) (recovered_names (Register r) (ok_or (value_in c limit q) (NoRegister (Register r) q)) (known_names (Register r) (NoRegister (Register r) q) (value_in c limit q) refl))
   register_names policy cfa r (rules.Expression e) answer h = subst (Names (Register r)) (sym h.2) (recovered_names (Register r) h.0 (saved_by_names (Register r) cfa e h.0 h.1))
   register_names policy cfa r (rules.ValExpression e) answer h = subst (Names (Register r)) (sym h.2) (recovered_names (Register r) h.0 (value_names (Register r) e _ h.0 h.1))
   register_names policy cfa r x answer h = subst (Names (Register r)) (sym h) tt

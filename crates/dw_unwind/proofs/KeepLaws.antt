@@ -8,10 +8,10 @@ use Rattle.std.proofs.lemmas.List.Sums.{sum_by-cons, sum_by_push}
 use Rattle.dw_eval.specs.Registers.{held}
 use Rattle.dw_unwind.specs.declared.partial_dump.Gathered.{Gathered}
 use Rattle.dw_unwind.specs.declared.ranges.Range.{Range}
-use Rattle.dw_unwind.specs.Spelling.{Says}
+use Rattle.dw_unwind.specs.Spelling.{LineSays}
 use Rattle.dw_unwind.specs.Inner.Gathered.{Keeps, IsWhole, HasBytes, ranges_of, bytes_by, bytes_of}
 use Rattle.std.specs.Option.{option_or}
-use Rattle.dw_unwind.specs.Statement.{Statement, Item, nothing, counter_is, register_is, memory_is, counter, register, told, given, times}
+use Rattle.dw_unwind.specs.Statement.{Statement, DumpItem, nothing, counter_is, register_is, memory_is, counter, register, told, given, times}
 use Rattle.dw_unwind.proofs.Elements.{all_push}
 
 or_else_none : (x : Option ℕ) → option_or x None ≡ x
@@ -22,14 +22,14 @@ or_else_assoc : (x y z : Option ℕ) → option_or x (option_or y z) ≡ option_
 or_else_assoc None y z = refl
 or_else_assoc (Some v) y z = refl
 
-pub given_push : (ss : List Statement) (s : Statement) (item : Item) → given (ss ++ s ∷ []) item ≡ option_or (given ss item) (told s item)
+pub given_push : (ss : List Statement) (s : Statement) (item : DumpItem) → given (ss ++ s ∷ []) item ≡ option_or (given ss item) (told s item)
 given_push [] s item = or_else_none (told s item)
 given_push (t ∷ ss) s item = ap (option_or (told t item)) (given_push ss s item) ∙ or_else_assoc (told t item) (given ss item) (told s item)
 
-pub times_cons : (s : Statement) (ss : List Statement) (item : Item) → times (s ∷ ss) item ≡ cond (is_some (told s item)) 1 0 + times ss item
+pub times_cons : (s : Statement) (ss : List Statement) (item : DumpItem) → times (s ∷ ss) item ≡ cond (is_some (told s item)) 1 0 + times ss item
 times_cons s ss item = sum_by-cons (λ (t : Statement). cond (is_some (told t item)) 1 0) s ss
 
-pub times_push : (ss : List Statement) (s : Statement) (item : Item) → times (ss ++ s ∷ []) item ≡ times ss item + cond (is_some (told s item)) 1 0
+pub times_push : (ss : List Statement) (s : Statement) (item : DumpItem) → times (ss ++ s ∷ []) item ≡ times ss item + cond (is_some (told s item)) 1 0
 times_push ss s item = sum_by_push (λ (t : Statement). cond (is_some (told t item)) 1 0) ss s
 
 none_both : (x y : Option ℕ) → option_or x y ≡ None → (x ≡ None) × (y ≡ None)
@@ -40,14 +40,14 @@ some_either : (x y : Option ℕ) → is_some (option_or x y) ≡ true → (is_so
 some_either None y e = inr e
 some_either (Some v) y e = inl refl
 
-pub times_none : (ss : List Statement) (item : Item) → given ss item ≡ None → times ss item ≡ 0
+pub times_none : (ss : List Statement) (item : DumpItem) → given ss item ≡ None → times ss item ≡ 0
 times_none [] item e = refl
 times_none (s ∷ ss) item e =
     let both = none_both (told s item) (given ss item) e in
     let rest = times_none ss item both.1 in
     times_cons s ss item ∙ rw (both.0) (omega arith)
 
-pub times_some : (ss : List Statement) (item : Item) → is_some (given ss item) ≡ true → 0 < times ss item
+pub times_some : (ss : List Statement) (item : DumpItem) → is_some (given ss item) ≡ true → 0 < times ss item
 times_some [] item e = absurd cc
 times_some (s ∷ ss) item e =
     let all = times_cons s ss item in
@@ -56,13 +56,13 @@ times_some (s ∷ ss) item e =
       | inr there ↦ let rest = times_some ss item there in omega arith
     ]
 
-pub repeats : (ss : List Statement) (s : Statement) (item : Item) → is_some (given ss item) ≡ true → is_some (told s item) ≡ true → 1 < times (ss ++ s ∷ []) item
+pub repeats : (ss : List Statement) (s : Statement) (item : DumpItem) → is_some (given ss item) ≡ true → is_some (told s item) ≡ true → 1 < times (ss ++ s ∷ []) item
 repeats ss s item before now =
     let some = times_some ss item before in
     let all : times (ss ++ s ∷ []) item ≡ times ss item + 1 = times_push ss s item ∙ rw now refl in
     omega arith
 
-pub once_push : (ss : List Statement) (s : Statement) (item : Item) → times ss item ≤ 1 → (is_some (told s item) ≡ true → given ss item ≡ None) → times (ss ++ s ∷ []) item ≤ 1
+pub once_push : (ss : List Statement) (s : Statement) (item : DumpItem) → times ss item ≤ 1 → (is_some (told s item) ≡ true → given ss item ≡ None) → times (ss ++ s ∷ []) item ≤ 1
 once_push ss s item one new = elim (cases_Bool (is_some (told s item))) [
   | inl now ↦
       let none = times_none ss item (new now) in
@@ -160,6 +160,6 @@ told_own q v = elim (eqb_tells q q) [
   | inr other ↦ absurd (other.1 refl)
 ]
 
-pub says_bytes : (line : List ℕ) (s : Statement) → Says line s → HasBytes s
+pub says_bytes : (line : List ℕ) (s : Statement) → LineSays line s → HasBytes s
 says_bytes line (memory_is start bytes) said = said.3.some
 says_bytes line s said = tt

@@ -11,13 +11,13 @@ use Rattle.dw_unwind.specs.declared.fault.DumpCode.TheVariants.{BadLine, ValueTo
 use Rattle.dw_unwind.specs.declared.dump.Dump.{Dump}
 use Rattle.dw_unwind.specs.declared.fault.DumpError.{DumpError}
 use Rattle.dw_unwind.specs.declared.fault.DumpError.TheVariants.{Fault, OutOfMemory}
-use Rattle.dw_unwind.specs.Describes.{Describes, Refuses}
+use Rattle.dw_unwind.specs.Describes.{Describes, RefusesDump}
 use Rattle.dw_unwind.specs.declared.fault.DumpFault.{DumpFault}
 use Rattle.dw_unwind.specs.Dump.{SaysWithin, Say, FirstFault, IsFaulty}
 use Rattle.dw_unwind.specs.Laws.{OneDump, NamesLine}
 use Rattle.dw_num.specs.Digits.{number_behind}
-use Rattle.dw_unwind.specs.Spelling.{Says, SkippedLine, Hexadecimal, RegisterName, HexPairs}
-use Rattle.dw_unwind.specs.Statement.{Statement, Item, Fits, nothing, counter_is, register_is, memory_is, told, times}
+use Rattle.dw_unwind.specs.Spelling.{LineSays, SkippedLine, Hexadecimal, RegisterName, HexPairs}
+use Rattle.dw_unwind.specs.Statement.{Statement, DumpItem, Fits, nothing, counter_is, register_is, memory_is, told, times}
 use Rattle.dw_unwind.proofs.Words.{digits_lack_space, register_parts, memory_parts}
 use Rattle.dw_unwind.proofs.DumpExists.{dump_exists}
 
@@ -37,7 +37,7 @@ skipped_begins c line rest (inr comment) is = let same : 35 ∷ comment.0 ≡ c 
 begins_one : (c e : ℕ) (line xs ys : List ℕ) → line ≡ c ∷ xs → line ≡ e ∷ ys → c ≡ e
 begins_one c e line xs ys is at = let same : c ∷ xs ≡ e ∷ ys = sym is ∙ at in cc
 
-pub says_one : (line : List ℕ) (s t : Statement) → Says line s → Says line t → s ≡ t
+pub says_one : (line : List ℕ) (s t : Statement) → LineSays line s → LineSays line t → s ≡ t
 says_one line nothing nothing h k = refl
 says_one line nothing (counter_is w) h k = absurd (let same = skipped_begins 112 line _ h k.2 in omega arith)
 says_one line nothing (register_is q w) h k = absurd (let same = skipped_begins 114 line _ h k.4 in omega arith)
@@ -78,7 +78,7 @@ said_parts limit (b ∷ before) line after (s ∷ ss) (t ∷ known) h k =
     record { statement = more.statement; after = more.after; whole = ap (λ (u : Statement). u ∷ ss) same ∙ ap (λ (us : List Statement). t ∷ us) more.whole; holds = more.holds }
 said_parts limit before line after ss known h k = absurd assumption
 
-not_faulty : (limit : ℕ) (ss known : List Statement) (line : List ℕ) (code : DumpCode) (s : Statement) (after : List Statement) → ss ≡ known ++ s ∷ after → ((item : Item) → times ss item ≤ 1) → SaysWithin limit line s → IsFaulty limit known line code → ⊥
+not_faulty : (limit : ℕ) (ss known : List Statement) (line : List ℕ) (code : DumpCode) (s : Statement) (after : List Statement) → ss ≡ known ++ s ∷ after → ((item : DumpItem) → times ss item ≤ 1) → SaysWithin limit line s → IsFaulty limit known line code → ⊥
 not_faulty limit ss known line BadLine s after whole once says wrong = wrong s says.0
 not_faulty limit ss known line ValueTooLarge s after whole once says wrong = wrong.2 (subst (Fits limit) (says_one line s wrong.0 says.0 wrong.1) says.1)
 not_faulty limit ss known line Repeated s after whole once says wrong =
@@ -104,7 +104,7 @@ said_one limit lines ss ts h k = absurd assumption
 
 -- where lines tell nothing twice, a dump is theirs, and no refusal is a fault
 pub only_dump : (limit : ℕ) (lines : List (List ℕ)) (result : Result Dump DumpError)
-    → IfOk result (λ dump. (ss : List Statement) × Say limit lines ss × Describes dump ss) → IfErr result (Refuses limit lines)
+    → IfOk result (λ dump. (ss : List Statement) × Say limit lines ss × Describes dump ss) → IfErr result (RefusesDump limit lines)
     → (ss : List Statement) → Say limit lines ss → MatchResult result (λ dump. Describes dump ss) (λ e. e ≡ OutOfMemory)
 only_dump limit lines (Ok dump) found first ss say = subst (Describes dump) (said_one limit lines found.0 ss found.1.each say.each) found.2
 only_dump limit lines (Err (Fault fault)) found first ss say = absurd (said_has_no_fault limit lines ss fault say first)
@@ -188,6 +188,6 @@ fault_within limit lines fault first =
     let len : length lines ≡ length first.before + suc (length first.after) = ap length first.whole ∙ length-append first.before (first.line ∷ first.after) in
     (omega (arith, number), omega (arith, number, len))
 
-pub refuses_within : (limit : ℕ) (lines : List (List ℕ)) (result : Result Dump DumpError) → IfErr result (Refuses limit lines) → IfErr result (NamesLine lines)
+pub refuses_within : (limit : ℕ) (lines : List (List ℕ)) (result : Result Dump DumpError) → IfErr result (RefusesDump limit lines) → IfErr result (NamesLine lines)
 refuses_within limit lines (Err (Fault fault)) h = fault_within limit lines fault h
 refuses_within limit lines result h = tt

@@ -14,13 +14,10 @@ use Rattle.dw_eval.proofs.Lent.Results.{same_value}
 use Rattle.dw_section.specs.declared.lookup.Fde.{Fde}
 use Rattle.dw_section.specs.Accepted.{Accepted}
 use Rattle.dw_section.specs.Headers.{Head}
+use Rattle.dw_section.specs.Laws.{OneFdes, OneHeaders, OneRules}
 use Rattle.dw_section.specs.Among.{IsAmong}
 use Rattle.dw_section.specs.Meaning.{Lists, Covers, NoneCovers}
 use Rattle.dw_section.specs.Overlap.{Range, AreApart, IsIndex, end_of}
-use Rattle.dw_section.proofs.Lent.HeaderLaws.{one_headers}
-use Rattle.dw_section.proofs.Lent.Index.{one_index}
-use Rattle.dw_section.proofs.Lent.FdeLookup.{one_fdes}
-use Rattle.dw_section.proofs.Lent.Sections.{one_rules}
 use Rattle.dw_unwind.specs.declared.frame.Column.{Column}
 use Rattle.dw_unwind.specs.declared.frame.Frame.{Frame}
 use Rattle.dw_eval.specs.declared.policy.Policy.{Policy}
@@ -197,26 +194,31 @@ none_there a [] f none i covers = absurd i
 none_there a (d ∷ fs) f none (inl is) covers = none.0 (subst (Covers a) is covers)
 none_there a (d ∷ fs) f none (inr i) covers = none_there a fs f none.1 i covers
 
-module _ (target : Target) (s : List ℕ) (a : ℕ) where
-  apart : (register : ℕ) (row : Rules) → IsUncovered target s a → IsCovered target s a register row → ⊥
-  apart register row v w =
+-- ranges have one order
+abbrev OneOrder : Type 0
+OneOrder = (hs : List Head) (index other : List Range) → IsIndex hs index → IsIndex hs other → index ≡ other
+
+-- by the laws of sections
+module _ (one_headers : OneHeaders) (one_order : OneOrder) (one_fdes : OneFdes) (one_rules : OneRules) where
+  apart : (target : Target) (s : List ℕ) (a register : ℕ) (row : Rules) → IsUncovered target s a → IsCovered target s a register row → ⊥
+  apart target s a register row v w =
       let same = one_fdes target s v.0 w.fdes v.1 w.are in none_there a w.fdes w.fde (subst (NoneCovers a) same v.2) w.among w.covers
 
-  one_returns : (register other : ℕ) (row another : Rules) → Accepted target s → IsCovered target s a register row → IsCovered target s a other another → register ≡ other
-  one_returns register other row another accepted v w =
+  one_returns : (target : Target) (s : List ℕ) (a register other : ℕ) (row another : Rules) → Accepted target s → IsCovered target s a register row → IsCovered target s a other another → register ≡ other
+  one_returns target s a register other row another accepted v w =
       let same : w.fdes ≡ v.fdes = one_fdes target s w.fdes v.fdes w.are v.are in
       let among = subst (λ (l : List Fde). IsAmong w.fde l) same w.among in
       let heads = one_headers target s v.are.headers accepted.1.0 v.are.are accepted.1.1.0.0.0 in
-      let index : v.are.index ≡ accepted.0 = one_index accepted.1.0 v.are.index accepted.0 (subst (λ (l : List Head). IsIndex l v.are.index) heads v.are.is_index) accepted.1.2 in
+      let index : v.are.index ≡ accepted.0 = one_order accepted.1.0 v.are.index accepted.0 (subst (λ (l : List Head). IsIndex l v.are.index) heads v.are.is_index) accepted.1.2 in
       let fde = one_fde v.are.headers a v.are.index v.fdes v.fde w.fde (subst AreApart (sym index) accepted.2) v.are.each v.among among v.covers w.covers in
       v.returns ∙ ap (λ (d : Fde). d.return_register) fde ∙ sym w.returns
 
-pub one_frame : OneFrame
-one_frame target s pc c policy limit answer other bytes accepted (inl v) (inl w) = v.0 ∙ sym w.0
-one_frame target s pc c policy limit answer other bytes accepted (inl v) (inr w) = absurd (apart target s pc w.0 w.1 v.1 w.2)
-one_frame target s pc c policy limit answer other bytes accepted (inr v) (inl w) = absurd (apart target s pc v.0 v.1 w.1 v.2)
-one_frame target s pc c policy limit answer other bytes accepted (inr v) (inr w) =
-    let register : w.0 ≡ v.0 = sym (one_returns target s pc v.0 w.0 v.1 w.1 accepted v.2 w.2) in
-    let row = one_rules target s bytes accepted pc v.1 w.1 v.2.rules w.2.rules in
-    let moved : FrameIs c limit policy w.1 v.0 other = subst (λ (n : ℕ). FrameIs c limit policy w.1 n other) register w.3 in
-    one_of_row c limit policy v.1 v.0 answer other v.3 (subst (λ (r : Rules). FrameIs c limit policy r v.0 other) (sym row) moved)
+  pub one_frame : OneFrame
+  one_frame target s pc c policy limit answer other bytes accepted (inl v) (inl w) = v.0 ∙ sym w.0
+  one_frame target s pc c policy limit answer other bytes accepted (inl v) (inr w) = absurd (apart target s pc w.0 w.1 v.1 w.2)
+  one_frame target s pc c policy limit answer other bytes accepted (inr v) (inl w) = absurd (apart target s pc v.0 v.1 w.1 v.2)
+  one_frame target s pc c policy limit answer other bytes accepted (inr v) (inr w) =
+      let register : w.0 ≡ v.0 = sym (one_returns target s pc v.0 w.0 v.1 w.1 accepted v.2 w.2) in
+      let row = one_rules target s bytes accepted pc v.1 w.1 v.2.rules w.2.rules in
+      let moved : FrameIs c limit policy w.1 v.0 other = subst (λ (n : ℕ). FrameIs c limit policy w.1 n other) register w.3 in
+      one_of_row c limit policy v.1 v.0 answer other v.3 (subst (λ (r : Rules). FrameIs c limit policy r v.0 other) (sym row) moved)

@@ -10,11 +10,10 @@ use Rattle.std.proofs.lemmas.List.Elements.{recursion_from_All, All-from_recursi
 use Rattle.std.specs.Bool.{MatchBool}
 use Rattle.std.proofs.lemmas.List.Sums.{sum_by-cons}
 use Rattle.std.proofs.lemmas.Option.{slice_get-get_or}
-use Rattle.dw_section.proofs.Lent.Judged.{all_get}
 use Rattle.dw_unwind.specs.declared.ranges.Range.{Range}
 use Rattle.dw_unwind.specs.Ranges.{end_of, covers, byte_of, byte_among}
 use Rattle.dw_unwind.proofs.Elements.{all_more}
-use Rattle.dw_unwind.specs.Inner.Ranges.{cover_count, AreApart, Meet, Rise, IsWithin}
+use Rattle.dw_unwind.specs.Inner.Ranges.{cover_count, AreApart, Meet, Rise, IsSoundRange}
 
 -- ---- whether a range covers an address
 
@@ -77,7 +76,7 @@ pub meet_at : (rs : List Range) (k : ℕ) (d : Range) → AllByRecursion (λ (r 
 meet_at rs k d some up lt below =
     let a = (get_or rs (suc k) d).address in
     let low : (get_or rs k d).address ≤ a = up k (suc k) d (omega arith) lt in
-    let len = all_get (λ (r : Range). 0 < r.len) rs (suc k) d some lt in
+    let len = All-from_recursion (λ (r : Range). 0 < r.len) rs some (suc k) d lt in
     (a, counts_two a rs k d lt (covered a (get_or rs k d) low below) (covered a (get_or rs (suc k) d) (omega arith) (omega arith)))
 
 -- ranges that are apart and in order rise
@@ -156,7 +155,7 @@ neighbours_at rs i d e low lt below =
 pub begins_rise : (rs : List Range) → Rise rs → IsNonDecreasingBy (λ (r : Range). r.address) rs
 begins_rise [] h i j d le lt = absurd (omega arith)
 begins_rise (r ∷ rs) h zero zero d le lt = omega arith
-begins_rise (r ∷ rs) h zero (suc j) d le lt = let past = all_get (λ (q : Range). end_of r ≤ q.address) rs j d h.0 (omega arith) in omega arith
+begins_rise (r ∷ rs) h zero (suc j) d le lt = let past = All-from_recursion (λ (q : Range). end_of r ≤ q.address) rs h.0 j d (omega arith) in omega arith
 begins_rise (r ∷ rs) h (suc i) zero d le lt = absurd (omega arith)
 begins_rise (r ∷ rs) h (suc i) (suc j) d le lt = begins_rise rs h.1 i j d (omega arith) (omega arith)
 
@@ -174,7 +173,7 @@ pub byte_found : (bytes : List ℕ) (a : ℕ) (rs : List Range) (i : ℕ) (d : R
 byte_found bytes a [] i d h lt low high = absurd (omega arith)
 byte_found bytes a (r ∷ rs) zero d h lt low high = rw (covered a r low high) refl
 byte_found bytes a (r ∷ rs) (suc i) d h lt low high =
-    let past = all_get (λ (q : Range). end_of r ≤ q.address) rs i d h.0 (omega arith) in
+    let past = All-from_recursion (λ (q : Range). end_of r ≤ q.address) rs h.0 i d (omega arith) in
     rw (uncovered a r (inr (omega arith))) (byte_found bytes a rs i d h.1 (omega arith) low high)
 
 pub byte_missing : (bytes : List ℕ) (a : ℕ) (rs : List Range) (i : ℕ) (d : Range) → Rise rs → i < length rs → (get_or rs i d).address ≤ a → end_of (get_or rs i d) ≤ a
@@ -182,7 +181,7 @@ pub byte_missing : (bytes : List ℕ) (a : ℕ) (rs : List Range) (i : ℕ) (d :
 byte_missing bytes a [] i d h lt low high above = absurd (omega arith)
 byte_missing bytes a (r ∷ rs) zero d h lt low high above = rw (uncovered a r (inr high)) (none_begun bytes a rs (λ k e l. above (suc k) e (omega arith) (omega arith)))
 byte_missing bytes a (r ∷ rs) (suc i) d h lt low high above =
-    let past = all_get (λ (q : Range). end_of r ≤ q.address) rs i d h.0 (omega arith) in
+    let past = All-from_recursion (λ (q : Range). end_of r ≤ q.address) rs h.0 i d (omega arith) in
     rw (uncovered a r (inr (omega arith))) (byte_missing bytes a rs i d h.1 (omega arith) low high (λ k e l m. above (suc k) e (omega arith) (omega arith)))
 
 -- an address past all of them has no byte
@@ -190,14 +189,14 @@ pub byte_past : (bytes : List ℕ) (a limit : ℕ) (rs : List Range) → AllByRe
 byte_past bytes a limit [] h le = refl
 byte_past bytes a limit (r ∷ rs) h le = rw (uncovered a r (inr (omega (arith, h.0)))) (byte_past bytes a limit rs h.1 le)
 
-pub have_bytes : (limit room : ℕ) (rs : List Range) → AllByRecursion (IsWithin limit room) rs → AllByRecursion (λ (r : Range). 0 < r.len) rs
-have_bytes limit room rs h = all_more (IsWithin limit room) (λ r. 0 < r.len) rs (λ r is. is.some) h
+pub have_bytes : (limit room : ℕ) (rs : List Range) → AllByRecursion (IsSoundRange limit room) rs → AllByRecursion (λ (r : Range). 0 < r.len) rs
+have_bytes limit room rs h = all_more (IsSoundRange limit room) (λ r. 0 < r.len) rs (λ r is. is.some) h
 
-pub end_below : (limit room : ℕ) (rs : List Range) → AllByRecursion (IsWithin limit room) rs → AllByRecursion (λ (r : Range). end_of r ≤ limit) rs
-end_below limit room rs h = all_more (IsWithin limit room) (λ r. end_of r ≤ limit) rs (λ r is. is.addresses) h
+pub end_below : (limit room : ℕ) (rs : List Range) → AllByRecursion (IsSoundRange limit room) rs → AllByRecursion (λ (r : Range). end_of r ≤ limit) rs
+end_below limit room rs h = all_more (IsSoundRange limit room) (λ r. end_of r ≤ limit) rs (λ r is. is.addresses) h
 
-pub byte_here : (limit : ℕ) (bytes : List ℕ) (a : ℕ) (rs : List Range) (i : ℕ) (d : Range) → Rise rs → AllByRecursion (IsWithin limit (length bytes)) rs → i < length rs → (get_or rs i d).address ≤ a → a < end_of (get_or rs i d)
+pub byte_here : (limit : ℕ) (bytes : List ℕ) (a : ℕ) (rs : List Range) (i : ℕ) (d : Range) → Rise rs → AllByRecursion (IsSoundRange limit (length bytes)) rs → i < length rs → (get_or rs i d).address ≤ a → a < end_of (get_or rs i d)
     → Some (get_or bytes ((get_or rs i d).place + (a - (get_or rs i d).address)) 0) ≡ byte_among bytes a rs
 byte_here limit bytes a rs i d h within lt low high =
-    let places = (all_get (IsWithin limit (length bytes)) rs i d within lt).places in
+    let places = (All-from_recursion (IsSoundRange limit (length bytes)) rs within i d lt).places in
     sym (byte_found bytes a rs i d h lt low high ∙ slice_get-get_or bytes ((get_or rs i d).place + (a - (get_or rs i d).address)) 0 (omega arith))

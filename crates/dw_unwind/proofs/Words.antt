@@ -5,7 +5,7 @@ use Rattle.std.proofs.lemmas.List.{append_cancel_left}
 use Rattle.std.proofs.lemmas.Bool.Decides.{eqb_tells}
 use Rattle.dw_unwind.specs.Statement.{Statement, nothing, counter_is, register_is, memory_is}
 use Rattle.dw_num.specs.Digits.{digit, number_behind}
-use Rattle.dw_unwind.specs.Spelling.{Hexadecimal, RegisterName, SkippedLine, CounterLine, RegisterLine, MemoryLine, Says}
+use Rattle.dw_unwind.specs.Spelling.{Hexadecimal, RegisterName, SkippedLine, CounterLine, RegisterLine, MemoryLine, LineSays}
 use Rattle.dw_unwind.specs.Inner.Spelling.{MemoryHead, Lacks, len_until}
 
 -- ---- the first character of a kind
@@ -102,7 +102,7 @@ memory_parts line digits pairs lacks is start text said =
     record { is_start = subst (Hexadecimal start) (sym one.word) said.1; behind = one.rest }
 
 -- a line that has none of the forms says nothing
-pub none_said : (line : List ℕ) → (SkippedLine line → ⊥) → ((v : ℕ) → CounterLine v line → ⊥) → ((r v : ℕ) → RegisterLine r v line → ⊥) → ((v : ℕ) (bytes : List ℕ) → MemoryLine v bytes line → ⊥) → (s : Statement) → Says line s → ⊥
+pub none_said : (line : List ℕ) → (SkippedLine line → ⊥) → ((v : ℕ) → CounterLine v line → ⊥) → ((r v : ℕ) → RegisterLine r v line → ⊥) → ((v : ℕ) (bytes : List ℕ) → MemoryLine v bytes line → ⊥) → (s : Statement) → LineSays line s → ⊥
 none_said line no_skipped no_counter no_register no_memory nothing said = no_skipped said
 none_said line no_skipped no_counter no_register no_memory (counter_is v) said = no_counter v said
 none_said line no_skipped no_counter no_register no_memory (register_is r v) said = no_register r v said

@@ -52,7 +52,7 @@ module _ (c : Context) (limit : ℕ) where
 
   -- the address that memory holds at an address
   abbrev pub saved_at : Column → ℕ → Result ℕ UnwindError
-  saved_at column a = ok_or (read_at c a (byte_count c.target.size)) (Unreadable column)
+  saved_at column a = ok_or (read_at c a (byte_count c.target.size)) (Unreadable column a (byte_count c.target.size))
 
   -- the value of an expression from this stack on, or its fault
   pub record ValueIs (column : Column) (e : Expression) (first : List ℕ) (answer : Result ℕ UnwindError) : Type 0 where
@@ -63,7 +63,7 @@ module _ (c : Context) (limit : ℕ) where
   -- the CFA by its rule; at a covered address one is set
   abbrev pub CfaIs : CfaRule → Result ℕ UnwindError → Type 0
   CfaIs cfa.Unset answer = ⊥
-  CfaIs (cfa.Register r n) answer = answer ≡ ok_or (option_map (λ v. plus v n) (c.register r)) (NoRegister Cfa)
+  CfaIs (cfa.Register r n) answer = answer ≡ ok_or (option_map (λ v. plus v n) (c.register r)) (NoRegister Cfa r)
   CfaIs (cfa.Expression e) answer = ValueIs Cfa e [] answer
 
   -- the stack that holds the CFA
@@ -82,7 +82,7 @@ module _ (c : Context) (limit : ℕ) where
   RegisterIs policy cfa r rules.SameValue answer = answer ≡ Ok (value_in r)
   RegisterIs policy cfa r (rules.Offset n) answer = answer ≡ recovered (saved_at (Register r) (plus cfa n))
   RegisterIs policy cfa r (rules.ValOffset n) answer = answer ≡ Ok (Some (plus cfa n))
-  RegisterIs policy cfa r (rules.Register q) answer = answer ≡ recovered (ok_or (value_in q) (NoRegister (Register r)))
+  RegisterIs policy cfa r (rules.Register q) answer = answer ≡ recovered (ok_or (value_in q) (NoRegister (Register r) q))
   RegisterIs policy cfa r (rules.Expression e) answer =
       (value : Result ℕ UnwindError) × SavedBy (Register r) cfa e value × (answer ≡ recovered value)
   RegisterIs policy cfa r (rules.ValExpression e) answer =

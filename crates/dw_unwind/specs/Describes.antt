@@ -15,6 +15,6 @@ pub record Describes (dump : Dump) (statements : List Statement) : Type 0 where
   pub memory : (a : ℕ) → byte_in dump.memory a ≡ given statements (byte a)
 
 -- there is no dump: the fault is the first one, or memory ran out
-abbrev pub Refuses : ℕ → List (List ℕ) → DumpError → Type 0
-Refuses limit lines (Fault fault) = FirstFault limit lines fault
-Refuses limit lines OutOfMemory = ⊤
+abbrev pub RefusesDump : ℕ → List (List ℕ) → DumpError → Type 0
+RefusesDump limit lines (Fault fault) = FirstFault limit lines fault
+RefusesDump limit lines OutOfMemory = ⊤

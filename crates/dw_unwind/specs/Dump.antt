@@ -4,23 +4,23 @@ use Rattle.std.specs.List.{AllZip}
 use Rattle.dw_unwind.specs.declared.fault.DumpCode.{DumpCode}
 use Rattle.dw_unwind.specs.declared.fault.DumpCode.TheVariants.{BadLine, ValueTooLarge, Repeated}
 use Rattle.dw_unwind.specs.declared.fault.DumpFault.{DumpFault}
-use Rattle.dw_unwind.specs.Spelling.{Says}
-use Rattle.dw_unwind.specs.Statement.{Statement, Item, Fits, times}
+use Rattle.dw_unwind.specs.Spelling.{LineSays}
+use Rattle.dw_unwind.specs.Statement.{Statement, DumpItem, Fits, times}
 
 -- a line says this, and its values are below the limit of addresses
 abbrev pub SaysWithin : ℕ → List ℕ → Statement → Type 0
-SaysWithin limit line s = Says line s × Fits limit s
+SaysWithin limit line s = LineSays line s × Fits limit s
 
 -- what lines say one by one, and nothing twice
 pub record Say (limit : ℕ) (lines : List (List ℕ)) (statements : List Statement) : Type 0 where
   pub each : AllZip (SaysWithin limit) lines statements
-  pub once : (item : Item) → times statements item ≤ 1
+  pub once : (item : DumpItem) → times statements item ≤ 1
 
 -- the fault of a line behind statements
 abbrev pub IsFaulty : ℕ → List Statement → List ℕ → DumpCode → Type 0
-IsFaulty limit before line BadLine = (s : Statement) → Says line s → ⊥
-IsFaulty limit before line ValueTooLarge = (s : Statement) × Says line s × (Fits limit s → ⊥)
-IsFaulty limit before line Repeated = (s : Statement) × SaysWithin limit line s × ((item : Item) × (1 < times (before ++ s ∷ []) item))
+IsFaulty limit before line BadLine = (s : Statement) → LineSays line s → ⊥
+IsFaulty limit before line ValueTooLarge = (s : Statement) × LineSays line s × (Fits limit s → ⊥)
+IsFaulty limit before line Repeated = (s : Statement) × SaysWithin limit line s × ((item : DumpItem) × (1 < times (before ++ s ∷ []) item))
 
 -- the first line at fault, counted from 1, and its fault
 pub record FirstFault (limit : ℕ) (lines : List (List ℕ)) (fault : DumpFault) : Type 0 where

@@ -2,7 +2,9 @@
 use Rattle.std.specs.Prelude.{◌≡◌, ◌⊎◌, ◌≤◌, ℕ, List, length, Option, Some, None, Err, ⊤, IsTrue}
 use Rattle.dw_num.specs.declared.target.Target.{Target}
 use Rattle.dw_cfa.specs.Rows.{Rules}
-use Rattle.dw_eval.specs.Context.{Context}
+use Rattle.dw_eval.specs.Context.{Context, read_at}
+use Rattle.dw_eval.specs.Wanted.{IsMissing}
+use Rattle.dw_section.specs.declared.fde_range.Ranged.{Ranged}
 use Rattle.dw_unwind.specs.declared.fault.DumpError.{DumpError}
 use Rattle.dw_unwind.specs.declared.fault.DumpError.TheVariants as dumps
 use Rattle.dw_unwind.specs.declared.fault.DumpFault.{DumpFault}
@@ -13,16 +15,18 @@ use Rattle.dw_unwind.specs.declared.frame.UnwindError.{UnwindError}
 use Rattle.dw_unwind.specs.declared.frame.UnwindError.TheVariants.{Eval, Unreadable, Device, NoRegister}
 use Rattle.dw_unwind.specs.Dump.{Say, FirstFault}
 use Rattle.dw_unwind.specs.Statement.{Statement}
-use Rattle.dw_unwind.specs.Unwound.{IsCovered, is_listed, Unwound, UnwindFails}
+use Rattle.dw_unwind.specs.Unwound.{IsCovered, is_listed, FrameIs, Unwound, UnwindFails}
+use Rattle.dw_unwind.specs.UnwoundAt.{UnwoundAt}
+use Rattle.dw_unwind.specs.declared.by_index.UnwindAtError.TheVariants.{Unwind}
 
 -- ---- frames
 
 -- the column that a fault names
 abbrev pub column_of : UnwindError → Option Column
 column_of (Eval kind i column) = Some column
-column_of (Unreadable column) = Some column
+column_of (Unreadable column a k) = Some column
 column_of (Device column) = Some column
-column_of (NoRegister column) = Some column
+column_of (NoRegister column r) = Some column
 column_of other = None
 
 -- the CFA, or a register that the frame lists
@@ -39,6 +43,22 @@ HasColumn target s pc c column =
 abbrev pub FaultsInFrame : Type 0
 FaultsInFrame = (target : Target) (s : List ℕ) (pc : ℕ) (c : Context) (policy : Policy) (limit : ℕ) (e : UnwindError) (column : Column)
     → Unwound target s pc c policy limit (Err e) ⊎ UnwindFails target s pc c policy limit e → column_of e ≡ Some column → HasColumn target s pc c column
+
+-- what a fault asks for is missing: a register's value, or bytes of memory
+abbrev pub FaultMisses : Context → UnwindError → Type 0
+FaultMisses c (Eval kind i column) = IsMissing c kind
+FaultMisses c (Unreadable column a k) = read_at c a k ≡ None
+FaultMisses c (NoRegister column r) = c.register r ≡ None
+FaultMisses c other = ⊤
+
+-- that holds of each first fault, by a row, by a section and by an index
+pub record WantedIsMissing : Type 0 where
+  pub row : (c : Context) (limit : ℕ) (policy : Policy) (row : Rules) (return_register : ℕ) (e : UnwindError)
+      → FrameIs c limit policy row return_register (Err e) → FaultMisses c e
+  pub frame : (target : Target) (s : List ℕ) (pc : ℕ) (c : Context) (policy : Policy) (limit : ℕ) (e : UnwindError)
+      → Unwound target s pc c policy limit (Err e) → FaultMisses c e
+  pub by_index : (target : Target) (s : List ℕ) (index : List Ranged) (pc : ℕ) (c : Context) (policy : Policy) (limit : ℕ) (e : UnwindError)
+      → UnwoundAt target s index pc c policy limit (Err (Unwind e)) → FaultMisses c e
 
 -- ---- dumps
 

@@ -7,5 +7,6 @@ pub mod Ranges
 pub mod Describes
 pub mod Columns
 pub mod Unwound
+pub mod UnwoundAt
 pub mod Laws
 pub mod Inner

@@ -40,8 +40,8 @@ abbrev pub SkippedLine : List ℕ → Type 0
 SkippedLine line = (line ≡ []) ⊎ ((text : List ℕ) × (line ≡ codes "#" ++ text))
 
 -- the line says this
-abbrev pub Says : List ℕ → Statement → Type 0
-Says line nothing = SkippedLine line
-Says line (counter_is v) = CounterLine v line
-Says line (register_is r v) = RegisterLine r v line
-Says line (memory_is start bytes) = MemoryLine start bytes line
+abbrev pub LineSays : List ℕ → Statement → Type 0
+LineSays line nothing = SkippedLine line
+LineSays line (counter_is v) = CounterLine v line
+LineSays line (register_is r v) = RegisterLine r v line
+LineSays line (memory_is start bytes) = MemoryLine start bytes line

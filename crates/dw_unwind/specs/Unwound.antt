@@ -3,6 +3,7 @@ use Rattle.std.specs.Prelude.{◌≡◌, ◌⊎◌, ◌<◌, ◌==◌, ◌||◌,
 use Rattle.std.specs.List.{AllByRecursion, AllPairs}
 use Rattle.dw_num.specs.declared.target.Target.{Target}
 use Rattle.dw_num.specs.Input.{AreBytes}
+use Rattle.dw_num.specs.Laws.{HoldsOfOne}
 use Rattle.dw_cfa.specs.Rows.{Rules, rule, is_specified}
 use Rattle.dw_eval.specs.declared.error.Kind.TheVariants as kinds
 use Rattle.dw_eval.specs.Context.{Context}
@@ -19,7 +20,7 @@ use Rattle.dw_unwind.specs.Columns.{CfaIs, RegisterIs, CfaFails, RegisterFails}
 
 -- ---- the FDE
 
--- an FDE of a section covers an address: its return-address register, and the rules there
+-- an FDE of a section covers an address: its return address register, and the rules there
 pub record IsCovered (target : Target) (s : List ℕ) (a return_register : ℕ) (row : Rules) : Type 0 where
   pub fdes : List Fde
   pub are : AreFdes target s fdes
@@ -35,11 +36,11 @@ IsUncovered target s a = (fdes : List Fde) × AreFdes target s fdes × NoneCover
 
 -- ---- the registers
 
--- the machine holds a register, or the row specifies it, or it is the return-address register
+-- the machine holds a register, or the row specifies it, or it is the return address register
 abbrev pub is_listed : (ℕ → Option ℕ) → Rules → ℕ → ℕ → Bool
 is_listed held row return_register r = is_some (held r) || (is_specified (rule row r) || (r == return_register))
 
--- on a machine that stopped, with a row and its return-address register
+-- on a machine that stopped, with a row and its return address register
 module _ (c : Context) (limit : ℕ) (policy : Policy) (row : Rules) (return_register : ℕ) where
   abbrev pub IsListed : ℕ → Type 0
   IsListed r = is_listed c.register row return_register r ≡ true
@@ -49,13 +50,13 @@ module _ (c : Context) (limit : ℕ) (policy : Policy) (row : Rules) (return_reg
   Recovers cfa r answer = RegisterIs c limit policy cfa r (rule row r) answer
 
   -- a listed register with its value
-  abbrev pub IsEntry : ℕ → ℕ × Option ℕ → Type 0
-  IsEntry cfa entry = IsListed entry.0 × Recovers cfa entry.0 (Ok entry.1)
+  abbrev pub IsRegisterEntry : ℕ → ℕ × Option ℕ → Type 0
+  IsRegisterEntry cfa entry = IsListed entry.0 × Recovers cfa entry.0 (Ok entry.1)
 
   -- these are the listed registers, ascending, each with its value
   pub record AreRegisters (cfa : ℕ) (entries : List (ℕ × Option ℕ)) : Type 0 where
     pub rise : AllPairs (λ (x y : ℕ × Option ℕ). x.0 < y.0) entries
-    pub each : AllByRecursion (IsEntry cfa) entries
+    pub each : AllByRecursion (IsRegisterEntry cfa) entries
     pub all : (r : ℕ) → IsListed r → (v : Option ℕ) × IsAmong (r, v) entries
 
   -- register r is listed, and every listed one before it has a value
@@ -111,3 +112,8 @@ is_device e = false
 abbrev pub OneFrame : Type 0
 OneFrame = (target : Target) (s : List ℕ) (pc : ℕ) (c : Context) (policy : Policy) (limit : ℕ) (answer other : Result Frame UnwindError)
     → AreBytes s → Accepted target s → Unwound target s pc c policy limit answer → Unwound target s pc c policy limit other → answer ≡ other
+
+-- and it gives a machine that stopped exactly one
+abbrev pub SomeFrame : Type 0
+SomeFrame = (target : Target) (s : List ℕ) (pc : ℕ) (registers : List (Option ℕ)) (byte : ℕ → Option ℕ) (policy : Policy) (limit : ℕ)
+    → AreBytes s → Accepted target s → HoldsOfOne (Unwound target s pc (stopped target registers byte) policy limit)

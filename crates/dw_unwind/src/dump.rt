@@ -3,7 +3,7 @@
 ghost use Rattle.std.specs.Prelude.{◌≡◌, ◌≤◌, ◌^◌, List, IfOk, IfErr, MatchResult};
 ghost use Rattle.dw_num.specs.Target.{address_limit};
 ghost use Rattle.dw_unwind.specs.declared.fault.DumpError.TheVariants.{OutOfMemory};
-ghost use Rattle.dw_unwind.specs.Describes.{Describes, Refuses};
+ghost use Rattle.dw_unwind.specs.Describes.{Describes, RefusesDump};
 ghost use Rattle.dw_unwind.specs.Dump.{Say};
 ghost use Rattle.dw_unwind.specs.Laws.{NamesLine};
 ghost use Rattle.dw_unwind.specs.Lines.{lines_of};
@@ -33,7 +33,7 @@ pub struct Dump {
 fn dump_of(alloc: Global, text: &[u8], limit: u128) -> Result<Dump, DumpError>
     requires { limit ≤ 2 ^ 64 }
     ensures found { IfOk result (λ dump. (ss : List TheStatement) × Say limit (lines_of text.now) ss × Describes dump ss) }
-    ensures first { IfErr result (Refuses limit (lines_of text.now)) }
+    ensures first { IfErr result (RefusesDump limit (lines_of text.now)) }
 {
     let mut kept = nothing_gathered(alloc);
     let fault = gather(alloc, &mut kept, text, limit)?;
@@ -81,7 +81,7 @@ impl Dump {
         // A fault names one of the lines, counted from 1.
         ensures within { IfErr result (NamesLine (lines_of bytes.now)) }
         // A refusal is the first fault.
-        ensures first { IfErr result (Refuses (address_limit target.size) (lines_of bytes.now)) }
+        ensures first { IfErr result (RefusesDump (address_limit target.size) (lines_of bytes.now)) }
     {
         dump_of(alloc, bytes, target.size.address_limit())
     }

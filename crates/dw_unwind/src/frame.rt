@@ -2,6 +2,7 @@
 
 ghost use Rattle.std.specs.Prelude.{◌≡◌};
 ghost use Rattle.dw_unwind.specs.declared.frame.UnwindError.TheVariants.{OutOfMemory};
+ghost use Rattle.dw_unwind.specs.Codes.{frame_fault};
 
 use dw_eval::Kind;
 use std::alloc::{AllocError, AllocFailed};
@@ -96,6 +97,10 @@ pub enum UnwindError {
     Unreadable {
         /// The column (6.4.1) of the saved register.
         column: Column,
+        /// The first address that was read.
+        address: u64,
+        /// How many bytes from there on were asked for.
+        len: usize,
     },
     /// The memory's device failed while a saved register was read, whose rule is `offset(N)` (`DW_CFA_offset`,
     /// `DW_CFA_offset_extended`, `DW_CFA_offset_extended_sf`) or `expression(E)` (`DW_CFA_expression`), 6.4.1, 6.4.2.3.
@@ -108,9 +113,27 @@ pub enum UnwindError {
     NoRegister {
         /// The column (6.4.1) whose rule asks for it.
         column: Column,
+        /// Its DWARF number.
+        register: u16,
     },
     /// A request for memory was refused.
     OutOfMemory,
+}
+
+impl UnwindError {
+    /// The fault's number, 1 to 5, or None for want of memory, which is no fault.
+    pub fn number(self) -> Option<u8>
+        ensures { result ≡ frame_fault self }
+    {
+        match self {
+            UnwindError::NoFde => Some(1),
+            UnwindError::Eval { .. } => Some(2),
+            UnwindError::Unreadable { .. } => Some(3),
+            UnwindError::Device { .. } => Some(4),
+            UnwindError::NoRegister { .. } => Some(5),
+            UnwindError::OutOfMemory => None,
+        }
+    }
 }
 
 impl fmt::Display for UnwindError {
@@ -122,9 +145,9 @@ impl fmt::Display for UnwindError {
                 index,
                 column,
             } => write!(f, "{kind} at operation {index} in {column}"),
-            UnwindError::Unreadable { column } => write!(f, "Unreadable in {column}"),
+            UnwindError::Unreadable { column, .. } => write!(f, "Unreadable in {column}"),
             UnwindError::Device { column } => write!(f, "Device in {column}"),
-            UnwindError::NoRegister { column } => write!(f, "NoRegister in {column}"),
+            UnwindError::NoRegister { column, .. } => write!(f, "NoRegister in {column}"),
             UnwindError::OutOfMemory => write!(f, "out of memory"),
         }
     }

@@ -5,6 +5,8 @@
 #![tactic(auto)]
 
 mod addition;
+mod by_index;
+mod by_table;
 mod caller;
 mod dump;
 mod fault;
@@ -16,7 +18,9 @@ mod memory;
 mod partial_dump;
 mod ranges;
 
-pub use caller::unwind;
+pub use by_index::{UnwindAtError, unwind_at};
+pub use by_table::unwind;
+pub use caller::unwind_row;
 pub use dump::Dump;
 pub use dw_eval::Policy;
 pub use fault::{DumpCode, DumpError, DumpFault};

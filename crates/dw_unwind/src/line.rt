@@ -3,7 +3,7 @@
 ghost use Rattle.std.specs.Prelude.{◌≡◌, ℕ, ◌+◌, ◌<◌, ◌≤◌, ◌++◌, ◌∷◌, List, Some, IfOk, length, MatchOption};
 ghost use Rattle.std.specs.Bool.{MatchBool};
 ghost use Rattle.dw_num.specs.Digits.{digit, number_behind};
-ghost use Rattle.dw_unwind.specs.Spelling.{Hexadecimal, RegisterName, HexPairs, CounterLine, RegisterLine, MemoryLine, SkippedLine, Says};
+ghost use Rattle.dw_unwind.specs.Spelling.{Hexadecimal, RegisterName, HexPairs, CounterLine, RegisterLine, MemoryLine, SkippedLine, LineSays};
 ghost use Rattle.dw_unwind.specs.Inner.Spelling.{MemoryHead, Lacks, len_until};
 ghost use Rattle.dw_unwind.specs.Statement.{Statement as TheStatement};
 ghost use Rattle.dw_unwind.specs.Inner.Stated.{stated};
@@ -166,7 +166,7 @@ fn memory_line(alloc: Global, line: &[u8]) -> Result<Option<(u64, Vec<u8>)>, All
 
 /// What a line says, or None where it has none of the forms of a dump.
 pub(crate) fn read_line(alloc: Global, line: &[u8]) -> Result<Option<Statement>, AllocError>
-    ensures { IfOk result (λ found. MatchOption found ((s : TheStatement) → Says line.now s → ⊥) (λ s. Says line.now (stated s))) }
+    ensures { IfOk result (λ found. MatchOption found ((s : TheStatement) → LineSays line.now s → ⊥) (λ s. LineSays line.now (stated s))) }
 {
     if is_skipped(line) {
         return Ok(Some(Statement::Nothing));

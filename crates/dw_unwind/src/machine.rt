@@ -76,12 +76,17 @@ impl<'m> Machine<'m> {
     {
         let target = self.env.target;
         let len = usize::from(target.size.byte_count());
+        let unreadable = UnwindError::Unreadable {
+            column,
+            address,
+            len,
+        };
         if !is_in_space(address, len, target.size) {
-            return Err(UnwindError::Unreadable { column });
+            return Err(unreadable);
         }
         match memory.read(address, len, target.order) {
             Ok(value) => Ok(value),
-            Err(ReadFault::Unreadable) => Err(UnwindError::Unreadable { column }),
+            Err(ReadFault::Unreadable) => Err(unreadable),
             Err(ReadFault::Device) => Err(UnwindError::Device { column }),
         }
     }
@@ -123,6 +128,7 @@ impl<'m> Machine<'m> {
                     Some(value) => Ok(offset_by(value, *offset, self.env.target.size)),
                     None => Err(UnwindError::NoRegister {
                         column: Column::Cfa,
+                        register: *register,
                     }),
                 }
             }
@@ -183,7 +189,10 @@ impl<'m> Machine<'m> {
             RegRule::ValOffset(offset) => Ok(Some(offset_by(cfa, *offset, size))),
             RegRule::Register(other) => match self.value_in(*other) {
                 Some(value) => Ok(Some(value)),
-                None => Err(UnwindError::NoRegister { column }),
+                None => Err(UnwindError::NoRegister {
+                    column,
+                    register: *other,
+                }),
             },
             RegRule::Expression(expression) => {
                 recovered(self.saved_by(expression, cfa, column, memory))

@@ -4,10 +4,10 @@ ghost use Rattle.std.specs.Prelude.{◌≡◌, ℕ, ◌+◌, ◌<◌, ◌≤◌,
 ghost use Rattle.std.specs.Bool.{MatchBool};
 ghost use Rattle.std.specs.List.{AllByRecursion};
 ghost use Rattle.dw_num.specs.Fixed.{fixed_number};
-ghost use Rattle.dw_eval.specs.Bytes.{bytes_from, number_at};
+ghost use Rattle.dw_eval.specs.Bytes.{bytes_from, number_in_memory};
 ghost use Rattle.dw_unwind.specs.declared.ranges.Range.{Range as TheRange};
 ghost use Rattle.dw_unwind.specs.Ranges.{byte_among, byte_in};
-ghost use Rattle.dw_unwind.specs.Inner.Ranges.{AreApart, Rise, IsWithin};
+ghost use Rattle.dw_unwind.specs.Inner.Ranges.{AreApart, Rise, IsSoundRange};
 
 use crate::ranges::{Range, settle};
 use byteorder::{BigEndian, ByteOrder, LittleEndian};
@@ -46,7 +46,7 @@ fn begun(ranges: &[Range], address: u64) -> usize
 // The byte at an address.
 fn byte_at(ranges: &[Range], bytes: &[u8], address: u64) -> Option<u8>
     requires rise { Rise ranges.now }
-    requires within { AllByRecursion (IsWithin (2 ^ 64) (length bytes.now)) ranges.now }
+    requires within { AllByRecursion (IsSoundRange (2 ^ 64) (length bytes.now)) ranges.now }
     ensures { result ≡ byte_among bytes.now address ranges.now }
 {
     let begun = begun(ranges, address);
@@ -65,7 +65,7 @@ fn byte_at(ranges: &[Range], bytes: &[u8], address: u64) -> Option<u8>
 // Fills a buffer with the bytes from an address on, unless one of them is missing.
 fn fill(ranges: &[Range], bytes: &[u8], address: u64, buffer: &mut [u8]) -> bool
     requires rise { Rise ranges.now }
-    requires within { AllByRecursion (IsWithin (2 ^ 64) (length bytes.now)) ranges.now }
+    requires within { AllByRecursion (IsSoundRange (2 ^ 64) (length bytes.now)) ranges.now }
     ensures { MatchBool result
         (bytes_from (λ a. byte_among bytes.now a ranges.now) address (length buffer.old) ≡ Some buffer.new)
         (bytes_from (λ a. byte_among bytes.now a ranges.now) address (length buffer.old) ≡ None) }
@@ -94,7 +94,7 @@ fn number_of(order: Order, bytes: &[u8]) -> u64
 }
 
 // The number that the bytes from an address on spell, unless one of them is missing.
-#[tactic(auto, unfolding(dw_eval::specs::Bytes::number_at))]
+#[tactic(auto, unfolding(dw_eval::specs::Bytes::number_in_memory))]
 fn number_from(
     ranges: &[Range],
     bytes: &[u8],
@@ -105,8 +105,8 @@ fn number_from(
     requires some { 1 ≤ len }
     requires most { len ≤ 8 }
     requires rise { Rise ranges.now }
-    requires within { AllByRecursion (IsWithin (2 ^ 64) (length bytes.now)) ranges.now }
-    ensures { result ≡ number_at (λ a. byte_among bytes.now a ranges.now) order address len }
+    requires within { AllByRecursion (IsSoundRange (2 ^ 64) (length bytes.now)) ranges.now }
+    ensures { result ≡ number_in_memory (λ a. byte_among bytes.now a ranges.now) order address len }
 {
     let mut buffer = [0; 8];
     let spelled = &mut buffer[..len];
@@ -120,7 +120,7 @@ impl DumpMemory {
     /// The memory of ranges that are apart.
     pub(crate) fn new(mut ranges: Vec<Range>, bytes: Vec<u8>) -> DumpMemory
         requires apart { AreApart ranges.items }
-        requires within { AllByRecursion (IsWithin (2 ^ 64) (length bytes.items)) ranges.items }
+        requires within { AllByRecursion (IsSoundRange (2 ^ 64) (length bytes.items)) ranges.items }
         ensures { (a : ℕ) → byte_in result a ≡ byte_among bytes.items a ranges.items }
     {
         settle(&mut ranges);

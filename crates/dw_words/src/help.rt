@@ -115,7 +115,7 @@ Example:
   dwframe normal --size 8 --order little a.bin > a.normal";
 
 pub const SAME: &str =
-    "Tell whether two sections mean the same: ranges, return registers, rules at each address";
+    "Tell whether two sections mean the same: ranges, return address registers, rules at each address";
 
 pub const AFTER_SAME: &str =
     "Exit status: 0 same, 1 different, 2 refused, 3 wrong arguments, 4 file or output fails, 5 out of memory

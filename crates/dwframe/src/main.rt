@@ -3,12 +3,11 @@
 //! `dw_command::engine` is the whole command over a list of words, files and two outputs; `main` runs it over the real ones.
 #![tactic(auto)]
 
-ghost use Rattle.std.specs.Prelude.{◌≡◌, ◌≢◌, ⊤, ℕ, ◌<◌, ◌≤◌, ◌-◌, ◌^◌, Result, map, string_bytes};
+ghost use Rattle.std.specs.Prelude.{◌≡◌, ◌≢◌, ⊤, ◌≤◌, map, string_bytes};
 ghost use Rattle.std.specs.IoError.{error_kind};
-ghost use Rattle.dw_command.specs.Answers.{Ends, exit_of};
-ghost use Rattle.dw_command.specs.declared.failure.Failure.{Failure};
+ghost use Rattle.dw_command.specs.Engine.{Runs};
 
-use dw_command::{Disk, Hinted, Listing, Shown, engine};
+use dw_command::{Disk, Hinted, Shown, engine};
 use std::io::{ErrorKind, IsTerminal, Write};
 use std::process::ExitCode;
 use std::{env, io};
@@ -20,10 +19,9 @@ fn words_of(rt: &HostRuntime) -> io::Result<Vec<String>> {
 
 // The exit status of the command over the files of the system. Hints are for people alone, so that a program that reads
 // standard error finds the one line. A terminal is told no control characters of a path.
-fn run<W: Write>(rt: &HostRuntime, words: &[String], out: &mut Listing<W>) -> u8
-    requires room { out.old.failures < 2 ^ 64 - 1 }
+fn run<W: Write>(rt: &HostRuntime, words: &[String], out: &mut W) -> u8
     // It is the status of an answer to these words, whatever the files hold.
-    ensures ends { (answer : Result ℕ Failure) × Ends (λ _ _. ⊤) out.old.failures out.new.failures out.new.len (map string_bytes words.now) answer × (result ≡ exit_of answer) }
+    ensures runs { Runs (λ _ _. ⊤) (W.contents out.old) (W.contents out.new) (map string_bytes words.now) result }
     ensures most { result ≤ 5 }
 {
     let mut files = Disk::new(rt);
@@ -53,7 +51,7 @@ fn status_without_run(rt: &HostRuntime, error: &io::Error) -> u8
 fn main(rt: HostRuntime) -> ExitCode {
     match words_of(&rt) {
         Ok(words) => {
-            let mut out = Listing::new(rt.stdout());
+            let mut out = rt.stdout();
             ExitCode::from(run(&rt, words.as_slice(), &mut out))
         }
         Err(error) => ExitCode::from(status_without_run(&rt, &error)),

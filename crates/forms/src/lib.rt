@@ -3,8 +3,12 @@
 #![tactic(auto)]
 
 #[cfg(test)]
+mod changed;
+#[cfg(test)]
 mod errors;
 #[cfg(test)]
 mod long;
+#[cfg(test)]
+mod many;
 #[cfg(test)]
 mod sinks;

@@ -64,8 +64,13 @@ fn narrow(len: usize) -> Result<u32, Fail> {
     }
 }
 
-// Appends an entry with these contents.
-fn put_entry(out: &mut Vec<u8>, head: &[u8], program: &[u8], nops: usize) -> Result<(), Fail> {
+/// Appends an entry with these contents.
+pub(crate) fn put_entry(
+    out: &mut Vec<u8>,
+    head: &[u8],
+    program: &[u8],
+    nops: usize,
+) -> Result<(), Fail> {
     let len = head
         .len()
         .saturating_add(program.len())
@@ -79,7 +84,22 @@ fn put_entry(out: &mut Vec<u8>, head: &[u8], program: &[u8], nops: usize) -> Res
     Ok(())
 }
 
-// Appends an FDE of 16 addresses with this number, of the CIE at a place, with so many nops behind its program.
+/// Appends an FDE of 16 addresses, of the CIE at a place, with so many nops behind its program.
+pub(crate) fn put_fde_at(
+    out: &mut Vec<u8>,
+    cie_at: u32,
+    begin: u64,
+    program: &[u8],
+    nops: usize,
+) -> Result<(), Fail> {
+    let mut head = [0; 20];
+    head[..4].copy_from_slice(&cie_at.to_le_bytes());
+    head[4..12].copy_from_slice(&begin.to_le_bytes());
+    head[12] = 16;
+    put_entry(out, &head, program, nops)
+}
+
+// The same by a number: each has 256 addresses for itself.
 fn put_fde(
     out: &mut Vec<u8>,
     cie_at: u32,
@@ -87,12 +107,7 @@ fn put_fde(
     program: &[u8],
     nops: usize,
 ) -> Result<(), Fail> {
-    let place = cie_at.to_le_bytes();
-    let mut head = [0; 20];
-    head[..4].copy_from_slice(&place);
-    head[5] = number;
-    head[12] = 16;
-    put_entry(out, &head, program, nops)
+    put_fde_at(out, cie_at, u64::from(number) << 8, program, nops)
 }
 
 // Two CIEs with so many nops behind their programs, and FDEs that take them by turns.

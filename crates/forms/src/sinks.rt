@@ -13,8 +13,8 @@ const TARGET: Target = Target {
     order: Order::Little,
 };
 
-// One CIE, and one FDE of four rows.
-const PLAIN: &[u8] =
+/// One CIE, and one FDE of four rows.
+pub(crate) const PLAIN: &[u8] =
     b"\x14\0\0\0\xff\xff\xff\xff\x04\0\x08\0\x01\x78\x10\x0c\x07\x08\x90\x01\0\0\0\0\
 \x24\0\0\0\0\0\0\0\0\x10\x40\0\0\0\0\0\x10\0\0\0\0\0\0\0\x41\x0e\x10\x86\x02\x43\x0d\x06\x4b\x0c\x07\x08\0\0\0\0";
 

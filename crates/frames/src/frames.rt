@@ -23,7 +23,7 @@ const BIG: Target = Target {
 const PLAIN: &str =
     "14000000ffffffff040008000178100c0708900100000000240000000000000000104000000000001000000000000000410e108602430d064b0c070800000000";
 
-// r3 is a register's, r5 and r6 are values, r7 has none.
+// r6 is held in r3, the values of r3 and r5 are told, and r16 is undefined.
 const RULES: &str =
     "14000000ffffffff040008000178100c070890010000000024000000000000000010000000000000100000000000000009060314030116050223010710000000";
 
@@ -134,7 +134,12 @@ const FRAMES: [Row; 19] = [
         0,
         "cfa 0x7ffe10 ra r16 r6 0x200 r7 0x7ffdf0 r16 0x401288",
     ),
-    (PLAIN, SHORT, 0, "Unreadable { column: Register(16) }"),
+    (
+        PLAIN,
+        SHORT,
+        0,
+        "Unreadable { column: Register(16), address: 8388104, len: 8 }",
+    ),
     (
         RULES,
         "pc 0x1000\nr3 0x33\nr7 0x2000",
@@ -145,7 +150,7 @@ const FRAMES: [Row; 19] = [
         RULES,
         "pc 0x1000\nr7 0x2000",
         0,
-        "NoRegister { column: Register(6) }",
+        "NoRegister { column: Register(6), register: 3 }",
     ),
     (
         PLAIN,
@@ -153,7 +158,12 @@ const FRAMES: [Row; 19] = [
         0,
         "cfa 0x7ffdf8 ra r16 r7 0x7ffdf0 r16 0x401288",
     ),
-    (PLAIN, "pc 0x401000", 0, "NoRegister { column: Cfa }"),
+    (
+        PLAIN,
+        "pc 0x401000",
+        0,
+        "NoRegister { column: Cfa, register: 7 }",
+    ),
     (PLAIN, "pc 0x401010", 0, "NoFde"),
     (
         EMPTY_VALUE,
@@ -171,7 +181,7 @@ const FRAMES: [Row; 19] = [
         TOP,
         "pc 0xffffffffffffffff",
         0,
-        "NoRegister { column: Cfa }",
+        "NoRegister { column: Cfa, register: 7 }",
     ),
     (TOP, "pc 0xffffffffffffffef", 0, "NoFde"),
     // Reads that fail.
@@ -217,7 +227,7 @@ const PAST_THE_END: Row = (
     BIG_ENDIAN,
     "pc 0x10000408\nr1 0xffffffeb\nmem 0xffffffff 00\nmem 0x0 010203",
     0,
-    "Unreadable { column: Register(65) }",
+    "Unreadable { column: Register(65), address: 4294967295, len: 4 }",
 );
 
 const UNDEFINED: Row = (

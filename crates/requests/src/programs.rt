@@ -1,12 +1,13 @@
 //! The calls on programs: their expressions, rows all at once, and rows one at a time.
 
-ghost use Rattle.std.specs.Prelude.{◌<◌};
+ghost use Rattle.std.specs.Prelude.{◌≡◌, ◌<◌};
 ghost use Rattle.dw_num.specs.Target.{address_limit};
 
 use crate::Calls;
 use crate::expressions::on_expression;
 use dw_cfa::{
-    CfaRule, CieMachine, Factors, Instr, Instructions, RegRule, Row, RowSteps, initial_row, run,
+    CfaRule, CieMachine, Factors, Instr, Instructions, RegRule, Row, RowSteps, RowWalk,
+    initial_row, run,
 };
 use dw_num::{Program, Target};
 use dw_section::{Header, headers};
@@ -110,45 +111,76 @@ fn each_row(rt: &impl Calls, entry: Entry<'_>, begin: u64, target: Target) -> Re
     each_next(rt, &mut steps)
 }
 
-fn next_lent(rt: &impl Calls, machine: &mut CieMachine<'_>) -> Result<(), Fail> {
-    match machine.advance() {
-        Ok(Some(at)) => print_row(rt, at, machine.row())?,
+fn next_lent(rt: &impl Calls, walk: &mut RowWalk<'_>) -> Result<(), Fail> {
+    match walk.advance() {
+        Ok(Some(at)) => print_row(rt, at, walk.row())?,
         Ok(None) => println!(rt; "end")?,
         Err(error) => {
-            retried(rt, machine.advance().is_err())?;
+            retried(rt, walk.advance().is_err())?;
             return Err(Fail::from(error));
         }
     }
     Ok(())
 }
 
-fn each_lent(rt: &impl Calls, machine: &mut CieMachine<'_>) -> Result<(), Fail> {
+fn each_lent(rt: &impl Calls, walk: &mut RowWalk<'_>) -> Result<(), Fail> {
     for _ in 0..9 {
-        next_lent(rt, machine)?;
+        next_lent(rt, walk)?;
     }
     Ok(())
 }
 
-// The FDE's program is begun twice, so that what it changed is taken back.
-fn begun_twice<'a>(
+// Goes to the rows of two programs, which `run` says that they give.
+fn gone_to<'a>(
+    rt: &impl Calls,
+    walk: &mut RowWalk<'a>,
+    entry: Entry<'a>,
+    begin: u64,
+    target: Target,
+) -> Result<(), Fail>
+    requires { begin < address_limit target.size }
+{
+    let (cie, factors) = (entry.cie, entry.factors);
+    let _rows = run(rt.alloc(), cie, entry.program, begin, factors, target)?;
+    walk.go_to(cie, entry.program, begin, factors, target);
+    Ok(())
+}
+
+// The FDE's rows are gone to twice, so that what its program changed is taken back, behind the CIE's row that is kept.
+fn lent_rows(rt: &impl Calls, entry: Entry<'_>, begin: u64, target: Target) -> Result<(), Fail>
+    requires { begin < address_limit target.size }
+{
+    let mut walk = RowWalk::new(rt.alloc(), target);
+    gone_to(rt, &mut walk, entry, begin, target)?;
+    walk.advance()?;
+    gone_to(rt, &mut walk, entry, begin, target)?;
+    let _is_kept = walk.keep_initial()?;
+    each_lent(rt, &mut walk)
+}
+
+// Whether one of the first 16 addresses of an FDE lacks a rule for the CFA.
+fn print_lacking<'a>(
     rt: &impl Calls,
     machine: &mut CieMachine<'a>,
     program: Program<'a>,
     begin: u64,
 ) -> Result<(), Fail>
     requires { begin < address_limit machine.old.target.size }
+    ensures { machine.new.target ≡ machine.old.target }
 {
     machine.begin(program, begin)?;
-    machine.advance()?;
-    machine.begin(program, begin)?;
-    each_lent(rt, machine)
+    let lacks = machine.lacks_rule(u128::from(begin).saturating_add(16))?;
+    println!(rt; "{lacks}")?;
+    Ok(())
 }
 
-fn rows_behind(rt: &impl Calls, entry: Entry<'_>, begin: u64, target: Target) -> Result<(), Fail>
+// The FDE's program is begun twice, so that what it changed is taken back.
+fn lacking(rt: &impl Calls, entry: Entry<'_>, begin: u64, target: Target) -> Result<(), Fail>
     requires { begin < address_limit target.size }
 {
     let mut machine = CieMachine::new(rt.alloc(), entry.cie, entry.factors, target)?;
-    begun_twice(rt, &mut machine, entry.program, begin)
+    print_lacking(rt, &mut machine, entry.program, begin)?;
+    print_lacking(rt, &mut machine, entry.program, begin)
 }
 
 fn print_initial(rt: &impl Calls, entry: Entry<'_>, target: Target) -> Result<(), Fail> {
@@ -170,7 +202,8 @@ fn on_fde(rt: &impl Calls, call: &str, entry: Entry<'_>, target: Target) -> Resu
     match call {
         "run" => return all_rows(rt, entry, begin, target),
         "row_steps" => return each_row(rt, entry, begin, target),
-        "cie_machine" => return rows_behind(rt, entry, begin, target),
+        "row_walk" => return lent_rows(rt, entry, begin, target),
+        "lacks_rule" => return lacking(rt, entry, begin, target),
         "copied" => {}
         _ => return print_initial(rt, entry, target),
     }

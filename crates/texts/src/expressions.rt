@@ -107,12 +107,13 @@ fn answers_at_size_4(rt: HostRuntime) -> Result<(), Fail> {
 }
 
 // An evaluation at size 8 and order little: the words, the dump, the status, and the text that is printed.
-const EVALUATIONS: [(&str, &str, u8, &str); 24] = [
+const EVALUATIONS: [(&str, &str, u8, &str); 25] = [
     ("3809ff1b", "", 0, "0xfffffffffffffff8\n"),
     ("38301b", "", 2, "fault: DivideByZero at 2\n"),
     ("0880084024", "", 0, "0x0\n"),
     ("31323317", "", 0, "0x2\n"),
     ("--steps 1000 2ffdff", "", 2, "fault: StepLimit at 0\n"),
+    ("--steps 1000000 302ffcff", "", 2, "fault: StepLimit at 0\n"),
     ("--steps 41 3a311c1228faff", "", 0, "0x0\n"),
     (
         "--steps 40 3a311c1228faff",

@@ -11,6 +11,11 @@ const EMPTY_VALUE: &[u8] =
     b"\x14\0\0\0\xff\xff\xff\xff\x04\0\x08\0\x01\x78\x10\x0c\x07\x08\x90\x01\0\0\0\0\
 \x1c\0\0\0\0\0\0\0\0\x10\0\0\0\0\0\0\x10\0\0\0\0\0\0\0\x16\x05\x01\x13\0\0\0\0";
 
+// r6 is held in r3, the values of r3 and r5 are told, and r16 is undefined.
+const RULES: &[u8] =
+    b"\x14\0\0\0\xff\xff\xff\xff\x04\0\x08\0\x01\x78\x10\x0c\x07\x08\x90\x01\0\0\0\0\
+\x24\0\0\0\0\0\0\0\0\x10\0\0\0\0\0\0\x10\0\0\0\0\0\0\0\x09\x06\x03\x14\x03\x01\x16\x05\x02\x23\x01\x07\x10\0\0\0";
+
 // The expression of the CFA jumps to itself.
 const ENDLESS: &[u8] =
     b"\x14\0\0\0\xff\xff\xff\xff\x04\0\x08\0\x01\x78\x10\x0c\x07\x08\x90\x01\0\0\0\0\
@@ -32,6 +37,18 @@ fn unwinds(rt: HostRuntime) -> Result<(), Fail> {
             PLAIN,
             DUMP,
             "cfa 0x7ffe10\nra r16\nr6 0x200\nr7 undefined\nr16 0x401288\n",
+        ),
+        (
+            "same",
+            RULES,
+            b"pc 0x1000\nr3 0x33\nr7 0x2000".as_slice(),
+            "cfa 0x2008\nra r16\nr3 0x2000\nr5 0x2009\nr6 0x33\nr7 0x2000\nr16 undefined\n",
+        ),
+        (
+            "same",
+            PLAIN,
+            b"pc 0x401000\nr7 0x7ffdf0\nmem 0x7ffdf0 8812400000000000".as_slice(),
+            "cfa 0x7ffdf8\nra r16\nr7 0x7ffdf0\nr16 0x401288\n",
         ),
     ];
     for (words, section, dump, wanted) in rows {
@@ -60,6 +77,21 @@ fn tells_why_there_is_no_frame(rt: HostRuntime) -> Result<(), Fail> {
             "pc 0x401000\nr7 0x0",
             2,
             "fault: Unreadable in r16\n",
+        ),
+        // the last byte of the memory is missing
+        (
+            "same in second",
+            PLAIN,
+            "pc 0x401004\nr6 0x7ffe00\nr7 0x7ffdf0\nmem 0x7ffe00 000200000000000088124000000000",
+            2,
+            "fault: Unreadable in r16\n",
+        ),
+        (
+            "same in second",
+            RULES,
+            "pc 0x1000\nr7 0x2000",
+            2,
+            "fault: NoRegister in r6\n",
         ),
         (
             "same in second",

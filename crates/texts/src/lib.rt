@@ -9,6 +9,12 @@ mod frames;
 #[cfg(test)]
 mod normal_forms;
 #[cfg(test)]
+mod notation;
+#[cfg(test)]
 mod runs;
 #[cfg(test)]
 mod sections;
+#[cfg(test)]
+mod worked_forms;
+#[cfg(test)]
+mod worked_sections;

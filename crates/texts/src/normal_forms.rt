@@ -1,6 +1,6 @@
 //! The worked cases of normal forms: `normal`, `same` and `cost`.
 
-use crate::runs::{PLAIN, answers, answers_in_bytes, status_over};
+use crate::runs::{LEFTOVERS, PLAIN, answers, answers_in_bytes, status_over};
 use std::test::Fail;
 
 // The plain section's normal form: the data factor is -1.
@@ -22,6 +22,10 @@ const INSTEAD: &[u8] =
 const ZERO: &[u8] =
     b"\x14\0\0\0\xff\xff\xff\xff\x04\0\x08\0\x01\x78\x10\x0c\x07\x08\x90\x01\0\0\0\0\
 \x1c\0\0\0\0\0\0\0\0\x10\0\0\0\0\0\0\x10\0\0\0\0\0\0\0\x86\x02\x40\x86\x03\0\0\0";
+
+// The last change is at the end.
+const END: &[u8] = b"\x14\0\0\0\xff\xff\xff\xff\x04\0\x08\0\x01\x78\x10\x0c\x07\x08\x90\x01\0\0\0\0\
+\x1c\0\0\0\0\0\0\0\0\x10\0\0\0\0\0\0\x10\0\0\0\0\0\0\0\x50\x0e\x10\0\0\0\0\0";
 
 // A CIE without initial rules, and an FDE without a rule of the CFA.
 const NO_RULE: &[u8] = b"\x0c\0\0\0\xff\xff\xff\xff\x04\0\x08\0\x01\x7f\x10\0\
@@ -97,6 +101,8 @@ fn tells_costs(rt: HostRuntime) -> Result<(), Fail> {
     let rows = [
         (b"".as_slice(), "bytes 0 0\nrowstarts 0 0\n"),
         (PLAIN, "bytes 64 64\nrowstarts 4 4\n"),
+        (LEFTOVERS, "bytes 116 64\nrowstarts 4 4\n"),
+        (END, "bytes 56 48\nrowstarts 2 1\n"),
         (ZERO, "bytes 56 48\nrowstarts 2 1\n"),
     ];
     for (bytes, wanted) in rows {

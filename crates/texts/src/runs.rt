@@ -1,6 +1,6 @@
 //! Runs of the command over a file and outputs in memory: entries, words, and outputs that fail.
 
-use dw_command::{Hinted, Listing, Load, LoadError, OutputFault, engine};
+use dw_command::{Hinted, Load, LoadError, engine};
 use std::alloc::{AllocError, Global};
 use std::io::{self, ErrorKind, Write};
 use std::test::Fail;
@@ -97,8 +97,7 @@ fn status_of<W: Write, E: Write>(
         second,
         alloc,
     };
-    let mut out = Listing::new(out);
-    Ok(engine(alloc, words.as_slice(), &mut files, &mut out, err))
+    Ok(engine(alloc, words.as_slice(), &mut files, out, err))
 }
 
 // What a run over one file answers: its status, and whether it printed these texts.
@@ -538,7 +537,5 @@ fn says_what_failed(rt: HostRuntime) -> Result<(), Fail> {
     assert_eq!(rt; input.as_str(), "the file cannot be read");
     let memory = format!(in alloc; "{}", LoadError::OutOfMemory)?;
     assert_eq!(rt; memory.as_str(), "out of memory");
-    let output = format!(in alloc; "{OutputFault}")?;
-    assert_eq!(rt; output.as_str(), "the output failed");
     Ok(())
 }

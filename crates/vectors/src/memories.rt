@@ -2,7 +2,7 @@
 
 ghost use Rattle.std.specs.Prelude.{◌≡◌, ℕ, ◌≤◌, Some, None};
 ghost use Rattle.dw_num.specs.declared.target.Order.{Order as TheOrder};
-ghost use Rattle.dw_eval.specs.Bytes.{number_at};
+ghost use Rattle.dw_eval.specs.Bytes.{number_in_memory};
 
 use dw_eval::{Memory, ReadFault};
 use dw_num::Order;
@@ -20,11 +20,11 @@ pub(crate) struct Cells {
 }
 
 // So many bytes 0x2a as a number.
-#[tactic(auto, unfolding(dw_eval::specs::Bytes::number_at))]
+#[tactic(auto, unfolding(dw_eval::specs::Bytes::number_in_memory))]
 fn repeated(len: usize) -> u64
     requires some { 1 ≤ len }
     requires most { len ≤ 8 }
-    ensures { (order : TheOrder) (address : ℕ) → number_at (λ a. Some 42) order address len ≡ Some result }
+    ensures { (order : TheOrder) (address : ℕ) → number_in_memory (λ a. Some 42) order address len ≡ Some result }
 {
     match len {
         1 => 0x2a,
@@ -43,7 +43,7 @@ impl Memory for Nothing {
 
     ghost failures = { λ m. 0 };
 
-    #[tactic(auto, unfolding(dw_eval::specs::Bytes::number_at))]
+    #[tactic(auto, unfolding(dw_eval::specs::Bytes::number_in_memory))]
     fn read(&mut self, address: u64, len: usize, order: Order) -> Result<u64, ReadFault> {
         Err(ReadFault::Unreadable)
     }

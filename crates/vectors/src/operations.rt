@@ -17,6 +17,11 @@ const FOUR: Target = Target {
     order: Order::Little,
 };
 
+const FOUR_BIG: Target = Target {
+    size: Size::Four,
+    order: Order::Big,
+};
+
 // Blocks of location descriptions, and their operations or the refusal.
 const BLOCKS: &str = "\
 : []
@@ -90,12 +95,13 @@ const LONG: &[u8] = b"\x2f\x12\x00\x0e\x05\0\0\0\0\0\0\0\x0e\x06\0\0\0\0\0\0\0\x
 const SHORT: &[u8] = b"\x2f\x02\x00\x35\x36\x37";
 
 // Two blocks with their sizes, and whether they are equal expressions.
-const PAIRS: [(&[u8], Target, &[u8], Target, bool); 6] = [
+const PAIRS: [(&[u8], Target, &[u8], Target, bool); 7] = [
     (LONG, EIGHT, SHORT, EIGHT, true),
     (b"\x12", EIGHT, b"\x15\x00", EIGHT, false),
     (b"\x0c\xff\xff\xff\xff", FOUR, b"\x09\xff", FOUR, true),
     (b"\x0c\xff\xff\xff\xff", EIGHT, b"\x09\xff", EIGHT, false),
     (SHORT, FOUR, SHORT, EIGHT, false),
+    (b"\x12", FOUR, b"\x12", FOUR_BIG, false),
     (SHORT, EIGHT, b"\x2f\x02\x00\x35\x36", EIGHT, false),
 ];
 
@@ -105,11 +111,15 @@ fn hash_of(expression: &ExprRef<'_>) -> u64 {
     state.finish()
 }
 
-// Whether two blocks are equal expressions, and hash alike if they are.
+// Whether two blocks are equal expressions. Fails where equal ones do not hash alike.
 fn are_equal(a: &[u8], of_a: Target, b: &[u8], of_b: Target) -> Result<bool, Fail> {
     let a = ExprRef::accept(a, of_a)?;
     let b = ExprRef::accept(b, of_b)?;
-    Ok(a == b && hash_of(&a) == hash_of(&b))
+    let equal = a == b;
+    if equal && hash_of(&a) != hash_of(&b) {
+        return Err(Fail::new("equal expressions hash otherwise"));
+    }
+    Ok(equal)
 }
 
 #[test]

@@ -1,7 +1,7 @@
 -- The normal form of a section is no longer than the shares of its FDEs.
 use Rattle.dw_canon.proofs.Words.{◌≡◌, ℕ, ◌+◌, ◌*◌, ◌<◌, ◌≤◌, List, [], ◌∷◌, length, map, refl, ap, subst, inl, inr, arith, ◌∙◌, nat_eq, AllByRecursion, eqb_tells, length-append, Size, Four, Eight, Target, AreBytes, byte_count}
 use Rattle.dw_canon.proofs.Words.{length-fixed, Accepted, group_of, groups_of, part_of, parts_of, canon, cie_instrs, initial_of, return_registers, MemberStands, group, cie_of, Member, IsMember, AreMembers, fde_of, changes_of, program_bytes}
-use Rattle.dw_canon.proofs.Words.{cie_id, cie_spelling, entry_bytes, section_bytes, cie_fields}
+use Rattle.dw_canon.proofs.Words.{cie_id, cie_spelling, entry_bytes, section_bytes, cie_field_bytes}
 use Rattle.dw_canon.specs.Bound.{share, Shares, WithinShares}
 use Rattle.dw_canon.specs.Inner.Laid as layout
 use Rattle.dw_canon.proofs.Lent.Differences.{In}
@@ -41,7 +41,7 @@ cie_most : (t : Target) (g : layout.Group) → g.register < 65536 → length (en
 cie_most t g lt = omega (
   arith,
   entry_up t (cie_of g),
-  up_most t.size (4 + (length (cie_fields t g.register) + length g.program)),
+  up_most t.size (4 + (length (cie_field_bytes t g.register) + length g.program)),
   length-append (cie_id t) (cie_spelling t g.register),
   length-fixed t.order 4 0xffffffff,
   register_len g.register lt,

@@ -8,7 +8,13 @@ use Rattle.dw_canon.specs.Inner.Laid as layout
 use Rattle.dw_canon.proofs.Lent.Extra.{starts_of, written_starts}
 use Rattle.dw_canon.proofs.Lays.{laid_section}
 use Rattle.dw_canon.proofs.Lent.Readback.{rendered_laid}
-use Rattle.dw_canon.specs.Laws.{NormalFormExists, NormalFormIsOne, MeaningIsKept, NormalAgain, SameNormalForm, FewestRows, ExactRows, NormalRows}
+use Rattle.dw_canon.specs.Laws.{NormalFormExists, NormalFormIsOne, MeaningIsKept, NormalAgain, SameNormalForm, FewestRows, ExactRows, NormalRows, NoneFewer}
+use Rattle.dw_section.specs.Inner.Agree.{Agree}
+use Rattle.dw_section.specs.Changes.{HoldsAt}
+use Rattle.dw_section.proofs.Lent.Rowed.{agree_row}
+use Rattle.dw_section.proofs.Lent.Agrees.{changes_agree}
+use Rattle.dw_section.proofs.Lent.Sections.{one_rules, programs_rules, row_exists}
+use Rattle.std.proofs.Common.{arith}
 use Rattle.dw_canon.proofs.ExactRows.{all_exact, laid_exact}
 use Rattle.dw_canon.proofs.Kept.{reads_back}
 use Rattle.dw_canon.proofs.Lent.Forms.{is_normal, whole_is}
@@ -112,7 +118,7 @@ back t s n b h small =
     subst (ReadsBack t s) (sym whole) (reads_back t s b h.accepted h.members h.are (subst (λ (l : List ℕ). length l ≤ 2147483647) whole small))
 
 pub meaning_is_kept : MeaningIsKept
-meaning_is_kept t s n b h small = let r = back t s n b h small in (r.accepted, r.meaning)
+meaning_is_kept t s n b h small = let r = back t s n b h small in (r.bytes, r.accepted, r.meaning)
 
 -- the normal form of a section is that of another with the same members
 moved : (t : Target) (s u n : List ℕ) (h : IsNormalForm t s n) → Accepted t u → AreMembers t u h.members → IsNormalForm t u n
@@ -158,8 +164,8 @@ same_members t s u ms bs bu ok okay h same =
 pub same_normal_form : SameNormalForm
 same_normal_form t s u n m bs bu h k small little = (
   λ e.
-      let one = (meaning_is_kept t s n bs h small).1 in
-      let two = (meaning_is_kept t u m bu k little).1 in
+      let one = (meaning_is_kept t s n bs h small).2 in
+      let two = (meaning_is_kept t u m bu k little).2 in
       same_then t s n u one (subst (λ (l : List ℕ). SameMeaning t l u) (sym e) (same_back t u m two)),
   λ same.
       let are = same_members t s u h.members bs bu h.accepted k.accepted h.are same in
@@ -232,3 +238,16 @@ exact_rows t s n f changes b h small some c =
     let law : length (section_bytes t (laid t gs ps)) ≤ 2147483647 → (d : ChangesOf t (section_bytes t (laid t gs ps)) f changes) → row_starts d.instrs ≡ length changes =
     λ little d. laid_exact t s gs ps b ok (renders t s b ok ms h.are) little exact f changes some d in
     subst (λ (l : List ℕ). length l ≤ 2147483647 → (d : ChangesOf t l f changes) → row_starts d.instrs ≡ length changes) (sym same) law small c
+
+pub none_fewer : NoneFewer
+none_fewer t s n u f changes k l bs bu h small ok some same c says =
+    let r = back t s n bs h small in
+    let agree : Agree f.begin f.end c.initial c.instrs k l = λ a le lt.
+    let row = row_exists t n r.bytes r.accepted f.begin f.end a c.initial c.instrs c.says le in
+    let there = same a row.0 (le, lt) (programs_rules t n a row.0 f.begin f.end c.initial c.instrs c.says le lt row.1) in
+    let mine = row_exists t u bu ok f.begin f.end a k l says le in
+    let one = one_rules t u bu ok a mine.0 row.0 (programs_rules t u a mine.0 f.begin f.end k l says le lt mine.1) there in
+    agree_row f.begin a c.initial c.instrs k l row.0 row.1 (subst (HoldsAt k l f.begin a) one mine.1) in
+    let moved = changes_agree f.begin f.end c.initial c.instrs k l agree changes some c.change in
+    let least = least_starts t u bu ok f.begin f.end k l changes some says moved in
+    omega (arith, exact_rows t s n f changes bs h small some c, least)

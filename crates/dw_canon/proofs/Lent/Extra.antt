@@ -1,7 +1,7 @@
 -- Places of what is written, and how many rows its programs start.
 use Rattle.dw_canon.proofs.Words.{◌≡◌, ℕ, ◌+◌, ◌*◌, ◌%◌, List, [], ◌∷◌, ◌++◌, length, refl, sym, ap, ◌∙◌, append_assoc, arith, inl, inr, replicate, AllByRecursion, AllZip, length-append, length-replicate, Dwarf32, Size, Four, Eight, Target}
-use Rattle.dw_canon.proofs.Words.{byte_count, fixed_bytes, length-fixed, Instr, row_starts, Head, head_at, Says, Starts, RowStarts, total, IsAmong, Written, cie, fde, fields_of, program_of, nops_of, filled, contents, entry_bytes}
-use Rattle.dw_canon.proofs.Words.{section_bytes, missing, fde_fields, span_of, head_of, heads_at, ranges_at, Fits, Runs, IsSection, nops, row_starts_nops}
+use Rattle.dw_canon.proofs.Words.{byte_count, fixed_bytes, length-fixed, Instr, row_starts, Head, head_at, FdeSays, Starts, RowStarts, total, IsAmong, Written, cie, fde, fields_of, program_of, nops_of, filled, contents, entry_bytes}
+use Rattle.dw_canon.proofs.Words.{section_bytes, missing, fde_field_bytes, span_of, head_of, heads_at, ranges_at, Fits, Runs, IsSection, nops, row_starts_nops}
 use Rattle.dw_canon.proofs.Accepts.{begun, instrs_so, written_index}
 use Rattle.dw_canon.proofs.Lent.Fields.{entry_length, written_headers}
 
@@ -57,7 +57,7 @@ module _ (target : Target) (ws : List Written) (is : IsSection target ws) where
       let w = fde c b n instrs program in
       let stands = f.0.4 in
       let begins = begun target ws is.fits is.runs c stands.0 stands.1 stands.2 in
-      let says : Says target (section_bytes target ws) b (b + n) (stands.1 ++ nops begins.n) (instrs ++ nops (nops_of target w)) = record {
+      let says : FdeSays target (section_bytes target ws) b (b + n) (stands.1 ++ nops begins.n) (instrs ++ nops (nops_of target w)) = record {
         headers = heads_at target 0 ws;
         are = written_headers target ws is.small is.fits;
         head = record { at = at; form = Dwarf32; cie_at = c; begin = b; range = n; program = span_of target at w };
@@ -101,7 +101,7 @@ fde_length target c b n instrs program =
     let first = fixed_bytes target.order 4 c in
     let second = fixed_bytes target.order (byte_count target.size) b in
     let third = fixed_bytes target.order (byte_count target.size) n in
-    let fields : 4 + (length (fde_fields target c b n) + length program) ≡ 8 + 2 * byte_count target.size + length program =
+    let fields : 4 + (length (fde_field_bytes target c b n) + length program) ≡ 8 + 2 * byte_count target.size + length program =
     omega (
       arith,
       length-append first (second ++ third),

@@ -2,7 +2,7 @@
 use Rattle.dw_canon.proofs.Words.{◌≡◌, ℕ, ◌+◌, ◌/◌, ◌%◌, ◌<◌, ◌≤◌, ◌⊎◌, ◌^◌, true, false, Bool, List, [], ◌∷◌, ◌++◌, length, map, refl, sym, ap, subst, ◌∙◌, append_assoc, arith, inl, inr, negsuc, ◌==◌, if◌then◌else◌, None, AllByRecursion}
 use Rattle.dw_canon.proofs.Words.{AllZip, list_all, cons_option, cases_Bool, and_parts, eqb-true, le-leb, lt-ltb, eqb_tells, length-append, append-nil, Order, Little, Big, Size, Four, Eight, Dwarf32, Target, fixed_bytes, Fixed}
 use Rattle.dw_canon.proofs.Words.{shortest_uleb, address_limit, byte_count, length-fixed, shortest_uleb-spells, Instr, IsItem, is_cie, Piece, pieces, Cut, Has, Headers, cie_places, place_if, Written, cie, fde, cie_id, cie_spelling}
-use Rattle.dw_canon.proofs.Words.{fields_of, program_of, nops_of, filled, contents, item_of, entry_bytes, section_bytes, fde_fields, cie_fields, span_of, head_of, heads_at, cies_at, StandsAt, Fits}
+use Rattle.dw_canon.proofs.Words.{fields_of, program_of, nops_of, filled, contents, item_of, entry_bytes, section_bytes, fde_field_bytes, cie_field_bytes, span_of, head_of, heads_at, cies_at, StandsAt, Fits}
 use Rattle.dw_section.specs.declared.entry.Kind.{Kind}
 use Rattle.dw_section.specs.declared.entry.Kind.TheVariants as kind
 use Rattle.dw_section.specs.Fields as table
@@ -117,7 +117,7 @@ count_same Four = refl
 count_same Eight = refl
 
 -- what is written of a CIE spells the fields of one
-cie_spelled : (target : Target) (register : ℕ) → register < 65536 → FieldsSpell target (table.cie_fields target.size Dwarf32) (least_cie register) (cie_fields target register)
+cie_spelled : (target : Target) (register : ℕ) → register < 65536 → FieldsSpell target (table.cie_fields target.size Dwarf32) (least_cie register) (cie_field_bytes target register)
 cie_spelled target register lt =
     let last = shortest_uleb register in
     let factors = (1 ∷ []) ++ ((127 ∷ []) ++ last) in
@@ -182,7 +182,7 @@ cie_spelled target register lt =
 
 -- and what is written of an FDE, those of one
 fde_spelled : (target : Target) (places : List ℕ) (cie_at begin range : ℕ) → cie_at < 256 ^ 4 → is_among cie_at places ≡ true → begin < address_limit target.size → range < address_limit target.size → begin + range ≤ address_limit target.size
-    → FieldsSpell target (table.fde_fields target.size places Dwarf32) (record { cie_at = cie_at; begin = begin; range = range }) (fde_fields target cie_at begin range)
+    → FieldsSpell target (table.fde_fields target.size places Dwarf32) (record { cie_at = cie_at; begin = begin; range = range }) (fde_field_bytes target cie_at begin range)
 fde_spelled target places cie_at begin range low among begin_low range_low inside =
     let first = fixed_bytes target.order (byte_count target.size) begin in
     let last = fixed_bytes target.order (byte_count target.size) range in (
@@ -224,7 +224,7 @@ module _ (target : Target) (all : List Written) (small : length (section_bytes t
       inl (
         least_cie register,
         span_of target at w,
-        (cie_kind target register instrs program, record { spelling = cie_fields target register; spells = cie_spelled target register fits; whole = refl; place = place_behind target at (length (fields_of target w)) w }),
+        (cie_kind target register instrs program, record { spelling = cie_field_bytes target register; spells = cie_spelled target register fits; whole = refl; place = place_behind target at (length (fields_of target w)) w }),
         refl,
       )
   has_written at (fde cie_at begin range instrs program) fits =
@@ -237,7 +237,7 @@ module _ (target : Target) (all : List Written) (small : length (section_bytes t
         (
           fde_kind target cie_at begin range instrs program low,
           record {
-            spelling = fde_fields target cie_at begin range;
+            spelling = fde_field_bytes target cie_at begin range;
             spells = fde_spelled target (cies_at target 0 all) cie_at begin range (omega arith) (stands_among target 0 all cie_at stands.0 stands.1 stands.2) fits.2 fits.1 fits.3;
             whole = refl;
             place = place_behind target at (length (fields_of target w)) w;

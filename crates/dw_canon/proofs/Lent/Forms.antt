@@ -1,8 +1,8 @@
--- Whatever tells equal rules, gives each list of operations its least block and each return register the row that its FDEs share
--- gives the normal form the same bytes.
+-- The normal form has the same bytes by any tests that tell equal rules, by any function that gives each list of operations its
+-- least block, and by any that gives each return address register the row that its FDEs share.
 use Rattle.dw_canon.proofs.Words.{◌≡◌, ℕ, ◌+◌, ◌-◌, Bool, List, [], ◌∷◌, ◌++◌, length, map, refl, sym, ap, ◌∙◌, ◌↔◌, ◌==◌, IsTrue, nat_eq, if◌then◌else◌, AllByRecursion, flat_map, AreBytes, Target, Op, LeastBlock, least_block, Instr}
 use Rattle.dw_canon.proofs.Words.{CfaRule, RegRule, same_cfa, same_rule, cfa_tells, rule_tells, Rules, Accepted, return_registers, group, IsShared, initial_of, cie_instrs, fde_instrs, cie_bytes, cie_at, fde_bytes, canon, InstrFits}
-use Rattle.dw_canon.proofs.Words.{MemberStands, Member, AreMembers, IsNormalForm, written, cie_fields, fde_fields}
+use Rattle.dw_canon.proofs.Words.{MemberStands, Member, AreMembers, IsNormalForm, written, cie_field_bytes, fde_field_bytes}
 use Rattle.dw_op.proofs.Lent.LeastOne.{least_block_only}
 use Rattle.dw_canon.specs.Canon.{canon as canon_with}
 use Rattle.dw_canon.specs.Canon as form
@@ -19,7 +19,7 @@ module _ (t : Target) (ms : List Member) (all : AllByRecursion (MemberFits t) ms
     (test_cfa : CfaRule → CfaRule → Bool) (tells_cfa : (a b : CfaRule) → IsTrue (test_cfa a b) ↔ (a ≡ b))
     (test_rule : RegRule → RegRule → Bool) (tells_rule : (a b : RegRule) → IsTrue (test_rule a b) ↔ (a ≡ b))
     (block : List Op → List ℕ) (least : (ops : List Op) (bytes : List ℕ) → LeastBlock t ops bytes → block ops ≡ bytes) (initial : ℕ → Rules) where
-  -- a return register's FDEs have their initial row
+  -- a return address register's FDEs have their initial row
   abbrev HasOwn : ℕ → Type 0
   HasOwn r = initial r ≡ initial_of ms r
 
@@ -30,8 +30,8 @@ module _ (t : Target) (ms : List Member) (all : AllByRecursion (MemberFits t) ms
   same_cie_bytes : (r : ℕ) → HasOwn r → form.cie_bytes test_cfa test_rule block initial t r ≡ cie_bytes t ms r
   same_cie_bytes r own =
       let fits = group_fits t ms r all in
-      ap (λ (row : Rules). written t (cie_fields t r) (program_bytes block t (form.cie_instrs test_cfa test_rule row))) own
-      ∙ ap (written t (cie_fields t r))
+      ap (λ (row : Rules). written t (cie_field_bytes t r) (program_bytes block t (form.cie_instrs test_cfa test_rule row))) own
+      ∙ ap (written t (cie_field_bytes t r))
       (same_spelled (form.cie_instrs test_cfa test_rule (initial_of ms r)) (cie_instrs (initial_of ms r)) (same_cie test_cfa tells_cfa test_rule tells_rule (initial_of ms r)) (cie_fits t (initial_of ms r) fits))
 
   same_cies : (rs : List ℕ) → AllByRecursion HasOwn rs → flat_map (form.cie_bytes test_cfa test_rule block initial t) rs ≡ flat_map (cie_bytes t ms) rs
@@ -49,9 +49,9 @@ module _ (t : Target) (ms : List Member) (all : AllByRecursion (MemberFits t) ms
     same_fde_bytes : (m : Member) → HasOwn m.register → MemberStands t (initial_of ms m.register) m → form.fde_bytes test_cfa test_rule block initial t ms m ≡ fde_bytes t ms m
     same_fde_bytes m own stands =
         let row = initial_of ms m.register in
-        ap (λ (x : Rules). written t (fde_fields t (form.cie_at test_cfa test_rule block initial t 0 (return_registers ms) m.register) m.begin (m.end - m.begin)) (program_bytes block t (form.fde_instrs test_cfa test_rule x m))) own
-        ∙ ap (λ (at : ℕ). written t (fde_fields t at m.begin (m.end - m.begin)) (program_bytes block t (form.fde_instrs test_cfa test_rule row m))) (same_at 0 (return_registers ms) m.register owns)
-        ∙ ap (written t (fde_fields t (cie_at t ms 0 (return_registers ms) m.register) m.begin (m.end - m.begin)))
+        ap (λ (x : Rules). written t (fde_field_bytes t (form.cie_at test_cfa test_rule block initial t 0 (return_registers ms) m.register) m.begin (m.end - m.begin)) (program_bytes block t (form.fde_instrs test_cfa test_rule x m))) own
+        ∙ ap (λ (at : ℕ). written t (fde_field_bytes t at m.begin (m.end - m.begin)) (program_bytes block t (form.fde_instrs test_cfa test_rule row m))) (same_at 0 (return_registers ms) m.register owns)
+        ∙ ap (written t (fde_field_bytes t (cie_at t ms 0 (return_registers ms) m.register) m.begin (m.end - m.begin)))
         (same_spelled (form.fde_instrs test_cfa test_rule row m) (fde_instrs row m) (same_fde test_cfa tells_cfa test_rule tells_rule row m) (member_fits t row m (group_fits t ms m.register all) stands))
 
     same_fdes : (xs : List Member) → AllByRecursion (λ (m : Member). HasOwn m.register) xs

@@ -1,6 +1,6 @@
 -- The normal form is its CIEs and FDEs, laid out with their instructions.
 use Rattle.dw_canon.proofs.Words.{◌≡◌, ℕ, ◌+◌, ◌-◌, List, [], ◌∷◌, ◌++◌, length, map, refl, sym, ap, ◌∙◌, ◌==◌, if◌then◌else◌, flat_map, Target, return_registers, initial_of, cie_bytes, cie_at, fde_instrs, fde_bytes, canon, Member}
-use Rattle.dw_canon.proofs.Words.{program_bytes, written, fde_fields, cie_of, place_of, laid, group_of, groups_of, part_of, parts_of, entry_bytes, section_bytes}
+use Rattle.dw_canon.proofs.Words.{program_bytes, written, fde_field_bytes, cie_of, place_of, laid, group_of, groups_of, part_of, parts_of, entry_bytes, section_bytes}
 use Rattle.dw_canon.specs.Canon.{canon as canon_with}
 use Rattle.dw_canon.specs.Inner.Laid as layout
 use Rattle.dw_canon.proofs.Lent.Extra.{section_append}
@@ -16,7 +16,7 @@ module _ (t : Target) (ms : List Member) where
 
   fde_laid : (m : Member) → fde_bytes t ms m ≡ entry_bytes t (layout.fde_of t (groups_of t ms) (part_of t ms m))
   fde_laid m =
-      ap (λ (at : ℕ). written t (fde_fields t at m.begin (m.end - m.begin)) (program_bytes t (fde_instrs (initial_of ms m.register) m))) (at_place 0 (return_registers ms) m.register)
+      ap (λ (at : ℕ). written t (fde_field_bytes t at m.begin (m.end - m.begin)) (program_bytes t (fde_instrs (initial_of ms m.register) m))) (at_place 0 (return_registers ms) m.register)
 
   fdes_laid : (xs : List Member) → flat_map (fde_bytes t ms) xs ≡ section_bytes t (map (layout.fde_of t (groups_of t ms)) (map (part_of t ms) xs))
   fdes_laid [] = refl

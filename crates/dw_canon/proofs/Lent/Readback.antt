@@ -1,6 +1,6 @@
 -- What is written of an accepted section means the same when it is read back.
 use Rattle.dw_canon.proofs.Words.{◌≡◌, ℕ, ◌+◌, ◌<◌, ◌≤◌, ◌^◌, List, [], ◌∷◌, ◌++◌, length, map, refl, sym, ap, subst, arith, inl, inr, AllByRecursion, AllZip, Size, Four, Eight, Target, AreBytes, address_limit, byte_count, Instr, Fde}
-use Rattle.dw_canon.proofs.Words.{Accepted, Piece, Head, Has, Says, Lists, AreFdes, Range, AreApart, end_of, cie_places, all_in, one_fdes, AgreeAt, Agree, Group, Part, laid, fde_in, IsPart, PartsApart, IsLaid, IsPartOf, IsAmong, IsRendered}
+use Rattle.dw_canon.proofs.Words.{Accepted, Piece, Head, Has, FdeSays, Lists, AreFdes, Range, AreApart, end_of, cie_places, all_in, one_fdes, AgreeAt, Agree, Group, Part, laid, fde_in, IsPart, PartsApart, IsLaid, IsPartOf, IsAmong, IsRendered}
 use Rattle.dw_canon.proofs.Words.{Renders, ReadsBack, Readback, section_bytes, agree_nops, agree_then, cfa_agree, nops, agree_changes, AllAgree, all_agree_sym, same_meaning, changes_there, fdes_zip, one_programs, cfa_programs, begin_low}
 use Rattle.dw_canon.proofs.Words.{listed_programs, changes_programs}
 use Rattle.dw_section.specs.Headers as head
@@ -29,7 +29,7 @@ all_range target places [] [] z = tt
 all_range target places (p ∷ ps) (h ∷ hs) z = (has_range target places p h z.0, all_range target places ps hs z.1)
 all_range target places ps hs z = absurd z
 
-pub range_low : (target : Target) (s : List ℕ) (begin end : ℕ) (i j : List Instr) → Says target s begin end i j → end < begin + address_limit target.size
+pub range_low : (target : Target) (s : List ℕ) (begin end : ℕ) (i j : List Instr) → FdeSays target s begin end i j → end < begin + address_limit target.size
 range_low target s begin end i j h =
     let fits : h.head.range < address_limit target.size = all_in (RangeFits target) h.headers (head.fde h.head) (all_range target (cie_places h.are.entries) h.are.entries h.headers h.are.each) h.among in
     omega (arith, h.begin_is, h.end_is)
@@ -118,7 +118,7 @@ module _ (target : Target) (s : List ℕ) (gs : List Group) (ps : List Part) (b 
     pub record PartThere (p : Part) (initial : List Instr) : Type 0 where
       pub m : ℕ
       pub k : ℕ
-      pub there : Says target n p.begin (p.begin + p.range) (initial ++ nops m) (p.instrs ++ nops k)
+      pub there : FdeSays target n p.begin (p.begin + p.range) (initial ++ nops m) (p.instrs ++ nops k)
 
     pub part_there : (p : Part) (h : IsRendered target s gs p) → IsPartOf p ps → PartThere p h.initial
     part_there p h i =
@@ -132,7 +132,7 @@ module _ (target : Target) (s : List ℕ) (gs : List Group) (ps : List Part) (b 
           there = padded_says target ws is p.begin p.range h.initial p.instrs x;
         }
 
-    part_agree : (p : Part) → IsRendered target s gs p → IsPartOf p ps → (i j k l : List Instr) → Says target s p.begin (p.begin + p.range) i j → Says target n p.begin (p.begin + p.range) k l
+    part_agree : (p : Part) → IsRendered target s gs p → IsPartOf p ps → (i j k l : List Instr) → FdeSays target s p.begin (p.begin + p.range) i j → FdeSays target n p.begin (p.begin + p.range) k l
         → Agree p.begin (p.begin + p.range) i j k l
     part_agree p h member i j k l v w a le lt =
         let own = changes_programs target s b ok (fde_in p) h.changes h.source in
@@ -153,10 +153,11 @@ module _ (target : Target) (s : List ℕ) (gs : List Group) (ps : List Part) (b 
         let p = q.0 in
         let h = part_in (IsRendered target s gs) ps p r.parts q.1 in
         subst (λ (g : Fde). Agree g.begin g.end i j k l) (sym q.2)
-        (part_agree p h q.1 i j k l (subst (λ (g : Fde). Says target s g.begin g.end i j) q.2 v) (subst (λ (g : Fde). Says target n g.begin g.end k l) q.2 w))
+        (part_agree p h q.1 i j k l (subst (λ (g : Fde). FdeSays target s g.begin g.end i j) q.2 v) (subst (λ (g : Fde). FdeSays target n g.begin g.end k l) q.2 w))
 
     pub reads_back : ReadsBack target s n
     reads_back = record {
+      bytes = bn;
       accepted = okn;
       meaning = same_meaning target s n b bn ok okn (map fde_in ps) r.fdes in_n all_agree;
       changes = λ fs f changes are listed.

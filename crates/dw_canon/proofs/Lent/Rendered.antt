@@ -11,7 +11,7 @@ use Rattle.dw_canon.proofs.AscendingRegisters.{Rise, with_all_rise}
 use Rattle.dw_canon.proofs.Lent.Shared.{MemberFits, RestsOnAll}
 use Rattle.dw_canon.proofs.Lent.MemberPlaces.{member_fits, member_stands, group_fits, all_rest, all_both, IsSound, all_to}
 
--- ---- the return registers ascend
+-- ---- the return address registers ascend
 
 groups_rise : (t : Target) (ms : List Member) (low : ℕ) (rs : List ℕ) → Rise low rs → GroupsRise low (map (group_of t ms) rs)
 groups_rise t ms low [] h = tt

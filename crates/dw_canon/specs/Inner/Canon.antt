@@ -10,7 +10,7 @@ use Rattle.dw_canon.specs.Group.{group}
 use Rattle.dw_canon.specs.Inner.Group.{initial_row}
 use Rattle.dw_canon.specs.Members.{Member}
 
--- the initial row of a return register's FDEs
+-- the initial row of a return address register's FDEs
 abbrev pub initial_of : List Member → ℕ → Rules
 initial_of ms register = initial_row (group register ms)
 

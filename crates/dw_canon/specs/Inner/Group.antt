@@ -1,4 +1,4 @@
--- What the FDEs of one return register share, in one pass over all their rows.
+-- What the FDEs of one return address register share, in one pass over all their rows.
 use Rattle.std.specs.Prelude.{List, [], ◌∷◌}
 use Rattle.dw_cfa.specs.Inner.Agreement.{agreed}
 use Rattle.dw_cfa.specs.Rows.{Rules, blank}

@@ -1,12 +1,13 @@
--- How a normal form is laid out: first a CIE for each return register, ascending, then the FDEs by begin; and what is asked of them.
+-- How a normal form is laid out: first a CIE for each return address register, ascending, then the FDEs by begin; and what is asked
+-- of them.
 use Rattle.std.specs.Prelude.{◌≡◌, ◌⊎◌, ◌==◌, ℕ, suc, ◌+◌, ◌-◌, ◌<◌, ◌≤◌, List, [], ◌∷◌, ◌++◌, length, map, if◌then◌else◌}
 use Rattle.std.specs.List.{AllByRecursion}
 use Rattle.dw_num.specs.declared.target.Target.{Target}
 use Rattle.dw_num.specs.Target.{address_limit}
 use Rattle.dw_cfa.specs.declared.instr.Instr.{Instr}
-use Rattle.dw_cfa.specs.InstrSpells.{Program}
+use Rattle.dw_cfa.specs.InstrSpells.{ProgramSpells}
 use Rattle.dw_cfa.specs.Kept.{CieKept, FdeKept}
-use Rattle.dw_cfa.specs.Laws.{initial_cfa}
+use Rattle.dw_cfa.specs.InitialRules.{initial_cfa}
 use Rattle.dw_section.specs.declared.lookup.Fde.{Fde}
 use Rattle.dw_section.specs.Programs.{HasCfa}
 use Rattle.dw_canon.specs.Canon.{return_registers}
@@ -15,13 +16,13 @@ use Rattle.dw_canon.specs.Inner.Written.{Written, cie, fde, factors, entry_bytes
 use Rattle.dw_canon.specs.Members.{Member}
 use Rattle.dw_canon.specs.Inner.Spelling.{program_bytes}
 
--- the CIE of a return register: its instructions, and the bytes that spell them
+-- the CIE of a return address register: its instructions, and the bytes that spell them
 pub record Group : Type 0 where
   pub register : ℕ
   pub instrs : List Instr
   pub program : List ℕ
 
--- an FDE: the return register of its CIE, its range, its instructions, and the bytes that spell them
+-- an FDE: the return address register of its CIE, its range, its instructions, and the bytes that spell them
 pub record Part : Type 0 where
   pub register : ℕ
   pub begin : ℕ
@@ -32,7 +33,7 @@ pub record Part : Type 0 where
 abbrev pub cie_of : Group → Written
 cie_of g = cie g.register g.instrs g.program
 
--- where the CIE of a return register stands
+-- where the CIE of a return address register stands
 abbrev pub place_of : Target → ℕ → List Group → ℕ → ℕ
 place_of target at [] register = at
 place_of target at (g ∷ gs) register = if g.register == register then at else place_of target (at + length (entry_bytes target (cie_of g))) gs register
@@ -68,7 +69,7 @@ parts_of t ms = map (part_of t ms) ms
 abbrev pub fde_in : Part → Fde
 fde_in p = record { begin = p.begin; end = p.begin + p.range; return_register = p.register }
 
--- the CIE of a return register has these instructions
+-- the CIE of a return address register has these instructions
 abbrev pub HasGroup : List Group → ℕ → List Instr → Type 0
 HasGroup [] register initial = ⊥
 HasGroup (g ∷ gs) register initial = ((register ≡ g.register) × (initial ≡ g.instrs)) ⊎ HasGroup gs register initial
@@ -79,14 +80,14 @@ GroupsRise low [] = Unit {0}
 GroupsRise low (g ∷ gs) = (low ≤ g.register) × GroupsRise (suc g.register) gs
 
 abbrev pub IsGroup : Target → Group → Type 0
-IsGroup target g = (g.register < 65536) × Program target factors g.instrs g.program × CieKept g.instrs
+IsGroup target g = (g.register < 65536) × ProgramSpells target factors g.instrs g.program × CieKept g.instrs
 
 pub record IsPart (target : Target) (gs : List Group) (p : Part) : Type 0 where
   pub some : 0 < p.range
   pub range_fits : p.range < address_limit target.size
   pub begin_fits : p.begin < address_limit target.size
   pub in_space : p.begin + p.range ≤ address_limit target.size
-  pub spelled : Program target factors p.instrs p.program
+  pub spelled : ProgramSpells target factors p.instrs p.program
   pub initial : List Instr
   pub group : HasGroup gs p.register initial
   pub kept : FdeKept (address_limit target.size) p.begin (initial_cfa initial) p.instrs

@@ -3,9 +3,9 @@ use Rattle.std.specs.Prelude.{◌≡◌, ℕ, ◌<◌, List, length}
 use Rattle.dw_num.specs.Target.{address_limit}
 use Rattle.dw_num.specs.declared.target.Target.{Target}
 use Rattle.dw_cfa.specs.declared.instr.Instr.{Instr}
-use Rattle.dw_cfa.specs.InstrSpells.{Program}
+use Rattle.dw_cfa.specs.InstrSpells.{ProgramSpells}
 use Rattle.dw_cfa.specs.Kept.{CieKept, FdeKept}
-use Rattle.dw_cfa.specs.Laws.{initial_cfa, initial_rule}
+use Rattle.dw_cfa.specs.InitialRules.{initial_cfa, initial_rule}
 use Rattle.dw_cfa.specs.Location.{row_starts}
 use Rattle.dw_cfa.specs.Rows.{Rules, rule}
 use Rattle.dw_section.specs.Changes.{AreChanges}
@@ -19,13 +19,13 @@ use Rattle.dw_canon.specs.Inner.Written.{factors}
 -- the CIE's program of an initial row leaves that row
 abbrev pub InitialProgram : Type 0
 InitialProgram = (t : Target) (initial : Rules) → RowFits t initial
-    → Program t factors (cie_instrs initial) (program_bytes t (cie_instrs initial)) × CieKept (cie_instrs initial)
+    → ProgramSpells t factors (cie_instrs initial) (program_bytes t (cie_instrs initial)) × CieKept (cie_instrs initial)
     × (initial.cfa ≡ initial_cfa (cie_instrs initial)) × ((r : ℕ) → rule initial r ≡ initial_rule (cie_instrs initial) r)
 
 -- behind it, a member's program changes at the member's addresses to its rules, and starts no other rows
 abbrev pub MemberProgram : Type 0
 MemberProgram = (t : Target) (initial : Rules) (m : Member) → RowFits t initial → MemberStands t initial m
-    → Program t factors (fde_instrs initial m) (program_bytes t (fde_instrs initial m)) × FdeKept (address_limit t.size) m.begin initial.cfa (fde_instrs initial m)
+    → ProgramSpells t factors (fde_instrs initial m) (program_bytes t (fde_instrs initial m)) × FdeKept (address_limit t.size) m.begin initial.cfa (fde_instrs initial m)
     × AreChanges (cie_instrs initial) (fde_instrs initial m) m.begin m.end (changes_of m) × (row_starts (fde_instrs initial m) ≡ length (changes_of m))
 
 -- the changes of a range are one list

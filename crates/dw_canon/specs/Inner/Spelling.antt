@@ -8,7 +8,7 @@ use Rattle.dw_cfa.specs.declared.rule.RegRule.{RegRule}
 use Rattle.dw_canon.specs.Spelling as spelling
 
 abbrev pub expression_bytes : Target → Expression → List ℕ
-expression_bytes t e = spelling.counted (least_block t e.ops)
+expression_bytes t e = spelling.counted_block (least_block t e.ops)
 
 abbrev pub rule_bytes : Target → ℕ → RegRule → List ℕ
 rule_bytes t = spelling.rule_bytes (least_block t)

@@ -10,23 +10,23 @@ use Rattle.dw_num.specs.Span.{Span}
 use Rattle.dw_num.specs.Target.{address_limit, byte_count}
 use Rattle.dw_cfa.specs.declared.instr.Factors.{Factors}
 use Rattle.dw_cfa.specs.declared.instr.Instr.{Instr}
-use Rattle.dw_cfa.specs.InstrSpells.{Program}
+use Rattle.dw_cfa.specs.InstrSpells.{ProgramSpells}
 use Rattle.dw_cfa.specs.Kept.{CieKept, FdeKept}
-use Rattle.dw_cfa.specs.Laws.{initial_cfa}
+use Rattle.dw_cfa.specs.InitialRules.{initial_cfa}
 use Rattle.dw_section.specs.Cut.{Item, entry, item_bytes, all_bytes}
 use Rattle.dw_section.specs.Headers.{Head}
 use Rattle.dw_section.specs.Headers as head
 use Rattle.dw_section.specs.Overlap.{Range, AreApart}
 use Rattle.dw_section.specs.declared.lookup.Fde.{Fde}
 use Rattle.dw_section.specs.Programs.{HasCfa}
-use Rattle.dw_canon.specs.Written.{missing, cie_fields, fde_fields}
+use Rattle.dw_canon.specs.Written.{missing, cie_field_bytes, fde_field_bytes}
 
 -- the factors of each CIE: what the operands of offsets and advances are multiplied by
 abbrev pub factors : Factors
 factors = record { code_factor = 1; data_factor = negsuc 0 }
 
--- an entry to be written: a CIE by its return register, or an FDE by the place of its CIE, its begin and its range; then its
--- instructions and the bytes that spell them, without nops
+-- an entry to be written: a CIE by its return address register, or an FDE by the place of its CIE, its begin and its range; then
+-- its instructions and the bytes that spell them, without nops
 pub data Written : Type 0 where
   cie : ℕ → List Instr → List ℕ → Written
   fde : ℕ → ℕ → ℕ → List Instr → List ℕ → Written
@@ -47,8 +47,8 @@ abbrev pub cie_spelling : Target → ℕ → List ℕ
 cie_spelling target register = (4 ∷ []) ++ ((0 ∷ []) ++ ((byte_count target.size ∷ 0 ∷ []) ++ ((1 ∷ []) ++ ((127 ∷ []) ++ shortest_uleb register))))
 
 abbrev pub fields_of : Target → Written → List ℕ
-fields_of target (cie register instrs program) = cie_fields target register
-fields_of target (fde cie_at begin range instrs program) = fde_fields target cie_at begin range
+fields_of target (cie register instrs program) = cie_field_bytes target register
+fields_of target (fde cie_at begin range instrs program) = fde_field_bytes target cie_at begin range
 
 abbrev pub program_of : Written → List ℕ
 program_of (cie register instrs program) = program
@@ -100,7 +100,7 @@ ranges_at target at (cie register instrs program ∷ ws) = ranges_at target (at 
 ranges_at target at (fde cie_at begin range instrs program ∷ ws) =
     record { at = at; begin = begin; range = range } ∷ ranges_at target (at + length (entry_bytes target (fde cie_at begin range instrs program))) ws
 
--- at a place stands a CIE of this return register and these instructions
+-- at a place stands a CIE of this return address register and these instructions
 abbrev pub StandsAt : Target → ℕ → List Written → ℕ → ℕ → List Instr → Type 0
 StandsAt target at [] place register initial = ⊥
 StandsAt target at (cie r instrs program ∷ ws) place register initial =
@@ -116,9 +116,9 @@ Fits target all (fde cie_at begin range instrs program) =
 
 -- its program spells its instructions, and these keep what they have to; an FDE's give the CFA a rule at each address
 abbrev pub Runs : Target → List Written → Written → Type 0
-Runs target all (cie register instrs program) = Program target factors instrs program × CieKept instrs
+Runs target all (cie register instrs program) = ProgramSpells target factors instrs program × CieKept instrs
 Runs target all (fde cie_at begin range instrs program) =
-    Program target factors instrs program
+    ProgramSpells target factors instrs program
     × ((register : ℕ) (initial : List Instr) → StandsAt target 0 all cie_at register initial
     → FdeKept (address_limit target.size) begin (initial_cfa initial) instrs × ((a : ℕ) → begin ≤ a → a < begin + range → HasCfa initial instrs begin a))
 

@@ -1,6 +1,6 @@
 -- The rows of an FDE's program behind an initial row.
 use Rattle.dw_cfa.proofs.Words.{◌≡◌, ℕ, ◌+◌, ◌≤◌, Bool, true, false, cond, List, [], ◌∷◌, length, Option, Some, None, refl, sym, ap, ◌∙◌, subst, arith, count_by, sum_by-cons, AreBytes, Factors, Input, Instr, LocatedRow, Outcome, Placed}
-use Rattle.dw_cfa.proofs.Words.{Refusal, Rules, State, address_limit, FdeKept, HoldsBehind, Program, RulesBehind, BehindGives, GivesRows, moves_location, Counts, AreSpecified, last_at, CountsFrom, begun, after, fde_fault, placed, row_if}
+use Rattle.dw_cfa.proofs.Words.{Refusal, Rules, State, address_limit, FdeKept, HoldsBehind, ProgramSpells, RulesBehind, BehindGives, GivesRows, moves_location, Counts, AreSpecified, last_at, CountsFrom, begun, after, fde_fault, placed, row_if}
 use Rattle.dw_cfa.proofs.Words.{fde_rows, rows_behind}
 use Rattle.dw_cfa.proofs.Lent.FaultLaws.{fde_judges}
 use Rattle.dw_cfa.proofs.Lent.Forward.{begun_follows}
@@ -62,7 +62,7 @@ gives_rows f initial fde begin instrs h listed le program kept =
     let limit = address_limit fde.target.size in
     let items = (placed f fde).items in
     let read = program_placed f fde instrs h program in
-    let program_read = subst (λ (l : List Instr). Program fde.target f l fde.bytes) (sym read.0) program in
+    let program_read = subst (λ (l : List Instr). ProgramSpells fde.target f l fde.bytes) (sym read.0) program in
     let run = ((fde_judges f initial fde begin h le listed).keeps items fde.bytes program_read).1 (subst (FdeKept limit begin initial.cfa) (sym read.0) kept) in
     let o = fde_rows limit initial items (placed f fde).fault (begun initial begin) in
     let none : o.fault ≡ None = run_refusal limit initial items (placed f fde).fault (begun initial begin) ∙ refusal_end (fde_fault limit) (after initial) items (placed f fde).fault (begun initial begin) run ∙ read.1 in

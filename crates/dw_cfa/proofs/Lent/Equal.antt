@@ -1,6 +1,7 @@
 -- What tells equal rules is our test, and what two rows have in common is what the tests leave.
 use Rattle.dw_cfa.proofs.Words.{◌≡◌, ◌⊎◌, Bool, false, refl, sym, ◌∙◌, inl, inr, arith, IsTrue, ◌↔◌, if◌then◌else◌, Decides, one_answer, cases_Bool, not_from_Decides, CfaRule, RegRule, Rules, InCommon, IsAgreed, agreed, is_agreed, same_cfa}
 use Rattle.dw_cfa.proofs.Words.{same_rule, cfa_tells, rule_tells, AreSpecified, rule}
+use Rattle.dw_cfa.specs.Inner.RowEquality.{rows_tell, same_rows as rows_same}
 use Rattle.dw_cfa.specs.declared.rule.CfaRule.TheVariants as cfa
 use Rattle.dw_cfa.specs.declared.rule.RegRule.TheVariants as rules
 use Rattle.dw_cfa.proofs.Lent.Narrowed.{filter_keeps, filter_rule}
@@ -37,6 +38,13 @@ cfa_told = told_of same_cfa cfa_tells
 
 pub rule_told : Told RegRule
 rule_told = told_of same_rule rule_tells
+
+-- a test of rows that tells equal ones
+abbrev pub RowTest : Type 0
+RowTest = (same : Rules → Rules → Bool) × ((a b : Rules) → Decides (same a b) (a ≡ b))
+
+unfoldable pub row_test : RowTest
+row_test = (rows_same, rows_tell)
 
 -- ---- rows
 

@@ -1,7 +1,7 @@
 -- A run is refused exactly with the first fault of its programs.
 use Rattle.dw_cfa.proofs.Words.{◌≡◌, ◌⊎◌, ℕ, ◌+◌, ◌<◌, ◌≤◌, Bool, true, false, cond, List, [], ◌∷◌, ◌++◌, length, Option, Some, None, Result, Ok, Err, refl, sym, ap, ◌∙◌, subst, inl, inr, arith, IsTrue, not, nat_lt, count_by, ◌↔◌, take_all}
 use Rattle.dw_cfa.proofs.Words.{append-nil, lt-ltb, le-ltb, nat_tests, AreBytes, CfaRule, Code, Factors, Input, Instr, Outcome, Placed, Refusal, Rules, State, Target, address_limit, NotInCie, LocationBackwards, LocationTooLarge}
-use Rattle.dw_cfa.proofs.Words.{StateStackFull, CfaNotRegister, SetLoc, Advance, RememberState, RestoreState, Program, taken_bytes, onto, cfa_after, is_remember, is_restore, in_cie, keeps_half, IsRegisterRule, CieKept, FdeKept, Leaves}
+use Rattle.dw_cfa.proofs.Words.{StateStackFull, CfaNotRegister, SetLoc, Advance, RememberState, RestoreState, ProgramSpells, taken_bytes, onto, cfa_after, is_remember, is_restore, in_cie, keeps_half, IsRegisterRule, CieKept, FdeKept, Leaves}
 use Rattle.dw_cfa.proofs.Words.{InitialLeaves, LeavesInitial, InitialRefused, BehindRefused, BreaksHalf, CieBreaks, FdeBreaks, FaultBehind, FdeFaultBehind, CieFault, FdeFault, RunFault, AreSpecified, blank, begun, written, after}
 use Rattle.dw_cfa.proofs.Words.{half_fault, cie_fault, fde_fault, Placing, placed, initial_row, on_initial, fde_rows, rows_behind, run_rows}
 use Rattle.dw_cfa.specs.declared.rule.CfaRule.TheVariants as cfa
@@ -79,8 +79,8 @@ cie_breaks instrs i row code is =
 
 -- its instructions are run where they keep what they have to, and what stands against the next one is what that breaks
 pub record Judges (t : Target) (f : Factors) (S : Type 0) (fault : Instr → S → Option Code) (next : Instr → S → S) (start : S) (Kept : List Instr → Type 0) (Breaks : List Instr → Instr → Code → Type 0) : Type 0 where
-  pub keeps : (items : List Placed) (front : List ℕ) → Program t f (instrs_of items) front → AllRun fault next items start ↔ Kept (instrs_of items)
-  pub breaks : (items : List Placed) (front : List ℕ) → Program t f (instrs_of items) front → AllRun fault next items start
+  pub keeps : (items : List Placed) (front : List ℕ) → ProgramSpells t f (instrs_of items) front → AllRun fault next items start ↔ Kept (instrs_of items)
+  pub breaks : (items : List Placed) (front : List ℕ) → ProgramSpells t f (instrs_of items) front → AllRun fault next items start
       → (i : Instr) (code : Code) → (fault i (ends next items start) ≡ Some code) ↔ Breaks (instrs_of items) i code
 
 module _ (f : Factors) (i : Input) (h : AreBytes i.bytes) (S : Type 0) (fault : Instr → S → Option Code) (next : Instr → S → S) (start : S)
@@ -123,14 +123,14 @@ module _ (f : Factors) (i : Input) (h : AreBytes i.bytes) (S : Type 0) (fault : 
   stops_at r instrs (kept, inl stuck) =
       let items = (placed f i).items in
       let read = fault_placed f i instrs r h stuck in
-      let run = (judges.keeps items stuck.front (subst (λ (l : List Instr). Program i.target f l stuck.front) (sym read.0) stuck.read)).1 (subst Kept (sym read.0) kept) in
+      let run = (judges.keeps items stuck.front (subst (λ (l : List Instr). ProgramSpells i.target f l stuck.front) (sym read.0) stuck.read)).1 (subst Kept (sym read.0) kept) in
       (record { before = items; after = []; whole = sym (append-nil items); run = run; refused = read.1 }, read.0)
   stops_at r instrs (kept, inr b) =
       let rest = b.spelling ++ b.rest in
       let here = input (i.at + length b.front) rest i.target in
       let j = joined_at f i instrs b.front rest h b.whole b.read in
       let first = placed_again f i.target b.instr b.spelling here.at b.rest b.next (taken_bytes i here b.front (record { bytes = b.whole; at = refl; target = refl }) h) in
-      let read = subst (λ (l : List Instr). Program i.target f l b.front) (sym j.are) b.read in
+      let read = subst (λ (l : List Instr). ProgramSpells i.target f l b.front) (sym j.are) b.read in
       let run = (judges.keeps j.before b.front read).1 (subst Kept (sym j.are) kept) in
       let fault = (judges.breaks j.before b.front read run b.instr r.code).1 (subst (λ (l : List Instr). Breaks l b.instr r.code) (sym j.are) b.breaks) in
       let items = ap (λ (l : Placing). l.items) j.whole ∙ ap (λ (l : Placing). j.before ++ l.items) first in

@@ -1,10 +1,10 @@
 -- What a run gives is what its programs give, in the standard's terms.
 use Rattle.dw_cfa.proofs.Words.{◌≡◌, ℕ, suc, ◌<◌, ◌≤◌, Bool, true, false, List, [], ◌∷◌, ◌++◌, length, map, Option, Some, None, Result, Ok, Err, refl, sym, ap, ◌∙◌, subst, inl, inr, arith, if◌then◌else◌, IfErr, IfOk, MatchResult, OnOk}
-use Rattle.dw_cfa.proofs.Words.{AllZip, append-nil, AreBytes, CfaRule, Factors, Input, Instr, LocatedRow, Outcome, Placed, ReadError, Refusal, Refuses, RegRule, Rules, State, Stepping, address_limit, Refused, OutOfMemory, Program}
+use Rattle.dw_cfa.proofs.Words.{AllZip, append-nil, AreBytes, CfaRule, Factors, Input, Instr, LocatedRow, Outcome, Placed, ReadError, Refusal, Refuses, RegRule, Rules, State, Stepping, address_limit, Refused, OutOfMemory, ProgramSpells}
 use Rattle.dw_cfa.proofs.Words.{cfa_after, rule_after, CieKept, FdeKept, NeverFalls, onto, location_back, moves_location, Counts, AreSpecified, blank, stepping, Following, with_steps, FdeFaultBehind, RunFault, Leaves, LeavesTo, ends}
-use Rattle.dw_cfa.proofs.Words.{HoldsBehind, IsRowAfter, GivesBehind, GivesBefore, GivesUpTo, RunsBehind, RunsTo, OneRun, RefusedWhereFault, RowsWhereKept, NoneFalls, LastHolds, OneInitial, OneBehind, BehindWhereFault, RulesBehind, begun}
+use Rattle.dw_cfa.proofs.Words.{HoldsBehind, IsRowAfter, GivesBehind, GivesBefore, GivesUpTo, RunsBehind, RunsTo, OneRun, RefusedWhereFault, RowsWhereKept, NoneFalls, LastHolds, OneInitial, OneBehind, BehindWhereFault, GivesWhereKept, LeavesWhereKept, RulesBehind, begun}
 use Rattle.dw_cfa.proofs.Words.{after, fde_fault, placed, row_if, on_initial, initial_row, run_rows, rows_behind, fde_rows, gives, Gives}
-use Rattle.dw_cfa.specs.Laws.{initial_cfa}
+use Rattle.dw_cfa.specs.InitialRules.{initial_cfa}
 use Rattle.dw_cfa.proofs.Lent.Forward.{Follows, Holds, after_follows, begun_follows}
 use Rattle.dw_cfa.proofs.Lent.RowsAt.{instrs_of}
 use Rattle.dw_cfa.proofs.Stops.{ends as state_behind, AllRun, RefusedNext}
@@ -75,7 +75,8 @@ module _ (initial : Rules) (begin : ℕ) (instrs : List Instr) where
   same_after (k ∷ ks) (row ∷ rows) (other ∷ others) v w = cc (same_row k row other v.0 w.0, same_after ks rows others v.1 w.1)
   same_after ks rows others v w = absurd assumption
 
-one_program : (f : Factors) (i : Input) (instrs others : List Instr) → AreBytes i.bytes → Program i.target f instrs i.bytes → Program i.target f others i.bytes → instrs ≡ others
+-- a program is one list of instructions
+pub one_program : (f : Factors) (i : Input) (instrs others : List Instr) → AreBytes i.bytes → ProgramSpells i.target f instrs i.bytes → ProgramSpells i.target f others i.bytes → instrs ≡ others
 one_program f i instrs others h p q = sym (program_placed f i instrs h p).0 ∙ (program_placed f i others h q).0
 
 one_outcome : (o : Outcome) (rows : List LocatedRow) (fault : Option Refusal) → o.rows ≡ rows → o.fault ≡ fault → o ≡ record { rows = rows; fault = fault }
@@ -150,6 +151,10 @@ module _ (f : Factors) (initial : Rules) (fde : Input) (begin : ℕ) (fb : AreBy
 pub one_behind : OneBehind
 one_behind f initial fde begin fb listed le = (rows_behind f initial fde begin, behind_runs f initial fde begin fb listed le, runs_behind f initial fde begin fb listed le)
 
+pub gives_where_kept : GivesWhereKept
+gives_where_kept f initial fde begin fb listed le instrs program kept =
+    let some = gives_rows f initial fde begin instrs fb listed le program kept in (some.0, all_given f initial fde begin fb listed le some.0 some.1, some.2)
+
 pub behind_where_fault : BehindWhereFault
 behind_where_fault f initial fde begin fb listed le o g r =
     let same = ap (λ (p : Outcome). p.fault) (runs_behind f initial fde begin fb listed le o g) in
@@ -171,6 +176,9 @@ module _ (f : Factors) (cie : Input) (cb : AreBytes cie.bytes) where
 
 pub one_initial : OneInitial
 one_initial f cie cb = (initial_row (placed f cie) blank, leaves_to f cie cb (initial_row (placed f cie) blank) refl, to_leaves f cie cb)
+
+pub leaves_where_kept : LeavesWhereKept
+leaves_where_kept f cie instrs cb program kept = let there = leaves_initial f cie instrs cb program kept in (there.0, there.2)
 
 -- ---- both programs
 

@@ -1,8 +1,8 @@
 -- What is read is spelled so.
 use Rattle.dw_cfa.proofs.Words.{◌≡◌, ℕ, zero, suc, ◌^◌, List, [], ◌∷◌, ◌++◌, Option, Some, None, Result, Ok, Err, refl, subst, ◌∙◌, arith, inl, inr, unsigned_abs, cases_lt, lt-ltb, le-ltb, AreBytes, Factors, Input, Instr, Op, Opcode, Read}
 use Rattle.dw_cfa.proofs.Words.{Refusal, Target, OffsetTooLarge, Takes, IsWidth, fault, fixed_at, take_at, uleb_at, bind_ok, Takes-then, take_found, done, ok_is, uleb_found, register_found, sleb_found, taken_bytes, fixed_found}
-use Rattle.dw_cfa.proofs.Words.{address_found, byte_found, Frame, Expression, block_input, decode_at, block_found, BlockSpells, Spells, FormSpells, InstrSpells, EachEntry, opcode_table, opcode_of, form_of, Operand, address, fixed, register}
-use Rattle.dw_cfa.proofs.Words.{unsigned, signed, expression, Form, none, one, two, offset_of, leaving, expression_of, expression_in, block_in, after_length, block_at, operand_at, with_instr, then_operand, form_at, judged, known_at}
+use Rattle.dw_cfa.proofs.Words.{address_found, byte_found, Frame, Expression, block_input, decode_at, block_found, BlockSpells, OperandSpells, InstrFormSpells, InstrSpells, EachEntry, opcode_table, opcode_of, form_of, Operand, address, fixed, register}
+use Rattle.dw_cfa.proofs.Words.{unsigned, signed, expression, InstrForm, none, one, two, offset_of, leaving, expression_of, expression_in, block_in, after_length, block_at, operand_at, with_instr, then_operand, form_at, judged, known_at}
 use Rattle.dw_cfa.proofs.Words.{after_code, instr_at}
 use Rattle.dw_cfa.proofs.Codes.{opcode_known, ◌&◌}
 use Rattle.dw_cfa.proofs.CodeForms.{form_is}
@@ -49,7 +49,7 @@ abbrev pub Wide : Operand → Type 0
 Wide (fixed n) = IsWidth n
 Wide other = Unit {0}
 
-pub operand_finds : (o : Operand) → Wide o → Finds (operand_at o) (λ t x b. Spells t o x b)
+pub operand_finds : (o : Operand) → Wide o → Finds (operand_at o) (λ t x b. OperandSpells t o x b)
 operand_finds address w i new x h e = address_found i new x h e
 operand_finds (fixed n) w i new x h e = fixed_found n i new x w h e
 operand_finds register w i new x h e = register_found i new x h e
@@ -57,7 +57,7 @@ operand_finds unsigned w i new x h e = uleb_found i new x h e
 operand_finds signed w i new x h e = sleb_found i new x h e
 operand_finds expression w i new x h e = block_finds i new x h e
 
-abbrev pub FormWide : Form → Type 0
+abbrev pub FormWide : InstrForm → Type 0
 FormWide (none made) = Unit {0}
 FormWide (one o make) = Wide o
 FormWide (two o p make) = Wide o × Wide p
@@ -69,20 +69,20 @@ wide_entries f =
 pub form_wide : (f : Factors) (code : ℕ) (opcode : Opcode) → opcode_of code ≡ Some opcode → FormWide (form_of f opcode)
 form_wide f code opcode is = opcode_known (λ o n. FormWide (form_of f o)) (wide_entries f) (λ n lt. (tt, tt, tt)) code opcode is
 
-pub form_finds : (form : Form) → FormWide form → Finds (form_at form) (λ t instr b. FormSpells t form instr b)
+pub form_finds : (form : InstrForm) → FormWide form → Finds (form_at form) (λ t instr b. InstrFormSpells t form instr b)
 form_finds (none made) w i new instr h e =
-    subst (λ (z : Instr × Input). (b : List ℕ) × FormSpells i.target (none made) z.0 b × Takes i b z.1) (ok_is (made, i) (instr, new) e) ([], (refl, refl), record { bytes = refl; at = omega arith; target = refl })
+    subst (λ (z : Instr × Input). (b : List ℕ) × InstrFormSpells i.target (none made) z.0 b × Takes i b z.1) (ok_is (made, i) (instr, new) e) ([], (refl, refl), record { bytes = refl; at = omega arith; target = refl })
 form_finds (one o make) w i new instr h e =
     let p = bind_ok (operand_at o i) (with_instr make) (instr, new) e in
     let q = operand_finds o w i p.0.1 p.0.0 h p.1 in
-    subst (λ (z : Instr × Input). (b : List ℕ) × FormSpells i.target (one o make) z.0 b × Takes i b z.1) (ok_is (make p.0.0, p.0.1) (instr, new) p.2) (q.0, (p.0.0, refl, q.1), q.2)
+    subst (λ (z : Instr × Input). (b : List ℕ) × InstrFormSpells i.target (one o make) z.0 b × Takes i b z.1) (ok_is (make p.0.0, p.0.1) (instr, new) p.2) (q.0, (p.0.0, refl, q.1), q.2)
 form_finds (two o p make) w i new instr h e =
     let first = bind_ok (operand_at o i) (then_operand p make) (instr, new) e in
     let q = operand_finds o w.0 i first.0.1 first.0.0 h first.1 in
     let second = bind_ok (operand_at p first.0.1) (with_instr (make first.0.0)) (instr, new) first.2 in
     let u = operand_finds p w.1 first.0.1 second.0.1 second.0.0 (taken_bytes i first.0.1 q.0 q.2 h) second.1 in
-    let spelled = subst (λ (t : Target). Spells t p second.0.0 u.0) q.2.target u.1 in
-    subst (λ (z : Instr × Input). (b : List ℕ) × FormSpells i.target (two o p make) z.0 b × Takes i b z.1) (ok_is (make first.0.0 second.0.0, second.0.1) (instr, new) second.2)
+    let spelled = subst (λ (t : Target). OperandSpells t p second.0.0 u.0) q.2.target u.1 in
+    subst (λ (z : Instr × Input). (b : List ℕ) × InstrFormSpells i.target (two o p make) z.0 b × Takes i b z.1) (ok_is (make first.0.0 second.0.0, second.0.1) (instr, new) second.2)
     (q.0 ++ u.0, (first.0.0, second.0.0, refl, record { front = q.0; back = u.0; first = q.1; second = spelled; whole = refl }), Takes-then i first.0.1 second.0.1 q.0 u.0 q.2 u.2)
 
 -- ---- instructions

@@ -1,6 +1,6 @@
 -- What is run of a program keeps its rules, in the terms of what programs have to keep, and a program that keeps them is run.
 use Rattle.dw_cfa.proofs.Words.{◌≡◌, ℕ, zero, suc, ◌+◌, Bool, true, false, cond, List, [], ◌∷◌, take, Some, None, refl, sym, subst, arith, add-one, IsTrue, count_by, slice_get, AllByRecursion, sum_by-cons, NotInCie, CfaRule, Factors, Instr}
-use Rattle.dw_cfa.proofs.Words.{Placed, Rules, Target, address_limit, Program, onto, look_back, cfa_change, is_remember, is_restore, in_cie, keeps_half, IsRegisterRule, CieKept, FdeKept, blank, begun, written, half_fault, cie_fault}
+use Rattle.dw_cfa.proofs.Words.{Placed, Rules, Target, address_limit, ProgramSpells, onto, look_back, cfa_change, is_remember, is_restore, in_cie, keeps_half, IsRegisterRule, CieKept, FdeKept, blank, begun, written, half_fault, cie_fault}
 use Rattle.dw_cfa.specs.declared.rule.CfaRule.TheVariants as cfa
 use Rattle.dw_cfa.proofs.Lent.Forward.{Follows, begun_follows}
 use Rattle.dw_cfa.proofs.Initial.{written_follows}
@@ -73,6 +73,6 @@ kept_fde limit begin initial instrs h = record {
 }
 
 -- the addresses of a program are within the limit
-pub all_in_limit : (t : Target) (f : Factors) (instrs : List Instr) (b : List ℕ) → Program t f instrs b → AllInLimit (address_limit t.size) instrs
+pub all_in_limit : (t : Target) (f : Factors) (instrs : List Instr) (b : List ℕ) → ProgramSpells t f instrs b → AllInLimit (address_limit t.size) instrs
 all_in_limit t f [] b h = tt
 all_in_limit t f (i ∷ instrs) b h = (spells_in_limit t f i h.front h.first, all_in_limit t f instrs h.back h.second)

@@ -1,6 +1,6 @@
 -- The instructions of a program are listed up to its first fault.
 use Rattle.dw_cfa.proofs.Words.{◌≡◌, ℕ, suc, ◌+◌, ◌<◌, ◌≤◌, false, List, [], ◌∷◌, ◌++◌, length, Option, Some, None, Err, refl, sym, ap, subst, ◌∙◌, arith, ◌↔◌, IfSome, length-append, append-nil, AreBytes, Factors, Input, Instr, Read}
-use Rattle.dw_cfa.proofs.Words.{Refusal, Target, done, taken_bytes, Stays, Program, instr_at, Listing, complete, faulty, ProgramFault, Placing, placed, ended}
+use Rattle.dw_cfa.proofs.Words.{Refusal, Target, done, taken_bytes, Stays, ProgramSpells, instr_at, Listing, complete, faulty, ProgramFault, Placing, placed, ended}
 use Rattle.dw_cfa.specs.Inner.Listing.{listing, left_of, plain_of}
 use Rattle.dw_op.specs.Inner.Walks.{put}
 use Rattle.dw_cfa.proofs.Divided.{input, placing, behind_all, left_behind, joined_at}
@@ -13,30 +13,30 @@ use Rattle.dw_cfa.proofs.Stuck.{stuck_fault, fault_stuck}
 -- ---- what is placed is spelled, and what is spelled is placed
 
 -- behind a program's instructions nothing is left, or what cannot be read
-placed_to : (f : Factors) (i : Input) (instrs : List Instr) (front rest : List ℕ) (fault : Option Refusal) → AreBytes i.bytes → i.bytes ≡ front ++ rest → Program i.target f instrs front
+placed_to : (f : Factors) (i : Input) (instrs : List Instr) (front rest : List ℕ) (fault : Option Refusal) → AreBytes i.bytes → i.bytes ≡ front ++ rest → ProgramSpells i.target f instrs front
     → placed f (input (i.at + length front) rest i.target) ≡ ended fault → (instrs_of (placed f i).items ≡ instrs) × ((placed f i).fault ≡ fault)
 placed_to f i instrs front rest fault h whole p end =
     let j = joined_at f i instrs front rest h whole p in
     let all : placed f i ≡ placing (j.before ++ []) fault = j.whole ∙ ap (λ (l : Placing). placing (j.before ++ l.items) l.fault) end in
     (ap (λ (l : Placing). instrs_of l.items) all ∙ ap instrs_of (append-nil j.before) ∙ j.are, ap (λ (l : Placing). l.fault) all)
 
-pub program_placed : (f : Factors) (i : Input) (instrs : List Instr) → AreBytes i.bytes → Program i.target f instrs i.bytes → (instrs_of (placed f i).items ≡ instrs) × ((placed f i).fault ≡ None)
+pub program_placed : (f : Factors) (i : Input) (instrs : List Instr) → AreBytes i.bytes → ProgramSpells i.target f instrs i.bytes → (instrs_of (placed f i).items ≡ instrs) × ((placed f i).fault ≡ None)
 program_placed f i instrs h p =
     placed_to f i instrs i.bytes [] None h (sym (append-nil i.bytes)) p (placed_end f (input (i.at + length i.bytes) [] i.target) refl)
 
-pub placed_program : (f : Factors) (i : Input) → AreBytes i.bytes → (placed f i).fault ≡ None → Program i.target f (instrs_of (placed f i).items) i.bytes
+pub placed_program : (f : Factors) (i : Input) → AreBytes i.bytes → (placed f i).fault ≡ None → ProgramSpells i.target f (instrs_of (placed f i).items) i.bytes
 placed_program f i h none =
     let items = (placed f i).items in
     let d = behind_all f i None h none in
     let all : d.front ≡ i.bytes = sym (append-nil d.front) ∙ ap (λ (r : List ℕ). d.front ++ r) (sym (left_behind f i items [] None d)) ∙ sym d.whole in
-    subst (λ (b : List ℕ). Program i.target f (instrs_of items) b) all d.read
+    subst (λ (b : List ℕ). ProgramSpells i.target f (instrs_of items) b) all d.read
 
 pub fault_placed : (f : Factors) (i : Input) (instrs : List Instr) (r : Refusal) → AreBytes i.bytes → ProgramFault i.target f i.at i.bytes instrs r → (instrs_of (placed f i).items ≡ instrs) × ((placed f i).fault ≡ Some r)
 fault_placed f i instrs r h p =
     let here = input (i.at + length p.front) (p.code ∷ p.operands) i.target in
     placed_to f i instrs p.front (p.code ∷ p.operands) (Some r) h p.whole p.read (placed_stuck f here r (omega arith) (fault_stuck f i.target here.at p.code p.operands r p.fault))
 
-pub stuck_program : (f : Factors) (i : Input) (instrs : List Instr) (r : Refusal) (front rest : List ℕ) → AreBytes rest → i.bytes ≡ front ++ rest → Program i.target f instrs front
+pub stuck_program : (f : Factors) (i : Input) (instrs : List Instr) (r : Refusal) (front rest : List ℕ) → AreBytes rest → i.bytes ≡ front ++ rest → ProgramSpells i.target f instrs front
     → 0 < length rest → instr_at f (input (i.at + length front) rest i.target) ≡ Err r → ProgramFault i.target f i.at i.bytes instrs r
 stuck_program f i instrs r front [] h whole read some stuck = absurd (omega (arith, some))
 stuck_program f i instrs r front (code ∷ operands) h whole read some stuck = record {
@@ -62,12 +62,12 @@ unfolding listing
 lists f i instrs fault = ((λ so. rw (so.0, so.1) refl), λ e. (ap (λ (l : Listing). l.items) e, ap (λ (l : Listing). l.fault) e))
 
 -- one that is made at the front of a program
-pub made_program : (f : Factors) (t : Target) (at : ℕ) (bytes : List ℕ) (made : Input) → made ≡ input at bytes t → AreBytes bytes → (instrs : List Instr) → Program t f instrs bytes ↔ left_of false f made ≡ complete instrs
+pub made_program : (f : Factors) (t : Target) (at : ℕ) (bytes : List ℕ) (made : Input) → made ≡ input at bytes t → AreBytes bytes → (instrs : List Instr) → ProgramSpells t f instrs bytes ↔ left_of false f made ≡ complete instrs
 unfolding left_of
 made_program f t at bytes made is h instrs =
     let here = input at bytes t in
     let so = lists f here instrs None in
-    rw is ((λ p. so.0 (program_placed f here instrs h p)), λ e. subst (λ (l : List Instr). Program t f l bytes) (so.1 e).0 (placed_program f here h (so.1 e).1))
+    rw is ((λ p. so.0 (program_placed f here instrs h p)), λ e. subst (λ (l : List Instr). ProgramSpells t f l bytes) (so.1 e).0 (placed_program f here h (so.1 e).1))
 
 pub made_fault : (f : Factors) (t : Target) (at : ℕ) (bytes : List ℕ) (made : Input) → made ≡ input at bytes t → AreBytes bytes → (instrs : List Instr) (r : Refusal) → ProgramFault t f at bytes instrs r ↔ left_of false f made ≡ faulty instrs r
 unfolding left_of

@@ -1,6 +1,6 @@
 -- The columns at the begin, where the first instructions of a program tell the row there; and what is specified first stays so.
 use Rattle.dw_cfa.proofs.Words.{◌≡◌, ℕ, zero, suc, ◌+◌, ◌<◌, ◌≤◌, Bool, true, false, List, [], ◌∷◌, Option, Some, None, refl, ap, ◌∙◌, arith, IsTrue, nat_eq, nat_lt, if◌then◌else◌, ℤ, AllByRecursion, ltb-true, Target, Factors, Instr, Nop}
-use Rattle.dw_cfa.proofs.Words.{Advance, DefCfaOffset, Set, Restore, RememberState, RestoreState, Initial, CfaOffset, Other, CfaRule, RegRule, look_back, with_offset, cfa_change, rule_change, cfa_after, rule_after, Program, onto, back_from}
+use Rattle.dw_cfa.proofs.Words.{Advance, DefCfaOffset, Set, Restore, RememberState, RestoreState, Initial, CfaOffset, Other, CfaRule, RegRule, look_back, cfa_with, cfa_change, rule_change, cfa_after, rule_after, ProgramSpells, onto, back_from}
 use Rattle.dw_cfa.proofs.Words.{location_back, Counts, moves_first, first_row, row_with, is_specified, CountsFrom}
 use Rattle.dw_cfa.specs.declared.opening.FirstRow.{FirstRow}
 use Rattle.dw_cfa.proofs.Lent.RowsAt.{counts_rest, first_counts}
@@ -66,11 +66,6 @@ module _ {Rule : Type 0} (change : Instr → Rule → Rule) (initial : Rule) (ke
   at_first None instrs k first counts = held [] instrs k refl (initial_moves instrs first) counts.stays
   at_first (Some n) instrs k first counts = offset_held n [] instrs k refl first (record { in_program = counts.in_program; stays = counts.stays; greatest = counts.greatest })
 
--- a rule of the CFA with this offset where there is one
-abbrev pub cfa_with : Option ℤ → CfaRule → CfaRule
-cfa_with None rule = rule
-cfa_with (Some n) rule = with_offset n rule
-
 pub first_cfa : (initial : CfaRule) (begin : ℕ) (offset : Option ℤ) (instrs : List Instr) (k : ℕ) → first_row instrs ≡ row_with offset → Counts begin instrs begin k → cfa_after initial instrs k ≡ cfa_with offset initial
 first_cfa initial begin None instrs k first counts = at_first cfa_change initial (λ old. refl) begin None instrs k first counts
 first_cfa initial begin (Some n) instrs k first counts = at_first cfa_change initial (λ old. refl) begin (Some n) instrs k first counts
@@ -84,7 +79,7 @@ first_rule initial begin (Some n) instrs r k first counts = at_first (rule_chang
 abbrev pub AllSet : List Instr → Type 0
 AllSet instrs = AllByRecursion GivesRule instrs
 
-pub all_set : (t : Target) (f : Factors) (instrs : List Instr) (bytes : List ℕ) → Program t f instrs bytes → AllSet instrs
+pub all_set : (t : Target) (f : Factors) (instrs : List Instr) (bytes : List ℕ) → ProgramSpells t f instrs bytes → AllSet instrs
 all_set t f [] bytes p = tt
 all_set t f (i ∷ instrs) bytes p = (spells_rule t f i p.front (by_table t f i p.front p.first), all_set t f instrs p.back p.second)
 

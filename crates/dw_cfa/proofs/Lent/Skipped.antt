@@ -8,17 +8,17 @@ use Rattle.dw_cfa.proofs.Lent.Narrowed.{none_left}
 
 -- what a test leaves of the registers below a place
 pub record TestedBelow (p : Entry → Bool) (old : List Entry) (k : ℕ) (e : Entries) : Type 0 where
-  pub place : k ≤ 32
+  pub place : k ≤ 128
   pub so : EntriesSo e
   pub rules : LeavesBelow p k old (entries_of e)
 
 module _ {p : Entry → Bool} {old : List Entry} {k : ℕ} {e : Entries} (h : TestedBelow p old k e) where
   -- registers whose slots are not used
-  skipped : (n : ℕ) → k ≤ n → n ≤ 32 → ((q : ℕ) → k ≤ q → q < n → bit_at e.used q ≡ 0) → LeavesBelow p n old (entries_of e)
+  skipped : (n : ℕ) → k ≤ n → n ≤ 128 → ((q : ℕ) → k ≤ q → q < n → bit_at e.used q ≡ 0) → LeavesBelow p n old (entries_of e)
   skipped n le within none q = grind (arith, nat_tests, λ (low : k ≤ q) (high : q < n). not_set e h.so q (omega arith) (none q low high), h.rules q, none_left p q)
 
-  pub all_tested : FirstBit None e.used k → LeavesBelow p 32 old (entries_of e)
-  all_tested none = skipped 32 h.place (omega arith) none
+  pub all_tested : FirstBit None e.used k → LeavesBelow p 128 old (entries_of e)
+  all_tested none = skipped 128 h.place (omega arith) none
 
   -- one register more
   pub one_tested : {r : ℕ} {new : Entries} → FirstBit (Some r) e.used k → LeavesAt p r (entries_of e) (entries_of new) → EntriesSo new → TestedBelow p old (r + 1) new

@@ -1,10 +1,9 @@
 -- The spellings of each instruction, instruction by instruction.
 use Rattle.dw_cfa.proofs.Words.{◌≡◌, ℕ, ◌+◌, ◌*◌, ◌<◌, ◌⊎◌, List, [], ◌∷◌, Some, refl, ap, arith, inl, inr, ℤ, pos, ◌*ℤ◌, Factors, Instr, Opcode, RegRule, Target, Uleb, Sleb, Fixed, Address, Nop, SetLoc, Advance, DefCfa, DefCfaRegister}
-use Rattle.dw_cfa.proofs.Words.{DefCfaOffset, DefCfaExpression, Set, Restore, RememberState, RestoreState, IsOffset, BlockSpells, FormSpells, InstrSpells, opcode_of, opcode_table, form_of, Form, none, one, two, Value, Spells, EachEntry}
+use Rattle.dw_cfa.proofs.Words.{DefCfaOffset, DefCfaExpression, Set, Restore, RememberState, RestoreState, IsOffset, BlockSpells, InstrFormSpells, InstrSpells, opcode_of, opcode_table, form_of, InstrForm, none, one, two, OperandValue, OperandSpells, EachEntry}
 use Rattle.dw_cfa.proofs.Words.{offset_of, advanced}
 use Rattle.dw_num.specs.Leb.{Register}
 use Rattle.dw_op.specs.OpSpells.{Code, Both}
-use Rattle.dw_op.specs.Inner.ByOperation.{Alone}
 use Rattle.dw_cfa.specs.declared.opcode.Opcode.TheVariants as opcodes
 use Rattle.dw_cfa.specs.declared.rule.RegRule.TheVariants as rules
 use Rattle.dw_cfa.proofs.CodeForms.{form_is, opcode_behind}
@@ -39,6 +38,10 @@ abbrev pub SignedFactored : Factors → ℤ → List ℕ → Type 0
 SignedFactored f z bytes = Scaled Sleb (by_signed f) z bytes
 
 -- ---- the table
+
+-- a code without operands
+abbrev Alone : ℕ → List ℕ → Type 0
+Alone code bytes = bytes ≡ code ∷ []
 
 -- the forms of an advance, each with its delta
 abbrev pub AdvanceSpells : Target → ℕ → List ℕ → Type 0
@@ -82,15 +85,15 @@ IsSpelled t f RestoreState bytes = Alone 0x0b bytes
 
 module _ (t : Target) (f : Factors) where
   -- what a form's operands spell behind a code
-  abbrev FormSo : Form → ℕ → Type 0
+  abbrev FormSo : InstrForm → ℕ → Type 0
   FormSo (none made) code = IsSpelled t f made (code ∷ [])
-  FormSo (one o make) code = (x : Value o) (b : List ℕ) → IsOffset (offset_of (make x)) → Spells t o x b → IsSpelled t f (make x) (code ∷ b)
-  FormSo (two o p make) code = (x : Value o) (y : Value p) (b : List ℕ) → IsOffset (offset_of (make x y)) → Both (Spells t o x) (Spells t p y) b → IsSpelled t f (make x y) (code ∷ b)
+  FormSo (one o make) code = (x : OperandValue o) (b : List ℕ) → IsOffset (offset_of (make x)) → OperandSpells t o x b → IsSpelled t f (make x) (code ∷ b)
+  FormSo (two o p make) code = (x : OperandValue o) (y : OperandValue p) (b : List ℕ) → IsOffset (offset_of (make x y)) → Both (OperandSpells t o x) (OperandSpells t p y) b → IsSpelled t f (make x y) (code ∷ b)
 
   abbrev OpcodeSo : Opcode → ℕ → Type 0
   OpcodeSo opcode code = FormSo (form_of f opcode) code
 
-  form_so : (form : Form) (code : ℕ) (instr : Instr) (b : List ℕ) → FormSo form code → FormSpells t form instr b → IsOffset (offset_of instr) → IsSpelled t f instr (code ∷ b)
+  form_so : (form : InstrForm) (code : ℕ) (instr : Instr) (b : List ℕ) → FormSo form code → InstrFormSpells t form instr b → IsOffset (offset_of instr) → IsSpelled t f instr (code ∷ b)
   form_so (none made) code instr b h s range = rw (s.0, s.1) h
   form_so (one o make) code instr b h s range = rw s.1 (h s.0 b (rw s.1 at range) s.2)
   form_so (two o p make) code instr b h s range = rw s.2 (h s.0 s.1 b (rw s.2 at range) s.3)
@@ -138,11 +141,11 @@ module _ (t : Target) (f : Factors) where
 
 module _ (t : Target) (f : Factors) where
   coded : (code : ℕ) (opcode : Opcode) (instr : Instr) (b : List ℕ) (Operands : List ℕ → Type 0) → Code code Operands b → opcode_of code ≡ Some opcode → IsOffset (offset_of instr)
-      → ((c : List ℕ) → Operands c → FormSpells t (form_of f opcode) instr c) → InstrSpells t f instr b
+      → ((c : List ℕ) → Operands c → InstrFormSpells t (form_of f opcode) instr c) → InstrSpells t f instr b
   coded code opcode instr b Operands h known range to =
       record { code = code; form = form_of f opcode; rest = h.rest; known = form_is f code opcode known; whole = h.whole; operands = to h.rest h.operands; range = range }
 
-  alone : (code : ℕ) (opcode : Opcode) (instr : Instr) (b : List ℕ) → Alone code b → opcode_of code ≡ Some opcode → IsOffset (offset_of instr) → FormSpells t (form_of f opcode) instr [] → InstrSpells t f instr b
+  alone : (code : ℕ) (opcode : Opcode) (instr : Instr) (b : List ℕ) → Alone code b → opcode_of code ≡ Some opcode → IsOffset (offset_of instr) → InstrFormSpells t (form_of f opcode) instr [] → InstrSpells t f instr b
   alone code opcode instr b h known range is = record { code = code; form = form_of f opcode; rest = []; known = form_is f code opcode known; whole = h; operands = is; range = range }
 
   -- a register, and an offset

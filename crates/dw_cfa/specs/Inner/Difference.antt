@@ -7,9 +7,9 @@ use Rattle.dw_cfa.specs.declared.rule.RegRule.{RegRule}
 use Rattle.dw_cfa.specs.Rows.{rule_in}
 use Rattle.dw_cfa.specs.Difference.{SameBetween, DiffersFirst}
 
--- registers below 32 whose bit in a mask is not set have the same rules
+-- registers below 128 whose bit in a mask is not set have the same rules
 abbrev pub SameUnset : ℕ → List (ℕ × RegRule) → List (ℕ × RegRule) → Type 0
-SameUnset mask xs ys = (r : ℕ) → r < 32 → bit_at mask r ≡ 0 → rule_in xs r ≡ rule_in ys r
+SameUnset mask xs ys = (r : ℕ) → r < 128 → bit_at mask r ≡ 0 → rule_in xs r ≡ rule_in ys r
 
 -- the same among the registers below an end
 abbrev pub FirstBelow : ℕ → ℕ → List (ℕ × RegRule) → List (ℕ × RegRule) → Option ℕ → Type 0

@@ -1,5 +1,5 @@
--- Where the registers of a row lie: those below 32 in slots, with their expressions in a tree, and the others in another tree.
-use Rattle.std.specs.Prelude.{◌≡◌, ℕ, suc, ◌<◌, ◌≤◌, List, [], ◌∷◌, length, drop, Bool, Option, Some, None, ℤ, nat_eq, nat_lt, if◌then◌else◌}
+-- Where the registers of a row lie: those below 128 in slots under a mask, with their expressions in a tree, and the others in another tree.
+use Rattle.std.specs.Prelude.{◌≡◌, ℕ, zero, suc, ◌<◌, ◌≤◌, ◌-◌, List, ◌∷◌, length, ◌++◌, Bool, Option, Some, None, ℤ, pos, IsTrue, nat_eq, nat_lt, if◌then◌else◌}
 use Rattle.dw_cfa.specs.declared.rule.RegRule.{RegRule}
 use Rattle.dw_cfa.specs.declared.rule.RegRule.TheVariants as rules
 use Rattle.dw_cfa.specs.declared.row.Entries.{Entries}
@@ -8,11 +8,10 @@ use Rattle.dw_cfa.specs.declared.slot.Kind.{Kind}
 use Rattle.dw_cfa.specs.declared.slot.Kind.TheVariants as kinds
 use Rattle.std.specs.Int.{bit_at}
 use Rattle.std.proofs.Math.ListN.{get_or}
-use Rattle.dw_cfa.specs.Rows.{AreSpecified, rule_in}
+use Rattle.dw_cfa.specs.Rows.{AreSpecified, is_specified, rule_in}
 use Rattle.dw_cfa.specs.Inner.Rows.{listed}
 
 abbrev pub kind_rule : Kind → ℕ → ℤ → RegRule → RegRule
-kind_rule kinds.Empty r n block = rules.Unspecified
 kind_rule kinds.Undefined r n block = rules.Undefined
 kind_rule kinds.SameValue r n block = rules.SameValue
 kind_rule kinds.Offset r n block = rules.Offset n
@@ -32,36 +31,58 @@ HoldsRule k r n rule = (block : RegRule) → kind_rule k r n block ≡ rule
 abbrev pub IsSlotOf : RegRule → Slot → Type 0
 IsSlotOf rule s = HoldsRule s.kind s.register s.offset rule
 
--- registers from k on, whose rules the slots hold, before others
-unfoldable pub listed_near : ℕ → List Slot → List (ℕ × RegRule) → List (ℕ × RegRule) → List (ℕ × RegRule)
-listed_near k [] expressions far = far
-listed_near k (s ∷ near) expressions far = listed k (slot_rule s (rule_in expressions k)) (listed_near (suc k) near expressions far)
+-- what an index outside would find
+abbrev pub no_slot : Slot
+no_slot = record { kind = kinds.Undefined; register = 0; offset = pos 0 }
+
+-- a register has the rule of its slot where the mask has it
+abbrev pub rule_if : ℕ → Slot → RegRule → RegRule
+rule_if bit s block = if nat_eq bit 1 then slot_rule s block else rules.Unspecified
+
+abbrev pub near_rule : ℕ → List Slot → List (ℕ × RegRule) → ℕ → RegRule
+near_rule used near expressions q = rule_if (bit_at used q) (get_or near q no_slot) (rule_in expressions q)
+
+-- so many registers from k on, with their rules, before others
+unfoldable pub listed_from : ℕ → ℕ → (ℕ → RegRule) → List (ℕ × RegRule) → List (ℕ × RegRule)
+listed_from k zero rule far = far
+listed_from k (suc n) rule far = listed k (rule k) (listed_from (suc k) n rule far)
+
+-- those below 128 that are left from k on
+abbrev pub listed_near : ℕ → ℕ → List Slot → List (ℕ × RegRule) → List (ℕ × RegRule) → List (ℕ × RegRule)
+listed_near k used near expressions far = listed_from k (128 - k) (near_rule used near expressions) far
+
+-- the slots of all registers below 128: those below 32 have one each, and more follow as far as they were asked for
+abbrev pub slots_of : Entries → List Slot
+slots_of e = e.low ++ e.high.items
 
 -- the registers that are not Unspecified, ascending, with their rules
 abbrev pub entries_of : Entries → List (ℕ × RegRule)
-entries_of e = listed_near 0 e.near e.expressions.entries e.far.entries
+entries_of e = listed_near 0 e.used (slots_of e) e.expressions.entries e.far.entries
 
--- a slot whose bit is not set is empty
-abbrev pub Covers : ℕ → List Slot → Type 0
-Covers used near = (q : ℕ) (d : Slot) → q < length near → bit_at used q ≡ 0 → (get_or near q d).kind ≡ kinds.Empty
+-- a register that the mask has has a slot and a rule
+abbrev pub Holds : ℕ → List Slot → List (ℕ × RegRule) → Type 0
+Holds used near expressions = (q : ℕ) → bit_at used q ≡ 1 → (q < length near) × IsTrue (is_specified (near_rule used near expressions q))
 
 -- the trees ascend, and the slots are those below all that have none
 pub record EntriesSo (e : Entries) : Type 0 where
-  pub used : Covers e.used e.near
-  pub near : length e.near ≡ 32
+  pub used : Holds e.used (slots_of e) e.expressions.entries
+  pub low : length e.low ≡ 32
   pub expressions : AreSpecified 0 e.expressions.entries
-  pub far : AreSpecified 32 e.far.entries
+  pub far : AreSpecified 128 e.far.entries
 
--- the first bit of a mask from a place on
+-- the first bit of a mask from a place on, of those below an end
+abbrev pub FirstIn : ℕ → Option ℕ → ℕ → ℕ → Type 0
+FirstIn end None mask place = (q : ℕ) → place ≤ q → q < end → bit_at mask q ≡ 0
+FirstIn end (Some r) mask place = (place ≤ r) × (r < end) × (bit_at mask r ≡ 1) × ((q : ℕ) → place ≤ q → q < r → bit_at mask q ≡ 0)
+
 abbrev pub FirstBit : Option ℕ → ℕ → ℕ → Type 0
-FirstBit None mask place = (q : ℕ) → place ≤ q → q < 32 → bit_at mask q ≡ 0
-FirstBit (Some r) mask place = (place ≤ r) × (r < 32) × (bit_at mask r ≡ 1) × ((q : ℕ) → place ≤ q → q < r → bit_at mask q ≡ 0)
+FirstBit first mask place = FirstIn 128 first mask place
 
 -- the first register of the slots from a place on
-abbrev pub FindsNear : Option (ℕ × RegRule) → ℕ → List Slot → List (ℕ × RegRule) → Type 0
-FindsNear None at near expressions = (far : List (ℕ × RegRule)) → listed_near at (drop at near) expressions far ≡ far
-FindsNear (Some entry) at near expressions =
-    (entry.0 < 32) × ((far : List (ℕ × RegRule)) → listed_near at (drop at near) expressions far ≡ entry ∷ listed_near (suc entry.0) (drop (suc entry.0) near) expressions far)
+abbrev pub FindsNear : Option (ℕ × RegRule) → ℕ → ℕ → List Slot → List (ℕ × RegRule) → Type 0
+FindsNear None at used near expressions = (far : List (ℕ × RegRule)) → listed_near at used near expressions far ≡ far
+FindsNear (Some entry) at used near expressions =
+    (entry.0 < 128) × ((far : List (ℕ × RegRule)) → listed_near at used near expressions far ≡ entry ∷ listed_near (suc entry.0) used near expressions far)
 
 -- what a test of entries leaves of a register's rule
 abbrev pub left : (ℕ × RegRule → Bool) → ℕ → RegRule → RegRule
@@ -77,8 +98,7 @@ LeavesAt test r old new = (q : ℕ) → rule_in new q ≡ (if nat_eq r q then le
 abbrev pub LeavesBelow : (ℕ × RegRule → Bool) → ℕ → List (ℕ × RegRule) → List (ℕ × RegRule) → Type 0
 LeavesBelow test n old new = (q : ℕ) → rule_in new q ≡ (if nat_lt q n then left test q (rule_in old q) else rule_in old q)
 
--- below a place the slots in a mask are those of others; all others stay
-pub record CopiedBelow (used : ℕ) (old others : List Slot) (k : ℕ) (new : List Slot) : Type 0 where
-  pub slots : length new ≡ 32
-  pub below : (q : ℕ) (d : Slot) → q < k → get_or new q d ≡ (if nat_eq (bit_at used q) 0 then get_or old q d else get_or others q d)
-  pub above : (q : ℕ) (d : Slot) → k ≤ q → get_or new q d ≡ get_or old q d
+-- slots, of which the first are those that were there
+pub record HasRoom (old new : List Slot) : Type 0 where
+  pub longer : length old ≤ length new
+  pub kept : (q : ℕ) (d : Slot) → q < length old → get_or new q d ≡ get_or old q d

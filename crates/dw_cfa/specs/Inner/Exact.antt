@@ -1,28 +1,18 @@
 -- What the programs of a CIE and of an FDE give, by the run that the code keeps to.
-use Rattle.std.specs.Prelude.{◌≡◌, ℕ, ◌≤◌, List, length, Some, None, Ok, Err, ◌↔◌}
+use Rattle.std.specs.Prelude.{◌≡◌, ℕ, ◌≤◌, List, Some, None, Ok, Err, ◌↔◌}
 use Rattle.dw_num.specs.declared.refusal.Refusal.{Refusal}
 use Rattle.dw_num.specs.Target.{address_limit}
 use Rattle.dw_num.specs.Input.{Input, AreBytes}
 use Rattle.dw_cfa.specs.declared.instr.Factors.{Factors}
 use Rattle.dw_cfa.specs.declared.instr.Instr.{Instr}
 use Rattle.dw_cfa.specs.declared.execution.LocatedRow.{LocatedRow}
-use Rattle.dw_cfa.specs.InstrSpells.{Program}
-use Rattle.dw_cfa.specs.Location.{Counts, row_starts}
+use Rattle.dw_cfa.specs.InstrSpells.{ProgramSpells}
 use Rattle.dw_cfa.specs.Kept.{CieKept, FdeKept}
 use Rattle.dw_cfa.specs.Rows.{Rules, AreSpecified, blank}
-use Rattle.dw_cfa.specs.RuleAt.{last_at, NeverFalls}
 use Rattle.dw_cfa.specs.Faults.{CieFault, FdeFault}
-use Rattle.dw_cfa.specs.Behind.{Leaves, HoldsBehind}
+use Rattle.dw_cfa.specs.Behind.{Leaves}
+use Rattle.dw_cfa.specs.RulesBehind.{RulesBehind}
 use Rattle.dw_cfa.specs.Inner.Runs.{placed, initial_row, rows_behind}
-
--- a program of an FDE that keeps its rules, and rows that hold the rules at each address
-pub record RulesBehind (f : Factors) (initial : Rules) (fde : Input) (begin : ℕ) (instrs : List Instr) (rows : List LocatedRow) : Type 0 where
-  pub program : Program fde.target f instrs fde.bytes
-  pub kept : FdeKept (address_limit fde.target.size) begin initial.cfa instrs
-  pub starts : length rows ≡ row_starts instrs
-  pub never_falls : NeverFalls begin rows
-  -- the last row that starts at or below an address holds the rules at that address
-  pub holds : (a k : ℕ) → begin ≤ a → Counts begin instrs a k → (row : Rules) × (last_at a rows ≡ Some row) × HoldsBehind initial instrs k row
 
 -- a CIE's program that leaves a row is one that keeps its rules
 abbrev pub InitialLeaves : Type 0
@@ -30,7 +20,7 @@ InitialLeaves = (f : Factors) (cie : Input) (row : Rules) → AreBytes cie.bytes
 
 -- and the other way round
 abbrev pub LeavesInitial : Type 0
-LeavesInitial = (f : Factors) (cie : Input) (instrs : List Instr) → AreBytes cie.bytes → Program cie.target f instrs cie.bytes → CieKept instrs
+LeavesInitial = (f : Factors) (cie : Input) (instrs : List Instr) → AreBytes cie.bytes → ProgramSpells cie.target f instrs cie.bytes → CieKept instrs
     → (row : Rules) × (initial_row (placed f cie) blank ≡ Ok row) × Leaves f cie instrs row
 
 -- its refusal is the first fault
@@ -45,7 +35,7 @@ BehindGives = (f : Factors) (initial : Rules) (fde : Input) (begin : ℕ) (rows 
 -- and the other way round
 abbrev pub GivesRows : Type 0
 GivesRows = (f : Factors) (initial : Rules) (fde : Input) (begin : ℕ) (instrs : List Instr) → AreBytes fde.bytes → AreSpecified 0 initial.registers → begin ≤ address_limit fde.target.size
-    → Program fde.target f instrs fde.bytes → FdeKept (address_limit fde.target.size) begin initial.cfa instrs
+    → ProgramSpells fde.target f instrs fde.bytes → FdeKept (address_limit fde.target.size) begin initial.cfa instrs
     → (rows : List LocatedRow) × (rows_behind f initial fde begin ≡ record { rows = rows; fault = None }) × RulesBehind f initial fde begin instrs rows
 
 -- its refusal is the first fault

@@ -14,7 +14,7 @@ use Rattle.dw_cfa.specs.declared.instr.Factors.{Factors}
 use Rattle.dw_cfa.specs.declared.instr.Instr.{Instr}
 use Rattle.dw_cfa.specs.declared.opcode.Opcode.{Opcode}
 use Rattle.dw_cfa.specs.Inner.Operands.{opcode_of, form_of}
-use Rattle.dw_cfa.specs.Operands.{Operand, address, fixed, register, unsigned, signed, expression, Value, Form, none, one, two, offset_of}
+use Rattle.dw_cfa.specs.Operands.{Operand, address, fixed, register, unsigned, signed, expression, OperandValue, InstrForm, none, one, two, offset_of}
 
 -- ---- operands
 
@@ -42,7 +42,7 @@ after_length n = take_at n.0 n.1 >>= block_in n.1.at
 unfoldable pub block_at : Input → Read Expression
 block_at i = uleb_at i >>= after_length
 
-abbrev pub operand_at : (o : Operand) → Input → Read (Value o)
+abbrev pub operand_at : (o : Operand) → Input → Read (OperandValue o)
 operand_at address i = address_at i
 operand_at (fixed n) i = fixed_at n i
 operand_at register i = register_at i
@@ -55,11 +55,11 @@ operand_at expression i = block_at i
 abbrev pub with_instr : {X : Type 0} → (X → Instr) → X × Input → Read Instr
 with_instr make x = Ok (make x.0, x.1)
 
-abbrev pub then_operand : {X : Type 0} → (p : Operand) → (X → Value p → Instr) → X × Input → Read Instr
+abbrev pub then_operand : {X : Type 0} → (p : Operand) → (X → OperandValue p → Instr) → X × Input → Read Instr
 then_operand p make x = operand_at p x.1 >>= with_instr (make x.0)
 
 -- the operands of a form, one after another
-abbrev pub form_at : Form → Input → Read Instr
+abbrev pub form_at : InstrForm → Input → Read Instr
 form_at (none instr) i = Ok (instr, i)
 form_at (one o make) i = operand_at o i >>= with_instr make
 form_at (two o p make) i = operand_at o i >>= then_operand p make

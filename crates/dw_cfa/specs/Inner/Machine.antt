@@ -1,13 +1,11 @@
 -- The machine that runs call frame instructions: DWARF 5, 6.4.2 and 6.4.3. It goes forwards, with whole rows and a stack of remembered ones.
-use Rattle.std.specs.Prelude.{◌≡◌, ℕ, ◌+◌, List, [], ◌∷◌, length, Option, Some, None, nat_lt, if◌then◌else◌}
+use Rattle.std.specs.Prelude.{ℕ, ◌+◌, List, [], ◌∷◌, length, Bool, true, false, Option, Some, None, nat_lt, if◌then◌else◌}
 use Rattle.dw_num.specs.declared.refusal.Code.{Code}
 use Rattle.dw_num.specs.declared.refusal.Code.TheVariants.{NotInCie, LocationBackwards, LocationTooLarge, EmptyStateStack, StateStackFull, CfaNotRegister}
 use Rattle.dw_cfa.specs.declared.instr.Instr.{Instr}
 use Rattle.dw_cfa.specs.declared.instr.Instr.TheVariants.{SetLoc, Advance, Set, Restore, RememberState, RestoreState}
 use Rattle.dw_cfa.specs.declared.rule.CfaRule.{CfaRule}
 use Rattle.dw_cfa.specs.declared.rule.CfaRule.TheVariants as cfa
-use Rattle.dw_cfa.specs.declared.machine.StepError.{StepError}
-use Rattle.dw_cfa.specs.declared.machine.StepError.TheVariants.{Fault, OutOfMemory}
 use Rattle.dw_cfa.specs.Column.{cfa_change}
 use Rattle.dw_cfa.specs.Kept.{in_cie, keeps_half}
 use Rattle.dw_cfa.specs.Rows.{Rules, rule}
@@ -56,11 +54,6 @@ abbrev pub half_fault : Instr → CfaRule → Option Code
 half_fault i (cfa.Register r n) = None
 half_fault i other = if keeps_half i then Some CfaNotRegister else None
 
--- the rule is no register and offset
-abbrev pub NoHalves : CfaRule → Type 0
-NoHalves (cfa.Register r n) = ⊥
-NoHalves other = Unit {0}
-
 -- what stands against an instruction of a CIE's program
 abbrev pub cie_fault : Instr → Rules → Option Code
 cie_fault i row = if in_cie i then half_fault i row.cfa else Some NotInCie
@@ -77,7 +70,16 @@ fde_fault limit RememberState s = if nat_lt (length s.stack) 64 then None else S
 fde_fault limit RestoreState s = empty_fault s.stack
 fde_fault limit i s = half_fault i s.row.cfa
 
--- an error is such a fault, unless memory ran out
-abbrev pub FaultIs : StepError → Option Code → Type 0
-FaultIs (Fault code) fault = fault ≡ Some code
-FaultIs OutOfMemory fault = Unit {0}
+-- what stands against an instruction that a CIE's program may not hold
+abbrev pub unless_cie : Bool → Option Code → Option Code
+unless_cie true fault = Some NotInCie
+unless_cie false fault = fault
+
+-- what stands against an instruction of a CIE's or an FDE's program
+abbrev pub program_fault : Bool → ℕ → Instr → State → Option Code
+program_fault cie limit (SetLoc a) s = unless_cie cie (fde_fault limit (SetLoc a) s)
+program_fault cie limit (Advance distance) s = unless_cie cie (fde_fault limit (Advance distance) s)
+program_fault cie limit (Restore r) s = unless_cie cie (fde_fault limit (Restore r) s)
+program_fault cie limit RememberState s = unless_cie cie (fde_fault limit RememberState s)
+program_fault cie limit RestoreState s = unless_cie cie (fde_fault limit RestoreState s)
+program_fault cie limit i s = half_fault i s.row.cfa

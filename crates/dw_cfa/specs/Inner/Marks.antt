@@ -1,4 +1,4 @@
--- The registers that were set since a row was kept: those below 32 in a mask, the others in a tree.
+-- The registers that were set since a row was kept: those below 128 in a mask, the others in a tree.
 use Rattle.std.specs.Prelude.{◌≡◌, ◌&&◌, ◌||◌, ℕ, ◌<◌, ◌≤◌, Bool, List, IsTrue, nat_eq, nat_lt}
 use Rattle.std.specs.Int.{bit_at}
 use Rattle.dw_cfa.specs.declared.marks.Marks.{Marks}
@@ -10,11 +10,11 @@ use Rattle.dw_cfa.specs.Rows.{Rules, AreSpecified, is_specified, rule_in}
 -- registers are watched, and this one has no mark
 pub record Unmarked (m : Marks) (r : ℕ) : Type 0 where
   pub watched : IsTrue m.watched
-  pub near : r < 32 → bit_at m.near r ≡ 0
-  pub far : 32 ≤ r → rule_in m.far.entries r ≡ Unspecified
+  pub near : r < 128 → bit_at m.near r ≡ 0
+  pub far : 128 ≤ r → rule_in m.far.entries r ≡ Unspecified
 
 abbrev pub MarksSo : Marks → Type 0
-MarksSo m = AreSpecified 32 m.far.entries
+MarksSo m = AreSpecified 128 m.far.entries
 
 -- the registers with a mark
 abbrev pub marked : Marks → Registers

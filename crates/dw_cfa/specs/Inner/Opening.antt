@@ -7,14 +7,14 @@ use Rattle.dw_cfa.specs.declared.instr.Instr.{Instr}
 use Rattle.dw_cfa.specs.declared.instr.Instr.TheVariants.{Nop, Advance, DefCfaOffset}
 use Rattle.dw_cfa.specs.declared.opening.FirstRow.{FirstRow}
 use Rattle.dw_cfa.specs.declared.opening.FirstRow.TheVariants.{Initial, CfaOffset, Other}
-use Rattle.dw_cfa.specs.InstrSpells.{FormSpells}
-use Rattle.dw_cfa.specs.Operands.{Form, form_for}
+use Rattle.dw_cfa.specs.InstrSpells.{InstrFormSpells}
+use Rattle.dw_cfa.specs.Operands.{InstrForm, form_for}
 
 -- a code gives the CFA this offset by the bytes behind it
 pub record GivesOffset (f : Factors) (code : ℕ) (rest : List ℕ) (n : ℤ) : Type 0 where
-  pub form : Form
+  pub form : InstrForm
   pub known : form_for f code ≡ Some form
-  pub operands : (t : Target) → FormSpells t form (DefCfaOffset n) rest
+  pub operands : (t : Target) → InstrFormSpells t form (DefCfaOffset n) rest
 
 -- of answers one after another
 abbrev pub answers_move : List (Result Instr Refusal) → Bool

@@ -6,7 +6,7 @@ use Rattle.dw_cfa.specs.declared.instr.Instr.TheVariants.{Nop, SetLoc, DefCfa, D
 use Rattle.dw_cfa.specs.declared.opcode.Opcode.{Opcode}
 use Rattle.dw_cfa.specs.declared.opcode.Opcode.TheVariants as opcodes
 use Rattle.dw_cfa.specs.declared.rule.RegRule.TheVariants as rules
-use Rattle.dw_cfa.specs.Operands.{address, fixed, register, unsigned, signed, expression, Form, none, one, two, advanced}
+use Rattle.dw_cfa.specs.Operands.{address, fixed, register, unsigned, signed, expression, InstrForm, none, one, two, advanced}
 
 -- the codes that are a whole byte
 abbrev pub opcode_table : List (ℕ × Opcode)
@@ -27,7 +27,7 @@ opcode_of code =
     else look_up opcode_table code
 
 -- the operands of an opcode, with the factors multiplied out
-abbrev pub form_of : Factors → Opcode → Form
+abbrev pub form_of : Factors → Opcode → InstrForm
 form_of f opcodes.Nop = none Nop
 form_of f opcodes.SetLoc = one address SetLoc
 form_of f (opcodes.AdvanceLoc delta) = none (advanced f delta)

@@ -5,22 +5,19 @@ use Rattle.dw_num.specs.declared.refusal.Refusal.{Refusal}
 use Rattle.dw_num.specs.Target.{address_limit}
 use Rattle.dw_num.specs.Input.{Input}
 use Rattle.dw_num.specs.declared.error.ReadError.{ReadError}
-use Rattle.dw_num.specs.declared.error.ReadError.TheVariants.{Refused, OutOfMemory}
 use Rattle.dw_num.specs.Refusals.{Refuses}
 use Rattle.dw_op.specs.Walks.{Walked}
 use Rattle.dw_op.specs.Inner.Walks.{walked}
 use Rattle.dw_cfa.specs.declared.instr.Factors.{Factors}
 use Rattle.dw_cfa.specs.declared.instr.Instr.{Instr}
 use Rattle.dw_cfa.specs.declared.machine.Machine.{Machine}
-use Rattle.dw_cfa.specs.declared.machine.StepError.{StepError}
-use Rattle.dw_cfa.specs.declared.machine.StepError.TheVariants as step
 use Rattle.dw_cfa.specs.declared.execution.LocatedRow.{LocatedRow}
 use Rattle.dw_cfa.specs.Location.{moves_location}
 use Rattle.dw_cfa.specs.Rows.{Rules, blank}
 use Rattle.dw_cfa.specs.Runs.{Outcome, finished, fails, row_then}
 use Rattle.dw_cfa.specs.Inner.FrontInstr.{instr_at}
 use Rattle.dw_cfa.specs.Inner.Machine.{State, begun, written, after, cie_fault, fde_fault}
-use Rattle.dw_cfa.specs.Inner.States.{Held, BeganWith}
+use Rattle.dw_cfa.specs.Inner.States.{BeganWith}
 use Rattle.dw_cfa.specs.Inner.Steps.{state_of}
 
 -- an instruction and the place of its opcode
@@ -129,10 +126,6 @@ pub record RunsSo (m : Machine) (i : Input) : Type 0 where
   pub within : m.location ≤ m.limit
   pub first : BeganWith m.initial m.states.first
 
-abbrev pub run_error : ℕ → StepError → ReadError
-run_error at (step.Fault code) = Refused (record { code = code; at = at })
-run_error at step.OutOfMemory = OutOfMemory
-
 -- one instruction was run, of these that are left
 pub record RanTo (f : Factors) (i : Input) (m : Machine) (moves : Bool) (i' : Input) (m' : Machine) : Type 0 where
   pub so : RunsSo m' i'
@@ -151,7 +144,3 @@ GivesRow old f i m (Err e) = Refuses (λ r. old ≡ fails r) e
 pub record WroteTo (f : Factors) (i : Input) (row : Rules) (i' : Input) (row' : Rules) : Type 0 where
   pub shorter : length i'.bytes < length i.bytes
   pub initial : initial_row (placed f i) row ≡ initial_row (placed f i') row'
-
-abbrev pub Wrote : {X : Type 0} → Factors → Input → Held → Result X ReadError → Input → Held → Type 0
-Wrote f i s (Ok x) i' s' = WroteTo f i s.row i' s'.row × (s'.stack ≡ s.stack) × (s'.first ≡ s.first)
-Wrote f i s (Err e) i' s' = Refuses (λ r. initial_row (placed f i) s.row ≡ Err r) e

@@ -1,31 +1,51 @@
 -- One turn of the loop that runs an FDE's program.
-use Rattle.std.specs.Prelude.{◌≡◌, ℕ, true, false, None, Some, Result, Ok, Err}
+use Rattle.std.specs.Prelude.{◌≡◌, ℕ, ◌≤◌, ◌^◌, Bool, true, false, [], Some, None, Ok, Err}
 use Rattle.dw_num.specs.declared.refusal.Refusal.{Refusal}
 use Rattle.dw_num.specs.Input.{Input}
 use Rattle.dw_num.specs.Front.{Read}
-use Rattle.dw_num.specs.declared.error.ReadError.{ReadError}
-use Rattle.dw_num.specs.Refusals.{Refuses}
 use Rattle.dw_cfa.specs.declared.instr.Factors.{Factors}
 use Rattle.dw_cfa.specs.declared.instr.Instr.{Instr}
 use Rattle.dw_cfa.specs.declared.machine.Machine.{Machine}
 use Rattle.dw_cfa.specs.declared.machine.End.{End}
 use Rattle.dw_cfa.specs.declared.machine.End.TheVariants as ends
 use Rattle.dw_cfa.specs.Location.{moves_location}
-use Rattle.dw_cfa.specs.Inner.Machine.{cie_fault, fde_fault, written}
+use Rattle.dw_cfa.specs.Rows.{Rules, blank}
+use Rattle.dw_cfa.specs.Inner.Machine.{program_fault}
 use Rattle.dw_cfa.specs.Inner.States.{Held}
 use Rattle.dw_cfa.specs.Inner.Steps.{state_of, IsAfter}
 use Rattle.dw_cfa.specs.Runs.{fails}
-use Rattle.dw_cfa.specs.Inner.Runs.{rows_left, RanTo}
+use Rattle.dw_cfa.specs.Inner.Runs.{initial_row, placed, rows_left, RanTo, WroteTo}
 
--- the instruction of a place, which is read so or not at all, was applied to the machine or refused
-abbrev pub Applied : Read Instr → ℕ → Machine → End → Refusal → Input → Machine → Type 0
-Applied (Ok x) at m ends.On fault j m' = (x.1 ≡ j) × (moves_location x.0 ≡ false) × IsAfter m x.0 m'
-Applied (Ok x) at m ends.Moved fault j m' = (x.1 ≡ j) × (moves_location x.0 ≡ true) × IsAfter m x.0 m'
-Applied (Ok x) at m ends.Refused fault j m' = (fault.at ≡ at) × (fde_fault m.limit x.0 (state_of m) ≡ Some fault.code)
-Applied (Ok x) at m ends.OutOfMemory fault j m' = Unit {0}
-Applied (Err r) at m ends.Refused fault j m' = r ≡ fault
-Applied (Err r) at m ends.OutOfMemory fault j m' = Unit {0}
-Applied (Err r) at m end fault j m' = ⊥
+-- the machine with another row
+abbrev pub with_row : Rules → Machine → Machine
+with_row row m = record { initial = m.initial; states = record { row = row; stack = m.states.stack; first = m.states.first; kept = m.states.kept }; location = m.location; limit = m.limit }
+
+abbrev pub IsWithinLimit : Machine → Type 0
+IsWithinLimit m = m.location ≤ m.limit
+
+-- what no instruction changes, whether it is refused or not
+abbrev pub Stays : Machine → Machine → Type 0
+Stays m m' = (m'.initial ≡ m.initial) × (m'.states.kept ≡ m.states.kept)
+
+-- an instruction of a place was run by the machine, or refused
+abbrev pub Ran : Bool → Instr → ℕ → Machine → End → Refusal → Machine → Type 0
+Ran cie i at m ends.On fault m' = (moves_location i ≡ false) × IsAfter cie m i m'
+Ran cie i at m ends.Moved fault m' = (moves_location i ≡ true) × IsAfter cie m i m'
+Ran cie i at m ends.Refused fault m' = (fault.at ≡ at) × (program_fault cie m.limit i (state_of m) ≡ Some fault.code)
+Ran cie i at m ends.OutOfMemory fault m' = Unit {0}
+
+abbrev pub Did : Bool → Instr → ℕ → Machine → End → Refusal → Machine → Type 0
+Did cie i at m end fault m' = Ran cie i at m end fault m' × Stays m m'
+
+-- what is done with an instruction that is read, whatever that is, or the refusal of one that is not
+abbrev pub Taken : {K : Type 0} → (K → Instr → ℕ → End → Refusal → K → Type 0) → Read Instr → ℕ → K → End → Refusal → Input → K → Type 0
+Taken takes (Ok x) at k end fault j k' = (x.1 ≡ j) × takes k x.0 at end fault k'
+Taken takes (Err r) at k ends.Refused fault j k' = (r ≡ fault) × (k' ≡ k)
+Taken takes (Err r) at k end fault j k' = ⊥
+
+-- what is done with it is to run it
+abbrev pub Does : Bool → {K : Type 0} → (K → Machine) → (K → Instr → ℕ → End → Refusal → K → Type 0) → Type 0
+Does cie {K} machine takes = (k : K) (i : Instr) (at : ℕ) (end : End) (fault : Refusal) (k' : K) → takes k i at end fault k' → Did cie i at (machine k) end fault (machine k')
 
 -- the first instruction that is left was run, or its refusal answered
 abbrev pub Turned : Factors → Input → Machine → End → Refusal → Input → Machine → Type 0
@@ -34,10 +54,19 @@ Turned f i m ends.Moved fault j m' = RanTo f i m true j m'
 Turned f i m ends.Refused fault j m' = rows_left f i m ≡ fails fault
 Turned f i m ends.OutOfMemory fault j m' = Unit {0}
 
+-- a CIE's program has no location: the machine is at 0, within any limit
+abbrev pub cie_machine : Held → Machine
+cie_machine s = record { initial = blank; states = s; location = 0; limit = 2 ^ 64 }
+
+-- a row alone, of which nothing is remembered
+abbrev pub begun_with : Rules → Held
+begun_with row = record { row = row; stack = []; first = None; kept = blank }
+
+abbrev pub RunsCie : Machine → Type 0
+RunsCie m = IsWithinLimit m × (2 ^ 64 ≤ m.limit)
+
 -- the same for an instruction of a CIE's program, whose rule was written into the row
-abbrev pub Entered : {X : Type 0} → Read Instr → ℕ → Held → Result X ReadError → Input → Held → Type 0
-Entered (Ok x) at s (Ok u) j s' =
-    (x.1 ≡ j) × (cie_fault x.0 s.row ≡ None) × (s' ≡ record { row = written x.0 s.row; stack = s.stack; first = s.first; kept = s.kept })
-Entered (Ok x) at s (Err e) j s' = Refuses (λ r. (r.at ≡ at) × (cie_fault x.0 s.row ≡ Some r.code)) e
-Entered (Err r) at s (Ok u) j s' = ⊥
-Entered (Err r) at s (Err e) j s' = Refuses (λ q. r ≡ q) e
+abbrev pub Entered : Factors → Input → Machine → End → Refusal → Input → Machine → Type 0
+Entered f i m ends.Refused fault j m' = initial_row (placed f i) m.states.row ≡ Err fault
+Entered f i m ends.OutOfMemory fault j m' = Unit {0}
+Entered f i m end fault j m' = WroteTo f i m.states.row j m'.states.row × RunsCie m' × (m'.states.stack ≡ m.states.stack) × (m'.states.first ≡ m.states.first)

@@ -4,13 +4,13 @@ use Rattle.dw_op.specs.declared.op.Op.{Op}
 use Rattle.dw_eval.specs.declared.error.EvalError.{EvalError}
 use Rattle.dw_eval.specs.declared.error.Kind.{Kind}
 use Rattle.dw_eval.specs.Context.{Context}
-use Rattle.dw_eval.specs.Effect.{Outcome, leads}
+use Rattle.dw_eval.specs.Effect.{OpEffect, leads}
 use Rattle.dw_eval.specs.Evaluation.{State, index_of, value_step, value_start, value_reads, top_of}
 use Rattle.dw_eval.specs.Runs.{Runs}
 use Rattle.dw_eval.specs.Inner.Runs.{Answered}
 
 -- where an operation leads that stands at an index
-abbrev pub led : ℕ → Outcome → Result State Kind
+abbrev pub led : ℕ → OpEffect → Result State Kind
 led i o = leads {S = State} (λ j stack. record { index = j; stack = stack }) i o
 
 -- with the stack at the start

@@ -5,12 +5,12 @@ use Rattle.dw_eval.specs.declared.error.EvalError.{EvalError}
 use Rattle.dw_eval.specs.declared.error.Kind.{Kind}
 use Rattle.dw_eval.specs.declared.place.Piece.{Piece}
 use Rattle.dw_eval.specs.Context.{Context}
-use Rattle.dw_eval.specs.Effect.{Outcome, leads}
+use Rattle.dw_eval.specs.Effect.{OpEffect, leads}
 use Rattle.dw_eval.specs.Location.{PlaceState, place_index, with_stack, place_step, place_start, place_reads, pieces_of}
 use Rattle.dw_eval.specs.Runs.{Runs}
 use Rattle.dw_eval.specs.Inner.Runs.{Answered}
 
-abbrev pub place_led : PlaceState → Outcome → Result PlaceState Kind
+abbrev pub place_led : PlaceState → OpEffect → Result PlaceState Kind
 place_led s o = leads (λ i stack. with_stack i stack s) s.index o
 
 module _ (ops : List Op) (c : Context) where

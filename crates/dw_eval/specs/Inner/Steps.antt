@@ -8,10 +8,10 @@ use Rattle.dw_eval.specs.declared.stack.Flow.{Flow}
 use Rattle.dw_eval.specs.declared.stack.Flow.TheVariants as flow
 use Rattle.dw_eval.specs.declared.stack.Stop.{Stop}
 use Rattle.dw_eval.specs.declared.stack.Stop.TheVariants as stop
-use Rattle.dw_eval.specs.Effect.{Outcome, Next, Jump, Faults}
+use Rattle.dw_eval.specs.Effect.{OpEffect, Next, Jump, Faults}
 
 -- an operation without memory answers its outcome, or want of memory
-abbrev pub Does : Outcome → Result Flow Stop → List ℕ → Type 0
+abbrev pub Does : OpEffect → Result Flow Stop → List ℕ → Type 0
 Does outcome (Ok flow.Next) stack = outcome ≡ Next stack
 Does outcome (Ok (flow.Jump i)) stack = outcome ≡ Jump i stack
 Does outcome (Err (stop.Fault kind)) stack = outcome ≡ Faults kind
@@ -19,7 +19,7 @@ Does outcome (Err stop.Device) stack = ⊥
 Does outcome (Err stop.OutOfMemory) stack = Unit {0}
 
 -- so does one over a memory, while the count of failures stays; where it grew, this was read
-abbrev pub Acts : Outcome → Type 0 → ℕ → Result Flow Stop → List ℕ → ℕ → Type 0
+abbrev pub Acts : OpEffect → Type 0 → ℕ → Result Flow Stop → List ℕ → ℕ → Type 0
 Acts outcome Read before (Ok flow.Next) stack after = (outcome ≡ Next stack) × (after ≡ before)
 Acts outcome Read before (Ok (flow.Jump i)) stack after = (outcome ≡ Jump i stack) × (after ≡ before)
 Acts outcome Read before (Err (stop.Fault kind)) stack after = (outcome ≡ Faults kind) × (after ≡ before)

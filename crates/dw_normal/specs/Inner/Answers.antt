@@ -15,7 +15,7 @@ use Rattle.dw_normal.specs.declared.error.WriteError.TheVariants as write_error
 use Rattle.dw_canon.specs.Inner.Canon.{canon}
 use Rattle.dw_canon.specs.Members.{Member, AreMembers}
 use Rattle.dw_normal.specs.Inner.Groups.{initial_rows}
-use Rattle.dw_normal.specs.Answers.{too_long, IsTooLong, IsWithin}
+use Rattle.dw_normal.specs.Answers.{too_long, IsTooLong, FitsCap}
 
 -- an accepted section whose normal form is within the cap
 pub record IsShort (target : Target) (cap : ℕ) (s : List ℕ) : Type 0 where
@@ -42,7 +42,7 @@ blamed which (read_error.Refused r) = same_error.Refused which r
 abbrev pub LengthFault : Target → ℕ → List ℕ → List ℕ → SameError → Type 0
 LengthFault target cap a b same_error.OutOfMemory = Unit {0}
 LengthFault target cap a b (same_error.Refused First r) = IsTooLong target cap a × (r ≡ too_long)
-LengthFault target cap a b (same_error.Refused Second r) = IsWithin target cap a × IsTooLong target cap b × (r ≡ too_long)
+LengthFault target cap a b (same_error.Refused Second r) = FitsCap target cap a × IsTooLong target cap b × (r ≡ too_long)
 
 -- an error before the first byte
 abbrev pub unwritten : ReadError → WriteError

@@ -21,13 +21,13 @@ pub record IsReady (t : Target) (b : Begun) : Type 0 where
   pub stand : Stand t b.shared.now b.fde.begin b.changes
 
 -- it is this FDE among those
-pub record Begins (ms : List Member) (m : Member) (b : Begun) : Type 0 where
+pub record IsBegun (ms : List Member) (m : Member) (b : Begun) : Type 0 where
   pub fde : b.fde ≡ fde_of m
   pub shared : b.shared.now ≡ initial_of ms m.register
   pub first : shown_row b.changes ≡ m.first
   pub later : b.changes.to_come ≡ m.later
 
--- its initial row is that of its return register, and what is known of CIEs holds of the rows
+-- its initial row is that of its return address register, and what is known of CIEs holds of the rows
 pub record SharesIn (rows : List (ℕ × Rules)) (b : Begun) : Type 0 where
   pub shared : row_of rows b.fde.return_register ≡ Some b.shared.now
   pub known : AreSame b.changes.section rows b.apart.known.cies

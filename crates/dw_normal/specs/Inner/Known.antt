@@ -17,7 +17,7 @@ AreLess old new = (at : ℕ) → (get nat_cmp new at ≡ None) ⊎ (get nat_cmp 
 abbrev pub Puts : ℕ → CieSet → BTreeMap ℕ CieSet → BTreeMap ℕ CieSet → Type 0
 Puts place cie old new = (at : ℕ) → (get nat_cmp new at ≡ get nat_cmp old at) ⊎ ((at ≡ place) × (get nat_cmp new at ≡ Some cie))
 
--- what holds of the set of a CIE, if one is known for the return register
+-- what holds of the set of a CIE, if one is known for the return address register
 abbrev pub HoldsAt : (Registers → Type 0) → ℕ → ℕ → BTreeMap ℕ CieSet → Type 0
 HoldsAt holds place register cies = (set : Registers) → get nat_cmp cies place ≡ Some (record { register = register; set = set }) → holds set
 

@@ -26,13 +26,13 @@ EntryLeaves t at instrs room result = (cie_at range : ℕ) → Leaves room (leng
 abbrev pub FdeLeaves : Target → Rules → ℕ → Changing → ℕ → Option ℕ → Type 0
 FdeLeaves t shared at changes room result = EntryLeaves t at (difference shared shared (shown_row changes) ++ later_changes shared at (shown_row changes) changes.to_come) room result
 
--- an FDE among others, behind the initial row of its return register
+-- an FDE among others, behind the initial row of its return address register
 abbrev pub MemberLeaves : Target → List Member → Member → ℕ → Option ℕ → Type 0
 MemberLeaves t ms m room result = EntryLeaves t m.begin (fde_instrs (initial_of ms m.register) m) room result
 
 -- ---- all entries
 
--- the CIE of a return register with its initial row
+-- the CIE of a return address register with its initial row
 abbrev pub cie_with : Target → ℕ × Rules → Written
 cie_with t entry = cie entry.0 (cie_instrs entry.1) (program_bytes t (cie_instrs entry.1))
 

@@ -11,16 +11,16 @@ use Rattle.dw_canon.specs.Members.{Member}
 use Rattle.dw_canon.specs.Inner.Written.{Written, entry_bytes}
 use Rattle.dw_normal.specs.Inner.Lengths.{cie_with}
 
--- the place that is kept of a return register
+-- the place that is kept of a return address register
 abbrev pub place_in : List (ℕ × ℕ) → ℕ → Option ℕ
 place_in places register = lookup (is_at (nat_cmp register)) places
 
--- where the CIE of a return register stands, among CIEs of which the first stands at a place
+-- where the CIE of a return address register stands, among CIEs of which the first stands at a place
 abbrev pub cie_place : Target → ℕ → List (ℕ × Rules) → ℕ → Option ℕ
 cie_place t at [] register = None
 cie_place t at (row ∷ rows) register = if row.0 == register then Some at else cie_place t (at + length (entry_bytes t (cie_with t row))) rows register
 
--- the return registers ascend, from low on
+-- the return address registers ascend, from low on
 abbrev pub RowsRise : ℕ → List (ℕ × Rules) → Type 0
 RowsRise low [] = Unit {0}
 RowsRise low (row ∷ rows) = (low ≤ row.0) × RowsRise (suc row.0) rows

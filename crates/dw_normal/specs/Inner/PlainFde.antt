@@ -33,7 +33,7 @@ pub record Opens (t : Target) (shared first : Rules) (own : Opened) : Type 0 whe
   pub marks : Marks first own.marks × Marks shared own.marks
   pub bytes : own.program.items ≡ program_bytes t (difference shared shared first)
 
--- what is known, where an FDE of a return register begins behind this row
+-- what is known, where an FDE of a return address register begins behind this row
 pub record IsKnown (opened : Option Opened) (behind : Option CieRow) (register : ℕ) (own : Opened) : Type 0 where
   pub is : opened ≡ Some own
   pub same : behind ≡ Some own.behind
@@ -46,7 +46,7 @@ pub record KeepsFirst (t : Target) (behind : Option CieRow) (b : Begun) (opened 
   pub opens : Opens t b.shared.now (shown_row b.changes) own
 
 -- FDEs of the section that begin behind the known row have it at their begin, and this leads to it from the initial row of those of
--- the return register, whose offsets are marked too
+-- the return address register, whose offsets are marked too
 pub record FirstOf (t : Target) (s : List ℕ) (own : Opened) : Type 0 where
   pub first : (ms : List Member) → AreMembers t s ms → (d : Member) (k : ℕ) → k < length ms → OpensBehind t s (fde_of (slice_index_or ms k d)) own.behind → (slice_index_or ms k d).first ≡ own.first
   pub bytes : (ms : List Member) → AreMembers t s ms → own.program.items ≡ program_bytes t (difference (initial_of ms own.register) (initial_of ms own.register) own.first)

@@ -3,7 +3,7 @@ use Rattle.std.specs.Prelude.{◌≡◌, ℕ, ℤ, ◌<◌, ◌≤◌, List, ◌
 use Rattle.dw_num.specs.Leb.{Sleb, Uleb}
 use Rattle.dw_num.specs.declared.target.Order.{Order}
 use Rattle.dw_num.specs.declared.target.Target.{Target}
-use Rattle.dw_cfa.specs.InstrSpells.{Program}
+use Rattle.dw_cfa.specs.InstrSpells.{ProgramSpells}
 use Rattle.dw_cfa.specs.declared.instr.Factors.{Factors}
 use Rattle.dw_cfa.specs.declared.instr.Instr.{Instr}
 use Rattle.dw_cfa.specs.declared.instr.Instr.TheVariants as instr
@@ -33,13 +33,13 @@ IsNear other = Unit {0}
 pub record FirstOf (t : Target) (f : Factors) (p : Plain) (count : ℕ) (bytes : List ℕ) (instrs : List Instr) : Type 0 where
   pub rest : List Instr
   pub whole : instrs ≡ instr_of p ∷ rest
-  pub spelled : Program t f rest (drop count bytes)
+  pub spelled : ProgramSpells t f rest (drop count bytes)
 
 abbrev pub StandsFirst : Factors → Order → Plain → ℕ → List ℕ → Type 0
-StandsFirst f order p count bytes = (t : Target) (instrs : List Instr) → t.order ≡ order → Program t f instrs bytes → FirstOf t f p count bytes instrs
+StandsFirst f order p count bytes = (t : Target) (instrs : List Instr) → t.order ≡ order → ProgramSpells t f instrs bytes → FirstOf t f p count bytes instrs
 
 -- what is told of the bytes of a program: an instruction, and how many bytes it has
-pub record Reads (f : Factors) (order : Order) (bytes : List ℕ) (x : Plain × ℕ) : Type 0 where
+pub record ReadsPlain (f : Factors) (order : Order) (bytes : List ℕ) (x : Plain × ℕ) : Type 0 where
   pub count : (0 < x.1) × (x.1 ≤ length bytes)
   pub near : IsNear x.0
   pub first : StandsFirst f order x.0 x.1 bytes

@@ -2,7 +2,7 @@
 use Rattle.std.specs.Prelude.{◌≡◌, ℕ, suc, ◌<◌, ◌≤◌, false, List, [], ◌∷◌, ◌++◌, Option, Some, None, if◌then◌else◌, ℤ}
 use Rattle.dw_num.specs.declared.target.Target.{Target}
 use Rattle.dw_num.specs.Target.{address_limit}
-use Rattle.dw_cfa.specs.InstrSpells.{Program}
+use Rattle.dw_cfa.specs.InstrSpells.{ProgramSpells}
 use Rattle.dw_cfa.specs.Inner.Machine.{State, after, begun}
 use Rattle.dw_cfa.specs.Inner.Runs.{here}
 use Rattle.dw_cfa.specs.Location.{moves_location}
@@ -32,7 +32,7 @@ changes_by end shown initial instrs s = changes_among end (Some shown) (rows_by 
 
 -- a program, and the row at the FDE's begin, to which the registers of the CIE's row are brought back
 pub record IsPlain (t : Target) (f : Factors) (shared first : Rules) (begin last : ℕ) (initial : Rules) (instrs : List Instr) (bytes : List ℕ) : Type 0 where
-  pub program : Program t f instrs bytes
+  pub program : ProgramSpells t f instrs bytes
   pub same : (r : ℕ) → rule initial r ≡ rule first r
   pub listed : AreSpecified 0 first.registers
   pub within : begin ≤ last
@@ -119,6 +119,6 @@ pub record IsUndone (first : Rules) (old new : PlainRun) : Type 0 where
 -- the instructions that are left, which make the whole with what was appended so far
 pub record Left (frame : Frame) (f : Factors) (initial : Rules) (whole : List ℕ) (run : PlainRun) (left made : List ℕ) : Type 0 where
   pub rest : List Instr
-  pub spelled : Program frame.target f rest left
+  pub spelled : ProgramSpells frame.target f rest left
   pub runs : RunsIn frame run initial rest
   pub written : made ++ bytes_in frame run initial rest ≡ whole

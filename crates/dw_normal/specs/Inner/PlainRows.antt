@@ -6,7 +6,7 @@ use Rattle.dw_cfa.specs.declared.rule.CfaRule.{CfaRule}
 use Rattle.dw_cfa.specs.declared.rule.CfaRule.TheVariants as cfa
 use Rattle.dw_cfa.specs.declared.rule.RegRule.{RegRule}
 use Rattle.dw_cfa.specs.declared.rule.RegRule.TheVariants as rules
-use Rattle.dw_cfa.specs.Inner.RowEquality.{same_rows}
+use Rattle.dw_cfa.proofs.Lent.Equal.{row_test}
 use Rattle.dw_cfa.specs.Inner.Rows.{put}
 use Rattle.dw_cfa.specs.Rows.{AreSpecified, Rules, rule}
 use Rattle.dw_canon.specs.Difference.{move}
@@ -84,11 +84,11 @@ pub record IsPushed (first : Rules) (old new : PlainRows) : Type 0 where
 -- what is written where the current row ends: nothing where it is the one that was written last
 abbrev pub row_instrs : Rules → Rules → PlainRows → List Instr
 row_instrs shared first rows =
-    if same_rows (written_row first rows) (own_row first rows) then [] else move rows.at rows.start ∷ difference shared (written_row first rows) (own_row first rows)
+    if row_test.0 (written_row first rows) (own_row first rows) then [] else move rows.at rows.start ∷ difference shared (written_row first rows) (own_row first rows)
 
 -- the address of the row that is the last one written then
 abbrev pub written_at : Rules → PlainRows → ℕ
-written_at first rows = if same_rows (written_row first rows) (own_row first rows) then rows.at else rows.start
+written_at first rows = if row_test.0 (written_row first rows) (own_row first rows) then rows.at else rows.start
 
 -- the same row, which is written now
 pub record IsWritten (first : Rules) (old new : PlainRows) : Type 0 where

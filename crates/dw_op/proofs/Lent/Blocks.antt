@@ -1,6 +1,6 @@
 -- What is decoded is the block's operations, or its first fault.
 use Rattle.dw_op.proofs.Words.{◌≡◌, ℕ, zero, suc, ◌+◌, ◌<◌, List, [], ◌∷◌, ◌++◌, length, Option, Some, None, Result, Ok, Err, refl, sym, ap, subst, ◌∙◌, arith, inl, inr, ◌⊎◌, IsTrue, slice_get, cases_lt, AllByRecursion, append-nil}
-use Rattle.dw_op.proofs.Words.{BadBranch, Refusal, Target, Input, AreBytes, Op, Profile, Frame, Location, Step, Plain, Jump, start, Stands, EachPart, joined, Block, step_at, Item, Walk, walk, index_at, op_of, put_first, resolve, unless}
+use Rattle.dw_op.proofs.Words.{BadBranch, Refusal, Target, Input, AreBytes, Op, Profile, Frame, Location, Step, Plain, Jump, start, Stands, EachPart, joined, Block, step_at, PlacedStep, Walk, walk, index_at, op_of, put_first, resolve, unless}
 use Rattle.dw_op.proofs.Words.{block_input, decode_at, IsBlock, op_allowed, IsPart, Leads, ReadingFault, BlockFault}
 use Rattle.dw_op.specs.declared.op.Op.TheVariants as ops
 use Rattle.dw_op.specs.declared.operation.Branch.TheVariants.{Bra, Skip}
@@ -76,10 +76,10 @@ pub same_refusal : (a b : Refusal) → refused a ≡ refused b → a ≡ b
 same_refusal a b e = cc
 
 -- the first or a later one is bad
-abbrev Unresolved : (ℕ → Option ℕ) → ℕ → Step → List Item → Refusal → Type 0
+abbrev Unresolved : (ℕ → Option ℕ) → ℕ → Step → List PlacedStep → Refusal → Type 0
 Unresolved find at step items r = ((op_of find at step ≡ None) × (r ≡ bad_branch at)) ⊎ ((op : Op) × (op_of find at step ≡ Some op) × (resolve find items ≡ Err r))
 
-unresolved_first : (find : ℕ → Option ℕ) (at : ℕ) (step : Step) (items : List Item) (o : Option Op) (q : Result (List Op) Refusal) (r : Refusal) → op_of find at step ≡ o → resolve find items ≡ q → put_first o at q ≡ Err r → Unresolved find at step items r
+unresolved_first : (find : ℕ → Option ℕ) (at : ℕ) (step : Step) (items : List PlacedStep) (o : Option Op) (q : Result (List Op) Refusal) (r : Refusal) → op_of find at step ≡ o → resolve find items ≡ q → put_first o at q ≡ Err r → Unresolved find at step items r
 unresolved_first find at step items None q r one two e = inl (one, sym (same_refusal (bad_branch at) r e))
 unresolved_first find at step items (Some op) (Ok more) r one two e = absurd cc
 unresolved_first find at step items (Some op) (Err x) r one two e = inr (op, one, two ∙ e)

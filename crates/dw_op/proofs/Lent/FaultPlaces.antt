@@ -1,6 +1,6 @@
 -- The faults of a block have places in it or at its end.
 use Rattle.dw_op.proofs.Words.{ℕ, zero, suc, ◌≤◌, List, [], ◌∷◌, length, Option, Some, None, Ok, Err, sym, ap, subst, arith, inl, inr, nat_le, ◌&&◌, length-append, Refusal, Target, Input, byte_count, Read, fixed_at, take_at, uleb_at}
-use Rattle.dw_op.proofs.Words.{address_at, ◌>>=◌, Profile, Step, Opcode, start, joined, BlockFault, Field, Form, opcode_of, allows, width_of, with_op, with_jump, operands_at, judged, after_code, step_at}
+use Rattle.dw_op.proofs.Words.{address_at, ◌>>=◌, Profile, Step, Opcode, start, joined, BlockFault, Field, OpForm, opcode_of, allows, width_of, with_op, with_jump, operands_at, judged, after_code, step_at}
 use Rattle.dw_num.proofs.Lent.Stays.{Inside, Stays, inside_all, stays_in, stays-then, either_stays, fixed_stays, take_stays, uleb_stays, sleb_stays, register_stays}
 use Rattle.dw_op.specs.Operands as fields
 use Rattle.dw_op.proofs.Signed.{count_in}
@@ -25,7 +25,7 @@ value_stays fields.size i = of (fixed_at 1 i) (fixed_stays 1 i)
     of (Err r) h = h
 value_stays fields.block i = next_stays i (uleb_at i) counted_in (uleb_stays i) (λ x. take_stays x.0 x.1)
 
-form_stays : (form : Form) (i : Input) → Stays i (step_of form i)
+form_stays : (form : OpForm) (i : Input) → Stays i (step_of form i)
 form_stays (fields.none made) i = inside_all i
 form_stays (fields.one o make) i = next_stays i (value_at o i) (with_op make) (value_stays o i) (λ x. inside_all x.1)
 form_stays (fields.two o p make) i =

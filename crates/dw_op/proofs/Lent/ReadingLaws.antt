@@ -3,7 +3,7 @@ use Rattle.dw_op.proofs.Words.{◌≡◌, ℕ, zero, suc, ◌-◌, ◌%◌, ◌<
 use Rattle.dw_op.proofs.Words.{Width, w8, w16, w32, w64, nat_tests, cases_Bool, eqb-true, le-leb, lt-ltb, le-ltb, bind_ok, cond_ok, Takes-then, take_found, BadDerefSize, NotInFrame, Refusal, Target, Size, byte_count, address_limit, Input}
 use Rattle.dw_op.proofs.Words.{AreBytes, Takes, IsWidth, Fixed, FixedSigned, fixed_number, Uleb, Read, fault, fixed_at, take_at, uleb_at, sleb_at, address_at, ◌>>=◌, register_at, done, ok_is, uleb_found, register_found, sleb_found}
 use Rattle.dw_op.proofs.Words.{taken_bytes, fixed_found, address_found, byte_found, is_fixed, Op, Addr, Const, Pick, PlusUconst, Reg, Breg, Fbreg, Piece, DerefSize, BitPiece, Profile, Frame, Location, Branch, Step, Plain, Jump, One, Two}
-use Rattle.dw_op.proofs.Words.{Opcode, bare, branch_target, in_frame, Spells, FormSpells, StepSpells, branch_code, step_in_frame, step_allowed, Field, Value, Form, form_table, form_of, natural, constant, look_up, in_range, implicit}
+use Rattle.dw_op.proofs.Words.{Opcode, bare, branch_target, in_frame, FieldSpells, OpFormSpells, StepSpells, branch_code, step_in_frame, step_allowed, Field, FieldValue, OpForm, op_form_table, form_of, natural, constant, look_up, in_range, implicit}
 use Rattle.dw_op.proofs.Words.{plain_table, plain_op, operand_table, alone, or_else, opcode_of, code_in_frame, allows, with_op, width_of, signed_of, with_jump, size_in, operands_at, judged, after_code, step_at}
 use Rattle.dw_num.specs.declared.target.Size.TheVariants as sizes
 use Rattle.dw_op.specs.declared.op.Op.TheVariants as ops
@@ -59,7 +59,7 @@ branch_of op = Skip
 abbrev pub branch_in : (ℕ → Op) → Branch
 branch_in to = branch_of (to 0)
 
-abbrev pub form_for : Target → Opcode → Form
+abbrev pub form_for : Target → Opcode → OpForm
 form_for t (opcodes.Alone op) = fields.none (bare op)
 form_for t opcodes.Addr = fields.one fields.address Addr
 form_for t (opcodes.Unsigned count) = fields.one (fields.fixed (width_of count)) (natural t)
@@ -85,7 +85,7 @@ Wide (fields.fixed n) = IsWidth n
 Wide (fields.twos w) = int_width (count_in w) ≡ w
 Wide other = Unit {0}
 
-abbrev pub FormWide : Form → Type 0
+abbrev pub FormWide : OpForm → Type 0
 FormWide (fields.one o make) = Wide o
 FormWide (fields.two o p make) = Wide o × Wide p
 FormWide other = Unit {0}
@@ -95,10 +95,10 @@ abbrev Quiet : Bool → Op → Type 0
 Quiet framed op = (branch_target op ≡ None) × (in_frame op ≡ framed)
 
 -- what the operations of a form are
-abbrev pub Makes : Form → ℕ → Bool → Type 0
+abbrev pub Makes : OpForm → ℕ → Bool → Type 0
 Makes (fields.none op) code framed = Quiet framed op
-Makes (fields.one o make) code framed = (x : Value o) → Quiet framed (make x)
-Makes (fields.two o p make) code framed = (x : Value o) (y : Value p) → Quiet framed (make x y)
+Makes (fields.one o make) code framed = (x : FieldValue o) → Quiet framed (make x)
+Makes (fields.two o p make) code framed = (x : FieldValue o) (y : FieldValue p) → Quiet framed (make x y)
 Makes (fields.branch to) code framed = ((i : ℕ) → (branch_target (to i) ≡ Some i) × (in_frame (to i) ≡ framed)) × (code ≡ branch_code (branch_in to)) × (framed ≡ true)
 
 -- what is known of a code
@@ -109,7 +109,7 @@ pub record Known (t : Target) (code : ℕ) (opcode : Opcode) : Type 0 where
 
 module _ (t : Target) where
   abbrev InTable : Opcode → ℕ → Type 0
-  InTable opcode code = (look_up (form_table t) code ≡ Some (form_for t opcode)) × FormWide (form_for t opcode) × Makes (form_for t opcode) code (code_in_frame opcode)
+  InTable opcode code = (look_up (op_form_table t) code ≡ Some (form_for t opcode)) × FormWide (form_for t opcode) × Makes (form_for t opcode) code (code_in_frame opcode)
 
   plain_entries : EachEntry (λ op code. InTable (opcodes.Alone op) code) plain_table
   plain_entries =
@@ -163,7 +163,7 @@ abbrev pub counted_in : ℕ × Input → Read (List ℕ)
 counted_in n = take_at n.0 n.1
 
 -- what a field holds
-abbrev pub value_at : (o : Field) → Input → Read (Value o)
+abbrev pub value_at : (o : Field) → Input → Read (FieldValue o)
 value_at (fields.fixed n) i = fixed_at n i
 value_at (fields.twos w) i = fixed_at (width_of (count_in w)) i >>= signed_in w
 value_at fields.address i = address_at i
@@ -173,11 +173,11 @@ value_at fields.register i = register_at i
 value_at fields.size i = fixed_at 1 i >>= sized_in (byte_count i.target.size) i.at
 value_at fields.block i = uleb_at i >>= counted_in
 
-abbrev pub then_value : {X : Type 0} (p : Field) → (X → Value p → Op) → X × Input → Read Step
+abbrev pub then_value : {X : Type 0} (p : Field) → (X → FieldValue p → Op) → X × Input → Read Step
 then_value p make x = value_at p x.1 >>= with_op (make x.0)
 
 -- the step that a form's fields make
-abbrev pub step_of : Form → Input → Read Step
+abbrev pub step_of : OpForm → Input → Read Step
 step_of (fields.none op) i = Ok (Plain op, i)
 step_of (fields.one o make) i = value_at o i >>= with_op make
 step_of (fields.two o p make) i = value_at o i >>= then_value p make
@@ -208,7 +208,7 @@ operands_are opcode i = refl
 sized_so : (most n : ℕ) → (nat_le 1 n && nat_le n most) ≡ true → (1 ≤ n) × (n ≤ most)
 sized_so most n e = (grind (arith, nat_tests), grind (arith, nat_tests))
 
-value_found : (o : Field) (i new : Input) (x : Value o) → Wide o → AreBytes i.bytes → value_at o i ≡ done (x, new) → (b : List ℕ) × Spells i.target o x b × Takes i b new
+value_found : (o : Field) (i new : Input) (x : FieldValue o) → Wide o → AreBytes i.bytes → value_at o i ≡ done (x, new) → (b : List ℕ) × FieldSpells i.target o x b × Takes i b new
 value_found (fields.fixed n) i new x w h e = fixed_found n i new x w h e
 value_found (fields.twos w) i new x same h e =
     let p = bind_ok (fixed_at (width_of (count_in w)) i) (signed_in w) (x, new) e in
@@ -225,7 +225,7 @@ value_found fields.size i new x w h e =
     let p = bind_ok (fixed_at 1 i) (sized_in most i.at) (x, new) e in
     let q = fixed_found 1 i p.0.1 p.0.0 (inl refl) h p.1 in
     let k = cond_ok (nat_le 1 p.0.0 && nat_le p.0.0 most) (done p.0) (record { code = BadDerefSize; at = i.at }) (x, new) p.2 in
-    subst (λ (y : ℕ × Input). (b : List ℕ) × Spells i.target fields.size y.0 b × Takes i b y.1) (ok_is p.0 (x, new) k.1)
+    subst (λ (y : ℕ × Input). (b : List ℕ) × FieldSpells i.target fields.size y.0 b × Takes i b y.1) (ok_is p.0 (x, new) k.1)
     (q.0, (q.1, (sized_so most p.0.0 k.0).0, (sized_so most p.0.0 k.0).1), q.2)
 value_found fields.block i new x w h e =
     let p = bind_ok (uleb_at i) counted_in (x, new) e in
@@ -234,11 +234,11 @@ value_found fields.block i new x w h e =
     (q.0 ++ x, record { front = q.0; back = x; first = subst (λ (n : ℕ). Uleb n q.0) (sym u.1) q.1; second = refl; whole = refl }, Takes-then i p.0.1 new q.0 x q.2 u.0)
 
 -- bytes spell the fields of a form, which make the step
-abbrev pub StepForm : Target → Form → Step → List ℕ → Type 0
+abbrev pub StepForm : Target → OpForm → Step → List ℕ → Type 0
 StepForm t (fields.branch to) step b = (n : ℕ) × (step ≡ Jump (branch_in to) n) × Fixed t.order 2 n b
-StepForm t form step b = (op : Op) × (step ≡ Plain op) × FormSpells t form op b
+StepForm t form step b = (op : Op) × (step ≡ Plain op) × OpFormSpells t form op b
 
-abbrev Found : Form → Input → Step × Input → Type 0
+abbrev Found : OpForm → Input → Step × Input → Type 0
 Found form i x = (b : List ℕ) × StepForm i.target form x.0 b × Takes i b x.1
 
 front_bytes : (front rest : List ℕ) → AreBytes (front ++ rest) → AreBytes front
@@ -250,7 +250,7 @@ two_all : (t : Target) (b : List ℕ) → length b ≡ 2 → AreBytes b → Fixe
 two_all t (x ∷ y ∷ []) len are = is_fixed t.order 2 (x ∷ y ∷ []) (inr (inl refl)) (omega arith) are
 two_all t b len are = absurd (omega arith)
 
-form_found : (form : Form) (i : Input) (x : Step × Input) → FormWide form → AreBytes i.bytes → step_of form i ≡ done x → Found form i x
+form_found : (form : OpForm) (i : Input) (x : Step × Input) → FormWide form → AreBytes i.bytes → step_of form i ≡ done x → Found form i x
 form_found (fields.none made) i x w h e = subst (Found (fields.none made) i) (ok_is (Plain made, i) x e) ([], (made, refl, (refl, refl)), record { bytes = refl; at = omega arith; target = refl })
 form_found (fields.one o make) i x w h e =
     let p = bind_ok (value_at o i) (with_op make) x e in
@@ -261,7 +261,7 @@ form_found (fields.two o p make) i x w h e =
     let q = value_found o i one.0.1 one.0.0 w.0 h one.1 in
     let two = bind_ok (value_at p one.0.1) (with_op (make one.0.0)) x one.2 in
     let u = value_found p one.0.1 two.0.1 two.0.0 w.1 (taken_bytes i one.0.1 q.0 q.2 h) two.1 in
-    let spelled = subst (λ (t : Target). Spells t p two.0.0 u.0) q.2.target u.1 in
+    let spelled = subst (λ (t : Target). FieldSpells t p two.0.0 u.0) q.2.target u.1 in
     subst (Found (fields.two o p make) i) (ok_is (Plain (make one.0.0 two.0.0), two.0.1) x two.2)
     (q.0 ++ u.0, (make one.0.0 two.0.0, refl, (one.0.0, two.0.0, refl, record { front = q.0; back = u.0; first = q.1; second = spelled; whole = refl {a = q.0 ++ u.0} })), Takes-then i one.0.1 two.0.1 q.0 u.0 q.2 u.2)
 form_found (fields.branch to) i x w h e =
@@ -279,7 +279,7 @@ module _ (t : Target) (code : ℕ) (framed : Bool) where
   quiet made op same q = subst (Quiet framed) (sym same) q
 
   -- whether a frame's expression may hold them
-  pub form_framed : (form : Form) (op : Op) (b : List ℕ) → Makes form code framed → FormSpells t form op b → in_frame op ≡ framed
+  pub form_framed : (form : OpForm) (op : Op) (b : List ℕ) → Makes form code framed → OpFormSpells t form op b → in_frame op ≡ framed
   form_framed (fields.none made) op b m (same, nil) = (quiet made op same m).1
   form_framed (fields.one o make) op b m (x, same, s) = (quiet (make x) op same (m x)).1
   form_framed (fields.two o p make) op b m (x, y, same, s) = (quiet (make x y) op same (m x y)).1
@@ -289,10 +289,10 @@ module _ (t : Target) (code : ℕ) (framed : Bool) where
   abbrev Spelled : List ℕ → Step → Type 0
   Spelled b step = StepSpells t step (code ∷ b) × (step_in_frame step ≡ framed)
 
-  plain_spelled : (form : Form) (step : Step) (op : Op) (b : List ℕ) → form_of t code ≡ Some form → step ≡ Plain op → FormSpells t form op b → Quiet framed op → Spelled b step
+  plain_spelled : (form : OpForm) (step : Step) (op : Op) (b : List ℕ) → form_of t code ≡ Some form → step ≡ Plain op → OpFormSpells t form op b → Quiet framed op → Spelled b step
   plain_spelled form step op b known is s q = subst (Spelled b) (sym is) ((record { code = code; form = form; rest = b; known = known; whole = refl; operands = s }, q.0), q.1)
 
-  form_spelled : (form : Form) (step : Step) (b : List ℕ) → form_of t code ≡ Some form → Makes form code framed → StepForm t form step b → Spelled b step
+  form_spelled : (form : OpForm) (step : Step) (b : List ℕ) → form_of t code ≡ Some form → Makes form code framed → StepForm t form step b → Spelled b step
   form_spelled (fields.none made) step b known m (op, is, (same, nil)) = plain_spelled (fields.none made) step op b known is (same, nil) (quiet made op same m)
   form_spelled (fields.one o make) step b known m (op, is, (x, same, s)) = plain_spelled (fields.one o make) step op b known is (x, same, s) (quiet (make x) op same (m x))
   form_spelled (fields.two o p make) step b known m (op, is, (x, y, same, s)) = plain_spelled (fields.two o p make) step op b known is (x, y, same, s) (quiet (make x y) op same (m x y))

@@ -1,7 +1,7 @@
 -- What is spelled by the table is what is spelled operation by operation.
 use Rattle.dw_op.proofs.Words.{◌≡◌, ℕ, ◌+◌, ◌-◌, ◌<◌, List, [], ◌∷◌, Some, refl, sym, ap, subst, ◌∙◌, arith, inl, inr, ℤ, pos, w8, w16, w32, w64, cases_Bool, Target, Uleb, Sleb, Register, Fixed, FixedSigned, Address, Op, Addr, Const, Pick}
-use Rattle.dw_op.proofs.Words.{PlusUconst, Bra, Skip, Reg, Breg, Fbreg, Piece, DerefSize, BitPiece, Implicit, alone_code, Field, fixed, twos, unsigned, signed, register, size, block, Value, Form, none, two, branch, constant, natural}
-use Rattle.dw_op.proofs.Words.{implicit, form_table, in_range, form_of, branch_target, AtMost, Least, TargetWithin, InRange, Code, Both, AnyTwo, Spells, FormSpells, OpSpells, Alone, Counted, ConstForm, Const1u, Const1s, Const2u, Const2s}
+use Rattle.dw_op.proofs.Words.{PlusUconst, Bra, Skip, Reg, Breg, Fbreg, Piece, DerefSize, BitPiece, Implicit, alone_code, Field, fixed, twos, unsigned, signed, register, size, block, FieldValue, OpForm, none, two, branch, constant, natural}
+use Rattle.dw_op.proofs.Words.{implicit, op_form_table, in_range, form_of, branch_target, AtMost, Least, TargetWithin, InRange, Code, Both, AnyTwo, FieldSpells, OpFormSpells, OpSpells, Alone, Counted, ConstForm, Const1u, Const1s, Const2u, Const2s}
 use Rattle.dw_op.proofs.Words.{Const4u, Const4s, Const8u, Const8s, Constu, Consts, Lit, Unsigned, Written, IsSpelled}
 use Rattle.dw_op.specs.Operands.{address, one}
 use Rattle.dw_op.proofs.Lent.ReadingLaws.{EachEntry, looked_up, ◌&◌, range_is, some_is, small_const, within, above}
@@ -13,13 +13,13 @@ module _ (t : Target) where
   made_so made op b e h = subst (λ (o : Op). IsSpelled t o b) (sym e) h
 
   -- what a form's operands spell behind a code
-  abbrev FormSo : Form → ℕ → Type 0
+  abbrev FormSo : OpForm → ℕ → Type 0
   FormSo (none made) code = IsSpelled t made (code ∷ [])
-  FormSo (one o make) code = (x : Value o) (b : List ℕ) → Spells t o x b → IsSpelled t (make x) (code ∷ b)
-  FormSo (two o p make) code = (x : Value o) (y : Value p) (b : List ℕ) → Both (Spells t o x) (Spells t p y) b → IsSpelled t (make x y) (code ∷ b)
+  FormSo (one o make) code = (x : FieldValue o) (b : List ℕ) → FieldSpells t o x b → IsSpelled t (make x) (code ∷ b)
+  FormSo (two o p make) code = (x : FieldValue o) (y : FieldValue p) (b : List ℕ) → Both (FieldSpells t o x) (FieldSpells t p y) b → IsSpelled t (make x y) (code ∷ b)
   FormSo (branch to) code = (i : ℕ) (b : List ℕ) → AnyTwo b → IsSpelled t (to i) (code ∷ b)
 
-  form_so : (form : Form) (code : ℕ) (op : Op) (b : List ℕ) → FormSo form code → FormSpells t form op b → IsSpelled t op (code ∷ b)
+  form_so : (form : OpForm) (code : ℕ) (op : Op) (b : List ℕ) → FormSo form code → OpFormSpells t form op b → IsSpelled t op (code ∷ b)
   form_so (none made) code op b h s = made_so made op (code ∷ b) s.0 (subst (λ (c : List ℕ). IsSpelled t made (code ∷ c)) (sym s.1) h)
   form_so (one o make) code op b h s = made_so (make s.0) op (code ∷ b) s.1 (h s.0 b s.2)
   form_so (two o p make) code op b h s = made_so (make s.0 s.1) op (code ∷ b) s.2 (h s.0 s.1 b s.3)
@@ -37,7 +37,7 @@ module _ (t : Target) where
   number : (Spells : ℕ → List ℕ → Type 0) (x : ℕ) (b : List ℕ) → Spells x b → Unsigned Spells (pos x) b
   number Spells x b s = record { number = x; is = refl; spelled = s }
 
-  table_so : EachEntry FormSo (form_table t)
+  table_so : EachEntry FormSo (op_form_table t)
   table_so =
       (λ x. behind 0x03) & refl
       & (λ x b s. natural_so Const1u x (0x08 ∷ b) (behind 0x08 b (number (Fixed t.order 1) x b s)))
@@ -60,21 +60,21 @@ module _ (t : Target) where
   lit_so : (code n : ℕ) → code ≡ 0x30 + n → n < 32 → FormSo (none (Const n)) code
   lit_so code n is lt = record { form = Lit; number = pos n; written = record { number = n; is = refl; spelled = (lt, ap (λ (c : ℕ). c ∷ []) is) }; value = small_const t.size n (omega arith) }
 
-  known_so : (code : ℕ) (form : Form) → form_of t code ≡ Some form → FormSo form code
+  known_so : (code : ℕ) (form : OpForm) → form_of t code ≡ Some form → FormSo form code
   unfolding form_of
   known_so code form e = elim (cases_Bool (in_range 0x30 0x50 code)) [
     | inl y ↦
         let r = range_is 0x30 0x50 code y in
-        subst (λ (x : Form). FormSo x code) (some_is (none (Const (code - 0x30))) form (rw y at e)) (lit_so code (code - 0x30) (omega (arith, r.0)) (omega (arith, r.1)))
+        subst (λ (x : OpForm). FormSo x code) (some_is (none (Const (code - 0x30))) form (rw y at e)) (lit_so code (code - 0x30) (omega (arith, r.0)) (omega (arith, r.1)))
     | inr n ↦ let e1 = rw n at e in elim (cases_Bool (in_range 0x50 0x70 code)) [
       | inl y ↦
           let r = range_is 0x50 0x70 code y in
-          subst (λ (x : Form). FormSo x code) (some_is (none (Reg (code - 0x50))) form (rw y at e1)) (inl (omega (arith, r.0, r.1), ap (λ (c : ℕ). c ∷ []) (omega (arith, r.0))))
+          subst (λ (x : OpForm). FormSo x code) (some_is (none (Reg (code - 0x50))) form (rw y at e1)) (inl (omega (arith, r.0, r.1), ap (λ (c : ℕ). c ∷ []) (omega (arith, r.0))))
       | inr n ↦ let e2 = rw n at e1 in elim (cases_Bool (in_range 0x70 0x90 code)) [
         | inl y ↦
             let r = range_is 0x70 0x90 code y in
-            subst (λ (x : Form). FormSo x code) (some_is (one signed (Breg (code - 0x70))) form (rw y at e2)) (λ z b s. inl (omega (arith, r.0, r.1), record { rest = b; operands = s; whole = ap (λ (c : ℕ). c ∷ b) (omega (arith, r.0)) }))
-        | inr n ↦ looked_up FormSo (form_table t) code form table_so (rw n at e2)
+            subst (λ (x : OpForm). FormSo x code) (some_is (one signed (Breg (code - 0x70))) form (rw y at e2)) (λ z b s. inl (omega (arith, r.0, r.1), record { rest = b; operands = s; whole = ap (λ (c : ℕ). c ∷ b) (omega (arith, r.0)) }))
+        | inr n ↦ looked_up FormSo (op_form_table t) code form table_so (rw n at e2)
       ]
     ]
   ]
@@ -86,7 +86,7 @@ module _ (t : Target) where
 -- ---- into it
 
 module _ (t : Target) where
-  coded : (code : ℕ) (form : Form) (op : Op) (b : List ℕ) (Operands : List ℕ → Type 0) → Code code Operands b → form_of t code ≡ Some form → ((c : List ℕ) → Operands c → FormSpells t form op c) → OpSpells t op b
+  coded : (code : ℕ) (form : OpForm) (op : Op) (b : List ℕ) (Operands : List ℕ → Type 0) → Code code Operands b → form_of t code ≡ Some form → ((c : List ℕ) → Operands c → OpFormSpells t form op c) → OpSpells t op b
   coded code form op b Operands h known to = record { code = code; form = form; rest = h.rest; known = known; whole = h.whole; operands = to h.rest h.operands }
 
   alone : (code : ℕ) (op : Op) (b : List ℕ) → Alone code b → form_of t code ≡ Some (none op) → OpSpells t op b
@@ -107,8 +107,8 @@ module _ (t : Target) where
   breg_known n lt =
       rw (above 0x30 0x50 (0x70 + n) (omega arith) (omega arith), above 0x50 0x70 (0x70 + n) (omega arith) (omega arith), within 0x70 0x90 (0x70 + n) (omega arith) (omega arith)) (ap (λ (m : ℕ). Some (one signed (Breg m))) (omega arith))
 
-  natural_in : (code : ℕ) (o : Field) (make : Value o → Op) (Number : ℕ → List ℕ → Type 0) (z : ℤ) (b : List ℕ) → Code code (Unsigned Number z) b → form_of t code ≡ Some (one o make)
-      → ((n : ℕ) (c : List ℕ) → Number n c → FormSpells t (one o make) (constant t (pos n)) c) → OpSpells t (constant t z) b
+  natural_in : (code : ℕ) (o : Field) (make : FieldValue o → Op) (Number : ℕ → List ℕ → Type 0) (z : ℤ) (b : List ℕ) → Code code (Unsigned Number z) b → form_of t code ≡ Some (one o make)
+      → ((n : ℕ) (c : List ℕ) → Number n c → OpFormSpells t (one o make) (constant t (pos n)) c) → OpSpells t (constant t z) b
   natural_in code o make Number z b h known to =
       subst (λ (w : ℤ). OpSpells t (constant t w) b) (sym h.operands.is)
       (record { code = code; form = one o make; rest = h.rest; known = known; whole = h.whole; operands = to h.operands.number h.rest h.operands.spelled })

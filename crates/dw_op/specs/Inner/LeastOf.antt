@@ -37,59 +37,63 @@ spelling code operand = record { code = code; operand = operand }
 -- from six bytes on
 abbrev pub longest_constant : ℕ → ℕ → Spelling
 longest_constant v under =
-    if nat_lt v (2 ^ 35) then spelling 0x10 (operand.Unsigned v) else
-    if nat_lt under (2 ^ 34) then spelling 0x11 (operand.Signed (negsuc under)) else
-    if nat_lt v (2 ^ 42) then spelling 0x10 (operand.Unsigned v) else
-    if nat_lt under (2 ^ 41) then spelling 0x11 (operand.Signed (negsuc under)) else
-    if nat_lt v (2 ^ 49) then spelling 0x10 (operand.Unsigned v) else
-    if nat_lt under (2 ^ 48) then spelling 0x11 (operand.Signed (negsuc under)) else
-    spelling 0x0e (operand.Double v)
+    if nat_lt v (2 ^ 35) then spelling 0x10 (operand.Unsigned v)  -- DW_OP_constu
+    else if nat_lt under (2 ^ 34) then spelling 0x11 (operand.Signed (negsuc under))  -- DW_OP_consts
+    else if nat_lt v (2 ^ 42) then spelling 0x10 (operand.Unsigned v)  -- DW_OP_constu
+    else if nat_lt under (2 ^ 41) then spelling 0x11 (operand.Signed (negsuc under))  -- DW_OP_consts
+    else if nat_lt v (2 ^ 49) then spelling 0x10 (operand.Unsigned v)  -- DW_OP_constu
+    else if nat_lt under (2 ^ 48) then spelling 0x11 (operand.Signed (negsuc under))  -- DW_OP_consts
+    else spelling 0x0e (operand.Double v)  -- DW_OP_const8u
 
 -- from four bytes on
 abbrev pub long_constant : ℕ → ℕ → Spelling
 long_constant v under =
-    if nat_lt v (2 ^ 21) then spelling 0x10 (operand.Unsigned v) else
-    if nat_lt under (2 ^ 20) then spelling 0x11 (operand.Signed (negsuc under)) else
-    if nat_lt v (2 ^ 32) then spelling 0x0c (operand.Word v) else
-    if nat_lt under (2 ^ 31) then spelling 0x0d (operand.Word (v % 2 ^ 32)) else
-    longest_constant v under
+    if nat_lt v (2 ^ 21) then spelling 0x10 (operand.Unsigned v)  -- DW_OP_constu
+    else if nat_lt under (2 ^ 20) then spelling 0x11 (operand.Signed (negsuc under))  -- DW_OP_consts
+    else if nat_lt v (2 ^ 32) then spelling 0x0c (operand.Word v)  -- DW_OP_const4u
+    else if nat_lt under (2 ^ 31) then spelling 0x0d (operand.Word (v % 2 ^ 32))  -- DW_OP_const4s
+    else longest_constant v under
 
 abbrev pub constant : ℕ → ℕ → Spelling
 constant v under =
-    if nat_lt v 32 then spelling (0x30 + v) operand.Nothing else
-    if nat_lt v (2 ^ 8) then spelling 0x08 (operand.Byte v) else
-    if nat_lt under (2 ^ 7) then spelling 0x09 (operand.Byte (v % 2 ^ 8)) else
-    if nat_lt v (2 ^ 16) then spelling 0x0a (operand.Half v) else
-    if nat_lt under (2 ^ 15) then spelling 0x0b (operand.Half (v % 2 ^ 16)) else
-    long_constant v under
+    if nat_lt v 32 then spelling (0x30 + v) operand.Nothing  -- DW_OP_lit0 to DW_OP_lit31
+    else if nat_lt v (2 ^ 8) then spelling 0x08 (operand.Byte v)  -- DW_OP_const1u
+    else if nat_lt under (2 ^ 7) then spelling 0x09 (operand.Byte (v % 2 ^ 8))  -- DW_OP_const1s
+    else if nat_lt v (2 ^ 16) then spelling 0x0a (operand.Half v)  -- DW_OP_const2u
+    else if nat_lt under (2 ^ 15) then spelling 0x0b (operand.Half (v % 2 ^ 16))  -- DW_OP_const2s
+    else long_constant v under
 
 -- ---- the table
 
 abbrev pub address : Size → ℕ → Spelling
-address Four a = spelling 0x03 (operand.Word (a % 2 ^ 32))
-address Eight a = spelling 0x03 (operand.Double a)
+address Four a = spelling 0x03 (operand.Word (a % 2 ^ 32))  -- DW_OP_addr
+address Eight a = spelling 0x03 (operand.Double a)  -- DW_OP_addr
 
 abbrev pub register_form : ℕ → Spelling
-register_form r = if nat_lt r 32 then spelling (0x50 + r) operand.Nothing else spelling 0x90 (operand.Unsigned r)
+register_form r =
+    if nat_lt r 32 then spelling (0x50 + r) operand.Nothing  -- DW_OP_reg0 to DW_OP_reg31
+    else spelling 0x90 (operand.Unsigned r)  -- DW_OP_regx
 
 abbrev pub register_offset : ℕ → ℤ → Spelling
-register_offset r n = if nat_lt r 32 then spelling (0x70 + r) (operand.Signed n) else spelling 0x92 (operand.Offset r n)
+register_offset r n =
+    if nat_lt r 32 then spelling (0x70 + r) (operand.Signed n)  -- DW_OP_breg0 to DW_OP_breg31
+    else spelling 0x92 (operand.Offset r n)  -- DW_OP_bregx
 
 -- a branch's displacement is given by its sixteen bits
 unfoldable pub least_spelling : Target → ℕ → Op → Spelling
 least_spelling t d (Addr a) = address t.size a
 least_spelling t d (Const v) = constant v (address_limit t.size - 1 - v)
-least_spelling t d (Pick i) = spelling 0x15 (operand.Byte i)
-least_spelling t d (PlusUconst n) = spelling 0x23 (operand.Unsigned n)
-least_spelling t d (Bra i) = spelling 0x28 (operand.Half d)
-least_spelling t d (Skip i) = spelling 0x2f (operand.Half d)
+least_spelling t d (Pick i) = spelling 0x15 (operand.Byte i)  -- DW_OP_pick
+least_spelling t d (PlusUconst n) = spelling 0x23 (operand.Unsigned n)  -- DW_OP_plus_uconst
+least_spelling t d (Bra i) = spelling 0x28 (operand.Half d)  -- DW_OP_bra
+least_spelling t d (Skip i) = spelling 0x2f (operand.Half d)  -- DW_OP_skip
 least_spelling t d (Reg r) = register_form r
 least_spelling t d (Breg r n) = register_offset r n
-least_spelling t d (Fbreg n) = spelling 0x91 (operand.Signed n)
-least_spelling t d (Piece n) = spelling 0x93 (operand.Unsigned n)
-least_spelling t d (DerefSize k) = spelling 0x94 (operand.Byte k)
-least_spelling t d (BitPiece size offset) = spelling 0x9d (operand.Pair size offset)
-least_spelling t d (Implicit block) = spelling 0x9e (operand.Block block)
+least_spelling t d (Fbreg n) = spelling 0x91 (operand.Signed n)  -- DW_OP_fbreg
+least_spelling t d (Piece n) = spelling 0x93 (operand.Unsigned n)  -- DW_OP_piece
+least_spelling t d (DerefSize k) = spelling 0x94 (operand.Byte k)  -- DW_OP_deref_size
+least_spelling t d (BitPiece size offset) = spelling 0x9d (operand.Pair size offset)  -- DW_OP_bit_piece
+least_spelling t d (Implicit block) = spelling 0x9e (operand.Block block)  -- DW_OP_implicit_value
 least_spelling t d other = spelling (alone_code other) operand.Nothing
 
 -- the bytes of the least spelling, with these sixteen bits in a branch

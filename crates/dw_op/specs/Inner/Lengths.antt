@@ -7,7 +7,7 @@ use Rattle.dw_op.specs.declared.profile.Profile.TheVariants.{Frame}
 use Rattle.dw_op.specs.declared.operation.Step.{Step}
 use Rattle.dw_op.specs.declared.operation.Step.TheVariants.{Plain, Jump}
 use Rattle.dw_op.specs.Inner.LeastOf.{least_bytes}
-use Rattle.dw_op.specs.Inner.Walk.{Item, walk}
+use Rattle.dw_op.specs.Inner.Walk.{PlacedStep, walk}
 
 -- the lengths of the least spellings, one after another
 abbrev pub least_lengths : Target → List Op → List ℕ
@@ -30,7 +30,7 @@ abbrev pub step_length : Target → Step → ℕ
 step_length t (Plain op) = length (least_bytes t 0 op)
 step_length t (Jump branch number) = 3
 
-abbrev pub item_lengths : Target → List Item → List ℕ
+abbrev pub item_lengths : Target → List PlacedStep → List ℕ
 item_lengths t [] = []
 item_lengths t (item ∷ items) = step_length t item.step ∷ item_lengths t items
 

@@ -13,8 +13,8 @@ use Rattle.dw_op.specs.Block.{branch_target}
 use Rattle.dw_op.specs.Profile.{in_frame}
 
 abbrev pub branch_code : Branch → ℕ
-branch_code Bra = 0x28
-branch_code Skip = 0x2f
+branch_code Bra = 0x28  -- DW_OP_bra
+branch_code Skip = 0x2f  -- DW_OP_skip
 
 -- an operation that is no branch, or a branch's code and the two bytes of its number
 abbrev pub StepSpells : Target → Step → List ℕ → Type 0

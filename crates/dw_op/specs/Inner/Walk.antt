@@ -16,16 +16,16 @@ use Rattle.dw_op.specs.Walks.{Walked}
 use Rattle.dw_op.specs.Inner.Walks.{walked}
 
 -- an operation and the place of its code
-pub record Item : Type 0 where
+pub record PlacedStep : Type 0 where
   pub at : ℕ
   pub step : Step
 
-abbrev pub item_of : ℕ → Step → Item
+abbrev pub item_of : ℕ → Step → PlacedStep
 item_of at step = record { at = at; step = step }
 
 -- the longest beginning of operations, and the fault of what follows it
 abbrev pub Walk : Type 0
-Walk = Walked Item
+Walk = Walked PlacedStep
 
 unfoldable pub walk : Profile → Input → Walk
 walk profile i = walked (step_at profile) item_of i
@@ -39,7 +39,7 @@ plus n None = None
 plus n (Some m) = Some (n + m)
 
 -- what the operations before this place weigh together, if one starts there or it is the end
-abbrev pub passed : (Step → ℕ) → List Item → ℕ → ℕ → Option ℕ
+abbrev pub passed : (Step → ℕ) → List PlacedStep → ℕ → ℕ → Option ℕ
 passed weight [] end place = if nat_eq place end then Some 0 else None
 passed weight (item ∷ items) end place = if nat_eq place item.at then Some 0 else plus (weight item.step) (passed weight items end place)
 
@@ -47,7 +47,7 @@ abbrev pub one : Step → ℕ
 one step = 1
 
 -- the number of the operation that starts there
-abbrev pub index_at : List Item → ℕ → ℕ → Option ℕ
+abbrev pub index_at : List PlacedStep → ℕ → ℕ → Option ℕ
 index_at items end place = passed one items end place
 
 -- where a branch that ends here goes to: the number behind its code is signed
@@ -77,7 +77,7 @@ put_first (Some op) at (Ok ops) = Ok (op ∷ ops)
 put_first (Some op) at (Err e) = Err e
 
 -- the operations, or the first bad branch
-abbrev pub resolve : (ℕ → Option ℕ) → List Item → Result (List Op) Refusal
+abbrev pub resolve : (ℕ → Option ℕ) → List PlacedStep → Result (List Op) Refusal
 resolve find [] = Ok []
 resolve find (item ∷ items) = put_first (op_of find item.at item.step) item.at (resolve find items)
 
@@ -98,7 +98,7 @@ unfoldable pub decode_at : Profile → Input → Result (List Op) Refusal
 decode_at profile i = unless (walk profile i).fault (resolve (index_in profile i) (walk profile i).items)
 
 -- the starts of the operations, and the end
-abbrev pub starts_of : List Item → ℕ → List ℕ
+abbrev pub starts_of : List PlacedStep → ℕ → List ℕ
 starts_of [] end = end ∷ []
 starts_of (item ∷ items) end = item.at ∷ starts_of items end
 

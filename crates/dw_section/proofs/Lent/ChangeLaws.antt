@@ -1,7 +1,7 @@
 -- What changes among the rows of an FDE are the changes of the FDE.
 use Rattle.dw_section.proofs.Words.{◌≡◌, ℕ, suc, ◌-◌, ◌<◌, ◌≤◌, List, [], ◌∷◌, Option, Some, None, refl, sym, ap, subst, ◌∙◌, arith, inl, inr, cases_lt, le-leb, lt-leb, Instr, CfaRule, RegRule, RulesBehind, cfa_after, rule_after}
 use Rattle.dw_section.proofs.Words.{LocatedRow, Counts, HoldsAfter, Rules, last_at, NeverFalls, StayFrom, HoldsAt, ChangesBehind, AreChanges, Before, Among, Target, input_of, CieHead, FdeHead, factors_of, or_here, one_count, counts_exists}
-use Rattle.dw_section.proofs.Words.{same_rows, Passed, run_rows}
+use Rattle.dw_section.proofs.Words.{same_rows, Passed, Gives}
 use Rattle.dw_cfa.specs.Behind.{Leaves}
 
 -- ---- the last row at an address
@@ -146,7 +146,7 @@ module _ (initial instrs : List Instr) (begin end : ℕ) where
 pub record Given (target : Target) (c : CieHead) (h : FdeHead) (initial instrs : List Instr) : Type 0 where
   pub first : Rules
   pub rows : List LocatedRow
-  pub run : run_rows (factors_of c) (input_of target c.program) (input_of target h.program) h.begin ≡ record { rows = rows; fault = None }
+  pub run : Gives (factors_of c) (input_of target c.program) (input_of target h.program) h.begin rows
   pub leaves : Leaves (factors_of c) (input_of target c.program) initial first
   pub gives : RulesBehind (factors_of c) first (input_of target h.program) h.begin instrs rows
 

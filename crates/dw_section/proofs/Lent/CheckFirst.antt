@@ -1,9 +1,9 @@
 -- A section that is accepted has no first fault, and any other at most one.
-use Rattle.dw_section.proofs.Words.{◌≡◌, ℕ, ◌≤◌, List, [], ◌∷◌, ◌++◌, sym, ap, subst, ◌∙◌, arith, inl, inr, AllByRecursion, Overlap, Refusal, Target, AreBytes, Span, input_of, Factors, Instr, Program, initial_cfa, Head, cie, fde, Headers}
+use Rattle.dw_section.proofs.Words.{◌≡◌, ℕ, ◌≤◌, List, [], ◌∷◌, ◌++◌, sym, ap, subst, ◌∙◌, arith, inl, inr, AllByRecursion, Overlap, Refusal, Target, AreBytes, Span, input_of, Factors, Instr, ProgramSpells, initial_cfa, Head, cie, fde, Headers, Ok, Err}
 use Rattle.dw_section.proofs.Words.{HeadersFault, HeadsRise, FdeFits, HasBytes, cie_ats, Range, IsIndex, AreApart, FirstOverlap, end_of, IsAmong, Instrs, CieRuns, CieBroken, FdeRuns, FdeBroken, HasRules, LacksRule, factors_of, RulesHold}
-use Rattle.dw_section.proofs.Words.{Accepted, CieProgramsFault, FdeProgramsFault, RulesFault, CheckFault, CiesRun, FdesRun, Indexed, Some, Outcome, CieHead, FdeHead, Begins, rows_behind, initial_refused, leaves_initial, behind_refused}
-use Rattle.dw_section.proofs.Words.{gives_rows, some_is}
-use Rattle.dw_section.proofs.Cfa.{err_one, row_of, one_program}
+use Rattle.dw_section.proofs.Words.{Accepted, CieProgramsFault, FdeProgramsFault, RulesFault, CheckFault, CiesRun, FdesRun, Indexed, Some, None, CieHead, FdeHead, InitialInstrs, FdeFault, some_is}
+use Rattle.dw_section.proofs.Words.{behind_where_fault, gives_where_kept, leaves_where_kept, one_behind, one_initial}
+use Rattle.dw_section.proofs.Cfa.{row_of, one_program}
 use Rattle.dw_section.proofs.FirstFault.{Exclusive, then_exclusive, stage, one_fault, fault_or_headers}
 use Rattle.dw_section.proofs.Lent.HeaderLaws.{one_headers}
 use Rattle.dw_section.proofs.Lent.Heads.{heads_rise, heads_bytes, heads_fit, one_begin}
@@ -11,48 +11,56 @@ use Rattle.dw_section.proofs.Lent.Index.{all_in, one_index}
 use Rattle.dw_section.proofs.Stages.{holds_at, splits}
 
 -- what is known of a header, for the stages of programs
-abbrev Known : Target → List Head → Head → Type 0
+abbrev pub Known : Target → List Head → Head → Type 0
 Known target hs h = HasBytes h × FdeFits target (cie_ats hs) h
 
 -- ---- programs of CIEs
 
 cie_apart : (target : Target) (h : Head) → HasBytes h → (r : Refusal) → CieRuns target h → CieBroken target h r → ⊥
 cie_apart target (cie c) b r runs broken =
-    let given = leaves_initial (factors_of c) (input_of target c.program) runs.0 b runs.1 runs.2 in
-    let e = sym given.1 ∙ (initial_refused (factors_of c) (input_of target c.program) r b).1 broken in cc
+    let left = leaves_where_kept (factors_of c) (input_of target c.program) runs.0 b runs.1 runs.2 in
+    let one = one_initial (factors_of c) (input_of target c.program) b in
+    let e = one.2 (Ok left.0) (runs.0, left.1) ∙ sym (one.2 (Err r) broken) in cc
 cie_apart target (fde f) b r runs broken = absurd broken
 
 cie_one : (target : Target) (h : Head) → HasBytes h → (r q : Refusal) → CieBroken target h r → CieBroken target h q → r ≡ q
-cie_one target (cie c) b r q v w = let refused = initial_refused (factors_of c) (input_of target c.program) in err_one _ r q ((refused r b).1 v) ((refused q b).1 w)
+cie_one target (cie c) b r q v w = let one = one_initial (factors_of c) (input_of target c.program) b in let e = one.2 (Err r) v ∙ sym (one.2 (Err q) w) in cc
 cie_one target (fde f) b r q v w = absurd v
 
 -- ---- programs of FDEs
 
 module _ (target : Target) (hs : List Head) (up : HeadsRise 0 hs) (all : AllByRecursion HasBytes hs) where
-  -- where it is broken, the run from the row of its CIE is refused
-  refused_at : (d : FdeHead) → Known target hs (fde d) → (r : Refusal) (c : CieHead) (initial : List Instr) → Begins target hs d.cie_at c initial → FdeBroken target hs (fde d) r
-      → (rows_behind (factors_of c) (row_of (initial_cfa initial)) (input_of target d.program) d.begin).fault ≡ Some r
-  refused_at d known r c initial begins broken =
+  -- where it is broken, it has that fault behind the row of its CIE
+  refused_at : (d : FdeHead) (r : Refusal) (c : CieHead) (initial : List Instr) → InitialInstrs target hs d.cie_at c initial → FdeBroken target hs (fde d) r → FdeFault (factors_of c) (initial_cfa initial) (input_of target d.program) d.begin r
+  refused_at d r c initial begins broken =
       let same = one_begin target hs d.cie_at c broken.0 initial broken.1 up all begins broken.2 in
-      rw (same.factors, same.instrs) ((behind_refused (factors_of broken.0) (row_of (initial_cfa broken.1)) (input_of target d.program) d.begin r known.0 tt (omega (arith, known.1.0))).1 broken.3)
+      rw (same.factors, same.instrs) (broken.3)
 
   fde_apart : (h : Head) → Known target hs h → (r : Refusal) → FdeRuns target hs h → FdeBroken target hs h r → ⊥
   fde_apart (cie c) known r runs broken = absurd broken
   fde_apart (fde d) known r runs broken =
       let is = runs.2 in
-      let given = gives_rows (factors_of is.head) (row_of (initial_cfa runs.0)) (input_of target d.program) d.begin runs.1 known.0 tt (omega (arith, known.1.0)) is.spelled runs.3 in
-      let bad = sym (ap (λ (o : Outcome). o.fault) given.1) ∙ refused_at d known r is.head runs.0 is.begins broken in cc
+      let first = row_of (initial_cfa runs.0) in
+      let own = input_of target d.program in
+      let given = gives_where_kept (factors_of is.head) first own d.begin known.0 tt (omega (arith, known.1.0)) runs.1 is.spelled runs.3 in
+      let bad = (behind_where_fault (factors_of is.head) first own d.begin known.0 tt (omega (arith, known.1.0)) (record { rows = given.0; fault = None }) given.1 r).1 (refused_at d r is.head runs.0 is.begins broken) in cc
 
   fde_one : (h : Head) → Known target hs h → (r q : Refusal) → FdeBroken target hs h r → FdeBroken target hs h q → r ≡ q
   fde_one (cie c) known r q v w = absurd v
-  fde_one (fde d) known r q v w = some_is r q (sym (refused_at d known r v.0 v.1 v.2 v) ∙ refused_at d known q v.0 v.1 v.2 w)
+  fde_one (fde d) known r q v w =
+      let first = row_of (initial_cfa v.1) in
+      let own = input_of target d.program in
+      let o = one_behind (factors_of v.0) first own d.begin known.0 tt (omega (arith, known.1.0)) in
+      let refused : (x : Refusal) → FdeBroken target hs (fde d) x → o.0.fault ≡ Some x =
+      λ x broken. (behind_where_fault (factors_of v.0) first own d.begin known.0 tt (omega (arith, known.1.0)) o.0 o.1 x).1 (refused_at d x v.0 v.1 v.2 broken) in
+      some_is r q (sym (refused r v) ∙ refused q w)
 
   -- the instructions of an FDE and of its CIE are one
   pub one_instrs : (place : ℕ) (program : Span) (initial instrs another others : List Instr) → AreBytes program.bytes → Instrs target hs place program initial instrs → Instrs target hs place program another others
       → (initial ≡ another) × (instrs ≡ others)
   one_instrs place program initial instrs another others b v w =
       let same = one_begin target hs place v.head w.head initial another up all v.begins w.begins in
-      (same.instrs, one_program (factors_of w.head) target program.bytes instrs others b (subst (λ (f : Factors). Program target f instrs program.bytes) same.factors v.spelled) w.spelled)
+      (same.instrs, one_program (factors_of w.head) target program.bytes instrs others b (subst (λ (f : Factors). ProgramSpells target f instrs program.bytes) same.factors v.spelled) w.spelled)
 
   rules_apart : (h : Head) → Known target hs h → (r : Refusal) → HasRules target hs h → LacksRule target hs h r → ⊥
   rules_apart (cie c) known r has lacks = absurd lacks
@@ -69,7 +77,7 @@ rules_one target hs (fde f) r q v w = v.0 ∙ sym w.0
 -- ---- the stages
 
 module _ (target : Target) (s : List ℕ) (b : AreBytes s) where
-  known : (hs : List Head) → Headers target s hs → (h : Head) → IsAmong h hs → Known target hs h
+  pub known : (hs : List Head) → Headers target s hs → (h : Head) → IsAmong h hs → Known target hs h
   known hs p h i = (all_in HasBytes hs h (heads_bytes target s hs b p) i, all_in (FdeFits target (cie_ats hs)) hs h (heads_fit target s hs p) i)
 
   cies : Exclusive (CieProgramsFault target s) (CiesRun target s)

@@ -1,5 +1,5 @@
 -- Each FDE of an accepted section has changes.
-use Rattle.dw_section.proofs.Words.{ℕ, ◌<◌, List, None, sym, subst, arith, ◌≤◌, [], ◌∷◌, length, Option, Some, inl, inr, Target, AreBytes, Instr, LocatedRow, Rules, Accepted, HoldsAt, AreChanges, changes_among, Among, Says, AreFdes}
+use Rattle.dw_section.proofs.Words.{ℕ, ◌<◌, List, None, sym, subst, arith, ◌≤◌, [], ◌∷◌, length, Option, Some, inl, inr, Target, AreBytes, Instr, LocatedRow, Rules, Accepted, HoldsAt, AreChanges, changes_among, Among, FdeSays, AreFdes}
 use Rattle.dw_section.proofs.Words.{ChangesOf, SameMeaning, IsAmong, row_starts, Fde}
 pub use Rattle.dw_section.proofs.ChangesAmong.{are_among}
 use Rattle.dw_section.proofs.Lent.ChangeLaws.{changes_found}
@@ -14,7 +14,7 @@ among_few end shown (row ∷ rows) changes (inr h) = let rest = among_few end (S
 
 module _ (target : Target) (s : List ℕ) (b : AreBytes s) (ok : Accepted target s) where
   -- an FDE that is not empty has changes
-  pub changes_exist : (begin end : ℕ) (i j : List Instr) → begin < end → Says target s begin end i j → (changes : List (ℕ × Rules)) × AreChanges i j begin end changes × (length changes ≤ row_starts j)
+  pub changes_exist : (begin end : ℕ) (i j : List Instr) → begin < end → FdeSays target s begin end i j → (changes : List (ℕ × Rules)) × AreChanges i j begin end changes × (length changes ≤ row_starts j)
   changes_exist begin end i j lt h =
       let x = here target s b ok begin end i j h in
       let g = given_by target s b ok begin end i j h in

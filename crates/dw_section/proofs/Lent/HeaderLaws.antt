@@ -1,6 +1,6 @@
 -- Headers are read as they are spelled, and a section has at most one list of them.
 use Rattle.dw_section.proofs.Words.{◌≡◌, ℕ, ◌+◌, List, [], ◌∷◌, ◌++◌, length, Result, Ok, Err, inl, inr, refl, sym, ap, subst, ◌∙◌, arith, IfErr, append-nil, length-append, AllByRecursion, AllZip, Target, Refusal, Input, AreBytes, Span}
-use Rattle.dw_section.proofs.Words.{CieFields, FdeFields, Piece, Pieces, cie_places, Rises, Fields, cie_fields, fde_fields, FieldsFault, program_of, contents_of, Head, cie_head, IsCie, IsFde, Has, Headers, CieHolds, CieStuck, FdeHolds}
+use Rattle.dw_section.proofs.Words.{CieFields, FdeFields, Kind, Piece, Pieces, cie_places, Rises, Fields, cie_fields, fde_fields, FieldsFault, program_of, contents_of, Head, cie_head, IsCie, IsFde, Has, Headers, CieHolds, CieStuck, FdeHolds}
 use Rattle.dw_section.proofs.Words.{FdeStuck, Read, ◌>>=◌, filter_map-append, done, ok_is, cie_of_piece, cie_at, fde_of_piece, fde_at, fde_head, HasFields}
 use Rattle.dw_section.specs.declared.entry.Kind.TheVariants as kind
 use Rattle.dw_section.specs.Inner.Stage.{Answers}
@@ -73,6 +73,16 @@ has_cie target places p h (inr f) is = let a = f.2.0 in absurd cc
 pub has_fde : (target : Target) (places : List ℕ) (p : Piece) (h : Head) → Has target places p h → FdeHolds target places p
 has_fde target places p h (inl c) is = let a = c.2.0 in absurd cc
 has_fde target places p h (inr f) is = (f.0, f.1, f.2)
+
+-- pieces whose fields hold have headers
+module _ (target : Target) (places : List ℕ) where
+  head_of : (p : Piece) (k : Kind) → p.kind ≡ k → CieHolds target p → FdeHolds target places p → (h : Head) × Has target places p h
+  head_of p kind.Cie is cie fde = let f = cie is in (cie_head p f.0 f.1, inl (f.0, f.1, f.2, refl))
+  head_of p kind.Fde is cie fde = let f = fde is in (fde_head p f.0 f.1, inr (f.0, f.1, f.2, refl))
+
+  pub heads_of : (ps : List Piece) → AllByRecursion (CieHolds target) ps → AllByRecursion (FdeHolds target places) ps → (hs : List Head) × AllZip (Has target places) ps hs
+  heads_of [] cies fdes = ([], tt)
+  heads_of (p ∷ ps) cies fdes = let h = head_of p p.kind refl cies.0 fdes.0 in let more = heads_of ps cies.1 fdes.1 in (h.0 ∷ more.0, (h.1, more.1))
 
 pub has_one : (target : Target) (places : List ℕ) (p : Piece) (h k : Head) → Has target places p h → Has target places p k → h ≡ k
 has_one target places p h k (inl c) (inl d) = c.3 ∙ ok_is (cie_head p c.0 c.1) (cie_head p d.0 d.1) (sym (cie_at_again target p c.0 c.1 c.2) ∙ cie_at_again target p d.0 d.1 d.2) ∙ sym d.3

@@ -1,8 +1,8 @@
 -- What holds of a section's headers.
 pub use Rattle.dw_section.proofs.Lent.Index.{all_in}
 use Rattle.dw_section.proofs.Words.{◌≡◌, ℕ, suc, ◌+◌, ◌<◌, ◌≤◌, ◌^◌, List, [], ◌∷◌, ◌++◌, length, refl, sym, ap, subst, ◌∙◌, arith, inl, inr, get_or-append-add, AllByRecursion, AllZip, cons_option, Order, Target, Size, AreBytes}
-use Rattle.dw_section.proofs.Words.{length_bytes, address_limit, byte_count, Instr, Program, Item, gap, entry, Piece, pieces, item_bytes, all_bytes, place_if, cie_places, Rises, Head, cie, fde, Has, Headers, CieHead, FdeHead, head_at}
-use Rattle.dw_section.proofs.Words.{cie_at_of, cie_ats, HeadsRise, FdeFits, HasBytes, Begins, factors_of, IsAmong, Four, Eight, RiseBy}
+use Rattle.dw_section.proofs.Words.{length_bytes, address_limit, byte_count, Instr, ProgramSpells, Item, gap, entry, Piece, Pieces, pieces, item_bytes, all_bytes, place_if, cie_places, Rises, Head, cie, fde, Has, Headers, CieHead, FdeHead, head_at}
+use Rattle.dw_section.proofs.Words.{cie_at_of, cie_ats, HeadsRise, FdeFits, HasBytes, InitialInstrs, factors_of, IsAmong, Four, Eight, RiseBy}
 use Rattle.dw_cfa.proofs.Lent.InstrLaws.{front_bytes}
 use Rattle.dw_section.proofs.Items.{item_some}
 use Rattle.dw_section.proofs.Lent.HeaderLaws.{pieces_rise as places_of_pieces}
@@ -64,9 +64,12 @@ has_bytes : (target : Target) (places : List ℕ) (p : Piece) (h : Head) → Has
 has_bytes target places p h (inl c) b = subst HasBytes (sym c.3) (rest_bytes c.2.1.spelling c.1.bytes (subst AreBytes c.2.1.whole b))
 has_bytes target places p h (inr c) b = subst HasBytes (sym c.3) (rest_bytes c.2.1.spelling c.1.bytes (subst AreBytes c.2.1.whole b))
 
+pub pieces_bytes : (target : Target) (s : List ℕ) (ps : List Piece) → AreBytes s → Pieces target s ps → AllByRecursion (λ (p : Piece). AreBytes p.contents.bytes) ps
+pieces_bytes target s ps b p = subst (AllByRecursion (λ (x : Piece). AreBytes x.contents.bytes)) (sym p.are) (items_bytes target.order 0 p.items (subst AreBytes p.cut.whole b))
+
 pub heads_bytes : (target : Target) (s : List ℕ) (hs : List Head) → AreBytes s → Headers target s hs → AllByRecursion HasBytes hs
 heads_bytes target s hs b p =
-    let all = subst (AllByRecursion (λ (x : Piece). AreBytes x.contents.bytes)) (sym p.cut.are) (items_bytes target.order 0 p.cut.items (subst AreBytes p.cut.cut.whole b)) in
+    let all = pieces_bytes target s p.entries b p.cut in
     all_of_zip (Has target (cie_places p.entries)) HasBytes p.entries hs (λ x h i has. has_bytes target (cie_places p.entries) x h has (all_in (λ (x : Piece). AreBytes x.contents.bytes) p.entries x all i)) p.each
 
 -- ---- FDEs fit
@@ -116,10 +119,10 @@ fde_or other (cie c) = other
 fde_or other (fde f) = f
 
 pub one_begin : (target : Target) (hs : List Head) (place : ℕ) (c d : CieHead) (initial another : List Instr) → HeadsRise 0 hs → AllByRecursion HasBytes hs
-    → Begins target hs place c initial → Begins target hs place d another → SameBegin c d initial another
+    → InitialInstrs target hs place c initial → InitialInstrs target hs place d another → SameBegin c d initial another
 one_begin target hs place c d initial another up bytes v w =
     let one = one_among 0 hs _ _ up v.among w.among (v.stands ∙ sym w.stands) in
     let head : c ≡ d = ap (cie_or c) one in
     let is_bytes = all_in HasBytes hs _ bytes w.among in
-    let spelled : Program target (factors_of d) initial d.program.bytes = subst (λ (x : CieHead). Program target (factors_of x) initial x.program.bytes) head v.spelled in
+    let spelled : ProgramSpells target (factors_of d) initial d.program.bytes = subst (λ (x : CieHead). ProgramSpells target (factors_of x) initial x.program.bytes) head v.spelled in
     record { head = head; factors = ap factors_of head; instrs = one_program (factors_of d) target d.program.bytes initial another is_bytes spelled w.spelled }

@@ -1,7 +1,7 @@
 -- What running programs tells of headers.
 use Rattle.dw_section.proofs.Words.{◌≡◌, ℕ, ◌+◌, ◌<◌, ◌≤◌, Bool, true, false, List, [], ◌∷◌, ◌++◌, map, length, get_or, set, Option, Some, None, refl, sym, ap, subst, ◌∙◌, append_assoc, arith, inl, inr, MatchBool, nat_lt, AllByRecursion}
 use Rattle.dw_section.proofs.Words.{Refusal, Target, address_limit, Instr, CfaRule, Unset, LocatedRow, RulesBehind, cfa_after, FdeFault, FdeKept, initial_cfa, Counts, Rules, Initial, is_among, Head, cie, fde, FdeHead, head_at, cie_at_of}
-use Rattle.dw_section.proofs.Words.{cie_ats, or_place, place_of, IsInitial, IsBehind, AreInitials, HasOrLacks, initial_head, Rises, Begins, Instrs, CieRuns, FdeRuns, FdeBroken, HasRules, LacksRule, input_of, IsNonDecreasingBy, ltb-true}
+use Rattle.dw_section.proofs.Words.{cie_ats, or_place, place_of, IsInitial, IsBehind, AreInitials, HasOrLacks, initial_head, Rises, InitialInstrs, Instrs, CieRuns, FdeRuns, FdeBroken, HasRules, LacksRule, input_of, IsNonDecreasingBy, ltb-true}
 use Rattle.dw_section.proofs.Words.{ltb-false, cases_lt, append-nil, map-append, get_or-map, length-map, All-from_recursion, All-set, filter_map-append, recursion_from_All, NoCfaRule, FirstLacking, counts_exists}
 use Rattle.dw_cfa.specs.CieMachine.{Following, with_steps}
 use Rattle.dw_cfa.specs.Coverage.{Lacks}
@@ -62,7 +62,7 @@ all_set P xs i y h is = recursion_from_All P (set xs i y) (All-set P xs i y is (
 -- ---- an FDE whose CIE is kept
 
 module _ (target : Target) (hs : List Head) (c : Initial) (is : IsInitial target hs c) (f : FdeHead) (place : c.at ≡ f.cie_at) where
-  begins_so : Begins target hs f.cie_at (initial_head is.0 c) is.1
+  begins_so : InitialInstrs target hs f.cie_at (initial_head is.0 c) is.1
   begins_so = record { among = is.2; stands = place; spelled = is.4.program }
 
   pub fde_broken : (r : Refusal) → FdeFault c.factors is.3.cfa (input_of target f.program) f.begin r → FdeBroken target hs (fde f) r

@@ -1,6 +1,6 @@
 -- Nops behind a program change no rule, no location and no row's start.
 use Rattle.dw_section.proofs.Words.{◌≡◌, ℕ, zero, suc, ◌+◌, ◌≤◌, Bool, false, cond, List, [], ◌∷◌, ◌++◌, length, take, Some, refl, sym, ap, subst, ◌∙◌, append_assoc, arith, inl, inr, mul-zero, IsTrue, count_by, slice_get}
-use Rattle.dw_section.proofs.Words.{replicate, AllByRecursion, Target, Factors, Instr, CfaRule, RegRule, Program, look_back, cfa_change, rule_change, cfa_after, rule_after, CieKept, FdeKept, initial_cfa, initial_rule, onto, back_from}
+use Rattle.dw_section.proofs.Words.{replicate, AllByRecursion, Target, Factors, Instr, CfaRule, RegRule, ProgramSpells, look_back, cfa_change, rule_change, cfa_after, rule_after, CieKept, FdeKept, initial_cfa, initial_rule, onto, back_from}
 use Rattle.dw_section.proofs.Words.{Counts, moves_location, row_starts, one_count, cases_lt, length-append, take_all, sum_by-cons, sum_by-append, sum_by-take-le, Nop, in_cie, is_remember, is_restore, keeps_half, KeepsHalves, location_back}
 use Rattle.dw_section.proofs.Words.{location, in_table, sum_by-replicate}
 use Rattle.dw_cfa.specs.declared.rule.CfaRule.TheVariants as cfa
@@ -11,8 +11,8 @@ nops n = replicate n Nop
 
 -- ---- spellings
 
-pub program_append : (t : Target) (f : Factors) (xs ys : List Instr) (a b : List ℕ) → Program t f xs a → Program t f ys b → Program t f (xs ++ ys) (a ++ b)
-program_append t f [] ys a b p q = subst (λ (c : List ℕ). Program t f ys (c ++ b)) (sym p) q
+pub program_append : (t : Target) (f : Factors) (xs ys : List Instr) (a b : List ℕ) → ProgramSpells t f xs a → ProgramSpells t f ys b → ProgramSpells t f (xs ++ ys) (a ++ b)
+program_append t f [] ys a b p q = subst (λ (c : List ℕ). ProgramSpells t f ys (c ++ b)) (sym p) q
 program_append t f (x ∷ xs) ys a b p q = record {
   front = p.front;
   back = p.back ++ b;
@@ -21,7 +21,7 @@ program_append t f (x ∷ xs) ys a b p q = record {
   second = program_append t f xs ys p.back b p.second q;
 }
 
-pub nops_spelled : (t : Target) (f : Factors) (n : ℕ) → Program t f (nops n) (replicate n 0)
+pub nops_spelled : (t : Target) (f : Factors) (n : ℕ) → ProgramSpells t f (nops n) (replicate n 0)
 nops_spelled t f zero = refl
 nops_spelled t f (suc n) = record { front = 0 ∷ []; back = replicate n 0; whole = refl; first = in_table t f Nop (0 ∷ []) refl; second = nops_spelled t f n }
 

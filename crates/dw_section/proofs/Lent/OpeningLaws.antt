@@ -1,10 +1,10 @@
 -- FDEs that begin with one row of a CIE begin with the same row, and each later row specifies what that does.
-use Rattle.dw_section.proofs.Words.{◌≡◌, ℕ, ◌<◌, ◌≤◌, List, ◌∷◌, Option, sym, ◌∙◌, subst, arith, IsTrue, ℤ, AllByRecursion, Target, AreBytes, Instr, RegRule, initial_cfa, initial_rule, first_row, row_with, Rules, AreSpecified}
-use Rattle.dw_section.proofs.Words.{is_specified, rule, counts_exists, same_rows, Fde, Accepted, AreChanges, HoldsAt, Head, ChangesOf, CieRow, OpensBehind, Begins, factors_of}
+use Rattle.dw_section.proofs.Words.{◌≡◌, ℕ, ◌<◌, ◌≤◌, List, ◌∷◌, Option, sym, ◌∙◌, subst, arith, IsTrue, ℤ, AllByRecursion, Target, AreBytes, Instr, RegRule, cfa_with, initial_cfa, initial_rule, first_row, row_with, Rules, AreSpecified}
+use Rattle.dw_section.proofs.Words.{is_specified, rule, counts_exists, same_rows, Fde, Accepted, AreChanges, HoldsAt, Head, ChangesOf, CieRow, OpensBehind, InitialInstrs, factors_of}
 use Rattle.dw_section.proofs.Words.{ap, Ok, CieHead, HasBytes, IsAmong, cie, input_of, leaves_one}
 use Rattle.dw_cfa.specs.Behind.{LeavesTo}
 use Rattle.dw_section.specs.Laws.{OneCieRow}
-use Rattle.dw_cfa.proofs.Lent.Openings.{AllSet, all_set, cfa_with, first_cfa, first_rule, stays_specified}
+use Rattle.dw_cfa.proofs.Lent.Openings.{AllSet, all_set, first_cfa, first_rule, stays_specified}
 use Rattle.dw_section.proofs.Lent.Heads.{all_in, cie_or, heads_bytes, heads_rise, one_among, one_begin}
 use Rattle.dw_section.proofs.Lent.HeaderLaws.{one_headers}
 use Rattle.dw_section.proofs.Lent.Sections.{one_programs}
@@ -56,7 +56,7 @@ module _ (target : Target) (s : List ℕ) (b : AreBytes s) (ok : Accepted target
   one_initial f g row o p =
       let hs = o.says.headers in
       let same : p.says.headers ≡ hs = one_headers target s p.says.headers hs p.says.are o.says.are in
-      let other = subst (λ (l : List Head). Begins target l row.cie_at p.head p.initial) same p.begins in
+      let other = subst (λ (l : List Head). InitialInstrs target l row.cie_at p.head p.initial) same p.begins in
       (one_begin target hs row.cie_at o.head p.head o.initial p.initial (heads_rise target s hs o.says.are) (heads_bytes target s hs b o.says.are) o.begins other).instrs
 
   pub one_first : (f g : Fde) (row : CieRow) (first other : ℕ × Rules) (later more : List (ℕ × Rules)) (o : OpensBehind target s f row) (p : OpensBehind target s g row) → Opened o.initial row.cfa_offset first later → Opened p.initial row.cfa_offset other more → first.1 ≡ other.1

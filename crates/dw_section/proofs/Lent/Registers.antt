@@ -1,4 +1,4 @@
--- Return registers are below 65,536.
+-- Return address registers are below 65,536.
 use Rattle.dw_section.proofs.Words.{◌≡◌, ℕ, ◌<◌, List, arith, AllByRecursion, IsAmong, Target, Has, Lists, Range, AreFdes, cie_places, Fde}
 use Rattle.dw_section.proofs.Lent.FieldTable.{cie_said}
 use Rattle.dw_section.proofs.Lent.Index.{zip_right}

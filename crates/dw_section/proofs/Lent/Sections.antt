@@ -1,6 +1,6 @@
 -- Laws of a section that is accepted: what it says of an FDE is one thing, and each address has rules.
 use Rattle.dw_section.proofs.Words.{◌≡◌, ℕ, ◌+◌, ◌<◌, ◌≤◌, List, [], ◌∷◌, refl, sym, ap, subst, ◌∙◌, arith, inl, inr, AllByRecursion, AllZip, Target, AreBytes, address_limit, Instr, HoldsAfter, Rules, Accepted, HoldsAt, AreChanges, Head}
-use Rattle.dw_section.proofs.Words.{Headers, FdeHead, cie, fde, HeadsRise, HasBytes, FdeFits, cie_ats, Says, Lists, AreFdes, RulesAt, ChangesOf, Covers, Range, nonempty, AreApart, end_of, range_of, FdeRuns, HasRules, Instrs}
+use Rattle.dw_section.proofs.Words.{Headers, FdeHead, cie, fde, HeadsRise, HasBytes, FdeFits, cie_ats, FdeSays, Lists, AreFdes, RulesAt, ChangesOf, Covers, Range, nonempty, AreApart, end_of, range_of, FdeRuns, HasRules, Instrs}
 use Rattle.dw_section.proofs.Words.{HasCfa, IsAmong, Fde, counts_exists, one_count}
 use Rattle.dw_section.proofs.Lent.CheckFirst.{one_instrs}
 use Rattle.dw_section.proofs.Lent.HeaderLaws.{one_headers}
@@ -62,7 +62,7 @@ module _ (target : Target) (s : List ℕ) (a : ℕ) (row : Rules) where
   pub rules_hold : (h : RulesAt target s a row) → HoldsAt h.initial h.instrs h.begin a row
   rules_hold h k counts = subst (λ (j : ℕ). HoldsAfter h.initial h.instrs j row) (one_count h.begin h.instrs a h.k k h.counts counts) h.holds
 
-  pub programs_rules : (begin end : ℕ) (i j : List Instr) → Says target s begin end i j → begin ≤ a → a < end → HoldsAt i j begin a row → RulesAt target s a row
+  pub programs_rules : (begin end : ℕ) (i j : List Instr) → FdeSays target s begin end i j → begin ≤ a → a < end → HoldsAt i j begin a row → RulesAt target s a row
   programs_rules begin end i j h le lt holds =
       let c = counts_exists begin j a le in
       record { begin = begin; end = end; initial = i; instrs = j; says = h; from = le; below = lt; k = c.0; counts = c.1; holds = holds c.0 c.1 }
@@ -93,7 +93,7 @@ module _ (target : Target) (s : List ℕ) (b : AreBytes s) (ok : Accepted target
     pub end_is : end ≡ head.begin + head.range
     pub spelled : Instrs target hs head.cie_at head.program initial instrs
 
-  unfoldable pub here : (begin end : ℕ) (i j : List Instr) → Says target s begin end i j → Here begin end i j
+  unfoldable pub here : (begin end : ℕ) (i j : List Instr) → FdeSays target s begin end i j → Here begin end i j
   here begin end i j h =
       let same : h.headers ≡ hs = one_headers target s h.headers hs h.are headers_of in
       record {
@@ -108,7 +108,7 @@ module _ (target : Target) (s : List ℕ) (b : AreBytes s) (ok : Accepted target
   in_index f some among = all_in (λ (a : Range). IsAmong a index) (nonempty hs) (range_of f) ok.1.2.all (head_range hs f some among)
 
   -- at an address two FDEs are one
-  pub one_head : (a begin end from till : ℕ) (i j k l : List Instr) → begin ≤ a → a < end → from ≤ a → a < till → (v : Says target s begin end i j) (w : Says target s from till k l) → v.head ≡ w.head
+  pub one_head : (a begin end from till : ℕ) (i j k l : List Instr) → begin ≤ a → a < end → from ≤ a → a < till → (v : FdeSays target s begin end i j) (w : FdeSays target s from till k l) → v.head ≡ w.head
   unfolding here
   one_head a begin end from till i j k l le lt le' lt' v w =
       let x = here begin end i j v in
@@ -123,7 +123,7 @@ module _ (target : Target) (s : List ℕ) (b : AreBytes s) (ok : Accepted target
     pub initials : i ≡ k
     pub instrs : j ≡ l
 
-  pub one_programs : (a begin end from till : ℕ) (i j k l : List Instr) → begin ≤ a → a < end → from ≤ a → a < till → Says target s begin end i j → Says target s from till k l → SamePrograms begin end from till i j k l
+  pub one_programs : (a begin end from till : ℕ) (i j k l : List Instr) → begin ≤ a → a < end → from ≤ a → a < till → FdeSays target s begin end i j → FdeSays target s from till k l → SamePrograms begin end from till i j k l
   unfolding here
   one_programs a begin end from till i j k l le lt le' lt' v w =
       let x = here begin end i j v in
@@ -134,7 +134,7 @@ module _ (target : Target) (s : List ℕ) (b : AreBytes s) (ok : Accepted target
 
   -- ---- programs keep what they have to
 
-  pub cfa_programs : (begin end a : ℕ) (i j : List Instr) → Says target s begin end i j → begin ≤ a → a < end → HasCfa i j begin a
+  pub cfa_programs : (begin end a : ℕ) (i j : List Instr) → FdeSays target s begin end i j → begin ≤ a → a < end → HasCfa i j begin a
   cfa_programs begin end a i j h le lt =
       let x = here begin end i j h in
       let has = all_in (HasRules target hs) hs (fde x.head) ok.1.1.1 x.among in
@@ -142,18 +142,18 @@ module _ (target : Target) (s : List ℕ) (b : AreBytes s) (ok : Accepted target
       let there = rw (one.0, one.1) at (has.3 a (omega (arith, x.begin_is)) (omega (arith, x.end_is))) in
       subst (λ (n : ℕ). HasCfa i j n a) (sym x.begin_is) there
 
-  pub begin_low : (begin end : ℕ) (i j : List Instr) → Says target s begin end i j → (begin < address_limit target.size) × (end ≤ address_limit target.size)
+  pub begin_low : (begin end : ℕ) (i j : List Instr) → FdeSays target s begin end i j → (begin < address_limit target.size) × (end ≤ address_limit target.size)
   begin_low begin end i j h =
       let x = here begin end i j h in
       let fits = all_in (FdeFits target (cie_ats hs)) hs (fde x.head) (heads_fit target s hs headers_of) x.among in
       (omega (arith, fits.0, x.begin_is), omega (arith, fits.1, x.end_is))
 
   -- the rows that it gives
-  pub given_by : (begin end : ℕ) (i j : List Instr) (h : Says target s begin end i j) → Given target (here begin end i j h).spelled.head (here begin end i j h).head i j
+  pub given_by : (begin end : ℕ) (i j : List Instr) (h : FdeSays target s begin end i j) → Given target (here begin end i j h).spelled.head (here begin end i j h).head i j
   given_by begin end i j h = let x = here begin end i j h in given target s b hs ok.1.1 x.spelled.head x.head i j x.among x.spelled.begins x.spelled.spelled
 
   -- a row that holds at an address
-  pub row_exists : (begin end a : ℕ) (i j : List Instr) → Says target s begin end i j → begin ≤ a → (row : Rules) × HoldsAt i j begin a row
+  pub row_exists : (begin end a : ℕ) (i j : List Instr) → FdeSays target s begin end i j → begin ≤ a → (row : Rules) × HoldsAt i j begin a row
   row_exists begin end a i j h le =
       let x = here begin end i j h in
       let row = row_there target x.spelled.head x.head i j end (given_by begin end i j h) a (omega (arith, le, x.begin_is)) in
@@ -170,7 +170,7 @@ module _ (target : Target) (s : List ℕ) (b : AreBytes s) (ok : Accepted target
 
   -- ---- changes
 
-  pub changes_programs : (f : Fde) (changes : List (ℕ × Rules)) → ChangesOf target s f changes → (i : List Instr) × (j : List Instr) × Says target s f.begin f.end i j × AreChanges i j f.begin f.end changes
+  pub changes_programs : (f : Fde) (changes : List (ℕ × Rules)) → ChangesOf target s f changes → (i : List Instr) × (j : List Instr) × FdeSays target s f.begin f.end i j × AreChanges i j f.begin f.end changes
   changes_programs f changes h = (h.initial, h.instrs, h.says, h.change)
 
   -- ---- the list of FDEs
@@ -201,7 +201,7 @@ module _ (target : Target) (s : List ℕ) (b : AreBytes s) (ok : Accepted target
   fdes_zip fs h = along Lists target s hs h.headers index h.index fs headers_of ok.1.2 h.are h.is_index h.each
 
   -- an FDE of the list is not empty and has programs
-  pub listed_programs : (fs : List Fde) (f : Fde) → AreFdes target s fs → IsAmong f fs → (f.begin < f.end) × ((i : List Instr) × (j : List Instr) × Says target s f.begin f.end i j)
+  pub listed_programs : (fs : List Fde) (f : Fde) → AreFdes target s fs → IsAmong f fs → (f.begin < f.end) × ((i : List Instr) × (j : List Instr) × FdeSays target s f.begin f.end i j)
   listed_programs fs f h l =
       let z = zip_right (Lists hs) index fs f (fdes_zip fs h) l in
       let lists = z.2 in
@@ -210,7 +210,7 @@ module _ (target : Target) (s : List ℕ) (b : AreBytes s) (ok : Accepted target
       (omega (arith, lists.begin, lists.end, o.some), (runs.0, runs.1, record { headers = hs; are = headers_of; head = o.head; among = o.among; begin_is = lists.begin ∙ ap (λ (r : Range). r.begin) (sym o.covers); end_is = lists.end ∙ ap end_of (sym o.covers); spelled = runs.2 }))
 
   -- and an FDE that is not empty is in the list
-  pub programs_listed : (fs : List Fde) (begin end : ℕ) (i j : List Instr) → AreFdes target s fs → begin < end → Says target s begin end i j → (f : Fde) × IsAmong f fs × (f.begin ≡ begin) × (f.end ≡ end)
+  pub programs_listed : (fs : List Fde) (begin end : ℕ) (i j : List Instr) → AreFdes target s fs → begin < end → FdeSays target s begin end i j → (f : Fde) × IsAmong f fs × (f.begin ≡ begin) × (f.end ≡ end)
   programs_listed fs begin end i j h lt p =
       let x = here begin end i j p in
       let z = zip_left (Lists hs) index fs (range_of x.head) (fdes_zip fs h) (in_index x.head (omega (arith, x.begin_is, x.end_is)) x.among) in

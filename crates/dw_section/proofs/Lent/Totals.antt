@@ -1,15 +1,15 @@
 -- The rows that a section starts are no fewer than its changes.
-use Rattle.dw_section.proofs.Words.{ℕ, ◌<◌, ◌≤◌, List, [], ◌∷◌, length, map, ap, arith, AllByRecursion, AllZip, Target, AreBytes, Instr, row_starts, Rules, Accepted, AreChanges, Says, Lists, AreFdes, ChangesOf}
+use Rattle.dw_section.proofs.Words.{◌≡◌, ℕ, ◌<◌, ◌≤◌, List, [], ◌∷◌, length, map, ap, refl, arith, AllByRecursion, AllZip, Target, AreBytes, Instr, row_starts, Rules, Accepted, AreChanges, FdeSays, Lists, AreFdes, ChangesOf}
 use Rattle.dw_section.proofs.Words.{Starts, total, Range, end_of, Fde, RowStarts}
 use Rattle.dw_section.proofs.Lent.FdeLookup.{along}
 use Rattle.dw_section.proofs.Lent.Index.{all_from}
 use Rattle.dw_section.proofs.Lent.Exists.{changes_exist}
 use Rattle.dw_section.proofs.Lent.Rowed.{one_changes}
-use Rattle.dw_section.proofs.Lent.Sections.{hs, headers_of, index, fdes_zip, one_programs, listed_programs}
+use Rattle.dw_section.proofs.Lent.Sections.{hs, headers_of, index, fdes_exist, fdes_zip, one_programs, listed_programs}
 
 -- an FDE of an accepted section starts at least as many rows as it has changes
 pub least_starts : (target : Target) (s : List ℕ) (b : AreBytes s) (ok : Accepted target s) (begin end : ℕ) (i j : List Instr) (changes : List (ℕ × Rules)) → begin < end
-    → Says target s begin end i j → AreChanges i j begin end changes → length changes ≤ row_starts j
+    → FdeSays target s begin end i j → AreChanges i j begin end changes → length changes ≤ row_starts j
 least_starts target s b ok begin end i j changes lt h c =
     let e = changes_exist target s b ok begin end i j lt h in
     omega (arith, e.2, ap length (one_changes i j begin end e.0 changes e.1 c))
@@ -32,3 +32,23 @@ module _ (target : Target) (s : List ℕ) (b : AreBytes s) (ok : Accepted target
       let zip = along (λ h. Starts target s) target s (hs target s b ok) starts.headers (index target s b ok) starts.index starts.counts (headers_of target s b ok) ok.1.2 starts.are starts.is_index starts.each in
       let all = starts_all (index target s b ok) fs starts.counts lists (all_from (λ (f : Fde). f.begin < f.end) fs (λ f i. (listed_programs target s b ok fs f are i).0)) (fdes_zip target s b ok fs are) zip each in
       omega (arith, starts.sum)
+
+  -- an FDE starts one number of rows
+  starts_alike : (a : Range) (f : Fde) (n m : ℕ) → f.begin < f.end → Lists (hs target s b ok) a f → Starts target s a n → Starts target s a m → n ≡ m
+  starts_alike a f n m some lists v w =
+      let same = one_programs target s b ok f.begin a.begin (end_of a) a.begin (end_of a) v.0 v.1 w.0 w.1 (omega (arith, lists.begin)) (omega (arith, lists.end)) (omega (arith, lists.begin)) (omega (arith, lists.end)) v.2 w.2 in
+      omega (arith, v.4, w.4, ap row_starts same.instrs)
+
+  all_alike : (rs : List Range) (fs : List Fde) (ns ms : List ℕ) → AllByRecursion (λ (f : Fde). f.begin < f.end) fs → AllZip (Lists (hs target s b ok)) rs fs → AllZip (Starts target s) rs ns → AllZip (Starts target s) rs ms → total ns ≡ total ms
+  all_alike [] [] [] [] some z v w = refl
+  all_alike (r ∷ rs) (f ∷ fs) (n ∷ ns) (m ∷ ms) some z v w = let rest = all_alike rs fs ns ms some.1 z.1 v.1 w.1 in let here = starts_alike r f n m some.0 z.0 v.0 w.0 in omega arith
+  all_alike rs fs ns ms some z v w = absurd assumption
+
+  -- and so do all
+  pub one_row_starts : (n m : ℕ) → RowStarts target s n → RowStarts target s m → n ≡ m
+  one_row_starts n m v w =
+      let fs = fdes_exist target s b ok in
+      let some = all_from (λ (f : Fde). f.begin < f.end) fs.0 (λ f i. (listed_programs target s b ok fs.0 f fs.1 i).0) in
+      let one = along (λ h. Starts target s) target s (hs target s b ok) v.headers (index target s b ok) v.index v.counts (headers_of target s b ok) ok.1.2 v.are v.is_index v.each in
+      let other = along (λ h. Starts target s) target s (hs target s b ok) w.headers (index target s b ok) w.index w.counts (headers_of target s b ok) ok.1.2 w.are w.is_index w.each in
+      omega (arith, v.sum, w.sum, all_alike (index target s b ok) fs.0 v.counts w.counts some (fdes_zip target s b ok fs.0 fs.1) one other)

@@ -3,7 +3,7 @@ use Rattle.std.specs.Prelude.{◌≡◌, ◌⊎◌, ℕ, ◌<◌, nat_lt, ◌&&�
 use Rattle.std.specs.BTreeMap.{BTreeMap, get}
 use Rattle.std.specs.Ordering.{nat_cmp}
 use Rattle.dw_cfa.specs.declared.execution.LocatedRow.{LocatedRow}
-use Rattle.dw_cfa.specs.Inner.RowEquality.{same_rows}
+use Rattle.dw_cfa.proofs.Lent.Equal.{row_test}
 use Rattle.dw_cfa.specs.Behind.{LeavesTo}
 use Rattle.dw_cfa.specs.RegisterSets.{Registers}
 use Rattle.dw_cfa.specs.Rows.{Rules}
@@ -44,7 +44,7 @@ is_before end a (next ∷ rows) = nat_lt a next.location && nat_lt a end
 -- and whether a row repeats the one that was shown
 abbrev pub repeats : Option Rules → Rules → Bool
 repeats None row = false
-repeats (Some shown) row = same_rows shown row
+repeats (Some shown) row = row_test.0 shown row
 
 -- so the changes among rows are this list
 abbrev pub changes_among : ℕ → Option Rules → List LocatedRow → List (ℕ × Rules)

@@ -3,7 +3,7 @@ use Rattle.std.specs.Prelude.{◌≡◌, ℕ, ◌+◌, Bool, false, cond, List, 
 use Rattle.dw_num.specs.declared.refusal.Refusal.{Refusal}
 use Rattle.dw_num.specs.declared.target.Target.{Target}
 use Rattle.dw_cfa.specs.declared.instr.Instr.{Instr}
-use Rattle.dw_cfa.specs.InstrSpells.{Program}
+use Rattle.dw_cfa.specs.InstrSpells.{ProgramSpells}
 use Rattle.dw_cfa.specs.Location.{moves_location, row_starts}
 use Rattle.dw_section.specs.declared.listed_fde.FoundFde.{FoundFde}
 
@@ -17,8 +17,8 @@ moves_in (x ∷ xs) = cond (starts_row x) 1 0 + moves_in xs
 
 -- the bytes of an FDE's program are instructions
 abbrev pub IsProgram : Target → FoundFde → Type 0
-IsProgram target e = (instrs : List Instr) × Program target e.factors instrs e.program.bytes.now
+IsProgram target e = (instrs : List Instr) × ProgramSpells target e.factors instrs e.program.bytes.now
 
 -- they start n rows
 abbrev pub StartsOf : Target → FoundFde → ℕ → Type 0
-StartsOf target e n = (instrs : List Instr) → Program target e.factors instrs e.program.bytes.now → n ≡ row_starts instrs
+StartsOf target e n = (instrs : List Instr) → ProgramSpells target e.factors instrs e.program.bytes.now → n ≡ row_starts instrs

@@ -3,11 +3,13 @@ use Rattle.std.specs.Prelude.{◌≡◌, ℕ, ◌+◌, ◌<◌, List, Option, So
 use Rattle.dw_num.specs.declared.target.Target.{Target}
 use Rattle.dw_num.specs.Span.{span_of, input_of}
 use Rattle.dw_num.specs.Target.{address_limit}
-use Rattle.dw_cfa.specs.RuleAt.{last_at, NeverFalls}
+use Rattle.dw_cfa.specs.RuleAt.{last_at}
 use Rattle.dw_cfa.specs.Rows.{Rules}
 use Rattle.dw_cfa.specs.Runs.{Outcome}
 use Rattle.dw_cfa.specs.RowWalk.{Led}
-use Rattle.dw_cfa.specs.Inner.Runs.{run_rows}
+use Rattle.dw_cfa.specs.Gives.{Gives}
+use Rattle.dw_cfa.specs.Gives as run
+use Rattle.dw_cfa.specs.declared.execution.LocatedRow.{LocatedRow}
 use Rattle.dw_section.specs.Accepted.{RulesHold}
 use Rattle.dw_section.specs.Headers.{Head}
 use Rattle.dw_section.specs.Inner.Index.{IsFound, NamesCie}
@@ -38,13 +40,17 @@ abbrev pub LedSo : Section → Option ℕ → Led → Type 0
 LedSo s None led = Unit {0}
 LedSo s (Some place) led = LedBy s place led
 
--- the rows of an FDE
-abbrev pub rows_of : Target → FoundFde → Outcome
-rows_of target e = run_rows e.factors (input_of target (span_of e.cie_program)) (input_of target (span_of e.program)) e.begin
+-- the programs of an FDE give these rows
+abbrev pub AreRowsOf : Target → FoundFde → List LocatedRow → Type 0
+AreRowsOf target e rows = Gives e.factors (input_of target (span_of e.cie_program)) (input_of target (span_of e.program)) e.begin rows
+
+-- they run to this
+abbrev pub RunsSo : Target → FoundFde → Outcome → Type 0
+RunsSo target e o = run.RunsTo e.factors (input_of target (span_of e.cie_program)) (input_of target (span_of e.program)) e.begin o
 
 -- the programs of an FDE give rows, the last of which at or below an address has the rules there
 pub record RunsTo (target : Target) (s : List ℕ) (a : ℕ) (e : FoundFde) : Type 0 where
   pub in_space : e.begin < address_limit target.size
-  pub no_fault : (rows_of target e).fault ≡ None
-  pub never_falls : NeverFalls e.begin (rows_of target e).rows
-  pub row : (rules : Rules) × (last_at a (rows_of target e).rows ≡ Some rules) × RulesAt target s a rules
+  pub rows : List LocatedRow
+  pub give : AreRowsOf target e rows
+  pub row : (rules : Rules) × (last_at a rows ≡ Some rules) × RulesAt target s a rules

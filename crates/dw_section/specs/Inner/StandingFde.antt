@@ -6,7 +6,7 @@ use Rattle.dw_num.specs.declared.refusal.Refusal.{Refusal}
 use Rattle.dw_num.specs.declared.target.Form.{Form}
 use Rattle.dw_num.specs.declared.target.Target.{Target}
 use Rattle.dw_num.specs.Span.{span_of, input_of}
-use Rattle.dw_cfa.specs.FaultPlaces.{IsWithin}
+use Rattle.dw_cfa.specs.FaultPlaces.{LiesInProgram}
 use Rattle.dw_section.specs.declared.listed_fde.FoundFde.{FoundFde}
 use Rattle.dw_section.specs.declared.standing_fde.LookUpError.{LookUpError}
 use Rattle.dw_section.specs.declared.standing_fde.LookUpError.TheVariants.{Refused, OutOfMemory}
@@ -24,7 +24,7 @@ FoundStands target s e = (form : Form) × (cie_form : Form) × FdeStands target 
 
 -- what is wrong lies in the FDE's program or in that of its CIE
 abbrev pub LiesInPrograms : Target → FoundFde → Refusal → Type 0
-LiesInPrograms target e r = IsWithin (input_of target (span_of e.cie_program)) r ⊎ IsWithin (input_of target (span_of e.program)) r
+LiesInPrograms target e r = LiesInProgram (input_of target (span_of e.cie_program)) r ⊎ LiesInProgram (input_of target (span_of e.program)) r
 
 abbrev pub is_fde : Head → Bool
 is_fde (cie c) = false

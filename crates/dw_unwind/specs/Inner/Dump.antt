@@ -2,10 +2,10 @@
 use Rattle.std.specs.Prelude.{ℕ, ◌<◌, List, [], ◌∷◌, ◌++◌}
 use Rattle.dw_unwind.specs.declared.fault.DumpCode.{DumpCode}
 use Rattle.dw_unwind.specs.declared.fault.DumpCode.TheVariants.{BadLine, ValueTooLarge, Repeated}
-use Rattle.dw_unwind.specs.Statement.{Statement, Item, Fits, times}
+use Rattle.dw_unwind.specs.Statement.{Statement, DumpItem, Fits, times}
 
 -- the fault of a statement behind others
 abbrev pub IsWrong : ℕ → List Statement → Statement → DumpCode → Type 0
 IsWrong limit before s BadLine = ⊥
 IsWrong limit before s ValueTooLarge = Fits limit s → ⊥
-IsWrong limit before s Repeated = Fits limit s × ((item : Item) × (1 < times (before ++ s ∷ []) item))
+IsWrong limit before s Repeated = Fits limit s × ((item : DumpItem) × (1 < times (before ++ s ∷ []) item))

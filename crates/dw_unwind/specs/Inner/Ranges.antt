@@ -22,7 +22,7 @@ Rise [] = Unit {0}
 Rise (r ∷ rs) = AllByRecursion (λ q. end_of r ≤ q.address) rs × Rise rs
 
 -- a range has bytes, all of them in the list and below the limit of addresses
-pub record IsWithin (limit room : ℕ) (r : Range) : Type 0 where
+pub record IsSoundRange (limit room : ℕ) (r : Range) : Type 0 where
   pub some : 0 < r.len
   pub addresses : end_of r ≤ limit
   pub places : r.place + r.len ≤ room
@@ -30,4 +30,4 @@ pub record IsWithin (limit room : ℕ) (r : Range) : Type 0 where
 -- what a memory keeps
 pub record IsOrdered (held : Held) : Type 0 where
   pub rise : Rise held.ranges
-  pub within : AllByRecursion (IsWithin (2 ^ 64) (length held.bytes)) held.ranges
+  pub within : AllByRecursion (IsSoundRange (2 ^ 64) (length held.bytes)) held.ranges

@@ -8,7 +8,7 @@ use Rattle.dw_eval.specs.declared.policy.Policy.{Policy}
 use Rattle.dw_section.specs.Among.{IsAmong}
 use Rattle.dw_unwind.specs.declared.frame.UnwindError.{UnwindError}
 use Rattle.dw_unwind.specs.declared.frame.UnwindError.TheVariants.{Eval, Device, OutOfMemory}
-use Rattle.dw_unwind.specs.Unwound.{IsListed, IsEntry, RegistersAre}
+use Rattle.dw_unwind.specs.Unwound.{IsListed, IsRegisterEntry, RegistersAre}
 
 -- An answer between two counts of the device's failures. Where the count stays, it is want of memory or what P says; where the
 -- count grew, it is a failure of the device, as Fails says; nothing else is a failure of the device.
@@ -24,13 +24,13 @@ abbrev pub Rise : ℕ → List (ℕ × Option ℕ) → Type 0
 Rise low [] = Unit {0}
 Rise low (entry ∷ rest) = (low ≤ entry.0) × Rise (suc entry.0) rest
 
--- on a machine that stopped, with a row and its return-address register
+-- on a machine that stopped, with a row and its return address register
 module _ (c : Context) (limit : ℕ) (policy : Policy) (row : Rules) (return_register : ℕ) where
   -- these are the listed registers below n
   pub record SoFar (cfa n : ℕ) (entries : List (ℕ × Option ℕ)) : Type 0 where
     pub rise : Rise 0 entries
     pub below : AllByRecursion (λ entry. entry.0 < n) entries
-    pub each : AllByRecursion (IsEntry c limit policy row return_register cfa) entries
+    pub each : AllByRecursion (IsRegisterEntry c limit policy row return_register cfa) entries
     pub all : (r : ℕ) → r < n → IsListed c limit policy row return_register r → (v : Option ℕ) × IsAmong (r, v) entries
 
   -- register n is added where it is listed, or has the first fault

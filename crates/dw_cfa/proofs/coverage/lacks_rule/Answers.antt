@@ -47,10 +47,10 @@ instrs-preserved c =
     let l = c.instrs in
     let f = c.args.factors in
     let j = c.turn.new.cursor in
-    let m = c.turn.new.machine in
+    let m = c.turn.new.keep in
     let moved = c.in-Moved.ensures.turned in (
       moved.so,
-      c.in-Moved.ensures.initial ∙ l.invariant.1,
+      c.in-Moved.ensures.same.0 ∙ l.invariant.1,
       l.invariant.2 ∙ ap (λ (o : Outcome). o.fault) moved.rows,
       λ none. cc (c.lacks_now-lacks.ensures, c.row.ensures, lacks_moved f l.cursor l.machine j m moved c.args.end l.lacks none, l.invariant.3 (ap (λ (o : Outcome). o.fault) moved.rows ∙ none)),
     )

@@ -3,10 +3,12 @@ use Rattle.dw_cfa.proofs.RowsTo.{Passed}
 use Rattle.dw_cfa.proofs.execution.run_to.Given as goal
 
 abbrev pub invariant-instrs : goal.invariant-instrs
-invariant-instrs l =
-    RunsSo l.machine l.cursor × (l.machine.initial ≡ l.initial.machine.initial) × (l.machine.location ≤ l.address) × Passed l.address (rows_left l.factors l.initial.cursor l.initial.machine) (rows_left l.factors l.cursor l.machine)
-    × (stop_left l.factors l.cursor l.machine ≡ stop_left l.factors l.initial.cursor l.initial.machine)
-    × (l.machine.states.kept ≡ l.initial.machine.states.kept)
+invariant-instrs g l =
+    let old = g.K.Keep.machine l.initial.keep in
+    let now = g.K.Keep.machine l.keep in
+    RunsSo now l.cursor × (now.initial ≡ old.initial) × (now.location ≤ l.address) × Passed l.address (rows_left l.factors l.initial.cursor old) (rows_left l.factors l.cursor now)
+    × (stop_left l.factors l.cursor now ≡ stop_left l.factors l.initial.cursor old)
+    × (now.states.kept ≡ old.states.kept)
 
 abbrev pub decreases-instrs : goal.decreases-instrs
-decreases-instrs l = length l.cursor.bytes
+decreases-instrs g l = length l.cursor.bytes

@@ -1,8 +1,9 @@
-use Rattle.dw_cfa.proofs.Words.{sym, ◌∙◌, OneHolds, OneCount}
+use Rattle.dw_cfa.proofs.Words.{sym, ◌∙◌, FirstRowIsBegin, OneHolds, OneCount, rule}
 use Rattle.dw_cfa.proofs.Match.{restores_matched, match_exists}
 use Rattle.dw_cfa.proofs.Lent.Given.{one_run, refused_where_fault, given_where_kept, given_falls, given_holds}
 use Rattle.dw_cfa.proofs.Lent.FaultPlaces.{run_within}
 use Rattle.dw_cfa.proofs.Lent.InstrCounts.{counts_exists, one_count}
+use Rattle.dw_cfa.proofs.Lent.Openings.{first_cfa, first_rule}
 use Rattle.dw_cfa.proofs.Lent.SameRows.{same_rows}
 use Rattle.dw_cfa.proofs.laws.row_laws.Goals as goal
 
@@ -11,6 +12,10 @@ one_holds cie fde k row other v w = same_rows row other v.listed w.listed (v.cfa
 
 count : OneCount
 count begin instrs a from = let k = counts_exists begin instrs a from in (k.0, k.1, λ other counts. one_count begin instrs a other k.0 counts k.1)
+
+first_row_is_begin : FirstRowIsBegin
+first_row_is_begin initial begin instrs offset k row first counts holds =
+    (holds.cfa ∙ first_cfa initial.cfa begin offset instrs k first counts, λ r. holds.rules r ∙ first_rule (rule initial r) begin offset instrs r k first counts)
 
 pub returns : goal.returns
 returns c = record {
@@ -22,6 +27,7 @@ returns c = record {
   one = one_holds;
   listing = same_rows;
   count = count;
+  first = first_row_is_begin;
   within = run_within;
   matched = restores_matched;
   found = match_exists;

@@ -1,5 +1,5 @@
 use Rattle.dw_cfa.proofs.Words.{◌∙◌, marked}
-use Rattle.dw_cfa.proofs.RegisterSets.{rest_up, tree_next}
+use Rattle.dw_cfa.proofs.RegisterSets.{more_added, rest_up, tree_next}
 use Rattle.dw_cfa.proofs.register_set.add_far.Goals as goal
 
 pub registers-preserved : goal.registers-preserved
@@ -10,4 +10,5 @@ registers-preserved c =
       d.watched ∙ inv.1,
       d.so,
       tree_next all xs rest r x (marked c.args.marks.now) (marked c.registers.marks) (marked c.mark.new.self) step inv.0 (d.added inv.1) inv.3,
+      more_added r (marked c.args.marks.now) (marked c.registers.marks) (marked c.mark.new.self) (d.added inv.1) inv.4,
     )

@@ -3,7 +3,7 @@ use Rattle.dw_cfa.proofs.register_set.agree_near.Given as goal
 
 abbrev pub invariant-slots : goal.invariant-slots
 invariant-slots l =
-    (l.place ≤ 32) × (l.row.cfa ≡ l.initial.row.cfa) × LeavesAmong (in_mask l.fn.mask l.place) (is_agreed l.fn.other.registers) l.initial.row.registers l.row.registers
+    (l.place ≤ 128) × (l.row.cfa ≡ l.initial.row.cfa) × LeavesAmong (in_mask l.fn.mask l.place) (is_agreed l.fn.other.registers) l.initial.row.registers l.row.registers
 
 abbrev pub decreases-slots : goal.decreases-slots
-decreases-slots l = 32 - l.place
+decreases-slots l = 128 - l.place

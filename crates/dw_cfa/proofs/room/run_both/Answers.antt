@@ -12,11 +12,11 @@ returns-in_err-run_initial c =
 
 pub returns-in_err-run_to : goal.returns-in_err-run_to
 returns-in_err-run_to c =
-    let ran = begun_ran c.args.factors c.args.cie.now c.args.fde.now c.args.machine.now c.become_copy.new.self c.run_initial.new.states c.in_ok-run_initial.ensures.ok (c.in_ok-become_copy.ensures ∙ c.row.ensures) (c.in_ok-run_initial.ensures.same.0 ∙ c.requires.fresh.1) in
+    let ran = begun_ran c.args.factors c.args.cie.now c.args.fde.now c.args.machine.now c.become_copy.new.self c.run_initial.new.keep c.in_ok-run_initial.ensures.ok (c.in_ok-become_copy.ensures ∙ c.row.ensures) (c.in_ok-run_initial.ensures.same.0 ∙ c.requires.fresh.1) in
     let p = err_from_is_err_and c.from_residual-in_err-run_to.result c.from_residual-in_err-run_to.ensures.1 in
     rw (p.1, p.2, ← ran.0, ← ran.1) c.in_err-run_to.ensures.err
 
 pub returns : goal.returns
 returns c =
-    let ran = begun_ran c.args.factors c.args.cie.now c.args.fde.now c.args.machine.now c.become_copy.new.self c.run_initial.new.states c.in_ok-run_initial.ensures.ok (c.in_ok-become_copy.ensures ∙ c.row.ensures) (c.in_ok-run_initial.ensures.same.0 ∙ c.requires.fresh.1) in
+    let ran = begun_ran c.args.factors c.args.cie.now c.args.fde.now c.args.machine.now c.become_copy.new.self c.run_initial.new.keep c.in_ok-run_initial.ensures.ok (c.in_ok-become_copy.ensures ∙ c.row.ensures) (c.in_ok-run_initial.ensures.same.0 ∙ c.requires.fresh.1) in
     rw (← ran.0, ← ran.1) (c.in_ok-run_to.ensures.ran.last, c.in_ok-run_to.ensures.none)

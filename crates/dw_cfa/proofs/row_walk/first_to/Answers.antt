@@ -8,9 +8,20 @@ use Rattle.dw_cfa.proofs.row_walk.first_to.Goals as goal
 pub ready-requires-clause-runs : goal.ready-requires-clause-runs
 ready-requires-clause-runs c = led_initial c.args.leading c.args.fde.now c.args.machine.now.location c.requires.known
 
-pub run_to-requires-clause-known : goal.run_to-requires-clause-known
-run_to-requires-clause-known c = λ _.
-    ap (λ (o : Outcome). o.fault) (led_ran c.args.leading c.args.fde.now c.args.machine.now c.ready.new.machine c.requires.so c.in_ok-ready.ensures.ok) ∙ c.requires.known
+pub run_to-requires : goal.run_to-requires
+run_to-requires c k = (
+  (refl, tt),
+  (
+    λ k i at end fault after did. did,
+    (
+      search rules,
+      (
+        λ _. ap (λ (o : Outcome). o.fault) (led_ran c.args.leading c.args.fde.now c.args.machine.now c.ready.new.machine c.requires.so c.in_ok-ready.ensures.ok) ∙ c.requires.known,
+        search rules,
+      ),
+    ),
+  ),
+)
 
 pub returns : goal.returns
 returns c =
@@ -21,8 +32,8 @@ returns c =
     let keeps = led_keeps l fde old at c.are_bytes.ensures (subst AreBytes c.rest.ensures c.are_bytes-2.ensures) c.requires.so so in
     let left = row_left l at at c.are_bytes.ensures so.initial refl in
     record {
-      walked = subst (λ (o : Outcome). IfOk c.run_to.result (WalkedTo c.args.address progress.Begun o old l new.cursor new.machine)) same
-          (walked c.args.address progress.Begun (rows_left l.factors fde at) old l new.cursor new.machine c.run_to.result c.run_to.ensures.ran none at.initial c.run_to.ensures.initial keeps left);
+      walked = subst (λ (o : Outcome). IfOk c.run_to.result (WalkedTo c.args.address progress.Begun o old l new.cursor new.keep)) same
+          (walked c.args.address progress.Begun (rows_left l.factors fde at) old l new.cursor new.keep c.run_to.result c.run_to.ensures.ran none at.initial c.run_to.ensures.same.0 keeps left);
       err = only_memory c.run_to.result (rows_left l.factors fde at).fault _ none c.run_to.ensures.err;
       kept = search rules;
       kept_row = search rules;

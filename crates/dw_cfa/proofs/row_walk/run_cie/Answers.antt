@@ -6,7 +6,7 @@ use Rattle.dw_cfa.proofs.row_walk.run_cie.Goals as goal
 pub returns-clause-ok : goal.returns-clause-ok
 returns-clause-ok c =
     let l = c.args.leading in
-    let held = c.run_initial.new.states in
+    let held = c.run_initial.new.keep in
     let copy = c.in_ok-become_copy.ensures ∙ c.row.ensures in
     record {
       initial = initial_is l.factors c.new-cursor.result (program_input l.program l.target) c.restart.new.self.row held.row c.become_copy.new.self c.new-cursor.ensures (ap (λ (h : Held). h.row) c.restart.ensures) copy c.in_ok-run_initial.ensures.ok;

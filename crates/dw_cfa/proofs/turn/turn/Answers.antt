@@ -1,25 +1,20 @@
-use Rattle.dw_cfa.proofs.Words.{sym, ◌∙◌, subst, IsOk, AreBytes, Instr, Read}
-use Rattle.dw_cfa.proofs.RunSteps.{rows_read, rows_stuck}
-use Rattle.dw_cfa.proofs.Tabled.{opened}
-use Rattle.dw_cfa.proofs.Turns.{unread, unknown, by_read}
+use Rattle.dw_cfa.proofs.Words.{refl, subst, arith, false, AreBytes, instr_at}
+use Rattle.dw_cfa.proofs.RunSteps.{rows_read}
+use Rattle.dw_cfa.proofs.Turns.{stays, turned}
 use Rattle.dw_cfa.proofs.turn.turn.Goals as goal
 
-pub returns-in-Err-clause-turned : goal.returns-in-Err-clause-turned
-returns-in-Err-clause-turned c =
-    rw (c.refused.ensures.end, c.refused.ensures.fault) (rows_stuck c.args.factors c.args.cursor.now c.args.machine.now _ c.requires.some (unread c.args.factors c.args.cursor.now _ c.in-Err.ensures.exact.0))
+pub execute-requires : goal.execute-requires
+execute-requires g c k = (
+  (refl, tt),
+  (c.requires.so.within, (omega (arith, c.requires.so.limit), λ known. rows_read c.args.factors c.args.cursor.now (g.K.Keep.machine c.args.keep.now) c.requires.some (c.requires.known known))),
+)
 
-pub returns-in-None-clause-turned : goal.returns-in-None-clause-turned
-returns-in-None-clause-turned c =
-    rw (c.refused-in-None.ensures.end, c.refused-in-None.ensures.fault) (rows_stuck c.args.factors c.args.cursor.now c.args.machine.now _ c.requires.some
-    (unknown c.args.factors c.args.cursor.now c.byte.new.self c.in-Ok.code c.at-at.result c.at-at.ensures.place c.in-Ok.ensures.exact (sym c.known_opcode.ensures ∙ c.in-None.is)))
+pub returns-clause-turned : goal.returns-clause-turned
+returns-clause-turned g c =
+    turned g.K.Keep.machine g.K.Keep.takes c.requires.fde c.args.factors c.args.cursor.now c.args.keep.now (subst AreBytes c.rest.ensures c.are_bytes.ensures) c.requires.some c.requires.so
+    c.execute.result c.execute.new.fault c.execute.new.cursor c.execute.new.keep c.execute.ensures
 
-pub apply-requires-clause-known : goal.apply-requires-clause-known
-apply-requires-clause-known c k =
-    subst (λ (r : Read Instr). IsOk r) (opened c.args.factors c.args.cursor.now c.byte.new.self c.in-Ok.code c.in-Some.opcode c.at-at.result c.at-at.ensures.place c.in-Ok.ensures.exact (sym c.known_opcode.ensures ∙ c.in-Some.is))
-    (rows_read c.args.factors c.args.cursor.now c.args.machine.now c.requires.some (c.requires.known k))
-
-pub returns-in-Some-clause-turned : goal.returns-in-Some-clause-turned
-returns-in-Some-clause-turned c =
-    by_read c.args.factors c.args.cursor.now c.args.machine.now (subst AreBytes c.rest.ensures c.are_bytes.ensures) c.requires.some c.requires.so c.at-at.result c.at-at.ensures.place _
-    (opened c.args.factors c.args.cursor.now c.byte.new.self c.in-Ok.code c.in-Some.opcode c.at-at.result c.at-at.ensures.place c.in-Ok.ensures.exact (sym c.known_opcode.ensures ∙ c.in-Some.is))
-    c.apply.result c.apply.new.fault c.apply.new.cursor c.apply.new.machine c.apply.ensures.did
+pub returns-clause-same : goal.returns-clause-same
+returns-clause-same g c =
+    stays false g.K.Keep.machine g.K.Keep.takes c.requires.fde (instr_at c.args.factors c.args.cursor.now) c.args.cursor.now.at c.args.keep.now
+    c.execute.result c.execute.new.fault c.execute.new.cursor c.execute.new.keep c.execute.ensures

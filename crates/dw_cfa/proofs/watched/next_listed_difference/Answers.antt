@@ -11,8 +11,8 @@ marks-init c =
     let on = subst (λ (b : Bound ℕ). FromOn (λ (x : Entry). range_contains nat_cmp b Unbounded x.0) from) (sym c.start_behind.ensures) (range_on c.args.behind) in
     let p = λ (x : Entry). range_contains nat_cmp start Unbounded x.0 in
     let is = sym (c.range-marks.ensures.between tt) in (
-      subst (AreSpecified from) is (from_ascends p from on 32 far c.requires.marked),
-      subst (λ (l : List Entry). SameUnlisted from l c.args.kept.now.registers c.args.row.now.registers) is (from_unlisted p from on 32 far c.args.kept.now.registers c.args.row.now.registers c.requires.marked c.requires.same),
+      subst (AreSpecified from) is (from_ascends p from on 128 far c.requires.marked),
+      subst (λ (l : List Entry). SameUnlisted from l c.args.kept.now.registers c.args.row.now.registers) is (from_unlisted p from on 128 far c.args.kept.now.registers c.args.row.now.registers c.requires.marked c.requires.same),
     )
 
 pub returns-then-not-has_same_rule : goal.returns-then-not-has_same_rule

@@ -1,24 +1,28 @@
-use Rattle.dw_command.specs.Answers.{Checks, Costs, Cuts, EvalEnds, Normalises, OverFile, UnwindEnds}
+use Rattle.std.proofs.Common.{length}
+use Rattle.dw_command.specs.Answers.{Costs, Cuts, EvalEnds, Normalises, OverFile, Prints, ListsFdes, Tallies, UnwindEnds, costs_text}
+use Rattle.dw_command.specs.Inner.Output.{output_of}
+use Rattle.dw_command.specs.RowTexts.{member_text}
+use Rattle.dw_command.specs.Texts.{counts_text, entry_text, lines}
 use Rattle.dw_command.proofs.Endings.{done}
 use Rattle.dw_command.proofs.command.run_job.Goals as goal
 
 pub returns-in-Check-clause-ends : goal.returns-in-Check-clause-ends
-returns-in-Check-clause-ends g c = rw c.in-Check.is (done (OverFile (g.L.Load.gives c.args.files.now) _ _ _ c.in-Check.path.now (Checks c.args.job.target)) c.run_check.result c.done.result c.done.ensures c.run_check.ensures)
+returns-in-Check-clause-ends g c = rw c.in-Check.is (done (OverFile (g.L.Load.gives c.args.files.now) (output_of g.W.Write.contents c.args.out.now) (output_of g.W.Write.contents c.run_check.new.out) c.in-Check.path.now (Tallies c.args.job.target) (λ s counts. Prints {A = Unit {0}} (output_of g.W.Write.contents c.args.out.now) (output_of g.W.Write.contents c.run_check.new.out) (counts_text counts (length s)) tt)) c.run_check.result c.done.result c.done.ensures c.run_check.ensures)
 
 pub returns-in-Cost-clause-ends : goal.returns-in-Cost-clause-ends
-returns-in-Cost-clause-ends g c = rw c.in-Cost.is (done (OverFile (g.L.Load.gives c.args.files.now) _ _ _ c.in-Cost.path.now (Costs c.args.job.target)) c.run_cost.result c.done-in-Cost.result c.done-in-Cost.ensures c.run_cost.ensures)
+returns-in-Cost-clause-ends g c = rw c.in-Cost.is (done (OverFile (g.L.Load.gives c.args.files.now) (output_of g.W.Write.contents c.args.out.now) (output_of g.W.Write.contents c.run_cost.new.out) c.in-Cost.path.now (Costs c.args.job.target) (λ s cost. Prints {A = Unit {0}} (output_of g.W.Write.contents c.args.out.now) (output_of g.W.Write.contents c.run_cost.new.out) (costs_text (length s) cost) tt)) c.run_cost.result c.done-in-Cost.result c.done-in-Cost.ensures c.run_cost.ensures)
 
 pub returns-in-Entries-clause-ends : goal.returns-in-Entries-clause-ends
-returns-in-Entries-clause-ends g c = rw c.in-Entries.is (done (OverFile (g.L.Load.gives c.args.files.now) _ _ _ c.in-Entries.path.now (Cuts c.args.job.target)) c.run_entries.result c.done-in-Entries.result c.done-in-Entries.ensures c.run_entries.ensures)
+returns-in-Entries-clause-ends g c = rw c.in-Entries.is (done (OverFile (g.L.Load.gives c.args.files.now) (output_of g.W.Write.contents c.args.out.now) (output_of g.W.Write.contents c.run_entries.new.out) c.in-Entries.path.now (Cuts c.args.job.target) (λ _ es. Prints {A = Unit {0}} (output_of g.W.Write.contents c.args.out.now) (output_of g.W.Write.contents c.run_entries.new.out) (lines entry_text es) tt)) c.run_entries.result c.done-in-Entries.result c.done-in-Entries.ensures c.run_entries.ensures)
 
 pub returns-in-Eval-clause-ends : goal.returns-in-Eval-clause-ends
-returns-in-Eval-clause-ends g c = rw c.in-Eval.is (done (EvalEnds (g.L.Load.gives c.args.files.now) _ _ _ c.args.job.target c.in-Eval.evaluation) c.run_eval.result c.done-in-Eval.result c.done-in-Eval.ensures c.run_eval.ensures)
+returns-in-Eval-clause-ends g c = rw c.in-Eval.is (done (EvalEnds (g.L.Load.gives c.args.files.now) (output_of g.W.Write.contents c.args.out.now) (output_of g.W.Write.contents c.run_eval.new.out) c.args.job.target c.in-Eval.evaluation) c.run_eval.result c.done-in-Eval.result c.done-in-Eval.ensures c.run_eval.ensures)
 
 pub returns-in-Normal-clause-ends : goal.returns-in-Normal-clause-ends
-returns-in-Normal-clause-ends g c = rw c.in-Normal.is (done (OverFile (g.L.Load.gives c.args.files.now) _ _ _ c.in-Normal.writing.path.now (Normalises c.args.job.target c.in-Normal.writing.cap)) c.run_normal.result c.done-in-Normal.result c.done-in-Normal.ensures c.run_normal.ensures)
+returns-in-Normal-clause-ends g c = rw c.in-Normal.is (done (OverFile (g.L.Load.gives c.args.files.now) (output_of g.W.Write.contents c.args.out.now) (output_of g.W.Write.contents c.run_normal.new.out) c.in-Normal.writing.path.now (Normalises c.args.job.target c.in-Normal.writing.cap) (λ _ n. Prints {A = Unit {0}} (output_of g.W.Write.contents c.args.out.now) (output_of g.W.Write.contents c.run_normal.new.out) n tt)) c.run_normal.result c.done-in-Normal.result c.done-in-Normal.ensures c.run_normal.ensures)
 
 pub returns-in-Rows-clause-ends : goal.returns-in-Rows-clause-ends
-returns-in-Rows-clause-ends g c = rw c.in-Rows.is (done (OverFile (g.L.Load.gives c.args.files.now) _ _ _ c.in-Rows.path.now (Checks c.args.job.target)) c.run_rows.result c.done-in-Rows.result c.done-in-Rows.ensures c.run_rows.ensures)
+returns-in-Rows-clause-ends g c = rw c.in-Rows.is (done (OverFile (g.L.Load.gives c.args.files.now) (output_of g.W.Write.contents c.args.out.now) (output_of g.W.Write.contents c.run_rows.new.out) c.in-Rows.path.now (ListsFdes c.args.job.target) (λ _ ms. Prints {A = Unit {0}} (output_of g.W.Write.contents c.args.out.now) (output_of g.W.Write.contents c.run_rows.new.out) (lines member_text ms) tt)) c.run_rows.result c.done-in-Rows.result c.done-in-Rows.ensures c.run_rows.ensures)
 
 pub returns-in-Unwind-clause-ends : goal.returns-in-Unwind-clause-ends
-returns-in-Unwind-clause-ends g c = rw c.in-Unwind.is (done (UnwindEnds (g.L.Load.gives c.args.files.now) _ _ _ c.args.job.target c.in-Unwind.unwinding) c.run_unwind.result c.done-in-Unwind.result c.done-in-Unwind.ensures c.run_unwind.ensures)
+returns-in-Unwind-clause-ends g c = rw c.in-Unwind.is (done (UnwindEnds (g.L.Load.gives c.args.files.now) (output_of g.W.Write.contents c.args.out.now) (output_of g.W.Write.contents c.run_unwind.new.out) c.args.job.target c.in-Unwind.unwinding) c.run_unwind.result c.done-in-Unwind.result c.done-in-Unwind.ensures c.run_unwind.ensures)

@@ -1,5 +1,10 @@
-use Rattle.std.proofs.Common.{◌≡◌}
+use Rattle.std.proofs.Common.{◌≡◌, ◌-◌, ◌^◌, List, map, min, take}
+use Rattle.dw_section.specs.Meaning.{total}
+use Rattle.dw_canon.specs.Members.{AreMembers, Member}
+use Rattle.dw_command.specs.Answers.{change_count}
 use Rattle.dw_command.proofs.cost.count_each.Given as goal
 
 abbrev pub invariant-loop-place : goal.invariant-loop-place
-invariant-loop-place l = l.changes.section ≡ l.fn.table
+invariant-loop-place l =
+    (l.changes.section ≡ l.fn.table)
+    × ((ms : List Member) → AreMembers l.fn.table.target l.fn.table.bytes ms → l.count ≡ min (total (map change_count (take l.place ms))) (2 ^ 64 - 1))

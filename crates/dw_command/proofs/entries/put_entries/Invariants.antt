@@ -1,5 +1,7 @@
-use Rattle.std.proofs.Common.{◌≡◌}
+use Rattle.std.proofs.Common.{◌≡◌, take}
+use Rattle.dw_command.specs.Inner.Output.{Adds}
+use Rattle.dw_command.specs.Texts.{entry_text, lines}
 use Rattle.dw_command.proofs.entries.put_entries.Given as goal
 
 abbrev pub invariant-loop-entry : goal.invariant-loop-entry
-invariant-loop-entry g l = l.out.failures ≡ l.fn.out.failures
+invariant-loop-entry g l = (l.out.failures ≡ l.fn.out.failures) × Adds g.W.Write.contents l.fn.out l.out (lines entry_text (take l.entry-index l.fn.list))

@@ -1,3 +1,6 @@
+use Rattle.std.proofs.Common.{ℕ, List, inl, subst, sym}
+use Rattle.dw_num.specs.declared.target.Target.{Target}
+use Rattle.dw_op.specs.Least.{LeastBlock}
 use Rattle.dw_command.proofs.Blocks.{is_block, same_target, not_memory}
 use Rattle.dw_command.proofs.expr.run_expr.Goals as goal
 
@@ -6,3 +9,11 @@ unreachable-requires g c =
     let found = c.in_ok-list.ensures.found in
     let block = same_target _ c.args.target _ c.args.block.now found.0 (is_block c.args.profile c.args.target _ c.args.block.now found.1) in
     not_memory c.encode.result c.in-Err-BranchTooFar.field-0 c.in-Err-BranchTooFar.field-0-0 c.in-Err-BranchTooFar.is c.in-Err-BranchTooFar.field-0-is (c.encode.ensures.only c.args.block.now block)
+
+pub returns : goal.returns
+returns g c =
+    let found = c.in_ok-list.ensures.found in
+    let list = c.in_ok-list.list in
+    let least = c.deref.result.now in
+    let spelled = subst (λ (b : List ℕ). LeastBlock list.target list.ops b) (sym c.deref.ensures.value) c.in-Ok.ensures.ok in
+    inl ((list.ops, least), (found.1, subst (λ (t : Target). LeastBlock t list.ops least) found.0 spelled), c.put_expression.ensures)

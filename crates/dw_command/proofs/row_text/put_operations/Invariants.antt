@@ -1,5 +1,12 @@
-use Rattle.std.proofs.Common.{◌≡◌}
+use Rattle.std.proofs.Common.{◌≡◌, ◌≤◌, length}
+use Rattle.dw_command.specs.Inner.Output.{put_so_far}
+use Rattle.dw_command.specs.RowTexts.{operations_text}
+use Rattle.dw_command.proofs.OpLines.{left_text}
+use Rattle.dw_command.proofs.TextLines.{Leads}
 use Rattle.dw_command.proofs.row_text.put_operations.Given as goal
 
 abbrev pub invariant-loop-op : goal.invariant-loop-op
-invariant-loop-op g l = l.listing.failures ≡ l.fn.listing.failures
+invariant-loop-op g l =
+    (l.listing.failures ≡ l.fn.listing.failures) × (length l.between ≤ 2)
+    × Leads (put_so_far (g.W.Write.contents l.fn.listing.out) l.fn.listing.len l.fn.listing.room) (operations_text l.fn.expression.ops)
+    (put_so_far (g.W.Write.contents l.listing.out) l.listing.len l.listing.room) (left_text l.between l.op-iterator)

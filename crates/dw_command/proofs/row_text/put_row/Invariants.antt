@@ -1,5 +1,12 @@
 use Rattle.std.proofs.Common.{◌≡◌}
+use Rattle.dw_command.specs.Inner.Output.{put_so_far}
+use Rattle.dw_command.specs.RowTexts.{column_text}
+use Rattle.dw_command.specs.Texts.{lines}
+use Rattle.dw_command.proofs.TextLines.{Leads}
 use Rattle.dw_command.proofs.row_text.put_row.Given as goal
 
 abbrev pub invariant-loop-register : goal.invariant-loop-register
-invariant-loop-register g l = l.listing.failures ≡ l.fn.listing.failures
+invariant-loop-register g l =
+    (l.listing.failures ≡ l.fn.listing.failures)
+    × Leads (put_so_far (g.W.Write.contents l.initial.listing.out) l.initial.listing.len l.initial.listing.room) (lines column_text l.fn.row.registers)
+    (put_so_far (g.W.Write.contents l.listing.out) l.listing.len l.listing.room) (lines column_text l.register-iterator)

@@ -1,5 +1,9 @@
-use Rattle.std.proofs.Common.{◌≡◌}
+use Rattle.std.proofs.Common.{◌≡◌, take}
+use Rattle.hex.specs.Hex.{encode_lower}
+use Rattle.dw_command.specs.Inner.Output.{Adds}
 use Rattle.dw_command.proofs.texts.put_hex.Given as goal
 
 abbrev pub invariant-loop-byte : goal.invariant-loop-byte
-invariant-loop-byte g l = l.listing.failures ≡ l.fn.listing.failures
+invariant-loop-byte g l =
+    (l.listing.failures ≡ l.fn.listing.failures)
+    × Adds g.W.Write.contents l.fn.listing l.listing (encode_lower (take l.byte-index l.fn.bytes))

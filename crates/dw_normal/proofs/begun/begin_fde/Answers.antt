@@ -1,4 +1,4 @@
-use Rattle.dw_normal.proofs.Words.{get_or, List, map, sym, ap, ◌∙◌, subst, get_or-map, Member, AreMembers, fde_of, members_exist, Begins, SharesIn, IsReady, IsShown, Changing, row_or_blank, shown_row}
+use Rattle.dw_normal.proofs.Words.{get_or, List, map, sym, ap, ◌∙◌, subst, get_or-map, Member, AreMembers, fde_of, members_exist, IsBegun, SharesIn, IsReady, IsShown, Changing, row_or_blank, shown_row}
 use Rattle.dw_section.specs.Table.{Section}
 use Rattle.dw_normal.specs.Inner.Apart.{StandsApart}
 use Rattle.dw_normal.specs.Inner.Known.{AreSame}
@@ -23,7 +23,7 @@ list_apart-requires c =
       known = known_behind c.args.table.now rows c.fde-listed.result.return_register c.shared_row-begun.result.now c.shared_row-begun.ensures c.in_ok-behind.behind c.go_behind_first.new.changes.section old.apart.known.cies c.in_ok-behind.ensures.section known;
     }
 
-begins : (c : After-list_apart) (ms : List Member) → AreMembers c.args.table.now.target c.args.table.now.bytes ms → (d : Member) → Begins ms (get_or ms c.args.fde.place d) c.list_apart.new.begun
+begins : (c : After-list_apart) (ms : List Member) → AreMembers c.args.table.now.target c.args.table.now.bytes ms → (d : Member) → IsBegun ms (get_or ms c.args.fde.place d) c.list_apart.new.begun
 begins c ms are d =
     let behind = c.in_ok-behind.ensures.behind ms are d in
     let same = c.list_apart.ensures.same in record {

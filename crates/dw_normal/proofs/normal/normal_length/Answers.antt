@@ -1,4 +1,5 @@
 use Rattle.dw_normal.proofs.Reports.{length_found, length_only, only_memory}
+use Rattle.dw_normal.proofs.FaultPlaces.{refused_within}
 use Rattle.dw_normal.proofs.normal.normal_length.Goals as goal
 
 pub returns-in-Ok-clause-found : goal.returns-in-Ok-clause-found
@@ -10,3 +11,7 @@ returns-in-Ok-clause-only c = λ n normal within.
 
 pub returns-in-Err-clause-only : goal.returns-in-Err-clause-only
 returns-in-Err-clause-only c = λ n normal within. only_memory c.args.target c.args.bytes.now n c.args.cap c.are_bytes.ensures normal c.in-Err.error c.in-Err.ensures.first within
+
+pub returns-in-Err-clause-within : goal.returns-in-Err-clause-within
+returns-in-Err-clause-within c =
+    refused_within c.section_laws.ensures.within c.args.target c.args.bytes.now c.are_bytes.ensures c.args.cap c.in-Err.error c.in-Err.ensures.first

@@ -1,5 +1,6 @@
 use Rattle.dw_normal.proofs.Words.{Some, Refuses, NormalFault}
 use Rattle.dw_normal.proofs.Reports.{tape_only, tape_fault, only_memory, only_long}
+use Rattle.dw_normal.proofs.FaultPlaces.{refused_within}
 use Rattle.dw_normal.proofs.normal.normalise.Goals.{After-unread}
 use Rattle.dw_normal.proofs.normal.normalise.Goals as goal
 
@@ -23,3 +24,7 @@ returns-in-Err-clause-only c = λ n normal within.
 pub returns-in-Err-clause-longer : goal.returns-in-Err-clause-longer
 returns-in-Err-clause-longer c = λ n normal longer.
     only_long c.args.target c.args.bytes.now n c.args.cap c.are_bytes.ensures normal c.unread.result (refused (goal.at.returns-in-Err-clause-longer c).After-unread)
+
+pub returns-in-Err-clause-within : goal.returns-in-Err-clause-within
+returns-in-Err-clause-within c =
+    refused_within c.section_laws.ensures.within c.args.target c.args.bytes.now c.are_bytes.ensures c.args.cap c.unread.result (refused (goal.at.returns-in-Err-clause-within c).After-unread)

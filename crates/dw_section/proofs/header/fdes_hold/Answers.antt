@@ -1,19 +1,9 @@
-use Rattle.dw_section.proofs.Words.{◌≡◌, List, ℕ, [], ◌∷◌, refl, inl, inr, piece_in, AllByRecursion, AllZip, Target, Kind, Piece, Head, Has, CieHolds, FdeHolds, cie_head, fde_head}
-use Rattle.dw_section.specs.declared.entry.Kind.TheVariants as kind
+use Rattle.dw_section.proofs.Words.{inr, piece_in, FdeHolds}
 use Rattle.dw_section.proofs.Walk.{walk_start, walk_next, walk_end, walk_stuck}
 use Rattle.dw_section.proofs.Left.{headers_so, left_all}
+use Rattle.dw_section.proofs.Lent.HeaderLaws.{heads_of}
 use Rattle.dw_section.proofs.Stages.{all_push, handed_on}
 use Rattle.dw_section.proofs.header.fdes_hold.Goals as goal
-
--- pieces whose fields hold have headers
-module _ (target : Target) (places : List ℕ) where
-  head_of : (p : Piece) (k : Kind) → p.kind ≡ k → CieHolds target p → FdeHolds target places p → (h : Head) × Has target places p h
-  head_of p kind.Cie is cie fde = let f = cie is in (cie_head p f.0 f.1, inl (f.0, f.1, f.2, refl))
-  head_of p kind.Fde is cie fde = let f = fde is in (fde_head p f.0 f.1, inr (f.0, f.1, f.2, refl))
-
-  heads_of : (ps : List Piece) → AllByRecursion (CieHolds target) ps → AllByRecursion (FdeHolds target places) ps → (hs : List Head) × AllZip (Has target places) ps hs
-  heads_of [] cies fdes = ([], tt)
-  heads_of (p ∷ ps) cies fdes = let h = head_of p p.kind refl cies.0 fdes.0 in let more = heads_of ps cies.1 fdes.1 in (h.0 ∷ more.0, (h.1, more.1))
 
 pub pieces-init : goal.pieces-init
 pieces-init c = rw c.new-cursor.ensures (walk_start (left_all c.args.target c.args.bytes.now) (λ ps p. tt))

@@ -1,9 +1,18 @@
-use Rattle.dw_section.proofs.Words.{arith, subst, span_of, input_of, Led, RunsTo, program_input, run_steps}
+use Rattle.dw_section.proofs.Words.{◌∙◌, ap, arith, subst, sym, span_of, input_of, Gives, List, Led, LocatedRow, RunsTo, program_input, stepping, Stepping}
+use Rattle.dw_section.proofs.FdeRows.{one_outcome}
 use Rattle.dw_section.proofs.listed_fde.go_on_rows.Goals as goal
 
-pub returns-clause-steps : goal.returns-clause-steps
-returns-clause-steps c =
+pub go_on-requires-clause-known : goal.go_on-requires-clause-known
+go_on-requires-clause-known c =
     let e = c.args.fde.now in
-    let runs = subst (λ (l : Led). RunsTo l.factors l.program (program_input e.program l.program.target) e.begin c.go_on.new.self.steps.outcome) c.requires.led c.go_on.ensures.runs in
-    run_steps e.factors (input_of c.args.target (span_of e.cie_program)) (input_of c.args.target (span_of e.program)) e.begin c.args.steps.now.steps.current c.go_on.new.self.steps
-    c.are_bytes.ensures c.are_bytes-2.ensures (omega (arith, c.requires.in_space)) c.go_on.ensures.steps runs
+    subst (λ (l : Led). (rows : List LocatedRow) × Gives l.factors l.program (program_input e.program l.program.target) e.begin rows) (sym c.requires.led) c.requires.known
+
+pub returns-clause-steps : goal.returns-clause-steps
+returns-clause-steps c = λ rows give.
+    let e = c.args.fde.now in let o = c.go_on.new.self.steps.outcome in
+    let runs = subst (λ (l : Led). RunsTo l.factors l.program (program_input e.program l.program.target) e.begin o) c.requires.led c.go_on.ensures.runs in
+    let one = one_outcome e.factors (input_of c.args.target (span_of e.cie_program)) (input_of c.args.target (span_of e.program)) e.begin o rows c.are_bytes.ensures c.are_bytes-2.ensures (omega (arith, c.requires.in_space)) runs give in
+    c.go_on.ensures.steps ∙ ap (stepping c.args.steps.now.steps.current) one
+
+pub returns-clause-no_fault : goal.returns-clause-no_fault
+returns-clause-no_fault c = ap (λ (s : Stepping). s.outcome.fault) (returns-clause-steps c c.requires.known.0 c.requires.known.1)

@@ -1,6 +1,7 @@
 use Rattle.dw_section.proofs.Words.{◌≤◌, length, map, refl, sym, subst, inr, arith, err_from_is_err_and, Fde, IsRanged, IsTable, range_in, fde_in, NoneCovers, IsAmong, LookUpFault, StandingFault, length-map}
 use Rattle.dw_section.proofs.Lent.FdeLookup.{listed_are, ranged_of, fde_listed, listed_fde}
 use Rattle.dw_section.proofs.StandFaults.{refuses_more}
+use Rattle.dw_section.proofs.StandFits.{standing_fits}
 use Rattle.dw_section.proofs.Stages.{handed_on}
 use Rattle.dw_section.proofs.standing_fde.look_up.Goals.{In-Some}
 use Rattle.dw_section.proofs.standing_fde.look_up.Goals as goal
@@ -40,3 +41,7 @@ returns-clause-own c = λ t.
     let own = c.in_ok-found.ensures.own t.indexed.headers (range_in entry) entry.return_register t.indexed.hold (ranged (goal.at.returns-clause-own c).In-Some t) (sym c.from.ensures) covers.0 covers.1 in
     let listed = subst (λ (f : Fde). IsAmong f (map fde_in list)) (sym own.0) (fde_listed (fde_in entry) (map fde_in list) i.0 (omega (arith, i.1, length-map list fde_in)) (λ d. listed_fde list i.0 entry d i.1 (i.2 entry))) in
     (own.1, λ fs are. subst (IsAmong c.in_ok-found.found) (listed_are _ _ list t fs are) listed)
+
+pub returns-clause-fits : goal.returns-clause-fits
+returns-clause-fits c =
+    standing_fits c.args.target c.args.bytes.now c.from.result c.args.address (record { fde = c.in_ok-found.found; row = c.row_of.new.room }) c.in_ok-found.ensures.found

@@ -1,4 +1,4 @@
-use Rattle.dw_section.proofs.Words.{refl, sym, ap, subst, ◌∙◌, arith, err_from_is_err_and, FdeHead, found_cie, found_head, rows_of, RulesAt, StandsAt, some_is}
+use Rattle.dw_section.proofs.Words.{None, inr, refl, sym, ap, subst, ◌∙◌, arith, err_from_is_err_and, FdeHead, Outcome, found_cie, found_head, RulesAt, StandsAt, some_is}
 use Rattle.dw_section.proofs.Lent.FdeLookup.{same_fde}
 use Rattle.dw_section.proofs.RowLookup.{runs_so}
 use Rattle.dw_section.proofs.StandLaws.{listed_stands, one_stands, stands_in_space, stands_listed}
@@ -40,7 +40,8 @@ returns-in_err-run_fde-clause-own c = λ hs a register hold returns at le lt.
     let same = listed_stands c.args.target c.args.bytes.now hs a register c.in-Some.fde hold.0.0.0 returns found.1 (found.0 ∙ sym at) in
     let runs = runs_so c.args.target c.args.bytes.now hs hold c.in-Some.fde same.found c.are_bytes.ensures in
     let e = err_from_is_err_and c.from_residual-in_err-run_fde.result c.from_residual-in_err-run_fde.ensures.1 in
-    let none = no_refusal c.in_err-run_fde.field-0.0 (rows_of c.args.target c.in-Some.fde) c.in_err-run_fde.ensures.err runs.no_fault in
+    let all : Outcome = record { rows = runs.rows; fault = None } in
+    let none = no_refusal c.in_err-run_fde.field-0.0 all (c.in_err-run_fde.ensures.err all (inr runs.give)) refl in
     rw (e.1, e.2, none) refl
 
 pub returns-clause-found : goal.returns-clause-found
@@ -57,9 +58,9 @@ returns-clause-found c =
       end = refl;
       return_register = refl;
       covers = c.if-not-reaches.ensures;
-      outcome = rows_of c.args.target e;
-      runs = c.run_fde.ensures.runs;
-      row = c.in_ok-run_fde.ensures.found;
+      outcome = c.run_fde.ensures.runs.0;
+      runs = c.run_fde.ensures.runs.1;
+      row = c.in_ok-run_fde.ensures.found c.run_fde.ensures.runs.0 c.run_fde.ensures.runs.1;
       unfaulted = c.in_ok-run_fde.ensures.unfaulted;
     }
 
@@ -70,5 +71,5 @@ returns-clause-own c = λ hs a register hold returns at le lt.
     let same = listed_stands c.args.target c.args.bytes.now hs a register e hold.0.0.0 returns found.1 (found.0 ∙ sym at) in
     let runs = runs_so c.args.target c.args.bytes.now hs hold e same.found c.are_bytes.ensures in
     let row = runs.rules c.args.address c.if-not-reaches.ensures.0 c.if-not-reaches.ensures.1 in
-    let one = some_is row.0 c.run_fde.new.room (sym row.1 ∙ c.in_ok-run_fde.ensures.found) in
+    let one = some_is row.0 c.run_fde.new.room (sym row.1 ∙ c.in_ok-run_fde.ensures.found (record { rows = runs.rows; fault = None }) (inr runs.give)) in
     (same_fde e.begin e.range e.return_register a.begin a.range register same.begin same.range same.register_is, subst (RulesAt c.args.target c.args.bytes.now c.args.address) one row.2)

@@ -1,7 +1,18 @@
 use Rattle.dw_unwind.proofs.FaultColumns.{faults_in_frame}
 use Rattle.dw_unwind.proofs.OneDump.{one_dump}
 use Rattle.dw_unwind.proofs.OneFrame.{one_frame}
+use Rattle.dw_unwind.proofs.SomeFrame.{some_frame}
+use Rattle.dw_unwind.proofs.Wanted.{wanted_is_missing}
 use Rattle.dw_unwind.proofs.laws.unwind_laws.Goals as goal
 
 pub returns : goal.returns
-returns c = record { frame = one_frame; column = faults_in_frame; dump = one_dump }
+returns c =
+    let laws = c.section_laws.ensures in
+    let one = one_frame laws.headers c.one_order.ensures laws.fdes laws.rules in
+    record {
+      frame = one;
+      some = some_frame c.evaluation_laws.ensures.value c.block_laws.ensures.in_range laws.listed laws.ruled laws.fit laws.set one;
+      column = faults_in_frame;
+      wanted = wanted_is_missing c.evaluation_laws.ensures.wanted;
+      dump = one_dump;
+    }

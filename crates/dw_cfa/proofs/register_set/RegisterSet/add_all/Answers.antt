@@ -1,7 +1,11 @@
 use Rattle.dw_cfa.proofs.Words.{marked}
-use Rattle.dw_cfa.proofs.RegisterSets.{all_added}
+use Rattle.dw_cfa.proofs.RegisterSets.{all_added, all_stay}
 use Rattle.dw_cfa.proofs.register_set.RegisterSet.add_all.Goals as goal
 
-pub returns : goal.returns
-returns c =
+pub returns-clause-added : goal.returns-clause-added
+returns-clause-added c =
     all_added c.add_far.result c.self.inside.marks c.other.inside.marks c.args.self.now c.args.other.now (marked c.add_far.new.marks) c.self.view_is c.other.view_is c.other.invariant.1 c.add_far.ensures.added
+
+pub returns-clause-more : goal.returns-clause-more
+returns-clause-more c =
+    all_stay c.add_far.result c.self.inside.marks c.other.inside.marks c.args.self.now (marked c.add_far.new.marks) c.self.view_is c.add_far.ensures.more

@@ -6,4 +6,4 @@ abbrev pub invariant-slots : goal.invariant-slots
 invariant-slots l = TestedBelow (is_agreed (entries_of l.others)) (entries_of l.fn.self) l.place l.self
 
 abbrev pub decreases-slots : goal.decreases-slots
-decreases-slots l = 32 - l.place
+decreases-slots l = 128 - l.place

@@ -1,8 +1,9 @@
-use Rattle.dw_cfa.proofs.Lent.Skipped.{all_tested, one_tested}
+use Rattle.dw_cfa.proofs.Lent.Narrowed.{both_hold, kept_below}
 use Rattle.dw_cfa.proofs.row.Entries.keep_near.Goals as goal
 
 pub returns-clause-rules : goal.returns-clause-rules
-returns-clause-rules c = all_tested c.slots.invariant c.in_default.ensures
+returns-clause-rules c = kept_below c.args.self.now c.args.others.now c.requires.so c.requires.others
 
-pub slots-preserved : goal.slots-preserved
-slots-preserved c = one_tested c.slots.invariant c.in-Some.ensures c.keep_at.ensures.rules c.keep_at.ensures.so
+pub returns-clause-so : goal.returns-clause-so
+returns-clause-so c =
+    let so = c.requires.so in record { used = both_hold c.args.self.now c.args.others.now so c.requires.others; low = so.low; expressions = so.expressions; far = so.far }

@@ -5,4 +5,4 @@ abbrev pub invariant-slots : goal.invariant-slots
 invariant-slots l = (l.fn.from ≤ l.place) × SameBetween l.fn.from l.place (entries_of l.self) (entries_of l.others)
 
 abbrev pub decreases-slots : goal.decreases-slots
-decreases-slots l = 32 - l.place
+decreases-slots l = 128 - l.place

@@ -1,4 +1,4 @@
-use Rattle.dw_cfa.proofs.Words.{◌∙◌, Unspecified}
+use Rattle.dw_cfa.proofs.Words.{◌∙◌, Unspecified, near_rule, slots_of}
 use Rattle.dw_cfa.proofs.Slots.{far_set, put_so}
 use Rattle.dw_cfa.proofs.WideRows.{removed_is}
 use Rattle.dw_cfa.proofs.row.Entries.take_out.Goals as goal
@@ -6,15 +6,15 @@ use Rattle.dw_cfa.proofs.row.Entries.take_out.Goals as goal
 pub returns-clause-entries : goal.returns-clause-entries
 returns-clause-entries c =
     let e = c.args.self.now in let so = c.requires in
-    far_set e.near e.expressions.entries e.far.entries c.args.register Unspecified c.remove.new.self.entries so.near so.far c.if-register-lt-NEAR.false
-    (c.remove.ensures.entries ∙ removed_is c.args.register 32 e.far.entries so.far)
+    far_set (near_rule e.used (slots_of e) e.expressions.entries) e.far.entries c.args.register Unspecified c.remove.new.self.entries so.far c.if-register-lt-NEAR.false
+    (c.remove.ensures.entries ∙ removed_is c.args.register 128 e.far.entries so.far)
 
 pub returns-clause-so : goal.returns-clause-so
 returns-clause-so c =
     let e = c.args.self.now in let so = c.requires in
     record {
       used = so.used;
-      near = so.near;
+      low = so.low;
       expressions = so.expressions;
-      far = put_so c.args.register 32 Unspecified e.far.entries c.remove.new.self.entries (c.remove.ensures.entries ∙ removed_is c.args.register 32 e.far.entries so.far) so.far c.if-register-lt-NEAR.false;
+      far = put_so c.args.register 128 Unspecified e.far.entries c.remove.new.self.entries (c.remove.ensures.entries ∙ removed_is c.args.register 128 e.far.entries so.far) so.far c.if-register-lt-NEAR.false;
     }

@@ -3,6 +3,7 @@ use Rattle.std.specs.Fmt.{digits}
 use Rattle.std.proofs.lemmas.List.{append_assoc}
 use Rattle.dw_command.specs.Inner.Hex.{last_digits}
 use Rattle.dw_command.proofs.Digits.{behind}
+use Rattle.dw_command.proofs.Puts.{in_room}
 use Rattle.dw_command.proofs.listing.Listing.hex.Goals as goal
 
 pub returns-then-high-gt0-clause-put : goal.returns-then-high-gt0-clause-put
@@ -16,3 +17,6 @@ returns-then-high-gt0-clause-put g c =
     c.text.ensures.put ∙ ap₂ (λ (xs ys : List ℕ). xs ++ ys) c.hex_without_zeros.ensures.put c.hex_digits.ensures
     ∙ append_assoc before (digits 16 false high) (last_digits 8 low)
     ∙ ap (λ (xs : List ℕ). before ++ xs) (behind high low c.if-high-gt0.true (omega (arith, fits)) (omega arith) ∙ ap (digits 16 false) is)
+
+pub returns-then-high-gt0-clause-adds : goal.returns-then-high-gt0-clause-adds
+returns-then-high-gt0-clause-adds g c = in_room g.W.Write.contents _ _ _ _ _ _ _ (c.text.ensures.out ∙ c.hex_without_zeros.ensures.out) (returns-then-high-gt0-clause-put g c)

@@ -1,8 +1,8 @@
 use Rattle.std.proofs.Common.{◌∙◌, ◌-◌, ◌++◌, List, ℕ, length, take, drop, ap, arith, sym, subst}
-use Rattle.std.proofs.lemmas.List.{length-drop, take_rest}
+use Rattle.std.proofs.lemmas.List.{append_assoc, length-drop, take_rest}
 use Rattle.std.specs.Io.KnownBytes.{Appends}
-use Rattle.std.proofs.KnownBytes.{Appends-trans}
-use Rattle.dw_command.specs.Output.{put_so_far}
+use Rattle.std.proofs.KnownBytes.{Appends-trans, Appends-kept}
+use Rattle.dw_command.specs.Inner.Output.{put_so_far}
 use Rattle.dw_command.proofs.Pieces.{piece_more, gone_more}
 use Rattle.dw_command.proofs.listing.Listing.long_text.Goals as goal
 
@@ -20,19 +20,22 @@ pieces-preserved g c =
     let mid = put_so_far (g.W.Write.contents c.pieces.self.out) c.pieces.self.len c.pieces.self.room in
     let new = put_so_far (g.W.Write.contents c.put.new.self.out) c.put.new.self.len c.put.new.self.room in
     let all = take c.args.self.now.len c.args.self.now.room in
+    let before = c.pieces.invariant.2 in
+    let gone = c.pieces.invariant.3 in
+    let room = (c.in-Ok.ensures).room in
     let piece = take c.in-Ok.n (take (length text - done) (drop done text)) in (
       omega (arith, long, rest, most, less),
       took.2 ∙ c.pieces.invariant.1,
-      λ fits.
-          let before = c.pieces.invariant.2 fits in
-          let put = c.in-Ok.ensures.put before.0 in
-          let room = c.in-Ok.ensures.room before.0 in (
-            c.in-Ok.ensures.fits,
-            subst (λ (l : List ℕ). Appends old new l) more (Appends-trans old mid new (take done text) piece before.1 put),
-            before.2 ++ room.0,
-            ap (λ (l : List ℕ). all ++ l) (sym more) ∙ gone_more all (take done text) piece (take c.pieces.self.len c.pieces.self.room) (take c.put.new.self.len c.put.new.self.room) before.2 room.0 before.3 room.1,
-          ),
+      subst (λ (l : List ℕ). Appends old new l) more (Appends-trans old mid new (take done text) piece before took.3),
+      (gone.0 ++ room.0, ap (λ (l : List ℕ). all ++ l) (sym more) ∙ gone_more all (take done text) piece (take c.pieces.self.len c.pieces.self.room) (take c.put.new.self.len c.put.new.self.room) gone.0 room.0 gone.1 room.1),
+      λ _. c.in-Ok.ensures.fits,
     )
 
-pub returns-clause-fits : goal.returns-clause-fits
-returns-clause-fits g c = λ fits. (c.pieces.invariant.2 fits).0
+pub returns-in-Err-clause-front : goal.returns-in-Err-clause-front
+returns-in-Err-clause-front g c = (c.pieces.done, c.pieces.invariant.0, Appends-kept _ _ _ _ c.pieces.invariant.2 c.in-Err.ensures.fault.1)
+
+pub returns-in-Err-clause-held : goal.returns-in-Err-clause-held
+returns-in-Err-clause-held g c =
+    let gone = c.pieces.invariant.3 in
+    let held = c.in-Err.ensures.held in
+    (c.pieces.done, gone.0 ++ held.0, c.pieces.invariant.0, gone.1 ∙ ap (λ (l : List ℕ). gone.0 ++ l) held.1 ∙ sym (append_assoc gone.0 held.0 (take c.put.new.self.len c.put.new.self.room)))

@@ -15,4 +15,4 @@ returns-clause-some c =
     let fs = c.accepted.ensures.fdes in
     let covers = subst (Covers c.args.address) (sym (c.found.ensures.listed fs.0 fs.1 fde)) ((c.in-Some.ensures fs.0 fs.1).1 fde) in
     let runs = runs_found c.args.self.now.target c.args.self.now.bytes c.accepted.ensures.bytes c.found.result c.found.ensures.found in
-    record { in_space = runs.in_space; no_fault = runs.no_fault; never_falls = runs.never_falls; row = runs.rules c.args.address covers.0 covers.1 }
+    record { in_space = runs.in_space; rows = runs.rows; give = runs.give; row = runs.rules c.args.address covers.0 covers.1 }

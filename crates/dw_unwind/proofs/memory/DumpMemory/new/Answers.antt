@@ -1,5 +1,5 @@
 use Rattle.std.proofs.Common.{◌^◌, length}
-use Rattle.dw_unwind.specs.Inner.Ranges.{IsWithin}
+use Rattle.dw_unwind.specs.Inner.Ranges.{IsSoundRange}
 use Rattle.dw_unwind.proofs.RangeLaws.{have_bytes, all_permuted, byte_permuted}
 use Rattle.dw_unwind.proofs.memory.DumpMemory.new.Goals as goal
 
@@ -9,7 +9,7 @@ settle-requires-clause-some c = have_bytes (2 ^ 64) (length c.args.bytes.items) 
 pub invariant_of-result : goal.invariant_of-result
 invariant_of-result c = record {
   rise = c.settle.ensures.rise;
-  within = all_permuted (IsWithin (2 ^ 64) (length c.args.bytes.items)) c.args.ranges.items c.settle.new.list.items c.settle.ensures.same c.requires.within;
+  within = all_permuted (IsSoundRange (2 ^ 64) (length c.args.bytes.items)) c.args.ranges.items c.settle.new.list.items c.settle.ensures.same c.requires.within;
 }
 
 pub returns : goal.returns

@@ -1,0 +1,25 @@
+-- What a look-up keeps, in the words of the machine.
+use Rattle.std.specs.Prelude.{◌≡◌, ℕ, ◌<◌, List, [], ◌∷◌, Bool, true, false, Option, Some, None}
+use Rattle.std.specs.Int.{bit_at}
+use Rattle.dw_cfa.specs.declared.machine.Machine.{Machine}
+use Rattle.dw_cfa.specs.declared.rule.RegRule.TheVariants.{Unspecified}
+use Rattle.dw_cfa.specs.Rows.{Rules, blank, rule}
+
+-- at most one row is remembered
+abbrev pub stack_of : Option Rules → List Rules
+stack_of None = []
+stack_of (Some row) = row ∷ []
+
+-- the row that is kept is the one that is remembered, if there is one
+abbrev pub kept_if : Bool → Rules → Option Rules
+kept_if true kept = Some kept
+kept_if false kept = None
+
+-- behind an initial row, with this row, at this location
+abbrev pub look_up_at : Rules → ℕ → Rules → Option Rules → ℕ → Machine
+look_up_at initial limit row remembered location =
+    record { initial = initial; states = record { row = row; stack = stack_of remembered; first = None; kept = blank }; location = location; limit = limit }
+
+-- of the registers below 128 a row specifies none but those in a mask
+abbrev pub SpecifiesIn : ℕ → Rules → Type 0
+SpecifiesIn mask row = (r : ℕ) → r < 128 → bit_at mask r ≡ 0 → rule row r ≡ Unspecified

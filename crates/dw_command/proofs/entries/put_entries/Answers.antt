@@ -1,0 +1,11 @@
+use Rattle.std.proofs.Common.{◌∙◌, List, ℕ, subst, sym}
+use Rattle.std.proofs.KnownBytes.{Appends-trans}
+use Rattle.dw_command.specs.Inner.Output.{Adds}
+use Rattle.dw_command.specs.Texts.{entry_text}
+use Rattle.dw_command.proofs.TextLines.{lines_more}
+use Rattle.dw_command.proofs.entries.put_entries.Goals as goal
+
+pub loop-entry-preserved : goal.loop-entry-preserved
+loop-entry-preserved g c =
+    let more = lines_more entry_text c.args.list.now c.loop-entry.entry-index _ c.loop-entry-test.true in
+    (c.in_ok-put_entry.ensures.told ∙ c.loop-entry.invariant.0, subst (λ (t : List ℕ). Adds g.W.Write.contents c.args.out.now c.put_entry.new.out t) (sym more) (Appends-trans _ _ _ _ _ c.loop-entry.invariant.1 c.in_ok-put_entry.ensures.put))

@@ -1,0 +1,21 @@
+use Rattle.std.proofs.Common.{◌-◌, List, ℕ, length, take, drop, ap, arith, subst}
+use Rattle.std.proofs.lemmas.List.{length-drop, take_rest}
+use Rattle.std.specs.Io.KnownBytes.{Appends}
+use Rattle.std.proofs.KnownBytes.{Appends-trans}
+use Rattle.dw_command.proofs.Pieces.{piece_more}
+use Rattle.dw_command.proofs.listing.write_front.Goals as goal
+
+pub writes-preserved : goal.writes-preserved
+writes-preserved g c =
+    let text = c.args.bytes.now in
+    let done = c.writes.done in
+    let n = c.write_once-n.result in
+    let most = c.write_once-n.ensures.most in
+    let long = length-drop done text in
+    let rest = ap length (take_rest text done) in
+    let less = c.writes-test.true in
+    let old = g.W.Write.contents c.args.out.now in
+    let mid = g.W.Write.contents c.writes.out in
+    let new = g.W.Write.contents c.write_once-n.new.out in
+    let piece = take n (take (length text - done) (drop done text)) in
+    (omega (arith, long, rest, most, less), subst (λ (l : List ℕ). Appends old new l) (piece_more done n text) (Appends-trans old mid new (take done text) piece c.writes.invariant.1 c.write_once-n.ensures.took))

@@ -1,0 +1,11 @@
+use Rattle.std.proofs.Common.{◌∙◌, List, ℕ, subst, sym}
+use Rattle.std.proofs.KnownBytes.{Appends-trans}
+use Rattle.dw_command.specs.Inner.Output.{Adds}
+use Rattle.dw_command.specs.Texts.{register_text}
+use Rattle.dw_command.proofs.TextLines.{lines_more}
+use Rattle.dw_command.proofs.unwind.put_registers.Goals as goal
+
+pub loop-register-preserved : goal.loop-register-preserved
+loop-register-preserved g c =
+    let more = lines_more register_text c.args.values.now c.loop-register.register-index _ c.loop-register-test.true in
+    (c.in_ok-put_value.ensures.told ∙ c.loop-register.invariant.0, subst (λ (t : List ℕ). Adds g.W.Write.contents c.args.out.now c.put_value.new.out t) (sym more) (Appends-trans _ _ _ _ _ c.loop-register.invariant.1 c.in_ok-put_value.ensures.put))

@@ -1,0 +1,7 @@
+use Rattle.std.proofs.Common.{◌≡◌, take}
+use Rattle.dw_command.specs.Inner.Output.{Adds}
+use Rattle.dw_command.specs.Texts.{lines, register_text}
+use Rattle.dw_command.proofs.unwind.put_registers.Given as goal
+
+abbrev pub invariant-loop-register : goal.invariant-loop-register
+invariant-loop-register g l = (l.out.failures ≡ l.fn.out.failures) × Adds g.W.Write.contents l.fn.out l.out (lines register_text (take l.register-index l.fn.values))

@@ -1,0 +1,152 @@
+//! The frame of the caller by an index that was kept (6.4.1).
+
+ghost use Rattle.std.specs.Prelude.{◌≡◌, ◌⊎◌, ◌-◌, ◌^◌, ◌<◌, ◌≤◌, true, IfOk, IfErr, OnOk, MatchResult, Result, Err};
+ghost use Rattle.std.specs.Bool.{MatchBool};
+ghost use Rattle.dw_cfa.specs.declared.rule.CfaRule.TheVariants.{Unset};
+ghost use Rattle.dw_section.specs.Fits.{RowFits};
+ghost use Rattle.dw_section.specs.Ranges.{IsTable};
+ghost use Rattle.dw_unwind.specs.declared.by_index.UnwindAtError.TheVariants as TheUnwindAtError;
+ghost use Rattle.dw_unwind.specs.declared.frame.Frame.{Frame as TheFrame};
+ghost use Rattle.dw_unwind.specs.declared.frame.UnwindError.{UnwindError as TheError};
+ghost use Rattle.dw_unwind.specs.declared.frame.UnwindError.TheVariants.{NoFde, OutOfMemory};
+ghost use Rattle.dw_unwind.specs.Inner.UnwoundAt.{of_look_up};
+ghost use Rattle.dw_unwind.specs.Unwound.{IsCovered, IsUncovered, Unwound, UnwindFails, is_device, stopped};
+ghost use Rattle.dw_unwind.specs.UnwoundAt.{IsLed, LacksRow, UnwoundAt, UnwindAtFails, by_index};
+
+use crate::caller::unwind_row;
+use crate::frame::{Frame, UnwindError};
+use dw_cfa::{CfaRule, Row, RowRoom};
+use dw_eval::{Memory, Policy, Registers};
+use dw_num::{Refusal, Target, are_bytes};
+use dw_section::{LookUpError, Ranged, look_up, section_laws};
+use std::alloc::Global;
+use std::error::Error;
+use std::fmt;
+
+/// Why there is no frame of the caller by an index.
+#[derive(Clone, Copy, Debug, PartialEq, Eq)]
+pub enum UnwindAtError {
+    /// The index is not that of an accepted section of these bytes: no FDE that covers the address stands where it says, or
+    /// the CFA has no rule there.
+    BadIndex,
+    /// What stands there is refused, as `dw_section::look_up` refuses it (1 to 23, 26).
+    Refused(Refusal),
+    /// There is no frame, as `unwind` says it.
+    Unwind(UnwindError),
+}
+
+impl fmt::Display for UnwindAtError {
+    fn fmt<W: fmt::Write>(&self, f: &mut fmt::Formatter<W>) -> fmt::Result {
+        match self {
+            UnwindAtError::BadIndex => write!(f, "the index is not the one of these bytes"),
+            UnwindAtError::Refused(refusal) => write!(f, "{refusal}"),
+            UnwindAtError::Unwind(error) => write!(f, "{error}"),
+        }
+    }
+}
+
+impl Error for UnwindAtError {}
+
+impl From<LookUpError> for UnwindAtError {
+    ghost from_gives = { λ error e. e ≡ of_look_up error };
+
+    fn from(error: LookUpError) -> UnwindAtError {
+        match error {
+            LookUpError::BadIndex => UnwindAtError::BadIndex,
+            LookUpError::Refused(refusal) => UnwindAtError::Refused(refusal),
+            LookUpError::OutOfMemory => UnwindAtError::Unwind(UnwindError::OutOfMemory),
+        }
+    }
+}
+
+fn by_index(answer: Result<Frame, UnwindError>) -> Result<Frame, UnwindAtError>
+    ensures { result ≡ by_index answer }
+{
+    match answer {
+        Ok(frame) => Ok(frame),
+        Err(error) => Err(UnwindAtError::Unwind(error)),
+    }
+}
+
+fn is_set(row: &Row<'_>) -> bool
+    ensures { MatchBool result (row.now.cfa ≡ Unset → ⊥) (row.now.cfa ≡ Unset) }
+{
+    match row.cfa_rule() {
+        CfaRule::Unset => false,
+        _ => true,
+    }
+}
+
+/// The return address register of the FDE that covers an address by an index; `room` lends the rules there then.
+pub(crate) fn row_at<'a>(
+    bytes: &'a [u8],
+    target: Target,
+    index: &[Ranged],
+    address: u64,
+    room: &mut RowRoom<'a>,
+) -> Result<u16, UnwindAtError>
+    ensures own { IsTable target bytes.now index.now → MatchResult result (λ register. IsCovered target bytes.now address register room.new) (λ e. (e ≡ TheUnwindAtError.Unwind OutOfMemory) ⊎ ((e ≡ TheUnwindAtError.Unwind NoFde) × IsUncovered target bytes.now address)) }
+    ensures led { IfOk result (λ register. IsLed target bytes.now index.now address register room.new) }
+    ensures lacks { IfErr result (LacksRow target bytes.now index.now address) }
+    ensures set { OnOk result (room.new.cfa ≡ Unset → ⊥) }
+    ensures fits { OnOk result (RowFits target room.new) }
+{
+    section_laws();
+    are_bytes(bytes);
+    let Some(fde) = look_up(bytes, target, index, address, room)? else {
+        return Err(UnwindAtError::Unwind(UnwindError::NoFde));
+    };
+    if !is_set(room.row()) {
+        return Err(UnwindAtError::BadIndex);
+    }
+    Ok(fde.fde().return_register)
+}
+
+/// The caller's frame as `unwind` answers it, by an index of a section's nonempty FDEs that was kept (`Table::index`), in bytes
+/// that are not judged again: as `look_up` does, it finds the entry that covers `pc`, and reads and judges the FDE at its place,
+/// and the CIE that this names, up to the row. So bytes and index need not belong together: where they do not, the answer is by
+/// the FDE that stands at the place, or an error. `room` is where the row is made; it may be that of an earlier call.
+pub fn unwind_at<'a, M: Memory>(
+    alloc: Global,
+    bytes: &'a [u8],
+    target: Target,
+    index: &[Ranged],
+    pc: u64,
+    room: &mut RowRoom<'a>,
+    registers: &Registers,
+    memory: &mut M,
+    default: Policy,
+    steps: u64,
+) -> Result<Frame, UnwindAtError>
+    requires room { M.failures memory.old < 2 ^ 64 - 1 }
+    // No byte of the memory changes.
+    ensures same { M.byte memory.new ≡ M.byte memory.old }
+    // The count of failures stays or grows.
+    ensures counted { M.failures memory.old ≤ M.failures memory.new }
+    // By the index of an accepted section it is what `unwind` answers of it.
+    ensures own { IsTable target bytes.now index.now → (r : Result TheFrame TheError) × (result ≡ by_index r) × (M.failures memory.new ≡ M.failures memory.old → (r ≡ Err OutOfMemory) ⊎ Unwound target bytes.now pc (stopped target registers.now (M.byte memory.old)) default steps r) × (M.failures memory.old < M.failures memory.new → (e : TheError) × (r ≡ Err e) × UnwindFails target bytes.now pc (stopped target registers.now (M.byte memory.old)) default steps e) }
+    // By any other it is the frame by the FDE that stands where the index leads, or the first fault, or want of memory.
+    ensures answered { M.failures memory.new ≡ M.failures memory.old → (result ≡ Err (TheUnwindAtError.Unwind OutOfMemory)) ⊎ UnwoundAt target bytes.now index.now pc (stopped target registers.now (M.byte memory.old)) default steps result }
+    // Where the count grows, a read of a column that is reached has failed.
+    ensures failed { M.failures memory.old < M.failures memory.new → (e : TheError) × (result ≡ Err (TheUnwindAtError.Unwind e)) × (is_device e ≡ true) × UnwindAtFails target bytes.now index.now pc (stopped target registers.now (M.byte memory.old)) default steps e }
+    // No other failure is named.
+    ensures device { (e : TheError) → result ≡ Err (TheUnwindAtError.Unwind e) → is_device e ≡ true → M.failures memory.old < M.failures memory.new }
+{
+    match row_at(bytes, target, index, pc, room) {
+        Ok(return_register) => {
+            let row = room.row();
+            let frame = unwind_row(
+                alloc,
+                row,
+                return_register,
+                target,
+                registers,
+                memory,
+                default,
+                steps,
+            );
+            by_index(frame)
+        }
+        Err(error) => Err(error),
+    }
+}
