@@ -435,6 +435,63 @@ static void call_rows_at(const uint8_t *bytes, size_t len)
     give_back(before);
 }
 
+/* The rows of an FDE are those that a look-up has, by the index of the same bytes, and differ from what is one address before. */
+static void call_changes(const uint8_t *bytes, size_t len)
+{
+    size_t before = lents, changes_room = below(8), room = below(40), indexed = 0;
+    uint64_t address = some_address(), told = 0;
+    dwframe_change *changes = block(changes_room * sizeof *changes);
+    dwframe_rule *rules = block(room * sizeof *rules);
+    dwframe_totals *needed = block(sizeof *needed);
+    if (dwframe_index_size(bytes, len, size, order, &indexed, refusal))
+        indexed = 0;
+    dwframe_entry *index = block(indexed * sizeof *index);
+    if (indexed && dwframe_index(bytes, len, size, order, index, indexed, &indexed, refusal))
+        stop_at("no index");
+    dwframe_status status =
+        judge(dwframe_changes(bytes, len, size, order, address, changes, changes_room, rules, room, needed, refusal));
+    int fits = needed->changes <= changes_room && needed->rules <= room;
+    if (status == DWFRAME_OK ? !needed->changes || !fits : status == DWFRAME_TOO_SHORT ? fits : needed->changes || needed->rules)
+        stop_at("totals that are not so");
+    uint64_t count = needed->changes < changes_room ? needed->changes : changes_room;
+    for (uint64_t i = 0; i < count; i++) {
+        uint64_t at = told < room ? told : room;
+        told += compare_row(bytes, len, index, indexed, changes[i].address, &changes[i].row, rules + at, room - at);
+        if (i ? changes[i].address <= changes[i - 1].address : changes[i].address != changes[i].row.begin)
+            stop_at("rows that do not ascend from their begin");
+    }
+    if (fits && told != needed->rules)
+        stop_at("another number of rules");
+    has_stayed(changes + count, (changes_room - count) * sizeof *changes);
+    if (needed->rules < room)
+        has_stayed(rules + needed->rules, (room - needed->rules) * sizeof *rules);
+    give_back(before);
+}
+
+/* ---- expressions: random bytes, and parts of the section */
+
+static void call_evaluate(void)
+{
+    size_t before = lents, len = below(24);
+    struct machine m = some_machine(0);
+    uint8_t *operations = block(len);
+    uint64_t *value = block(sizeof *value);
+    dwframe_context *context = block(sizeof *context);
+    size_t from = below(section_len);
+    for (size_t i = 0; i < len; i++)
+        operations[i] = from + i < section_len && below(2) ? section[from + i] : (uint8_t)below(i % 3 ? 256 : 0xa0);
+    *context = (dwframe_context){number(), number(), number(), number(), below(100), size, order, (uint8_t)below(3), (uint8_t)below(3),
+        (uint8_t)below(3), (uint8_t)below(3), (uint16_t)number()};
+    dwframe_status status = judge(dwframe_evaluate(operations, len, context, m.registers, m.register_count, m.windows, m.window_count,
+        m.memory, m.memory_len, value, refusal, m.fault));
+    judge_fault(status, m.fault);
+    if ((status == DWFRAME_NO_VALUE) != (m.fault->kind != 0) || m.fault->column || (status != DWFRAME_OK && *value))
+        stop_at("a value or a fault without its status");
+    if (status == DWFRAME_REFUSED && refusal->at > len)
+        stop_at("a place behind the expression");
+    give_back(before);
+}
+
 static void call_all(void)
 {
     size_t before = lents, len;
@@ -450,6 +507,9 @@ static void call_all(void)
     call_rows_at(section, section_len);
     call_row_at(copy, len);
     call_row_at(section, section_len);
+    call_changes(copy, len);
+    call_changes(section, section_len);
+    call_evaluate();
     give_back(before);
 }
 

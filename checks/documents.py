@@ -4,12 +4,13 @@
     documents.py [PROGRAM]
     documents.py --texts
 
-A session is a code block of README.md, docs/CALLING.md or docs/dwframe.1 with lines that begin with `$ `; its commands run one after another in a
-folder of their own, by the built PROGRAM. A line `...` stands for any further lines. Where a session compiles something, numbers may differ. A
-session that needs a tool that is missing is left out, and named.
+A session is a code block of a page or of the manual with lines that begin with `$ `; its commands run one after another
+in a folder of their own, by the built PROGRAM. A line `...` stands for any further lines. Where a session compiles
+something, numbers may differ. A session that needs a tool that is missing is left out, and named.
 
-Compared besides: Rust blocks with the sources, names of refusals, faults and calls with those of the code, links with files and headings, and the
-logic of the toolchain with that of `rt version`. With `--texts` that alone is compared, in a second and without a program.
+Compared besides: Rust blocks with the sources, names of refusals, faults and calls with those of the code, links with
+files and headings, the length of each page and of its lines with what it may have, and the logic of the toolchain with
+that of `rt version`. With `--texts` that alone is compared, in a second and without a program.
 """
 import os
 import pathlib
@@ -22,13 +23,29 @@ import tempfile
 
 ROOT = pathlib.Path(__file__).resolve().parent.parent
 PROGRAM = ROOT / "crates/dwframe/out/dwframe"
-PAGES = ["README.md", "docs/CALLING.md"]
-LINKED = [*PAGES, "CONTRIBUTING.md", "SECURITY.md", "CHANGELOG.md", "examples/README.md"]
+PAGES = ["README.md", "docs/CALLING.md", "docs/CONTRACTS.md", "docs/LIBRARY.md", "docs/REFUSALS.md"]
+LINKED = [*PAGES, "docs/ARCHITECTURE.md", "CONTRIBUTING.md", "SECURITY.md", "CHANGELOG.md", "examples/README.md"]
 MANUAL = "docs/dwframe.1"
+REFUSALS = "docs/REFUSALS.md"
+CONTRACTS = "docs/CONTRACTS.md"
+# How many lines a page may have. A line of a Markdown page has at most WIDTH characters, but for quoted code.
+LINES = {
+    "README.md": 160,
+    "SECURITY.md": 45,
+    "CHANGELOG.md": 60,
+    "docs/ARCHITECTURE.md": 150,
+    "docs/CALLING.md": 200,
+    "docs/CONTRACTS.md": 240,
+    "docs/LIBRARY.md": 140,
+    "docs/REFUSALS.md": 160,
+    "docs/dwframe.1": 420,
+    "docs/dwframe.3": 220,
+}
+WIDTH = 120
 # What stands in the folder of a session.
 LENT = ["examples", "section", "crates", "include", "library", "libdwframe.a"]
-TOOLS = {"gcc": ["gcc"], "clang": ["clang"], "objcopy": ["objcopy"], "readelf": ["readelf"], "section": ["objcopy", "readelf"]}
-# The codes of the sources: file, enum, and the heading of the README's table.
+TOOLS = {"gcc": ["gcc"], "clang": ["clang"], "gdb": ["gdb"], "objcopy": ["objcopy"], "readelf": ["readelf"], "section": ["objcopy", "readelf"]}
+# The codes of the sources: file, enum, and the heading of the table in REFUSALS.
 CODES = [
     ("crates/dw_num/src/refusal.rt", "Code", "Refusals of a section or of an expression"),
     ("crates/dw_eval/src/error.rt", "Kind", "Faults of an expression"),
@@ -159,34 +176,45 @@ def rows_of(text):
 
 
 def manual_item(name, what, byte=""):
-    told = f".TP\n.B {name}\n{what[0].upper()}{what[1:]}.\n"
-    return told + (f"The byte: {byte}.\n" if byte else "")
+    told = f".TP\n.B {name}\n{what[0].upper()}{what[1:]}."
+    return told + (f" The byte: {byte}.\n" if byte else "\n")
 
 
 def compare_codes(tally):
     """The tables have the codes of the sources, and the manual page says the same of each."""
-    readme, manual = text_of("README.md"), text_of(MANUAL).replace(r"\-", "-")
+    page, manual = text_of(REFUSALS), text_of(MANUAL).replace(r"\-", "-")
     for path, enum, heading in CODES:
         names = re.findall(rf"{enum}::(\w+)(?: \{{ \.\. \}})? => \d+,", text_of(path))
-        rows = rows_of(section_under(readme, heading))
+        rows = rows_of(section_under(page, heading))
         shown = [row[0] for row in rows]
-        tally.tell(names and names == shown, f"README.md, {heading}: {shown}, and not {names}")
+        tally.tell(names and names == shown, f"{REFUSALS}, {heading}: {shown}, and not {names}")
         for row in rows:
             tally.tell(manual_item(*row) in manual, f"{MANUAL}: not so: {manual_item(*row)}")
 
 
 def compare_calls(tally):
-    """The calls of each crate's table stand in its sources, and the definitions that its text names in its specs."""
-    parts = re.split(r"^\*\*`(\w+)`\*\*", section_under(text_of("README.md"), "Crate by crate"), flags=re.M)
+    """The calls that the items of a crate begin with stand in its sources, and the definitions that are named in its specs."""
+    parts = re.split(r"^## `(\w+)`$", text_of(CONTRACTS), flags=re.M)
     for crate, text in zip(parts[1::2], parts[2::2]):
         source = "".join(path.read_text() for path in sorted((ROOT / "crates" / crate / "src").glob("**/*.rt")))
-        for cell in re.findall(r"^\| (`.*?) \| ", text, re.M):
-            for call in re.findall(r"`(?:trait )?([\w:]+)`", cell):
+        for calls in re.findall(r"^- ((?:`[^`]+`(?:[,;]\s+)?)+)", text, re.M):
+            for call in re.findall(r"`(?:trait )?([\w:]+)`", calls):
                 name = call.split("::")[-1]
                 known = re.search(rf"\b(fn|struct|enum|trait) {name}\b", source)
-                tally.tell(known, f"README.md, {crate}: there is no {call}")
+                tally.tell(known, f"{CONTRACTS}, {crate}: there is no {call}")
         for path in re.findall(r"`(specs/\w+\.antt)`", text):
-            tally.tell((ROOT / "crates" / crate / path).exists(), f"README.md, {crate}: there is no {path}")
+            tally.tell((ROOT / "crates" / crate / path).exists(), f"{CONTRACTS}, {crate}: there is no {path}")
+
+
+def compare_lengths(tally):
+    """No page is longer than it may be, and no line but one of quoted code."""
+    for name, most in LINES.items():
+        text = text_of(name)
+        count = len(text.splitlines())
+        tally.tell(count <= most, f"{name}: {count} lines, where {most} are allowed")
+        plain = re.sub(r"^```.*?^```", "", text, flags=re.M | re.S) if name.endswith(".md") else ""
+        for line in plain.splitlines():
+            tally.tell(len(line) <= WIDTH, f"{name}: a line of {len(line)} characters: {line[:60]}..")
 
 
 # ---- links
@@ -224,6 +252,7 @@ def compare_texts(tally):
         compare_quotes(name, sources, tally)
     compare_codes(tally)
     compare_calls(tally)
+    compare_lengths(tally)
     for name in LINKED:
         compare_links(name, tally)
     compare_version(tally)

@@ -28,6 +28,9 @@ STRUCTS = {
     "Row": ("dwframe_row", "RawRow"),
     "Block": ("dwframe_block", "RawBlock"),
     "Blocks": ("dwframe_blocks", "RawBlocks"),
+    "Context": ("dwframe_context", "RawContext"),
+    "Change": ("dwframe_change", "RawChange"),
+    "Totals": ("dwframe_totals", "RawTotals"),
 }
 # Numbers that stand in matches of the library: its file, the lines that have them (groups `name` and `number`), what C's names begin
 # with, and names that C has otherwise.
@@ -37,14 +40,14 @@ NUMBERED = [
     ("crates/dw_library/src/index.rt", r"RegRule::(?P<name>\w+)(?:\(\w+\))? => told_rule\(number, (?P<number>\d+),", "RULE_", {}),
     ("crates/dw_library/src/index.rt", r"CfaRule::(?P<name>\w+)(?: \{ \.\. \}|\(_\))? => (?P<number>\d+),", "CFA_", {}),
     ("crates/dw_library/src/answer.rt", r"(?P<number>\d+) => Some\(Target \{ size, order: Order::(?P<name>\w+),", "", {}),
-    ("crates/dw_library/src/caller.rt", r"(?P<number>\d+) => Some\(Policy::(?P<name>\w+)\)", "", {"SameValue": "Unchanged"}),
+    ("crates/dw_library/src/caller.rt", r"(?P<number>\d+) => Some\(Policy::(?P<name>\w+)\)", "UNSET_", {"SameValue": "Unchanged"}),
 ]
 # What a look-up never writes, so the header has no name for it.
 UNNAMED = {"DWFRAME_RULE_UNSPECIFIED": "0", "DWFRAME_CFA_UNSET": "0"}
+# The crate for Rust has the names of its enums in place of these.
+NAMES = {"dwframe_status_name", "dwframe_refusal_name", "dwframe_fault_name"}
 # What no call answers to the crate for Rust, or what the crate tells by no name of its own.
 NOT_IN_RUST = {"DWFRAME_BAD_ARGUMENT", "DWFRAME_DEVICE", "DWFRAME_FAULT_DEVICE", "DWFRAME_RULE_UNDEFINED", "DWFRAME_COLUMN_CFA"}
-# Older names of the header, which stand for newer ones.
-OLDER = {"DWFRAME_CFA": "DWFRAME_COLUMN_CFA"}
 
 
 def plain(text):
@@ -83,8 +86,9 @@ def exports(text):
 def declared(text):
     """The calls of the header. A char is a byte, and a status its number."""
     calls = {}
-    for answer, name, inside in re.findall(r"(\w+) (dwframe_\w+)\(([^)]*)\) DWFRAME_NONNULL;", text):
+    for answer, name, inside in re.findall(r"(\w+) (dwframe_\w+)\(([^)]*)\) DWFRAME_(?:NONNULL|CALL);", text):
         kinds = [re.sub(r"\w+$", "", part).strip().replace("char *", "uint8_t *") for part in parts(inside)]
+        kinds = [kind.replace("dwframe_status", "uint32_t") for kind in kinds]
         calls[name] = (answer.replace("dwframe_status", "uint32_t"), kinds)
     return calls
 
@@ -106,16 +110,18 @@ def bound(text):
 def structs(text, word):
     found = re.findall(r"#\[repr\(C\)\] (?:#\[[^\]]*\] )*(?:pub(?:\(crate\))? )?struct (\w+) \{(.*?)\}", text)
     fields = {name: re.findall(r"(\w+): (\w+)", inside) for name, inside in found if word(name)}
-    return {name: [(field, NUMBERS[kind]) for field, kind in inside] for name, inside in fields.items()}
+    names = {one: c for rattle, (c, raw) in STRUCTS.items() for one in (rattle, raw)}
+    return {name: [(field, NUMBERS.get(kind) or names[kind]) for field, kind in inside] for name, inside in fields.items()}
 
 
-def size_of(fields):
-    """How many bytes a struct of these fields takes, as C lays it out."""
+def layout_of(fields, all_fields):
+    """How many bytes a struct of these fields takes, and to how many it is aligned, as C lays it out."""
     end, most = 0, 1
     for _, kind in fields:
-        end += -end % BYTES[kind] + BYTES[kind]
-        most = max(most, BYTES[kind])
-    return end + -end % most
+        size, align = layout_of(all_fields[kind], all_fields) if kind in all_fields else (BYTES[kind], BYTES[kind])
+        end += -end % align + size
+        most = max(most, align)
+    return end + -end % most, most
 
 
 def asserted(text):
@@ -162,13 +168,21 @@ def header_numbers():
     return dict(re.findall(r"#define (DWFRAME_\w+) (\d+)", text) + re.findall(r"(DWFRAME_\w+) = (\d+)", plain(text)))
 
 
-def older_names():
-    return dict(re.findall(r"#define (DWFRAME_\w+) (DWFRAME_\w+)\n", (ROOT / "include/dwframe.h").read_text()))
+def wrong_versions(header):
+    """The version of the header, of the command and of the crate for Rust is one."""
+    told = ".".join(header.pop(f"DWFRAME_VERSION_{part}") for part in ("MAJOR", "MINOR", "PATCH"))
+    others = {
+        "crates/dw_words/src/help.rt": r'VERSION: &str = "([^"]*)"',
+        "bindings/rust/Cargo.toml": r'version = "([^"]*)"',
+    }
+    for path, line in others.items():
+        own = re.search(line, text_of(path))[1]
+        if own != told:
+            yield f"{path} is of version {own}, and the header of {told}"
 
 
 def wrong_numbers(own, header, rust):
-    if older_names() != OLDER:
-        yield f"older names are {older_names()}, and not {OLDER}"
+    yield from wrong_versions(header)
     # A refusal's name stands in the library, and its longest has to fit with the zero byte.
     room = header.pop("DWFRAME_NAME_SIZE")
     longest = max(map(len, re.findall(r'Code::\w+ => "(\w+)"', text_of("crates/dw_num/src/refusal.rt"))))
@@ -178,18 +192,17 @@ def wrong_numbers(own, header, rust):
         if own.get(name) != header.get(name):
             yield f"{name} is {own.get(name)}, and in the header {header.get(name)}"
     in_rust = dict(re.findall(r"const (DWFRAME_\w+): \w+ = (\d+);", rust))
-    wanted = {name: number for name, number in header.items() if name not in NOT_IN_RUST and "_REFUSAL_" not in name}
-    wanted["DWFRAME_NAME_SIZE"] = room
+    wanted = {name: number for name, number in header.items() if name not in NOT_IN_RUST}
     for name in sorted(wanted.keys() | in_rust.keys()):
         if wanted.get(name) != in_rust.get(name):
             yield f"{name} is {in_rust.get(name)} in bindings/rust, and in the header {wanted.get(name)}"
     # What the crate makes of a number, and which number it makes of a value.
-    read = re.findall(r"DWFRAME_(?:FAULT_|RULE_|CFA_)?(\w+) => (?:Failure::Fault\()?\w+::(\w+)", rust)
-    written = [(number, name) for name, number in re.findall(r"(?:Order|Unset)::(\w+) => DWFRAME_(\w+)", rust)]
+    read = re.findall(r"DWFRAME_(?:REFUSAL_|FAULT_|RULE_|CFA_)?(\w+) => (?:Failure::Fault\()?\w+::(\w+)", rust)
+    written = [(number, name) for name, number in re.findall(r"(?:Order|Unset)::(\w+) => DWFRAME_(?:UNSET_)?(\w+)", rust)]
     for number, name in read + written:
         if in_capitals(name) != number:
             yield f"bindings/rust takes {number} for {name}"
-    told = len(read) + len(written) + len(["OK", "NO_VALUE", "NAME_SIZE"])
+    told = len(read) + len(written) + len(["OK", "REFUSED", "NO_VALUE"])
     if told != len(in_rust):
         yield f"bindings/rust has {len(in_rust)} numbers, and uses {told}"
 
@@ -205,14 +218,16 @@ def main():
     wrong = []
     calls = exports(rattle)
     for place, found in {"dwframe.h": declared(header), "bindings/rust": bound(rust)}.items():
-        for name in sorted(calls.keys() | found.keys()):
+        left_out = NAMES if place == "bindings/rust" else set()
+        for name in sorted((calls.keys() | found.keys()) - left_out):
             if calls.get(name) != found.get(name):
                 wrong.append(f"{place}: {name} is {found.get(name)}, and the library has {calls.get(name)}")
     own, in_header, in_rust = structs(rattle, STRUCTS.get), c_structs(header), structs(rust, bool)
     for name, (c, raw) in STRUCTS.items():
         if not own.get(name) == in_header.get(c) == in_rust.get(raw):
             wrong.append(f"struct {c}: {own.get(name)}, {in_header.get(c)} and {in_rust.get(raw)}")
-    sizes = {c: size_of(own[name]) for name, (c, _) in STRUCTS.items() if name in own}
+    fields = {c: own[name] for name, (c, _) in STRUCTS.items() if name in own}
+    sizes = {c: layout_of(of, fields)[0] for c, of in fields.items()}
     if asserted(header) != sizes:
         wrong.append(f"the header asserts the sizes {asserted(header)}, and they are {sizes}")
     if len(own) != len(in_header) or len(own) != len(in_rust):

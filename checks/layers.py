@@ -22,13 +22,13 @@ BY_PROMISES = ("dw_section", "dw_unwind")
 BUDGETS = {
     "dw_op": (3, 53),
     "dw_eval": (1, 4),
-    "dw_cfa": (12, 51),
-    "dw_section": (0, 71),
+    "dw_cfa": (12, 48),
+    "dw_section": (0, 64),
     "dw_canon": (46, 99),
     "dw_normal": (65, 81),
     "dw_unwind": (0, 5),
     "dw_command": (3, 6),
-    "dw_library": (0, 2),
+    "dw_library": (0, 4),
 }
 BELOW = re.compile(r"Rattle\.(dw_\w+)\.(specs\.Inner|proofs)\.")
 # In the code's attributes a lemma is named by its path.

@@ -29,7 +29,7 @@ def options_in(text):
 
 
 def operands_in(text):
-    return set(re.findall(r"(?<![\w-])(?:FILE2?|HEX|DUMP)\b", text))
+    return set(re.findall(r"(?<![\w-])(?:FILE2?|HEX|DUMP|ADDRESS)\b", text))
 
 
 # ---- the help

@@ -7,7 +7,8 @@ program=${DWFRAME:-$root/dwframe}
 folder=$(mktemp -d)
 trap 'rm -r "$folder"' EXIT
 [ $# -gt 0 ] || set -- "$root/examples"
-for target in $(find "$@" -name '*.target' | sort); do
+find "$@" -name '*.target' | sort >"$folder/targets"
+while IFS= read -r target; do
     source=${target%.target}.bin
     read -r size order <"$target"
     run() { subcommand=$1 && shift && "$program" "$subcommand" --size "$size" --order "$order" "$@"; }
@@ -20,4 +21,4 @@ for target in $(find "$@" -name '*.target' | sort); do
     run cost "$source" >"$folder/cost"
     [ "$(sed -n 's/^bytes [0-9]* //p' "$folder/cost")" = "$(wc -c <"$folder/normal" | tr -d ' ')" ]
     echo "$(basename "$source"): $(tr '\n' ' ' <"$folder/cost")$(cat "$folder/counts")"
-done
+done <"$folder/targets"

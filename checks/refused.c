@@ -3,8 +3,8 @@
  *     refused SIZE ORDER FILE
  *
  * FILE is a well formed section. It is linked with --wrap=malloc, --wrap=realloc and --wrap=free. A call whose request is refused
- * answers that it is out of memory, tells nothing and leaves each room as it was, or answers as it does with ample memory; and it
- * gives back all that it took. */
+ * answers that it is out of memory, tells nothing and leaves each room as it was (but for dwframe_changes, whose rooms may hold
+ * anything then), or answers as it does with ample memory; and it gives back all that it took. */
 #include <stddef.h>
 #include <stdio.h>
 #include <stdlib.h>
@@ -49,7 +49,7 @@ void __wrap_free(void *at)
 
 /* ---- what calls are given, and what they tell */
 
-enum { BYTES = 1 << 14, ENTRIES = 256, RULES = 1024, ROWS = 24, BLOCKS = 64, REGISTERS = 512, FILLED = 0xa5 };
+enum { BYTES = 1 << 14, ENTRIES = 256, RULES = 1024, ROWS = 24, CHANGES = 256, BLOCKS = 64, REGISTERS = 512, FILLED = 0xa5 };
 
 static uint8_t section[BYTES], normal_form[2 * BYTES], size, order;
 static size_t section_len, normal_len;
@@ -63,6 +63,7 @@ static struct rooms {
     dwframe_entry entries[ENTRIES];
     dwframe_rule rules[RULES];
     dwframe_row rows[ROWS];
+    dwframe_change changes[CHANGES];
     dwframe_block blocks[BLOCKS];
     dwframe_register registers[REGISTERS];
 } rooms, ordinary_rooms;
@@ -74,7 +75,8 @@ static struct told {
     dwframe_fault fault;
     dwframe_row row;
     dwframe_blocks blocks;
-    uint64_t alike;
+    dwframe_totals totals;
+    uint64_t alike, value;
     size_t number;
 } told, ordinary_told;
 
@@ -125,6 +127,12 @@ static dwframe_status call_expressions_at(void)
         rooms.blocks, BLOCKS, &told.blocks, &told.refusal);
 }
 
+static dwframe_status call_changes(void)
+{
+    return dwframe_changes(section, section_len, size, order, address, rooms.changes, CHANGES, rooms.rules, RULES, &told.totals,
+        &told.refusal);
+}
+
 /* A machine whose registers are all in the middle of what is known of its memory. */
 static const uint8_t memory[4096];
 static const dwframe_window windows[] = {{0x7000, 2048, 2048}, {0x6800, 0, 2048}};
@@ -135,7 +143,7 @@ static dwframe_stop stop_here(void)
 {
     for (uint16_t i = 0; i < GIVEN; i++)
         registers[i] = (dwframe_register){i, 1, 0x7000};
-    return (dwframe_stop){address, 100, size, order, DWFRAME_UNCHANGED};
+    return (dwframe_stop){address, 100, size, order, DWFRAME_UNSET_UNCHANGED};
 }
 
 static dwframe_status call_unwind(void)
@@ -158,6 +166,16 @@ static dwframe_status call_unwind_blind(void)
     dwframe_stop stop = stop_here();
     return dwframe_unwind_at(section, section_len, table, entries, &stop, registers, GIVEN, windows, 0, memory, 0, rooms.registers,
         REGISTERS, &told.frame, &told.refusal, &told.fault);
+}
+
+/* breg7 8; deref; plus: over what the stack begins with. */
+static dwframe_status call_evaluate(void)
+{
+    static const uint8_t block[] = {0x77, 0x08, 0x06, 0x22};
+    dwframe_context context = {.start = 1, .steps = 100, .address_size = size, .byte_order = order, .has_start = 1};
+    stop_here();
+    return dwframe_evaluate(block, sizeof block, &context, registers, GIVEN, windows, WINDOWS, memory, sizeof memory, &told.value,
+        &told.refusal, &told.fault);
 }
 
 /* ---- each request refused */
@@ -214,15 +232,18 @@ static int is_all(const void *from, size_t len, uint8_t value)
     return 1;
 }
 
-/* A number that a call tells is 0 where it has no answer; of rows some may be told. */
-static int is_nothing(int has_rows)
+/* A number that a call tells is 0 where it has no answer; of rows some may be told, and the rooms of changes may hold anything. */
+static int is_nothing(int has_rows, int has_changes)
 {
     int zero = is_all(&told.refusal, sizeof told.refusal, 0);
-    const void *parts[] = {&told.counts, &told.frame, &told.fault, &told.row, &told.blocks, &told.alike, &told.number};
-    const size_t sizes[] = {sizeof told.counts, FRAME, FAULT, sizeof told.row, sizeof told.blocks, sizeof told.alike,
-        sizeof told.number};
+    const void *parts[] = {&told.counts, &told.frame, &told.fault, &told.row, &told.blocks, &told.totals, &told.alike,
+        &told.value, &told.number};
+    const size_t sizes[] = {sizeof told.counts, FRAME, FAULT, sizeof told.row, sizeof told.blocks, sizeof told.totals,
+        sizeof told.alike, sizeof told.value, sizeof told.number};
     for (size_t i = 0; i < sizeof sizes / sizeof *sizes - (has_rows ? 1 : 0); i++)
         zero &= is_all(parts[i], sizes[i], 0) || is_all(parts[i], sizes[i], FILLED);
+    if (has_changes)
+        return zero;
     if (!has_rows)
         return zero && is_all(&rooms, sizeof rooms, FILLED);
     size_t done = told.number;
@@ -245,7 +266,7 @@ static void each_refused(const char *name, dwframe_status (*call)(void))
                           !memcmp(&rooms, &ordinary_rooms, sizeof rooms);
         if (requests < number && !is_ordinary)
             stop_at(name, "another answer though nothing was refused");
-        if (!is_ordinary && (status != DWFRAME_OUT_OF_MEMORY || !is_nothing(call == call_rows_at)))
+        if (!is_ordinary && (status != DWFRAME_OUT_OF_MEMORY || !is_nothing(call == call_rows_at, call == call_changes)))
             stop_at(name, "neither out of memory nor the ordinary answer");
         if (requests < number)
             break;
@@ -286,10 +307,12 @@ int main(int argc, char **argv)
     each_refused("dwframe_index_size", call_index_size);
     each_refused("dwframe_index", call_index);
     each_refused("dwframe_rows_at", call_rows_at);
+    each_refused("dwframe_evaluate", call_evaluate);
     for (size_t i = 0; i < address_count; i++) {
         address = addresses[i];
         each_refused("dwframe_row_at", call_row_at);
         each_refused("dwframe_expressions_at", call_expressions_at);
+        each_refused("dwframe_changes", call_changes);
         each_refused("dwframe_unwind", call_unwind);
         each_refused("dwframe_unwind_at", call_unwind_at);
         each_refused("dwframe_unwind_at without memory", call_unwind_blind);

@@ -3,9 +3,10 @@
  *     requests SIZE ORDER FILE
  *
  * FILE is a well formed section. It is linked with --wrap=malloc and --wrap=realloc. At addresses of each FDE dwframe_row_at and
- * dwframe_unwind_at are called, and counted where the FDE is a plain one: in its rows all registers are below 32, and no rule is an
- * expression. Printed is how many look-ups of plain FDEs there were, and how many of them asked for memory; how many frames, and how many
- * requests a frame made at most. */
+ * dwframe_unwind_at are called. Look-ups are counted where the FDE is a plain one: in its rows all registers are below 32, and no rule is
+ * an expression; frames where all are below 128, no rule is an expression, and at most 64 registers are told. Printed is how many look-ups
+ * there were, and how many of them asked for memory; how many frames, and how many requests a frame made at most beyond those of its
+ * look-up. */
 #include <stdio.h>
 #include <stdlib.h>
 #include <string.h>
@@ -30,34 +31,38 @@ void *__wrap_realloc(void *at, size_t size)
 }
 
 /* At most so many addresses of an FDE are looked up. */
-enum { BYTES = 1 << 24, RULES = 256, GIVEN = 32, REGISTERS = 512, LOOK_UPS = 4096 };
+enum { BYTES = 1 << 24, RULES = 256, GIVEN = 32, TOLD = 64, REGISTERS = 512, LOOK_UPS = 4096 };
 
 static uint8_t section[BYTES], size, order;
 static size_t section_len, entries;
 static dwframe_entry *table;
 static dwframe_refusal refusal;
 
-static int is_plain(const dwframe_row *row, const dwframe_rule *rules)
+/* What the registers of a row are below: 32, 128, or 0 for neither, or where a rule is an expression. */
+static unsigned below(const dwframe_row *row, const dwframe_rule *rules)
 {
+    unsigned least = 32;
     if (row->cfa_kind != DWFRAME_CFA_REGISTER || row->count > RULES)
         return 0;
-    for (size_t i = 0; i < row->count; i++)
-        if (rules[i].number >= 32 || rules[i].kind >= DWFRAME_RULE_EXPRESSION)
+    for (size_t i = 0; i < row->count; i++) {
+        if (rules[i].number >= 128 || rules[i].kind >= DWFRAME_RULE_EXPRESSION)
             return 0;
-    return 1;
+        if (rules[i].number >= 32)
+            least = 128;
+    }
+    return least;
 }
 
 static unsigned long look_ups, asking, frames, most;
 
-/* Whether the row is a plain one. */
-static int look_up(uint64_t address, unsigned long *asked)
+/* What the registers of the row are below. */
+static unsigned look_up(uint64_t address)
 {
     static dwframe_rule rules[RULES];
     dwframe_row row;
     requests = 0;
     dwframe_status status = dwframe_row_at(section, section_len, size, order, table, entries, address, rules, RULES, &row, &refusal);
-    *asked += requests != 0;
-    return status == DWFRAME_OK && is_plain(&row, rules);
+    return status == DWFRAME_OK ? below(&row, rules) : 0;
 }
 
 /* The frame of a machine whose registers are all in the middle of its memory. */
@@ -68,28 +73,38 @@ static void unwind(uint64_t address)
     for (uint16_t i = 0; i < GIVEN; i++)
         registers[i] = (dwframe_register){i, 1, 0x10000};
     dwframe_window window = {0x8000, 0, sizeof memory};
-    dwframe_stop stop = {address, 100, size, order, DWFRAME_UNCHANGED};
+    dwframe_stop stop = {address, 100, size, order, DWFRAME_UNSET_UNCHANGED};
     dwframe_frame frame;
     dwframe_fault fault;
+    look_up(address);
+    unsigned long before = requests;
     requests = 0;
     dwframe_status status = dwframe_unwind_at(section, section_len, table, entries, &stop, registers, GIVEN, &window, 1, memory,
         sizeof memory, out, REGISTERS, &frame, &refusal, &fault);
-    if (status != DWFRAME_OK)
+    if (status != DWFRAME_OK || frame.count > TOLD)
         return;
     frames++;
-    if (most < requests)
-        most = requests;
+    if (requests > before && most < requests - before)
+        most = requests - before;
 }
 
 static void count(const dwframe_entry *fde)
 {
     uint64_t step = (fde->range - 1) / LOOK_UPS + 1, count = (fde->range - 1) / step + 1;
     unsigned long asked = 0;
-    for (uint64_t i = 0; i < count; i++)
-        if (!look_up(fde->begin + i * step, &asked))
+    unsigned all = 32;
+    for (uint64_t i = 0; i < count; i++) {
+        unsigned found = look_up(fde->begin + i * step);
+        asked += requests != 0;
+        if (!found)
             return;
-    look_ups += count;
-    asking += asked;
+        if (found > all)
+            all = found;
+    }
+    if (all == 32) {
+        look_ups += count;
+        asking += asked;
+    }
     for (uint64_t i = 0; i < count; i += count / 16 + 1)
         unwind(fde->begin + i * step);
 }

@@ -274,7 +274,7 @@ int main(int argc, char **argv)
         return fail(3, "usage: frames 4|8 little|big FILE DUMP [N]");
     stop.address_size = (uint8_t)atoi(argv[1]);
     stop.byte_order = strcmp(argv[2], "big") ? DWFRAME_LITTLE : DWFRAME_BIG;
-    stop.unset = DWFRAME_UNCHANGED;
+    stop.unset = DWFRAME_UNSET_UNCHANGED;
     stop.steps = 10000;
     section = load(argv[3], &section_len);
     char *text = (char *)load(argv[4], &text_len);

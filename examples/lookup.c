@@ -1,7 +1,7 @@
 /* Looks addresses up, by the library for C:
  *
  *     lookup 4|8 little|big FILE ADDRESS..     prints the row at each address, by one call for all
- *     lookup 4|8 little|big FILE               prints each FDE and its rows, as `dwframe rows`, by a look-up of each address in an index
+ *     lookup 4|8 little|big FILE               prints each FDE and its rows, as `dwframe rows`, by one call for each FDE of an index
  *
  * FILE is a raw .debug_frame. An expression is printed as the shortest block of its operations, in hexadecimal digits: `expr(2301)`. */
 #include <inttypes.h>
@@ -12,7 +12,7 @@
 #include "dwframe.h"
 
 /* A row has a rule for each of 65,536 registers at most; those of real programs have some twenty. */
-enum { RULES = 512, BYTES = 1 << 14, TEXT = 32 * RULES + 2 * BYTES, WORDS = 64 };
+enum { RULES = 512, BYTES = 1 << 14, TEXT = 32 * RULES + 2 * BYTES, WORDS = 64, CHANGES = 1 << 12 };
 
 static uint8_t address_size, byte_order;
 static uint8_t *section;
@@ -51,7 +51,7 @@ static int tell(dwframe_status status, const dwframe_refusal *refusal)
     if (status == DWFRAME_BAD_ARGUMENT)
         return fail(3, "bad address size or byte order");
     if (status == DWFRAME_TOO_SHORT)
-        return fail(5, "a row is too long for this example");
+        return fail(5, "a row or an FDE is too long for this example");
     if (status != DWFRAME_REFUSED)
         return fail(5, "out of memory");
     dwframe_refusal_name(refusal->code, name, sizeof name);
@@ -131,39 +131,35 @@ static int put_text(uint64_t address, char *text, const dwframe_row *row, const 
     return 0;
 }
 
-/* The same by a look-up, or an empty text where no FDE covers it. */
-static int look_up(uint64_t address, char *text, dwframe_row *row)
+/* The rows of an FDE from first to last, each with the rules of its registers. */
+static int print_changes(const dwframe_change *changes, const dwframe_rule *rules, uint64_t count)
 {
-    dwframe_rule rules[RULES];
-    dwframe_refusal refusal;
-    dwframe_status status = dwframe_row_at(section, section_len, address_size, byte_order, table, entries, address, rules, RULES,
-        row, &refusal);
-    *text = 0;
-    if (status == DWFRAME_NO_FDE)
-        return 0;
-    return status == DWFRAME_OK ? put_text(address, text, row, rules) : tell(status, &refusal);
+    static char text[TEXT];
+    for (uint64_t i = 0; i < count; i++) {
+        int status = changes[i].row.count > RULES ? tell(DWFRAME_TOO_SHORT, NULL)
+                                                  : put_text(changes[i].address, text, &changes[i].row, rules);
+        if (status)
+            return status;
+        printf(" 0x%" PRIx64 "%s\n", changes[i].address, text);
+        rules += changes[i].row.count;
+    }
+    return 0;
 }
 
 static int print_fde(const dwframe_entry *fde)
 {
-    static char before[TEXT], text[TEXT];
-    dwframe_row row;
+    static dwframe_change changes[CHANGES];
+    static dwframe_rule rules[16 * CHANGES];
+    dwframe_totals needed;
+    dwframe_refusal refusal;
     uint64_t last = fde->begin + (fde->range - 1);
     /* The end may be 2^64. */
     printf("fde 0x%" PRIx64 " 0x", fde->begin);
     printf(last == UINT64_MAX ? "10000000000000000" : "%" PRIx64, last + 1);
     printf(" ra=r%u\n", fde->return_register);
-    *before = 0;
-    for (uint64_t address = fde->begin;; address++) {
-        int status = look_up(address, text, &row);
-        if (status)
-            return status;
-        if (strcmp(before, text))
-            printf(" 0x%" PRIx64 "%s\n", address, text);
-        strcpy(before, text);
-        if (address == last)
-            return 0;
-    }
+    dwframe_status status = dwframe_changes(section, section_len, address_size, byte_order, fde->begin, changes, CHANGES, rules,
+        16 * CHANGES, &needed, &refusal);
+    return status == DWFRAME_OK ? print_changes(changes, rules, needed.changes) : tell(status, &refusal);
 }
 
 static int print_all(void)

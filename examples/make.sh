@@ -6,16 +6,17 @@ set -eu
 cd "$(dirname "$0")"
 folder=$(mktemp -d)
 trap 'rm -r "$folder"' EXIT
-flags="-g -O2 -ffreestanding -nostdlib -static -fno-pic -fno-asynchronous-unwind-tables -fno-stack-protector"
-section="-O binary --only-section=.debug_frame --set-section-flags .debug_frame=alloc"
 
-gcc $flags -o "$folder/gcc" sum.c
-objcopy $section "$folder/gcc" sum-gcc-x86_64.bin
+# Links the program with a compiler and its options, takes its section out by an objcopy, and names it.
+make() {
+    name=$1 objcopy=$2
+    shift 2
+    "$@" -g -O2 -ffreestanding -nostdlib -static -fno-pic -fno-asynchronous-unwind-tables -fno-stack-protector \
+        -o "$folder/$name" sum.c
+    "$objcopy" -O binary --only-section=.debug_frame --set-section-flags .debug_frame=alloc "$folder/$name" "$name.bin"
+}
 
-clang $flags --target=x86_64-linux-gnu -fuse-ld=lld -o "$folder/clang" sum.c
-objcopy $section "$folder/clang" sum-clang-x86_64.bin
-
-clang $flags --target=powerpc-linux-gnu -fuse-ld=lld -o "$folder/powerpc" sum.c
-llvm-objcopy $section "$folder/powerpc" sum-clang-powerpc.bin
-
+make sum-gcc-x86_64 objcopy gcc
+make sum-clang-x86_64 objcopy clang --target=x86_64-linux-gnu -fuse-ld=lld
+make sum-clang-powerpc llvm-objcopy clang --target=powerpc-linux-gnu -fuse-ld=lld
 chmod 644 ./*.bin

@@ -6,7 +6,7 @@
  * (SSE4.2, POPCNT). The library has no call frame information of its own: a debugger or a profiler that stops inside one of its
  * calls does not find who made it.
  *
- * Every call but dwframe_refusal_name answers a status. What it tells beside that it writes through pointers, at each call, also
+ * Every call but the three that tell a name answers a status. What it tells beside that it writes through pointers, at each call, also
  * where it fails: a number that it has no answer for is 0 then.
  *
  * What a caller keeps:
@@ -15,6 +15,8 @@
  * - A pointer with a length, a count or a room behind it is to so many items of its type, one after another: bytes, addresses,
  *   entries, rules, rows, blocks, registers or windows. Together they have at most PTRDIFF_MAX bytes. A pointer without one is to
  *   one item. Each pointer is aligned as C aligns its type, also where there are no items.
+ *   A `len` counts bytes and a `.._count` items that are given, a `.._room` those that fit where an answer is written. `needed` tells
+ *   how many the answer has, also where the room is too short.
  * - What a call reads does not change while it runs, and what it writes is read and written by nobody else. So what it writes
  *   shares no byte with what it reads, nor with anything else that it writes.
  * - Memory comes from the program's malloc, realloc and free, and is given back before a call returns. A program that brings its
@@ -35,11 +37,18 @@
 extern "C" {
 #endif
 
-/* A compiler that knows this attribute warns of a null pointer. */
+/* The version of this header, and of the library that goes with it. Until 1.0 each version may change names, structs and calls. */
+#define DWFRAME_VERSION_MAJOR 0
+#define DWFRAME_VERSION_MINOR 1
+#define DWFRAME_VERSION_PATCH 0
+
+/* A compiler that knows these attributes warns of a null pointer, and of a status that is not looked at. */
 #if defined(__GNUC__)
 #define DWFRAME_NONNULL __attribute__((nonnull))
+#define DWFRAME_CALL __attribute__((nonnull, warn_unused_result))
 #else
 #define DWFRAME_NONNULL
+#define DWFRAME_CALL
 #endif
 
 /* What a call answers. */
@@ -47,12 +56,12 @@ typedef uint32_t dwframe_status;
 enum {
     /* The call has its answer. */
     DWFRAME_OK = 0,
-    /* A section is refused; the refusal says why, and where. */
+    /* A section or an expression is refused; the refusal says why, and where. */
     DWFRAME_REFUSED = 1,
     /* malloc or realloc gave no memory. */
     DWFRAME_OUT_OF_MEMORY = 2,
     /* An address size other than 4 and 8, a byte order other than DWFRAME_LITTLE and DWFRAME_BIG, or another `unset` than
-       DWFRAME_UNCHANGED and DWFRAME_UNDEFINED. */
+       DWFRAME_UNSET_UNCHANGED and DWFRAME_UNSET_UNDEFINED. */
     DWFRAME_BAD_ARGUMENT = 3,
     /* The room that is lent is too short; the call tells how much it needs. */
     DWFRAME_TOO_SHORT = 4,
@@ -73,7 +82,7 @@ enum {
 /* The order of the bytes of a number. */
 enum { DWFRAME_LITTLE = 0, DWFRAME_BIG = 1 };
 
-/* What is wrong with a section. The README says of each what it means, and which byte is named. */
+/* What is wrong with a section or an expression. The README says of each what it means, and which byte is named. */
 enum {
     DWFRAME_REFUSAL_TRUNCATED = 1, DWFRAME_REFUSAL_RESERVED_LENGTH = 2, DWFRAME_REFUSAL_ENTRY_PAST_END = 3,
     DWFRAME_REFUSAL_BAD_VERSION = 4, DWFRAME_REFUSAL_AUGMENTATION = 5, DWFRAME_REFUSAL_ADDRESS_SIZE = 6,
@@ -87,13 +96,13 @@ enum {
     DWFRAME_REFUSAL_SECTION_TOO_LARGE = 26, DWFRAME_REFUSAL_NORMAL_TOO_LONG = 27
 };
 
-/* Why a section is refused. All three are 0 where none is. */
+/* Why a section or an expression is refused. All three are 0 where none is. */
 typedef struct dwframe_refusal {
     /* One of DWFRAME_REFUSAL_TRUNCATED to DWFRAME_REFUSAL_NORMAL_TOO_LONG; dwframe_refusal_name has its name. */
     uint32_t code;
-    /* Which section: 1, or 2 for the second of two. */
+    /* Which section: 1, or 2 for the second of two. Of an expression 1. */
     uint32_t section;
-    /* The place of the first bad byte, counted from the section's first one. */
+    /* The place of the first bad byte, counted from the first one of the section or of the expression. */
     uint64_t at;
 } dwframe_refusal;
 
@@ -104,7 +113,7 @@ typedef struct dwframe_counts {
     uint64_t fdes;
 } dwframe_counts;
 
-/* The room that each name of a refusal fits into, with the zero byte behind it. */
+/* The room that each name of a status, a refusal or a fault fits into, with the zero byte behind it. */
 #define DWFRAME_NAME_SIZE 20
 
 /*
@@ -112,21 +121,25 @@ typedef struct dwframe_counts {
  * address that an FDE covers, and no two FDEs that share an address. DWFRAME_REFUSED with its first fault where it is not.
  */
 dwframe_status dwframe_check(const uint8_t *bytes, size_t len, uint8_t address_size, uint8_t byte_order,
-    dwframe_counts *counts, dwframe_refusal *refusal) DWFRAME_NONNULL;
+    dwframe_counts *counts, dwframe_refusal *refusal) DWFRAME_CALL;
 
 /*
- * Writes the name of a refusal's code, as `EntryPastEnd`, and a zero byte behind it, where both fit into the `size` bytes at
- * `name`; else it writes nothing. Answers the length of the name without the zero byte, or 0 where no refusal has that code.
+ * Writes the name of a refusal's code, as `EntryPastEnd`, and a zero byte behind it, where both fit into the `name_room`
+ * bytes at `name`; else it writes nothing. Answers the length of the name without the zero byte, or 0 where no refusal has that code.
  */
-size_t dwframe_refusal_name(uint32_t code, char *name, size_t size) DWFRAME_NONNULL;
+size_t dwframe_refusal_name(uint32_t code, char *name, size_t name_room) DWFRAME_NONNULL;
+
+/* The same of a status, as `TooShort`, and of the fault of an expression (DWFRAME_FAULT_..), as `StackUnderflow`. */
+size_t dwframe_status_name(dwframe_status status, char *name, size_t name_room) DWFRAME_NONNULL;
+size_t dwframe_fault_name(uint32_t kind, char *name, size_t name_room) DWFRAME_NONNULL;
 
 /*
- * Writes the normal form of a section to the front of the `room` bytes at `out`, and its length to `needed`. Two sections say
- * the same exactly where their normal forms are equal. DWFRAME_TOO_SHORT, with the length, where `room` is less; `out` stays
+ * Writes the normal form of a section to the front of the `out_room` bytes at `out`, and its length to `needed`. Two sections
+ * say the same exactly where their normal forms are equal. DWFRAME_TOO_SHORT, with the length, where `out_room` is less; `out` stays
  * then, and where the section is refused. A normal form above 2147483647 bytes is refused.
  */
 dwframe_status dwframe_normalise(const uint8_t *bytes, size_t len, uint8_t address_size, uint8_t byte_order, uint8_t *out,
-    size_t room, size_t *needed, dwframe_refusal *refusal) DWFRAME_NONNULL;
+    size_t out_room, size_t *needed, dwframe_refusal *refusal) DWFRAME_CALL;
 
 /*
  * Whether two sections say the same: the same FDEs with the same return address registers, and the same rules at each address
@@ -134,7 +147,7 @@ dwframe_status dwframe_normalise(const uint8_t *bytes, size_t len, uint8_t addre
  * refused. FDEs that cover no address say nothing.
  */
 dwframe_status dwframe_same(const uint8_t *first, size_t first_len, const uint8_t *second, size_t second_len,
-    uint8_t address_size, uint8_t byte_order, uint32_t *alike, dwframe_refusal *refusal) DWFRAME_NONNULL;
+    uint8_t address_size, uint8_t byte_order, uint32_t *alike, dwframe_refusal *refusal) DWFRAME_CALL;
 
 /*
  * An entry of an index: an FDE's first address (initial_location), how many it covers (address_range), the place of its entry in
@@ -148,17 +161,17 @@ typedef struct dwframe_entry {
     uint16_t return_register;
 } dwframe_entry;
 
-/* How many entries the index of a section has: one for each FDE that covers an address. The section is judged. */
-dwframe_status dwframe_index_size(const uint8_t *bytes, size_t len, uint8_t address_size, uint8_t byte_order, size_t *size,
-    dwframe_refusal *refusal) DWFRAME_NONNULL;
+/* Writes to `needed` how many entries the index of a section has: one for each FDE that covers an address. The section is judged. */
+dwframe_status dwframe_index_size(const uint8_t *bytes, size_t len, uint8_t address_size, uint8_t byte_order, size_t *needed,
+    dwframe_refusal *refusal) DWFRAME_CALL;
 
 /*
- * Writes the index of a section to the front of the `room` entries at `index`, ascending by begin, and how many there are to
- * `written`. DWFRAME_TOO_SHORT, with their number, where `room` is less; `index` stays then, and where the section is refused.
+ * Writes the index of a section to the front of the `index_room` entries at `index`, ascending by begin, and how many there are to
+ * `needed`. DWFRAME_TOO_SHORT, with their number, where `index_room` is less; `index` stays then, and where the section is refused.
  * A room of as many entries as dwframe_check counts FDEs always does.
  */
 dwframe_status dwframe_index(const uint8_t *bytes, size_t len, uint8_t address_size, uint8_t byte_order, dwframe_entry *index,
-    size_t room, size_t *written, dwframe_refusal *refusal) DWFRAME_NONNULL;
+    size_t index_room, size_t *needed, dwframe_refusal *refusal) DWFRAME_CALL;
 
 /* How a register of the caller is found (DWARF 5, 6.4.1). CFA is the canonical frame address. */
 enum {
@@ -213,7 +226,7 @@ typedef struct dwframe_row {
 
 /*
  * The rules at an address: the CFA's in `row`, and those of the registers at `rules`, ascending by number, as many as fit into
- * the `room` there; DWFRAME_TOO_SHORT where there are more, and `row` says how many. A room of 0 asks for the CFA alone.
+ * the `rules_room` there; DWFRAME_TOO_SHORT where there are more, and `row` says how many. A room of 0 asks for the CFA alone.
  * DWFRAME_NO_FDE where no entry of the index covers the address. The entry is found by halving, so in an index whose entries do not
  * ascend, or overlap, one that covers the address may be missed.
  *
@@ -222,28 +235,53 @@ typedef struct dwframe_row {
  * at the entry's place is told if it is an FDE that covers the address, and else DWFRAME_BAD_INDEX or DWFRAME_REFUSED is answered.
  */
 dwframe_status dwframe_row_at(const uint8_t *bytes, size_t len, uint8_t address_size, uint8_t byte_order,
-    const dwframe_entry *index, size_t entries, uint64_t address, dwframe_rule *rules, size_t room, dwframe_row *row,
-    dwframe_refusal *refusal) DWFRAME_NONNULL;
+    const dwframe_entry *index, size_t index_count, uint64_t address, dwframe_rule *rules, size_t rules_room, dwframe_row *row,
+    dwframe_refusal *refusal) DWFRAME_CALL;
 
 /*
  * The rows of many addresses in any order, as of a profile: the section is judged once, as dwframe_check does, and then each address is
  * looked up in it. It needs no index. For one address now and then dwframe_row_at costs less.
  *
  * `rows[i]` is the row of `addresses[i]`, whose `range` is 0 where no FDE covers it. The rules of the registers of all these rows stand
- * one after another at `rules`, `rows[i].count` for each, as many as fit into the `room` there; DWFRAME_TOO_SHORT where there are more. A
- * room of 0 asks for the rows alone.
+ * one after another at `rules`, `rows[i].count` for each, as many as fit into the `rules_room` there; DWFRAME_TOO_SHORT where there are
+ * more. A room of 0 asks for the rows alone.
  *
- * `done` says how many rows are told: `count` with DWFRAME_OK, and with DWFRAME_TOO_SHORT where rules do not fit; with
+ * `done` says how many rows are told: `address_count` with DWFRAME_OK, and with DWFRAME_TOO_SHORT where rules do not fit; with
  * DWFRAME_OUT_OF_MEMORY those before the address whose row needed it. With any other status it is 0, also with DWFRAME_TOO_SHORT
- * where `rows_room` is less than `count`. The rows behind the first `done` are left as they were.
+ * where `rows_room` is less than `address_count`. The rows behind the first `done` are left as they were.
  */
 dwframe_status dwframe_rows_at(const uint8_t *bytes, size_t len, uint8_t address_size, uint8_t byte_order,
-    const uint64_t *addresses, size_t count, dwframe_row *rows, size_t rows_room, dwframe_rule *rules, size_t room, size_t *done,
-    dwframe_refusal *refusal) DWFRAME_NONNULL;
+    const uint64_t *addresses, size_t address_count, dwframe_row *rows, size_t rows_room, dwframe_rule *rules, size_t rules_room,
+    size_t *done, dwframe_refusal *refusal) DWFRAME_CALL;
 
-/* The column of the CFA, beside the numbers of registers; and its older name. */
+/* A row of an FDE, and the first address that has it: the begin of the FDE, or one at which a rule is not that one address before. The
+   row holds up to the address of the next one, or to the end of the FDE. */
+typedef struct dwframe_change {
+    uint64_t address;
+    dwframe_row row;
+} dwframe_change;
+
+/* How many rows an FDE has, and how many rules of registers they have together. Both are 0 where there is none. */
+typedef struct dwframe_totals {
+    uint64_t changes;
+    uint64_t rules;
+} dwframe_totals;
+
+/*
+ * The rows of the FDE that covers an address, one after another by address, as `dwframe rows` prints them. The section is judged, as
+ * dwframe_check does, and the FDE's program is run once. DWFRAME_NO_FDE where no FDE covers the address. For the FDE of an entry of an
+ * index `address` is the entry's begin.
+ *
+ * The rows are written to `changes`, and the rules of the registers of all of them one after another to `rules`, `changes[i].row.count`
+ * for each, of both as many as fit. `needed` says how many there are. DWFRAME_TOO_SHORT where either room has less: then give so much room,
+ * and ask again. With DWFRAME_OUT_OF_MEMORY `needed` is 0, and what both buffers hold is not said.
+ */
+dwframe_status dwframe_changes(const uint8_t *bytes, size_t len, uint8_t address_size, uint8_t byte_order, uint64_t address,
+    dwframe_change *changes, size_t changes_room, dwframe_rule *rules, size_t rules_room, dwframe_totals *needed,
+    dwframe_refusal *refusal) DWFRAME_CALL;
+
+/* The column of the CFA, beside the numbers of registers. */
 #define DWFRAME_COLUMN_CFA 65536
-#define DWFRAME_CFA DWFRAME_COLUMN_CFA
 
 /* Where the block of an expression stands in a buffer. */
 typedef struct dwframe_block {
@@ -266,17 +304,17 @@ typedef struct dwframe_blocks {
  * (DWARF 5, 2.5 and 7.7.1) in the section's order of bytes: of all blocks that spell the expression's operations, the shortest,
  * and of those as short the one with the least codes. So two expressions have the same operations exactly where their blocks are equal.
  *
- * The blocks are written one after another to the front of the `bytes_room` bytes at `expressions`, and where each stands to the front
- * of the `blocks_room` entries at `blocks`; `all` says how many there are of both. DWFRAME_TOO_SHORT where either has less room, and
- * `all` says what is needed. Both stay with each status but DWFRAME_OK. Rooms of 0 do for a row that has no expression. The index is
- * taken as dwframe_row_at takes it.
+ * The blocks are written one after another to the front of the `expressions_room` bytes at `expressions`, and where each stands to the
+ * front of the `blocks_room` entries at `blocks`; `needed` says how many there are of both. DWFRAME_TOO_SHORT where either has less room.
+ * Both stay with each status but DWFRAME_OK. Rooms of 0 do for a row that has no expression. The index is taken as dwframe_row_at
+ * takes it.
  */
 dwframe_status dwframe_expressions_at(const uint8_t *bytes, size_t len, uint8_t address_size, uint8_t byte_order,
-    const dwframe_entry *index, size_t entries, uint64_t address, uint8_t *expressions, size_t bytes_room, dwframe_block *blocks,
-    size_t blocks_room, dwframe_blocks *all, dwframe_refusal *refusal) DWFRAME_NONNULL;
+    const dwframe_entry *index, size_t index_count, uint64_t address, uint8_t *expressions, size_t expressions_room,
+    dwframe_block *blocks, size_t blocks_room, dwframe_blocks *needed, dwframe_refusal *refusal) DWFRAME_CALL;
 
 /* What a register is taken as that no instruction has set: the ABI decides. */
-enum { DWFRAME_UNCHANGED = 0, DWFRAME_UNDEFINED = 1 };
+enum { DWFRAME_UNSET_UNCHANGED = 0, DWFRAME_UNSET_UNDEFINED = 1 };
 
 /* Where a machine stopped, and what is asked of it. */
 typedef struct dwframe_stop {
@@ -289,7 +327,7 @@ typedef struct dwframe_stop {
     uint8_t address_size;
     /* DWFRAME_LITTLE or DWFRAME_BIG. */
     uint8_t byte_order;
-    /* DWFRAME_UNCHANGED or DWFRAME_UNDEFINED. */
+    /* DWFRAME_UNSET_UNCHANGED or DWFRAME_UNSET_UNDEFINED. */
     uint8_t unset;
 } dwframe_stop;
 
@@ -329,7 +367,7 @@ enum {
 
 /* What is wrong in a column. All are 0 where nothing is. */
 typedef struct dwframe_fault {
-    /* A register's number, or DWFRAME_COLUMN_CFA. */
+    /* A register's number, or DWFRAME_COLUMN_CFA. Of dwframe_evaluate it is 0. */
     uint32_t column;
     /* Of an expression: one of DWFRAME_FAULT_.. */
     uint32_t kind;
@@ -352,7 +390,7 @@ typedef struct dwframe_fault {
  * If a register is given twice, its first known value is used. A byte of memory is that of the first window that covers its
  * address. Windows may come in any order. What lies past the buffer's end is not there.
  *
- * With DWFRAME_OK the first `frame->count` of the `room` registers at `out` are the caller's, ascending: each that is given,
+ * With DWFRAME_OK the first `frame->count` of the `out_room` registers at `out` are the caller's, ascending: each that is given,
  * that the rules name, or that holds the return address. What leads from one frame to the next is the ABI's: the stack pointer is
  * the CFA, and the pc is the value of the return address register. With DWFRAME_TOO_SHORT the frame is told, and `out` stays; with any
  * other status `out` stays, and the refusal or the fault says why.
@@ -361,7 +399,7 @@ typedef struct dwframe_fault {
  */
 dwframe_status dwframe_unwind(const uint8_t *bytes, size_t len, const dwframe_stop *stop, const dwframe_register *registers,
     size_t register_count, const dwframe_window *windows, size_t window_count, const uint8_t *memory, size_t memory_len,
-    dwframe_register *out, size_t room, dwframe_frame *frame, dwframe_refusal *refusal, dwframe_fault *fault) DWFRAME_NONNULL;
+    dwframe_register *out, size_t out_room, dwframe_frame *frame, dwframe_refusal *refusal, dwframe_fault *fault) DWFRAME_CALL;
 
 /*
  * The same by an index of the section that is kept (dwframe_index), at the cost of a look-up: the section is not judged again. With the
@@ -376,10 +414,48 @@ dwframe_status dwframe_unwind(const uint8_t *bytes, size_t len, const dwframe_st
  * examples/frames.c has this loop. Registers are best given all at the start: one that no rule asks for is not wanted, and where it is
  * not given the caller's frame does not have it.
  */
-dwframe_status dwframe_unwind_at(const uint8_t *bytes, size_t len, const dwframe_entry *index, size_t entries, const dwframe_stop *stop,
+dwframe_status dwframe_unwind_at(const uint8_t *bytes, size_t len, const dwframe_entry *index, size_t index_count, const dwframe_stop *stop,
     const dwframe_register *registers, size_t register_count, const dwframe_window *windows, size_t window_count,
-    const uint8_t *memory, size_t memory_len, dwframe_register *out, size_t room, dwframe_frame *frame, dwframe_refusal *refusal,
-    dwframe_fault *fault) DWFRAME_NONNULL;
+    const uint8_t *memory, size_t memory_len, dwframe_register *out, size_t out_room, dwframe_frame *frame, dwframe_refusal *refusal,
+    dwframe_fault *fault) DWFRAME_CALL;
+
+/* What the stack of an expression begins with, and what it may ask for beside registers and memory (DWARF 5, 2.5.1). Each of the
+   first four counts where the number that is named after it is not 0, and is taken modulo 2^N, N being the bits of an address. */
+typedef struct dwframe_context {
+    /* What the stack begins with, or it begins empty (has_start). */
+    uint64_t start;
+    /* The frame base, which DW_OP_fbreg asks for (has_frame_base). */
+    uint64_t frame_base;
+    /* The canonical frame address, which DW_OP_call_frame_cfa asks for (has_cfa). */
+    uint64_t cfa;
+    /* The object's address, which DW_OP_push_object_address asks for (has_object). */
+    uint64_t object;
+    /* How many operations may be executed, those of a loop counted each time. */
+    uint64_t steps;
+    /* 4 or 8. */
+    uint8_t address_size;
+    /* DWFRAME_LITTLE or DWFRAME_BIG. */
+    uint8_t byte_order;
+    uint8_t has_start;
+    uint8_t has_frame_base;
+    uint8_t has_cfa;
+    uint8_t has_object;
+    /* 0. It is not looked at. */
+    uint16_t reserved;
+} dwframe_context;
+
+/*
+ * The value of an expression by itself (DWARF 5, 2.5), over registers and memory as dwframe_unwind takes them: what is on top of the
+ * stack at its end, below 2^N. The expression is a block of `len` bytes, which may have all operations that a location description
+ * has; one that describes a place (DW_OP_reg0, DW_OP_piece, DW_OP_stack_value and those like these) has no value.
+ *
+ * With DWFRAME_REFUSED the refusal says what is wrong with the block. With DWFRAME_NO_VALUE the fault says at which operation there is
+ * none and why, and which byte or register was wanted, so that it can be given and asked again, as with dwframe_unwind_at. `value` is 0
+ * with each status but DWFRAME_OK. The number that DW_OP_addr pushes is taken as it stands: no load bias is added to it.
+ */
+dwframe_status dwframe_evaluate(const uint8_t *block, size_t len, const dwframe_context *context, const dwframe_register *registers,
+    size_t register_count, const dwframe_window *windows, size_t window_count, const uint8_t *memory, size_t memory_len,
+    uint64_t *value, dwframe_refusal *refusal, dwframe_fault *fault) DWFRAME_CALL;
 
 /* The sizes that the library was built with, for compilers that can check them. */
 #if defined(__cplusplus) && __cplusplus >= 201103L
@@ -393,6 +469,8 @@ DWFRAME_HAS_SIZE(dwframe_counts, 16);
 DWFRAME_HAS_SIZE(dwframe_entry, 24);
 DWFRAME_HAS_SIZE(dwframe_rule, 16);
 DWFRAME_HAS_SIZE(dwframe_row, 40);
+DWFRAME_HAS_SIZE(dwframe_change, 48);
+DWFRAME_HAS_SIZE(dwframe_totals, 16);
 DWFRAME_HAS_SIZE(dwframe_block, 24);
 DWFRAME_HAS_SIZE(dwframe_blocks, 16);
 DWFRAME_HAS_SIZE(dwframe_stop, 24);
@@ -400,6 +478,7 @@ DWFRAME_HAS_SIZE(dwframe_register, 16);
 DWFRAME_HAS_SIZE(dwframe_window, 24);
 DWFRAME_HAS_SIZE(dwframe_frame, 24);
 DWFRAME_HAS_SIZE(dwframe_fault, 40);
+DWFRAME_HAS_SIZE(dwframe_context, 48);
 #undef DWFRAME_HAS_SIZE
 #endif
 

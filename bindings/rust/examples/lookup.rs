@@ -1,12 +1,12 @@
 //! Looks addresses up, by the library:
 //!
-//!     lookup 4|8 little|big FILE ADDRESS..     prints the row at each address, by one call for all
-//!     lookup 4|8 little|big FILE               prints each FDE and its rows, by a look-up of each address in an index
+//!     lookup 4|8 little|big FILE ADDRESS..     prints the row at each address
+//!     lookup 4|8 little|big FILE               prints each FDE and its rows, by a look-up of each address
 //!
-//! What it prints is what `examples/lookup.c` prints.
+//! The section is judged once, when its index is made. What is printed is what `examples/lookup.c` prints.
 
 use dwframe::{
-    AddressRow, Block, CfaRule, Column, Entry, Expressions, Failure, Index, Order, RegisterRule, Row, Rule, Section, Size, Target,
+    Block, CfaRule, Column, Entry, Expressions, Failure, Index, Order, RegisterRule, Row, Rule, Size, Target,
 };
 use std::fmt::Write;
 use std::process::ExitCode;
@@ -72,30 +72,17 @@ fn print_fde(index: &Index<'_, '_>, fde: &Entry, room: &mut Room) -> Result<(), 
     Ok(())
 }
 
-fn print_rows(section: &Section<'_>, index: &Index<'_, '_>, addresses: &[u64], room: &mut Room) -> Result<(), Failure> {
-    let mut rows = vec![AddressRow::default(); addresses.len()];
-    let mut rules = vec![RegisterRule::default(); 512 * addresses.len()];
-    let found = section.rows_at(addresses, &mut rows, &mut rules)?;
-    for (address, row) in addresses.iter().zip(found.iter()) {
-        let text = match row {
-            Some(row) => text_of(&row, &index.expressions_at(*address, &mut room.bytes, &mut room.blocks)?),
-            None => " no FDE".to_string(),
-        };
-        println!("{address:#x}{text}");
-    }
-    Ok(())
-}
-
 fn run(bytes: &[u8], target: Target, addresses: &[u64]) -> Result<(), Failure> {
-    let section = Section::check(bytes, target)?;
-    let mut entries = vec![Entry::default(); section.index_size()?];
-    let index = section.index(&mut entries)?;
+    // An FDE takes 16 bytes at least.
+    let mut entries = vec![Entry::default(); bytes.len() / 16];
+    let index = Index::make(bytes, target, &mut entries)?;
     let mut room =
         Room { rules: [RegisterRule::default(); 512], blocks: [Block::default(); 512], bytes: [0; 1 << 14] };
-    if !addresses.is_empty() {
-        return print_rows(&section, &index, addresses, &mut room);
+    for &address in addresses {
+        let text = look_up(&index, address, &mut room)?;
+        println!("{address:#x}{}", text.as_deref().unwrap_or(" no FDE"));
     }
-    for fde in index.entries() {
+    for fde in index.entries().iter().filter(|_| addresses.is_empty()) {
         print_fde(&index, fde, &mut room)?;
     }
     Ok(())

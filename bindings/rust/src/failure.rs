@@ -3,8 +3,6 @@
 use crate::raw::*;
 use core::error::Error;
 use core::fmt;
-use core::ops::Deref;
-use core::str;
 
 /// Which of two sections.
 #[derive(Clone, Copy, Debug, PartialEq, Eq)]
@@ -15,74 +13,96 @@ pub enum Which {
     Second,
 }
 
-/// Why a section is refused, and where.
-#[derive(Clone, Copy, PartialEq, Eq)]
+/// What is wrong with a section or with an expression. The README says of each what it means, and which byte is named.
+#[derive(Clone, Copy, Debug, PartialEq, Eq, Hash)]
+#[non_exhaustive]
+pub enum Code {
+    /// A field runs past the end of its entry, of the section or of its block.
+    Truncated,
+    /// An entry's length is one of those that are reserved (7.4).
+    ReservedLength,
+    /// An entry is longer than the rest of the section.
+    EntryPastEnd,
+    /// A CIE's version is not 1, 3 or 4.
+    BadVersion,
+    /// A CIE's augmentation string is not empty.
+    Augmentation,
+    /// The address size of a CIE is not that of the target.
+    AddressSize,
+    /// A CIE's segment selector size is not 0.
+    SegmentSelector,
+    /// A LEB128 number does not fit 64 bits (7.6).
+    NumberTooLarge,
+    /// A register above 65,535.
+    RegisterTooLarge,
+    /// An FDE's `CIE_pointer` leads to no CIE.
+    NoSuchCie,
+    /// An FDE's range passes the end of the address space.
+    RangeTooLarge,
+    /// An opcode of no call frame instruction (7.24), or a vendor's.
+    UnknownInstruction,
+    /// A CIE's program has an instruction that only an FDE may have.
+    NotInCie,
+    /// A `DW_CFA_set_loc` goes below the current location.
+    LocationBackwards,
+    /// A location past the end of the address space.
+    LocationTooLarge,
+    /// A `DW_CFA_restore_state` where no state is remembered.
+    EmptyStateStack,
+    /// The 65th state that is remembered at once.
+    StateStackFull,
+    /// The CFA is not a register plus an offset, where an instruction changes one of these.
+    CfaNotRegister,
+    /// An offset, with its factor, is out of range.
+    OffsetTooLarge,
+    /// An opcode of no operation (7.7.1), or of one that is not read.
+    UnknownOperation,
+    /// An operation that a rule of a call frame may not hold (6.4.2).
+    NotInFrame,
+    /// A `DW_OP_skip` or a `DW_OP_bra` that leads to no operation of its block.
+    BadBranch,
+    /// A `DW_OP_deref_size` of 0, or above the size of an address.
+    BadDerefSize,
+    /// An FDE covers an address at which the CFA has no rule.
+    NoCfaRule,
+    /// Two FDEs cover one address.
+    Overlap,
+    /// The section has more than 2,147,483,647 bytes.
+    SectionTooLarge,
+    /// The normal form is longer than 2,147,483,647 bytes.
+    NormalTooLong,
+}
+
+impl fmt::Display for Code {
+    fn fmt(&self, f: &mut fmt::Formatter<'_>) -> fmt::Result {
+        write!(f, "{self:?}")
+    }
+}
+
+/// Why a section or an expression is refused, and where.
+#[derive(Clone, Copy, Debug, PartialEq, Eq)]
 pub struct Refusal {
-    /// The number of the code, 1 to 27: `DWFRAME_REFUSAL_..` of the C header.
-    pub code: u32,
+    /// What is wrong.
+    pub code: Code,
     /// Which section is refused.
     pub which: Which,
     /// The place of the first bad byte.
     pub at: u64,
 }
 
-impl Refusal {
-    /// The name of the code, as `EntryPastEnd`, or `unknown` where no refusal has that code.
-    pub fn name(&self) -> Name {
-        let mut room = [0; DWFRAME_NAME_SIZE];
-        // SAFETY: the pointer is to so many bytes, which nothing else uses.
-        let len = unsafe { dwframe_refusal_name(self.code, room.as_mut_ptr(), room.len()) };
-        Name { room, len }
-    }
-}
-
-/// The name of a refusal's code: a `str`.
-#[derive(Clone, Copy, PartialEq, Eq)]
-pub struct Name {
-    room: [u8; DWFRAME_NAME_SIZE],
-    len: usize,
-}
-
-impl Deref for Name {
-    type Target = str;
-
-    // The names are letters of ASCII, and shorter than the room.
-    fn deref(&self) -> &str {
-        let name = self.room.get(..self.len).filter(|name| !name.is_empty());
-        name.and_then(|name| str::from_utf8(name).ok()).unwrap_or("unknown")
-    }
-}
-
-impl fmt::Display for Name {
-    fn fmt(&self, f: &mut fmt::Formatter<'_>) -> fmt::Result {
-        f.pad(self)
-    }
-}
-
-impl fmt::Debug for Name {
-    fn fmt(&self, f: &mut fmt::Formatter<'_>) -> fmt::Result {
-        fmt::Debug::fmt(&**self, f)
-    }
-}
-
 impl fmt::Display for Refusal {
     fn fmt(&self, f: &mut fmt::Formatter<'_>) -> fmt::Result {
-        write!(f, "{} at {:#x}", self.name(), self.at)
+        write!(f, "{} at {:#x}", self.code, self.at)
     }
 }
 
 impl Error for Refusal {}
 
-impl fmt::Debug for Refusal {
-    fn fmt(&self, f: &mut fmt::Formatter<'_>) -> fmt::Result {
-        fmt::Display::fmt(self, f)
-    }
-}
-
 /// Why a call has no answer.
 #[derive(Clone, Copy, Debug, PartialEq, Eq)]
+#[non_exhaustive]
 pub enum Failure {
-    /// A section is refused.
+    /// A section or an expression is refused.
     Refused(Refusal),
     /// A request for memory was refused.
     OutOfMemory,
@@ -90,6 +110,13 @@ pub enum Failure {
     TooShort {
         /// How many bytes, registers, rows or rules are needed.
         needed: usize,
+    },
+    /// The room that is lent for the rows of an FDE is too short.
+    ChangesTooShort {
+        /// How many rows are needed.
+        changes: usize,
+        /// How many rules are needed.
+        rules: usize,
     },
     /// The room that is lent for expressions is too short.
     ExpressionsTooShort {
@@ -102,9 +129,9 @@ pub enum Failure {
     NoFde,
     /// The index is not the one of these bytes.
     BadIndex,
-    /// A column has no value.
+    /// A column or an expression has no value.
     Fault(Fault),
-    /// The library answered a status, or a kind of fault, that this crate does not know. A library of this version never does.
+    /// The library answered a status, or a code of a refusal or a fault, that this crate does not know. A library of this version never does.
     Unknown {
         /// The status: `dwframe_status` of the C header.
         status: u32,
@@ -129,8 +156,9 @@ impl fmt::Display for Column {
     }
 }
 
-/// What a machine has to hold, so that the column has a value.
+/// What a machine has to hold, so that there is a value.
 #[derive(Clone, Copy, Debug, PartialEq, Eq)]
+#[non_exhaustive]
 pub enum Wanted {
     /// Memory: `len` bytes from `address` on. No window helps where these pass the end of the address space.
     Memory {
@@ -143,10 +171,11 @@ pub enum Wanted {
     Register(u16),
 }
 
-/// Why a column has no value.
+/// Why a column or an expression has no value.
 #[derive(Clone, Copy, Debug, PartialEq, Eq)]
+#[non_exhaustive]
 pub enum Fault {
-    /// Its expression has none.
+    /// The expression of a column has none.
     NoValue {
         /// What is wrong.
         kind: Kind,
@@ -157,7 +186,16 @@ pub enum Fault {
         /// What was wanted first, where a byte or a register is missing.
         wanted: Option<Wanted>,
     },
-    /// It is saved in memory that no window has, or that passes the end of the address space.
+    /// The expression that `evaluate` was given has none.
+    Expression {
+        /// What is wrong.
+        kind: Kind,
+        /// Which operation, counted from 0, or how many there are for a fault at the end.
+        index: u64,
+        /// What was wanted first, where a byte or a register is missing.
+        wanted: Option<Wanted>,
+    },
+    /// A column is saved in memory that no window has, or that passes the end of the address space.
     Unreadable {
         /// The column.
         column: Column,
@@ -179,7 +217,7 @@ impl Fault {
     /// What was wanted first, where a byte or a register is missing. Where it is given, it is not wanted again.
     pub fn wanted(&self) -> Option<Wanted> {
         match *self {
-            Fault::NoValue { wanted, .. } => wanted,
+            Fault::NoValue { wanted, .. } | Fault::Expression { wanted, .. } => wanted,
             Fault::Unreadable { address, len, .. } => Some(Wanted::Memory { address, len }),
             Fault::NoRegister { register, .. } => Some(Wanted::Register(register)),
         }
@@ -190,6 +228,7 @@ impl fmt::Display for Fault {
     fn fmt(&self, f: &mut fmt::Formatter<'_>) -> fmt::Result {
         match self {
             Fault::NoValue { kind, index, column, .. } => write!(f, "{kind} at {index} in {column}"),
+            Fault::Expression { kind, index, .. } => write!(f, "{kind} at {index}"),
             Fault::Unreadable { column, .. } => write!(f, "Unreadable in {column}"),
             Fault::NoRegister { column, .. } => write!(f, "NoRegister in {column}"),
         }
@@ -200,6 +239,7 @@ impl Error for Fault {}
 
 /// Why an expression has no value (DWARF 5, 2.5).
 #[derive(Clone, Copy, Debug, PartialEq, Eq)]
+#[non_exhaustive]
 pub enum Kind {
     /// The stack has too few entries.
     StackUnderflow,
@@ -239,6 +279,9 @@ impl fmt::Display for Failure {
             Failure::Refused(refusal) => write!(f, "refused: {refusal}"),
             Failure::OutOfMemory => write!(f, "out of memory"),
             Failure::TooShort { needed } => write!(f, "room for {needed} is needed"),
+            Failure::ChangesTooShort { changes, rules } => {
+                write!(f, "room for {changes} rows of {rules} rules is needed")
+            }
             Failure::ExpressionsTooShort { blocks, bytes } => {
                 write!(f, "room for {blocks} blocks of {bytes} bytes is needed")
             }
@@ -250,25 +293,20 @@ impl fmt::Display for Failure {
     }
 }
 
-impl Error for Failure {
-    fn source(&self) -> Option<&(dyn Error + 'static)> {
-        match self {
-            Failure::Refused(refusal) => Some(refusal),
-            Failure::Fault(fault) => Some(fault),
-            _ => None,
-        }
-    }
-}
+// What a refusal or a fault says, `Display` says too: so there is no `source`.
+impl Error for Failure {}
 
 // What a status says. A target and an `Unset` have the numbers that the library asks for, so none says that an argument is bad.
 pub(crate) fn answer(status: u32, refusal: RawRefusal, needed: usize) -> Result<(), Failure> {
     Err(match status {
         DWFRAME_OK => return Ok(()),
-        DWFRAME_REFUSED => Failure::Refused(Refusal {
-            code: refusal.code,
-            which: if refusal.section == 2 { Which::Second } else { Which::First },
-            at: refusal.at,
-        }),
+        DWFRAME_REFUSED => match code_of(refusal.code) {
+            Some(code) => {
+                let which = if refusal.section == 2 { Which::Second } else { Which::First };
+                Failure::Refused(Refusal { code, which, at: refusal.at })
+            }
+            None => Failure::Unknown { status },
+        },
         DWFRAME_OUT_OF_MEMORY => Failure::OutOfMemory,
         DWFRAME_TOO_SHORT => Failure::TooShort { needed },
         DWFRAME_NO_FDE => Failure::NoFde,
@@ -277,24 +315,71 @@ pub(crate) fn answer(status: u32, refusal: RawRefusal, needed: usize) -> Result<
     })
 }
 
+// What is wrong with an expression, and what was wanted.
+fn value_fault(fault: &RawFault) -> Option<(Kind, Option<Wanted>)> {
+    let kind = kind_of(fault.kind)?;
+    let wanted = match kind {
+        Kind::Unreadable => Some(Wanted::Memory { address: fault.address, len: fault.len }),
+        Kind::NoRegister => Some(Wanted::Register(fault.wanted as u16)),
+        _ => None,
+    };
+    Some((kind, wanted))
+}
+
 // What a status says of a column that has no value. Windows never fail, so none says that the memory did.
 pub(crate) fn fault_of(status: u32, fault: RawFault) -> Option<Failure> {
-    let column = column_of(fault.column);
+    let (column, index) = (column_of(fault.column), fault.index);
     Some(match status {
-        DWFRAME_NO_VALUE => match kind_of(fault.kind) {
-            Some(kind) => {
-                let RawFault { index, address, len, wanted, .. } = fault;
-                let wanted = match kind {
-                    Kind::Unreadable => Some(Wanted::Memory { address, len }),
-                    Kind::NoRegister => Some(Wanted::Register(wanted as u16)),
-                    _ => None,
-                };
-                Failure::Fault(Fault::NoValue { kind, index, column, wanted })
-            }
+        DWFRAME_NO_VALUE => match value_fault(&fault) {
+            Some((kind, wanted)) => Failure::Fault(Fault::NoValue { kind, index, column, wanted }),
             None => Failure::Unknown { status },
         },
         DWFRAME_UNREADABLE => Failure::Fault(Fault::Unreadable { column, address: fault.address, len: fault.len }),
         DWFRAME_NO_REGISTER => Failure::Fault(Fault::NoRegister { column, register: fault.wanted as u16 }),
+        _ => return None,
+    })
+}
+
+// The same of an expression that was evaluated by itself.
+pub(crate) fn expression_fault_of(status: u32, fault: RawFault) -> Option<Failure> {
+    if status != DWFRAME_NO_VALUE {
+        return None;
+    }
+    Some(match value_fault(&fault) {
+        Some((kind, wanted)) => Failure::Fault(Fault::Expression { kind, index: fault.index, wanted }),
+        None => Failure::Unknown { status },
+    })
+}
+
+fn code_of(code: u32) -> Option<Code> {
+    Some(match code {
+        DWFRAME_REFUSAL_TRUNCATED => Code::Truncated,
+        DWFRAME_REFUSAL_RESERVED_LENGTH => Code::ReservedLength,
+        DWFRAME_REFUSAL_ENTRY_PAST_END => Code::EntryPastEnd,
+        DWFRAME_REFUSAL_BAD_VERSION => Code::BadVersion,
+        DWFRAME_REFUSAL_AUGMENTATION => Code::Augmentation,
+        DWFRAME_REFUSAL_ADDRESS_SIZE => Code::AddressSize,
+        DWFRAME_REFUSAL_SEGMENT_SELECTOR => Code::SegmentSelector,
+        DWFRAME_REFUSAL_NUMBER_TOO_LARGE => Code::NumberTooLarge,
+        DWFRAME_REFUSAL_REGISTER_TOO_LARGE => Code::RegisterTooLarge,
+        DWFRAME_REFUSAL_NO_SUCH_CIE => Code::NoSuchCie,
+        DWFRAME_REFUSAL_RANGE_TOO_LARGE => Code::RangeTooLarge,
+        DWFRAME_REFUSAL_UNKNOWN_INSTRUCTION => Code::UnknownInstruction,
+        DWFRAME_REFUSAL_NOT_IN_CIE => Code::NotInCie,
+        DWFRAME_REFUSAL_LOCATION_BACKWARDS => Code::LocationBackwards,
+        DWFRAME_REFUSAL_LOCATION_TOO_LARGE => Code::LocationTooLarge,
+        DWFRAME_REFUSAL_EMPTY_STATE_STACK => Code::EmptyStateStack,
+        DWFRAME_REFUSAL_STATE_STACK_FULL => Code::StateStackFull,
+        DWFRAME_REFUSAL_CFA_NOT_REGISTER => Code::CfaNotRegister,
+        DWFRAME_REFUSAL_OFFSET_TOO_LARGE => Code::OffsetTooLarge,
+        DWFRAME_REFUSAL_UNKNOWN_OPERATION => Code::UnknownOperation,
+        DWFRAME_REFUSAL_NOT_IN_FRAME => Code::NotInFrame,
+        DWFRAME_REFUSAL_BAD_BRANCH => Code::BadBranch,
+        DWFRAME_REFUSAL_BAD_DEREF_SIZE => Code::BadDerefSize,
+        DWFRAME_REFUSAL_NO_CFA_RULE => Code::NoCfaRule,
+        DWFRAME_REFUSAL_OVERLAP => Code::Overlap,
+        DWFRAME_REFUSAL_SECTION_TOO_LARGE => Code::SectionTooLarge,
+        DWFRAME_REFUSAL_NORMAL_TOO_LONG => Code::NormalTooLong,
         _ => return None,
     })
 }

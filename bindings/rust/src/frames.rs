@@ -3,6 +3,7 @@
 use crate::failure::{Failure, answer, fault_of};
 use crate::raw::*;
 use crate::{Index, Section, Target};
+use core::fmt;
 
 /// What a register is taken as that no instruction has set: the ABI decides.
 #[derive(Clone, Copy, Debug, PartialEq, Eq)]
@@ -52,7 +53,7 @@ pub struct Window {
 }
 
 /// A machine that stopped.
-#[derive(Clone, Copy, Debug, PartialEq, Eq)]
+#[derive(Clone, Copy)]
 pub struct Machine<'a> {
     /// The address that is looked up. Of a caller's frame it is the return address minus one, which is in the call.
     pub pc: u64,
@@ -62,6 +63,15 @@ pub struct Machine<'a> {
     pub windows: &'a [Window],
     /// The bytes of all windows.
     pub memory: &'a [u8],
+}
+
+// The bytes of its memory are counted, and not printed.
+impl fmt::Debug for Machine<'_> {
+    fn fmt(&self, f: &mut fmt::Formatter<'_>) -> fmt::Result {
+        let mut told = f.debug_struct("Machine");
+        told.field("pc", &self.pc).field("registers", &self.registers).field("windows", &self.windows);
+        told.field("memory_len", &self.memory.len()).finish_non_exhaustive()
+    }
 }
 
 /// A caller's frame.
@@ -87,8 +97,8 @@ impl Frame<'_> {
 fn stop_of(machine: &Machine<'_>, target: Target, unset: Unset, steps: u64) -> RawStop {
     let (address_size, byte_order) = target.numbers();
     let unset = match unset {
-        Unset::Unchanged => DWFRAME_UNCHANGED,
-        Unset::Undefined => DWFRAME_UNDEFINED,
+        Unset::Unchanged => DWFRAME_UNSET_UNCHANGED,
+        Unset::Undefined => DWFRAME_UNSET_UNDEFINED,
     };
     RawStop { pc: machine.pc, steps, address_size, byte_order, unset }
 }

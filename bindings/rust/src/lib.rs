@@ -6,18 +6,52 @@
 //! process with threads, must not call them.
 //!
 //! Each call that fails may answer `Failure::OutOfMemory`, and each that judges a section or an entry `Failure::Refused`.
+//!
+//! With the feature `alloc` there is `Section::normal_form`, which takes memory of Rust's allocator.
+//!
+//! ```
+//! use dwframe::{CfaRule, Entry, Index, Order, RegisterRule, Rule, Size, Target};
+//!
+//! // A CIE, and an FDE of the addresses 0x401000 to 0x40100f.
+//! const SECTION: &[u8] = b"\x14\0\0\0\xff\xff\xff\xff\x04\0\x08\0\x01\x78\x10\x0c\x07\x08\x90\x01\0\0\0\0\
+//! \x24\0\0\0\0\0\0\0\0\x10\x40\0\0\0\0\0\x10\0\0\0\0\0\0\0\
+//! \x41\x0e\x10\x86\x02\x43\x0d\x06\x4b\x0c\x07\x08\0\0\0\0";
+//!
+//! # fn main() -> Result<(), dwframe::Failure> {
+//! let mut entries = [Entry::default(); SECTION.len() / 16];
+//! let index = Index::make(SECTION, Target { size: Size::Eight, order: Order::Little }, &mut entries)?;
+//! let mut rules = [RegisterRule::default(); 32];
+//! let row = index.row_at(0x401004, &mut rules)?;
+//! // The canonical frame address is register 6 plus 16, and the return address is saved 8 bytes below it.
+//! assert_eq!(row.cfa, CfaRule::Register { register: 6, offset: 16 });
+//! assert_eq!(row.registers.iter().find(|rule| rule.register() == 16).map(|rule| rule.rule()), Some(Rule::Offset(-8)));
+//! # Ok(())
+//! # }
+//! ```
 #![no_std]
 #![warn(missing_docs)]
 
+#[cfg(feature = "alloc")]
+extern crate alloc;
+
+mod changes;
+mod evaluation;
 mod failure;
 mod frames;
 mod raw;
 mod rows;
 
-pub use failure::{Column, Failure, Fault, Kind, Name, Refusal, Wanted, Which};
+pub use changes::{Change, ChangeIter, Changes};
+pub use evaluation::{Context, evaluate};
+pub use failure::{Code, Column, Failure, Fault, Kind, Refusal, Wanted, Which};
 pub use frames::{Frame, Machine, Register, Unset, Window};
-pub use rows::{AddressRow, Block, CfaRule, Entry, Expressions, Index, RegisterRule, Row, Rows, Rule};
+pub use rows::{
+    AddressRow, Block, CfaRule, Entry, ExpressionIter, Expressions, Index, RegisterRule, Row, RowIter, Rows, Rule,
+};
 
+#[cfg(feature = "alloc")]
+use alloc::vec::Vec;
+use core::fmt;
 use failure::answer;
 use raw::*;
 
@@ -72,11 +106,20 @@ pub struct Counts {
 }
 
 /// A section that was checked.
-#[derive(Clone, Copy, Debug, PartialEq, Eq)]
+#[derive(Clone, Copy)]
 pub struct Section<'a> {
     bytes: &'a [u8],
     target: Target,
     counts: Counts,
+}
+
+// The bytes are counted, and not printed.
+impl fmt::Debug for Section<'_> {
+    fn fmt(&self, f: &mut fmt::Formatter<'_>) -> fmt::Result {
+        let mut told = f.debug_struct("Section");
+        told.field("target", &self.target).field("counts", &self.counts);
+        told.field("bytes_len", &self.bytes.len()).finish_non_exhaustive()
+    }
 }
 
 impl<'a> Section<'a> {
@@ -121,6 +164,20 @@ impl<'a> Section<'a> {
         };
         answer(status, refusal, needed)?;
         Ok(needed)
+    }
+
+    /// The normal form of the section, in memory of its own. It is made twice: to see how long it is, and to write it.
+    #[cfg(feature = "alloc")]
+    pub fn normal_form(&self) -> Result<Vec<u8>, Failure> {
+        let mut out = Vec::new();
+        let needed = match self.normalise(&mut out) {
+            Err(Failure::TooShort { needed }) => needed,
+            told => return told.map(|_| out),
+        };
+        out.try_reserve_exact(needed).map_err(|_| Failure::OutOfMemory)?;
+        out.resize(needed, 0);
+        self.normalise(&mut out)?;
+        Ok(out)
     }
 }
 

@@ -3,6 +3,7 @@
 use crate::failure::{Column, Failure, answer, column_of};
 use crate::raw::*;
 use crate::{Section, Target};
+use core::{fmt, slice};
 
 /// An entry of an index: plain data, which may be stored and read back by the same kind of machine.
 #[repr(C)]
@@ -95,7 +96,7 @@ pub struct Row<'a> {
     pub registers: &'a [RegisterRule],
 }
 
-impl Section<'_> {
+impl<'a> Section<'a> {
     /// How many entries the index of the section has.
     pub fn index_size(&self) -> Result<usize, Failure> {
         let (size, order) = self.target.numbers();
@@ -108,18 +109,10 @@ impl Section<'_> {
         Ok(count)
     }
 
-    /// Writes the index of the section to the front of `out`, ascending by begin. Where it does not fit, `Failure::TooShort` says how
-    /// many entries there are, and `out` stays.
-    pub fn index<'o>(&self, out: &'o mut [Entry]) -> Result<Index<'o, '_>, Failure> {
-        let (size, order) = self.target.numbers();
-        let (mut count, mut refusal) = (0, RawRefusal::default());
-        let (bytes, len, room) = (self.bytes.as_ptr(), self.bytes.len(), out.len());
-        // SAFETY: both slices and both numbers are lent for the call, and those that are written are ours alone.
-        let status = unsafe {
-            dwframe_index(bytes, len, size, order, out.as_mut_ptr(), room, &mut count, &mut refusal)
-        };
-        answer(status, refusal, count)?;
-        Ok(Index { bytes: self.bytes, target: self.target, entries: &out[..count] })
+    /// The index of the section, as `Index::make` makes it. That judges the section again, so where nothing else is asked of it
+    /// `Index::make` alone costs half.
+    pub fn index<'o>(&self, out: &'o mut [Entry]) -> Result<Index<'o, 'a>, Failure> {
+        Index::make(self.bytes, self.target, out)
     }
 }
 
@@ -128,7 +121,7 @@ impl Section<'_> {
 #[repr(transparent)]
 pub struct AddressRow(RawRow);
 
-/// The rows of many addresses.
+/// The rows of many addresses: for each address in turn its row, or none where no FDE covers it.
 #[derive(Clone, Copy, Debug, PartialEq, Eq)]
 pub struct Rows<'o> {
     rows: &'o [AddressRow],
@@ -137,15 +130,52 @@ pub struct Rows<'o> {
 
 impl<'o> Rows<'o> {
     /// The row of each address in turn, or none where no FDE covers it.
-    pub fn iter(&self) -> impl Iterator<Item = Option<Row<'o>>> + 'o {
-        let mut left = self.rules;
-        self.rows.iter().map(move |AddressRow(row)| {
-            let (own, behind) = left.split_at(row.count as usize);
-            left = behind;
-            (row.range > 0).then(|| row_of(row, own))
-        })
+    pub fn iter(&self) -> RowIter<'o> {
+        RowIter { rows: self.rows.iter(), rules: self.rules }
     }
 }
+
+impl<'o> IntoIterator for Rows<'o> {
+    type Item = Option<Row<'o>>;
+    type IntoIter = RowIter<'o>;
+
+    fn into_iter(self) -> RowIter<'o> {
+        self.iter()
+    }
+}
+
+impl<'o> IntoIterator for &Rows<'o> {
+    type Item = Option<Row<'o>>;
+    type IntoIter = RowIter<'o>;
+
+    fn into_iter(self) -> RowIter<'o> {
+        self.iter()
+    }
+}
+
+/// An iterator over `Rows`.
+#[derive(Clone, Debug)]
+pub struct RowIter<'o> {
+    rows: slice::Iter<'o, AddressRow>,
+    rules: &'o [RegisterRule],
+}
+
+impl<'o> Iterator for RowIter<'o> {
+    type Item = Option<Row<'o>>;
+
+    fn next(&mut self) -> Option<Option<Row<'o>>> {
+        let AddressRow(row) = self.rows.next()?;
+        let (own, behind) = self.rules.split_at(row.count as usize);
+        self.rules = behind;
+        Some((row.range > 0).then(|| row_of(row, own)))
+    }
+
+    fn size_hint(&self) -> (usize, Option<usize>) {
+        self.rows.size_hint()
+    }
+}
+
+impl ExactSizeIterator for RowIter<'_> {}
 
 impl Section<'_> {
     /// The rows of many addresses in any order. It judges the section again, and makes no index. They are written to the front of
@@ -178,7 +208,7 @@ impl Section<'_> {
 }
 
 // A row that was told, with the rules of its registers.
-fn row_of<'o>(row: &RawRow, registers: &'o [RegisterRule]) -> Row<'o> {
+pub(crate) fn row_of<'o>(row: &RawRow, registers: &'o [RegisterRule]) -> Row<'o> {
     let cfa = match row.cfa_kind {
         DWFRAME_CFA_REGISTER => CfaRule::Register { register: row.cfa_register, offset: row.cfa_offset },
         DWFRAME_CFA_EXPRESSION => CfaRule::Expression,
@@ -189,14 +219,38 @@ fn row_of<'o>(row: &RawRow, registers: &'o [RegisterRule]) -> Row<'o> {
 }
 
 /// Bytes with an index, for look-ups. The bytes are not judged as a whole.
-#[derive(Clone, Copy, Debug, PartialEq, Eq)]
+#[derive(Clone, Copy)]
 pub struct Index<'i, 'a> {
     pub(crate) bytes: &'a [u8],
     pub(crate) target: Target,
     pub(crate) entries: &'i [Entry],
 }
 
+// The bytes and the entries are counted, and not printed.
+impl fmt::Debug for Index<'_, '_> {
+    fn fmt(&self, f: &mut fmt::Formatter<'_>) -> fmt::Result {
+        let mut told = f.debug_struct("Index");
+        told.field("target", &self.target).field("bytes_len", &self.bytes.len());
+        told.field("entries_len", &self.entries.len()).finish_non_exhaustive()
+    }
+}
+
 impl<'i, 'a> Index<'i, 'a> {
+    /// The index of the section of these bytes, which are judged once. It is written to the front of `out`, ascending by begin. Where
+    /// it does not fit, `Failure::TooShort` says how many entries there are, and `out` stays. An FDE takes 16 bytes at least, so a room
+    /// of `bytes.len() / 16` entries always does.
+    pub fn make(bytes: &'a [u8], target: Target, out: &'i mut [Entry]) -> Result<Index<'i, 'a>, Failure> {
+        let (size, order) = target.numbers();
+        let (mut count, mut refusal) = (0, RawRefusal::default());
+        let (first, len, room) = (bytes.as_ptr(), bytes.len(), out.len());
+        // SAFETY: both slices and both numbers are lent for the call, and those that are written are ours alone.
+        let status = unsafe {
+            dwframe_index(first, len, size, order, out.as_mut_ptr(), room, &mut count, &mut refusal)
+        };
+        answer(status, refusal, count)?;
+        Ok(Index { bytes, target, entries: &out[..count] })
+    }
+
     /// An index that was made before. One of other bytes does no harm: what it names is read and judged anew at each look-up.
     pub fn new(bytes: &'a [u8], target: Target, entries: &'i [Entry]) -> Index<'i, 'a> {
         Index { bytes, target, entries }
@@ -247,9 +301,8 @@ pub struct Expressions<'o> {
 
 impl<'o> Expressions<'o> {
     /// All of them: that of the canonical frame address, and then those of the registers, ascending.
-    pub fn iter(&self) -> impl Iterator<Item = (Column, &'o [u8])> + 'o {
-        let bytes = self.bytes;
-        self.blocks.iter().map(move |block| (block.column(), &bytes[block.0.place..][..block.0.len]))
+    pub fn iter(&self) -> ExpressionIter<'o> {
+        ExpressionIter { blocks: self.blocks.iter(), bytes: self.bytes }
     }
 
     /// That of a column, where its rule has one.
@@ -257,6 +310,46 @@ impl<'o> Expressions<'o> {
         self.iter().find_map(|(of, block)| (of == column).then_some(block))
     }
 }
+
+impl<'o> IntoIterator for Expressions<'o> {
+    type Item = (Column, &'o [u8]);
+    type IntoIter = ExpressionIter<'o>;
+
+    fn into_iter(self) -> ExpressionIter<'o> {
+        self.iter()
+    }
+}
+
+impl<'o> IntoIterator for &Expressions<'o> {
+    type Item = (Column, &'o [u8]);
+    type IntoIter = ExpressionIter<'o>;
+
+    fn into_iter(self) -> ExpressionIter<'o> {
+        self.iter()
+    }
+}
+
+/// An iterator over `Expressions`: whose rule each belongs to, and its block.
+#[derive(Clone, Debug)]
+pub struct ExpressionIter<'o> {
+    blocks: slice::Iter<'o, Block>,
+    bytes: &'o [u8],
+}
+
+impl<'o> Iterator for ExpressionIter<'o> {
+    type Item = (Column, &'o [u8]);
+
+    fn next(&mut self) -> Option<(Column, &'o [u8])> {
+        let block = self.blocks.next()?;
+        Some((block.column(), &self.bytes[block.0.place..][..block.0.len]))
+    }
+
+    fn size_hint(&self) -> (usize, Option<usize>) {
+        self.blocks.size_hint()
+    }
+}
+
+impl ExactSizeIterator for ExpressionIter<'_> {}
 
 impl Index<'_, '_> {
     /// The expressions of the row at an address. Their blocks are written to the front of `bytes`, and where each stands to the

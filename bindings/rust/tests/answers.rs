@@ -1,8 +1,8 @@
 //! What the examples, which print what the command prints, do not meet.
 
 use dwframe::{
-    AddressRow, CfaRule, Column, Entry, Failure, Fault, Index, Machine, Order, Refusal, Register, RegisterRule, Section, Size, Target,
-    Unset, Wanted, Which, Window,
+    AddressRow, CfaRule, Change, Code, Column, Context, Entry, Failure, Fault, Index, Kind, Machine, Order, Refusal, Register, RegisterRule,
+    Section, Size, Target, Unset, Wanted, Which, Window, evaluate,
 };
 use std::error::Error;
 
@@ -16,7 +16,7 @@ const FDE: Entry = Entry { begin: 0x401000, range: 0x10, at: 0x10, return_regist
 
 #[test]
 fn tells_a_row_without_a_rule_for_the_cfa() {
-    let refusal = Refusal { code: 24, which: Which::First, at: 0x10 };
+    let refusal = Refusal { code: Code::NoCfaRule, which: Which::First, at: 0x10 };
     assert_eq!(Section::check(WITHOUT_CFA, TARGET).err(), Some(Failure::Refused(refusal)));
     let entries = [FDE];
     let row = Index::new(WITHOUT_CFA, TARGET, &entries).row_at(0x401000, &mut []).expect("an FDE stands there");
@@ -24,17 +24,16 @@ fn tells_a_row_without_a_rule_for_the_cfa() {
 }
 
 #[test]
-fn names_the_codes_that_there_are() {
-    let told = |code| Refusal { code, which: Which::First, at: 0x10 }.to_string();
-    assert_eq!(told(24), "NoCfaRule at 0x10");
-    assert_eq!(&*Refusal { code: 12, which: Which::First, at: 0 }.name(), "UnknownInstruction");
-    assert_eq!(told(28), "unknown at 0x10");
+fn tells_a_refusal_once() {
+    let failure = Section::check(WITHOUT_CFA, TARGET).expect_err("a section without a rule for the CFA");
+    assert_eq!(failure.to_string(), "refused: NoCfaRule at 0x10");
+    assert!(failure.source().is_none());
 }
 
 #[test]
-fn says_what_a_failure_comes_from() {
-    let failure = Section::check(WITHOUT_CFA, TARGET).expect_err("a section without a rule for the CFA");
-    assert_eq!(failure.source().map(|it| it.to_string()).as_deref(), Some("NoCfaRule at 0x10"));
+fn prints_no_bytes_of_a_section() {
+    let told = format!("{:?}", plain());
+    assert!(told.contains("bytes_len: 64") && told.len() < 200, "{told}");
 }
 
 // A section, and a machine that stopped in it.
@@ -69,12 +68,69 @@ fn says_how_much_room_is_needed() {
 }
 
 #[test]
+fn tells_the_rows_of_addresses() {
+    let (mut rows, mut rules) = ([AddressRow::default(); 3], [RegisterRule::default(); 8]);
+    let told = plain().rows_at(&[STOP, 0, 0x401000], &mut rows, &mut rules).expect("room for three rows");
+    let found: Vec<_> = told.into_iter().map(|row| row.map(|row| (row.cfa, row.registers.len()))).collect();
+    let cfa = |register, offset| CfaRule::Register { register, offset };
+    assert_eq!(found, [Some((cfa(6, 16), 2)), None, Some((cfa(7, 8), 1))]);
+}
+
+// The rows that the README has of this section.
+#[test]
+fn tells_the_rows_of_an_fde() {
+    let (mut changes, mut rules) = ([Change::default(); 4], [RegisterRule::default(); 7]);
+    let section = plain();
+    let told = section.changes(STOP, &mut changes, &mut rules).expect("room for four rows");
+    let cfa = |register, offset| CfaRule::Register { register, offset };
+    let found: Vec<_> = told.iter().map(|(address, row)| (address, row.cfa, row.registers.len())).collect();
+    let wanted = [(0x401000, cfa(7, 8), 1), (0x401001, cfa(7, 16), 2), (0x401004, cfa(6, 16), 2), (0x40100f, cfa(7, 8), 2)];
+    assert_eq!(found, wanted);
+    assert!(told.iter().all(|(_, row)| (row.begin, row.range, row.return_register) == (0x401000, 0x10, 16)));
+    let needed = Some(Failure::ChangesTooShort { changes: 4, rules: 7 });
+    assert_eq!(section.changes(STOP, &mut changes[..3], &mut rules).err(), needed);
+    assert_eq!(section.changes(STOP, &mut changes, &mut rules[..6]).err(), needed);
+    assert_eq!(section.changes(STOP, &mut [], &mut []).err(), needed);
+    assert_eq!(section.changes(0x401010, &mut changes, &mut rules).err(), Some(Failure::NoFde));
+}
+
+#[test]
 fn says_how_much_room_expressions_need() {
     let section = Section::check(include_bytes!("../../../examples/rules.bin"), TARGET).expect("an example");
     let mut entries = [Entry::default(); 4];
     let index = section.index(&mut entries).expect("few entries");
     let failure = index.expressions_at(0x1000, &mut [], &mut []).err();
     assert_eq!(failure, Some(Failure::ExpressionsTooShort { blocks: 1, bytes: 2 }));
+}
+
+#[cfg(feature = "alloc")]
+#[test]
+fn makes_a_normal_form() {
+    let normal = plain().normal_form().expect("memory");
+    assert_eq!(dwframe::same(&normal, PLAIN, TARGET), Ok(true));
+}
+
+// Worked by hand from DWARF 5, 2.5.1.
+#[test]
+fn evaluates_an_expression() {
+    let evaluated = |block: &[u8], context| evaluate(block, TARGET, context, &machine(REGISTERS), 10);
+    let none = Context::default();
+    // breg6 0; deref: what stands at 0x7ffe00. call_frame_cfa; plus_uconst 1. fbreg -8. push_object_address. lit2; plus.
+    assert_eq!(evaluated(b"\x76\0\x06", none), Ok(0x200));
+    assert_eq!(evaluated(b"\x9c\x23\x01", Context { cfa: Some(0x10), ..none }), Ok(0x11));
+    assert_eq!(evaluated(b"\x91\x78", Context { frame_base: Some(0x10), ..none }), Ok(8));
+    assert_eq!(evaluated(b"\x97", Context { object: Some(0x20), ..none }), Ok(0x20));
+    assert_eq!(evaluated(b"\x32\x22", Context { start: Some(0x30), ..none }), Ok(0x32));
+    let fault = |kind, index, wanted| Err(Failure::Fault(Fault::Expression { kind, index, wanted }));
+    assert_eq!(evaluated(b"\x91\0", none), fault(Kind::NoFrameBase, 0, None));
+    assert_eq!(evaluated(b"\x9c", none), fault(Kind::NoCfa, 0, None));
+    assert_eq!(evaluated(b"\x97", none), fault(Kind::NoObject, 0, None));
+    assert_eq!(evaluated(b"\x32\x22", none), fault(Kind::StackUnderflow, 1, None));
+    assert_eq!(evaluated(b"\x71\0", none), fault(Kind::NoRegister, 0, Some(Wanted::Register(1))));
+    assert_eq!(evaluated(b"\x77\x08\x06", none), fault(Kind::Unreadable, 1, Some(Wanted::Memory { address: 0x7ffdf8, len: 8 })));
+    assert_eq!(evaluated(b"\x2f\xfd\xff", none), fault(Kind::StepLimit, 0, None));
+    let refusal = Refusal { code: Code::Truncated, which: Which::First, at: 1 };
+    assert_eq!(evaluated(b"\x76", none), Err(Failure::Refused(refusal)));
 }
 
 #[test]

@@ -7,7 +7,7 @@ ghost use Rattle.dw_cfa.specs.Inner.Turns.{IsWithinLimit, Taken};
 use crate::instr::Factors;
 use crate::keep::Keep;
 use crate::machine::{End, refused};
-use crate::opcode::{block, plain, quick_register, signed};
+use crate::opcode::{block, plain, signed};
 use dw_num::{Cursor, Refusal};
 
 /// The CFA is a register plus an offset.
@@ -22,7 +22,7 @@ pub(crate) fn run_def_cfa<'a, K: Keep<'a>>(
     requires { IsWithinLimit (K.machine keep.old) }
     ensures { Taken K.takes (def_cfa_at at cursor.old) at keep.old result fault.new cursor.new keep.new }
 {
-    let register = match quick_register(cursor) {
+    let register = match cursor.register() {
         Ok(register) => register,
         Err(refusal) => return refused(refusal, fault),
     };
@@ -69,7 +69,7 @@ pub(crate) fn run_def_cfa_register<'a, K: Keep<'a>>(
     requires { IsWithinLimit (K.machine keep.old) }
     ensures { Taken K.takes (def_cfa_register_at cursor.old) at keep.old result fault.new cursor.new keep.new }
 {
-    let register = match quick_register(cursor) {
+    let register = match cursor.register() {
         Ok(register) => register,
         Err(refusal) => return refused(refusal, fault),
     };

@@ -1,8 +1,6 @@
 //! Opcodes (7.24), and the operands of instructions.
 
-ghost use Rattle.std.specs.Prelude.{◌≡◌, ◌+◌, ◌*◌, ◌<◌, ◌^◌, ◌*ℤ◌, length, unsigned_abs, [], ◌∷◌, IfSome, IsTrue, IsOk};
-ghost use Rattle.dw_num.specs.Leb.{Sleb};
-ghost use Rattle.dw_num.specs.Front.{register_at, sleb_at, uleb_at};
+ghost use Rattle.std.specs.Prelude.{◌≡◌, ◌+◌, ◌*◌, ◌<◌, ◌^◌, ◌*ℤ◌, length, unsigned_abs, IsTrue, IsOk};
 ghost use Rattle.dw_num.specs.Inner.Front.{Gives};
 ghost use Rattle.dw_cfa.specs.Inner.Operands.{opcode_of};
 ghost use Rattle.dw_cfa.specs.Inner.FrontInstr.{expression_in, block_at};
@@ -108,74 +106,12 @@ fn times(operand: i128, factor: i64) -> i128
     operand * i128::from(factor)
 }
 
-// An unsigned LEB128 number, which mostly has one byte.
-#[inline(always)]
-#[tactic(auto, using(dw_num::proofs::Lent::ShortNumbers::one_byte_read))]
-fn quick_uleb(cursor: &mut Cursor<'_>) -> Result<u64, Refusal>
-    ensures { Gives (λ v. v) result (uleb_at cursor.old) cursor.new }
-{
-    let before = Cursor::new(cursor.rest(), cursor.at(), cursor.target());
-    if let Ok(byte) = cursor.byte() {
-        if byte < 128 {
-            return Ok(u64::from(byte));
-        }
-    }
-    *cursor = before;
-    cursor.uleb()
-}
-
-// The number of a register, which mostly has one byte too.
-#[inline(always)]
-#[tactic(auto, using(dw_num::proofs::Lent::ShortNumbers::one_byte_register))]
-pub(crate) fn quick_register(cursor: &mut Cursor<'_>) -> Result<u16, Refusal>
-    ensures { Gives (λ r. r) result (register_at cursor.old) cursor.new }
-{
-    let before = Cursor::new(cursor.rest(), cursor.at(), cursor.target());
-    if let Ok(byte) = cursor.byte() {
-        if byte < 128 {
-            return Ok(u16::from(byte));
-        }
-    }
-    *cursor = before;
-    cursor.register()
-}
-
-// The signed number that a byte alone spells.
-#[tactic(auto, using(dw_num::proofs::Lent::ShortNumbers::one_byte_positive, dw_num::proofs::Lent::ShortNumbers::one_byte_negative))]
-#[inline(always)]
-pub(crate) fn signed_in(byte: u8) -> Option<i64>
-    ensures { IfSome result (λ v. Sleb v (byte ∷ [])) }
-{
-    if byte < 64 {
-        return Some(i64::from(byte));
-    }
-    if byte < 128 {
-        return Some(i64::from(byte) - 128);
-    }
-    None
-}
-
-// A signed LEB128 number, which mostly has one byte too.
-#[inline(always)]
-fn quick_sleb(cursor: &mut Cursor<'_>) -> Result<i64, Refusal>
-    ensures { Gives (λ v. v) result (sleb_at cursor.old) cursor.new }
-{
-    let before = Cursor::new(cursor.rest(), cursor.at(), cursor.target());
-    if let Ok(byte) = cursor.byte() {
-        if let Some(number) = signed_in(byte) {
-            return Ok(number);
-        }
-    }
-    *cursor = before;
-    cursor.sleb()
-}
-
 #[tactic(auto, unfolding(crate::specs::Inner::ByOpcode::plain_at))]
 #[inline(always)]
 pub(crate) fn plain(cursor: &mut Cursor<'_>, at: u64) -> Result<i64, Refusal>
     ensures { Gives (λ z. z) result (plain_at at cursor.old) cursor.new }
 {
-    let operand = quick_uleb(cursor)?;
+    let operand = cursor.uleb()?;
     checked_offset(i128::from(operand), at)
 }
 
@@ -184,7 +120,7 @@ pub(crate) fn plain(cursor: &mut Cursor<'_>, at: u64) -> Result<i64, Refusal>
 pub(crate) fn factored(cursor: &mut Cursor<'_>, factors: Factors, at: u64) -> Result<i64, Refusal>
     ensures { Gives (λ z. z) result (factored_at factors at cursor.old) cursor.new }
 {
-    let operand = quick_uleb(cursor)?;
+    let operand = cursor.uleb()?;
     checked_offset(times(i128::from(operand), factors.data_factor), at)
 }
 
@@ -193,7 +129,7 @@ pub(crate) fn factored(cursor: &mut Cursor<'_>, factors: Factors, at: u64) -> Re
 pub(crate) fn signed(cursor: &mut Cursor<'_>, factors: Factors, at: u64) -> Result<i64, Refusal>
     ensures { Gives (λ z. z) result (signed_at factors at cursor.old) cursor.new }
 {
-    let operand = quick_sleb(cursor)?;
+    let operand = cursor.sleb()?;
     checked_offset(times(i128::from(operand), factors.data_factor), at)
 }
 

@@ -1,6 +1,7 @@
 //! How an FDE's program begins (6.4.3).
 
 ghost use Rattle.std.specs.Prelude.{◌≡◌, ◌<◌, IfSome, IsTrue, List, [], ◌∷◌, if◌then◌else◌};
+ghost use Rattle.dw_num.specs.Leb.{Sleb};
 ghost use Rattle.dw_num.specs.declared.target.Target.{Target as TheTarget};
 ghost use Rattle.dw_cfa.specs.declared.instr.Instr.{Instr as TheInstr};
 ghost use Rattle.dw_cfa.specs.declared.opening.FirstRow.TheVariants.{Initial, CfaOffset, Other};
@@ -11,7 +12,6 @@ ghost use Rattle.dw_cfa.specs.Inner.Opening.{GivesOffset, answers_move, answers_
 
 use crate::instr::{Factors, Instr};
 use crate::instructions::Instructions;
-use crate::opcode::signed_in;
 use dw_num::{Program, Target};
 
 /// The row at an FDE's begin, where the first instructions of its program tell it.
@@ -43,6 +43,21 @@ fn moves_at_once(bytes: &[u8], factors: Factors) -> bool
         Some(code) => moves_on(*code, factors),
         None => true,
     }
+}
+
+// The signed number that a byte alone spells.
+#[tactic(auto, using(dw_num::proofs::Lent::ShortNumbers::one_byte_positive, dw_num::proofs::Lent::ShortNumbers::one_byte_negative))]
+#[inline(always)]
+fn signed_in(byte: u8) -> Option<i64>
+    ensures { IfSome result (λ v. Sleb v (byte ∷ [])) }
+{
+    if byte < 64 {
+        return Some(i64::from(byte));
+    }
+    if byte < 128 {
+        return Some(i64::from(byte) - 128);
+    }
+    None
 }
 
 // The offset of the CFA that a code gives by one byte.

@@ -1,5 +1,5 @@
 -- Runs that end: a load of later files, and what a call that writes becomes.
-use Rattle.std.proofs.Common.{◌≡◌, ◌∙◌, ◌⊎◌, ℕ, List, [], length, Option, option_map, Result, Ok, Err, refl, inl, inr, subst, sym}
+use Rattle.std.proofs.Common.{◌≡◌, ◌∙◌, ◌⊎◌, ℕ, List, [], length, Option, Some, None, option_map, Result, Ok, Err, refl, inl, inr, subst, sym}
 use Rattle.std.specs.Io.KnownBytes.{Appends}
 use Rattle.std.proofs.KnownBytes.{Appends-trans, Keeps-refl}
 use Rattle.std.proofs.lemmas.List.{append-nil}
@@ -37,10 +37,13 @@ use Rattle.dw_command.specs.declared.files.LoadError.{LoadError}
 use Rattle.dw_command.specs.declared.failure.Failure.{Failure}
 use Rattle.dw_command.specs.declared.failure.Failure.TheVariants as failures
 use Rattle.dw_words.specs.declared.request.Evaluation.{Evaluation}
+use Rattle.dw_words.specs.declared.request.Lookup.{Lookup}
 use Rattle.dw_words.specs.declared.request.Unwinding.{Unwinding}
-use Rattle.dw_command.specs.Answers.{Before, Checks, Costs, CostsBehind, EvalEnds, Frames, HasCounts, Loads, LoadsDump, LoadsText, Normalises, OverFile, Parses, Prints, AndThen, UnwindEnds, Unprinted, Values, costs_text}
+use Rattle.dw_command.specs.Addresses.{lines_in}
+use Rattle.dw_command.specs.RowTexts.{At, at_text}
+use Rattle.dw_command.specs.Answers.{Asks, AtEnds, Before, Checks, Costs, CostsBehind, EvalEnds, Frames, HasCounts, Loads, LoadsDump, LoadsText, Normalises, OverFile, Parses, Prints, PrintsOf, Tells, AndThen, UnwindEnds, Unprinted, Values, costs_text}
 use Rattle.dw_command.specs.Output.{Output}
-use Rattle.dw_command.specs.Texts.{frame_text, value_text}
+use Rattle.dw_command.specs.Texts.{frame_text, lines, value_text}
 use Rattle.dw_command.specs.Failure.{of_read}
 use Rattle.dw_command.specs.Inner.Failure.{of_write}
 
@@ -54,6 +57,13 @@ module _ (old new : Text → Result (List ℕ) LoadError → Type 0) (same : (p 
   dump_before path (Ok bytes) h = (same path (Ok bytes) h.0, h.1)
   dump_before path (Err e) (error, inl given, becomes) = (error, inl (same path (Err error) given), becomes)
   dump_before path (Err e) (error, inr (bytes, given, long, is), becomes) = (error, inr (bytes, same path (Ok bytes) given, long, is), becomes)
+
+  text_before : (path : Option Text) (r : Result (List ℕ) Failure) → LoadsText new path r → LoadsText old path r
+  text_before None r h = h
+  text_before (Some path) r h = dump_before path r h
+
+  pub text_at : (from to : Option Text) (r : Result (List ℕ) Failure) → from ≡ to → LoadsText new from r → LoadsText old to r
+  text_at from to r is h = text_before to r (subst (λ (path : Option Text). LoadsText new path r) is h)
 
 -- a file's bytes, as they are lent
 pub lent : (gives : Text → Result (List ℕ) LoadError → Type 0) (path : Text) (s t : List ℕ) → t ≡ s → Loads gives path (Ok s) → Loads gives path (Ok t)
@@ -154,6 +164,22 @@ behind_files gives old new target u s s' text text' r same loads same' loads' en
 pub frames_at : (target : Target) (s : List ℕ) (table : Section) (dump : Dump) (policy : Policy) (steps : ℕ) (r : Result Frame Failure)
     → table ≡ record { target = target; bytes = s } → Frames table.target table.bytes dump policy steps r → Frames target s dump policy steps r
 frames_at target s table dump policy steps r is h = subst (λ (t : Section). Frames t.target t.bytes dump policy steps r) is h
+
+-- ---- look-ups
+
+-- behind a section and the lines of standard input
+pub behind_lines : (gives : Text → Result (List ℕ) LoadError → Type 0) (old new : Output) (target : Target) (l : Lookup)
+    (s s' text text' : List ℕ) (r : Result (Unit {0}) Failure)
+    → s' ≡ s → Loads gives l.path.now (Ok s) → text' ≡ text → LoadsText gives (lines_in l.addresses.items) (Ok text)
+    → Before old new (Checks target s') (λ _. Before old new (Asks target l.addresses.items text') (λ asked. PrintsOf {A = List At} {B = Unit {0}} old new (Tells target s' asked) (lines at_text) tt)) r
+    → AtEnds gives old new target l r
+behind_lines gives old new target l s s' text text' r same loads same' loads' ends =
+    inl (s', lent gives l.path.now s s' same loads, inl (text', subst (λ (t : List ℕ). LoadsText gives (lines_in l.addresses.items) (Ok t)) (sym same') loads', ends))
+
+-- over the section that was checked
+pub tells_at : (old new : Output) (target : Target) (s : List ℕ) (table : Section) (asked : List ℕ) (r : Result (Unit {0}) Failure) → table ≡ record { target = target; bytes = s }
+    → PrintsOf {A = List At} {B = Unit {0}} old new (Tells table.target table.bytes asked) (lines at_text) tt r → PrintsOf {A = List At} {B = Unit {0}} old new (Tells target s asked) (lines at_text) tt r
+tells_at old new target s table asked r is h = subst (λ (t : Section). PrintsOf {A = List At} {B = Unit {0}} old new (Tells t.target t.bytes asked) (lines at_text) tt r) is h
 
 -- ---- costs
 

@@ -1,8 +1,10 @@
+pub mod AddressLines
 pub mod Blocks
 pub mod Digits
 pub mod EightDigits
 pub mod Endings
 pub mod Loans
+pub mod LookedUp
 pub mod HexLines
 pub mod Members
 pub mod OpLines

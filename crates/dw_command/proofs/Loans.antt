@@ -6,6 +6,7 @@ use Rattle.clap.specs.Words.{Text}
 use Rattle.dw_num.specs.declared.target.Target.{Target}
 use Rattle.dw_op.specs.declared.profile.Profile.TheVariants.{Location}
 use Rattle.dw_words.specs.declared.request.Evaluation.{Evaluation}
+use Rattle.dw_words.specs.declared.request.Lookup.{Lookup}
 use Rattle.dw_words.specs.declared.request.Unwinding.{Unwinding}
 use Rattle.dw_words.specs.declared.request.Request.{Request}
 use Rattle.dw_words.specs.declared.request.Request.TheVariants as requests
@@ -13,11 +14,12 @@ use Rattle.dw_words.specs.declared.request.Task.{Task}
 use Rattle.dw_words.specs.declared.request.Task.TheVariants as tasks
 use Rattle.dw_command.specs.declared.files.LoadError.{LoadError}
 use Rattle.dw_command.specs.declared.failure.Failure.{Failure}
-use Rattle.dw_command.specs.Answers.{AndThen, Before, Checks, Compares, Costs, Cuts, Decodes, Ends, EvalEnds, Follows, Frames, ListsFdes, Loads, LoadsDump, LoadsText, Normalises, OverBlock, OverFile, Parses, Plans, Prints, PrintsText, SameEnds, SpellsLeast, Tallies, TaskEnds, UnwindEnds, Values, costs_text}
+use Rattle.dw_command.specs.Addresses.{lines_in}
+use Rattle.dw_command.specs.Answers.{AndThen, Asks, AtEnds, Before, Checks, Compares, Costs, Cuts, Decodes, Ends, EvalEnds, Follows, Frames, ListsFdes, Loads, LoadsDump, LoadsText, Normalises, OverBlock, OverFile, Parses, Plans, Prints, PrintsOf, PrintsText, Tells as SaysOf, SameEnds, SpellsLeast, Tallies, TaskEnds, UnwindEnds, Values, costs_text}
 use Rattle.dw_command.specs.Engine.{holding}
 use Rattle.dw_command.specs.Output.{Output}
 use Rattle.dw_command.specs.Inner.Output.{put_so_far}
-use Rattle.dw_command.specs.RowTexts.{member_text}
+use Rattle.dw_command.specs.RowTexts.{at_text, member_text}
 use Rattle.dw_command.specs.Texts.{block_text, counts_text, entry_text, frame_text, lines, sameness_text, value_text}
 use Rattle.dw_command.specs.Inner.Lent.{lent_bytes}
 
@@ -80,6 +82,10 @@ module _ (old new old' new' : Output) (tells : Tells old new old' new') where
   prints text a (Ok b) h = (h.0, tells.after ∙ h.1 ∙ sym tells.before, tells.left, tells.appends text h.2 h.3)
   prints text a (Err failure) h = rw (tells.before, tells.after) h
 
+  prints_of : {A B : Type 0} (Is : A → Type 0) (text : A → List ℕ) (b : B) (r : Result B Failure) → PrintsOf old new Is text b r → PrintsOf old' new' Is text b r
+  prints_of Is text b (Ok c) h = (h.0, h.1, prints (text h.0) b (Ok c) h.2)
+  prints_of Is text b (Err failure) h = rw (tells.before, tells.after) h
+
   prints_text : {A : Type 0} (a : A) (r : Result A Failure) → PrintsText old new a r → PrintsText old' new' a r
   prints_text a (Ok b) h = (h.0, tells.after ∙ h.1 ∙ sym tells.before, tells.left)
   prints_text a (Err failure) h = rw (tells.before, tells.after) h
@@ -108,6 +114,11 @@ module _ (old new old' new' : Output) (tells : Tells old new old' new') where
         → AndThen (OverFile gives old' new' path Judges (λ s a. Prints old' new' (text s a) tt)) (λ (_ : Unit {0}) status. status ≡ Ok 0) r
     of_file path Judges text r h = over_file path Judges (λ s a. Prints old new (text s a) tt) (λ s a. Prints old' new' (text s a) tt) (λ s a. prints (text s a) tt) r h
 
+    at_ends : (target : Target) (l : Lookup) (r : Result (Unit {0}) Failure) → AtEnds gives old new target l r → AtEnds gives old' new' target l r
+    at_ends target l r h =
+        before (Loads gives l.path.now) _ _ (λ s. before (LoadsText gives (lines_in l.addresses.items)) _ _ (λ text. before (Checks target s) _ _ (λ _.
+        before (Asks target l.addresses.items text) _ _ (λ asked. prints_of (SaysOf target s asked) (lines at_text) tt)))) r h
+
     eval_ends : (target : Target) (e : Evaluation) (r : Result (Unit {0}) Failure) → EvalEnds gives old new target e r → EvalEnds gives old' new' target e r
     eval_ends target e r h =
         before (LoadsText gives (option_map (λ path. path.now) e.dump)) _ _ (λ text. before (Decodes Location target e.block.items) _ _ (λ ops.
@@ -123,6 +134,7 @@ module _ (old new old' new' : Output) (tells : Tells old new old' new') where
         before (Loads gives path) _ _ (λ s. before (Loads gives other) _ _ (λ t. before (Compares target s t) _ _ (λ b. prints (sameness_text b) (if b then 0 else 1)))) r h
 
     task_ends : (target : Target) (task : Task) (r : Result ℕ Failure) → TaskEnds gives old new target task r → TaskEnds gives old' new' target task r
+    task_ends target (tasks.At l) r h = done (AtEnds gives old new target l) (AtEnds gives old' new' target l) (at_ends target l) r h
     task_ends target (tasks.Check path) r h = of_file path.now (Tallies target) (λ s counts. counts_text counts (length s)) r h
     task_ends target (tasks.Cost path) r h = of_file path.now (Costs target) (λ s cost. costs_text (length s) cost) r h
     task_ends target (tasks.Entries path) r h = of_file path.now (Cuts target) (λ s es. lines entry_text es) r h

@@ -1,5 +1,5 @@
 -- The FDEs of a section with their changes, one by one.
-use Rattle.std.proofs.Common.{◌≡◌, ◌∙◌, ℕ, ◌+◌, ◌-◌, ◌<◌, ◌≤◌, ◌^◌, min, List, [], ◌∷◌, length, map, get_or, refl, ap, arith, subst, Result, Ok, Err, IfOk}
+use Rattle.std.proofs.Common.{◌≡◌, ◌∙◌, ℕ, ◌+◌, ◌-◌, ◌<◌, ◌≤◌, ◌^◌, min, List, [], ◌∷◌, length, map, get_or, inl, inr, refl, ap, arith, subst, sym, Result, Ok, Err, IfOk}
 use Rattle.std.specs.List.{AllByRecursion, AllZip}
 use Rattle.std.proofs.Math.ListN.{get_or-map}
 use Rattle.std.proofs.lemmas.List.{length-map}
@@ -10,6 +10,7 @@ use Rattle.dw_num.specs.declared.target.Size.TheVariants.{Four, Eight}
 use Rattle.dw_num.specs.declared.target.Target.{Target}
 use Rattle.dw_cfa.specs.Rows.{Rules, blank}
 use Rattle.dw_section.specs.Accepted.{Accepted}
+use Rattle.dw_section.specs.Among.{IsAmong}
 use Rattle.dw_section.specs.Meaning.{AreFdes, ChangesOf, RowStarts, total}
 use Rattle.dw_section.specs.Table.{Section}
 use Rattle.dw_section.specs.declared.lookup.Fde.{Fde}
@@ -78,6 +79,22 @@ module _ (t : Target) (s : List ℕ) (b : AreBytes s) (ok : Accepted t s) (ms : 
   -- an FDE that is listed there is the member's
   pub fde_is : (f : Fde) → ((fs : List Fde) → AreFdes t s fs → (e : Fde) → f ≡ get_or fs k e) → f ≡ fde_of (get_or ms k d)
   fde_is f is = is (map fde_of ms) are.fdes (fde_of d) ∙ get_or-map fde_of ms k d
+
+-- ---- one of them
+
+ends_low : (t : Target) (all ms : List Member) → AllByRecursion (λ (n : Member). MemberStands t (initial_of all n.register) n) ms → (f : Fde) → IsAmong f (map fde_of ms) → f.end ≤ 2 ^ 64
+ends_low t all [] h f i = absurd i
+ends_low t all (m ∷ ms) h f (inl is) =
+    let small = limit_small t.size in
+    let space = h.0.in_space in
+    subst (λ (g : Fde). g.end ≤ 2 ^ 64) (sym is) (omega (arith, small, space))
+ends_low t all (m ∷ ms) h f (inr i) = ends_low t all ms h.1 f i
+
+-- an FDE that is listed ends in the space of addresses
+pub fde_low : (t : Target) (s : List ℕ) → AreBytes s → Accepted t s → (f : Fde) → ((fs : List Fde) → AreFdes t s fs → IsAmong f fs) → f.end ≤ 2 ^ 64
+fde_low t s b ok f among =
+    let found = members_exist t s b ok in
+    ends_low t found.0 found.0 (stand t s b ok found.0 found.1) f (among (map fde_of found.0) found.1.fdes)
 
 -- ---- all of them
 

@@ -1,6 +1,6 @@
 -- What was put so far, while the output gets what is left and texts are put behind.
-use Rattle.std.proofs.Common.{◌≡◌, ◌∙◌, ℕ, zero, suc, ◌+◌, ◌-◌, ◌≤◌, List, [], ◌∷◌, ◌++◌, length, take, drop, refl, sym, ap, arith, subst, Option, Some, None}
-use Rattle.std.specs.Prelude.{min}
+use Rattle.std.proofs.Common.{◌≡◌, ◌∙◌, ℕ, zero, suc, ◌+◌, ◌-◌, ◌≤◌, List, [], ◌∷◌, ◌++◌, length, take, drop, refl, sym, ap, arith, subst, Option, Some, None, Result, Ok, Err}
+use Rattle.std.specs.Prelude.{OnOk, min}
 use Rattle.std.specs.Io.KnownBytes.{Appends, Keeps, append_known}
 use Rattle.std.proofs.KnownBytes.{Keeps-refl}
 use Rattle.std.proofs.lemmas.List.{append_assoc, length-take-le, length-drop, drop-take, take_min, take-append-drop, append-nil}
@@ -57,6 +57,11 @@ behind_kept None b c text p q = tt
 behind_kept (Some x) None c text p q = absurd p
 behind_kept (Some x) (Some y) None text p q = absurd q
 behind_kept (Some x) (Some y) (Some z) text p q = q ∙ ap (λ (l : List ℕ). l ++ text) p
+
+-- what comes behind an answer that is there
+pub on_ok : {T E P Q : Type 0} (r : Result T E) → OnOk r P → (P → Q) → OnOk r Q
+on_ok (Ok x) h f = f h
+on_ok (Err e) h f = h
 
 pub kept : (a : Option (List ℕ)) → Keeps a a
 kept a = Keeps-refl a

@@ -1,5 +1,6 @@
 -- What a run answers and prints: which call comes after which, and that the first failure ends it.
 use Rattle.std.specs.Prelude.{◌≡◌, ◌⊎◌, ⊤, ℕ, ◌<◌, ◌≤◌, List, [], ◌++◌, codes, Bool, Option, Some, None, length, map, option_map, if◌then◌else◌, Result, Ok, Err}
+use Rattle.std.specs.List.{AllZip}
 use Rattle.std.specs.Bool.{Decides}
 use Rattle.std.specs.Io.KnownBytes.{Appends, Keeps}
 use Rattle.clap.specs.Words.{Text}
@@ -17,7 +18,9 @@ use Rattle.dw_section.specs.declared.entry.Entry.{Entry}
 use Rattle.dw_section.specs.Accepted.{Accepted, CheckFault}
 use Rattle.dw_section.specs.Pieces.{Entries, Pieces}
 use Rattle.dw_section.specs.Faults.{CutFault}
-use Rattle.dw_section.specs.Meaning.{RowStarts, total}
+use Rattle.dw_section.specs.Among.{IsAmong}
+use Rattle.dw_section.specs.Meaning.{AreFdes, Covers, NoneCovers, RowStarts, RulesAt, total}
+use Rattle.dw_section.specs.declared.lookup.Fde.{Fde}
 use Rattle.dw_section.specs.Meanings.{SameMeaning}
 use Rattle.dw_section.specs.declared.entry.EntryCounts.{EntryCounts}
 use Rattle.dw_section.specs.Counts.{AreCounts}
@@ -38,6 +41,7 @@ use Rattle.dw_unwind.specs.Unwound.{Unwound, stopped}
 use Rattle.dw_words.specs.declared.request.Request.{Request}
 use Rattle.dw_words.specs.declared.request.Request.TheVariants as requests
 use Rattle.dw_words.specs.declared.request.Evaluation.{Evaluation}
+use Rattle.dw_words.specs.declared.request.Lookup.{Lookup}
 use Rattle.dw_words.specs.declared.request.Task.{Task}
 use Rattle.dw_words.specs.declared.request.Task.TheVariants as tasks
 use Rattle.dw_words.specs.declared.request.Unwinding.{Unwinding}
@@ -47,7 +51,8 @@ use Rattle.dw_command.specs.declared.files.LoadError.TheVariants.{CannotRead}
 use Rattle.dw_command.specs.declared.failure.Failure.{Failure}
 use Rattle.dw_command.specs.declared.failure.Failure.TheVariants as failures
 use Rattle.dw_command.specs.Output.{Output}
-use Rattle.dw_command.specs.RowTexts.{member_text}
+use Rattle.dw_command.specs.Addresses.{RefusesLine, addresses_of, lines_in}
+use Rattle.dw_command.specs.RowTexts.{At, at_text, member_text}
 use Rattle.dw_command.specs.Texts.{block_text, cost_text, counts_text, entry_text, frame_text, lines, sameness_text, value_text}
 use Rattle.dw_command.specs.Failure.{OfLoad, OfSame, OfUnwind, of_read, of_dump, of_eval, of_plan, status_of}
 
@@ -73,6 +78,11 @@ Unprinted old new failure = ⊥
 abbrev pub Prints : {A : Type 0} → Output → Output → List ℕ → A → Result A Failure → Type 0
 Prints old new text a (Ok b) = (b ≡ a) × (new.failures ≡ old.failures) × (new.left ≡ 0) × Appends old.put new.put text
 Prints old new text a (Err failure) = Unprinted old.failures new.failures failure
+
+-- the text of something that is so is printed, or it is not printed
+abbrev pub PrintsOf : {A B : Type 0} → Output → Output → (A → Type 0) → (A → List ℕ) → B → Result B Failure → Type 0
+PrintsOf {A} old new Is text b (Ok c) = (a : A) × Is a × Prints old new (text a) b (Ok c)
+PrintsOf old new Is text b (Err failure) = Unprinted old.failures new.failures failure
 
 -- the same of a text that is not told
 abbrev pub PrintsText : {A : Type 0} → Output → Output → A → Result A Failure → Type 0
@@ -119,6 +129,19 @@ Tallies target s r = Calls (λ counts. Accepted target s × HasCounts target s c
 -- a section is checked, and these are its nonempty FDEs by begin, each with the addresses at which its rules change
 abbrev pub ListsFdes : Target → List ℕ → Result (List Member) Failure → Type 0
 ListsFdes target s r = Calls (λ ms. Accepted target s × AreMembers target s ms) (Refuses (CheckFault target s)) (λ e f. f ≡ of_read e) r
+
+-- what a section with these FDEs says of an address: the one that covers it, and the rules there, or that none does
+abbrev pub TellsOf : Target → List ℕ → List Fde → ℕ → At → Type 0
+TellsOf target s fs asked (a, None) = (a ≡ asked) × NoneCovers a fs
+TellsOf target s fs asked (a, Some (fde, rules)) = (a ≡ asked) × IsAmong fde fs × Covers a fde × RulesAt target s a rules
+
+-- what it says of each
+abbrev pub Tells : Target → List ℕ → List ℕ → List At → Type 0
+Tells target s addresses found = (fs : List Fde) × AreFdes target s fs × AllZip (TellsOf target s fs) addresses found
+
+-- these addresses are asked for: those of the words, and behind them those of a text's lines
+abbrev pub Asks : Target → List ℕ → List ℕ → Result (List ℕ) Failure → Type 0
+Asks target named text r = Calls (λ asked. (more : List ℕ) × (addresses_of target.size 1 (lines_of text) ≡ Ok more) × (asked ≡ named ++ more)) (RefusesLine target.size (lines_of text)) (λ e f. f ≡ of_dump e) r
 
 -- a section is cut
 abbrev pub Cuts : Target → List ℕ → Result (List Entry) Failure → Type 0
@@ -231,12 +254,19 @@ module _ (gives : Text → Result (List ℕ) LoadError → Type 0) (old new : Ou
       Before old new (Loads gives u.path.now) (λ s. Before old new (LoadsDump gives u.dump.now) (λ text. Before old new (Checks target s) (λ _.
       Before old new (Parses target text) (λ dump. Before old new (Frames target s dump u.default u.steps) (λ frame. Prints old new (frame_text frame) tt))))) r
 
+  -- the section is judged before the lines of standard input, which is read where the words have no address
+  abbrev pub AtEnds : Target → Lookup → Result (Unit {0}) Failure → Type 0
+  AtEnds target l r =
+      Before old new (Loads gives l.path.now) (λ s. Before old new (LoadsText gives (lines_in l.addresses.items)) (λ text. Before old new (Checks target s) (λ _.
+      Before old new (Asks target l.addresses.items text) (λ asked. PrintsOf old new (Tells target s asked) (lines at_text) tt)))) r
+
   -- status 0 comes after an answer
   abbrev pub Done : (Result (Unit {0}) Failure → Type 0) → Result ℕ Failure → Type 0
   Done Ends r = AndThen Ends (λ _ status. status ≡ Ok 0) r
 
   -- the exit status of a subcommand, or why it has no answer
   abbrev pub TaskEnds : Target → Task → Result ℕ Failure → Type 0
+  TaskEnds target (tasks.At l) r = Done (AtEnds target l) r
   TaskEnds target (tasks.Check path) r = Done (OverFile path.now (Tallies target) (λ s counts. Prints old new (counts_text counts (length s)) tt)) r
   TaskEnds target (tasks.Cost path) r = Done (OverFile path.now (Costs target) (λ s cost. Prints old new (costs_text (length s) cost) tt)) r
   TaskEnds target (tasks.Entries path) r = Done (OverFile path.now (Cuts target) (λ _ es. Prints old new (lines entry_text es) tt)) r

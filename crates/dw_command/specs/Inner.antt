@@ -2,5 +2,6 @@
 pub mod Failure
 pub mod Hex
 pub mod Lent
+pub mod Lines
 pub mod Output
 pub mod Terminal

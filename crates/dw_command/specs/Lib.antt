@@ -1,3 +1,4 @@
+pub mod Addresses
 pub mod Answers
 pub mod Engine
 pub mod Failure

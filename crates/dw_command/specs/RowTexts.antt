@@ -1,5 +1,5 @@
 -- How rows are printed: a line for an FDE, and below it one for each address from which its rules are others.
-use Rattle.std.specs.Prelude.{ℕ, ℤ, false, List, [], ◌∷◌, ◌++◌, codes, decimal, unsigned_abs, if◌then◌else◌}
+use Rattle.std.specs.Prelude.{ℕ, ℤ, false, List, [], ◌∷◌, ◌++◌, codes, decimal, unsigned_abs, if◌then◌else◌, Option, Some, None}
 use Rattle.std.specs.Fmt.{digits}
 use Rattle.std.specs.Int.{is_negative}
 use Rattle.dw_op.specs.declared.op.Op.{Op}
@@ -61,6 +61,19 @@ row_text change = codes " 0x" ++ digits 16 false change.0 ++ codes " cfa=" ++ cf
 -- the addresses that an FDE covers, up to its end, and its return address register
 abbrev pub fde_text : Fde → List ℕ
 fde_text fde = codes "fde 0x" ++ digits 16 false fde.begin ++ codes " 0x" ++ digits 16 false fde.end ++ codes " ra=r" ++ decimal fde.return_register ++ line_end
+
+-- ---- `at`
+
+-- an address with the FDE that covers it and the rules there, or with none
+abbrev pub At : Type 0
+At = ℕ × Option (Fde × Rules)
+
+-- the line of the FDE, and below it that of the row, which begins with the address itself; one line where no FDE covers it
+abbrev pub at_text : At → List ℕ
+at_text (a, None) = codes " 0x" ++ digits 16 false a ++ codes " none" ++ line_end
+at_text (a, Some (fde, rules)) = fde_text fde ++ row_text (a, rules)
+
+-- ---- `rows`
 
 -- an FDE with the addresses at which its rules change
 abbrev pub member_text : Member → List ℕ

@@ -7,6 +7,7 @@ ghost use Rattle.dw_command.specs.Engine.{Runs};
 ghost use Rattle.dw_command.specs.Inner.Output.{output_of};
 ghost use Rattle.dw_command.specs.declared.failure.Failure.{Failure as TheFailure};
 
+use crate::at::run_at;
 use crate::check::run_check;
 use crate::cost::run_cost;
 use crate::entries::run_entries;
@@ -46,6 +47,7 @@ fn run_job<'a, L: Load, W: Write>(
 {
     let Job { target, task } = job;
     match task {
+        Task::At(lookup) => done(run_at(alloc, target, lookup, files, out)),
         Task::Check { path } => done(run_check(alloc, target, path, files, out)),
         Task::Cost { path } => done(run_cost(alloc, target, path, files, out)),
         Task::Entries { path } => done(run_entries(alloc, target, path, files, out)),

@@ -8,11 +8,14 @@ use std::alloc::Global;
 use std::error::Error;
 use std::fmt;
 use std::fs::File;
-use std::io::{self, ErrorKind, Read};
+use std::io::{self, ErrorKind, Input, Read};
 use std::rt::Files;
 
 /// How many bytes a section or a dump may have.
 pub const LIMIT: u64 = 2_147_483_647;
+
+/// The path by which standard input is named.
+pub const STDIN: &str = "-";
 
 /// Why a file has no bytes.
 #[derive(Clone, Copy, Debug, PartialEq, Eq)]
@@ -98,13 +101,13 @@ fn bytes_of<R: Read + Drop>(alloc: Global, opened: io::Result<R>) -> Result<Vec<
     }
 }
 
-/// The files of the system.
+/// The files of the system. `-` names standard input, and a file of that name is `./-`.
 #[derive(Drop)]
-pub struct Disk<'a, R: Files + AllocGlobal> {
+pub struct Disk<'a, R: Files + Input + AllocGlobal> {
     rt: &'a R,
 }
 
-impl<'a, R: Files + AllocGlobal> Disk<'a, R> {
+impl<'a, R: Files + Input + AllocGlobal> Disk<'a, R> {
     /// The files of the system that `rt` leads to. Takes no memory.
     pub fn new(rt: &'a R) -> Disk<'a, R>
         ensures { result.rt.now ≡ rt.now }
@@ -114,12 +117,15 @@ impl<'a, R: Files + AllocGlobal> Disk<'a, R> {
 }
 
 // No clause of the system's files says what a path gives, so none can say that this is what it gives.
-impl<R: Files + AllocGlobal> Load for Disk<'_, R> {
+impl<R: Files + Input + AllocGlobal> Load for Disk<'_, R> {
     fn load(&mut self, path: &str) -> Result<Vec<u8>, LoadError>
         ensures bound { IfOk result (λ bytes. length bytes.items ≤ 2_147_483_648) }
         ensures gives { MatchResult result (λ _. ⊤) (λ _. ⊤) }
         ensures same { (p : List ℕ) (r : Result (List ℕ) TheLoadError) → ⊤ → ⊤ }
     {
+        if path == STDIN {
+            return bytes_of(self.rt.alloc(), Ok(self.rt.reader()));
+        }
         bytes_of(self.rt.alloc(), File::open(self.rt, path))
     }
 }

@@ -5,6 +5,8 @@
 //! output, and `specs/Answers.antt` what each subcommand answers and prints.
 #![tactic(auto)]
 
+mod address_lines;
+mod at;
 mod check;
 mod command;
 mod cost;
@@ -26,7 +28,9 @@ mod texts;
 mod unwind;
 
 pub use command::engine;
-pub use dw_words::{Evaluation, Job, Name, PlanError, Request, Task, Unwinding, Writing, plan};
+pub use dw_words::{
+    Evaluation, Job, Lookup, Name, PlanError, Request, Task, Unwinding, Writing, plan,
+};
 pub use failure::{Failure, Place};
 pub use files::{Disk, Load, LoadError};
 pub use hints::Hinted;

@@ -1,7 +1,7 @@
 //! How rows are printed: a line for an FDE, and under it a line for each address from which its rules are others.
 
-ghost use Rattle.std.specs.Prelude.{◌+◌, ◌++◌, ◌-◌, ◌^◌, ◌<◌, ◌≤◌, codes, OnOk};
-ghost use Rattle.dw_command.specs.RowTexts.{cfa_text, column_text, fde_text, operations_text, row_text, rule_text};
+ghost use Rattle.std.specs.Prelude.{◌+◌, ◌++◌, ◌-◌, ◌^◌, ◌<◌, ◌≤◌, codes, None, OnOk};
+ghost use Rattle.dw_command.specs.RowTexts.{at_text, cfa_text, column_text, fde_text, operations_text, row_text, rule_text};
 ghost use Rattle.dw_command.specs.Inner.Output.{Adds, Told};
 ghost use Rattle.dw_command.specs.declared.listing.TheConstants.{PIECE, ROOM};
 
@@ -127,6 +127,20 @@ pub fn put_fde<W: Write>(listing: &mut Listing<W>, fde: &Fde) -> Result<(), Outp
     listing.address(fde.end);
     listing.text(b" ra=r");
     listing.decimal(u64::from(fde.return_register));
+    listing.text(b"\n");
+    Ok(())
+}
+
+/// Puts the line of an address that no FDE covers.
+pub fn put_none<W: Write>(listing: &mut Listing<W>, address: u64) -> Result<(), OutputFault>
+    requires room { listing.old.failures < 2 ^ 64 - 1 }
+    ensures told { Told listing.old.failures listing.new.failures result }
+    ensures put { OnOk result (Adds W.contents listing.old listing.new (at_text (address, None))) }
+{
+    listing.make_room()?;
+    listing.text(b" 0x");
+    listing.hex(address);
+    listing.text(b" none");
     listing.text(b"\n");
     Ok(())
 }

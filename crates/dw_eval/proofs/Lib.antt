@@ -9,5 +9,6 @@ pub mod Roles
 pub mod PlaceSteps
 pub mod PlaceLoop
 pub mod Space
+pub mod RegisterLaws
 pub mod Wanted
 pub mod Lent

@@ -4,4 +4,5 @@ pub mod Runs
 pub mod Evaluation
 pub mod Location
 pub mod Description
+pub mod Registers
 pub mod Roles

@@ -1,26 +1,133 @@
 //! Values of registers.
 
-ghost use Rattle.std.specs.Prelude.{◌≡◌, ℕ, ◌+◌, ◌≤◌, ◌==◌, Some, None, [], length, max, OnOk, OnErr, if◌then◌else◌};
+ghost use Rattle.std.specs.Prelude.{◌≡◌, ℕ, ◌+◌, ◌<◌, ◌≤◌, ◌==◌, Some, None, [], length, max, OnOk, OnErr, if◌then◌else◌};
 ghost use Rattle.dw_eval.specs.Registers.{held};
+ghost use Rattle.dw_eval.specs.Inner.Registers.{any_held, near_held};
 
 use std::alloc::{AllocError, Global};
 use std::marker::Model;
 
-/// What registers hold. A register is found by its number at once; the room that is taken is that of all
-/// registers up to the greatest one that was set, at most 65,536.
+// The registers below this have places of their own, for which no memory is taken.
+const NEAR: usize = 128;
+
+/// What registers hold. A register is found by its number at once. Those below 128 take no memory; the room that is
+/// taken for others is that of all registers from 128 up to the greatest one that was set, at most 65,536.
 #[derive(Drop)]
 pub struct Registers {
-    values: Vec<Option<u64>>,
+    known: [bool; 128],
+    values: [u64; 128],
+    far: Vec<Option<u64>>,
+    end: usize,
 }
 
 impl Model for Registers {
-    ghost use Rattle.std.specs.Prelude.{List, Option, ℕ, length, ◌≤◌};
+    ghost use Rattle.std.specs.Prelude.{List, Option, ℕ};
+    ghost use Rattle.dw_eval.specs.Inner.Registers.{any_held, first_held, PlacesSo};
 
     ghost Value = { List (Option ℕ) };
 
-    ghost view = { λ r. r.values.items };
+    ghost view = { λ r. first_held (any_held r.known r.values r.far.items) r.end };
 
-    ghost invariant = { λ r. length r.values.items ≤ 65536 };
+    ghost invariant = { λ r. PlacesSo r.known r.values r.far.items r.end };
+}
+
+// What a register holds that has a place.
+#[inline(always)]
+fn near_value(known: &[bool; 128], values: &[u64; 128], index: usize) -> Option<u64>
+    requires known { length known.now ≡ 128 }
+    requires values { length values.now ≡ 128 }
+    requires near { index < 128 }
+    ensures { result ≡ near_held known.now values.now index }
+{
+    if known[index] {
+        return Some(values[index]);
+    }
+    None
+}
+
+// And one that has none.
+fn far_value(far: &Vec<Option<u64>>, place: usize) -> Option<u64>
+    ensures { result ≡ held far.now.items place }
+{
+    far.get(place).copied().flatten()
+}
+
+// And any one.
+#[inline(always)]
+fn value_of(
+    known: &[bool; 128],
+    values: &[u64; 128],
+    far: &Vec<Option<u64>>,
+    register: u16,
+) -> Option<u64>
+    requires known { length known.now ≡ 128 }
+    requires values { length values.now ≡ 128 }
+    ensures { result ≡ any_held known.now values.now far.now.items register }
+{
+    let index = usize::from(register);
+    if index < NEAR {
+        return near_value(known, values, index);
+    }
+    far_value(far, index - NEAR)
+}
+
+// Lets a register that has a place hold a value.
+#[inline(always)]
+fn hold_near(known: &mut [bool; 128], values: &mut [u64; 128], index: usize, value: u64)
+    requires known { length known.old ≡ 128 }
+    requires values { length values.old ≡ 128 }
+    requires near { index < 128 }
+    ensures held { (r : ℕ) → near_held known.new values.new r ≡ (if r == index then Some value else near_held known.old values.old r) }
+    ensures known { length known.new ≡ 128 }
+    ensures values { length values.new ≡ 128 }
+{
+    values[index] = value;
+    known[index] = true;
+}
+
+// And one that has none.
+fn hold_far(far: &mut Vec<Option<u64>>, place: usize, value: u64) -> Result<(), AllocError>
+    requires { place < 65536 }
+    ensures held { OnOk result ((r : ℕ) → held far.new.items r ≡ (if r == place then Some value else held far.old.items r)) }
+    ensures err { OnErr result (far.new.items ≡ far.old.items) }
+{
+    if place >= far.len() {
+        far.resize(place + 1, None)?;
+    }
+    far[place] = Some(value);
+    Ok(())
+}
+
+// And any one.
+#[inline(always)]
+fn hold(
+    known: &mut [bool; 128],
+    values: &mut [u64; 128],
+    far: &mut Vec<Option<u64>>,
+    register: u16,
+    value: u64,
+) -> Result<(), AllocError>
+    requires known { length known.old ≡ 128 }
+    requires values { length values.old ≡ 128 }
+    ensures held { OnOk result ((r : ℕ) → any_held known.new values.new far.new.items r ≡ (if r == register then Some value else any_held known.old values.old far.old.items r)) }
+    ensures err { OnErr result ((known.new ≡ known.old) × (values.new ≡ values.old) × (far.new.items ≡ far.old.items)) }
+    ensures known { length known.new ≡ 128 }
+    ensures values { length values.new ≡ 128 }
+{
+    let index = usize::from(register);
+    if index < NEAR {
+        hold_near(known, values, index, value);
+        return Ok(());
+    }
+    hold_far(far, index - NEAR, value)?;
+    Ok(())
+}
+
+// The end where a register holds a value too.
+fn end_with(end: usize, register: u16) -> usize
+    ensures { result ≡ max end (register + 1) }
+{
+    end.max(usize::from(register) + 1)
 }
 
 impl Registers {
@@ -29,7 +136,10 @@ impl Registers {
         ensures { result ≡ [] }
     {
         Registers {
-            values: Vec::new(alloc),
+            known: [false; 128],
+            values: [0; 128],
+            far: Vec::new(alloc),
+            end: 0,
         }
     }
 
@@ -37,21 +147,24 @@ impl Registers {
     pub fn get(&self, register: u16) -> Option<u64>
         ensures { result ≡ held self.now register }
     {
-        self.values.get(usize::from(register)).copied().flatten()
+        value_of(&self.known, &self.values, &self.far, register)
     }
 
-    /// Lets a register hold a value, in place of an older one. Where memory is refused all registers hold
-    /// what they held.
+    /// Lets a register hold a value, in place of an older one. Takes no memory for one below 128. Where memory is refused all
+    /// registers hold what they held.
     pub fn set(&mut self, register: u16, value: u64) -> Result<(), AllocError>
         ensures set { OnOk result ((r : ℕ) → held self.new r ≡ (if r == register then Some value else held self.old r)) }
         ensures end { OnOk result (length self.new ≡ max (length self.old) (register + 1)) }
         ensures err { OnErr result (self.new ≡ self.old) }
     {
-        let index = usize::from(register);
-        if index >= self.values.len() {
-            self.values.resize(index + 1, None)?;
-        }
-        self.values[index] = Some(value);
+        hold(
+            &mut self.known,
+            &mut self.values,
+            &mut self.far,
+            register,
+            value,
+        )?;
+        self.end = end_with(self.end, register);
         Ok(())
     }
 
@@ -61,6 +174,6 @@ impl Registers {
         ensures most { result ≤ 65536 }
         ensures beyond { (r : ℕ) → result ≤ r → held self.now r ≡ None }
     {
-        self.values.len()
+        self.end
     }
 }

@@ -2,3 +2,5 @@ mod Overlays
 mod JoinedBlocks
 mod Written
 mod FramesAt
+mod Changed
+mod Evaluated

@@ -1,7 +1,8 @@
 -- What a caller in C is told of an index, and of a look-up by it.
-use Rattle.std.specs.Prelude.{◌≡◌, ◌⊎◌, ◌+◌, ◌<◌, ◌≤◌, ℕ, ℤ, pos, List, [], ◌∷◌, ◌++◌, length, drop, map, nat_le, if◌then◌else◌, Option, Some, None}
+use Rattle.std.specs.Prelude.{◌≡◌, ◌⊎◌, ◌+◌, ◌-◌, ◌<◌, ◌≤◌, ℕ, ℤ, pos, List, [], ◌∷◌, ◌++◌, length, drop, map, nat_le, if◌then◌else◌, Option, Some, None}
 use Rattle.dw_num.specs.declared.refusal.Refusal.{Refusal}
 use Rattle.dw_num.specs.declared.target.Target.{Target}
+use Rattle.dw_cfa.specs.Rows.{Rules}
 use Rattle.dw_cfa.specs.declared.rule.CfaRule.{CfaRule}
 use Rattle.dw_cfa.specs.declared.rule.CfaRule.TheVariants as cfa
 use Rattle.dw_cfa.specs.declared.rule.RegRule.{RegRule}
@@ -80,11 +81,11 @@ abbrev pub cfa_offset_of : CfaRule → ℤ
 cfa_offset_of (cfa.Register r n) = n
 cfa_offset_of rule = pos 0
 
--- rules over the front of a buffer, as many as fit
-abbrev pub over : List Rule → List Rule → List Rule
+-- items over the front of a buffer, as many as fit
+abbrev pub over : {A : Type 0} → List A → List A → List A
 over [] old = old
-over (rule ∷ rules) [] = []
-over (rule ∷ rules) (x ∷ old) = rule ∷ over rules old
+over (item ∷ items) [] = []
+over (item ∷ items) (x ∷ old) = item ∷ over items old
 
 abbrev pub no_row : Row
 no_row = record { begin = 0; range = 0; cfa_offset = pos 0; count = 0; cfa_kind = 0; cfa_register = 0; return_register = 0 }
@@ -110,6 +111,10 @@ pub record IsTold (found : Ruled) (row : Row) : Type 0 where
   pub cfa_register : row.cfa_register ≡ cfa_register_of found.row.cfa
   pub cfa_offset : row.cfa_offset ≡ cfa_offset_of found.row.cfa
   pub count : row.count ≡ length found.row.registers
+
+-- the row that tells them
+abbrev pub row_of : Fde → Rules → Row
+row_of f row = record { begin = f.begin; range = f.end - f.begin; cfa_offset = cfa_offset_of row.cfa; count = length row.registers; cfa_kind = cfa_kind_of row.cfa; cfa_register = cfa_register_of row.cfa; return_register = f.return_register }
 
 -- a call tells them with those of the registers
 pub record TellsRow (found : Ruled) (old : List Rule) (t : Told) : Type 0 where

@@ -3,3 +3,4 @@ pub mod CallerFrame
 pub mod FrameAt
 pub mod Expressions
 pub mod Looks
+pub mod Changes

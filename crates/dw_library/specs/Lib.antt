@@ -6,7 +6,9 @@ pub mod Windows
 pub mod Registers
 pub mod CallerFrame
 pub mod FrameAt
+pub mod Evaluation
 pub mod Inner
 pub mod Index
 pub mod Expressions
 pub mod Looks
+pub mod Changes

@@ -13,7 +13,7 @@ use dw_unwind::{Column, Frame as CallerFrame, UnwindError};
 /// No FDE covers the address.
 const NO_FDE: u32 = 5;
 /// An expression has no value; the fault says why, and in which column.
-const NO_VALUE: u32 = 6;
+pub(crate) const NO_VALUE: u32 = 6;
 /// A byte of a saved register is in no window.
 const UNREADABLE: u32 = 7;
 /// A register that is asked for is not given.
@@ -150,7 +150,7 @@ fn fault_of_register(column: Column, kind: u32, index: u64, register: u16) -> Fa
     }
 }
 
-fn fault_of_kind(kind: Kind, index: u64, column: Column) -> Fault
+pub(crate) fn fault_of_kind(kind: Kind, index: u64, column: Column) -> Fault
     ensures { result ≡ fault_of_kind kind index column }
 {
     match kind {

@@ -21,7 +21,7 @@ use crate::caller::{
     Fault, Frame, Held, Stop, no_fault, no_frame, policy_of, put_frame, status_of, told_fault,
 };
 use crate::index::BAD_INDEX;
-use crate::registers::{Register, registers_of};
+use crate::registers::{Register, give_all};
 use crate::windows::{Window, Windows};
 use dw_cfa::RowRoom;
 use dw_eval::{Policy, Registers};
@@ -64,10 +64,11 @@ fn frame_at(
     ensures any { MatchResult result (λ f. IsFrameAt target default bytes.now index.now stop.now (held_in held.now) (Ok f)) (Why target default bytes.now index.now stop.now (held_in held.now)) }
     ensures own { IsTable target bytes.now index.now → MatchResult result (λ f. IsFrame target default bytes.now stop.now (held_in held.now) (Ok f)) (WhyOwn target default bytes.now stop.now (held_in held.now)) }
 {
-    let registers = match registers_of(alloc, held.registers) {
-        Ok(registers) => registers,
+    let mut registers = Registers::new(alloc);
+    match give_all(&mut registers, held.registers) {
+        Ok(()) => {}
         Err(_) => return Err(UnwindAtError::Unwind(UnwindError::OutOfMemory)),
-    };
+    }
     let mut memory = Windows {
         windows: held.windows,
         bytes: held.memory,

@@ -10,7 +10,7 @@ ghost use Rattle.dw_section.specs.Ranges.{IsTable};
 ghost use Rattle.dw_section.specs.declared.fde_range.Ranged.{Ranged as TheRanged};
 ghost use Rattle.dw_section.specs.declared.standing_fde.LookUpError.TheVariants as TheLookUpError;
 ghost use Rattle.dw_library.specs.Answers.{target_of};
-ghost use Rattle.dw_library.specs.Index.{AreEntries, HasSize, IsAnyRow, IsIndexed, IsRow, IsTold, TellsFde, TellsRow, TellsRules, Told, cfa_kind_of, cfa_offset_of, cfa_register_of, no_row, over, rule_of};
+ghost use Rattle.dw_library.specs.Index.{AreEntries, HasSize, IsAnyRow, IsIndexed, IsRow, IsTold, TellsFde, TellsRow, TellsRules, Told, cfa_kind_of, cfa_offset_of, cfa_register_of, no_row, over, row_of, rule_of};
 
 use crate::answer::{
     BAD_ARGUMENT, OK, OUT_OF_MEMORY, REFUSED, Refused, TOO_SHORT, not_refused, target_of, told,
@@ -292,7 +292,8 @@ fn cfa_offset_of(rule: &CfaRule<'_>) -> i64
 pub(crate) fn told_row(fde: Fde, range: u64, rules: &CfaRow<'_>, count: u64) -> Row
     requires range { fde.end ≡ fde.begin + range }
     requires count { count ≡ length rules.now.registers }
-    ensures { IsTold (record { fde = fde; row = rules.now }) result }
+    ensures told { IsTold (record { fde = fde; row = rules.now }) result }
+    ensures exact { result ≡ row_of fde rules.now }
 {
     let cfa = rules.cfa_rule();
     Row {

@@ -8,11 +8,13 @@
 mod acceptance;
 mod answer;
 mod caller;
+mod changes;
+mod evaluation;
 mod expressions;
 mod forms;
 mod frame_at;
 mod index;
 mod looks;
-mod refusal_name;
+mod names;
 mod registers;
 mod windows;

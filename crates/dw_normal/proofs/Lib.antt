@@ -3,7 +3,6 @@ mod RegistersBehind
 mod RulesLeft
 mod Appended
 mod OneByte
-mod Lengths
 mod Passes
 mod Measured
 mod Summed

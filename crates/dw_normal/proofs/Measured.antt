@@ -1,5 +1,5 @@
 -- The room that an FDE leaves is that of what is written.
-use Rattle.dw_normal.proofs.Words.{◌≡◌, ℕ, ◌+◌, ◌*◌, ◌<◌, List, ◌++◌, length, None, ap, ◌∙◌, arith, length-append, Target, byte_count, Instr, Rules, Changing, difference, later_changes, program_bytes, fde, entry_bytes, missing, fde_length}
+use Rattle.dw_normal.proofs.Words.{◌≡◌, ℕ, ◌+◌, ◌*◌, ◌<◌, List, ◌++◌, length, None, ap, ◌∙◌, arith, [], length-append, Target, byte_count, Instr, Rules, Changing, difference, later_changes, program_bytes, fde, entry_bytes, missing, fde_length}
 use Rattle.dw_normal.proofs.Words.{FdeLeaves, later_bytes, shown_row}
 use Rattle.dw_normal.proofs.Passes.{program_more}
 
@@ -19,3 +19,8 @@ module _ (t : Target) (shared : Rules) (begin room : ℕ) (changes : Changing) w
   -- what leads to the first row takes more
   pub first_over : room < length (program_bytes t first) → FdeLeaves t shared begin changes room None
   first_over h = λ c n. let long = fde_long t c begin n both (program_bytes t both) in omega (arith, both_length, long, h)
+
+-- two instructions that are written into a buffer that holds nothing
+pub two_long : (none mid out moved bytes : List ℕ) → none ≡ [] → mid ≡ none ++ moved → out ≡ mid ++ bytes → length out ≡ length moved + length bytes
+two_long none mid out moved bytes empty one two =
+    ap length (two ∙ ap (λ (l : List ℕ). l ++ bytes) (one ∙ ap (λ (l : List ℕ). l ++ moved) empty)) ∙ length-append moved bytes

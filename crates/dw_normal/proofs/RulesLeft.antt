@@ -1,17 +1,12 @@
--- What is left of a program: the room that it leaves, and what it is put behind.
-use Rattle.dw_normal.proofs.Words.{◌≡◌, ℕ, ◌+◌, ◌<◌, List, [], ◌∷◌, ◌++◌, length, Option, None, sym, ap, ◌∙◌, subst, arith, append_assoc, AllByRecursion, flat_map, append-nil, length-append, Target, Instr, Rules, either, difference}
-use Rattle.dw_normal.proofs.Words.{cfa_difference, rule_difference, InstrFits, instr_bytes, program_bytes, Leaves, rules_from}
+-- What is left of a program, and what it is put behind.
+use Rattle.dw_normal.proofs.Words.{◌≡◌, ℕ, ◌+◌, ◌<◌, List, [], ◌∷◌, ◌++◌, length, sym, ap, ◌∙◌, subst, arith, append_assoc, AllByRecursion, flat_map, append-nil, Target, Instr, Rules, either, difference}
+use Rattle.dw_normal.proofs.Words.{cfa_difference, rule_difference, InstrFits, instr_bytes, program_bytes, rules_from}
 use Rattle.dw_normal.proofs.Passes.{program_more, both_halves}
 use Rattle.dw_normal.proofs.RegistersBehind.{from_first}
 
 -- what is put before a program's rest
 pub record PutBefore (t : Target) (all rest : List Instr) (before now : List ℕ) : Type 0 where
   pub same : now ++ program_bytes t rest ≡ before ++ program_bytes t all
-  pub fits : AllByRecursion (InstrFits t) rest
-
--- the room that is left for it
-pub record RoomLeft (t : Target) (all rest : List Instr) (room left : ℕ) : Type 0 where
-  pub same : left + length (program_bytes t all) ≡ room + length (program_bytes t rest)
   pub fits : AllByRecursion (InstrFits t) rest
 
 -- ---- what leads from one row to another: to its rule of the CFA, and then to those of its registers
@@ -39,11 +34,6 @@ module _ (t : Target) (shared old new : Rules) where
   pub put_starts : {out mid : List ℕ} → mid ≡ out ++ program_bytes t cfa → AllByRecursion (InstrFits t) (difference shared old new) → PutBefore t (difference shared old new) rules out mid
   put_starts {out} {mid} is fits = record { same = put_behind out mid is; fits = rules_fit fits }
 
-  pub room_starts : {room left : ℕ} → left + length (program_bytes t cfa) ≡ room → AllByRecursion (InstrFits t) (difference shared old new) → RoomLeft t (difference shared old new) rules room left
-  room_starts is fits =
-      let both = ap length bytes_divided ∙ length-append (program_bytes t cfa) (program_bytes t rules) in
-      record { same = omega (arith, both, is); fits = rules_fit fits }
-
 -- ---- an instruction more
 
 pub shorter : {i : Instr} {rest more : List Instr} → rest ≡ i ∷ more → length more < length rest
@@ -60,19 +50,3 @@ put_next {t = t} {more = more} {i = i} {now = now} h one is = record {
 
 pub put_ends : {t : Target} {all rest : List Instr} {before now : List ℕ} → PutBefore t all rest before now → rest ≡ [] → now ≡ before ++ program_bytes t all
 put_ends {t = t} {now = now} h none = sym (append-nil now) ∙ ap (λ (l : List Instr). now ++ program_bytes t l) (sym none) ∙ h.same
-
-pub room_fits : {t : Target} {all rest more : List Instr} {i : Instr} {room left : ℕ} → RoomLeft t all rest room left → rest ≡ i ∷ more → InstrFits t i
-room_fits {t = t} h one = (subst (AllByRecursion (InstrFits t)) one h.fits).0
-
-module _ {t : Target} {all rest more : List Instr} {i : Instr} {room left len : ℕ} (h : RoomLeft t all rest room left) (one : rest ≡ i ∷ more) (is : len ≡ length (instr_bytes t i)) where
-  long : length (program_bytes t rest) ≡ length (instr_bytes t i) + length (program_bytes t more)
-  long = ap (λ (l : List Instr). length (program_bytes t l)) one ∙ length-append (instr_bytes t i) (program_bytes t more)
-
-  pub room_over : {r : Option ℕ} → left < len → r ≡ None → Leaves room (length (program_bytes t all)) r
-  room_over over none = let so = h.same in subst (Leaves room (length (program_bytes t all))) (sym none) (omega (arith, so, long, is, over))
-
-  pub room_next : {next : ℕ} → next + len ≡ left → RoomLeft t all more room next
-  room_next less = let so = h.same in record { same = omega (arith, so, long, is, less); fits = (subst (AllByRecursion (InstrFits t)) one h.fits).1 }
-
-pub room_ends : {t : Target} {all rest : List Instr} {room left : ℕ} → RoomLeft t all rest room left → rest ≡ [] → left + length (program_bytes t all) ≡ room
-room_ends {t = t} h none = let so = h.same in let empty = ap (λ (l : List Instr). length (program_bytes t l)) none in omega (arith, so, empty)

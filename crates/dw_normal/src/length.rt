@@ -21,25 +21,28 @@ use std::collections::BTreeMap;
 
 // What is left of room behind the CIEs with these initial rows.
 fn behind_cies<'a>(
-    alloc: Global,
     room: u128,
+    out: &mut Vec<u8>,
     rows: &BTreeMap<u16, Row<'a>>,
     target: Target,
-) -> Option<u128>
-    requires room { room < 2 ^ 64 }
-    requires fits { AllByRecursion (λ (entry : ℕ × Rules). AllByRecursion (InstrFits target) (cie_instrs entry.1)) rows.now.entries }
-    ensures { Leaves room (length (cies_bytes target rows.now.entries)) result }
+) -> Result<Option<u128>, AllocError>
+    requires { AllByRecursion (λ (entry : ℕ × Rules). AllByRecursion (InstrFits target) (cie_instrs entry.1)) rows.now.entries }
+    ensures { IfOk result (Leaves room (length (cies_bytes target rows.now.entries))) }
 {
     let mut left = room;
     'rows: for (register, initial) in rows.iter() {
-        left = behind_cie(alloc, left, *register, initial, target)?;
+        let Some(rest) = behind_cie(left, out, *register, initial, target)? else {
+            return Ok(None);
+        };
+        left = rest;
     }
-    Some(left)
+    Ok(Some(left))
 }
 
 // What is left of room behind an FDE.
 fn behind_member<'r, 'a>(
     room: u128,
+    out: &mut Vec<u8>,
     begun: &mut Begun<'r, 'a>,
     rows: &'r BTreeMap<u16, Row<'a>>,
     table: &Table<'a>,
@@ -58,6 +61,7 @@ fn behind_member<'r, 'a>(
     let (listed, shared) = (begun.fde, begun.shared);
     behind_fde(
         room,
+        out,
         &mut begun.changes,
         &begun.apart,
         shared,
@@ -69,6 +73,7 @@ fn behind_member<'r, 'a>(
 // What is left of room behind all FDEs, one after another in the room that is lent.
 fn behind_all<'r, 'a>(
     room: u128,
+    out: &mut Vec<u8>,
     begun: &mut Begun<'r, 'a>,
     rows: &'r BTreeMap<u16, Row<'a>>,
     table: &Table<'a>,
@@ -84,7 +89,7 @@ fn behind_all<'r, 'a>(
     table.accepted();
     let mut left = room;
     'fdes: for place in 0..count {
-        let Some(rest) = behind_member(left, begun, rows, table, FdeRef { place })? else {
+        let Some(rest) = behind_member(left, out, begun, rows, table, FdeRef { place })? else {
             return Ok(None);
         };
         left = rest;
@@ -94,8 +99,8 @@ fn behind_all<'r, 'a>(
 
 // What is left of room behind all FDEs, of which there may be none.
 fn behind_fdes<'a>(
-    alloc: Global,
     room: u128,
+    out: &mut Vec<u8>,
     rows: &BTreeMap<u16, Row<'a>>,
     table: &Table<'a>,
 ) -> Result<Option<u128>, AllocError>
@@ -108,11 +113,12 @@ fn behind_fdes<'a>(
     if count == 0 {
         return Ok(Some(room));
     }
-    behind_all(room, &mut room_for(alloc, rows, table), rows, table, count)
+    let mut begun = room_for(*out.allocator(), rows, table);
+    behind_all(room, out, &mut begun, rows, table, count)
 }
 
 /// How many bytes the normal form of a table has, or none where that is more than `cap`. The rows are the initial ones of its
-/// groups. Want of memory is that of a row in an FDE's program.
+/// groups.
 pub(crate) fn measured<'a>(
     alloc: Global,
     table: &Table<'a>,
@@ -126,10 +132,11 @@ pub(crate) fn measured<'a>(
     table.accepted();
     let target = table.target();
     let room = u128::from(cap);
-    let Some(left) = behind_cies(alloc, room, rows, target) else {
+    let mut out = Vec::new(alloc);
+    let Some(left) = behind_cies(room, &mut out, rows, target)? else {
         return Ok(None);
     };
-    let Some(rest) = behind_fdes(alloc, left, rows, table)? else {
+    let Some(rest) = behind_fdes(left, &mut out, rows, table)? else {
         return Ok(None);
     };
     Ok(Some((room - rest) as u64))

@@ -26,7 +26,6 @@ mod program;
 mod restored;
 mod room;
 mod sink;
-mod size;
 mod tape;
 mod twins;
 

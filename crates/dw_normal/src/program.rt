@@ -185,10 +185,15 @@ pub(crate) fn push_far_move(
     push_set_loc(out, to as u64, target)
 }
 
-// Appends what moves the location, mostly by a few bytes.
+/// Appends what moves the location, mostly by a few bytes.
 #[inline(always)]
 #[tactic(auto, unfolding(dw_canon::specs::Spelling::instr_bytes))]
-fn push_move(out: &mut Vec<u8>, from: u128, to: u128, target: Target) -> Result<(), AllocError>
+pub(crate) fn push_move(
+    out: &mut Vec<u8>,
+    from: u128,
+    to: u128,
+    target: Target,
+) -> Result<(), AllocError>
     requires rises { from < to }
     requires in_space { to < address_limit target.size }
     ensures { OnOk result (out.new.items ≡ out.old.items ++ instr_bytes target (move from to)) }
@@ -218,9 +223,9 @@ pub(crate) fn push_first<'a>(
     push_difference(out, shared, shared, first, &apart.differences(), target)
 }
 
-// Appends what leads to the row that is shown from the one before it.
+/// Appends what leads to the row that is shown from the one before it.
 #[inline(always)]
-fn push_change<'a>(
+pub(crate) fn push_change<'a>(
     out: &mut Vec<u8>,
     shared: &Row<'a>,
     changes: &Changes<'a>,

@@ -23,6 +23,7 @@ pub fn are_bytes(bytes: &[u8])
     let _ = bytes;
 }
 
+#[inline(always)]
 fn little_in(bytes: &[u8], n: usize) -> u64
     requires some { 1 ≤ n }
     requires most { n ≤ 8 }
@@ -30,12 +31,15 @@ fn little_in(bytes: &[u8], n: usize) -> u64
     ensures { result ≡ little_number n bytes.now }
 {
     match n {
+        1 => u64::from(bytes[0]),
+        2 => u64::from(LittleEndian::read_u16(bytes)),
         4 => u64::from(LittleEndian::read_u32(bytes)),
         8 => LittleEndian::read_u64(bytes),
         _ => LittleEndian::read_uint(bytes, n),
     }
 }
 
+#[inline(always)]
 fn big_in(bytes: &[u8], n: usize) -> u64
     requires some { 1 ≤ n }
     requires most { n ≤ 8 }
@@ -43,6 +47,8 @@ fn big_in(bytes: &[u8], n: usize) -> u64
     ensures { result ≡ big_number n bytes.now }
 {
     match n {
+        1 => u64::from(bytes[0]),
+        2 => u64::from(BigEndian::read_u16(bytes)),
         4 => u64::from(BigEndian::read_u32(bytes)),
         8 => BigEndian::read_u64(bytes),
         _ => BigEndian::read_uint(bytes, n),
@@ -50,6 +56,7 @@ fn big_in(bytes: &[u8], n: usize) -> u64
 }
 
 // The number that the first n bytes spell.
+#[inline(always)]
 fn number_in(order: Order, bytes: &[u8], n: usize) -> u64
     requires some { 1 ≤ n }
     requires most { n ≤ 8 }
@@ -69,19 +76,20 @@ fn number_in(order: Order, bytes: &[u8], n: usize) -> u64
 #[derive(Drop)]
 pub struct Cursor<'a> {
     bytes: &'a [u8],
-    at: u64,
+    // The place of the end, which no read changes.
+    end: u64,
     target: Target,
 }
 
 impl<'a> Model for Cursor<'a> {
-    ghost use Rattle.std.specs.Prelude.{◌+◌, ◌<◌, ◌^◌, length};
+    ghost use Rattle.std.specs.Prelude.{◌-◌, ◌<◌, ◌≤◌, ◌^◌, length};
     ghost use Rattle.dw_num.specs.Input.{Input};
 
     ghost Value = { Input };
 
-    ghost view = { λ c. record { at = c.at; bytes = c.bytes.now; target = c.target } };
+    ghost view = { λ c. record { at = c.end - length c.bytes.now; bytes = c.bytes.now; target = c.target } };
 
-    ghost invariant = { λ c. c.at + length c.bytes.now < 2 ^ 63 };
+    ghost invariant = { λ c. (length c.bytes.now ≤ c.end) × (c.end < 2 ^ 63) };
 }
 
 impl<'a> Cursor<'a> {
@@ -92,20 +100,22 @@ impl<'a> Cursor<'a> {
     {
         Cursor {
             bytes,
-            at: base,
+            end: base + bytes.len() as u64,
             target,
         }
     }
 
     /// The place of the next byte: the base, and what was read.
+    #[inline(always)]
     pub fn at(&self) -> u64
         ensures place { result ≡ self.now.at }
         ensures bounded { self.now.at + length self.now.bytes < 2 ^ 63 }
     {
-        self.at
+        self.end - self.bytes.len() as u64
     }
 
     /// How many bytes are left.
+    #[inline(always)]
     pub fn left(&self) -> usize
         ensures { result ≡ length self.now.bytes }
     {
@@ -113,6 +123,7 @@ impl<'a> Cursor<'a> {
     }
 
     /// What the section is for.
+    #[inline(always)]
     pub fn target(&self) -> Target
         ensures { result ≡ self.now.target }
     {
@@ -120,6 +131,7 @@ impl<'a> Cursor<'a> {
     }
 
     /// All that is left.
+    #[inline(always)]
     pub fn rest(&self) -> &'a [u8]
         ensures { result.now ≡ self.now.bytes }
     {
@@ -128,6 +140,7 @@ impl<'a> Cursor<'a> {
 
     /// The next `n` bytes. `Truncated` at the first of them where fewer are left.
     #[tactic(auto, unfolding(crate::specs::Front::take_at))]
+    #[inline(always)]
     pub fn take(&mut self, n: usize) -> Result<&'a [u8], Refusal>
         ensures found { IfOk result (λ s. (length s.now ≡ n) × Takes self.old s.now self.new) }
         ensures exact { Reads (λ s. s.now) result self.old (take_at n self.old) self.new }
@@ -137,11 +150,11 @@ impl<'a> Cursor<'a> {
         }
         let (front, rest) = self.bytes.split_at(n);
         self.bytes = rest;
-        self.at += n as u64;
         Ok(front)
     }
 
     #[tactic(auto, unfolding(crate::specs::Front::fixed_at))]
+    #[inline(always)]
     fn read_fixed(&mut self, n: usize) -> Result<u64, Refusal>
         requires { IsWidth n }
         ensures { Reads (λ v. v) result self.old (fixed_at n self.old) self.new }
@@ -156,6 +169,7 @@ impl<'a> Cursor<'a> {
 
     /// The next byte. `Truncated` at its place where there is none.
     #[tactic(auto, using(crate::proofs::Lent::FixedLaws::one_byte), unfolding(crate::specs::Front::fixed_at, crate::specs::Front::take_at))]
+    #[inline(always)]
     pub fn byte(&mut self) -> Result<u8, Refusal>
         ensures found { IfOk result (λ b. Takes self.old (b ∷ []) self.new) }
         ensures exact { Reads (λ b. b) result self.old (fixed_at 1 self.old) self.new }
@@ -166,6 +180,7 @@ impl<'a> Cursor<'a> {
 
     /// The number that the next `n` bytes are, 1, 2, 4 or 8 of them, in the target's order (7.5). `Truncated`
     /// at the first of them where fewer are left.
+    #[inline(always)]
     pub fn fixed(&mut self, n: usize) -> Result<u64, Refusal>
         requires { IsWidth n }
         ensures found { IfOk result (λ v. (b : List ℕ) × Fixed self.old.target.order n v b × Takes self.old b self.new) }
@@ -177,15 +192,16 @@ impl<'a> Cursor<'a> {
     }
 
     // Goes on by bytes that are there.
+    #[inline(always)]
     fn pass(&mut self, n: usize)
         requires { n ≤ length self.old.bytes }
         ensures { self.new ≡ behind n self.old }
     {
         self.bytes = &self.bytes[n..];
-        self.at += n as u64;
     }
 
     #[tactic(auto, unfolding(crate::specs::Front::uleb_at))]
+    #[inline(always)]
     fn read_uleb(&mut self) -> Result<u64, Refusal>
         ensures { Reads (λ v. v) result self.old (uleb_at self.old) self.new }
     {
@@ -200,6 +216,7 @@ impl<'a> Cursor<'a> {
     }
 
     #[tactic(auto, unfolding(crate::specs::Front::address_at))]
+    #[inline(always)]
     fn read_address(&mut self) -> Result<u64, Refusal>
         ensures { Reads (λ v. v) result self.old (address_at self.old) self.new }
     {
@@ -210,6 +227,7 @@ impl<'a> Cursor<'a> {
     }
 
     /// An address, as wide as the target's. `Truncated` at its first byte where fewer bytes are left.
+    #[inline(always)]
     pub fn address(&mut self) -> Result<u64, Refusal>
         ensures found { IfOk result (λ v. (b : List ℕ) × Address self.old.target v b × Takes self.old b self.new) }
         ensures only { (v : ℕ) (b rest : List ℕ) → Address self.old.target v b → self.old.bytes ≡ b ++ rest → result ≡ Ok v }
@@ -219,13 +237,18 @@ impl<'a> Cursor<'a> {
         self.read_address()
     }
 
+    #[inline(always)]
     fn refuse(&self, code: Code) -> Refusal
         ensures { result ≡ record { code = code; at = self.now.at } }
     {
-        Refusal { code, at: self.at }
+        Refusal {
+            code,
+            at: self.at(),
+        }
     }
 
     #[tactic(auto, unfolding(crate::specs::Front::unit_length_at))]
+    #[inline(always)]
     fn read_unit_length(&mut self) -> Result<UnitLength, Refusal>
         ensures { Reads (λ v. v) result self.old (unit_length_at self.old) self.new }
     {
@@ -256,6 +279,7 @@ impl<'a> Cursor<'a> {
 
     /// The length at the front of an entry (7.4). `Truncated` at its first byte where it runs out, also behind
     /// the four bytes that announce the 64-bit form; `ReservedLength` there from 0xfffffff0 to 0xfffffffe.
+    #[inline(always)]
     pub fn unit_length(&mut self) -> Result<UnitLength, Refusal>
         ensures found { IfOk result (λ u. (b : List ℕ) × SpellsLength self.old.target.order u b × Takes self.old b self.new) }
         ensures only { (u : UnitLength) (b rest : List ℕ) → SpellsLength self.old.target.order u b → self.old.bytes ≡ b ++ rest → result ≡ Ok u }
@@ -267,6 +291,7 @@ impl<'a> Cursor<'a> {
 
     /// An unsigned LEB128 number, of any number of bytes (7.6). `Truncated` at its first byte where it does
     /// not end, `NumberTooLarge` there where it does not fit 64 bits.
+    #[inline(always)]
     pub fn uleb(&mut self) -> Result<u64, Refusal>
         ensures found { IfOk result (λ v. (b : List ℕ) × Uleb v b × Takes self.old b self.new) }
         ensures only { (v : ℕ) (b rest : List ℕ) → Uleb v b → self.old.bytes ≡ b ++ rest → result ≡ Ok v }
@@ -277,6 +302,7 @@ impl<'a> Cursor<'a> {
     }
 
     #[tactic(auto, unfolding(crate::specs::Front::register_at, crate::specs::Front::uleb_at))]
+    #[inline(always)]
     fn read_register(&mut self) -> Result<u16, Refusal>
         ensures { Reads (λ r. r) result self.old (register_at self.old) self.new }
     {
@@ -295,6 +321,7 @@ impl<'a> Cursor<'a> {
 
     /// The number of a register, 0 to 65,535, as an unsigned LEB128 number. `RegisterTooLarge` at its first
     /// byte above that, and the faults of `uleb`.
+    #[inline(always)]
     pub fn register(&mut self) -> Result<u16, Refusal>
         ensures found { IfOk result (λ r. (b : List ℕ) × Register r b × Takes self.old b self.new) }
         ensures only { (r : ℕ) (b rest : List ℕ) → Register r b → self.old.bytes ≡ b ++ rest → result ≡ Ok r }
@@ -305,6 +332,7 @@ impl<'a> Cursor<'a> {
     }
 
     #[tactic(auto, unfolding(crate::specs::Front::sleb_at))]
+    #[inline(always)]
     fn read_sleb(&mut self) -> Result<i64, Refusal>
         ensures { Reads (λ v. v) result self.old (sleb_at self.old) self.new }
     {
@@ -320,6 +348,7 @@ impl<'a> Cursor<'a> {
 
     /// A signed LEB128 number, of any number of bytes (7.6). `Truncated` at its first byte where it does not
     /// end, `NumberTooLarge` there where it does not fit 64 signed bits.
+    #[inline(always)]
     pub fn sleb(&mut self) -> Result<i64, Refusal>
         ensures found { IfOk result (λ v. (b : List ℕ) × Sleb v b × Takes self.old b self.new) }
         ensures only { (v : ℤ) (b rest : List ℕ) → Sleb v b → self.old.bytes ≡ b ++ rest → result ≡ Ok v }

@@ -69,8 +69,9 @@ fn scan_long_uleb(bytes: &[u8]) -> UlebScan
     UlebScan::Endless
 }
 
-#[inline(always)]
-pub(crate) fn scan_uleb(bytes: &[u8]) -> UlebScan
+// A number of any number of bytes. Out of line, since it mostly has one.
+#[inline(never)]
+fn scan_any_uleb(bytes: &[u8]) -> UlebScan
     ensures { IsUlebScan bytes.now result }
 {
     let mut total = 0u64;
@@ -84,6 +85,20 @@ pub(crate) fn scan_uleb(bytes: &[u8]) -> UlebScan
         }
     }
     UlebScan::Endless
+}
+
+/// The number at the front.
+#[inline(always)]
+pub(crate) fn scan_uleb(bytes: &[u8]) -> UlebScan
+    ensures { IsUlebScan bytes.now result }
+{
+    if bytes.len() > 0 {
+        let byte = bytes[0];
+        if byte < 128 {
+            return UlebScan::Number(u64::from(byte), 1);
+        }
+    }
+    scan_any_uleb(bytes)
 }
 
 // How many bytes the number at the front has.
@@ -148,7 +163,9 @@ fn signed_sum(spelling: &[u8]) -> Option<i64>
     }
 }
 
-pub(crate) fn scan_sleb(bytes: &[u8]) -> SlebScan
+// A signed number of any number of bytes.
+#[inline(never)]
+fn scan_any_sleb(bytes: &[u8]) -> SlebScan
     ensures { IsSlebScan bytes.now result }
 {
     let Some(len) = count_bytes(bytes) else {
@@ -158,4 +175,21 @@ pub(crate) fn scan_sleb(bytes: &[u8]) -> SlebScan
         Some(value) => SlebScan::Number(value, len),
         None => SlebScan::TooLarge,
     }
+}
+
+/// The signed number at the front.
+#[inline(always)]
+pub(crate) fn scan_sleb(bytes: &[u8]) -> SlebScan
+    ensures { IsSlebScan bytes.now result }
+{
+    if bytes.len() > 0 {
+        let byte = bytes[0];
+        if byte < 64 {
+            return SlebScan::Number(i64::from(byte), 1);
+        }
+        if byte < 128 {
+            return SlebScan::Number(i64::from(byte) - 128, 1);
+        }
+    }
+    scan_any_sleb(bytes)
 }

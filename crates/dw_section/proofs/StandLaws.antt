@@ -2,7 +2,7 @@
 use Rattle.dw_section.proofs.Words.{◌≡◌, ℕ, ◌+◌, ◌-◌, ◌≤◌, true, false, List, [], ◌∷◌, ◌++◌, length, take, drop, Some, Err, refl, sym, ap, subst, ◌∙◌, append_assoc, arith, inl, inr, AllByRecursion, Form, Order, Target, Refusal, Input}
 use Rattle.dw_section.proofs.Words.{Takes, Span, length_bytes, Kind, Item, gap, entry, IsItem, Piece, item_bytes, piece_of, pieces, is_cie, all_bytes, CieFields, FdeFields, FoundFde, item_at, address_limit, is_among, CieHead, FdeHead, Head}
 use Rattle.dw_section.proofs.Words.{Has, Headers, IsCie, IsFde, cie, fde, cie_head, cie_at, fde_at, IsFound, found_cie, found_head, Returns, Range, cie_places, IsAmong, StandsIn, AreJoined, FoundStands, StandsAt, Pieces, eq-eqb, eqb_tells}
-use Rattle.dw_section.proofs.Words.{length-append, drop_at, length-drop, length-take-le, take-append-drop, take_all, FdeStands, is_fde, some_is}
+use Rattle.dw_section.proofs.Words.{length-append, drop_at, length-drop, length-take-le, take-append-drop, take_all, FdeEntry, FdeStands, Initial, entry_in, initial_in, some_is}
 use Rattle.dw_section.specs.declared.entry.Kind.TheVariants as kind
 use Rattle.dw_section.proofs.Lent.FieldTable.{fde_said}
 use Rattle.dw_section.proofs.Lent.HeaderLaws.{has_one, cie_at_again, fde_at_again}
@@ -96,11 +96,14 @@ cie_never target p h r has stuck = let q = cie_from target [] p h has in let a =
 among_one : (n c : ℕ) → is_among n (c ∷ []) ≡ true → n ≡ c
 among_one n c h = elim (eqb_tells c n) [ inl is ↦ sym is.1 | inr not ↦ (let e = not.0 in let bad = rw e at h in absurd cc) ]
 
-pub stands_joined : (target : Target) (s : List ℕ) (own named : Piece) (pointer : ℕ) (h k : Head) (e : FoundFde) → StandsIn target.order s own → StandsIn target.order s named → named.at ≡ pointer
-    → Has target (pointer ∷ []) own h → Has target [] named k → AreJoined h k e → (e.at ≡ own.at) × FoundStands target s e
-stands_joined target s own named pointer h k e own-stands named-stands at has named-has (form, cie_form, place, own-is, named-is) =
-    let head = subst (Has target (pointer ∷ []) own) own-is has in
-    let named-head = subst (Has target [] named) named-is named-has in
+pub stands_joined : (target : Target) (s : List ℕ) (own named : Piece) (pointer : ℕ) (h : FdeEntry) (k : Initial) (e : FoundFde) → StandsIn target.order s own → StandsIn target.order s named → named.at ≡ pointer
+    → Has target (pointer ∷ []) own (entry_in own.form h) → Has target [] named (initial_in named.form k) → AreJoined h k e → (e.at ≡ own.at) × FoundStands target s e
+stands_joined target s own named pointer h k e own-stands named-stands at has named-has joined =
+    let form = own.form in
+    let cie_form = named.form in
+    let place = k.at in
+    let head = subst (Has target (pointer ∷ []) own) (joined form cie_form).0 has in
+    let named-head = subst (Has target [] named) (joined form cie_form).1 named-has in
     let fields = fde_from target (pointer ∷ []) own (found_head form e) head in
     let names : e.cie_at ≡ pointer = ap (λ (x : FdeHead). x.cie_at) fields.3 ∙ among_one fields.0.cie_at pointer (fde_said target (pointer ∷ []) own.form fields.0 fields.2.1.spelling fields.2.1.spells).names_cie in
     let same : place ≡ e.cie_at = has_at target [] named (cie (found_cie cie_form place e.return_register e)) named-head ∙ at ∙ sym names in (
@@ -126,14 +129,6 @@ stands_in_space target s e (form, cie_form, w) =
     let q = fde_from target (e.cie_at ∷ []) w.piece (found_head form e) w.own_is in
     let said = fde_said target (e.cie_at ∷ []) w.piece.form q.0 q.2.1.spelling q.2.1.spells in
     omega (arith, said.in_space, ap (λ (x : FdeHead). x.begin) q.3, ap (λ (x : FdeHead). x.range) q.3)
-
-pub fde_is : (target : Target) (places : List ℕ) (p : Piece) (h : Head) → Has target places p h → p.kind ≡ kind.Fde → is_fde h ≡ true
-fde_is target places p h (inl c) k = let a = c.2.0 in absurd cc
-fde_is target places p h (inr c) k = ap is_fde c.3
-
-pub cie_is : (target : Target) (places : List ℕ) (p : Piece) (h : Head) → Has target places p h → p.kind ≡ kind.Cie → is_fde h ≡ false
-cie_is target places p h (inl c) k = ap is_fde c.3
-cie_is target places p h (inr c) k = let a = c.2.0 in absurd cc
 
 -- a slice from a place on
 pub rest_is : (i : Input) (target : Target) (s : List ℕ) (at : ℕ) → at ≤ length s → i ≡ record { at = at; bytes = take (length s - at) (drop at s); target = target } → i ≡ record { at = at; bytes = drop at s; target = target }

@@ -69,18 +69,18 @@ pub use Rattle.dw_section.specs.Inner.Counted.{IsProgram, StartsOf, moves_in}
 pub use Rattle.dw_section.specs.Inner.Fields.{Passes, behind_id, fields_at}
 pub use Rattle.dw_section.specs.Inner.Heads.{FdeFits, HasBytes, HeadsRise, cie_at_of, cie_ats, head_at, head_program}
 pub use Rattle.dw_section.specs.Inner.Index.{AreJudged, EndsAt, IsFound, NamesCie, PlacesRise, SameMembers, found_cie, found_head, led_to}
-pub use Rattle.dw_section.specs.Inner.Initials.{AreInitials, FirstLacking, HasOrLacks, IsBehind, IsInitial, IsLong, IsRunner, initial_head, or_place, place_of}
+pub use Rattle.dw_section.specs.Inner.Initials.{AreInitials, FirstLacking, HasOrLacks, IsBehind, IsInitial, IsLong, IsRunner, or_place, place_of}
 pub use Rattle.dw_section.specs.Inner.Left.{AreHeaders, HeadsLeft, PiecesLeft}
 pub use Rattle.dw_section.specs.Inner.Lookup.{AreRowsOf, IsFoundIn, LedBy, LedSo, RunsSo, fde_of}
 pub use Rattle.dw_section.specs.Inner.Meanings.{row_among}
 pub use Rattle.dw_section.specs.Inner.NarrowRow.{ChangesKeep, NarrowedBy}
 unfoldable pub use Rattle.dw_section.specs.Inner.PieceHeader.{cie_at, fde_at}
-pub use Rattle.dw_section.specs.Inner.PieceHeader.{cie_of_piece, contents_of, fde_of_piece, program_of}
+pub use Rattle.dw_section.specs.Inner.PieceHeader.{cie_of_piece, contents_of, entry_in, fde_of_piece, initial_head, initial_in, program_of}
 pub use Rattle.dw_section.specs.Inner.Pieces.{piece_in}
 pub use Rattle.dw_section.specs.Inner.Places.{RiseBy, Rises}
 pub use Rattle.dw_section.specs.Inner.Shown.{shown_if}
 pub use Rattle.dw_section.specs.Inner.Sound.{AllStep, ChangeFits, SoundSection, Steps}
-pub use Rattle.dw_section.specs.Inner.StandingFde.{AreJoined, FoundStands, LiesInPrograms, StandsAt, is_fde}
+pub use Rattle.dw_section.specs.Inner.StandingFde.{AreJoined, FoundStands, LiesInPrograms, StandsAt}
 pub use Rattle.dw_section.specs.Laws.{ChangesMean, LastChangeRules, RulesFit}
 pub use Rattle.dw_section.specs.Lookups.{Finding, LooksUp}
 pub use Rattle.dw_section.specs.Meaning.{AreFdes, ChangesOf, Covers, FdeSays, HasLengths, Lists, NoneCovers, Returns, RowStarts, RulesAt, Starts, total}
@@ -102,7 +102,8 @@ pub use Rattle.dw_section.specs.declared.fields.FdeFields.{FdeFields}
 pub use Rattle.dw_section.specs.declared.listed_fde.FoundFde.{FoundFde}
 pub use Rattle.dw_section.specs.declared.lookup.Fde.{Fde}
 pub use Rattle.dw_section.specs.declared.opening.CieRow.{CieRow}
-pub use Rattle.dw_section.specs.declared.program.Initial.{Initial}
+pub use Rattle.dw_section.specs.declared.header.FdeEntry.{FdeEntry}
+pub use Rattle.dw_section.specs.declared.header.Initial.{Initial}
 pub use Rattle.std.proofs.Common.{Bool, Decides, Equal, Err, Greater, IfErr, IfOk, IsErrAnd, IsTrue, List, MatchBool, MatchOption, MatchResult, None, Ok, OnErr, OnOk, Option, Result, Some, [], add-one, add-zero, ap, append_assoc, arith, cond, count_by, drop, eqb, false, filter, get_or, get_or-append-add, inl, inr, is_lt, is_ok, le-ltb, leb-false, leb-true, length, length-drop, map, mul-zero, nat_cmp, nat_eq, nat_le, nat_lt, not, position, refl, replicate, rules, set, slice_get, subst, suc, sym, take, true, w64, zero, zero-add, ℕ, ◌&&◌, ◌*◌, ◌++◌, ◌+◌, ◌-◌, ◌<◌, ◌==◌, ◌^◌, ◌∙◌, ◌∷◌, ◌≡◌, ◌≤◌, ◌⊎◌}
 pub use Rattle.std.proofs.lemmas.Bool.{cases_Bool, cases_lt, cases_order, cond_both, eq-eqb, le-leb, lt-leb, lt-ltb, ltb-false, ltb-true, ne_eqb}
 pub use Rattle.std.proofs.lemmas.Bool.Decides.{Decides-and, Decides-ltb, Decides-not, eqb_tells, leb_tells, nat_tests}

@@ -23,4 +23,3 @@ pub mod Table
 pub mod StandingFde
 pub mod Sound
 pub mod Opening
-pub mod ShortEntry

@@ -1,6 +1,6 @@
 //! Cutting a section into its entries (6.4.1, 7.4).
 
-ghost use Rattle.std.specs.Prelude.{◌≡◌, ℕ, ◌+◌, ◌<◌, ◌≤◌, ◌==◌, List, length, MatchResult, IfOk, IfErr, IfSome};
+ghost use Rattle.std.specs.Prelude.{◌≡◌, ℕ, ◌+◌, ◌<◌, ◌≤◌, ◌==◌, List, length, take, MatchResult, IfOk, IfErr, IfSome};
 ghost use Rattle.std.specs.List.{list_all};
 ghost use Rattle.dw_num.specs.declared.target.Order.{Order};
 ghost use Rattle.dw_num.specs.declared.target.Target.{Target};
@@ -69,17 +69,31 @@ pub(crate) fn width_of(form: Form) -> usize
     }
 }
 
+#[inline(always)]
 fn all_ones(bytes: &[u8]) -> bool
     ensures { result ≡ list_all (λ b. b == 255) bytes.now }
 {
     bytes.iter().all(|b| *b == 0xff)
 }
 
+// Whether an entry begins with a CIE_id. By widths that are known where this is compiled, so that it is no loop.
+#[inline(always)]
+fn has_cie_id(form: Form, body: &[u8]) -> bool
+    requires { id_width form ≤ length body.now }
+    ensures { result ≡ list_all (λ b. b == 255) (take (id_width form) body.now) }
+{
+    match form {
+        Form::Dwarf32 => all_ones(&body[..4]),
+        Form::Dwarf64 => all_ones(&body[..8]),
+    }
+}
+
+#[inline(always)]
 pub(crate) fn kind_in(form: Form, body: &[u8]) -> Kind
     requires { id_width form ≤ length body.now }
     ensures { result ≡ is_cie form body.now }
 {
-    if all_ones(&body[..width_of(form)]) {
+    if has_cie_id(form, body) {
         Kind::Cie
     } else {
         Kind::Fde

@@ -19,8 +19,8 @@ ghost use Rattle.dw_section.specs.Inner.Places.{Rises};
 ghost use Rattle.dw_section.specs.Accepted.{RulesFault};
 ghost use Rattle.dw_section.specs.Among.{IsAmong};
 
-use crate::header::{Header, next_header};
-use crate::program::{Initial, Runner, initial_at, judge};
+use crate::header::{Header, Initial, next_header};
+use crate::program::{Runner, initial_at, judge};
 use dw_num::{Cursor, ReadError, Target};
 use std::alloc::{AllocError, Global};
 

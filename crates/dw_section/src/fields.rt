@@ -49,7 +49,7 @@ fn want_byte(cursor: &mut Cursor<'_>, wanted: u8, code: Code) -> Result<(), Refu
 }
 
 #[inline(always)]
-pub(crate) fn read_version(cursor: &mut Cursor<'_>) -> Result<u8, Refusal>
+fn read_version(cursor: &mut Cursor<'_>) -> Result<u8, Refusal>
     ensures { (rest : ℕ → Fields TheCieFields) → Passes result (fields_at (field (fixed 1) (λ v. unless (v == 1 || (v == 3 || v == 4)) BadVersion) rest) cursor.old) (λ v. fields_at (rest v) cursor.new) }
 {
     let at = cursor.at();
@@ -95,7 +95,7 @@ fn empty_string(cursor: &mut Cursor<'_>) -> Result<(), Refusal>
 
 // The sizes, which version 4 has.
 #[inline(always)]
-pub(crate) fn read_sizes(cursor: &mut Cursor<'_>, size: Size, version: u8) -> Result<(), Refusal>
+fn read_sizes(cursor: &mut Cursor<'_>, size: Size, version: u8) -> Result<(), Refusal>
     ensures { (rest : Fields TheCieFields) → Passes result (fields_at (sizes size version rest) cursor.old) (λ v. fields_at rest cursor.new) }
 {
     if version != 4 {
@@ -152,7 +152,7 @@ fn has_place(places: &[u64], place: u64) -> bool
 
 // Whether a range ends in the address space.
 #[inline(always)]
-pub(crate) fn in_space(size: Size, begin: u64, range: u64) -> bool
+fn in_space(size: Size, begin: u64, range: u64) -> bool
     ensures { result ≡ nat_le (begin + range) (address_limit size) }
 {
     u128::from(begin) + u128::from(range) <= size.address_limit()

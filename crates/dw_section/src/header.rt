@@ -19,12 +19,13 @@ ghost use Rattle.dw_section.specs.Places.{cie_places};
 ghost use Rattle.dw_section.specs.Inner.Places.{Rises};
 ghost use Rattle.dw_section.specs.Inner.Heads.{head_at};
 ghost use Rattle.dw_section.specs.Inner.Left.{AreHeaders, HeadsLeft, GivesHead, GoesOn};
-ghost use Rattle.dw_section.specs.Inner.PieceHeader.{cie_at, fde_at, program_of};
+ghost use Rattle.dw_section.specs.Inner.PieceHeader.{cie_at, fde_at, initial_in, entry_in, program_of};
 ghost use Rattle.dw_section.specs.Headers.{Head, Has, Headers, head_in, CieHolds, CieStuck, CiesHold, FdeHolds, FdeStuck, CieFieldsFault, HeadersFault};
 ghost use Rattle.dw_section.specs.Laws.{SomeHeaders};
 
 use crate::entry::{EntryCounts, Kind, Placed, cut, next_piece, width_of};
 use crate::fields::{read_cie, read_fde};
+use dw_cfa::Factors;
 use dw_num::{Cursor, Form, Program, ReadError, Refusal, Target, are_bytes};
 use std::alloc::Global;
 
@@ -68,7 +69,7 @@ pub enum Header<'a> {
 
 // What is left, as a program.
 #[inline(always)]
-pub(crate) fn rest_of<'a>(cursor: &Cursor<'a>) -> Program<'a>
+fn rest_of<'a>(cursor: &Cursor<'a>) -> Program<'a>
     requires { cursor.now.at + length cursor.now.bytes ≤ 2147483647 }
     ensures { span_of result ≡ program_of cursor.now }
 {
@@ -78,47 +79,68 @@ pub(crate) fn rest_of<'a>(cursor: &Cursor<'a>) -> Program<'a>
     }
 }
 
+/// What a CIE says, and its program.
+#[derive(Clone, Copy)]
+pub(crate) struct Initial<'a> {
+    pub(crate) at: u64,
+    pub(crate) factors: Factors,
+    pub(crate) return_register: u16,
+    pub(crate) program: Program<'a>,
+}
+
+/// What an FDE says, and its program.
+#[derive(Clone, Copy)]
+pub(crate) struct FdeEntry<'a> {
+    pub(crate) at: u64,
+    pub(crate) cie_at: u64,
+    pub(crate) begin: u64,
+    pub(crate) range: u64,
+    pub(crate) program: Program<'a>,
+}
+
+/// Reads an entry that is a CIE.
 #[tactic(auto, unfolding(crate::specs::Inner::PieceHeader::cie_at))]
 #[inline(always)]
-pub(crate) fn cie_header<'a>(piece: &Placed<'a>, target: Target) -> Result<Header<'a>, Refusal>
+pub(crate) fn read_initial<'a>(piece: &Placed<'a>, target: Target) -> Result<Initial<'a>, Refusal>
     requires { piece.now.kind ≡ kind.Cie }
-    ensures exact { Answers head_in result (cie_at target (piece_in piece.now)) }
-    ensures found { (places : List ℕ) → IfOk result (λ h. Has target places (piece_in piece.now) (head_in h)) }
+    ensures exact { Answers (initial_in piece.now.form) result (cie_at target (piece_in piece.now)) }
+    ensures found { (places : List ℕ) → IfOk result (λ c. Has target places (piece_in piece.now) (initial_in piece.now.form c)) }
 {
     let contents = piece.contents;
     are_bytes(contents.bytes);
     let mut cursor = Cursor::new(contents.bytes, contents.at, target);
     let _ = cursor.fixed(width_of(piece.form))?;
     let fields = read_cie(&mut cursor, target.size)?;
-    Ok(Header::Cie {
+    Ok(Initial {
         at: piece.at,
-        form: piece.form,
-        code_factor: fields.code_factor,
-        data_factor: fields.data_factor,
+        factors: Factors {
+            code_factor: fields.code_factor,
+            data_factor: fields.data_factor,
+        },
         return_register: fields.return_register,
         program: rest_of(&cursor),
     })
 }
 
+/// Reads an entry that is an FDE, where CIEs stand at these places.
 #[tactic(auto, unfolding(crate::specs::Inner::PieceHeader::fde_at))]
 #[inline(always)]
-pub(crate) fn fde_header<'a>(
+pub(crate) fn read_entry<'a>(
     piece: &Placed<'a>,
     places: &[u64],
     target: Target,
-) -> Result<Header<'a>, Refusal>
+) -> Result<FdeEntry<'a>, Refusal>
     requires kind { piece.now.kind ≡ kind.Fde }
     requires ascending { Rises 0 places.now }
-    ensures exact { Answers head_in result (fde_at target places.now (piece_in piece.now)) }
-    ensures found { IfOk result (λ h. Has target places.now (piece_in piece.now) (head_in h)) }
+    ensures exact { Answers (entry_in piece.now.form) result (fde_at target places.now (piece_in piece.now)) }
+    ensures found { IfOk result (λ e. Has target places.now (piece_in piece.now) (entry_in piece.now.form e)) }
 {
     let contents = piece.contents;
     are_bytes(contents.bytes);
     let mut cursor = Cursor::new(contents.bytes, contents.at, target);
     let fields = read_fde(&mut cursor, places, piece.form)?;
-    Ok(Header::Fde {
+    Ok(FdeEntry {
         at: piece.at,
-        form: piece.form,
         cie_at: fields.cie_at,
         begin: fields.begin,
         range: fields.range,
@@ -126,8 +148,36 @@ pub(crate) fn fde_header<'a>(
     })
 }
 
+// A CIE as it is told.
+fn cie_header<'a>(form: Form, cie: Initial<'a>) -> Header<'a>
+    ensures { head_in result ≡ initial_in form cie.entry }
+{
+    Header::Cie {
+        at: cie.at,
+        form,
+        code_factor: cie.factors.code_factor,
+        data_factor: cie.factors.data_factor,
+        return_register: cie.return_register,
+        program: cie.program,
+    }
+}
+
+// An FDE as it is told.
+fn fde_header<'a>(form: Form, fde: FdeEntry<'a>) -> Header<'a>
+    ensures { head_in result ≡ entry_in form fde.entry }
+{
+    Header::Fde {
+        at: fde.at,
+        form,
+        cie_at: fde.cie_at,
+        begin: fde.begin,
+        range: fde.range,
+        program: fde.program,
+    }
+}
+
 // The header of an entry whose fields hold if it is a CIE.
-#[tactic(auto, using(crate::proofs::Lent::HeaderLaws::cie_never, crate::proofs::Lent::HeaderLaws::fde_stuck))]
+#[tactic(auto, using(crate::proofs::Lent::HeaderLaws::fde_faulty))]
 #[inline(always)]
 fn header_of<'a>(piece: &Placed<'a>, places: &[u64], target: Target) -> Result<Header<'a>, Refusal>
     requires holds { CieHolds target (piece_in piece.now) }
@@ -136,12 +186,14 @@ fn header_of<'a>(piece: &Placed<'a>, places: &[u64], target: Target) -> Result<H
     ensures stuck { IfErr result (FdeStuck target places.now (piece_in piece.now)) }
 {
     match piece.kind {
-        Kind::Cie => {
-            // A copy, so that an FDE's piece need not be in memory.
-            let cie = *piece;
-            cie_header(&cie, target)
-        }
-        Kind::Fde => fde_header(piece, places, target),
+        Kind::Cie => match read_initial(piece, target) {
+            Ok(cie) => Ok(cie_header(piece.form, cie)),
+            Err(refusal) => Err(refusal),
+        },
+        Kind::Fde => match read_entry(piece, places, target) {
+            Ok(fde) => Ok(fde_header(piece.form, fde)),
+            Err(refusal) => Err(refusal),
+        },
     }
 }
 
@@ -154,7 +206,7 @@ fn keep_cie(places: &mut Vec<u64>, piece: &Placed<'_>, target: Target) -> Result
     match piece.kind {
         Kind::Cie => {
             let cie = *piece;
-            let _ = cie_header(&cie, target)?;
+            let _ = read_initial(&cie, target)?;
             places.push(piece.at)?;
             Ok(())
         }
@@ -194,7 +246,7 @@ fn fde_holds(piece: &Placed<'_>, places: &[u64], target: Target) -> Result<(), R
 {
     match piece.kind {
         Kind::Cie => Ok(()),
-        Kind::Fde => match fde_header(piece, places, target) {
+        Kind::Fde => match read_entry(piece, places, target) {
             Ok(_) => Ok(()),
             Err(refusal) => Err(refusal),
         },

@@ -19,7 +19,6 @@ mod opening;
 mod program;
 mod program_length;
 mod row_count;
-mod short_entry;
 mod standing_fde;
 mod table;
 mod table_lookup;

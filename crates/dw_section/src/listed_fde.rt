@@ -18,8 +18,9 @@ ghost use Rattle.dw_section.specs.Meaning.{AreFdes};
 
 use crate::entry::{Placed, width_of};
 use crate::fde_range::Ranged;
+use crate::header::Initial;
 use crate::lookup::FdeRef;
-use crate::program::{Initial, initial_at};
+use crate::program::initial_at;
 use crate::standing_fde::{piece_at, pointer_of};
 use crate::table::Table;
 use dw_cfa::{Factors, RowWalk};

@@ -6,23 +6,22 @@ ghost use Rattle.std.specs.List.{AllByRecursion};
 ghost use Rattle.dw_num.specs.declared.target.Form.{Form as TheForm};
 ghost use Rattle.dw_num.specs.Refusals.{Refuses};
 ghost use Rattle.dw_num.specs.declared.target.Target.{Target as TheTarget};
-ghost use Rattle.dw_section.specs.declared.program.Initial.{Initial as TheInitial};
+ghost use Rattle.dw_section.specs.declared.header.Initial.{Initial as TheInitial};
 ghost use Rattle.dw_section.specs.declared.program.Long.{Long as TheLong};
 ghost use Rattle.dw_num.specs.Span.{span_of, input_of};
 ghost use Rattle.dw_num.specs.Target.{address_limit};
 ghost use Rattle.dw_cfa.specs.declared.instr.Instr.{Instr};
 ghost use Rattle.dw_cfa.specs.declared.execution.LocatedRow.{LocatedRow};
 ghost use Rattle.dw_cfa.specs.RulesBehind.{RulesBehind};
-ghost use Rattle.dw_cfa.specs.Faults.{CieFault, FdeFault};
+ghost use Rattle.dw_cfa.specs.Faults.{FdeFault};
 ghost use Rattle.dw_cfa.specs.CieMachine.{with_steps};
 ghost use Rattle.dw_cfa.specs.Coverage.{Lacks};
 ghost use Rattle.std.specs.Bool.{MatchBool};
 ghost use Rattle.dw_section.specs.Fields.{is_among};
-ghost use Rattle.dw_section.specs.Headers.{Head, Has, CieHolds, cie, fde, head_in};
+ghost use Rattle.dw_section.specs.Headers.{Head, Has, CieHolds, fde, head_in};
 ghost use Rattle.dw_section.specs.Inner.Pieces.{piece_in};
-ghost use Rattle.dw_section.specs.Inner.Heads.{FdeFits, IsTyped};
-ghost use Rattle.std.specs.Prelude.{FitsSigned};
-ghost use Rattle.std.specs.Int.{w64};
+ghost use Rattle.dw_section.specs.Inner.Heads.{FdeFits};
+ghost use Rattle.dw_section.specs.Inner.PieceHeader.{initial_in};
 ghost use Rattle.dw_section.specs.Inner.Initials.{place_of, IsInitial, IsBehind, IsLong, IsRunner, AreInitials, HasOrLacks};
 ghost use Rattle.dw_section.specs.Inner.Places.{Rises};
 ghost use Rattle.dw_section.specs.Programs.{CieRuns, CieBroken, FdeRuns, FdeBroken};
@@ -30,22 +29,13 @@ ghost use Rattle.dw_section.specs.Among.{IsAmong};
 ghost use Rattle.dw_section.specs.Accepted.{RulesFault};
 
 use crate::entry::{Kind, Placed, next_piece};
-use crate::header::{Header, cie_header};
+use crate::header::{Header, Initial, read_initial};
 use dw_cfa::{CieMachine, Factors, behind_laws, initial_row};
 use dw_num::{Cursor, Program, ReadError, Target, are_bytes};
 use std::alloc::{AllocError, Global};
 
 // A CIE program of more bytes is run once, on a machine that is kept for it; others are run again.
 const LONG: usize = 64;
-
-/// What is kept of a CIE: its fields and its program.
-#[derive(Clone, Copy)]
-pub(crate) struct Initial<'a> {
-    pub(crate) at: u64,
-    pub(crate) factors: Factors,
-    pub(crate) return_register: u16,
-    pub(crate) program: Program<'a>,
-}
 
 // A machine behind the program of the CIE at a place.
 #[derive(Drop)]
@@ -64,73 +54,28 @@ pub(crate) struct Runner<'a> {
 }
 
 // Runs a CIE's program.
-fn run_cie<'a>(
-    alloc: Global,
-    at: u64,
-    factors: Factors,
-    return_register: u16,
-    program: Program<'a>,
-    target: Target,
-) -> Result<Initial<'a>, ReadError>
-    ensures place { IfOk result (λ c. c.at ≡ at) }
-    ensures runs { (form : TheForm) → IfOk result (λ _. CieRuns target (cie (record { at = at; form = form; code_factor = factors.code_factor; data_factor = factors.data_factor; return_register = return_register; program = span_of program.entry }))) }
-    ensures found { (hs : List Head) (form : TheForm) → IsAmong (cie (record { at = at; form = form; code_factor = factors.code_factor; data_factor = factors.data_factor; return_register = return_register; program = span_of program.entry })) hs → IfOk result (λ c. IsInitial target hs c) }
-    ensures stuck { IfErr result (Refuses (CieFault factors (input_of target (span_of program.entry)))) }
+fn run_cie(alloc: Global, cie: &Initial<'_>, target: Target) -> Result<(), ReadError>
+    ensures runs { (form : TheForm) → IfOk result (λ _. CieRuns target (initial_in form cie.now)) }
+    ensures found { (hs : List Head) (form : TheForm) → IsAmong (initial_in form cie.now) hs → IfOk result (λ _. IsInitial target hs cie.now) }
+    ensures stuck { (form : TheForm) → IfErr result (Refuses (CieBroken target (initial_in form cie.now))) }
 {
-    let _row = initial_row(alloc, program, factors, target)?;
-    Ok(Initial {
-        at,
-        factors,
-        return_register,
-        program,
-    })
+    let _row = initial_row(alloc, cie.program, cie.factors, target)?;
+    Ok(())
 }
 
-fn is_signed(number: i64)
-    ensures { FitsSigned w64 number }
-{
-    let _ = number;
-}
-
-// The data factor of a CIE is of its type.
-fn is_typed(header: &Header<'_>)
-    ensures { IsTyped (head_in header.now) }
-{
-    match *header {
-        Header::Cie { data_factor, .. } => is_signed(data_factor),
-        Header::Fde { .. } => (),
-    }
-}
-
-// Runs the program of a header that is a CIE's, and keeps what its FDEs begin with.
+// The same, and keeps what its FDEs begin with.
 fn keep_initial<'a>(
     initials: &mut Vec<Initial<'a>>,
-    header: &Header<'a>,
+    cie: &Initial<'a>,
     target: Target,
 ) -> Result<(), ReadError>
-    ensures found { (hs front : List Head) → IsAmong (head_in header.now) hs → AreInitials target hs front initials.old.items → OnOk result (AreInitials target hs (front ++ head_in header.now ∷ []) initials.new.items) }
-    ensures first { IfErr result (Refuses (CieBroken target (head_in header.now))) }
+    ensures found { (hs front : List Head) (form : TheForm) → IsAmong (initial_in form cie.now) hs → AreInitials target hs front initials.old.items → OnOk result (AreInitials target hs (front ++ initial_in form cie.now ∷ []) initials.new.items) }
+    ensures first { (form : TheForm) → IfErr result (Refuses (CieBroken target (initial_in form cie.now))) }
 {
-    is_typed(header);
     let alloc = *initials.allocator();
-    match *header {
-        Header::Cie {
-            at,
-            form: _,
-            code_factor,
-            data_factor,
-            return_register,
-            program,
-        } => {
-            let factors = Factors {
-                code_factor,
-                data_factor,
-            };
-            initials.push(run_cie(alloc, at, factors, return_register, program, target)?)?;
-            Ok(())
-        }
-        Header::Fde { .. } => Ok(()),
-    }
+    run_cie(alloc, cie, target)?;
+    initials.push(*cie)?;
+    Ok(())
 }
 
 // The same of a piece; an FDE's fields are not read.
@@ -144,13 +89,10 @@ fn keep_piece<'a>(
     ensures first { (places : List ℕ) (h : Head) → Has target places (piece_in piece.now) h → IfErr result (Refuses (CieBroken target h)) }
 {
     match piece.kind {
-        Kind::Cie => {
-            let cie = *piece;
-            match cie_header(&cie, target) {
-                Ok(header) => keep_initial(initials, &header, target),
-                Err(_) => Ok(()),
-            }
-        }
+        Kind::Cie => match read_initial(piece, target) {
+            Ok(cie) => keep_initial(initials, &cie, target),
+            Err(_) => Ok(()),
+        },
         Kind::Fde => Ok(()),
     }
 }

@@ -11,8 +11,8 @@ ghost use Rattle.dw_section.specs.Ranges.{IsRanged, range_in};
 ghost use Rattle.dw_section.specs.Inner.Initials.{AreInitials};
 
 use crate::fde_range::Ranged;
+use crate::header::Initial;
 use crate::listed_fde::{FoundFde, found_fde};
-use crate::program::Initial;
 use crate::table::Table;
 use dw_cfa::{Instr, Instructions};
 use dw_num::{Refusal, Target};

@@ -11,7 +11,7 @@ ghost use Rattle.dw_num.specs.Refusals.{Refuses};
 ghost use Rattle.dw_num.specs.Span.{span_of, input_of};
 ghost use Rattle.dw_num.specs.Target.{address_limit};
 ghost use Rattle.dw_section.specs.Fits.{RowFits};
-ghost use Rattle.dw_section.specs.Headers.{FdeHead, Has, Head, fde, head_in};
+ghost use Rattle.dw_section.specs.Headers.{FdeHead, Has, Head, fde};
 ghost use Rattle.dw_section.specs.declared.fde_range.Ranged.{Ranged as TheRanged};
 ghost use Rattle.dw_section.specs.Ranges.{IsEntry, LeadsTo, Uncovered, fde_in, range_in, IsTable};
 ghost use Rattle.dw_section.specs.Inner.Lookup.{RunsSo, fde_of};
@@ -26,15 +26,14 @@ ghost use Rattle.dw_section.specs.Inner.Pieces.{piece_in};
 ghost use Rattle.dw_section.specs.StandingFde.{ItemFault, LookUpFault, Misleads, NamesCieAt, NoneStands, PairFault, RefusesAs, RulesOf, StandingFault, StandsAs, StandsIn};
 ghost use Rattle.dw_section.specs.Stage.{Then};
 ghost use Rattle.dw_op.specs.Faults.{IsWithin};
-ghost use Rattle.dw_section.specs.Inner.StandingFde.{AreJoined, FoundStands, LiesInPrograms, StandsAt, is_fde, of_steps};
+ghost use Rattle.dw_section.specs.Inner.StandingFde.{AreJoined, FoundStands, LiesInPrograms, StandsAt, of_steps};
 
 use crate::entry::{Kind, MOST, Part, Placed, kind_in, next_part, width_of};
 use crate::fde_range::Ranged;
-use crate::header::{Header, cie_header, fde_header};
+use crate::header::{FdeEntry, Initial, read_entry, read_initial};
 use crate::listed_fde::FoundFde;
 use crate::lookup::Fde;
-use crate::short_entry::short_standing;
-use dw_cfa::{Factors, RowRoom};
+use dw_cfa::RowRoom;
 use dw_num::{Code, Cursor, ReadError, Refusal, Target, are_bytes};
 use std::error::Error;
 use std::fmt;
@@ -104,63 +103,33 @@ pub(crate) fn pointer_of(piece: &Placed<'_>, target: Target) -> u64
     pointer
 }
 
-// What is said of an FDE by its own header and by that of its CIE.
+// An FDE with what its CIE says.
 #[inline(always)]
-fn joined<'a>(own: &Header<'a>, named: &Header<'a>) -> Option<FoundFde<'a>>
-    ensures found { IfSome result (λ e. AreJoined (head_in own.now) (head_in named.now) e) }
-    ensures only { is_fde (head_in own.now) ≡ true → is_fde (head_in named.now) ≡ false → IsSome result }
+fn joined<'a>(own: &FdeEntry<'a>, named: &Initial<'a>) -> FoundFde<'a>
+    ensures { AreJoined own.now named.now result }
 {
-    let Header::Fde {
-        at,
-        form: _,
-        cie_at,
-        begin,
-        range,
-        program,
-    } = *own
-    else {
-        return None;
-    };
-    let Header::Cie {
-        at: _,
-        form: _,
-        code_factor,
-        data_factor,
-        return_register,
-        program: cie_program,
-    } = *named
-    else {
-        return None;
-    };
-    Some(FoundFde {
-        at,
-        begin,
-        range,
-        program,
-        cie_at,
-        cie_program,
-        factors: Factors {
-            code_factor,
-            data_factor,
-        },
-        return_register,
-    })
+    FoundFde {
+        at: own.at,
+        begin: own.begin,
+        range: own.range,
+        program: own.program,
+        cie_at: own.cie_at,
+        cie_program: named.program,
+        factors: named.factors,
+        return_register: named.return_register,
+    }
 }
 
 // The FDE that is this entry, with what the CIE that it names says, or what is wrong in either.
 #[inline(always)]
-fn fde_in<'a>(
-    bytes: &'a [u8],
-    own: &Placed<'a>,
-    target: Target,
-) -> Result<Option<FoundFde<'a>>, Refusal>
+fn fde_in<'a>(bytes: &'a [u8], own: &Placed<'a>, target: Target) -> Result<FoundFde<'a>, Refusal>
     requires few { length bytes.now ≤ 2147483647 }
     requires kind { own.now.kind ≡ kind.Fde }
     requires stands { StandsIn target.order bytes.now (piece_in own.now) }
-    ensures found { IfOk result (λ o. IfSome o (λ e. (e.at ≡ own.now.at) × FoundStands target bytes.now e)) }
+    ensures found { IfOk result (λ e. (e.at ≡ own.now.at) × FoundStands target bytes.now e) }
     ensures within { IfErr result (IsWithin bytes.now) }
     ensures fault { IfErr result (PairFault target bytes.now (piece_in own.now)) }
-    ensures only { StandsAt target bytes.now own.now.at → MatchResult result IsSome (λ _. ⊥) }
+    ensures only { StandsAt target bytes.now own.now.at → IfErr result (λ _. ⊥) }
 {
     let pointer = pointer_of(own, target);
     let Some(named) = cie_at(bytes, pointer, target)? else {
@@ -169,13 +138,13 @@ fn fde_in<'a>(
             at: own.contents.at,
         });
     };
-    let header = fde_header(own, &[pointer], target)?;
-    let cie = cie_header(&named, target)?;
+    let header = read_entry(own, &[pointer], target)?;
+    let cie = read_initial(&named, target)?;
     Ok(joined(&header, &cie))
 }
 
-// The FDE that stands at a place, or none, or what is wrong there. Most are short, so it is rarely asked.
-#[inline(never)]
+// The FDE that stands at a place, or none, or what is wrong there.
+#[inline(always)]
 fn standing<'a>(bytes: &'a [u8], at: u64, target: Target) -> Result<Option<FoundFde<'a>>, Refusal>
     requires { length bytes.now ≤ 2147483647 }
     ensures found { IfOk result (λ o. IfSome o (λ e. (e.at ≡ at) × FoundStands target bytes.now e)) }
@@ -188,23 +157,11 @@ fn standing<'a>(bytes: &'a [u8], at: u64, target: Target) -> Result<Option<Found
     };
     match piece.kind {
         Kind::Cie => Ok(None),
-        Kind::Fde => fde_in(bytes, &piece, target),
+        Kind::Fde => match fde_in(bytes, &piece, target) {
+            Ok(fde) => Ok(Some(fde)),
+            Err(refusal) => Err(refusal),
+        },
     }
-}
-
-// The same, soonest where the FDE and its CIE are short.
-#[inline(always)]
-fn found_at<'a>(bytes: &'a [u8], at: u64, target: Target) -> Result<Option<FoundFde<'a>>, Refusal>
-    requires { length bytes.now ≤ 2147483647 }
-    ensures found { IfOk result (λ o. IfSome o (λ e. (e.at ≡ at) × FoundStands target bytes.now e)) }
-    ensures within { IfErr result (IsWithin bytes.now) }
-    ensures fault { IfErr result (Then (ItemFault target bytes.now at) (StandsAs target bytes.now kind.Fde at) (PairFault target bytes.now)) }
-    ensures only { StandsAt target bytes.now at → MatchResult result IsSome (λ _. ⊥) }
-{
-    if let Some(fde) = short_standing(bytes, at, target) {
-        return Ok(Some(fde));
-    }
-    standing(bytes, at, target)
 }
 
 // How many entries of an index begin at or below an address, where begins ascend.
@@ -398,7 +355,7 @@ fn row_of<'a>(
     ensures own { (hs : List Head) (a : Range) (register : ℕ) → RulesHold target bytes.now hs → Returns hs a register → a.at ≡ at → a.begin ≤ address → address < a.begin + a.range → MatchResult result (λ fde. (fde ≡ fde_in (record { begin = a.begin; range = a.range; at = a.at; return_register = register })) × RulesAt target bytes.now address room.new) (λ e. e ≡ LookUpError.OutOfMemory) }
 {
     are_bytes(bytes);
-    let Some(fde) = found_at(bytes, at, target)? else {
+    let Some(fde) = standing(bytes, at, target)? else {
         return Err(LookUpError::BadIndex);
     };
     if !reaches(&fde, address) {

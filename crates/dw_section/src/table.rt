@@ -21,8 +21,8 @@ ghost use Rattle.dw_section.specs.Laws.{SomeCheck};
 
 use crate::entry::EntryCounts;
 use crate::fde_range::{Ranged, first_overlap, put_in_order, run_fdes};
-use crate::header::heads_hold;
-use crate::program::{Initial, run_cies};
+use crate::header::{Initial, heads_hold};
+use crate::program::run_cies;
 use dw_num::{Code, ReadError, Refusal, Target, are_bytes};
 use std::alloc::Global;
 use std::marker::Model;

@@ -22,7 +22,7 @@ use Rattle.dw_words.specs.declared.request.PlanError.TheVariants as errors
 use Rattle.dw_words.specs.declared.request.Task as declared
 use Rattle.dw_words.specs.declared.request.Task.TheVariants as tasks
 use Rattle.dw_words.specs.Plan.{AskFor, IsJob, IsTask, Says}
-use Rattle.dw_words.specs.Inner.Plan.{Fails, Given, GivenAt, IsSupplied, Run, Task, block_in, cap_in, check, cost, default_in, dump_in, entries, eval, expr, file_in, name_of, normal, own, profile_in, rows, run_held, run_in, same, start_in, steps_in, target_in, task_held, task_in, text_of, unwind}
+use Rattle.dw_words.specs.Inner.Plan.{Fails, Given, GivenAt, IsSupplied, Run, Task, addresses_in, at, block_in, cap_in, check, cost, default_in, dump_in, entries, eval, expr, file_in, name_of, normal, own, profile_in, rows, run_held, run_in, same, start_in, steps_in, target_in, task_held, task_in, text_of, unwind}
 
 -- ---- options
 
@@ -46,12 +46,16 @@ step name m n rest later h = of (bytes_eq name (text_of m)) (bytes_eq-Decides na
 
 named : (name : Text) (n : Name) → name_of name ≡ Some n → name ≡ text_of n
 named name n =
-    step name names.Check n _ (step name names.Cost n _ (step name names.Entries n _ (step name names.Eval n _ (step name names.Expr n _ (step name names.Normal n _
-    (step name names.Rows n _ (step name names.Same n _ (step name names.Unwind n None (λ h. absurd cc)))))))))
+    step name names.At n _ (step name names.Check n _ (step name names.Cost n _ (step name names.Entries n _ (step name names.Eval n _ (step name names.Expr n _
+    (step name names.Normal n _ (step name names.Rows n _ (step name names.Same n _ (step name names.Unwind n None (λ h. absurd cc))))))))))
 
 -- ---- from the function
 
 module _ (values : List Row) (name : Text) (size : Size) where
+  at_so : (path : Text) (addresses : List ℕ) (task : declared.Task) → name ≡ codes "at" → file_in values ≡ Some path → addresses_in size values ≡ Some addresses → at path addresses ≡ task_held task → IsTask values name size task
+  at_so path addresses (tasks.At l) is a b held = (is, cc, cc)
+  at_so path addresses task is a b held = absurd cc
+
   check_so : (path : Text) (task : declared.Task) → name ≡ codes "check" → file_in values ≡ Some path → check path ≡ task_held task → IsTask values name size task
   check_so path (tasks.Check p) is found held = (is, cc)
   check_so path task is found held = absurd cc
@@ -91,6 +95,10 @@ module _ (values : List Row) (name : Text) (size : Size) where
   unwind_so default steps path dump task is a b c d held = absurd cc
 
   task_so : (n : Name) (task : declared.Task) → name ≡ text_of n → task_in n size values ≡ Some (task_held task) → IsTask values name size task
+  task_so names.At task is h =
+      let a = bound _ (file_in values) (task_held task) h in
+      let b = mapped _ (addresses_in size values) (task_held task) a.2 in
+      at_so a.0 b.0 task is a.1 b.1 b.2
   task_so names.Check task is h = let p = mapped check (file_in values) (task_held task) h in check_so p.0 task is p.1 p.2
   task_so names.Cost task is h = let p = mapped cost (file_in values) (task_held task) h in cost_so p.0 task is p.1 p.2
   task_so names.Entries task is h = let p = mapped entries (file_in values) (task_held task) h in entries_so p.0 task is p.1 p.2
@@ -165,6 +173,10 @@ run_fails text values n t errors.OutOfMemory is target h = tt
 
 -- ---- and to it
 
+at_has : (path : Option Text) (addresses : Option (List ℕ)) (a : Text) (b : List ℕ) → path ≡ Some a → addresses ≡ Some b
+    → option_and_then (λ path. option_map (λ addresses. at path addresses) addresses) path ≡ Some (at a b)
+at_has path addresses a b h i = rw (h, i) refl
+
 eval_has : (steps : Option ℕ) (start : Option (Option ℕ)) (block : Option (List ℕ)) (dump : Option Text) (a : ℕ) (b : Option ℕ) (c : List ℕ) (d : Option Text)
     → steps ≡ Some a → start ≡ Some b → block ≡ Some c → dump ≡ d
     → option_and_then (λ steps. option_and_then (λ start. option_map (λ block. eval steps start block dump) block) start) steps ≡ Some (eval a b c d)
@@ -197,6 +209,7 @@ run_has name target task n t x h i j =
     ap (option_and_then {U = Run} later) h ∙ ap (option_and_then {U = Run} last) i ∙ ap held j
 
 task_has : (values : List Row) (name : Text) (size : Size) (task : declared.Task) → IsTask values name size task → (n : Name) × (name_of name ≡ Some n) × (task_in n size values ≡ Some (task_held task))
+task_has values name size (tasks.At l) (is, a, b) = (names.At, ap name_of is, at_has (file_in values) (addresses_in size values) l.path.now l.addresses.items a b)
 task_has values name size (tasks.Check path) (is, found) = (names.Check, ap name_of is, ap (option_map check) found)
 task_has values name size (tasks.Cost path) (is, found) = (names.Cost, ap name_of is, ap (option_map cost) found)
 task_has values name size (tasks.Entries path) (is, found) = (names.Entries, ap name_of is, ap (option_map entries) found)

@@ -1,5 +1,6 @@
 mod Digits
 mod Commands
+mod AllRead
 mod Rows
 mod Subcommands
 mod Jobs

@@ -93,7 +93,7 @@ abbrev good_by : ArgAction → Rule → Bool
 good_by action.Set a = nat_lt 0 (unwrap_or_range a.range).start_inclusive && not (bytes_eq a.id (codes "frame"))
 good_by action.SetTrue a = (unwrap_or_range a.range).start_inclusive == 0 && (most_values a == 0 && starts a.id a.missing)
 good_by action.SetFalse a = false
-good_by action.Append a = false
+good_by action.Append a = nat_lt 0 (unwrap_or_range a.range).start_inclusive && not (bytes_eq a.id (codes "frame"))
 good_by action.Count a = false
 good_by _ a = true
 
@@ -137,7 +137,7 @@ use_full again a values rows g none full = go (action_of a) (both (good_by (acti
     go action.Set h = with_values_full a.id (reading_by a) _ _ _ (set_starts a values h (first_none _ _ none)) (without_full a.id rows full)
     go action.SetTrue h = with_values_full a.id (reading_by a) _ _ _ (flag_starts a values h (first_none _ _ none)) (without_full a.id rows full)
     go action.SetFalse h = absurd (true≢false (sym h))
-    go action.Append h = absurd (true≢false (sym h))
+    go action.Append h = with_values_full a.id (reading_by a) _ _ _ (set_starts a values h (first_none _ _ none)) full
     go action.Count h = absurd (true≢false (sym h))
     go action.Help h = full
     go action.HelpShort h = full

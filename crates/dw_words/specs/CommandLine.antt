@@ -1,6 +1,6 @@
 -- The command line, as clap defines a simple command: the subcommands with their options and operands.
 use Rattle.std.specs.Prelude.{Bool, true, false, List, [], ◌∷◌, Some, codes, fold}
-use Rattle.clap.specs.declared.builder.ArgAction.TheVariants.{Set, SetTrue}
+use Rattle.clap.specs.declared.builder.ArgAction.TheVariants.{Append, Set, SetTrue}
 use Rattle.clap.specs.Words.{App, Rule, Shape, Text, new_app, new_rule, with_rule, with_subcommand}
 
 -- an option with a value, such as `--cap L`, which has to be there or may be
@@ -14,6 +14,10 @@ flag name = record (new_rule name) { long = Some name; action = Some SetTrue }
 -- a word of its own, which has to be there or may be
 abbrev pub operand : Bool → Text → Rule
 operand required name = record (new_rule name) { required = required; action = Some Set }
+
+-- words of their own, any number of them
+abbrev pub operands : Text → Rule
+operands name = record (new_rule name) { action = Some Append }
 
 abbrev pub file : Rule
 file = operand true (codes "FILE")
@@ -30,6 +34,7 @@ abbrev pub dwframe : App
 dwframe = fold with_subcommand program (
     subcommand (codes "check") (file ∷ [])
     ∷ subcommand (codes "rows") (file ∷ [])
+    ∷ subcommand (codes "at") (file ∷ operands (codes "ADDRESS") ∷ [])
     ∷ subcommand (codes "entries") (file ∷ [])
     ∷ subcommand (codes "expr") (flag (codes "frame") ∷ operand true (codes "HEX") ∷ [])
     ∷ subcommand (codes "eval") (option false (codes "steps") ∷ option false (codes "start") ∷ operand true (codes "HEX") ∷ operand false (codes "DUMP") ∷ [])

@@ -1,12 +1,12 @@
 -- What the words of a run ask for.
-use Rattle.std.specs.Prelude.{◌≡◌, ◌⊎◌, ⊤, List, [], Bool, true, false, Option, Some, None, codes, option_and_then, option_map, Result, Ok, Err}
+use Rattle.std.specs.Prelude.{◌≡◌, ◌⊎◌, ⊤, List, [], Bool, true, false, Option, Some, None, codes, unwrap_or, option_and_then, option_map, Result, Ok, Err}
 use Rattle.std.specs.Option.{option_map_or}
 use Rattle.clap.specs.declared.error.ErrorKind.{ErrorKind}
 use Rattle.clap.specs.declared.error.ErrorKind.TheVariants as kinds
-use Rattle.clap.specs.Words.{IsAmong, Row, Text, fault_of, first_of, kind_of, subcommand_of}
+use Rattle.clap.specs.Words.{IsAmong, Row, Text, all_of, fault_of, first_of, kind_of, subcommand_of}
 use Rattle.dw_num.specs.declared.target.Size.{Size}
 use Rattle.dw_words.specs.CommandLine.{dwframe}
-use Rattle.dw_words.specs.Values.{address, block_of, cap_of, decimal, default_of, order_of, profile_of, size_of}
+use Rattle.dw_words.specs.Values.{address, all_read, block_of, cap_of, decimal, default_of, order_of, profile_of, size_of}
 use Rattle.dw_words.specs.declared.request.Job.{Job}
 use Rattle.dw_words.specs.declared.request.Request.{Request}
 use Rattle.dw_words.specs.declared.request.Request.TheVariants as requests
@@ -26,12 +26,21 @@ module _ (values : List Row) where
   abbrev pub MaySay : {T : Type 0} → Text → (Text → Option T) → T → T → Type 0
   MaySay name read without v = option_map_or read (first_of name values) (Some without) ≡ Some v
 
+  -- all values of this name, none where the words have none
+  abbrev pub texts_of : Text → List Text
+  texts_of name = unwrap_or (all_of name values) []
+
+  -- each of them is read so
+  abbrev pub SaysAll : {T : Type 0} → Text → (Text → Option T) → List T → Type 0
+  SaysAll name read vs = all_read read (texts_of name) ≡ Some vs
+
   -- the path of this name
   abbrev pub Names : Text → Text → Type 0
   Names name path = first_of name values ≡ Some path
 
   -- these values of the subcommand of this name are those of a task
   abbrev pub IsTask : Text → Size → Task → Type 0
+  IsTask name size (tasks.At l) = (name ≡ codes "at") × Names (codes "FILE") l.path.now × SaysAll (codes "ADDRESS") (address size) l.addresses.items
   IsTask name size (tasks.Check path) = (name ≡ codes "check") × Names (codes "FILE") path.now
   IsTask name size (tasks.Cost path) = (name ≡ codes "cost") × Names (codes "FILE") path.now
   IsTask name size (tasks.Entries path) = (name ≡ codes "entries") × Names (codes "FILE") path.now
@@ -63,6 +72,7 @@ module _ (values : List Row) where
       ⊎ (what ≡ codes "--start") × ((size : Size) × Says (codes "size") size_of size × Misreads (codes "start") (address size))
       ⊎ (what ≡ codes "--cap") × Misreads (codes "cap") cap_of
       ⊎ (what ≡ codes "HEX") × Misreads (codes "HEX") block_of
+      ⊎ (what ≡ codes "ADDRESS") × ((size : Size) × Says (codes "size") size_of size × (all_read (address size) (texts_of (codes "ADDRESS")) ≡ None))
 
 -- ---- plans
 

@@ -1,5 +1,5 @@
 -- What the texts of options and operands say.
-use Rattle.std.specs.Prelude.{ℕ, ◌==◌, ◌&&◌, nat_lt, if◌then◌else◌, List, length, drop, slice_index, codes, Option, Some, None, option_and_then}
+use Rattle.std.specs.Prelude.{ℕ, ◌==◌, ◌&&◌, nat_lt, if◌then◌else◌, List, [], ◌∷◌, length, drop, slice_index, codes, Option, Some, None, option_and_then, option_map}
 use Rattle.std.specs.Result.{result_ok}
 use Rattle.std.specs.Str.{bytes_eq}
 use Rattle.clap.specs.Words.{Text}
@@ -41,6 +41,11 @@ abbrev pub address : Size → Text → Option ℕ
 address size text =
     if nat_lt 2 (length text) && (nat_lt (length text) 19 && (slice_index text 0 == 48 && slice_index text 1 == 120))
     then option_and_then (below (address_limit size)) (number_behind 16 0 (drop 2 text)) else None
+
+-- all texts of a list, each read so
+abbrev pub all_read : {T : Type 0} → (Text → Option T) → List Text → Option (List T)
+all_read read [] = Some []
+all_read read (text ∷ texts) = option_and_then (λ v. option_map (λ vs. v ∷ vs) (all_read read texts)) (read text)
 
 -- a number of bytes, no more than a section has
 abbrev pub cap_of : Text → Option ℕ

@@ -3,8 +3,8 @@
 ghost use Rattle.std.specs.Prelude.{◌≡◌, IfOk};
 ghost use Rattle.clap.specs.Words.{App, app_of, with_subcommand};
 ghost use Rattle.clap.specs.declared.builder.command.Command.TheViews.{out-Command};
-ghost use Rattle.dw_words.specs.CommandLine.{dwframe, flag, operand, program};
-ghost use Rattle.dw_words.specs.Inner.CommandLine.{IsArg, IsCommand, choice, eval, expr, needed, normal, over_file, same, subcommand, unwind, with_expressions, with_normal_forms, with_sections};
+ghost use Rattle.dw_words.specs.CommandLine.{dwframe, flag, operand, operands, program};
+ghost use Rattle.dw_words.specs.Inner.CommandLine.{IsArg, IsCommand, at, choice, eval, expr, needed, normal, over_file, same, subcommand, unwind, with_expressions, with_normal_forms, with_sections};
 
 use crate::help;
 use clap::{Arg, ArgAction, Command};
@@ -49,6 +49,12 @@ fn operand<'a>(alloc: Global, name: &'a str, required: bool, help: &'a str) -> A
         .help(help)
 }
 
+fn operands<'a>(alloc: Global, name: &'a str, help: &'a str) -> Arg<'a>
+    ensures { IsArg (operands name.entry.now) result }
+{
+    Arg::new(alloc, name).action(ArgAction::Append).help(help)
+}
+
 fn described<'a>(command: Command<'a>, about: &'a str, after: &'a str) -> Command<'a>
     ensures app { app_of result ≡ app_of command.entry }
     ensures local { (out-Command result).has_globals ≡ (out-Command command.entry).has_globals }
@@ -80,6 +86,12 @@ fn over_file<'a>(
     ensures { IfOk result (λ c. IsCommand (over_file name.entry.now) c) }
 {
     subcommand(alloc, name, about, after)?.arg(operand(alloc, "FILE", true, help::FILE))
+}
+
+fn at<'a>(alloc: Global) -> Result<Command<'a>, AllocError>
+    ensures { IfOk result (λ c. IsCommand at c) }
+{
+    over_file(alloc, "at", help::AT, help::AFTER_AT)?.arg(operands(alloc, "ADDRESS", help::ADDRESS))
 }
 
 fn expr<'a>(alloc: Global) -> Result<Command<'a>, AllocError>
@@ -150,6 +162,7 @@ fn with_sections<'a>(alloc: Global, command: Command<'a>) -> Result<Command<'a>,
         command,
         over_file(alloc, "rows", help::ROWS, help::AFTER_ROWS),
     )?;
+    let command = added(command, at(alloc))?;
     let entries = over_file(alloc, "entries", help::ENTRIES, help::AFTER_ENTRIES);
     added(command, entries)
 }

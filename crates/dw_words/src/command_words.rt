@@ -1,13 +1,14 @@
 //! What the words of a command line ask for.
 
-ghost use Rattle.std.specs.Prelude.{◌≡◌, ◌≤◌, IfSome, map, option_map, string_bytes};
-ghost use Rattle.clap.specs.Words.{first_of, found_of, rows_of};
+ghost use Rattle.std.specs.Prelude.{◌≡◌, ◌≤◌, [], IfOk, IfSome, map, option_map, string_bytes};
+ghost use Rattle.clap.specs.Words.{all_of, first_of, found_of, rows_of};
 ghost use Rattle.dw_words.specs.Plan.{Planned, is_help};
-ghost use Rattle.dw_words.specs.declared.request.Name.TheVariants.{Check, Eval, Expr, Normal, Same, Unwind};
-ghost use Rattle.dw_words.specs.Inner.Plan.{Answers, FromFault, Given, GivenAt, IsSupplied, block_in, cap_in, default_in, eval_in, expr_in, file_in, name_of, normal_in, options, own, profile_in, run_held, run_in, same_in, start_in, steps_in, target_in, task_held, task_in, unwind_in};
+ghost use Rattle.dw_words.specs.Values.{address, all_read};
+ghost use Rattle.dw_words.specs.declared.request.Name.TheVariants.{At, Check, Eval, Expr, Normal, Same, Unwind};
+ghost use Rattle.dw_words.specs.Inner.Plan.{Answers, FromFault, Given, GivenAt, IsSupplied, addresses_in, at_in, block_in, cap_in, default_in, eval_in, expr_in, file_in, name_of, normal_in, options, own, profile_in, run_held, run_in, same_in, start_in, steps_in, target_in, task_held, task_in, unwind_in};
 
 use crate::command_line::command_line;
-use crate::request::{Evaluation, Job, Name, PlanError, Request, Task, Unwinding, Writing};
+use crate::request::{Evaluation, Job, Lookup, Name, PlanError, Request, Task, Unwinding, Writing};
 use crate::values::{address, block_of, decimal, default_of, order_of, profile_of, size_of};
 use clap::ArgMatches;
 use clap::error::ErrorKind;
@@ -15,7 +16,7 @@ use dw_eval::Policy;
 use dw_num::{Size, Target};
 use dw_op::Profile;
 use hex::FromHexError;
-use std::alloc::Global;
+use std::alloc::{AllocError, Global};
 
 // How many operations are executed where the words do not say.
 const STEPS: u64 = 10_000;
@@ -29,10 +30,17 @@ fn text_of<'a>(matches: &ArgMatches<'a>, id: &str) -> Option<&'a str>
     matches.get_str(id)
 }
 
+fn texts_of<'m, 'a>(matches: &'m ArgMatches<'a>, id: &str) -> Option<&'m [&'a str]>
+    ensures { option_map (λ texts. map (λ s. s.now) texts.now) result ≡ all_of id.now (rows_of (found_of matches.now)) }
+{
+    matches.get_strs(id)
+}
+
 fn name_of(text: &str) -> Option<Name>
     ensures { result ≡ name_of text.now }
 {
     match text {
+        "at" => Some(Name::At),
         "check" => Some(Name::Check),
         "cost" => Some(Name::Cost),
         "entries" => Some(Name::Entries),
@@ -85,7 +93,7 @@ fn start_in(matches: &ArgMatches<'_>, size: Size) -> Option<Option<u64>>
     let Some(text) = text_of(matches, "start") else {
         return Some(None);
     };
-    let value = address(text, size)?;
+    let value = address(text.as_bytes(), size)?;
     Some(Some(value))
 }
 
@@ -118,6 +126,41 @@ fn block_in(alloc: Global, matches: &ArgMatches<'_>) -> Result<Vec<u8>, PlanErro
         Err(FromHexError::OutOfMemory) => Err(PlanError::OutOfMemory),
         Err(_) => Err(PlanError::BadValue("HEX")),
     }
+}
+
+// The addresses that texts say, or none where one of them says none.
+fn all_addresses(alloc: Global, texts: &[&str], size: Size) -> Result<Option<Vec<u64>>, AllocError>
+    ensures { IfOk result (λ found. option_map (λ addresses. addresses.items) found ≡ all_read (address size) (map (λ s. s.now) texts.now)) }
+{
+    let mut addresses = Vec::new(alloc);
+    for text in texts {
+        let Some(value) = address(text.as_bytes(), size) else {
+            return Ok(None);
+        };
+        addresses.push(value)?;
+    }
+    Ok(Some(addresses))
+}
+
+// The addresses of the words, in their order.
+fn addresses_in(alloc: Global, matches: &ArgMatches<'_>, size: Size) -> Result<Vec<u64>, PlanError>
+    ensures { Answers (rows_of (found_of matches.now)) (GivenAt size []) (addresses_in size) (λ addresses. addresses.items) result }
+{
+    let Some(texts) = texts_of(matches, "ADDRESS") else {
+        return Ok(Vec::new(alloc));
+    };
+    match all_addresses(alloc, texts, size)? {
+        Some(addresses) => Ok(addresses),
+        None => Err(PlanError::BadValue("ADDRESS")),
+    }
+}
+
+fn at_in<'a>(alloc: Global, matches: &ArgMatches<'a>, size: Size) -> Result<Task<'a>, PlanError>
+    ensures { Answers (rows_of (found_of matches.now)) (GivenAt size (own At)) (at_in size) task_held result }
+{
+    let path = path_in(matches)?;
+    let addresses = addresses_in(alloc, matches, size)?;
+    Ok(Task::At(Lookup { path, addresses }))
 }
 
 fn eval_in<'a>(alloc: Global, matches: &ArgMatches<'a>, size: Size) -> Result<Task<'a>, PlanError>
@@ -214,6 +257,7 @@ fn task_in<'a>(
     ensures { Answers (rows_of (found_of matches.now)) (GivenAt size (own name)) (task_in name size) task_held result }
 {
     match name {
+        Name::At => at_in(alloc, matches, size),
         Name::Check => Ok(Task::Check {
             path: path_in(matches)?,
         }),
@@ -274,7 +318,7 @@ fn plan_of_fault<'a>(error: clap::Error) -> Result<Request<'a>, PlanError>
 /// A run is answered exactly where `clap` reads the words as that subcommand with that size, order, options and operands, and
 /// each value is one that it may have. `Help` is answered where they ask for help or the version. `Words` is answered where `clap`
 /// refuses them, and `BadValue` where it takes them and a value is none that it may have: the first of `--size`, `--order`,
-/// `--cap`, `--steps`, `--start`, `--default` and `HEX`, whatever the order of the words.
+/// `--cap`, `--steps`, `--start`, `--default`, `HEX` and `ADDRESS`, whatever the order of the words.
 pub fn plan<'a>(alloc: Global, words: &'a [String]) -> Result<Request<'a>, PlanError>
     ensures { Planned (map string_bytes words.entry.now) result }
 {

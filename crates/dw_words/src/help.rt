@@ -27,6 +27,9 @@ pub const ORDER: &str = "Byte order of the target";
 
 pub const FILE: &str = "Raw .debug_frame section";
 
+pub const ADDRESS: &str =
+    "Addresses, 0x and 1 to 16 hexadecimal digits [default: those of standard input, one a line]";
+
 pub const FILE2: &str = "Raw .debug_frame section to compare with";
 
 pub const HEX: &str = "Bytes of the expression in hexadecimal, two digits a byte, without 0x";
@@ -63,6 +66,14 @@ pub const AFTER_ROWS: &str =
 
 Example:
   dwframe rows --size 8 --order little a.bin";
+
+pub const AT: &str = "Print the FDE that covers each of some addresses, and its rules there";
+
+pub const AFTER_AT: &str =
+    "Exit status: 0 done, 2 refused, 3 wrong arguments, 4 file or output fails, 5 out of memory
+
+Example:
+  dwframe at --size 8 --order little a.bin 0x401004 0x401234";
 
 pub const ENTRIES: &str = "List the CIEs and FDEs of a section by place";
 

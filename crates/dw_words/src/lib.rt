@@ -11,4 +11,5 @@ mod request;
 mod values;
 
 pub use command_words::plan;
-pub use request::{Evaluation, Job, Name, PlanError, Request, Task, Unwinding, Writing};
+pub use request::{Evaluation, Job, Lookup, Name, PlanError, Request, Task, Unwinding, Writing};
+pub use values::address;

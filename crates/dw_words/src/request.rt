@@ -29,6 +29,8 @@ pub struct Job<'a> {
 /// A subcommand.
 #[derive(Clone, Copy, Debug, PartialEq, Eq)]
 pub enum Name {
+    /// `dwframe at`.
+    At,
     /// `dwframe check`.
     Check,
     /// `dwframe cost`.
@@ -51,6 +53,8 @@ pub enum Name {
 
 /// A subcommand with its own options and operands. Files are named by their paths.
 pub enum Task<'a> {
+    /// `dwframe at`: the path of the section, and the addresses that are looked up.
+    At(Lookup<'a>),
     /// `dwframe check`: the path of the section.
     Check { path: &'a str },
     /// `dwframe cost`: the path of the section.
@@ -69,6 +73,15 @@ pub enum Task<'a> {
     Same { path: &'a str, other: &'a str },
     /// `dwframe unwind`: the paths of the section and of the dump, with `--default` and `--steps`.
     Unwind(Unwinding<'a>),
+}
+
+/// A section, and the addresses that are looked up in it.
+#[derive(Drop)]
+pub struct Lookup<'a> {
+    /// The path of the section.
+    pub path: &'a str,
+    /// Addresses of the target, in the order of the words. Where there are none, the lines of standard input have them.
+    pub addresses: Vec<u64>,
 }
 
 /// An expression with what it is evaluated over.

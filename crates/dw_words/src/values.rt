@@ -110,11 +110,10 @@ pub(crate) fn decimal(text: &str) -> Option<u64>
     number_of(10, digits)
 }
 
-/// The address that `0x` and 1 to 16 hexadecimal digits say.
-pub(crate) fn address(text: &str, size: Size) -> Option<u64>
+/// The address that `0x` and 1 to 16 hexadecimal digits say, below 2^32 or 2^64 by the size of an address. Any other text is none.
+pub fn address(text: &[u8], size: Size) -> Option<u64>
     ensures { result ≡ address size text.now }
 {
-    let text = text.as_bytes();
     if text.len() <= 2 || text.len() >= 19 || text[0] != b'0' || text[1] != b'x' {
         return None;
     }

@@ -7,6 +7,11 @@ ghost use Rattle.std.specs.Prelude.{◌≡◌, ◌≢◌, ⊤, ◌≤◌, map, s
 ghost use Rattle.std.specs.IoError.{error_kind};
 ghost use Rattle.dw_command.specs.Engine.{Runs};
 
+mod explained;
+mod piped;
+
+use crate::explained::{Explained, Held};
+use crate::piped::Piped;
 use dw_command::{Disk, Hinted, Shown, engine};
 use std::io::{ErrorKind, IsTerminal, Write};
 use std::process::ExitCode;
@@ -17,21 +22,31 @@ fn words_of(rt: &HostRuntime) -> io::Result<Vec<String>> {
     Ok(env::args(rt)?.collect(rt.alloc())?)
 }
 
-// The exit status of the command over the files of the system. Hints are for people alone, so that a program that reads
-// standard error finds the one line. A terminal is told no control characters of a path.
-fn run<W: Write>(rt: &HostRuntime, words: &[String], out: &mut W) -> u8
-    // It is the status of an answer to these words, whatever the files hold.
-    ensures runs { Runs (λ _ _. ⊤) (W.contents out.old) (W.contents out.new) (map string_bytes words.now) result }
+// The exit status of the command over the files of the system, for people: beside the one line of a failure, hints say
+// more, and nothing is said where the reader of a pipe has gone. A terminal is told no control characters of a path.
+fn run_for_people<W: Write>(rt: &HostRuntime, words: &[String], out: &mut Piped<W>) -> u8
+    ensures runs { Runs (λ _ _. ⊤) (W.contents out.old.out) (W.contents out.new.out) (map string_bytes words.now) result }
     ensures most { result ≤ 5 }
 {
-    let mut files = Disk::new(rt);
+    let files = Explained::new(Disk::new(rt), rt, Shown::new(rt.stderr()));
+    let mut files = Hinted::new(files, Shown::new(rt.stderr()));
+    let mut err = Held::new(Shown::new(rt.stderr()));
+    let status = engine(rt.alloc(), words, &mut files, out, &mut err);
+    let _ = err.finish(out.is_closed());
+    status
+}
+
+// The same, also for programs, which find one line on standard error.
+fn run<W: Write>(rt: &HostRuntime, words: &[String], out: &mut Piped<W>) -> u8
+    // It is the status of an answer to these words, whatever the files hold.
+    ensures runs { Runs (λ _ _. ⊤) (W.contents out.old.out) (W.contents out.new.out) (map string_bytes words.now) result }
+    ensures most { result ≤ 5 }
+{
     let mut err = rt.stderr();
     if err.is_terminal() {
-        let mut err = Shown::new(err);
-        let mut files = Hinted::new(files, Shown::new(rt.stderr()));
-        return engine(rt.alloc(), words, &mut files, out, &mut err);
+        return run_for_people(rt, words, out);
     }
-    engine(rt.alloc(), words, &mut files, out, &mut err)
+    engine(rt.alloc(), words, &mut Disk::new(rt), out, &mut err)
 }
 
 // Without words there is no run: memory ran out, or a word is not text.
@@ -51,7 +66,7 @@ fn status_without_run(rt: &HostRuntime, error: &io::Error) -> u8
 fn main(rt: HostRuntime) -> ExitCode {
     match words_of(&rt) {
         Ok(words) => {
-            let mut out = rt.stdout();
+            let mut out = Piped::new(rt.stdout());
             ExitCode::from(run(&rt, words.as_slice(), &mut out))
         }
         Err(error) => ExitCode::from(status_without_run(&rt, &error)),

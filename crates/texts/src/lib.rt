@@ -7,6 +7,8 @@ mod expressions;
 #[cfg(test)]
 mod frames;
 #[cfg(test)]
+mod lookups;
+#[cfg(test)]
 mod normal_forms;
 #[cfg(test)]
 mod notation;

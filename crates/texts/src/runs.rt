@@ -26,7 +26,7 @@ pub(crate) const LEFTOVERS: &[u8] =
 pub(crate) const DUMP: &[u8] =
     b"pc 0x401004\nr6 0x7ffe00\nr7 0x7ffdf0\nmem 0x7ffe00 00020000000000008812400000000000\n";
 
-// Two files, by their names. There is no memory for one named `huge`.
+// Two files, by their names, the second also as standard input. There is no memory for one named `huge`.
 #[derive(Drop)]
 struct Files<'a> {
     first: &'a [u8],
@@ -38,7 +38,7 @@ impl Load for Files<'_> {
     fn load(&mut self, path: &str) -> Result<Vec<u8>, LoadError> {
         match path {
             "in" => Vec::from_slice(self.alloc, self.first).map_err(|_| LoadError::OutOfMemory),
-            "second" => Vec::from_slice(self.alloc, self.second).map_err(
+            "second" | "-" => Vec::from_slice(self.alloc, self.second).map_err(
                 |_| LoadError::OutOfMemory,
             ),
             "huge" => Err(LoadError::OutOfMemory),

@@ -1,7 +1,6 @@
 -- What is asked of a section's headers.
-use Rattle.std.specs.Prelude.{◌≡◌, ℕ, ◌+◌, ◌<◌, ◌≤◌, true, FitsSigned, List, Option, Some, None}
+use Rattle.std.specs.Prelude.{◌≡◌, ℕ, ◌+◌, ◌<◌, ◌≤◌, true, List, Option, Some, None}
 use Rattle.std.specs.List.{filter_map}
-use Rattle.std.specs.Int.{w64}
 use Rattle.dw_num.specs.declared.target.Target.{Target}
 use Rattle.dw_num.specs.Input.{AreBytes}
 use Rattle.dw_num.specs.Span.{Span}
@@ -39,8 +38,3 @@ FdeFits target places (fde f) =
 
 abbrev pub HasBytes : Head → Type 0
 HasBytes h = AreBytes (head_program h).bytes
-
--- a data factor is of its type
-abbrev pub IsTyped : Head → Type 0
-IsTyped (cie c) = FitsSigned w64 c.data_factor
-IsTyped (fde f) = Unit {0}

@@ -9,22 +9,18 @@ use Rattle.dw_cfa.specs.declared.instr.Instr.{Instr}
 use Rattle.dw_cfa.specs.Behind.{Leaves}
 use Rattle.dw_cfa.specs.CieMachine.{Following}
 use Rattle.dw_cfa.specs.Rows.{Rules}
-use Rattle.dw_section.specs.declared.program.Initial.{Initial}
+use Rattle.dw_section.specs.declared.header.Initial.{Initial}
 use Rattle.dw_section.specs.declared.program.Long.{Long}
 use Rattle.dw_section.specs.declared.program.Runner.{Runner}
 use Rattle.dw_section.specs.Stage.{FirstStuck}
-use Rattle.dw_section.specs.Headers.{CieHead, Head, cie}
+use Rattle.dw_section.specs.Headers.{Head, cie}
+use Rattle.dw_section.specs.Inner.PieceHeader.{initial_head}
 use Rattle.dw_section.specs.Inner.Heads.{head_at, cie_ats}
 use Rattle.dw_section.specs.Programs.{CieRuns, HasRules, LacksRule}
 use Rattle.dw_section.specs.Among.{IsAmong}
 
 abbrev pub place_of : Initial → ℕ
 place_of c = c.at
-
--- the header that it is kept of
-abbrev pub initial_head : Form → Initial → CieHead
-initial_head form c =
-    record { at = c.at; form = form; code_factor = c.factors.code_factor; data_factor = c.factors.data_factor; return_register = c.return_register; program = span_of c.program }
 
 -- it is of a CIE among the headers, whose program leaves a row
 abbrev pub IsInitial : Target → List Head → Initial → Type 0

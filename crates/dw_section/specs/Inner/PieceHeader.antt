@@ -1,15 +1,18 @@
 -- Reading the header of a piece as the code does it.
 use Rattle.std.specs.Prelude.{ℕ, List, Result, Ok}
 use Rattle.dw_num.specs.declared.refusal.Refusal.{Refusal}
+use Rattle.dw_num.specs.declared.target.Form.{Form}
 use Rattle.dw_num.specs.declared.target.Target.{Target}
 use Rattle.dw_num.specs.Input.{Input}
 use Rattle.dw_num.specs.Front.{◌>>=◌}
-use Rattle.dw_num.specs.Span.{Span, input_of}
+use Rattle.dw_num.specs.Span.{Span, span_of, input_of}
 use Rattle.dw_section.specs.declared.fields.CieFields.{CieFields}
 use Rattle.dw_section.specs.declared.fields.FdeFields.{FdeFields}
+use Rattle.dw_section.specs.declared.header.FdeEntry.{FdeEntry}
+use Rattle.dw_section.specs.declared.header.Initial.{Initial}
 use Rattle.dw_section.specs.Cut.{Piece}
 use Rattle.dw_section.specs.Fields.{cie_fields, fde_fields}
-use Rattle.dw_section.specs.Headers.{Head, cie_head, fde_head}
+use Rattle.dw_section.specs.Headers.{CieHead, FdeHead, Head, cie, fde, cie_head, fde_head}
 use Rattle.dw_section.specs.Inner.Fields.{fields_at}
 
 abbrev pub contents_of : Target → Piece → Input
@@ -31,3 +34,17 @@ fde_of_piece p f = Ok (fde_head p f.0 (program_of f.1))
 -- the header of an FDE, or what is wrong in it
 unfoldable pub fde_at : Target → List ℕ → Piece → Result Head Refusal
 fde_at target places p = fields_at (fde_fields target.size places p.form) (contents_of target p) >>= fde_of_piece p
+
+-- ---- what the code holds
+
+-- the header of a CIE that is kept
+abbrev pub initial_head : Form → Initial → CieHead
+initial_head form c =
+    record { at = c.at; form = form; code_factor = c.factors.code_factor; data_factor = c.factors.data_factor; return_register = c.return_register; program = span_of c.program }
+
+abbrev pub initial_in : Form → Initial → Head
+initial_in form c = cie (initial_head form c)
+
+-- the header of an FDE that was read
+abbrev pub entry_in : Form → FdeEntry → Head
+entry_in form e = fde (record { at = e.at; form = form; cie_at = e.cie_at; begin = e.begin; range = e.range; program = span_of e.program })

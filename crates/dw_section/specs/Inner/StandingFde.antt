@@ -1,5 +1,5 @@
 -- How the code finds an FDE that stands in bytes.
-use Rattle.std.specs.Prelude.{◌≡◌, ◌⊎◌, ℕ, List, Bool, true, false}
+use Rattle.std.specs.Prelude.{◌≡◌, ◌⊎◌, ℕ, List}
 use Rattle.dw_num.specs.declared.error.ReadError.{ReadError}
 use Rattle.dw_num.specs.declared.error.ReadError.TheVariants as read_error
 use Rattle.dw_num.specs.declared.refusal.Refusal.{Refusal}
@@ -7,11 +7,14 @@ use Rattle.dw_num.specs.declared.target.Form.{Form}
 use Rattle.dw_num.specs.declared.target.Target.{Target}
 use Rattle.dw_num.specs.Span.{span_of, input_of}
 use Rattle.dw_cfa.specs.FaultPlaces.{LiesInProgram}
+use Rattle.dw_section.specs.declared.header.FdeEntry.{FdeEntry}
+use Rattle.dw_section.specs.declared.header.Initial.{Initial}
 use Rattle.dw_section.specs.declared.listed_fde.FoundFde.{FoundFde}
 use Rattle.dw_section.specs.declared.standing_fde.LookUpError.{LookUpError}
 use Rattle.dw_section.specs.declared.standing_fde.LookUpError.TheVariants.{Refused, OutOfMemory}
-use Rattle.dw_section.specs.Headers.{CieHead, FdeHead, Head, cie, fde}
+use Rattle.dw_section.specs.Headers.{CieHead, FdeHead, cie, fde}
 use Rattle.dw_section.specs.Inner.Index.{found_cie, found_head}
+use Rattle.dw_section.specs.Inner.PieceHeader.{entry_in, initial_in}
 use Rattle.dw_section.specs.StandingFde.{FdeStands}
 
 -- some FDE stands at a place
@@ -26,14 +29,10 @@ FoundStands target s e = (form : Form) × (cie_form : Form) × FdeStands target 
 abbrev pub LiesInPrograms : Target → FoundFde → Refusal → Type 0
 LiesInPrograms target e r = LiesInProgram (input_of target (span_of e.cie_program)) r ⊎ LiesInProgram (input_of target (span_of e.program)) r
 
-abbrev pub is_fde : Head → Bool
-is_fde (cie c) = false
-is_fde (fde f) = true
-
--- an FDE's header and a CIE's, together
-abbrev pub AreJoined : Head → Head → FoundFde → Type 0
+-- what an FDE says and what its CIE says, together
+abbrev pub AreJoined : FdeEntry → Initial → FoundFde → Type 0
 AreJoined own named e =
-    (form : Form) × (cie_form : Form) × (place : ℕ) × (own ≡ fde (found_head form e)) × (named ≡ cie (found_cie cie_form place e.return_register e))
+    (form : Form) → (cie_form : Form) → (entry_in form own ≡ fde (found_head form e)) × (initial_in cie_form named ≡ cie (found_cie cie_form named.at e.return_register e))
 
 abbrev pub of_steps : ReadError → LookUpError
 of_steps (read_error.Refused r) = Refused r

@@ -4,7 +4,7 @@ use Rattle.clap.specs.declared.builder.arg.Arg.{Arg}
 use Rattle.clap.specs.declared.builder.command.Command.{Command}
 use Rattle.clap.specs.declared.builder.command.Command.TheViews.{out-Command}
 use Rattle.clap.specs.Words.{App, Rule, Text, app_of, new_app, rule_of, with_rule, with_subcommand}
-use Rattle.dw_words.specs.CommandLine.{file, flag, operand, option, program}
+use Rattle.dw_words.specs.CommandLine.{file, flag, operand, operands, option, program}
 
 -- an argument has this rule, and is no global one
 abbrev pub IsArg : Rule → Arg → Type 0
@@ -28,6 +28,9 @@ subcommand name = with_rule (with_rule (new_app name) (needed (codes "size"))) (
 abbrev pub over_file : Text → App
 over_file name = with_rule (subcommand name) file
 
+abbrev pub at : App
+at = with_rule (over_file (codes "at")) (operands (codes "ADDRESS"))
+
 abbrev pub expr : App
 expr = with_rule (with_rule (subcommand (codes "expr")) (flag (codes "frame"))) (operand true (codes "HEX"))
 
@@ -47,7 +50,7 @@ abbrev pub cost : App
 cost = over_file (codes "cost")
 
 abbrev pub with_sections : App → App
-with_sections a = with_subcommand (with_subcommand (with_subcommand a (over_file (codes "check")).top) (over_file (codes "rows")).top) (over_file (codes "entries")).top
+with_sections a = with_subcommand (with_subcommand (with_subcommand (with_subcommand a (over_file (codes "check")).top) (over_file (codes "rows")).top) at.top) (over_file (codes "entries")).top
 
 abbrev pub with_expressions : App → App
 with_expressions a = with_subcommand (with_subcommand (with_subcommand a expr.top) eval.top) unwind.top

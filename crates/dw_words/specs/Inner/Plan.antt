@@ -9,8 +9,8 @@ use Rattle.dw_num.specs.declared.target.Size.{Size}
 use Rattle.dw_num.specs.declared.target.Target.{Target}
 use Rattle.dw_op.specs.declared.profile.Profile.{Profile}
 use Rattle.dw_eval.specs.declared.policy.Policy.{Policy}
-use Rattle.dw_words.specs.Plan.{IsBad, Says, is_help}
-use Rattle.dw_words.specs.Values.{address, block_of, cap_of, decimal, default_of, order_of, profile_of, size_of}
+use Rattle.dw_words.specs.Plan.{IsBad, Says, is_help, texts_of}
+use Rattle.dw_words.specs.Values.{address, all_read, block_of, cap_of, decimal, default_of, order_of, profile_of, size_of}
 use Rattle.dw_words.specs.declared.request.Job.{Job}
 use Rattle.dw_words.specs.declared.request.Name.{Name}
 use Rattle.dw_words.specs.declared.request.Name.TheVariants as names
@@ -25,6 +25,7 @@ use Rattle.dw_words.specs.declared.request.Task.TheVariants as tasks
 
 -- the name of a subcommand
 abbrev pub text_of : Name → Text
+text_of names.At = codes "at"
 text_of names.Check = codes "check"
 text_of names.Cost = codes "cost"
 text_of names.Entries = codes "entries"
@@ -37,7 +38,8 @@ text_of names.Unwind = codes "unwind"
 
 abbrev pub name_of : Text → Option Name
 name_of text =
-    if bytes_eq text (codes "check") then Some names.Check
+    if bytes_eq text (codes "at") then Some names.At
+    else (if bytes_eq text (codes "check") then Some names.Check
     else (if bytes_eq text (codes "cost") then Some names.Cost
     else (if bytes_eq text (codes "entries") then Some names.Entries
     else (if bytes_eq text (codes "eval") then Some names.Eval
@@ -45,7 +47,7 @@ name_of text =
     else (if bytes_eq text (codes "normal") then Some names.Normal
     else (if bytes_eq text (codes "rows") then Some names.Rows
     else (if bytes_eq text (codes "same") then Some names.Same
-    else (if bytes_eq text (codes "unwind") then Some names.Unwind else None))))))))
+    else (if bytes_eq text (codes "unwind") then Some names.Unwind else None)))))))))
 
 -- the target that the options give
 abbrev pub target_in : List Row → Option Target
@@ -72,6 +74,9 @@ block_in values = option_and_then block_of (first_of (codes "HEX") values)
 abbrev pub file_in : List Row → Option Text
 file_in values = first_of (codes "FILE") values
 
+abbrev pub addresses_in : Size → List Row → Option (List ℕ)
+addresses_in size values = all_read (address size) (texts_of values (codes "ADDRESS"))
+
 abbrev pub dump_in : List Row → Option Text
 dump_in values = first_of (codes "DUMP") values
 
@@ -79,6 +84,8 @@ dump_in values = first_of (codes "DUMP") values
 
 -- a subcommand with its options and operands; files by their paths
 pub data Task : Type 0 where
+  -- the section, the addresses
+  at : Text → List ℕ → Task
   check : Text → Task
   cost : Text → Task
   entries : Text → Task
@@ -95,6 +102,9 @@ pub data Task : Type 0 where
 pub record Run : Type 0 where
   pub target : Target
   pub task : Task
+
+abbrev pub at_in : Size → List Row → Option Task
+at_in size values = option_and_then (λ path. option_map (λ addresses. at path addresses) (addresses_in size values)) (file_in values)
 
 abbrev pub eval_in : Size → List Row → Option Task
 eval_in size values = option_and_then (λ steps. option_and_then (λ start. option_map (λ block. eval steps start block (dump_in values)) (block_in values)) (start_in size values)) (steps_in values)
@@ -113,6 +123,7 @@ unwind_in values = option_and_then (λ steps. option_and_then (λ default. optio
 
 -- the task of a subcommand with these values
 abbrev pub task_in : Name → Size → List Row → Option Task
+task_in names.At size values = at_in size values
 task_in names.Check size values = option_map check (file_in values)
 task_in names.Cost size values = option_map cost (file_in values)
 task_in names.Entries size values = option_map entries (file_in values)
@@ -130,6 +141,7 @@ run_in text values = option_and_then (λ name. option_and_then (λ target. optio
 -- ---- how the code keeps them
 
 abbrev pub task_held : declared.Task → Task
+task_held (tasks.At l) = at l.path.now l.addresses.items
 task_held (tasks.Check path) = check path.now
 task_held (tasks.Cost path) = cost path.now
 task_held (tasks.Entries path) = entries path.now

@@ -1,13 +1,16 @@
 use Rattle.std.proofs.Common.{length}
-use Rattle.dw_command.specs.Answers.{Costs, Cuts, EvalEnds, Normalises, OverFile, Prints, ListsFdes, Tallies, UnwindEnds, costs_text}
+use Rattle.dw_command.specs.Answers.{AtEnds, Costs, Cuts, EvalEnds, Normalises, OverFile, Prints, ListsFdes, Tallies, UnwindEnds, costs_text}
 use Rattle.dw_command.specs.Inner.Output.{output_of}
 use Rattle.dw_command.specs.RowTexts.{member_text}
 use Rattle.dw_command.specs.Texts.{counts_text, entry_text, lines}
 use Rattle.dw_command.proofs.Endings.{done}
 use Rattle.dw_command.proofs.command.run_job.Goals as goal
 
+pub returns-in-At-clause-ends : goal.returns-in-At-clause-ends
+returns-in-At-clause-ends g c = rw c.in-At.is (done (AtEnds (g.L.Load.gives c.args.files.now) (output_of g.W.Write.contents c.args.out.now) (output_of g.W.Write.contents c.run_at.new.out) c.args.job.target c.in-At.lookup) c.run_at.result c.done.result c.done.ensures c.run_at.ensures)
+
 pub returns-in-Check-clause-ends : goal.returns-in-Check-clause-ends
-returns-in-Check-clause-ends g c = rw c.in-Check.is (done (OverFile (g.L.Load.gives c.args.files.now) (output_of g.W.Write.contents c.args.out.now) (output_of g.W.Write.contents c.run_check.new.out) c.in-Check.path.now (Tallies c.args.job.target) (λ s counts. Prints {A = Unit {0}} (output_of g.W.Write.contents c.args.out.now) (output_of g.W.Write.contents c.run_check.new.out) (counts_text counts (length s)) tt)) c.run_check.result c.done.result c.done.ensures c.run_check.ensures)
+returns-in-Check-clause-ends g c = rw c.in-Check.is (done (OverFile (g.L.Load.gives c.args.files.now) (output_of g.W.Write.contents c.args.out.now) (output_of g.W.Write.contents c.run_check.new.out) c.in-Check.path.now (Tallies c.args.job.target) (λ s counts. Prints {A = Unit {0}} (output_of g.W.Write.contents c.args.out.now) (output_of g.W.Write.contents c.run_check.new.out) (counts_text counts (length s)) tt)) c.run_check.result c.done-in-Check.result c.done-in-Check.ensures c.run_check.ensures)
 
 pub returns-in-Cost-clause-ends : goal.returns-in-Cost-clause-ends
 returns-in-Cost-clause-ends g c = rw c.in-Cost.is (done (OverFile (g.L.Load.gives c.args.files.now) (output_of g.W.Write.contents c.args.out.now) (output_of g.W.Write.contents c.run_cost.new.out) c.in-Cost.path.now (Costs c.args.job.target) (λ s cost. Prints {A = Unit {0}} (output_of g.W.Write.contents c.args.out.now) (output_of g.W.Write.contents c.run_cost.new.out) (costs_text (length s) cost) tt)) c.run_cost.result c.done-in-Cost.result c.done-in-Cost.ensures c.run_cost.ensures)

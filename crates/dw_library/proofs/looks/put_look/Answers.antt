@@ -32,7 +32,7 @@ returns-clause-look c =
     let looked = subst (λ (b : Bool). LooksUp table fs.0 a b row) c.if-not-branch.false (looks fs.0 fs.1) in
     let rules = subst (RulesAt table.target table.bytes a) (same_Some looked.0 specified (sym looked.1 ∙ c.in-Some-row.ensures)) looked.2 in (
       record { row = c.told_row.result; rules = map rule_of specified.registers },
-      inl (record { fde = fde; row = specified }, rules, λ gs are. (is gs are).0, (is fs.0 fs.1).1, c.told_row.ensures, refl),
+      inl (record { fde = fde; row = specified }, rules, λ gs are. (is gs are).0, (is fs.0 fs.1).1, c.told_row.ensures.told, refl),
       refl,
       c.put_rules-count.ensures.rules,
       c.put_rules-count.ensures.count ∙ sym (length-map specified.registers rule_of),

@@ -3,27 +3,27 @@ use Rattle.dw_normal.proofs.Placed.{rows_fit}
 use Rattle.dw_normal.proofs.Summed.{over_cies, over_fdes, within}
 use Rattle.dw_normal.proofs.length.measured.Goals as goal
 
-pub behind_cies-requires-clause-fits : goal.behind_cies-requires-clause-fits
-behind_cies-requires-clause-fits c =
+pub behind_cies-requires : goal.behind_cies-requires
+behind_cies-requires c =
     let t = c.args.table.now.target in
     let s = c.args.table.now.bytes in
     let some = members_exist t s c.accepted.ensures.bytes c.accepted.ensures.accepted in
     rows_fit t s c.accepted.ensures.bytes c.accepted.ensures.accepted some.0 some.1 c.target-target.ensures (c.requires.rows some.0 some.1)
 
 pub returns-in_default : goal.returns-in_default
-returns-in_default c = λ ms are. over_cies ms c.target-target.ensures (c.requires.rows ms are) c.from-room.ensures c.in_default.ensures
+returns-in_default c = λ ms are. over_cies ms c.target-target.ensures (c.requires.rows ms are) c.from-room.ensures (rw c.in_default.is at c.in_ok-left.ensures)
 
 pub returns-in_default-2 : goal.returns-in_default-2
 returns-in_default-2 c = λ ms are.
-    over_fdes ms c.target-target.ensures (c.requires.rows ms are) c.from-room.ensures c.in-Some.left c.in-Some.ensures (rw c.in_default-2.is at (c.in_ok-rest.ensures ms are))
+    over_fdes ms c.target-target.ensures (c.requires.rows ms are) c.from-room.ensures c.in-Some.left (rw c.in-Some.is at c.in_ok-left.ensures) (rw c.in_default-2.is at (c.in_ok-rest.ensures ms are))
 
 pub overflow_sub-result : goal.overflow_sub-result
 overflow_sub-result c =
     let some = members_exist c.args.table.now.target c.args.table.now.bytes c.accepted.ensures.bytes c.accepted.ensures.accepted in
     let fdes = rw c.in-Some-2.is at (c.in_ok-rest.ensures some.0 some.1) in
-    let cies = c.in-Some.ensures in
+    let cies = rw c.in-Some.is at c.in_ok-left.ensures in
     omega (arith, fdes, cies)
 
 pub returns : goal.returns
 returns c = λ ms are.
-    within ms c.target-target.ensures (c.requires.rows ms are) c.from-room.ensures c.in-Some.left c.in-Some-2.rest c.in-Some.ensures (rw c.in-Some-2.is at (c.in_ok-rest.ensures ms are))
+    within ms c.target-target.ensures (c.requires.rows ms are) c.from-room.ensures c.in-Some.left c.in-Some-2.rest (rw c.in-Some.is at c.in_ok-left.ensures) (rw c.in-Some-2.is at (c.in_ok-rest.ensures ms are))

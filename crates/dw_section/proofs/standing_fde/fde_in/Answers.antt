@@ -1,6 +1,5 @@
-use Rattle.dw_section.proofs.Words.{[], ◌∷◌, Some, None, inr, head_in, piece_in}
-use Rattle.std.proofs.lemmas.Option.{IfSome_then}
-use Rattle.dw_section.proofs.StandLaws.{named_of, fde_never, cie_never, stands_joined, fde_is, cie_is}
+use Rattle.dw_section.proofs.Words.{[], ◌∷◌, Some, None, inr, entry_in, piece_in}
+use Rattle.dw_section.proofs.StandLaws.{named_of, fde_never, cie_never, stands_joined}
 use Rattle.dw_section.proofs.StandFaults.{no_cie, own_stuck, named_stuck}
 use Rattle.dw_section.proofs.StandPlaces.{cie_within, fde_within}
 use Rattle.dw_section.proofs.Stages.{handed_on}
@@ -29,17 +28,10 @@ returns-in_err-cie-clause-only c = λ w.
     let same = rw c.in-Some.is at (c.in_ok-named.ensures.only w.2.named_piece w.2.named_stands named.0 named.1) in
     absurd (cie_never c.args.target w.2.named_piece w.1 _ w.2.named_is (rw same at c.in_err-cie.ensures.exact))
 
-pub returns-clause-only : goal.returns-clause-only
-returns-clause-only c = λ w.
-    c.joined.ensures.only
-    (fde_is c.args.target (c.pointer_of-pointer.result ∷ []) (piece_in c.args.own.now) (head_in c.in_ok-header.header) c.in_ok-header.ensures.found c.requires.kind)
-    (cie_is c.args.target [] (piece_in c.in-Some.named) (head_in c.in_ok-cie.cie) (c.in_ok-cie.ensures.found []) (rw c.in-Some.is at c.in_ok-named.ensures.found).1)
-
 pub returns-clause-found : goal.returns-clause-found
 returns-clause-found c =
     let found = rw c.in-Some.is at c.in_ok-named.ensures.found in
-    IfSome_then c.joined.result c.joined.ensures.found
-    (λ e j. stands_joined c.args.target c.args.bytes.now (piece_in c.args.own.now) (piece_in c.in-Some.named) c.pointer_of-pointer.result (head_in c.in_ok-header.header) (head_in c.in_ok-cie.cie) e c.requires.stands found.2 found.0 c.in_ok-header.ensures.found (c.in_ok-cie.ensures.found []) j)
+    stands_joined c.args.target c.args.bytes.now (piece_in c.args.own.now) (piece_in c.in-Some.named) c.pointer_of-pointer.result c.in_ok-header.header c.in_ok-cie.cie c.joined.result c.requires.stands found.2 found.0 c.in_ok-header.ensures.found (c.in_ok-cie.ensures.found []) c.joined.ensures
 
 -- ---- a refusal is the first fault
 
@@ -62,7 +54,7 @@ returns-in_err-cie-clause-fault c =
     let p = c.pointer_of-pointer in
     let named = piece_in c.in-Some.named in
     let found = rw c.in-Some.is at c.in_ok-named.ensures.found in
-    let stuck = named_stuck c.args.target c.args.bytes.now (piece_in c.args.own.now) named p.result (head_in c.in_ok-header.header) _ (found.2, found.1, found.0) c.in_ok-header.ensures.found c.in_err-cie.ensures.exact in
+    let stuck = named_stuck c.args.target c.args.bytes.now (piece_in c.args.own.now) named p.result (entry_in c.args.own.now.form c.in_ok-header.header) _ (found.2, found.1, found.0) c.in_ok-header.ensures.found c.in_err-cie.ensures.exact in
     handed_on c.from_residual-in_err-cie.result _ c.from_residual-in_err-cie.ensures.1 (p.result, p.ensures.names, inr (Some named, (found.2, found.1, found.0), stuck))
 
 -- ---- its place lies in the bytes

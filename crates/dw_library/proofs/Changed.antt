@@ -1,0 +1,143 @@
+-- Changes of an FDE and their rules, one after another over two buffers.
+use Rattle.std.proofs.Common.{◌≡◌, ℕ, zero, suc, ◌+◌, ◌-◌, ◌^◌, ◌<◌, ◌≤◌, List, [], ◌∷◌, ◌++◌, length, map, min, get_or, slice_set, true, false, refl, sym, ap, subst, ◌∙◌, arith, inl, inr, Option, Some, None, Ok}
+use Rattle.std.specs.List.{AllByRecursion}
+use Rattle.std.proofs.lemmas.Bool.Decides.{leb_tells}
+use Rattle.std.proofs.lemmas.List.{flat_map_more, get_or-map, length-append, length-map, map_push}
+use Rattle.std.proofs.lemmas.Option.{same_Some}
+use borrow.Rule.Slice.PartMut.{mid_of, put_mid}
+use Rattle.dw_num.specs.Input.{AreBytes}
+use Rattle.dw_num.specs.Target.{address_limit}
+use Rattle.dw_num.specs.declared.target.Size.{Size}
+use Rattle.dw_num.specs.declared.target.Size.TheVariants.{Four, Eight}
+use Rattle.dw_num.specs.declared.target.Target.{Target}
+use Rattle.dw_cfa.specs.declared.instr.Instr.{Instr}
+use Rattle.dw_cfa.specs.Rows.{Rules}
+use Rattle.dw_section.specs.Accepted.{Accepted}
+use Rattle.dw_section.specs.Among.{IsAmong}
+use Rattle.dw_section.specs.Changes.{AreChanges, Changing, ChangesBehind, GivesAddress}
+use Rattle.dw_section.specs.Meaning.{AreFdes, ChangesOf}
+use Rattle.dw_section.specs.Ranges.{IsTable, fde_in}
+use Rattle.dw_section.specs.declared.fde_range.Ranged.{Ranged}
+use Rattle.dw_section.specs.declared.lookup.Fde.{Fde}
+use Rattle.dw_section.proofs.Lent.FdeLookup.{listed_are}
+use Rattle.dw_section.proofs.Lent.Sections.{begin_low}
+use Rattle.dw_library.specs.declared.changes.Change.{Change}
+use Rattle.dw_library.specs.declared.changes.Totals.{Totals}
+use Rattle.dw_library.specs.declared.index.Rule.{Rule}
+use Rattle.dw_library.specs.declared.looks.Room.{Room}
+use Rattle.dw_library.specs.Changes.{AreWritten, change_of, rules_in}
+use Rattle.dw_library.specs.Index.{over, rule_of}
+use Rattle.dw_library.specs.Inner.Changes.{IsLow}
+use Rattle.dw_library.specs.Inner.Looks.{IsLeft}
+use Rattle.dw_library.proofs.Written.{written_left}
+
+-- ---- one more
+
+-- an item behind some that fit, and behind some that do not
+push_fits : {X : Type 0} (before : List X) (x : X) (old : List X) → length before < length old → slice_set (over before old) (length before) x ≡ over (before ++ x ∷ []) old
+push_fits [] x [] lt = absurd (omega arith)
+push_fits [] x (y ∷ old) lt = refl
+push_fits (z ∷ before) x [] lt = absurd (omega arith)
+push_fits (z ∷ before) x (y ∷ old) lt = ap (λ l. z ∷ l) (push_fits before x old (omega arith))
+
+push_full : {X : Type 0} (before : List X) (x : X) (old : List X) → length old ≤ length before → over before old ≡ over (before ++ x ∷ []) old
+push_full [] x [] le = refl
+push_full [] x (y ∷ old) le = absurd (omega arith)
+push_full (z ∷ before) x [] le = refl
+push_full (z ∷ before) x (y ∷ old) le = ap (λ l. z ∷ l) (push_full before x old (omega arith))
+
+pub long : {X : Type 0} (items old : List X) → length (over items old) ≡ length old
+long [] old = refl
+long (z ∷ items) [] = refl
+long (z ∷ items) (y ∷ old) = ap suc (long items old)
+
+pushed : {X : Type 0} (before : List X) (x : X) (old now new : List X) (count : ℕ) → now ≡ over before old → length now < 2 ^ 64 → count ≡ min (length before) (2 ^ 64 - 1)
+    → (count < length now → new ≡ slice_set now count x) → (length now ≤ count → new ≡ now) → new ≡ over (before ++ x ∷ []) old
+pushed {X} before x old now new count is few counted inside outside =
+    let same : length now ≡ length old = ap (λ (l : List X). length l) is ∙ long before old in
+    elim (leb_tells (length old) (length before)) [
+      | inl le ↦ outside (omega (arith, le.1, same, few, counted)) ∙ is ∙ push_full before x old le.1
+      | inr lt ↦
+          let at : count ≡ length before = omega (arith, lt.1, same, few, counted) in
+          inside (omega (arith, lt.1, same, at)) ∙ ap (λ (l : List X). slice_set l count x) is ∙ ap (λ (k : ℕ). slice_set (over before old) k x) at ∙ push_fits before x old lt.1
+    ]
+
+-- where the next rules go
+left_at : (before : List Rule) (count place size : ℕ) → count ≡ min (length before) (2 ^ 64 - 1) → place ≡ min count size → size < 2 ^ 64 → (room : Room) × IsLeft size before room × (room.place ≡ place)
+left_at before count place size counted is few =
+    elim (leb_tells (length before) size) [
+      | inl le ↦ (record { place = place; short = false }, inl (refl, omega (arith, le.1, counted, is, few), le.1), refl)
+      | inr lt ↦ (record { place = place; short = true }, inr (refl, omega (arith, lt.1, counted, is, few), lt.1), refl)
+    ]
+
+module _ (f : Fde) (done : List (ℕ × Rules)) (change : ℕ × Rules) (changes changes_now new_changes : List Change) (rules rules_now new_rules part : List Rule) (before after : Totals) (place count : ℕ) where
+  abbrev own : List Rule
+  own = map rule_of change.1.registers
+
+  pub written_more : AreWritten f done changes rules changes_now rules_now before
+      → length changes_now < 2 ^ 64 → length rules_now < 2 ^ 64 → place ≡ min before.rules (length rules_now)
+      → part ≡ over own (mid_of place (length rules_now - place) rules_now) → new_rules ≡ put_mid place (length rules_now - place) rules_now part → count ≡ length change.1.registers
+      → (before.changes < length changes_now → new_changes ≡ slice_set changes_now before.changes (change_of f change)) → (length changes_now ≤ before.changes → new_changes ≡ changes_now)
+      → after.changes ≡ min (before.changes + 1) (2 ^ 64 - 1) → after.rules ≡ min (before.rules + count) (2 ^ 64 - 1)
+      → AreWritten f (done ++ change ∷ []) changes rules new_changes new_rules after
+  written_more w few few_rules at part_is put counted inside outside more more_rules =
+      let told = map (change_of f) done in
+      let so_long : length told ≡ length done = length-map done (change_of f) in
+      let all : rules_in done ++ own ≡ rules_in (done ++ change ∷ []) = flat_map_more (λ (c : ℕ × Rules). map rule_of c.1.registers) [] done change in
+      let room = left_at (rules_in done) before.rules place (length rules_now) w.rule_count at few_rules in
+      let le : place ≤ length rules_now = omega (arith, at) in
+      let behind : put_mid place (length rules_now - place) rules_now part ≡ over (rules_in done ++ own) rules =
+      subst (λ (k : ℕ). part ≡ over own (mid_of k (length rules_now - k) rules_now) → k ≤ length rules_now → put_mid k (length rules_now - k) rules_now part ≡ over (rules_in done ++ own) rules) room.2
+      (λ p l. written_left (rules_in done) own rules rules_now part room.0 room.1 w.rules_are l p) part_is le in
+      record {
+        changes_are = pushed told (change_of f change) changes changes_now new_changes before.changes w.changes_are few (w.change_count ∙ ap (λ (k : ℕ). min k (2 ^ 64 - 1)) (sym so_long)) inside outside
+            ∙ ap (λ (l : List Change). over l changes) (sym (map_push (change_of f) done change));
+        rules_are = put ∙ behind ∙ ap (λ (l : List Rule). over l rules) all;
+        change_count = omega (arith, more, w.change_count, length-append done (change ∷ []));
+        rule_count = omega (arith, more_rules, w.rule_count, counted, length-map change.1.registers rule_of, length-append (rules_in done) own, ap (λ (l : List Rule). length l) all);
+      }
+
+-- the change that was gone on to is the one that is lent
+pub row_shown : (E : Type 0) (old new : Changing) (o : Option ℕ) (address : ℕ) (lent : Rules) → GivesAddress {E = E} old (Ok o) new → o ≡ Some address → new.shown ≡ Some lent → old.to_come ≡ (address, lent) ∷ new.to_come
+row_shown E old new None address lent gives is same = absurd cc
+row_shown E old new (Some a) address lent (failed, (row, steps, shown)) is same =
+    subst (λ (b : ℕ). old.to_come ≡ (b, lent) ∷ new.to_come) (same_Some a address is) (subst (λ (r : Rules). old.to_come ≡ (a, r) ∷ new.to_come) (same_Some row lent (sym shown ∙ same)) steps)
+
+-- ---- addresses
+
+limit_small : (size : Size) → address_limit size ≤ 2 ^ 64
+limit_small Four = omega arith
+limit_small Eight = omega arith
+
+behind_low : (i j : List Instr) (begin end low : ℕ) (changes : List (ℕ × Rules)) → end ≤ 2 ^ 64 → ChangesBehind i j begin end low changes → AllByRecursion IsLow changes
+behind_low i j begin end low [] small h = tt
+behind_low i j begin end low (change ∷ changes) small h = (omega (arith, small, h.1, h.3), behind_low i j begin end (suc h.0) changes small h.7)
+
+all_low : (i j : List Instr) (begin end : ℕ) (changes : List (ℕ × Rules)) → begin < 2 ^ 64 → end ≤ 2 ^ 64 → AreChanges i j begin end changes → AllByRecursion IsLow changes
+all_low i j begin end [] from small h = absurd h
+all_low i j begin end (change ∷ changes) from small h = (omega (arith, from, h.0), behind_low i j begin end begin changes small h.2)
+
+pub changes_low : (target : Target) (s : List ℕ) → AreBytes s → Accepted target s → (f : Fde) (changes : List (ℕ × Rules)) → ChangesOf target s f changes → AllByRecursion IsLow changes
+changes_low target s b ok f changes h =
+    let low = begin_low target s b ok f.begin f.end h.initial h.instrs h.says in
+    let small = limit_small target.size in
+    all_low h.initial h.instrs f.begin f.end changes (omega (arith, low.0, small)) (omega (arith, low.1, small)) h.change
+
+-- ---- the FDE
+
+-- one for where there is none
+abbrev pub no_fde : Fde
+no_fde = record { begin = 0; end = 0; return_register = 0 }
+
+pub among_get : (fs : List Fde) (k : ℕ) (d : Fde) → k < length fs → IsAmong (get_or fs k d) fs
+among_get [] k d lt = absurd (omega arith)
+among_get (f ∷ fs) zero d lt = inl refl
+among_get (f ∷ fs) (suc k) d lt = inr (among_get fs k d (omega arith))
+
+pub place_low : (target : Target) (s : List ℕ) (index : List Ranged) → IsTable target s index → (k : ℕ) (fs : List Fde) → AreFdes target s fs → k < length fs → k < length index
+place_low target s index is k fs are lt = omega (arith, lt, ap (λ (l : List Fde). length l) (listed_are target s index is fs are), length-map index fde_in)
+
+pub entry_is : (target : Target) (s : List ℕ) (index : List Ranged) → IsTable target s index → (k : ℕ) (e : Ranged) → k < length index
+    → (fs : List Fde) → AreFdes target s fs → (d : Fde) → fde_in (get_or index k e) ≡ get_or fs k d
+entry_is target s index is k e lt fs are d =
+    sym (get_or-map fde_in index k e d lt) ∙ ap (λ (l : List Fde). get_or l k d) (listed_are target s index is fs are)

@@ -1,0 +1,9 @@
+use Rattle.std.proofs.Common.{◌⊎◌, inl, inr}
+use Rattle.dw_library.proofs.evaluation.value_of.Goals as goal
+
+carried : {A B C : Type 0} → (B → C) → A ⊎ B → A ⊎ C
+carried f (inl a) = inl a
+carried f (inr b) = inr (f b)
+
+pub returns : goal.returns
+returns c = carried (λ is. record { values = c.give_all.new.registers; are = c.in-Ok.ensures; is = is }) c.value_in.ensures

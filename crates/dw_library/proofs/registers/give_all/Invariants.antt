@@ -1,0 +1,10 @@
+use Rattle.std.proofs.Common.{◌≡◌, ◌≤◌, ℕ, drop, length}
+use Rattle.dw_eval.specs.Registers.{held}
+use Rattle.dw_library.specs.Registers.{given_in}
+use Rattle.dw_library.proofs.registers.give_all.Given as goal
+
+abbrev pub invariant-given : goal.invariant-given
+invariant-given l = (l.left ≤ length l.given) × ((r : ℕ) → held l.registers r ≡ given_in (drop l.left l.given) r)
+
+abbrev pub decreases-given : goal.decreases-given
+decreases-given l = l.left

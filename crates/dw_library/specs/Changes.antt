@@ -1,0 +1,75 @@
+-- What a caller in C is told of the rows of an FDE.
+use Rattle.std.specs.Prelude.{◌≡◌, ◌⊎◌, ◌-◌, ◌^◌, ◌<◌, ◌≤◌, ℕ, List, length, map, min, Option, Some, None}
+use Rattle.std.specs.List.{flat_map}
+use Rattle.dw_num.specs.declared.refusal.Refusal.{Refusal}
+use Rattle.dw_num.specs.declared.target.Target.{Target}
+use Rattle.dw_cfa.specs.Rows.{Rules}
+use Rattle.dw_section.specs.Accepted.{Accepted, CheckFault}
+use Rattle.dw_section.specs.Meaning.{AreFdes, ChangesOf, Covers, NoneCovers}
+use Rattle.dw_section.specs.Among.{IsAmong}
+use Rattle.dw_section.specs.declared.lookup.Fde.{Fde}
+use Rattle.dw_library.specs.declared.answer.Refused.{Refused}
+use Rattle.dw_library.specs.declared.changes.Change.{Change}
+use Rattle.dw_library.specs.declared.changes.Totals.{Totals}
+use Rattle.dw_library.specs.declared.index.Rule.{Rule}
+use Rattle.dw_library.specs.Answers.{ok, refused, out_of_memory, bad_argument, too_short, not_refused, told}
+use Rattle.dw_library.specs.Index.{over, row_of, rule_of}
+
+-- ---- changes as they are told
+
+-- an address at which the rules of an FDE change, and the row there
+abbrev pub change_of : Fde → ℕ × Rules → Change
+change_of f change = record { address = change.0; row = row_of f change.1 }
+
+-- the rules of all their registers, one after another
+abbrev pub rules_in : List (ℕ × Rules) → List Rule
+rules_in changes = flat_map (λ change. map rule_of change.1.registers) changes
+
+-- changes of an FDE over the front of a buffer, and their rules over that of another, as many as fit; and how many there are of both
+pub record AreWritten (f : Fde) (told : List (ℕ × Rules)) (changes : List Change) (rules : List Rule) (new_changes : List Change) (new_rules : List Rule) (n : Totals) : Type 0 where
+  pub changes_are : new_changes ≡ over (map (change_of f) told) changes
+  pub rules_are : new_rules ≡ over (rules_in told) rules
+  pub change_count : n.changes ≡ min (length told) (2 ^ 64 - 1)
+  pub rule_count : n.rules ≡ min (length (rules_in told)) (2 ^ 64 - 1)
+
+-- ---- what is told
+
+-- what a call tells
+pub record Told : Type 0 where
+  pub status : ℕ
+  pub changes : List Change
+  pub rules : List Rule
+  pub needed : Totals
+
+abbrev pub no_totals : Totals
+no_totals = record { changes = 0; rules = 0 }
+
+-- a status alone
+abbrev pub says : ℕ → List Change → List Rule → Told
+says status changes rules = record { status = status; changes = changes; rules = rules; needed = no_totals }
+
+-- whether so many changes and rules fit into two rooms
+abbrev pub Fits : Totals → ℕ → ℕ → ℕ → Type 0
+Fits n changes rules status =
+    ((status ≡ ok) × (n.changes ≤ changes) × (n.rules ≤ rules))
+    ⊎ ((status ≡ too_short) × ((changes < n.changes) ⊎ (rules < n.rules)))
+
+-- the changes of an FDE
+abbrev pub TellsChanges : Target → List ℕ → Fde → List Change → List Rule → Told → Type 0
+TellsChanges target s f changes rules t =
+    (all : List (ℕ × Rules)) × ChangesOf target s f all × AreWritten f all changes rules t.changes t.rules t.needed × Fits t.needed (length changes) (length rules) t.status
+
+-- those of the FDE that covers an address, or that none does, or that memory ran out, and then the buffers hold anything
+abbrev pub TellsCovering : Target → List ℕ → ℕ → List Change → List Rule → Told → Type 0
+TellsCovering target s a changes rules t =
+    ((f : Fde) × ((fs : List Fde) → AreFdes target s fs → IsAmong f fs) × Covers a f × TellsChanges target s f changes rules t)
+    ⊎ (((fs : List Fde) → AreFdes target s fs → NoneCovers a fs) × (t ≡ says 5 changes rules))
+    ⊎ ((t.status ≡ out_of_memory) × (t.needed ≡ no_totals))
+
+-- by a section that is accepted; or why there are none
+abbrev pub AreAllChanges : Option Target → List ℕ → ℕ → List Change → List Rule → Told → Refused → Type 0
+AreAllChanges None s a changes rules t why = (t ≡ says bad_argument changes rules) × (why ≡ not_refused)
+AreAllChanges (Some target) s a changes rules t why =
+    (Accepted target s × TellsCovering target s a changes rules t × (why ≡ not_refused))
+    ⊎ ((r : Refusal) × CheckFault target s r × (t ≡ says refused changes rules) × (why ≡ told 1 r))
+    ⊎ ((t ≡ says out_of_memory changes rules) × (why ≡ not_refused))

@@ -1,0 +1,208 @@
+//! The rows of an FDE, one after another.
+
+ghost use Rattle.std.specs.Prelude.{◌≡◌, ◌<◌, ◌≤◌, ◌^◌, ◌++◌, ℕ, List, [], ◌∷◌, length, min, slice_index_or, slice_set, IfOk, OnErr};
+ghost use Rattle.std.specs.List.{AllByRecursion};
+ghost use Rattle.dw_cfa.specs.Rows.{Rules};
+ghost use Rattle.dw_section.specs.Meaning.{AreFdes};
+ghost use Rattle.dw_section.specs.Ranges.{fde_in};
+ghost use Rattle.dw_section.specs.declared.lookup.Fde.{Fde as TheFde};
+ghost use Rattle.dw_library.specs.declared.changes.Change.{Change as TheChange};
+ghost use Rattle.dw_library.specs.declared.index.Rule.{Rule as TheRule};
+ghost use Rattle.dw_library.specs.Answers.{target_of};
+ghost use Rattle.dw_library.specs.Changes.{AreAllChanges, AreWritten, Fits, TellsChanges, TellsCovering, Told, no_totals};
+ghost use Rattle.dw_library.specs.Inner.Changes.{IsLow};
+
+use crate::answer::{
+    BAD_ARGUMENT, OK, OUT_OF_MEMORY, REFUSED, Refused, TOO_SHORT, not_refused, target_of, told,
+};
+use crate::index::{NO_FDE, Row, Rule, put_rules, told_row};
+use dw_cfa::Row as CfaRow;
+use dw_num::ReadError;
+use dw_section::{Changes, Fde, FdeRef, Ranged, Table, check};
+use std::alloc::{AllocError, Global};
+
+/// A row of an FDE (6.4.1), and the first address that has it: the begin of the FDE, or one at which a rule is not that one address
+/// before. The row holds up to the next one, or to the end of the FDE.
+#[repr(C)]
+#[derive(Clone, Copy)]
+pub struct Change {
+    /// The first address that has the row.
+    pub address: u64,
+    /// The row.
+    pub row: Row,
+}
+
+/// How many rows an FDE has, and how many rules of registers they have together, each 2^64 - 1 where there are more.
+#[repr(C)]
+#[derive(Clone, Copy)]
+pub struct Totals {
+    /// How many rows.
+    pub changes: u64,
+    /// How many rules of registers.
+    pub rules: u64,
+}
+
+fn no_totals() -> Totals
+    ensures { result ≡ no_totals }
+{
+    Totals {
+        changes: 0,
+        rules: 0,
+    }
+}
+
+fn fde_in(entry: &Ranged) -> Fde
+    ensures { result ≡ fde_in entry.now }
+{
+    Fde {
+        begin: entry.begin,
+        end: u128::from(entry.begin) + u128::from(entry.range),
+        return_register: entry.return_register,
+    }
+}
+
+// Writes a change to its place in a buffer, where it has one.
+fn put_at(out: &mut [Change], place: u64, change: Change)
+    ensures inside { place < length out.old → out.new ≡ slice_set out.old place change }
+    ensures outside { length out.old ≤ place → out.new ≡ out.old }
+    ensures few { length out.old < 2 ^ 64 }
+{
+    if place < out.len() as u64 {
+        out[place as usize] = change;
+    }
+}
+
+// Where the next rule goes in a buffer of this size, behind so many.
+fn place_behind(count: u64, size: usize) -> usize
+    ensures place { result ≡ min count size }
+    ensures few { size < 2 ^ 64 }
+{
+    if count < size as u64 {
+        return count as usize;
+    }
+    size
+}
+
+// Writes a change and its rules behind those before, as far as they fit, and says how many there are then.
+fn put_change(
+    row: &CfaRow<'_>,
+    entry: &Ranged,
+    address: u64,
+    before: Totals,
+    out: &mut [Change],
+    rules: &mut [Rule],
+) -> Totals
+    ensures { (done : List (ℕ × Rules)) (changes : List TheChange) (buffer : List TheRule) → AreWritten (fde_in entry.now) done changes buffer out.old rules.old before → AreWritten (fde_in entry.now) (done ++ (address, row.now) ∷ []) changes buffer out.new rules.new result }
+{
+    let place = place_behind(before.rules, rules.len());
+    let count = put_rules(row, &mut rules[place..]);
+    let row = told_row(fde_in(entry), entry.range, row, count);
+    put_at(out, before.changes, Change { address, row });
+    Totals {
+        changes: before.changes.saturating_add(1),
+        rules: before.rules.saturating_add(count),
+    }
+}
+
+// Writes the changes that are still to come.
+fn put_changes(
+    changes: &mut Changes<'_>,
+    entry: &Ranged,
+    out: &mut [Change],
+    rules: &mut [Rule],
+) -> Result<Totals, AllocError>
+    requires low { AllByRecursion IsLow changes.old.to_come }
+    ensures { IfOk result (λ totals. AreWritten (fde_in entry.now) changes.old.to_come out.old rules.old out.new rules.new totals) }
+{
+    let mut totals = no_totals();
+    'told: while let Some(address) = changes.advance()? {
+        let Some(row) = changes.row() else {
+            unreachable!();
+        };
+        totals = put_change(row, entry, address as u64, totals, out, rules);
+    }
+    Ok(totals)
+}
+
+// Whether so many changes and rules fit into rooms of these sizes.
+fn fitting(totals: Totals, out: usize, rules: usize) -> u32
+    ensures { Fits totals out rules result }
+{
+    if totals.changes <= out as u64 && totals.rules <= rules as u64 {
+        return OK;
+    }
+    TOO_SHORT
+}
+
+// Writes the changes of an FDE.
+fn put_fde(
+    table: &Table<'_>,
+    fde: FdeRef,
+    out: &mut [Change],
+    rules: &mut [Rule],
+    needed: &mut Totals,
+) -> Result<u32, AllocError>
+    requires place { (fs : List TheFde) → AreFdes table.now.target table.now.bytes fs → fde.place < length fs }
+    ensures told { IfOk result (λ status. (f : TheFde) × ((fs : List TheFde) → AreFdes table.now.target table.now.bytes fs → (d : TheFde) → f ≡ slice_index_or fs fde.place d) × TellsChanges table.now.target table.now.bytes f out.old rules.old (record { status = status; changes = out.new; rules = rules.new; needed = needed.new })) }
+    ensures kept { OnErr result (needed.new ≡ needed.old) }
+{
+    table.accepted();
+    let entry = table.index()[fde.place];
+    let mut changes = table.changes(fde);
+    let totals = put_changes(&mut changes, &entry, out, rules)?;
+    *needed = totals;
+    Ok(fitting(totals, out.len(), rules.len()))
+}
+
+// Writes the changes of the FDE that covers an address.
+fn put_covering(
+    table: &Table<'_>,
+    address: u64,
+    out: &mut [Change],
+    rules: &mut [Rule],
+    needed: &mut Totals,
+) -> u32
+    requires none { needed.old ≡ no_totals }
+    ensures { let told : Told = record { status = result; changes = out.new; rules = rules.new; needed = needed.new } in TellsCovering table.now.target table.now.bytes address out.old rules.old told }
+{
+    table.accepted();
+    let Some(fde) = table.fde_at(address) else {
+        return NO_FDE;
+    };
+    match put_fde(table, fde, out, rules, needed) {
+        Ok(status) => status,
+        Err(_) => OUT_OF_MEMORY,
+    }
+}
+
+/// The rows of the FDE that covers an address, one after another. The section is judged, and the FDE's program is run once. The rows
+/// are written to `changes` and the rules of their registers one after another to `rules`, as many as fit, and `needed` says how
+/// many there are of both. Behind `OUT_OF_MEMORY` it says 0, and both buffers hold anything.
+#[unsafe(no_mangle)]
+pub extern "C" fn dwframe_changes(
+    alloc: Global,
+    bytes: &[u8],
+    address_size: u8,
+    byte_order: u8,
+    address: u64,
+    changes: &mut [Change],
+    rules: &mut [Rule],
+    needed: &mut Totals,
+    refused: &mut Refused,
+) -> u32
+    ensures { let told : Told = record { status = result; changes = changes.new; rules = rules.new; needed = needed.new } in AreAllChanges (target_of address_size byte_order) bytes.now address changes.old rules.old told refused.new }
+{
+    *needed = no_totals();
+    *refused = not_refused();
+    let Some(target) = target_of(address_size, byte_order) else {
+        return BAD_ARGUMENT;
+    };
+    match check(alloc, bytes, target) {
+        Ok(table) => put_covering(&table, address, changes, rules, needed),
+        Err(ReadError::Refused(refusal)) => {
+            *refused = told(1, refusal);
+            REFUSED
+        }
+        Err(ReadError::OutOfMemory) => OUT_OF_MEMORY,
+    }
+}
